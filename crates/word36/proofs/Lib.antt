@@ -1,0 +1,2 @@
+pub mod BitSums
+pub mod OctalLemmas

@@ -1,0 +1,9 @@
+pub mod Words
+pub mod Octal
+pub mod Bits
+pub mod Halves
+pub mod Boolean
+pub mod Tests
+pub mod Bytes
+pub mod Arithmetic
+pub mod Shifts

@@ -1,0 +1,12 @@
+//! Words of 36 bits, their halves, signed values and octal texts, and the processor's flags.
+//! To the layers above a word is a number below 2^36.
+//! Stands on no other crate.
+#![tactic(auto)]
+
+mod flags;
+mod octal;
+mod word;
+
+pub use flags::Flags;
+pub use octal::read_back;
+pub use word::Word;
