@@ -1,0 +1,103 @@
+// A sink that keeps its bytes in memory, and one that keeps none.
+ghost use Rattle.std.specs.Prelude.{◌≡◌, ◌↔◌, ◌⊎◌, ◌<◌, ◌≤◌, ◌+◌, ◌++◌, [], Ok, None, Some, length, vec_len, vec_capacity, IfOk, IsOk, IsErr, OnOk, OnErr};
+ghost use Rattle.outside.specs.Faults.{CountsUp, FailsNext};
+
+use crate::failing_calls::FailingCalls;
+use crate::{Failed, Memory, Sink};
+use std::alloc::Global;
+
+/// Room for bytes in memory, and the numbers of the calls of `write` that fail. It tells what it has taken.
+#[derive(Drop)]
+pub struct MemSink {
+    bytes: Vec<u8>,
+    room: usize,
+    calls: FailingCalls,
+    faults: u64,
+    ghost within: { vec_len bytes ≤ room },
+    ghost reserved: { room ≤ vec_capacity bytes },
+}
+
+impl MemSink {
+    /// A sink with room for so many bytes, all of which it reserves now, so that no call wants memory later.
+    /// The calls of `write` with these numbers fail, counted from 1, and besides those whose piece doesn't
+    /// fit. Memory where there is none for the room; no room needs none.
+    pub fn new(alloc: Global, room: usize, failing: Vec<u64>) -> Result<Self, Memory>
+        ensures none { room ≡ 0 → IsOk result }
+        ensures taken { IfOk result (λ s. ⟦<MemSink as Sink>⟧.taken s ≡ Some []) }
+        ensures faults { IfOk result (λ s. ⟦<MemSink as Sink>⟧.fault_count s ≡ 0) }
+        ensures room { IfOk result (λ s. s.room ≡ room) }
+        ensures failing { IfOk result (λ s. s.calls.failing ≡ failing) }
+        ensures made { IfOk result (λ s. s.calls.made ≡ 0) }
+    {
+        let bytes = Vec::with_capacity(alloc, room)?;
+        Ok(MemSink {
+            bytes,
+            room,
+            calls: FailingCalls::new(failing),
+            faults: 0,
+        })
+    }
+
+    /// The bytes taken so far.
+    pub fn bytes(&self) -> &[u8]
+        ensures { ⟦<MemSink as Sink>⟧.taken self.now ≡ Some result.now }
+    {
+        &self.bytes
+    }
+}
+
+impl Sink for MemSink {
+    ghost fault_count = { λ s. s.faults };
+
+    ghost taken = { λ s. Some s.bytes.items };
+
+    fn faults(&self) -> u64 {
+        self.faults
+    }
+
+    // The calls that fail are those that are listed, and those whose piece doesn't fit. A piece is taken
+    // whole.
+    fn write(&mut self, piece: &[u8]) -> Result<usize, Failed>
+        ensures fails { IsErr result ↔ FailsNext self.old.calls.failing.items self.old.calls.made ⊎ (self.old.room < vec_len self.old.bytes + length piece.now) }
+        ensures made { CountsUp self.old.calls.made self.new.calls.made }
+        ensures failing { self.new.calls.failing ≡ self.old.calls.failing }
+        ensures room { self.new.room ≡ self.old.room }
+        ensures later { self.old.faults ≤ self.new.faults }
+        ensures faulted { OnErr result (CountsUp self.old.faults self.new.faults) }
+        ensures unfaulted { OnOk result (self.new.faults ≡ self.old.faults) }
+        ensures whole { IfOk result (λ n. n ≡ length piece.now) }
+        ensures bytes { OnOk result (self.new.bytes.items ≡ self.old.bytes.items ++ piece.now) }
+        ensures err { OnErr result (self.new.bytes.items ≡ self.old.bytes.items) }
+    {
+        let listed = self.calls.next();
+        if listed
+            || piece.len() > self.room - self.bytes.len()
+            || self.bytes.extend_from_slice(piece).is_err()
+        {
+            self.faults = self.faults.saturating_add(1);
+            return Err(Failed);
+        }
+        Ok(piece.len())
+    }
+}
+
+/// A sink that takes every piece whole and keeps none, so that it tells nothing. Its count of faults is 0
+/// for good.
+#[derive(Drop)]
+pub struct SureSink;
+
+impl Sink for SureSink {
+    ghost fault_count = { λ _. 0 };
+
+    ghost taken = { λ _. None };
+
+    fn faults(&self) -> u64 {
+        0
+    }
+
+    fn write(&mut self, piece: &[u8]) -> Result<usize, Failed>
+        ensures { result ≡ Ok (length piece.now) }
+    {
+        Ok(piece.len())
+    }
+}

@@ -1,0 +1,98 @@
+// A source and a sink over a reader and a writer of the standard library. They tell no content.
+ghost use Rattle.std.specs.Prelude.{◌≡◌, ◌<◌, ◌≤◌, None, length, IfOk, OnOk, OnErr};
+ghost use Rattle.std.specs.Io.KnownBytes.{ReadConsumes, WriteAppends};
+ghost use Rattle.outside.specs.Faults.{CountsUp};
+
+use crate::{Failed, Sink, Source};
+use std::io::{Read, Write};
+
+/// A reader as a source. Each call is one call of the reader; an error, also an interruption, is a fault.
+#[derive(Drop)]
+pub struct StdSource<R: Read> {
+    reader: R,
+    faults: u64,
+}
+
+impl<R: Read> StdSource<R> {
+    /// The source of what the reader gives from here on.
+    pub fn new(reader: R) -> Self
+        ensures faults { result.faults ≡ 0 }
+        ensures reader { result.reader ≡ reader }
+    {
+        StdSource { reader, faults: 0 }
+    }
+}
+
+impl<R: Read> Source for StdSource<R> {
+    ghost fault_count = { λ s. s.faults };
+
+    ghost left = { λ _. None };
+
+    fn faults(&self) -> u64 {
+        self.faults
+    }
+
+    // What it answers is what the reader gave.
+    fn read(&mut self, piece: &mut [u8]) -> Result<usize, Failed>
+        requires { 0 < length piece.old }
+        ensures reader { ReadConsumes (R.remaining self.old.reader) (R.remaining self.new.reader) result piece.new }
+        ensures bound { IfOk result (λ n. n ≤ length piece.old) }
+        ensures later { self.old.faults ≤ self.new.faults }
+        ensures faulted { OnErr result (CountsUp self.old.faults self.new.faults) }
+        ensures unfaulted { OnOk result (self.new.faults ≡ self.old.faults) }
+    {
+        match self.reader.read(piece) {
+            Ok(n) => Ok(n),
+            Err(_) => {
+                self.faults = self.faults.saturating_add(1);
+                Err(Failed)
+            }
+        }
+    }
+}
+
+/// A writer as a sink. Each call is one call of the writer; an error, also an interruption, is a fault, and
+/// so is a writer that takes nothing of a piece that isn't empty.
+#[derive(Drop)]
+pub struct StdSink<W: Write> {
+    writer: W,
+    faults: u64,
+}
+
+impl<W: Write> StdSink<W> {
+    /// The sink that gives what it takes to the writer.
+    pub fn new(writer: W) -> Self
+        ensures faults { result.faults ≡ 0 }
+        ensures writer { result.writer ≡ writer }
+    {
+        StdSink { writer, faults: 0 }
+    }
+}
+
+impl<W: Write> Sink for StdSink<W> {
+    ghost fault_count = { λ s. s.faults };
+
+    ghost taken = { λ _. None };
+
+    fn faults(&self) -> u64 {
+        self.faults
+    }
+
+    // What it answers is what the writer took.
+    fn write(&mut self, piece: &[u8]) -> Result<usize, Failed>
+        ensures writer { WriteAppends (W.contents self.old.writer) (W.contents self.new.writer) result piece.now }
+        ensures some { 0 < length piece.now → IfOk result (λ n. 0 < n) }
+        ensures bound { IfOk result (λ n. n ≤ length piece.now) }
+        ensures later { self.old.faults ≤ self.new.faults }
+        ensures faulted { OnErr result (CountsUp self.old.faults self.new.faults) }
+        ensures unfaulted { OnOk result (self.new.faults ≡ self.old.faults) }
+    {
+        match self.writer.write(piece) {
+            Ok(n) if n > 0 || piece.is_empty() => Ok(n),
+            _ => {
+                self.faults = self.faults.saturating_add(1);
+                Err(Failed)
+            }
+        }
+    }
+}

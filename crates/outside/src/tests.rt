@@ -1,0 +1,121 @@
+ghost use Rattle.std.specs.Prelude.{◌<◌, ◌^◌};
+ghost use Rattle.outside.specs.Drums.{AreWords};
+
+use super::*;
+use std::io::{self, ErrorKind, Read};
+use std::test::Fail;
+
+// A page with one word in each place.
+fn filled(word: u64) -> [u64; PAGE_WORDS]
+    requires { word < 2 ^ 36 }
+    ensures { AreWords result }
+{
+    [word; PAGE_WORDS]
+}
+
+#[derive(Drop)]
+struct Interrupted;
+
+impl Read for Interrupted {
+    fn read(&mut self, _buf: &mut [u8]) -> io::Result<usize> {
+        Err(ErrorKind::Interrupted.into())
+    }
+}
+
+#[test]
+fn reads_in_pieces(rt: HostRuntime) -> Result<(), Fail> {
+    let alloc = rt.alloc();
+    let mut source = MemSource::new(b"abc".to_vec(alloc)?, vec![in alloc; 2]?);
+    let mut piece = [0; 2];
+    let want: [(Result<usize, Failed>, [u8; 2], u64); 4] = [
+        (Ok(2), *b"ab", 0),
+        (Err(Failed), *b"ab", 1),
+        (Ok(1), *b"cb", 1),
+        (Ok(0), *b"cb", 1),
+    ];
+    for (answer, bytes, faults) in want {
+        assert_eq!(rt; source.read(&mut piece), answer);
+        assert_eq!(rt; piece, bytes);
+        assert_eq!(rt; source.faults(), faults);
+    }
+    Ok(())
+}
+
+#[test]
+fn takes_what_fits(rt: HostRuntime) -> Result<(), Fail> {
+    let alloc = rt.alloc();
+    let mut sink = MemSink::new(alloc, 3, vec![in alloc; 3]?)?;
+    assert_eq!(rt; sink.write(b"ab"), Ok(2));
+    assert_eq!(rt; sink.write(b"cd"), Err(Failed), "one byte too many");
+    assert_eq!(rt; sink.write(b"c"), Err(Failed), "the third call");
+    assert_eq!(rt; sink.write(b"c"), Ok(1));
+    assert_eq!(rt; sink.write(b""), Ok(0));
+    assert_eq!(rt; sink.bytes(), b"abc".as_slice());
+    assert_eq!(rt; sink.faults(), 2);
+    Ok(())
+}
+
+#[test]
+fn pages_come_back(rt: HostRuntime) -> Result<(), Fail> {
+    let alloc = rt.alloc();
+    let mut drum = MemDrum::new(alloc, 2, vec![in alloc; 2]?, vec![in alloc; 1]?)?;
+    let ones = filled(0o777777777777);
+    let mut words = [1; PAGE_WORDS];
+    assert_eq!(rt; drum.write(1, &ones), Err(Failed));
+    assert_eq!(rt; drum.write(1, &ones), Ok(()));
+    assert_eq!(rt; drum.read(0, &mut words), Ok(()));
+    assert_eq!(rt; words, [0; PAGE_WORDS]);
+    assert_eq!(rt; drum.read(1, &mut words), Err(Failed));
+    assert_eq!(rt; drum.read(1, &mut words), Ok(()));
+    assert_eq!(rt; words, ones);
+    assert_eq!(rt;
+        (drum.reads(), drum.writes(), drum.faults(), drum.pages()),
+        (2, 1, 2, 2)
+    );
+    Ok(())
+}
+
+#[test]
+fn sure_objects_go_on(rt: HostRuntime) -> Result<(), Fail> {
+    let alloc = rt.alloc();
+    let mut source = SureSource::new(b"a".to_vec(alloc)?);
+    let mut piece = [0; 2];
+    assert_eq!(rt; source.read(&mut piece), Ok(1));
+    assert_eq!(rt; piece, *b"a\0");
+    assert_eq!(rt; SureSink.write(b"ab"), Ok(2));
+    let mut drum = SureDrum::new(alloc, 1)?;
+    let twos = filled(2);
+    let mut words = [0; PAGE_WORDS];
+    assert_eq!(rt; drum.write(0, &twos), Ok(()));
+    assert_eq!(rt; drum.read(0, &mut words), Ok(()));
+    assert_eq!(rt; words, twos);
+    assert_eq!(rt;
+        (drum.reads(), drum.writes(), drum.faults(), drum.pages()),
+        (1, 1, 0, 1)
+    );
+    Ok(())
+}
+
+#[test]
+fn readers_and_writers(rt: HostRuntime) -> Result<(), Fail> {
+    let bytes: &[u8] = b"abc";
+    let mut source = StdSource::new(bytes);
+    let mut piece = [0; 2];
+    assert_eq!(rt; source.read(&mut piece), Ok(2));
+    assert_eq!(rt; source.read(&mut piece), Ok(1));
+    assert_eq!(rt; piece, *b"cb");
+    assert_eq!(rt; (source.read(&mut piece), source.faults()), (Ok(0), 0));
+    let mut source = StdSource::new(Interrupted);
+    assert_eq!(rt;
+        (source.read(&mut piece), source.faults()),
+        (Err(Failed), 1)
+    );
+    let mut room = [0; 3];
+    let mut sink = StdSink::new(&mut room[..]);
+    assert_eq!(rt; sink.write(b"ab"), Ok(2));
+    assert_eq!(rt; sink.write(b"cd"), Ok(1));
+    assert_eq!(rt; sink.write(b"d"), Err(Failed), "the writer takes nothing");
+    assert_eq!(rt; (sink.write(b""), sink.faults()), (Ok(0), 1));
+    assert_eq!(rt; room, *b"abc");
+    Ok(())
+}
