@@ -1,0 +1,359 @@
+-- The run of the example, entry by entry.
+use Rattle.std.proofs.Common.{◌≡◌, ℕ, ◌+◌, List, [], ◌∷◌, ◌++◌, Bool, true, false, cond, Option, None, Some, refl, sym, ◌∙◌, ap, subst}
+use Rattle.std.specs.Prelude.{is_some, replicate, codes, slice_get, slice_set, slice_index}
+use Rattle.std.specs.declared.cmp.Ordering.{Ordering}
+use Rattle.std.specs.Ordering.{nat_cmp, eq_by_cmp, is_eq}
+use Rattle.std.specs.Cmp.{IsTotalOrder, nat_cmp_total}
+use Rattle.std.proofs.lemmas.Cmp.{tied_itself}
+use Rattle.std.specs.FinMap as map
+use Rattle.plain_model.specs.declared.names.ForkName.{ForkName}
+use Rattle.plain_model.specs.declared.names.Access.{Access}
+use Rattle.plain_model.specs.declared.names.PageName.{PageName}
+use Rattle.plain_model.specs.declared.map.MapEntry.TheVariants.{Empty, Names}
+use Rattle.plain_model.specs.declared.fork.Fork.{Fork}
+use Rattle.plain_model.specs.declared.fork.Regs.{Regs}
+use Rattle.plain_model.specs.declared.fork.ForkStatus.{ForkStatus}
+use Rattle.plain_model.specs.declared.fork.ForkStatus.TheVariants.{Run, Halted}
+use Rattle.plain_model.specs.declared.fork.TerminalMode.{TerminalMode}
+use Rattle.plain_model.specs.declared.fork.TerminalMode.TheVariants.{Command, Program}
+use Rattle.plain_model.specs.declared.event.Event.{Event}
+use Rattle.plain_model.specs.declared.event.Event.TheVariants.{Login, Poke, Start, Run as Turns}
+use Rattle.plain_model.specs.declared.event.Item.TheVariants.{Char}
+use Rattle.plain_model.specs.declared.event.Step.{Step}
+use Rattle.plain_model.specs.declared.event.Step.TheVariants.{Outer, Unit as AUnit, Idle}
+use Rattle.plain_model.specs.State.{PlainState, PlainPages, PlainJob, Map, Maps, opening, opening_pages, first_serials}
+use Rattle.plain_model.specs.Orders.{fork_cmp, page_cmp}
+use Rattle.plain_model.specs.References.{zero_words}
+use Rattle.plain_model.specs.Forks.{top_fork, first_regs}
+use Rattle.plain_model.specs.Events.{empty_map, new_job}
+use Rattle.plain_model.specs.Unit.{Effect}
+use Rattle.plain_model.specs.Run.{apply, items_of, AreLegal, IsLegal, IsLegalStep, Follows, FollowsShape, single, shape_of, auto_after}
+use Rattle.plain_model.specs.Example.{first_terminal, first_fork, movei_word, pbout_word, haltf_word, example_events, example_steps, example_items}
+use Rattle.plain_model.proofs.OrderLemmas.{fork_cmp_total, page_cmp_total}
+
+-- a key that was just set
+get_set : {K V : Type 0} {R : K → K → Ordering} (o : IsTotalOrder R) (m : map.FinMap R V) (k : K) (v : V) → map.get (map.insert m k v) k ≡ Some v
+get_set o m k v = map.get-insert o m k v k ∙ ap (λ r. cond (is_eq r) (Some v) (map.get m k)) (tied_itself o k)
+
+-- every right, and no copy mark
+abbrev rights : Access
+rights = record { r = true; w = true; x = true; c = false }
+
+-- the page that the script makes
+abbrev page : PageName
+page = record { tty = first_terminal; serial = 1 }
+
+abbrev job : TerminalMode → PlainJob
+job mode = record (new_job (codes "SMITH") first_fork) { mode = mode }
+
+abbrev fork : ForkStatus → Regs → ℕ → Fork
+fork status regs units = record (top_fork first_fork) { body = record (top_fork first_fork).body { status = status; regs = regs; units = units } }
+
+abbrev regs_0 : Regs
+regs_0 = record first_regs { pc = 64 }
+
+abbrev regs_1 : Regs
+regs_1 = record first_regs { ac = slice_set first_regs.ac 1 65; pc = 65 }
+
+abbrev regs_2 : Regs
+regs_2 = record regs_1 { pc = 66 }
+
+abbrev regs_3 : Regs
+regs_3 = record regs_1 { pc = 67 }
+
+abbrev Jobs : Type 0
+Jobs = map.FinMap nat_cmp PlainJob
+
+abbrev AllForks : Type 0
+AllForks = map.FinMap fork_cmp Fork
+
+abbrev jobs_1 : Jobs
+jobs_1 = map.insert map.empty 0 (job Command)
+
+abbrev jobs_2 : Jobs
+jobs_2 = map.insert jobs_1 0 (job Program)
+
+abbrev jobs_3 : Jobs
+jobs_3 = map.insert jobs_2 0 (job Command)
+
+abbrev forks_1 : AllForks
+forks_1 = map.insert map.empty first_fork (top_fork first_fork)
+
+abbrev forks_2 : AllForks
+forks_2 = map.insert forks_1 first_fork (fork Run regs_0 0)
+
+abbrev forks_3 : AllForks
+forks_3 = map.insert forks_2 first_fork (fork Run regs_1 1)
+
+abbrev forks_4 : AllForks
+forks_4 = map.insert forks_3 first_fork (fork Run regs_2 2)
+
+abbrev forks_5 : AllForks
+forks_5 = map.insert forks_4 first_fork (fork Halted regs_3 3)
+
+abbrev maps_1 : Maps
+maps_1 = map.insert map.empty first_fork empty_map
+
+abbrev pages_1 : PlainPages
+pages_1 = record { objects = map.empty; maps = maps_1; page_serials = replicate 16 1; console_serial = 1; limit = 2048 }
+
+abbrev words_1 : List ℕ
+words_1 = slice_set zero_words 64 movei_word
+
+abbrev words_2 : List ℕ
+words_2 = slice_set words_1 65 pbout_word
+
+abbrev words_3 : List ℕ
+words_3 = slice_set words_2 66 haltf_word
+
+abbrev with_page : PlainPages → List ℕ → PlainPages
+with_page p words = record p { objects = map.insert p.objects page words }
+
+-- with the zero page
+abbrev pages_2 : PlainPages
+pages_2 = record {
+  objects = map.insert map.empty page zero_words;
+  maps = map.insert maps_1 first_fork (slice_set empty_map 0 (Names page rights));
+  page_serials = slice_set (replicate 16 1) 0 2;
+  console_serial = 1;
+  limit = 2048;
+}
+
+abbrev pages_3 : PlainPages
+pages_3 = with_page pages_2 words_1
+
+abbrev pages_4 : PlainPages
+pages_4 = with_page pages_3 words_2
+
+abbrev pages_5 : PlainPages
+pages_5 = with_page pages_4 words_3
+
+abbrev at : PlainPages → Jobs → AllForks → PlainState
+at p jobs forks = record { pages = p; files = map.empty; jobs = jobs; forks = forks; fork_serials = slice_set (replicate 16 1) 0 2; clock = 0; trace = false }
+
+one_map : map.len maps_1 ≡ 1
+one_map =
+    map.len-insert fork_cmp_total map.empty first_fork empty_map
+    ∙ ap (λ (o : Option Map). cond (is_some o) (map.len {R = fork_cmp} (map.empty {X = Map})) (map.len {R = fork_cmp} (map.empty {X = Map}) + 1)) (map.get-empty fork_cmp first_fork)
+    ∙ ap (λ n. n + 1) (map.len-empty fork_cmp Map)
+
+logs_in : apply (opening 2048) (Outer (Login first_terminal (codes "SMITH"))) ≡ record { state = at pages_1 jobs_1 forks_1; items = Char first_terminal 64 ∷ [] }
+unfolding opening opening_pages first_serials
+logs_in = simp (map.get-empty, map.len-empty, one_map)
+
+one_page : map.len pages_2.objects ≡ 1
+one_page =
+    map.len-insert page_cmp_total map.empty page zero_words
+    ∙ ap (λ (o : Option (List ℕ)). cond (is_some o) (map.len {R = page_cmp} (map.empty {X = List ℕ})) (map.len {R = page_cmp} (map.empty {X = List ℕ}) + 1)) (map.get-empty page_cmp page)
+    ∙ ap (λ n. n + 1) (map.len-empty page_cmp (List ℕ))
+
+still_one_map : map.len pages_2.maps ≡ 1
+still_one_map =
+    map.len-insert fork_cmp_total maps_1 first_fork (slice_set empty_map 0 (Names page rights))
+    ∙ ap (λ (o : Option Map). cond (is_some o) (map.len maps_1) (map.len maps_1 + 1)) (get_set fork_cmp_total map.empty first_fork empty_map)
+    ∙ one_map
+
+empty_entry : slice_get empty_map 0 ≡ Some Empty
+unfolding empty_map
+empty_entry = refl
+
+named_entry : slice_get (slice_set empty_map 0 (Names page rights)) 0 ≡ Some (Names page rights)
+unfolding empty_map
+named_entry = refl
+
+job_set : (m : Jobs) (k : ℕ) (v : PlainJob) → map.get (map.insert m k v) k ≡ Some v
+job_set m k v = get_set nat_cmp_total m k v
+
+fork_set : (m : AllForks) (f : ForkName) (v : Fork) → map.get (map.insert m f v) f ≡ Some v
+fork_set m f v = get_set fork_cmp_total m f v
+
+map_set : (m : Maps) (f : ForkName) (v : Map) → map.get (map.insert m f v) f ≡ Some v
+map_set m f v = get_set fork_cmp_total m f v
+
+page_set : (m : map.FinMap page_cmp (List ℕ)) (n : PageName) (v : List ℕ) → map.get (map.insert m n v) n ≡ Some v
+page_set m n v = get_set page_cmp_total m n v
+
+pokes_1 : apply (at pages_1 jobs_1 forks_1) (Outer (Poke first_terminal 64 movei_word)) ≡ record { state = at pages_3 jobs_1 forks_1; items = [] }
+pokes_1 = simp (job_set, map_set, page_set, empty_entry, named_entry, one_page, still_one_map)
+
+pokes_2 : apply (at pages_3 jobs_1 forks_1) (Outer (Poke first_terminal 65 pbout_word)) ≡ record { state = at pages_4 jobs_1 forks_1; items = [] }
+pokes_2 = simp (job_set, map_set, page_set, named_entry)
+
+starts : apply (at pages_5 jobs_1 forks_1) (Outer (Start first_terminal 64)) ≡ record { state = at pages_5 jobs_2 forks_2; items = [] }
+starts = simp (job_set, fork_set)
+
+pokes_3 : apply (at pages_4 jobs_1 forks_1) (Outer (Poke first_terminal 66 haltf_word)) ≡ record { state = at pages_5 jobs_1 forks_1; items = [] }
+pokes_3 = simp (job_set, map_set, page_set, named_entry)
+
+movei_there : slice_index words_3 64 ≡ movei_word
+unfolding zero_words
+movei_there = refl
+
+pbout_there : slice_index words_3 65 ≡ pbout_word
+unfolding zero_words
+pbout_there = refl
+
+haltf_there : slice_index words_3 66 ≡ haltf_word
+unfolding zero_words
+haltf_there = refl
+
+letter_there : slice_index (slice_set first_regs.ac 1 65) 1 ≡ 65
+unfolding first_regs
+letter_there = refl
+
+moves : apply (at pages_5 jobs_2 forks_2) (AUnit first_fork) ≡ record { state = at pages_5 jobs_2 forks_3; items = [] }
+moves = simp (fork_set, map_set, page_set, named_entry, movei_there)
+
+prints : apply (at pages_5 jobs_2 forks_3) (AUnit first_fork) ≡ record { state = at pages_5 jobs_2 forks_4; items = Char first_terminal 65 ∷ [] }
+prints = simp (fork_set, map_set, page_set, named_entry, pbout_there, letter_there)
+
+halts : apply (at pages_5 jobs_2 forks_4) (AUnit first_fork) ≡ record { state = at pages_5 jobs_3 forks_5; items = Char first_terminal 13 ∷ Char first_terminal 10 ∷ Char first_terminal 64 ∷ [] }
+halts = simp (job_set, fork_set, map_set, page_set, named_entry, haltf_there)
+
+-- the entries from each place on
+abbrev rest_9 : List Step
+rest_9 = Idle ∷ Idle ∷ []
+
+abbrev rest_8 : List Step
+rest_8 = AUnit first_fork ∷ rest_9
+
+abbrev rest_7 : List Step
+rest_7 = AUnit first_fork ∷ rest_8
+
+abbrev rest_6 : List Step
+rest_6 = AUnit first_fork ∷ rest_7
+
+abbrev rest_5 : List Step
+rest_5 = Outer (Start first_terminal 64) ∷ rest_6
+
+abbrev rest_4 : List Step
+rest_4 = Outer (Poke first_terminal 66 haltf_word) ∷ rest_5
+
+abbrev rest_3 : List Step
+rest_3 = Outer (Poke first_terminal 65 pbout_word) ∷ rest_4
+
+abbrev rest_2 : List Step
+rest_2 = Outer (Poke first_terminal 64 movei_word) ∷ rest_3
+
+-- what one entry shows, before what the others show
+shows : (s : PlainState) (x : Step) (e : Effect) (xs : List Step) → apply s x ≡ e → items_of s (x ∷ xs) ≡ e.items ++ items_of e.state xs
+shows s x e xs is = ap (λ (d : Effect). d.items ++ items_of d.state xs) is
+
+pub example_shows : items_of (opening 2048) example_steps ≡ example_items
+example_shows =
+    shows (opening 2048) (Outer (Login first_terminal (codes "SMITH"))) (record { state = at pages_1 jobs_1 forks_1; items = Char first_terminal 64 ∷ [] }) rest_2 logs_in
+    ∙ ap (λ is. Char first_terminal 64 ∷ is) (
+    shows (at pages_1 jobs_1 forks_1) (Outer (Poke first_terminal 64 movei_word)) (record { state = at pages_3 jobs_1 forks_1; items = [] }) rest_3 pokes_1
+    ∙ shows (at pages_3 jobs_1 forks_1) (Outer (Poke first_terminal 65 pbout_word)) (record { state = at pages_4 jobs_1 forks_1; items = [] }) rest_4 pokes_2
+    ∙ shows (at pages_4 jobs_1 forks_1) (Outer (Poke first_terminal 66 haltf_word)) (record { state = at pages_5 jobs_1 forks_1; items = [] }) rest_5 pokes_3
+    ∙ shows (at pages_5 jobs_1 forks_1) (Outer (Start first_terminal 64)) (record { state = at pages_5 jobs_2 forks_2; items = [] }) rest_6 starts
+    ∙ shows (at pages_5 jobs_2 forks_2) (AUnit first_fork) (record { state = at pages_5 jobs_2 forks_3; items = [] }) rest_7 moves
+    ∙ shows (at pages_5 jobs_2 forks_3) (AUnit first_fork) (record { state = at pages_5 jobs_2 forks_4; items = Char first_terminal 65 ∷ [] }) rest_8 prints
+    ∙ ap (λ is. Char first_terminal 65 ∷ is) (
+    shows (at pages_5 jobs_2 forks_4) (AUnit first_fork) (record { state = at pages_5 jobs_3 forks_5; items = Char first_terminal 13 ∷ Char first_terminal 10 ∷ Char first_terminal 64 ∷ [] }) rest_9 halts
+    )
+    )
+
+not_there : (m : AllForks) (v : Fork) (f : ForkName) → eq_by_cmp fork_cmp f first_fork ≡ false → map.get m f ≡ None → map.get (map.insert m first_fork v) f ≡ None
+not_there m v f other none = map.get-insert fork_cmp_total m first_fork v f ∙ ap (λ b. cond b (Some v) (map.get m f)) other ∙ none
+
+-- the halted fork is the only one
+only_halted : (f : ForkName) (k : Fork) (b : Bool) → eq_by_cmp fork_cmp f first_fork ≡ b → map.get forks_5 f ≡ Some k → k.body.status ≡ Run → ⊥
+only_halted f k true same there runs =
+    let is : Some (fork Halted regs_3 3) ≡ Some k = sym (map.get-insert fork_cmp_total forks_4 first_fork (fork Halted regs_3 3) f ∙ ap (λ b. cond b (Some (fork Halted regs_3 3)) (map.get forks_4 f)) same) ∙ there in
+    let k_is : fork Halted regs_3 3 ≡ k = cc is in
+    let halted : Halted ≡ Run = ap (λ (j : Fork). j.body.status) k_is ∙ runs in
+    cc halted
+only_halted f k false other there runs =
+    let none : map.get forks_5 f ≡ None =
+    not_there forks_4 _ f other (not_there forks_3 _ f other (not_there forks_2 _ f other (not_there forks_1 _ f other (not_there map.empty _ f other (map.get-empty fork_cmp f))))) in
+    cc (none, there)
+
+none_runs : IsLegalStep true (at pages_5 jobs_3 forks_5) Idle
+none_runs on f r = only_halted f r.0 (eq_by_cmp fork_cmp f first_fork) refl r.1 r.2
+
+legal_6 : IsLegal true (at pages_5 jobs_2 forks_2) (Turns 5 ∷ []) rest_6
+legal_6 = (
+  rest_6,
+  [],
+  refl,
+  (refl, (tt, (tt, (tt, (tt, (tt, tt)))))),
+  (
+    (fork Run regs_0 0, fork_set forks_1 first_fork (fork Run regs_0 0), refl, refl),
+    subst (λ s. AreLegal true s rest_7) (sym (ap (λ (e : Effect). e.state) moves)) (
+      (fork Run regs_1 1, fork_set forks_2 first_fork (fork Run regs_1 1), refl, refl),
+      subst (λ s. AreLegal true s rest_8) (sym (ap (λ (e : Effect). e.state) prints)) (
+        (fork Run regs_2 2, fork_set forks_3 first_fork (fork Run regs_2 2), refl, refl),
+        subst (λ s. AreLegal true s rest_9) (sym (ap (λ (e : Effect). e.state) halts)) (none_runs, (none_runs, tt)),
+      ),
+    ),
+  ),
+  refl,
+)
+
+-- the events from each place on
+abbrev events_6 : List Event
+events_6 = Turns 5 ∷ []
+
+abbrev events_5 : List Event
+events_5 = Start first_terminal 64 ∷ events_6
+
+abbrev events_4 : List Event
+events_4 = Poke first_terminal 66 haltf_word ∷ events_5
+
+abbrev events_3 : List Event
+events_3 = Poke first_terminal 65 pbout_word ∷ events_4
+
+abbrev events_2 : List Event
+events_2 = Poke first_terminal 64 movei_word ∷ events_3
+
+-- an event of one entry, before legal ones
+before : (s : PlainState) (e : Event) (d : Effect) (es : List Event) (xs : List Step) → shape_of e ≡ single → auto_after true e ≡ true → apply s (Outer e) ≡ d → IsLegal true d.state es xs
+    → IsLegal true s (e ∷ es) (Outer e ∷ xs)
+before s e d es xs one stays is legal = (
+  Outer e ∷ [],
+  xs,
+  refl,
+  subst (λ h. FollowsShape h e (Outer e ∷ [])) (sym one) refl,
+  (tt, tt),
+  subst (λ a. IsLegal a (apply s (Outer e)).state es xs) (sym stays) (subst (λ (c : Effect). IsLegal true c.state es xs) (sym is) legal),
+)
+
+pub example_legal : IsLegal true (opening 2048) example_events example_steps
+example_legal =
+    before (opening 2048) (Login first_terminal (codes "SMITH")) (record { state = at pages_1 jobs_1 forks_1; items = Char first_terminal 64 ∷ [] }) events_2 rest_2 refl refl logs_in (
+    before (at pages_1 jobs_1 forks_1) (Poke first_terminal 64 movei_word) (record { state = at pages_3 jobs_1 forks_1; items = [] }) events_3 rest_3 refl refl pokes_1 (
+    before (at pages_3 jobs_1 forks_1) (Poke first_terminal 65 pbout_word) (record { state = at pages_4 jobs_1 forks_1; items = [] }) events_4 rest_4 refl refl pokes_2 (
+    before (at pages_4 jobs_1 forks_1) (Poke first_terminal 66 haltf_word) (record { state = at pages_5 jobs_1 forks_1; items = [] }) events_5 rest_5 refl refl pokes_3 (
+    before (at pages_5 jobs_1 forks_1) (Start first_terminal 64) (record { state = at pages_5 jobs_2 forks_2; items = [] }) events_6 rest_6 refl refl starts legal_6
+    )
+    )
+    )
+    )
+
+pub example_follows : Follows example_events example_steps
+example_follows = (
+  Outer (Login first_terminal (codes "SMITH")) ∷ [],
+  rest_2,
+  refl,
+  refl,
+  (
+    Outer (Poke first_terminal 64 movei_word) ∷ [],
+    rest_3,
+    refl,
+    refl,
+    (
+      Outer (Poke first_terminal 65 pbout_word) ∷ [],
+      rest_4,
+      refl,
+      refl,
+      (
+        Outer (Poke first_terminal 66 haltf_word) ∷ [],
+        rest_5,
+        refl,
+        refl,
+        (Outer (Start first_terminal 64) ∷ [], rest_6, refl, refl, (rest_6, [], refl, (refl, (tt, (tt, (tt, (tt, (tt, tt)))))), refl)),
+      ),
+    ),
+  ),
+)

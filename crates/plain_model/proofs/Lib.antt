@@ -1,0 +1,7 @@
+pub mod Fixed
+pub mod OrderLemmas
+pub mod Runs
+pub mod Touches
+pub mod ExampleTexts
+pub mod ExampleRun
+pub mod ExampleScript

@@ -1,0 +1,33 @@
+-- Pseudo-interrupts: what posting a channel does to a fork (JSYS Manual, "Pseudo-interrupt system").
+use Rattle.std.specs.Prelude.{ℕ, ◌+◌, ◌^◌, Bool, ◌||◌, ◌&&◌, if◌then◌else◌, ◌==◌, is_some, nat_le}
+use Rattle.std.specs.Int.{bit_at}
+use Rattle.plain_model.specs.declared.fork.Psi.{Psi}
+use Rattle.plain_model.specs.declared.fork.Fork.{Fork}
+use Rattle.plain_model.specs.declared.fork.ForkStatus.{ForkStatus}
+use Rattle.plain_model.specs.declared.fork.ForkStatus.TheVariants.{Run, Wait, Halted, Forced}
+use Rattle.plain_model.specs.Forks.{with_status}
+
+-- pushdown overflow, an illegal instruction, a denied read, write or execute, and a full drum are panic channels
+abbrev pub is_panic : ℕ → Bool
+is_panic channel = (channel == 9) || (nat_le 15 channel && nat_le channel 18) || (channel == 20)
+
+-- whether a fork takes a channel: its interrupts are on, it has a table, and the channel is active
+abbrev pub listens : Psi → ℕ → Bool
+listens psi channel = psi.on && is_some psi.table && (bit_at psi.active channel == 1)
+
+abbrev pub with_pending : Psi → ℕ → Psi
+with_pending psi channel = if bit_at psi.pending channel == 1 then psi else record psi { pending = psi.pending + 2 ^ channel }
+
+abbrev pub woken : ForkStatus → ForkStatus
+woken Run = Run
+woken (Wait on) = Run
+woken Halted = Halted
+woken (Forced channel) = Forced channel
+
+abbrev pub pended : Fork → ℕ → Fork
+pended f channel = record f { body = record f.body { psi = with_pending f.body.psi channel; status = woken f.body.status } }
+
+-- the fork to which a channel is posted: the channel is pending where the fork takes it; else a
+-- panic channel forces the fork, and another is dropped
+abbrev pub posted : Fork → ℕ → Fork
+posted f channel = if listens f.body.psi channel then pended f channel else (if is_panic channel then with_status f (Forced channel) else f)

@@ -1,0 +1,139 @@
+-- The limits of events, items and steps, and which events are built.
+use Rattle.std.specs.Prelude.{◌≡◌, ℕ, ◌+◌, ◌<◌, ◌≤◌, ◌^◌, List, ◌∷◌, ◌++◌, length, drop, All, Bool, true, ◌||◌, ◌&&◌, nat_le, ◌==◌}
+use Rattle.plain_model.specs.declared.names.Tty.{Tty}
+use Rattle.plain_model.specs.declared.names.ForkName.{ForkName}
+use Rattle.plain_model.specs.declared.fork.ForkStatus.{ForkStatus}
+use Rattle.plain_model.specs.declared.fork.ForkStatus.TheVariants.{Run as Running, Wait, Halted, Forced}
+use Rattle.plain_model.specs.declared.event.Event.{Event}
+use Rattle.plain_model.specs.declared.event.Event.TheVariants.{Login, TypeIn, File, Words, Poke, Start, Run, Tick, Evict, Drum, Auto, Examine, Forks, Page, Trace}
+use Rattle.plain_model.specs.declared.event.Item.{Item}
+use Rattle.plain_model.specs.declared.event.Item.TheVariants.{Char, ForkLine, Examined, PageLine, PageWord, UnitLine, Refusal}
+use Rattle.plain_model.specs.declared.event.ForkLine.{ForkLine as ForkShown}
+use Rattle.plain_model.specs.declared.event.Refusal.{Refusal as Cause}
+use Rattle.plain_model.specs.declared.event.Refusal.TheVariants.{Busy, NoJob, SerialsOut, Full, Denied, NoFork, NoPage, Exists, FilesFull, NoFile, FileFull, NoFilePage}
+use Rattle.plain_model.specs.declared.event.Step.{Step}
+use Rattle.plain_model.specs.declared.event.Step.TheVariants.{Outer, Unit as AUnit, Idle}
+use Rattle.plain_model.specs.declared.event.WordRow.{WordRow}
+use Rattle.plain_model.specs.Run.{single, shape_of}
+
+abbrev pub IsTerminal : Tty → Type 0
+IsTerminal t = t.0 < 16
+
+-- a character of a name: a capital letter, a digit or a hyphen
+abbrev pub is_name_code : ℕ → Bool
+is_name_code c = (nat_le 65 c && nat_le c 90) || (nat_le 48 c && nat_le c 57) || (c == 45)
+
+abbrev pub IsNameCode : ℕ → Type 0
+IsNameCode c = is_name_code c ≡ true
+
+-- the name of a user or a directory
+abbrev pub IsDirName : List ℕ → Type 0
+IsDirName name = (1 ≤ length name) × (length name ≤ 12) × All IsNameCode name
+
+-- the full name of a file, <DIR>NAME.EXT
+pub record IsFileName (name : List ℕ) : Type 0 where
+  pub dir : List ℕ
+  pub stem : List ℕ
+  pub extension : List ℕ
+  pub spelled : name ≡ 60 ∷ (dir ++ 62 ∷ (stem ++ 46 ∷ extension))
+  pub dir_fits : IsDirName dir
+  pub stem_some : 1 ≤ length stem
+  pub stem_fits : All IsNameCode stem
+  pub extension_fits : All IsNameCode extension
+  pub short : length name ≤ 39
+
+-- an address of a fork's space
+abbrev pub IsAddress : ℕ → Type 0
+IsAddress a = a < 2 ^ 18
+
+-- the words of a row, which lie within a page from the offset on; those past the count are 0
+pub record FitsRow (offset : ℕ) (row : WordRow) : Type 0 where
+  pub some : 1 ≤ row.count
+  pub most : row.count ≤ 8
+  pub room : length row.words ≡ 8
+  pub words : All (λ w. w < 2 ^ 36) row.words
+  pub rest : All (λ w. w ≡ 0) (drop row.count row.words)
+  pub within : offset + row.count ≤ 512
+
+-- the limits of an event
+abbrev pub FitsEvent : Event → Type 0
+FitsEvent (Login t user) = IsTerminal t × IsDirName user
+FitsEvent (TypeIn t text) = IsTerminal t × (1 ≤ length text) × (length text ≤ 100) × All (λ c. c < 128) text
+FitsEvent (File name) = IsFileName name
+FitsEvent (Words name page offset row) = IsFileName name × (page < 512) × FitsRow offset row
+FitsEvent (Poke t address word) = IsTerminal t × IsAddress address × (word < 2 ^ 36)
+FitsEvent (Start t address) = IsTerminal t × IsAddress address
+FitsEvent (Run n) = (1 ≤ n) × (n ≤ 1000000)
+FitsEvent Tick = Unit {0}
+FitsEvent (Evict n) = n < 10000000
+FitsEvent (Drum n) = n < 10000000
+FitsEvent (Auto on) = Unit {0}
+FitsEvent (Examine t serial address) = IsTerminal t × (serial < 1000000) × IsAddress address
+FitsEvent (Forks t) = IsTerminal t
+FitsEvent (Page name page) = IsFileName name × (page < 512)
+FitsEvent (Trace on) = Unit {0}
+
+-- the events that the machine acts on: those of these lines, with terminal 0
+abbrev pub IsBuilt : Event → Type 0
+IsBuilt (Login t user) = t.0 ≡ 0
+IsBuilt (TypeIn t text) = ⊥
+IsBuilt (File name) = ⊥
+IsBuilt (Words name page offset row) = ⊥
+IsBuilt (Poke t address word) = t.0 ≡ 0
+IsBuilt (Start t address) = t.0 ≡ 0
+IsBuilt (Run n) = Unit {0}
+IsBuilt Tick = ⊥
+IsBuilt (Evict n) = ⊥
+IsBuilt (Drum n) = ⊥
+IsBuilt (Auto on) = ⊥
+IsBuilt (Examine t serial address) = ⊥
+IsBuilt (Forks t) = ⊥
+IsBuilt (Page name page) = ⊥
+IsBuilt (Trace on) = ⊥
+
+-- an event that is one entry
+abbrev pub IsOuter : Event → Type 0
+IsOuter e = shape_of e ≡ single
+
+-- a fork's name
+abbrev pub IsForkName : ForkName → Type 0
+IsForkName f = IsTerminal f.tty × (1 ≤ f.serial) × (f.serial ≤ 262143)
+
+abbrev pub FitsStatus : ForkStatus → Type 0
+FitsStatus Running = Unit {0}
+FitsStatus (Wait on) = Unit {0}
+FitsStatus Halted = Unit {0}
+FitsStatus (Forced channel) = channel < 36
+
+abbrev pub FitsForkLine : ForkShown → Type 0
+FitsForkLine l = IsForkName l.name × (l.superior ≤ 262143) × FitsStatus l.status × IsAddress l.address
+
+abbrev pub FitsCause : Cause → Type 0
+FitsCause (Busy t) = IsTerminal t
+FitsCause (NoJob t) = IsTerminal t
+FitsCause (SerialsOut t) = IsTerminal t
+FitsCause (Full t) = IsTerminal t
+FitsCause (Denied t) = IsTerminal t
+FitsCause (NoFork t) = IsTerminal t
+FitsCause (NoPage t) = IsTerminal t
+FitsCause (Exists name) = IsFileName name
+FitsCause (FilesFull name) = IsFileName name
+FitsCause (NoFile name) = IsFileName name
+FitsCause (FileFull name) = IsFileName name
+FitsCause (NoFilePage name) = IsFileName name
+
+-- the limits of an item
+abbrev pub FitsItem : Item → Type 0
+FitsItem (Char t c) = IsTerminal t × (c < 128)
+FitsItem (ForkLine l) = FitsForkLine l
+FitsItem (Examined t serial address word) = IsTerminal t × (serial < 1000000) × IsAddress address × (word < 2 ^ 36)
+FitsItem (PageLine name page) = IsFileName name × (page < 512)
+FitsItem (PageWord offset word) = (offset < 512) × (word < 2 ^ 36)
+FitsItem (UnitLine f address) = IsForkName f × IsAddress address
+FitsItem (Refusal cause) = FitsCause cause
+
+-- the limits of a step
+abbrev pub FitsStep : Step → Type 0
+FitsStep (Outer e) = FitsEvent e × IsOuter e
+FitsStep (AUnit f) = IsForkName f
+FitsStep Idle = Unit {0}

@@ -1,0 +1,62 @@
+-- What one event of a machine did, over what its drum tells.
+use Rattle.std.specs.Prelude.{◌≡◌, ◌⊎◌, ℕ, ◌+◌, List, length, Bool, true, Option, Some}
+use Rattle.plain_model.specs.declared.event.Event.{Event}
+use Rattle.plain_model.specs.declared.event.Item.{Item}
+use Rattle.plain_model.specs.declared.event.Step.{Step}
+use Rattle.plain_model.specs.State.{PlainState}
+use Rattle.plain_model.specs.Run.{FollowsOne, Begins, AreLegal, state_after, items_of}
+use Rattle.plain_model.specs.Taker.{GoesOn, IsCut}
+
+-- the words of a drum, one list a page
+abbrev pub DrumWords : Type 0
+DrumWords = List (List ℕ)
+
+-- the words that stand on the drum: those that it tells, or any where nothing depends on them
+abbrev pub Stands : Bool → Option DrumWords → DrumWords → Type 0
+Stands flat held d = (held ≡ Some d) ⊎ (flat ≡ true)
+
+-- legal steps led from one plain state to the other, and were given with their items
+pub record Gave {T : Type 0} (stands : T → T → List Item → List Step → Type 0) (out out' : T) (auto : Bool) (old new : PlainState) (steps : List Step) : Type 0 where
+  pub legal : AreLegal auto old steps
+  pub state : new ≡ state_after old steps
+  pub given : GoesOn stands out out' (items_of old steps) steps
+
+-- the taker failed within these steps, the last of them the one at hand
+pub record GaveCut {T : Type 0} (stands cut : T → T → List Item → List Step → Type 0) (out out' : T) (auto : Bool) (old : PlainState) (steps : List Step) : Type 0 where
+  pub legal : AreLegal auto old steps
+  pub given : IsCut stands cut out out' (items_of old steps) steps
+
+-- A machine and its drum before and after: which words of a drum fit the machine, and the plain state
+-- that it then stands for.
+module _ {M D T : Type 0} (flat : Bool) (fits : M → DrumWords → Type 0) (plain : M → DrumWords → PlainState) (held : D → Option DrumWords) where
+  -- over what the drum told and tells, these steps were given
+  pub record GaveOver (stands : T → T → List Item → List Step → Type 0) (m m' : M) (drum drum' : D) (out out' : T) (auto : Bool) (steps : List Step) : Type 0 where
+    pub each : (d : DrumWords) → Stands flat (held drum) d → fits m d
+        → (e : DrumWords) × Stands flat (held drum') e × fits m' e × Gave stands out out' auto (plain m d) (plain m' e) steps
+
+  -- over what the drum told, the taker failed within these steps
+  pub record CutOver (stands cut : T → T → List Item → List Step → Type 0) (m : M) (drum : D) (out out' : T) (auto : Bool) (steps : List Step) : Type 0 where
+    pub each : (d : DrumWords) → Stands flat (held drum) d → fits m d → GaveCut stands cut out out' auto (plain m d) steps
+
+  -- over what the drum told, these steps were given before the drum failed
+  pub record GaveBefore (stands : T → T → List Item → List Step → Type 0) (m : M) (drum : D) (out out' : T) (auto : Bool) (steps : List Step) : Type 0 where
+    pub each : (d : DrumWords) → Stands flat (held drum) d → fits m d → (last : PlainState) × Gave stands out out' auto (plain m d) last steps
+
+  -- an event went: its steps follow it and were given; so many entries and events more are done
+  pub record Went (stands : T → T → List Item → List Step → Type 0) (m m' : M) (drum drum' : D) (out out' : T) (auto : Bool) (event : Event) (done done' : ℕ) : Type 0 where
+    pub steps : List Step
+    pub follows : FollowsOne event steps
+    pub count : done' ≡ done + length steps + 1
+    pub told : GaveOver stands m m' drum drum' out out' auto steps
+
+  -- the drum failed: the steps that were given are a beginning of the event's
+  pub record Stopped (stands : T → T → List Item → List Step → Type 0) (m : M) (drum : D) (out out' : T) (auto : Bool) (event : Event) : Type 0 where
+    pub steps : List Step
+    pub begins : Begins event steps
+    pub told : GaveBefore stands m drum out out' auto steps
+
+  -- the taker failed: it is cut within steps with which the event's may begin
+  pub record CutOff (stands cut : T → T → List Item → List Step → Type 0) (m : M) (drum : D) (out out' : T) (auto : Bool) (event : Event) : Type 0 where
+    pub steps : List Step
+    pub begins : Begins event steps
+    pub told : CutOver stands cut m drum out out' auto steps

@@ -1,0 +1,133 @@
+-- Entries, the plain run over them, and which entries a script's events may have.
+use Rattle.std.specs.Prelude.{◌≡◌, ℕ, ◌≤◌, List, [], ◌∷◌, ◌++◌, length, Bool, true, false, Option, None, Some}
+use Rattle.std.specs.FinMap as map
+use Rattle.plain_model.specs.declared.names.ForkName.{ForkName}
+use Rattle.plain_model.specs.declared.fork.Fork.{Fork}
+use Rattle.plain_model.specs.declared.event.Event.{Event}
+use Rattle.plain_model.specs.declared.event.Event.TheVariants.{Login, TypeIn, File, Words, Poke, Start, Run, Tick, Evict, Drum, Auto, Examine, Forks, Page, Trace}
+use Rattle.plain_model.specs.declared.event.Item.{Item}
+use Rattle.plain_model.specs.declared.event.Item.TheVariants.{UnitLine}
+use Rattle.plain_model.specs.declared.event.Step.{Step}
+use Rattle.plain_model.specs.declared.event.Step.TheVariants.{Outer, Unit as AUnit, Idle}
+use Rattle.plain_model.specs.State.{PlainState, opening}
+use Rattle.plain_model.specs.Forks.{IsRunnable}
+use Rattle.plain_model.specs.Unit.{Effect, unit}
+use Rattle.plain_model.specs.Events.{outer}
+
+-- what is shown before a unit
+abbrev pub unit_line : Bool → ForkName → Option Fork → List Item
+unit_line false f k = []
+unit_line true f None = []
+unit_line true f (Some k) = UnitLine f k.body.regs.pc ∷ []
+
+abbrev pub shown_unit : List Item → Effect → Effect
+shown_unit items e = record { state = e.state; items = items ++ e.items }
+
+-- one entry of the plain machine
+abbrev pub apply : PlainState → Step → Effect
+apply s (Outer e) = outer s e
+apply s (AUnit f) = shown_unit (unit_line s.trace f (map.get s.forks f)) (unit s f)
+apply s Idle = record { state = s; items = [] }
+
+-- the fold of the entries: the state that they leave, and all that they show
+abbrev pub state_after : PlainState → List Step → PlainState
+state_after s [] = s
+state_after s (x ∷ xs) = state_after (apply s x).state xs
+
+abbrev pub items_of : PlainState → List Step → List Item
+items_of s [] = []
+items_of s (x ∷ xs) = (apply s x).items ++ items_of (apply s x).state xs
+
+-- the plain run of entries from the opening state, with so many pages on the drum
+abbrev pub plain_run : ℕ → List Step → Effect
+plain_run limit steps = record { state = state_after (opening limit) steps; items = items_of (opening limit) steps }
+
+-- how an event shows among the entries: not at all, as so many turns, or as itself
+pub data Shape : Type 0 where
+  silent : Shape
+  turns : ℕ → Shape
+  single : Shape
+
+abbrev pub shape_of : Event → Shape
+shape_of (Login t user) = single
+shape_of (TypeIn t text) = single
+shape_of (File name) = single
+shape_of (Words name page offset row) = single
+shape_of (Poke t address word) = single
+shape_of (Start t address) = single
+shape_of (Run n) = turns n
+shape_of Tick = single
+shape_of (Evict n) = silent
+shape_of (Drum n) = silent
+shape_of (Auto on) = silent
+shape_of (Examine t serial address) = single
+shape_of (Forks t) = single
+shape_of (Page name page) = single
+shape_of (Trace on) = single
+
+-- a turn of a RUN: a unit, or an idle entry
+abbrev pub IsTurn : Step → Type 0
+IsTurn (Outer e) = ⊥
+IsTurn (AUnit f) = Unit {0}
+IsTurn Idle = Unit {0}
+
+abbrev pub AreTurns : List Step → Type 0
+AreTurns [] = Unit {0}
+AreTurns (x ∷ xs) = IsTurn x × AreTurns xs
+
+-- the entries of one event
+abbrev pub FollowsShape : Shape → Event → List Step → Type 0
+FollowsShape silent e steps = steps ≡ []
+FollowsShape (turns n) e steps = (length steps ≡ n) × AreTurns steps
+FollowsShape single e steps = steps ≡ Outer e ∷ []
+
+abbrev pub FollowsOne : Event → List Step → Type 0
+FollowsOne e steps = FollowsShape (shape_of e) e steps
+
+-- entries with which one event's may begin
+abbrev pub BeginsShape : Shape → Event → List Step → Type 0
+BeginsShape silent e steps = steps ≡ []
+BeginsShape (turns n) e steps = (length steps ≤ n) × AreTurns steps
+BeginsShape single e steps = steps ≡ Outer e ∷ []
+
+abbrev pub Begins : Event → List Step → Type 0
+Begins e steps = BeginsShape (shape_of e) e steps
+
+-- the entries are those of the events in order
+abbrev pub Follows : List Event → List Step → Type 0
+Follows [] steps = steps ≡ []
+Follows (e ∷ es) steps = (now : List Step) × (later : List Step) × (steps ≡ now ++ later) × FollowsOne e now × Follows es later
+
+-- the AUTO mark behind an event
+abbrev pub auto_after : Bool → Event → Bool
+auto_after auto (Login t user) = auto
+auto_after auto (TypeIn t text) = auto
+auto_after auto (File name) = auto
+auto_after auto (Words name page offset row) = auto
+auto_after auto (Poke t address word) = auto
+auto_after auto (Start t address) = auto
+auto_after auto (Run n) = auto
+auto_after auto Tick = auto
+auto_after auto (Evict n) = auto
+auto_after auto (Drum n) = auto
+auto_after auto (Auto on) = on
+auto_after auto (Examine t serial address) = auto
+auto_after auto (Forks t) = auto
+auto_after auto (Page name page) = auto
+auto_after auto (Trace on) = auto
+
+-- a unit is of a fork that can run there; an idle entry under AUTO ON stands where none can
+abbrev pub IsLegalStep : Bool → PlainState → Step → Type 0
+IsLegalStep auto s (Outer e) = Unit {0}
+IsLegalStep auto s (AUnit f) = IsRunnable s f
+IsLegalStep auto s Idle = auto ≡ true → (f : ForkName) → IsRunnable s f → ⊥
+
+abbrev pub AreLegal : Bool → PlainState → List Step → Type 0
+AreLegal auto s [] = Unit {0}
+AreLegal auto s (x ∷ xs) = IsLegalStep auto s x × AreLegal auto (apply s x).state xs
+
+-- each event's entries are legal where they stand, under the AUTO mark that the events before it leave
+abbrev pub IsLegal : Bool → PlainState → List Event → List Step → Type 0
+IsLegal auto s [] steps = steps ≡ []
+IsLegal auto s (e ∷ es) steps =
+    (now : List Step) × (later : List Step) × (steps ≡ now ++ later) × FollowsOne e now × AreLegal auto s now × IsLegal (auto_after auto e) (state_after s now) es later

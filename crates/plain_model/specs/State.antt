@@ -1,0 +1,80 @@
+-- The state of the plain machine: numbers, lists and finite maps.
+use Rattle.std.specs.Prelude.{ℕ, List, Bool, false, Option, replicate, if◌then◌else◌, ◌==◌, slice_index}
+use Rattle.std.specs.Ordering.{nat_cmp}
+use Rattle.std.specs.Cmp.Lexicographic.{slice_cmp}
+use Rattle.std.specs.FinMap as map
+use Rattle.plain_model.specs.declared.names.Tty.{Tty}
+use Rattle.plain_model.specs.declared.names.ForkName.{ForkName}
+use Rattle.plain_model.specs.declared.names.PageName.{PageName}
+use Rattle.plain_model.specs.declared.map.MapEntry.{MapEntry}
+use Rattle.plain_model.specs.declared.fork.Fork.{Fork}
+use Rattle.plain_model.specs.declared.fork.Mode.{Mode}
+use Rattle.plain_model.specs.declared.fork.TerminalMode.{TerminalMode}
+use Rattle.plain_model.specs.Orders.{fork_cmp, page_cmp}
+
+-- a fork's map: its entries, one for each page of its space
+abbrev pub Map : Type 0
+Map = List MapEntry
+
+abbrev pub Maps : Type 0
+Maps = map.FinMap fork_cmp Map
+
+-- the pages: objects of 512 words under their names, the maps of the living forks, the next page
+-- serial of each terminal and of the console, and how many pages and forks there may be
+pub record PlainPages : Type 0 where
+  pub objects : map.FinMap page_cmp (List ℕ)
+  pub maps : Maps
+  pub page_serials : List ℕ
+  pub console_serial : ℕ
+  pub limit : ℕ
+
+-- a file: its pages by their numbers, its length, and the size of its bytes
+pub record PlainFile : Type 0 where
+  pub pages : map.FinMap nat_cmp PageName
+  pub length : ℕ
+  pub size : ℕ
+
+-- what a JFN stands for: the name of a file, how it is open, the position and its byte size
+pub record OpenFile : Type 0 where
+  pub file : List ℕ
+  pub mode : Option Mode
+  pub at : ℕ
+  pub size : ℕ
+
+-- a job: its user, its top fork, who reads its terminal, the command line, the start address of its
+-- last RUN command, its JFNs, the characters stored, and the channels of the codes that are assigned
+pub record PlainJob : Type 0 where
+  pub user : List ℕ
+  pub top : ForkName
+  pub mode : TerminalMode
+  pub line : List ℕ
+  pub start : Option ℕ
+  pub jfns : map.FinMap nat_cmp OpenFile
+  pub input : List ℕ
+  pub codes : map.FinMap nat_cmp (ForkName × ℕ)
+
+-- the whole state: the pages, the files by name, the jobs by terminal, the forks by name, the next
+-- fork serial of each terminal, the clock, and whether each unit is shown
+pub record PlainState : Type 0 where
+  pub pages : PlainPages
+  pub files : map.FinMap (slice_cmp nat_cmp) PlainFile
+  pub jobs : map.FinMap nat_cmp PlainJob
+  pub forks : map.FinMap fork_cmp Fork
+  pub fork_serials : List ℕ
+  pub clock : ℕ
+  pub trace : Bool
+
+-- each terminal's first serial is 1
+unfoldable pub first_serials : List ℕ
+first_serials = replicate 16 1
+
+unfoldable pub opening_pages : ℕ → PlainPages
+opening_pages limit = record { objects = map.empty; maps = map.empty; page_serials = first_serials; console_serial = 1; limit = limit }
+
+-- no job, fork, file or page
+unfoldable pub opening : ℕ → PlainState
+opening limit = record { pages = opening_pages limit; files = map.empty; jobs = map.empty; forks = map.empty; fork_serials = first_serials; clock = 0; trace = false }
+
+-- the next page serial of a terminal, or of the console
+abbrev pub page_serial : PlainPages → Tty → ℕ
+page_serial p t = if t.0 == 255 then p.console_serial else slice_index p.page_serials t.0

@@ -1,0 +1,30 @@
+//! The plain machine: its types, its definitions, and the contracts of pages and takers.
+//! To the layers above every promise is about these definitions, which know no frames and no drum.
+//! Stands on `word36` for words and on `outside` for counts of faults and drums.
+#![tactic(auto)]
+
+mod bounds;
+mod event;
+mod example;
+mod fork;
+mod map;
+mod names;
+mod pages;
+mod taker;
+mod text;
+
+pub use bounds::bounds_hold;
+pub use event::{Event, ForkLine, Item, Refusal, Step, WordRow};
+pub use example::{empty_script, first_script};
+pub use fork::{Answer, Body, Chars, Fork, ForkStatus, Jfn, Mode, Psi, Regs, TerminalMode, WaitOn};
+pub use map::{MapEntry, Need, NewEntry, NewMap, Touch};
+pub use names::{
+    ACCUMULATORS, Access, FileNo, ForkName, FrameId, Home, Kind, LAST_SERIAL, MOST_FORKS,
+    MOST_HOMES, PageName, Place, SPACE_PAGES, Slot, TERMINALS, Tty,
+};
+pub use pages::Pages;
+pub use taker::Taker;
+pub use text::{DirName, FileName, Text, TypedText};
+
+#[cfg(test)]
+mod tests;

@@ -1,0 +1,53 @@
+// Entries of a fork's map, and what is asked of pages.
+use crate::{Access, FileNo, ForkName, Home, Kind, PageName};
+
+/// An entry of a fork's map (CACM paper, "The memory management"): nothing; a page; or an entry of
+/// a fork of the same job, named by its serial, that it follows.
+#[derive(Clone, Copy, Debug, PartialEq, Eq)]
+pub enum MapEntry {
+    Empty,
+    Names(PageName, Access),
+    Follows(u32, u16, Access),
+}
+
+/// What an entry is set to. Narrow keeps of the access what is given too, and adds the copy mark.
+#[derive(Clone, Copy, Debug, PartialEq, Eq)]
+pub enum NewEntry {
+    Empty,
+    FilePage(FileNo, u16, Access),
+    Follows(u32, u16, Access),
+    Narrow(Access),
+}
+
+/// The map of a new fork: empty, or each entry following the same entry of a fork.
+#[derive(Clone, Copy, Debug, PartialEq, Eq)]
+pub enum NewMap {
+    Empty,
+    FollowAll(ForkName),
+}
+
+/// What a reference to a page finds.
+#[derive(Clone, Copy, Debug, PartialEq, Eq)]
+pub enum Touch {
+    /// The page is there.
+    Ready,
+    /// A zero page has to be made.
+    Zero,
+    /// The page has to be copied. A sole copy takes the home of a page that has no other name.
+    Copy { sole: bool },
+    /// This home is in no frame.
+    Absent(Home),
+    /// A page has to be made, and no frame is free.
+    NeedFrame,
+    /// The map forbids a reference of this kind.
+    Denied(Kind),
+    /// A page has to be made, and the drum is full.
+    Full,
+}
+
+/// What a fork in page wait waits for: a page, or any frame.
+#[derive(Clone, Copy, Debug, PartialEq, Eq)]
+pub enum Need {
+    Page(Home),
+    Frame,
+}

@@ -1,0 +1,47 @@
+// What takes the items and the steps of a run.
+ghost use Rattle.std.specs.Prelude.{◌≡◌, ◌≤◌, List, ℕ, [], ◌∷◌, OnOk, OnErr};
+ghost use Rattle.outside.specs.Faults.{Rose};
+ghost use Rattle.plain_model.specs.Limits.{FitsItem, FitsStep};
+ghost use Rattle.plain_model.specs.Taker.{GoesOn, IsCut, StaysOnward};
+ghost use Rattle.plain_model.specs.declared.event.Item.{Item as AnItem};
+ghost use Rattle.plain_model.specs.declared.event.Step.{Step as AStep};
+
+use crate::{Item, Step};
+use outside::Failed;
+
+/// Takes what a machine shows and what it did, in order: the items of a step, and then the step.
+pub trait Taker {
+    /// How often a call has failed.
+    ghost fault_count: { Self → ℕ };
+
+    /// It is the taker that the first was, whatever happened since.
+    ghost onward: { Self → Self → Type 0 };
+
+    /// Since the first, it has come to stand for these items and these steps.
+    ghost stands: { Self → Self → List AnItem → List AStep → Type 0 };
+
+    /// Since the first, it has failed, and is cut within these items and these steps.
+    ghost cut: { Self → Self → List AnItem → List AStep → Type 0 };
+
+    /// How often a call has failed. At 2^64 - 1 it stays there.
+    fn faults(&self) -> u64
+        ensures { result ≡ fault_count self.now };
+
+    /// Takes an item. Fails only where the count of faults rises.
+    fn item(&mut self, i: Item) -> Result<(), Failed>
+        requires { FitsItem i }
+        ensures later { fault_count self.old ≤ fault_count self.new }
+        ensures cause { OnErr result (Rose (fault_count self.old) (fault_count self.new)) }
+        ensures onward { StaysOnward onward self.old self.new }
+        ensures ok { OnOk result (GoesOn stands self.old self.new (i ∷ []) []) }
+        ensures err { OnErr result (IsCut stands cut self.old self.new (i ∷ []) []) };
+
+    /// Takes a step. Fails only where the count of faults rises.
+    fn step(&mut self, s: Step) -> Result<(), Failed>
+        requires { FitsStep s }
+        ensures later { fault_count self.old ≤ fault_count self.new }
+        ensures cause { OnErr result (Rose (fault_count self.old) (fault_count self.new)) }
+        ensures onward { StaysOnward onward self.old self.new }
+        ensures ok { OnOk result (GoesOn stands self.old self.new [] (s ∷ [])) }
+        ensures err { OnErr result (IsCut stands cut self.old self.new [] (s ∷ [])) };
+}
