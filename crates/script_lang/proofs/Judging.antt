@@ -1,0 +1,220 @@
+-- What a line at the front makes of the rest of a script, and how lines that were passed add up.
+use Rattle.std.proofs.Common.{◌≡◌, ◌≢◌, ◌⊎◌, inl, inr, ℕ, ◌+◌, ◌<◌, ◌≤◌, List, [], ◌∷◌, ◌++◌, length, take, drop, refl, sym, ◌∙◌, ap, subst, arith, append_assoc, length-append}
+use Rattle.std.specs.Prelude.{Option}
+use Rattle.std.proofs.lemmas.Grind.{flat_map-append}
+use Rattle.std.proofs.lemmas.List.{append-nil, take_at, drop_at}
+use Rattle.plain_model.specs.declared.event.Event.{Event}
+use Rattle.plain_model.specs.Script.{AreLines, Gives, GiveAll, HasNoFeed, IsBadLine, IsBadRest, IsLongRest, Means, joined, most_bytes}
+use Rattle.script_lang.specs.Feeds.{AllLeft, EndsWithin, GoesBeyond, Holds, IsFed, StopsWithin}
+use Rattle.script_lang.specs.Lines.{Breaks, FrontIsBad, FrontIsLong, GivesLine, IsDone, Passes, Takes, given, lines_given, pending, turns_given}
+use Rattle.script_lang.specs.declared.lines.Lines.{Lines}
+use Rattle.script_lang.proofs.Reading.{feed_behind}
+
+-- what is told behind bytes that have a line feed
+fed_told : (held : List ℕ) (n : ℕ) (fed : IsFed held n) (told : List ℕ) → held ++ told ≡ fed.line ++ 10 ∷ (fed.more ++ told)
+fed_told held n fed told = ap (λ l. l ++ told) fed.whole ∙ append_assoc fed.line (10 ∷ fed.more) told
+
+pub fed_line : (held : List ℕ) (n : ℕ) (fed : IsFed held n) → take n held ≡ fed.line
+fed_line held n fed = ap (λ l. take n l) fed.whole ∙ take_at fed.line (10 ∷ fed.more) n fed.long
+
+pub fed_more : (held : List ℕ) (n : ℕ) (fed : IsFed held n) → drop (n + 1) held ≡ fed.more
+fed_more held n fed =
+    let long : length (fed.line ++ 10 ∷ []) ≡ n + 1 = omega (arith, length-append fed.line (10 ∷ []), fed.long) in
+    ap (λ l. drop (n + 1) l) (fed.whole ∙ sym (append_assoc fed.line (10 ∷ []) fed.more)) ∙ drop_at (fed.line ++ 10 ∷ []) fed.more (n + 1) long
+
+pub long_front : (before : ℕ) (held : List ℕ) (n : ℕ) → IsFed held n → before ≤ most_bytes → most_bytes ≤ before + n → FrontIsLong before held
+long_front before held n fed short over told =
+    let whole = fed_told held n fed told in (
+      short,
+      omega (arith, ap length whole, length-append fed.line (10 ∷ (fed.more ++ told)), fed.long, over),
+      (λ line more is. omega (arith, feed_behind fed.line (10 ∷ (fed.more ++ told)) line more fed.plain (sym whole ∙ is), fed.long, over)),
+    )
+
+pub bad_front : (before so_far : ℕ) (held : List ℕ) (n : ℕ) (fed : IsFed held n) → before + n < most_bytes → IsBadLine so_far fed.line → FrontIsBad before so_far held
+bad_front before so_far held n fed near bad told = inl (fed.line, fed.more ++ told, fed_told held n fed told, fed.plain, omega (arith, near, fed.long), bad)
+
+pub gives_line : (old new : Lines) (n : ℕ) (fed : IsFed (pending old) n) (events : List Event) → Gives fed.line events → pending new ≡ drop (n + 1) (pending old)
+    → lines_given new ≡ lines_given old + 1 → given new ≡ given old + (n + 1) → GivesLine old new events
+gives_line old new n fed events gives left lines bytes = record {
+  line = fed.line;
+  whole = fed.whole ∙ ap (λ l. fed.line ++ 10 ∷ l) (sym (left ∙ fed_more (pending old) n fed));
+  gives = gives;
+  more_lines = lines;
+  more_bytes = omega (arith, bytes, fed.long);
+}
+
+pub gives_event : (line text : List ℕ) (e : Event) → text ≡ line → HasNoFeed line → length line ≤ 256 → Means text e → Gives line (e ∷ [])
+gives_event line text e same plain short means = (record { short = short; no_feed = plain }, inl (e, subst (λ l. Means l e) same means, refl))
+
+-- a first line that ends within the room, which is too long or does not
+pub ends_bad : (before so_far least room : ℕ) (xs : List ℕ) → room + before ≡ most_bytes → (256 < least) ⊎ (room < least) → EndsWithin least room xs → IsBadRest before so_far xs
+ends_bad before so_far least room xs whole over ends =
+    let long : 256 < length ends.line = elim over [ inl h ↦ omega (arith, h, ends.far) | inr h ↦ absurd (omega (arith, h, ends.far, ends.near)) ] in
+    inl (ends.line, ends.more, ends.whole, ends.plain, omega (arith, whole, ends.near), inl long)
+
+pub goes_long : (before room : ℕ) (xs : List ℕ) → room + before ≡ most_bytes → GoesBeyond room xs → IsLongRest before xs
+goes_long before room xs whole goes = (omega (arith, whole), omega (arith, whole, goes.long), (λ line more is. omega (arith, whole, goes.none line more is)))
+
+-- lines one after another give their events one after another
+pub give_both : (ls ms : List (List ℕ)) (es fs : List Event) → GiveAll ls es → GiveAll ms fs → GiveAll (ls ++ ms) (es ++ fs)
+give_both [] ms es fs p q = subst (λ l. GiveAll ms (l ++ fs)) (sym p) q
+give_both (l ∷ ls) ms es fs p q = (p.0, p.1 ++ fs, ap (λ l. l ++ fs) p.2 ∙ append_assoc p.0 p.1 fs, p.3, give_both ls ms p.1 fs p.4 q)
+
+pub lines_none : AreLines [] 0 []
+lines_none = record { lines = []; whole = refl; many = refl; gives = refl }
+
+pub lines_one : (line : List ℕ) (events : List Event) → Gives line events → AreLines (line ++ 10 ∷ []) 1 events
+lines_one line events gives = record {
+  lines = line ∷ [];
+  whole = sym (append-nil (line ++ 10 ∷ []));
+  many = refl;
+  gives = (events, [], sym (append-nil events), gives, refl);
+}
+
+pub lines_both : (front back : List ℕ) (m n : ℕ) (es fs : List Event) → AreLines front m es → AreLines back n fs → AreLines (front ++ back) (m + n) (es ++ fs)
+lines_both front back m n es fs p q = record {
+  lines = p.lines ++ q.lines;
+  whole = ap (λ l. l ++ back) p.whole ∙ (ap (λ l. joined p.lines ++ l) q.whole ∙ sym (flat_map-append (λ l. l ++ 10 ∷ []) p.lines q.lines));
+  many = omega (arith, length-append p.lines q.lines, p.many, q.many);
+  gives = give_both p.lines q.lines es fs p.gives q.gives;
+}
+
+module _ {S : Type 0} (left : S → Option (List ℕ)) where
+  pub told_front : (held : List ℕ) (s : S) (P : List ℕ → Type 0) → ((told : List ℕ) → P (held ++ told)) → AllLeft left held s P
+  told_front held s P each = record { each = λ xs rest. subst P (sym rest.2) (each rest.0) }
+
+  pub all_weaker : (held : List ℕ) (s : S) (P Q : List ℕ → Type 0) → ((xs : List ℕ) → P xs → Q xs) → AllLeft left held s P → AllLeft left held s Q
+  all_weaker held s P Q weaker all = record { each = λ xs rest. weaker xs (all.each xs rest) }
+
+  pub held_all : (old mid : List ℕ) (s t : S) (P : List ℕ → Type 0) → Holds left old mid s t → AllLeft left mid t P → AllLeft left old s P
+  held_all old mid s t P holds all = record { each = λ xs rest. all.each xs (holds.each xs rest) }
+
+  -- a bad line at the front, with no line before it
+  pub breaks_now : (before so_far passed : ℕ) (xs : List ℕ) → IsBadRest before so_far xs → Breaks before so_far passed (passed + 1) xs
+  breaks_now before so_far passed xs bad = record {
+    front = [];
+    rest = xs;
+    count = 0;
+    whole = refl;
+    lines = lines_none;
+    numbered = omega arith;
+    bad = subst (λ n. IsBadRest n so_far xs) (omega arith) bad;
+  }
+
+  pub passes_now : (before : ℕ) (xs : List ℕ) → IsLongRest before xs → Passes before xs
+  passes_now before xs long = record {
+    front = [];
+    rest = xs;
+    count = 0;
+    whole = refl;
+    lines = lines_none;
+    long = subst (λ n. IsLongRest n xs) (omega arith) long;
+  }
+
+  -- nothing is left
+  pub done_now : (before : ℕ) (held : List ℕ) (old : List ℕ) (s : S) → before ≤ most_bytes → held ≡ [] → AllLeft left old s (λ xs. xs ≡ held) → AllLeft left old s (IsDone before)
+  done_now before held old s short none all = record {
+    each = λ xs rest. subst (IsDone before) (sym (all.each xs rest ∙ none)) (record { count = 0; lines = lines_none; short = omega (arith, short) });
+  }
+
+  -- all that is left has no line feed
+  pub last_bad : (before so_far room : ℕ) (held old : List ℕ) (s : S) → room + before ≡ most_bytes → held ≢ [] → StopsWithin 0 room held → AllLeft left old s (λ xs. xs ≡ held)
+      → AllLeft left old s (IsBadRest before so_far)
+  last_bad before so_far room held old s whole some stops all = record {
+    each = λ xs rest. subst (IsBadRest before so_far) (sym (all.each xs rest)) (inr (some, stops.plain, omega (arith, whole, stops.near)));
+  }
+
+  pub takes_line : (old mid new : Lines) (s t : S) (events : List Event) → Holds left (pending old) (pending mid) s t → given mid ≡ given old → lines_given mid ≡ lines_given old
+      → GivesLine mid new events → Takes left old new s t events
+  takes_line old mid new s t events holds bytes lines gives = record {
+    each = λ xs rest.
+        let now = holds.each xs rest in
+        record {
+          front = gives.line ++ 10 ∷ [];
+          rest = pending new ++ now.0;
+          count = 1;
+          whole = now.2 ∙ (ap (λ l. l ++ now.0) gives.whole ∙ (append_assoc gives.line (10 ∷ pending new) now.0 ∙ sym (append_assoc gives.line (10 ∷ []) (pending new ++ now.0))));
+          behind = (now.0, now.1, refl);
+          lines = lines_one gives.line events gives.gives;
+          more_lines = gives.more_lines ∙ ap (λ n. n + 1) lines;
+          more_bytes = omega (arith, gives.more_bytes, bytes, length-append gives.line (10 ∷ []));
+        };
+  }
+
+  pub takes_none : (l : Lines) (s : S) → Takes left l l s s []
+  takes_none l s = record {
+    each = λ xs rest. record {
+      front = [];
+      rest = xs;
+      count = 0;
+      whole = refl;
+      behind = rest;
+      lines = lines_none;
+      more_lines = omega arith;
+      more_bytes = omega arith;
+    };
+  }
+
+  pub takes_both : (a b c : Lines) (s t u : S) (es fs : List Event) → Takes left a b s t es → Takes left b c t u fs → Takes left a c s u (es ++ fs)
+  takes_both a b c s t u es fs p q = record {
+    each = λ xs rest.
+        let x = p.each xs rest in
+        let y = q.each x.rest x.behind in
+        record {
+          front = x.front ++ y.front;
+          rest = y.rest;
+          count = x.count + y.count;
+          whole = x.whole ∙ (ap (λ l. x.front ++ l) y.whole ∙ sym (append_assoc x.front y.front y.rest));
+          behind = y.behind;
+          lines = lines_both x.front y.front x.count y.count es fs x.lines y.lines;
+          more_lines = omega (arith, x.more_lines, y.more_lines);
+          more_bytes = omega (arith, x.more_bytes, y.more_bytes, length-append x.front y.front);
+        };
+  }
+
+  module _ (a b : Lines) (s t : S) (blank : Takes left a b s t []) where
+    pub done_behind : AllLeft left (pending b) t (IsDone (given b)) → AllLeft left (pending a) s (IsDone (given a))
+    done_behind all = record {
+      each = λ xs rest.
+          let x = blank.each xs rest in
+          let y = all.each x.rest x.behind in
+          record {
+            count = x.count + y.count;
+            lines = subst (λ l. AreLines l (x.count + y.count) []) (sym x.whole) (lines_both x.front x.rest x.count y.count [] [] x.lines y.lines);
+            short = omega (arith, y.short, x.more_bytes, ap length x.whole, length-append x.front x.rest);
+          };
+    }
+
+    pub breaks_behind : (n : ℕ) → turns_given b ≡ turns_given a → AllLeft left (pending b) t (Breaks (given b) (turns_given b) (lines_given b) n)
+        → AllLeft left (pending a) s (Breaks (given a) (turns_given a) (lines_given a) n)
+    breaks_behind n turns all = record {
+      each = λ xs rest.
+          let x = blank.each xs rest in
+          let y = all.each x.rest x.behind in
+          let place : given b + length y.front ≡ given a + length (x.front ++ y.front) = omega (arith, x.more_bytes, length-append x.front y.front) in
+          record {
+            front = x.front ++ y.front;
+            rest = y.rest;
+            count = x.count + y.count;
+            whole = x.whole ∙ (ap (λ l. x.front ++ l) y.whole ∙ sym (append_assoc x.front y.front y.rest));
+            lines = lines_both x.front y.front x.count y.count [] [] x.lines y.lines;
+            numbered = omega (arith, y.numbered, x.more_lines);
+            bad = subst (λ k. IsBadRest k (turns_given a) y.rest) place (subst (λ k. IsBadRest (given b + length y.front) k y.rest) turns y.bad);
+          };
+    }
+
+    pub passes_behind : AllLeft left (pending b) t (Passes (given b)) → AllLeft left (pending a) s (Passes (given a))
+    passes_behind all = record {
+      each = λ xs rest.
+          let x = blank.each xs rest in
+          let y = all.each x.rest x.behind in
+          let place : given b + length y.front ≡ given a + length (x.front ++ y.front) = omega (arith, x.more_bytes, length-append x.front y.front) in
+          record {
+            front = x.front ++ y.front;
+            rest = y.rest;
+            count = x.count + y.count;
+            whole = x.whole ∙ (ap (λ l. x.front ++ l) y.whole ∙ sym (append_assoc x.front y.front y.rest));
+            lines = lines_both x.front y.front x.count y.count [] [] x.lines y.lines;
+            long = subst (λ k. IsLongRest k y.rest) place y.long;
+          };
+    }

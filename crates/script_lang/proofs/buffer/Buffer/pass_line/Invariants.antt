@@ -1,0 +1,13 @@
+use Rattle.std.proofs.Common.{◌+◌, ◌-◌, ◌≤◌, length}
+use Rattle.script_lang.proofs.Reading.{Gone}
+use Rattle.script_lang.proofs.buffer.Buffer.pass_line.Given as goal
+
+abbrev pub invariant-loop-count : goal.invariant-loop-count
+invariant-loop-count g l = record {
+  later : g.S.Source.fault_count l.fn.s ≤ g.S.Source.fault_count l.s;
+  gone : Gone g.S.Source.left l.fn.self l.fn.s l.s l.count;
+  far : length l.fn.self ≤ l.count;
+}
+
+abbrev pub decreases-loop-count : goal.decreases-loop-count
+decreases-loop-count g l = l.room + 1 - l.count
