@@ -1,0 +1,38 @@
+-- The jobs of a machine as the plain machine's finite maps.
+use Rattle.std.specs.Prelude.{ℕ, ◌+◌, List, [], ◌∷◌, Option, None, Some, slice_index_or, replicate}
+use Rattle.std.specs.Ordering.{nat_cmp}
+use Rattle.std.specs.declared.cmp.Ordering.{Ordering}
+use Rattle.std.specs.FinMap as map
+use Rattle.plain_model.specs.declared.fork.Fork.{Fork}
+use Rattle.plain_model.specs.Orders.{fork_cmp}
+use Rattle.plain_model.specs.State.{PlainJob}
+use Rattle.monitor_core.specs.declared.job.Job.{Job}
+
+-- a table of options as a map, by a key of each number and entry
+abbrev pub with_entry : {K X V : Type 0} {R : K → K → Ordering} → (ℕ → X → K) → (X → V) → ℕ → Option X → map.FinMap R V → map.FinMap R V
+with_entry key value n None m = m
+with_entry key value n (Some x) m = map.insert m (key n x) (value x)
+
+abbrev pub map_from : {K X V : Type 0} {R : K → K → Ordering} → (ℕ → X → K) → (X → V) → ℕ → List (Option X) → map.FinMap R V
+map_from key value n [] = map.empty
+map_from key value n (o ∷ os) = with_entry key value n o (map_from key value (n + 1) os)
+
+-- a job as the plain machine has it, of which no command, file or typing is built
+abbrev pub plain_job : Job → PlainJob
+plain_job j = record { user = j.user; top = j.top.name; mode = j.mode; line = []; start = None; jfns = map.empty; input = []; codes = map.empty }
+
+-- the jobs by terminal
+abbrev pub jobs_of : List (Option Job) → map.FinMap nat_cmp PlainJob
+jobs_of jobs = map_from (λ t j. t) plain_job 0 jobs
+
+-- the forks by name
+abbrev pub forks_of : List (Option Job) → map.FinMap fork_cmp Fork
+forks_of jobs = map_from (λ t j. j.top.name) (λ j. j.top) 0 jobs
+
+-- the job of a terminal
+abbrev pub job_at : List (Option Job) → ℕ → Option Job
+job_at jobs t = slice_index_or jobs t None
+
+-- no job at so many terminals
+unfoldable pub no_jobs : ℕ → List (Option Job)
+no_jobs n = replicate n None

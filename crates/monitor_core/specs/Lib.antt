@@ -1,0 +1,15 @@
+pub mod StorePages
+pub mod StoreSerials
+pub mod StoreSpaces
+pub mod Stores
+pub mod StoreLaws
+pub mod Instructions
+pub mod Shown
+pub mod ForkUnit
+pub mod Jobs
+pub mod Fetch
+pub mod Machine
+pub mod JobUnit
+pub mod Did
+pub mod Writing
+pub mod Steps

@@ -1,0 +1,14 @@
+-- The next page serial of each owner.
+use Rattle.std.specs.Prelude.{ℕ, ◌+◌, if◌then◌else◌, ◌==◌, slice_index, slice_set}
+use Rattle.plain_model.specs.declared.names.Tty.{Tty}
+use Rattle.monitor_core.specs.declared.page_serials.PageSerials.{PageSerials}
+
+-- the next serial of an owner
+abbrev pub serial_of : PageSerials → Tty → ℕ
+serial_of s owner = if owner.0 == 255 then s.console else slice_index s.terminals owner.0
+
+-- an owner's serial is one higher
+abbrev pub with_next : PageSerials → Tty → PageSerials
+with_next s owner =
+    if owner.0 == 255 then record s { console = s.console + 1 }
+    else record s { terminals = slice_set s.terminals owner.0 (slice_index s.terminals owner.0 + 1) }
