@@ -1,0 +1,25 @@
+//! The integer operations of the KA10 on words.
+//! To the layers above each operation is its equation in sums, products, quotients and bits.
+//! Stands on word36.
+#![tactic(auto)]
+
+mod arithmetic;
+mod booleans;
+mod conditions;
+mod halves;
+mod laws;
+mod out;
+mod shifts;
+mod tests;
+
+pub use arithmetic::arith;
+pub use booleans::boolean;
+pub use conditions::holds;
+pub use halves::half;
+pub use laws::{
+    arithmetic_shifts_go_by_places, divisions_are_whole, first_ones_are_leftmost,
+    products_are_whole, sums_are_signed, whole_turns_are_nothing,
+};
+pub use out::Out;
+pub use shifts::shift;
+pub use tests::{mask, test};
