@@ -1,0 +1,3 @@
+pub mod SingleBits
+pub mod Placing
+pub mod Stepping

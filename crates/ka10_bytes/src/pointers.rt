@@ -1,0 +1,85 @@
+// Byte pointers: the fields P, S and Y, and the pointer to the next byte.
+ghost use Rattle.std.specs.Prelude.{◌≡◌, ◌-◌, ◌<◌, ◌^◌};
+ghost use Rattle.word36.specs.Bytes.{incremented, position, size};
+
+use word36::Word;
+
+const OTHER_FIELDS: u32 = 0o7777;
+
+const ADDRESS: u32 = 0o777777;
+
+/// P: how many bits stand to the right of the byte, below 64.
+#[inline]
+pub fn position_of(p: Word) -> u32
+    ensures value { result ≡ position p }
+    ensures below { result < 64 }
+{
+    (p.value() >> 30) as u32
+}
+
+/// S: how many bits the byte has, below 64.
+#[inline]
+pub fn size_of_byte(p: Word) -> u32
+    ensures value { result ≡ size p }
+    ensures below { result < 64 }
+{
+    (p.value() >> 24) as u32 & 0o77
+}
+
+/// As many ones as the byte has bits.
+#[inline]
+pub fn ones_of(size: u32) -> u64
+    requires { size < 64 }
+    ensures { result ≡ 2 ^ size - 1 }
+{
+    (1 << size) - 1
+}
+
+/// The pointer to the next byte, as IBP, ILDB and IDPB leave it (PDP-10 handbook, "Byte
+/// manipulation"). Where P is at least S the byte is in the same word; else P becomes 36 minus S
+/// modulo 64, and the address grows by 1 modulo 2^18, without a carry into other fields.
+#[inline]
+#[tactic(auto, unfolding(word36::specs::Bytes::incremented))]
+pub fn increment(p: Word) -> Word
+    ensures { result ≡ incremented p }
+{
+    let position = position_of(p);
+    let size = size_of_byte(p);
+    if size <= position {
+        Word::join((position - size) << 12 | p.left() & OTHER_FIELDS, p.right())
+    } else {
+        Word::join(
+            (36 + 64 - size & 0o77) << 12 | p.left() & OTHER_FIELDS,
+            p.right() + 1 & ADDRESS,
+        )
+    }
+}
+
+#[cfg(test)]
+mod tests {
+    use super::*;
+
+    #[test]
+    fn next_bytes(rt: HostRuntime) {
+        for (pointer, next) in [
+            (0o350700001000, 0o260700001000),
+            (0o010700001000, 0o350700001001),
+            (0o440700001000, 0o350700001000),
+            // The last address of a pointer with I and X, without a carry.
+            (0o010737777777, 0o350737000000),
+            // A size of 0 stays where it is.
+            (0o300000001000, 0o300000001000),
+            // A place past the word.
+            (0o500700001000, 0o410700001000),
+            // A size past the word: 36 less 63 is 37 modulo 64.
+            (0o047700001000, 0o457700001001),
+            (0o777700001000, 0o007700001000),
+        ] {
+            assert_eq!(rt;
+                increment(Word::wrapped(pointer)).value(),
+                next,
+                "at {pointer}"
+            );
+        }
+    }
+}
