@@ -1,0 +1,136 @@
+-- What a writer stands for, as it takes items and steps.
+use Rattle.std.proofs.Common.{◌≡◌, ℕ, ◌+◌, ◌<◌, ◌≤◌, List, [], ◌∷◌, ◌++◌, length, Option, None, Some, Result, OnOk, OnErr, refl, sym, ap, subst, arith, append_assoc, length-append}
+use Rattle.std.proofs.lemmas.List.{append-nil}
+use Rattle.outside.specs.Told.{Grows}
+use Rattle.outside.specs.declared.failure.Failed.{Failed}
+use Rattle.plain_model.specs.declared.event.Item.{Item}
+use Rattle.plain_model.specs.declared.event.Step.{Step}
+use Rattle.plain_model.specs.Taker.{GoesOn, IsCut, max_steps}
+use Rattle.plain_model.specs.Texts.{text_after, transcript, item_text, item_open, step_text, step_run, record_after}
+use Rattle.texts.specs.declared.last.Last.{Last}
+use Rattle.texts.specs.declared.writer.Writer.{Writer}
+use Rattle.texts.specs.Ends.{end_line, record_end}
+use Rattle.texts.specs.Turns.{open_run, run_count}
+use Rattle.texts.specs.Wrote.{Wrote, WrotePartly, GrowsPartly}
+use Rattle.texts.specs.Writer.{Stands, IsCutWithin, Finishes, FailsAtEnd}
+use Rattle.texts.proofs.Writes.{wrote_more, wrote_partly, wrote_cut, wrote_end, wrote_end_partly, cut_here, whole_partly}
+
+module _ {T R : Type 0} (out_taken : T → Option (List ℕ)) (rec_taken : R → Option (List ℕ)) (old new : Writer T R) where
+  abbrev For : Writer T R → Writer T R → List Item → List Step → Type 0
+  For = Stands out_taken rec_taken
+
+  abbrev Cut : Writer T R → Writer T R → List Item → List Step → Type 0
+  Cut = IsCutWithin out_taken rec_taken
+
+  -- the transcript stays as it was, whatever the list is called
+  out_stays : (first : Writer T R) (is js : List Item) → new.out.now ≡ old.out.now → new.line ≡ old.line → is ≡ js
+      → Wrote (out_taken first.out.now) (out_taken old.out.now) (text_after old.line) (λ ks. transcript (is ++ ks))
+      → Wrote (out_taken first.out.now) (out_taken new.out.now) (text_after new.line) (λ ks. transcript (js ++ ks))
+  out_stays first is js out line e w =
+      subst (λ l. Wrote (out_taken first.out.now) (out_taken new.out.now) (text_after new.line) (λ ks. transcript (l ++ ks))) e
+      (subst (λ o. Wrote (out_taken first.out.now) (out_taken new.out.now) (text_after o) (λ ks. transcript (is ++ ks))) (sym line)
+      (subst (λ o. Wrote (out_taken first.out.now) (out_taken o) (text_after old.line) (λ ks. transcript (is ++ ks))) (sym out) w))
+
+  rec_stays : (first : Writer T R) (ss ts : List Step) → new.rec.now ≡ old.rec.now → new.run ≡ old.run → ss ≡ ts
+      → Wrote (rec_taken first.rec.now) (rec_taken old.rec.now) (record_after (open_run old.run)) (λ us. record_after None (ss ++ us))
+      → Wrote (rec_taken first.rec.now) (rec_taken new.rec.now) (record_after (open_run new.run)) (λ us. record_after None (ts ++ us))
+  rec_stays first ss ts rec run e w =
+      subst (λ l. Wrote (rec_taken first.rec.now) (rec_taken new.rec.now) (record_after (open_run new.run)) (λ us. record_after None (l ++ us))) e
+      (subst (λ r. Wrote (rec_taken first.rec.now) (rec_taken new.rec.now) (record_after (open_run r)) (λ us. record_after None (ss ++ us))) (sym run)
+      (subst (λ r. Wrote (rec_taken first.rec.now) (rec_taken r) (record_after (open_run old.run)) (λ us. record_after None (ss ++ us))) (sym rec) w))
+
+  -- an item is written
+  pub item_goes_on : (i : Item) → Grows (out_taken old.out.now) (out_taken new.out.now) (item_text old.line i) → new.line ≡ item_open i → new.rec.now ≡ old.rec.now → new.run ≡ old.run
+      → GoesOn For old new (i ∷ []) []
+  item_goes_on i grows line rec run = record {
+    each = λ first is ss few s. record {
+      out = wrote_more _ _ _ _ _ (text_after new.line) (λ js. transcript ((is ++ i ∷ []) ++ js)) i (item_text old.line i) s.out grows
+          (λ js. ap (λ o. item_text old.line i ++ text_after o js) (sym line)) (λ js. ap transcript (append_assoc is (i ∷ []) js));
+      rec = rec_stays first ss (ss ++ []) rec run (sym (append-nil ss)) s.rec;
+      count = subst (λ r. run_count r ≤ length (ss ++ [])) (sym run) (omega (arith, s.count, length-append ss []));
+    };
+  }
+
+  -- a front of it is
+  pub item_cut : (i : Item) → GrowsPartly (out_taken old.out.now) (out_taken new.out.now) (item_text old.line i) → new.rec.now ≡ old.rec.now
+      → IsCut For Cut old new (i ∷ []) []
+  item_cut i partly rec = record {
+    each = λ first is more ss rest few s. record {
+      out = subst (λ l. WrotePartly (out_taken first.out.now) (out_taken new.out.now) (transcript l)) (sym (append_assoc is (i ∷ []) more))
+          (wrote_partly _ _ _ _ _ (text_after (item_open i) more) i more (item_text old.line i) s.out partly refl);
+      rec = subst (λ r. WrotePartly (rec_taken first.rec.now) (rec_taken r) (record_after None (ss ++ [] ++ rest))) (sym rec)
+          (subst (λ l. WrotePartly (rec_taken first.rec.now) (rec_taken old.rec.now) (record_after None l)) (sym (append_assoc ss [] rest)) (wrote_cut _ _ _ _ rest s.rec));
+    };
+  }
+
+  -- a step is written, or held back
+  pub step_goes_on : (s : Step) → Grows (rec_taken old.rec.now) (rec_taken new.rec.now) (step_text (open_run old.run) s)
+      → (run_count old.run < max_steps → open_run new.run ≡ step_run (open_run old.run) s) → run_count new.run ≤ run_count old.run + 1 → new.out.now ≡ old.out.now → new.line ≡ old.line
+      → GoesOn For old new [] (s ∷ [])
+  step_goes_on s grows run count out line = record {
+    each = λ first is ss few st.
+        let small : run_count old.run < max_steps = omega (arith, few, st.count, length-append ss (s ∷ [])) in
+        record {
+          out = out_stays first is (is ++ []) out line (sym (append-nil is)) st.out;
+          rec = wrote_more _ _ _ _ _ (record_after (open_run new.run)) (λ ts. record_after None ((ss ++ s ∷ []) ++ ts)) s (step_text (open_run old.run) s) st.rec grows
+              (λ ts. ap (λ r. step_text (open_run old.run) s ++ record_after r ts) (sym (run small))) (λ ts. ap (record_after None) (append_assoc ss (s ∷ []) ts));
+          count = omega (arith, st.count, count, length-append ss (s ∷ []));
+        };
+  }
+
+  -- a front of it is
+  pub step_cut : (s : Step) → GrowsPartly (rec_taken old.rec.now) (rec_taken new.rec.now) (step_text (open_run old.run) s) → new.out.now ≡ old.out.now
+      → IsCut For Cut old new [] (s ∷ [])
+  step_cut s partly out = record {
+    each = λ first is more ss rest few st. record {
+      out = subst (λ o. WrotePartly (out_taken first.out.now) (out_taken o) (transcript (is ++ [] ++ more))) (sym out)
+          (subst (λ l. WrotePartly (out_taken first.out.now) (out_taken old.out.now) (transcript l)) (sym (append_assoc is [] more)) (wrote_cut _ _ _ _ more st.out));
+      rec = subst (λ l. WrotePartly (rec_taken first.rec.now) (rec_taken new.rec.now) (record_after None l)) (sym (append_assoc ss (s ∷ []) rest))
+          (wrote_partly _ _ _ _ _ (record_after (step_run (open_run old.run) s) rest) s rest (step_text (open_run old.run) s) st.rec partly refl);
+    };
+  }
+
+  module _ (last : Last) where
+    out_ends : (first : Writer T R) (is : List Item) → Wrote (out_taken first.out.now) (out_taken old.out.now) (text_after old.line) (λ js. transcript (is ++ js))
+        → Grows (out_taken old.out.now) (out_taken new.out.now) (text_after old.line [] ++ end_line last)
+        → (told : List ℕ) → out_taken first.out.now ≡ Some told → out_taken new.out.now ≡ Some (told ++ (transcript is ++ end_line last))
+    out_ends first is w grows told h =
+        subst (λ l. out_taken new.out.now ≡ Some (told ++ (transcript l ++ end_line last))) (append-nil is) (wrote_end _ _ _ _ _ (end_line last) w grows told h)
+
+    -- both texts are closed
+    pub finishes : Grows (out_taken old.out.now) (out_taken new.out.now) (text_after old.line [] ++ end_line last)
+        → Grows (rec_taken old.rec.now) (rec_taken new.rec.now) (record_after (open_run old.run) [] ++ record_end last) → Finishes out_taken rec_taken last old new
+    finishes out rec = record {
+      each = λ first is ss st. record {
+        out = out_ends first is st.out out;
+        rec = λ told h. subst (λ l. rec_taken new.rec.now ≡ Some (told ++ (record_after None l ++ record_end last))) (append-nil ss) (wrote_end _ _ _ _ _ (record_end last) st.rec rec told h);
+      };
+    }
+
+    -- the transcript is closed, and the record is not
+    pub record_fails : Grows (out_taken old.out.now) (out_taken new.out.now) (text_after old.line [] ++ end_line last)
+        → GrowsPartly (rec_taken old.rec.now) (rec_taken new.rec.now) (record_after (open_run old.run) [] ++ record_end last) → FailsAtEnd out_taken rec_taken last old new
+    record_fails out rec = record {
+      each = λ first is ss st. record {
+        out = whole_partly _ _ _ (out_ends first is st.out out);
+        rec = subst (λ l. WrotePartly (rec_taken first.rec.now) (rec_taken new.rec.now) (record_after None l ++ record_end last)) (append-nil ss) (wrote_end_partly _ _ _ _ _ (record_end last) st.rec rec);
+      };
+    }
+
+    -- the transcript is not closed, and the record is as it was
+    pub transcript_fails : GrowsPartly (out_taken old.out.now) (out_taken new.out.now) (text_after old.line [] ++ end_line last) → new.rec.now ≡ old.rec.now → FailsAtEnd out_taken rec_taken last old new
+    transcript_fails out rec = record {
+      each = λ first is ss st. record {
+        out = subst (λ l. WrotePartly (out_taken first.out.now) (out_taken new.out.now) (transcript l ++ end_line last)) (append-nil is) (wrote_end_partly _ _ _ _ _ (end_line last) st.out out);
+        rec = cut_here _ _ _ _ (subst (λ r. WrotePartly (rec_taken first.rec.now) (rec_taken r) (record_after None ss)) (sym rec)
+            (subst (λ l. WrotePartly (rec_taken first.rec.now) (rec_taken old.rec.now) (record_after None l)) (append-nil ss) (wrote_cut _ _ _ _ [] st.rec)));
+      };
+    }
+
+-- the same step by another name
+module _ {T : Type 0} (r : Result (Unit {0}) Failed) (stands : T → T → List Item → List Step → Type 0) (old new : T) (s k : Step) (same : k ≡ s) where
+  pub named_ok : OnOk r (GoesOn stands old new [] (k ∷ [])) → OnOk r (GoesOn stands old new [] (s ∷ []))
+  named_ok h = subst (λ x. OnOk r (GoesOn stands old new [] (x ∷ []))) same h
+
+  pub named_err : (cut : T → T → List Item → List Step → Type 0) → OnErr r (IsCut stands cut old new [] (k ∷ [])) → OnErr r (IsCut stands cut old new [] (s ∷ []))
+  named_err cut h = subst (λ x. OnErr r (IsCut stands cut old new [] (x ∷ []))) same h

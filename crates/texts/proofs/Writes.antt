@@ -1,0 +1,99 @@
+-- How a text that is written goes on.
+use Rattle.std.proofs.Common.{◌≡◌, ℕ, ◌+◌, ◌<◌, List, [], ◌∷◌, ◌++◌, length, take, drop, Option, Some, sym, ◌∙◌, ap, subst, append_assoc, get_or, take-append-drop, take-add}
+use Rattle.std.proofs.lemmas.List.{append-nil, take_more, drop_more}
+use Rattle.std.proofs.lemmas.Grind.{flat_map-append}
+use Rattle.std.specs.List.{flat_map}
+use Rattle.outside.specs.Told.{Grows, Stays}
+use Rattle.texts.specs.Wrote.{GrowsPartly, Wrote, WrotePartly}
+
+-- no bytes are written
+pub grows_none : (told : Option (List ℕ)) → Grows told told []
+grows_none told xs h = h ∙ ap Some (sym (append-nil xs))
+
+-- one text after another
+pub grows_then : (a b c : Option (List ℕ)) (x y : List ℕ) → Grows a b x → Grows b c y → Grows a c (x ++ y)
+grows_then a b c x y f g xs h = g (xs ++ x) (f xs h) ∙ ap Some (append_assoc xs x y)
+
+pub partly_then : (a b c : Option (List ℕ)) (x y : List ℕ) → Grows a b x → GrowsPartly b c y → GrowsPartly a c (x ++ y)
+partly_then a b c x y f g xs h =
+    let p = g (xs ++ x) (f xs h) in
+    (x ++ p.0, p.1, p.2 ∙ ap Some (append_assoc xs x p.0), ap (λ l. x ++ l) p.3 ∙ sym (append_assoc x p.0 p.1))
+
+-- a front of a text is one of a longer text
+pub partly_more : (a b : Option (List ℕ)) (x y : List ℕ) → GrowsPartly a b x → GrowsPartly a b (x ++ y)
+partly_more a b x y f xs h =
+    let p = f xs h in
+    (p.0, p.1 ++ y, p.2, ap (λ l. l ++ y) p.3 ∙ append_assoc p.0 p.1 y)
+
+-- some bytes more of one text
+pub grows_more : (a b c : Option (List ℕ)) (bytes : List ℕ) (at n : ℕ) → Grows a b (take at bytes) → Grows b c (take n (drop at bytes)) → Grows a c (take (at + n) bytes)
+grows_more a b c bytes at n f g = subst (Grows a c) (sym (take-add at n bytes)) (grows_then a b c (take at bytes) (take n (drop at bytes)) f g)
+
+-- a failure behind a front
+pub partly_at : (a b c : Option (List ℕ)) (bytes : List ℕ) (at : ℕ) → Grows a b (take at bytes) → Stays b c → GrowsPartly a c bytes
+partly_at a b c bytes at f g xs h = (take at bytes, drop at bytes, g (xs ++ take at bytes) (f xs h), sym (take-append-drop at bytes))
+
+module _ {X : Type 0} (f : X → List ℕ) where
+  flat_more : (xs : List X) (i : ℕ) (d : X) → i < length xs → flat_map f (take (i + 1) xs) ≡ flat_map f (take i xs) ++ f (get_or xs i d)
+  flat_more xs i d h =
+      ap (flat_map f) (take_more xs i d h) ∙ flat_map-append f (take i xs) (get_or xs i d ∷ []) ∙ ap (λ l. flat_map f (take i xs) ++ l) (append-nil (f (get_or xs i d)))
+
+  flat_split : (xs : List X) (i : ℕ) (d : X) → i < length xs → flat_map f xs ≡ flat_map f (take i xs) ++ (f (get_or xs i d) ++ flat_map f (drop (i + 1) xs))
+  flat_split xs i d h =
+      ap (flat_map f) (sym (take-append-drop i xs)) ∙ flat_map-append f (take i xs) (drop i xs) ∙ ap (λ l. flat_map f (take i xs) ++ flat_map f l) (drop_more xs i d h)
+
+  -- the text of one thing more
+  pub grows_each : (a b c : Option (List ℕ)) (xs : List X) (i : ℕ) (d : X) → i < length xs → Grows a b (flat_map f (take i xs)) → Grows b c (f (get_or xs i d)) → Grows a c (flat_map f (take (i + 1) xs))
+  grows_each a b c xs i d h old new = subst (Grows a c) (sym (flat_more xs i d h)) (grows_then a b c (flat_map f (take i xs)) (f (get_or xs i d)) old new)
+
+  -- a front of it
+  pub partly_each : (a b c : Option (List ℕ)) (xs : List X) (i : ℕ) (d : X) → i < length xs → Grows a b (flat_map f (take i xs)) → GrowsPartly b c (f (get_or xs i d)) → GrowsPartly a c (flat_map f xs)
+  partly_each a b c xs i d h old new =
+      subst (GrowsPartly a c) (sym (flat_split xs i d h))
+      (partly_then a b c (flat_map f (take i xs)) (f (get_or xs i d) ++ flat_map f (drop (i + 1) xs)) old (partly_more b c (f (get_or xs i d)) (flat_map f (drop (i + 1) xs)) new))
+
+module _ {X : Type 0} (a b c : Option (List ℕ)) (after whole : List X → List ℕ) where
+  -- one thing more is written
+  pub wrote_more : (after' whole' : List X → List ℕ) (x : X) (bytes : List ℕ) → Wrote a b after whole → Grows b c bytes → ((xs : List X) → after (x ∷ xs) ≡ bytes ++ after' xs) → ((xs : List X) → whole' xs ≡ whole (x ∷ xs)) → Wrote a c after' whole'
+  wrote_more after' whole' x bytes wrote grows text same = record {
+    each = λ told h.
+        let w = wrote.each told h in
+        (w.0 ++ bytes, grows (told ++ w.0) w.1 ∙ ap Some (append_assoc told w.0 bytes), λ xs. append_assoc w.0 bytes (after' xs) ∙ ap (λ l. w.0 ++ l) (sym (text xs)) ∙ w.2 (x ∷ xs) ∙ sym (same xs));
+  }
+
+  -- a front of it is
+  pub wrote_partly : (rest : List ℕ) (x : X) (xs : List X) (bytes : List ℕ) → Wrote a b after whole → GrowsPartly b c bytes → after (x ∷ xs) ≡ bytes ++ rest → WrotePartly a c (whole (x ∷ xs))
+  wrote_partly rest x xs bytes wrote grows text = record {
+    each = λ told h.
+        let w = wrote.each told h in
+        let p = grows (told ++ w.0) w.1 in
+        (w.0 ++ p.0, p.1 ++ rest, p.2 ∙ ap Some (append_assoc told w.0 p.0), append_assoc w.0 p.0 (p.1 ++ rest) ∙ ap (λ l. w.0 ++ l) (sym (append_assoc p.0 p.1 rest) ∙ ap (λ l. l ++ rest) (sym p.3) ∙ sym text) ∙ w.2 (x ∷ xs));
+  }
+
+  -- the end is written, and a last line
+  pub wrote_end : (last : List ℕ) → Wrote a b after whole → Grows b c (after [] ++ last) → (told : List ℕ) → a ≡ Some told → c ≡ Some (told ++ (whole [] ++ last))
+  wrote_end last wrote grows told h =
+      let w = wrote.each told h in
+      grows (told ++ w.0) w.1 ∙ ap Some (append_assoc told w.0 (after [] ++ last) ∙ ap (λ l. told ++ l) (sym (append_assoc w.0 (after []) last) ∙ ap (λ l. l ++ last) (w.2 [])))
+
+  pub wrote_end_partly : (last : List ℕ) → Wrote a b after whole → GrowsPartly b c (after [] ++ last) → WrotePartly a c (whole [] ++ last)
+  wrote_end_partly last wrote grows = record {
+    each = λ told h.
+        let w = wrote.each told h in
+        let p = grows (told ++ w.0) w.1 in
+        (w.0 ++ p.0, p.1, p.2 ∙ ap Some (append_assoc told w.0 p.0), append_assoc w.0 p.0 p.1 ∙ ap (λ l. w.0 ++ l) (sym p.3) ∙ sym (append_assoc w.0 (after []) last) ∙ ap (λ l. l ++ last) (w.2 []));
+  }
+
+module _ {X : Type 0} (a b : Option (List ℕ)) (after whole : List X → List ℕ) where
+  -- what is written is a front of whatever comes
+  pub wrote_cut : (xs : List X) → Wrote a b after whole → WrotePartly a b (whole xs)
+  wrote_cut xs wrote = record { each = λ told h. let w = wrote.each told h in (w.0, after xs, w.1, w.2 xs) }
+
+pub cut_here : (a b : Option (List ℕ)) (whole last : List ℕ) → WrotePartly a b whole → WrotePartly a b (whole ++ last)
+cut_here a b whole last cut = record { each = λ told h. let c = cut.each told h in (c.0, c.1 ++ last, c.2, sym (append_assoc c.0 c.1 last) ∙ ap (λ l. l ++ last) c.3) }
+
+pub whole_partly : (a c : Option (List ℕ)) (whole : List ℕ) → ((told : List ℕ) → a ≡ Some told → c ≡ Some (told ++ whole)) → WrotePartly a c whole
+whole_partly a c whole done = record { each = λ told h. (whole, [], done told h, append-nil whole) }
+
+pub both_same : {x y u v : List ℕ} → x ≡ y → u ≡ v → x ++ u ≡ y ++ v
+both_same {x} {y} {u} {v} p q = ap (λ l. l ++ u) p ∙ ap (λ l. y ++ l) q

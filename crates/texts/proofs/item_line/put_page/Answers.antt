@@ -1,0 +1,10 @@
+use Rattle.std.proofs.Common.{◌∷◌, ap, ◌∙◌}
+use Rattle.plain_model.specs.Texts.{octal}
+use Rattle.texts.proofs.Lines.{same_ok, same_err, same_line, field_last, field_then}
+use Rattle.texts.proofs.item_line.put_page.Goals as goal
+
+pub returns-clause-ok : goal.returns-clause-ok
+returns-clause-ok g c = same_ok _ _ _ _ c.put_line.result c.put_line.ensures.ok (same_line _ (ap (λ l. 80 ∷ 32 ∷ l) (field_then (c.as_slice.ensures) (field_last (c.as_slice-2.ensures ∙ c.octal-page.ensures ∙ ap octal c.from.ensures)))))
+
+pub returns-clause-err : goal.returns-clause-err
+returns-clause-err g c = same_err _ _ _ _ c.put_line.result c.put_line.ensures.err (same_line _ (ap (λ l. 80 ∷ 32 ∷ l) (field_then (c.as_slice.ensures) (field_last (c.as_slice-2.ensures ∙ c.octal-page.ensures ∙ ap octal c.from.ensures)))))

@@ -1,0 +1,39 @@
+-- How the texts end.
+use Rattle.std.specs.Prelude.{ℕ, List, [], ◌++◌, codes, decimal}
+use Rattle.plain_model.specs.Texts.{ended, counts_line}
+use Rattle.texts.specs.declared.last.Status.{Status}
+use Rattle.texts.specs.declared.last.Status.TheVariants.{Done, Usage, Script, DrumFault, Memory, ReadFault, WriteFault, LongScript}
+use Rattle.texts.specs.declared.last.Last.{Last}
+use Rattle.texts.specs.declared.last.Last.TheVariants.{Done as Ended, Stopped}
+
+-- the exit status
+abbrev pub status_number : Status → ℕ
+status_number Done = 0
+status_number Usage = 1
+status_number Script = 2
+status_number DrumFault = 3
+status_number Memory = 4
+status_number ReadFault = 5
+status_number WriteFault = 6
+status_number LongScript = 7
+
+-- the line that tells how a run stopped, and at which line of the script
+abbrev pub closing_line : Status → ℕ → List ℕ
+closing_line Done n = []
+closing_line Usage n = ended (codes "?USAGE")
+closing_line Script n = ended (codes "?LINE " ++ decimal n)
+closing_line DrumFault n = ended (codes "?DRUM")
+closing_line Memory n = ended (codes "?MEMORY")
+closing_line ReadFault n = ended (codes "?READ")
+closing_line WriteFault n = []
+closing_line LongScript n = ended (codes "?LONG SCRIPT")
+
+-- the last line of the transcript, behind the closed line of characters
+abbrev pub end_line : Last → List ℕ
+end_line (Ended reads writes) = []
+end_line (Stopped status n) = closing_line status n
+
+-- the last line of the record, behind the closed run of turns
+abbrev pub record_end : Last → List ℕ
+record_end (Ended reads writes) = counts_line reads writes
+record_end (Stopped status n) = []

@@ -1,0 +1,5 @@
+pub mod Ends
+pub mod Turns
+pub mod Wrote
+pub mod Writer
+pub mod TranscriptLines

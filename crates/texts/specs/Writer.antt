@@ -1,0 +1,50 @@
+-- What a writer stands for.
+use Rattle.std.specs.Prelude.{◌≡◌, ◌⊎◌, ℕ, ◌<◌, ◌≤◌, List, ◌++◌, length, Option, None, Some}
+use Rattle.outside.specs.Faults.{Rose}
+use Rattle.plain_model.specs.declared.event.Item.{Item}
+use Rattle.plain_model.specs.declared.event.Step.{Step}
+use Rattle.plain_model.specs.Texts.{text_after, transcript, record_after}
+use Rattle.texts.specs.Turns.{open_run, run_count}
+use Rattle.texts.specs.declared.writer.Writer.{Writer}
+use Rattle.texts.specs.Wrote.{Wrote, WrotePartly}
+use Rattle.texts.specs.declared.last.Last.{Last}
+use Rattle.texts.specs.Ends.{end_line, record_end}
+
+-- it has the same sinks, whose counts have not fallen, and its own count rose only where one of theirs did
+pub record IsOnward {T R : Type 0} (out_faults : T → ℕ) (rec_faults : R → ℕ) (first now : Writer T R) : Type 0 where
+  pub out_name : now.out.ghost_name ≡ first.out.ghost_name
+  pub rec_name : now.rec.ghost_name ≡ first.rec.ghost_name
+  pub out_later : out_faults first.out.now ≤ out_faults now.out.now
+  pub rec_later : rec_faults first.rec.now ≤ rec_faults now.rec.now
+  pub cause : first.faults < now.faults → Rose (out_faults first.out.now) (out_faults now.out.now) ⊎ Rose (rec_faults first.rec.now) (rec_faults now.rec.now)
+
+module _ {T R : Type 0} (out_taken : T → Option (List ℕ)) (rec_taken : R → Option (List ℕ)) where
+  -- since the first, its sinks took the texts of these lists, but for the line and the run that are open
+  pub record Stands (first now : Writer T R) (is : List Item) (ss : List Step) : Type 0 where
+    pub out : Wrote (out_taken first.out.now) (out_taken now.out.now) (text_after now.line) (λ js. transcript (is ++ js))
+    pub rec : Wrote (rec_taken first.rec.now) (rec_taken now.rec.now) (record_after (open_run now.run)) (λ ts. record_after None (ss ++ ts))
+    pub count : run_count now.run ≤ length ss
+
+  -- since the first, each sink took a front of the text of its list
+  pub record IsCutWithin (first now : Writer T R) (is : List Item) (ss : List Step) : Type 0 where
+    pub out : WrotePartly (out_taken first.out.now) (out_taken now.out.now) (transcript is)
+    pub rec : WrotePartly (rec_taken first.rec.now) (rec_taken now.rec.now) (record_after None ss)
+
+  module _ (last : Last) where
+    -- since the first, its sinks took the texts of these lists, closed, with their last lines
+    pub record IsFinished (first now : Writer T R) (is : List Item) (ss : List Step) : Type 0 where
+      pub out : (told : List ℕ) → out_taken first.out.now ≡ Some told → out_taken now.out.now ≡ Some (told ++ (transcript is ++ end_line last))
+      pub rec : (told : List ℕ) → rec_taken first.rec.now ≡ Some told → rec_taken now.rec.now ≡ Some (told ++ (record_after None ss ++ record_end last))
+
+    -- since the first, each sink took a front of its closed text
+    pub record IsCutAtEnd (first now : Writer T R) (is : List Item) (ss : List Step) : Type 0 where
+      pub out : WrotePartly (out_taken first.out.now) (out_taken now.out.now) (transcript is ++ end_line last)
+      pub rec : WrotePartly (rec_taken first.rec.now) (rec_taken now.rec.now) (record_after None ss ++ record_end last)
+
+    -- for each pair for which it stood it is finished now
+    pub record Finishes (old new : Writer T R) : Type 0 where
+      pub each : (first : Writer T R) (is : List Item) (ss : List Step) → Stands first old is ss → IsFinished first new is ss
+
+    -- for each pair for which it stood it is cut within the closed texts now
+    pub record FailsAtEnd (old new : Writer T R) : Type 0 where
+      pub each : (first : Writer T R) (is : List Item) (ss : List Step) → Stands first old is ss → IsCutAtEnd first new is ss

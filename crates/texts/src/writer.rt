@@ -1,0 +1,183 @@
+// A taker that writes both texts.
+ghost use Rattle.std.specs.Prelude.{◌≡◌, ◌≤◌, ◌<◌, None, Some, [], ◌∷◌, OnOk, OnErr};
+ghost use Rattle.outside.specs.Faults.{Rose};
+ghost use Rattle.plain_model.specs.Taker.{GoesOn, IsCut, StaysOnward};
+ghost use Rattle.texts.specs.Turns.{step_of, open_run};
+
+use crate::Last;
+use crate::entry::{put_entry, put_record_end};
+use crate::item_line::{open_line, put_end, put_item};
+use crate::turns::{Turn, Turns, is_same_turn, put_run};
+use outside::{Failed, Sink};
+use plain_model::{Event, Item, Step, Taker};
+
+/// Writes the transcript of the items to one sink and the record of the steps to another, each as it comes.
+/// It holds back the line feed behind the characters of one terminal, and the line of a run of equal turns,
+/// until what comes next shows that they are complete.
+#[derive(Drop)]
+pub struct Writer<'a, T: Sink, R: Sink> {
+    out: &'a mut T,
+    rec: &'a mut R,
+    line: Option<u8>,
+    run: Option<Turns>,
+    faults: u64,
+}
+
+impl<'a, T: Sink, R: Sink> Writer<'a, T, R> {
+    ghost use Rattle.plain_model.specs.declared.event.Step.TheVariants.{Outer as AnOuter};
+    ghost use Rattle.plain_model.specs.Limits.{FitsEvent};
+    ghost use Rattle.plain_model.specs.Texts.{step_text, step_run, run_end};
+    ghost use Rattle.texts.specs.Writer.{IsOnward, Stands, IsCutWithin, Finishes, FailsAtEnd};
+
+    /// A writer that has written nothing, of the transcript to `out` and of the record to `rec`.
+    pub fn new(out: &'a mut T, rec: &'a mut R) -> Self
+        ensures out_name { result.out.ghost_name ≡ out.entry.ghost_name }
+        ensures out { result.out.now ≡ out.old }
+        ensures rec_name { result.rec.ghost_name ≡ rec.entry.ghost_name }
+        ensures rec { result.rec.now ≡ rec.old }
+        ensures line { result.line ≡ None }
+        ensures run { result.run ≡ None }
+        ensures faults { result.faults ≡ 0 }
+    {
+        Writer {
+            out,
+            rec,
+            line: None,
+            run: None,
+            faults: 0,
+        }
+    }
+
+    /// Closes both texts: the line and the run that are open, and the last lines. Fails only where the count
+    /// of faults rises, and then each sink has a front of its closed text.
+    pub fn finish(&mut self, last: Last) -> Result<(), Failed>
+        ensures later { self.old.faults ≤ self.new.faults }
+        ensures cause { OnErr result (Rose self.old.faults self.new.faults) }
+        ensures onward { StaysOnward (IsOnward T.fault_count R.fault_count) self.old self.new }
+        ensures ok { OnOk result (Finishes T.taken R.taken last self.old self.new) }
+        ensures err { OnErr result (FailsAtEnd T.taken R.taken last self.old self.new) }
+    {
+        match put_end(&mut *self.out, self.line, last) {
+            Ok(()) => match put_record_end(&mut *self.rec, self.run, last) {
+                Ok(()) => Ok(()),
+                Err(e) => {
+                    self.faults = self.faults.saturating_add(1);
+                    Err(e)
+                }
+            },
+            Err(e) => {
+                self.faults = self.faults.saturating_add(1);
+                Err(e)
+            }
+        }
+    }
+
+    // Takes a turn: it goes on with the run that is open, or begins one.
+    #[inline]
+    fn turn(&mut self, turn: Turn) -> Result<(), Failed>
+        ensures later { self.old.faults ≤ self.new.faults }
+        ensures cause { OnErr result (Rose self.old.faults self.new.faults) }
+        ensures onward { StaysOnward (IsOnward T.fault_count R.fault_count) self.old self.new }
+        ensures ok { OnOk result (GoesOn (Stands T.taken R.taken) self.old self.new [] (step_of turn ∷ [])) }
+        ensures err { OnErr result (IsCut (Stands T.taken R.taken) (IsCutWithin T.taken R.taken) self.old self.new [] (step_of turn ∷ [])) }
+    {
+        match self.run {
+            None => self.begin_run(turn),
+            Some(run) => {
+                if is_same_turn(run.turn, turn) {
+                    self.run = Some(Turns {
+                        turn: run.turn,
+                        count: run.count.saturating_add(1),
+                    });
+                    Ok(())
+                } else {
+                    self.begin_run(turn)
+                }
+            }
+        }
+    }
+
+    // Takes a turn that isn't of the run that is open.
+    #[inline(never)]
+    fn begin_run(&mut self, turn: Turn) -> Result<(), Failed>
+        requires text { step_text (open_run self.old.run) (step_of turn) ≡ run_end (open_run self.old.run) }
+        requires run { step_run (open_run self.old.run) (step_of turn) ≡ Some (step_of turn, 1) }
+        ensures later { self.old.faults ≤ self.new.faults }
+        ensures cause { OnErr result (Rose self.old.faults self.new.faults) }
+        ensures onward { StaysOnward (IsOnward T.fault_count R.fault_count) self.old self.new }
+        ensures ok { OnOk result (GoesOn (Stands T.taken R.taken) self.old self.new [] (step_of turn ∷ [])) }
+        ensures err { OnErr result (IsCut (Stands T.taken R.taken) (IsCutWithin T.taken R.taken) self.old self.new [] (step_of turn ∷ [])) }
+    {
+        match put_run(&mut *self.rec, self.run) {
+            Ok(()) => {
+                self.run = Some(Turns { turn, count: 1 });
+                Ok(())
+            }
+            Err(e) => {
+                self.faults = self.faults.saturating_add(1);
+                Err(e)
+            }
+        }
+    }
+
+    // Takes an event.
+    #[inline(never)]
+    fn event(&mut self, e: Event) -> Result<(), Failed>
+        requires { FitsEvent e }
+        ensures later { self.old.faults ≤ self.new.faults }
+        ensures cause { OnErr result (Rose self.old.faults self.new.faults) }
+        ensures onward { StaysOnward (IsOnward T.fault_count R.fault_count) self.old self.new }
+        ensures ok { OnOk result (GoesOn (Stands T.taken R.taken) self.old self.new [] (AnOuter e ∷ [])) }
+        ensures err { OnErr result (IsCut (Stands T.taken R.taken) (IsCutWithin T.taken R.taken) self.old self.new [] (AnOuter e ∷ [])) }
+    {
+        match put_entry(&mut *self.rec, self.run, e) {
+            Ok(()) => {
+                self.run = None;
+                Ok(())
+            }
+            Err(e) => {
+                self.faults = self.faults.saturating_add(1);
+                Err(e)
+            }
+        }
+    }
+}
+
+impl<'a, T: Sink, R: Sink> Taker for Writer<'a, T, R> {
+    ghost use Rattle.texts.specs.Writer.{IsOnward, Stands, IsCutWithin};
+
+    ghost fault_count = { λ w. w.faults };
+
+    ghost onward = { λ first w. IsOnward T.fault_count R.fault_count first w };
+
+    ghost stands = { λ first w is ss. Stands T.taken R.taken first w is ss };
+
+    ghost cut = { λ first w is ss. IsCutWithin T.taken R.taken first w is ss };
+
+    fn faults(&self) -> u64 {
+        self.faults
+    }
+
+    fn item(&mut self, i: Item) -> Result<(), Failed> {
+        let line = open_line(&i);
+        match put_item(&mut *self.out, self.line, i) {
+            Ok(()) => {
+                self.line = line;
+                Ok(())
+            }
+            Err(e) => {
+                self.faults = self.faults.saturating_add(1);
+                Err(e)
+            }
+        }
+    }
+
+    #[inline(always)]
+    fn step(&mut self, s: Step) -> Result<(), Failed> {
+        match s {
+            Step::Unit(f) => self.turn(Turn::Unit(f)),
+            Step::Idle => self.turn(Turn::Idle),
+            Step::Outer(e) => self.event(e),
+        }
+    }
+}
