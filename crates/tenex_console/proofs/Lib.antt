@@ -1,0 +1,4 @@
+mod Turns
+mod Running
+mod Told
+mod Causes

@@ -1,0 +1,5 @@
+pub mod Command
+pub mod Runs
+pub mod Driving
+pub mod Headline
+pub mod Statuses

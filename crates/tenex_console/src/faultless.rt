@@ -1,0 +1,28 @@
+// A run where nothing fails.
+ghost use Rattle.std.specs.Prelude.{◌≡◌};
+ghost use Rattle.tenex_console.specs.Command.{IsUsage};
+ghost use Rattle.tenex_console.specs.Statuses.{IsFaultless, Judges};
+
+use crate::tenex;
+use outside::{Drum, SureDrum, SureSink, SureSource};
+use std::alloc::Global;
+use texts::Status;
+
+/// Runs a command as `tenex` does, over a source, sinks and a drum that never fail, and keeps neither
+/// text. The status is Done, Usage, Script, LongScript or Memory.
+pub fn run_faultless(
+    alloc: Global,
+    words: &[String],
+    script: Vec<u8>,
+    drum: &mut SureDrum,
+) -> Status
+    ensures faultless { IsFaultless result }
+    ensures judged { Judges result script.items }
+    ensures usage { result ≡ Status.Usage → IsUsage words.now (⟦<SureDrum as Drum>⟧.size drum.old) }
+    ensures always_usage { IsUsage words.now (⟦<SureDrum as Drum>⟧.size drum.old) → result ≡ Status.Usage }
+{
+    let mut script = SureSource::new(script);
+    let mut out = SureSink;
+    let mut rec = SureSink;
+    tenex(alloc, words, &mut script, &mut out, &mut rec, drum)
+}

@@ -1,0 +1,14 @@
+//! The emulator: a console script is run, and its transcript and its record are written.
+//! To the layers above both texts are those of the plain machine, and each status has its cause.
+//! Stands on `monitor_core` for the machine, on `script_lang` for the script, on `texts` for both texts.
+#![tactic(auto)]
+
+mod call;
+mod driver;
+mod faultless;
+#[cfg(test)]
+mod tests;
+
+pub use call::tenex;
+pub use faultless::run_faultless;
+pub use texts::Status;

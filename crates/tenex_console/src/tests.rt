@@ -1,0 +1,30 @@
+// Runs where nothing fails.
+use crate::{Status, run_faultless};
+use outside::SureDrum;
+use std::alloc::{AllocError, Global};
+use std::test::Fail;
+
+const SCRIPT: &[u8] = b"LOGIN 0 SMITH\nRUN 5\n";
+
+fn words(alloc: Global, word: &str) -> Result<Vec<String>, AllocError> {
+    Ok(vec![in alloc; String::from_str(alloc, word)?]?)
+}
+
+#[test]
+fn other_words_and_small_drums_are_usage(rt: HostRuntime) -> Result<(), Fail> {
+    let alloc = rt.alloc();
+    let mut small = SureDrum::new(alloc, 2047)?;
+    let mut drum = SureDrum::new(alloc, 2048)?;
+    let run = words(alloc, "run")?;
+    let other = words(alloc, "ran")?;
+    let none = Vec::new(alloc);
+    let status = run_faultless(alloc, &run, SCRIPT.to_vec(alloc)?, &mut small);
+    assert_eq!(rt; status, Status::Usage, "a small drum");
+    let status = run_faultless(alloc, &other, SCRIPT.to_vec(alloc)?, &mut drum);
+    assert_eq!(rt; status, Status::Usage, "another word");
+    let status = run_faultless(alloc, &none, SCRIPT.to_vec(alloc)?, &mut drum);
+    assert_eq!(rt; status, Status::Usage, "no word");
+    let status = run_faultless(alloc, &run, SCRIPT.to_vec(alloc)?, &mut drum);
+    assert_eq!(rt; status, Status::Done);
+    Ok(())
+}
