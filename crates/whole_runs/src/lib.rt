@@ -1,0 +1,13 @@
+//! Whole runs of the emulator in memory: scripts, and what they print and record, byte by byte.
+//! No layer stands above; to a reader each test is a script with its two texts.
+//! Stands on tenex_console.
+#![tactic(auto)]
+
+#[cfg(test)]
+mod examples;
+#[cfg(test)]
+mod failures;
+#[cfg(test)]
+mod memory_run;
+#[cfg(test)]
+mod scripts;
