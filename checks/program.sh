@@ -1,0 +1,122 @@
+#!/usr/bin/env bash
+# Runs the built program on the examples, and into each way in which a run ends, and compares its exit
+# status, its standard output and its record byte by byte. Status 1: something differs, and each
+# difference was printed.
+set -u
+top=$(cd "$(dirname "$0")/.." && pwd)
+program=$top/build/tenex
+work=$(mktemp -d)
+trap 'rm -rf "$work"' EXIT
+cases=0
+failures=0
+
+fail() {
+    echo "program.sh: FAILED: $*" >&2
+    failures=$((failures + 1))
+}
+
+# same NAME WANTED FOUND: two files have the same bytes.
+same() {
+    cmp -s "$2" "$3" && return
+    fail "$1 differs (wanted, then found):"
+    diff <(od -c "$2" 2>&1) <(od -c "$3" 2>&1) >&2
+}
+
+# Makes the folder that the next case runs in.
+fresh() {
+    rm -rf "$work/at" && mkdir "$work/at"
+}
+
+# ends NAME STATUS OUT RECORD WORD..: the program, in the folder made by fresh and with the standard input
+# of this call, ends with that status, and has written these bytes (as printf's %b writes them). A record -
+# is not looked at. Where memory is set, the program has so many kilobytes.
+memory=
+ends() {
+    local name=$1 status=$2 out=$3 record=$4 found
+    shift 4
+    cases=$((cases + 1))
+    (
+        cd "$work/at" || exit
+        [ -z "$memory" ] || ulimit -v "$memory"
+        exec "$program" "$@"
+    ) >"$work/out" 2>"$work/messages"
+    found=$?
+    [ "$found" -eq "$status" ] || fail "$name: status $found, wanted $status"
+    printf '%b' "$out" >"$work/wanted"
+    same "$name: standard output" "$work/wanted" "$work/out"
+    same "$name: standard error" /dev/null "$work/messages"
+    [ "$record" = - ] && return
+    printf '%b' "$record" >"$work/wanted"
+    same "$name: record" "$work/wanted" "$work/at/tenex.record"
+}
+
+# The texts of an example, in the form that ends takes.
+bytes_of() {
+    sed 's/\\/\\\\/g; s/$/\\n/' "$1" | tr -d '\n'
+}
+
+mkdir "$work/build" && (cd "$work/build" && "$top/tenex" run </dev/null >/dev/null) || fail "the first run"
+[ -x "$program" ] || exit 1
+
+examples=0
+for script in "$top"/examples/*.script; do
+    name=${script%.script}
+    fresh
+    ends "examples/${name##*/}" 0 "$(bytes_of "$name.transcript")" "$(bytes_of "$name.record")" run <"$script"
+    examples=$((examples + 1))
+done
+[ "$examples" -ge 2 ] || fail "there are only $examples examples"
+
+fresh
+ends "the first script" 0 'T0 @A\\015\\012\nT0 @\n' 'LOGIN 0 SMITH\nPOKE 0 100 201040000101\nPOKE 0 101 104000000074\nPOKE 0 102 104000000170\nSTART 0 100\nU 0 1 3\nI 2\nE 0 0\n' run <"$top/examples/first.script"
+fresh
+ends "the empty script" 0 '' 'E 0 0\n' run </dev/null
+fresh
+echo 'of an earlier run' >"$work/at/tenex.record"
+ends "a record of an earlier run" 0 '' 'E 0 0\n' run </dev/null
+
+fresh
+ends "no word" 1 '?USAGE\n' '' <"$top/examples/first.script"
+fresh
+ends "one word too many" 1 '?USAGE\n' '' run run <"$top/examples/first.script"
+fresh
+ends "another word" 1 '?USAGE\n' '' RUN <"$top/examples/first.script"
+fresh
+ends "a word that is no text" 1 '?USAGE\n' '' $'run\xff' <"$top/examples/first.script"
+
+fresh
+printf 'LOGIN 0 A\nSTOP\n' >"$work/script"
+ends "a bad line" 2 'T0 @\n?LINE 2\n' 'LOGIN 0 A\n' run <"$work/script"
+fresh
+printf 'LOGIN 0 A\nRUN 2\nRUN 3' >"$work/script"
+ends "a last line without its end" 2 'T0 @\n?LINE 3\n' 'LOGIN 0 A\nI 2\n' run <"$work/script"
+
+fresh
+memory=40000
+ends "no memory" 4 '?MEMORY\n' '' run <"$top/examples/first.script"
+memory=
+
+fresh
+ends "a script that can't be read" 5 '?READ\n' '' run <"$work/at"
+
+fresh
+cases=$((cases + 1))
+(cd "$work/at" && exec "$program" run) <"$top/examples/first.script" >/dev/full 2>/dev/null
+[ $? -eq 6 ] || fail "a transcript that can't be written: another status than 6"
+fresh
+ln -s /dev/full "$work/at/tenex.record"
+ends "a record that can't be written" 6 '' - run </dev/null
+
+fresh
+yes 'RUN 1' | head -c 16777217 >"$work/script"
+ends "a script that is too long" 7 '?LONG SCRIPT\n' 'I 2796202\n' run <"$work/script"
+
+fresh
+mkdir "$work/at/tenex.record"
+ends "a record that can't be made" 9 '?CANNOT OPEN\n' - run <"$top/examples/first.script"
+
+if [ "$failures" -ne 0 ]; then
+    echo "program.sh: $failures failures in $cases cases" >&2
+    exit 1
+fi
+echo "program.sh: $cases cases passed"
