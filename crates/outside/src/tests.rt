@@ -82,7 +82,7 @@ fn sure_objects_go_on(rt: HostRuntime) -> Result<(), Fail> {
     let mut piece = [0; 2];
     assert_eq!(rt; source.read(&mut piece), Ok(1));
     assert_eq!(rt; piece, *b"a\0");
-    assert_eq!(rt; SureSink.write(b"ab"), Ok(2));
+    assert_eq!(rt; SureSink::new().write(b"ab"), Ok(2));
     let mut drum = SureDrum::new(alloc, 1)?;
     let twos = filled(2);
     let mut words = [0; PAGE_WORDS];
