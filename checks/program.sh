@@ -61,8 +61,11 @@ mkdir "$work/build" && (cd "$work/build" && "$top/tenex" run </dev/null >/dev/nu
 examples=0
 for script in "$top"/examples/*.script; do
     name=${script%.script}
+    words=run
+    [ ! -e "$name.words" ] || words=$(cat "$name.words")
     fresh
-    ends "examples/${name##*/}" 0 "$(bytes_of "$name.transcript")" "$(bytes_of "$name.record")" run <"$script"
+    # shellcheck disable=SC2086 # the words of a command are separate arguments
+    ends "examples/${name##*/}" 0 "$(bytes_of "$name.transcript")" "$(bytes_of "$name.record")" $words <"$script"
     examples=$((examples + 1))
 done
 [ "$examples" -ge 2 ] || fail "there are only $examples examples"
@@ -76,6 +79,24 @@ echo 'of an earlier run' >"$work/at/tenex.record"
 ends "a record of an earlier run" 0 '' 'E 0 0\n' run </dev/null
 
 fresh
+printf 'LOGIN 0 A\nPOKE 0 100 0\nSTART 0 100\nRUN 2\nFORKS 0\n' >"$work/script"
+ends "a forced fork" 0 'T0 @\\015\\012\nT0 ?FORCED 15\\015\\012\nT0 @\nF 0 1 0 FORCED 15 PC 000100\n' 'LOGIN 0 A\nPOKE 0 100 0\nSTART 0 100\nU 0 1 1\nI 1\nFORKS 0\nE 0 0\n' run <"$work/script"
+fresh
+printf 'LOGIN 0 A\nLOGIN 0 A\nSTART 3 100\nFORKS 0\n' >"$work/script"
+ends "refused events" 0 'T0 @\n?BUSY 0\n?NO JOB 3\nF 0 1 0 HALT PC 000000\n' 'LOGIN 0 A\nLOGIN 0 A\nSTART 3 100\nFORKS 0\nE 0 0\n' run <"$work/script"
+
+fresh
+ends "sizes that are asked for" 0 '' 'E 0 0\n' run --drum=256 --frames 160 </dev/null
+fresh
+ends "too few frames" 1 '?USAGE\n' '' run --frames 159 </dev/null
+fresh
+ends "an option given twice" 1 '?USAGE\n' '' run --frames 160 --frames 160 </dev/null
+fresh
+ends "two hyphens alone" 1 '?USAGE\n' '' run -- </dev/null
+fresh
+ends "a word for help" 1 '?USAGE\n' '' run --help </dev/null
+
+fresh
 ends "no word" 1 '?USAGE\n' '' <"$top/examples/first.script"
 fresh
 ends "one word too many" 1 '?USAGE\n' '' run run <"$top/examples/first.script"
@@ -84,6 +105,9 @@ ends "another word" 1 '?USAGE\n' '' RUN <"$top/examples/first.script"
 fresh
 ends "a word that is no text" 1 '?USAGE\n' '' $'run\xff' <"$top/examples/first.script"
 
+fresh
+printf '; nothing\n\nLOGIN 0 A\nTRACE ON\n' >"$work/script"
+ends "a line that is not acted on yet" 2 'T0 @\n?LINE 4\n' 'LOGIN 0 A\n' run <"$work/script"
 fresh
 printf 'LOGIN 0 A\nSTOP\n' >"$work/script"
 ends "a bad line" 2 'T0 @\n?LINE 2\n' 'LOGIN 0 A\n' run <"$work/script"
@@ -107,6 +131,9 @@ fresh
 ln -s /dev/full "$work/at/tenex.record"
 ends "a record that can't be written" 6 '' - run </dev/null
 
+fresh
+yes '; a comment' | head -c 16777217 >"$work/script"
+ends "comments that are too long" 7 '?LONG SCRIPT\n' '' run <"$work/script"
 fresh
 yes 'RUN 1' | head -c 16777217 >"$work/script"
 ends "a script that is too long" 7 '?LONG SCRIPT\n' 'I 2796202\n' run <"$work/script"

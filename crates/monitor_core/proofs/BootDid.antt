@@ -27,7 +27,7 @@ one_at zero i h = absurd (omega arith)
 one_at (suc n) zero h = refl
 one_at (suc n) (suc i) h = one_at n i (omega arith)
 
-module _ {P : Type 0} (m : Machine P) (jobs : m.jobs.items ≡ no_jobs 16) (serials : m.fork_serials.items ≡ replicate 16 1) where
+module _ {P : Type 0} (m : Machine P) (jobs : m.jobs.items ≡ no_jobs 16) (serials : m.fork_serials.items ≡ replicate 16 1) (clock : m.clock ≡ 0) where
   pub no_job : (t : ℕ) → job_at m.jobs.items t ≡ None
   unfolding no_jobs
   no_job t = ap (λ xs. job_at xs t) jobs ∙ none_at 16 t
@@ -37,7 +37,7 @@ module _ {P : Type 0} (m : Machine P) (jobs : m.jobs.items ≡ no_jobs 16) (seri
   booted pages limit d is =
       let jobs_are : jobs_of m.jobs.items ≡ fin.empty = ap jobs_of jobs ∙ none_from (λ (t : ℕ) (j : Job). t) plain_job 16 0 in
       let forks_are : forks_of m.jobs.items ≡ fin.empty = ap forks_of jobs ∙ none_from (λ (t : ℕ) (j : Job). j.top.name) (λ (j : Job). j.top) 16 0 in
-      λ i. record { pages = is i; files = fin.empty; jobs = jobs_are i; forks = forks_are i; fork_serials = serials i; clock = 0; trace = false }
+      λ i. record { pages = is i; files = fin.empty; jobs = jobs_are i; forks = forks_are i; fork_serials = serials i; clock = clock i; trace = false }
 
   pub sound_boot : (lives : P → ForkName → Bool) (forks : P → Tty → ℕ) (serial : P → Tty → ℕ) → ((t : Tty) → forks m.pages t ≡ 0) → ((t : Tty) → serial m.pages t ≤ 1) → IsSound lives forks serial m
   unfolding no_jobs
@@ -49,5 +49,6 @@ module _ {P : Type 0} (m : Machine P) (jobs : m.jobs.items ≡ no_jobs 16) (seri
     absent = λ t e low. none t;
     serials = λ t h. let is : slice_index m.fork_serials.items t ≡ 1 = ap (λ xs. slice_index xs t) serials ∙ one_at 16 t h in (omega (arith, is), omega (arith, is));
     pages = λ t. omega (arith, ones t);
+    ticks = omega (arith, clock);
     beyond = λ t h. no_job t;
   }

@@ -1,7 +1,7 @@
 -- Items that are given in pieces.
 use Rattle.std.proofs.Common.{◌≡◌, ℕ, ◌<◌, ◌+◌, List, [], ◌∷◌, ◌++◌, length, take, drop, get_or, sym, ◌∙◌, ap, subst, append_assoc, take-append-drop}
 use Rattle.std.specs.Prelude.{Result, Ok, Err, OnErr, codes}
-use Rattle.std.proofs.lemmas.List.{map-append, take_more, drop_more}
+use Rattle.std.proofs.lemmas.List.{append-nil, map-append, take_more, drop_more}
 use Rattle.plain_model.specs.declared.names.Tty.{Tty}
 use Rattle.plain_model.specs.declared.event.Item.{Item}
 use Rattle.plain_model.specs.declared.event.Item.TheVariants.{Char}
@@ -40,6 +40,14 @@ module _ {T : Type 0} (stands cut : T → T → List Item → List Step → Type
       let here = cut_behind stands cut a b c (printed t (take i text)) (Char t (get_or text i 0) ∷ []) [] [] went failed in
       let longer = cut_longer stands cut a c (printed t (take i text) ++ Char t (get_or text i 0) ∷ []) (printed t (drop (i + 1) text)) [] [] here in
       subst (λ is. IsCut stands cut a c is []) (append_assoc (printed t (take i text)) (Char t (get_or text i 0) ∷ []) (printed t (drop (i + 1) text)) ∙ sym (printed_split t text i h)) longer
+
+-- a step behind the items that it shows
+module _ {T : Type 0} (stands cut : T → T → List Item → List Step → Type 0) (a b c : T) (items : List Item) (step : Step) where
+  pub cut_before : IsCut stands cut a b items [] → IsCut stands cut a b items (step ∷ [])
+  cut_before failed = subst (λ is. IsCut stands cut a b is (step ∷ [])) (append-nil items) (cut_longer stands cut a b items [] [] (step ∷ []) failed)
+
+  pub cut_behind_items : GoesOn stands a b items [] → IsCut stands cut b c [] (step ∷ []) → IsCut stands cut a c items (step ∷ [])
+  cut_behind_items went failed = subst (λ is. IsCut stands cut a c is (step ∷ [])) (append-nil items) (cut_behind stands cut a b c items [] [] (step ∷ []) went failed)
 
 -- three texts, one after another
 module _ {T : Type 0} (stands cut : T → T → List Item → List Step → Type 0) (a b : T) (t : Tty) (xs ys zs : List ℕ) where

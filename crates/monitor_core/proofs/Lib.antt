@@ -5,6 +5,7 @@ pub mod StoreSteps
 pub mod StoreSound
 mod Given
 mod MapFrom
+mod Values
 mod Fetches
 mod Sounds
 mod UnitEffect
@@ -12,6 +13,8 @@ mod Lookups
 mod UnitDid
 mod Writes
 mod EventDid
+mod ExamineDid
+mod ForksDid
 mod LoginDid
 mod TurnDid
 mod BootDid

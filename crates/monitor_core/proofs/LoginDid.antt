@@ -9,7 +9,7 @@ use Rattle.plain_model.specs.declared.names.PageName.{PageName}
 use Rattle.plain_model.specs.declared.fork.TerminalMode.TheVariants.{Command}
 use Rattle.plain_model.specs.declared.event.Event.TheVariants.{Login}
 use Rattle.plain_model.specs.declared.event.Step.TheVariants.{Outer}
-use Rattle.plain_model.specs.declared.event.Item.TheVariants.{Char}
+use Rattle.plain_model.specs.declared.event.Item.TheVariants.{Char, Refusal}
 use Rattle.plain_model.specs.declared.event.Refusal.TheVariants.{Busy, SerialsOut, Full}
 use Rattle.plain_model.specs.State.{PlainState, PlainPages}
 use Rattle.plain_model.specs.Outcome.{DrumWords}
@@ -23,7 +23,7 @@ use Rattle.monitor_core.specs.declared.job.Job.{Job}
 use Rattle.monitor_core.specs.declared.machine.Machine.{Machine}
 use Rattle.monitor_core.specs.Jobs.{jobs_of, forks_of, job_at, plain_job}
 use Rattle.monitor_core.specs.Machine.{plain, IsSound, IsJob}
-use Rattle.monitor_core.specs.Did.{Did}
+use Rattle.monitor_core.specs.Did.{Did, Shows}
 use Rattle.monitor_core.proofs.Lookups.{job_found, job_missing, jobs_set, forks_set}
 use Rattle.monitor_core.proofs.Sounds.{job_later}
 use Rattle.monitor_core.proofs.UnitDid.{owns}
@@ -63,6 +63,8 @@ new_top done t f k own low first last top =
       first = first;
       last = last;
       top = refl;
+      slot = refl;
+      status = tt;
       off = refl;
       pc = omega arith;
       accumulators = refl;
@@ -72,11 +74,12 @@ new_top done t f k own low first last top =
 
 module _ {P : Type 0} (fits : P → DrumWords → Type 0) (filed : P → DrumWords → PageName → Bool) (pages : P → DrumWords → PlainPages) (lives : P → ForkName → Bool) (forks : P → Tty → ℕ) (serial : P → Tty → ℕ) (m : Machine P) (s : IsSound lives forks serial m) (t : Tty) (user : List ℕ) where
   -- the terminal has a job
-  pub is_busy : (j : Job) → job_at m.jobs.items t.0 ≡ Some j → (d : DrumWords) → fits m.pages d → outer (plain pages m d) (Login t user) ≡ refused (plain pages m d) (Busy t)
-  is_busy j at d f =
-      let old = plain pages m d in
-      ap (λ b. cond b (refused old (Busy t)) (cond (nat_lt 262143 (next_fork old t).serial) (refused old (SerialsOut t)) (cond (HasRoom (with_map old.pages (next_fork old t)) t) (record { state = with_job old t user; items = Char t 64 ∷ [] }) (refused old (Full t)))))
-      (ap is_some (job_found m.jobs.items t.0 j at))
+  pub is_busy : (j : Job) → job_at m.jobs.items t.0 ≡ Some j → Shows fits pages m (Login t user) (Refusal (Busy t))
+  is_busy j at = record {
+    each = λ d f. let old = plain pages m d in
+        ap (λ b. cond b (refused old (Busy t)) (cond (nat_lt 262143 (next_fork old t).serial) (refused old (SerialsOut t)) (cond (HasRoom (with_map old.pages (next_fork old t)) t) (record { state = with_job old t user; items = Char t 64 ∷ [] }) (refused old (Full t)))))
+        (ap is_some (job_found m.jobs.items t.0 j at));
+  }
 
   module _ (free : job_at m.jobs.items t.0 ≡ None) where
     not_busy : (d : DrumWords) → outer (plain pages m d) (Login t user) ≡ cond (nat_lt 262143 (next_fork (plain pages m d) t).serial) (refused (plain pages m d) (SerialsOut t)) (cond (HasRoom (with_map (plain pages m d).pages (next_fork (plain pages m d) t)) t) (record { state = with_job (plain pages m d) t user; items = Char t 64 ∷ [] }) (refused (plain pages m d) (Full t)))
@@ -86,10 +89,12 @@ module _ {P : Type 0} (fits : P → DrumWords → Type 0) (filed : P → DrumWor
         (ap is_some (job_missing m.jobs.items t.0 free))
 
     -- the serials of the terminal are used up
-    pub serials_are_out : 262143 < slice_index m.fork_serials.items t.0 → (d : DrumWords) → fits m.pages d → outer (plain pages m d) (Login t user) ≡ refused (plain pages m d) (SerialsOut t)
-    serials_are_out used d f =
-        let old = plain pages m d in
-        not_busy d ∙ ap (λ b. cond b (refused old (SerialsOut t)) (cond (HasRoom (with_map old.pages (next_fork old t)) t) (record { state = with_job old t user; items = Char t 64 ∷ [] }) (refused old (Full t)))) (over 262143 (slice_index m.fork_serials.items t.0) used)
+    pub serials_are_out : 262143 < slice_index m.fork_serials.items t.0 → Shows fits pages m (Login t user) (Refusal (SerialsOut t))
+    serials_are_out used = record {
+      each = λ d f.
+          let old = plain pages m d in
+          not_busy d ∙ ap (λ b. cond b (refused old (SerialsOut t)) (cond (HasRoom (with_map old.pages (next_fork old t)) t) (record { state = with_job old t user; items = Char t 64 ∷ [] }) (refused old (Full t)))) (over 262143 (slice_index m.fork_serials.items t.0) used);
+    }
 
     module _ (unused : slice_index m.fork_serials.items t.0 ≤ 262143) (count most : P → ℕ) (agrees : (d : DrumWords) → fits m.pages d → Agrees (pages m.pages d) (lives m.pages) (serial m.pages) (count m.pages) (most m.pages)) (dead : (d : DrumWords) → lives m.pages (next_fork (plain pages m d) t) ≡ false) where
       serials_left : (d : DrumWords) → outer (plain pages m d) (Login t user) ≡ cond (HasRoom (with_map (plain pages m d).pages (next_fork (plain pages m d) t)) t) (record { state = with_job (plain pages m d) t user; items = Char t 64 ∷ [] }) (refused (plain pages m d) (Full t))
@@ -104,11 +109,13 @@ module _ {P : Type 0} (fits : P → DrumWords → Type 0) (filed : P → DrumWor
           omega (arith, live_more (pages m.pages d) (next_fork (plain pages m d) t) none, a.number)
 
       -- there is no room
-      pub is_full : most m.pages ≤ count m.pages → (d : DrumWords) → fits m.pages d → outer (plain pages m d) (Login t user) ≡ refused (plain pages m d) (Full t)
-      is_full filled d f =
-          let old = plain pages m d in
-          let a = agrees d f in
-          serials_left d ∙ ap (λ b. cond b (record { state = with_job old t user; items = Char t 64 ∷ [] }) (refused old (Full t))) (no_room_le (live (with_map old.pages (next_fork old t))) old.pages.limit (omega (arith, live_after d f, a.bound, filled)))
+      pub is_full : most m.pages ≤ count m.pages → Shows fits pages m (Login t user) (Refusal (Full t))
+      is_full filled = record {
+        each = λ d f.
+            let old = plain pages m d in
+            let a = agrees d f in
+            serials_left d ∙ ap (λ b. cond b (record { state = with_job old t user; items = Char t 64 ∷ [] }) (refused old (Full t))) (no_room_le (live (with_map old.pages (next_fork old t))) old.pages.limit (omega (arith, live_after d f, a.bound, filled)));
+      }
 
       logs_in : count m.pages < most m.pages → (d : DrumWords) → fits m.pages d → ◌≡◌ {A = Effect} (outer (plain pages m d) (Login t user)) (record { state = with_job (plain pages m d) t user; items = Char t 64 ∷ [] })
       logs_in room d f =
@@ -117,7 +124,7 @@ module _ {P : Type 0} (fits : P → DrumWords → Type 0) (filed : P → DrumWor
           serials_left d ∙ ap (λ b. cond b (record { state = with_job old t user; items = Char t 64 ∷ [] }) (refused old (Full t))) (room_le (live (with_map old.pages (next_fork old t))) old.pages.limit (omega (arith, live_after d f, a.bound, room)))
 
       module _ (m' : Machine P) (k : Job) (f : ForkName) (low : t.0 < 16) (own : f.tty ≡ t) (numbered : f.serial ≡ slice_index m.fork_serials.items t.0) (set_to : m'.jobs.items ≡ set m.jobs.items t.0 (Some k)) (user_is : k.user ≡ user) (mode : k.mode ≡ Command) (top : k.top ≡ top_fork f)
-          (serials : m'.fork_serials.items ≡ set m.fork_serials.items t.0 (f.serial + 1)) where
+          (serials : m'.fork_serials.items ≡ set m.fork_serials.items t.0 (f.serial + 1)) (clock : m'.clock ≡ m.clock) where
         pub did_login : count m.pages < most m.pages → ((d : DrumWords) → fits m.pages d → fits m'.pages d × (pages m'.pages d ≡ with_map (pages m.pages d) f) × (filed m'.pages d ≡ filed m.pages d)) → Did fits filed pages m m' (Outer (Login t user)) (Char t 64 ∷ [])
         did_login room told = record {
           each = λ d fits_d.
@@ -132,7 +139,7 @@ module _ {P : Type 0} (fits : P → DrumWords → Type 0) (filed : P → DrumWor
               ap forks_of set_to ∙ forks_set m.jobs.items t.0 k (owns fits filed pages lives forks serial m s) within there (λ x e. let g : None ≡ Some x = sym free ∙ e in absurd (cc g))
               ∙ (λ i. fin.insert old.forks (top i).name (top i)) in
               let mine : plain pages m' d ≡ record old { pages = with_map old.pages f; jobs = fin.insert old.jobs t.0 (new_job user f); forks = fin.insert old.forks f (top_fork f); fork_serials = set old.fork_serials t.0 (f.serial + 1) } =
-              λ i. record old { pages = added.1 i; jobs = jobs i; forks = forks_is i; fork_serials = serials i } in
+              λ i. record old { pages = added.1 i; jobs = jobs i; forks = forks_is i; fork_serials = serials i; clock = clock i } in
               let named : ◌≡◌ {A = PlainState} (record old { pages = with_map old.pages f; jobs = fin.insert old.jobs t.0 (new_job user f); forks = fin.insert old.forks f (top_fork f); fork_serials = set old.fork_serials t.0 (f.serial + 1) }) (with_job old t user) =
               ap (λ g. record old { pages = with_map old.pages g; jobs = fin.insert old.jobs t.0 (new_job user g); forks = fin.insert old.forks g (top_fork g); fork_serials = set old.fork_serials t.0 (g.serial + 1) }) next in
               let effect = logs_in room d fits_d.pages in (
@@ -175,6 +182,7 @@ module _ {P : Type 0} (fits : P → DrumWords → Type 0) (filed : P → DrumWor
                     (omega (arith, is, (s.serials u h).0), omega (arith, is, (s.serials u h).1))
               ];
               pages = λ u. omega (arith, ap (λ g. g u) same, s.pages u, later);
+              ticks = omega (arith, clock, s.ticks, later);
               beyond = λ u h. elim (cases_eq u t.0) [
                 | inl at_t ↦ absurd (omega (arith, h, terminals, at_t))
                 | inr ne ↦ other u ne ∙ s.beyond u (omega (arith, h, terminals))

@@ -1,13 +1,15 @@
 -- Jobs and forks, looked up in a machine's plain state.
-use Rattle.std.proofs.Common.{◌≡◌, ℕ, ◌<◌, List, length, set, true, cond, Option, None, Some, refl, sym, ◌∙◌, ap, arith, get_or-set_same, get_or-set_other, inl, inr}
-use Rattle.std.proofs.lemmas.Bool.{cases_eq}
+use Rattle.std.proofs.Common.{◌≡◌, ◌≢◌, ℕ, ◌<◌, ◌==◌, ◌&&◌, List, length, set, Bool, true, false, cond, Option, None, Some, refl, sym, ◌∙◌, ap, arith, get_or-set_same, get_or-set_other, inl, inr}
+use Rattle.std.proofs.lemmas.Bool.{cases_eq, ne_eqb}
 use Rattle.std.specs.declared.cmp.Ordering.{Ordering}
 use Rattle.std.specs.Ordering.{nat_cmp, eq_by_cmp, is_eq}
 use Rattle.std.specs.Cmp.{IsTotalOrder, nat_cmp_total}
 use Rattle.std.proofs.lemmas.Cmp.{tied_itself}
 use Rattle.std.specs.FinMap as fin
 use Rattle.plain_model.specs.Orders.{fork_cmp}
-use Rattle.plain_model.proofs.OrderLemmas.{fork_cmp_total, fork_cmp_apart}
+use Rattle.plain_model.proofs.OrderLemmas.{fork_cmp_total, fork_cmp_apart, fork_tied}
+use Rattle.plain_model.specs.declared.names.Tty.{Tty}
+use Rattle.plain_model.specs.declared.names.ForkName.{ForkName}
 use Rattle.monitor_core.specs.declared.job.Job.{Job}
 use Rattle.monitor_core.specs.Jobs.{jobs_of, forks_of, job_at, plain_job}
 use Rattle.monitor_core.proofs.MapFrom.{Ranked, with_key, found, map_from_set}
@@ -43,6 +45,18 @@ fork_found js t j own at =
     found fork_cmp_total fork_cmp_apart (λ (u : ℕ) (k : Job). k.top.name) (λ k. k.top) (λ q. q.tty.0) 0 js t f (forks_ranked js own) (omega (arith, there))
     ∙ ap (λ e. with_key fork_cmp (λ (u : ℕ) (k : Job). k.top.name) (λ k. k.top) f f.tty.0 e) at
     ∙ ap (λ b. cond b (Some j.top) None) (alike fork_cmp_total f)
+
+-- no other fork of the terminal is there
+pub fork_missing : (js : List (Option Job)) (t : Tty) (j : Job) (serial : ℕ) → OwnForks js → job_at js t.0 ≡ Some j → j.top.name.serial ≢ serial → fin.get (forks_of js) (record { tty = t; serial = serial }) ≡ None
+fork_missing js t j serial own at ne =
+    let f : ForkName = record { tty = t; serial = serial } in
+    found fork_cmp_total fork_cmp_apart (λ (u : ℕ) (k : Job). k.top.name) (λ k. k.top) (λ q. q.tty.0) 0 js t.0 f (forks_ranked js own) (omega arith)
+    ∙ ap (λ e. with_key fork_cmp (λ (u : ℕ) (k : Job). k.top.name) (λ k. k.top) f t.0 e) at
+    ∙ ap (λ b. cond b (Some j.top) None) (fork_tied f j.top.name ∙ ap (λ b. (t.0 == j.top.name.tty.0) && b) (ne_eqb serial j.top.name.serial (λ e. ne (sym e))) ∙ and_false (t.0 == j.top.name.tty.0))
+  where
+    and_false : (b : Bool) → (b && false) ≡ false
+    and_false true = refl
+    and_false false = refl
 
 -- another job in a terminal's place is another entry of the map
 pub jobs_set : (js : List (Option Job)) (t : ℕ) (j : Job) → t < length js → jobs_of (set js t (Some j)) ≡ fin.insert (jobs_of js) t (plain_job j)

@@ -13,6 +13,7 @@ use Rattle.plain_model.specs.declared.names.Kind.{Kind}
 use Rattle.plain_model.specs.declared.names.Kind.TheVariants.{Read, Write, Execute}
 use Rattle.plain_model.specs.declared.map.MapEntry.{MapEntry}
 use Rattle.plain_model.specs.declared.map.MapEntry.TheVariants.{Empty, Names}
+use Rattle.plain_model.specs.declared.map.Peeked.TheVariants.{Is, NoPage}
 use Rattle.plain_model.specs.declared.map.Touch.TheVariants.{Ready, Zero, Full}
 use Rattle.plain_model.specs.State.{PlainPages, Map, Maps}
 use Rattle.plain_model.specs.Maps.{Link, linked, trail, chain, chain_end, is_closed, end_of, entry_at, set_entry, with_entry, permit_along, may}
@@ -20,7 +21,7 @@ use Rattle.plain_model.specs.Maps as maps
 use Rattle.plain_model.specs.Orders.{fork_cmp}
 use Rattle.plain_model.specs.Room.{HasRoom}
 use Rattle.plain_model.specs.References.{Referred, granted, denied, full, made, reference, makings, with_zero, then_refer, copy_along, zero_page, next_page, words_or_zeros, word_in, stored_in, page_of}
-use Rattle.plain_model.specs.Pages.{touch_of, way_touch, granted_touch, end_touch, first_away, first_copy, copy_or_ready, copy_link, settled, settled_end, settled_copy, word_in_place, stored_in_place}
+use Rattle.plain_model.specs.Pages.{touch_of, way_touch, granted_touch, end_touch, first_away, first_copy, copy_or_ready, copy_link, settled, settled_end, settled_copy, word_in_place, stored_in_place, peek_of, peek_way, peek_end}
 use Rattle.plain_model.proofs.OrderLemmas.{fork_cmp_total, fork_tied}
 use Rattle.monitor_core.specs.Stores.{core}
 
@@ -88,6 +89,19 @@ settled_empty filed p s kind owner e = ap (λ o. settled_end filed p s kind o ow
 
 pub word_named : (p : PlainPages) (s : Slot) (n : PageName) (words : List ℕ) (offset : ℕ) → entry_at p.maps s ≡ Some (Names n all_rights) → fin.get p.objects n ≡ Some words → word_in_place p (Fork s) offset ≡ slice_index words offset
 word_named p s n words offset e there = ap (λ o. word_in p (page_of o) offset) (end_named p.maps s n e) ∙ ap (λ o. slice_index (words_or_zeros o) offset) there
+
+-- a named page is seen
+pub peek_named : (p : PlainPages) (s : Slot) (n : PageName) (words : List ℕ) (offset : ℕ) → entry_at p.maps s ≡ Some (Names n all_rights) → fin.get p.objects n ≡ Some words → peek_of p core (Fork s) offset ≡ Is (slice_index words offset)
+peek_named p s n words offset e there =
+    ap (λ links. peek_way p core s offset (first_away core links)) (trail_named p.maps s n e)
+    ∙ ap (λ o. peek_end p core offset (page_of o)) (end_named p.maps s n e)
+    ∙ ap (λ o. Is (slice_index (words_or_zeros o) offset)) there
+
+-- an empty entry has no page
+pub peek_empty : (p : PlainPages) (s : Slot) (offset : ℕ) → entry_at p.maps s ≡ Some Empty → peek_of p core (Fork s) offset ≡ NoPage
+peek_empty p s offset e =
+    ap (λ links. peek_way p core s offset (first_away core links)) (trail_empty p.maps s e)
+    ∙ ap (λ o. peek_end p core offset (page_of o)) (end_empty p.maps s e)
 
 pub stored_named : (p : PlainPages) (s : Slot) (n : PageName) (words : List ℕ) (offset word : ℕ) → entry_at p.maps s ≡ Some (Names n all_rights) → fin.get p.objects n ≡ Some words
     → stored_in_place p (Fork s) offset word ≡ record p { objects = fin.insert p.objects n (slice_set words offset word) }

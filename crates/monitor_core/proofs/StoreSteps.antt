@@ -12,13 +12,14 @@ use Rattle.plain_model.specs.declared.names.PageName.{PageName}
 use Rattle.plain_model.specs.declared.names.Place.TheVariants.{Fork}
 use Rattle.plain_model.specs.declared.names.Kind.{Kind}
 use Rattle.plain_model.specs.declared.map.MapEntry.TheVariants.{Empty, Names}
+use Rattle.plain_model.specs.declared.map.Peeked.TheVariants.{Is, NoPage}
 use Rattle.plain_model.specs.declared.map.Touch.TheVariants.{Ready, Zero, Full}
 use Rattle.plain_model.specs.State.{PlainPages, Maps}
 use Rattle.plain_model.specs.Maps.{entry_at, set_entry}
 use Rattle.plain_model.specs.Room.{HasRoom}
 use Rattle.plain_model.specs.References.{zero_words, zero_page, next_serial}
 use Rattle.plain_model.specs.Events.{with_map, empty_map}
-use Rattle.plain_model.specs.Pages.{touch_of, settled, word_in_place, stored_in_place, can_settle}
+use Rattle.plain_model.specs.Pages.{touch_of, settled, word_in_place, stored_in_place, can_settle, peek_of}
 use Rattle.monitor_core.specs.declared.held_page.HeldPage.{HeldPage}
 use Rattle.monitor_core.specs.declared.space.Space.{Space}
 use Rattle.monitor_core.specs.declared.page_serials.PageSerials.{PageSerials}
@@ -28,7 +29,7 @@ use Rattle.monitor_core.specs.StoreSpaces.{space_at, is_serial, has_fork, one_if
 use Rattle.monitor_core.specs.Stores.{Sound, plain_of, core, entry_touch}
 use Rattle.monitor_core.proofs.StoreObjects.{Objects, Apart, object_at, object_none, objects_put, objects_made, count_made}
 use Rattle.monitor_core.proofs.StoreMaps.{entries_same, maps_same, maps_home, maps_fork, map_of_living, count_entry, entry_there}
-use Rattle.monitor_core.proofs.SingleLink.{all_rights, touch_named, touch_empty, settled_named, settled_empty, word_named, stored_named}
+use Rattle.monitor_core.proofs.SingleLink.{all_rights, touch_named, touch_empty, settled_named, settled_empty, word_named, stored_named, peek_named, peek_empty}
 
 abbrev pub made_name : PageSerials → Tty → PageName
 made_name serials owner = record { tty = owner; serial = serial_of serials owner }
@@ -126,6 +127,12 @@ module _ {homes : List HeldPage} {made : ℕ} {spaces : List Space} {living : �
 
     pub word_ready : (offset : ℕ) (h : Home) → entry_in spaces s ≡ Some h → word_in_place (plain_of homes made spaces serials limit) (Fork s) offset ≡ slice_index (page_at homes h.0).words offset
     word_ready offset h e = word_named (plain_of homes made spaces serials limit) s (page_at homes h.0).name (page_at homes h.0).words offset (entry_named h e) (object_at homes made h.0 apart (sound.taken s.fork.tty.0 s.page h e))
+
+    pub peek_ready : (offset : ℕ) (h : Home) → entry_in spaces s ≡ Some h → peek_of (plain_of homes made spaces serials limit) core (Fork s) offset ≡ Is (slice_index (page_at homes h.0).words offset)
+    peek_ready offset h e = peek_named (plain_of homes made spaces serials limit) s (page_at homes h.0).name (page_at homes h.0).words offset (entry_named h e) (object_at homes made h.0 apart (sound.taken s.fork.tty.0 s.page h e))
+
+    pub peek_blank : (offset : ℕ) → entry_in spaces s ≡ None → peek_of (plain_of homes made spaces serials limit) core (Fork s) offset ≡ NoPage
+    peek_blank offset e = peek_empty (plain_of homes made spaces serials limit) s offset (entry_empty e)
 
     pub made_objects : (owner : Tty) → fin.len (fin.insert (objects_of homes made) (made_name serials owner) zero_words) ≡ made + 1
     made_objects owner = count_made (objects_of homes made) (made_name serials owner) zero_words (object_none homes made (made_name serials owner) apart.within (fresh owner)) ∙ ap (λ (n : ℕ). n + 1) sound.pages

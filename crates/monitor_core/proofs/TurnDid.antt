@@ -70,18 +70,18 @@ module _ {P : Type 0} (fits : P → DrumWords → Type 0) (filed : P → DrumWor
         (top, fork_found m.jobs.items t c.job (owns fits filed pages lives forks serial m s) c.there, c.runs, ap (λ b. b || is_frozen 29 forks_now (fork_in_slot forks_now top.name.tty top.superior)) c.free ∙ above)
 
   -- what a step did is the same of a machine that differs in other tables
-  pub did_too : (m m' n : Machine P) (step : Step) (items : List Item) → Did fits filed pages m m' step items → n.pages ≡ m'.pages → n.jobs.items ≡ m'.jobs.items → n.fork_serials.items ≡ m'.fork_serials.items → Did fits filed pages m n step items
-  did_too m m' n step items did same jobs serials = record {
+  pub did_too : (m m' n : Machine P) (step : Step) (items : List Item) → Did fits filed pages m m' step items → n.pages ≡ m'.pages → n.jobs.items ≡ m'.jobs.items → n.fork_serials.items ≡ m'.fork_serials.items → n.clock ≡ m'.clock → Did fits filed pages m n step items
+  did_too m m' n step items did same jobs serials clock = record {
     each = λ d f.
         let x = did.each d f in
-        let new : plain pages n d ≡ plain pages m' d = λ i. record (plain pages m' d) { pages = pages (same i) d; jobs = jobs_of (jobs i); forks = forks_of (jobs i); fork_serials = serials i } in
+        let new : plain pages n d ≡ plain pages m' d = λ i. record (plain pages m' d) { pages = pages (same i) d; jobs = jobs_of (jobs i); forks = forks_of (jobs i); fork_serials = serials i; clock = clock i } in
         (record { pages = subst (λ p. fits p d) (sym same) x.0.pages; unfiled = λ n. ap (λ p. filed p d n) same ∙ x.0.unfiled n }, new ∙ x.1, x.2);
   }
 
   -- an idle entry changes nothing
-  pub did_idle : (m n : Machine P) → n.pages ≡ m.pages → n.jobs.items ≡ m.jobs.items → n.fork_serials.items ≡ m.fork_serials.items → Did fits filed pages m n Idle []
-  did_idle m n same jobs serials =
-      did_too m m n Idle [] (record { each = λ d f. (f, refl, refl) }) same jobs serials
+  pub did_idle : (m n : Machine P) → n.pages ≡ m.pages → n.jobs.items ≡ m.jobs.items → n.fork_serials.items ≡ m.fork_serials.items → n.clock ≡ m.clock → Did fits filed pages m n Idle []
+  did_idle m n same jobs serials clock =
+      did_too m m n Idle [] (record { each = λ d f. (f, refl, refl) }) same jobs serials clock
 
   module _ {T : Type 0} (stands cut : T → T → List Item → List Step → Type 0) where
     -- a step that was given with its items
@@ -139,11 +139,11 @@ module _ {P : Type 0} (fits : P → DrumWords → Type 0) (filed : P → DrumWor
       own_legal d f = subst (IsRunnable (plain pages m d)) (sym named) (is_runnable lives forks serial m s t r d)
 
       -- a unit that was given
-      pub unit_given : (m2 : Machine P) → m2.pages ≡ m1.pages → m2.jobs.items ≡ m1.jobs.items → m2.fork_serials.items ≡ m1.fork_serials.items → GoesOn stands out out' (shown_items fork.tty shown) (AUnit fork ∷ []) → TurnGiven fits filed pages stands m m2 out out' auto
-      unit_given m2 same jobs serials given = record {
+      pub unit_given : (m2 : Machine P) → m2.pages ≡ m1.pages → m2.jobs.items ≡ m1.jobs.items → m2.fork_serials.items ≡ m1.fork_serials.items → m2.clock ≡ m1.clock → GoesOn stands out out' (shown_items fork.tty shown) (AUnit fork ∷ []) → TurnGiven fits filed pages stands m m2 out out' auto
+      unit_given m2 same jobs serials clock given = record {
         step = AUnit fork;
         turn = tt;
-        gave = gave_step m m2 out out' auto (AUnit fork) (shown_items fork.tty shown) (did_too m m1 m2 (AUnit fork) (shown_items fork.tty shown) own_did same jobs serials) own_legal given;
+        gave = gave_step m m2 out out' auto (AUnit fork) (shown_items fork.tty shown) (did_too m m1 m2 (AUnit fork) (shown_items fork.tty shown) own_did same jobs serials clock) own_legal given;
       }
 
       -- a unit at which the taker failed

@@ -3,11 +3,9 @@ use Rattle.std.proofs.Common.{◌≡◌, ℕ, ◌%◌, ◌∷◌, List, [], leng
 use Rattle.std.proofs.lemmas.Bool.{cases_eq}
 use Rattle.std.specs.Cmp.{nat_cmp_total}
 use Rattle.std.specs.Cmp.Lexicographic.{slice_cmp}
-use Rattle.std.specs.declared.cmp.Ordering.{Ordering}
 use Rattle.std.specs.Ordering.{nat_cmp}
 use Rattle.std.specs.FinMap as fin
 use Rattle.std.specs.List.{list_any}
-use Rattle.std.proofs.lemmas.List.{nil_from_length}
 use Rattle.plain_model.specs.declared.names.PageName.{PageName}
 use Rattle.plain_model.specs.declared.fork.Fork.{Fork}
 use Rattle.plain_model.specs.declared.fork.TerminalMode.{TerminalMode}
@@ -27,6 +25,7 @@ use Rattle.monitor_core.specs.ForkUnit.{fork_after, shown_after}
 use Rattle.monitor_core.specs.Shown.{shown_items, is_stop, code_shown}
 use Rattle.monitor_core.specs.Jobs.{plain_job}
 use Rattle.monitor_core.proofs.Sounds.{posted_off, FitsDeed, deed_fits}
+use Rattle.monitor_core.proofs.Values.{no_entries}
 
 -- to insert what is there changes nothing
 pub insert_same : {V : Type 0} (m : fin.FinMap nat_cmp V) (k : ℕ) (v : V) → fin.get m k ≡ Some v → fin.insert m k v ≡ m
@@ -35,13 +34,10 @@ insert_same m k v h = fin.same_map nat_cmp_total fin.nat_cmp-IsAntisymmetric _ _
   | inr ne ↦ grind (fin.gets, rules)
 ])
 
-no_entries : {K V : Type 0} (R : K → K → Ordering) → fin.entries (fin.empty {X = V} {R = R}) ≡ []
-no_entries {K} {V} R = nil_from_length (fin.entries (fin.empty {X = V} {R = R})) (sym (fin.len-entries (fin.empty {X = V} {R = R})) ∙ fin.len-empty R V)
-
 -- where there is no file, no file names a page
 pub none_filed : (s : PlainState) → s.files ≡ fin.empty → (n : PageName) → is_filed s n ≡ false
 none_filed s none n =
-    ap (λ m. list_any (has_page n) (fin.values m)) none ∙ ap (λ (es : List (List ℕ × PlainFile)). list_any (has_page n) (map (λ e. e.1) es)) (no_entries (slice_cmp nat_cmp))
+    ap (λ m. list_any (has_page n) (fin.values m)) none ∙ ap (λ (es : List (List ℕ × PlainFile)). list_any (has_page n) (map (λ e. e.1) es)) (no_entries (List ℕ) PlainFile (slice_cmp nat_cmp))
 
 module _ (s : PlainState) (j : Job) (job : fin.get s.jobs j.top.name.tty.0 ≡ Some (plain_job j)) (top : j.top.superior ≡ None) (off : j.top.body.psi.on ≡ false) where
   -- the state with another fork and mode of the job
@@ -97,7 +93,7 @@ module _ (s : PlainState) (j : Job) (job : fin.get s.jobs j.top.name.tty.0 ≡ S
       let other : cond (number == 120) (haltf s j.top) (trapped s j.top 15) ≡ ran_as (cond (number == 120) (counted (with_status (with_regs j.top regs) AHalted)) (counted (posted j.top 15))) (cond (number == 120) Halted (Forced 15)) =
       either_as (number == 120) (haltf s j.top) (trapped s j.top 15) (counted (with_status (with_regs j.top regs) AHalted)) (counted (posted j.top 15)) Halted (Forced 15) halting (traps_as 15 refl) in
       either_as (number == 60) (pbout s j.top) (cond (number == 120) (haltf s j.top) (trapped s j.top 15)) (counted (with_regs j.top regs)) (cond (number == 120) (counted (with_status (with_regs j.top regs) AHalted)) (counted (posted j.top 15))) (code_shown code) (cond (number == 120) Halted (Forced 15)) printing other
-  deed_as (traps channel) fit = traps_as channel fit
+  deed_as (traps channel) fit = traps_as channel fit.0
 
   fetch_as : (f : Fetched) (p : PlainFetched) → FitsFetch f → IsFetched s.pages f p → j.top.body.regs.pc < 2 ^ 18 → length j.top.body.regs.ac ≡ 16 → executed s j.top p ≡ ran_as (fork_fetched j.top f) (shown_fetched j.top f)
   fetch_as (Word w) p fit is pc accumulators = ap (executed s j.top) is ∙ deed_as (deed_of j.top.body.regs w) (deed_fits j.top off pc accumulators w)

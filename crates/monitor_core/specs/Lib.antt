@@ -11,5 +11,6 @@ pub mod Fetch
 pub mod Machine
 pub mod JobUnit
 pub mod Did
+pub mod Examining
 pub mod Writing
 pub mod Steps

@@ -5,12 +5,13 @@ use Rattle.plain_model.specs.declared.names.Tty.{Tty}
 use Rattle.plain_model.specs.declared.names.ForkName.{ForkName}
 use Rattle.plain_model.specs.declared.names.PageName.{PageName}
 use Rattle.plain_model.specs.State.{PlainPages, PlainState}
+use Rattle.plain_model.specs.Limits.{FitsStatus}
 use Rattle.plain_model.specs.Outcome.{DrumWords}
 use Rattle.monitor_core.specs.declared.job.Job.{Job}
 use Rattle.monitor_core.specs.declared.machine.Machine.{Machine}
 use Rattle.monitor_core.specs.Jobs.{jobs_of, forks_of, job_at}
 
--- over the words of a drum; nothing ticks, shows its units or has a file yet
+-- over the words of a drum; nothing shows its units or has a file yet
 abbrev pub plain : {P : Type 0} → (P → DrumWords → PlainPages) → Machine P → DrumWords → PlainState
 plain pages m d = record {
   pages = pages m.pages d;
@@ -18,7 +19,7 @@ plain pages m d = record {
   jobs = jobs_of m.jobs.items;
   forks = forks_of m.jobs.items;
   fork_serials = m.fork_serials.items;
-  clock = 0;
+  clock = m.clock;
   trace = false;
 }
 
@@ -46,6 +47,8 @@ pub record IsJob (done t : ℕ) (j : Job) : Type 0 where
   pub first : 1 ≤ j.top.name.serial
   pub last : j.top.name.serial ≤ 262143
   pub top : j.top.superior ≡ None
+  pub slot : j.top.slot ≡ 1
+  pub status : FitsStatus j.top.body.status
   pub off : j.top.body.psi.on ≡ false
   pub pc : j.top.body.regs.pc < 2 ^ 18
   pub accumulators : length j.top.body.regs.ac ≡ 16
@@ -60,4 +63,5 @@ pub record IsSound {P : Type 0} (lives : P → ForkName → Bool) (forks : P →
   pub absent : (t : Tty) → job_at m.jobs.items t.0 ≡ None → t.0 < 16 → forks m.pages t ≡ 0
   pub serials : (t : ℕ) → t < 16 → (1 ≤ slice_index m.fork_serials.items t) × (slice_index m.fork_serials.items t ≤ 262144)
   pub pages : (t : Tty) → serial m.pages t ≤ 2 * m.done + 1
+  pub ticks : m.clock ≤ m.done
   pub beyond : (t : ℕ) → m.terminals ≤ t → job_at m.jobs.items t ≡ None

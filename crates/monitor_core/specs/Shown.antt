@@ -1,42 +1,34 @@
--- What a step shows, as items.
+-- What a unit shows, as items.
 use Rattle.std.specs.Prelude.{ℕ, ◌<◌, List, [], ◌∷◌, Bool, true, false, if◌then◌else◌, ◌==◌}
 use Rattle.plain_model.specs.declared.names.Tty.{Tty}
 use Rattle.plain_model.specs.declared.fork.ForkStatus.TheVariants.{Halted as AHalted, Forced as AForced}
 use Rattle.plain_model.specs.declared.event.Item.{Item}
-use Rattle.plain_model.specs.declared.event.Item.TheVariants.{Refusal}
 use Rattle.plain_model.specs.Unit.{printed, stop_text}
-use Rattle.plain_model.specs.Limits.{FitsCause}
 use Rattle.monitor_core.specs.declared.shown.Shown.{Shown}
-use Rattle.monitor_core.specs.declared.shown.Shown.TheVariants.{Nothing, Code, LineEnd, Prompt, Halted, Forced, Refused}
+use Rattle.monitor_core.specs.declared.shown.Shown.TheVariants.{Nothing, Code, LineEnd, Halted, Forced}
 
 abbrev pub shown_items : Tty → Shown → List Item
 shown_items t Nothing = []
 shown_items t (Code c) = printed t (c ∷ [])
 shown_items t LineEnd = printed t (13 ∷ 10 ∷ [])
-shown_items t Prompt = printed t (64 ∷ [])
 shown_items t Halted = printed t (stop_text AHalted)
 shown_items t (Forced channel) = printed t (stop_text (AForced channel))
-shown_items t (Refused cause) = Refusal cause ∷ []
 
 -- the limits of what is shown
 abbrev pub FitsShown : Shown → Type 0
 FitsShown Nothing = Unit {0}
 FitsShown (Code c) = c < 128
 FitsShown LineEnd = Unit {0}
-FitsShown Prompt = Unit {0}
 FitsShown Halted = Unit {0}
 FitsShown (Forced channel) = channel < 36
-FitsShown (Refused cause) = FitsCause cause
 
 -- whether the top fork has stopped
 abbrev pub is_stop : Shown → Bool
 is_stop Nothing = false
 is_stop (Code c) = false
 is_stop LineEnd = false
-is_stop Prompt = false
 is_stop Halted = true
 is_stop (Forced channel) = true
-is_stop (Refused cause) = false
 
 -- a character as a terminal shows it
 abbrev pub code_shown : ℕ → Shown

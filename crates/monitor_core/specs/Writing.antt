@@ -1,5 +1,5 @@
 -- A write through a fork's map, as the plain pages have it.
-use Rattle.std.specs.Prelude.{◌≡◌, ℕ, Bool}
+use Rattle.std.specs.Prelude.{◌≡◌, ℕ, Bool, Option, None, Some}
 use Rattle.plain_model.specs.declared.names.Slot.{Slot}
 use Rattle.plain_model.specs.declared.names.PageName.{PageName}
 use Rattle.plain_model.specs.declared.names.Kind.{Kind}
@@ -8,8 +8,8 @@ use Rattle.plain_model.specs.State.{PlainPages}
 use Rattle.plain_model.specs.References.{granted, denied, full, reference, stored}
 use Rattle.plain_model.specs.declared.names.Tty.{Tty}
 use Rattle.plain_model.specs.declared.event.Refusal.TheVariants.{Denied as ADenied, Full as AFull}
-use Rattle.monitor_core.specs.declared.shown.Shown.{Shown}
-use Rattle.monitor_core.specs.declared.shown.Shown.TheVariants.{Nothing, Refused}
+use Rattle.plain_model.specs.declared.event.Item.{Item}
+use Rattle.plain_model.specs.declared.event.Item.TheVariants.{Refusal}
 use Rattle.monitor_core.specs.declared.writing.Write.{Write}
 use Rattle.monitor_core.specs.declared.writing.Write.TheVariants.{Done, Denied, Full}
 
@@ -26,7 +26,7 @@ IsWritten filed p q s offset word Denied = (q ≡ p) × ((kind : Kind) × (refer
 IsWritten filed p q s offset word Full = (q ≡ p) × (reference filed p s ToWrite s.fork.tty ≡ full)
 
 -- what a poke of a terminal shows
-abbrev pub poke_shown : Tty → Write → Shown
-poke_shown t Done = Nothing
-poke_shown t Denied = Refused (ADenied t)
-poke_shown t Full = Refused (AFull t)
+abbrev pub poke_shown : Tty → Write → Option Item
+poke_shown t Done = None
+poke_shown t Denied = Some (Refusal (ADenied t))
+poke_shown t Full = Some (Refusal (AFull t))

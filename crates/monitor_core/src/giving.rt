@@ -1,15 +1,16 @@
-// What a step shows, given to a taker.
-ghost use Rattle.std.specs.Prelude.{◌≡◌, ◌<◌, ◌≤◌, [], ◌∷◌, All, OnOk, OnErr};
+// What is shown, and the steps that show it, given to a taker.
+ghost use Rattle.std.specs.Prelude.{◌<◌, ◌≤◌, [], ◌∷◌, All, OnOk, OnErr, IfSome, option_to_list};
 ghost use Rattle.outside.specs.Faults.{Rose};
 ghost use Rattle.plain_model.specs.Taker.{GoesOn, IsCut, StaysOnward};
-ghost use Rattle.plain_model.specs.Limits.{IsTerminal, FitsStep};
+ghost use Rattle.plain_model.specs.Limits.{IsTerminal, FitsItem, FitsStep};
 ghost use Rattle.plain_model.specs.Unit.{printed};
+ghost use Rattle.plain_model.specs.declared.event.Step.{Step as AStep};
 ghost use Rattle.monitor_core.specs.Shown.{shown_items, FitsShown};
 
 use crate::shown::Shown;
 use itoa::Buffer;
 use outside::Failed;
-use plain_model::{Item, Step, Taker, Tty};
+use plain_model::{Event, ForkName, Item, Step, Taker, Tty};
 
 // Gives the characters that a terminal prints.
 fn give_text<T: Taker>(out: &mut T, t: Tty, text: &[u8]) -> Result<(), Failed>
@@ -42,9 +43,8 @@ fn give_forced<T: Taker>(out: &mut T, t: Tty, channel: u8) -> Result<(), Failed>
     give_text(out, t, b"\r\n@")
 }
 
-/// Gives the items of what a step shows.
-#[inline]
-pub fn give_shown<T: Taker>(out: &mut T, t: Tty, shown: Shown) -> Result<(), Failed>
+// Gives the items of what a unit shows.
+fn give_shown<T: Taker>(out: &mut T, t: Tty, shown: Shown) -> Result<(), Failed>
     requires terminal { IsTerminal t }
     requires fits { FitsShown shown }
     ensures later { T.fault_count out.old ≤ T.fault_count out.new }
@@ -57,25 +57,52 @@ pub fn give_shown<T: Taker>(out: &mut T, t: Tty, shown: Shown) -> Result<(), Fai
         Shown::Nothing => Ok(()),
         Shown::Code(code) => out.item(Item::Char(t, code)),
         Shown::LineEnd => give_text(out, t, b"\r\n"),
-        Shown::Prompt => out.item(Item::Char(t, b'@')),
         Shown::Halted => give_text(out, t, b"\r\n@"),
         Shown::Forced(channel) => give_forced(out, t, channel),
-        Shown::Refused(refusal) => out.item(Item::Refusal(refusal)),
     }
 }
 
-/// Gives a step behind the items of what it shows.
-#[inline]
-pub fn give_step<T: Taker>(out: &mut T, t: Tty, shown: Shown, step: Step) -> Result<(), Failed>
-    requires terminal { IsTerminal t }
+/// Gives the unit of a fork behind the items of what it shows.
+#[inline(never)]
+pub fn give_unit<T: Taker>(out: &mut T, fork: ForkName, shown: Shown) -> Result<(), Failed>
+    requires terminal { IsTerminal fork.tty }
     requires fits { FitsShown shown }
-    requires step { FitsStep step }
+    requires step { FitsStep (AStep.Unit fork) }
     ensures later { T.fault_count out.old ≤ T.fault_count out.new }
     ensures cause { OnErr result (Rose (T.fault_count out.old) (T.fault_count out.new)) }
     ensures onward { StaysOnward T.onward out.old out.new }
-    ensures ok { OnOk result (GoesOn T.stands out.old out.new (shown_items t shown) (step ∷ [])) }
-    ensures err { OnErr result (IsCut T.stands T.cut out.old out.new (shown_items t shown) (step ∷ [])) }
+    ensures ok { OnOk result (GoesOn T.stands out.old out.new (shown_items fork.tty shown) (AStep.Unit fork ∷ [])) }
+    ensures err { OnErr result (IsCut T.stands T.cut out.old out.new (shown_items fork.tty shown) (AStep.Unit fork ∷ [])) }
 {
-    give_shown(out, t, shown)?;
-    out.step(step)
+    give_shown(out, fork.tty, shown)?;
+    out.step(Step::Unit(fork))
+}
+
+// Gives an item, where there is one.
+fn give_item<T: Taker>(out: &mut T, shown: Option<Item>) -> Result<(), Failed>
+    requires { IfSome shown FitsItem }
+    ensures later { T.fault_count out.old ≤ T.fault_count out.new }
+    ensures cause { OnErr result (Rose (T.fault_count out.old) (T.fault_count out.new)) }
+    ensures onward { StaysOnward T.onward out.old out.new }
+    ensures ok { OnOk result (GoesOn T.stands out.old out.new (option_to_list shown) []) }
+    ensures err { OnErr result (IsCut T.stands T.cut out.old out.new (option_to_list shown) []) }
+{
+    match shown {
+        Some(item) => out.item(item),
+        None => Ok(()),
+    }
+}
+
+/// Gives an event that is one step behind the item that it shows, where it shows one.
+pub fn give_event<T: Taker>(out: &mut T, shown: Option<Item>, e: Event) -> Result<(), Failed>
+    requires fits { IfSome shown FitsItem }
+    requires step { FitsStep (AStep.Outer e) }
+    ensures later { T.fault_count out.old ≤ T.fault_count out.new }
+    ensures cause { OnErr result (Rose (T.fault_count out.old) (T.fault_count out.new)) }
+    ensures onward { StaysOnward T.onward out.old out.new }
+    ensures ok { OnOk result (GoesOn T.stands out.old out.new (option_to_list shown) (AStep.Outer e ∷ [])) }
+    ensures err { OnErr result (IsCut T.stands T.cut out.old out.new (option_to_list shown) (AStep.Outer e ∷ [])) }
+{
+    give_item(out, shown)?;
+    out.step(Step::Outer(e))
 }

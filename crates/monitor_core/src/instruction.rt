@@ -1,5 +1,5 @@
 // What a word does as an instruction.
-ghost use Rattle.std.specs.Prelude.{◌≡◌, ◌<◌, ◌^◌, ℕ};
+ghost use Rattle.std.specs.Prelude.{◌≡◌};
 ghost use Rattle.plain_model.specs.Unit.{deed_of};
 ghost use Rattle.plain_model.specs.declared.fork.Regs.{Regs as ARegs};
 ghost use Rattle.monitor_core.specs.Instructions.{deed_by, IsInstruction};

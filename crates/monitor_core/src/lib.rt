@@ -1,4 +1,4 @@
-//! The monitor: one event after another, each a step of the plain machine; and its pages in memory alone.
+//! The monitor: one event after another, done in steps of the plain machine; and its pages in memory alone.
 //! To the layers above `Machine::event` gives a taker legal steps that follow the event, with their items.
 //! Stands on `plain_model` for the definitions and the contracts of pages and takers.
 #![tactic(auto)]

@@ -24,6 +24,8 @@ pub struct Machine<P: Pages> {
     jobs: Vec<Option<Job>>,
     /// The next fork serial of each terminal.
     fork_serials: Vec<u32>,
+    /// How many ticks there were.
+    clock: u64,
     /// From this terminal on there has been no job.
     terminals: u8,
     /// The terminal that is looked at first for the next unit: the one behind that which ran last.

@@ -11,7 +11,7 @@ use crate::held_page::{HeldPage, blank_pages};
 use crate::page_serials::PageSerials;
 use crate::space::{Space, no_spaces};
 use outside::Memory;
-use plain_model::{ForkName, Home, Kind, NewMap, PageName, Pages, Place, Slot, Touch, Tty};
+use plain_model::{ForkName, Home, Kind, NewMap, PageName, Pages, Peeked, Place, Slot, Touch, Tty};
 use std::alloc::Global;
 use word36::Word;
 
@@ -162,6 +162,17 @@ impl Pages for PlainStore {
             }
         }
         Word::ZERO
+    }
+
+    // Each entry is empty or names a page, whose words are in memory.
+    fn peek(&self, at: Place, offset: u16) -> Peeked {
+        match at {
+            Place::Fork(slot) => match self.entry(slot) {
+                Some(home) => Peeked::Is(self.homes[home.0 as usize].words[offset as usize]),
+                None => Peeked::NoPage,
+            },
+            Place::File(_, _) => Peeked::NoPage,
+        }
     }
 
     fn settle(&mut self, at: Place, kind: Kind, owner: Tty) {

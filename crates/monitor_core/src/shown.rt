@@ -1,10 +1,8 @@
-// What a step shows at a terminal.
+// What a unit shows at a terminal.
 ghost use Rattle.std.specs.Prelude.{◌≡◌};
 ghost use Rattle.monitor_core.specs.Shown.{is_stop as is_stop_of};
 
-use plain_model::Refusal;
-
-/// What one step shows, at the terminal of its job.
+/// What one unit shows, at the terminal of its job.
 #[derive(Clone, Copy, Debug, PartialEq, Eq)]
 pub enum Shown {
     Nothing,
@@ -12,14 +10,10 @@ pub enum Shown {
     Code(u8),
     /// The end of a line, as carriage return and line feed.
     LineEnd,
-    /// The sign that the monitor waits for a command.
-    Prompt,
     /// The top fork has halted.
     Halted,
     /// The top fork was forced by a channel.
     Forced(u8),
-    /// An event was refused.
-    Refused(Refusal),
 }
 
 impl Shown {
@@ -30,8 +24,7 @@ impl Shown {
     {
         match self {
             Shown::Halted | Shown::Forced(_) => true,
-            Shown::Nothing | Shown::Code(_) | Shown::LineEnd | Shown::Prompt | Shown::Refused(_) =>
-                false,
+            Shown::Nothing | Shown::Code(_) | Shown::LineEnd => false,
         }
     }
 }

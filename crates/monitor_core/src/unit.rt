@@ -1,6 +1,6 @@
 // One unit, as far as it concerns its own fork.
-ghost use Rattle.std.specs.Prelude.{◌≡◌, ◌<◌, ◌+◌, ◌%◌, ◌^◌, length, true, false, slice_index};
-ghost use Rattle.plain_model.specs.Forks.{counted, with_regs, with_status};
+ghost use Rattle.std.specs.Prelude.{◌≡◌, ◌<◌, ◌+◌, ◌%◌, ◌^◌, length, true, false};
+ghost use Rattle.plain_model.specs.Forks.{counted};
 ghost use Rattle.plain_model.specs.Interrupts.{posted, is_panic};
 ghost use Rattle.plain_model.specs.Unit.{advanced};
 ghost use Rattle.monitor_core.specs.Instructions.{deed_by, IsInstruction};

@@ -50,7 +50,7 @@ user : IsDirName (codes "SMITH")
 user = (at_most 1 5 refl, at_most 5 12 refl, AllPass-from_list_all is_name_code (codes "SMITH") refl)
 
 line_1 : Gives (codes "LOGIN 0 SMITH") (Login first_terminal (codes "SMITH") ∷ [])
-line_1 = gives (codes "LOGIN 0 SMITH") (Login first_terminal (codes "SMITH")) refl refl (codes "0", refl, terminal, user) refl
+line_1 = gives (codes "LOGIN 0 SMITH") (Login first_terminal (codes "SMITH")) refl refl (codes "0", refl, terminal, user) tt
 
 line_2 : Gives (codes "POKE 0 100 201040000101") (Poke first_terminal 64 movei_word ∷ [])
 line_2 =
@@ -62,7 +62,7 @@ line_2 =
       terminal,
       octal_field 6 (codes "100") 64 refl refl refl refl,
       octal_field 12 (codes "201040000101") movei_word refl refl refl refl,
-    ) refl
+    ) tt
 
 line_3 : Gives (codes "POKE 0 101 104000000074") (Poke first_terminal 65 pbout_word ∷ [])
 line_3 =
@@ -74,7 +74,7 @@ line_3 =
       terminal,
       octal_field 6 (codes "101") 65 refl refl refl refl,
       octal_field 12 (codes "104000000074") pbout_word refl refl refl refl,
-    ) refl
+    ) tt
 
 line_4 : Gives (codes "POKE 0 102 104000000170") (Poke first_terminal 66 haltf_word ∷ [])
 line_4 =
@@ -86,10 +86,10 @@ line_4 =
       terminal,
       octal_field 6 (codes "102") 66 refl refl refl refl,
       octal_field 12 (codes "104000000170") haltf_word refl refl refl refl,
-    ) refl
+    ) tt
 
 line_5 : Gives (codes "START 0 100") (Start first_terminal 64 ∷ [])
-line_5 = gives (codes "START 0 100") (Start first_terminal 64) refl refl (codes "0", codes "100", refl, terminal, octal_field 6 (codes "100") 64 refl refl refl refl) refl
+line_5 = gives (codes "START 0 100") (Start first_terminal 64) refl refl (codes "0", codes "100", refl, terminal, octal_field 6 (codes "100") 64 refl refl refl refl) tt
 
 line_6 : Gives (codes "RUN 5") (Run 5 ∷ [])
 line_6 = gives (codes "RUN 5") (Run 5) refl refl (codes "5", refl, decimal_field 7 (codes "5") 5 refl refl refl refl, at_most 1 5 refl, at_most 5 1000000 refl) tt

@@ -5,7 +5,7 @@ use Rattle.plain_model.specs.declared.event.Event.{Event}
 use Rattle.plain_model.specs.declared.event.Item.{Item}
 use Rattle.plain_model.specs.declared.event.Step.{Step}
 use Rattle.plain_model.specs.State.{PlainState}
-use Rattle.plain_model.specs.Run.{apply, state_after, items_of, AreLegal, AreTurns, Follows, FollowsOne, IsLegal, auto_after}
+use Rattle.plain_model.specs.Run.{apply, state_after, items_of, AreLegal, AreTurns, Follows, FollowsOne, IsLegal, auto_after, auto_behind}
 use Rattle.plain_model.specs.Taker.{GoesOn, IsCut, StaysOnward, max_steps}
 use Rattle.plain_model.specs.Outcome.{Gave, GaveCut}
 
@@ -30,11 +30,6 @@ pub Follows-push : (es : List Event) (e : Event) (xs ys : List Step) → Follows
 Follows-push [] e xs ys a b = (ys, [], ap (λ l. l ++ ys) a ∙ sym (append-nil ys), b, refl)
 Follows-push (f ∷ es) e xs ys a b =
     (a.0, a.1 ++ ys, ap (λ l. l ++ ys) a.2 ∙ append_assoc a.0 a.1 ys, a.3, Follows-push es e a.1 ys a.4 b)
-
--- the AUTO mark behind events
-abbrev pub auto_behind : Bool → List Event → Bool
-auto_behind auto [] = auto
-auto_behind auto (e ∷ es) = auto_behind (auto_after auto e) es
 
 pub IsLegal-push : (auto : Bool) (s : PlainState) (es : List Event) (e : Event) (xs ys : List Step) → IsLegal auto s es xs → FollowsOne e ys → AreLegal (auto_behind auto es) (state_after s xs) ys
     → IsLegal auto s (es ++ e ∷ []) (xs ++ ys)

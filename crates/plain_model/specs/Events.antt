@@ -1,8 +1,9 @@
 -- The events of a script that are one step of the plain machine.
-use Rattle.std.specs.Prelude.{ℕ, ◌+◌, ◌%◌, List, [], ◌∷◌, Bool, false, nat_lt, Option, None, Some, if◌then◌else◌, slice_index, slice_set, replicate, is_some}
+use Rattle.std.specs.Prelude.{ℕ, ◌+◌, ◌%◌, List, [], ◌∷◌, map, Bool, false, nat_lt, Option, None, Some, if◌then◌else◌, slice_index, slice_set, replicate, is_some}
 use Rattle.std.specs.FinMap as map
 use Rattle.plain_model.specs.declared.names.Tty.{Tty}
 use Rattle.plain_model.specs.declared.names.ForkName.{ForkName}
+use Rattle.plain_model.specs.declared.names.PageName.{PageName}
 use Rattle.plain_model.specs.declared.names.Slot.{Slot}
 use Rattle.plain_model.specs.declared.names.Kind.TheVariants.{Write}
 use Rattle.plain_model.specs.declared.map.MapEntry.TheVariants.{Empty}
@@ -11,13 +12,13 @@ use Rattle.plain_model.specs.declared.fork.ForkStatus.TheVariants.{Run as Runnin
 use Rattle.plain_model.specs.declared.fork.Fork.{Fork}
 use Rattle.plain_model.specs.declared.event.Event.{Event}
 use Rattle.plain_model.specs.declared.event.Event.TheVariants.{Login, TypeIn, File, Words, Poke, Start, Run, Tick, Evict, Drum, Auto, Examine, Forks, Page, Trace}
-use Rattle.plain_model.specs.declared.event.Item.TheVariants.{Char, Refusal}
+use Rattle.plain_model.specs.declared.event.Item.TheVariants.{Char, ForkLine, Examined, Refusal}
 use Rattle.plain_model.specs.declared.event.Refusal.{Refusal as Cause}
-use Rattle.plain_model.specs.declared.event.Refusal.TheVariants.{Busy, NoJob, SerialsOut, Full, Denied}
+use Rattle.plain_model.specs.declared.event.Refusal.TheVariants.{Busy, NoJob, SerialsOut, Full, Denied, NoFork, NoPage}
 use Rattle.plain_model.specs.State.{PlainState, PlainPages, PlainJob, Map}
 use Rattle.plain_model.specs.Room.{HasRoom}
-use Rattle.plain_model.specs.References.{Referred, granted, denied, full, reference, stored}
-use Rattle.plain_model.specs.Forks.{top_fork, with_fork, with_regs}
+use Rattle.plain_model.specs.References.{Referred, granted, denied, full, reference, stored, words_of, page_at}
+use Rattle.plain_model.specs.Forks.{top_fork, with_fork, with_regs, forks_by_slot, fork_line}
 use Rattle.plain_model.specs.Unit.{Effect, slot_at, is_filed}
 
 abbrev pub refused : PlainState → Cause → Effect
@@ -93,6 +94,36 @@ start_of s t address (Some j) = record {
 abbrev pub start : PlainState → Tty → ℕ → Effect
 start s t address = start_of s t address (map.get s.jobs t.0)
 
+abbrev pub examined : PlainState → Tty → ℕ → ℕ → ℕ → Effect
+examined s t serial address word = record { state = s; items = Examined t serial address word ∷ [] }
+
+abbrev pub examine_page : PlainState → Tty → ℕ → ℕ → Option PageName → Effect
+examine_page s t serial address None = refused s (NoPage t)
+examine_page s t serial address (Some n) = examined s t serial address (slice_index (words_of s.pages n) (address % 512))
+
+abbrev pub examine_fork : PlainState → Tty → ℕ → ℕ → Option Fork → Effect
+examine_fork s t serial address None = refused s (NoFork t)
+examine_fork s t serial address (Some f) =
+    if nat_lt address 16 then examined s t serial address (slice_index f.body.regs.ac address)
+    else examine_page s t serial address (page_at s.pages (slot_at f.name address))
+
+abbrev pub examine_of : PlainState → Tty → ℕ → ℕ → Option PlainJob → Effect
+examine_of s t serial address None = refused s (NoJob t)
+examine_of s t serial address (Some j) = examine_fork s t serial address (map.get s.forks (record { tty = t; serial = serial }))
+
+-- EXAMINE: the word at an address of a fork, whatever its access; nothing is made, and addresses below
+-- 16 are its accumulators
+abbrev pub examine : PlainState → Tty → ℕ → ℕ → Effect
+examine s t serial address = examine_of s t serial address (map.get s.jobs t.0)
+
+abbrev pub show_forks_of : PlainState → Tty → Option PlainJob → Effect
+show_forks_of s t None = refused s (NoJob t)
+show_forks_of s t (Some j) = record { state = s; items = map (λ f. ForkLine (fork_line s.forks f)) (forks_by_slot s.forks t) }
+
+-- FORKS: a job's forks by slot
+abbrev pub show_forks : PlainState → Tty → Effect
+show_forks s t = show_forks_of s t (map.get s.jobs t.0)
+
 -- TICK: the clock goes on by one
 abbrev pub tick : PlainState → Effect
 tick s = record { state = record s { clock = s.clock + 1 }; items = [] }
@@ -114,7 +145,7 @@ outer s Tick = tick s
 outer s (Evict n) = record { state = s; items = [] }
 outer s (Drum n) = record { state = s; items = [] }
 outer s (Auto on) = record { state = s; items = [] }
-outer s (Examine t serial address) = record { state = s; items = [] }
-outer s (Forks t) = record { state = s; items = [] }
+outer s (Examine t serial address) = examine s t serial address
+outer s (Forks t) = show_forks s t
 outer s (Page name page) = record { state = s; items = [] }
 outer s (Trace on) = traced s on

@@ -1,5 +1,5 @@
 -- Forks: which can run, and how they begin and end (CACM paper, "Forks").
-use Rattle.std.specs.Prelude.{◌≡◌, ℕ, zero, suc, ◌+◌, Bool, false, ◌||◌, ◌&&◌, Option, None, Some, ◌==◌, find, replicate}
+use Rattle.std.specs.Prelude.{◌≡◌, ℕ, zero, suc, ◌+◌, List, [], ◌∷◌, Bool, false, ◌||◌, ◌&&◌, Option, None, Some, ◌==◌, find, replicate}
 use Rattle.std.specs.FinMap as map
 use Rattle.word36.specs.declared.flags.Flags.{Flags}
 use Rattle.plain_model.specs.declared.names.Tty.{Tty}
@@ -9,6 +9,7 @@ use Rattle.plain_model.specs.declared.fork.ForkStatus.TheVariants.{Run, Halted}
 use Rattle.plain_model.specs.declared.fork.Regs.{Regs}
 use Rattle.plain_model.specs.declared.fork.Psi.{Psi}
 use Rattle.plain_model.specs.declared.fork.Fork.{Fork}
+use Rattle.plain_model.specs.declared.event.ForkLine.{ForkLine}
 use Rattle.plain_model.specs.Orders.{fork_cmp}
 use Rattle.plain_model.specs.State.{PlainState}
 
@@ -32,6 +33,33 @@ is_frozen (suc n) forks (Some f) = f.frozen || is_frozen n forks (fork_in_slot f
 -- a fork that can run: it lives, its status is Run, and neither it nor an ancestor is frozen
 abbrev pub IsRunnable : PlainState → ForkName → Type 0
 IsRunnable s f = (k : Fork) × (map.get s.forks f ≡ Some k) × (k.body.status ≡ Run) × (is_frozen 30 s.forks (Some k) ≡ false)
+
+-- a job's forks in so many slots, from one on
+abbrev pub joined_by : Option Fork → List Fork → List Fork
+joined_by None fs = fs
+joined_by (Some f) fs = f ∷ fs
+
+abbrev pub forks_from : ForkMap → Tty → ℕ → ℕ → List Fork
+forks_from forks t slot zero = []
+forks_from forks t slot (suc n) = joined_by (fork_in forks t slot) (forks_from forks t (slot + 1) n)
+
+-- a job's forks by slot
+abbrev pub forks_by_slot : ForkMap → Tty → List Fork
+forks_by_slot forks t = forks_from forks t 1 30
+
+abbrev pub serial_or_none : Option Fork → ℕ
+serial_or_none None = 0
+serial_or_none (Some f) = f.name.serial
+
+-- a fork as the machine shows it
+abbrev pub fork_line : ForkMap → Fork → ForkLine
+fork_line forks f = record {
+  name = f.name;
+  superior = serial_or_none (fork_in_slot forks f.name.tty f.superior);
+  status = f.body.status;
+  frozen = f.frozen;
+  address = f.body.regs.pc;
+}
 
 -- no flag is set
 unfoldable pub no_flags : Flags

@@ -9,8 +9,9 @@ pub mod Interrupts
 pub mod Unit
 pub mod Events
 pub mod Run
-pub mod Limits
 pub mod Texts
+pub mod Limits
+pub mod Entries
 pub mod Script
 pub mod Taker
 pub mod Outcome

@@ -15,6 +15,7 @@ use Rattle.plain_model.specs.declared.event.Step.{Step}
 use Rattle.plain_model.specs.declared.event.Step.TheVariants.{Outer, Unit as AUnit, Idle}
 use Rattle.plain_model.specs.declared.event.WordRow.{WordRow}
 use Rattle.plain_model.specs.Run.{single, shape_of}
+use Rattle.plain_model.specs.Texts.{line_of}
 
 abbrev pub IsTerminal : Tty → Type 0
 IsTerminal t = t.0 < 16
@@ -55,10 +56,10 @@ pub record FitsRow (offset : ℕ) (row : WordRow) : Type 0 where
   pub rest : All (λ w. w ≡ 0) (drop row.count row.words)
   pub within : offset + row.count ≤ 512
 
--- the limits of an event
+-- the limits of an event; its canonical line has at most 256 bytes, as only what is typed could have more
 abbrev pub FitsEvent : Event → Type 0
 FitsEvent (Login t user) = IsTerminal t × IsDirName user
-FitsEvent (TypeIn t text) = IsTerminal t × (1 ≤ length text) × (length text ≤ 100) × All (λ c. c < 128) text
+FitsEvent (TypeIn t text) = IsTerminal t × (1 ≤ length text) × (length text ≤ 100) × All (λ c. c < 128) text × (length (line_of (TypeIn t text)) ≤ 256)
 FitsEvent (File name) = IsFileName name
 FitsEvent (Words name page offset row) = IsFileName name × (page < 512) × FitsRow offset row
 FitsEvent (Poke t address word) = IsTerminal t × IsAddress address × (word < 2 ^ 36)
@@ -73,21 +74,21 @@ FitsEvent (Forks t) = IsTerminal t
 FitsEvent (Page name page) = IsFileName name × (page < 512)
 FitsEvent (Trace on) = Unit {0}
 
--- the events that the machine acts on: those of these lines, with terminal 0
+-- the events that the machine acts on
 abbrev pub IsBuilt : Event → Type 0
-IsBuilt (Login t user) = t.0 ≡ 0
+IsBuilt (Login t user) = Unit {0}
 IsBuilt (TypeIn t text) = ⊥
 IsBuilt (File name) = ⊥
 IsBuilt (Words name page offset row) = ⊥
-IsBuilt (Poke t address word) = t.0 ≡ 0
-IsBuilt (Start t address) = t.0 ≡ 0
+IsBuilt (Poke t address word) = Unit {0}
+IsBuilt (Start t address) = Unit {0}
 IsBuilt (Run n) = Unit {0}
-IsBuilt Tick = ⊥
-IsBuilt (Evict n) = ⊥
-IsBuilt (Drum n) = ⊥
-IsBuilt (Auto on) = ⊥
-IsBuilt (Examine t serial address) = ⊥
-IsBuilt (Forks t) = ⊥
+IsBuilt Tick = Unit {0}
+IsBuilt (Evict n) = Unit {0}
+IsBuilt (Drum n) = Unit {0}
+IsBuilt (Auto on) = Unit {0}
+IsBuilt (Examine t serial address) = Unit {0}
+IsBuilt (Forks t) = Unit {0}
 IsBuilt (Page name page) = ⊥
 IsBuilt (Trace on) = ⊥
 

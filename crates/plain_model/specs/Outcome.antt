@@ -1,10 +1,10 @@
 -- What one event of a machine did, over what its drum tells.
-use Rattle.std.specs.Prelude.{◌≡◌, ◌⊎◌, ℕ, ◌+◌, List, length, Bool, true, Option, Some}
+use Rattle.std.specs.Prelude.{◌≡◌, ◌⊎◌, ℕ, ◌+◌, List, ◌++◌, length, Bool, true, Option, Some}
 use Rattle.plain_model.specs.declared.event.Event.{Event}
 use Rattle.plain_model.specs.declared.event.Item.{Item}
 use Rattle.plain_model.specs.declared.event.Step.{Step}
 use Rattle.plain_model.specs.State.{PlainState}
-use Rattle.plain_model.specs.Run.{FollowsOne, Begins, AreLegal, state_after, items_of}
+use Rattle.plain_model.specs.Run.{FollowsOne, Begins, Unfinished, ShownFirst, AreLegal, state_after, items_of}
 use Rattle.plain_model.specs.Taker.{GoesOn, IsCut}
 
 -- the words of a drum, one list a page
@@ -26,6 +26,13 @@ pub record GaveCut {T : Type 0} (stands cut : T → T → List Item → List Ste
   pub legal : AreLegal auto old steps
   pub given : IsCut stands cut out out' (items_of old steps) steps
 
+-- the legal steps of an event that was not finished were given, and what was shown of one that was not
+pub record GaveSoFar {T : Type 0} (stands : T → T → List Item → List Step → Type 0) (out out' : T) (auto : Bool) (event : Event) (old : PlainState) (steps : List Step) : Type 0 where
+  pub shown : List Item
+  pub legal : AreLegal auto old steps
+  pub first : ShownFirst (state_after old steps) event shown
+  pub given : GoesOn stands out out' (items_of old steps ++ shown) steps
+
 -- A machine and its drum before and after: which words of a drum fit the machine, and the plain state
 -- that it then stands for.
 module _ {M D T : Type 0} (flat : Bool) (fits : M → DrumWords → Type 0) (plain : M → DrumWords → PlainState) (held : D → Option DrumWords) where
@@ -39,8 +46,8 @@ module _ {M D T : Type 0} (flat : Bool) (fits : M → DrumWords → Type 0) (pla
     pub each : (d : DrumWords) → Stands flat (held drum) d → fits m d → GaveCut stands cut out out' auto (plain m d) steps
 
   -- over what the drum told, these steps were given before the drum failed
-  pub record GaveBefore (stands : T → T → List Item → List Step → Type 0) (m : M) (drum : D) (out out' : T) (auto : Bool) (steps : List Step) : Type 0 where
-    pub each : (d : DrumWords) → Stands flat (held drum) d → fits m d → (last : PlainState) × Gave stands out out' auto (plain m d) last steps
+  pub record GaveBefore (stands : T → T → List Item → List Step → Type 0) (m : M) (drum : D) (out out' : T) (auto : Bool) (event : Event) (steps : List Step) : Type 0 where
+    pub each : (d : DrumWords) → Stands flat (held drum) d → fits m d → GaveSoFar stands out out' auto event (plain m d) steps
 
   -- an event went: its steps follow it and were given; so many entries and events more are done
   pub record Went (stands : T → T → List Item → List Step → Type 0) (m m' : M) (drum drum' : D) (out out' : T) (auto : Bool) (event : Event) (done done' : ℕ) : Type 0 where
@@ -49,11 +56,11 @@ module _ {M D T : Type 0} (flat : Bool) (fits : M → DrumWords → Type 0) (pla
     pub count : done' ≡ done + length steps + 1
     pub told : GaveOver stands m m' drum drum' out out' auto steps
 
-  -- the drum failed: the steps that were given are a beginning of the event's
+  -- the drum failed: of the event, the steps that were given are the turns so far, or none
   pub record Stopped (stands : T → T → List Item → List Step → Type 0) (m : M) (drum : D) (out out' : T) (auto : Bool) (event : Event) : Type 0 where
     pub steps : List Step
-    pub begins : Begins event steps
-    pub told : GaveBefore stands m drum out out' auto steps
+    pub unfinished : Unfinished event steps
+    pub told : GaveBefore stands m drum out out' auto event steps
 
   -- the taker failed: it is cut within steps with which the event's may begin
   pub record CutOff (stands cut : T → T → List Item → List Step → Type 0) (m : M) (drum : D) (out out' : T) (auto : Bool) (event : Event) : Type 0 where

@@ -1,5 +1,5 @@
 -- What the calls on pages answer and leave: over the plain pages, and over what is in frames.
-use Rattle.std.specs.Prelude.{◌≡◌, ◌⊎◌, ℕ, ◌<◌, List, [], ◌∷◌, Bool, true, false, not, ◌&&◌, nat_le, Option, None, Some, if◌then◌else◌, ◌==◌}
+use Rattle.std.specs.Prelude.{◌≡◌, ◌⊎◌, ℕ, ◌<◌, List, [], ◌∷◌, Bool, true, false, not, ◌&&◌, nat_le, Option, None, Some, if◌then◌else◌, ◌==◌, slice_index}
 use Rattle.std.specs.List.{list_all}
 use Rattle.std.specs.FinMap as map
 use Rattle.plain_model.specs.declared.names.Tty.{Tty}
@@ -16,10 +16,12 @@ use Rattle.plain_model.specs.declared.map.NewMap.{NewMap}
 use Rattle.plain_model.specs.declared.map.NewMap.TheVariants.{Empty as EmptyMap, FollowAll}
 use Rattle.plain_model.specs.declared.map.Touch.{Touch}
 use Rattle.plain_model.specs.declared.map.Touch.TheVariants.{Ready, Zero, Copy, Absent, NeedFrame, Denied, Full}
+use Rattle.plain_model.specs.declared.map.Peeked.{Peeked}
+use Rattle.plain_model.specs.declared.map.Peeked.TheVariants.{Is, Absent as Away, NoPage}
 use Rattle.plain_model.specs.State.{PlainPages, page_serial}
 use Rattle.plain_model.specs.Maps.{Link, trail, chain, chain_end, permits}
 use Rattle.plain_model.specs.Room.{live}
-use Rattle.plain_model.specs.References.{Referred, granted, denied, full, reference, zero_page, private_copy, new_page, words_of, first_copied, is_named, word_at, stored}
+use Rattle.plain_model.specs.References.{Referred, granted, denied, full, reference, zero_page, private_copy, new_page, words_of, first_copied, is_named, page_at, word_at, stored}
 
 -- What is in frames: for each fork the home of its map and for each page its home, where that is in no
 -- frame; and how many frames are free.
@@ -92,6 +94,29 @@ way_touch filed p scene s kind None = granted_touch filed p scene s kind (refere
 abbrev pub touch_of : (PageName → Bool) → PlainPages → Scene → Place → Kind → Touch
 touch_of filed p scene (Fork s) kind = way_touch filed p scene s kind (first_away scene (trail 4 p.maps (Some s)))
 touch_of filed p scene (File f page) kind = Denied kind
+
+abbrev pub peek_page : PlainPages → PageName → ℕ → Option ℕ → Peeked
+peek_page p n offset (Some home) = Away (record { 0 = home })
+peek_page p n offset None = Is (slice_index (words_of p n) offset)
+
+abbrev pub peek_end : PlainPages → Scene → ℕ → Option PageName → Peeked
+peek_end p scene offset None = NoPage
+peek_end p scene offset (Some n) = peek_page p n offset (scene.page_away n)
+
+abbrev pub peek_way : PlainPages → Scene → Slot → ℕ → Option ℕ → Peeked
+peek_way p scene s offset (Some home) = Away (record { 0 = home })
+peek_way p scene s offset None = peek_end p scene offset (page_at p s)
+
+-- what a look at a word finds, whatever the access: the maps on the way, the page, its frame
+abbrev pub peek_of : PlainPages → Scene → Place → ℕ → Peeked
+peek_of p scene (Fork s) offset = peek_way p scene s offset (first_away scene (trail 4 p.maps (Some s)))
+peek_of p scene (File f page) offset = NoPage
+
+-- a look that finds what it wants in frames
+abbrev pub is_seen : Peeked → Bool
+is_seen (Is word) = true
+is_seen (Away home) = false
+is_seen NoPage = true
 
 abbrev pub copied_end : (PageName → Bool) → PlainPages → Link → MapEntry → Bool → Tty → PlainPages
 copied_end filed p l Empty executes owner = p

@@ -1,6 +1,7 @@
 -- Entries, the plain run over them, and which entries a script's events may have.
-use Rattle.std.specs.Prelude.{◌≡◌, ℕ, ◌≤◌, List, [], ◌∷◌, ◌++◌, length, Bool, true, false, Option, None, Some}
+use Rattle.std.specs.Prelude.{◌≡◌, ◌⊎◌, ℕ, ◌≤◌, List, [], ◌∷◌, ◌++◌, length, Bool, true, false, Option, None, Some}
 use Rattle.std.specs.FinMap as map
+use Rattle.plain_model.specs.declared.names.Tty.{Tty}
 use Rattle.plain_model.specs.declared.names.ForkName.{ForkName}
 use Rattle.plain_model.specs.declared.fork.Fork.{Fork}
 use Rattle.plain_model.specs.declared.event.Event.{Event}
@@ -93,6 +94,20 @@ BeginsShape single e steps = steps ≡ Outer e ∷ []
 abbrev pub Begins : Event → List Step → Type 0
 Begins e steps = BeginsShape (shape_of e) e steps
 
+-- the entries of an event that was not finished: turns of a RUN, as many as were given, and else none
+abbrev pub UnfinishedShape : Shape → List Step → Type 0
+UnfinishedShape silent steps = steps ≡ []
+UnfinishedShape (turns n) steps = (length steps ≤ n) × AreTurns steps
+UnfinishedShape single steps = steps ≡ []
+
+abbrev pub Unfinished : Event → List Step → Type 0
+Unfinished e steps = UnfinishedShape (shape_of e) steps
+
+-- what was shown of an event whose own step was not given: the first items of a TYPE, and else nothing
+abbrev pub ShownFirst : PlainState → Event → List Item → Type 0
+ShownFirst s e items =
+    (items ≡ []) ⊎ ((t : Tty) × (text : List ℕ) × (rest : List Item) × (e ≡ TypeIn t text) × ((outer s e).items ≡ items ++ rest))
+
 -- the entries are those of the events in order
 abbrev pub Follows : List Event → List Step → Type 0
 Follows [] steps = steps ≡ []
@@ -115,6 +130,11 @@ auto_after auto (Examine t serial address) = auto
 auto_after auto (Forks t) = auto
 auto_after auto (Page name page) = auto
 auto_after auto (Trace on) = auto
+
+-- the AUTO mark behind events
+abbrev pub auto_behind : Bool → List Event → Bool
+auto_behind auto [] = auto
+auto_behind auto (e ∷ es) = auto_behind (auto_after auto e) es
 
 -- a unit is of a fork that can run there; an idle entry under AUTO ON stands where none can
 abbrev pub IsLegalStep : Bool → PlainState → Step → Type 0

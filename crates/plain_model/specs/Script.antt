@@ -43,11 +43,11 @@ abbrev pub WordFields : List ℕ → List ℕ → Type 0
 WordFields text [] = text ≡ []
 WordFields text (w ∷ ws) = (front : List ℕ) × (rest : List ℕ) × (text ≡ field front ++ rest) × IsOctal 12 front w × WordFields rest ws
 
--- a line spells an event
+-- a line of at most 256 bytes spells an event; only what is typed could be longer
 abbrev pub Spells : List ℕ → Event → Type 0
 Spells line (Login t user) = (a : List ℕ) × (line ≡ codes "LOGIN " ++ (a ++ field user)) × IsTty a t × IsDirName user
 Spells line (TypeIn t text) =
-    (a : List ℕ) × (b : List ℕ) × (line ≡ codes "TYPE " ++ (a ++ field b)) × IsTty a t × Types b text × (1 ≤ length text) × (length text ≤ 100)
+    (a : List ℕ) × (b : List ℕ) × (line ≡ codes "TYPE " ++ (a ++ field b)) × IsTty a t × Types b text × (1 ≤ length text) × (length text ≤ 100) × (length line ≤ 256)
 Spells line (File name) = (line ≡ codes "FILE " ++ name) × IsFileName name
 Spells line (Words name page offset row) =
     (a : List ℕ) × (b : List ℕ) × (c : List ℕ) × (line ≡ codes "WORDS " ++ (name ++ (field a ++ (field b ++ c)))) × IsFileName name
@@ -74,10 +74,6 @@ HasNoFeed bytes = All (λ c. c ≢ 10) bytes
 abbrev pub IsBlank : List ℕ → Type 0
 IsBlank line = (line ≡ []) ⊎ ((rest : List ℕ) × (line ≡ 59 ∷ rest))
 
--- whether blank lines are passed over: they are not built
-abbrev pub PassesBlanks : Type 0
-PassesBlanks = ⊥
-
 -- a line without its line feed has no line feed in it and at most 256 bytes
 pub record IsShort (line : List ℕ) : Type 0 where
   pub short : length line ≤ 256
@@ -91,7 +87,7 @@ pub record Means (line : List ℕ) (event : Event) : Type 0 where
 -- a line is one of the script, and gives these events: one, or none
 abbrev pub Gives : List ℕ → List Event → Type 0
 Gives line events =
-    IsShort line × (((e : Event) × Means line e × (events ≡ e ∷ [])) ⊎ (PassesBlanks × IsBlank line × (events ≡ [])))
+    IsShort line × (((e : Event) × Means line e × (events ≡ e ∷ [])) ⊎ (IsBlank line × (events ≡ [])))
 
 -- the bytes of lines, each with its line feed
 abbrev pub joined : List (List ℕ) → List ℕ
@@ -103,13 +99,13 @@ GiveAll [] events = events ≡ []
 GiveAll (l ∷ ls) events = (mine : List Event) × (rest : List Event) × (events ≡ mine ++ rest) × Gives l mine × GiveAll ls rest
 
 -- how many turns an event asks for
+abbrev pub turns_asked : Shape → ℕ
+turns_asked silent = 0
+turns_asked (turns n) = n
+turns_asked single = 0
+
 abbrev pub turns_of : Event → ℕ
-turns_of e = asked (shape_of e)
-  where
-    asked : Shape → ℕ
-    asked silent = 0
-    asked (turns n) = n
-    asked single = 0
+turns_of e = turns_asked (shape_of e)
 
 -- how many turns events ask for
 abbrev pub turns_in : List Event → ℕ
@@ -140,7 +136,7 @@ pub record IsScript (text : List ℕ) (events : List Event) : Type 0 where
 -- a line that is none of the script, or asks for too many turns behind those before it
 abbrev pub IsBadLine : ℕ → List ℕ → Type 0
 IsBadLine so_far line =
-    (256 < length line) ⊎ (((e : Event) → Means line e → ⊥) × (PassesBlanks → IsBlank line → ⊥)) ⊎ ((e : Event) × Means line e × (most_turns < so_far + turns_of e))
+    (256 < length line) ⊎ (((e : Event) → Means line e → ⊥) × (IsBlank line → ⊥)) ⊎ ((e : Event) × Means line e × (most_turns < so_far + turns_of e))
 
 -- Behind so many bytes and turns the text goes on with a bad line: one that ends within the limit, or
 -- a last one without a line feed.

@@ -1,5 +1,5 @@
 -- The texts of a run: the canonical lines of events, the transcript of items, the record of entries.
-use Rattle.std.specs.Prelude.{◌≡◌, ℕ, ◌+◌, List, [], ◌∷◌, ◌++◌, codes, decimal, take, Bool, true, false, ◌||◌, ◌&&◌, nat_lt, Option, None, Some, if◌then◌else◌, ◌==◌}
+use Rattle.std.specs.Prelude.{ℕ, ◌+◌, List, [], ◌∷◌, ◌++◌, codes, decimal, take, Bool, true, false, ◌||◌, ◌&&◌, nat_lt, Option, None, Some, if◌then◌else◌, ◌==◌}
 use Rattle.std.specs.List.{flat_map}
 use Rattle.word36.specs.Octal.{octal_padded}
 use Rattle.plain_model.specs.declared.names.ForkName.{ForkName}
@@ -214,7 +214,3 @@ counts_line reads writes = ended (codes "E " ++ (decimal reads ++ field (decimal
 -- the record of a run's entries
 abbrev pub record_text : List Step → ℕ → ℕ → List ℕ
 record_text ss reads writes = record_after None ss ++ counts_line reads writes
-
--- these are the entries of a record
-abbrev pub EntriesOf : List ℕ → List Step → Type 0
-EntriesOf text steps = (reads : ℕ) × (writes : ℕ) × (text ≡ record_text steps reads writes)

@@ -1,4 +1,7 @@
 // What a script does to the machine, what the machine shows, and what it did.
+ghost use Rattle.std.specs.Prelude.{◌↔◌, IsTrue};
+ghost use Rattle.plain_model.specs.Limits.{IsBuilt};
+
 use crate::{DirName, FileName, ForkName, ForkStatus, Tty, TypedText};
 use word36::Word;
 
@@ -42,6 +45,31 @@ pub enum Event {
     Page(FileName, u16),
     /// Whether each unit is shown; true is ON.
     Trace(bool),
+}
+
+impl Event {
+    /// Whether the event is one of those that the machine acts on.
+    pub fn is_built(&self) -> bool
+        ensures { IsTrue result ↔ IsBuilt self.now }
+    {
+        match self {
+            Event::Login(..)
+            | Event::Poke(..)
+            | Event::Start(..)
+            | Event::Run(_)
+            | Event::Tick
+            | Event::Evict(_)
+            | Event::Drum(_)
+            | Event::Auto(_)
+            | Event::Examine(..)
+            | Event::Forks(_) => true,
+            Event::TypeIn(..)
+            | Event::File(_)
+            | Event::Words(..)
+            | Event::Page(..)
+            | Event::Trace(_) => false,
+        }
+    }
 }
 
 /// A fork as the machine shows it: its name, its superior's serial or 0, its status, its own

@@ -4,6 +4,7 @@
 #![tactic(auto)]
 
 mod bounds;
+mod entries;
 mod event;
 mod example;
 mod fork;
@@ -14,10 +15,11 @@ mod taker;
 mod text;
 
 pub use bounds::bounds_hold;
+pub use entries::entries_fit;
 pub use event::{Event, ForkLine, Item, Refusal, Step, WordRow};
 pub use example::{empty_script, first_script};
 pub use fork::{Answer, Body, Chars, Fork, ForkStatus, Jfn, Mode, Psi, Regs, TerminalMode, WaitOn};
-pub use map::{MapEntry, Need, NewEntry, NewMap, Touch};
+pub use map::{MapEntry, Need, NewEntry, NewMap, Peeked, Touch};
 pub use names::{
     ACCUMULATORS, Access, FileNo, ForkName, FrameId, Home, Kind, LAST_SERIAL, MOST_FORKS,
     MOST_HOMES, PageName, Place, SPACE_PAGES, Slot, TERMINALS, Tty,

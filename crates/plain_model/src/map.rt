@@ -1,5 +1,6 @@
 // Entries of a fork's map, and what is asked of pages.
 use crate::{Access, FileNo, ForkName, Home, Kind, PageName};
+use word36::Word;
 
 /// An entry of a fork's map (CACM paper, "The memory management"): nothing; a page; or an entry of
 /// a fork of the same job, named by its serial, that it follows.
@@ -43,6 +44,16 @@ pub enum Touch {
     Denied(Kind),
     /// A page has to be made, and the drum is full.
     Full,
+}
+
+/// What a look at a word finds, whatever the access.
+#[derive(Clone, Copy, Debug, PartialEq, Eq)]
+pub enum Peeked {
+    Is(Word),
+    /// This home is in no frame.
+    Absent(Home),
+    /// No page is named there.
+    NoPage,
 }
 
 /// What a fork in page wait waits for: a page, or any frame.

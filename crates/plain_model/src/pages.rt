@@ -9,9 +9,9 @@ ghost use Rattle.plain_model.specs.declared.map.Touch.{Touch as ATouch};
 ghost use Rattle.plain_model.specs.State.{PlainPages};
 ghost use Rattle.plain_model.specs.Events.{with_map};
 ghost use Rattle.plain_model.specs.Outcome.{DrumWords};
-ghost use Rattle.plain_model.specs.Pages.{Scene, Agrees, IsPlace, IsOwner, IsBuiltMap, SettlesTo, touch_of, settled, word_in_place, stored_in_place, can_settle, is_in_core, same_fork};
+ghost use Rattle.plain_model.specs.Pages.{Scene, Agrees, IsPlace, IsOwner, IsBuiltMap, SettlesTo, touch_of, peek_of, settled, word_in_place, stored_in_place, can_settle, is_in_core, is_seen, same_fork};
 
-use crate::{ForkName, Kind, NewMap, Place, Touch, Tty};
+use crate::{ForkName, Kind, NewMap, Peeked, Place, Touch, Tty};
 use word36::Word;
 
 /// Pages under the maps of forks (CACM paper, "The memory management"). What they hold is told over
@@ -68,6 +68,14 @@ pub trait Pages {
         requires offset { offset < 512 }
         requires ready { (touched self.now at Kind.Read ≡ Touch.Ready) ⊎ (touched self.now at Kind.Execute ≡ Touch.Ready) }
         ensures told { (d : DrumWords) → fits self.now d → result ≡ word_in_place (plain self.now d) at offset };
+
+    /// The word at an offset of the page of a place, whatever the access, in this order: a map on the way
+    /// that is in no frame; NoPage, where no page is named; the page, in no frame; and else the word.
+    fn peek(&self, at: Place, offset: u16) -> Peeked
+        requires place { IsPlace (lives self.now) at }
+        requires offset { offset < 512 }
+        ensures told { (d : DrumWords) → fits self.now d → result ≡ peek_of (plain self.now d) (scene self.now) at offset }
+        ensures core { flat ≡ true → is_seen result ≡ true };
 
     /// Makes the zero page or the copy that a touch announces, for an owner. One page is made.
     fn settle(&mut self, at: Place, kind: Kind, owner: Tty)

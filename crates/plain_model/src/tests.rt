@@ -23,5 +23,6 @@ fn the_laws_are_called(_rt: HostRuntime) -> Result<(), Fail> {
     empty_script();
     first_script();
     bounds_hold();
+    entries_fit();
     Ok(())
 }

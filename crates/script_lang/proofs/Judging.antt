@@ -4,11 +4,14 @@ use Rattle.std.specs.Prelude.{Option}
 use Rattle.std.proofs.lemmas.Grind.{flat_map-append}
 use Rattle.std.proofs.lemmas.List.{append-nil, take_at, drop_at}
 use Rattle.plain_model.specs.declared.event.Event.{Event}
-use Rattle.plain_model.specs.Script.{AreLines, Gives, GiveAll, HasNoFeed, IsBadLine, IsBadRest, IsLongRest, Means, joined, most_bytes}
+use Rattle.plain_model.specs.Limits.{IsBuilt}
+use Rattle.plain_model.specs.Script.{AreLines, Gives, GiveAll, HasNoFeed, IsBadLine, IsBadRest, IsBlank, IsLongRest, Means, Spells, joined, most_bytes}
 use Rattle.script_lang.specs.Feeds.{AllLeft, EndsWithin, GoesBeyond, Holds, IsFed, StopsWithin}
 use Rattle.script_lang.specs.Lines.{Breaks, FrontIsBad, FrontIsLong, GivesLine, IsDone, Passes, Takes, given, lines_given, pending, turns_given}
 use Rattle.script_lang.specs.declared.lines.Lines.{Lines}
+use Rattle.script_lang.proofs.KeywordBytes.{blank_spells_none}
 use Rattle.script_lang.proofs.Reading.{feed_behind}
+use Rattle.script_lang.proofs.Spellings.{one_event}
 
 -- what is told behind bytes that have a line feed
 fed_told : (held : List ℕ) (n : ℕ) (fed : IsFed held n) (told : List ℕ) → held ++ told ≡ fed.line ++ 10 ∷ (fed.more ++ told)
@@ -43,8 +46,18 @@ gives_line old new n fed events gives left lines bytes = record {
   more_bytes = omega (arith, bytes, fed.long);
 }
 
-pub gives_event : (line text : List ℕ) (e : Event) → text ≡ line → HasNoFeed line → length line ≤ 256 → Means text e → Gives line (e ∷ [])
-gives_event line text e same plain short means = (record { short = short; no_feed = plain }, inl (e, subst (λ l. Means l e) same means, refl))
+pub means_built : (line : List ℕ) (e : Event) → Spells line e → IsBuilt e → Means line e
+means_built line e spelled built = record { spelled = spelled; built = built }
+
+pub gives_event : (line : List ℕ) (e : Event) → HasNoFeed line → length line ≤ 256 → Means line e → Gives line (e ∷ [])
+gives_event line e plain short means = (record { short = short; no_feed = plain }, inl (e, means, refl))
+
+pub gives_none : (line : List ℕ) → HasNoFeed line → length line ≤ 256 → IsBlank line → Gives line []
+gives_none line plain short blank = (record { short = short; no_feed = plain }, inr (blank, refl))
+
+-- a line that spells an event that is not built is none of a script
+pub unbuilt_bad : (so_far : ℕ) (line : List ℕ) (e : Event) → Spells line e → (IsBuilt e → ⊥) → IsBadLine so_far line
+unbuilt_bad so_far line e spelled unbuilt = inr (inl ((λ f means. unbuilt (subst IsBuilt (one_event line f e means.spelled spelled) means.built)), (λ blank. blank_spells_none line e blank spelled)))
 
 -- a first line that ends within the room, which is too long or does not
 pub ends_bad : (before so_far least room : ℕ) (xs : List ℕ) → room + before ≡ most_bytes → (256 < least) ⊎ (room < least) → EndsWithin least room xs → IsBadRest before so_far xs

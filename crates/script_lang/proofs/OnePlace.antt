@@ -1,44 +1,19 @@
 -- One text has one verdict: its lines are told apart by their line feeds, each gives one thing, and
 -- each verdict holds at one place.
-use Rattle.std.proofs.Common.{◌≡◌, ◌⊎◌, inl, inr, ℕ, ◌+◌, ◌≤◌, List, [], ◌∷◌, ◌++◌, length, get_or, refl, sym, ◌∙◌, ap, subst, arith, append_assoc, length-append}
+use Rattle.std.proofs.Common.{◌≡◌, ◌⊎◌, inl, inr, ℕ, ◌+◌, ◌≤◌, List, [], ◌∷◌, ◌++◌, length, refl, sym, ◌∙◌, ap, subst, arith, append_assoc, length-append}
 use Rattle.std.proofs.lemmas.Grind.{flat_map-append}
 use Rattle.std.proofs.lemmas.List.{append-nil}
 use Rattle.plain_model.specs.declared.event.Event.{Event}
-use Rattle.plain_model.specs.declared.event.Event.TheVariants.{Login, TypeIn, File, Words, Poke, Start, Run, Tick, Evict, Drum, Auto, Examine, Forks, Page, Trace}
-use Rattle.plain_model.specs.Script.{BeginsWith, Gives, GiveAll, IsBadLine, IsBadRest, IsBlank, IsLongRest, IsScript, IsTooLong, Spells, StopsAt, joined, most_bytes, most_turns, turns_in, turns_of}
+use Rattle.plain_model.specs.Script.{BeginsWith, Gives, GiveAll, IsBadLine, IsBadRest, IsLongRest, IsScript, IsTooLong, StopsAt, joined, most_bytes, most_turns, turns_in, turns_of}
 use Rattle.script_lang.proofs.Splits.{one_split, no_split}
-use Rattle.script_lang.proofs.Meanings.{one_event}
-
--- the first byte of a line, 0 where there is none
-abbrev lead : List ℕ → ℕ
-lead line = get_or line 0 0
-
-spells_lead : (line : List ℕ) (e : Event) → Spells line e → 65 ≤ lead line
-spells_lead line (Login t user) h = let s = ap lead h.1 in omega (arith, s)
-spells_lead line (TypeIn t text) h = let s = ap lead h.2 in omega (arith, s)
-spells_lead line (File name) h = let s = ap lead h.0 in omega (arith, s)
-spells_lead line (Words name page offset row) h = let s = ap lead h.3 in omega (arith, s)
-spells_lead line (Poke t address word) h = let s = ap lead h.3 in omega (arith, s)
-spells_lead line (Start t address) h = let s = ap lead h.2 in omega (arith, s)
-spells_lead line (Run n) h = let s = ap lead h.1 in omega (arith, s)
-spells_lead line Tick h = let s = ap lead h in omega (arith, s)
-spells_lead line (Evict n) h = let s = ap lead h.1 in omega (arith, s)
-spells_lead line (Drum n) h = let s = ap lead h.1 in omega (arith, s)
-spells_lead line (Auto on) h = let s = ap lead h in omega (arith, s)
-spells_lead line (Examine t serial address) h = let s = ap lead h.3 in omega (arith, s)
-spells_lead line (Forks t) h = let s = ap lead h.1 in omega (arith, s)
-spells_lead line (Page name page) h = let s = ap lead h.1 in omega (arith, s)
-spells_lead line (Trace on) h = let s = ap lead h in omega (arith, s)
-
-pub blank_spells_none : (line : List ℕ) (e : Event) → IsBlank line → Spells line e → ⊥
-blank_spells_none line e (inl none) h = omega (arith, ap lead none, spells_lead line e h)
-blank_spells_none line e (inr comment) h = omega (arith, ap lead comment.1, spells_lead line e h)
+use Rattle.script_lang.proofs.KeywordBytes.{blank_spells_none}
+use Rattle.script_lang.proofs.Spellings.{one_event}
 
 pub gives_once : (line : List ℕ) (es fs : List Event) → Gives line es → Gives line fs → es ≡ fs
-gives_once line es fs (short, inl p) (_, inl q) = p.2 ∙ (ap (λ e. e ∷ []) (one_event line p.0 q.0 p.1 q.1) ∙ sym q.2)
-gives_once line es fs (short, inl p) (_, inr q) = absurd (blank_spells_none line p.0 q.1 p.1.spelled)
-gives_once line es fs (short, inr p) (_, inl q) = absurd (blank_spells_none line q.0 p.1 q.1.spelled)
-gives_once line es fs (short, inr p) (_, inr q) = p.2 ∙ sym q.2
+gives_once line es fs (short, inl p) (_, inl q) = p.2 ∙ (ap (λ e. e ∷ []) (one_event line p.0 q.0 p.1.spelled q.1.spelled) ∙ sym q.2)
+gives_once line es fs (short, inl p) (_, inr q) = absurd (blank_spells_none line p.0 q.0 p.1.spelled)
+gives_once line es fs (short, inr p) (_, inl q) = absurd (blank_spells_none line q.0 p.0 q.1.spelled)
+gives_once line es fs (short, inr p) (_, inr q) = p.1 ∙ sym q.1
 
 -- The second lines are the first and then more, which stand at the front of the first rest.
 record GoesOn (ls : List (List ℕ)) (es : List Event) (r : List ℕ) (ms : List (List ℕ)) (fs : List Event) (s : List ℕ) : Type 0 where
@@ -138,12 +113,12 @@ halts_script text es s = record {
 good_line : (so_far : ℕ) (line : List ℕ) (mine : List Event) → Gives line mine → so_far + turns_in mine ≤ most_turns → IsBadLine so_far line → ⊥
 good_line so_far line mine (short, given) few (inl long) = omega (arith, short.short, long)
 good_line so_far line mine (short, inl p) few (inr (inl none)) = none.0 p.0 p.1
-good_line so_far line mine (short, inr p) few (inr (inl none)) = none.1 p.0 p.1
+good_line so_far line mine (short, inr p) few (inr (inl none)) = none.1 p.0
 good_line so_far line mine (short, inl p) few (inr (inr over)) =
-    let same : over.0 ≡ p.0 = one_event line over.0 p.0 over.1 p.1 in
+    let same : over.0 ≡ p.0 = one_event line over.0 p.0 over.1.spelled p.1.spelled in
     let turns : turns_in mine ≡ turns_of over.0 + 0 = ap turns_in p.2 ∙ ap (λ e. turns_of e + 0) (sym same) in
     omega (arith, turns, over.2, few)
-good_line so_far line mine (short, inr p) few (inr (inr over)) = blank_spells_none line over.0 p.1 over.1.spelled
+good_line so_far line mine (short, inr p) few (inr (inr over)) = blank_spells_none line over.0 p.0 over.1.spelled
 
 bad_stops : (before so_far : ℕ) (rest line more : List ℕ) (mine : List Event) → IsBadRest before so_far rest → rest ≡ line ++ 10 ∷ more → Gives line mine → so_far + turns_in mine ≤ most_turns → ⊥
 bad_stops before so_far rest line more mine (inl bad) same gives few =

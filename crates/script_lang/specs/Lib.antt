@@ -1,4 +1,7 @@
 pub mod Fields
+pub mod Typing
+pub mod Rows
 pub mod Grammar
 pub mod Feeds
 pub mod Lines
+pub mod Canonical

@@ -1,28 +1,44 @@
-// The fields of a line.
-ghost use Rattle.std.specs.Prelude.{◌≡◌, ◌≤◌, ℕ, length, MatchOption};
-ghost use Rattle.plain_model.specs.Limits.{IsAddress, IsDirName, is_name_code as of_names};
+// The fields of a line, told apart by spaces.
+ghost use Rattle.std.specs.Prelude.{◌≡◌, ◌≤◌, ℕ, Bool, MatchOption};
 ghost use Rattle.plain_model.specs.Script.{IsDecimal, IsOctal, IsTty};
+ghost use Rattle.plain_model.specs.Texts.{on_or_off};
 ghost use Rattle.plain_model.specs.declared.names.Tty.{Tty as ATty};
-ghost use Rattle.script_lang.specs.Fields.{HasNoSpace, IsCut};
+ghost use Rattle.script_lang.specs.Fields.{Begins, BeginsNot, IsCut, IsHead, Lacks};
 
 use memchr::memchr;
-use plain_model::{DirName, TERMINALS, Tty};
+use plain_model::{TERMINALS, Tty};
 use word36::Word;
 
 // How many octal digits an address has at most.
 const ADDRESS_DIGITS: usize = 6;
 
-/// The bytes before the first space and those behind it. None exactly where there is no space.
-pub(crate) fn cut(text: &[u8]) -> Option<(&[u8], &[u8])>
-    ensures { MatchOption result (HasNoSpace text.now) (λ p. IsCut text.now p.0.now p.1.now) }
+// How many octal digits the number of a page, or of a word in it, has at most.
+const PAGE_DIGITS: usize = 3;
+
+// How many decimal digits a serial has at most.
+const SERIAL_DIGITS: usize = 6;
+
+/// The bytes before the first one that is this, and those behind it. None exactly where no byte is.
+pub(crate) fn cut(text: &[u8], at: u8) -> Option<(&[u8], &[u8])>
+    ensures { MatchOption result (Lacks at text.now) (λ p. IsCut at text.now p.0.now p.1.now) }
 {
-    let at = memchr(b' ', text)?;
-    Some((&text[..at], &text[at + 1..]))
+    let place = memchr(at, text)?;
+    Some((&text[..place], &text[place + 1..]))
+}
+
+/// The bytes before the first space, and those from it on; all and none where there is no space.
+pub(crate) fn head(text: &[u8]) -> (&[u8], &[u8])
+    ensures { IsHead text.now result.0.now result.1.now }
+{
+    match cut(text, b' ') {
+        Some((front, _)) => text.split_at(front.len()),
+        None => text.split_at(text.len()),
+    }
 }
 
 /// The number that 1 to so many decimal digits write. None exactly where the text has another
 /// length or another byte.
-pub(crate) fn decimal(text: &[u8], most: usize) -> Option<u32>
+pub fn read_decimal(text: &[u8], most: usize) -> Option<u32>
     requires { most ≤ 9 }
     ensures { MatchOption result ((n : ℕ) → IsDecimal most text.now n → ⊥) (λ n. IsDecimal most text.now n) }
 {
@@ -39,15 +55,42 @@ pub(crate) fn decimal(text: &[u8], most: usize) -> Option<u32>
     Some(n)
 }
 
+/// The number that 1 to so many octal digits write. None exactly where the text has another length
+/// or another byte.
+pub(crate) fn octal(text: &[u8], most: usize) -> Option<u32>
+    requires { most ≤ 6 }
+    ensures { MatchOption result ((n : ℕ) → IsOctal most text.now n → ⊥) (λ n. IsOctal most text.now n) }
+{
+    if text.len() > most {
+        return None;
+    }
+    Some(Word::read_octal(text)?.value() as u32)
+}
+
 /// The terminal that 1 or 2 decimal digits write. None exactly where the text writes none.
 pub(crate) fn tty(text: &[u8]) -> Option<Tty>
     ensures { MatchOption result ((t : ATty) → IsTty text.now t → ⊥) (λ t. IsTty text.now t) }
 {
-    let n = decimal(text, 2)?;
+    let n = read_decimal(text, 2)?;
     if n >= TERMINALS as u32 {
         return None;
     }
     Some(Tty(n as u8))
+}
+
+/// The address that 1 to 6 octal digits write. None exactly where the text writes none.
+pub(crate) fn address(text: &[u8]) -> Option<u32>
+    ensures { MatchOption result ((n : ℕ) → IsOctal 6 text.now n → ⊥) (λ n. IsOctal 6 text.now n) }
+{
+    octal(text, ADDRESS_DIGITS)
+}
+
+/// The number of a page of a file, or of a word of a page, that 1 to 3 octal digits write. None
+/// exactly where the text writes none.
+pub(crate) fn page(text: &[u8]) -> Option<u16>
+    ensures { MatchOption result ((n : ℕ) → IsOctal 3 text.now n → ⊥) (λ n. IsOctal 3 text.now n) }
+{
+    Some(octal(text, PAGE_DIGITS)? as u16)
 }
 
 /// The word that 1 to 12 octal digits write. None exactly where the text has another length or
@@ -58,31 +101,51 @@ pub(crate) fn word(text: &[u8]) -> Option<Word>
     Word::read_octal(text)
 }
 
-/// The address, below 2^18, that 1 to 6 octal digits write. None exactly where the text has
-/// another length or another byte.
-pub(crate) fn address(text: &[u8]) -> Option<u32>
-    ensures { MatchOption result ((n : ℕ) → IsOctal 6 text.now n → ⊥) (λ a. IsOctal 6 text.now a × IsAddress a) }
+/// Whether a text is ON, which is true, or OFF. None exactly where it is neither.
+pub(crate) fn switch(text: &[u8]) -> Option<bool>
+    ensures { MatchOption result ((on : Bool) → text.now ≡ on_or_off on → ⊥) (λ on. text.now ≡ on_or_off on) }
 {
-    if text.len() > ADDRESS_DIGITS {
-        return None;
+    if text == b"ON".as_slice() {
+        return Some(true);
     }
-    Some(Word::read_octal(text)?.value() as u32)
+    if text == b"OFF".as_slice() {
+        return Some(false);
+    }
+    None
 }
 
-/// The name of a user: 1 to 12 of the characters A-Z, 0-9 and -. None exactly where the text is
-/// none.
-pub(crate) fn dir_name(text: &[u8]) -> Option<DirName>
-    ensures { MatchOption result (IsDirName text.now → ⊥) (λ name. (name ≡ text.now) × IsDirName text.now) }
+/// The terminal of the first field, and what stands behind the space of this field. None exactly
+/// where the text begins with none.
+pub(crate) fn tty_field(text: &[u8]) -> Option<(Tty, &[u8])>
+    ensures { MatchOption result (BeginsNot IsTty text.now) (λ p. Begins IsTty text.now p.0 p.1.now) }
 {
-    if text.is_empty() || text.len() > 12 || !text.iter().all(|c| is_name_code(*c)) {
-        return None;
-    }
-    Some(DirName::new(text))
+    let (front, rest) = cut(text, b' ')?;
+    Some((tty(front)?, rest))
 }
 
-// Whether a byte is a character of a name.
-fn is_name_code(c: u8) -> bool
-    ensures { result ≡ of_names c }
+/// The serial of the first field, and what stands behind the space of this field. None exactly
+/// where the text begins with none.
+pub(crate) fn serial_field(text: &[u8]) -> Option<(u32, &[u8])>
+    ensures { MatchOption result (BeginsNot (IsDecimal 6) text.now) (λ p. Begins (IsDecimal 6) text.now p.0 p.1.now) }
 {
-    matches!(c, b'A'..=b'Z' | b'0'..=b'9' | b'-')
+    let (front, rest) = cut(text, b' ')?;
+    Some((read_decimal(front, SERIAL_DIGITS)?, rest))
+}
+
+/// The address of the first field, and what stands behind the space of this field. None exactly
+/// where the text begins with none.
+pub(crate) fn address_field(text: &[u8]) -> Option<(u32, &[u8])>
+    ensures { MatchOption result (BeginsNot (IsOctal 6) text.now) (λ p. Begins (IsOctal 6) text.now p.0 p.1.now) }
+{
+    let (front, rest) = cut(text, b' ')?;
+    Some((address(front)?, rest))
+}
+
+/// The number of a page in the first field, and what stands behind the space of this field. None
+/// exactly where the text begins with none.
+pub(crate) fn page_field(text: &[u8]) -> Option<(u16, &[u8])>
+    ensures { MatchOption result (BeginsNot (IsOctal 3) text.now) (λ p. Begins (IsOctal 3) text.now p.0 p.1.now) }
+{
+    let (front, rest) = cut(text, b' ')?;
+    Some((page(front)?, rest))
 }

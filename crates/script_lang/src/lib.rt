@@ -1,18 +1,29 @@
-//! The console script: a line as an event, and a source as the events of its lines.
+//! The console script: a line as an event, an event as its canonical line, and a source as the events of its lines.
 //! To the layers above an answer is about the whole bytes of a script, in whatever pieces they came.
 //! Stands on `plain_model` for events, on `outside` for sources, and on `word36` for words.
 #![tactic(auto)]
 
 mod buffer;
+mod canonical;
+#[cfg(test)]
+mod canonical_tests;
+pub mod digits;
+mod events;
 mod fields;
 mod grammar;
+mod keywords;
 mod lines;
+mod names;
 mod reached;
+mod rows;
 #[cfg(test)]
 mod tests;
+mod typed;
 mod verdicts;
 
-pub use grammar::{Read, one_meaning, read_line};
+pub use canonical::{LineRoom, canonical_lines, write_line};
+pub use fields::read_decimal;
+pub use grammar::{Read, one_spelling, read_line, script_fits};
 pub use lines::{Lines, Next};
 pub use reached::{MOST_BYTES, MOST_TURNS};
 pub use verdicts::one_verdict;

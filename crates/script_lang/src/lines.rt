@@ -20,7 +20,8 @@ pub enum Next {
     /// The end: nothing is left but lines without an event.
     End,
     /// The line of this number, counted from 1, is bad: none of a script, too long, without a line
-    /// feed at the end, or a RUN whose turns are too many behind those before it.
+    /// feed at the end, a RUN whose turns are too many behind those before it, or an event that is
+    /// not built.
     Bad(u64),
     /// The source failed.
     ReadFault,
@@ -178,6 +179,9 @@ impl Lines {
         }
         match read_line(&self.buffer.bytes()[..count]) {
             Read::One(event) => {
+                if !event.is_built() {
+                    return Line::Bad;
+                }
                 let turns = turns_of(&event);
                 if self.reached.turns + turns > MOST_TURNS {
                     return Line::Bad;

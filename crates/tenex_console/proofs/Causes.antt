@@ -1,11 +1,13 @@
 -- Which ending a status comes from.
-use Rattle.std.proofs.Common.{◌≡◌, ◌⊎◌, inl, inr, ℕ, List, None, refl, subst, arith}
+use Rattle.std.proofs.Common.{◌≡◌, ◌≤◌, ◌⊎◌, inl, inr, ℕ, List, None, refl, subst, arith, String}
 use Rattle.plain_model.specs.declared.event.Event.{Event}
-use Rattle.plain_model.specs.Script.{IsTooLong, StopsAt}
+use Rattle.plain_model.specs.Script.{IsScript, IsTooLong, StopsAt}
 use Rattle.outside.specs.Faults.{Rose}
 use Rattle.script_lang.proofs.OnePlace.{script_not_bad, script_not_long, bad_not_too_long}
 use Rattle.texts.specs.declared.last.Status.{Status}
 use Rattle.texts.specs.declared.last.Status.TheVariants.{Done, Usage, Script, DrumFault, Memory, ReadFault, WriteFault, LongScript}
+use Rattle.tenex_console.specs.Command.{AsksDrum, IsUsage}
+use Rattle.tenex_console.proofs.Asking.{not_usage}
 use Rattle.tenex_console.specs.declared.driver.Driven.{Driven}
 use Rattle.tenex_console.specs.declared.driver.Driven.TheVariants.{Done as WholeScript, Bad, Long, ReadFault as Unread, DrumFault as Unpaged, TakerFault}
 use Rattle.tenex_console.specs.Statuses.{IsEarly, IsFaultless, Judges, Steady, last_after, status_after}
@@ -79,3 +81,28 @@ faultless WriteFault a a' b b' c c' d d' r w u sa sb sc sd = either (w refl)
     either (inl x) = steady b b' sb x
     either (inr y) = steady c c' sc y
 faultless LongScript a a' b b' c c' d d' r w u sa sb sc sd = tt
+
+-- a status that tells of no fault, of right words and a right script
+pub complete_run : {Z : Type 0} (words : List (String Z)) (pages limit : ℕ) (bytes : List ℕ) (es : List Event) (status : Status) → (status ≡ Usage → IsUsage words pages) → Judges status bytes → IsScript bytes es → AsksDrum words limit → limit ≤ pages → IsFaultless status
+    → (status ≡ Done) ⊎ (status ≡ Memory)
+complete_run words pages limit bytes es Done usage judged script asks enough fine = inl refl
+complete_run words pages limit bytes es Usage usage judged script asks enough fine = absurd (not_usage words limit pages asks enough (usage refl))
+complete_run words pages limit bytes es Script usage judged script asks enough fine = absurd (script_not_bad bytes judged.0 es judged.1 script judged.2)
+complete_run words pages limit bytes es DrumFault usage judged script asks enough fine = absurd fine
+complete_run words pages limit bytes es Memory usage judged script asks enough fine = inr refl
+complete_run words pages limit bytes es ReadFault usage judged script asks enough fine = absurd fine
+complete_run words pages limit bytes es WriteFault usage judged script asks enough fine = absurd fine
+complete_run words pages limit bytes es LongScript usage judged script asks enough fine = absurd (script_not_long bytes es judged.0 script judged.1)
+
+-- a status that came before anything was run
+pub early_run : {Z : Type 0} (words : List (String Z)) (pages limit : ℕ) (early status : Status) → (status ≡ early) ⊎ (status ≡ WriteFault) → IsEarly early → (early ≡ Usage → IsUsage words pages) → AsksDrum words limit → limit ≤ pages → IsFaultless status
+    → (status ≡ Done) ⊎ (status ≡ Memory)
+early_run words pages limit Done status (inl is) soon usage asks enough fine = absurd soon
+early_run words pages limit Usage status (inl is) soon usage asks enough fine = absurd (not_usage words limit pages asks enough (usage refl))
+early_run words pages limit Script status (inl is) soon usage asks enough fine = absurd soon
+early_run words pages limit DrumFault status (inl is) soon usage asks enough fine = absurd soon
+early_run words pages limit Memory status (inl is) soon usage asks enough fine = inr is
+early_run words pages limit ReadFault status (inl is) soon usage asks enough fine = absurd soon
+early_run words pages limit WriteFault status (inl is) soon usage asks enough fine = absurd soon
+early_run words pages limit LongScript status (inl is) soon usage asks enough fine = absurd soon
+early_run words pages limit early status (inr is) soon usage asks enough fine = absurd (subst IsFaultless is fine)

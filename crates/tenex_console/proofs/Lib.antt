@@ -1,3 +1,4 @@
+mod Asking
 mod Turns
 mod Running
 mod Told

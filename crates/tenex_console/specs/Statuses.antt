@@ -9,19 +9,19 @@ use Rattle.texts.specs.declared.last.Last.TheVariants.{Done as Ended, Stopped}
 use Rattle.texts.specs.Ends.{closing_line}
 use Rattle.tenex_console.specs.declared.driver.Driven.{Driven}
 use Rattle.tenex_console.specs.declared.driver.Driven.TheVariants.{Done as WholeScript, Bad, Long, ReadFault as Unread, DrumFault as Unpaged, TakerFault}
-use Rattle.tenex_console.specs.Runs.{AreEntries, AreBrokenOff}
+use Rattle.tenex_console.specs.Runs.{AreEntries, AreUnfinished}
 use Rattle.tenex_console.specs.Headline.{Headline, Part, Only, Front}
 
--- what the script was and what both sinks took, on each status
-abbrev pub Took : Status → ℕ → ℕ → List ℕ → List ℕ → List ℕ → Type 0
-Took Done reads writes script out rec = Headline reads writes script out rec
-Took Usage reads writes script out rec = Only (closing_line Usage 0) script out rec
-Took Script reads writes script out rec = (n : ℕ) × Part (StopsAt n) AreEntries (closing_line Script n) script out rec
-Took DrumFault reads writes script out rec = Part BeginsWith AreBrokenOff (closing_line DrumFault 0) script out rec
-Took Memory reads writes script out rec = Only (closing_line Memory 0) script out rec
-Took ReadFault reads writes script out rec = Part BeginsWith AreEntries (closing_line ReadFault 0) script out rec
-Took WriteFault reads writes script out rec = Front script out rec
-Took LongScript reads writes script out rec = Part IsTooLong AreEntries (closing_line LongScript 0) script out rec
+-- what the script was and what both sinks took, on each status, with room for so many pages and forks
+abbrev pub Took : ℕ → Status → ℕ → ℕ → List ℕ → List ℕ → List ℕ → Type 0
+Took limit Done reads writes script out rec = Headline limit reads writes script out rec
+Took limit Usage reads writes script out rec = Only (closing_line Usage 0) script out rec
+Took limit Script reads writes script out rec = (n : ℕ) × Part (StopsAt n) (AreEntries limit) (closing_line Script n) script out rec
+Took limit DrumFault reads writes script out rec = Part BeginsWith (AreUnfinished limit) (closing_line DrumFault 0) script out rec
+Took limit Memory reads writes script out rec = Only (closing_line Memory 0) script out rec
+Took limit ReadFault reads writes script out rec = Part BeginsWith (AreEntries limit) (closing_line ReadFault 0) script out rec
+Took limit WriteFault reads writes script out rec = Front limit script out rec
+Took limit LongScript reads writes script out rec = Part IsTooLong (AreEntries limit) (closing_line LongScript 0) script out rec
 
 -- a status that judges the script is that of its bytes
 abbrev pub Judges : Status → List ℕ → Type 0
@@ -73,6 +73,17 @@ IsEarly Memory = Unit {0}
 IsEarly ReadFault = ⊥
 IsEarly WriteFault = ⊥
 IsEarly LongScript = ⊥
+
+-- wrong words are Usage, unless there was no memory to read them, or the line of the status was not written
+abbrev pub IsUsageOrBefore : Status → Type 0
+IsUsageOrBefore Done = ⊥
+IsUsageOrBefore Usage = Unit {0}
+IsUsageOrBefore Script = ⊥
+IsUsageOrBefore DrumFault = ⊥
+IsUsageOrBefore Memory = Unit {0}
+IsUsageOrBefore ReadFault = ⊥
+IsUsageOrBefore WriteFault = Unit {0}
+IsUsageOrBefore LongScript = ⊥
 
 -- a count hasn't risen, and doesn't stand at its last value
 abbrev pub Steady : ℕ → ℕ → Type 0

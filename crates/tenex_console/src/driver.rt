@@ -1,9 +1,9 @@
 // A script, driven through a machine.
 ghost use Rattle.std.specs.Prelude.{◌≡◌, ◌≤◌, ◌<◌, ℕ, true};
 ghost use Rattle.outside.specs.Faults.{Rose};
+ghost use Rattle.plain_model.specs.State.{opening};
 ghost use Rattle.plain_model.specs.Taker.{StaysOnward};
 ghost use Rattle.monitor_core.specs.Machine.{Fits, IsSound, auto, done, is_live, plain};
-ghost use Rattle.tenex_console.specs.Command.{run_opening};
 ghost use Rattle.tenex_console.specs.Driving.{RanTo, StandsFor};
 
 use monitor_core::{Ended, Machine};
@@ -37,7 +37,7 @@ pub fn drive<P: Pages, S: Source, D: Drum, K: Taker>(
 ) -> Driven
     requires flat { P.flat ≡ true }
     requires forks { 0 < P.most_forks }
-    requires opening { StandsFor (Fits P.fits P.filed) (plain P.plain) machine.old run_opening }
+    requires opening { StandsFor (Fits P.fits P.filed) (plain P.plain) machine.old (opening (P.most machine.old.pages)) }
     requires sound { IsSound P.lives P.forks_of P.serial machine.old }
     requires live { is_live machine.old ≡ true }
     requires auto { auto machine.old ≡ true }
@@ -55,7 +55,7 @@ pub fn drive<P: Pages, S: Source, D: Drum, K: Taker>(
     ensures size { D.size drum.new ≡ D.size drum.old }
 
     // What the taker was given, and what the script is found to be.
-    ensures ran { RanTo S.left K.stands K.cut script.old taker.old taker.new result }
+    ensures ran { RanTo S.left K.stands K.cut (P.most machine.old.pages) script.old taker.old taker.new result }
 {
     let mut lines = Lines::new();
     loop {

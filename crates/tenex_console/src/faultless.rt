@@ -1,6 +1,8 @@
 // A run where nothing fails.
-ghost use Rattle.std.specs.Prelude.{◌≡◌};
-ghost use Rattle.tenex_console.specs.Command.{IsUsage};
+ghost use Rattle.std.specs.Prelude.{◌≡◌, ◌⊎◌, ◌≤◌, ℕ, List};
+ghost use Rattle.plain_model.specs.Script.{IsScript};
+ghost use Rattle.plain_model.specs.declared.event.Event.{Event as AnEvent};
+ghost use Rattle.tenex_console.specs.Command.{AsksDrum, IsUsage};
 ghost use Rattle.tenex_console.specs.Statuses.{IsFaultless, Judges};
 
 use crate::tenex;
@@ -9,7 +11,8 @@ use std::alloc::Global;
 use texts::Status;
 
 /// Runs a command as `tenex` does, over a source, sinks and a drum that never fail, and keeps neither
-/// text. The status is Done, Usage, Script, LongScript or Memory.
+/// text. The status is Done, Usage, Script, LongScript or Memory; for right words and a right script it is
+/// Done or Memory.
 pub fn run_faultless(
     alloc: Global,
     words: &[String],
@@ -19,10 +22,11 @@ pub fn run_faultless(
     ensures faultless { IsFaultless result }
     ensures judged { Judges result script.items }
     ensures usage { result ≡ Status.Usage → IsUsage words.now (⟦<SureDrum as Drum>⟧.size drum.old) }
-    ensures always_usage { IsUsage words.now (⟦<SureDrum as Drum>⟧.size drum.old) → result ≡ Status.Usage }
+    ensures always_usage { IsUsage words.now (⟦<SureDrum as Drum>⟧.size drum.old) → (result ≡ Status.Usage) ⊎ (result ≡ Status.Memory) }
+    ensures complete { (es : List AnEvent) (limit : ℕ) → IsScript script.items es → AsksDrum words.now limit → limit ≤ ⟦<SureDrum as Drum>⟧.size drum.old → (result ≡ Status.Done) ⊎ (result ≡ Status.Memory) }
 {
     let mut script = SureSource::new(script);
-    let mut out = SureSink;
-    let mut rec = SureSink;
+    let mut out = SureSink::new();
+    let mut rec = SureSink::new();
     tenex(alloc, words, &mut script, &mut out, &mut rec, drum)
 }

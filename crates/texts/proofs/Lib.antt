@@ -1,7 +1,8 @@
 mod Writes
 mod LineStarts
 mod Lines
-mod Typed
 mod Standing
 mod InLines
 pub mod Starts
+mod RecordLines
+mod RecordApart

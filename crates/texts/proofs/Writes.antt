@@ -1,9 +1,9 @@
 -- How a text that is written goes on.
 use Rattle.std.proofs.Common.{◌≡◌, ℕ, ◌+◌, ◌<◌, List, [], ◌∷◌, ◌++◌, length, take, drop, Option, Some, sym, ◌∙◌, ap, subst, append_assoc, get_or, take-append-drop, take-add}
-use Rattle.std.proofs.lemmas.List.{append-nil, take_more, drop_more}
-use Rattle.std.proofs.lemmas.Grind.{flat_map-append}
+use Rattle.std.proofs.lemmas.List.{append-nil}
 use Rattle.std.specs.List.{flat_map}
 use Rattle.outside.specs.Told.{Grows, Stays}
+use Rattle.script_lang.proofs.FlatMaps.{flat_more, flat_split}
 use Rattle.texts.specs.Wrote.{GrowsPartly, Wrote, WrotePartly}
 
 -- no bytes are written
@@ -34,22 +34,14 @@ pub partly_at : (a b c : Option (List ℕ)) (bytes : List ℕ) (at : ℕ) → Gr
 partly_at a b c bytes at f g xs h = (take at bytes, drop at bytes, g (xs ++ take at bytes) (f xs h), sym (take-append-drop at bytes))
 
 module _ {X : Type 0} (f : X → List ℕ) where
-  flat_more : (xs : List X) (i : ℕ) (d : X) → i < length xs → flat_map f (take (i + 1) xs) ≡ flat_map f (take i xs) ++ f (get_or xs i d)
-  flat_more xs i d h =
-      ap (flat_map f) (take_more xs i d h) ∙ flat_map-append f (take i xs) (get_or xs i d ∷ []) ∙ ap (λ l. flat_map f (take i xs) ++ l) (append-nil (f (get_or xs i d)))
-
-  flat_split : (xs : List X) (i : ℕ) (d : X) → i < length xs → flat_map f xs ≡ flat_map f (take i xs) ++ (f (get_or xs i d) ++ flat_map f (drop (i + 1) xs))
-  flat_split xs i d h =
-      ap (flat_map f) (sym (take-append-drop i xs)) ∙ flat_map-append f (take i xs) (drop i xs) ∙ ap (λ l. flat_map f (take i xs) ++ flat_map f l) (drop_more xs i d h)
-
   -- the text of one thing more
   pub grows_each : (a b c : Option (List ℕ)) (xs : List X) (i : ℕ) (d : X) → i < length xs → Grows a b (flat_map f (take i xs)) → Grows b c (f (get_or xs i d)) → Grows a c (flat_map f (take (i + 1) xs))
-  grows_each a b c xs i d h old new = subst (Grows a c) (sym (flat_more xs i d h)) (grows_then a b c (flat_map f (take i xs)) (f (get_or xs i d)) old new)
+  grows_each a b c xs i d h old new = subst (Grows a c) (sym (flat_more f xs i d h)) (grows_then a b c (flat_map f (take i xs)) (f (get_or xs i d)) old new)
 
   -- a front of it
   pub partly_each : (a b c : Option (List ℕ)) (xs : List X) (i : ℕ) (d : X) → i < length xs → Grows a b (flat_map f (take i xs)) → GrowsPartly b c (f (get_or xs i d)) → GrowsPartly a c (flat_map f xs)
   partly_each a b c xs i d h old new =
-      subst (GrowsPartly a c) (sym (flat_split xs i d h))
+      subst (GrowsPartly a c) (sym (flat_split f xs i d h))
       (partly_then a b c (flat_map f (take i xs)) (f (get_or xs i d) ++ flat_map f (drop (i + 1) xs)) old (partly_more b c (f (get_or xs i d)) (flat_map f (drop (i + 1) xs)) new))
 
 module _ {X : Type 0} (a b c : Option (List ℕ)) (after whole : List X → List ℕ) where

@@ -7,11 +7,11 @@ ghost use Rattle.plain_model.specs.declared.event.Item.TheVariants.{Examined as 
 ghost use Rattle.texts.specs.Ends.{closing_line, end_line};
 ghost use Rattle.texts.specs.Wrote.{GrowsPartly};
 
-use crate::digits::{decimal, escaped, octal, octal_padded};
 use crate::put::{put, put_line, put_pieces};
 use crate::{Last, Status};
 use outside::{Failed, Sink};
 use plain_model::{FileName, ForkLine, ForkName, ForkStatus, Item, Refusal, Text, Tty, WaitOn};
+use script_lang::digits::{decimal, escaped, octal, octal_padded};
 use word36::Word;
 
 /// Writes an item behind the line that is open, of whose terminal this is the number.

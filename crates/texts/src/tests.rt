@@ -112,7 +112,7 @@ fn joins_a_run_over_pieces(rt: HostRuntime) -> Result<(), Fail> {
 #[test]
 fn names_a_failing_write(rt: HostRuntime) -> Result<(), Fail> {
     let mut failing = Vec::new(rt.alloc());
-    failing.push(2)?;
+    failing.push(3)?;
     let mut out = MemSink::new(rt.alloc(), 64, Vec::new(rt.alloc()))?;
     let mut rec = MemSink::new(rt.alloc(), 64, failing)?;
     {

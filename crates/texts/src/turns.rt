@@ -6,10 +6,10 @@ ghost use Rattle.plain_model.specs.Texts.{same_turn, run_end, run_line};
 ghost use Rattle.texts.specs.Turns.{step_of, open_run};
 ghost use Rattle.texts.specs.Wrote.{GrowsPartly};
 
-use crate::digits::decimal;
 use crate::put::{put, put_pieces};
 use outside::{Failed, Sink};
 use plain_model::ForkName;
+use script_lang::digits::decimal;
 
 /// An entry of a RUN line: one unit of a fork, or an idle entry.
 #[derive(Clone, Copy, Debug, PartialEq, Eq)]

@@ -1,8 +1,6 @@
 // Runs that end early: each status with its line, and what both texts have by then.
-ghost use Rattle.std.specs.Prelude.{ℕ, List, Option, None};
-
 use crate::memory_run::{PAGES, ROOM, Ran, assert_ends, run_over, run_source};
-use outside::{Failed, MemSink, MemSource, Memory, Sink, Source};
+use outside::{MemSink, MemSource, Memory, Sink};
 use std::alloc::Global;
 use std::process::Abort;
 use std::test::Fail;
@@ -39,6 +37,21 @@ fn wrong_words_are_refused(rt: HostRuntime) -> Result<(), Fail> {
         &["run", "run"],
         &["run", ""],
         &["examples/first.script"],
+        &["run", "--frames", "159"],
+        &["run", "--frames", "8193"],
+        &["run", "--frames", "160", "--frames", "160"],
+        &["run", "--frames", "160", "--frames=160"],
+        &["run", "--frames"],
+        &["run", "--frames="],
+        &["run", "--drum", "255"],
+        &["run", "--drum=16385"],
+        &["run", "--drum", "0000000256"],
+        &["run", "--"],
+        &["run", "--", "--frames", "160"],
+        &["--frames", "160", "run"],
+        &["run", "--help"],
+        &["help"],
+        &["--version"],
     ] {
         let mut script = script(alloc)?;
         let ran = run_over(
@@ -52,6 +65,32 @@ fn wrong_words_are_refused(rt: HostRuntime) -> Result<(), Fail> {
         assert_eq!(rt; ran.status, Status::Usage);
         assert_eq!(rt; ran.out.bytes(), b"?USAGE\n".as_slice());
         assert_eq!(rt; ran.rec.bytes(), b"".as_slice());
+    }
+    Ok(())
+}
+
+#[test]
+fn sizes_may_be_asked_for(rt: HostRuntime) -> Result<(), Fail> {
+    let alloc = rt.alloc();
+    for words in [
+        ["run", "--drum=256", "--frames", "160"].as_slice(),
+        &["run", "--frames=8192", "--drum=2048"],
+        &["run", "--drum", "000000256"],
+        &["run", "--frames", "160"],
+        &["run"],
+    ] {
+        let mut script = script(alloc)?;
+        let ran = run_over(
+            alloc,
+            words,
+            &mut script,
+            sink(alloc, 99)?,
+            sink(alloc, ROOM)?,
+            PAGES,
+        )?;
+        assert_eq!(rt; ran.status, Status::Done);
+        assert_eq!(rt; ran.out.bytes(), TRANSCRIPT);
+        assert_eq!(rt; ran.rec.bytes(), RECORD);
     }
     Ok(())
 }
@@ -184,79 +223,5 @@ fn a_last_line_that_is_not_written_is_a_failed_write(rt: HostRuntime) -> Result<
     assert_eq!(rt; ran.status, Status::WriteFault);
     assert_eq!(rt; ran.out.faults(), 1);
     assert_eq!(rt; ran.rec.bytes(), b"".as_slice());
-    Ok(())
-}
-
-// A line again and again, and something behind the last.
-#[derive(Drop)]
-struct Repeated {
-    line: &'static [u8],
-    times: u64,
-    rest: &'static [u8],
-    at: usize,
-}
-
-impl Repeated {
-    fn next_byte(&mut self) -> Option<u8> {
-        if self.times > 0 && self.at >= self.line.len() {
-            self.times -= 1;
-            self.at = 0;
-        }
-        let bytes = if self.times > 0 { self.line } else { self.rest };
-        let byte = bytes.get(self.at).copied()?;
-        self.at += 1;
-        Some(byte)
-    }
-}
-
-impl Source for Repeated {
-    ghost fault_count = { λ _. 0 };
-
-    ghost left = { λ _. None };
-
-    fn faults(&self) -> u64 {
-        0
-    }
-
-    fn read(&mut self, piece: &mut [u8]) -> Result<usize, Failed> {
-        for filled in 0..piece.len() {
-            match self.next_byte() {
-                Some(byte) => piece[filled] = byte,
-                None => return Ok(filled),
-            }
-        }
-        Ok(piece.len())
-    }
-}
-
-// 2,796,198 lines of 6 bytes and 4 lines of 7 bytes are 16,777,216 bytes.
-#[test]
-fn the_longest_script_is_run(rt: HostRuntime) -> Result<(), Fail> {
-    let alloc = rt.alloc();
-    for (rest, status, out, rec) in [
-        (
-            b"RUN 01\nRUN 01\nRUN 01\nRUN 01\n".as_slice(),
-            Status::Done,
-            b"".as_slice(),
-            b"I 2796202\nE 0 0\n".as_slice(),
-        ),
-        (
-            b"RUN 01\nRUN 01\nRUN 01\nRUN 001\n",
-            Status::LongScript,
-            b"?LONG SCRIPT\n",
-            b"I 2796201\n",
-        ),
-    ] {
-        let mut script = Repeated {
-            line: b"RUN 1\n",
-            times: 2_796_198,
-            rest,
-            at: 0,
-        };
-        let ran = run_source(alloc, &mut script)?;
-        assert_eq!(rt; ran.status, status);
-        assert_eq!(rt; ran.out.bytes(), out);
-        assert_eq!(rt; ran.rec.bytes(), rec);
-    }
     Ok(())
 }

@@ -4,9 +4,13 @@
 #![tactic(auto)]
 
 #[cfg(test)]
+mod cuts;
+#[cfg(test)]
 mod examples;
 #[cfg(test)]
 mod failures;
+#[cfg(test)]
+mod limits;
 #[cfg(test)]
 mod memory_run;
 #[cfg(test)]

@@ -44,3 +44,53 @@ fn a_long_script_is_its_own_record(rt: HostRuntime) -> Result<(), Fail> {
     assert_eq!(rt; ran.rec.bytes(), record.as_bytes());
     Ok(())
 }
+
+#[test]
+fn a_forced_fork_is_shown(rt: HostRuntime) -> Result<(), Fail> {
+    assert_runs(
+        &rt,
+        b"LOGIN 0 A\nPOKE 0 100 0\nSTART 0 100\nRUN 2\nFORKS 0\n",
+        b"T0 @\\015\\012\nT0 ?FORCED 15\\015\\012\nT0 @\nF 0 1 0 FORCED 15 PC 000100\n",
+        b"LOGIN 0 A\nPOKE 0 100 0\nSTART 0 100\nU 0 1 1\nI 1\nFORKS 0\nE 0 0\n",
+    )
+}
+
+#[test]
+fn refused_events_change_nothing(rt: HostRuntime) -> Result<(), Fail> {
+    assert_runs(
+        &rt,
+        b"LOGIN 0 A\nLOGIN 0 A\nSTART 3 100\nFORKS 0\nRUN 1\n",
+        b"T0 @\n?BUSY 0\n?NO JOB 3\nF 0 1 0 HALT PC 000000\n",
+        b"LOGIN 0 A\nLOGIN 0 A\nSTART 3 100\nFORKS 0\nI 1\nE 0 0\n",
+    )
+}
+
+// Every terminal has a job; all halt in the same turn.
+#[test]
+fn sixteen_terminals_take_turns(rt: HostRuntime) -> Result<(), Fail> {
+    let alloc = rt.alloc();
+    let mut made = String::new(alloc);
+    let mut units = String::new(alloc);
+    let mut transcript = String::new(alloc);
+    let mut halts = String::new(alloc);
+    for t in 0..16 {
+        writeln!(made, "LOGIN {t} U{t}")?;
+        writeln!(transcript, "T{t} @")?;
+        writeln!(units, "U {t} 1 1")?;
+        writeln!(halts, "T{t} \\015\\012\nT{t} @")?;
+    }
+    for t in 0..16 {
+        writeln!(made, "POKE {t} 17 104000000170\nSTART {t} 17")?;
+    }
+    let mut script = String::from_str(alloc, made.as_str())?;
+    script.push_str("RUN 17\n")?;
+    made.push_str(units.as_str())?;
+    made.push_str("I 1\nE 0 0\n")?;
+    transcript.push_str(halts.as_str())?;
+    assert_runs(
+        &rt,
+        script.as_bytes(),
+        transcript.as_bytes(),
+        made.as_bytes(),
+    )
+}

@@ -1,5 +1,5 @@
 // A machine with nothing in it.
-ghost use Rattle.std.specs.Prelude.{◌≡◌, ◌<◌, ◌≤◌, true, false, OnOk, IfOk, length, replicate};
+ghost use Rattle.std.specs.Prelude.{◌≡◌, ◌<◌, ◌≤◌, true, false, IfOk, replicate};
 ghost use Rattle.plain_model.specs.State.{opening, opening_pages};
 ghost use Rattle.plain_model.specs.Outcome.{DrumWords};
 ghost use Rattle.plain_model.specs.declared.names.Tty.{Tty as ATty};
@@ -43,6 +43,7 @@ impl<P: Pages + Drop> Machine<P> {
             pages,
             jobs,
             fork_serials,
+            clock: 0,
             terminals: 0,
             next: 0,
             done: 0,

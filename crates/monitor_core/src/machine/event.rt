@@ -1,20 +1,17 @@
 // One event: its steps, given to a taker.
-ghost use Rattle.std.specs.Prelude.{◌≡◌, ◌<◌, ◌^◌, ◌+◌, ◌≤◌, ◌↔◌, ◌∷◌, [], true, OnOk, OnErr, IsTrue};
+ghost use Rattle.std.specs.Prelude.{◌≡◌, ◌<◌, ◌^◌, ◌+◌, ◌≤◌, ◌↔◌, true, OnOk, OnErr};
 ghost use Rattle.outside.specs.Faults.{Rose};
 ghost use Rattle.plain_model.specs.Taker.{StaysOnward};
-ghost use Rattle.plain_model.specs.Limits.{FitsEvent, IsBuilt, IsTerminal, FitsStep};
+ghost use Rattle.plain_model.specs.Limits.{FitsEvent, IsBuilt};
 ghost use Rattle.plain_model.specs.Outcome.{Went, Stopped, CutOff};
 ghost use Rattle.plain_model.specs.Run.{auto_after};
 ghost use Rattle.monitor_core.specs.Machine.{IsSound, Fits, plain, done, auto, is_live as live_of};
-ghost use Rattle.monitor_core.specs.Did.{Did};
-ghost use Rattle.monitor_core.specs.Shown.{shown_items, FitsShown};
 ghost use Rattle.monitor_core.specs.Steps.{Acted, ActCut};
-ghost use Rattle.plain_model.specs.declared.event.Step.{Step as AStep};
 
-use crate::giving::give_step;
+use crate::giving::give_event;
 use crate::machine::{Ended, Machine};
 use outside::{Drum, Failed};
-use plain_model::{Event, Pages, Step, Taker};
+use plain_model::{Event, Pages, Taker};
 
 impl<P: Pages> Machine<P> {
     // Does an event, and gives its steps.
@@ -32,33 +29,29 @@ impl<P: Pages> Machine<P> {
         ensures err { OnErr result (ActCut P.fits P.filed P.plain T.stands T.cut self.old out.old out.new (auto self.old) e) }
         ensures sound { IsSound P.lives P.forks_of P.serial self.new }
         ensures few { done self.new < 2 ^ 62 }
-        ensures auto { self.new.auto ≡ self.old.auto }
+        ensures auto { self.new.auto ≡ auto_after self.old.auto e }
         ensures live { self.new.live ≡ self.old.live }
         ensures most { P.most self.new.pages ≡ P.most self.old.pages }
     {
         match e {
-            Event::Login(t, user) => {
-                let shown = self.login(t, user);
-                give_step(out, t, shown, Step::Outer(e))
-            }
-            Event::Poke(t, address, word) => {
-                let shown = self.poke(t, address, word);
-                give_step(out, t, shown, Step::Outer(e))
-            }
-            Event::Start(t, address) => {
-                let shown = self.start(t, address);
-                give_step(out, t, shown, Step::Outer(e))
-            }
+            Event::Login(t, user) => give_event(out, self.login(t, user), e),
+            Event::Poke(t, address, word) => give_event(out, self.poke(t, address, word), e),
+            Event::Start(t, address) => give_event(out, self.start(t, address), e),
             Event::Run(n) => self.run(n, out),
+            Event::Tick => give_event(out, self.tick(), e),
+            // Flat pages have no frame and no transfer.
+            Event::Evict(_) | Event::Drum(_) => Ok(()),
+            Event::Auto(on) => {
+                self.auto = on;
+                Ok(())
+            }
+            Event::Examine(t, serial, address) => {
+                give_event(out, self.examine(t, serial, address), e)
+            }
+            Event::Forks(t) => give_event(out, self.forks(t), e),
             Event::TypeIn(..)
             | Event::File(_)
             | Event::Words(..)
-            | Event::Tick
-            | Event::Evict(_)
-            | Event::Drum(_)
-            | Event::Auto(_)
-            | Event::Examine(..)
-            | Event::Forks(_)
             | Event::Page(..)
             | Event::Trace(_) => unreachable!(),
         }

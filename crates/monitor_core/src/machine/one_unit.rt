@@ -1,5 +1,5 @@
 // One unit of a job's top fork.
-ghost use Rattle.std.specs.Prelude.{◌≡◌, ◌<◌, ◌^◌, ◌+◌, ◌≤◌, true, Some, IsSome};
+ghost use Rattle.std.specs.Prelude.{◌≡◌, ◌<◌, ◌^◌, ◌+◌, true, Some, IsSome};
 ghost use Rattle.plain_model.specs.declared.event.Step.{Step as AStep};
 ghost use Rattle.monitor_core.specs.Jobs.{job_at};
 ghost use Rattle.monitor_core.specs.Machine.{IsSound, done};

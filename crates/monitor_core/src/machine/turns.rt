@@ -1,36 +1,17 @@
 // The entries of a run: which fork runs next, one entry, and so many of them.
-ghost use Rattle.std.specs.Prelude.{◌≡◌, ◌<◌, ◌^◌, ◌+◌, ◌≤◌, ◌↔◌, [], ◌∷◌, ℕ, true, IsTrue, IfSome, IfNone, OnOk, OnErr, length};
+ghost use Rattle.std.specs.Prelude.{◌≡◌, ◌<◌, ◌^◌, ◌+◌, ◌≤◌, ◌↔◌, ℕ, true, IsTrue, IfSome, IfNone, OnOk, OnErr, length};
 ghost use Rattle.outside.specs.Faults.{Rose};
-ghost use Rattle.plain_model.specs.Limits.{FitsStep, IsTerminal};
-ghost use Rattle.plain_model.specs.Taker.{GoesOn, IsCut, StaysOnward};
-ghost use Rattle.monitor_core.specs.Shown.{FitsShown, shown_items};
-ghost use Rattle.plain_model.specs.declared.event.Step.{Step as AStep};
+ghost use Rattle.plain_model.specs.Taker.{StaysOnward};
 ghost use Rattle.monitor_core.specs.Machine.{IsSound, done, auto};
 ghost use Rattle.monitor_core.specs.Steps.{CanRun, TurnGiven, TurnCut, TurnsGiven, TurnsCut};
-ghost use Rattle.plain_model.specs.declared.names.ForkName.{ForkName as AForkName};
 ghost use Rattle.monitor_core.specs.Jobs.{job_at};
 ghost use Rattle.monitor_core.specs.declared.job.Job.{Job as AJob};
 
-use crate::giving::give_step;
+use crate::giving::give_unit;
 use crate::machine::Machine;
 use crate::shown::Shown;
 use outside::Failed;
 use plain_model::{ForkName, Pages, Step, TERMINALS, Taker};
-
-// Gives the unit of a fork behind the items of what it shows.
-#[inline(never)]
-fn give_unit<T: Taker>(out: &mut T, fork: ForkName, shown: Shown) -> Result<(), Failed>
-    requires terminal { IsTerminal fork.tty }
-    requires fits { FitsShown shown }
-    requires step { FitsStep (AStep.Unit fork) }
-    ensures later { T.fault_count out.old ≤ T.fault_count out.new }
-    ensures cause { OnErr result (Rose (T.fault_count out.old) (T.fault_count out.new)) }
-    ensures onward { StaysOnward T.onward out.old out.new }
-    ensures ok { OnOk result (GoesOn T.stands out.old out.new (shown_items fork.tty shown) (AStep.Unit fork ∷ [])) }
-    ensures err { OnErr result (IsCut T.stands T.cut out.old out.new (shown_items fork.tty shown) (AStep.Unit fork ∷ [])) }
-{
-    give_step(out, fork.tty, shown, Step::Unit(fork))
-}
 
 impl<P: Pages> Machine<P> {
     // Whether the top fork of a terminal can run.

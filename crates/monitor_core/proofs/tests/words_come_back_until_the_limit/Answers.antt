@@ -37,3 +37,15 @@ word-requires-2-clause-place g c = (ap (λ (lives : ForkName → Bool). lives to
 
 pub touch-requires-4 : goal.touch-requires-4
 touch-requires-4 g c = (ap (λ (lives : ForkName → Bool). lives top) c.put.ensures.lives ∙ ap (λ (lives : ForkName → Bool). lives top) c.settle.ensures.lives ∙ c.add_fork.ensures.lives top, omega arith)
+
+pub peek-requires-clause-place : goal.peek-requires-clause-place
+peek-requires-clause-place g c = (c.add_fork.ensures.lives top, omega arith)
+
+pub peek-requires-2-clause-place : goal.peek-requires-2-clause-place
+peek-requires-2-clause-place g c = (ap (λ (lives : ForkName → Bool). lives top) c.put.ensures.lives ∙ ap (λ (lives : ForkName → Bool). lives top) c.settle.ensures.lives ∙ c.add_fork.ensures.lives top, omega arith)
+
+pub peek-requires-3-clause-place : goal.peek-requires-3-clause-place
+peek-requires-3-clause-place g c = (ap (λ (lives : ForkName → Bool). lives top) c.put.ensures.lives ∙ ap (λ (lives : ForkName → Bool). lives top) c.settle.ensures.lives ∙ c.add_fork.ensures.lives top, omega arith)
+
+pub peek-requires-4-clause-place : goal.peek-requires-4-clause-place
+peek-requires-4-clause-place g c = (ap (λ (lives : ForkName → Bool). lives top) c.put.ensures.lives ∙ ap (λ (lives : ForkName → Bool). lives top) c.settle.ensures.lives ∙ c.add_fork.ensures.lives top, omega arith)

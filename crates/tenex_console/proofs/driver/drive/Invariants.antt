@@ -22,7 +22,7 @@ invariant-loop-event g l = record {
   none : pending l.initial.lines ≡ [];
   start : given l.initial.lines ≡ 0;
   no_lines : lines_given l.initial.lines ≡ 0;
-  so_far : SoFar (Fits g.P.Pages.fits g.P.Pages.filed) (plain g.P.Pages.plain) g.D.Drum.held g.S.Source.left g.K.Taker.stands l.initial.lines l.lines l.fn.script l.script l.fn.taker l.taker l.machine (auto l.machine) (done l.machine);
+  so_far : SoFar (Fits g.P.Pages.fits g.P.Pages.filed) (plain g.P.Pages.plain) g.D.Drum.held g.S.Source.left g.K.Taker.stands (g.P.Pages.most l.fn.machine.pages) l.initial.lines l.lines l.fn.script l.script l.fn.taker l.taker l.machine (auto l.machine) (done l.machine);
 }
 
 abbrev pub decreases-loop-event : goal.decreases-loop-event

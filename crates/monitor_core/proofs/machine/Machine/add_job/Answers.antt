@@ -8,7 +8,7 @@ returns-clause-did g c =
     did_login g.P.Pages.fits g.P.Pages.filed g.P.Pages.plain g.P.Pages.lives g.P.Pages.forks_of g.P.Pages.serial c.args.self.now c.requires.sound c.args.t c.args.user c.requires.free unused g.P.Pages.count g.P.Pages.most
     (λ d f. g.met.P.Pages.agrees c.args.self.now.pages d f)
     (λ d. g.met.P.Pages.none_lives c.args.self.now.pages _ (c.requires.sound.absent c.args.t c.requires.free c.requires.terminal))
-    _ c.new.result _ c.requires.terminal refl c.requires.serial refl c.new.ensures.user c.new.ensures.mode c.new.ensures.top refl c.requires.room c.add_fork.ensures.told
+    _ c.new.result _ c.requires.terminal refl c.requires.serial refl c.new.ensures.user c.new.ensures.mode c.new.ensures.top refl refl c.requires.room c.add_fork.ensures.told
 
 pub returns-clause-sound : goal.returns-clause-sound
 returns-clause-sound g c =
@@ -16,5 +16,5 @@ returns-clause-sound g c =
     sound_login g.P.Pages.fits g.P.Pages.filed g.P.Pages.plain g.P.Pages.lives g.P.Pages.forks_of g.P.Pages.serial c.args.self.now c.requires.sound c.args.t c.args.user c.requires.free unused g.P.Pages.count g.P.Pages.most
     (λ d f. g.met.P.Pages.agrees c.args.self.now.pages d f)
     (λ d. g.met.P.Pages.none_lives c.args.self.now.pages _ (c.requires.sound.absent c.args.t c.requires.free c.requires.terminal))
-    _ c.new.result _ c.requires.terminal refl c.requires.serial refl c.new.ensures.user c.new.ensures.mode c.new.ensures.top refl
+    _ c.new.result _ c.requires.terminal refl c.requires.serial refl c.new.ensures.user c.new.ensures.mode c.new.ensures.top refl refl
     c.add_fork.ensures.lives c.add_fork.ensures.others c.add_fork.ensures.serials refl c.max-self.ensures

@@ -12,7 +12,7 @@ returns-clause-ok g c =
       step = Idle;
       turn = tt;
       gave = gave_step g.P.Pages.fits g.P.Pages.filed g.P.Pages.plain g.T.Taker.stands g.T.Taker.cut c.args.self.now _ c.args.out.now c.step.new.self c.args.self.now.auto Idle []
-          (did_idle g.P.Pages.fits g.P.Pages.filed g.P.Pages.plain c.args.self.now _ refl refl refl)
+          (did_idle g.P.Pages.fits g.P.Pages.filed g.P.Pages.plain c.args.self.now _ refl refl refl refl)
           (λ d f on q r. none_runnable g.P.Pages.fits g.P.Pages.filed g.P.Pages.plain g.P.Pages.lives g.P.Pages.forks_of g.P.Pages.serial c.args.self.now c.requires.sound c.requires.none d q r)
           h;
     })
@@ -25,11 +25,11 @@ returns-clause-err g c =
       step = Idle;
       turn = tt;
       gave = cut_step g.P.Pages.fits g.P.Pages.filed g.P.Pages.plain g.T.Taker.stands g.T.Taker.cut c.args.self.now c.args.self.now c.args.out.now c.step.new.self c.args.self.now.auto Idle []
-          (did_idle g.P.Pages.fits g.P.Pages.filed g.P.Pages.plain c.args.self.now c.args.self.now refl refl refl)
+          (did_idle g.P.Pages.fits g.P.Pages.filed g.P.Pages.plain c.args.self.now c.args.self.now refl refl refl refl)
           (λ d f on q r. none_runnable g.P.Pages.fits g.P.Pages.filed g.P.Pages.plain g.P.Pages.lives g.P.Pages.forks_of g.P.Pages.serial c.args.self.now c.requires.sound c.requires.none d q r)
           h;
     })
     c.step.ensures.err
 
 pub returns-clause-sound : goal.returns-clause-sound
-returns-clause-sound g c = sound_later g.P.Pages.lives g.P.Pages.forks_of g.P.Pages.serial c.args.self.now _ c.requires.sound refl refl refl refl (omega arith)
+returns-clause-sound g c = sound_later g.P.Pages.lives g.P.Pages.forks_of g.P.Pages.serial c.args.self.now _ c.requires.sound refl refl refl refl (omega arith) (omega (arith, c.requires.sound.ticks))

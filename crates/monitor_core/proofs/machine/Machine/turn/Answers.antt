@@ -32,7 +32,7 @@ returns-in-Nothing-clause-ok g c =
     let r = c.in-Some.ensures.some.1 in
     on_ok_weaker c.step.result
     (λ h. unit_given g.P.Pages.fits g.P.Pages.filed g.P.Pages.plain g.T.Taker.stands g.T.Taker.cut g.P.Pages.lives g.P.Pages.forks_of g.P.Pages.serial c.args.self.now c.unit-shown.new.self c.requires.sound c.args.out.now c.step.new.self c.args.self.now.auto c.in-Some.t r c.fork_of-fork.result Nothing (c.fork_of-fork.ensures r.job r.there) (subst (λ x. Did g.P.Pages.fits g.P.Pages.filed g.P.Pages.plain c.args.self.now c.unit-shown.new.self (Turn r.job.top.name) (shown_items r.job.top.name.tty x)) c.in-Nothing.is (c.unit-shown.ensures.did r.job r.there))
-    _ refl refl refl h)
+    _ refl refl refl refl h)
     c.step.ensures.ok
 
 pub returns-in-Nothing-clause-err : goal.returns-in-Nothing-clause-err
@@ -47,7 +47,7 @@ returns-in_default-clause-ok g c =
     let r = c.in-Some.ensures.some.1 in
     on_ok_weaker c.give_unit.result
     (λ h. unit_given g.P.Pages.fits g.P.Pages.filed g.P.Pages.plain g.T.Taker.stands g.T.Taker.cut g.P.Pages.lives g.P.Pages.forks_of g.P.Pages.serial c.args.self.now c.unit-shown.new.self c.requires.sound c.args.out.now c.give_unit.new.out c.args.self.now.auto c.in-Some.t r c.fork_of-fork.result c.unit-shown.result (c.fork_of-fork.ensures r.job r.there) (c.unit-shown.ensures.did r.job r.there)
-    _ refl refl refl h)
+    _ refl refl refl refl h)
     c.give_unit.ensures.ok
 
 pub returns-in_default-clause-err : goal.returns-in_default-clause-err

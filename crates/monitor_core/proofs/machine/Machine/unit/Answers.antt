@@ -33,6 +33,7 @@ returns-clause-sound g c =
     let kept = fetch_keeps c.in-Some.job.top job.off job.pc job.accumulators c.fetch-fetched.result c.fetch-fetched.ensures.fits in
     sound_job g.P.Pages.lives g.P.Pages.forks_of g.P.Pages.serial c.args.self.now _ c.args.t c.in-Some.job c.ran.new.self c.requires.sound at refl refl refl refl refl (omega arith)
     (λ u. omega (arith, c.requires.sound.pages u))
+    (omega (arith, c.requires.sound.ticks))
     (ap (λ j. j.top.name) c.ran.ensures.job ∙ kept.name)
     (subst (λ j. IsJob (c.args.self.now.done + 1) c.args.t j) (sym c.ran.ensures.job) runs)
 
@@ -40,4 +41,4 @@ pub returns-clause-did : goal.returns-clause-did
 returns-clause-did g c j there =
     let at = job_read c.args.self.now.jobs.items c.args.t _ c.in-Some.job c.requires.sound.job_room c.requires.low c.index_mut.ensures.value c.in-Some.is in
     did_unit_of g.P.Pages.fits g.P.Pages.filed g.P.Pages.plain g.P.Pages.lives g.P.Pages.forks_of g.P.Pages.serial c.args.self.now _ c.args.t c.in-Some.job j c.ran.new.self c.fetch-fetched.result c.ran.result c.requires.sound at there
-    refl c.ran.ensures.job c.ran.ensures.shown refl refl c.fetch-fetched.ensures.fits c.fetch-fetched.ensures.told
+    refl c.ran.ensures.job c.ran.ensures.shown refl refl refl c.fetch-fetched.ensures.fits c.fetch-fetched.ensures.told

@@ -1,0 +1,5 @@
+pub mod Looks
+pub mod Steps
+pub mod Found
+pub mod Whole
+pub mod Reading

@@ -1,0 +1,13 @@
+// What the definitions say of the entries that events may have.
+ghost use Rattle.std.specs.Prelude.{ℕ, List, All, true};
+ghost use Rattle.plain_model.specs.declared.event.Event.{Event as AEvent};
+ghost use Rattle.plain_model.specs.declared.event.Step.{Step as AStep};
+ghost use Rattle.plain_model.specs.State.{opening};
+ghost use Rattle.plain_model.specs.Run.{IsLegal};
+ghost use Rattle.plain_model.specs.Limits.{FitsEvent, FitsStep};
+
+/// Events within their limits have entries within theirs, in whatever legal order the forks' units come: each
+/// is an event that is one entry, a unit of a fork whose name is a terminal and a serial, 1 to 262,143, or idle.
+pub fn entries_fit()
+    ensures { (limit : ℕ) (events : List AEvent) (entries : List AStep) → All FitsEvent events → IsLegal true (opening limit) events entries → All FitsStep entries }
+{}

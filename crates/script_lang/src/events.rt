@@ -1,0 +1,151 @@
+// The events of lines, read from what stands behind their keywords.
+ghost use Rattle.std.specs.Prelude.{◌++◌, MatchOption, codes};
+ghost use Rattle.plain_model.specs.Script.{Spells};
+ghost use Rattle.script_lang.specs.Grammar.{SpellsNone};
+
+use crate::fields::{
+    address, address_field, cut, head, page, page_field, read_decimal, serial_field, switch, tty,
+    tty_field, word,
+};
+use crate::names::{dir_name, file_name};
+use crate::rows::row;
+use crate::typed::typed;
+use plain_model::Event;
+
+// How many decimal digits a number of units, of a frame or of transfers has at most.
+const COUNT_DIGITS: usize = 7;
+
+// How many units one line runs at most.
+const MOST_UNITS: u32 = 1_000_000;
+
+// How many words a page has.
+const PAGE_WORDS: u16 = 512;
+
+// How many bytes stand behind TYPE at most.
+const MOST_BEHIND_TYPE: usize = 251;
+
+/// A terminal, and a user.
+pub(crate) fn login(rest: &[u8]) -> Option<Event>
+    ensures { MatchOption result (SpellsNone (codes "LOGIN " ++ rest.now)) (Spells (codes "LOGIN " ++ rest.now)) }
+{
+    let (tty, user) = tty_field(rest)?;
+    Some(Event::Login(tty, dir_name(user)?))
+}
+
+/// A terminal, and 1 to 100 characters.
+pub(crate) fn type_in(rest: &[u8]) -> Option<Event>
+    ensures { MatchOption result (SpellsNone (codes "TYPE " ++ rest.now)) (Spells (codes "TYPE " ++ rest.now)) }
+{
+    if rest.len() > MOST_BEHIND_TYPE {
+        return None;
+    }
+    let (tty, text) = tty_field(rest)?;
+    let text = typed(text)?;
+    if text.as_slice().is_empty() {
+        return None;
+    }
+    Some(Event::TypeIn(tty, text))
+}
+
+/// A file's name.
+pub(crate) fn file(rest: &[u8]) -> Option<Event>
+    ensures { MatchOption result (SpellsNone (codes "FILE " ++ rest.now)) (Spells (codes "FILE " ++ rest.now)) }
+{
+    Some(Event::File(file_name(rest)?))
+}
+
+/// A file's name, a page, an offset in it, and 1 to 8 words that lie within the page from there on.
+pub(crate) fn words(rest: &[u8]) -> Option<Event>
+    ensures { MatchOption result (SpellsNone (codes "WORDS " ++ rest.now)) (Spells (codes "WORDS " ++ rest.now)) }
+{
+    let (front, rest) = cut(rest, b' ')?;
+    let name = file_name(front)?;
+    let (number, rest) = page_field(rest)?;
+    let (front, fields) = head(rest);
+    let offset = page(front)?;
+    let row = row(fields)?;
+    if row.count == 0 || offset + row.count as u16 > PAGE_WORDS {
+        return None;
+    }
+    Some(Event::Words(name, number, offset, row))
+}
+
+/// A terminal, an address and a word.
+pub(crate) fn poke(rest: &[u8]) -> Option<Event>
+    ensures { MatchOption result (SpellsNone (codes "POKE " ++ rest.now)) (Spells (codes "POKE " ++ rest.now)) }
+{
+    let (tty, rest) = tty_field(rest)?;
+    let (address, field) = address_field(rest)?;
+    Some(Event::Poke(tty, address, word(field)?))
+}
+
+/// A terminal and an address.
+pub(crate) fn start(rest: &[u8]) -> Option<Event>
+    ensures { MatchOption result (SpellsNone (codes "START " ++ rest.now)) (Spells (codes "START " ++ rest.now)) }
+{
+    let (tty, field) = tty_field(rest)?;
+    Some(Event::Start(tty, address(field)?))
+}
+
+/// How many units are run: 1 to 1,000,000.
+pub(crate) fn run(rest: &[u8]) -> Option<Event>
+    ensures { MatchOption result (SpellsNone (codes "RUN " ++ rest.now)) (Spells (codes "RUN " ++ rest.now)) }
+{
+    let n = read_decimal(rest, COUNT_DIGITS)?;
+    if n == 0 || n > MOST_UNITS {
+        return None;
+    }
+    Some(Event::Run(n))
+}
+
+/// The number of a frame.
+pub(crate) fn evict(rest: &[u8]) -> Option<Event>
+    ensures { MatchOption result (SpellsNone (codes "EVICT " ++ rest.now)) (Spells (codes "EVICT " ++ rest.now)) }
+{
+    Some(Event::Evict(read_decimal(rest, COUNT_DIGITS)?))
+}
+
+/// How many transfers are completed.
+pub(crate) fn drum(rest: &[u8]) -> Option<Event>
+    ensures { MatchOption result (SpellsNone (codes "DRUM " ++ rest.now)) (Spells (codes "DRUM " ++ rest.now)) }
+{
+    Some(Event::Drum(read_decimal(rest, COUNT_DIGITS)?))
+}
+
+/// ON or OFF.
+pub(crate) fn auto(rest: &[u8]) -> Option<Event>
+    ensures { MatchOption result (SpellsNone (codes "AUTO " ++ rest.now)) (Spells (codes "AUTO " ++ rest.now)) }
+{
+    Some(Event::Auto(switch(rest)?))
+}
+
+/// A terminal, a fork's serial and an address.
+pub(crate) fn examine(rest: &[u8]) -> Option<Event>
+    ensures { MatchOption result (SpellsNone (codes "EXAMINE " ++ rest.now)) (Spells (codes "EXAMINE " ++ rest.now)) }
+{
+    let (tty, rest) = tty_field(rest)?;
+    let (serial, field) = serial_field(rest)?;
+    Some(Event::Examine(tty, serial, address(field)?))
+}
+
+/// A terminal.
+pub(crate) fn forks(rest: &[u8]) -> Option<Event>
+    ensures { MatchOption result (SpellsNone (codes "FORKS " ++ rest.now)) (Spells (codes "FORKS " ++ rest.now)) }
+{
+    Some(Event::Forks(tty(rest)?))
+}
+
+/// A file's name and a page.
+pub(crate) fn show_page(rest: &[u8]) -> Option<Event>
+    ensures { MatchOption result (SpellsNone (codes "PAGE " ++ rest.now)) (Spells (codes "PAGE " ++ rest.now)) }
+{
+    let (front, field) = cut(rest, b' ')?;
+    Some(Event::Page(file_name(front)?, page(field)?))
+}
+
+/// ON or OFF.
+pub(crate) fn trace(rest: &[u8]) -> Option<Event>
+    ensures { MatchOption result (SpellsNone (codes "TRACE " ++ rest.now)) (Spells (codes "TRACE " ++ rest.now)) }
+{
+    Some(Event::Trace(switch(rest)?))
+}

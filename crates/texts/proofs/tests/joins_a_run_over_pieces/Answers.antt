@@ -1,0 +1,12 @@
+use Rattle.std.proofs.Common.{[], ◌∷◌, refl, sym, subst, lit<, lit≤}
+use Rattle.std.specs.Fmt.{digits}
+use Rattle.word36.specs.Octal.{octal_padded}
+use Rattle.plain_model.specs.Limits.{FitsEvent}
+use Rattle.plain_model.specs.declared.event.Event.TheVariants.{TypeIn}
+use Rattle.script_lang.proofs.CanonicalFits.{typed_low}
+use Rattle.texts.proofs.tests.joins_a_run_over_pieces.Goals as goal
+
+pub step-requires-5 : goal.step-requires-5
+unfolding digits octal_padded
+step-requires-5 g c =
+    (subst (λ l. FitsEvent (TypeIn (record { 0 = 10 }) l)) (sym c.new-5.ensures) (lit< tt, lit≤ tt, lit≤ tt, typed_low (65 ∷ 32 ∷ 92 ∷ 13 ∷ []) refl, lit≤ tt), refl)
