@@ -4,17 +4,7 @@
 # leave out the start of the program. It prints the most memory that the long run had at once, and that of
 # an empty script: the two differ by nothing that grows with the script.
 set -eu
-top=$(cd "$(dirname "$0")/.." && pwd)
-program=$top/build/tenex
-work=$(mktemp -d)
-trap 'rm -rf "$work"' EXIT
-cd "$work"
-
-# The milliseconds of processor time that a run of a script takes.
-milliseconds() {
-    local TIMEFORMAT='%U %S'
-    { time "$program" run <"$1" >/dev/null; } 2>&1 | awk '{ printf "%d\n", ($1 + $2) * 1000 }'
-}
+source "$(dirname "$0")/program.inc"
 
 # The most kilobytes that a run of a script has in memory at once.
 kilobytes() {
@@ -27,7 +17,6 @@ print(resource.getrusage(resource.RUSAGE_CHILDREN).ru_maxrss)
 PYTHON
 }
 
-"$top/tenex" run </dev/null
 : >empty.script
 awk 'BEGIN {
     line = "LOGIN 0 SMITH\n"

@@ -3,11 +3,7 @@
 # jumps to itself, and how many machine instructions a unit takes. Both leave out the start of the program:
 # they are the difference between two runs. The seconds are of processor time.
 set -eu
-top=$(cd "$(dirname "$0")/.." && pwd)
-program=$top/build/tenex
-work=$(mktemp -d)
-trap 'rm -rf "$work"' EXIT
-cd "$work"
+source "$(dirname "$0")/program.inc"
 millions=${1:-20}
 
 # A script of the loop, with RUN lines of so many units, once for each argument.
@@ -18,19 +14,12 @@ script() {
     done
 }
 
-# The milliseconds of processor time that a run of a script takes.
-milliseconds() {
-    local TIMEFORMAT='%U %S'
-    { time "$program" run <"$1" >/dev/null; } 2>&1 | awk '{ printf "%d\n", ($1 + $2) * 1000 }'
-}
-
 # The machine instructions that a run of a script takes.
 instructions() {
     valgrind --tool=callgrind --callgrind-out-file="$work/callgrind" "$program" run <"$1" 2>&1 >/dev/null |
         awk '/Collected/ { print $NF }'
 }
 
-"$top/tenex" run </dev/null
 script >start.script
 script 1000000 >one.script
 script 500000 >half.script
