@@ -1,5 +1,5 @@
 -- The run of the example, entry by entry.
-use Rattle.std.proofs.Common.{◌≡◌, ℕ, ◌+◌, List, [], ◌∷◌, ◌++◌, Bool, true, false, cond, Option, None, Some, refl, sym, ◌∙◌, ap, subst}
+use Rattle.std.proofs.Common.{◌≡◌, ℕ, ◌+◌, List, [], ◌∷◌, ◌++◌, Bool, true, false, cond, Option, None, Some, refl, sym, ◌∙◌, ap, subst, inl, arith}
 use Rattle.std.specs.Prelude.{is_some, replicate, codes, slice_get, slice_set, slice_index}
 use Rattle.std.specs.declared.cmp.Ordering.{Ordering}
 use Rattle.std.specs.Ordering.{nat_cmp, eq_by_cmp, is_eq}
@@ -7,7 +7,6 @@ use Rattle.std.specs.Cmp.{IsTotalOrder, nat_cmp_total}
 use Rattle.std.proofs.lemmas.Cmp.{tied_itself}
 use Rattle.std.specs.FinMap as map
 use Rattle.plain_model.specs.declared.names.ForkName.{ForkName}
-use Rattle.plain_model.specs.declared.names.Access.{Access}
 use Rattle.plain_model.specs.declared.names.PageName.{PageName}
 use Rattle.plain_model.specs.declared.map.MapEntry.TheVariants.{Empty, Names}
 use Rattle.plain_model.specs.declared.fork.Fork.{Fork}
@@ -21,12 +20,20 @@ use Rattle.plain_model.specs.declared.event.Event.TheVariants.{Login, Poke, Star
 use Rattle.plain_model.specs.declared.event.Item.TheVariants.{Char}
 use Rattle.plain_model.specs.declared.event.Step.{Step}
 use Rattle.plain_model.specs.declared.event.Step.TheVariants.{Outer, Unit as AUnit, Idle}
-use Rattle.plain_model.specs.State.{PlainState, PlainPages, PlainJob, Map, Maps, opening, opening_pages, first_serials}
-use Rattle.plain_model.specs.Orders.{fork_cmp, page_cmp}
-use Rattle.plain_model.specs.References.{zero_words}
+use Rattle.plain_model.specs.State.{PlainState, NamedPages, PlainJob, Map, Maps, opening, opening_pages, first_serials}
+use Rattle.plain_model.specs.Orders.{fork_cmp, page_cmp, name_cmp}
+use Rattle.plain_model.specs.Maps.{entry_at, full_access, chain, chain_within}
+use Rattle.plain_model.specs.Room.{live, HasRoom}
+use Rattle.plain_model.specs.References.{zero_words, in_map, blank, make, make_all, makings, reference, page_at}
+use Rattle.plain_model.specs.Whole.{AreWhole}
+use Rattle.std.specs.Option.{option_map_or, option_and_then}
+use Rattle.std.specs.Cmp.Lexicographic.{nat_list_cmp_total}
+use Rattle.plain_model.specs.declared.names.Slot.{Slot}
+use Rattle.plain_model.proofs.Whole.{opening_whole, map_whole, live_whole}
+use Rattle.plain_model.proofs.Makings.{make_whole}
 use Rattle.plain_model.specs.Forks.{top_fork, first_regs}
-use Rattle.plain_model.specs.Events.{empty_map, new_job}
-use Rattle.plain_model.specs.Unit.{Effect}
+use Rattle.plain_model.specs.Events.{empty_map, new_job, outer}
+use Rattle.plain_model.specs.Unit.{Effect, unit}
 use Rattle.plain_model.specs.Run.{apply, items_of, AreLegal, IsLegal, IsLegalStep, Follows, FollowsShape, single, shape_of, auto_after}
 use Rattle.plain_model.specs.Example.{first_terminal, first_fork, movei_word, pbout_word, haltf_word, example_events, example_steps, example_items}
 use Rattle.plain_model.proofs.OrderLemmas.{fork_cmp_total, page_cmp_total}
@@ -34,10 +41,6 @@ use Rattle.plain_model.proofs.OrderLemmas.{fork_cmp_total, page_cmp_total}
 -- a key that was just set
 get_set : {K V : Type 0} {R : K → K → Ordering} (o : IsTotalOrder R) (m : map.FinMap R V) (k : K) (v : V) → map.get (map.insert m k v) k ≡ Some v
 get_set o m k v = map.get-insert o m k v k ∙ ap (λ r. cond (is_eq r) (Some v) (map.get m k)) (tied_itself o k)
-
--- every right, and no copy mark
-abbrev rights : Access
-rights = record { r = true; w = true; x = true; c = false }
 
 -- the page that the script makes
 abbrev page : PageName
@@ -94,8 +97,8 @@ forks_5 = map.insert forks_4 first_fork (fork Halted regs_3 3)
 abbrev maps_1 : Maps
 maps_1 = map.insert map.empty first_fork empty_map
 
-abbrev pages_1 : PlainPages
-pages_1 = record { objects = map.empty; maps = maps_1; page_serials = replicate 16 1; console_serial = 1; limit = 2048 }
+abbrev pages_1 : NamedPages
+pages_1 = record { objects = map.empty; maps = maps_1; files = map.empty; page_serials = replicate 16 1; console_serial = 1; limit = 2048 }
 
 abbrev words_1 : List ℕ
 words_1 = slice_set zero_words 64 movei_word
@@ -106,63 +109,31 @@ words_2 = slice_set words_1 65 pbout_word
 abbrev words_3 : List ℕ
 words_3 = slice_set words_2 66 haltf_word
 
-abbrev with_page : PlainPages → List ℕ → PlainPages
+abbrev with_page : NamedPages → List ℕ → NamedPages
 with_page p words = record p { objects = map.insert p.objects page words }
 
 -- with the zero page
-abbrev pages_2 : PlainPages
+abbrev pages_2 : NamedPages
 pages_2 = record {
   objects = map.insert map.empty page zero_words;
-  maps = map.insert maps_1 first_fork (slice_set empty_map 0 (Names page rights));
+  maps = map.insert maps_1 first_fork (slice_set empty_map 0 (Names page full_access));
+  files = map.empty;
   page_serials = slice_set (replicate 16 1) 0 2;
   console_serial = 1;
   limit = 2048;
 }
 
-abbrev pages_3 : PlainPages
+abbrev pages_3 : NamedPages
 pages_3 = with_page pages_2 words_1
 
-abbrev pages_4 : PlainPages
+abbrev pages_4 : NamedPages
 pages_4 = with_page pages_3 words_2
 
-abbrev pages_5 : PlainPages
+abbrev pages_5 : NamedPages
 pages_5 = with_page pages_4 words_3
 
-abbrev at : PlainPages → Jobs → AllForks → PlainState
+abbrev at : NamedPages → Jobs → AllForks → PlainState
 at p jobs forks = record { pages = p; files = map.empty; jobs = jobs; forks = forks; fork_serials = slice_set (replicate 16 1) 0 2; clock = 0; trace = false }
-
-one_map : map.len maps_1 ≡ 1
-one_map =
-    map.len-insert fork_cmp_total map.empty first_fork empty_map
-    ∙ ap (λ (o : Option Map). cond (is_some o) (map.len {R = fork_cmp} (map.empty {X = Map})) (map.len {R = fork_cmp} (map.empty {X = Map}) + 1)) (map.get-empty fork_cmp first_fork)
-    ∙ ap (λ n. n + 1) (map.len-empty fork_cmp Map)
-
-logs_in : apply (opening 2048) (Outer (Login first_terminal (codes "SMITH"))) ≡ record { state = at pages_1 jobs_1 forks_1; items = Char first_terminal 64 ∷ [] }
-unfolding opening opening_pages first_serials
-logs_in = simp (map.get-empty, map.len-empty, one_map)
-
-one_page : map.len pages_2.objects ≡ 1
-one_page =
-    map.len-insert page_cmp_total map.empty page zero_words
-    ∙ ap (λ (o : Option (List ℕ)). cond (is_some o) (map.len {R = page_cmp} (map.empty {X = List ℕ})) (map.len {R = page_cmp} (map.empty {X = List ℕ}) + 1)) (map.get-empty page_cmp page)
-    ∙ ap (λ n. n + 1) (map.len-empty page_cmp (List ℕ))
-
-still_one_map : map.len pages_2.maps ≡ 1
-still_one_map =
-    map.len-insert fork_cmp_total maps_1 first_fork (slice_set empty_map 0 (Names page rights))
-    ∙ ap (λ (o : Option Map). cond (is_some o) (map.len maps_1) (map.len maps_1 + 1)) (get_set fork_cmp_total map.empty first_fork empty_map)
-    ∙ one_map
-
-empty_entry : slice_get empty_map 0 ≡ Some Empty
-unfolding empty_map
-empty_entry = refl
-
-named_entry : slice_get (slice_set empty_map 0 (Names page rights)) 0 ≡ Some (Names page rights)
-unfolding empty_map
-named_entry = refl
-
-job_set : (m : Jobs) (k : ℕ) (v : PlainJob) → map.get (map.insert m k v) k ≡ Some v
-job_set m k v = get_set nat_cmp_total m k v
 
 fork_set : (m : AllForks) (f : ForkName) (v : Fork) → map.get (map.insert m f v) f ≡ Some v
 fork_set m f v = get_set fork_cmp_total m f v
@@ -170,19 +141,74 @@ fork_set m f v = get_set fork_cmp_total m f v
 map_set : (m : Maps) (f : ForkName) (v : Map) → map.get (map.insert m f v) f ≡ Some v
 map_set m f v = get_set fork_cmp_total m f v
 
+-- what is made is whole, so its pages and forks are counted
+first_len : {X : Type 0} {K : Type 0} {R : K → K → Ordering} → IsTotalOrder R → (k : K) (v : X) → map.len (map.insert (map.empty {R = R}) k v) ≡ 1
+first_len {X} {K} {R} o k v =
+    map.len-insert o map.empty k v
+    ∙ ap (λ (x : Option X). cond (is_some x) (map.len {R = R} (map.empty {X = X})) (map.len {R = R} (map.empty {X = X}) + 1)) (map.get-empty R k)
+    ∙ ap (λ n. n + 1) (map.len-empty R X)
+
+whole_1 : AreWhole pages_1
+unfolding opening_pages first_serials
+whole_1 = map_whole (opening_pages name_cmp 2048) (opening_whole name_cmp 2048) first_fork (map.get-empty fork_cmp first_fork)
+
+live_1 : live pages_1 ≡ 1
+live_1 = live_whole pages_1 whole_1 ∙ ap (λ n. n + map.len maps_1) (map.len-empty page_cmp (List ℕ)) ∙ ap (λ n. 0 + n) (first_len fork_cmp_total first_fork empty_map)
+
+logs_in : apply (opening 2048) (Outer (Login first_terminal (codes "SMITH"))) ≡ record { state = at pages_1 jobs_1 forks_1; items = Char first_terminal 64 ∷ [] }
+unfolding apply outer HasRoom opening opening_pages first_serials
+logs_in = simp (map.get-empty, live_1)
+
+empty_entry : slice_get empty_map 0 ≡ Some Empty
+unfolding empty_map
+empty_entry = refl
+
+named_entry : slice_get (slice_set empty_map 0 (Names page full_access)) 0 ≡ Some (Names page full_access)
+unfolding empty_map
+named_entry = refl
+
+job_set : (m : Jobs) (k : ℕ) (v : PlainJob) → map.get (map.insert m k v) k ≡ Some v
+job_set m k v = get_set nat_cmp_total m k v
+
 page_set : (m : map.FinMap page_cmp (List ℕ)) (n : PageName) (v : List ℕ) → map.get (map.insert m n v) n ≡ Some v
 page_set m n v = get_set page_cmp_total m n v
 
+abbrev first_slot : Slot
+first_slot = record { fork = first_fork; page = 0 }
+
+first_entry : entry_at maps_1 first_slot ≡ Some Empty
+first_entry = ap (λ (m : Option Map). option_and_then (λ n. slice_get n 0) m) (map_set map.empty first_fork empty_map) ∙ empty_entry
+
+makes : make pages_1 first_terminal (blank (in_map first_slot)) ≡ pages_2
+unfolding make
+makes = ap (λ (m : Option Map). record pages_2 { maps = option_map_or (λ n. map.insert maps_1 first_fork (slice_set n 0 (Names page full_access))) m maps_1 }) (map_set map.empty first_fork empty_map)
+
+whole_2 : AreWhole pages_2
+whole_2 = subst (λ (p : NamedPages). AreWhole p) makes (make_whole nat_list_cmp_total pages_1 whole_1 first_terminal (inl (omega arith)) (blank (in_map first_slot)) first_entry)
+
+still_one_map : map.len pages_2.maps ≡ 1
+still_one_map =
+    map.len-insert fork_cmp_total maps_1 first_fork (slice_set empty_map 0 (Names page full_access))
+    ∙ ap (λ (o : Option Map). cond (is_some o) (map.len maps_1) (map.len maps_1 + 1)) (map_set map.empty first_fork empty_map)
+    ∙ first_len fork_cmp_total first_fork empty_map
+
+live_2 : live pages_2 ≡ 2
+live_2 = live_whole pages_2 whole_2 ∙ ap (λ n. n + map.len pages_2.maps) (first_len page_cmp_total page zero_words) ∙ ap (λ n. 1 + n) still_one_map
+
 pokes_1 : apply (at pages_1 jobs_1 forks_1) (Outer (Poke first_terminal 64 movei_word)) ≡ record { state = at pages_3 jobs_1 forks_1; items = [] }
-pokes_1 = simp (job_set, map_set, page_set, empty_entry, named_entry, one_page, still_one_map)
+unfolding apply outer unit reference makings make make_all page_at chain chain_within HasRoom
+pokes_1 = simp (job_set, map_set, page_set, empty_entry, named_entry, live_2)
 
 pokes_2 : apply (at pages_3 jobs_1 forks_1) (Outer (Poke first_terminal 65 pbout_word)) ≡ record { state = at pages_4 jobs_1 forks_1; items = [] }
+unfolding apply outer unit reference makings make make_all page_at chain chain_within HasRoom
 pokes_2 = simp (job_set, map_set, page_set, named_entry)
 
 starts : apply (at pages_5 jobs_1 forks_1) (Outer (Start first_terminal 64)) ≡ record { state = at pages_5 jobs_2 forks_2; items = [] }
+unfolding apply outer unit reference makings make make_all page_at chain chain_within HasRoom
 starts = simp (job_set, fork_set)
 
 pokes_3 : apply (at pages_4 jobs_1 forks_1) (Outer (Poke first_terminal 66 haltf_word)) ≡ record { state = at pages_5 jobs_1 forks_1; items = [] }
+unfolding apply outer unit reference makings make make_all page_at chain chain_within HasRoom
 pokes_3 = simp (job_set, map_set, page_set, named_entry)
 
 movei_there : slice_index words_3 64 ≡ movei_word
@@ -202,12 +228,15 @@ unfolding first_regs
 letter_there = refl
 
 moves : apply (at pages_5 jobs_2 forks_2) (AUnit first_fork) ≡ record { state = at pages_5 jobs_2 forks_3; items = [] }
+unfolding apply outer unit reference makings make make_all page_at chain chain_within HasRoom
 moves = simp (fork_set, map_set, page_set, named_entry, movei_there)
 
 prints : apply (at pages_5 jobs_2 forks_3) (AUnit first_fork) ≡ record { state = at pages_5 jobs_2 forks_4; items = Char first_terminal 65 ∷ [] }
+unfolding apply outer unit reference makings make make_all page_at chain chain_within HasRoom
 prints = simp (fork_set, map_set, page_set, named_entry, pbout_there, letter_there)
 
 halts : apply (at pages_5 jobs_2 forks_4) (AUnit first_fork) ≡ record { state = at pages_5 jobs_3 forks_5; items = Char first_terminal 13 ∷ Char first_terminal 10 ∷ Char first_terminal 64 ∷ [] }
+unfolding apply outer unit reference makings make make_all page_at chain chain_within HasRoom
 halts = simp (job_set, fork_set, map_set, page_set, named_entry, haltf_there)
 
 -- the entries from each place on
@@ -240,6 +269,7 @@ shows : (s : PlainState) (x : Step) (e : Effect) (xs : List Step) → apply s x 
 shows s x e xs is = ap (λ (d : Effect). d.items ++ items_of d.state xs) is
 
 pub example_shows : items_of (opening 2048) example_steps ≡ example_items
+unfolding apply
 example_shows =
     shows (opening 2048) (Outer (Login first_terminal (codes "SMITH"))) (record { state = at pages_1 jobs_1 forks_1; items = Char first_terminal 64 ∷ [] }) rest_2 logs_in
     ∙ ap (λ is. Char first_terminal 64 ∷ is) (
@@ -273,6 +303,7 @@ none_runs : IsLegalStep true (at pages_5 jobs_3 forks_5) Idle
 none_runs on f r = only_halted f r.0 (eq_by_cmp fork_cmp f first_fork) refl r.1 r.2
 
 legal_6 : IsLegal true (at pages_5 jobs_2 forks_2) (Turns 5 ∷ []) rest_6
+unfolding apply
 legal_6 = (
   rest_6,
   [],

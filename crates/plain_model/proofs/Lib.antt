@@ -2,7 +2,16 @@ pub mod Fixed
 pub mod OrderLemmas
 pub mod Runs
 pub mod Named
+pub mod Counts
+pub mod Whole
+pub mod Chains
+pub mod Makings
+pub mod Settles
 pub mod Touches
+pub mod Rooms
+pub mod Refiled
+pub mod Equations
+pub mod WholeRuns
 pub mod ExampleTexts
 pub mod ExampleRun
 pub mod ExampleScript

@@ -1,15 +1,17 @@
 -- Each fork stands under its own name, which is within its limits; so are the entries that events may have.
 use Rattle.std.proofs.Common.{◌≡◌, ℕ, ◌+◌, ◌%◌, ◌≤◌, List, [], ◌∷◌, ◌++◌, length, Bool, true, false, cond, Option, None, Some, refl, sym, ◌∙◌, ap, subst, arith, All}
-use Rattle.std.specs.Prelude.{is_some, nat_lt, slice_index, slice_set, ◌==◌}
+use Rattle.std.specs.Prelude.{is_some, nat_lt, ◌==◌}
 use Rattle.std.specs.Ordering.{eq_by_cmp}
 use Rattle.std.specs.Cmp.{Equal-is}
 use Rattle.std.specs.FinMap as map
 use Rattle.std.proofs.lemmas.Bool.{cond_both, ltb-false}
 use Rattle.std.proofs.lemmas.List.{length-set}
 use Rattle.std.proofs.lemmas.List.Elements.{All-append, All-cons, All-get_or, All-head, All-nil, All-replicate, All-same, All-set, All-tail}
+use Rattle.outside.specs.declared.TheConstants.{PAGE_WORDS}
+use Rattle.plain_model.specs.declared.names.TheConstants.{ACCUMULATORS, LAST_SERIAL}
+use Rattle.plain_model.specs.declared.fork.TerminalMode.TheVariants.{Command, Program}
 use Rattle.plain_model.specs.declared.names.Tty.{Tty}
 use Rattle.plain_model.specs.declared.names.ForkName.{ForkName}
-use Rattle.plain_model.specs.declared.names.PageName.{PageName}
 use Rattle.plain_model.specs.declared.names.Slot.{Slot}
 use Rattle.plain_model.specs.declared.names.Kind.TheVariants.{Write}
 use Rattle.plain_model.specs.declared.fork.Fork.{Fork}
@@ -17,18 +19,19 @@ use Rattle.plain_model.specs.declared.fork.ForkStatus.{ForkStatus}
 use Rattle.plain_model.specs.declared.fork.ForkStatus.TheVariants.{Run as Running, Wait, Halted, Forced}
 use Rattle.plain_model.specs.declared.event.Event.{Event}
 use Rattle.plain_model.specs.declared.event.Event.TheVariants.{Login, TypeIn, File, Words, Poke, Start, Run, Tick, Evict, Drum, Auto, Examine, Forks, Page, Trace}
-use Rattle.plain_model.specs.declared.event.Item.TheVariants.{Char}
-use Rattle.plain_model.specs.declared.event.Refusal.TheVariants.{Busy, SerialsOut, Full}
+use Rattle.plain_model.specs.declared.event.Item.TheVariants.{Char, Examined}
+use Rattle.plain_model.specs.declared.event.Refusal.TheVariants.{Busy, NoJob, NoFork, NoPage, SerialsOut, Full}
 use Rattle.plain_model.specs.declared.event.Step.{Step}
 use Rattle.plain_model.specs.declared.event.Step.TheVariants.{Outer, Unit as AUnit, Idle}
-use Rattle.plain_model.specs.State.{PlainState, PlainPages, PlainJob, opening, first_serials}
-use Rattle.plain_model.specs.Orders.{fork_cmp}
-use Rattle.plain_model.specs.Forks.{ForkMap, top_fork, with_fork, with_status, with_regs, counted}
-use Rattle.plain_model.specs.Interrupts.{posted, pended, listens, is_panic}
-use Rattle.plain_model.specs.References.{Referred, granted, denied, full, reference, page_at}
+use Rattle.plain_model.specs.State.{PlainState, NamedPages, PlainJob, opening, first_serials}
+use Rattle.plain_model.specs.Orders.{fork_cmp, name_cmp}
+use Rattle.plain_model.specs.Forks.{ForkMap, top_fork, with_fork, change_fork, with_status, with_regs, counted}
+use Rattle.plain_model.specs.Interrupts.{posted, pended, listens, is_panic, illegal_instruction}
+use Rattle.plain_model.specs.References.{Referred, granted, denied, full, in_map, reference}
 use Rattle.plain_model.specs.Room.{HasRoom}
-use Rattle.plain_model.specs.Unit.{Effect, Deed, goes, calls, traps, Fetched, word as fetches, stops, in_command_mode, stops_job, stopped, settled, trapped, pbout, haltf, called, done_by, executed, unit_of, deed_of, advanced, fetched, slot_at, is_filed}
-use Rattle.plain_model.specs.Events.{refused, next_fork, with_map, with_job, restarted, login, with_accumulator, poked, poke_of, with_start, start_of, examined, examine_page, examine_fork, examine_of, show_forks_of, outer}
+use Rattle.plain_model.specs.Unit.{Effect, Deed, goes, calls, traps, Fetched, word as fetches, stops, in_command_mode, printed, stop_text, stopped, settled, trapped, pbout, haltf, called, done_by, executed, unit, deed_of, advanced, fetched, slot_at, PBOUT, HALTF}
+use Rattle.plain_model.specs.Events.{refused, next_fork, with_map, with_job, restarted, login, with_accumulator, poked, poke, start, word_seen, examine, show_forks, outer}
+use Rattle.std.specs.Option.{option_map_or}
 use Rattle.plain_model.specs.Limits.{IsForkName, IsTerminal, FitsEvent, FitsStep}
 use Rattle.plain_model.specs.Run.{Shape, silent, turns, single, shape_of, apply, state_after, IsTurn, AreTurns, FollowsShape, IsLegalStep, AreLegal, IsLegal, auto_after}
 use Rattle.plain_model.proofs.OrderLemmas.{fork_cmp_total, fork_cmp_apart}
@@ -50,13 +53,9 @@ none_named limit = record { stands = λ k f is. absurd (cc (sym (map.get-empty f
 abbrev Leaves : Effect → Type 0
 Leaves e = IsNamed e.state
 
-mode_named : (s : PlainState) (t : ℕ) (o : Option PlainJob) → IsNamed s → IsNamed (in_command_mode s t o)
+mode_named : (s : PlainState) (t : Tty) (o : Option PlainJob) → IsNamed s → IsNamed (option_map_or (λ j. record s { jobs = map.insert s.jobs t.0 (record j { mode = Command }) }) o s)
 mode_named s t None n = n
 mode_named s t (Some j) n = n
-
-job_named : (s : PlainState) (f : Fork) (o : Option ℕ) → IsNamed s → Leaves (stops_job s f o)
-job_named s f None n = mode_named s f.name.tty.0 (map.get s.jobs f.name.tty.0) n
-job_named s f (Some superior) n = n
 
 posted_fits : (f : Fork) (channel : ℕ) → IsForkName f.name → IsForkName (posted f channel).name
 posted_fits f channel fits =
@@ -83,7 +82,8 @@ module _ (s : PlainState) (n : IsNamed s) where
   -- a unit leaves its fork's name
 
   stopped_named : (f : Fork) → IsForkName f.name → Leaves (stopped s f)
-  stopped_named f fits = job_named (with_fork s (counted f)) f f.superior (put (counted f) fits)
+  stopped_named f fits = let t = with_fork s (counted f) in let m : IsNamed t = put (counted f) fits in
+      cond_both (is_some f.superior) (record { state = t; items = [] }) (record { state = in_command_mode t f.name.tty; items = printed f.name.tty (stop_text f.body.status) }) Leaves (λ below. m) (λ top. mode_named t f.name.tty (map.get t.jobs f.name.tty.0) m)
 
   settled_named : (f : Fork) (status : ForkStatus) → IsForkName f.name → Leaves (settled s f status)
   settled_named f Running fits = put (counted f) fits
@@ -102,27 +102,31 @@ module _ (s : PlainState) (n : IsNamed s) where
 
   called_named : (f : Fork) (number : ℕ) → IsForkName f.name → Leaves (called s f number)
   called_named f number fits =
-      cond_both (number == 60) (pbout s f) (cond (number == 120) (haltf s f) (trapped s f 15)) Leaves (λ prints. pbout_named f fits) (λ other.
-      cond_both (number == 120) (haltf s f) (trapped s f 15) Leaves (λ halts. haltf_named f fits) (λ none. trapped_named f 15 fits))
+      cond_both (number == PBOUT) (pbout s f) (cond (number == HALTF) (haltf s f) (trapped s f illegal_instruction)) Leaves (λ prints. pbout_named f fits) (λ other.
+      cond_both (number == HALTF) (haltf s f) (trapped s f illegal_instruction) Leaves (λ halts. haltf_named f fits) (λ none. trapped_named f illegal_instruction fits))
 
-  done_named : (f : Fork) (pages : PlainPages) (d : Deed) → IsForkName f.name → Leaves (done_by s f pages d)
+  done_named : (f : Fork) (pages : NamedPages) (d : Deed) → IsForkName f.name → Leaves (done_by s f pages d)
   done_named f pages (goes regs) fits = put (counted (with_regs f regs)) fits
   done_named f pages (calls number) fits = called_named f number fits
   done_named f pages (traps channel) fits = trapped_named f channel fits
 
-  executed_named : (f : Fork) (w : Fetched) → IsForkName f.name → Leaves (executed s f w)
+  executed_named : (f : Fork) (w : Fetched name_cmp) → IsForkName f.name → Leaves (executed s f w)
   executed_named f (fetches w pages) fits = done_named f pages (deed_of f.body.regs w) fits
   executed_named f (stops channel) fits = trapped_named f channel fits
 
-  unit_named : (k : ForkName) (o : Option Fork) → map.get s.forks k ≡ o → Leaves (unit_of s o)
-  unit_named k None is = n
-  unit_named k (Some f) is = executed_named f (fetched s f) (living_fits k f is)
+  unit_named : (k : ForkName) → Leaves (unit s k)
+  unfolding unit
+  unit_named k = by (map.get s.forks k) refl
+    where
+      by : (o : Option Fork) → map.get s.forks k ≡ o → Leaves (option_map_or (λ f. executed s f (fetched s.pages f)) o (record { state = s; items = [] }))
+      by None is = n
+      by (Some f) is = executed_named f (fetched s.pages f) (living_fits k f is)
 
   -- an event makes a fork under a terminal's next serial, and else leaves the names
 
-  next_fits : (t : Tty) → IsTerminal t → nat_lt 262143 (next_fork s t).serial ≡ false → IsForkName (next_fork s t)
+  next_fits : (t : Tty) → IsTerminal t → nat_lt LAST_SERIAL (next_fork s t).serial ≡ false → IsForkName (next_fork s t)
   next_fits t terminal few =
-      (terminal, All-get_or (λ n. 1 ≤ n) s.fork_serials t.0 0 (omega (arith, n.each, terminal)) n.begun, ltb-false 262143 (next_fork s t).serial few)
+      (terminal, All-get_or (λ n. 1 ≤ n) s.fork_serials t.0 0 (omega (arith, n.each, terminal)) n.begun, ltb-false LAST_SERIAL (next_fork s t).serial few)
 
   with_job_named : (t : Tty) (user : List ℕ) → IsForkName (next_fork s t) → IsNamed (with_job s t user)
   with_job_named t user fits =
@@ -138,76 +142,82 @@ module _ (s : PlainState) (n : IsNamed s) where
   login_named t user terminal =
       let made : Effect = record { state = with_job s t user; items = Char t 64 ∷ [] } in
       let room = HasRoom (with_map s.pages (next_fork s t)) t in
-      let last : Bool = nat_lt 262143 (next_fork s t).serial in
+      let last : Bool = nat_lt LAST_SERIAL (next_fork s t).serial in
       let roomy : Effect = cond room made (refused s (Full t)) in
       cond_both (is_some (map.get s.jobs t.0)) (refused s (Busy t)) (cond last (refused s (SerialsOut t)) roomy) Leaves (λ busy. n) (λ free.
       cond_both last (refused s (SerialsOut t)) roomy Leaves (λ out. n) (λ few.
       cond_both room made (refused s (Full t)) Leaves (λ fits. with_job_named t user (next_fits t terminal few)) (λ full. n)))
 
-  accumulator_named : (at word : ℕ) (k : ForkName) (o : Option Fork) → map.get s.forks k ≡ o → IsNamed (with_accumulator s at word o)
-  accumulator_named at word k None is = n
-  accumulator_named at word k (Some f) is = put (with_regs f (record f.body.regs { ac = slice_set f.body.regs.ac at word })) (living_fits k f is)
+  -- a change of a fork that leaves its name
+  changed_named : (k : ForkName) (change : Fork → Fork) → ((f : Fork) → (change f).name ≡ f.name) → IsNamed (change_fork s k change)
+  changed_named k change same = by (map.get s.forks k) refl
+    where
+      by : (o : Option Fork) → map.get s.forks k ≡ o → IsNamed (option_map_or (λ f. with_fork s (change f)) o s)
+      by None is = n
+      by (Some f) is = put (change f) (subst IsForkName (sym (same f)) (living_fits k f is))
 
-  poked_named : (t : Tty) (slot : Slot) (offset word : ℕ) (r : Referred) → Leaves (poked s t slot offset word r)
+  poked_named : (t : Tty) (slot : Slot) (offset word : ℕ) (r : Referred name_cmp) → Leaves (poked s t slot offset word r)
   poked_named t slot offset word (granted p) = n
   poked_named t slot offset word (denied kind) = n
   poked_named t slot offset word full = n
 
-  poke_named : (t : Tty) (address word : ℕ) (o : Option PlainJob) → Leaves (poke_of s t address word o)
-  poke_named t address word None = n
-  poke_named t address word (Some j) =
-      let slot = slot_at j.top address in
-      let r = reference (is_filed s) s.pages slot Write t in
-      let low : Effect = record { state = with_accumulator s address word (map.get s.forks j.top); items = [] } in
-      cond_both (nat_lt address 16) low (poked s t slot (address % 512) word r) Leaves (λ below. accumulator_named address word j.top (map.get s.forks j.top) refl) (λ above.
-      poked_named t slot (address % 512) word r)
+  -- an event of a job
+  job_named : (t : Tty) (act : PlainJob → Effect) → ((j : PlainJob) → Leaves (act j)) → (o : Option PlainJob) → Leaves (option_map_or act o (refused s (NoJob t)))
+  job_named t act does None = n
+  job_named t act does (Some j) = does j
 
-  restarted_named : (address : ℕ) (k : ForkName) (o : Option Fork) → map.get s.forks k ≡ o → IsNamed (with_start s address o)
-  restarted_named address k None is = n
-  restarted_named address k (Some f) is = put (restarted f address) (living_fits k f is)
+  poke_named : (t : Tty) (address word : ℕ) → Leaves (poke s t address word)
+  poke_named t address word = job_named t _ does (map.get s.jobs t.0)
+    where
+      does : (j : PlainJob) → Leaves (cond (nat_lt address ACCUMULATORS) (record { state = change_fork s j.top (with_accumulator address word); items = [] })
+          (let slot = slot_at j.top address in poked s t slot (address % PAGE_WORDS) word (reference s.pages (in_map slot) Write t)))
+      does j =
+          let slot = slot_at j.top address in
+          cond_both (nat_lt address ACCUMULATORS) _ _ Leaves (λ below. changed_named j.top (with_accumulator address word) (λ f. refl)) (λ above.
+          poked_named t slot (address % PAGE_WORDS) word (reference s.pages (in_map slot) Write t))
 
-  start_named : (t : Tty) (address : ℕ) (o : Option PlainJob) → Leaves (start_of s t address o)
-  start_named t address None = n
-  start_named t address (Some j) = restarted_named address j.top (map.get s.forks j.top) refl
+  start_named : (t : Tty) (address : ℕ) → Leaves (start s t address)
+  start_named t address = job_named t _ does (map.get s.jobs t.0)
+    where
+      does : (j : PlainJob) → Leaves (record { state = record (change_fork s j.top (restarted address)) { jobs = map.insert s.jobs t.0 (record j { mode = Program }) }; items = [] })
+      does j = let m = changed_named j.top (restarted address) (λ f. refl) in record { stands = m.stands; begun = m.begun; each = m.each }
 
-  page_named : (t : Tty) (serial address : ℕ) (o : Option PageName) → Leaves (examine_page s t serial address o)
-  page_named t serial address None = n
-  page_named t serial address (Some p) = n
+  word_named : (t : Tty) (serial address : ℕ) (o : Option ℕ) → Leaves (option_map_or (λ word. record { state = s; items = Examined t serial address word ∷ [] }) o (refused s (NoPage t)))
+  word_named t serial address None = n
+  word_named t serial address (Some word) = n
 
-  fork_named : (t : Tty) (serial address : ℕ) (o : Option Fork) → Leaves (examine_fork s t serial address o)
-  fork_named t serial address None = n
-  fork_named t serial address (Some f) =
-      let page = page_at s.pages (slot_at f.name address) in
-      cond_both (nat_lt address 16) (examined s t serial address (slice_index f.body.regs.ac address)) (examine_page s t serial address page) Leaves (λ below. n) (λ above. page_named t serial address page)
+  examine_named : (t : Tty) (serial address : ℕ) → Leaves (examine s t serial address)
+  examine_named t serial address = job_named t _ (λ j. fork_named (map.get s.forks (record { tty = t; serial = serial }))) (map.get s.jobs t.0)
+    where
+      fork_named : (o : Option Fork) → Leaves (option_map_or (λ f. option_map_or (λ word. record { state = s; items = Examined t serial address word ∷ [] }) (word_seen s f address) (refused s (NoPage t))) o (refused s (NoFork t)))
+      fork_named None = n
+      fork_named (Some f) = word_named t serial address (word_seen s f address)
 
-  examine_named : (t : Tty) (serial address : ℕ) (o : Option PlainJob) → Leaves (examine_of s t serial address o)
-  examine_named t serial address None = n
-  examine_named t serial address (Some j) = fork_named t serial address (map.get s.forks (record { tty = t; serial = serial }))
-
-  forks_named : (t : Tty) (o : Option PlainJob) → Leaves (show_forks_of s t o)
-  forks_named t None = n
-  forks_named t (Some j) = n
+  forks_named : (t : Tty) → Leaves (show_forks s t)
+  forks_named t = job_named t _ (λ j. n) (map.get s.jobs t.0)
 
   outer_named : (e : Event) → FitsEvent e → Leaves (outer s e)
+  unfolding outer
   outer_named (Login t user) fits = login_named t user fits.0
+  outer_named (Poke t address word) fits = poke_named t address word
+  outer_named (Start t address) fits = start_named t address
+  outer_named (Examine t serial address) fits = examine_named t serial address
+  outer_named (Forks t) fits = forks_named t
+  outer_named Tick fits = n
   outer_named (TypeIn t text) fits = n
   outer_named (File name) fits = n
   outer_named (Words name page offset row) fits = n
-  outer_named (Poke t address word) fits = poke_named t address word (map.get s.jobs t.0)
-  outer_named (Start t address) fits = start_named t address (map.get s.jobs t.0)
   outer_named (Run times) fits = n
-  outer_named Tick fits = n
   outer_named (Evict frame) fits = n
   outer_named (Drum transfers) fits = n
   outer_named (Auto on) fits = n
-  outer_named (Examine t serial address) fits = examine_named t serial address (map.get s.jobs t.0)
-  outer_named (Forks t) fits = forks_named t (map.get s.jobs t.0)
   outer_named (Page name page) fits = n
   outer_named (Trace on) fits = n
 
   step_named : (x : Step) → FitsStep x → Leaves (apply s x)
+  unfolding apply
   step_named (Outer e) fits = outer_named e fits.0
-  step_named (AUnit k) fits = unit_named k (map.get s.forks k) refl
+  step_named (AUnit k) fits = unit_named k
   step_named Idle fits = n
 
   -- a turn is of a fork that lives, or idle

@@ -1,367 +1,230 @@
--- What a touch that answers says of the reference.
-use Rattle.std.proofs.Common.{◌≡◌, ◌⊎◌, inl, inr, ℕ, Bool, true, false, cond, Option, None, Some, refl, sym, ◌∙◌, ap}
+-- References page by page, and what a touch says of them.
+use Rattle.std.proofs.Common.{◌≡◌, ◌≤◌, ℕ, Bool, true, false, cond, List, [], ◌∷◌, Option, None, Some, refl, sym, ◌∙◌, ap, subst, Ordering, arith}
+use Rattle.std.specs.Prelude.{slice_get, nat_lt}
+use Rattle.std.specs.Option.{option_map_or, option_and_then}
+use Rattle.std.specs.Cmp.{IsTotalOrder}
+use Rattle.std.proofs.lemmas.Bool.Decides.{nat_tests}
 use Rattle.plain_model.specs.declared.names.Tty.{Tty}
-use Rattle.plain_model.specs.declared.names.PageName.{PageName}
 use Rattle.plain_model.specs.declared.names.Slot.{Slot}
-use Rattle.plain_model.specs.declared.names.Place.TheVariants.{Fork}
 use Rattle.plain_model.specs.declared.names.Access.{Access}
 use Rattle.plain_model.specs.declared.names.Kind.{Kind}
-use Rattle.plain_model.specs.declared.names.Kind.TheVariants.{Read, Write, Execute}
-use Rattle.plain_model.specs.declared.map.MapEntry.{MapEntry}
-use Rattle.plain_model.specs.declared.map.MapEntry.TheVariants.{Empty, Names, Follows}
 use Rattle.plain_model.specs.declared.map.Touch.{Touch}
 use Rattle.plain_model.specs.declared.map.Touch.TheVariants.{Ready, Zero, Copy, Absent, NeedFrame, Denied, Full}
 use Rattle.plain_model.specs.State.{PlainPages}
-use Rattle.std.specs.List.{list_all}
-use Rattle.std.proofs.Common.{List, [], ◌∷◌}
-use Rattle.plain_model.specs.Maps.{Link, trail, chain, chain_end, end_of, last_link, is_closed, is_end, may, permit_along, permits}
-use Rattle.plain_model.specs.References.{Referred, granted, denied, full, reference, makings, with_zero, zeroed, with_copy, copied, made, private_copy, zero_page, copy_along, then_refer, page_of, page_in, page_at}
-use Rattle.plain_model.specs.Pages.{Scene, touch_of, way_touch, granted_touch, end_touch, entry_touch, page_touch, copy_or_ready, first_away, first_copy, copy_link, settled, settled_end, settled_entry, settled_copy, copied_end, executes_along}
+use Rattle.plain_model.specs.Maps.{entry_at}
+use Rattle.plain_model.specs.Room.{HasRoom, live}
+use Rattle.plain_model.specs.References.{Spot, Making, blank, copy, makings, make, make_all, Referred, granted, denied, full, reference, next_making, settled}
+use Rattle.plain_model.specs.Pages.{Scene, IsOwner, touch_of, touched_by, absent_or, announced, is_sole, map_away, page_away}
+use Rattle.plain_model.specs.Whole.{AreWhole}
+use Rattle.plain_model.proofs.Makings.{make_whole}
+use Rattle.plain_model.proofs.Settles.{makings_settled, makings_can}
 
--- what wants a frame is what is answered, or a frame is wanted
-framed_is : (b : Bool) (t u : Touch) → cond b t NeedFrame ≡ u → (t ≡ u) ⊎ (NeedFrame ≡ u)
-framed_is true t u h = inl h
-framed_is false t u h = inr h
+module _ {K : Type 0} {file_cmp : K → K → Ordering} (p : PlainPages file_cmp) (owner : Tty) (at : Spot K) (kind : Kind) where
+  -- a reference makes its list
+  pub reference_makes : (ms : List (Making K)) → makings p at kind ≡ Some ms → reference p at kind owner ≡ make_all p owner ms
+  unfolding reference
+  reference_makes ms h = ap (λ (x : Option (List (Making K))). option_map_or (make_all p owner) x (denied kind)) h
 
-sole_or_framed : (b c : Bool) → cond b (Copy true) (cond c (Copy false) NeedFrame) ≡ Zero → ⊥
-sole_or_framed true c h = cc h
-sole_or_framed false true h = cc h
-sole_or_framed false false h = cc h
+  -- with nothing to be made it leaves the pages as they are
+  pub reference_stays : makings p at kind ≡ Some [] → reference p at kind owner ≡ granted p
+  unfolding make_all
+  reference_stays h = reference_makes [] h
 
-module _ (filed : PageName → Bool) (p : PlainPages) (scene : Scene) (s : Slot) where
-  copy_not_zero : (o : Option Link) (n : PageName) (owner : Tty) → copy_or_ready filed p scene o n owner ≡ Zero → ⊥
-  copy_not_zero None n owner h = cc h
-  copy_not_zero (Some l) n owner h = sole_or_framed _ _ h
+  pub reference_denied : makings p at kind ≡ None → reference p at kind owner ≡ denied kind
+  unfolding reference
+  reference_denied h = ap (λ (x : Option (List (Making K))). option_map_or (make_all p owner) x (denied kind)) h
 
-  named_not_zero : (kind : Kind) (n : PageName) (o : Option ℕ) → page_touch filed p scene s kind n o ≡ Zero → ⊥
-  named_not_zero kind n (Some home) h = cc h
-  named_not_zero kind n None h = copy_not_zero (copy_link p s kind) n s.fork.tty h
+  -- what is settled is its first making
+  pub settled_makes : (m : Making K) (rest : List (Making K)) → makings p at kind ≡ Some (m ∷ rest) → settled p at kind owner ≡ make p owner m
+  unfolding settled
+  settled_makes m rest h = ap (λ (x : Option (List (Making K))). option_map_or (make p owner) (option_and_then (λ ms. slice_get ms 0) x) p) h
 
-  entry_zero : (kind : Kind) (e : MapEntry) → entry_touch filed p scene s kind e ≡ Zero → page_in e ≡ None
-  entry_zero kind Empty h = refl
-  entry_zero kind (Names n a) h = absurd (named_not_zero kind n (scene.page_away n) h)
-  entry_zero kind (Follows serial page a) h = refl
+  pub settled_stays : makings p at kind ≡ Some [] → settled p at kind owner ≡ p
+  unfolding settled
+  settled_stays h = ap (λ (x : Option (List (Making K))). option_map_or (make p owner) (option_and_then (λ ms. slice_get ms 0) x) p) h
 
-  end_zero : (kind : Kind) (o : Option Link) → end_touch filed p scene s kind o ≡ Zero → page_of o ≡ None
-  end_zero kind None h = refl
-  end_zero kind (Some l) h = entry_zero kind l.entry h
+pub make_first : {K : Type 0} {file_cmp : K → K → Ordering} (p : PlainPages file_cmp) (owner : Tty) (m : Making K) (ms : List (Making K)) → make_all p owner (m ∷ ms) ≡ cond (HasRoom (make p owner m) owner) (make_all (make p owner m) owner ms) full
+unfolding make_all
+make_first p owner m ms = refl
 
-  granted_zero : (kind : Kind) (r : Referred) → granted_touch filed p scene s kind r ≡ Zero → ((q : PlainPages) × (r ≡ granted q)) × (page_at p s ≡ None)
-  granted_zero kind (granted q) h = ((q, refl), end_zero kind (chain_end p.maps s) h)
-  granted_zero kind (denied k) h = absurd (cc h)
-  granted_zero kind full h = absurd (cc h)
+pub roomy : {K : Type 0} {file_cmp : K → K → Ordering} (b : Bool) (r : Referred file_cmp) (q : PlainPages file_cmp) → cond b r full ≡ granted q → (b ≡ true) × (r ≡ granted q)
+roomy true r q h = (refl, h)
+roomy false r q h = absurd (cc h)
 
-  way_zero : (kind : Kind) (o : Option ℕ) → way_touch filed p scene s kind o ≡ Zero → ((q : PlainPages) × (reference filed p s kind s.fork.tty ≡ granted q)) × (page_at p s ≡ None)
-  way_zero kind (Some home) h = absurd (cc h)
-  way_zero kind None h = granted_zero kind (reference filed p s kind s.fork.tty) h
+module _ {K : Type 0} {file_cmp : K → K → Ordering} where
+  pub has_room : (p : PlainPages file_cmp) (owner : Tty) → HasRoom p owner ≡ true → live p ≤ p.limit
+  unfolding HasRoom
+  has_room p owner h = grind (arith, nat_tests, h)
 
-  -- where a zero page would be made the reference is granted, and no page is named yet
-  pub zero_touch : (kind : Kind) → touch_of filed p scene (Fork s) kind ≡ Zero → ((q : PlainPages) × (reference filed p s kind s.fork.tty ≡ granted q)) × (page_at p s ≡ None)
-  zero_touch kind h = way_zero kind (first_away scene (trail 4 p.maps (Some s))) h
+  made_room : (owner : Tty) (ms : List (Making K)) (p q : PlainPages file_cmp) → live p ≤ p.limit → make_all p owner ms ≡ granted q → live q ≤ q.limit
+  unfolding make_all
+  made_room owner [] p q h g = let same : p ≡ q = cc g in subst (λ (x : PlainPages file_cmp). live x ≤ x.limit) same h
+  made_room owner (m ∷ ms) p q h g =
+      let r = roomy (HasRoom (make p owner m) owner) (make_all (make p owner m) owner ms) q g in
+      made_room owner ms (make p owner m) q (has_room (make p owner m) owner r.0) r.1
 
--- a page that is named is not made
-named_stays : (p : PlainPages) (at : Slot) (e : MapEntry) (owner : Tty) (n : PageName) → page_in e ≡ Some n → zeroed p at e owner ≡ granted p
-named_stays p at Empty owner n h = absurd (cc h)
-named_stays p at (Names m a) owner n h = refl
-named_stays p at (Follows serial page a) owner n h = refl
-
-no_copy_or_ready : (o : Option Link) (filed : PageName → Bool) (p : PlainPages) (scene : Scene) (n : PageName) (owner : Tty) → copy_or_ready filed p scene o n owner ≡ Ready → o ≡ None
-no_copy_or_ready None filed p scene n owner h = refl
-no_copy_or_ready (Some l) filed p scene n owner h = absurd (sole_not_ready _ _ h)
-  where
-    sole_not_ready : (b c : Bool) → cond b (Copy true) (cond c (Copy false) NeedFrame) ≡ Ready → ⊥
-    sole_not_ready true c h = cc h
-    sole_not_ready false true h = cc h
-    sole_not_ready false false h = cc h
-
-framed_zero_not : (b : Bool) (t : Touch) → (Zero ≡ t → ⊥) → (NeedFrame ≡ t → ⊥) → cond b Zero NeedFrame ≡ t → ⊥
-framed_zero_not true t f g h = f h
-framed_zero_not false t f g h = g h
-
--- the page of an entry, and the link into whose slot it would be copied
-record IsTouched (filed : PageName → Bool) (p : PlainPages) (scene : Scene) (s : Slot) (kind : Kind) (t : Touch) : Type 0 where
-  link : Link
-  page : PageName
-  ends : chain_end p.maps s ≡ Some link
-  names : page_in link.entry ≡ Some page
-  touch : copy_or_ready filed p scene (copy_link p s kind) page s.fork.tty ≡ t
-
-module _ (filed : PageName → Bool) (p : PlainPages) (scene : Scene) (s : Slot) (kind : Kind) (t : Touch) (not_zero : Zero ≡ t → ⊥) (not_frame : NeedFrame ≡ t → ⊥) (not_denied : Denied kind ≡ t → ⊥) (not_absent : (home : ℕ) → Absent (record { 0 = home }) ≡ t → ⊥) where
-  page_touched : (l : Link) (n : PageName) (o : Option ℕ) → chain_end p.maps s ≡ Some l → page_in l.entry ≡ Some n → page_touch filed p scene s kind n o ≡ t → IsTouched filed p scene s kind t
-  page_touched l n (Some home) e m h = absurd (not_absent home h)
-  page_touched l n None e m h = record { link = l; page = n; ends = e; names = m; touch = h }
-
-  entry_touched : (l : Link) (e : MapEntry) → l.entry ≡ e → chain_end p.maps s ≡ Some l → entry_touch filed p scene s kind e ≡ t → IsTouched filed p scene s kind t
-  entry_touched l Empty is e h = absurd (framed_zero_not _ t not_zero not_frame h)
-  entry_touched l (Names n a) is e h = page_touched l n (scene.page_away n) e (ap page_in is) h
-  entry_touched l (Follows serial page a) is e h = absurd (not_denied h)
-
-  end_touched : (o : Option Link) → chain_end p.maps s ≡ o → end_touch filed p scene s kind o ≡ t → IsTouched filed p scene s kind t
-  end_touched None e h = absurd (not_denied h)
-  end_touched (Some l) e h = entry_touched l l.entry refl e h
-
-  granted_touched : (r : Referred) → ((k : Kind) → Denied k ≡ t → ⊥) → (Full ≡ t → ⊥) → granted_touch filed p scene s kind r ≡ t → ((q : PlainPages) × (r ≡ granted q)) × IsTouched filed p scene s kind t
-  granted_touched (granted q) nd nf h = ((q, refl), end_touched (chain_end p.maps s) refl h)
-  granted_touched (denied k) nd nf h = absurd (nd k h)
-  granted_touched full nd nf h = absurd (nf h)
-
-  way_touched : (o : Option ℕ) → ((k : Kind) → Denied k ≡ t → ⊥) → (Full ≡ t → ⊥) → way_touch filed p scene s kind o ≡ t → ((q : PlainPages) × (reference filed p s kind s.fork.tty ≡ granted q)) × IsTouched filed p scene s kind t
-  way_touched (Some home) nd nf h = absurd (not_absent home h)
-  way_touched None nd nf h = granted_touched (reference filed p s kind s.fork.tty) nd nf h
-
--- what a write copies, once the page is there
-abbrev pub copying : (PageName → Bool) → PlainPages → Slot → Tty → Referred
-copying filed q s owner = copy_along filed q s (chain q.maps s) owner
-
-permitted : (b : Bool) (kind : Kind) (r : Referred) (q : PlainPages) → cond b r (denied kind) ≡ granted q → r ≡ granted q
-permitted true kind r q h = h
-permitted false kind r q h = absurd (cc h)
-
-permitted_is : (b : Bool) (kind : Kind) (r : Referred) (q : PlainPages) → cond b r (denied kind) ≡ granted q → cond b r (denied kind) ≡ r
-permitted_is true kind r q h = refl
-permitted_is false kind r q h = absurd (cc h)
-
-module _ (filed : PageName → Bool) (p : PlainPages) (scene : Scene) (s : Slot) where
-  stays : (kind : Kind) (t : Touch) → IsTouched filed p scene s kind t → with_zero p (chain_end p.maps s) s.fork.tty ≡ granted p
-  stays kind t i = ap (λ o. with_zero p o s.fork.tty) i.ends ∙ named_stays p i.link.slot i.link.entry s.fork.tty i.page i.names
-
-  no_copy : (o : Option (List Link)) → first_copy o ≡ None → copy_along filed p s o s.fork.tty ≡ granted p
-  no_copy None h = refl
-  no_copy (Some links) h = ap (λ l. with_copy filed p l (chain_end p.maps s) (list_all (permits (λ a. a.x)) links) s.fork.tty) h
-
-  ready_makings : (kind : Kind) → IsTouched filed p scene s kind Ready → makings filed p s kind s.fork.tty ≡ granted p
-  ready_makings Read i = stays Read Ready i
-  ready_makings Execute i = stays Execute Ready i
-  ready_makings Write i = ap (λ r. then_refer r (λ q. copying filed q s s.fork.tty)) (stays Write Ready i) ∙ no_copy (chain p.maps s) (no_copy_or_ready (first_copy (chain p.maps s)) filed p scene i.page s.fork.tty i.touch)
-
-  -- a page that is ready is all that a reference wants
-  pub ready_touch : (kind : Kind) → touch_of filed p scene (Fork s) kind ≡ Ready → reference filed p s kind s.fork.tty ≡ granted p
-  ready_touch kind h =
-      let w = way_touched filed p scene s kind Ready (λ e. cc e) (λ e. cc e) (λ e. cc e) (λ home e. cc e) (first_away scene (trail 4 p.maps (Some s))) (λ k e. cc e) (λ e. cc e) h in
-      permitted_is (may p.maps s kind) kind (makings filed p s kind s.fork.tty) w.0.0 w.0.1 ∙ ready_makings kind w.1
-
-  -- then a write copies nothing
-  pub ready_copying : touch_of filed p scene (Fork s) Write ≡ Ready → copying filed p s s.fork.tty ≡ granted p
-  ready_copying h =
-      let w = way_touched filed p scene s Write Ready (λ e. cc e) (λ e. cc e) (λ e. cc e) (λ home e. cc e) (first_away scene (trail 4 p.maps (Some s))) (λ k e. cc e) (λ e. cc e) h in
-      no_copy (chain p.maps s) (no_copy_or_ready (first_copy (chain p.maps s)) filed p scene w.1.page s.fork.tty w.1.touch)
-
-room_granted : (b : Bool) (q r : PlainPages) → cond b (granted q) full ≡ granted r → cond b (granted q) full ≡ granted q
-room_granted true q r h = refl
-room_granted false q r h = absurd (cc h)
-
-copies_some : (o : Option Link) (filed : PageName → Bool) (p : PlainPages) (scene : Scene) (n : PageName) (owner : Tty) (sole : Bool) → copy_or_ready filed p scene o n owner ≡ Copy sole → (l : Link) × (o ≡ Some l)
-copies_some None filed p scene n owner sole h = absurd (cc h)
-copies_some (Some l) filed p scene n owner sole h = (l, refl)
-
-module _ (filed : PageName → Bool) (p : PlainPages) (scene : Scene) (s : Slot) where
-  -- where the page at the end is copied into the slot of a link
-  copied_named : (l k : Link) (e : MapEntry) (n : PageName) (x : Bool) → page_in e ≡ Some n → (r : PlainPages) → copied filed p k e x s.fork.tty ≡ granted r → copied filed p k e x s.fork.tty ≡ granted (copied_end filed p k e x s.fork.tty)
-  copied_named l k Empty n x m r h = absurd (cc m)
-  copied_named l k (Names old a) n x m r h = room_granted _ (private_copy filed p k old x s.fork.tty) r h
-  copied_named l k (Follows serial page a) n x m r h = absurd (cc m)
-
-  copy_settles : (o : Option (List Link)) (l k : Link) (n : PageName) → first_copy o ≡ Some k → chain_end p.maps s ≡ Some l → page_in l.entry ≡ Some n → (r : PlainPages) → copy_along filed p s o s.fork.tty ≡ granted r
-      → copy_along filed p s o s.fork.tty ≡ granted (copied_end filed p k l.entry (executes_along o) s.fork.tty)
-  copy_settles None l k n f e m r h = absurd (cc f)
-  copy_settles (Some links) l k n f e m r h =
-      let x = list_all (permits (λ a. a.x)) links in
-      let is : copy_along filed p s (Some links) s.fork.tty ≡ copied filed p k l.entry x s.fork.tty =
-      ap (λ c. with_copy filed p c (chain_end p.maps s) x s.fork.tty) f ∙ ap (λ c. with_copy filed p (Some k) c x s.fork.tty) e in
-      is ∙ copied_named l k l.entry n x m r (sym is ∙ h)
-
-  settles_copy : (l k : Link) (e : MapEntry) (n : PageName) → chain_end p.maps s ≡ Some l → l.entry ≡ e → page_in e ≡ Some n → first_copy (chain p.maps s) ≡ Some k
-      → settled filed p (Fork s) Write s.fork.tty ≡ copied_end filed p k l.entry (executes_along (chain p.maps s)) s.fork.tty
-  settles_copy l k Empty n c is m f = absurd (cc m)
-  settles_copy l k (Names old a) n c is m f =
-      ap (λ o. settled_end filed p s Write o s.fork.tty) c ∙ ap (λ e. settled_entry filed p s Write l e s.fork.tty) is ∙ ap (λ o. settled_copy filed p s o l s.fork.tty) f
-  settles_copy l k (Follows serial page a) n c is m f = absurd (cc m)
-
-  -- a page that has to be copied is copied by the reference, as it is settled
-  pub copy_copying : (sole : Bool) → touch_of filed p scene (Fork s) Write ≡ Copy sole → (copying filed p s s.fork.tty ≡ granted (settled filed p (Fork s) Write s.fork.tty)) × (reference filed p s Write s.fork.tty ≡ granted (settled filed p (Fork s) Write s.fork.tty))
-  copy_copying sole h =
-      let w = way_touched filed p scene s Write (Copy sole) (λ e. cc e) (λ e. cc e) (λ e. cc e) (λ home e. cc e) (first_away scene (trail 4 p.maps (Some s))) (λ k e. cc e) (λ e. cc e) h in
-      let i = w.1 in
-      let k = copies_some (first_copy (chain p.maps s)) filed p scene i.page s.fork.tty sole i.touch in
-      let does : makings filed p s Write s.fork.tty ≡ copying filed p s s.fork.tty = ap (λ r. then_refer r (λ q. copying filed q s s.fork.tty)) (stays filed p scene s Write (Copy sole) i) in
-      let asked : makings filed p s Write s.fork.tty ≡ granted w.0.0 = permitted (may p.maps s Write) Write (makings filed p s Write s.fork.tty) w.0.0 w.0.1 in
-      let copy : copying filed p s s.fork.tty ≡ granted (settled filed p (Fork s) Write s.fork.tty) =
-      copy_settles (chain p.maps s) i.link k.0 i.page k.1 i.ends i.names w.0.0 (sym does ∙ asked) ∙ ap granted (sym (settles_copy i.link k.0 i.link.entry i.page i.ends refl i.names k.1)) in
-      (copy, permitted_is (may p.maps s Write) Write (makings filed p s Write s.fork.tty) w.0.0 w.0.1 ∙ does ∙ copy)
-
-  zero_makes : (l : Link) (e : MapEntry) → l.entry ≡ e → page_in e ≡ None → ((serial page : ℕ) (a : Access) → e ≡ Follows serial page a → ⊥) → chain_end p.maps s ≡ Some l → (r : PlainPages) → makings filed p s Write s.fork.tty ≡ granted r
-      → makings filed p s Write s.fork.tty ≡ copying filed (settled filed p (Fork s) Write s.fork.tty) s s.fork.tty
-  zero_makes l Empty is none nf c r h =
-      let next = λ (q : PlainPages). copying filed q s s.fork.tty in
-      let zero : with_zero p (chain_end p.maps s) s.fork.tty ≡ made (zero_page p l.slot s.fork.tty) s.fork.tty = ap (λ o. with_zero p o s.fork.tty) c ∙ ap (λ e. zeroed p l.slot e s.fork.tty) is in
-      let same : settled filed p (Fork s) Write s.fork.tty ≡ zero_page p l.slot s.fork.tty = ap (λ o. settled_end filed p s Write o s.fork.tty) c ∙ ap (λ e. settled_entry filed p s Write l e s.fork.tty) is in
-      let does : makings filed p s Write s.fork.tty ≡ then_refer (made (zero_page p l.slot s.fork.tty) s.fork.tty) next = ap (λ m. then_refer m next) zero in
-      does ∙ roomy _ (zero_page p l.slot s.fork.tty) next r (sym does ∙ h) ∙ ap next (sym same)
+  -- a reference that is granted leaves no more than there may be
+  pub reference_room : (owner : Tty) (at : Spot K) (kind : Kind) (p q : PlainPages file_cmp) → live p ≤ p.limit → reference p at kind owner ≡ granted q → live q ≤ q.limit
+  reference_room owner at kind p q h g = by (makings p at kind) refl
     where
-      roomy : (b : Bool) (q : PlainPages) (next : PlainPages → Referred) (r : PlainPages) → then_refer (cond b (granted q) full) next ≡ granted r → then_refer (cond b (granted q) full) next ≡ next q
-      roomy true q next r h = refl
-      roomy false q next r h = absurd (cc h)
-  zero_makes l (Names n a) is none nf c r h = absurd (cc none)
-  zero_makes l (Follows serial page a) is none nf c r h = absurd (nf serial page a refl)
+      by : (x : Option (List (Making K))) → makings p at kind ≡ x → live q ≤ q.limit
+      by None e = absurd (let no : denied kind ≡ granted q = sym (reference_denied p owner at kind e) ∙ g in cc no)
+      by (Some ms) e = made_room owner ms p q h (sym (reference_makes p owner at kind ms e) ∙ g)
 
--- an empty entry at the end of a chain
-record IsBlank (p : PlainPages) (s : Slot) : Type 0 where
-  link : Link
-  ends : chain_end p.maps s ≡ Some link
-  blank : link.entry ≡ Empty
+module _ {K : Type 0} {file_cmp : K → K → Ordering} (o : IsTotalOrder file_cmp) (owner : Tty) (at : Spot K) (kind : Kind) where
+  -- a reference is granted as it is once its first page is made
+  pub reference_settled : (p : PlainPages file_cmp) (m : Making K) (rest : List (Making K)) (q : PlainPages file_cmp) → makings p at kind ≡ Some (m ∷ rest) → reference p at kind owner ≡ granted q → reference (settled p at kind owner) at kind owner ≡ granted q
+  reference_settled p m rest q h g =
+      let r = roomy (HasRoom (make p owner m) owner) (make_all (make p owner m) owner rest) q (sym (make_first p owner m rest) ∙ sym (reference_makes p owner at kind (m ∷ rest) h) ∙ g) in
+      ap (λ (x : PlainPages file_cmp). reference x at kind owner) (settled_makes p owner at kind m rest h) ∙ reference_makes (make p owner m) owner at kind rest (makings_settled o p owner at kind m rest h) ∙ r.1
 
-module _ (filed : PageName → Bool) (p : PlainPages) (scene : Scene) (s : Slot) where
-  entry_blank : (kind : Kind) (l : Link) (e : MapEntry) → l.entry ≡ e → chain_end p.maps s ≡ Some l → entry_touch filed p scene s kind e ≡ Zero → IsBlank p s
-  entry_blank kind l Empty is c h = record { link = l; ends = c; blank = is }
-  entry_blank kind l (Names n a) is c h = absurd (named_not_zero filed p scene s kind n (scene.page_away n) h)
-  entry_blank kind l (Follows serial page a) is c h = absurd (cc h)
+  module _ (own : IsOwner owner) where
+    pub settled_whole : (p : PlainPages file_cmp) (m : Making K) (rest : List (Making K)) → AreWhole p → makings p at kind ≡ Some (m ∷ rest) → AreWhole (settled p at kind owner)
+    settled_whole p m rest w h = subst (λ (x : PlainPages file_cmp). AreWhole x) (sym (settled_makes p owner at kind m rest h)) (make_whole o p w owner own m (makings_can o p owner at kind m rest h))
 
-  end_blank : (kind : Kind) (o : Option Link) → chain_end p.maps s ≡ o → end_touch filed p scene s kind o ≡ Zero → IsBlank p s
-  end_blank kind None c h = absurd (cc h)
-  end_blank kind (Some l) c h = entry_blank kind l l.entry refl c h
+    made_whole : (ms : List (Making K)) (p q : PlainPages file_cmp) → AreWhole p → makings p at kind ≡ Some ms → make_all p owner ms ≡ granted q → AreWhole q
+    unfolding make_all
+    made_whole [] p q w h g = let same : p ≡ q = cc g in subst (λ (x : PlainPages file_cmp). AreWhole x) same w
+    made_whole (m ∷ ms) p q w h g =
+        let r = roomy (HasRoom (make p owner m) owner) (make_all (make p owner m) owner ms) q g in
+        made_whole ms (make p owner m) q (make_whole o p w owner own m (makings_can o p owner at kind m ms h)) (makings_settled o p owner at kind m ms h) r.1
 
-  granted_blank : (kind : Kind) (r : Referred) → granted_touch filed p scene s kind r ≡ Zero → IsBlank p s
-  granted_blank kind (granted q) h = end_blank kind (chain_end p.maps s) refl h
-  granted_blank kind (denied k) h = absurd (cc h)
-  granted_blank kind full h = absurd (cc h)
+    -- a reference leaves whole pages whole
+    pub reference_whole : (p q : PlainPages file_cmp) → AreWhole p → reference p at kind owner ≡ granted q → AreWhole q
+    reference_whole p q w g = by (makings p at kind) refl
+      where
+        by : (x : Option (List (Making K))) → makings p at kind ≡ x → AreWhole q
+        by None h = absurd (let no : denied kind ≡ granted q = sym (reference_denied p owner at kind h) ∙ g in cc no)
+        by (Some ms) h = made_whole ms p q w h (sym (reference_makes p owner at kind ms h) ∙ g)
 
-  way_blank : (kind : Kind) (o : Option ℕ) → way_touch filed p scene s kind o ≡ Zero → IsBlank p s
-  way_blank kind (Some home) h = absurd (cc h)
-  way_blank kind None h = granted_blank kind (reference filed p s kind s.fork.tty) h
+-- the answers that come before the page is looked for, and those that want a frame
+abbrev pub is_early : Touch → Bool
+is_early (Absent home) = true
+is_early (Denied k) = true
+is_early Full = true
+is_early t = false
 
-  -- a zero page is made by the reference, as it is settled, and then it may be copied
-  pub zero_copying : touch_of filed p scene (Fork s) Write ≡ Zero → reference filed p s Write s.fork.tty ≡ copying filed (settled filed p (Fork s) Write s.fork.tty) s s.fork.tty
-  zero_copying h =
-      let b = way_blank Write (first_away scene (trail 4 p.maps (Some s))) h in
-      let w = zero_touch filed p scene s Write h in
-      let asked = permitted (may p.maps s Write) Write (makings filed p s Write s.fork.tty) w.0.0 w.0.1 in
-      permitted_is (may p.maps s Write) Write (makings filed p s Write s.fork.tty) w.0.0 w.0.1
-      ∙ zero_makes filed p scene s b.link Empty b.blank refl (λ serial page a e. cc e) b.ends w.0.0 asked
+late : (x : Option ℕ) (t u : Touch) → absent_or x t ≡ u → is_early u ≡ false → t ≡ u
+late None t u h e = h
+late (Some home) t u h e = absurd (let f : true ≡ false = ap is_early h ∙ e in cc f)
 
-not_copied : (b : Bool) (t : Touch) (sole : Bool) → (t ≡ Copy sole → ⊥) → cond b t NeedFrame ≡ Copy sole → ⊥
-not_copied true t sole ne h = ne h
-not_copied false t sole ne h = cc h
+module _ {K : Type 0} {file_cmp : K → K → Ordering} (p : PlainPages file_cmp) (scene : Scene) (owner : Tty) (at : Spot K) (kind : Kind) where
+  abbrev pub Grants : Type 0
+  Grants = (q : PlainPages file_cmp) × (reference p at kind owner ≡ granted q)
 
-module _ (filed : PageName → Bool) (p : PlainPages) (scene : Scene) (s : Slot) (kind : Kind) (sole : Bool) (no_link : copy_link p s kind ≡ None) where
-  page_not_copied : (n : PageName) (o : Option ℕ) → page_touch filed p scene s kind n o ≡ Copy sole → ⊥
-  page_not_copied n (Some home) h = cc h
-  page_not_copied n None h = let ready : Ready ≡ Copy sole = ap (λ l. copy_or_ready filed p scene l n s.fork.tty) (sym no_link) ∙ h in cc ready
+  -- a touch that is not refused grants the reference, and announces its next making
+  announces : (t : Touch) → is_early t ≡ false → touch_of p scene at kind owner ≡ t → Grants × (announced p scene (next_making p at kind) ≡ t)
+  unfolding touch_of
+  announces t e h = by (reference p at kind owner) refl (late (map_away p scene at) (touched_by p scene at kind (reference p at kind owner)) t h e)
+    where
+      by : (r : Referred file_cmp) → reference p at kind owner ≡ r → touched_by p scene at kind r ≡ t → Grants × (announced p scene (next_making p at kind) ≡ t)
+      by (granted q) is g = ((q, is), late (page_away p scene at) (announced p scene (next_making p at kind)) t g e)
+      by (denied k) is g = absurd (let f : true ≡ false = ap is_early g ∙ e in cc f)
+      by full is g = absurd (let f : true ≡ false = ap is_early g ∙ e in cc f)
 
-  entry_not_copied : (e : MapEntry) → entry_touch filed p scene s kind e ≡ Copy sole → ⊥
-  entry_not_copied Empty h = not_copied _ Zero sole (λ e. cc e) h
-  entry_not_copied (Names n a) h = page_not_copied n (scene.page_away n) h
-  entry_not_copied (Follows serial page a) h = cc h
+  -- what is made next, of a reference that is granted
+  next_of : Grants → (m : Option (Making K)) → next_making p at kind ≡ m → (ms : List (Making K)) × (makings p at kind ≡ Some ms) × (slice_get ms 0 ≡ m)
+  next_of g m is = by (makings p at kind) refl
+    where
+      by : (x : Option (List (Making K))) → makings p at kind ≡ x → (ms : List (Making K)) × (makings p at kind ≡ Some ms) × (slice_get ms 0 ≡ m)
+      by None h = absurd (let no : denied kind ≡ granted g.0 = sym (reference_denied p owner at kind h) ∙ g.1 in cc no)
+      by (Some ms) h = (ms, h, ap (option_and_then (λ ns. slice_get ns 0)) (sym h) ∙ is)
 
-  end_not_copied : (o : Option Link) → end_touch filed p scene s kind o ≡ Copy sole → ⊥
-  end_not_copied None h = cc h
-  end_not_copied (Some l) h = entry_not_copied l.entry h
+  framed_not : (b : Bool) (t u : Touch) → (t ≡ u → ⊥) → (NeedFrame ≡ u → ⊥) → cond b t NeedFrame ≡ u → ⊥
+  framed_not true t u f g h = f h
+  framed_not false t u f g h = g h
 
-  granted_not_copied : (r : Referred) → granted_touch filed p scene s kind r ≡ Copy sole → ⊥
-  granted_not_copied (granted q) h = end_not_copied (chain_end p.maps s) h
-  granted_not_copied (denied k) h = cc h
-  granted_not_copied full h = cc h
+  none_first : (ms : List (Making K)) → slice_get ms 0 ≡ None → ms ≡ []
+  none_first [] h = refl
+  none_first (m ∷ ms) h = absurd (cc h)
 
-  way_not_copied : (o : Option ℕ) → way_touch filed p scene s kind o ≡ Copy sole → ⊥
-  way_not_copied (Some home) h = cc h
-  way_not_copied None h = granted_not_copied (reference filed p s kind s.fork.tty) h
+  some_first : (ms : List (Making K)) (m : Making K) → slice_get ms 0 ≡ Some m → (rest : List (Making K)) × (ms ≡ m ∷ rest)
+  some_first [] m h = absurd (cc h)
+  some_first (n ∷ ms) m h = (ms, (let same : n ≡ m = cc h in ap (λ k. k ∷ ms) same))
 
-  -- only a write copies
-  pub only_writes_copy : touch_of filed p scene (Fork s) kind ≡ Copy sole → ⊥
-  only_writes_copy h = way_not_copied (first_away scene (trail 4 p.maps (Some s))) h
+  -- Ready: nothing is to be made
+  pub ready_touch : touch_of p scene at kind owner ≡ Ready → makings p at kind ≡ Some []
+  ready_touch h = let a = announces Ready refl h in by a.0 (next_making p at kind) refl a.1
+    where
+      by : Grants → (m : Option (Making K)) → next_making p at kind ≡ m → announced p scene m ≡ Ready → makings p at kind ≡ Some []
+      by g None is k = let n = next_of g None is in n.1 ∙ ap Some (none_first n.0 n.2)
+      by g (Some (blank b)) is k = absurd (framed_not (nat_lt 0 scene.free_frames) Zero Ready (λ e. cc e) (λ e. cc e) k)
+      by g (Some (copy s a)) is k = absurd (sole_not (is_sole p (entry_at p.maps s)) k)
+        where
+          sole_not : (b : Bool) → cond b (Copy true) (cond (nat_lt 0 scene.free_frames) (Copy false) NeedFrame) ≡ Ready → ⊥
+          sole_not true e = cc e
+          sole_not false e = framed_not (nat_lt 0 scene.free_frames) (Copy false) Ready (λ d. cc d) (λ d. cc d) e
 
--- a closed trail ends at an entry that follows none
-closed_end : (links : List Link) → is_closed links ≡ true → (l : Link) × (last_link links ≡ Some l) × (is_end l.entry ≡ true)
-closed_end [] h = absurd (cc h)
-closed_end (l ∷ []) h = (l, refl, h)
-closed_end (l ∷ m ∷ ls) h = closed_end (m ∷ ls) h
+  -- Zero: a zero page is to be made, and there is room for all
+  pub zero_touch : touch_of p scene at kind owner ≡ Zero → Grants × ((b : Spot K) × (rest : List (Making K)) × (makings p at kind ≡ Some (blank b ∷ rest)))
+  zero_touch h = let a = announces Zero refl h in (a.0, by a.0 (next_making p at kind) refl a.1)
+    where
+      by : Grants → (m : Option (Making K)) → next_making p at kind ≡ m → announced p scene m ≡ Zero → (b : Spot K) × (rest : List (Making K)) × (makings p at kind ≡ Some (blank b ∷ rest))
+      by g None is k = absurd (cc k)
+      by g (Some (blank b)) is k = let n = next_of g (Some (blank b)) is in let f = some_first n.0 (blank b) n.2 in (b, f.0, n.1 ∙ ap Some f.1)
+      by g (Some (copy s a)) is k = absurd (sole_not (is_sole p (entry_at p.maps s)) k)
+        where
+          sole_not : (b : Bool) → cond b (Copy true) (cond (nat_lt 0 scene.free_frames) (Copy false) NeedFrame) ≡ Zero → ⊥
+          sole_not true e = cc e
+          sole_not false e = framed_not (nat_lt 0 scene.free_frames) (Copy false) Zero (λ d. cc d) (λ d. cc d) e
 
-chain_closed : (b : Bool) (links : List Link) (kind : Kind) → is_closed links ≡ b → permit_along kind (cond b (Some links) None) ≡ true → (l : Link) × (end_of (cond b (Some links) None) ≡ Some l) × (is_end l.entry ≡ true)
-chain_closed true links kind c h = closed_end links c
-chain_closed false links kind c h = absurd (cc h)
+  -- Copy: a copy is to be made, which is sole where its slot has the only name of the old page
+  pub copy_touch : (sole : Bool) → touch_of p scene at kind owner ≡ Copy sole → Grants × ((s : Slot) × (a : Access) × (rest : List (Making K)) × (makings p at kind ≡ Some (copy s a ∷ rest)) × (is_sole p (entry_at p.maps s) ≡ sole))
+  copy_touch sole h = let a = announces (Copy sole) refl h in (a.0, by a.0 (next_making p at kind) refl a.1)
+    where
+      by : Grants → (m : Option (Making K)) → next_making p at kind ≡ m → announced p scene m ≡ Copy sole → (s : Slot) × (a : Access) × (rest : List (Making K)) × (makings p at kind ≡ Some (copy s a ∷ rest)) × (is_sole p (entry_at p.maps s) ≡ sole)
+      by g None is k = absurd (cc k)
+      by g (Some (blank b)) is k = absurd (framed_not (nat_lt 0 scene.free_frames) Zero (Copy sole) (λ e. cc e) (λ e. cc e) k)
+      by g (Some (copy s a)) is k =
+          let n = next_of g (Some (copy s a)) is in let f = some_first n.0 (copy s a) n.2 in
+          (s, a, f.0, n.1 ∙ ap Some f.1, sole_is (is_sole p (entry_at p.maps s)) k)
+        where
+          sole_is : (b : Bool) → cond b (Copy true) (cond (nat_lt 0 scene.free_frames) (Copy false) NeedFrame) ≡ Copy sole → b ≡ sole
+          sole_is true e = cc e
+          sole_is false e = by_frame (nat_lt 0 scene.free_frames) e
+            where
+              by_frame : (b : Bool) → cond b (Copy false) NeedFrame ≡ Copy sole → false ≡ sole
+              by_frame true d = cc d
+              by_frame false d = absurd (cc d)
 
-granted_may : (b : Bool) (kind : Kind) (r : Referred) (q : PlainPages) → cond b r (denied kind) ≡ granted q → b ≡ true
-granted_may true kind r q h = refl
-granted_may false kind r q h = absurd (cc h)
+  announced_late : (m : Option (Making K)) → is_early (announced p scene m) ≡ false
+  announced_late None = refl
+  announced_late (Some (blank b)) = by (nat_lt 0 scene.free_frames)
+    where
+      by : (b : Bool) → is_early (cond b Zero NeedFrame) ≡ false
+      by true = refl
+      by false = refl
+  announced_late (Some (copy s a)) = by (is_sole p (entry_at p.maps s)) (nat_lt 0 scene.free_frames)
+    where
+      by : (b c : Bool) → is_early (cond b (Copy true) (cond c (Copy false) NeedFrame)) ≡ false
+      by true c = refl
+      by false true = refl
+      by false false = refl
 
-sole_not_denied : (b c : Bool) (k : Kind) → cond b (Copy true) (cond c (Copy false) NeedFrame) ≡ Denied k → ⊥
-sole_not_denied true c k h = cc h
-sole_not_denied false true k h = cc h
-sole_not_denied false false k h = cc h
+  refused_here : (x : Option ℕ) (t u : Touch) → is_early t ≡ false → is_early u ≡ true → ((home : ℕ) → Absent (record { 0 = home }) ≡ u → ⊥) → absent_or x t ≡ u → ⊥
+  refused_here None t u e f n h = (let z : true ≡ false = sym f ∙ ap is_early (sym h) ∙ e in cc z)
+  refused_here (Some home) t u e f n h = n home h
 
-framed_not_denied : (b : Bool) (k : Kind) → cond b Zero NeedFrame ≡ Denied k → ⊥
-framed_not_denied true k h = cc h
-framed_not_denied false k h = cc h
-
-module _ (filed : PageName → Bool) (p : PlainPages) (scene : Scene) (s : Slot) (kind k : Kind) where
-  copy_not_denied : (o : Option Link) (n : PageName) (owner : Tty) → copy_or_ready filed p scene o n owner ≡ Denied k → ⊥
-  copy_not_denied None n owner h = cc h
-  copy_not_denied (Some l) n owner h = sole_not_denied _ _ k h
-
-  page_not_denied : (n : PageName) (o : Option ℕ) → page_touch filed p scene s kind n o ≡ Denied k → ⊥
-  page_not_denied n (Some home) h = cc h
-  page_not_denied n None h = copy_not_denied (copy_link p s kind) n s.fork.tty h
-
-  entry_not_denied : (e : MapEntry) → is_end e ≡ true → entry_touch filed p scene s kind e ≡ Denied k → ⊥
-  entry_not_denied Empty c h = framed_not_denied _ k h
-  entry_not_denied (Names n a) c h = page_not_denied n (scene.page_away n) h
-  entry_not_denied (Follows serial page a) c h = cc c
-
-  end_not_denied : (o : Option Link) (l : Link) → o ≡ Some l → is_end l.entry ≡ true → end_touch filed p scene s kind o ≡ Denied k → ⊥
-  end_not_denied o l is c h = entry_not_denied l.entry c (sym (ap (λ x. end_touch filed p scene s kind x) is) ∙ h)
-
-  granted_denied : (r : Referred) → reference filed p s kind s.fork.tty ≡ r → granted_touch filed p scene s kind r ≡ Denied k → (j : Kind) × (reference filed p s kind s.fork.tty ≡ denied j)
-  granted_denied (granted q) is h =
-      let asked : may p.maps s kind ≡ true = granted_may (may p.maps s kind) kind (makings filed p s kind s.fork.tty) q is in
-      let links = trail 4 p.maps (Some s) in
-      let c = chain_closed (is_closed links) links kind refl asked in
-      absurd (end_not_denied (chain_end p.maps s) c.0 c.1 c.2 h)
-  granted_denied (denied j) is h = (j, is)
-  granted_denied full is h = absurd (cc h)
-
-  way_denied : (o : Option ℕ) → way_touch filed p scene s kind o ≡ Denied k → (j : Kind) × (reference filed p s kind s.fork.tty ≡ denied j)
-  way_denied (Some home) h = absurd (cc h)
-  way_denied None h = granted_denied (reference filed p s kind s.fork.tty) refl h
+  passed : (x : Option ℕ) (t u : Touch) → ((home : ℕ) → Absent (record { 0 = home }) ≡ u → ⊥) → absent_or x t ≡ u → t ≡ u
+  passed None t u n h = h
+  passed (Some home) t u n h = absurd (n home h)
 
   -- a touch is denied where the reference is
-  pub denied_touch : touch_of filed p scene (Fork s) kind ≡ Denied k → (j : Kind) × (reference filed p s kind s.fork.tty ≡ denied j)
-  denied_touch h = way_denied (first_away scene (trail 4 p.maps (Some s))) h
-
-full_not : (b : Bool) → cond b Zero NeedFrame ≡ Full → ⊥
-full_not true h = cc h
-full_not false h = cc h
-
-sole_not_full : (b c : Bool) → cond b (Copy true) (cond c (Copy false) NeedFrame) ≡ Full → ⊥
-sole_not_full true c h = cc h
-sole_not_full false true h = cc h
-sole_not_full false false h = cc h
-
-module _ (filed : PageName → Bool) (p : PlainPages) (scene : Scene) (s : Slot) (kind : Kind) where
-  copy_not_full : (o : Option Link) (n : PageName) (owner : Tty) → copy_or_ready filed p scene o n owner ≡ Full → ⊥
-  copy_not_full None n owner h = cc h
-  copy_not_full (Some l) n owner h = sole_not_full _ _ h
-
-  page_not_full : (n : PageName) (o : Option ℕ) → page_touch filed p scene s kind n o ≡ Full → ⊥
-  page_not_full n (Some home) h = cc h
-  page_not_full n None h = copy_not_full (copy_link p s kind) n s.fork.tty h
-
-  entry_not_full : (e : MapEntry) → entry_touch filed p scene s kind e ≡ Full → ⊥
-  entry_not_full Empty h = full_not _ h
-  entry_not_full (Names n a) h = page_not_full n (scene.page_away n) h
-  entry_not_full (Follows serial page a) h = cc h
-
-  end_not_full : (o : Option Link) → end_touch filed p scene s kind o ≡ Full → ⊥
-  end_not_full None h = cc h
-  end_not_full (Some l) h = entry_not_full l.entry h
-
-  granted_full : (r : Referred) → reference filed p s kind s.fork.tty ≡ r → granted_touch filed p scene s kind r ≡ Full → reference filed p s kind s.fork.tty ≡ full
-  granted_full (granted q) is h = absurd (end_not_full (chain_end p.maps s) h)
-  granted_full (denied j) is h = absurd (cc h)
-  granted_full full is h = is
-
-  way_full : (o : Option ℕ) → way_touch filed p scene s kind o ≡ Full → reference filed p s kind s.fork.tty ≡ full
-  way_full (Some home) h = absurd (cc h)
-  way_full None h = granted_full (reference filed p s kind s.fork.tty) refl h
+  pub denied_touch : (k : Kind) → touch_of p scene at kind owner ≡ Denied k → (j : Kind) × (reference p at kind owner ≡ denied j)
+  unfolding touch_of
+  denied_touch k h = by (reference p at kind owner) refl (passed (map_away p scene at) (touched_by p scene at kind (reference p at kind owner)) (Denied k) (λ home e. cc e) h)
+    where
+      by : (r : Referred file_cmp) → reference p at kind owner ≡ r → touched_by p scene at kind r ≡ Denied k → (j : Kind) × (reference p at kind owner ≡ denied j)
+      by (granted q) is g = absurd (refused_here (page_away p scene at) (announced p scene (next_making p at kind)) (Denied k) (announced_late (next_making p at kind)) refl (λ home e. cc e) g)
+      by (denied j) is g = (j, is)
+      by full is g = absurd (cc g)
 
   -- a touch meets a full drum where the reference does
-  pub full_touch : touch_of filed p scene (Fork s) kind ≡ Full → reference filed p s kind s.fork.tty ≡ full
-  full_touch h = way_full (first_away scene (trail 4 p.maps (Some s))) h
+  pub full_touch : touch_of p scene at kind owner ≡ Full → reference p at kind owner ≡ full
+  unfolding touch_of
+  full_touch h = by (reference p at kind owner) refl (passed (map_away p scene at) (touched_by p scene at kind (reference p at kind owner)) Full (λ home e. cc e) h)
+    where
+      by : (r : Referred file_cmp) → reference p at kind owner ≡ r → touched_by p scene at kind r ≡ Full → reference p at kind owner ≡ full
+      by (granted q) is g = absurd (refused_here (page_away p scene at) (announced p scene (next_making p at kind)) Full (announced_late (next_making p at kind)) refl (λ home e. cc e) g)
+      by (denied j) is g = absurd (cc g)
+      by full is g = is

@@ -1,9 +1,12 @@
 -- The events of a script that are one step of the plain machine.
 use Rattle.std.specs.Prelude.{ℕ, ◌+◌, ◌%◌, List, [], ◌∷◌, map, Bool, false, nat_lt, Option, None, Some, if◌then◌else◌, slice_index, slice_set, replicate, is_some}
+use Rattle.std.specs.Option.{option_map, option_map_or}
+use Rattle.std.specs.declared.cmp.Ordering.{Ordering}
 use Rattle.std.specs.FinMap as map
+use Rattle.outside.specs.declared.TheConstants.{PAGE_WORDS}
+use Rattle.plain_model.specs.declared.names.TheConstants.{SPACE_PAGES, LAST_SERIAL, ACCUMULATORS}
 use Rattle.plain_model.specs.declared.names.Tty.{Tty}
 use Rattle.plain_model.specs.declared.names.ForkName.{ForkName}
-use Rattle.plain_model.specs.declared.names.PageName.{PageName}
 use Rattle.plain_model.specs.declared.names.Slot.{Slot}
 use Rattle.plain_model.specs.declared.names.Kind.TheVariants.{Write}
 use Rattle.plain_model.specs.declared.map.MapEntry.TheVariants.{Empty}
@@ -11,25 +14,30 @@ use Rattle.plain_model.specs.declared.fork.TerminalMode.TheVariants.{Command, Pr
 use Rattle.plain_model.specs.declared.fork.ForkStatus.TheVariants.{Run as Running}
 use Rattle.plain_model.specs.declared.fork.Fork.{Fork}
 use Rattle.plain_model.specs.declared.event.Event.{Event}
-use Rattle.plain_model.specs.declared.event.Event.TheVariants.{Login, TypeIn, File, Words, Poke, Start, Run, Tick, Evict, Drum, Auto, Examine, Forks, Page, Trace}
+use Rattle.plain_model.specs.declared.event.Event.TheVariants.{Login, Poke, Start, Tick, Examine, Forks, Trace}
 use Rattle.plain_model.specs.declared.event.Item.TheVariants.{Char, ForkLine, Examined, Refusal}
 use Rattle.plain_model.specs.declared.event.Refusal.{Refusal as Cause}
 use Rattle.plain_model.specs.declared.event.Refusal.TheVariants.{Busy, NoJob, SerialsOut, Full, Denied, NoFork, NoPage}
 use Rattle.plain_model.specs.State.{PlainState, PlainPages, PlainJob, Map}
+use Rattle.plain_model.specs.Orders.{name_cmp}
 use Rattle.plain_model.specs.Room.{HasRoom}
-use Rattle.plain_model.specs.References.{Referred, granted, denied, full, reference, stored, words_of, page_at}
-use Rattle.plain_model.specs.Forks.{top_fork, with_fork, with_regs, forks_by_slot, fork_line}
-use Rattle.plain_model.specs.Unit.{Effect, slot_at, is_filed}
+use Rattle.plain_model.specs.References.{Referred, granted, denied, full, in_map, reference, stored, words_of, page_at}
+use Rattle.plain_model.specs.Forks.{top_fork, with_fork, change_fork, with_regs, forks_by_slot, fork_line}
+use Rattle.plain_model.specs.Unit.{Effect, slot_at}
 
 abbrev pub refused : PlainState → Cause → Effect
 refused s cause = record { state = s; items = Refusal cause ∷ [] }
 
+-- an event of a terminal's job; it is refused where the terminal has none
+abbrev pub at_job : PlainState → Tty → (PlainJob → Effect) → Effect
+at_job s t act = option_map_or act (map.get s.jobs t.0) (refused s (NoJob t))
+
 -- a map of which each entry is empty
 unfoldable pub empty_map : Map
-empty_map = replicate 512 Empty
+empty_map = replicate SPACE_PAGES Empty
 
 -- the pages with an empty map for a new fork
-abbrev pub with_map : PlainPages → ForkName → PlainPages
+abbrev pub with_map : {K : Type 0} {file_cmp : K → K → Ordering} → PlainPages file_cmp → ForkName → PlainPages file_cmp
 with_map p f = record p { maps = map.insert p.maps f empty_map }
 
 -- a job of a user whose terminal is in command mode
@@ -52,77 +60,50 @@ with_job s t user = let f = next_fork s t in record (with_fork s (top_fork f)) {
 abbrev pub login : PlainState → Tty → List ℕ → Effect
 login s t user =
     if is_some (map.get s.jobs t.0) then refused s (Busy t)
-    else (if nat_lt 262143 (next_fork s t).serial then refused s (SerialsOut t)
+    else (if nat_lt LAST_SERIAL (next_fork s t).serial then refused s (SerialsOut t)
     else (if HasRoom (with_map s.pages (next_fork s t)) t then record { state = with_job s t user; items = Char t 64 ∷ [] }
     else refused s (Full t)))
 
--- an accumulator is written
-abbrev pub with_accumulator : PlainState → ℕ → ℕ → Option Fork → PlainState
-with_accumulator s at word None = s
-with_accumulator s at word (Some f) = with_fork s (with_regs f (record f.body.regs { ac = slice_set f.body.regs.ac at word }))
+abbrev pub with_accumulator : ℕ → ℕ → Fork → Fork
+with_accumulator at word f = with_regs f (record f.body.regs { ac = slice_set f.body.regs.ac at word })
 
-abbrev pub poked : PlainState → Tty → Slot → ℕ → ℕ → Referred → Effect
-poked s t slot offset word (granted p) = record { state = record s { pages = stored p slot offset word }; items = [] }
+-- a word put into a slot's page, where a write is granted
+abbrev pub poked : PlainState → Tty → Slot → ℕ → ℕ → Referred name_cmp → Effect
+poked s t slot offset word (granted p) = record { state = record s { pages = stored p (in_map slot) offset word }; items = [] }
 poked s t slot offset word (denied kind) = refused s (Denied t)
 poked s t slot offset word full = refused s (Full t)
 
-abbrev pub poke_of : PlainState → Tty → ℕ → ℕ → Option PlainJob → Effect
-poke_of s t address word None = refused s (NoJob t)
-poke_of s t address word (Some j) =
-    if nat_lt address 16 then record { state = with_accumulator s address word (map.get s.forks j.top); items = [] }
-    else (let slot = slot_at j.top address in poked s t slot (address % 512) word (reference (is_filed s) s.pages slot Write t))
-
--- POKE: a write of the top fork, by its access; addresses below 16 are its accumulators
+-- POKE: a write of the top fork, by its access; low addresses are its accumulators
 abbrev pub poke : PlainState → Tty → ℕ → ℕ → Effect
-poke s t address word = poke_of s t address word (map.get s.jobs t.0)
+poke s t address word = at_job s t (λ j.
+    if nat_lt address ACCUMULATORS then record { state = change_fork s j.top (with_accumulator address word); items = [] }
+    else (let slot = slot_at j.top address in poked s t slot (address % PAGE_WORDS) word (reference s.pages (in_map slot) Write t)))
 
-abbrev pub restarted : Fork → ℕ → Fork
-restarted f address = record f { frozen = false; body = record f.body { status = Running; regs = record f.body.regs { pc = address } } }
-
-abbrev pub with_start : PlainState → ℕ → Option Fork → PlainState
-with_start s address None = s
-with_start s address (Some f) = with_fork s (restarted f address)
-
-abbrev pub start_of : PlainState → Tty → ℕ → Option PlainJob → Effect
-start_of s t address None = refused s (NoJob t)
-start_of s t address (Some j) = record {
-  state = record (with_start s address (map.get s.forks j.top)) { jobs = map.insert s.jobs t.0 (record j { mode = Program }) };
-  items = [];
-}
+abbrev pub restarted : ℕ → Fork → Fork
+restarted address f = record f { frozen = false; body = record f.body { status = Running; regs = record f.body.regs { pc = address } } }
 
 -- START: the top fork runs at the address, with no freeze mark, in program mode
 abbrev pub start : PlainState → Tty → ℕ → Effect
-start s t address = start_of s t address (map.get s.jobs t.0)
+start s t address = at_job s t (λ j. record {
+  state = record (change_fork s j.top (restarted address)) { jobs = map.insert s.jobs t.0 (record j { mode = Program }) };
+  items = [];
+})
 
-abbrev pub examined : PlainState → Tty → ℕ → ℕ → ℕ → Effect
-examined s t serial address word = record { state = s; items = Examined t serial address word ∷ [] }
+-- the word at an address of a fork, whatever its access, where a page is there; low addresses are its accumulators
+abbrev pub word_seen : PlainState → Fork → ℕ → Option ℕ
+word_seen s f address =
+    if nat_lt address ACCUMULATORS then Some (slice_index f.body.regs.ac address)
+    else option_map (λ n. slice_index (words_of s.pages n) (address % PAGE_WORDS)) (page_at s.pages (in_map (slot_at f.name address)))
 
-abbrev pub examine_page : PlainState → Tty → ℕ → ℕ → Option PageName → Effect
-examine_page s t serial address None = refused s (NoPage t)
-examine_page s t serial address (Some n) = examined s t serial address (slice_index (words_of s.pages n) (address % 512))
-
-abbrev pub examine_fork : PlainState → Tty → ℕ → ℕ → Option Fork → Effect
-examine_fork s t serial address None = refused s (NoFork t)
-examine_fork s t serial address (Some f) =
-    if nat_lt address 16 then examined s t serial address (slice_index f.body.regs.ac address)
-    else examine_page s t serial address (page_at s.pages (slot_at f.name address))
-
-abbrev pub examine_of : PlainState → Tty → ℕ → ℕ → Option PlainJob → Effect
-examine_of s t serial address None = refused s (NoJob t)
-examine_of s t serial address (Some j) = examine_fork s t serial address (map.get s.forks (record { tty = t; serial = serial }))
-
--- EXAMINE: the word at an address of a fork, whatever its access; nothing is made, and addresses below
--- 16 are its accumulators
+-- EXAMINE: the word at an address of one of the job's forks; nothing is made
 abbrev pub examine : PlainState → Tty → ℕ → ℕ → Effect
-examine s t serial address = examine_of s t serial address (map.get s.jobs t.0)
-
-abbrev pub show_forks_of : PlainState → Tty → Option PlainJob → Effect
-show_forks_of s t None = refused s (NoJob t)
-show_forks_of s t (Some j) = record { state = s; items = map (λ f. ForkLine (fork_line s.forks f)) (forks_by_slot s.forks t) }
+examine s t serial address = at_job s t (λ j. option_map_or
+    (λ f. option_map_or (λ word. record { state = s; items = Examined t serial address word ∷ [] }) (word_seen s f address) (refused s (NoPage t)))
+    (map.get s.forks (record { tty = t; serial = serial })) (refused s (NoFork t)))
 
 -- FORKS: a job's forks by slot
 abbrev pub show_forks : PlainState → Tty → Effect
-show_forks s t = show_forks_of s t (map.get s.jobs t.0)
+show_forks s t = at_job s t (λ j. record { state = s; items = map (λ f. ForkLine (fork_line s.forks f)) (forks_by_slot s.forks t) })
 
 -- TICK: the clock goes on by one
 abbrev pub tick : PlainState → Effect
@@ -133,19 +114,12 @@ abbrev pub traced : PlainState → Bool → Effect
 traced s on = record { state = record s { trace = on }; items = [] }
 
 -- an event as one step; those that are not built change nothing
-abbrev pub outer : PlainState → Event → Effect
+unfoldable pub outer : PlainState → Event → Effect
 outer s (Login t user) = login s t user
-outer s (TypeIn t text) = record { state = s; items = [] }
-outer s (File name) = record { state = s; items = [] }
-outer s (Words name page offset row) = record { state = s; items = [] }
 outer s (Poke t address word) = poke s t address word
 outer s (Start t address) = start s t address
-outer s (Run n) = record { state = s; items = [] }
 outer s Tick = tick s
-outer s (Evict n) = record { state = s; items = [] }
-outer s (Drum n) = record { state = s; items = [] }
-outer s (Auto on) = record { state = s; items = [] }
 outer s (Examine t serial address) = examine s t serial address
 outer s (Forks t) = show_forks s t
-outer s (Page name page) = record { state = s; items = [] }
 outer s (Trace on) = traced s on
+outer s e = record { state = s; items = [] }

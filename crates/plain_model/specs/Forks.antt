@@ -1,6 +1,9 @@
 -- Forks: which can run, and how they begin and end (CACM paper, "Forks").
-use Rattle.std.specs.Prelude.{◌≡◌, ℕ, zero, suc, ◌+◌, List, [], ◌∷◌, Bool, false, ◌||◌, ◌&&◌, Option, None, Some, ◌==◌, find, replicate}
+use Rattle.std.specs.Prelude.{◌≡◌, ℕ, zero, suc, ◌+◌, List, Bool, false, ◌||◌, ◌&&◌, Option, None, Some, ◌==◌, find, replicate}
+use Rattle.std.specs.List.{filter_map, range_with_len}
+use Rattle.std.specs.Option.{option_map_or, option_and_then}
 use Rattle.std.specs.FinMap as map
+use Rattle.plain_model.specs.declared.names.TheConstants.{MOST_FORKS, ACCUMULATORS}
 use Rattle.word36.specs.declared.flags.Flags.{Flags}
 use Rattle.plain_model.specs.declared.names.Tty.{Tty}
 use Rattle.plain_model.specs.declared.names.ForkName.{ForkName}
@@ -20,42 +23,29 @@ ForkMap = map.FinMap fork_cmp Fork
 abbrev pub fork_in : ForkMap → Tty → ℕ → Option Fork
 fork_in forks t slot = find (λ f. (f.name.tty.0 == t.0) && (f.slot == slot)) (map.values forks)
 
-abbrev pub fork_in_slot : ForkMap → Tty → Option ℕ → Option Fork
-fork_in_slot forks t None = None
-fork_in_slot forks t (Some slot) = fork_in forks t slot
+-- the superior of a fork
+abbrev pub superior_of : ForkMap → Fork → Option Fork
+superior_of forks f = option_and_then (fork_in forks f.name.tty) f.superior
 
 -- a fork is frozen where it or an ancestor has the freeze mark; so many ancestors are looked at
 abbrev pub is_frozen : ℕ → ForkMap → Option Fork → Bool
 is_frozen zero forks f = false
 is_frozen (suc n) forks None = false
-is_frozen (suc n) forks (Some f) = f.frozen || is_frozen n forks (fork_in_slot forks f.name.tty f.superior)
+is_frozen (suc n) forks (Some f) = f.frozen || is_frozen n forks (superior_of forks f)
 
 -- a fork that can run: it lives, its status is Run, and neither it nor an ancestor is frozen
 abbrev pub IsRunnable : PlainState → ForkName → Type 0
-IsRunnable s f = (k : Fork) × (map.get s.forks f ≡ Some k) × (k.body.status ≡ Run) × (is_frozen 30 s.forks (Some k) ≡ false)
-
--- a job's forks in so many slots, from one on
-abbrev pub joined_by : Option Fork → List Fork → List Fork
-joined_by None fs = fs
-joined_by (Some f) fs = f ∷ fs
-
-abbrev pub forks_from : ForkMap → Tty → ℕ → ℕ → List Fork
-forks_from forks t slot zero = []
-forks_from forks t slot (suc n) = joined_by (fork_in forks t slot) (forks_from forks t (slot + 1) n)
+IsRunnable s f = (k : Fork) × (map.get s.forks f ≡ Some k) × (k.body.status ≡ Run) × (is_frozen MOST_FORKS s.forks (Some k) ≡ false)
 
 -- a job's forks by slot
 abbrev pub forks_by_slot : ForkMap → Tty → List Fork
-forks_by_slot forks t = forks_from forks t 1 30
-
-abbrev pub serial_or_none : Option Fork → ℕ
-serial_or_none None = 0
-serial_or_none (Some f) = f.name.serial
+forks_by_slot forks t = filter_map (fork_in forks t) (range_with_len 1 MOST_FORKS)
 
 -- a fork as the machine shows it
 abbrev pub fork_line : ForkMap → Fork → ForkLine
 fork_line forks f = record {
   name = f.name;
-  superior = serial_or_none (fork_in_slot forks f.name.tty f.superior);
+  superior = option_map_or (λ g. g.name.serial) (superior_of forks f) 0;
   status = f.body.status;
   frozen = f.frozen;
   address = f.body.regs.pc;
@@ -71,7 +61,7 @@ psi_at_rest = record { on = false; table = None; active = 0; pending = 0; levels
 
 -- sixteen accumulators of 0, at address 0
 unfoldable pub first_regs : Regs
-first_regs = record { ac = replicate 16 0; pc = 0; flags = no_flags }
+first_regs = record { ac = replicate ACCUMULATORS 0; pc = 0; flags = no_flags }
 
 -- the top fork of a new job
 abbrev pub top_fork : ForkName → Fork
@@ -85,6 +75,10 @@ top_fork name = record {
 
 abbrev pub with_fork : PlainState → Fork → PlainState
 with_fork s f = record s { forks = map.insert s.forks f.name f }
+
+-- a fork changed, where it lives
+abbrev pub change_fork : PlainState → ForkName → (Fork → Fork) → PlainState
+change_fork s name change = option_map_or (λ f. with_fork s (change f)) (map.get s.forks name) s
 
 abbrev pub with_status : Fork → ForkStatus → Fork
 with_status f status = record f { body = record f.body { status = status } }

@@ -4,12 +4,31 @@ use Rattle.std.specs.Int.{bit_at}
 use Rattle.plain_model.specs.declared.fork.Psi.{Psi}
 use Rattle.plain_model.specs.declared.fork.Fork.{Fork}
 use Rattle.plain_model.specs.declared.fork.ForkStatus.{ForkStatus}
-use Rattle.plain_model.specs.declared.fork.ForkStatus.TheVariants.{Run, Wait, Halted, Forced}
+use Rattle.plain_model.specs.declared.fork.ForkStatus.TheVariants.{Run, Wait, Forced}
 use Rattle.plain_model.specs.Forks.{with_status}
 
--- pushdown overflow, an illegal instruction, a denied read, write or execute, and a full drum are panic channels
+-- the channels of what the machine finds in a unit
+abbrev pub pushdown_overflow : ℕ
+pushdown_overflow = 9
+
+abbrev pub illegal_instruction : ℕ
+illegal_instruction = 15
+
+abbrev pub denied_read : ℕ
+denied_read = 16
+
+abbrev pub denied_write : ℕ
+denied_write = 17
+
+abbrev pub denied_execute : ℕ
+denied_execute = 18
+
+abbrev pub drum_full : ℕ
+drum_full = 20
+
+-- these are panic channels
 abbrev pub is_panic : ℕ → Bool
-is_panic channel = (channel == 9) || (nat_le 15 channel && nat_le channel 18) || (channel == 20)
+is_panic channel = (channel == pushdown_overflow) || (nat_le illegal_instruction channel && nat_le channel denied_execute) || (channel == drum_full)
 
 -- whether a fork takes a channel: its interrupts are on, it has a table, and the channel is active
 abbrev pub listens : Psi → ℕ → Bool
@@ -19,10 +38,8 @@ abbrev pub with_pending : Psi → ℕ → Psi
 with_pending psi channel = if bit_at psi.pending channel == 1 then psi else record psi { pending = psi.pending + 2 ^ channel }
 
 abbrev pub woken : ForkStatus → ForkStatus
-woken Run = Run
 woken (Wait on) = Run
-woken Halted = Halted
-woken (Forced channel) = Forced channel
+woken status = status
 
 abbrev pub pended : Fork → ℕ → Fork
 pended f channel = record f { body = record f.body { psi = with_pending f.body.psi channel; status = woken f.body.status } }

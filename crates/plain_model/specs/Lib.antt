@@ -16,4 +16,5 @@ pub mod Script
 pub mod Taker
 pub mod Outcome
 pub mod Pages
+pub mod Whole
 pub mod Example

@@ -1,5 +1,7 @@
 -- The limits of events, items and steps, and which events are built.
 use Rattle.std.specs.Prelude.{◌≡◌, ℕ, ◌+◌, ◌<◌, ◌≤◌, ◌^◌, List, ◌∷◌, ◌++◌, length, drop, All, Bool, true, ◌||◌, ◌&&◌, nat_le, ◌==◌}
+use Rattle.outside.specs.declared.TheConstants.{PAGE_WORDS}
+use Rattle.plain_model.specs.declared.names.TheConstants.{TERMINALS, LAST_SERIAL, SPACE_PAGES}
 use Rattle.plain_model.specs.declared.names.Tty.{Tty}
 use Rattle.plain_model.specs.declared.names.ForkName.{ForkName}
 use Rattle.plain_model.specs.declared.fork.ForkStatus.{ForkStatus}
@@ -18,7 +20,7 @@ use Rattle.plain_model.specs.Run.{single, shape_of}
 use Rattle.plain_model.specs.Texts.{line_of}
 
 abbrev pub IsTerminal : Tty → Type 0
-IsTerminal t = t.0 < 16
+IsTerminal t = t.0 < TERMINALS
 
 -- a character of a name: a capital letter, a digit or a hyphen
 abbrev pub is_name_code : ℕ → Bool
@@ -54,14 +56,14 @@ pub record FitsRow (offset : ℕ) (row : WordRow) : Type 0 where
   pub room : length row.words ≡ 8
   pub words : All (λ w. w < 2 ^ 36) row.words
   pub rest : All (λ w. w ≡ 0) (drop row.count row.words)
-  pub within : offset + row.count ≤ 512
+  pub within : offset + row.count ≤ PAGE_WORDS
 
 -- the limits of an event; its canonical line has at most 256 bytes, as only what is typed could have more
 abbrev pub FitsEvent : Event → Type 0
 FitsEvent (Login t user) = IsTerminal t × IsDirName user
 FitsEvent (TypeIn t text) = IsTerminal t × (1 ≤ length text) × (length text ≤ 100) × All (λ c. c < 128) text × (length (line_of (TypeIn t text)) ≤ 256)
 FitsEvent (File name) = IsFileName name
-FitsEvent (Words name page offset row) = IsFileName name × (page < 512) × FitsRow offset row
+FitsEvent (Words name page offset row) = IsFileName name × (page < SPACE_PAGES) × FitsRow offset row
 FitsEvent (Poke t address word) = IsTerminal t × IsAddress address × (word < 2 ^ 36)
 FitsEvent (Start t address) = IsTerminal t × IsAddress address
 FitsEvent (Run n) = (1 ≤ n) × (n ≤ 1000000)
@@ -71,26 +73,17 @@ FitsEvent (Drum n) = n < 10000000
 FitsEvent (Auto on) = Unit {0}
 FitsEvent (Examine t serial address) = IsTerminal t × (serial < 1000000) × IsAddress address
 FitsEvent (Forks t) = IsTerminal t
-FitsEvent (Page name page) = IsFileName name × (page < 512)
+FitsEvent (Page name page) = IsFileName name × (page < SPACE_PAGES)
 FitsEvent (Trace on) = Unit {0}
 
 -- the events that the machine acts on
 abbrev pub IsBuilt : Event → Type 0
-IsBuilt (Login t user) = Unit {0}
 IsBuilt (TypeIn t text) = ⊥
 IsBuilt (File name) = ⊥
 IsBuilt (Words name page offset row) = ⊥
-IsBuilt (Poke t address word) = Unit {0}
-IsBuilt (Start t address) = Unit {0}
-IsBuilt (Run n) = Unit {0}
-IsBuilt Tick = Unit {0}
-IsBuilt (Evict n) = Unit {0}
-IsBuilt (Drum n) = Unit {0}
-IsBuilt (Auto on) = Unit {0}
-IsBuilt (Examine t serial address) = Unit {0}
-IsBuilt (Forks t) = Unit {0}
 IsBuilt (Page name page) = ⊥
 IsBuilt (Trace on) = ⊥
+IsBuilt e = Unit {0}
 
 -- an event that is one entry
 abbrev pub IsOuter : Event → Type 0
@@ -98,7 +91,7 @@ IsOuter e = shape_of e ≡ single
 
 -- a fork's name
 abbrev pub IsForkName : ForkName → Type 0
-IsForkName f = IsTerminal f.tty × (1 ≤ f.serial) × (f.serial ≤ 262143)
+IsForkName f = IsTerminal f.tty × (1 ≤ f.serial) × (f.serial ≤ LAST_SERIAL)
 
 abbrev pub FitsStatus : ForkStatus → Type 0
 FitsStatus Running = Unit {0}
@@ -107,7 +100,7 @@ FitsStatus Halted = Unit {0}
 FitsStatus (Forced channel) = channel < 36
 
 abbrev pub FitsForkLine : ForkShown → Type 0
-FitsForkLine l = IsForkName l.name × (l.superior ≤ 262143) × FitsStatus l.status × IsAddress l.address
+FitsForkLine l = IsForkName l.name × (l.superior ≤ LAST_SERIAL) × FitsStatus l.status × IsAddress l.address
 
 abbrev pub FitsCause : Cause → Type 0
 FitsCause (Busy t) = IsTerminal t
@@ -128,8 +121,8 @@ abbrev pub FitsItem : Item → Type 0
 FitsItem (Char t c) = IsTerminal t × (c < 128)
 FitsItem (ForkLine l) = FitsForkLine l
 FitsItem (Examined t serial address word) = IsTerminal t × (serial < 1000000) × IsAddress address × (word < 2 ^ 36)
-FitsItem (PageLine name page) = IsFileName name × (page < 512)
-FitsItem (PageWord offset word) = (offset < 512) × (word < 2 ^ 36)
+FitsItem (PageLine name page) = IsFileName name × (page < SPACE_PAGES)
+FitsItem (PageWord offset word) = (offset < PAGE_WORDS) × (word < 2 ^ 36)
 FitsItem (UnitLine f address) = IsForkName f × IsAddress address
 FitsItem (Refusal cause) = FitsCause cause
 

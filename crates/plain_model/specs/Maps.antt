@@ -1,112 +1,92 @@
 -- Maps, and the chains that their entries make (CACM paper, "The memory management").
 use Rattle.std.specs.Prelude.{ℕ, zero, suc, List, [], ◌∷◌, Bool, true, false, ◌&&◌, Option, None, Some, if◌then◌else◌, slice_get, slice_set}
 use Rattle.std.specs.List.{list_all}
+use Rattle.std.specs.Option.{option_map, option_and_then, option_map_or}
 use Rattle.std.specs.FinMap as map
+use Rattle.plain_model.specs.declared.names.ForkName.{ForkName}
+use Rattle.plain_model.specs.declared.names.PageName.{PageName}
 use Rattle.plain_model.specs.declared.names.Slot.{Slot}
 use Rattle.plain_model.specs.declared.names.Access.{Access}
 use Rattle.plain_model.specs.declared.names.Kind.{Kind}
 use Rattle.plain_model.specs.declared.names.Kind.TheVariants.{Read, Write, Execute}
 use Rattle.plain_model.specs.declared.map.MapEntry.{MapEntry}
 use Rattle.plain_model.specs.declared.map.MapEntry.TheVariants.{Empty, Names, Follows}
-use Rattle.plain_model.specs.State.{Map, Maps}
+use Rattle.plain_model.specs.State.{Maps}
 
-abbrev pub entry_of : Option Map → ℕ → Option MapEntry
-entry_of None page = None
-entry_of (Some m) page = slice_get m page
+-- the entry of each slot; there is none where the fork does not live
+abbrev pub Entries : Type 0
+Entries = Slot → Option MapEntry
 
--- the entry of a slot; there is none where the fork does not live
-abbrev pub entry_at : Maps → Slot → Option MapEntry
-entry_at maps s = entry_of (map.get maps s.fork) s.page
-
-abbrev pub with_entry : Maps → Slot → MapEntry → Option Map → Maps
-with_entry maps s e None = maps
-with_entry maps s e (Some m) = map.insert maps s.fork (slice_set m s.page e)
+-- the entries of maps
+abbrev pub entry_at : Maps → Entries
+entry_at maps s = option_and_then (λ m. slice_get m s.page) (map.get maps s.fork)
 
 -- the maps with another entry in a slot
 abbrev pub set_entry : Maps → Slot → MapEntry → Maps
-set_entry maps s e = with_entry maps s e (map.get maps s.fork)
+set_entry maps s e = option_map_or (λ m. map.insert maps s.fork (slice_set m s.page e)) (map.get maps s.fork) maps
 
--- the slot that an entry follows, in the fork of the same terminal with that serial
-abbrev pub followed : Slot → MapEntry → Option Slot
-followed s Empty = None
-followed s (Names p a) = None
-followed s (Follows serial page a) = Some (record { fork = record { tty = s.fork.tty; serial = serial }; page = page })
+-- a page of the fork with that serial, of the same terminal
+abbrev pub followed : Slot → ℕ → ℕ → Slot
+followed s serial page = record { fork = record { tty = s.fork.tty; serial = serial }; page = page }
 
--- a slot with its entry
+-- every right, and no copy mark: the access of a zero page, and what an empty entry permits
+abbrev pub full_access : Access
+full_access = record { r = true; w = true; x = true; c = false }
+
+-- a slot, with what its entry permits
 pub record Link : Type 0 where
   pub slot : Slot
-  pub entry : MapEntry
+  pub access : Access
 
-abbrev pub linked : Slot → Option MapEntry → (Option Slot → List Link) → List Link
-linked s None rest = []
-linked s (Some e) rest = record { slot = s; entry = e } ∷ rest (followed s e)
+-- a chain: its links from a slot on, each following the last, and the last slot with the page that it names, if any
+pub record Chain : Type 0 where
+  pub links : List Link
+  pub end : Slot
+  pub page : Option PageName
 
--- the entries met from a slot on, each the one that the last follows, so many at most
-abbrev pub trail : ℕ → Maps → Option Slot → List Link
-trail zero maps at = []
-trail (suc n) maps None = []
-trail (suc n) maps (Some s) = linked s (entry_at maps s) (λ next. trail n maps next)
+abbrev pub single_link : Slot → Access → Option PageName → Chain
+single_link s a page = record { links = record { slot = s; access = a } ∷ []; end = s; page = page }
 
--- an entry at which a chain ends
-abbrev pub is_end : MapEntry → Bool
-is_end Empty = true
-is_end (Names p a) = true
-is_end (Follows serial page a) = false
+abbrev pub behind : Slot → Access → Chain → Chain
+behind s a c = record c { links = record { slot = s; access = a } ∷ c.links }
 
-abbrev pub is_closed : List Link → Bool
-is_closed [] = false
-is_closed (l ∷ []) = is_end l.entry
-is_closed (l ∷ m ∷ ls) = is_closed (m ∷ ls)
+-- the chain from a slot with this entry, over those from other slots
+abbrev pub chain_from : Slot → Option MapEntry → (Slot → Option Chain) → Option Chain
+chain_from s None next = None
+chain_from s (Some Empty) next = Some (single_link s full_access None)
+chain_from s (Some (Names n a)) next = Some (single_link s a (Some n))
+chain_from s (Some (Follows serial page a)) next = option_map (behind s a) (next (followed s serial page))
 
--- the chain of a slot: at most four entries up to one that follows none, each of a living fork
-abbrev pub chain : Maps → Slot → Option (List Link)
-chain maps s = let links = trail 4 maps (Some s) in if is_closed links then Some links else None
+-- the chain from a slot, where so many entries are enough
+unfoldable pub chain_within : ℕ → Entries → Slot → Option Chain
+chain_within zero entries s = None
+chain_within (suc n) entries s = chain_from s (entries s) (chain_within n entries)
 
-abbrev pub last_link : List Link → Option Link
-last_link [] = None
-last_link (l ∷ []) = Some l
-last_link (l ∷ m ∷ ls) = last_link (m ∷ ls)
+-- the chain of a slot: at most four entries, each of a living fork
+unfoldable pub chain : Entries → Slot → Option Chain
+chain entries s = chain_within 4 entries s
 
-abbrev pub end_of : Option (List Link) → Option Link
-end_of None = None
-end_of (Some links) = last_link links
+-- the forks whose maps are looked at from a slot on, over those from other slots
+abbrev pub maps_from : Slot → Option MapEntry → (Slot → List ForkName) → List ForkName
+maps_from s None next = []
+maps_from s (Some (Follows serial page a)) next = s.fork ∷ next (followed s serial page)
+maps_from s (Some e) next = s.fork ∷ []
 
--- the last slot of a chain, with its entry
-abbrev pub chain_end : Maps → Slot → Option Link
-chain_end maps s = end_of (chain maps s)
+unfoldable pub maps_within : ℕ → Entries → Slot → List ForkName
+maps_within zero entries s = []
+maps_within (suc n) entries s = maps_from s (entries s) (maps_within n entries)
 
--- an empty entry permits everything
-abbrev pub permits_in : (Access → Bool) → MapEntry → Bool
-permits_in right Empty = true
-permits_in right (Names p a) = right a
-permits_in right (Follows serial page a) = right a
+-- the forks whose maps are on the way from a slot, whether or not it has a chain
+unfoldable pub maps_on_way : Entries → Slot → List ForkName
+maps_on_way entries s = maps_within 4 entries s
 
-abbrev pub permits : (Access → Bool) → Link → Bool
-permits right l = permits_in right l.entry
-
--- whether an entry has the copy mark
-abbrev pub is_marked : MapEntry → Bool
-is_marked Empty = false
-is_marked (Names p a) = a.c
-is_marked (Follows serial page a) = a.c
-
-abbrev pub is_copied : Link → Bool
-is_copied l = is_marked l.entry
-
--- a write: the entries before the first with the copy mark need W, those after it need R
+-- a write: the entries before the first with the copy mark need W, that one W or C, and those after it R
 abbrev pub permit_write : List Link → Bool
 permit_write [] = true
-permit_write (l ∷ ls) = if is_copied l then list_all (permits (λ a. a.r)) ls else (permits (λ a. a.w) l && permit_write ls)
+permit_write (l ∷ ls) = if l.access.c then list_all (λ k. k.access.r) ls else (l.access.w && permit_write ls)
 
-abbrev pub permit : Kind → List Link → Bool
-permit Read links = list_all (permits (λ a. a.r)) links
-permit Execute links = list_all (permits (λ a. a.x)) links
-permit Write links = permit_write links
-
-abbrev pub permit_along : Kind → Option (List Link) → Bool
-permit_along kind None = false
-permit_along kind (Some links) = permit kind links
-
--- whether a reference of this kind is permitted at a slot
-abbrev pub may : Maps → Slot → Kind → Bool
-may maps s kind = permit_along kind (chain maps s)
+-- whether a chain permits a reference of this kind
+abbrev pub permits : Kind → Chain → Bool
+permits Read c = list_all (λ l. l.access.r) c.links
+permits Execute c = list_all (λ l. l.access.x) c.links
+permits Write c = permit_write c.links

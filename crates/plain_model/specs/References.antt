@@ -1,150 +1,131 @@
--- References to pages: zero pages, private copies, words.
-use Rattle.std.specs.Prelude.{ℕ, ◌+◌, List, [], ◌∷◌, Bool, true, false, ◌||◌, ◌&&◌, Option, None, Some, if◌then◌else◌, ◌==◌, replicate, slice_index, slice_set}
-use Rattle.std.specs.List.{list_all, list_any}
+-- References to pages: what they make, and what they leave.
+use Rattle.std.specs.Prelude.{ℕ, ◌+◌, List, [], ◌∷◌, ◌++◌, Option, None, Some, is_some, if◌then◌else◌, ◌==◌, replicate, slice_get, slice_index, slice_set, find}
+use Rattle.std.specs.List.{list_all}
+use Rattle.std.specs.Option.{option_map_or, option_and_then, unwrap_or}
+use Rattle.std.specs.declared.cmp.Ordering.{Ordering}
 use Rattle.std.specs.FinMap as map
+use Rattle.outside.specs.declared.TheConstants.{PAGE_WORDS}
 use Rattle.plain_model.specs.declared.names.Tty.{Tty}
 use Rattle.plain_model.specs.declared.names.Slot.{Slot}
 use Rattle.plain_model.specs.declared.names.Access.{Access}
 use Rattle.plain_model.specs.declared.names.PageName.{PageName}
 use Rattle.plain_model.specs.declared.names.Kind.{Kind}
-use Rattle.plain_model.specs.declared.names.Kind.TheVariants.{Read, Write, Execute}
-use Rattle.plain_model.specs.declared.map.MapEntry.{MapEntry}
-use Rattle.plain_model.specs.declared.map.MapEntry.TheVariants.{Empty, Names, Follows}
-use Rattle.plain_model.specs.State.{PlainPages, page_serial}
-use Rattle.plain_model.specs.Maps.{Link, chain, chain_end, set_entry, may, permits, is_copied}
-use Rattle.plain_model.specs.Room.{HasRoom}
+use Rattle.plain_model.specs.declared.names.Kind.TheVariants.{Write}
+use Rattle.plain_model.specs.declared.map.MapEntry.TheVariants.{Names}
+use Rattle.plain_model.specs.Orders.{FilePage}
+use Rattle.plain_model.specs.State.{PlainPages, is_console, page_serial}
+use Rattle.plain_model.specs.Maps.{Chain, chain, entry_at, set_entry, permits, full_access}
+use Rattle.plain_model.specs.Room.{HasRoom, uses}
 
 -- 512 words, all of them 0
 unfoldable pub zero_words : List ℕ
-zero_words = replicate 512 0
+zero_words = replicate PAGE_WORDS 0
 
--- the serials with a terminal's, or the console's, one higher
-abbrev pub next_serial : PlainPages → Tty → PlainPages
-next_serial p t =
-    if t.0 == 255 then record p { console_serial = p.console_serial + 1 }
-    else record p { page_serials = slice_set p.page_serials t.0 (slice_index p.page_serials t.0 + 1) }
+-- where a page may be named: in an entry of a map, or in a file
+pub data Spot (K : Type 0) : Type 0 where
+  in_map : Slot → Spot K
+  in_file : FilePage K → Spot K
 
--- the name of the next page of an owner
-abbrev pub next_page : PlainPages → Tty → PageName
-next_page p owner = record { tty = owner; serial = page_serial p owner }
+-- a page that is made: a zero page named at a spot, or in a slot, with this access, a copy of the page at its chain's end
+pub data Making (K : Type 0) : Type 0 where
+  blank : Spot K → Making K
+  copy : Slot → Access → Making K
 
--- a new page of an owner with these words, which a slot's entry then names
-abbrev pub new_page : PlainPages → Slot → Tty → List ℕ → Access → PlainPages
-new_page p s owner words access = record (next_serial p owner) {
-  objects = map.insert p.objects (next_page p owner) words;
-  maps = set_entry p.maps s (Names (next_page p owner) access);
-}
+-- the zero page that any reference makes where a chain ends in an empty entry
+abbrev pub blanks : {K : Type 0} → Chain → List (Making K)
+blanks c = if is_some c.page then [] else blank (in_map c.end) ∷ []
 
--- a zero page in a slot whose entry is empty
-abbrev pub zero_page : PlainPages → Slot → Tty → PlainPages
-zero_page p s owner = new_page p s owner zero_words (record { r = true; w = true; x = true; c = false })
+-- a private copy may be executed where the whole chain may
+abbrev pub private_access : Chain → Access
+private_access c = record full_access { x = list_all (λ l. l.access.x) c.links }
 
-abbrev pub names : PageName → MapEntry → Bool
-names n Empty = false
-names n (Names p a) = (n.tty.0 == p.tty.0) && (n.serial == p.serial)
-names n (Follows serial page a) = false
+-- the copy that a write makes in the first slot with the copy mark
+abbrev pub copies : {K : Type 0} → Kind → Chain → List (Making K)
+copies Write c = option_map_or (λ l. copy l.slot (private_access c) ∷ []) (find (λ l. l.access.c) c.links) []
+copies kind c = []
 
--- whether some entry of a map, or some file, names a page
-abbrev pub is_named : (PageName → Bool) → PlainPages → PageName → Bool
-is_named filed p n = filed n || list_any (list_any (names n)) (map.values p.maps)
+-- what a reference makes along a chain, in order; none is made, nor granted, where the chain does not permit it
+abbrev pub along_chain : {K : Type 0} → Kind → Chain → Option (List (Making K))
+along_chain kind c = if permits kind c then Some (blanks c ++ copies kind c) else None
 
--- a page that nothing names is dropped
-abbrev pub without_unnamed : (PageName → Bool) → PageName → PlainPages → PlainPages
-without_unnamed filed n p = if is_named filed p n then p else record p { objects = map.remove p.objects n }
+-- what it makes in a file, which permits it but where no page is there to read
+abbrev pub in_its_file : {K : Type 0} → Kind → FilePage K → Option PageName → Option (List (Making K))
+in_its_file kind f (Some n) = Some []
+in_its_file Write f None = Some (blank (in_file f) ∷ [])
+in_its_file kind f None = None
 
-abbrev pub words_or_zeros : Option (List ℕ) → List ℕ
-words_or_zeros None = zero_words
-words_or_zeros (Some words) = words
+-- what a reference comes to: the pages that it leaves, or why it makes nothing
+pub data Referred {K : Type 0} (file_cmp : K → K → Ordering) : Type 0 where
+  granted : PlainPages file_cmp → Referred file_cmp
+  denied : Kind → Referred file_cmp
+  full : Referred file_cmp
 
--- the words of a page
-abbrev pub words_of : PlainPages → PageName → List ℕ
-words_of p n = words_or_zeros (map.get p.objects n)
+module _ {K : Type 0} {file_cmp : K → K → Ordering} where
+  -- the page that is named at a spot: that of its file, or at the end of its chain
+  unfoldable pub page_at : PlainPages file_cmp → Spot K → Option PageName
+  page_at p (in_map s) = option_and_then (λ c. c.page) (chain (entry_at p.maps) s)
+  page_at p (in_file f) = map.get p.files f
 
--- the first link with the copy mark
-abbrev pub first_copied : List Link → Option Link
-first_copied [] = None
-first_copied (l ∷ ls) = if is_copied l then Some l else first_copied ls
+  -- what a reference of a kind makes, in order; there is no list where it is denied
+  unfoldable pub makings : PlainPages file_cmp → Spot K → Kind → Option (List (Making K))
+  makings p (in_map s) kind = option_and_then (along_chain kind) (chain (entry_at p.maps) s)
+  makings p (in_file f) kind = in_its_file kind f (map.get p.files f)
 
--- a private copy of a page in the slot of a link; it may be executed where the whole chain may
-abbrev pub private_copy : (PageName → Bool) → PlainPages → Link → PageName → Bool → Tty → PlainPages
-private_copy filed p l old executes owner =
-    without_unnamed filed old (new_page p l.slot owner (words_of p old) (record { r = true; w = true; x = executes; c = false }))
+  -- the words of a page
+  abbrev pub words_of : PlainPages file_cmp → PageName → List ℕ
+  words_of p n = unwrap_or (map.get p.objects n) zero_words
 
--- what a reference comes to: the pages that it leaves, or why it is not made
-pub data Referred : Type 0 where
-  granted : PlainPages → Referred
-  denied : Kind → Referred
-  full : Referred
+  -- the words of the page that is named at a spot, and zeros where there is none
+  abbrev pub words_at : PlainPages file_cmp → Spot K → List ℕ
+  words_at p at = option_map_or (words_of p) (page_at p at) zero_words
 
--- a making, where there is room for it
-abbrev pub made : PlainPages → Tty → Referred
-made p owner = if HasRoom p owner then granted p else full
+  -- the name of the next page of an owner
+  abbrev pub next_page : PlainPages file_cmp → Tty → PageName
+  next_page p owner = record { tty = owner; serial = page_serial p owner }
 
-abbrev pub then_refer : Referred → (PlainPages → Referred) → Referred
-then_refer (granted p) next = next p
-then_refer (denied kind) next = denied kind
-then_refer full next = full
+  -- a page named at a spot: by the entry of a slot, or by a file
+  abbrev pub name_page : PlainPages file_cmp → Spot K → PageName → Access → PlainPages file_cmp
+  name_page p (in_map s) n access = record p { maps = set_entry p.maps s (Names n access) }
+  name_page p (in_file f) n access = record p { files = map.insert p.files f n }
 
--- the zero page, where the chain ends in an empty entry
-abbrev pub zeroed : PlainPages → Slot → MapEntry → Tty → Referred
-zeroed p s Empty owner = made (zero_page p s owner) owner
-zeroed p s (Names n a) owner = granted p
-zeroed p s (Follows serial page a) owner = granted p
+  -- a new page of an owner with these words, named at a spot; the owner's serial goes on by one
+  abbrev pub new_page : PlainPages file_cmp → Tty → Spot K → Access → List ℕ → PlainPages file_cmp
+  new_page p owner at access words = let n = next_page p owner in record (name_page p at n access) {
+    objects = map.insert p.objects n words;
+    page_serials = if is_console owner then p.page_serials else slice_set p.page_serials owner.0 (n.serial + 1);
+    console_serial = if is_console owner then n.serial + 1 else p.console_serial;
+  }
 
-abbrev pub with_zero : PlainPages → Option Link → Tty → Referred
-with_zero p None owner = granted p
-with_zero p (Some l) owner = zeroed p l.slot l.entry owner
+  -- a page that nothing names is dropped
+  abbrev pub drop_unnamed : PlainPages file_cmp → PageName → PlainPages file_cmp
+  drop_unnamed p n = if uses p n == 0 then record p { objects = map.remove p.objects n } else p
 
--- the private copy, where a link has the copy mark and the chain ends at a page
-abbrev pub copied : (PageName → Bool) → PlainPages → Link → MapEntry → Bool → Tty → Referred
-copied filed p l Empty executes owner = granted p
-copied filed p l (Names old a) executes owner = made (private_copy filed p l old executes owner) owner
-copied filed p l (Follows serial page a) executes owner = granted p
+  -- the pages with one page more of an owner; a copy may take the last name of the old page
+  unfoldable pub make : PlainPages file_cmp → Tty → Making K → PlainPages file_cmp
+  make p owner (blank at) = new_page p owner at full_access zero_words
+  make p owner (copy s access) = let q = new_page p owner (in_map s) access (words_at p (in_map s)) in option_map_or (drop_unnamed q) (page_at p (in_map s)) q
 
-abbrev pub with_copy : (PageName → Bool) → PlainPages → Option Link → Option Link → Bool → Tty → Referred
-with_copy filed p None end executes owner = granted p
-with_copy filed p (Some l) None executes owner = granted p
-with_copy filed p (Some l) (Some end) executes owner = copied filed p l end.entry executes owner
+  -- makings in order, each on the pages that those before leave, and each asking for room
+  unfoldable pub make_all : PlainPages file_cmp → Tty → List (Making K) → Referred file_cmp
+  make_all p owner [] = granted p
+  make_all p owner (m ∷ ms) = let q = make p owner m in if HasRoom q owner then make_all q owner ms else full
 
-abbrev pub copy_along : (PageName → Bool) → PlainPages → Slot → Option (List Link) → Tty → Referred
-copy_along filed p s None owner = granted p
-copy_along filed p s (Some links) owner = with_copy filed p (first_copied links) (chain_end p.maps s) (list_all (permits (λ a. a.x)) links) owner
+  -- a reference of a kind to a spot, for an owner of what it makes
+  unfoldable pub reference : PlainPages file_cmp → Spot K → Kind → Tty → Referred file_cmp
+  reference p at kind owner = option_map_or (make_all p owner) (makings p at kind) (denied kind)
 
--- what a reference of a kind makes: the zero page, and for a write then the private copy
-abbrev pub makings : (PageName → Bool) → PlainPages → Slot → Kind → Tty → Referred
-makings filed p s Read owner = with_zero p (chain_end p.maps s) owner
-makings filed p s Execute owner = with_zero p (chain_end p.maps s) owner
-makings filed p s Write owner = then_refer (with_zero p (chain_end p.maps s) owner) (λ q. copy_along filed q s (chain q.maps s) owner)
+  -- the first page that a reference makes
+  abbrev pub next_making : PlainPages file_cmp → Spot K → Kind → Option (Making K)
+  next_making p at kind = option_and_then (λ ms. slice_get ms 0) (makings p at kind)
 
--- a reference to a slot for an owner; a denied or full one makes nothing
-abbrev pub reference : (PageName → Bool) → PlainPages → Slot → Kind → Tty → Referred
-reference filed p s kind owner = if may p.maps s kind then makings filed p s kind owner else denied kind
+  -- the pages with this one page made
+  unfoldable pub settled : PlainPages file_cmp → Spot K → Kind → Tty → PlainPages file_cmp
+  settled p at kind owner = option_map_or (make p owner) (next_making p at kind) p
 
--- the page at the end of a chain
-abbrev pub page_in : MapEntry → Option PageName
-page_in Empty = None
-page_in (Names n a) = Some n
-page_in (Follows serial page a) = None
+  -- the word at an offset of a spot's page; 0 where no page is named
+  abbrev pub word_at : PlainPages file_cmp → Spot K → ℕ → ℕ
+  word_at p at offset = slice_index (words_at p at) offset
 
-abbrev pub page_of : Option Link → Option PageName
-page_of None = None
-page_of (Some l) = page_in l.entry
-
-abbrev pub page_at : PlainPages → Slot → Option PageName
-page_at p s = page_of (chain_end p.maps s)
-
-abbrev pub word_in : PlainPages → Option PageName → ℕ → ℕ
-word_in p None offset = 0
-word_in p (Some n) offset = slice_index (words_of p n) offset
-
--- the word at an offset of a slot's page; 0 where no page is named
-abbrev pub word_at : PlainPages → Slot → ℕ → ℕ
-word_at p s offset = word_in p (page_at p s) offset
-
-abbrev pub stored_in : PlainPages → Option PageName → ℕ → ℕ → PlainPages
-stored_in p None offset word = p
-stored_in p (Some n) offset word = record p { objects = map.insert p.objects n (slice_set (words_of p n) offset word) }
-
--- the pages with a word at an offset of a slot's page
-abbrev pub stored : PlainPages → Slot → ℕ → ℕ → PlainPages
-stored p s offset word = stored_in p (page_at p s) offset word
+  -- the pages with a word at an offset of a spot's page
+  abbrev pub stored : PlainPages file_cmp → Spot K → ℕ → ℕ → PlainPages file_cmp
+  stored p at offset word = option_map_or (λ n. record p { objects = map.insert p.objects n (slice_set (words_of p n) offset word) }) (page_at p at) p

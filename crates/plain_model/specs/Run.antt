@@ -1,11 +1,11 @@
 -- Entries, the plain run over them, and which entries a script's events may have.
-use Rattle.std.specs.Prelude.{◌≡◌, ◌⊎◌, ℕ, ◌≤◌, List, [], ◌∷◌, ◌++◌, length, Bool, true, false, Option, None, Some}
+use Rattle.std.specs.Prelude.{◌≡◌, ◌⊎◌, ℕ, ◌≤◌, List, [], ◌∷◌, ◌++◌, length, Bool, true, if◌then◌else◌}
+use Rattle.std.specs.Option.{option_map_or}
 use Rattle.std.specs.FinMap as map
 use Rattle.plain_model.specs.declared.names.Tty.{Tty}
 use Rattle.plain_model.specs.declared.names.ForkName.{ForkName}
-use Rattle.plain_model.specs.declared.fork.Fork.{Fork}
 use Rattle.plain_model.specs.declared.event.Event.{Event}
-use Rattle.plain_model.specs.declared.event.Event.TheVariants.{Login, TypeIn, File, Words, Poke, Start, Run, Tick, Evict, Drum, Auto, Examine, Forks, Page, Trace}
+use Rattle.plain_model.specs.declared.event.Event.TheVariants.{TypeIn, Run, Evict, Drum, Auto}
 use Rattle.plain_model.specs.declared.event.Item.{Item}
 use Rattle.plain_model.specs.declared.event.Item.TheVariants.{UnitLine}
 use Rattle.plain_model.specs.declared.event.Step.{Step}
@@ -16,18 +16,13 @@ use Rattle.plain_model.specs.Unit.{Effect, unit}
 use Rattle.plain_model.specs.Events.{outer}
 
 -- what is shown before a unit
-abbrev pub unit_line : Bool → ForkName → Option Fork → List Item
-unit_line false f k = []
-unit_line true f None = []
-unit_line true f (Some k) = UnitLine f k.body.regs.pc ∷ []
-
-abbrev pub shown_unit : List Item → Effect → Effect
-shown_unit items e = record { state = e.state; items = items ++ e.items }
+abbrev pub unit_line : PlainState → ForkName → List Item
+unit_line s f = if s.trace then option_map_or (λ k. UnitLine f k.body.regs.pc ∷ []) (map.get s.forks f) [] else []
 
 -- one entry of the plain machine
-abbrev pub apply : PlainState → Step → Effect
+unfoldable pub apply : PlainState → Step → Effect
 apply s (Outer e) = outer s e
-apply s (AUnit f) = shown_unit (unit_line s.trace f (map.get s.forks f)) (unit s f)
+apply s (AUnit f) = let e = unit s f in record e { items = unit_line s f ++ e.items }
 apply s Idle = record { state = s; items = [] }
 
 -- the fold of the entries: the state that they leave, and all that they show
@@ -50,21 +45,11 @@ pub data Shape : Type 0 where
   single : Shape
 
 abbrev pub shape_of : Event → Shape
-shape_of (Login t user) = single
-shape_of (TypeIn t text) = single
-shape_of (File name) = single
-shape_of (Words name page offset row) = single
-shape_of (Poke t address word) = single
-shape_of (Start t address) = single
 shape_of (Run n) = turns n
-shape_of Tick = single
 shape_of (Evict n) = silent
 shape_of (Drum n) = silent
 shape_of (Auto on) = silent
-shape_of (Examine t serial address) = single
-shape_of (Forks t) = single
-shape_of (Page name page) = single
-shape_of (Trace on) = single
+shape_of e = single
 
 -- a turn of a RUN: a unit, or an idle entry
 abbrev pub IsTurn : Step → Type 0
@@ -115,21 +100,8 @@ Follows (e ∷ es) steps = (now : List Step) × (later : List Step) × (steps �
 
 -- the AUTO mark behind an event
 abbrev pub auto_after : Bool → Event → Bool
-auto_after auto (Login t user) = auto
-auto_after auto (TypeIn t text) = auto
-auto_after auto (File name) = auto
-auto_after auto (Words name page offset row) = auto
-auto_after auto (Poke t address word) = auto
-auto_after auto (Start t address) = auto
-auto_after auto (Run n) = auto
-auto_after auto Tick = auto
-auto_after auto (Evict n) = auto
-auto_after auto (Drum n) = auto
 auto_after auto (Auto on) = on
-auto_after auto (Examine t serial address) = auto
-auto_after auto (Forks t) = auto
-auto_after auto (Page name page) = auto
-auto_after auto (Trace on) = auto
+auto_after auto e = auto
 
 -- the AUTO mark behind events
 abbrev pub auto_behind : Bool → List Event → Bool

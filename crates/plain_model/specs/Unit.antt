@@ -1,24 +1,27 @@
 -- One unit of a fork: an instruction, or a trap (PDP-10 handbook, "Instruction format").
-use Rattle.std.specs.Prelude.{ℕ, ◌+◌, ◌/◌, ◌%◌, ◌^◌, List, [], ◌∷◌, ◌++◌, map, codes, decimal, Bool, ◌&&◌, nat_lt, Option, None, Some, if◌then◌else◌, ◌==◌, slice_index, slice_set}
-use Rattle.std.specs.List.{list_any}
+use Rattle.std.specs.Prelude.{ℕ, ◌+◌, ◌/◌, ◌%◌, ◌^◌, List, [], ◌∷◌, ◌++◌, map, codes, decimal, is_some, ◌&&◌, nat_lt, if◌then◌else◌, ◌==◌, slice_index, slice_set}
+use Rattle.std.specs.Option.{option_map_or}
+use Rattle.std.specs.declared.cmp.Ordering.{Ordering}
 use Rattle.std.specs.FinMap as map_of
 use Rattle.plain_model.specs.declared.names.Tty.{Tty}
 use Rattle.plain_model.specs.declared.names.ForkName.{ForkName}
-use Rattle.plain_model.specs.declared.names.PageName.{PageName}
 use Rattle.plain_model.specs.declared.names.Slot.{Slot}
+use Rattle.outside.specs.declared.TheConstants.{PAGE_WORDS}
+use Rattle.plain_model.specs.declared.names.TheConstants.{ACCUMULATORS}
 use Rattle.plain_model.specs.declared.names.Kind.{Kind}
 use Rattle.plain_model.specs.declared.names.Kind.TheVariants.{Read, Write, Execute}
 use Rattle.plain_model.specs.declared.fork.TerminalMode.TheVariants.{Command}
 use Rattle.plain_model.specs.declared.fork.ForkStatus.{ForkStatus}
-use Rattle.plain_model.specs.declared.fork.ForkStatus.TheVariants.{Run, Wait, Halted, Forced}
+use Rattle.plain_model.specs.declared.fork.ForkStatus.TheVariants.{Halted, Forced}
 use Rattle.plain_model.specs.declared.fork.Regs.{Regs}
 use Rattle.plain_model.specs.declared.fork.Fork.{Fork}
 use Rattle.plain_model.specs.declared.event.Item.{Item}
 use Rattle.plain_model.specs.declared.event.Item.TheVariants.{Char}
-use Rattle.plain_model.specs.State.{PlainState, PlainPages, PlainJob, PlainFile}
-use Rattle.plain_model.specs.References.{Referred, granted, denied, full, reference, word_at}
+use Rattle.plain_model.specs.State.{PlainState, PlainPages, NamedPages}
+use Rattle.plain_model.specs.References.{Referred, granted, denied, full, in_map, reference, word_at}
 use Rattle.plain_model.specs.Forks.{with_fork, with_regs, with_status, counted}
-use Rattle.plain_model.specs.Interrupts.{posted}
+use Rattle.plain_model.specs.Interrupts.{posted, illegal_instruction, denied_read, denied_write, denied_execute, drum_full}
+use Rattle.plain_model.specs.Orders.{name_cmp}
 
 -- what a step leaves, and what it shows
 pub record Effect : Type 0 where
@@ -56,55 +59,60 @@ movei regs w = goes (advanced (record regs { ac = slice_set regs.ac (ac_field w)
 abbrev pub jrst : Regs → ℕ → Deed
 jrst regs w = goes (record regs { pc = y_field w })
 
+-- opcodes (PDP-10 handbook); JSYS is that of the monitor calls
+abbrev pub JSYS : ℕ
+JSYS = 0o104
+
+abbrev pub MOVEI : ℕ
+MOVEI = 0o201
+
+abbrev pub JRST : ℕ
+JRST = 0o254
+
+-- the numbers of monitor calls (JSYS Manual)
+abbrev pub PBOUT : ℕ
+PBOUT = 0o74
+
+abbrev pub HALTF : ℕ
+HALTF = 0o170
+
 -- the rows that are built: MOVEI, JRST with no function, and the monitor calls, with an address that
 -- is neither indexed nor indirect; every other word traps as an illegal instruction
 abbrev pub deed_of : Regs → ℕ → Deed
 deed_of regs w =
     if index_field w == 0 then
-    (if opcode w == 129 then movei regs w
-    else (if (opcode w == 172) && (ac_field w == 0) then jrst regs w
-    else (if opcode w == 68 then calls (y_field w) else traps 15)))
-    else traps 15
-
--- whether some file names a page
-abbrev pub names_page : PageName → PageName → Bool
-names_page n p = (n.tty.0 == p.tty.0) && (n.serial == p.serial)
-
-abbrev pub has_page : PageName → PlainFile → Bool
-has_page n f = list_any (names_page n) (map_of.values f.pages)
-
-abbrev pub is_filed : PlainState → PageName → Bool
-is_filed s n = list_any (has_page n) (map_of.values s.files)
+    (if opcode w == MOVEI then movei regs w
+    else (if (opcode w == JRST) && (ac_field w == 0) then jrst regs w
+    else (if opcode w == JSYS then calls (y_field w) else traps illegal_instruction)))
+    else traps illegal_instruction
 
 -- the slot of a fork in which an address stands
 abbrev pub slot_at : ForkName → ℕ → Slot
-slot_at f address = record { fork = f; page = address / 512 }
+slot_at f address = record { fork = f; page = address / PAGE_WORDS }
 
 -- a fetch: the word and the pages that the reference leaves, or the channel of its trap
-pub data Fetched : Type 0 where
-  word : ℕ → PlainPages → Fetched
-  stops : ℕ → Fetched
+pub data Fetched {K : Type 0} (file_cmp : K → K → Ordering) : Type 0 where
+  word : ℕ → PlainPages file_cmp → Fetched file_cmp
+  stops : ℕ → Fetched file_cmp
 
 -- the channel of a denied reference
 abbrev pub denied_channel : Kind → ℕ
-denied_channel Read = 16
-denied_channel Write = 17
-denied_channel Execute = 18
+denied_channel Read = denied_read
+denied_channel Write = denied_write
+denied_channel Execute = denied_execute
 
--- no making changes a word, so the word is that of the pages before; an empty entry gives 0
-abbrev pub fetched_by : PlainPages → Slot → ℕ → Referred → Fetched
-fetched_by p slot offset (granted q) = word (word_at p slot offset) q
-fetched_by p slot offset (denied kind) = stops (denied_channel kind)
-fetched_by p slot offset full = stops 20
+module _ {K : Type 0} {file_cmp : K → K → Ordering} where
+  -- no making changes a word, so the word is that of the pages before
+  abbrev pub fetched_by : PlainPages file_cmp → Slot → ℕ → Referred file_cmp → Fetched file_cmp
+  fetched_by p slot offset (granted q) = word (word_at p (in_map slot) offset) q
+  fetched_by p slot offset (denied kind) = stops (denied_channel kind)
+  fetched_by p slot offset full = stops drum_full
 
--- the word at the program counter; addresses below 16 are the accumulators
-abbrev pub fetched_from : (PageName → Bool) → PlainPages → Fork → Fetched
-fetched_from filed p f =
-    if nat_lt f.body.regs.pc 16 then word (slice_index f.body.regs.ac f.body.regs.pc) p
-    else (let slot = slot_at f.name f.body.regs.pc in fetched_by p slot (f.body.regs.pc % 512) (reference filed p slot Execute f.name.tty))
-
-abbrev pub fetched : PlainState → Fork → Fetched
-fetched s f = fetched_from (is_filed s) s.pages f
+  -- the word at the program counter; low addresses are the accumulators
+  abbrev pub fetched : PlainPages file_cmp → Fork → Fetched file_cmp
+  fetched p f =
+      if nat_lt f.body.regs.pc ACCUMULATORS then word (slice_index f.body.regs.ac f.body.regs.pc) p
+      else (let slot = slot_at f.name f.body.regs.pc in fetched_by p slot (f.body.regs.pc % PAGE_WORDS) (reference p (in_map slot) Execute f.name.tty))
 
 -- characters that a terminal prints
 abbrev pub printed : Tty → List ℕ → List Item
@@ -116,31 +124,24 @@ shown_code c = if c == 31 then 13 ∷ 10 ∷ [] else c ∷ []
 
 -- what a top fork that stops prints
 abbrev pub stop_text : ForkStatus → List ℕ
-stop_text Run = []
-stop_text (Wait on) = []
 stop_text Halted = 13 ∷ 10 ∷ 64 ∷ []
 stop_text (Forced channel) = 13 ∷ 10 ∷ (codes "?FORCED " ++ (decimal channel ++ (13 ∷ 10 ∷ 64 ∷ [])))
+stop_text status = []
 
-abbrev pub in_command_mode : PlainState → ℕ → Option PlainJob → PlainState
-in_command_mode s t None = s
-in_command_mode s t (Some j) = record s { jobs = map_of.insert s.jobs t (record j { mode = Command }) }
-
-abbrev pub stops_job : PlainState → Fork → Option ℕ → Effect
-stops_job s f None = record {
-  state = in_command_mode s f.name.tty.0 (map_of.get s.jobs f.name.tty.0);
-  items = printed f.name.tty (stop_text f.body.status);
-}
-stops_job s f (Some superior) = record { state = s; items = [] }
+-- a terminal in command mode, where it has a job
+abbrev pub in_command_mode : PlainState → Tty → PlainState
+in_command_mode s t = option_map_or (λ j. record s { jobs = map_of.insert s.jobs t.0 (record j { mode = Command }) }) (map_of.get s.jobs t.0) s
 
 -- a fork has stopped with a unit: where it is a top fork it prints, and its terminal is in command mode
 abbrev pub stopped : PlainState → Fork → Effect
-stopped s f = stops_job (with_fork s (counted f)) f f.superior
+stopped s f = let t = with_fork s (counted f) in
+    if is_some f.superior then record { state = t; items = [] }
+    else record { state = in_command_mode t f.name.tty; items = printed f.name.tty (stop_text f.body.status) }
 
 abbrev pub settled : PlainState → Fork → ForkStatus → Effect
-settled s f Run = record { state = with_fork s (counted f); items = [] }
-settled s f (Wait on) = record { state = with_fork s (counted f); items = [] }
 settled s f Halted = stopped s f
 settled s f (Forced channel) = stopped s f
+settled s f status = record { state = with_fork s (counted f); items = [] }
 
 -- a trap changes nothing, leaves the program counter on the instruction, and posts its channel
 abbrev pub trapped : PlainState → Fork → ℕ → Effect
@@ -159,22 +160,18 @@ haltf s f = stopped s (with_status (with_regs f (advanced f.body.regs)) Halted)
 
 -- a turn of a monitor call; a number that is no call traps as an illegal instruction
 abbrev pub called : PlainState → Fork → ℕ → Effect
-called s f number = if number == 60 then pbout s f else (if number == 120 then haltf s f else trapped s f 15)
+called s f number = if number == PBOUT then pbout s f else (if number == HALTF then haltf s f else trapped s f illegal_instruction)
 
 -- a monitor call is done on the state before its fetch
-abbrev pub done_by : PlainState → Fork → PlainPages → Deed → Effect
+abbrev pub done_by : PlainState → Fork → NamedPages → Deed → Effect
 done_by s f pages (goes regs) = record { state = with_fork (record s { pages = pages }) (counted (with_regs f regs)); items = [] }
 done_by s f pages (calls number) = called s f number
 done_by s f pages (traps channel) = trapped s f channel
 
-abbrev pub executed : PlainState → Fork → Fetched → Effect
+abbrev pub executed : PlainState → Fork → Fetched name_cmp → Effect
 executed s f (word w pages) = done_by s f pages (deed_of f.body.regs w)
 executed s f (stops channel) = trapped s f channel
 
-abbrev pub unit_of : PlainState → Option Fork → Effect
-unit_of s None = record { state = s; items = [] }
-unit_of s (Some f) = executed s f (fetched s f)
-
 -- one unit of a fork
-abbrev pub unit : PlainState → ForkName → Effect
-unit s f = unit_of s (map_of.get s.forks f)
+unfoldable pub unit : PlainState → ForkName → Effect
+unit s f = option_map_or (λ k. executed s k (fetched s.pages k)) (map_of.get s.forks f) (record { state = s; items = [] })

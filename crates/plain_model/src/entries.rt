@@ -1,13 +1,23 @@
 // What the definitions say of the entries that events may have.
-ghost use Rattle.std.specs.Prelude.{ℕ, List, All, true};
+ghost use Rattle.std.specs.Prelude.{◌≡◌, ℕ, ◌+◌, List, All, true};
+ghost use Rattle.std.specs.FinMap as map;
 ghost use Rattle.plain_model.specs.declared.event.Event.{Event as AEvent};
 ghost use Rattle.plain_model.specs.declared.event.Step.{Step as AStep};
-ghost use Rattle.plain_model.specs.State.{opening};
-ghost use Rattle.plain_model.specs.Run.{IsLegal};
+ghost use Rattle.plain_model.specs.State.{opening, PlainState};
+ghost use Rattle.plain_model.specs.Room.{live};
+ghost use Rattle.plain_model.specs.Whole.{IsWhole};
+ghost use Rattle.plain_model.specs.Run.{IsLegal, plain_run};
 ghost use Rattle.plain_model.specs.Limits.{FitsEvent, FitsStep};
 
 /// Events within their limits have entries within theirs, in whatever legal order the forks' units come: each
 /// is an event that is one entry, a unit of a fork whose name is a terminal and a serial, 1 to 262,143, or idle.
 pub fn entries_fit()
     ensures { (limit : ℕ) (events : List AEvent) (entries : List AStep) → All FitsEvent events → IsLegal true (opening limit) events entries → All FitsStep entries }
+{}
+
+/// Wherever a run comes, the objects are exactly the pages that are named, a fork lives exactly where it has
+/// a map, and so on; there the live pages and forks are as many as there are objects and maps.
+pub fn runs_are_whole()
+    ensures whole { (limit : ℕ) (events : List AEvent) (entries : List AStep) → All FitsEvent events → IsLegal true (opening limit) events entries → IsWhole (plain_run limit entries).state }
+    ensures counted { (s : PlainState) → IsWhole s → live s.pages ≡ map.len s.pages.objects + map.len s.pages.maps }
 {}

@@ -15,7 +15,7 @@ mod taker;
 mod text;
 
 pub use bounds::bounds_hold;
-pub use entries::entries_fit;
+pub use entries::{entries_fit, runs_are_whole};
 pub use event::{Event, ForkLine, Item, Refusal, Step, WordRow};
 pub use example::{empty_script, first_script};
 pub use fork::{Answer, Body, Chars, Fork, ForkStatus, Jfn, Mode, Psi, Regs, TerminalMode, WaitOn};

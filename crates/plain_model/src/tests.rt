@@ -24,5 +24,6 @@ fn the_laws_are_called(_rt: HostRuntime) -> Result<(), Fail> {
     first_script();
     bounds_hold();
     entries_fit();
+    runs_are_whole();
     Ok(())
 }

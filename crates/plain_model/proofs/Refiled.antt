@@ -1,0 +1,166 @@
+-- References to the maps of forks do not depend on what files are known by.
+use Rattle.std.proofs.Common.{◌≡◌, ℕ, ◌+◌, Bool, true, false, cond, List, [], ◌∷◌, ◌++◌, Option, None, Some, refl, sym, ◌∙◌, ap, Ordering}
+use Rattle.std.specs.Prelude.{◌==◌, find, is_some, nat_lt, nat_le, if◌then◌else◌}
+use Rattle.std.specs.List.{sum_by}
+use Rattle.std.specs.Option.{option_map_or, option_and_then}
+use Rattle.std.specs.FinMap as map
+use Rattle.plain_model.specs.declared.names.Tty.{Tty}
+use Rattle.plain_model.specs.declared.names.PageName.{PageName}
+use Rattle.plain_model.specs.declared.names.Slot.{Slot}
+use Rattle.plain_model.specs.declared.names.Kind.{Kind}
+use Rattle.plain_model.specs.declared.names.Kind.TheVariants.{Read, Write, Execute}
+use Rattle.plain_model.specs.State.{PlainPages, refiled}
+use Rattle.plain_model.specs.Orders.{file_page_cmp}
+use Rattle.plain_model.specs.Maps.{Link, Chain, chain, entry_at, permits}
+use Rattle.plain_model.specs.Room.{names, uses, live, HasRoom}
+use Rattle.plain_model.specs.References.{Spot, in_map, in_file, Making, blank, copy, blanks, copies, along_chain, private_access, makings, make, make_all, new_page, drop_unnamed, words_at, page_at, Referred, granted, denied, full, reference}
+use Rattle.plain_model.proofs.Counts.{has_count, different_same}
+use Rattle.plain_model.proofs.Whole.{map_uses, tally, uses_are}
+
+-- the same making, whatever files are known by; none in a file is
+abbrev pub Alike : {K L : Type 0} → Making K → Making L → Type 0
+Alike (blank (in_map s)) (blank (in_map t)) = s ≡ t
+Alike (copy s a) (copy t b) = (s ≡ t) × (a ≡ b)
+Alike m n = ⊥
+
+abbrev pub AllAlike : {K L : Type 0} → List (Making K) → List (Making L) → Type 0
+AllAlike [] [] = Unit {0}
+AllAlike (m ∷ ms) (n ∷ ns) = Alike m n × AllAlike ms ns
+AllAlike ms ns = ⊥
+
+abbrev copy_at : {K : Type 0} → Chain → Option Link → List (Making K)
+copy_at c l = option_map_or (λ k. copy k.slot (private_access c) ∷ []) l []
+
+abbrev blank_at : {K : Type 0} → Chain → Option PageName → List (Making K)
+blank_at c n = if is_some n then [] else blank (in_map c.end) ∷ []
+
+module _ {K L : Type 0} {file_cmp : K → K → Ordering} (other_cmp : L → L → Ordering) where
+  -- maps of the pages of files that name the same pages, each as often
+  abbrev pub NameAlike : PlainPages file_cmp → map.FinMap (file_page_cmp other_cmp) PageName → Type 0
+  NameAlike p files = (n : PageName) → sum_by (tally n) (map.values files) ≡ sum_by (tally n) (map.values p.files)
+
+  -- a result with other keys
+  abbrev pub refiled_result : Referred file_cmp → map.FinMap (file_page_cmp other_cmp) PageName → Referred other_cmp
+  refiled_result (granted p) files = granted (refiled other_cmp p files)
+  refiled_result (denied kind) files = denied kind
+  refiled_result full files = full
+
+  pub uses_refiled : (p : PlainPages file_cmp) (files : map.FinMap (file_page_cmp other_cmp) PageName) → NameAlike p files → (n : PageName) → uses (refiled other_cmp p files) n ≡ uses p n
+  uses_refiled p files alike n = uses_are (refiled other_cmp p files) n ∙ ap (λ k. sum_by (map_uses n) (map.values p.maps) + k) (alike n) ∙ sym (uses_are p n)
+
+  pub live_refiled : (p : PlainPages file_cmp) (files : map.FinMap (file_page_cmp other_cmp) PageName) → NameAlike p files → live (refiled other_cmp p files) ≡ live p
+  unfolding live uses
+  live_refiled p files alike = ap (λ k. k + map.len p.maps) (different_same (names (refiled other_cmp p files)) (names p) (λ n. has_count n (names (refiled other_cmp p files)) ∙ ap (nat_lt 0) (uses_refiled p files alike n) ∙ sym (has_count n (names p))))
+
+  room_refiled : (p : PlainPages file_cmp) (files : map.FinMap (file_page_cmp other_cmp) PageName) → NameAlike p files → (owner : Tty) → HasRoom (refiled other_cmp p files) owner ≡ HasRoom p owner
+  unfolding HasRoom
+  room_refiled p files alike owner = ap (λ k. nat_le k p.limit) (live_refiled p files alike)
+
+  module _ (files : map.FinMap (file_page_cmp other_cmp) PageName) (owner : Tty) where
+    page_refiled : (p : PlainPages file_cmp) (s : Slot) → page_at (refiled other_cmp p files) (in_map s) ≡ page_at p (in_map s)
+    unfolding page_at
+    page_refiled p s = refl
+
+    moved : (b : Bool) (p q : PlainPages file_cmp) → cond b (refiled other_cmp p files) (refiled other_cmp q files) ≡ refiled other_cmp (cond b p q) files
+    moved true p q = refl
+    moved false p q = refl
+
+    copy_refiled : (q : PlainPages file_cmp) → NameAlike q files → (n : Option PageName) → option_map_or (drop_unnamed (refiled other_cmp q files)) n (refiled other_cmp q files) ≡ refiled other_cmp (option_map_or (drop_unnamed q) n q) files
+    copy_refiled q alike None = refl
+    copy_refiled q alike (Some n) =
+        let gone : PlainPages file_cmp = record q { objects = map.remove q.objects n } in
+        ap (λ k. cond (k == 0) (refiled other_cmp gone files) (refiled other_cmp q files)) (uses_refiled q files alike n) ∙ moved (uses q n == 0) gone q
+
+    make_refiled : (p : PlainPages file_cmp) (m : Making K) (n : Making L) → NameAlike p files → Alike m n → make (refiled other_cmp p files) owner n ≡ refiled other_cmp (make p owner m) files
+    unfolding make
+    make_refiled p (blank (in_map s)) (blank (in_map t)) alike h = ap (λ u. make (refiled other_cmp p files) owner (blank (in_map u))) (sym h)
+    make_refiled p (blank (in_file f)) n alike h = absurd h
+    make_refiled p (blank (in_map s)) (blank (in_file g)) alike h = absurd h
+    make_refiled p (blank (in_map s)) (copy t b) alike h = absurd h
+    make_refiled p (copy s a) (blank t) alike h = absurd h
+    make_refiled p (copy s a) (copy t b) alike h =
+        ap (λ u. make (refiled other_cmp p files) owner (copy u b)) (sym h.0) ∙ ap (λ c. make (refiled other_cmp p files) owner (copy s c)) (sym h.1) ∙ same
+      where
+        q : PlainPages file_cmp
+        q = new_page p owner (in_map s) a (words_at p (in_map s))
+
+        from : Option PageName → List ℕ → PlainPages other_cmp
+        from n words = let r = new_page (refiled other_cmp p files) owner (in_map s) a words in option_map_or (drop_unnamed r) n r
+
+        words_same : words_at (refiled other_cmp p files) (in_map s) ≡ words_at p (in_map s)
+        words_same = ap (λ (n : Option PageName). option_map_or (λ m. Rattle.std.specs.Option.unwrap_or (map.get p.objects m) Rattle.plain_model.specs.References.zero_words) n Rattle.plain_model.specs.References.zero_words) (page_refiled p s)
+
+        same : from (page_at (refiled other_cmp p files) (in_map s)) (words_at (refiled other_cmp p files) (in_map s)) ≡ refiled other_cmp (option_map_or (drop_unnamed q) (page_at p (in_map s)) q) files
+        same = ap (λ n. from n (words_at (refiled other_cmp p files) (in_map s))) (page_refiled p s) ∙ ap (from (page_at p (in_map s))) words_same ∙ copy_refiled q alike (page_at p (in_map s))
+
+    files_stay : (p : PlainPages file_cmp) (m : Making K) (n : Making L) → Alike m n → (make p owner m).files ≡ p.files
+    unfolding make
+    files_stay p (blank (in_map s)) n h = refl
+    files_stay p (blank (in_file f)) n h = absurd (no_file n h)
+      where
+        no_file : (n : Making L) → Alike (blank (in_file f)) n → ⊥
+        no_file (blank at) k = k
+        no_file (copy s a) k = k
+    files_stay p (copy s a) n h = by (page_at p (in_map s))
+      where
+        q : PlainPages file_cmp
+        q = new_page p owner (in_map s) a (words_at p (in_map s))
+
+        dropped : (n : PageName) (b : Bool) → (cond b (record q { objects = map.remove q.objects n }) q).files ≡ p.files
+        dropped n true = refl
+        dropped n false = refl
+
+        by : (n : Option PageName) → (option_map_or (drop_unnamed q) n q).files ≡ p.files
+        by None = refl
+        by (Some n) = dropped n (uses q n == 0)
+
+    chosen : (b : Bool) (r : Referred file_cmp) (t : Referred other_cmp) → t ≡ refiled_result r files → cond b t full ≡ refiled_result (cond b r full) files
+    chosen true r t h = h
+    chosen false r t h = refl
+
+    makings_refiled : (ms : List (Making K)) (ns : List (Making L)) (p : PlainPages file_cmp) → NameAlike p files → AllAlike ms ns → make_all (refiled other_cmp p files) owner ns ≡ refiled_result (make_all p owner ms) files
+    unfolding make_all
+    makings_refiled [] [] p alike h = refl
+    makings_refiled (m ∷ ms) [] p alike h = absurd h
+    makings_refiled [] (n ∷ ns) p alike h = absurd h
+    makings_refiled (m ∷ ms) (n ∷ ns) p alike h =
+        let q = make p owner m in
+        let still : NameAlike q files = λ x. alike x ∙ ap (λ f. sum_by (tally x) (map.values f)) (sym (files_stay p m n h.0)) in
+        ap (λ r. cond (HasRoom r owner) (make_all r owner ns) full) (make_refiled p m n alike h.0)
+        ∙ ap (λ b. cond b (make_all (refiled other_cmp q files) owner ns) full) (room_refiled q files still owner)
+        ∙ chosen (HasRoom q owner) (make_all q owner ms) (make_all (refiled other_cmp q files) owner ns) (makings_refiled ms ns q still h.1)
+
+    -- a reference to a map's page is the same, whatever files are known by
+    pub reference_refiled : (p : PlainPages file_cmp) (s : Slot) (kind : Kind) → NameAlike p files → reference (refiled other_cmp p files) (in_map s) kind owner ≡ refiled_result (reference p (in_map s) kind owner) files
+    unfolding reference makings
+    reference_refiled p s kind alike = by (chain (entry_at p.maps) s)
+      where
+        from : Option (List (Making L)) → Referred other_cmp
+        from ns = option_map_or (make_all (refiled other_cmp p files) owner) ns (denied kind)
+
+        to : Option (List (Making K)) → Referred other_cmp
+        to ms = refiled_result (option_map_or (make_all p owner) ms (denied kind)) files
+
+        made : (ms : List (Making K)) (ns : List (Making L)) → AllAlike ms ns → from (Some ns) ≡ to (Some ms)
+        made ms ns h = makings_refiled ms ns p alike h
+
+        copied : (c : Chain) (kind : Kind) → AllAlike (copies {K = K} kind c) (copies {K = L} kind c)
+        copied c Read = tt
+        copied c Execute = tt
+        copied c Write = found (find (λ l. l.access.c) c.links)
+          where
+            found : (l : Option Link) → AllAlike (copy_at {K = K} c l) (copy_at {K = L} c l)
+            found None = tt
+            found (Some l) = ((refl, refl), tt)
+
+        listed : (c : Chain) (n : Option PageName) → AllAlike (blank_at {K = K} c n ++ copies kind c) (blank_at {K = L} c n ++ copies kind c)
+        listed c None = (refl, copied c kind)
+        listed c (Some n) = copied c kind
+
+        permitted : (c : Chain) (b : Bool) → from (if b then Some (blanks c ++ copies kind c) else None) ≡ to (if b then Some (blanks c ++ copies kind c) else None)
+        permitted c true = made (blanks c ++ copies kind c) (blanks c ++ copies kind c) (listed c c.page)
+        permitted c false = refl
+
+        by : (oc : Option Chain) → from (option_and_then (along_chain kind) oc) ≡ to (option_and_then (along_chain kind) oc)
+        by None = refl
+        by (Some c) = permitted c (permits kind c)

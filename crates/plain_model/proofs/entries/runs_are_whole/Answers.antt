@@ -1,0 +1,11 @@
+use Rattle.plain_model.specs.State.{opening}
+use Rattle.plain_model.proofs.Named.{opened_fit}
+use Rattle.plain_model.proofs.Whole.{live_whole}
+use Rattle.plain_model.proofs.WholeRuns.{whole_opening, steps_whole}
+use Rattle.plain_model.proofs.entries.runs_are_whole.Goals as goal
+
+pub returns-clause-whole : goal.returns-clause-whole
+returns-clause-whole c = λ limit events entries fits legal. steps_whole (opening limit) entries (whole_opening limit) (opened_fit limit events entries fits legal)
+
+pub returns-clause-counted : goal.returns-clause-counted
+returns-clause-counted c = λ s w. live_whole s.pages w.pages
