@@ -6,12 +6,14 @@ use crate::failing_calls::FailingCalls;
 use crate::{Failed, Memory, Sink};
 use std::alloc::Global;
 
-/// Room for bytes in memory, and the numbers of the calls of `write` that fail. It tells what it has taken.
+/// Room for bytes in memory, and the numbers of the calls of `write` and of `flush` that fail. It tells what it
+/// has taken, and keeps nothing back.
 #[derive(Drop)]
 pub struct MemSink {
     bytes: Vec<u8>,
     room: usize,
     calls: FailingCalls,
+    flushes: FailingCalls,
     faults: u64,
     ghost within: { vec_len bytes ≤ room },
     ghost reserved: { room ≤ vec_capacity bytes },
@@ -20,7 +22,7 @@ pub struct MemSink {
 impl MemSink {
     /// A sink with room for so many bytes, all of which it reserves now, so that no call wants memory later.
     /// The calls of `write` with these numbers fail, counted from 1, and besides those whose piece doesn't
-    /// fit. Memory where there is none for the room; no room needs none.
+    /// fit; no call of `flush` fails. Memory where there is none for the room; no room needs none.
     pub fn new(alloc: Global, room: usize, failing: Vec<u64>) -> Result<Self, Memory>
         ensures none { room ≡ 0 → IsOk result }
         ensures taken { IfOk result (λ s. ⟦<MemSink as Sink>⟧.taken s ≡ Some []) }
@@ -28,14 +30,34 @@ impl MemSink {
         ensures room { IfOk result (λ s. s.room ≡ room) }
         ensures failing { IfOk result (λ s. s.calls.failing ≡ failing) }
         ensures made { IfOk result (λ s. s.calls.made ≡ 0) }
+        ensures flushes { IfOk result (λ s. s.flushes.failing.items ≡ []) }
     {
         let bytes = Vec::with_capacity(alloc, room)?;
         Ok(MemSink {
             bytes,
             room,
             calls: FailingCalls::new(failing),
+            flushes: FailingCalls::new(Vec::new(alloc)),
             faults: 0,
         })
+    }
+
+    /// The sink with other numbers of the calls of `flush` that fail, counted from 1 and from now on.
+    pub fn with_failing_flushes(self, failing: Vec<u64>) -> Self
+        ensures failing { result.flushes.failing ≡ failing }
+        ensures made { result.flushes.made ≡ 0 }
+        ensures bytes { result.bytes ≡ self.bytes }
+        ensures room { result.room ≡ self.room }
+        ensures calls { result.calls ≡ self.calls }
+        ensures faults { result.faults ≡ self.faults }
+    {
+        MemSink {
+            bytes: self.bytes,
+            room: self.room,
+            calls: self.calls,
+            flushes: FailingCalls::new(failing),
+            faults: self.faults,
+        }
     }
 
     /// The bytes taken so far.
@@ -61,6 +83,7 @@ impl Sink for MemSink {
         ensures fails { IsErr result ↔ FailsNext self.old.calls.failing.items self.old.calls.made ⊎ (self.old.room < vec_len self.old.bytes + length piece.now) }
         ensures made { CountsUp self.old.calls.made self.new.calls.made }
         ensures failing { self.new.calls.failing ≡ self.old.calls.failing }
+        ensures flushes { self.new.flushes ≡ self.old.flushes }
         ensures room { self.new.room ≡ self.old.room }
         ensures later { self.old.faults ≤ self.new.faults }
         ensures faulted { OnErr result (CountsUp self.old.faults self.new.faults) }
@@ -78,6 +101,25 @@ impl Sink for MemSink {
             return Err(Failed);
         }
         Ok(piece.len())
+    }
+
+    // The calls that fail are those that are listed.
+    fn flush(&mut self) -> Result<(), Failed>
+        ensures fails { IsErr result ↔ FailsNext self.old.flushes.failing.items self.old.flushes.made }
+        ensures made { CountsUp self.old.flushes.made self.new.flushes.made }
+        ensures failing { self.new.flushes.failing ≡ self.old.flushes.failing }
+        ensures later { self.old.faults ≤ self.new.faults }
+        ensures faulted { OnErr result (CountsUp self.old.faults self.new.faults) }
+        ensures unfaulted { OnOk result (self.new.faults ≡ self.old.faults) }
+        ensures bytes { self.new.bytes ≡ self.old.bytes }
+        ensures room { self.new.room ≡ self.old.room }
+        ensures calls { self.new.calls ≡ self.old.calls }
+    {
+        if self.flushes.next() {
+            self.faults = self.faults.saturating_add(1);
+            return Err(Failed);
+        }
+        Ok(())
     }
 }
 
@@ -108,5 +150,11 @@ impl Sink for SureSink {
         ensures { result ≡ Ok (length piece.now) }
     {
         Ok(piece.len())
+    }
+
+    fn flush(&mut self) -> Result<(), Failed>
+        ensures { result ≡ Ok tt }
+    {
+        Ok(())
     }
 }

@@ -5,7 +5,7 @@ ghost use Rattle.outside.specs.Told.{Grows, Stays};
 
 use crate::Failed;
 
-/// Takes bytes in order, in pieces.
+/// Takes bytes in order, in pieces. It may keep them until it is flushed.
 pub trait Sink {
     /// How often a call has failed.
     ghost fault_count: { Self → ℕ };
@@ -26,4 +26,11 @@ pub trait Sink {
         ensures bound { IfOk result (λ n. n ≤ length piece.now) }
         ensures bytes { IfOk result (λ n. Grows (taken self.old) (taken self.new) (take n piece.now)) }
         ensures err { OnErr result (Stays (taken self.old) (taken self.new)) };
+
+    /// Hands on the bytes that it has taken and keeps, where it keeps any. Fails only where the count of
+    /// faults rises. What it has taken stays, whether it goes or fails.
+    fn flush(&mut self) -> Result<(), Failed>
+        ensures later { fault_count self.old ≤ fault_count self.new }
+        ensures cause { OnErr result (Rose (fault_count self.old) (fault_count self.new)) }
+        ensures stays { Stays (taken self.old) (taken self.new) };
 }

@@ -1,6 +1,6 @@
 // A source and a sink over a reader and a writer of the standard library. They tell no content.
 ghost use Rattle.std.specs.Prelude.{◌≡◌, ◌<◌, ◌≤◌, None, length, IfOk, OnOk, OnErr};
-ghost use Rattle.std.specs.Io.KnownBytes.{ReadConsumes, WriteAppends};
+ghost use Rattle.std.specs.Io.KnownBytes.{Keeps, ReadConsumes, WriteAppends};
 ghost use Rattle.outside.specs.Faults.{CountsUp};
 
 use crate::{Failed, Sink, Source};
@@ -90,6 +90,22 @@ impl<W: Write> Sink for StdSink<W> {
         match self.writer.write(piece) {
             Ok(n) if n > 0 || piece.is_empty() => Ok(n),
             _ => {
+                self.faults = self.faults.saturating_add(1);
+                Err(Failed)
+            }
+        }
+    }
+
+    // The writer hands on what it keeps.
+    fn flush(&mut self) -> Result<(), Failed>
+        ensures writer { Keeps (W.contents self.old.writer) (W.contents self.new.writer) }
+        ensures later { self.old.faults ≤ self.new.faults }
+        ensures faulted { OnErr result (CountsUp self.old.faults self.new.faults) }
+        ensures unfaulted { OnOk result (self.new.faults ≡ self.old.faults) }
+    {
+        match self.writer.flush() {
+            Ok(()) => Ok(()),
+            Err(_) => {
                 self.faults = self.faults.saturating_add(1);
                 Err(Failed)
             }

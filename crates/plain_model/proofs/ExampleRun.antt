@@ -32,6 +32,7 @@ use Rattle.plain_model.specs.declared.names.Slot.{Slot}
 use Rattle.plain_model.proofs.Whole.{opening_whole, map_whole, live_whole}
 use Rattle.plain_model.proofs.Makings.{make_whole}
 use Rattle.plain_model.specs.Forks.{top_fork, first_regs}
+use Rattle.plain_model.specs.declared.map.NewMap.TheVariants.{Empty as EmptyMap}
 use Rattle.plain_model.specs.Events.{empty_map, new_job, outer}
 use Rattle.plain_model.specs.Unit.{Effect, unit}
 use Rattle.plain_model.specs.Run.{apply, items_of, AreLegal, IsLegal, IsLegalStep, Follows, FollowsShape, single, shape_of, auto_after}
@@ -150,7 +151,7 @@ first_len {X} {K} {R} o k v =
 
 whole_1 : AreWhole pages_1
 unfolding opening_pages first_serials
-whole_1 = map_whole (opening_pages name_cmp 2048) (opening_whole name_cmp 2048) first_fork (map.get-empty fork_cmp first_fork)
+whole_1 = map_whole (opening_pages name_cmp 2048) (opening_whole name_cmp 2048) first_fork (map.get-empty fork_cmp first_fork) EmptyMap
 
 live_1 : live pages_1 ≡ 1
 live_1 = live_whole pages_1 whole_1 ∙ ap (λ n. n + map.len maps_1) (map.len-empty page_cmp (List ℕ)) ∙ ap (λ n. 0 + n) (first_len fork_cmp_total first_fork empty_map)

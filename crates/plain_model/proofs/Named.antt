@@ -26,10 +26,13 @@ use Rattle.plain_model.specs.declared.event.Step.TheVariants.{Outer, Unit as AUn
 use Rattle.plain_model.specs.State.{PlainState, NamedPages, PlainJob, opening, first_serials}
 use Rattle.plain_model.specs.Orders.{fork_cmp, name_cmp}
 use Rattle.plain_model.specs.Forks.{ForkMap, top_fork, with_fork, change_fork, with_status, with_regs, counted}
-use Rattle.plain_model.specs.Interrupts.{posted, pended, listens, is_panic, illegal_instruction}
+use Rattle.plain_model.specs.Interrupts.{posted, pended, listens, is_panic}
 use Rattle.plain_model.specs.References.{Referred, granted, denied, full, in_map, reference}
 use Rattle.plain_model.specs.Room.{HasRoom}
-use Rattle.plain_model.specs.Unit.{Effect, Deed, goes, calls, traps, Fetched, word as fetches, stops, in_command_mode, printed, stop_text, stopped, settled, trapped, pbout, haltf, called, done_by, executed, unit, deed_of, advanced, fetched, slot_at, PBOUT, HALTF}
+use Rattle.plain_model.specs.declared.call.TheConstants.{PBOUT, HALTF}
+use Rattle.plain_model.specs.declared.channel.TheConstants.{ILLEGAL_INSTRUCTION, DRUM_FULL}
+use Rattle.plain_model.specs.Unit.{Effect, Deed, goes, calls, traps, Fetched, word as fetches, stops, in_command_mode, printed, stop_text, stopped, unit_ended, trapped, pbout, haltf, called, done_by, executed, unit, deed_of, advanced, fetched, slot_at}
+use Rattle.plain_model.specs.declared.map.NewMap.TheVariants.{Empty as EmptyMap}
 use Rattle.plain_model.specs.Events.{refused, next_fork, with_map, with_job, restarted, login, with_accumulator, poked, poke, start, word_seen, examine, show_forks, outer}
 use Rattle.std.specs.Option.{option_map_or}
 use Rattle.plain_model.specs.Limits.{IsForkName, IsTerminal, FitsEvent, FitsStep}
@@ -85,14 +88,14 @@ module _ (s : PlainState) (n : IsNamed s) where
   stopped_named f fits = let t = with_fork s (counted f) in let m : IsNamed t = put (counted f) fits in
       cond_both (is_some f.superior) (record { state = t; items = [] }) (record { state = in_command_mode t f.name.tty; items = printed f.name.tty (stop_text f.body.status) }) Leaves (λ below. m) (λ top. mode_named t f.name.tty (map.get t.jobs f.name.tty.0) m)
 
-  settled_named : (f : Fork) (status : ForkStatus) → IsForkName f.name → Leaves (settled s f status)
-  settled_named f Running fits = put (counted f) fits
-  settled_named f (Wait on) fits = put (counted f) fits
-  settled_named f Halted fits = stopped_named f fits
-  settled_named f (Forced channel) fits = stopped_named f fits
+  ended_named : (f : Fork) (status : ForkStatus) → IsForkName f.name → Leaves (unit_ended s f status)
+  ended_named f Running fits = put (counted f) fits
+  ended_named f (Wait on) fits = put (counted f) fits
+  ended_named f Halted fits = stopped_named f fits
+  ended_named f (Forced channel) fits = stopped_named f fits
 
   trapped_named : (f : Fork) (channel : ℕ) → IsForkName f.name → Leaves (trapped s f channel)
-  trapped_named f channel fits = settled_named (posted f channel) (posted f channel).body.status (posted_fits f channel fits)
+  trapped_named f channel fits = ended_named (posted f channel) (posted f channel).body.status (posted_fits f channel fits)
 
   pbout_named : (f : Fork) → IsForkName f.name → Leaves (pbout s f)
   pbout_named f fits = put (counted (with_regs f (advanced f.body.regs))) fits
@@ -102,8 +105,8 @@ module _ (s : PlainState) (n : IsNamed s) where
 
   called_named : (f : Fork) (number : ℕ) → IsForkName f.name → Leaves (called s f number)
   called_named f number fits =
-      cond_both (number == PBOUT) (pbout s f) (cond (number == HALTF) (haltf s f) (trapped s f illegal_instruction)) Leaves (λ prints. pbout_named f fits) (λ other.
-      cond_both (number == HALTF) (haltf s f) (trapped s f illegal_instruction) Leaves (λ halts. haltf_named f fits) (λ none. trapped_named f illegal_instruction fits))
+      cond_both (number == PBOUT) (pbout s f) (cond (number == HALTF) (haltf s f) (trapped s f ILLEGAL_INSTRUCTION)) Leaves (λ prints. pbout_named f fits) (λ other.
+      cond_both (number == HALTF) (haltf s f) (trapped s f ILLEGAL_INSTRUCTION) Leaves (λ halts. haltf_named f fits) (λ none. trapped_named f ILLEGAL_INSTRUCTION fits))
 
   done_named : (f : Fork) (pages : NamedPages) (d : Deed) → IsForkName f.name → Leaves (done_by s f pages d)
   done_named f pages (goes regs) fits = put (counted (with_regs f regs)) fits
@@ -141,7 +144,7 @@ module _ (s : PlainState) (n : IsNamed s) where
   login_named : (t : Tty) (user : List ℕ) → IsTerminal t → Leaves (login s t user)
   login_named t user terminal =
       let made : Effect = record { state = with_job s t user; items = Char t 64 ∷ [] } in
-      let room = HasRoom (with_map s.pages (next_fork s t)) t in
+      let room = HasRoom (with_map s.pages (next_fork s t) EmptyMap) t in
       let last : Bool = nat_lt LAST_SERIAL (next_fork s t).serial in
       let roomy : Effect = cond room made (refused s (Full t)) in
       cond_both (is_some (map.get s.jobs t.0)) (refused s (Busy t)) (cond last (refused s (SerialsOut t)) roomy) Leaves (λ busy. n) (λ free.

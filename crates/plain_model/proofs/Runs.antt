@@ -1,9 +1,10 @@
 -- Runs and takers go on.
-use Rattle.std.proofs.Common.{◌≡◌, ◌<◌, List, [], ◌∷◌, ◌++◌, length, Bool, refl, sym, ◌∙◌, ap, subst, arith, append_assoc, length-append}
+use Rattle.std.proofs.Common.{◌≡◌, ◌<◌, List, [], ◌∷◌, ◌++◌, length, Bool, true, refl, sym, ◌∙◌, ap, subst, arith, append_assoc, length-append}
 use Rattle.std.proofs.lemmas.List.{append-nil}
 use Rattle.plain_model.specs.declared.event.Event.{Event}
 use Rattle.plain_model.specs.declared.event.Item.{Item}
 use Rattle.plain_model.specs.declared.event.Step.{Step}
+use Rattle.plain_model.specs.declared.event.Step.TheVariants.{Outer, Unit as AUnit, Idle}
 use Rattle.plain_model.specs.State.{PlainState}
 use Rattle.plain_model.specs.Run.{apply, state_after, items_of, AreLegal, AreTurns, Follows, FollowsOne, IsLegal, auto_after, auto_behind}
 use Rattle.plain_model.specs.Taker.{GoesOn, IsCut, StaysOnward, max_steps}
@@ -114,3 +115,10 @@ module _ {T : Type 0} (stands cut : T → T → List Item → List Step → Type
         legal = AreLegal-append auto old ss ts f.legal legal;
         given = subst (λ is. IsCut stands cut a c is (ss ++ ts)) (sym (items_of-append old ss ts)) (cut_behind stands cut a b c (items_of old ss) (items_of (state_after old ss) ts) ss ts f.given given);
       }
+
+-- entries that are legal where an idle one stands only where no fork can run are legal under either mark
+pub legal_anywhere : (auto : Bool) (s : PlainState) (xs : List Step) → AreLegal true s xs → AreLegal auto s xs
+legal_anywhere auto s [] h = tt
+legal_anywhere auto s (Outer e ∷ xs) h = (h.0, legal_anywhere auto (apply s (Outer e)).state xs h.1)
+legal_anywhere auto s (AUnit f ∷ xs) h = (h.0, legal_anywhere auto (apply s (AUnit f)).state xs h.1)
+legal_anywhere auto s (Idle ∷ xs) h = (λ on. h.0 refl, legal_anywhere auto (apply s Idle).state xs h.1)

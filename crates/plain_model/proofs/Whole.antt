@@ -1,23 +1,27 @@
 -- The plain pages are whole from the start on, and whatever makes a page leaves them whole.
 use Rattle.std.proofs.Common.{◌≡◌, ℕ, zero, suc, ◌+◌, Bool, true, false, cond, ◌||◌, List, [], ◌∷◌, map as each, length, Option, None, Some, refl, sym, ◌∙◌, ap, arith, Ordering, Less, T, is_lt}
 use Rattle.std.specs.Prelude.{nat_lt, is_some, slice_get, slice_set}
-use Rattle.std.specs.List.{sum_by, filter_map, flat_map, list_any}
+use Rattle.std.specs.List.{sum_by, filter_map, flat_map, list_any, range_with_len}
 use Rattle.std.specs.Option.{option_map_or}
 use Rattle.std.specs.Ordering.{is_eq, eq_by_cmp}
 use Rattle.std.specs.FinMap as map
 use Rattle.std.proofs.lemmas.List.{length-map, length-replicate}
+use Rattle.std.proofs.lemmas.List.FromFn.{length-map-range_with_len}
 use Rattle.std.proofs.lemmas.List.Sums.{sum_by-append, sum_by-cons}
 use Rattle.std.proofs.lemmas.List.Folds.{sum_by-replicate}
 use Rattle.std.proofs.lemmas.Bool.Decides.{nat_tests}
 use Rattle.plain_model.specs.declared.names.Tty.{Tty}
 use Rattle.plain_model.specs.declared.names.ForkName.{ForkName}
 use Rattle.plain_model.specs.declared.names.PageName.{PageName}
-use Rattle.plain_model.specs.declared.map.MapEntry.TheVariants.{Empty}
+use Rattle.plain_model.specs.declared.map.MapEntry.TheVariants.{Empty, Follows}
 use Rattle.plain_model.specs.State.{PlainPages, Map, opening_pages, first_serials}
 use Rattle.plain_model.specs.Orders.{fork_cmp, page_cmp, file_page_cmp}
 use Rattle.plain_model.specs.Room.{same_page, page_in, names, uses, live}
 use Rattle.plain_model.specs.References.{next_page}
-use Rattle.plain_model.specs.Events.{empty_map, with_map}
+use Rattle.plain_model.specs.declared.map.NewMap.{NewMap}
+use Rattle.plain_model.specs.declared.map.NewMap.TheVariants.{Empty as EmptyMap, FollowAll}
+use Rattle.plain_model.specs.Maps.{full_access}
+use Rattle.plain_model.specs.Events.{empty_map, following_map, new_map, with_map}
 use Rattle.plain_model.specs.declared.names.TheConstants.{SPACE_PAGES}
 use Rattle.plain_model.specs.Whole.{AreWhole}
 use Rattle.plain_model.proofs.OrderLemmas.{page_tied, fork_cmp_total}
@@ -93,30 +97,38 @@ module _ {K : Type 0} (file_cmp : K → K → Ordering) (limit : ℕ) where
     owners = refl;
   }
 
+-- the map of a new fork names no page, and has its entries
+none_followed : (n : PageName) (f : ForkName) (pages : List ℕ) → map_uses n (each (λ page. Follows f.serial page full_access) pages) ≡ 0
+none_followed n f [] = refl
+none_followed n f (page ∷ pages) = omega (arith, sum_by-cons (weight (same_page n) page_in) (Follows f.serial page full_access) (each (λ p. Follows f.serial p full_access) pages), none_followed n f pages)
+
+no_names : (n : PageName) (entries : NewMap) → map_uses n (new_map entries) ≡ 0
+unfolding empty_map following_map
+no_names n EmptyMap = sum_by-replicate (weight (same_page n) page_in) SPACE_PAGES Empty ∙ omega arith
+no_names n (FollowAll f) = none_followed n f (range_with_len 0 SPACE_PAGES)
+
+new_length : (entries : NewMap) → length (new_map entries) ≡ SPACE_PAGES
+unfolding empty_map following_map
+new_length EmptyMap = length-replicate SPACE_PAGES Empty
+new_length (FollowAll f) = length-map-range_with_len (λ page. Follows f.serial page full_access) 0 SPACE_PAGES
+
 module _ {K : Type 0} {file_cmp : K → K → Ordering} (p : PlainPages file_cmp) (w : AreWhole p) (f : ForkName) (absent : map.get p.maps f ≡ None) where
-  no_names : (n : PageName) → map_uses n empty_map ≡ 0
-  unfolding empty_map
-  no_names n = sum_by-replicate (weight (same_page n) page_in) SPACE_PAGES Empty ∙ omega arith
+  -- a fork more, with its map, leaves whole pages whole
+  module _ (entries : NewMap) where
+    uses_mapped : (n : PageName) → uses (with_map p f entries) n ≡ uses p n
+    uses_mapped n =
+        let before : option_map_or (map_uses n) (map.get p.maps f) 0 ≡ 0 = ap (λ (o : Option Map). option_map_or (map_uses n) o 0) absent in
+        omega (arith, uses_are (with_map p f entries) n, uses_are p n, total_insert fork_cmp_total (map_uses n) p.maps f (new_map entries), before, no_names n entries)
 
-  uses_mapped : (n : PageName) → uses (with_map p f) n ≡ uses p n
-  uses_mapped n =
-      let before : option_map_or (map_uses n) (map.get p.maps f) 0 ≡ 0 = ap (λ (o : Option Map). option_map_or (map_uses n) o 0) absent in
-      omega (arith, uses_are (with_map p f) n, uses_are p n, total_insert fork_cmp_total (map_uses n) p.maps f empty_map, before, no_names n)
-
-  empty_length : length empty_map ≡ SPACE_PAGES
-  unfolding empty_map
-  empty_length = length-replicate SPACE_PAGES Empty
-
-  -- a fork more, with an empty map, leaves whole pages whole
-  pub map_whole : AreWhole (with_map p f)
-  map_whole = record {
-    named = λ n. w.named n ∙ ap (nat_lt 0) (sym (uses_mapped n));
-    words = w.words;
-    entries = λ g m h. by g m (eq_by_cmp fork_cmp g f) (sym (map.get-insert fork_cmp_total p.maps f empty_map g) ∙ h);
-    old = w.old;
-    owners = w.owners;
-  }
-    where
-      by : (g : ForkName) (m : Map) (b : Bool) → cond b (Some empty_map) (map.get p.maps g) ≡ Some m → length m ≡ SPACE_PAGES
-      by g m true k = let is : empty_map ≡ m = cc k in ap length (sym is) ∙ empty_length
-      by g m false k = w.entries g m k
+    pub map_whole : AreWhole (with_map p f entries)
+    map_whole = record {
+      named = λ n. w.named n ∙ ap (nat_lt 0) (sym (uses_mapped n));
+      words = w.words;
+      entries = λ g m h. by g m (eq_by_cmp fork_cmp g f) (sym (map.get-insert fork_cmp_total p.maps f (new_map entries) g) ∙ h);
+      old = w.old;
+      owners = w.owners;
+    }
+      where
+        by : (g : ForkName) (m : Map) (b : Bool) → cond b (Some (new_map entries)) (map.get p.maps g) ≡ Some m → length m ≡ SPACE_PAGES
+        by g m true k = let is : new_map entries ≡ m = cc k in ap length (sym is) ∙ new_length entries
+        by g m false k = w.entries g m k

@@ -27,8 +27,10 @@ use Rattle.plain_model.specs.declared.names.Kind.TheVariants.{Execute, Write}
 use Rattle.plain_model.specs.declared.fork.TerminalMode.TheVariants.{Command, Program}
 use Rattle.plain_model.specs.declared.fork.ForkStatus.{ForkStatus}
 use Rattle.plain_model.specs.declared.fork.ForkStatus.TheVariants.{Run as Running, Wait, Halted, Forced}
-use Rattle.plain_model.specs.Interrupts.{posted, pended, listens, is_panic, illegal_instruction, drum_full}
-use Rattle.plain_model.specs.Unit.{Effect, Deed, goes, calls, traps, word as fetches, in_command_mode, printed, stop_text, stopped, settled, trapped, pbout, haltf, called, done_by, executed, unit, deed_of, advanced, fetched, fetched_by, denied_channel, slot_at, PBOUT, HALTF}
+use Rattle.plain_model.specs.Interrupts.{posted, pended, listens, is_panic}
+use Rattle.plain_model.specs.declared.call.TheConstants.{PBOUT, HALTF}
+use Rattle.plain_model.specs.declared.channel.TheConstants.{ILLEGAL_INSTRUCTION, DRUM_FULL}
+use Rattle.plain_model.specs.Unit.{Effect, Deed, goes, calls, traps, word as fetches, in_command_mode, printed, stop_text, stopped, unit_ended, trapped, pbout, haltf, called, done_by, executed, unit, deed_of, advanced, fetched, fetched_by, denied_channel, slot_at}
 use Rattle.plain_model.specs.declared.event.Event.{Event}
 use Rattle.plain_model.specs.declared.event.Event.TheVariants.{Login, TypeIn, File, Words, Poke, Start, Run, Tick, Evict, Drum, Auto, Examine, Forks, Page, Trace}
 use Rattle.plain_model.specs.declared.event.Item.TheVariants.{Char, Examined}
@@ -39,6 +41,7 @@ use Rattle.plain_model.specs.Run.{apply, state_after}
 use Rattle.std.proofs.lemmas.Grind.{get_or-set_at}
 use Rattle.std.proofs.lemmas.Bool.Decides.{eqb_tells}
 use Rattle.std.proofs.lemmas.List.Elements.{All-head, All-tail}
+use Rattle.plain_model.specs.declared.map.NewMap.TheVariants.{Empty as EmptyMap}
 use Rattle.plain_model.specs.Events.{refused, at_job, empty_map, with_map, new_job, next_fork, with_job, login, with_accumulator, poked, poke, restarted, start, word_seen, outer}
 use Rattle.plain_model.specs.Limits.{IsForkName, IsTerminal, FitsEvent, FitsStep}
 use Rattle.std.proofs.lemmas.Bool.{cond_both}
@@ -290,19 +293,19 @@ module _ (s : PlainState) (w : IsWhole s) (name : ForkName) (f : Fork) (there : 
       let t = with_fork s (counted g) in let m : IsWhole t = put (counted g) same in
       cond_both (is_some g.superior) (record { state = t; items = [] }) (record { state = in_command_mode t g.name.tty; items = printed g.name.tty (stop_text g.body.status) }) Leaves (λ below. m) (λ top. mode_whole t m g.name.tty)
 
-  settled_whole_fork : (g : Fork) (status : ForkStatus) → IsSame f g → Leaves (settled s g status)
-  settled_whole_fork g Running same = put (counted g) same
-  settled_whole_fork g (Wait on) same = put (counted g) same
-  settled_whole_fork g Halted same = stopped_whole g same
-  settled_whole_fork g (Forced channel) same = stopped_whole g same
+  ended_whole_fork : (g : Fork) (status : ForkStatus) → IsSame f g → Leaves (unit_ended s g status)
+  ended_whole_fork g Running same = put (counted g) same
+  ended_whole_fork g (Wait on) same = put (counted g) same
+  ended_whole_fork g Halted same = stopped_whole g same
+  ended_whole_fork g (Forced channel) same = stopped_whole g same
 
   trapped_whole : (channel : ℕ) → Leaves (trapped s f channel)
-  trapped_whole channel = settled_whole_fork (posted f channel) (posted f channel).body.status (posted_same f channel)
+  trapped_whole channel = ended_whole_fork (posted f channel) (posted f channel).body.status (posted_same f channel)
 
   called_whole : (number : ℕ) → Leaves (called s f number)
   called_whole number =
-      cond_both (number == PBOUT) (pbout s f) (cond (number == HALTF) (haltf s f) (trapped s f illegal_instruction)) Leaves (λ prints. put (counted (with_regs f (advanced f.body.regs))) (refl, refl)) (λ other.
-      cond_both (number == HALTF) (haltf s f) (trapped s f illegal_instruction) Leaves (λ halts. stopped_whole (with_status (with_regs f (advanced f.body.regs)) Halted) (refl, refl)) (λ none. trapped_whole illegal_instruction))
+      cond_both (number == PBOUT) (pbout s f) (cond (number == HALTF) (haltf s f) (trapped s f ILLEGAL_INSTRUCTION)) Leaves (λ prints. put (counted (with_regs f (advanced f.body.regs))) (refl, refl)) (λ other.
+      cond_both (number == HALTF) (haltf s f) (trapped s f ILLEGAL_INSTRUCTION) Leaves (λ halts. stopped_whole (with_status (with_regs f (advanced f.body.regs)) Halted) (refl, refl)) (λ none. trapped_whole ILLEGAL_INSTRUCTION))
 
   done_whole : (q : NamedPages) → IsWhole (record s { pages = q }) → (d : Deed) → Leaves (done_by s f q d)
   done_whole q whole (goes regs) = fork_whole (record s { pages = q }) whole name f (counted (with_regs f regs)) there (w.own name f there) refl
@@ -319,7 +322,7 @@ module _ (s : PlainState) (w : IsWhole s) (name : ForkName) (f : Fork) (there : 
       by : (r : Referred name_cmp) → reference s.pages (in_map (slot_at f.name f.body.regs.pc)) Execute f.name.tty ≡ r → Leaves (executed s f (fetched_by s.pages (slot_at f.name f.body.regs.pc) (f.body.regs.pc % PAGE_WORDS) r))
       by (granted q) is = done_whole q (referred_whole s w f.name.tty own (slot_at f.name f.body.regs.pc) Execute q is) (deed_of f.body.regs (word_at s.pages (in_map (slot_at f.name f.body.regs.pc)) (f.body.regs.pc % PAGE_WORDS)))
       by (denied kind) is = trapped_whole (denied_channel kind)
-      by full is = trapped_whole drum_full
+      by full is = trapped_whole DRUM_FULL
 
 module _ (s : PlainState) (w : IsWhole s) where
   unit_whole : (name : ForkName) → IsForkName name → Leaves (unit s name)
@@ -348,10 +351,10 @@ module _ (s : PlainState) (w : IsWhole s) where
   no_fork : (t : Tty) → map.contains_key s.forks (next_fork s t) ≡ false
   no_fork t = w.forks (next_fork s t) ∙ ap is_some (next_absent t)
 
-  with_job_whole : (t : Tty) (user : List ℕ) → IsTerminal t → HasRoom (with_map s.pages (next_fork s t)) t ≡ true → IsWhole (with_job s t user)
+  with_job_whole : (t : Tty) (user : List ℕ) → IsTerminal t → HasRoom (with_map s.pages (next_fork s t) EmptyMap) t ≡ true → IsWhole (with_job s t user)
   with_job_whole t user terminal room = record {
-    pages = map_whole s.pages w.pages f (next_absent t);
-    room = has_room (with_map s.pages f) t room;
+    pages = map_whole s.pages w.pages f (next_absent t) EmptyMap;
+    room = has_room (with_map s.pages f EmptyMap) t room;
     files = w.files;
     forks = λ g. ap is_some (found g) ∙ alike (eq_by_cmp fork_cmp g f) (map.get s.forks g) (map.get s.pages.maps g) (w.forks g) ∙ sym (ap is_some (map.get-insert fork_cmp_total s.pages.maps f empty_map g));
     own = λ k h is. owned k h (eq_by_cmp fork_cmp k f) refl (sym (found k) ∙ is);
@@ -405,7 +408,7 @@ module _ (s : PlainState) (w : IsWhole s) where
   login_whole : (t : Tty) (user : List ℕ) → IsTerminal t → Leaves (login s t user)
   login_whole t user terminal =
       let made : Effect = record { state = with_job s t user; items = Char t 64 ∷ [] } in
-      let room = HasRoom (with_map s.pages (next_fork s t)) t in
+      let room = HasRoom (with_map s.pages (next_fork s t) EmptyMap) t in
       let last : Bool = nat_lt LAST_SERIAL (next_fork s t).serial in
       let roomy_made : Effect = cond room made (refused s (Full t)) in
       cond_both (is_some (map.get s.jobs t.0)) (refused s (Busy t)) (cond last (refused s (SerialsOut t)) roomy_made) Leaves (λ busy. w) (λ free.

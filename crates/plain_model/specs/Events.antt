@@ -1,5 +1,6 @@
 -- The events of a script that are one step of the plain machine.
 use Rattle.std.specs.Prelude.{ℕ, ◌+◌, ◌%◌, List, [], ◌∷◌, map, Bool, false, nat_lt, Option, None, Some, if◌then◌else◌, slice_index, slice_set, replicate, is_some}
+use Rattle.std.specs.List.{range_with_len}
 use Rattle.std.specs.Option.{option_map, option_map_or}
 use Rattle.std.specs.declared.cmp.Ordering.{Ordering}
 use Rattle.std.specs.FinMap as map
@@ -9,7 +10,10 @@ use Rattle.plain_model.specs.declared.names.Tty.{Tty}
 use Rattle.plain_model.specs.declared.names.ForkName.{ForkName}
 use Rattle.plain_model.specs.declared.names.Slot.{Slot}
 use Rattle.plain_model.specs.declared.names.Kind.TheVariants.{Write}
-use Rattle.plain_model.specs.declared.map.MapEntry.TheVariants.{Empty}
+use Rattle.plain_model.specs.declared.character.TheConstants.{PROMPT}
+use Rattle.plain_model.specs.declared.map.MapEntry.TheVariants.{Empty, Follows}
+use Rattle.plain_model.specs.declared.map.NewMap.{NewMap}
+use Rattle.plain_model.specs.declared.map.NewMap.TheVariants.{Empty as EmptyMap, FollowAll}
 use Rattle.plain_model.specs.declared.fork.TerminalMode.TheVariants.{Command, Program}
 use Rattle.plain_model.specs.declared.fork.ForkStatus.TheVariants.{Run as Running}
 use Rattle.plain_model.specs.declared.fork.Fork.{Fork}
@@ -20,11 +24,13 @@ use Rattle.plain_model.specs.declared.event.Refusal.{Refusal as Cause}
 use Rattle.plain_model.specs.declared.event.Refusal.TheVariants.{Busy, NoJob, SerialsOut, Full, Denied, NoFork, NoPage}
 use Rattle.plain_model.specs.State.{PlainState, PlainPages, PlainJob, Map}
 use Rattle.plain_model.specs.Orders.{name_cmp}
+use Rattle.plain_model.specs.Maps.{full_access}
 use Rattle.plain_model.specs.Room.{HasRoom}
 use Rattle.plain_model.specs.References.{Referred, granted, denied, full, in_map, reference, stored, words_of, page_at}
 use Rattle.plain_model.specs.Forks.{top_fork, with_fork, change_fork, with_regs, forks_by_slot, fork_line}
 use Rattle.plain_model.specs.Unit.{Effect, slot_at}
 
+-- an event that is refused changes nothing, and says why
 abbrev pub refused : PlainState → Cause → Effect
 refused s cause = record { state = s; items = Refusal cause ∷ [] }
 
@@ -36,9 +42,18 @@ at_job s t act = option_map_or act (map.get s.jobs t.0) (refused s (NoJob t))
 unfoldable pub empty_map : Map
 empty_map = replicate SPACE_PAGES Empty
 
--- the pages with an empty map for a new fork
-abbrev pub with_map : {K : Type 0} {file_cmp : K → K → Ordering} → PlainPages file_cmp → ForkName → PlainPages file_cmp
-with_map p f = record p { maps = map.insert p.maps f empty_map }
+-- a map of which each entry follows the same entry of a fork, with every right
+unfoldable pub following_map : ForkName → Map
+following_map f = map (λ page. Follows f.serial page full_access) (range_with_len 0 SPACE_PAGES)
+
+-- the map of a new fork
+abbrev pub new_map : NewMap → Map
+new_map EmptyMap = empty_map
+new_map (FollowAll f) = following_map f
+
+-- the pages with the map of a new fork
+abbrev pub with_map : {K : Type 0} {file_cmp : K → K → Ordering} → PlainPages file_cmp → ForkName → NewMap → PlainPages file_cmp
+with_map p f entries = record p { maps = map.insert p.maps f (new_map entries) }
 
 -- a job of a user whose terminal is in command mode
 abbrev pub new_job : List ℕ → ForkName → PlainJob
@@ -51,7 +66,7 @@ next_fork s t = record { tty = t; serial = slice_index s.fork_serials t.0 }
 -- a job with its top fork
 abbrev pub with_job : PlainState → Tty → List ℕ → PlainState
 with_job s t user = let f = next_fork s t in record (with_fork s (top_fork f)) {
-  pages = with_map s.pages f;
+  pages = with_map s.pages f EmptyMap;
   jobs = map.insert s.jobs t.0 (new_job user f);
   fork_serials = slice_set s.fork_serials t.0 (f.serial + 1);
 }
@@ -61,9 +76,10 @@ abbrev pub login : PlainState → Tty → List ℕ → Effect
 login s t user =
     if is_some (map.get s.jobs t.0) then refused s (Busy t)
     else (if nat_lt LAST_SERIAL (next_fork s t).serial then refused s (SerialsOut t)
-    else (if HasRoom (with_map s.pages (next_fork s t)) t then record { state = with_job s t user; items = Char t 64 ∷ [] }
+    else (if HasRoom (with_map s.pages (next_fork s t) EmptyMap) t then record { state = with_job s t user; items = Char t PROMPT ∷ [] }
     else refused s (Full t)))
 
+-- a fork with a word in an accumulator
 abbrev pub with_accumulator : ℕ → ℕ → Fork → Fork
 with_accumulator at word f = with_regs f (record f.body.regs { ac = slice_set f.body.regs.ac at word })
 
@@ -79,6 +95,7 @@ poke s t address word = at_job s t (λ j.
     if nat_lt address ACCUMULATORS then record { state = change_fork s j.top (with_accumulator address word); items = [] }
     else (let slot = slot_at j.top address in poked s t slot (address % PAGE_WORDS) word (reference s.pages (in_map slot) Write t)))
 
+-- a fork that runs at an address, with no freeze mark
 abbrev pub restarted : ℕ → Fork → Fork
 restarted address f = record f { frozen = false; body = record f.body { status = Running; regs = record f.body.regs { pc = address } } }
 

@@ -1,5 +1,5 @@
 -- What one event of a machine did, over what its drum tells.
-use Rattle.std.specs.Prelude.{◌≡◌, ◌⊎◌, ℕ, ◌+◌, List, ◌++◌, length, Bool, true, Option, Some}
+use Rattle.std.specs.Prelude.{◌≡◌, ◌⊎◌, ℕ, ◌+◌, List, ◌++◌, length, Bool, true, ◌||◌, Option, Some}
 use Rattle.plain_model.specs.declared.event.Event.{Event}
 use Rattle.plain_model.specs.declared.event.Item.{Item}
 use Rattle.plain_model.specs.declared.event.Step.{Step}
@@ -14,6 +14,11 @@ DrumWords = List (List ℕ)
 -- the words that stand on the drum: those that it tells, or any where nothing depends on them
 abbrev pub Stands : Bool → Option DrumWords → DrumWords → Type 0
 Stands flat held d = (held ≡ Some d) ⊎ (flat ≡ true)
+
+-- the mark by which idle entries are judged: where all pages are in memory no fork waits for a transfer, so
+-- that none may stand where a fork can run, whatever the AUTO mark
+abbrev pub judged_by : Bool → Bool → Bool
+judged_by flat auto = flat || auto
 
 -- legal steps led from one plain state to the other, and were given with their items
 pub record Gave {T : Type 0} (stands : T → T → List Item → List Step → Type 0) (out out' : T) (auto : Bool) (old new : PlainState) (steps : List Step) : Type 0 where
@@ -39,15 +44,15 @@ module _ {M D T : Type 0} (flat : Bool) (fits : M → DrumWords → Type 0) (pla
   -- over what the drum told and tells, these steps were given
   pub record GaveOver (stands : T → T → List Item → List Step → Type 0) (m m' : M) (drum drum' : D) (out out' : T) (auto : Bool) (steps : List Step) : Type 0 where
     pub each : (d : DrumWords) → Stands flat (held drum) d → fits m d
-        → (e : DrumWords) × Stands flat (held drum') e × fits m' e × Gave stands out out' auto (plain m d) (plain m' e) steps
+        → (e : DrumWords) × Stands flat (held drum') e × fits m' e × Gave stands out out' (judged_by flat auto) (plain m d) (plain m' e) steps
 
   -- over what the drum told, the taker failed within these steps
   pub record CutOver (stands cut : T → T → List Item → List Step → Type 0) (m : M) (drum : D) (out out' : T) (auto : Bool) (steps : List Step) : Type 0 where
-    pub each : (d : DrumWords) → Stands flat (held drum) d → fits m d → GaveCut stands cut out out' auto (plain m d) steps
+    pub each : (d : DrumWords) → Stands flat (held drum) d → fits m d → GaveCut stands cut out out' (judged_by flat auto) (plain m d) steps
 
   -- over what the drum told, these steps were given before the drum failed
   pub record GaveBefore (stands : T → T → List Item → List Step → Type 0) (m : M) (drum : D) (out out' : T) (auto : Bool) (event : Event) (steps : List Step) : Type 0 where
-    pub each : (d : DrumWords) → Stands flat (held drum) d → fits m d → GaveSoFar stands out out' auto event (plain m d) steps
+    pub each : (d : DrumWords) → Stands flat (held drum) d → fits m d → GaveSoFar stands out out' (judged_by flat auto) event (plain m d) steps
 
   -- an event went: its steps follow it and were given; so many entries and events more are done
   pub record Went (stands : T → T → List Item → List Step → Type 0) (m m' : M) (drum drum' : D) (out out' : T) (auto : Bool) (event : Event) (done done' : ℕ) : Type 0 where

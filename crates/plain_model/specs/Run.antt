@@ -25,11 +25,12 @@ apply s (Outer e) = outer s e
 apply s (AUnit f) = let e = unit s f in record e { items = unit_line s f ++ e.items }
 apply s Idle = record { state = s; items = [] }
 
--- the fold of the entries: the state that they leave, and all that they show
+-- the state that entries leave, one after another
 abbrev pub state_after : PlainState → List Step → PlainState
 state_after s [] = s
 state_after s (x ∷ xs) = state_after (apply s x).state xs
 
+-- what they show, in order
 abbrev pub items_of : PlainState → List Step → List Item
 items_of s [] = []
 items_of s (x ∷ xs) = (apply s x).items ++ items_of (apply s x).state xs
@@ -44,6 +45,7 @@ pub data Shape : Type 0 where
   turns : ℕ → Shape
   single : Shape
 
+-- the shape of each event
 abbrev pub shape_of : Event → Shape
 shape_of (Run n) = turns n
 shape_of (Evict n) = silent
@@ -57,34 +59,38 @@ IsTurn (Outer e) = ⊥
 IsTurn (AUnit f) = Unit {0}
 IsTurn Idle = Unit {0}
 
+-- each of them is a turn
 abbrev pub AreTurns : List Step → Type 0
 AreTurns [] = Unit {0}
 AreTurns (x ∷ xs) = IsTurn x × AreTurns xs
 
--- the entries of one event
+-- the entries of an event of this shape
 abbrev pub FollowsShape : Shape → Event → List Step → Type 0
 FollowsShape silent e steps = steps ≡ []
 FollowsShape (turns n) e steps = (length steps ≡ n) × AreTurns steps
 FollowsShape single e steps = steps ≡ Outer e ∷ []
 
+-- the entries of one event
 abbrev pub FollowsOne : Event → List Step → Type 0
 FollowsOne e steps = FollowsShape (shape_of e) e steps
 
--- entries with which one event's may begin
+-- entries with which those of an event of this shape may begin
 abbrev pub BeginsShape : Shape → Event → List Step → Type 0
 BeginsShape silent e steps = steps ≡ []
 BeginsShape (turns n) e steps = (length steps ≤ n) × AreTurns steps
 BeginsShape single e steps = steps ≡ Outer e ∷ []
 
+-- entries with which one event's may begin
 abbrev pub Begins : Event → List Step → Type 0
 Begins e steps = BeginsShape (shape_of e) e steps
 
--- the entries of an event that was not finished: turns of a RUN, as many as were given, and else none
+-- the entries of an event of this shape that was not finished: turns of a RUN, as many as were given, and else none
 abbrev pub UnfinishedShape : Shape → List Step → Type 0
 UnfinishedShape silent steps = steps ≡ []
 UnfinishedShape (turns n) steps = (length steps ≤ n) × AreTurns steps
 UnfinishedShape single steps = steps ≡ []
 
+-- the entries of one event that was not finished
 abbrev pub Unfinished : Event → List Step → Type 0
 Unfinished e steps = UnfinishedShape (shape_of e) steps
 
@@ -114,6 +120,7 @@ IsLegalStep auto s (Outer e) = Unit {0}
 IsLegalStep auto s (AUnit f) = IsRunnable s f
 IsLegalStep auto s Idle = auto ≡ true → (f : ForkName) → IsRunnable s f → ⊥
 
+-- each entry is legal where it stands
 abbrev pub AreLegal : Bool → PlainState → List Step → Type 0
 AreLegal auto s [] = Unit {0}
 AreLegal auto s (x ∷ xs) = IsLegalStep auto s x × AreLegal auto (apply s x).state xs

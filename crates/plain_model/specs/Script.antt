@@ -169,3 +169,10 @@ pub record StopsAt (number : ℕ) (text : List ℕ) (events : List Event) : Type
 pub record IsTooLong (text : List ℕ) (events : List Event) : Type 0 where
   pub begins : BeginsWith text events
   pub long : IsLongRest (length begins.front) begins.rest
+
+-- these bytes were taken from a source that failed behind them: lines of the script with these events, and a
+-- rest without a line feed, all within the limit
+pub record IsReadTo (text : List ℕ) (events : List Event) : Type 0 where
+  pub begins : BeginsWith text events
+  pub broken : HasNoFeed begins.rest
+  pub within : length text ≤ most_bytes

@@ -31,6 +31,7 @@ octal n = trimmed (octal_padded 12 n)
 abbrev pub field : List ℕ → List ℕ
 field text = 32 ∷ text
 
+-- how a switch is spelled
 abbrev pub on_or_off : Bool → List ℕ
 on_or_off true = codes "ON"
 on_or_off false = codes "OFF"
@@ -80,30 +81,37 @@ line_start (Some s) t = if s == t then [] else 10 ∷ 84 ∷ (decimal t ++ 32 �
 abbrev pub char_end : ℕ → List ℕ
 char_end c = if c == 10 then 10 ∷ [] else []
 
+-- the terminal whose line is open behind a character
 abbrev pub char_open : ℕ → ℕ → Open
 char_open t c = if c == 10 then None else Some t
 
+-- what a fork waits for
 abbrev pub wait_text : WaitOn → List ℕ
 wait_text Input = codes "INPUT"
 wait_text Fork = codes "FORK"
 wait_text (Sleep moment) = codes "SLEEP"
 
+-- how a fork stands
 abbrev pub status_text : ForkStatus → List ℕ
 status_text Running = codes "RUN"
 status_text (Wait on) = wait_text on
 status_text Halted = codes "HALT"
 status_text (Forced channel) = codes "FORCED " ++ decimal channel
 
+-- behind the status of a fork that has the freeze mark itself
 abbrev pub frozen_text : Bool → List ℕ
 frozen_text true = codes " FROZEN"
 frozen_text false = []
 
+-- a fork's terminal and serial
 abbrev pub name_text : ForkName → List ℕ
 name_text f = decimal f.tty.0 ++ field (decimal f.serial)
 
+-- the line of a fork: name, superior's serial or 0, status, and program counter
 abbrev pub fork_text : ForkShown → List ℕ
 fork_text l = codes "F " ++ (name_text l.name ++ (field (decimal l.superior) ++ (field (status_text l.status) ++ (frozen_text l.frozen ++ (codes " PC " ++ octal_padded 6 l.address)))))
 
+-- the line of a refusal
 abbrev pub cause_text : Cause → List ℕ
 cause_text (Busy t) = codes "?BUSY " ++ decimal t.0
 cause_text (NoJob t) = codes "?NO JOB " ++ decimal t.0
@@ -128,27 +136,19 @@ shown_line (PageWord offset word) = codes "W " ++ (octal_padded 3 offset ++ fiel
 shown_line (UnitLine f address) = codes "U " ++ (name_text f ++ field (octal_padded 6 address))
 shown_line (Refusal cause) = cause_text cause
 
+-- a line of its own, behind the end of the one that is open
 abbrev pub own_line : Open → Item → List ℕ
 own_line is_open i = line_end is_open ++ ended (shown_line i)
 
--- one item's bytes behind what is open, and what is open then
+-- one item's bytes behind what is open
 abbrev pub item_text : Open → Item → List ℕ
 item_text is_open (Char t c) = line_start is_open t.0 ++ (escaped c ++ char_end c)
-item_text is_open (ForkLine l) = own_line is_open (ForkLine l)
-item_text is_open (Examined t serial address word) = own_line is_open (Examined t serial address word)
-item_text is_open (PageLine name page) = own_line is_open (PageLine name page)
-item_text is_open (PageWord offset word) = own_line is_open (PageWord offset word)
-item_text is_open (UnitLine f address) = own_line is_open (UnitLine f address)
-item_text is_open (Refusal cause) = own_line is_open (Refusal cause)
+item_text is_open i = own_line is_open i
 
+-- the terminal whose line is open behind an item
 abbrev pub item_open : Item → Open
 item_open (Char t c) = char_open t.0 c
-item_open (ForkLine l) = None
-item_open (Examined t serial address word) = None
-item_open (PageLine name page) = None
-item_open (PageWord offset word) = None
-item_open (UnitLine f address) = None
-item_open (Refusal cause) = None
+item_open i = None
 
 -- the text of the items that come while a line may be open, with the last line closed
 abbrev pub text_after : Open → List Item → List ℕ
@@ -163,11 +163,7 @@ transcript is = text_after None is
 abbrev pub same_turn : Step → Step → Bool
 same_turn (AUnit f) (AUnit g) = (f.tty.0 == g.tty.0) && (f.serial == g.serial)
 same_turn Idle Idle = true
-same_turn (Outer e) y = false
-same_turn (AUnit f) (Outer e) = false
-same_turn (AUnit f) Idle = false
-same_turn Idle (Outer e) = false
-same_turn Idle (AUnit f) = false
+same_turn x y = false
 
 -- the run of equal turns that is open, and how many they are
 abbrev pub OpenRun : Type 0
@@ -179,28 +175,30 @@ run_line (AUnit f) n = ended (codes "U " ++ (name_text f ++ field (decimal n)))
 run_line Idle n = ended (codes "I " ++ decimal n)
 run_line (Outer e) n = []
 
+-- the line of the run that is open
 abbrev pub run_end : OpenRun → List ℕ
 run_end None = []
 run_end (Some r) = run_line r.0 r.1
 
--- one turn's bytes behind an open run, and what run is open then
+-- one turn's bytes behind an open run
 abbrev pub turn_text : OpenRun → Step → List ℕ
 turn_text None s = []
 turn_text (Some r) s = if same_turn r.0 s then [] else run_line r.0 r.1
 
+-- the run that is open behind a turn
 abbrev pub turn_run : OpenRun → Step → OpenRun
 turn_run None s = Some (s, 1)
 turn_run (Some r) s = if same_turn r.0 s then Some (s, r.1 + 1) else Some (s, 1)
 
+-- one entry's bytes behind an open run
 abbrev pub step_text : OpenRun → Step → List ℕ
 step_text run (Outer e) = run_end run ++ ended (line_of e)
-step_text run (AUnit f) = turn_text run (AUnit f)
-step_text run Idle = turn_text run Idle
+step_text run s = turn_text run s
 
+-- the run that is open behind an entry
 abbrev pub step_run : OpenRun → Step → OpenRun
 step_run run (Outer e) = None
-step_run run (AUnit f) = turn_run run (AUnit f)
-step_run run Idle = turn_run run Idle
+step_run run s = turn_run run s
 
 -- the record of the steps that come while a run may be open, with the last run closed
 abbrev pub record_after : OpenRun → List Step → List ℕ

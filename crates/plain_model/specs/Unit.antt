@@ -8,6 +8,10 @@ use Rattle.plain_model.specs.declared.names.ForkName.{ForkName}
 use Rattle.plain_model.specs.declared.names.Slot.{Slot}
 use Rattle.outside.specs.declared.TheConstants.{PAGE_WORDS}
 use Rattle.plain_model.specs.declared.names.TheConstants.{ACCUMULATORS}
+use Rattle.plain_model.specs.declared.opcode.TheConstants.{JSYS, MOVEI, JRST}
+use Rattle.plain_model.specs.declared.call.TheConstants.{PBOUT, HALTF}
+use Rattle.plain_model.specs.declared.channel.TheConstants.{ILLEGAL_INSTRUCTION, DENIED_READ, DENIED_WRITE, DENIED_EXECUTE, DRUM_FULL}
+use Rattle.plain_model.specs.declared.character.TheConstants.{LINE_END, CARRIAGE_RETURN, LINE_FEED, PROMPT}
 use Rattle.plain_model.specs.declared.names.Kind.{Kind}
 use Rattle.plain_model.specs.declared.names.Kind.TheVariants.{Read, Write, Execute}
 use Rattle.plain_model.specs.declared.fork.TerminalMode.TheVariants.{Command}
@@ -20,7 +24,7 @@ use Rattle.plain_model.specs.declared.event.Item.TheVariants.{Char}
 use Rattle.plain_model.specs.State.{PlainState, PlainPages, NamedPages}
 use Rattle.plain_model.specs.References.{Referred, granted, denied, full, in_map, reference, word_at}
 use Rattle.plain_model.specs.Forks.{with_fork, with_regs, with_status, counted}
-use Rattle.plain_model.specs.Interrupts.{posted, illegal_instruction, denied_read, denied_write, denied_execute, drum_full}
+use Rattle.plain_model.specs.Interrupts.{posted}
 use Rattle.plain_model.specs.Orders.{name_cmp}
 
 -- what a step leaves, and what it shows
@@ -34,16 +38,19 @@ pub data Deed : Type 0 where
   calls : ℕ → Deed
   traps : ℕ → Deed
 
+-- the fields of an instruction: its opcode, bits 0 to 8
 abbrev pub opcode : ℕ → ℕ
 opcode w = w / 2 ^ 27
 
+-- its accumulator, bits 9 to 12
 abbrev pub ac_field : ℕ → ℕ
 ac_field w = w / 2 ^ 23 % 16
 
--- the indirect bit and the index register together
+-- its indirect bit and its index register together, bits 13 to 17
 abbrev pub index_field : ℕ → ℕ
 index_field w = w / 2 ^ 18 % 32
 
+-- its address, bits 18 to 35
 abbrev pub y_field : ℕ → ℕ
 y_field w = w % 2 ^ 18
 
@@ -59,23 +66,6 @@ movei regs w = goes (advanced (record regs { ac = slice_set regs.ac (ac_field w)
 abbrev pub jrst : Regs → ℕ → Deed
 jrst regs w = goes (record regs { pc = y_field w })
 
--- opcodes (PDP-10 handbook); JSYS is that of the monitor calls
-abbrev pub JSYS : ℕ
-JSYS = 0o104
-
-abbrev pub MOVEI : ℕ
-MOVEI = 0o201
-
-abbrev pub JRST : ℕ
-JRST = 0o254
-
--- the numbers of monitor calls (JSYS Manual)
-abbrev pub PBOUT : ℕ
-PBOUT = 0o74
-
-abbrev pub HALTF : ℕ
-HALTF = 0o170
-
 -- the rows that are built: MOVEI, JRST with no function, and the monitor calls, with an address that
 -- is neither indexed nor indirect; every other word traps as an illegal instruction
 abbrev pub deed_of : Regs → ℕ → Deed
@@ -83,8 +73,8 @@ deed_of regs w =
     if index_field w == 0 then
     (if opcode w == MOVEI then movei regs w
     else (if (opcode w == JRST) && (ac_field w == 0) then jrst regs w
-    else (if opcode w == JSYS then calls (y_field w) else traps illegal_instruction)))
-    else traps illegal_instruction
+    else (if opcode w == JSYS then calls (y_field w) else traps ILLEGAL_INSTRUCTION)))
+    else traps ILLEGAL_INSTRUCTION
 
 -- the slot of a fork in which an address stands
 abbrev pub slot_at : ForkName → ℕ → Slot
@@ -97,16 +87,16 @@ pub data Fetched {K : Type 0} (file_cmp : K → K → Ordering) : Type 0 where
 
 -- the channel of a denied reference
 abbrev pub denied_channel : Kind → ℕ
-denied_channel Read = denied_read
-denied_channel Write = denied_write
-denied_channel Execute = denied_execute
+denied_channel Read = DENIED_READ
+denied_channel Write = DENIED_WRITE
+denied_channel Execute = DENIED_EXECUTE
 
 module _ {K : Type 0} {file_cmp : K → K → Ordering} where
   -- no making changes a word, so the word is that of the pages before
   abbrev pub fetched_by : PlainPages file_cmp → Slot → ℕ → Referred file_cmp → Fetched file_cmp
   fetched_by p slot offset (granted q) = word (word_at p (in_map slot) offset) q
   fetched_by p slot offset (denied kind) = stops (denied_channel kind)
-  fetched_by p slot offset full = stops drum_full
+  fetched_by p slot offset full = stops DRUM_FULL
 
   -- the word at the program counter; low addresses are the accumulators
   abbrev pub fetched : PlainPages file_cmp → Fork → Fetched file_cmp
@@ -120,12 +110,12 @@ printed t cs = map (Char t) cs
 
 -- the end of a line prints as carriage return and line feed
 abbrev pub shown_code : ℕ → List ℕ
-shown_code c = if c == 31 then 13 ∷ 10 ∷ [] else c ∷ []
+shown_code c = if c == LINE_END then CARRIAGE_RETURN ∷ LINE_FEED ∷ [] else c ∷ []
 
 -- what a top fork that stops prints
 abbrev pub stop_text : ForkStatus → List ℕ
-stop_text Halted = 13 ∷ 10 ∷ 64 ∷ []
-stop_text (Forced channel) = 13 ∷ 10 ∷ (codes "?FORCED " ++ (decimal channel ++ (13 ∷ 10 ∷ 64 ∷ [])))
+stop_text Halted = CARRIAGE_RETURN ∷ LINE_FEED ∷ PROMPT ∷ []
+stop_text (Forced channel) = CARRIAGE_RETURN ∷ LINE_FEED ∷ (codes "?FORCED " ++ (decimal channel ++ (CARRIAGE_RETURN ∷ LINE_FEED ∷ PROMPT ∷ [])))
 stop_text status = []
 
 -- a terminal in command mode, where it has a job
@@ -138,14 +128,15 @@ stopped s f = let t = with_fork s (counted f) in
     if is_some f.superior then record { state = t; items = [] }
     else record { state = in_command_mode t f.name.tty; items = printed f.name.tty (stop_text f.body.status) }
 
-abbrev pub settled : PlainState → Fork → ForkStatus → Effect
-settled s f Halted = stopped s f
-settled s f (Forced channel) = stopped s f
-settled s f status = record { state = with_fork s (counted f); items = [] }
+-- a fork is behind a unit that leaves it in this status, which is its own
+abbrev pub unit_ended : PlainState → Fork → ForkStatus → Effect
+unit_ended s f Halted = stopped s f
+unit_ended s f (Forced channel) = stopped s f
+unit_ended s f status = record { state = with_fork s (counted f); items = [] }
 
 -- a trap changes nothing, leaves the program counter on the instruction, and posts its channel
 abbrev pub trapped : PlainState → Fork → ℕ → Effect
-trapped s f channel = settled s (posted f channel) (posted f channel).body.status
+trapped s f channel = unit_ended s (posted f channel) (posted f channel).body.status
 
 -- PBOUT (JSYS Manual): prints the low 7 bits of accumulator 1
 abbrev pub pbout : PlainState → Fork → Effect
@@ -160,7 +151,7 @@ haltf s f = stopped s (with_status (with_regs f (advanced f.body.regs)) Halted)
 
 -- a turn of a monitor call; a number that is no call traps as an illegal instruction
 abbrev pub called : PlainState → Fork → ℕ → Effect
-called s f number = if number == PBOUT then pbout s f else (if number == HALTF then haltf s f else trapped s f illegal_instruction)
+called s f number = if number == PBOUT then pbout s f else (if number == HALTF then haltf s f else trapped s f ILLEGAL_INSTRUCTION)
 
 -- a monitor call is done on the state before its fetch
 abbrev pub done_by : PlainState → Fork → NamedPages → Deed → Effect

@@ -6,7 +6,7 @@ ghost use Rattle.plain_model.specs.declared.event.Step.{Step as AStep};
 ghost use Rattle.plain_model.specs.State.{opening, PlainState};
 ghost use Rattle.plain_model.specs.Room.{live};
 ghost use Rattle.plain_model.specs.Whole.{IsWhole};
-ghost use Rattle.plain_model.specs.Run.{IsLegal, plain_run};
+ghost use Rattle.plain_model.specs.Run.{IsLegal, apply, plain_run};
 ghost use Rattle.plain_model.specs.Limits.{FitsEvent, FitsStep};
 
 /// Events within their limits have entries within theirs, in whatever legal order the forks' units come: each
@@ -15,9 +15,12 @@ pub fn entries_fit()
     ensures { (limit : ℕ) (events : List AEvent) (entries : List AStep) → All FitsEvent events → IsLegal true (opening limit) events entries → All FitsStep entries }
 {}
 
-/// Wherever a run comes, the objects are exactly the pages that are named, a fork lives exactly where it has
-/// a map, and so on; there the live pages and forks are as many as there are objects and maps.
+/// The opening state is whole, and so is what a step leaves of a whole state; so wherever a run comes, the
+/// objects are exactly the pages that are named, a fork lives exactly where it has a map, and so on. There the
+/// live pages and forks are as many as there are objects and maps.
 pub fn runs_are_whole()
+    ensures opening { (limit : ℕ) → IsWhole (opening limit) }
+    ensures kept { (s : PlainState) (step : AStep) → IsWhole s → FitsStep step → IsWhole (apply s step).state }
     ensures whole { (limit : ℕ) (events : List AEvent) (entries : List AStep) → All FitsEvent events → IsLegal true (opening limit) events entries → IsWhole (plain_run limit entries).state }
     ensures counted { (s : PlainState) → IsWhole s → live s.pages ≡ map.len s.pages.objects + map.len s.pages.maps }
 {}

@@ -4,12 +4,16 @@
 #![tactic(auto)]
 
 mod bounds;
+pub mod call;
+pub mod channel;
+pub mod character;
 mod entries;
 mod event;
 mod example;
 mod fork;
 mod map;
 mod names;
+pub mod opcode;
 mod pages;
 mod taker;
 mod text;

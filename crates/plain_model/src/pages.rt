@@ -79,7 +79,7 @@ pub trait Pages {
         requires few { means.forks_of self.old fork.tty < means.most_forks }
         requires terminal { fork.tty.0 < TERMINALS }
         requires built { IsBuiltMap map }
-        ensures told { (d : DrumWords) → means.fits self.old d → means.fits self.new d × (means.plain self.new d ≡ with_map (means.plain self.old d) fork) }
+        ensures told { (d : DrumWords) → means.fits self.old d → means.fits self.new d × (means.plain self.new d ≡ with_map (means.plain self.old d) fork map) }
         ensures scene { StaysInCore (means.scene self.old) (means.scene self.new) 1 }
         ensures lives { (f : AForkName) → means.lives self.new f ≡ (same_fork f fork || means.lives self.old f) }
         ensures forks { means.forks_of self.new fork.tty ≡ means.forks_of self.old fork.tty + 1 }

@@ -1,5 +1,6 @@
 // What takes the items and the steps of a run.
-ghost use Rattle.std.specs.Prelude.{◌≡◌, ◌≤◌, List, ℕ, [], ◌∷◌, OnOk, OnErr};
+ghost use Rattle.std.specs.Prelude.{◌≡◌, ◌≤◌, List, ℕ, [], ◌∷◌, OnOk, OnErr, replicate};
+ghost use Rattle.plain_model.specs.Run.{IsTurn};
 ghost use Rattle.outside.specs.Faults.{Rose};
 ghost use Rattle.plain_model.specs.Limits.{FitsItem, FitsStep};
 ghost use Rattle.plain_model.specs.Taker.{GoesOn, IsCut, StaysOnward};
@@ -9,7 +10,8 @@ ghost use Rattle.plain_model.specs.declared.event.Step.{Step as AStep};
 use crate::{Item, Step};
 use outside::Failed;
 
-/// Takes what a machine shows and what it did, in order: the items of a step, and then the step.
+/// Takes what a machine shows and what it did, in order: the items of a step, and then the step. It may keep
+/// what it takes until it is flushed.
 pub trait Taker {
     /// How often a call has failed.
     ghost fault_count: { Self → ℕ };
@@ -44,4 +46,23 @@ pub trait Taker {
         ensures onward { StaysOnward onward self.old self.new }
         ensures ok { OnOk result (GoesOn stands self.old self.new [] (s ∷ [])) }
         ensures err { OnErr result (IsCut stands cut self.old self.new [] (s ∷ [])) };
+
+    /// Takes so many equal turns of a run at once. Fails only where the count of faults rises.
+    fn turns(&mut self, s: Step, n: u64) -> Result<(), Failed>
+        requires fits { FitsStep s }
+        requires turn { IsTurn s }
+        requires some { 1 ≤ n }
+        ensures later { fault_count self.old ≤ fault_count self.new }
+        ensures cause { OnErr result (Rose (fault_count self.old) (fault_count self.new)) }
+        ensures onward { StaysOnward onward self.old self.new }
+        ensures ok { OnOk result (GoesOn stands self.old self.new [] (replicate n s)) }
+        ensures err { OnErr result (IsCut stands cut self.old self.new [] (replicate n s)) };
+
+    /// Hands on what it has taken and keeps, where it keeps any. Fails only where the count of faults rises.
+    fn flush(&mut self) -> Result<(), Failed>
+        ensures later { fault_count self.old ≤ fault_count self.new }
+        ensures cause { OnErr result (Rose (fault_count self.old) (fault_count self.new)) }
+        ensures onward { StaysOnward onward self.old self.new }
+        ensures ok { OnOk result (GoesOn stands self.old self.new [] []) }
+        ensures err { OnErr result (IsCut stands cut self.old self.new [] []) };
 }
