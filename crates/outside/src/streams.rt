@@ -1,16 +1,18 @@
 // A source and a sink over a reader and a writer of the standard library. They tell no content.
-ghost use Rattle.std.specs.Prelude.{◌≡◌, ◌<◌, ◌≤◌, None, length, IfOk, OnOk, OnErr};
+ghost use Rattle.std.specs.Prelude.{◌≡◌, ◌<◌, ◌≤◌, None, Some, length, IfOk, IsSome, OnOk, OnErr};
+ghost use Rattle.std.specs.Option.{option_copied};
 ghost use Rattle.std.specs.Io.KnownBytes.{Keeps, ReadConsumes, WriteAppends};
 ghost use Rattle.outside.specs.Faults.{CountsUp};
 
 use crate::{Failed, Sink, Source};
-use std::io::{Read, Write};
+use std::io::{Error, ErrorKind, Read, Write};
 
 /// A reader as a source. Each call is one call of the reader; an error, also an interruption, is a fault.
 #[derive(Drop)]
 pub struct StdSource<R: Read> {
     reader: R,
     faults: u64,
+    error: Option<Error>,
 }
 
 impl<R: Read> StdSource<R> {
@@ -18,8 +20,20 @@ impl<R: Read> StdSource<R> {
     pub fn new(reader: R) -> Self
         ensures faults { result.faults ≡ 0 }
         ensures reader { result.reader ≡ reader }
+        ensures error { result.error ≡ None }
     {
-        StdSource { reader, faults: 0 }
+        StdSource {
+            reader,
+            faults: 0,
+            error: None,
+        }
+    }
+
+    /// The reader's error at the last fault. None exactly where there was no fault.
+    pub fn error(&self) -> Option<&Error>
+        ensures { option_copied result ≡ self.now.error }
+    {
+        self.error.as_ref()
     }
 }
 
@@ -40,11 +54,14 @@ impl<R: Read> Source for StdSource<R> {
         ensures later { self.old.faults ≤ self.new.faults }
         ensures faulted { OnErr result (CountsUp self.old.faults self.new.faults) }
         ensures unfaulted { OnOk result (self.new.faults ≡ self.old.faults) }
+        ensures error { OnErr result (IsSome self.new.error) }
+        ensures kept { OnOk result (self.new.error ≡ self.old.error) }
     {
         match self.reader.read(piece) {
             Ok(n) => Ok(n),
-            Err(_) => {
+            Err(error) => {
                 self.faults = self.faults.saturating_add(1);
+                self.error = Some(error);
                 Err(Failed)
             }
         }
@@ -57,6 +74,7 @@ impl<R: Read> Source for StdSource<R> {
 pub struct StdSink<W: Write> {
     writer: W,
     faults: u64,
+    error: Option<Error>,
 }
 
 impl<W: Write> StdSink<W> {
@@ -64,8 +82,32 @@ impl<W: Write> StdSink<W> {
     pub fn new(writer: W) -> Self
         ensures faults { result.faults ≡ 0 }
         ensures writer { result.writer ≡ writer }
+        ensures error { result.error ≡ None }
     {
-        StdSink { writer, faults: 0 }
+        StdSink {
+            writer,
+            faults: 0,
+            error: None,
+        }
+    }
+
+    /// The writer's error at the last fault. None exactly where there was no fault.
+    pub fn error(&self) -> Option<&Error>
+        ensures { option_copied result ≡ self.now.error }
+    {
+        self.error.as_ref()
+    }
+
+    // A fault is counted, and its error kept.
+    fn fail(&mut self, error: Error) -> Failed
+        ensures later { self.old.faults ≤ self.new.faults }
+        ensures faults { CountsUp self.old.faults self.new.faults }
+        ensures error { self.new.error ≡ Some error }
+        ensures writer { self.new.writer ≡ self.old.writer }
+    {
+        self.faults = self.faults.saturating_add(1);
+        self.error = Some(error);
+        Failed
     }
 }
 
@@ -86,13 +128,13 @@ impl<W: Write> Sink for StdSink<W> {
         ensures later { self.old.faults ≤ self.new.faults }
         ensures faulted { OnErr result (CountsUp self.old.faults self.new.faults) }
         ensures unfaulted { OnOk result (self.new.faults ≡ self.old.faults) }
+        ensures error { OnErr result (IsSome self.new.error) }
+        ensures kept { OnOk result (self.new.error ≡ self.old.error) }
     {
         match self.writer.write(piece) {
             Ok(n) if n > 0 || piece.is_empty() => Ok(n),
-            _ => {
-                self.faults = self.faults.saturating_add(1);
-                Err(Failed)
-            }
+            Ok(_) => Err(self.fail(ErrorKind::WriteZero.into())),
+            Err(error) => Err(self.fail(error)),
         }
     }
 
@@ -102,13 +144,12 @@ impl<W: Write> Sink for StdSink<W> {
         ensures later { self.old.faults ≤ self.new.faults }
         ensures faulted { OnErr result (CountsUp self.old.faults self.new.faults) }
         ensures unfaulted { OnOk result (self.new.faults ≡ self.old.faults) }
+        ensures error { OnErr result (IsSome self.new.error) }
+        ensures kept { OnOk result (self.new.error ≡ self.old.error) }
     {
         match self.writer.flush() {
             Ok(()) => Ok(()),
-            Err(_) => {
-                self.faults = self.faults.saturating_add(1);
-                Err(Failed)
-            }
+            Err(error) => Err(self.fail(error)),
         }
     }
 }

@@ -2,7 +2,7 @@ ghost use Rattle.std.specs.Prelude.{◌<◌, ◌^◌};
 ghost use Rattle.outside.specs.Drums.{AreWords};
 
 use super::*;
-use std::io::{self, ErrorKind, Read};
+use std::io::{self, ErrorKind, Read, Write};
 use std::test::Fail;
 
 // A page with one word in each place.
@@ -20,6 +20,42 @@ impl Read for Interrupted {
     fn read(&mut self, _buf: &mut [u8]) -> io::Result<usize> {
         Err(ErrorKind::Interrupted.into())
     }
+}
+
+// A writer that keeps what it takes until it is flushed: how many bytes it keeps, and how many it handed on.
+#[derive(Drop)]
+struct Keeping {
+    kept: u64,
+    given: u64,
+}
+
+impl Write for Keeping {
+    fn write(&mut self, buf: &[u8]) -> io::Result<usize> {
+        self.kept = self.kept.saturating_add(buf.len() as u64);
+        Ok(buf.len())
+    }
+
+    fn flush(&mut self) -> io::Result<()> {
+        if self.given > 0 {
+            return Err(ErrorKind::BrokenPipe.into());
+        }
+        self.given = self.kept;
+        Ok(())
+    }
+}
+
+#[test]
+fn a_flush_is_the_writers(rt: HostRuntime) -> Result<(), Fail> {
+    let mut writer = Keeping { kept: 0, given: 0 };
+    let mut sink = StdSink::new(&mut writer);
+    assert_eq!(rt; sink.write(b"abc"), Ok(3));
+    assert_eq!(rt; sink.flush(), Ok(()));
+    assert!(rt; sink.error().is_none());
+    assert_eq!(rt; (sink.flush(), sink.faults()), (Err(Failed), 1));
+    let kind = sink.error().map(|error| error.kind());
+    assert_eq!(rt; kind, Some(ErrorKind::BrokenPipe));
+    assert_eq!(rt; writer.given, 3);
+    Ok(())
 }
 
 #[test]
@@ -52,6 +88,23 @@ fn takes_what_fits(rt: HostRuntime) -> Result<(), Fail> {
     assert_eq!(rt; sink.write(b""), Ok(0));
     assert_eq!(rt; sink.bytes(), b"abc".as_slice());
     assert_eq!(rt; sink.faults(), 2);
+    Ok(())
+}
+
+#[test]
+fn hands_on_what_it_took(rt: HostRuntime) -> Result<(), Fail> {
+    let alloc = rt.alloc();
+    let sink = MemSink::new(alloc, 3, vec![in alloc; 2]?)?;
+    let mut sink = sink.with_failing_flushes(vec![in alloc; 2]?);
+    assert_eq!(rt; sink.write(b"ab"), Ok(2));
+    let answers = [Ok(()), Err(Failed), Ok(())];
+    for answer in answers {
+        assert_eq!(rt; sink.flush(), answer);
+    }
+    assert_eq!(rt; sink.write(b"c"), Err(Failed), "the second call of write");
+    assert_eq!(rt; sink.bytes(), b"ab".as_slice());
+    assert_eq!(rt; sink.faults(), 2);
+    assert_eq!(rt; SureSink::new().flush(), Ok(()));
     Ok(())
 }
 
