@@ -4,7 +4,7 @@ use Rattle.std.specs.List.{filter_map, range_with_len}
 use Rattle.std.specs.Option.{option_map_or, option_and_then}
 use Rattle.std.specs.FinMap as map
 use Rattle.plain_model.specs.declared.names.TheConstants.{MOST_FORKS, ACCUMULATORS}
-use Rattle.word36.specs.declared.flags.Flags.{Flags}
+use Rattle.word36.specs.Flags.{no_flags}
 use Rattle.plain_model.specs.declared.names.Tty.{Tty}
 use Rattle.plain_model.specs.declared.names.ForkName.{ForkName}
 use Rattle.plain_model.specs.declared.fork.ForkStatus.{ForkStatus}
@@ -50,10 +50,6 @@ fork_line forks f = record {
   frozen = f.frozen;
   address = f.body.regs.pc;
 }
-
--- no flag is set
-unfoldable pub no_flags : Flags
-no_flags = record { overflow = false; carry0 = false; carry1 = false; fov = false; bis = false; nodiv = false }
 
 -- interrupts are off, with no table, channel or level
 unfoldable pub psi_at_rest : Psi
