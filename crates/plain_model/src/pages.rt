@@ -1,5 +1,5 @@
 // The pages of all forks.
-ghost use Rattle.std.specs.Prelude.{◌≡◌, ◌⊎◌, ◌≢◌, ◌<◌, ◌≤◌, ◌+◌, ◌^◌, true, false, ◌||◌};
+ghost use Rattle.std.specs.Prelude.{◌≡◌, ◌⊎◌, ◌≢◌, ◌<◌, ◌≤◌, ◌+◌, ◌^◌, Bool, true, false, ◌||◌};
 ghost use Rattle.plain_model.specs.declared.names.ForkName.{ForkName as AForkName};
 ghost use Rattle.plain_model.specs.declared.names.Tty.{Tty as ATty};
 ghost use Rattle.plain_model.specs.declared.names.TheConstants.{TERMINALS};
@@ -21,11 +21,12 @@ pub trait Pages {
     /// What a reference of this kind finds, in this order: a map on the way that is in no frame;
     /// Denied, where the map forbids it; Full, where a page has to be made and there is no room; the
     /// page, in no frame; a page to be made with no frame for it; a page to be made; and else Ready.
-    /// It is the same whoever is to own the page.
+    /// It is the same whoever is to own the page. Only a write has a page copied.
     fn touch(&self, at: Place, kind: Kind) -> Touch
         requires { IsPlace (means.lives self.now) at }
         ensures answer { result ≡ means.touched self.now at kind }
         ensures told { (d : DrumWords) (owner : ATty) → means.fits self.now d → IsOwner owner → result ≡ touch_of (means.plain self.now d) (means.scene self.now) (spot_of at) kind owner }
+        ensures copies { (sole : Bool) → result ≡ Touch.Copy sole → kind ≡ Kind.Write }
         ensures core { means.flat ≡ true → is_in_core result ≡ true };
 
     /// The word at an offset of the page of a place, which a touch to read or to execute finds Ready.
