@@ -29,8 +29,10 @@ fresh() {
 
 # ends NAME STATUS OUT RECORD WORD..: the program, in the folder made by fresh and with the standard input
 # of this call, ends with that status, and has written these bytes (as printf's %b writes them). A record -
-# is not looked at. Where memory is set, the program has so many kilobytes.
+# is not looked at. Standard error begins with the text of said, and is empty where that is. Where memory is
+# set, the program has so many kilobytes.
 memory=
+said=
 ends() {
     local name=$1 status=$2 out=$3 record=$4 found
     shift 4
@@ -44,7 +46,11 @@ ends() {
     [ "$found" -eq "$status" ] || fail "$name: status $found, wanted $status"
     printf '%b' "$out" >"$work/wanted"
     same "$name: standard output" "$work/wanted" "$work/out"
-    same "$name: standard error" /dev/null "$work/messages"
+    if [ -z "$said" ]; then
+        same "$name: standard error" /dev/null "$work/messages"
+    elif [ "$(head -c ${#said} "$work/messages")" != "$said" ]; then
+        fail "$name: standard error is not '$said ..' but '$(cat "$work/messages")'"
+    fi
     [ "$record" = - ] && return
     printf '%b' "$record" >"$work/wanted"
     same "$name: record" "$work/wanted" "$work/at/tenex.record"
@@ -55,7 +61,7 @@ bytes_of() {
     sed 's/\\/\\\\/g; s/$/\\n/' "$1" | tr -d '\n'
 }
 
-mkdir "$work/build" && (cd "$work/build" && "$top/tenex" run </dev/null >/dev/null) || fail "the first run"
+"$top/tenex" build || fail "the build"
 [ -x "$program" ] || exit 1
 
 examples=0
@@ -87,6 +93,7 @@ ends "refused events" 0 'T0 @\n?BUSY 0\n?NO JOB 3\nF 0 1 0 HALT PC 000000\n' 'LO
 
 fresh
 ends "sizes that are asked for" 0 '' 'E 0 0\n' run --drum=256 --frames 160 </dev/null
+said='usage: tenex run [--frames N] [--drum N]'
 fresh
 ends "too few frames" 1 '?USAGE\n' '' run --frames 159 </dev/null
 fresh
@@ -95,9 +102,12 @@ fresh
 ends "two hyphens alone" 1 '?USAGE\n' '' run -- </dev/null
 fresh
 ends "a word for help" 1 '?USAGE\n' '' run --help </dev/null
-
-fresh
-ends "no word" 1 '?USAGE\n' '' <"$top/examples/first.script"
+for words in '' help --help; do
+    fresh
+    echo 'of an earlier run' >"$work/at/tenex.record"
+    # shellcheck disable=SC2086 # no word, or one
+    ends "the words '$words'" 1 '?USAGE\n' 'of an earlier run\n' $words <"$top/examples/first.script"
+done
 fresh
 ends "one word too many" 1 '?USAGE\n' '' run run <"$top/examples/first.script"
 fresh
@@ -105,6 +115,7 @@ ends "another word" 1 '?USAGE\n' '' RUN <"$top/examples/first.script"
 fresh
 ends "a word that is no text" 1 '?USAGE\n' '' $'run\xff' <"$top/examples/first.script"
 
+said='tenex: a line of the script is bad; the transcript ends with its number'
 fresh
 printf '; nothing\n\nLOGIN 0 A\nTRACE ON\n' >"$work/script"
 ends "a line that is not acted on yet" 2 'T0 @\n?LINE 4\n' 'LOGIN 0 A\n' run <"$work/script"
@@ -115,11 +126,13 @@ fresh
 printf 'LOGIN 0 A\nRUN 2\nRUN 3' >"$work/script"
 ends "a last line without its end" 2 'T0 @\n?LINE 3\n' 'LOGIN 0 A\nI 2\n' run <"$work/script"
 
+said='tenex: there is no memory'
 fresh
 memory=40000
 ends "no memory" 4 '?MEMORY\n' '' run <"$top/examples/first.script"
 memory=
 
+said='tenex: standard input: '
 fresh
 ends "a script that can't be read" 5 '?READ\n' '' run <"$work/at"
 
@@ -127,10 +140,41 @@ fresh
 cases=$((cases + 1))
 (cd "$work/at" && exec "$program" run) <"$top/examples/first.script" >/dev/full 2>/dev/null
 [ $? -eq 6 ] || fail "a transcript that can't be written: another status than 6"
+said='tenex: tenex.record: '
 fresh
 ln -s /dev/full "$work/at/tenex.record"
 ends "a record that can't be written" 6 '' - run </dev/null
 
+# A transcript that nobody reads: the record is a front of that of the whole run.
+fresh
+cases=$((cases + 1))
+{ printf 'LOGIN 0 A\n' && yes 'EXAMINE 0 1 0' | head -n 100000; } >"$work/script"
+(cd "$work/at" && "$program" run) <"$work/script" >/dev/null && mv "$work/at/tenex.record" "$work/whole"
+(cd "$work/at" && { "$program" run 2>"$work/messages"; echo $? >"$work/status"; } | :) <"$work/script"
+[ "$(cat "$work/status")" = 6 ] || fail "a transcript that nobody reads: status $(cat "$work/status"), wanted 6"
+size=$(wc -c <"$work/at/tenex.record")
+[ "$size" -gt 0 ] && cmp -s -n "$size" "$work/whole" "$work/at/tenex.record" || fail "a transcript that nobody reads: the record of $size bytes is no front"
+grep -q '^tenex: standard output: ' "$work/messages" || fail "a transcript that nobody reads: '$(cat "$work/messages")'"
+
+# A person sees each answer before the next line is read: what was answered so far, and then one line more.
+fresh
+cases=$((cases + 1))
+coproc person { cd "$work/at" && exec "$program" run; }
+person_reads=${person[0]} person_writes=${person[1]}
+# answers TEXT BYTES: behind a line that is typed the program writes these bytes, before any other line.
+answers() {
+    local found
+    printf '%b' "$1" >&"$person_writes"
+    read -r -t 10 -d '' -N "$(printf '%b' "$2" | wc -c)" -u "$person_reads" found
+    [ "$found" = "$(printf '%b' "$2")" ] || fail "a person who types '$1' reads '$found'"
+}
+answers 'LOGIN 0 A\n' 'T0 @'
+answers '; a comment\nFORKS 0\n' '\nF 0 1 0 HALT PC 000000'
+answers 'START 3 100\n' '\n?NO JOB 3'
+exec {person_writes}>&-
+wait "$person_PID" || fail "a person who ends the script: status $?"
+
+said='tenex: the script has more than'
 fresh
 yes '; a comment' | head -c 16777217 >"$work/script"
 ends "comments that are too long" 7 '?LONG SCRIPT\n' '' run <"$work/script"
@@ -138,6 +182,7 @@ fresh
 yes 'RUN 1' | head -c 16777217 >"$work/script"
 ends "a script that is too long" 7 '?LONG SCRIPT\n' 'I 2796202\n' run <"$work/script"
 
+said='tenex: tenex.record: '
 fresh
 mkdir "$work/at/tenex.record"
 ends "a record that can't be made" 9 '?CANNOT OPEN\n' - run <"$top/examples/first.script"

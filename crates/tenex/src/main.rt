@@ -1,11 +1,14 @@
 //! The program: it hands its words, standard input, standard output, the file `tenex.record` and a drum
-//! to the console. To its user the exit status is how the run ended.
+//! to the console. To its user the exit status is how the run ended, and standard error says what helps.
 //! Stands on tenex_console.
 #![tactic(auto)]
 
+mod messages;
+
+use messages::{explain, explain_error, usage};
 use outside::{MOST_DRUM_PAGES, StdSink, StdSource, SureDrum};
 use std::fs::File;
-use std::io::{self, ErrorKind};
+use std::io::{self, BufWriter, ErrorKind};
 use std::process::ExitCode;
 use std::rt::Env;
 use std::{env, fs};
@@ -24,6 +27,15 @@ fn words<R: Env + AllocGlobal>(rt: &R) -> io::Result<Vec<String>> {
     Ok(env::args(rt)?.skip(1).collect(alloc)?)
 }
 
+/// Whether the words want no run, but the usage: there is none, or one that asks for help.
+fn ask_for_usage(words: &[String]) -> bool {
+    match words {
+        [] => true,
+        [word] => word.as_str() == "help" || word.as_str() == "--help",
+        _ => false,
+    }
+}
+
 /// Prints the one line of a run that did not begin, and answers its exit status.
 fn refused<R: Print>(rt: &R, line: &str, status: u8) -> u8 {
     match rt.println(line) {
@@ -32,37 +44,59 @@ fn refused<R: Print>(rt: &R, line: &str, status: u8) -> u8 {
     }
 }
 
+/// There is no memory, before the run or for its drum and its streams.
+fn no_memory(rt: &HostRuntime) -> u8 {
+    explain(rt, Status::Memory);
+    refused(rt, "?MEMORY", Status::Memory.number())
+}
+
+/// The words are wrong, or ask for the usage. Nothing is started, and no file is made.
+fn wrong_words(rt: &HostRuntime) -> u8 {
+    usage(rt);
+    refused(rt, "?USAGE", Status::Usage.number())
+}
+
 /// Runs the script on standard input with these words and this file for the record.
 fn run(rt: &HostRuntime, words: &[String], record: File) -> u8 {
     let alloc = rt.alloc();
     let Ok(mut drum) = SureDrum::new(alloc, MOST_DRUM_PAGES) else {
-        return refused(rt, "?MEMORY", Status::Memory.number());
+        return no_memory(rt);
+    };
+    let Ok(printer) = BufWriter::new(alloc, rt.stdout()) else {
+        return no_memory(rt);
+    };
+    let Ok(record) = BufWriter::new(alloc, record) else {
+        return no_memory(rt);
     };
     let mut script = StdSource::new(rt.stdin());
-    let mut out = StdSink::new(rt.stdout());
+    let mut out = StdSink::new(printer);
     let mut rec = StdSink::new(record);
-    tenex(
-        rt.alloc(),
-        words,
-        &mut script,
-        &mut out,
-        &mut rec,
-        &mut drum,
-    )
-    .number()
+    let status = tenex(alloc, words, &mut script, &mut out, &mut rec, &mut drum);
+    explain(rt, status);
+    explain_error(rt, "standard input", script.error());
+    explain_error(rt, "standard output", out.error());
+    explain_error(rt, RECORD, rec.error());
+    status.number()
+}
+
+/// Makes the file of the record anew, and runs.
+fn run_recorded(rt: &HostRuntime, words: &[String]) -> u8 {
+    match fs::create(rt, RECORD) {
+        Ok(record) => run(rt, words, record),
+        Err(error) => {
+            explain_error(rt, RECORD, Some(&error));
+            refused(rt, "?CANNOT OPEN", CANNOT_OPEN)
+        }
+    }
 }
 
 /// The exit status of the program.
 fn status(rt: &HostRuntime) -> u8 {
-    let Ok(record) = fs::create(rt, RECORD) else {
-        return refused(rt, "?CANNOT OPEN", CANNOT_OPEN);
-    };
     match words(rt) {
-        Ok(words) => run(rt, &words, record),
-        Err(error) if error.kind() == ErrorKind::OutOfMemory => {
-            refused(rt, "?MEMORY", Status::Memory.number())
-        }
-        Err(_) => refused(rt, "?USAGE", Status::Usage.number()),
+        Ok(words) if ask_for_usage(&words) => wrong_words(rt),
+        Ok(words) => run_recorded(rt, &words),
+        Err(error) if error.kind() == ErrorKind::OutOfMemory => no_memory(rt),
+        Err(_) => wrong_words(rt),
     }
 }
 
