@@ -1,6 +1,7 @@
 -- What a writer stands for.
 use Rattle.std.specs.Prelude.{◌≡◌, ◌⊎◌, ℕ, ◌<◌, ◌≤◌, List, ◌++◌, length, Option, None, Some}
 use Rattle.outside.specs.Faults.{Rose}
+use Rattle.outside.specs.Told.{Stays}
 use Rattle.plain_model.specs.declared.event.Item.{Item}
 use Rattle.plain_model.specs.declared.event.Step.{Step}
 use Rattle.plain_model.specs.Texts.{text_after, transcript, record_after}
@@ -18,6 +19,10 @@ pub record IsOnward {T R : Type 0} (out_faults : T → ℕ) (rec_faults : R → 
   pub rec_later : rec_faults first.rec.now ≤ rec_faults now.rec.now
   pub cause : first.faults < now.faults → Rose (out_faults first.out.now) (out_faults now.out.now) ⊎ Rose (rec_faults first.rec.now) (rec_faults now.rec.now)
 
+-- for each pair of lists of which this was so since a first writer, it still is
+pub record Keeps {T R : Type 0} (so : Writer T R → Writer T R → List Item → List Step → Type 0) (old new : Writer T R) : Type 0 where
+  pub each : (first : Writer T R) (is : List Item) (ss : List Step) → so first old is ss → so first new is ss
+
 module _ {T R : Type 0} (out_taken : T → Option (List ℕ)) (rec_taken : R → Option (List ℕ)) where
   -- since the first, its sinks took the texts of these lists, but for the line and the run that are open
   pub record Stands (first now : Writer T R) (is : List Item) (ss : List Step) : Type 0 where
@@ -29,6 +34,13 @@ module _ {T R : Type 0} (out_taken : T → Option (List ℕ)) (rec_taken : R →
   pub record IsCutWithin (first now : Writer T R) (is : List Item) (ss : List Step) : Type 0 where
     pub out : WrotePartly (out_taken first.out.now) (out_taken now.out.now) (transcript is)
     pub rec : WrotePartly (rec_taken first.rec.now) (rec_taken now.rec.now) (record_after None ss)
+
+  -- what its sinks took stays, and so do the line and the run that are open
+  pub record KeepsWritten (old new : Writer T R) : Type 0 where
+    pub out : Stays (out_taken old.out.now) (out_taken new.out.now)
+    pub rec : Stays (rec_taken old.rec.now) (rec_taken new.rec.now)
+    pub line : new.line ≡ old.line
+    pub run : new.run ≡ old.run
 
   module _ (last : Last) where
     -- since the first, its sinks took the texts of these lists, closed, with their last lines

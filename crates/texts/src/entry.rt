@@ -1,38 +1,57 @@
 // The entries of the record.
-ghost use Rattle.std.specs.Prelude.{◌≡◌, ◌≤◌, ◌++◌, OnOk, OnErr};
-ghost use Rattle.outside.specs.Faults.{Rose};
-ghost use Rattle.outside.specs.Told.{Grows};
+ghost use Rattle.std.specs.Prelude.{◌≡◌, ◌≤◌, ◌++◌, length};
 ghost use Rattle.plain_model.specs.Limits.{FitsEvent};
-ghost use Rattle.plain_model.specs.Texts.{ended, line_of, run_end};
+ghost use Rattle.plain_model.specs.Texts.{counts_line, ended, line_of, run_end};
 ghost use Rattle.texts.specs.Ends.{record_end};
 ghost use Rattle.texts.specs.Turns.{open_run};
-ghost use Rattle.texts.specs.Wrote.{GrowsPartly};
 
 use crate::Last;
-use crate::event_line::{put_counts, put_event};
-use crate::turns::{Turns, put_run};
-use outside::{Failed, Sink};
+use crate::line::Line;
+use crate::turns::{RUN_ROOM, Turns, run_line};
 use plain_model::Event;
+use script_lang::write_line;
 
-/// Closes the run that is open, and writes the line of an event.
-pub fn put_entry<S: Sink>(sink: &mut S, run: Option<Turns>, e: Event) -> Result<(), Failed>
-    requires { FitsEvent e }
-    ensures later { S.fault_count sink.old ≤ S.fault_count sink.new }
-    ensures cause { OnErr result (Rose (S.fault_count sink.old) (S.fault_count sink.new)) }
-    ensures ok { OnOk result (Grows (S.taken sink.old) (S.taken sink.new) (run_end (open_run run) ++ ended (line_of e))) }
-    ensures err { OnErr result (GrowsPartly (S.taken sink.old) (S.taken sink.new) (run_end (open_run run) ++ ended (line_of e))) }
+/// The line of the run that is open, and behind it the canonical line of an event.
+pub fn entry_line(run: Option<Turns>, e: &Event) -> Line
+    requires { FitsEvent e.now }
+    ensures { result ≡ run_end (open_run run) ++ ended (line_of e.now) }
 {
-    put_run(sink, run)?;
-    put_event(sink, e)
+    let mut line = run_line(run);
+    push_event(&mut line, e);
+    line
 }
 
-/// Closes the run that is open, and writes the last line of a record.
-pub fn put_record_end<S: Sink>(sink: &mut S, run: Option<Turns>, last: Last) -> Result<(), Failed>
-    ensures later { S.fault_count sink.old ≤ S.fault_count sink.new }
-    ensures cause { OnErr result (Rose (S.fault_count sink.old) (S.fault_count sink.new)) }
-    ensures ok { OnOk result (Grows (S.taken sink.old) (S.taken sink.new) (run_end (open_run run) ++ record_end last)) }
-    ensures err { OnErr result (GrowsPartly (S.taken sink.old) (S.taken sink.new) (run_end (open_run run) ++ record_end last)) }
+/// The line of the run that is open, and behind it the last line of a record.
+pub fn record_end(run: Option<Turns>, last: Last) -> Line
+    ensures { result ≡ run_end (open_run run) ++ record_end last }
 {
-    put_run(sink, run)?;
-    put_counts(sink, last)
+    let mut line = run_line(run);
+    if let Last::Done { reads, writes } = last {
+        push_counts(&mut line, reads, writes);
+    }
+    line
+}
+
+// Puts the canonical line of an event behind a line.
+fn push_event(line: &mut Line, e: &Event)
+    requires fits { FitsEvent e.now }
+    requires room { length line.old ≤ RUN_ROOM }
+    ensures { line.new ≡ line.old ++ ended (line_of e.now) }
+{
+    let mut room = [0; 256];
+    let length = write_line(e, &mut room);
+    line.push(&room[..length]);
+    line.push(b"\n");
+}
+
+// Puts how often the drum was read and written in a run that is done behind a line.
+fn push_counts(line: &mut Line, reads: u64, writes: u64)
+    requires { length line.old ≤ RUN_ROOM }
+    ensures { line.new ≡ line.old ++ counts_line reads writes }
+{
+    line.push(b"E ");
+    line.push_decimal(reads);
+    line.push(b" ");
+    line.push_decimal(writes);
+    line.push(b"\n");
 }

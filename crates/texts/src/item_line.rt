@@ -1,37 +1,32 @@
 // The lines of the transcript.
-ghost use Rattle.std.specs.Prelude.{◌≡◌, ◌≤◌, ◌++◌, decimal, OnOk, OnErr};
-ghost use Rattle.outside.specs.Faults.{Rose};
-ghost use Rattle.outside.specs.Told.{Grows};
-ghost use Rattle.plain_model.specs.Texts.{item_text, item_open, line_end, line_start, escaped, char_end, char_open, ended, fork_text, cause_text, wait_text, status_text, frozen_text, shown_line};
+ghost use Rattle.std.specs.Prelude.{◌≡◌, ◌≤◌, ◌+◌, ◌++◌, length, decimal};
+ghost use Rattle.plain_model.specs.Limits.{FitsItem, FitsCause, IsFileName};
+ghost use Rattle.plain_model.specs.Texts.{item_text, item_open, line_end, line_start, escaped, char_end, ended, fork_text, cause_text, wait_text, status_text, frozen_text, shown_line};
 ghost use Rattle.plain_model.specs.declared.event.Item.TheVariants.{Examined as AnExamined, PageLine as APageLine, PageWord as APageWord, UnitLine as AUnitLine};
-ghost use Rattle.texts.specs.Ends.{closing_line, end_line};
-ghost use Rattle.texts.specs.Wrote.{GrowsPartly};
 
-use crate::put::{put, put_line, put_pieces};
-use crate::{Last, Status};
-use outside::{Failed, Sink};
-use plain_model::{FileName, ForkLine, ForkName, ForkStatus, Item, Refusal, Text, Tty, WaitOn};
-use script_lang::digits::{decimal, escaped, octal, octal_padded};
+use crate::line::{ADDRESS_DIGITS, Line, WORD_DIGITS};
+use plain_model::{FileName, ForkLine, ForkName, ForkStatus, Item, Refusal, Tty, WaitOn};
+use script_lang::digits::{escaped, octal};
 use word36::Word;
 
-/// Writes an item behind the line that is open, of whose terminal this is the number.
-pub fn put_item<S: Sink>(sink: &mut S, line: Option<u8>, i: Item) -> Result<(), Failed>
-    ensures later { S.fault_count sink.old ≤ S.fault_count sink.new }
-    ensures cause { OnErr result (Rose (S.fault_count sink.old) (S.fault_count sink.new)) }
-    ensures ok { OnOk result (Grows (S.taken sink.old) (S.taken sink.new) (item_text line i)) }
-    ensures err { OnErr result (GrowsPartly (S.taken sink.old) (S.taken sink.new) (item_text line i)) }
+/// How many octal digits the offset of a word in its page is written with.
+const OFFSET_DIGITS: usize = 3;
+
+/// The bytes of an item behind the line before, which is open where it is a terminal's of this number.
+pub fn item_line(before: Option<u8>, i: &Item) -> Line
+    requires { FitsItem i.now }
+    ensures { result ≡ item_text before i.now }
 {
-    let end = line_end(line);
     match i {
-        Item::Char(t, c) => put_char(sink, line, t, c),
-        Item::ForkLine(fork) => put_fork(sink, end, fork),
+        Item::Char(t, c) => char_line(before, *t, *c),
+        Item::ForkLine(fork) => fork_line(before, fork),
         Item::Examined(t, serial, address, word) => {
-            put_examined(sink, end, t, serial, address, word)
+            examined_line(before, *t, *serial, *address, *word)
         }
-        Item::PageLine(name, page) => put_page(sink, end, &name, page),
-        Item::PageWord(offset, word) => put_page_word(sink, end, offset, word),
-        Item::UnitLine(f, address) => put_unit(sink, end, f, address),
-        Item::Refusal(cause) => put_refusal(sink, end, cause),
+        Item::PageLine(name, page) => page_line(before, name, *page),
+        Item::PageWord(offset, word) => page_word_line(before, *offset, *word),
+        Item::UnitLine(f, address) => unit_line(before, *f, *address),
+        Item::Refusal(cause) => refusal_line(before, cause),
     }
 }
 
@@ -46,296 +41,193 @@ pub fn open_line(i: &Item) -> Option<u8>
     }
 }
 
-/// Closes the line that is open, and writes the last one.
-pub fn put_end<S: Sink>(sink: &mut S, line: Option<u8>, last: Last) -> Result<(), Failed>
-    ensures later { S.fault_count sink.old ≤ S.fault_count sink.new }
-    ensures cause { OnErr result (Rose (S.fault_count sink.old) (S.fault_count sink.new)) }
-    ensures ok { OnOk result (Grows (S.taken sink.old) (S.taken sink.new) (line_end line ++ end_line last)) }
-    ensures err { OnErr result (GrowsPartly (S.taken sink.old) (S.taken sink.new) (line_end line ++ end_line last)) }
+// A character of a terminal.
+fn char_line(before: Option<u8>, t: Tty, c: u8) -> Line
+    ensures { result ≡ line_start before t.0 ++ (escaped c ++ char_end c) }
 {
-    let end = line_end(line);
-    match last {
-        Last::Done { .. } => put(sink, end),
-        Last::Stopped(status, n) => put_closing(sink, end, status, n),
-    }
+    let mut line = line_start(before, t);
+    line.push(escaped(c).as_slice());
+    line.push(char_end(c));
+    line
 }
 
-// What ends the line that is open.
-fn line_end(line: Option<u8>) -> &'static [u8]
-    ensures { result.now ≡ line_end line }
+// What stands before a character of a terminal: nothing where its line is open.
+fn line_start(before: Option<u8>, t: Tty) -> Line
+    ensures bytes { result ≡ line_start before t.0 }
+    ensures short { length result ≤ 23 }
 {
-    match line {
-        None => b"",
-        Some(_) => b"\n",
+    if before == Some(t.0) {
+        return Line::new();
     }
-}
-
-// Writes a character of a terminal.
-fn put_char<S: Sink>(sink: &mut S, line: Option<u8>, t: Tty, c: u8) -> Result<(), Failed>
-    ensures later { S.fault_count sink.old ≤ S.fault_count sink.new }
-    ensures cause { OnErr result (Rose (S.fault_count sink.old) (S.fault_count sink.new)) }
-    ensures ok { OnOk result (Grows (S.taken sink.old) (S.taken sink.new) (line_start line t.0 ++ (escaped c ++ char_end c))) }
-    ensures err { OnErr result (GrowsPartly (S.taken sink.old) (S.taken sink.new) (line_start line t.0 ++ (escaped c ++ char_end c))) }
-{
-    let text = escaped(c);
-    put_typed(sink, line, t, text.as_slice(), char_end(c))
-}
-
-// Writes the text of a character of a terminal, and what ends its line.
-fn put_typed<S: Sink>(
-    sink: &mut S,
-    line: Option<u8>,
-    t: Tty,
-    text: &[u8],
-    end: &[u8],
-) -> Result<(), Failed>
-    ensures later { S.fault_count sink.old ≤ S.fault_count sink.new }
-    ensures cause { OnErr result (Rose (S.fault_count sink.old) (S.fault_count sink.new)) }
-    ensures ok { OnOk result (Grows (S.taken sink.old) (S.taken sink.new) (line_start line t.0 ++ (text.now ++ end.now))) }
-    ensures err { OnErr result (GrowsPartly (S.taken sink.old) (S.taken sink.new) (line_start line t.0 ++ (text.now ++ end.now))) }
-{
-    match line {
-        None => {
-            let terminal = decimal(u64::from(t.0));
-            put_pieces(sink, &[b"T", terminal.as_slice(), b" ", text, end])
-        }
-        Some(s) => {
-            if s == t.0 {
-                put_pieces(sink, &[text, end])
-            } else {
-                let terminal = decimal(u64::from(t.0));
-                put_pieces(sink, &[b"\nT", terminal.as_slice(), b" ", text, end])
-            }
-        }
-    }
+    let mut line = Line::behind(before);
+    line.push(b"T");
+    line.push_decimal(u64::from(t.0));
+    line.push(b" ");
+    line
 }
 
 // What stands behind a character: a line feed ends its line.
 fn char_end(c: u8) -> &'static [u8]
-    ensures { result.now ≡ char_end c }
+    ensures bytes { result.now ≡ char_end c }
+    ensures short { length result.now ≤ 1 }
 {
     if c == b'\n' { b"\n" } else { b"" }
 }
 
-// Writes the line of a fork.
-fn put_fork<S: Sink>(sink: &mut S, end: &[u8], fork: ForkLine) -> Result<(), Failed>
-    ensures later { S.fault_count sink.old ≤ S.fault_count sink.new }
-    ensures cause { OnErr result (Rose (S.fault_count sink.old) (S.fault_count sink.new)) }
-    ensures ok { OnOk result (Grows (S.taken sink.old) (S.taken sink.new) (end.now ++ ended (fork_text fork))) }
-    ensures err { OnErr result (GrowsPartly (S.taken sink.old) (S.taken sink.new) (end.now ++ ended (fork_text fork))) }
+// The line of a fork.
+fn fork_line(before: Option<u8>, fork: &ForkLine) -> Line
+    ensures { result ≡ line_end before ++ ended (fork_text fork.now) }
 {
-    let t = decimal(u64::from(fork.name.tty.0));
-    let serial = decimal(u64::from(fork.name.serial));
-    let superior = decimal(u64::from(fork.superior));
-    let (status, channel) = status_pieces(fork.status);
-    let frozen = frozen_text(fork.frozen);
-    let address = octal_padded(6, u64::from(fork.address));
-    put_line(
-        sink,
-        end,
-        &[
-            b"F ",
-            t.as_slice(),
-            b" ",
-            serial.as_slice(),
-            b" ",
-            superior.as_slice(),
-            b" ",
-            status.as_slice(),
-            channel.as_slice(),
-            frozen.as_slice(),
-            b" PC ",
-            address.as_slice(),
-        ],
-    )
+    let mut line = Line::behind(before);
+    line.push(b"F ");
+    line.push_name(fork.name);
+    line.push(b" ");
+    line.push_decimal(u64::from(fork.superior));
+    line.push(b" ");
+    push_status(&mut line, fork.status);
+    line.push(frozen_text(fork.frozen));
+    line.push(b" PC ");
+    line.push_octal(ADDRESS_DIGITS, u64::from(fork.address));
+    line.push(b"\n");
+    line
 }
 
-// How a fork stands: words, and behind them the channel that stopped it.
-fn status_pieces(status: ForkStatus) -> (Text<7>, Text<20>)
-    ensures { result.0 ++ result.1 ≡ status_text status }
+// Puts how a fork stands behind a line.
+fn push_status(line: &mut Line, status: ForkStatus)
+    requires { length line.old ≤ 100 }
+    ensures bytes { line.new ≡ line.old ++ status_text status }
+    ensures short { length line.new ≤ length line.old + 27 }
 {
     match status {
-        ForkStatus::Run => (Text::new(b"RUN"), Text::new(b"")),
-        ForkStatus::Wait(on) => (wait_text(on), Text::new(b"")),
-        ForkStatus::Halted => (Text::new(b"HALT"), Text::new(b"")),
-        ForkStatus::Forced(channel) => (Text::new(b"FORCED "), decimal(u64::from(channel))),
+        ForkStatus::Run => line.push(b"RUN"),
+        ForkStatus::Wait(on) => line.push(wait_text(on)),
+        ForkStatus::Halted => line.push(b"HALT"),
+        ForkStatus::Forced(channel) => {
+            line.push(b"FORCED ");
+            line.push_decimal(u64::from(channel));
+        }
     }
 }
 
 // What a fork waits for.
-fn wait_text(on: WaitOn) -> Text<7>
-    ensures { result ≡ wait_text on }
+fn wait_text(on: WaitOn) -> &'static [u8]
+    ensures bytes { result.now ≡ wait_text on }
+    ensures short { length result.now ≤ 5 }
 {
     match on {
-        WaitOn::Input => Text::new(b"INPUT"),
-        WaitOn::Fork => Text::new(b"FORK"),
-        WaitOn::Sleep(_) => Text::new(b"SLEEP"),
+        WaitOn::Input => b"INPUT",
+        WaitOn::Fork => b"FORK",
+        WaitOn::Sleep(_) => b"SLEEP",
     }
 }
 
 // What stands behind the status of a fork.
-fn frozen_text(frozen: bool) -> Text<7>
-    ensures { result ≡ frozen_text frozen }
+fn frozen_text(frozen: bool) -> &'static [u8]
+    ensures bytes { result.now ≡ frozen_text frozen }
+    ensures short { length result.now ≤ 7 }
 {
-    if frozen {
-        Text::new(b" FROZEN")
-    } else {
-        Text::new(b"")
-    }
+    if frozen { b" FROZEN" } else { b"" }
 }
 
-// Writes the line of a word that is examined.
-fn put_examined<S: Sink>(
-    sink: &mut S,
-    end: &[u8],
-    t: Tty,
-    serial: u32,
-    address: u32,
-    word: Word,
-) -> Result<(), Failed>
-    ensures later { S.fault_count sink.old ≤ S.fault_count sink.new }
-    ensures cause { OnErr result (Rose (S.fault_count sink.old) (S.fault_count sink.new)) }
-    ensures ok { OnOk result (Grows (S.taken sink.old) (S.taken sink.new) (end.now ++ ended (shown_line (AnExamined t serial address word)))) }
-    ensures err { OnErr result (GrowsPartly (S.taken sink.old) (S.taken sink.new) (end.now ++ ended (shown_line (AnExamined t serial address word)))) }
+// The line of a word that is examined.
+fn examined_line(before: Option<u8>, t: Tty, serial: u32, address: u32, word: Word) -> Line
+    ensures { result ≡ line_end before ++ ended (shown_line (AnExamined t serial address word)) }
 {
-    let t = decimal(u64::from(t.0));
-    let serial = decimal(u64::from(serial));
-    let address = octal_padded(6, u64::from(address));
-    let word = octal_padded(12, word.value());
-    put_line(
-        sink,
-        end,
-        &[
-            b"X ",
-            t.as_slice(),
-            b" ",
-            serial.as_slice(),
-            b" ",
-            address.as_slice(),
-            b" ",
-            word.as_slice(),
-        ],
-    )
+    let mut line = Line::behind(before);
+    line.push(b"X ");
+    line.push_decimal(u64::from(t.0));
+    line.push(b" ");
+    line.push_decimal(u64::from(serial));
+    line.push(b" ");
+    line.push_octal(ADDRESS_DIGITS, u64::from(address));
+    line.push(b" ");
+    line.push_octal(WORD_DIGITS, word.value());
+    line.push(b"\n");
+    line
 }
 
-// Writes the line of a file's page.
-fn put_page<S: Sink>(sink: &mut S, end: &[u8], name: &FileName, page: u16) -> Result<(), Failed>
-    ensures later { S.fault_count sink.old ≤ S.fault_count sink.new }
-    ensures cause { OnErr result (Rose (S.fault_count sink.old) (S.fault_count sink.new)) }
-    ensures ok { OnOk result (Grows (S.taken sink.old) (S.taken sink.new) (end.now ++ ended (shown_line (APageLine name.now page)))) }
-    ensures err { OnErr result (GrowsPartly (S.taken sink.old) (S.taken sink.new) (end.now ++ ended (shown_line (APageLine name.now page)))) }
+// The line of a file's page.
+fn page_line(before: Option<u8>, name: &FileName, page: u16) -> Line
+    requires { length name.now ≤ 39 }
+    ensures { result ≡ line_end before ++ ended (shown_line (APageLine name.now page)) }
 {
-    let page = octal(u64::from(page));
-    put_line(sink, end, &[b"P ", name.as_slice(), b" ", page.as_slice()])
+    let mut line = Line::behind(before);
+    line.push(b"P ");
+    line.push(name.as_slice());
+    line.push(b" ");
+    line.push(octal(u64::from(page)).as_slice());
+    line.push(b"\n");
+    line
 }
 
-// Writes the line of a word of a file's page.
-fn put_page_word<S: Sink>(sink: &mut S, end: &[u8], offset: u16, word: Word) -> Result<(), Failed>
-    ensures later { S.fault_count sink.old ≤ S.fault_count sink.new }
-    ensures cause { OnErr result (Rose (S.fault_count sink.old) (S.fault_count sink.new)) }
-    ensures ok { OnOk result (Grows (S.taken sink.old) (S.taken sink.new) (end.now ++ ended (shown_line (APageWord offset word)))) }
-    ensures err { OnErr result (GrowsPartly (S.taken sink.old) (S.taken sink.new) (end.now ++ ended (shown_line (APageWord offset word)))) }
+// The line of a word of a file's page.
+fn page_word_line(before: Option<u8>, offset: u16, word: Word) -> Line
+    ensures { result ≡ line_end before ++ ended (shown_line (APageWord offset word)) }
 {
-    let offset = octal_padded(3, u64::from(offset));
-    let word = octal_padded(12, word.value());
-    put_line(
-        sink,
-        end,
-        &[b"W ", offset.as_slice(), b" ", word.as_slice()],
-    )
+    let mut line = Line::behind(before);
+    line.push(b"W ");
+    line.push_octal(OFFSET_DIGITS, u64::from(offset));
+    line.push(b" ");
+    line.push_octal(WORD_DIGITS, word.value());
+    line.push(b"\n");
+    line
 }
 
-// Writes the line of a unit.
-fn put_unit<S: Sink>(sink: &mut S, end: &[u8], f: ForkName, address: u32) -> Result<(), Failed>
-    ensures later { S.fault_count sink.old ≤ S.fault_count sink.new }
-    ensures cause { OnErr result (Rose (S.fault_count sink.old) (S.fault_count sink.new)) }
-    ensures ok { OnOk result (Grows (S.taken sink.old) (S.taken sink.new) (end.now ++ ended (shown_line (AUnitLine f address)))) }
-    ensures err { OnErr result (GrowsPartly (S.taken sink.old) (S.taken sink.new) (end.now ++ ended (shown_line (AUnitLine f address)))) }
+// The line of a unit.
+fn unit_line(before: Option<u8>, f: ForkName, address: u32) -> Line
+    ensures { result ≡ line_end before ++ ended (shown_line (AUnitLine f address)) }
 {
-    let t = decimal(u64::from(f.tty.0));
-    let serial = decimal(u64::from(f.serial));
-    let address = octal_padded(6, u64::from(address));
-    put_line(
-        sink,
-        end,
-        &[
-            b"U ",
-            t.as_slice(),
-            b" ",
-            serial.as_slice(),
-            b" ",
-            address.as_slice(),
-        ],
-    )
+    let mut line = Line::behind(before);
+    line.push(b"U ");
+    line.push_name(f);
+    line.push(b" ");
+    line.push_octal(ADDRESS_DIGITS, u64::from(address));
+    line.push(b"\n");
+    line
 }
 
-// Writes the line of a refusal.
-fn put_refusal<S: Sink>(sink: &mut S, end: &[u8], cause: Refusal) -> Result<(), Failed>
-    ensures later { S.fault_count sink.old ≤ S.fault_count sink.new }
-    ensures cause { OnErr result (Rose (S.fault_count sink.old) (S.fault_count sink.new)) }
-    ensures ok { OnOk result (Grows (S.taken sink.old) (S.taken sink.new) (end.now ++ ended (cause_text cause))) }
-    ensures err { OnErr result (GrowsPartly (S.taken sink.old) (S.taken sink.new) (end.now ++ ended (cause_text cause))) }
+// The line of a refusal.
+fn refusal_line(before: Option<u8>, cause: &Refusal) -> Line
+    requires { FitsCause cause.now }
+    ensures { result ≡ line_end before ++ ended (cause_text cause.now) }
 {
     match cause {
-        Refusal::Busy(t) => put_at_terminal(sink, end, b"?BUSY ", t),
-        Refusal::NoJob(t) => put_at_terminal(sink, end, b"?NO JOB ", t),
-        Refusal::SerialsOut(t) => put_at_terminal(sink, end, b"?SERIALS OUT ", t),
-        Refusal::Full(t) => put_at_terminal(sink, end, b"?FULL ", t),
-        Refusal::Denied(t) => put_at_terminal(sink, end, b"?DENIED ", t),
-        Refusal::NoFork(t) => put_at_terminal(sink, end, b"?NO FORK ", t),
-        Refusal::NoPage(t) => put_at_terminal(sink, end, b"?NO PAGE ", t),
-        Refusal::Exists(name) => put_of_file(sink, end, b"?EXISTS ", &name),
-        Refusal::FilesFull(name) => put_of_file(sink, end, b"?FILES FULL ", &name),
-        Refusal::NoFile(name) => put_of_file(sink, end, b"?NO FILE ", &name),
-        Refusal::FileFull(name) => put_of_file(sink, end, b"?FULL ", &name),
-        Refusal::NoFilePage(name) => put_of_file(sink, end, b"?NO PAGE ", &name),
+        Refusal::Busy(t) => terminal_line(before, b"?BUSY ", *t),
+        Refusal::NoJob(t) => terminal_line(before, b"?NO JOB ", *t),
+        Refusal::SerialsOut(t) => terminal_line(before, b"?SERIALS OUT ", *t),
+        Refusal::Full(t) => terminal_line(before, b"?FULL ", *t),
+        Refusal::Denied(t) => terminal_line(before, b"?DENIED ", *t),
+        Refusal::NoFork(t) => terminal_line(before, b"?NO FORK ", *t),
+        Refusal::NoPage(t) => terminal_line(before, b"?NO PAGE ", *t),
+        Refusal::Exists(name) => file_line(before, b"?EXISTS ", name),
+        Refusal::FilesFull(name) => file_line(before, b"?FILES FULL ", name),
+        Refusal::NoFile(name) => file_line(before, b"?NO FILE ", name),
+        Refusal::FileFull(name) => file_line(before, b"?FULL ", name),
+        Refusal::NoFilePage(name) => file_line(before, b"?NO PAGE ", name),
     }
 }
 
-// Writes words and the number of a terminal as a line.
-fn put_at_terminal<S: Sink>(sink: &mut S, end: &[u8], words: &[u8], t: Tty) -> Result<(), Failed>
-    ensures later { S.fault_count sink.old ≤ S.fault_count sink.new }
-    ensures cause { OnErr result (Rose (S.fault_count sink.old) (S.fault_count sink.new)) }
-    ensures ok { OnOk result (Grows (S.taken sink.old) (S.taken sink.new) (end.now ++ ended (words.now ++ decimal t.0))) }
-    ensures err { OnErr result (GrowsPartly (S.taken sink.old) (S.taken sink.new) (end.now ++ ended (words.now ++ decimal t.0))) }
+// Words and the number of a terminal as a line.
+fn terminal_line(before: Option<u8>, words: &[u8], t: Tty) -> Line
+    requires { length words.now ≤ 20 }
+    ensures { result ≡ line_end before ++ ended (words.now ++ decimal t.0) }
 {
-    let t = decimal(u64::from(t.0));
-    put_pieces(sink, &[end, words, t.as_slice(), b"\n"])
+    let mut line = Line::behind(before);
+    line.push(words);
+    line.push_decimal(u64::from(t.0));
+    line.push(b"\n");
+    line
 }
 
-// Writes words and the name of a file as a line.
-fn put_of_file<S: Sink>(
-    sink: &mut S,
-    end: &[u8],
-    words: &[u8],
-    name: &FileName,
-) -> Result<(), Failed>
-    ensures later { S.fault_count sink.old ≤ S.fault_count sink.new }
-    ensures cause { OnErr result (Rose (S.fault_count sink.old) (S.fault_count sink.new)) }
-    ensures ok { OnOk result (Grows (S.taken sink.old) (S.taken sink.new) (end.now ++ ended (words.now ++ name.now))) }
-    ensures err { OnErr result (GrowsPartly (S.taken sink.old) (S.taken sink.new) (end.now ++ ended (words.now ++ name.now))) }
+// Words and the name of a file as a line.
+fn file_line(before: Option<u8>, words: &[u8], name: &FileName) -> Line
+    requires words { length words.now ≤ 20 }
+    requires name { IsFileName name.now }
+    ensures { result ≡ line_end before ++ ended (words.now ++ name.now) }
 {
-    put_pieces(sink, &[end, words, name.as_slice(), b"\n"])
-}
-
-// Writes the line that tells how a run stopped.
-fn put_closing<S: Sink>(sink: &mut S, end: &[u8], status: Status, n: u64) -> Result<(), Failed>
-    ensures later { S.fault_count sink.old ≤ S.fault_count sink.new }
-    ensures cause { OnErr result (Rose (S.fault_count sink.old) (S.fault_count sink.new)) }
-    ensures ok { OnOk result (Grows (S.taken sink.old) (S.taken sink.new) (end.now ++ closing_line status n)) }
-    ensures err { OnErr result (GrowsPartly (S.taken sink.old) (S.taken sink.new) (end.now ++ closing_line status n)) }
-{
-    match status {
-        Status::Done => put(sink, end),
-        Status::Usage => put_pieces(sink, &[end, b"?USAGE\n"]),
-        Status::Script => {
-            let n = decimal(n);
-            put_pieces(sink, &[end, b"?LINE ", n.as_slice(), b"\n"])
-        }
-        Status::DrumFault => put_pieces(sink, &[end, b"?DRUM\n"]),
-        Status::Memory => put_pieces(sink, &[end, b"?MEMORY\n"]),
-        Status::ReadFault => put_pieces(sink, &[end, b"?READ\n"]),
-        Status::WriteFault => put(sink, end),
-        Status::LongScript => put_pieces(sink, &[end, b"?LONG SCRIPT\n"]),
-    }
+    let mut line = Line::behind(before);
+    line.push(words);
+    line.push(name.as_slice());
+    line.push(b"\n");
+    line
 }

@@ -3,11 +3,12 @@
 //! Stands on `plain_model` for both texts' definitions, on `outside` for sinks, on `script_lang` for canonical lines and digits.
 #![tactic(auto)]
 
+mod end_line;
 mod entry;
-mod event_line;
 mod item_line;
 mod last;
 pub mod laws;
+mod line;
 mod put;
 mod turns;
 mod writer;

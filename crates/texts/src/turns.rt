@@ -1,15 +1,14 @@
 // Runs of equal turns: of units of one fork, or of idle entries.
-ghost use Rattle.std.specs.Prelude.{◌≡◌, ◌≤◌, OnOk, OnErr};
-ghost use Rattle.outside.specs.Faults.{Rose};
-ghost use Rattle.outside.specs.Told.{Grows};
+ghost use Rattle.std.specs.Prelude.{◌≡◌, ◌≤◌, length};
 ghost use Rattle.plain_model.specs.Texts.{same_turn, run_end, run_line};
 ghost use Rattle.texts.specs.Turns.{step_of, open_run};
-ghost use Rattle.texts.specs.Wrote.{GrowsPartly};
 
-use crate::put::{put, put_pieces};
-use outside::{Failed, Sink};
+use crate::line::Line;
 use plain_model::ForkName;
-use script_lang::digits::decimal;
+
+/// How many bytes the line of a run has at most: two letters, three numbers with two spaces between them, and
+/// the line feed.
+pub const RUN_ROOM: usize = 65;
 
 /// An entry of a RUN line: one unit of a fork, or an idle entry.
 #[derive(Clone, Copy, Debug, PartialEq, Eq)]
@@ -38,44 +37,32 @@ pub fn is_same_turn(x: Turn, y: Turn) -> bool
     }
 }
 
-/// Writes the line of the run that is open, if there is one.
-pub fn put_run<S: Sink>(sink: &mut S, run: Option<Turns>) -> Result<(), Failed>
-    ensures later { S.fault_count sink.old ≤ S.fault_count sink.new }
-    ensures cause { OnErr result (Rose (S.fault_count sink.old) (S.fault_count sink.new)) }
-    ensures ok { OnOk result (Grows (S.taken sink.old) (S.taken sink.new) (run_end (open_run run))) }
-    ensures err { OnErr result (GrowsPartly (S.taken sink.old) (S.taken sink.new) (run_end (open_run run))) }
+/// The line of the run that is open, or no bytes where none is.
+pub fn run_line(run: Option<Turns>) -> Line
+    ensures bytes { result ≡ run_end (open_run run) }
+    ensures short { length result ≤ RUN_ROOM }
 {
     match run {
-        None => put(sink, b""),
-        Some(turns) => put_turns(sink, turns.turn, turns.count),
+        None => Line::new(),
+        Some(turns) => turns_line(turns.turn, turns.count),
     }
 }
 
-// Writes the line of so many equal turns.
-fn put_turns<S: Sink>(sink: &mut S, turn: Turn, count: u64) -> Result<(), Failed>
-    ensures later { S.fault_count sink.old ≤ S.fault_count sink.new }
-    ensures cause { OnErr result (Rose (S.fault_count sink.old) (S.fault_count sink.new)) }
-    ensures ok { OnOk result (Grows (S.taken sink.old) (S.taken sink.new) (run_line (step_of turn) count)) }
-    ensures err { OnErr result (GrowsPartly (S.taken sink.old) (S.taken sink.new) (run_line (step_of turn) count)) }
+// The line of so many equal turns.
+fn turns_line(turn: Turn, count: u64) -> Line
+    ensures bytes { result ≡ run_line (step_of turn) count }
+    ensures short { length result ≤ RUN_ROOM }
 {
-    let count = decimal(count);
+    let mut line = Line::new();
     match turn {
         Turn::Unit(f) => {
-            let tty = decimal(u64::from(f.tty.0));
-            let serial = decimal(u64::from(f.serial));
-            put_pieces(
-                sink,
-                &[
-                    b"U ",
-                    tty.as_slice(),
-                    b" ",
-                    serial.as_slice(),
-                    b" ",
-                    count.as_slice(),
-                    b"\n",
-                ],
-            )
+            line.push(b"U ");
+            line.push_name(f);
+            line.push(b" ");
         }
-        Turn::Idle => put_pieces(sink, &[b"I ", count.as_slice(), b"\n"]),
+        Turn::Idle => line.push(b"I "),
     }
+    line.push_decimal(count);
+    line.push(b"\n");
+    line
 }

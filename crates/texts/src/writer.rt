@@ -1,19 +1,21 @@
 // A taker that writes both texts.
-ghost use Rattle.std.specs.Prelude.{◌≡◌, ◌≤◌, ◌<◌, None, Some, [], ◌∷◌, OnOk, OnErr};
-ghost use Rattle.outside.specs.Faults.{Rose};
+ghost use Rattle.std.specs.Prelude.{◌≡◌, ◌≤◌, ◌<◌, None, Some, [], ◌∷◌, replicate, OnOk, OnErr};
+ghost use Rattle.outside.specs.Faults.{CountsUp, Rose};
 ghost use Rattle.plain_model.specs.Taker.{GoesOn, IsCut, StaysOnward};
 ghost use Rattle.texts.specs.Turns.{step_of, open_run};
 
 use crate::Last;
-use crate::entry::{put_entry, put_record_end};
-use crate::item_line::{open_line, put_end, put_item};
-use crate::turns::{Turn, Turns, is_same_turn, put_run};
+use crate::end_line::end_line;
+use crate::entry::{entry_line, record_end};
+use crate::item_line::{item_line, open_line};
+use crate::put::put;
+use crate::turns::{Turn, Turns, is_same_turn, run_line};
 use outside::{Failed, Sink};
 use plain_model::{Event, Item, Step, Taker};
 
 /// Writes the transcript of the items to one sink and the record of the steps to another, each as it comes.
 /// It holds back the line feed behind the characters of one terminal, and the line of a run of equal turns,
-/// until what comes next shows that they are complete.
+/// until what comes next shows that they are complete. Each line is given to its sink whole.
 #[derive(Drop)]
 pub struct Writer<'a, T: Sink, R: Sink> {
     out: &'a mut T,
@@ -25,9 +27,10 @@ pub struct Writer<'a, T: Sink, R: Sink> {
 
 impl<'a, T: Sink, R: Sink> Writer<'a, T, R> {
     ghost use Rattle.plain_model.specs.declared.event.Step.TheVariants.{Outer as AnOuter};
+    ghost use Rattle.texts.specs.declared.last.Last.{Last as ALast};
     ghost use Rattle.plain_model.specs.Limits.{FitsEvent};
     ghost use Rattle.plain_model.specs.Texts.{step_text, step_run, run_end};
-    ghost use Rattle.texts.specs.Writer.{IsOnward, Stands, IsCutWithin, Finishes, FailsAtEnd};
+    ghost use Rattle.texts.specs.Writer.{IsOnward, Stands, IsCutWithin, IsCutAtEnd, Finishes, FailsAtEnd, Keeps, KeepsWritten};
 
     /// A writer that has written nothing, of the transcript to `out` and of the record to `rec`.
     pub fn new(out: &'a mut T, rec: &'a mut R) -> Self
@@ -48,8 +51,9 @@ impl<'a, T: Sink, R: Sink> Writer<'a, T, R> {
         }
     }
 
-    /// Closes both texts: the line and the run that are open, and the last lines. Fails only where the count
-    /// of faults rises, and then each sink has a front of its closed text.
+    /// Closes both texts: the line and the run that are open, and the last lines; and then hands on what the
+    /// sinks keep. Fails only where the count of faults rises, and then each sink has a front of its closed text,
+    /// which may be the whole.
     pub fn finish(&mut self, last: Last) -> Result<(), Failed>
         ensures later { self.old.faults ≤ self.new.faults }
         ensures cause { OnErr result (Rose self.old.faults self.new.faults) }
@@ -57,19 +61,35 @@ impl<'a, T: Sink, R: Sink> Writer<'a, T, R> {
         ensures ok { OnOk result (Finishes T.taken R.taken last self.old self.new) }
         ensures err { OnErr result (FailsAtEnd T.taken R.taken last self.old self.new) }
     {
-        match put_end(&mut *self.out, self.line, last) {
-            Ok(()) => match put_record_end(&mut *self.rec, self.run, last) {
-                Ok(()) => Ok(()),
-                Err(e) => {
-                    self.faults = self.faults.saturating_add(1);
-                    Err(e)
-                }
-            },
-            Err(e) => {
-                self.faults = self.faults.saturating_add(1);
-                Err(e)
-            }
-        }
+        let out_end = end_line(self.line, last);
+        counted(&mut self.faults, put(&mut *self.out, &out_end))?;
+        let rec_end = record_end(self.run, last);
+        counted(&mut self.faults, put(&mut *self.rec, &rec_end))?;
+        self.flush_both()
+    }
+
+    /// Gives up, once a call has failed: hands on what the sinks keep, so that what was written before is not
+    /// lost. Both are tried, and what they answer is only counted. Whatever the sinks have taken stays.
+    pub fn give_up(&mut self)
+        ensures later { self.old.faults ≤ self.new.faults }
+        ensures onward { StaysOnward (IsOnward T.fault_count R.fault_count) self.old self.new }
+        ensures stands { Keeps (Stands T.taken R.taken) self.old self.new }
+        ensures cut { Keeps (IsCutWithin T.taken R.taken) self.old self.new }
+        ensures cut_at_end { (last : ALast) → Keeps (IsCutAtEnd T.taken R.taken last) self.old self.new }
+    {
+        let _ = self.flush_both();
+    }
+
+    // Hands on what the sinks keep. Both are tried.
+    fn flush_both(&mut self) -> Result<(), Failed>
+        ensures later { self.old.faults ≤ self.new.faults }
+        ensures cause { OnErr result (Rose self.old.faults self.new.faults) }
+        ensures onward { StaysOnward (IsOnward T.fault_count R.fault_count) self.old self.new }
+        ensures keeps { KeepsWritten T.taken R.taken self.old self.new }
+    {
+        let out = counted(&mut self.faults, self.out.flush());
+        let rec = counted(&mut self.faults, self.rec.flush());
+        out.and(rec)
     }
 
     // Takes a turn: it goes on with the run that is open, or begins one.
@@ -108,16 +128,10 @@ impl<'a, T: Sink, R: Sink> Writer<'a, T, R> {
         ensures ok { OnOk result (GoesOn (Stands T.taken R.taken) self.old self.new [] (step_of turn ∷ [])) }
         ensures err { OnErr result (IsCut (Stands T.taken R.taken) (IsCutWithin T.taken R.taken) self.old self.new [] (step_of turn ∷ [])) }
     {
-        match put_run(&mut *self.rec, self.run) {
-            Ok(()) => {
-                self.run = Some(Turns { turn, count: 1 });
-                Ok(())
-            }
-            Err(e) => {
-                self.faults = self.faults.saturating_add(1);
-                Err(e)
-            }
-        }
+        let line = run_line(self.run);
+        counted(&mut self.faults, put(&mut *self.rec, &line))?;
+        self.run = Some(Turns { turn, count: 1 });
+        Ok(())
     }
 
     // Takes an event.
@@ -130,17 +144,23 @@ impl<'a, T: Sink, R: Sink> Writer<'a, T, R> {
         ensures ok { OnOk result (GoesOn (Stands T.taken R.taken) self.old self.new [] (AnOuter e ∷ [])) }
         ensures err { OnErr result (IsCut (Stands T.taken R.taken) (IsCutWithin T.taken R.taken) self.old self.new [] (AnOuter e ∷ [])) }
     {
-        match put_entry(&mut *self.rec, self.run, e) {
-            Ok(()) => {
-                self.run = None;
-                Ok(())
-            }
-            Err(e) => {
-                self.faults = self.faults.saturating_add(1);
-                Err(e)
-            }
-        }
+        let line = entry_line(self.run, &e);
+        counted(&mut self.faults, put(&mut *self.rec, &line))?;
+        self.run = None;
+        Ok(())
     }
+}
+
+// What a sink answered: a failure is counted. At 2^64 - 1 the count stays.
+fn counted(faults: &mut u64, answer: Result<(), Failed>) -> Result<(), Failed>
+    ensures answer { result ≡ answer }
+    ensures ok { OnOk answer (faults.new ≡ faults.old) }
+    ensures err { OnErr answer (CountsUp faults.old faults.new) }
+{
+    if answer.is_err() {
+        *faults = faults.saturating_add(1);
+    }
+    answer
 }
 
 impl<'a, T: Sink, R: Sink> Taker for Writer<'a, T, R> {
@@ -159,17 +179,10 @@ impl<'a, T: Sink, R: Sink> Taker for Writer<'a, T, R> {
     }
 
     fn item(&mut self, i: Item) -> Result<(), Failed> {
-        let line = open_line(&i);
-        match put_item(&mut *self.out, self.line, i) {
-            Ok(()) => {
-                self.line = line;
-                Ok(())
-            }
-            Err(e) => {
-                self.faults = self.faults.saturating_add(1);
-                Err(e)
-            }
-        }
+        let line = item_line(self.line, &i);
+        counted(&mut self.faults, put(&mut *self.out, &line))?;
+        self.line = open_line(&i);
+        Ok(())
     }
 
     #[inline(always)]
