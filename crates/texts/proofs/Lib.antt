@@ -1,6 +1,5 @@
 mod Writes
-mod LineStarts
-mod Lines
+mod Answered
 mod Standing
 mod InLines
 pub mod Starts

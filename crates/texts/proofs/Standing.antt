@@ -1,19 +1,68 @@
 -- What a writer stands for, as it takes items and steps.
-use Rattle.std.proofs.Common.{◌≡◌, ℕ, ◌+◌, ◌<◌, ◌≤◌, List, [], ◌∷◌, ◌++◌, length, Option, None, Some, Result, OnOk, OnErr, refl, sym, ap, subst, arith, append_assoc, length-append}
-use Rattle.std.proofs.lemmas.List.{append-nil}
+use Rattle.std.proofs.Common.{◌≡◌, ℕ, ◌+◌, ◌<◌, ◌≤◌, List, [], ◌∷◌, ◌++◌, length, Option, None, Some, Result, OnOk, OnErr, refl, sym, ap, subst, arith, append_assoc, length-append, zero, suc, true, cond, ◌∙◌, ◌==◌, ◌&&◌, rules, ◌-◌}
+use Rattle.std.proofs.lemmas.List.{append-nil, length-replicate}
 use Rattle.outside.specs.Told.{Grows}
 use Rattle.outside.specs.declared.failure.Failed.{Failed}
 use Rattle.plain_model.specs.declared.event.Item.{Item}
 use Rattle.plain_model.specs.declared.event.Step.{Step}
+use Rattle.plain_model.specs.declared.names.ForkName.{ForkName}
 use Rattle.plain_model.specs.Taker.{GoesOn, IsCut, max_steps}
-use Rattle.plain_model.specs.Texts.{text_after, transcript, item_text, item_open, step_text, step_run, record_after}
+use Rattle.std.specs.Prelude.{replicate}
+use Rattle.plain_model.specs.Texts.{text_after, transcript, item_text, item_open, step_text, step_run, record_after, same_turn, run_line}
+use Rattle.plain_model.specs.declared.event.Step.TheVariants.{Unit as UnitStep, Idle as IdleStep}
 use Rattle.texts.specs.declared.last.Last.{Last}
 use Rattle.texts.specs.declared.writer.Writer.{Writer}
 use Rattle.texts.specs.Ends.{end_line, record_end}
-use Rattle.texts.specs.Turns.{open_run, run_count}
+use Rattle.texts.specs.Turns.{open_run, run_count, step_of}
+use Rattle.texts.specs.declared.turns.Turn.{Turn}
+use Rattle.texts.specs.declared.turns.Turn.TheVariants.{Unit as UnitOf, Idle as IdleTurn}
 use Rattle.texts.specs.Wrote.{Wrote, WrotePartly, GrowsPartly}
-use Rattle.texts.specs.Writer.{Stands, IsCutWithin, Finishes, FailsAtEnd}
-use Rattle.texts.proofs.Writes.{wrote_more, wrote_partly, wrote_cut, wrote_end, wrote_end_partly, cut_here, whole_partly}
+use Rattle.texts.specs.Writer.{Stands, IsCutWithin, KeepsWritten, Finishes, FailsAtEnd}
+use Rattle.plain_model.proofs.Runs.{cut_longer}
+use Rattle.texts.proofs.Writes.{wrote_more, wrote_list, wrote_partly, wrote_cut, wrote_end, wrote_end_partly, cut_here, whole_partly, partly_stays}
+
+-- a turn behind an open run of equal turns is counted
+abbrev pub Counted : Step → Type 0
+Counted s = (c : ℕ) (ts : List Step) → record_after (Some (s, c)) (s ∷ ts) ≡ record_after (Some (s, c + 1)) ts
+
+same_is : (n : ℕ) → (n == n) ≡ true
+same_is n = grind (arith, rules)
+
+pub unit_counted : (f : ForkName) → Counted (UnitStep f)
+unit_counted f c ts =
+    let e : same_turn (UnitStep f) (UnitStep f) ≡ true = ap (λ b. b && (f.serial == f.serial)) (same_is f.tty.0) ∙ same_is f.serial in
+    ap (λ b. cond b [] (run_line (UnitStep f) c) ++ record_after (cond b (Some (UnitStep f, c + 1)) (Some (UnitStep f, 1))) ts) e
+
+pub idle_counted : Counted IdleStep
+idle_counted c ts = refl
+
+pub turn_counted : (t : Turn) → Counted (step_of t)
+turn_counted (UnitOf f) = unit_counted f
+turn_counted IdleTurn = idle_counted
+
+-- a turn of the run that is open goes on with it
+pub joins_text : (t u : Turn) (c : ℕ) → same_turn (step_of t) (step_of u) ≡ true → step_text (Some (step_of t, c)) (step_of u) ≡ []
+joins_text (UnitOf f) (UnitOf h) c e = ap (λ b. cond b [] (run_line (UnitStep f) c)) e
+joins_text (UnitOf f) IdleTurn c e = absurd (cc e)
+joins_text IdleTurn (UnitOf h) c e = absurd (cc e)
+joins_text IdleTurn IdleTurn c e = refl
+
+pub joins_run : (t u : Turn) (c : ℕ) → same_turn (step_of t) (step_of u) ≡ true → step_run (Some (step_of t, c)) (step_of u) ≡ Some (step_of u, c + 1)
+joins_run (UnitOf f) (UnitOf h) c e = ap (λ b. cond b (Some (UnitStep h, c + 1)) (Some (UnitStep h, 1))) e
+joins_run (UnitOf f) IdleTurn c e = absurd (cc e)
+joins_run IdleTurn (UnitOf h) c e = absurd (cc e)
+joins_run IdleTurn IdleTurn c e = refl
+
+pub joins_step : (t u : Turn) → same_turn (step_of t) (step_of u) ≡ true → step_of t ≡ step_of u
+joins_step (UnitOf f) (UnitOf h) e = grind (arith, rules, e)
+joins_step (UnitOf f) IdleTurn e = absurd (cc e)
+joins_step IdleTurn (UnitOf h) e = absurd (cc e)
+joins_step IdleTurn IdleTurn e = refl
+
+-- equal turns are counted up
+pub counted_up : (s : Step) → Counted s → (n c : ℕ) (ts : List Step) → record_after (Some (s, c)) (replicate n s ++ ts) ≡ record_after (Some (s, c + n)) ts
+counted_up s one zero c ts = ap (λ k. record_after (Some (s, k)) ts) (omega arith)
+counted_up s one (suc n) c ts = one c (replicate n s ++ ts) ∙ counted_up s one n (c + 1) ts ∙ ap (λ k. record_after (Some (s, k)) ts) (omega arith)
 
 module _ {T R : Type 0} (out_taken : T → Option (List ℕ)) (rec_taken : R → Option (List ℕ)) (old new : Writer T R) where
   abbrev For : Writer T R → Writer T R → List Item → List Step → Type 0
@@ -90,6 +139,46 @@ module _ {T R : Type 0} (out_taken : T → Option (List ℕ)) (rec_taken : R →
     };
   }
 
+  -- equal turns are written, or held back
+  pub turns_go_on : (s : Step) (m k : ℕ) → Counted s → Grows (rec_taken old.rec.now) (rec_taken new.rec.now) (step_text (open_run old.run) s)
+      → step_run (open_run old.run) s ≡ Some (s, k)
+      → (run_count old.run + m < max_steps → open_run new.run ≡ Some (s, k + m)) → run_count new.run ≤ run_count old.run + (m + 1) → new.out.now ≡ old.out.now → new.line ≡ old.line
+      → GoesOn For old new [] (replicate (suc m) s)
+  turns_go_on s m k one grows begun run count out line = record {
+    each = λ first is ss few st.
+        let long : length (replicate (suc m) s) ≡ suc m = length-replicate (suc m) s in
+        let small : run_count old.run + m < max_steps = omega (arith, few, st.count, length-append ss (replicate (suc m) s), long) in
+        let text : (ts : List Step) → record_after (open_run old.run) (replicate (suc m) s ++ ts) ≡ step_text (open_run old.run) s ++ record_after (open_run new.run) ts =
+        λ ts. ap (λ r. step_text (open_run old.run) s ++ record_after r (replicate m s ++ ts)) begun ∙ ap (λ l. step_text (open_run old.run) s ++ l) (counted_up s one m k ts ∙ ap (λ r. record_after r ts) (sym (run small))) in
+        record {
+          out = out_stays first is (is ++ []) out line (sym (append-nil is)) st.out;
+          rec = wrote_list _ _ _ _ _ (record_after (open_run new.run)) (λ ts. record_after None ((ss ++ replicate (suc m) s) ++ ts)) (replicate (suc m) s) (step_text (open_run old.run) s) st.rec grows
+              text (λ ts. ap (record_after None) (append_assoc ss (replicate (suc m) s) ts));
+          count = omega (arith, st.count, count, length-append ss (replicate (suc m) s), long);
+        };
+  }
+
+  pub turns_given : (s : Step) (n k : ℕ) → 1 ≤ n → Counted s → Grows (rec_taken old.rec.now) (rec_taken new.rec.now) (step_text (open_run old.run) s)
+      → step_run (open_run old.run) s ≡ Some (s, k)
+      → (run_count old.run + n ≤ max_steps → open_run new.run ≡ Some (s, k + (n - 1))) → run_count new.run ≤ run_count old.run + n → new.out.now ≡ old.out.now → new.line ≡ old.line
+      → GoesOn For old new [] (replicate n s)
+  turns_given s zero k some one grows begun run count out line = absurd (omega arith)
+  turns_given s (suc m) k some one grows begun run count out line = turns_go_on s m k one grows begun (λ small. run (omega arith) ∙ ap (λ j. Some (s, k + j)) (omega arith)) (omega arith) out line
+
+  pub turns_cut : (s : Step) (n : ℕ) → 1 ≤ n → GrowsPartly (rec_taken old.rec.now) (rec_taken new.rec.now) (step_text (open_run old.run) s) → new.out.now ≡ old.out.now
+      → IsCut For Cut old new [] (replicate n s)
+  turns_cut s zero some partly out = absurd (omega arith)
+  turns_cut s (suc m) some partly out = cut_longer For Cut old new [] [] (s ∷ []) (replicate m s) (step_cut s partly out)
+
+  -- what is flushed is cut where it stood, whatever follows
+  pub kept_cut : KeepsWritten out_taken rec_taken old new → IsCut For Cut old new [] []
+  kept_cut keeps = record {
+    each = λ first is more ss rest few st. record {
+      out = partly_stays _ _ _ _ (subst (λ l. WrotePartly (out_taken first.out.now) (out_taken old.out.now) (transcript l)) (sym (append_assoc is [] more)) (wrote_cut _ _ _ _ more st.out)) keeps.out;
+      rec = partly_stays _ _ _ _ (subst (λ l. WrotePartly (rec_taken first.rec.now) (rec_taken old.rec.now) (record_after None l)) (sym (append_assoc ss [] rest)) (wrote_cut _ _ _ _ rest st.rec)) keeps.rec;
+    };
+  }
+
   module _ (last : Last) where
     out_ends : (first : Writer T R) (is : List Item) → Wrote (out_taken first.out.now) (out_taken old.out.now) (text_after old.line) (λ js. transcript (is ++ js))
         → Grows (out_taken old.out.now) (out_taken new.out.now) (text_after old.line [] ++ end_line last)
@@ -105,6 +194,12 @@ module _ {T R : Type 0} (out_taken : T → Option (List ℕ)) (rec_taken : R →
         out = out_ends first is st.out out;
         rec = λ told h. subst (λ l. rec_taken new.rec.now ≡ Some (told ++ (record_after None l ++ record_end last))) (append-nil ss) (wrote_end _ _ _ _ _ (record_end last) st.rec rec told h);
       };
+    }
+
+    -- each text that is closed is a front of itself
+    pub finished_cut : Finishes out_taken rec_taken last old new → FailsAtEnd out_taken rec_taken last old new
+    finished_cut done = record {
+      each = λ first is ss st. let closed = done.each first is ss st in record { out = whole_partly _ _ _ closed.out; rec = whole_partly _ _ _ closed.rec };
     }
 
     -- the transcript is closed, and the record is not

@@ -10,6 +10,13 @@ use Rattle.texts.specs.Wrote.{GrowsPartly, Wrote, WrotePartly}
 pub grows_none : (told : Option (List ℕ)) → Grows told told []
 grows_none told xs h = h ∙ ap Some (sym (append-nil xs))
 
+-- what is taken stays
+pub grows_stays : (a b c : Option (List ℕ)) (x : List ℕ) → Grows a b x → Stays b c → Grows a c x
+grows_stays a b c x f g xs h = g (xs ++ x) (f xs h)
+
+pub partly_stays : (a b c : Option (List ℕ)) (whole : List ℕ) → WrotePartly a b whole → Stays b c → WrotePartly a c whole
+partly_stays a b c whole cut g = record { each = λ told h. let p = cut.each told h in (p.0, p.1, g (told ++ p.0) p.2, p.3) }
+
 -- one text after another
 pub grows_then : (a b c : Option (List ℕ)) (x y : List ℕ) → Grows a b x → Grows b c y → Grows a c (x ++ y)
 grows_then a b c x y f g xs h = g (xs ++ x) (f xs h) ∙ ap Some (append_assoc xs x y)
@@ -51,6 +58,14 @@ module _ {X : Type 0} (a b c : Option (List ℕ)) (after whole : List X → List
     each = λ told h.
         let w = wrote.each told h in
         (w.0 ++ bytes, grows (told ++ w.0) w.1 ∙ ap Some (append_assoc told w.0 bytes), λ xs. append_assoc w.0 bytes (after' xs) ∙ ap (λ l. w.0 ++ l) (sym (text xs)) ∙ w.2 (x ∷ xs) ∙ sym (same xs));
+  }
+
+  -- some things more are written
+  pub wrote_list : (after' whole' : List X → List ℕ) (zs : List X) (bytes : List ℕ) → Wrote a b after whole → Grows b c bytes → ((xs : List X) → after (zs ++ xs) ≡ bytes ++ after' xs) → ((xs : List X) → whole' xs ≡ whole (zs ++ xs)) → Wrote a c after' whole'
+  wrote_list after' whole' zs bytes wrote grows text same = record {
+    each = λ told h.
+        let w = wrote.each told h in
+        (w.0 ++ bytes, grows (told ++ w.0) w.1 ∙ ap Some (append_assoc told w.0 bytes), λ xs. append_assoc w.0 bytes (after' xs) ∙ ap (λ l. w.0 ++ l) (sym (text xs)) ∙ w.2 (zs ++ xs) ∙ sym (same xs));
   }
 
   -- a front of it is

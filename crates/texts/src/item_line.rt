@@ -1,7 +1,8 @@
 // The lines of the transcript.
-ghost use Rattle.std.specs.Prelude.{◌≡◌, ◌≤◌, ◌+◌, ◌++◌, length, decimal};
+ghost use Rattle.std.specs.Prelude.{◌≡◌, ◌≤◌, ◌+◌, ◌++◌, length, codes, decimal};
+ghost use Rattle.word36.specs.Octal.{octal_padded};
 ghost use Rattle.plain_model.specs.Limits.{FitsItem, FitsCause, IsFileName};
-ghost use Rattle.plain_model.specs.Texts.{item_text, item_open, line_end, line_start, escaped, char_end, ended, fork_text, cause_text, wait_text, status_text, frozen_text, shown_line};
+ghost use Rattle.plain_model.specs.Texts.{item_text, item_open, line_end, line_start, escaped, char_end, ended, field, fork_text, cause_text, wait_text, status_text, frozen_text, shown_line};
 ghost use Rattle.plain_model.specs.declared.event.Item.TheVariants.{Examined as AnExamined, PageLine as APageLine, PageWord as APageWord, UnitLine as AUnitLine};
 
 use crate::line::{ADDRESS_DIGITS, Line, WORD_DIGITS};
@@ -83,18 +84,27 @@ fn fork_line(before: Option<u8>, fork: &ForkLine) -> Line
     line.push_name(fork.name);
     line.push(b" ");
     line.push_decimal(u64::from(fork.superior));
-    line.push(b" ");
-    push_status(&mut line, fork.status);
-    line.push(frozen_text(fork.frozen));
-    line.push(b" PC ");
-    line.push_octal(ADDRESS_DIGITS, u64::from(fork.address));
+    push_standing(&mut line, fork);
     line.push(b"\n");
     line
 }
 
+// Puts how a fork stands, and its program counter, behind a line.
+fn push_standing(line: &mut Line, fork: &ForkLine)
+    requires { length line.old ≤ 100 }
+    ensures bytes { line.new ≡ line.old ++ (field (status_text fork.now.status) ++ (frozen_text fork.now.frozen ++ (codes " PC " ++ octal_padded 6 fork.now.address))) }
+    ensures short { length line.new ≤ length line.old + 45 }
+{
+    line.push(b" ");
+    push_status(line, fork.status);
+    line.push(frozen_text(fork.frozen));
+    line.push(b" PC ");
+    line.push_octal(ADDRESS_DIGITS, u64::from(fork.address));
+}
+
 // Puts how a fork stands behind a line.
 fn push_status(line: &mut Line, status: ForkStatus)
-    requires { length line.old ≤ 100 }
+    requires { length line.old ≤ 101 }
     ensures bytes { line.new ≡ line.old ++ status_text status }
     ensures short { length line.new ≤ length line.old + 27 }
 {

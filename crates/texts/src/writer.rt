@@ -92,45 +92,47 @@ impl<'a, T: Sink, R: Sink> Writer<'a, T, R> {
         out.and(rec)
     }
 
-    // Takes a turn: it goes on with the run that is open, or begins one.
+    // Takes so many equal turns: they go on with the run that is open, or begin one.
     #[inline]
-    fn turn(&mut self, turn: Turn) -> Result<(), Failed>
+    fn equal_turns(&mut self, turn: Turn, n: u64) -> Result<(), Failed>
+        requires some { 1 ≤ n }
         ensures later { self.old.faults ≤ self.new.faults }
         ensures cause { OnErr result (Rose self.old.faults self.new.faults) }
         ensures onward { StaysOnward (IsOnward T.fault_count R.fault_count) self.old self.new }
-        ensures ok { OnOk result (GoesOn (Stands T.taken R.taken) self.old self.new [] (step_of turn ∷ [])) }
-        ensures err { OnErr result (IsCut (Stands T.taken R.taken) (IsCutWithin T.taken R.taken) self.old self.new [] (step_of turn ∷ [])) }
+        ensures ok { OnOk result (GoesOn (Stands T.taken R.taken) self.old self.new [] (replicate n (step_of turn))) }
+        ensures err { OnErr result (IsCut (Stands T.taken R.taken) (IsCutWithin T.taken R.taken) self.old self.new [] (replicate n (step_of turn))) }
     {
         match self.run {
-            None => self.begin_run(turn),
+            None => self.begin_run(turn, n),
             Some(run) => {
                 if is_same_turn(run.turn, turn) {
                     self.run = Some(Turns {
                         turn: run.turn,
-                        count: run.count.saturating_add(1),
+                        count: run.count.saturating_add(n),
                     });
                     Ok(())
                 } else {
-                    self.begin_run(turn)
+                    self.begin_run(turn, n)
                 }
             }
         }
     }
 
-    // Takes a turn that isn't of the run that is open.
+    // Takes so many equal turns that aren't of the run that is open.
     #[inline(never)]
-    fn begin_run(&mut self, turn: Turn) -> Result<(), Failed>
+    fn begin_run(&mut self, turn: Turn, n: u64) -> Result<(), Failed>
+        requires some { 1 ≤ n }
         requires text { step_text (open_run self.old.run) (step_of turn) ≡ run_end (open_run self.old.run) }
         requires run { step_run (open_run self.old.run) (step_of turn) ≡ Some (step_of turn, 1) }
         ensures later { self.old.faults ≤ self.new.faults }
         ensures cause { OnErr result (Rose self.old.faults self.new.faults) }
         ensures onward { StaysOnward (IsOnward T.fault_count R.fault_count) self.old self.new }
-        ensures ok { OnOk result (GoesOn (Stands T.taken R.taken) self.old self.new [] (step_of turn ∷ [])) }
-        ensures err { OnErr result (IsCut (Stands T.taken R.taken) (IsCutWithin T.taken R.taken) self.old self.new [] (step_of turn ∷ [])) }
+        ensures ok { OnOk result (GoesOn (Stands T.taken R.taken) self.old self.new [] (replicate n (step_of turn))) }
+        ensures err { OnErr result (IsCut (Stands T.taken R.taken) (IsCutWithin T.taken R.taken) self.old self.new [] (replicate n (step_of turn))) }
     {
         let line = run_line(self.run);
         counted(&mut self.faults, put(&mut *self.rec, &line))?;
-        self.run = Some(Turns { turn, count: 1 });
+        self.run = Some(Turns { turn, count: n });
         Ok(())
     }
 
@@ -154,6 +156,7 @@ impl<'a, T: Sink, R: Sink> Writer<'a, T, R> {
 // What a sink answered: a failure is counted. At 2^64 - 1 the count stays.
 fn counted(faults: &mut u64, answer: Result<(), Failed>) -> Result<(), Failed>
     ensures answer { result ≡ answer }
+    ensures later { faults.old ≤ faults.new }
     ensures ok { OnOk answer (faults.new ≡ faults.old) }
     ensures err { OnErr answer (CountsUp faults.old faults.new) }
 {
@@ -188,9 +191,21 @@ impl<'a, T: Sink, R: Sink> Taker for Writer<'a, T, R> {
     #[inline(always)]
     fn step(&mut self, s: Step) -> Result<(), Failed> {
         match s {
-            Step::Unit(f) => self.turn(Turn::Unit(f)),
-            Step::Idle => self.turn(Turn::Idle),
+            Step::Unit(f) => self.equal_turns(Turn::Unit(f), 1),
+            Step::Idle => self.equal_turns(Turn::Idle, 1),
             Step::Outer(e) => self.event(e),
         }
+    }
+
+    fn turns(&mut self, s: Step, n: u64) -> Result<(), Failed> {
+        match s {
+            Step::Unit(f) => self.equal_turns(Turn::Unit(f), n),
+            Step::Idle => self.equal_turns(Turn::Idle, n),
+            Step::Outer(_) => unreachable!(),
+        }
+    }
+
+    fn flush(&mut self) -> Result<(), Failed> {
+        self.flush_both()
     }
 }
