@@ -17,9 +17,9 @@ use Rattle.texts.specs.Turns.{open_run, run_count, step_of}
 use Rattle.texts.specs.declared.turns.Turn.{Turn}
 use Rattle.texts.specs.declared.turns.Turn.TheVariants.{Unit as UnitOf, Idle as IdleTurn}
 use Rattle.texts.specs.Wrote.{Wrote, WrotePartly, GrowsPartly}
-use Rattle.texts.specs.Writer.{Stands, IsCutWithin, KeepsWritten, Finishes, FailsAtEnd}
+use Rattle.texts.specs.Writer.{Stands, IsCutWithin, IsCutAtEnd, Keeps, KeepsWritten, Finishes, FailsAtEnd}
 use Rattle.plain_model.proofs.Runs.{cut_longer}
-use Rattle.texts.proofs.Writes.{wrote_more, wrote_list, wrote_partly, wrote_cut, wrote_end, wrote_end_partly, cut_here, whole_partly, partly_stays}
+use Rattle.texts.proofs.Writes.{wrote_more, wrote_list, wrote_partly, wrote_cut, wrote_end, wrote_end_partly, cut_here, whole_partly, partly_stays, wrote_stays}
 
 -- a turn behind an open run of equal turns is counted
 abbrev pub Counted : Step → Type 0
@@ -169,6 +169,23 @@ module _ {T R : Type 0} (out_taken : T → Option (List ℕ)) (rec_taken : R →
       → IsCut For Cut old new [] (replicate n s)
   turns_cut s zero some partly out = absurd (omega arith)
   turns_cut s (suc m) some partly out = cut_longer For Cut old new [] [] (s ∷ []) (replicate m s) (step_cut s partly out)
+
+  -- what is flushed stands for what it stood for
+  pub kept_standing : KeepsWritten out_taken rec_taken old new → Keeps For old new
+  kept_standing keeps = record {
+    each = λ first is ss st. record {
+      out = subst (λ l. Wrote (out_taken first.out.now) (out_taken new.out.now) (text_after l) (λ js. transcript (is ++ js))) (sym keeps.line) (wrote_stays _ _ _ _ _ st.out keeps.out);
+      rec = subst (λ r. Wrote (rec_taken first.rec.now) (rec_taken new.rec.now) (record_after (open_run r)) (λ ts. record_after None (ss ++ ts))) (sym keeps.run) (wrote_stays _ _ _ _ _ st.rec keeps.rec);
+      count = subst (λ r. run_count r ≤ length ss) (sym keeps.run) st.count;
+    };
+  }
+
+  -- what was cut is cut where it was
+  pub kept_within : KeepsWritten out_taken rec_taken old new → Keeps Cut old new
+  kept_within keeps = record { each = λ first is ss c. record { out = partly_stays _ _ _ _ c.out keeps.out; rec = partly_stays _ _ _ _ c.rec keeps.rec } }
+
+  pub kept_at_end : KeepsWritten out_taken rec_taken old new → (last : Last) → Keeps (IsCutAtEnd out_taken rec_taken last) old new
+  kept_at_end keeps last = record { each = λ first is ss c. record { out = partly_stays _ _ _ _ c.out keeps.out; rec = partly_stays _ _ _ _ c.rec keeps.rec } }
 
   -- what is flushed is cut where it stood, whatever follows
   pub kept_cut : KeepsWritten out_taken rec_taken old new → IsCut For Cut old new [] []

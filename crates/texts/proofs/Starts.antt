@@ -9,7 +9,16 @@ use Rattle.texts.specs.Writer.{IsOnward, Stands}
 
 -- each writer is itself
 pub onward_start : {T R : Type 0} (out_faults : T → ℕ) (rec_faults : R → ℕ) (w : Writer T R) → IsOnward out_faults rec_faults w w
-onward_start out_faults rec_faults w = record { out_name = refl; rec_name = refl; out_later = omega arith; rec_later = omega arith; cause = λ h. absurd (omega arith) }
+onward_start out_faults rec_faults w = record {
+  out_name = refl;
+  rec_name = refl;
+  later = omega arith;
+  out_later = omega arith;
+  rec_later = omega arith;
+  cause = λ h. absurd (omega arith);
+  out_counted = λ h. absurd (omega arith);
+  rec_counted = λ h. absurd (omega arith);
+}
 
 -- with nothing open, it stands for nothing since then
 pub stands_start : {T R : Type 0} (out_taken : T → Option (List ℕ)) (rec_taken : R → Option (List ℕ)) (w : Writer T R) → w.line ≡ None → w.run ≡ None → Stands out_taken rec_taken w w [] []

@@ -17,6 +17,9 @@ grows_stays a b c x f g xs h = g (xs ++ x) (f xs h)
 pub partly_stays : (a b c : Option (List ℕ)) (whole : List ℕ) → WrotePartly a b whole → Stays b c → WrotePartly a c whole
 partly_stays a b c whole cut g = record { each = λ told h. let p = cut.each told h in (p.0, p.1, g (told ++ p.0) p.2, p.3) }
 
+pub wrote_stays : {X : Type 0} (a b c : Option (List ℕ)) (after whole : List X → List ℕ) → Wrote a b after whole → Stays b c → Wrote a c after whole
+wrote_stays a b c after whole wrote g = record { each = λ told h. let w = wrote.each told h in (w.0, g (told ++ w.0) w.1, w.2) }
+
 -- one text after another
 pub grows_then : (a b c : Option (List ℕ)) (x y : List ℕ) → Grows a b x → Grows b c y → Grows a c (x ++ y)
 grows_then a b c x y f g xs h = g (xs ++ x) (f xs h) ∙ ap Some (append_assoc xs x y)

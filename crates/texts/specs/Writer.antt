@@ -11,13 +11,16 @@ use Rattle.texts.specs.Wrote.{Wrote, WrotePartly}
 use Rattle.texts.specs.declared.last.Last.{Last}
 use Rattle.texts.specs.Ends.{end_line, record_end}
 
--- it has the same sinks, whose counts have not fallen, and its own count rose only where one of theirs did
+-- it has the same sinks; no count has fallen, and its own rose exactly where one of theirs did
 pub record IsOnward {T R : Type 0} (out_faults : T → ℕ) (rec_faults : R → ℕ) (first now : Writer T R) : Type 0 where
   pub out_name : now.out.ghost_name ≡ first.out.ghost_name
   pub rec_name : now.rec.ghost_name ≡ first.rec.ghost_name
+  pub later : first.faults ≤ now.faults
   pub out_later : out_faults first.out.now ≤ out_faults now.out.now
   pub rec_later : rec_faults first.rec.now ≤ rec_faults now.rec.now
   pub cause : first.faults < now.faults → Rose (out_faults first.out.now) (out_faults now.out.now) ⊎ Rose (rec_faults first.rec.now) (rec_faults now.rec.now)
+  pub out_counted : out_faults first.out.now < out_faults now.out.now → Rose first.faults now.faults
+  pub rec_counted : rec_faults first.rec.now < rec_faults now.rec.now → Rose first.faults now.faults
 
 -- for each pair of lists of which this was so since a first writer, it still is
 pub record Keeps {T R : Type 0} (so : Writer T R → Writer T R → List Item → List Step → Type 0) (old new : Writer T R) : Type 0 where

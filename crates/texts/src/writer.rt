@@ -52,11 +52,12 @@ impl<'a, T: Sink, R: Sink> Writer<'a, T, R> {
     }
 
     /// Closes both texts: the line and the run that are open, and the last lines; and then hands on what the
-    /// sinks keep. Fails only where the count of faults rises, and then each sink has a front of its closed text,
-    /// which may be the whole.
+    /// sinks keep. Fails exactly where the count of faults rises, and then each sink has a front of its closed
+    /// text, which may be the whole.
     pub fn finish(&mut self, last: Last) -> Result<(), Failed>
         ensures later { self.old.faults ≤ self.new.faults }
         ensures cause { OnErr result (Rose self.old.faults self.new.faults) }
+        ensures unfaulted { OnOk result (self.new.faults ≡ self.old.faults) }
         ensures onward { StaysOnward (IsOnward T.fault_count R.fault_count) self.old self.new }
         ensures ok { OnOk result (Finishes T.taken R.taken last self.old self.new) }
         ensures err { OnErr result (FailsAtEnd T.taken R.taken last self.old self.new) }
@@ -84,6 +85,7 @@ impl<'a, T: Sink, R: Sink> Writer<'a, T, R> {
     fn flush_both(&mut self) -> Result<(), Failed>
         ensures later { self.old.faults ≤ self.new.faults }
         ensures cause { OnErr result (Rose self.old.faults self.new.faults) }
+        ensures unfaulted { OnOk result (self.new.faults ≡ self.old.faults) }
         ensures onward { StaysOnward (IsOnward T.fault_count R.fault_count) self.old self.new }
         ensures keeps { KeepsWritten T.taken R.taken self.old self.new }
     {
@@ -98,6 +100,7 @@ impl<'a, T: Sink, R: Sink> Writer<'a, T, R> {
         requires some { 1 ≤ n }
         ensures later { self.old.faults ≤ self.new.faults }
         ensures cause { OnErr result (Rose self.old.faults self.new.faults) }
+        ensures unfaulted { OnOk result (self.new.faults ≡ self.old.faults) }
         ensures onward { StaysOnward (IsOnward T.fault_count R.fault_count) self.old self.new }
         ensures ok { OnOk result (GoesOn (Stands T.taken R.taken) self.old self.new [] (replicate n (step_of turn))) }
         ensures err { OnErr result (IsCut (Stands T.taken R.taken) (IsCutWithin T.taken R.taken) self.old self.new [] (replicate n (step_of turn))) }
@@ -126,6 +129,7 @@ impl<'a, T: Sink, R: Sink> Writer<'a, T, R> {
         requires run { step_run (open_run self.old.run) (step_of turn) ≡ Some (step_of turn, 1) }
         ensures later { self.old.faults ≤ self.new.faults }
         ensures cause { OnErr result (Rose self.old.faults self.new.faults) }
+        ensures unfaulted { OnOk result (self.new.faults ≡ self.old.faults) }
         ensures onward { StaysOnward (IsOnward T.fault_count R.fault_count) self.old self.new }
         ensures ok { OnOk result (GoesOn (Stands T.taken R.taken) self.old self.new [] (replicate n (step_of turn))) }
         ensures err { OnErr result (IsCut (Stands T.taken R.taken) (IsCutWithin T.taken R.taken) self.old self.new [] (replicate n (step_of turn))) }
@@ -142,6 +146,7 @@ impl<'a, T: Sink, R: Sink> Writer<'a, T, R> {
         requires { FitsEvent e }
         ensures later { self.old.faults ≤ self.new.faults }
         ensures cause { OnErr result (Rose self.old.faults self.new.faults) }
+        ensures unfaulted { OnOk result (self.new.faults ≡ self.old.faults) }
         ensures onward { StaysOnward (IsOnward T.fault_count R.fault_count) self.old self.new }
         ensures ok { OnOk result (GoesOn (Stands T.taken R.taken) self.old self.new [] (AnOuter e ∷ [])) }
         ensures err { OnErr result (IsCut (Stands T.taken R.taken) (IsCutWithin T.taken R.taken) self.old self.new [] (AnOuter e ∷ [])) }
@@ -157,8 +162,8 @@ impl<'a, T: Sink, R: Sink> Writer<'a, T, R> {
 fn counted(faults: &mut u64, answer: Result<(), Failed>) -> Result<(), Failed>
     ensures answer { result ≡ answer }
     ensures later { faults.old ≤ faults.new }
-    ensures ok { OnOk answer (faults.new ≡ faults.old) }
-    ensures err { OnErr answer (CountsUp faults.old faults.new) }
+    ensures cause { OnErr result (CountsUp faults.old faults.new) }
+    ensures unfaulted { OnOk result (faults.new ≡ faults.old) }
 {
     if answer.is_err() {
         *faults = faults.saturating_add(1);

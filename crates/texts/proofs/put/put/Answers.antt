@@ -1,4 +1,4 @@
-use Rattle.std.proofs.Common.{◌-◌, ◌≤◌, length, take, drop, arith, subst, length-take, length-drop}
+use Rattle.std.proofs.Common.{◌-◌, ◌≤◌, length, take, drop, arith, ◌∙◌, subst, length-take, length-drop}
 use Rattle.std.proofs.lemmas.List.{take_rest}
 use Rattle.outside.specs.Told.{Grows}
 use Rattle.texts.proofs.Answered.{any_err, same_partly}
@@ -13,7 +13,7 @@ loop-at-preserved g c =
     let fits : n ≤ length (drop at bytes) = omega (arith, c.in_ok-at.ensures.bound, length-take (length bytes - at) (drop at bytes), length-drop at bytes) in
     record {
       within = omega (arith, fits, length-drop at bytes);
-      later = omega (arith, c.loop-at.invariant.later, c.write.ensures.later);
+      unfaulted = c.in_ok-at.ensures.unfaulted ∙ c.loop-at.invariant.unfaulted;
       grows = grows_more _ _ _ bytes at n c.loop-at.invariant.grows
           (subst (λ l. Grows (g.S.Sink.taken c.loop-at.sink) (g.S.Sink.taken c.write.new.self) (take n l)) (take_rest bytes at) c.in_ok-at.ensures.bytes);
     }

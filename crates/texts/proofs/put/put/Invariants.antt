@@ -1,11 +1,11 @@
-use Rattle.std.proofs.Common.{length, take, ◌-◌, ◌≤◌}
+use Rattle.std.proofs.Common.{◌≡◌, length, take, ◌-◌, ◌≤◌}
 use Rattle.outside.specs.Told.{Grows}
 use Rattle.texts.proofs.put.put.Given as goal
 
 abbrev pub invariant-loop-at : goal.invariant-loop-at
 invariant-loop-at g l = record {
   within : l.at ≤ length l.bytes;
-  later : g.S.Sink.fault_count l.fn.sink ≤ g.S.Sink.fault_count l.sink;
+  unfaulted : g.S.Sink.fault_count l.sink ≡ g.S.Sink.fault_count l.fn.sink;
   grows : Grows (g.S.Sink.taken l.fn.sink) (g.S.Sink.taken l.sink) (take l.at l.bytes);
 }
 
