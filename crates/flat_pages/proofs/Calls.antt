@@ -13,13 +13,15 @@ use Rattle.plain_model.specs.declared.names.PageName.{PageName}
 use Rattle.plain_model.specs.declared.names.TheConstants.{SPACE_PAGES, TERMINALS}
 use Rattle.plain_model.specs.declared.names.Kind.{Kind}
 use Rattle.plain_model.specs.declared.map.MapEntry.TheVariants.{Empty, Names}
+use Rattle.plain_model.specs.declared.map.NewMap.{NewMap}
+use Rattle.plain_model.specs.declared.map.NewMap.TheVariants.{Empty as EmptyMap, FollowAll}
 use Rattle.plain_model.specs.declared.map.Peeked.TheVariants.{Is, NoPage}
 use Rattle.plain_model.specs.declared.map.Touch.TheVariants.{Ready, Zero, Full}
 use Rattle.plain_model.specs.State.{NumberedPages, Maps, is_console}
 use Rattle.plain_model.specs.Maps.{entry_at, set_entry, full_access}
 use Rattle.plain_model.specs.References.{in_map, blank, zero_words, make, settled, word_at, stored}
 use Rattle.plain_model.specs.Events.{with_map, empty_map}
-use Rattle.plain_model.specs.Pages.{IsOwner, touch_of, can_settle, peek_of}
+use Rattle.plain_model.specs.Pages.{IsOwner, IsBuiltMap, touch_of, can_settle, peek_of}
 use Rattle.plain_model.proofs.Rooms.{room_blank}
 use Rattle.flat_pages.specs.declared.held_page.HeldPage.{HeldPage}
 use Rattle.flat_pages.specs.declared.space.Space.{Space}
@@ -198,8 +200,9 @@ module _ {t : Tables} (sound : Sound t) where
       pub settled_blank : (kind : Kind) (owner : Tty) → t.made + t.living < t.limit → plain_of (page_made t s owner) ≡ settled (plain_of t) (in_map s) kind owner
       settled_blank kind owner room = made_plain owner room ∙ sym (empty_settled (plain_of t) s entry_empty kind owner)
 
-  -- a terminal without a fork has one
-  pub fork_plain : (f : ForkName) → f.tty.0 < TERMINALS → forks_in t.spaces f.tty ≡ 0 → plain_of (fork_added t f) ≡ with_map (plain_of t) f
-  fork_plain f terminal none =
+  -- a terminal without a fork has one, with the map that is built: the empty one
+  pub fork_plain : (f : ForkName) → f.tty.0 < TERMINALS → forks_in t.spaces f.tty ≡ 0 → (entries : NewMap) → IsBuiltMap entries → plain_of (fork_added t f) ≡ with_map (plain_of t) f entries
+  fork_plain f terminal none (FollowAll g) built = absurd built
+  fork_plain f terminal none EmptyMap built =
       parts_same t (objects_of t.homes t.made) (objects_of t.homes t.made) (maps_of t.homes (with_fork t.spaces f)) (fin.insert (maps_of t.homes t.spaces) f empty_map) refl
       (maps_fork t.homes t.spaces f (let e = sound.terminals in omega arith) none)

@@ -13,6 +13,7 @@ use Rattle.plain_model.specs.declared.names.Slot.{Slot}
 use Rattle.plain_model.specs.declared.names.ForkName.{ForkName}
 use Rattle.plain_model.specs.declared.names.PageName.{PageName}
 use Rattle.plain_model.specs.declared.names.TheConstants.{TERMINALS, SPACE_PAGES, MOST_HOMES}
+use Rattle.plain_model.specs.declared.map.NewMap.TheVariants.{Empty as EmptyMap}
 use Rattle.plain_model.specs.State.{NumberedPages, Map, opening_pages, first_serials}
 use Rattle.plain_model.specs.Room.{live, names}
 use Rattle.plain_model.specs.Whole.{AreWhole}
@@ -180,15 +181,15 @@ module _ {t : Tables} (sound : Sound t) where
     space_else k ne = spaces_other t.spaces f.tty.0 k (record { fork = Some f.serial; entries = no_entries }) ne
 
     -- a fork more lives
-    live_mapped : live (with_map (plain_of t) f) ≡ live (plain_of t) + 1
+    live_mapped : live (with_map (plain_of t) f EmptyMap) ≡ live (plain_of t) + 1
     live_mapped =
-        let more : fin.len (with_map (plain_of t) f).maps ≡ fin.len (plain_of t).maps + 1 = fin.len-insert fork_cmp_total (plain_of t).maps f empty_map ∙ ap (λ (o : Option Map). cond (is_some o) (fin.len (plain_of t).maps) (fin.len (plain_of t).maps + 1)) absent in
-        omega (arith, live_whole (with_map (plain_of t) f) (map_whole (plain_of t) sound.whole f absent), live_whole (plain_of t) sound.whole, more)
+        let more : fin.len (with_map (plain_of t) f EmptyMap).maps ≡ fin.len (plain_of t).maps + 1 = fin.len-insert fork_cmp_total (plain_of t).maps f empty_map ∙ ap (λ (o : Option Map). cond (is_some o) (fin.len (plain_of t).maps) (fin.len (plain_of t).maps + 1)) absent in
+        omega (arith, live_whole (with_map (plain_of t) f EmptyMap) (map_whole (plain_of t) sound.whole f absent EmptyMap), live_whole (plain_of t) sound.whole, more)
 
     pub sound_fork : Sound (fork_added t f)
     sound_fork =
-        let plain = fork_plain sound f terminal none in record {
-          whole = subst (λ (p : NumberedPages). AreWhole p) (sym plain) (map_whole (plain_of t) sound.whole f absent);
+        let plain = fork_plain sound f terminal none EmptyMap tt in record {
+          whole = subst (λ (p : NumberedPages). AreWhole p) (sym plain) (map_whole (plain_of t) sound.whole f absent EmptyMap);
           count = ap (λ (p : NumberedPages). live p) plain ∙ omega (arith, live_mapped, sound.count);
           lives = lives_mapped t.homes (with_fork t.spaces f);
           alone = none_alone (with_fork t.spaces f);

@@ -12,4 +12,4 @@ invariant_of-self c =
 pub returns-clause-told : goal.returns-clause-told
 returns-clause-told c d fits =
     let none : forks_in c.args.self.now.spaces.items c.args.fork.tty ≡ 0 = omega (arith, c.requires.few) in
-    (tt, rw c.empty.ensures (fork_plain c.args.self.now.sound c.args.fork c.requires.terminal none))
+    (tt, rw c.empty.ensures (fork_plain c.args.self.now.sound c.args.fork c.requires.terminal none c.args.map c.requires.built))
