@@ -96,12 +96,6 @@ one_more : (n m : ℕ) → nat_le (n + 1) m ≡ nat_lt n m
 one_more n m = grind (arith, nat_tests)
 
 module _ {t : Tables} (sound : Sound t) where
-  abbrev homes : List HeldPage
-  homes = t.homes
-
-  abbrev spaces : List Space
-  spaces = t.spaces
-
   pub apart : Apart t.homes t.made
   apart = record { within = (let r = sound.room in let e = sound.enough in omega arith); once = sound.once }
 

@@ -8,6 +8,13 @@ const TOP: ForkName = ForkName {
     serial: 7,
 };
 
+const FIRST_PAGE: Place = Place::Fork(Slot { fork: TOP, page: 0 });
+
+const LAST_PAGE: Place = Place::Fork(Slot {
+    fork: TOP,
+    page: 511,
+});
+
 #[test]
 fn words_come_back_until_the_limit(rt: HostRuntime) -> Result<(), Fail> {
     let mut pages = PlainStore::boot(rt.alloc(), 2)?;
@@ -16,10 +23,7 @@ fn words_come_back_until_the_limit(rt: HostRuntime) -> Result<(), Fail> {
     pages.add_fork(TOP, NewMap::Empty);
     assert_eq!(rt; pages.live(), 1);
 
-    let at = Place::Fork(Slot {
-        fork: TOP,
-        page: 511,
-    });
+    let at = LAST_PAGE;
     assert_eq!(rt; pages.peek(at, 5), Peeked::NoPage);
     assert_eq!(rt; pages.live(), 1, "a look makes no page");
     assert_eq!(rt; pages.touch(at, Kind::Write), Touch::Zero);
@@ -33,8 +37,23 @@ fn words_come_back_until_the_limit(rt: HostRuntime) -> Result<(), Fail> {
     assert_eq!(rt; pages.peek(at, 5), Peeked::Is(Word::join(1, 2)));
     assert_eq!(rt; pages.peek(at, 6), Peeked::Is(Word::ZERO), "the next word");
 
-    let next = Place::Fork(Slot { fork: TOP, page: 0 });
+    let next = FIRST_PAGE;
     assert_eq!(rt; pages.peek(next, 5), Peeked::NoPage, "another page");
     assert_eq!(rt; pages.touch(next, Kind::Read), Touch::Full);
+    Ok(())
+}
+
+#[test]
+fn a_page_is_made_once(rt: HostRuntime) -> Result<(), Fail> {
+    let mut pages = PlainStore::boot(rt.alloc(), 3)?;
+    pages.add_fork(TOP, NewMap::Empty);
+    let at = FIRST_PAGE;
+    assert_eq!(rt; pages.touch(at, Kind::Execute), Touch::Zero);
+    pages.settle(at, Kind::Execute, Tty::CONSOLE);
+    assert_eq!(rt; pages.live(), 2);
+    assert_eq!(rt; pages.touch(at, Kind::Write), Touch::Ready);
+    pages.settle(at, Kind::Write, Tty::CONSOLE);
+    assert_eq!(rt; pages.live(), 2, "the page is there");
+    assert_eq!(rt; pages.peek(at, 511), Peeked::Is(Word::ZERO));
     Ok(())
 }
