@@ -1,0 +1,5 @@
+pub mod Objects
+pub mod Maps
+pub mod Entries
+pub mod Calls
+pub mod Soundness

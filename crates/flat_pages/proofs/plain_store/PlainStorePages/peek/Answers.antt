@@ -1,0 +1,24 @@
+use Rattle.std.proofs.Common.{◌≡◌, ◌∙◌, sym, ap, subst, Some, slice_index, length, ◌<◌, rules}
+use Rattle.std.proofs.lemmas.List.{get_or_read, get_or_default}
+use Rattle.plain_model.specs.declared.map.Peeked.TheVariants.{Is}
+use Rattle.plain_model.specs.Pages.{IsPlace}
+use Rattle.flat_pages.specs.HeldPages.{page_of, blank_page}
+use Rattle.flat_pages.specs.Spaces.{has_fork, entry_in}
+use Rattle.flat_pages.specs.declared.held_page.HeldPage.{HeldPage}
+use Rattle.flat_pages.proofs.Calls.{peek_ready, peek_blank, home_there}
+use Rattle.flat_pages.proofs.plain_store.PlainStorePages.peek.Goals as goal
+
+pub returns-in-Some-clause-told : goal.returns-in-Some-clause-told
+returns-in-Some-clause-told c d fits =
+    let s = c.args.self.now in
+    let place = subst (IsPlace (has_fork s.spaces.items)) c.in-Fork.is c.requires.place in
+    let home : entry_in s.spaces.items c.in-Fork.slot ≡ Some c.in-Some.home = sym c.entry.ensures ∙ c.in-Some.is in
+    let page : c.index.result.now ≡ page_of s.homes.items c.in-Some.home.0 = get_or_read _ _ _ (home_there s.sound c.in-Fork.slot place.0 place.1 c.in-Some.home home) c.index.ensures blank_page in
+    let inside : c.args.offset < length c.index.result.now.words = search rules in
+    ap Is (get_or_default _ _ _ 0 inside ∙ ap (λ (p : HeldPage). slice_index p.words c.args.offset) page)
+    ∙ sym (rw c.in-Fork.is (peek_ready s.sound c.in-Fork.slot place.0 place.1 c.in-Some.home home c.args.offset))
+
+pub returns-in-None-clause-told : goal.returns-in-None-clause-told
+returns-in-None-clause-told c d fits =
+    let place = subst (IsPlace (has_fork c.args.self.now.spaces.items)) c.in-Fork.is c.requires.place in
+    sym (rw c.in-Fork.is (peek_blank c.args.self.now.sound c.in-Fork.slot place.0 place.1 (sym c.entry.ensures ∙ c.in-None.is) c.args.offset))

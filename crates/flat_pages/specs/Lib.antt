@@ -1,0 +1,5 @@
+pub mod HeldPages
+pub mod Serials
+pub mod Spaces
+pub mod Tables
+pub mod Meaning
