@@ -2,6 +2,7 @@
 use Rattle.std.specs.Prelude.{ℕ, ◌+◌, ◌-◌, ◌*◌, ◌/◌, ◌%◌, ◌^◌, Bool, true, false, cond, not, ◌&&◌, ◌==◌, nat_lt, nat_le, ℤ, pos, ◌+ℤ◌, ◌*ℤ◌, neg_ℤ, unsigned_abs, int_lt, int_le, int_div, int_rem, ◌≤◌, ◌<◌, ◌⊎◌, Option, Some, None}
 use Rattle.std.specs.Int.{int_div_euclid, int_rem_euclid}
 use Rattle.word36.specs.declared.flags.Flags.{Flags}
+use Rattle.word36.specs.Flags.{no_flags}
 use Rattle.word36.specs.Words.{left, right, joined, is_negative, signed, word_of}
 
 -- what an operation gives: a word, a low word (0 where it has none), and the flags that it sets
@@ -12,15 +13,15 @@ pub record Outcome : Type 0 where
 
 -- no flag, or overflow alone
 abbrev pub overflow_if : Bool → Flags
-overflow_if b = record { overflow = b; carry0 = false; carry1 = false; fov = false; bis = false; nodiv = false }
+overflow_if b = record no_flags { overflow = b }
 
 -- the carries out of bits 0 and 1; overflow where they differ
 abbrev pub carries : Bool → Bool → Flags
-carries out0 out1 = record { overflow = cond out0 (not out1) out1; carry0 = out0; carry1 = out1; fov = false; bis = false; nodiv = false }
+carries out0 out1 = record no_flags { overflow = cond out0 (not out1) out1; carry0 = out0; carry1 = out1 }
 
 -- the flags of a division that isn't done
 abbrev pub not_divided : Flags
-not_divided = record { overflow = true; carry0 = false; carry1 = false; fov = false; bis = false; nodiv = true }
+not_divided = record no_flags { overflow = true; nodiv = true }
 
 -- a word as it is
 abbrev pub moved : ℕ → Outcome

@@ -1,4 +1,5 @@
 pub mod Words
+pub mod Flags
 pub mod Octal
 pub mod Bits
 pub mod Halves

@@ -2,6 +2,7 @@
 use Rattle.std.specs.Prelude.{ℕ, ◌+◌, ◌-◌, ◌*◌, ◌/◌, ◌%◌, ◌^◌, ◌<◌, ℤ, pos, ◌-ℤ◌, Bool, nat_le, unsigned_abs}
 use Rattle.std.specs.Int.{int_rem_euclid}
 
+-- a number that is a word
 abbrev pub IsWord : ℕ → Type 0
 IsWord w = w < 2 ^ 36
 

@@ -4,9 +4,11 @@
 #![tactic(auto)]
 
 mod flags;
+mod laws;
 mod octal;
 mod word;
 
 pub use flags::Flags;
-pub use octal::read_back;
+pub use laws::constants_hold;
+pub use octal::{WORD_DIGITS, fill_octal, read_back, read_octal};
 pub use word::Word;
