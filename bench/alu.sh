@@ -10,7 +10,7 @@ work=$(mktemp -d)
 trap 'rm -rf "$work"' EXIT
 
 mkdir -p "$work/crates/alu_speed/src"
-for crate in word36 ka10_table ka10_alu ka10_bytes; do
+for crate in word36 ka10_alu ka10_bytes; do
     mkdir "$work/crates/$crate"
     find "$top/crates/$crate" -mindepth 1 -maxdepth 1 ! -name out -exec cp -r -t "$work/crates/$crate" {} +
     grep "^$crate:" "$top/crates.txt" >>"$work/crates.txt"
@@ -59,7 +59,8 @@ impl Chain {
     fn take(&mut self, out: Out) {
         let flags = out.flags;
         let set = (flags.overflow as u64) << 1 ^ flags.carry0 as u64 ^ (flags.carry1 as u64) << 2;
-        self.take_word(Word::wrapped(out.word.value() ^ out.low.value() ^ set));
+        let low = out.low.unwrap_or(Word::ZERO).value();
+        self.take_word(Word::wrapped(out.word.value() ^ low ^ set));
     }
 
     fn take_word(&mut self, word: Word) {

@@ -1,12 +1,12 @@
 -- Quotients and remainders of words.
-use Rattle.std.proofs.Common.{◌≡◌, ◌≢◌, ◌⊎◌, inl, inr, ℕ, zero, suc, ◌%◌, ◌^◌, ◌<◌, ◌≤◌, Bool, true, false, refl, sym, ◌∙◌, ap, arith}
+use Rattle.std.proofs.Common.{◌≡◌, ◌≢◌, ◌⊎◌, inl, inr, ℕ, zero, suc, ◌%◌, ◌^◌, ◌<◌, ◌≤◌, Bool, true, false, refl, sym, ◌∙◌, subst, arith}
 use Rattle.std.specs.Prelude.{not, ◌&&◌, ◌==◌, ℤ, pos, negsuc, neg_ℤ, ◌≤ℤ◌, ◌<ℤ◌, int_lt, int_div, int_rem, unsigned_abs, cond, Some, None}
 use Rattle.std.proofs.lemmas.Bool.{eqb-false}
 use Rattle.std.proofs.lemmas.Bool.Decides.{nat_tests}
 use Rattle.std.proofs.lemmas.Int.{ints, quot-rem, rem_below}
 use Rattle.word36.specs.Words.{signed, word_of, IsWord}
-use Rattle.word36.specs.Arithmetic.{Outcome, is_signed_word, is_divisible, divided, overflow_if}
-use Rattle.ka10_alu.specs.Laws.{Divides}
+use Rattle.word36.specs.Arithmetic.{Outcome, in_two_words, is_signed_word, is_divisible, divided}
+use Rattle.ka10_alu.specs.Laws.{Divides, IsQuotient}
 use Rattle.ka10_alu.proofs.Sums.{inside, over, under, sized, fits}
 
 back : (z : ℤ) → neg_ℤ (pos (2 ^ 35)) ≤ℤ z → z <ℤ pos (2 ^ 35) → signed (word_of z) ≡ z
@@ -50,26 +50,24 @@ divisible_parts : (zero_divisor fits_word : Bool) → (not zero_divisor && fits_
 divisible_parts true fits_word h = absurd (cc)
 divisible_parts false fits_word h = (refl, h)
 
-divides_by : (dividend : ℤ) (m q r : ℤ) → 0 < unsigned_abs m → unsigned_abs m ≤ 2 ^ 35 → is_signed_word (int_div dividend m) ≡ true →
-    q ≡ signed (word_of (int_div dividend m)) → r ≡ signed (word_of (int_rem dividend m)) → Divides dividend m q r
-divides_by dividend m q r some most fits_word is_q is_r =
+divides_by : (dividend : ℤ) (m : ℤ) → 0 < unsigned_abs m → unsigned_abs m ≤ 2 ^ 35 → is_signed_word (int_div dividend m) ≡ true →
+    Divides dividend m (signed (word_of (int_div dividend m))) (signed (word_of (int_rem dividend m)))
+divides_by dividend m some most fits_word =
     let smaller : unsigned_abs (int_rem dividend m) < unsigned_abs m = rem_below dividend m some in
-    let q' : q ≡ int_div dividend m = is_q ∙ signed-word_of (int_div dividend m) fits_word in
-    let r' : r ≡ int_rem dividend m = is_r ∙ signed-word_of (int_rem dividend m) (small_is_signed (int_rem dividend m) (omega arith)) in
-    rw (q', r') (record { whole = quot-rem dividend m; smaller = smaller; sign = sign_of_remainder dividend m })
+    rw (signed-word_of (int_div dividend m) fits_word, signed-word_of (int_rem dividend m) (small_is_signed (int_rem dividend m) (omega arith)))
+    (record { whole = quot-rem dividend m; smaller = smaller; sign = sign_of_remainder dividend m })
 
 abbrev record_of : ℤ → ℕ → Outcome
-record_of dividend m = record { word = word_of (int_div dividend (signed m)); low = word_of (int_rem dividend (signed m)); flags = overflow_if false }
+record_of dividend m = in_two_words (word_of (int_div dividend (signed m))) (word_of (int_rem dividend (signed m))) false
 
 done : (dividend : ℤ) (m : ℕ) (o : Outcome) (b : Bool) → IsWord m → is_divisible dividend m ≡ b →
     cond b (Some (record_of dividend m)) None ≡ Some o →
-    Divides dividend (signed m) (signed o.word) (signed o.low)
+    IsQuotient dividend (signed m) o
 done dividend m o true small b is =
     let parts = divisible_parts (m == 0) (is_signed_word (int_div dividend (signed m))) b in
     let same : record_of dividend m ≡ o = cc in
-    divides_by dividend (signed m) (signed o.word) (signed o.low) (divisor_some m small parts.0) (divisor_most m small) parts.1
-    (ap (λ (x : Outcome). signed x.word) (sym same)) (ap (λ (x : Outcome). signed x.low) (sym same))
+    subst (λ (x : Outcome). IsQuotient dividend (signed m) x) same (divides_by dividend (signed m) (divisor_some m small parts.0) (divisor_most m small) parts.1)
 done dividend m o false small b is = absurd (cc)
 
-pub divides : (dividend : ℤ) (m : ℕ) (o : Outcome) → IsWord m → divided dividend m ≡ Some o → Divides dividend (signed m) (signed o.word) (signed o.low)
+pub divides : (dividend : ℤ) (m : ℕ) (o : Outcome) → IsWord m → divided dividend m ≡ Some o → IsQuotient dividend (signed m) o
 divides dividend m o small is = done dividend m o (is_divisible dividend m) small refl is

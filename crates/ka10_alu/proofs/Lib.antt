@@ -4,3 +4,6 @@ pub mod Sums
 pub mod Divisions
 pub mod Products
 pub mod Places
+pub mod Halfwords
+pub mod MaskedBits
+pub mod LogicalShifts

@@ -1,35 +1,34 @@
 // Moves, sums, products and quotients.
-ghost use Rattle.std.specs.Prelude.{◌≡◌, ℕ, ◌+◌, ◌-◌, ◌*◌, ◌/◌, ◌%◌, ◌^◌, ◌<◌, ◌≤◌, ℤ, ◌*ℤ◌, unsigned_abs, int_div, int_rem, Some, option_map, MatchOption, true};
+ghost use Rattle.std.specs.Prelude.{◌≡◌, ◌↔◌, ℕ, ◌+◌, ◌-◌, ◌*◌, ◌/◌, ◌%◌, ◌^◌, ◌<◌, ◌≤◌, ℤ, ◌*ℤ◌, unsigned_abs, int_div, int_rem, Some, IsSome, IfSome, option_map, MatchOption, true};
 ghost use Rattle.word36.specs.Words.{signed, word_of};
-ghost use Rattle.word36.specs.Arithmetic.{IsArithmetic, added, arithmetic, divided, is_signed_word, long, magnitude, moved, multiplied, multiplied_short, negated, overflow_if, subtracted, sum_of, swapped};
+ghost use Rattle.word36.specs.Arithmetic.{HasSecondWord, IsArithmetic, added, arithmetic, divided, is_signed_word, long, magnitude, moved, multiplied, multiplied_short, negated, overflow_if, subtracted, sum_of, swapped};
 ghost use Rattle.ka10_alu.specs.Outs.{out_of};
 
 use crate::out::Out;
+use word36::opcodes::{ADD, ASH, DIV, IDIV, IMUL, MOVE, MOVM, MOVN, MOVS, MUL, SUB};
 use word36::{Flags, Word};
-
-const ONES: u64 = 0o777777777777;
-
-const LOW35: u64 = 0o377777777777;
 
 /// The arithmetic operation of the opcode on the words of AC, of AC plus 1 and of the operand:
 /// MOVE, MOVS, MOVN and MOVM (200 to 217), IMUL, MUL, IDIV and DIV (220 to 237), ADD and SUB
 /// (270 to 277), each in its four modes alike. None exactly where a division isn't done: by 0, or
-/// with a quotient that is no signed word.
+/// with a quotient that is no signed word. A second word comes exactly of MUL, IDIV and DIV.
+#[inline]
 #[tactic(auto, unfolding(word36::specs::Arithmetic::arithmetic))]
 pub fn arith(op: u16, a: Word, a1: Word, m: Word) -> Option<Out>
     requires op { IsArithmetic op }
-    ensures { result ≡ option_map out_of (arithmetic op a a1 m) }
+    ensures value { result ≡ option_map out_of (arithmetic op a a1 m) }
+    ensures second { IfSome result (λ out. IsSome out.low ↔ HasSecondWord op) }
 {
     match op {
-        0o200..=0o203 => Some(Out::moved(m)),
-        0o204..=0o207 => Some(swap(m)),
-        0o210..=0o213 => Some(negate(m)),
-        0o214..=0o217 => Some(magnitude_of(m)),
-        0o220..=0o223 => Some(multiply_short(a, m)),
-        0o224..=0o227 => Some(multiply(a, m)),
-        0o230..=0o233 => divide(a, m),
-        0o234..=0o237 => divide_long(a, a1, m),
-        0o270..=0o273 => Some(add(a, m)),
+        MOVE..MOVS => Some(Out::moved(m)),
+        MOVS..MOVN => Some(swap(m)),
+        MOVN..MOVM => Some(negate(m)),
+        MOVM..IMUL => Some(magnitude_of(m)),
+        IMUL..MUL => Some(multiply_short(a, m)),
+        MUL..IDIV => Some(multiply(a, m)),
+        IDIV..DIV => divide(a, m),
+        DIV..ASH => divide_long(a, a1, m),
+        ADD..SUB => Some(add(a, m)),
         _ => Some(subtract(a, m)),
     }
 }
@@ -49,11 +48,12 @@ fn sum(a: u64, m: u64, carry: u64) -> Out
     ensures { result ≡ out_of (sum_of a m carry) }
 {
     let whole = a + m + carry;
-    let carry0 = whole > ONES;
-    let carry1 = (a & LOW35) + (m & LOW35) + carry > LOW35;
+    let carry0 = whole > Word::MASK;
+    let magnitudes = (a & Word::MAGNITUDE_MASK) + (m & Word::MAGNITUDE_MASK) + carry;
+    let carry1 = magnitudes > Word::MAGNITUDE_MASK;
     Out {
         word: Word::wrapped(whole),
-        low: Word::ZERO,
+        low: None,
         flags: Flags {
             overflow: carry0 != carry1,
             carry0,
@@ -74,7 +74,7 @@ fn add(a: Word, m: Word) -> Out
 fn subtract(a: Word, m: Word) -> Out
     ensures { result ≡ out_of (subtracted a m) }
 {
-    sum(a.value(), m.value() ^ ONES, 1)
+    sum(a.value(), m.value() ^ Word::MASK, 1)
 }
 
 /// MOVN: 0 less the word.
@@ -88,7 +88,7 @@ fn negate(m: Word) -> Out
 fn magnitude_of(m: Word) -> Out
     ensures { result ≡ out_of (magnitude m) }
 {
-    if m.value() > LOW35 {
+    if m.value() > Word::MAGNITUDE_MASK {
         negate(m)
     } else {
         Out::moved(m)
@@ -117,7 +117,7 @@ fn multiply_short(a: Word, m: Word) -> Out
     let product = product(a, m);
     let low = product.rem_euclid(1 << 35) as u64;
     let sign = if product < 0 { 1 << 35 } else { 0 };
-    Out::with_overflow(Word::wrapped(sign + low), Word::ZERO, !fits(product))
+    Out::one_word(Word::wrapped(sign + low), !fits(product))
 }
 
 /// MUL: the product divided by 2^35, and its low 35 bits under the same sign bit.
@@ -127,7 +127,7 @@ fn multiply(a: Word, m: Word) -> Out
     let product = product(a, m);
     let high = Word::from_signed((product >> 35) as i64);
     let low = product.rem_euclid(1 << 35) as u64;
-    Out::with_overflow(
+    Out::two_words(
         high,
         Word::wrapped((high.value() >> 35 << 35) + low),
         a.value() == 1 << 35 && m.value() == 1 << 35,
@@ -175,7 +175,7 @@ fn dividend_of(a: Word, a1: Word) -> i128
     ensures value { result ≡ long a a1 }
     ensures below { unsigned_abs result ≤ 2 ^ 71 }
 {
-    a.signed() as i128 * (1 << 35) + (a1.value() & LOW35) as i128
+    a.signed() as i128 * (1 << 35) + (a1.value() & Word::MAGNITUDE_MASK) as i128
 }
 
 /// The signed value of a divisor that isn't 0.
@@ -198,7 +198,7 @@ fn divide(a: Word, m: Word) -> Option<Out>
     if !fits(quotient as i128) {
         return None;
     }
-    Some(Out::with_overflow(
+    Some(Out::two_words(
         Word::from_signed(quotient),
         Word::from_signed(remainder(dividend, divisor)),
         false,
@@ -223,7 +223,7 @@ fn divide_long(a: Word, a1: Word, m: Word) -> Option<Out>
     if !fits(quotient) {
         return None;
     }
-    Some(Out::with_overflow(
+    Some(Out::two_words(
         signed_word(quotient),
         Word::from_signed(remainder_long(dividend, divisor)),
         false,

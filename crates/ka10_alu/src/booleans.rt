@@ -1,11 +1,10 @@
 // Boolean functions of words.
 ghost use Rattle.std.specs.Int.{bit_at};
-ghost use Rattle.std.specs.Prelude.{◌≡◌, ℕ, ◌*◌, ◌/◌, ◌<◌, ◌≤◌, ◌-◌, ◌^◌};
-ghost use Rattle.word36.specs.Boolean.{boolean_of, boolean_word};
+ghost use Rattle.std.specs.Prelude.{◌≡◌, ℕ, ◌*◌, ◌<◌, ◌^◌};
+ghost use Rattle.word36.specs.Boolean.{IsBoolean, boolean_of, boolean_word};
 
 use word36::Word;
-
-const ONES: u64 = 0o777777777777;
+use word36::opcodes::SETZ;
 
 /// A word where the function's number has a 1 in a place, else 0.
 fn picked(function: u16, place: u16, w: u64) -> u64
@@ -26,8 +25,8 @@ pub fn boolean_by(function: u16, a: Word, m: Word) -> Word
 {
     let a = a.value();
     let m = m.value();
-    let not_a = a ^ ONES;
-    let not_m = m ^ ONES;
+    let not_a = a ^ Word::MASK;
+    let not_m = m ^ Word::MASK;
     Word::wrapped(
         picked(function, 0, a & m)
             | picked(function, 1, not_a & m)
@@ -40,11 +39,10 @@ pub fn boolean_by(function: u16, a: Word, m: Word) -> Word
 /// and the memory operand's (PDP-10 handbook, "Boolean functions").
 #[inline]
 pub fn boolean(op: u16, a: Word, m: Word) -> Word
-    requires first { 0o400 ≤ op }
-    requires last { op < 0o500 }
+    requires { IsBoolean op }
     ensures { result ≡ boolean_of op a m }
 {
-    boolean_by((op - 0o400) / 4, a, m)
+    boolean_by((op - SETZ) / 4, a, m)
 }
 
 #[cfg(test)]

@@ -1,10 +1,9 @@
 // Halfword moves.
-ghost use Rattle.std.specs.Prelude.{◌≡◌, ◌<◌, ◌≤◌, ◌^◌};
-ghost use Rattle.word36.specs.Halves.{half_of, other_half};
+ghost use Rattle.std.specs.Prelude.{◌≡◌, ◌<◌, ◌^◌};
+ghost use Rattle.word36.specs.Halves.{IsHalfwordMove, half_of, other_half};
 
 use word36::Word;
-
-const ONES: u32 = 0o777777;
+use word36::opcodes::HLL;
 
 /// The destination's other half, by the third letter: none, Z, O or E.
 fn other(letter: u16, old: u32, moved: u32) -> u32
@@ -17,8 +16,8 @@ fn other(letter: u16, old: u32, moved: u32) -> u32
     match letter {
         0 => old,
         1 => 0,
-        2 => ONES,
-        _ => (moved >> 17) * ONES,
+        2 => Word::HALF_MASK,
+        _ => (moved >> 17) * Word::HALF_MASK,
     }
 }
 
@@ -29,11 +28,10 @@ fn other(letter: u16, old: u32, moved: u32) -> u32
 #[inline]
 #[tactic(auto, unfolding(word36::specs::Halves::half_of))]
 pub fn half(op: u16, source: Word, dest: Word) -> Word
-    requires first { 0o500 ≤ op }
-    requires last { op < 0o600 }
+    requires { IsHalfwordMove op }
     ensures { result ≡ half_of op source dest }
 {
-    let code = (op - 0o500) / 4;
+    let code = (op - HLL) / 4;
     let to_left = code < 8;
     let from_left = to_left == (code % 2 == 0);
     let moved = if from_left {

@@ -17,8 +17,10 @@ pub use booleans::boolean;
 pub use conditions::holds;
 pub use halves::half;
 pub use laws::{
-    arithmetic_shifts_go_by_places, divisions_are_whole, first_ones_are_leftmost,
-    products_are_whole, sums_are_signed, whole_turns_are_nothing,
+    arithmetic_shifts_go_by_places, booleans_go_by_bits, divisions_are_whole,
+    first_ones_are_leftmost, halfwords_are_moved, logical_shifts_move_bits,
+    logical_shifts_multiply_and_divide, products_are_whole, sums_are_signed,
+    tests_change_masked_bits, tests_skip_by_masked_bits, whole_turns_are_nothing,
 };
 pub use out::Out;
 pub use shifts::shift;

@@ -1,36 +1,45 @@
 // Shifts and rotations of one word and of two together.
-ghost use Rattle.std.specs.Prelude.{◌≡◌, ℕ, ◌+◌, ◌-◌, ◌*◌, ◌/◌, ◌%◌, ◌^◌, ◌<◌, ◌≤◌, Bool, true, false, not, ◌&&◌};
+ghost use Rattle.std.specs.Prelude.{◌≡◌, ◌↔◌, ℕ, ◌+◌, ◌-◌, ◌*◌, ◌/◌, ◌%◌, ◌^◌, ◌<◌, ◌≤◌, Bool, true, false, IsSome};
 ghost use Rattle.std.specs.Int.Count.{count_leading_zeros};
-ghost use Rattle.word36.specs.Arithmetic.{overflow_if};
-ghost use Rattle.word36.specs.Shifts.{IsShift, ash, ash_both, ash_left, ash_overflows, ash_right, double, double_signed, first_one, is_right, logical, places, rotated, rotated_left, shifted, two_signed_words, two_words};
+ghost use Rattle.word36.specs.Arithmetic.{HasSecondWord, in_two_words};
+ghost use Rattle.word36.specs.Shifts.{IsShift, ash_both, ash_left, ash_one, ash_overflows, ash_right, double, double_signed, first_one, is_right, logical, places, rotated, rotated_left, shifted, split, split_signed};
 ghost use Rattle.ka10_alu.specs.Outs.{out_of};
 
 use crate::out::Out;
 use word36::Word;
+use word36::opcodes::{ASH, ASHC, JFFO, LSH, ROT, ROTC};
 
-const LOW35: u64 = 0o377777777777;
+// How many bits the shifts are of: a word or two, and under the sign of a word or of two.
+const WORD_BITS: u32 = 36;
 
-const LOW36: u64 = 0o777777777777;
+const DOUBLE_BITS: u32 = 72;
+
+const MAGNITUDE_BITS: u32 = 35;
+
+const DOUBLE_MAGNITUDE_BITS: u32 = 70;
 
 /// The shift of the opcode on the words of AC and of AC plus 1: ASH, ROT, LSH, JFFO, ASHC, ROTC
 /// and LSHC (240 to 246). The effective address is a signed number of 18 bits, positive to the
-/// left, its magnitude taken modulo 256. JFFO gives its count of zeros as the low word.
+/// left, its magnitude taken modulo 256. A second word comes exactly of JFFO, its count of zeros,
+/// and of the shifts of two words.
+#[inline]
 #[tactic(auto, unfolding(word36::specs::Shifts::shifted))]
 pub fn shift(op: u16, a: Word, a1: Word, e: u32) -> Out
     requires op { IsShift op }
     requires e { e < 2 ^ 18 }
-    ensures { result ≡ out_of (shifted op a a1 e) }
+    ensures value { result ≡ out_of (shifted op a a1 e) }
+    ensures second { IsSome result.low ↔ HasSecondWord op }
 {
     let right = right(e);
     let n = count(e);
     match op {
-        0o240 => shift_arithmetic(right, a, n),
-        0o241 => Out::moved(low_word(rotate(36, right, a.value() as u128, n))),
-        0o242 => Out::moved(low_word(shift_logical(36, right, a.value() as u128, n))),
-        0o243 => find_first_one(a),
-        0o244 => shift_arithmetic_both(right, a, a1, n),
-        0o245 => split(rotate(72, right, both(a, a1), n)),
-        _ => split(shift_logical(72, right, both(a, a1), n)),
+        ASH => shift_arithmetic(right, a, n),
+        ROT => Out::moved(low_word(rotate(WORD_BITS, right, a.value() as u128, n))),
+        LSH => Out::moved(low_word(shift_logical(WORD_BITS, right, a.value() as u128, n))),
+        JFFO => find_first_one(a),
+        ASHC => shift_arithmetic_both(right, a, a1, n),
+        ROTC => split(rotate(DOUBLE_BITS, right, both(a, a1), n)),
+        _ => split(shift_logical(DOUBLE_BITS, right, both(a, a1), n)),
     }
 }
 
@@ -74,9 +83,13 @@ fn both(a: Word, a1: Word) -> u128
 /// The two words of 72 bits.
 fn split(d: u128) -> Out
     requires { d < 2 ^ 72 }
-    ensures { result ≡ out_of (two_words d) }
+    ensures { result ≡ out_of (split d) }
 {
-    Out::with_overflow(low_word(d >> 36), low_word(d & LOW36 as u128), false)
+    Out::two_words(
+        low_word(d >> WORD_BITS),
+        low_word(d & Word::MASK as u128),
+        false,
+    )
 }
 
 /// A word and the low 35 bits of the next as one number of 71 bits.
@@ -84,18 +97,18 @@ fn both_signed(a: Word, a1: Word) -> u128
     ensures value { result ≡ double_signed a a1 }
     ensures below { result < 2 ^ 71 }
 {
-    (a.value() as u128) << 35 | (a1.value() & LOW35) as u128
+    (a.value() as u128) << 35 | (a1.value() & Word::MAGNITUDE_MASK) as u128
 }
 
 /// The two words of 71 bits, with one sign.
 fn split_signed(d: u128, overflow: bool) -> Out
     requires { d < 2 ^ 71 }
-    ensures { result ≡ out_of (two_signed_words d overflow) }
+    ensures { result ≡ out_of (split_signed d overflow) }
 {
-    let sign = (d >> 70) << 35;
-    Out::with_overflow(
-        low_word(d >> 35),
-        low_word(sign | d & LOW35 as u128),
+    let sign = (d >> DOUBLE_MAGNITUDE_BITS) << MAGNITUDE_BITS;
+    Out::two_words(
+        low_word(d >> MAGNITUDE_BITS),
+        low_word(sign | d & Word::MAGNITUDE_MASK as u128),
         overflow,
     )
 }
@@ -218,16 +231,15 @@ fn loses_a_bit(under: u32, d: u128, n: u32) -> bool
 
 /// ASH.
 fn shift_arithmetic(is_right: bool, a: Word, n: u32) -> Out
-    ensures { result ≡ out_of (record { word = ash 35 is_right a n; low = 0; flags = overflow_if (not is_right && ash_overflows 35 a n) }) }
+    ensures { result ≡ out_of (ash_one is_right a n) }
 {
     let d = a.value() as u128;
     if is_right {
-        Out::moved(low_word(ash_to_right(35, d, n)))
+        Out::moved(low_word(ash_to_right(MAGNITUDE_BITS, d, n)))
     } else {
-        Out::with_overflow(
-            low_word(ash_to_left(35, d, n)),
-            Word::ZERO,
-            loses_a_bit(35, d, n),
+        Out::one_word(
+            low_word(ash_to_left(MAGNITUDE_BITS, d, n)),
+            loses_a_bit(MAGNITUDE_BITS, d, n),
         )
     }
 }
@@ -237,13 +249,16 @@ fn shift_arithmetic_both(is_right: bool, a: Word, a1: Word, n: u32) -> Out
     ensures { result ≡ out_of (ash_both is_right a a1 n) }
 {
     if n == 0 {
-        return Out::with_overflow(a, a1, false);
+        return Out::two_words(a, a1, false);
     }
     let d = both_signed(a, a1);
     if is_right {
-        split_signed(ash_to_right(70, d, n), false)
+        split_signed(ash_to_right(DOUBLE_MAGNITUDE_BITS, d, n), false)
     } else {
-        split_signed(ash_to_left(70, d, n), loses_a_bit(70, d, n))
+        split_signed(
+            ash_to_left(DOUBLE_MAGNITUDE_BITS, d, n),
+            loses_a_bit(DOUBLE_MAGNITUDE_BITS, d, n),
+        )
     }
 }
 
@@ -258,13 +273,13 @@ fn zeros(n: u64) -> u32
 
 /// JFFO: how many zeros stand before the first one; 0 for the word 0.
 fn find_first_one(a: Word) -> Out
-    ensures { result ≡ out_of (record { word = a; low = first_one a; flags = overflow_if false }) }
+    ensures { result ≡ out_of (in_two_words a (first_one a) false) }
 {
     let n = a.value();
     if n == 0 {
-        return Out::with_overflow(a, Word::ZERO, false);
+        return Out::two_words(a, Word::ZERO, false);
     }
-    Out::with_overflow(a, Word::wrapped(zeros(n) as u64), false)
+    Out::two_words(a, Word::wrapped(zeros(n) as u64), false)
 }
 
 #[cfg(test)]

@@ -1,20 +1,11 @@
 // Tests of masked bits.
-ghost use Rattle.std.specs.Prelude.{◌≡◌, ◌==◌, ◌<◌, ◌≤◌};
+ghost use Rattle.std.specs.Prelude.{◌≡◌, ◌==◌};
 ghost use Rattle.word36.specs.Boolean.{boolean_of};
-ghost use Rattle.word36.specs.Tests.{mask_of, test_skips, tested};
+ghost use Rattle.word36.specs.Tests.{IsTest, mask_of, test_skips, tested};
 
 use crate::booleans::boolean;
 use word36::Word;
-
-const AND: u16 = 0o404;
-
-const ANDCM: u16 = 0o420;
-
-const SETA: u16 = 0o424;
-
-const XOR: u16 = 0o430;
-
-const IOR: u16 = 0o434;
+use word36::opcodes::{AND, ANDCM, IOR, SETA, TRN, XOR};
 
 /// The mask of TRN to TSON, opcodes 600 to 677, of 0,,E (R and L) or of the word at E (D and S):
 /// L and S swap its halves (PDP-10 handbook, "Logical testing and modification").
@@ -31,7 +22,7 @@ pub fn mask(op: u16, m: Word) -> Word
 
 /// Whether all masked bits of a word are 0.
 fn is_clear(a: Word, mask: Word) -> bool
-    ensures { result ≡ (boolean_of 0o404 a mask == 0) }
+    ensures { result ≡ (boolean_of AND a mask == 0) }
 {
     boolean(AND, a, mask).value() == 0
 }
@@ -42,12 +33,11 @@ fn is_clear(a: Word, mask: Word) -> bool
 /// bits of the old word are all 0 (E), always (A), where they are not all 0 (N).
 #[inline]
 pub fn test(op: u16, a: Word, mask: Word) -> (Word, bool)
-    requires first { 0o600 ≤ op }
-    requires last { op < 0o700 }
+    requires { IsTest op }
     ensures word { result.0 ≡ tested op a mask }
     ensures skips { result.1 ≡ test_skips op a mask }
 {
-    let function = match (op - 0o600) / 0o20 {
+    let function = match (op - TRN) / 0o20 {
         0 => SETA,
         1 => ANDCM,
         2 => XOR,

@@ -1,3 +1,2 @@
-pub mod SingleBits
 pub mod Placing
 pub mod Stepping

@@ -8,7 +8,7 @@ use Rattle.std.proofs.lemmas.Nat.{pow_pos, pow-add, mod_below, shr_le, and_mask}
 use Rattle.std.proofs.Math.Nat.{mod-le, mod-eq_of_lt}
 use Rattle.std.proofs.lemmas.Nat.Bits.{bit_at-lt, bit_at_and, bit_at_or, bit_at_not, bit_at_ones, bit_at_ones_above, bit_at_cat_low, bit_at_cat_high, same_from_bits, same_from_bits_below}
 use Rattle.word36.specs.Bytes.{with_byte_at}
-use Rattle.ka10_bytes.proofs.SingleBits.{bit_at_mod, bit_at_mod_above, bit_at_div, bit_at_shl_low, bit_at_shl_high}
+use Rattle.word36.proofs.SingleBits.{bit_at_mod, bit_at_mod_above, bit_at_div, bit_at_shl_low, bit_at_shl_high}
 
 -- the three parts, the left two as one
 parts : (p s a b c : ℕ) → a * 2 ^ (p + s) + b * 2 ^ p + c ≡ (a * 2 ^ s + b) * 2 ^ p + c

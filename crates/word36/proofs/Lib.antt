@@ -1,2 +1,3 @@
+pub mod SingleBits
 pub mod BitSums
 pub mod OctalLemmas

@@ -2,13 +2,14 @@
 use Rattle.std.specs.Prelude.{ℕ, ◌+◌, ◌-◌, ◌*◌, ◌/◌, ◌%◌, ◌^◌, Bool, true, false, cond, not, ◌&&◌, ◌==◌, nat_lt, nat_le, ℤ, pos, ◌+ℤ◌, ◌*ℤ◌, neg_ℤ, unsigned_abs, int_lt, int_le, int_div, int_rem, ◌≤◌, ◌<◌, ◌⊎◌, Option, Some, None}
 use Rattle.std.specs.Int.{int_div_euclid, int_rem_euclid}
 use Rattle.word36.specs.declared.flags.Flags.{Flags}
+use Rattle.word36.specs.declared.opcodes.TheConstants.{MOVE, MOVS, MOVN, MOVM, IMUL, MUL, IDIV, DIV, ASH, JFFO, LSHC, ADD, SUB, CAI}
 use Rattle.word36.specs.Flags.{no_flags}
 use Rattle.word36.specs.Words.{left, right, joined, is_negative, signed, word_of}
 
--- what an operation gives: a word, a low word (0 where it has none), and the flags that it sets
+-- what an operation gives: a word, a second word for the next accumulator if it has one, and the flags that it sets
 pub record Outcome : Type 0 where
   pub word : ℕ
-  pub low : ℕ
+  pub low : Option ℕ
   pub flags : Flags
 
 -- no flag, or overflow alone
@@ -23,9 +24,17 @@ carries out0 out1 = record no_flags { overflow = cond out0 (not out1) out1; carr
 abbrev pub not_divided : Flags
 not_divided = record no_flags { overflow = true; nodiv = true }
 
+-- one word, with overflow or with no flag
+abbrev pub in_one_word : ℕ → Bool → Outcome
+in_one_word w overflow = record { word = w; low = None; flags = overflow_if overflow }
+
+-- two words, with overflow or with no flag
+abbrev pub in_two_words : ℕ → ℕ → Bool → Outcome
+in_two_words w low overflow = record { word = w; low = Some low; flags = overflow_if overflow }
+
 -- a word as it is
 abbrev pub moved : ℕ → Outcome
-moved w = record { word = w; low = 0; flags = overflow_if false }
+moved w = in_one_word w false
 
 -- a word with its halves exchanged
 abbrev pub swapped : ℕ → Outcome
@@ -35,7 +44,7 @@ swapped w = moved (joined (right w) (left w))
 abbrev pub sum_of : ℕ → ℕ → ℕ → Outcome
 sum_of a m c = record {
   word = (a + m + c) % 2 ^ 36;
-  low = 0;
+  low = None;
   flags = carries (nat_le (2 ^ 36) (a + m + c)) (nat_le (2 ^ 35) (a % 2 ^ 35 + m % 2 ^ 35 + c));
 }
 
@@ -63,11 +72,7 @@ is_signed_word z = int_le (neg_ℤ (pos (2 ^ 35))) z && int_lt z (pos (2 ^ 35))
 abbrev pub multiplied_short : ℕ → ℕ → Outcome
 multiplied_short a m =
     let p = signed a *ℤ signed m in
-    record {
-      word = cond (int_lt p (pos 0)) (2 ^ 35) 0 + unsigned_abs (int_rem_euclid p (pos (2 ^ 35)));
-      low = 0;
-      flags = overflow_if (not (is_signed_word p));
-    }
+    in_one_word (cond (int_lt p (pos 0)) (2 ^ 35) 0 + unsigned_abs (int_rem_euclid p (pos (2 ^ 35)))) (not (is_signed_word p))
 
 -- MUL: the product divided by 2^35, rounded down; below it a word with the same bit 0 and the product's low 35 bits;
 -- only the product of 400000000000 by itself is out of range
@@ -75,11 +80,7 @@ abbrev pub multiplied : ℕ → ℕ → Outcome
 multiplied a m =
     let p = signed a *ℤ signed m in
     let high = word_of (int_div_euclid p (pos (2 ^ 35))) in
-    record {
-      word = high;
-      low = high / 2 ^ 35 * 2 ^ 35 + unsigned_abs (int_rem_euclid p (pos (2 ^ 35)));
-      flags = overflow_if ((a == 2 ^ 35) && (m == 2 ^ 35));
-    }
+    in_two_words high (high / 2 ^ 35 * 2 ^ 35 + unsigned_abs (int_rem_euclid p (pos (2 ^ 35)))) ((a == 2 ^ 35) && (m == 2 ^ 35))
 
 -- a division is done where the divisor isn't 0 and the quotient, rounded towards 0, is a signed word
 abbrev pub is_divisible : ℤ → ℕ → Bool
@@ -88,7 +89,7 @@ is_divisible dividend m = not (m == 0) && is_signed_word (int_div dividend (sign
 -- the quotient rounded towards 0, and the remainder with the dividend's sign
 abbrev pub divided : ℤ → ℕ → Option Outcome
 divided dividend m = cond (is_divisible dividend m)
-    (Some (record { word = word_of (int_div dividend (signed m)); low = word_of (int_rem dividend (signed m)); flags = overflow_if false }))
+    (Some (in_two_words (word_of (int_div dividend (signed m))) (word_of (int_rem dividend (signed m))) false))
     None
 
 -- DIV's dividend: the signed word times 2^35, and the low 35 bits of the next
@@ -98,17 +99,21 @@ long a a1 = signed a *ℤ pos (2 ^ 35) +ℤ pos (a1 % 2 ^ 35)
 -- the operation of an opcode, four modes each, on accumulators AC and AC plus 1 and the operand
 unfoldable pub arithmetic : ℕ → ℕ → ℕ → ℕ → Option Outcome
 arithmetic op a a1 m =
-    cond (nat_lt op 0o204) (Some (moved m))  -- MOVE
-    (cond (nat_lt op 0o210) (Some (swapped m))  -- MOVS
-    (cond (nat_lt op 0o214) (Some (negated m))  -- MOVN
-    (cond (nat_lt op 0o220) (Some (magnitude m))  -- MOVM
-    (cond (nat_lt op 0o224) (Some (multiplied_short a m))  -- IMUL
-    (cond (nat_lt op 0o230) (Some (multiplied a m))  -- MUL
-    (cond (nat_lt op 0o234) (divided (signed a) m)  -- IDIV
-    (cond (nat_lt op 0o240) (divided (long a a1) m)  -- DIV
-    (cond (nat_lt op 0o274) (Some (added a m))  -- ADD
+    cond (nat_lt op MOVS) (Some (moved m))  -- MOVE
+    (cond (nat_lt op MOVN) (Some (swapped m))  -- MOVS
+    (cond (nat_lt op MOVM) (Some (negated m))  -- MOVN
+    (cond (nat_lt op IMUL) (Some (magnitude m))  -- MOVM
+    (cond (nat_lt op MUL) (Some (multiplied_short a m))  -- IMUL
+    (cond (nat_lt op IDIV) (Some (multiplied a m))  -- MUL
+    (cond (nat_lt op DIV) (divided (signed a) m)  -- IDIV
+    (cond (nat_lt op ASH) (divided (long a a1) m)  -- DIV
+    (cond (nat_lt op SUB) (Some (added a m))  -- ADD
     (Some (subtracted a m))))))))))
 
--- an opcode of these: 200 to 237 and 270 to 277
+-- an opcode of these: MOVE to DIV, ADD and SUB, each with its four modes
 abbrev pub IsArithmetic : ℕ → Type 0
-IsArithmetic op = ((0o200 ≤ op) × (op < 0o240)) ⊎ ((0o270 ≤ op) × (op < 0o300))
+IsArithmetic op = ((MOVE ≤ op) × (op < ASH)) ⊎ ((ADD ≤ op) × (op < CAI))
+
+-- an operation with a second word for the next accumulator: MUL, IDIV and DIV; JFFO, ASHC, ROTC and LSHC
+abbrev pub HasSecondWord : ℕ → Type 0
+HasSecondWord op = ((MUL ≤ op) × (op < ASH)) ⊎ ((JFFO ≤ op) × (op ≤ LSHC))

@@ -1,6 +1,7 @@
 -- Boolean instructions, 400 to 477 (PDP-10 handbook, "Boolean functions").
-use Rattle.std.specs.Prelude.{ℕ, ◌+◌, ◌-◌, ◌/◌, ◌%◌, min, max, List, [], ◌∷◌, slice_index}
+use Rattle.std.specs.Prelude.{ℕ, ◌+◌, ◌-◌, ◌/◌, ◌%◌, ◌<◌, ◌≤◌, min, max, List, [], ◌∷◌, slice_index}
 use Rattle.std.specs.Int.{bit_at}
+use Rattle.word36.specs.declared.opcodes.TheConstants.{SETZ, HLL}
 use Rattle.word36.specs.Bits.{from_bits}
 
 -- what the sixteen functions give for a bit of the accumulator and a bit of the memory operand: SETZ, AND, ANDCA, SETM; ANDCM, SETA, XOR, IOR; ANDCB, EQV, SETCA, ORCA; SETCM, ORCM, ORCB, SETO
@@ -16,6 +17,14 @@ boolean_bits a m =
 unfoldable pub boolean_word : ℕ → ℕ → ℕ → ℕ
 boolean_word function a m = from_bits 36 (λ i. slice_index (boolean_bits (bit_at a i) (bit_at m i)) function)
 
--- the result of an opcode: each function has four
+-- the function of an opcode: each has four, one a mode
+abbrev pub function_of : ℕ → ℕ
+function_of op = (op - SETZ) / 4
+
+-- the result of an opcode
 abbrev pub boolean_of : ℕ → ℕ → ℕ → ℕ
-boolean_of op a m = boolean_word ((op - 0o400) / 4) a m
+boolean_of op a m = boolean_word (function_of op) a m
+
+-- an opcode of these: SETZ to SETO
+abbrev pub IsBoolean : ℕ → Type 0
+IsBoolean op = (SETZ ≤ op) × (op < HLL)

@@ -1,5 +1,6 @@
 -- Halfword instructions, 500 to 577 (PDP-10 handbook, "Half word data transmission").
-use Rattle.std.specs.Prelude.{ℕ, ◌-◌, ◌*◌, ◌/◌, ◌%◌, ◌^◌, Bool, cond, ◌==◌}
+use Rattle.std.specs.Prelude.{ℕ, ◌<◌, ◌≤◌, ◌-◌, ◌*◌, ◌/◌, ◌%◌, ◌^◌, Bool, cond, ◌==◌}
+use Rattle.word36.specs.declared.opcodes.TheConstants.{HLL, TRN}
 use Rattle.word36.specs.Words.{left, right, joined}
 
 -- what the destination's other half becomes, by the third letter: it stays (none), or is 0 (Z), all ones (O), or copies of the moved half's leftmost bit (E)
@@ -16,5 +17,9 @@ half_moved from_left to_left letter source dest =
 -- by fours: HLL, HRL, HLLZ, HRLZ, HLLO, HRLO, HLLE, HRLE, then HRR, HLR, HRRZ, HLRZ, HRRO, HLRO, HRRE, HLRE
 unfoldable pub half_of : ℕ → ℕ → ℕ → ℕ
 half_of op source dest =
-    let code = (op - 0o500) / 4 in
+    let code = (op - HLL) / 4 in
     half_moved (code / 8 == code % 2) (code / 8 == 0) (code / 2 % 4) source dest
+
+-- an opcode of these: HLL to HLRE
+abbrev pub IsHalfwordMove : ℕ → Type 0
+IsHalfwordMove op = (HLL ≤ op) × (op < TRN)

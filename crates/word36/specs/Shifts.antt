@@ -1,7 +1,8 @@
 -- Shifts and rotations of one word and of two together (PDP-10 handbook, "Shift and rotate").
 use Rattle.std.specs.Prelude.{ℕ, ◌+◌, ◌-◌, ◌*◌, ◌/◌, ◌%◌, ◌^◌, ◌≤◌, Bool, false, cond, not, ◌&&◌, nat_le, nat_lt, ◌==◌}
 use Rattle.std.specs.Int.Count.{count_leading_zeros}
-use Rattle.word36.specs.Arithmetic.{Outcome, moved, overflow_if}
+use Rattle.word36.specs.declared.opcodes.TheConstants.{ASH, ROT, LSH, JFFO, ASHC, ROTC, LSHC}
+use Rattle.word36.specs.Arithmetic.{Outcome, in_one_word, in_two_words, moved}
 
 -- E is a signed number of 18 bits: a negative one shifts to the right
 abbrev pub is_right : ℕ → Bool
@@ -48,36 +49,40 @@ abbrev pub double_signed : ℕ → ℕ → ℕ
 double_signed a a1 = a * 2 ^ 35 + a1 % 2 ^ 35
 
 -- the two words of 72 bits
-abbrev pub two_words : ℕ → Outcome
-two_words d = record { word = d / 2 ^ 36; low = d % 2 ^ 36; flags = overflow_if false }
+abbrev pub split : ℕ → Outcome
+split d = in_two_words (d / 2 ^ 36) (d % 2 ^ 36) false
 
 -- the two words of 71 bits, with one sign
-abbrev pub two_signed_words : ℕ → Bool → Outcome
-two_signed_words d overflow = record { word = d / 2 ^ 35; low = d / 2 ^ 70 * 2 ^ 35 + d % 2 ^ 35; flags = overflow_if overflow }
+abbrev pub split_signed : ℕ → Bool → Outcome
+split_signed d overflow = in_two_words (d / 2 ^ 35) (d / 2 ^ 70 * 2 ^ 35 + d % 2 ^ 35) overflow
+
+-- ASH
+abbrev pub ash_one : Bool → ℕ → ℕ → Outcome
+ash_one right a n = in_one_word (ash 35 right a n) (not right && ash_overflows 35 a n)
 
 -- ASHC; by 0 places nothing changes, bit 0 of the second word included
 abbrev pub ash_both : Bool → ℕ → ℕ → ℕ → Outcome
 ash_both right a a1 n = cond (n == 0)
-    (record { word = a; low = a1; flags = overflow_if false })
-    (two_signed_words (ash 70 right (double_signed a a1) n) (not right && ash_overflows 70 (double_signed a a1) n))
+    (in_two_words a a1 false)
+    (split_signed (ash 70 right (double_signed a a1) n) (not right && ash_overflows 70 (double_signed a a1) n))
 
 -- JFFO: the count of zeros before the first one, and 0 for the word 0
 abbrev pub first_one : ℕ → ℕ
 first_one a = cond (a == 0) 0 (count_leading_zeros 36 a)
 
--- the row of an opcode, 240 to 246, on accumulators AC and AC plus 1 and the effective address
+-- the shift of an opcode on accumulators AC and AC plus 1 and the effective address
 unfoldable pub shifted : ℕ → ℕ → ℕ → ℕ → Outcome
 shifted op a a1 e =
     let right = is_right e in
     let n = places e in
-    cond (op == 0o240) (record { word = ash 35 right a n; low = 0; flags = overflow_if (not right && ash_overflows 35 a n) })  -- ASH
-    (cond (op == 0o241) (moved (rotated 36 right a n))  -- ROT
-    (cond (op == 0o242) (moved (logical 36 right a n))  -- LSH
-    (cond (op == 0o243) (record { word = a; low = first_one a; flags = overflow_if false })  -- JFFO
-    (cond (op == 0o244) (ash_both right a a1 n)  -- ASHC
-    (cond (op == 0o245) (two_words (rotated 72 right (double a a1) n))  -- ROTC
-    (two_words (logical 72 right (double a a1) n)))))))  -- LSHC
+    cond (op == ASH) (ash_one right a n)
+    (cond (op == ROT) (moved (rotated 36 right a n))
+    (cond (op == LSH) (moved (logical 36 right a n))
+    (cond (op == JFFO) (in_two_words a (first_one a) false)
+    (cond (op == ASHC) (ash_both right a a1 n)
+    (cond (op == ROTC) (split (rotated 72 right (double a a1) n))
+    (split (logical 72 right (double a a1) n)))))))  -- LSHC
 
--- an opcode of these: 240 to 246
+-- an opcode of these: ASH to LSHC
 abbrev pub IsShift : ℕ → Type 0
-IsShift op = (0o240 ≤ op) × (op ≤ 0o246)
+IsShift op = (ASH ≤ op) × (op ≤ LSHC)

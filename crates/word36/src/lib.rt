@@ -1,4 +1,4 @@
-//! Words of 36 bits, their halves, signed values and octal texts, and the processor's flags.
+//! Words of 36 bits, their halves, signed values and octal texts, the processor's flags, and opcodes.
 //! To the layers above a word is a number below 2^36.
 //! Stands on no other crate.
 #![tactic(auto)]
@@ -6,6 +6,7 @@
 mod flags;
 mod laws;
 mod octal;
+pub mod opcodes;
 mod word;
 
 pub use flags::Flags;

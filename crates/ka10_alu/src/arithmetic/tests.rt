@@ -37,10 +37,18 @@ const CARRY_1: Flags = Flags {
     ..Flags::CLEAR
 };
 
-fn out(word: u64, low: u64, flags: Flags) -> Option<Out> {
+fn one(word: u64, flags: Flags) -> Option<Out> {
     Some(Out {
         word: Word::wrapped(word),
-        low: Word::wrapped(low),
+        low: None,
+        flags,
+    })
+}
+
+fn two(word: u64, low: u64, flags: Flags) -> Option<Out> {
+    Some(Out {
+        word: Word::wrapped(word),
+        low: Some(Word::wrapped(low)),
         flags,
     })
 }
@@ -54,7 +62,7 @@ fn at(op: u16, a: u64, a1: u64, m: u64) -> Option<Out>
 #[test]
 fn moves(rt: HostRuntime) {
     for w in [0, 1, MINUS_1, MOST, LEAST, NEXT] {
-        assert_eq!(rt; at(0o200, 5, 6, w), out(w, 0, NONE), "MOVE {w}");
+        assert_eq!(rt; at(0o200, 5, 6, w), one(w, NONE), "MOVE {w}");
     }
     for (w, want) in [
         (0, 0),
@@ -64,7 +72,7 @@ fn moves(rt: HostRuntime) {
         (LEAST, 0o000000400000),
         (NEXT, 0o000001400000),
     ] {
-        assert_eq!(rt; at(0o206, 5, 6, w), out(want, 0, NONE), "MOVSM {w}");
+        assert_eq!(rt; at(0o206, 5, 6, w), one(want, NONE), "MOVSM {w}");
     }
     for (w, want, flags) in [
         (0, 0, BOTH),
@@ -74,7 +82,7 @@ fn moves(rt: HostRuntime) {
         (LEAST, LEAST, CARRY_1),
         (NEXT, MOST, NONE),
     ] {
-        assert_eq!(rt; at(0o210, 5, 6, w), out(want, 0, flags), "MOVN {w}");
+        assert_eq!(rt; at(0o210, 5, 6, w), one(want, flags), "MOVN {w}");
     }
     for (w, want, flags) in [
         (0, 0, NONE),
@@ -84,7 +92,7 @@ fn moves(rt: HostRuntime) {
         (LEAST, LEAST, CARRY_1),
         (NEXT, MOST, NONE),
     ] {
-        assert_eq!(rt; at(0o217, 5, 6, w), out(want, 0, flags), "MOVMS {w}");
+        assert_eq!(rt; at(0o217, 5, 6, w), one(want, flags), "MOVMS {w}");
     }
 }
 
@@ -106,7 +114,7 @@ fn sums(rt: HostRuntime) {
         (LEAST, LEAST, 0, CARRY_0),
         (MOST, MOST, 0o777777777776, CARRY_1),
     ] {
-        assert_eq!(rt; at(0o270, a, 5, m), out(want, 0, flags), "ADD {a} {m}");
+        assert_eq!(rt; at(0o270, a, 5, m), one(want, flags), "ADD {a} {m}");
     }
     for (a, m, want, flags) in [
         (0, 1, MINUS_1, NONE),
@@ -124,7 +132,7 @@ fn sums(rt: HostRuntime) {
         (0, LEAST, LEAST, CARRY_1),
         (LEAST, LEAST, 0, BOTH),
     ] {
-        assert_eq!(rt; at(0o277, a, 5, m), out(want, 0, flags), "SUBB {a} {m}");
+        assert_eq!(rt; at(0o277, a, 5, m), one(want, flags), "SUBB {a} {m}");
     }
 }
 
@@ -148,7 +156,7 @@ fn products(rt: HostRuntime) {
         (LEAST, 2, LEAST, OVERFLOW),
         (NEXT, NEXT, 1, OVERFLOW),
     ] {
-        assert_eq!(rt; at(0o220, a, 5, m), out(want, 0, flags), "IMUL {a} {m}");
+        assert_eq!(rt; at(0o220, a, 5, m), one(want, flags), "IMUL {a} {m}");
     }
     for (a, m, high, low, flags) in [
         (0, 1, 0, 0, NONE),
@@ -168,7 +176,7 @@ fn products(rt: HostRuntime) {
         (LEAST, NEXT, MOST, 0, NONE),
         (LEAST, LEAST, LEAST, LEAST, OVERFLOW),
     ] {
-        assert_eq!(rt; at(0o224, a, 5, m), out(high, low, flags), "MUL {a} {m}");
+        assert_eq!(rt; at(0o224, a, 5, m), two(high, low, flags), "MUL {a} {m}");
     }
 }
 
@@ -200,7 +208,7 @@ fn quotients(rt: HostRuntime) {
     ] {
         assert_eq!(rt;
             at(0o230, a, 5, m),
-            out(quotient, remainder, NONE),
+            two(quotient, remainder, NONE),
             "IDIV {a} {m}"
         );
     }
@@ -221,7 +229,7 @@ fn quotients(rt: HostRuntime) {
     ] {
         assert_eq!(rt;
             at(0o234, a, a1, m),
-            out(quotient, remainder, NONE),
+            two(quotient, remainder, NONE),
             "DIV {a} {a1} {m}"
         );
     }

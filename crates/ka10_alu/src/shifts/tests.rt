@@ -12,8 +12,12 @@ const LEAST: u64 = 0o400000000000;
 
 const NEXT: u64 = 0o400000000001;
 
-fn out(word: u64, low: u64, overflow: bool) -> Out {
-    Out::with_overflow(Word::wrapped(word), Word::wrapped(low), overflow)
+fn one(word: u64, overflow: bool) -> Out {
+    Out::one_word(Word::wrapped(word), overflow)
+}
+
+fn two(word: u64, low: u64, overflow: bool) -> Out {
+    Out::two_words(Word::wrapped(word), Word::wrapped(low), overflow)
 }
 
 fn at(op: u16, a: u64, a1: u64, e: u32) -> Out
@@ -47,7 +51,7 @@ fn arithmetic_shifts(rt: HostRuntime) {
         (LEAST, 0o777734, MINUS_1, false),
         (NEXT, 0o777400, NEXT, false),
     ] {
-        assert_eq!(rt; at(0o240, a, 5, e), out(want, 0, overflow), "ASH {a} {e}");
+        assert_eq!(rt; at(0o240, a, 5, e), one(want, overflow), "ASH {a} {e}");
     }
 }
 
@@ -71,7 +75,7 @@ fn rotations_and_logical_shifts(rt: HostRuntime) {
         (0o700000000000, 3, 7),
         (0o700000000000, 0o47, 7),
     ] {
-        assert_eq!(rt; at(0o241, a, 5, e), out(want, 0, false), "ROT {a} {e}");
+        assert_eq!(rt; at(0o241, a, 5, e), one(want, false), "ROT {a} {e}");
     }
     for (a, e, want) in [
         (0, 1, 0),
@@ -92,7 +96,7 @@ fn rotations_and_logical_shifts(rt: HostRuntime) {
         (MINUS_1, 0o400000, MINUS_1),
         (MINUS_1, 0o777400, MINUS_1),
     ] {
-        assert_eq!(rt; at(0o242, a, 5, e), out(want, 0, false), "LSH {a} {e}");
+        assert_eq!(rt; at(0o242, a, 5, e), one(want, false), "LSH {a} {e}");
     }
     for (a, zeros) in [
         (0, 0),
@@ -103,7 +107,7 @@ fn rotations_and_logical_shifts(rt: HostRuntime) {
         (NEXT, 0),
         (0o000000400000, 0o22),
     ] {
-        assert_eq!(rt; at(0o243, a, 5, 0o1000), out(a, zeros, false), "JFFO {a}");
+        assert_eq!(rt; at(0o243, a, 5, 0o1000), two(a, zeros, false), "JFFO {a}");
     }
 }
 
@@ -129,7 +133,7 @@ fn shifts_of_two_words(rt: HostRuntime) {
     ] {
         assert_eq!(rt;
             at(0o244, a, a1, e),
-            out(word, low, overflow),
+            two(word, low, overflow),
             "ASHC {a} {a1} {e}"
         );
     }
@@ -145,7 +149,7 @@ fn shifts_of_two_words(rt: HostRuntime) {
     ] {
         assert_eq!(rt;
             at(0o245, a, a1, e),
-            out(word, low, false),
+            two(word, low, false),
             "ROTC {a} {a1} {e}"
         );
     }
@@ -161,7 +165,7 @@ fn shifts_of_two_words(rt: HostRuntime) {
     ] {
         assert_eq!(rt;
             at(0o246, a, a1, e),
-            out(word, low, false),
+            two(word, low, false),
             "LSHC {a} {a1} {e}"
         );
     }
