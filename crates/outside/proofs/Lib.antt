@@ -1,2 +1,3 @@
 mod Pages
 mod Fronts
+mod Bytes

@@ -1,11 +1,12 @@
 //! What a run reads from, writes to and pages on: a source and a sink of bytes, and a drum of pages.
 //! To the layers above an answer of failure comes only with a rise of that object's count of faults.
-//! Stands on word36, for what a word of a page is.
+//! Stands on word36, for what a word of a page is, and on byteorder, for a drum in a file.
 #![tactic(auto)]
 
 mod drum;
 mod failing_calls;
 mod failure;
+mod file_drum;
 mod memory_drum;
 mod memory_sink;
 mod memory_source;
@@ -15,6 +16,7 @@ mod streams;
 
 pub use drum::Drum;
 pub use failure::{Failed, Memory};
+pub use file_drum::{FileDrum, WORD_BYTES, words_come_back};
 pub use memory_drum::{MemDrum, SureDrum};
 pub use memory_sink::{MemSink, SureSink};
 pub use memory_source::{MemSource, SureSource};

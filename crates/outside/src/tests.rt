@@ -2,7 +2,8 @@ ghost use Rattle.std.specs.Prelude.{◌<◌, ◌^◌};
 ghost use Rattle.outside.specs.Drums.{AreWords};
 
 use super::*;
-use std::io::{self, ErrorKind, Read, Write};
+use std::fs::{self, File};
+use std::io::{self, ErrorKind, Read, Seek, SeekFrom, Write};
 use std::test::Fail;
 
 // A page with one word in each place.
@@ -170,5 +171,74 @@ fn readers_and_writers(rt: HostRuntime) -> Result<(), Fail> {
     assert_eq!(rt; sink.write(b"d"), Err(Failed), "the writer takes nothing");
     assert_eq!(rt; (sink.write(b""), sink.faults()), (Ok(0), 1));
     assert_eq!(rt; room, *b"abc");
+    Ok(())
+}
+
+// A file that is made anew, and the drum in it.
+fn drum_file(rt: &HostRuntime, name: &str) -> io::Result<(File, FileDrum)> {
+    let mut made = File::options();
+    made.read(true).write(true).create(true).truncate(true);
+    let drum = FileDrum::new(made.open(rt, name)?);
+    Ok((File::options().read(true).write(true).open(rt, name)?, drum))
+}
+
+#[test]
+fn words_stand_in_a_file(rt: HostRuntime) -> Result<(), Fail> {
+    let name = "words_stand_in_a_file.drum";
+    let (mut file, mut drum) = drum_file(&rt, name)?;
+    assert_eq!(rt; file.metadata()?.len(), 67_108_864);
+    let written = filled(0o404000000000);
+    let mut words = [1; PAGE_WORDS];
+    assert_eq!(rt; drum.write(1, &written), Ok(()));
+    assert_eq!(rt; drum.read(1, &mut words), Ok(()));
+    assert_eq!(rt; words, written);
+    for page in [0, 2, 16383] {
+        assert_eq!(rt; drum.read(page, &mut words), Ok(()), "page {page}");
+        assert_eq!(rt; words, [0; PAGE_WORDS], "page {page}");
+    }
+    let mut bytes = [1; 8];
+    for (place, wanted) in [
+        (4088, [0; 8]),
+        (4096, [0, 0, 0, 8, 0x20, 0, 0, 0]),
+        (8184, [0, 0, 0, 8, 0x20, 0, 0, 0]),
+        (8192, [0; 8]),
+    ] {
+        file.seek(SeekFrom::Start(place))?;
+        file.read_exact(&mut bytes)?;
+        assert_eq!(rt; bytes, wanted, "at {place}");
+    }
+    assert_eq!(rt;
+        (drum.reads(), drum.writes(), drum.faults(), drum.pages()),
+        (4, 1, 0, 16384)
+    );
+    fs::remove_file(&rt, name)?;
+    Ok(())
+}
+
+#[test]
+fn a_file_that_fails(rt: HostRuntime) -> Result<(), Fail> {
+    let name = "a_file_that_fails.drum";
+    let (mut file, mut drum) = drum_file(&rt, name)?;
+    let mut words = [0; PAGE_WORDS];
+    file.seek(SeekFrom::Start(4096 + 8 * 511))?;
+    file.write_all(&[0, 0, 0, 0x10, 0, 0, 0, 0])?;
+    file.set_len(3 * 4096 - 1)?;
+    for (page, kind, faults) in [
+        (1, ErrorKind::InvalidData, 1),
+        (2, ErrorKind::UnexpectedEof, 2),
+        (3, ErrorKind::UnexpectedEof, 3),
+    ] {
+        assert_eq!(rt; drum.read(page, &mut words), Err(Failed), "page {page}");
+        let kept = drum.error().map(|error| error.kind());
+        assert_eq!(rt; (kept, drum.faults()), (Some(kind), faults));
+    }
+    assert_eq!(rt; drum.write(2, &filled(1)), Ok(()));
+    assert_eq!(rt; drum.read(2, &mut words), Ok(()));
+    assert_eq!(rt; (drum.reads(), drum.writes(), drum.faults()), (1, 1, 3));
+    let mut drum = FileDrum::new(File::open(&rt, name)?);
+    assert_eq!(rt; drum.faults(), 1, "a file for reading alone gets no size");
+    assert_eq!(rt; drum.write(2, &filled(1)), Err(Failed));
+    assert_eq!(rt; (drum.writes(), drum.faults()), (0, 2));
+    fs::remove_file(&rt, name)?;
     Ok(())
 }
