@@ -100,7 +100,7 @@ module _ {t : Tables} (sound : Sound t) where
   apart = record { within = (let r = sound.room in let e = sound.enough in omega arith); once = sound.once }
 
   -- the serial of a taken home's page is below its owner's next one
-  pub given : (k : ℕ) → k < t.made → (page_of t.homes k).name.serial < serial_of t.serials (page_of t.homes k).name.tty
+  given : (k : ℕ) → k < t.made → (page_of t.homes k).name.serial < serial_of t.serials (page_of t.homes k).name.tty
   given k l = sound.whole.old (page_of t.homes k).name (ap is_some (object_at t.homes t.made k apart l))
 
   -- the name of the next page is new

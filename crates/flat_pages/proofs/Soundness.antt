@@ -8,6 +8,7 @@ use Rattle.std.proofs.lemmas.Bool.{cases_eq, ne_eqb, eq-eqb}
 use Rattle.std.proofs.lemmas.List.{length-replicate, get_or-replicate}
 use Rattle.std.specs.FinMap as fin
 use Rattle.plain_model.specs.declared.names.Tty.{Tty}
+use Rattle.plain_model.specs.declared.names.TheConstants.Tty.{CONSOLE}
 use Rattle.plain_model.specs.declared.names.Home.{Home}
 use Rattle.plain_model.specs.declared.names.Slot.{Slot}
 use Rattle.plain_model.specs.declared.names.ForkName.{ForkName}
@@ -251,11 +252,11 @@ module _ (limit : ℕ) (serials : PageSerials) (terminals : serials.terminals �
   first_is_one k l = get_or-replicate TERMINALS k 1 0 l
 
   -- the console's serial, and another's
-  console_next : (owner : Tty) → owner.0 ≡ 255 → serial_of serials owner ≡ 1
-  console_next owner e = ap (λ b. if b then serials.console else slice_index serials.terminals owner.0) (eq-eqb owner.0 255 e) ∙ console
+  console_next : (owner : Tty) → owner.0 ≡ CONSOLE.0 → serial_of serials owner ≡ 1
+  console_next owner e = ap (λ b. if b then serials.console else slice_index serials.terminals owner.0) (eq-eqb owner.0 CONSOLE.0 e) ∙ console
 
-  terminal_next : (owner : Tty) → (owner.0 ≡ 255 → ⊥) → serial_of serials owner ≡ slice_index first_serials owner.0
-  terminal_next owner ne = ap (λ b. if b then serials.console else slice_index serials.terminals owner.0) (ne_eqb owner.0 255 ne) ∙ ap (λ xs. slice_index xs owner.0) terminals
+  terminal_next : (owner : Tty) → (owner.0 ≡ CONSOLE.0 → ⊥) → serial_of serials owner ≡ slice_index first_serials owner.0
+  terminal_next owner ne = ap (λ b. if b then serials.console else slice_index serials.terminals owner.0) (ne_eqb owner.0 CONSOLE.0 ne) ∙ ap (λ xs. slice_index xs owner.0) terminals
 
   pub first_serial : (owner : Tty) → IsOwner owner → serial_of serials owner ≡ 1
   first_serial owner (inl l) = terminal_next owner (λ e. omega arith) ∙ first_is_one owner.0 l
@@ -269,7 +270,7 @@ module _ (limit : ℕ) (serials : PageSerials) (terminals : serials.terminals �
   -- nobody's serial is above the first
   pub low_serial : (owner : Tty) → serial_of serials owner ≤ 1
   unfolding first_serials
-  low_serial owner = elim (cases_eq owner.0 255) [
+  low_serial owner = elim (cases_eq owner.0 CONSOLE.0) [
     | inl e ↦ omega (arith, console_next owner e)
     | inr ne ↦ omega (arith, terminal_next owner ne, one_at_most TERMINALS owner.0)
   ]

@@ -3,9 +3,9 @@ ghost use Rattle.std.specs.Prelude.{◌≡◌, replicate, IfOk};
 ghost use Rattle.plain_model.specs.References.{zero_words};
 ghost use Rattle.flat_pages.specs.HeldPages.{blank_page};
 
-use outside::{Memory, PAGE_WORDS};
+use outside::PAGE_WORDS;
 use plain_model::{PageName, Tty};
-use std::alloc::Global;
+use std::alloc::{AllocError, Global};
 use word36::Word;
 
 /// A page with its name. Where the home is not taken the name stands for none.
@@ -23,7 +23,7 @@ fn zero_page() -> [Word; PAGE_WORDS]
 }
 
 /// So many pages of homes that are not taken.
-pub fn blank_pages(alloc: Global, number: u32) -> Result<Vec<HeldPage>, Memory>
+pub fn blank_pages(alloc: Global, number: u32) -> Result<Vec<HeldPage>, AllocError>
     ensures { IfOk result (λ v. v.items ≡ replicate number blank_page) }
 {
     let name = PageName {
@@ -33,9 +33,7 @@ pub fn blank_pages(alloc: Global, number: u32) -> Result<Vec<HeldPage>, Memory>
     let mut pages = Vec::with_capacity(alloc, number as usize)?;
     for _page in 0..number {
         let words = zero_page();
-        if pages.push(HeldPage { name, words }).is_err() {
-            return Err(Memory);
-        }
+        pages.push(HeldPage { name, words })?;
     }
     Ok(pages)
 }

@@ -2,9 +2,8 @@
 ghost use Rattle.std.specs.Prelude.{◌≡◌, replicate, IfOk};
 ghost use Rattle.flat_pages.specs.Spaces.{no_entries, no_fork_space};
 
-use outside::Memory;
 use plain_model::{Home, SPACE_PAGES, TERMINALS};
-use std::alloc::Global;
+use std::alloc::{AllocError, Global};
 
 /// What a terminal has room for: one fork, by its serial, and for each page of its space the home.
 #[derive(Drop)]
@@ -33,14 +32,12 @@ impl Space {
 }
 
 /// A space for each terminal, all without a fork.
-pub fn no_spaces(alloc: Global) -> Result<Vec<Space>, Memory>
+pub fn no_spaces(alloc: Global) -> Result<Vec<Space>, AllocError>
     ensures { IfOk result (λ v. v.items ≡ replicate TERMINALS no_fork_space) }
 {
     let mut spaces = Vec::with_capacity(alloc, TERMINALS as usize)?;
     for _terminal in 0..TERMINALS {
-        if spaces.push(Space::empty(None)).is_err() {
-            return Err(Memory);
-        }
+        spaces.push(Space::empty(None))?;
     }
     Ok(spaces)
 }
