@@ -1,5 +1,5 @@
 -- Where lines end, in bytes that are there and in those that a source may tell.
-use Rattle.std.specs.Prelude.{◌≡◌, ◌⊎◌, ℕ, ◌<◌, ◌≤◌, List, [], ◌∷◌, ◌++◌, length, Option, Some}
+use Rattle.std.specs.Prelude.{◌≡◌, ◌⊎◌, ℕ, ◌<◌, ◌≤◌, List, [], ◌∷◌, ◌++◌, length, take, Option, Some}
 use Rattle.outside.specs.Told.{Loses}
 use Rattle.plain_model.specs.Script.{HasNoFeed}
 use Rattle.script_lang.specs.declared.buffer.Passed.{Passed}
@@ -64,10 +64,10 @@ pub record StopsWithin (least room : ℕ) (xs : List ℕ) : Type 0 where
   pub far : least ≤ length xs
   pub near : length xs ≤ room
 
--- more bytes than the room, and no line ends before it does
+-- more bytes than the room, and no line feed within it
 pub record GoesBeyond (room : ℕ) (xs : List ℕ) : Type 0 where
   pub long : room < length xs
-  pub none : (line more : List ℕ) → xs ≡ line ++ 10 ∷ more → room ≤ length line
+  pub plain : HasNoFeed (take room xs)
 
 -- what the bytes are by which a line is found to end so, at least so many of which were there before
 abbrev pub EndsSo : ℕ → ℕ → Passed → List ℕ → Type 0
