@@ -6,11 +6,13 @@ use Rattle.std.proofs.lemmas.List.{append-nil, take_at, drop_at}
 use Rattle.plain_model.specs.declared.event.Event.{Event}
 use Rattle.plain_model.specs.Limits.{IsBuilt}
 use Rattle.plain_model.specs.Script.{AreLines, Gives, GiveAll, HasNoFeed, IsBadLine, IsBadRest, IsBlank, IsLongRest, Means, Spells, joined, most_bytes}
-use Rattle.script_lang.specs.Feeds.{AllLeft, EndsWithin, GoesBeyond, Holds, IsFed, StopsWithin}
-use Rattle.script_lang.specs.Lines.{Breaks, FrontIsBad, FrontIsLong, GivesLine, IsDone, Passes, Takes, given, lines_given, pending, turns_given}
+use Rattle.script_lang.specs.Feeds.{AllLeft, EndsWithin, GoesBeyond, IsFed, Reads, StopsWithin}
+use Rattle.script_lang.specs.Lines.{Breaks, FrontIsBad, FrontIsLong, GivesFront, GivesLine, IsDone, IsFinal, IsReadBy, IsUndecided, Passes, Skips, Takes, given, lines_given, pending, turns_given}
+use Rattle.script_lang.specs.declared.lines.Line.{Line}
+use Rattle.script_lang.specs.declared.lines.Line.TheVariants.{One, Blank, Bad, Long, End, Fault}
 use Rattle.script_lang.specs.declared.lines.Lines.{Lines}
 use Rattle.script_lang.proofs.KeywordBytes.{blank_spells_none}
-use Rattle.script_lang.proofs.Reading.{feed_behind}
+use Rattle.script_lang.proofs.Reading.{beyond_line, feed_behind, reads_left, reads_none, reads_then}
 use Rattle.script_lang.proofs.Spellings.{one_event}
 
 -- what is told behind bytes that have a line feed
@@ -60,13 +62,19 @@ pub unbuilt_bad : (so_far : ℕ) (line : List ℕ) (e : Event) → Spells line e
 unbuilt_bad so_far line e spelled unbuilt = inr (inl ((λ f means. unbuilt (subst IsBuilt (one_event line f e means.spelled spelled) means.built)), (λ blank. blank_spells_none line e blank spelled)))
 
 -- a first line that ends within the room, which is too long or does not
-pub ends_bad : (before so_far least room : ℕ) (xs : List ℕ) → room + before ≡ most_bytes → (256 < least) ⊎ (room < least) → EndsWithin least room xs → IsBadRest before so_far xs
-ends_bad before so_far least room xs whole over ends =
+pub ends_bad : (before so_far least room : ℕ) (xs told : List ℕ) → room + before ≡ most_bytes → (256 < least) ⊎ (room < least) → EndsWithin least room xs → IsBadRest before so_far (xs ++ told)
+ends_bad before so_far least room xs told whole over ends =
     let long : 256 < length ends.line = elim over [ inl h ↦ omega (arith, h, ends.far) | inr h ↦ absurd (omega (arith, h, ends.far, ends.near)) ] in
-    inl (ends.line, ends.more, ends.whole, ends.plain, omega (arith, whole, ends.near), inl long)
+    let behind = ap (λ l. l ++ told) ends.whole ∙ append_assoc ends.line (10 ∷ ends.more) told in
+    inl (ends.line, ends.more ++ told, behind, ends.plain, omega (arith, whole, ends.near), inl long)
 
-pub goes_long : (before room : ℕ) (xs : List ℕ) → room + before ≡ most_bytes → GoesBeyond room xs → IsLongRest before xs
-goes_long before room xs whole goes = (omega (arith, whole), omega (arith, whole, goes.long), (λ line more is. omega (arith, whole, goes.none line more is)))
+-- a last line without a line feed
+pub stops_bad : (before so_far least room : ℕ) (xs : List ℕ) → room + before ≡ most_bytes → 0 < least → StopsWithin least room xs → IsBadRest before so_far xs
+stops_bad before so_far least room xs whole some stops = inr ((λ none. omega (arith, ap length none, stops.far, some)), stops.plain, omega (arith, whole, stops.near))
+
+pub goes_long : (before room : ℕ) (xs told : List ℕ) → room + before ≡ most_bytes → GoesBeyond room xs → IsLongRest before (xs ++ told)
+goes_long before room xs told whole goes =
+    (omega (arith, whole), omega (arith, whole, goes.long, length-append xs told), (λ line more is. omega (arith, whole, beyond_line room xs told line more goes is)))
 
 -- lines one after another give their events one after another
 pub give_both : (ls ms : List (List ℕ)) (es fs : List Event) → GiveAll ls es → GiveAll ms fs → GiveAll (ls ++ ms) (es ++ fs)
@@ -84,6 +92,10 @@ lines_one line events gives = record {
   gives = (events, [], sym (append-nil events), gives, refl);
 }
 
+-- the beginning of a line, within the room
+pub stops_undecided : (before least room : ℕ) (xs : List ℕ) → room + before ≡ most_bytes → StopsWithin least room xs → IsUndecided before xs
+stops_undecided before least room xs whole stops = record { front = []; rest = xs; count = 0; whole = refl; lines = lines_none; plain = stops.plain; within = omega (arith, whole, stops.near) }
+
 pub lines_both : (front back : List ℕ) (m n : ℕ) (es fs : List Event) → AreLines front m es → AreLines back n fs → AreLines (front ++ back) (m + n) (es ++ fs)
 lines_both front back m n es fs p q = record {
   lines = p.lines ++ q.lines;
@@ -92,81 +104,109 @@ lines_both front back m n es fs p q = record {
   gives = give_both p.lines q.lines es fs p.gives q.gives;
 }
 
+-- a bad line at the front, with no line before it
+pub breaks_now : (before so_far passed : ℕ) (xs : List ℕ) → IsBadRest before so_far xs → Breaks before so_far passed (passed + 1) xs
+breaks_now before so_far passed xs bad = record {
+  front = [];
+  rest = xs;
+  count = 0;
+  whole = refl;
+  lines = lines_none;
+  numbered = omega arith;
+  bad = subst (λ n. IsBadRest n so_far xs) (omega arith) bad;
+}
+
+pub passes_now : (before : ℕ) (xs : List ℕ) → IsLongRest before xs → Passes before xs
+passes_now before xs long = record {
+  front = [];
+  rest = xs;
+  count = 0;
+  whole = refl;
+  lines = lines_none;
+  long = subst (λ n. IsLongRest n xs) (omega arith) long;
+}
+
+-- nothing is left
+pub done_now : (before : ℕ) (xs : List ℕ) → before ≤ most_bytes → xs ≡ [] → IsDone before xs
+done_now before xs short none = subst (IsDone before) (sym none) (record { count = 0; lines = lines_none; short = omega (arith, short) })
+
+-- the front of what is held was given as a line
+pub line_front : (old mid new : Lines) (events : List Event) → given mid ≡ given old → lines_given mid ≡ lines_given old → GivesLine mid new events → GivesFront old new events (pending mid)
+line_front old mid new events bytes lines gives = record {
+  front = gives.line ++ 10 ∷ [];
+  count = 1;
+  whole = gives.whole ∙ sym (append_assoc gives.line (10 ∷ []) (pending new));
+  lines = lines_one gives.line events gives.gives;
+  more_lines = gives.more_lines ∙ ap (λ n. n + 1) lines;
+  more_bytes = omega (arith, gives.more_bytes, bytes, length-append gives.line (10 ∷ []));
+}
+
+pub read_by_line : (old mid new : Lines) (line : Line) → given mid ≡ given old → lines_given mid ≡ lines_given old → ((e : Event) → line ≡ One e → GivesLine mid new (e ∷ [])) → (line ≡ Blank → GivesLine mid new []) → line ≢ Fault
+    → IsReadBy old new line (pending mid)
+read_by_line old mid new (One e) bytes lines gives blank here = line_front old mid new (e ∷ []) bytes lines (gives e refl)
+read_by_line old mid new Blank bytes lines gives blank here = line_front old mid new [] bytes lines (blank refl)
+read_by_line old mid new Bad bytes lines gives blank here = tt
+read_by_line old mid new Long bytes lines gives blank here = tt
+read_by_line old mid new End bytes lines gives blank here = tt
+read_by_line old mid new Fault bytes lines gives blank here = absurd (here refl)
+
+pub read_by_final : (old mid new new' : Lines) (line : Line) (xs : List ℕ) → given mid ≡ given old → IsFinal line → IsReadBy mid new line xs → IsReadBy old new' line xs
+read_by_final old mid new new' (One e) xs same final by = absurd final
+read_by_final old mid new new' Blank xs same final by = absurd final
+read_by_final old mid new new' Bad xs same final by = tt
+read_by_final old mid new new' Long xs same final by = tt
+read_by_final old mid new new' End xs same final by = tt
+read_by_final old mid new new' Fault xs same final by = subst (λ n. IsUndecided n xs) same by
+
+pub gives_nothing : (l : Lines) → GivesFront l l [] (pending l)
+gives_nothing l = record { front = []; count = 0; whole = refl; lines = lines_none; more_lines = omega arith; more_bytes = omega arith }
+
+pub gives_both : (a b c : Lines) (es fs : List Event) (xs ys : List ℕ) (p : GivesFront a b es xs) → GivesFront b c fs ys → GivesFront a c (es ++ fs) (p.front ++ ys)
+gives_both a b c es fs xs ys p q = record {
+  front = p.front ++ q.front;
+  count = p.count + q.count;
+  whole = ap (λ l. p.front ++ l) q.whole ∙ sym (append_assoc p.front q.front (pending c));
+  lines = lines_both p.front q.front p.count q.count es fs p.lines q.lines;
+  more_lines = omega (arith, p.more_lines, q.more_lines);
+  more_bytes = omega (arith, p.more_bytes, q.more_bytes, length-append p.front q.front);
+}
+
+-- nothing is decided by lines without an event before these bytes
+pub undecided_behind : (a b : Lines) (xs ys : List ℕ) (p : GivesFront a b [] xs) → IsUndecided (given b) ys → IsUndecided (given a) (p.front ++ ys)
+undecided_behind a b xs ys p u = record {
+  front = p.front ++ u.front;
+  rest = u.rest;
+  count = p.count + u.count;
+  whole = ap (λ l. p.front ++ l) u.whole ∙ sym (append_assoc p.front u.front u.rest);
+  lines = lines_both p.front u.front p.count u.count [] [] p.lines u.lines;
+  plain = u.plain;
+  within = omega (arith, u.within, p.more_bytes, length-append p.front ys);
+}
+
 module _ {S : Type 0} (left : S → Option (List ℕ)) where
-  pub told_front : (held : List ℕ) (s : S) (P : List ℕ → Type 0) → ((told : List ℕ) → P (held ++ told)) → AllLeft left held s P
-  told_front held s P each = record { each = λ xs rest. subst P (sym rest.2) (each rest.0) }
-
-  pub all_weaker : (held : List ℕ) (s : S) (P Q : List ℕ → Type 0) → ((xs : List ℕ) → P xs → Q xs) → AllLeft left held s P → AllLeft left held s Q
-  all_weaker held s P Q weaker all = record { each = λ xs rest. weaker xs (all.each xs rest) }
-
-  pub held_all : (old mid : List ℕ) (s t : S) (P : List ℕ → Type 0) → Holds left old mid s t → AllLeft left mid t P → AllLeft left old s P
-  held_all old mid s t P holds all = record { each = λ xs rest. all.each xs (holds.each xs rest) }
-
-  -- a bad line at the front, with no line before it
-  pub breaks_now : (before so_far passed : ℕ) (xs : List ℕ) → IsBadRest before so_far xs → Breaks before so_far passed (passed + 1) xs
-  breaks_now before so_far passed xs bad = record {
-    front = [];
-    rest = xs;
-    count = 0;
-    whole = refl;
-    lines = lines_none;
-    numbered = omega arith;
-    bad = subst (λ n. IsBadRest n so_far xs) (omega arith) bad;
-  }
-
-  pub passes_now : (before : ℕ) (xs : List ℕ) → IsLongRest before xs → Passes before xs
-  passes_now before xs long = record {
-    front = [];
-    rest = xs;
-    count = 0;
-    whole = refl;
-    lines = lines_none;
-    long = subst (λ n. IsLongRest n xs) (omega arith) long;
-  }
-
-  -- nothing is left
-  pub done_now : (before : ℕ) (held : List ℕ) (old : List ℕ) (s : S) → before ≤ most_bytes → held ≡ [] → AllLeft left old s (λ xs. xs ≡ held) → AllLeft left old s (IsDone before)
-  done_now before held old s short none all = record {
-    each = λ xs rest. subst (IsDone before) (sym (all.each xs rest ∙ none)) (record { count = 0; lines = lines_none; short = omega (arith, short) });
-  }
-
-  -- all that is left has no line feed
-  pub last_bad : (before so_far room : ℕ) (held old : List ℕ) (s : S) → room + before ≡ most_bytes → held ≢ [] → StopsWithin 0 room held → AllLeft left old s (λ xs. xs ≡ held)
-      → AllLeft left old s (IsBadRest before so_far)
-  last_bad before so_far room held old s whole some stops all = record {
-    each = λ xs rest. subst (IsBadRest before so_far) (sym (all.each xs rest)) (inr (some, stops.plain, omega (arith, whole, stops.near)));
-  }
-
-  pub takes_line : (old mid new : Lines) (s t : S) (events : List Event) → Holds left (pending old) (pending mid) s t → given mid ≡ given old → lines_given mid ≡ lines_given old
-      → GivesLine mid new events → Takes left old new s t events
-  takes_line old mid new s t events holds bytes lines gives = record {
+  pub takes_read : {Needs : List ℕ → Type 0} {a b : Lines} {s t : S} {events : List Event} → Reads left Needs (pending a) s t (GivesFront a b events) → Takes left a b s t events
+  takes_read {b = b} r = record {
     each = λ xs rest.
-        let now = holds.each xs rest in
+        let now = reads_left left r xs rest in
         record {
-          front = gives.line ++ 10 ∷ [];
-          rest = pending new ++ now.0;
-          count = 1;
-          whole = now.2 ∙ (ap (λ l. l ++ now.0) gives.whole ∙ (append_assoc gives.line (10 ∷ pending new) now.0 ∙ sym (append_assoc gives.line (10 ∷ []) (pending new ++ now.0))));
+          front = r.is.front;
+          rest = pending b ++ now.0;
+          count = r.is.count;
+          whole = now.2 ∙ (ap (λ l. l ++ now.0) r.is.whole ∙ append_assoc r.is.front (pending b) now.0);
           behind = (now.0, now.1, refl);
-          lines = lines_one gives.line events gives.gives;
-          more_lines = gives.more_lines ∙ ap (λ n. n + 1) lines;
-          more_bytes = omega (arith, gives.more_bytes, bytes, length-append gives.line (10 ∷ []));
+          lines = r.is.lines;
+          more_lines = r.is.more_lines;
+          more_bytes = r.is.more_bytes;
         };
   }
 
+  -- more was read behind lines that gave no event
+  pub reads_behind : {a b : Lines} {s t u : S} {Is : List ℕ → Type 0} (Is' : List ℕ → Type 0) (r : Reads left (IsUndecided (given a)) (pending a) s t (GivesFront a b [])) → Reads left (IsUndecided (given b)) (pending b) t u Is
+      → ((xs : List ℕ) → Is xs → Is' (r.is.front ++ xs)) → Reads left (IsUndecided (given a)) (pending a) s u Is'
+  reads_behind {a} {b} Is' r then is = reads_then left r Is' r.is.front (pending b) then r.is.whole (λ xs needs. undecided_behind a b (pending a ++ r.bytes) xs r.is needs) is
+
   pub takes_none : (l : Lines) (s : S) → Takes left l l s s []
-  takes_none l s = record {
-    each = λ xs rest. record {
-      front = [];
-      rest = xs;
-      count = 0;
-      whole = refl;
-      behind = rest;
-      lines = lines_none;
-      more_lines = omega arith;
-      more_bytes = omega arith;
-    };
-  }
+  takes_none l s = takes_read (reads_none left (λ xs. Unit {0}) (GivesFront l l []) (pending l) s (gives_nothing l))
 
   pub takes_both : (a b c : Lines) (s t u : S) (es fs : List Event) → Takes left a b s t es → Takes left b c t u fs → Takes left a c s u (es ++ fs)
   takes_both a b c s t u es fs p q = record {
@@ -231,3 +271,9 @@ module _ {S : Type 0} (left : S → Option (List ℕ)) where
             long = subst (λ k. IsLongRest k y.rest) place y.long;
           };
     }
+
+  -- lines without an event were passed over, and nothing was read
+  pub takes_skipped : (first a b : Lines) (s t : S) (events : List Event) → Takes left first a s t events → Skips a b → Takes left first b s t events
+  takes_skipped first a b s t events takes skips =
+      let blank : Takes left a b t t [] = takes_read (reads_none left (λ xs. Unit {0}) (GivesFront a b []) (pending a) t skips.blank) in
+      subst (Takes left first b s t) (append-nil events) (takes_both first a b s t t events [] takes blank)

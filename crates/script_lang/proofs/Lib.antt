@@ -12,6 +12,7 @@ pub mod Choices
 pub mod Held
 pub mod Reading
 pub mod Judging
+pub mod Undecided
 pub mod OnePlace
 pub mod Whole
 pub mod FlatMaps

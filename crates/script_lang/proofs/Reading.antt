@@ -1,12 +1,13 @@
 -- What a source has left while bytes are read from it, held and passed over.
-use Rattle.std.proofs.Common.{◌≡◌, ℕ, ◌+◌, ◌<◌, ◌≤◌, List, [], ◌∷◌, ◌++◌, length, refl, sym, ◌∙◌, ap, subst, arith, append_assoc, length-append}
+use Rattle.std.proofs.Common.{◌≡◌, inl, inr, ℕ, ◌+◌, ◌<◌, ◌≤◌, List, [], ◌∷◌, ◌++◌, length, take, drop, refl, sym, ◌∙◌, ap, subst, arith, append_assoc, length-append}
 use Rattle.std.specs.Prelude.{Option}
-use Rattle.std.proofs.lemmas.List.{append-nil, nil_from_length}
-use Rattle.std.proofs.lemmas.List.Elements.{All-head, All-tail, All-append}
-use Rattle.outside.specs.Told.{EndsOnly, Stays}
+use Rattle.std.proofs.lemmas.List.{append-nil, take-append-le, take-append-drop, length-take-le}
+use Rattle.std.proofs.lemmas.List.Elements.{All-head, All-tail, All-append, All-take}
+use Rattle.outside.specs.Told.{Loses}
 use Rattle.plain_model.specs.Script.{HasNoFeed}
 use Rattle.script_lang.proofs.Splits.{IsNot}
-use Rattle.script_lang.specs.Feeds.{AllLeft, EndsWithin, Fills, GoesBeyond, Holds, IsFed, IsLeft, StopsWithin}
+use Rattle.script_lang.specs.Feeds.{AllLeft, EndsWithin, Fills, GoesBeyond, IsFed, IsLeft, Reads, Spends, StopsWithin}
+use Rattle.script_lang.specs.declared.buffer.TheConstants.{ROOM}
 
 -- a line that ends in bytes ends behind those that have no line feed
 pub feed_behind : (front rest line more : List ℕ) → HasNoFeed front → front ++ rest ≡ line ++ 10 ∷ more → length front ≤ length line
@@ -20,106 +21,149 @@ feed_behind (c ∷ front) rest (d ∷ line) more plain same =
 pub plain_both : (front back : List ℕ) → HasNoFeed front → HasNoFeed back → HasNoFeed (front ++ back)
 plain_both front back p q = All-append (IsNot 10) front back p q
 
+-- so many bytes without a line feed
+pub record IsPlain (count : ℕ) (bytes : List ℕ) : Type 0 where
+  pub plain : HasNoFeed bytes
+  pub long : length bytes ≡ count
+
+pub plain_more : (gone new : List ℕ) (count n : ℕ) → IsPlain count gone → HasNoFeed new → length new ≡ n → IsPlain (count + n) (gone ++ new)
+plain_more gone new count n p plain long = record { plain = plain_both gone new p.plain plain; long = omega (arith, length-append gone new, p.long) }
+
+-- the line feed of what is held now ends the line
+fed_behind : (gone new : List ℕ) (at : ℕ) (fed : IsFed new at) → gone ++ new ≡ (gone ++ fed.line) ++ 10 ∷ fed.more
+fed_behind gone new at fed = ap (λ l. gone ++ l) fed.whole ∙ sym (append_assoc gone fed.line (10 ∷ fed.more))
+
+pub plain_fed : (gone new : List ℕ) (count at least room : ℕ) → IsPlain count gone → IsFed new at → least ≤ count → count + at < room → EndsWithin least room (gone ++ new)
+plain_fed gone new count at least room p fed far near =
+    let long : length (gone ++ fed.line) ≡ count + at = omega (arith, length-append gone fed.line, p.long, fed.long) in
+    record {
+      line = gone ++ fed.line;
+      more = fed.more;
+      whole = fed_behind gone new at fed;
+      plain = plain_both gone fed.line p.plain fed.plain;
+      far = omega (arith, long, far);
+      near = omega (arith, long, near);
+    }
+
+pub plain_fed_beyond : (gone new : List ℕ) (count at room : ℕ) → IsPlain count gone → IsFed new at → room ≤ count + at → GoesBeyond room (gone ++ new)
+plain_fed_beyond gone new count at room p fed over =
+    let line = gone ++ fed.line in
+    let long : length line ≡ count + at = omega (arith, length-append gone fed.line, p.long, fed.long) in
+    let whole = fed_behind gone new at fed in
+    let front : take room (gone ++ new) ≡ take room line = ap (λ l. take room l) whole ∙ take-append-le room line (10 ∷ fed.more) (omega (arith, long)) in
+    record {
+      long = omega (arith, ap length whole, length-append line (10 ∷ fed.more), long);
+      plain = subst HasNoFeed (sym front) (All-take (IsNot 10) room line (plain_both gone fed.line p.plain fed.plain));
+    }
+
+-- whatever stands behind bytes that go beyond the room, no line ends before the room does
+pub beyond_line : (room : ℕ) (xs told line more : List ℕ) → GoesBeyond room xs → xs ++ told ≡ line ++ 10 ∷ more → room ≤ length line
+beyond_line room xs told line more goes same =
+    let long : length (take room xs) ≡ room = length-take-le room xs (omega (arith, goes.long)) in
+    let whole : take room xs ++ (drop room xs ++ told) ≡ xs ++ told = sym (append_assoc (take room xs) (drop room xs) told) ∙ ap (λ l. l ++ told) (take-append-drop room xs) in
+    omega (arith, long, feed_behind (take room xs) (drop room xs ++ told) line more goes.plain (whole ∙ same))
+
 module _ {S : Type 0} (left : S → Option (List ℕ)) where
-  pub holds_first : (held : List ℕ) (s : S) → Holds left held held s s
-  holds_first held s = record { each = λ xs rest. rest }
+  loses_both : (s t u : S) (xs ys : List ℕ) → Loses (left s) (left t) xs → Loses (left t) (left u) ys → Loses (left s) (left u) (xs ++ ys)
+  loses_both s t u xs ys p q all told =
+      let first = p all told in
+      let then = q first.0 first.1 in
+      (then.0, then.1, first.2 ∙ (ap (λ l. xs ++ l) then.2 ∙ sym (append_assoc xs ys then.0)))
 
-  pub left_filled : (held new : List ℕ) (s s' : S) (n : ℕ) (xs : List ℕ) → Fills left held new s s' n → IsLeft left held s xs → IsLeft left new s' xs
-  left_filled held new s s' n xs fills rest =
-      let lost = fills.loses rest.0 rest.1 in
-      (lost.0, lost.1, rest.2 ∙ (ap (λ l. held ++ l) lost.2 ∙ (sym (append_assoc held fills.bytes lost.0) ∙ ap (λ l. l ++ lost.0) (sym fills.grown))))
-
-  pub holds_filled : (old held new : List ℕ) (first s s' : S) (n : ℕ) → Holds left old held first s → Fills left held new s s' n → Holds left old new first s'
-  holds_filled old held new first s s' n holds fills = record { each = λ xs rest. left_filled held new s s' n xs fills (holds.each xs rest) }
-
-  pub holds_stayed : (old held new : List ℕ) (first s s' : S) → Holds left old held first s → new ≡ held → Stays (left s) (left s') → Holds left old new first s'
-  holds_stayed old held new first s s' holds same stays = record {
-    each = λ xs rest. let now = holds.each xs rest in (now.0, stays now.0 now.1, now.2 ∙ ap (λ l. l ++ now.0) (sym same));
+  pub reads_none : (Needs Is : List ℕ → Type 0) (held : List ℕ) (s : S) → Is held → Reads left Needs held s s Is
+  reads_none Needs Is held s is = record {
+    bytes = [];
+    loses = λ xs told. (xs, told, refl);
+    needed = inl (refl, refl);
+    is = subst Is (sym (append-nil held)) is;
   }
 
-  pub nothing_filled : (held new : List ℕ) (s s' : S) (n : ℕ) → Fills left held new s s' n → n ≡ 0 → new ≡ held
-  nothing_filled held new s s' n fills none = fills.grown ∙ (ap (λ l. held ++ l) (nil_from_length fills.bytes (fills.count ∙ none)) ∙ append-nil held)
+  module _ {Needs Is : List ℕ → Type 0} {held : List ℕ} {s t : S} (r : Reads left Needs held s t Is) where
+    -- one more piece was read, where it was needed
+    reads_more : (Is' : List ℕ → Type 0) (u : S) (piece : List ℕ) → Needs (held ++ r.bytes) → length piece ≤ ROOM → Loses (left t) (left u) piece → Is' ((held ++ r.bytes) ++ piece) → Reads left Needs held s u Is'
+    reads_more Is' u piece needs short loses is = record {
+      bytes = r.bytes ++ piece;
+      loses = loses_both s t u r.bytes piece r.loses loses;
+      needed = inr (record { before = r.bytes; piece = piece; whole = refl; short = short; needed = needs });
+      is = subst Is' (append_assoc held r.bytes piece) is;
+    }
 
-  pub ends_held : (held : List ℕ) (s : S) (n : ℕ) (xs : List ℕ) → EndsOnly (left s) n → n ≡ 0 → IsLeft left held s xs → xs ≡ held
-  ends_held held s n xs ends none rest = rest.2 ∙ (ap (λ l. held ++ l) (ends rest.0 rest.1 none) ∙ append-nil held)
-
-  pub all_held : (old held new : List ℕ) (first s s' : S) (n : ℕ) → Holds left old held first s → Fills left held new s s' n → EndsOnly (left s) n → n ≡ 0 → AllLeft left old first (λ xs. xs ≡ new)
-  all_held old held new first s s' n holds fills ends none = record {
-    each = λ xs rest. ends_held held s n xs ends none (holds.each xs rest) ∙ sym (nothing_filled held new s s' n fills none);
-  }
-
-  -- What was left began with so many bytes, none of them a line feed, that are held no more.
-  pub record Gone (old : List ℕ) (first s : S) (count : ℕ) : Type 0 where
-    pub each : (xs : List ℕ) → IsLeft left old first xs → (gone : List ℕ) × HasNoFeed gone × (length gone ≡ count) × IsLeft left gone s xs
-
-  pub gone_first : (old : List ℕ) (first : S) → HasNoFeed old → Gone old first first (length old)
-  gone_first old first plain = record { each = λ xs rest. (old, plain, refl, rest) }
-
-  -- what was gone, and what is held now
-  behind : (gone new : List ℕ) (s s' : S) (n : ℕ) (xs : List ℕ) → Fills left [] new s s' n → IsLeft left gone s xs → IsLeft left (gone ++ new) s' xs
-  behind gone new s s' n xs fills rest =
-      let lost = fills.loses rest.0 rest.1 in
-      let bytes : new ≡ fills.bytes = fills.grown in
-      (lost.0, lost.1, rest.2 ∙ (ap (λ l. gone ++ l) (lost.2 ∙ ap (λ l. l ++ lost.0) (sym bytes)) ∙ sym (append_assoc gone new lost.0)))
-
-  pub gone_more : (old new : List ℕ) (first s s' : S) (count n : ℕ) → Gone old first s count → Fills left [] new s s' n → HasNoFeed new → Gone old first s' (count + n)
-  gone_more old new first s s' count n gone fills plain = record {
-    each = λ xs rest.
-        let g = gone.each xs rest in
-        let long : length new ≡ n = ap length fills.grown ∙ fills.count in
-        (g.0 ++ new, plain_both g.0 new g.1 plain, omega (arith, length-append g.0 new, g.2, long), behind g.0 new s s' n xs fills g.3);
-  }
-
-  pub gone_last : (old : List ℕ) (first s : S) (count n least room : ℕ) → Gone old first s count → EndsOnly (left s) n → n ≡ 0 → least ≤ count → count ≤ room → AllLeft left old first (StopsWithin least room)
-  gone_last old first s count n least room gone ends none far near = record {
-    each = λ xs rest.
-        let g = gone.each xs rest in
-        let same : xs ≡ g.0 = ends_held g.0 s n xs ends none g.3 in
-        subst (StopsWithin least room) (sym same) (record { plain = g.1; far = omega (arith, g.2, far); near = omega (arith, g.2, near) });
-  }
-
-  pub gone_beyond : (old : List ℕ) (first s : S) (count room : ℕ) → Gone old first s count → room < count → AllLeft left old first (GoesBeyond room)
-  gone_beyond old first s count room gone over = record {
-    each = λ xs rest.
-        let g = gone.each xs rest in
+    -- more was read behind bytes that were passed over
+    pub reads_then : {Needs' Is' : List ℕ → Type 0} (Is'' : List ℕ → Type 0) (front held' : List ℕ) {u : S} → Reads left Needs' held' t u Is' → held ++ r.bytes ≡ front ++ held'
+        → ((xs : List ℕ) → Needs' xs → Needs (front ++ xs)) → ((xs : List ℕ) → Is' xs → Is'' (front ++ xs)) → Reads left Needs held s u Is''
+    reads_then Is'' front held' {u} then whole needs is =
+        let at : (bytes : List ℕ) → front ++ (held' ++ bytes) ≡ held ++ (r.bytes ++ bytes) = λ bytes. sym (append_assoc front held' bytes) ∙ (ap (λ l. l ++ bytes) (sym whole) ∙ append_assoc held r.bytes bytes) in
         record {
-          long = omega (arith, ap length g.3.2, length-append g.0 g.3.0, g.2, over);
-          none = λ line more is. omega (arith, feed_behind g.0 g.3.0 line more g.1 (sym g.3.2 ∙ is), g.2, over);
-        };
-  }
+          bytes = r.bytes ++ then.bytes;
+          loses = loses_both s t u r.bytes then.bytes r.loses then.loses;
+          needed = elim then.needed [
+            | inl none ↦ elim r.needed [
+              | inl same ↦ inl (none.0 ∙ same.0, ap (λ l. l ++ then.bytes) same.1 ∙ none.1)
+              | inr p ↦ inr (record { before = p.before; piece = p.piece; whole = ap (λ l. r.bytes ++ l) none.1 ∙ (append-nil r.bytes ∙ p.whole); short = p.short; needed = p.needed })
+            ]
+            | inr p ↦
+                inr (record {
+                  before = r.bytes ++ p.before;
+                  piece = p.piece;
+                  whole = ap (λ l. r.bytes ++ l) p.whole ∙ sym (append_assoc r.bytes p.before p.piece);
+                  short = p.short;
+                  needed = subst Needs (at p.before) (needs (held' ++ p.before) p.needed);
+                })
+          ];
+          is = subst Is'' (at then.bytes) (is (held' ++ then.bytes) then.is);
+        }
 
-  -- the line feed of what is held now ends the line
-  ended : (gone new : List ℕ) (s' : S) (n : ℕ) (xs : List ℕ) (fed : IsFed new n) (rest : IsLeft left (gone ++ new) s' xs) → xs ≡ (gone ++ fed.line) ++ 10 ∷ (fed.more ++ rest.0)
-  ended gone new s' n xs fed rest =
-      rest.2 ∙ (ap (λ l. (gone ++ l) ++ rest.0) fed.whole ∙ (append_assoc gone (fed.line ++ 10 ∷ fed.more) rest.0 ∙ (ap (λ l. gone ++ l) (append_assoc fed.line (10 ∷ fed.more) rest.0) ∙ sym (append_assoc gone fed.line (10 ∷ (fed.more ++ rest.0))))))
+    pub reads_weaker : (Needs' Is' : List ℕ → Type 0) → ((xs : List ℕ) → Needs xs → Needs' xs) → ((xs : List ℕ) → Is xs → Is' xs) → Reads left Needs' held s t Is'
+    reads_weaker Needs' Is' needs is = record {
+      bytes = r.bytes;
+      loses = r.loses;
+      needed = elim r.needed [
+        | inl same ↦ inl same
+        | inr p ↦ inr (record { before = p.before; piece = p.piece; whole = p.whole; short = p.short; needed = needs (held ++ p.before) p.needed })
+      ];
+      is = is (held ++ r.bytes) r.is;
+    }
 
-  pub gone_fed : (old new : List ℕ) (first s s' : S) (count n at least room : ℕ) → Gone old first s count → Fills left [] new s s' n → IsFed new at → least ≤ count → count + at < room
-      → AllLeft left old first (EndsWithin least room)
-  gone_fed old new first s s' count n at least room gone fills fed far near = record {
-    each = λ xs rest.
-        let g = gone.each xs rest in
-        let now = behind g.0 new s s' n xs fills g.3 in
-        let long : length (g.0 ++ fed.line) ≡ count + at = omega (arith, length-append g.0 fed.line, g.2, fed.long) in
-        record {
-          line = g.0 ++ fed.line;
-          more = fed.more ++ now.0;
-          whole = ended g.0 new s' at xs fed now;
-          plain = plain_both g.0 fed.line g.1 fed.plain;
-          far = omega (arith, long, far);
-          near = omega (arith, long, near);
-        };
-  }
+    pub reads_left : (xs : List ℕ) → IsLeft left held s xs → IsLeft left (held ++ r.bytes) t xs
+    reads_left xs rest =
+        let lost = r.loses rest.0 rest.1 in
+        (lost.0, lost.1, rest.2 ∙ (ap (λ l. held ++ l) lost.2 ∙ sym (append_assoc held r.bytes lost.0)))
 
-  pub gone_fed_beyond : (old new : List ℕ) (first s s' : S) (count n at room : ℕ) → Gone old first s count → Fills left [] new s s' n → IsFed new at → room ≤ count + at → AllLeft left old first (GoesBeyond room)
-  gone_fed_beyond old new first s s' count n at room gone fills fed over = record {
-    each = λ xs rest.
-        let g = gone.each xs rest in
-        let now = behind g.0 new s s' n xs fills g.3 in
-        let whole = ended g.0 new s' at xs fed now in
-        let long : length (g.0 ++ fed.line) ≡ count + at = omega (arith, length-append g.0 fed.line, g.2, fed.long) in
-        record {
-          long = omega (arith, ap length whole, length-append (g.0 ++ fed.line) (10 ∷ (fed.more ++ now.0)), long, over);
-          none = λ line more is.
-              omega (arith, feed_behind (g.0 ++ fed.line) (10 ∷ (fed.more ++ now.0)) line more (plain_both g.0 fed.line g.1 fed.plain) (sym whole ∙ is), long, over);
-        };
-  }
+    -- what follows from the bytes, whatever is told behind them, is so of all that was left
+    pub all_read : (P : List ℕ → Type 0) → ((xs told : List ℕ) → Is xs → P (xs ++ told)) → AllLeft left held s P
+    all_read P more = record { each = λ xs rest. let now = reads_left xs rest in subst P (sym now.2) (more (held ++ r.bytes) now.0 r.is) }
+
+    -- where nothing is told behind the bytes, they are all that was left
+    pub all_spent : (P : List ℕ → Type 0) → Spends (left s) (left t) → ((xs : List ℕ) → Is xs → P xs) → AllLeft left held s P
+    all_spent P spends all = record {
+      each = λ xs rest.
+          let now = reads_left xs rest in
+          let none : now.0 ≡ [] = cc (now.1, spends rest.0 rest.1) in
+          subst P (sym (now.2 ∙ (ap (λ l. (held ++ r.bytes) ++ l) none ∙ append-nil (held ++ r.bytes)))) (all (held ++ r.bytes) r.is);
+    }
+
+    pub spends_behind : (u : S) → Spends (left t) (left u) → Spends (left s) (left u)
+    spends_behind u spends xs told = let lost = r.loses xs told in spends lost.0 lost.1
+
+  -- what is so of all that was left behind the bytes that are held now
+  pub all_behind : {Needs : List ℕ → Type 0} {held mid : List ℕ} {s t : S} (P Q : List ℕ → Type 0) → Reads left Needs held s t (λ xs. xs ≡ mid) → ((xs : List ℕ) → P xs → Q xs) → AllLeft left mid t P → AllLeft left held s Q
+  all_behind {t = t} P Q r weaker all = record { each = λ xs rest. weaker xs (all.each xs (subst (λ l. IsLeft left l t xs) r.is (reads_left r xs rest))) }
+
+  -- all that was read is held
+  module _ {Needs : List ℕ → Type 0} {held mid : List ℕ} {s t : S} (r : Reads left Needs held s t (λ xs. xs ≡ mid)) (needs : Needs mid) where
+    held_needs : Needs (held ++ r.bytes)
+    held_needs = subst Needs (sym r.is) needs
+
+    pub reads_filled : (new : List ℕ) (u : S) (n : ℕ) → Fills left mid new t u n → length new ≤ ROOM → Reads left Needs held s u (λ xs. xs ≡ new)
+    reads_filled new u n fills fits =
+        let short : length fills.bytes ≤ ROOM = omega (arith, ap length fills.grown, length-append mid fills.bytes, fits) in
+        reads_more r (λ xs. xs ≡ new) u fills.bytes held_needs short fills.loses (ap (λ l. l ++ fills.bytes) r.is ∙ sym fills.grown)
+
+  -- so many bytes were passed over, and none is held
+  module _ {held : List ℕ} {s t : S} {count room : ℕ} (r : Reads left (StopsWithin 0 room) held s t (IsPlain count)) (near : count ≤ room) where
+    passed_needs : StopsWithin 0 room (held ++ r.bytes)
+    passed_needs = record { plain = r.is.plain; far = omega arith; near = omega (arith, r.is.long) }
+
+    pub passed_filled : (Is : List ℕ → Type 0) (new : List ℕ) (u : S) (n : ℕ) → Fills left [] new t u n → length new ≤ ROOM → ((gone : List ℕ) → IsPlain count gone → Is (gone ++ new)) → Reads left (StopsWithin 0 room) held s u Is
+    passed_filled Is new u n fills fits is =
+        reads_more r Is u new passed_needs fits (subst (Loses (left t) (left u)) (sym fills.grown) fills.loses) (is (held ++ r.bytes) r.is)

@@ -3,11 +3,12 @@ use Rattle.std.proofs.Common.{◌≡◌, ℕ, ◌+◌, ◌≤◌, List, [], ◌+
 use Rattle.std.specs.Prelude.{Option, Some}
 use Rattle.std.proofs.lemmas.List.{append-nil}
 use Rattle.plain_model.specs.declared.event.Event.{Event}
-use Rattle.plain_model.specs.Script.{AreLines, IsBadRest, IsLongRest, IsScript, IsTooLong, StopsAt, most_turns, turns_in}
-use Rattle.script_lang.specs.Feeds.{AllLeft, IsLeft}
-use Rattle.script_lang.specs.Lines.{Breaks, IsDone, Passes, Takes, given, lines_given, pending, turns_given}
+use Rattle.plain_model.specs.Script.{AreLines, IsBadRest, IsLongRest, IsReadTo, IsScript, IsTooLong, StopsAt, most_turns, turns_in}
+use Rattle.script_lang.specs.Feeds.{AllLeft, IsLeft, Reads}
+use Rattle.script_lang.specs.Lines.{Breaks, IsDone, IsUndecided, Passes, Takes, given, lines_given, pending, turns_given}
 use Rattle.script_lang.specs.declared.lines.Lines.{Lines}
 use Rattle.script_lang.proofs.Judging.{lines_both}
+use Rattle.script_lang.proofs.Reading.{reads_left}
 
 -- lines that give events, and then lines that give none
 lines_then_none : (front back : List ℕ) (m n : ℕ) (es : List Event) → AreLines front m es → AreLines back n [] → AreLines (front ++ back) (m + n) es
@@ -62,3 +63,37 @@ module _ {S : Type 0} (left : S → Option (List ℕ)) (first l : Lines) (s t : 
         };
         long = subst (λ k. IsLongRest k y.rest) place y.long;
       }
+
+  -- how much of the whole text the source has lost, and what it has left
+  pub taken_of_whole : {Needs Is : List ℕ → Type 0} {u : S} (xs : List ℕ) → left s ≡ Some xs → Reads left Needs (pending l) t u Is → (taken : List ℕ) × (rest : List ℕ) × (xs ≡ taken ++ rest) × (left u ≡ Some rest)
+  taken_of_whole xs told r =
+      let x = takes.each xs (all_of xs told) in
+      let y = reads_left left r x.rest x.behind in
+      (x.front ++ (pending l ++ r.bytes), y.0, x.whole ∙ (ap (λ b. x.front ++ b) y.2 ∙ sym (append_assoc x.front (pending l ++ r.bytes) y.0)), y.1)
+
+  -- where a read failed, what the source has lost is the lines of these events and the beginning of one more
+  pub read_of_whole : {Needs : List ℕ → Type 0} {u : S} (xs : List ℕ) → left s ≡ Some xs → Reads left Needs (pending l) t u (IsUndecided (given l))
+      → (taken : List ℕ) × (rest : List ℕ) × (xs ≡ taken ++ rest) × (left u ≡ Some rest) × IsReadTo taken es
+  unfolding taken_of_whole
+  read_of_whole xs told r =
+      let x = takes.each xs (all_of xs told) in
+      let here = taken_of_whole xs told r in
+      let u = r.is in
+      let bytes = pending l ++ r.bytes in (
+        here.0,
+        here.1,
+        here.2,
+        here.3,
+        record {
+          begins = record {
+            front = x.front ++ u.front;
+            rest = u.rest;
+            count = x.count + u.count;
+            whole = ap (λ b. x.front ++ b) u.whole ∙ sym (append_assoc x.front u.front u.rest);
+            lines = lines_then_none x.front u.front x.count u.count es x.lines u.lines;
+            few = few;
+          };
+          broken = u.plain;
+          within = omega (arith, u.within, x.more_bytes, start, length-append x.front bytes);
+        },
+      )

@@ -1,9 +1,11 @@
 -- A script that is read in pieces: what was taken of it and not yet given, and how far it is given.
 use Rattle.std.specs.Prelude.{◌≡◌, ℕ, ◌+◌, ◌<◌, ◌≤◌, List, [], ◌∷◌, ◌++◌, length, Option}
 use Rattle.plain_model.specs.declared.event.Event.{Event}
-use Rattle.plain_model.specs.Script.{AreLines, Gives, IsBadRest, IsLongRest, most_bytes, most_turns}
+use Rattle.plain_model.specs.Script.{AreLines, Gives, HasNoFeed, IsBadRest, IsBlank, IsLongRest, most_bytes, most_turns}
 use Rattle.script_lang.specs.Feeds.{IsLeft}
 use Rattle.script_lang.specs.declared.lines.Lines.{Lines}
+use Rattle.script_lang.specs.declared.lines.Next.{Next}
+use Rattle.script_lang.specs.declared.lines.Next.TheVariants.{One as ANext, End as NoNext, Bad as BadNext, ReadFault, Long as LongNext}
 use Rattle.script_lang.specs.declared.lines.Stage.TheVariants.{Open}
 use Rattle.script_lang.specs.declared.lines.Line.{Line}
 use Rattle.script_lang.specs.declared.lines.Line.TheVariants.{One, Blank, Bad, Long, End, Fault}
@@ -28,6 +30,29 @@ turns_given l = l.reached.turns
 abbrev pub IsOpen : Lines → Type 0
 IsOpen l = l.stage ≡ Open
 
+-- Behind so many bytes these are whole lines that give no event, and the beginning of one more, within
+-- the limit: what comes next is not known.
+pub record IsUndecided (before : ℕ) (bytes : List ℕ) : Type 0 where
+  pub front : List ℕ
+  pub rest : List ℕ
+  pub count : ℕ
+  pub whole : bytes ≡ front ++ rest
+  pub lines : AreLines front count []
+  pub plain : HasNoFeed rest
+  pub within : before + length bytes ≤ most_bytes
+
+-- what comes next is not known before more is read
+abbrev pub NeedsRead : Lines → Type 0
+NeedsRead l = IsUndecided (given l) (pending l)
+
+-- what the bytes are up to which a source was read for this answer, behind so many
+abbrev pub IsReadFor : ℕ → Next → List ℕ → Type 0
+IsReadFor before (ANext event) bytes = Unit {0}
+IsReadFor before NoNext bytes = Unit {0}
+IsReadFor before (BadNext number) bytes = Unit {0}
+IsReadFor before ReadFault bytes = IsUndecided before bytes
+IsReadFor before LongNext bytes = Unit {0}
+
 -- what is left of a script: what is pending, and behind it what the source tells
 abbrev pub IsRest : {S : Type 0} → (S → Option (List ℕ)) → Lines → S → List ℕ → Type 0
 IsRest left l s xs = IsLeft left (pending l) s xs
@@ -47,6 +72,23 @@ pub record TakesFront {S : Type 0} (left : S → Option (List ℕ)) (old new : L
 -- Whatever was left began with whole lines that give these events, and has lost them.
 pub record Takes {S : Type 0} (left : S → Option (List ℕ)) (old new : Lines) (s s' : S) (events : List Event) : Type 0 where
   pub each : (xs : List ℕ) → IsRest left old s xs → TakesFront left old new s' events xs
+
+-- These bytes began with whole lines that give these events, and what stands behind them is pending; the
+-- counts have grown by them.
+pub record GivesFront (old new : Lines) (events : List Event) (bytes : List ℕ) : Type 0 where
+  pub front : List ℕ
+  pub count : ℕ
+  pub whole : bytes ≡ front ++ pending new
+  pub lines : AreLines front count events
+  pub more_lines : lines_given new ≡ lines_given old + count
+  pub more_bytes : given new ≡ given old + length front
+
+-- Lines without an event were passed over, and nothing else has changed.
+pub record Skips (old new : Lines) : Type 0 where
+  pub blank : GivesFront old new [] (pending old)
+  pub short : given new ≤ most_bytes
+  pub turns : turns_given new ≡ turns_given old
+  pub stage : new.stage ≡ old.stage
 
 -- The counts behind a line that was given and asks for so many turns, whatever the source tells.
 pub record Advances (old new : Lines) (turns : ℕ) : Type 0 where
@@ -71,6 +113,19 @@ FrontIsBad before so_far held = (told : List ℕ) → IsBadRest before so_far (h
 -- Whatever the source tells behind these bytes, they pass the limit.
 abbrev pub FrontIsLong : ℕ → List ℕ → Type 0
 FrontIsLong before held = (told : List ℕ) → IsLongRest before (held ++ told)
+
+-- what the bytes are up to which a source was read for this line
+abbrev pub IsReadBy : Lines → Lines → Line → List ℕ → Type 0
+IsReadBy old new (One event) bytes = GivesFront old new (event ∷ []) bytes
+IsReadBy old new Blank bytes = GivesFront old new [] bytes
+IsReadBy old new Bad bytes = Unit {0}
+IsReadBy old new Long bytes = Unit {0}
+IsReadBy old new End bytes = Unit {0}
+IsReadBy old new Fault bytes = IsUndecided (given old) bytes
+
+-- behind so many bytes this line gives no event and ends within the limit
+abbrev pub IsPassedOver : ℕ → List ℕ → Type 0
+IsPassedOver before line = IsBlank line × (length line ≤ 256) × (before + length line < most_bytes)
 
 -- a line behind which none is given, but not the end
 abbrev pub IsFinal : Line → Type 0

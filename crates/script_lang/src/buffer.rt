@@ -3,7 +3,7 @@ ghost use Rattle.std.specs.Prelude.{◌≡◌, ◌<◌, ◌≤◌, ◌⊎◌, �
 ghost use Rattle.outside.specs.Faults.{Rose};
 ghost use Rattle.outside.specs.Told.{EndsOnly, Stays};
 ghost use Rattle.plain_model.specs.Script.{HasNoFeed, most_bytes};
-ghost use Rattle.script_lang.specs.Feeds.{AllLeft, EndsWithin, Fills, GoesBeyond, Holds, IsFed, StopsWithin};
+ghost use Rattle.script_lang.specs.Feeds.{EndsSo, Fills, IsFed, Reads, Spends, StopsWithin};
 
 use memchr::memchr;
 use outside::{Failed, Source};
@@ -111,10 +111,11 @@ impl Buffer {
     pub fn find<S: Source>(&mut self, s: &mut S, room: u64) -> Found
         ensures later { S.fault_count s.old ≤ S.fault_count s.new }
         ensures cause { result ≡ Found.Fault → Rose (S.fault_count s.old) (S.fault_count s.new) }
-        ensures holds { Holds S.left self.old self.new s.old s.new }
+        ensures reads { Reads S.left (StopsWithin 0 room) self.old s.old s.new (λ xs. xs ≡ self.new) }
         ensures line { (n : ℕ) → result ≡ Found.Line n → IsFed self.new n }
-        ensures last { result ≡ Found.Last → AllLeft S.left self.old s.old (λ xs. xs ≡ self.new) }
-        ensures small { result ≡ Found.Last → StopsWithin 0 room self.new }
+        ensures spends { result ≡ Found.Last → Spends (S.left s.old) (S.left s.new) }
+        ensures last { result ≡ Found.Last → StopsWithin 0 room self.new }
+        ensures fault { result ≡ Found.Fault → StopsWithin 0 room self.new }
         ensures over { result ≡ Found.Over → HasNoFeed self.new × ((256 < length self.new) ⊎ (room < length self.new)) }
     {
         loop {
@@ -143,9 +144,8 @@ impl Buffer {
         requires small { room ≤ most_bytes }
         ensures later { S.fault_count s.old ≤ S.fault_count s.new }
         ensures cause { result ≡ Passed.Fault → Rose (S.fault_count s.old) (S.fault_count s.new) }
-        ensures feed { result ≡ Passed.Feed → AllLeft S.left self.old s.old (EndsWithin (length self.old) room) }
-        ensures last { result ≡ Passed.Last → AllLeft S.left self.old s.old (StopsWithin (length self.old) room) }
-        ensures over { result ≡ Passed.Over → AllLeft S.left self.old s.old (GoesBeyond room) }
+        ensures reads { Reads S.left (StopsWithin 0 room) self.old s.old s.new (EndsSo (length self.old) room result) }
+        ensures spends { result ≡ Passed.Last → Spends (S.left s.old) (S.left s.new) }
     {
         let mut count = self.bytes().len() as u64;
         while count <= room {
@@ -178,8 +178,8 @@ impl Buffer {
     }
 }
 
-// How many bytes stand before the first line feed. None exactly where there is none.
-fn line_end(bytes: &[u8]) -> Option<usize>
+/// How many bytes stand before the first line feed. None exactly where there is none.
+pub(crate) fn line_end(bytes: &[u8]) -> Option<usize>
     ensures { MatchOption result (HasNoFeed bytes.now) (IsFed bytes.now) }
 {
     memchr(b'\n', bytes)

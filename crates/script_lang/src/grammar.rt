@@ -36,8 +36,8 @@ pub fn read_line(text: &[u8]) -> Read
     }
 }
 
-// Whether a line is empty or a comment.
-fn is_blank(line: &[u8]) -> bool
+/// Whether a line is empty or a comment.
+pub(crate) fn is_blank(line: &[u8]) -> bool
     ensures { IsTrue result ↔ IsBlank line.now }
 {
     matches!(line, [] | [b';', ..])

@@ -1,13 +1,13 @@
 // A script's lines, from a source that gives its bytes in pieces.
-ghost use Rattle.std.specs.Prelude.{◌≡◌, ◌≢◌, ◌⊎◌, ◌+◌, ◌-◌, ◌^◌, ◌<◌, ◌≤◌, ℕ, [], ◌∷◌, drop, length};
+ghost use Rattle.std.specs.Prelude.{◌≡◌, ◌≢◌, ◌⊎◌, ◌↔◌, ◌+◌, ◌-◌, ◌^◌, ◌<◌, ◌≤◌, ℕ, [], ◌∷◌, drop, length, take, IsTrue};
 ghost use Rattle.outside.specs.Faults.{Rose};
 ghost use Rattle.plain_model.specs.Limits.{FitsEvent, IsBuilt};
 ghost use Rattle.plain_model.specs.Script.{HasNoFeed, IsBadRest, IsLongRest, most_bytes, most_turns, turns_of as turns_asked};
 ghost use Rattle.plain_model.specs.declared.event.Event.{Event as AnEvent};
-ghost use Rattle.script_lang.specs.Feeds.{AllLeft, EndsWithin, GoesBeyond, IsFed, StopsWithin};
+ghost use Rattle.script_lang.specs.Feeds.{AllLeft, IsFed, Reads, Spends};
 
-use crate::buffer::{Buffer, Found, MOST_LINE, Passed};
-use crate::grammar::{Read, read_line};
+use crate::buffer::{Buffer, Found, MOST_LINE, Passed, line_end};
+use crate::grammar::{Read, is_blank, read_line};
 use crate::reached::{MOST_BYTES, MOST_TURNS, Reached};
 use outside::Source;
 use plain_model::Event;
@@ -60,7 +60,7 @@ pub struct Lines {
 }
 
 impl Lines {
-    ghost use Rattle.script_lang.specs.Lines.{Advances, Breaks, FrontIsBad, FrontIsLong, GivesLine, IsDone, IsFinal, IsOpen, Passes, Takes, given, lines_given, pending, turns_given};
+    ghost use Rattle.script_lang.specs.Lines.{Advances, Breaks, FrontIsBad, FrontIsLong, GivesLine, IsDone, IsFinal, IsOpen, IsPassedOver, IsReadBy, IsReadFor, IsUndecided, NeedsRead, Passes, Skips, Takes, given, lines_given, pending, turns_given};
 
     /// Nothing is taken or given.
     pub fn new() -> Self
@@ -77,12 +77,41 @@ impl Lines {
         }
     }
 
-    /// What the script has next, which is read from the source as far as it is needed. A fault comes
-    /// only where the source failed. Nothing may be asked for behind an answer other than `One`.
+    /// Whether `next` has to read from the source: what comes next is not known from what was taken.
+    /// Lines without an event that were taken are passed over.
+    pub fn needs_read(&mut self) -> bool
+        ensures answer { IsTrue result ↔ NeedsRead self.new }
+        ensures skips { Skips self.old self.new }
+    {
+        while let Some(count) = line_end(self.buffer.bytes()) {
+            if !self.passes_over(count) {
+                return false;
+            }
+            self.give(count, 0);
+        }
+        self.buffer.bytes().len() as u64 <= self.room()
+    }
+
+    // Whether the line of so many bytes at the front has no event and ends within the limit.
+    fn passes_over(&self, count: usize) -> bool
+        requires { count ≤ length (pending self.now) }
+        ensures { IsTrue result ↔ IsPassedOver (given self.now) (take count (pending self.now)) }
+    {
+        count <= MOST_LINE
+            && (count as u64) < self.room()
+            && is_blank(&self.buffer.bytes()[..count])
+    }
+
+    /// What the script has next. The source is read only while that is not known, and at most a piece
+    /// is taken from it behind what tells. A fault comes only where the source failed, and is told
+    /// only behind all that was known without that read. Nothing may be asked for behind an answer
+    /// other than `One`.
     pub fn next<S: Source>(&mut self, s: &mut S) -> Next
         requires { IsOpen self.old }
         ensures later { S.fault_count s.old ≤ S.fault_count s.new }
         ensures cause { result ≡ Next.ReadFault → Rose (S.fault_count s.old) (S.fault_count s.new) }
+        ensures unread { (NeedsRead self.old → ⊥) → s.new ≡ s.old }
+        ensures reads { Reads S.left (IsUndecided (given self.old)) (pending self.old) s.old s.new (IsReadFor (given self.old) result) }
 
         // An event is that of a line at the front, and its turns are counted.
         ensures fits { (e : AnEvent) → result ≡ Next.One e → FitsEvent e × IsBuilt e }
@@ -92,6 +121,7 @@ impl Lines {
 
         // Any other answer is the last.
         ensures end { result ≡ Next.End → AllLeft S.left (pending self.old) s.old (IsDone (given self.old)) }
+        ensures spends { result ≡ Next.End → Spends (S.left s.old) (S.left s.new) }
         ensures bad { (n : ℕ) → result ≡ Next.Bad n → AllLeft S.left (pending self.old) s.old (Breaks (given self.old) (turns_given self.old) (lines_given self.old) n) }
         ensures long { result ≡ Next.Long → AllLeft S.left (pending self.old) s.old (Passes (given self.old)) }
         ensures last { IsOpen self.new → (e : AnEvent) × (result ≡ Next.One e) }
@@ -107,11 +137,13 @@ impl Lines {
     fn advance<S: Source>(&mut self, s: &mut S) -> Next
         ensures later { S.fault_count s.old ≤ S.fault_count s.new }
         ensures cause { result ≡ Next.ReadFault → Rose (S.fault_count s.old) (S.fault_count s.new) }
+        ensures reads { Reads S.left (IsUndecided (given self.old)) (pending self.old) s.old s.new (IsReadFor (given self.old) result) }
         ensures stage { self.new.stage ≡ self.old.stage }
         ensures fits { (e : AnEvent) → result ≡ Next.One e → FitsEvent e × IsBuilt e }
         ensures takes { (e : AnEvent) → result ≡ Next.One e → Takes S.left self.old self.new s.old s.new (e ∷ []) }
         ensures advances { (e : AnEvent) → result ≡ Next.One e → Advances self.old self.new (turns_asked e) }
         ensures end { result ≡ Next.End → AllLeft S.left (pending self.old) s.old (IsDone (given self.old)) }
+        ensures spends { result ≡ Next.End → Spends (S.left s.old) (S.left s.new) }
         ensures bad { (n : ℕ) → result ≡ Next.Bad n → AllLeft S.left (pending self.old) s.old (Breaks (given self.old) (turns_given self.old) (lines_given self.old) n) }
         ensures long { result ≡ Next.Long → AllLeft S.left (pending self.old) s.old (Passes (given self.old)) }
     {
@@ -131,13 +163,13 @@ impl Lines {
     fn line<S: Source>(&mut self, s: &mut S) -> Line
         ensures later { S.fault_count s.old ≤ S.fault_count s.new }
         ensures cause { result ≡ Line.Fault → Rose (S.fault_count s.old) (S.fault_count s.new) }
+        ensures reads { Reads S.left (IsUndecided (given self.old)) (pending self.old) s.old s.new (IsReadBy self.old self.new result) }
         ensures stage { self.new.stage ≡ self.old.stage }
         ensures fits { (e : AnEvent) → result ≡ Line.One e → FitsEvent e × IsBuilt e }
-        ensures takes { (e : AnEvent) → result ≡ Line.One e → Takes S.left self.old self.new s.old s.new (e ∷ []) }
         ensures advances { (e : AnEvent) → result ≡ Line.One e → Advances self.old self.new (turns_asked e) }
-        ensures blank { result ≡ Line.Blank → Takes S.left self.old self.new s.old s.new [] }
         ensures passes { result ≡ Line.Blank → Advances self.old self.new 0 }
         ensures end { result ≡ Line.End → AllLeft S.left (pending self.old) s.old (IsDone (given self.old)) }
+        ensures spends { result ≡ Line.End → Spends (S.left s.old) (S.left s.new) }
         ensures bad { result ≡ Line.Bad → AllLeft S.left (pending self.old) s.old (Breaks (given self.old) (turns_given self.old) (lines_given self.old) (lines_given self.old + 1)) }
         ensures unmoved { result ≡ Line.Bad → lines_given self.new ≡ lines_given self.old }
         ensures long { result ≡ Line.Long → AllLeft S.left (pending self.old) s.old (Passes (given self.old)) }
@@ -219,6 +251,7 @@ impl Lines {
         requires over { (256 < length (pending self.old)) ⊎ (most_bytes - given self.old < length (pending self.old)) }
         ensures later { S.fault_count s.old ≤ S.fault_count s.new }
         ensures cause { result ≡ Line.Fault → Rose (S.fault_count s.old) (S.fault_count s.new) }
+        ensures reads { Reads S.left (IsUndecided (given self.old)) (pending self.old) s.old s.new (IsReadBy self.old self.new result) }
         ensures stage { self.new.stage ≡ self.old.stage }
         ensures here { IsFinal result }
         ensures bad { result ≡ Line.Bad → AllLeft S.left (pending self.old) s.old (IsBadRest (given self.old) (turns_given self.old)) }

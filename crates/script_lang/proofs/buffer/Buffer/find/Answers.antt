@@ -1,21 +1,15 @@
-use Rattle.std.proofs.Common.{arith}
-use Rattle.script_lang.proofs.Reading.{holds_filled, holds_stayed, all_held}
+use Rattle.std.proofs.Common.{ap, arith, length, subst}
+use Rattle.plain_model.specs.Script.{HasNoFeed}
+use Rattle.script_lang.specs.Feeds.{StopsWithin}
+use Rattle.script_lang.proofs.Reading.{reads_filled}
 use Rattle.script_lang.proofs.buffer.Buffer.find.Goals as goal
 
-pub returns-then-read-eq0-clause-holds : goal.returns-then-read-eq0-clause-holds
-returns-then-read-eq0-clause-holds g c =
-    holds_filled g.S.Source.left c.args.self.now c.loop-n.self c.fill.new.self c.args.s.now c.loop-n.s c.fill.new.s c.in-Ok.read c.loop-n.invariant.holds c.in-Ok.ensures.bytes
-
-pub returns-then-read-eq0-clause-last : goal.returns-then-read-eq0-clause-last
-returns-then-read-eq0-clause-last g c h =
-    all_held g.S.Source.left c.args.self.now c.loop-n.self c.fill.new.self c.args.s.now c.loop-n.s c.fill.new.s c.in-Ok.read c.loop-n.invariant.holds c.in-Ok.ensures.bytes c.in-Ok.ensures.end c.if-read-eq0.true
-
 pub loop-n-preserved : goal.loop-n-preserved
-loop-n-preserved g c = record {
-  later = omega (arith, c.loop-n.invariant.later, c.fill.ensures.later);
-  holds = holds_filled g.S.Source.left c.args.self.now c.loop-n.self c.fill.new.self c.args.s.now c.loop-n.s c.fill.new.s c.in-Ok.read c.loop-n.invariant.holds c.in-Ok.ensures.bytes;
-}
-
-pub returns-in-Err-clause-holds : goal.returns-in-Err-clause-holds
-returns-in-Err-clause-holds g c =
-    holds_stayed g.S.Source.left c.args.self.now c.loop-n.self c.fill.new.self c.args.s.now c.loop-n.s c.fill.new.s c.loop-n.invariant.holds c.in-Err.ensures.same c.in-Err.ensures.stays
+loop-n-preserved g c =
+    let i = c.loop-n.invariant in
+    let plain = subst HasNoFeed c.bytes-held.ensures c.in_default.ensures in
+    let needs : StopsWithin 0 c.args.room c.loop-n.self = record { plain = plain; far = omega arith; near = omega (arith, c.if-count-room.false, ap length c.bytes-held.ensures) } in
+    record {
+      later = omega (arith, i.later, c.fill.ensures.later);
+      reads = reads_filled g.S.Source.left i.reads needs c.fill.new.self c.fill.new.s c.in-Ok.read c.in-Ok.ensures.bytes c.in-Ok.ensures.fits;
+    }

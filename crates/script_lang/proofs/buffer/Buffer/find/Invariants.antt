@@ -1,11 +1,11 @@
-use Rattle.std.proofs.Common.{◌≤◌, ◌-◌, length}
-use Rattle.script_lang.specs.Feeds.{Holds}
+use Rattle.std.proofs.Common.{◌≡◌, ◌≤◌, ◌-◌, length}
+use Rattle.script_lang.specs.Feeds.{Reads, StopsWithin}
 use Rattle.script_lang.proofs.buffer.Buffer.find.Given as goal
 
 abbrev pub invariant-loop-n : goal.invariant-loop-n
 invariant-loop-n g l = record {
   later : g.S.Source.fault_count l.fn.s ≤ g.S.Source.fault_count l.s;
-  holds : Holds g.S.Source.left l.fn.self l.self l.fn.s l.s;
+  reads : Reads g.S.Source.left (StopsWithin 0 l.room) l.fn.self l.fn.s l.s (λ xs. xs ≡ l.self);
 }
 
 abbrev pub decreases-loop-n : goal.decreases-loop-n
