@@ -1,6 +1,7 @@
 -- What each call on pages in memory does to the plain pages.
-use Rattle.std.proofs.Common.{◌≡◌, ℕ, zero, suc, ◌+◌, ◌<◌, List, [], ◌∷◌, Bool, true, false, Option, None, Some, length, map, refl, sym, ◌∙◌, ap, subst, arith, get_or-set_same, get_or-set_other, is_some}
-use Rattle.std.specs.Prelude.{slice_set, slice_index, if◌then◌else◌, nat_lt, nat_le}
+use Rattle.std.proofs.Common.{◌≡◌, ℕ, zero, suc, cond, ◌+◌, ◌<◌, List, [], ◌∷◌, Bool, true, false, Option, None, Some, length, map, refl, sym, ◌∙◌, ap, subst, arith, get_or-set_same, get_or-set_other, is_some}
+use Rattle.std.specs.Option.{option_map}
+use Rattle.std.specs.Prelude.{slice_set, slice_index, slice_index_or, if◌then◌else◌, nat_lt, nat_le}
 use Rattle.std.specs.Cmp.{nat_cmp_total}
 use Rattle.std.proofs.lemmas.Bool.{true≢false, ltb-true}
 use Rattle.std.proofs.lemmas.Bool.Decides.{nat_tests}
@@ -14,6 +15,8 @@ use Rattle.plain_model.specs.declared.names.TheConstants.{SPACE_PAGES, TERMINALS
 use Rattle.plain_model.specs.declared.names.Kind.{Kind}
 use Rattle.plain_model.specs.declared.map.MapEntry.TheVariants.{Empty, Names}
 use Rattle.plain_model.specs.declared.map.NewMap.{NewMap}
+use Rattle.plain_model.specs.declared.map.SpaceHandle.{SpaceHandle}
+use Rattle.plain_model.specs.declared.map.Found.{Found}
 use Rattle.plain_model.specs.declared.map.NewMap.TheVariants.{Empty as EmptyMap, FollowAll}
 use Rattle.plain_model.specs.declared.map.Peeked.TheVariants.{Is, NoPage}
 use Rattle.plain_model.specs.declared.map.Touch.TheVariants.{Ready, Zero, Full}
@@ -30,7 +33,7 @@ use Rattle.flat_pages.specs.Serials.{serial_of, with_next}
 use Rattle.flat_pages.specs.HeldPages.{page_of, blank_page, with_name, with_word, objects_of}
 use Rattle.flat_pages.specs.Spaces.{space_at, is_serial, has_fork, one_if, forks_in, entry_in, with_home, with_fork, entry_of, maps_of}
 use Rattle.flat_pages.specs.Tables.{Tables, Sound, plain_of, next_name, page_made, word_put, fork_added}
-use Rattle.flat_pages.specs.Meaning.{core, making_touch, entry_touch}
+use Rattle.flat_pages.specs.Meaning.{core, making_touch, entry_touch, space_of, place_of}
 use Rattle.flat_pages.proofs.Objects.{Objects, Apart, object_at, objects_put, objects_made}
 use Rattle.flat_pages.proofs.Maps.{entries_same, maps_same, maps_home, maps_fork, entry_there}
 use Rattle.flat_pages.proofs.Entries.{empty_touch, empty_settled, empty_peek, named_touch, named_settled, named_word, named_peek, named_stored}
@@ -200,3 +203,19 @@ module _ {t : Tables} (sound : Sound t) where
   fork_plain f terminal none EmptyMap built =
       parts_same t (objects_of t.homes t.made) (objects_of t.homes t.made) (maps_of t.homes (with_fork t.spaces f)) (fin.insert (maps_of t.homes t.spaces) f empty_map) refl
       (maps_fork t.homes t.spaces f (let e = sound.terminals in omega arith) none)
+
+-- a handle is that of a fork that lives
+pub handle_lives : (t : Tables) (f : ForkName) (space : SpaceHandle) → space_of t f ≡ Some space → (has_fork t.spaces f ≡ true) × (f.tty.0 ≡ space.0)
+handle_lives t f space h = by (has_fork t.spaces f) refl
+  where
+    by : (b : Bool) → has_fork t.spaces f ≡ b → (has_fork t.spaces f ≡ true) × (f.tty.0 ≡ space.0)
+    by true is = (is, let same : Some (record { 0 = f.tty.0 }) ≡ Some space = ap (λ b. cond b (Some (record { 0 = f.tty.0 })) None) (sym is) ∙ h in cc same)
+    by false is = absurd (let none : None ≡ Some space = ap (λ b. cond b (Some (record { 0 = f.tty.0 })) None) (sym is) ∙ h in cc none)
+
+-- a page that was found has a home in its slot
+pub placed : (t : Tables) (f : ForkName) (space : SpaceHandle) (page : ℕ) (found : Found) → f.tty.0 ≡ space.0 → place_of t space page ≡ Some found → (h : Home) × (entry_in t.spaces (record { fork = f; page = page }) ≡ Some h) × (h.0 ≡ found.0)
+placed t f space page found same place = by (slice_index_or (space_at t.spaces space.0).entries page None) refl place
+  where
+    by : (o : Option Home) → slice_index_or (space_at t.spaces space.0).entries page None ≡ o → option_map (λ (h : Home). record { 0 = h.0 }) o ≡ Some found → (h : Home) × (entry_in t.spaces (record { fork = f; page = page }) ≡ Some h) × (h.0 ≡ found.0)
+    by None is p = absurd (cc p)
+    by (Some h) is p = (h, ap (λ (k : ℕ). slice_index_or (space_at t.spaces k).entries page None) same ∙ is, cc p)

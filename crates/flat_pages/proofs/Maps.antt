@@ -10,11 +10,12 @@ use Rattle.plain_model.specs.declared.names.Home.{Home}
 use Rattle.plain_model.specs.declared.names.Slot.{Slot}
 use Rattle.plain_model.specs.declared.names.ForkName.{ForkName}
 use Rattle.plain_model.specs.declared.names.TheConstants.{SPACE_PAGES}
+use Rattle.plain_model.specs.declared.map.MapEntry.{MapEntry}
 use Rattle.plain_model.specs.declared.map.MapEntry.TheVariants.{Names}
 use Rattle.plain_model.specs.State.{Map, Maps}
 use Rattle.plain_model.specs.Maps.{set_entry, entry_at, full_access}
 use Rattle.plain_model.specs.Events.{empty_map}
-use Rattle.plain_model.specs.Pages.{same_fork}
+use Rattle.plain_model.specs.Pages.{same_fork, AreSingle, is_single}
 use Rattle.plain_model.specs.Orders.{fork_cmp}
 use Rattle.plain_model.proofs.OrderLemmas.{fork_cmp_total, fork_cmp_apart, fork_tied}
 use Rattle.flat_pages.specs.declared.held_page.HeldPage.{HeldPage}
@@ -210,3 +211,24 @@ lives_mapped homes spaces f = is_some_in (has_fork spaces f) (map (entry_of home
 -- a terminal without a fork has none of any name
 pub none_alone : (spaces : List Space) (f : ForkName) → forks_in spaces f.tty ≡ 0 → has_fork spaces f ≡ false
 none_alone spaces f none = ap (λ (at : Option ℕ). is_serial at f.serial) (no_fork (space_at spaces f.tty.0).fork none)
+
+-- an entry in memory follows none, and has no copy mark
+single_entry : (homes : List HeldPage) (o : Option Home) → is_single (entry_of homes o) ≡ true
+single_entry homes None = refl
+single_entry homes (Some h) = refl
+
+single_in : (homes : List HeldPage) (es : List (Option Home)) (page : ℕ) (e : MapEntry) → slice_get (map (entry_of homes) es) page ≡ Some e → is_single e ≡ true
+single_in homes [] page e h = absurd (cc h)
+single_in homes (o ∷ es) zero e h = let is : entry_of homes o ≡ e = cc h in ap is_single (sym is) ∙ single_entry homes o
+single_in homes (o ∷ es) (suc page) e h = single_in homes es page e h
+
+pub maps_single : (homes : List HeldPage) (spaces : List Space) → AreSingle (maps_of homes spaces)
+maps_single homes spaces = record {
+  each = λ s e h.
+      let space = space_at spaces s.fork.tty.0 in
+      by (is_serial space.fork s.fork.serial) (map (entry_of homes) space.entries) s.page e (single_in homes space.entries s.page e) (ap (option_and_then (λ m. slice_get m s.page)) (sym (maps_at homes spaces s.fork)) ∙ h);
+}
+  where
+    by : (b : Bool) (m : Map) (page : ℕ) (e : MapEntry) → (slice_get m page ≡ Some e → is_single e ≡ true) → option_and_then (λ n. slice_get n page) (map_in b m) ≡ Some e → is_single e ≡ true
+    by true m page e single h = single h
+    by false m page e single h = absurd (cc h)

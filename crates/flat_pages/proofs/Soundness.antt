@@ -35,7 +35,7 @@ use Rattle.flat_pages.specs.HeldPages.{page_of, blank_page, with_word}
 use Rattle.flat_pages.specs.Spaces.{no_entries, no_fork_space, space_at, has_fork, forks_in, entry_in, with_fork, maps_of, maps_from}
 use Rattle.flat_pages.specs.Tables.{Tables, Sound, plain_of, next_name, page_made, word_put, fork_added}
 use Rattle.flat_pages.proofs.Objects.{objects_none}
-use Rattle.flat_pages.proofs.Maps.{space_there, map_of_none, spaces_at, spaces_other, lives_mapped, none_alone}
+use Rattle.flat_pages.proofs.Maps.{space_there, map_of_none, spaces_at, spaces_other, lives_mapped, none_alone, maps_single}
 use Rattle.flat_pages.proofs.Calls.{name_kept, fresh, entry_empty, home_taken, made_plain, put_plain, fork_plain}
 
 same_home : (made : ℕ) (h : Home) → ◌≡◌ {A = Option Home} (Some (record { 0 = made })) (Some h) → made ≡ h.0
@@ -141,6 +141,7 @@ module _ {t : Tables} (sound : Sound t) where
           count = ap (λ (p : NumberedPages). live p) plain ∙ omega (arith, live_blank nat_cmp_total (plain_of t) sound.whole owner owns (in_map s) blank_here, sound.count);
           lives = lives_mapped new.homes new.spaces;
           alone = none_alone new.spaces;
+          single = maps_single new.homes new.spaces;
           room = omega arith;
           few = sound.few;
           enough = length-set t.homes t.made (record (page_of t.homes t.made) { name = name }) ∙ sound.enough;
@@ -161,6 +162,7 @@ module _ {t : Tables} (sound : Sound t) where
           count = ap (λ (p : NumberedPages). live p) plain ∙ live_stored (plain_of t) (in_map s) offset word ∙ sound.count;
           lives = lives_mapped (with_word t.homes h.0 offset word) t.spaces;
           alone = sound.alone;
+          single = maps_single (word_put t h offset word).homes t.spaces;
           room = sound.room;
           few = sound.few;
           enough = length-set t.homes h.0 (record (page_of t.homes h.0) { words = words }) ∙ sound.enough;
@@ -194,6 +196,7 @@ module _ {t : Tables} (sound : Sound t) where
           count = ap (λ (p : NumberedPages). live p) plain ∙ omega (arith, live_mapped, sound.count);
           lives = lives_mapped t.homes (with_fork t.spaces f);
           alone = none_alone (with_fork t.spaces f);
+          single = maps_single t.homes (with_fork t.spaces f);
           room = omega arith;
           few = sound.few;
           enough = sound.enough;
@@ -237,6 +240,7 @@ module _ (limit : ℕ) (serials : PageSerials) (terminals : serials.terminals �
     count = ap (λ (p : NumberedPages). live p) plain_boot ∙ omega (arith, none_live);
     lives = lives_mapped opened.homes opened.spaces;
     alone = none_alone opened.spaces;
+    single = maps_single opened.homes opened.spaces;
     room = omega arith;
     few = few;
     enough = length-replicate limit blank_page;

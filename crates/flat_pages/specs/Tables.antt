@@ -10,6 +10,7 @@ use Rattle.plain_model.specs.declared.names.TheConstants.{TERMINALS, SPACE_PAGES
 use Rattle.plain_model.specs.State.{NumberedPages}
 use Rattle.plain_model.specs.Room.{live}
 use Rattle.plain_model.specs.References.{zero_words}
+use Rattle.plain_model.specs.Pages.{AreSingle}
 use Rattle.plain_model.specs.Whole.{AreWhole}
 use Rattle.flat_pages.specs.declared.held_page.HeldPage.{HeldPage}
 use Rattle.flat_pages.specs.declared.space.Space.{Space}
@@ -39,12 +40,13 @@ plain_of t = record {
 }
 
 -- Homes are taken in order, each under a name of its own; the others are blank. The entries name taken homes.
--- The plain pages are whole, and so many of them and of the forks live: those that the spaces have.
+-- The plain pages are whole, none of their entries follows another, and so many of them and of the forks live: those that the spaces have.
 pub record Sound (t : Tables) : Type 0 where
   pub whole : AreWhole (plain_of t)
   pub count : live (plain_of t) ≡ t.made + t.living
   pub lives : (f : ForkName) → has_fork t.spaces f ≡ map.contains_key (plain_of t).maps f
   pub alone : (f : ForkName) → forks_in t.spaces f.tty ≡ 0 → has_fork t.spaces f ≡ false
+  pub single : AreSingle (plain_of t).maps
   pub room : t.made + t.living ≤ t.limit
   pub few : t.limit ≤ MOST_HOMES
   pub enough : length t.homes ≡ t.limit

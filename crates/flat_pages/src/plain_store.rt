@@ -4,13 +4,16 @@ ghost use Rattle.flat_pages.specs.Tables.{Sound};
 use crate::held_page::{HeldPage, blank_pages};
 use crate::page_serials::PageSerials;
 use crate::space::{Space, no_spaces};
-use outside::Memory;
+use outside::{Memory, PAGE_WORDS};
 use plain_model::{
-    ForkName, Home, Kind, MOST_HOMES, NewMap, PageName, Pages, Peeked, Place, SPACE_PAGES, Slot,
-    Touch, Tty,
+    ForkName, Found, Home, Kind, MOST_HOMES, NewMap, PageName, Pages, Peeked, Place, SPACE_PAGES,
+    Slot, SpaceHandle, TERMINALS, Touch, Tty,
 };
 use std::alloc::Global;
 use word36::Word;
+
+// How many words a page has, as addresses count them.
+const WORDS: u32 = PAGE_WORDS as u32;
 
 /// The pages of the forks in memory alone: nothing is ever in no frame, and no drum is asked. Each
 /// terminal has room for one fork, and pages of files aren't built. Nothing is allocated after the boot.
@@ -36,7 +39,7 @@ impl PlainStore {
     ghost use Rattle.flat_pages.specs.Serials.{serial_of};
     ghost use Rattle.flat_pages.specs.Spaces.{has_fork, entry_in};
     ghost use Rattle.flat_pages.specs.Tables.{page_made};
-    ghost use Rattle.flat_pages.specs.Meaning.{tables, making_touch};
+    ghost use Rattle.flat_pages.specs.Meaning.{tables, making_touch, place_of};
 
     /// No fork and no page, with room for so many of both, 1 to 16,384. Err: no memory.
     pub fn boot(alloc: Global, limit: u32) -> Result<PlainStore, Memory>
@@ -74,6 +77,16 @@ impl PlainStore {
         self.spaces[slot.fork.tty.0 as usize].entries[slot.page as usize]
     }
 
+    // Where a page of a space is, if its entry names one.
+    #[inline]
+    fn found(&self, space: SpaceHandle, page: u16) -> Option<Found>
+        requires space { space.0 < TERMINALS }
+        requires page { page < SPACE_PAGES }
+        ensures { result ≡ place_of (tables self.now) space page }
+    {
+        self.spaces[space.0 as usize].entries[page as usize].map(|home| Found(home.0))
+    }
+
     // What a touch answers where a page has to be made.
     #[inline]
     fn making(&self) -> Touch
@@ -107,7 +120,7 @@ impl PlainStore {
 }
 
 impl Pages for PlainStore {
-    ghost use Rattle.flat_pages.specs.Meaning.{meaning, store_agrees};
+    ghost use Rattle.flat_pages.specs.Meaning.{meaning, store_agrees, store_single};
 
     ghost means = { meaning };
 
@@ -161,6 +174,33 @@ impl Pages for PlainStore {
         }
     }
 
+    #[inline]
+    fn space(&self, fork: ForkName) -> SpaceHandle {
+        SpaceHandle(u32::from(fork.tty.0))
+    }
+
+    // An entry that names a page permits every kind of reference.
+    #[inline]
+    fn find(&self, space: SpaceHandle, page: u16, kind: Kind) -> Option<Found> {
+        self.found(space, page)
+    }
+
+    #[inline]
+    fn find_to_change(&self, space: SpaceHandle, page: u16) -> Option<Found> {
+        self.found(space, page)
+    }
+
+    #[inline]
+    fn load(&self, space: SpaceHandle, found: Found, address: u32) -> Word {
+        self.homes[found.0 as usize].words[(address % WORDS) as usize]
+    }
+
+    #[inline]
+    fn store(&mut self, space: SpaceHandle, found: Found, address: u32, word: Word) {
+        let page = &mut self.homes[found.0 as usize];
+        page.words[(address % WORDS) as usize] = word;
+    }
+
     fn add_fork(&mut self, fork: ForkName, map: NewMap) {
         self.spaces[fork.tty.0 as usize] = Space::empty(Some(fork.serial));
         self.living += 1;
@@ -177,4 +217,6 @@ impl Pages for PlainStore {
     ghost agrees = { λ s d fits. store_agrees s d };
 
     ghost none_lives = { λ s. s.sound.alone };
+
+    ghost single = { λ s d is fits. store_single s d };
 }

@@ -31,7 +31,8 @@ use Rattle.plain_model.specs.References.{Referred, granted, denied, full, in_map
 use Rattle.plain_model.specs.Room.{HasRoom}
 use Rattle.plain_model.specs.declared.call.TheConstants.{PBOUT, HALTF}
 use Rattle.plain_model.specs.declared.channel.TheConstants.{ILLEGAL_INSTRUCTION, DRUM_FULL}
-use Rattle.plain_model.specs.Unit.{Effect, Deed, goes, calls, traps, Fetched, word as fetches, stops, in_command_mode, printed, stop_text, stopped, unit_ended, trapped, pbout, haltf, called, done_by, executed, unit, deed_of, advanced, fetched, slot_at}
+use Rattle.plain_model.specs.Unit.{Effect, Deed, goes, calls, traps, Fetched, word as fetches, stops, in_command_mode, printed, stop_text, stopped, unit_ended, trapped, pbout, haltf, called, done_by, executed, unit, deed_of, advanced, fetched}
+use Rattle.plain_model.specs.References.{slot_at}
 use Rattle.plain_model.specs.declared.map.NewMap.TheVariants.{Empty as EmptyMap}
 use Rattle.plain_model.specs.Events.{refused, next_fork, with_map, with_job, restarted, login, with_accumulator, poked, poke, start, word_seen, examine, show_forks, outer}
 use Rattle.std.specs.Option.{option_map_or}

@@ -30,7 +30,9 @@ use Rattle.plain_model.specs.declared.fork.ForkStatus.TheVariants.{Run as Runnin
 use Rattle.plain_model.specs.Interrupts.{posted, pended, listens, is_panic}
 use Rattle.plain_model.specs.declared.call.TheConstants.{PBOUT, HALTF}
 use Rattle.plain_model.specs.declared.channel.TheConstants.{ILLEGAL_INSTRUCTION, DRUM_FULL}
-use Rattle.plain_model.specs.Unit.{Effect, Deed, goes, calls, traps, word as fetches, in_command_mode, printed, stop_text, stopped, unit_ended, trapped, pbout, haltf, called, done_by, executed, unit, deed_of, advanced, fetched, fetched_by, denied_channel, slot_at}
+use Rattle.plain_model.specs.Unit.{Effect, Deed, goes, calls, traps, word as fetches, in_command_mode, printed, stop_text, stopped, unit_ended, trapped, pbout, haltf, called, done_by, executed, unit, deed_of, advanced, fetched, fetched_by}
+use Rattle.plain_model.specs.References.{slot_at}
+use Rattle.plain_model.specs.Steps.{denied_channel}
 use Rattle.plain_model.specs.declared.event.Event.{Event}
 use Rattle.plain_model.specs.declared.event.Event.TheVariants.{Login, TypeIn, File, Words, Poke, Start, Run, Tick, Evict, Drum, Auto, Examine, Forks, Page, Trace}
 use Rattle.plain_model.specs.declared.event.Item.TheVariants.{Char, Examined}

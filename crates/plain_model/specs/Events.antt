@@ -26,9 +26,9 @@ use Rattle.plain_model.specs.State.{PlainState, PlainPages, PlainJob, Map}
 use Rattle.plain_model.specs.Orders.{name_cmp}
 use Rattle.plain_model.specs.Maps.{full_access}
 use Rattle.plain_model.specs.Room.{HasRoom}
-use Rattle.plain_model.specs.References.{Referred, granted, denied, full, in_map, reference, stored, words_of, page_at}
+use Rattle.plain_model.specs.References.{Referred, granted, denied, full, in_map, reference, stored, words_of, page_at, slot_at}
 use Rattle.plain_model.specs.Forks.{top_fork, with_fork, change_fork, with_regs, forks_by_slot, fork_line}
-use Rattle.plain_model.specs.Unit.{Effect, slot_at}
+use Rattle.plain_model.specs.Unit.{Effect}
 
 -- an event that is refused changes nothing, and says why
 abbrev pub refused : PlainState → Cause → Effect

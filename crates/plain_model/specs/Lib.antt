@@ -18,3 +18,7 @@ pub mod Outcome
 pub mod Pages
 pub mod Whole
 pub mod Example
+pub mod Steps
+pub mod Addressing
+pub mod Deeds
+pub mod Instructions

@@ -1,5 +1,5 @@
 -- What the calls on pages answer and leave: over the plain pages, and over what is in frames.
-use Rattle.std.specs.Prelude.{◌≡◌, ◌⊎◌, ℕ, ◌+◌, ◌<◌, ◌≤◌, List, [], ◌∷◌, Bool, true, false, ◌&&◌, nat_lt, Option, None, Some, if◌then◌else◌, ◌==◌, slice_index}
+use Rattle.std.specs.Prelude.{◌≡◌, ◌⊎◌, ℕ, ◌+◌, ◌<◌, ◌≤◌, List, [], ◌∷◌, Bool, true, false, not, ◌&&◌, nat_lt, Option, None, Some, if◌then◌else◌, ◌==◌, slice_index}
 use Rattle.std.specs.Option.{option_or, option_map_or, option_and_then}
 use Rattle.std.specs.declared.cmp.Ordering.{Ordering}
 use Rattle.std.specs.FinMap as map
@@ -11,7 +11,10 @@ use Rattle.plain_model.specs.declared.names.Place.TheVariants.{Fork, File}
 use Rattle.plain_model.specs.declared.names.Kind.{Kind}
 use Rattle.plain_model.specs.declared.names.TheConstants.{SPACE_PAGES, TERMINALS}
 use Rattle.plain_model.specs.declared.map.MapEntry.{MapEntry}
-use Rattle.plain_model.specs.declared.map.MapEntry.TheVariants.{Names}
+use Rattle.plain_model.specs.declared.map.MapEntry.TheVariants.{Empty, Names, Follows}
+use Rattle.plain_model.specs.declared.map.SpaceHandle.{SpaceHandle}
+use Rattle.plain_model.specs.declared.map.Found.{Found}
+use Rattle.plain_model.specs.declared.names.Slot.{Slot}
 use Rattle.plain_model.specs.declared.map.NewMap.{NewMap}
 use Rattle.plain_model.specs.declared.map.NewMap.TheVariants.{Empty as EmptyMap, FollowAll}
 use Rattle.plain_model.specs.declared.map.Touch.{Touch}
@@ -19,7 +22,7 @@ use Rattle.plain_model.specs.declared.map.Touch.TheVariants.{Ready, Zero, Copy, 
 use Rattle.plain_model.specs.declared.map.Peeked.{Peeked}
 use Rattle.plain_model.specs.declared.map.Peeked.TheVariants.{Is, Absent as Away, NoPage}
 use Rattle.plain_model.specs.Outcome.{DrumWords}
-use Rattle.plain_model.specs.State.{PlainPages, NumberedPages, page_serial}
+use Rattle.plain_model.specs.State.{PlainPages, NumberedPages, Maps, page_serial}
 use Rattle.plain_model.specs.Maps.{entry_at, maps_on_way}
 use Rattle.plain_model.specs.Room.{live, uses}
 use Rattle.plain_model.specs.References.{Spot, in_map, in_file, Making, blank, copy, Referred, granted, denied, full, reference, next_making, words_of, page_at}
@@ -102,6 +105,10 @@ abbrev pub spot_of : Place → Spot ℕ
 spot_of (Fork s) = in_map s
 spot_of (File f page) = in_file (record { file = f.0; page = page })
 
+-- a page of a fork's space as a place
+abbrev pub fork_place : ForkName → ℕ → Place
+fork_place f page = Fork (record { fork = f; page = page })
+
 -- a place that is there: a page of a living fork; those of files aren't built
 abbrev pub IsPlace : (ForkName → Bool) → Place → Type 0
 IsPlace lives (Fork s) = (lives s.fork ≡ true) × (s.page < SPACE_PAGES)
@@ -172,6 +179,38 @@ pub record PagesMeaning (P : Type 0) : Type 1 where
   pub most_forks : ℕ
   -- nothing is ever in no frame, and nothing depends on a drum
   pub flat : Bool
+  -- no entry follows another, and none has the copy mark
+  pub single : Bool
+  -- the handle of a living fork's space
+  pub space : P → ForkName → Option SpaceHandle
+  -- where the page of a space is that a look found, under its number
+  pub place : P → SpaceHandle → ℕ → Option Found
+
+-- a handle is that of a fork's space
+pub record HasSpace {P : Type 0} (means : PagesMeaning P) (p : P) (space : SpaceHandle) : Type 0 where
+  pub fork : ForkName
+  pub is : means.space p fork ≡ Some space
+
+-- what a word put into a page leaves: what a touch finds, the handles and the places, and all numbers
+pub record StaysPut {P : Type 0} (means : PagesMeaning P) (old new : P) : Type 0 where
+  pub touched : means.touched new ≡ means.touched old
+  pub scene : means.scene new ≡ means.scene old
+  pub space : means.space new ≡ means.space old
+  pub place : means.place new ≡ means.place old
+  pub lives : means.lives new ≡ means.lives old
+  pub forks : means.forks_of new ≡ means.forks_of old
+  pub serials : means.serial new ≡ means.serial old
+  pub most : means.most new ≡ means.most old
+
+-- an entry that follows none, and has no copy mark
+abbrev pub is_single : MapEntry → Bool
+is_single Empty = true
+is_single (Names n a) = not a.c
+is_single (Follows serial page a) = false
+
+-- each entry of a map is single
+pub record AreSingle (maps : Maps) : Type 0 where
+  pub each : (s : Slot) (e : MapEntry) → entry_at maps s ≡ Some e → is_single e ≡ true
 
 -- over each drum that fits, the plain pages have the numbers that are told without it
 pub record Agrees {P : Type 0} (means : PagesMeaning P) (p : P) (plain : NumberedPages) : Type 0 where

@@ -1,11 +1,12 @@
 -- References to pages: what they make, and what they leave.
-use Rattle.std.specs.Prelude.{ℕ, ◌+◌, List, [], ◌∷◌, ◌++◌, Option, None, Some, is_some, if◌then◌else◌, ◌==◌, replicate, slice_get, slice_index, slice_set, find}
+use Rattle.std.specs.Prelude.{ℕ, ◌+◌, ◌/◌, List, [], ◌∷◌, ◌++◌, Option, None, Some, is_some, if◌then◌else◌, ◌==◌, replicate, slice_get, slice_index, slice_set, find}
 use Rattle.std.specs.List.{list_all}
 use Rattle.std.specs.Option.{option_map_or, option_and_then, unwrap_or}
 use Rattle.std.specs.declared.cmp.Ordering.{Ordering}
 use Rattle.std.specs.FinMap as map
 use Rattle.outside.specs.declared.TheConstants.{PAGE_WORDS}
 use Rattle.plain_model.specs.declared.names.Tty.{Tty}
+use Rattle.plain_model.specs.declared.names.ForkName.{ForkName}
 use Rattle.plain_model.specs.declared.names.Slot.{Slot}
 use Rattle.plain_model.specs.declared.names.Access.{Access}
 use Rattle.plain_model.specs.declared.names.PageName.{PageName}
@@ -20,6 +21,10 @@ use Rattle.plain_model.specs.Room.{HasRoom, uses}
 -- 512 words, all of them 0
 unfoldable pub zero_words : List ℕ
 zero_words = replicate PAGE_WORDS 0
+
+-- the slot of a fork in which an address stands
+abbrev pub slot_at : ForkName → ℕ → Slot
+slot_at f address = record { fork = f; page = address / PAGE_WORDS }
 
 -- where a page may be named: in an entry of a map, or in a file
 pub data Spot (K : Type 0) : Type 0 where

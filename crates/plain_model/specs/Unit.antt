@@ -10,7 +10,7 @@ use Rattle.outside.specs.declared.TheConstants.{PAGE_WORDS}
 use Rattle.plain_model.specs.declared.names.TheConstants.{ACCUMULATORS}
 use Rattle.plain_model.specs.declared.opcode.TheConstants.{JSYS, MOVEI, JRST}
 use Rattle.plain_model.specs.declared.call.TheConstants.{PBOUT, HALTF}
-use Rattle.plain_model.specs.declared.channel.TheConstants.{ILLEGAL_INSTRUCTION, DENIED_READ, DENIED_WRITE, DENIED_EXECUTE, DRUM_FULL}
+use Rattle.plain_model.specs.declared.channel.TheConstants.{ILLEGAL_INSTRUCTION, DRUM_FULL}
 use Rattle.plain_model.specs.declared.character.TheConstants.{LINE_END, CARRIAGE_RETURN, LINE_FEED, PROMPT}
 use Rattle.plain_model.specs.declared.names.Kind.{Kind}
 use Rattle.plain_model.specs.declared.names.Kind.TheVariants.{Read, Write, Execute}
@@ -22,7 +22,10 @@ use Rattle.plain_model.specs.declared.fork.Fork.{Fork}
 use Rattle.plain_model.specs.declared.event.Item.{Item}
 use Rattle.plain_model.specs.declared.event.Item.TheVariants.{Char}
 use Rattle.plain_model.specs.State.{PlainState, PlainPages, NamedPages}
-use Rattle.plain_model.specs.References.{Referred, granted, denied, full, in_map, reference, word_at}
+use Rattle.plain_model.specs.References.{Referred, granted, denied, full, in_map, reference, slot_at, word_at}
+use Rattle.word36.specs.Words.{right}
+use Rattle.plain_model.specs.Steps.{denied_channel}
+use Rattle.plain_model.specs.Addressing.{opcode, ac_field}
 use Rattle.plain_model.specs.Forks.{with_fork, with_regs, with_status, counted}
 use Rattle.plain_model.specs.Interrupts.{posted}
 use Rattle.plain_model.specs.Orders.{name_cmp}
@@ -38,21 +41,9 @@ pub data Deed : Type 0 where
   calls : ℕ → Deed
   traps : ℕ → Deed
 
--- the fields of an instruction: its opcode, bits 0 to 8
-abbrev pub opcode : ℕ → ℕ
-opcode w = w / 2 ^ 27
-
--- its accumulator, bits 9 to 12
-abbrev pub ac_field : ℕ → ℕ
-ac_field w = w / 2 ^ 23 % 16
-
--- its indirect bit and its index register together, bits 13 to 17
-abbrev pub index_field : ℕ → ℕ
-index_field w = w / 2 ^ 18 % 32
-
--- its address, bits 18 to 35
-abbrev pub y_field : ℕ → ℕ
-y_field w = w % 2 ^ 18
+-- the indirect bit and the index register of a word together, bits 13 to 17
+abbrev pub index_bits : ℕ → ℕ
+index_bits w = w / 2 ^ 18 % 32
 
 -- the program counter goes on by one, modulo 2^18
 abbrev pub advanced : Regs → Regs
@@ -60,36 +51,26 @@ advanced regs = record regs { pc = (regs.pc + 1) % 2 ^ 18 }
 
 -- MOVEI: the address goes to the accumulator
 abbrev pub movei : Regs → ℕ → Deed
-movei regs w = goes (advanced (record regs { ac = slice_set regs.ac (ac_field w) (y_field w) }))
+movei regs w = goes (advanced (record regs { ac = slice_set regs.ac (ac_field w) (right w) }))
 
 -- JRST: to the address
 abbrev pub jrst : Regs → ℕ → Deed
-jrst regs w = goes (record regs { pc = y_field w })
+jrst regs w = goes (record regs { pc = right w })
 
 -- the rows that are built: MOVEI, JRST with no function, and the monitor calls, with an address that
 -- is neither indexed nor indirect; every other word traps as an illegal instruction
 abbrev pub deed_of : Regs → ℕ → Deed
 deed_of regs w =
-    if index_field w == 0 then
+    if index_bits w == 0 then
     (if opcode w == MOVEI then movei regs w
     else (if (opcode w == JRST) && (ac_field w == 0) then jrst regs w
-    else (if opcode w == JSYS then calls (y_field w) else traps ILLEGAL_INSTRUCTION)))
+    else (if opcode w == JSYS then calls (right w) else traps ILLEGAL_INSTRUCTION)))
     else traps ILLEGAL_INSTRUCTION
-
--- the slot of a fork in which an address stands
-abbrev pub slot_at : ForkName → ℕ → Slot
-slot_at f address = record { fork = f; page = address / PAGE_WORDS }
 
 -- a fetch: the word and the pages that the reference leaves, or the channel of its trap
 pub data Fetched {K : Type 0} (file_cmp : K → K → Ordering) : Type 0 where
   word : ℕ → PlainPages file_cmp → Fetched file_cmp
   stops : ℕ → Fetched file_cmp
-
--- the channel of a denied reference
-abbrev pub denied_channel : Kind → ℕ
-denied_channel Read = DENIED_READ
-denied_channel Write = DENIED_WRITE
-denied_channel Execute = DENIED_EXECUTE
 
 module _ {K : Type 0} {file_cmp : K → K → Ordering} where
   -- no making changes a word, so the word is that of the pages before

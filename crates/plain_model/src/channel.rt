@@ -1,6 +1,9 @@
 //! The channels of pseudo-interrupts that the machine posts by itself (JSYS Manual, "Pseudo-interrupt
 //! system"). Texts show them in decimal.
 
+/// Channel 6: an arithmetic result overflowed.
+pub const OVERFLOW: u8 = 0o6;
+
 /// Channel 9: a pushdown list ran over, or under.
 pub const PUSHDOWN_OVERFLOW: u8 = 0o11;
 

@@ -17,13 +17,14 @@ pub mod opcode;
 mod pages;
 mod taker;
 mod text;
+mod unit;
 
 pub use bounds::bounds_hold;
 pub use entries::{entries_fit, runs_are_whole};
 pub use event::{Event, ForkLine, Item, Refusal, Step, WordRow};
 pub use example::{empty_script, first_script};
 pub use fork::{Answer, Body, Chars, Fork, ForkStatus, Jfn, Mode, Psi, Regs, TerminalMode, WaitOn};
-pub use map::{MapEntry, Need, NewEntry, NewMap, Peeked, Touch};
+pub use map::{Found, MapEntry, Need, NewEntry, NewMap, Peeked, SpaceHandle, Touch};
 pub use names::{
     ACCUMULATORS, Access, FileNo, ForkName, FrameId, Home, Kind, LAST_SERIAL, MOST_FORKS,
     MOST_HOMES, PageName, Place, SPACE_PAGES, Slot, TERMINALS, Tty,
@@ -31,6 +32,7 @@ pub use names::{
 pub use pages::Pages;
 pub use taker::Taker;
 pub use text::{DirName, FileName, Text, TypedText};
+pub use unit::{MOST_REFERENCES, Put, Reference};
 
 #[cfg(test)]
 mod tests;

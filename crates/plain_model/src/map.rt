@@ -62,3 +62,11 @@ pub enum Need {
     Page(Home),
     Frame,
 }
+
+/// The handle of a living fork's space, looked up once for many references.
+#[derive(Clone, Copy, Debug, PartialEq, Eq)]
+pub struct SpaceHandle(pub u32);
+
+/// Where the words of a page are that a look has found. It stays so until an entry changes.
+#[derive(Clone, Copy, Debug, PartialEq, Eq)]
+pub struct Found(pub u32);

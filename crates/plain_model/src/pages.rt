@@ -1,15 +1,16 @@
 // The pages of all forks.
-ghost use Rattle.std.specs.Prelude.{◌≡◌, ◌⊎◌, ◌≢◌, ◌<◌, ◌≤◌, ◌+◌, ◌^◌, Bool, true, false, ◌||◌};
+ghost use Rattle.std.specs.Prelude.{◌≡◌, ◌⊎◌, ◌≢◌, ◌↔◌, ◌<◌, ◌≤◌, ◌+◌, ◌/◌, ◌%◌, ◌^◌, Bool, true, false, ◌||◌, Some, IsSome, IfSome};
 ghost use Rattle.plain_model.specs.declared.names.ForkName.{ForkName as AForkName};
 ghost use Rattle.plain_model.specs.declared.names.Tty.{Tty as ATty};
-ghost use Rattle.plain_model.specs.declared.names.TheConstants.{TERMINALS};
+ghost use Rattle.plain_model.specs.declared.names.TheConstants.{SPACE_PAGES, TERMINALS};
 ghost use Rattle.outside.specs.declared.TheConstants.{PAGE_WORDS};
 ghost use Rattle.plain_model.specs.Events.{with_map};
+ghost use Rattle.plain_model.specs.Limits.{IsAddress};
 ghost use Rattle.plain_model.specs.Outcome.{DrumWords};
-ghost use Rattle.plain_model.specs.References.{settled, word_at, stored};
-ghost use Rattle.plain_model.specs.Pages.{PagesMeaning, Agrees, StaysInCore, IsPlace, IsOwner, IsBuiltMap, SettlesTo, spot_of, touch_of, peek_of, can_settle, frames_taken, is_in_core, is_seen, same_fork};
+ghost use Rattle.plain_model.specs.References.{in_map, settled, slot_at, word_at, stored};
+ghost use Rattle.plain_model.specs.Pages.{PagesMeaning, Agrees, AreSingle, HasSpace, StaysInCore, StaysPut, IsPlace, fork_place, IsOwner, IsBuiltMap, SettlesTo, spot_of, touch_of, peek_of, can_settle, frames_taken, is_in_core, is_seen, same_fork};
 
-use crate::{ForkName, Kind, NewMap, Peeked, Place, Touch, Tty};
+use crate::{ForkName, Found, Kind, NewMap, Peeked, Place, SpaceHandle, Touch, Tty};
 use word36::Word;
 
 /// Pages under the maps of forks (CACM paper, "The memory management"). What they hold is told over
@@ -66,12 +67,42 @@ pub trait Pages {
         requires offset { offset < PAGE_WORDS }
         requires ready { means.touched self.old at Kind.Write ≡ Touch.Ready }
         ensures told { (d : DrumWords) → means.fits self.old d → means.fits self.new d × (means.plain self.new d ≡ stored (means.plain self.old d) (spot_of at) offset word) }
-        ensures touched { means.touched self.new ≡ means.touched self.old }
-        ensures scene { means.scene self.new ≡ means.scene self.old }
-        ensures lives { means.lives self.new ≡ means.lives self.old }
-        ensures forks { means.forks_of self.new ≡ means.forks_of self.old }
-        ensures serials { means.serial self.new ≡ means.serial self.old }
-        ensures most { means.most self.new ≡ means.most self.old };
+        ensures stays { StaysPut means self.old self.new };
+
+    /// The handle of a fork's space.
+    fn space(&self, fork: ForkName) -> SpaceHandle
+        requires { means.lives self.now fork ≡ true }
+        ensures { means.space self.now fork ≡ Some result };
+
+    /// Where a page of a space is, whose touch of this kind is Ready. None exactly where it isn't.
+    fn find(&self, space: SpaceHandle, page: u16, kind: Kind) -> Option<Found>
+        requires space { HasSpace means self.now space }
+        requires page { page < SPACE_PAGES }
+        ensures place { IfSome result (λ found. means.place self.now space page ≡ Some found) }
+        ensures ready { (f : AForkName) → means.space self.now f ≡ Some space → IsSome result ↔ (means.touched self.now (fork_place f page) kind ≡ Touch.Ready) };
+
+    /// The same of a page whose touches to read and to write are both Ready.
+    fn find_to_change(&self, space: SpaceHandle, page: u16) -> Option<Found>
+        requires space { HasSpace means self.now space }
+        requires page { page < SPACE_PAGES }
+        ensures place { IfSome result (λ found. means.place self.now space page ≡ Some found) }
+        ensures ready { (f : AForkName) → means.space self.now f ≡ Some space → IsSome result ↔ ((means.touched self.now (fork_place f page) Kind.Read ≡ Touch.Ready) × (means.touched self.now (fork_place f page) Kind.Write ≡ Touch.Ready)) };
+
+    /// The word at an address of a space, in a page that was found.
+    fn load(&self, space: SpaceHandle, found: Found, address: u32) -> Word
+        requires space { HasSpace means self.now space }
+        requires address { IsAddress address }
+        requires place { means.place self.now space (address / PAGE_WORDS) ≡ Some found }
+        ensures told { (d : DrumWords) (f : AForkName) → means.fits self.now d → means.space self.now f ≡ Some space → result ≡ word_at (means.plain self.now d) (in_map (slot_at f address)) (address % PAGE_WORDS) };
+
+    /// Puts a word at an address of a space, in a page that was found.
+    fn store(&mut self, space: SpaceHandle, found: Found, address: u32, word: Word)
+        requires space { HasSpace means self.old space }
+        requires address { IsAddress address }
+        requires place { means.place self.old space (address / PAGE_WORDS) ≡ Some found }
+        ensures told { (d : DrumWords) (f : AForkName) → means.fits self.old d → means.space self.old f ≡ Some space → means.fits self.new d × (means.plain self.new d ≡ stored (means.plain self.old d) (in_map (slot_at f address)) (address % PAGE_WORDS) word) }
+        ensures fits { (d : DrumWords) → means.fits self.old d → means.fits self.new d }
+        ensures stays { StaysPut means self.old self.new };
 
     /// Adds a fork with its map, which takes a frame at most.
     fn add_fork(&mut self, fork: ForkName, map: NewMap)
@@ -98,6 +129,9 @@ pub trait Pages {
 
     /// Over each drum that fits, the plain pages have these numbers.
     ghost agrees: { (p : Self) (d : DrumWords) → means.fits p d → Agrees means p (means.plain p d) };
+
+    /// Where no entry follows another, the plain pages have none that does.
+    ghost single: { (p : Self) (d : DrumWords) → means.single ≡ true → means.fits p d → AreSingle (means.plain p d).maps };
 
     /// A terminal of which no fork lives has none of that name.
     ghost none_lives: { (p : Self) (f : AForkName) → means.forks_of p f.tty ≡ 0 → means.lives p f ≡ false };
