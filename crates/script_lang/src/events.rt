@@ -10,6 +10,7 @@ use crate::fields::{
 use crate::names::{dir_name, file_name};
 use crate::rows::row;
 use crate::typed::typed;
+use outside::PAGE_WORDS;
 use plain_model::Event;
 
 // How many decimal digits a number of units, of a frame or of transfers has at most.
@@ -17,9 +18,6 @@ const COUNT_DIGITS: usize = 7;
 
 // How many units one line runs at most.
 const MOST_UNITS: u32 = 1_000_000;
-
-// How many words a page has.
-const PAGE_WORDS: u16 = 512;
 
 // How many bytes stand behind TYPE at most.
 const MOST_BEHIND_TYPE: usize = 251;
@@ -64,7 +62,7 @@ pub(crate) fn words(rest: &[u8]) -> Option<Event>
     let (front, fields) = head(rest);
     let offset = page(front)?;
     let row = row(fields)?;
-    if row.count == 0 || offset + row.count as u16 > PAGE_WORDS {
+    if row.count == 0 || usize::from(offset) + usize::from(row.count) > PAGE_WORDS {
         return None;
     }
     Some(Event::Words(name, number, offset, row))

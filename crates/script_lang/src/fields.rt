@@ -7,7 +7,7 @@ ghost use Rattle.script_lang.specs.Fields.{Begins, BeginsNot, IsCut, IsHead, Lac
 
 use memchr::memchr;
 use plain_model::{TERMINALS, Tty};
-use word36::Word;
+use word36::{Word, read_octal};
 
 // How many octal digits an address has at most.
 const ADDRESS_DIGITS: usize = 6;
@@ -55,18 +55,6 @@ pub fn read_decimal(text: &[u8], most: usize) -> Option<u32>
     Some(n)
 }
 
-/// The number that 1 to so many octal digits write. None exactly where the text has another length
-/// or another byte.
-pub(crate) fn octal(text: &[u8], most: usize) -> Option<u32>
-    requires { most ≤ 6 }
-    ensures { MatchOption result ((n : ℕ) → IsOctal most text.now n → ⊥) (λ n. IsOctal most text.now n) }
-{
-    if text.len() > most {
-        return None;
-    }
-    Some(Word::read_octal(text)?.value() as u32)
-}
-
 /// The terminal that 1 or 2 decimal digits write. None exactly where the text writes none.
 pub(crate) fn tty(text: &[u8]) -> Option<Tty>
     ensures { MatchOption result ((t : ATty) → IsTty text.now t → ⊥) (λ t. IsTty text.now t) }
@@ -82,7 +70,7 @@ pub(crate) fn tty(text: &[u8]) -> Option<Tty>
 pub(crate) fn address(text: &[u8]) -> Option<u32>
     ensures { MatchOption result ((n : ℕ) → IsOctal 6 text.now n → ⊥) (λ n. IsOctal 6 text.now n) }
 {
-    octal(text, ADDRESS_DIGITS)
+    Some(read_octal(text, ADDRESS_DIGITS)? as u32)
 }
 
 /// The number of a page of a file, or of a word of a page, that 1 to 3 octal digits write. None
@@ -90,7 +78,7 @@ pub(crate) fn address(text: &[u8]) -> Option<u32>
 pub(crate) fn page(text: &[u8]) -> Option<u16>
     ensures { MatchOption result ((n : ℕ) → IsOctal 3 text.now n → ⊥) (λ n. IsOctal 3 text.now n) }
 {
-    Some(octal(text, PAGE_DIGITS)? as u16)
+    Some(read_octal(text, PAGE_DIGITS)? as u16)
 }
 
 /// The word that 1 to 12 octal digits write. None exactly where the text has another length or

@@ -3,8 +3,8 @@ ghost use Rattle.std.specs.Prelude.{◌≤◌, ◌<◌, ℕ, List, length, Match
 ghost use Rattle.plain_model.specs.Script.{Types};
 ghost use Rattle.script_lang.specs.Typing.{EscapesFirst, EscapesNone, TypesFirst, TypesNone};
 
-use crate::fields::octal;
 use plain_model::TypedText;
+use word36::read_octal;
 
 // How many characters a line types at most.
 const MOST_TYPED: usize = 100;
@@ -13,7 +13,7 @@ const MOST_TYPED: usize = 100;
 const ESCAPE_DIGITS: usize = 3;
 
 // The last character.
-const LAST_CHARACTER: u32 = 0o177;
+const LAST_CHARACTER: u64 = 0o177;
 
 /// The characters that a text types: none, where it is empty, and up to 100. None exactly where it
 /// is not the text of characters, or has more.
@@ -57,7 +57,7 @@ fn escaped(text: &[u8]) -> Option<(u8, &[u8])>
         return None;
     }
     let (digits, rest) = text.split_at(ESCAPE_DIGITS);
-    let c = octal(digits, ESCAPE_DIGITS)?;
+    let c = read_octal(digits, ESCAPE_DIGITS)?;
     if c > LAST_CHARACTER {
         return None;
     }

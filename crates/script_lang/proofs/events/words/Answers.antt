@@ -2,10 +2,10 @@ use Rattle.std.proofs.Common.{take, arith}
 use Rattle.std.proofs.lemmas.List.{length-take-le}
 use Rattle.plain_model.specs.Script.{IsOctal}
 use Rattle.script_lang.specs.Fields.{Begins}
-use Rattle.script_lang.proofs.Fronts.{IsNamed, cut_named, moved, named_field, no_name, octal_below, uncut}
+use Rattle.script_lang.proofs.Fronts.{IsNamed, cut_named, moved, named_field, no_name, uncut}
 use Rattle.script_lang.proofs.Readings.{words_at, words_many, words_parts, words_spells}
 use Rattle.script_lang.proofs.events.words.Goals as goal
-use Rattle.script_lang.proofs.events.words.Goals.{then-row-eq0-via-then-row-eq0, then-row-eq0-via-else-row-eq0+then-offset-row-gt-PAGE_WORDS}
+use Rattle.script_lang.proofs.events.words.Goals.{then-row-eq0-via-then-row-eq0, then-row-eq0-via-else-row-eq0+then-from-gt-PAGE_WORDS}
 
 pub returns-in_err-front : goal.returns-in_err-front
 returns-in_err-front c = rw c.from_residual.ensures (λ e h. let p = words_parts c.args.rest.now e h in uncut IsNamed c.args.rest.now c.in_err-front.ensures p.name p.x p.named)
@@ -36,9 +36,6 @@ returns-in_err-row c = rw c.from_residual-in_err-row.ensures (λ e h.
     let at = words_at c.args.rest.now c.in_ok-name.name c.in_ok-front.rest.now c.in_ok-number.number c.in_ok-number.rest.now c.head.result.0.now c.head.result.1.now named c.in_ok-number.ensures c.head.ensures e p in
     omega (arith, c.in_err-row.ensures (take p.row.count p.row.words) at.1, length-take-le p.row.count p.row.words (omega (arith, p.fits.most, p.fits.room)), p.fits.most))
 
-pub overflow_add-offset : goal.overflow_add-offset
-overflow_add-offset c = omega (arith, octal_below 3 c.head.result.0.now c.in_ok-offset.offset c.in_ok-offset.ensures, c.in_ok-row.ensures.most)
-
 pub returns-then-row-eq0 : goal.returns-then-row-eq0
 returns-then-row-eq0 c e h =
     let p = words_parts c.args.rest.now e h in
@@ -47,7 +44,7 @@ returns-then-row-eq0 c e h =
     let fits = words_many c.head.result.0.now c.head.result.1.now c.in_ok-offset.offset c.in_ok-row.row p.offset p.row c.in_ok-offset.ensures c.in_ok-row.ensures at p.fits in
     elim c.then-row-eq0.branch [
       | then-row-eq0-via-then-row-eq0 w ↦ omega (arith, fits.0, w.if-row-eq0.true)
-      | then-row-eq0-via-else-row-eq0+then-offset-row-gt-PAGE_WORDS w ↦ omega (arith, fits.1, w.if-offset-row-gt-PAGE_WORDS.true)
+      | then-row-eq0-via-else-row-eq0+then-from-gt-PAGE_WORDS w ↦ omega (arith, fits.1, w.if-from-gt-PAGE_WORDS.true)
     ]
 
 pub returns : goal.returns
@@ -56,4 +53,4 @@ returns c =
     let named = cut_named c.args.rest.now c.in_ok-front.front.now c.in_ok-front.rest.now c.in_ok-name.name c.in_ok-front.ensures c.in_ok-name.ensures in
     words_spells c.args.rest.now c.in_ok-name.name c.in_ok-front.rest.now c.in_ok-number.number c.in_ok-number.rest.now c.head.result.0.now c.head.result.1.now c.in_ok-offset.offset c.in_ok-row.row
     named c.in_ok-number.ensures c.head.ensures c.in_ok-offset.ensures is.fields
-    (record { some = omega arith; most = is.most; room = is.room; words = is.words; rest = is.rest; within = c.if-offset-row-gt-PAGE_WORDS.false })
+    (record { some = omega arith; most = is.most; room = is.room; words = is.words; rest = is.rest; within = omega (arith, c.if-from-gt-PAGE_WORDS.false, c.from.ensures, c.from-else-row-eq0.ensures) })
