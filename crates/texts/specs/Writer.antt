@@ -1,9 +1,11 @@
 -- What a writer stands for.
-use Rattle.std.specs.Prelude.{◌≡◌, ◌⊎◌, ℕ, ◌<◌, ◌≤◌, List, ◌++◌, length, Option, None, Some}
+use Rattle.std.specs.Prelude.{◌≡◌, ◌⊎◌, ℕ, ◌<◌, ◌≤◌, List, ◌++◌, length, Option, None, Some, Result, OnOk, OnErr}
 use Rattle.outside.specs.Faults.{Rose}
+use Rattle.outside.specs.declared.failure.Failed.{Failed}
 use Rattle.outside.specs.Told.{Stays}
 use Rattle.plain_model.specs.declared.event.Item.{Item}
 use Rattle.plain_model.specs.declared.event.Step.{Step}
+use Rattle.plain_model.specs.Taker.{StaysOnward}
 use Rattle.plain_model.specs.Texts.{text_after, transcript, record_after}
 use Rattle.texts.specs.Turns.{open_run, run_count}
 use Rattle.texts.specs.declared.writer.Writer.{Writer}
@@ -21,6 +23,13 @@ pub record IsOnward {T R : Type 0} (out_faults : T → ℕ) (rec_faults : R → 
   pub cause : first.faults < now.faults → Rose (out_faults first.out.now) (out_faults now.out.now) ⊎ Rose (rec_faults first.rec.now) (rec_faults now.rec.now)
   pub out_counted : out_faults first.out.now < out_faults now.out.now → Rose first.faults now.faults
   pub rec_counted : rec_faults first.rec.now < rec_faults now.rec.now → Rose first.faults now.faults
+
+-- how a call counts: it fails exactly where the writer's count rises, and the sinks are the same
+pub record Counts {T R : Type 0} (out_faults : T → ℕ) (rec_faults : R → ℕ) (answer : Result (Unit {0}) Failed) (old new : Writer T R) : Type 0 where
+  pub later : old.faults ≤ new.faults
+  pub cause : OnErr answer (Rose old.faults new.faults)
+  pub unfaulted : OnOk answer (new.faults ≡ old.faults)
+  pub onward : StaysOnward (IsOnward out_faults rec_faults) old new
 
 -- for each pair of lists of which this was so since a first writer, it still is
 pub record Keeps {T R : Type 0} (so : Writer T R → Writer T R → List Item → List Step → Type 0) (old new : Writer T R) : Type 0 where

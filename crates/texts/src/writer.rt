@@ -30,7 +30,7 @@ impl<'a, T: Sink, R: Sink> Writer<'a, T, R> {
     ghost use Rattle.texts.specs.declared.last.Last.{Last as ALast};
     ghost use Rattle.plain_model.specs.Limits.{FitsEvent};
     ghost use Rattle.plain_model.specs.Texts.{step_text, step_run, run_end};
-    ghost use Rattle.texts.specs.Writer.{IsOnward, Stands, IsCutWithin, IsCutAtEnd, Finishes, FailsAtEnd, Keeps, KeepsWritten};
+    ghost use Rattle.texts.specs.Writer.{IsOnward, Counts, Stands, IsCutWithin, IsCutAtEnd, Finishes, FailsAtEnd, Keeps, KeepsWritten};
 
     /// A writer that has written nothing, of the transcript to `out` and of the record to `rec`.
     pub fn new(out: &'a mut T, rec: &'a mut R) -> Self
@@ -83,10 +83,7 @@ impl<'a, T: Sink, R: Sink> Writer<'a, T, R> {
 
     // Hands on what the sinks keep. Both are tried.
     fn flush_both(&mut self) -> Result<(), Failed>
-        ensures later { self.old.faults ≤ self.new.faults }
-        ensures cause { OnErr result (Rose self.old.faults self.new.faults) }
-        ensures unfaulted { OnOk result (self.new.faults ≡ self.old.faults) }
-        ensures onward { StaysOnward (IsOnward T.fault_count R.fault_count) self.old self.new }
+        ensures counts { Counts T.fault_count R.fault_count result self.old self.new }
         ensures keeps { KeepsWritten T.taken R.taken self.old self.new }
     {
         let out = counted(&mut self.faults, self.out.flush());
@@ -98,10 +95,7 @@ impl<'a, T: Sink, R: Sink> Writer<'a, T, R> {
     #[inline]
     fn equal_turns(&mut self, turn: Turn, n: u64) -> Result<(), Failed>
         requires some { 1 ≤ n }
-        ensures later { self.old.faults ≤ self.new.faults }
-        ensures cause { OnErr result (Rose self.old.faults self.new.faults) }
-        ensures unfaulted { OnOk result (self.new.faults ≡ self.old.faults) }
-        ensures onward { StaysOnward (IsOnward T.fault_count R.fault_count) self.old self.new }
+        ensures counts { Counts T.fault_count R.fault_count result self.old self.new }
         ensures ok { OnOk result (GoesOn (Stands T.taken R.taken) self.old self.new [] (replicate n (step_of turn))) }
         ensures err { OnErr result (IsCut (Stands T.taken R.taken) (IsCutWithin T.taken R.taken) self.old self.new [] (replicate n (step_of turn))) }
     {
@@ -127,10 +121,7 @@ impl<'a, T: Sink, R: Sink> Writer<'a, T, R> {
         requires some { 1 ≤ n }
         requires text { step_text (open_run self.old.run) (step_of turn) ≡ run_end (open_run self.old.run) }
         requires run { step_run (open_run self.old.run) (step_of turn) ≡ Some (step_of turn, 1) }
-        ensures later { self.old.faults ≤ self.new.faults }
-        ensures cause { OnErr result (Rose self.old.faults self.new.faults) }
-        ensures unfaulted { OnOk result (self.new.faults ≡ self.old.faults) }
-        ensures onward { StaysOnward (IsOnward T.fault_count R.fault_count) self.old self.new }
+        ensures counts { Counts T.fault_count R.fault_count result self.old self.new }
         ensures ok { OnOk result (GoesOn (Stands T.taken R.taken) self.old self.new [] (replicate n (step_of turn))) }
         ensures err { OnErr result (IsCut (Stands T.taken R.taken) (IsCutWithin T.taken R.taken) self.old self.new [] (replicate n (step_of turn))) }
     {
@@ -144,10 +135,7 @@ impl<'a, T: Sink, R: Sink> Writer<'a, T, R> {
     #[inline(never)]
     fn event(&mut self, e: Event) -> Result<(), Failed>
         requires { FitsEvent e }
-        ensures later { self.old.faults ≤ self.new.faults }
-        ensures cause { OnErr result (Rose self.old.faults self.new.faults) }
-        ensures unfaulted { OnOk result (self.new.faults ≡ self.old.faults) }
-        ensures onward { StaysOnward (IsOnward T.fault_count R.fault_count) self.old self.new }
+        ensures counts { Counts T.fault_count R.fault_count result self.old self.new }
         ensures ok { OnOk result (GoesOn (Stands T.taken R.taken) self.old self.new [] (AnOuter e ∷ [])) }
         ensures err { OnErr result (IsCut (Stands T.taken R.taken) (IsCutWithin T.taken R.taken) self.old self.new [] (AnOuter e ∷ [])) }
     {
