@@ -24,6 +24,17 @@ pub record IsOnward {T R : Type 0} (out_faults : T → ℕ) (rec_faults : R → 
   pub out_counted : out_faults first.out.now < out_faults now.out.now → Rose first.faults now.faults
   pub rec_counted : rec_faults first.rec.now < rec_faults now.rec.now → Rose first.faults now.faults
 
+module _ {T R : Type 0} (out_handed : T → Type 0) (rec_handed : R → Type 0) where
+  -- neither of its sinks keeps anything back
+  pub record IsHandedOn (w : Writer T R) : Type 0 where
+    pub out : out_handed w.out.now
+    pub rec : rec_handed w.rec.now
+
+  -- each of its sinks has handed on what it kept, or has failed
+  pub record HandsOn (out_faults : T → ℕ) (rec_faults : R → ℕ) (old new : Writer T R) : Type 0 where
+    pub out : out_handed new.out.now ⊎ Rose (out_faults old.out.now) (out_faults new.out.now)
+    pub rec : rec_handed new.rec.now ⊎ Rose (rec_faults old.rec.now) (rec_faults new.rec.now)
+
 -- how a call counts: it fails exactly where the writer's count rises, and the sinks are the same
 pub record Counts {T R : Type 0} (out_faults : T → ℕ) (rec_faults : R → ℕ) (answer : Result (Unit {0}) Failed) (old new : Writer T R) : Type 0 where
   pub later : old.faults ≤ new.faults

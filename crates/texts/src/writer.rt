@@ -30,7 +30,7 @@ impl<'a, T: Sink, R: Sink> Writer<'a, T, R> {
     ghost use Rattle.texts.specs.declared.last.Last.{Last as ALast};
     ghost use Rattle.plain_model.specs.Limits.{FitsEvent};
     ghost use Rattle.plain_model.specs.Texts.{step_text, step_run, run_end};
-    ghost use Rattle.texts.specs.Writer.{IsOnward, Counts, Stands, IsCutWithin, IsCutAtEnd, Finishes, FailsAtEnd, Keeps, KeepsWritten};
+    ghost use Rattle.texts.specs.Writer.{IsOnward, IsHandedOn, HandsOn, Counts, Stands, IsCutWithin, IsCutAtEnd, Finishes, FailsAtEnd, Keeps, KeepsWritten};
 
     /// A writer that has written nothing, of the transcript to `out` and of the record to `rec`.
     pub fn new(out: &'a mut T, rec: &'a mut R) -> Self
@@ -59,6 +59,7 @@ impl<'a, T: Sink, R: Sink> Writer<'a, T, R> {
         ensures cause { OnErr result (Rose self.old.faults self.new.faults) }
         ensures unfaulted { OnOk result (self.new.faults ≡ self.old.faults) }
         ensures onward { StaysOnward (IsOnward T.fault_count R.fault_count) self.old self.new }
+        ensures handed { OnOk result (IsHandedOn T.handed_on R.handed_on self.new) }
         ensures ok { OnOk result (Finishes T.taken R.taken last self.old self.new) }
         ensures err { OnErr result (FailsAtEnd T.taken R.taken last self.old self.new) }
     {
@@ -70,10 +71,11 @@ impl<'a, T: Sink, R: Sink> Writer<'a, T, R> {
     }
 
     /// Gives up, once a call has failed: hands on what the sinks keep, so that what was written before is not
-    /// lost. Both are tried, and what they answer is only counted. Whatever the sinks have taken stays.
+    /// lost. Both are tried: each has handed on all, or its count of faults rises. Whatever they have taken stays.
     pub fn give_up(&mut self)
         ensures later { self.old.faults ≤ self.new.faults }
         ensures onward { StaysOnward (IsOnward T.fault_count R.fault_count) self.old self.new }
+        ensures tried { HandsOn T.handed_on R.handed_on T.fault_count R.fault_count self.old self.new }
         ensures stands { Keeps (Stands T.taken R.taken) self.old self.new }
         ensures cut { Keeps (IsCutWithin T.taken R.taken) self.old self.new }
         ensures cut_at_end { (last : ALast) → Keeps (IsCutAtEnd T.taken R.taken last) self.old self.new }
@@ -84,6 +86,8 @@ impl<'a, T: Sink, R: Sink> Writer<'a, T, R> {
     // Hands on what the sinks keep. Both are tried.
     fn flush_both(&mut self) -> Result<(), Failed>
         ensures counts { Counts T.fault_count R.fault_count result self.old self.new }
+        ensures handed { OnOk result (IsHandedOn T.handed_on R.handed_on self.new) }
+        ensures tried { HandsOn T.handed_on R.handed_on T.fault_count R.fault_count self.old self.new }
         ensures keeps { KeepsWritten T.taken R.taken self.old self.new }
     {
         let out = counted(&mut self.faults, self.out.flush());
@@ -160,7 +164,7 @@ fn counted(faults: &mut u64, answer: Result<(), Failed>) -> Result<(), Failed>
 }
 
 impl<'a, T: Sink, R: Sink> Taker for Writer<'a, T, R> {
-    ghost use Rattle.texts.specs.Writer.{IsOnward, Stands, IsCutWithin};
+    ghost use Rattle.texts.specs.Writer.{IsOnward, IsHandedOn, Stands, IsCutWithin};
 
     ghost fault_count = { λ w. w.faults };
 
@@ -169,6 +173,8 @@ impl<'a, T: Sink, R: Sink> Taker for Writer<'a, T, R> {
     ghost stands = { λ first w is ss. Stands T.taken R.taken first w is ss };
 
     ghost cut = { λ first w is ss. IsCutWithin T.taken R.taken first w is ss };
+
+    ghost handed_on = { λ w. IsHandedOn T.handed_on R.handed_on w };
 
     fn faults(&self) -> u64 {
         self.faults
