@@ -73,6 +73,9 @@ impl Sink for MemSink {
 
     ghost taken = { λ s. Some s.bytes.items };
 
+    // It keeps nothing back.
+    ghost handed_on = { λ _. Unit {0} };
+
     fn faults(&self) -> u64 {
         self.faults
     }
@@ -141,6 +144,8 @@ impl Sink for SureSink {
     ghost fault_count = { λ _. 0 };
 
     ghost taken = { λ _. None };
+
+    ghost handed_on = { λ _. Unit {0} };
 
     fn faults(&self) -> u64 {
         0

@@ -13,6 +13,9 @@ pub trait Sink {
     /// The bytes taken so far, where the sink tells them.
     ghost taken: { Self → Option (List ℕ) };
 
+    /// It keeps nothing back: all that it has taken is handed on.
+    ghost handed_on: { Self → Type 0 };
+
     /// How often a call has failed. At 2^64 - 1 it stays there.
     fn faults(&self) -> u64
         ensures { result ≡ fault_count self.now };
@@ -34,5 +37,6 @@ pub trait Sink {
         ensures later { fault_count self.old ≤ fault_count self.new }
         ensures cause { OnErr result (Rose (fault_count self.old) (fault_count self.new)) }
         ensures unfaulted { OnOk result (fault_count self.new ≡ fault_count self.old) }
+        ensures handed { OnOk result (handed_on self.new) }
         ensures stays { Stays (taken self.old) (taken self.new) };
 }

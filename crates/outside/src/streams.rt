@@ -116,6 +116,9 @@ impl<W: Write> Sink for StdSink<W> {
 
     ghost taken = { λ _. None };
 
+    // A writer doesn't tell what it keeps.
+    ghost handed_on = { λ _. Unit {0} };
+
     fn faults(&self) -> u64 {
         self.faults
     }

@@ -25,6 +25,9 @@ pub trait Taker {
     /// Since the first, it has failed, and is cut within these items and these steps.
     ghost cut: { Self → Self → List AnItem → List AStep → Type 0 };
 
+    /// It keeps nothing back: all that it has taken is handed on.
+    ghost handed_on: { Self → Type 0 };
+
     /// How often a call has failed. At 2^64 - 1 it stays there.
     fn faults(&self) -> u64
         ensures { result ≡ fault_count self.now };
@@ -63,6 +66,7 @@ pub trait Taker {
         ensures later { fault_count self.old ≤ fault_count self.new }
         ensures cause { OnErr result (Rose (fault_count self.old) (fault_count self.new)) }
         ensures onward { StaysOnward onward self.old self.new }
+        ensures handed { OnOk result (handed_on self.new) }
         ensures ok { OnOk result (GoesOn stands self.old self.new [] []) }
         ensures err { OnErr result (IsCut stands cut self.old self.new [] []) };
 }

@@ -1,9 +1,7 @@
 -- How a text that is written goes on.
-use Rattle.std.proofs.Common.{◌≡◌, ℕ, ◌+◌, ◌<◌, List, [], ◌∷◌, ◌++◌, length, take, drop, Option, Some, sym, ◌∙◌, ap, subst, append_assoc, get_or, take-append-drop, take-add}
+use Rattle.std.proofs.Common.{◌≡◌, ℕ, ◌+◌, List, [], ◌∷◌, ◌++◌, take, drop, Option, Some, sym, ◌∙◌, ap, subst, append_assoc, take-append-drop, take-add}
 use Rattle.std.proofs.lemmas.List.{append-nil}
-use Rattle.std.specs.List.{flat_map}
 use Rattle.outside.specs.Told.{Grows, Stays}
-use Rattle.script_lang.proofs.FlatMaps.{flat_more, flat_split}
 use Rattle.texts.specs.Wrote.{GrowsPartly, Wrote, WrotePartly}
 
 -- no bytes are written
@@ -24,17 +22,6 @@ wrote_stays a b c after whole wrote g = record { each = λ told h. let w = wrote
 pub grows_then : (a b c : Option (List ℕ)) (x y : List ℕ) → Grows a b x → Grows b c y → Grows a c (x ++ y)
 grows_then a b c x y f g xs h = g (xs ++ x) (f xs h) ∙ ap Some (append_assoc xs x y)
 
-pub partly_then : (a b c : Option (List ℕ)) (x y : List ℕ) → Grows a b x → GrowsPartly b c y → GrowsPartly a c (x ++ y)
-partly_then a b c x y f g xs h =
-    let p = g (xs ++ x) (f xs h) in
-    (x ++ p.0, p.1, p.2 ∙ ap Some (append_assoc xs x p.0), ap (λ l. x ++ l) p.3 ∙ sym (append_assoc x p.0 p.1))
-
--- a front of a text is one of a longer text
-pub partly_more : (a b : Option (List ℕ)) (x y : List ℕ) → GrowsPartly a b x → GrowsPartly a b (x ++ y)
-partly_more a b x y f xs h =
-    let p = f xs h in
-    (p.0, p.1 ++ y, p.2, ap (λ l. l ++ y) p.3 ∙ append_assoc p.0 p.1 y)
-
 -- some bytes more of one text
 pub grows_more : (a b c : Option (List ℕ)) (bytes : List ℕ) (at n : ℕ) → Grows a b (take at bytes) → Grows b c (take n (drop at bytes)) → Grows a c (take (at + n) bytes)
 grows_more a b c bytes at n f g = subst (Grows a c) (sym (take-add at n bytes)) (grows_then a b c (take at bytes) (take n (drop at bytes)) f g)
@@ -42,17 +29,6 @@ grows_more a b c bytes at n f g = subst (Grows a c) (sym (take-add at n bytes)) 
 -- a failure behind a front
 pub partly_at : (a b c : Option (List ℕ)) (bytes : List ℕ) (at : ℕ) → Grows a b (take at bytes) → Stays b c → GrowsPartly a c bytes
 partly_at a b c bytes at f g xs h = (take at bytes, drop at bytes, g (xs ++ take at bytes) (f xs h), sym (take-append-drop at bytes))
-
-module _ {X : Type 0} (f : X → List ℕ) where
-  -- the text of one thing more
-  pub grows_each : (a b c : Option (List ℕ)) (xs : List X) (i : ℕ) (d : X) → i < length xs → Grows a b (flat_map f (take i xs)) → Grows b c (f (get_or xs i d)) → Grows a c (flat_map f (take (i + 1) xs))
-  grows_each a b c xs i d h old new = subst (Grows a c) (sym (flat_more f xs i d h)) (grows_then a b c (flat_map f (take i xs)) (f (get_or xs i d)) old new)
-
-  -- a front of it
-  pub partly_each : (a b c : Option (List ℕ)) (xs : List X) (i : ℕ) (d : X) → i < length xs → Grows a b (flat_map f (take i xs)) → GrowsPartly b c (f (get_or xs i d)) → GrowsPartly a c (flat_map f xs)
-  partly_each a b c xs i d h old new =
-      subst (GrowsPartly a c) (sym (flat_split f xs i d h))
-      (partly_then a b c (flat_map f (take i xs)) (f (get_or xs i d) ++ flat_map f (drop (i + 1) xs)) old (partly_more b c (f (get_or xs i d)) (flat_map f (drop (i + 1) xs)) new))
 
 module _ {X : Type 0} (a b c : Option (List ℕ)) (after whole : List X → List ℕ) where
   -- one thing more is written
@@ -104,6 +80,3 @@ cut_here a b whole last cut = record { each = λ told h. let c = cut.each told h
 
 pub whole_partly : (a c : Option (List ℕ)) (whole : List ℕ) → ((told : List ℕ) → a ≡ Some told → c ≡ Some (told ++ whole)) → WrotePartly a c whole
 whole_partly a c whole done = record { each = λ told h. (whole, [], done told h, append-nil whole) }
-
-pub both_same : {x y u v : List ℕ} → x ≡ y → u ≡ v → x ++ u ≡ y ++ v
-both_same {x} {y} {u} {v} p q = ap (λ l. l ++ u) p ∙ ap (λ l. y ++ l) q

@@ -110,9 +110,28 @@ fn joins_a_run_over_pieces(rt: HostRuntime) -> Result<(), Fail> {
 }
 
 #[test]
+fn counts_turns_at_once(rt: HostRuntime) -> Result<(), Fail> {
+    let mut out = MemSink::new(rt.alloc(), 0, Vec::new(rt.alloc()))?;
+    let mut rec = MemSink::new(rt.alloc(), 256, Vec::new(rt.alloc()))?;
+    {
+        let mut writer = Writer::new(&mut out, &mut rec);
+        writer.step(Step::Unit(FORK))?;
+        writer.turns(Step::Unit(FORK), 41)?;
+        writer.turns(Step::Idle, 7)?;
+        writer.step(Step::Idle)?;
+        writer.finish(Last::Done {
+            reads: 0,
+            writes: 0,
+        })?;
+    }
+    assert_eq!(rt; rec.bytes(), b"U 0 1 42\nI 8\nE 0 0\n".as_slice());
+    Ok(())
+}
+
+#[test]
 fn names_a_failing_write(rt: HostRuntime) -> Result<(), Fail> {
     let mut failing = Vec::new(rt.alloc());
-    failing.push(3)?;
+    failing.push(2)?;
     let mut out = MemSink::new(rt.alloc(), 64, Vec::new(rt.alloc()))?;
     let mut rec = MemSink::new(rt.alloc(), 64, failing)?;
     {
@@ -124,5 +143,33 @@ fn names_a_failing_write(rt: HostRuntime) -> Result<(), Fail> {
     }
     assert_eq!(rt; rec.faults(), 1);
     assert_eq!(rt; rec.bytes(), b"TICK\n".as_slice());
+    Ok(())
+}
+
+// What is open is shown by a flush as it stands; the flush of the end fails, and both texts are whole.
+#[test]
+fn names_a_failing_flush(rt: HostRuntime) -> Result<(), Fail> {
+    let mut failing = Vec::new(rt.alloc());
+    failing.push(2)?;
+    let mut out = MemSink::new(rt.alloc(), 64, Vec::new(rt.alloc()))?;
+    let mut rec = MemSink::new(rt.alloc(), 64, Vec::new(rt.alloc()))?.with_failing_flushes(failing);
+    {
+        let mut writer = Writer::new(&mut out, &mut rec);
+        writer.item(Item::Char(Tty(0), b'@'))?;
+        writer.step(Step::Unit(FORK))?;
+        writer.flush()?;
+        let told = writer
+            .finish(Last::Done {
+                reads: 0,
+                writes: 0,
+            })
+            .is_err();
+        assert!(rt; told);
+        writer.give_up();
+        assert_eq!(rt; writer.faults(), 1);
+    }
+    assert_eq!(rt; rec.faults(), 1);
+    assert_eq!(rt; out.bytes(), b"T0 @\n".as_slice());
+    assert_eq!(rt; rec.bytes(), b"U 0 1 1\nE 0 0\n".as_slice());
     Ok(())
 }

@@ -30,7 +30,7 @@ impl<'a, T: Sink, R: Sink> Writer<'a, T, R> {
     ghost use Rattle.texts.specs.declared.last.Last.{Last as ALast};
     ghost use Rattle.plain_model.specs.Limits.{FitsEvent};
     ghost use Rattle.plain_model.specs.Texts.{step_text, step_run, run_end};
-    ghost use Rattle.texts.specs.Writer.{IsOnward, Stands, IsCutWithin, IsCutAtEnd, Finishes, FailsAtEnd, Keeps, KeepsWritten};
+    ghost use Rattle.texts.specs.Writer.{IsOnward, IsHandedOn, HandsOn, Counts, Stands, IsCutWithin, IsCutAtEnd, Finishes, FailsAtEnd, Keeps, KeepsWritten};
 
     /// A writer that has written nothing, of the transcript to `out` and of the record to `rec`.
     pub fn new(out: &'a mut T, rec: &'a mut R) -> Self
@@ -59,6 +59,7 @@ impl<'a, T: Sink, R: Sink> Writer<'a, T, R> {
         ensures cause { OnErr result (Rose self.old.faults self.new.faults) }
         ensures unfaulted { OnOk result (self.new.faults ≡ self.old.faults) }
         ensures onward { StaysOnward (IsOnward T.fault_count R.fault_count) self.old self.new }
+        ensures handed { OnOk result (IsHandedOn T.handed_on R.handed_on self.new) }
         ensures ok { OnOk result (Finishes T.taken R.taken last self.old self.new) }
         ensures err { OnErr result (FailsAtEnd T.taken R.taken last self.old self.new) }
     {
@@ -70,10 +71,11 @@ impl<'a, T: Sink, R: Sink> Writer<'a, T, R> {
     }
 
     /// Gives up, once a call has failed: hands on what the sinks keep, so that what was written before is not
-    /// lost. Both are tried, and what they answer is only counted. Whatever the sinks have taken stays.
+    /// lost. Both are tried: each has handed on all, or its count of faults rises. Whatever they have taken stays.
     pub fn give_up(&mut self)
         ensures later { self.old.faults ≤ self.new.faults }
         ensures onward { StaysOnward (IsOnward T.fault_count R.fault_count) self.old self.new }
+        ensures tried { HandsOn T.handed_on R.handed_on T.fault_count R.fault_count self.old self.new }
         ensures stands { Keeps (Stands T.taken R.taken) self.old self.new }
         ensures cut { Keeps (IsCutWithin T.taken R.taken) self.old self.new }
         ensures cut_at_end { (last : ALast) → Keeps (IsCutAtEnd T.taken R.taken last) self.old self.new }
@@ -83,10 +85,9 @@ impl<'a, T: Sink, R: Sink> Writer<'a, T, R> {
 
     // Hands on what the sinks keep. Both are tried.
     fn flush_both(&mut self) -> Result<(), Failed>
-        ensures later { self.old.faults ≤ self.new.faults }
-        ensures cause { OnErr result (Rose self.old.faults self.new.faults) }
-        ensures unfaulted { OnOk result (self.new.faults ≡ self.old.faults) }
-        ensures onward { StaysOnward (IsOnward T.fault_count R.fault_count) self.old self.new }
+        ensures counts { Counts T.fault_count R.fault_count result self.old self.new }
+        ensures handed { OnOk result (IsHandedOn T.handed_on R.handed_on self.new) }
+        ensures tried { HandsOn T.handed_on R.handed_on T.fault_count R.fault_count self.old self.new }
         ensures keeps { KeepsWritten T.taken R.taken self.old self.new }
     {
         let out = counted(&mut self.faults, self.out.flush());
@@ -98,10 +99,7 @@ impl<'a, T: Sink, R: Sink> Writer<'a, T, R> {
     #[inline]
     fn equal_turns(&mut self, turn: Turn, n: u64) -> Result<(), Failed>
         requires some { 1 ≤ n }
-        ensures later { self.old.faults ≤ self.new.faults }
-        ensures cause { OnErr result (Rose self.old.faults self.new.faults) }
-        ensures unfaulted { OnOk result (self.new.faults ≡ self.old.faults) }
-        ensures onward { StaysOnward (IsOnward T.fault_count R.fault_count) self.old self.new }
+        ensures counts { Counts T.fault_count R.fault_count result self.old self.new }
         ensures ok { OnOk result (GoesOn (Stands T.taken R.taken) self.old self.new [] (replicate n (step_of turn))) }
         ensures err { OnErr result (IsCut (Stands T.taken R.taken) (IsCutWithin T.taken R.taken) self.old self.new [] (replicate n (step_of turn))) }
     {
@@ -127,10 +125,7 @@ impl<'a, T: Sink, R: Sink> Writer<'a, T, R> {
         requires some { 1 ≤ n }
         requires text { step_text (open_run self.old.run) (step_of turn) ≡ run_end (open_run self.old.run) }
         requires run { step_run (open_run self.old.run) (step_of turn) ≡ Some (step_of turn, 1) }
-        ensures later { self.old.faults ≤ self.new.faults }
-        ensures cause { OnErr result (Rose self.old.faults self.new.faults) }
-        ensures unfaulted { OnOk result (self.new.faults ≡ self.old.faults) }
-        ensures onward { StaysOnward (IsOnward T.fault_count R.fault_count) self.old self.new }
+        ensures counts { Counts T.fault_count R.fault_count result self.old self.new }
         ensures ok { OnOk result (GoesOn (Stands T.taken R.taken) self.old self.new [] (replicate n (step_of turn))) }
         ensures err { OnErr result (IsCut (Stands T.taken R.taken) (IsCutWithin T.taken R.taken) self.old self.new [] (replicate n (step_of turn))) }
     {
@@ -144,10 +139,7 @@ impl<'a, T: Sink, R: Sink> Writer<'a, T, R> {
     #[inline(never)]
     fn event(&mut self, e: Event) -> Result<(), Failed>
         requires { FitsEvent e }
-        ensures later { self.old.faults ≤ self.new.faults }
-        ensures cause { OnErr result (Rose self.old.faults self.new.faults) }
-        ensures unfaulted { OnOk result (self.new.faults ≡ self.old.faults) }
-        ensures onward { StaysOnward (IsOnward T.fault_count R.fault_count) self.old self.new }
+        ensures counts { Counts T.fault_count R.fault_count result self.old self.new }
         ensures ok { OnOk result (GoesOn (Stands T.taken R.taken) self.old self.new [] (AnOuter e ∷ [])) }
         ensures err { OnErr result (IsCut (Stands T.taken R.taken) (IsCutWithin T.taken R.taken) self.old self.new [] (AnOuter e ∷ [])) }
     {
@@ -172,7 +164,7 @@ fn counted(faults: &mut u64, answer: Result<(), Failed>) -> Result<(), Failed>
 }
 
 impl<'a, T: Sink, R: Sink> Taker for Writer<'a, T, R> {
-    ghost use Rattle.texts.specs.Writer.{IsOnward, Stands, IsCutWithin};
+    ghost use Rattle.texts.specs.Writer.{IsOnward, IsHandedOn, Stands, IsCutWithin};
 
     ghost fault_count = { λ w. w.faults };
 
@@ -181,6 +173,8 @@ impl<'a, T: Sink, R: Sink> Taker for Writer<'a, T, R> {
     ghost stands = { λ first w is ss. Stands T.taken R.taken first w is ss };
 
     ghost cut = { λ first w is ss. IsCutWithin T.taken R.taken first w is ss };
+
+    ghost handed_on = { λ w. IsHandedOn T.handed_on R.handed_on w };
 
     fn faults(&self) -> u64 {
         self.faults
