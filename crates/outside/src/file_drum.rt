@@ -3,7 +3,7 @@ ghost use Rattle.std.specs.Prelude.{◌≡◌, ◌*◌, ◌<◌, ◌≤◌, ◌�
 ghost use Rattle.std.specs.Option.{option_copied};
 ghost use Rattle.byteorder.specs.Endian.{IsRead, big_bytes, big_number};
 ghost use Rattle.outside.specs.Drums.{AreWords, IsPage};
-ghost use Rattle.outside.specs.Faults.{CountsUp};
+ghost use Rattle.outside.specs.Faults.{CountsUp, FailsCounted};
 ghost use Rattle.outside.specs.ToldPages.{none_told};
 
 use crate::{Drum, Failed, MOST_DRUM_PAGES, PAGE_WORDS};
@@ -153,11 +153,7 @@ impl Drum for FileDrum {
     // It fails exactly where the file does, or has not all words of the page.
     fn read(&mut self, page: u32, words: &mut [u64; PAGE_WORDS]) -> Result<(), Failed>
         requires { page < MOST_DRUM_PAGES }
-        ensures later { self.old.faults ≤ self.new.faults }
-        ensures faulted { OnErr result (CountsUp self.old.faults self.new.faults) }
-        ensures unfaulted { OnOk result (self.new.faults ≡ self.old.faults) }
-        ensures error { OnErr result (IsSome self.new.error) }
-        ensures kept { OnOk result (self.new.error ≡ self.old.error) }
+        ensures fault { FailsCounted result self.old.faults self.new.faults self.old.error self.new.error }
         ensures page { OnOk result (IsPage words.new) }
         ensures counted { OnOk result (CountsUp self.old.reads self.new.reads) }
         ensures uncounted { OnErr result (self.new.reads ≡ self.old.reads) }
@@ -174,11 +170,7 @@ impl Drum for FileDrum {
     fn write(&mut self, page: u32, words: &[u64; PAGE_WORDS]) -> Result<(), Failed>
         requires page { page < MOST_DRUM_PAGES }
         requires words { AreWords words.now }
-        ensures later { self.old.faults ≤ self.new.faults }
-        ensures faulted { OnErr result (CountsUp self.old.faults self.new.faults) }
-        ensures unfaulted { OnOk result (self.new.faults ≡ self.old.faults) }
-        ensures error { OnErr result (IsSome self.new.error) }
-        ensures kept { OnOk result (self.new.error ≡ self.old.error) }
+        ensures fault { FailsCounted result self.old.faults self.new.faults self.old.error self.new.error }
         ensures counted { OnOk result (CountsUp self.old.writes self.new.writes) }
         ensures uncounted { OnErr result (self.new.writes ≡ self.old.writes) }
         ensures reads { self.new.reads ≡ self.old.reads }

@@ -2,7 +2,7 @@
 ghost use Rattle.std.specs.Prelude.{◌≡◌, ◌<◌, ◌≤◌, None, Some, length, IfOk, IsSome, OnOk, OnErr};
 ghost use Rattle.std.specs.Option.{option_copied};
 ghost use Rattle.std.specs.Io.KnownBytes.{Keeps, ReadConsumes, WriteAppends};
-ghost use Rattle.outside.specs.Faults.{CountsUp};
+ghost use Rattle.outside.specs.Faults.{CountsUp, FailsCounted};
 
 use crate::{Failed, Sink, Source};
 use std::io::{Error, ErrorKind, Read, Write};
@@ -51,11 +51,7 @@ impl<R: Read> Source for StdSource<R> {
         requires { 0 < length piece.old }
         ensures reader { ReadConsumes (R.remaining self.old.reader) (R.remaining self.new.reader) result piece.new }
         ensures bound { IfOk result (λ n. n ≤ length piece.old) }
-        ensures later { self.old.faults ≤ self.new.faults }
-        ensures faulted { OnErr result (CountsUp self.old.faults self.new.faults) }
-        ensures unfaulted { OnOk result (self.new.faults ≡ self.old.faults) }
-        ensures error { OnErr result (IsSome self.new.error) }
-        ensures kept { OnOk result (self.new.error ≡ self.old.error) }
+        ensures fault { FailsCounted result self.old.faults self.new.faults self.old.error self.new.error }
     {
         match self.reader.read(piece) {
             Ok(n) => Ok(n),
@@ -128,11 +124,7 @@ impl<W: Write> Sink for StdSink<W> {
         ensures writer { WriteAppends (W.contents self.old.writer) (W.contents self.new.writer) result piece.now }
         ensures some { 0 < length piece.now → IfOk result (λ n. 0 < n) }
         ensures bound { IfOk result (λ n. n ≤ length piece.now) }
-        ensures later { self.old.faults ≤ self.new.faults }
-        ensures faulted { OnErr result (CountsUp self.old.faults self.new.faults) }
-        ensures unfaulted { OnOk result (self.new.faults ≡ self.old.faults) }
-        ensures error { OnErr result (IsSome self.new.error) }
-        ensures kept { OnOk result (self.new.error ≡ self.old.error) }
+        ensures fault { FailsCounted result self.old.faults self.new.faults self.old.error self.new.error }
     {
         match self.writer.write(piece) {
             Ok(n) if n > 0 || piece.is_empty() => Ok(n),
@@ -144,11 +136,7 @@ impl<W: Write> Sink for StdSink<W> {
     // The writer hands on what it keeps.
     fn flush(&mut self) -> Result<(), Failed>
         ensures writer { Keeps (W.contents self.old.writer) (W.contents self.new.writer) }
-        ensures later { self.old.faults ≤ self.new.faults }
-        ensures faulted { OnErr result (CountsUp self.old.faults self.new.faults) }
-        ensures unfaulted { OnOk result (self.new.faults ≡ self.old.faults) }
-        ensures error { OnErr result (IsSome self.new.error) }
-        ensures kept { OnOk result (self.new.error ≡ self.old.error) }
+        ensures fault { FailsCounted result self.old.faults self.new.faults self.old.error self.new.error }
     {
         match self.writer.flush() {
             Ok(()) => Ok(()),
