@@ -14,6 +14,7 @@ use Rattle.command_words.specs.declared.sizes.Range.{Range}
 abbrev pub rule_named : Text → Rule
 rule_named name = record (new_rule name) { long = Some name; action = Some Set }
 
+-- the option that sets a size
 abbrev pub option_rule : Size → Rule
 option_rule size = rule_named (option_name size)
 

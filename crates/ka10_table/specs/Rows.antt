@@ -12,9 +12,11 @@ pub record Line : Type 0 where
   pub last : ℕ
   pub fourth : Option OpMode
 
+-- a line without modes
 abbrev pub plain : ℕ → ℕ → Line
 plain first last = record { first = first; last = last; fourth = None }
 
+-- a line with modes, four opcodes each
 abbrev pub in_modes : OpMode → ℕ → ℕ → Line
 in_modes fourth first last = record { first = first; last = last; fourth = Some fourth }
 

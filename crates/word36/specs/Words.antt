@@ -6,10 +6,11 @@ use Rattle.std.specs.Int.{int_rem_euclid}
 abbrev pub IsWord : ℕ → Type 0
 IsWord w = w < 2 ^ 36
 
--- the halves of a word
+-- the left half of a word, bits 0 to 17
 abbrev pub left : ℕ → ℕ
 left w = w / 2 ^ 18
 
+-- the right half of a word, bits 18 to 35
 abbrev pub right : ℕ → ℕ
 right w = w % 2 ^ 18
 
