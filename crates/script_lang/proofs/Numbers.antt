@@ -4,8 +4,6 @@ use Rattle.std.proofs.Math.Nat.{pow-suc, pow-le-pow_right, mul-le-mul_right}
 use Rattle.std.proofs.lemmas.Nat.{pow-add}
 use Rattle.std.proofs.lemmas.List.{take_more, length-take-le}
 use Rattle.std.proofs.lemmas.List.Elements.{All-head, All-tail}
-use Rattle.word36.specs.Octal.{AreOctalDigits, octal_value}
-use Rattle.word36.proofs.OctalLemmas.{octal_value-below}
 use Rattle.plain_model.specs.Script.{IsDigit, decimal_value}
 
 tenfold : (k : ℕ) → 10 ^ (k + 1) ≡ 10 ^ k * 10
@@ -47,9 +45,3 @@ pub decimal_value-room : (xs : List ℕ) (i : ℕ) → All IsDigit (take i xs) �
 decimal_value-room xs i digits inside few =
     let long : length (take i xs) ≡ i = length-take-le i xs (omega arith) in
     decimal_value-most 8 (take i xs) digits (omega arith)
-
-pub octal_value-address : (xs : List ℕ) → AreOctalDigits xs → length xs ≤ 6 → octal_value xs < 2 ^ 18
-octal_value-address xs h few =
-    let value = octal_value-below xs h in
-    let most : 8 ^ length xs ≤ 8 ^ 6 = pow-le-pow_right (lit< tt) few in
-    omega arith

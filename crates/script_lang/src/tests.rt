@@ -333,23 +333,41 @@ fn passes_empty_lines_and_comments(rt: HostRuntime) {
     assert_eq!(rt; read_line(b"RUN 5 ;"), Read::Bad);
 }
 
-// Gives its bytes in pieces, each of so many at most.
+// Gives its bytes in pieces, each of so many at most, and counts its reads. The read of this number
+// fails; 0 is none.
 #[derive(Drop)]
 struct Pieces<'a> {
     rest: &'a [u8],
     most: usize,
+    fails: u64,
+    reads: u64,
+}
+
+impl<'a> Pieces<'a> {
+    fn new(rest: &'a [u8], most: usize, fails: u64) -> Self {
+        Pieces {
+            rest,
+            most,
+            fails,
+            reads: 0,
+        }
+    }
 }
 
 impl<'a> Source for Pieces<'a> {
-    ghost fault_count = { λ _. 0 };
+    ghost fault_count = { λ s. s.reads };
 
     ghost left = { λ _. None };
 
     fn faults(&self) -> u64 {
-        0
+        self.reads
     }
 
     fn read(&mut self, piece: &mut [u8]) -> Result<usize, Failed> {
+        self.reads = self.reads.saturating_add(1);
+        if self.reads == self.fails {
+            return Err(Failed);
+        }
         let count = self.most.min(self.rest.len()).min(piece.len());
         let (front, rest) = self.rest.split_at(count);
         piece[..count].copy_from_slice(front);
@@ -406,6 +424,13 @@ fn ends<S: Source>(source: &mut S) -> (u64, Next) {
 
 const LONG_LINE: [u8; 9000] = [b'A'; 9000];
 
+// A line of 257 bytes, and its line feed.
+fn ended_line() -> [u8; 258] {
+    let mut bytes = [b'\n'; 258];
+    bytes[..257].copy_from_slice(&LONG_LINE[..257]);
+    bytes
+}
+
 #[test]
 fn ends_the_same_in_all_pieces(rt: HostRuntime) -> Result<(), Fail> {
     let alloc = rt.alloc();
@@ -434,7 +459,7 @@ fn ends_the_same_in_all_pieces(rt: HostRuntime) -> Result<(), Fail> {
         (&LONG_LINE, (0, Next::Bad(1))),
     ] {
         for most in [1, 5, 9000] {
-            assert_eq!(rt; ends(&mut Pieces { rest: bytes, most }), want);
+            assert_eq!(rt; ends(&mut Pieces::new(bytes, most, 0)), want);
         }
         assert_eq!(rt;
             ends(&mut MemSource::new(bytes.to_vec(alloc)?, Vec::new(alloc))),
@@ -444,12 +469,101 @@ fn ends_the_same_in_all_pieces(rt: HostRuntime) -> Result<(), Fail> {
     Ok(())
 }
 
+// Its bytes stand behind the lines: 6, 9, 14 and 19.
+const BAD_FOURTH: &[u8] = b"RUN 5\n;A\nTICK\nTOCK\n";
+
 #[test]
-fn a_failed_read_is_told(rt: HostRuntime) -> Result<(), Fail> {
-    let alloc = rt.alloc();
-    let mut source = MemSource::new(b"RUN 5\nRUN 6\n".to_vec(alloc)?, vec![in alloc; 2]?);
-    assert_eq!(rt; ends(&mut source), (2, Next::ReadFault));
-    Ok(())
+fn a_failed_read_is_told_behind_what_was_known(rt: HostRuntime) {
+    for (most, fails, want) in [
+        (1, 1, (0, Next::ReadFault)),
+        (1, 6, (0, Next::ReadFault)),
+        (1, 7, (1, Next::ReadFault)),
+        (1, 9, (1, Next::ReadFault)),
+        (1, 10, (1, Next::ReadFault)),
+        (1, 14, (1, Next::ReadFault)),
+        (1, 15, (2, Next::ReadFault)),
+        (1, 19, (2, Next::ReadFault)),
+        (1, 20, (2, Next::Bad(4))),
+        (7, 1, (0, Next::ReadFault)),
+        (7, 2, (1, Next::ReadFault)),
+        (7, 3, (2, Next::ReadFault)),
+        (7, 4, (2, Next::Bad(4))),
+        (9, 2, (1, Next::ReadFault)),
+        (9, 3, (2, Next::ReadFault)),
+        (19, 1, (0, Next::ReadFault)),
+        (19, 2, (2, Next::Bad(4))),
+    ] {
+        assert_eq!(rt; ends(&mut Pieces::new(BAD_FOURTH, most, fails)), want);
+    }
+}
+
+#[test]
+fn a_failed_read_is_told_at_the_end(rt: HostRuntime) {
+    for (bytes, want) in [
+        (b"".as_slice(), (0, Next::ReadFault)),
+        (b";A\n\n", (0, Next::ReadFault)),
+        (b"RUN 5\nTICK", (1, Next::ReadFault)),
+        (b"RUN 5\nTICK\n", (2, Next::ReadFault)),
+        (b"RUN 5\nTOCK\n", (1, Next::Bad(2))),
+    ] {
+        let fails = if bytes.is_empty() { 1 } else { 2 };
+        assert_eq!(rt; ends(&mut Pieces::new(bytes, 100, fails)), want);
+    }
+}
+
+#[test]
+fn a_failed_read_is_told_within_a_long_line(rt: HostRuntime) {
+    let ended = ended_line();
+    for (bytes, fails, want) in [
+        (LONG_LINE.as_slice(), 1, (0, Next::ReadFault)),
+        (&LONG_LINE, 4, (0, Next::ReadFault)),
+        (&LONG_LINE, 90, (0, Next::ReadFault)),
+        (&LONG_LINE, 91, (0, Next::ReadFault)),
+        (&LONG_LINE, 92, (0, Next::Bad(1))),
+        (&ended, 3, (0, Next::ReadFault)),
+        (&ended, 4, (0, Next::Bad(1))),
+    ] {
+        assert_eq!(rt; ends(&mut Pieces::new(bytes, 100, fails)), want);
+    }
+}
+
+// Whether `next` has read each time where `needs_read` said so, and no other time.
+fn reads_where_needed(bytes: &[u8], most: usize) -> bool {
+    let mut source = Pieces::new(bytes, most, 0);
+    let mut lines = Lines::new();
+    for _line in 0..MOST_BYTES {
+        let reads = source.reads;
+        let needs = lines.needs_read();
+        if source.reads != reads {
+            return false;
+        }
+        let next = lines.next(&mut source);
+        if needs != (source.reads > reads) {
+            return false;
+        }
+        if !matches!(next, Next::One(_)) {
+            return true;
+        }
+    }
+    false
+}
+
+#[test]
+fn reads_only_where_it_is_needed(rt: HostRuntime) {
+    let ended = ended_line();
+    for bytes in [
+        b"".as_slice(),
+        b"\n;\n\n",
+        b"RUN 5\nTICK\n\n;A\nTICK\n",
+        b"TICK\nTOCK\nTICK\n",
+        b"TICK\n;\nTICK",
+        &LONG_LINE,
+        &ended,
+    ] {
+        for most in [1, 3, 5, 11, 9000] {
+            assert!(rt; reads_where_needed(bytes, most));
+        }
+    }
 }
 
 const COMMENT: [u8; 255] = [b';'; 255];
