@@ -5,12 +5,10 @@ ghost use Rattle.outside.specs.Told.{EndsOnly, Stays};
 ghost use Rattle.plain_model.specs.Script.{HasNoFeed, most_bytes};
 ghost use Rattle.script_lang.specs.Feeds.{EndsSo, Fills, IsFed, Reads, Spends, StopsWithin};
 
+use crate::reached::MOST_LINE;
 use memchr::memchr;
 use outside::{Failed, Source};
 use std::marker::Model;
-
-/// How many bytes a line has at most, without its line feed.
-pub(crate) const MOST_LINE: usize = 256;
 
 // How many bytes are held at most.
 const ROOM: usize = 4096;
@@ -116,7 +114,7 @@ impl Buffer {
         ensures spends { result ≡ Found.Last → Spends (S.left s.old) (S.left s.new) }
         ensures last { result ≡ Found.Last → StopsWithin 0 room self.new }
         ensures fault { result ≡ Found.Fault → StopsWithin 0 room self.new }
-        ensures over { result ≡ Found.Over → HasNoFeed self.new × ((256 < length self.new) ⊎ (room < length self.new)) }
+        ensures over { result ≡ Found.Over → HasNoFeed self.new × ((MOST_LINE < length self.new) ⊎ (room < length self.new)) }
     {
         loop {
             let held = self.bytes();

@@ -1,5 +1,5 @@
 // The canonical lines of events.
-ghost use Rattle.std.specs.Prelude.{◌≡◌, ◌≤◌, ◌<◌, ◌+◌, ◌++◌, length, take, drop, decimal};
+ghost use Rattle.std.specs.Prelude.{◌≡◌, ◌≤◌, ◌<◌, ◌+◌, ◌*◌, ◌++◌, length, take, drop, decimal};
 ghost use Rattle.std.specs.List.{flat_map};
 ghost use Rattle.plain_model.specs.Limits.{FitsEvent};
 ghost use Rattle.plain_model.specs.Script.{IsShort, Spells};
@@ -8,12 +8,15 @@ ghost use Rattle.plain_model.specs.declared.event.Event.{Event as AnEvent};
 ghost use Rattle.plain_model.specs.declared.event.Event.TheVariants.{Login as ALogin, TypeIn as ATypeIn, Words as AWords, Poke as APoke, Start as AStart, Examine as AnExamine, Page as APage};
 ghost use Rattle.script_lang.specs.Canonical.{Adds};
 
-use crate::digits::{decimal, escaped, octal};
+use crate::digits::{DECIMAL_DIGITS, decimal, escaped, octal};
+use crate::names::{MOST_FILE, MOST_USER};
+use crate::reached::MOST_LINE;
+use crate::rows::MOST_WORDS;
 use plain_model::{DirName, Event, FileName, Tty, TypedText, WordRow};
-use word36::Word;
+use word36::{WORD_DIGITS, Word};
 
 /// Room for the longest line, without its line feed.
-pub type LineRoom = [u8; 256];
+pub type LineRoom = [u8; MOST_LINE];
 
 /// Writes the canonical line of an event, without its line feed, at the front of the room, and answers
 /// its length. What lies behind it stays.
@@ -43,7 +46,7 @@ pub fn write_line(e: &Event, room: &mut LineRoom) -> usize
 }
 
 /// The canonical line of an event spells it and no other event has it, and it is a line of a script: it has no
-/// line feed in it and at most 256 bytes.
+/// line feed in it and at most MOST_LINE bytes.
 pub fn canonical_lines()
     ensures spells { (e : AnEvent) → FitsEvent e → Spells (line_of e) e }
     ensures apart { (e f : AnEvent) → FitsEvent e → FitsEvent f → line_of e ≡ line_of f → e ≡ f }
@@ -60,7 +63,7 @@ fn on_or_off(on: bool) -> &'static [u8]
 
 // A keyword and a text.
 fn write_text(room: &mut LineRoom, keyword: &[u8], text: &[u8]) -> usize
-    requires { length keyword.now + length text.now ≤ 256 }
+    requires { length keyword.now + length text.now ≤ MOST_LINE }
     ensures { Adds room.old room.new 0 result (keyword.now ++ text.now) }
 {
     let at = add(room, 0, keyword);
@@ -69,9 +72,9 @@ fn write_text(room: &mut LineRoom, keyword: &[u8], text: &[u8]) -> usize
 
 // A keyword and a number.
 fn write_number(room: &mut LineRoom, keyword: &[u8], n: u32) -> usize
-    requires { length keyword.now ≤ 20 }
+    requires { length keyword.now + DECIMAL_DIGITS ≤ MOST_LINE }
     ensures value { Adds room.old room.new 0 result (keyword.now ++ decimal n) }
-    ensures short { result ≤ length keyword.now + 20 }
+    ensures short { result ≤ length keyword.now + DECIMAL_DIGITS }
 {
     let at = add(room, 0, keyword);
     add_decimal(room, at, n)
@@ -79,7 +82,7 @@ fn write_number(room: &mut LineRoom, keyword: &[u8], n: u32) -> usize
 
 // A user who logs in.
 fn write_login(room: &mut LineRoom, t: Tty, user: &DirName) -> usize
-    requires { length user.now ≤ 12 }
+    requires { length user.now ≤ MOST_USER }
     ensures { Adds room.old room.new 0 result (line_of (ALogin t user.now)) }
 {
     let at = write_number(room, b"LOGIN ", u32::from(t.0));
@@ -115,7 +118,7 @@ fn write_examine(room: &mut LineRoom, t: Tty, serial: u32, address: u32) -> usiz
 
 // A page to be shown.
 fn write_page(room: &mut LineRoom, name: &FileName, page: u16) -> usize
-    requires { length name.now ≤ 39 }
+    requires { length name.now ≤ MOST_FILE }
     ensures { Adds room.old room.new 0 result (line_of (APage name.now page)) }
 {
     let at = write_text(room, b"PAGE ", name.as_slice());
@@ -124,7 +127,7 @@ fn write_page(room: &mut LineRoom, name: &FileName, page: u16) -> usize
 
 // Characters that are typed.
 fn write_type(room: &mut LineRoom, t: Tty, text: &TypedText) -> usize
-    requires { length (line_of (ATypeIn t text.now)) ≤ 256 }
+    requires { length (line_of (ATypeIn t text.now)) ≤ MOST_LINE }
     ensures { Adds room.old room.new 0 result (line_of (ATypeIn t text.now)) }
 {
     let at = write_number(room, b"TYPE ", u32::from(t.0));
@@ -134,8 +137,8 @@ fn write_type(room: &mut LineRoom, t: Tty, text: &TypedText) -> usize
 
 // Words that go into a file's page.
 fn write_words(room: &mut LineRoom, name: &FileName, page: u16, offset: u16, row: &WordRow) -> usize
-    requires name { length name.now ≤ 39 }
-    requires count { row.now.count ≤ 8 }
+    requires name { length name.now ≤ MOST_FILE }
+    requires count { row.now.count ≤ MOST_WORDS }
     ensures { Adds room.old room.new 0 result (line_of (AWords name.now page offset row.now)) }
 {
     let at = write_text(room, b"WORDS ", name.as_slice());
@@ -146,7 +149,7 @@ fn write_words(room: &mut LineRoom, name: &FileName, page: u16, offset: u16, row
 
 // Puts a text into the room behind so many bytes, and answers where it ends.
 fn add(room: &mut LineRoom, at: usize, text: &[u8]) -> usize
-    requires { at + length text.now ≤ 256 }
+    requires { at + length text.now ≤ MOST_LINE }
     ensures { Adds room.old room.new at result text.now }
 {
     let end = at + text.len();
@@ -156,9 +159,9 @@ fn add(room: &mut LineRoom, at: usize, text: &[u8]) -> usize
 
 // Puts the decimal digits of a number behind so many bytes.
 fn add_decimal(room: &mut LineRoom, at: usize, n: u32) -> usize
-    requires { at ≤ 236 }
+    requires { at + DECIMAL_DIGITS ≤ MOST_LINE }
     ensures value { Adds room.old room.new at result (decimal n) }
-    ensures short { result ≤ at + 20 }
+    ensures short { result ≤ at + DECIMAL_DIGITS }
 {
     let digits = decimal(u64::from(n));
     add(room, at, digits.as_slice())
@@ -166,7 +169,7 @@ fn add_decimal(room: &mut LineRoom, at: usize, n: u32) -> usize
 
 // Puts a space and a text behind so many bytes.
 fn add_field(room: &mut LineRoom, at: usize, text: &[u8]) -> usize
-    requires { at + length text.now < 256 }
+    requires { at + length text.now < MOST_LINE }
     ensures { Adds room.old room.new at result (field text.now) }
 {
     let at = add(room, at, b" ");
@@ -175,9 +178,9 @@ fn add_field(room: &mut LineRoom, at: usize, text: &[u8]) -> usize
 
 // Puts a space and the octal digits of a number below 2^36 behind so many bytes.
 fn add_octal(room: &mut LineRoom, at: usize, n: u64) -> usize
-    requires { at ≤ 243 }
+    requires { at + WORD_DIGITS < MOST_LINE }
     ensures value { Adds room.old room.new at result (field (octal n)) }
-    ensures short { result ≤ at + 13 }
+    ensures short { result ≤ at + WORD_DIGITS + 1 }
 {
     let digits = octal(n);
     add_field(room, at, digits.as_slice())
@@ -185,7 +188,7 @@ fn add_octal(room: &mut LineRoom, at: usize, n: u64) -> usize
 
 // Puts typed characters behind so many bytes.
 fn add_escaped(room: &mut LineRoom, at: usize, text: &[u8]) -> usize
-    requires { at + length (flat_map escaped text.now) ≤ 256 }
+    requires { at + length (flat_map escaped text.now) ≤ MOST_LINE }
     ensures { Adds room.old room.new at result (flat_map escaped text.now) }
 {
     let mut at = at;
@@ -198,8 +201,8 @@ fn add_escaped(room: &mut LineRoom, at: usize, text: &[u8]) -> usize
 
 // Puts words as octal fields behind so many bytes.
 fn add_row(room: &mut LineRoom, at: usize, words: &[Word]) -> usize
-    requires count { length words.now ≤ 8 }
-    requires room { at ≤ 152 }
+    requires count { length words.now ≤ MOST_WORDS }
+    requires room { at + MOST_WORDS * (WORD_DIGITS + 1) ≤ MOST_LINE }
     ensures { Adds room.old room.new at result (flat_map (λ w. field (octal w)) words.now) }
 {
     let mut at = at;

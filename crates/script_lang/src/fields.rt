@@ -7,7 +7,7 @@ ghost use Rattle.script_lang.specs.Fields.{Begins, BeginsNot, IsCut, IsHead, Lac
 
 use memchr::memchr;
 use plain_model::{TERMINALS, Tty};
-use word36::{Word, read_octal};
+use word36::{WORD_DIGITS, Word, read_octal};
 
 // How many octal digits an address has at most.
 const ADDRESS_DIGITS: usize = 6;
@@ -68,7 +68,7 @@ pub(crate) fn tty(text: &[u8]) -> Option<Tty>
 
 /// The address that 1 to 6 octal digits write. None exactly where the text writes none.
 pub(crate) fn address(text: &[u8]) -> Option<u32>
-    ensures { MatchOption result ((n : ℕ) → IsOctal 6 text.now n → ⊥) (λ n. IsOctal 6 text.now n) }
+    ensures { MatchOption result ((n : ℕ) → IsOctal ADDRESS_DIGITS text.now n → ⊥) (λ n. IsOctal ADDRESS_DIGITS text.now n) }
 {
     Some(read_octal(text, ADDRESS_DIGITS)? as u32)
 }
@@ -76,7 +76,7 @@ pub(crate) fn address(text: &[u8]) -> Option<u32>
 /// The number of a page of a file, or of a word of a page, that 1 to 3 octal digits write. None
 /// exactly where the text writes none.
 pub(crate) fn page(text: &[u8]) -> Option<u16>
-    ensures { MatchOption result ((n : ℕ) → IsOctal 3 text.now n → ⊥) (λ n. IsOctal 3 text.now n) }
+    ensures { MatchOption result ((n : ℕ) → IsOctal PAGE_DIGITS text.now n → ⊥) (λ n. IsOctal PAGE_DIGITS text.now n) }
 {
     Some(read_octal(text, PAGE_DIGITS)? as u16)
 }
@@ -84,7 +84,7 @@ pub(crate) fn page(text: &[u8]) -> Option<u16>
 /// The word that 1 to 12 octal digits write. None exactly where the text has another length or
 /// another byte.
 pub(crate) fn word(text: &[u8]) -> Option<Word>
-    ensures { MatchOption result ((n : ℕ) → IsOctal 12 text.now n → ⊥) (λ w. IsOctal 12 text.now w) }
+    ensures { MatchOption result ((n : ℕ) → IsOctal WORD_DIGITS text.now n → ⊥) (λ w. IsOctal WORD_DIGITS text.now w) }
 {
     Word::read_octal(text)
 }
@@ -114,7 +114,7 @@ pub(crate) fn tty_field(text: &[u8]) -> Option<(Tty, &[u8])>
 /// The serial of the first field, and what stands behind the space of this field. None exactly
 /// where the text begins with none.
 pub(crate) fn serial_field(text: &[u8]) -> Option<(u32, &[u8])>
-    ensures { MatchOption result (BeginsNot (IsDecimal 6) text.now) (λ p. Begins (IsDecimal 6) text.now p.0 p.1.now) }
+    ensures { MatchOption result (BeginsNot (IsDecimal SERIAL_DIGITS) text.now) (λ p. Begins (IsDecimal SERIAL_DIGITS) text.now p.0 p.1.now) }
 {
     let (front, rest) = cut(text, b' ')?;
     Some((read_decimal(front, SERIAL_DIGITS)?, rest))
@@ -123,7 +123,7 @@ pub(crate) fn serial_field(text: &[u8]) -> Option<(u32, &[u8])>
 /// The address of the first field, and what stands behind the space of this field. None exactly
 /// where the text begins with none.
 pub(crate) fn address_field(text: &[u8]) -> Option<(u32, &[u8])>
-    ensures { MatchOption result (BeginsNot (IsOctal 6) text.now) (λ p. Begins (IsOctal 6) text.now p.0 p.1.now) }
+    ensures { MatchOption result (BeginsNot (IsOctal ADDRESS_DIGITS) text.now) (λ p. Begins (IsOctal ADDRESS_DIGITS) text.now p.0 p.1.now) }
 {
     let (front, rest) = cut(text, b' ')?;
     Some((address(front)?, rest))
@@ -132,7 +132,7 @@ pub(crate) fn address_field(text: &[u8]) -> Option<(u32, &[u8])>
 /// The number of a page in the first field, and what stands behind the space of this field. None
 /// exactly where the text begins with none.
 pub(crate) fn page_field(text: &[u8]) -> Option<(u16, &[u8])>
-    ensures { MatchOption result (BeginsNot (IsOctal 3) text.now) (λ p. Begins (IsOctal 3) text.now p.0 p.1.now) }
+    ensures { MatchOption result (BeginsNot (IsOctal PAGE_DIGITS) text.now) (λ p. Begins (IsOctal PAGE_DIGITS) text.now p.0 p.1.now) }
 {
     let (front, rest) = cut(text, b' ')?;
     Some((page(front)?, rest))

@@ -6,6 +6,7 @@ ghost use Rattle.plain_model.specs.declared.event.Event.{Event as AnEvent};
 ghost use Rattle.script_lang.specs.Grammar.{SpellsNone};
 
 use crate::keywords::event;
+use crate::reached::MOST_LINE;
 use plain_model::Event;
 
 /// What a line without its line feed is.
@@ -44,11 +45,11 @@ pub(crate) fn is_blank(line: &[u8]) -> bool
 }
 
 /// A line spells one event at most, which keeps its limits; and no line that spells one is longer
-/// than 256 bytes.
+/// than MOST_LINE bytes.
 pub fn one_spelling()
     ensures one { (line : List ℕ) (e f : AnEvent) → Spells line e → Spells line f → e ≡ f }
     ensures fits { (line : List ℕ) (e : AnEvent) → Spells line e → FitsEvent e }
-    ensures short { (line : List ℕ) (e : AnEvent) → Spells line e → length line ≤ 256 }
+    ensures short { (line : List ℕ) (e : AnEvent) → Spells line e → length line ≤ MOST_LINE }
 {}
 
 /// Each event of a script keeps its limits.

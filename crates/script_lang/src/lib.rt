@@ -25,5 +25,5 @@ pub use canonical::{LineRoom, canonical_lines, write_line};
 pub use fields::read_decimal;
 pub use grammar::{Read, one_spelling, read_line, script_fits};
 pub use lines::{Lines, Next};
-pub use reached::{MOST_BYTES, MOST_TURNS};
+pub use reached::{MOST_BYTES, MOST_LINE, MOST_TURNS};
 pub use verdicts::one_verdict;

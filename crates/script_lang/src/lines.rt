@@ -6,9 +6,9 @@ ghost use Rattle.plain_model.specs.Script.{HasNoFeed, IsBadRest, IsLongRest, mos
 ghost use Rattle.plain_model.specs.declared.event.Event.{Event as AnEvent};
 ghost use Rattle.script_lang.specs.Feeds.{AllLeft, IsFed, Reads, Spends};
 
-use crate::buffer::{Buffer, Found, MOST_LINE, Passed, line_end};
+use crate::buffer::{Buffer, Found, Passed, line_end};
 use crate::grammar::{Read, is_blank, read_line};
-use crate::reached::{MOST_BYTES, MOST_TURNS, Reached};
+use crate::reached::{MOST_BYTES, MOST_LINE, MOST_TURNS, Reached};
 use outside::Source;
 use plain_model::Event;
 
@@ -248,7 +248,7 @@ impl Lines {
     // line has or passes the limit.
     fn long_line<S: Source>(&mut self, s: &mut S) -> Line
         requires plain { HasNoFeed (pending self.old) }
-        requires over { (256 < length (pending self.old)) ⊎ (most_bytes - given self.old < length (pending self.old)) }
+        requires over { (MOST_LINE < length (pending self.old)) ⊎ (most_bytes - given self.old < length (pending self.old)) }
         ensures later { S.fault_count s.old ≤ S.fault_count s.new }
         ensures cause { result ≡ Line.Fault → Rose (S.fault_count s.old) (S.fault_count s.new) }
         ensures reads { Reads S.left (IsUndecided (given self.old)) (pending self.old) s.old s.new (IsReadBy self.old self.new result) }

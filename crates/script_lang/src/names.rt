@@ -6,13 +6,13 @@ ghost use Rattle.script_lang.specs.Fields.{AreParts};
 use crate::fields::cut;
 use plain_model::{DirName, FileName};
 
-// How many characters the name of a user has at most.
-const MOST_USER: usize = 12;
+/// How many characters the name of a user has at most.
+pub(crate) const MOST_USER: usize = 12;
 
-// How many characters the full name of a file has at most.
-const MOST_FILE: usize = 39;
+/// How many characters the full name of a file has at most.
+pub(crate) const MOST_FILE: usize = 39;
 
-/// The name of a user: 1 to 12 of the characters A-Z, 0-9 and -. None exactly where the text is
+/// The name of a user: 1 to MOST_USER of the characters A-Z, 0-9 and -. None exactly where the text is
 /// none.
 pub(crate) fn dir_name(text: &[u8]) -> Option<DirName>
     ensures { MatchOption result (IsDirName text.now → ⊥) (λ name. (name ≡ text.now) × IsDirName text.now) }
@@ -23,7 +23,7 @@ pub(crate) fn dir_name(text: &[u8]) -> Option<DirName>
     Some(DirName::new(text))
 }
 
-/// The full name of a file, `<DIR>NAME.EXT`, of at most 39 characters. None exactly where the text
+/// The full name of a file, `<DIR>NAME.EXT`, of at most MOST_FILE characters. None exactly where the text
 /// is none.
 pub(crate) fn file_name(text: &[u8]) -> Option<FileName>
     ensures { MatchOption result (IsFileName text.now → ⊥) (λ name. (name ≡ text.now) × IsFileName text.now) }

@@ -7,13 +7,13 @@ use crate::fields::{head, word};
 use plain_model::WordRow;
 use word36::Word;
 
-// How many words a row has at most.
-const MOST_WORDS: usize = 8;
+/// How many words a row has at most.
+pub(crate) const MOST_WORDS: usize = 8;
 
 /// The words of fields, each behind its space, of which there may be none. None exactly where a
-/// field is no word, or there are more than 8.
+/// field is no word, or there are more than MOST_WORDS.
 pub(crate) fn row(text: &[u8]) -> Option<WordRow>
-    ensures { MatchOption result ((ws : List ℕ) → WordFields text.now ws → 8 < length ws) (λ row. IsRow text.now row) }
+    ensures { MatchOption result ((ws : List ℕ) → WordFields text.now ws → MOST_WORDS < length ws) (λ row. IsRow text.now row) }
 {
     let mut words = [Word::ZERO; MOST_WORDS];
     let mut count = 0;

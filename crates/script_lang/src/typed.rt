@@ -15,10 +15,10 @@ const ESCAPE_DIGITS: usize = 3;
 // The last character.
 const LAST_CHARACTER: u64 = 0o177;
 
-/// The characters that a text types: none, where it is empty, and up to 100. None exactly where it
+/// The characters that a text types: none, where it is empty, and up to MOST_TYPED. None exactly where it
 /// is not the text of characters, or has more.
 pub(crate) fn typed(text: &[u8]) -> Option<TypedText>
-    ensures { MatchOption result ((cs : List ℕ) → Types text.now cs → 100 < length cs) (λ cs. Types text.now cs × (length cs ≤ 100)) }
+    ensures { MatchOption result ((cs : List ℕ) → Types text.now cs → MOST_TYPED < length cs) (λ cs. Types text.now cs × (length cs ≤ MOST_TYPED)) }
 {
     let mut characters = [0; MOST_TYPED];
     let mut count = 0;
