@@ -1,0 +1,6 @@
+mod Making
+mod Fetches
+mod Looks
+mod MapFrom
+mod Values
+mod Lookups

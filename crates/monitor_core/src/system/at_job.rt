@@ -23,13 +23,19 @@ impl<P: Pages> System<P> {
             return Err(Refusal::NoJob(t));
         };
         match e {
-            JobEvent::Poke(address, word) => job.poke(&mut self.pages, address, word)?,
-            JobEvent::Start(address) => job.start(address),
-            JobEvent::Examine(serial, address) => {
-                return Ok(Reply::One(job.examined(&self.pages, serial, address)?));
+            JobEvent::Poke(address, word) => {
+                job.poke(&mut self.pages, address, word)?;
+                Ok(Reply::Nothing)
             }
-            JobEvent::Forks => return Ok(Reply::Forks(t)),
+            JobEvent::Start(address) => {
+                job.start(address);
+                Ok(Reply::Nothing)
+            }
+            JobEvent::Examine(serial, address) => {
+                let item = job.examined(&self.pages, serial, address)?;
+                Ok(Reply::One(item))
+            }
+            JobEvent::Forks => Ok(Reply::Forks(t)),
         }
-        Ok(Reply::Nothing)
     }
 }
