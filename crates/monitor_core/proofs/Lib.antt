@@ -1,6 +1,13 @@
 mod Making
 mod Fetches
 mod Looks
+mod Writes
+mod Given
 mod MapFrom
 mod Values
 mod Lookups
+mod Sounds
+mod Unfiled
+mod UnitEffect
+mod Systems
+mod UnitDid

@@ -29,10 +29,10 @@ module _ (p : NumberedPages) (scene : Scene) (f : Fork) (address : ℕ) (high : 
   found_page (Some n) = refl
 
   -- a look that finds a word, or no page
-  pub looks : (slot : Slot) (u : Peeked) → slot ≡ slot_at f.name address → ((home : ℕ) → Absent (record { 0 = home }) ≡ u → ⊥) → u ≡ peek_of p scene (in_map slot) (address % PAGE_WORDS) → u ≡ found (word_in p f address)
+  pub looks : (slot : Slot) (offset : ℕ) (u : Peeked) → slot ≡ slot_at f.name address → offset ≡ address % PAGE_WORDS → ((home : ℕ) → Absent (record { 0 = home }) ≡ u → ⊥) → u ≡ peek_of p scene (in_map slot) offset → u ≡ found (word_in p f address)
   unfolding peek_of
-  looks slot u is not told =
-      let e = passed (map_away p scene (in_map slot)) _ u not (sym told) in
+  looks slot offset u is at not told =
+      let e = passed (map_away p scene (in_map slot)) _ u not (sym (told ∙ ap (peek_of p scene (in_map slot)) at)) in
       let h = passed (page_away p scene (in_map slot)) _ u not e in
       sym h ∙ found_page (page_at p (in_map slot))
       ∙ ap (λ s. found (option_map (λ n. slice_index (words_of p n) (address % PAGE_WORDS)) (page_at p (in_map s)))) is

@@ -9,7 +9,6 @@ use Rattle.plain_model.specs.declared.names.Slot.{Slot}
 use Rattle.plain_model.specs.declared.names.Access.{Access}
 use Rattle.plain_model.specs.declared.names.PageName.{PageName}
 use Rattle.plain_model.specs.declared.names.Kind.{Kind}
-use Rattle.plain_model.specs.declared.names.Kind.TheVariants.{Write}
 use Rattle.plain_model.specs.State.{PlainPages}
 use Rattle.plain_model.specs.Maps.{Chain, chain, entry_at, permits}
 use Rattle.plain_model.specs.Room.{HasRoom}
@@ -27,11 +26,11 @@ module _ {K : Type 0} {file_cmp : K → K → Ordering} where
   never_denied : (owner : Tty) (k : Kind) (ms : List (Making K)) (p : PlainPages file_cmp) → make_all p owner ms ≡ denied k → ⊥
   unfolding make_all
   never_denied owner k [] p h = cc h
-  never_denied owner k (m ∷ ms) p h = roomy (HasRoom (make p owner m) owner) h
+  never_denied owner k (m ∷ ms) p h = roomy (never_denied owner k ms (make p owner m)) (HasRoom (make p owner m) owner) h
     where
-      roomy : (b : Bool) → cond b (make_all (make p owner m) owner ms) full ≡ denied k → ⊥
-      roomy true e = never_denied owner k ms (make p owner m) e
-      roomy false e = cc e
+      roomy : (make_all (make p owner m) owner ms ≡ denied k → ⊥) → (b : Bool) → cond b (make_all (make p owner m) owner ms) full ≡ denied k → ⊥
+      roomy later true e = later e
+      roomy later false e = cc e
 
   pub denied_kind : (p : PlainPages file_cmp) (owner : Tty) (at : Spot K) (kind k : Kind) → reference p at kind owner ≡ denied k → k ≡ kind
   denied_kind p owner at kind k h = by (makings p at kind) refl
@@ -67,13 +66,13 @@ module _ {K : Type 0} {file_cmp : K → K → Ordering} (p : PlainPages file_cmp
   unfolding zero_words
   blank_word b offset is = ap (λ (n : Option PageName). slice_index (option_map_or (words_of p) n zero_words) offset) (blank_page b is) ∙ zero_at PAGE_WORDS offset
 
-  -- only a write copies
-  pub copy_writes : (t : Slot) (a : Access) → m ≡ copy t a → kind ≡ Write
-  copy_writes t a is = let f = first_in_chain in by f.0 f.2
+  -- a copy is the last that is made
+  pub copy_last : (t : Slot) (a : Access) → m ≡ copy t a → [] ≡ rest
+  copy_last t a is = let f = first_in_chain in by f.0 f.2
     where
-      by : (c : Chain) → FirstOf kind c m rest → kind ≡ Write
+      by : (c : Chain) → FirstOf kind c m rest → [] ≡ rest
       by c (is_blank none at others) = absurd (let e : blank (in_map c.end) ≡ copy t a = at ∙ is in cc e)
-      by c (is_copy l writes some found at others) = writes
+      by c (is_copy l writes some found at others) = others
 
 module _ {K : Type 0} {file_cmp : K → K → Ordering} (o : IsTotalOrder file_cmp) (p : PlainPages file_cmp) (s : Slot) (kind : Kind) (owner : Tty) where
   -- what is made in a map leaves the pages of files

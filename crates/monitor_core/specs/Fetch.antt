@@ -1,9 +1,9 @@
 -- What a fetch found, as the plain machine's.
 use Rattle.std.specs.Prelude.{◌≡◌, ◌<◌, true}
-use Rattle.std.specs.Ordering.{nat_cmp}
+use Rattle.std.specs.declared.cmp.Ordering.{Ordering}
 use Rattle.plain_model.specs.declared.channel.TheConstants.{ILLEGAL_INSTRUCTION}
 use Rattle.plain_model.specs.declared.fork.Fork.{Fork}
-use Rattle.plain_model.specs.State.{NumberedPages}
+use Rattle.plain_model.specs.State.{PlainPages}
 use Rattle.plain_model.specs.Forks.{counted}
 use Rattle.plain_model.specs.Interrupts.{posted, is_panic}
 use Rattle.plain_model.specs.Unit.{Fetched as PlainFetched, word, stops, deed_of}
@@ -14,9 +14,9 @@ use Rattle.monitor_core.specs.declared.shown.Shown.{Shown}
 use Rattle.monitor_core.specs.declared.shown.Shown.TheVariants.{Forced}
 
 -- a word of the pages as they are; a word of a page that would be made; or a trap
-abbrev pub IsFetched : NumberedPages → Fetched → PlainFetched nat_cmp → Type 0
+abbrev pub IsFetched : {K : Type 0} {file_cmp : K → K → Ordering} → PlainPages file_cmp → Fetched → PlainFetched file_cmp → Type 0
 IsFetched p (Word w) f = f ≡ word w p
-IsFetched p Blank f = (q : NumberedPages) × (f ≡ word 0 q)
+IsFetched {K} {file_cmp} p Blank f = (q : PlainPages file_cmp) × (f ≡ word 0 q)
 IsFetched p (Trap channel) f = f ≡ stops channel
 
 -- the limits of what a fetch found: a trap forces

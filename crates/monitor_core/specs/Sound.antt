@@ -2,10 +2,15 @@
 use Rattle.std.specs.Prelude.{◌≡◌, ℕ, ◌+◌, ◌<◌, ◌≤◌, ◌^◌, List, length, Bool, true, false, Option, None, Some, slice_index}
 use Rattle.plain_model.specs.declared.names.TheConstants.{TERMINALS, LAST_SERIAL, ACCUMULATORS}
 use Rattle.plain_model.specs.declared.names.Tty.{Tty}
+use Rattle.plain_model.specs.declared.fork.ForkStatus.{ForkStatus}
 use Rattle.plain_model.specs.declared.fork.ForkStatus.TheVariants.{Forced}
 use Rattle.plain_model.specs.Pages.{PagesMeaning}
 use Rattle.monitor_core.specs.declared.job.Job.{Job}
 use Rattle.monitor_core.specs.Jobs.{job_at}
+
+-- the channel by which a fork was forced is one of the 36
+abbrev pub FitsForced : ForkStatus → Type 0
+FitsForced status = (channel : ℕ) → status ≡ Forced channel → channel < 36
 
 -- a job of a terminal: its one fork is the top fork, in the first slot, and takes no channel
 pub record IsJob (t : ℕ) (j : Job) : Type 0 where
@@ -15,7 +20,7 @@ pub record IsJob (t : ℕ) (j : Job) : Type 0 where
   pub last : j.top.name.serial ≤ LAST_SERIAL
   pub top : j.top.superior ≡ None
   pub slot : j.top.slot ≡ 1
-  pub status : (channel : ℕ) → j.top.body.status ≡ Forced channel → channel < 36
+  pub status : FitsForced j.top.body.status
   pub off : j.top.body.psi.on ≡ false
   pub pc : j.top.body.regs.pc < 2 ^ 18
   pub accumulators : length j.top.body.regs.ac ≡ ACCUMULATORS

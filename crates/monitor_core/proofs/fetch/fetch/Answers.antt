@@ -1,6 +1,6 @@
-use Rattle.std.proofs.Common.{inl, sym, ◌∙◌, ap, refl}
+use Rattle.std.proofs.Common.{◌≡◌, inl, ◌∙◌, ap, refl}
+use Rattle.plain_model.specs.declared.names.Kind.TheVariants.{Write, Execute}
 use Rattle.plain_model.specs.References.{in_map, word_at}
-use Rattle.plain_model.specs.Pages.{spot_of}
 use Rattle.monitor_core.proofs.Fetches.{ready_fetch, blank_fetch, denied_fetch, full_fetch}
 use Rattle.monitor_core.proofs.fetch.fetch.Goals as goal
 
@@ -21,3 +21,6 @@ returns-in-Full-clause-told g c d f =
 pub returns-in-Zero-clause-told : goal.returns-in-Zero-clause-told
 returns-in-Zero-clause-told g c d f =
     blank_fetch (g.P.Pages.means.plain c.args.pages.now d) (g.P.Pages.means.scene c.args.pages.now) c.args.fork.now c.if-pc-lt-ACCUMULATORS.false c.slot_at.result c.slot_at.ensures.slot _ (c.in-Zero.ensures.told d c.args.fork.now.name.tty f (inl c.requires.terminal)) refl
+
+pub unreachable-requires : goal.unreachable-requires
+unreachable-requires g c = let writes : Execute ≡ Write = c.in-Copy.ensures.copies c.in-Copy.sole refl in cc writes
