@@ -11,3 +11,6 @@ mod Unfiled
 mod UnitEffect
 mod Systems
 mod UnitDid
+mod JobDid
+mod ForksShown
+mod EventDid

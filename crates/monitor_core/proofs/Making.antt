@@ -1,5 +1,5 @@
 -- What a reference to a map's page makes and finds, for whatever keys files have.
-use Rattle.std.proofs.Common.{◌≡◌, ℕ, zero, suc, Bool, true, false, cond, List, [], ◌∷◌, ◌++◌, Option, None, Some, refl, sym, ◌∙◌, ap, Ordering, replicate, slice_index, slice_get, slice_set}
+use Rattle.std.proofs.Common.{◌≡◌, ℕ, zero, suc, Bool, true, false, cond, List, [], ◌∷◌, ◌++◌, Option, None, Some, refl, sym, ◌∙◌, ap, Ordering, replicate, slice_index, slice_set}
 use Rattle.std.specs.Cmp.{IsTotalOrder}
 use Rattle.std.specs.FinMap as fin
 use Rattle.std.specs.Option.{option_map_or, option_and_then}
@@ -12,9 +12,9 @@ use Rattle.plain_model.specs.declared.names.Kind.{Kind}
 use Rattle.plain_model.specs.State.{PlainPages}
 use Rattle.plain_model.specs.Maps.{Chain, chain, entry_at, permits}
 use Rattle.plain_model.specs.Room.{HasRoom}
-use Rattle.plain_model.specs.References.{Spot, in_map, Making, blank, copy, blanks, copies, along_chain, private_access, makings, make, make_all, page_at, words_of, word_at, zero_words, Referred, granted, denied, full, reference, settled, stored}
-use Rattle.plain_model.proofs.Settles.{FirstOf, is_blank, is_copy, first_of_chain, copy_files}
-use Rattle.plain_model.proofs.Touches.{reference_makes, reference_denied}
+use Rattle.plain_model.specs.References.{Spot, in_map, Making, blank, copy, blanks, copies, along_chain, private_access, makings, make, make_all, page_at, words_of, word_at, zero_words, Referred, granted, denied, full, reference, stored}
+use Rattle.plain_model.proofs.Settles.{FirstOf, is_blank, is_copy, first_of_chain, copy_files, makings_settled}
+use Rattle.plain_model.proofs.Touches.{roomy, reference_makes, reference_denied}
 
 zero_at : (n i : ℕ) → slice_index (replicate n 0) i ≡ 0
 zero_at zero i = refl
@@ -84,14 +84,20 @@ module _ {K : Type 0} {file_cmp : K → K → Ordering} (o : IsTotalOrder file_c
       by c (is_blank none at others) = ap (λ (k : Making K). (make p owner k).files) (sym at)
       by c (is_copy l writes some found at others) = ap (λ (k : Making K). (make p owner k).files) (sym at) ∙ copy_files o p owner l.slot (private_access c)
 
-  pub settled_files : (settled p (in_map s) kind owner).files ≡ p.files
-  unfolding settled
-  settled_files = by (makings p (in_map s) kind) refl
+module _ {K : Type 0} {file_cmp : K → K → Ordering} (o : IsTotalOrder file_cmp) (s : Slot) (kind : Kind) (owner : Tty) where
+  all_files : (ms : List (Making K)) (p q : PlainPages file_cmp) → makings p (in_map s) kind ≡ Some ms → make_all p owner ms ≡ granted q → q.files ≡ p.files
+  unfolding make_all
+  all_files [] p q first made = let same : p ≡ q = cc made in ap (λ (x : PlainPages file_cmp). x.files) (sym same)
+  all_files (m ∷ ms) p q first made =
+      let r = roomy (HasRoom (make p owner m) owner) (make_all (make p owner m) owner ms) q made in
+      all_files ms (make p owner m) q (makings_settled o p owner (in_map s) kind m ms first) r.1 ∙ made_files o p s kind owner m ms first
+
+  pub reference_files : (p q : PlainPages file_cmp) → reference p (in_map s) kind owner ≡ granted q → q.files ≡ p.files
+  reference_files p q refers = by (makings p (in_map s) kind) refl
     where
-      by : (x : Option (List (Making K))) → makings p (in_map s) kind ≡ x → (option_map_or (make p owner) (option_and_then (λ ms. slice_get ms 0) x) p).files ≡ p.files
-      by None is = refl
-      by (Some []) is = refl
-      by (Some (m ∷ rest)) is = made_files m rest is
+      by : (x : Option (List (Making K))) → makings p (in_map s) kind ≡ x → q.files ≡ p.files
+      by None is = absurd (let no : denied kind ≡ granted q = sym (reference_denied p owner (in_map s) kind is) ∙ refers in cc no)
+      by (Some ms) is = all_files ms p q is (sym (reference_makes p owner (in_map s) kind ms is) ∙ refers)
 
 module _ {K : Type 0} {file_cmp : K → K → Ordering} (p : PlainPages file_cmp) (s : Slot) (offset word : ℕ) where
   pub stored_files : (stored p (in_map s) offset word).files ≡ p.files

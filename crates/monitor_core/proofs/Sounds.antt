@@ -31,9 +31,12 @@ use Rattle.monitor_core.specs.Writing.{with_word}
 pub stands : {X : Type 0} (xs : List X) (i : ℕ) (a b : X) → i < length xs → get_or xs i a ≡ get_or xs i b
 stands xs i a b h = get_or_default xs i a b h
 
--- an entry that was read by its index is the job of that terminal
+-- an entry that was read by its index is what the terminal has
+pub entry_read : (jobs : List (Option Job)) (t : ℕ) (o : Option Job) → length jobs ≡ TERMINALS → t < TERMINALS → o ≡ get_or jobs t o → job_at jobs t ≡ o
+entry_read jobs t o room low read = stands jobs t None o (omega (arith, room, low)) ∙ sym read
+
 pub job_read : (jobs : List (Option Job)) (t : ℕ) (o : Option Job) (j : Job) → length jobs ≡ TERMINALS → t < TERMINALS → o ≡ get_or jobs t o → o ≡ Some j → job_at jobs t ≡ Some j
-job_read jobs t o j room low read is = stands jobs t None o (omega (arith, room, low)) ∙ sym read ∙ is
+job_read jobs t o j room low read is = entry_read jobs t o room low read ∙ is
 
 -- a fork whose interrupts are off is forced by a panic channel
 pub posted_off : (f : Fork) (channel : ℕ) → f.body.psi.on ≡ false → is_panic channel ≡ true → posted f channel ≡ with_status f (AForced channel)

@@ -9,12 +9,17 @@ use Rattle.monitor_core.specs.declared.system.System.{System}
 use Rattle.monitor_core.specs.Jobs.{jobs_of, forks_of, job_at, plain_job}
 use Rattle.monitor_core.specs.Systems.{state_of, FitsPages, IsWithin, most_makings}
 use Rattle.monitor_core.proofs.Lookups.{OwnForks, jobs_set, forks_set}
+use Rattle.monitor_core.proofs.ForksShown.{FirstSlots}
 use Rattle.monitor_core.proofs.Unfiled.{named}
 
 module _ {P : Type 0} {b : _} where
   -- each job's top fork is of the job's terminal
   pub owns : (m : System P b) → OwnForks m.jobs.items
   owns m t j at = (m.sound.each_job t j at).terminal
+
+  -- and has the first slot
+  pub first_slots : (m : System P b) → FirstSlots m.jobs.items
+  first_slots m t j at = (m.sound.each_job t j at).slot
 
   pub low_terminal : (m : System P b) (t : ℕ) (j : Job) → job_at m.jobs.items t ≡ Some j → t < length m.jobs.items
   low_terminal m t j at = omega (arith, m.sound.job_room, (m.sound.each_job t j at).low)

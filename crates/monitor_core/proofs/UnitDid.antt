@@ -1,8 +1,9 @@
 -- A unit of a system, as the unit of the plain machine.
-use Rattle.std.proofs.Common.{◌≡◌, ℕ, ◌+◌, ◌<◌, [], ◌∷◌, ◌++◌, List, get_or, set, Option, Some, refl, sym, ◌∙◌, ap, subst, arith}
+use Rattle.std.proofs.Common.{◌≡◌, ℕ, ◌+◌, ◌<◌, [], ◌∷◌, ◌++◌, List, get_or, set, false, Option, Some, refl, sym, ◌∙◌, ap, subst, arith}
 use Rattle.std.specs.FinMap as fin
 use Rattle.plain_model.specs.declared.names.TheConstants.{TERMINALS}
 use Rattle.plain_model.specs.declared.names.ForkName.{ForkName}
+use Rattle.plain_model.specs.declared.fork.ForkStatus.TheVariants.{Run}
 use Rattle.plain_model.specs.declared.event.Step.TheVariants.{Unit as AUnit}
 use Rattle.plain_model.specs.Outcome.{DrumWords}
 use Rattle.plain_model.specs.Unit.{fetched, unit}
@@ -31,6 +32,13 @@ can_run_named jobs f c j at = let one : Some j ≡ Some c.job = sym at ∙ c.the
 -- a job that has run is a job
 pub job_ran : (t : ℕ) (j k : Job) (x : Fetched) → k ≡ job_fetched j x → IsJob t j → FitsFetch x → IsJob t k
 job_ran t j k x is job fit = subst (IsJob t) (sym is) (job_runs t j x job fit)
+
+-- a job's top fork that runs and has no freeze mark can run
+pub job_can_run : {P : Type 0} {b : _} (m : System P b) (t : ℕ) (o : Option Job) (j : Job) → t < TERMINALS → o ≡ get_or m.jobs.items t o → o ≡ Some j → j.top.body.status ≡ Run → j.top.frozen ≡ false → CanRun m.jobs.items j.top.name × (j.top.name.tty.0 ≡ t)
+job_can_run m t o j low read is runs free =
+    let at = job_read m.jobs.items t o j m.sound.job_room low read is in
+    let own = (m.sound.each_job t j at).terminal in
+    (record { job = j; there = ap (job_at m.jobs.items) own ∙ at; named = refl; runs = runs; free = free }, own)
 
 module _ {P : Type 0} {b : _} (m : System P b) (f : ForkName) (can : CanRun m.jobs.items f) where
   -- an entry that was read by the fork's terminal is its job

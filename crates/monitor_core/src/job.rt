@@ -1,9 +1,9 @@
 // A job.
-ghost use Rattle.std.specs.Prelude.{◌≡◌, ◌<◌, ◌≤◌, ◌%◌, ◌^◌, ◌↔◌, IsTrue, IfOk, Ok, length, true, false};
+ghost use Rattle.std.specs.Prelude.{◌≡◌, ◌<◌, ◌≤◌, ◌%◌, ◌^◌, ◌↔◌, IsTrue, IfErr, IfOk, Ok, length, true, false};
 ghost use Rattle.outside.specs.declared.TheConstants.{PAGE_WORDS};
 ghost use Rattle.plain_model.specs.Events.{restarted};
 ghost use Rattle.plain_model.specs.Forks.{top_fork};
-ghost use Rattle.plain_model.specs.Limits.{FitsItem, IsAddress, IsTerminal};
+ghost use Rattle.plain_model.specs.Limits.{FitsCause, FitsItem, IsAddress, IsTerminal};
 ghost use Rattle.plain_model.specs.Outcome.{DrumWords};
 ghost use Rattle.plain_model.specs.Unit.{slot_at as slot_of};
 ghost use Rattle.monitor_core.specs.Fetch.{FitsFetch, fork_fetched, shown_fetched};
@@ -124,6 +124,7 @@ impl Job {
         ensures low { address < ACCUMULATORS → (result ≡ Ok tt) × (self.new ≡ with_word self.old address word) × (pages.new ≡ pages.old) }
         ensures high { ACCUMULATORS ≤ address → (self.new ≡ self.old) × ((d : DrumWords) → P.means.fits pages.old d → P.means.fits pages.new d × IsWritten (P.means.plain pages.old d) (P.means.plain pages.new d) (slot_of self.old.top.name address) (address % PAGE_WORDS) word result) }
         ensures made { Makes P.means pages.old pages.new self.old.top.name.tty 2 }
+        ensures fits { IfErr result FitsCause }
     {
         if address < ACCUMULATORS {
             self.top.body.regs.ac[address as usize] = word;

@@ -1,7 +1,7 @@
 // A word that is written through a fork's map.
-ghost use Rattle.std.specs.Prelude.{◌≡◌, ◌<◌, ◌^◌, true, OnOk};
+ghost use Rattle.std.specs.Prelude.{◌≡◌, ◌<◌, ◌^◌, true, IfErr, OnOk};
 ghost use Rattle.outside.specs.declared.TheConstants.{PAGE_WORDS};
-ghost use Rattle.plain_model.specs.Limits.{IsTerminal};
+ghost use Rattle.plain_model.specs.Limits.{FitsCause, IsTerminal};
 ghost use Rattle.plain_model.specs.Outcome.{DrumWords};
 ghost use Rattle.monitor_core.specs.Writing.{IsReadied, IsWritten, Makes};
 
@@ -18,6 +18,7 @@ fn readied<P: Pages>(pages: &mut P, slot: Slot) -> Result<(), Refusal>
     ensures told { (d : DrumWords) → P.means.fits pages.old d → P.means.fits pages.new d × IsReadied (P.means.plain pages.old d) (P.means.plain pages.new d) slot result }
     ensures ready { OnOk result (P.means.touched pages.new (Place.Fork slot) Kind.Write ≡ Touch.Ready) }
     ensures made { Makes P.means pages.old pages.new slot.fork.tty 2 }
+    ensures fits { IfErr result FitsCause }
 {
     let at = Place::Fork(slot);
     match pages.touch(at, Kind::Write) {
@@ -59,6 +60,7 @@ pub fn write_word<P: Pages>(
     requires serial { P.means.serial pages.old slot.fork.tty < 2 ^ 61 }
     ensures told { (d : DrumWords) → P.means.fits pages.old d → P.means.fits pages.new d × IsWritten (P.means.plain pages.old d) (P.means.plain pages.new d) slot offset word result }
     ensures made { Makes P.means pages.old pages.new slot.fork.tty 2 }
+    ensures fits { IfErr result FitsCause }
 {
     readied(pages, slot)?;
     pages.put(Place::Fork(slot), offset, word);
