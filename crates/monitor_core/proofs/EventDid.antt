@@ -33,7 +33,9 @@ use Rattle.monitor_core.specs.Jobs.{jobs_of, forks_of, job_at, plain_job}
 use Rattle.monitor_core.specs.Systems.{state_of, FitsPages, IsWithin, Did}
 use Rattle.monitor_core.proofs.Lookups.{job_found, job_missing, jobs_set, forks_set}
 use Rattle.monitor_core.proofs.Systems.{owns, within_later}
-use Rattle.monitor_core.proofs.Unfiled.{named}
+use Rattle.plain_model.proofs.Refiled.{live_refiled}
+use Rattle.monitor_core.proofs.Rooms.{room_le, no_room_le, live_map, has_room}
+use Rattle.monitor_core.proofs.Unfiled.{named, alike}
 use Rattle.monitor_core.proofs.JobDid.{did_still}
 
 module _ {P : Type 0} {b : _} (m : System P b) where
@@ -63,3 +65,102 @@ module _ {P : Type 0} {b : _} (m m' : System P b) where
     };
     most = ap b.means.most same;
   }
+
+pub missing : {X : Type 0} (o : Option X) → is_some o ≡ false → o ≡ None
+missing None h = refl
+missing (Some x) h = absurd (cc h)
+
+over : (a b : ℕ) → a < b → nat_lt a b ≡ true
+over a b h = grind (arith, nat_tests)
+
+not_over : (a b : ℕ) → b ≤ a → nat_lt a b ≡ false
+not_over a b h = grind (arith, nat_tests)
+
+module _ {P : Type 0} {b : _} (m : System P b) (t : Tty) (user : List ℕ) where
+  -- what LOGIN comes to, by its three questions
+  abbrev asked : DrumWords → Bool → Bool → Bool → Effect
+  asked d has out room =
+      let old = state_of m d in
+      cond has (refused old (Busy t)) (cond out (refused old (SerialsOut t)) (cond room (record { state = with_job old t user; items = Char t PROMPT ∷ [] }) (refused old (Full t))))
+
+  abbrev room : DrumWords → Bool
+  room d = HasRoom (with_map (state_of m d).pages (next_fork (state_of m d) t) EmptyMap) t
+
+  asks : (d : DrumWords) → outer (state_of m d) (Login t user) ≡ asked d (is_some (fin.get (state_of m d).jobs t.0)) (nat_lt LAST_SERIAL (slice_index m.fork_serials.items t.0)) (room d)
+  asks d = outer_login (state_of m d) t user
+
+  -- the terminal has a job
+  pub is_busy : (d : DrumWords) → is_some (job_at m.jobs.items t.0) ≡ true → outer (state_of m d) (Login t user) ≡ refused (state_of m d) (Busy t)
+  is_busy d has = asks d ∙ ap (λ h. asked d h (nat_lt LAST_SERIAL (slice_index m.fork_serials.items t.0)) (room d)) (there (job_at m.jobs.items t.0) refl has)
+    where
+      there : (o : Option Job) → job_at m.jobs.items t.0 ≡ o → is_some o ≡ true → is_some (fin.get (state_of m d).jobs t.0) ≡ true
+      there None is h = absurd (cc h)
+      there (Some j) is h = ap is_some (job_found m.jobs.items t.0 j is)
+
+  module _ (free : job_at m.jobs.items t.0 ≡ None) where
+    not_busy : (d : DrumWords) → outer (state_of m d) (Login t user) ≡ asked d false (nat_lt LAST_SERIAL (slice_index m.fork_serials.items t.0)) (room d)
+    not_busy d = asks d ∙ ap (λ h. asked d h (nat_lt LAST_SERIAL (slice_index m.fork_serials.items t.0)) (room d)) (ap is_some (job_missing m.jobs.items t.0 free))
+
+    -- its serials are used up
+    pub serials_are_out : (d : DrumWords) → LAST_SERIAL < slice_index m.fork_serials.items t.0 → outer (state_of m d) (Login t user) ≡ refused (state_of m d) (SerialsOut t)
+    serials_are_out d used = not_busy d ∙ ap (λ o. asked d false o (room d)) (over LAST_SERIAL (slice_index m.fork_serials.items t.0) used)
+
+    module _ (d : DrumWords) (f : FitsPages m d) (a : Agrees b.means m.pages (b.means.plain m.pages d)) (dead : b.means.lives m.pages (next_fork (state_of m d) t) ≡ false) (unused : slice_index m.fork_serials.items t.0 ≤ LAST_SERIAL) where
+      room_is : room d ≡ nat_le (b.means.count m.pages + 1) (b.means.most m.pages)
+      room_is =
+          let p = b.means.plain m.pages d in
+          let name = next_fork (state_of m d) t in
+          let none : fin.get p.maps name ≡ None = missing (fin.get p.maps name) (sym (a.living name) ∙ dead) in
+          let counted : live (named p) ≡ b.means.count m.pages = live_refiled name_cmp p fin.empty (alike p f.unfiled) ∙ sym a.number in
+          has_room (with_map (named p) name EmptyMap) t (b.means.count m.pages + 1) (b.means.most m.pages) (live_map (named p) name none ∙ ap (λ n. n + 1) counted) (sym a.bound)
+
+      answered : (r : Bool) → nat_le (b.means.count m.pages + 1) (b.means.most m.pages) ≡ r → outer (state_of m d) (Login t user) ≡ asked d false false r
+      answered r is =
+          not_busy d ∙ ap (λ o. asked d false o (room d)) (not_over LAST_SERIAL (slice_index m.fork_serials.items t.0) unused) ∙ ap (asked d false false) (room_is ∙ is)
+
+      -- there is no room
+      pub is_full : b.means.most m.pages ≤ b.means.count m.pages → outer (state_of m d) (Login t user) ≡ refused (state_of m d) (Full t)
+      is_full filled = answered false (no_room_le (b.means.count m.pages + 1) (b.means.most m.pages) (omega (arith, filled)))
+
+      pub logs_in : b.means.count m.pages < b.means.most m.pages → ◌≡◌ {A = Effect} (outer (state_of m d) (Login t user)) (record { state = with_job (state_of m d) t user; items = Char t PROMPT ∷ [] })
+      logs_in roomy = answered true (room_le (b.means.count m.pages + 1) (b.means.most m.pages) (omega (arith, roomy)))
+
+    -- the job is made
+    pub did_login : (m' : System P b) (k : Job) (f : ForkName) → IsTerminal t → slice_index m.fork_serials.items t.0 ≤ LAST_SERIAL → ((d : DrumWords) → b.means.fits m.pages d → Agrees b.means m.pages (b.means.plain m.pages d)) → ((d : DrumWords) → b.means.lives m.pages (next_fork (state_of m d) t) ≡ false)
+        → b.means.count m.pages < b.means.most m.pages → f.tty ≡ t → f.serial ≡ slice_index m.fork_serials.items t.0 → m'.jobs.items ≡ set m.jobs.items t.0 (Some k) → k.user ≡ user → k.mode ≡ Command → k.top ≡ top_fork f → m'.fork_serials.items ≡ set m.fork_serials.items t.0 (f.serial + 1) → m'.clock ≡ m.clock
+        → ((d : DrumWords) → b.means.fits m.pages d → b.means.fits m'.pages d × (b.means.plain m'.pages d ≡ with_map (b.means.plain m.pages d) f EmptyMap)) → b.means.serial m'.pages ≡ b.means.serial m.pages → b.means.most m'.pages ≡ b.means.most m.pages
+        → Did m m' (Outer (Login t user)) (One (Char t PROMPT))
+    did_login m' k f low unused agrees dead room own numbered set_to user_is mode top serials clock told pages most = record {
+      each = λ d fits.
+          let old = state_of m d in
+          let added = told d fits.pages in
+          let within : t.0 < length m.jobs.items = omega (arith, m.sound.job_room, low) in
+          let next_is : f ≡ next_fork old t = λ i. record { tty = own i; serial = numbered i } in
+          let there : k.top.name.tty.0 ≡ t.0 = ap (λ g. g.name.tty.0) top ∙ ap (λ u. u.0) own in
+          let plain_k : plain_job k ≡ new_job user f = λ i. record (new_job user f) { user = user_is i; mode = mode i; top = (top i).name } in
+          let jobs : jobs_of m'.jobs.items ≡ fin.insert old.jobs t.0 (new_job user f) = ap jobs_of set_to ∙ jobs_set m.jobs.items t.0 k within ∙ ap (fin.insert old.jobs t.0) plain_k in
+          let forks : forks_of m'.jobs.items ≡ fin.insert old.forks f (top_fork f) =
+          ap forks_of set_to ∙ forks_set m.jobs.items t.0 k (owns m) within there (λ x e. absurd (let g : None ≡ Some x = sym free ∙ e in cc g))
+          ∙ (λ i. fin.insert old.forks (top i).name (top i)) in
+          let mine : state_of m' d ≡ record old { pages = with_map old.pages f EmptyMap; jobs = fin.insert old.jobs t.0 (new_job user f); forks = fin.insert old.forks f (top_fork f); fork_serials = set old.fork_serials t.0 (f.serial + 1) } =
+          λ i. record old { pages = named (added.1 i); jobs = jobs i; forks = forks i; fork_serials = serials i; clock = clock i } in
+          let made : ◌≡◌ {A = PlainState} (record old { pages = with_map old.pages f EmptyMap; jobs = fin.insert old.jobs t.0 (new_job user f); forks = fin.insert old.forks f (top_fork f); fork_serials = set old.fork_serials t.0 (f.serial + 1) }) (with_job old t user) =
+          ap (λ g. record old { pages = with_map old.pages g EmptyMap; jobs = fin.insert old.jobs t.0 (new_job user g); forks = fin.insert old.forks g (top_fork g); fork_serials = set old.fork_serials t.0 (g.serial + 1) }) next_is in
+          let effect = apply_outer old (Login t user) ∙ logs_in d fits (agrees d fits.pages) (dead d) unused room in (
+            record { pages = added.0; unfiled = ap (λ p. p.files) added.1 ∙ fits.unfiled },
+            mine ∙ made ∙ ap (λ e. e.state) (sym effect),
+            ap (λ e. e.items) (sym effect),
+          );
+      shown = (low, omega arith);
+      within = λ entries w. record {
+        ticks = omega (arith, clock, w.ticks);
+        units = λ u i e. elim (cases_eq u t.0) [
+          | inl same ↦
+              let here : Some k ≡ Some i = sym (get_or-set_same m.jobs.items t.0 (Some k) None (omega (arith, m.sound.job_room, low))) ∙ ap (job_at (set m.jobs.items t.0 (Some k))) (sym same) ∙ ap (λ js. job_at js u) (sym set_to) ∙ e in
+              let is : k ≡ i = cc here in omega (arith, ap (λ x. x.top.body.units) is, ap (λ g. g.body.units) top)
+          | inr ne ↦ omega (arith, w.units u i (sym (get_or-set_other m.jobs.items t.0 u (Some k) None ne) ∙ ap (λ js. job_at js u) (sym set_to) ∙ e))
+        ];
+        serials = λ u. omega (arith, ap (λ s. s u) pages, w.serials u);
+      };
+      most = most;
+    }

@@ -13,4 +13,6 @@ mod Systems
 mod UnitDid
 mod JobDid
 mod ForksShown
+mod Rooms
 mod EventDid
+mod BootDid

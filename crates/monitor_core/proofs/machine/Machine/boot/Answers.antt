@@ -1,0 +1,13 @@
+use Rattle.std.proofs.Common.{◌≤◌, sym, ◌∙◌, subst, ap, arith}
+use Rattle.monitor_core.proofs.BootDid.{within_boot, booted}
+use Rattle.monitor_core.proofs.machine.Machine.boot.Goals as goal
+
+pub invariant_of-result : goal.invariant_of-result
+invariant_of-result g c = record {
+  within = within_boot c.in_ok-system.system c.in_ok-system.ensures.jobs c.in_ok-system.ensures.clock (λ t. omega (arith, ap (λ p. g.P.Pages.means.serial p t) c.in_ok-system.ensures.pages, c.requires.serials t));
+}
+
+pub returns-clause-state : goal.returns-clause-state
+returns-clause-state g c d f =
+    booted c.in_ok-system.system c.in_ok-system.ensures.jobs c.in_ok-system.ensures.clock (g.P.Pages.means.most c.args.pages) d c.in_ok-system.ensures.serials
+    (subst (λ p. g.P.Pages.means.fits p d) (sym c.in_ok-system.ensures.pages) f) (ap (λ p. g.P.Pages.means.plain p d) c.in_ok-system.ensures.pages ∙ c.requires.opening d f)
