@@ -16,3 +16,5 @@ mod ForksShown
 mod Rooms
 mod EventDid
 mod BootDid
+mod Runnable
+mod StepDid

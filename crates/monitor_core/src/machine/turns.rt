@@ -19,10 +19,11 @@ impl<P: Pages> Machine<P> {
     {
         let reply = self.system.apply(&step);
         self.done += 1;
-        // Most units show nothing: their step goes straight to the taker.
-        if !reply.is_silent() {
-            self.system.give(reply, out)?;
+        if reply.is_silent() {
+            // Most units show nothing: their step goes straight to the taker.
+            return out.step(step);
         }
+        self.system.give(reply, out)?;
         out.step(step)
     }
 
