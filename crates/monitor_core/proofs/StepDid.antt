@@ -1,5 +1,5 @@
 -- Steps of a machine, given to a taker.
-use Rattle.std.proofs.Common.{◌≡◌, ℕ, ◌+◌, ◌<◌, ◌∷◌, ◌++◌, List, [], length, Bool, true, false, Option, inr, refl, sym, ◌∙◌, ap, subst, arith, length-append}
+use Rattle.std.proofs.Common.{◌≡◌, ℕ, ◌+◌, ◌<◌, ◌≤◌, ◌∷◌, ◌++◌, List, [], length, Bool, true, false, Option, inr, refl, sym, ◌∙◌, ap, subst, arith, length-append}
 use Rattle.std.specs.Prelude.{Result, Ok, Err, OnOk, OnErr}
 use Rattle.std.proofs.lemmas.List.{append-nil}
 use Rattle.std.proofs.lemmas.Result.{on_ok_weaker, on_err_weaker}
@@ -12,7 +12,7 @@ use Rattle.plain_model.specs.State.{PlainState}
 use Rattle.plain_model.specs.Outcome.{DrumWords, Stands, Gave, GaveCut, Went, CutOff, judged_by}
 use Rattle.plain_model.specs.Taker.{GoesOn, IsCut}
 use Rattle.plain_model.specs.Run.{apply, shape_of, single, FollowsOne, FollowsShape, Begins, BeginsShape, auto_after}
-use Rattle.plain_model.proofs.Runs.{AreTurns-append, gave_none, gave_append, gave_cut}
+use Rattle.plain_model.proofs.Runs.{onward_nil, AreTurns-append, gave_none, gave_append, gave_cut}
 use Rattle.monitor_core.specs.declared.machine.Machine.{Machine}
 use Rattle.monitor_core.specs.declared.reply.Reply.{Reply}
 use Rattle.monitor_core.specs.declared.reply.Reply.TheVariants.{Nothing, One, Prints, Forks}
@@ -119,6 +119,16 @@ module _ {P : Type 0} {b : _} {T : Type 0} (fault_count : T → ℕ) (onward : T
     follows = follows;
     count = omega (arith, count);
     each = λ d f. (subst (λ s. FitsPages s d) (sym same) f, subst (λ s. Gave stands out out true (plain m d) (state_of s d) []) (sym same) (gave_none stands true out (plain m d)));
+  }
+
+  pub silent_acted : {E : Type 0} (m : Machine P b) (out : T) (e : Event) → FollowsOne e [] → auto_after (auto m) e ≡ auto m → Acted {X = Unit {0}} {E = E} fault_count onward stands cut m m out out (Ok tt) e
+  silent_acted m out e follows mark = record {
+    taker = record { later = omega arith; cause = tt; goes_on = onward_nil onward out };
+    ok = nothing_given m m out e follows refl refl;
+    err = tt;
+    mark = sym mark;
+    live = refl;
+    most = refl;
   }
 
   module _ (m n : Machine P b) (a c : T) (k : ℕ) (so_far : Given stands m n a c (Run k)) where

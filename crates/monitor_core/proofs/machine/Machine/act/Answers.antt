@@ -1,0 +1,13 @@
+use Rattle.std.proofs.Common.{inl, inr, refl, sym, subst}
+use Rattle.plain_model.specs.declared.event.Event.TheVariants.{Evict, Drum}
+use Rattle.monitor_core.specs.Acts.{Acted}
+use Rattle.monitor_core.proofs.StepDid.{silent_acted}
+use Rattle.monitor_core.proofs.machine.Machine.act.Goals as goal
+
+pub returns-in-Evict : goal.returns-in-Evict
+returns-in-Evict g c = elim c.in-Evict.is [
+  | inl evicts ↦
+      subst (Acted g.T.Taker.fault_count g.T.Taker.onward g.T.Taker.stands g.T.Taker.cut c.args.self.now c.args.self.now c.args.out.now c.args.out.now _) (sym evicts.1) (silent_acted g.T.Taker.fault_count g.T.Taker.onward g.T.Taker.stands g.T.Taker.cut c.args.self.now c.args.out.now (Evict evicts.0) refl refl)
+  | inr transfers ↦
+      subst (Acted g.T.Taker.fault_count g.T.Taker.onward g.T.Taker.stands g.T.Taker.cut c.args.self.now c.args.self.now c.args.out.now c.args.out.now _) (sym transfers.1) (silent_acted g.T.Taker.fault_count g.T.Taker.onward g.T.Taker.stands g.T.Taker.cut c.args.self.now c.args.out.now (Drum transfers.0) refl refl)
+]
