@@ -1,16 +1,20 @@
--- A machine with nothing in it.
-use Rattle.std.proofs.Common.{◌≤◌, ◌≡◌, ℕ, zero, suc, ◌+◌, ◌<◌, length, get_or, Bool, false, Option, None, Some, refl, sym, ◌∙◌, ap, arith, replicate, slice_index}
+-- A system with nothing in it.
+use Rattle.std.proofs.Common.{◌≤◌, ◌≡◌, ℕ, zero, suc, ◌+◌, ◌*◌, ◌<◌, List, length, get_or, true, false, Option, None, Some, refl, sym, ◌∙◌, ap, arith, replicate, slice_index}
 use Rattle.std.proofs.lemmas.List.{length-replicate}
 use Rattle.std.specs.declared.cmp.Ordering.{Ordering}
+use Rattle.std.specs.Ordering.{nat_cmp}
 use Rattle.std.specs.FinMap as fin
+use Rattle.plain_model.specs.declared.names.TheConstants.{TERMINALS}
 use Rattle.plain_model.specs.declared.names.Tty.{Tty}
-use Rattle.plain_model.specs.declared.names.ForkName.{ForkName}
-use Rattle.plain_model.specs.State.{PlainPages, opening, opening_pages, first_serials}
+use Rattle.plain_model.specs.State.{opening, opening_pages, first_serials}
 use Rattle.plain_model.specs.Outcome.{DrumWords}
+use Rattle.plain_model.specs.Pages.{PagesMeaning}
 use Rattle.monitor_core.specs.declared.job.Job.{Job}
-use Rattle.monitor_core.specs.declared.machine.Machine.{Machine}
+use Rattle.monitor_core.specs.declared.system.System.{System}
 use Rattle.monitor_core.specs.Jobs.{map_from, plain_job, no_jobs, job_at, jobs_of, forks_of}
-use Rattle.monitor_core.specs.Machine.{plain, IsSound}
+use Rattle.monitor_core.specs.Sound.{AreSound}
+use Rattle.monitor_core.specs.Systems.{state_of, FitsPages, IsWithin, most_makings}
+use Rattle.monitor_core.proofs.Unfiled.{named}
 
 -- a table with no entry is the empty map
 none_from : {K X V : Type 0} {R : K → K → Ordering} (key : ℕ → X → K) (value : X → V) (n k : ℕ) → map_from {R = R} key value k (replicate n None) ≡ fin.empty
@@ -27,28 +31,42 @@ one_at zero i h = absurd (omega arith)
 one_at (suc n) zero h = refl
 one_at (suc n) (suc i) h = one_at n i (omega arith)
 
-module _ {P : Type 0} (m : Machine P) (jobs : m.jobs.items ≡ no_jobs 16) (serials : m.fork_serials.items ≡ replicate 16 1) (clock : m.clock ≡ 0) where
-  pub no_job : (t : ℕ) → job_at m.jobs.items t ≡ None
+module _ (jobs : List (Option Job)) (none : jobs ≡ no_jobs TERMINALS) where
+  no_job : (t : ℕ) → job_at jobs t ≡ None
   unfolding no_jobs
-  no_job t = ap (λ xs. job_at xs t) jobs ∙ none_at 16 t
+  no_job t = ap (λ js. job_at js t) none ∙ none_at TERMINALS t
 
-  pub booted : (pages : P → DrumWords → PlainPages) (limit : ℕ) (d : DrumWords) → pages m.pages d ≡ opening_pages limit → plain pages m d ≡ opening limit
-  unfolding opening first_serials no_jobs
-  booted pages limit d is =
-      let jobs_are : jobs_of m.jobs.items ≡ fin.empty = ap jobs_of jobs ∙ none_from (λ (t : ℕ) (j : Job). t) plain_job 16 0 in
-      let forks_are : forks_of m.jobs.items ≡ fin.empty = ap forks_of jobs ∙ none_from (λ (t : ℕ) (j : Job). j.top.name) (λ (j : Job). j.top) 16 0 in
-      λ i. record { pages = is i; files = fin.empty; jobs = jobs_are i; forks = forks_are i; fork_serials = serials i; clock = clock i; trace = false }
+  none_there : {A : Type 0} (t : ℕ) (j : Job) → job_at jobs t ≡ Some j → A
+  none_there t j e = absurd (let f : None ≡ Some j = sym (no_job t) ∙ e in cc f)
 
-  pub sound_boot : (lives : P → ForkName → Bool) (forks : P → Tty → ℕ) (serial : P → Tty → ℕ) → ((t : Tty) → forks m.pages t ≡ 0) → ((t : Tty) → serial m.pages t ≤ 1) → IsSound lives forks serial m
+  pub sound_boot : {P : Type 0} (means : PagesMeaning P) (p : P) (serials : List ℕ) → serials ≡ replicate TERMINALS 1 → means.flat ≡ true → 0 < means.most_forks → ((t : Tty) → means.forks_of p t ≡ 0) → AreSound means p jobs serials 0
   unfolding no_jobs
-  sound_boot lives forks serial none ones = record {
-    job_room = ap length jobs ∙ length-replicate {A = Option Job} 16 None;
-    serial_room = ap length serials ∙ length-replicate {A = ℕ} 16 1;
-    jobs = λ t j e. absurd (let f : None ≡ Some j = sym (no_job t) ∙ e in cc f);
-    alive = λ t j e. absurd (let f : None ≡ Some j = sym (no_job t) ∙ e in cc f);
-    absent = λ t e low. none t;
-    serials = λ t h. let is : slice_index m.fork_serials.items t ≡ 1 = ap (λ xs. slice_index xs t) serials ∙ one_at 16 t h in (omega (arith, is), omega (arith, is));
-    pages = λ t. omega (arith, ones t);
-    ticks = omega (arith, clock);
-    beyond = λ t h. no_job t;
+  sound_boot means p serials ones flat roomy forks = record {
+    flat = flat;
+    roomy = roomy;
+    job_room = ap length none ∙ length-replicate {A = Option Job} TERMINALS None;
+    serial_room = ap length ones ∙ length-replicate {A = ℕ} TERMINALS 1;
+    low = omega arith;
+    each_job = λ t j e. none_there t j e;
+    behind = λ t j e. none_there t j e;
+    alive = λ t j e. none_there t j e;
+    absent = λ t e low. forks t;
+    each_serial = λ t h. let is : slice_index serials t ≡ 1 = ap (λ xs. slice_index xs t) ones ∙ one_at TERMINALS t h in (omega (arith, is), omega (arith, is));
   }
+
+module _ {P : Type 0} {b : _} (m : System P b) (none : m.jobs.items ≡ no_jobs TERMINALS) (clock : m.clock ≡ 0) where
+  pub within_boot : ((t : Tty) → b.means.serial m.pages t ≤ 1) → IsWithin m 0
+  within_boot serials = record {
+    ticks = omega (arith, clock);
+    units = λ t j e. none_there m.jobs.items none t j e;
+    serials = λ t. omega (arith, serials t);
+  }
+
+  pub booted : (limit : ℕ) (d : DrumWords) → m.fork_serials.items ≡ replicate TERMINALS 1 → b.means.fits m.pages d → b.means.plain m.pages d ≡ opening_pages nat_cmp limit → FitsPages m d × (state_of m d ≡ opening limit)
+  unfolding opening opening_pages first_serials no_jobs
+  booted limit d serials fits is =
+      let jobs : jobs_of m.jobs.items ≡ fin.empty = ap jobs_of none ∙ none_from (λ (t : ℕ) (j : Job). t) plain_job TERMINALS 0 in
+      let forks : forks_of m.jobs.items ≡ fin.empty = ap forks_of none ∙ none_from (λ (t : ℕ) (j : Job). j.top.name) (λ (j : Job). j.top) TERMINALS 0 in (
+        record { pages = fits; unfiled = ap (λ p. p.files) is },
+        λ i. record { pages = named (is i); files = fin.empty; jobs = jobs i; forks = forks i; fork_serials = serials i; clock = clock i; trace = false },
+      )

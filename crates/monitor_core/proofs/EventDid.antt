@@ -1,151 +1,166 @@
--- An event that changes nothing; POKE and START of a machine.
-use Rattle.std.proofs.Common.{◌≡◌, ℕ, ◌<◌, ◌≤◌, ◌%◌, ◌∷◌, [], set, Bool, true, false, cond, Option, None, Some, refl, sym, ◌∙◌, ap, subst, arith, nat_lt, slice_set}
+-- The steps that are no job's: TICK, an idle entry, and LOGIN.
+use Rattle.std.proofs.Common.{◌≡◌, ◌≢◌, ℕ, ◌+◌, ◌*◌, ◌<◌, ◌≤◌, ◌||◌, [], ◌∷◌, ◌++◌, List, length, set, Bool, true, false, cond, Option, None, Some, inl, inr, refl, sym, ◌∙◌, ap, subst, arith, nat_lt, nat_le, is_some, slice_index, get_or-set_same, get_or-set_other}
+use Rattle.std.specs.Prelude.{codes}
+use Rattle.std.proofs.lemmas.Bool.{cases_eq}
 use Rattle.std.proofs.lemmas.Bool.Decides.{nat_tests}
+use Rattle.std.specs.Ordering.{nat_cmp}
 use Rattle.std.specs.FinMap as fin
+use Rattle.plain_model.specs.declared.names.TheConstants.{TERMINALS, LAST_SERIAL}
+use Rattle.plain_model.specs.declared.character.TheConstants.{PROMPT}
 use Rattle.plain_model.specs.declared.names.Tty.{Tty}
 use Rattle.plain_model.specs.declared.names.ForkName.{ForkName}
-use Rattle.plain_model.specs.declared.names.PageName.{PageName}
-use Rattle.plain_model.specs.declared.names.Kind.TheVariants.{Write as ToWrite}
-use Rattle.plain_model.specs.declared.event.Event.TheVariants.{Poke, Start}
-use Rattle.plain_model.specs.declared.event.Step.TheVariants.{Outer}
-use Rattle.plain_model.specs.declared.event.Item.TheVariants.{Refusal}
-use Rattle.plain_model.specs.declared.event.Refusal.TheVariants.{NoJob, Denied as ADenied, Full as AFull}
-use Rattle.plain_model.specs.State.{PlainState, PlainPages}
+use Rattle.plain_model.specs.declared.map.NewMap.TheVariants.{Empty as EmptyMap}
+use Rattle.plain_model.specs.declared.fork.TerminalMode.TheVariants.{Command}
+use Rattle.plain_model.specs.declared.event.Event.TheVariants.{Login, Tick}
+use Rattle.plain_model.specs.declared.event.Step.TheVariants.{Outer, Idle}
+use Rattle.plain_model.specs.declared.event.Item.TheVariants.{Char, Refusal}
+use Rattle.plain_model.specs.declared.event.Refusal.TheVariants.{Busy, SerialsOut, Full}
+use Rattle.plain_model.specs.Orders.{name_cmp}
+use Rattle.plain_model.specs.State.{PlainState, NumberedPages}
 use Rattle.plain_model.specs.Outcome.{DrumWords}
-use Rattle.plain_model.specs.References.{reference}
-use Rattle.plain_model.specs.Forks.{with_regs}
-use Rattle.plain_model.specs.Unit.{slot_at, is_filed}
-use Rattle.plain_model.specs.declared.event.Event.{Event}
-use Rattle.plain_model.specs.declared.fork.TerminalMode.TheVariants.{Program}
-use Rattle.plain_model.specs.Events.{poke, poke_of, poked, with_accumulator, start, start_of, with_start, restarted}
+use Rattle.plain_model.specs.Limits.{IsTerminal}
+use Rattle.plain_model.specs.Room.{live, HasRoom}
+use Rattle.plain_model.specs.Run.{apply}
+use Rattle.plain_model.specs.Forks.{top_fork}
+use Rattle.plain_model.specs.Unit.{Effect}
+use Rattle.plain_model.specs.Pages.{Agrees}
+use Rattle.plain_model.specs.Events.{refused, with_map, with_job, new_job, next_fork, login, outer}
+use Rattle.plain_model.proofs.Equations.{apply_outer, apply_idle, outer_login, outer_tick}
 use Rattle.monitor_core.specs.declared.job.Job.{Job}
-use Rattle.monitor_core.specs.declared.machine.Machine.{Machine}
-use Rattle.monitor_core.specs.declared.writing.Write.TheVariants.{Done, Denied, Full}
-use Rattle.monitor_core.specs.declared.writing.Write.{Write}
-use Rattle.monitor_core.specs.Writing.{IsWritten, poke_shown}
+use Rattle.monitor_core.specs.declared.reply.Reply.TheVariants.{Nothing, One}
+use Rattle.monitor_core.specs.declared.system.System.{System}
 use Rattle.monitor_core.specs.Jobs.{jobs_of, forks_of, job_at, plain_job}
-use Rattle.monitor_core.specs.Machine.{plain, IsSound}
-use Rattle.monitor_core.specs.Did.{Did, Shows}
-use Rattle.std.specs.Option.{option_to_list}
-use Rattle.plain_model.specs.declared.event.Item.{Item}
-use Rattle.monitor_core.proofs.Lookups.{job_found, job_missing, fork_found}
-use Rattle.monitor_core.proofs.UnitEffect.{job_stays}
-use Rattle.monitor_core.proofs.UnitDid.{unfiled, owns, plain_set}
+use Rattle.monitor_core.specs.Systems.{state_of, FitsPages, IsWithin, Did}
+use Rattle.monitor_core.proofs.Lookups.{job_found, job_missing, jobs_set, forks_set}
+use Rattle.monitor_core.proofs.Systems.{owns, within_later}
+use Rattle.plain_model.proofs.Refiled.{live_refiled}
+use Rattle.monitor_core.proofs.Rooms.{room_le, no_room_le, live_map, has_room}
+use Rattle.monitor_core.proofs.Unfiled.{named, alike}
+use Rattle.monitor_core.proofs.JobDid.{did_still}
 
-pub below : (a : ℕ) → a < 16 → nat_lt a 16 ≡ true
-below a h = grind (arith, nat_tests)
-
-pub not_below : (a : ℕ) → 16 ≤ a → nat_lt a 16 ≡ false
-not_below a h = grind (arith, nat_tests)
-
--- the poke of a page, by how the write ended
-poked_as : (s : PlainState) (t : Tty) (f : ForkName) (address word : ℕ) (q : PlainPages) (w : Write) → f.tty ≡ t → IsWritten (is_filed s) s.pages q (slot_at f address) (address % 512) word w
-    → poked s t (slot_at f address) (address % 512) word (reference (is_filed s) s.pages (slot_at f address) ToWrite t) ≡ record { state = record s { pages = q }; items = option_to_list (poke_shown t w) }
-poked_as s t f address word q Done own is =
-    ap (λ u. poked s t (slot_at f address) (address % 512) word (reference (is_filed s) s.pages (slot_at f address) ToWrite u)) (sym own)
-    ∙ ap (poked s t (slot_at f address) (address % 512) word) is.1
-    ∙ ap (λ p. record { state = record s { pages = p }; items = [] }) (sym is.2)
-poked_as s t f address word q Denied own is =
-    ap (λ u. poked s t (slot_at f address) (address % 512) word (reference (is_filed s) s.pages (slot_at f address) ToWrite u)) (sym own)
-    ∙ ap (poked s t (slot_at f address) (address % 512) word) is.1.1
-    ∙ ap (λ p. record { state = record s { pages = p }; items = Refusal (ADenied t) ∷ [] }) (sym is.0)
-poked_as s t f address word q Full own is =
-    ap (λ u. poked s t (slot_at f address) (address % 512) word (reference (is_filed s) s.pages (slot_at f address) ToWrite u)) (sym own)
-    ∙ ap (poked s t (slot_at f address) (address % 512) word) is.1
-    ∙ ap (λ p. record { state = record s { pages = p }; items = Refusal (AFull t) ∷ [] }) (sym is.0)
-
-module _ {P : Type 0} (fits : P → DrumWords → Type 0) (filed : P → DrumWords → PageName → Bool) (pages : P → DrumWords → PlainPages) (lives : P → ForkName → Bool) (forks : P → Tty → ℕ) (serial : P → Tty → ℕ) (m m' : Machine P) (s : IsSound lives forks serial m) (t : Tty) where
-  -- an event that changes nothing shows an item
-  pub did_shown : (e : Event) (item : Item) (shown : Option Item) → shown ≡ Some item → m'.pages ≡ m.pages → m'.jobs.items ≡ m.jobs.items → m'.fork_serials.items ≡ m.fork_serials.items → m'.clock ≡ m.clock
-      → Shows fits pages m e item
-      → Did fits filed pages m m' (Outer e) (option_to_list shown)
-  did_shown e item shown is same jobs serials clock why = record {
-    each = λ d f.
-        let old = plain pages m d in
-        let new : plain pages m' d ≡ old = λ i. record old { pages = pages (same i) d; jobs = jobs_of (jobs i); forks = forks_of (jobs i); fork_serials = serials i; clock = clock i } in (
-          record { pages = subst (λ p. fits p d) (sym same) f.pages; unfiled = λ n. ap (λ p. filed p d n) same ∙ f.unfiled n },
-          new ∙ ap (λ x. x.state) (sym (why.each d f.pages)),
-          ap option_to_list is ∙ ap (λ x. x.items) (sym (why.each d f.pages)),
-        );
+module _ {P : Type 0} {b : _} (m : System P b) where
+  pub did_idle : Did m m Idle Nothing
+  did_idle = record {
+    each = λ d f. let effect = apply_idle (state_of m d) in (f, ap (λ e. e.state) (sym effect), ap (λ e. e.items) (sym effect));
+    shown = tt;
+    within = λ entries w. within_later m entries (entries + 1) w (omega arith);
+    most = refl;
   }
 
-  pub no_poke : (address word : ℕ) → job_at m.jobs.items t.0 ≡ None → Shows fits pages m (Poke t address word) (Refusal (NoJob t))
-  no_poke address word at = record { each = λ d f. ap (poke_of (plain pages m d) t address word) (job_missing m.jobs.items t.0 at) }
+module _ {P : Type 0} {b : _} (m m' : System P b) where
+  pub did_tick : m'.pages ≡ m.pages → m'.jobs.items ≡ m.jobs.items → m'.fork_serials.items ≡ m.fork_serials.items → m'.clock ≡ m.clock + 1 → Did m m' (Outer Tick) Nothing
+  did_tick same jobs serials clock = record {
+    each = λ d f.
+        let old = state_of m d in
+        let effect = apply_outer old Tick ∙ outer_tick old in (
+          record { pages = subst (λ p. b.means.fits p d) (sym same) f.pages; unfiled = ap (λ p. (b.means.plain p d).files) same ∙ f.unfiled },
+          (λ i. record old { pages = named (b.means.plain (same i) d); jobs = jobs_of (jobs i); forks = forks_of (jobs i); fork_serials = serials i; clock = clock i }) ∙ ap (λ e. e.state) (sym effect),
+          ap (λ e. e.items) (sym effect),
+        );
+    shown = tt;
+    within = λ entries w. record {
+      ticks = omega (arith, clock, w.ticks);
+      units = λ t j e. omega (arith, w.units t j (ap (λ js. job_at js t) (sym jobs) ∙ e));
+      serials = λ t. omega (arith, ap (λ p. b.means.serial p t) same, w.serials t);
+    };
+    most = ap b.means.most same;
+  }
 
-  pub no_start : (address : ℕ) → job_at m.jobs.items t.0 ≡ None → Shows fits pages m (Start t address) (Refusal (NoJob t))
-  no_start address at = record { each = λ d f. ap (start_of (plain pages m d) t address) (job_missing m.jobs.items t.0 at) }
+pub missing : {X : Type 0} (o : Option X) → is_some o ≡ false → o ≡ None
+missing None h = refl
+missing (Some x) h = absurd (cc h)
 
-  module _ (j : Job) (at : job_at m.jobs.items t.0 ≡ Some j) where
-    own_tty : j.top.name.tty ≡ t
-    own_tty = λ i. record { 0 = (s.jobs t.0 j at).terminal i }
+over : (a b : ℕ) → a < b → nat_lt a b ≡ true
+over a b h = grind (arith, nat_tests)
 
-    pub did_accumulator : (address word : ℕ) (k : Job) → address < 16 → m'.jobs.items ≡ set m.jobs.items t.0 (Some k) → k ≡ record j { top = with_regs j.top (record j.top.body.regs { ac = slice_set j.top.body.regs.ac address word }) } → m'.pages ≡ m.pages → m'.fork_serials.items ≡ m.fork_serials.items → m'.clock ≡ m.clock
-        → Did fits filed pages m m' (Outer (Poke t address word)) []
-    did_accumulator address word k low set_to is same serials clock = record {
-      each = λ d f.
-          let old = plain pages m d in
-          let top = with_regs j.top (record j.top.body.regs { ac = slice_set j.top.body.regs.ac address word }) in
-          let job = s.jobs t.0 j at in
-          let there : fin.get old.jobs j.top.name.tty.0 ≡ Some (plain_job j) = ap (λ u. fin.get (jobs_of m.jobs.items) u) job.terminal ∙ job_found m.jobs.items t.0 j at in
-          let new : plain pages m' d ≡ record old { pages = pages m'.pages d; jobs = fin.insert (jobs_of m.jobs.items) j.top.name.tty.0 (plain_job k); forks = fin.insert (forks_of m.jobs.items) j.top.name k.top } =
-          plain_set fits filed pages lives forks serial m m' d t.0 j k s at set_to serials clock (ap (λ x. x.top.name) is) in
-          let effect : poke old t address word ≡ record { state = with_accumulator old address word (fin.get old.forks j.top.name); items = [] } =
-          ap (poke_of old t address word) (job_found m.jobs.items t.0 j at)
-          ∙ ap (λ b. cond b (record { state = with_accumulator old address word (fin.get old.forks j.top.name); items = [] }) (poked old t (slot_at j.top.name address) (address % 512) word (reference (is_filed old) old.pages (slot_at j.top.name address) ToWrite t))) (below address low) in
-          let state : with_accumulator old address word (fin.get old.forks j.top.name) ≡ record old { jobs = fin.insert old.jobs j.top.name.tty.0 (plain_job (record j { top = top })); forks = fin.insert old.forks j.top.name top } =
-          ap (with_accumulator old address word) (fork_found m.jobs.items t.0 j (owns fits filed pages lives forks serial m s) at) ∙ job_stays old j there job.top job.off top refl in
-          let mine : plain pages m' d ≡ record old { jobs = fin.insert old.jobs j.top.name.tty.0 (plain_job (record j { top = top })); forks = fin.insert old.forks j.top.name top } =
-          new ∙ (λ i. record old { pages = pages (same i) d; jobs = fin.insert old.jobs j.top.name.tty.0 (plain_job (is i)); forks = fin.insert old.forks j.top.name (is i).top }) in (
-            record { pages = subst (λ p. fits p d) (sym same) f.pages; unfiled = λ n. ap (λ p. filed p d n) same ∙ f.unfiled n },
-            mine ∙ sym state ∙ ap (λ e. e.state) (sym effect),
+not_over : (a b : ℕ) → b ≤ a → nat_lt a b ≡ false
+not_over a b h = grind (arith, nat_tests)
+
+module _ {P : Type 0} {b : _} (m : System P b) (t : Tty) (user : List ℕ) where
+  -- what LOGIN comes to, by its three questions
+  abbrev asked : DrumWords → Bool → Bool → Bool → Effect
+  asked d has out room =
+      let old = state_of m d in
+      cond has (refused old (Busy t)) (cond out (refused old (SerialsOut t)) (cond room (record { state = with_job old t user; items = Char t PROMPT ∷ [] }) (refused old (Full t))))
+
+  abbrev room : DrumWords → Bool
+  room d = HasRoom (with_map (state_of m d).pages (next_fork (state_of m d) t) EmptyMap) t
+
+  asks : (d : DrumWords) → outer (state_of m d) (Login t user) ≡ asked d (is_some (fin.get (state_of m d).jobs t.0)) (nat_lt LAST_SERIAL (slice_index m.fork_serials.items t.0)) (room d)
+  asks d = outer_login (state_of m d) t user
+
+  -- the terminal has a job
+  pub is_busy : (d : DrumWords) → is_some (job_at m.jobs.items t.0) ≡ true → outer (state_of m d) (Login t user) ≡ refused (state_of m d) (Busy t)
+  is_busy d has = asks d ∙ ap (λ h. asked d h (nat_lt LAST_SERIAL (slice_index m.fork_serials.items t.0)) (room d)) (there (job_at m.jobs.items t.0) refl has)
+    where
+      there : (o : Option Job) → job_at m.jobs.items t.0 ≡ o → is_some o ≡ true → is_some (fin.get (state_of m d).jobs t.0) ≡ true
+      there None is h = absurd (cc h)
+      there (Some j) is h = ap is_some (job_found m.jobs.items t.0 j is)
+
+  module _ (free : job_at m.jobs.items t.0 ≡ None) where
+    not_busy : (d : DrumWords) → outer (state_of m d) (Login t user) ≡ asked d false (nat_lt LAST_SERIAL (slice_index m.fork_serials.items t.0)) (room d)
+    not_busy d = asks d ∙ ap (λ h. asked d h (nat_lt LAST_SERIAL (slice_index m.fork_serials.items t.0)) (room d)) (ap is_some (job_missing m.jobs.items t.0 free))
+
+    -- its serials are used up
+    pub serials_are_out : (d : DrumWords) → LAST_SERIAL < slice_index m.fork_serials.items t.0 → outer (state_of m d) (Login t user) ≡ refused (state_of m d) (SerialsOut t)
+    serials_are_out d used = not_busy d ∙ ap (λ o. asked d false o (room d)) (over LAST_SERIAL (slice_index m.fork_serials.items t.0) used)
+
+    module _ (d : DrumWords) (f : FitsPages m d) (a : Agrees b.means m.pages (b.means.plain m.pages d)) (dead : b.means.lives m.pages (next_fork (state_of m d) t) ≡ false) (unused : slice_index m.fork_serials.items t.0 ≤ LAST_SERIAL) where
+      room_is : room d ≡ nat_le (b.means.count m.pages + 1) (b.means.most m.pages)
+      room_is =
+          let p = b.means.plain m.pages d in
+          let name = next_fork (state_of m d) t in
+          let none : fin.get p.maps name ≡ None = missing (fin.get p.maps name) (sym (a.living name) ∙ dead) in
+          let counted : live (named p) ≡ b.means.count m.pages = live_refiled name_cmp p fin.empty (alike p f.unfiled) ∙ sym a.number in
+          has_room (with_map (named p) name EmptyMap) t (b.means.count m.pages + 1) (b.means.most m.pages) (live_map (named p) name none ∙ ap (λ n. n + 1) counted) (sym a.bound)
+
+      answered : (r : Bool) → nat_le (b.means.count m.pages + 1) (b.means.most m.pages) ≡ r → outer (state_of m d) (Login t user) ≡ asked d false false r
+      answered r is =
+          not_busy d ∙ ap (λ o. asked d false o (room d)) (not_over LAST_SERIAL (slice_index m.fork_serials.items t.0) unused) ∙ ap (asked d false false) (room_is ∙ is)
+
+      -- there is no room
+      pub is_full : b.means.most m.pages ≤ b.means.count m.pages → outer (state_of m d) (Login t user) ≡ refused (state_of m d) (Full t)
+      is_full filled = answered false (no_room_le (b.means.count m.pages + 1) (b.means.most m.pages) (omega (arith, filled)))
+
+      pub logs_in : b.means.count m.pages < b.means.most m.pages → ◌≡◌ {A = Effect} (outer (state_of m d) (Login t user)) (record { state = with_job (state_of m d) t user; items = Char t PROMPT ∷ [] })
+      logs_in roomy = answered true (room_le (b.means.count m.pages + 1) (b.means.most m.pages) (omega (arith, roomy)))
+
+    -- the job is made
+    pub did_login : (m' : System P b) (k : Job) (f : ForkName) → IsTerminal t → slice_index m.fork_serials.items t.0 ≤ LAST_SERIAL → ((d : DrumWords) → b.means.fits m.pages d → Agrees b.means m.pages (b.means.plain m.pages d)) → ((d : DrumWords) → b.means.lives m.pages (next_fork (state_of m d) t) ≡ false)
+        → b.means.count m.pages < b.means.most m.pages → f.tty ≡ t → f.serial ≡ slice_index m.fork_serials.items t.0 → m'.jobs.items ≡ set m.jobs.items t.0 (Some k) → k.user ≡ user → k.mode ≡ Command → k.top ≡ top_fork f → m'.fork_serials.items ≡ set m.fork_serials.items t.0 (f.serial + 1) → m'.clock ≡ m.clock
+        → ((d : DrumWords) → b.means.fits m.pages d → b.means.fits m'.pages d × (b.means.plain m'.pages d ≡ with_map (b.means.plain m.pages d) f EmptyMap)) → b.means.serial m'.pages ≡ b.means.serial m.pages → b.means.most m'.pages ≡ b.means.most m.pages
+        → Did m m' (Outer (Login t user)) (One (Char t PROMPT))
+    did_login m' k f low unused agrees dead room own numbered set_to user_is mode top serials clock told pages most = record {
+      each = λ d fits.
+          let old = state_of m d in
+          let added = told d fits.pages in
+          let within : t.0 < length m.jobs.items = omega (arith, m.sound.job_room, low) in
+          let next_is : f ≡ next_fork old t = λ i. record { tty = own i; serial = numbered i } in
+          let there : k.top.name.tty.0 ≡ t.0 = ap (λ g. g.name.tty.0) top ∙ ap (λ u. u.0) own in
+          let plain_k : plain_job k ≡ new_job user f = λ i. record (new_job user f) { user = user_is i; mode = mode i; top = (top i).name } in
+          let jobs : jobs_of m'.jobs.items ≡ fin.insert old.jobs t.0 (new_job user f) = ap jobs_of set_to ∙ jobs_set m.jobs.items t.0 k within ∙ ap (fin.insert old.jobs t.0) plain_k in
+          let forks : forks_of m'.jobs.items ≡ fin.insert old.forks f (top_fork f) =
+          ap forks_of set_to ∙ forks_set m.jobs.items t.0 k (owns m) within there (λ x e. absurd (let g : None ≡ Some x = sym free ∙ e in cc g))
+          ∙ (λ i. fin.insert old.forks (top i).name (top i)) in
+          let mine : state_of m' d ≡ record old { pages = with_map old.pages f EmptyMap; jobs = fin.insert old.jobs t.0 (new_job user f); forks = fin.insert old.forks f (top_fork f); fork_serials = set old.fork_serials t.0 (f.serial + 1) } =
+          λ i. record old { pages = named (added.1 i); jobs = jobs i; forks = forks i; fork_serials = serials i; clock = clock i } in
+          let made : ◌≡◌ {A = PlainState} (record old { pages = with_map old.pages f EmptyMap; jobs = fin.insert old.jobs t.0 (new_job user f); forks = fin.insert old.forks f (top_fork f); fork_serials = set old.fork_serials t.0 (f.serial + 1) }) (with_job old t user) =
+          ap (λ g. record old { pages = with_map old.pages g EmptyMap; jobs = fin.insert old.jobs t.0 (new_job user g); forks = fin.insert old.forks g (top_fork g); fork_serials = set old.fork_serials t.0 (g.serial + 1) }) next_is in
+          let effect = apply_outer old (Login t user) ∙ logs_in d fits (agrees d fits.pages) (dead d) unused room in (
+            record { pages = added.0; unfiled = ap (λ p. p.files) added.1 ∙ fits.unfiled },
+            mine ∙ made ∙ ap (λ e. e.state) (sym effect),
             ap (λ e. e.items) (sym effect),
           );
-    }
-
-    pub did_page : (address word : ℕ) (top : ForkName) (w : Write) → 16 ≤ address → top ≡ j.top.name → m'.jobs.items ≡ m.jobs.items → m'.fork_serials.items ≡ m.fork_serials.items → m'.clock ≡ m.clock
-        → ((d : DrumWords) → fits m.pages d → fits m'.pages d × IsWritten (filed m.pages d) (pages m.pages d) (pages m'.pages d) (slot_at top address) (address % 512) word w × (filed m'.pages d ≡ filed m.pages d))
-        → Did fits filed pages m m' (Outer (Poke t address word)) (option_to_list (poke_shown t w))
-    did_page address word top w high named jobs serials clock wrote = record {
-      each = λ d f.
-          let old = plain pages m d in
-          let done = wrote d f.pages in
-          let written : IsWritten (is_filed old) old.pages (pages m'.pages d) (slot_at j.top.name address) (address % 512) word w =
-          subst (λ n. IsWritten (is_filed old) old.pages (pages m'.pages d) (slot_at n address) (address % 512) word w) named
-          (subst (λ x. IsWritten x old.pages (pages m'.pages d) (slot_at top address) (address % 512) word w) (unfiled fits filed pages m d f) done.1) in
-          let effect : poke old t address word ≡ record { state = record old { pages = pages m'.pages d }; items = option_to_list (poke_shown t w) } =
-          ap (poke_of old t address word) (job_found m.jobs.items t.0 j at)
-          ∙ ap (λ b. cond b (record { state = with_accumulator old address word (fin.get old.forks j.top.name); items = [] }) (poked old t (slot_at j.top.name address) (address % 512) word (reference (is_filed old) old.pages (slot_at j.top.name address) ToWrite t))) (not_below address high)
-          ∙ poked_as old t j.top.name address word (pages m'.pages d) w own_tty written in
-          let new : plain pages m' d ≡ record old { pages = pages m'.pages d } = λ i. record old { pages = pages m'.pages d; jobs = jobs_of (jobs i); forks = forks_of (jobs i); fork_serials = serials i; clock = clock i } in (
-            record { pages = done.0; unfiled = λ n. ap (λ x. x n) done.2 ∙ f.unfiled n },
-            new ∙ ap (λ e. e.state) (sym effect),
-            ap (λ e. e.items) (sym effect),
-          );
-    }
-
-    pub did_page_of : (address word : ℕ) (top : ForkName) (w : Write) (shown : Option Item) → 16 ≤ address → top ≡ j.top.name → m'.jobs.items ≡ m.jobs.items → m'.fork_serials.items ≡ m.fork_serials.items → m'.clock ≡ m.clock
-        → ((d : DrumWords) → fits m.pages d → fits m'.pages d × IsWritten (filed m.pages d) (pages m.pages d) (pages m'.pages d) (slot_at top address) (address % 512) word w × (filed m'.pages d ≡ filed m.pages d))
-        → shown ≡ poke_shown t w → Did fits filed pages m m' (Outer (Poke t address word)) (option_to_list shown)
-    did_page_of address word top w shown high named jobs serials clock wrote is =
-        subst (λ x. Did fits filed pages m m' (Outer (Poke t address word)) (option_to_list x)) (sym is) (did_page address word top w high named jobs serials clock wrote)
-
-    pub did_start : (address : ℕ) (k : Job) → m'.jobs.items ≡ set m.jobs.items t.0 (Some k) → k.user ≡ j.user → k.mode ≡ Program → k.top ≡ restarted j.top address → m'.pages ≡ m.pages → m'.fork_serials.items ≡ m.fork_serials.items → m'.clock ≡ m.clock
-        → Did fits filed pages m m' (Outer (Start t address)) []
-    did_start address k set_to user mode top same serials clock = record {
-      each = λ d f.
-          let old = plain pages m d in
-          let job = s.jobs t.0 j at in
-          let new : plain pages m' d ≡ record old { pages = pages m'.pages d; jobs = fin.insert (jobs_of m.jobs.items) j.top.name.tty.0 (plain_job k); forks = fin.insert (forks_of m.jobs.items) j.top.name k.top } =
-          plain_set fits filed pages lives forks serial m m' d t.0 j k s at set_to serials clock (ap (λ x. x.name) top) in
-          let effect : start old t address ≡ record { state = record (with_start old address (fin.get old.forks j.top.name)) { jobs = fin.insert old.jobs t.0 (record (plain_job j) { mode = Program }) }; items = [] } =
-          ap (start_of old t address) (job_found m.jobs.items t.0 j at) in
-          let state : with_start old address (fin.get old.forks j.top.name) ≡ record old { forks = fin.insert old.forks j.top.name (restarted j.top address) } =
-          ap (with_start old address) (fork_found m.jobs.items t.0 j (owns fits filed pages lives forks serial m s) at) in
-          let plain_k : plain_job k ≡ record (plain_job j) { mode = Program } = λ i. record (plain_job j) { user = user i; mode = mode i; top = (top i).name } in (
-            record { pages = subst (λ p. fits p d) (sym same) f.pages; unfiled = λ n. ap (λ p. filed p d n) same ∙ f.unfiled n },
-            new ∙ (λ i. record old { pages = pages (same i) d; jobs = fin.insert old.jobs (job.terminal i) (plain_k i); forks = fin.insert old.forks j.top.name (top i) })
-                ∙ (λ i. record (sym state i) { jobs = fin.insert old.jobs t.0 (record (plain_job j) { mode = Program }) })
-                ∙ ap (λ e. e.state) (sym effect),
-            ap (λ e. e.items) (sym effect),
-          );
+      shown = (low, omega arith);
+      within = λ entries w. record {
+        ticks = omega (arith, clock, w.ticks);
+        units = λ u i e. elim (cases_eq u t.0) [
+          | inl same ↦
+              let here : Some k ≡ Some i = sym (get_or-set_same m.jobs.items t.0 (Some k) None (omega (arith, m.sound.job_room, low))) ∙ ap (job_at (set m.jobs.items t.0 (Some k))) (sym same) ∙ ap (λ js. job_at js u) (sym set_to) ∙ e in
+              let is : k ≡ i = cc here in omega (arith, ap (λ x. x.top.body.units) is, ap (λ g. g.body.units) top)
+          | inr ne ↦ omega (arith, w.units u i (sym (get_or-set_other m.jobs.items t.0 u (Some k) None ne) ∙ ap (λ js. job_at js u) (sym set_to) ∙ e))
+        ];
+        serials = λ u. omega (arith, ap (λ s. s u) pages, w.serials u);
+      };
+      most = most;
     }

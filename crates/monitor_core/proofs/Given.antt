@@ -1,25 +1,24 @@
--- Items that are given in pieces.
-use Rattle.std.proofs.Common.{◌≡◌, ℕ, ◌<◌, ◌+◌, List, [], ◌∷◌, ◌++◌, length, take, drop, get_or, sym, ◌∙◌, ap, subst, append_assoc, take-append-drop}
+-- Items and steps that are given in pieces.
+use Rattle.std.proofs.Common.{◌≡◌, ℕ, ◌<◌, ◌≤◌, ◌+◌, List, [], ◌∷◌, ◌++◌, length, take, drop, get_or, sym, ◌∙◌, ap, arith, take-append-drop}
 use Rattle.std.specs.Prelude.{Result, Ok, Err, OnErr, codes}
-use Rattle.std.proofs.lemmas.List.{append-nil, map-append, take_more, drop_more}
+use Rattle.std.specs.Result.{IsErr}
+use Rattle.std.proofs.lemmas.List.{map-append, take_more, drop_more}
+use Rattle.std.proofs.lemmas.Result.{on_ok_weaker, on_err_weaker}
+use Rattle.plain_model.specs.declared.character.TheConstants.{CARRIAGE_RETURN, LINE_FEED, PROMPT}
 use Rattle.plain_model.specs.declared.names.Tty.{Tty}
 use Rattle.plain_model.specs.declared.event.Item.{Item}
 use Rattle.plain_model.specs.declared.event.Item.TheVariants.{Char}
 use Rattle.plain_model.specs.declared.event.Step.{Step}
 use Rattle.plain_model.specs.Taker.{GoesOn, IsCut}
 use Rattle.plain_model.specs.Unit.{printed}
-use Rattle.plain_model.proofs.Runs.{goes_on_append, cut_behind, cut_longer}
-
--- a fact that holds, holds of an error
-pub on_err : {X E P : Type 0} (r : Result X E) → P → OnErr r P
-on_err (Ok x) p = tt
-on_err (Err e) p = p
+use Rattle.plain_model.proofs.Runs.{onward_then, goes_on_append, cut_behind, cut_longer}
+use Rattle.monitor_core.specs.Giving.{StaysTaker, Takes}
 
 abbrev pub forced_start : List ℕ
-forced_start = 13 ∷ 10 ∷ codes "?FORCED "
+forced_start = CARRIAGE_RETURN ∷ LINE_FEED ∷ codes "?FORCED "
 
 abbrev pub forced_end : List ℕ
-forced_end = 13 ∷ 10 ∷ 64 ∷ []
+forced_end = CARRIAGE_RETURN ∷ LINE_FEED ∷ PROMPT ∷ []
 
 pub printed_append : (t : Tty) (xs ys : List ℕ) → printed t (xs ++ ys) ≡ printed t xs ++ printed t ys
 printed_append t xs ys = map-append (Char t) xs ys
@@ -33,39 +32,37 @@ printed_split t text i h = ap (printed t) (sym (take-append-drop i text)) ∙ pr
 pub printed_three : (t : Tty) (xs ys zs : List ℕ) → printed t (xs ++ (ys ++ zs)) ≡ printed t xs ++ (printed t ys ++ printed t zs)
 printed_three t xs ys zs = printed_append t xs (ys ++ zs) ∙ ap (λ l. printed t xs ++ l) (printed_append t ys zs)
 
-module _ {T : Type 0} (stands cut : T → T → List Item → List Step → Type 0) (a b : T) where
-  -- a failure at one of the characters
-  pub cut_at : (c : T) (t : Tty) (text : List ℕ) (i : ℕ) → i < length text → GoesOn stands a b (printed t (take i text)) [] → IsCut stands cut b c (Char t (get_or text i 0) ∷ []) [] → IsCut stands cut a c (printed t text) []
-  cut_at c t text i h went failed =
-      let here = cut_behind stands cut a b c (printed t (take i text)) (Char t (get_or text i 0) ∷ []) [] [] went failed in
-      let longer = cut_longer stands cut a c (printed t (take i text) ++ Char t (get_or text i 0) ∷ []) (printed t (drop (i + 1) text)) [] [] here in
-      subst (λ is. IsCut stands cut a c is []) (append_assoc (printed t (take i text)) (Char t (get_or text i 0) ∷ []) (printed t (drop (i + 1) text)) ∙ sym (printed_split t text i h)) longer
+-- a fact that holds, holds of an error
+pub on_err : {X E P : Type 0} (r : Result X E) → P → OnErr r P
+on_err (Ok x) p = tt
+on_err (Err e) p = p
 
--- a step behind the items that it shows
-module _ {T : Type 0} (stands cut : T → T → List Item → List Step → Type 0) (a b c : T) (items : List Item) (step : Step) where
-  pub cut_before : IsCut stands cut a b items [] → IsCut stands cut a b items (step ∷ [])
-  cut_before failed = subst (λ is. IsCut stands cut a b is (step ∷ [])) (append-nil items) (cut_longer stands cut a b items [] [] (step ∷ []) failed)
+-- a call of a taker behind another
+module _ {T X E : Type 0} (fault_count : T → ℕ) (onward : T → T → Type 0) where
+  pub taker_then : {Y F : Type 0} (a b c : T) (q : Result Y F) (r : Result X E) → StaysTaker fault_count onward a b q → StaysTaker fault_count onward b c r → StaysTaker fault_count onward a c r
+  taker_then a b c q r f g = record {
+    later = omega (arith, f.later, g.later);
+    cause = on_err_weaker r (λ h. omega (arith, h, f.later)) g.cause;
+    goes_on = onward_then onward a b c f.goes_on g.goes_on;
+  }
 
-  pub cut_behind_items : GoesOn stands a b items [] → IsCut stands cut b c [] (step ∷ []) → IsCut stands cut a c items (step ∷ [])
-  cut_behind_items went failed = subst (λ is. IsCut stands cut a c is (step ∷ [])) (append-nil items) (cut_behind stands cut a b c items [] [] (step ∷ []) went failed)
+  -- a failure that is handed on
+  pub taker_failed : {Y : Type 0} (a b : T) (e : E) (r : Result X E) → StaysTaker {X = Y} {E = E} fault_count onward a b (Err e) → StaysTaker fault_count onward a b r
+  taker_failed a b e r f = record { later = f.later; cause = on_err r f.cause; goes_on = f.goes_on }
 
--- three texts, one after another
-module _ {T : Type 0} (stands cut : T → T → List Item → List Step → Type 0) (a b : T) (t : Tty) (xs ys zs : List ℕ) where
-  pub cut_first : IsCut stands cut a b (printed t xs) [] → IsCut stands cut a b (printed t (xs ++ (ys ++ zs))) []
-  cut_first failed =
-      subst (λ is. IsCut stands cut a b is []) (sym (printed_three t xs ys zs)) (cut_longer stands cut a b (printed t xs) (printed t ys ++ printed t zs) [] [] failed)
+module _ {T X E : Type 0} (stands cut : T → T → List Item → List Step → Type 0) where
+  -- all was taken
+  pub takes_all : (a b : T) (x : X) (items : List Item) (steps : List Step) → GoesOn stands a b items steps → Takes {X = X} {E = E} stands cut a b (Ok x) items steps
+  takes_all a b x items steps went = record { ok = went; err = tt }
 
-  pub cut_second : (c : T) → GoesOn stands a b (printed t xs) [] → IsCut stands cut b c (printed t ys) [] → IsCut stands cut a c (printed t (xs ++ (ys ++ zs))) []
-  cut_second c went failed =
-      let longer = cut_longer stands cut b c (printed t ys) (printed t zs) [] [] failed in
-      subst (λ is. IsCut stands cut a c is []) (sym (printed_three t xs ys zs)) (cut_behind stands cut a b c (printed t xs) (printed t ys ++ printed t zs) [] [] went longer)
+  -- a failure within what was given
+  pub takes_part : (a b : T) (r : Result X E) (items more : List Item) (steps rest : List Step) → IsErr r → IsCut stands cut a b items steps → Takes stands cut a b r (items ++ more) (steps ++ rest)
+  takes_part a b (Ok x) items more steps rest fails failed = absurd (cc fails)
+  takes_part a b (Err e) items more steps rest fails failed = record { ok = tt; err = cut_longer stands cut a b items more steps rest failed }
 
-  pub all_three : (c d : T) → GoesOn stands a b (printed t xs) [] → GoesOn stands b c (printed t ys) [] → GoesOn stands c d (printed t zs) [] → GoesOn stands a d (printed t (xs ++ (ys ++ zs))) []
-  all_three c d one two three =
-      let rest = goes_on_append stands b c d (printed t ys) (printed t zs) [] [] two three in
-      subst (λ is. GoesOn stands a d is []) (sym (printed_three t xs ys zs)) (goes_on_append stands a b d (printed t xs) (printed t ys ++ printed t zs) [] [] one rest)
-
-  pub cut_third : (c d : T) → GoesOn stands a b (printed t xs) [] → GoesOn stands b c (printed t ys) [] → IsCut stands cut c d (printed t zs) [] → IsCut stands cut a d (printed t (xs ++ (ys ++ zs))) []
-  cut_third c d one two failed =
-      let rest = cut_behind stands cut b c d (printed t ys) (printed t zs) [] [] two failed in
-      subst (λ is. IsCut stands cut a d is []) (sym (printed_three t xs ys zs)) (cut_behind stands cut a b d (printed t xs) (printed t ys ++ printed t zs) [] [] one rest)
+  -- what is given behind what was taken
+  pub takes_then : (a b c : T) (r : Result X E) (items more : List Item) (steps rest : List Step) → GoesOn stands a b items steps → Takes stands cut b c r more rest → Takes stands cut a c r (items ++ more) (steps ++ rest)
+  takes_then a b c r items more steps rest went given = record {
+    ok = on_ok_weaker r (goes_on_append stands a b c items more steps rest went) given.ok;
+    err = on_err_weaker r (cut_behind stands cut a b c items more steps rest went) given.err;
+  }

@@ -1,20 +1,20 @@
-pub mod StoreObjects
-pub mod StoreMaps
-pub mod SingleLink
-pub mod StoreSteps
-pub mod StoreSound
+mod Making
+mod Fetches
+mod Looks
+mod Writes
 mod Given
 mod MapFrom
 mod Values
-mod Fetches
-mod Sounds
-mod UnitEffect
 mod Lookups
+mod Sounds
+mod Unfiled
+mod UnitEffect
+mod Systems
 mod UnitDid
-mod Writes
+mod JobDid
+mod ForksShown
+mod Rooms
 mod EventDid
-mod ExamineDid
-mod ForksDid
-mod LoginDid
-mod TurnDid
 mod BootDid
+mod Runnable
+mod StepDid

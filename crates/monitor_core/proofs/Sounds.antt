@@ -1,35 +1,42 @@
--- What stays true of a machine.
-use Rattle.std.proofs.Common.{◌≡◌, ◌≢◌, ◌⊎◌, inl, inr, ℕ, ◌+◌, ◌*◌, ◌<◌, ◌≤◌, ◌%◌, ◌^◌, ◌&&◌, List, length, get_or, set, Bool, true, false, cond, Option, None, Some, refl, sym, ◌∙◌, ap, subst, arith, get_or-set_same, get_or-set_other, length-set, is_some, ◌==◌, slice_index, nat_lt}
+-- What stays true of a system's tables.
+use Rattle.std.proofs.Common.{◌≡◌, ◌≢◌, ◌⊎◌, inl, inr, ℕ, ◌+◌, ◌<◌, ◌≤◌, ◌%◌, ◌^◌, ◌&&◌, ◌||◌, List, length, get_or, set, max, Bool, true, false, cond, Option, None, Some, refl, sym, ◌∙◌, ap, subst, arith, rules, get_or-set_same, get_or-set_other, length-set, is_some, ◌==◌, slice_index, nat_lt}
 use Rattle.std.proofs.lemmas.Bool.{cases_eq, cases_Bool}
 use Rattle.std.proofs.lemmas.Bool.Decides.{nat_tests}
 use Rattle.std.proofs.lemmas.List.{get_or_default}
 use Rattle.std.specs.Int.{bit_at}
+use Rattle.plain_model.specs.declared.opcode.TheConstants.{JSYS, MOVEI, JRST}
+use Rattle.plain_model.specs.declared.call.TheConstants.{PBOUT, HALTF}
+use Rattle.plain_model.specs.declared.channel.TheConstants.{ILLEGAL_INSTRUCTION}
+use Rattle.plain_model.specs.declared.names.TheConstants.{TERMINALS, LAST_SERIAL, ACCUMULATORS}
 use Rattle.plain_model.specs.declared.names.Tty.{Tty}
 use Rattle.plain_model.specs.declared.names.ForkName.{ForkName}
 use Rattle.plain_model.specs.declared.fork.Fork.{Fork}
 use Rattle.plain_model.specs.declared.fork.ForkStatus.TheVariants.{Forced as AForced, Halted as AHalted}
-use Rattle.plain_model.specs.Limits.{FitsStatus}
-use Rattle.plain_model.specs.Forks.{with_regs, with_status, counted}
+use Rattle.plain_model.specs.Forks.{top_fork, first_regs, psi_at_rest, with_regs, with_status, counted}
 use Rattle.plain_model.specs.Events.{restarted}
 use Rattle.plain_model.specs.Interrupts.{posted, pended, is_panic}
+use Rattle.plain_model.specs.Pages.{PagesMeaning, same_fork}
 use Rattle.plain_model.specs.Unit.{Deed, goes, calls, traps, deed_of, advanced, movei, jrst, opcode, index_field, y_field, ac_field}
 use Rattle.monitor_core.specs.declared.job.Job.{Job}
-use Rattle.monitor_core.specs.declared.machine.Machine.{Machine}
 use Rattle.monitor_core.specs.declared.fetch.Fetched.{Fetched}
 use Rattle.monitor_core.specs.declared.fetch.Fetched.TheVariants.{Word, Blank, Trap}
 use Rattle.monitor_core.specs.Fetch.{fork_fetched, FitsFetch}
 use Rattle.monitor_core.specs.ForkUnit.{fork_after}
 use Rattle.monitor_core.specs.Jobs.{job_at}
 use Rattle.monitor_core.specs.JobUnit.{job_fetched}
-use Rattle.monitor_core.specs.Machine.{IsJob, IsSound}
+use Rattle.monitor_core.specs.Sound.{FitsForced, IsJob, AreSound}
+use Rattle.monitor_core.specs.Writing.{with_word}
 
 -- what stands in a list stands there whatever is beyond it
 pub stands : {X : Type 0} (xs : List X) (i : ℕ) (a b : X) → i < length xs → get_or xs i a ≡ get_or xs i b
 stands xs i a b h = get_or_default xs i a b h
 
--- an entry that was read by its index is the job of that terminal
-pub job_read : (jobs : List (Option Job)) (t : ℕ) (o : Option Job) (j : Job) → length jobs ≡ 16 → t < 16 → o ≡ get_or jobs t o → o ≡ Some j → job_at jobs t ≡ Some j
-job_read jobs t o j room low read is = stands jobs t None o (omega (arith, room, low)) ∙ sym read ∙ is
+-- an entry that was read by its index is what the terminal has
+pub entry_read : (jobs : List (Option Job)) (t : ℕ) (o : Option Job) → length jobs ≡ TERMINALS → t < TERMINALS → o ≡ get_or jobs t o → job_at jobs t ≡ o
+entry_read jobs t o room low read = stands jobs t None o (omega (arith, room, low)) ∙ sym read
+
+pub job_read : (jobs : List (Option Job)) (t : ℕ) (o : Option Job) (j : Job) → length jobs ≡ TERMINALS → t < TERMINALS → o ≡ get_or jobs t o → o ≡ Some j → job_at jobs t ≡ Some j
+job_read jobs t o j room low read is = entry_read jobs t o room low read ∙ is
 
 -- a fork whose interrupts are off is forced by a panic channel
 pub posted_off : (f : Fork) (channel : ℕ) → f.body.psi.on ≡ false → is_panic channel ≡ true → posted f channel ≡ with_status f (AForced channel)
@@ -42,21 +49,24 @@ pub record Kept (f g : Fork) : Type 0 where
   pub name : g.name ≡ f.name
   pub slot : g.slot ≡ f.slot
   pub superior : g.superior ≡ f.superior
-  pub status : FitsStatus f.body.status → FitsStatus g.body.status
+  pub status : FitsForced f.body.status → FitsForced g.body.status
   pub on : g.body.psi.on ≡ f.body.psi.on
   pub pc : g.body.regs.pc < 2 ^ 18
-  pub accumulators : length g.body.regs.ac ≡ 16
+  pub accumulators : length g.body.regs.ac ≡ ACCUMULATORS
   pub units : g.body.units ≡ f.body.units + 1
 
 -- the limits of a deed
 abbrev pub FitsDeed : Fork → Deed → Type 0
-FitsDeed f (goes regs) = (regs.pc < 2 ^ 18) × (length regs.ac ≡ 16)
+FitsDeed f (goes regs) = (regs.pc < 2 ^ 18) × (length regs.ac ≡ ACCUMULATORS)
 FitsDeed f (calls number) = Unit {0}
 FitsDeed f (traps channel) = (is_panic channel ≡ true) × (channel < 36)
 
-module _ (f : Fork) (off : f.body.psi.on ≡ false) (pc : f.body.regs.pc < 2 ^ 18) (accumulators : length f.body.regs.ac ≡ 16) where
+forced_fits : (channel : ℕ) → channel < 36 → FitsForced (AForced channel)
+forced_fits channel few c h = let same : channel ≡ c = cc h in omega (arith, few, same)
+
+module _ (f : Fork) (off : f.body.psi.on ≡ false) (pc : f.body.regs.pc < 2 ^ 18) (accumulators : length f.body.regs.ac ≡ ACCUMULATORS) where
   trap_keeps : (channel : ℕ) → is_panic channel ≡ true → channel < 36 → Kept f (counted (posted f channel))
-  trap_keeps channel panic few = subst (λ g. Kept f (counted g)) (sym (posted_off f channel off panic)) (record { name = refl; slot = refl; superior = refl; status = λ h. few; on = refl; pc = pc; accumulators = accumulators; units = refl })
+  trap_keeps channel panic few = subst (λ g. Kept f (counted g)) (sym (posted_off f channel off panic)) (record { name = refl; slot = refl; superior = refl; status = λ h. forced_fits channel few; on = refl; pc = pc; accumulators = accumulators; units = refl })
 
   wrapped : (n : ℕ) → n % 2 ^ 18 < 2 ^ 18
   wrapped n = omega arith
@@ -68,12 +78,12 @@ module _ (f : Fork) (off : f.body.psi.on ≡ false) (pc : f.body.regs.pc < 2 ^ 1
   pub deed_fits : (w : ℕ) → FitsDeed f (deed_of f.body.regs w)
   deed_fits w =
       let regs = f.body.regs in
-      let last = cond (opcode w == 68) (calls (y_field w)) (traps 15) in
-      let middle = cond ((opcode w == 172) && (ac_field w == 0)) (jrst regs w) last in
-      let illegal : FitsDeed f (traps 15) = (refl, omega arith) in
-      fits_if (index_field w == 0) (cond (opcode w == 129) (movei regs w) middle) (traps 15)
-      (fits_if (opcode w == 129) (movei regs w) middle (wrapped (regs.pc + 1), length-set regs.ac (ac_field w) (y_field w) ∙ accumulators)
-      (fits_if ((opcode w == 172) && (ac_field w == 0)) (jrst regs w) last (wrapped w, accumulators) (fits_if (opcode w == 68) (calls (y_field w)) (traps 15) tt illegal)))
+      let last = cond (opcode w == JSYS) (calls (y_field w)) (traps ILLEGAL_INSTRUCTION) in
+      let middle = cond ((opcode w == JRST) && (ac_field w == 0)) (jrst regs w) last in
+      let illegal : FitsDeed f (traps ILLEGAL_INSTRUCTION) = (refl, omega arith) in
+      fits_if (index_field w == 0) (cond (opcode w == MOVEI) (movei regs w) middle) (traps ILLEGAL_INSTRUCTION)
+      (fits_if (opcode w == MOVEI) (movei regs w) middle (wrapped (regs.pc + 1), length-set regs.ac (ac_field w) (y_field w) ∙ accumulators)
+      (fits_if ((opcode w == JRST) && (ac_field w == 0)) (jrst regs w) last (wrapped w, accumulators) (fits_if (opcode w == JSYS) (calls (y_field w)) (traps ILLEGAL_INSTRUCTION) tt illegal)))
       illegal
 
   kept_if : (b : Bool) (g h : Fork) → Kept f g → Kept f h → Kept f (cond b g h)
@@ -85,122 +95,162 @@ module _ (f : Fork) (off : f.body.psi.on ≡ false) (pc : f.body.regs.pc < 2 ^ 1
   deed_keeps (calls number) h =
       let printed = counted (with_regs f (advanced f.body.regs)) in
       let halted = counted (with_status (with_regs f (advanced f.body.regs)) AHalted) in
-      let forced = counted (posted f 15) in
+      let forced = counted (posted f ILLEGAL_INSTRUCTION) in
       let kept_printed : Kept f printed = record { name = refl; slot = refl; superior = refl; status = λ s. s; on = refl; pc = wrapped (f.body.regs.pc + 1); accumulators = accumulators; units = refl } in
-      let kept_halted : Kept f halted = record { name = refl; slot = refl; superior = refl; status = λ s. tt; on = refl; pc = wrapped (f.body.regs.pc + 1); accumulators = accumulators; units = refl } in
-      kept_if (number == 60) printed (cond (number == 120) halted forced) kept_printed (kept_if (number == 120) halted forced kept_halted (trap_keeps 15 refl (omega arith)))
+      let kept_halted : Kept f halted = record { name = refl; slot = refl; superior = refl; status = λ s c h. absurd (cc h); on = refl; pc = wrapped (f.body.regs.pc + 1); accumulators = accumulators; units = refl } in
+      kept_if (number == PBOUT) printed (cond (number == HALTF) halted forced) kept_printed (kept_if (number == HALTF) halted forced kept_halted (trap_keeps ILLEGAL_INSTRUCTION refl (omega arith)))
   deed_keeps (traps channel) h = trap_keeps channel h.0 h.1
 
   pub fetch_keeps : (fetched : Fetched) → FitsFetch fetched → Kept f (fork_fetched f fetched)
   fetch_keeps (Word w) h = deed_keeps (deed_of f.body.regs w) (deed_fits w)
-  fetch_keeps Blank h = trap_keeps 15 refl (omega arith)
+  fetch_keeps Blank h = trap_keeps ILLEGAL_INSTRUCTION refl (omega arith)
   fetch_keeps (Trap channel) h = trap_keeps channel h.0 h.1
 
+itself : (f : ForkName) → same_fork f f ≡ true
+itself f = grind (arith, nat_tests, rules)
+
+or_true : (b c : Bool) → c ≡ true → (b || c) ≡ true
+or_true true c h = refl
+or_true false c h = h
+
 -- a job after a unit is a job
-pub job_runs : (done t : ℕ) (j : Job) (fetched : Fetched) → IsJob done t j → FitsFetch fetched → IsJob (done + 1) t (job_fetched j fetched)
-job_runs done t j fetched i h =
+pub job_runs : (t : ℕ) (j : Job) (fetched : Fetched) → IsJob t j → FitsFetch fetched → IsJob t (job_fetched j fetched)
+job_runs t j fetched i h =
     let k = fetch_keeps j.top i.off i.pc i.accumulators fetched h in
     record {
       terminal = ap (λ n. n.tty.0) k.name ∙ i.terminal;
       low = i.low;
       first = subst (λ n. 1 ≤ n.serial) (sym k.name) i.first;
-      last = subst (λ n. n.serial ≤ 262143) (sym k.name) i.last;
+      last = subst (λ n. n.serial ≤ LAST_SERIAL) (sym k.name) i.last;
       top = k.superior ∙ i.top;
       slot = k.slot ∙ i.slot;
       status = k.status i.status;
       off = k.on ∙ i.off;
       pc = k.pc;
       accumulators = k.accumulators;
-      units = omega (arith, k.units, i.units);
     }
 
 -- a job whose top fork is started again
-pub job_restarts : (done t address : ℕ) (j k : Job) → IsJob done t j → address < 2 ^ 18 → k.top ≡ restarted j.top address → IsJob (done + 1) t k
-job_restarts done t address j k i low top = record {
+pub job_restarts : (t address : ℕ) (j k : Job) → IsJob t j → address < 2 ^ 18 → k.top ≡ restarted address j.top → IsJob t k
+job_restarts t address j k i low top = record {
   terminal = ap (λ f. f.name.tty.0) top ∙ i.terminal;
   low = i.low;
   first = subst (λ f. 1 ≤ f.name.serial) (sym top) i.first;
-  last = subst (λ f. f.name.serial ≤ 262143) (sym top) i.last;
+  last = subst (λ f. f.name.serial ≤ LAST_SERIAL) (sym top) i.last;
   top = ap (λ f. f.superior) top ∙ i.top;
   slot = ap (λ f. f.slot) top ∙ i.slot;
-  status = subst (λ f. FitsStatus f.body.status) (sym top) tt;
+  status = subst (λ f. FitsForced f.body.status) (sym top) (λ c h. absurd (cc h));
   off = ap (λ f. f.body.psi.on) top ∙ i.off;
   pc = subst (λ f. f.body.regs.pc < 2 ^ 18) (sym top) low;
   accumulators = ap (λ f. length f.body.regs.ac) top ∙ i.accumulators;
-  units = omega (arith, ap (λ f. f.body.units) top, i.units);
 }
 
--- a job when more is done
-pub job_later : (done later t : ℕ) (j : Job) → IsJob done t j → done ≤ later → IsJob later t j
-job_later done later t j i h = record { terminal = i.terminal; low = i.low; first = i.first; last = i.last; top = i.top; slot = i.slot; status = i.status; off = i.off; pc = i.pc; accumulators = i.accumulators; units = omega (arith, i.units) }
+-- a job with a word in an accumulator
+pub job_worded : (t at word : ℕ) (j : Job) → IsJob t j → IsJob t (with_word j at word)
+job_worded t at word j i = record {
+  terminal = i.terminal;
+  low = i.low;
+  first = i.first;
+  last = i.last;
+  top = i.top;
+  slot = i.slot;
+  status = i.status;
+  off = i.off;
+  pc = i.pc;
+  accumulators = length-set j.top.body.regs.ac at word ∙ i.accumulators;
+}
 
-module _ {P : Type 0} (lives : P → ForkName → Bool) (forks : P → Tty → ℕ) (serial : P → Tty → ℕ) where
-  -- another job of the same top fork in a terminal's place
-  pub sound_job : (m m' : Machine P) (t : ℕ) (j j' : Job) → IsSound lives forks serial m → job_at m.jobs.items t ≡ Some j → m'.jobs.items ≡ set m.jobs.items t (Some j')
-      → lives m'.pages ≡ lives m.pages → forks m'.pages ≡ forks m.pages → m'.fork_serials.items ≡ m.fork_serials.items → m'.terminals ≡ m.terminals → m.done ≤ m'.done
-      → ((u : Tty) → serial m'.pages u ≤ 2 * m'.done + 1) → m'.clock ≤ m'.done → j'.top.name ≡ j.top.name → IsJob m'.done t j' → IsSound lives forks serial m'
-  sound_job m m' t j j' s at jobs alive absent serials terminals later pages ticks name job =
-      let within : t < length m.jobs.items = omega (arith, s.job_room, (s.jobs t j at).low) in
-      let here : job_at m'.jobs.items t ≡ Some j' = ap (λ xs. job_at xs t) jobs ∙ get_or-set_same m.jobs.items t (Some j') None within in
-      let other : (u : ℕ) → (u ≡ t → ⊥) → job_at m'.jobs.items u ≡ job_at m.jobs.items u = λ u ne. ap (λ xs. job_at xs u) jobs ∙ get_or-set_other m.jobs.items t u (Some j') None ne in
+-- a job of a new top fork
+pub job_begins : (t : Tty) (f : ForkName) (k : Job) → f.tty ≡ t → t.0 < TERMINALS → 1 ≤ f.serial → f.serial ≤ LAST_SERIAL → k.top ≡ top_fork f → IsJob t.0 k
+unfolding first_regs psi_at_rest
+job_begins t f k own low first last top =
+    let top_is : IsJob t.0 (record k { top = top_fork f }) = record {
+      terminal = ap (λ u. u.0) own;
+      low = low;
+      first = first;
+      last = last;
+      top = refl;
+      slot = refl;
+      status = λ c h. absurd (cc h);
+      off = refl;
+      pc = omega arith;
+      accumulators = refl;
+    } in
+    subst (λ g. IsJob t.0 (record k { top = g })) (sym top) top_is
+
+module _ {P : Type 0} (means : PagesMeaning P) (p : P) (jobs : List (Option Job)) (serials : List ℕ) (terminals : ℕ) (s : AreSound means p jobs serials terminals) where
+  -- another job with the same top fork in a terminal's place
+  pub sound_job : (q : P) (t : ℕ) (j k : Job) → job_at jobs t ≡ Some j → means.lives q ≡ means.lives p → means.forks_of q ≡ means.forks_of p → k.top.name ≡ j.top.name → IsJob t k → AreSound means q (set jobs t (Some k)) serials terminals
+  sound_job q t j k at alive absent name job =
+      let within : t < length jobs = omega (arith, s.job_room, (s.each_job t j at).low) in
+      let here : job_at (set jobs t (Some k)) t ≡ Some k = get_or-set_same jobs t (Some k) None within in
+      let other : (u : ℕ) → (u ≡ t → ⊥) → job_at (set jobs t (Some k)) u ≡ job_at jobs u = λ u ne. get_or-set_other jobs t u (Some k) None ne in
+      let found : (u : ℕ) (i : Job) → u ≡ t → job_at (set jobs t (Some k)) u ≡ Some i → k ≡ i = λ u i same e. let f : Some k ≡ Some i = sym here ∙ ap (job_at (set jobs t (Some k))) (sym same) ∙ e in cc f in
       record {
-        job_room = ap length jobs ∙ length-set m.jobs.items t (Some j') ∙ s.job_room;
-        serial_room = ap length serials ∙ s.serial_room;
-        jobs = λ u k e. elim (cases_eq u t) [
-          | inl same ↦ let is : j' ≡ k = let f : Some j' ≡ Some k = sym here ∙ ap (λ v. job_at m'.jobs.items v) (sym same) ∙ e in cc in subst (λ x. IsJob m'.done u x) is (subst (λ v. IsJob m'.done v j') (sym same) job)
-          | inr ne ↦ job_later m.done m'.done u k (s.jobs u k (sym (other u ne) ∙ e)) later
+        flat = s.flat;
+        roomy = s.roomy;
+        job_room = length-set jobs t (Some k) ∙ s.job_room;
+        serial_room = s.serial_room;
+        low = s.low;
+        each_job = λ u i e. elim (cases_eq u t) [
+          | inl same ↦ subst (λ x. IsJob u x) (found u i same e) (subst (λ v. IsJob v k) (sym same) job)
+          | inr ne ↦ s.each_job u i (sym (other u ne) ∙ e)
         ];
-        alive = λ u k e. elim (cases_eq u t) [
-          | inl same ↦ let is : j' ≡ k = let f : Some j' ≡ Some k = sym here ∙ ap (λ v. job_at m'.jobs.items v) (sym same) ∙ e in cc in ap (λ l. l k.top.name) alive ∙ ap (λ n. lives m.pages n) (ap (λ x. x.top.name) (sym is) ∙ name) ∙ s.alive t j at
-          | inr ne ↦ ap (λ l. l k.top.name) alive ∙ s.alive u k (sym (other u ne) ∙ e)
+        behind = λ u i e. elim (cases_eq u t) [
+          | inl same ↦ subst (λ v. v < terminals) (sym same) (s.behind t j at)
+          | inr ne ↦ s.behind u i (sym (other u ne) ∙ e)
+        ];
+        alive = λ u i e. elim (cases_eq u t) [
+          | inl same ↦ ap (λ l. l i.top.name) alive ∙ ap (λ n. means.lives p n) (ap (λ x. x.top.name) (sym (found u i same e)) ∙ name) ∙ s.alive t j at
+          | inr ne ↦ ap (λ l. l i.top.name) alive ∙ s.alive u i (sym (other u ne) ∙ e)
         ];
         absent = λ u e low. elim (cases_eq u.0 t) [
-          | inl same ↦ absurd (let f : Some j' ≡ None = sym here ∙ ap (λ v. job_at m'.jobs.items v) (sym same) ∙ e in cc f)
+          | inl same ↦ absurd (let f : Some k ≡ None = sym here ∙ ap (job_at (set jobs t (Some k))) (sym same) ∙ e in cc f)
           | inr ne ↦ ap (λ l. l u) absent ∙ s.absent u (sym (other u.0 ne) ∙ e) low
         ];
-        serials = λ u h. subst (λ xs. (1 ≤ slice_index xs u) × (slice_index xs u ≤ 262144)) (sym serials) (s.serials u h);
-        pages = pages;
-        ticks = ticks;
-        beyond = λ u h. elim (cases_eq u t) [
-          | inl same ↦ absurd (let f : Some j ≡ None = sym at ∙ s.beyond t (omega (arith, h, terminals, same)) in cc f)
-          | inr ne ↦ other u ne ∙ s.beyond u (omega (arith, h, terminals))
-        ];
+        each_serial = s.each_serial;
       }
 
-  -- pages and how much is done may change
-  pub sound_pages : (m m' : Machine P) → IsSound lives forks serial m → m'.jobs.items ≡ m.jobs.items → lives m'.pages ≡ lives m.pages → forks m'.pages ≡ forks m.pages → m'.fork_serials.items ≡ m.fork_serials.items → m'.terminals ≡ m.terminals
-      → m.done ≤ m'.done → ((u : Tty) → serial m'.pages u ≤ 2 * m'.done + 1) → m'.clock ≤ m'.done → IsSound lives forks serial m'
-  sound_pages m m' s jobs alive absent serials terminals later pages ticks = record {
-    job_room = ap length jobs ∙ s.job_room;
-    serial_room = ap length serials ∙ s.serial_room;
-    jobs = λ u k e. job_later m.done m'.done u k (s.jobs u k (ap (λ xs. job_at xs u) (sym jobs) ∙ e)) later;
-    alive = λ u k e. ap (λ l. l k.top.name) alive ∙ s.alive u k (ap (λ xs. job_at xs u) (sym jobs) ∙ e);
-    absent = λ u e low. ap (λ l. l u) absent ∙ s.absent u (ap (λ xs. job_at xs u.0) (sym jobs) ∙ e) low;
-    serials = λ u h. subst (λ xs. (1 ≤ slice_index xs u) × (slice_index xs u ≤ 262144)) (sym serials) (s.serials u h);
-    pages = pages;
-    ticks = ticks;
-    beyond = λ u h. ap (λ xs. job_at xs u) jobs ∙ s.beyond u (omega (arith, h, terminals));
-  }
-
-  -- nothing changes but how much is done
-  pub sound_later : (m m' : Machine P) → IsSound lives forks serial m → m'.jobs.items ≡ m.jobs.items → m'.pages ≡ m.pages → m'.fork_serials.items ≡ m.fork_serials.items → m'.terminals ≡ m.terminals → m.done ≤ m'.done → m'.clock ≤ m'.done → IsSound lives forks serial m'
-  sound_later m m' s jobs pages serials terminals later ticks =
-      sound_pages m m' s jobs (ap lives pages) (ap forks pages) serials terminals later (λ u. omega (arith, s.pages u, ap (λ p. serial p u) pages, later)) ticks
-
-  -- the top fork of a job is of a terminal
-  pub own_low : (m : Machine P) (t : ℕ) (j : Job) (f : ForkName) → IsSound lives forks serial m → job_at m.jobs.items t ≡ Some j → f ≡ j.top.name → f.tty.0 < 16
-  own_low m t j f s at is = let job = s.jobs t j at in omega (arith, ap (λ n. n.tty.0) is, job.terminal, job.low)
-
-tty_eq : (t u : Tty) → t.0 ≡ u.0 → t ≡ u
-tty_eq t u e = λ i. record { 0 = e i }
-
--- at most two pages more of one owner
-pub serials_bound : {P : Type 0} (serial : P → Tty → ℕ) (p q : P) (done : ℕ) (owner : Tty) → ((u : Tty) → serial p u ≤ 2 * done + 1) → serial q owner ≤ serial p owner + 2 → ((u : Tty) → u ≢ owner → serial q u ≡ serial p u)
-    → (u : Tty) → serial q u ≤ 2 * (done + 1) + 1
-serials_bound serial p q done owner before more others u = elim (cases_eq u.0 owner.0) [
-  | inl e ↦ let same = ap (serial q) (tty_eq u owner e) in omega (arith, same, more, before owner)
-  | inr ne ↦ omega (arith, others u (λ h. ne (ap (λ x. x.0) h)), before u)
-]
+  -- a new job, with its fork
+  pub sound_begun : (q : P) (t : Tty) (f : ForkName) (k : Job) (after : ℕ) → job_at jobs t.0 ≡ None → f.tty ≡ t → f.serial ≡ slice_index serials t.0 → f.serial ≤ LAST_SERIAL → t.0 < TERMINALS → k.top ≡ top_fork f
+      → ((g : ForkName) → means.lives q g ≡ (same_fork g f || means.lives p g)) → ((u : Tty) → u ≢ f.tty → means.forks_of q u ≡ means.forks_of p u) → after ≡ max terminals (t.0 + 1)
+      → AreSound means q (set jobs t.0 (Some k)) (set serials t.0 (f.serial + 1)) after
+  sound_begun q t f k after free own numbered last low top alive others later =
+      let within : t.0 < length jobs = omega (arith, s.job_room, low) in
+      let here : job_at (set jobs t.0 (Some k)) t.0 ≡ Some k = get_or-set_same jobs t.0 (Some k) None within in
+      let other : (u : ℕ) → (u ≡ t.0 → ⊥) → job_at (set jobs t.0 (Some k)) u ≡ job_at jobs u = λ u ne. get_or-set_other jobs t.0 u (Some k) None ne in
+      let found : (u : ℕ) (i : Job) → u ≡ t.0 → job_at (set jobs t.0 (Some k)) u ≡ Some i → k ≡ i = λ u i same e. let f : Some k ≡ Some i = sym here ∙ ap (job_at (set jobs t.0 (Some k))) (sym same) ∙ e in cc f in
+      let first : 1 ≤ f.serial = omega (arith, numbered, (s.each_serial t.0 low).0) in
+      let job = job_begins t f k own low first last top in
+      record {
+        flat = s.flat;
+        roomy = s.roomy;
+        job_room = length-set jobs t.0 (Some k) ∙ s.job_room;
+        serial_room = length-set serials t.0 (f.serial + 1) ∙ s.serial_room;
+        low = omega (arith, later, s.low, low);
+        each_job = λ u i e. elim (cases_eq u t.0) [
+          | inl same ↦ subst (λ x. IsJob u x) (found u i same e) (subst (λ v. IsJob v k) (sym same) job)
+          | inr ne ↦ s.each_job u i (sym (other u ne) ∙ e)
+        ];
+        behind = λ u i e. elim (cases_eq u t.0) [
+          | inl same ↦ omega (arith, same, later)
+          | inr ne ↦ omega (arith, s.behind u i (sym (other u ne) ∙ e), later)
+        ];
+        alive = λ u i e. elim (cases_eq u t.0) [
+          | inl same ↦ subst (λ x. means.lives q x.top.name ≡ true) (found u i same e) (ap (λ g. means.lives q g.name) top ∙ alive f ∙ ap (λ b. b || means.lives p f) (itself f))
+          | inr ne ↦ alive i.top.name ∙ or_true (same_fork i.top.name f) (means.lives p i.top.name) (s.alive u i (sym (other u ne) ∙ e))
+        ];
+        absent = λ u e low_u. elim (cases_eq u.0 t.0) [
+          | inl same ↦ absurd (let g : Some k ≡ None = sym here ∙ ap (job_at (set jobs t.0 (Some k))) (sym same) ∙ e in cc g)
+          | inr ne ↦ others u (λ h. ne (ap (λ x. x.0) (h ∙ own))) ∙ s.absent u (sym (other u.0 ne) ∙ e) low_u
+        ];
+        each_serial = λ u h. elim (cases_eq u t.0) [
+          | inl same ↦
+              let is : slice_index (set serials t.0 (f.serial + 1)) u ≡ f.serial + 1 = ap (slice_index (set serials t.0 (f.serial + 1))) same ∙ get_or-set_same serials t.0 (f.serial + 1) 0 (omega (arith, s.serial_room, low)) in
+              (omega (arith, is), omega (arith, is, last))
+          | inr ne ↦ let is = get_or-set_other serials t.0 u (f.serial + 1) 0 ne in (omega (arith, is, (s.each_serial u h).0), omega (arith, is, (s.each_serial u h).1))
+        ];
+      }
 
 -- a number is below another or not
 pub split_at : (a b : ℕ) → (a < b) ⊎ (b ≤ a)

@@ -1,80 +1,76 @@
--- One unit of a machine.
-use Rattle.std.proofs.Common.{◌≡◌, ℕ, ◌<◌, length, set, Bool, Some, refl, sym, ◌∙◌, ap, subst, arith}
+-- A unit of a system, as the unit of the plain machine.
+use Rattle.std.proofs.Common.{◌≡◌, ℕ, ◌+◌, ◌<◌, [], ◌∷◌, ◌++◌, List, get_or, set, false, Option, Some, refl, sym, ◌∙◌, ap, subst, arith}
 use Rattle.std.specs.FinMap as fin
-use Rattle.plain_model.specs.declared.names.Tty.{Tty}
+use Rattle.plain_model.specs.declared.names.TheConstants.{TERMINALS}
 use Rattle.plain_model.specs.declared.names.ForkName.{ForkName}
-use Rattle.plain_model.specs.declared.names.PageName.{PageName}
+use Rattle.plain_model.specs.declared.fork.ForkStatus.TheVariants.{Run}
 use Rattle.plain_model.specs.declared.event.Step.TheVariants.{Unit as AUnit}
-use Rattle.plain_model.specs.State.{PlainPages}
 use Rattle.plain_model.specs.Outcome.{DrumWords}
-use Rattle.plain_model.specs.Unit.{fetched_from, is_filed}
+use Rattle.plain_model.specs.Unit.{fetched, unit}
+use Rattle.plain_model.proofs.Equations.{apply_unit}
 use Rattle.monitor_core.specs.declared.job.Job.{Job}
-use Rattle.monitor_core.specs.declared.machine.Machine.{Machine}
 use Rattle.monitor_core.specs.declared.fetch.Fetched.{Fetched}
-use Rattle.monitor_core.specs.Fetch.{IsFetched, FitsFetch, fork_fetched, shown_fetched}
-use Rattle.monitor_core.specs.Jobs.{jobs_of, forks_of, job_at, plain_job}
-use Rattle.monitor_core.specs.JobUnit.{job_fetched}
-use Rattle.monitor_core.specs.Machine.{plain, Fits, IsSound}
-use Rattle.monitor_core.specs.Did.{Did}
-use Rattle.monitor_core.specs.Shown.{shown_items}
 use Rattle.monitor_core.specs.declared.shown.Shown.{Shown}
-use Rattle.monitor_core.proofs.Lookups.{OwnForks, job_found, fork_found, jobs_set, forks_set}
-use Rattle.monitor_core.proofs.Sounds.{fetch_keeps}
-use Rattle.monitor_core.proofs.UnitEffect.{none_filed, unit_as, with_top}
+use Rattle.monitor_core.specs.declared.reply.Reply.TheVariants.{Prints}
+use Rattle.monitor_core.specs.declared.system.System.{System}
+use Rattle.monitor_core.specs.Fetch.{IsFetched, FitsFetch, fork_fetched, shown_fetched}
+use Rattle.monitor_core.specs.JobUnit.{job_fetched}
+use Rattle.monitor_core.specs.Jobs.{jobs_of, job_at, plain_job}
+use Rattle.monitor_core.specs.Sound.{IsJob}
+use Rattle.monitor_core.specs.Shown.{FitsShown, shown_items}
+use Rattle.monitor_core.specs.Systems.{CanRun, state_of, FitsPages, Did}
+use Rattle.monitor_core.proofs.Lookups.{job_found, fork_found}
+use Rattle.monitor_core.proofs.Sounds.{fetch_keeps, job_read, job_runs}
+use Rattle.monitor_core.proofs.Systems.{owns, state_set, units_set}
+use Rattle.monitor_core.proofs.Unfiled.{named, is_named}
+use Rattle.monitor_core.proofs.UnitEffect.{unit_as, with_top}
 
-module _ {P : Type 0} (fits : P → DrumWords → Type 0) (filed : P → DrumWords → PageName → Bool) (pages : P → DrumWords → PlainPages) where
-  -- no file names a page of the machine
-  pub unfiled : (m : Machine P) (d : DrumWords) → Fits fits filed m d → filed m.pages d ≡ is_filed (plain pages m d)
-  unfiled m d f = λ i n. (f.unfiled n ∙ sym (none_filed (plain pages m d) refl n)) i
+-- the job of a fork that can run has that fork
+pub can_run_named : (jobs : List (Option Job)) (f : ForkName) (c : CanRun jobs f) (j : Job) → job_at jobs f.tty.0 ≡ Some j → j.top.name ≡ f
+can_run_named jobs f c j at = let one : Some j ≡ Some c.job = sym at ∙ c.there in let same : j ≡ c.job = cc one in ap (λ k. k.top.name) same ∙ c.named
 
-  module _ (lives : P → ForkName → Bool) (forks : P → Tty → ℕ) (serial : P → Tty → ℕ) where
-    pub owns : (m : Machine P) → IsSound lives forks serial m → OwnForks m.jobs.items
-    owns m s t j at = (s.jobs t j at).terminal
+-- a job that has run is a job
+pub job_ran : (t : ℕ) (j k : Job) (x : Fetched) → k ≡ job_fetched j x → IsJob t j → FitsFetch x → IsJob t k
+job_ran t j k x is job fit = subst (IsJob t) (sym is) (job_runs t j x job fit)
 
-    -- the job with another top fork of the same name, in the plain state
-    pub plain_set : (m m' : Machine P) (d : DrumWords) (t : ℕ) (j k : Job) → IsSound lives forks serial m → job_at m.jobs.items t ≡ Some j → m'.jobs.items ≡ set m.jobs.items t (Some k) → m'.fork_serials.items ≡ m.fork_serials.items → m'.clock ≡ m.clock
-        → k.top.name ≡ j.top.name
-        → plain pages m' d ≡ record (plain pages m d) { pages = pages m'.pages d; jobs = fin.insert (jobs_of m.jobs.items) j.top.name.tty.0 (plain_job k); forks = fin.insert (forks_of m.jobs.items) j.top.name k.top }
-    plain_set m m' d t j k s at set_to serials clock name =
-        let job = s.jobs t j at in
-        let within : t < length m.jobs.items = omega (arith, s.job_room, job.low) in
-        let there : k.top.name.tty.0 ≡ t = ap (λ n. n.tty.0) name ∙ job.terminal in
-        let jobs : jobs_of m'.jobs.items ≡ fin.insert (jobs_of m.jobs.items) j.top.name.tty.0 (plain_job k) =
-        ap jobs_of set_to ∙ jobs_set m.jobs.items t k within ∙ ap (λ u. fin.insert (jobs_of m.jobs.items) u (plain_job k)) (sym job.terminal) in
-        let forks_is : forks_of m'.jobs.items ≡ fin.insert (forks_of m.jobs.items) j.top.name k.top =
-        ap forks_of set_to ∙ forks_set m.jobs.items t k (owns m s) within there (λ x e. let f : Some j ≡ Some x = sym at ∙ e in let g : j ≡ x = cc in ap (λ y. y.top.name) (sym g) ∙ sym name)
-        ∙ ap (λ n. fin.insert (forks_of m.jobs.items) n k.top) name in
-        λ i. record (plain pages m d) { pages = pages m'.pages d; jobs = jobs i; forks = forks_is i; fork_serials = serials i; clock = clock i }
+-- a job's top fork that runs and has no freeze mark can run
+pub job_can_run : {P : Type 0} {b : _} (m : System P b) (t : ℕ) (o : Option Job) (j : Job) → t < TERMINALS → o ≡ get_or m.jobs.items t o → o ≡ Some j → j.top.body.status ≡ Run → j.top.frozen ≡ false → CanRun m.jobs.items j.top.name × (j.top.name.tty.0 ≡ t)
+job_can_run m t o j low read is runs free =
+    let at = job_read m.jobs.items t o j m.sound.job_room low read is in
+    let own = (m.sound.each_job t j at).terminal in
+    (record { job = j; there = ap (job_at m.jobs.items) own ∙ at; named = refl; runs = runs; free = free }, own)
 
-    -- a unit that did what was fetched
-    pub did_unit : (m m' : Machine P) (t : ℕ) (j : Job) (f : Fetched) → IsSound lives forks serial m → job_at m.jobs.items t ≡ Some j → m'.jobs.items ≡ set m.jobs.items t (Some (job_fetched j f)) → m'.pages ≡ m.pages
-        → m'.fork_serials.items ≡ m.fork_serials.items → m'.clock ≡ m.clock → FitsFetch f
-        → ((d : DrumWords) → fits m.pages d → IsFetched (pages m.pages d) f (fetched_from (filed m.pages d) (pages m.pages d) j.top))
-        → Did fits filed pages m m' (AUnit j.top.name) (shown_items j.top.name.tty (shown_fetched j.top f))
-    did_unit m m' t j f s at set_to same serials clock fit told = record {
-      each = λ d fits_d.
-          let old = plain pages m d in
-          let job = s.jobs t j at in
-          let kept = fetch_keeps j.top job.off job.pc job.accumulators f fit in
-          let is : IsFetched (pages m.pages d) f (fetched_from (is_filed old) (pages m.pages d) j.top) = subst (λ x. IsFetched (pages m.pages d) f (fetched_from x (pages m.pages d) j.top)) (unfiled m d fits_d) (told d fits_d.pages) in
-          let jobs = job_found m.jobs.items t j at in
-          let jobs_there : fin.get old.jobs j.top.name.tty.0 ≡ Some (plain_job j) = ap (λ u. fin.get (jobs_of m.jobs.items) u) job.terminal ∙ jobs in
-          let effect = unit_as old j jobs_there job.top job.off f (fork_found m.jobs.items t j (owns m s) at) fit is job.pc job.accumulators in
-          let new : plain pages m' d ≡ with_top old j jobs_there job.top job.off (fork_fetched j.top f) (job_fetched j f).mode =
-          plain_set m m' d t j (job_fetched j f) s at set_to serials clock kept.name ∙ ap (λ p. record (with_top old j jobs_there job.top job.off (fork_fetched j.top f) (job_fetched j f).mode) { pages = pages p d }) same in (
-            subst (λ p. Fits fits filed (record m' { pages = p }) d) (sym same) (record { pages = fits_d.pages; unfiled = fits_d.unfiled }),
-            new ∙ ap (λ e. e.state) (sym effect),
-            ap (λ e. e.items) (sym effect),
-          );
-    }
+module _ {P : Type 0} {b : _} (m : System P b) (f : ForkName) (can : CanRun m.jobs.items f) where
+  -- an entry that was read by the fork's terminal is its job
+  pub ran_job : (o : Option Job) (j : Job) → o ≡ get_or m.jobs.items f.tty.0 o → o ≡ Some j → job_at m.jobs.items f.tty.0 ≡ Some j
+  ran_job o j read is = job_read m.jobs.items f.tty.0 o j m.sound.job_room (m.sound.each_job f.tty.0 can.job can.there).low read is
 
-    -- the same, of the job that ran and of what it showed under other names
-    pub did_unit_of : (m m' : Machine P) (t : ℕ) (j i k : Job) (f : Fetched) (shown : Shown) → IsSound lives forks serial m → job_at m.jobs.items t ≡ Some j → job_at m.jobs.items t ≡ Some i → m'.jobs.items ≡ set m.jobs.items t (Some k)
-        → k ≡ job_fetched j f → shown ≡ shown_fetched j.top f → m'.pages ≡ m.pages → m'.fork_serials.items ≡ m.fork_serials.items → m'.clock ≡ m.clock → FitsFetch f
-        → ((d : DrumWords) → fits m.pages d → IsFetched (pages m.pages d) f (fetched_from (filed m.pages d) (pages m.pages d) j.top))
-        → Did fits filed pages m m' (AUnit i.top.name) (shown_items i.top.name.tty shown)
-    did_unit_of m m' t j i k f shown s at there set_to is shows same serials clock fit told =
-        let one : Some j ≡ Some i = sym at ∙ there in
-        let job : j ≡ i = cc in
-        let done = did_unit m m' t j f s at (set_to ∙ ap (λ x. set m.jobs.items t (Some x)) is) same serials clock fit told in
-        subst (λ x. Did fits filed pages m m' (AUnit x.top.name) (shown_items x.top.name.tty shown)) job (subst (λ y. Did fits filed pages m m' (AUnit j.top.name) (shown_items j.top.name.tty y)) (sym shows) done)
+module _ {P : Type 0} {b : _} (m m' : System P b) (j : Job) (f : ForkName) (x : Fetched) (shown : Shown) (at : job_at m.jobs.items f.tty.0 ≡ Some j) (is : j.top.name ≡ f) where
+  -- a unit that did what was fetched
+  pub did_unit : m'.jobs.items ≡ set m.jobs.items f.tty.0 (Some (job_fetched j x)) → m'.pages ≡ m.pages → m'.fork_serials.items ≡ m.fork_serials.items → m'.clock ≡ m.clock
+      → FitsFetch x → ((d : DrumWords) → b.means.fits m.pages d → IsFetched (b.means.plain m.pages d) x (fetched (b.means.plain m.pages d) j.top)) → shown ≡ shown_fetched j.top x → FitsShown shown
+      → Did m m' (AUnit f) (Prints f.tty shown)
+  did_unit set_to same serials clock fit told shows fits = record {
+    each = λ d fits_d.
+        let old = state_of m d in
+        let job = m.sound.each_job f.tty.0 j at in
+        let kept = fetch_keeps j.top job.off job.pc job.accumulators x fit in
+        let fetch_is : IsFetched (named (b.means.plain m.pages d)) x (fetched (named (b.means.plain m.pages d)) j.top) = is_named (b.means.plain m.pages d) fits_d.unfiled x j.top (told d fits_d.pages) in
+        let there : fin.get old.jobs j.top.name.tty.0 ≡ Some (plain_job j) = ap (λ u. fin.get (jobs_of m.jobs.items) u) job.terminal ∙ job_found m.jobs.items f.tty.0 j at in
+        let effect = apply_unit old f ∙ ap (λ e. record { state = e.state; items = e.items }) (ap (λ n. unit old n) (sym is) ∙ unit_as old j there job.top job.off x (fork_found m.jobs.items f.tty.0 j (owns m) at) fit fetch_is job.pc job.accumulators) in
+        let new : state_of m' d ≡ with_top old j there job.top job.off (fork_fetched j.top x) (job_fetched j x).mode =
+        state_set m m' d f.tty.0 j (job_fetched j x) at set_to serials clock kept.name ∙ ap (λ p. record (with_top old j there job.top job.off (fork_fetched j.top x) (job_fetched j x).mode) { pages = named (b.means.plain p d) }) same in (
+          record { pages = subst (λ p. b.means.fits p d) (sym same) fits_d.pages; unfiled = ap (λ p. (b.means.plain p d).files) same ∙ fits_d.unfiled },
+          new ∙ ap (λ e. e.state) (sym effect),
+          (λ i. shown_items (sym is i).tty (shows i)) ∙ ap (λ e. e.items) (sym effect),
+        );
+    shown = (subst (λ n. n.tty.0 < TERMINALS) is (omega (arith, (m.sound.each_job f.tty.0 j at).terminal, (m.sound.each_job f.tty.0 j at).low)), fits);
+    within = λ entries w. record {
+      ticks = omega (arith, clock, w.ticks);
+      units = λ t i e. units_set m entries f.tty.0 j (job_fetched j x) w at
+          (let job = m.sound.each_job f.tty.0 j at in let kept = fetch_keeps j.top job.off job.pc job.accumulators x fit in omega (arith, kept.units, w.units f.tty.0 j at))
+          t i (ap (λ js. job_at js t) (sym set_to) ∙ e);
+      serials = λ t. omega (arith, ap (λ p. b.means.serial p t) same, w.serials t);
+    };
+    most = ap b.means.most same;
+  }

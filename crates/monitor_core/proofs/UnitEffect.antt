@@ -1,20 +1,24 @@
 -- The unit of the plain machine, as far as it concerns one job.
-use Rattle.std.proofs.Common.{◌≡◌, ℕ, ◌%◌, ◌∷◌, List, [], length, Bool, true, false, cond, None, Some, refl, sym, ◌∙◌, ap, subst, map, ◌==◌, ◌<◌, ◌^◌, slice_index, inl, inr, rules}
+use Rattle.std.proofs.Common.{◌≡◌, ℕ, ◌%◌, ◌∷◌, List, [], length, Bool, true, false, cond, None, Some, refl, sym, ◌∙◌, ap, subst, ◌==◌, ◌<◌, ◌^◌, slice_index, is_some, inl, inr, rules}
 use Rattle.std.proofs.lemmas.Bool.{cases_eq}
 use Rattle.std.specs.Cmp.{nat_cmp_total}
-use Rattle.std.specs.Cmp.Lexicographic.{slice_cmp}
 use Rattle.std.specs.Ordering.{nat_cmp}
+use Rattle.std.specs.Option.{option_map_or}
 use Rattle.std.specs.FinMap as fin
-use Rattle.std.specs.List.{list_any}
-use Rattle.plain_model.specs.declared.names.PageName.{PageName}
+use Rattle.plain_model.specs.declared.names.TheConstants.{ACCUMULATORS}
+use Rattle.plain_model.specs.declared.call.TheConstants.{PBOUT, HALTF}
+use Rattle.plain_model.specs.declared.channel.TheConstants.{ILLEGAL_INSTRUCTION}
+use Rattle.plain_model.specs.declared.character.TheConstants.{LINE_END, CARRIAGE_RETURN, LINE_FEED}
 use Rattle.plain_model.specs.declared.fork.Fork.{Fork}
 use Rattle.plain_model.specs.declared.fork.TerminalMode.{TerminalMode}
 use Rattle.plain_model.specs.declared.fork.TerminalMode.TheVariants.{Command}
 use Rattle.plain_model.specs.declared.fork.ForkStatus.TheVariants.{Forced as AForced, Halted as AHalted}
-use Rattle.plain_model.specs.State.{PlainState, PlainFile}
+use Rattle.plain_model.specs.Orders.{name_cmp}
+use Rattle.plain_model.specs.State.{PlainState}
 use Rattle.plain_model.specs.Forks.{with_fork, with_regs, with_status, counted}
 use Rattle.plain_model.specs.Interrupts.{posted, is_panic}
-use Rattle.plain_model.specs.Unit.{Effect, Deed, goes, calls, traps, Fetched as PlainFetched, deed_of, advanced, is_filed, has_page, fetched, executed, done_by, pbout, haltf, trapped, settled, stops_job, in_command_mode, printed, stop_text, unit, unit_of}
+use Rattle.plain_model.specs.Unit.{Effect, Deed, goes, calls, traps, Fetched as PlainFetched, deed_of, advanced, fetched, executed, done_by, pbout, haltf, trapped, unit_ended, stopped, in_command_mode, printed, stop_text, unit}
+use Rattle.plain_model.proofs.Equations.{unit_some}
 use Rattle.monitor_core.specs.declared.job.Job.{Job}
 use Rattle.monitor_core.specs.declared.fetch.Fetched.{Fetched}
 use Rattle.monitor_core.specs.declared.fetch.Fetched.TheVariants.{Word, Blank, Trap}
@@ -25,7 +29,6 @@ use Rattle.monitor_core.specs.ForkUnit.{fork_after, shown_after}
 use Rattle.monitor_core.specs.Shown.{shown_items, is_stop, code_shown}
 use Rattle.monitor_core.specs.Jobs.{plain_job}
 use Rattle.monitor_core.proofs.Sounds.{posted_off, FitsDeed, deed_fits}
-use Rattle.monitor_core.proofs.Values.{no_entries}
 
 -- to insert what is there changes nothing
 pub insert_same : {V : Type 0} (m : fin.FinMap nat_cmp V) (k : ℕ) (v : V) → fin.get m k ≡ Some v → fin.insert m k v ≡ m
@@ -33,11 +36,6 @@ insert_same m k v h = fin.same_map nat_cmp_total fin.nat_cmp-IsAntisymmetric _ _
   | inl e ↦ subst (λ x. fin.get (fin.insert m k v) x ≡ fin.get m x) (sym e) (let f : fin.get (fin.insert m k v) k ≡ Some v = grind (fin.gets, rules) in f ∙ sym h)
   | inr ne ↦ grind (fin.gets, rules)
 ])
-
--- where there is no file, no file names a page
-pub none_filed : (s : PlainState) → s.files ≡ fin.empty → (n : PageName) → is_filed s n ≡ false
-none_filed s none n =
-    ap (λ m. list_any (has_page n) (fin.values m)) none ∙ ap (λ (es : List (List ℕ × PlainFile)). list_any (has_page n) (map (λ e. e.1) es)) (no_entries (List ℕ) PlainFile (slice_cmp nat_cmp))
 
 module _ (s : PlainState) (j : Job) (job : fin.get s.jobs j.top.name.tty.0 ≡ Some (plain_job j)) (top : j.top.superior ≡ None) (off : j.top.body.psi.on ≡ false) where
   -- the state with another fork and mode of the job
@@ -58,13 +56,14 @@ module _ (s : PlainState) (j : Job) (job : fin.get s.jobs j.top.name.tty.0 ≡ S
       λ i. record s { jobs = sym jobs i; forks = fin.insert s.forks (name i) g }
 
   -- the fork has stopped
-  stops_as : (g : Fork) → g.name ≡ j.top.name → g.superior ≡ None → stops_job (with_fork s (counted g)) g g.superior ≡ record { state = with_top (counted g) Command; items = printed j.top.name.tty (stop_text g.body.status) }
+  stops_as : (g : Fork) → g.name ≡ j.top.name → g.superior ≡ None → stopped s g ≡ record { state = with_top (counted g) Command; items = printed j.top.name.tty (stop_text g.body.status) }
   stops_as g name none =
       let there : fin.get s.jobs g.name.tty.0 ≡ Some (plain_job j) = ap (λ n. fin.get s.jobs n.tty.0) name ∙ job in
-      let first : stops_job (with_fork s (counted g)) g g.superior ≡ record { state = in_command_mode (with_fork s (counted g)) g.name.tty.0 (fin.get s.jobs g.name.tty.0); items = printed g.name.tty (stop_text g.body.status) } =
-      ap (λ o. stops_job (with_fork s (counted g)) g o) none in
-      let second : stops_job (with_fork s (counted g)) g g.superior ≡ record { state = record (with_fork s (counted g)) { jobs = fin.insert s.jobs g.name.tty.0 (record (plain_job j) { mode = Command }) }; items = printed g.name.tty (stop_text g.body.status) } =
-      first ∙ ap (λ o. record { state = in_command_mode (with_fork s (counted g)) g.name.tty.0 o; items = printed g.name.tty (stop_text g.body.status) }) there in
+      let after = with_fork s (counted g) in
+      let first : stopped s g ≡ record { state = in_command_mode after g.name.tty; items = printed g.name.tty (stop_text g.body.status) } =
+      ap (λ b. cond b (record { state = after; items = [] }) (record { state = in_command_mode after g.name.tty; items = printed g.name.tty (stop_text g.body.status) })) (ap is_some none) in
+      let second : stopped s g ≡ record { state = record after { jobs = fin.insert s.jobs g.name.tty.0 (record (plain_job j) { mode = Command }) }; items = printed g.name.tty (stop_text g.body.status) } =
+      first ∙ ap (λ o. record { state = option_map_or (λ k. record after { jobs = fin.insert s.jobs g.name.tty.0 (record k { mode = Command }) }) o after; items = printed g.name.tty (stop_text g.body.status) }) there in
       second ∙ (λ i. record {
         state = record s { jobs = fin.insert s.jobs (name i).tty.0 (record (plain_job j) { mode = Command; top = sym name i }); forks = fin.insert s.forks (name i) (counted g) };
         items = printed (name i).tty (stop_text g.body.status);
@@ -73,10 +72,10 @@ module _ (s : PlainState) (j : Job) (job : fin.get s.jobs j.top.name.tty.0 ≡ S
   traps_as : (channel : ℕ) → is_panic channel ≡ true → trapped s j.top channel ≡ ran_as (counted (posted j.top channel)) (Forced channel)
   traps_as channel panic =
       let forced = posted_off j.top channel off panic in
-      ap (λ g. settled s g g.body.status) forced ∙ stops_as (with_status j.top (AForced channel)) refl top ∙ ap (λ g. ran_as (counted g) (Forced channel)) (sym forced)
+      ap (λ g. unit_ended s g g.body.status) forced ∙ stops_as (with_status j.top (AForced channel)) refl top ∙ ap (λ g. ran_as (counted g) (Forced channel)) (sym forced)
 
-  prints_as : (b : Bool) (code : ℕ) (g : Fork) → g.name ≡ j.top.name → ◌≡◌ {A = Effect} (record { state = with_fork s g; items = printed j.top.name.tty (cond b (13 ∷ 10 ∷ []) (code ∷ [])) }) (ran_as g (cond b LineEnd (Code code)))
-  prints_as true code g name = λ i. record { state = job_stays g name i; items = printed j.top.name.tty (13 ∷ 10 ∷ []) }
+  prints_as : (b : Bool) (code : ℕ) (g : Fork) → g.name ≡ j.top.name → ◌≡◌ {A = Effect} (record { state = with_fork s g; items = printed j.top.name.tty (cond b (CARRIAGE_RETURN ∷ LINE_FEED ∷ []) (code ∷ [])) }) (ran_as g (cond b LineEnd (Code code)))
+  prints_as true code g name = λ i. record { state = job_stays g name i; items = printed j.top.name.tty (CARRIAGE_RETURN ∷ LINE_FEED ∷ []) }
   prints_as false code g name = λ i. record { state = job_stays g name i; items = printed j.top.name.tty (code ∷ []) }
 
   either_as : (b : Bool) (x y : Effect) (g h : Fork) (p q : Shown) → x ≡ ran_as g p → y ≡ ran_as h q → cond b x y ≡ ran_as (cond b g h) (cond b p q)
@@ -88,19 +87,19 @@ module _ (s : PlainState) (j : Job) (job : fin.get s.jobs j.top.name.tty.0 ≡ S
   deed_as (calls number) fit =
       let regs = advanced j.top.body.regs in
       let code = slice_index j.top.body.regs.ac 1 % 128 in
-      let printing : pbout s j.top ≡ ran_as (counted (with_regs j.top regs)) (code_shown code) = prints_as (code == 31) code (counted (with_regs j.top regs)) refl in
+      let printing : pbout s j.top ≡ ran_as (counted (with_regs j.top regs)) (code_shown code) = prints_as (code == LINE_END) code (counted (with_regs j.top regs)) refl in
       let halting : haltf s j.top ≡ ran_as (counted (with_status (with_regs j.top regs) AHalted)) Halted = stops_as (with_status (with_regs j.top regs) AHalted) refl top in
-      let other : cond (number == 120) (haltf s j.top) (trapped s j.top 15) ≡ ran_as (cond (number == 120) (counted (with_status (with_regs j.top regs) AHalted)) (counted (posted j.top 15))) (cond (number == 120) Halted (Forced 15)) =
-      either_as (number == 120) (haltf s j.top) (trapped s j.top 15) (counted (with_status (with_regs j.top regs) AHalted)) (counted (posted j.top 15)) Halted (Forced 15) halting (traps_as 15 refl) in
-      either_as (number == 60) (pbout s j.top) (cond (number == 120) (haltf s j.top) (trapped s j.top 15)) (counted (with_regs j.top regs)) (cond (number == 120) (counted (with_status (with_regs j.top regs) AHalted)) (counted (posted j.top 15))) (code_shown code) (cond (number == 120) Halted (Forced 15)) printing other
+      let other : cond (number == HALTF) (haltf s j.top) (trapped s j.top ILLEGAL_INSTRUCTION) ≡ ran_as (cond (number == HALTF) (counted (with_status (with_regs j.top regs) AHalted)) (counted (posted j.top ILLEGAL_INSTRUCTION))) (cond (number == HALTF) Halted (Forced ILLEGAL_INSTRUCTION)) =
+      either_as (number == HALTF) (haltf s j.top) (trapped s j.top ILLEGAL_INSTRUCTION) (counted (with_status (with_regs j.top regs) AHalted)) (counted (posted j.top ILLEGAL_INSTRUCTION)) Halted (Forced ILLEGAL_INSTRUCTION) halting (traps_as ILLEGAL_INSTRUCTION refl) in
+      either_as (number == PBOUT) (pbout s j.top) (cond (number == HALTF) (haltf s j.top) (trapped s j.top ILLEGAL_INSTRUCTION)) (counted (with_regs j.top regs)) (cond (number == HALTF) (counted (with_status (with_regs j.top regs) AHalted)) (counted (posted j.top ILLEGAL_INSTRUCTION))) (code_shown code) (cond (number == HALTF) Halted (Forced ILLEGAL_INSTRUCTION)) printing other
   deed_as (traps channel) fit = traps_as channel fit.0
 
-  fetch_as : (f : Fetched) (p : PlainFetched) → FitsFetch f → IsFetched s.pages f p → j.top.body.regs.pc < 2 ^ 18 → length j.top.body.regs.ac ≡ 16 → executed s j.top p ≡ ran_as (fork_fetched j.top f) (shown_fetched j.top f)
+  fetch_as : (f : Fetched) (p : PlainFetched name_cmp) → FitsFetch f → IsFetched s.pages f p → j.top.body.regs.pc < 2 ^ 18 → length j.top.body.regs.ac ≡ ACCUMULATORS → executed s j.top p ≡ ran_as (fork_fetched j.top f) (shown_fetched j.top f)
   fetch_as (Word w) p fit is pc accumulators = ap (executed s j.top) is ∙ deed_as (deed_of j.top.body.regs w) (deed_fits j.top off pc accumulators w)
-  fetch_as Blank p fit is pc accumulators = ap (executed s j.top) is.1 ∙ traps_as 15 refl
+  fetch_as Blank p fit is pc accumulators = ap (executed s j.top) is.1 ∙ traps_as ILLEGAL_INSTRUCTION refl
   fetch_as (Trap channel) p fit is pc accumulators = ap (executed s j.top) is ∙ traps_as channel fit.0
 
   -- a unit of the top fork, by what it fetched
-  pub unit_as : (f : Fetched) → fin.get s.forks j.top.name ≡ Some j.top → FitsFetch f → IsFetched s.pages f (fetched s j.top) → j.top.body.regs.pc < 2 ^ 18 → length j.top.body.regs.ac ≡ 16
+  pub unit_as : (f : Fetched) → fin.get s.forks j.top.name ≡ Some j.top → FitsFetch f → IsFetched s.pages f (fetched s.pages j.top) → j.top.body.regs.pc < 2 ^ 18 → length j.top.body.regs.ac ≡ ACCUMULATORS
       → unit s j.top.name ≡ ran_as (fork_fetched j.top f) (shown_fetched j.top f)
-  unit_as f there fit is pc accumulators = ap (unit_of s) there ∙ fetch_as f (fetched s j.top) fit is pc accumulators
+  unit_as f there fit is pc accumulators = unit_some s j.top.name j.top there ∙ fetch_as f (fetched s.pages j.top) fit is pc accumulators

@@ -1,5 +1,7 @@
 -- What a fetch found, as the plain machine's.
 use Rattle.std.specs.Prelude.{◌≡◌, ◌<◌, true}
+use Rattle.std.specs.declared.cmp.Ordering.{Ordering}
+use Rattle.plain_model.specs.declared.channel.TheConstants.{ILLEGAL_INSTRUCTION}
 use Rattle.plain_model.specs.declared.fork.Fork.{Fork}
 use Rattle.plain_model.specs.State.{PlainPages}
 use Rattle.plain_model.specs.Forks.{counted}
@@ -12,23 +14,25 @@ use Rattle.monitor_core.specs.declared.shown.Shown.{Shown}
 use Rattle.monitor_core.specs.declared.shown.Shown.TheVariants.{Forced}
 
 -- a word of the pages as they are; a word of a page that would be made; or a trap
-abbrev pub IsFetched : PlainPages → Fetched → PlainFetched → Type 0
+abbrev pub IsFetched : {K : Type 0} {file_cmp : K → K → Ordering} → PlainPages file_cmp → Fetched → PlainFetched file_cmp → Type 0
 IsFetched p (Word w) f = f ≡ word w p
-IsFetched p Blank f = (q : PlainPages) × (f ≡ word 0 q)
+IsFetched {K} {file_cmp} p Blank f = (q : PlainPages file_cmp) × (f ≡ word 0 q)
 IsFetched p (Trap channel) f = f ≡ stops channel
 
+-- the limits of what a fetch found: a trap forces
 abbrev pub FitsFetch : Fetched → Type 0
 FitsFetch (Word w) = Unit {0}
 FitsFetch Blank = Unit {0}
 FitsFetch (Trap channel) = (is_panic channel ≡ true) × (channel < 36)
 
--- what the unit of a fetch does to its fork, and what it shows
+-- the fork behind the unit of what was fetched
 abbrev pub fork_fetched : Fork → Fetched → Fork
 fork_fetched f (Word w) = fork_after f (deed_of f.body.regs w)
-fork_fetched f Blank = counted (posted f 15)
+fork_fetched f Blank = counted (posted f ILLEGAL_INSTRUCTION)
 fork_fetched f (Trap channel) = counted (posted f channel)
 
+-- what that unit shows
 abbrev pub shown_fetched : Fork → Fetched → Shown
 shown_fetched f (Word w) = shown_after f (deed_of f.body.regs w)
-shown_fetched f Blank = Forced 15
+shown_fetched f Blank = Forced ILLEGAL_INSTRUCTION
 shown_fetched f (Trap channel) = Forced channel

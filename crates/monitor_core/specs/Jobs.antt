@@ -8,11 +8,12 @@ use Rattle.plain_model.specs.Orders.{fork_cmp}
 use Rattle.plain_model.specs.State.{PlainJob}
 use Rattle.monitor_core.specs.declared.job.Job.{Job}
 
--- a table of options as a map, by a key of each number and entry
+-- an entry of a table of options in a map, under a key of its number and itself
 abbrev pub with_entry : {K X V : Type 0} {R : K → K → Ordering} → (ℕ → X → K) → (X → V) → ℕ → Option X → map.FinMap R V → map.FinMap R V
 with_entry key value n None m = m
 with_entry key value n (Some x) m = map.insert m (key n x) (value x)
 
+-- the whole table as a map, its entries numbered from this number on
 abbrev pub map_from : {K X V : Type 0} {R : K → K → Ordering} → (ℕ → X → K) → (X → V) → ℕ → List (Option X) → map.FinMap R V
 map_from key value n [] = map.empty
 map_from key value n (o ∷ os) = with_entry key value n o (map_from key value (n + 1) os)

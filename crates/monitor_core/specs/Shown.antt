@@ -1,5 +1,6 @@
 -- What a unit shows, as items.
 use Rattle.std.specs.Prelude.{ℕ, ◌<◌, List, [], ◌∷◌, Bool, true, false, if◌then◌else◌, ◌==◌}
+use Rattle.plain_model.specs.declared.character.TheConstants.{LINE_END, CARRIAGE_RETURN, LINE_FEED}
 use Rattle.plain_model.specs.declared.names.Tty.{Tty}
 use Rattle.plain_model.specs.declared.fork.ForkStatus.TheVariants.{Halted as AHalted, Forced as AForced}
 use Rattle.plain_model.specs.declared.event.Item.{Item}
@@ -7,10 +8,11 @@ use Rattle.plain_model.specs.Unit.{printed, stop_text}
 use Rattle.monitor_core.specs.declared.shown.Shown.{Shown}
 use Rattle.monitor_core.specs.declared.shown.Shown.TheVariants.{Nothing, Code, LineEnd, Halted, Forced}
 
+-- what a terminal prints of it
 abbrev pub shown_items : Tty → Shown → List Item
 shown_items t Nothing = []
 shown_items t (Code c) = printed t (c ∷ [])
-shown_items t LineEnd = printed t (13 ∷ 10 ∷ [])
+shown_items t LineEnd = printed t (CARRIAGE_RETURN ∷ LINE_FEED ∷ [])
 shown_items t Halted = printed t (stop_text AHalted)
 shown_items t (Forced channel) = printed t (stop_text (AForced channel))
 
@@ -22,6 +24,11 @@ FitsShown LineEnd = Unit {0}
 FitsShown Halted = Unit {0}
 FitsShown (Forced channel) = channel < 36
 
+-- whether nothing is shown
+abbrev pub is_nothing : Shown → Bool
+is_nothing Nothing = true
+is_nothing shown = false
+
 -- whether the top fork has stopped
 abbrev pub is_stop : Shown → Bool
 is_stop Nothing = false
@@ -32,4 +39,4 @@ is_stop (Forced channel) = true
 
 -- a character as a terminal shows it
 abbrev pub code_shown : ℕ → Shown
-code_shown c = if c == 31 then LineEnd else Code c
+code_shown c = if c == LINE_END then LineEnd else Code c

@@ -1,32 +1,48 @@
--- A write through a fork's map, as the plain pages have it.
-use Rattle.std.specs.Prelude.{◌≡◌, ℕ, Bool, Option, None, Some}
-use Rattle.plain_model.specs.declared.names.Slot.{Slot}
-use Rattle.plain_model.specs.declared.names.PageName.{PageName}
-use Rattle.plain_model.specs.declared.names.Kind.{Kind}
-use Rattle.plain_model.specs.declared.names.Kind.TheVariants.{Write as ToWrite}
-use Rattle.plain_model.specs.State.{PlainPages}
-use Rattle.plain_model.specs.References.{granted, denied, full, reference, stored}
+-- A word that is written through a fork's map, as the plain pages have it.
+use Rattle.std.specs.Prelude.{◌≡◌, ◌≢◌, ℕ, ◌+◌, ◌≤◌, Result, Ok, Err, OnErr}
+use Rattle.std.specs.Ordering.{nat_cmp}
 use Rattle.plain_model.specs.declared.names.Tty.{Tty}
-use Rattle.plain_model.specs.declared.event.Refusal.TheVariants.{Denied as ADenied, Full as AFull}
-use Rattle.plain_model.specs.declared.event.Item.{Item}
-use Rattle.plain_model.specs.declared.event.Item.TheVariants.{Refusal}
-use Rattle.monitor_core.specs.declared.writing.Write.{Write}
-use Rattle.monitor_core.specs.declared.writing.Write.TheVariants.{Done, Denied, Full}
+use Rattle.plain_model.specs.declared.names.Slot.{Slot}
+use Rattle.plain_model.specs.declared.names.Kind.TheVariants.{Write}
+use Rattle.plain_model.specs.declared.event.Refusal.{Refusal}
+use Rattle.plain_model.specs.declared.event.Refusal.TheVariants.{Denied, Full}
+use Rattle.plain_model.specs.State.{NumberedPages}
+use Rattle.plain_model.specs.Events.{with_accumulator}
+use Rattle.plain_model.specs.References.{Referred, granted, denied, full, in_map, reference, stored}
+use Rattle.plain_model.specs.Pages.{PagesMeaning}
+use Rattle.monitor_core.specs.declared.job.Job.{Job}
 
--- the pages after a reference to write, or why there was none
-abbrev pub IsReadied : (PageName → Bool) → PlainPages → PlainPages → Slot → Write → Type 0
-IsReadied filed p q s Done = reference filed p s ToWrite s.fork.tty ≡ granted q
-IsReadied filed p q s Denied = (q ≡ p) × ((kind : Kind) × (reference filed p s ToWrite s.fork.tty ≡ denied kind))
-IsReadied filed p q s Full = (q ≡ p) × (reference filed p s ToWrite s.fork.tty ≡ full)
+-- a reference to write, as an event of a terminal has it: the pages that it leaves, or the refusal
+abbrev pub write_of : Tty → Referred nat_cmp → Result NumberedPages Refusal
+write_of t (granted q) = Ok q
+write_of t (denied kind) = Err (Denied t)
+write_of t full = Err (Full t)
 
--- the pages after a word was written, or why none was
-abbrev pub IsWritten : (PageName → Bool) → PlainPages → PlainPages → Slot → ℕ → ℕ → Write → Type 0
-IsWritten filed p q s offset word Done = (r : PlainPages) × (reference filed p s ToWrite s.fork.tty ≡ granted r) × (q ≡ stored r s offset word)
-IsWritten filed p q s offset word Denied = (q ≡ p) × ((kind : Kind) × (reference filed p s ToWrite s.fork.tty ≡ denied kind))
-IsWritten filed p q s offset word Full = (q ≡ p) × (reference filed p s ToWrite s.fork.tty ≡ full)
+-- the pages that a call left that went
+abbrev pub left_by : {X : Type 0} → NumberedPages → Result X Refusal → Result NumberedPages Refusal
+left_by q (Ok done) = Ok q
+left_by q (Err cause) = Err cause
 
--- what a poke of a terminal shows
-abbrev pub poke_shown : Tty → Write → Option Item
-poke_shown t Done = None
-poke_shown t Denied = Some (Refusal (ADenied t))
-poke_shown t Full = Some (Refusal (AFull t))
+-- a slot was made ready to write, or the write is refused, and nothing changes
+pub record IsReadied {X : Type 0} (p q : NumberedPages) (s : Slot) (result : Result X Refusal) : Type 0 where
+  pub refers : write_of s.fork.tty (reference p (in_map s) Write s.fork.tty) ≡ left_by q result
+  pub stays : OnErr result (q ≡ p)
+
+-- a word was written at an offset of a slot, or the write is refused, and nothing changes
+pub record IsWritten {X : Type 0} (p q : NumberedPages) (s : Slot) (offset word : ℕ) (result : Result X Refusal) : Type 0 where
+  pub ready : NumberedPages
+  pub readied : IsReadied p ready s result
+  pub store : (done : X) → result ≡ Ok done → q ≡ stored ready (in_map s) offset word
+  pub stays : OnErr result (q ≡ p)
+
+-- pages were made for an owner, so many at most: the forks that live are the same, and so are the next serials of other owners
+pub record Makes {P : Type 0} (means : PagesMeaning P) (old new : P) (owner : Tty) (count : ℕ) : Type 0 where
+  pub lives : means.lives new ≡ means.lives old
+  pub forks : means.forks_of new ≡ means.forks_of old
+  pub most : means.most new ≡ means.most old
+  pub own : means.serial new owner ≤ means.serial old owner + count
+  pub others : (t : Tty) → t ≢ owner → means.serial new t ≡ means.serial old t
+
+-- a job with a word in an accumulator of its top fork
+abbrev pub with_word : Job → ℕ → ℕ → Job
+with_word j at word = record j { top = with_accumulator at word j.top }

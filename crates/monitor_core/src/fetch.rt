@@ -1,11 +1,13 @@
 // The fetch of an instruction.
 ghost use Rattle.std.specs.Prelude.{◌≡◌, ◌<◌, ◌^◌, length, true};
+ghost use Rattle.plain_model.specs.Limits.{IsTerminal};
 ghost use Rattle.plain_model.specs.Outcome.{DrumWords};
-ghost use Rattle.plain_model.specs.Unit.{fetched_from};
+ghost use Rattle.plain_model.specs.Unit.{fetched};
 ghost use Rattle.monitor_core.specs.Fetch.{IsFetched, FitsFetch};
 
-use crate::unit::{DENIED_EXECUTE, FULL};
-use plain_model::{ACCUMULATORS, Fork, Kind, Pages, Place, Slot, Touch};
+use crate::address::{offset_in_page, slot_at};
+use plain_model::channel::{DENIED_EXECUTE, DRUM_FULL};
+use plain_model::{ACCUMULATORS, Fork, Kind, Pages, Place, Touch};
 use word36::Word;
 
 /// What a fetch finds.
@@ -22,31 +24,27 @@ pub enum Fetched {
 /// Fetches the word at a fork's program counter. Nothing is made.
 #[inline]
 pub fn fetch<P: Pages>(pages: &P, fork: &Fork) -> Fetched
-    requires flat { P.flat ≡ true }
-    requires lives { P.lives pages.now fork.now.name ≡ true }
+    requires flat { P.means.flat ≡ true }
+    requires lives { P.means.lives pages.now fork.now.name ≡ true }
+    requires terminal { IsTerminal fork.now.name.tty }
     requires pc { fork.now.body.regs.pc < 2 ^ 18 }
-    requires accumulators { length fork.now.body.regs.ac ≡ 16 }
-    ensures told { (d : DrumWords) → P.fits pages.now d → IsFetched (P.plain pages.now d) result (fetched_from (P.filed pages.now d) (P.plain pages.now d) fork.now) }
+    requires accumulators { length fork.now.body.regs.ac ≡ ACCUMULATORS }
+    ensures told { (d : DrumWords) → P.means.fits pages.now d → IsFetched (P.means.plain pages.now d) result (fetched (P.means.plain pages.now d) fork.now) }
     ensures fits { FitsFetch result }
 {
     let pc = fork.body.regs.pc;
     if pc < ACCUMULATORS {
         return Fetched::Word(fork.body.regs.ac[pc as usize]);
     }
-    let slot = Slot {
-        fork: fork.name,
-        page: (pc / 512) as u16,
-    };
-    let at = Place::Fork(slot);
+    let at = Place::Fork(slot_at(fork.name, pc));
     match pages.touch(at, Kind::Execute) {
-        Touch::Ready => Fetched::Word(pages.word(at, (pc % 512) as u16)),
+        Touch::Ready => Fetched::Word(pages.word(at, offset_in_page(pc))),
         Touch::Denied(_) => Fetched::Trap(DENIED_EXECUTE),
-        Touch::Full => Fetched::Trap(FULL),
+        Touch::Full => Fetched::Trap(DRUM_FULL),
         Touch::Zero => Fetched::Blank,
         // A fetch copies nothing.
-        Touch::Copy { .. } => Fetched::Blank,
+        Touch::Copy { .. } => unreachable!(),
         // Flat pages are always in core.
-        Touch::Absent(_) => Fetched::Blank,
-        Touch::NeedFrame => Fetched::Blank,
+        Touch::Absent(_) | Touch::NeedFrame => unreachable!(),
     }
 }

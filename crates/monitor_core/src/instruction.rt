@@ -4,6 +4,7 @@ ghost use Rattle.plain_model.specs.Unit.{deed_of};
 ghost use Rattle.plain_model.specs.declared.fork.Regs.{Regs as ARegs};
 ghost use Rattle.monitor_core.specs.Instructions.{deed_by, IsInstruction};
 
+use plain_model::opcode;
 use word36::Word;
 
 /// An instruction that is built (PDP-10 handbook, "Instruction format").
@@ -31,12 +32,12 @@ pub fn decoded(word: Word) -> Instruction
     }
     let accumulator = left / 32 % 16;
     match left / 512 {
-        0o201 => Instruction::Movei {
+        opcode::MOVEI => Instruction::Movei {
             accumulator: accumulator as usize,
             address,
         },
-        0o254 if accumulator == 0 => Instruction::Jrst(address),
-        0o104 => Instruction::Jsys(address),
+        opcode::JRST if accumulator == 0 => Instruction::Jrst(address),
+        opcode::JSYS => Instruction::Jsys(address),
         _ => Instruction::Illegal,
     }
 }

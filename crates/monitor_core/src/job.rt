@@ -1,17 +1,30 @@
 // A job.
-ghost use Rattle.std.specs.Prelude.{◌≡◌, ◌<◌, ◌^◌, ◌↔◌, IsTrue, IfOk, length, false};
-ghost use Rattle.plain_model.specs.Forks.{top_fork};
+ghost use Rattle.std.specs.Prelude.{◌≡◌, ◌<◌, ◌≤◌, ◌%◌, ◌^◌, ◌↔◌, IsTrue, IfErr, IfOk, Ok, length, true, false};
+ghost use Rattle.outside.specs.declared.TheConstants.{PAGE_WORDS};
 ghost use Rattle.plain_model.specs.Events.{restarted};
+ghost use Rattle.plain_model.specs.Forks.{top_fork};
+ghost use Rattle.plain_model.specs.Limits.{FitsCause, FitsItem, IsAddress, IsTerminal};
+ghost use Rattle.plain_model.specs.Outcome.{DrumWords};
+ghost use Rattle.plain_model.specs.Unit.{slot_at as slot_of};
 ghost use Rattle.monitor_core.specs.Fetch.{FitsFetch, fork_fetched, shown_fetched};
 ghost use Rattle.monitor_core.specs.JobUnit.{job_fetched};
-ghost use Rattle.monitor_core.specs.Shown.{FitsShown};
 ghost use Rattle.monitor_core.specs.Jobs.{no_jobs};
+ghost use Rattle.monitor_core.specs.Looking.{examined_in, item_of, top_line};
+ghost use Rattle.monitor_core.specs.Shown.{FitsShown};
+ghost use Rattle.monitor_core.specs.Writing.{IsWritten, Makes, with_word};
 
+use crate::address::{offset_in_page, slot_at};
 use crate::fetch::Fetched;
 use crate::instruction::decoded;
+use crate::looking::seen_word;
 use crate::shown::Shown;
-use crate::unit::{ILLEGAL, performed, trapped};
-use plain_model::{Body, DirName, Fork, ForkName, ForkStatus, Psi, Regs, TERMINALS, TerminalMode};
+use crate::unit::{performed, trapped};
+use crate::writing::write_word;
+use plain_model::channel::ILLEGAL_INSTRUCTION;
+use plain_model::{
+    ACCUMULATORS, Body, DirName, Fork, ForkLine, ForkName, ForkStatus, Item, Pages, Psi, Refusal,
+    Regs, TERMINALS, TerminalMode,
+};
 use std::alloc::{AllocError, Global};
 use word36::{Flags, Word};
 
@@ -29,7 +42,7 @@ fn ran_fork(fork: &mut Fork, fetched: Fetched) -> Shown
     requires off { fork.old.body.psi.on ≡ false }
     requires few { fork.old.body.units < 2 ^ 63 }
     requires pc { fork.old.body.regs.pc < 2 ^ 18 }
-    requires accumulators { length fork.old.body.regs.ac ≡ 16 }
+    requires accumulators { length fork.old.body.regs.ac ≡ ACCUMULATORS }
     requires fetched { FitsFetch fetched }
     ensures fork { fork.new ≡ fork_fetched fork.old fetched }
     ensures shown { result ≡ shown_fetched fork.old fetched }
@@ -37,7 +50,7 @@ fn ran_fork(fork: &mut Fork, fetched: Fetched) -> Shown
 {
     match fetched {
         Fetched::Word(word) => performed(fork, decoded(word)),
-        Fetched::Blank => trapped(fork, ILLEGAL),
+        Fetched::Blank => trapped(fork, ILLEGAL_INSTRUCTION),
         Fetched::Trap(channel) => trapped(fork, channel),
     }
 }
@@ -50,7 +63,7 @@ impl Job {
         ensures top { result.top ≡ top_fork name }
     {
         let regs = Regs {
-            ac: [Word::ZERO; 16],
+            ac: [Word::ZERO; ACCUMULATORS as usize],
             pc: 0,
             flags: Flags::CLEAR,
         };
@@ -91,12 +104,67 @@ impl Job {
     pub fn start(&mut self, address: u32)
         ensures user { self.new.user ≡ self.old.user }
         ensures mode { self.new.mode ≡ TerminalMode.Program }
-        ensures top { self.new.top ≡ restarted self.old.top address }
+        ensures top { self.new.top ≡ restarted address self.old.top }
     {
         self.mode = TerminalMode::Program;
         self.top.frozen = false;
         self.top.body.status = ForkStatus::Run;
         self.top.body.regs.pc = address;
+    }
+
+    /// Puts a word at an address of the top fork: into an accumulator, or into a page by the fork's access.
+    /// Denied, where its map forbids that; Full, where a page had to be made and the drum is full.
+    pub fn poke<P: Pages>(&mut self, pages: &mut P, address: u32, word: Word) -> Result<(), Refusal>
+        requires flat { P.means.flat ≡ true }
+        requires lives { P.means.lives pages.old self.old.top.name ≡ true }
+        requires terminal { IsTerminal self.old.top.name.tty }
+        requires accumulators { length self.old.top.body.regs.ac ≡ ACCUMULATORS }
+        requires serial { P.means.serial pages.old self.old.top.name.tty < 2 ^ 61 }
+        requires address { IsAddress address }
+        ensures low { address < ACCUMULATORS → (result ≡ Ok tt) × (self.new ≡ with_word self.old address word) × (pages.new ≡ pages.old) }
+        ensures high { ACCUMULATORS ≤ address → (self.new ≡ self.old) × ((d : DrumWords) → P.means.fits pages.old d → P.means.fits pages.new d × IsWritten (P.means.plain pages.old d) (P.means.plain pages.new d) (slot_of self.old.top.name address) (address % PAGE_WORDS) word result) }
+        ensures made { Makes P.means pages.old pages.new self.old.top.name.tty 2 }
+        ensures fits { IfErr result FitsCause }
+    {
+        if address < ACCUMULATORS {
+            self.top.body.regs.ac[address as usize] = word;
+            return Ok(());
+        }
+        let slot = slot_at(self.top.name, address);
+        write_word(pages, slot, offset_in_page(address), word)
+    }
+
+    /// The word at an address of the fork with this serial, whatever its access, as it is shown. NoFork, where
+    /// that is not the top fork; NoPage, where no page is there.
+    pub fn examined<P: Pages>(&self, pages: &P, serial: u32, address: u32) -> Result<Item, Refusal>
+        requires flat { P.means.flat ≡ true }
+        requires lives { P.means.lives pages.now self.now.top.name ≡ true }
+        requires accumulators { length self.now.top.body.regs.ac ≡ ACCUMULATORS }
+        requires address { IsAddress address }
+        ensures told { (d : DrumWords) → P.means.fits pages.now d → result ≡ examined_in (P.means.plain pages.now d) self.now serial address }
+        ensures fits { IsTerminal self.now.top.name.tty → serial < 1000000 → FitsItem (item_of result) }
+    {
+        let t = self.top.name.tty;
+        if self.top.name.serial != serial {
+            return Err(Refusal::NoFork(t));
+        }
+        match seen_word(pages, &self.top, address) {
+            Some(word) => Ok(Item::Examined(t, serial, address, word)),
+            None => Err(Refusal::NoPage(t)),
+        }
+    }
+
+    /// The top fork as it is shown.
+    pub fn line(&self) -> ForkLine
+        ensures { result ≡ top_line self.now }
+    {
+        ForkLine {
+            name: self.top.name,
+            superior: 0,
+            status: self.top.body.status,
+            frozen: self.top.frozen,
+            address: self.top.body.regs.pc,
+        }
     }
 
     /// Does the unit of what the top fork fetched. Where the fork stops, the monitor reads the terminal.
@@ -105,7 +173,7 @@ impl Job {
         requires off { self.old.top.body.psi.on ≡ false }
         requires few { self.old.top.body.units < 2 ^ 63 }
         requires pc { self.old.top.body.regs.pc < 2 ^ 18 }
-        requires accumulators { length self.old.top.body.regs.ac ≡ 16 }
+        requires accumulators { length self.old.top.body.regs.ac ≡ ACCUMULATORS }
         requires fetched { FitsFetch fetched }
         ensures job { self.new ≡ job_fetched self.old fetched }
         ensures shown { result ≡ shown_fetched self.old.top fetched }
@@ -122,7 +190,7 @@ impl Job {
 /// No job at any terminal.
 #[tactic(auto, unfolding(crate::specs::Jobs::no_jobs))]
 pub fn empty_jobs(alloc: Global) -> Result<Vec<Option<Job>>, AllocError>
-    ensures { IfOk result (λ jobs. jobs.items ≡ no_jobs 16) }
+    ensures { IfOk result (λ jobs. jobs.items ≡ no_jobs TERMINALS) }
 {
     let none: [Option<Job>; TERMINALS as usize] = [None; TERMINALS as usize];
     Ok(Vec::from_array(alloc, none)?)

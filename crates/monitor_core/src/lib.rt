@@ -1,22 +1,20 @@
-//! The monitor: one event after another, done in steps of the plain machine; and its pages in memory alone.
+//! The monitor's machine, over any pages: jobs and their forks, and one event after another, done as steps.
 //! To the layers above `Machine::event` gives a taker legal steps that follow the event, with their items.
 //! Stands on `plain_model` for the definitions and the contracts of pages and takers.
 #![tactic(auto)]
 
+mod address;
 mod fetch;
 mod giving;
-mod held_page;
 mod instruction;
 mod job;
+mod job_event;
+mod looking;
 mod machine;
-mod page_serials;
-mod plain_store;
+mod reply;
 mod shown;
-mod space;
-#[cfg(test)]
-mod tests;
+mod system;
 mod unit;
 mod writing;
 
 pub use machine::{Config, Ended, Machine};
-pub use plain_store::PlainStore;

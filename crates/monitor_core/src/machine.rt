@@ -1,5 +1,7 @@
 // The machine, over any pages.
-use crate::job::Job;
+ghost use Rattle.monitor_core.specs.Systems.{IsWithin};
+
+use crate::system::System;
 use plain_model::Pages;
 
 /// Sizes of a machine: how many forks the balance set has at most, 1 to 63.
@@ -16,18 +18,10 @@ pub enum Ended {
     TakerFault,
 }
 
-/// The monitor with its jobs and their forks, over pages.
+/// The monitor: the system with its scheduler.
 #[derive(Drop)]
 pub struct Machine<P: Pages> {
-    pages: P,
-    /// The job of each terminal.
-    jobs: Vec<Option<Job>>,
-    /// The next fork serial of each terminal.
-    fork_serials: Vec<u32>,
-    /// How many ticks there were.
-    clock: u64,
-    /// From this terminal on there has been no job.
-    terminals: u8,
+    system: System<P>,
     /// The terminal that is looked at first for the next unit: the one behind that which ran last.
     next: u8,
     /// How many events and entries of runs are done.
@@ -36,10 +30,9 @@ pub struct Machine<P: Pages> {
     live: bool,
     /// A run completes transfers by itself.
     auto: bool,
+    ghost within: { IsWithin system done },
 }
 
 mod boot;
 mod event;
-mod events;
-mod one_unit;
 mod turns;

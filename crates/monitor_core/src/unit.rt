@@ -9,23 +9,11 @@ ghost use Rattle.monitor_core.specs.ForkUnit.{fork_after, shown_after};
 
 use crate::instruction::Instruction;
 use crate::shown::Shown;
-use plain_model::{Fork, ForkStatus, Regs};
+use plain_model::call::{HALTF, PBOUT};
+use plain_model::channel::ILLEGAL_INSTRUCTION;
+use plain_model::character::LINE_END;
+use plain_model::{ACCUMULATORS, Fork, ForkStatus, Regs};
 use word36::Word;
-
-/// The channel of an illegal instruction.
-pub const ILLEGAL: u8 = 15;
-
-/// The channel of a denied fetch.
-pub const DENIED_EXECUTE: u8 = 18;
-
-/// The channel of a full drum.
-pub const FULL: u8 = 20;
-
-const PBOUT: u32 = 0o74;
-
-const HALTF: u32 = 0o170;
-
-const LINE_END: u8 = 0o37;
 
 /// A unit traps: it changes nothing, and the fork is forced by the channel.
 #[inline]
@@ -68,7 +56,7 @@ fn called(fork: &mut Fork, number: u32) -> Shown
     requires off { fork.old.body.psi.on ≡ false }
     requires few { fork.old.body.units < 2 ^ 63 }
     requires pc { fork.old.body.regs.pc < 2 ^ 18 }
-    requires accumulators { length fork.old.body.regs.ac ≡ 16 }
+    requires accumulators { length fork.old.body.regs.ac ≡ ACCUMULATORS }
     ensures fork { fork.new ≡ fork_after fork.old (deed_by fork.old.body.regs (Instruction.Jsys number)) }
     ensures shown { result ≡ shown_after fork.old (deed_by fork.old.body.regs (Instruction.Jsys number)) }
     ensures fits { FitsShown result }
@@ -86,7 +74,7 @@ fn called(fork: &mut Fork, number: u32) -> Shown
             fork.body.units += 1;
             Shown::Halted
         }
-        _ => trapped(fork, ILLEGAL),
+        _ => trapped(fork, ILLEGAL_INSTRUCTION),
     }
 }
 
@@ -96,7 +84,7 @@ pub fn performed(fork: &mut Fork, instruction: Instruction) -> Shown
     requires off { fork.old.body.psi.on ≡ false }
     requires few { fork.old.body.units < 2 ^ 63 }
     requires pc { fork.old.body.regs.pc < 2 ^ 18 }
-    requires accumulators { length fork.old.body.regs.ac ≡ 16 }
+    requires accumulators { length fork.old.body.regs.ac ≡ ACCUMULATORS }
     requires instruction { IsInstruction instruction }
     ensures fork { fork.new ≡ fork_after fork.old (deed_by fork.old.body.regs instruction) }
     ensures shown { result ≡ shown_after fork.old (deed_by fork.old.body.regs instruction) }
@@ -118,6 +106,6 @@ pub fn performed(fork: &mut Fork, instruction: Instruction) -> Shown
             Shown::Nothing
         }
         Instruction::Jsys(number) => called(fork, number),
-        Instruction::Illegal => trapped(fork, ILLEGAL),
+        Instruction::Illegal => trapped(fork, ILLEGAL_INSTRUCTION),
     }
 }

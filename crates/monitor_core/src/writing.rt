@@ -1,82 +1,68 @@
 // A word that is written through a fork's map.
-ghost use Rattle.std.specs.Prelude.{◌≡◌, ◌≢◌, ◌<◌, ◌≤◌, ◌+◌, ◌^◌, true};
+ghost use Rattle.std.specs.Prelude.{◌≡◌, ◌<◌, ◌^◌, true, IfErr, OnOk};
+ghost use Rattle.outside.specs.declared.TheConstants.{PAGE_WORDS};
+ghost use Rattle.plain_model.specs.Limits.{FitsCause, IsTerminal};
 ghost use Rattle.plain_model.specs.Outcome.{DrumWords};
-ghost use Rattle.plain_model.specs.declared.names.Tty.{Tty as ATty};
-ghost use Rattle.monitor_core.specs.Writing.{IsReadied, IsWritten};
+ghost use Rattle.monitor_core.specs.Writing.{IsReadied, IsWritten, Makes};
 
-use plain_model::{Kind, Pages, Place, Slot, Touch};
+use plain_model::{Kind, Pages, Place, Refusal, SPACE_PAGES, Slot, Touch};
 use word36::Word;
 
-/// How a write ended.
-#[derive(Clone, Copy, Debug, PartialEq, Eq)]
-pub enum Write {
-    Done,
-    /// The map forbids it.
-    Denied,
-    /// A page had to be made, and the drum is full.
-    Full,
-}
-
-// Makes what a write to a slot wants: a zero page, or a private copy.
-fn readied<P: Pages>(pages: &mut P, slot: Slot) -> Write
-    requires flat { P.flat ≡ true }
-    requires lives { P.lives pages.old slot.fork ≡ true }
-    requires page { slot.page < 512 }
-    requires terminal { slot.fork.tty.0 < 16 }
-    requires serial { P.serial pages.old slot.fork.tty < 2 ^ 61 }
-    ensures told { (d : DrumWords) → P.fits pages.old d → P.fits pages.new d × IsReadied (P.filed pages.old d) (P.plain pages.old d) (P.plain pages.new d) slot result × (P.filed pages.new d ≡ P.filed pages.old d) }
-    ensures ready { result ≡ Write.Done → P.touched pages.new (Place.Fork slot) Kind.Write ≡ Touch.Ready }
-    ensures lives { P.lives pages.new ≡ P.lives pages.old }
-    ensures forks { P.forks_of pages.new ≡ P.forks_of pages.old }
-    ensures most { P.most pages.new ≡ P.most pages.old }
-    ensures serial { P.serial pages.new slot.fork.tty ≤ P.serial pages.old slot.fork.tty + 2 }
-    ensures serials { (t : ATty) → t ≢ slot.fork.tty → P.serial pages.new t ≡ P.serial pages.old t }
+// Makes what a write to a slot wants: a zero page, a private copy, or the one and then the other.
+fn readied<P: Pages>(pages: &mut P, slot: Slot) -> Result<(), Refusal>
+    requires flat { P.means.flat ≡ true }
+    requires lives { P.means.lives pages.old slot.fork ≡ true }
+    requires page { slot.page < SPACE_PAGES }
+    requires terminal { IsTerminal slot.fork.tty }
+    requires serial { P.means.serial pages.old slot.fork.tty < 2 ^ 61 }
+    ensures told { (d : DrumWords) → P.means.fits pages.old d → P.means.fits pages.new d × IsReadied (P.means.plain pages.old d) (P.means.plain pages.new d) slot result }
+    ensures ready { OnOk result (P.means.touched pages.new (Place.Fork slot) Kind.Write ≡ Touch.Ready) }
+    ensures made { Makes P.means pages.old pages.new slot.fork.tty 2 }
+    ensures fits { IfErr result FitsCause }
 {
     let at = Place::Fork(slot);
     match pages.touch(at, Kind::Write) {
-        Touch::Ready => Write::Done,
+        Touch::Ready => Ok(()),
         Touch::Zero => {
             pages.settle(at, Kind::Write, slot.fork.tty);
             match pages.touch(at, Kind::Write) {
-                Touch::Ready => Write::Done,
                 Touch::Copy { .. } => {
                     pages.settle(at, Kind::Write, slot.fork.tty);
-                    Write::Done
+                    Ok(())
                 }
-                _ => unreachable!(),
+                _ => Ok(()),
             }
         }
         Touch::Copy { .. } => {
             pages.settle(at, Kind::Write, slot.fork.tty);
-            Write::Done
+            Ok(())
         }
-        Touch::Denied(_) => Write::Denied,
-        Touch::Full => Write::Full,
+        Touch::Denied(_) => Err(Refusal::Denied(slot.fork.tty)),
+        Touch::Full => Err(Refusal::Full(slot.fork.tty)),
+        // Flat pages are always in core.
         Touch::Absent(_) | Touch::NeedFrame => unreachable!(),
     }
 }
 
-/// Writes a word at an offset of a slot, by the access of the fork's map.
-pub fn write_word<P: Pages>(pages: &mut P, slot: Slot, offset: u16, word: Word) -> Write
-    requires flat { P.flat ≡ true }
-    requires lives { P.lives pages.old slot.fork ≡ true }
-    requires page { slot.page < 512 }
-    requires offset { offset < 512 }
-    requires terminal { slot.fork.tty.0 < 16 }
-    requires serial { P.serial pages.old slot.fork.tty < 2 ^ 61 }
-    ensures told { (d : DrumWords) → P.fits pages.old d → P.fits pages.new d × IsWritten (P.filed pages.old d) (P.plain pages.old d) (P.plain pages.new d) slot offset word result × (P.filed pages.new d ≡ P.filed pages.old d) }
-    ensures lives { P.lives pages.new ≡ P.lives pages.old }
-    ensures forks { P.forks_of pages.new ≡ P.forks_of pages.old }
-    ensures most { P.most pages.new ≡ P.most pages.old }
-    ensures serial { P.serial pages.new slot.fork.tty ≤ P.serial pages.old slot.fork.tty + 2 }
-    ensures serials { (t : ATty) → t ≢ slot.fork.tty → P.serial pages.new t ≡ P.serial pages.old t }
+/// Writes a word at an offset of a slot, by the access of the fork's map. Denied, where the map forbids it;
+/// Full, where a page had to be made and the drum is full. Nothing changes where it is refused.
+pub fn write_word<P: Pages>(
+    pages: &mut P,
+    slot: Slot,
+    offset: u16,
+    word: Word,
+) -> Result<(), Refusal>
+    requires flat { P.means.flat ≡ true }
+    requires lives { P.means.lives pages.old slot.fork ≡ true }
+    requires page { slot.page < SPACE_PAGES }
+    requires offset { offset < PAGE_WORDS }
+    requires terminal { IsTerminal slot.fork.tty }
+    requires serial { P.means.serial pages.old slot.fork.tty < 2 ^ 61 }
+    ensures told { (d : DrumWords) → P.means.fits pages.old d → P.means.fits pages.new d × IsWritten (P.means.plain pages.old d) (P.means.plain pages.new d) slot offset word result }
+    ensures made { Makes P.means pages.old pages.new slot.fork.tty 2 }
+    ensures fits { IfErr result FitsCause }
 {
-    match readied(pages, slot) {
-        Write::Done => {
-            pages.put(Place::Fork(slot), offset, word);
-            Write::Done
-        }
-        Write::Denied => Write::Denied,
-        Write::Full => Write::Full,
-    }
+    readied(pages, slot)?;
+    pages.put(Place::Fork(slot), offset, word);
+    Ok(())
 }

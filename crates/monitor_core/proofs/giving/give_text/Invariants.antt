@@ -1,4 +1,4 @@
-use Rattle.std.proofs.Common.{◌≤◌, take, []}
+use Rattle.std.proofs.Common.{[], take, ◌≤◌}
 use Rattle.plain_model.specs.Taker.{GoesOn, StaysOnward}
 use Rattle.plain_model.specs.Unit.{printed}
 use Rattle.monitor_core.proofs.giving.give_text.Given as goal

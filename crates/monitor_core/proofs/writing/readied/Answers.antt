@@ -1,45 +1,57 @@
-use Rattle.std.proofs.Common.{refl, sym, ◌∙◌}
-use Rattle.plain_model.specs.declared.names.Kind.TheVariants.{Write}
-use Rattle.plain_model.proofs.Touches.{ready_touch, denied_touch, full_touch}
-use Rattle.monitor_core.proofs.Writes.{copy_readies, zero_readies, zero_copies}
+use Rattle.std.proofs.Common.{◌≡◌, true, inl, refl, sym, ◌∙◌, ap, subst, arith}
+use Rattle.plain_model.specs.declared.map.Touch.TheVariants.{Ready}
+use Rattle.plain_model.specs.Pages.{SettlesTo, is_in_core}
+use Rattle.monitor_core.proofs.Writes.{readied_as, ready_refers, copy_refers, zero_refers, denied_refers, full_refers, settles_ready}
 use Rattle.monitor_core.proofs.writing.readied.Goals as goal
 
 pub returns-in-Ready-clause-told : goal.returns-in-Ready-clause-told
 returns-in-Ready-clause-told g c d f =
-    (f, ready_touch (g.P.Pages.filed c.args.pages.now d) (g.P.Pages.plain c.args.pages.now d) (g.P.Pages.scene c.args.pages.now) c.args.slot Write (sym (c.in-Ready.ensures.told d f)), refl)
-
-pub returns-in-Ready-touch-clause-told : goal.returns-in-Ready-touch-clause-told
-returns-in-Ready-touch-clause-told g c d f =
-    let made = c.settle.ensures.told d f in (
-      made.0,
-      zero_readies (g.P.Pages.filed c.args.pages.now d) (g.P.Pages.filed c.settle.new.self d) (g.P.Pages.plain c.args.pages.now d) (g.P.Pages.plain c.settle.new.self d) (g.P.Pages.scene c.args.pages.now) (g.P.Pages.scene c.settle.new.self) c.args.slot made.2 made.1
-          (sym (c.in-Zero.ensures.told d f)) (sym (c.in-Ready-touch.ensures.told d made.0)),
-      made.2,
-    )
+    let p = g.P.Pages.means.plain c.args.pages.now d in
+    (f, readied_as p c.args.slot p tt (ready_refers p (g.P.Pages.means.scene c.args.pages.now) c.args.slot _ (c.in-Ready.ensures.told d c.args.slot.fork.tty f (inl c.requires.terminal)) refl))
 
 pub returns-in-Copy-touch-clause-told : goal.returns-in-Copy-touch-clause-told
 returns-in-Copy-touch-clause-told g c d f =
-    let made = c.settle.ensures.told d f in
-    let copied = c.settle-in-Copy-touch.ensures.told d made.0 in (
+    let p = g.P.Pages.means.plain c.args.pages.now d in
+    let zero = c.settle.ensures.told d f in
+    let q = g.P.Pages.means.plain c.settle.new.self d in
+    let copied = c.settle-in-Copy-touch.ensures.told d zero.0 in
+    let r = g.P.Pages.means.plain c.settle-in-Copy-touch.new.self d in (
       copied.0,
-      zero_copies (g.P.Pages.filed c.args.pages.now d) (g.P.Pages.filed c.settle.new.self d) (g.P.Pages.plain c.args.pages.now d) (g.P.Pages.plain c.settle.new.self d) (g.P.Pages.scene c.args.pages.now) (g.P.Pages.scene c.settle.new.self) c.args.slot made.2 made.1
-          (g.P.Pages.plain c.settle-in-Copy-touch.new.self d) c.in-Copy-touch.sole (sym (c.in-Zero.ensures.told d f)) (sym (c.in-Copy-touch.ensures.told d made.0)) copied.1,
-      copied.2 ∙ made.2,
+      readied_as p c.args.slot r tt
+          (zero_refers p (g.P.Pages.means.scene c.args.pages.now) c.args.slot _ (c.in-Zero.ensures.told d c.args.slot.fork.tty f (inl c.requires.terminal)) q r refl zero.1
+          (copy_refers q (g.P.Pages.means.scene c.settle.new.self) c.args.slot _ (c.in-Copy-touch.ensures.told d c.args.slot.fork.tty zero.0 (inl c.requires.terminal)) c.in-Copy-touch.sole r refl copied.1)),
     )
+
+pub returns-in_default : goal.returns-in_default
+returns-in_default g c =
+    let core : is_in_core c.touch-in-Zero.result ≡ true = c.touch-in-Zero.ensures.core c.requires.flat in
+    let ready : c.touch-in-Zero.result ≡ Ready = settles_ready (g.P.Pages.means.touched c.args.pages.now _ _) c.touch-in-Zero.result (sym c.in-Zero.ensures.answer) (subst (SettlesTo _) (sym c.touch-in-Zero.ensures.answer) c.settle.ensures.settles) c.in_default.not-Copy core in
+    record {
+      told = λ d f.
+          let p = g.P.Pages.means.plain c.args.pages.now d in
+          let zero = c.settle.ensures.told d f in
+          let q = g.P.Pages.means.plain c.settle.new.self d in (
+            zero.0,
+            readied_as p c.args.slot q tt
+                (zero_refers p (g.P.Pages.means.scene c.args.pages.now) c.args.slot _ (c.in-Zero.ensures.told d c.args.slot.fork.tty f (inl c.requires.terminal)) q q refl zero.1
+                (ready_refers q (g.P.Pages.means.scene c.settle.new.self) c.args.slot _ (c.touch-in-Zero.ensures.told d c.args.slot.fork.tty zero.0 (inl c.requires.terminal)) ready)),
+          );
+      ready = sym c.touch-in-Zero.ensures.answer ∙ ready;
+      made = record { lives = c.settle.ensures.lives; forks = c.settle.ensures.forks; most = c.settle.ensures.most; own = omega (arith, c.settle.ensures.serial); others = c.settle.ensures.serials };
+      fits = tt;
+    }
 
 pub returns-in-Copy-clause-told : goal.returns-in-Copy-clause-told
 returns-in-Copy-clause-told g c d f =
-    let copied = c.settle-in-Copy.ensures.told d f in (
-      copied.0,
-      copy_readies (g.P.Pages.filed c.args.pages.now d) (g.P.Pages.filed c.settle-in-Copy.new.self d) (g.P.Pages.plain c.args.pages.now d) (g.P.Pages.plain c.settle-in-Copy.new.self d) (g.P.Pages.scene c.args.pages.now) (g.P.Pages.scene c.settle-in-Copy.new.self) c.args.slot copied.2 copied.1
-          c.in-Copy.sole (sym (c.in-Copy.ensures.told d f)),
-      copied.2,
-    )
+    let p = g.P.Pages.means.plain c.args.pages.now d in
+    let copied = c.settle-in-Copy.ensures.told d f in
+    let q = g.P.Pages.means.plain c.settle-in-Copy.new.self d in
+    (copied.0, readied_as p c.args.slot q tt (copy_refers p (g.P.Pages.means.scene c.args.pages.now) c.args.slot _ (c.in-Copy.ensures.told d c.args.slot.fork.tty f (inl c.requires.terminal)) c.in-Copy.sole q refl copied.1))
 
 pub returns-in-Denied-clause-told : goal.returns-in-Denied-clause-told
 returns-in-Denied-clause-told g c d f =
-    (f, (refl, denied_touch (g.P.Pages.filed c.args.pages.now d) (g.P.Pages.plain c.args.pages.now d) (g.P.Pages.scene c.args.pages.now) c.args.slot Write _ (sym (c.in-Denied.ensures.told d f))), refl)
+    (f, denied_refers (g.P.Pages.means.plain c.args.pages.now d) (g.P.Pages.means.scene c.args.pages.now) c.args.slot _ (c.in-Denied.ensures.told d c.args.slot.fork.tty f (inl c.requires.terminal)) _ refl)
 
 pub returns-in-Full-clause-told : goal.returns-in-Full-clause-told
 returns-in-Full-clause-told g c d f =
-    (f, (refl, full_touch (g.P.Pages.filed c.args.pages.now d) (g.P.Pages.plain c.args.pages.now d) (g.P.Pages.scene c.args.pages.now) c.args.slot Write (sym (c.in-Full.ensures.told d f))), refl)
+    (f, full_refers (g.P.Pages.means.plain c.args.pages.now d) (g.P.Pages.means.scene c.args.pages.now) c.args.slot _ (c.in-Full.ensures.told d c.args.slot.fork.tty f (inl c.requires.terminal)) refl)

@@ -1,18 +1,13 @@
-use Rattle.std.proofs.Common.{true, refl}
-use Rattle.monitor_core.specs.declared.machine.Machine.{Machine}
-use Rattle.monitor_core.proofs.BootDid.{booted, sound_boot}
-use Rattle.monitor_core.proofs.machine.Machine.boot.Given as Given
+use Rattle.std.proofs.Common.{◌≤◌, sym, ◌∙◌, subst, ap, arith}
+use Rattle.monitor_core.proofs.BootDid.{within_boot, booted}
 use Rattle.monitor_core.proofs.machine.Machine.boot.Goals as goal
 
--- the machine that the call answers
-abbrev made : (g : Given.Over) → goal.In_ok-fork_serials g → Machine g.row.P.Denot
-made g c = record { pages = c.args.pages; jobs = c.in_ok-jobs.jobs; fork_serials = c.in_ok-fork_serials.fork_serials; clock = 0; terminals = 0; next = 0; done = 0; live = true; auto = true }
+pub invariant_of-result : goal.invariant_of-result
+invariant_of-result g c = record {
+  within = within_boot c.in_ok-system.system c.in_ok-system.ensures.jobs c.in_ok-system.ensures.clock (λ t. omega (arith, ap (λ p. g.P.Pages.means.serial p t) c.in_ok-system.ensures.pages, c.requires.serials t));
+}
 
 pub returns-clause-state : goal.returns-clause-state
-returns-clause-state g c d f = (
-  record { pages = f; unfiled = c.requires.files d f },
-  booted (made g c) c.in_ok-jobs.ensures c.in_ok-fork_serials.ensures refl g.P.Pages.plain (g.P.Pages.most c.args.pages) d (c.requires.opening d f),
-)
-
-pub returns-clause-sound : goal.returns-clause-sound
-returns-clause-sound g c = sound_boot (made g c) c.in_ok-jobs.ensures c.in_ok-fork_serials.ensures refl g.P.Pages.lives g.P.Pages.forks_of g.P.Pages.serial c.requires.forks c.requires.serials
+returns-clause-state g c d f =
+    booted c.in_ok-system.system c.in_ok-system.ensures.jobs c.in_ok-system.ensures.clock (g.P.Pages.means.most c.args.pages) d c.in_ok-system.ensures.serials
+    (subst (λ p. g.P.Pages.means.fits p d) (sym c.in_ok-system.ensures.pages) f) (ap (λ p. g.P.Pages.means.plain p d) c.in_ok-system.ensures.pages ∙ c.requires.opening d f)

@@ -1,23 +1,37 @@
-use Rattle.std.proofs.Common.{arith, ◌∙◌}
+use Rattle.std.proofs.Common.{◌∙◌, arith}
+use Rattle.std.proofs.lemmas.Result.{IfOk-from_err}
+use Rattle.plain_model.proofs.Runs.{onward_then}
 use Rattle.monitor_core.proofs.Given.{on_err}
-use Rattle.monitor_core.proofs.TurnDid.{turns_more, turns_cut}
+use Rattle.monitor_core.proofs.StepDid.{turn_more, turn_cut}
 use Rattle.monitor_core.proofs.machine.Machine.run.Goals as goal
 
 pub loop-turn-preserved : goal.loop-turn-preserved
 loop-turn-preserved g c =
     let i = c.loop-turn.invariant in
+    let turn = c.turn.ensures in
     record {
-      later = omega (arith, i.later, c.turn.ensures.later);
-      onward = record { each = λ first h. c.turn.ensures.onward.each first (i.onward.each first h) };
-      sound = c.turn.ensures.sound;
-      done = omega (arith, i.done, c.turn.ensures.done);
-      auto = c.turn.ensures.auto ∙ i.auto;
-      live = c.turn.ensures.live ∙ i.live;
-      most = c.turn.ensures.most ∙ i.most;
-      given = turns_more g.P.Pages.fits g.P.Pages.filed g.P.Pages.plain g.T.Taker.stands g.T.Taker.cut _ _ _ _ _ _ _ _ _ i.given i.auto c.in_ok-turn.ensures.ok;
+      later = omega (arith, i.later, turn.taker.later);
+      onward = onward_then g.T.Taker.onward _ _ _ i.onward turn.taker.goes_on;
+      mark = turn.mark ∙ i.mark;
+      live = turn.live ∙ i.live;
+      most = turn.most ∙ i.most;
+      given = turn_more g.T.Taker.fault_count g.T.Taker.onward g.T.Taker.stands g.T.Taker.cut c.args.self.now _ c.args.out.now _ _ i.given c.turn.new.self c.turn.new.out c.in_ok-turn.ensures.ok;
     }
 
-pub returns-in_err-turn-clause-err : goal.returns-in_err-turn-clause-err
-returns-in_err-turn-clause-err g c =
+pub returns-in_err-turn : goal.returns-in_err-turn
+returns-in_err-turn g c =
     let i = c.loop-turn.invariant in
-    on_err c.from_residual.result (turns_cut g.P.Pages.fits g.P.Pages.filed g.P.Pages.plain g.T.Taker.stands g.T.Taker.cut _ _ _ _ _ _ _ _ _ i.given i.auto c.in_err-turn.ensures.err c.loop-turn-test.true)
+    let turn = c.in_err-turn.ensures in
+    let r = c.from_residual.result in
+    record {
+      taker = record {
+        later = omega (arith, i.later, turn.taker.later);
+        cause = on_err r (omega (arith, i.later, turn.taker.cause));
+        goes_on = onward_then g.T.Taker.onward _ _ _ i.onward turn.taker.goes_on;
+      };
+      ok = IfOk-from_err r _ c.from_residual.ensures.0;
+      err = on_err r (turn_cut g.T.Taker.fault_count g.T.Taker.onward g.T.Taker.stands g.T.Taker.cut c.args.self.now _ c.args.out.now _ _ i.given c.turn.new.out c.args.n c.loop-turn-test.true turn.err);
+      mark = turn.mark ∙ i.mark;
+      live = turn.live ∙ i.live;
+      most = turn.most ∙ i.most;
+    }

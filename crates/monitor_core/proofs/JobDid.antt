@@ -1,0 +1,309 @@
+-- An event of a terminal's job, as the event of the plain machine.
+use Rattle.std.proofs.Common.{◌≡◌, ◌⊎◌, inl, inr, ℕ, ◌+◌, ◌*◌, ◌<◌, ◌≤◌, ◌%◌, ◌^◌, [], ◌∷◌, List, get_or, set, map, Bool, true, false, cond, Option, None, Some, refl, sym, ◌∙◌, ap, subst, arith, nat_lt, slice_index, slice_set, ◌==◌}
+use Rattle.std.specs.Prelude.{Result, Ok, Err, OnErr, IfErr}
+use Rattle.std.proofs.lemmas.Bool.{cases_eq, eq-eqb, ne_eqb}
+use Rattle.std.proofs.lemmas.List.{set-get_or}
+use Rattle.std.specs.Ordering.{nat_cmp}
+use Rattle.std.specs.Cmp.{nat_cmp_total}
+use Rattle.std.specs.Option.{option_map, option_map_or}
+use Rattle.std.specs.FinMap as fin
+use Rattle.outside.specs.declared.TheConstants.{PAGE_WORDS}
+use Rattle.plain_model.specs.declared.names.TheConstants.{TERMINALS, ACCUMULATORS}
+use Rattle.plain_model.specs.declared.names.Tty.{Tty}
+use Rattle.plain_model.specs.declared.names.ForkName.{ForkName}
+use Rattle.plain_model.specs.declared.names.Slot.{Slot}
+use Rattle.plain_model.specs.declared.names.PageName.{PageName}
+use Rattle.plain_model.specs.declared.names.Kind.TheVariants.{Write}
+use Rattle.plain_model.specs.declared.fork.Fork.{Fork}
+use Rattle.plain_model.specs.declared.fork.TerminalMode.TheVariants.{Program}
+use Rattle.plain_model.specs.declared.event.Event.{Event}
+use Rattle.plain_model.specs.declared.event.Step.TheVariants.{Outer}
+use Rattle.plain_model.specs.declared.event.Item.{Item}
+use Rattle.plain_model.specs.declared.event.Item.TheVariants.{Examined, ForkLine, Refusal}
+use Rattle.plain_model.specs.declared.event.Refusal.{Refusal as Cause}
+use Rattle.plain_model.specs.declared.event.Refusal.TheVariants.{NoJob, NoFork, NoPage, Denied, Full}
+use Rattle.plain_model.specs.State.{PlainState, NumberedPages, PlainJob}
+use Rattle.plain_model.specs.Outcome.{DrumWords}
+use Rattle.plain_model.specs.Limits.{FitsCause, FitsItem, IsTerminal}
+use Rattle.plain_model.specs.Run.{apply}
+use Rattle.plain_model.specs.References.{Referred, granted, denied, full, in_map, reference, stored, words_of, page_at}
+use Rattle.plain_model.specs.Forks.{with_fork, change_fork, fork_line, forks_by_slot}
+use Rattle.plain_model.specs.Unit.{Effect, slot_at}
+use Rattle.plain_model.specs.Events.{refused, at_job, poked, with_accumulator, restarted, word_seen, outer}
+use Rattle.plain_model.proofs.Equations.{apply_outer, outer_poke, outer_start, outer_examine, outer_forks}
+use Rattle.plain_model.proofs.Refiled.{refiled_result}
+use Rattle.plain_model.specs.Orders.{name_cmp}
+use Rattle.monitor_core.specs.declared.job.Job.{Job}
+use Rattle.monitor_core.specs.declared.job_event.JobEvent.{JobEvent}
+use Rattle.monitor_core.specs.declared.job_event.JobEvent.TheVariants.{Poke as ToPoke, Start as ToStart, Examine as ToExamine, Forks as ToShow}
+use Rattle.monitor_core.specs.declared.reply.Reply.{Reply}
+use Rattle.monitor_core.specs.declared.reply.Reply.TheVariants.{Nothing, One, Forks}
+use Rattle.monitor_core.specs.declared.system.System.{System}
+use Rattle.monitor_core.specs.JobEvents.{event_at}
+use Rattle.monitor_core.specs.Jobs.{jobs_of, forks_of, job_at, plain_job}
+use Rattle.monitor_core.specs.Looking.{word_in, examined_in, item_of}
+use Rattle.monitor_core.specs.Replies.{reply_items, FitsReply}
+use Rattle.monitor_core.specs.Sound.{IsJob}
+use Rattle.monitor_core.specs.Systems.{state_of, FitsPages, IsWithin, Did, most_makings}
+use Rattle.monitor_core.specs.Writing.{write_of, left_by, IsReadied, IsWritten, Makes, with_word}
+use Rattle.monitor_core.proofs.Fetches.{below, not_below}
+use Rattle.monitor_core.proofs.Lookups.{job_found, job_missing, fork_found, fork_missing}
+use Rattle.monitor_core.proofs.Making.{stored_files, reference_files}
+use Rattle.monitor_core.proofs.Sounds.{split_at, job_worded}
+use Rattle.monitor_core.proofs.Systems.{owns, state_set, units_set, within_later}
+use Rattle.monitor_core.proofs.Unfiled.{named, reference_named}
+use Rattle.monitor_core.proofs.UnitEffect.{job_stays}
+
+-- what was read is put back
+pub put_back : {X : Type 0} (xs : List X) (i : ℕ) (x y : X) → x ≡ get_or xs i x → x ≡ y → set xs i y ≡ xs
+put_back xs i x y read is = ap (set xs i) (sym is ∙ read) ∙ set-get_or xs i x
+
+-- without a job each is refused
+no_job_event : (s : PlainState) (t : Tty) (e : JobEvent) → fin.get s.jobs t.0 ≡ None → outer s (event_at t e) ≡ refused s (NoJob t)
+no_job_event s t (ToPoke address word) h = outer_poke s t address word ∙ rw h
+no_job_event s t (ToStart address) h = outer_start s t address ∙ rw h
+no_job_event s t (ToExamine serial address) h = outer_examine s t serial address ∙ rw h
+no_job_event s t ToShow h = outer_forks s t ∙ rw h
+
+module _ {P : Type 0} {b : _} (m m' : System P b) (same : m'.pages ≡ m.pages) (jobs : m'.jobs.items ≡ m.jobs.items) (serials : m'.fork_serials.items ≡ m.fork_serials.items) (clock : m'.clock ≡ m.clock) where
+  -- an event that changes nothing
+  pub did_still : (e : Event) (reply : Reply) → FitsReply m.jobs.items reply → ((d : DrumWords) → FitsPages m d → ◌≡◌ {A = Effect} (outer (state_of m d) e) (record { state = state_of m d; items = reply_items (state_of m d) reply })) → Did m m' (Outer e) reply
+  did_still e reply fits shows = record {
+    each = λ d f.
+        let old = state_of m d in
+        let new : state_of m' d ≡ old = λ i. record old { pages = named (b.means.plain (same i) d); jobs = jobs_of (jobs i); forks = forks_of (jobs i); fork_serials = serials i; clock = clock i } in
+        let effect = apply_outer old e ∙ shows d f in (
+          record { pages = subst (λ p. b.means.fits p d) (sym same) f.pages; unfiled = ap (λ p. (b.means.plain p d).files) same ∙ f.unfiled },
+          new ∙ ap (λ x. x.state) (sym effect),
+          ap (λ s. reply_items s reply) new ∙ ap (λ x. x.items) (sym effect),
+        );
+    shown = subst (λ js. FitsReply js reply) (sym jobs) fits;
+    within = λ entries w. record {
+      ticks = omega (arith, clock, w.ticks);
+      units = λ t j e. omega (arith, w.units t j (ap (λ js. job_at js t) (sym jobs) ∙ e));
+      serials = λ t. omega (arith, ap (λ p. b.means.serial p t) same, w.serials t);
+    };
+    most = ap b.means.most same;
+  }
+
+  pub did_no_job : (t : Tty) (e : JobEvent) → IsTerminal t → job_at m.jobs.items t.0 ≡ None → Did m m' (Outer (event_at t e)) (One (Refusal (NoJob t)))
+  did_no_job t e terminal free = did_still (event_at t e) (One (Refusal (NoJob t))) terminal (λ d f. no_job_event (state_of m d) t e (job_missing m.jobs.items t.0 free))
+
+  module _ (t : Tty) (e : JobEvent) (j : Job) (at : job_at m.jobs.items t.0 ≡ Some j) where
+    named_top : (serial : ℕ) → j.top.name.serial ≡ serial → ◌≡◌ {A = ForkName} (record { tty = t; serial = serial }) j.top.name
+    named_top serial is = λ i. record { tty = record { 0 = sym (owns m t.0 j at) i }; serial = sym is i }
+
+    top_tty : j.top.name.tty ≡ t
+    top_tty = λ i. record { 0 = owns m t.0 j at i }
+
+    -- the word that is there, as the state has it
+    seen_word : (d : DrumWords) → word_seen (state_of m d) j.top ≡ word_in (b.means.plain m.pages d) j.top
+    unfolding page_at
+    seen_word d = refl
+
+    shown_word : (s : PlainState) (serial address : ℕ) (o : Option ℕ) → ◌≡◌ {A = Effect} (option_map_or (λ word. record { state = s; items = Examined t serial address word ∷ [] }) o (refused s (NoPage t)))
+        (record { state = s; items = item_of (option_map_or (λ word. Ok (Examined j.top.name.tty serial address word)) o (Err (NoPage j.top.name.tty))) ∷ [] })
+    shown_word s serial address None = λ i. refused s (NoPage (sym top_tty i))
+    shown_word s serial address (Some word) = λ i. record { state = s; items = Examined (sym top_tty i) serial address word ∷ [] }
+
+    examines : (d : DrumWords) (serial address : ℕ) → ◌≡◌ {A = Effect} (outer (state_of m d) (event_at t (ToExamine serial address))) (record { state = state_of m d; items = item_of (examined_in (b.means.plain m.pages d) j serial address) ∷ [] })
+    examines d serial address =
+        let s = state_of m d in
+        let p = b.means.plain m.pages d in
+        let of_fork : Option Fork → Effect = λ o. option_map_or (λ f. option_map_or (λ word. record { state = s; items = Examined t serial address word ∷ [] }) (word_seen s f address) (refused s (NoPage t))) o (refused s (NoFork t)) in
+        let found : ◌≡◌ {A = Effect} (outer s (event_at t (ToExamine serial address))) (of_fork (fin.get s.forks (record { tty = t; serial = serial }))) =
+        outer_examine s t serial address ∙ ap (λ (o : Option PlainJob). option_map_or (λ i. of_fork (fin.get s.forks (record { tty = t; serial = serial }))) o (refused s (NoJob t))) (job_found m.jobs.items t.0 j at) in
+        elim (cases_eq j.top.name.serial serial) [
+          | inl is ↦
+              found ∙ ap (λ n. of_fork (fin.get s.forks n)) (named_top serial is) ∙ ap of_fork (fork_found m.jobs.items t.0 j (owns m) at)
+              ∙ ap (λ w. option_map_or (λ word. record { state = s; items = Examined t serial address word ∷ [] }) (w address) (refused s (NoPage t))) (seen_word d)
+              ∙ shown_word s serial address (word_in p j.top address)
+              ∙ ap (λ c. record { state = s; items = item_of (cond c (option_map_or (λ word. Ok (Examined j.top.name.tty serial address word)) (word_in p j.top address) (Err (NoPage j.top.name.tty))) (Err (NoFork j.top.name.tty))) ∷ [] }) (sym (eq-eqb j.top.name.serial serial is))
+          | inr ne ↦
+              found ∙ ap of_fork (fork_missing m.jobs.items t j serial (owns m) at ne)
+              ∙ ap (λ u. refused s (NoFork u)) (sym top_tty)
+              ∙ ap (λ c. record { state = s; items = item_of (cond c (option_map_or (λ word. Ok (Examined j.top.name.tty serial address word)) (word_in p j.top address) (Err (NoPage j.top.name.tty))) (Err (NoFork j.top.name.tty))) ∷ [] }) (sym (ne_eqb j.top.name.serial serial ne))
+        ]
+
+    pub did_examine : (serial address : ℕ) (r : Result Item Cause) (reply : Reply) → e ≡ ToExamine serial address → One (item_of r) ≡ reply → FitsItem (item_of r) → ((d : DrumWords) → b.means.fits m.pages d → r ≡ examined_in (b.means.plain m.pages d) j serial address) → Did m m' (Outer (event_at t e)) reply
+    did_examine serial address r reply is shows fits told =
+        subst (λ x. Did m m' (Outer (event_at t x)) reply) (sym is) (subst (Did m m' (Outer (event_at t (ToExamine serial address)))) shows
+        (did_still (event_at t (ToExamine serial address)) (One (item_of r)) fits (λ d f. examines d serial address ∙ ap (λ x. record { state = state_of m d; items = item_of x ∷ [] }) (sym (told d f.pages)))))
+
+    pub did_forks : e ≡ ToShow → FitsReply m.jobs.items (Forks t) → Did m m' (Outer (event_at t e)) (Forks t)
+    did_forks is fits =
+        subst (λ x. Did m m' (Outer (event_at t x)) (Forks t)) (sym is)
+        (did_still (event_at t ToShow) (Forks t) fits
+        (λ d f. let s = state_of m d in outer_forks s t ∙ ap (λ (o : Option PlainJob). option_map_or (λ i. record { state = s; items = map (λ k. ForkLine (fork_line s.forks k)) (forks_by_slot s.forks t) }) o (refused s (NoJob t))) (job_found m.jobs.items t.0 j at)))
+
+-- what a poke shows: nothing, or why it is refused
+abbrev pub poke_reply : {X : Type 0} → Result X Cause → Reply
+poke_reply (Ok done) = Nothing
+poke_reply (Err cause) = One (Refusal cause)
+
+-- a word that is stored in the pages of a state
+stored_named : (p : NumberedPages) (at : Slot) (offset word : ℕ) → stored (named p) (in_map at) offset word ≡ named (stored p (in_map at) offset word)
+unfolding page_at
+stored_named p at offset word = by (page_at p (in_map at))
+  where
+    by : (n : Option PageName) → option_map_or (λ n. record (named p) { objects = fin.insert p.objects n (slice_set (words_of p n) offset word) }) n (named p) ≡ named (option_map_or (λ n. record p { objects = fin.insert p.objects n (slice_set (words_of p n) offset word) }) n p)
+    by None = refl
+    by (Some n) = refl
+
+-- a poke of a page, by what its reference came to
+poked_by : {X : Type 0} (s : PlainState) (t : Tty) (at : Slot) (offset word : ℕ) (p ready q : NumberedPages) (r : Referred nat_cmp) (result : Result X Cause) → write_of t r ≡ left_by ready result
+    → ((done : X) → result ≡ Ok done → q ≡ stored ready (in_map at) offset word) → OnErr result (q ≡ p)
+    → ◌≡◌ {A = Effect} (poked (record s { pages = named p }) t at offset word (refiled_result name_cmp r fin.empty)) (record { state = record s { pages = named q }; items = reply_items s (poke_reply result) })
+poked_by s t at offset word p ready q (granted g) (Ok done) refers store stays =
+    let is : g ≡ ready = cc refers in
+    ap (λ x. record { state = record s { pages = x }; items = [] }) (stored_named g at offset word ∙ ap named (ap (λ x. stored x (in_map at) offset word) is ∙ sym (store done refl)))
+poked_by s t at offset word p ready q (granted g) (Err cause) refers store stays = absurd (cc refers)
+poked_by s t at offset word p ready q (denied kind) (Ok done) refers store stays = absurd (cc refers)
+poked_by s t at offset word p ready q (denied kind) (Err cause) refers store stays =
+    let is : Denied t ≡ cause = cc refers in λ i. record { state = record s { pages = named (sym stays i) }; items = Refusal (is i) ∷ [] }
+poked_by s t at offset word p ready q full (Ok done) refers store stays = absurd (cc refers)
+poked_by s t at offset word p ready q full (Err cause) refers store stays =
+    let is : Full t ≡ cause = cc refers in λ i. record { state = record s { pages = named (sym stays i) }; items = Refusal (is i) ∷ [] }
+
+-- no write changes the pages of files
+was_granted : (t : Tty) (r : Referred nat_cmp) (q : NumberedPages) → write_of t r ≡ Ok q → r ≡ granted q
+was_granted t (granted g) q h = let is : g ≡ q = cc h in ap granted is
+was_granted t (denied kind) q h = absurd (cc h)
+was_granted t full q h = absurd (cc h)
+
+written_files : {p q : NumberedPages} {at : Slot} {offset word : ℕ} (r : Result (Unit {0}) Cause) → IsWritten p q at offset word r → q.files ≡ p.files
+written_files {p} {q} {at} {offset} {word} (Ok done) w =
+    ap (λ x. x.files) (w.store done refl) ∙ stored_files w.ready at offset word ∙ reference_files nat_cmp_total at Write at.fork.tty p w.ready (was_granted at.fork.tty (reference p (in_map at) Write at.fork.tty) w.ready w.readied.refers)
+written_files (Err cause) w = ap (λ x. x.files) w.stays
+
+module _ {P : Type 0} {b : _} (m m' : System P b) (t : Tty) (e : JobEvent) (j : Job) (at : job_at m.jobs.items t.0 ≡ Some j) where
+  -- the pages that were made for the top fork's terminal, as counts
+  made_serials : (entries : ℕ) → IsWithin m entries → Makes b.means m.pages m'.pages j.top.name.tty 2 → (u : Tty) → b.means.serial m'.pages u ≤ most_makings * (entries + 1) + 1
+  made_serials entries w made u = elim (cases_eq u.0 j.top.name.tty.0) [
+    | inl same ↦ let is : u ≡ j.top.name.tty = λ i. record { 0 = same i } in omega (arith, ap (b.means.serial m'.pages) is, made.own, w.serials j.top.name.tty)
+    | inr ne ↦ omega (arith, made.others u (λ h. ne (ap (λ x. x.0) h)), w.serials u)
+  ]
+
+  module _ (k : Job) (set_to : m'.jobs.items ≡ set m.jobs.items t.0 (Some k)) (serials : m'.fork_serials.items ≡ m.fork_serials.items) (clock : m'.clock ≡ m.clock) where
+    later : (entries : ℕ) → IsWithin m entries → k.top.body.units ≡ j.top.body.units → ((u : Tty) → b.means.serial m'.pages u ≤ most_makings * (entries + 1) + 1) → IsWithin m' (entries + 1)
+    later entries w units made = record {
+      ticks = omega (arith, clock, w.ticks);
+      units = λ u i e. units_set m entries t.0 j k w at (omega (arith, units, w.units t.0 j at)) u i (ap (λ js. job_at js u) (sym set_to) ∙ e);
+      serials = made;
+    }
+
+    there : (d : DrumWords) → fin.get (state_of m d).jobs j.top.name.tty.0 ≡ Some (plain_job j)
+    there d = ap (λ u. fin.get (jobs_of m.jobs.items) u) (owns m t.0 j at) ∙ job_found m.jobs.items t.0 j at
+
+    -- a word was put into an accumulator
+    poked_low : (address word : ℕ) (d : DrumWords) → address < ACCUMULATORS → k ≡ with_word j address word → m'.pages ≡ m.pages
+        → ◌≡◌ {A = Effect} (outer (state_of m d) (event_at t (ToPoke address word))) (record { state = state_of m' d; items = [] })
+    poked_low address word d low is same =
+        let old = state_of m d in
+        let job = m.sound.each_job t.0 j at in
+        let top = with_accumulator address word j.top in
+        let paged : Effect = poked old t (slot_at j.top.name address) (address % PAGE_WORDS) word (reference old.pages (in_map (slot_at j.top.name address)) Write t) in
+        let mine : state_of m' d ≡ with_fork old top =
+        state_set m m' d t.0 j k at set_to serials clock (ap (λ x. x.top.name) is)
+        ∙ (λ i. record old { pages = named (b.means.plain (same i) d); jobs = fin.insert old.jobs j.top.name.tty.0 (plain_job (is i)); forks = fin.insert old.forks j.top.name (is i).top })
+        ∙ sym (job_stays old j (there d) job.top job.off top refl) in
+        outer_poke old t address word
+        ∙ ap (λ (o : Option PlainJob). option_map_or (λ i. cond (nat_lt address ACCUMULATORS) (record { state = change_fork old i.top (with_accumulator address word); items = [] }) (poked old t (slot_at i.top address) (address % PAGE_WORDS) word (reference old.pages (in_map (slot_at i.top address)) Write t))) o (refused old (NoJob t))) (job_found m.jobs.items t.0 j at)
+        ∙ ap (λ c. cond c (record { state = change_fork old j.top.name (with_accumulator address word); items = [] }) paged) (below address low)
+        ∙ ap (λ (o : Option Fork). record { state = option_map_or (λ f. with_fork old (with_accumulator address word f)) o old; items = [] }) (fork_found m.jobs.items t.0 j (owns m) at)
+        ∙ ap (λ s. record { state = s; items = [] }) (sym mine)
+
+    -- a word was written into a page, or the write was refused
+    poked_high : {X : Type 0} (address word : ℕ) (d : DrumWords) (result : Result X Cause) → FitsPages m d → ACCUMULATORS ≤ address → k ≡ j → IsWritten (b.means.plain m.pages d) (b.means.plain m'.pages d) (slot_at j.top.name address) (address % PAGE_WORDS) word result
+        → ◌≡◌ {A = Effect} (outer (state_of m d) (event_at t (ToPoke address word))) (record { state = state_of m' d; items = reply_items (state_of m' d) (poke_reply result) })
+    poked_high {X = X} address word d result f high is wrote =
+        let old = state_of m d in
+        let p = b.means.plain m.pages d in
+        let q = b.means.plain m'.pages d in
+        let slot = slot_at j.top.name address in
+        let own : j.top.name.tty ≡ t = λ i. record { 0 = owns m t.0 j at i } in
+        let refers : write_of t (reference p (in_map slot) Write t) ≡ left_by wrote.ready result = subst (λ u. write_of u (reference p (in_map slot) Write u) ≡ left_by wrote.ready result) own wrote.readied.refers in
+        let mine : state_of m' d ≡ record old { pages = named q } = same_jobs d is in
+        outer_poke old t address word
+        ∙ ap (λ (o : Option PlainJob). option_map_or (λ i. cond (nat_lt address ACCUMULATORS) (record { state = change_fork old i.top (with_accumulator address word); items = [] }) (poked old t (slot_at i.top address) (address % PAGE_WORDS) word (reference old.pages (in_map (slot_at i.top address)) Write t))) o (refused old (NoJob t))) (job_found m.jobs.items t.0 j at)
+        ∙ ap (λ c. cond c (record { state = change_fork old j.top.name (with_accumulator address word); items = [] }) (poked old t slot (address % PAGE_WORDS) word (reference old.pages (in_map slot) Write t))) (not_below address high)
+        ∙ ap (poked old t slot (address % PAGE_WORDS) word) (reference_named p f.unfiled slot Write t)
+        ∙ poked_by old t slot (address % PAGE_WORDS) word p wrote.ready q (reference p (in_map slot) Write t) result refers wrote.store wrote.stays
+        ∙ (λ i. record { state = sym mine i; items = reply_of_poke result i })
+      where
+        same_jobs : (d : DrumWords) → k ≡ j → state_of m' d ≡ record (state_of m d) { pages = named (b.means.plain m'.pages d) }
+        same_jobs d is =
+            let jobs : m'.jobs.items ≡ m.jobs.items = set_to ∙ ap (λ x. set m.jobs.items t.0 (Some x)) is ∙ ap (set m.jobs.items t.0) (sym at) ∙ set-get_or m.jobs.items t.0 None in
+            λ i. record (state_of m d) { pages = named (b.means.plain m'.pages d); jobs = jobs_of (jobs i); forks = forks_of (jobs i); fork_serials = serials i; clock = clock i }
+
+        reply_of_poke : (r : Result X Cause) → reply_items (state_of m d) (poke_reply r) ≡ reply_items (state_of m' d) (poke_reply r)
+        reply_of_poke (Ok done) = refl
+        reply_of_poke (Err cause) = refl
+
+    pub did_poke : (address word : ℕ) (result : Result (Unit {0}) Cause) (reply : Reply) → e ≡ ToPoke address word → poke_reply result ≡ reply → IfErr result FitsCause
+        → (address < ACCUMULATORS → (result ≡ Ok tt) × (k ≡ with_word j address word) × (m'.pages ≡ m.pages))
+        → (ACCUMULATORS ≤ address → (k ≡ j) × ((d : DrumWords) → b.means.fits m.pages d → b.means.fits m'.pages d × IsWritten (b.means.plain m.pages d) (b.means.plain m'.pages d) (slot_at j.top.name address) (address % PAGE_WORDS) word result))
+        → Makes b.means m.pages m'.pages j.top.name.tty 2 → Did m m' (Outer (event_at t e)) reply
+    did_poke address word result reply is shows fits low high made =
+        subst (λ x. Did m m' (Outer (event_at t x)) reply) (sym is) (subst (Did m m' (Outer (event_at t (ToPoke address word)))) shows (record {
+          each = λ d f. elim (split_at address ACCUMULATORS) [
+            | inl small ↦
+                let done = low small in
+                let effect = apply_outer (state_of m d) (event_at t (ToPoke address word)) ∙ poked_low address word d small done.1 done.2 in (
+                  record { pages = subst (λ p. b.means.fits p d) (sym done.2) f.pages; unfiled = ap (λ p. (b.means.plain p d).files) done.2 ∙ f.unfiled },
+                  ap (λ x. x.state) (sym effect),
+                  ap (λ r. reply_items (state_of m' d) (poke_reply r)) done.0 ∙ ap (λ x. x.items) (sym effect),
+                )
+            | inr above ↦
+                let done = high above in
+                let wrote = done.1 d f.pages in
+                let effect = apply_outer (state_of m d) (event_at t (ToPoke address word)) ∙ poked_high address word d result f above done.0 wrote.1 in (
+                  record { pages = wrote.0; unfiled = written_files result wrote.1 ∙ f.unfiled },
+                  ap (λ x. x.state) (sym effect),
+                  ap (λ x. x.items) (sym effect),
+                )
+          ];
+          shown = poke_fits m'.jobs.items result fits;
+          within = λ entries w. later entries w (units_stay address low high) (made_serials entries w made);
+          most = made.most;
+        }))
+      where
+        poke_fits : (js : List (Option Job)) (r : Result (Unit {0}) Cause) → IfErr r FitsCause → FitsReply js (poke_reply r)
+        poke_fits js (Ok done) fits = tt
+        poke_fits js (Err cause) fits = fits
+
+        units_stay : {A B C : Type 0} (address : ℕ) → (address < ACCUMULATORS → A × (k ≡ with_word j address word) × B) → (ACCUMULATORS ≤ address → (k ≡ j) × C) → k.top.body.units ≡ j.top.body.units
+        units_stay address low high = elim (split_at address ACCUMULATORS) [
+          | inl small ↦ ap (λ x. x.top.body.units) (low small).1
+          | inr above ↦ ap (λ x. x.top.body.units) (high above).0
+        ]
+
+    pub did_start : (address : ℕ) → e ≡ ToStart address → k.user ≡ j.user → k.mode ≡ Program → k.top ≡ restarted address j.top → m'.pages ≡ m.pages → Did m m' (Outer (event_at t e)) Nothing
+    did_start address is user mode top same = subst (λ x. Did m m' (Outer (event_at t x)) Nothing) (sym is) (record {
+      each = λ d f.
+          let old = state_of m d in
+          let job = m.sound.each_job t.0 j at in
+          let plain_k : plain_job k ≡ record (plain_job j) { mode = Program } = λ i. record (plain_job j) { user = user i; mode = mode i; top = (top i).name } in
+          let mine : state_of m' d ≡ record (with_fork old (restarted address j.top)) { jobs = fin.insert old.jobs t.0 (record (plain_job j) { mode = Program }) } =
+          state_set m m' d t.0 j k at set_to serials clock (ap (λ x. x.name) top)
+          ∙ (λ i. record old { pages = named (b.means.plain (same i) d); jobs = fin.insert old.jobs (job.terminal i) (plain_k i); forks = fin.insert old.forks j.top.name (top i) }) in
+          let effect : ◌≡◌ {A = Effect} (apply old (Outer (event_at t (ToStart address)))) (record { state = state_of m' d; items = [] }) =
+          apply_outer old (event_at t (ToStart address)) ∙ outer_start old t address
+          ∙ ap (λ (o : Option PlainJob). option_map_or (λ i. record { state = record (change_fork old i.top (restarted address)) { jobs = fin.insert old.jobs t.0 (record i { mode = Program }) }; items = [] }) o (refused old (NoJob t))) (job_found m.jobs.items t.0 j at)
+          ∙ ap (λ (o : Option Fork). record { state = record (option_map_or (λ f. with_fork old (restarted address f)) o old) { jobs = fin.insert old.jobs t.0 (record (plain_job j) { mode = Program }) }; items = [] }) (fork_found m.jobs.items t.0 j (owns m) at)
+          ∙ ap (λ s. record { state = s; items = [] }) (sym mine) in (
+            record { pages = subst (λ p. b.means.fits p d) (sym same) f.pages; unfiled = ap (λ p. (b.means.plain p d).files) same ∙ f.unfiled },
+            ap (λ x. x.state) (sym effect),
+            ap (λ x. x.items) (sym effect),
+          );
+      shown = tt;
+      within = λ entries w. later entries w (ap (λ f. f.body.units) top) (λ u. omega (arith, ap (λ p. b.means.serial p u) same, w.serials u));
+      most = ap b.means.most same;
+    })
+
+-- a job that was poked is a job with the same top fork
+pub poked_job : (t address word : ℕ) (j k : Job) → IsJob t j → (address < ACCUMULATORS → k ≡ with_word j address word) → (ACCUMULATORS ≤ address → k ≡ j) → (k.top.name ≡ j.top.name) × IsJob t k
+poked_job t address word j k job low high = elim (split_at address ACCUMULATORS) [
+  | inl small ↦ (ap (λ x. x.top.name) (low small), subst (IsJob t) (sym (low small)) (job_worded t address word j job))
+  | inr above ↦ (ap (λ x. x.top.name) (high above), subst (IsJob t) (sym (high above)) job)
+]

@@ -1,0 +1,48 @@
+-- What a look at a word finds, as the word that is there.
+use Rattle.std.proofs.Common.{◌≡◌, ℕ, ◌≤◌, ◌%◌, cond, Option, None, Some, refl, sym, ◌∙◌, ap, slice_index}
+use Rattle.std.specs.Option.{option_map, option_map_or}
+use Rattle.outside.specs.declared.TheConstants.{PAGE_WORDS}
+use Rattle.plain_model.specs.declared.names.TheConstants.{ACCUMULATORS}
+use Rattle.plain_model.specs.declared.names.Slot.{Slot}
+use Rattle.plain_model.specs.declared.names.PageName.{PageName}
+use Rattle.plain_model.specs.declared.map.Peeked.{Peeked}
+use Rattle.plain_model.specs.declared.map.Peeked.TheVariants.{Is, Absent, NoPage}
+use Rattle.plain_model.specs.declared.fork.Fork.{Fork}
+use Rattle.plain_model.specs.State.{NumberedPages}
+use Rattle.plain_model.specs.References.{in_map, page_at, words_of}
+use Rattle.plain_model.specs.Unit.{slot_at}
+use Rattle.plain_model.specs.Pages.{Scene, peek_of, away_or, map_away, page_away}
+use Rattle.monitor_core.specs.Looking.{word_in}
+use Rattle.monitor_core.proofs.Fetches.{not_below}
+
+-- what is found is what is there
+abbrev pub found : Option ℕ → Peeked
+found o = option_map_or Is o NoPage
+
+module _ (p : NumberedPages) (scene : Scene) (f : Fork) (address : ℕ) (high : ACCUMULATORS ≤ address) where
+  passed : (away : Option ℕ) (t u : Peeked) → ((home : ℕ) → Absent (record { 0 = home }) ≡ u → ⊥) → away_or away t ≡ u → t ≡ u
+  passed None t u not e = e
+  passed (Some home) t u not e = absurd (not home e)
+
+  found_page : (n : Option PageName) → option_map_or (λ n. Is (slice_index (words_of p n) (address % PAGE_WORDS))) n NoPage ≡ found (option_map (λ n. slice_index (words_of p n) (address % PAGE_WORDS)) n)
+  found_page None = refl
+  found_page (Some n) = refl
+
+  -- a look that finds a word, or no page
+  pub looks : (slot : Slot) (offset : ℕ) (u : Peeked) → slot ≡ slot_at f.name address → offset ≡ address % PAGE_WORDS → ((home : ℕ) → Absent (record { 0 = home }) ≡ u → ⊥) → u ≡ peek_of p scene (in_map slot) offset → u ≡ found (word_in p f address)
+  unfolding peek_of
+  looks slot offset u is at not told =
+      let e = passed (map_away p scene (in_map slot)) _ u not (sym (told ∙ ap (peek_of p scene (in_map slot)) at)) in
+      let h = passed (page_away p scene (in_map slot)) _ u not e in
+      sym h ∙ found_page (page_at p (in_map slot))
+      ∙ ap (λ s. found (option_map (λ n. slice_index (words_of p n) (address % PAGE_WORDS)) (page_at p (in_map s)))) is
+      ∙ ap (λ b. found (cond b (Some (slice_index f.body.regs.ac address)) (option_map (λ n. slice_index (words_of p n) (address % PAGE_WORDS)) (page_at p (in_map (slot_at f.name address)))))) (sym (not_below address high))
+
+-- the word that was found, and that none was
+pub word_found : (o : Option ℕ) (word : ℕ) → Is word ≡ found o → Some word ≡ o
+word_found None word e = absurd (cc e)
+word_found (Some w) word e = cc e
+
+pub none_found : (o : Option ℕ) → NoPage ≡ found o → None ≡ o
+none_found None e = refl
+none_found (Some w) e = absurd (cc e)

@@ -1,0 +1,17 @@
+-- What a taker was given, whether it took all of it or failed.
+use Rattle.std.specs.Prelude.{ℕ, ◌≤◌, List, Result, OnOk, OnErr}
+use Rattle.outside.specs.Faults.{Rose}
+use Rattle.plain_model.specs.declared.event.Item.{Item}
+use Rattle.plain_model.specs.declared.event.Step.{Step}
+use Rattle.plain_model.specs.Taker.{GoesOn, IsCut, StaysOnward}
+
+-- its count of faults is no lower, and higher where it failed; and it is still the taker that it was
+pub record StaysTaker {T X E : Type 0} (fault_count : T → ℕ) (onward : T → T → Type 0) (old new : T) (result : Result X E) : Type 0 where
+  pub later : fault_count old ≤ fault_count new
+  pub cause : OnErr result (Rose (fault_count old) (fault_count new))
+  pub goes_on : StaysOnward onward old new
+
+-- it took these items and steps, or is cut within them
+pub record Takes {T X E : Type 0} (stands cut : T → T → List Item → List Step → Type 0) (old new : T) (result : Result X E) (items : List Item) (steps : List Step) : Type 0 where
+  pub ok : OnOk result (GoesOn stands old new items steps)
+  pub err : OnErr result (IsCut stands cut old new items steps)

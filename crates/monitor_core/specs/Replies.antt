@@ -1,0 +1,38 @@
+-- What a step shows, as items.
+use Rattle.std.specs.Prelude.{◌≡◌, ℕ, List, [], ◌∷◌, map, Bool, true, false, Option, IsSome, Result, Ok, Err}
+use Rattle.plain_model.specs.declared.event.Item.{Item}
+use Rattle.plain_model.specs.declared.event.Item.TheVariants.{ForkLine, Refusal}
+use Rattle.plain_model.specs.declared.event.Refusal.{Refusal as Cause}
+use Rattle.plain_model.specs.State.{PlainState}
+use Rattle.plain_model.specs.Forks.{fork_line, forks_by_slot}
+use Rattle.plain_model.specs.Limits.{IsTerminal, FitsItem}
+use Rattle.monitor_core.specs.declared.job.Job.{Job}
+use Rattle.monitor_core.specs.declared.reply.Reply.{Reply}
+use Rattle.monitor_core.specs.declared.reply.Reply.TheVariants.{Nothing, One, Prints, Forks}
+use Rattle.monitor_core.specs.Jobs.{job_at}
+use Rattle.monitor_core.specs.Shown.{shown_items, is_nothing, FitsShown}
+
+-- the items of a reply, in the state that the step leaves
+abbrev pub reply_items : PlainState → Reply → List Item
+reply_items s Nothing = []
+reply_items s (One item) = item ∷ []
+reply_items s (Prints t shown) = shown_items t shown
+reply_items s (Forks t) = map (λ f. ForkLine (fork_line s.forks f)) (forks_by_slot s.forks t)
+
+-- whether a reply has no item, whatever the state
+abbrev pub is_silent : Reply → Bool
+is_silent Nothing = true
+is_silent (Prints t shown) = is_nothing shown
+is_silent reply = false
+
+-- the limits of a reply, over the jobs that the step leaves: items within theirs, and forks of a job that is there
+abbrev pub FitsReply : List (Option Job) → Reply → Type 0
+FitsReply jobs Nothing = Unit {0}
+FitsReply jobs (One item) = FitsItem item
+FitsReply jobs (Prints t shown) = IsTerminal t × FitsShown shown
+FitsReply jobs (Forks t) = IsTerminal t × IsSome (job_at jobs t.0)
+
+-- a refusal is shown, and nothing else
+abbrev pub reply_of : Result Reply Cause → Reply
+reply_of (Ok reply) = reply
+reply_of (Err cause) = One (Refusal cause)

@@ -1,0 +1,32 @@
+// Where an address of a fork's space stands.
+ghost use Rattle.std.specs.Prelude.{◌≡◌, ◌<◌, ◌%◌};
+ghost use Rattle.outside.specs.declared.TheConstants.{PAGE_WORDS};
+ghost use Rattle.plain_model.specs.Limits.{IsAddress};
+ghost use Rattle.plain_model.specs.Unit.{slot_at as slot_of};
+
+use plain_model::{ForkName, SPACE_PAGES, Slot};
+
+/// How many words a page has.
+const WORDS: u32 = outside::PAGE_WORDS as u32;
+
+/// The slot of an address.
+#[inline]
+pub fn slot_at(fork: ForkName, address: u32) -> Slot
+    requires { IsAddress address }
+    ensures slot { result ≡ slot_of fork address }
+    ensures page { result.page < SPACE_PAGES }
+{
+    Slot {
+        fork,
+        page: (address / WORDS) as u16,
+    }
+}
+
+/// The offset of an address in its page.
+#[inline]
+pub fn offset_in_page(address: u32) -> u16
+    ensures offset { result ≡ address % PAGE_WORDS }
+    ensures within { result < PAGE_WORDS }
+{
+    (address % WORDS) as u16
+}

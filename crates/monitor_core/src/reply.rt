@@ -1,0 +1,27 @@
+// What a step shows.
+ghost use Rattle.std.specs.Prelude.{◌≡◌};
+ghost use Rattle.monitor_core.specs.Replies.{is_silent as is_silent_of};
+
+use crate::shown::Shown;
+use plain_model::{Item, Tty};
+
+/// What a step shows. Its items are made as they are given, one by one, so that it is small however many they are.
+#[derive(Clone, Copy, Debug, PartialEq, Eq)]
+pub enum Reply {
+    Nothing,
+    One(Item),
+    /// What a unit of a job's top fork shows at its terminal.
+    Prints(Tty, Shown),
+    /// The forks of a terminal's job, by slot.
+    Forks(Tty),
+}
+
+impl Reply {
+    /// Whether it shows nothing, whatever the state.
+    #[inline]
+    pub fn is_silent(&self) -> bool
+        ensures { result ≡ is_silent_of self.now }
+    {
+        matches!(self, Reply::Nothing | Reply::Prints(_, Shown::Nothing))
+    }
+}

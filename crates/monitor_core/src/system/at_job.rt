@@ -1,0 +1,41 @@
+// The events of a terminal's job.
+ghost use Rattle.std.specs.Prelude.{◌≡◌, ◌<◌, ◌^◌, ◌+◌};
+ghost use Rattle.plain_model.specs.Limits.{IsTerminal};
+ghost use Rattle.plain_model.specs.declared.event.Step.{Step as AStep};
+ghost use Rattle.monitor_core.specs.JobEvents.{event_at, FitsJobEvent};
+ghost use Rattle.monitor_core.specs.Replies.{reply_of};
+ghost use Rattle.monitor_core.specs.Systems.{Did, IsWithin};
+
+use crate::job_event::JobEvent;
+use crate::reply::Reply;
+use crate::system::System;
+use plain_model::{Pages, Refusal, Tty};
+
+impl<P: Pages> System<P> {
+    /// An event of a terminal's job. NoJob, where the terminal has none.
+    pub(crate) fn at_job(&mut self, t: Tty, e: JobEvent) -> Result<Reply, Refusal>
+        requires terminal { IsTerminal t }
+        requires fits { FitsJobEvent e }
+        requires few { IsWithin self.old (2 ^ 52) }
+        ensures { Did self.old self.new (AStep.Outer (event_at t e)) (reply_of result) }
+    {
+        let Some(job) = &mut self.jobs[t.0 as usize] else {
+            return Err(Refusal::NoJob(t));
+        };
+        match e {
+            JobEvent::Poke(address, word) => {
+                job.poke(&mut self.pages, address, word)?;
+                Ok(Reply::Nothing)
+            }
+            JobEvent::Start(address) => {
+                job.start(address);
+                Ok(Reply::Nothing)
+            }
+            JobEvent::Examine(serial, address) => {
+                let item = job.examined(&self.pages, serial, address)?;
+                Ok(Reply::One(item))
+            }
+            JobEvent::Forks => Ok(Reply::Forks(t)),
+        }
+    }
+}
