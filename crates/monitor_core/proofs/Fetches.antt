@@ -14,7 +14,9 @@ use Rattle.plain_model.specs.declared.map.Touch.TheVariants.{Ready, Zero, Denied
 use Rattle.plain_model.specs.declared.fork.Fork.{Fork}
 use Rattle.plain_model.specs.State.{NumberedPages}
 use Rattle.plain_model.specs.References.{Referred, granted, denied, full, in_map, reference, word_at, blank}
-use Rattle.plain_model.specs.Unit.{Fetched as PlainFetched, word, stops, slot_at, fetched, fetched_by, denied_channel}
+use Rattle.plain_model.specs.Unit.{Fetched as PlainFetched, word, stops, fetched, fetched_by}
+use Rattle.plain_model.specs.References.{slot_at}
+use Rattle.plain_model.specs.Steps.{denied_channel}
 use Rattle.plain_model.specs.Pages.{Scene, touch_of}
 use Rattle.plain_model.proofs.Touches.{reference_stays, ready_touch, zero_touch, denied_touch, full_touch}
 use Rattle.monitor_core.specs.Fetch.{IsFetched}

@@ -28,7 +28,8 @@ use Rattle.plain_model.specs.Limits.{FitsCause, FitsItem, IsTerminal}
 use Rattle.plain_model.specs.Run.{apply}
 use Rattle.plain_model.specs.References.{Referred, granted, denied, full, in_map, reference, stored, words_of, page_at}
 use Rattle.plain_model.specs.Forks.{with_fork, change_fork, fork_line, forks_by_slot}
-use Rattle.plain_model.specs.Unit.{Effect, slot_at}
+use Rattle.plain_model.specs.Unit.{Effect}
+use Rattle.plain_model.specs.References.{slot_at}
 use Rattle.plain_model.specs.Events.{refused, at_job, poked, with_accumulator, restarted, word_seen, outer}
 use Rattle.plain_model.proofs.Equations.{apply_outer, outer_poke, outer_start, outer_examine, outer_forks}
 use Rattle.plain_model.proofs.Refiled.{refiled_result}

@@ -10,7 +10,7 @@ use Rattle.plain_model.specs.declared.map.Peeked.TheVariants.{Is, Absent, NoPage
 use Rattle.plain_model.specs.declared.fork.Fork.{Fork}
 use Rattle.plain_model.specs.State.{NumberedPages}
 use Rattle.plain_model.specs.References.{in_map, page_at, words_of}
-use Rattle.plain_model.specs.Unit.{slot_at}
+use Rattle.plain_model.specs.References.{slot_at}
 use Rattle.plain_model.specs.Pages.{Scene, peek_of, away_or, map_away, page_away}
 use Rattle.monitor_core.specs.Looking.{word_in}
 use Rattle.monitor_core.proofs.Fetches.{not_below}

@@ -16,7 +16,9 @@ use Rattle.plain_model.specs.Forks.{top_fork, first_regs, psi_at_rest, with_regs
 use Rattle.plain_model.specs.Events.{restarted}
 use Rattle.plain_model.specs.Interrupts.{posted, pended, is_panic}
 use Rattle.plain_model.specs.Pages.{PagesMeaning, same_fork}
-use Rattle.plain_model.specs.Unit.{Deed, goes, calls, traps, deed_of, advanced, movei, jrst, opcode, index_field, y_field, ac_field}
+use Rattle.plain_model.specs.Unit.{Deed, goes, calls, traps, deed_of, advanced, movei, jrst, index_bits}
+use Rattle.plain_model.specs.Addressing.{opcode, ac_field}
+use Rattle.word36.specs.Words.{right}
 use Rattle.monitor_core.specs.declared.job.Job.{Job}
 use Rattle.monitor_core.specs.declared.fetch.Fetched.{Fetched}
 use Rattle.monitor_core.specs.declared.fetch.Fetched.TheVariants.{Word, Blank, Trap}
@@ -78,12 +80,12 @@ module _ (f : Fork) (off : f.body.psi.on ≡ false) (pc : f.body.regs.pc < 2 ^ 1
   pub deed_fits : (w : ℕ) → FitsDeed f (deed_of f.body.regs w)
   deed_fits w =
       let regs = f.body.regs in
-      let last = cond (opcode w == JSYS) (calls (y_field w)) (traps ILLEGAL_INSTRUCTION) in
+      let last = cond (opcode w == JSYS) (calls (right w)) (traps ILLEGAL_INSTRUCTION) in
       let middle = cond ((opcode w == JRST) && (ac_field w == 0)) (jrst regs w) last in
       let illegal : FitsDeed f (traps ILLEGAL_INSTRUCTION) = (refl, omega arith) in
-      fits_if (index_field w == 0) (cond (opcode w == MOVEI) (movei regs w) middle) (traps ILLEGAL_INSTRUCTION)
-      (fits_if (opcode w == MOVEI) (movei regs w) middle (wrapped (regs.pc + 1), length-set regs.ac (ac_field w) (y_field w) ∙ accumulators)
-      (fits_if ((opcode w == JRST) && (ac_field w == 0)) (jrst regs w) last (wrapped w, accumulators) (fits_if (opcode w == JSYS) (calls (y_field w)) (traps ILLEGAL_INSTRUCTION) tt illegal)))
+      fits_if (index_bits w == 0) (cond (opcode w == MOVEI) (movei regs w) middle) (traps ILLEGAL_INSTRUCTION)
+      (fits_if (opcode w == MOVEI) (movei regs w) middle (wrapped (regs.pc + 1), length-set regs.ac (ac_field w) (right w) ∙ accumulators)
+      (fits_if ((opcode w == JRST) && (ac_field w == 0)) (jrst regs w) last (wrapped w, accumulators) (fits_if (opcode w == JSYS) (calls (right w)) (traps ILLEGAL_INSTRUCTION) tt illegal)))
       illegal
 
   kept_if : (b : Bool) (g h : Fork) → Kept f g → Kept f h → Kept f (cond b g h)

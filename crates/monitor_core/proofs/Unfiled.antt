@@ -15,7 +15,9 @@ use Rattle.plain_model.specs.declared.fork.Fork.{Fork}
 use Rattle.plain_model.specs.Orders.{name_cmp, file_page_cmp}
 use Rattle.plain_model.specs.State.{NumberedPages, NamedPages, refiled}
 use Rattle.plain_model.specs.References.{Referred, granted, denied, full, in_map, reference, page_at, word_at}
-use Rattle.plain_model.specs.Unit.{Fetched as PlainFetched, word, stops, slot_at, fetched, fetched_by, denied_channel}
+use Rattle.plain_model.specs.Unit.{Fetched as PlainFetched, word, stops, fetched, fetched_by}
+use Rattle.plain_model.specs.References.{slot_at}
+use Rattle.plain_model.specs.Steps.{denied_channel}
 use Rattle.plain_model.proofs.Whole.{tally, no_values}
 use Rattle.plain_model.proofs.Refiled.{NameAlike, refiled_result, reference_refiled}
 use Rattle.monitor_core.specs.declared.fetch.Fetched.{Fetched}

@@ -11,7 +11,7 @@ use Rattle.plain_model.specs.declared.event.Refusal.{Refusal}
 use Rattle.plain_model.specs.declared.event.Refusal.TheVariants.{NoFork, NoPage}
 use Rattle.plain_model.specs.State.{NumberedPages}
 use Rattle.plain_model.specs.References.{in_map, words_of, page_at}
-use Rattle.plain_model.specs.Unit.{slot_at}
+use Rattle.plain_model.specs.References.{slot_at}
 use Rattle.monitor_core.specs.declared.job.Job.{Job}
 
 -- the word there, whatever the access, where a page is there; low addresses are the accumulators

@@ -2,7 +2,7 @@
 ghost use Rattle.std.specs.Prelude.{◌≡◌, ◌<◌, ◌%◌};
 ghost use Rattle.outside.specs.declared.TheConstants.{PAGE_WORDS};
 ghost use Rattle.plain_model.specs.Limits.{IsAddress};
-ghost use Rattle.plain_model.specs.Unit.{slot_at as slot_of};
+ghost use Rattle.plain_model.specs.References.{slot_at as slot_of};
 
 use plain_model::{ForkName, SPACE_PAGES, Slot};
 

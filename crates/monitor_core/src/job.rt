@@ -5,7 +5,7 @@ ghost use Rattle.plain_model.specs.Events.{restarted};
 ghost use Rattle.plain_model.specs.Forks.{top_fork};
 ghost use Rattle.plain_model.specs.Limits.{FitsCause, FitsItem, IsAddress, IsTerminal};
 ghost use Rattle.plain_model.specs.Outcome.{DrumWords};
-ghost use Rattle.plain_model.specs.Unit.{slot_at as slot_of};
+ghost use Rattle.plain_model.specs.References.{slot_at as slot_of};
 ghost use Rattle.monitor_core.specs.Fetch.{FitsFetch, fork_fetched, shown_fetched};
 ghost use Rattle.monitor_core.specs.JobUnit.{job_fetched};
 ghost use Rattle.monitor_core.specs.Jobs.{no_jobs};
