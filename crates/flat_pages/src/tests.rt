@@ -57,3 +57,29 @@ fn a_page_is_made_once(rt: HostRuntime) -> Result<(), Fail> {
     assert_eq!(rt; pages.peek(at, 511), Peeked::Is(Word::ZERO));
     Ok(())
 }
+
+#[test]
+fn words_are_stored_where_a_page_was_found(rt: HostRuntime) -> Result<(), Fail> {
+    let mut pages = PlainStore::boot(rt.alloc(), 2)?;
+    pages.add_fork(TOP, NewMap::Empty);
+    let before = pages.space(TOP);
+    assert_eq!(rt; pages.find(before, 511, Kind::Read), None);
+    let at = LAST_PAGE;
+    assert_eq!(rt; pages.touch(at, Kind::Write), Touch::Zero);
+    pages.settle(at, Kind::Write, Tty::CONSOLE);
+
+    let space = pages.space(TOP);
+    assert!(rt; pages.find(space, 511, Kind::Read).is_some());
+    let Some(found) = pages.find_to_change(space, 511) else {
+        panic!(rt; "the page is there");
+    };
+    pages.store(space, found, 0o777005, Word::join(1, 2));
+    assert_eq!(rt; pages.load(space, found, 0o777005), Word::join(1, 2));
+    assert_eq!(rt;
+        pages.load(space, found, 0o777006),
+        Word::ZERO,
+        "the next word"
+    );
+    assert_eq!(rt; pages.peek(at, 5), Peeked::Is(Word::join(1, 2)));
+    Ok(())
+}

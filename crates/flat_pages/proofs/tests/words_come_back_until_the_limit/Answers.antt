@@ -27,25 +27,25 @@ pub put-requires-clause-place : goal.put-requires-clause-place
 put-requires-clause-place g c = (ap (λ (lives : ForkName → Bool). lives top) c.settle.ensures.lives ∙ c.add_fork.ensures.lives top, omega arith)
 
 pub touch-requires-3 : goal.touch-requires-3
-touch-requires-3 g c = (ap (λ (lives : ForkName → Bool). lives top) c.put.ensures.lives ∙ ap (λ (lives : ForkName → Bool). lives top) c.settle.ensures.lives ∙ c.add_fork.ensures.lives top, omega arith)
+touch-requires-3 g c = (ap (λ (lives : ForkName → Bool). lives top) c.put.ensures.stays.lives ∙ ap (λ (lives : ForkName → Bool). lives top) c.settle.ensures.lives ∙ c.add_fork.ensures.lives top, omega arith)
 
 pub word-requires-clause-place : goal.word-requires-clause-place
-word-requires-clause-place g c = (ap (λ (lives : ForkName → Bool). lives top) c.put.ensures.lives ∙ ap (λ (lives : ForkName → Bool). lives top) c.settle.ensures.lives ∙ c.add_fork.ensures.lives top, omega arith)
+word-requires-clause-place g c = (ap (λ (lives : ForkName → Bool). lives top) c.put.ensures.stays.lives ∙ ap (λ (lives : ForkName → Bool). lives top) c.settle.ensures.lives ∙ c.add_fork.ensures.lives top, omega arith)
 
 pub word-requires-2-clause-place : goal.word-requires-2-clause-place
-word-requires-2-clause-place g c = (ap (λ (lives : ForkName → Bool). lives top) c.put.ensures.lives ∙ ap (λ (lives : ForkName → Bool). lives top) c.settle.ensures.lives ∙ c.add_fork.ensures.lives top, omega arith)
+word-requires-2-clause-place g c = (ap (λ (lives : ForkName → Bool). lives top) c.put.ensures.stays.lives ∙ ap (λ (lives : ForkName → Bool). lives top) c.settle.ensures.lives ∙ c.add_fork.ensures.lives top, omega arith)
 
 pub touch-requires-4 : goal.touch-requires-4
-touch-requires-4 g c = (ap (λ (lives : ForkName → Bool). lives top) c.put.ensures.lives ∙ ap (λ (lives : ForkName → Bool). lives top) c.settle.ensures.lives ∙ c.add_fork.ensures.lives top, omega arith)
+touch-requires-4 g c = (ap (λ (lives : ForkName → Bool). lives top) c.put.ensures.stays.lives ∙ ap (λ (lives : ForkName → Bool). lives top) c.settle.ensures.lives ∙ c.add_fork.ensures.lives top, omega arith)
 
 pub peek-requires-clause-place : goal.peek-requires-clause-place
 peek-requires-clause-place g c = (c.add_fork.ensures.lives top, omega arith)
 
 pub peek-requires-2-clause-place : goal.peek-requires-2-clause-place
-peek-requires-2-clause-place g c = (ap (λ (lives : ForkName → Bool). lives top) c.put.ensures.lives ∙ ap (λ (lives : ForkName → Bool). lives top) c.settle.ensures.lives ∙ c.add_fork.ensures.lives top, omega arith)
+peek-requires-2-clause-place g c = (ap (λ (lives : ForkName → Bool). lives top) c.put.ensures.stays.lives ∙ ap (λ (lives : ForkName → Bool). lives top) c.settle.ensures.lives ∙ c.add_fork.ensures.lives top, omega arith)
 
 pub peek-requires-3-clause-place : goal.peek-requires-3-clause-place
-peek-requires-3-clause-place g c = (ap (λ (lives : ForkName → Bool). lives top) c.put.ensures.lives ∙ ap (λ (lives : ForkName → Bool). lives top) c.settle.ensures.lives ∙ c.add_fork.ensures.lives top, omega arith)
+peek-requires-3-clause-place g c = (ap (λ (lives : ForkName → Bool). lives top) c.put.ensures.stays.lives ∙ ap (λ (lives : ForkName → Bool). lives top) c.settle.ensures.lives ∙ c.add_fork.ensures.lives top, omega arith)
 
 pub peek-requires-4-clause-place : goal.peek-requires-4-clause-place
-peek-requires-4-clause-place g c = (ap (λ (lives : ForkName → Bool). lives top) c.put.ensures.lives ∙ ap (λ (lives : ForkName → Bool). lives top) c.settle.ensures.lives ∙ c.add_fork.ensures.lives top, omega arith)
+peek-requires-4-clause-place g c = (ap (λ (lives : ForkName → Bool). lives top) c.put.ensures.stays.lives ∙ ap (λ (lives : ForkName → Bool). lives top) c.settle.ensures.lives ∙ c.add_fork.ensures.lives top, omega arith)

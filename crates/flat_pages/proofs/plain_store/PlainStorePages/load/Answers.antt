@@ -1,4 +1,4 @@
-use Rattle.std.proofs.Common.{◌≡◌, ◌∙◌, ℕ, ◌/◌, ◌%◌, ◌<◌, sym, ap, subst, Some, slice_index, length, arith, rules}
+use Rattle.std.proofs.Common.{◌≡◌, ◌∙◌, ℕ, ◌/◌, ◌%◌, ◌<◌, sym, ap, subst, slice_index, length, arith, rules}
 use Rattle.std.proofs.lemmas.List.{get_or_read, get_or_default}
 use Rattle.flat_pages.specs.HeldPages.{page_of, blank_page}
 use Rattle.flat_pages.specs.declared.held_page.HeldPage.{HeldPage}

@@ -1,7 +1,6 @@
-use Rattle.std.proofs.Common.{◌≡◌, ◌∙◌, ℕ, ◌/◌, ◌%◌, ◌<◌, sym, ap, subst, Some, length, arith}
+use Rattle.std.proofs.Common.{◌≡◌, ℕ, ◌/◌, ◌%◌, ◌<◌, subst, length, arith}
 use Rattle.std.proofs.lemmas.List.{get_or_read}
 use Rattle.flat_pages.specs.HeldPages.{page_of, blank_page}
-use Rattle.flat_pages.specs.declared.held_page.HeldPage.{HeldPage}
 use Rattle.flat_pages.specs.Meaning.{tables}
 use Rattle.flat_pages.proofs.Calls.{put_plain, home_there, handle_lives, placed}
 use Rattle.flat_pages.proofs.Soundness.{sound_put}
