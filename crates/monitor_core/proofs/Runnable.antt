@@ -49,7 +49,7 @@ module _ {P : Type 0} {b : _} (m : System P b) (d : DrumWords) where
         there = j.1;
         named = j.3;
         runs = ap (λ k. k.body.status) j.2 ∙ r.2;
-        free = ap (λ k. k.frozen) j.2 ∙ not_frozen r.0.frozen _ r.3;
+        free = ap (λ k. k.frozen) j.2 ∙ not_frozen r.0.frozen (is_frozen 29 (forks_of m.jobs.items) (option_and_then (fork_in (forks_of m.jobs.items) r.0.name.tty) r.0.superior)) r.3;
       }
 
   -- and the top fork of a job that can run is a fork that can

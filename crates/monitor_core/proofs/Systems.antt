@@ -6,6 +6,7 @@ use Rattle.plain_model.specs.declared.names.Tty.{Tty}
 use Rattle.plain_model.specs.Outcome.{DrumWords}
 use Rattle.monitor_core.specs.declared.job.Job.{Job}
 use Rattle.monitor_core.specs.declared.system.System.{System}
+use Rattle.monitor_core.specs.Holding.{Holds}
 use Rattle.monitor_core.specs.Jobs.{jobs_of, forks_of, job_at, plain_job}
 use Rattle.monitor_core.specs.Systems.{state_of, FitsPages, IsWithin, most_makings}
 use Rattle.monitor_core.proofs.Lookups.{OwnForks, jobs_set, forks_set}
@@ -20,6 +21,10 @@ module _ {P : Type 0} {b : _} where
   -- and has the first slot
   pub first_slots : (m : System P b) → FirstSlots m.jobs.items
   first_slots m t j at = (m.sound.each_job t j at).slot
+
+  -- and is held by the pages
+  pub holds_top : (m : System P b) (t : ℕ) (j : Job) → job_at m.jobs.items t ≡ Some j → Holds b.means m.pages j.top.name
+  holds_top m t j at = let job = m.sound.each_job t j at in record { flat = m.sound.flat; lives = m.sound.alive t j at; terminal = omega (arith, job.terminal, job.low) }
 
   pub low_terminal : (m : System P b) (t : ℕ) (j : Job) → job_at m.jobs.items t ≡ Some j → t < length m.jobs.items
   low_terminal m t j at = omega (arith, m.sound.job_room, (m.sound.each_job t j at).low)

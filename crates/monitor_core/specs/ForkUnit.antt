@@ -1,5 +1,6 @@
 -- What a unit does to its own fork, and what it shows.
-use Rattle.std.specs.Prelude.{◌%◌, if◌then◌else◌, ◌==◌, slice_index}
+use Rattle.std.specs.Prelude.{◌≡◌, ◌<◌, ◌%◌, ◌^◌, length, false, if◌then◌else◌, ◌==◌, slice_index}
+use Rattle.plain_model.specs.declared.names.TheConstants.{ACCUMULATORS}
 use Rattle.plain_model.specs.declared.call.TheConstants.{PBOUT, HALTF}
 use Rattle.plain_model.specs.declared.channel.TheConstants.{ILLEGAL_INSTRUCTION}
 use Rattle.plain_model.specs.declared.fork.Fork.{Fork}
@@ -10,6 +11,13 @@ use Rattle.plain_model.specs.Interrupts.{posted}
 use Rattle.monitor_core.specs.Shown.{code_shown}
 use Rattle.monitor_core.specs.declared.shown.Shown.{Shown}
 use Rattle.monitor_core.specs.declared.shown.Shown.TheVariants.{Nothing, Halted, Forced}
+
+-- what a unit of a fork asks: no channel is taken, its units can be counted, and its registers are within their limits
+pub record CanUnit (f : Fork) : Type 0 where
+  pub off : f.body.psi.on ≡ false
+  pub few : f.body.units < 2 ^ 63
+  pub pc : f.body.regs.pc < 2 ^ 18
+  pub accumulators : length f.body.regs.ac ≡ ACCUMULATORS
 
 -- the fork behind a unit with this deed
 abbrev pub fork_after : Fork → Deed → Fork

@@ -1,8 +1,9 @@
 -- What a taker was given, whether it took all of it or failed.
-use Rattle.std.specs.Prelude.{ℕ, ◌≤◌, List, Result, OnOk, OnErr}
+use Rattle.std.specs.Prelude.{ℕ, ◌≤◌, List, [], Result, OnOk, OnErr}
 use Rattle.outside.specs.Faults.{Rose}
 use Rattle.plain_model.specs.declared.event.Item.{Item}
 use Rattle.plain_model.specs.declared.event.Step.{Step}
+use Rattle.plain_model.specs.Outcome.{DrumWords}
 use Rattle.plain_model.specs.Taker.{GoesOn, IsCut, StaysOnward}
 
 -- its count of faults is no lower, and higher where it failed; and it is still the taker that it was
@@ -15,3 +16,8 @@ pub record StaysTaker {T X E : Type 0} (fault_count : T → ℕ) (onward : T →
 pub record Takes {T X E : Type 0} (stands cut : T → T → List Item → List Step → Type 0) (old new : T) (result : Result X E) (items : List Item) (steps : List Step) : Type 0 where
   pub ok : OnOk result (GoesOn stands old new items steps)
   pub err : OnErr result (IsCut stands cut old new items steps)
+
+-- it took these items, over whatever drum they are told, or is cut within them
+pub record TookItems {T X E : Type 0} (fault_count : T → ℕ) (onward : T → T → Type 0) (stands cut : T → T → List Item → List Step → Type 0) (old new : T) (result : Result X E) (items : DrumWords → List Item) : Type 0 where
+  pub taker : StaysTaker fault_count onward old new result
+  pub given : (d : DrumWords) → Takes stands cut old new result (items d) []

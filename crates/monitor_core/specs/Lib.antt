@@ -4,6 +4,7 @@ pub mod ForkUnit
 pub mod Jobs
 pub mod Fetch
 pub mod JobUnit
+pub mod Holding
 pub mod Writing
 pub mod Looking
 pub mod Sound

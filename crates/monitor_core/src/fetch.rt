@@ -3,6 +3,7 @@ ghost use Rattle.std.specs.Prelude.{◌≡◌, ◌<◌, ◌^◌, length, true};
 ghost use Rattle.plain_model.specs.Limits.{IsTerminal};
 ghost use Rattle.plain_model.specs.Outcome.{DrumWords};
 ghost use Rattle.plain_model.specs.Unit.{fetched};
+ghost use Rattle.monitor_core.specs.Holding.{Holds};
 ghost use Rattle.monitor_core.specs.Fetch.{IsFetched, FitsFetch};
 
 use crate::address::{offset_in_page, slot_at};
@@ -24,9 +25,7 @@ pub enum Fetched {
 /// Fetches the word at a fork's program counter. Nothing is made.
 #[inline]
 pub fn fetch<P: Pages>(pages: &P, fork: &Fork) -> Fetched
-    requires flat { P.means.flat ≡ true }
-    requires lives { P.means.lives pages.now fork.now.name ≡ true }
-    requires terminal { IsTerminal fork.now.name.tty }
+    requires fork { Holds P.means pages.now fork.now.name }
     requires pc { fork.now.body.regs.pc < 2 ^ 18 }
     requires accumulators { length fork.now.body.regs.ac ≡ ACCUMULATORS }
     ensures told { (d : DrumWords) → P.means.fits pages.now d → IsFetched (P.means.plain pages.now d) result (fetched (P.means.plain pages.now d) fork.now) }

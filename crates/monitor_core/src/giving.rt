@@ -1,8 +1,8 @@
 // What a unit shows, given to a taker.
-ghost use Rattle.std.specs.Prelude.{◌<◌, [], ◌∷◌, All};
+ghost use Rattle.std.specs.Prelude.{◌<◌, All};
 ghost use Rattle.plain_model.specs.Limits.{IsTerminal};
 ghost use Rattle.plain_model.specs.Unit.{printed};
-ghost use Rattle.monitor_core.specs.Giving.{StaysTaker, Takes};
+ghost use Rattle.monitor_core.specs.Giving.{TookItems};
 ghost use Rattle.monitor_core.specs.Shown.{shown_items, FitsShown};
 
 use crate::shown::Shown;
@@ -14,8 +14,7 @@ use plain_model::{Item, Taker, Tty};
 fn give_text<T: Taker>(out: &mut T, t: Tty, text: &[u8]) -> Result<(), Failed>
     requires terminal { IsTerminal t }
     requires codes { All (λ c. c < 128) text.now }
-    ensures taker { StaysTaker T.fault_count T.onward out.old out.new result }
-    ensures given { Takes T.stands T.cut out.old out.new result (printed t text.now) [] }
+    ensures { TookItems T.fault_count T.onward T.stands T.cut out.old out.new result (λ d. printed t text.now) }
 {
     for code in text {
         out.item(Item::Char(t, *code))?;
@@ -26,8 +25,7 @@ fn give_text<T: Taker>(out: &mut T, t: Tty, text: &[u8]) -> Result<(), Failed>
 // Gives what a top fork prints that is forced by a channel.
 fn give_forced<T: Taker>(out: &mut T, t: Tty, channel: u8) -> Result<(), Failed>
     requires terminal { IsTerminal t }
-    ensures taker { StaysTaker T.fault_count T.onward out.old out.new result }
-    ensures given { Takes T.stands T.cut out.old out.new result (shown_items t (Shown.Forced channel)) [] }
+    ensures { TookItems T.fault_count T.onward T.stands T.cut out.old out.new result (λ d. shown_items t (Shown.Forced channel)) }
 {
     let mut digits = Buffer::new();
     give_text(out, t, b"\r\n?FORCED ")?;
@@ -39,8 +37,7 @@ fn give_forced<T: Taker>(out: &mut T, t: Tty, channel: u8) -> Result<(), Failed>
 pub fn give_shown<T: Taker>(out: &mut T, t: Tty, shown: Shown) -> Result<(), Failed>
     requires terminal { IsTerminal t }
     requires fits { FitsShown shown }
-    ensures taker { StaysTaker T.fault_count T.onward out.old out.new result }
-    ensures given { Takes T.stands T.cut out.old out.new result (shown_items t shown) [] }
+    ensures { TookItems T.fault_count T.onward T.stands T.cut out.old out.new result (λ d. shown_items t shown) }
 {
     match shown {
         Shown::Nothing => Ok(()),

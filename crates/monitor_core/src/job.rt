@@ -7,6 +7,8 @@ ghost use Rattle.plain_model.specs.Limits.{FitsCause, FitsItem, IsAddress, IsTer
 ghost use Rattle.plain_model.specs.Outcome.{DrumWords};
 ghost use Rattle.plain_model.specs.References.{slot_at as slot_of};
 ghost use Rattle.monitor_core.specs.Fetch.{FitsFetch, fork_fetched, shown_fetched};
+ghost use Rattle.monitor_core.specs.ForkUnit.{CanUnit};
+ghost use Rattle.monitor_core.specs.Holding.{Holds};
 ghost use Rattle.monitor_core.specs.JobUnit.{job_fetched};
 ghost use Rattle.monitor_core.specs.Jobs.{no_jobs};
 ghost use Rattle.monitor_core.specs.Looking.{examined_in, item_of, top_line};
@@ -39,10 +41,7 @@ pub struct Job {
 // Does the unit of what a fork fetched.
 #[inline]
 fn ran_fork(fork: &mut Fork, fetched: Fetched) -> Shown
-    requires off { fork.old.body.psi.on ≡ false }
-    requires few { fork.old.body.units < 2 ^ 63 }
-    requires pc { fork.old.body.regs.pc < 2 ^ 18 }
-    requires accumulators { length fork.old.body.regs.ac ≡ ACCUMULATORS }
+    requires can { CanUnit fork.old }
     requires fetched { FitsFetch fetched }
     ensures fork { fork.new ≡ fork_fetched fork.old fetched }
     ensures shown { result ≡ shown_fetched fork.old fetched }
@@ -115,9 +114,7 @@ impl Job {
     /// Puts a word at an address of the top fork: into an accumulator, or into a page by the fork's access.
     /// Denied, where its map forbids that; Full, where a page had to be made and the drum is full.
     pub fn poke<P: Pages>(&mut self, pages: &mut P, address: u32, word: Word) -> Result<(), Refusal>
-        requires flat { P.means.flat ≡ true }
-        requires lives { P.means.lives pages.old self.old.top.name ≡ true }
-        requires terminal { IsTerminal self.old.top.name.tty }
+        requires fork { Holds P.means pages.old self.old.top.name }
         requires accumulators { length self.old.top.body.regs.ac ≡ ACCUMULATORS }
         requires serial { P.means.serial pages.old self.old.top.name.tty < 2 ^ 61 }
         requires address { IsAddress address }
@@ -137,8 +134,7 @@ impl Job {
     /// The word at an address of the fork with this serial, whatever its access, as it is shown. NoFork, where
     /// that is not the top fork; NoPage, where no page is there.
     pub fn examined<P: Pages>(&self, pages: &P, serial: u32, address: u32) -> Result<Item, Refusal>
-        requires flat { P.means.flat ≡ true }
-        requires lives { P.means.lives pages.now self.now.top.name ≡ true }
+        requires fork { Holds P.means pages.now self.now.top.name }
         requires accumulators { length self.now.top.body.regs.ac ≡ ACCUMULATORS }
         requires address { IsAddress address }
         ensures told { (d : DrumWords) → P.means.fits pages.now d → result ≡ examined_in (P.means.plain pages.now d) self.now serial address }
@@ -170,10 +166,7 @@ impl Job {
     /// Does the unit of what the top fork fetched. Where the fork stops, the monitor reads the terminal.
     #[inline]
     pub fn ran(&mut self, fetched: Fetched) -> Shown
-        requires off { self.old.top.body.psi.on ≡ false }
-        requires few { self.old.top.body.units < 2 ^ 63 }
-        requires pc { self.old.top.body.regs.pc < 2 ^ 18 }
-        requires accumulators { length self.old.top.body.regs.ac ≡ ACCUMULATORS }
+        requires can { CanUnit self.old.top }
         requires fetched { FitsFetch fetched }
         ensures job { self.new ≡ job_fetched self.old fetched }
         ensures shown { result ≡ shown_fetched self.old.top fetched }

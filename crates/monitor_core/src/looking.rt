@@ -2,6 +2,7 @@
 ghost use Rattle.std.specs.Prelude.{◌≡◌, ◌<◌, ◌^◌, length, true};
 ghost use Rattle.plain_model.specs.Limits.{IsAddress};
 ghost use Rattle.plain_model.specs.Outcome.{DrumWords};
+ghost use Rattle.monitor_core.specs.Holding.{Holds};
 ghost use Rattle.monitor_core.specs.Looking.{word_in};
 
 use crate::address::{offset_in_page, slot_at};
@@ -10,8 +11,7 @@ use word36::Word;
 
 /// The word at an address of a fork, whatever its access. None, where no page is there; nothing is made.
 pub fn seen_word<P: Pages>(pages: &P, fork: &Fork, address: u32) -> Option<Word>
-    requires flat { P.means.flat ≡ true }
-    requires lives { P.means.lives pages.now fork.now.name ≡ true }
+    requires fork { Holds P.means pages.now fork.now.name }
     requires accumulators { length fork.now.body.regs.ac ≡ ACCUMULATORS }
     requires address { IsAddress address }
     ensures told { (d : DrumWords) → P.means.fits pages.now d → result ≡ word_in (P.means.plain pages.now d) fork.now address }

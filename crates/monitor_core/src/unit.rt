@@ -5,7 +5,7 @@ ghost use Rattle.plain_model.specs.Interrupts.{posted, is_panic};
 ghost use Rattle.plain_model.specs.Unit.{advanced};
 ghost use Rattle.monitor_core.specs.Instructions.{deed_by, IsInstruction};
 ghost use Rattle.monitor_core.specs.Shown.{code_shown, FitsShown};
-ghost use Rattle.monitor_core.specs.ForkUnit.{fork_after, shown_after};
+ghost use Rattle.monitor_core.specs.ForkUnit.{CanUnit, fork_after, shown_after};
 
 use crate::instruction::Instruction;
 use crate::shown::Shown;
@@ -53,10 +53,7 @@ fn shown_code(word: Word) -> Shown
 
 // A turn of a monitor call.
 fn called(fork: &mut Fork, number: u32) -> Shown
-    requires off { fork.old.body.psi.on ≡ false }
-    requires few { fork.old.body.units < 2 ^ 63 }
-    requires pc { fork.old.body.regs.pc < 2 ^ 18 }
-    requires accumulators { length fork.old.body.regs.ac ≡ ACCUMULATORS }
+    requires can { CanUnit fork.old }
     ensures fork { fork.new ≡ fork_after fork.old (deed_by fork.old.body.regs (Instruction.Jsys number)) }
     ensures shown { result ≡ shown_after fork.old (deed_by fork.old.body.regs (Instruction.Jsys number)) }
     ensures fits { FitsShown result }
@@ -81,10 +78,7 @@ fn called(fork: &mut Fork, number: u32) -> Shown
 /// Does an instruction of a fork.
 #[inline]
 pub fn performed(fork: &mut Fork, instruction: Instruction) -> Shown
-    requires off { fork.old.body.psi.on ≡ false }
-    requires few { fork.old.body.units < 2 ^ 63 }
-    requires pc { fork.old.body.regs.pc < 2 ^ 18 }
-    requires accumulators { length fork.old.body.regs.ac ≡ ACCUMULATORS }
+    requires can { CanUnit fork.old }
     requires instruction { IsInstruction instruction }
     ensures fork { fork.new ≡ fork_after fork.old (deed_by fork.old.body.regs instruction) }
     ensures shown { result ≡ shown_after fork.old (deed_by fork.old.body.regs instruction) }

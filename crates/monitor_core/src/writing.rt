@@ -3,6 +3,7 @@ ghost use Rattle.std.specs.Prelude.{◌≡◌, ◌<◌, ◌^◌, true, IfErr, On
 ghost use Rattle.outside.specs.declared.TheConstants.{PAGE_WORDS};
 ghost use Rattle.plain_model.specs.Limits.{FitsCause, IsTerminal};
 ghost use Rattle.plain_model.specs.Outcome.{DrumWords};
+ghost use Rattle.monitor_core.specs.Holding.{Holds};
 ghost use Rattle.monitor_core.specs.Writing.{IsReadied, IsWritten, Makes};
 
 use plain_model::{Kind, Pages, Place, Refusal, SPACE_PAGES, Slot, Touch};
@@ -10,10 +11,8 @@ use word36::Word;
 
 // Makes what a write to a slot wants: a zero page, a private copy, or the one and then the other.
 fn readied<P: Pages>(pages: &mut P, slot: Slot) -> Result<(), Refusal>
-    requires flat { P.means.flat ≡ true }
-    requires lives { P.means.lives pages.old slot.fork ≡ true }
+    requires fork { Holds P.means pages.old slot.fork }
     requires page { slot.page < SPACE_PAGES }
-    requires terminal { IsTerminal slot.fork.tty }
     requires serial { P.means.serial pages.old slot.fork.tty < 2 ^ 61 }
     ensures told { (d : DrumWords) → P.means.fits pages.old d → P.means.fits pages.new d × IsReadied (P.means.plain pages.old d) (P.means.plain pages.new d) slot result }
     ensures ready { OnOk result (P.means.touched pages.new (Place.Fork slot) Kind.Write ≡ Touch.Ready) }
@@ -52,11 +51,9 @@ pub fn write_word<P: Pages>(
     offset: u16,
     word: Word,
 ) -> Result<(), Refusal>
-    requires flat { P.means.flat ≡ true }
-    requires lives { P.means.lives pages.old slot.fork ≡ true }
+    requires fork { Holds P.means pages.old slot.fork }
     requires page { slot.page < SPACE_PAGES }
     requires offset { offset < PAGE_WORDS }
-    requires terminal { IsTerminal slot.fork.tty }
     requires serial { P.means.serial pages.old slot.fork.tty < 2 ^ 61 }
     ensures told { (d : DrumWords) → P.means.fits pages.old d → P.means.fits pages.new d × IsWritten (P.means.plain pages.old d) (P.means.plain pages.new d) slot offset word result }
     ensures made { Makes P.means pages.old pages.new slot.fork.tty 2 }

@@ -1,10 +1,9 @@
 // The items of a reply, given to a taker.
-ghost use Rattle.std.specs.Prelude.{[], ◌∷◌, IsSome};
+ghost use Rattle.std.specs.Prelude.{IsSome};
 ghost use Rattle.plain_model.specs.Limits.{IsTerminal};
-ghost use Rattle.plain_model.specs.Outcome.{DrumWords};
 ghost use Rattle.monitor_core.specs.declared.reply.Reply.{Reply as AReply};
 ghost use Rattle.monitor_core.specs.Jobs.{job_at};
-ghost use Rattle.monitor_core.specs.Giving.{StaysTaker, Takes};
+ghost use Rattle.monitor_core.specs.Giving.{TookItems};
 ghost use Rattle.monitor_core.specs.Replies.{reply_items, FitsReply};
 ghost use Rattle.monitor_core.specs.Systems.{state_of};
 
@@ -19,8 +18,7 @@ impl<P: Pages> System<P> {
     fn give_forks<T: Taker>(&self, t: Tty, out: &mut T) -> Result<(), Failed>
         requires terminal { IsTerminal t }
         requires job { IsSome (job_at self.now.jobs.items t.0) }
-        ensures taker { StaysTaker T.fault_count T.onward out.old out.new result }
-        ensures given { (d : DrumWords) → Takes T.stands T.cut out.old out.new result (reply_items (state_of self.now d) (AReply.Forks t)) [] }
+        ensures { TookItems T.fault_count T.onward T.stands T.cut out.old out.new result (λ d. reply_items (state_of self.now d) (AReply.Forks t)) }
     {
         match &self.jobs[t.0 as usize] {
             Some(job) => out.item(Item::ForkLine(job.line())),
@@ -31,8 +29,7 @@ impl<P: Pages> System<P> {
     /// Gives the items of a reply, one by one.
     pub fn give<T: Taker>(&self, reply: Reply, out: &mut T) -> Result<(), Failed>
         requires { FitsReply self.now.jobs.items reply }
-        ensures taker { StaysTaker T.fault_count T.onward out.old out.new result }
-        ensures given { (d : DrumWords) → Takes T.stands T.cut out.old out.new result (reply_items (state_of self.now d) reply) [] }
+        ensures { TookItems T.fault_count T.onward T.stands T.cut out.old out.new result (λ d. reply_items (state_of self.now d) reply) }
     {
         match reply {
             Reply::Nothing => Ok(()),

@@ -6,20 +6,21 @@ use Rattle.monitor_core.specs.Giving.{Takes}
 use Rattle.monitor_core.proofs.Given.{on_err, takes_part, takes_then, printed_split}
 use Rattle.monitor_core.proofs.giving.give_text.Goals as goal
 
-pub returns-in_err-item-clause-taker : goal.returns-in_err-item-clause-taker
-returns-in_err-item-clause-taker g c =
+pub returns-in_err-item : goal.returns-in_err-item
+returns-in_err-item g c =
     let i = c.loop-code.invariant in
-    record {
-      later = omega (arith, i.later, c.in_err-item.ensures.later);
-      cause = on_err c.from_residual.result (omega (arith, i.later, c.in_err-item.ensures.cause));
-      goes_on = onward_then g.T.Taker.onward _ _ _ i.onward c.in_err-item.ensures.onward;
-    }
-
-pub returns-in_err-item-clause-given : goal.returns-in_err-item-clause-given
-returns-in_err-item-clause-given g c =
     let t = c.args.t in
     let text = c.args.text.now in
     let n = c.loop-code.code-index in
-    subst (λ is. Takes g.T.Taker.stands g.T.Taker.cut c.args.out.now c.item.new.self c.from_residual.result is []) (sym (printed_split t text n c.loop-code-test.true))
-    (takes_then g.T.Taker.stands g.T.Taker.cut c.args.out.now _ c.item.new.self c.from_residual.result (printed t (take n text)) (Char t (get_or text n 0) ∷ printed t (drop (n + 1) text)) [] [] c.loop-code.invariant.given
-    (takes_part g.T.Taker.stands g.T.Taker.cut _ c.item.new.self c.from_residual.result (Char t (get_or text n 0) ∷ []) (printed t (drop (n + 1) text)) [] [] c.from_residual.ensures.0 c.in_err-item.ensures.err))
+    let r = c.from_residual.result in
+    record {
+      taker = record {
+        later = omega (arith, i.later, c.in_err-item.ensures.later);
+        cause = on_err r (omega (arith, i.later, c.in_err-item.ensures.cause));
+        goes_on = onward_then g.T.Taker.onward _ _ _ i.onward c.in_err-item.ensures.onward;
+      };
+      given = λ d.
+          subst (λ is. Takes g.T.Taker.stands g.T.Taker.cut c.args.out.now c.item.new.self r is []) (sym (printed_split t text n c.loop-code-test.true))
+          (takes_then g.T.Taker.stands g.T.Taker.cut c.args.out.now _ c.item.new.self r (printed t (take n text)) (Char t (get_or text n 0) ∷ printed t (drop (n + 1) text)) [] [] i.given
+          (takes_part g.T.Taker.stands g.T.Taker.cut _ c.item.new.self r (Char t (get_or text n 0) ∷ []) (printed t (drop (n + 1) text)) [] [] c.from_residual.ensures.0 c.in_err-item.ensures.err));
+    }

@@ -5,6 +5,7 @@ use Rattle.monitor_core.specs.JobEvents.{FitsJobEvent}
 use Rattle.monitor_core.specs.Looking.{item_of}
 use Rattle.monitor_core.specs.Replies.{reply_of}
 use Rattle.monitor_core.proofs.Sounds.{entry_read, job_read, job_restarts, sound_job}
+use Rattle.monitor_core.proofs.Systems.{holds_top}
 use Rattle.monitor_core.proofs.Writes.{errs}
 use Rattle.monitor_core.proofs.JobDid.{did_no_job, did_poke, did_start, did_examine, did_forks, poke_reply, poked_job, put_back}
 use Rattle.monitor_core.proofs.system.System.at_job.Goals as goal
@@ -14,8 +15,11 @@ returns-in_default g c =
     did_no_job c.args.self.now _ refl (put_back c.args.self.now.jobs.items c.args.t.0 c.index_mut.result.now c.index_mut.result.now c.index_mut.ensures.value refl) refl refl c.args.t c.args.e c.requires.terminal
     (entry_read c.args.self.now.jobs.items c.args.t.0 c.index_mut.result.now c.args.self.now.sound.job_room c.requires.terminal c.index_mut.ensures.value ∙ c.in_default.is)
 
-pub poke-requires-clause-terminal : goal.poke-requires-clause-terminal
-poke-requires-clause-terminal g c = let job = c.args.self.now.sound.each_job c.args.t.0 c.in-Some.job (job_read c.args.self.now.jobs.items c.args.t.0 _ c.in-Some.job c.args.self.now.sound.job_room c.requires.terminal c.index_mut.ensures.value c.in-Some.is) in omega (arith, job.terminal, job.low)
+pub poke-requires-clause-fork : goal.poke-requires-clause-fork
+poke-requires-clause-fork g c = holds_top c.args.self.now c.args.t.0 c.in-Some.job (job_read c.args.self.now.jobs.items c.args.t.0 _ c.in-Some.job c.args.self.now.sound.job_room c.requires.terminal c.index_mut.ensures.value c.in-Some.is)
+
+pub examined-requires-clause-fork : goal.examined-requires-clause-fork
+examined-requires-clause-fork g c = holds_top c.args.self.now c.args.t.0 c.in-Some.job (job_read c.args.self.now.jobs.items c.args.t.0 _ c.in-Some.job c.args.self.now.sound.job_room c.requires.terminal c.index_mut.ensures.value c.in-Some.is)
 
 pub invariant_of-self-in-Poke : goal.invariant_of-self-in-Poke
 invariant_of-self-in-Poke g c =

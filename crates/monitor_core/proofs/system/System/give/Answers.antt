@@ -1,9 +1,15 @@
-use Rattle.std.proofs.Common.{[], sym, subst}
-use Rattle.monitor_core.specs.Giving.{Takes}
+use Rattle.std.proofs.Common.{sym, subst}
+use Rattle.monitor_core.specs.Giving.{TookItems}
 use Rattle.monitor_core.specs.Replies.{reply_items}
 use Rattle.monitor_core.specs.Systems.{state_of}
 use Rattle.monitor_core.proofs.system.System.give.Goals as goal
 
-pub returns-in-Forks-clause-given : goal.returns-in-Forks-clause-given
-returns-in-Forks-clause-given g c d =
-    subst (λ r. Takes g.T.Taker.stands g.T.Taker.cut c.args.out.now c.give_forks.new.out c.give_forks.result (reply_items (state_of c.args.self.now d) r) []) (sym c.in-Forks.is) (c.give_forks.ensures.given d)
+pub returns-in-Forks : goal.returns-in-Forks
+returns-in-Forks g c =
+    let given = c.give_forks.ensures in
+    subst (λ r. TookItems g.T.Taker.fault_count g.T.Taker.onward g.T.Taker.stands g.T.Taker.cut c.args.out.now c.give_forks.new.out c.give_forks.result (λ d. reply_items (state_of c.args.self.now d) r)) (sym c.in-Forks.is) given
+
+pub returns-in-Prints : goal.returns-in-Prints
+returns-in-Prints g c =
+    let given = c.give_shown.ensures in
+    subst (λ r. TookItems g.T.Taker.fault_count g.T.Taker.onward g.T.Taker.stands g.T.Taker.cut c.args.out.now c.give_shown.new.out c.give_shown.result (λ d. reply_items (state_of c.args.self.now d) r)) (sym c.in-Prints.is) given

@@ -1,16 +1,20 @@
-use Rattle.std.proofs.Common.{set, Some, ◌∙◌, ap, refl}
+use Rattle.std.proofs.Common.{◌<◌, set, Some, ◌∙◌, ap, refl, arith}
 use Rattle.monitor_core.proofs.Sounds.{fetch_keeps, sound_job}
+use Rattle.monitor_core.proofs.Systems.{holds_top}
 use Rattle.monitor_core.proofs.UnitDid.{did_unit, can_run_named, job_ran, ran_job}
 use Rattle.monitor_core.proofs.system.System.unit.Goals as goal
 
 pub fetch-fetched-requires-clause-pc : goal.fetch-fetched-requires-clause-pc
 fetch-fetched-requires-clause-pc g c = (c.args.self.now.sound.each_job c.args.fork.tty.0 c.in-Some.job (ran_job c.args.self.now c.args.fork c.requires.can _ c.in-Some.job c.index_mut.ensures.value c.in-Some.is)).pc
 
-pub ran-requires-clause-off : goal.ran-requires-clause-off
-ran-requires-clause-off g c = (c.args.self.now.sound.each_job c.args.fork.tty.0 c.in-Some.job (ran_job c.args.self.now c.args.fork c.requires.can _ c.in-Some.job c.index_mut.ensures.value c.in-Some.is)).off
+pub fetch-fetched-requires-clause-fork : goal.fetch-fetched-requires-clause-fork
+fetch-fetched-requires-clause-fork g c = holds_top c.args.self.now c.args.fork.tty.0 c.in-Some.job (ran_job c.args.self.now c.args.fork c.requires.can _ c.in-Some.job c.index_mut.ensures.value c.in-Some.is)
 
-pub ran-requires-clause-pc : goal.ran-requires-clause-pc
-ran-requires-clause-pc g c = (c.args.self.now.sound.each_job c.args.fork.tty.0 c.in-Some.job (ran_job c.args.self.now c.args.fork c.requires.can _ c.in-Some.job c.index_mut.ensures.value c.in-Some.is)).pc
+pub ran-requires-clause-can : goal.ran-requires-clause-can
+ran-requires-clause-can g c =
+    let at = ran_job c.args.self.now c.args.fork c.requires.can _ c.in-Some.job c.index_mut.ensures.value c.in-Some.is in
+    let job = c.args.self.now.sound.each_job c.args.fork.tty.0 c.in-Some.job at in
+    record { off = job.off; few = omega (arith, c.requires.few.units c.args.fork.tty.0 c.in-Some.job at); pc = job.pc; accumulators = job.accumulators }
 
 pub invariant_of-self : goal.invariant_of-self
 invariant_of-self g c =
