@@ -1,5 +1,0 @@
-mod Asking
-mod Turns
-mod Running
-mod Told
-mod Causes
