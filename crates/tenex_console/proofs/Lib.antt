@@ -1,0 +1,6 @@
+mod Asking
+mod Turns
+mod Found
+mod Running
+mod Closing
+mod Statuses

@@ -38,35 +38,37 @@ pub record StandsFor {M : Type 0} (fits : M → DrumWords → Type 0) (plain : M
   pub fit : fits m d
   pub state : plain m d ≡ s
 
--- A machine, the drum and a taker before the driving.
-module _ {M D K : Type 0} (flat : Bool) (fits : M → DrumWords → Type 0) (plain : M → DrumWords → PlainState) (held : D → Option DrumWords) (stands cut : K → K → List Item → List Step → Type 0) (limit : ℕ) (m : M) (drum : D) where
+-- A machine and the drum before the driving.
+module _ {M D : Type 0} (flat : Bool) (fits : M → DrumWords → Type 0) (plain : M → DrumWords → PlainState) (held : D → Option DrumWords) (limit : ℕ) (m : M) (drum : D) where
   -- these words stood on the drum, and over them the machine stood for the opening state
   pub record OpensOver (d : DrumWords) : Type 0 where
     pub stood : Stands flat (held drum) d
     pub opened : StandsFor fits plain m d (opening limit)
 
-  -- legal entries, and what the taker was given of them, where the driving ended like this
-  pub record GivenTo (driven : Driven) (out out' : K) (events : List Event) (entries : List Step) : Type 0 where
-    pub items : List Item
-    pub run : RunsTo flat limit driven events entries items
-    pub given : Handed stands cut out out' driven items entries
+  -- A taker.
+  module _ {K : Type 0} (stands cut : K → K → List Item → List Step → Type 0) (driven : Driven) (out out' : K) where
+    -- legal entries, and what the taker was given of them, where the driving ended like this
+    pub record GivenTo (events : List Event) (entries : List Step) : Type 0 where
+      pub items : List Item
+      pub run : RunsTo flat limit driven events entries items
+      pub given : Handed stands cut out out' driven items entries
 
-  -- How the driving ended: the script's events and their entries, whatever is told; the script, where it told
-  -- its bytes; and over what the drum told, what the taker was given.
-  pub record RanTo (driven : Driven) (script script' : Option (List ℕ)) (out out' : K) : Type 0 where
-    pub events : List Event
-    pub entries : List Step
-    pub fit : All FitsEvent events
-    pub follows : FollowsTo driven events entries
-    pub few : length entries < max_steps
-    pub found : Found script script' (Verdict driven events)
-    pub told : (d : DrumWords) → OpensOver d → GivenTo driven out out' events entries
+    -- How the driving ended: the script's events and their entries, whatever is told; the script, where it told
+    -- its bytes; and over what the drum told, what the taker was given.
+    pub record RanTo (script script' : Option (List ℕ)) : Type 0 where
+      pub events : List Event
+      pub entries : List Step
+      pub fit : All FitsEvent events
+      pub follows : FollowsTo driven events entries
+      pub few : length entries < max_steps
+      pub found : Found script script' (Verdict driven events)
+      pub told : (d : DrumWords) → OpensOver d → GivenTo events entries
 
 -- A machine over pages.
 module _ {P : Type 0} {b : _} where
   -- what the driving of a machine came to
   abbrev pub Drove : {S D K : Type 0} → (D → Option DrumWords) → (S → Option (List ℕ)) → (stands cut : K → K → List Item → List Step → Type 0) → Machine P b → D → (script script' : S) → (out out' : K) → Driven → Type 0
-  Drove held left stands cut m drum script script' out out' driven = RanTo b.means.flat Fits plain held stands cut (limit m) m drum driven (left script) (left script') out out'
+  Drove held left stands cut m drum script script' out out' driven = RanTo b.means.flat Fits plain held (limit m) m drum stands cut driven out out' (left script) (left script')
 
   -- a machine that goes on and has done nothing, with AUTO on
   pub record IsNew (m : Machine P b) : Type 0 where

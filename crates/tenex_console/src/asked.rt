@@ -41,9 +41,12 @@ impl Unbegun {
 }
 
 impl From<Memory> for Unbegun {
-    fn from(_memory: Memory) -> Self
-        ensures { result ≡ Unbegun.Memory }
-    {
+    ghost use Rattle.std.specs.Prelude.{◌≡◌};
+    ghost use Rattle.tenex_console.specs.declared.asked.Unbegun.TheVariants.{Memory as NoMemory};
+
+    ghost from_gives = { λ _ why. why ≡ NoMemory };
+
+    fn from(_memory: Memory) -> Self {
         Unbegun::Memory
     }
 }

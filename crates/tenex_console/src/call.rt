@@ -130,9 +130,9 @@ fn close<T: Sink, R: Sink>(writer: &mut Writer<T, R>, last: Last) -> Result<(), 
     ensures ok { OnOk result (Finishes T.taken R.taken last writer.old writer.new) }
     ensures err { OnErr result (FailsAtEnd T.taken R.taken last writer.old writer.new) }
 {
-    let closed = writer.finish(last);
-    if closed.is_err() {
+    if let Err(failed) = writer.finish(last) {
         writer.give_up();
+        return Err(failed);
     }
-    closed
+    Ok(())
 }

@@ -88,9 +88,9 @@ pub fn drive<P: Pages, S: Source, D: Drum, K: Taker>(
 {
     let mut lines = Lines::new();
     loop {
-        if hand_on(&mut lines, taker).is_err() {
+        let Ok(()) = hand_on(&mut lines, taker) else {
             return Driven::TakerFault;
-        }
+        };
         match lines.next(script) {
             Next::One(event) => match machine.event(event, drum, taker) {
                 Ended::Went => {}
@@ -112,7 +112,7 @@ fn hand_on<K: Taker>(lines: &mut Lines, taker: &mut K) -> Result<(), Failed>
     ensures later { K.fault_count taker.old ≤ K.fault_count taker.new }
     ensures cause { OnErr result (Rose (K.fault_count taker.old) (K.fault_count taker.new)) }
     ensures onward { StaysOnward K.onward taker.old taker.new }
-    ensures unread { (NeedsRead lines.old → ⊥) → taker.new ≡ taker.old }
+    ensures unread { (NeedsRead lines.new → ⊥) → taker.new ≡ taker.old }
     ensures ok { OnOk result (GoesOn K.stands taker.old taker.new [] []) }
     ensures err { OnErr result (IsCut K.stands K.cut taker.old taker.new [] []) }
 {

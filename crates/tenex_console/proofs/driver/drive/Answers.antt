@@ -1,0 +1,84 @@
+use Rattle.std.proofs.Common.{refl, sym, ◌∙◌, arith}
+use Rattle.monitor_core.specs.Machines.{Fits, limit, plain}
+use Rattle.tenex_console.specs.declared.driver.Driven.TheVariants.{Done, Bad, Long, ReadFault}
+use Rattle.tenex_console.proofs.Found.{found_done, found_bad, found_long, found_unread}
+use Rattle.tenex_console.proofs.Running.{few_in, ran, ran_cut, ran_stopped, ran_unshown, so_far_more, so_far_none, so_far_shown}
+use Rattle.tenex_console.proofs.driver.drive.Goals as goal
+
+pub loop-lines-init : goal.loop-lines-init
+loop-lines-init g c = record {
+  read_later = omega arith;
+  later = omega arith;
+  onward = record { each = λ first h. h };
+  untouched = refl;
+  most = refl;
+  live = c.requires.new.live;
+  is_open = c.new-lines.ensures.open;
+  none = c.new-lines.ensures.pending;
+  start = c.new-lines.ensures.given;
+  no_lines = c.new-lines.ensures.lines;
+  so_far = so_far_none c.new-lines.ensures.turns c.new-lines.ensures.given c.requires.new.auto_on c.requires.new.none;
+}
+
+pub loop-lines-preserved : goal.loop-lines-preserved
+loop-lines-preserved g c =
+    let i = c.loop-lines.invariant in
+    let e = c.in-One.event in
+    let shown = so_far_shown i.so_far c.hand_on.ensures.skips c.in-Ok.ensures.ok in
+    record {
+      read_later = omega (arith, i.read_later, c.next.ensures.later);
+      later = omega (arith, i.later, c.hand_on.ensures.later, c.event.ensures.later);
+      onward = record { each = λ first h. c.event.ensures.onward.each first (c.hand_on.ensures.onward.each first (i.onward.each first h)) };
+      untouched = c.event.ensures.untouched ∙ i.untouched;
+      most = c.event.ensures.limit ∙ i.most;
+      live = c.in-Went.ensures.live.1 refl;
+      is_open = c.in-One.ensures.open e refl;
+      none = i.none;
+      start = i.start;
+      no_lines = i.no_lines;
+      so_far = so_far_more shown (c.in-One.ensures.takes e refl) (c.in-One.ensures.advances e refl) (c.in-One.ensures.fits e refl).0 c.event.ensures.auto (c.in-Went.ensures.went refl);
+    }
+
+pub returns-in_default-clause-drove : goal.returns-in_default-clause-drove
+returns-in_default-clause-drove g c =
+    let i = c.loop-lines.invariant in
+    ran_unshown i.so_far i.none i.start c.in_default.ensures.err
+
+pub returns-in-DrumFault-clause-drove : goal.returns-in-DrumFault-clause-drove
+returns-in-DrumFault-clause-drove g c =
+    let i = c.loop-lines.invariant in
+    let e = c.in-One.event in
+    let shown = so_far_shown i.so_far c.hand_on.ensures.skips c.in-Ok.ensures.ok in
+    ran_stopped shown (c.in-One.ensures.takes e refl) (c.in-One.ensures.advances e refl) (c.in-One.ensures.fits e refl).0 i.none i.start (c.in-DrumFault.ensures.stopped refl)
+
+pub returns-in-TakerFault-clause-drove : goal.returns-in-TakerFault-clause-drove
+returns-in-TakerFault-clause-drove g c =
+    let i = c.loop-lines.invariant in
+    let e = c.in-One.event in
+    let shown = so_far_shown i.so_far c.hand_on.ensures.skips c.in-Ok.ensures.ok in
+    ran_cut shown (c.in-One.ensures.takes e refl) (c.in-One.ensures.advances e refl) (c.in-One.ensures.fits e refl).0 i.none i.start (c.in-TakerFault.ensures.cut refl)
+
+pub returns-in-End-clause-drove : goal.returns-in-End-clause-drove
+returns-in-End-clause-drove g c =
+    let i = c.loop-lines.invariant in
+    let shown = so_far_shown i.so_far c.hand_on.ensures.skips c.in-Ok.ensures.ok in
+    ran shown Done (λ es ss x. x) (λ is x. x) (λ is x. x) (found_done i.none i.start shown.takes (few_in shown) (c.in-End.ensures.end refl) (c.in-End.ensures.spends refl))
+
+pub returns-in-Bad-clause-drove : goal.returns-in-Bad-clause-drove
+returns-in-Bad-clause-drove g c =
+    let i = c.loop-lines.invariant in
+    let n = c.in-Bad.number in
+    let shown = so_far_shown i.so_far c.hand_on.ensures.skips c.in-Ok.ensures.ok in
+    ran shown (Bad n) (λ es ss x. x) (λ is x. x) (λ is x. x) (found_bad i.none i.start shown.takes (few_in shown) c.next.ensures.reads i.no_lines shown.turns (c.in-Bad.ensures.bad n refl))
+
+pub returns-in-ReadFault-clause-drove : goal.returns-in-ReadFault-clause-drove
+returns-in-ReadFault-clause-drove g c =
+    let i = c.loop-lines.invariant in
+    let shown = so_far_shown i.so_far c.hand_on.ensures.skips c.in-Ok.ensures.ok in
+    ran shown ReadFault (λ es ss x. x) (λ is x. x) (λ is x. x) (found_unread i.none i.start shown.takes (few_in shown) c.in-ReadFault.ensures.reads)
+
+pub returns-in-Long-clause-drove : goal.returns-in-Long-clause-drove
+returns-in-Long-clause-drove g c =
+    let i = c.loop-lines.invariant in
+    let shown = so_far_shown i.so_far c.hand_on.ensures.skips c.in-Ok.ensures.ok in
+    ran shown Long (λ es ss x. x) (λ is x. x) (λ is x. x) (found_long i.none i.start shown.takes (few_in shown) c.next.ensures.reads (c.in-Long.ensures.long refl))
