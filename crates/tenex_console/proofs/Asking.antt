@@ -1,5 +1,5 @@
 -- The words ask for one pair of sizes at most, each in its range.
-use Rattle.std.proofs.Common.{◌≡◌, ◌≤◌, inl, inr, ℕ, List, [], ◌∷◌, sym, ◌∙◌, ap, arith, map, String, string_bytes}
+use Rattle.std.proofs.Common.{◌≡◌, ◌≤◌, inl, inr, ℕ, List, [], ◌∷◌, ap, arith, map, String, string_bytes}
 use Rattle.command_words.specs.declared.sizes.Sizes.{Sizes}
 use Rattle.command_words.specs.Words.{AsksFor, IsRun, Text}
 use Rattle.command_words.proofs.Reading.{one_pair}

@@ -1,12 +1,12 @@
 -- What the sinks took of a run.
-use Rattle.std.proofs.Common.{◌≡◌, inl, inr, ℕ, ◌<◌, ◌^◌, List, [], ◌∷◌, ◌++◌, length, Bool, true, Option, None, Some, refl, sym, ◌∙◌, ap, subst, arith}
+use Rattle.std.proofs.Common.{◌≡◌, inl, inr, ℕ, ◌-◌, ◌<◌, ◌^◌, List, [], ◌∷◌, ◌++◌, length, Bool, true, Option, None, Some, refl, sym, ◌∙◌, ap, subst, arith}
 use Rattle.std.proofs.lemmas.List.{append-nil}
 use Rattle.outside.specs.Told.{Grows, Stays}
 use Rattle.plain_model.specs.declared.event.Item.{Item}
 use Rattle.plain_model.specs.declared.event.Step.{Step}
 use Rattle.plain_model.specs.State.{PlainState}
 use Rattle.plain_model.specs.Outcome.{DrumWords}
-use Rattle.plain_model.specs.Taker.{GoesOn, IsCut, max_steps}
+use Rattle.plain_model.specs.Taker.{GoesOn}
 use Rattle.plain_model.specs.Script.{IsScript}
 use Rattle.plain_model.specs.Texts.{transcript, record_after}
 use Rattle.plain_model.proofs.Named.{opened_fit}
@@ -23,7 +23,6 @@ use Rattle.texts.specs.Wrote.{WrotePartly}
 use Rattle.texts.specs.Writer.{Stands, IsCutWithin, Finishes, FailsAtEnd, Keeps}
 use Rattle.texts.proofs.Starts.{stands_start}
 use Rattle.tenex_console.specs.declared.asked.Unbegun.{Unbegun}
-use Rattle.tenex_console.specs.declared.asked.Unbegun.TheVariants.{Usage as WrongWords, Memory as NoMemory}
 use Rattle.tenex_console.specs.declared.driver.Driven.{Driven}
 use Rattle.tenex_console.specs.declared.driver.Driven.TheVariants.{Done as WholeScript, Bad, Long, ReadFault as Unread, DrumFault as Unpaged, TakerFault}
 use Rattle.tenex_console.specs.Runs.{RunsTo}
@@ -75,6 +74,10 @@ module _ {T R : Type 0} (out_taken : T → Option (List ℕ)) (rec_taken : R →
 -- over pages in memory a booted machine opens whatever the drum tells
 pub opens_booted : {P : Type 0} {b : _} {D : Type 0} (held : D → Option DrumWords) (m : Machine P b) (drum : D) → IsBooted (limit m) m → b.means.flat ≡ true → OpensOver b.means.flat Fits plain held (limit m) m drum []
 opens_booted held m drum booted is_flat = record { stood = inr is_flat; opened = booted.opened [] }
+
+-- the last lines are those of the counts that the drum told
+pub last_told : (driven : Driven) {a b c d a' b' c' d' : ℕ} {last this : Option Last} → a ≡ a' → b ≡ b' → c ≡ c' → d ≡ d' → last ≡ last_after driven (a - b) (c - d) → last ≡ this → last_after driven (a' - b') (c' - d') ≡ this
+last_told driven p q r s is that = sym (λ i. last_after driven (p i - q i) (r i - s i)) ∙ (sym is ∙ that)
 
 -- where there are last lines, the taker was given all
 handed_whole : {K : Type 0} (stands cut : K → K → List Item → List Step → Type 0) (out out' : K) (items : List Item) (entries : List Step) (driven : Driven) (reads writes : ℕ) (last : Last) → last_after driven reads writes ≡ Some last

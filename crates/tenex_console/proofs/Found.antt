@@ -2,7 +2,7 @@
 use Rattle.std.proofs.Common.{◌≡◌, ℕ, ◌≤◌, List, [], ◌++◌, Option, Some, refl, sym, ◌∙◌, ap, subst, append_assoc}
 use Rattle.std.proofs.lemmas.List.{append-nil}
 use Rattle.plain_model.specs.declared.event.Event.{Event}
-use Rattle.plain_model.specs.Script.{BeginsWith, IsReadTo, IsScript, IsTooLong, StopsAt, most_turns, turns_in}
+use Rattle.plain_model.specs.Script.{BeginsWith, IsTooLong, StopsAt, most_turns, turns_in}
 use Rattle.script_lang.specs.Feeds.{AllLeft, Reads, Spends}
 use Rattle.script_lang.specs.Lines.{Breaks, IsDone, IsUndecided, Passes, Takes, given, lines_given, pending, turns_given}
 use Rattle.script_lang.specs.declared.lines.Lines.{Lines}

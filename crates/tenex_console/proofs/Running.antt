@@ -18,7 +18,7 @@ use Rattle.script_lang.proofs.Judging.{takes_none, takes_both, takes_skipped}
 use Rattle.tenex_console.specs.declared.driver.Driven.{Driven}
 use Rattle.tenex_console.specs.declared.driver.Driven.TheVariants.{DrumFault, TakerFault}
 use Rattle.tenex_console.specs.Runs.{AreEntries, BreaksOff, FollowsTo, RunsTo}
-use Rattle.tenex_console.specs.Driving.{Found, GivenTo, Handed, OpensOver, RanTo, StandsFor, Verdict}
+use Rattle.tenex_console.specs.Driving.{Found, Handed, OpensOver, RanTo, StandsFor, Verdict}
 use Rattle.tenex_console.proofs.Found.{found_begun}
 use Rattle.tenex_console.proofs.Turns.{follows_few, begins_few, unfinished_few, turns_push, auto_push}
 

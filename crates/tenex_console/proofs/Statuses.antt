@@ -1,5 +1,5 @@
 -- What a status tells, and where it comes from.
-use Rattle.std.proofs.Common.{◌≡◌, ◌⊎◌, inl, inr, ℕ, ◌≤◌, List, [], ◌++◌, Option, Some, refl, sym, ◌∙◌, ap, subst, arith, String}
+use Rattle.std.proofs.Common.{◌≡◌, ◌⊎◌, inl, inr, ℕ, List, ◌++◌, Option, Some, refl, sym, ◌∙◌, ap, subst, arith, String}
 use Rattle.std.proofs.lemmas.List.{append-nil}
 use Rattle.outside.specs.Faults.{Rose}
 use Rattle.plain_model.specs.declared.event.Event.{Event}
@@ -14,9 +14,9 @@ use Rattle.tenex_console.specs.declared.driver.Driven.{Driven}
 use Rattle.tenex_console.specs.declared.driver.Driven.TheVariants.{Done as WholeScript, Bad, Long, ReadFault as Unread, DrumFault as Unpaged, TakerFault}
 use Rattle.tenex_console.specs.Command.{IsRight, IsUsage}
 use Rattle.tenex_console.specs.Driving.{Found, Verdict}
-use Rattle.tenex_console.specs.Headline.{IsTrueOf, Stops, status_of}
+use Rattle.tenex_console.specs.Headline.{IsTrueOf, Stops}
 use Rattle.tenex_console.specs.Observed.{AreSteady, Faults, IsSteady, Observed}
-use Rattle.tenex_console.specs.Statuses.{IsEarly, IsFaultless, IsUsageOrBefore, Judges, Ran, RanAsked, Tells, status_after}
+use Rattle.tenex_console.specs.Statuses.{IsEarly, IsFaultless, Judges, Ran, RanAsked, Tells, status_after}
 use Rattle.tenex_console.proofs.Asking.{not_usage}
 
 -- what the driving found is what the status tells

@@ -12,7 +12,7 @@ use Rattle.plain_model.specs.Texts.{transcript, record_after, record_text}
 use Rattle.command_words.specs.declared.sizes.Sizes.{Sizes}
 use Rattle.command_words.specs.Words.{IsRun}
 use Rattle.texts.specs.declared.last.Status.{Status}
-use Rattle.texts.specs.declared.last.Status.TheVariants.{Done, Usage, Script, DrumFault, Memory, ReadFault, WriteFault, LongScript}
+use Rattle.texts.specs.declared.last.Status.TheVariants.{Usage, Script, DrumFault, Memory, ReadFault, WriteFault, LongScript}
 use Rattle.texts.specs.declared.last.Last.{Last}
 use Rattle.texts.specs.declared.last.Last.TheVariants.{Done as Ended, Stopped}
 use Rattle.texts.specs.Ends.{closing_line, end_line, record_end}
@@ -21,7 +21,7 @@ use Rattle.tenex_console.specs.declared.driver.Driven.{Driven}
 use Rattle.tenex_console.specs.declared.driver.Driven.TheVariants.{Done as WholeScript, Bad, Long, ReadFault as Unread, DrumFault as Unpaged, TakerFault}
 use Rattle.tenex_console.specs.declared.asked.Unbegun.{Unbegun}
 use Rattle.tenex_console.specs.declared.asked.Unbegun.TheVariants.{Usage as WrongWords, Memory as NoMemory}
-use Rattle.tenex_console.specs.Command.{IsAsked, IsUsage}
+use Rattle.tenex_console.specs.Command.{IsUsage}
 use Rattle.tenex_console.specs.Driving.{Found, Verdict}
 use Rattle.tenex_console.specs.Observed.{Observed}
 use Rattle.tenex_console.specs.Runs.{RunsTo}

@@ -7,7 +7,7 @@ use Rattle.plain_model.specs.declared.event.Step.{Step}
 use Rattle.plain_model.specs.State.{opening}
 use Rattle.plain_model.specs.Run.{Follows, Begins, Unfinished, ShownFirst, IsLegal, AreLegal, auto_behind, state_after, items_of}
 use Rattle.tenex_console.specs.declared.driver.Driven.{Driven}
-use Rattle.tenex_console.specs.declared.driver.Driven.TheVariants.{Done, Bad, Long, ReadFault, DrumFault, TakerFault}
+use Rattle.tenex_console.specs.declared.driver.Driven.TheVariants.{DrumFault, TakerFault}
 
 -- the entries of whole events, and those that there are of a last one, which was broken off
 pub record BreaksOff (Part : Event → List Step → Type 0) (events : List Event) (entries : List Step) : Type 0 where

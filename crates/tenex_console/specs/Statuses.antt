@@ -1,5 +1,5 @@
 -- What each status tells.
-use Rattle.std.specs.Prelude.{◌≡◌, ◌⊎◌, ℕ, List, Option, String}
+use Rattle.std.specs.Prelude.{◌≡◌, ◌⊎◌, ℕ, List, String}
 use Rattle.plain_model.specs.declared.event.Event.{Event}
 use Rattle.plain_model.specs.Script.{IsScript, StopsAt, IsTooLong}
 use Rattle.command_words.specs.declared.sizes.Sizes.{Sizes}

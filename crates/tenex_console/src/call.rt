@@ -5,11 +5,11 @@ ghost use Rattle.plain_model.specs.Script.{IsTooLong, StopsAt};
 ghost use Rattle.plain_model.specs.Taker.{StaysOnward};
 ghost use Rattle.plain_model.specs.declared.event.Event.{Event as AnEvent};
 ghost use Rattle.monitor_core.specs.Machines.{limit};
-ghost use Rattle.texts.specs.Writer.{FailsAtEnd, Finishes, IsOnward};
+ghost use Rattle.texts.specs.Writer.{FailsAtEnd, Finishes, HandsOn, IsHandedOn, IsOnward};
 ghost use Rattle.tenex_console.specs.Command.{IsRight, IsUsage};
 ghost use Rattle.tenex_console.specs.Driving.{DrumStays, IsBooted};
 ghost use Rattle.tenex_console.specs.Headline.{HasHeadline, Stops};
-ghost use Rattle.tenex_console.specs.Observed.{AreSteady, NoneFell, faults, seen};
+ghost use Rattle.tenex_console.specs.Observed.{AreSteady, HandedOn, NoneFell, faults, seen};
 ghost use Rattle.tenex_console.specs.Statuses.{IsEarly, IsFaultless, IsUsageOrBefore, Judges, RanWith, Tells};
 
 use crate::asked::{Unbegun, asked_machine};
@@ -68,6 +68,9 @@ pub fn tenex<S: Source, T: Sink, R: Sink, D: Drum>(
     // The drum's size stays, and no count of it falls; all pages are in memory, and it is not asked.
     ensures drum { DrumStays D.fault_count D.read_count D.write_count D.size drum.old drum.new }
     ensures untouched { drum.new ≡ drum.old }
+
+    // Neither sink keeps back anything, unless it failed.
+    ensures handed { HandedOn T.handed_on R.handed_on T.fault_count R.fault_count out.old out.new rec.old rec.new result }
 {
     match asked_machine(alloc, words, drum.pages()) {
         Ok(mut machine) => run(&mut machine, script, out, rec, drum),
@@ -78,6 +81,7 @@ pub fn tenex<S: Source, T: Sink, R: Sink, D: Drum>(
 // Ends before anything is run.
 fn stop<T: Sink, R: Sink>(why: Unbegun, out: &mut T, rec: &mut R) -> Status
     ensures stops { Stops why (T.taken out.old) (T.taken out.new) (R.taken rec.old) (R.taken rec.new) result }
+    ensures handed { HandedOn T.handed_on R.handed_on T.fault_count R.fault_count out.old out.new rec.old rec.new result }
     ensures out_later { T.fault_count out.old ≤ T.fault_count out.new }
     ensures rec_later { R.fault_count rec.old ≤ R.fault_count rec.new }
     ensures write_cause { result ≡ Status.WriteFault → Rose (T.fault_count out.old) (T.fault_count out.new) ⊎ Rose (R.fault_count rec.old) (R.fault_count rec.new) }
@@ -107,6 +111,7 @@ fn run<S: Source, T: Sink, R: Sink, D: Drum>(
     ensures later { NoneFell (faults S.fault_count T.fault_count R.fault_count D.fault_count script.old script.new out.old out.new rec.old rec.new drum.old drum.new) }
     ensures drum { DrumStays D.fault_count D.read_count D.write_count D.size drum.old drum.new }
     ensures untouched { drum.new ≡ drum.old }
+    ensures handed { HandedOn T.handed_on R.handed_on T.fault_count R.fault_count out.old out.new rec.old rec.new result }
 {
     let reads = drum.reads();
     let writes = drum.writes();
@@ -127,6 +132,8 @@ fn close<T: Sink, R: Sink>(writer: &mut Writer<T, R>, last: Last) -> Result<(), 
     ensures cause { OnErr result (Rose writer.old.faults writer.new.faults) }
     ensures later { writer.old.faults ≤ writer.new.faults }
     ensures onward { StaysOnward (IsOnward T.fault_count R.fault_count) writer.old writer.new }
+    ensures handed { OnOk result (IsHandedOn T.handed_on R.handed_on writer.new) }
+    ensures tried { HandsOn T.handed_on R.handed_on T.fault_count R.fault_count writer.old writer.new }
     ensures ok { OnOk result (Finishes T.taken R.taken last writer.old writer.new) }
     ensures err { OnErr result (FailsAtEnd T.taken R.taken last writer.old writer.new) }
 {

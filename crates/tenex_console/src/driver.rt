@@ -83,6 +83,9 @@ pub fn drive<P: Pages, S: Source, D: Drum, K: Taker>(
     // Over pages in memory alone the drum is not asked.
     ensures untouched { P.means.flat ≡ true → drum.new ≡ drum.old }
 
+    // Before a read of the source that failed the taker had handed on all that it was given.
+    ensures handed { result ≡ Driven.ReadFault → K.handed_on taker.new }
+
     // What the taker was given, and what the script is found to be.
     ensures drove { Drove D.held S.left K.stands K.cut machine.old drum.old script.old script.new taker.old taker.new result }
 {
@@ -113,6 +116,7 @@ fn hand_on<K: Taker>(lines: &mut Lines, taker: &mut K) -> Result<(), Failed>
     ensures cause { OnErr result (Rose (K.fault_count taker.old) (K.fault_count taker.new)) }
     ensures onward { StaysOnward K.onward taker.old taker.new }
     ensures unread { (NeedsRead lines.new → ⊥) → taker.new ≡ taker.old }
+    ensures handed { NeedsRead lines.new → OnOk result (K.handed_on taker.new) }
     ensures ok { OnOk result (GoesOn K.stands taker.old taker.new [] []) }
     ensures err { OnErr result (IsCut K.stands K.cut taker.old taker.new [] []) }
 {

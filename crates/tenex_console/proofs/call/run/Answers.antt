@@ -1,10 +1,10 @@
-use Rattle.std.proofs.Common.{◌≡◌, ◌-◌, ◌∙◌, ap, arith, refl, sym, rules}
+use Rattle.std.proofs.Common.{ap, arith, refl, rules}
 use Rattle.texts.proofs.Starts.{onward_start}
-use Rattle.tenex_console.specs.Headline.{Fronts, last_after}
+use Rattle.tenex_console.specs.Headline.{Fronts}
 use Rattle.tenex_console.specs.Observed.{seen}
 use Rattle.tenex_console.specs.Statuses.{Ran}
-use Rattle.tenex_console.proofs.Closing.{closed, cut_short, moved, opens_booted, unclosed}
-use Rattle.tenex_console.proofs.Statuses.{drum_only, judged_by, read_only, taker_only}
+use Rattle.tenex_console.proofs.Closing.{closed, cut_short, last_told, moved, opens_booted, unclosed}
+use Rattle.tenex_console.proofs.Statuses.{judged_by}
 use Rattle.tenex_console.proofs.call.run.Goals as goal
 
 pub returns-in_default-clause-ran : goal.returns-in_default-clause-ran
@@ -13,14 +13,11 @@ returns-in_default-clause-ran g c sizes same =
     let v = c.drive-driven.new.taker in
     let u = c.give_up.new.self in
     let onward = c.give_up.ensures.onward.each w (c.drive-driven.ensures.onward.each w (onward_start g.T.Sink.fault_count g.R.Sink.fault_count w)) in
-    let counted : last_after c.drive-driven.result (g.D.Drum.read_count c.drive-driven.new.drum - g.D.Drum.read_count c.args.drum.now) (g.D.Drum.write_count c.drive-driven.new.drum - g.D.Drum.write_count c.args.drum.now)
-    ≡ last_after c.drive-driven.result (c.reads.result - c.reads-reads.result) (c.writes.result - c.writes-writes.result) =
-    λ i. last_after c.drive-driven.result (sym c.reads.ensures i - sym c.reads-reads.ensures i) (sym c.writes.ensures i - sym c.writes-writes.ensures i) in
     moved (λ o o' r r'. Fronts sizes (seen g.S.Source.left g.T.Sink.taken g.R.Sink.taken g.D.Drum.read_count g.D.Drum.write_count c.args.script.now c.drive-driven.new.script o o' r r' c.args.drum.now c.drive-driven.new.drum))
     c.new-writer.ensures.out (search rules) c.new-writer.ensures.rec (search rules)
     (cut_short g.S.Source.left g.T.Sink.taken g.R.Sink.taken g.D.Drum.read_count g.D.Drum.write_count c.args.script.now c.drive-driven.new.script c.drive-driven.new.drum w v u
     (opens_booted g.D.Drum.held c.args.machine.now c.args.drum.now c.requires.booted refl) refl c.new-writer.ensures.line c.new-writer.ensures.run sizes same
-    c.drive-driven.result (counted ∙ (sym c.last.ensures ∙ c.in_default.is)) c.drive-driven.ensures.drove c.give_up.ensures.cut)
+    c.drive-driven.result (last_told c.drive-driven.result c.reads.ensures c.reads-reads.ensures c.writes.ensures c.writes-writes.ensures c.last.ensures c.in_default.is) c.drive-driven.ensures.drove c.give_up.ensures.cut)
 
 pub returns-in-Ok-clause-ran : goal.returns-in-Ok-clause-ran
 returns-in-Ok-clause-ran g c sizes same =
@@ -28,15 +25,12 @@ returns-in-Ok-clause-ran g c sizes same =
     let v = c.drive-driven.new.taker in
     let u = c.close.new.writer in
     let onward = c.close.ensures.onward.each w (c.drive-driven.ensures.onward.each w (onward_start g.T.Sink.fault_count g.R.Sink.fault_count w)) in
-    let counted : last_after c.drive-driven.result (g.D.Drum.read_count c.drive-driven.new.drum - g.D.Drum.read_count c.args.drum.now) (g.D.Drum.write_count c.drive-driven.new.drum - g.D.Drum.write_count c.args.drum.now)
-    ≡ last_after c.drive-driven.result (c.reads.result - c.reads-reads.result) (c.writes.result - c.writes-writes.result) =
-    λ i. last_after c.drive-driven.result (sym c.reads.ensures i - sym c.reads-reads.ensures i) (sym c.writes.ensures i - sym c.writes-writes.ensures i) in
     let drum = c.drive-driven.ensures.untouched refl in
     moved (λ o o' r r'. Ran sizes (seen g.S.Source.left g.T.Sink.taken g.R.Sink.taken g.D.Drum.read_count g.D.Drum.write_count c.args.script.now c.drive-driven.new.script o o' r r' c.args.drum.now c.drive-driven.new.drum) c.status.result)
     c.new-writer.ensures.out (search rules) c.new-writer.ensures.rec (search rules)
     (closed g.S.Source.left g.T.Sink.taken g.R.Sink.taken g.D.Drum.read_count g.D.Drum.write_count c.args.script.now c.drive-driven.new.script c.drive-driven.new.drum w v u
     (opens_booted g.D.Drum.held c.args.machine.now c.args.drum.now c.requires.booted refl) refl c.new-writer.ensures.line c.new-writer.ensures.run sizes same
-    c.drive-driven.result c.in-Some.last c.status.result (counted ∙ (sym c.last.ensures ∙ c.in-Some.is)) c.status.ensures (omega (arith, ap g.D.Drum.read_count drum)) (omega (arith, ap g.D.Drum.write_count drum)) c.drive-driven.ensures.drove c.in-Ok.ensures.ok)
+    c.drive-driven.result c.in-Some.last c.status.result (last_told c.drive-driven.result c.reads.ensures c.reads-reads.ensures c.writes.ensures c.writes-writes.ensures c.last.ensures c.in-Some.is) c.status.ensures (omega (arith, ap g.D.Drum.read_count drum)) (omega (arith, ap g.D.Drum.write_count drum)) c.drive-driven.ensures.drove c.in-Ok.ensures.ok)
 
 pub returns-in-Err-clause-ran : goal.returns-in-Err-clause-ran
 returns-in-Err-clause-ran g c sizes same =
@@ -44,14 +38,11 @@ returns-in-Err-clause-ran g c sizes same =
     let v = c.drive-driven.new.taker in
     let u = c.close.new.writer in
     let onward = c.close.ensures.onward.each w (c.drive-driven.ensures.onward.each w (onward_start g.T.Sink.fault_count g.R.Sink.fault_count w)) in
-    let counted : last_after c.drive-driven.result (g.D.Drum.read_count c.drive-driven.new.drum - g.D.Drum.read_count c.args.drum.now) (g.D.Drum.write_count c.drive-driven.new.drum - g.D.Drum.write_count c.args.drum.now)
-    ≡ last_after c.drive-driven.result (c.reads.result - c.reads-reads.result) (c.writes.result - c.writes-writes.result) =
-    λ i. last_after c.drive-driven.result (sym c.reads.ensures i - sym c.reads-reads.ensures i) (sym c.writes.ensures i - sym c.writes-writes.ensures i) in
     moved (λ o o' r r'. Fronts sizes (seen g.S.Source.left g.T.Sink.taken g.R.Sink.taken g.D.Drum.read_count g.D.Drum.write_count c.args.script.now c.drive-driven.new.script o o' r r' c.args.drum.now c.drive-driven.new.drum))
     c.new-writer.ensures.out (search rules) c.new-writer.ensures.rec (search rules)
     (unclosed g.S.Source.left g.T.Sink.taken g.R.Sink.taken g.D.Drum.read_count g.D.Drum.write_count c.args.script.now c.drive-driven.new.script c.drive-driven.new.drum w v u
     (opens_booted g.D.Drum.held c.args.machine.now c.args.drum.now c.requires.booted refl) refl c.new-writer.ensures.line c.new-writer.ensures.run sizes same
-    c.drive-driven.result c.in-Some.last (counted ∙ (sym c.last.ensures ∙ c.in-Some.is)) c.drive-driven.ensures.drove c.in-Err.ensures.err)
+    c.drive-driven.result c.in-Some.last (last_told c.drive-driven.result c.reads.ensures c.reads-reads.ensures c.writes.ensures c.writes-writes.ensures c.last.ensures c.in-Some.is) c.drive-driven.ensures.drove c.in-Err.ensures.err)
 
 pub returns-in-Ok-clause-judged : goal.returns-in-Ok-clause-judged
 returns-in-Ok-clause-judged g c bytes told =

@@ -1,4 +1,4 @@
-use Rattle.std.proofs.Common.{sym, subst, rules}
+use Rattle.std.proofs.Common.{subst, rules}
 use Rattle.texts.specs.declared.last.Last.TheVariants.{Stopped}
 use Rattle.texts.specs.declared.last.Status.TheVariants.{WriteFault}
 use Rattle.texts.specs.Writer.{FailsAtEnd, Finishes}

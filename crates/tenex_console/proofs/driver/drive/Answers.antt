@@ -1,5 +1,6 @@
-use Rattle.std.proofs.Common.{refl, sym, ◌∙◌, arith}
-use Rattle.monitor_core.specs.Machines.{Fits, limit, plain}
+use Rattle.std.proofs.Common.{refl, ◌∙◌, arith}
+use Rattle.script_lang.specs.Lines.{given, pending}
+use Rattle.script_lang.proofs.Undecided.{undecided_earlier}
 use Rattle.tenex_console.specs.declared.driver.Driven.TheVariants.{Done, Bad, Long, ReadFault}
 use Rattle.tenex_console.proofs.Found.{found_done, found_bad, found_long, found_unread}
 use Rattle.tenex_console.proofs.Running.{few_in, ran, ran_cut, ran_stopped, ran_unshown, so_far_more, so_far_none, so_far_shown}
@@ -82,3 +83,8 @@ returns-in-Long-clause-drove g c =
     let i = c.loop-lines.invariant in
     let shown = so_far_shown i.so_far c.hand_on.ensures.skips c.in-Ok.ensures.ok in
     ran shown Long (λ es ss x. x) (λ is x. x) (λ is x. x) (found_long i.none i.start shown.takes (few_in shown) c.next.ensures.reads (c.in-Long.ensures.long refl))
+
+pub returns-in-ReadFault-clause-handed : goal.returns-in-ReadFault-clause-handed
+returns-in-ReadFault-clause-handed g c is =
+    let reads = c.in-ReadFault.ensures.reads in
+    c.in-Ok.ensures.handed (undecided_earlier (given c.hand_on.new.lines) (pending c.hand_on.new.lines) reads.bytes reads.is)
