@@ -38,49 +38,49 @@ pub record StandsFor {M : Type 0} (fits : M → DrumWords → Type 0) (plain : M
   pub fit : fits m d
   pub state : plain m d ≡ s
 
--- A machine and the drum before the driving.
-module _ {M D : Type 0} (flat : Bool) (fits : M → DrumWords → Type 0) (plain : M → DrumWords → PlainState) (held : D → Option DrumWords) (limit : ℕ) (m : M) (drum : D) where
-  -- these words stood on the drum, and over them the machine stood for the opening state
-  pub record OpensOver (d : DrumWords) : Type 0 where
-    pub stood : Stands flat (held drum) d
-    pub opened : StandsFor fits plain m d (opening limit)
+-- before the driving these words stood on the drum, and over them the machine stood for the opening state
+pub record OpensOver {M D : Type 0} (flat : Bool) (fits : M → DrumWords → Type 0) (plain : M → DrumWords → PlainState) (held : D → Option DrumWords)
+    (limit : ℕ) (m : M) (drum : D) (d : DrumWords) : Type 0 where
+  pub stood : Stands flat (held drum) d
+  pub opened : StandsFor fits plain m d (opening limit)
 
-  -- A taker.
-  module _ {K : Type 0} (stands cut : K → K → List Item → List Step → Type 0) (driven : Driven) (out out' : K) where
-    -- legal entries, and what the taker was given of them, where the driving ended like this
-    pub record GivenTo (events : List Event) (entries : List Step) : Type 0 where
-      pub items : List Item
-      pub run : RunsTo flat limit driven events entries items
-      pub given : Handed stands cut out out' driven items entries
+-- legal entries, and what the taker was given of them, where the driving ended like this
+pub record GivenTo {K : Type 0} (flat : Bool) (limit : ℕ) (stands cut : K → K → List Item → List Step → Type 0) (driven : Driven) (out out' : K)
+    (events : List Event) (entries : List Step) : Type 0 where
+  pub items : List Item
+  pub run : RunsTo flat limit driven events entries items
+  pub given : Handed stands cut out out' driven items entries
 
-    -- How the driving ended: the script's events and their entries, whatever is told; the script, where it told
-    -- its bytes; and over what the drum told, what the taker was given.
-    pub record RanTo (script script' : Option (List ℕ)) : Type 0 where
-      pub events : List Event
-      pub entries : List Step
-      pub fit : All FitsEvent events
-      pub follows : FollowsTo driven events entries
-      pub few : length entries < max_steps
-      pub found : Found script script' (Verdict driven events)
-      pub told : (d : DrumWords) → OpensOver d → GivenTo events entries
+-- How the driving ended: the script's events and their entries, whatever is told; the script, where it told
+-- its bytes; and over what the drum told, what the taker was given.
+pub record RanTo {M D K : Type 0} (flat : Bool) (fits : M → DrumWords → Type 0) (plain : M → DrumWords → PlainState) (held : D → Option DrumWords)
+    (limit : ℕ) (m : M) (drum : D) (stands cut : K → K → List Item → List Step → Type 0) (driven : Driven) (out out' : K)
+    (script script' : Option (List ℕ)) : Type 0 where
+  pub events : List Event
+  pub entries : List Step
+  pub fit : All FitsEvent events
+  pub follows : FollowsTo driven events entries
+  pub few : length entries < max_steps
+  pub found : Found script script' (Verdict driven events)
+  pub told : (d : DrumWords) → OpensOver flat fits plain held limit m drum d → GivenTo flat limit stands cut driven out out' events entries
 
--- A machine over pages.
-module _ {P : Type 0} {b : _} where
-  -- what the driving of a machine came to
-  abbrev pub Drove : {S D K : Type 0} → (D → Option DrumWords) → (S → Option (List ℕ)) → (stands cut : K → K → List Item → List Step → Type 0) → Machine P b → D → (script script' : S) → (out out' : K) → Driven → Type 0
-  Drove held left stands cut m drum script script' out out' driven = RanTo b.means.flat Fits plain held (limit m) m drum stands cut driven out out' (left script) (left script')
+-- a machine over pages that goes on and has done nothing, with AUTO on
+pub record IsNew {P : Type 0} {b : _} (m : Machine P b) : Type 0 where
+  pub live : is_live m ≡ true
+  pub auto_on : auto m ≡ true
+  pub none : done m ≡ 0
 
-  -- a machine that goes on and has done nothing, with AUTO on
-  pub record IsNew (m : Machine P b) : Type 0 where
-    pub live : is_live m ≡ true
-    pub auto_on : auto m ≡ true
-    pub none : done m ≡ 0
+-- a new machine with room for so many pages and forks, which stands for the opening state over any words of a drum
+pub record IsBooted {P : Type 0} {b : _} (room : ℕ) (m : Machine P b) : Type 0 where
+  pub new : IsNew m
+  pub room_is : limit m ≡ room
+  pub opened : (d : DrumWords) → StandsFor Fits plain m d (opening room)
 
-  -- a new machine with room for so many pages and forks, which stands for the opening state over any words of a drum
-  pub record IsBooted (room : ℕ) (m : Machine P b) : Type 0 where
-    pub new : IsNew m
-    pub room_is : limit m ≡ room
-    pub opened : (d : DrumWords) → StandsFor Fits plain m d (opening room)
+-- what the driving of a machine over pages came to
+abbrev pub Drove : {P S D K : Type 0} {b : _} → (D → Option DrumWords) → (S → Option (List ℕ)) → (stands cut : K → K → List Item → List Step → Type 0)
+    → Machine P b → D → (script script' : S) → (out out' : K) → Driven → Type 0
+Drove {b = b} held left stands cut m drum script script' out out' driven =
+    RanTo b.means.flat Fits plain held (limit m) m drum stands cut driven out out' (left script) (left script')
 
 -- the size of a drum stays, and none of its counts has fallen
 pub record DrumStays {D : Type 0} (faults reads writes size : D → ℕ) (old new : D) : Type 0 where

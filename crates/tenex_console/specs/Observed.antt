@@ -29,7 +29,8 @@ pub record Faults : Type 0 where
 
 module _ {S T R D : Type 0} where
   -- what a source, two sinks and a drum tell before and after
-  abbrev pub seen : (S → Option (List ℕ)) → (T → Option (List ℕ)) → (R → Option (List ℕ)) → (reads writes : D → ℕ) → (script script' : S) → (out out' : T) → (rec rec' : R) → (drum drum' : D) → Observed
+  abbrev pub seen : (S → Option (List ℕ)) → (T → Option (List ℕ)) → (R → Option (List ℕ)) → (reads writes : D → ℕ)
+      → (script script' : S) → (out out' : T) → (rec rec' : R) → (drum drum' : D) → Observed
   seen left out_taken rec_taken reads writes script script' out out' rec rec' drum drum' = record {
     script = left script;
     script_after = left script';

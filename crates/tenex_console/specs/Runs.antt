@@ -26,38 +26,36 @@ FollowsTo DrumFault events entries = BreaksOff Unfinished events entries
 FollowsTo TakerFault events entries = Follows events entries ⊎ BreaksOff Begins events entries
 FollowsTo driven events entries = Follows events entries
 
--- With room for so many pages and forks. Where all pages are in memory alone, an idle entry stands only
--- where no fork can run, whatever the AUTO mark.
-module _ (flat : Bool) (limit : ℕ) where
-  -- legal entries of these events, and their items
-  pub record AreEntries (events : List Event) (entries : List Step) (items : List Item) : Type 0 where
-    pub follows : Follows events entries
-    pub legal : IsLegal true (opening limit) events entries
-    pub idle : flat ≡ true → AreLegal true (opening limit) entries
-    pub shown : items ≡ items_of (opening limit) entries
+-- Legal entries of these events with room for so many pages and forks, and their items. Where all pages are in
+-- memory alone, an idle entry stands only where no fork can run, whatever the AUTO mark.
+pub record AreEntries (flat : Bool) (limit : ℕ) (events : List Event) (entries : List Step) (items : List Item) : Type 0 where
+  pub follows : Follows events entries
+  pub legal : IsLegal true (opening limit) events entries
+  pub idle : flat ≡ true → AreLegal true (opening limit) entries
+  pub shown : items ≡ items_of (opening limit) entries
 
-  -- legal entries of these events, the last of which was broken off
-  pub record AreBroken (Part : Event → List Step → Type 0) (events : List Event) (entries : List Step) : Type 0 where
-    pub breaks : BreaksOff Part events entries
-    pub legal : IsLegal true (opening limit) breaks.whole breaks.before
-    pub last_legal : AreLegal (auto_behind true breaks.whole) (state_after (opening limit) breaks.before) breaks.more
-    pub idle : flat ≡ true → AreLegal true (opening limit) entries
+-- legal entries of these events, the last of which was broken off
+pub record AreBroken (flat : Bool) (limit : ℕ) (Part : Event → List Step → Type 0) (events : List Event) (entries : List Step) : Type 0 where
+  pub breaks : BreaksOff Part events entries
+  pub legal : IsLegal true (opening limit) breaks.whole breaks.before
+  pub last_legal : AreLegal (auto_behind true breaks.whole) (state_after (opening limit) breaks.before) breaks.more
+  pub idle : flat ≡ true → AreLegal true (opening limit) entries
 
-  -- legal entries of these events, the last of which has only begun, and their items
-  pub record AreBegun (events : List Event) (entries : List Step) (items : List Item) : Type 0 where
-    pub broken : AreBroken Begins events entries
-    pub shown : items ≡ items_of (opening limit) entries
+-- legal entries of these events, the last of which has only begun, and their items
+pub record AreBegun (flat : Bool) (limit : ℕ) (events : List Event) (entries : List Step) (items : List Item) : Type 0 where
+  pub broken : AreBroken flat limit Begins events entries
+  pub shown : items ≡ items_of (opening limit) entries
 
-  -- legal entries of these events, the last of which the drum broke off, and their items: its turns so far,
-  -- or the first items of what it shows
-  pub record AreUnfinished (events : List Event) (entries : List Step) (items : List Item) : Type 0 where
-    pub broken : AreBroken Unfinished events entries
-    pub later : List Item
-    pub first : ShownFirst (state_after (opening limit) entries) broken.breaks.last later
-    pub shown : items ≡ items_of (opening limit) entries ++ later
+-- legal entries of these events, the last of which the drum broke off, and their items: its turns so far,
+-- or the first items of what it shows
+pub record AreUnfinished (flat : Bool) (limit : ℕ) (events : List Event) (entries : List Step) (items : List Item) : Type 0 where
+  pub broken : AreBroken flat limit Unfinished events entries
+  pub later : List Item
+  pub first : ShownFirst (state_after (opening limit) entries) broken.breaks.last later
+  pub shown : items ≡ items_of (opening limit) entries ++ later
 
-  -- legal entries of these events, and their items, where the driving ended like this
-  abbrev pub RunsTo : Driven → List Event → List Step → List Item → Type 0
-  RunsTo DrumFault events entries items = AreUnfinished events entries items
-  RunsTo TakerFault events entries items = AreEntries events entries items ⊎ AreBegun events entries items
-  RunsTo driven events entries items = AreEntries events entries items
+-- legal entries of these events, and their items, where the driving ended like this
+abbrev pub RunsTo : Bool → ℕ → Driven → List Event → List Step → List Item → Type 0
+RunsTo flat limit DrumFault events entries items = AreUnfinished flat limit events entries items
+RunsTo flat limit TakerFault events entries items = AreEntries flat limit events entries items ⊎ AreBegun flat limit events entries items
+RunsTo flat limit driven events entries items = AreEntries flat limit events entries items
