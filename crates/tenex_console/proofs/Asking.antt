@@ -1,25 +1,15 @@
--- The words ask for one drum at most, of a size that a machine can have.
-use Rattle.std.proofs.Common.{◌≡◌, ◌≤◌, inl, inr, ℕ, List, [], ◌∷◌, Option, None, Some, sym, ◌∙◌, ap, subst, arith, map, String, string_bytes}
-use Rattle.std.specs.Prelude.{MatchOption}
+-- The words ask for one pair of sizes at most, each in its range.
+use Rattle.std.proofs.Common.{◌≡◌, ◌≤◌, inl, inr, ℕ, List, [], ◌∷◌, ap, arith, map, String, string_bytes}
 use Rattle.command_words.specs.declared.sizes.Sizes.{Sizes}
 use Rattle.command_words.specs.Words.{AsksFor, IsRun, Text}
 use Rattle.command_words.proofs.Reading.{one_pair}
-use Rattle.tenex_console.specs.Command.{AsksDrum, IsUsage}
+use Rattle.tenex_console.specs.Command.{IsAsked, IsUsage}
 
-pub one_drum : {Z : Type 0} (words : List (String Z)) (m n : ℕ) → AsksDrum words m → AsksDrum words n → m ≡ n
-one_drum words m n a b = sym a.2 ∙ ap (λ s. s.drum) (one_pair (map string_bytes words) a.0 b.0 a.1 b.1) ∙ b.2
-
-pub not_usage : {Z : Type 0} (words : List (String Z)) (limit pages : ℕ) → AsksDrum words limit → limit ≤ pages → IsUsage words pages → ⊥
-not_usage words limit pages asks enough (inl none) = none limit asks
-not_usage words limit pages asks enough (inr more) = absurd (omega (arith, one_drum words limit more.0 asks more.1, more.2, enough))
-
-pub none_asked : {Z : Type 0} (words : List (String Z)) (o : Option Sizes) → MatchOption o ((s : Sizes) → IsRun words s → ⊥) (λ s. IsRun words s) → o ≡ None → (pages : ℕ) → AsksDrum words pages → ⊥
-none_asked words None none is pages asks = none asks.0 asks.1
-none_asked words (Some s) asked is pages asks = absurd (cc is)
-
-pub some_asked : {Z : Type 0} (words : List (String Z)) (o : Option Sizes) (s : Sizes) → MatchOption o ((s : Sizes) → IsRun words s → ⊥) (λ s. IsRun words s) → o ≡ Some s → IsRun words s
-some_asked words None s none is = absurd (cc is)
-some_asked words (Some t) s asked is = let same : t ≡ s = cc is in subst (IsRun words) same asked
+pub not_usage : {Z : Type 0} (words : List (String Z)) (pages : ℕ) (sizes : Sizes) → IsAsked words pages sizes → IsUsage words pages → ⊥
+not_usage words pages sizes asked (inl none) = none sizes asked.run
+not_usage words pages sizes asked (inr more) =
+    let same : sizes.drum ≡ more.0.drum = ap (λ s. s.drum) (one_pair (map string_bytes words) sizes more.0 asked.run more.1) in
+    absurd (omega (arith, same, more.2, asked.enough))
 
 within : (least most standard : ℕ) (values : List Text) (n : ℕ) → least ≤ standard → standard ≤ most → AsksFor least most standard values n → (least ≤ n) × (n ≤ most)
 within least most standard [] n low high is = (omega (arith, low, is), omega (arith, high, is))

@@ -1,5 +1,6 @@
 mod Asking
 mod Turns
+mod Found
 mod Running
-mod Told
-mod Causes
+mod Closing
+mod Statuses

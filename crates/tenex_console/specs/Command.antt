@@ -1,16 +1,22 @@
--- The words of the command, and the drum that they ask for.
-use Rattle.std.specs.Prelude.{◌≡◌, ◌⊎◌, ℕ, ◌<◌, List, String}
+-- The words of the command, and the sizes that they ask for.
+use Rattle.std.specs.Prelude.{◌⊎◌, ℕ, ◌<◌, ◌≤◌, List, String}
+use Rattle.plain_model.specs.declared.event.Event.{Event}
+use Rattle.plain_model.specs.Script.{IsScript}
 use Rattle.command_words.specs.declared.sizes.Sizes.{Sizes}
 use Rattle.command_words.specs.Words.{IsRun}
 
--- the words ask for a drum of so many pages, the room for pages and forks
-abbrev pub AsksDrum : {Z : Type 0} → List (String Z) → ℕ → Type 0
-AsksDrum words pages = (sizes : Sizes) × IsRun words sizes × (sizes.drum ≡ pages)
+-- the words ask for these sizes, and a drum of so many pages has as many as they ask for
+pub record IsAsked {Z : Type 0} (words : List (String Z)) (drum_pages : ℕ) (sizes : Sizes) : Type 0 where
+  pub run : IsRun words sizes
+  pub enough : sizes.drum ≤ drum_pages
 
 -- the words ask for nothing, or for more pages than the drum has
 abbrev pub IsUsage : {Z : Type 0} → List (String Z) → ℕ → Type 0
-IsUsage words drum_pages = ((pages : ℕ) → AsksDrum words pages → ⊥) ⊎ ((pages : ℕ) × AsksDrum words pages × (drum_pages < pages))
+IsUsage words drum_pages = ((sizes : Sizes) → IsRun words sizes → ⊥) ⊎ ((sizes : Sizes) × IsRun words sizes × (drum_pages < sizes.drum))
 
--- this room is the one that the words ask for, where they ask for any
-abbrev pub IsAskedRoom : {Z : Type 0} → List (String Z) → ℕ → Type 0
-IsAskedRoom words limit = (pages : ℕ) → AsksDrum words pages → pages ≡ limit
+-- the words are right, the drum is large enough for them, and the bytes are a script
+pub record IsRight {Z : Type 0} (words : List (String Z)) (drum_pages : ℕ) (bytes : List ℕ) : Type 0 where
+  pub sizes : Sizes
+  pub asked : IsAsked words drum_pages sizes
+  pub events : List Event
+  pub script : IsScript bytes events

@@ -1,48 +1,90 @@
 -- How far a script was driven, and what the taker was given.
-use Rattle.std.specs.Prelude.{◌≡◌, ℕ, ◌<◌, List, length, Option, Some}
+use Rattle.std.specs.Prelude.{◌≡◌, ℕ, ◌<◌, ◌≤◌, List, [], ◌++◌, length, All, Bool, true, Option, Some}
 use Rattle.plain_model.specs.declared.event.Event.{Event}
 use Rattle.plain_model.specs.declared.event.Item.{Item}
 use Rattle.plain_model.specs.declared.event.Step.{Step}
-use Rattle.plain_model.specs.State.{PlainState}
-use Rattle.plain_model.specs.Outcome.{DrumWords}
+use Rattle.plain_model.specs.State.{PlainState, opening}
+use Rattle.plain_model.specs.Limits.{FitsEvent}
+use Rattle.plain_model.specs.Outcome.{DrumWords, Stands}
 use Rattle.plain_model.specs.Taker.{GoesOn, IsCut, max_steps}
-use Rattle.plain_model.specs.Script.{IsScript, StopsAt, IsTooLong, BeginsWith}
+use Rattle.plain_model.specs.Script.{IsScript, StopsAt, IsTooLong, IsReadTo, BeginsWith}
+use Rattle.monitor_core.specs.declared.machine.Machine.{Machine}
+use Rattle.monitor_core.specs.Machines.{Fits, auto, done, is_live, limit, plain}
 use Rattle.tenex_console.specs.declared.driver.Driven.{Driven}
 use Rattle.tenex_console.specs.declared.driver.Driven.TheVariants.{Done, Bad, Long, ReadFault, DrumFault, TakerFault}
-use Rattle.tenex_console.specs.Runs.{AreEntries, AreBrokenOff, AreUnfinished}
+use Rattle.tenex_console.specs.Runs.{FollowsTo, RunsTo}
 
--- over some words of a drum that fit, a machine stands for this plain state
-pub record StandsFor {M : Type 0} (fits : M → DrumWords → Type 0) (plain : M → DrumWords → PlainState) (m : M) (s : PlainState) : Type 0 where
-  pub words : DrumWords
-  pub fit : fits m words
-  pub state : plain m words ≡ s
+-- A script that told its bytes has lost some of them from its front: this is so of those that were taken
+-- and of those that are left.
+pub record Found (script script' : Option (List ℕ)) (P : (taken rest : List ℕ) → Type 0) : Type 0 where
+  pub each : (bytes : List ℕ) → script ≡ Some bytes → (taken : List ℕ) × (rest : List ℕ) × (bytes ≡ taken ++ rest) × (script' ≡ Some rest) × P taken rest
 
--- The taker was given entries of events, and items. Where the source told its bytes, they are found to
--- have these events.
-pub record Ran {S K : Type 0} (left : S → Option (List ℕ)) (stands : K → K → List Item → List Step → Type 0) (script : S) (out out' : K) (runs : List Event → List Step → List Item → Type 0) (found : List ℕ → List Event → Type 0) : Type 0 where
+-- what the bytes that were taken and those that are left are found to be where the driving ended like this
+abbrev pub Verdict : Driven → List Event → (taken rest : List ℕ) → Type 0
+Verdict Done events taken rest = IsScript taken events × (rest ≡ [])
+Verdict (Bad n) events taken rest = StopsAt n (taken ++ rest) events
+Verdict Long events taken rest = IsTooLong (taken ++ rest) events
+Verdict ReadFault events taken rest = IsReadTo taken events
+Verdict DrumFault events taken rest = BeginsWith taken events
+Verdict TakerFault events taken rest = BeginsWith taken events
+
+-- what the taker was given where the driving ended like this: all, or it is cut within
+abbrev pub Handed : {K : Type 0} → (stands cut : K → K → List Item → List Step → Type 0) → (out out' : K) → Driven → List Item → List Step → Type 0
+Handed stands cut out out' TakerFault items entries = IsCut stands cut out out' items entries
+Handed stands cut out out' driven items entries = GoesOn stands out out' items entries
+
+-- over these words of a drum a machine stands for this plain state
+pub record StandsFor {M : Type 0} (fits : M → DrumWords → Type 0) (plain : M → DrumWords → PlainState) (m : M) (d : DrumWords) (s : PlainState) : Type 0 where
+  pub fit : fits m d
+  pub state : plain m d ≡ s
+
+-- before the driving these words stood on the drum, and over them the machine stood for the opening state
+pub record OpensOver {M D : Type 0} (flat : Bool) (fits : M → DrumWords → Type 0) (plain : M → DrumWords → PlainState) (held : D → Option DrumWords)
+    (limit : ℕ) (m : M) (drum : D) (d : DrumWords) : Type 0 where
+  pub stood : Stands flat (held drum) d
+  pub opened : StandsFor fits plain m d (opening limit)
+
+-- legal entries, and what the taker was given of them, where the driving ended like this
+pub record GivenTo {K : Type 0} (flat : Bool) (limit : ℕ) (stands cut : K → K → List Item → List Step → Type 0) (driven : Driven) (out out' : K)
+    (events : List Event) (entries : List Step) : Type 0 where
+  pub items : List Item
+  pub run : RunsTo flat limit driven events entries items
+  pub given : Handed stands cut out out' driven items entries
+
+-- How the driving ended: the script's events and their entries, whatever is told; the script, where it told
+-- its bytes; and over what the drum told, what the taker was given.
+pub record RanTo {M D K : Type 0} (flat : Bool) (fits : M → DrumWords → Type 0) (plain : M → DrumWords → PlainState) (held : D → Option DrumWords)
+    (limit : ℕ) (m : M) (drum : D) (stands cut : K → K → List Item → List Step → Type 0) (driven : Driven) (out out' : K)
+    (script script' : Option (List ℕ)) : Type 0 where
   pub events : List Event
   pub entries : List Step
-  pub items : List Item
-  pub run : runs events entries items
+  pub fit : All FitsEvent events
+  pub follows : FollowsTo driven events entries
   pub few : length entries < max_steps
-  pub given : GoesOn stands out out' items entries
-  pub text : (bytes : List ℕ) → left script ≡ Some bytes → found bytes events
+  pub found : Found script script' (Verdict driven events)
+  pub told : (d : DrumWords) → OpensOver flat fits plain held limit m drum d → GivenTo flat limit stands cut driven out out' events entries
 
--- The taker failed within entries of events, the last of which has only begun.
-pub record RanCut {S K : Type 0} (left : S → Option (List ℕ)) (stands cut : K → K → List Item → List Step → Type 0) (limit : ℕ) (script : S) (out out' : K) : Type 0 where
-  pub events : List Event
-  pub entries : List Step
-  pub items : List Item
-  pub run : AreBrokenOff limit events entries items
-  pub few : length entries < max_steps
-  pub given : IsCut stands cut out out' items entries
-  pub text : (bytes : List ℕ) → left script ≡ Some bytes → BeginsWith bytes events
+-- a machine over pages that goes on and has done nothing, with AUTO on
+pub record IsNew {P : Type 0} {b : _} (m : Machine P b) : Type 0 where
+  pub live : is_live m ≡ true
+  pub auto_on : auto m ≡ true
+  pub none : done m ≡ 0
 
--- what is so where the driving ended like this, with room for so many pages and forks
-abbrev pub RanTo : {S K : Type 0} → (S → Option (List ℕ)) → (stands cut : K → K → List Item → List Step → Type 0) → ℕ → S → (out out' : K) → Driven → Type 0
-RanTo left stands cut limit script out out' Done = Ran left stands script out out' (AreEntries limit) IsScript
-RanTo left stands cut limit script out out' (Bad n) = Ran left stands script out out' (AreEntries limit) (StopsAt n)
-RanTo left stands cut limit script out out' Long = Ran left stands script out out' (AreEntries limit) IsTooLong
-RanTo left stands cut limit script out out' ReadFault = Ran left stands script out out' (AreEntries limit) BeginsWith
-RanTo left stands cut limit script out out' DrumFault = Ran left stands script out out' (AreUnfinished limit) BeginsWith
-RanTo left stands cut limit script out out' TakerFault = RanCut left stands cut limit script out out'
+-- a new machine with room for so many pages and forks, which stands for the opening state over any words of a drum
+pub record IsBooted {P : Type 0} {b : _} (room : ℕ) (m : Machine P b) : Type 0 where
+  pub new : IsNew m
+  pub room_is : limit m ≡ room
+  pub opened : (d : DrumWords) → StandsFor Fits plain m d (opening room)
+
+-- what the driving of a machine over pages came to
+abbrev pub Drove : {P S D K : Type 0} {b : _} → (D → Option DrumWords) → (S → Option (List ℕ)) → (stands cut : K → K → List Item → List Step → Type 0)
+    → Machine P b → D → (script script' : S) → (out out' : K) → Driven → Type 0
+Drove {b = b} held left stands cut m drum script script' out out' driven =
+    RanTo b.means.flat Fits plain held (limit m) m drum stands cut driven out out' (left script) (left script')
+
+-- the size of a drum stays, and none of its counts has fallen
+pub record DrumStays {D : Type 0} (faults reads writes size : D → ℕ) (old new : D) : Type 0 where
+  pub faults_later : faults old ≤ faults new
+  pub reads_later : reads old ≤ reads new
+  pub writes_later : writes old ≤ writes new
+  pub same_size : size new ≡ size old

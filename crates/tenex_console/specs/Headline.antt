@@ -1,67 +1,111 @@
--- What a run reads and writes.
-use Rattle.std.specs.Prelude.{◌≡◌, ℕ, List, [], ◌++◌, true, Option, None, Some}
+-- What a run reads and writes, on each way in which it ends.
+use Rattle.std.specs.Prelude.{◌≡◌, ◌⊎◌, ℕ, List, [], ◌++◌, true, Option, None, Some, String}
+use Rattle.outside.specs.Told.{Grows, Stays}
 use Rattle.plain_model.specs.declared.event.Event.{Event}
 use Rattle.plain_model.specs.declared.event.Item.{Item}
 use Rattle.plain_model.specs.declared.event.Step.{Step}
 use Rattle.plain_model.specs.State.{opening}
 use Rattle.plain_model.specs.Entries.{FitsRecord}
-use Rattle.plain_model.specs.Run.{Follows, IsLegal, items_of}
-use Rattle.plain_model.specs.Script.{IsScript, BeginsWith}
+use Rattle.plain_model.specs.Run.{Follows, IsLegal, AreLegal, items_of}
+use Rattle.plain_model.specs.Script.{IsScript}
 use Rattle.plain_model.specs.Texts.{transcript, record_after, record_text}
+use Rattle.command_words.specs.declared.sizes.Sizes.{Sizes}
+use Rattle.command_words.specs.Words.{IsRun}
+use Rattle.texts.specs.declared.last.Status.{Status}
+use Rattle.texts.specs.declared.last.Status.TheVariants.{Usage, Script, DrumFault, Memory, ReadFault, WriteFault, LongScript}
 use Rattle.texts.specs.declared.last.Last.{Last}
-use Rattle.texts.specs.Ends.{end_line, record_end}
-use Rattle.tenex_console.specs.Runs.{AreEntriesSoFar}
+use Rattle.texts.specs.declared.last.Last.TheVariants.{Done as Ended, Stopped}
+use Rattle.texts.specs.Ends.{closing_line, end_line, record_end}
+use Rattle.texts.specs.Wrote.{WrotePartly}
+use Rattle.tenex_console.specs.declared.driver.Driven.{Driven}
+use Rattle.tenex_console.specs.declared.driver.Driven.TheVariants.{Done as WholeScript, Bad, Long, ReadFault as Unread, DrumFault as Unpaged, TakerFault}
+use Rattle.tenex_console.specs.declared.asked.Unbegun.{Unbegun}
+use Rattle.tenex_console.specs.declared.asked.Unbegun.TheVariants.{Usage as WrongWords, Memory as NoMemory}
+use Rattle.tenex_console.specs.Command.{IsUsage}
+use Rattle.tenex_console.specs.Driving.{Found, Verdict}
+use Rattle.tenex_console.specs.Observed.{Observed}
+use Rattle.tenex_console.specs.Runs.{RunsTo}
 
 -- The transcript is that of the plain machine over the entries that the record has: the script's events
 -- in order, each RUN n being n units of forks that can run, or idle entries while none can. No other entries
--- have this record, whose last line tells how often the drum was read and written.
-pub record Headline (limit reads writes : ℕ) (script out rec : List ℕ) : Type 0 where
+-- have this record, whose last line tells how often the drum was read and written. The script is read to its end.
+pub record Headline (sizes : Sizes) (told : Observed) : Type 0 where
   pub events : List Event
   pub entries : List Step
-  pub spelled : IsScript script events
+  pub spelled : (bytes : List ℕ) → told.script ≡ Some bytes → IsScript bytes events × (told.script_after ≡ Some [])
   pub follows : Follows events entries
-  pub legal : IsLegal true (opening limit) events entries
-  pub transcript_is : out ≡ transcript (items_of (opening limit) entries)
-  pub record_is : rec ≡ record_text entries reads writes
-  pub fits : FitsRecord entries reads writes
+  pub legal : IsLegal true (opening sizes.drum) events entries
+  pub idle : AreLegal true (opening sizes.drum) entries
+  pub transcript_is : Grows told.out told.out_after (transcript (items_of (opening sizes.drum) entries))
+  pub record_is : Grows told.rec told.rec_after (record_text entries told.reads told.writes)
+  pub fits : FitsRecord entries told.reads told.writes
 
--- The same of the events before a failure, and the line of the failure behind the transcript.
-pub record Part (found : List ℕ → List Event → Type 0) (runs : List Event → List Step → List Item → Type 0) (line : List ℕ) (script out rec : List ℕ) : Type 0 where
+-- the words ask for sizes, over which the headline holds
+abbrev pub HasHeadline : {Z : Type 0} → List (String Z) → Observed → Type 0
+HasHeadline words told = (sizes : Sizes) × IsRun words sizes × Headline sizes told
+
+-- The script was driven so far over all pages in memory: its events, their legal entries, and the items of these.
+pub record DrivenTo (driven : Driven) (sizes : Sizes) (told : Observed) : Type 0 where
   pub events : List Event
   pub entries : List Step
   pub items : List Item
-  pub text : found script events
-  pub run : runs events entries items
-  pub transcript_is : out ≡ transcript items ++ line
-  pub record_is : rec ≡ record_after None entries
+  pub found : Found told.script told.script_after (Verdict driven events)
+  pub run : RunsTo true sizes.drum driven events entries items
 
--- nothing but the line of a failure
-pub record Only (line : List ℕ) (script out rec : List ℕ) : Type 0 where
-  pub transcript_is : out ≡ line
-  pub record_is : rec ≡ []
-
--- a text begins with these bytes
-abbrev pub IsFront : List ℕ → List ℕ → Type 0
-IsFront bytes text = (rest : List ℕ) × (bytes ++ rest ≡ text)
+-- the texts of the run so far, and the line that tells how it stopped behind the transcript
+pub record Part (driven : Driven) (line : List ℕ) (sizes : Sizes) (told : Observed) : Type 0 where
+  pub so_far : DrivenTo driven sizes told
+  pub transcript_is : Grows told.out told.out_after (transcript so_far.items ++ line)
+  pub record_is : Grows told.rec told.rec_after (record_after None so_far.entries)
 
 -- the last line of a text, if there is one
 abbrev pub closing : (Last → List ℕ) → Option Last → List ℕ
 closing line None = []
 closing line (Some last) = line last
 
--- Both are fronts of texts like these, with their last lines or without.
-pub record Front (limit : ℕ) (script out rec : List ℕ) : Type 0 where
-  pub events : List Event
-  pub entries : List Step
-  pub items : List Item
-  pub last : Option Last
-  pub begun : BeginsWith script events
-  pub run : AreEntriesSoFar limit events entries items
-  pub transcript_front : IsFront out (transcript items ++ closing end_line last)
-  pub record_front : IsFront rec (record_after None entries ++ closing record_end last)
+-- the last lines after the driving, where there are some
+abbrev pub last_after : Driven → ℕ → ℕ → Option Last
+last_after WholeScript reads writes = Some (Ended reads writes)
+last_after (Bad n) reads writes = Some (Stopped Script n)
+last_after Long reads writes = Some (Stopped LongScript 0)
+last_after Unread reads writes = Some (Stopped ReadFault 0)
+last_after Unpaged reads writes = Some (Stopped DrumFault 0)
+last_after TakerFault reads writes = None
 
--- Where the script and both sinks tell their bytes, what the sinks took in between is so with what was
--- left of the script.
-pub record Tells (script : Option (List ℕ)) (out out' rec rec' : Option (List ℕ)) (P : List ℕ → List ℕ → List ℕ → Type 0) : Type 0 where
-  pub each : (bytes a b : List ℕ) → script ≡ Some bytes → out ≡ Some a → rec ≡ Some b
-      → (x : List ℕ) × (y : List ℕ) × (out' ≡ Some (a ++ x)) × (rec' ≡ Some (b ++ y)) × P bytes x y
+-- The driving ended in some way, and each sink took a front of the text of the run so far, closed with the last lines
+-- of this way: none, where it was the taker that failed.
+pub record Fronts (sizes : Sizes) (told : Observed) : Type 0 where
+  pub driven : Driven
+  pub so_far : DrivenTo driven sizes told
+  pub transcript_front : WrotePartly told.out told.out_after (transcript so_far.items ++ closing end_line (last_after driven told.reads told.writes))
+  pub record_front : WrotePartly told.rec told.rec_after (record_after None so_far.entries ++ closing record_end (last_after driven told.reads told.writes))
+
+-- nothing was run, and the transcript is the line that tells why
+pub record Only (line : List ℕ) (told : Observed) : Type 0 where
+  pub unread : Stays told.script told.script_after
+  pub transcript_is : Grows told.out told.out_after line
+  pub record_stays : Stays told.rec told.rec_after
+
+-- the status of a run that did not begin
+abbrev pub status_of : Unbegun → Status
+status_of WrongWords = Usage
+status_of NoMemory = Memory
+
+-- a reason why a run did not begin is true of the words and of how many pages the drum has
+abbrev pub IsTrueOf : {Z : Type 0} → List (String Z) → ℕ → Unbegun → Type 0
+IsTrueOf words drum_pages WrongWords = IsUsage words drum_pages
+IsTrueOf words drum_pages NoMemory = Unit {0}
+
+-- Where nothing was run for this reason, the transcript is the line that tells it, or a front of it where a sink failed.
+abbrev pub Stops : Unbegun → (out out' rec rec' : Option (List ℕ)) → Status → Type 0
+Stops why out out' rec rec' status =
+    ((status ≡ status_of why) × Grows out out' (closing_line (status_of why) 0) × Stays rec rec')
+    ⊎ ((status ≡ WriteFault) × WrotePartly out out' (closing_line (status_of why) 0) × Stays rec rec')
+
+-- nothing was run, and the transcript is a front of the line that tells why
+pub record OnlyFront {Z : Type 0} (words : List (String Z)) (drum_pages : ℕ) (told : Observed) : Type 0 where
+  pub why : Unbegun
+  pub is_true : IsTrueOf words drum_pages why
+  pub unread : Stays told.script told.script_after
+  pub transcript_front : WrotePartly told.out told.out_after (closing_line (status_of why) 0)
+  pub record_stays : Stays told.rec told.rec_after

@@ -1,51 +1,61 @@
 -- Which entries the events of a script may have, and what the plain machine shows over them, from the
 -- opening state on.
-use Rattle.std.specs.Prelude.{◌≡◌, ◌⊎◌, ℕ, List, [], ◌∷◌, ◌++◌, true}
+use Rattle.std.specs.Prelude.{◌≡◌, ◌⊎◌, ℕ, List, [], ◌∷◌, ◌++◌, Bool, true}
 use Rattle.plain_model.specs.declared.event.Event.{Event}
 use Rattle.plain_model.specs.declared.event.Item.{Item}
 use Rattle.plain_model.specs.declared.event.Step.{Step}
 use Rattle.plain_model.specs.State.{opening}
 use Rattle.plain_model.specs.Run.{Follows, Begins, Unfinished, ShownFirst, IsLegal, AreLegal, auto_behind, state_after, items_of}
+use Rattle.tenex_console.specs.declared.driver.Driven.{Driven}
+use Rattle.tenex_console.specs.declared.driver.Driven.TheVariants.{DrumFault, TakerFault}
 
--- with room for so many pages and forks
-module _ (limit : ℕ) where
-  -- legal entries of these events, and their items
-  pub record AreEntries (events : List Event) (entries : List Step) (items : List Item) : Type 0 where
-    pub follows : Follows events entries
-    pub legal : IsLegal true (opening limit) events entries
-    pub shown : items ≡ items_of (opening limit) entries
+-- the entries of whole events, and those that there are of a last one, which was broken off
+pub record BreaksOff (Part : Event → List Step → Type 0) (events : List Event) (entries : List Step) : Type 0 where
+  pub whole : List Event
+  pub last : Event
+  pub before : List Step
+  pub more : List Step
+  pub events_are : events ≡ whole ++ last ∷ []
+  pub entries_are : entries ≡ before ++ more
+  pub follows : Follows whole before
+  pub part : Part last more
 
-  -- legal entries of these events, the last of which has only begun
-  pub record AreBrokenOff (events : List Event) (entries : List Step) (items : List Item) : Type 0 where
-    pub whole : List Event
-    pub last : Event
-    pub before : List Step
-    pub begun : List Step
-    pub earlier : List Item
-    pub events_are : events ≡ whole ++ last ∷ []
-    pub entries_are : entries ≡ before ++ begun
-    pub run : AreEntries whole before earlier
-    pub begins : Begins last begun
-    pub legal : AreLegal (auto_behind true whole) (state_after (opening limit) before) begun
-    pub shown : items ≡ items_of (opening limit) entries
+-- which entries there are of these events where the driving ended like this
+abbrev pub FollowsTo : Driven → List Event → List Step → Type 0
+FollowsTo DrumFault events entries = BreaksOff Unfinished events entries
+FollowsTo TakerFault events entries = Follows events entries ⊎ BreaksOff Begins events entries
+FollowsTo driven events entries = Follows events entries
 
-  -- legal entries of these events, the last of which the drum broke off: its turns so far, or the first
-  -- items of what it shows
-  pub record AreUnfinished (events : List Event) (entries : List Step) (items : List Item) : Type 0 where
-    pub whole : List Event
-    pub last : Event
-    pub before : List Step
-    pub turns : List Step
-    pub earlier : List Item
-    pub later : List Item
-    pub events_are : events ≡ whole ++ last ∷ []
-    pub entries_are : entries ≡ before ++ turns
-    pub run : AreEntries whole before earlier
-    pub unfinished : Unfinished last turns
-    pub legal : AreLegal (auto_behind true whole) (state_after (opening limit) before) turns
-    pub first : ShownFirst (state_after (opening limit) entries) last later
-    pub shown : items ≡ items_of (opening limit) entries ++ later
+-- Legal entries of these events with room for so many pages and forks, and their items. Where all pages are in
+-- memory alone, an idle entry stands only where no fork can run, whatever the AUTO mark.
+pub record AreEntries (flat : Bool) (limit : ℕ) (events : List Event) (entries : List Step) (items : List Item) : Type 0 where
+  pub follows : Follows events entries
+  pub legal : IsLegal true (opening limit) events entries
+  pub idle : flat ≡ true → AreLegal true (opening limit) entries
+  pub shown : items ≡ items_of (opening limit) entries
 
-  -- legal entries of these events, as far as they went
-  abbrev pub AreEntriesSoFar : List Event → List Step → List Item → Type 0
-  AreEntriesSoFar events entries items = AreEntries events entries items ⊎ AreBrokenOff events entries items ⊎ AreUnfinished events entries items
+-- legal entries of these events, the last of which was broken off
+pub record AreBroken (flat : Bool) (limit : ℕ) (Part : Event → List Step → Type 0) (events : List Event) (entries : List Step) : Type 0 where
+  pub breaks : BreaksOff Part events entries
+  pub legal : IsLegal true (opening limit) breaks.whole breaks.before
+  pub last_legal : AreLegal (auto_behind true breaks.whole) (state_after (opening limit) breaks.before) breaks.more
+  pub idle : flat ≡ true → AreLegal true (opening limit) entries
+
+-- legal entries of these events, the last of which has only begun, and their items
+pub record AreBegun (flat : Bool) (limit : ℕ) (events : List Event) (entries : List Step) (items : List Item) : Type 0 where
+  pub broken : AreBroken flat limit Begins events entries
+  pub shown : items ≡ items_of (opening limit) entries
+
+-- legal entries of these events, the last of which the drum broke off, and their items: its turns so far,
+-- or the first items of what it shows
+pub record AreUnfinished (flat : Bool) (limit : ℕ) (events : List Event) (entries : List Step) (items : List Item) : Type 0 where
+  pub broken : AreBroken flat limit Unfinished events entries
+  pub later : List Item
+  pub first : ShownFirst (state_after (opening limit) entries) broken.breaks.last later
+  pub shown : items ≡ items_of (opening limit) entries ++ later
+
+-- legal entries of these events, and their items, where the driving ended like this
+abbrev pub RunsTo : Bool → ℕ → Driven → List Event → List Step → List Item → Type 0
+RunsTo flat limit DrumFault events entries items = AreUnfinished flat limit events entries items
+RunsTo flat limit TakerFault events entries items = AreEntries flat limit events entries items ⊎ AreBegun flat limit events entries items
+RunsTo flat limit driven events entries items = AreEntries flat limit events entries items

@@ -1,15 +1,18 @@
 // A script, driven through a machine.
-ghost use Rattle.std.specs.Prelude.{◌≡◌, ◌≤◌, ◌<◌, ℕ, true};
+ghost use Rattle.std.specs.Prelude.{◌≡◌, ◌≤◌, true, OnOk, OnErr, []};
 ghost use Rattle.outside.specs.Faults.{Rose};
-ghost use Rattle.plain_model.specs.State.{opening};
-ghost use Rattle.plain_model.specs.Taker.{StaysOnward};
-ghost use Rattle.monitor_core.specs.Machine.{Fits, IsSound, auto, done, is_live, plain};
-ghost use Rattle.tenex_console.specs.Driving.{RanTo, StandsFor};
+ghost use Rattle.plain_model.specs.Taker.{GoesOn, IsCut, StaysOnward};
+ghost use Rattle.script_lang.specs.Lines.{Skips, NeedsRead};
+ghost use Rattle.monitor_core.specs.Machines.{limit};
+ghost use Rattle.tenex_console.specs.Driving.{Drove, DrumStays, IsNew};
+ghost use Rattle.tenex_console.specs.Headline.{last_after};
+ghost use Rattle.tenex_console.specs.Statuses.{status_after};
 
 use monitor_core::{Ended, Machine};
-use outside::{Drum, Source};
+use outside::{Drum, Failed, Source};
 use plain_model::{Pages, Taker};
 use script_lang::{Lines, Next};
+use texts::{Last, Status};
 
 /// How the driving of a script ended.
 #[derive(Clone, Copy, Debug, PartialEq, Eq)]
@@ -24,41 +27,73 @@ pub enum Driven {
     ReadFault,
     /// The drum failed.
     DrumFault,
-    /// The taker failed.
+    /// The taker failed, within an event or between two.
     TakerFault,
 }
 
-/// Runs each line's event as it is read, from a new machine on, and gives its steps to a taker.
+impl Driven {
+    /// The last lines of the texts, after so many reads and writes of the drum. None, where a text
+    /// couldn't be written.
+    pub fn last(self, reads: u64, writes: u64) -> Option<Last>
+        ensures { result ≡ last_after self reads writes }
+    {
+        match self {
+            Driven::Done => Some(Last::Done { reads, writes }),
+            Driven::Bad(number) => Some(Last::Stopped(Status::Script, number)),
+            Driven::Long => Some(Last::Stopped(Status::LongScript, 0)),
+            Driven::ReadFault => Some(Last::Stopped(Status::ReadFault, 0)),
+            Driven::DrumFault => Some(Last::Stopped(Status::DrumFault, 0)),
+            Driven::TakerFault => None,
+        }
+    }
+
+    /// The status of the run, where its texts could be closed.
+    pub fn status(self) -> Status
+        ensures { result ≡ status_after self }
+    {
+        match self {
+            Driven::Done => Status::Done,
+            Driven::Bad(_) => Status::Script,
+            Driven::Long => Status::LongScript,
+            Driven::ReadFault => Status::ReadFault,
+            Driven::DrumFault => Status::DrumFault,
+            Driven::TakerFault => Status::WriteFault,
+        }
+    }
+}
+
+/// Runs each line's event as it is read, from a new machine on, and gives its steps to a taker, which hands
+/// on what it keeps before each read of the source.
 pub fn drive<P: Pages, S: Source, D: Drum, K: Taker>(
     machine: &mut Machine<P>,
     script: &mut S,
     drum: &mut D,
     taker: &mut K,
 ) -> Driven
-    requires flat { P.flat ≡ true }
-    requires forks { 0 < P.most_forks }
-    requires opening { StandsFor (Fits P.fits P.filed) (plain P.plain) machine.old (opening (P.most machine.old.pages)) }
-    requires sound { IsSound P.lives P.forks_of P.serial machine.old }
-    requires live { is_live machine.old ≡ true }
-    requires auto { auto machine.old ≡ true }
-    requires none { done machine.old ≡ 0 }
-    requires size { P.most machine.old.pages ≤ D.size drum.old }
+    requires new { IsNew machine.old }
+    requires size { limit machine.old ≤ D.size drum.old }
     ensures read_later { S.fault_count script.old ≤ S.fault_count script.new }
     ensures read_cause { result ≡ Driven.ReadFault → Rose (S.fault_count script.old) (S.fault_count script.new) }
     ensures later { K.fault_count taker.old ≤ K.fault_count taker.new }
     ensures cause { result ≡ Driven.TakerFault → Rose (K.fault_count taker.old) (K.fault_count taker.new) }
     ensures onward { StaysOnward K.onward taker.old taker.new }
-    ensures drum_later { D.fault_count drum.old ≤ D.fault_count drum.new }
+    ensures drum { DrumStays D.fault_count D.read_count D.write_count D.size drum.old drum.new }
     ensures drum_cause { result ≡ Driven.DrumFault → Rose (D.fault_count drum.old) (D.fault_count drum.new) }
-    ensures reads { D.read_count drum.old ≤ D.read_count drum.new }
-    ensures writes { D.write_count drum.old ≤ D.write_count drum.new }
-    ensures size { D.size drum.new ≡ D.size drum.old }
+
+    // Over pages in memory alone the drum is not asked.
+    ensures untouched { P.means.flat ≡ true → drum.new ≡ drum.old }
+
+    // Before a read of the source that failed the taker had handed on all that it was given.
+    ensures handed { result ≡ Driven.ReadFault → K.handed_on taker.new }
 
     // What the taker was given, and what the script is found to be.
-    ensures ran { RanTo S.left K.stands K.cut (P.most machine.old.pages) script.old taker.old taker.new result }
+    ensures drove { Drove D.held S.left K.stands K.cut machine.old drum.old script.old script.new taker.old taker.new result }
 {
     let mut lines = Lines::new();
     loop {
+        let Ok(()) = hand_on(&mut lines, taker) else {
+            return Driven::TakerFault;
+        };
         match lines.next(script) {
             Next::One(event) => match machine.event(event, drum, taker) {
                 Ended::Went => {}
@@ -70,5 +105,24 @@ pub fn drive<P: Pages, S: Source, D: Drum, K: Taker>(
             Next::ReadFault => return Driven::ReadFault,
             Next::Long => return Driven::Long,
         }
+    }
+}
+
+// Has the taker hand on what it keeps where the next line has to be read, so that who types the script sees
+// what the lines before did.
+fn hand_on<K: Taker>(lines: &mut Lines, taker: &mut K) -> Result<(), Failed>
+    ensures skips { Skips lines.old lines.new }
+    ensures later { K.fault_count taker.old ≤ K.fault_count taker.new }
+    ensures cause { OnErr result (Rose (K.fault_count taker.old) (K.fault_count taker.new)) }
+    ensures onward { StaysOnward K.onward taker.old taker.new }
+    ensures unread { (NeedsRead lines.new → ⊥) → taker.new ≡ taker.old }
+    ensures handed { NeedsRead lines.new → OnOk result (K.handed_on taker.new) }
+    ensures ok { OnOk result (GoesOn K.stands taker.old taker.new [] []) }
+    ensures err { OnErr result (IsCut K.stands K.cut taker.old taker.new [] []) }
+{
+    if lines.needs_read() {
+        taker.flush()
+    } else {
+        Ok(())
     }
 }

@@ -1,8 +1,6 @@
 // A run where nothing fails.
-ghost use Rattle.std.specs.Prelude.{◌≡◌, ◌⊎◌, ◌≤◌, ℕ, List};
-ghost use Rattle.plain_model.specs.Script.{IsScript};
-ghost use Rattle.plain_model.specs.declared.event.Event.{Event as AnEvent};
-ghost use Rattle.tenex_console.specs.Command.{AsksDrum, IsUsage};
+ghost use Rattle.std.specs.Prelude.{◌≡◌, ◌⊎◌};
+ghost use Rattle.tenex_console.specs.Command.{IsRight, IsUsage};
 ghost use Rattle.tenex_console.specs.Statuses.{IsFaultless, Judges};
 
 use crate::tenex;
@@ -23,7 +21,8 @@ pub fn run_faultless(
     ensures judged { Judges result script.items }
     ensures usage { result ≡ Status.Usage → IsUsage words.now (⟦<SureDrum as Drum>⟧.size drum.old) }
     ensures always_usage { IsUsage words.now (⟦<SureDrum as Drum>⟧.size drum.old) → (result ≡ Status.Usage) ⊎ (result ≡ Status.Memory) }
-    ensures complete { (es : List AnEvent) (limit : ℕ) → IsScript script.items es → AsksDrum words.now limit → limit ≤ ⟦<SureDrum as Drum>⟧.size drum.old → (result ≡ Status.Done) ⊎ (result ≡ Status.Memory) }
+    ensures complete { IsRight words.now (⟦<SureDrum as Drum>⟧.size drum.old) script.items → (result ≡ Status.Done) ⊎ (result ≡ Status.Memory) }
+    ensures untouched { drum.new ≡ drum.old }
 {
     let mut script = SureSource::new(script);
     let mut out = SureSink::new();

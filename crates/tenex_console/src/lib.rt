@@ -1,14 +1,18 @@
 //! The emulator: a console script is run, and its transcript and its record are written.
 //! To the layers above both texts are those of the plain machine, and each status has its cause.
-//! Stands on `monitor_core` for the machine, on `script_lang` for the script, on `texts` for both texts.
+//! Stands on `monitor_core` for the machine, on `flat_pages` for its pages, on `script_lang` for the script
+//! and on `texts` for both texts.
 #![tactic(auto)]
 
+mod asked;
 mod call;
 mod driver;
 mod faultless;
+mod in_memory;
 #[cfg(test)]
 mod tests;
 
 pub use call::tenex;
 pub use faultless::run_faultless;
+pub use in_memory::run_in_memory;
 pub use texts::Status;

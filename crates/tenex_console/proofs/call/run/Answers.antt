@@ -1,38 +1,50 @@
-use Rattle.std.proofs.Common.{◌≡◌, ◌-◌, ◌∙◌, sym, arith, rules}
+use Rattle.std.proofs.Common.{ap, arith, refl, rules}
 use Rattle.texts.proofs.Starts.{onward_start}
-use Rattle.tenex_console.specs.Headline.{Front}
-use Rattle.tenex_console.specs.Statuses.{Took, last_after}
-use Rattle.tenex_console.proofs.Told.{moved, took_cut, took_ended, took_front, judged_by}
+use Rattle.tenex_console.specs.Headline.{Fronts}
+use Rattle.tenex_console.specs.Observed.{seen}
+use Rattle.tenex_console.specs.Statuses.{Ran}
+use Rattle.tenex_console.proofs.Closing.{closed, cut_short, last_told, moved, opens_booted, unclosed}
+use Rattle.tenex_console.proofs.Statuses.{judged_by}
 use Rattle.tenex_console.proofs.call.run.Goals as goal
 
-pub returns-in_default-clause-took : goal.returns-in_default-clause-took
-returns-in_default-clause-took g c =
+pub returns-in_default-clause-ran : goal.returns-in_default-clause-ran
+returns-in_default-clause-ran g c sizes same =
     let w = c.new-writer.result in
     let v = c.drive-driven.new.taker in
-    let same = c.drive-driven.ensures.onward.each w (onward_start g.T.Sink.fault_count g.R.Sink.fault_count w) in
-    moved g.T.Sink.taken g.R.Sink.taken _ (Front _) w.out.now v.out.now c.args.out.now _ w.rec.now v.rec.now c.args.rec.now _ c.new-writer.ensures.out (search rules) c.new-writer.ensures.rec (search rules)
-    (took_cut g.S.Source.left g.T.Sink.taken g.R.Sink.taken _ w v c.new-writer.ensures.line c.new-writer.ensures.run c.drive-driven.result _ _ (sym c.last_of.ensures.last ∙ c.in_default.is) c.args.script.now c.drive-driven.ensures.ran)
+    let u = c.give_up.new.self in
+    let onward = c.give_up.ensures.onward.each w (c.drive-driven.ensures.onward.each w (onward_start g.T.Sink.fault_count g.R.Sink.fault_count w)) in
+    moved (λ o o' r r'. Fronts sizes (seen g.S.Source.left g.T.Sink.taken g.R.Sink.taken g.D.Drum.read_count g.D.Drum.write_count c.args.script.now c.drive-driven.new.script o o' r r' c.args.drum.now c.drive-driven.new.drum))
+    c.new-writer.ensures.out (search rules) c.new-writer.ensures.rec (search rules)
+    (cut_short g.S.Source.left g.T.Sink.taken g.R.Sink.taken g.D.Drum.read_count g.D.Drum.write_count c.args.script.now c.drive-driven.new.script c.drive-driven.new.drum w v u
+    (opens_booted g.D.Drum.held c.args.machine.now c.args.drum.now c.requires.booted refl) refl c.new-writer.ensures.line c.new-writer.ensures.run sizes same
+    c.drive-driven.result (last_told c.drive-driven.result c.reads.ensures c.reads-reads.ensures c.writes.ensures c.writes-writes.ensures c.last.ensures c.in_default.is) c.drive-driven.ensures.drove c.give_up.ensures.cut)
 
-pub returns-in-Ok-clause-took : goal.returns-in-Ok-clause-took
-returns-in-Ok-clause-took g c =
+pub returns-in-Ok-clause-ran : goal.returns-in-Ok-clause-ran
+returns-in-Ok-clause-ran g c sizes same =
     let w = c.new-writer.result in
     let v = c.drive-driven.new.taker in
-    let u = c.finish.new.self in
-    let same = c.finish.ensures.onward.each w (c.drive-driven.ensures.onward.each w (onward_start g.T.Sink.fault_count g.R.Sink.fault_count w)) in
-    let counted : last_after c.drive-driven.result (g.D.Drum.read_count c.drive-driven.new.drum - g.D.Drum.read_count c.args.drum.now) (g.D.Drum.write_count c.drive-driven.new.drum - g.D.Drum.write_count c.args.drum.now)
-    ≡ last_after c.drive-driven.result (c.reads.result - c.reads-reads.result) (c.writes.result - c.writes-writes.result) =
-    λ i. last_after c.drive-driven.result (sym c.reads.ensures i - sym c.reads-reads.ensures i) (sym c.writes.ensures i - sym c.writes-writes.ensures i) in
-    moved g.T.Sink.taken g.R.Sink.taken _ (Took _ c.status_of.result _ _) w.out.now u.out.now c.args.out.now _ w.rec.now u.rec.now c.args.rec.now _ c.new-writer.ensures.out (search rules) c.new-writer.ensures.rec (search rules)
-    (took_ended g.S.Source.left g.T.Sink.taken g.R.Sink.taken _ w v u c.new-writer.ensures.line c.new-writer.ensures.run c.drive-driven.result _ _ (omega (arith, c.last_of.ensures.few.0, c.reads.ensures, c.reads-reads.ensures)) (omega (arith, c.last_of.ensures.few.1, c.writes.ensures, c.writes-writes.ensures)) c.in-Some.last (counted ∙ (sym c.last_of.ensures.last ∙ c.in-Some.is)) c.args.script.now c.status_of.result c.status_of.ensures c.drive-driven.ensures.ran c.in-Ok.ensures.ok)
+    let u = c.close.new.writer in
+    let onward = c.close.ensures.onward.each w (c.drive-driven.ensures.onward.each w (onward_start g.T.Sink.fault_count g.R.Sink.fault_count w)) in
+    let drum = c.drive-driven.ensures.untouched refl in
+    moved (λ o o' r r'. Ran sizes (seen g.S.Source.left g.T.Sink.taken g.R.Sink.taken g.D.Drum.read_count g.D.Drum.write_count c.args.script.now c.drive-driven.new.script o o' r r' c.args.drum.now c.drive-driven.new.drum) c.status.result)
+    c.new-writer.ensures.out (search rules) c.new-writer.ensures.rec (search rules)
+    (closed g.S.Source.left g.T.Sink.taken g.R.Sink.taken g.D.Drum.read_count g.D.Drum.write_count c.args.script.now c.drive-driven.new.script c.drive-driven.new.drum w v u
+    (opens_booted g.D.Drum.held c.args.machine.now c.args.drum.now c.requires.booted refl) refl c.new-writer.ensures.line c.new-writer.ensures.run sizes same
+    c.drive-driven.result c.in-Some.last c.status.result (last_told c.drive-driven.result c.reads.ensures c.reads-reads.ensures c.writes.ensures c.writes-writes.ensures c.last.ensures c.in-Some.is) c.status.ensures (omega (arith, ap g.D.Drum.read_count drum)) (omega (arith, ap g.D.Drum.write_count drum)) c.drive-driven.ensures.drove c.in-Ok.ensures.ok)
+
+pub returns-in-Err-clause-ran : goal.returns-in-Err-clause-ran
+returns-in-Err-clause-ran g c sizes same =
+    let w = c.new-writer.result in
+    let v = c.drive-driven.new.taker in
+    let u = c.close.new.writer in
+    let onward = c.close.ensures.onward.each w (c.drive-driven.ensures.onward.each w (onward_start g.T.Sink.fault_count g.R.Sink.fault_count w)) in
+    moved (λ o o' r r'. Fronts sizes (seen g.S.Source.left g.T.Sink.taken g.R.Sink.taken g.D.Drum.read_count g.D.Drum.write_count c.args.script.now c.drive-driven.new.script o o' r r' c.args.drum.now c.drive-driven.new.drum))
+    c.new-writer.ensures.out (search rules) c.new-writer.ensures.rec (search rules)
+    (unclosed g.S.Source.left g.T.Sink.taken g.R.Sink.taken g.D.Drum.read_count g.D.Drum.write_count c.args.script.now c.drive-driven.new.script c.drive-driven.new.drum w v u
+    (opens_booted g.D.Drum.held c.args.machine.now c.args.drum.now c.requires.booted refl) refl c.new-writer.ensures.line c.new-writer.ensures.run sizes same
+    c.drive-driven.result c.in-Some.last (last_told c.drive-driven.result c.reads.ensures c.reads-reads.ensures c.writes.ensures c.writes-writes.ensures c.last.ensures c.in-Some.is) c.drive-driven.ensures.drove c.in-Err.ensures.err)
 
 pub returns-in-Ok-clause-judged : goal.returns-in-Ok-clause-judged
-returns-in-Ok-clause-judged g c bytes told = judged_by g.S.Source.left _ _ _ c.args.script.now c.new-writer.result c.drive-driven.new.taker c.drive-driven.result c.status_of.result c.status_of.ensures c.drive-driven.ensures.ran bytes told
-
-pub returns-in-Err-clause-took : goal.returns-in-Err-clause-took
-returns-in-Err-clause-took g c =
-    let w = c.new-writer.result in
-    let v = c.drive-driven.new.taker in
-    let u = c.finish.new.self in
-    let same = c.finish.ensures.onward.each w (c.drive-driven.ensures.onward.each w (onward_start g.T.Sink.fault_count g.R.Sink.fault_count w)) in
-    moved g.T.Sink.taken g.R.Sink.taken _ (Front _) w.out.now u.out.now c.args.out.now _ w.rec.now u.rec.now c.args.rec.now _ c.new-writer.ensures.out (search rules) c.new-writer.ensures.rec (search rules)
-    (took_front g.S.Source.left g.T.Sink.taken g.R.Sink.taken _ w v u c.new-writer.ensures.line c.new-writer.ensures.run c.drive-driven.result _ _ c.in-Some.last (sym c.last_of.ensures.last ∙ c.in-Some.is) c.args.script.now c.drive-driven.ensures.ran c.in-Err.ensures.err)
+returns-in-Ok-clause-judged g c bytes told =
+    let ran = c.drive-driven.ensures.drove in
+    judged_by (g.S.Source.left c.args.script.now) (g.S.Source.left c.drive-driven.new.script) c.drive-driven.result ran.events ran.found c.status.result c.status.ensures bytes told

@@ -1,22 +1,26 @@
-use Rattle.std.proofs.Common.{rules}
+use Rattle.std.proofs.Common.{subst, rules}
+use Rattle.texts.specs.declared.last.Last.TheVariants.{Stopped}
+use Rattle.texts.specs.declared.last.Status.TheVariants.{WriteFault}
+use Rattle.texts.specs.Writer.{FailsAtEnd, Finishes}
 use Rattle.texts.proofs.Starts.{onward_start}
-use Rattle.tenex_console.specs.Headline.{Front}
-use Rattle.tenex_console.specs.Statuses.{Took}
-use Rattle.tenex_console.proofs.Told.{moved, took_only, took_nothing}
+use Rattle.tenex_console.specs.Headline.{Stops}
+use Rattle.tenex_console.proofs.Closing.{moved, stopped, unstopped}
 use Rattle.tenex_console.proofs.call.stop.Goals as goal
 
-pub returns-in-Ok-clause-took : goal.returns-in-Ok-clause-took
-returns-in-Ok-clause-took g c script limit reads writes =
+pub returns-in-Ok-clause-stops : goal.returns-in-Ok-clause-stops
+returns-in-Ok-clause-stops g c =
     let w = c.new-writer.result in
-    let u = c.finish.new.self in
-    let same = c.finish.ensures.onward.each w (onward_start g.T.Sink.fault_count g.R.Sink.fault_count w) in
-    moved g.T.Sink.taken g.R.Sink.taken script (Took limit c.args.status reads writes) w.out.now u.out.now c.args.out.now _ w.rec.now u.rec.now c.args.rec.now _ c.new-writer.ensures.out (search rules) c.new-writer.ensures.rec (search rules)
-    (took_only g.T.Sink.taken g.R.Sink.taken limit w u c.new-writer.ensures.line c.new-writer.ensures.run c.args.status c.requires script reads writes c.in-Ok.ensures.ok)
+    let u = c.close.new.writer in
+    let same = c.close.ensures.onward.each w (onward_start g.T.Sink.fault_count g.R.Sink.fault_count w) in
+    moved (λ o o' r r'. Stops c.args.why (g.T.Sink.taken o) (g.T.Sink.taken o') (g.R.Sink.taken r) (g.R.Sink.taken r') c.status-in-Ok.result) c.new-writer.ensures.out (search rules) c.new-writer.ensures.rec (search rules)
+    (stopped g.T.Sink.taken g.R.Sink.taken w u c.new-writer.ensures.line c.new-writer.ensures.run c.args.why c.status-in-Ok.result c.status-in-Ok.ensures
+    (subst (λ s. Finishes g.T.Sink.taken g.R.Sink.taken (Stopped s 0) w u) c.status.ensures c.in-Ok.ensures.ok))
 
-pub returns-in-Err-clause-took : goal.returns-in-Err-clause-took
-returns-in-Err-clause-took g c script limit reads writes =
+pub returns-in-Err-clause-stops : goal.returns-in-Err-clause-stops
+returns-in-Err-clause-stops g c =
     let w = c.new-writer.result in
-    let u = c.finish.new.self in
-    let same = c.finish.ensures.onward.each w (onward_start g.T.Sink.fault_count g.R.Sink.fault_count w) in
-    moved g.T.Sink.taken g.R.Sink.taken script (Front limit) w.out.now u.out.now c.args.out.now _ w.rec.now u.rec.now c.args.rec.now _ c.new-writer.ensures.out (search rules) c.new-writer.ensures.rec (search rules)
-    (took_nothing g.T.Sink.taken g.R.Sink.taken limit w u c.new-writer.ensures.line c.new-writer.ensures.run c.args.status script c.in-Err.ensures.err)
+    let u = c.close.new.writer in
+    let same = c.close.ensures.onward.each w (onward_start g.T.Sink.fault_count g.R.Sink.fault_count w) in
+    moved (λ o o' r r'. Stops c.args.why (g.T.Sink.taken o) (g.T.Sink.taken o') (g.R.Sink.taken r) (g.R.Sink.taken r') WriteFault) c.new-writer.ensures.out (search rules) c.new-writer.ensures.rec (search rules)
+    (unstopped g.T.Sink.taken g.R.Sink.taken w u c.new-writer.ensures.line c.new-writer.ensures.run c.args.why
+    (subst (λ s. FailsAtEnd g.T.Sink.taken g.R.Sink.taken (Stopped s 0) w u) c.status.ensures c.in-Err.ensures.err))

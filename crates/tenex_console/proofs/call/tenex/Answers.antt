@@ -1,21 +1,21 @@
-use Rattle.std.proofs.Common.{◌-◌, ◌≤◌, Err, ap, subst, sym}
-use Rattle.tenex_console.specs.Command.{IsUsage}
-use Rattle.tenex_console.specs.Headline.{Tells}
-use Rattle.tenex_console.specs.Statuses.{IsEarly, Took}
+use Rattle.std.proofs.Common.{◌≡◌, subst, sym}
+use Rattle.texts.specs.declared.last.Status.TheVariants.{Done, DrumFault, ReadFault}
+use Rattle.tenex_console.specs.Command.{IsAsked}
+use Rattle.tenex_console.specs.Headline.{IsTrueOf}
+use Rattle.tenex_console.specs.Statuses.{IsEarly, IsUsageOrBefore, Judges, Ran}
 use Rattle.tenex_console.proofs.Asking.{not_usage}
-use Rattle.tenex_console.proofs.Causes.{complete_run, early_run, never_passed, never_short}
+use Rattle.tenex_console.proofs.Statuses.{complete_run, faultless, late, never_passed, never_short, stopped, tells_ran, tells_stopped, usage_true}
 use Rattle.tenex_console.proofs.call.tenex.Goals as goal
 
 pub returns-in-Ok-clause-headline : goal.returns-in-Ok-clause-headline
-returns-in-Ok-clause-headline g c is = (
-  c.in-Ok.machine.pages.limit,
-  c.in-Ok.ensures.asked,
-  subst (λ s. Tells (g.S.Source.left c.args.script.now) (g.T.Sink.taken c.args.out.now) (g.T.Sink.taken c.run.new.out) (g.R.Sink.taken c.args.rec.now) (g.R.Sink.taken c.run.new.rec) (Took c.in-Ok.machine.pages.limit s (g.D.Drum.read_count c.run.new.drum - g.D.Drum.read_count c.args.drum.now) (g.D.Drum.write_count c.run.new.drum - g.D.Drum.write_count c.args.drum.now))) is c.run.ensures.took,
-)
+returns-in-Ok-clause-headline g c is =
+    let asked = c.in-Ok.ensures.booted in
+    (asked.0, asked.1.run, subst (Ran asked.0 _) is (c.run.ensures.ran asked.0 (sym asked.2.room_is)))
 
-pub returns-in-Ok-clause-took : goal.returns-in-Ok-clause-took
-returns-in-Ok-clause-took g c limit room =
-    subst (λ n. Tells (g.S.Source.left c.args.script.now) (g.T.Sink.taken c.args.out.now) (g.T.Sink.taken c.run.new.out) (g.R.Sink.taken c.args.rec.now) (g.R.Sink.taken c.run.new.rec) (Took n c.run.result (g.D.Drum.read_count c.run.new.drum - g.D.Drum.read_count c.args.drum.now) (g.D.Drum.write_count c.run.new.drum - g.D.Drum.write_count c.args.drum.now))) (room _ c.in-Ok.ensures.asked) c.run.ensures.took
+pub returns-in-Ok-clause-tells : goal.returns-in-Ok-clause-tells
+returns-in-Ok-clause-tells g c =
+    let asked = c.in-Ok.ensures.booted in
+    tells_ran c.args.words.now (g.D.Drum.size c.args.drum.now) _ c.run.result (asked.0, subst (λ n. IsAsked c.args.words.now n asked.0) c.pages.ensures asked.1, c.run.ensures.ran asked.0 (sym asked.2.room_is))
 
 pub returns-in-Ok-clause-script : goal.returns-in-Ok-clause-script
 returns-in-Ok-clause-script g c bytes n es told stops = never_passed c.run.result bytes n es (c.run.ensures.judged bytes told) stops
@@ -23,17 +23,64 @@ returns-in-Ok-clause-script g c bytes n es told stops = never_passed c.run.resul
 pub returns-in-Ok-clause-long : goal.returns-in-Ok-clause-long
 returns-in-Ok-clause-long g c bytes es told long = never_short c.run.result bytes es (c.run.ensures.judged bytes told) long
 
-pub returns-in-Ok-clause-always_usage : goal.returns-in-Ok-clause-always_usage
-returns-in-Ok-clause-always_usage g c usage = absurd (not_usage _ _ _ c.in-Ok.ensures.asked (subst (λ n. c.in-Ok.machine.pages.limit ≤ n) c.pages.ensures c.in-Ok.ensures.enough) usage)
+pub returns-in-Ok-clause-usage : goal.returns-in-Ok-clause-usage
+returns-in-Ok-clause-usage g c is =
+    let asked = c.in-Ok.ensures.booted in
+    absurd (late asked.0 _ c.run.result (c.run.ensures.ran asked.0 (sym asked.2.room_is)) (subst IsEarly (sym is) tt))
 
-pub returns-in-Err-clause-took : goal.returns-in-Err-clause-took
-returns-in-Err-clause-took g c limit room = c.stop.ensures.took _ limit _ _
+pub returns-in-Ok-clause-always_usage : goal.returns-in-Ok-clause-always_usage
+returns-in-Ok-clause-always_usage g c usage =
+    let asked = c.in-Ok.ensures.booted in
+    absurd (not_usage c.args.words.now (g.D.Drum.size c.args.drum.now) asked.0 (subst (λ n. IsAsked c.args.words.now n asked.0) c.pages.ensures asked.1) usage)
+
+pub returns-in-Ok-clause-unread : goal.returns-in-Ok-clause-unread
+returns-in-Ok-clause-unread g c early =
+    let asked = c.in-Ok.ensures.booted in
+    absurd (late asked.0 _ c.run.result (c.run.ensures.ran asked.0 (sym asked.2.room_is)) early)
+
+pub returns-in-Ok-clause-complete : goal.returns-in-Ok-clause-complete
+returns-in-Ok-clause-complete g c steady = faultless c.run.result _ c.run.ensures.read_cause c.run.ensures.write_cause c.run.ensures.drum_cause steady
 
 pub returns-in-Ok-clause-complete_run : goal.returns-in-Ok-clause-complete_run
-returns-in-Ok-clause-complete_run g c bytes es limit told script asks enough fine =
-    complete_run c.args.words.now (g.D.Drum.size c.args.drum.now) limit bytes es c.run.result (λ is. absurd (c.run.ensures.late (subst IsEarly (sym is) tt))) (c.run.ensures.judged bytes told) script asks enough fine
+returns-in-Ok-clause-complete_run g c bytes told right fine =
+    let asked = c.in-Ok.ensures.booted in
+    complete_run c.args.words.now (g.D.Drum.size c.args.drum.now) bytes c.run.result
+    (λ is. absurd (late asked.0 _ c.run.result (c.run.ensures.ran asked.0 (sym asked.2.room_is)) (subst IsEarly (sym is) tt)))
+    (c.run.ensures.judged bytes told) right fine
+
+pub returns-in-Err-clause-headline : goal.returns-in-Err-clause-headline
+returns-in-Err-clause-headline g c is = absurd (stopped (λ s. s ≡ Done → ⊥) c.in-Err.why c.stop.result c.stop.ensures.stops (λ e. absurd (cc e)) (λ e. absurd (cc e)) (λ e. absurd (cc e)) is)
+
+pub returns-in-Err-clause-tells : goal.returns-in-Err-clause-tells
+returns-in-Err-clause-tells g c =
+    tells_stopped c.args.words.now (g.D.Drum.size c.args.drum.now) _ _ _ c.in-Err.why c.stop.result c.stop.ensures.stops (subst (λ n. IsTrueOf c.args.words.now n c.in-Err.why) c.pages.ensures c.in-Err.ensures.why)
+
+pub returns-in-Err-clause-judged : goal.returns-in-Err-clause-judged
+returns-in-Err-clause-judged g c bytes told = stopped (λ s. Judges s bytes) c.in-Err.why c.stop.result c.stop.ensures.stops tt tt tt
+
+pub returns-in-Err-clause-script : goal.returns-in-Err-clause-script
+returns-in-Err-clause-script g c bytes n es told stops = never_passed c.stop.result bytes n es (stopped (λ s. Judges s bytes) c.in-Err.why c.stop.result c.stop.ensures.stops tt tt tt) stops
+
+pub returns-in-Err-clause-long : goal.returns-in-Err-clause-long
+returns-in-Err-clause-long g c bytes es told long = never_short c.stop.result bytes es (stopped (λ s. Judges s bytes) c.in-Err.why c.stop.result c.stop.ensures.stops tt tt tt) long
+
+pub returns-in-Err-clause-usage : goal.returns-in-Err-clause-usage
+returns-in-Err-clause-usage g c is =
+    usage_true c.args.words.now (g.D.Drum.size c.args.drum.now) c.in-Err.why c.stop.result c.stop.ensures.stops (subst (λ n. IsTrueOf c.args.words.now n c.in-Err.why) c.pages.ensures c.in-Err.ensures.why) is
+
+pub returns-in-Err-clause-always_usage : goal.returns-in-Err-clause-always_usage
+returns-in-Err-clause-always_usage g c usage = stopped IsUsageOrBefore c.in-Err.why c.stop.result c.stop.ensures.stops tt tt tt
+
+pub returns-in-Err-clause-read_cause : goal.returns-in-Err-clause-read_cause
+returns-in-Err-clause-read_cause g c is = absurd (stopped (λ s. s ≡ ReadFault → ⊥) c.in-Err.why c.stop.result c.stop.ensures.stops (λ e. absurd (cc e)) (λ e. absurd (cc e)) (λ e. absurd (cc e)) is)
+
+pub returns-in-Err-clause-drum_cause : goal.returns-in-Err-clause-drum_cause
+returns-in-Err-clause-drum_cause g c is = absurd (stopped (λ s. s ≡ DrumFault → ⊥) c.in-Err.why c.stop.result c.stop.ensures.stops (λ e. absurd (cc e)) (λ e. absurd (cc e)) (λ e. absurd (cc e)) is)
+
+pub returns-in-Err-clause-complete : goal.returns-in-Err-clause-complete
+returns-in-Err-clause-complete g c steady =
+    faultless c.stop.result _ (returns-in-Err-clause-read_cause g c) c.stop.ensures.write_cause (returns-in-Err-clause-drum_cause g c) steady
 
 pub returns-in-Err-clause-complete_run : goal.returns-in-Err-clause-complete_run
-returns-in-Err-clause-complete_run g c bytes es limit told script asks enough fine =
-    early_run c.args.words.now (g.D.Drum.size c.args.drum.now) limit c.in-Err.status c.stop.result c.stop.ensures.status c.in-Err.ensures.early
-    (λ is. subst (λ n. IsUsage c.args.words.now n) c.pages.ensures (c.in-Err.ensures.usage (ap Err is))) asks enough fine
+returns-in-Err-clause-complete_run g c bytes told right fine =
+    complete_run c.args.words.now (g.D.Drum.size c.args.drum.now) bytes c.stop.result (returns-in-Err-clause-usage g c) (returns-in-Err-clause-judged g c bytes told) right fine

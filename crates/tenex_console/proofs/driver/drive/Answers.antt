@@ -1,81 +1,90 @@
 use Rattle.std.proofs.Common.{refl, ◌∙◌, arith}
-use Rattle.monitor_core.specs.Machine.{Fits, plain}
-use Rattle.tenex_console.proofs.Running.{so_far_none, so_far_more, ran_stopped, ran_cut, ran_done, ran_bad, ran_long, ran_unread}
+use Rattle.script_lang.specs.Lines.{given, pending}
+use Rattle.script_lang.proofs.Undecided.{undecided_earlier}
+use Rattle.tenex_console.specs.declared.driver.Driven.TheVariants.{Done, Bad, Long, ReadFault}
+use Rattle.tenex_console.proofs.Found.{found_done, found_bad, found_long, found_unread}
+use Rattle.tenex_console.proofs.Running.{few_in, ran, ran_cut, ran_stopped, ran_unshown, so_far_more, so_far_none, so_far_shown}
 use Rattle.tenex_console.proofs.driver.drive.Goals as goal
 
-pub loop-event-init : goal.loop-event-init
-loop-event-init g c = record {
+pub loop-lines-init : goal.loop-lines-init
+loop-lines-init g c = record {
   read_later = omega arith;
   later = omega arith;
   onward = record { each = λ first h. h };
-  drum_later = omega arith;
-  reads = omega arith;
-  writes = omega arith;
-  size = refl;
+  untouched = refl;
   most = refl;
-  sound = c.requires.sound;
-  live = c.requires.live;
+  live = c.requires.new.live;
   is_open = c.new-lines.ensures.open;
   none = c.new-lines.ensures.pending;
   start = c.new-lines.ensures.given;
   no_lines = c.new-lines.ensures.lines;
-  so_far = so_far_none (Fits g.P.Pages.fits g.P.Pages.filed) (plain g.P.Pages.plain) g.D.Drum.held g.S.Source.left g.K.Taker.stands (g.P.Pages.most c.args.machine.now.pages) c.new-lines.result c.args.script.now c.args.taker.now c.args.machine.now _ _
-      c.new-lines.ensures.turns c.new-lines.ensures.given c.requires.opening c.requires.auto c.requires.none;
+  so_far = so_far_none c.new-lines.ensures.turns c.new-lines.ensures.given c.requires.new.auto_on c.requires.new.none;
 }
 
-pub loop-event-preserved : goal.loop-event-preserved
-loop-event-preserved g c =
-    let i = c.loop-event.invariant in
+pub loop-lines-preserved : goal.loop-lines-preserved
+loop-lines-preserved g c =
+    let i = c.loop-lines.invariant in
     let e = c.in-One.event in
+    let shown = so_far_shown i.so_far c.hand_on.ensures.skips c.in-Ok.ensures.ok in
     record {
       read_later = omega (arith, i.read_later, c.next.ensures.later);
-      later = omega (arith, i.later, c.event.ensures.later);
-      onward = record { each = λ first h. c.event.ensures.onward.each first (i.onward.each first h) };
-      drum_later = omega (arith, i.drum_later, c.event.ensures.drum_later);
-      reads = omega (arith, i.reads, c.event.ensures.reads);
-      writes = omega (arith, i.writes, c.event.ensures.writes);
-      size = c.event.ensures.size ∙ i.size;
-      most = c.event.ensures.most ∙ i.most;
-      sound = c.event.ensures.sound;
+      later = omega (arith, i.later, c.hand_on.ensures.later, c.event.ensures.later);
+      onward = record { each = λ first h. c.event.ensures.onward.each first (c.hand_on.ensures.onward.each first (i.onward.each first h)) };
+      untouched = c.event.ensures.untouched ∙ i.untouched;
+      most = c.event.ensures.limit ∙ i.most;
       live = c.in-Went.ensures.live.1 refl;
       is_open = c.in-One.ensures.open e refl;
       none = i.none;
       start = i.start;
       no_lines = i.no_lines;
-      so_far = so_far_more (Fits g.P.Pages.fits g.P.Pages.filed) (plain g.P.Pages.plain) g.D.Drum.held g.S.Source.left g.K.Taker.stands (g.P.Pages.most c.args.machine.now.pages) g.P.Pages.flat c.requires.flat
-          _ _ _ _ _ _ _ _ _ _ _ _ _ _ _ e i.so_far (c.in-One.ensures.takes e refl) (c.in-One.ensures.advances e refl) _ _ c.event.ensures.auto (c.in-Went.ensures.went refl);
+      so_far = so_far_more shown (c.in-One.ensures.takes e refl) (c.in-One.ensures.advances e refl) (c.in-One.ensures.fits e refl).0 c.event.ensures.auto (c.in-Went.ensures.went refl);
     }
 
-pub returns-in-DrumFault-clause-ran : goal.returns-in-DrumFault-clause-ran
-returns-in-DrumFault-clause-ran g c =
-    let i = c.loop-event.invariant in
+pub returns-in_default-clause-drove : goal.returns-in_default-clause-drove
+returns-in_default-clause-drove g c =
+    let i = c.loop-lines.invariant in
+    ran_unshown i.so_far i.none i.start c.in_default.ensures.err
+
+pub returns-in-DrumFault-clause-drove : goal.returns-in-DrumFault-clause-drove
+returns-in-DrumFault-clause-drove g c =
+    let i = c.loop-lines.invariant in
     let e = c.in-One.event in
-    ran_stopped (Fits g.P.Pages.fits g.P.Pages.filed) (plain g.P.Pages.plain) g.D.Drum.held g.S.Source.left g.K.Taker.stands (g.P.Pages.most c.args.machine.now.pages) g.P.Pages.flat c.requires.flat
-    _ _ _ _ _ _ _ _ _ _ c.event.new.self _ c.event.new.drum _ _ e i.so_far (c.in-One.ensures.takes e refl) (c.in-One.ensures.advances e refl) i.none i.start (c.in-DrumFault.ensures.stopped refl)
+    let shown = so_far_shown i.so_far c.hand_on.ensures.skips c.in-Ok.ensures.ok in
+    ran_stopped shown (c.in-One.ensures.takes e refl) (c.in-One.ensures.advances e refl) (c.in-One.ensures.fits e refl).0 i.none i.start (c.in-DrumFault.ensures.stopped refl)
 
-pub returns-in-TakerFault-clause-ran : goal.returns-in-TakerFault-clause-ran
-returns-in-TakerFault-clause-ran g c =
-    let i = c.loop-event.invariant in
+pub returns-in-TakerFault-clause-drove : goal.returns-in-TakerFault-clause-drove
+returns-in-TakerFault-clause-drove g c =
+    let i = c.loop-lines.invariant in
     let e = c.in-One.event in
-    ran_cut (Fits g.P.Pages.fits g.P.Pages.filed) (plain g.P.Pages.plain) g.D.Drum.held g.S.Source.left g.K.Taker.stands (g.P.Pages.most c.args.machine.now.pages) g.P.Pages.flat c.requires.flat
-    _ _ _ _ _ _ _ _ _ _ c.event.new.self _ c.event.new.drum _ _ e i.so_far (c.in-One.ensures.takes e refl) (c.in-One.ensures.advances e refl) i.none i.start g.K.Taker.cut (c.in-TakerFault.ensures.cut refl)
+    let shown = so_far_shown i.so_far c.hand_on.ensures.skips c.in-Ok.ensures.ok in
+    ran_cut shown (c.in-One.ensures.takes e refl) (c.in-One.ensures.advances e refl) (c.in-One.ensures.fits e refl).0 i.none i.start (c.in-TakerFault.ensures.cut refl)
 
-pub returns-in-End-clause-ran : goal.returns-in-End-clause-ran
-returns-in-End-clause-ran g c =
-    let i = c.loop-event.invariant in
-    ran_done (Fits g.P.Pages.fits g.P.Pages.filed) (plain g.P.Pages.plain) g.D.Drum.held g.S.Source.left g.K.Taker.stands (g.P.Pages.most c.args.machine.now.pages) _ _ _ _ _ _ _ _ _ i.so_far i.none i.start (c.in-End.ensures.end refl)
+pub returns-in-End-clause-drove : goal.returns-in-End-clause-drove
+returns-in-End-clause-drove g c =
+    let i = c.loop-lines.invariant in
+    let shown = so_far_shown i.so_far c.hand_on.ensures.skips c.in-Ok.ensures.ok in
+    ran shown Done (λ es ss x. x) (λ is x. x) (λ is x. x) (found_done i.none i.start shown.takes (few_in shown) (c.in-End.ensures.end refl) (c.in-End.ensures.spends refl))
 
-pub returns-in-Bad-clause-ran : goal.returns-in-Bad-clause-ran
-returns-in-Bad-clause-ran g c =
-    let i = c.loop-event.invariant in
-    ran_bad (Fits g.P.Pages.fits g.P.Pages.filed) (plain g.P.Pages.plain) g.D.Drum.held g.S.Source.left g.K.Taker.stands (g.P.Pages.most c.args.machine.now.pages) _ _ _ _ _ _ _ _ _ i.so_far i.none i.start c.in-Bad.number i.no_lines (c.in-Bad.ensures.bad c.in-Bad.number refl)
+pub returns-in-Bad-clause-drove : goal.returns-in-Bad-clause-drove
+returns-in-Bad-clause-drove g c =
+    let i = c.loop-lines.invariant in
+    let n = c.in-Bad.number in
+    let shown = so_far_shown i.so_far c.hand_on.ensures.skips c.in-Ok.ensures.ok in
+    ran shown (Bad n) (λ es ss x. x) (λ is x. x) (λ is x. x) (found_bad i.none i.start shown.takes (few_in shown) c.next.ensures.reads i.no_lines shown.turns (c.in-Bad.ensures.bad n refl))
 
-pub returns-in-ReadFault-clause-ran : goal.returns-in-ReadFault-clause-ran
-returns-in-ReadFault-clause-ran g c =
-    let i = c.loop-event.invariant in
-    ran_unread (Fits g.P.Pages.fits g.P.Pages.filed) (plain g.P.Pages.plain) g.D.Drum.held g.S.Source.left g.K.Taker.stands (g.P.Pages.most c.args.machine.now.pages) _ _ _ _ _ _ _ _ _ i.so_far i.none i.start
+pub returns-in-ReadFault-clause-drove : goal.returns-in-ReadFault-clause-drove
+returns-in-ReadFault-clause-drove g c =
+    let i = c.loop-lines.invariant in
+    let shown = so_far_shown i.so_far c.hand_on.ensures.skips c.in-Ok.ensures.ok in
+    ran shown ReadFault (λ es ss x. x) (λ is x. x) (λ is x. x) (found_unread i.none i.start shown.takes (few_in shown) c.in-ReadFault.ensures.reads)
 
-pub returns-in-Long-clause-ran : goal.returns-in-Long-clause-ran
-returns-in-Long-clause-ran g c =
-    let i = c.loop-event.invariant in
-    ran_long (Fits g.P.Pages.fits g.P.Pages.filed) (plain g.P.Pages.plain) g.D.Drum.held g.S.Source.left g.K.Taker.stands (g.P.Pages.most c.args.machine.now.pages) _ _ _ _ _ _ _ _ _ i.so_far i.none i.start (c.in-Long.ensures.long refl)
+pub returns-in-Long-clause-drove : goal.returns-in-Long-clause-drove
+returns-in-Long-clause-drove g c =
+    let i = c.loop-lines.invariant in
+    let shown = so_far_shown i.so_far c.hand_on.ensures.skips c.in-Ok.ensures.ok in
+    ran shown Long (λ es ss x. x) (λ is x. x) (λ is x. x) (found_long i.none i.start shown.takes (few_in shown) c.next.ensures.reads (c.in-Long.ensures.long refl))
+
+pub returns-in-ReadFault-clause-handed : goal.returns-in-ReadFault-clause-handed
+returns-in-ReadFault-clause-handed g c is =
+    let reads = c.in-ReadFault.ensures.reads in
+    c.in-Ok.ensures.handed (undecided_earlier (given c.hand_on.new.lines) (pending c.hand_on.new.lines) reads.bytes reads.is)

@@ -1,0 +1,204 @@
+-- What the sinks took of a run.
+use Rattle.std.proofs.Common.{◌≡◌, inl, inr, ℕ, ◌-◌, ◌<◌, ◌^◌, List, [], ◌∷◌, ◌++◌, length, Bool, true, Option, None, Some, refl, sym, ◌∙◌, ap, subst, arith}
+use Rattle.std.proofs.lemmas.List.{append-nil}
+use Rattle.outside.specs.Told.{Grows, Stays}
+use Rattle.plain_model.specs.declared.event.Item.{Item}
+use Rattle.plain_model.specs.declared.event.Step.{Step}
+use Rattle.plain_model.specs.State.{PlainState}
+use Rattle.plain_model.specs.Outcome.{DrumWords}
+use Rattle.plain_model.specs.Taker.{GoesOn}
+use Rattle.plain_model.specs.Script.{IsScript}
+use Rattle.plain_model.specs.Texts.{transcript, record_after}
+use Rattle.plain_model.proofs.Named.{opened_fit}
+use Rattle.command_words.specs.declared.sizes.Sizes.{Sizes}
+use Rattle.monitor_core.specs.declared.machine.Machine.{Machine}
+use Rattle.monitor_core.specs.Machines.{Fits, limit, plain}
+use Rattle.texts.specs.declared.writer.Writer.{Writer}
+use Rattle.texts.specs.declared.last.Last.{Last}
+use Rattle.texts.specs.declared.last.Last.TheVariants.{Done as Ended, Stopped}
+use Rattle.texts.specs.declared.last.Status.{Status}
+use Rattle.texts.specs.declared.last.Status.TheVariants.{Script, DrumFault, ReadFault, WriteFault, LongScript}
+use Rattle.texts.specs.Ends.{closing_line, end_line, record_end}
+use Rattle.texts.specs.Wrote.{WrotePartly}
+use Rattle.texts.specs.Writer.{Stands, IsCutWithin, Finishes, FailsAtEnd, Keeps}
+use Rattle.texts.proofs.Starts.{stands_start}
+use Rattle.tenex_console.specs.declared.asked.Unbegun.{Unbegun}
+use Rattle.tenex_console.specs.declared.driver.Driven.{Driven}
+use Rattle.tenex_console.specs.declared.driver.Driven.TheVariants.{Done as WholeScript, Bad, Long, ReadFault as Unread, DrumFault as Unpaged, TakerFault}
+use Rattle.tenex_console.specs.Runs.{RunsTo}
+use Rattle.tenex_console.specs.Driving.{Handed, IsBooted, OpensOver, RanTo}
+use Rattle.tenex_console.specs.Headline.{DrivenTo, Fronts, Headline, Part, Stops, closing, last_after, status_of}
+use Rattle.tenex_console.specs.Observed.{Observed, seen}
+use Rattle.tenex_console.specs.Statuses.{Ran, status_after}
+
+-- what grew by bytes and no more grew by these bytes
+grows_alone : (old new : Option (List ℕ)) (bytes : List ℕ) → Grows old new (bytes ++ []) → Grows old new bytes
+grows_alone old new bytes grows = subst (Grows old new) (append-nil bytes) grows
+
+-- a front of no bytes is none
+front_of_none : (front rest : List ℕ) → front ++ rest ≡ [] → front ≡ []
+front_of_none [] rest is = refl
+front_of_none (c ∷ front) rest is = absurd (omega (arith, ap length is))
+
+-- what took a front of no bytes stays
+stays_partly : (old new : Option (List ℕ)) → WrotePartly old new [] → Stays old new
+stays_partly old new wrote told is =
+    let w = wrote.each told is in
+    w.2 ∙ ap Some (ap (λ b. told ++ b) (front_of_none w.0 w.1 w.3) ∙ append-nil told)
+
+-- what grew by no bytes stays
+stays_grown : (old new : Option (List ℕ)) → Grows old new [] → Stays old new
+stays_grown old new grows told is = grows told is ∙ ap Some (append-nil told)
+
+-- what is so of what a writer refers to is so of its sinks
+pub moved : {T R : Type 0} (P : (o o' : T) → (r r' : R) → Type 0) {o o' p p' : T} {r r' q q' : R} → o ≡ p → o' ≡ p' → r ≡ q → r' ≡ q' → P o o' r r' → P p p' q q'
+moved P {o} {o'} {p} {p'} {r} {r'} {q} {q'} a b c d is = subst (λ x. P p p' q x) d (subst (λ x. P p p' x r') c (subst (λ x. P p x r r') b (subst (λ x. P x o' r r') a is)))
+
+module _ {T R : Type 0} (out_taken : T → Option (List ℕ)) (rec_taken : R → Option (List ℕ)) (w u : Writer T R) (line : w.line ≡ None) (run : w.run ≡ None) where
+  -- a new writer stands for nothing
+  abbrev start : Stands out_taken rec_taken w w [] []
+  start = stands_start out_taken rec_taken w line run
+
+  -- nothing was run, and the line was written
+  pub stopped : (why : Unbegun) (status : Status) → status ≡ status_of why → Finishes out_taken rec_taken (Stopped (status_of why) 0) w u → Stops why (out_taken w.out.now) (out_taken u.out.now) (rec_taken w.rec.now) (rec_taken u.rec.now) status
+  stopped why status is finishes =
+      let ends = finishes.each w [] [] start in
+      inl (is, ends.out, stays_grown (rec_taken w.rec.now) (rec_taken u.rec.now) ends.rec)
+
+  -- nothing was run, and the line was not written
+  pub unstopped : (why : Unbegun) → FailsAtEnd out_taken rec_taken (Stopped (status_of why) 0) w u → Stops why (out_taken w.out.now) (out_taken u.out.now) (rec_taken w.rec.now) (rec_taken u.rec.now) WriteFault
+  unstopped why fails =
+      let ends = fails.each w [] [] start in
+      inr (refl, ends.out, stays_partly (rec_taken w.rec.now) (rec_taken u.rec.now) ends.rec)
+
+-- over pages in memory a booted machine opens whatever the drum tells
+pub opens_booted : {P : Type 0} {b : _} {D : Type 0} (held : D → Option DrumWords) (m : Machine P b) (drum : D) → IsBooted (limit m) m → b.means.flat ≡ true → OpensOver b.means.flat Fits plain held (limit m) m drum []
+opens_booted held m drum booted is_flat = record { stood = inr is_flat; opened = booted.opened [] }
+
+-- the last lines are those of the counts that the drum told
+pub last_told : (driven : Driven) {a b c d a' b' c' d' : ℕ} {last this : Option Last} → a ≡ a' → b ≡ b' → c ≡ c' → d ≡ d' → last ≡ last_after driven (a - b) (c - d) → last ≡ this → last_after driven (a' - b') (c' - d') ≡ this
+last_told driven p q r s is that = sym (λ i. last_after driven (p i - q i) (r i - s i)) ∙ (sym is ∙ that)
+
+-- where there are last lines, the taker was given all
+handed_whole : {K : Type 0} (stands cut : K → K → List Item → List Step → Type 0) (out out' : K) (items : List Item) (entries : List Step) (driven : Driven) (reads writes : ℕ) (last : Last) → last_after driven reads writes ≡ Some last
+    → Handed stands cut out out' driven items entries → GoesOn stands out out' items entries
+handed_whole stands cut out out' items entries WholeScript reads writes last is handed = handed
+handed_whole stands cut out out' items entries (Bad n) reads writes last is handed = handed
+handed_whole stands cut out out' items entries Long reads writes last is handed = handed
+handed_whole stands cut out out' items entries Unread reads writes last is handed = handed
+handed_whole stands cut out out' items entries Unpaged reads writes last is handed = handed
+handed_whole stands cut out out' items entries TakerFault reads writes last is handed = absurd (cc is)
+
+-- A run that began from the opening state, seen through the writer: as it was new, after the driving, and at the end.
+module _ {M S T R D : Type 0} {flat : Bool} {fits : M → DrumWords → Type 0} {plain : M → DrumWords → PlainState} {held : D → Option DrumWords} {limit : ℕ} {m : M} {d : D} {words : DrumWords}
+    (left : S → Option (List ℕ)) (out_taken : T → Option (List ℕ)) (rec_taken : R → Option (List ℕ)) (reads writes : D → ℕ) (s s' : S) (d' : D) (w v u : Writer T R)
+    (opens : OpensOver flat fits plain held limit m d words) (is_flat : flat ≡ true) (line : w.line ≡ None) (run : w.run ≡ None) (sizes : Sizes) (same : sizes.drum ≡ limit) where
+  abbrev told : Observed
+  told = seen left out_taken rec_taken reads writes s s' w.out.now u.out.now w.rec.now u.rec.now d d'
+
+  abbrev Drove : Driven → Type 0
+  Drove driven = RanTo flat fits plain held limit m d (Stands out_taken rec_taken) (IsCutWithin out_taken rec_taken) driven w v (left s) (left s')
+
+  driven_to : (driven : Driven) → Drove driven → DrivenTo driven sizes told
+  driven_to driven ran =
+      let given = ran.told words opens in
+      record {
+        events = ran.events;
+        entries = ran.entries;
+        items = given.items;
+        found = ran.found;
+        run = subst (λ f. RunsTo f sizes.drum driven ran.events ran.entries given.items) is_flat (subst (λ n. RunsTo flat n driven ran.events ran.entries given.items) (sym same) given.run);
+      }
+
+  -- the writer stood for what it was given
+  stood : (driven : Driven) (last : Last) → last_after driven told.reads told.writes ≡ Some last → (ran : Drove driven) → Stands out_taken rec_taken w v (ran.told words opens).items ran.entries
+  stood driven last is ran =
+      let given = ran.told words opens in
+      (handed_whole (Stands out_taken rec_taken) (IsCutWithin out_taken rec_taken) w v given.items ran.entries driven told.reads told.writes last is given.given).each w [] [] ran.few (start out_taken rec_taken w u line run)
+
+  part : (driven : Driven) (status : Status) (n : ℕ) → last_after driven told.reads told.writes ≡ Some (Stopped status n) → Drove driven → Finishes out_taken rec_taken (Stopped status n) v u → Part driven (closing_line status n) sizes told
+  unfolding driven_to
+  part driven status n is ran finishes =
+      let given = ran.told words opens in
+      let ends = finishes.each w given.items ran.entries (stood driven (Stopped status n) is ran) in
+      record {
+        so_far = driven_to driven ran;
+        transcript_is = ends.out;
+        record_is = grows_alone told.rec told.rec_after (record_after None ran.entries) ends.rec;
+      }
+
+  headline : told.reads < 2 ^ 64 → told.writes < 2 ^ 64 → Drove WholeScript → Finishes out_taken rec_taken (Ended told.reads told.writes) v u → Headline sizes told
+  unfolding driven_to
+  headline few_reads few_writes ran finishes =
+      let given = ran.told words opens in
+      let ends = finishes.each w given.items ran.entries (stood WholeScript (Ended told.reads told.writes) refl ran) in
+      let entries = (driven_to WholeScript ran).run in
+      record {
+        events = ran.events;
+        entries = ran.entries;
+        spelled = λ bytes is.
+            let found = ran.found.each bytes is in
+            let all : found.0 ≡ bytes = sym (found.2 ∙ (ap (λ rest. found.0 ++ rest) found.4.1 ∙ append-nil found.0)) in
+            (subst (λ b. IsScript b ran.events) all found.4.0, found.3 ∙ ap Some found.4.1);
+        follows = entries.follows;
+        legal = entries.legal;
+        idle = entries.idle refl;
+        transcript_is = subst (λ items. Grows told.out told.out_after (transcript items)) entries.shown (grows_alone told.out told.out_after (transcript given.items) ends.out);
+        record_is = ends.rec;
+        fits = record { fit = opened_fit sizes.drum ran.events ran.entries ran.fit entries.legal; few = omega (arith, ran.few); few_reads = few_reads; few_writes = few_writes };
+      }
+
+  -- both texts were closed with their last lines
+  ended : (driven : Driven) (last : Last) → last_after driven told.reads told.writes ≡ Some last → told.reads < 2 ^ 64 → told.writes < 2 ^ 64 → Drove driven → Finishes out_taken rec_taken last v u → Ran sizes told (status_after driven)
+  ended WholeScript last is few_reads few_writes ran fin =
+      let this : last ≡ Ended told.reads told.writes = cc is in
+      headline few_reads few_writes ran (subst (λ l. Finishes out_taken rec_taken l v u) this fin)
+  ended (Bad n) last is few_reads few_writes ran fin =
+      let this : last ≡ Stopped Script n = cc is in
+      (n, part (Bad n) Script n refl ran (subst (λ l. Finishes out_taken rec_taken l v u) this fin))
+  ended Long last is few_reads few_writes ran fin =
+      let this : last ≡ Stopped LongScript 0 = cc is in
+      part Long LongScript 0 refl ran (subst (λ l. Finishes out_taken rec_taken l v u) this fin)
+  ended Unread last is few_reads few_writes ran fin =
+      let this : last ≡ Stopped ReadFault 0 = cc is in
+      part Unread ReadFault 0 refl ran (subst (λ l. Finishes out_taken rec_taken l v u) this fin)
+  ended Unpaged last is few_reads few_writes ran fin =
+      let this : last ≡ Stopped DrumFault 0 = cc is in
+      part Unpaged DrumFault 0 refl ran (subst (λ l. Finishes out_taken rec_taken l v u) this fin)
+  ended TakerFault last is few_reads few_writes ran fin = absurd (cc is)
+
+  pub closed : (driven : Driven) (last : Last) (status : Status) → last_after driven told.reads told.writes ≡ Some last → status ≡ status_after driven → told.reads < 2 ^ 64 → told.writes < 2 ^ 64 → Drove driven → Finishes out_taken rec_taken last v u → Ran sizes told status
+  closed driven last status is this few_reads few_writes ran fin = subst (Ran sizes told) (sym this) (ended driven last is few_reads few_writes ran fin)
+
+  -- the texts were to be closed with their last lines, and a sink failed
+  pub unclosed : (driven : Driven) (last : Last) → last_after driven told.reads told.writes ≡ Some last → Drove driven → FailsAtEnd out_taken rec_taken last v u → Fronts sizes told
+  unfolding driven_to
+  unclosed driven last is ran fails =
+      let given = ran.told words opens in
+      let ends = fails.each w given.items ran.entries (stood driven last is ran) in
+      record {
+        driven = driven;
+        so_far = driven_to driven ran;
+        transcript_front = subst (λ l. WrotePartly told.out told.out_after (transcript given.items ++ closing end_line l)) (sym is) ends.out;
+        record_front = subst (λ l. WrotePartly told.rec told.rec_after (record_after None ran.entries ++ closing record_end l)) (sym is) ends.rec;
+      }
+
+  -- the writer failed before the end
+  pub cut_short : (driven : Driven) → last_after driven told.reads told.writes ≡ None → Drove driven → Keeps (IsCutWithin out_taken rec_taken) v u → Fronts sizes told
+  unfolding driven_to
+  cut_short TakerFault is ran keeps =
+      let given = ran.told words opens in
+      let cut = keeps.each w (given.items ++ []) (ran.entries ++ []) (given.given.each w [] [] [] [] ran.few (start out_taken rec_taken w u line run)) in
+      let items : transcript (given.items ++ []) ≡ transcript given.items ++ [] = ap transcript (append-nil given.items) ∙ sym (append-nil (transcript given.items)) in
+      let entries : record_after None (ran.entries ++ []) ≡ record_after None ran.entries ++ [] = ap (record_after None) (append-nil ran.entries) ∙ sym (append-nil (record_after None ran.entries)) in
+      record {
+        driven = TakerFault;
+        so_far = driven_to TakerFault ran;
+        transcript_front = subst (WrotePartly told.out told.out_after) items cut.out;
+        record_front = subst (WrotePartly told.rec told.rec_after) entries cut.rec;
+      }
+  cut_short WholeScript is ran keeps = absurd (cc is)
+  cut_short (Bad n) is ran keeps = absurd (cc is)
+  cut_short Long is ran keeps = absurd (cc is)
+  cut_short Unread is ran keeps = absurd (cc is)
+  cut_short Unpaged is ran keeps = absurd (cc is)

@@ -1,0 +1,145 @@
+-- What a status tells, and where it comes from.
+use Rattle.std.proofs.Common.{◌≡◌, ◌⊎◌, inl, inr, ℕ, List, ◌++◌, Option, Some, refl, sym, ◌∙◌, ap, subst, arith, String}
+use Rattle.std.proofs.lemmas.List.{append-nil}
+use Rattle.outside.specs.Faults.{Rose}
+use Rattle.plain_model.specs.declared.event.Event.{Event}
+use Rattle.plain_model.specs.Script.{IsScript, IsTooLong, StopsAt}
+use Rattle.script_lang.proofs.OnePlace.{script_not_bad, script_not_long, bad_not_too_long}
+use Rattle.command_words.specs.declared.sizes.Sizes.{Sizes}
+use Rattle.texts.specs.declared.last.Status.{Status}
+use Rattle.texts.specs.declared.last.Status.TheVariants.{Done, Usage, Script, DrumFault, Memory, ReadFault, WriteFault, LongScript}
+use Rattle.tenex_console.specs.declared.asked.Unbegun.{Unbegun}
+use Rattle.tenex_console.specs.declared.asked.Unbegun.TheVariants.{Usage as WrongWords, Memory as NoMemory}
+use Rattle.tenex_console.specs.declared.driver.Driven.{Driven}
+use Rattle.tenex_console.specs.declared.driver.Driven.TheVariants.{Done as WholeScript, Bad, Long, ReadFault as Unread, DrumFault as Unpaged, TakerFault}
+use Rattle.tenex_console.specs.Command.{IsRight, IsUsage}
+use Rattle.tenex_console.specs.Driving.{Found, Verdict}
+use Rattle.tenex_console.specs.Headline.{IsTrueOf, Stops}
+use Rattle.tenex_console.specs.Observed.{AreSteady, Faults, IsSteady, Observed}
+use Rattle.tenex_console.specs.Statuses.{IsEarly, IsFaultless, Judges, Ran, RanAsked, Tells, status_after}
+use Rattle.tenex_console.proofs.Asking.{not_usage}
+
+-- what the driving found is what the status tells
+pub judged_by : (script script' : Option (List ℕ)) (driven : Driven) (events : List Event) → Found script script' (Verdict driven events) → (status : Status) → status ≡ status_after driven → (bytes : List ℕ) → script ≡ Some bytes → Judges status bytes
+judged_by script script' driven events found status is bytes told = subst (λ s. Judges s bytes) (sym is) (judges driven found)
+  where
+    judges : (d : Driven) → Found script script' (Verdict d events) → Judges (status_after d) bytes
+    judges WholeScript f =
+        let x = f.each bytes told in
+        let all : x.0 ≡ bytes = sym (x.2 ∙ (ap (λ rest. x.0 ++ rest) x.4.1 ∙ append-nil x.0)) in
+        (events, subst (λ b. IsScript b events) all x.4.0)
+    judges (Bad n) f = let x = f.each bytes told in (n, events, subst (λ b. StopsAt n b events) (sym x.2) x.4)
+    judges Long f = let x = f.each bytes told in (events, subst (λ b. IsTooLong b events) (sym x.2) x.4)
+    judges Unread f = tt
+    judges Unpaged f = tt
+    judges TakerFault f = tt
+
+-- a bad script is never done, and never too long
+pub never_passed : (status : Status) (bytes : List ℕ) (n : ℕ) (es : List Event) → Judges status bytes → StopsAt n bytes es → (status ≡ Done → ⊥) × (status ≡ LongScript → ⊥)
+never_passed status bytes n es judged stops = (
+  λ is. let j = subst (λ s. Judges s bytes) is judged in script_not_bad bytes n j.0 es j.1 stops,
+  λ is. let j = subst (λ s. Judges s bytes) is judged in bad_not_too_long bytes n es j.0 stops j.1,
+)
+
+-- a script that is too long is never done, and never bad
+pub never_short : (status : Status) (bytes : List ℕ) (es : List Event) → Judges status bytes → IsTooLong bytes es → (status ≡ Done → ⊥) × (status ≡ Script → ⊥)
+never_short status bytes es judged long = (
+  λ is. let j = subst (λ s. Judges s bytes) is judged in script_not_long bytes j.0 es j.1 long,
+  λ is. let j = subst (λ s. Judges s bytes) is judged in bad_not_too_long bytes j.0 j.1 es j.2 long,
+)
+
+-- which driving a status comes from
+pub read_only : (d : Driven) → status_after d ≡ ReadFault → d ≡ Unread
+read_only Unread is = refl
+read_only WholeScript is = absurd (cc is)
+read_only (Bad n) is = absurd (cc is)
+read_only Long is = absurd (cc is)
+read_only Unpaged is = absurd (cc is)
+read_only TakerFault is = absurd (cc is)
+
+pub drum_only : (d : Driven) → status_after d ≡ DrumFault → d ≡ Unpaged
+drum_only Unpaged is = refl
+drum_only WholeScript is = absurd (cc is)
+drum_only (Bad n) is = absurd (cc is)
+drum_only Long is = absurd (cc is)
+drum_only Unread is = absurd (cc is)
+drum_only TakerFault is = absurd (cc is)
+
+pub taker_only : (d : Driven) → status_after d ≡ WriteFault → d ≡ TakerFault
+taker_only TakerFault is = refl
+taker_only WholeScript is = absurd (cc is)
+taker_only (Bad n) is = absurd (cc is)
+taker_only Long is = absurd (cc is)
+taker_only Unread is = absurd (cc is)
+taker_only Unpaged is = absurd (cc is)
+
+steady : (before after : ℕ) → IsSteady before after → Rose before after → ⊥
+steady before after s r = absurd (omega (arith, s.0, s.1, r))
+
+-- where no count rose, no fault is told
+pub faultless : (status : Status) (f : Faults) → (status ≡ ReadFault → Rose f.script f.script_after) → (status ≡ WriteFault → Rose f.out f.out_after ⊎ Rose f.rec f.rec_after) → (status ≡ DrumFault → Rose f.drum f.drum_after) → AreSteady f → IsFaultless status
+faultless Done f read write drum all = tt
+faultless Usage f read write drum all = tt
+faultless Script f read write drum all = tt
+faultless DrumFault f read write drum all = steady f.drum f.drum_after all.drum (drum refl)
+faultless Memory f read write drum all = tt
+faultless ReadFault f read write drum all = steady f.script f.script_after all.script (read refl)
+faultless WriteFault f read write drum all = elim (write refl) [ inl x ↦ steady f.out f.out_after all.out x | inr y ↦ steady f.rec f.rec_after all.rec y ]
+faultless LongScript f read write drum all = tt
+
+module _ {Z : Type 0} (words : List (String Z)) (pages : ℕ) where
+  -- a status that tells of no fault, of right words and a right script
+  pub complete_run : (bytes : List ℕ) (status : Status) → (status ≡ Usage → IsUsage words pages) → Judges status bytes → IsRight words pages bytes → IsFaultless status → (status ≡ Done) ⊎ (status ≡ Memory)
+  complete_run bytes Done usage judged right fine = inl refl
+  complete_run bytes Usage usage judged right fine = absurd (not_usage words pages right.sizes right.asked (usage refl))
+  complete_run bytes Script usage judged right fine = absurd (script_not_bad bytes judged.0 right.events judged.1 right.script judged.2)
+  complete_run bytes DrumFault usage judged right fine = absurd fine
+  complete_run bytes Memory usage judged right fine = inr refl
+  complete_run bytes ReadFault usage judged right fine = absurd fine
+  complete_run bytes WriteFault usage judged right fine = absurd fine
+  complete_run bytes LongScript usage judged right fine = absurd (script_not_long bytes right.events judged.0 right.script judged.1)
+
+  module _ (told : Observed) where
+    -- a run that began
+    pub tells_ran : (status : Status) → RanAsked words pages told status → Tells words pages told status
+    tells_ran Done ran = ran
+    tells_ran Usage ran = absurd ran.2
+    tells_ran Script ran = ran
+    tells_ran DrumFault ran = ran
+    tells_ran Memory ran = absurd ran.2
+    tells_ran ReadFault ran = ran
+    tells_ran WriteFault ran = inr ran
+    tells_ran LongScript ran = ran
+
+-- a run that began is not early
+pub late : (sizes : Sizes) (told : Observed) (status : Status) → Ran sizes told status → IsEarly status → ⊥
+late sizes told Usage ran early = ran
+late sizes told Memory ran early = ran
+late sizes told Done ran early = early
+late sizes told Script ran early = early
+late sizes told DrumFault ran early = early
+late sizes told ReadFault ran early = early
+late sizes told WriteFault ran early = early
+late sizes told LongScript ran early = early
+
+module _ {out out' rec rec' : Option (List ℕ)} where
+  -- which statuses there are where nothing was run
+  pub stopped : (P : Status → Type 0) (why : Unbegun) (status : Status) → Stops why out out' rec rec' status → P Usage → P Memory → P WriteFault → P status
+  stopped P WrongWords status (inl is) usage memory fault = subst P (sym is.0) usage
+  stopped P NoMemory status (inl is) usage memory fault = subst P (sym is.0) memory
+  stopped P why status (inr is) usage memory fault = subst P (sym is.0) fault
+
+  module _ {Z : Type 0} (words : List (String Z)) (pages : ℕ) where
+    pub usage_true : (why : Unbegun) (status : Status) → Stops why out out' rec rec' status → IsTrueOf words pages why → status ≡ Usage → IsUsage words pages
+    usage_true WrongWords status stops right is = right
+    usage_true NoMemory status (inl this) right is = absurd (cc (this.0, is))
+    usage_true NoMemory status (inr this) right is = absurd (cc (this.0, is))
+
+    pub tells_stopped : (script : Option (List ℕ)) (reads writes : ℕ) (why : Unbegun) (status : Status) → Stops why out out' rec rec' status → IsTrueOf words pages why
+        → Tells words pages (record { script = script; script_after = script; out = out; out_after = out'; rec = rec; rec_after = rec'; reads = reads; writes = writes }) status
+    tells_stopped script reads writes why status (inr this) right =
+        subst (Tells words pages _) (sym this.0) (inl (record { why = why; is_true = right; unread = λ xs h. h; transcript_front = this.1; record_stays = this.2 }))
+    tells_stopped script reads writes WrongWords status (inl this) right =
+        subst (Tells words pages _) (sym this.0) (record { unread = λ xs h. h; transcript_is = this.1; record_stays = this.2 })
+    tells_stopped script reads writes NoMemory status (inl this) right =
+        subst (Tells words pages _) (sym this.0) (record { unread = λ xs h. h; transcript_is = this.1; record_stays = this.2 })

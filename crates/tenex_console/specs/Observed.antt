@@ -1,0 +1,85 @@
+-- What is told of the outside before and after a run.
+use Rattle.std.specs.Prelude.{◌≡◌, ◌⊎◌, ℕ, ◌-◌, ◌<◌, ◌≤◌, List, Option}
+use Rattle.outside.specs.Faults.{Rose}
+use Rattle.texts.specs.declared.last.Status.{Status}
+use Rattle.texts.specs.declared.last.Status.TheVariants.{WriteFault}
+
+-- the bytes that are left of the script and those that both sinks have taken, where they are told, before and after;
+-- and how often the drum was read and written in between
+pub record Observed : Type 0 where
+  pub script : Option (List ℕ)
+  pub script_after : Option (List ℕ)
+  pub out : Option (List ℕ)
+  pub out_after : Option (List ℕ)
+  pub rec : Option (List ℕ)
+  pub rec_after : Option (List ℕ)
+  pub reads : ℕ
+  pub writes : ℕ
+
+-- the counts of faults before and after
+pub record Faults : Type 0 where
+  pub script : ℕ
+  pub script_after : ℕ
+  pub out : ℕ
+  pub out_after : ℕ
+  pub rec : ℕ
+  pub rec_after : ℕ
+  pub drum : ℕ
+  pub drum_after : ℕ
+
+module _ {S T R D : Type 0} where
+  -- what a source, two sinks and a drum tell before and after
+  abbrev pub seen : (S → Option (List ℕ)) → (T → Option (List ℕ)) → (R → Option (List ℕ)) → (reads writes : D → ℕ)
+      → (script script' : S) → (out out' : T) → (rec rec' : R) → (drum drum' : D) → Observed
+  seen left out_taken rec_taken reads writes script script' out out' rec rec' drum drum' = record {
+    script = left script;
+    script_after = left script';
+    out = out_taken out;
+    out_after = out_taken out';
+    rec = rec_taken rec;
+    rec_after = rec_taken rec';
+    reads = reads drum' - reads drum;
+    writes = writes drum' - writes drum;
+  }
+
+  -- the counts of faults of a source, two sinks and a drum before and after
+  abbrev pub faults : (S → ℕ) → (T → ℕ) → (R → ℕ) → (D → ℕ) → (script script' : S) → (out out' : T) → (rec rec' : R) → (drum drum' : D) → Faults
+  faults of_script of_out of_rec of_drum script script' out out' rec rec' drum drum' = record {
+    script = of_script script;
+    script_after = of_script script';
+    out = of_out out;
+    out_after = of_out out';
+    rec = of_rec rec;
+    rec_after = of_rec rec';
+    drum = of_drum drum;
+    drum_after = of_drum drum';
+  }
+
+-- the last value of a count of faults
+abbrev pub last_count : ℕ
+last_count = 18446744073709551615
+
+-- a count hasn't risen, and doesn't stand at its last value
+abbrev pub IsSteady : ℕ → ℕ → Type 0
+IsSteady before after = (after ≡ before) × (before < last_count)
+
+-- no count has risen, and none stands at its last value
+pub record AreSteady (f : Faults) : Type 0 where
+  pub script : IsSteady f.script f.script_after
+  pub out : IsSteady f.out f.out_after
+  pub rec : IsSteady f.rec f.rec_after
+  pub drum : IsSteady f.drum f.drum_after
+
+-- no count has fallen
+pub record NoneFell (f : Faults) : Type 0 where
+  pub script : f.script ≤ f.script_after
+  pub out : f.out ≤ f.out_after
+  pub rec : f.rec ≤ f.rec_after
+  pub drum : f.drum ≤ f.drum_after
+
+-- each sink has handed on all that it took, or its count of faults rose; and without a write fault both have
+pub record HandedOn {T R : Type 0} (out_handed : T → Type 0) (rec_handed : R → Type 0) (out_faults : T → ℕ) (rec_faults : R → ℕ) (out out' : T) (rec rec' : R) (status : Status) : Type 0 where
+  pub out_tried : out_handed out' ⊎ Rose (out_faults out) (out_faults out')
+  pub rec_tried : rec_handed rec' ⊎ Rose (rec_faults rec) (rec_faults rec')
+  pub out_all : (status ≡ WriteFault → ⊥) → out_handed out'
+  pub rec_all : (status ≡ WriteFault → ⊥) → rec_handed rec'
