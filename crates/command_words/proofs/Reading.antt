@@ -16,7 +16,7 @@ use Rattle.clap.specs.Simple.{built, filled}
 use Rattle.clap.specs.Kinds.{or_else}
 use Rattle.clap.specs.Faults.{check_fault, default_fault, defaults_fault, entered_fault, walk_fault}
 use Rattle.command_words.specs.Words.{AsksFor, AsksForDrum, AsksForFrames, IsRunBy, IsRunOf, Setting, Size, Text, apart, drum_size, frames_size, given, joined, listed, option_name, words_of}
-use Rattle.command_words.specs.Parser.{found_values, is_other, is_run_of, option_rule, run_app}
+use Rattle.command_words.specs.Parser.{AsksForSizes, found_values, is_other, is_run_of, option_rule, run_app}
 use Rattle.command_words.specs.declared.sizes.Sizes.{Sizes}
 use Rattle.command_words.proofs.Looks.{differ}
 use Rattle.command_words.proofs.Steps.{between, or_else-first, or_else-second, rules, top}
@@ -150,25 +150,24 @@ one_pair words s t (xs, run) (ys, other) =
 
 -- what is found of one that is right, where it asks for sizes or for none
 asked : (words : List Text) → is_run_of words ≡ true → fault_of run_app words ≡ [] → (found : Found) → rows_of found ≡ matches_of run_app words
-    → (s : Sizes) → AsksForFrames (found_values found frames_size) s.frames → AsksForDrum (found_values found drum_size) s.drum → IsRunOf words s
-asked words run right found is s frames drum =
+    → (s : Sizes) → AsksForSizes found s → IsRunOf words s
+asked words run right found is s asks =
     let settings = read words run right in
     let same : (size : Size) → found_values found size ≡ given size settings.0 = λ size. ap listed (first_value-rows found (option_name size) ∙ ap (first_of (option_name size)) is) ∙ settings.2 size in
-    (settings.0, (settings.1, subst (λ v. AsksForFrames v s.frames) (same frames_size) frames, subst (λ v. AsksForDrum v s.drum) (same drum_size) drum))
+    (settings.0, (settings.1, subst (λ v. AsksForFrames v s.frames) (same frames_size) asks.0, subst (λ v. AsksForDrum v s.drum) (same drum_size) asks.1))
 
 not_asked : (words : List Text) (found : Found) → rows_of found ≡ matches_of run_app words
-    → ((f d : ℕ) → AsksForFrames (found_values found frames_size) f → AsksForDrum (found_values found drum_size) d → ⊥) → (s : Sizes) → IsRunOf words s → ⊥
+    → ((s : Sizes) → AsksForSizes found s → ⊥) → (s : Sizes) → IsRunOf words s → ⊥
 not_asked words found is none s (settings, run) =
     let a = clean settings words s run in
     let same : (size : Size) → given size settings ≡ found_values found size = λ size. sym (ap listed (first_value-rows found (option_name size) ∙ ap (first_of (option_name size)) is) ∙ a.values size) in
-    none s.frames s.drum (subst (λ v. AsksForFrames v s.frames) (same frames_size) run.1) (subst (λ v. AsksForDrum v s.drum) (same drum_size) run.2)
+    none s (subst (λ v. AsksForFrames v s.frames) (same frames_size) run.1, subst (λ v. AsksForDrum v s.drum) (same drum_size) run.2)
 
 pub answer : (words : List Text) → is_run_of words ≡ true → fault_of run_app words ≡ [] → (found : Found) → rows_of found ≡ matches_of run_app words → (r : Option Sizes)
-    → MatchOption r ((f d : ℕ) → AsksForFrames (found_values found frames_size) f → AsksForDrum (found_values found drum_size) d → ⊥)
-    (λ s. AsksForFrames (found_values found frames_size) s.frames × AsksForDrum (found_values found drum_size) s.drum)
+    → MatchOption r ((s : Sizes) → AsksForSizes found s → ⊥) (λ s. AsksForSizes found s)
     → MatchOption r ((s : Sizes) → IsRunOf words s → ⊥) (IsRunOf words)
 answer words run right found is None none = not_asked words found is none
-answer words run right found is (Some s) h = asked words run right found is s h.0 h.1
+answer words run right found is (Some s) h = asked words run right found is s h
 
 -- a run is of words that begin with `run` and have no `--`, and nothing is wrong with them
 pub run_begins : (words : List Text) (s : Sizes) → IsRunOf words s → is_run_of words ≡ true

@@ -7,8 +7,9 @@ use Rattle.clap.specs.Words.{App, Rule, first_value, new_app, new_rule, with_rul
 use Rattle.clap.specs.Simple.{on_top}
 use Rattle.clap.specs.declared.builder.action.ArgAction.TheVariants.{Set}
 use Rattle.clap.specs.declared.parser.matches.Found.{Found}
-use Rattle.command_words.specs.Words.{AsksFor, Size, Text, frames_size, drum_size, listed, option_name}
+use Rattle.command_words.specs.Words.{AsksFor, AsksForDrum, AsksForFrames, Size, Text, frames_size, drum_size, listed, option_name}
 use Rattle.command_words.specs.declared.sizes.Range.{Range}
+use Rattle.command_words.specs.declared.sizes.Sizes.{Sizes}
 
 -- `--name` with one value
 abbrev pub rule_named : Text → Rule
@@ -34,6 +35,10 @@ is_run_of (name ∷ rest) = bytes_eq name (codes "run") && list_all is_other (na
 -- the values of an option, as `clap` has them
 abbrev pub found_values : Found → Size → List Text
 found_values found size = listed (first_value found (option_name size))
+
+-- the values of both options, as `clap` has them, ask for the sizes
+abbrev pub AsksForSizes : Found → Sizes → Type 0
+AsksForSizes found s = AsksForFrames (found_values found frames_size) s.frames × AsksForDrum (found_values found drum_size) s.drum
 
 -- the number that a value, if there is one, asks for in a range
 abbrev pub AsksIn : Range → Option (Bor Text) → ℕ → Type 0

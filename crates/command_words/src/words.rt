@@ -1,8 +1,8 @@
 // What the words ask for.
 ghost use Rattle.std.specs.Prelude.{◌≡◌, false, ℕ, List, map, string_bytes, IfOk, MatchOption};
 ghost use Rattle.clap.specs.Words.{FailsBy, fault_of, found_of, matches_of, rows_of, rule_of};
-ghost use Rattle.command_words.specs.Parser.{found_values, is_run_of, rule_named, run_app};
-ghost use Rattle.command_words.specs.Words.{AsksForDrum, AsksForFrames, IsRun, IsRunOf, Text, drum_size, frames_size};
+ghost use Rattle.command_words.specs.Parser.{AsksForSizes, is_run_of, rule_named, run_app};
+ghost use Rattle.command_words.specs.Words.{IsRun, IsRunOf, Text};
 ghost use Rattle.command_words.specs.declared.sizes.Sizes.{Sizes as TheSizes};
 
 use crate::sizes::{DRUM, FRAMES, Sizes, size_of};
@@ -69,7 +69,7 @@ fn option<'a>(alloc: Global, name: &'a str) -> Arg<'a>
 
 // The sizes that the values of the options ask for.
 fn sizes_of(matches: &ArgMatches<'_>) -> Option<Sizes>
-    ensures { MatchOption result ((f d : ℕ) → AsksForFrames (found_values (found_of matches.now) frames_size) f → AsksForDrum (found_values (found_of matches.now) drum_size) d → ⊥) (λ s. AsksForFrames (found_values (found_of matches.now) frames_size) s.frames × AsksForDrum (found_values (found_of matches.now) drum_size) s.drum) }
+    ensures { let found = found_of matches.now in MatchOption result ((s : TheSizes) → AsksForSizes found s → ⊥) (λ s. AsksForSizes found s) }
 {
     let frames = size_of(matches.get_str("frames"), &FRAMES)?;
     let drum = size_of(matches.get_str("drum"), &DRUM)?;
