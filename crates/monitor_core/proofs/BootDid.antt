@@ -1,5 +1,5 @@
 -- A system with nothing in it.
-use Rattle.std.proofs.Common.{◌≤◌, ◌≡◌, ℕ, zero, suc, ◌+◌, ◌*◌, ◌<◌, List, length, get_or, true, false, Option, None, Some, refl, sym, ◌∙◌, ap, arith, replicate, slice_index}
+use Rattle.std.proofs.Common.{◌≤◌, ◌≡◌, ℕ, zero, suc, ◌+◌, ◌<◌, List, length, get_or, true, false, Option, None, Some, refl, sym, ◌∙◌, ap, arith, replicate, slice_index}
 use Rattle.std.proofs.lemmas.List.{length-replicate}
 use Rattle.std.specs.declared.cmp.Ordering.{Ordering}
 use Rattle.std.specs.Ordering.{nat_cmp}
@@ -13,7 +13,7 @@ use Rattle.monitor_core.specs.declared.job.Job.{Job}
 use Rattle.monitor_core.specs.declared.system.System.{System}
 use Rattle.monitor_core.specs.Jobs.{map_from, plain_job, no_jobs, job_at, jobs_of, forks_of}
 use Rattle.monitor_core.specs.Sound.{AreSound}
-use Rattle.monitor_core.specs.Systems.{state_of, FitsPages, IsWithin, most_makings}
+use Rattle.monitor_core.specs.Systems.{state_of, FitsPages, IsWithin}
 use Rattle.monitor_core.proofs.Unfiled.{named}
 
 -- a table with no entry is the empty map

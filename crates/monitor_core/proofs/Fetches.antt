@@ -1,11 +1,10 @@
 -- What a fetch finds, by what the touch of its page answers.
-use Rattle.std.proofs.Common.{◌≡◌, ℕ, ◌<◌, ◌≤◌, ◌%◌, Bool, true, false, cond, refl, sym, ◌∙◌, ap, arith, nat_lt, slice_index}
+use Rattle.std.proofs.Common.{◌≡◌, ℕ, ◌<◌, ◌≤◌, ◌%◌, true, false, cond, refl, sym, ◌∙◌, ap, arith, nat_lt, slice_index}
 use Rattle.std.proofs.lemmas.Bool.Decides.{nat_tests}
 use Rattle.std.specs.Ordering.{nat_cmp}
 use Rattle.outside.specs.declared.TheConstants.{PAGE_WORDS}
 use Rattle.plain_model.specs.declared.names.TheConstants.{ACCUMULATORS}
 use Rattle.plain_model.specs.declared.channel.TheConstants.{DENIED_EXECUTE, DRUM_FULL}
-use Rattle.plain_model.specs.declared.names.Tty.{Tty}
 use Rattle.plain_model.specs.declared.names.Slot.{Slot}
 use Rattle.plain_model.specs.declared.names.Kind.{Kind}
 use Rattle.plain_model.specs.declared.names.Kind.TheVariants.{Execute}
@@ -14,7 +13,7 @@ use Rattle.plain_model.specs.declared.map.Touch.TheVariants.{Ready, Zero, Denied
 use Rattle.plain_model.specs.declared.fork.Fork.{Fork}
 use Rattle.plain_model.specs.State.{NumberedPages}
 use Rattle.plain_model.specs.References.{Referred, granted, denied, full, in_map, reference, word_at, blank}
-use Rattle.plain_model.specs.Unit.{Fetched as PlainFetched, word, stops, fetched, fetched_by}
+use Rattle.plain_model.specs.Unit.{word, stops, fetched, fetched_by}
 use Rattle.plain_model.specs.References.{slot_at}
 use Rattle.plain_model.specs.Steps.{denied_channel}
 use Rattle.plain_model.specs.Pages.{Scene, touch_of}

@@ -1,8 +1,8 @@
 -- Items and steps that are given in pieces.
-use Rattle.std.proofs.Common.{◌≡◌, ℕ, ◌<◌, ◌≤◌, ◌+◌, List, [], ◌∷◌, ◌++◌, length, take, drop, get_or, sym, ◌∙◌, ap, arith, take-append-drop}
+use Rattle.std.proofs.Common.{◌≡◌, ℕ, ◌<◌, ◌+◌, List, [], ◌∷◌, ◌++◌, length, take, drop, get_or, sym, ◌∙◌, ap, arith, take-append-drop}
 use Rattle.std.specs.Prelude.{Result, Ok, Err, OnErr, codes}
 use Rattle.std.specs.Result.{IsErr}
-use Rattle.std.proofs.lemmas.List.{map-append, take_more, drop_more}
+use Rattle.std.proofs.lemmas.List.{map-append, drop_more}
 use Rattle.std.proofs.lemmas.Result.{on_ok_weaker, on_err_weaker}
 use Rattle.plain_model.specs.declared.character.TheConstants.{CARRIAGE_RETURN, LINE_FEED, PROMPT}
 use Rattle.plain_model.specs.declared.names.Tty.{Tty}
@@ -22,9 +22,6 @@ forced_end = CARRIAGE_RETURN ∷ LINE_FEED ∷ PROMPT ∷ []
 
 pub printed_append : (t : Tty) (xs ys : List ℕ) → printed t (xs ++ ys) ≡ printed t xs ++ printed t ys
 printed_append t xs ys = map-append (Char t) xs ys
-
-pub printed_more : (t : Tty) (text : List ℕ) (i : ℕ) → i < length text → printed t (take (i + 1) text) ≡ printed t (take i text) ++ Char t (get_or text i 0) ∷ []
-printed_more t text i h = ap (printed t) (take_more text i 0 h) ∙ printed_append t (take i text) (get_or text i 0 ∷ [])
 
 pub printed_split : (t : Tty) (text : List ℕ) (i : ℕ) → i < length text → printed t text ≡ printed t (take i text) ++ (Char t (get_or text i 0) ∷ printed t (drop (i + 1) text))
 printed_split t text i h = ap (printed t) (sym (take-append-drop i text)) ∙ printed_append t (take i text) (drop i text) ∙ ap (λ l. printed t (take i text) ++ printed t l) (drop_more text i 0 h)
@@ -51,10 +48,6 @@ module _ {T X E : Type 0} (fault_count : T → ℕ) (onward : T → T → Type 0
   taker_failed a b e r f = record { later = f.later; cause = on_err r f.cause; goes_on = f.goes_on }
 
 module _ {T X E : Type 0} (stands cut : T → T → List Item → List Step → Type 0) where
-  -- all was taken
-  pub takes_all : (a b : T) (x : X) (items : List Item) (steps : List Step) → GoesOn stands a b items steps → Takes {X = X} {E = E} stands cut a b (Ok x) items steps
-  takes_all a b x items steps went = record { ok = went; err = tt }
-
   -- a failure within what was given
   pub takes_part : (a b : T) (r : Result X E) (items more : List Item) (steps rest : List Step) → IsErr r → IsCut stands cut a b items steps → Takes stands cut a b r (items ++ more) (steps ++ rest)
   takes_part a b (Ok x) items more steps rest fails failed = absurd (cc fails)

@@ -1,14 +1,14 @@
 -- An event of a terminal's job, as the event of the plain machine.
-use Rattle.std.proofs.Common.{◌≡◌, ◌⊎◌, inl, inr, ℕ, ◌+◌, ◌*◌, ◌<◌, ◌≤◌, ◌%◌, ◌^◌, [], ◌∷◌, List, get_or, set, map, Bool, true, false, cond, Option, None, Some, refl, sym, ◌∙◌, ap, subst, arith, nat_lt, slice_index, slice_set, ◌==◌}
+use Rattle.std.proofs.Common.{◌≡◌, inl, inr, ℕ, ◌+◌, ◌*◌, ◌<◌, ◌≤◌, ◌%◌, [], ◌∷◌, List, get_or, set, map, cond, Option, None, Some, refl, sym, ◌∙◌, ap, subst, arith, nat_lt, slice_set}
 use Rattle.std.specs.Prelude.{Result, Ok, Err, OnErr, IfErr}
 use Rattle.std.proofs.lemmas.Bool.{cases_eq, eq-eqb, ne_eqb}
 use Rattle.std.proofs.lemmas.List.{set-get_or}
 use Rattle.std.specs.Ordering.{nat_cmp}
 use Rattle.std.specs.Cmp.{nat_cmp_total}
-use Rattle.std.specs.Option.{option_map, option_map_or}
+use Rattle.std.specs.Option.{option_map_or}
 use Rattle.std.specs.FinMap as fin
 use Rattle.outside.specs.declared.TheConstants.{PAGE_WORDS}
-use Rattle.plain_model.specs.declared.names.TheConstants.{TERMINALS, ACCUMULATORS}
+use Rattle.plain_model.specs.declared.names.TheConstants.{ACCUMULATORS}
 use Rattle.plain_model.specs.declared.names.Tty.{Tty}
 use Rattle.plain_model.specs.declared.names.ForkName.{ForkName}
 use Rattle.plain_model.specs.declared.names.Slot.{Slot}
@@ -30,7 +30,7 @@ use Rattle.plain_model.specs.References.{Referred, granted, denied, full, in_map
 use Rattle.plain_model.specs.Forks.{with_fork, change_fork, fork_line, forks_by_slot}
 use Rattle.plain_model.specs.Unit.{Effect}
 use Rattle.plain_model.specs.References.{slot_at}
-use Rattle.plain_model.specs.Events.{refused, at_job, poked, with_accumulator, restarted, word_seen, outer}
+use Rattle.plain_model.specs.Events.{refused, poked, with_accumulator, restarted, word_seen, outer}
 use Rattle.plain_model.proofs.Equations.{apply_outer, outer_poke, outer_start, outer_examine, outer_forks}
 use Rattle.plain_model.proofs.Refiled.{refiled_result}
 use Rattle.plain_model.specs.Orders.{name_cmp}
@@ -46,12 +46,12 @@ use Rattle.monitor_core.specs.Looking.{word_in, examined_in, item_of}
 use Rattle.monitor_core.specs.Replies.{reply_items, FitsReply}
 use Rattle.monitor_core.specs.Sound.{IsJob}
 use Rattle.monitor_core.specs.Systems.{state_of, FitsPages, IsWithin, Did, most_makings}
-use Rattle.monitor_core.specs.Writing.{write_of, left_by, IsReadied, IsWritten, Makes, with_word}
+use Rattle.monitor_core.specs.Writing.{write_of, left_by, IsWritten, Makes, with_word}
 use Rattle.monitor_core.proofs.Fetches.{below, not_below}
 use Rattle.monitor_core.proofs.Lookups.{job_found, job_missing, fork_found, fork_missing}
 use Rattle.monitor_core.proofs.Making.{stored_files, reference_files}
 use Rattle.monitor_core.proofs.Sounds.{split_at, job_worded}
-use Rattle.monitor_core.proofs.Systems.{owns, state_set, units_set, within_later}
+use Rattle.monitor_core.proofs.Systems.{owns, state_set, units_set}
 use Rattle.monitor_core.proofs.Unfiled.{named, reference_named}
 use Rattle.monitor_core.proofs.UnitEffect.{job_stays}
 

@@ -12,7 +12,7 @@ use Rattle.plain_model.specs.declared.names.Kind.{Kind}
 use Rattle.plain_model.specs.State.{PlainPages}
 use Rattle.plain_model.specs.Maps.{Chain, chain, entry_at, permits}
 use Rattle.plain_model.specs.Room.{HasRoom}
-use Rattle.plain_model.specs.References.{Spot, in_map, Making, blank, copy, blanks, copies, along_chain, private_access, makings, make, make_all, page_at, words_of, word_at, zero_words, Referred, granted, denied, full, reference, stored}
+use Rattle.plain_model.specs.References.{Spot, in_map, Making, blank, copy, blanks, copies, along_chain, private_access, makings, make, make_all, page_at, words_of, word_at, zero_words, granted, denied, full, reference, stored}
 use Rattle.plain_model.proofs.Settles.{FirstOf, is_blank, is_copy, first_of_chain, copy_files, makings_settled}
 use Rattle.plain_model.proofs.Touches.{roomy, reference_makes, reference_denied}
 

@@ -1,6 +1,5 @@
 -- Room for a fork with an empty map.
-use Rattle.std.proofs.Common.{◌≡◌, ℕ, zero, suc, ◌+◌, ◌≤◌, ◌<◌, Bool, true, false, cond, is_some, Option, None, replicate, refl, sym, ◌∙◌, ap, arith, nat_lt, nat_le, Ordering}
-use Rattle.std.specs.List.{sum_by}
+use Rattle.std.proofs.Common.{◌≡◌, ℕ, zero, suc, ◌+◌, ◌≤◌, ◌<◌, true, false, cond, is_some, Option, None, replicate, refl, sym, ◌∙◌, ap, arith, nat_lt, nat_le, Ordering}
 use Rattle.std.specs.Option.{option_map_or}
 use Rattle.std.proofs.lemmas.Bool.Decides.{nat_tests}
 use Rattle.std.specs.FinMap as fin

@@ -1,15 +1,14 @@
 -- Steps of a machine, given to a taker.
-use Rattle.std.proofs.Common.{◌≡◌, ℕ, ◌+◌, ◌<◌, ◌≤◌, ◌∷◌, ◌++◌, List, [], length, Bool, true, false, Option, inr, refl, sym, ◌∙◌, ap, subst, arith, length-append}
+use Rattle.std.proofs.Common.{◌≡◌, ℕ, ◌+◌, ◌<◌, ◌∷◌, ◌++◌, List, [], Bool, true, refl, sym, ◌∙◌, subst, arith, length-append}
 use Rattle.std.specs.Prelude.{Result, Ok, Err, OnOk, OnErr}
 use Rattle.std.proofs.lemmas.List.{append-nil}
-use Rattle.std.proofs.lemmas.Result.{on_ok_weaker, on_err_weaker}
 use Rattle.plain_model.specs.declared.event.Event.{Event}
-use Rattle.plain_model.specs.declared.event.Event.TheVariants.{Run, Evict, Drum, Auto}
+use Rattle.plain_model.specs.declared.event.Event.TheVariants.{Run, Auto}
 use Rattle.plain_model.specs.declared.event.Item.{Item}
 use Rattle.plain_model.specs.declared.event.Step.{Step}
 use Rattle.plain_model.specs.declared.event.Step.TheVariants.{Outer, Unit as AUnit, Idle}
 use Rattle.plain_model.specs.State.{PlainState}
-use Rattle.plain_model.specs.Outcome.{DrumWords, Stands, Gave, GaveCut, Went, CutOff, judged_by}
+use Rattle.plain_model.specs.Outcome.{DrumWords, Gave}
 use Rattle.plain_model.specs.Taker.{GoesOn, IsCut}
 use Rattle.plain_model.specs.Run.{apply, shape_of, single, FollowsOne, FollowsShape, Begins, BeginsShape, auto_after}
 use Rattle.plain_model.proofs.Runs.{onward_nil, AreTurns-append, gave_none, gave_append, gave_cut}
@@ -19,7 +18,7 @@ use Rattle.monitor_core.specs.declared.reply.Reply.TheVariants.{Nothing, One, Pr
 use Rattle.monitor_core.specs.declared.shown.Shown.TheVariants.{Nothing as ShowsNothing, Code, LineEnd, Halted, Forced}
 use Rattle.monitor_core.specs.Acts.{event_of, Given, Cut, Acted}
 use Rattle.monitor_core.specs.Giving.{StaysTaker, Takes}
-use Rattle.monitor_core.specs.Machines.{Fits, plain, limit, done, auto, is_live}
+use Rattle.monitor_core.specs.Machines.{Fits, plain, done, auto, is_live}
 use Rattle.monitor_core.specs.Replies.{reply_items, is_silent}
 use Rattle.monitor_core.specs.Systems.{CanDo, Did, FitsPages, state_of}
 use Rattle.monitor_core.proofs.Runnable.{is_legal}
@@ -92,26 +91,6 @@ module _ {P : Type 0} {b : _} {T : Type 0} (fault_count : T → ℕ) (onward : T
         each = λ d f. record { legal = (is_legal m.system d step can, tt); given = subst (λ is. IsCut stands cut out out' is (step ∷ [])) (its_items d f) (takes d).err };
       }
 
-  -- what a machine that differs in other parts does
-  pub acted_as : {X E : Type 0} (m n m' : Machine P b) (out out' : T) (r : Result X E) (e : Event) → n.system ≡ m.system → n.done ≡ m.done → n.auto ≡ m.auto → n.live ≡ m.live → Acted fault_count onward stands cut n m' out out' r e → Acted fault_count onward stands cut m m' out out' r e
-  acted_as {X} {E} m n m' out out' r e same count mark live acted = record {
-    taker = acted.taker;
-    ok = on_ok_weaker r (λ (given : Given stands n m' out out' e). record {
-      steps = given.steps;
-      follows = given.follows;
-      count = omega (arith, given.count, count);
-      each = λ d f. let new = given.each d (subst (λ s. FitsPages s d) (sym same) f) in (new.0, subst (λ s. Gave stands out out' true (state_of s d) (plain m' d) given.steps) same new.1);
-    }) acted.ok;
-    err = on_err_weaker r (λ (failed : Cut stands cut n out out' e). record {
-      steps = failed.steps;
-      begins = failed.begins;
-      each = λ d f. subst (λ s. GaveCut stands cut out out' true (state_of s d) failed.steps) same (failed.each d (subst (λ s. FitsPages s d) (sym same) f));
-    }) acted.err;
-    mark = acted.mark ∙ ap (λ a. auto_after a e) mark;
-    live = acted.live ∙ live;
-    most = acted.most ∙ ap (λ s. b.means.most s.pages) same;
-  }
-
   -- an event without an entry
   pub nothing_given : (m m' : Machine P b) (out : T) (e : Event) → FollowsOne e [] → m'.system ≡ m.system → m'.done ≡ m.done → Given stands m m' out out e
   nothing_given m m' out e follows same count = record {
@@ -151,33 +130,3 @@ module _ {P : Type 0} {b : _} {T : Type 0} (fault_count : T → ℕ) (onward : T
       begins = (omega (arith, length-append so_far.steps turn.steps, so_far.follows.0, turn.begins.0, below), AreTurns-append so_far.steps turn.steps so_far.follows.1 turn.begins.1);
       each = λ d f. let x = so_far.each d f in gave_cut stands cut true a c out (plain m d) (plain n d) so_far.steps turn.steps x.1 (turn.each d x.0);
     }
-
--- over pages in memory alone idle entries are judged as under AUTO ON
-judged : (flat mark : Bool) → flat ≡ true → true ≡ judged_by flat mark
-judged true mark is = refl
-judged false mark is = absurd (cc is)
-
-module _ {P : Type 0} {b : _} {D T : Type 0} (held : D → Option DrumWords) (stands cut : T → T → List Item → List Step → Type 0) (m : Machine P b) (drum drum' : D) (out out' : T) (mark : Bool) (e : Event) (flat : b.means.flat ≡ true) where
-  -- the event went, and is counted
-  pub went_as : (n m' : Machine P b) → Given stands m n out out' e → m'.system ≡ n.system → done m' ≡ done n + 1 → Went b.means.flat Fits plain held stands m m' drum drum' out out' mark e (done m) (done m')
-  went_as n m' given same count = record {
-    steps = given.steps;
-    follows = given.follows;
-    count = omega (arith, given.count, count);
-    told = record {
-      each = λ d told f.
-          let new = given.each d f in (
-            d,
-            inr flat,
-            subst (λ s. FitsPages s d) (sym same) new.0,
-            subst (λ j. Gave stands out out' j (plain m d) (plain m' d) given.steps) (judged b.means.flat mark flat) (subst (λ s. Gave stands out out' true (plain m d) (state_of s d) given.steps) (sym same) new.1),
-          );
-    };
-  }
-
-  pub cut_as : Cut stands cut m out out' e → CutOff b.means.flat Fits plain held stands cut m drum out out' mark e
-  cut_as failed = record {
-    steps = failed.steps;
-    begins = failed.begins;
-    told = record { each = λ d told f. subst (λ j. GaveCut stands cut out out' j (plain m d) failed.steps) (judged b.means.flat mark flat) (failed.each d f) };
-  }

@@ -1,14 +1,13 @@
 -- Steps of a system, as steps of the plain machine.
-use Rattle.std.proofs.Common.{◌≡◌, ℕ, ◌+◌, ◌*◌, ◌<◌, ◌≤◌, List, [], length, set, Bool, Option, None, Some, refl, sym, ◌∙◌, ap, subst, arith, get_or-set_same, get_or-set_other, inl, inr}
+use Rattle.std.proofs.Common.{◌≡◌, ℕ, ◌+◌, ◌<◌, ◌≤◌, length, set, None, Some, sym, ◌∙◌, ap, subst, arith, get_or-set_same, get_or-set_other, inl, inr}
 use Rattle.std.proofs.lemmas.Bool.{cases_eq}
 use Rattle.std.specs.FinMap as fin
-use Rattle.plain_model.specs.declared.names.Tty.{Tty}
 use Rattle.plain_model.specs.Outcome.{DrumWords}
 use Rattle.monitor_core.specs.declared.job.Job.{Job}
 use Rattle.monitor_core.specs.declared.system.System.{System}
 use Rattle.monitor_core.specs.Holding.{Holds}
 use Rattle.monitor_core.specs.Jobs.{jobs_of, forks_of, job_at, plain_job}
-use Rattle.monitor_core.specs.Systems.{state_of, FitsPages, IsWithin, most_makings}
+use Rattle.monitor_core.specs.Systems.{state_of, IsWithin}
 use Rattle.monitor_core.proofs.Lookups.{OwnForks, jobs_set, forks_set}
 use Rattle.monitor_core.proofs.ForksShown.{FirstSlots}
 use Rattle.monitor_core.proofs.Unfiled.{named}

@@ -1,6 +1,5 @@
 -- The pages of a state without files, as a system's pages know them by numbers.
-use Rattle.std.proofs.Common.{◌≡◌, ℕ, ◌≤◌, ◌<◌, ◌%◌, ◌+◌, Bool, true, false, cond, Option, None, Some, List, [], ◌∷◌, refl, sym, ◌∙◌, ap, arith, nat_lt, nat_le, slice_index}
-use Rattle.std.specs.Prelude.{Result, Ok, Err, OnErr}
+use Rattle.std.proofs.Common.{◌≡◌, ℕ, ◌%◌, Bool, true, false, cond, refl, sym, ◌∙◌, ap, nat_lt, slice_index}
 use Rattle.std.specs.Ordering.{nat_cmp}
 use Rattle.std.specs.List.{sum_by}
 use Rattle.std.specs.FinMap as fin
@@ -8,16 +7,14 @@ use Rattle.outside.specs.declared.TheConstants.{PAGE_WORDS}
 use Rattle.plain_model.specs.declared.names.TheConstants.{ACCUMULATORS}
 use Rattle.plain_model.specs.declared.names.Tty.{Tty}
 use Rattle.plain_model.specs.declared.names.Slot.{Slot}
-use Rattle.plain_model.specs.declared.names.PageName.{PageName}
 use Rattle.plain_model.specs.declared.names.Kind.{Kind}
 use Rattle.plain_model.specs.declared.names.Kind.TheVariants.{Execute}
 use Rattle.plain_model.specs.declared.fork.Fork.{Fork}
 use Rattle.plain_model.specs.Orders.{name_cmp, file_page_cmp}
 use Rattle.plain_model.specs.State.{NumberedPages, NamedPages, refiled}
-use Rattle.plain_model.specs.References.{Referred, granted, denied, full, in_map, reference, page_at, word_at}
+use Rattle.plain_model.specs.References.{Referred, granted, denied, full, in_map, reference, page_at}
 use Rattle.plain_model.specs.Unit.{Fetched as PlainFetched, word, stops, fetched, fetched_by}
 use Rattle.plain_model.specs.References.{slot_at}
-use Rattle.plain_model.specs.Steps.{denied_channel}
 use Rattle.plain_model.proofs.Whole.{tally, no_values}
 use Rattle.plain_model.proofs.Refiled.{NameAlike, refiled_result, reference_refiled}
 use Rattle.monitor_core.specs.declared.fetch.Fetched.{Fetched}

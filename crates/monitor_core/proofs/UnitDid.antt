@@ -1,5 +1,5 @@
 -- A unit of a system, as the unit of the plain machine.
-use Rattle.std.proofs.Common.{◌≡◌, ℕ, ◌+◌, ◌<◌, [], ◌∷◌, ◌++◌, List, get_or, set, false, Option, Some, refl, sym, ◌∙◌, ap, subst, arith}
+use Rattle.std.proofs.Common.{◌≡◌, ℕ, ◌<◌, List, get_or, set, false, Option, Some, refl, sym, ◌∙◌, ap, subst, arith}
 use Rattle.std.specs.FinMap as fin
 use Rattle.plain_model.specs.declared.names.TheConstants.{TERMINALS}
 use Rattle.plain_model.specs.declared.names.ForkName.{ForkName}
@@ -18,7 +18,7 @@ use Rattle.monitor_core.specs.JobUnit.{job_fetched}
 use Rattle.monitor_core.specs.Jobs.{jobs_of, job_at, plain_job}
 use Rattle.monitor_core.specs.Sound.{IsJob}
 use Rattle.monitor_core.specs.Shown.{FitsShown, shown_items}
-use Rattle.monitor_core.specs.Systems.{CanRun, state_of, FitsPages, Did}
+use Rattle.monitor_core.specs.Systems.{CanRun, state_of, Did}
 use Rattle.monitor_core.proofs.Lookups.{job_found, fork_found}
 use Rattle.monitor_core.proofs.Sounds.{fetch_keeps, job_read, job_runs}
 use Rattle.monitor_core.proofs.Systems.{owns, state_set, units_set}

@@ -1,5 +1,5 @@
 -- The unit of the plain machine, as far as it concerns one job.
-use Rattle.std.proofs.Common.{◌≡◌, ℕ, ◌%◌, ◌∷◌, List, [], length, Bool, true, false, cond, None, Some, refl, sym, ◌∙◌, ap, subst, ◌==◌, ◌<◌, ◌^◌, slice_index, is_some, inl, inr, rules}
+use Rattle.std.proofs.Common.{◌≡◌, ℕ, ◌%◌, ◌∷◌, [], length, Bool, true, false, cond, None, Some, refl, sym, ◌∙◌, ap, subst, ◌==◌, ◌<◌, ◌^◌, slice_index, is_some, inl, inr, rules}
 use Rattle.std.proofs.lemmas.Bool.{cases_eq}
 use Rattle.std.specs.Cmp.{nat_cmp_total}
 use Rattle.std.specs.Ordering.{nat_cmp}

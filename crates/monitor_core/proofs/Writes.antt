@@ -1,19 +1,18 @@
 -- A slot that is made ready to write, by what its touch answers, and a word that is put there.
-use Rattle.std.proofs.Common.{◌≡◌, ◌⊎◌, inl, inr, ℕ, Bool, true, false, Option, Some, refl, sym, ◌∙◌, ap, subst, ◌∷◌, [], List}
+use Rattle.std.proofs.Common.{◌≡◌, inl, inr, ℕ, Bool, true, false, Some, refl, sym, ◌∙◌, ap, subst, ◌∷◌, [], List}
 use Rattle.std.specs.Prelude.{Result, Ok, Err}
 use Rattle.std.specs.Result.{IsErrAnd}
 use Rattle.std.specs.Ordering.{nat_cmp}
 use Rattle.std.specs.Cmp.{nat_cmp_total}
 use Rattle.plain_model.specs.declared.names.Slot.{Slot}
-use Rattle.plain_model.specs.declared.names.Access.{Access}
 use Rattle.plain_model.specs.declared.names.Kind.{Kind}
 use Rattle.plain_model.specs.declared.names.Kind.TheVariants.{Write}
 use Rattle.plain_model.specs.declared.map.Touch.{Touch}
-use Rattle.plain_model.specs.declared.map.Touch.TheVariants.{Ready, Zero, Copy, NeedFrame, Denied, Full}
+use Rattle.plain_model.specs.declared.map.Touch.TheVariants.{Ready, Zero, Copy, Denied, Full}
 use Rattle.plain_model.specs.declared.event.Refusal.{Refusal}
 use Rattle.plain_model.specs.declared.event.Refusal.TheVariants.{Denied as ADenied, Full as AFull}
 use Rattle.plain_model.specs.State.{NumberedPages}
-use Rattle.plain_model.specs.References.{in_map, Making, blank, copy, makings, make, Referred, granted, denied, full, reference, settled}
+use Rattle.plain_model.specs.References.{in_map, Making, blank, copy, makings, make, Referred, granted, reference, settled}
 use Rattle.plain_model.specs.Pages.{Scene, touch_of, SettlesTo, is_in_core}
 use Rattle.plain_model.proofs.Touches.{reference_stays, reference_settled, settled_makes, ready_touch, zero_touch, copy_touch, denied_touch, full_touch}
 use Rattle.plain_model.proofs.Settles.{makings_settled}

@@ -1,5 +1,5 @@
 -- What is at an address of a fork.
-use Rattle.std.specs.Prelude.{◌≡◌, ℕ, ◌%◌, List, [], ◌∷◌, Option, None, Some, Result, Ok, Err, nat_lt, if◌then◌else◌, ◌==◌, slice_index}
+use Rattle.std.specs.Prelude.{ℕ, ◌%◌, Option, Some, Result, Ok, Err, nat_lt, if◌then◌else◌, ◌==◌, slice_index}
 use Rattle.std.specs.Option.{option_map, option_map_or}
 use Rattle.outside.specs.declared.TheConstants.{PAGE_WORDS}
 use Rattle.plain_model.specs.declared.names.TheConstants.{ACCUMULATORS}

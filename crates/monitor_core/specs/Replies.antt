@@ -1,5 +1,5 @@
 -- What a step shows, as items.
-use Rattle.std.specs.Prelude.{◌≡◌, ℕ, List, [], ◌∷◌, map, Bool, true, false, Option, IsSome, Result, Ok, Err}
+use Rattle.std.specs.Prelude.{List, [], ◌∷◌, map, Bool, true, false, Option, IsSome, Result, Ok, Err}
 use Rattle.plain_model.specs.declared.event.Item.{Item}
 use Rattle.plain_model.specs.declared.event.Item.TheVariants.{ForkLine, Refusal}
 use Rattle.plain_model.specs.declared.event.Refusal.{Refusal as Cause}

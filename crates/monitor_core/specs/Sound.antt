@@ -1,5 +1,5 @@
 -- What is always true of a system's tables, over any drum.
-use Rattle.std.specs.Prelude.{◌≡◌, ℕ, ◌+◌, ◌<◌, ◌≤◌, ◌^◌, List, length, Bool, true, false, Option, None, Some, slice_index}
+use Rattle.std.specs.Prelude.{◌≡◌, ℕ, ◌+◌, ◌<◌, ◌≤◌, ◌^◌, List, length, true, false, Option, None, Some, slice_index}
 use Rattle.plain_model.specs.declared.names.TheConstants.{TERMINALS, LAST_SERIAL, ACCUMULATORS}
 use Rattle.plain_model.specs.declared.names.Tty.{Tty}
 use Rattle.plain_model.specs.declared.fork.ForkStatus.{ForkStatus}

@@ -5,12 +5,12 @@ pub returns-in-Is : goal.returns-in-Is
 returns-in-Is g c = record {
   told = λ d f.
       word_found _ c.in-Is.word (looks (g.P.Pages.means.plain c.args.pages.now d) (g.P.Pages.means.scene c.args.pages.now) c.args.fork.now c.args.address c.if-address-lt-ACCUMULATORS.false
-          c.slot_at.result c.offset_in_page.result _ c.slot_at.ensures.slot c.offset_in_page.ensures.offset (λ home e. cc e) (c.in-Is.ensures.told d f));
+      c.slot_at.result c.offset_in_page.result _ c.slot_at.ensures.slot c.offset_in_page.ensures.offset (λ home e. cc e) (c.in-Is.ensures.told d f));
 }
 
 pub returns-in-NoPage : goal.returns-in-NoPage
 returns-in-NoPage g c = record {
   told = λ d f.
       none_found _ (looks (g.P.Pages.means.plain c.args.pages.now d) (g.P.Pages.means.scene c.args.pages.now) c.args.fork.now c.args.address c.if-address-lt-ACCUMULATORS.false
-          c.slot_at.result c.offset_in_page.result _ c.slot_at.ensures.slot c.offset_in_page.ensures.offset (λ home e. cc e) (c.in-NoPage.ensures.told d f));
+      c.slot_at.result c.offset_in_page.result _ c.slot_at.ensures.slot c.offset_in_page.ensures.offset (λ home e. cc e) (c.in-NoPage.ensures.told d f));
 }

@@ -1,4 +1,4 @@
-use Rattle.std.proofs.Common.{◌≤◌, sym, ◌∙◌, subst, ap, arith}
+use Rattle.std.proofs.Common.{sym, ◌∙◌, subst, ap, arith}
 use Rattle.monitor_core.proofs.BootDid.{within_boot, booted}
 use Rattle.monitor_core.proofs.machine.Machine.boot.Goals as goal
 

@@ -1,4 +1,4 @@
-use Rattle.std.proofs.Common.{[], ◌∷◌, refl, sym, ap, subst, arith}
+use Rattle.std.proofs.Common.{[], ◌∷◌, refl, sym, subst, arith}
 use Rattle.std.proofs.lemmas.List.{append-nil}
 use Rattle.monitor_core.specs.Giving.{Takes}
 use Rattle.monitor_core.specs.Replies.{reply_items}
@@ -34,9 +34,9 @@ returns-in_err-give g c =
     step_acted g.T.Taker.fault_count g.T.Taker.onward g.T.Taker.stands g.T.Taker.cut c.args.self.now _ c.args.out.now c.give.new.out c.from_residual.result c.args.step c.apply-reply.result c.requires.can c.apply-reply.ensures
     (taker_failed g.T.Taker.fault_count g.T.Taker.onward c.args.out.now c.give.new.out _ c.from_residual.result c.in_err-give.ensures.taker)
     (λ d.
-        let items = reply_items (state_of c.apply-reply.new.self d) c.apply-reply.result in
-        subst (λ is. Takes g.T.Taker.stands g.T.Taker.cut c.args.out.now c.give.new.out c.from_residual.result is (c.args.step ∷ [])) (append-nil items)
-        (takes_part g.T.Taker.stands g.T.Taker.cut c.args.out.now c.give.new.out c.from_residual.result items [] [] (c.args.step ∷ []) c.from_residual.ensures.0 (c.in_err-give.ensures.given d).err))
+    let items = reply_items (state_of c.apply-reply.new.self d) c.apply-reply.result in
+    subst (λ is. Takes g.T.Taker.stands g.T.Taker.cut c.args.out.now c.give.new.out c.from_residual.result is (c.args.step ∷ [])) (append-nil items)
+    (takes_part g.T.Taker.stands g.T.Taker.cut c.args.out.now c.give.new.out c.from_residual.result items [] [] (c.args.step ∷ []) c.from_residual.ensures.0 (c.in_err-give.ensures.given d).err))
     refl refl refl
 
 pub returns : goal.returns
@@ -44,7 +44,7 @@ returns g c =
     step_acted g.T.Taker.fault_count g.T.Taker.onward g.T.Taker.stands g.T.Taker.cut c.args.self.now _ c.args.out.now c.step-2.new.self c.step-2.result c.args.step c.apply-reply.result c.requires.can c.apply-reply.ensures
     (taker_then g.T.Taker.fault_count g.T.Taker.onward c.args.out.now c.give.new.out c.step-2.new.self c.give.result c.step-2.result c.give.ensures.taker (record { later = c.step-2.ensures.later; cause = c.step-2.ensures.cause; goes_on = c.step-2.ensures.onward }))
     (λ d.
-        let items = reply_items (state_of c.apply-reply.new.self d) c.apply-reply.result in
-        subst (λ is. Takes g.T.Taker.stands g.T.Taker.cut c.args.out.now c.step-2.new.self c.step-2.result is (c.args.step ∷ [])) (append-nil items)
-        (takes_then g.T.Taker.stands g.T.Taker.cut c.args.out.now c.give.new.out c.step-2.new.self c.step-2.result items [] [] (c.args.step ∷ []) (c.in_ok-give.ensures.given d).ok (record { ok = c.step-2.ensures.ok; err = c.step-2.ensures.err })))
+    let items = reply_items (state_of c.apply-reply.new.self d) c.apply-reply.result in
+    subst (λ is. Takes g.T.Taker.stands g.T.Taker.cut c.args.out.now c.step-2.new.self c.step-2.result is (c.args.step ∷ [])) (append-nil items)
+    (takes_then g.T.Taker.stands g.T.Taker.cut c.args.out.now c.give.new.out c.step-2.new.self c.step-2.result items [] [] (c.args.step ∷ []) (c.in_ok-give.ensures.given d).ok (record { ok = c.step-2.ensures.ok; err = c.step-2.ensures.err })))
     refl refl refl

@@ -1,4 +1,4 @@
-use Rattle.std.proofs.Common.{refl, sym, subst, arith}
+use Rattle.std.proofs.Common.{refl, arith}
 use Rattle.plain_model.specs.declared.names.ForkName.{ForkName}
 use Rattle.monitor_core.proofs.Sounds.{sound_begun}
 use Rattle.monitor_core.proofs.EventDid.{did_login}

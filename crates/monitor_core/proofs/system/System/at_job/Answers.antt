@@ -1,4 +1,4 @@
-use Rattle.std.proofs.Common.{◌≡◌, Some, refl, sym, ◌∙◌, ap, subst, arith}
+use Rattle.std.proofs.Common.{Some, refl, sym, ◌∙◌, ap, subst, arith}
 use Rattle.std.specs.Option.{IsSome}
 use Rattle.monitor_core.specs.declared.reply.Reply.TheVariants.{One}
 use Rattle.monitor_core.specs.JobEvents.{FitsJobEvent}

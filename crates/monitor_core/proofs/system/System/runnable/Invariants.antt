@@ -1,4 +1,4 @@
-use Rattle.std.proofs.Common.{ℕ, ◌<◌, ◌≤◌, ◌≡◌}
+use Rattle.std.proofs.Common.{◌<◌, ◌≤◌}
 use Rattle.plain_model.specs.declared.names.ForkName.{ForkName}
 use Rattle.monitor_core.specs.Systems.{CanRun}
 use Rattle.monitor_core.proofs.system.System.runnable.Given as goal

@@ -1,4 +1,4 @@
-use Rattle.std.proofs.Common.{◌<◌, set, Some, ◌∙◌, ap, refl, arith}
+use Rattle.std.proofs.Common.{set, Some, ◌∙◌, ap, refl, arith}
 use Rattle.monitor_core.proofs.Sounds.{fetch_keeps, sound_job}
 use Rattle.monitor_core.proofs.Systems.{holds_top}
 use Rattle.monitor_core.proofs.UnitDid.{did_unit, can_run_named, job_ran, ran_job}
