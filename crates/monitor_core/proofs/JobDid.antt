@@ -46,7 +46,7 @@ use Rattle.monitor_core.specs.Looking.{word_in, examined_in, item_of}
 use Rattle.monitor_core.specs.Replies.{reply_items, FitsReply}
 use Rattle.monitor_core.specs.Sound.{IsJob}
 use Rattle.monitor_core.specs.Systems.{state_of, FitsPages, IsWithin, Did, most_makings}
-use Rattle.monitor_core.specs.Writing.{write_of, left_by, IsWritten, Makes, with_word}
+use Rattle.monitor_core.specs.Writing.{write_of, left_by, IsWritten, Makes, Writes, with_word}
 use Rattle.monitor_core.proofs.Fetches.{below, not_below}
 use Rattle.monitor_core.proofs.Lookups.{job_found, job_missing, fork_found, fork_missing}
 use Rattle.monitor_core.proofs.Making.{stored_files, reference_files}
@@ -243,7 +243,7 @@ module _ {P : Type 0} {b : _} (m m' : System P b) (t : Tty) (e : JobEvent) (j : 
 
     pub did_poke : (address word : ℕ) (result : Result (Unit {0}) Cause) (reply : Reply) → e ≡ ToPoke address word → poke_reply result ≡ reply → IfErr result FitsCause
         → (address < ACCUMULATORS → (result ≡ Ok tt) × (k ≡ with_word j address word) × (m'.pages ≡ m.pages))
-        → (ACCUMULATORS ≤ address → (k ≡ j) × ((d : DrumWords) → b.means.fits m.pages d → b.means.fits m'.pages d × IsWritten (b.means.plain m.pages d) (b.means.plain m'.pages d) (slot_at j.top.name address) (address % PAGE_WORDS) word result))
+        → (ACCUMULATORS ≤ address → (k ≡ j) × Writes b.means m.pages m'.pages (slot_at j.top.name address) (address % PAGE_WORDS) word result)
         → Makes b.means m.pages m'.pages j.top.name.tty 2 → Did m m' (Outer (event_at t e)) reply
     did_poke address word result reply is shows fits low high made =
         subst (λ x. Did m m' (Outer (event_at t x)) reply) (sym is) (subst (Did m m' (Outer (event_at t (ToPoke address word)))) shows (record {
@@ -257,7 +257,7 @@ module _ {P : Type 0} {b : _} (m m' : System P b) (t : Tty) (e : JobEvent) (j : 
                 )
             | inr above ↦
                 let done = high above in
-                let wrote = done.1 d f.pages in
+                let wrote = done.1.each d f.pages in
                 let effect = apply_outer (state_of m d) (event_at t (ToPoke address word)) ∙ poked_high address word d result f above done.0 wrote.1 in (
                   record { pages = wrote.0; unfiled = written_files result wrote.1 ∙ f.unfiled },
                   ap (λ x. x.state) (sym effect),

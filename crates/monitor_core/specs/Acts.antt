@@ -2,14 +2,13 @@
 use Rattle.std.specs.Prelude.{◌≡◌, ℕ, ◌+◌, List, length, true, Result, OnOk, OnErr}
 use Rattle.plain_model.specs.declared.event.Event.{Event}
 use Rattle.plain_model.specs.declared.event.Event.TheVariants.{Run}
-use Rattle.plain_model.specs.declared.event.Item.{Item}
 use Rattle.plain_model.specs.declared.event.Step.{Step}
 use Rattle.plain_model.specs.declared.event.Step.TheVariants.{Outer, Unit as AUnit, Idle}
 use Rattle.plain_model.specs.Outcome.{DrumWords, Gave, GaveCut}
 use Rattle.plain_model.specs.Run.{FollowsOne, Begins, auto_after}
 use Rattle.monitor_core.specs.declared.machine.Machine.{Machine}
 use Rattle.monitor_core.specs.Machines.{Fits, plain, limit, done, auto, is_live}
-use Rattle.monitor_core.specs.Giving.{StaysTaker}
+use Rattle.monitor_core.specs.Giving.{Standing, StaysTaker}
 
 -- the event of which a step is an entry: itself, or a RUN of one turn
 abbrev pub event_of : Step → Event
@@ -17,25 +16,24 @@ event_of (Outer e) = e
 event_of (AUnit f) = Run 1
 event_of Idle = Run 1
 
-module _ {P : Type 0} {b : _} {T : Type 0} where
-  -- the event's steps were given, and lead from the old plain state to the new one, with no idle entry where a fork can run
-  pub record Given (stands : T → T → List Item → List Step → Type 0) (m m' : Machine P b) (out out' : T) (event : Event) : Type 0 where
-    pub steps : List Step
-    pub follows : FollowsOne event steps
-    pub count : done m' ≡ done m + length steps
-    pub each : (d : DrumWords) → Fits m d → Fits m' d × Gave stands out out' true (plain m d) (plain m' d) steps
+-- the event's steps were given, and lead from the old plain state to the new one, with no idle entry where a fork can run
+pub record Given {P : Type 0} {b : _} {T : Type 0} (stands : Standing T) (m m' : Machine P b) (out out' : T) (event : Event) : Type 0 where
+  pub steps : List Step
+  pub follows : FollowsOne event steps
+  pub count : done m' ≡ done m + length steps
+  pub each : (d : DrumWords) → Fits m d → Fits m' d × Gave stands out out' true (plain m d) (plain m' d) steps
 
-  -- the taker failed within steps with which the event's may begin
-  pub record Cut (stands cut : T → T → List Item → List Step → Type 0) (m : Machine P b) (out out' : T) (event : Event) : Type 0 where
-    pub steps : List Step
-    pub begins : Begins event steps
-    pub each : (d : DrumWords) → Fits m d → GaveCut stands cut out out' true (plain m d) steps
+-- the taker failed within steps with which the event's may begin
+pub record Cut {P : Type 0} {b : _} {T : Type 0} (stands cut : Standing T) (m : Machine P b) (out out' : T) (event : Event) : Type 0 where
+  pub steps : List Step
+  pub begins : Begins event steps
+  pub each : (d : DrumWords) → Fits m d → GaveCut stands cut out out' true (plain m d) steps
 
-  -- the machine acted on an event: its steps were given, or the taker failed
-  pub record Acted {X E : Type 0} (fault_count : T → ℕ) (onward : T → T → Type 0) (stands cut : T → T → List Item → List Step → Type 0) (m m' : Machine P b) (out out' : T) (result : Result X E) (event : Event) : Type 0 where
-    pub taker : StaysTaker fault_count onward out out' result
-    pub ok : OnOk result (Given stands m m' out out' event)
-    pub err : OnErr result (Cut stands cut m out out' event)
-    pub mark : auto m' ≡ auto_after (auto m) event
-    pub live : is_live m' ≡ is_live m
-    pub most : limit m' ≡ limit m
+-- the machine acted on an event: its steps were given, or the taker failed
+pub record Acted {P : Type 0} {b : _} {T X E : Type 0} (fault_count : T → ℕ) (onward : T → T → Type 0) (stands cut : Standing T) (m m' : Machine P b) (out out' : T) (result : Result X E) (event : Event) : Type 0 where
+  pub taker : StaysTaker fault_count onward out out' result
+  pub ok : OnOk result (Given stands m m' out out' event)
+  pub err : OnErr result (Cut stands cut m out out' event)
+  pub mark : auto m' ≡ auto_after (auto m) event
+  pub live : is_live m' ≡ is_live m
+  pub most : limit m' ≡ limit m

@@ -6,6 +6,10 @@ use Rattle.plain_model.specs.declared.event.Step.{Step}
 use Rattle.plain_model.specs.Outcome.{DrumWords}
 use Rattle.plain_model.specs.Taker.{GoesOn, IsCut, StaysOnward}
 
+-- since the first, a taker stands for these items and steps, or is cut within them
+abbrev pub Standing : Type 0 → Type 1
+Standing T = T → T → List Item → List Step → Type 0
+
 -- its count of faults is no lower, and higher where it failed; and it is still the taker that it was
 pub record StaysTaker {T X E : Type 0} (fault_count : T → ℕ) (onward : T → T → Type 0) (old new : T) (result : Result X E) : Type 0 where
   pub later : fault_count old ≤ fault_count new
@@ -13,11 +17,11 @@ pub record StaysTaker {T X E : Type 0} (fault_count : T → ℕ) (onward : T →
   pub goes_on : StaysOnward onward old new
 
 -- it took these items and steps, or is cut within them
-pub record Takes {T X E : Type 0} (stands cut : T → T → List Item → List Step → Type 0) (old new : T) (result : Result X E) (items : List Item) (steps : List Step) : Type 0 where
+pub record Takes {T X E : Type 0} (stands cut : Standing T) (old new : T) (result : Result X E) (items : List Item) (steps : List Step) : Type 0 where
   pub ok : OnOk result (GoesOn stands old new items steps)
   pub err : OnErr result (IsCut stands cut old new items steps)
 
 -- it took these items, over whatever drum they are told, or is cut within them
-pub record TookItems {T X E : Type 0} (fault_count : T → ℕ) (onward : T → T → Type 0) (stands cut : T → T → List Item → List Step → Type 0) (old new : T) (result : Result X E) (items : DrumWords → List Item) : Type 0 where
+pub record TookItems {T X E : Type 0} (fault_count : T → ℕ) (onward : T → T → Type 0) (stands cut : Standing T) (old new : T) (result : Result X E) (items : DrumWords → List Item) : Type 0 where
   pub taker : StaysTaker fault_count onward old new result
   pub given : (d : DrumWords) → Takes stands cut old new result (items d) []

@@ -29,40 +29,39 @@ pub record CanRun (jobs : List (Option Job)) (f : ForkName) : Type 0 where
 abbrev pub most_makings : ℕ
 most_makings = 128
 
-module _ {P : Type 0} {b : _} where
-  -- the plain state over the words of a drum; nothing shows its units or has a file yet
-  abbrev pub state_of : System P b → DrumWords → PlainState
-  state_of m d = record {
-    pages = refiled name_cmp (b.means.plain m.pages d) map.empty;
-    files = map.empty;
-    jobs = jobs_of m.jobs.items;
-    forks = forks_of m.jobs.items;
-    fork_serials = m.fork_serials.items;
-    clock = m.clock;
-    trace = false;
-  }
+-- the plain state over the words of a drum; nothing shows its units or has a file yet
+abbrev pub state_of : {P : Type 0} {b : _} → System P b → DrumWords → PlainState
+state_of {P} {b} m d = record {
+  pages = refiled name_cmp (b.means.plain m.pages d) map.empty;
+  files = map.empty;
+  jobs = jobs_of m.jobs.items;
+  forks = forks_of m.jobs.items;
+  fork_serials = m.fork_serials.items;
+  clock = m.clock;
+  trace = false;
+}
 
-  -- the words of a drum fit the system's pages, and no file has a page
-  pub record FitsPages (m : System P b) (d : DrumWords) : Type 0 where
-    pub pages : b.means.fits m.pages d
-    pub unfiled : (b.means.plain m.pages d).files ≡ map.empty
+-- the words of a drum fit the system's pages, and no file has a page
+pub record FitsPages {P : Type 0} {b : _} (m : System P b) (d : DrumWords) : Type 0 where
+  pub pages : b.means.fits m.pages d
+  pub unfiled : (b.means.plain m.pages d).files ≡ map.empty
 
-  -- its counts are no higher than so many entries let them be
-  pub record IsWithin (m : System P b) (entries : ℕ) : Type 0 where
-    pub ticks : m.clock ≤ entries
-    pub units : (t : ℕ) (j : Job) → job_at m.jobs.items t ≡ Some j → j.top.body.units ≤ entries
-    pub serials : (t : Tty) → b.means.serial m.pages t ≤ most_makings * entries + 1
+-- its counts are no higher than so many entries let them be
+pub record IsWithin {P : Type 0} {b : _} (m : System P b) (entries : ℕ) : Type 0 where
+  pub ticks : m.clock ≤ entries
+  pub units : (t : ℕ) (j : Job) → job_at m.jobs.items t ≡ Some j → j.top.body.units ≤ entries
+  pub serials : (t : Tty) → b.means.serial m.pages t ≤ most_makings * entries + 1
 
-  -- what a step asks: an event that is built and is one entry, within its limits; a fork that can run; or that none can
-  abbrev pub CanDo : System P b → Step → Type 0
-  CanDo m (Outer e) = FitsStep (Outer e) × IsBuilt e
-  CanDo m (AUnit f) = CanRun m.jobs.items f
-  CanDo m Idle = (f : ForkName) → CanRun m.jobs.items f → ⊥
+-- what a step asks: an event that is built and is one entry, within its limits; a fork that can run; or that none can
+abbrev pub CanDo : {P : Type 0} {b : _} → System P b → Step → Type 0
+CanDo m (Outer e) = FitsStep (Outer e) × IsBuilt e
+CanDo m (AUnit f) = CanRun m.jobs.items f
+CanDo m Idle = (f : ForkName) → CanRun m.jobs.items f → ⊥
 
-  -- a step is done: over each drum that fits, the system stands for the state that the step leaves, and the reply is what it shows
-  pub record Did (old new : System P b) (step : Step) (reply : Reply) : Type 0 where
-    pub each : (d : DrumWords) → FitsPages old d
-        → FitsPages new d × (state_of new d ≡ (apply (state_of old d) step).state) × (reply_items (state_of new d) reply ≡ (apply (state_of old d) step).items)
-    pub shown : FitsReply new.jobs.items reply
-    pub within : (entries : ℕ) → IsWithin old entries → IsWithin new (entries + 1)
-    pub most : b.means.most new.pages ≡ b.means.most old.pages
+-- a step is done: over each drum that fits, the system stands for the state that the step leaves, and the reply is what it shows
+pub record Did {P : Type 0} {b : _} (old new : System P b) (step : Step) (reply : Reply) : Type 0 where
+  pub each : (d : DrumWords) → FitsPages old d
+      → FitsPages new d × (state_of new d ≡ (apply (state_of old d) step).state) × (reply_items (state_of new d) reply ≡ (apply (state_of old d) step).items)
+  pub shown : FitsReply new.jobs.items reply
+  pub within : (entries : ℕ) → IsWithin old entries → IsWithin new (entries + 1)
+  pub most : b.means.most new.pages ≡ b.means.most old.pages

@@ -9,6 +9,7 @@ use Rattle.plain_model.specs.declared.event.Refusal.TheVariants.{Denied, Full}
 use Rattle.plain_model.specs.State.{NumberedPages}
 use Rattle.plain_model.specs.Events.{with_accumulator}
 use Rattle.plain_model.specs.References.{Referred, granted, denied, full, in_map, reference, stored}
+use Rattle.plain_model.specs.Outcome.{DrumWords}
 use Rattle.plain_model.specs.Pages.{PagesMeaning}
 use Rattle.monitor_core.specs.declared.job.Job.{Job}
 
@@ -34,6 +35,10 @@ pub record IsWritten {X : Type 0} (p q : NumberedPages) (s : Slot) (offset word 
   pub readied : IsReadied p ready s result
   pub store : (done : X) → result ≡ Ok done → q ≡ stored ready (in_map s) offset word
   pub stays : OnErr result (q ≡ p)
+
+-- the same over each drum that fits
+pub record Writes {P X : Type 0} (means : PagesMeaning P) (old new : P) (s : Slot) (offset word : ℕ) (result : Result X Refusal) : Type 0 where
+  pub each : (d : DrumWords) → means.fits old d → means.fits new d × IsWritten (means.plain old d) (means.plain new d) s offset word result
 
 -- pages were made for an owner, so many at most: the forks that live are the same, and so are the next serials of other owners
 pub record Makes {P : Type 0} (means : PagesMeaning P) (old new : P) (owner : Tty) (count : ℕ) : Type 0 where

@@ -13,7 +13,7 @@ ghost use Rattle.monitor_core.specs.JobUnit.{job_fetched};
 ghost use Rattle.monitor_core.specs.Jobs.{no_jobs};
 ghost use Rattle.monitor_core.specs.Looking.{examined_in, item_of, top_line};
 ghost use Rattle.monitor_core.specs.Shown.{FitsShown};
-ghost use Rattle.monitor_core.specs.Writing.{IsWritten, Makes, with_word};
+ghost use Rattle.monitor_core.specs.Writing.{Makes, Writes, with_word};
 
 use crate::address::{offset_in_page, slot_at};
 use crate::fetch::Fetched;
@@ -119,7 +119,7 @@ impl Job {
         requires serial { P.means.serial pages.old self.old.top.name.tty < 2 ^ 61 }
         requires address { IsAddress address }
         ensures low { address < ACCUMULATORS → (result ≡ Ok tt) × (self.new ≡ with_word self.old address word) × (pages.new ≡ pages.old) }
-        ensures high { ACCUMULATORS ≤ address → (self.new ≡ self.old) × ((d : DrumWords) → P.means.fits pages.old d → P.means.fits pages.new d × IsWritten (P.means.plain pages.old d) (P.means.plain pages.new d) (slot_of self.old.top.name address) (address % PAGE_WORDS) word result) }
+        ensures high { ACCUMULATORS ≤ address → (self.new ≡ self.old) × Writes P.means pages.old pages.new (slot_of self.old.top.name address) (address % PAGE_WORDS) word result }
         ensures made { Makes P.means pages.old pages.new self.old.top.name.tty 2 }
         ensures fits { IfErr result FitsCause }
     {

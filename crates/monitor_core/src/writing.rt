@@ -4,7 +4,7 @@ ghost use Rattle.outside.specs.declared.TheConstants.{PAGE_WORDS};
 ghost use Rattle.plain_model.specs.Limits.{FitsCause, IsTerminal};
 ghost use Rattle.plain_model.specs.Outcome.{DrumWords};
 ghost use Rattle.monitor_core.specs.Holding.{Holds};
-ghost use Rattle.monitor_core.specs.Writing.{IsReadied, IsWritten, Makes};
+ghost use Rattle.monitor_core.specs.Writing.{IsReadied, Makes, Writes};
 
 use plain_model::{Kind, Pages, Place, Refusal, SPACE_PAGES, Slot, Touch};
 use word36::Word;
@@ -55,7 +55,7 @@ pub fn write_word<P: Pages>(
     requires page { slot.page < SPACE_PAGES }
     requires offset { offset < PAGE_WORDS }
     requires serial { P.means.serial pages.old slot.fork.tty < 2 ^ 61 }
-    ensures told { (d : DrumWords) → P.means.fits pages.old d → P.means.fits pages.new d × IsWritten (P.means.plain pages.old d) (P.means.plain pages.new d) slot offset word result }
+    ensures told { Writes P.means pages.old pages.new slot offset word result }
     ensures made { Makes P.means pages.old pages.new slot.fork.tty 2 }
     ensures fits { IfErr result FitsCause }
 {

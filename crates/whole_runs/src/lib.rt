@@ -12,6 +12,8 @@ mod failures;
 #[cfg(test)]
 mod limits;
 #[cfg(test)]
+mod machine;
+#[cfg(test)]
 mod memory_run;
 #[cfg(test)]
 mod scripts;
