@@ -6,8 +6,8 @@ ghost use Rattle.texts.specs.Ends.{record_end};
 ghost use Rattle.texts.specs.Turns.{open_run};
 
 use crate::Last;
-use crate::line::Line;
-use crate::turns::{RUN_ROOM, Turns, run_line};
+use crate::line::{EVENT_ROOM, Line, RUN_ROOM};
+use crate::turns::{Turns, run_line};
 use plain_model::Event;
 use script_lang::write_line;
 
@@ -38,7 +38,7 @@ fn push_event(line: &mut Line, e: &Event)
     requires room { length line.old ≤ RUN_ROOM }
     ensures { line.new ≡ line.old ++ ended (line_of e.now) }
 {
-    let mut room = [0; 256];
+    let mut room = [0; EVENT_ROOM];
     let length = write_line(e, &mut room);
     line.push(&room[..length]);
     line.push(b"\n");

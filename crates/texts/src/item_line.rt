@@ -5,13 +5,22 @@ ghost use Rattle.plain_model.specs.Limits.{FitsItem, FitsCause, IsFileName};
 ghost use Rattle.plain_model.specs.Texts.{item_text, item_open, line_end, line_start, escaped, char_end, ended, field, fork_text, cause_text, wait_text, status_text, frozen_text, shown_line};
 ghost use Rattle.plain_model.specs.declared.event.Item.TheVariants.{Examined as AnExamined, PageLine as APageLine, PageWord as APageWord, UnitLine as AUnitLine};
 
-use crate::line::{ADDRESS_DIGITS, Line, WORD_DIGITS};
+use crate::line::{ADDRESS_DIGITS, LINE_ROOM, Line};
 use plain_model::{FileName, ForkLine, ForkName, ForkStatus, Item, Refusal, Tty, WaitOn};
-use script_lang::digits::{escaped, octal};
-use word36::Word;
+use script_lang::digits::{DECIMAL_DIGITS, escaped, octal};
+use word36::{WORD_DIGITS, Word};
 
 /// How many octal digits the offset of a word in its page is written with.
 const OFFSET_DIGITS: usize = 3;
+
+/// How many bytes the status of a fork has at most: a word and a channel.
+const STATUS_ROOM: usize = 27;
+
+/// How many bytes tell at most how a fork stands: its status, its freeze mark and its program counter.
+const STANDING_ROOM: usize = 45;
+
+/// How many bytes the words of a refusal have at most.
+const WORDS_ROOM: usize = 20;
 
 /// The bytes of an item behind the line before, which is open where it is a terminal's of this number.
 pub fn item_line(before: Option<u8>, i: &Item) -> Line
@@ -55,7 +64,7 @@ fn char_line(before: Option<u8>, t: Tty, c: u8) -> Line
 // What stands before a character of a terminal: nothing where its line is open.
 fn line_start(before: Option<u8>, t: Tty) -> Line
     ensures bytes { result ≡ line_start before t.0 }
-    ensures short { length result ≤ 23 }
+    ensures short { length result ≤ DECIMAL_DIGITS + 3 }
 {
     if before == Some(t.0) {
         return Line::new();
@@ -91,9 +100,9 @@ fn fork_line(before: Option<u8>, fork: &ForkLine) -> Line
 
 // Puts how a fork stands, and its program counter, behind a line.
 fn push_standing(line: &mut Line, fork: &ForkLine)
-    requires { length line.old ≤ 100 }
+    requires { length line.old + STANDING_ROOM ≤ LINE_ROOM }
     ensures bytes { line.new ≡ line.old ++ (field (status_text fork.now.status) ++ (frozen_text fork.now.frozen ++ (codes " PC " ++ octal_padded 6 fork.now.address))) }
-    ensures short { length line.new ≤ length line.old + 45 }
+    ensures short { length line.new ≤ length line.old + STANDING_ROOM }
 {
     line.push(b" ");
     push_status(line, fork.status);
@@ -104,9 +113,9 @@ fn push_standing(line: &mut Line, fork: &ForkLine)
 
 // Puts how a fork stands behind a line.
 fn push_status(line: &mut Line, status: ForkStatus)
-    requires { length line.old ≤ 101 }
+    requires { length line.old + STATUS_ROOM ≤ LINE_ROOM }
     ensures bytes { line.new ≡ line.old ++ status_text status }
-    ensures short { length line.new ≤ length line.old + 27 }
+    ensures short { length line.new ≤ length line.old + STATUS_ROOM }
 {
     match status {
         ForkStatus::Run => line.push(b"RUN"),
@@ -158,7 +167,7 @@ fn examined_line(before: Option<u8>, t: Tty, serial: u32, address: u32, word: Wo
 
 // The line of a file's page.
 fn page_line(before: Option<u8>, name: &FileName, page: u16) -> Line
-    requires { length name.now ≤ 39 }
+    requires { IsFileName name.now }
     ensures { result ≡ line_end before ++ ended (shown_line (APageLine name.now page)) }
 {
     let mut line = Line::behind(before);
@@ -219,7 +228,7 @@ fn refusal_line(before: Option<u8>, cause: &Refusal) -> Line
 
 // Words and the number of a terminal as a line.
 fn terminal_line(before: Option<u8>, words: &[u8], t: Tty) -> Line
-    requires { length words.now ≤ 20 }
+    requires { length words.now ≤ WORDS_ROOM }
     ensures { result ≡ line_end before ++ ended (words.now ++ decimal t.0) }
 {
     let mut line = Line::behind(before);
@@ -231,7 +240,7 @@ fn terminal_line(before: Option<u8>, words: &[u8], t: Tty) -> Line
 
 // Words and the name of a file as a line.
 fn file_line(before: Option<u8>, words: &[u8], name: &FileName) -> Line
-    requires words { length words.now ≤ 20 }
+    requires words { length words.now ≤ WORDS_ROOM }
     requires name { IsFileName name.now }
     ensures { result ≡ line_end before ++ ended (words.now ++ name.now) }
 {

@@ -4,24 +4,25 @@ ghost use Rattle.word36.specs.Octal.{octal_padded};
 ghost use Rattle.plain_model.specs.Texts.{line_end, name_text};
 
 use plain_model::ForkName;
-use script_lang::digits::{decimal, octal_padded};
+use script_lang::digits::{DECIMAL_DIGITS, decimal, octal_padded};
 use std::marker::Model;
+use word36::WORD_DIGITS;
 
-/// How many bytes a line has room for: the line of a run of turns, the longest line of an event behind it, and
-/// that line's feed.
-pub const LINE_ROOM: usize = 328;
-
-/// How many bytes a number of 64 bits has at most, in decimal digits.
-pub const DECIMAL_ROOM: usize = 20;
-
-/// How many bytes a fork's name has at most: two numbers, and a space between them.
+/// How many bytes the name of a fork has at most: two numbers, and a space between them.
 pub const NAME_ROOM: usize = 41;
+
+/// How many bytes the line of a run has at most: a letter, a name and a count behind their spaces, and the line
+/// feed.
+pub const RUN_ROOM: usize = 65;
+
+/// How many bytes the line of an event has at most, without its line feed.
+pub const EVENT_ROOM: usize = 256;
+
+/// How many bytes a line has room for: the line of a run, and that of an event behind it.
+pub const LINE_ROOM: usize = RUN_ROOM + EVENT_ROOM + 1;
 
 /// How many octal digits an address is written with.
 pub const ADDRESS_DIGITS: usize = 6;
-
-/// How many octal digits a word is written with.
-pub const WORD_DIGITS: usize = 12;
 
 /// A line of a text, and what stands before it: at most `LINE_ROOM` bytes, which clauses see as their list.
 #[derive(Drop)]
@@ -52,8 +53,8 @@ impl Line {
         }
     }
 
-    /// A line that begins with the line feed that the line before still wants: the terminal is that whose line
-    /// it is, if one is open.
+    /// A line behind the line before. Where that one is open it is a terminal's of this number, and its line
+    /// feed comes first.
     pub fn behind(before: Option<u8>) -> Self
         ensures bytes { result ≡ line_end before }
         ensures short { length result ≤ 1 }
@@ -85,9 +86,9 @@ impl Line {
 
     /// Puts the decimal digits of a number behind the line.
     pub fn push_decimal(&mut self, n: u64)
-        requires { length self.old + DECIMAL_ROOM ≤ LINE_ROOM }
+        requires { length self.old + DECIMAL_DIGITS ≤ LINE_ROOM }
         ensures bytes { self.new ≡ self.old ++ decimal n }
-        ensures short { length self.new ≤ length self.old + DECIMAL_ROOM }
+        ensures short { length self.new ≤ length self.old + DECIMAL_DIGITS }
     {
         let digits = decimal(n);
         self.push(digits.as_slice());

@@ -3,12 +3,8 @@ ghost use Rattle.std.specs.Prelude.{◌≡◌, ◌≤◌, length};
 ghost use Rattle.plain_model.specs.Texts.{same_turn, run_end, run_line};
 ghost use Rattle.texts.specs.Turns.{step_of, open_run};
 
-use crate::line::Line;
+use crate::line::{Line, RUN_ROOM};
 use plain_model::ForkName;
-
-/// How many bytes the line of a run has at most: two letters, three numbers with two spaces between them, and
-/// the line feed.
-pub const RUN_ROOM: usize = 65;
 
 /// An entry of a RUN line: one unit of a fork, or an idle entry.
 #[derive(Clone, Copy, Debug, PartialEq, Eq)]

@@ -180,6 +180,7 @@ impl<'a, T: Sink, R: Sink> Taker for Writer<'a, T, R> {
         self.faults
     }
 
+    #[inline(never)]
     fn item(&mut self, i: Item) -> Result<(), Failed> {
         let line = item_line(self.line, &i);
         counted(&mut self.faults, put(&mut *self.out, &line))?;
