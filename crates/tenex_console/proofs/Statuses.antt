@@ -15,7 +15,7 @@ use Rattle.tenex_console.specs.declared.driver.Driven.TheVariants.{Done as Whole
 use Rattle.tenex_console.specs.Command.{IsRight, IsUsage}
 use Rattle.tenex_console.specs.Driving.{Found, Verdict}
 use Rattle.tenex_console.specs.Headline.{IsTrueOf, Stops}
-use Rattle.tenex_console.specs.Observed.{AreSteady, Faults, IsSteady, Observed}
+use Rattle.tenex_console.specs.Observed.{AreSteady, Faults, IsCaused, IsSteady, Observed}
 use Rattle.tenex_console.specs.Statuses.{IsEarly, IsFaultless, Judges, Ran, RanAsked, Tells, status_after}
 use Rattle.tenex_console.proofs.Asking.{not_usage}
 
@@ -77,15 +77,15 @@ steady : (before after : ℕ) → IsSteady before after → Rose before after �
 steady before after s r = absurd (omega (arith, s.0, s.1, r))
 
 -- where no count rose, no fault is told
-pub faultless : (status : Status) (f : Faults) → (status ≡ ReadFault → Rose f.script f.script_after) → (status ≡ WriteFault → Rose f.out f.out_after ⊎ Rose f.rec f.rec_after) → (status ≡ DrumFault → Rose f.drum f.drum_after) → AreSteady f → IsFaultless status
-faultless Done f read write drum all = tt
-faultless Usage f read write drum all = tt
-faultless Script f read write drum all = tt
-faultless DrumFault f read write drum all = steady f.drum f.drum_after all.drum (drum refl)
-faultless Memory f read write drum all = tt
-faultless ReadFault f read write drum all = steady f.script f.script_after all.script (read refl)
-faultless WriteFault f read write drum all = elim (write refl) [ inl x ↦ steady f.out f.out_after all.out x | inr y ↦ steady f.rec f.rec_after all.rec y ]
-faultless LongScript f read write drum all = tt
+pub faultless : (status : Status) (f : Faults) → IsCaused status f → AreSteady f → IsFaultless status
+faultless Done f caused all = tt
+faultless Usage f caused all = tt
+faultless Script f caused all = tt
+faultless DrumFault f caused all = steady f.drum f.drum_after all.drum (caused.drum refl)
+faultless Memory f caused all = tt
+faultless ReadFault f caused all = steady f.script f.script_after all.script (caused.read refl)
+faultless WriteFault f caused all = elim (caused.write refl) [ inl x ↦ steady f.out f.out_after all.out x | inr y ↦ steady f.rec f.rec_after all.rec y ]
+faultless LongScript f caused all = tt
 
 module _ {Z : Type 0} (words : List (String Z)) (pages : ℕ) where
   -- a status that tells of no fault, of right words and a right script

@@ -2,7 +2,7 @@
 use Rattle.std.specs.Prelude.{◌≡◌, ◌⊎◌, ℕ, ◌-◌, ◌<◌, ◌≤◌, List, Option}
 use Rattle.outside.specs.Faults.{Rose}
 use Rattle.texts.specs.declared.last.Status.{Status}
-use Rattle.texts.specs.declared.last.Status.TheVariants.{WriteFault}
+use Rattle.texts.specs.declared.last.Status.TheVariants.{DrumFault, ReadFault, WriteFault}
 
 -- the bytes that are left of the script and those that both sinks have taken, where they are told, before and after;
 -- and how often the drum was read and written in between
@@ -76,6 +76,13 @@ pub record NoneFell (f : Faults) : Type 0 where
   pub out : f.out ≤ f.out_after
   pub rec : f.rec ≤ f.rec_after
   pub drum : f.drum ≤ f.drum_after
+
+-- a fault comes only where a count rose, and no count falls
+pub record IsCaused (status : Status) (f : Faults) : Type 0 where
+  pub read : status ≡ ReadFault → Rose f.script f.script_after
+  pub write : status ≡ WriteFault → Rose f.out f.out_after ⊎ Rose f.rec f.rec_after
+  pub drum : status ≡ DrumFault → Rose f.drum f.drum_after
+  pub later : NoneFell f
 
 -- each sink has handed on all that it took, or its count of faults rose; and without a write fault both have
 pub record HandedOn {T R : Type 0} (out_handed : T → Type 0) (rec_handed : R → Type 0) (out_faults : T → ℕ) (rec_faults : R → ℕ) (out out' : T) (rec rec' : R) (status : Status) : Type 0 where

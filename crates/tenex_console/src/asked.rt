@@ -19,6 +19,9 @@ const KEPT_FRAMES: u32 = 32;
 /// How many frames there are for each fork of the balance set.
 const MEMBER_FRAMES: u32 = 128;
 
+/// How many forks the balance set has at most.
+const MOST_MEMBERS: u32 = 63;
+
 /// Why a run did not begin.
 #[derive(Clone, Copy, Debug, PartialEq, Eq)]
 pub enum Unbegun {
@@ -73,7 +76,7 @@ pub fn asked_machine(
 // A new machine of these sizes over pages in memory.
 fn boot(alloc: Global, sizes: Sizes) -> Result<Machine<PlainStore>, Memory>
     requires least_frames { KEPT_FRAMES + MEMBER_FRAMES ≤ sizes.frames }
-    requires most_frames { sizes.frames < KEPT_FRAMES + 64 * MEMBER_FRAMES }
+    requires most_frames { sizes.frames < KEPT_FRAMES + (MOST_MEMBERS + 1) * MEMBER_FRAMES }
     requires least_pages { 1 ≤ sizes.drum }
     requires most_pages { sizes.drum ≤ MOST_HOMES }
     ensures { IfOk result (IsBooted sizes.drum) }

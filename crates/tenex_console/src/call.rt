@@ -9,7 +9,7 @@ ghost use Rattle.texts.specs.Writer.{FailsAtEnd, Finishes, HandsOn, IsHandedOn, 
 ghost use Rattle.tenex_console.specs.Command.{IsRight, IsUsage};
 ghost use Rattle.tenex_console.specs.Driving.{DrumStays, IsBooted};
 ghost use Rattle.tenex_console.specs.Headline.{HasHeadline, Stops};
-ghost use Rattle.tenex_console.specs.Observed.{AreSteady, HandedOn, NoneFell, faults, seen};
+ghost use Rattle.tenex_console.specs.Observed.{AreSteady, HandedOn, IsCaused, NoneFell, faults, seen};
 ghost use Rattle.tenex_console.specs.Statuses.{IsEarly, IsFaultless, IsUsageOrBefore, Judges, RanWith, Tells};
 
 use crate::asked::{Unbegun, asked_machine};
@@ -105,10 +105,7 @@ fn run<S: Source, T: Sink, R: Sink, D: Drum>(
     requires size { limit machine.old ≤ D.size drum.old }
     ensures ran { RanWith (limit machine.old) (seen S.left T.taken R.taken D.read_count D.write_count script.old script.new out.old out.new rec.old rec.new drum.old drum.new) result }
     ensures judged { (bytes : List ℕ) → S.left script.old ≡ Some bytes → Judges result bytes }
-    ensures read_cause { result ≡ Status.ReadFault → Rose (S.fault_count script.old) (S.fault_count script.new) }
-    ensures write_cause { result ≡ Status.WriteFault → Rose (T.fault_count out.old) (T.fault_count out.new) ⊎ Rose (R.fault_count rec.old) (R.fault_count rec.new) }
-    ensures drum_cause { result ≡ Status.DrumFault → Rose (D.fault_count drum.old) (D.fault_count drum.new) }
-    ensures later { NoneFell (faults S.fault_count T.fault_count R.fault_count D.fault_count script.old script.new out.old out.new rec.old rec.new drum.old drum.new) }
+    ensures caused { IsCaused result (faults S.fault_count T.fault_count R.fault_count D.fault_count script.old script.new out.old out.new rec.old rec.new drum.old drum.new) }
     ensures drum { DrumStays D.fault_count D.read_count D.write_count D.size drum.old drum.new }
     ensures untouched { drum.new ≡ drum.old }
     ensures handed { HandedOn T.handed_on R.handed_on T.fault_count R.fault_count out.old out.new rec.old rec.new result }

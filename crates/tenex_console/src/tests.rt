@@ -1,6 +1,6 @@
 // Runs where nothing fails.
-use crate::{Status, run_faultless};
-use outside::SureDrum;
+use crate::{Status, run_faultless, run_in_memory};
+use outside::{MemSink, SureDrum};
 use std::alloc::{AllocError, Global};
 use std::test::Fail;
 
@@ -26,5 +26,20 @@ fn other_words_and_small_drums_are_usage(rt: HostRuntime) -> Result<(), Fail> {
     assert_eq!(rt; status, Status::Usage, "no word");
     let status = run_faultless(alloc, &run, SCRIPT.to_vec(alloc)?, &mut drum);
     assert_eq!(rt; status, Status::Done);
+    Ok(())
+}
+
+#[test]
+fn texts_in_memory_are_the_transcript_and_the_record(rt: HostRuntime) -> Result<(), Fail> {
+    let alloc = rt.alloc();
+    let run = words(alloc, "run")?;
+    let mut out = MemSink::new(alloc, 64, Vec::new(alloc))?;
+    let mut rec = MemSink::new(alloc, 64, Vec::new(alloc))?;
+    let mut drum = SureDrum::new(alloc, 2048)?;
+    let script = b"LOGIN 0 SMITH\nPOKE 1 20 7\nRUN 5\n".to_vec(alloc)?;
+    let status = run_in_memory(alloc, &run, script, &mut out, &mut rec, &mut drum);
+    assert_eq!(rt; status, Status::Done);
+    assert_eq!(rt; out.bytes(), b"?NO JOB 1\n");
+    assert_eq!(rt; rec.bytes(), b"LOGIN 0 SMITH\nPOKE 1 20 7\nI 5\nE 0 0\n");
     Ok(())
 }

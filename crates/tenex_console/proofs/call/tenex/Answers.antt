@@ -1,4 +1,4 @@
-use Rattle.std.proofs.Common.{◌≡◌, subst, sym}
+use Rattle.std.proofs.Common.{◌≡◌, arith, subst, sym}
 use Rattle.texts.specs.declared.last.Status.TheVariants.{Done, DrumFault, ReadFault}
 use Rattle.tenex_console.specs.Command.{IsAsked}
 use Rattle.tenex_console.specs.Headline.{IsTrueOf}
@@ -39,7 +39,7 @@ returns-in-Ok-clause-unread g c early =
     absurd (late asked.0 _ c.run.result (c.run.ensures.ran asked.0 (sym asked.2.room_is)) early)
 
 pub returns-in-Ok-clause-complete : goal.returns-in-Ok-clause-complete
-returns-in-Ok-clause-complete g c steady = faultless c.run.result _ c.run.ensures.read_cause c.run.ensures.write_cause c.run.ensures.drum_cause steady
+returns-in-Ok-clause-complete g c steady = faultless c.run.result _ c.run.ensures.caused steady
 
 pub returns-in-Ok-clause-complete_run : goal.returns-in-Ok-clause-complete_run
 returns-in-Ok-clause-complete_run g c bytes told right fine =
@@ -79,7 +79,13 @@ returns-in-Err-clause-drum_cause g c is = absurd (stopped (λ s. s ≡ DrumFault
 
 pub returns-in-Err-clause-complete : goal.returns-in-Err-clause-complete
 returns-in-Err-clause-complete g c steady =
-    faultless c.stop.result _ (returns-in-Err-clause-read_cause g c) c.stop.ensures.write_cause (returns-in-Err-clause-drum_cause g c) steady
+    faultless c.stop.result _
+    (record {
+      read = returns-in-Err-clause-read_cause g c;
+      write = c.stop.ensures.write_cause;
+      drum = returns-in-Err-clause-drum_cause g c;
+      later = record { script = omega arith; out = c.stop.ensures.out_later; rec = c.stop.ensures.rec_later; drum = omega arith };
+    }) steady
 
 pub returns-in-Err-clause-complete_run : goal.returns-in-Err-clause-complete_run
 returns-in-Err-clause-complete_run g c bytes told right fine =
