@@ -33,7 +33,8 @@ fn give_forced<T: Taker>(out: &mut T, t: Tty, channel: u8) -> Result<(), Failed>
     give_text(out, t, b"\r\n@")
 }
 
-/// Gives the items of what a unit shows.
+/// Gives the items of what a unit shows. A call of its own, as most units show nothing.
+#[inline(never)]
 pub fn give_shown<T: Taker>(out: &mut T, t: Tty, shown: Shown) -> Result<(), Failed>
     requires terminal { IsTerminal t }
     requires fits { FitsShown shown }

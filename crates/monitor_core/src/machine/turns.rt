@@ -11,7 +11,7 @@ use plain_model::{Pages, Step, Taker};
 
 impl<P: Pages> Machine<P> {
     /// Does a step, counts it, and gives it behind the items that it shows.
-    #[inline]
+    #[inline(always)]
     pub(crate) fn step<T: Taker>(&mut self, step: Step, out: &mut T) -> Result<(), Failed>
         requires can { CanDo self.old.system step }
         requires few { done self.old < 2 ^ 52 }

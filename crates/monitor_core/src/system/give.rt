@@ -15,6 +15,7 @@ use plain_model::{Item, Pages, Taker, Tty};
 
 impl<P: Pages> System<P> {
     // Gives the forks of a terminal's job, by slot: its one fork.
+    #[inline(never)]
     fn give_forks<T: Taker>(&self, t: Tty, out: &mut T) -> Result<(), Failed>
         requires terminal { IsTerminal t }
         requires job { IsSome (job_at self.now.jobs.items t.0) }
@@ -27,6 +28,7 @@ impl<P: Pages> System<P> {
     }
 
     /// Gives the items of a reply, one by one.
+    #[inline(always)]
     pub fn give<T: Taker>(&self, reply: Reply, out: &mut T) -> Result<(), Failed>
         requires { FitsReply self.now.jobs.items reply }
         ensures { TookItems T.fault_count T.onward T.stands T.cut out.old out.new result (λ d. reply_items (state_of self.now d) reply) }

@@ -16,7 +16,7 @@ use plain_model::{Event, ForkName, Item, Pages, Refusal, Step};
 
 impl<P: Pages> System<P> {
     // One unit of a fork that can run.
-    #[inline]
+    #[inline(always)]
     fn unit(&mut self, fork: ForkName) -> Shown
         requires can { CanRun self.old.jobs.items fork }
         requires few { IsWithin self.old (2 ^ 52) }
@@ -40,7 +40,8 @@ impl<P: Pages> System<P> {
         Reply::Nothing
     }
 
-    // An event that is one step, or why it is refused.
+    // An event that is one step, or why it is refused. A call of its own, so that a unit doesn't make room for it.
+    #[inline(never)]
     fn outer(&mut self, e: &Event) -> Result<Reply, Refusal>
         requires fits { FitsStep (AStep.Outer e.now) }
         requires built { IsBuilt e.now }
@@ -66,7 +67,7 @@ impl<P: Pages> System<P> {
     }
 
     /// Does a step that can be done.
-    #[inline]
+    #[inline(always)]
     pub fn apply(&mut self, step: &Step) -> Reply
         requires can { CanDo self.old step.now }
         requires few { IsWithin self.old (2 ^ 52) }
