@@ -230,30 +230,29 @@ fn a_last_line_that_is_not_written_is_a_failed_write(rt: HostRuntime) -> Result<
 #[test]
 fn a_failed_flush_is_a_failed_write(rt: HostRuntime) -> Result<(), Fail> {
     let alloc = rt.alloc();
-    let closed = TRANSCRIPT.len() - 1;
-    let before_idling = RECORD.len() - b"I 2\nE 0 0\n".len();
-    for (flush, status, transcript, record) in [
-        (1, Status::WriteFault, 0, 0),
-        (2, Status::WriteFault, closed, before_idling),
-        (3, Status::WriteFault, TRANSCRIPT.len(), RECORD.len()),
-        (4, Status::Done, TRANSCRIPT.len(), RECORD.len()),
+    for (flush, status, out, rec) in [
+        (1, Status::WriteFault, b"".as_slice(), b"".as_slice()),
+        (
+            2,
+            Status::WriteFault,
+            b"T0 @A\\015\\012\nT0 @",
+            b"LOGIN 0 SMITH\nPOKE 0 100 201040000101\nPOKE 0 101 104000000074\nPOKE 0 102 104000000170\nSTART 0 100\nU 0 1 3\n",
+        ),
+        (3, Status::WriteFault, TRANSCRIPT, RECORD),
+        (4, Status::Done, TRANSCRIPT, RECORD),
     ] {
-        let out = sink(alloc, ROOM)?.with_failing_flushes(vec![in alloc; flush]?);
+        let failing = vec![in alloc; flush]?;
         let ran = run_over(
             alloc,
             &["run"],
             &mut script(alloc)?,
-            out,
+            sink(alloc, ROOM)?.with_failing_flushes(failing),
             sink(alloc, ROOM)?,
             PAGES,
         )?;
-        assert_eq!(rt; ran.status, status, "of flush {flush}");
-        assert_eq!(rt;
-            ran.out.bytes(),
-            &TRANSCRIPT[..transcript],
-            "of flush {flush}"
-        );
-        assert_eq!(rt; ran.rec.bytes(), &RECORD[..record], "of flush {flush}");
+        assert_eq!(rt; ran.status, status);
+        assert_eq!(rt; ran.out.bytes(), out);
+        assert_eq!(rt; ran.rec.bytes(), rec);
     }
     Ok(())
 }
