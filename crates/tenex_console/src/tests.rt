@@ -40,6 +40,9 @@ fn texts_in_memory_are_the_transcript_and_the_record(rt: HostRuntime) -> Result<
     let status = run_in_memory(alloc, &run, script, &mut out, &mut rec, &mut drum);
     assert_eq!(rt; status, Status::Done);
     assert_eq!(rt; out.bytes(), b"T0 @\n?NO JOB 1\n".as_slice());
-    assert_eq!(rt; rec.bytes(), b"LOGIN 0 SMITH\nPOKE 1 20 7\nI 5\nE 0 0\n".as_slice());
+    assert_eq!(rt;
+        rec.bytes(),
+        b"LOGIN 0 SMITH\nPOKE 1 20 7\nI 5\nE 0 0\n".as_slice()
+    );
     Ok(())
 }

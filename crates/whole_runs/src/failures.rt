@@ -225,3 +225,35 @@ fn a_last_line_that_is_not_written_is_a_failed_write(rt: HostRuntime) -> Result<
     assert_eq!(rt; ran.rec.bytes(), b"".as_slice());
     Ok(())
 }
+
+// Both sinks are flushed before each of the two reads, and at the end.
+#[test]
+fn a_failed_flush_is_a_failed_write(rt: HostRuntime) -> Result<(), Fail> {
+    let alloc = rt.alloc();
+    let closed = TRANSCRIPT.len() - 1;
+    let before_idling = RECORD.len() - b"I 2\nE 0 0\n".len();
+    for (flush, status, transcript, record) in [
+        (1, Status::WriteFault, 0, 0),
+        (2, Status::WriteFault, closed, before_idling),
+        (3, Status::WriteFault, TRANSCRIPT.len(), RECORD.len()),
+        (4, Status::Done, TRANSCRIPT.len(), RECORD.len()),
+    ] {
+        let out = sink(alloc, ROOM)?.with_failing_flushes(vec![in alloc; flush]?);
+        let ran = run_over(
+            alloc,
+            &["run"],
+            &mut script(alloc)?,
+            out,
+            sink(alloc, ROOM)?,
+            PAGES,
+        )?;
+        assert_eq!(rt; ran.status, status, "of flush {flush}");
+        assert_eq!(rt;
+            ran.out.bytes(),
+            &TRANSCRIPT[..transcript],
+            "of flush {flush}"
+        );
+        assert_eq!(rt; ran.rec.bytes(), &RECORD[..record], "of flush {flush}");
+    }
+    Ok(())
+}
