@@ -1,0 +1,2 @@
+pub mod FrameOrder
+pub mod Ring

@@ -1,0 +1,108 @@
+// Values under numbers.
+ghost use Rattle.std.specs.Prelude.{◌≡◌, ℕ, ◌<◌, ◌≤◌, None, IfOk, IfSome, MatchOption};
+ghost use Rattle.std.specs.Ordering.{nat_cmp};
+ghost use Rattle.std.specs.FinMap as map;
+ghost use Rattle.number_map.specs.Numbers.{AreTaken, IsLeastFree};
+
+use outside::Memory;
+use std::alloc::Global;
+use std::marker::Model;
+
+/// At most one value under each number below N: a finite map from these numbers.
+#[derive(Drop)]
+pub struct NumberMap<V: Copy, const N: usize> {
+    places: Vec<Option<V>>,
+}
+
+impl<V: Copy, const N: usize> Model for NumberMap<V, N> {
+    ghost use Rattle.std.specs.Prelude.{◌≡◌, vec_len};
+    ghost use Rattle.std.specs.Ordering.{nat_cmp};
+    ghost use Rattle.std.specs.Coded.{coded_ℕ};
+    ghost use Rattle.std.specs.FinMap as map;
+    ghost use Rattle.number_map.specs.Numbers.{held};
+
+    ghost Value = { map.FinMap nat_cmp V };
+
+    ghost coded = { map.code coded_ℕ V.code };
+
+    ghost view = { λ t. held 0 t.places.items };
+
+    ghost invariant = { λ t. vec_len t.places ≡ N };
+}
+
+impl<V: Copy, const N: usize> NumberMap<V, N> {
+    /// No number has a value.
+    pub fn boot(alloc: Global) -> Result<Self, Memory>
+        ensures { IfOk result (λ m. m ≡ map.empty) }
+    {
+        Ok(NumberMap {
+            places: vec![in alloc; None; N]?,
+        })
+    }
+
+    /// The value under a number. None exactly where it has none, as beyond the bound.
+    pub fn get(&self, n: usize) -> Option<V>
+        ensures found { result ≡ map.get self.now n }
+        ensures bounded { (k : ℕ) → N ≤ k → map.get self.now k ≡ None }
+    {
+        if n < N { self.places[n] } else { None }
+    }
+
+    /// Puts a value under a number, and answers the old one.
+    pub fn insert(&mut self, n: usize, value: V) -> Option<V>
+        requires { n < N }
+        ensures put { self.new ≡ map.insert self.old n value }
+        ensures replaced { result ≡ map.get self.old n }
+    {
+        self.places[n].replace(value)
+    }
+
+    /// Takes away the value under a number, and answers it.
+    pub fn remove(&mut self, n: usize) -> Option<V>
+        ensures gone { self.new ≡ map.remove self.old n }
+        ensures taken { result ≡ map.get self.old n }
+    {
+        if n < N { self.places[n].take() } else { None }
+    }
+
+    /// The least number from one on that has no value. None exactly where there is none below the
+    /// bound.
+    pub fn first_free(&self, from: usize) -> Option<usize>
+        ensures least { MatchOption result (AreTaken self.now from N) (λ n. (n < N) × IsLeastFree self.now from n) }
+    {
+        for n in from..N {
+            if self.places[n].is_none() {
+                return Some(n);
+            }
+        }
+        None
+    }
+}
+
+#[cfg(test)]
+mod tests {
+    use super::*;
+    use std::test::Fail;
+
+    #[test]
+    fn values_come_and_go(rt: HostRuntime) -> Result<(), Fail> {
+        let mut m = NumberMap::<u16, 4>::boot(rt.alloc())?;
+        assert_eq!(rt; m.get(0), None);
+        assert_eq!(rt; m.get(4), None);
+        assert_eq!(rt; m.first_free(1), Some(1));
+        assert_eq!(rt; m.insert(1, 11), None);
+        assert_eq!(rt; m.insert(3, 33), None);
+        assert_eq!(rt; m.insert(1, 12), Some(11));
+        assert_eq!(rt; m.first_free(1), Some(2));
+        assert_eq!(rt; m.insert(2, 22), None);
+        assert_eq!(rt; m.first_free(1), None);
+        assert_eq!(rt; m.first_free(0), Some(0));
+        assert_eq!(rt; m.first_free(9), None);
+        assert_eq!(rt; m.remove(2), Some(22));
+        assert_eq!(rt; m.remove(2), None);
+        assert_eq!(rt; m.remove(7), None);
+        assert_eq!(rt; m.get(1), Some(12));
+        assert_eq!(rt; m.get(3), Some(33));
+        Ok(())
+    }
+}
