@@ -151,19 +151,15 @@ module _ {S : Type 0} (left : S → Option (List ℕ)) where
 
   -- all that was read is held
   module _ {Needs : List ℕ → Type 0} {held mid : List ℕ} {s t : S} (r : Reads left Needs held s t (λ xs. xs ≡ mid)) (needs : Needs mid) where
-    held_needs : Needs (held ++ r.bytes)
-    held_needs = subst Needs (sym r.is) needs
-
     pub reads_filled : (new : List ℕ) (u : S) (n : ℕ) → Fills left mid new t u n → length new ≤ ROOM → Reads left Needs held s u (λ xs. xs ≡ new)
     reads_filled new u n fills fits =
         let short : length fills.bytes ≤ ROOM = omega (arith, ap length fills.grown, length-append mid fills.bytes, fits) in
-        reads_more r (λ xs. xs ≡ new) u fills.bytes held_needs short fills.loses (ap (λ l. l ++ fills.bytes) r.is ∙ sym fills.grown)
+        reads_more r (λ xs. xs ≡ new) u fills.bytes (subst Needs (sym r.is) needs) short fills.loses (ap (λ l. l ++ fills.bytes) r.is ∙ sym fills.grown)
 
   -- so many bytes were passed over, and none is held
   module _ {held : List ℕ} {s t : S} {count room : ℕ} (r : Reads left (StopsWithin 0 room) held s t (IsPlain count)) (near : count ≤ room) where
     passed_needs : StopsWithin 0 room (held ++ r.bytes)
     passed_needs = record { plain = r.is.plain; far = omega arith; near = omega (arith, r.is.long) }
 
-    pub passed_filled : (Is : List ℕ → Type 0) (new : List ℕ) (u : S) (n : ℕ) → Fills left [] new t u n → length new ≤ ROOM → ((gone : List ℕ) → IsPlain count gone → Is (gone ++ new)) → Reads left (StopsWithin 0 room) held s u Is
-    passed_filled Is new u n fills fits is =
-        reads_more r Is u new passed_needs fits (subst (Loses (left t) (left u)) (sym fills.grown) fills.loses) (is (held ++ r.bytes) r.is)
+    pub passed_more : (Is : List ℕ → Type 0) (piece : List ℕ) (u : S) → Loses (left t) (left u) piece → length piece ≤ ROOM → ((gone : List ℕ) → IsPlain count gone → Is (gone ++ piece)) → Reads left (StopsWithin 0 room) held s u Is
+    passed_more Is piece u loses fits is = reads_more r Is u piece passed_needs fits loses (is (held ++ r.bytes) r.is)

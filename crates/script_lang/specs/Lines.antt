@@ -5,8 +5,9 @@ use Rattle.plain_model.specs.Script.{AreLines, Gives, HasNoFeed, IsBadRest, IsBl
 use Rattle.script_lang.specs.Feeds.{IsLeft}
 use Rattle.script_lang.specs.declared.lines.Lines.{Lines}
 use Rattle.script_lang.specs.declared.lines.Next.{Next}
-use Rattle.script_lang.specs.declared.lines.Next.TheVariants.{One as ANext, End as NoNext, Bad as BadNext, ReadFault, Long as LongNext}
+use Rattle.script_lang.specs.declared.lines.Next.TheVariants.{ReadFault}
 use Rattle.script_lang.specs.declared.lines.Stage.TheVariants.{Open}
+use Rattle.script_lang.specs.declared.reached.TheConstants.{MOST_LINE}
 use Rattle.script_lang.specs.declared.lines.Line.{Line}
 use Rattle.script_lang.specs.declared.lines.Line.TheVariants.{One, Blank, Bad, Long, End, Fault}
 
@@ -47,11 +48,8 @@ NeedsRead l = IsUndecided (given l) (pending l)
 
 -- what the bytes are up to which a source was read for this answer, behind so many
 abbrev pub IsReadFor : ℕ → Next → List ℕ → Type 0
-IsReadFor before (ANext event) bytes = Unit {0}
-IsReadFor before NoNext bytes = Unit {0}
-IsReadFor before (BadNext number) bytes = Unit {0}
 IsReadFor before ReadFault bytes = IsUndecided before bytes
-IsReadFor before LongNext bytes = Unit {0}
+IsReadFor before answer bytes = Unit {0}
 
 -- what is left of a script: what is pending, and behind it what the source tells
 abbrev pub IsRest : {S : Type 0} → (S → Option (List ℕ)) → Lines → S → List ℕ → Type 0
@@ -118,14 +116,12 @@ FrontIsLong before held = (told : List ℕ) → IsLongRest before (held ++ told)
 abbrev pub IsReadBy : Lines → Lines → Line → List ℕ → Type 0
 IsReadBy old new (One event) bytes = GivesFront old new (event ∷ []) bytes
 IsReadBy old new Blank bytes = GivesFront old new [] bytes
-IsReadBy old new Bad bytes = Unit {0}
-IsReadBy old new Long bytes = Unit {0}
-IsReadBy old new End bytes = Unit {0}
 IsReadBy old new Fault bytes = IsUndecided (given old) bytes
+IsReadBy old new line bytes = Unit {0}
 
 -- behind so many bytes this line gives no event and ends within the limit
 abbrev pub IsPassedOver : ℕ → List ℕ → Type 0
-IsPassedOver before line = IsBlank line × (length line ≤ 256) × (before + length line < most_bytes)
+IsPassedOver before line = IsBlank line × (length line ≤ MOST_LINE) × (before + length line < most_bytes)
 
 -- a line behind which none is given, but not the end
 abbrev pub IsFinal : Line → Type 0

@@ -136,26 +136,26 @@ impl Buffer {
         }
     }
 
-    /// Passes over the line at the front, no line feed of which is held, and keeps none of it.
-    pub fn pass_line<S: Source>(&mut self, s: &mut S, room: u64) -> Passed
-        requires plain { HasNoFeed self.old }
+    /// Passes over the line at the front, no line feed of which is held. What is read is not held.
+    pub fn pass_line<S: Source>(&self, s: &mut S, room: u64) -> Passed
+        requires plain { HasNoFeed self.now }
         requires small { room ≤ most_bytes }
         ensures later { S.fault_count s.old ≤ S.fault_count s.new }
         ensures cause { result ≡ Passed.Fault → Rose (S.fault_count s.old) (S.fault_count s.new) }
-        ensures reads { Reads S.left (StopsWithin 0 room) self.old s.old s.new (EndsSo (length self.old) room result) }
+        ensures reads { Reads S.left (StopsWithin 0 room) self.now s.old s.new (EndsSo (length self.now) room result) }
         ensures spends { result ≡ Passed.Last → Spends (S.left s.old) (S.left s.new) }
     {
+        let mut piece = [0; ROOM];
         let mut count = self.bytes().len() as u64;
         while count <= room {
-            self.clear();
-            let read = match self.fill(s) {
+            let read = match s.read(&mut piece) {
                 Ok(read) => read,
                 Err(Failed) => return Passed::Fault,
             };
             if read == 0 {
                 return Passed::Last;
             }
-            if let Some(n) = line_end(self.bytes()) {
+            if let Some(n) = line_end(&piece[..read]) {
                 return if count + (n as u64) < room {
                     Passed::Feed
                 } else {
@@ -165,14 +165,6 @@ impl Buffer {
             count += read as u64;
         }
         Passed::Over
-    }
-
-    /// Drops all bytes.
-    pub fn clear(&mut self)
-        ensures { self.new ≡ [] }
-    {
-        self.from = 0;
-        self.to = 0;
     }
 }
 

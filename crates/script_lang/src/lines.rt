@@ -246,17 +246,15 @@ impl Lines {
 
     // What the line at the front is, where its end is not pending, and what is pending is more than a
     // line has or passes the limit.
-    fn long_line<S: Source>(&mut self, s: &mut S) -> Line
-        requires plain { HasNoFeed (pending self.old) }
-        requires over { (MOST_LINE < length (pending self.old)) ⊎ (most_bytes - given self.old < length (pending self.old)) }
+    fn long_line<S: Source>(&self, s: &mut S) -> Line
+        requires plain { HasNoFeed (pending self.now) }
+        requires over { (MOST_LINE < length (pending self.now)) ⊎ (most_bytes - given self.now < length (pending self.now)) }
         ensures later { S.fault_count s.old ≤ S.fault_count s.new }
         ensures cause { result ≡ Line.Fault → Rose (S.fault_count s.old) (S.fault_count s.new) }
-        ensures reads { Reads S.left (IsUndecided (given self.old)) (pending self.old) s.old s.new (IsReadBy self.old self.new result) }
-        ensures stage { self.new.stage ≡ self.old.stage }
+        ensures reads { Reads S.left (IsUndecided (given self.now)) (pending self.now) s.old s.new (IsReadBy self.now self.now result) }
         ensures here { IsFinal result }
-        ensures bad { result ≡ Line.Bad → AllLeft S.left (pending self.old) s.old (IsBadRest (given self.old) (turns_given self.old)) }
-        ensures unmoved { lines_given self.new ≡ lines_given self.old }
-        ensures long { result ≡ Line.Long → AllLeft S.left (pending self.old) s.old (IsLongRest (given self.old)) }
+        ensures bad { result ≡ Line.Bad → AllLeft S.left (pending self.now) s.old (IsBadRest (given self.now) (turns_given self.now)) }
+        ensures long { result ≡ Line.Long → AllLeft S.left (pending self.now) s.old (IsLongRest (given self.now)) }
     {
         let room = self.room();
         match self.buffer.pass_line(s, room) {

@@ -67,7 +67,7 @@ returns-in-Over-clause-reads g c =
     let l = c.args.self.now in
     let found =
     reads_weaker g.S.Source.left c.in-Over.ensures.reads (IsUndecided (given l)) (λ xs. xs ≡ c.find.new.self) (λ xs stops. stops_undecided (given l) 0 c.room-room.result xs c.room-room.ensures.whole stops) (λ xs same. same) in
-    reads_then g.S.Source.left found (IsReadBy l c.long_line.new.self c.long_line.result) [] c.find.new.self c.long_line.ensures.reads found.is (λ xs needs. needs) (λ xs by. read_by_final l _ c.long_line.new.self c.long_line.new.self c.long_line.result xs refl c.long_line.ensures.here by)
+    reads_then g.S.Source.left found (IsReadBy l _ c.long_line.result) [] c.find.new.self c.long_line.ensures.reads found.is (λ xs needs. needs) (λ xs by. read_by_final l _ _ _ c.long_line.result xs refl c.long_line.ensures.here by)
 
 pub returns-in-Over-clause-bad : goal.returns-in-Over-clause-bad
 returns-in-Over-clause-bad g c h =
