@@ -50,7 +50,7 @@ fn no_memory(rt: &HostRuntime) -> u8 {
     refused(rt, "?MEMORY", Status::Memory.number())
 }
 
-/// The words are wrong, or ask for the usage. Nothing is started, and no file is made.
+/// The words are wrong, or ask for the usage. Nothing is started.
 fn wrong_words(rt: &HostRuntime) -> u8 {
     usage(rt);
     refused(rt, "?USAGE", Status::Usage.number())
@@ -79,14 +79,25 @@ fn run(rt: &HostRuntime, words: &[String], record: File) -> u8 {
     status.number()
 }
 
+/// The file of the record can't be made.
+fn cannot_open(rt: &HostRuntime, error: &io::Error) -> u8 {
+    explain_error(rt, RECORD, Some(error));
+    refused(rt, "?CANNOT OPEN", CANNOT_OPEN)
+}
+
 /// Makes the file of the record anew, and runs.
 fn run_recorded(rt: &HostRuntime, words: &[String]) -> u8 {
     match fs::create(rt, RECORD) {
         Ok(record) => run(rt, words, record),
-        Err(error) => {
-            explain_error(rt, RECORD, Some(&error));
-            refused(rt, "?CANNOT OPEN", CANNOT_OPEN)
-        }
+        Err(error) => cannot_open(rt, &error),
+    }
+}
+
+/// A word is no text. The record is emptied, as with other wrong words.
+fn refuse_no_text(rt: &HostRuntime) -> u8 {
+    match fs::create(rt, RECORD) {
+        Ok(_) => wrong_words(rt),
+        Err(error) => cannot_open(rt, &error),
     }
 }
 
@@ -96,7 +107,7 @@ fn status(rt: &HostRuntime) -> u8 {
         Ok(words) if ask_for_usage(&words) => wrong_words(rt),
         Ok(words) => run_recorded(rt, &words),
         Err(error) if error.kind() == ErrorKind::OutOfMemory => no_memory(rt),
-        Err(_) => wrong_words(rt),
+        Err(_) => refuse_no_text(rt),
     }
 }
 
