@@ -1,7 +1,7 @@
 -- What each call on pages in memory does to the plain pages.
 use Rattle.std.proofs.Common.{◌≡◌, ℕ, zero, suc, cond, ◌+◌, ◌<◌, List, [], ◌∷◌, Bool, true, false, Option, None, Some, length, map, refl, sym, ◌∙◌, ap, subst, arith, get_or-set_same, get_or-set_other, is_some}
 use Rattle.std.specs.Option.{option_map}
-use Rattle.std.specs.Prelude.{slice_set, slice_index, slice_index_or, if◌then◌else◌, nat_lt, nat_le}
+use Rattle.std.specs.Prelude.{slice_set, slice_index, slice_index_or, if◌then◌else◌, nat_lt, nat_le, IsSome}
 use Rattle.std.specs.Cmp.{nat_cmp_total}
 use Rattle.std.proofs.lemmas.Bool.{true≢false, ltb-true}
 use Rattle.std.proofs.lemmas.Bool.Decides.{nat_tests}
@@ -219,3 +219,12 @@ placed t f space page found same place = by (slice_index_or (space_at t.spaces s
     by : (o : Option Home) → slice_index_or (space_at t.spaces space.0).entries page None ≡ o → option_map (λ (h : Home). record { 0 = h.0 }) o ≡ Some found → (h : Home) × (entry_in t.spaces (record { fork = f; page = page }) ≡ Some h) × (h.0 ≡ found.0)
     by None is p = absurd (cc p)
     by (Some h) is p = (h, ap (λ (k : ℕ). slice_index_or (space_at t.spaces k).entries page None) same ∙ is, cc p)
+
+-- a page that was found is ready for each kind of reference
+pub found_ready : {t : Tables} → Sound t → (f : ForkName) (space : SpaceHandle) (page : ℕ) → space_of t f ≡ Some space → page < SPACE_PAGES → (result : Option Found) → place_of t space page ≡ result → IsSome result → (kind : Kind) (owner : Tty)
+    → touch_of (plain_of t) core (in_map (record { fork = f; page = page })) kind owner ≡ Ready
+found_ready {t} sound f space page is low None place some kind owner = absurd (true≢false (sym some))
+found_ready {t} sound f space page is low (Some found) place some kind owner =
+    let here = handle_lives t f space is in
+    let at = placed t f space page found here.1 place in
+    touch_ready sound (record { fork = f; page = page }) here.0 low at.0 at.1 kind owner

@@ -219,9 +219,13 @@ compares code regs a m = record (nothing_done regs) { pc = if condition_holds (c
 
 -- 320 to 377: JUMP, AOJ, SOJ jump by the accumulator, SKIP, AOS, SOS skip by the word at E, with a number added to it first
 abbrev pub steps_by : Outcome → ℕ → Regs → ℕ → ℕ → Deed
-steps_by o code regs ac e =
-    if nat_lt code 8 then record (nothing_done regs) { ac = Some o.word; flags = set_with regs.flags o.flags; pc = if condition_holds code (signed o.word) then e else next_pc regs; post = overflow_post o.flags.overflow }
-    else record (nothing_done regs) { ac = unless_zero ac o.word; flags = set_with regs.flags o.flags; pc = if condition_holds (code - 8) (signed o.word) then skip_pc regs else next_pc regs; store = back e o.word; post = overflow_post o.flags.overflow }
+steps_by o code regs ac e = record (if nat_lt code 8 then jumped else skipped) { flags = set_with regs.flags o.flags; post = overflow_post o.flags.overflow }
+  where
+    jumped : Deed
+    jumped = record (nothing_done regs) { ac = Some o.word; pc = if condition_holds code (signed o.word) then e else next_pc regs }
+
+    skipped : Deed
+    skipped = record (nothing_done regs) { ac = unless_zero ac o.word; pc = if condition_holds (code - 8) (signed o.word) then skip_pc regs else next_pc regs; store = back e o.word }
 
 -- 320 to 337: JUMP, SKIP
 abbrev pub jumps_or_skips : ℕ → Regs → ℕ → ℕ → ℕ → ℕ → Deed

@@ -17,6 +17,7 @@ unfoldable pub takes : Option ℕ → ℕ → (ℕ → Steps) → Steps
 takes None e next = next e
 takes (Some at) e next = refers at Read next
 
+-- an accumulator with a word, if it gets one
 abbrev pub with_word : List ℕ → ℕ → Option ℕ → List ℕ
 with_word ac i None = ac
 with_word ac i (Some w) = slice_set ac i w
@@ -37,6 +38,7 @@ storing_first regs ac d at w =
     if is_accumulator at then record { regs = with_deed (record regs { ac = slice_set regs.ac at w }) ac d; put = None; post = d.post }
     else record { regs = with_deed regs ac d; put = Some (record { at = at; word = w }); post = d.post }
 
+-- the end of a deed, by where its word goes
 abbrev pub finishes_by : Store → Regs → ℕ → Deed → Steps
 finishes_by nowhere regs ac d = ends (record { regs = with_deed regs ac d; put = None; post = d.post })
 finishes_by (back at w) regs ac d = widens at (ends (storing (with_deed regs ac d) at w d.post))
@@ -51,16 +53,19 @@ finishes regs ac d = finishes_by d.store regs ac d
 unfoldable pub does : TableRow → ℕ → Regs → ℕ → ℕ → ℕ → Steps
 does row op regs ac e last = takes (taken_of row regs ac e) e (λ m. finishes regs ac (deed_of row op regs ac e last m))
 
--- the byte instructions, 133 to 137, by their order
+-- 133: IBP, by the order of the byte instructions
 abbrev pub IBP : ℕ
 IBP = 0
 
+-- 134: ILDB
 abbrev pub ILDB : ℕ
 ILDB = 1
 
+-- 135: LDB
 abbrev pub LDB : ℕ
 LDB = 2
 
+-- 136: IDPB
 abbrev pub IDPB : ℕ
 IDPB = 3
 
@@ -80,6 +85,7 @@ does_first_part regs ac e p = finishes regs ac (record (nothing_done regs) { fla
 abbrev pub first_part_done : Regs → Regs
 first_part_done regs = record regs { flags = without_bis regs.flags }
 
+-- a byte instruction with its pointer, the word at E
 abbrev pub does_byte : ℕ → Regs → ℕ → ℕ → ℕ → Steps
 does_byte code regs ac e p =
     if code == IBP then finishes regs ac (record (nothing_done regs) { store = back e (incremented p) })
@@ -96,10 +102,11 @@ does_pointer code regs ac e = refers e Read (does_byte code regs ac e)
 abbrev pub local_word : ℕ → ℕ → ℕ
 local_word w e = w / 2 ^ 23 * 2 ^ 23 + e
 
--- where a local call stores its word, and the word that it executes
+-- where a local call stores its word
 abbrev pub LOCAL_CALL : ℕ
 LOCAL_CALL = 0o40
 
+-- where the word stands that it executes
 abbrev pub LOCAL_HANDLER : ℕ
 LOCAL_HANDLER = 0o41
 

@@ -9,6 +9,7 @@ use Rattle.plain_model.specs.declared.names.PageName.{PageName}
 use Rattle.plain_model.specs.declared.names.Place.{Place}
 use Rattle.plain_model.specs.declared.names.Place.TheVariants.{Fork, File}
 use Rattle.plain_model.specs.declared.names.Kind.{Kind}
+use Rattle.plain_model.specs.declared.names.Kind.TheVariants.{Read, Write}
 use Rattle.plain_model.specs.declared.names.TheConstants.{SPACE_PAGES, TERMINALS}
 use Rattle.plain_model.specs.declared.map.MapEntry.{MapEntry}
 use Rattle.plain_model.specs.declared.map.MapEntry.TheVariants.{Empty, Names, Follows}
@@ -109,14 +110,14 @@ spot_of (File f page) = in_file (record { file = f.0; page = page })
 abbrev pub fork_place : ForkName → ℕ → Place
 fork_place f page = Fork (record { fork = f; page = page })
 
+-- an owner of pages: a terminal, or the console
+abbrev pub IsOwner : Tty → Type 0
+IsOwner t = (t.0 < TERMINALS) ⊎ (t.0 ≡ 255)
+
 -- a place that is there: a page of a living fork; those of files aren't built
 abbrev pub IsPlace : (ForkName → Bool) → Place → Type 0
 IsPlace lives (Fork s) = (lives s.fork ≡ true) × (s.page < SPACE_PAGES)
 IsPlace lives (File f page) = ⊥
-
--- an owner of pages: a terminal, or the console
-abbrev pub IsOwner : Tty → Type 0
-IsOwner t = (t.0 < TERMINALS) ⊎ (t.0 ≡ 255)
 
 -- a look that finds what it wants in frames
 abbrev pub is_seen : Peeked → Bool
@@ -185,6 +186,18 @@ pub record PagesMeaning (P : Type 0) : Type 1 where
   pub space : P → ForkName → Option SpaceHandle
   -- where the page of a space is that a look found, under its number
   pub place : P → SpaceHandle → ℕ → Option Found
+
+-- a touch of a page of a fork's space finds it ready
+abbrev pub IsTouched : {P : Type 0} → PagesMeaning P → P → ForkName → ℕ → Kind → Type 0
+IsTouched means p f page kind = means.touched p (fork_place f page) kind ≡ Ready
+
+-- over the words of a drum, whoever is to own what is made
+abbrev pub IsReady : {P : Type 0} → PagesMeaning P → P → DrumWords → ForkName → ℕ → Kind → Type 0
+IsReady means p d f page kind = (owner : Tty) → IsOwner owner → touch_of (means.plain p d) (means.scene p) (in_map (record { fork = f; page = page })) kind owner ≡ Ready
+
+-- what holds of a touch to read and of one to write
+abbrev pub CanChange : (Kind → Type 0) → Type 0
+CanChange holds = holds Read × holds Write
 
 -- a handle is that of a fork's space
 pub record HasSpace {P : Type 0} (means : PagesMeaning P) (p : P) (space : SpaceHandle) : Type 0 where

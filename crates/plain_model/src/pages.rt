@@ -8,7 +8,7 @@ ghost use Rattle.plain_model.specs.Events.{with_map};
 ghost use Rattle.plain_model.specs.Limits.{IsAddress};
 ghost use Rattle.plain_model.specs.Outcome.{DrumWords};
 ghost use Rattle.plain_model.specs.References.{in_map, settled, slot_at, word_at, stored};
-ghost use Rattle.plain_model.specs.Pages.{PagesMeaning, Agrees, AreSingle, HasSpace, StaysInCore, StaysPut, IsPlace, fork_place, IsOwner, IsBuiltMap, SettlesTo, spot_of, touch_of, peek_of, can_settle, frames_taken, is_in_core, is_seen, same_fork};
+ghost use Rattle.plain_model.specs.Pages.{PagesMeaning, Agrees, AreSingle, HasSpace, StaysInCore, StaysPut, IsPlace, IsTouched, IsReady, CanChange, IsOwner, IsBuiltMap, SettlesTo, spot_of, touch_of, peek_of, can_settle, frames_taken, is_in_core, is_seen, same_fork};
 
 use crate::{ForkName, Found, Kind, NewMap, Peeked, Place, SpaceHandle, Touch, Tty};
 use word36::Word;
@@ -28,6 +28,7 @@ pub trait Pages {
         ensures answer { result ≡ means.touched self.now at kind }
         ensures told { (d : DrumWords) (owner : ATty) → means.fits self.now d → IsOwner owner → result ≡ touch_of (means.plain self.now d) (means.scene self.now) (spot_of at) kind owner }
         ensures copies { (sole : Bool) → result ≡ Touch.Copy sole → kind ≡ Kind.Write }
+        ensures single { (sole : Bool) → means.single ≡ true → result ≢ Touch.Copy sole }
         ensures core { means.flat ≡ true → is_in_core result ≡ true };
 
     /// The word at an offset of the page of a place, which a touch to read or to execute finds Ready.
@@ -79,14 +80,16 @@ pub trait Pages {
         requires space { HasSpace means self.now space }
         requires page { page < SPACE_PAGES }
         ensures place { IfSome result (λ found. means.place self.now space page ≡ Some found) }
-        ensures ready { (f : AForkName) → means.space self.now f ≡ Some space → IsSome result ↔ (means.touched self.now (fork_place f page) kind ≡ Touch.Ready) };
+        ensures ready { (f : AForkName) → means.space self.now f ≡ Some space → IsSome result ↔ IsTouched means self.now f page kind }
+        ensures told { (d : DrumWords) (f : AForkName) → means.fits self.now d → means.space self.now f ≡ Some space → IsSome result → IsReady means self.now d f page kind };
 
     /// The same of a page whose touches to read and to write are both Ready.
     fn find_to_change(&self, space: SpaceHandle, page: u16) -> Option<Found>
         requires space { HasSpace means self.now space }
         requires page { page < SPACE_PAGES }
         ensures place { IfSome result (λ found. means.place self.now space page ≡ Some found) }
-        ensures ready { (f : AForkName) → means.space self.now f ≡ Some space → IsSome result ↔ ((means.touched self.now (fork_place f page) Kind.Read ≡ Touch.Ready) × (means.touched self.now (fork_place f page) Kind.Write ≡ Touch.Ready)) };
+        ensures ready { (f : AForkName) → means.space self.now f ≡ Some space → IsSome result ↔ CanChange (IsTouched means self.now f page) }
+        ensures told { (d : DrumWords) (f : AForkName) → means.fits self.now d → means.space self.now f ≡ Some space → IsSome result → CanChange (IsReady means self.now d f page) };
 
     /// The word at an address of a space, in a page that was found.
     fn load(&self, space: SpaceHandle, found: Found, address: u32) -> Word
