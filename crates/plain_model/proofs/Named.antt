@@ -31,7 +31,8 @@ use Rattle.plain_model.specs.References.{Referred, granted, denied, full, in_map
 use Rattle.plain_model.specs.Room.{HasRoom}
 use Rattle.plain_model.specs.declared.call.TheConstants.{PBOUT, HALTF}
 use Rattle.plain_model.specs.declared.channel.TheConstants.{ILLEGAL_INSTRUCTION, DRUM_FULL}
-use Rattle.plain_model.specs.Unit.{Effect, Deed, goes, calls, traps, Fetched, word as fetches, stops, in_command_mode, printed, stop_text, stopped, unit_ended, trapped, pbout, haltf, called, done_by, executed, unit, deed_of, advanced, fetched}
+use Rattle.plain_model.specs.Unit.{Effect, in_command_mode, printed, stop_text, stopped, unit_ended, trapped, pbout, haltf, called, advanced, posted_if, went, over, unit_on, unit}
+use Rattle.plain_model.specs.Steps.{Planned, Ending, done, call, trap, need, stopped as unit_stopped, pages_left}
 use Rattle.plain_model.specs.References.{slot_at}
 use Rattle.plain_model.specs.declared.map.NewMap.TheVariants.{Empty as EmptyMap}
 use Rattle.plain_model.specs.Events.{refused, next_fork, with_map, with_job, restarted, login, with_accumulator, poked, poke, start, word_seen, examine, show_forks, outer}
@@ -84,7 +85,6 @@ module _ (s : PlainState) (n : IsNamed s) where
       at k g false other is = n.stands k g (sym (map.get-insert fork_cmp_total s.forks f.name f k ∙ ap (λ b. cond b (Some f) (map.get s.forks k)) other) ∙ is)
 
   -- a unit leaves its fork's name
-
   stopped_named : (f : Fork) → IsForkName f.name → Leaves (stopped s f)
   stopped_named f fits = let t = with_fork s (counted f) in let m : IsNamed t = put (counted f) fits in
       cond_both (is_some f.superior) (record { state = t; items = [] }) (record { state = in_command_mode t f.name.tty; items = printed f.name.tty (stop_text f.body.status) }) Leaves (λ below. m) (λ top. mode_named t f.name.tty (map.get t.jobs f.name.tty.0) m)
@@ -95,36 +95,45 @@ module _ (s : PlainState) (n : IsNamed s) where
   ended_named f Halted fits = stopped_named f fits
   ended_named f (Forced channel) fits = stopped_named f fits
 
+-- a unit that goes through leaves its fork's name
+went_named : (s : PlainState) → IsNamed s → (f : Fork) (pages : NamedPages) (e : Ending) → IsForkName f.name → Leaves (went s f pages e)
+went_named s n f pages e fits = by e.post
+  where
+    g : Fork
+    g = with_regs f e.regs
+
+    by : (post : Option ℕ) → Leaves (unit_ended (record s { pages = pages }) (posted_if g post) (posted_if g post).body.status)
+    by None = ended_named (record s { pages = pages }) n g g.body.status fits
+    by (Some channel) = ended_named (record s { pages = pages }) n (posted g channel) (posted g channel).body.status (posted_fits g channel fits)
+
+module _ (s : PlainState) (n : IsNamed s) where
   trapped_named : (f : Fork) (channel : ℕ) → IsForkName f.name → Leaves (trapped s f channel)
-  trapped_named f channel fits = ended_named (posted f channel) (posted f channel).body.status (posted_fits f channel fits)
+  trapped_named f channel fits = ended_named s n (posted f channel) (posted f channel).body.status (posted_fits f channel fits)
 
   pbout_named : (f : Fork) → IsForkName f.name → Leaves (pbout s f)
-  pbout_named f fits = put (counted (with_regs f (advanced f.body.regs))) fits
+  pbout_named f fits = put s n (counted (with_regs f (advanced f.body.regs))) fits
 
   haltf_named : (f : Fork) → IsForkName f.name → Leaves (haltf s f)
-  haltf_named f fits = stopped_named (with_status (with_regs f (advanced f.body.regs)) Halted) fits
+  haltf_named f fits = stopped_named s n (with_status (with_regs f (advanced f.body.regs)) Halted) fits
 
   called_named : (f : Fork) (number : ℕ) → IsForkName f.name → Leaves (called s f number)
   called_named f number fits =
       cond_both (number == PBOUT) (pbout s f) (cond (number == HALTF) (haltf s f) (trapped s f ILLEGAL_INSTRUCTION)) Leaves (λ prints. pbout_named f fits) (λ other.
       cond_both (number == HALTF) (haltf s f) (trapped s f ILLEGAL_INSTRUCTION) Leaves (λ halts. haltf_named f fits) (λ none. trapped_named f ILLEGAL_INSTRUCTION fits))
 
-  done_named : (f : Fork) (pages : NamedPages) (d : Deed) → IsForkName f.name → Leaves (done_by s f pages d)
-  done_named f pages (goes regs) fits = put (counted (with_regs f regs)) fits
-  done_named f pages (calls number) fits = called_named f number fits
-  done_named f pages (traps channel) fits = trapped_named f channel fits
-
-  executed_named : (f : Fork) (w : Fetched name_cmp) → IsForkName f.name → Leaves (executed s f w)
-  executed_named f (fetches w pages) fits = done_named f pages (deed_of f.body.regs w) fits
-  executed_named f (stops channel) fits = trapped_named f channel fits
+  over_named : (f : Fork) (r : Planned name_cmp ⊥) → IsForkName f.name → Leaves (over s f r)
+  over_named f (done t e) fits = went_named s n f (pages_left f.name t e) e fits
+  over_named f (unit_stopped (trap channel)) fits = trapped_named f channel fits
+  over_named f (unit_stopped (need none)) fits = absurd none
+  over_named f (call number) fits = called_named f number fits
 
   unit_named : (k : ForkName) → Leaves (unit s k)
   unfolding unit
   unit_named k = by (map.get s.forks k) refl
     where
-      by : (o : Option Fork) → map.get s.forks k ≡ o → Leaves (option_map_or (λ f. executed s f (fetched s.pages f)) o (record { state = s; items = [] }))
+      by : (o : Option Fork) → map.get s.forks k ≡ o → Leaves (option_map_or (λ f. over s f (unit_on f.name s.pages f.body.regs)) o (record { state = s; items = [] }))
       by None is = n
-      by (Some f) is = executed_named f (fetched s.pages f) (living_fits k f is)
+      by (Some f) is = over_named f (unit_on f.name s.pages f.body.regs) (living_fits s n k f is)
 
   -- an event makes a fork under a terminal's next serial, and else leaves the names
 
@@ -135,7 +144,7 @@ module _ (s : PlainState) (n : IsNamed s) where
   with_job_named : (t : Tty) (user : List ℕ) → IsForkName (next_fork s t) → IsNamed (with_job s t user)
   with_job_named t user fits =
       let serial = (next_fork s t).serial + 1 in
-      let made = put (top_fork (next_fork s t)) fits in
+      let made = put s n (top_fork (next_fork s t)) fits in
       record {
         stands = made.stands;
         begun = All-set (λ n. 1 ≤ n) s.fork_serials t.0 serial (omega arith) n.begun;
@@ -158,7 +167,7 @@ module _ (s : PlainState) (n : IsNamed s) where
     where
       by : (o : Option Fork) → map.get s.forks k ≡ o → IsNamed (option_map_or (λ f. with_fork s (change f)) o s)
       by None is = n
-      by (Some f) is = put (change f) (subst IsForkName (sym (same f)) (living_fits k f is))
+      by (Some f) is = put s n (change f) (subst IsForkName (sym (same f)) (living_fits s n k f is))
 
   poked_named : (t : Tty) (slot : Slot) (offset word : ℕ) (r : Referred name_cmp) → Leaves (poked s t slot offset word r)
   poked_named t slot offset word (granted p) = n

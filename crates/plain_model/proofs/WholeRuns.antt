@@ -1,6 +1,6 @@
 -- The plain state is whole wherever a run comes.
 use Rattle.std.proofs.Common.{◌≡◌, ◌≢◌, ℕ, ◌+◌, ◌%◌, ◌<◌, ◌≤◌, Bool, true, false, cond, List, [], ◌∷◌, length, Option, None, Some, ◌⊎◌, inl, inr, refl, sym, ◌∙◌, ap, subst, arith, length-set, Ordering, All, get_or-set_other}
-use Rattle.std.specs.Prelude.{◌==◌, is_some, nat_lt, slice_set, slice_index}
+use Rattle.std.specs.Prelude.{◌==◌, is_some, nat_lt, nat_le, slice_set, slice_index}
 use Rattle.std.specs.Option.{option_map_or}
 use Rattle.std.specs.Ordering.{eq_by_cmp, nat_cmp, is_eq}
 use Rattle.std.specs.Cmp.{Equal-is, IsTotalOrder, nat_cmp_total}
@@ -9,6 +9,9 @@ use Rattle.std.specs.FinMap as map
 use Rattle.std.proofs.lemmas.Cmp.{tied_itself}
 use Rattle.outside.specs.declared.TheConstants.{PAGE_WORDS}
 use Rattle.plain_model.specs.declared.names.TheConstants.{TERMINALS, ACCUMULATORS, LAST_SERIAL}
+use Rattle.plain_model.specs.declared.unit.TheConstants.{MOST_REFERENCES}
+use Rattle.plain_model.specs.declared.unit.Put.{Put}
+use Rattle.plain_model.specs.Instructions.{instruction}
 use Rattle.plain_model.specs.declared.names.Tty.{Tty}
 use Rattle.plain_model.specs.declared.names.ForkName.{ForkName}
 use Rattle.plain_model.specs.declared.names.PageName.{PageName}
@@ -30,9 +33,9 @@ use Rattle.plain_model.specs.declared.fork.ForkStatus.TheVariants.{Run as Runnin
 use Rattle.plain_model.specs.Interrupts.{posted, pended, listens, is_panic}
 use Rattle.plain_model.specs.declared.call.TheConstants.{PBOUT, HALTF}
 use Rattle.plain_model.specs.declared.channel.TheConstants.{ILLEGAL_INSTRUCTION, DRUM_FULL}
-use Rattle.plain_model.specs.Unit.{Effect, Deed, goes, calls, traps, word as fetches, in_command_mode, printed, stop_text, stopped, unit_ended, trapped, pbout, haltf, called, done_by, executed, unit, deed_of, advanced, fetched, fetched_by}
+use Rattle.plain_model.specs.Unit.{Effect, in_command_mode, printed, stop_text, stopped, unit_ended, trapped, pbout, haltf, called, advanced, posted_if, went, over, unit_on, unit}
 use Rattle.plain_model.specs.References.{slot_at}
-use Rattle.plain_model.specs.Steps.{denied_channel}
+use Rattle.plain_model.specs.Steps.{Steps, refers, widens, keeps, ends, traps, calls, Planned, Progress, Ending, Asked, goes, done, call, trap, need, stopped as unit_stopped, is_accumulator, goes_on, asked_at, plain_asked, plainly, word_taken, referred, widened, run, begun, put_into, pages_left}
 use Rattle.plain_model.specs.declared.event.Event.{Event}
 use Rattle.plain_model.specs.declared.event.Event.TheVariants.{Login, TypeIn, File, Words, Poke, Start, Run, Tick, Evict, Drum, Auto, Examine, Forks, Page, Trace}
 use Rattle.plain_model.specs.declared.event.Item.TheVariants.{Char, Examined}
@@ -309,31 +312,69 @@ module _ (s : PlainState) (w : IsWhole s) (name : ForkName) (f : Fork) (there : 
       cond_both (number == PBOUT) (pbout s f) (cond (number == HALTF) (haltf s f) (trapped s f ILLEGAL_INSTRUCTION)) Leaves (λ prints. put (counted (with_regs f (advanced f.body.regs))) (refl, refl)) (λ other.
       cond_both (number == HALTF) (haltf s f) (trapped s f ILLEGAL_INSTRUCTION) Leaves (λ halts. stopped_whole (with_status (with_regs f (advanced f.body.regs)) Halted) (refl, refl)) (λ none. trapped_whole ILLEGAL_INSTRUCTION))
 
-  done_whole : (q : NamedPages) → IsWhole (record s { pages = q }) → (d : Deed) → Leaves (done_by s f q d)
-  done_whole q whole (goes regs) = fork_whole (record s { pages = q }) whole name f (counted (with_regs f regs)) there (w.own name f there) refl
-  done_whole q whole (calls number) = called_whole number
-  done_whole q whole (traps channel) = trapped_whole channel
+-- a unit that goes through leaves its fork's name and slot
+went_whole : (s : PlainState) (w : IsWhole s) (name : ForkName) (f : Fork) → map.get s.forks name ≡ Some f → (q : NamedPages) → IsWhole (record s { pages = q }) → (e : Ending) → Leaves (went s f q e)
+went_whole s w name f there q whole e = by e.post
+  where
+    g : Fork
+    g = with_regs f e.regs
 
-  fetched_whole : IsOwner f.name.tty → Leaves (executed s f (fetched s.pages f))
-  fetched_whole own =
-      let at = slot_at f.name f.body.regs.pc in
-      let offset = f.body.regs.pc % PAGE_WORDS in
-      let r = reference s.pages (in_map at) Execute f.name.tty in
-      cond_both (nat_lt f.body.regs.pc ACCUMULATORS) (fetches (slice_index f.body.regs.ac f.body.regs.pc) s.pages) (fetched_by s.pages at offset r) (λ x. Leaves (executed s f x)) (λ low. done_whole s.pages w (deed_of f.body.regs (slice_index f.body.regs.ac f.body.regs.pc))) (λ high. by r refl)
-    where
-      by : (r : Referred name_cmp) → reference s.pages (in_map (slot_at f.name f.body.regs.pc)) Execute f.name.tty ≡ r → Leaves (executed s f (fetched_by s.pages (slot_at f.name f.body.regs.pc) (f.body.regs.pc % PAGE_WORDS) r))
-      by (granted q) is = done_whole q (referred_whole s w f.name.tty own (slot_at f.name f.body.regs.pc) Execute q is) (deed_of f.body.regs (word_at s.pages (in_map (slot_at f.name f.body.regs.pc)) (f.body.regs.pc % PAGE_WORDS)))
-      by (denied kind) is = trapped_whole (denied_channel kind)
-      by full is = trapped_whole DRUM_FULL
+    by : (post : Option ℕ) → Leaves (unit_ended (record s { pages = q }) (posted_if g post) (posted_if g post).body.status)
+    by None = ended_whole_fork (record s { pages = q }) whole name f there g g.body.status (refl, refl)
+    by (Some channel) = ended_whole_fork (record s { pages = q }) whole name f there (posted g channel) (posted g channel).body.status (posted_same g channel)
+
+-- the references of a unit leave a whole state whole, and so do the words that it stores
+module _ (s : PlainState) (f : ForkName) where
+  abbrev WholeWith : NamedPages → Type 0
+  WholeWith p = IsWhole (record s { pages = p })
+
+  abbrev LeavesWhole : Planned name_cmp ⊥ → Type 0
+  LeavesWhole (done t e) = WholeWith (pages_left f t e)
+  LeavesWhole (unit_stopped why) = Unit {0}
+  LeavesWhole (call number) = Unit {0}
+
+  module _ (own : IsOwner f.tty) where
+    asked_whole : (p : NamedPages) → WholeWith p → (a : ℕ) (kind : Kind) (next : NamedPages → Planned name_cmp ⊥) → ((q : NamedPages) → WholeWith q → LeavesWhole (next q)) → LeavesWhole (goes_on (asked_at (plainly f) f p a kind) next)
+    asked_whole p w a kind next leaves = cond_both (is_accumulator a) (goes p) (plainly f p (slot_at f a) kind) (λ x. LeavesWhole (goes_on x next)) (λ low. leaves p w) (λ high. by (reference p (in_map (slot_at f a)) kind f.tty) refl)
+      where
+        by : (r : Referred name_cmp) → reference p (in_map (slot_at f a)) kind f.tty ≡ r → LeavesWhole (goes_on (plain_asked r) next)
+        by (granted q) is = leaves q (referred_whole (record s { pages = p }) w f.tty own (slot_at f a) kind q is)
+        by (denied k) is = tt
+        by full is = tt
+
+    put_whole : (p : NamedPages) → WholeWith p → (put : Option Put) → WholeWith (put_into f p put)
+    put_whole p w None = w
+    put_whole p w (Some put) =
+        let at = slot_at f put.at in
+        let offset = put.at % PAGE_WORDS in
+        pages_whole (record s { pages = p }) w (stored p (in_map at) offset put.word) (stored_whole nat_list_cmp_total p w.pages at offset put.word) (stored_room p at offset put.word w.room) (stored_files p at offset put.word) (stored_maps p at offset put.word)
+
+    run_whole : (steps : Steps) (t : Progress name_cmp) → WholeWith t.pages → LeavesWhole (run (plainly f) f steps t)
+    unfolding run
+    run_whole (refers a kind next) t w =
+        cond_both (nat_le MOST_REFERENCES (length t.refs)) _ _ LeavesWhole (λ most. tt) (λ few. asked_whole t.pages w a kind _ (λ q whole. run_whole (next (word_taken f (referred t a kind q) a)) (referred t a kind q) whole))
+    run_whole (widens a next) t w = asked_whole t.pages w a Write _ (λ q whole. run_whole next (widened t a q) whole)
+    run_whole (keeps a word next) t w = run_whole next (record t { kept = Some (record { at = a; word = word }) }) w
+    run_whole (ends e) t w = put_whole (put_into f t.pages t.kept) (put_whole t.pages w t.kept) e.put
+    run_whole (traps channel) t w = tt
+    run_whole (calls number) t w = tt
 
 module _ (s : PlainState) (w : IsWhole s) where
+  over_whole : (name : ForkName) (f : Fork) → map.get s.forks name ≡ Some f → (r : Planned name_cmp ⊥) → LeavesWhole s f.name r → Leaves (over s f r)
+  over_whole name f there (done t e) left = went_whole s w name f there (pages_left f.name t e) left e
+  over_whole name f there (unit_stopped (trap channel)) left = trapped_whole s w name f there channel
+  over_whole name f there (unit_stopped (need none)) left = absurd none
+  over_whole name f there (call number) left = called_whole s w name f there number
+
   unit_whole : (name : ForkName) → IsForkName name → Leaves (unit s name)
   unfolding unit
   unit_whole name fits = by (map.get s.forks name) refl
     where
-      by : (o : Option Fork) → map.get s.forks name ≡ o → Leaves (option_map_or (λ f. executed s f (fetched s.pages f)) o (record { state = s; items = [] }))
+      by : (o : Option Fork) → map.get s.forks name ≡ o → Leaves (option_map_or (λ f. over s f (unit_on f.name s.pages f.body.regs)) o (record { state = s; items = [] }))
       by None is = w
-      by (Some f) is = fetched_whole s w name f is (inl (subst (λ (n : ForkName). n.tty.0 < TERMINALS) (sym (w.own name f is)) fits.0))
+      by (Some f) is =
+          let own : IsOwner f.name.tty = inl (subst (λ (n : ForkName). n.tty.0 < TERMINALS) (sym (w.own name f is)) fits.0) in
+          over_whole name f is (unit_on f.name s.pages f.body.regs) (run_whole s f.name own (instruction f.body.regs) (begun s.pages f.body.regs.ac) w)
 
   changed_whole : (name : ForkName) (change : Fork → Fork) → ((f : Fork) → IsSame f (change f)) → IsWhole (change_fork s name change)
   changed_whole name change same = by (map.get s.forks name) refl
