@@ -11,6 +11,7 @@ pub mod Settles
 pub mod Touches
 pub mod Rooms
 pub mod Refiled
+pub mod RefiledUnits
 pub mod Equations
 pub mod WholeRuns
 pub mod ExampleTexts
