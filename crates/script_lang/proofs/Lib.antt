@@ -1,3 +1,6 @@
+pub mod FullNames
+pub mod Generated
+pub mod Moves
 pub mod Numbers
 pub mod Splits
 pub mod Fronts

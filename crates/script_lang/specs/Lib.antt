@@ -5,3 +5,6 @@ pub mod Grammar
 pub mod Feeds
 pub mod Lines
 pub mod Canonical
+pub mod Names
+pub mod Generator
+pub mod Stages

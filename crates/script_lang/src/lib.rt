@@ -3,27 +3,39 @@
 //! Stands on `plain_model` for events, on `outside` for sources, and on `word36` for words.
 #![tactic(auto)]
 
+mod big;
+mod big_laws;
+#[cfg(test)]
+mod big_tests;
 mod buffer;
 mod canonical;
 #[cfg(test)]
 mod canonical_tests;
 pub mod digits;
+mod draws;
 mod events;
 mod fields;
 mod grammar;
 mod keywords;
 mod lines;
+mod named;
+#[cfg(test)]
+mod named_tests;
 mod names;
 mod reached;
 mod rows;
+mod stages;
 #[cfg(test)]
 mod tests;
 mod typed;
 mod verdicts;
 
+pub use big::{Big, big_from};
+pub use big_laws::big_script;
 pub use canonical::{LineRoom, canonical_lines, write_line};
 pub use fields::read_decimal;
 pub use grammar::{Read, one_spelling, read_line, script_fits};
 pub use lines::{Lines, Next};
+pub use named::{full_names, read_name};
 pub use reached::{MOST_BYTES, MOST_LINE, MOST_TURNS};
 pub use verdicts::one_verdict;

@@ -1,0 +1,15 @@
+//! The lines that a user types to the monitor, read as commands.
+//! To the layers above each line is one command, said by its words alone.
+//! Stands on `script_lang` for the names of files, and on `plain_model` for their types.
+#![tactic(auto)]
+
+mod command;
+mod laws;
+mod line;
+#[cfg(test)]
+mod tests;
+mod words;
+
+pub use command::Command;
+pub use laws::{one_command, words_between_spaces};
+pub use line::read;

@@ -1,0 +1,8 @@
+use Rattle.script_lang.proofs.Moves.{show_last, show_next}
+use Rattle.script_lang.proofs.big.show.Goals as goal
+
+pub returns-then-t-eq-LAST_TERMINAL : goal.returns-then-t-eq-LAST_TERMINAL
+returns-then-t-eq-LAST_TERMINAL c = λ x. show_last c.args.t x c.if-t-eq-LAST_TERMINAL.true
+
+pub returns-else-t-eq-LAST_TERMINAL : goal.returns-else-t-eq-LAST_TERMINAL
+returns-else-t-eq-LAST_TERMINAL c = λ x. show_next c.args.t x c.requires c.if-t-eq-LAST_TERMINAL.false

@@ -1,0 +1,14 @@
+//! What is typed at the terminal of a job while its forks read it: stored, dropped, or taken as an interrupt.
+//! To the layers above a line is a list of characters and a finite map of the codes that forks have assigned.
+//! Stands on `number_map` for the codes, and on `plain_model` for the names of forks.
+#![tactic(auto)]
+
+mod laws;
+mod line;
+#[cfg(test)]
+mod tests;
+mod typing;
+
+pub use laws::{oldest_first, typed_in_order};
+pub use line::Line;
+pub use typing::{ASSIGNABLE_CODES, CONTROL_C, MOST_STORED, Typed, read_as};
