@@ -4,6 +4,7 @@ use Rattle.std.specs.List.{cons_option}
 use Rattle.std.proofs.lemmas.Bool.{cases_eq, false≢true}
 use Rattle.std.proofs.lemmas.List.{get_or-set_other}
 use Rattle.frame_order.specs.FrameOrder.{stands_in, without as order_without}
+use Rattle.frame_order.proofs.Changes.{same_test, other_test}
 use Rattle.frame_order.proofs.Orders.{stands_first, stands_behind}
 use Rattle.drum_queue.specs.declared.transfer.Transfer.{Transfer}
 use Rattle.drum_queue.specs.Transfers.{frame_of, is_of, transfer_of, without}
@@ -13,19 +14,9 @@ use Rattle.drum_queue.specs.Places.{place, listed}
 abbrev pub AreOwn : List (Option Transfer) → Type 0
 AreOwn ts = (f : ℕ) (t : Transfer) → place ts f ≡ Some t → f ≡ frame_of t
 
-pub same_test : (f g : ℕ) → f ≡ g → (f == g) ≡ true
-same_test f g e = grind arith
-
-pub other_test : (f g : ℕ) → f ≢ g → (f == g) ≡ false
-other_test f g e = grind arith
-
-pub cond_same : {X : Type 0} (b : Bool) (x : X) → cond b x x ≡ x
+cond_same : {X : Type 0} (b : Bool) (x : X) → cond b x x ≡ x
 cond_same true x = refl
 cond_same false x = refl
-
-pub or_none : (b : Bool) → (b || false) ≡ b
-or_none true = refl
-or_none false = refl
 
 -- a transfer of another frame, or none, stands before what is looked up in
 found_more : (f g : ℕ) (p q : Option Transfer) (rest : List Transfer) (b : Bool)

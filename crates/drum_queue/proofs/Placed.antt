@@ -5,48 +5,12 @@ use Rattle.std.proofs.lemmas.Bool.{cases_eq, false≢true}
 use Rattle.std.proofs.lemmas.List.{get_or-set_same, get_or-set_other, length-set, length-replicate}
 use Rattle.std.proofs.lemmas.List.Elements.{filter_map-append}
 use Rattle.frame_order.specs.FrameOrder.{Order, IsOrder, IsOnce, stands_in, without as order_without}
-use Rattle.frame_order.proofs.Orders.{other_frame, once_push, once_at, found, stands_push, stands_around, without_found, stands_in-append}
+use Rattle.frame_order.proofs.Changes.{same_test, order_pushed, order_taken, stands_last, stands_before, absent_taken, stands_taken}
+use Rattle.frame_order.proofs.Orders.{other_frame}
 use Rattle.drum_queue.specs.declared.transfer.Transfer.{Transfer}
 use Rattle.drum_queue.specs.Transfers.{Transfers, frame_of, is_of, transfer_of, without, IsSingle}
 use Rattle.drum_queue.specs.Places.{place, listed, queue_view, IsPlaced}
-use Rattle.drum_queue.proofs.Listed.{AreOwn, same_test, other_test, or_none, listed_found, listed_kept, listed_frames, listed_without, without_idle}
-
--- an order with one more frame, and with one fewer
-order_push : (o : Order) (f : ℕ) → IsOrder o → f < o.frames → stands_in f o.order ≡ false → IsOrder (record o { order = o.order ++ f ∷ [] })
-order_push o f is below absent = record {
-  once = once_push f o.order is.once absent;
-  below = λ g here. elim (stands_push g f o.order here) [ inl before ↦ is.below g before | inr last ↦ omega arith ];
-}
-
-order_take : (o : Order) (f : ℕ) → IsOrder o → stands_in f o.order ≡ true → IsOrder (record o { order = order_without f o.order })
-order_take o f is here =
-    let at = found f o.order here in
-    let once : IsOnce (at.front ++ f ∷ at.rest) = subst IsOnce at.is is.once in
-    let same : order_without f o.order ≡ at.front ++ at.rest = ap (order_without f) at.is ∙ without_found f at.front at.rest once in
-    record {
-      once = subst IsOnce (sym same) (once_at f at.front at.rest once).once;
-      below = λ g there. is.below g (subst (λ (fs : List ℕ). stands_in g fs ≡ true) (sym at.is) (stands_around g f at.front at.rest (subst (λ (fs : List ℕ). stands_in g fs ≡ true) same there)));
-    }
-
-absent_taken : (f : ℕ) (fs : List ℕ) → stands_in f (order_without f fs) ≡ false
-absent_taken f [] = refl
-absent_taken f (g ∷ gs) = elim (cases_eq f g) [
-  | inl same ↦ ap (λ (b : Bool). stands_in f (cond (not b) (g ∷ order_without f gs) (order_without f gs))) (same_test f g same) ∙ absent_taken f gs
-  | inr other ↦
-      ap (λ (b : Bool). stands_in f (cond (not b) (g ∷ order_without f gs) (order_without f gs))) (other_test f g other)
-      ∙ ap (λ (b : Bool). b || stands_in f (order_without f gs)) (other_test f g other) ∙ absent_taken f gs
-]
-
-stands_taken : (f h : ℕ) (fs : List ℕ) → h ≢ f → stands_in h (order_without f fs) ≡ stands_in h fs
-stands_taken f h [] apart = refl
-stands_taken f h (g ∷ gs) apart = elim (cases_eq f g) [
-  | inl same ↦
-      ap (λ (b : Bool). stands_in h (cond (not b) (g ∷ order_without f gs) (order_without f gs))) (same_test f g same) ∙ stands_taken f h gs apart
-      ∙ ap (λ (b : Bool). b || stands_in h gs) (sym (other_test h g (λ e. apart (e ∙ sym same))))
-  | inr other ↦
-      ap (λ (b : Bool). stands_in h (cond (not b) (g ∷ order_without f gs) (order_without f gs))) (other_test f g other)
-      ∙ ap (λ (b : Bool). (h == g) || b) (stands_taken f h gs apart)
-]
+use Rattle.drum_queue.proofs.Listed.{AreOwn, listed_found, listed_kept, listed_frames, listed_without, without_idle}
 
 -- the places stand for a list of transfers, and it is this
 pub record Becomes (o : Order) (ts : List (Option Transfer)) (q : Transfers) : Type 0 where
@@ -71,13 +35,6 @@ pub single_at : (o : Order) (ts : List (Option Transfer)) (q : Transfers) → Is
 single_at o ts q placed view =
     subst IsSingle view (subst (λ (fs : List ℕ). IsOrder (record { frames = o.frames; order = fs })) (sym (listed_frames ts placed.own o.order (λ f here. placed.stands f ∙ here))) placed.order)
 
-stands_pushed : (g f : ℕ) (fs : List ℕ) → stands_in g (fs ++ f ∷ []) ≡ (stands_in g fs || (g == f))
-stands_pushed g f fs = stands_in-append g fs (f ∷ []) ∙ ap (λ (b : Bool). stands_in g fs || b) (or_none (g == f))
-
-or_true : (b : Bool) → (b || true) ≡ true
-or_true true = refl
-or_true false = refl
-
 -- a transfer is put behind the others
 pushed_at : (o : Order) (ts : List (Option Transfer)) (t : Transfer) → IsPlaced o ts → frame_of t < o.frames → stands_in (frame_of t) o.order ≡ false
     → Becomes (record o { order = o.order ++ frame_of t ∷ [] }) (set ts (frame_of t) (Some t)) (record { frames = o.frames; queued = listed ts o.order ++ t ∷ [] })
@@ -93,11 +50,9 @@ pushed_at o ts t placed below absent =
         size = length-set ts f (Some t) ∙ placed.size;
         stands = λ g. elim (cases_eq g f) [
           | inl same ↦
-              ap (λ (h : ℕ). is_some (place us h)) same ∙ ap is_some here
-              ∙ sym (stands_pushed g f o.order ∙ ap (λ (b : Bool). stands_in g o.order || b) (same_test g f same) ∙ or_true (stands_in g o.order))
+              ap (λ (h : ℕ). is_some (place us h)) same ∙ ap is_some here ∙ sym (stands_last g f o.order same)
           | inr other ↦
-              ap is_some (there g other) ∙ placed.stands g
-              ∙ sym (stands_pushed g f o.order ∙ ap (λ (b : Bool). stands_in g o.order || b) (other_test g f other) ∙ or_none (stands_in g o.order))
+              ap is_some (there g other) ∙ placed.stands g ∙ sym (stands_before g f o.order other)
         ];
         own = λ g u is. elim (cases_eq g f) [
           | inl same ↦
@@ -106,7 +61,7 @@ pushed_at o ts t placed below absent =
               same ∙ ap frame_of it
           | inr other ↦ placed.own g u (sym (there g other) ∙ is)
         ];
-        order = order_push o f placed.order below absent;
+        order = order_pushed o f placed.order below absent;
       };
       view = ap (λ (l : List Transfer). record { frames = o.frames; queued = l })
           (filter_map-append (place us) o.order (f ∷ [])
@@ -136,7 +91,7 @@ taken_at o ts f placed stands =
               absurd cc
           | inr other ↦ placed.own g u (sym (there g other) ∙ is)
         ];
-        order = order_take o f placed.order stands;
+        order = order_taken o f placed.order stands;
       };
       view = ap (λ (l : List Transfer). record { frames = o.frames; queued = l }) (listed_without ts placed.own f o.order);
     }
