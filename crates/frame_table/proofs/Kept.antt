@@ -1,0 +1,336 @@
+-- What each change of a frame leaves of how the frames are kept.
+use Rattle.std.proofs.Common.{◌≡◌, ◌≢◌, ℕ, zero, suc, ◌+◌, ◌-◌, ◌^◌, ◌<◌, ◌≤◌, ◌⊎◌, inl, inr, List, [], ◌∷◌, ◌++◌, length, Option, None, Some, is_some, IsSome, Bool, true, false, not, cond, min, refl, sym, ◌∙◌, ap, subst, arith, get_or, set, replicate, count_by}
+use Rattle.std.specs.Prelude.{is_none}
+use Rattle.std.specs.Option.{option_map}
+use Rattle.std.specs.Ordering.{nat_cmp}
+use Rattle.std.specs.FinMap as map
+use Rattle.std.proofs.lemmas.Bool.{cases_eq, cases_lt, false≢true}
+use Rattle.std.proofs.lemmas.List.{get_or-set_same, get_or-set_other, length-set, get_or_past, length-replicate, set-get_or}
+use Rattle.std.proofs.lemmas.List.Sums.{sum_by-set, sum_by-cons, count_by-le-length, get_or-le-sum_by}
+use Rattle.frame_order.specs.FrameOrder.{Order, IsOrder, stands_in, without}
+use Rattle.frame_order.proofs.Changes.{order_pushed, order_taken, stands_last, stands_before, absent_taken, stands_taken}
+use Rattle.frame_order.proofs.Orders.{without_absent}
+use Rattle.number_map.proofs.Keys.{get_put, get_put_other, get_gone, get_gone_other}
+use Rattle.plain_model.specs.declared.names.Home.{Home}
+use Rattle.plain_model.specs.declared.names.FrameId.{FrameId}
+use Rattle.plain_model.specs.declared.names.TheConstants.{MOST_HOMES}
+use Rattle.plain_model.specs.References.{zero_words}
+use Rattle.frame_table.specs.declared.tenant.Tenant.{Tenant}
+use Rattle.frame_table.specs.declared.tenant.TheConstants.{MOST_PINS}
+use Rattle.frame_table.specs.Core.{Core, IsCore, seat_of, home_in, IsAway, IsLeastFree, with_page, without_page, with_words, new_tenant}
+use Rattle.frame_table.specs.Seats.{AreKept}
+
+-- the seat of a frame, and its home
+abbrev seat : List (Option Tenant) → ℕ → Option Tenant
+seat seats f = get_or seats f None
+
+abbrev home : List (Option Tenant) → ℕ → Option Home
+home seats f = option_map (λ t. t.home) (seat seats f)
+
+taken_below : (seats : List (Option Tenant)) (f : ℕ) (t : Tenant) → seat seats f ≡ Some t → f < length seats
+taken_below seats f t at = elim (cases_lt f (length seats)) [
+  | inl below ↦ below
+  | inr past ↦ let no : None ≡ Some t = sym (get_or_past seats f None past) ∙ at in absurd cc
+]
+
+homed : (o : Option Tenant) (h : Home) → option_map (λ t. t.home) o ≡ Some h → (t : Tenant) × (o ≡ Some t) × (t.home ≡ h)
+homed None h at = absurd cc
+homed (Some t) h at = (t, refl, cc)
+
+-- a frame that holds a page is one of the frames
+home_below : (seats : List (Option Tenant)) (f : ℕ) (h : Home) → home seats f ≡ Some h → f < length seats
+home_below seats f h at = let is = homed (seat seats f) h at in taken_below seats f is.0 is.1
+
+-- how many frames are free once one was taken, or made free
+count_set : (seats : List (Option Tenant)) (f : ℕ) (s : Option Tenant) → f < length seats
+    → count_by is_none (set seats f s) + cond (is_none (seat seats f)) 1 0 ≡ count_by is_none seats + cond (is_none s) 1 0
+count_set seats f s below = sum_by-set (λ o. cond (is_none o) 1 0) seats f s None below
+
+same_home : (h k : Home) → h.0 ≡ k.0 → h ≡ k
+same_home h k same = ap (λ (n : ℕ). let r : Home = record { 0 = n } in r) same
+
+-- a frame's tenant changes, but not its home
+pub kept_changed : (c : Core) (n : ℕ) (homes : map.FinMap nat_cmp FrameId) (free first f : ℕ) (t u : Tenant) → AreKept c n homes free first
+    → seat_of c f ≡ Some t → u.home ≡ t.home → u.pins ≤ MOST_PINS
+    → AreKept (record c { seats = set c.seats f (Some u) }) n homes free first
+kept_changed c n homes free first f t u is at same few =
+    let core = is.core in
+    let seats : List (Option Tenant) = set c.seats f (Some u) in
+    let below : f < length c.seats = taken_below c.seats f t at in
+    let here : seat seats f ≡ Some u = get_or-set_same c.seats f (Some u) None below in
+    let there : (g : ℕ) → g ≢ f → seat seats g ≡ seat c.seats g = λ g other. get_or-set_other c.seats f g (Some u) None other in
+    let homes_stay : (g : ℕ) → home seats g ≡ home c.seats g = λ g. elim (cases_eq g f) [
+      | inl e ↦ ap (home seats) e ∙ ap (option_map (λ v. v.home)) here ∙ ap Some same ∙ sym (ap (home c.seats) e ∙ ap (option_map (λ v. v.home)) at)
+      | inr other ↦ ap (option_map (λ v. v.home)) (there g other)
+    ] in
+    let some_stay : (g : ℕ) → is_some (seat seats g) ≡ is_some (seat c.seats g) = λ g. elim (cases_eq g f) [
+      | inl e ↦ ap (λ (k : ℕ). is_some (seat seats k)) e ∙ ap is_some here ∙ sym (ap (λ (k : ℕ). is_some (seat c.seats k)) e ∙ ap is_some at)
+      | inr other ↦ ap is_some (there g other)
+    ] in
+    let size : length seats ≡ length c.seats = length-set c.seats f (Some u) in
+    let count : count_by is_none seats + 0 ≡ count_by is_none c.seats + 0 = subst (λ (o : Option Tenant). count_by is_none seats + cond (is_none o) 1 0 ≡ count_by is_none c.seats + 0) at (count_set c.seats f (Some u) below) in
+    record {
+      core = record {
+        single = λ g k h one two. core.single g k h (sym (homes_stay g) ∙ one) (sym (homes_stay k) ∙ two);
+        below = λ g h one. core.below g h (sym (homes_stay g) ∙ one);
+        pinned = λ g v one. elim (cases_eq g f) [
+          | inl e ↦
+              let both : Some u ≡ Some v = sym here ∙ ap (seat seats) (sym e) ∙ one in
+              let is_it : u ≡ v = cc in
+              subst (λ (w : Tenant). w.pins ≤ MOST_PINS) is_it few
+          | inr other ↦ core.pinned g v (sym (there g other) ∙ one)
+        ];
+        order = subst (λ (m : ℕ). IsOrder (record { frames = m; order = c.uses })) (sym size) core.order;
+        taken = λ g. some_stay g ∙ core.taken g;
+        worded = core.worded ∙ sym size;
+      };
+      small = subst (λ (m : ℕ). m < 2 ^ 32) (sym size) is.small;
+      frames = is.frames ∙ sym size;
+      found = λ h g at_h. homes_stay g.0 ∙ is.found h g at_h;
+      listed = λ g h one. is.listed g h (sym (homes_stay g) ∙ one);
+      free = is.free ∙ omega arith;
+      first = λ g low. some_stay g ∙ is.first g low;
+    }
+
+-- a frame has other words
+pub kept_words : (c : Core) (n : ℕ) (homes : map.FinMap nat_cmp FrameId) (free first f : ℕ) (ws : List ℕ) → AreKept c n homes free first
+    → AreKept (with_words c f ws) n homes free first
+kept_words c n homes free first f ws is =
+    let core = is.core in
+    record {
+      core = record {
+        single = core.single;
+        below = core.below;
+        pinned = core.pinned;
+        order = core.order;
+        taken = core.taken;
+        worded = length-set c.words f ws ∙ core.worded;
+      };
+      small = is.small;
+      frames = is.frames;
+      found = is.found;
+      listed = is.listed;
+      free = is.free;
+      first = is.first;
+    }
+
+-- a frame that is taken is used
+pub kept_used : (c : Core) (n : ℕ) (homes : map.FinMap nat_cmp FrameId) (free first f : ℕ) → AreKept c n homes free first
+    → is_some (seat_of c f) ≡ true → AreKept (record c { uses = without f c.uses ++ f ∷ [] }) n homes free first
+kept_used c n homes free first f is taken =
+    let core = is.core in
+    let stands : stands_in f c.uses ≡ true = sym (core.taken f) ∙ taken in
+    let fewer = order_taken (record { frames = length c.seats; order = c.uses }) f core.order stands in
+    record {
+      core = record {
+        single = core.single;
+        below = core.below;
+        pinned = core.pinned;
+        order = order_pushed (record { frames = length c.seats; order = without f c.uses }) f fewer (core.order.below f stands) (absent_taken f c.uses);
+        taken = λ g. elim (cases_eq g f) [
+          | inl e ↦ ap (λ (k : ℕ). is_some (seat_of c k)) e ∙ taken ∙ sym (stands_last g f (without f c.uses) e)
+          | inr other ↦ core.taken g ∙ sym (stands_before g f (without f c.uses) other ∙ stands_taken f g c.uses other)
+        ];
+        worded = core.worded;
+      };
+      small = is.small;
+      frames = is.frames;
+      found = is.found;
+      listed = is.listed;
+      free = is.free;
+      first = is.first;
+    }
+
+-- a free frame, the one of least number, gets the page of a home that is in no frame
+pub kept_seated : (c : Core) (n : ℕ) (homes : map.FinMap nat_cmp FrameId) (free first f : ℕ) (h : Home) → AreKept c n homes free first
+    → IsLeastFree c f → IsAway c h → h.0 < MOST_HOMES
+    → AreKept (with_page c f h) n (map.insert homes h.0 (record { 0 = f })) (free - 1) (f + 1)
+kept_seated c n homes free first f h is least away low =
+    let core = is.core in
+    let seats : List (Option Tenant) = set c.seats f (Some (new_tenant h)) in
+    let below : f < length c.seats = least.below in
+    let none : seat c.seats f ≡ None = least.free in
+    let here : seat seats f ≡ Some (new_tenant h) = get_or-set_same c.seats f (Some (new_tenant h)) None below in
+    let there : (g : ℕ) → g ≢ f → seat seats g ≡ seat c.seats g = λ g other. get_or-set_other c.seats f g (Some (new_tenant h)) None other in
+    let home_here : home seats f ≡ Some h = ap (option_map (λ v. v.home)) here in
+    let home_there : (g : ℕ) → g ≢ f → home seats g ≡ home c.seats g = λ g other. ap (option_map (λ v. v.home)) (there g other) in
+    let home_before : home c.seats f ≡ None = ap (option_map (λ v. v.home)) none in
+    let new : (g : ℕ) (k : Home) → g ≡ f → home seats g ≡ Some k → k ≡ h = λ g k e at.
+    (let both : Some h ≡ Some k = sym home_here ∙ ap (home seats) (sym e) ∙ at in let it : k ≡ h = cc in it) in
+    let size : length seats ≡ length c.seats = length-set c.seats f (Some (new_tenant h)) in
+    let count : count_by is_none seats + 1 ≡ count_by is_none c.seats + 0 =
+    subst (λ (o : Option Tenant). count_by is_none seats + cond (is_none o) 1 0 ≡ count_by is_none c.seats + 0) none (count_set c.seats f (Some (new_tenant h)) below) in
+    let absent : stands_in f c.uses ≡ false = sym (core.taken f) ∙ ap is_some none in
+    record {
+      core = record {
+        single = λ g k j one two. elim (cases_eq g f) [
+          | inl e ↦ elim (cases_eq k f) [
+            | inl e' ↦ e ∙ sym e'
+            | inr other ↦ absurd (away k (sym (home_there k other) ∙ two ∙ ap Some (new g j e one)))
+          ]
+          | inr other ↦ elim (cases_eq k f) [
+            | inl e ↦ absurd (away g (sym (home_there g other) ∙ one ∙ ap Some (new k j e two)))
+            | inr other' ↦ core.single g k j (sym (home_there g other) ∙ one) (sym (home_there k other') ∙ two)
+          ]
+        ];
+        below = λ g j one. elim (cases_eq g f) [
+          | inl e ↦ subst (λ (k : Home). k.0 < MOST_HOMES) (sym (new g j e one)) low
+          | inr other ↦ core.below g j (sym (home_there g other) ∙ one)
+        ];
+        pinned = λ g v one. elim (cases_eq g f) [
+          | inl e ↦
+              let both : Some (new_tenant h) ≡ Some v = sym here ∙ ap (seat seats) (sym e) ∙ one in
+              let is_it : new_tenant h ≡ v = cc in
+              subst (λ (w : Tenant). w.pins ≤ MOST_PINS) is_it (omega arith)
+          | inr other ↦ core.pinned g v (sym (there g other) ∙ one)
+        ];
+        order = subst (λ (m : ℕ). IsOrder (record { frames = m; order = c.uses ++ f ∷ [] })) (sym size)
+            (order_pushed (record { frames = length c.seats; order = c.uses }) f core.order below absent);
+        taken = λ g. elim (cases_eq g f) [
+          | inl e ↦ ap (λ (k : ℕ). is_some (seat seats k)) e ∙ ap is_some here ∙ sym (stands_last g f c.uses e)
+          | inr other ↦ ap is_some (there g other) ∙ core.taken g ∙ sym (stands_before g f c.uses other)
+        ];
+        worded = core.worded ∙ sym size;
+      };
+      small = subst (λ (m : ℕ). m < 2 ^ 32) (sym size) is.small;
+      frames = is.frames ∙ sym size;
+      found = λ k g at. elim (cases_eq k h.0) [
+        | inl e ↦
+            let both : Some (let r : FrameId = record { 0 = f } in r) ≡ Some g = sym (get_put homes h.0 k (record { 0 = f }) e) ∙ at in
+            let it : f ≡ g.0 = cc in
+            ap (home seats) (sym it) ∙ home_here ∙ ap Some (same_home h (record { 0 = k }) (sym e))
+        | inr other ↦
+            let before : home c.seats g.0 ≡ Some (record { 0 = k }) = is.found k g (sym (get_put_other homes h.0 k (record { 0 = f }) other) ∙ at) in
+            home_there g.0 (λ e. let no : None ≡ Some (let r : Home = record { 0 = k } in r) = sym home_before ∙ ap (home c.seats) (sym e) ∙ before in absurd cc) ∙ before
+      ];
+      listed = λ g k one. elim (cases_eq g f) [
+        | inl e ↦ get_put homes h.0 k.0 (record { 0 = f }) (ap (λ (j : Home). j.0) (new g k e one)) ∙ ap (λ (m : ℕ). Some (let r : FrameId = record { 0 = m } in r)) (sym e)
+        | inr other ↦
+            let before : home c.seats g ≡ Some k = sym (home_there g other) ∙ one in
+            get_put_other homes h.0 k.0 (record { 0 = f }) (λ e. away g (before ∙ ap Some (same_home k h e))) ∙ is.listed g k before
+      ];
+      free = omega (arith, is.free);
+      first = λ g lower. elim (cases_eq g f) [
+        | inl e ↦ ap (λ (k : ℕ). is_some (seat seats k)) e ∙ ap is_some here
+        | inr other ↦ ap is_some (there g other) ∙ least.taken g (omega arith)
+      ];
+    }
+
+-- a frame that is taken becomes free
+pub kept_vacated : (c : Core) (n : ℕ) (homes : map.FinMap nat_cmp FrameId) (free first f : ℕ) (h : Home) → AreKept c n homes free first
+    → home_in c f ≡ Some h
+    → AreKept (without_page c f) n (map.remove homes h.0) (free + 1) (min first f)
+kept_vacated c n homes free first f h is at =
+    let core = is.core in
+    let seats : List (Option Tenant) = set c.seats f None in
+    let was = homed (seat c.seats f) h at in
+    let before : seat c.seats f ≡ Some was.0 = was.1 in
+    let below : f < length c.seats = home_below c.seats f h at in
+    let here : seat seats f ≡ None = get_or-set_same c.seats f None None below in
+    let there : (g : ℕ) → g ≢ f → seat seats g ≡ seat c.seats g = λ g other. get_or-set_other c.seats f g None None other in
+    let home_here : home seats f ≡ None = ap (option_map (λ v. v.home)) here in
+    let home_there : (g : ℕ) → g ≢ f → home seats g ≡ home c.seats g = λ g other. ap (option_map (λ v. v.home)) (there g other) in
+    let apart : (g : ℕ) (k : Home) → home seats g ≡ Some k → g ≢ f = λ g k one e.
+    (let no : None ≡ Some k = sym home_here ∙ ap (home seats) (sym e) ∙ one in let r : ⊥ = absurd cc in r) in
+    let size : length seats ≡ length c.seats = length-set c.seats f None in
+    let count : count_by is_none seats + 0 ≡ count_by is_none c.seats + 1 =
+    subst (λ (o : Option Tenant). count_by is_none seats + cond (is_none o) 1 0 ≡ count_by is_none c.seats + 1) before (count_set c.seats f None below) in
+    let stands : stands_in f c.uses ≡ true = sym (core.taken f) ∙ ap is_some before in
+    let stay : (g : ℕ) (k : Home) → home seats g ≡ Some k → home c.seats g ≡ Some k = λ g k one. sym (home_there g (apart g k one)) ∙ one in
+    record {
+      core = record {
+        single = λ g k j one two. core.single g k j (stay g j one) (stay k j two);
+        below = λ g j one. core.below g j (stay g j one);
+        pinned = λ g v one. elim (cases_eq g f) [
+          | inl e ↦ let no : None ≡ Some v = sym here ∙ ap (seat seats) (sym e) ∙ one in absurd cc
+          | inr other ↦ core.pinned g v (sym (there g other) ∙ one)
+        ];
+        order = subst (λ (m : ℕ). IsOrder (record { frames = m; order = without f c.uses })) (sym size)
+            (order_taken (record { frames = length c.seats; order = c.uses }) f core.order stands);
+        taken = λ g. elim (cases_eq g f) [
+          | inl e ↦ ap (λ (k : ℕ). is_some (seat seats k)) e ∙ ap is_some here ∙ sym (ap (λ (k : ℕ). stands_in k (without f c.uses)) e ∙ absent_taken f c.uses)
+          | inr other ↦ ap is_some (there g other) ∙ core.taken g ∙ sym (stands_taken f g c.uses other)
+        ];
+        worded = core.worded ∙ sym size;
+      };
+      small = subst (λ (m : ℕ). m < 2 ^ 32) (sym size) is.small;
+      frames = is.frames ∙ sym size;
+      found = λ k g one. elim (cases_eq k h.0) [
+        | inl e ↦ let no : None ≡ Some g = sym (get_gone homes h.0 k e) ∙ one in absurd cc
+        | inr other ↦
+            let was_there : home c.seats g.0 ≡ Some (record { 0 = k }) = is.found k g (sym (get_gone_other homes h.0 k other) ∙ one) in
+            home_there g.0 (λ e.
+            let both : Some h ≡ Some (let r : Home = record { 0 = k } in r) = sym at ∙ ap (home c.seats) (sym e) ∙ was_there in
+            let it : h.0 ≡ k = cc in other (sym it)) ∙ was_there
+      ];
+      listed = λ g k one.
+          get_gone_other homes h.0 k.0 (λ e. apart g k one (core.single g f h (stay g k one ∙ ap Some (same_home k h e)) at)) ∙ is.listed g k (stay g k one);
+      free = omega (arith, is.free);
+      first = λ g lower. elim (cases_lt g f) [
+        | inl less ↦ ap is_some (there g (omega arith)) ∙ is.first g (omega arith)
+        | inr more ↦ absurd (omega arith)
+      ];
+    }
+
+-- there is room to count one more free frame
+pub free_small : (c : Core) (n : ℕ) (homes : map.FinMap nat_cmp FrameId) (free first f : ℕ) (h : Home) → AreKept c n homes free first → home_in c f ≡ Some h → free + 1 < 2 ^ 32
+free_small c n homes free first f h is at =
+    let next = kept_vacated c n homes free first f h is at in
+    omega (arith, next.free, next.small, count_by-le-length is_none (set c.seats f None))
+
+count_none : (n : ℕ) → count_by is_none (replicate {A = Option Tenant} n None) ≡ n
+count_none zero = refl
+count_none (suc n) = omega (arith, count_none n, sum_by-cons (λ (o : Option Tenant). cond (is_none o) 1 0) None (replicate n None))
+
+none_at : (n f : ℕ) → seat (replicate n None) f ≡ None
+none_at zero f = refl
+none_at (suc n) zero = refl
+none_at (suc n) (suc f) = none_at n f
+
+-- all frames are free at the beginning
+pub kept_none : (n : ℕ) → n < 2 ^ 32 → AreKept (record { seats = replicate n None; words = replicate n zero_words; uses = [] }) n map.empty n 0
+kept_none n small =
+    let seats : List (Option Tenant) = replicate n None in
+    let size : length seats ≡ n = length-replicate {A = Option Tenant} n None in
+    let no_home : (f : ℕ) (h : Home) → home seats f ≡ Some h → ⊥ = λ f h at. (let no : None ≡ Some h = sym (ap (option_map (λ v. v.home)) (none_at n f)) ∙ at in let r : ⊥ = absurd cc in r) in
+    record {
+      core = record {
+        single = λ f g h one two. absurd (no_home f h one);
+        below = λ f h one. absurd (no_home f h one);
+        pinned = λ f t one. let no : None ≡ Some t = sym (none_at n f) ∙ one in absurd cc;
+        order = record { once = tt; below = λ f here. absurd cc };
+        taken = λ f. ap is_some (none_at n f);
+        worded = length-replicate {A = List ℕ} n zero_words ∙ sym size;
+      };
+      small = subst (λ (m : ℕ). m < 2 ^ 32) (sym size) small;
+      frames = sym size;
+      found = λ h f at. let no : None ≡ Some f = sym (map.get-empty nat_cmp h) ∙ at in absurd cc;
+      listed = λ f h one. absurd (no_home f h one);
+      free = sym (count_none n);
+      first = λ f low. absurd (omega arith);
+    }
+
+-- the same as callers say it, of a home and not of a tenant
+pub kept_reseated : (c q : Core) (n : ℕ) (homes : map.FinMap nat_cmp FrameId) (free first f : ℕ) (u : Tenant) → AreKept c n homes free first → c ≡ q
+    → home_in q f ≡ Some u.home → u.pins ≤ MOST_PINS → AreKept (record c { seats = set c.seats f (Some u) }) n homes free first
+kept_reseated c q n homes free first f u is view at few =
+    let was = homed (seat c.seats f) u.home (ap (λ (r : Core). home_in r f) view ∙ at) in
+    kept_changed c n homes free first f was.0 u is was.1 (sym was.2) few
+
+-- to make a free frame free changes nothing
+pub free_stays : (c : Core) (n : ℕ) (homes : map.FinMap nat_cmp FrameId) (free first f : ℕ) → AreKept c n homes free first → seat_of c f ≡ None
+    → c ≡ without_page c f
+free_stays c n homes free first f is none =
+    let same_seats : set c.seats f None ≡ c.seats = ap (set c.seats f) (sym none) ∙ set-get_or c.seats f None in
+    let same_uses : without f c.uses ≡ c.uses = without_absent f c.uses (sym (is.core.taken f) ∙ ap is_some none) in
+    sym (ap (λ (ss : List (Option Tenant)). record c { seats = ss; uses = without f c.uses }) same_seats ∙ ap (λ (us : List ℕ). record c { uses = us }) same_uses)
+
+not_none : (o : Option Tenant) → cond (is_none o) 1 0 ≤ 0 → IsSome o
+not_none None few = absurd (omega arith)
+not_none (Some t) few = refl
+
+-- where no frame is free, all are taken
+pub all_taken : (c : Core) (n : ℕ) (homes : map.FinMap nat_cmp FrameId) (free first : ℕ) → AreKept c n homes free first → free ≡ 0
+    → (f : ℕ) → f < length c.seats → IsSome (seat_of c f)
+all_taken c n homes free first is none f below =
+    not_none (seat c.seats f) (omega (arith, get_or-le-sum_by (λ (o : Option Tenant). cond (is_none o) 1 0) c.seats f None below, is.free))

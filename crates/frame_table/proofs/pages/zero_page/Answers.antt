@@ -1,0 +1,7 @@
+use Rattle.std.proofs.Common.{rules}
+use Rattle.plain_model.specs.References.{zero_words}
+use Rattle.frame_table.proofs.pages.zero_page.Goals as goal
+
+pub returns : goal.returns
+unfolding zero_words
+returns c = search rules

@@ -1,0 +1,71 @@
+// What a frame that is taken is taken by, and holds of it.
+ghost use Rattle.std.specs.Prelude.{◌≡◌};
+ghost use Rattle.frame_table.specs.Core.{new_tenant};
+
+use plain_model::{FrameId, Home};
+use std::marker::Model;
+
+/// How many pins a frame has at most.
+pub const MOST_PINS: u8 = 63;
+
+/// What a frame is taken by: the home whose page it holds, how many holds of it are not spent, how
+/// many pins it has, and whether a transfer of it is queued.
+#[derive(Clone, Copy, Debug, PartialEq, Eq)]
+pub struct Tenant {
+    pub home: Home,
+    pub holds: u32,
+    pub pins: u8,
+    pub in_transfer: bool,
+}
+
+impl Tenant {
+    // A page that has just got a frame.
+    pub fn new(home: Home) -> Tenant
+        ensures { result ≡ new_tenant home }
+    {
+        Tenant {
+            home,
+            holds: 0,
+            pins: 0,
+            in_transfer: false,
+        }
+    }
+}
+
+/// A hold of a frame. Whoever has it may read and write the frame's words, and has to give it back:
+/// it can't be let go.
+pub struct Hold {
+    frame: FrameId,
+}
+
+impl Model for Hold {
+    ghost use Rattle.std.specs.Prelude.{ℕ};
+
+    ghost Value = { ℕ };
+
+    ghost view = { λ h. h.frame.0 };
+}
+
+impl Hold {
+    // A hold of a frame.
+    pub fn of(frame: FrameId) -> Hold
+        ensures { result ≡ frame.0 }
+    {
+        Hold { frame }
+    }
+
+    /// The frame that is held.
+    pub fn frame(&self) -> FrameId
+        ensures { result.0 ≡ self.now }
+    {
+        self.frame
+    }
+
+    // The frame that was held.
+    pub fn spend(self) -> FrameId
+        ensures { result.0 ≡ self }
+    {
+        let Hold { frame } = self;
+        frame
+    }
+}

@@ -1,0 +1,15 @@
+//! The entries of maps as words, and the pages that more than one of them names.
+//! To the layers above a pointer is its word and back, and shared pages are a finite map from shares to homes and counts.
+//! Stands on slab for the numbers of shares, on plain_model for homes and access, and on word36 for words.
+#![tactic(auto)]
+
+mod laws;
+mod pointer;
+mod shares;
+
+pub use laws::{pointers_come_back, what_joins_may_leave, words_come_back};
+pub use pointer::{Pointer, decode, encode};
+pub use shares::{MOST_SHARES, Share, ShareTable, SharedPage};
+
+#[cfg(test)]
+mod tests;
