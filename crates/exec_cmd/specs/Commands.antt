@@ -13,9 +13,9 @@ says word verb = bytes_eq (raised word) verb
 -- the command of a word that stands alone
 abbrev pub alone : List ℕ → Command
 alone word = if says word (codes "START") then Start
-  else (if says word (codes "CONTINUE") then Continue
-  else (if says word (codes "DIRECTORY") then Directory
-  else (if says word (codes "LOGOUT") then Logout else Unknown)))
+    else (if says word (codes "CONTINUE") then Continue
+    else (if says word (codes "DIRECTORY") then Directory
+    else (if says word (codes "LOGOUT") then Logout else Unknown)))
 
 -- a command for the file that a name stands for
 abbrev pub for_file : (List ℕ → Command) → Option (List ℕ) → Command
@@ -25,7 +25,7 @@ for_file command None = Unknown
 -- the command of a word with a name behind it; a program without an extension has SAV
 abbrev pub with_name : List ℕ → List ℕ → List ℕ → Command
 with_name user word name = if says word (codes "RUN") then for_file Run (file_named user (codes "SAV") name)
-  else (if says word (codes "DELETE") then for_file Delete (file_named user [] name) else Unknown)
+    else (if says word (codes "DELETE") then for_file Delete (file_named user [] name) else Unknown)
 
 -- the command of words
 abbrev pub command_in : List ℕ → List (List ℕ) → Command

@@ -37,7 +37,10 @@ fn words_with_names(rt: HostRuntime) -> Result<(), Fail> {
         of_smith(b"DELETE HELLO"),
         Command::Delete(FileName::new(b"<SMITH>HELLO."))
     );
-    assert_eq!(rt; of_smith(b"delete <smith>hello.sav"), Command::Delete(hello));
+    assert_eq!(rt;
+        of_smith(b"delete <smith>hello.sav"),
+        Command::Delete(hello)
+    );
     Ok(())
 }
 

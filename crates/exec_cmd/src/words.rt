@@ -1,16 +1,16 @@
 // The words of a line.
-ghost use Rattle.std.specs.Prelude.{◌≡◌, [], ◌∷◌, MatchOption};
+ghost use Rattle.std.specs.Prelude.{◌≡◌, ◌≤◌, [], ◌∷◌, length, not, MatchOption};
+ghost use Rattle.std.specs.List.{position, position_or_len};
 ghost use Rattle.exec_cmd.specs.Commands.{says as says_in};
-ghost use Rattle.exec_cmd.specs.Words.{words};
+ghost use Rattle.exec_cmd.specs.Words.{is_space, words};
 
 /// The first word of a line, and what stands behind it. None exactly where the line has no word.
 pub(crate) fn first_word(line: &[u8]) -> Option<(&[u8], &[u8])>
     ensures { MatchOption result (words line.now ≡ []) (λ p. words line.now ≡ p.0.now ∷ words p.1.now) }
 {
-    let start = line.iter().position(|c| *c != b' ')?;
+    let start = word_start(line)?;
     let rest = &line[start..];
-    let end = rest.iter().position(|c| *c == b' ').unwrap_or(rest.len());
-    Some(rest.split_at(end))
+    Some(rest.split_at(word_end(rest)))
 }
 
 /// Whether a word is this one, its small letters raised.
@@ -26,4 +26,26 @@ pub(crate) fn says(word: &[u8], verb: &[u8]) -> bool
         }
     }
     true
+}
+
+// Where the first word begins.
+fn word_start(line: &[u8]) -> Option<usize>
+    ensures { result ≡ position (λ c. not (is_space c)) line.now }
+{
+    line.iter().position(|c| *c != b' ')
+}
+
+// Where the first space stands, or the line ends.
+fn word_end(line: &[u8]) -> usize
+    ensures end { result ≡ position_or_len is_space line.now }
+    ensures within { result ≤ length line.now }
+{
+    first_space(line).unwrap_or(line.len())
+}
+
+// Where the first space stands.
+fn first_space(line: &[u8]) -> Option<usize>
+    ensures { result ≡ position is_space line.now }
+{
+    line.iter().position(|c| *c == b' ')
 }
