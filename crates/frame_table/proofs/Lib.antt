@@ -1,1 +1,3 @@
 pub mod Kept
+pub mod HeldFrames
+pub mod OldFrames

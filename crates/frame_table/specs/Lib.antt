@@ -1,2 +1,4 @@
 pub mod Core
 pub mod Seats
+pub mod Ages
+pub mod Deeds

@@ -1,5 +1,5 @@
 // The frames of core.
-ghost use Rattle.std.specs.Prelude.{◌≡◌, ◌+◌, ◌-◌, ◌<◌, ◌≤◌, [], Some, None, IsSome, IfOk, IfSome, MatchOption, true, false, is_none, count_by, length, replicate, slice_index};
+ghost use Rattle.std.specs.Prelude.{◌≡◌, ◌+◌, ◌-◌, ◌<◌, ◌≤◌, [], Some, None, IsSome, IfNone, IfOk, IfSome, ℕ, MatchOption, true, false, is_none, count_by, length, replicate, slice_index};
 ghost use Rattle.std.specs.Option.{option_map};
 ghost use Rattle.std.specs.Borrow.{Array, Lends, sem, u64 as number};
 ghost use Rattle.plain_model.specs.References.{zero_words};
@@ -7,7 +7,8 @@ ghost use Rattle.frame_table.specs.Core.{AreAllTaken, IsAway, IsCore, IsLeastFre
 ghost use Rattle.frame_table.specs.contracts.frames.Frames.{the_row};
 
 use crate::pages::zero_pages;
-use crate::{Hold, MOST_PINS, Tenant};
+use crate::tenant::Tenant;
+use crate::{Hold, MOST_PINS};
 use frame_order::FrameOrder;
 use number_map::NumberMap;
 use outside::{Memory, PAGE_WORDS};
@@ -236,7 +237,8 @@ impl Frames {
     /// the one whose last use is the oldest. None exactly where every frame is held, free or in
     /// transfer.
     pub fn victim(&self) -> Option<FrameId>
-        ensures { option_map (λ f. f.0) result ≡ victim_of self.now }
+        ensures oldest { option_map (λ f. f.0) result ≡ victim_of self.now }
+        ensures none { IfNone result ((f : ℕ) → can_leave self.now f ≡ false) }
     {
         let frame = self.uses.iter().find(|f| self.can_leave(*f))?;
         Some(FrameId(frame))

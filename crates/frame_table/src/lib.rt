@@ -4,11 +4,15 @@
 #![tactic(auto)]
 
 mod frames;
+mod laws;
 mod pages;
 mod tenant;
 
 pub use frames::{Frames, MOST_HOLDS};
-pub use tenant::{Hold, MOST_PINS, Tenant};
+pub use laws::{
+    a_victim_has_the_least_age, a_victim_is_found, held_frames_keep_their_pages, uses_renew_ages,
+};
+pub use tenant::{Hold, MOST_PINS};
 
 #[cfg(test)]
 mod tests;

@@ -20,7 +20,7 @@ pub struct Tenant {
 
 impl Tenant {
     // A page that has just got a frame.
-    pub fn new(home: Home) -> Tenant
+    pub(crate) fn new(home: Home) -> Tenant
         ensures { result ≡ new_tenant home }
     {
         Tenant {
@@ -48,7 +48,7 @@ impl Model for Hold {
 
 impl Hold {
     // A hold of a frame.
-    pub fn of(frame: FrameId) -> Hold
+    pub(crate) fn of(frame: FrameId) -> Hold
         ensures { result ≡ frame.0 }
     {
         Hold { frame }
@@ -62,7 +62,7 @@ impl Hold {
     }
 
     // The frame that was held.
-    pub fn spend(self) -> FrameId
+    pub(crate) fn spend(self) -> FrameId
         ensures { result.0 ≡ self }
     {
         let Hold { frame } = self;

@@ -9,7 +9,7 @@ mod shares;
 
 pub use laws::{pointers_come_back, what_joins_may_leave, words_come_back};
 pub use pointer::{Pointer, decode, encode};
-pub use shares::{MOST_SHARES, Share, ShareTable, SharedPage};
+pub use shares::{MOST_SHARES, Share, ShareTable};
 
 #[cfg(test)]
 mod tests;
