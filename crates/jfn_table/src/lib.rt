@@ -1,0 +1,10 @@
+//! The JFNs of each job: the files that its programs have named, under small numbers.
+//! To the layers above it is a finite map from numbers to JFNs for each terminal, and how many JFNs name a file.
+//! Stands on `number_map`, on `page_files` for the bounds of files, and on `plain_model` for what a JFN is.
+#![tactic(auto)]
+
+mod jfns;
+mod job_jfns;
+
+pub use jfns::{Jfns, JfnsFull, MOST_JFNS};
+pub use job_jfns::JobJfns;
