@@ -1,16 +1,16 @@
 -- What a change of one JFN leaves of what holds of a job's JFNs.
-use Rattle.std.proofs.Common.{◌≡◌, ◌≢◌, ℕ, ◌+◌, ◌-◌, ◌<◌, ◌≤◌, ◌==◌, ◌⊎◌, inl, inr, Bool, true, false, cond, List, length, get_or, set, Some, None, Option, refl, sym, ◌∙◌, ap, subst, arith, rules, get_or-set_same, get_or-set_other}
+use Rattle.std.proofs.Common.{◌≡◌, ◌≢◌, ◌↔◌, ℕ, zero, suc, ◌+◌, ◌-◌, ◌<◌, ◌≤◌, ◌==◌, ◌⊎◌, inl, inr, Bool, true, false, cond, List, length, get_or, set, Some, None, Option, refl, sym, ◌∙◌, ap, subst, arith, rules, get_or-set_same, get_or-set_other}
 use Rattle.std.specs.Prelude.{IfSome, slice_index, replicate, count_by}
 use Rattle.std.proofs.lemmas.Bool.{cases_eq, cases_lt}
 use Rattle.std.proofs.lemmas.List.{length-set, get_or-replicate, get_or_read, length-replicate}
 use Rattle.std.specs.Ordering.{nat_cmp}
 use Rattle.std.specs.FinMap as map
-use Rattle.number_map.proofs.Keys.{get_put, get_put_other, get_gone, get_gone_other}
+use Rattle.number_map.proofs.Keys.{get_put, get_put_other, get_gone, get_gone_other, same}
 use Rattle.number_map.proofs.Full.{IsWithin, len_most}
 use Rattle.plain_model.specs.declared.fork.Jfn.{Jfn}
 use Rattle.page_files.specs.declared.bytes.TheConstants.{MOST_FILES}
 use Rattle.jfn_table.specs.declared.jfns.TheConstants.{MOST_JFNS}
-use Rattle.jfn_table.specs.JobFiles.{AreJfns, CountNames, FitsJfn, Held, names_in}
+use Rattle.jfn_table.specs.JobFiles.{AreJfns, CountNames, FitsJfn, Held, NamesNowhere, names_in, taken}
 use Rattle.jfn_table.proofs.Entries.{passing, passing_put, passing_gone, passing_replaced, passing_most}
 
 -- whether a JFN names a file
@@ -134,7 +134,52 @@ no_jfns = record { from_one = map.get-empty nat_cmp 0; most = λ q far. map.get-
 pub no_counts : CountNames (replicate MOST_FILES 0) map.empty
 no_counts = record { size = length-replicate {A = ℕ} MOST_FILES 0; counts = λ f below. get_or-replicate MOST_FILES f 0 0 below ∙ sym (names_none f) }
 
+-- a JFN that is released
+pub names_released : (m : Held) (n : ℕ) (jfn : Jfn) → map.get m n ≡ Some jfn → names_in m jfn.file.0 ≡ names_in (map.remove m n) jfn.file.0 + 1
+names_released m n jfn there = names_gone m n jfn jfn.file.0 there ∙ ap (λ b. names_in (map.remove m n) jfn.file.0 + cond b 1 0) (same_is jfn.file.0 jfn.file.0 refl)
+
 -- a file that a held JFN names
 pub names_gone_some : (m : Held) (n : ℕ) (jfn : Jfn) → map.get m n ≡ Some jfn → 1 ≤ names_in m jfn.file.0
-names_gone_some m n jfn there =
-    omega (arith, names_gone m n jfn jfn.file.0 there ∙ ap (λ b. names_in (map.remove m n) jfn.file.0 + cond b 1 0) (same_is jfn.file.0 jfn.file.0 refl))
+names_gone_some m n jfn there = omega (arith, names_released m n jfn there)
+
+names_zero : (n : ℕ) (m : Held) (f : ℕ) → ((k : ℕ) → n ≤ k → map.get m k ≡ None) → NamesNowhere m f → names_in m f ≡ 0
+names_zero zero m f bound none = ap (λ (x : Held). names_in x f) (same m map.empty (λ q. bound q (omega arith) ∙ sym (map.get-empty nat_cmp q))) ∙ names_none f
+names_zero (suc n) m f bound none = by (λ x. names_zero n x f) (map.get m n) refl
+  where
+    gone : NamesNowhere (map.remove m n) f
+    gone q = there (cases_eq q n)
+      where
+        there : (q ≡ n) ⊎ (q ≢ n) → IfSome (map.get (map.remove m n) q) (λ jfn. jfn.file.0 ≢ f)
+        there (inl e) = subst (λ o. IfSome o (λ (jfn : Jfn). jfn.file.0 ≢ f)) (sym (get_gone m n q e)) tt
+        there (inr ne) = subst (λ o. IfSome o (λ (jfn : Jfn). jfn.file.0 ≢ f)) (sym (get_gone_other m n q ne)) (none q)
+
+    short : (k : ℕ) → n ≤ k → map.get (map.remove m n) k ≡ None
+    short k far = there (cases_eq k n)
+      where
+        there : (k ≡ n) ⊎ (k ≢ n) → map.get (map.remove m n) k ≡ None
+        there (inl e) = get_gone m n k e
+        there (inr ne) = get_gone_other m n k ne ∙ bound k (omega arith)
+
+    by : ((x : Held) → ((k : ℕ) → n ≤ k → map.get x k ≡ None) → NamesNowhere x f → names_in x f ≡ 0) → (o : Option Jfn) → map.get m n ≡ o → names_in m f ≡ 0
+    by smaller None is = smaller m (λ k far. at k far (cases_eq k n)) none
+      where
+        at : (k : ℕ) → n ≤ k → (k ≡ n) ⊎ (k ≢ n) → map.get m k ≡ None
+        at k far (inl e) = ap (λ q. map.get m q) e ∙ is
+        at k far (inr ne) = bound k (omega arith)
+    by smaller (Some jfn) is =
+        let other : jfn.file.0 ≢ f = subst (λ o. IfSome o (λ (j : Jfn). j.file.0 ≢ f)) is (none n) in
+        names_gone m n jfn f is ∙ (ap (λ b. names_in (map.remove m n) f + cond b 1 0) (other_is jfn.file.0 f other) ∙ (omega (arith, smaller (map.remove m n) short gone)))
+
+pub names_nowhere : (m : Held) (f : ℕ) → AreJfns m → (names_in m f ≡ 0) ↔ NamesNowhere m f
+names_nowhere m f h = (λ zero_is n. at n zero_is (map.get m n) refl, λ none. names_zero (MOST_JFNS + 1) m f (λ k far. h.most k (omega arith)) none)
+  where
+    at : (n : ℕ) → names_in m f ≡ 0 → (o : Option Jfn) → map.get m n ≡ o → IfSome o (λ jfn. jfn.file.0 ≢ f)
+    at n zero_is None is = tt
+    at n zero_is (Some jfn) is = λ e. absurd (omega (arith, zero_is, names_gone_some m n jfn is, ap (λ k. names_in m k) e))
+
+-- a JFN that is taken
+pub names_taken : (m : Held) (n f : ℕ) → map.get m n ≡ None → names_in (map.insert m n (taken f)) f ≡ names_in m f + 1
+names_taken m n f none = names_put m n (taken f) f none ∙ ap (λ b. names_in m f + cond b 1 0) (same_is f f refl)
+
+pub others_taken : (m : Held) (n f g : ℕ) → map.get m n ≡ None → g ≢ f → names_in (map.insert m n (taken f)) g ≡ names_in m g
+others_taken m n f g none ne = names_put m n (taken f) g none ∙ (ap (λ b. names_in m g + cond b 1 0) (other_is f g (λ e. ne (sym e))) ∙ omega arith)

@@ -1,5 +1,5 @@
 -- The JFNs of a job, and the files that they name.
-use Rattle.std.specs.Prelude.{◌≡◌, ℕ, ◌<◌, ◌≤◌, ◌==◌, List, Some, None, IfSome, IsSome, length, slice_index, count_by}
+use Rattle.std.specs.Prelude.{◌≡◌, ◌≢◌, ℕ, ◌<◌, ◌≤◌, ◌==◌, List, Some, None, IfSome, IsSome, length, slice_index, count_by}
 use Rattle.std.specs.Option.{IsSomeAnd}
 use Rattle.std.specs.Ordering.{nat_cmp}
 use Rattle.std.specs.FinMap as map
@@ -43,6 +43,10 @@ pub record AreJfns (m : Held) : Type 0 where
 -- how many JFNs name a file
 unfoldable pub names_in : Held → ℕ → ℕ
 names_in m f = count_by (λ jfn. jfn.file.0 == f) (map.values m)
+
+-- no JFN stands for the file
+abbrev pub NamesNowhere : Held → ℕ → Type 0
+NamesNowhere m f = (n : ℕ) → IfSome (map.get m n) (λ jfn. jfn.file.0 ≢ f)
 
 -- for each file there is how many JFNs name it
 pub record CountNames (names : List ℕ) (m : Held) : Type 0 where

@@ -5,6 +5,10 @@
 
 mod jfns;
 mod job_jfns;
+mod laws;
+#[cfg(test)]
+mod tests;
 
 pub use jfns::{Jfns, JfnsFull, MOST_JFNS};
 pub use job_jfns::JobJfns;
+pub use laws::{a_file_without_names_has_no_jfn, names_follow_the_jfns};
