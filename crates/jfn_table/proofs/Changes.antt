@@ -1,6 +1,6 @@
 -- What a change of one JFN leaves of what holds of a job's JFNs.
-use Rattle.std.proofs.Common.{◌≡◌, ◌≢◌, ◌↔◌, ℕ, zero, suc, ◌+◌, ◌-◌, ◌<◌, ◌≤◌, ◌==◌, ◌⊎◌, inl, inr, Bool, true, false, cond, List, length, get_or, set, Some, None, Option, refl, sym, ◌∙◌, ap, subst, arith, rules, get_or-set_same, get_or-set_other}
-use Rattle.std.specs.Prelude.{IfSome, slice_index, replicate, count_by}
+use Rattle.std.proofs.Common.{◌≡◌, ◌≢◌, ◌↔◌, ℕ, zero, suc, ◌+◌, ◌-◌, ◌<◌, ◌≤◌, ◌==◌, ◌⊎◌, inl, inr, Bool, true, false, cond, List, get_or, set, Some, None, Option, refl, sym, ◌∙◌, ap, subst, arith, rules, get_or-set_same, get_or-set_other}
+use Rattle.std.specs.Prelude.{IfSome, slice_index, replicate}
 use Rattle.std.proofs.lemmas.Bool.{cases_eq, cases_lt}
 use Rattle.std.proofs.lemmas.List.{length-set, get_or-replicate, get_or_read, length-replicate}
 use Rattle.std.specs.Ordering.{nat_cmp}
@@ -11,7 +11,7 @@ use Rattle.plain_model.specs.declared.fork.Jfn.{Jfn}
 use Rattle.page_files.specs.declared.bytes.TheConstants.{MOST_FILES}
 use Rattle.jfn_table.specs.declared.jfns.TheConstants.{MOST_JFNS}
 use Rattle.jfn_table.specs.JobFiles.{AreJfns, CountNames, FitsJfn, Held, NamesNowhere, names_in, taken}
-use Rattle.jfn_table.proofs.Entries.{passing, passing_put, passing_gone, passing_replaced, passing_most}
+use Rattle.jfn_table.proofs.Entries.{passing_put, passing_gone, passing_replaced, passing_most}
 
 -- whether a JFN names a file
 abbrev names_it : ℕ → Jfn → Bool

@@ -1,5 +1,3 @@
-use Rattle.std.proofs.Common.{sym, subst, rules}
-use Rattle.jfn_table.specs.JobFiles.{AreJfns, CountNames}
 use Rattle.jfn_table.proofs.Changes.{no_jfns, no_counts}
 use Rattle.jfn_table.proofs.jfns.Jfns.boot.Goals as goal
 

@@ -1,4 +1,4 @@
-use Rattle.std.proofs.Common.{arith, ◌∙◌}
+use Rattle.std.proofs.Common.{arith}
 use Rattle.jfn_table.proofs.Changes.{count_at, names_most}
 use Rattle.jfn_table.proofs.jfns.Jfns.names.Goals as goal
 

@@ -1,4 +1,4 @@
-use Rattle.std.proofs.Common.{◌≡◌, Some, sym, ◌∙◌, ap, refl, arith}
+use Rattle.std.proofs.Common.{◌≡◌, Some, sym, ◌∙◌, refl, arith}
 use Rattle.std.specs.FinMap as map
 use Rattle.plain_model.specs.declared.fork.Jfn.{Jfn}
 use Rattle.jfn_table.proofs.Changes.{counts_replaced, held_number, jfns_put}

@@ -1,4 +1,4 @@
-use Rattle.std.proofs.Common.{◌≡◌, ◌==◌, true, cond, ◌+◌, Some, sym, ◌∙◌, refl, ap, arith}
+use Rattle.std.proofs.Common.{◌≡◌, Some, sym, ◌∙◌, arith}
 use Rattle.std.specs.FinMap as map
 use Rattle.jfn_table.proofs.Changes.{count_at, counts_gone, held_number, jfns_gone, names_gone_some}
 use Rattle.jfn_table.proofs.jfns.Jfns.release.Goals as goal

@@ -1,6 +1,5 @@
-use Rattle.std.proofs.Common.{◌≡◌, ◌+◌, ◌<◌, None, sym, ◌∙◌, refl, ap, subst, arith, lit≤}
+use Rattle.std.proofs.Common.{◌+◌, ◌<◌, sym, ◌∙◌, refl, ap, subst, arith, lit≤}
 use Rattle.std.specs.FinMap as map
-use Rattle.plain_model.specs.declared.fork.Jfn.{Jfn}
 use Rattle.number_map.specs.Numbers.{AreTaken, IsLeastFree}
 use Rattle.number_map.proofs.Full.{len_full, len_free}
 use Rattle.jfn_table.specs.declared.jfns.TheConstants.{MOST_JFNS}
