@@ -22,8 +22,9 @@ mod typed;
 mod verdicts;
 
 pub use canonical::{LineRoom, canonical_lines, write_line};
-pub use fields::read_decimal;
+pub use fields::{cut, read_decimal};
 pub use grammar::{Read, one_spelling, read_line, script_fits};
 pub use lines::{Lines, Next};
+pub use names::{MOST_FILE, file_name};
 pub use reached::{MOST_BYTES, MOST_LINE, MOST_TURNS};
 pub use verdicts::one_verdict;

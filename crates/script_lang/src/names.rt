@@ -10,7 +10,7 @@ use plain_model::{DirName, FileName};
 pub(crate) const MOST_USER: usize = 12;
 
 /// How many characters the full name of a file has at most.
-pub(crate) const MOST_FILE: usize = 39;
+pub const MOST_FILE: usize = 39;
 
 /// The name of a user: 1 to MOST_USER of the characters A-Z, 0-9 and -. None exactly where the text is
 /// none.
@@ -25,7 +25,7 @@ pub(crate) fn dir_name(text: &[u8]) -> Option<DirName>
 
 /// The full name of a file, `<DIR>NAME.EXT`, of at most MOST_FILE characters. None exactly where the text
 /// is none.
-pub(crate) fn file_name(text: &[u8]) -> Option<FileName>
+pub fn file_name(text: &[u8]) -> Option<FileName>
     ensures { MatchOption result (IsFileName text.now → ⊥) (λ name. (name ≡ text.now) × IsFileName text.now) }
 {
     if text.len() > MOST_FILE {
