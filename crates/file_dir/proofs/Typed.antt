@@ -1,7 +1,9 @@
 -- A text names one file: its directory, its name and its extension are told apart at the brackets and the first point.
 use Rattle.std.proofs.Common.{◌≡◌, ◌≢◌, ◌⊎◌, inl, inr, ℕ, ◌+◌, ◌<◌, ◌≤◌, List, [], ◌∷◌, ◌++◌, length, Bool, true, false, refl, sym, ◌∙◌, ap, subst, arith, All, append_assoc, length-append, map as each, Option, Some, None, MatchOption}
 use Rattle.std.proofs.lemmas.List.{append-nil, length-map}
-use Rattle.std.proofs.lemmas.List.Elements.{All-head, All-tail, All-append, All-cons}
+use Rattle.std.proofs.lemmas.List.Elements.{All-head, All-tail, All-append, All-cons, All-weaker}
+use Rattle.std.proofs.lemmas.List.Folds.{map_fixed}
+use Rattle.std.proofs.lemmas.Bool.Decides.{nat_tests}
 use Rattle.std.specs.Char.{to_ascii_uppercase}
 use Rattle.plain_model.specs.Limits.{IsFileName, IsNameCode, is_name_code}
 use Rattle.script_lang.specs.Fields.{IsCut, Lacks}
@@ -152,3 +154,49 @@ module _ (text user : List ℕ) where
   read_or_not dir file stem extension full None is placed parted fails = λ name r. fails (subst IsFileName (sym (is ∙ parts name r dir file stem extension placed parted)) r.full)
   read_or_not dir file stem extension full (Some name) is placed parted holds =
       subst (Reads text user) (sym (holds.0 ∙ is)) (reads dir file stem extension placed parted (subst IsFileName is holds.1))
+
+  -- the parts of a text that is read
+  apart : (name : List ℕ) (r : Reads text user name) → IsFile raised user r.full.dir (r.full.stem ++ r.back) × IsParted (r.full.stem ++ r.back) r.full.stem r.full.extension
+  apart name r = (first r.placed, second r.pointed)
+    where
+      first : (r.front ≡ 60 ∷ (r.full.dir ++ 62 ∷ [])) ⊎ ((r.front ≡ []) × (r.full.dir ≡ user)) → IsFile raised user r.full.dir (r.full.stem ++ r.back)
+      first (inl is) = inl (r.full.dir ++ 62 ∷ (r.full.stem ++ r.back), at_front name r is, record { whole = refl; first = name_lacks 62 refl r.full.dir r.full.dir_fits.2 })
+      first (inr is) = inr ((λ rest opens. unopened r.full.stem r.back rest r.full.stem_some r.full.stem_fits (sym (at_start name r is.0) ∙ opens)), is.1, sym (at_start name r is.0))
+
+      second : (r.back ≡ 46 ∷ r.full.extension) ⊎ ((r.back ≡ []) × (r.full.extension ≡ [])) → IsParted (r.full.stem ++ r.back) r.full.stem r.full.extension
+      second (inl is) = inl (record { whole = ap (λ t. r.full.stem ++ t) is; first = name_lacks 46 refl r.full.stem r.full.stem_fits })
+      second (inr is) =
+          let bare : r.full.stem ≡ r.full.stem ++ r.back = sym (append-nil r.full.stem) ∙ ap (λ t. r.full.stem ++ t) (sym is.0) in
+          inr (subst (Lacks 46) bare (name_lacks 46 refl r.full.stem r.full.stem_fits), bare, is.1)
+
+  pub one_reading : (a b : List ℕ) → Reads text user a → Reads text user b → a ≡ b
+  one_reading a b r s =
+      let p = apart a r in
+      r.full.spelled ∙ parts b s r.full.dir (r.full.stem ++ r.back) r.full.stem r.full.extension p.0 p.1
+
+-- a byte that is no small letter
+abbrev Capital : ℕ → Type 0
+Capital c = to_ascii_uppercase c ≡ c
+
+-- the characters of names are none
+capital : (c : ℕ) → is_name_code c ≡ true → to_ascii_uppercase c ≡ c
+capital c code = grind (arith, nat_tests)
+
+pub names_itself : (name user : List ℕ) → IsFileName name → Reads name user name
+names_itself name user h = record {
+  full = h;
+  front = 60 ∷ (h.dir ++ 62 ∷ []);
+  back = 46 ∷ h.extension;
+  typed = map_fixed to_ascii_uppercase name (subst (All Capital) (sym h.spelled) all) ∙ (h.spelled ∙ ap (λ t. 60 ∷ t) (sym (append_assoc h.dir (62 ∷ []) (h.stem ++ 46 ∷ h.extension))));
+  placed = inl refl;
+  pointed = inl refl;
+}
+  where
+    codes : (part : List ℕ) → All IsNameCode part → All Capital part
+    codes part fits = All-weaker IsNameCode Capital capital part fits
+
+    all : All Capital (full_of h.dir h.stem h.extension)
+    all = All-cons Capital 60 (h.dir ++ 62 ∷ (h.stem ++ 46 ∷ h.extension)) refl
+        (All-append Capital h.dir (62 ∷ (h.stem ++ 46 ∷ h.extension)) (codes h.dir h.dir_fits.2)
+        (All-cons Capital 62 (h.stem ++ 46 ∷ h.extension) refl
+        (All-append Capital h.stem (46 ∷ h.extension) (codes h.stem h.stem_fits) (All-cons Capital 46 h.extension refl (codes h.extension h.extension_fits)))))

@@ -4,8 +4,12 @@
 #![tactic(auto)]
 
 mod dir;
+mod laws;
 mod order;
 mod reading;
+#[cfg(test)]
+mod tests;
 
 pub use dir::{Dir, FilesFull};
+pub use laws::{a_created_file_is_found, a_listing_is_whole, a_text_names_one_file};
 pub use reading::read_name;
