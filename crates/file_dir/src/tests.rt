@@ -11,7 +11,7 @@ fn read(text: &[u8]) -> Option<FileName> {
 
 // Makes the file that a text names, where it names one that isn't there yet.
 fn made(dir: &mut Dir, text: &[u8]) -> Option<FileNo> {
-    let name = read(text)?;
+    let name = read_name(text, &DirName::new(SMITH))?;
     match dir.find(&name) {
         Some(_) => None,
         None => dir.create(&name).ok(),
@@ -37,10 +37,11 @@ fn deleted(dir: &mut Dir, text: &[u8]) -> bool {
     }
 }
 
-// The file of a directory that comes after the one that a text names, and whether there is that one.
-fn after(dir: &Dir, of: &[u8], text: &[u8]) -> Option<Option<FileNo>> {
-    let f = found(dir, text)?;
-    Some(dir.list(&DirName::new(of), Some(f)))
+// The file of a directory that comes after the one that a text names. None where there is not that one.
+fn after(dir: &Dir, of: &DirName, text: &[u8]) -> Option<Option<FileNo>> {
+    let name = read(text)?;
+    let f = dir.find(&name)?;
+    Some(dir.list(of, Some(f)))
 }
 
 #[test]
@@ -127,12 +128,12 @@ fn a_directory_is_listed_in_order(rt: HostRuntime) -> Result<(), Fail> {
     assert_eq!(rt; made(&mut dir, b"AB"), Some(FileNo(3)));
     assert_eq!(rt; made(&mut dir, b"A-.B"), Some(FileNo(4)));
     assert_eq!(rt; dir.list(&smith, None), Some(FileNo(4)));
-    assert_eq!(rt; after(&dir, SMITH, b"A-.B"), Some(Some(FileNo(0))));
-    assert_eq!(rt; after(&dir, SMITH, b"A.B"), Some(Some(FileNo(3))));
-    assert_eq!(rt; after(&dir, SMITH, b"AB"), Some(None));
-    assert_eq!(rt; after(&dir, SMITH, b"<SMIT>Z"), Some(Some(FileNo(4))));
-    assert_eq!(rt; after(&dir, SMITH, b"<SMITHS>A"), Some(None));
-    assert_eq!(rt; after(&dir, b"SMIT", b"<SMIT>Z"), Some(None));
+    assert_eq!(rt; after(&dir, &smith, b"A-.B"), Some(Some(FileNo(0))));
+    assert_eq!(rt; after(&dir, &smith, b"A.B"), Some(Some(FileNo(3))));
+    assert_eq!(rt; after(&dir, &smith, b"AB"), Some(None));
+    assert_eq!(rt; after(&dir, &smith, b"<SMIT>Z"), Some(Some(FileNo(4))));
+    assert_eq!(rt; after(&dir, &smith, b"<SMITHS>A"), Some(None));
+    assert_eq!(rt; after(&dir, &DirName::new(b"SMIT"), b"<SMIT>Z"), Some(None));
     assert_eq!(rt; dir.list(&DirName::new(b"SMI"), None), None);
     Ok(())
 }
