@@ -1,15 +1,14 @@
 -- The next file of a directory stands at the first place that is in the directory's part of the order and behind the file given.
-use Rattle.std.proofs.Common.{◌≡◌, ◌≢◌, ◌⊎◌, inl, inr, ℕ, ◌+◌, ◌<◌, ◌≤◌, List, [], ◌∷◌, ◌++◌, length, Bool, true, false, Option, Some, None, refl, sym, ◌∙◌, ap, subst, arith, append_assoc, length-append}
-use Rattle.std.specs.Prelude.{IsSome, IfSome, MatchOption, max}
+use Rattle.std.proofs.Common.{◌≡◌, ◌≢◌, ◌⊎◌, inl, inr, ℕ, ◌<◌, ◌≤◌, List, [], ◌∷◌, ◌++◌, length, Bool, true, false, Option, Some, None, refl, sym, ◌∙◌, ap, subst, arith, append_assoc, length-append}
+use Rattle.std.specs.Prelude.{IfSome, MatchOption, max}
 use Rattle.std.specs.Bool.{then_some}
 use Rattle.std.proofs.lemmas.Bool.{cases_eq, cases_lt}
 use Rattle.std.specs.FinMap as map
 use Rattle.plain_model.specs.declared.names.FileNo.{FileNo}
-use Rattle.plain_model.specs.Limits.{IsFileName}
 use Rattle.file_dir.specs.Files.{AreFiles, ComesAfter, ComesBefore, Files, IsInDirectory, IsNext}
 use Rattle.file_dir.specs.Order.{IsBehind, IsOrder, file_at}
-use Rattle.file_dir.proofs.Texts.{before_itself, before_both, before_back, between, front_first}
-use Rattle.file_dir.proofs.Places.{IsSplit, held, named_at, one_value, there}
+use Rattle.file_dir.proofs.Texts.{before_itself, before_back, between, front_first}
+use Rattle.file_dir.proofs.Places.{IsSplit, named_at, one_value, there}
 
 -- what the full name of each file of a directory begins with
 abbrev pub front_of : List ℕ → List ℕ

@@ -1,6 +1,6 @@
 -- The files in the order of their names, and what a file more or less leaves of it.
-use Rattle.std.proofs.Common.{◌≡◌, ◌≢◌, ◌⊎◌, inl, inr, ℕ, zero, suc, ◌+◌, ◌-◌, ◌<◌, ◌≤◌, List, [], length, get_or, Option, Some, None, Bool, true, false, cond, refl, sym, ◌∙◌, ap, subst, arith}
-use Rattle.std.specs.Prelude.{IsSome, is_some, IfSome, MatchOption, nat_eq}
+use Rattle.std.proofs.Common.{◌≡◌, ◌≢◌, ◌⊎◌, inl, inr, ℕ, ◌+◌, ◌-◌, ◌<◌, ◌≤◌, List, [], length, get_or, Option, Some, None, Bool, true, false, cond, refl, sym, ◌∙◌, ap, subst, arith}
+use Rattle.std.specs.Prelude.{IsSome, is_some, MatchOption, nat_eq}
 use Rattle.std.specs.Bool.{then_some}
 use Rattle.std.specs.Cmp.Lexicographic.{pointwise, bytes_decides}
 use Rattle.std.specs.List.{insert, remove}
@@ -9,16 +9,15 @@ use Rattle.std.proofs.lemmas.Bool.{cases_eq, cases_lt}
 use Rattle.std.proofs.lemmas.Cmp.{nat_cmp_total}
 use Rattle.std.proofs.lemmas.List.{get_or_default}
 use Rattle.std.proofs.lemmas.List.Edits.{length-insert, get_or-insert_below, get_or-insert_at, get_or-insert_above, length-remove, get_or-remove_below, get_or-remove_above}
-use Rattle.std.specs.Ordering.{nat_cmp, is_lt}
+use Rattle.std.specs.Ordering.{nat_cmp}
 use Rattle.std.specs.FinMap as map
 use Rattle.number_map.proofs.Keys.{get_put, get_put_other, get_gone, get_gone_other}
 use Rattle.plain_model.specs.declared.names.FileNo.{FileNo}
 use Rattle.plain_model.specs.Limits.{IsFileName}
-use Rattle.plain_model.specs.Orders.{name_cmp}
 use Rattle.page_files.specs.declared.bytes.TheConstants.{MOST_FILES}
 use Rattle.file_dir.specs.Files.{AreFiles, ComesBefore, Files, IsAbsent}
 use Rattle.file_dir.specs.Order.{IsOrder, file_at, is_before, precedes}
-use Rattle.file_dir.proofs.Texts.{before_itself, before_both, before_back, before_is, is_before_true, not_before, compared}
+use Rattle.file_dir.proofs.Texts.{before_itself, before_both, before_is, is_before_true, not_before, compared}
 
 abbrev pub no_file : FileNo
 no_file = record { 0 = 0 }

@@ -1,12 +1,12 @@
 -- A text names one file: its directory, its name and its extension are told apart at the brackets and the first point.
-use Rattle.std.proofs.Common.{◌≡◌, ◌≢◌, ◌⊎◌, inl, inr, ℕ, ◌+◌, ◌<◌, ◌≤◌, List, [], ◌∷◌, ◌++◌, length, Bool, true, false, refl, sym, ◌∙◌, ap, subst, arith, All, append_assoc, length-append, map as each, Option, Some, None, MatchOption}
+use Rattle.std.proofs.Common.{◌≡◌, ◌⊎◌, inl, inr, ℕ, ◌+◌, ◌≤◌, List, [], ◌∷◌, ◌++◌, length, true, false, refl, sym, ◌∙◌, ap, subst, arith, All, append_assoc, length-append, map as each, Option, Some, None, MatchOption}
 use Rattle.std.proofs.lemmas.List.{append-nil, length-map}
 use Rattle.std.proofs.lemmas.List.Elements.{All-head, All-tail, All-append, All-cons, All-weaker}
 use Rattle.std.proofs.lemmas.List.Folds.{map_fixed}
 use Rattle.std.proofs.lemmas.Bool.Decides.{nat_tests}
 use Rattle.std.specs.Char.{to_ascii_uppercase}
 use Rattle.plain_model.specs.Limits.{IsFileName, IsNameCode, is_name_code}
-use Rattle.script_lang.specs.Fields.{IsCut, Lacks}
+use Rattle.script_lang.specs.Fields.{Lacks}
 use Rattle.script_lang.proofs.Fronts.{name_lacks}
 use Rattle.script_lang.proofs.Splits.{IsNot, one_split, no_split}
 use Rattle.file_dir.specs.Reading.{IsFile, IsOpenDirectory, IsParted, Reads}

@@ -1,5 +1,5 @@
 -- A listing is whole: what comes after a file is the next file and what comes after that.
-use Rattle.std.proofs.Common.{◌≡◌, ◌≢◌, ◌⊎◌, inl, inr, ◌↔◌, ℕ, ◌<◌, List, [], ◌∷◌, ◌++◌, Option, Some, None, All, length, refl, sym, ◌∙◌, ap, subst, arith}
+use Rattle.std.proofs.Common.{◌≡◌, ◌≢◌, ◌⊎◌, inl, inr, ◌↔◌, ℕ, List, [], ◌∷◌, Option, Some, None, sym, ◌∙◌, ap, subst, arith}
 use Rattle.std.specs.Prelude.{IfSome, slice_index_or}
 use Rattle.std.specs.List.{AllPairs, Contains}
 use Rattle.std.proofs.lemmas.Bool.{cases_eq}
@@ -9,7 +9,7 @@ use Rattle.std.specs.FinMap as map
 use Rattle.number_map.proofs.Keys.{get_put, get_put_other, get_gone, get_gone_other}
 use Rattle.plain_model.specs.declared.names.FileNo.{FileNo}
 use Rattle.file_dir.specs.Files.{AreFiles, ComesAfter, ComesBefore, Creates, Files, IsAbsent, IsNext}
-use Rattle.file_dir.specs.Listing.{IsFileOf, IsWhole, Lists, StandsBefore}
+use Rattle.file_dir.specs.Listing.{IsWhole, Lists, StandsBefore}
 use Rattle.file_dir.proofs.Places.{not_both, one_value}
 use Rattle.file_dir.proofs.Texts.{before_both, compared}
 

@@ -1,7 +1,7 @@
-use Rattle.std.proofs.Common.{◌≡◌, ◌∙◌, ◌<◌, ◌∷◌, ◌++◌, List, ℕ, length, map as each, ap, subst, arith}
+use Rattle.std.proofs.Common.{◌≡◌, ◌∙◌, ◌<◌, length, map as each, ap, subst, arith}
 use Rattle.std.proofs.lemmas.List.{append-nil}
 use Rattle.std.specs.Char.{to_ascii_uppercase}
-use Rattle.file_dir.specs.Reading.{IsFile, IsOpenDirectory, Reads}
+use Rattle.file_dir.specs.Reading.{IsFile, IsOpenDirectory}
 use Rattle.file_dir.proofs.Typed.{as_long, closed, full_of, parts, read_or_not}
 use Rattle.file_dir.proofs.reading.read_name.Goals as goal
 

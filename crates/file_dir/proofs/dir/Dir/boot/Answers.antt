@@ -1,4 +1,3 @@
-use Rattle.std.proofs.Common.{arith}
 use Rattle.file_dir.proofs.Places.{no_files, no_order}
 use Rattle.file_dir.proofs.dir.Dir.boot.Goals as goal
 

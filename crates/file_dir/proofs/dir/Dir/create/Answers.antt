@@ -1,4 +1,4 @@
-use Rattle.std.proofs.Common.{◌≡◌, ◌+◌, ◌<◌, ◌≤◌, length, None, sym, ◌∙◌, ap, subst, refl, arith}
+use Rattle.std.proofs.Common.{◌+◌, ◌<◌, sym, ◌∙◌, ap, subst, refl, arith}
 use Rattle.std.specs.FinMap as map
 use Rattle.number_map.specs.Numbers.{AreTaken, IsLeastFree}
 use Rattle.number_map.proofs.Full.{IsWithin, len_full, len_free}
