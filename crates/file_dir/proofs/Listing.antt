@@ -21,12 +21,22 @@ pub in_directory : (dir name file : List ℕ) → name ≡ front_of dir ++ file 
 in_directory dir name file is = (file, is ∙ opened dir file)
 
 module _ (m : Files) (order : List FileNo) (o : IsOrder m order) (dir : List ℕ) (after : Option FileNo) where
-  module _ (first behind place : ℕ) (s : IsSplit m order o (front_of dir) first) (b : IsBehind order after behind) (le_first : first ≤ place) (le_behind : behind ≤ place) (least : place ≤ max first behind) where
+  module _ (first behind place : ℕ) (s : IsSplit m order o (front_of dir) first) (b : IsBehind order after behind) (le_first : first ≤ place)
+      (le_behind : behind ≤ place) (least : place ≤ max first behind) where
     -- each file that comes after stands at this place or behind it
     reach : (g : ℕ) → ComesAfter m dir after g → (i : ℕ) × (place ≤ i) × (i < length order) × (file_at order i ≡ g)
     reach g c =
-        let at = o.whole g (there (map.get m g) c.name c.stands) in
-        (at.0, omega (arith, in_part at.0 at.1 (ap (λ k. map.get m k) at.2 ∙ c.stands) (cases_lt at.0 first), past after b c.behind at.0 at.1 (ap (λ k. map.get m k) at.2 ∙ c.stands)), at.1, at.2)
+        let at = o.whole g (there (map.get m g) c.name c.stands) in (
+          at.0,
+          omega (
+            arith,
+            in_part at.0 at.1 (ap (λ k. map.get m k) at.2 ∙ c.stands) (cases_lt at.0 first),
+            past after b c.behind at.0 at.1
+                (ap (λ k. map.get m k) at.2 ∙ c.stands),
+          ),
+          at.1,
+          at.2,
+        )
       where
         in_part : (i : ℕ) → i < length order → map.get m (file_at order i) ≡ Some c.name → (i < first) ⊎ (first ≤ i) → first ≤ i
         in_part i less is (inl low) =
@@ -34,7 +44,8 @@ module _ (m : Files) (order : List FileNo) (o : IsOrder m order) (dir : List ℕ
             absurd (front_first (front_of dir) c.within.0 (subst (λ t. ComesBefore t (front_of dir)) (c.within.1 ∙ sym (opened dir c.within.0)) before))
         in_part i less is (inr ge) = ge
 
-        past : (a : Option FileNo) → IsBehind order a behind → IfSome a (λ f. IfSome (map.get m f.0) (λ before. ComesBefore before c.name)) → (i : ℕ) → i < length order → map.get m (file_at order i) ≡ Some c.name → behind ≤ i
+        past : (a : Option FileNo) → IsBehind order a behind → IfSome a (λ f. IfSome (map.get m f.0) (λ before. ComesBefore before c.name)) → (i : ℕ)
+            → i < length order → map.get m (file_at order i) ≡ Some c.name → behind ≤ i
         past None zero_is _ i less is = omega arith
         past (Some f) at before i less is =
             let a = named_at m order o at.0 at.1 in
@@ -43,7 +54,8 @@ module _ (m : Files) (order : List FileNo) (o : IsOrder m order) (dir : List ℕ
           where
             by : (x : List ℕ) → map.get m (file_at order at.0) ≡ Some x → ComesBefore x c.name → (at.0 < i) ⊎ (i ≤ at.0) → (at.0 ≡ i) ⊎ (at.0 ≢ i) → behind ≤ i
             by x x_is before (inl lt) _ = omega (arith, at.3)
-            by x x_is before (inr ge) (inl e) = absurd (before_itself c.name (subst (λ t. ComesBefore t c.name) (one_value (map.get m (file_at order i)) x c.name (ap (λ k. map.get m (file_at order k)) (sym e) ∙ x_is) is) before))
+            by x x_is before (inr ge) (inl e) = absurd (before_itself c.name
+                (subst (λ t. ComesBefore t c.name) (one_value (map.get m (file_at order i)) x c.name (ap (λ k. map.get m (file_at order k)) (sym e) ∙ x_is) is) before))
             by x x_is before (inr ge) (inr ne) = absurd (before_back x c.name before (o.rises i at.0 c.name x (omega arith) at.1 is x_is))
 
     pub none_after : length order ≤ place → (g : ℕ) → ComesAfter m dir after g → ⊥
@@ -91,7 +103,8 @@ module _ (m : Files) (order : List FileNo) (o : IsOrder m order) (dir : List ℕ
               other begins.0 begins.1
 
       -- the file at the place is the next one, or there is none
-      pub listed : (begins : Bool) (x : FileNo) → x.0 ≡ f → (begins ≡ true → (file : List ℕ) × (name ≡ front_of dir ++ file)) → ((file : List ℕ) → name ≡ front_of dir ++ file → begins ≡ true)
+      pub listed : (begins : Bool) (x : FileNo) → x.0 ≡ f → (begins ≡ true → (file : List ℕ) × (name ≡ front_of dir ++ file))
+          → ((file : List ℕ) → name ≡ front_of dir ++ file → begins ≡ true)
           → MatchOption (then_some begins x) ((g : ℕ) → ComesAfter m dir after g → ⊥) (λ y. IsNext m dir after y.0)
       listed true x e holds fails = subst (IsNext m dir after) (sym e) (next_is (holds refl).0 (holds refl).1)
       listed false x e holds fails = none_there (λ file front. let never : false ≡ true = fails file front in cc never)

@@ -35,6 +35,17 @@ not_both o x p q = let e : None ≡ Some x = sym p ∙ q in cc e
 pub one_value : {A : Type 0} (o : Option A) (x y : A) → o ≡ Some x → o ≡ Some y → x ≡ y
 one_value o x y p q = let e : Some x ≡ Some y = sym p ∙ q in cc e
 
+-- where a place stands when another one is put in, and when it is taken out
+abbrev Shifted : ℕ → ℕ → ℕ → Type 0
+Shifted place k i = ((i ≡ k) × (k < place)) ⊎ ((i ≡ k + 1) × (place ≤ k))
+
+abbrev ClosedUp : ℕ → ℕ → ℕ → Type 0
+ClosedUp place k i = ((i ≡ k) × (k < place)) ⊎ ((k ≡ i + 1) × (place ≤ i))
+
+-- a file stands at a place of an order
+abbrev Found : ℕ → List FileNo → Type 0
+Found g order = (i : ℕ) × (i < length order) × (file_at order i ≡ g)
+
 module _ (m : Files) (order : List FileNo) (o : IsOrder m order) where
   -- the name of the file at a place
   pub named_at : (i : ℕ) → i < length order → (name : List ℕ) × (map.get m (file_at order i) ≡ Some name)
@@ -85,7 +96,8 @@ module _ (m : Files) (order : List FileNo) (o : IsOrder m order) where
     pub front : (i : ℕ) (a : List ℕ) → i < place → map.get m (file_at order i) ≡ Some a → ComesBefore a text
     pub back : (i : ℕ) (a : List ℕ) → place ≤ i → i < length order → map.get m (file_at order i) ≡ Some a → ComesBefore a text → ⊥
 
-  pub split : (text : List ℕ) (place : ℕ) → IsPartitionPoint (λ f. precedes m text f ≡ true) (λ f. precedes m text f ≡ false) order place → place ≤ length order → IsSplit text place
+  pub split : (text : List ℕ) (place : ℕ) → IsPartitionPoint (λ f. precedes m text f ≡ true) (λ f. precedes m text f ≡ false) order place → place ≤ length order
+      → IsSplit text place
   split text place parts within = record {
     within = within;
     front = λ i a less is. before_is a text (sym (ap (is_before text) is) ∙ parts.0 i no_file (omega arith) less);
@@ -106,7 +118,8 @@ module _ (m : Files) (order : List FileNo) (o : IsOrder m order) where
         let at = o.whole f (there (map.get m f) text is) in
         by at.0 at.1 at.2 (ap (λ k. map.get m k) at.2 ∙ is) (cases_lt at.0 place) (cases_lt place at.0)
       where
-        by : (i : ℕ) → i < length order → file_at order i ≡ f → map.get m (file_at order i) ≡ Some text → (i < place) ⊎ (place ≤ i) → (place < i) ⊎ (i ≤ place) → (place < length order) × (file_at order place ≡ f)
+        by : (i : ℕ) → i < length order → file_at order i ≡ f → map.get m (file_at order i) ≡ Some text → (i < place) ⊎ (place ≤ i) → (place < i) ⊎ (i ≤ place)
+            → (place < length order) × (file_at order place ≡ f)
         by i less at name (inl low) _ = absurd (before_itself text (s.front i text low name))
         by i less at name (inr le) (inl high) =
             let b = named_at place (omega arith) in
@@ -131,9 +144,6 @@ module _ (m : Files) (order : List FileNo) (o : IsOrder m order) where
 
   -- a file more stands where its name splits the order
   module _ (f : FileNo) (name : List ℕ) (place : ℕ) (free : map.get m f.0 ≡ None) (absent : IsAbsent m name) (s : IsSplit name place) where
-    new_order : List FileNo
-    new_order = insert order place f
-
     abbrev new_files : Files
     new_files = map.insert m f.0 name
 
@@ -148,7 +158,8 @@ module _ (m : Files) (order : List FileNo) (o : IsOrder m order) where
 
     -- what stands at a place of the new order
     data At (i : ℕ) : Type 0 where
-      old : (k : ℕ) (a : List ℕ) → k < length order → file_at (insert order place f) i ≡ file_at order k → map.get m (file_at order k) ≡ Some a → map.get new_files (file_at order k) ≡ Some a → ((i ≡ k) × (k < place)) ⊎ ((i ≡ k + 1) × (place ≤ k)) → At i
+      old : (k : ℕ) (a : List ℕ) → k < length order → file_at (insert order place f) i ≡ file_at order k → map.get m (file_at order k) ≡ Some a
+          → map.get new_files (file_at order k) ≡ Some a → Shifted place k i → At i
       new : i ≡ place → file_at (insert order place f) i ≡ f.0 → map.get new_files f.0 ≡ Some name → At i
 
     stays : (k : ℕ) (a : List ℕ) → map.get m (file_at order k) ≡ Some a → map.get new_files (file_at order k) ≡ Some a
@@ -181,16 +192,18 @@ module _ (m : Files) (order : List FileNo) (o : IsOrder m order) where
         some_at i (old k a _ is _ name_is _) = there (map.get new_files (file_at (insert order place f) i)) a (ap (λ g. map.get new_files g) is ∙ name_is)
         some_at i (new _ is name_is) = there (map.get new_files (file_at (insert order place f) i)) name (ap (λ g. map.get new_files g) is ∙ name_is)
 
-        same : (i g : ℕ) (a b : List ℕ) → file_at (insert order place f) i ≡ g → map.get new_files g ≡ Some b → map.get new_files (file_at (insert order place f) i) ≡ Some a → a ≡ b
+        same : (i g : ℕ) (a b : List ℕ) → file_at (insert order place f) i ≡ g → map.get new_files g ≡ Some b
+            → map.get new_files (file_at (insert order place f) i) ≡ Some a → a ≡ b
         same i g a b is name_is p = one_value (map.get new_files g) a b (ap (λ j. map.get new_files j) (sym is) ∙ p) name_is
 
-        above : (i j : ℕ) (a b : List ℕ) → i < j → At i → At j → map.get new_files (file_at (insert order place f) i) ≡ Some a → map.get new_files (file_at (insert order place f) j) ≡ Some b → ComesBefore a b
+        above : (i j : ℕ) (a b : List ℕ) → i < j → At i → At j → map.get new_files (file_at (insert order place f) i) ≡ Some a
+            → map.get new_files (file_at (insert order place f) j) ≡ Some b → ComesBefore a b
         above i j a b lt (old k x kl is m_is n_is where_i) (old l y ll js mj nj where_j) p q =
             let ordered : k < l = lower i j k l lt where_i where_j in
             subst (λ t. ComesBefore t b) (sym (same i (file_at order k) a x is n_is p))
             (subst (λ t. ComesBefore x t) (sym (same j (file_at order l) b y js nj q)) (o.rises k l x y ordered ll m_is mj))
           where
-            lower : (i j k l : ℕ) → i < j → ((i ≡ k) × (k < place)) ⊎ ((i ≡ k + 1) × (place ≤ k)) → ((j ≡ l) × (l < place)) ⊎ ((j ≡ l + 1) × (place ≤ l)) → k < l
+            lower : (i j k l : ℕ) → i < j → Shifted place k i → Shifted place l j → k < l
             lower i j k l lt (inl u) (inl v) = omega arith
             lower i j k l lt (inl u) (inr v) = omega arith
             lower i j k l lt (inr u) (inl v) = omega arith
@@ -200,7 +213,7 @@ module _ (m : Files) (order : List FileNo) (o : IsOrder m order) where
             subst (λ t. ComesBefore t b) (sym (same i (file_at order k) a x is n_is p))
             (subst (λ t. ComesBefore x t) (sym (same j f.0 b name js nj q)) (s.front k x low m_is))
           where
-            lower : ((i ≡ k) × (k < place)) ⊎ ((i ≡ k + 1) × (place ≤ k)) → k < place
+            lower : Shifted place k i → k < place
             lower (inl u) = u.1
             lower (inr u) = omega arith
         above i j a b lt (new i_is is ni) (old l y ll js mj nj where_j) p q =
@@ -208,23 +221,24 @@ module _ (m : Files) (order : List FileNo) (o : IsOrder m order) where
             subst (λ t. ComesBefore t b) (sym (same i f.0 a name is ni p))
             (subst (λ t. ComesBefore name t) (sym (same j (file_at order l) b y js nj q)) (behind l y high ll mj (compared name y)))
           where
-            upper : ((j ≡ l) × (l < place)) ⊎ ((j ≡ l + 1) × (place ≤ l)) → place ≤ l
+            upper : Shifted place l j → place ≤ l
             upper (inl u) = omega arith
             upper (inr u) = u.1
 
-            behind : (l : ℕ) (y : List ℕ) → place ≤ l → l < length order → map.get m (file_at order l) ≡ Some y → ComesBefore name y ⊎ ((name ≡ y) ⊎ ComesBefore y name) → ComesBefore name y
+            behind : (l : ℕ) (y : List ℕ) → place ≤ l → l < length order → map.get m (file_at order l) ≡ Some y
+                → ComesBefore name y ⊎ ((name ≡ y) ⊎ ComesBefore y name) → ComesBefore name y
             behind l y high ll mj (inl h) = h
             behind l y high ll mj (inr (inl e)) = absurd (absent (file_at order l) (mj ∙ ap (λ t. Some t) (sym e)))
             behind l y high ll mj (inr (inr h)) = absurd (s.back l y high ll mj h)
         above i j a b lt (new i_is is ni) (new j_is js nj) p q = absurd (omega (arith, lt, i_is, j_is))
 
-        found : (g : ℕ) → IsSome (map.get new_files g) → (g ≡ f.0) ⊎ (g ≢ f.0) → (i : ℕ) × (i < length (insert order place f)) × (file_at (insert order place f) i ≡ g)
+        found : (g : ℕ) → IsSome (map.get new_files g) → (g ≡ f.0) ⊎ (g ≢ f.0) → Found g (insert order place f)
         found g h (inl e) = (place, omega (arith, size_is, s.within), at_place place refl ∙ sym e)
         found g h (inr ne) =
             let k = o.whole g (subst IsSome (get_put_other m f.0 g name ne) h) in
             shifted k.0 k.1 k.2 (cases_lt k.0 place)
           where
-            shifted : (k : ℕ) → k < length order → file_at order k ≡ g → (k < place) ⊎ (place ≤ k) → (i : ℕ) × (i < length (insert order place f)) × (file_at (insert order place f) i ≡ g)
+            shifted : (k : ℕ) → k < length order → file_at order k ≡ g → (k < place) ⊎ (place ≤ k) → Found g (insert order place f)
             shifted k less is (inl low) = (k, omega (arith, size_is), below_at k low ∙ is)
             shifted k less is (inr ge) = (k + 1, omega (arith, size_is), above_at (k + 1) k ge refl ∙ is)
 
@@ -244,7 +258,7 @@ module _ (m : Files) (order : List FileNo) (o : IsOrder m order) where
 
     -- where a place of the rest stood before
     abbrev Stood : ℕ → ℕ → Type 0
-    Stood i k = (k < length order) × (k ≢ place) × (file_at (remove order place) i ≡ file_at order k) × (((i ≡ k) × (k < place)) ⊎ ((k ≡ i + 1) × (place ≤ i)))
+    Stood i k = (k < length order) × (k ≢ place) × (file_at (remove order place) i ≡ file_at order k) × ClosedUp place k i
 
     stood : (i : ℕ) → i < length (remove order place) → (k : ℕ) × Stood i k
     stood i less = by (cases_lt i place)
@@ -275,19 +289,19 @@ module _ (m : Files) (order : List FileNo) (o : IsOrder m order) where
             let less : map.len (map.remove m f) ≡ map.len m - 1 = map.len-remove nat_cmp_total m f ∙ ap (λ p. cond (is_some p) (map.len m - 1) (map.len m)) is in
             omega (arith, size_gone, o.size)
 
-        lower : (i j k l : ℕ) → i < j → ((i ≡ k) × (k < place)) ⊎ ((k ≡ i + 1) × (place ≤ i)) → ((j ≡ l) × (l < place)) ⊎ ((l ≡ j + 1) × (place ≤ j)) → k < l
+        lower : (i j k l : ℕ) → i < j → ClosedUp place k i → ClosedUp place l j → k < l
         lower i j k l lt (inl u) (inl v) = omega arith
         lower i j k l lt (inl u) (inr v) = omega arith
         lower i j k l lt (inr u) (inl v) = omega arith
         lower i j k l lt (inr u) (inr v) = omega arith
 
-        found : (g : ℕ) → IsSome (map.get left g) → (g ≡ f) ⊎ (g ≢ f) → (i : ℕ) × (i < length (remove order place)) × (file_at (remove order place) i ≡ g)
+        found : (g : ℕ) → IsSome (map.get left g) → (g ≡ f) ⊎ (g ≢ f) → Found g (remove order place)
         found g h (inl e) = absurd (let none : IsSome {T = List ℕ} None = subst IsSome (get_gone m f g e) h in cc none)
         found g h (inr ne) =
             let k = o.whole g (subst IsSome (get_gone_other m f g ne) h) in
             shifted k.0 k.1 k.2 (cases_lt k.0 place) (cases_eq k.0 place)
           where
-            shifted : (k : ℕ) → k < length order → file_at order k ≡ g → (k < place) ⊎ (place ≤ k) → (k ≡ place) ⊎ (k ≢ place) → (i : ℕ) × (i < length (remove order place)) × (file_at (remove order place) i ≡ g)
+            shifted : (k : ℕ) → k < length order → file_at order k ≡ g → (k < place) ⊎ (place ≤ k) → (k ≡ place) ⊎ (k ≢ place) → Found g (remove order place)
             shifted k less is (inl low) _ = (k, omega (arith, size_gone), below_gone k low ∙ is)
             shifted k less is (inr ge) (inl e) = absurd (ne (sym is ∙ (ap (file_at order) e ∙ here)))
             shifted k less is (inr ge) (inr other) =
@@ -313,7 +327,8 @@ module _ (m : Files) (a : AreFiles m) (f : ℕ) where
       named_is g other is (inl e) = subst IsFileName (sym (at_f g other e is)) named
       named_is g other is (inr ne) = a.named g other (old g other ne is)
 
-      one : (g h : ℕ) (other : List ℕ) → map.get (map.insert m f name) g ≡ Some other → map.get (map.insert m f name) h ≡ Some other → (g ≡ f) ⊎ (g ≢ f) → (h ≡ f) ⊎ (h ≢ f) → g ≡ h
+      one : (g h : ℕ) (other : List ℕ) → map.get (map.insert m f name) g ≡ Some other → map.get (map.insert m f name) h ≡ Some other → (g ≡ f) ⊎ (g ≢ f)
+          → (h ≡ f) ⊎ (h ≢ f) → g ≡ h
       one g h other p q (inl e) (inl d) = e ∙ sym d
       one g h other p q (inl e) (inr d) = absurd (absent h (old h other d q ∙ ap (λ t. Some t) (at_f g other e p)))
       one g h other p q (inr e) (inl d) = absurd (absent g (old g other e p ∙ ap (λ t. Some t) (at_f h other d q)))

@@ -50,7 +50,8 @@ pub between : (p a rest : List ℕ) → (ComesBefore a p → ⊥) → ComesBefor
 between [] a rest late h = (a, refl)
 between (x ∷ p) [] rest late h = absurd (late refl)
 between (x ∷ p) (y ∷ a) rest late h =
-    elim (nat_cmp y x) as (λ o. nat_cmp y x ≡ o → (ordering_then o (name_cmp a p) ≡ Less → ⊥) → ordering_then o (name_cmp a (p ++ rest)) ≡ Less → (more : List ℕ) × (y ∷ a ≡ x ∷ (p ++ more))) [
+    elim (nat_cmp y x) as (λ o. nat_cmp y x ≡ o → (ordering_then o (name_cmp a p) ≡ Less → ⊥) → ordering_then o (name_cmp a (p ++ rest)) ≡ Less
+    → (more : List ℕ) × (y ∷ a ≡ x ∷ (p ++ more))) [
       | Less ↦ λ is late h. absurd (late refl)
       | Equal ↦ λ is late h. let rest_is = between p a rest late h in (rest_is.0, λ i. nat_cmp-IsAntisymmetric y x is i ∷ rest_is.1 i)
       | Greater ↦ λ is late h. absurd (cc h)

@@ -9,7 +9,7 @@ use Rattle.plain_model.specs.Limits.{IsFileName, IsNameCode, is_name_code}
 use Rattle.script_lang.specs.Fields.{Lacks}
 use Rattle.script_lang.proofs.Fronts.{name_lacks}
 use Rattle.script_lang.proofs.Splits.{IsNot, one_split, no_split}
-use Rattle.file_dir.specs.Reading.{IsFile, IsOpenDirectory, IsParted, Reads}
+use Rattle.file_dir.specs.Reading.{IsFile, IsOpenDirectory, IsParted, IsPlaced, IsPointed, Reads}
 
 abbrev pub full_of : List ℕ → List ℕ → List ℕ → List ℕ
 full_of dir stem extension = 60 ∷ (dir ++ 62 ∷ (stem ++ 46 ∷ extension))
@@ -55,7 +55,8 @@ module _ (text user : List ℕ) where
   abbrev raised : List ℕ
   raised = each to_ascii_uppercase text
 
-  pub reads : (dir file stem extension : List ℕ) → IsFile raised user dir file → IsParted file stem extension → IsFileName (full_of dir stem extension) → Reads text user (full_of dir stem extension)
+  pub reads : (dir file stem extension : List ℕ) → IsFile raised user dir file → IsParted file stem extension → IsFileName (full_of dir stem extension)
+      → Reads text user (full_of dir stem extension)
   reads dir file stem extension placed parted h =
       let parts = parts_are raised user dir file stem extension placed parted h in
       let front = front_is placed in
@@ -69,19 +70,19 @@ module _ (text user : List ℕ) where
         pointed = in_back parts.2 back.2;
       }
     where
-      front_is : IsFile raised user dir file → (front : List ℕ) × (raised ≡ front ++ file) × ((front ≡ 60 ∷ (dir ++ 62 ∷ [])) ⊎ ((front ≡ []) × (dir ≡ user)))
+      front_is : IsFile raised user dir file → (front : List ℕ) × (raised ≡ front ++ file) × IsPlaced user dir front
       front_is (inl (rest, opens, cut)) = (60 ∷ (dir ++ 62 ∷ []), opens ∙ ap (λ t. 60 ∷ t) (cut.whole ∙ sym (append_assoc dir (62 ∷ []) file)), inl refl)
       front_is (inr (none, is_user, same)) = ([], sym same, inr (refl, is_user))
 
-      back_is : IsParted file stem extension → (back : List ℕ) × (file ≡ stem ++ back) × ((back ≡ 46 ∷ extension) ⊎ ((back ≡ []) × (extension ≡ [])))
+      back_is : IsParted file stem extension → (back : List ℕ) × (file ≡ stem ++ back) × IsPointed extension back
       back_is (inl cut) = (46 ∷ extension, cut.whole, inl refl)
       back_is (inr (none, same, empty)) = ([], sym same ∙ sym (append-nil stem), inr (refl, empty))
 
-      in_front : {front : List ℕ} {d : List ℕ} → d ≡ dir → (front ≡ 60 ∷ (dir ++ 62 ∷ [])) ⊎ ((front ≡ []) × (dir ≡ user)) → (front ≡ 60 ∷ (d ++ 62 ∷ [])) ⊎ ((front ≡ []) × (d ≡ user))
+      in_front : {front : List ℕ} {d : List ℕ} → d ≡ dir → IsPlaced user dir front → IsPlaced user d front
       in_front e (inl is) = inl (is ∙ ap (λ t. 60 ∷ (t ++ 62 ∷ [])) (sym e))
       in_front e (inr is) = inr (is.0, e ∙ is.1)
 
-      in_back : {back : List ℕ} {x : List ℕ} → x ≡ extension → (back ≡ 46 ∷ extension) ⊎ ((back ≡ []) × (extension ≡ [])) → (back ≡ 46 ∷ x) ⊎ ((back ≡ []) × (x ≡ []))
+      in_back : {back : List ℕ} {x : List ℕ} → x ≡ extension → IsPointed extension back → IsPointed x back
       in_back e (inl is) = inl (is ∙ ap (λ t. 46 ∷ t) (sym e))
       in_back e (inr is) = inr (is.0, e ∙ is.1)
 
@@ -104,11 +105,11 @@ module _ (text user : List ℕ) where
           length-append r.full.stem (46 ∷ r.full.extension),
         )
       where
-        front_short : (r.front ≡ 60 ∷ (r.full.dir ++ 62 ∷ [])) ⊎ ((r.front ≡ []) × (r.full.dir ≡ user)) → length r.front ≤ length r.full.dir + 2
+        front_short : IsPlaced user r.full.dir r.front → length r.front ≤ length r.full.dir + 2
         front_short (inl is) = omega (arith, ap length is, length-append r.full.dir (62 ∷ []))
         front_short (inr is) = omega (arith, ap length is.0)
 
-        back_short : (r.back ≡ 46 ∷ r.full.extension) ⊎ ((r.back ≡ []) × (r.full.extension ≡ [])) → length r.back ≤ length r.full.extension + 1
+        back_short : IsPointed r.full.extension r.back → length r.back ≤ length r.full.extension + 1
         back_short (inl is) = omega (arith, ap length is)
         back_short (inr is) = omega (arith, ap length is.0)
 
@@ -122,7 +123,7 @@ module _ (text user : List ℕ) where
     pub closed : IsOpenDirectory raised → ⊥
     closed (rest, opens, none) = by r.placed
       where
-        by : (r.front ≡ 60 ∷ (r.full.dir ++ 62 ∷ [])) ⊎ ((r.front ≡ []) × (r.full.dir ≡ user)) → ⊥
+        by : IsPlaced user r.full.dir r.front → ⊥
         by (inl is) = no_split 62 rest r.full.dir (r.full.stem ++ r.back) none (let e = sym opens ∙ at_front is in cc e)
         by (inr is) = unopened r.full.stem r.back rest r.full.stem_some r.full.stem_fits (sym (at_start is.0) ∙ opens)
 
@@ -133,23 +134,27 @@ module _ (text user : List ℕ) where
         let ends = point_is parted r.pointed whole.1 in
         (λ i. full_of (whole.0 i) (ends.0 i) (ends.1 i)) ∙ sym r.full.spelled
       where
-        file_is : IsFile raised user dir file → (r.front ≡ 60 ∷ (r.full.dir ++ 62 ∷ [])) ⊎ ((r.front ≡ []) × (r.full.dir ≡ user)) → (dir ≡ r.full.dir) × (file ≡ r.full.stem ++ r.back)
+        file_is : IsFile raised user dir file → IsPlaced user r.full.dir r.front → (dir ≡ r.full.dir) × (file ≡ r.full.stem ++ r.back)
         file_is (inl (rest, opens, cut)) (inl is) =
-            one_split 62 dir r.full.dir file (r.full.stem ++ r.back) cut.first (name_lacks 62 refl r.full.dir r.full.dir_fits.2) (sym cut.whole ∙ (let e = sym opens ∙ at_front is in cc e))
+            one_split 62 dir r.full.dir file (r.full.stem ++ r.back) cut.first (name_lacks 62 refl r.full.dir r.full.dir_fits.2)
+            (sym cut.whole ∙ (let e = sym opens ∙ at_front is in cc e))
         file_is (inl (rest, opens, cut)) (inr is) = absurd (unopened r.full.stem r.back rest r.full.stem_some r.full.stem_fits (sym (at_start is.0) ∙ opens))
         file_is (inr (none, is_user, same)) (inl is) = absurd (none (r.full.dir ++ 62 ∷ (r.full.stem ++ r.back)) (at_front is))
         file_is (inr (none, is_user, same)) (inr is) = (is_user ∙ sym is.1, same ∙ at_start is.0)
 
-        point_is : IsParted file stem extension → (r.back ≡ 46 ∷ r.full.extension) ⊎ ((r.back ≡ []) × (r.full.extension ≡ [])) → file ≡ r.full.stem ++ r.back → (stem ≡ r.full.stem) × (extension ≡ r.full.extension)
+        point_is : IsParted file stem extension → IsPointed r.full.extension r.back → file ≡ r.full.stem ++ r.back → (stem ≡ r.full.stem) × (extension ≡ r.full.extension)
         point_is (inl cut) (inl is) whole =
-            one_split 46 stem r.full.stem extension r.full.extension cut.first (name_lacks 46 refl r.full.stem r.full.stem_fits) (sym cut.whole ∙ (whole ∙ ap (λ t. r.full.stem ++ t) is))
+            one_split 46 stem r.full.stem extension r.full.extension cut.first (name_lacks 46 refl r.full.stem r.full.stem_fits)
+            (sym cut.whole ∙ (whole ∙ ap (λ t. r.full.stem ++ t) is))
         point_is (inl cut) (inr is) whole =
-            absurd (no_split 46 r.full.stem stem extension (name_lacks 46 refl r.full.stem r.full.stem_fits) (sym (append-nil r.full.stem) ∙ (ap (λ t. r.full.stem ++ t) (sym is.0) ∙ (sym whole ∙ cut.whole))))
+            absurd (no_split 46 r.full.stem stem extension (name_lacks 46 refl r.full.stem r.full.stem_fits)
+            (sym (append-nil r.full.stem) ∙ (ap (λ t. r.full.stem ++ t) (sym is.0) ∙ (sym whole ∙ cut.whole))))
         point_is (inr (none, same, empty)) (inl is) whole = absurd (no_split 46 file r.full.stem r.full.extension none (whole ∙ ap (λ t. r.full.stem ++ t) is))
         point_is (inr (none, same, empty)) (inr is) whole = (same ∙ (whole ∙ (ap (λ t. r.full.stem ++ t) is.0 ∙ append-nil r.full.stem)), empty ∙ sym is.1)
 
   -- what is said of the full form is said of the text
-  pub read_or_not : (dir file stem extension full : List ℕ) (result : Option (List ℕ)) → full ≡ full_of dir stem extension → IsFile raised user dir file → IsParted file stem extension
+  pub read_or_not : (dir file stem extension full : List ℕ) (result : Option (List ℕ)) → full ≡ full_of dir stem extension → IsFile raised user dir file
+      → IsParted file stem extension
       → MatchOption result (IsFileName full → ⊥) (λ name. (name ≡ full) × IsFileName full) → MatchOption result ((name : List ℕ) → Reads text user name → ⊥) (Reads text user)
   read_or_not dir file stem extension full None is placed parted fails = λ name r. fails (subst IsFileName (sym (is ∙ parts name r dir file stem extension placed parted)) r.full)
   read_or_not dir file stem extension full (Some name) is placed parted holds =
@@ -159,11 +164,16 @@ module _ (text user : List ℕ) where
   apart : (name : List ℕ) (r : Reads text user name) → IsFile raised user r.full.dir (r.full.stem ++ r.back) × IsParted (r.full.stem ++ r.back) r.full.stem r.full.extension
   apart name r = (first r.placed, second r.pointed)
     where
-      first : (r.front ≡ 60 ∷ (r.full.dir ++ 62 ∷ [])) ⊎ ((r.front ≡ []) × (r.full.dir ≡ user)) → IsFile raised user r.full.dir (r.full.stem ++ r.back)
+      first : IsPlaced user r.full.dir r.front → IsFile raised user r.full.dir (r.full.stem ++ r.back)
       first (inl is) = inl (r.full.dir ++ 62 ∷ (r.full.stem ++ r.back), at_front name r is, record { whole = refl; first = name_lacks 62 refl r.full.dir r.full.dir_fits.2 })
-      first (inr is) = inr ((λ rest opens. unopened r.full.stem r.back rest r.full.stem_some r.full.stem_fits (sym (at_start name r is.0) ∙ opens)), is.1, sym (at_start name r is.0))
+      first (inr is) = inr (
+        (λ rest opens. unopened r.full.stem r.back rest r.full.stem_some r.full.stem_fits (sym (at_start name r is.0) ∙ opens)),
+        is.1,
+        sym
+            (at_start name r is.0),
+      )
 
-      second : (r.back ≡ 46 ∷ r.full.extension) ⊎ ((r.back ≡ []) × (r.full.extension ≡ [])) → IsParted (r.full.stem ++ r.back) r.full.stem r.full.extension
+      second : IsPointed r.full.extension r.back → IsParted (r.full.stem ++ r.back) r.full.stem r.full.extension
       second (inl is) = inl (record { whole = ap (λ t. r.full.stem ++ t) is; first = name_lacks 46 refl r.full.stem r.full.stem_fits })
       second (inr is) =
           let bare : r.full.stem ≡ r.full.stem ++ r.back = sym (append-nil r.full.stem) ∙ ap (λ t. r.full.stem ++ t) (sym is.0) in
@@ -187,7 +197,8 @@ names_itself name user h = record {
   full = h;
   front = 60 ∷ (h.dir ++ 62 ∷ []);
   back = 46 ∷ h.extension;
-  typed = map_fixed to_ascii_uppercase name (subst (All Capital) (sym h.spelled) all) ∙ (h.spelled ∙ ap (λ t. 60 ∷ t) (sym (append_assoc h.dir (62 ∷ []) (h.stem ++ 46 ∷ h.extension))));
+  typed = map_fixed to_ascii_uppercase name (subst (All Capital) (sym h.spelled) all) ∙
+      (h.spelled ∙ ap (λ t. 60 ∷ t) (sym (append_assoc h.dir (62 ∷ []) (h.stem ++ 46 ∷ h.extension))));
   placed = inl refl;
   pointed = inl refl;
 }

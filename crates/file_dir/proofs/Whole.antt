@@ -28,9 +28,11 @@ module _ (m : Files) (a : AreFiles m) (dir : List ℕ) where
     later : (g : ℕ) → ComesAfter m dir (Some f) g → ComesAfter m dir after g
     later g c = record { name = c.name; stands = c.stands; within = c.within; behind = past after n.comes.behind }
       where
-        past : (x : Option FileNo) → IfSome x (λ y. IfSome (map.get m y.0) (λ before. ComesBefore before n.comes.name)) → IfSome x (λ y. IfSome (map.get m y.0) (λ before. ComesBefore before c.name))
+        past : (x : Option FileNo) → IfSome x (λ y. IfSome (map.get m y.0) (λ before. ComesBefore before n.comes.name))
+            → IfSome x (λ y. IfSome (map.get m y.0) (λ before. ComesBefore before c.name))
         past None h = tt
-        past (Some y) h = if_weaker (λ before. ComesBefore before n.comes.name) (λ before. ComesBefore before c.name) (map.get m y.0) (λ before first. before_both before n.comes.name c.name first (behind_it g c)) h
+        past (Some y) h = if_weaker (λ before. ComesBefore before n.comes.name) (λ before. ComesBefore before c.name) (map.get m y.0)
+            (λ before first. before_both before n.comes.name c.name first (behind_it g c)) h
 
     it_or_later : (g : ℕ) → ComesAfter m dir after g → (g ≡ f.0) ⊎ ComesAfter m dir (Some f) g
     it_or_later g c = by (compared c.name n.comes.name)
@@ -72,7 +74,8 @@ module _ (m : Files) (a : AreFiles m) (dir : List ℕ) where
   in_order : (fs : List FileNo) (after : Option FileNo) → Lists m dir after fs → AllPairs (StandsBefore m) fs
   in_order [] after none = λ i j d lt less. absurd (omega arith)
   in_order (f ∷ fs) after (n, rest) =
-      AllPairs-cons (StandsBefore m) f fs (All-weaker (Contains fs) (StandsBefore m f) (λ g there. before g (only fs (Some f) rest g there)) fs (All-contains_itself fs)) (in_order fs (Some f) rest)
+      AllPairs-cons (StandsBefore m) f fs (All-weaker (Contains fs) (StandsBefore m f) (λ g there. before g (only fs (Some f) rest g there)) fs
+      (All-contains_itself fs)) (in_order fs (Some f) rest)
     where
       before : (g : FileNo) → ComesAfter m dir (Some f) g.0 → StandsBefore m f g
       before g c x y x_is y_is =
@@ -81,7 +84,11 @@ module _ (m : Files) (a : AreFiles m) (dir : List ℕ) where
 
   pub whole : (fs : List FileNo) → Lists m dir None fs → IsWhole m dir fs
   whole fs lists = record {
-    each = λ f. (λ h. has fs None lists f (record { name = h.0; stands = h.1; within = h.2; behind = tt }), λ there. let c = only fs None lists f there in (c.name, c.stands, c.within));
+    each = λ f. (
+      λ h. has fs None lists f (record { name = h.0; stands = h.1; within = h.2; behind = tt }),
+      λ there. let c = only fs None lists f there in
+          (c.name, c.stands, c.within),
+    );
     in_order = in_order fs None lists;
   }
 

@@ -4,15 +4,22 @@ use Rattle.std.specs.Char.{to_ascii_uppercase}
 use Rattle.plain_model.specs.Limits.{IsFileName}
 use Rattle.script_lang.specs.Fields.{IsCut, Lacks}
 
--- a text names the file with this full name, once its small letters are raised: the directory stands before the name, or
--- the text has none and it is the user's; the extension stands behind a point, or the text has no point and it is empty
+-- before a name stands its directory in brackets, or nothing where it is the user's
+abbrev pub IsPlaced : List ℕ → List ℕ → List ℕ → Type 0
+IsPlaced user dir front = (front ≡ 60 ∷ (dir ++ 62 ∷ [])) ⊎ ((front ≡ []) × (dir ≡ user))
+
+-- behind a name stands its extension behind a point, or nothing where it is empty
+abbrev pub IsPointed : List ℕ → List ℕ → Type 0
+IsPointed extension back = (back ≡ 46 ∷ extension) ⊎ ((back ≡ []) × (extension ≡ []))
+
+-- a text names the file with this full name, once its small letters are raised
 pub record Reads (text user name : List ℕ) : Type 0 where
   pub full : IsFileName name
   pub front : List ℕ
   pub back : List ℕ
   pub typed : each to_ascii_uppercase text ≡ front ++ (full.stem ++ back)
-  pub placed : (front ≡ 60 ∷ (full.dir ++ 62 ∷ [])) ⊎ ((front ≡ []) × (full.dir ≡ user))
-  pub pointed : (back ≡ 46 ∷ full.extension) ⊎ ((back ≡ []) × (full.extension ≡ []))
+  pub placed : IsPlaced user full.dir front
+  pub pointed : IsPointed full.extension back
 
 -- a directory is opened and not closed
 abbrev pub IsOpenDirectory : List ℕ → Type 0

@@ -40,7 +40,8 @@ impl Model for Dir {
 
     ghost view = { λ t. t.names };
 
-    ghost invariant = { λ t. AreFiles t.names × IsOrder t.names t.order.items × (MOST_FILES ≤ vec_capacity t.order) };
+    ghost invariant = { λ t. AreFiles t.names × IsOrder t.names t.order.items
+        × (MOST_FILES ≤ vec_capacity t.order) };
 }
 
 impl Dir {
@@ -63,9 +64,11 @@ impl Dir {
         self.names.get(f.0 as usize).unwrap()
     }
 
-    /// The file with a full name. None exactly where there is none. It halves the files in the order of their names.
+    /// The file with a full name. None exactly where there is none. Its place in the order of the
+    /// names is found by halves.
     pub fn find(&self, name: &FileName) -> Option<FileNo>
-        ensures found { MatchOption result (IsAbsent self.now name.now) (λ f. map.get self.now f.0 ≡ Some name.now) }
+        ensures found { MatchOption result (IsAbsent self.now name.now)
+            (λ f. map.get self.now f.0 ≡ Some name.now) }
         ensures files { AreFiles self.now }
     {
         let place = count_before(&self.order, &self.names, name.as_slice());
@@ -73,12 +76,14 @@ impl Dir {
         (self.name_of(f).as_slice() == name.as_slice()).then_some(f)
     }
 
-    /// Makes a file of this name, which isn't there, under the least number that is free. FilesFull exactly where there
-    /// are as many files as there may be, and then nothing changes. It grows with the number of files.
+    /// Makes a file of this name, which isn't there, under the least number that is free. FilesFull
+    /// exactly where there are as many files as there may be, and then nothing changes. What it
+    /// costs grows with the number of files.
     pub fn create(&mut self, name: &FileName) -> Result<FileNo, FilesFull>
         requires name { IsFileName name.now }
         requires absent { IsAbsent self.old name.now }
-        ensures { MatchResult result (λ f. Creates self.old self.new f.0 name.now) (λ _. (map.len self.old ≡ MOST_FILES) × (self.new ≡ self.old)) }
+        ensures { MatchResult result (λ f. Creates self.old self.new f.0 name.now)
+            (λ _. (map.len self.old ≡ MOST_FILES) × (self.new ≡ self.old)) }
     {
         let Some(n) = self.names.first_free(0) else {
             return Err(FilesFull);
@@ -102,11 +107,13 @@ impl Dir {
         self.names.remove(f.0 as usize);
     }
 
-    /// The first file of a directory whose full name comes after that of another file, which is there, or the first of
-    /// all where none is given; byte by byte, so that `A-.B` comes before `A.B`. None exactly where there is none.
+    /// The first file of a directory whose full name comes after that of another file, which is
+    /// there, or the first of all where none is given; byte by byte, so that `A-.B` comes before
+    /// `A.B`. None exactly where there is none. Its place is found by halves.
     pub fn list(&self, dir: &DirName, after: Option<FileNo>) -> Option<FileNo>
         requires { IfSome after (λ f. IsSome (map.get self.now f.0)) }
-        ensures { MatchOption result ((f : ℕ) → ComesAfter self.now dir.now after f → ⊥) (λ f. IsNext self.now dir.now after f.0) }
+        ensures { MatchOption result ((f : ℕ) → ComesAfter self.now dir.now after f → ⊥)
+            (λ f. IsNext self.now dir.now after f.0) }
     {
         let behind = place_behind(&self.order, &self.names, after);
         let front = joined(&[b"<", dir.as_slice(), b">"])?;

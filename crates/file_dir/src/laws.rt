@@ -7,21 +7,28 @@ ghost use Rattle.file_dir.specs.Files.{AreFiles, Creates, Files, IsAbsent};
 ghost use Rattle.file_dir.specs.Listing.{IsWhole, Lists};
 ghost use Rattle.file_dir.specs.Reading.{Reads};
 
-/// What was created is found under its name, alone, and every other file stays. What was deleted is not found.
+/// What was created is found under its name, alone, and every other file stays. What was deleted
+/// is not found.
 pub fn a_created_file_is_found()
-    ensures found { (old : Files) (new : Files) (f : ℕ) (name : List ℕ) → Creates old new f name → IsAbsent old name → (g : ℕ) → (map.get new g ≡ Some name) ↔ (g ≡ f) }
-    ensures others { (old : Files) (new : Files) (f : ℕ) (name : List ℕ) → Creates old new f name → (g : ℕ) → g ≢ f → map.get new g ≡ map.get old g }
-    ensures deleted { (m : Files) (f : ℕ) (name : List ℕ) → AreFiles m → map.get m f ≡ Some name → IsAbsent (map.remove m f) name }
+    ensures found { (old : Files) (new : Files) (f : ℕ) (name : List ℕ) → Creates old new f name
+        → IsAbsent old name → (g : ℕ) → (map.get new g ≡ Some name) ↔ (g ≡ f) }
+    ensures others { (old : Files) (new : Files) (f : ℕ) (name : List ℕ) → Creates old new f name
+        → (g : ℕ) → g ≢ f → map.get new g ≡ map.get old g }
+    ensures deleted { (m : Files) (f : ℕ) (name : List ℕ) → AreFiles m → map.get m f ≡ Some name
+        → IsAbsent (map.remove m f) name }
 {}
 
-/// Who asks for the next file of a directory until there is none goes through each of its files, once, in the order of
-/// their names.
+/// Who asks for the next file of a directory until there is none goes through each of its files,
+/// once, in the order of their names.
 pub fn a_listing_is_whole()
-    ensures { (m : Files) (dir : List ℕ) (fs : List AFileNo) → AreFiles m → Lists m dir None fs → IsWhole m dir fs }
+    ensures { (m : Files) (dir : List ℕ) (fs : List AFileNo) → AreFiles m → Lists m dir None fs
+        → IsWhole m dir fs }
 {}
 
 /// A text names one file at most, and the full name of a file names that file, whoever the user is.
 pub fn a_text_names_one_file()
-    ensures one { (text : List ℕ) (user : List ℕ) (a : List ℕ) (b : List ℕ) → Reads text user a → Reads text user b → a ≡ b }
-    ensures itself { (name : List ℕ) (user : List ℕ) → IsFileName name → Reads name user name }
+    ensures one { (text : List ℕ) (user : List ℕ) (a : List ℕ) (b : List ℕ) → Reads text user a
+        → Reads text user b → a ≡ b }
+    ensures itself { (name : List ℕ) (user : List ℕ) → IsFileName name
+        → Reads name user name }
 {}

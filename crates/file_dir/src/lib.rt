@@ -1,6 +1,6 @@
-//! The directory: which files there are, under which numbers and full names, and names as they are typed.
-//! To the layers above it is a finite map from numbers to full names, in which no name stands twice.
-//! Stands on `number_map`, on `page_files` for how many files there are, and on `script_lang` for what a name is.
+//! The directory: the files that there are, by number and by name, and names as they are typed.
+//! To the layers above it is a finite map from numbers to full names; no name stands there twice.
+//! Stands on `number_map`, and on `page_files` and `script_lang` for what files and names are.
 #![tactic(auto)]
 
 mod dir;

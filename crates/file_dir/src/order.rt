@@ -24,7 +24,8 @@ fn precedes(names: &Names, f: FileNo, text: &[u8]) -> bool
 /// How many files have a name that comes before a text.
 pub(crate) fn count_before(order: &[FileNo], names: &Names, text: &[u8]) -> usize
     requires { IsOrder names.now order.now }
-    ensures place { IsPartitionPoint (λ f. precedes names.now text.now f ≡ true) (λ f. precedes names.now text.now f ≡ false) order.now result }
+    ensures place { IsPartitionPoint (λ f. precedes names.now text.now f ≡ true)
+        (λ f. precedes names.now text.now f ≡ false) order.now result }
     ensures within { result ≤ length order.now }
 {
     order.partition_point(|f| precedes(names, *f, text))

@@ -37,7 +37,8 @@ fn deleted(dir: &mut Dir, text: &[u8]) -> bool {
     }
 }
 
-// The file of a directory that comes after the one that a text names. None where there is not that one.
+// The file of a directory that comes after the one that a text names. None where there is not that
+// one.
 fn after(dir: &Dir, of: &DirName, text: &[u8]) -> Option<Option<FileNo>> {
     let name = read(text)?;
     let f = dir.find(&name)?;

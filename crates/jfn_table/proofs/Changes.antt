@@ -129,7 +129,12 @@ unfolding names_in
 names_none f = omega (arith, passing_most (names_it f) map.empty, map.len-empty nat_cmp Jfn)
 
 pub no_jfns : AreJfns map.empty
-no_jfns = record { from_one = map.get-empty nat_cmp 0; most = λ q far. map.get-empty nat_cmp q; fit = λ q. subst (λ o. IfSome o FitsJfn) (sym (map.get-empty {X = Jfn} nat_cmp q)) tt }
+no_jfns = record {
+  from_one = map.get-empty nat_cmp 0;
+  most = λ q far. map.get-empty nat_cmp q;
+  fit = λ q. subst (λ o. IfSome o FitsJfn)
+      (sym (map.get-empty {X = Jfn} nat_cmp q)) tt;
+}
 
 pub no_counts : CountNames (replicate MOST_FILES 0) map.empty
 no_counts = record { size = length-replicate {A = ℕ} MOST_FILES 0; counts = λ f below. get_or-replicate MOST_FILES f 0 0 below ∙ sym (names_none f) }

@@ -25,7 +25,8 @@ const PLACES: usize = MOST_JFNS + 1;
 #[derive(Clone, Copy, Debug, PartialEq, Eq)]
 pub struct JfnsFull;
 
-/// The JFNs that one job holds (JSYS Manual, "File handling"): each stands under its number, 1 to 20, for a file.
+/// The JFNs that one job holds (JSYS Manual, "File handling"): each stands under its number, 1 to
+/// 20, for a file.
 #[derive(Drop)]
 pub struct Jfns {
     held: NumberMap<Jfn, PLACES>,
@@ -67,11 +68,12 @@ impl Jfns {
         self.held.get(n as usize)
     }
 
-    /// Gives a file the least number that is free; the file isn't open by it. JfnsFull exactly where the job holds as
-    /// many JFNs as it may, and then nothing changes.
+    /// Gives a file the least number that is free; the file isn't open by it. JfnsFull exactly
+    /// where the job holds as many JFNs as it may, and then nothing changes.
     pub fn take(&mut self, f: FileNo) -> Result<u32, JfnsFull>
         requires { f.0 < MOST_FILES }
-        ensures { MatchResult result (TakesLeast self.old self.new f.0) (λ _. (map.len self.old ≡ MOST_JFNS) × (self.new ≡ self.old)) }
+        ensures { MatchResult result (TakesLeast self.old self.new f.0)
+            (λ _. (map.len self.old ≡ MOST_JFNS) × (self.new ≡ self.old)) }
     {
         let Some(n) = self.held.first_free(FIRST_JFN) else {
             return Err(JfnsFull);
@@ -87,11 +89,13 @@ impl Jfns {
         Ok(n as u32)
     }
 
-    /// Opens the file of a JFN at its first byte, in bytes of so many bits, 1 to 36. The job holds the JFN.
+    /// Opens the file of a JFN at its first byte, in bytes of so many bits, 1 to 36. The job holds
+    /// the JFN.
     pub fn open_file(&mut self, n: u32, mode: Mode, size: u8)
         requires held { IsSome (map.get self.old n) }
         requires size { IsByteSize size }
-        ensures { IfSome (map.get self.old n) (λ jfn. self.new ≡ map.insert self.old n (opened mode size jfn)) }
+        ensures { IfSome (map.get self.old n)
+            (λ jfn. self.new ≡ map.insert self.old n (opened mode size jfn)) }
     {
         if let Some(jfn) = self.held.get(n as usize) {
             let opened = Jfn {
@@ -104,10 +108,12 @@ impl Jfns {
         }
     }
 
-    /// Moves an open JFN to another byte of its file, at most to the end of what the file has room for.
+    /// Moves an open JFN to another byte of its file, at most to the end of what the file has room
+    /// for.
     pub fn seek(&mut self, n: u32, at: u64)
         requires { CanSeek self.old n at }
-        ensures { IfSome (map.get self.old n) (λ jfn. self.new ≡ map.insert self.old n (moved at jfn)) }
+        ensures { IfSome (map.get self.old n)
+            (λ jfn. self.new ≡ map.insert self.old n (moved at jfn)) }
     {
         if let Some(jfn) = self.held.get(n as usize) {
             self.held.insert(n as usize, Jfn { at, ..jfn });

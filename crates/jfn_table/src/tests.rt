@@ -32,7 +32,8 @@ fn opened(jfns: &mut Jfns, n: u32) -> bool {
     held
 }
 
-// Moves a JFN behind the last byte of seven bits that a file has room for, and says whether it is open so.
+// Moves a JFN behind the last byte of seven bits that a file has room for, and says whether it is
+// open so.
 fn moved(jfns: &mut Jfns, n: u32) -> bool {
     let Some(jfn) = jfns.get(n) else {
         return false;

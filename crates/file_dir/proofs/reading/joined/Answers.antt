@@ -20,6 +20,8 @@ returns-in_err-ok c =
     let pieces = c.args.pieces.now in
     let i = c.loop-piece.piece-index in
     let more = length-flat_map-take (λ (p : Bor (List ℕ)). p.now) pieces i none (omega arith) in
-    let so_far : length c.loop-piece.text.items + length (get_or pieces i none).now ≤ length (flat_map (λ (p : Bor (List ℕ)). p.now) pieces) = omega (arith, more, ap length c.loop-piece.invariant) in
-    rw c.from_residual.ensures (too_long c.try_extend_from_slice.result (length c.loop-piece.text.items) (length (get_or pieces i none).now) (length (flat_map (λ (p : Bor (List ℕ)). p.now) pieces))
+    let so_far : length c.loop-piece.text.items + length (get_or pieces i none).now ≤ length (flat_map (λ (p : Bor (List ℕ)). p.now) pieces) = omega
+    (arith, more, ap length c.loop-piece.invariant) in
+    rw c.from_residual.ensures (too_long c.try_extend_from_slice.result (length c.loop-piece.text.items) (length (get_or pieces i none).now)
+    (length (flat_map (λ (p : Bor (List ℕ)). p.now) pieces))
     c.try_extend_from_slice.ensures.variant c.in_err-ok.ensures.variant so_far)

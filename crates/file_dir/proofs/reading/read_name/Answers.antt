@@ -27,7 +27,13 @@ returns-in_err-full c =
     let placed : IsFile (each to_ascii_uppercase text) user dir file =
     subst (λ t. IsFile t user dir file) same (subst (λ u. IsFile c.as_slice.result.now u dir file) c.as_slice-2.ensures c.in_ok-dir.ensures) in
     let long : 39 < length (full_of dir stem extension) = subst (λ t. 39 < length (full_of dir stem t)) (append-nil extension) c.in_err-full.ensures in
-    rw c.from_residual-in_err-full.ensures (λ name r. absurd (omega (arith, long, r.full.short, ap length (parts text user name r dir file stem extension placed c.parted.ensures))))
+    rw c.from_residual-in_err-full.ensures (λ name r. absurd (omega (
+      arith,
+      long,
+      r.full.short,
+      ap length
+          (parts text user name r dir file stem extension placed c.parted.ensures),
+    )))
 
 pub returns : goal.returns
 returns c =

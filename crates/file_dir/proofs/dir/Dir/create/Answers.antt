@@ -40,7 +40,8 @@ invariant_of-self c =
     let least = c.in-Some.ensures.least in
     let f : FileNo = record { 0 = c.in-Some.n } in
     let absent : IsAbsent m name = subst (λ files. IsAbsent files name) (sym c.self.view_is) c.requires.absent in
-    let split = split_on m order o c.deref.result.now c.as_slice.result.now name place c.deref.ensures.value c.as_slice.ensures c.count_before-place.ensures.place c.count_before-place.ensures.within in
+    let split = split_on m order o c.deref.result.now c.as_slice.result.now name place c.deref.ensures.value c.as_slice.ensures c.count_before-place.ensures.place
+    c.count_before-place.ensures.within in
     rw (c.insert-2.ensures.put, c.in-Ok.ensures.items) (
       files_put m c.self.invariant.0 c.in-Some.n name least.0 c.requires.name absent,
       order_put m order o f name place least.1.free absent split,

@@ -17,7 +17,8 @@ returns-in_err-f-clause-found c =
     let name = c.args.name.now in
     let place = c.count_before-place.result in
     let o = c.self.invariant.1 in
-    let split = split_on m order o c.deref.result.now c.as_slice.result.now name place c.deref.ensures.value c.as_slice.ensures c.count_before-place.ensures.place c.count_before-place.ensures.within in
+    let split = split_on m order o c.deref.result.now c.as_slice.result.now name place c.deref.ensures.value c.as_slice.ensures c.count_before-place.ensures.place
+    c.count_before-place.ensures.within in
     let far : length order ≤ place = subst (λ xs. length xs ≤ place) c.deref-2.ensures.value c.in_err-f.ensures.lookup.3 in
     rw c.from_residual.ensures (subst (λ files. IsAbsent files name) c.self.view_is (absent_end m order o name place split far))
 
@@ -29,7 +30,8 @@ returns-clause-found c =
     let place = c.count_before-place.result in
     let o = c.self.invariant.1 in
     let f = c.in_ok-f.field-0.now in
-    let split = split_on m order o c.deref.result.now c.as_slice.result.now name place c.deref.ensures.value c.as_slice.ensures c.count_before-place.ensures.place c.count_before-place.ensures.within in
+    let split = split_on m order o c.deref.result.now c.as_slice.result.now name place c.deref.ensures.value c.as_slice.ensures c.count_before-place.ensures.place
+    c.count_before-place.ensures.within in
     let inside = c.in_ok-f.ensures.lookup.3.0 in
     let at : f ≡ get_or order place f = subst (λ xs. f ≡ get_or xs place f) c.deref-2.ensures.value c.in_ok-f.ensures.lookup.1 in
     let within : place < length order = subst (λ xs. place < length xs) c.deref-2.ensures.value inside in

@@ -29,11 +29,13 @@ returns-in_err-f c =
     let behind = c.place_behind-behind.result in
     let place = c.max-place.result in
     let front : c.as_slice-2.result.now ≡ front_of dir = c.as_slice-2.ensures.value ∙ (c.in_ok-front.ensures ∙ ap front_of c.as_slice.ensures) in
-    let split = split_on m order o c.deref-2.result.now c.as_slice-2.result.now (front_of dir) first c.deref-2.ensures.value front c.count_before-first.ensures.place c.count_before-first.ensures.within in
+    let split = split_on m order o c.deref-2.result.now c.as_slice-2.result.now (front_of dir) first c.deref-2.ensures.value front c.count_before-first.ensures.place
+    c.count_before-first.ensures.within in
     let past : IsBehind order c.args.after behind = subst (λ xs. IsBehind xs c.args.after behind) c.deref.ensures.value c.place_behind-behind.ensures in
     let far : length order ≤ place = subst (λ xs. length xs ≤ place) c.deref-3.ensures.value c.in_err-f.ensures.lookup.3 in
     rw c.from_residual-in_err-f.ensures (subst (λ files. (f : ℕ) → ComesAfter files dir c.args.after f → ⊥) c.self.view_is
-    (none_after m order o dir c.args.after first behind place split past (omega (arith, c.max-place.ensures)) (omega (arith, c.max-place.ensures)) (omega (arith, c.max-place.ensures)) far))
+    (none_after m order o dir c.args.after first behind place split past (omega (arith, c.max-place.ensures)) (omega (arith, c.max-place.ensures))
+    (omega (arith, c.max-place.ensures)) far))
 
 pub returns : goal.returns
 returns c =
@@ -48,7 +50,8 @@ returns c =
     let name = c.name_of.result in
     let front : c.as_slice-2.result.now ≡ front_of dir = c.as_slice-2.ensures.value ∙ (c.in_ok-front.ensures ∙ ap front_of c.as_slice.ensures) in
     let front_again : c.as_slice-4.result.now ≡ front_of dir = c.as_slice-4.ensures.value ∙ (c.in_ok-front.ensures ∙ ap front_of c.as_slice.ensures) in
-    let split = split_on m order o c.deref-2.result.now c.as_slice-2.result.now (front_of dir) first c.deref-2.ensures.value front c.count_before-first.ensures.place c.count_before-first.ensures.within in
+    let split = split_on m order o c.deref-2.result.now c.as_slice-2.result.now (front_of dir) first c.deref-2.ensures.value front c.count_before-first.ensures.place
+    c.count_before-first.ensures.within in
     let past : IsBehind order c.args.after behind = subst (λ xs. IsBehind xs c.args.after behind) c.deref.ensures.value c.place_behind-behind.ensures in
     let at : f ≡ get_or order place f = subst (λ xs. f ≡ get_or xs place f) c.deref-3.ensures.value c.in_ok-f.ensures.lookup.1 in
     let within : place < length order = subst (λ xs. place < length xs) c.deref-3.ensures.value c.in_ok-f.ensures.lookup.3.0 in
@@ -56,8 +59,10 @@ returns c =
     let named : map.get m f.0 ≡ Some name = ap (λ files. map.get files f.0) c.self.view_is ∙ c.name_of.ensures.name in
     let rest = drop (length c.as_slice-4.result.now) c.as_slice-3.result.now in
     let starts = starts_is Decides-eqb c.as_slice-3.result.now c.as_slice-4.result.now c.starts_with-is_there.result c.starts_with-is_there.ensures.value in
-    rw c.then_some.ensures (subst (λ files. MatchOption (then_some c.starts_with-is_there.result f) ((g : ℕ) → ComesAfter files dir c.args.after g → ⊥) (λ y. IsNext files dir c.args.after y.0)) c.self.view_is
-    (listed m order o dir c.args.after first behind place split past (omega (arith, c.max-place.ensures)) (omega (arith, c.max-place.ensures)) (omega (arith, c.max-place.ensures))
+    rw c.then_some.ensures (subst (λ files. MatchOption (then_some c.starts_with-is_there.result f) ((g : ℕ) → ComesAfter files dir c.args.after g → ⊥)
+    (λ y. IsNext files dir c.args.after y.0)) c.self.view_is
+    (listed m order o dir c.args.after first behind place split past (omega (arith, c.max-place.ensures)) (omega (arith, c.max-place.ensures))
+    (omega (arith, c.max-place.ensures))
     within f.0 here name named c.starts_with-is_there.result f (λ i. f.0)
     (λ holds. (rest, sym c.as_slice-3.ensures ∙ (starts.0 holds ∙ ap (λ t. t ++ rest) front_again)))
     (λ file is. starts.1 file (c.as_slice-3.ensures ∙ (is ∙ ap (λ t. t ++ file) (sym front_again))))))

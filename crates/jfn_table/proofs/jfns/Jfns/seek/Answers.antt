@@ -13,7 +13,8 @@ invariant_of-self c =
     let there : map.get held c.args.n ≡ Some c.in-Some.jfn = sym c.get.ensures.found ∙ c.in-Some.is in
     let number = held_number held c.args.n c.in-Some.jfn c.self.invariant.0 there in
     let can : IsSome c.in-Some.jfn.mode × (c.args.at ≤ most_bytes c.in-Some.jfn.size) =
-    subst (λ o. IsSomeAnd o (λ jfn. IsSome jfn.mode × (c.args.at ≤ most_bytes jfn.size))) there (subst (λ m. IsSomeAnd (map.get m c.args.n) (λ jfn. IsSome jfn.mode × (c.args.at ≤ most_bytes jfn.size))) (sym c.self.view_is) c.requires) in
+    subst (λ o. IsSomeAnd o (λ jfn. IsSome jfn.mode × (c.args.at ≤ most_bytes jfn.size))) there
+    (subst (λ m. IsSomeAnd (map.get m c.args.n) (λ jfn. IsSome jfn.mode × (c.args.at ≤ most_bytes jfn.size))) (sym c.self.view_is) c.requires) in
     let new : Jfn = record c.in-Some.jfn { at = c.args.at } in
     rw c.insert.ensures.put (
       jfns_put held c.args.n new c.self.invariant.0 number.0 number.1 (number.2.0, number.2.1, can.1),
