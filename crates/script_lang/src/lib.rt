@@ -37,5 +37,6 @@ pub use fields::read_decimal;
 pub use grammar::{Read, one_spelling, read_line, script_fits};
 pub use lines::{Lines, Next};
 pub use named::{full_names, read_name};
+pub use names::MOST_FILE;
 pub use reached::{MOST_BYTES, MOST_LINE, MOST_TURNS};
 pub use verdicts::one_verdict;

@@ -10,7 +10,7 @@ use plain_model::{DirName, FileName};
 pub(crate) const MOST_USER: usize = 12;
 
 /// How many characters the full name of a file has at most.
-pub(crate) const MOST_FILE: usize = 39;
+pub const MOST_FILE: usize = 39;
 
 /// The name of a user: 1 to MOST_USER of the characters A-Z, 0-9 and -. None exactly where the text is
 /// none.

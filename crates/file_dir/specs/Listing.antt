@@ -1,0 +1,24 @@
+-- A directory that is gone through, file by file.
+use Rattle.std.specs.Prelude.{◌≡◌, ◌↔◌, List, [], ◌∷◌, Option, Some, ℕ}
+use Rattle.std.specs.List.{AllPairs, Contains}
+use Rattle.std.specs.FinMap as map
+use Rattle.plain_model.specs.declared.names.FileNo.{FileNo}
+use Rattle.file_dir.specs.Files.{ComesAfter, ComesBefore, Files, IsInDirectory, IsNext}
+
+-- each of these files is the next one after the one before it, and none comes after the last
+abbrev pub Lists : Files → List ℕ → Option FileNo → List FileNo → Type 0
+Lists m dir after [] = (f : ℕ) → ComesAfter m dir after f → ⊥
+Lists m dir after (f ∷ fs) = IsNext m dir after f.0 × Lists m dir (Some f) fs
+
+-- a file is there, and is one of this directory
+abbrev pub IsFileOf : Files → List ℕ → FileNo → Type 0
+IsFileOf m dir f = (name : List ℕ) × (map.get m f.0 ≡ Some name) × IsInDirectory dir name
+
+-- the name of one file comes before that of another
+abbrev pub StandsBefore : Files → FileNo → FileNo → Type 0
+StandsBefore m f g = (a b : List ℕ) → map.get m f.0 ≡ Some a → map.get m g.0 ≡ Some b → ComesBefore a b
+
+-- these are the files of a directory, each of them once, in the order of their names
+pub record IsWhole (m : Files) (dir : List ℕ) (fs : List FileNo) : Type 0 where
+  pub each : (f : FileNo) → IsFileOf m dir f ↔ Contains fs f
+  pub in_order : AllPairs (StandsBefore m) fs

@@ -1,0 +1,13 @@
+use Rattle.std.proofs.Common.{◌≡◌, ◌∙◌, replicate, ap, arith}
+use Rattle.std.specs.FinMap as map
+use Rattle.plain_model.specs.declared.names.TheConstants.{TERMINALS}
+use Rattle.jfn_table.specs.JobFiles.{Held}
+use Rattle.jfn_table.specs.Jobs.{no_jfns}
+use Rattle.jfn_table.proofs.job_jfns.JobJfns.boot.Goals as goal
+
+pub returns : goal.returns
+unfolding no_jfns
+returns c =
+    let all : c.loop-terminal._terminal ≡ TERMINALS = omega arith in
+    let none : Held = map.empty in
+    c.loop-terminal.invariant ∙ ap (λ n. replicate n none) all

@@ -1,0 +1,3 @@
+pub mod JobFiles
+pub mod Jobs
+pub mod Lending

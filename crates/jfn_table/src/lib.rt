@@ -1,0 +1,14 @@
+//! The JFNs of each job: the files that its programs have named, under small numbers.
+//! To the layers above it is a finite map from numbers to JFNs for each terminal.
+//! Stands on `number_map`, on `page_files` for the bounds of files, and on `plain_model` for JFNs.
+#![tactic(auto)]
+
+mod jfns;
+mod job_jfns;
+mod laws;
+#[cfg(test)]
+mod tests;
+
+pub use jfns::{Jfns, JfnsFull, MOST_JFNS};
+pub use job_jfns::JobJfns;
+pub use laws::{a_file_without_names_has_no_jfn, names_follow_the_jfns};
