@@ -47,7 +47,7 @@ use Rattle.monitor_core.specs.Replies.{reply_items, FitsReply}
 use Rattle.monitor_core.specs.Sound.{IsJob}
 use Rattle.monitor_core.specs.Systems.{state_of, FitsPages, IsWithin, Did, most_makings}
 use Rattle.monitor_core.specs.Writing.{write_of, left_by, IsWritten, Makes, Writes, with_word}
-use Rattle.monitor_core.proofs.Fetches.{below, not_below}
+use Rattle.monitor_core.proofs.Looks.{below, not_below}
 use Rattle.monitor_core.proofs.Lookups.{job_found, job_missing, fork_found, fork_missing}
 use Rattle.monitor_core.proofs.Making.{stored_files, reference_files}
 use Rattle.monitor_core.proofs.Sounds.{split_at, job_worded}
@@ -189,7 +189,7 @@ module _ {P : Type 0} {b : _} (m m' : System P b) (t : Tty) (e : JobEvent) (j : 
     later : (entries : ℕ) → IsWithin m entries → k.top.body.units ≡ j.top.body.units → ((u : Tty) → b.means.serial m'.pages u ≤ most_makings * (entries + 1) + 1) → IsWithin m' (entries + 1)
     later entries w units made = record {
       ticks = omega (arith, clock, w.ticks);
-      units = λ u i e. units_set m entries t.0 j k w at (omega (arith, units, w.units t.0 j at)) u i (ap (λ js. job_at js u) (sym set_to) ∙ e);
+      units = λ u i e. units_set m entries (entries + 1) t.0 j k w (omega arith) at (omega (arith, units, w.units t.0 j at)) u i (ap (λ js. job_at js u) (sym set_to) ∙ e);
       serials = made;
     }
 
