@@ -21,7 +21,7 @@ use Rattle.ka10_unit.specs.declared.committed.Post.{Post}
 use Rattle.ka10_unit.specs.declared.committed.Post.TheVariants.{Nothing, Overflow, Pushdown}
 use Rattle.ka10_unit.specs.Commits.{channel_of}
 use Rattle.monitor_core.specs.declared.job.Job.{Job}
-use Rattle.monitor_core.specs.ForkUnit.{Kept, called_fork}
+use Rattle.monitor_core.specs.ForkUnit.{Kept, called_fork, ran_on}
 use Rattle.monitor_core.specs.Jobs.{job_at}
 use Rattle.monitor_core.specs.Limits.{FitsForced}
 use Rattle.monitor_core.specs.Sound.{IsJob, AreSound}
@@ -85,6 +85,23 @@ module _ (f : Fork) (off : f.body.psi.on ≡ false) (regs : Regs) (pc : regs.pc 
       let kept_printed : Kept f printed 1 = record { name = refl; slot = refl; superior = refl; status = λ s. s; on = refl; pc = wrapped (regs.pc + 1); accumulators = accumulators; units = refl } in
       let kept_halted : Kept f halted 1 = record { name = refl; slot = refl; superior = refl; status = λ s c h. absurd (cc h); on = refl; pc = wrapped (regs.pc + 1); accumulators = accumulators; units = refl } in
       kept_if (number == PBOUT) printed (cond (number == HALTF) halted forced) kept_printed (kept_if (number == HALTF) halted forced kept_halted (forced_keeps ILLEGAL_INSTRUCTION refl (omega arith)))
+
+-- so many units that left these registers and posted nothing
+pub row_keeps : (f : Fork) (n : ℕ) (regs : Regs) → regs.pc < 2 ^ 18 → length regs.ac ≡ ACCUMULATORS → Kept f (ran_on f n regs) n
+row_keeps f n regs pc accumulators = record { name = refl; slot = refl; superior = refl; status = λ s. s; on = refl; pc = pc; accumulators = accumulators; units = refl }
+
+-- and one more
+pub one_more_keeps : (f g h : Fork) (n : ℕ) → Kept f g n → Kept g h 1 → Kept f h (n + 1)
+one_more_keeps f g h n a b = record {
+  name = b.name ∙ a.name;
+  slot = b.slot ∙ a.slot;
+  superior = b.superior ∙ a.superior;
+  status = λ s. b.status (a.status s);
+  on = b.on ∙ a.on;
+  pc = b.pc;
+  accumulators = b.accumulators;
+  units = omega (arith, a.units, b.units);
+}
 
 itself : (f : ForkName) → same_fork f f ≡ true
 itself f = grind (arith, nat_tests, rules)

@@ -22,11 +22,10 @@ use Rattle.monitor_core.specs.declared.shown.Shown.{Shown}
 use Rattle.monitor_core.specs.declared.shown.Shown.TheVariants.{Nothing, Halted, Forced}
 use Rattle.monitor_core.specs.declared.unit.Units.{Units}
 
--- what units of a fork ask: it runs, no channel is taken, its units can be counted, and its registers are within their limits
+-- what units of a fork ask: it runs, no channel is taken, and its registers are within their limits
 pub record CanUnit (f : Fork) : Type 0 where
   pub runs : f.body.status ≡ Run
   pub off : f.body.psi.on ≡ false
-  pub few : f.body.units < 2 ^ 62
   pub pc : f.body.regs.pc < 2 ^ 18
   pub accumulators : length f.body.regs.ac ≡ ACCUMULATORS
 
@@ -89,7 +88,14 @@ pub record Kept (f g : Fork) (count : ℕ) : Type 0 where
 abbrev pub most_of_unit : ℕ
 most_of_unit = 16
 
--- units of a fork ran in a row, over each drum that fits
+-- one unit of a fork ran, over each drum that fits, and showed this
+pub record RanOne {P : Type 0} (means : PagesMeaning P) (old new : P) (f g : Fork) (shown : Shown) : Type 0 where
+  pub told : (d : DrumWords) → means.fits old d → means.fits new d × (behind_unit f (means.plain old d) ≡ record { fork = g; pages = means.plain new d; shown = shown })
+  pub keeps : Kept f g 1
+  pub made : Makes means old new f.name.tty most_of_unit
+  pub fits : FitsShown shown
+
+-- units of a fork ran in a row, over each drum that fits: so many, and the last showed this
 pub record Ran {P : Type 0} (means : PagesMeaning P) (old new : P) (f g : Fork) (units : Units) : Type 0 where
   pub told : (d : DrumWords) → means.fits old d → means.fits new d × RanUnits f (means.plain old d) units.count (record { fork = g; pages = means.plain new d; shown = units.shown })
   pub keeps : Kept f g units.count

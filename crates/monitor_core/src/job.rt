@@ -15,7 +15,7 @@ ghost use Rattle.monitor_core.specs.Writing.{Makes, Writes, with_word};
 
 use crate::address::{offset_in_page, slot_at};
 use crate::looking::seen_word;
-use crate::unit::{Units, one_unit};
+use crate::unit::{Units, run_units};
 use crate::writing::write_word;
 use plain_model::{
     ACCUMULATORS, Body, DirName, Fork, ForkLine, ForkName, ForkStatus, Item, Pages, Psi, Refusal,
@@ -141,21 +141,25 @@ impl Job {
         }
     }
 
-    /// One unit of the top fork. Where the fork stops, the monitor reads the terminal.
+    /// Units of the top fork in a row, at least one and so many at most. Where the fork stops, the monitor
+    /// reads the terminal.
     #[inline]
-    pub fn ran<P: Pages>(&mut self, pages: &mut P) -> Units
+    pub fn ran<P: Pages>(&mut self, pages: &mut P, most: u32) -> Units
         requires can { CanUnit self.old.top }
+        requires few { self.old.top.body.units < 2 ^ 62 }
         requires holds { Holds P.means pages.old self.old.top.name }
         requires single { P.means.single ≡ true }
         requires serial { P.means.serial pages.old self.old.top.name.tty < 2 ^ 61 }
+        requires some { 1 ≤ most }
         ensures ran { JobRan P.means pages.old pages.new self.old self.new result }
-        ensures one { result.count ≡ 1 }
+        ensures some { 1 ≤ result.count }
+        ensures few { result.count ≤ most }
     {
-        let units = one_unit(&mut self.top, pages);
-        if units.shown.is_stop() {
+        let ran = run_units(&mut self.top, pages, most);
+        if ran.shown.is_stop() {
             self.mode = TerminalMode::Command;
         }
-        units
+        ran
     }
 }
 

@@ -6,10 +6,10 @@ ghost use Rattle.plain_model.specs.Unit.{advanced, posted_if};
 ghost use Rattle.ka10_unit.specs.Commits.{channel_of};
 ghost use Rattle.monitor_core.specs.Holding.{Holds};
 ghost use Rattle.monitor_core.specs.Shown.{code_shown, FitsShown};
-ghost use Rattle.monitor_core.specs.ForkUnit.{CanUnit, Ran, called_fork, called_shown, post_shown};
+ghost use Rattle.monitor_core.specs.ForkUnit.{CanUnit, Ran, RanOne, called_fork, called_shown, post_shown};
 
 use crate::shown::Shown;
-use ka10_unit::{Outcome, Post, slow_unit};
+use ka10_unit::{End, Outcome, Post, burst, slow_unit};
 use plain_model::call::{HALTF, PBOUT};
 use plain_model::channel::{ILLEGAL_INSTRUCTION, PUSHDOWN_OVERFLOW};
 use plain_model::character::LINE_END;
@@ -102,19 +102,55 @@ fn called(fork: &mut Fork, number: u32) -> Shown
     }
 }
 
-/// One unit of a fork.
-pub fn one_unit<P: Pages>(fork: &mut Fork, pages: &mut P) -> Units
+// One unit of a fork, whatever it wants.
+fn one_unit<P: Pages>(fork: &mut Fork, pages: &mut P) -> Shown
     requires can { CanUnit fork.old }
+    requires few { fork.old.body.units < 2 ^ 63 }
     requires holds { Holds P.means pages.old fork.old.name }
     requires single { P.means.single ≡ true }
     requires serial { P.means.serial pages.old fork.old.name.tty < 2 ^ 61 }
-    ensures ran { Ran P.means pages.old pages.new fork.old fork.new result }
-    ensures one { result.count ≡ 1 }
+    ensures { RanOne P.means pages.old pages.new fork.old fork.new result }
 {
-    let shown = match slow_unit(&mut fork.body.regs, pages, fork.name) {
+    match slow_unit(&mut fork.body.regs, pages, fork.name) {
         Outcome::Done(post) => ended(fork, post),
         Outcome::Trap(channel) => forced(fork, channel),
         Outcome::Call(number) => called(fork, number),
-    };
-    Units { count: 1, shown }
+    }
+}
+
+/// Units of a fork in a row, at least one and so many at most: as many as go in place and post nothing, and
+/// the one behind them, where there is room for it.
+#[inline]
+pub fn run_units<P: Pages>(fork: &mut Fork, pages: &mut P, most: u32) -> Units
+    requires can { CanUnit fork.old }
+    requires few { fork.old.body.units < 2 ^ 62 }
+    requires holds { Holds P.means pages.old fork.old.name }
+    requires single { P.means.single ≡ true }
+    requires serial { P.means.serial pages.old fork.old.name.tty < 2 ^ 61 }
+    requires some { 1 ≤ most }
+    ensures ran { Ran P.means pages.old pages.new fork.old fork.new result }
+    ensures some { 1 ≤ result.count }
+    ensures few { result.count ≤ most }
+{
+    let space = pages.space(fork.name);
+    let burst = burst(&mut fork.body.regs, pages, space, most);
+    fork.body.units += u64::from(burst.units);
+    match burst.end {
+        End::Most => Units {
+            count: burst.units,
+            shown: Shown::Nothing,
+        },
+        End::Overflow => Units {
+            count: burst.units + 1,
+            shown: ended(fork, Post::Overflow),
+        },
+        End::Pushdown => Units {
+            count: burst.units + 1,
+            shown: ended(fork, Post::Pushdown),
+        },
+        End::Slow => Units {
+            count: burst.units + 1,
+            shown: one_unit(fork, pages),
+        },
+    }
 }

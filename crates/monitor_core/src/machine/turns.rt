@@ -24,14 +24,15 @@ impl<P: Pages> Machine<P> {
         self.system.give_all(&Step::Outer(e), 1, reply, out)
     }
 
-    // A unit of a fork that can run, or more of them in a row.
+    // Units of a fork that can run, in a row, so many at most.
     #[inline]
-    fn units<T: Taker>(&mut self, fork: ForkName, out: &mut T) -> Result<u32, Failed>
+    fn units<T: Taker>(&mut self, fork: ForkName, most: u32, out: &mut T) -> Result<u32, Failed>
         requires can { CanRun self.old.system.jobs.items fork }
+        requires some { 1 ≤ most }
         requires few { done self.old < 2 ^ 52 }
-        ensures { TookTurns T.fault_count T.onward T.stands T.cut self.old self.new out.old out.new result 1 }
+        ensures { TookTurns T.fault_count T.onward T.stands T.cut self.old self.new out.old out.new result most }
     {
-        let units = self.system.units(fork);
+        let units = self.system.units(fork, most);
         self.done += u64::from(units.count);
         let reply = Reply::Prints(fork.tty, units.shown);
         self.system
@@ -52,20 +53,21 @@ impl<P: Pages> Machine<P> {
         Ok(count)
     }
 
-    // The next turns of a run, so many at most: a unit of a fork that can run, or as many idle entries where
-    // none can. Says how many.
+    // The next turns of a run, so many at most: units of a fork that can run, one where another can run too;
+    // or as many idle entries, where none can. Says how many.
     #[inline]
-    fn turns<T: Taker>(&mut self, most: u32, out: &mut T) -> Result<u32, Failed>
-        requires some { 1 ≤ most }
+    fn turns<T: Taker>(&mut self, left: u32, out: &mut T) -> Result<u32, Failed>
+        requires some { 1 ≤ left }
         requires few { done self.old < 2 ^ 52 }
-        ensures { TookTurns T.fault_count T.onward T.stands T.cut self.old self.new out.old out.new result most }
+        ensures { TookTurns T.fault_count T.onward T.stands T.cut self.old self.new out.old out.new result left }
     {
         match self.system.runnable(self.next) {
             Some(fork) => {
                 self.next = fork.tty.0 + 1;
-                self.units(fork, out)
+                let most = if self.system.is_alone(fork) { left } else { 1 };
+                self.units(fork, most, out)
             }
-            None => self.idle(most, out),
+            None => self.idle(left, out),
         }
     }
 

@@ -14,16 +14,18 @@ use crate::unit::Units;
 use plain_model::{Event, ForkName, Item, Pages, Refusal};
 
 impl<P: Pages> System<P> {
-    /// Units of a fork that can run, in a row, and what the last of them shows.
-    #[inline(always)]
-    pub fn units(&mut self, fork: ForkName) -> Units
+    /// Units of a fork that can run, in a row, at least one and so many at most; and what the last shows.
+    #[inline]
+    pub fn units(&mut self, fork: ForkName, most: u32) -> Units
         requires can { CanRun self.old.jobs.items fork }
         requires few { IsWithin self.old (2 ^ 52) }
+        requires some { 1 ≤ most }
         ensures did { DidAll self.old self.new (AStep.Unit fork) result.count (AReply.Prints fork.tty result.shown) }
-        ensures one { result.count ≡ 1 }
+        ensures some { 1 ≤ result.count }
+        ensures few { result.count ≤ most }
     {
         match &mut self.jobs[fork.tty.0 as usize] {
-            Some(job) => job.ran(&mut self.pages),
+            Some(job) => job.ran(&mut self.pages, most),
             None => unreachable!(),
         }
     }

@@ -15,12 +15,12 @@ give_all-requires-clause-fits g c = fits_step c.args.self.now.system (AUnit c.ar
 
 pub returns-in_err-give_all : goal.returns-in_err-give_all
 returns-in_err-give_all g c =
-    turns_cut g.T.Taker.fault_count g.T.Taker.onward g.T.Taker.stands g.T.Taker.cut c.args.self.now _ c.args.out.now c.give_all.new.out (AUnit c.args.fork) tt c.units-units.result.count 1 (omega (arith, c.units-units.ensures.one)) (omega (arith, c.units-units.ensures.one)) (Prints c.args.fork.tty c.units-units.result.shown) c.units-units.ensures.did
+    turns_cut g.T.Taker.fault_count g.T.Taker.onward g.T.Taker.stands g.T.Taker.cut c.args.self.now _ c.args.out.now c.give_all.new.out (AUnit c.args.fork) tt c.units-units.result.count c.args.most c.units-units.ensures.some c.units-units.ensures.few (Prints c.args.fork.tty c.units-units.result.shown) c.units-units.ensures.did
     (ap (λ n. c.args.self.now.done + n) c.from.ensures) refl refl _ c.from_residual.result c.from_residual.ensures.0 c.in_err-give_all.ensures
 
 pub returns : goal.returns
 returns g c =
-    turns_given g.T.Taker.fault_count g.T.Taker.onward g.T.Taker.stands g.T.Taker.cut c.args.self.now _ c.args.out.now c.give_all.new.out (AUnit c.args.fork) tt c.units-units.result.count 1 (omega (arith, c.units-units.ensures.one)) (omega (arith, c.units-units.ensures.one)) (Prints c.args.fork.tty c.units-units.result.shown) c.units-units.ensures.did
+    turns_given g.T.Taker.fault_count g.T.Taker.onward g.T.Taker.stands g.T.Taker.cut c.args.self.now _ c.args.out.now c.give_all.new.out (AUnit c.args.fork) tt c.units-units.result.count c.args.most c.units-units.ensures.some c.units-units.ensures.few (Prints c.args.fork.tty c.units-units.result.shown) c.units-units.ensures.did
     (ap (λ n. c.args.self.now.done + n) c.from.ensures) refl refl _ c.in_ok-give_all.ensures
 
 pub units-units-requires-clause-few : goal.units-units-requires-clause-few

@@ -8,7 +8,11 @@ pub ran-requires-clause-can : goal.ran-requires-clause-can
 ran-requires-clause-can g c =
     let at = ran_job c.args.self.now c.args.fork c.requires.can _ c.in-Some.job c.index_mut.ensures.value c.in-Some.is in
     let job = c.args.self.now.sound.each_job c.args.fork.tty.0 c.in-Some.job at in
-    record { runs = (can_run_job c.args.self.now.jobs.items c.args.fork c.requires.can c.in-Some.job at).1; off = job.off; few = omega (arith, c.requires.few.units c.args.fork.tty.0 c.in-Some.job at); pc = job.pc; accumulators = job.accumulators }
+    record { runs = (can_run_job c.args.self.now.jobs.items c.args.fork c.requires.can c.in-Some.job at).1; off = job.off; pc = job.pc; accumulators = job.accumulators }
+
+pub ran-requires-clause-few : goal.ran-requires-clause-few
+ran-requires-clause-few g c =
+    omega (arith, c.requires.few.units c.args.fork.tty.0 c.in-Some.job (ran_job c.args.self.now c.args.fork c.requires.can _ c.in-Some.job c.index_mut.ensures.value c.in-Some.is))
 
 pub ran-requires-clause-holds : goal.ran-requires-clause-holds
 ran-requires-clause-holds g c = holds_top c.args.self.now c.args.fork.tty.0 c.in-Some.job (ran_job c.args.self.now c.args.fork c.requires.can _ c.in-Some.job c.index_mut.ensures.value c.in-Some.is)
@@ -26,4 +30,4 @@ invariant_of-self g c =
 pub returns-clause-did : goal.returns-clause-did
 returns-clause-did g c =
     let at = ran_job c.args.self.now c.args.fork c.requires.can _ c.in-Some.job c.index_mut.ensures.value c.in-Some.is in
-    did_units c.args.self.now _ c.args.fork c.in-Some.job c.ran.new.self c.ran.result at c.requires.can refl refl refl (omega (arith, c.ran.ensures.one)) c.ran.ensures.ran
+    did_units c.args.self.now _ c.args.fork c.in-Some.job c.ran.new.self c.ran.result at c.requires.can refl refl refl c.ran.ensures.some c.ran.ensures.ran
