@@ -1,1 +1,4 @@
+mod Outcomes
 pub mod Gliding
+pub mod Storing
+pub mod Finishing

@@ -2,3 +2,14 @@
 //! To the layers above a unit done leaves what the plain machine's leaves, and a plan says what it comes to.
 //! Stands on `plain_model` for the definitions, and on the `ka10_` crates for rows and operations.
 #![tactic(auto)]
+
+mod committed;
+mod moves;
+mod operations;
+mod quick;
+mod registers;
+
+pub use committed::{Committed, Post};
+pub use moves::commit_move;
+pub use operations::commit_operation;
+pub use quick::Quick;

@@ -1,0 +1,136 @@
+-- How a deed ends a unit, done in place.
+use Rattle.std.proofs.Common.{◌≡◌, ℕ, ◌+◌, ◌/◌, ◌%◌, ◌<◌, ◌≤◌, Bool, true, false, cond, List, [], Option, Some, None, refl, sym, ◌∙◌, ap, subst, inl, inr, arith, Ordering}
+use Rattle.std.specs.Prelude.{nat_le, nat_lt, slice_set, slice_index}
+use Rattle.std.proofs.lemmas.Bool.Decides.{nat_tests}
+use Rattle.outside.specs.declared.TheConstants.{PAGE_WORDS}
+use Rattle.plain_model.specs.declared.names.ForkName.{ForkName}
+use Rattle.plain_model.specs.declared.names.Tty.{Tty}
+use Rattle.plain_model.specs.declared.names.Kind.{Kind}
+use Rattle.plain_model.specs.declared.names.Kind.TheVariants.{Read, Write, Execute}
+use Rattle.plain_model.specs.declared.names.TheConstants.{ACCUMULATORS}
+use Rattle.plain_model.specs.declared.fork.Regs.{Regs}
+use Rattle.plain_model.specs.declared.unit.TheConstants.{MOST_REFERENCES}
+use Rattle.plain_model.specs.declared.map.Touch.TheVariants.{Ready}
+use Rattle.plain_model.specs.State.{PlainPages}
+use Rattle.plain_model.specs.Outcome.{DrumWords}
+use Rattle.plain_model.specs.Pages.{PagesMeaning, IsReady, IsOwner}
+use Rattle.plain_model.specs.References.{Making, in_map, makings, slot_at, word_at, stored}
+use Rattle.plain_model.specs.Steps.{Steps, refers, widens, ends, is_accumulator}
+use Rattle.plain_model.specs.Deeds.{Deed, Store, nowhere, back, into, before}
+use Rattle.plain_model.specs.Instructions.{with_deed, finishes, finishes_by, takes}
+use Rattle.plain_model.proofs.Touches.{ready_touch}
+use Rattle.ka10_unit.specs.declared.committed.Post.{Post}
+use Rattle.ka10_unit.specs.declared.committed.Post.TheVariants as post
+use Rattle.ka10_unit.specs.declared.committed.Committed.{Committed}
+use Rattle.ka10_unit.specs.declared.quick.Quick.{Quick}
+use Rattle.ka10_unit.specs.declared.quick.Quick.TheVariants as quick
+use Rattle.ka10_unit.specs.Once.{After}
+use Rattle.ka10_unit.specs.Commits.{Leaves, Stores, channel_of}
+use Rattle.ka10_unit.specs.Glide.{makes_none, is_ready, word_of, glide, Takes}
+use Rattle.ka10_unit.specs.InPlace.{IfDone, ended}
+use Rattle.ka10_unit.specs.Targets.{IsNowhere, IsAt, IsBefore}
+
+-- a fact of the post holds of the unit that ended with it
+pub if_ended : (post : Post) (q : Quick) (P : Option ℕ → Type 0) → q ≡ ended post → P (channel_of post) → IfDone q P
+if_ended post.Nothing q P is p = rw is p
+if_ended post.Overflow q P is p = rw is p
+if_ended post.Pushdown q P is p = rw is p
+
+pub if_more : (q : Quick) (P R : Option ℕ → Type 0) → ((post : Option ℕ) → P post → R post) → IfDone q P → IfDone q R
+if_more quick.Done P R f p = f _ p
+if_more quick.Overflow P R f p = f _ p
+if_more quick.Pushdown P R f p = f _ p
+if_more quick.Slow P R f p = tt
+
+-- a unit that ended was done
+pub never_slow : {A : Type 0} (post : Post) → ended post ≡ quick.Slow → A
+never_slow post.Nothing h = absurd (cc h)
+never_slow post.Overflow h = absurd (cc h)
+never_slow post.Pushdown h = absurd (cc h)
+
+pub is_low : (a : ℕ) → a < ACCUMULATORS → is_accumulator a ≡ true
+is_low a h = grind (arith, nat_tests)
+
+pub is_high : (a : ℕ) → ACCUMULATORS ≤ a → is_accumulator a ≡ false
+is_high a h = grind (arith, nat_tests)
+
+pub few : (n : ℕ) → n < MOST_REFERENCES → nat_le MOST_REFERENCES n ≡ false
+few n h = grind (arith, nat_tests)
+
+-- a page that a touch finds ready is ready for a reference
+pub ready_there : {P : Type 0} (means : PagesMeaning P) (s : P) (d : DrumWords) (f : ForkName) (a : ℕ) (kind : Kind) → IsReady means s d f (a / PAGE_WORDS) kind → is_ready f (means.plain s d) a kind ≡ true
+ready_there means s d f a kind h = by (is_accumulator a)
+  where
+    console : Tty
+    console = record { 0 = 255 }
+
+    none : makings (means.plain s d) (in_map (slot_at f a)) kind ≡ Some []
+    none = ready_touch (means.plain s d) (means.scene s) console (in_map (slot_at f a)) kind (h console (inr refl))
+
+    by : (b : Bool) → cond b true (makes_none (makings (means.plain s d) (in_map (slot_at f a)) kind)) ≡ true
+    by true = refl
+    by false = rw none refl
+
+module _ {K : Type 0} {file_cmp : K → K → Ordering} (f : ForkName) (p : PlainPages file_cmp) (ac : List ℕ) where
+  pub takes_low : (a : ℕ) (kind : Kind) (w : ℕ) → a < ACCUMULATORS → w ≡ slice_index ac a → Takes f p ac a kind w
+  takes_low a kind w h is = let low = is_low a h in record { ready = rw low refl; is = rw low is }
+
+  pub takes_high : (a : ℕ) (kind : Kind) (w : ℕ) → ACCUMULATORS ≤ a → is_ready f p a kind ≡ true → w ≡ word_at p (in_map (slot_at f a)) (a % PAGE_WORDS) → Takes f p ac a kind w
+  takes_high a kind w h ready is = let high = is_high a h in record { ready = ready; is = rw high is }
+
+  -- no word is taken
+  pub takes_none : (n e : ℕ) (from : Option ℕ) (next : ℕ → Steps) → from ≡ None → glide f p ac n (takes from e next) ≡ glide f p ac n (next e)
+  unfolding takes
+  takes_none n e from next none = rw none refl
+
+  -- a word is taken
+  pub takes_some : (n e a m : ℕ) (from : Option ℕ) (next : ℕ → Steps) → n < MOST_REFERENCES → from ≡ Some a → Takes f p ac a Read m → glide f p ac n (takes from e next) ≡ glide f p ac (n + 1) (next m)
+  unfolding takes glide
+  takes_some n e a m from next less some t = rw (some, few n less, t.ready, ← t.is) refl
+
+  module _ (n : ℕ) (regs after : Regs) (ac' : ℕ) (deed : Deed) (told : Committed) (left : Leaves deed ac' regs after told) where
+    -- a deed that stores no word ends the unit
+    pub ends_bare : IsNowhere deed.store → glide f p ac n (finishes regs ac' deed) ≡ Some (record { pages = p; regs = after; post = channel_of told.post })
+    unfolding finishes glide
+    ends_bare h = by deed.store refl h
+      where
+        by : (s : Store) → deed.store ≡ s → IsNowhere s → glide f p ac n (finishes_by deed.store regs ac' deed) ≡ Some (record { pages = p; regs = after; post = channel_of told.post })
+        by nowhere is i = rw (is, left.regs, left.post) refl
+        by (back at w) is i = absurd i
+        by (into at w) is i = absurd i
+        by (before at w) is i = absurd i
+
+    module _ (less : n < MOST_REFERENCES) (a : ℕ) where
+      -- a word that is stored in an accumulator
+      pub ends_low : a < ACCUMULATORS → IsAt a deed.store → glide f p ac n (finishes regs ac' deed) ≡ Some (record { pages = p; regs = record after { ac = slice_set after.ac a told.word }; post = channel_of told.post })
+      unfolding finishes glide
+      ends_low h at = by deed.store refl at
+        where
+          by : (s : Store) → deed.store ≡ s → IsAt a s → glide f p ac n (finishes_by deed.store regs ac' deed) ≡ Some (record { pages = p; regs = record after { ac = slice_set after.ac a told.word }; post = channel_of told.post })
+          by nowhere is i = absurd i
+          by (back to w) is i =
+              let word : told.word ≡ w = subst (λ (s : Store). Stores s told.word) is left.word in
+              let low : is_accumulator to ≡ true = is_low to (omega (arith, i, h)) in
+              rw (is, low, left.regs, left.post, i, word) refl
+          by (into to w) is i =
+              let word : told.word ≡ w = subst (λ (s : Store). Stores s told.word) is left.word in
+              let low : is_accumulator to ≡ true = is_low to (omega (arith, i, h)) in
+              rw (is, few n less, low, left.regs, left.post, i, word) refl
+          by (before to w) is i = absurd i
+
+      -- a word that is stored in a page
+      pub ends_high : ACCUMULATORS ≤ a → is_ready f p a Write ≡ true → IsAt a deed.store → glide f p ac n (finishes regs ac' deed) ≡ Some (record { pages = stored p (in_map (slot_at f a)) (a % PAGE_WORDS) told.word; regs = after; post = channel_of told.post })
+      unfolding finishes glide
+      ends_high h ready at = by deed.store refl at
+        where
+          by : (s : Store) → deed.store ≡ s → IsAt a s → glide f p ac n (finishes_by deed.store regs ac' deed) ≡ Some (record { pages = stored p (in_map (slot_at f a)) (a % PAGE_WORDS) told.word; regs = after; post = channel_of told.post })
+          by nowhere is i = absurd i
+          by (back to w) is i =
+              let word : told.word ≡ w = subst (λ (s : Store). Stores s told.word) is left.word in
+              let high : is_accumulator a ≡ false = is_high a h in
+              rw (is, i, ready, high, left.regs, left.post, word) refl
+          by (into to w) is i =
+              let word : told.word ≡ w = subst (λ (s : Store). Stores s told.word) is left.word in
+              let high : is_accumulator a ≡ false = is_high a h in
+              rw (is, few n less, i, ready, high, left.regs, left.post, word) refl
+          by (before to w) is i = absurd i

@@ -1,0 +1,79 @@
+-- A unit, or the rest of one, done in place on a fork's registers and pages.
+use Rattle.std.specs.Prelude.{◌≡◌, ℕ, ◌<◌, ◌≤◌, ◌^◌, Bool, true, false, not, Option, None, Some}
+use Rattle.std.specs.Ordering.{nat_cmp}
+use Rattle.ka10_table.specs.declared.families.Family.{Family}
+use Rattle.ka10_table.specs.declared.families.Family.TheVariants.{Illegal, Local, Monitor, ByteOp, Jrst, Xct}
+use Rattle.ka10_table.specs.declared.families.TableRow.{TableRow}
+use Rattle.ka10_table.specs.Rows.{row_of}
+use Rattle.plain_model.specs.declared.channel.TheConstants.{OVERFLOW, PUSHDOWN_OVERFLOW}
+use Rattle.plain_model.specs.declared.fork.Regs.{Regs}
+use Rattle.plain_model.specs.declared.map.SpaceHandle.{SpaceHandle}
+use Rattle.plain_model.specs.declared.names.ForkName.{ForkName}
+use Rattle.plain_model.specs.Instructions.{does, does_pointer, is_executive}
+use Rattle.plain_model.specs.Outcome.{DrumWords}
+use Rattle.plain_model.specs.Pages.{PagesMeaning, HasSpace, StaysPut}
+use Rattle.plain_model.specs.State.{NumberedPages}
+use Rattle.plain_model.specs.Steps.{Steps}
+use Rattle.ka10_unit.specs.declared.quick.Quick.{Quick}
+use Rattle.ka10_unit.specs.declared.quick.Quick.TheVariants as quick
+use Rattle.ka10_unit.specs.declared.committed.Post.{Post}
+use Rattle.ka10_unit.specs.declared.committed.Post.TheVariants as post
+use Rattle.ka10_unit.specs.Glide.{glide}
+use Rattle.ka10_unit.specs.Once.{After, once}
+
+-- a fact about a unit that was done, with the channel that it posts
+abbrev pub IfDone : Quick → (Option ℕ → Type 0) → Type 0
+IfDone quick.Done holds = holds None
+IfDone quick.Overflow holds = holds (Some OVERFLOW)
+IfDone quick.Pushdown holds = holds (Some PUSHDOWN_OVERFLOW)
+IfDone quick.Slow holds = Unit {0}
+
+-- a unit that was done, with its post
+abbrev pub ended : Post → Quick
+ended post.Nothing = quick.Done
+ended post.Overflow = quick.Overflow
+ended post.Pushdown = quick.Pushdown
+
+-- what something does to a fork's pages, with what it leaves
+abbrev pub Does : Type 1
+Does = ForkName → NumberedPages → After nat_cmp → Type 0
+
+-- Done in place, in a space: where it isn't done here, nothing has changed; where it is, the pages and the registers are
+-- what it leaves, for each fork whose space this is and over each drum that fits. Only words of pages change.
+pub record InPlace {P : Type 0} (means : PagesMeaning P) (space : SpaceHandle) (does : Does) (old new : P) (regs after : Regs) (result : Quick) : Type 0 where
+  pub slow : result ≡ quick.Slow → (after ≡ regs) × (new ≡ old)
+  pub told : (d : DrumWords) (f : ForkName) → means.fits old d → means.space old f ≡ Some space → IfDone result (λ post. does f (means.plain old d) (record { pages = means.plain new d; regs = after; post = post }))
+  pub fits : (d : DrumWords) → means.fits old d → means.fits new d
+  pub stays : StaysPut means old new
+  pub pc : after.pc < 2 ^ 18
+
+-- the unit of the instruction at the program counter
+abbrev pub OneUnit : Regs → Does
+OneUnit regs f p a = once f p regs ≡ Some a
+
+-- the references that a fetch and as many indirect words make as are followed here
+abbrev pub most_before : ℕ
+most_before = 13
+
+-- the rest of a unit, behind as many references at most
+abbrev pub Rest : Regs → Steps → Does
+Rest regs left f p a = (n : ℕ) → n ≤ most_before → glide f p regs.ac n left ≡ Some a
+
+-- an instruction that goes on with its effective address
+abbrev pub is_addressed : Family → ℕ → Bool
+is_addressed Illegal ac = false
+is_addressed Local ac = false
+is_addressed Monitor ac = false
+is_addressed Xct ac = false
+is_addressed Jrst ac = not (is_executive ac)
+is_addressed family ac = true
+
+-- what it does from there on
+abbrev pub behind_address : Family → TableRow → ℕ → Regs → ℕ → ℕ → ℕ → Steps
+behind_address ByteOp row op regs ac e last = does_pointer row.code regs ac e
+behind_address family row op regs ac e last = does row op regs ac e last
+
+-- the rest of the unit of an opcode's instruction, behind its effective address
+pub record Addressee (op : ℕ) (regs : Regs) (ac e last : ℕ) (f : ForkName) (p : NumberedPages) (a : After nat_cmp) : Type 0 where
+  pub addressed : is_addressed (row_of op).family ac ≡ true
+  pub runs : Rest regs (behind_address (row_of op).family (row_of op) op regs ac e last) f p a
