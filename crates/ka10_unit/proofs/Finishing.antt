@@ -58,11 +58,14 @@ pub few : (n : ℕ) → n < MOST_REFERENCES → nat_le MOST_REFERENCES n ≡ fal
 few n h = grind (arith, nat_tests)
 
 -- a page that a touch finds ready is ready for a reference
-pub ready_there : {P : Type 0} (means : PagesMeaning P) (s : P) (d : DrumWords) (f : ForkName) (a : ℕ) (kind : Kind) → IsReady means s d f (a / PAGE_WORDS) kind → is_ready f (means.plain s d) a kind ≡ true
-ready_there means s d f a kind h = by (is_accumulator a)
+pub ready_there : {P : Type 0} (means : PagesMeaning P) (s : P) (d : DrumWords) (f : ForkName) (a page : ℕ) (kind : Kind) → page ≡ a / PAGE_WORDS → IsReady means s d f page kind → is_ready f (means.plain s d) a kind ≡ true
+ready_there means s d f a page kind is ready = by (is_accumulator a)
   where
     console : Tty
     console = record { 0 = 255 }
+
+    h : IsReady means s d f (a / PAGE_WORDS) kind
+    h = subst (λ (n : ℕ). IsReady means s d f n kind) is ready
 
     none : makings (means.plain s d) (in_map (slot_at f a)) kind ≡ Some []
     none = ready_touch (means.plain s d) (means.scene s) console (in_map (slot_at f a)) kind (h console (inr refl))

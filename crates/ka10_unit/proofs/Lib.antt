@@ -2,3 +2,4 @@ mod Outcomes
 pub mod Gliding
 pub mod Storing
 pub mod Finishing
+pub mod Placing

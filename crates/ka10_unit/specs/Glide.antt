@@ -42,8 +42,8 @@ module _ {K : Type 0} {file_cmp : K → K → Ordering} (f : ForkName) (p : Plai
       pub ready : is_ready a kind ≡ true
       pub is : w ≡ word_of a
 
-    -- the effective address of a word, with the last word taken for it, behind the references that its indirect words made
+    -- the effective address of a word, with the last word taken for it, behind fewer references more than these
     pub record Addressed (before most w e last : ℕ) : Type 0 where
       pub count : ℕ
-      pub few : count ≤ before + most
+      pub few : count < before + most
       pub runs : (next : ℕ → ℕ → Steps) → glide before (address ac w next) ≡ glide count (next e last)

@@ -9,7 +9,8 @@ use Rattle.plain_model.specs.declared.channel.TheConstants.{OVERFLOW, PUSHDOWN_O
 use Rattle.plain_model.specs.declared.fork.Regs.{Regs}
 use Rattle.plain_model.specs.declared.map.SpaceHandle.{SpaceHandle}
 use Rattle.plain_model.specs.declared.names.ForkName.{ForkName}
-use Rattle.plain_model.specs.Instructions.{does, does_pointer, is_executive}
+use Rattle.plain_model.specs.Deeds.{Deed}
+use Rattle.plain_model.specs.Instructions.{does, does_pointer, finishes, is_executive}
 use Rattle.plain_model.specs.Outcome.{DrumWords}
 use Rattle.plain_model.specs.Pages.{PagesMeaning, HasSpace, StaysPut}
 use Rattle.plain_model.specs.State.{NumberedPages}
@@ -51,13 +52,13 @@ pub record InPlace {P : Type 0} (means : PagesMeaning P) (space : SpaceHandle) (
 abbrev pub OneUnit : Regs → Does
 OneUnit regs f p a = once f p regs ≡ Some a
 
--- the references that a fetch and as many indirect words make as are followed here
-abbrev pub most_before : ℕ
-most_before = 13
+-- the rest of a unit, behind so many references at most
+abbrev pub Rest : ℕ → Regs → Steps → Does
+Rest most regs left f p a = (n : ℕ) → n ≤ most → glide f p regs.ac n left ≡ Some a
 
--- the rest of a unit, behind as many references at most
-abbrev pub Rest : Regs → Steps → Does
-Rest regs left f p a = (n : ℕ) → n ≤ most_before → glide f p regs.ac n left ≡ Some a
+-- a deed at the end of a unit, behind all references but its own
+abbrev pub Finish : Regs → ℕ → Deed → Does
+Finish regs ac deed = Rest 15 regs (finishes regs ac deed)
 
 -- an instruction that goes on with its effective address
 abbrev pub is_addressed : Family → ℕ → Bool
@@ -68,12 +69,18 @@ is_addressed Xct ac = false
 is_addressed Jrst ac = not (is_executive ac)
 is_addressed family ac = true
 
+-- one that takes a word at most, and does a deed
+abbrev pub is_deed : Family → ℕ → Bool
+is_deed ByteOp ac = false
+is_deed family ac = is_addressed family ac
+
 -- what it does from there on
 abbrev pub behind_address : Family → TableRow → ℕ → Regs → ℕ → ℕ → ℕ → Steps
 behind_address ByteOp row op regs ac e last = does_pointer row.code regs ac e
 behind_address family row op regs ac e last = does row op regs ac e last
 
--- the rest of the unit of an opcode's instruction, behind its effective address
+-- the rest of the unit of an opcode's instruction, behind its effective address: there are thirteen references at most, the
+-- fetch and twelve indirect words
 pub record Addressee (op : ℕ) (regs : Regs) (ac e last : ℕ) (f : ForkName) (p : NumberedPages) (a : After nat_cmp) : Type 0 where
   pub addressed : is_addressed (row_of op).family ac ≡ true
-  pub runs : Rest regs (behind_address (row_of op).family (row_of op) op regs ac e last) f p a
+  pub runs : Rest 13 regs (behind_address (row_of op).family (row_of op) op regs ac e last) f p a
