@@ -42,6 +42,13 @@ if_more quick.Overflow P R f p = f _ p
 if_more quick.Pushdown P R f p = f _ p
 if_more quick.Slow P R f p = tt
 
+-- what holds of each post holds of a unit
+pub for_all : (q : Quick) (P : Option ℕ → Type 0) → ((post : Option ℕ) → P post) → IfDone q P
+for_all quick.Done P f = f _
+for_all quick.Overflow P f = f _
+for_all quick.Pushdown P f = f _
+for_all quick.Slow P f = tt
+
 -- a unit that ended was done
 pub never_slow : {A : Type 0} (post : Post) → ended post ≡ quick.Slow → A
 never_slow post.Nothing h = absurd (cc h)

@@ -1,10 +1,12 @@
 -- Units and their rests in place.
 use Rattle.std.proofs.Common.{◌≡◌, ◌⊎◌, ℕ, ◌+◌, ◌/◌, ◌%◌, ◌<◌, ◌≤◌, ◌^◌, Bool, true, false, cond, List, [], Option, Some, None, refl, sym, ◌∙◌, ap, subst, inl, inr, arith}
 use Rattle.std.specs.Prelude.{slice_set, slice_index}
+use Rattle.std.specs.Ordering.{nat_cmp}
 use Rattle.std.proofs.lemmas.Bool.{cases_lt}
 use Rattle.outside.specs.declared.TheConstants.{PAGE_WORDS}
 use Rattle.word36.specs.Words.{joined}
 use Rattle.ka10_table.specs.declared.families.Family.{Family}
+use Rattle.ka10_table.specs.declared.families.Family.TheVariants.{ByteOp}
 use Rattle.ka10_table.specs.declared.families.TableRow.{TableRow}
 use Rattle.ka10_table.specs.Rows.{row_of}
 use Rattle.plain_model.specs.declared.names.ForkName.{ForkName}
@@ -16,17 +18,19 @@ use Rattle.plain_model.specs.State.{NumberedPages}
 use Rattle.plain_model.specs.Outcome.{DrumWords}
 use Rattle.plain_model.specs.Pages.{PagesMeaning, StaysPut}
 use Rattle.plain_model.specs.References.{in_map, slot_at, stored}
-use Rattle.plain_model.specs.Deeds.{Deed}
+use Rattle.plain_model.specs.Deeds.{Deed, deed_of, in_ac, taken_by, taken_of}
+use Rattle.plain_model.specs.Instructions.{does, finishes}
 use Rattle.ka10_unit.specs.declared.committed.Post.{Post}
 use Rattle.ka10_unit.specs.declared.committed.Committed.{Committed}
 use Rattle.ka10_unit.specs.declared.quick.Quick.{Quick}
 use Rattle.ka10_unit.specs.declared.quick.Quick.TheVariants as quick
 use Rattle.ka10_unit.specs.Commits.{Leaves, channel_of}
-use Rattle.ka10_unit.specs.Glide.{is_ready}
-use Rattle.ka10_unit.specs.InPlace.{Does, IfDone, InPlace, Finish, ended}
+use Rattle.ka10_unit.specs.Glide.{is_ready, glide, Takes}
+use Rattle.ka10_unit.specs.Once.{After}
+use Rattle.ka10_unit.specs.InPlace.{Does, IfDone, InPlace, Finish, Addressee, is_addressed, is_deed, behind_address, ended}
 use Rattle.ka10_unit.specs.Spots.{Stored}
 use Rattle.ka10_unit.specs.Targets.{IsNowhere, IsAt}
-use Rattle.ka10_unit.proofs.Finishing.{if_ended, if_more, never_slow, ends_bare, ends_low, ends_high}
+use Rattle.ka10_unit.proofs.Finishing.{if_ended, if_more, never_slow, for_all, ends_bare, ends_low, ends_high, takes_none, takes_some}
 
 module _ {P : Type 0} (means : PagesMeaning P) where
   -- pages that stay as they are
@@ -75,3 +79,45 @@ module _ {P : Type 0} (means : PagesMeaning P) where
           stays = put.stays;
           pc = rw put.pc left.pc;
         }
+
+-- an instruction that does a deed has an address, and takes a word at most
+deed_addressed : (family : Family) (row : TableRow) (op : ℕ) (regs : Regs) (ac e last : ℕ) → is_deed family ac ≡ true → (is_addressed family ac ≡ true) × (behind_address family row op regs ac e last ≡ does row op regs ac e last)
+deed_addressed ByteOp row op regs ac e last h = absurd (cc h)
+deed_addressed family row op regs ac e last h = (h, refl)
+
+module _ (row : TableRow) (op ac e last m : ℕ) (regs : Regs) (same : row ≡ row_of op) (deed : is_deed row.family ac ≡ true) (f : ForkName) (p : NumberedPages) (a : After nat_cmp) where
+  behind : (n : ℕ) → glide f p regs.ac n (does row op regs ac e last) ≡ Some a → (is_addressed (row_of op).family ac ≡ true) × (glide f p regs.ac n (behind_address (row_of op).family (row_of op) op regs ac e last) ≡ Some a)
+  behind n h =
+      let d = deed_addressed row.family row op regs ac e last deed in
+      subst (λ (r : TableRow). (is_addressed r.family ac ≡ true) × (glide f p regs.ac n (behind_address r.family r op regs ac e last) ≡ Some a)) same (d.0, ap (glide f p regs.ac n) d.1 ∙ h)
+
+  addressed : is_addressed (row_of op).family ac ≡ true
+  addressed = subst (λ (r : TableRow). is_addressed r.family ac ≡ true) same (deed_addressed row.family row op regs ac e last deed).0
+
+  -- its operand is 0,,E
+  pub bare_addressee : taken_by row.family row.mode row.code (in_ac regs ac) e ≡ None → m ≡ joined 0 e → Finish regs ac (deed_of row op regs ac e last m) f p a → Addressee op regs ac e last f p a
+  unfolding does taken_of
+  bare_addressee none is h = record {
+    addressed = addressed;
+    runs = λ n less. let same_word : m ≡ e = omega arith in
+        (behind n (takes_none f p regs.ac n e (taken_of row regs ac e) (λ w. finishes regs ac (deed_of row op regs ac e last w)) none
+        ∙ subst (λ (w : ℕ). glide f p regs.ac n (finishes regs ac (deed_of row op regs ac e last w)) ≡ Some a) same_word (h n (omega arith)))).1;
+  }
+
+  -- it takes the word at an address
+  pub taking_addressee : (from : ℕ) → taken_by row.family row.mode row.code (in_ac regs ac) e ≡ Some from → Takes f p regs.ac from Read m → Finish regs ac (deed_of row op regs ac e last m) f p a → Addressee op regs ac e last f p a
+  unfolding does taken_of
+  taking_addressee from some t h = record {
+    addressed = addressed;
+    runs = λ n less. (behind n (takes_some f p regs.ac n e from m (taken_of row regs ac e) (λ w. finishes regs ac (deed_of row op regs ac e last w)) (omega arith) some t ∙ h (n + 1) (omega arith))).1;
+  }
+
+-- the same, where it is done in place
+module _ {P : Type 0} (means : PagesMeaning P) (space : SpaceHandle) (row : TableRow) (op ac e last m : ℕ) (regs : Regs) (same : row ≡ row_of op) (deed : is_deed row.family ac ≡ true) (s t : P) (after : Regs) (q : Quick) (i : InPlace means space (Finish regs ac (deed_of row op regs ac e last m)) s t regs after q) where
+  pub bare_in_place : taken_by row.family row.mode row.code (in_ac regs ac) e ≡ None → m ≡ joined 0 e → InPlace means space (Addressee op regs ac e last) s t regs after q
+  bare_in_place none is = in_place_more means space _ (Addressee op regs ac e last) s t regs after q i
+      (λ d f fits h. for_all q _ (λ post. bare_addressee row op ac e last m regs same deed f (means.plain s d) _ none is))
+
+  pub taking_in_place : (from : ℕ) → taken_by row.family row.mode row.code (in_ac regs ac) e ≡ Some from → ((d : DrumWords) (f : ForkName) → means.fits s d → means.space s f ≡ Some space → Takes f (means.plain s d) regs.ac from Read m) → InPlace means space (Addressee op regs ac e last) s t regs after q
+  taking_in_place from some takes = in_place_more means space _ (Addressee op regs ac e last) s t regs after q i
+      (λ d f fits h. for_all q _ (λ post. taking_addressee row op ac e last m regs same deed f (means.plain s d) _ from some (takes d f fits h)))

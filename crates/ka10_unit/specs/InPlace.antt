@@ -60,6 +60,11 @@ Rest most regs left f p a = (n : ℕ) → n ≤ most → glide f p regs.ac n lef
 abbrev pub Finish : Regs → ℕ → Deed → Does
 Finish regs ac deed = Rest 15 regs (finishes regs ac deed)
 
+-- a row is that of an opcode
+pub record IsOf (op : ℕ) (row : TableRow) : Type 0 where
+  pub below : op < 512
+  pub is : row ≡ row_of op
+
 -- an instruction that goes on with its effective address
 abbrev pub is_addressed : Family → ℕ → Bool
 is_addressed Illegal ac = false

@@ -7,6 +7,7 @@ mod bytes;
 mod commit;
 mod committed;
 mod conditions;
+mod instruction;
 mod jumps;
 mod moves;
 mod operations;
