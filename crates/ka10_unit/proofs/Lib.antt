@@ -3,3 +3,4 @@ pub mod Gliding
 pub mod Storing
 pub mod Finishing
 pub mod Placing
+pub mod IndirectWords

@@ -3,6 +3,7 @@
 //! Stands on `plain_model` for the definitions, and on the `ka10_` crates for rows and operations.
 #![tactic(auto)]
 
+mod addressing;
 mod bytes;
 mod commit;
 mod committed;
