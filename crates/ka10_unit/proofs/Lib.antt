@@ -1,4 +1,5 @@
 mod Outcomes
+mod Acting
 pub mod Gliding
 pub mod Storing
 pub mod Finishing

@@ -3,11 +3,13 @@
 //! Stands on `plain_model` for the definitions, and on the `ka10_` crates for rows and operations.
 #![tactic(auto)]
 
+mod acts;
 mod addressing;
 mod bytes;
 mod commit;
 mod committed;
 mod conditions;
+mod dispatch;
 mod instruction;
 mod jumps;
 mod moves;

@@ -1,0 +1,45 @@
+// Instructions in place, row by row.
+ghost use Rattle.std.specs.Prelude.{◌≡◌, ◌<◌, ◌^◌};
+ghost use Rattle.plain_model.specs.Pages.{HasSpace};
+ghost use Rattle.ka10_unit.specs.InPlace.{Addressee, InPlace};
+
+use crate::acts::{Act, act_at};
+use crate::instruction::Instruction;
+use crate::quick::Quick;
+use crate::stacks::pushed;
+use crate::ways::{bare, read, replace, transfer, write};
+use ka10_table::{Family, OpMode, TableRow};
+use plain_model::{Pages, Regs, SpaceHandle};
+
+/// The rest of the unit of an opcode's instruction, behind its effective address.
+#[inline(always)]
+#[rattlefmt::skip]
+pub fn carry<P: Pages>(op: u16, it: Instruction, regs: &mut Regs, pages: &mut P, space: SpaceHandle) -> Quick
+    requires op { op < 512 }
+    requires space { HasSpace P.means pages.old space }
+    requires pc { regs.old.pc < 2 ^ 18 }
+    ensures { InPlace P.means space (Addressee op regs.old it.ac it.e it.last) pages.old pages.new regs.old regs.new result }
+{
+    macro_rules! way {
+        ($way:ident $family:ident $mode:ident $code:literal $op:literal $($place:expr)?) => {
+            $way(
+                TableRow { family: Family::$family, mode: OpMode::$mode, code: $code },
+                $op, it, regs, pages, space $(, $place)?
+            )
+        };
+    }
+    let e = it.e;
+    match act_at(op) {
+        Act::Move => way!(read Move Basic 0 0o200 e),
+        Act::Movei => way!(bare Move Immediate 0 0o201),
+        Act::Movem => way!(write Move Memory 0 0o202 e),
+        Act::Moves => way!(replace Move Own 0 0o203),
+        Act::Add => way!(read AddSub Basic 0 0o270 e),
+        Act::Addi => way!(bare AddSub Immediate 0 0o271),
+        Act::Addm => way!(replace AddSub Memory 0 0o272),
+        Act::Addb => way!(replace AddSub Both 0 0o273),
+        Act::Aoj => way!(bare AddOne Basic 0 0o340),
+        Act::Aos => way!(replace AddOne Basic 8 0o350),
+        _ => Quick::Slow,
+    }
+}
