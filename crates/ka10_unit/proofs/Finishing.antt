@@ -22,8 +22,8 @@ use Rattle.plain_model.proofs.Touches.{ready_touch}
 use Rattle.ka10_unit.specs.declared.committed.Post.{Post}
 use Rattle.ka10_unit.specs.declared.committed.Post.TheVariants as post
 use Rattle.ka10_unit.specs.declared.committed.Committed.{Committed}
-use Rattle.ka10_unit.specs.declared.quick.Quick.{Quick}
-use Rattle.ka10_unit.specs.declared.quick.Quick.TheVariants as quick
+use Rattle.ka10_unit.specs.declared.ending.Quick.{Quick}
+use Rattle.ka10_unit.specs.declared.ending.Quick.TheVariants as quick
 use Rattle.ka10_unit.specs.Once.{After}
 use Rattle.ka10_unit.specs.Commits.{Leaves, Stores, channel_of}
 use Rattle.ka10_unit.specs.Glide.{makes_none, is_ready, word_of, glide, Takes}

@@ -5,3 +5,4 @@ pub mod Storing
 pub mod Finishing
 pub mod Placing
 pub mod IndirectWords
+pub mod Units

@@ -22,8 +22,8 @@ use Rattle.plain_model.specs.Deeds.{Deed, deed_of, in_ac, taken_by, taken_of}
 use Rattle.plain_model.specs.Instructions.{does, finishes}
 use Rattle.ka10_unit.specs.declared.committed.Post.{Post}
 use Rattle.ka10_unit.specs.declared.committed.Committed.{Committed}
-use Rattle.ka10_unit.specs.declared.quick.Quick.{Quick}
-use Rattle.ka10_unit.specs.declared.quick.Quick.TheVariants as quick
+use Rattle.ka10_unit.specs.declared.ending.Quick.{Quick}
+use Rattle.ka10_unit.specs.declared.ending.Quick.TheVariants as quick
 use Rattle.ka10_unit.specs.Commits.{Leaves, channel_of}
 use Rattle.ka10_unit.specs.Glide.{is_ready, glide, Takes}
 use Rattle.ka10_unit.specs.Once.{After}

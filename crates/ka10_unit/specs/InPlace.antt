@@ -15,8 +15,8 @@ use Rattle.plain_model.specs.Outcome.{DrumWords}
 use Rattle.plain_model.specs.Pages.{PagesMeaning, HasSpace, StaysPut}
 use Rattle.plain_model.specs.State.{NumberedPages}
 use Rattle.plain_model.specs.Steps.{Steps}
-use Rattle.ka10_unit.specs.declared.quick.Quick.{Quick}
-use Rattle.ka10_unit.specs.declared.quick.Quick.TheVariants as quick
+use Rattle.ka10_unit.specs.declared.ending.Quick.{Quick}
+use Rattle.ka10_unit.specs.declared.ending.Quick.TheVariants as quick
 use Rattle.ka10_unit.specs.declared.committed.Post.{Post}
 use Rattle.ka10_unit.specs.declared.committed.Post.TheVariants as post
 use Rattle.ka10_unit.specs.Glide.{glide}

@@ -4,8 +4,8 @@ ghost use Rattle.plain_model.specs.Pages.{HasSpace};
 ghost use Rattle.ka10_unit.specs.InPlace.{Addressee, InPlace};
 
 use crate::acts::{Act, act_at};
+use crate::ending::Quick;
 use crate::instruction::Instruction;
-use crate::quick::Quick;
 use crate::stacks::pushed;
 use crate::ways::{bare, read, replace, transfer, write};
 use ka10_table::{Family, OpMode, TableRow};

@@ -10,12 +10,13 @@ mod commit;
 mod committed;
 mod conditions;
 mod dispatch;
+mod ending;
+mod in_place;
 mod instruction;
 mod jumps;
 mod moves;
 mod operations;
 mod program_words;
-mod quick;
 mod registers;
 mod spots;
 mod stacks;
@@ -29,12 +30,13 @@ pub use bytes::{
 pub use commit::commit_row;
 pub use committed::{Committed, Post};
 pub use conditions::{commit_compare, commit_count, commit_jump_or_skip};
+pub use ending::Quick;
+pub use in_place::quick;
 pub use jumps::{
     commit_aobj, commit_jfcl, commit_jffo, commit_jrst, commit_jsa_or_jra, commit_jsr_or_jsp,
 };
 pub use moves::commit_move;
 pub use operations::{commit_operation, commit_shift};
 pub use program_words::{flags_of, half_of_flags, pc_word};
-pub use quick::Quick;
 pub use stacks::{commit_popj, commit_push_or_pop, commit_pushj, pushed};
 pub use words::{commit_blt, commit_boolean, commit_exch, commit_half, commit_test};

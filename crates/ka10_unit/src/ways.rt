@@ -5,29 +5,16 @@ ghost use Rattle.ka10_table.specs.Rows.{row_of};
 ghost use Rattle.plain_model.specs.Deeds.{deed_of, in_ac, taken_by};
 ghost use Rattle.plain_model.specs.Limits.{IsAddress};
 ghost use Rattle.plain_model.specs.Pages.{HasSpace};
-ghost use Rattle.ka10_unit.specs.InPlace.{Addressee, Finish, InPlace, IsOf, ended, is_deed};
+ghost use Rattle.ka10_unit.specs.InPlace.{Addressee, Finish, InPlace, IsOf, is_deed};
 ghost use Rattle.ka10_unit.specs.Targets.{none, operand, if_done, place_of, target_of};
 
 use crate::commit::commit_row;
-use crate::committed::Post;
+use crate::ending::{Quick, ended};
 use crate::instruction::Instruction;
-use crate::quick::Quick;
 use crate::spots::{load, spot_to_change, spot_to_write, store, take};
 use ka10_table::TableRow;
 use plain_model::{Kind, Pages, Regs, SpaceHandle};
 use word36::Word;
-
-/// How a unit that is done ends.
-#[inline(always)]
-fn ended(post: Post) -> Quick
-    ensures { result ≡ ended post }
-{
-    match post {
-        Post::Nothing => Quick::Done,
-        Post::Overflow => Quick::Overflow,
-        Post::Pushdown => Quick::Pushdown,
-    }
-}
 
 /// The deed of an instruction that stores no word.
 #[inline(always)]
