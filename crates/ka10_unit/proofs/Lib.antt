@@ -6,3 +6,4 @@ pub mod Finishing
 pub mod Placing
 pub mod IndirectWords
 pub mod Units
+pub mod BurstLemmas

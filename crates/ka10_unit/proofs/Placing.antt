@@ -1,6 +1,7 @@
 -- Units and their rests in place.
 use Rattle.std.proofs.Common.{◌≡◌, ◌⊎◌, ℕ, ◌+◌, ◌/◌, ◌%◌, ◌<◌, ◌≤◌, ◌^◌, Bool, true, false, cond, List, [], Option, Some, None, refl, sym, ◌∙◌, ap, subst, inl, inr, arith}
-use Rattle.std.specs.Prelude.{slice_set, slice_index}
+use Rattle.std.specs.Prelude.{slice_set, slice_index, length}
+use Rattle.std.proofs.lemmas.List.{length-set}
 use Rattle.std.specs.Ordering.{nat_cmp}
 use Rattle.std.proofs.lemmas.Bool.{cases_lt}
 use Rattle.outside.specs.declared.TheConstants.{PAGE_WORDS}
@@ -19,7 +20,7 @@ use Rattle.plain_model.specs.Outcome.{DrumWords}
 use Rattle.plain_model.specs.Pages.{PagesMeaning, StaysPut}
 use Rattle.plain_model.specs.References.{in_map, slot_at, stored}
 use Rattle.plain_model.specs.Deeds.{Deed, deed_of, in_ac, taken_by, taken_of}
-use Rattle.plain_model.specs.Instructions.{does, finishes}
+use Rattle.plain_model.specs.Instructions.{does, finishes, with_word}
 use Rattle.ka10_unit.specs.declared.committed.Post.{Post}
 use Rattle.ka10_unit.specs.declared.committed.Committed.{Committed}
 use Rattle.ka10_unit.specs.declared.ending.Quick.{Quick}
@@ -32,6 +33,11 @@ use Rattle.ka10_unit.specs.Spots.{Stored}
 use Rattle.ka10_unit.specs.Targets.{IsNowhere, IsAt}
 use Rattle.ka10_unit.proofs.Finishing.{if_ended, if_more, never_slow, for_all, ends_bare, ends_low, ends_high, takes_none, takes_some}
 
+-- no accumulator more or less
+length_with : (ac : List ℕ) (i : ℕ) (w : Option ℕ) → length (with_word ac i w) ≡ length ac
+length_with ac i None = refl
+length_with ac i (Some w) = length-set ac i w
+
 module _ {P : Type 0} (means : PagesMeaning P) where
   -- pages that stay as they are
   pub stays_put : (s : P) → StaysPut means s s
@@ -40,18 +46,21 @@ module _ {P : Type 0} (means : PagesMeaning P) where
   module _ (space : SpaceHandle) where
     -- what isn't done here
     pub slow_in_place : (does : Does) (s : P) (regs : Regs) → regs.pc < 2 ^ 18 → InPlace means space does s s regs regs quick.Slow
-    slow_in_place does s regs pc = record { slow = λ h. (refl, refl); told = λ d f fits is. tt; fits = λ d fits. fits; stays = stays_put s; pc = pc }
+    slow_in_place does s regs pc = record { slow = λ h. (refl, refl); told = λ d f fits is. tt; fits = λ d fits. fits; stays = stays_put s; pc = pc; accumulators = refl }
 
     -- what is done in place of one thing is done of what that comes to
     pub in_place_more : (does more : Does) (s t : P) (regs after : Regs) (q : Quick) → InPlace means space does s t regs after q
         → ((d : DrumWords) (f : ForkName) → means.fits s d → means.space s f ≡ Some space → IfDone q (λ post. does f (means.plain s d) (record { pages = means.plain t d; regs = after; post = post }) → more f (means.plain s d) (record { pages = means.plain t d; regs = after; post = post })))
         → InPlace means space more s t regs after q
-    in_place_more does more s t regs after quick.Done i g = record { slow = i.slow; told = λ d f fits is. g d f fits is (i.told d f fits is); fits = i.fits; stays = i.stays; pc = i.pc }
-    in_place_more does more s t regs after quick.Overflow i g = record { slow = i.slow; told = λ d f fits is. g d f fits is (i.told d f fits is); fits = i.fits; stays = i.stays; pc = i.pc }
-    in_place_more does more s t regs after quick.Pushdown i g = record { slow = i.slow; told = λ d f fits is. g d f fits is (i.told d f fits is); fits = i.fits; stays = i.stays; pc = i.pc }
-    in_place_more does more s t regs after quick.Slow i g = record { slow = i.slow; told = λ d f fits is. tt; fits = i.fits; stays = i.stays; pc = i.pc }
+    in_place_more does more s t regs after quick.Done i g = record { slow = i.slow; told = λ d f fits is. g d f fits is (i.told d f fits is); fits = i.fits; stays = i.stays; pc = i.pc; accumulators = i.accumulators }
+    in_place_more does more s t regs after quick.Overflow i g = record { slow = i.slow; told = λ d f fits is. g d f fits is (i.told d f fits is); fits = i.fits; stays = i.stays; pc = i.pc; accumulators = i.accumulators }
+    in_place_more does more s t regs after quick.Pushdown i g = record { slow = i.slow; told = λ d f fits is. g d f fits is (i.told d f fits is); fits = i.fits; stays = i.stays; pc = i.pc; accumulators = i.accumulators }
+    in_place_more does more s t regs after quick.Slow i g = record { slow = i.slow; told = λ d f fits is. tt; fits = i.fits; stays = i.stays; pc = i.pc; accumulators = i.accumulators }
 
     module _ (regs after : Regs) (ac : ℕ) (deed : Deed) (told : Committed) (left : Leaves deed ac regs after told) (q : Quick) (is_q : q ≡ ended told.post) where
+      kept : length after.ac ≡ length regs.ac
+      kept = ap (λ (r : Regs). length r.ac) left.regs ∙ (length_with (with_word regs.ac ac deed.ac) _ deed.next ∙ length_with regs.ac ac deed.ac)
+
       -- a deed that stores no word
       pub finish_in_place : (s : P) → IsNowhere deed.store → InPlace means space (Finish regs ac deed) s s regs after q
       finish_in_place s h = record {
@@ -60,6 +69,7 @@ module _ {P : Type 0} (means : PagesMeaning P) where
         fits = λ d fits. fits;
         stays = stays_put s;
         pc = left.pc;
+        accumulators = kept;
       }
 
       -- a deed that stores a word at an address
@@ -78,6 +88,7 @@ module _ {P : Type 0} (means : PagesMeaning P) where
           fits = put.fits;
           stays = put.stays;
           pc = rw put.pc left.pc;
+          accumulators = put.accumulators ∙ kept;
         }
 
 -- an instruction that does a deed has an address, and takes a word at most

@@ -1,5 +1,5 @@
 -- A unit, or the rest of one, done in place on a fork's registers and pages.
-use Rattle.std.specs.Prelude.{◌≡◌, ℕ, ◌<◌, ◌≤◌, ◌^◌, Bool, true, false, not, Option, None, Some}
+use Rattle.std.specs.Prelude.{◌≡◌, ℕ, ◌<◌, ◌≤◌, ◌^◌, Bool, true, false, not, Option, None, Some, length}
 use Rattle.std.specs.Ordering.{nat_cmp}
 use Rattle.ka10_table.specs.declared.families.Family.{Family}
 use Rattle.ka10_table.specs.declared.families.Family.TheVariants.{Illegal, Local, Monitor, ByteOp, Jrst, Xct}
@@ -47,6 +47,7 @@ pub record InPlace {P : Type 0} (means : PagesMeaning P) (space : SpaceHandle) (
   pub fits : (d : DrumWords) → means.fits old d → means.fits new d
   pub stays : StaysPut means old new
   pub pc : after.pc < 2 ^ 18
+  pub accumulators : length after.ac ≡ length regs.ac
 
 -- the unit of the instruction at the program counter
 abbrev pub OneUnit : Regs → Does

@@ -1,5 +1,5 @@
 -- Where a word of a space is.
-use Rattle.std.specs.Prelude.{◌≡◌, ℕ, ◌/◌, ◌%◌, ◌<◌, ◌≤◌, Option, Some, slice_set}
+use Rattle.std.specs.Prelude.{◌≡◌, ℕ, ◌/◌, ◌%◌, ◌<◌, ◌≤◌, Option, Some, length, slice_set}
 use Rattle.outside.specs.declared.TheConstants.{PAGE_WORDS}
 use Rattle.plain_model.specs.declared.names.TheConstants.{ACCUMULATORS}
 use Rattle.plain_model.specs.declared.names.ForkName.{ForkName}
@@ -25,3 +25,4 @@ module _ {P : Type 0} (means : PagesMeaning P) (space : SpaceHandle) (at : ℕ) 
     pub fits : (d : DrumWords) → means.fits old d → means.fits new d
     pub stays : StaysPut means old new
     pub pc : after.pc ≡ regs.pc
+    pub accumulators : length after.ac ≡ length regs.ac

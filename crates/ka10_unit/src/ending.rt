@@ -1,4 +1,4 @@
-// How a unit ends that was tried in place.
+// How units end that were tried in place.
 ghost use Rattle.std.specs.Prelude.{◌≡◌};
 ghost use Rattle.ka10_unit.specs.InPlace.{ended};
 
@@ -28,4 +28,26 @@ pub fn ended(post: Post) -> Quick
         Post::Overflow => Quick::Overflow,
         Post::Pushdown => Quick::Pushdown,
     }
+}
+
+/// Why a burst ended.
+#[derive(Clone, Copy, Debug, PartialEq, Eq)]
+pub enum End {
+    /// As many units were done as were asked for, and none posted.
+    Most,
+    /// One more unit was done, which posts that an arithmetic result was no signed word, or that a
+    /// division was not done.
+    Overflow,
+    /// One more unit was done, which posts that a pushdown list ran over, or under.
+    Pushdown,
+    /// The next unit isn't done in place.
+    Slow,
+}
+
+/// What a burst came to.
+#[derive(Clone, Copy, Debug, PartialEq, Eq)]
+pub struct Burst {
+    /// How many units were done that posted nothing.
+    pub units: u32,
+    pub end: End,
 }

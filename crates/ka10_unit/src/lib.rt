@@ -5,6 +5,7 @@
 
 mod acts;
 mod addressing;
+mod bursts;
 mod bytes;
 mod commit;
 mod committed;
@@ -23,6 +24,7 @@ mod stacks;
 mod ways;
 mod words;
 
+pub use bursts::burst;
 pub use bytes::{
     ByteStep, byte_step, commit_deposit, commit_first_part, commit_increment, commit_load,
     forget_first_part,
@@ -30,7 +32,7 @@ pub use bytes::{
 pub use commit::commit_row;
 pub use committed::{Committed, Post};
 pub use conditions::{commit_compare, commit_count, commit_jump_or_skip};
-pub use ending::Quick;
+pub use ending::{Burst, End, Quick};
 pub use in_place::quick;
 pub use jumps::{
     commit_aobj, commit_jfcl, commit_jffo, commit_jrst, commit_jsa_or_jra, commit_jsr_or_jsp,
