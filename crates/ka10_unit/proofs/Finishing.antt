@@ -25,10 +25,11 @@ use Rattle.ka10_unit.specs.declared.committed.Committed.{Committed}
 use Rattle.ka10_unit.specs.declared.ending.Quick.{Quick}
 use Rattle.ka10_unit.specs.declared.ending.Quick.TheVariants as quick
 use Rattle.ka10_unit.specs.Once.{After}
-use Rattle.ka10_unit.specs.Commits.{Leaves, Stores, channel_of}
+use Rattle.ka10_unit.specs.Commits.{Leaves, channel_of, store_at, stored_word}
+use Rattle.ka10_unit.specs.declared.operands.Destination.TheVariants as destination
 use Rattle.ka10_unit.specs.Glide.{makes_none, is_ready, word_of, glide, Takes}
 use Rattle.ka10_unit.specs.InPlace.{IfDone, ended}
-use Rattle.ka10_unit.specs.Targets.{IsNowhere, IsAt, IsBefore}
+use Rattle.ka10_unit.specs.Stores.{IsNowhere, GoesTo}
 
 -- a fact of the post holds of the unit that ended with it
 pub if_ended : (post : Post) (q : Quick) (P : Option ℕ → Type 0) → q ≡ ended post → P (channel_of post) → IfDone q P
@@ -110,37 +111,69 @@ module _ {K : Type 0} {file_cmp : K → K → Ordering} (f : ForkName) (p : Plai
         by (into at w) is i = absurd i
         by (before at w) is i = absurd i
 
-    module _ (less : n < MOST_REFERENCES) (a : ℕ) where
+    module _ (less : n < MOST_REFERENCES) (a word : ℕ) (has : told.stored ≡ Some word) where
+      stores : stored_word deed.store ≡ Some word
+      stores = sym left.stored ∙ has
+
       -- a word that is stored in an accumulator
-      pub ends_low : a < ACCUMULATORS → IsAt a deed.store → glide f p ac n (finishes regs ac' deed) ≡ Some (record { pages = p; regs = record after { ac = slice_set after.ac a told.word }; post = channel_of told.post })
+      pub ends_low : a < ACCUMULATORS → GoesTo a deed.store → glide f p ac n (finishes regs ac' deed) ≡ Some (record { pages = p; regs = record after { ac = slice_set after.ac a word }; post = channel_of told.post })
       unfolding finishes glide
       ends_low h at = by deed.store refl at
         where
-          by : (s : Store) → deed.store ≡ s → IsAt a s → glide f p ac n (finishes_by deed.store regs ac' deed) ≡ Some (record { pages = p; regs = record after { ac = slice_set after.ac a told.word }; post = channel_of told.post })
-          by nowhere is i = absurd i
+          by : (s : Store) → deed.store ≡ s → GoesTo a s → glide f p ac n (finishes_by deed.store regs ac' deed) ≡ Some (record { pages = p; regs = record after { ac = slice_set after.ac a word }; post = channel_of told.post })
+          by nowhere is i = absurd (let none : None ≡ Some word = ap stored_word (sym is) ∙ stores in cc none)
           by (back to w) is i =
-              let word : told.word ≡ w = subst (λ (s : Store). Stores s told.word) is left.word in
+              let same : Some w ≡ Some word = ap stored_word (sym is) ∙ stores in
+              let here : word ≡ w = cc same in
               let low : is_accumulator to ≡ true = is_low to (omega (arith, i, h)) in
-              rw (is, low, left.regs, left.post, i, word) refl
+              rw (is, low, left.regs, left.post, i, here) refl
           by (into to w) is i =
-              let word : told.word ≡ w = subst (λ (s : Store). Stores s told.word) is left.word in
+              let same : Some w ≡ Some word = ap stored_word (sym is) ∙ stores in
+              let here : word ≡ w = cc same in
               let low : is_accumulator to ≡ true = is_low to (omega (arith, i, h)) in
-              rw (is, few n less, low, left.regs, left.post, i, word) refl
+              rw (is, few n less, low, left.regs, left.post, i, here) refl
           by (before to w) is i = absurd i
 
       -- a word that is stored in a page
-      pub ends_high : ACCUMULATORS ≤ a → is_ready f p a Write ≡ true → IsAt a deed.store → glide f p ac n (finishes regs ac' deed) ≡ Some (record { pages = stored p (in_map (slot_at f a)) (a % PAGE_WORDS) told.word; regs = after; post = channel_of told.post })
+      pub ends_high : ACCUMULATORS ≤ a → is_ready f p a Write ≡ true → GoesTo a deed.store → glide f p ac n (finishes regs ac' deed) ≡ Some (record { pages = stored p (in_map (slot_at f a)) (a % PAGE_WORDS) word; regs = after; post = channel_of told.post })
       unfolding finishes glide
       ends_high h ready at = by deed.store refl at
         where
-          by : (s : Store) → deed.store ≡ s → IsAt a s → glide f p ac n (finishes_by deed.store regs ac' deed) ≡ Some (record { pages = stored p (in_map (slot_at f a)) (a % PAGE_WORDS) told.word; regs = after; post = channel_of told.post })
-          by nowhere is i = absurd i
+          by : (s : Store) → deed.store ≡ s → GoesTo a s → glide f p ac n (finishes_by deed.store regs ac' deed) ≡ Some (record { pages = stored p (in_map (slot_at f a)) (a % PAGE_WORDS) word; regs = after; post = channel_of told.post })
+          by nowhere is i = absurd (let none : None ≡ Some word = ap stored_word (sym is) ∙ stores in cc none)
           by (back to w) is i =
-              let word : told.word ≡ w = subst (λ (s : Store). Stores s told.word) is left.word in
+              let same : Some w ≡ Some word = ap stored_word (sym is) ∙ stores in
+              let here : word ≡ w = cc same in
               let high : is_accumulator a ≡ false = is_high a h in
-              rw (is, i, ready, high, left.regs, left.post, word) refl
+              rw (is, i, ready, high, left.regs, left.post, here) refl
           by (into to w) is i =
-              let word : told.word ≡ w = subst (λ (s : Store). Stores s told.word) is left.word in
+              let same : Some w ≡ Some word = ap stored_word (sym is) ∙ stores in
+              let here : word ≡ w = cc same in
               let high : is_accumulator a ≡ false = is_high a h in
-              rw (is, few n less, i, ready, high, left.regs, left.post, word) refl
+              rw (is, few n less, i, ready, high, left.regs, left.post, here) refl
           by (before to w) is i = absurd i
+
+-- where a destination has no word, or another one, nothing else is stored
+pub bare_store : (s : Store) → store_at destination.Nowhere (stored_word s) ≡ s → IsNowhere s
+bare_store nowhere h = tt
+bare_store (back at w) h = absurd (cc h)
+bare_store (into at w) h = absurd (cc h)
+bare_store (before at w) h = absurd (cc h)
+
+pub back_store : (a : ℕ) (s : Store) → store_at (destination.Back a) (stored_word s) ≡ s → GoesTo a s
+back_store a nowhere h = tt
+back_store a (back at w) h = cc h
+back_store a (into at w) h = absurd (cc h)
+back_store a (before at w) h = absurd (cc h)
+
+pub into_store : (a : ℕ) (s : Store) → store_at (destination.Into a) (stored_word s) ≡ s → GoesTo a s
+into_store a nowhere h = tt
+into_store a (back at w) h = absurd (cc h)
+into_store a (into at w) h = cc h
+into_store a (before at w) h = absurd (cc h)
+
+pub no_word : (s : Store) → stored_word s ≡ None → IsNowhere s
+no_word nowhere h = tt
+no_word (back at w) h = absurd (cc h)
+no_word (into at w) h = absurd (cc h)
+no_word (before at w) h = absurd (cc h)

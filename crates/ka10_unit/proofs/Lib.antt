@@ -1,7 +1,6 @@
 mod Outcomes
 mod Acting
 pub mod Gliding
-pub mod Storing
 pub mod Finishing
 pub mod Placing
 pub mod IndirectWords

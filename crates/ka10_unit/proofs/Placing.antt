@@ -9,7 +9,8 @@ use Rattle.word36.specs.Words.{joined}
 use Rattle.ka10_table.specs.declared.families.Family.{Family}
 use Rattle.ka10_table.specs.declared.families.Family.TheVariants.{ByteOp}
 use Rattle.ka10_table.specs.declared.families.TableRow.{TableRow}
-use Rattle.ka10_table.specs.Rows.{row_of}
+use Rattle.ka10_table.specs.Rows.{row_of, IsInLine}
+use Rattle.ka10_table.proofs.Listed.{row_in_line}
 use Rattle.plain_model.specs.declared.names.ForkName.{ForkName}
 use Rattle.plain_model.specs.declared.names.Kind.TheVariants.{Read, Write, Execute}
 use Rattle.plain_model.specs.declared.names.TheConstants.{ACCUMULATORS}
@@ -28,10 +29,14 @@ use Rattle.ka10_unit.specs.declared.ending.Quick.TheVariants as quick
 use Rattle.ka10_unit.specs.Commits.{Leaves, channel_of}
 use Rattle.ka10_unit.specs.Glide.{is_ready, glide, Takes}
 use Rattle.ka10_unit.specs.Once.{After}
-use Rattle.ka10_unit.specs.InPlace.{Does, IfDone, InPlace, Finish, Addressee, is_addressed, is_deed, behind_address, ended}
-use Rattle.ka10_unit.specs.Spots.{Stored}
-use Rattle.ka10_unit.specs.Targets.{IsNowhere, IsAt}
-use Rattle.ka10_unit.proofs.Finishing.{if_ended, if_more, never_slow, for_all, ends_bare, ends_low, ends_high, takes_none, takes_some}
+use Rattle.ka10_unit.specs.InPlace.{Does, IsOf, IfDone, InPlace, Finish, Addressee, is_addressed, is_deed, behind_address, ended}
+use Rattle.ka10_unit.specs.Spots.{Stored, StoredIf}
+use Rattle.ka10_unit.specs.Stores.{IsNowhere, GoesTo, IsOperand}
+use Rattle.ka10_unit.proofs.Finishing.{if_ended, if_more, never_slow, for_all, ends_bare, ends_low, ends_high, takes_none, takes_some, no_word}
+
+-- the row of an opcode is in its line
+pub in_line : (op : ℕ) (row : TableRow) → IsOf op row → IsInLine op row
+in_line op row of_op = subst (λ (r : TableRow). IsInLine op r) (sym of_op.is) (row_in_line op of_op.below)
 
 -- no accumulator more or less
 length_with : (ac : List ℕ) (i : ℕ) (w : Option ℕ) → length (with_word ac i w) ≡ length ac
@@ -72,24 +77,29 @@ module _ {P : Type 0} (means : PagesMeaning P) where
         accumulators = kept;
       }
 
-      -- a deed that stores a word at an address
-      module _ (s t : P) (end : Regs) (to : ℕ) (at : IsAt to deed.store) (put : Stored means space to told.word s t after end) (ready : (d : DrumWords) (f : ForkName) → means.fits s d → means.space s f ≡ Some space → is_ready f (means.plain s d) to Write ≡ true) where
-        ends : (d : DrumWords) (f : ForkName) → means.fits s d → means.space s f ≡ Some space → (to < ACCUMULATORS) ⊎ (ACCUMULATORS ≤ to) → Finish regs ac deed f (means.plain s d) (record { pages = means.plain t d; regs = end; post = channel_of told.post })
-        ends d f fits is (inl low) n less =
+      -- a deed that stores at an address, if it stores
+      module _ (s t : P) (end : Regs) (to : ℕ) (at : GoesTo to deed.store) (ready : (d : DrumWords) (f : ForkName) → means.fits s d → means.space s f ≡ Some space → is_ready f (means.plain s d) to Write ≡ true) where
+        ends : (word : ℕ) → told.stored ≡ Some word → Stored means space to word s t after end → (d : DrumWords) (f : ForkName) → means.fits s d → means.space s f ≡ Some space → (to < ACCUMULATORS) ⊎ (ACCUMULATORS ≤ to)
+            → Finish regs ac deed f (means.plain s d) (record { pages = means.plain t d; regs = end; post = channel_of told.post })
+        ends word has put d f fits is (inl low) n less =
             let p = put.low low in
-            rw (p.0, p.1) (ends_low f (means.plain s d) regs.ac n regs after ac deed told left (omega arith) to low at)
-        ends d f fits is (inr high) n less =
-            rw (put.high high, put.told d f high fits is) (ends_high f (means.plain s d) regs.ac n regs after ac deed told left (omega arith) to high (ready d f fits is) at)
+            rw (p.0, p.1) (ends_low f (means.plain s d) regs.ac n regs after ac deed told left (omega arith) to word has low at)
+        ends word has put d f fits is (inr high) n less =
+            rw (put.high high, put.told d f high fits is) (ends_high f (means.plain s d) regs.ac n regs after ac deed told left (omega arith) to word has high (ready d f fits is) at)
 
-        pub finish_at_in_place : InPlace means space (Finish regs ac deed) s t regs end q
-        finish_at_in_place = record {
+        by_word : (w : Option ℕ) → told.stored ≡ w → StoredIf means space to w s t after end → InPlace means space (Finish regs ac deed) s t regs end q
+        by_word None none put = rw (put.0, put.1) (finish_in_place s (no_word deed.store (sym left.stored ∙ none)))
+        by_word (Some word) has put = record {
           slow = λ e. never_slow told.post (sym is_q ∙ e);
-          told = λ d f fits is. if_ended told.post q _ is_q (ends d f fits is (cases_lt to ACCUMULATORS));
+          told = λ d f fits is. if_ended told.post q _ is_q (ends word has put d f fits is (cases_lt to ACCUMULATORS));
           fits = put.fits;
           stays = put.stays;
           pc = rw put.pc left.pc;
           accumulators = put.accumulators ∙ kept;
         }
+
+        pub finish_at_in_place : StoredIf means space to told.stored s t after end → InPlace means space (Finish regs ac deed) s t regs end q
+        finish_at_in_place put = by_word told.stored refl put
 
 -- an instruction that does a deed has an address, and takes a word at most
 deed_addressed : (family : Family) (row : TableRow) (op : ℕ) (regs : Regs) (ac e last : ℕ) → is_deed family ac ≡ true → (is_addressed family ac ≡ true) × (behind_address family row op regs ac e last ≡ does row op regs ac e last)
@@ -105,30 +115,22 @@ module _ (row : TableRow) (op ac e last m : ℕ) (regs : Regs) (same : row ≡ r
   addressed : is_addressed (row_of op).family ac ≡ true
   addressed = subst (λ (r : TableRow). is_addressed r.family ac ≡ true) same (deed_addressed row.family row op regs ac e last deed).0
 
-  -- its operand is 0,,E
-  pub bare_addressee : taken_by row.family row.mode row.code (in_ac regs ac) e ≡ None → m ≡ joined 0 e → Finish regs ac (deed_of row op regs ac e last m) f p a → Addressee op regs ac e last f p a
-  unfolding does taken_of
-  bare_addressee none is h = record {
+  -- with its operand it does its deed
+  pub addressee : (from : Option ℕ) → from ≡ taken_of row regs ac e → IsOperand f p regs.ac from e m → Finish regs ac (deed_of row op regs ac e last m) f p a → Addressee op regs ac e last f p a
+  unfolding does
+  addressee None none is h = record {
     addressed = addressed;
-    runs = λ n less. let same_word : m ≡ e = omega arith in
-        (behind n (takes_none f p regs.ac n e (taken_of row regs ac e) (λ w. finishes regs ac (deed_of row op regs ac e last w)) none
-        ∙ subst (λ (w : ℕ). glide f p regs.ac n (finishes regs ac (deed_of row op regs ac e last w)) ≡ Some a) same_word (h n (omega arith)))).1;
+    runs = λ n less. (behind n (takes_none f p regs.ac n e (taken_of row regs ac e) (λ w. finishes regs ac (deed_of row op regs ac e last w)) (sym none)
+        ∙ subst (λ (w : ℕ). glide f p regs.ac n (finishes regs ac (deed_of row op regs ac e last w)) ≡ Some a) is (h n (omega arith)))).1;
   }
-
-  -- it takes the word at an address
-  pub taking_addressee : (from : ℕ) → taken_by row.family row.mode row.code (in_ac regs ac) e ≡ Some from → Takes f p regs.ac from Read m → Finish regs ac (deed_of row op regs ac e last m) f p a → Addressee op regs ac e last f p a
-  unfolding does taken_of
-  taking_addressee from some t h = record {
+  addressee (Some from) some t h = record {
     addressed = addressed;
-    runs = λ n less. (behind n (takes_some f p regs.ac n e from m (taken_of row regs ac e) (λ w. finishes regs ac (deed_of row op regs ac e last w)) (omega arith) some t ∙ h (n + 1) (omega arith))).1;
+    runs = λ n less. (behind n (takes_some f p regs.ac n e from m (taken_of row regs ac e) (λ w. finishes regs ac (deed_of row op regs ac e last w)) (omega arith) (sym some) t ∙ h (n + 1) (omega arith))).1;
   }
 
 -- the same, where it is done in place
-module _ {P : Type 0} (means : PagesMeaning P) (space : SpaceHandle) (row : TableRow) (op ac e last m : ℕ) (regs : Regs) (same : row ≡ row_of op) (deed : is_deed row.family ac ≡ true) (s t : P) (after : Regs) (q : Quick) (i : InPlace means space (Finish regs ac (deed_of row op regs ac e last m)) s t regs after q) where
-  pub bare_in_place : taken_by row.family row.mode row.code (in_ac regs ac) e ≡ None → m ≡ joined 0 e → InPlace means space (Addressee op regs ac e last) s t regs after q
-  bare_in_place none is = in_place_more means space _ (Addressee op regs ac e last) s t regs after q i
-      (λ d f fits h. for_all q _ (λ post. bare_addressee row op ac e last m regs same deed f (means.plain s d) _ none is))
-
-  pub taking_in_place : (from : ℕ) → taken_by row.family row.mode row.code (in_ac regs ac) e ≡ Some from → ((d : DrumWords) (f : ForkName) → means.fits s d → means.space s f ≡ Some space → Takes f (means.plain s d) regs.ac from Read m) → InPlace means space (Addressee op regs ac e last) s t regs after q
-  taking_in_place from some takes = in_place_more means space _ (Addressee op regs ac e last) s t regs after q i
-      (λ d f fits h. for_all q _ (λ post. taking_addressee row op ac e last m regs same deed f (means.plain s d) _ from some (takes d f fits h)))
+pub deed_in_place : {P : Type 0} (means : PagesMeaning P) (space : SpaceHandle) (row : TableRow) (op ac e last m : ℕ) (regs : Regs) → row ≡ row_of op → is_deed row.family ac ≡ true → (s t : P) (after : Regs) (q : Quick)
+    → InPlace means space (Finish regs ac (deed_of row op regs ac e last m)) s t regs after q → (from : Option ℕ) → from ≡ taken_of row regs ac e
+    → ((d : DrumWords) (f : ForkName) → means.fits s d → means.space s f ≡ Some space → IsOperand f (means.plain s d) regs.ac from e m) → InPlace means space (Addressee op regs ac e last) s t regs after q
+deed_in_place means space row op ac e last m regs same deed s t after q i from taken operand = in_place_more means space _ (Addressee op regs ac e last) s t regs after q i
+    (λ d f fits h. for_all q _ (λ post. addressee row op ac e last m regs same deed f (means.plain s d) _ from taken (operand d f fits h)))

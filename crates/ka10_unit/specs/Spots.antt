@@ -1,5 +1,5 @@
 -- Where a word of a space is.
-use Rattle.std.specs.Prelude.{◌≡◌, ℕ, ◌/◌, ◌%◌, ◌<◌, ◌≤◌, Option, Some, length, slice_set}
+use Rattle.std.specs.Prelude.{◌≡◌, ℕ, ◌/◌, ◌%◌, ◌<◌, ◌≤◌, Option, None, Some, length, slice_set}
 use Rattle.outside.specs.declared.TheConstants.{PAGE_WORDS}
 use Rattle.plain_model.specs.declared.names.TheConstants.{ACCUMULATORS}
 use Rattle.plain_model.specs.declared.names.ForkName.{ForkName}
@@ -26,3 +26,8 @@ module _ {P : Type 0} (means : PagesMeaning P) (space : SpaceHandle) (at : ℕ) 
     pub stays : StaysPut means old new
     pub pc : after.pc ≡ regs.pc
     pub accumulators : length after.ac ≡ length regs.ac
+
+  -- the same, where there is a word
+  abbrev pub StoredIf : Option ℕ → P → P → Regs → Regs → Type 0
+  StoredIf None old new regs after = (new ≡ old) × (after ≡ regs)
+  StoredIf (Some word) old new regs after = Stored word old new regs after

@@ -16,6 +16,7 @@ mod in_place;
 mod instruction;
 mod jumps;
 mod moves;
+mod operands;
 mod operations;
 mod program_words;
 mod registers;
@@ -24,6 +25,7 @@ mod stacks;
 mod ways;
 mod words;
 
+pub use acts::{Act, act_at};
 pub use bursts::burst;
 pub use bytes::{
     ByteStep, byte_step, commit_deposit, commit_first_part, commit_increment, commit_load,
@@ -38,7 +40,11 @@ pub use jumps::{
     commit_aobj, commit_jfcl, commit_jffo, commit_jrst, commit_jsa_or_jra, commit_jsr_or_jsp,
 };
 pub use moves::commit_move;
+pub use operands::{Destination, destination_of, operand_address};
 pub use operations::{commit_operation, commit_shift};
 pub use program_words::{flags_of, half_of_flags, pc_word};
 pub use stacks::{commit_popj, commit_push_or_pop, commit_pushj, pushed};
 pub use words::{commit_blt, commit_boolean, commit_exch, commit_half, commit_test};
+
+#[cfg(test)]
+mod tests;

@@ -6,7 +6,7 @@ ghost use Rattle.plain_model.specs.Limits.{IsAddress};
 ghost use Rattle.plain_model.specs.Outcome.{DrumWords};
 ghost use Rattle.plain_model.specs.Pages.{HasSpace};
 ghost use Rattle.ka10_unit.specs.Glide.{Takes, is_ready, word_of};
-ghost use Rattle.ka10_unit.specs.Spots.{IsSpot, Stored};
+ghost use Rattle.ka10_unit.specs.Spots.{IsSpot, StoredIf};
 
 use outside::PAGE_WORDS;
 use plain_model::{ACCUMULATORS, Found, Kind, Pages, Regs, SpaceHandle};
@@ -101,7 +101,7 @@ pub fn load<P: Pages>(regs: &Regs, pages: &P, space: SpaceHandle, spot: Spot, at
     }
 }
 
-/// Puts a word at an address whose spot was found.
+/// Puts a word at an address whose spot was found, if there is one.
 #[inline(always)]
 pub fn store<P: Pages>(
     regs: &mut Regs,
@@ -109,15 +109,16 @@ pub fn store<P: Pages>(
     space: SpaceHandle,
     spot: Spot,
     at: u32,
-    word: Word,
+    word: Option<Word>,
 )
     requires space { HasSpace P.means pages.old space }
     requires address { IsAddress at }
     requires spot { IsSpot P.means space at pages.old spot }
-    ensures { Stored P.means space at word pages.old pages.new regs.old regs.new }
+    ensures { StoredIf P.means space at word pages.old pages.new regs.old regs.new }
 {
-    match spot {
-        Spot::Accumulator => regs.ac[at as usize] = word,
-        Spot::Page(found) => pages.store(space, found, at, word),
+    match (word, spot) {
+        (None, _) => {}
+        (Some(word), Spot::Accumulator) => regs.ac[at as usize] = word,
+        (Some(word), Spot::Page(found)) => pages.store(space, found, at, word),
     }
 }
