@@ -22,7 +22,7 @@ use Rattle.plain_model.specs.declared.map.Peeked.TheVariants.{Is, NoPage}
 use Rattle.plain_model.specs.declared.map.Touch.TheVariants.{Ready, Zero, Full}
 use Rattle.plain_model.specs.State.{NumberedPages, Maps, is_console}
 use Rattle.plain_model.specs.Maps.{entry_at, set_entry, full_access}
-use Rattle.plain_model.specs.References.{in_map, blank, zero_words, make, settled, word_at, stored}
+use Rattle.plain_model.specs.References.{in_map, blank, zero_words, make, settled, word_at, stored, page_at}
 use Rattle.plain_model.specs.Events.{with_map, empty_map}
 use Rattle.plain_model.specs.Pages.{IsOwner, IsBuiltMap, touch_of, can_settle, peek_of}
 use Rattle.plain_model.proofs.Rooms.{room_blank}
@@ -36,7 +36,7 @@ use Rattle.flat_pages.specs.Tables.{Tables, Sound, plain_of, next_name, page_mad
 use Rattle.flat_pages.specs.Meaning.{core, making_touch, entry_touch, space_of, place_of}
 use Rattle.flat_pages.proofs.Objects.{Objects, Apart, object_at, objects_put, objects_made}
 use Rattle.flat_pages.proofs.Maps.{entries_same, maps_same, maps_home, maps_fork, entry_there}
-use Rattle.flat_pages.proofs.Entries.{empty_touch, empty_settled, empty_peek, named_touch, named_settled, named_word, named_peek, named_stored}
+use Rattle.flat_pages.proofs.Entries.{empty_touch, empty_settled, empty_peek, empty_page, named_page, named_touch, named_settled, named_word, named_peek, named_stored}
 
 -- pages that differ in the objects and the maps alone
 parts_same : (t : Tables) (o o' : Objects) (m m' : Maps) → o ≡ o' → m ≡ m' → ◌≡◌ {A = NumberedPages} (record (plain_of t) { objects = o; maps = m }) (record (plain_of t) { objects = o'; maps = m' })
@@ -151,6 +151,9 @@ module _ {t : Tables} (sound : Sound t) where
       pub peek_ready : (offset : ℕ) → peek_of (plain_of t) core (in_map s) offset ≡ Is (slice_index held.words offset)
       peek_ready offset = named_peek (plain_of t) s held.name entry_named held.words offset object_there
 
+      pub page_ready : page_at (plain_of t) (in_map s) ≡ Some held.name
+      page_ready = named_page (plain_of t) s held.name entry_named
+
       -- the page of a slot has another word
       pub put_plain : (offset word : ℕ) → plain_of (word_put t h offset word) ≡ stored (plain_of t) (in_map s) offset word
       put_plain offset word =
@@ -171,6 +174,9 @@ module _ {t : Tables} (sound : Sound t) where
 
       pub peek_blank : (offset : ℕ) → peek_of (plain_of t) core (in_map s) offset ≡ NoPage
       peek_blank = empty_peek (plain_of t) s entry_empty
+
+      pub page_blank : page_at (plain_of t) (in_map s) ≡ None
+      page_blank = empty_page (plain_of t) s entry_empty
 
       -- the next home's page takes the name, and stands in the slot
       pub made_plain : (owner : Tty) → t.made + t.living < t.limit → plain_of (page_made t s owner) ≡ make (plain_of t) owner (blank (in_map s))

@@ -42,7 +42,7 @@ module _ (p : NumberedPages) (s : Slot) where
         by Write = refl
         by Execute = refl
 
-    empty_page : page_at p at ≡ None
+    pub empty_page : page_at p at ≡ None
     unfolding page_at
     empty_page = ap (λ (c : Option Chain). option_and_then (λ d. d.page) c) (empty_chain (entry_at p.maps) s empty)
 
@@ -82,7 +82,7 @@ module _ (p : NumberedPages) (s : Slot) where
         by Write = refl
         by Execute = refl
 
-    named_page : page_at p at ≡ Some n
+    pub named_page : page_at p at ≡ Some n
     unfolding page_at
     named_page = ap (λ (c : Option Chain). option_and_then (λ d. d.page) c) (named_chain (entry_at p.maps) s n full_access named)
 

@@ -120,7 +120,7 @@ impl PlainStore {
 }
 
 impl Pages for PlainStore {
-    ghost use Rattle.flat_pages.specs.Meaning.{meaning, store_agrees, store_single};
+    ghost use Rattle.flat_pages.specs.Meaning.{meaning, plain_whole, store_agrees, store_single};
 
     ghost means = { meaning };
 
@@ -153,6 +153,16 @@ impl Pages for PlainStore {
                 None => Peeked::NoPage,
             },
             Place::File(_, _) => Peeked::NoPage,
+        }
+    }
+
+    fn page_at(&self, at: Place) -> Option<PageName> {
+        match at {
+            Place::Fork(slot) => match self.entry(slot) {
+                Some(home) => Some(self.homes[home.0 as usize].name),
+                None => None,
+            },
+            Place::File(_, _) => None,
         }
     }
 
@@ -217,6 +227,8 @@ impl Pages for PlainStore {
     ghost agrees = { λ s d fits. store_agrees s d };
 
     ghost none_lives = { λ s. s.sound.alone };
+
+    ghost whole = { λ s d fits. plain_whole s d };
 
     ghost single = { λ s d is fits. store_single s d };
 }

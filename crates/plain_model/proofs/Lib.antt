@@ -1,6 +1,7 @@
 pub mod Fixed
 pub mod OrderLemmas
 pub mod Runs
+pub mod Lookups
 pub mod Named
 pub mod Counts
 pub mod Whole

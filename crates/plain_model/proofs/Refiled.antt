@@ -13,7 +13,7 @@ use Rattle.plain_model.specs.State.{PlainPages, refiled}
 use Rattle.plain_model.specs.Orders.{file_page_cmp}
 use Rattle.plain_model.specs.Maps.{Link, Chain, chain, entry_at, permits}
 use Rattle.plain_model.specs.Room.{names, uses, live, HasRoom}
-use Rattle.plain_model.specs.References.{Spot, in_map, in_file, Making, blank, copy, blanks, copies, along_chain, private_access, makings, make, make_all, new_page, drop_unnamed, words_at, page_at, Referred, granted, denied, full, reference}
+use Rattle.plain_model.specs.References.{Spot, in_map, in_file, Making, blank, copy, blanks, copy_in, copies, along_chain, private_access, makings, make, make_all, new_page, drop_unnamed, drop_copied, words_at, page_at, Referred, granted, denied, full, reference}
 use Rattle.plain_model.proofs.Counts.{has_count, different_same}
 use Rattle.plain_model.proofs.Whole.{map_uses, tally, uses_are}
 
@@ -28,9 +28,6 @@ AllAlike [] [] = Unit {0}
 AllAlike (m ∷ ms) (n ∷ ns) = Alike m n × AllAlike ms ns
 AllAlike ms ns = ⊥
 
-abbrev copy_at : {K : Type 0} → Chain → Option Link → List (Making K)
-copy_at c l = option_map_or (λ k. copy k.slot (private_access c) ∷ []) l []
-
 abbrev blank_at : {K : Type 0} → Chain → Option PageName → List (Making K)
 blank_at c n = if is_some n then [] else blank (in_map c.end) ∷ []
 
@@ -40,7 +37,7 @@ module _ (K L : Type 0) where
   copied c Execute = tt
   copied c Write = found (find (λ l. l.access.c) c.links)
     where
-      found : (l : Option Link) → AllAlike (copy_at {K = K} c l) (copy_at {K = L} c l)
+      found : (l : Option Link) → AllAlike (copy_in {K = K} c l) (copy_in {K = L} c l)
       found None = tt
       found (Some l) = ((refl, refl), tt)
 
@@ -80,7 +77,7 @@ module _ {K L : Type 0} {file_cmp : K → K → Ordering} (other_cmp : L → L �
     moved true p q = refl
     moved false p q = refl
 
-    copy_refiled : (q : PlainPages file_cmp) → NameAlike q files → (n : Option PageName) → option_map_or (drop_unnamed (refiled other_cmp q files)) n (refiled other_cmp q files) ≡ refiled other_cmp (option_map_or (drop_unnamed q) n q) files
+    copy_refiled : (q : PlainPages file_cmp) → NameAlike q files → (n : Option PageName) → drop_copied (refiled other_cmp q files) n ≡ refiled other_cmp (drop_copied q n) files
     copy_refiled q alike None = refl
     copy_refiled q alike (Some n) =
         let gone : PlainPages file_cmp = record q { objects = map.remove q.objects n } in
@@ -100,12 +97,12 @@ module _ {K L : Type 0} {file_cmp : K → K → Ordering} (other_cmp : L → L �
         q = new_page p owner (in_map s) a (words_at p (in_map s))
 
         from : Option PageName → List ℕ → PlainPages other_cmp
-        from n words = let r = new_page (refiled other_cmp p files) owner (in_map s) a words in option_map_or (drop_unnamed r) n r
+        from n words = drop_copied (new_page (refiled other_cmp p files) owner (in_map s) a words) n
 
         words_same : words_at (refiled other_cmp p files) (in_map s) ≡ words_at p (in_map s)
         words_same = ap (λ (n : Option PageName). option_map_or (λ m. Rattle.std.specs.Option.unwrap_or (map.get p.objects m) Rattle.plain_model.specs.References.zero_words) n Rattle.plain_model.specs.References.zero_words) (page_refiled p s)
 
-        same : from (page_at (refiled other_cmp p files) (in_map s)) (words_at (refiled other_cmp p files) (in_map s)) ≡ refiled other_cmp (option_map_or (drop_unnamed q) (page_at p (in_map s)) q) files
+        same : from (page_at (refiled other_cmp p files) (in_map s)) (words_at (refiled other_cmp p files) (in_map s)) ≡ refiled other_cmp (drop_copied q (page_at p (in_map s))) files
         same = ap (λ n. from n (words_at (refiled other_cmp p files) (in_map s))) (page_refiled p s) ∙ ap (from (page_at p (in_map s))) words_same ∙ copy_refiled q alike (page_at p (in_map s))
 
     files_stay : (p : PlainPages file_cmp) (m : Making K) (n : Making L) → Alike m n → (make p owner m).files ≡ p.files
@@ -125,7 +122,7 @@ module _ {K L : Type 0} {file_cmp : K → K → Ordering} (other_cmp : L → L �
         dropped n true = refl
         dropped n false = refl
 
-        by : (n : Option PageName) → (option_map_or (drop_unnamed q) n q).files ≡ p.files
+        by : (n : Option PageName) → (drop_copied q n).files ≡ p.files
         by None = refl
         by (Some n) = dropped n (uses q n == 0)
 

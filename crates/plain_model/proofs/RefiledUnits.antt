@@ -1,6 +1,6 @@
 -- Units of forks do not depend on what files are known by, and leave the pages of files.
 use Rattle.std.proofs.Common.{◌≡◌, ℕ, ◌%◌, Bool, true, false, cond, length, Option, None, Some, refl, sym, ◌∙◌, ap, subst, Ordering}
-use Rattle.std.specs.Prelude.{nat_le, slice_index, slice_set}
+use Rattle.std.specs.Prelude.{nat_le, slice_index}
 use Rattle.std.specs.List.{sum_by}
 use Rattle.std.specs.Option.{option_map_or}
 use Rattle.std.specs.FinMap as map
@@ -15,8 +15,9 @@ use Rattle.plain_model.specs.declared.unit.Put.{Put}
 use Rattle.plain_model.specs.declared.unit.TheConstants.{MOST_REFERENCES}
 use Rattle.plain_model.specs.State.{PlainPages, refiled}
 use Rattle.plain_model.specs.Orders.{file_page_cmp}
-use Rattle.plain_model.specs.References.{Referred, granted, denied, full, in_map, page_at, words_of, reference, stored, slot_at}
+use Rattle.plain_model.specs.References.{Referred, granted, denied, full, in_map, page_at, with_word, reference, stored, slot_at}
 use Rattle.plain_model.specs.Steps.{Steps, refers, widens, keeps, ends, traps, calls, Ending, Progress, Planned, done, stopped, trap, call, is_accumulator, seen, word_taken, referred, widened, goes_on, asked_at, goes, plain_asked, plainly, run, put_into, pages_left}
+use Rattle.plain_model.proofs.Lookups.{looked_up}
 use Rattle.plain_model.proofs.Whole.{tally}
 use Rattle.plain_model.proofs.Refiled.{NameAlike, refiled_result, reference_refiled, reference_leaves}
 
@@ -96,7 +97,7 @@ module _ {K L : Type 0} {file_cmp : K → K → Ordering} (other_cmp : L → L �
     unfolding page_at
     stored_refiled p s offset w = by (page_at p (in_map s))
       where
-        by : (n : Option PageName) → option_map_or (λ m. record (rekeyed p) { objects = map.insert p.objects m (slice_set (words_of p m) offset w) }) n (rekeyed p) ≡ rekeyed (option_map_or (λ m. record p { objects = map.insert p.objects m (slice_set (words_of p m) offset w) }) n p)
+        by : (n : Option PageName) → option_map_or (with_word (rekeyed p) offset w) n (rekeyed p) ≡ rekeyed (option_map_or (with_word p offset w) n p)
         by None = refl
         by (Some n) = refl
 
@@ -110,11 +111,7 @@ module _ {K L : Type 0} {file_cmp : K → K → Ordering} (other_cmp : L → L �
 
 -- a word that is stored in a map's page leaves the pages of files
 pub stored_leaves : {K : Type 0} {file_cmp : K → K → Ordering} (p : PlainPages file_cmp) (s : Slot) (offset word : ℕ) → (stored p (in_map s) offset word).files ≡ p.files
-stored_leaves p s offset word = by (page_at p (in_map s))
-  where
-    by : (n : Option PageName) → (option_map_or (λ m. record p { objects = map.insert p.objects m (slice_set (words_of p m) offset word) }) n p).files ≡ p.files
-    by None = refl
-    by (Some n) = refl
+stored_leaves {file_cmp = file_cmp} p s offset word = looked_up (λ (q : PlainPages file_cmp). q.files ≡ p.files) _ p (page_at p (in_map s)) (λ n is. refl) (λ none. refl)
 
 -- the files that a unit leaves, if it goes through
 abbrev pub LeavesFiles : {K N : Type 0} {file_cmp : K → K → Ordering} → map.FinMap (file_page_cmp file_cmp) PageName → Planned file_cmp N → Type 0

@@ -7,10 +7,11 @@ ghost use Rattle.outside.specs.declared.TheConstants.{PAGE_WORDS};
 ghost use Rattle.plain_model.specs.Events.{with_map};
 ghost use Rattle.plain_model.specs.Limits.{IsAddress};
 ghost use Rattle.plain_model.specs.Outcome.{DrumWords};
-ghost use Rattle.plain_model.specs.References.{in_map, settled, slot_at, word_at, stored};
+ghost use Rattle.plain_model.specs.References.{in_map, settled, slot_at, word_at, stored, page_at as named_at};
+ghost use Rattle.plain_model.specs.Whole.{AreWhole};
 ghost use Rattle.plain_model.specs.Pages.{PagesMeaning, Agrees, AreSingle, HasSpace, StaysInCore, StaysPut, IsPlace, IsTouched, IsReady, CanChange, IsOwner, IsBuiltMap, SettlesTo, spot_of, touch_of, peek_of, can_settle, frames_taken, is_in_core, is_seen, same_fork};
 
-use crate::{ForkName, Found, Kind, NewMap, Peeked, Place, SpaceHandle, Touch, Tty};
+use crate::{ForkName, Found, Kind, NewMap, PageName, Peeked, Place, SpaceHandle, Touch, Tty};
 use word36::Word;
 
 /// Pages under the maps of forks (CACM paper, "The memory management"). What they hold is told over
@@ -45,6 +46,11 @@ pub trait Pages {
         requires offset { offset < PAGE_WORDS }
         ensures told { (d : DrumWords) → means.fits self.now d → result ≡ peek_of (means.plain self.now d) (means.scene self.now) (spot_of at) offset }
         ensures core { means.flat ≡ true → is_seen result ≡ true };
+
+    /// The name of the page of a place, whatever the access. None exactly where no page is named there.
+    fn page_at(&self, at: Place) -> Option<PageName>
+        requires place { IsPlace (means.lives self.now) at }
+        ensures told { (d : DrumWords) → means.flat ≡ true → means.fits self.now d → result ≡ named_at (means.plain self.now d) (spot_of at) };
 
     /// Makes the zero page or the copy that a touch announces, for an owner. One page is made, in a frame.
     fn settle(&mut self, at: Place, kind: Kind, owner: Tty)
@@ -132,6 +138,9 @@ pub trait Pages {
 
     /// Over each drum that fits, the plain pages have these numbers.
     ghost agrees: { (p : Self) (d : DrumWords) → means.fits p d → Agrees means p (means.plain p d) };
+
+    /// Over each drum that fits, the plain pages are whole.
+    ghost whole: { (p : Self) (d : DrumWords) → means.fits p d → AreWhole (means.plain p d) };
 
     /// Where no entry follows another, the plain pages have none that does.
     ghost single: { (p : Self) (d : DrumWords) → means.single ≡ true → means.fits p d → AreSingle (means.plain p d).maps };
