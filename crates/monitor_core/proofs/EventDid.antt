@@ -34,15 +34,6 @@ use Rattle.plain_model.proofs.Refiled.{live_refiled}
 use Rattle.monitor_core.proofs.Rooms.{room_le, no_room_le, live_map, has_room}
 use Rattle.monitor_core.proofs.Unfiled.{named, alike}
 
-module _ {P : Type 0} {b : _} (m : System P b) where
-  pub did_idle : Did m m Idle Nothing
-  did_idle = record {
-    each = λ d f. let effect = apply_idle (state_of m d) in (f, ap (λ e. e.state) (sym effect), ap (λ e. e.items) (sym effect));
-    shown = tt;
-    within = λ entries w. within_later m entries (entries + 1) w (omega arith);
-    most = refl;
-  }
-
 module _ {P : Type 0} {b : _} (m m' : System P b) where
   pub did_tick : m'.pages ≡ m.pages → m'.jobs.items ≡ m.jobs.items → m'.fork_serials.items ≡ m.fork_serials.items → m'.clock ≡ m.clock + 1 → Did m m' (Outer Tick) Nothing
   did_tick same jobs serials clock = record {

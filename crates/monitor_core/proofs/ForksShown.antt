@@ -9,7 +9,7 @@ use Rattle.plain_model.specs.declared.fork.ForkStatus.{ForkStatus}
 use Rattle.plain_model.specs.declared.fork.ForkStatus.TheVariants.{Run, Wait, Halted, Forced}
 use Rattle.plain_model.specs.Limits.{FitsStatus}
 use Rattle.monitor_core.specs.Looking.{top_line}
-use Rattle.monitor_core.specs.Sound.{FitsForced}
+use Rattle.monitor_core.specs.Limits.{FitsForced}
 use Rattle.plain_model.specs.Orders.{fork_cmp}
 use Rattle.plain_model.proofs.OrderLemmas.{fork_cmp_total}
 use Rattle.plain_model.specs.declared.names.Tty.{Tty}

@@ -1,8 +1,8 @@
 -- Items and steps that are given in pieces.
-use Rattle.std.proofs.Common.{◌≡◌, ℕ, ◌<◌, ◌+◌, List, [], ◌∷◌, ◌++◌, length, take, drop, get_or, sym, ◌∙◌, ap, arith, take-append-drop}
+use Rattle.std.proofs.Common.{◌≡◌, ℕ, ◌<◌, ◌≤◌, ◌+◌, ◌-◌, replicate, List, [], ◌∷◌, ◌++◌, length, take, drop, get_or, sym, ◌∙◌, ap, arith, take-append-drop}
 use Rattle.std.specs.Prelude.{Result, Ok, Err, OnErr, codes}
 use Rattle.std.specs.Result.{IsErr}
-use Rattle.std.proofs.lemmas.List.{map-append, drop_more}
+use Rattle.std.proofs.lemmas.List.{map-append, drop_more, replicate-append-replicate}
 use Rattle.std.proofs.lemmas.Result.{on_ok_weaker, on_err_weaker}
 use Rattle.plain_model.specs.declared.character.TheConstants.{CARRIAGE_RETURN, LINE_FEED, PROMPT}
 use Rattle.plain_model.specs.declared.names.Tty.{Tty}
@@ -28,6 +28,10 @@ printed_split t text i h = ap (printed t) (sym (take-append-drop i text)) ∙ pr
 
 pub printed_three : (t : Tty) (xs ys zs : List ℕ) → printed t (xs ++ (ys ++ zs)) ≡ printed t xs ++ (printed t ys ++ printed t zs)
 printed_three t xs ys zs = printed_append t xs (ys ++ zs) ∙ ap (λ l. printed t xs ++ l) (printed_append t ys zs)
+
+-- so many equal steps, and the last of them
+pub last_of : (count : ℕ) (step : Step) → 1 ≤ count → replicate (count - 1) step ++ step ∷ [] ≡ replicate count step
+last_of count step some = let all : count - 1 + 1 ≡ count = omega (arith, some) in replicate-append-replicate (count - 1) 1 step ∙ ap (λ n. replicate n step) all
 
 -- a fact that holds, holds of an error
 pub on_err : {X E P : Type 0} (r : Result X E) → P → OnErr r P

@@ -32,7 +32,7 @@ use Rattle.plain_model.specs.Unit.{Effect}
 use Rattle.plain_model.specs.References.{slot_at}
 use Rattle.plain_model.specs.Events.{refused, poked, with_accumulator, restarted, word_seen, outer}
 use Rattle.plain_model.proofs.Equations.{apply_outer, outer_poke, outer_start, outer_examine, outer_forks}
-use Rattle.plain_model.proofs.Refiled.{refiled_result}
+use Rattle.plain_model.proofs.Refiled.{refiled_result, reference_leaves}
 use Rattle.plain_model.specs.Orders.{name_cmp}
 use Rattle.monitor_core.specs.declared.job.Job.{Job}
 use Rattle.monitor_core.specs.declared.job_event.JobEvent.{JobEvent}
@@ -47,9 +47,9 @@ use Rattle.monitor_core.specs.Replies.{reply_items, FitsReply}
 use Rattle.monitor_core.specs.Sound.{IsJob}
 use Rattle.monitor_core.specs.Systems.{state_of, FitsPages, IsWithin, Did, most_makings}
 use Rattle.monitor_core.specs.Writing.{write_of, left_by, IsWritten, Makes, Writes, with_word}
-use Rattle.monitor_core.proofs.Fetches.{below, not_below}
+use Rattle.monitor_core.proofs.Looks.{below, not_below}
 use Rattle.monitor_core.proofs.Lookups.{job_found, job_missing, fork_found, fork_missing}
-use Rattle.monitor_core.proofs.Making.{stored_files, reference_files}
+use Rattle.plain_model.proofs.RefiledUnits.{stored_leaves}
 use Rattle.monitor_core.proofs.Sounds.{split_at, job_worded}
 use Rattle.monitor_core.proofs.Systems.{owns, state_set, units_set}
 use Rattle.monitor_core.proofs.Unfiled.{named, reference_named}
@@ -174,7 +174,7 @@ was_granted t full q h = absurd (cc h)
 
 written_files : {p q : NumberedPages} {at : Slot} {offset word : ℕ} (r : Result (Unit {0}) Cause) → IsWritten p q at offset word r → q.files ≡ p.files
 written_files {p} {q} {at} {offset} {word} (Ok done) w =
-    ap (λ x. x.files) (w.store done refl) ∙ stored_files w.ready at offset word ∙ reference_files nat_cmp_total at Write at.fork.tty p w.ready (was_granted at.fork.tty (reference p (in_map at) Write at.fork.tty) w.ready w.readied.refers)
+    ap (λ x. x.files) (w.store done refl) ∙ stored_leaves w.ready at offset word ∙ reference_leaves at.fork.tty p w.ready at Write (was_granted at.fork.tty (reference p (in_map at) Write at.fork.tty) w.ready w.readied.refers)
 written_files (Err cause) w = ap (λ x. x.files) w.stays
 
 module _ {P : Type 0} {b : _} (m m' : System P b) (t : Tty) (e : JobEvent) (j : Job) (at : job_at m.jobs.items t.0 ≡ Some j) where
@@ -189,7 +189,7 @@ module _ {P : Type 0} {b : _} (m m' : System P b) (t : Tty) (e : JobEvent) (j : 
     later : (entries : ℕ) → IsWithin m entries → k.top.body.units ≡ j.top.body.units → ((u : Tty) → b.means.serial m'.pages u ≤ most_makings * (entries + 1) + 1) → IsWithin m' (entries + 1)
     later entries w units made = record {
       ticks = omega (arith, clock, w.ticks);
-      units = λ u i e. units_set m entries t.0 j k w at (omega (arith, units, w.units t.0 j at)) u i (ap (λ js. job_at js u) (sym set_to) ∙ e);
+      units = λ u i e. units_set m entries (entries + 1) t.0 j k w (omega arith) at (omega (arith, units, w.units t.0 j at)) u i (ap (λ js. job_at js u) (sym set_to) ∙ e);
       serials = made;
     }
 

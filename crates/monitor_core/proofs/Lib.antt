@@ -1,5 +1,4 @@
 mod Making
-mod Fetches
 mod Looks
 mod Writes
 mod Given
@@ -9,6 +8,8 @@ mod Lookups
 mod Sounds
 mod Unfiled
 mod UnitEffect
+mod Rows
+mod UnitRan
 mod Systems
 mod UnitDid
 mod JobDid

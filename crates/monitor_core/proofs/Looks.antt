@@ -1,5 +1,6 @@
 -- What a look at a word finds, as the word that is there.
-use Rattle.std.proofs.Common.{◌≡◌, ℕ, ◌≤◌, ◌%◌, cond, Option, None, Some, refl, sym, ◌∙◌, ap, slice_index}
+use Rattle.std.proofs.Common.{◌≡◌, ℕ, ◌<◌, ◌≤◌, true, false, arith, nat_lt, ◌%◌, cond, Option, None, Some, refl, sym, ◌∙◌, ap, slice_index}
+use Rattle.std.proofs.lemmas.Bool.Decides.{nat_tests}
 use Rattle.std.specs.Option.{option_map, option_map_or}
 use Rattle.outside.specs.declared.TheConstants.{PAGE_WORDS}
 use Rattle.plain_model.specs.declared.names.TheConstants.{ACCUMULATORS}
@@ -13,7 +14,12 @@ use Rattle.plain_model.specs.References.{in_map, page_at, words_of}
 use Rattle.plain_model.specs.References.{slot_at}
 use Rattle.plain_model.specs.Pages.{Scene, peek_of, away_or, map_away, page_away}
 use Rattle.monitor_core.specs.Looking.{word_in}
-use Rattle.monitor_core.proofs.Fetches.{not_below}
+
+pub below : (a : ℕ) → a < ACCUMULATORS → nat_lt a ACCUMULATORS ≡ true
+below a h = grind (arith, nat_tests)
+
+pub not_below : (a : ℕ) → ACCUMULATORS ≤ a → nat_lt a ACCUMULATORS ≡ false
+not_below a h = grind (arith, nat_tests)
 
 -- what is found is what is there
 abbrev pub found : Option ℕ → Peeked

@@ -4,29 +4,27 @@ use Rattle.std.proofs.lemmas.Bool.{cases_eq, cases_Bool}
 use Rattle.std.proofs.lemmas.Bool.Decides.{nat_tests}
 use Rattle.std.proofs.lemmas.List.{get_or_default}
 use Rattle.std.specs.Int.{bit_at}
-use Rattle.plain_model.specs.declared.opcode.TheConstants.{JSYS, MOVEI, JRST}
 use Rattle.plain_model.specs.declared.call.TheConstants.{PBOUT, HALTF}
-use Rattle.plain_model.specs.declared.channel.TheConstants.{ILLEGAL_INSTRUCTION}
+use Rattle.plain_model.specs.declared.channel.TheConstants.{OVERFLOW, PUSHDOWN_OVERFLOW, ILLEGAL_INSTRUCTION}
 use Rattle.plain_model.specs.declared.names.TheConstants.{TERMINALS, LAST_SERIAL, ACCUMULATORS}
 use Rattle.plain_model.specs.declared.names.Tty.{Tty}
 use Rattle.plain_model.specs.declared.names.ForkName.{ForkName}
 use Rattle.plain_model.specs.declared.fork.Fork.{Fork}
+use Rattle.plain_model.specs.declared.fork.Regs.{Regs}
 use Rattle.plain_model.specs.declared.fork.ForkStatus.TheVariants.{Forced as AForced, Halted as AHalted}
 use Rattle.plain_model.specs.Forks.{top_fork, first_regs, psi_at_rest, with_regs, with_status, counted}
 use Rattle.plain_model.specs.Events.{restarted}
 use Rattle.plain_model.specs.Interrupts.{posted, pended, is_panic}
 use Rattle.plain_model.specs.Pages.{PagesMeaning, same_fork}
-use Rattle.plain_model.specs.Unit.{Deed, goes, calls, traps, deed_of, advanced, movei, jrst, index_bits}
-use Rattle.plain_model.specs.Addressing.{opcode, ac_field}
-use Rattle.word36.specs.Words.{right}
+use Rattle.plain_model.specs.Unit.{advanced, posted_if}
+use Rattle.ka10_unit.specs.declared.committed.Post.{Post}
+use Rattle.ka10_unit.specs.declared.committed.Post.TheVariants.{Nothing, Overflow, Pushdown}
+use Rattle.ka10_unit.specs.Commits.{channel_of}
 use Rattle.monitor_core.specs.declared.job.Job.{Job}
-use Rattle.monitor_core.specs.declared.fetch.Fetched.{Fetched}
-use Rattle.monitor_core.specs.declared.fetch.Fetched.TheVariants.{Word, Blank, Trap}
-use Rattle.monitor_core.specs.Fetch.{fork_fetched, FitsFetch}
-use Rattle.monitor_core.specs.ForkUnit.{fork_after}
+use Rattle.monitor_core.specs.ForkUnit.{Kept, called_fork, ran_on}
 use Rattle.monitor_core.specs.Jobs.{job_at}
-use Rattle.monitor_core.specs.JobUnit.{job_fetched}
-use Rattle.monitor_core.specs.Sound.{FitsForced, IsJob, AreSound}
+use Rattle.monitor_core.specs.Limits.{FitsForced}
+use Rattle.monitor_core.specs.Sound.{IsJob, AreSound}
 use Rattle.monitor_core.specs.Writing.{with_word}
 
 -- what stands in a list stands there whatever is beyond it
@@ -46,67 +44,64 @@ posted_off f channel off panic =
     ap (λ b. cond (b && is_some f.body.psi.table && (bit_at f.body.psi.active channel == 1)) (pended f channel) (cond (is_panic channel) (with_status f (AForced channel)) f)) off
     ∙ ap (λ b. cond b (with_status f (AForced channel)) f) panic
 
--- what a unit keeps of a fork
-pub record Kept (f g : Fork) : Type 0 where
-  pub name : g.name ≡ f.name
-  pub slot : g.slot ≡ f.slot
-  pub superior : g.superior ≡ f.superior
-  pub status : FitsForced f.body.status → FitsForced g.body.status
-  pub on : g.body.psi.on ≡ f.body.psi.on
-  pub pc : g.body.regs.pc < 2 ^ 18
-  pub accumulators : length g.body.regs.ac ≡ ACCUMULATORS
-  pub units : g.body.units ≡ f.body.units + 1
-
--- the limits of a deed
-abbrev pub FitsDeed : Fork → Deed → Type 0
-FitsDeed f (goes regs) = (regs.pc < 2 ^ 18) × (length regs.ac ≡ ACCUMULATORS)
-FitsDeed f (calls number) = Unit {0}
-FitsDeed f (traps channel) = (is_panic channel ≡ true) × (channel < 36)
+-- and another channel is dropped
+pub dropped_off : (f : Fork) (channel : ℕ) → f.body.psi.on ≡ false → is_panic channel ≡ false → posted f channel ≡ f
+dropped_off f channel off other =
+    ap (λ b. cond (b && is_some f.body.psi.table && (bit_at f.body.psi.active channel == 1)) (pended f channel) (cond (is_panic channel) (with_status f (AForced channel)) f)) off
+    ∙ ap (λ b. cond b (with_status f (AForced channel)) f) other
 
 forced_fits : (channel : ℕ) → channel < 36 → FitsForced (AForced channel)
 forced_fits channel few c h = let same : channel ≡ c = cc h in omega (arith, few, same)
 
-module _ (f : Fork) (off : f.body.psi.on ≡ false) (pc : f.body.regs.pc < 2 ^ 18) (accumulators : length f.body.regs.ac ≡ ACCUMULATORS) where
-  trap_keeps : (channel : ℕ) → is_panic channel ≡ true → channel < 36 → Kept f (counted (posted f channel))
-  trap_keeps channel panic few = subst (λ g. Kept f (counted g)) (sym (posted_off f channel off panic)) (record { name = refl; slot = refl; superior = refl; status = λ h. forced_fits channel few; on = refl; pc = pc; accumulators = accumulators; units = refl })
+-- a fork behind a unit that left these registers
+module _ (f : Fork) (off : f.body.psi.on ≡ false) (regs : Regs) (pc : regs.pc < 2 ^ 18) (accumulators : length regs.ac ≡ ACCUMULATORS) where
+  -- a channel forced it
+  pub forced_keeps : (channel : ℕ) → is_panic channel ≡ true → channel < 36 → Kept f (counted (posted (with_regs f regs) channel)) 1
+  forced_keeps channel panic few =
+      subst (λ g. Kept f (counted g) 1) (sym (posted_off (with_regs f regs) channel off panic)) (record { name = refl; slot = refl; superior = refl; status = λ h. forced_fits channel few; on = refl; pc = pc; accumulators = accumulators; units = refl })
+
+  plain_keeps : Kept f (counted (with_regs f regs)) 1
+  plain_keeps = record { name = refl; slot = refl; superior = refl; status = λ s. s; on = refl; pc = pc; accumulators = accumulators; units = refl }
+
+  -- it is done, and its post forces it or is dropped
+  pub ended_keeps : (post : Post) → Kept f (counted (posted_if (with_regs f regs) (channel_of post))) 1
+  ended_keeps Nothing = plain_keeps
+  ended_keeps Overflow = subst (λ g. Kept f (counted g) 1) (sym (dropped_off (with_regs f regs) OVERFLOW off refl)) plain_keeps
+  ended_keeps Pushdown = forced_keeps PUSHDOWN_OVERFLOW refl (omega arith)
 
   wrapped : (n : ℕ) → n % 2 ^ 18 < 2 ^ 18
   wrapped n = omega arith
 
-  fits_if : (b : Bool) (d e : Deed) → FitsDeed f d → FitsDeed f e → FitsDeed f (cond b d e)
-  fits_if true d e p q = p
-  fits_if false d e p q = q
-
-  pub deed_fits : (w : ℕ) → FitsDeed f (deed_of f.body.regs w)
-  deed_fits w =
-      let regs = f.body.regs in
-      let last = cond (opcode w == JSYS) (calls (right w)) (traps ILLEGAL_INSTRUCTION) in
-      let middle = cond ((opcode w == JRST) && (ac_field w == 0)) (jrst regs w) last in
-      let illegal : FitsDeed f (traps ILLEGAL_INSTRUCTION) = (refl, omega arith) in
-      fits_if (index_bits w == 0) (cond (opcode w == MOVEI) (movei regs w) middle) (traps ILLEGAL_INSTRUCTION)
-      (fits_if (opcode w == MOVEI) (movei regs w) middle (wrapped (regs.pc + 1), length-set regs.ac (ac_field w) (right w) ∙ accumulators)
-      (fits_if ((opcode w == JRST) && (ac_field w == 0)) (jrst regs w) last (wrapped w, accumulators) (fits_if (opcode w == JSYS) (calls (right w)) (traps ILLEGAL_INSTRUCTION) tt illegal)))
-      illegal
-
-  kept_if : (b : Bool) (g h : Fork) → Kept f g → Kept f h → Kept f (cond b g h)
+  kept_if : (b : Bool) (g h : Fork) → Kept f g 1 → Kept f h 1 → Kept f (cond b g h) 1
   kept_if true g h p q = p
   kept_if false g h p q = q
 
-  deed_keeps : (d : Deed) → FitsDeed f d → Kept f (fork_after f d)
-  deed_keeps (goes regs) h = record { name = refl; slot = refl; superior = refl; status = λ s. s; on = refl; pc = h.0; accumulators = h.1; units = refl }
-  deed_keeps (calls number) h =
-      let printed = counted (with_regs f (advanced f.body.regs)) in
-      let halted = counted (with_status (with_regs f (advanced f.body.regs)) AHalted) in
-      let forced = counted (posted f ILLEGAL_INSTRUCTION) in
-      let kept_printed : Kept f printed = record { name = refl; slot = refl; superior = refl; status = λ s. s; on = refl; pc = wrapped (f.body.regs.pc + 1); accumulators = accumulators; units = refl } in
-      let kept_halted : Kept f halted = record { name = refl; slot = refl; superior = refl; status = λ s c h. absurd (cc h); on = refl; pc = wrapped (f.body.regs.pc + 1); accumulators = accumulators; units = refl } in
-      kept_if (number == PBOUT) printed (cond (number == HALTF) halted forced) kept_printed (kept_if (number == HALTF) halted forced kept_halted (trap_keeps ILLEGAL_INSTRUCTION refl (omega arith)))
-  deed_keeps (traps channel) h = trap_keeps channel h.0 h.1
+  -- it is a monitor call
+  pub called_keeps : (number : ℕ) → Kept f (called_fork (with_regs f regs) number) 1
+  called_keeps number =
+      let printed = counted (with_regs f (advanced regs)) in
+      let halted = counted (with_status (with_regs f (advanced regs)) AHalted) in
+      let forced = counted (posted (with_regs f regs) ILLEGAL_INSTRUCTION) in
+      let kept_printed : Kept f printed 1 = record { name = refl; slot = refl; superior = refl; status = λ s. s; on = refl; pc = wrapped (regs.pc + 1); accumulators = accumulators; units = refl } in
+      let kept_halted : Kept f halted 1 = record { name = refl; slot = refl; superior = refl; status = λ s c h. absurd (cc h); on = refl; pc = wrapped (regs.pc + 1); accumulators = accumulators; units = refl } in
+      kept_if (number == PBOUT) printed (cond (number == HALTF) halted forced) kept_printed (kept_if (number == HALTF) halted forced kept_halted (forced_keeps ILLEGAL_INSTRUCTION refl (omega arith)))
 
-  pub fetch_keeps : (fetched : Fetched) → FitsFetch fetched → Kept f (fork_fetched f fetched)
-  fetch_keeps (Word w) h = deed_keeps (deed_of f.body.regs w) (deed_fits w)
-  fetch_keeps Blank h = trap_keeps ILLEGAL_INSTRUCTION refl (omega arith)
-  fetch_keeps (Trap channel) h = trap_keeps channel h.0 h.1
+-- so many units that left these registers and posted nothing
+pub row_keeps : (f : Fork) (n : ℕ) (regs : Regs) → regs.pc < 2 ^ 18 → length regs.ac ≡ ACCUMULATORS → Kept f (ran_on f n regs) n
+row_keeps f n regs pc accumulators = record { name = refl; slot = refl; superior = refl; status = λ s. s; on = refl; pc = pc; accumulators = accumulators; units = refl }
+
+-- and one more
+pub one_more_keeps : (f g h : Fork) (n : ℕ) → Kept f g n → Kept g h 1 → Kept f h (n + 1)
+one_more_keeps f g h n a b = record {
+  name = b.name ∙ a.name;
+  slot = b.slot ∙ a.slot;
+  superior = b.superior ∙ a.superior;
+  status = λ s. b.status (a.status s);
+  on = b.on ∙ a.on;
+  pc = b.pc;
+  accumulators = b.accumulators;
+  units = omega (arith, a.units, b.units);
+}
 
 itself : (f : ForkName) → same_fork f f ≡ true
 itself f = grind (arith, nat_tests, rules)
@@ -115,22 +110,20 @@ or_true : (b c : Bool) → c ≡ true → (b || c) ≡ true
 or_true true c h = refl
 or_true false c h = h
 
--- a job after a unit is a job
-pub job_runs : (t : ℕ) (j : Job) (fetched : Fetched) → IsJob t j → FitsFetch fetched → IsJob t (job_fetched j fetched)
-job_runs t j fetched i h =
-    let k = fetch_keeps j.top i.off i.pc i.accumulators fetched h in
-    record {
-      terminal = ap (λ n. n.tty.0) k.name ∙ i.terminal;
-      low = i.low;
-      first = subst (λ n. 1 ≤ n.serial) (sym k.name) i.first;
-      last = subst (λ n. n.serial ≤ LAST_SERIAL) (sym k.name) i.last;
-      top = k.superior ∙ i.top;
-      slot = k.slot ∙ i.slot;
-      status = k.status i.status;
-      off = k.on ∙ i.off;
-      pc = k.pc;
-      accumulators = k.accumulators;
-    }
+-- a job after units is a job
+pub job_runs : (t count : ℕ) (j k : Job) → IsJob t j → Kept j.top k.top count → IsJob t k
+job_runs t count j k i kept = record {
+  terminal = ap (λ n. n.tty.0) kept.name ∙ i.terminal;
+  low = i.low;
+  first = subst (λ n. 1 ≤ n.serial) (sym kept.name) i.first;
+  last = subst (λ n. n.serial ≤ LAST_SERIAL) (sym kept.name) i.last;
+  top = kept.superior ∙ i.top;
+  slot = kept.slot ∙ i.slot;
+  status = kept.status i.status;
+  off = kept.on ∙ i.off;
+  pc = kept.pc;
+  accumulators = kept.accumulators;
+}
 
 -- a job whose top fork is started again
 pub job_restarts : (t address : ℕ) (j k : Job) → IsJob t j → address < 2 ^ 18 → k.top ≡ restarted address j.top → IsJob t k
@@ -190,6 +183,7 @@ module _ {P : Type 0} (means : PagesMeaning P) (p : P) (jobs : List (Option Job)
       let found : (u : ℕ) (i : Job) → u ≡ t → job_at (set jobs t (Some k)) u ≡ Some i → k ≡ i = λ u i same e. let f : Some k ≡ Some i = sym here ∙ ap (job_at (set jobs t (Some k))) (sym same) ∙ e in cc f in
       record {
         flat = s.flat;
+        single = s.single;
         roomy = s.roomy;
         job_room = length-set jobs t (Some k) ∙ s.job_room;
         serial_room = s.serial_room;
@@ -226,6 +220,7 @@ module _ {P : Type 0} (means : PagesMeaning P) (p : P) (jobs : List (Option Job)
       let job = job_begins t f k own low first last top in
       record {
         flat = s.flat;
+        single = s.single;
         roomy = s.roomy;
         job_room = length-set jobs t.0 (Some k) ∙ s.job_room;
         serial_room = length-set serials t.0 (f.serial + 1) ∙ s.serial_room;

@@ -1,27 +1,32 @@
 -- Steps of a machine, given to a taker.
-use Rattle.std.proofs.Common.{◌≡◌, ℕ, ◌+◌, ◌<◌, ◌∷◌, ◌++◌, List, [], Bool, true, refl, sym, ◌∙◌, subst, arith, length-append}
+use Rattle.std.proofs.Common.{◌≡◌, ℕ, zero, suc, ◌+◌, ◌≤◌, ◌∷◌, ◌++◌, List, [], Bool, true, refl, sym, ◌∙◌, ap, subst, arith, replicate, length-append}
 use Rattle.std.specs.Prelude.{Result, Ok, Err, OnOk, OnErr}
-use Rattle.std.proofs.lemmas.List.{append-nil}
+use Rattle.std.specs.Result.{IsErr}
+use Rattle.std.proofs.lemmas.List.{append-nil, length-replicate}
 use Rattle.plain_model.specs.declared.event.Event.{Event}
 use Rattle.plain_model.specs.declared.event.Event.TheVariants.{Run, Auto}
 use Rattle.plain_model.specs.declared.event.Item.{Item}
 use Rattle.plain_model.specs.declared.event.Step.{Step}
-use Rattle.plain_model.specs.declared.event.Step.TheVariants.{Outer, Unit as AUnit, Idle}
+use Rattle.plain_model.specs.declared.event.Step.TheVariants.{Outer, Idle}
 use Rattle.plain_model.specs.State.{PlainState}
 use Rattle.plain_model.specs.Outcome.{DrumWords, Gave}
 use Rattle.plain_model.specs.Taker.{GoesOn, IsCut}
-use Rattle.plain_model.specs.Run.{apply, shape_of, single, FollowsOne, FollowsShape, Begins, BeginsShape, auto_after}
+use Rattle.plain_model.specs.Run.{apply, state_after, items_of, shape_of, single, IsTurn, AreTurns, AreLegal, IsLegalStep, FollowsOne, FollowsShape, Begins, BeginsShape, auto_after}
+use Rattle.plain_model.specs.Unit.{Effect}
+use Rattle.plain_model.proofs.Equations.{apply_idle}
 use Rattle.plain_model.proofs.Runs.{onward_nil, AreTurns-append, gave_none, gave_append, gave_cut}
 use Rattle.monitor_core.specs.declared.machine.Machine.{Machine}
+use Rattle.monitor_core.specs.declared.system.System.{System}
 use Rattle.monitor_core.specs.declared.reply.Reply.{Reply}
 use Rattle.monitor_core.specs.declared.reply.Reply.TheVariants.{Nothing, One, Prints, Forks}
 use Rattle.monitor_core.specs.declared.shown.Shown.TheVariants.{Nothing as ShowsNothing, Code, LineEnd, Halted, Forced}
-use Rattle.monitor_core.specs.Acts.{event_of, Given, Cut, Acted}
-use Rattle.monitor_core.specs.Giving.{StaysTaker, Takes}
+use Rattle.monitor_core.specs.Acts.{Given, Cut, Acted, TookTurns}
+use Rattle.monitor_core.specs.Giving.{TookAll}
 use Rattle.monitor_core.specs.Machines.{Fits, plain, done, auto, is_live}
 use Rattle.monitor_core.specs.Replies.{reply_items, is_silent}
-use Rattle.monitor_core.specs.Systems.{CanDo, Did, FitsPages, state_of}
+use Rattle.monitor_core.specs.Systems.{CanDo, Did, DidAll, FitsPages, state_of}
 use Rattle.monitor_core.proofs.Runnable.{is_legal}
+use Rattle.monitor_core.proofs.Systems.{within_later}
 
 -- a reply that is silent has no item
 pub silent_items : (s : PlainState) (reply : Reply) → is_silent reply ≡ true → reply_items s reply ≡ []
@@ -34,62 +39,132 @@ silent_items s (Prints t Halted) h = absurd (cc h)
 silent_items s (Prints t (Forced channel)) h = absurd (cc h)
 silent_items s (Forks t) h = absurd (cc h)
 
--- the entry of a step follows and begins its event
-follows_step : {P : Type 0} {b : _} (m : Machine P b) (step : Step) → CanDo m.system step → FollowsOne (event_of step) (step ∷ [])
-follows_step m (Outer e) can = subst (λ s. FollowsShape s e (Outer e ∷ [])) (sym can.0.1) refl
-follows_step m (AUnit f) can = (refl, (tt, tt))
-follows_step m Idle can = (refl, (tt, tt))
+-- the entry of an event that is one follows it
+follows_event : (e : Event) → shape_of e ≡ single → FollowsOne e (Outer e ∷ [])
+follows_event e is = subst (λ s. FollowsShape s e (Outer e ∷ [])) (sym is) refl
 
-begins_step : {P : Type 0} {b : _} (m : Machine P b) (step : Step) → CanDo m.system step → Begins (event_of step) (step ∷ [])
-begins_step m (Outer e) can = subst (λ s. BeginsShape s e (Outer e ∷ [])) (sym can.0.1) refl
-begins_step m (AUnit f) can = (omega arith, (tt, tt))
-begins_step m Idle can = (omega arith, (tt, tt))
+begins_event : (e : Event) → shape_of e ≡ single → Begins e (Outer e ∷ [])
+begins_event e is = subst (λ s. BeginsShape s e (Outer e ∷ [])) (sym is) refl
 
 -- and leaves the AUTO mark
 single_mark : (mark : Bool) (e : Event) → shape_of e ≡ single → auto_after mark e ≡ mark
 single_mark mark (Auto on) h = absurd (cc h)
 single_mark mark e h = refl
 
-step_mark : {P : Type 0} {b : _} (m : Machine P b) (mark : Bool) (step : Step) → CanDo m.system step → auto_after mark (event_of step) ≡ mark
-step_mark m mark (Outer e) can = single_mark mark e can.0.1
-step_mark m mark (AUnit f) can = refl
-step_mark m mark Idle can = refl
+-- so many equal turns are turns
+are_turns : (n : ℕ) (step : Step) → IsTurn step → AreTurns (replicate n step)
+are_turns zero step h = tt
+are_turns (suc n) step h = (h, are_turns n step h)
+
+-- a step that is done is one of so many
+pub did_one : {P : Type 0} {b : _} (m m' : System P b) (step : Step) (reply : Reply) → CanDo m step → Did m m' step reply → DidAll m m' step 1 reply
+did_one m m' step reply can did = record {
+  fits = λ d f. (did.each d f).0;
+  legal = λ d f. (is_legal m d step can, tt);
+  state = λ d f. (did.each d f).1;
+  items = λ d f. (did.each d f).2 ∙ sym (append-nil (apply (state_of m d) step).items);
+  shown = did.shown;
+  within = did.within;
+  most = did.most;
+}
+
+-- idle entries leave a state, and show nothing
+record Idles (s : PlainState) (n : ℕ) : Type 0 where
+  state : state_after s (replicate n Idle) ≡ s
+  items : items_of s (replicate n Idle) ≡ []
+  legal : AreLegal true s (replicate n Idle)
+
+all_idle : (s : PlainState) (n : ℕ) → IsLegalStep true s Idle → Idles s n
+all_idle s zero none = record { state = refl; items = refl; legal = tt }
+all_idle s (suc n) none =
+    let rest = all_idle s n none in
+    let one = apply_idle s in
+    record {
+      state = ap (λ (e : Effect). state_after e.state (replicate n Idle)) one ∙ rest.state;
+      items = ap (λ (e : Effect). e.items ++ items_of e.state (replicate n Idle)) one ∙ rest.items;
+      legal = (none, subst (λ (e : Effect). AreLegal true e.state (replicate n Idle)) (sym one) rest.legal);
+    }
+
+-- idle entries, where no fork can run
+pub did_idle : {P : Type 0} {b : _} (m : System P b) (count : ℕ) → CanDo m Idle → DidAll m m Idle count Nothing
+did_idle m count can = record {
+  fits = λ d f. f;
+  legal = λ d f. (all_idle (state_of m d) count (is_legal m d Idle can)).legal;
+  state = λ d f. sym (all_idle (state_of m d) count (is_legal m d Idle can)).state;
+  items = λ d f. sym (all_idle (state_of m d) count (is_legal m d Idle can)).items;
+  shown = tt;
+  within = λ entries w. within_later m entries (entries + count) w (omega arith);
+  most = refl;
+}
 
 module _ {P : Type 0} {b : _} {T : Type 0} (fault_count : T → ℕ) (onward : T → T → Type 0) (stands cut : T → T → List Item → List Step → Type 0) where
-  -- a step that was done, and given behind the items of its reply
-  pub step_acted : {X E : Type 0} (m m' : Machine P b) (out out' : T) (r : Result X E) (step : Step) (reply : Reply) → CanDo m.system step → Did m.system m'.system step reply → StaysTaker fault_count onward out out' r
-      → ((d : DrumWords) → Takes stands cut out out' r (reply_items (state_of m'.system d) reply) (step ∷ [])) → done m' ≡ done m + 1 → auto m' ≡ auto m → is_live m' ≡ is_live m
-      → Acted fault_count onward stands cut m m' out out' r (event_of step)
-  step_acted {X} {E} m m' out out' r step reply can did taker takes count mark live = record {
-    taker = taker;
-    ok = all r takes;
-    err = part r takes;
-    mark = mark ∙ sym (step_mark m (auto m) step can);
+  module _ (m m' : Machine P b) (out out' : T) (step : Step) (count : ℕ) (reply : Reply) (event : Event) (did : DidAll m.system m'.system step count reply) where
+    -- equal steps that were done, given behind what they show
+    all_given : FollowsOne event (replicate count step) → done m' ≡ done m + count → ((d : DrumWords) → GoesOn stands out out' (reply_items (state_of m'.system d) reply) (replicate count step)) → Given stands m m' out out' event
+    all_given follows counts given = record {
+      steps = replicate count step;
+      follows = follows;
+      count = omega (arith, counts, length-replicate count step);
+      each = λ d f. (did.fits d f, record { legal = did.legal d f; state = did.state d f; given = subst (λ is. GoesOn stands out out' is (replicate count step)) (did.items d f) (given d) });
+    }
+
+    all_cut : Begins event (replicate count step) → ((d : DrumWords) → IsCut stands cut out out' (reply_items (state_of m'.system d) reply) (replicate count step)) → Cut stands cut m out out' event
+    all_cut begins given = record {
+      steps = replicate count step;
+      begins = begins;
+      each = λ d f. record { legal = did.legal d f; given = subst (λ is. IsCut stands cut out out' is (replicate count step)) (did.items d f) (given d) };
+    }
+
+  -- the step of an event that was done, and given behind the items of its reply
+  pub step_acted : {X E : Type 0} (m m' : Machine P b) (out out' : T) (r : Result X E) (e : Event) (reply : Reply) → CanDo m.system (Outer e) → Did m.system m'.system (Outer e) reply
+      → TookAll fault_count onward stands cut out out' r (λ d. reply_items (state_of m'.system d) reply) (Outer e ∷ []) → done m' ≡ done m + 1 → auto m' ≡ auto m → is_live m' ≡ is_live m
+      → Acted fault_count onward stands cut m m' out out' r e
+  step_acted {X} {E} m m' out out' r e reply can did took count mark live = record {
+    taker = took.taker;
+    ok = all r (λ d. (took.given d).ok);
+    err = part r (λ d. (took.given d).err);
+    mark = mark ∙ sym (single_mark (auto m) e can.0.1);
     live = live;
     most = did.most;
   }
     where
-      its_items : (d : DrumWords) → Fits m d → reply_items (state_of m'.system d) reply ≡ (apply (plain m d) step).items ++ []
-      its_items d f = (did.each d f).2 ∙ sym (append-nil (apply (plain m d) step).items)
+      one : DidAll m.system m'.system (Outer e) 1 reply
+      one = did_one m.system m'.system (Outer e) reply can did
 
-      all : (r : Result X E) → ((d : DrumWords) → Takes stands cut out out' r (reply_items (state_of m'.system d) reply) (step ∷ [])) → OnOk r (Given stands m m' out out' (event_of step))
-      all (Err e) takes = tt
-      all (Ok x) takes = record {
-        steps = step ∷ [];
-        follows = follows_step m step can;
-        count = count;
-        each = λ d f.
-            let new = did.each d f in
-            (new.0, record { legal = (is_legal m.system d step can, tt); state = new.1; given = subst (λ is. GoesOn stands out out' is (step ∷ [])) (its_items d f) (takes d).ok });
-      }
+      all : (r : Result X E) → ((d : DrumWords) → OnOk r (GoesOn stands out out' (reply_items (state_of m'.system d) reply) (Outer e ∷ []))) → OnOk r (Given stands m m' out out' e)
+      all (Err c) given = tt
+      all (Ok x) given = all_given m m' out out' (Outer e) 1 reply e one (follows_event e can.0.1) count given
 
-      part : (r : Result X E) → ((d : DrumWords) → Takes stands cut out out' r (reply_items (state_of m'.system d) reply) (step ∷ [])) → OnErr r (Cut stands cut m out out' (event_of step))
-      part (Ok x) takes = tt
-      part (Err e) takes = record {
-        steps = step ∷ [];
-        begins = begins_step m step can;
-        each = λ d f. record { legal = (is_legal m.system d step can, tt); given = subst (λ is. IsCut stands cut out out' is (step ∷ [])) (its_items d f) (takes d).err };
-      }
+      part : (r : Result X E) → ((d : DrumWords) → OnErr r (IsCut stands cut out out' (reply_items (state_of m'.system d) reply) (Outer e ∷ []))) → OnErr r (Cut stands cut m out out' e)
+      part (Ok x) given = tt
+      part (Err c) given = all_cut m m' out out' (Outer e) 1 reply e one (begins_event e can.0.1) given
+
+  -- equal turns that were done, and given behind the items of the reply
+  module _ {E : Type 0} (m m' : Machine P b) (out out' : T) (step : Step) (turn : IsTurn step) (count left : ℕ) (some : 1 ≤ count) (few : count ≤ left) (reply : Reply) (did : DidAll m.system m'.system step count reply) (counts : done m' ≡ done m + count) (mark : auto m' ≡ auto m) (live : is_live m' ≡ is_live m) where
+    pub turns_given : {X F : Type 0} (x : X) → TookAll {E = F} fault_count onward stands cut out out' (Ok x) (λ d. reply_items (state_of m'.system d) reply) (replicate count step) → TookTurns {E = E} fault_count onward stands cut m m' out out' (Ok count) left
+    turns_given x took = record {
+      taker = record { later = took.taker.later; cause = tt; goes_on = took.taker.goes_on };
+      some = some;
+      few = few;
+      ok = all_given m m' out out' step count reply (Run count) did (length-replicate count step, are_turns count step turn) counts (λ d. (took.given d).ok);
+      err = tt;
+      mark = mark;
+      live = live;
+      most = did.most;
+    }
+
+    pub turns_cut : {X F : Type 0} (failed : F) (r : Result ℕ E) → IsErr r → TookAll {X = X} fault_count onward stands cut out out' (Err failed) (λ d. reply_items (state_of m'.system d) reply) (replicate count step) → TookTurns fault_count onward stands cut m m' out out' r left
+    turns_cut failed (Ok n) is took = absurd (cc is)
+    turns_cut failed (Err e) is took = record {
+      taker = record { later = took.taker.later; cause = took.taker.cause; goes_on = took.taker.goes_on };
+      some = tt;
+      few = tt;
+      ok = tt;
+      err = all_cut m m' out out' step count reply (Run left) did (omega (arith, length-replicate count step, few), are_turns count step turn) (λ d. (took.given d).err);
+      mark = mark;
+      live = live;
+      most = did.most;
+    }
 
   -- an event without an entry
   pub nothing_given : (m m' : Machine P b) (out : T) (e : Event) → FollowsOne e [] → m'.system ≡ m.system → m'.done ≡ m.done → Given stands m m' out out e
@@ -110,23 +185,23 @@ module _ {P : Type 0} {b : _} {T : Type 0} (fault_count : T → ℕ) (onward : T
     most = refl;
   }
 
-  module _ (m n : Machine P b) (a c : T) (k : ℕ) (so_far : Given stands m n a c (Run k)) where
-    -- a turn more
-    pub turn_more : (m' : Machine P b) (out : T) → Given stands n m' c out (Run 1) → Given stands m m' a out (Run (k + 1))
-    turn_more m' out turn = record {
-      steps = so_far.steps ++ turn.steps;
-      follows = (omega (arith, length-append so_far.steps turn.steps, so_far.follows.0, turn.follows.0), AreTurns-append so_far.steps turn.steps so_far.follows.1 turn.follows.1);
-      count = omega (arith, length-append so_far.steps turn.steps, so_far.count, turn.count);
+  module _ (m mid : Machine P b) (a c : T) (k : ℕ) (so_far : Given stands m mid a c (Run k)) where
+    -- turns more
+    pub turns_more : (m' : Machine P b) (out : T) (n total : ℕ) → k + n ≡ total → Given stands mid m' c out (Run n) → Given stands m m' a out (Run total)
+    turns_more m' out n total is turns = record {
+      steps = so_far.steps ++ turns.steps;
+      follows = (omega (arith, length-append so_far.steps turns.steps, so_far.follows.0, turns.follows.0, is), AreTurns-append so_far.steps turns.steps so_far.follows.1 turns.follows.1);
+      count = omega (arith, length-append so_far.steps turns.steps, so_far.count, turns.count);
       each = λ d f.
           let x = so_far.each d f in
-          let y = turn.each d x.0 in
-          (y.0, gave_append stands true a c out (plain m d) (plain n d) (plain m' d) so_far.steps turn.steps x.1 y.1);
+          let y = turns.each d x.0 in
+          (y.0, gave_append stands true a c out (plain m d) (plain mid d) (plain m' d) so_far.steps turns.steps x.1 y.1);
     }
 
-    -- a failure within a turn more
-    pub turn_cut : (out : T) (count : ℕ) → k < count → Cut stands cut n c out (Run 1) → Cut stands cut m a out (Run count)
-    turn_cut out count below turn = record {
-      steps = so_far.steps ++ turn.steps;
-      begins = (omega (arith, length-append so_far.steps turn.steps, so_far.follows.0, turn.begins.0, below), AreTurns-append so_far.steps turn.steps so_far.follows.1 turn.begins.1);
-      each = λ d f. let x = so_far.each d f in gave_cut stands cut true a c out (plain m d) (plain n d) so_far.steps turn.steps x.1 (turn.each d x.0);
+    -- a failure within turns more
+    pub more_cut : (out : T) (left total : ℕ) → k + left ≤ total → Cut stands cut mid c out (Run left) → Cut stands cut m a out (Run total)
+    more_cut out left total within turns = record {
+      steps = so_far.steps ++ turns.steps;
+      begins = (omega (arith, length-append so_far.steps turns.steps, so_far.follows.0, turns.begins.0, within), AreTurns-append so_far.steps turns.steps so_far.follows.1 turns.begins.1);
+      each = λ d f. let x = so_far.each d f in gave_cut stands cut true a c out (plain m d) (plain mid d) so_far.steps turns.steps x.1 (turns.each d x.0);
     }

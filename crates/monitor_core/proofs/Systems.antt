@@ -43,12 +43,12 @@ module _ {P : Type 0} {b : _} where
       λ i. record (state_of m d) { pages = named (b.means.plain m'.pages d); jobs = jobs i; forks = forks_is i; fork_serials = serials i; clock = clock i }
 
   -- the units of the jobs where one of them has another top fork
-  pub units_set : (m : System P b) (entries t : ℕ) (j k : Job) → IsWithin m entries → job_at m.jobs.items t ≡ Some j → k.top.body.units ≤ entries + 1 → (u : ℕ) (i : Job) → job_at (set m.jobs.items t (Some k)) u ≡ Some i → i.top.body.units ≤ entries + 1
-  units_set m entries t j k w at few u i e = elim (cases_eq u t) [
+  pub units_set : (m : System P b) (entries later t : ℕ) (j k : Job) → IsWithin m entries → entries ≤ later → job_at m.jobs.items t ≡ Some j → k.top.body.units ≤ later → (u : ℕ) (i : Job) → job_at (set m.jobs.items t (Some k)) u ≡ Some i → i.top.body.units ≤ later
+  units_set m entries later t j k w more at few u i e = elim (cases_eq u t) [
     | inl same ↦
         let f : Some k ≡ Some i = sym (get_or-set_same m.jobs.items t (Some k) None (low_terminal m t j at)) ∙ ap (job_at (set m.jobs.items t (Some k))) (sym same) ∙ e in
-        let is : k ≡ i = cc f in subst (λ x. x.top.body.units ≤ entries + 1) is few
-    | inr ne ↦ omega (arith, w.units u i (sym (get_or-set_other m.jobs.items t u (Some k) None ne) ∙ e))
+        let is : k ≡ i = cc f in subst (λ x. x.top.body.units ≤ later) is few
+    | inr ne ↦ omega (arith, more, w.units u i (sym (get_or-set_other m.jobs.items t u (Some k) None ne) ∙ e))
   ]
 
   -- nothing is counted but an entry

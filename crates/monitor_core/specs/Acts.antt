@@ -1,20 +1,13 @@
 -- What a machine gave a taker of an event.
-use Rattle.std.specs.Prelude.{◌≡◌, ℕ, ◌+◌, List, length, true, Result, OnOk, OnErr}
+use Rattle.std.specs.Prelude.{◌≡◌, ℕ, ◌+◌, ◌≤◌, List, length, true, Result, OnOk, OnErr, IfOk}
 use Rattle.plain_model.specs.declared.event.Event.{Event}
 use Rattle.plain_model.specs.declared.event.Event.TheVariants.{Run}
 use Rattle.plain_model.specs.declared.event.Step.{Step}
-use Rattle.plain_model.specs.declared.event.Step.TheVariants.{Outer, Unit as AUnit, Idle}
 use Rattle.plain_model.specs.Outcome.{DrumWords, Gave, GaveCut}
 use Rattle.plain_model.specs.Run.{FollowsOne, Begins, auto_after}
 use Rattle.monitor_core.specs.declared.machine.Machine.{Machine}
 use Rattle.monitor_core.specs.Machines.{Fits, plain, limit, done, auto, is_live}
 use Rattle.monitor_core.specs.Giving.{Standing, StaysTaker}
-
--- the event of which a step is an entry: itself, or a RUN of one turn
-abbrev pub event_of : Step → Event
-event_of (Outer e) = e
-event_of (AUnit f) = Run 1
-event_of Idle = Run 1
 
 -- the event's steps were given, and lead from the old plain state to the new one, with no idle entry where a fork can run
 pub record Given {P : Type 0} {b : _} {T : Type 0} (stands : Standing T) (m m' : Machine P b) (out out' : T) (event : Event) : Type 0 where
@@ -35,5 +28,16 @@ pub record Acted {P : Type 0} {b : _} {T X E : Type 0} (fault_count : T → ℕ)
   pub ok : OnOk result (Given stands m m' out out' event)
   pub err : OnErr result (Cut stands cut m out out' event)
   pub mark : auto m' ≡ auto_after (auto m) event
+  pub live : is_live m' ≡ is_live m
+  pub most : limit m' ≡ limit m
+
+-- the machine took turns of a run, so many at most: it says how many were given, or the taker failed
+pub record TookTurns {P : Type 0} {b : _} {T E : Type 0} (fault_count : T → ℕ) (onward : T → T → Type 0) (stands cut : Standing T) (m m' : Machine P b) (out out' : T) (result : Result ℕ E) (left : ℕ) : Type 0 where
+  pub taker : StaysTaker fault_count onward out out' result
+  pub some : IfOk result (λ n. 1 ≤ n)
+  pub few : IfOk result (λ n. n ≤ left)
+  pub ok : IfOk result (λ n. Given stands m m' out out' (Run n))
+  pub err : OnErr result (Cut stands cut m out out' (Run left))
+  pub mark : auto m' ≡ auto m
   pub live : is_live m' ≡ is_live m
   pub most : limit m' ≡ limit m

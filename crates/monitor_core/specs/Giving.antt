@@ -21,7 +21,11 @@ pub record Takes {T X E : Type 0} (stands cut : Standing T) (old new : T) (resul
   pub ok : OnOk result (GoesOn stands old new items steps)
   pub err : OnErr result (IsCut stands cut old new items steps)
 
--- it took these items, over whatever drum they are told, or is cut within them
-pub record TookItems {T X E : Type 0} (fault_count : T → ℕ) (onward : T → T → Type 0) (stands cut : Standing T) (old new : T) (result : Result X E) (items : DrumWords → List Item) : Type 0 where
+-- it took these items and steps, over whatever drum they are told, or is cut within them
+pub record TookAll {T X E : Type 0} (fault_count : T → ℕ) (onward : T → T → Type 0) (stands cut : Standing T) (old new : T) (result : Result X E) (items : DrumWords → List Item) (steps : List Step) : Type 0 where
   pub taker : StaysTaker fault_count onward old new result
-  pub given : (d : DrumWords) → Takes stands cut old new result (items d) []
+  pub given : (d : DrumWords) → Takes stands cut old new result (items d) steps
+
+-- the same of items alone
+abbrev pub TookItems : {T X E : Type 0} → (T → ℕ) → (T → T → Type 0) → Standing T → Standing T → T → T → Result X E → (DrumWords → List Item) → Type 0
+TookItems fault_count onward stands cut old new result items = TookAll fault_count onward stands cut old new result items []

@@ -1,11 +1,10 @@
-pub mod Instructions
+pub mod Limits
 pub mod Shown
-pub mod ForkUnit
 pub mod Jobs
-pub mod Fetch
-pub mod JobUnit
 pub mod Holding
 pub mod Writing
+pub mod ForkUnit
+pub mod JobUnit
 pub mod Looking
 pub mod Sound
 pub mod Replies

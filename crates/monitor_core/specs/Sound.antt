@@ -2,15 +2,10 @@
 use Rattle.std.specs.Prelude.{◌≡◌, ℕ, ◌+◌, ◌<◌, ◌≤◌, ◌^◌, List, length, true, false, Option, None, Some, slice_index}
 use Rattle.plain_model.specs.declared.names.TheConstants.{TERMINALS, LAST_SERIAL, ACCUMULATORS}
 use Rattle.plain_model.specs.declared.names.Tty.{Tty}
-use Rattle.plain_model.specs.declared.fork.ForkStatus.{ForkStatus}
-use Rattle.plain_model.specs.declared.fork.ForkStatus.TheVariants.{Forced}
 use Rattle.plain_model.specs.Pages.{PagesMeaning}
 use Rattle.monitor_core.specs.declared.job.Job.{Job}
 use Rattle.monitor_core.specs.Jobs.{job_at}
-
--- the channel by which a fork was forced is one of the 36
-abbrev pub FitsForced : ForkStatus → Type 0
-FitsForced status = (channel : ℕ) → status ≡ Forced channel → channel < 36
+use Rattle.monitor_core.specs.Limits.{FitsForced}
 
 -- a job of a terminal: its one fork is the top fork, in the first slot, and takes no channel
 pub record IsJob (t : ℕ) (j : Job) : Type 0 where
@@ -26,9 +21,10 @@ pub record IsJob (t : ℕ) (j : Job) : Type 0 where
   pub accumulators : length j.top.body.regs.ac ≡ ACCUMULATORS
 
 -- the jobs are of the terminals below this number, and their top forks live; a terminal without a job has no fork; the next
--- serials are serials, or the one behind the last; and the pages are in memory alone, with room for a fork of each terminal
+-- serials are serials, or the one behind the last; and the pages are in memory alone and none follows another, with room for a fork of each terminal
 pub record AreSound {P : Type 0} (means : PagesMeaning P) (p : P) (jobs : List (Option Job)) (serials : List ℕ) (terminals : ℕ) : Type 0 where
   pub flat : means.flat ≡ true
+  pub single : means.single ≡ true
   pub roomy : 0 < means.most_forks
   pub job_room : length jobs ≡ TERMINALS
   pub serial_room : length serials ≡ TERMINALS

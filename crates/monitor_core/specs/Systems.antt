@@ -1,5 +1,5 @@
 -- The plain state that a system stands for, and what one step does to it.
-use Rattle.std.specs.Prelude.{◌≡◌, ℕ, ◌+◌, ◌*◌, ◌≤◌, List, false, Option, Some}
+use Rattle.std.specs.Prelude.{◌≡◌, ℕ, ◌+◌, ◌*◌, ◌≤◌, List, true, false, Option, Some, replicate}
 use Rattle.std.specs.FinMap as map
 use Rattle.plain_model.specs.declared.names.Tty.{Tty}
 use Rattle.plain_model.specs.declared.names.ForkName.{ForkName}
@@ -10,7 +10,7 @@ use Rattle.plain_model.specs.Orders.{name_cmp}
 use Rattle.plain_model.specs.State.{PlainState, refiled}
 use Rattle.plain_model.specs.Limits.{FitsStep, IsBuilt}
 use Rattle.plain_model.specs.Outcome.{DrumWords}
-use Rattle.plain_model.specs.Run.{apply}
+use Rattle.plain_model.specs.Run.{apply, state_after, items_of, AreLegal}
 use Rattle.monitor_core.specs.declared.job.Job.{Job}
 use Rattle.monitor_core.specs.declared.reply.Reply.{Reply}
 use Rattle.monitor_core.specs.declared.system.System.{System}
@@ -64,4 +64,15 @@ pub record Did {P : Type 0} {b : _} (old new : System P b) (step : Step) (reply 
       → FitsPages new d × (state_of new d ≡ (apply (state_of old d) step).state) × (reply_items (state_of new d) reply ≡ (apply (state_of old d) step).items)
   pub shown : FitsReply new.jobs.items reply
   pub within : (entries : ℕ) → IsWithin old entries → IsWithin new (entries + 1)
+  pub most : b.means.most new.pages ≡ b.means.most old.pages
+
+-- So many equal steps are done: over each drum that fits they are legal, the system stands for the state that they leave,
+-- and the reply is what they show.
+pub record DidAll {P : Type 0} {b : _} (old new : System P b) (step : Step) (count : ℕ) (reply : Reply) : Type 0 where
+  pub fits : (d : DrumWords) → FitsPages old d → FitsPages new d
+  pub legal : (d : DrumWords) → FitsPages old d → AreLegal true (state_of old d) (replicate count step)
+  pub state : (d : DrumWords) → FitsPages old d → state_of new d ≡ state_after (state_of old d) (replicate count step)
+  pub items : (d : DrumWords) → FitsPages old d → reply_items (state_of new d) reply ≡ items_of (state_of old d) (replicate count step)
+  pub shown : FitsReply new.jobs.items reply
+  pub within : (entries : ℕ) → IsWithin old entries → IsWithin new (entries + count)
   pub most : b.means.most new.pages ≡ b.means.most old.pages

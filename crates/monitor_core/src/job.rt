@@ -6,23 +6,17 @@ ghost use Rattle.plain_model.specs.Forks.{top_fork};
 ghost use Rattle.plain_model.specs.Limits.{FitsCause, FitsItem, IsAddress, IsTerminal};
 ghost use Rattle.plain_model.specs.Outcome.{DrumWords};
 ghost use Rattle.plain_model.specs.References.{slot_at as slot_of};
-ghost use Rattle.monitor_core.specs.Fetch.{FitsFetch, fork_fetched, shown_fetched};
 ghost use Rattle.monitor_core.specs.ForkUnit.{CanUnit};
 ghost use Rattle.monitor_core.specs.Holding.{Holds};
-ghost use Rattle.monitor_core.specs.JobUnit.{job_fetched};
+ghost use Rattle.monitor_core.specs.JobUnit.{JobRan};
 ghost use Rattle.monitor_core.specs.Jobs.{no_jobs};
 ghost use Rattle.monitor_core.specs.Looking.{examined_in, item_of, top_line};
-ghost use Rattle.monitor_core.specs.Shown.{FitsShown};
 ghost use Rattle.monitor_core.specs.Writing.{Makes, Writes, with_word};
 
 use crate::address::{offset_in_page, slot_at};
-use crate::fetch::Fetched;
-use crate::instruction::decoded;
 use crate::looking::seen_word;
-use crate::shown::Shown;
-use crate::unit::{performed, trapped};
+use crate::unit::{Units, run_units};
 use crate::writing::write_word;
-use plain_model::channel::ILLEGAL_INSTRUCTION;
 use plain_model::{
     ACCUMULATORS, Body, DirName, Fork, ForkLine, ForkName, ForkStatus, Item, Pages, Psi, Refusal,
     Regs, TERMINALS, TerminalMode,
@@ -36,22 +30,6 @@ pub struct Job {
     pub user: DirName,
     pub mode: TerminalMode,
     pub top: Fork,
-}
-
-// Does the unit of what a fork fetched.
-#[inline]
-fn ran_fork(fork: &mut Fork, fetched: Fetched) -> Shown
-    requires can { CanUnit fork.old }
-    requires fetched { FitsFetch fetched }
-    ensures fork { fork.new ≡ fork_fetched fork.old fetched }
-    ensures shown { result ≡ shown_fetched fork.old fetched }
-    ensures fits { FitsShown result }
-{
-    match fetched {
-        Fetched::Word(word) => performed(fork, decoded(word)),
-        Fetched::Blank => trapped(fork, ILLEGAL_INSTRUCTION),
-        Fetched::Trap(channel) => trapped(fork, channel),
-    }
 }
 
 impl Job {
@@ -163,20 +141,25 @@ impl Job {
         }
     }
 
-    /// Does the unit of what the top fork fetched. Where the fork stops, the monitor reads the terminal.
+    /// Units of the top fork in a row, at least one and so many at most. Where the fork stops, the monitor
+    /// reads the terminal.
     #[inline]
-    pub fn ran(&mut self, fetched: Fetched) -> Shown
+    pub fn ran<P: Pages>(&mut self, pages: &mut P, most: u32) -> Units
         requires can { CanUnit self.old.top }
-        requires fetched { FitsFetch fetched }
-        ensures job { self.new ≡ job_fetched self.old fetched }
-        ensures shown { result ≡ shown_fetched self.old.top fetched }
-        ensures fits { FitsShown result }
+        requires few { self.old.top.body.units < 2 ^ 62 }
+        requires holds { Holds P.means pages.old self.old.top.name }
+        requires single { P.means.single ≡ true }
+        requires serial { P.means.serial pages.old self.old.top.name.tty < 2 ^ 61 }
+        requires some { 1 ≤ most }
+        ensures ran { JobRan P.means pages.old pages.new self.old self.new result }
+        ensures some { 1 ≤ result.count }
+        ensures few { result.count ≤ most }
     {
-        let shown = ran_fork(&mut self.top, fetched);
-        if shown.is_stop() {
+        let ran = run_units(&mut self.top, pages, most);
+        if ran.shown.is_stop() {
             self.mode = TerminalMode::Command;
         }
-        shown
+        ran
     }
 }
 

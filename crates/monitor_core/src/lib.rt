@@ -1,12 +1,10 @@
 //! The monitor's machine, over any pages: jobs and their forks, and one event after another, done as steps.
 //! To the layers above `Machine::event` gives a taker legal steps that follow the event, with their items.
-//! Stands on `plain_model` for the definitions and the contracts of pages and takers.
+//! Stands on `plain_model` for the definitions and the contracts of pages and takers, on `ka10_unit` for units.
 #![tactic(auto)]
 
 mod address;
-mod fetch;
 mod giving;
-mod instruction;
 mod job;
 mod job_event;
 mod looking;

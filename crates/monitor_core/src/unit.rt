@@ -1,23 +1,31 @@
-// One unit, as far as it concerns its own fork.
-ghost use Rattle.std.specs.Prelude.{◌≡◌, ◌<◌, ◌+◌, ◌%◌, ◌^◌, length, true, false};
+// Units of one fork, as far as they concern it and its pages.
+ghost use Rattle.std.specs.Prelude.{◌≡◌, ◌<◌, ◌≤◌, ◌+◌, ◌%◌, ◌^◌, length, true, false};
 ghost use Rattle.plain_model.specs.Forks.{counted};
 ghost use Rattle.plain_model.specs.Interrupts.{posted, is_panic};
-ghost use Rattle.plain_model.specs.Unit.{advanced};
-ghost use Rattle.monitor_core.specs.Instructions.{deed_by, IsInstruction};
+ghost use Rattle.plain_model.specs.Unit.{advanced, posted_if};
+ghost use Rattle.ka10_unit.specs.Commits.{channel_of};
+ghost use Rattle.monitor_core.specs.Holding.{Holds};
 ghost use Rattle.monitor_core.specs.Shown.{code_shown, FitsShown};
-ghost use Rattle.monitor_core.specs.ForkUnit.{CanUnit, fork_after, shown_after};
+ghost use Rattle.monitor_core.specs.ForkUnit.{CanUnit, Ran, RanOne, called_fork, called_shown, post_shown};
 
-use crate::instruction::Instruction;
 use crate::shown::Shown;
+use ka10_unit::{End, Outcome, Post, burst, slow_unit};
 use plain_model::call::{HALTF, PBOUT};
-use plain_model::channel::ILLEGAL_INSTRUCTION;
+use plain_model::channel::{ILLEGAL_INSTRUCTION, PUSHDOWN_OVERFLOW};
 use plain_model::character::LINE_END;
-use plain_model::{ACCUMULATORS, Fork, ForkStatus, Regs};
+use plain_model::{ACCUMULATORS, Fork, ForkStatus, Pages, Regs};
 use word36::Word;
 
-/// A unit traps: it changes nothing, and the fork is forced by the channel.
-#[inline]
-pub fn trapped(fork: &mut Fork, channel: u8) -> Shown
+/// Units of a fork in a row: how many, at least one, and what the last of them shows. Those before it show
+/// nothing.
+#[derive(Clone, Copy, Debug, PartialEq, Eq)]
+pub struct Units {
+    pub count: u32,
+    pub shown: Shown,
+}
+
+// A unit is over that posts a panic channel to its fork, which takes none: the fork is forced.
+fn forced(fork: &mut Fork, channel: u8) -> Shown
     requires off { fork.old.body.psi.on ≡ false }
     requires panic { is_panic channel ≡ true }
     requires few { fork.old.body.units < 2 ^ 63 }
@@ -29,8 +37,24 @@ pub fn trapped(fork: &mut Fork, channel: u8) -> Shown
     Shown::Forced(channel)
 }
 
+// A unit is done that posts a channel, if it does: an overflow is dropped, as no fork takes it.
+fn ended(fork: &mut Fork, post: Post) -> Shown
+    requires off { fork.old.body.psi.on ≡ false }
+    requires few { fork.old.body.units < 2 ^ 63 }
+    ensures fork { fork.new ≡ counted (posted_if fork.old (channel_of post)) }
+    ensures shown { result ≡ post_shown (channel_of post) }
+    ensures fits { FitsShown result }
+{
+    match post {
+        Post::Nothing | Post::Overflow => {
+            fork.body.units += 1;
+            Shown::Nothing
+        }
+        Post::Pushdown => forced(fork, PUSHDOWN_OVERFLOW),
+    }
+}
+
 // The program counter goes on by one, modulo 2^18.
-#[inline]
 fn advance(regs: &mut Regs)
     requires { regs.old.pc < 2 ^ 18 }
     ensures { regs.new ≡ advanced regs.old }
@@ -51,11 +75,14 @@ fn shown_code(word: Word) -> Shown
     }
 }
 
-// A turn of a monitor call.
+// A turn of a monitor call; a number that is no call traps.
 fn called(fork: &mut Fork, number: u32) -> Shown
-    requires can { CanUnit fork.old }
-    ensures fork { fork.new ≡ fork_after fork.old (deed_by fork.old.body.regs (Instruction.Jsys number)) }
-    ensures shown { result ≡ shown_after fork.old (deed_by fork.old.body.regs (Instruction.Jsys number)) }
+    requires off { fork.old.body.psi.on ≡ false }
+    requires few { fork.old.body.units < 2 ^ 63 }
+    requires pc { fork.old.body.regs.pc < 2 ^ 18 }
+    requires accumulators { length fork.old.body.regs.ac ≡ ACCUMULATORS }
+    ensures fork { fork.new ≡ called_fork fork.old number }
+    ensures shown { result ≡ called_shown fork.old number }
     ensures fits { FitsShown result }
 {
     match number {
@@ -71,35 +98,59 @@ fn called(fork: &mut Fork, number: u32) -> Shown
             fork.body.units += 1;
             Shown::Halted
         }
-        _ => trapped(fork, ILLEGAL_INSTRUCTION),
+        _ => forced(fork, ILLEGAL_INSTRUCTION),
     }
 }
 
-/// Does an instruction of a fork.
-#[inline]
-pub fn performed(fork: &mut Fork, instruction: Instruction) -> Shown
+// One unit of a fork, whatever it wants.
+fn one_unit<P: Pages>(fork: &mut Fork, pages: &mut P) -> Shown
     requires can { CanUnit fork.old }
-    requires instruction { IsInstruction instruction }
-    ensures fork { fork.new ≡ fork_after fork.old (deed_by fork.old.body.regs instruction) }
-    ensures shown { result ≡ shown_after fork.old (deed_by fork.old.body.regs instruction) }
-    ensures fits { FitsShown result }
+    requires few { fork.old.body.units < 2 ^ 63 }
+    requires holds { Holds P.means pages.old fork.old.name }
+    requires single { P.means.single ≡ true }
+    requires serial { P.means.serial pages.old fork.old.name.tty < 2 ^ 61 }
+    ensures { RanOne P.means pages.old pages.new fork.old fork.new result }
 {
-    match instruction {
-        Instruction::Movei {
-            accumulator,
-            address,
-        } => {
-            fork.body.regs.ac[accumulator] = Word::join(0, address);
-            advance(&mut fork.body.regs);
-            fork.body.units += 1;
-            Shown::Nothing
-        }
-        Instruction::Jrst(address) => {
-            fork.body.regs.pc = address;
-            fork.body.units += 1;
-            Shown::Nothing
-        }
-        Instruction::Jsys(number) => called(fork, number),
-        Instruction::Illegal => trapped(fork, ILLEGAL_INSTRUCTION),
+    match slow_unit(&mut fork.body.regs, pages, fork.name) {
+        Outcome::Done(post) => ended(fork, post),
+        Outcome::Trap(channel) => forced(fork, channel),
+        Outcome::Call(number) => called(fork, number),
+    }
+}
+
+/// Units of a fork in a row, at least one and so many at most: as many as go in place and post nothing, and
+/// the one behind them, where there is room for it.
+#[inline]
+pub fn run_units<P: Pages>(fork: &mut Fork, pages: &mut P, most: u32) -> Units
+    requires can { CanUnit fork.old }
+    requires few { fork.old.body.units < 2 ^ 62 }
+    requires holds { Holds P.means pages.old fork.old.name }
+    requires single { P.means.single ≡ true }
+    requires serial { P.means.serial pages.old fork.old.name.tty < 2 ^ 61 }
+    requires some { 1 ≤ most }
+    ensures ran { Ran P.means pages.old pages.new fork.old fork.new result }
+    ensures some { 1 ≤ result.count }
+    ensures few { result.count ≤ most }
+{
+    let space = pages.space(fork.name);
+    let burst = burst(&mut fork.body.regs, pages, space, most);
+    fork.body.units += u64::from(burst.units);
+    match burst.end {
+        End::Most => Units {
+            count: burst.units,
+            shown: Shown::Nothing,
+        },
+        End::Overflow => Units {
+            count: burst.units + 1,
+            shown: ended(fork, Post::Overflow),
+        },
+        End::Pushdown => Units {
+            count: burst.units + 1,
+            shown: ended(fork, Post::Pushdown),
+        },
+        End::Slow => Units {
+            count: burst.units + 1,
+            shown: one_unit(fork, pages),
+        },
     }
 }

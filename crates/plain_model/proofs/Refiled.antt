@@ -175,10 +175,9 @@ module _ {K L : Type 0} {file_cmp : K → K → Ordering} (other_cmp : L → L �
         by rest true g = rest g ∙ files_stay p m n h.0
         by rest false g = absurd (cc g)
 
-    -- and it leaves the pages of files
-    pub reference_leaves : (p q : PlainPages file_cmp) (s : Slot) (kind : Kind) → reference p (in_map s) kind owner ≡ granted q → q.files ≡ p.files
+    leaves : (p q : PlainPages file_cmp) (s : Slot) (kind : Kind) → reference p (in_map s) kind owner ≡ granted q → q.files ≡ p.files
     unfolding reference makings
-    reference_leaves p q s kind refers = by (chain (entry_at p.maps) s) refers
+    leaves p q s kind refers = by (chain (entry_at p.maps) s) refers
       where
         permitted : (c : Chain) (b : Bool) → option_map_or (make_all p owner) (if b then Some (blanks c ++ copies kind c) else None) (denied kind) ≡ granted q → q.files ≡ p.files
         permitted c true g = all_stay (blanks c ++ copies kind c) (blanks c ++ copies kind c) p q (listed K L c kind c.page) g
@@ -187,3 +186,7 @@ module _ {K L : Type 0} {file_cmp : K → K → Ordering} (other_cmp : L → L �
         by : (oc : Option Chain) → option_map_or (make_all p owner) (option_and_then (along_chain kind) oc) (denied kind) ≡ granted q → q.files ≡ p.files
         by None g = absurd (cc g)
         by (Some c) g = permitted c (permits kind c) g
+
+-- and it leaves the pages of files
+pub reference_leaves : {K : Type 0} {file_cmp : K → K → Ordering} (owner : Tty) (p q : PlainPages file_cmp) (s : Slot) (kind : Kind) → reference p (in_map s) kind owner ≡ granted q → q.files ≡ p.files
+reference_leaves {file_cmp = file_cmp} owner p q s kind refers = leaves file_cmp p.files owner p q s kind refers

@@ -59,7 +59,7 @@ module _ {K L : Type 0} {file_cmp : K → K → Ordering} (other_cmp : L → L �
           s = slot_at f a
 
           told : (r : Referred file_cmp) → reference t.pages (in_map s) kind f.tty ≡ r → goes_on (plain_asked (refiled_result other_cmp r files)) next_refiled ≡ refiled_plan (goes_on (plain_asked r) next)
-          told (granted q) is = same q (still_alike t.pages q alike (reference_leaves other_cmp files f.tty t.pages q s kind is))
+          told (granted q) is = same q (still_alike t.pages q alike (reference_leaves f.tty t.pages q s kind is))
           told (denied k) is = refl
           told full is = refl
 
@@ -109,6 +109,10 @@ module _ {K L : Type 0} {file_cmp : K → K → Ordering} (other_cmp : L → L �
     pub left_refiled : (t : Progress file_cmp) (e : Ending) → pages_left f (refiled_progress t) e ≡ rekeyed (pages_left f t e)
     left_refiled t e = ap (λ p. put_into f p e.put) (put_refiled t.pages t.kept) ∙ put_refiled (put_into f t.pages t.kept) e.put
 
+-- a word that is stored in a map's page leaves the pages of files
+pub stored_leaves : {K : Type 0} {file_cmp : K → K → Ordering} (p : PlainPages file_cmp) (s : Slot) (offset word : ℕ) → (stored p (in_map s) offset word).files ≡ p.files
+stored_leaves {file_cmp = file_cmp} p s offset word = looked_up (λ (q : PlainPages file_cmp). q.files ≡ p.files) _ p (page_at p (in_map s)) (λ n is. refl) (λ none. refl)
+
 -- the files that a unit leaves, if it goes through
 abbrev pub LeavesFiles : {K N : Type 0} {file_cmp : K → K → Ordering} → map.FinMap (file_page_cmp file_cmp) PageName → Planned file_cmp N → Type 0
 LeavesFiles files (done t e) = t.pages.files ≡ files
@@ -120,7 +124,7 @@ module _ {K : Type 0} {file_cmp : K → K → Ordering} (f : ForkName) where
   asked_leaves p a kind next rest = by (is_accumulator a)
     where
       told : (r : Referred file_cmp) → reference p (in_map (slot_at f a)) kind f.tty ≡ r → LeavesFiles p.files (goes_on (plain_asked r) next)
-      told (granted q) is = subst (λ files. LeavesFiles files (next q)) (reference_leaves file_cmp p.files f.tty p q (slot_at f a) kind is) (rest q)
+      told (granted q) is = subst (λ files. LeavesFiles files (next q)) (reference_leaves f.tty p q (slot_at f a) kind is) (rest q)
       told (denied k) is = tt
       told full is = tt
 
@@ -145,10 +149,10 @@ module _ {K : Type 0} {file_cmp : K → K → Ordering} (f : ForkName) where
   run_leaves (traps channel) t = tt
   run_leaves (calls number) t = tt
 
-  -- and so do its stores
   put_leaves : (p : PlainPages file_cmp) (put : Option Put) → (put_into f p put).files ≡ p.files
   put_leaves p None = refl
-  put_leaves p (Some put) = looked_up (λ (q : PlainPages file_cmp). q.files ≡ p.files) _ p (page_at p (in_map (slot_at f put.at))) (λ n is. refl) (λ none. refl)
+  put_leaves p (Some put) = stored_leaves p (slot_at f put.at) (put.at % PAGE_WORDS) put.word
 
+  -- and so do the words that it stores
   pub left_leaves : (t : Progress file_cmp) (e : Ending) → (pages_left f t e).files ≡ t.pages.files
   left_leaves t e = put_leaves (put_into f t.pages t.kept) e.put ∙ put_leaves t.pages t.kept

@@ -13,7 +13,6 @@ mod example;
 mod fork;
 mod map;
 mod names;
-pub mod opcode;
 mod pages;
 mod taker;
 mod text;

@@ -10,7 +10,7 @@ ghost use Rattle.monitor_core.specs.Acts.{Acted};
 
 use crate::machine::{Ended, Machine};
 use outside::{Drum, Failed};
-use plain_model::{Event, Pages, Step, Taker};
+use plain_model::{Event, Pages, Taker};
 
 impl<P: Pages> Machine<P> {
     // Does an event, and gives its steps.
@@ -28,7 +28,7 @@ impl<P: Pages> Machine<P> {
                 self.auto = on;
                 Ok(())
             }
-            _ => self.step(Step::Outer(e), out),
+            _ => self.step(e, out),
         }
     }
 

@@ -1,44 +1,73 @@
-// The steps of a machine, given to a taker: one, one turn of a run, and so many of them.
-ghost use Rattle.std.specs.Prelude.{◌<◌, ◌^◌, ◌≤◌};
+// The steps of a machine, given to a taker: one, some turns of a run, and so many of them.
+ghost use Rattle.std.specs.Prelude.{◌≡◌, ◌<◌, ◌^◌, ◌+◌, ◌≤◌};
 ghost use Rattle.plain_model.specs.declared.event.Event.{Event as AnEvent};
-ghost use Rattle.monitor_core.specs.Systems.{CanDo};
+ghost use Rattle.plain_model.specs.declared.event.Step.{Step as AStep};
+ghost use Rattle.plain_model.specs.declared.names.ForkName.{ForkName as AForkName};
+ghost use Rattle.monitor_core.specs.Systems.{CanDo, CanRun};
 ghost use Rattle.monitor_core.specs.Machines.{done};
-ghost use Rattle.monitor_core.specs.Acts.{Acted, event_of};
+ghost use Rattle.monitor_core.specs.Acts.{Acted, TookTurns};
 
 use crate::machine::Machine;
+use crate::reply::Reply;
 use outside::Failed;
-use plain_model::{Pages, Step, Taker};
+use plain_model::{Event, ForkName, Pages, Step, Taker};
 
 impl<P: Pages> Machine<P> {
-    /// Does a step, counts it, and gives it behind the items that it shows.
-    #[inline(always)]
-    pub(crate) fn step<T: Taker>(&mut self, step: Step, out: &mut T) -> Result<(), Failed>
-        requires can { CanDo self.old.system step }
+    /// Does an event that is one step, counts it, and gives it behind the items that it shows.
+    pub(crate) fn step<T: Taker>(&mut self, e: Event, out: &mut T) -> Result<(), Failed>
+        requires can { CanDo self.old.system (AStep.Outer e) }
         requires few { done self.old < 2 ^ 52 }
-        ensures { Acted T.fault_count T.onward T.stands T.cut self.old self.new out.old out.new result (event_of step) }
+        ensures { Acted T.fault_count T.onward T.stands T.cut self.old self.new out.old out.new result e }
     {
-        let reply = self.system.apply(&step);
+        let reply = self.system.apply(&e);
         self.done += 1;
-        if reply.is_silent() {
-            // Most units show nothing: their step goes straight to the taker.
-            return out.step(step);
-        }
-        self.system.give(reply, out)?;
-        out.step(step)
+        self.system.give_all(&Step::Outer(e), 1, reply, out)
     }
 
-    // One turn of a run: a unit of a fork that can run, or an idle entry where none can.
+    // Units of a fork that can run, in a row, so many at most.
     #[inline]
-    fn turn<T: Taker>(&mut self, out: &mut T) -> Result<(), Failed>
-        requires { done self.old < 2 ^ 52 }
-        ensures { Acted T.fault_count T.onward T.stands T.cut self.old self.new out.old out.new result (AnEvent.Run 1) }
+    fn units<T: Taker>(&mut self, fork: ForkName, most: u32, out: &mut T) -> Result<u32, Failed>
+        requires can { CanRun self.old.system.jobs.items fork }
+        requires some { 1 ≤ most }
+        requires few { done self.old < 2 ^ 52 }
+        ensures { TookTurns T.fault_count T.onward T.stands T.cut self.old self.new out.old out.new result most }
+    {
+        let units = self.system.units(fork, most);
+        self.done += u64::from(units.count);
+        let reply = Reply::Prints(fork.tty, units.shown);
+        self.system
+            .give_all(&Step::Unit(fork), units.count, reply, out)?;
+        Ok(units.count)
+    }
+
+    // Idle entries, where no fork can run.
+    fn idle<T: Taker>(&mut self, count: u32, out: &mut T) -> Result<u32, Failed>
+        requires none { (f : AForkName) → CanRun self.old.system.jobs.items f → ⊥ }
+        requires some { 1 ≤ count }
+        requires few { done self.old < 2 ^ 52 }
+        ensures { TookTurns T.fault_count T.onward T.stands T.cut self.old self.new out.old out.new result count }
+    {
+        self.done += u64::from(count);
+        self.system
+            .give_all(&Step::Idle, count, Reply::Nothing, out)?;
+        Ok(count)
+    }
+
+    // The next turns of a run, so many at most: units of a fork that can run, one where another can run too;
+    // or as many idle entries, where none can. Says how many.
+    #[inline]
+    fn turns<T: Taker>(&mut self, left: u32, out: &mut T) -> Result<u32, Failed>
+        requires some { 1 ≤ left }
+        requires few { done self.old < 2 ^ 52 }
+        ensures { TookTurns T.fault_count T.onward T.stands T.cut self.old self.new out.old out.new result left }
     {
         match self.system.runnable(self.next) {
             Some(fork) => {
                 self.next = fork.tty.0 + 1;
-                self.step(Step::Unit(fork), out)
+                let most = if self.system.is_alone(fork) { left } else { 1 };
+                self.units(fork, most, out)
             }
-            None => self.step(Step::Idle, out),
+            None => self.idle(left, out),
         }
     }
 
@@ -47,8 +76,9 @@ impl<P: Pages> Machine<P> {
         requires few { done self.old < 2 ^ 50 }
         ensures { Acted T.fault_count T.onward T.stands T.cut self.old self.new out.old out.new result (AnEvent.Run n) }
     {
-        for _turn in 0..n {
-            self.turn(out)?;
+        let mut left = n;
+        while left > 0 {
+            left -= self.turns(left, out)?;
         }
         Ok(())
     }

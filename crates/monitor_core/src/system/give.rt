@@ -1,9 +1,10 @@
-// The items of a reply, given to a taker.
-ghost use Rattle.std.specs.Prelude.{IsSome};
-ghost use Rattle.plain_model.specs.Limits.{IsTerminal};
+// The items of a reply, and the steps behind them, given to a taker.
+ghost use Rattle.std.specs.Prelude.{◌<◌, ◌≤◌, [], IsSome, replicate};
+ghost use Rattle.plain_model.specs.Limits.{FitsStep, IsTerminal};
+ghost use Rattle.plain_model.specs.Run.{IsTurn};
 ghost use Rattle.monitor_core.specs.declared.reply.Reply.{Reply as AReply};
 ghost use Rattle.monitor_core.specs.Jobs.{job_at};
-ghost use Rattle.monitor_core.specs.Giving.{TookItems};
+ghost use Rattle.monitor_core.specs.Giving.{TookAll, TookItems};
 ghost use Rattle.monitor_core.specs.Replies.{reply_items, FitsReply};
 ghost use Rattle.monitor_core.specs.Systems.{state_of};
 
@@ -11,7 +12,21 @@ use crate::giving::give_shown;
 use crate::reply::Reply;
 use crate::system::System;
 use outside::Failed;
-use plain_model::{Item, Pages, Taker, Tty};
+use plain_model::{Item, Pages, Step, Taker, Tty};
+
+// Gives so many equal steps that show nothing: more than one are turns of a run.
+#[inline(always)]
+fn give_steps<T: Taker>(step: &Step, count: u32, out: &mut T) -> Result<(), Failed>
+    requires fits { FitsStep step.now }
+    requires turn { 1 < count → IsTurn step.now }
+    ensures { TookAll T.fault_count T.onward T.stands T.cut out.old out.new result (λ d. []) (replicate count step.now) }
+{
+    match count {
+        0 => Ok(()),
+        1 => out.step(*step),
+        _ => out.turns(*step, u64::from(count)),
+    }
+}
 
 impl<P: Pages> System<P> {
     // Gives the forks of a terminal's job, by slot: its one fork.
@@ -39,5 +54,28 @@ impl<P: Pages> System<P> {
             Reply::Prints(t, shown) => give_shown(out, t, shown),
             Reply::Forks(t) => self.give_forks(t, out),
         }
+    }
+
+    /// Gives so many equal steps, the last of them behind the items that it shows.
+    pub fn give_all<T: Taker>(
+        &self,
+        step: &Step,
+        count: u32,
+        reply: Reply,
+        out: &mut T,
+    ) -> Result<(), Failed>
+        requires fits { FitsStep step.now }
+        requires some { 1 ≤ count }
+        requires turn { 1 < count → IsTurn step.now }
+        requires reply { FitsReply self.now.jobs.items reply }
+        ensures { TookAll T.fault_count T.onward T.stands T.cut out.old out.new result (λ d. reply_items (state_of self.now d) reply) (replicate count step.now) }
+    {
+        if reply.is_silent() {
+            // Most units show nothing: their steps go straight to the taker.
+            return give_steps(step, count, out);
+        }
+        give_steps(step, count - 1, out)?;
+        self.give(reply, out)?;
+        out.step(*step)
     }
 }

@@ -1,5 +1,5 @@
 // Which forks can run.
-ghost use Rattle.std.specs.Prelude.{◌≡◌, ◌<◌, ◌≤◌, IfSome, IfNone};
+ghost use Rattle.std.specs.Prelude.{◌≡◌, ◌<◌, ◌≤◌, ◌↔◌, IsTrue, IfSome, IfNone};
 ghost use Rattle.plain_model.specs.declared.names.ForkName.{ForkName as AForkName};
 ghost use Rattle.monitor_core.specs.Systems.{CanRun};
 
@@ -39,5 +39,17 @@ impl<P: Pages> System<P> {
             }
         }
         None
+    }
+
+    /// Whether no fork of another terminal than this fork's can run.
+    pub fn is_alone(&self, fork: ForkName) -> bool
+        ensures { IsTrue result ↔ ((f : AForkName) → CanRun self.now.jobs.items f → f.tty.0 ≡ fork.tty.0) }
+    {
+        for t in 0..self.terminals {
+            if t != fork.tty.0 && self.runnable_at(t).is_some() {
+                return false;
+            }
+        }
+        true
     }
 }

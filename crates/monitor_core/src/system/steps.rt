@@ -1,32 +1,31 @@
-// One step.
-ghost use Rattle.std.specs.Prelude.{◌≡◌, ◌<◌, ◌^◌, ◌+◌};
+// Steps: an event that is one, and units of a fork.
+ghost use Rattle.std.specs.Prelude.{◌≡◌, ◌<◌, ◌≤◌, ◌^◌, ◌+◌};
 ghost use Rattle.plain_model.specs.Limits.{FitsStep, IsBuilt};
 ghost use Rattle.plain_model.specs.declared.event.Event.{Event as AnEvent};
 ghost use Rattle.plain_model.specs.declared.event.Step.{Step as AStep};
 ghost use Rattle.monitor_core.specs.declared.reply.Reply.{Reply as AReply};
 ghost use Rattle.monitor_core.specs.Replies.{reply_of};
-ghost use Rattle.monitor_core.specs.Systems.{CanDo, CanRun, Did, IsWithin};
+ghost use Rattle.monitor_core.specs.Systems.{CanDo, CanRun, Did, DidAll, IsWithin};
 
-use crate::fetch::fetch;
 use crate::job_event::JobEvent;
 use crate::reply::Reply;
-use crate::shown::Shown;
 use crate::system::System;
-use plain_model::{Event, ForkName, Item, Pages, Refusal, Step};
+use crate::unit::Units;
+use plain_model::{Event, ForkName, Item, Pages, Refusal};
 
 impl<P: Pages> System<P> {
-    // One unit of a fork that can run.
-    #[inline(always)]
-    fn unit(&mut self, fork: ForkName) -> Shown
+    /// Units of a fork that can run, in a row, at least one and so many at most; and what the last shows.
+    #[inline]
+    pub fn units(&mut self, fork: ForkName, most: u32) -> Units
         requires can { CanRun self.old.jobs.items fork }
         requires few { IsWithin self.old (2 ^ 52) }
-        ensures { Did self.old self.new (AStep.Unit fork) (AReply.Prints fork.tty result) }
+        requires some { 1 ≤ most }
+        ensures did { DidAll self.old self.new (AStep.Unit fork) result.count (AReply.Prints fork.tty result.shown) }
+        ensures some { 1 ≤ result.count }
+        ensures few { result.count ≤ most }
     {
         match &mut self.jobs[fork.tty.0 as usize] {
-            Some(job) => {
-                let fetched = fetch(&self.pages, &job.top);
-                job.ran(fetched)
-            }
+            Some(job) => job.ran(&mut self.pages, most),
             None => unreachable!(),
         }
     }
@@ -40,8 +39,7 @@ impl<P: Pages> System<P> {
         Reply::Nothing
     }
 
-    // An event that is one step, or why it is refused. A call of its own, so that a unit doesn't make room for it.
-    #[inline(never)]
+    // An event that is one step, or why it is refused.
     fn outer(&mut self, e: &Event) -> Result<Reply, Refusal>
         requires fits { FitsStep (AStep.Outer e.now) }
         requires built { IsBuilt e.now }
@@ -66,20 +64,15 @@ impl<P: Pages> System<P> {
         }
     }
 
-    /// Does a step that can be done.
-    #[inline(always)]
-    pub fn apply(&mut self, step: &Step) -> Reply
-        requires can { CanDo self.old step.now }
+    /// Does an event that is one step.
+    pub fn apply(&mut self, e: &Event) -> Reply
+        requires can { CanDo self.old (AStep.Outer e.now) }
         requires few { IsWithin self.old (2 ^ 52) }
-        ensures { Did self.old self.new step.now result }
+        ensures { Did self.old self.new (AStep.Outer e.now) result }
     {
-        match step {
-            Step::Outer(e) => match self.outer(e) {
-                Ok(reply) => reply,
-                Err(cause) => Reply::One(Item::Refusal(cause)),
-            },
-            Step::Unit(fork) => Reply::Prints(fork.tty, self.unit(*fork)),
-            Step::Idle => Reply::Nothing,
+        match self.outer(e) {
+            Ok(reply) => reply,
+            Err(cause) => Reply::One(Item::Refusal(cause)),
         }
     }
 }

@@ -1,37 +1,39 @@
-use Rattle.std.proofs.Common.{◌∙◌, arith}
+use Rattle.std.proofs.Common.{◌-◌, ◌∙◌, arith}
 use Rattle.std.proofs.lemmas.Result.{IfOk-from_err}
 use Rattle.plain_model.proofs.Runs.{onward_then}
 use Rattle.monitor_core.proofs.Given.{on_err}
-use Rattle.monitor_core.proofs.StepDid.{turn_more, turn_cut}
+use Rattle.monitor_core.proofs.StepDid.{turns_more, more_cut}
 use Rattle.monitor_core.proofs.machine.Machine.run.Goals as goal
 
-pub loop-turn-preserved : goal.loop-turn-preserved
-loop-turn-preserved g c =
-    let i = c.loop-turn.invariant in
-    let turn = c.turn.ensures in
+pub loop-left-preserved : goal.loop-left-preserved
+loop-left-preserved g c =
+    let i = c.loop-left.invariant in
+    let turns = c.turns.ensures in
+    let n = c.in_ok-left.field-0 in
     record {
-      later = omega (arith, i.later, turn.taker.later);
-      onward = onward_then g.T.Taker.onward _ _ _ i.onward turn.taker.goes_on;
-      mark = turn.mark ∙ i.mark;
-      live = turn.live ∙ i.live;
-      most = turn.most ∙ i.most;
-      given = turn_more g.T.Taker.fault_count g.T.Taker.onward g.T.Taker.stands g.T.Taker.cut c.args.self.now _ c.args.out.now _ _ i.given c.turn.new.self c.turn.new.out c.in_ok-turn.ensures.ok;
+      few = omega (arith, i.few);
+      later = omega (arith, i.later, turns.taker.later);
+      onward = onward_then g.T.Taker.onward _ _ _ i.onward turns.taker.goes_on;
+      mark = turns.mark ∙ i.mark;
+      live = turns.live ∙ i.live;
+      most = turns.most ∙ i.most;
+      given = turns_more g.T.Taker.fault_count g.T.Taker.onward g.T.Taker.stands g.T.Taker.cut c.args.self.now _ c.args.out.now _ _ i.given c.turns.new.self c.turns.new.out n (c.args.n - (c.loop-left.left - n)) (omega (arith, i.few, c.in_ok-left.ensures.few)) c.in_ok-left.ensures.ok;
     }
 
-pub returns-in_err-turn : goal.returns-in_err-turn
-returns-in_err-turn g c =
-    let i = c.loop-turn.invariant in
-    let turn = c.in_err-turn.ensures in
+pub returns-in_err-left : goal.returns-in_err-left
+returns-in_err-left g c =
+    let i = c.loop-left.invariant in
+    let turns = c.in_err-left.ensures in
     let r = c.from_residual.result in
     record {
       taker = record {
-        later = omega (arith, i.later, turn.taker.later);
-        cause = on_err r (omega (arith, i.later, turn.taker.cause));
-        goes_on = onward_then g.T.Taker.onward _ _ _ i.onward turn.taker.goes_on;
+        later = omega (arith, i.later, turns.taker.later);
+        cause = on_err r (omega (arith, i.later, turns.taker.cause));
+        goes_on = onward_then g.T.Taker.onward _ _ _ i.onward turns.taker.goes_on;
       };
       ok = IfOk-from_err r _ c.from_residual.ensures.0;
-      err = on_err r (turn_cut g.T.Taker.fault_count g.T.Taker.onward g.T.Taker.stands g.T.Taker.cut c.args.self.now _ c.args.out.now _ _ i.given c.turn.new.out c.args.n c.loop-turn-test.true turn.err);
-      mark = turn.mark ∙ i.mark;
-      live = turn.live ∙ i.live;
-      most = turn.most ∙ i.most;
+      err = on_err r (more_cut g.T.Taker.fault_count g.T.Taker.onward g.T.Taker.stands g.T.Taker.cut c.args.self.now _ c.args.out.now _ _ i.given c.turns.new.out c.loop-left.left c.args.n (omega (arith, i.few)) turns.err);
+      mark = turns.mark ∙ i.mark;
+      live = turns.live ∙ i.live;
+      most = turns.most ∙ i.most;
     }

@@ -1,16 +1,20 @@
-use Rattle.std.proofs.Common.{◌≡◌, ◌≤◌}
+use Rattle.std.proofs.Common.{◌≡◌, ◌≤◌, ◌-◌}
 use Rattle.plain_model.specs.declared.event.Event.TheVariants.{Run}
 use Rattle.plain_model.specs.Taker.{StaysOnward}
 use Rattle.monitor_core.specs.Acts.{Given}
 use Rattle.monitor_core.specs.Machines.{auto, is_live, limit}
 use Rattle.monitor_core.proofs.machine.Machine.run.Given as goal
 
-abbrev pub invariant-loop-turn : goal.invariant-loop-turn
-invariant-loop-turn g l = record {
+abbrev pub invariant-loop-left : goal.invariant-loop-left
+invariant-loop-left g l = record {
+  few : l.left ≤ l.n;
   later : g.T.Taker.fault_count l.fn.out ≤ g.T.Taker.fault_count l.out;
   onward : StaysOnward g.T.Taker.onward l.fn.out l.out;
   mark : auto l.self ≡ auto l.fn.self;
   live : is_live l.self ≡ is_live l.fn.self;
   most : limit l.self ≡ limit l.fn.self;
-  given : Given g.T.Taker.stands l.fn.self l.self l.fn.out l.out (Run l._turn);
+  given : Given g.T.Taker.stands l.fn.self l.self l.fn.out l.out (Run (l.n - l.left));
 }
+
+abbrev pub decreases-loop-left : goal.decreases-loop-left
+decreases-loop-left g l = l.left

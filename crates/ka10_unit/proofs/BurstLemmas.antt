@@ -1,0 +1,102 @@
+-- Bursts, unit by unit.
+use Rattle.std.proofs.Common.{◌≡◌, ℕ, zero, suc, ◌+◌, ◌<◌, ◌^◌, Option, Some, None, refl, sym, ◌∙◌, ap, subst, add-one}
+use Rattle.std.specs.Prelude.{length}
+use Rattle.std.specs.Option.{option_and_then}
+use Rattle.std.specs.Ordering.{nat_cmp}
+use Rattle.plain_model.specs.declared.fork.Regs.{Regs}
+use Rattle.plain_model.specs.declared.map.SpaceHandle.{SpaceHandle}
+use Rattle.plain_model.specs.declared.names.ForkName.{ForkName}
+use Rattle.plain_model.specs.Outcome.{DrumWords}
+use Rattle.plain_model.specs.Pages.{PagesMeaning, HasSpace, StaysPut}
+use Rattle.plain_model.specs.State.{NumberedPages}
+use Rattle.ka10_unit.specs.declared.ending.Quick.{Quick}
+use Rattle.ka10_unit.specs.declared.ending.Quick.TheVariants as quick
+use Rattle.ka10_unit.specs.declared.ending.Burst.{Burst}
+use Rattle.ka10_unit.specs.declared.ending.End.{End}
+use Rattle.ka10_unit.specs.declared.ending.End.TheVariants as end
+use Rattle.ka10_unit.specs.Once.{After, once, in_a_row, unless_posted}
+use Rattle.ka10_unit.specs.InPlace.{InPlace, OneUnit}
+use Rattle.ka10_unit.specs.Bursts.{Came, InRow, SoFar, and_one_more}
+use Rattle.ka10_unit.proofs.Placing.{stays_put}
+
+module _ (f : ForkName) (p : NumberedPages) (regs : Regs) where
+  row_none : in_a_row f 0 p regs ≡ Some (record { pages = p; regs = regs; post = None })
+  unfolding in_a_row
+  row_none = refl
+
+  -- one unit more, which posts nothing
+  row_more : (n : ℕ) (a : After nat_cmp) (q : NumberedPages) (r : Regs) → in_a_row f n p regs ≡ Some a → once f a.pages a.regs ≡ Some (record { pages = q; regs = r; post = None })
+      → in_a_row f (n + 1) p regs ≡ Some (record { pages = q; regs = r; post = None })
+  unfolding in_a_row
+  row_more n a q r h one = rw (add-one, h, one) refl
+
+  -- and one that may post
+  one_more : (n : ℕ) (a b : After nat_cmp) → in_a_row f n p regs ≡ Some a → once f a.pages a.regs ≡ Some b → and_one_more f n p regs ≡ Some b
+  one_more n a b h one = rw (h, one) refl
+
+module _ {P : Type 0} (means : PagesMeaning P) (space : SpaceHandle) where
+  stays_on : (r s t : P) → StaysPut means r s → StaysPut means s t → StaysPut means r t
+  stays_on r s t g h = record {
+    touched = h.touched ∙ g.touched;
+    scene = h.scene ∙ g.scene;
+    space = h.space ∙ g.space;
+    place = h.place ∙ g.place;
+    lives = h.lives ∙ g.lives;
+    forks = h.forks ∙ g.forks;
+    serials = h.serials ∙ g.serials;
+    most = h.most ∙ g.most;
+  }
+
+  of_fork : (s t : P) (f : ForkName) → StaysPut means s t → means.space s f ≡ Some space → means.space t f ≡ Some space
+  of_fork s t f stays is = ap (λ (g : ForkName → Option SpaceHandle). g f) stays.space ∙ is
+
+  -- a handle that is there stays there
+  pub space_stays : (s t : P) → HasSpace means s space → StaysPut means s t → HasSpace means t space
+  space_stays s t h stays = record { fork = h.fork; is = of_fork s t h.fork stays h.is }
+
+  pub so_far_none : (s : P) (regs : Regs) → regs.pc < 2 ^ 18 → SoFar means space s s regs regs 0
+  so_far_none s regs pc = record { told = λ d f fits is. row_none f (means.plain s d) regs; fits = λ d fits. fits; stays = stays_put means s; pc = pc; accumulators = refl }
+
+  module _ (old s t : P) (regs r after : Regs) (n : ℕ) (before : SoFar means space old s regs r n) where
+    pub so_far_more : InPlace means space (OneUnit r) s t r after quick.Done → SoFar means space old t regs after (n + 1)
+    so_far_more i = record {
+      told = λ d f fits is. row_more f (means.plain old d) regs n _ (means.plain t d) after (before.told d f fits is) (i.told d f (before.fits d fits) (of_fork old s f before.stays is));
+      fits = λ d fits. i.fits d (before.fits d fits);
+      stays = stays_on old s t before.stays i.stays;
+      pc = i.pc;
+      accumulators = i.accumulators ∙ before.accumulators;
+    }
+
+    module _ (most : ℕ) (less : n < most) where
+      pub ends_overflow : InPlace means space (OneUnit r) s t r after quick.Overflow → InRow means space most old t regs after (record { units = n; end = end.Overflow })
+      ends_overflow i = record {
+        count = less;
+        told = λ d f fits is. one_more f (means.plain old d) regs n _ _ (before.told d f fits is) (i.told d f (before.fits d fits) (of_fork old s f before.stays is));
+        fits = λ d fits. i.fits d (before.fits d fits);
+        stays = stays_on old s t before.stays i.stays;
+        pc = i.pc;
+        accumulators = i.accumulators ∙ before.accumulators;
+      }
+
+      pub ends_pushdown : InPlace means space (OneUnit r) s t r after quick.Pushdown → InRow means space most old t regs after (record { units = n; end = end.Pushdown })
+      ends_pushdown i = record {
+        count = less;
+        told = λ d f fits is. one_more f (means.plain old d) regs n _ _ (before.told d f fits is) (i.told d f (before.fits d fits) (of_fork old s f before.stays is));
+        fits = λ d fits. i.fits d (before.fits d fits);
+        stays = stays_on old s t before.stays i.stays;
+        pc = i.pc;
+        accumulators = i.accumulators ∙ before.accumulators;
+      }
+
+      pub ends_slow : InPlace means space (OneUnit r) s t r after quick.Slow → InRow means space most old t regs after (record { units = n; end = end.Slow })
+      ends_slow i = let same = i.slow refl in rw (same.0, same.1) (record { count = less; told = before.told; fits = before.fits; stays = before.stays; pc = before.pc; accumulators = before.accumulators })
+
+  pub ends_most : (old s : P) (regs r : Regs) (most n : ℕ) → n ≡ most → SoFar means space old s regs r n → InRow means space most old s regs r (record { units = most; end = end.Most })
+  ends_most old s regs r most n is before = record {
+    count = refl;
+    told = λ d f fits h. subst (λ (k : ℕ). in_a_row f k (means.plain old d) regs ≡ Some (record { pages = means.plain s d; regs = r; post = None })) is (before.told d f fits h);
+    fits = before.fits;
+    stays = before.stays;
+    pc = before.pc;
+    accumulators = before.accumulators;
+  }

@@ -1,0 +1,8 @@
+mod Outcomes
+mod Acting
+pub mod Gliding
+pub mod Finishing
+pub mod Placing
+pub mod IndirectWords
+pub mod Units
+pub mod BurstLemmas

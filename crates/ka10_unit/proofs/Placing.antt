@@ -1,0 +1,136 @@
+-- Units and their rests in place.
+use Rattle.std.proofs.Common.{◌≡◌, ◌⊎◌, ℕ, ◌+◌, ◌/◌, ◌%◌, ◌<◌, ◌≤◌, ◌^◌, Bool, true, false, cond, List, [], Option, Some, None, refl, sym, ◌∙◌, ap, subst, inl, inr, arith}
+use Rattle.std.specs.Prelude.{slice_set, slice_index, length}
+use Rattle.std.proofs.lemmas.List.{length-set}
+use Rattle.std.specs.Ordering.{nat_cmp}
+use Rattle.std.proofs.lemmas.Bool.{cases_lt}
+use Rattle.outside.specs.declared.TheConstants.{PAGE_WORDS}
+use Rattle.word36.specs.Words.{joined}
+use Rattle.ka10_table.specs.declared.families.Family.{Family}
+use Rattle.ka10_table.specs.declared.families.Family.TheVariants.{ByteOp}
+use Rattle.ka10_table.specs.declared.families.TableRow.{TableRow}
+use Rattle.ka10_table.specs.Rows.{row_of, IsInLine}
+use Rattle.ka10_table.proofs.Listed.{row_in_line}
+use Rattle.plain_model.specs.declared.names.ForkName.{ForkName}
+use Rattle.plain_model.specs.declared.names.Kind.TheVariants.{Read, Write, Execute}
+use Rattle.plain_model.specs.declared.names.TheConstants.{ACCUMULATORS}
+use Rattle.plain_model.specs.declared.fork.Regs.{Regs}
+use Rattle.plain_model.specs.declared.map.SpaceHandle.{SpaceHandle}
+use Rattle.plain_model.specs.State.{NumberedPages}
+use Rattle.plain_model.specs.Outcome.{DrumWords}
+use Rattle.plain_model.specs.Pages.{PagesMeaning, StaysPut}
+use Rattle.plain_model.specs.References.{in_map, slot_at, stored}
+use Rattle.plain_model.specs.Deeds.{Deed, deed_of, in_ac, taken_by, taken_of}
+use Rattle.plain_model.specs.Instructions.{does, finishes, with_word}
+use Rattle.ka10_unit.specs.declared.committed.Post.{Post}
+use Rattle.ka10_unit.specs.declared.committed.Committed.{Committed}
+use Rattle.ka10_unit.specs.declared.ending.Quick.{Quick}
+use Rattle.ka10_unit.specs.declared.ending.Quick.TheVariants as quick
+use Rattle.ka10_unit.specs.Commits.{Leaves, channel_of}
+use Rattle.ka10_unit.specs.Glide.{is_ready, glide, Takes}
+use Rattle.ka10_unit.specs.Once.{After}
+use Rattle.ka10_unit.specs.InPlace.{Does, IsOf, IfDone, InPlace, Finish, Addressee, is_addressed, is_deed, behind_address, ended}
+use Rattle.ka10_unit.specs.Spots.{Stored, StoredIf}
+use Rattle.ka10_unit.specs.Stores.{IsNowhere, GoesTo, IsOperand}
+use Rattle.ka10_unit.proofs.Finishing.{if_ended, if_more, never_slow, for_all, ends_bare, ends_low, ends_high, takes_none, takes_some, no_word}
+
+-- the row of an opcode is in its line
+pub in_line : (op : ℕ) (row : TableRow) → IsOf op row → IsInLine op row
+in_line op row of_op = subst (λ (r : TableRow). IsInLine op r) (sym of_op.is) (row_in_line op of_op.below)
+
+-- no accumulator more or less
+length_with : (ac : List ℕ) (i : ℕ) (w : Option ℕ) → length (with_word ac i w) ≡ length ac
+length_with ac i None = refl
+length_with ac i (Some w) = length-set ac i w
+
+module _ {P : Type 0} (means : PagesMeaning P) where
+  -- pages that stay as they are
+  pub stays_put : (s : P) → StaysPut means s s
+  stays_put s = record { touched = refl; scene = refl; space = refl; place = refl; lives = refl; forks = refl; serials = refl; most = refl }
+
+  module _ (space : SpaceHandle) where
+    -- what isn't done here
+    pub slow_in_place : (does : Does) (s : P) (regs : Regs) → regs.pc < 2 ^ 18 → InPlace means space does s s regs regs quick.Slow
+    slow_in_place does s regs pc = record { slow = λ h. (refl, refl); told = λ d f fits is. tt; fits = λ d fits. fits; stays = stays_put s; pc = pc; accumulators = refl }
+
+    -- what is done in place of one thing is done of what that comes to
+    pub in_place_more : (does more : Does) (s t : P) (regs after : Regs) (q : Quick) → InPlace means space does s t regs after q
+        → ((d : DrumWords) (f : ForkName) → means.fits s d → means.space s f ≡ Some space → IfDone q (λ post. does f (means.plain s d) (record { pages = means.plain t d; regs = after; post = post }) → more f (means.plain s d) (record { pages = means.plain t d; regs = after; post = post })))
+        → InPlace means space more s t regs after q
+    in_place_more does more s t regs after quick.Done i g = record { slow = i.slow; told = λ d f fits is. g d f fits is (i.told d f fits is); fits = i.fits; stays = i.stays; pc = i.pc; accumulators = i.accumulators }
+    in_place_more does more s t regs after quick.Overflow i g = record { slow = i.slow; told = λ d f fits is. g d f fits is (i.told d f fits is); fits = i.fits; stays = i.stays; pc = i.pc; accumulators = i.accumulators }
+    in_place_more does more s t regs after quick.Pushdown i g = record { slow = i.slow; told = λ d f fits is. g d f fits is (i.told d f fits is); fits = i.fits; stays = i.stays; pc = i.pc; accumulators = i.accumulators }
+    in_place_more does more s t regs after quick.Slow i g = record { slow = i.slow; told = λ d f fits is. tt; fits = i.fits; stays = i.stays; pc = i.pc; accumulators = i.accumulators }
+
+    module _ (regs after : Regs) (ac : ℕ) (deed : Deed) (told : Committed) (left : Leaves deed ac regs after told) (q : Quick) (is_q : q ≡ ended told.post) where
+      kept : length after.ac ≡ length regs.ac
+      kept = ap (λ (r : Regs). length r.ac) left.regs ∙ (length_with (with_word regs.ac ac deed.ac) _ deed.next ∙ length_with regs.ac ac deed.ac)
+
+      -- a deed that stores no word
+      pub finish_in_place : (s : P) → IsNowhere deed.store → InPlace means space (Finish regs ac deed) s s regs after q
+      finish_in_place s h = record {
+        slow = λ e. never_slow told.post (sym is_q ∙ e);
+        told = λ d f fits is. if_ended told.post q _ is_q (λ n less. ends_bare f (means.plain s d) regs.ac n regs after ac deed told left h);
+        fits = λ d fits. fits;
+        stays = stays_put s;
+        pc = left.pc;
+        accumulators = kept;
+      }
+
+      -- a deed that stores at an address, if it stores
+      module _ (s t : P) (end : Regs) (to : ℕ) (at : GoesTo to deed.store) (ready : (d : DrumWords) (f : ForkName) → means.fits s d → means.space s f ≡ Some space → is_ready f (means.plain s d) to Write ≡ true) where
+        ends : (word : ℕ) → told.stored ≡ Some word → Stored means space to word s t after end → (d : DrumWords) (f : ForkName) → means.fits s d → means.space s f ≡ Some space → (to < ACCUMULATORS) ⊎ (ACCUMULATORS ≤ to)
+            → Finish regs ac deed f (means.plain s d) (record { pages = means.plain t d; regs = end; post = channel_of told.post })
+        ends word has put d f fits is (inl low) n less =
+            let p = put.low low in
+            rw (p.0, p.1) (ends_low f (means.plain s d) regs.ac n regs after ac deed told left (omega arith) to word has low at)
+        ends word has put d f fits is (inr high) n less =
+            rw (put.high high, put.told d f high fits is) (ends_high f (means.plain s d) regs.ac n regs after ac deed told left (omega arith) to word has high (ready d f fits is) at)
+
+        by_word : (w : Option ℕ) → told.stored ≡ w → StoredIf means space to w s t after end → InPlace means space (Finish regs ac deed) s t regs end q
+        by_word None none put = rw (put.0, put.1) (finish_in_place s (no_word deed.store (sym left.stored ∙ none)))
+        by_word (Some word) has put = record {
+          slow = λ e. never_slow told.post (sym is_q ∙ e);
+          told = λ d f fits is. if_ended told.post q _ is_q (ends word has put d f fits is (cases_lt to ACCUMULATORS));
+          fits = put.fits;
+          stays = put.stays;
+          pc = rw put.pc left.pc;
+          accumulators = put.accumulators ∙ kept;
+        }
+
+        pub finish_at_in_place : StoredIf means space to told.stored s t after end → InPlace means space (Finish regs ac deed) s t regs end q
+        finish_at_in_place put = by_word told.stored refl put
+
+-- an instruction that does a deed has an address, and takes a word at most
+deed_addressed : (family : Family) (row : TableRow) (op : ℕ) (regs : Regs) (ac e last : ℕ) → is_deed family ac ≡ true → (is_addressed family ac ≡ true) × (behind_address family row op regs ac e last ≡ does row op regs ac e last)
+deed_addressed ByteOp row op regs ac e last h = absurd (cc h)
+deed_addressed family row op regs ac e last h = (h, refl)
+
+module _ (row : TableRow) (op ac e last m : ℕ) (regs : Regs) (same : row ≡ row_of op) (deed : is_deed row.family ac ≡ true) (f : ForkName) (p : NumberedPages) (a : After nat_cmp) where
+  behind : (n : ℕ) → glide f p regs.ac n (does row op regs ac e last) ≡ Some a → (is_addressed (row_of op).family ac ≡ true) × (glide f p regs.ac n (behind_address (row_of op).family (row_of op) op regs ac e last) ≡ Some a)
+  behind n h =
+      let d = deed_addressed row.family row op regs ac e last deed in
+      subst (λ (r : TableRow). (is_addressed r.family ac ≡ true) × (glide f p regs.ac n (behind_address r.family r op regs ac e last) ≡ Some a)) same (d.0, ap (glide f p regs.ac n) d.1 ∙ h)
+
+  addressed : is_addressed (row_of op).family ac ≡ true
+  addressed = subst (λ (r : TableRow). is_addressed r.family ac ≡ true) same (deed_addressed row.family row op regs ac e last deed).0
+
+  -- with its operand it does its deed
+  pub addressee : (from : Option ℕ) → from ≡ taken_of row regs ac e → IsOperand f p regs.ac from e m → Finish regs ac (deed_of row op regs ac e last m) f p a → Addressee op regs ac e last f p a
+  unfolding does
+  addressee None none is h = record {
+    addressed = addressed;
+    runs = λ n less. (behind n (takes_none f p regs.ac n e (taken_of row regs ac e) (λ w. finishes regs ac (deed_of row op regs ac e last w)) (sym none)
+        ∙ subst (λ (w : ℕ). glide f p regs.ac n (finishes regs ac (deed_of row op regs ac e last w)) ≡ Some a) is (h n (omega arith)))).1;
+  }
+  addressee (Some from) some t h = record {
+    addressed = addressed;
+    runs = λ n less. (behind n (takes_some f p regs.ac n e from m (taken_of row regs ac e) (λ w. finishes regs ac (deed_of row op regs ac e last w)) (omega arith) (sym some) t ∙ h (n + 1) (omega arith))).1;
+  }
+
+-- the same, where it is done in place
+pub deed_in_place : {P : Type 0} (means : PagesMeaning P) (space : SpaceHandle) (row : TableRow) (op ac e last m : ℕ) (regs : Regs) → row ≡ row_of op → is_deed row.family ac ≡ true → (s t : P) (after : Regs) (q : Quick)
+    → InPlace means space (Finish regs ac (deed_of row op regs ac e last m)) s t regs after q → (from : Option ℕ) → from ≡ taken_of row regs ac e
+    → ((d : DrumWords) (f : ForkName) → means.fits s d → means.space s f ≡ Some space → IsOperand f (means.plain s d) regs.ac from e m) → InPlace means space (Addressee op regs ac e last) s t regs after q
+deed_in_place means space row op ac e last m regs same deed s t after q i from taken operand = in_place_more means space _ (Addressee op regs ac e last) s t regs after q i
+    (λ d f fits h. for_all q _ (λ post. addressee row op ac e last m regs same deed f (means.plain s d) _ from taken (operand d f fits h)))

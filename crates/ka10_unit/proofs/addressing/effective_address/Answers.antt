@@ -1,0 +1,9 @@
+use Rattle.std.proofs.Common.{◌≡◌, false, rules}
+use Rattle.plain_model.specs.Addressing.{is_indirect}
+use Rattle.ka10_unit.proofs.IndirectWords.{directly}
+use Rattle.ka10_unit.proofs.addressing.effective_address.Goals as goal
+
+pub returns-clause-told : goal.returns-clause-told
+returns-clause-told g c d f before fits is few =
+    let direct : is_indirect c.args.word ≡ false = search rules in
+    directly f _ _ before _ c.args.word _ _ c.requires.some direct c.index.ensures.e c.index.ensures.last

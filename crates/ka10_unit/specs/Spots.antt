@@ -1,0 +1,33 @@
+-- Where a word of a space is.
+use Rattle.std.specs.Prelude.{◌≡◌, ℕ, ◌/◌, ◌%◌, ◌<◌, ◌≤◌, Option, None, Some, length, slice_set}
+use Rattle.outside.specs.declared.TheConstants.{PAGE_WORDS}
+use Rattle.plain_model.specs.declared.names.TheConstants.{ACCUMULATORS}
+use Rattle.plain_model.specs.declared.names.ForkName.{ForkName}
+use Rattle.plain_model.specs.declared.map.SpaceHandle.{SpaceHandle}
+use Rattle.plain_model.specs.declared.fork.Regs.{Regs}
+use Rattle.plain_model.specs.Outcome.{DrumWords}
+use Rattle.plain_model.specs.Pages.{PagesMeaning, StaysPut}
+use Rattle.plain_model.specs.References.{in_map, slot_at, stored}
+use Rattle.ka10_unit.specs.declared.spots.Spot.{Spot}
+use Rattle.ka10_unit.specs.declared.spots.Spot.TheVariants.{Accumulator, Page}
+
+module _ {P : Type 0} (means : PagesMeaning P) (space : SpaceHandle) (at : ℕ) where
+  -- the word at an address is there
+  abbrev pub IsSpot : P → Spot → Type 0
+  IsSpot p Accumulator = at < ACCUMULATORS
+  IsSpot p (Page found) = (ACCUMULATORS ≤ at) × (means.place p space (at / PAGE_WORDS) ≡ Some found)
+
+  -- the word at an address is this one now, and nothing else has changed
+  pub record Stored (word : ℕ) (old new : P) (regs after : Regs) : Type 0 where
+    pub low : at < ACCUMULATORS → (new ≡ old) × (after ≡ record regs { ac = slice_set regs.ac at word })
+    pub high : ACCUMULATORS ≤ at → after ≡ regs
+    pub told : (d : DrumWords) (f : ForkName) → ACCUMULATORS ≤ at → means.fits old d → means.space old f ≡ Some space → means.plain new d ≡ stored (means.plain old d) (in_map (slot_at f at)) (at % PAGE_WORDS) word
+    pub fits : (d : DrumWords) → means.fits old d → means.fits new d
+    pub stays : StaysPut means old new
+    pub pc : after.pc ≡ regs.pc
+    pub accumulators : length after.ac ≡ length regs.ac
+
+  -- the same, where there is a word
+  abbrev pub StoredIf : Option ℕ → P → P → Regs → Regs → Type 0
+  StoredIf None old new regs after = (new ≡ old) × (after ≡ regs)
+  StoredIf (Some word) old new regs after = Stored word old new regs after

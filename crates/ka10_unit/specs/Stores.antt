@@ -1,0 +1,27 @@
+-- Where a deed stores its word, if it stores one.
+use Rattle.std.specs.Prelude.{◌≡◌, ℕ, Option, None, Some, List}
+use Rattle.std.specs.Ordering.{nat_cmp}
+use Rattle.plain_model.specs.declared.names.ForkName.{ForkName}
+use Rattle.plain_model.specs.declared.names.Kind.TheVariants.{Read}
+use Rattle.plain_model.specs.State.{NumberedPages}
+use Rattle.plain_model.specs.Deeds.{Store, nowhere, back, into, before}
+use Rattle.ka10_unit.specs.Glide.{Takes}
+
+-- no word is stored
+abbrev pub IsNowhere : Store → Type 0
+IsNowhere nowhere = Unit {0}
+IsNowhere (back at w) = ⊥
+IsNowhere (into at w) = ⊥
+IsNowhere (before at w) = ⊥
+
+-- a word is stored at an address, if any is, and behind all else
+abbrev pub GoesTo : ℕ → Store → Type 0
+GoesTo a nowhere = Unit {0}
+GoesTo a (back at w) = at ≡ a
+GoesTo a (into at w) = at ≡ a
+GoesTo a (before at w) = ⊥
+
+-- an operand: 0,,E, or the word at an address
+abbrev pub IsOperand : ForkName → NumberedPages → List ℕ → Option ℕ → ℕ → ℕ → Type 0
+IsOperand f p ac None e m = m ≡ e
+IsOperand f p ac (Some from) e m = Takes f p ac from Read m

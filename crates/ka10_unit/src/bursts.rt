@@ -1,0 +1,46 @@
+// Units of one fork in a row, in place.
+ghost use Rattle.std.specs.Prelude.{◌≡◌, ◌<◌, ◌^◌};
+ghost use Rattle.plain_model.specs.Pages.{HasSpace};
+ghost use Rattle.ka10_unit.specs.Bursts.{InRow};
+
+use crate::ending::{Burst, End, Quick};
+use crate::in_place::quick;
+use plain_model::{Pages, Regs, SpaceHandle};
+
+/// Does units in place, one behind another, up to so many, on the registers and pages of a fork
+/// whose space this is. It ends with a unit that posts, which isn't counted, and before one that
+/// isn't done in place.
+#[inline(never)]
+pub fn burst<P: Pages>(regs: &mut Regs, pages: &mut P, space: SpaceHandle, most: u32) -> Burst
+    requires space { HasSpace P.means pages.old space }
+    requires pc { regs.old.pc < 2 ^ 18 }
+    ensures { InRow P.means space most pages.old pages.new regs.old regs.new result }
+{
+    for units in 0..most {
+        match quick(regs, pages, space) {
+            Quick::Done => {}
+            Quick::Overflow => {
+                return Burst {
+                    units,
+                    end: End::Overflow,
+                };
+            }
+            Quick::Pushdown => {
+                return Burst {
+                    units,
+                    end: End::Pushdown,
+                };
+            }
+            Quick::Slow => {
+                return Burst {
+                    units,
+                    end: End::Slow,
+                };
+            }
+        }
+    }
+    Burst {
+        units: most,
+        end: End::Most,
+    }
+}
