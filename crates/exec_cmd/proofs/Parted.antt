@@ -31,7 +31,8 @@ split_begins (x ∷ xs) = begins_by (is_space x) x (slice_split is_space xs) (sp
 onto-append : (x : ℕ) (parts more : List (List ℕ)) → Begins parts → onto_first x (parts ++ more) ≡ onto_first x parts ++ more
 onto-append x parts more b = ap (λ l. onto_first x (l ++ more)) b.whole ∙ sym (ap (λ l. onto_first x l ++ more) b.whole)
 
-append_by : (b : Bool) (x : ℕ) (whole parts more : List (List ℕ)) → Begins parts → whole ≡ parts ++ more → cond b ([] ∷ whole) (onto_first x whole) ≡ cond b ([] ∷ parts) (onto_first x parts) ++ more
+append_by : (b : Bool) (x : ℕ) (whole parts more : List (List ℕ)) → Begins parts → whole ≡ parts ++ more
+    → cond b ([] ∷ whole) (onto_first x whole) ≡ cond b ([] ∷ parts) (onto_first x parts) ++ more
 append_by true x whole parts more b e = ap (λ l. [] ∷ l) e
 append_by false x whole parts more b e = ap (onto_first x) e ∙ onto-append x parts more b
 
@@ -68,7 +69,8 @@ words-front [] rest some h end = absurd (some refl)
 words-front (c ∷ cs) rest some h (inl none) =
     ap (λ l. words ((c ∷ cs) ++ l)) none ∙ (ap words (append-nil (c ∷ cs)) ∙ (words-one c cs h ∙ ap (λ l. (c ∷ cs) ∷ l) (sym (ap words none ∙ words-nil))))
 words-front (c ∷ cs) rest some h (inr on) =
-    ap (λ l. words ((c ∷ cs) ++ l)) on.1 ∙ (words-append (c ∷ cs) on.0 ∙ (ap (λ l. l ++ words on.0) (words-one c cs h) ∙ ap (λ l. (c ∷ cs) ∷ l) (sym (ap words on.1 ∙ words-space on.0))))
+    ap (λ l. words ((c ∷ cs) ++ l)) on.1 ∙ (words-append (c ∷ cs) on.0
+    ∙ (ap (λ l. l ++ words on.0) (words-one c cs h) ∙ ap (λ l. (c ∷ cs) ∷ l) (sym (ap words on.1 ∙ words-space on.0))))
 
 -- where the first word of a line begins
 module _ (line : List ℕ) where
@@ -128,7 +130,8 @@ module _ (rest : List ℕ) where
 
 -- the first word of a line that has one
 pub first-word : (line : List ℕ) → position_or_len (λ c. not (is_space c)) line < length line
-    → (let rest = drop (position_or_len (λ c. not (is_space c)) line) line in words line ≡ take (position_or_len is_space rest) rest ∷ words (drop (position_or_len is_space rest) rest))
+    → (let rest = drop (position_or_len (λ c. not (is_space c)) line) line in
+    words line ≡ take (position_or_len is_space rest) rest ∷ words (drop (position_or_len is_space rest) rest))
 first-word line h = words-behind line ∙ words-first (drop (start line) line) (get_or line (start line) 0) (drop (suc (start line)) line) (drop-cons line (start line) 0 h) here
   where
     spaced : (b : Bool) → not b ≡ true → b ≡ false

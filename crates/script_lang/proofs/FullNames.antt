@@ -1,5 +1,5 @@
 -- The test of full names decides them.
-use Rattle.std.proofs.Common.{◌≡◌, ℕ, ◌+◌, ◌<◌, ◌≤◌, List, [], ◌∷◌, ◌++◌, length, get_or, take, true, false, Bool, Option, None, Some, refl, sym, ◌∙◌, ap, subst, arith, ◌⊎◌, inl, inr, All, length-append, length-take}
+use Rattle.std.proofs.Common.{◌≡◌, ℕ, ◌+◌, ◌<◌, ◌≤◌, List, [], ◌∷◌, ◌++◌, length, get_or, true, false, Bool, None, Some, refl, sym, ◌∙◌, ap, arith, ◌⊎◌, inl, inr, All, length-append, length-take}
 use Rattle.std.specs.Prelude.{◌==◌, nat_le, ◌&&◌, if◌then◌else◌}
 use Rattle.std.specs.Char.{to_ascii_uppercase}
 use Rattle.std.specs.List.{list_all, position_or_len}
@@ -7,7 +7,7 @@ use Rattle.std.proofs.lemmas.Bool.{and_parts, and_from, eqb-true, eqb-false, eq-
 use Rattle.std.proofs.lemmas.List.{get_or-take, get_or_at, length-map}
 use Rattle.std.proofs.lemmas.List.Elements.{All-from_get_or}
 use Rattle.std.proofs.lemmas.List.Sums.{split_at_first, fails_before_first, passes_at_first, AllPass-from_list_all, list_all-from_AllPass}
-use Rattle.plain_model.specs.Limits.{IsDirName, IsFileName, IsNameCode, is_name_code}
+use Rattle.plain_model.specs.Limits.{IsDirName, IsFileName, is_name_code}
 use Rattle.script_lang.specs.Fields.{AreParts}
 use Rattle.script_lang.specs.Names.{are_parts, before, behind, directory_before, extension_behind, file_named, full_name, is_cut_name, is_dir_name, is_file_name, raised, stands_in}
 use Rattle.script_lang.proofs.Fronts.{name_lacks}
@@ -70,7 +70,8 @@ module _ (dir stem extension : List ℕ) where
   named_parts h =
       and_from (is_dir_name dir && nat_le 1 (length stem) && list_all is_name_code stem) (list_all is_name_code extension)
       (and_from (is_dir_name dir && nat_le 1 (length stem)) (list_all is_name_code stem)
-      (and_from (is_dir_name dir) (nat_le 1 (length stem)) (named_dir dir h.0) (le-leb 1 (length stem) h.1)) (list_all-from_AllPass is_name_code stem h.2)) (list_all-from_AllPass is_name_code extension h.3)
+      (and_from (is_dir_name dir) (nat_le 1 (length stem)) (named_dir dir h.0) (le-leb 1 (length stem) h.1)) (list_all-from_AllPass is_name_code stem h.2))
+      (list_all-from_AllPass is_name_code extension h.3)
 
 pub named_is : (text : List ℕ) → is_file_name text ≡ true → IsFileName text
 unfolding is_file_name
@@ -137,7 +138,9 @@ pub full_name-parts : (user extension text : List ℕ) → full_name user extens
 unfolding full_name
 full_name-parts user extension text = refl
 
-pub length-full_name : (user extension text : List ℕ) → length (full_name user extension text) ≡ length (directory_before user text) + (length text + length (extension_behind extension text))
+pub length-full_name : (user extension text : List ℕ) → length (full_name user extension text)
+    ≡ length (directory_before user text) + (length text + length (extension_behind extension text))
 length-full_name user extension text =
     ap length (full_name-parts user extension text) ∙ length-append (directory_before user text) (raised text ++ extension_behind extension text)
-    ∙ ap (λ n. length (directory_before user text) + n) (length-append (raised text) (extension_behind extension text) ∙ ap (λ n. n + length (extension_behind extension text)) (length-map text to_ascii_uppercase))
+    ∙ ap (λ n. length (directory_before user text) + n) (length-append (raised text) (extension_behind extension text)
+    ∙ ap (λ n. n + length (extension_behind extension text)) (length-map text to_ascii_uppercase))

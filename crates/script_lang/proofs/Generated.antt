@@ -1,13 +1,11 @@
 -- A generated script moves on from stage to stage.
-use Rattle.std.proofs.Common.{◌≡◌, ℕ, zero, suc, ◌+◌, ◌-◌, ◌*◌, ◌/◌, ◌%◌, ◌^◌, ◌<◌, ◌≤◌, List, [], ◌∷◌, ◌++◌, length, get_or, drop, refl, sym, ◌∙◌, ap, subst, arith, append_assoc}
+use Rattle.std.proofs.Common.{◌≡◌, ℕ, suc, ◌+◌, ◌-◌, ◌*◌, [], ◌∷◌, ◌++◌, refl, ◌∙◌, ap, arith}
 use Rattle.std.specs.Prelude.{codes, map}
 use Rattle.std.specs.List.{range_with_len}
-use Rattle.std.proofs.Math.Seq.{drop-cons}
-use Rattle.plain_model.specs.declared.event.Event.{Event}
-use Rattle.plain_model.specs.declared.event.Event.TheVariants.{Login, File, Words, Poke, Start as Starts, Run, Tick, Evict, Forks}
-use Rattle.script_lang.specs.Generator.{big_events, drawn, evictions, fills, first_number, generated_file, logins, next_number, number_after, one_word, pokes, program_words, programs, shown, stride_drawn, terminal, turns_drawn}
-use Rattle.script_lang.specs.Stages.{closing, evicting, filing, loading, rest_of, rest_of_program}
-use Rattle.script_lang.specs.declared.stages.Loading.TheVariants.{Code, Address, Turns, Stride, Start}
+use Rattle.plain_model.specs.declared.event.Event.TheVariants.{Login, Words, Run, Evict, Forks}
+use Rattle.script_lang.specs.Generator.{drawn, evictions, fills, generated_file, logins, next_number, number_after, one_word, pokes, program_words, programs, shown, terminal}
+use Rattle.script_lang.specs.Stages.{behind_code, closing, evicting, loading, rest_of}
+use Rattle.script_lang.specs.declared.stages.Loading.TheVariants.{Code}
 use Rattle.script_lang.specs.declared.stages.Stage.TheVariants as at
 
 -- the first of several, and none
@@ -52,13 +50,11 @@ number_twice : (m x : ℕ) → number_after (2 * suc m) x ≡ number_after (2 * 
 number_twice m x = let two : 2 * suc m ≡ suc (suc (2 * m)) = omega arith in ap (λ n. number_after n x) two
 
 -- the first program of several
-pub loading-first : (t n m x : ℕ) → n ≡ suc m → loading t n x ≡ pokes t 0o100 program_words
-    ++ (Poke (terminal t) 2 0o20 ∷ Poke (terminal t) 3 (turns_drawn x) ∷ Poke (terminal t) 4 (stride_drawn (next_number x)) ∷ Starts (terminal t) 0o100 ∷ loading (t + 1) m (number_after 2 x))
+pub loading-first : (t n m x : ℕ) → n ≡ suc m → loading t n x ≡ pokes t 0o100 program_words ++ behind_code t m x
 unfolding programs
 loading-first t n m x more = ap (λ k. loading t k x) more ∙ ap (λ k. programs t (suc m) x ++ evicting 40 k) (number_twice m x)
 
 -- where a program begins
 pub begun : (t m x : ℕ) → 8 - t ≡ suc m → m ≡ 7 - t → loading t (8 - t) x ≡ rest_of (at.Load t (Code 0)) x
 unfolding rest_of
-begun t m x more last = loading-first t (8 - t) m x more ∙ ap (λ k. pokes t 0o100 program_words
-    ++ (Poke (terminal t) 2 0o20 ∷ Poke (terminal t) 3 (turns_drawn x) ∷ Poke (terminal t) 4 (stride_drawn (next_number x)) ∷ Starts (terminal t) 0o100 ∷ loading (t + 1) k (number_after 2 x))) last
+begun t m x more last = loading-first t (8 - t) m x more ∙ ap (λ k. pokes t 0o100 program_words ++ behind_code t k x) last

@@ -1,15 +1,16 @@
 -- Each stage of a generated script gives its event, and the next stage.
-use Rattle.std.proofs.Common.{◌≡◌, ◌≢◌, ℕ, suc, ◌+◌, ◌-◌, ◌*◌, ◌%◌, ◌^◌, ◌<◌, ◌≤◌, List, [], ◌∷◌, ◌++◌, get_or, drop, true, refl, sym, ◌∙◌, ap, subst, arith, lit<, lit≤, All, append_assoc}
+use Rattle.std.proofs.Common.{◌≡◌, ◌≢◌, ℕ, suc, ◌+◌, ◌-◌, ◌*◌, ◌%◌, ◌^◌, ◌<◌, [], ◌∷◌, ◌++◌, get_or, drop, true, refl, sym, ◌∙◌, ap, arith, lit<, lit≤, All}
 use Rattle.std.specs.Prelude.{codes, replicate, ◌==◌, nat_lt}
 use Rattle.std.proofs.Math.Seq.{drop-cons}
 use Rattle.std.proofs.lemmas.Bool.{eqb-true, ltb-true}
 use Rattle.std.proofs.lemmas.List.Elements.{All-cons, All-weaker}
 use Rattle.std.proofs.lemmas.List.Sums.{AllPass-from_list_all}
+use Rattle.plain_model.specs.declared.event.Event.{Event}
 use Rattle.plain_model.specs.declared.event.Event.TheVariants.{Login, File, Words, Poke, Start as Starts, Run, Tick, Evict, Forks}
 use Rattle.plain_model.specs.Limits.{IsDirName, IsFileName, FitsRow, is_name_code}
 use Rattle.script_lang.specs.Names.{is_file_name}
-use Rattle.script_lang.specs.Generator.{big_events, drawn, first_number, fills, generated_file, logins, next_number, number_after, one_word, pokes, program_words, shown, stride_drawn, terminal, turns_drawn}
-use Rattle.script_lang.specs.Stages.{IsStage, Moves, closing, evicting, filing, loading, rest_of}
+use Rattle.script_lang.specs.Generator.{big_events, drawn, first_number, generated_file, next_number, one_word, pokes, program_words, terminal}
+use Rattle.script_lang.specs.Stages.{Moves, behind_code, evicting, filing, loading, rest_of}
 use Rattle.script_lang.specs.declared.stages.Loading.TheVariants.{Code, Address, Turns, Stride, Start}
 use Rattle.script_lang.specs.declared.stages.Stage.TheVariants as at
 use Rattle.script_lang.proofs.FullNames.{named_is}
@@ -69,7 +70,8 @@ module _ (t x : ℕ) where
   unfolding rest_of
   fill_last e = record {
     comes = ap (λ l. l ++ loading 0 8 x) (fills-first t (64 - t) 0 (omega arith))
-        ∙ (ap (λ l. Words generated_file t 0 (one_word (t + 1)) ∷ (l ++ loading 0 8 x)) (fills-none (t + 1)) ∙ ap (λ l. Words generated_file t 0 (one_word (t + 1)) ∷ l) (begun 0 7 x refl refl));
+        ∙ (ap (λ l. Words generated_file t 0 (one_word (t + 1)) ∷ (l ++ loading 0 8 x)) (fills-none (t + 1))
+        ∙ ap (λ l. Words generated_file t 0 (one_word (t + 1)) ∷ l) (begun 0 7 x refl refl));
     there = (lit< tt, lit< tt);
     fits = (file_fits, omega arith, row_fits (t + 1) (omega arith));
   }
@@ -164,7 +166,10 @@ word_small : (k : ℕ) → k < 6 → get_or program_words k 0 < 2 ^ 36
 word_small k h = ltb-true (get_or program_words k 0) (2 ^ 36) (AllPass-from_list_all (λ w. nat_lt w (2 ^ 36)) program_words refl k 0 h)
 
 module _ (t k w x : ℕ) (is : w ≡ get_or program_words k 0 % 2 ^ 36) (h : t < 8) (low : k < 6) where
-  first_word : pokes t (0o100 + k) (drop k program_words) ≡ Poke (terminal t) (0o100 + k) w ∷ pokes t (0o100 + (k + 1)) (drop (k + 1) program_words)
+  abbrev this : Event
+  this = Poke (terminal t) (0o100 + k) w
+
+  first_word : pokes t (0o100 + k) (drop k program_words) ≡ this ∷ pokes t (0o100 + (k + 1)) (drop (k + 1) program_words)
   first_word =
       let small = word_small k low in
       let same : get_or program_words k 0 ≡ w = omega arith in
@@ -172,24 +177,25 @@ module _ (t k w x : ℕ) (is : w ≡ get_or program_words k 0 % 2 ^ 36) (h : t <
       let one : suc k ≡ k + 1 = omega arith in
       ap (pokes t (0o100 + k)) (drop-cons program_words k 0 low)
       ∙ (ap (λ v. Poke (terminal t) (0o100 + k) v ∷ pokes t (0o100 + k + 1) (drop (suc k) program_words)) same
-      ∙ (ap (λ a. Poke (terminal t) (0o100 + k) w ∷ pokes t a (drop (suc k) program_words)) on ∙ ap (λ n. Poke (terminal t) (0o100 + k) w ∷ pokes t (0o100 + (k + 1)) (drop n program_words)) one))
+      ∙ (ap (λ a. this ∷ pokes t a (drop (suc k) program_words)) on
+      ∙ ap (λ n. this ∷ pokes t (0o100 + (k + 1)) (drop n program_words)) one))
 
   word_fits : w < 2 ^ 36
   word_fits = let small = word_small k low in omega arith
 
-  pub code_next : k ≢ 5 → Moves (at.Load t (Code k)) x (Poke (terminal t) (0o100 + k) w) (at.Load t (Code (k + 1))) x
+  pub code_next : k ≢ 5 → Moves (at.Load t (Code k)) x this (at.Load t (Code (k + 1))) x
   unfolding rest_of
   code_next ne = record {
-    comes = ap (λ l. l ++ (Poke (terminal t) 2 0o20 ∷ Poke (terminal t) 3 (turns_drawn x) ∷ Poke (terminal t) 4 (stride_drawn (next_number x)) ∷ Starts (terminal t) 0o100 ∷ loading (t + 1) (7 - t) (number_after 2 x))) first_word;
+    comes = ap (λ l. l ++ behind_code t (7 - t) x) first_word;
     there = (h, omega arith);
     fits = (omega arith, omega arith, word_fits);
   }
 
-  pub code_last : k ≡ 5 → Moves (at.Load t (Code k)) x (Poke (terminal t) (0o100 + k) w) (at.Load t Address) x
+  pub code_last : k ≡ 5 → Moves (at.Load t (Code k)) x this (at.Load t Address) x
   unfolding rest_of
   code_last e = record {
-    comes = ap (λ l. l ++ (Poke (terminal t) 2 0o20 ∷ Poke (terminal t) 3 (turns_drawn x) ∷ Poke (terminal t) 4 (stride_drawn (next_number x)) ∷ Starts (terminal t) 0o100 ∷ loading (t + 1) (7 - t) (number_after 2 x))) first_word
-        ∙ ap (λ n. Poke (terminal t) (0o100 + k) w ∷ (pokes t (0o100 + (n + 1)) (drop (n + 1) program_words) ++ (Poke (terminal t) 2 0o20 ∷ Poke (terminal t) 3 (turns_drawn x) ∷ Poke (terminal t) 4 (stride_drawn (next_number x)) ∷ Starts (terminal t) 0o100 ∷ loading (t + 1) (7 - t) (number_after 2 x)))) e;
+    comes = ap (λ l. l ++ behind_code t (7 - t) x) first_word
+        ∙ ap (λ n. this ∷ (pokes t (0o100 + (n + 1)) (drop (n + 1) program_words) ++ behind_code t (7 - t) x)) e;
     there = (h, tt);
     fits = (omega arith, omega arith, word_fits);
   }

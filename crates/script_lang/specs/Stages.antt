@@ -25,21 +25,23 @@ loading t n x = programs t n x ++ evicting 40 (number_after (2 * n) x)
 abbrev pub filing : ℕ → List Event
 filing x = File generated_file ∷ (fills 0 64 ++ loading 0 8 x)
 
+-- a terminal's program behind its code, and the lines from the programs of so many more terminals on
+abbrev pub behind_code : ℕ → ℕ → ℕ → List Event
+behind_code t n x =
+    Poke (terminal t) 2 0o20
+    ∷ Poke (terminal t) 3 (turns_drawn x)
+    ∷ Poke (terminal t) 4 (stride_drawn (next_number x))
+    ∷ Starts (terminal t) 0o100
+    ∷ loading (t + 1) n (number_after 2 x)
+
 -- what is left of a terminal's program, and the lines behind it
 abbrev pub rest_of_program : ℕ → Loading → ℕ → List Event
 rest_of_program t Start x = Starts (terminal t) 0o100 ∷ loading (t + 1) (7 - t) x
 rest_of_program t Stride x = Poke (terminal t) 4 (stride_drawn x) ∷ Starts (terminal t) 0o100 ∷ loading (t + 1) (7 - t) (next_number x)
 rest_of_program t Turns x =
     Poke (terminal t) 3 (turns_drawn x) ∷ Poke (terminal t) 4 (stride_drawn (next_number x)) ∷ Starts (terminal t) 0o100 ∷ loading (t + 1) (7 - t) (number_after 2 x)
-rest_of_program t Address x =
-    Poke (terminal t) 2 0o20
-    ∷ Poke (terminal t) 3 (turns_drawn x)
-    ∷ Poke (terminal t) 4 (stride_drawn (next_number x))
-    ∷ Starts (terminal t) 0o100
-    ∷ loading (t + 1) (7 - t) (number_after 2 x)
-rest_of_program t (Code k) x =
-    pokes t (0o100 + k) (drop k program_words)
-    ++ (Poke (terminal t) 2 0o20 ∷ Poke (terminal t) 3 (turns_drawn x) ∷ Poke (terminal t) 4 (stride_drawn (next_number x)) ∷ Starts (terminal t) 0o100 ∷ loading (t + 1) (7 - t) (number_after 2 x))
+rest_of_program t Address x = behind_code t (7 - t) x
+rest_of_program t (Code k) x = pokes t (0o100 + k) (drop k program_words) ++ behind_code t (7 - t) x
 
 -- what is left at a stage where this is the last number
 unfoldable pub rest_of : Stage → ℕ → List Event

@@ -99,7 +99,8 @@ assigned_gone codes code are = assigned_less codes (map.remove codes code) are (
     at k a e (inl is) = let clash : None ≡ Some a = sym (get_gone codes code k is) ∙ e in cc clash
     at k a e (inr ne) = sym (get_gone_other codes code k ne) ∙ e
 
-pub assigned_put : (codes : Codes) (code : ℕ) (fork : ForkName) (channel : ℕ) → AreAssigned codes → IsAssignable code → channel < 36 → AreAssigned (map.insert codes code (fork, channel))
+pub assigned_put : (codes : Codes) (code : ℕ) (fork : ForkName) (channel : ℕ) → AreAssigned codes → IsAssignable code → channel < 36
+    → AreAssigned (map.insert codes code (fork, channel))
 assigned_put codes code fork channel are may small = record { each = λ k f c e. at k f c e (cases_eq k code) }
   where
     at : (k : ℕ) (f : ForkName) (c : ℕ) → map.get (map.insert codes code (fork, channel)) k ≡ Some (f, c) → (k ≡ code) ⊎ (k ≢ code) → IsAssignable k × (c < 36)

@@ -15,7 +15,8 @@ use Rattle.tty_lines.specs.Typing.{fate_of, is_input, left_by, posted_or_stored,
 
 -- the line has of these what goes to the program, up to the most that it stores
 abbrev IsInOrder : List ℕ → Type 0
-IsInOrder typed = (line : InputLine) → length line.input ≤ MOST_STORED → (typed_all line typed).input ≡ take MOST_STORED (line.input ++ filter (is_input line.codes) (map read_as typed))
+IsInOrder typed = (line : InputLine) → length line.input ≤ MOST_STORED
+    → (typed_all line typed).input ≡ take MOST_STORED (line.input ++ filter (is_input line.codes) (map read_as typed))
 
 full : (input more : List ℕ) (c : ℕ) → MOST_STORED ≤ length input → take MOST_STORED (input ++ more) ≡ take MOST_STORED (input ++ c ∷ more)
 full input more c h = take-append-le MOST_STORED input more h ∙ sym (take-append-le MOST_STORED input (c ∷ more) h)

@@ -19,7 +19,8 @@ pub record InputLine : Type 0 where
 -- what a code is assigned to is stored as the three numbers of the fork and the channel
 abbrev pub assigned_code : Coded (ForkName × ℕ)
 assigned_code =
-    code_by ((ℕ × ℕ) × ℕ) (coded× (coded× coded_ℕ coded_ℕ) coded_ℕ) (λ a. ((a.0.tty.0, a.0.serial), a.1)) (λ n. (record { tty = record { 0 = n.0.0 }; serial = n.0.1 }, n.1)) (λ _. refl)
+    code_by ((ℕ × ℕ) × ℕ) (coded× (coded× coded_ℕ coded_ℕ) coded_ℕ) (λ a. ((a.0.tty.0, a.0.serial), a.1))
+    (λ n. (record { tty = record { 0 = n.0.0 }; serial = n.0.1 }, n.1)) (λ _. refl)
 
 -- a line is stored as its two parts
 abbrev pub line_code : Coded InputLine

@@ -11,7 +11,8 @@ pub returns-then-to_ascii_uppercase-verb : goal.returns-then-to_ascii_uppercase-
 returns-then-to_ascii_uppercase-verb c =
     let word = c.args.word.now in
     let verb = c.args.verb.now in
-    sym (differ (raised word) verb c.loop-i.i (λ same. c.if-to_ascii_uppercase-verb.true (c.to_ascii_uppercase.ensures.value ∙ (sym (get_or-map to_ascii_uppercase word c.loop-i.i 0) ∙ same))))
+    let here = c.to_ascii_uppercase.ensures.value ∙ sym (get_or-map to_ascii_uppercase word c.loop-i.i 0) in
+    sym (differ (raised word) verb c.loop-i.i (λ same. c.if-to_ascii_uppercase-verb.true (here ∙ same)))
 
 pub returns : goal.returns
 returns c =

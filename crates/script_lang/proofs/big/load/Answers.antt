@@ -9,11 +9,13 @@ returns-in-Address c = rw (c.in-Address.is, c.poke.ensures) (address_moves c.arg
 
 pub returns-in-Turns : goal.returns-in-Turns
 returns-in-Turns c =
-    rw (c.in-Turns.is, c.poke-in-Turns.ensures, c.draw.ensures.last) (turns_move c.args.t c.args.draws.now.last c.draw.result c.requires.0 c.draw.ensures.value c.draw.ensures.below)
+    let drawn = c.draw.ensures in
+    rw (c.in-Turns.is, c.poke-in-Turns.ensures, drawn.last) (turns_move c.args.t c.args.draws.now.last c.draw.result c.requires.0 drawn.value drawn.below)
 
 pub returns-in-Stride : goal.returns-in-Stride
 returns-in-Stride c =
-    rw (c.in-Stride.is, c.poke-in-Stride.ensures, c.draw-in-Stride.ensures.last) (stride_moves c.args.t c.args.draws.now.last c.draw-in-Stride.result c.requires.0 c.draw-in-Stride.ensures.value c.draw-in-Stride.ensures.below)
+    let drawn = c.draw-in-Stride.ensures in
+    rw (c.in-Stride.is, c.poke-in-Stride.ensures, drawn.last) (stride_moves c.args.t c.args.draws.now.last c.draw-in-Stride.result c.requires.0 drawn.value drawn.below)
 
 pub returns-in-Start : goal.returns-in-Start
 returns-in-Start c = rw c.in-Start.is (c.start.ensures c.args.draws.now.last)

@@ -5,7 +5,8 @@ use Rattle.script_lang.specs.Names.{file_named, full_name}
 use Rattle.script_lang.proofs.FullNames.{long_named, none_named, one_named}
 use Rattle.script_lang.proofs.named.read_name.Goals as goal
 
-read : (user extension text full : List ℕ) (r : Option (List ℕ)) → full ≡ full_name user extension text → MatchOption r (IsFileName full → ⊥) (λ name. (name ≡ full) × IsFileName full)
+read : (user extension text full : List ℕ) (r : Option (List ℕ)) → full ≡ full_name user extension text
+    → MatchOption r (IsFileName full → ⊥) (λ name. (name ≡ full) × IsFileName full)
     → r ≡ file_named user extension text
 read user extension text full None is none = sym (none_named user extension text (λ h. none (subst IsFileName (sym is) h)))
 read user extension text full (Some name) is one = ap Some (one.0 ∙ is) ∙ sym (one_named user extension text (subst IsFileName is one.1))

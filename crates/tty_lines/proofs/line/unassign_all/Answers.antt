@@ -10,4 +10,5 @@ loop-code-preserved c =
 
 pub returns : goal.returns
 returns c =
-    below_all map.empty c.args.codes.now c.loop-code.codes c.loop-code.code c.loop-code.invariant (λ k h. none_beyond c.args.codes.now c.requires k (omega arith) ∙ sym (map.get-empty nat_cmp k))
+    below_all map.empty c.args.codes.now c.loop-code.codes c.loop-code.code c.loop-code.invariant
+    (λ k h. none_beyond c.args.codes.now c.requires k (omega arith) ∙ sym (map.get-empty nat_cmp k))
