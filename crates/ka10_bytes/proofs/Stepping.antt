@@ -3,7 +3,7 @@ use Rattle.std.proofs.Common.{◌≡◌, ◌∙◌, ℕ, zero, suc, ◌+◌, ◌
 use Rattle.std.specs.Prelude.{nat_le}
 use Rattle.std.proofs.lemmas.Bool.Decides.{nat_tests}
 use Rattle.std.proofs.lemmas.Nat.{le-div, mod_below, div-add-mod'}
-use Rattle.word36.specs.Bytes.{position, size, with_position, in_next_word, incremented, increments, IsBytePlace}
+use Rattle.word36.specs.Bytes.{position, size, byte_at, loaded, with_position, in_next_word, incremented, increments, IsBytePlace}
 
 position_is : (p x : ℕ) → position (with_position p x) ≡ x
 position_is p x = omega arith
@@ -85,3 +85,12 @@ comes p h =
     let rest : 36 % size p < size p = mod_below 36 (size p) some in
     counted p (36 / size p) ((36 - position p) / size p) some (omega arith) (omega arith) (omega arith) (omega arith) (omega arith)
     (le-div ((36 - position p) / size p) 36 (size p) some (omega arith))
+
+-- so many bytes behind the start of a word
+pub in_order : (p w k : ℕ) → position p ≡ 36 → (k + 1) * size p ≤ 36 → loaded (increments (k + 1) p) w ≡ byte_at (36 - (k + 1) * size p) (size p) w
+unfolding loaded
+in_order p w k before inside =
+    let at : increments (k + 1) p ≡ with_position p (position p - (k + 1) * size p) = ap (increments (k + 1)) (sym (placed_again p)) ∙ rights (k + 1) p (position p) (omega (arith, before)) in
+    ap (λ q. byte_at (position q) (size q) w) at
+    ∙ ap (λ x. byte_at x (size (with_position p (position p - (k + 1) * size p))) w) (position_is p (position p - (k + 1) * size p) ∙ ap (λ x. x - (k + 1) * size p) before)
+    ∙ ap (λ x. byte_at (36 - (k + 1) * size p) x w) (size_is p (position p - (k + 1) * size p))

@@ -8,5 +8,8 @@ mod laws;
 mod pointers;
 
 pub use bytes::{deposit, load};
-pub use laws::{comes_to_next_word, loads_what_is_deposited, other_bits_stay, stays_as_loaded};
+pub use laws::{
+    bytes_come_in_order, comes_to_next_word, loads_what_is_deposited, other_bits_stay,
+    stays_as_loaded,
+};
 pub use pointers::increment;
