@@ -91,6 +91,7 @@ impl Dir {
         let f = FileNo(n as u16);
         let place = count_before(&self.order, &self.names, name.as_slice());
         let Ok(()) = self.order.insert(place, f) else {
+            // There is room for every file from the start.
             unreachable!();
         };
         self.names.insert(n, *name);
@@ -120,7 +121,7 @@ impl Dir {
         let first = count_before(&self.order, &self.names, front.as_slice());
         let place = first.max(behind);
         let f = *self.order.get(place)?;
-        let is_there = self.name_of(f).as_slice().starts_with(front.as_slice());
-        is_there.then_some(f)
+        let belongs = self.name_of(f).as_slice().starts_with(front.as_slice());
+        belongs.then_some(f)
     }
 }

@@ -1,5 +1,11 @@
+ghost use Rattle.std.specs.Prelude.{◌≡◌, ◌<◌, IfOk, slice_set};
+ghost use Rattle.std.specs.FinMap as map;
+ghost use Rattle.jfn_table.specs.JobFiles.{taken as new_jfn};
+ghost use Rattle.jfn_table.specs.Jobs.{jfns_of};
+
 use super::*;
-use plain_model::{FileNo, Jfn, Mode, Tty};
+use page_files::MOST_FILES;
+use plain_model::{FileNo, Jfn, Mode, TERMINALS, Tty};
 use std::test::Fail;
 
 const READ: Mode = Mode { r: true, w: false };
@@ -100,12 +106,22 @@ fn a_file_is_opened_and_read_on(rt: HostRuntime) -> Result<(), Fail> {
     Ok(())
 }
 
+// Takes a JFN for the job at a terminal. The other jobs hold what they held.
+fn taken(jobs: &mut JobJfns, t: Tty, f: FileNo) -> Result<u32, JfnsFull>
+    requires terminal { t.0 < TERMINALS }
+    requires file { f.0 < MOST_FILES }
+    ensures { IfOk result (λ n. jobs.new
+        ≡ slice_set jobs.old t.0 (map.insert (jfns_of jobs.old t.0) n (new_jfn f.0))) }
+{
+    jobs.of_mut(t).take(f)
+}
+
 #[test]
 fn jobs_have_their_own(rt: HostRuntime) -> Result<(), Fail> {
     let mut jobs = JobJfns::boot(rt.alloc())?;
-    assert_eq!(rt; jobs.of_mut(Tty(0)).take(FileNo(3)), Ok(1));
-    assert_eq!(rt; jobs.of_mut(Tty(15)).take(FileNo(3)), Ok(1));
-    assert_eq!(rt; jobs.of_mut(Tty(15)).take(FileNo(3)), Ok(2));
+    assert_eq!(rt; taken(&mut jobs, Tty(0), FileNo(3)), Ok(1));
+    assert_eq!(rt; taken(&mut jobs, Tty(15), FileNo(3)), Ok(1));
+    assert_eq!(rt; taken(&mut jobs, Tty(15), FileNo(3)), Ok(2));
     assert_eq!(rt; jobs.names(FileNo(3)), 3);
     assert!(rt; released(jobs.of_mut(Tty(15)), 1));
     assert_eq!(rt; jobs.names(FileNo(3)), 2);

@@ -58,11 +58,11 @@ returns c =
     let here : file_at order place ≡ f.0 = ap (λ (g : FileNo). g.0) (get_or_default order place no_file f within ∙ sym at) in
     let named : map.get m f.0 ≡ Some name = ap (λ files. map.get files f.0) c.self.view_is ∙ c.name_of.ensures.name in
     let rest = drop (length c.as_slice-4.result.now) c.as_slice-3.result.now in
-    let starts = starts_is Decides-eqb c.as_slice-3.result.now c.as_slice-4.result.now c.starts_with-is_there.result c.starts_with-is_there.ensures.value in
-    rw c.then_some.ensures (subst (λ files. MatchOption (then_some c.starts_with-is_there.result f) ((g : ℕ) → ComesAfter files dir c.args.after g → ⊥)
+    let starts = starts_is Decides-eqb c.as_slice-3.result.now c.as_slice-4.result.now c.starts_with-belongs.result c.starts_with-belongs.ensures.value in
+    rw c.then_some.ensures (subst (λ files. MatchOption (then_some c.starts_with-belongs.result f) ((g : ℕ) → ComesAfter files dir c.args.after g → ⊥)
     (λ y. IsNext files dir c.args.after y.0)) c.self.view_is
     (listed m order o dir c.args.after first behind place split past (omega (arith, c.max-place.ensures)) (omega (arith, c.max-place.ensures))
     (omega (arith, c.max-place.ensures))
-    within f.0 here name named c.starts_with-is_there.result f (λ i. f.0)
+    within f.0 here name named c.starts_with-belongs.result f (λ i. f.0)
     (λ holds. (rest, sym c.as_slice-3.ensures ∙ (starts.0 holds ∙ ap (λ t. t ++ rest) front_again)))
     (λ file is. starts.1 file (c.as_slice-3.ensures ∙ (is ∙ ap (λ t. t ++ file) (sym front_again))))))
