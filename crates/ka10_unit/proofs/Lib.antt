@@ -1,6 +1,7 @@
 mod Outcomes
 mod Acting
 pub mod Gliding
+pub mod Storing
 pub mod Finishing
 pub mod Placing
 pub mod IndirectWords

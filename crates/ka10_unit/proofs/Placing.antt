@@ -9,8 +9,7 @@ use Rattle.word36.specs.Words.{joined}
 use Rattle.ka10_table.specs.declared.families.Family.{Family}
 use Rattle.ka10_table.specs.declared.families.Family.TheVariants.{ByteOp}
 use Rattle.ka10_table.specs.declared.families.TableRow.{TableRow}
-use Rattle.ka10_table.specs.Rows.{row_of, IsInLine}
-use Rattle.ka10_table.proofs.Listed.{row_in_line}
+use Rattle.ka10_table.specs.Rows.{row_of}
 use Rattle.plain_model.specs.declared.names.ForkName.{ForkName}
 use Rattle.plain_model.specs.declared.names.Kind.TheVariants.{Read, Write, Execute}
 use Rattle.plain_model.specs.declared.names.TheConstants.{ACCUMULATORS}
@@ -27,16 +26,15 @@ use Rattle.ka10_unit.specs.declared.committed.Committed.{Committed}
 use Rattle.ka10_unit.specs.declared.ending.Quick.{Quick}
 use Rattle.ka10_unit.specs.declared.ending.Quick.TheVariants as quick
 use Rattle.ka10_unit.specs.Commits.{Leaves, channel_of}
+use Rattle.ka10_unit.specs.Acts.{Instruction}
 use Rattle.ka10_unit.specs.Glide.{is_ready, glide, Takes}
+use Rattle.ka10_unit.specs.Targets.{unstored, target_of, place_of}
+use Rattle.ka10_unit.proofs.Storing.{stores_at, stored_nowhere, stored_to}
 use Rattle.ka10_unit.specs.Once.{After}
-use Rattle.ka10_unit.specs.InPlace.{Does, IsOf, IfDone, InPlace, Finish, Addressee, is_addressed, is_deed, behind_address, ended}
+use Rattle.ka10_unit.specs.InPlace.{Does, IsOwnRow, deed_in, taken_in, IfDone, InPlace, Finish, Addressee, is_addressed, is_deed, behind_address, ended}
 use Rattle.ka10_unit.specs.Spots.{Stored, StoredIf}
 use Rattle.ka10_unit.specs.Stores.{IsNowhere, GoesTo, IsOperand}
 use Rattle.ka10_unit.proofs.Finishing.{if_ended, if_more, never_slow, for_all, ends_bare, ends_low, ends_high, takes_none, takes_some, no_word}
-
--- the row of an opcode is in its line
-pub in_line : (op : ℕ) (row : TableRow) → IsOf op row → IsInLine op row
-in_line op row of_op = subst (λ (r : TableRow). IsInLine op r) (sym of_op.is) (row_in_line op of_op.below)
 
 -- no accumulator more or less
 length_with : (ac : List ℕ) (i : ℕ) (w : Option ℕ) → length (with_word ac i w) ≡ length ac
@@ -106,31 +104,42 @@ deed_addressed : (family : Family) (row : TableRow) (op : ℕ) (regs : Regs) (ac
 deed_addressed ByteOp row op regs ac e last h = absurd (cc h)
 deed_addressed family row op regs ac e last h = (h, refl)
 
-module _ (row : TableRow) (op ac e last m : ℕ) (regs : Regs) (same : row ≡ row_of op) (deed : is_deed row.family ac ≡ true) (f : ForkName) (p : NumberedPages) (a : After nat_cmp) where
-  behind : (n : ℕ) → glide f p regs.ac n (does row op regs ac e last) ≡ Some a → (is_addressed (row_of op).family ac ≡ true) × (glide f p regs.ac n (behind_address (row_of op).family (row_of op) op regs ac e last) ≡ Some a)
+module _ (i : Instruction) (ac e last m : ℕ) (regs : Regs) (own : IsOwnRow i) (deed : is_deed i.row.family ac ≡ true) (f : ForkName) (p : NumberedPages) (a : After nat_cmp) where
+  behind : (n : ℕ) → glide f p regs.ac n (does i.row i.op regs ac e last) ≡ Some a → (is_addressed (row_of i.op).family ac ≡ true) × (glide f p regs.ac n (behind_address (row_of i.op).family (row_of i.op) i.op regs ac e last) ≡ Some a)
   behind n h =
-      let d = deed_addressed row.family row op regs ac e last deed in
-      subst (λ (r : TableRow). (is_addressed r.family ac ≡ true) × (glide f p regs.ac n (behind_address r.family r op regs ac e last) ≡ Some a)) same (d.0, ap (glide f p regs.ac n) d.1 ∙ h)
+      let d = deed_addressed i.row.family i.row i.op regs ac e last deed in
+      subst (λ (r : TableRow). (is_addressed r.family ac ≡ true) × (glide f p regs.ac n (behind_address r.family r i.op regs ac e last) ≡ Some a)) own (d.0, ap (glide f p regs.ac n) d.1 ∙ h)
 
-  addressed : is_addressed (row_of op).family ac ≡ true
-  addressed = subst (λ (r : TableRow). is_addressed r.family ac ≡ true) same (deed_addressed row.family row op regs ac e last deed).0
+  addressed : is_addressed (row_of i.op).family ac ≡ true
+  addressed = subst (λ (r : TableRow). is_addressed r.family ac ≡ true) own (deed_addressed i.row.family i.row i.op regs ac e last deed).0
 
   -- with its operand it does its deed
-  pub addressee : (from : Option ℕ) → from ≡ taken_of row regs ac e → IsOperand f p regs.ac from e m → Finish regs ac (deed_of row op regs ac e last m) f p a → Addressee op regs ac e last f p a
-  unfolding does
+  addressee : (from : Option ℕ) → taken_in i regs ac e ≡ from → IsOperand f p regs.ac from e m → Finish regs ac (deed_in i regs ac e last m) f p a → Addressee i.op regs ac e last f p a
+  unfolding does taken_of
   addressee None none is h = record {
     addressed = addressed;
-    runs = λ n less. (behind n (takes_none f p regs.ac n e (taken_of row regs ac e) (λ w. finishes regs ac (deed_of row op regs ac e last w)) (sym none)
-        ∙ subst (λ (w : ℕ). glide f p regs.ac n (finishes regs ac (deed_of row op regs ac e last w)) ≡ Some a) is (h n (omega arith)))).1;
+    runs = λ n less. (behind n (takes_none f p regs.ac n e (taken_in i regs ac e) (λ w. finishes regs ac (deed_in i regs ac e last w)) none
+        ∙ subst (λ (w : ℕ). glide f p regs.ac n (finishes regs ac (deed_in i regs ac e last w)) ≡ Some a) is (h n (omega arith)))).1;
   }
   addressee (Some from) some t h = record {
     addressed = addressed;
-    runs = λ n less. (behind n (takes_some f p regs.ac n e from m (taken_of row regs ac e) (λ w. finishes regs ac (deed_of row op regs ac e last w)) (omega arith) (sym some) t ∙ h (n + 1) (omega arith))).1;
+    runs = λ n less. (behind n (takes_some f p regs.ac n e from m (taken_in i regs ac e) (λ w. finishes regs ac (deed_in i regs ac e last w)) (omega arith) some t ∙ h (n + 1) (omega arith))).1;
   }
 
 -- the same, where it is done in place
-pub deed_in_place : {P : Type 0} (means : PagesMeaning P) (space : SpaceHandle) (row : TableRow) (op ac e last m : ℕ) (regs : Regs) → row ≡ row_of op → is_deed row.family ac ≡ true → (s t : P) (after : Regs) (q : Quick)
-    → InPlace means space (Finish regs ac (deed_of row op regs ac e last m)) s t regs after q → (from : Option ℕ) → from ≡ taken_of row regs ac e
-    → ((d : DrumWords) (f : ForkName) → means.fits s d → means.space s f ≡ Some space → IsOperand f (means.plain s d) regs.ac from e m) → InPlace means space (Addressee op regs ac e last) s t regs after q
-deed_in_place means space row op ac e last m regs same deed s t after q i from taken operand = in_place_more means space _ (Addressee op regs ac e last) s t regs after q i
-    (λ d f fits h. for_all q _ (λ post. addressee row op ac e last m regs same deed f (means.plain s d) _ from taken (operand d f fits h)))
+pub deed_in_place : {P : Type 0} (means : PagesMeaning P) (space : SpaceHandle) (i : Instruction) (ac e last m : ℕ) (regs : Regs) → IsOwnRow i → is_deed i.row.family ac ≡ true → (s t : P) (after : Regs) (q : Quick)
+    → InPlace means space (Finish regs ac (deed_in i regs ac e last m)) s t regs after q → (from : Option ℕ) → taken_in i regs ac e ≡ from
+    → ((d : DrumWords) (f : ForkName) → means.fits s d → means.space s f ≡ Some space → IsOperand f (means.plain s d) regs.ac from e m) → InPlace means space (Addressee i.op regs ac e last) s t regs after q
+deed_in_place means space i ac e last m regs own deed s t after q h from taken operand = in_place_more means space _ (Addressee i.op regs ac e last) s t regs after q h
+    (λ d f fits is. for_all q _ (λ post. addressee i ac e last m regs own deed f (means.plain s d) _ from taken (operand d f fits is)))
+
+-- where an instruction stores
+pub deed_nowhere : (i : Instruction) (regs : Regs) (ac e last m : ℕ) → target_of i.row ≡ unstored → IsNowhere (deed_in i regs ac e last m).store
+deed_nowhere i regs ac e last m h = stored_nowhere (target_of i.row) (in_ac regs ac) e m (deed_in i regs ac e last m) h (stores_at i.row i.op regs ac e last m)
+
+pub deed_to : (i : Instruction) (regs : Regs) (ac e last m to : ℕ) → place_of (target_of i.row) (in_ac regs ac) e ≡ Some to → GoesTo to (deed_in i regs ac e last m).store
+deed_to i regs ac e last m to h = stored_to (target_of i.row) (in_ac regs ac) e m to (deed_in i regs ac e last m) h (stores_at i.row i.op regs ac e last m)
+
+-- 0,,E
+pub is_e : (m e : ℕ) → m ≡ joined 0 e → m ≡ e
+is_e m e h = omega arith

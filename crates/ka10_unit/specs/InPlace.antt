@@ -9,7 +9,7 @@ use Rattle.plain_model.specs.declared.channel.TheConstants.{OVERFLOW, PUSHDOWN_O
 use Rattle.plain_model.specs.declared.fork.Regs.{Regs}
 use Rattle.plain_model.specs.declared.map.SpaceHandle.{SpaceHandle}
 use Rattle.plain_model.specs.declared.names.ForkName.{ForkName}
-use Rattle.plain_model.specs.Deeds.{Deed}
+use Rattle.plain_model.specs.Deeds.{Deed, deed_of, in_ac, taken_by}
 use Rattle.plain_model.specs.Instructions.{does, does_pointer, finishes, is_executive}
 use Rattle.plain_model.specs.Outcome.{DrumWords}
 use Rattle.plain_model.specs.Pages.{PagesMeaning, HasSpace, StaysPut}
@@ -19,6 +19,7 @@ use Rattle.ka10_unit.specs.declared.ending.Quick.{Quick}
 use Rattle.ka10_unit.specs.declared.ending.Quick.TheVariants as quick
 use Rattle.ka10_unit.specs.declared.committed.Post.{Post}
 use Rattle.ka10_unit.specs.declared.committed.Post.TheVariants as post
+use Rattle.ka10_unit.specs.Acts.{Instruction}
 use Rattle.ka10_unit.specs.Glide.{glide}
 use Rattle.ka10_unit.specs.Once.{After, once}
 
@@ -61,10 +62,17 @@ Rest most regs left f p a = (n : ℕ) → n ≤ most → glide f p regs.ac n lef
 abbrev pub Finish : Regs → ℕ → Deed → Does
 Finish regs ac deed = Rest 15 regs (finishes regs ac deed)
 
--- a row is that of an opcode
-pub record IsOf (op : ℕ) (row : TableRow) : Type 0 where
-  pub below : op < 512
-  pub is : row ≡ row_of op
+-- an instruction with its own row
+abbrev pub IsOwnRow : Instruction → Type 0
+IsOwnRow i = i.row ≡ row_of i.op
+
+-- the deed of an instruction with its accumulator, its address, the last word taken for that, and its operand
+abbrev pub deed_in : Instruction → Regs → ℕ → ℕ → ℕ → ℕ → Deed
+deed_in i regs ac e last m = deed_of i.row i.op regs ac e last m
+
+-- the address of the word that it takes, if it takes one
+abbrev pub taken_in : Instruction → Regs → ℕ → ℕ → Option ℕ
+taken_in i regs ac e = taken_by i.row.family i.row.mode i.row.code (in_ac regs ac) e
 
 -- an instruction that goes on with its effective address
 abbrev pub is_addressed : Family → ℕ → Bool

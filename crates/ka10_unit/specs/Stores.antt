@@ -21,6 +21,13 @@ GoesTo a (back at w) = at ≡ a
 GoesTo a (into at w) = at ≡ a
 GoesTo a (before at w) = ⊥
 
+-- this word is stored at an address, before the accumulators are written
+abbrev pub IsBefore : ℕ → ℕ → Store → Type 0
+IsBefore a v nowhere = ⊥
+IsBefore a v (back at w) = ⊥
+IsBefore a v (into at w) = ⊥
+IsBefore a v (before at w) = (at ≡ a) × (w ≡ v)
+
 -- an operand: 0,,E, or the word at an address
 abbrev pub IsOperand : ForkName → NumberedPages → List ℕ → Option ℕ → ℕ → ℕ → Type 0
 IsOperand f p ac None e m = m ≡ e

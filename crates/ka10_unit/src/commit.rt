@@ -21,7 +21,6 @@ use word36::Word;
 /// word taken for that, and the operand. A row that is no instruction, that goes on with another
 /// word, a monitor call and a byte instruction only come to the next instruction here.
 #[tactic(auto, unfolding(plain_model::specs::Deeds::deed_of))]
-#[inline(always)]
 pub fn commit_row(
     row: TableRow,
     op: u16,

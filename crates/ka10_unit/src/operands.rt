@@ -24,7 +24,6 @@ pub enum Destination {
 /// The address of the word that the instruction of a row takes. None exactly where it takes none:
 /// its operand is then 0,,E.
 #[tactic(auto, unfolding(plain_model::specs::Deeds::taken_of))]
-#[inline(always)]
 pub fn operand_address(row: TableRow, regs: &Regs, ac: u8, e: u32) -> Option<u32>
     requires ac { ac < 16 }
     requires e { e < 2 ^ 18 }
@@ -90,7 +89,6 @@ fn address_behind_eight(code: u8, e: u32) -> Option<u32>
 /// Where the instruction of a row stores a word, if it stores one: whether it does is told once it
 /// is committed, since a division that isn't done stores none.
 #[tactic(auto, unfolding(plain_model::specs::Deeds::deed_of))]
-#[inline(always)]
 pub fn destination_of(row: TableRow, regs: &Regs, ac: u8, e: u32) -> Destination
     requires ac { ac < 16 }
     requires e { e < 2 ^ 18 }
