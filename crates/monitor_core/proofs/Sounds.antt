@@ -53,21 +53,30 @@ dropped_off f channel off other =
 forced_fits : (channel : ℕ) → channel < 36 → FitsForced (AForced channel)
 forced_fits channel few c h = let same : channel ≡ c = cc h in omega (arith, few, same)
 
+-- the panic channels are among the 36
+pub panic_fits : (channel : ℕ) → is_panic channel ≡ true → channel < 36
+panic_fits channel panic = grind (arith, nat_tests)
+
 -- a fork behind a unit that left these registers
 module _ (f : Fork) (off : f.body.psi.on ≡ false) (regs : Regs) (pc : regs.pc < 2 ^ 18) (accumulators : length regs.ac ≡ ACCUMULATORS) where
-  -- a channel forced it
-  pub forced_keeps : (channel : ℕ) → is_panic channel ≡ true → channel < 36 → Kept f (counted (posted (with_regs f regs) channel)) 1
-  forced_keeps channel panic few =
-      subst (λ g. Kept f (counted g) 1) (sym (posted_off (with_regs f regs) channel off panic)) (record { name = refl; slot = refl; superior = refl; status = λ h. forced_fits channel few; on = refl; pc = pc; accumulators = accumulators; units = refl })
-
   plain_keeps : Kept f (counted (with_regs f regs)) 1
   plain_keeps = record { name = refl; slot = refl; superior = refl; status = λ s. s; on = refl; pc = pc; accumulators = accumulators; units = refl }
 
-  -- it is done, and its post forces it or is dropped
+  -- a channel was posted, and forced it or was dropped
+  pub posted_keeps : (channel : ℕ) → Kept f (counted (posted (with_regs f regs) channel)) 1
+  posted_keeps channel = by (is_panic channel) refl
+    where
+      by : (b : Bool) → is_panic channel ≡ b → Kept f (counted (posted (with_regs f regs) channel)) 1
+      by true panic =
+          subst (λ g. Kept f (counted g) 1) (sym (posted_off (with_regs f regs) channel off panic))
+          (record { name = refl; slot = refl; superior = refl; status = λ h. forced_fits channel (panic_fits channel panic); on = refl; pc = pc; accumulators = accumulators; units = refl })
+      by false other = subst (λ g. Kept f (counted g) 1) (sym (dropped_off (with_regs f regs) channel off other)) plain_keeps
+
+  -- it is done, and has posted this
   pub ended_keeps : (post : Post) → Kept f (counted (posted_if (with_regs f regs) (channel_of post))) 1
   ended_keeps Nothing = plain_keeps
-  ended_keeps Overflow = subst (λ g. Kept f (counted g) 1) (sym (dropped_off (with_regs f regs) OVERFLOW off refl)) plain_keeps
-  ended_keeps Pushdown = forced_keeps PUSHDOWN_OVERFLOW refl (omega arith)
+  ended_keeps Overflow = posted_keeps OVERFLOW
+  ended_keeps Pushdown = posted_keeps PUSHDOWN_OVERFLOW
 
   wrapped : (n : ℕ) → n % 2 ^ 18 < 2 ^ 18
   wrapped n = omega arith
@@ -84,7 +93,7 @@ module _ (f : Fork) (off : f.body.psi.on ≡ false) (regs : Regs) (pc : regs.pc 
       let forced = counted (posted (with_regs f regs) ILLEGAL_INSTRUCTION) in
       let kept_printed : Kept f printed 1 = record { name = refl; slot = refl; superior = refl; status = λ s. s; on = refl; pc = wrapped (regs.pc + 1); accumulators = accumulators; units = refl } in
       let kept_halted : Kept f halted 1 = record { name = refl; slot = refl; superior = refl; status = λ s c h. absurd (cc h); on = refl; pc = wrapped (regs.pc + 1); accumulators = accumulators; units = refl } in
-      kept_if (number == PBOUT) printed (cond (number == HALTF) halted forced) kept_printed (kept_if (number == HALTF) halted forced kept_halted (forced_keeps ILLEGAL_INSTRUCTION refl (omega arith)))
+      kept_if (number == PBOUT) printed (cond (number == HALTF) halted forced) kept_printed (kept_if (number == HALTF) halted forced kept_halted (posted_keeps ILLEGAL_INSTRUCTION))
 
 -- so many units that left these registers and posted nothing
 pub row_keeps : (f : Fork) (n : ℕ) (regs : Regs) → regs.pc < 2 ^ 18 → length regs.ac ≡ ACCUMULATORS → Kept f (ran_on f n regs) n

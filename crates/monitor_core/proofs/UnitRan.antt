@@ -23,9 +23,9 @@ module _ (f : Fork) (p q : NumberedPages) (regs : Regs) where
       ap (behind f p) o.2 ∙ (λ i. record { fork = counted (posted_if (with_regs f (o.3 i).regs) (o.3 i).post); pages = (o.3 i).pages; shown = post_shown (o.3 i).post })
 
   -- it traps
-  pub trap_behind : (channel : ℕ) → is_panic channel ≡ true → unit_on f.name p f.body.regs ≡ stopped (trap channel) → q ≡ p → regs ≡ f.body.regs → behind_unit f p ≡ record { fork = counted (posted (with_regs f regs) channel); pages = q; shown = Forced channel }
-  trap_behind channel panic traps same regs_same =
-      ap (behind f p) traps ∙ (λ i. record { fork = counted (posted (with_regs f (sym regs_same i)) channel); pages = sym same i; shown = cond (panic i) (Forced channel) Nothing })
+  pub trap_behind : (channel : ℕ) → unit_on f.name p f.body.regs ≡ stopped (trap channel) → q ≡ p → regs ≡ f.body.regs → behind_unit f p ≡ record { fork = counted (posted (with_regs f regs) channel); pages = q; shown = post_shown (Some channel) }
+  trap_behind channel traps same regs_same =
+      ap (behind f p) traps ∙ (λ i. record { fork = counted (posted (with_regs f (sym regs_same i)) channel); pages = sym same i; shown = post_shown (Some channel) })
 
   -- it is a monitor call
   pub call_behind : (number : ℕ) → unit_on f.name p f.body.regs ≡ call number → q ≡ p → regs ≡ f.body.regs → behind_unit f p ≡ record { fork = called_fork (with_regs f regs) number; pages = q; shown = called_shown (with_regs f regs) number }

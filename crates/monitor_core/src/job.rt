@@ -6,6 +6,7 @@ ghost use Rattle.plain_model.specs.Forks.{top_fork};
 ghost use Rattle.plain_model.specs.Limits.{FitsCause, FitsItem, IsAddress, IsTerminal};
 ghost use Rattle.plain_model.specs.Outcome.{DrumWords};
 ghost use Rattle.plain_model.specs.References.{slot_at as slot_of};
+ghost use Rattle.ka10_unit.specs.Gathers.{Serves};
 ghost use Rattle.monitor_core.specs.ForkUnit.{CanUnit};
 ghost use Rattle.monitor_core.specs.Holding.{Holds};
 ghost use Rattle.monitor_core.specs.JobUnit.{JobRan};
@@ -17,6 +18,7 @@ use crate::address::{offset_in_page, slot_at};
 use crate::looking::seen_word;
 use crate::unit::{Units, run_units};
 use crate::writing::write_word;
+use ka10_unit::Taken;
 use plain_model::{
     ACCUMULATORS, Body, DirName, Fork, ForkLine, ForkName, ForkStatus, Item, Pages, Psi, Refusal,
     Regs, TERMINALS, TerminalMode,
@@ -144,18 +146,17 @@ impl Job {
     /// Units of the top fork in a row, at least one and so many at most. Where the fork stops, the monitor
     /// reads the terminal.
     #[inline]
-    pub fn ran<P: Pages>(&mut self, pages: &mut P, most: u32) -> Units
+    pub fn ran<P: Pages>(&mut self, pages: &mut P, taken: &mut Taken, most: u32) -> Units
         requires can { CanUnit self.old.top }
         requires few { self.old.top.body.units < 2 ^ 62 }
-        requires holds { Holds P.means pages.old self.old.top.name }
-        requires single { P.means.single ≡ true }
+        requires serves { Serves P.means pages.old self.old.top.name }
         requires serial { P.means.serial pages.old self.old.top.name.tty < 2 ^ 61 }
         requires some { 1 ≤ most }
         ensures ran { JobRan P.means pages.old pages.new self.old self.new result }
         ensures some { 1 ≤ result.count }
         ensures few { result.count ≤ most }
     {
-        let ran = run_units(&mut self.top, pages, most);
+        let ran = run_units(&mut self.top, pages, taken, most);
         if ran.shown.is_stop() {
             self.mode = TerminalMode::Command;
         }

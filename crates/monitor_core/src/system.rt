@@ -2,6 +2,7 @@
 ghost use Rattle.monitor_core.specs.Sound.{AreSound};
 
 use crate::job::Job;
+use ka10_unit::Taken;
 use plain_model::Pages;
 
 /// The pages, the jobs with their forks, and the clock. Its steps are those of the plain machine; which fork
@@ -13,6 +14,8 @@ pub struct System<P: Pages> {
     jobs: Vec<Option<Job>>,
     /// The next fork serial of each terminal.
     fork_serials: Vec<u32>,
+    /// What a unit takes that is not done in place; kept for the next.
+    taken: Taken,
     /// How many ticks there were.
     clock: u64,
     /// From this terminal on there has been no job.

@@ -1,17 +1,19 @@
 // Units of one fork, as far as they concern it and its pages.
-ghost use Rattle.std.specs.Prelude.{◌≡◌, ◌<◌, ◌≤◌, ◌+◌, ◌%◌, ◌^◌, length, true, false};
+ghost use Rattle.std.specs.Prelude.{◌≡◌, ◌<◌, ◌≤◌, ◌+◌, ◌%◌, ◌^◌, length, false, Some};
 ghost use Rattle.plain_model.specs.Forks.{counted};
 ghost use Rattle.plain_model.specs.Interrupts.{posted, is_panic};
 ghost use Rattle.plain_model.specs.Unit.{advanced, posted_if};
 ghost use Rattle.ka10_unit.specs.Commits.{channel_of};
-ghost use Rattle.monitor_core.specs.Holding.{Holds};
+ghost use Rattle.ka10_unit.specs.Gathers.{Serves};
 ghost use Rattle.monitor_core.specs.Shown.{code_shown, FitsShown};
 ghost use Rattle.monitor_core.specs.ForkUnit.{CanUnit, Ran, RanOne, called_fork, called_shown, post_shown};
 
 use crate::shown::Shown;
-use ka10_unit::{End, Outcome, Post, burst, slow_unit};
+use ka10_unit::{End, Outcome, Post, Taken, burst, slow_unit};
 use plain_model::call::{HALTF, PBOUT};
-use plain_model::channel::{ILLEGAL_INSTRUCTION, PUSHDOWN_OVERFLOW};
+use plain_model::channel::{
+    DENIED_EXECUTE, DRUM_FULL, ILLEGAL_INSTRUCTION, OVERFLOW, PUSHDOWN_OVERFLOW,
+};
 use plain_model::character::LINE_END;
 use plain_model::{ACCUMULATORS, Fork, ForkStatus, Pages, Regs};
 use word36::Word;
@@ -24,20 +26,35 @@ pub struct Units {
     pub shown: Shown,
 }
 
-// A unit is over that posts a panic channel to its fork, which takes none: the fork is forced.
-fn forced(fork: &mut Fork, channel: u8) -> Shown
-    requires off { fork.old.body.psi.on ≡ false }
-    requires panic { is_panic channel ≡ true }
-    requires few { fork.old.body.units < 2 ^ 63 }
-    ensures fork { fork.new ≡ counted (posted fork.old channel) }
-    ensures shown { result ≡ Shown.Forced channel }
+// Whether a channel is a panic channel.
+fn is_panic(channel: u8) -> bool
+    ensures { result ≡ is_panic channel }
 {
-    fork.body.status = ForkStatus::Forced(channel);
-    fork.body.units += 1;
-    Shown::Forced(channel)
+    match channel {
+        PUSHDOWN_OVERFLOW | DRUM_FULL => true,
+        _ => (ILLEGAL_INSTRUCTION..=DENIED_EXECUTE).contains(&channel),
+    }
 }
 
-// A unit is done that posts a channel, if it does: an overflow is dropped, as no fork takes it.
+// A unit is over that posts a channel to its fork, which takes none: a panic channel forces the fork, and
+// another is dropped.
+fn posted(fork: &mut Fork, channel: u8) -> Shown
+    requires off { fork.old.body.psi.on ≡ false }
+    requires few { fork.old.body.units < 2 ^ 63 }
+    ensures fork { fork.new ≡ counted (posted fork.old channel) }
+    ensures shown { result ≡ post_shown (Some channel) }
+    ensures fits { FitsShown result }
+{
+    fork.body.units += 1;
+    if is_panic(channel) {
+        fork.body.status = ForkStatus::Forced(channel);
+        Shown::Forced(channel)
+    } else {
+        Shown::Nothing
+    }
+}
+
+// A unit is done that posts a channel, if it does.
 fn ended(fork: &mut Fork, post: Post) -> Shown
     requires off { fork.old.body.psi.on ≡ false }
     requires few { fork.old.body.units < 2 ^ 63 }
@@ -46,11 +63,12 @@ fn ended(fork: &mut Fork, post: Post) -> Shown
     ensures fits { FitsShown result }
 {
     match post {
-        Post::Nothing | Post::Overflow => {
+        Post::Nothing => {
             fork.body.units += 1;
             Shown::Nothing
         }
-        Post::Pushdown => forced(fork, PUSHDOWN_OVERFLOW),
+        Post::Overflow => posted(fork, OVERFLOW),
+        Post::Pushdown => posted(fork, PUSHDOWN_OVERFLOW),
     }
 }
 
@@ -98,22 +116,21 @@ fn called(fork: &mut Fork, number: u32) -> Shown
             fork.body.units += 1;
             Shown::Halted
         }
-        _ => forced(fork, ILLEGAL_INSTRUCTION),
+        _ => posted(fork, ILLEGAL_INSTRUCTION),
     }
 }
 
 // One unit of a fork, whatever it wants.
-fn one_unit<P: Pages>(fork: &mut Fork, pages: &mut P) -> Shown
+fn one_unit<P: Pages>(fork: &mut Fork, pages: &mut P, taken: &mut Taken) -> Shown
     requires can { CanUnit fork.old }
     requires few { fork.old.body.units < 2 ^ 63 }
-    requires holds { Holds P.means pages.old fork.old.name }
-    requires single { P.means.single ≡ true }
+    requires serves { Serves P.means pages.old fork.old.name }
     requires serial { P.means.serial pages.old fork.old.name.tty < 2 ^ 61 }
     ensures { RanOne P.means pages.old pages.new fork.old fork.new result }
 {
-    match slow_unit(&mut fork.body.regs, pages, fork.name) {
+    match slow_unit(taken, &mut fork.body.regs, pages, fork.name) {
         Outcome::Done(post) => ended(fork, post),
-        Outcome::Trap(channel) => forced(fork, channel),
+        Outcome::Trap(channel) => posted(fork, channel),
         Outcome::Call(number) => called(fork, number),
     }
 }
@@ -121,11 +138,10 @@ fn one_unit<P: Pages>(fork: &mut Fork, pages: &mut P) -> Shown
 /// Units of a fork in a row, at least one and so many at most: as many as go in place and post nothing, and
 /// the one behind them, where there is room for it.
 #[inline]
-pub fn run_units<P: Pages>(fork: &mut Fork, pages: &mut P, most: u32) -> Units
+pub fn run_units<P: Pages>(fork: &mut Fork, pages: &mut P, taken: &mut Taken, most: u32) -> Units
     requires can { CanUnit fork.old }
     requires few { fork.old.body.units < 2 ^ 62 }
-    requires holds { Holds P.means pages.old fork.old.name }
-    requires single { P.means.single ≡ true }
+    requires serves { Serves P.means pages.old fork.old.name }
     requires serial { P.means.serial pages.old fork.old.name.tty < 2 ^ 61 }
     requires some { 1 ≤ most }
     ensures ran { Ran P.means pages.old pages.new fork.old fork.new result }
@@ -150,7 +166,7 @@ pub fn run_units<P: Pages>(fork: &mut Fork, pages: &mut P, most: u32) -> Units
         },
         End::Slow => Units {
             count: burst.units + 1,
-            shown: one_unit(fork, pages),
+            shown: one_unit(fork, pages, taken),
         },
     }
 }

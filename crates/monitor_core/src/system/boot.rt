@@ -5,6 +5,7 @@ ghost use Rattle.monitor_core.specs.Jobs.{no_jobs};
 
 use crate::job::empty_jobs;
 use crate::system::System;
+use ka10_unit::Taken;
 use outside::Memory;
 use plain_model::{Pages, TERMINALS};
 use std::alloc::{AllocError, Global};
@@ -35,6 +36,7 @@ impl<P: Pages + Drop> System<P> {
             pages,
             jobs,
             fork_serials,
+            taken: Taken::new(),
             clock: 0,
             terminals: 0,
         })

@@ -25,7 +25,7 @@ impl<P: Pages> System<P> {
         ensures few { result.count ≤ most }
     {
         match &mut self.jobs[fork.tty.0 as usize] {
-            Some(job) => job.ran(&mut self.pages, most),
+            Some(job) => job.ran(&mut self.pages, &mut self.taken, most),
             None => unreachable!(),
         }
     }

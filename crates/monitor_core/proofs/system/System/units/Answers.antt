@@ -14,8 +14,10 @@ pub ran-requires-clause-few : goal.ran-requires-clause-few
 ran-requires-clause-few g c =
     omega (arith, c.requires.few.units c.args.fork.tty.0 c.in-Some.job (ran_job c.args.self.now c.args.fork c.requires.can _ c.in-Some.job c.index_mut.ensures.value c.in-Some.is))
 
-pub ran-requires-clause-holds : goal.ran-requires-clause-holds
-ran-requires-clause-holds g c = holds_top c.args.self.now c.args.fork.tty.0 c.in-Some.job (ran_job c.args.self.now c.args.fork c.requires.can _ c.in-Some.job c.index_mut.ensures.value c.in-Some.is)
+pub ran-requires-clause-serves : goal.ran-requires-clause-serves
+ran-requires-clause-serves g c =
+    let holds = holds_top c.args.self.now c.args.fork.tty.0 c.in-Some.job (ran_job c.args.self.now c.args.fork c.requires.can _ c.in-Some.job c.index_mut.ensures.value c.in-Some.is) in
+    record { flat = holds.flat; single = c.args.self.now.sound.single; lives = holds.lives; terminal = holds.terminal }
 
 pub invariant_of-self : goal.invariant_of-self
 invariant_of-self g c =
