@@ -13,6 +13,16 @@ pub struct Reference {
     pub kind: Kind,
 }
 
+impl Default for Reference {
+    /// Accumulator 0, read.
+    fn default() -> Reference {
+        Reference {
+            address: 0,
+            kind: Kind::Read,
+        }
+    }
+}
+
 /// A word that a unit stores at an address.
 #[derive(Clone, Copy, Debug, PartialEq, Eq)]
 pub struct Put {
