@@ -44,19 +44,19 @@ module _ (p : NumberedPages) (single : AreSingle p.maps) (whole : AreWhole p) (o
   is_new = whole.named new ∙ ap (nat_lt 0) (unmade p whole owner)
 
   -- another slot keeps its entry
-  made_other : (t : Slot) → t ≢ s → entry_at q.maps t ≡ entry_at p.maps t
+  pub made_other : (t : Slot) → t ≢ s → entry_at q.maps t ≡ entry_at p.maps t
   unfolding make
   made_other t ne = entry_other p.maps s Empty (Names new full_access) empty t ne
 
-  made_here : entry_at q.maps s ≡ Some (Names new full_access)
+  pub made_here : entry_at q.maps s ≡ Some (Names new full_access)
   unfolding make
   made_here = entry_set p.maps s Empty (Names new full_access) empty
 
   -- a slot that had an entry, and not an empty one, keeps it
-  not_here : (t : Slot) (e : Option MapEntry) → entry_at p.maps t ≡ e → (e ≡ Some Empty → ⊥) → t ≢ s
+  pub not_here : (t : Slot) (e : Option MapEntry) → entry_at p.maps t ≡ e → (e ≡ Some Empty → ⊥) → t ≢ s
   not_here t e h n = λ same. n (sym h ∙ ap (entry_at p.maps) same ∙ empty)
 
-  made_single : AreSingle q.maps
+  pub made_single : AreSingle q.maps
   made_single = record { each = λ t e h. by t e h (slot_tells t s) }
     where
       by : (t : Slot) (e : MapEntry) → entry_at q.maps t ≡ Some e → (t ≡ s) ⊎ (t ≢ s) → is_single e ≡ true
@@ -66,7 +66,7 @@ module _ (p : NumberedPages) (single : AreSingle p.maps) (whole : AreWhole p) (o
           ap is_single one
       by t e h (inr ne) = single.each t e (sym (made_other t ne) ∙ h)
 
-  made_whole : AreWhole q
+  pub made_whole : AreWhole q
   made_whole = make_whole nat_cmp_total p whole owner own (blank (in_map s)) empty
 
   made_live : live q ≡ live p + 1

@@ -1,3 +1,4 @@
 pub mod Singles
 pub mod Growing
 pub mod Adding
+pub mod Referring

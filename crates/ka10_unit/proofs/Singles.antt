@@ -56,7 +56,7 @@ module _ (p : NumberedPages) (s : Slot) where
   abbrev at : Spot ℕ
   at = in_map s
 
-  none_makings : (kind : Kind) → entry_at p.maps s ≡ None → makings p at kind ≡ None
+  pub none_makings : (kind : Kind) → entry_at p.maps s ≡ None → makings p at kind ≡ None
   unfolding makings
   none_makings kind h = ap (λ (c : Option Chain). option_and_then (along_chain {K = ℕ} kind) c) (no_chain (entry_at p.maps) s h)
 

@@ -4,5 +4,7 @@
 #![tactic(auto)]
 
 mod gather;
+mod taken;
 
 pub use gather::{Added, Asking, Gather, MOST_MAKINGS};
+pub use taken::{Taken, Trap};
