@@ -2,3 +2,4 @@ pub mod Singles
 pub mod Growing
 pub mod Adding
 pub mod Referring
+pub mod Seeing

@@ -104,11 +104,11 @@ module _ (p : NumberedPages) (s : Slot) where
   unfolding page_at
   named_page n a h = ap (λ (c : Option Chain). option_and_then (λ d. d.page) c) (named_chain (entry_at p.maps) s n a h)
 
-  empty_page : entry_at p.maps s ≡ Some Empty → page_at p at ≡ None
+  pub empty_page : entry_at p.maps s ≡ Some Empty → page_at p at ≡ None
   unfolding page_at
   empty_page h = ap (λ (c : Option Chain). option_and_then (λ d. d.page) c) (empty_chain (entry_at p.maps) s h)
 
-  none_page : entry_at p.maps s ≡ None → page_at p at ≡ None
+  pub none_page : entry_at p.maps s ≡ None → page_at p at ≡ None
   unfolding page_at
   none_page h = ap (λ (c : Option Chain). option_and_then (λ d. d.page) c) (no_chain (entry_at p.maps) s h)
 

@@ -1,14 +1,17 @@
 -- How far a unit has come, and what a part of it that was done says of the whole.
-use Rattle.std.specs.Prelude.{◌≡◌, ℕ, ◌/◌, ◌≤◌, ◌<◌, Bool, true, false, List, [], length, Option, None, Some, Result, Ok, Err, ⊤, is_some}
+use Rattle.std.specs.Prelude.{◌≡◌, ℕ, ◌/◌, ◌%◌, ◌≤◌, ◌<◌, ◌==◌, ◌&&◌, Bool, true, false, List, [], length, Option, None, Some, Result, Ok, Err, ⊤, is_some, slice_index}
+use Rattle.std.specs.Option.{option_map_or}
 use Rattle.std.specs.Ordering.{nat_cmp}
 use Rattle.outside.specs.declared.TheConstants.{PAGE_WORDS}
 use Rattle.plain_model.specs.declared.names.ForkName.{ForkName}
+use Rattle.plain_model.specs.declared.names.PageName.{PageName}
 use Rattle.plain_model.specs.declared.names.Kind.{Kind}
 use Rattle.plain_model.specs.declared.names.Kind.TheVariants.{Write}
 use Rattle.plain_model.specs.declared.unit.Put.{Put}
 use Rattle.plain_model.specs.declared.unit.TheConstants.{MOST_REFERENCES}
 use Rattle.plain_model.specs.State.{NumberedPages}
-use Rattle.plain_model.specs.References.{in_map, makings, page_at, slot_at}
+use Rattle.plain_model.specs.References.{in_map, makings, page_at, slot_at, words_of}
+use Rattle.plain_model.specs.Room.{same_page}
 use Rattle.plain_model.specs.Steps.{Steps, refers, widens, Stop, trap, Asked, goes, stops, Progress, Planned, stopped, is_accumulator, asked_at, run, plainly}
 use Rattle.ka10_unit.specs.declared.gather.Asking.{Asking}
 use Rattle.ka10_unit.specs.declared.taken.Taken.{Taken}
@@ -78,7 +81,24 @@ pub record Follows {A : Type 0} (f : ForkName) (p : NumberedPages) (ac : List �
   pub stands : Stands f p new
   pub runs : (next : A → Steps) → run (plainly f) f (part next) (progress f p ac old) ≡ went_on result (λ x. run (plainly f) f (next x) (progress f p ac new))
 
--- the last reference, to write
-abbrev pub CanWrite : ForkName → NumberedPages → Taken → ℕ → Result ⊤ Trap → Type 0
+-- what comes behind a part that gives nothing
+abbrev pub widened_by : ℕ → (⊤ → Steps) → Steps
+widened_by at next = widens at (next tt)
+
+-- a write at an address makes nothing more, once a reference to write there went through
+abbrev pub CanWrite : {A : Type 0} → ForkName → NumberedPages → Taken → ℕ → Result A Trap → Type 0
 CanWrite f p t at (Ok x) = is_accumulator at ≡ false → IsOpenAt f (pages_so_far f p t) at
 CanWrite f p t at (Err e) = Unit {0}
+
+-- the word at an address in the pages as they are, and 0 where there is no page
+abbrev pub word_there : ForkName → NumberedPages → ℕ → ℕ
+word_there f p a = option_map_or (λ n. slice_index (words_of p n) (a % PAGE_WORDS)) (page_at p (in_map (slot_at f a))) 0
+
+-- whether two names, if there are, are those of one page
+abbrev pub are_same : Option PageName → Option PageName → Bool
+are_same (Some n) (Some m) = same_page n m
+are_same n m = false
+
+-- whether a word that was stored at an address stands at another, of this page
+abbrev pub stands_at : ForkName → NumberedPages → ℕ → ℕ → PageName → Bool
+stands_at f q stored a n = option_map_or (same_page n) (page_at q (in_map (slot_at f stored))) false && (stored % PAGE_WORDS == a % PAGE_WORDS)

@@ -1,22 +1,24 @@
 // What a unit has taken so far.
-ghost use Rattle.std.specs.Prelude.{◌≡◌, ◌≢◌, ◌+◌, ◌-◌, ◌/◌, ◌%◌, ◌≤◌, ◌<◌, ◌^◌, ◌==◌, ◌&&◌, List, [], ◌∷◌, ◌++◌, ℕ, length, true, false, None, Some, Option, nat_lt, OnOk, slice_index, is_some};
+ghost use Rattle.std.specs.Prelude.{◌≡◌, ◌≢◌, ◌+◌, ◌-◌, ◌/◌, ◌%◌, ◌≤◌, ◌<◌, ◌^◌, ◌==◌, ◌&&◌, List, [], ◌∷◌, ◌++◌, ℕ, length, true, false, None, Some, Option, nat_lt, OnErr, slice_index, slice_set, is_some};
 ghost use Rattle.std.specs.Option.{option_map_or};
 ghost use Rattle.outside.specs.declared.TheConstants.{PAGE_WORDS};
-ghost use Rattle.plain_model.specs.declared.names.TheConstants.{TERMINALS};
+ghost use Rattle.plain_model.specs.declared.names.TheConstants.{ACCUMULATORS, TERMINALS};
 ghost use Rattle.plain_model.specs.Limits.{IsAddress};
 ghost use Rattle.plain_model.specs.Outcome.{DrumWords};
 ghost use Rattle.plain_model.specs.References.{in_map, page_at, slot_at};
 ghost use Rattle.plain_model.specs.Room.{same_page};
-ghost use Rattle.plain_model.specs.Steps.{denied_channel, is_accumulator, refers, widens, word_taken};
-ghost use Rattle.ka10_unit.specs.Gathers.{all_make};
-ghost use Rattle.ka10_unit.specs.Taking.{AsksAt, CanWrite, Follows, HasPage, IsOpen, IsPutBelow, Stands, pages_so_far, progress};
+ghost use Rattle.plain_model.specs.Steps.{denied_channel, is_accumulator, refers, widens, word_taken, seen};
+ghost use Rattle.plain_model.specs.declared.names.PageName.{PageName as APageName};
+ghost use Rattle.ka10_unit.specs.declared.gather.Asking.{Asking as AAsking};
+ghost use Rattle.ka10_unit.specs.Gathers.{after_all, all_make};
+ghost use Rattle.ka10_unit.specs.Taking.{AsksAt, CanWrite, Follows, HasPage, IsOpen, IsPutBelow, Stands, are_same, pages_so_far, progress, stands_at, widened_by, word_there};
 
 use crate::gather::{Added, Asking, Gather, page_of};
 use arrayvec::ArrayVec;
 use outside::PAGE_WORDS;
 use plain_model::{
-    ACCUMULATORS, ForkName, Kind, MOST_REFERENCES, PageName, Pages, Peeked, Put, Reference, Regs,
-    channel,
+    ACCUMULATORS, ForkName, Kind, MOST_REFERENCES, PageName, Pages, Peeked, Place, Put, Reference,
+    Regs, channel,
 };
 use word36::Word;
 
@@ -98,6 +100,7 @@ fn ask<P: Pages>(
     requires address { IsAddress at }
     requires room { length gather.old < 17 }
     ensures room { length gather.new ≤ length gather.old + 1 }
+    ensures stopped { OnErr result (gather.new ≡ gather.old) }
     ensures told { (d : DrumWords) → P.means.fits pages.now d → all_make fork (P.means.plain pages.now d) gather.old ≡ true
         → AsksAt fork (P.means.plain pages.now d) gather.old gather.new at kind result }
 {
@@ -113,5 +116,186 @@ fn ask<P: Pages>(
         Added::Full => Err(Trap {
             channel: channel::DRUM_FULL,
         }),
+    }
+}
+
+/// The page of an address of a fork's space.
+fn page_of_address(fork: ForkName, at: u32) -> Place
+    requires { IsAddress at }
+    ensures { result ≡ Place.Fork (slot_at fork at) }
+{
+    page_of(fork, (at / WORDS) as u16)
+}
+
+/// Whether two names, if there are, are those of one page.
+fn are_one(there: Option<PageName>, other: Option<PageName>) -> bool
+    ensures { result ≡ are_same there other }
+{
+    match (there, other) {
+        (Some(n), Some(m)) => n.tty.0 == m.tty.0 && n.serial == m.serial,
+        _ => false,
+    }
+}
+
+/// The word at an address, in the pages as they are; 0 where there is no page.
+fn held_word<P: Pages>(pages: &P, fork: ForkName, at: u32) -> Word
+    requires flat { P.means.flat ≡ true }
+    requires lives { P.means.lives pages.now fork ≡ true }
+    requires address { IsAddress at }
+    ensures told { (d : DrumWords) → P.means.fits pages.now d → result ≡ word_there fork (P.means.plain pages.now d) at }
+{
+    match pages.peek(page_of_address(fork, at), (at % WORDS) as u16) {
+        Peeked::Is(word) => word,
+        Peeked::NoPage => Word::ZERO,
+        Peeked::Absent(_) => unreachable!(),
+    }
+}
+
+/// Whether a word that the unit has stored at an address stands at another: at the same place of the
+/// same page, which may have two names.
+fn is_stored_at<P: Pages>(pages: &P, fork: ForkName, stored: u32, at: u32) -> bool
+    requires flat { P.means.flat ≡ true }
+    requires single { P.means.single ≡ true }
+    requires lives { P.means.lives pages.now fork ≡ true }
+    requires terminal { fork.tty.0 < TERMINALS }
+    requires address { IsAddress at }
+    requires stored { IsAddress stored }
+    ensures told { (d : DrumWords) (rs : List AAsking) (n : APageName) → P.means.fits pages.now d → all_make fork (P.means.plain pages.now d) rs ≡ true
+        → page_at (after_all fork (P.means.plain pages.now d) rs) (in_map (slot_at fork at)) ≡ Some n → result ≡ stands_at fork (after_all fork (P.means.plain pages.now d) rs) stored at n }
+{
+    if stored % WORDS != at % WORDS {
+        return false;
+    }
+    if stored / WORDS == at / WORDS {
+        return true;
+    }
+    let there = pages.page_at(page_of_address(fork, at));
+    let other = pages.page_at(page_of_address(fork, stored));
+    are_one(there, other)
+}
+
+/// The word at an address whose page was asked for, or the word that the unit has stored there.
+fn seen_word<P: Pages>(pages: &P, fork: ForkName, kept: Option<Put>, at: u32) -> Word
+    requires flat { P.means.flat ≡ true }
+    requires single { P.means.single ≡ true }
+    requires lives { P.means.lives pages.now fork ≡ true }
+    requires terminal { fork.tty.0 < TERMINALS }
+    requires address { IsAddress at }
+    requires kept { IsPutBelow (2 ^ 18) kept }
+    ensures told { (d : DrumWords) (rs : List AAsking) (n : APageName) → P.means.fits pages.now d → all_make fork (P.means.plain pages.now d) rs ≡ true
+        → page_at (after_all fork (P.means.plain pages.now d) rs) (in_map (slot_at fork at)) ≡ Some n → result ≡ seen (after_all fork (P.means.plain pages.now d) rs) fork kept at (Some n) }
+{
+    match kept {
+        None => held_word(pages, fork, at),
+        Some(put) => {
+            if is_stored_at(pages, fork, put.at, at) {
+                put.word
+            } else {
+                held_word(pages, fork, at)
+            }
+        }
+    }
+}
+
+/// The word of an accumulator.
+fn accumulator(regs: &Regs, at: u32) -> Word
+    requires { at < ACCUMULATORS }
+    ensures { result ≡ slice_index regs.now.ac at }
+{
+    regs.ac[at as usize]
+}
+
+/// The word at an address that was referred to.
+fn word_at<P: Pages>(taken: &Taken, regs: &Regs, pages: &P, fork: ForkName, at: u32) -> Word
+    requires flat { P.means.flat ≡ true }
+    requires single { P.means.single ≡ true }
+    requires lives { P.means.lives pages.now fork ≡ true }
+    requires terminal { fork.tty.0 < TERMINALS }
+    requires address { IsAddress at }
+    requires kept { IsPutBelow (2 ^ 18) taken.now.kept }
+    ensures told { (d : DrumWords) → P.means.fits pages.now d → all_make fork (P.means.plain pages.now d) taken.now.gather ≡ true → HasPage fork (pages_so_far fork (P.means.plain pages.now d) taken.now) at
+        → result ≡ word_taken fork (progress fork (P.means.plain pages.now d) regs.now.ac taken.now) at }
+{
+    if at < ACCUMULATORS {
+        return accumulator(regs, at);
+    }
+    seen_word(pages, fork, taken.kept, at)
+}
+
+/// Refers to an address, and takes the word there. Err: the page is denied, or has to be made and the
+/// drum is full; or it would be a reference more than a unit may have.
+pub fn refer<P: Pages>(
+    taken: &mut Taken,
+    regs: &Regs,
+    pages: &P,
+    fork: ForkName,
+    at: u32,
+    kind: Kind,
+) -> Result<Word, Trap>
+    requires flat { P.means.flat ≡ true }
+    requires single { P.means.single ≡ true }
+    requires lives { P.means.lives pages.now fork ≡ true }
+    requires terminal { fork.tty.0 < TERMINALS }
+    requires address { IsAddress at }
+    requires is_open { IsOpen taken.old }
+    requires kept { IsPutBelow (2 ^ 18) taken.old.kept }
+    ensures is_open { IsOpen taken.new }
+    ensures kept { taken.new.kept ≡ taken.old.kept }
+    ensures told { (d : DrumWords) → P.means.fits pages.now d → Stands fork (P.means.plain pages.now d) taken.old
+        → Follows fork (P.means.plain pages.now d) regs.now.ac taken.old taken.new (refers at kind) result }
+    ensures writes { (d : DrumWords) → P.means.fits pages.now d → Stands fork (P.means.plain pages.now d) taken.old → kind ≡ Kind.Write
+        → CanWrite fork (P.means.plain pages.now d) taken.new at result }
+{
+    if taken.refs.len() >= MOST_REFERENCES as usize {
+        return Err(Trap::ILLEGAL);
+    }
+    match ask(&mut taken.gather, pages, fork, at, kind) {
+        Err(trap) => Err(trap),
+        Ok(()) => {
+            taken.refs.push(Reference { address: at, kind });
+            Ok(word_at(taken, regs, pages, fork, at))
+        }
+    }
+}
+
+/// Makes the last reference one to write.
+fn replace_last(refs: &mut ArrayVec<Reference, 16>, at: u32)
+    requires { length refs.old.items ≤ 16 }
+    ensures { refs.new.items ≡ slice_set refs.old.items (length refs.old.items - 1) (record { address = at; kind = Kind.Write }) }
+{
+    if let Some(_) = refs.pop() {
+        refs.push(Reference {
+            address: at,
+            kind: Kind::Write,
+        });
+    }
+}
+
+/// Asks for the last reference again, to write.
+pub fn widen<P: Pages>(
+    taken: &mut Taken,
+    regs: &Regs,
+    pages: &P,
+    fork: ForkName,
+    at: u32,
+) -> Result<(), Trap>
+    requires flat { P.means.flat ≡ true }
+    requires single { P.means.single ≡ true }
+    requires lives { P.means.lives pages.now fork ≡ true }
+    requires terminal { fork.tty.0 < TERMINALS }
+    requires address { IsAddress at }
+    requires is_open { IsOpen taken.old }
+    ensures kept { taken.new.kept ≡ taken.old.kept }
+    ensures told { (d : DrumWords) → P.means.fits pages.now d → Stands fork (P.means.plain pages.now d) taken.old
+        → Follows fork (P.means.plain pages.now d) regs.now.ac taken.old taken.new (widened_by at) result }
+    ensures writes { (d : DrumWords) → P.means.fits pages.now d → Stands fork (P.means.plain pages.now d) taken.old
+        → CanWrite fork (P.means.plain pages.now d) taken.new at result }
+{
+    match ask(&mut taken.gather, pages, fork, at, Kind::Write) {
+        Err(trap) => Err(trap),
+        Ok(()) => {
+            replace_last(&mut taken.refs, at);
+            Ok(())
+        }
     }
 }
