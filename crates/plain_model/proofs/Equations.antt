@@ -14,7 +14,7 @@ use Rattle.plain_model.specs.declared.event.Event.TheVariants.{Login, Poke, Star
 use Rattle.plain_model.specs.declared.event.Step.TheVariants.{Outer, Unit as AUnit, Idle}
 use Rattle.plain_model.specs.State.{PlainState}
 use Rattle.plain_model.specs.Maps.{Entries, full_access, single_link, behind, followed, chain_from, chain_within, chain, maps_from, maps_within, maps_on_way}
-use Rattle.plain_model.specs.Unit.{executed, fetched, unit}
+use Rattle.plain_model.specs.Unit.{over, unit_on, unit}
 use Rattle.plain_model.specs.Events.{login, poke, start, tick, examine, show_forks, traced, outer}
 use Rattle.plain_model.specs.Run.{apply, unit_line}
 
@@ -52,13 +52,13 @@ module _ (entries : Entries) (s : Slot) where
 
 module _ (s : PlainState) where
   -- a unit of a fork that lives, and of one that does not
-  pub unit_some : (name : ForkName) (f : Fork) → map.get s.forks name ≡ Some f → unit s name ≡ executed s f (fetched s.pages f)
+  pub unit_some : (name : ForkName) (f : Fork) → map.get s.forks name ≡ Some f → unit s name ≡ over s f (unit_on f.name s.pages f.body.regs)
   unfolding unit
-  unit_some name f h = ap (λ o. option_map_or (λ k. executed s k (fetched s.pages k)) o (record { state = s; items = [] })) h
+  unit_some name f h = ap (λ o. option_map_or (λ k. over s k (unit_on k.name s.pages k.body.regs)) o (record { state = s; items = [] })) h
 
   pub unit_none : (name : ForkName) → map.get s.forks name ≡ None → unit s name ≡ record { state = s; items = [] }
   unfolding unit
-  unit_none name h = ap (λ o. option_map_or (λ k. executed s k (fetched s.pages k)) o (record { state = s; items = [] })) h
+  unit_none name h = ap (λ o. option_map_or (λ k. over s k (unit_on k.name s.pages k.body.regs)) o (record { state = s; items = [] })) h
 
   pub outer_login : (t : Tty) (user : List ℕ) → outer s (Login t user) ≡ login s t user
   unfolding outer

@@ -1,6 +1,6 @@
 -- The run of the example, entry by entry.
-use Rattle.std.proofs.Common.{◌≡◌, ℕ, ◌+◌, List, [], ◌∷◌, ◌++◌, Bool, true, false, cond, Option, None, Some, refl, sym, ◌∙◌, ap, subst, inl, arith}
-use Rattle.std.specs.Prelude.{is_some, replicate, codes, slice_get, slice_set, slice_index}
+use Rattle.std.proofs.Common.{◌≡◌, ℕ, ◌+◌, ◌%◌, List, [], ◌∷◌, ◌++◌, Bool, true, false, cond, Option, None, Some, refl, sym, ◌∙◌, ap, subst, inl, arith}
+use Rattle.std.specs.Prelude.{if◌then◌else◌, is_some, replicate, codes, slice_get, slice_set, slice_index}
 use Rattle.std.specs.declared.cmp.Ordering.{Ordering}
 use Rattle.std.specs.Ordering.{nat_cmp, eq_by_cmp, is_eq}
 use Rattle.std.specs.Cmp.{IsTotalOrder, nat_cmp_total}
@@ -22,19 +22,29 @@ use Rattle.plain_model.specs.declared.event.Step.{Step}
 use Rattle.plain_model.specs.declared.event.Step.TheVariants.{Outer, Unit as AUnit, Idle}
 use Rattle.plain_model.specs.State.{PlainState, NamedPages, PlainJob, Map, Maps, opening, opening_pages, first_serials}
 use Rattle.plain_model.specs.Orders.{fork_cmp, page_cmp, name_cmp}
-use Rattle.plain_model.specs.Maps.{entry_at, full_access, chain, chain_within}
+use Rattle.plain_model.specs.Maps.{entry_at, full_access, single_link, chain, chain_within}
 use Rattle.plain_model.specs.Room.{live, HasRoom}
-use Rattle.plain_model.specs.References.{zero_words, in_map, blank, make, make_all, makings, reference, page_at}
+use Rattle.plain_model.specs.References.{zero_words, in_map, blank, make, make_all, makings, reference, granted, along_chain, page_at, words_of, slot_at}
 use Rattle.plain_model.specs.Whole.{AreWhole}
 use Rattle.std.specs.Option.{option_map_or, option_and_then}
 use Rattle.std.specs.Cmp.Lexicographic.{nat_list_cmp_total}
 use Rattle.plain_model.specs.declared.names.Slot.{Slot}
 use Rattle.plain_model.proofs.Whole.{opening_whole, map_whole, live_whole}
 use Rattle.plain_model.proofs.Makings.{make_whole}
+use Rattle.plain_model.proofs.Touches.{reference_stays}
+use Rattle.plain_model.proofs.Equations.{named_chain, unit_some}
 use Rattle.plain_model.specs.Forks.{top_fork, first_regs}
 use Rattle.plain_model.specs.declared.map.NewMap.TheVariants.{Empty as EmptyMap}
 use Rattle.plain_model.specs.Events.{empty_map, new_job, outer}
-use Rattle.plain_model.specs.Unit.{Effect, unit}
+use Rattle.outside.specs.declared.TheConstants.{PAGE_WORDS}
+use Rattle.plain_model.specs.declared.names.Kind.TheVariants.{Execute}
+use Rattle.word36.specs.Arithmetic.{arithmetic}
+use Rattle.ka10_table.specs.Rows.{row_of, row_among}
+use Rattle.plain_model.specs.Unit.{Effect, printed, shown_code, stop_text, over, unit}
+use Rattle.plain_model.specs.Steps.{Planned, goes, is_accumulator, seen, word_taken, referred, goes_on, run, begun, plain_asked, plainly}
+use Rattle.plain_model.specs.Addressing.{address, address_within, most_words}
+use Rattle.plain_model.specs.Deeds.{deed_of, taken_of}
+use Rattle.plain_model.specs.Instructions.{instruction, execute, takes, finishes, does}
 use Rattle.plain_model.specs.Run.{apply, items_of, AreLegal, IsLegal, IsLegalStep, Follows, FollowsShape, single, shape_of, auto_after}
 use Rattle.plain_model.specs.Example.{first_terminal, first_fork, movei_word, pbout_word, haltf_word, example_events, example_steps, example_items}
 use Rattle.plain_model.proofs.OrderLemmas.{fork_cmp_total, page_cmp_total}
@@ -228,17 +238,65 @@ letter_there : slice_index (slice_set first_regs.ac 1 65) 1 ≡ 65
 unfolding first_regs
 letter_there = refl
 
+named_there : chain (entry_at pages_5.maps) first_slot ≡ Some (single_link first_slot full_access (Some page))
+named_there = named_chain (entry_at pages_5.maps) first_slot page full_access (ap (λ (m : Option Map). option_and_then (λ n. slice_get n 0) m) (map_set maps_1 first_fork (slice_set empty_map 0 (Names page full_access))) ∙ named_entry)
+
+page_found : page_at pages_5 (in_map first_slot) ≡ Some page
+unfolding page_at
+page_found = ap (option_and_then (λ c. c.page)) named_there
+
+fetch_granted : reference pages_5 (in_map first_slot) Execute first_terminal ≡ granted pages_5
+unfolding makings
+fetch_granted = reference_stays pages_5 first_terminal (in_map first_slot) Execute (ap (option_and_then (along_chain Execute)) named_there)
+
+words_found : words_of pages_5 page ≡ words_3
+words_found = simp (page_set)
+
+-- the unit of a fork that fetched a word, from there on
+abbrev from_word : Jobs → AllForks → Fork → ℕ → Effect
+from_word jobs forks f w =
+    over (at pages_5 jobs forks) f (run (plainly first_fork) first_fork (execute most_words false f.body.regs w) (referred (begun pages_5 f.body.regs.ac) f.body.regs.pc Execute pages_5))
+
+-- the word at an address of the page is fetched
+fetches : (jobs : Jobs) (forks : AllForks) (regs : Regs) (units w : ℕ) → map.get forks first_fork ≡ Some (fork Run regs units) → is_accumulator regs.pc ≡ false → slot_at first_fork regs.pc ≡ first_slot → slice_index words_3 (regs.pc % PAGE_WORDS) ≡ w
+    → unit (at pages_5 jobs forks) first_fork ≡ from_word jobs forks (fork Run regs units) w
+unfolding run instruction
+fetches jobs forks regs units w there high in_page word =
+    unit_some s first_fork f there
+    ∙ ap (λ b. over s f (goes_on (if b then goes pages_5 else plainly first_fork pages_5 (slot_at first_fork regs.pc) Execute) next)) high
+    ∙ ap (λ at. over s f (goes_on (plainly first_fork pages_5 at Execute) next)) in_page
+    ∙ ap (λ r. over s f (goes_on (plain_asked r) next)) fetch_granted
+    ∙ ap (λ b. from_word jobs forks f (if b then slice_index regs.ac regs.pc else seen pages_5 first_fork None regs.pc (page_at pages_5 (in_map (slot_at first_fork regs.pc))))) high
+    ∙ ap (λ at. from_word jobs forks f (seen pages_5 first_fork None regs.pc (page_at pages_5 (in_map at)))) in_page
+    ∙ ap (λ n. from_word jobs forks f (seen pages_5 first_fork None regs.pc n)) page_found
+    ∙ ap (λ words. from_word jobs forks f (slice_index words (regs.pc % PAGE_WORDS))) words_found
+    ∙ ap (from_word jobs forks f) word
+  where
+    s : PlainState
+    s = at pages_5 jobs forks
+
+    f : Fork
+    f = fork Run regs units
+
+    next : NamedPages → Planned name_cmp ⊥
+    next p = run (plainly first_fork) first_fork (execute most_words false regs (word_taken first_fork (referred (begun pages_5 regs.ac) regs.pc Execute p) regs.pc)) (referred (begun pages_5 regs.ac) regs.pc Execute p)
+
+-- a unit shows nothing before it, as no trace is on
+applied : (jobs : Jobs) (forks : AllForks) (e : Effect) → unit (at pages_5 jobs forks) first_fork ≡ e → apply (at pages_5 jobs forks) (AUnit first_fork) ≡ e
+unfolding apply
+applied jobs forks e is = is
+
 moves : apply (at pages_5 jobs_2 forks_2) (AUnit first_fork) ≡ record { state = at pages_5 jobs_2 forks_3; items = [] }
-unfolding apply outer unit reference makings make make_all page_at chain chain_within HasRoom
-moves = simp (fork_set, map_set, page_set, named_entry, movei_there)
+unfolding run execute address address_within takes finishes does taken_of deed_of row_of row_among arithmetic first_regs
+moves = applied jobs_2 forks_2 _ (fetches jobs_2 forks_2 regs_0 0 movei_word (fork_set forks_1 first_fork (fork Run regs_0 0)) refl refl movei_there)
 
 prints : apply (at pages_5 jobs_2 forks_3) (AUnit first_fork) ≡ record { state = at pages_5 jobs_2 forks_4; items = Char first_terminal 65 ∷ [] }
-unfolding apply outer unit reference makings make make_all page_at chain chain_within HasRoom
-prints = simp (fork_set, map_set, page_set, named_entry, pbout_there, letter_there)
+unfolding run execute address address_within row_of row_among
+prints = applied jobs_2 forks_3 _ (fetches jobs_2 forks_3 regs_1 1 pbout_word (fork_set forks_2 first_fork (fork Run regs_1 1)) refl refl pbout_there ∙ ap (λ c. record { state = at pages_5 jobs_2 forks_4; items = printed first_terminal (shown_code (c % 128)) }) letter_there)
 
 halts : apply (at pages_5 jobs_2 forks_4) (AUnit first_fork) ≡ record { state = at pages_5 jobs_3 forks_5; items = Char first_terminal 13 ∷ Char first_terminal 10 ∷ Char first_terminal 64 ∷ [] }
-unfolding apply outer unit reference makings make make_all page_at chain chain_within HasRoom
-halts = simp (job_set, fork_set, map_set, page_set, named_entry, haltf_there)
+unfolding run execute address address_within row_of row_among
+halts = applied jobs_2 forks_4 _ (fetches jobs_2 forks_4 regs_2 2 haltf_word (fork_set forks_3 first_fork (fork Run regs_2 2)) refl refl haltf_there ∙ ap (λ j. record { state = option_map_or (λ j. at pages_5 (map.insert jobs_2 0 (record j { mode = Command })) forks_5) j (at pages_5 jobs_2 forks_5); items = printed first_terminal (stop_text Halted) }) (job_set jobs_1 0 (job Program)))
 
 -- the entries from each place on
 abbrev rest_9 : List Step

@@ -1,6 +1,7 @@
 pub mod Fixed
 pub mod OrderLemmas
 pub mod Runs
+pub mod Lookups
 pub mod Named
 pub mod Counts
 pub mod Whole
@@ -10,6 +11,7 @@ pub mod Settles
 pub mod Touches
 pub mod Rooms
 pub mod Refiled
+pub mod RefiledUnits
 pub mod Equations
 pub mod WholeRuns
 pub mod ExampleTexts

@@ -23,7 +23,7 @@ use Rattle.plain_model.specs.State.{PlainPages, Map, Maps, page_serial, is_conso
 use Rattle.plain_model.specs.Orders.{fork_cmp, page_cmp, file_page_cmp}
 use Rattle.plain_model.specs.Maps.{Entries, Chain, entry_at, set_entry, followed, behind, chain_from, chain_within, chain, full_access}
 use Rattle.plain_model.specs.Room.{same_page, page_in, names, uses}
-use Rattle.plain_model.specs.References.{Spot, in_map, in_file, Making, blank, copy, name_page, next_page, new_page, drop_unnamed, make, page_at, words_at, words_of, zero_words}
+use Rattle.plain_model.specs.References.{Spot, in_map, in_file, Making, blank, copy, name_page, next_page, new_page, drop_unnamed, drop_copied, make, page_at, words_at, words_of, zero_words}
 use Rattle.plain_model.specs.Pages.{IsOwner}
 use Rattle.plain_model.specs.Whole.{AreWhole}
 use Rattle.plain_model.proofs.OrderLemmas.{page_tied, fork_cmp_total, page_cmp_total}
@@ -285,21 +285,21 @@ module _ {K : Type 0} {file_cmp : K → K → Ordering} (o : IsTotalOrder file_c
     q = new_page p owner (in_map s) access (words_at p (in_map s))
 
     -- a copy where the entry names no page
-    follows_whole : (e : MapEntry) → entry_at p.maps s ≡ Some e → ((x : PageName) → weight (same_page x) page_in e ≡ 0) → (n : Option PageName) → page_at p (in_map s) ≡ n → AreWhole (option_map_or (drop_unnamed q) n q)
+    follows_whole : (e : MapEntry) → entry_at p.maps s ≡ Some e → ((x : PageName) → weight (same_page x) page_in e ≡ 0) → (n : Option PageName) → page_at p (in_map s) ≡ n → AreWhole (drop_copied q n)
     follows_whole e h none n is = by n is
       where
         lost_none : (x : PageName) → lost o p (in_map s) x ≡ 0
         lost_none x = ap (λ (d : Option MapEntry). option_map_or (weight (same_page x) page_in) d 0) h ∙ none x
 
-        by : (n : Option PageName) → page_at p (in_map s) ≡ n → AreWhole (option_map_or (drop_unnamed q) n q)
+        by : (n : Option PageName) → page_at p (in_map s) ≡ n → AreWhole (drop_copied q n)
         by None is = new_whole o p w owner own (in_map s) (e, h) access (words_at p (in_map s)) (page_fits (page_at p (in_map s))) lost_none
         by (Some old) is = drop_whole o p w owner own (in_map s) (e, h) access (words_at p (in_map s)) (page_fits (page_at p (in_map s))) old (page_there s old is) (λ x ne. lost_none x)
 
-    copy_whole : (e : MapEntry) → entry_at p.maps s ≡ Some e → AreWhole (option_map_or (drop_unnamed q) (page_at p (in_map s)) q)
+    copy_whole : (e : MapEntry) → entry_at p.maps s ≡ Some e → AreWhole (drop_copied q (page_at p (in_map s)))
     copy_whole Empty h = follows_whole Empty h (λ x. refl) (page_at p (in_map s)) refl
     copy_whole (Follows serial page a) h = follows_whole (Follows serial page a) h (λ x. refl) (page_at p (in_map s)) refl
     copy_whole (Names n a) h =
-        subst (λ (m : Option PageName). AreWhole (option_map_or (drop_unnamed q) m q)) (sym (named_end s n a h))
+        subst (λ (m : Option PageName). AreWhole (drop_copied q m)) (sym (named_end s n a h))
         (drop_whole o p w owner own (in_map s) (Names n a, h) access (words_at p (in_map s)) (page_fits (page_at p (in_map s))) n (entry_there s n a h)
         (λ x ne. ap (λ (d : Option MapEntry). option_map_or (weight (same_page x) page_in) d 0) h ∙ at_zero x n ne))
 

@@ -9,7 +9,6 @@ use Rattle.std.proofs.lemmas.List.{length-set}
 use Rattle.std.proofs.lemmas.List.Elements.{All-append, All-cons, All-get_or, All-head, All-nil, All-replicate, All-same, All-set, All-tail}
 use Rattle.outside.specs.declared.TheConstants.{PAGE_WORDS}
 use Rattle.plain_model.specs.declared.names.TheConstants.{ACCUMULATORS, LAST_SERIAL}
-use Rattle.plain_model.specs.declared.fork.TerminalMode.TheVariants.{Command, Program}
 use Rattle.plain_model.specs.declared.names.Tty.{Tty}
 use Rattle.plain_model.specs.declared.names.ForkName.{ForkName}
 use Rattle.plain_model.specs.declared.names.Slot.{Slot}
@@ -19,8 +18,6 @@ use Rattle.plain_model.specs.declared.fork.ForkStatus.{ForkStatus}
 use Rattle.plain_model.specs.declared.fork.ForkStatus.TheVariants.{Run as Running, Wait, Halted, Forced}
 use Rattle.plain_model.specs.declared.event.Event.{Event}
 use Rattle.plain_model.specs.declared.event.Event.TheVariants.{Login, TypeIn, File, Words, Poke, Start, Run, Tick, Evict, Drum, Auto, Examine, Forks, Page, Trace}
-use Rattle.plain_model.specs.declared.event.Item.TheVariants.{Char, Examined}
-use Rattle.plain_model.specs.declared.event.Refusal.TheVariants.{Busy, NoJob, NoFork, NoPage, SerialsOut, Full}
 use Rattle.plain_model.specs.declared.event.Step.{Step}
 use Rattle.plain_model.specs.declared.event.Step.TheVariants.{Outer, Unit as AUnit, Idle}
 use Rattle.plain_model.specs.State.{PlainState, NamedPages, PlainJob, opening, first_serials}
@@ -30,14 +27,15 @@ use Rattle.plain_model.specs.Interrupts.{posted, pended, listens, is_panic}
 use Rattle.plain_model.specs.References.{Referred, granted, denied, full, in_map, reference}
 use Rattle.plain_model.specs.Room.{HasRoom}
 use Rattle.plain_model.specs.declared.call.TheConstants.{PBOUT, HALTF}
-use Rattle.plain_model.specs.declared.channel.TheConstants.{ILLEGAL_INSTRUCTION, DRUM_FULL}
-use Rattle.plain_model.specs.Unit.{Effect, Deed, goes, calls, traps, Fetched, word as fetches, stops, in_command_mode, printed, stop_text, stopped, unit_ended, trapped, pbout, haltf, called, done_by, executed, unit, deed_of, advanced, fetched}
+use Rattle.plain_model.specs.declared.channel.TheConstants.{ILLEGAL_INSTRUCTION}
+use Rattle.plain_model.specs.Unit.{Effect, in_command_mode, stopped, unit_ended, trapped, pbout, haltf, called, advanced, posted_if, went, over, unit_on, unit}
+use Rattle.plain_model.specs.Steps.{Planned, Ending, done, call, trap, need, stopped as unit_stopped, pages_left}
 use Rattle.plain_model.specs.References.{slot_at}
 use Rattle.plain_model.specs.declared.map.NewMap.TheVariants.{Empty as EmptyMap}
-use Rattle.plain_model.specs.Events.{refused, next_fork, with_map, with_job, restarted, login, with_accumulator, poked, poke, start, word_seen, examine, show_forks, outer}
-use Rattle.std.specs.Option.{option_map_or}
+use Rattle.plain_model.specs.Events.{at_job, next_fork, with_map, with_job, restarted, login, with_accumulator, poked, poked_at, poke, start, word_seen, examined_in, examine, show_forks, outer}
 use Rattle.plain_model.specs.Limits.{IsForkName, IsTerminal, FitsEvent, FitsStep}
 use Rattle.plain_model.specs.Run.{Shape, silent, turns, single, shape_of, apply, state_after, IsTurn, AreTurns, FollowsShape, IsLegalStep, AreLegal, IsLegal, auto_after}
+use Rattle.plain_model.proofs.Lookups.{looked_up}
 use Rattle.plain_model.proofs.OrderLemmas.{fork_cmp_total, fork_cmp_apart}
 
 -- each living fork stands under its own name, and each terminal's next serial is 1 or more
@@ -57,9 +55,8 @@ none_named limit = record { stands = λ k f is. absurd (cc (sym (map.get-empty f
 abbrev Leaves : Effect → Type 0
 Leaves e = IsNamed e.state
 
-mode_named : (s : PlainState) (t : Tty) (o : Option PlainJob) → IsNamed s → IsNamed (option_map_or (λ j. record s { jobs = map.insert s.jobs t.0 (record j { mode = Command }) }) o s)
-mode_named s t None n = n
-mode_named s t (Some j) n = n
+mode_named : (s : PlainState) (t : Tty) → IsNamed s → IsNamed (in_command_mode s t)
+mode_named s t n = looked_up IsNamed _ s (map.get s.jobs t.0) (λ j is. n) (λ none. n)
 
 posted_fits : (f : Fork) (channel : ℕ) → IsForkName f.name → IsForkName (posted f channel).name
 posted_fits f channel fits =
@@ -84,10 +81,9 @@ module _ (s : PlainState) (n : IsNamed s) where
       at k g false other is = n.stands k g (sym (map.get-insert fork_cmp_total s.forks f.name f k ∙ ap (λ b. cond b (Some f) (map.get s.forks k)) other) ∙ is)
 
   -- a unit leaves its fork's name
-
   stopped_named : (f : Fork) → IsForkName f.name → Leaves (stopped s f)
   stopped_named f fits = let t = with_fork s (counted f) in let m : IsNamed t = put (counted f) fits in
-      cond_both (is_some f.superior) (record { state = t; items = [] }) (record { state = in_command_mode t f.name.tty; items = printed f.name.tty (stop_text f.body.status) }) Leaves (λ below. m) (λ top. mode_named t f.name.tty (map.get t.jobs f.name.tty.0) m)
+      cond_both (is_some f.superior) _ _ Leaves (λ below. m) (λ top. mode_named t f.name.tty m)
 
   ended_named : (f : Fork) (status : ForkStatus) → IsForkName f.name → Leaves (unit_ended s f status)
   ended_named f Running fits = put (counted f) fits
@@ -95,36 +91,41 @@ module _ (s : PlainState) (n : IsNamed s) where
   ended_named f Halted fits = stopped_named f fits
   ended_named f (Forced channel) fits = stopped_named f fits
 
+-- a unit that goes through leaves its fork's name
+went_named : (s : PlainState) → IsNamed s → (f : Fork) (pages : NamedPages) (e : Ending) → IsForkName f.name → Leaves (went s f pages e)
+went_named s n f pages e fits = by e.post
+  where
+    g : Fork
+    g = with_regs f e.regs
+
+    by : (post : Option ℕ) → Leaves (unit_ended (record s { pages = pages }) (posted_if g post) (posted_if g post).body.status)
+    by None = ended_named (record s { pages = pages }) n g g.body.status fits
+    by (Some channel) = ended_named (record s { pages = pages }) n (posted g channel) (posted g channel).body.status (posted_fits g channel fits)
+
+module _ (s : PlainState) (n : IsNamed s) where
   trapped_named : (f : Fork) (channel : ℕ) → IsForkName f.name → Leaves (trapped s f channel)
-  trapped_named f channel fits = ended_named (posted f channel) (posted f channel).body.status (posted_fits f channel fits)
+  trapped_named f channel fits = ended_named s n (posted f channel) (posted f channel).body.status (posted_fits f channel fits)
 
   pbout_named : (f : Fork) → IsForkName f.name → Leaves (pbout s f)
-  pbout_named f fits = put (counted (with_regs f (advanced f.body.regs))) fits
+  pbout_named f fits = put s n (counted (with_regs f (advanced f.body.regs))) fits
 
   haltf_named : (f : Fork) → IsForkName f.name → Leaves (haltf s f)
-  haltf_named f fits = stopped_named (with_status (with_regs f (advanced f.body.regs)) Halted) fits
+  haltf_named f fits = stopped_named s n (with_status (with_regs f (advanced f.body.regs)) Halted) fits
 
   called_named : (f : Fork) (number : ℕ) → IsForkName f.name → Leaves (called s f number)
   called_named f number fits =
-      cond_both (number == PBOUT) (pbout s f) (cond (number == HALTF) (haltf s f) (trapped s f ILLEGAL_INSTRUCTION)) Leaves (λ prints. pbout_named f fits) (λ other.
-      cond_both (number == HALTF) (haltf s f) (trapped s f ILLEGAL_INSTRUCTION) Leaves (λ halts. haltf_named f fits) (λ none. trapped_named f ILLEGAL_INSTRUCTION fits))
+      cond_both (number == PBOUT) _ _ Leaves (λ prints. pbout_named f fits) (λ other.
+      cond_both (number == HALTF) _ _ Leaves (λ halts. haltf_named f fits) (λ none. trapped_named f ILLEGAL_INSTRUCTION fits))
 
-  done_named : (f : Fork) (pages : NamedPages) (d : Deed) → IsForkName f.name → Leaves (done_by s f pages d)
-  done_named f pages (goes regs) fits = put (counted (with_regs f regs)) fits
-  done_named f pages (calls number) fits = called_named f number fits
-  done_named f pages (traps channel) fits = trapped_named f channel fits
-
-  executed_named : (f : Fork) (w : Fetched name_cmp) → IsForkName f.name → Leaves (executed s f w)
-  executed_named f (fetches w pages) fits = done_named f pages (deed_of f.body.regs w) fits
-  executed_named f (stops channel) fits = trapped_named f channel fits
+  over_named : (f : Fork) (r : Planned name_cmp ⊥) → IsForkName f.name → Leaves (over s f r)
+  over_named f (done t e) fits = went_named s n f (pages_left f.name t e) e fits
+  over_named f (unit_stopped (trap channel)) fits = trapped_named f channel fits
+  over_named f (unit_stopped (need none)) fits = absurd none
+  over_named f (call number) fits = called_named f number fits
 
   unit_named : (k : ForkName) → Leaves (unit s k)
   unfolding unit
-  unit_named k = by (map.get s.forks k) refl
-    where
-      by : (o : Option Fork) → map.get s.forks k ≡ o → Leaves (option_map_or (λ f. executed s f (fetched s.pages f)) o (record { state = s; items = [] }))
-      by None is = n
-      by (Some f) is = executed_named f (fetched s.pages f) (living_fits k f is)
+  unit_named k = looked_up Leaves _ _ (map.get s.forks k) (λ f is. over_named f (unit_on f.name s.pages f.body.regs) (living_fits s n k f is)) (λ none. n)
 
   -- an event makes a fork under a terminal's next serial, and else leaves the names
 
@@ -135,7 +136,7 @@ module _ (s : PlainState) (n : IsNamed s) where
   with_job_named : (t : Tty) (user : List ℕ) → IsForkName (next_fork s t) → IsNamed (with_job s t user)
   with_job_named t user fits =
       let serial = (next_fork s t).serial + 1 in
-      let made = put (top_fork (next_fork s t)) fits in
+      let made = put s n (top_fork (next_fork s t)) fits in
       record {
         stands = made.stands;
         begun = All-set (λ n. 1 ≤ n) s.fork_serials t.0 serial (omega arith) n.begun;
@@ -144,21 +145,13 @@ module _ (s : PlainState) (n : IsNamed s) where
 
   login_named : (t : Tty) (user : List ℕ) → IsTerminal t → Leaves (login s t user)
   login_named t user terminal =
-      let made : Effect = record { state = with_job s t user; items = Char t 64 ∷ [] } in
-      let room = HasRoom (with_map s.pages (next_fork s t) EmptyMap) t in
-      let last : Bool = nat_lt LAST_SERIAL (next_fork s t).serial in
-      let roomy : Effect = cond room made (refused s (Full t)) in
-      cond_both (is_some (map.get s.jobs t.0)) (refused s (Busy t)) (cond last (refused s (SerialsOut t)) roomy) Leaves (λ busy. n) (λ free.
-      cond_both last (refused s (SerialsOut t)) roomy Leaves (λ out. n) (λ few.
-      cond_both room made (refused s (Full t)) Leaves (λ fits. with_job_named t user (next_fits t terminal few)) (λ full. n)))
+      cond_both (is_some (map.get s.jobs t.0)) _ _ Leaves (λ busy. n) (λ free.
+      cond_both (nat_lt LAST_SERIAL (next_fork s t).serial) _ _ Leaves (λ out. n) (λ few.
+      cond_both (HasRoom (with_map s.pages (next_fork s t) EmptyMap) t) _ _ Leaves (λ fits. with_job_named t user (next_fits t terminal few)) (λ full. n)))
 
   -- a change of a fork that leaves its name
   changed_named : (k : ForkName) (change : Fork → Fork) → ((f : Fork) → (change f).name ≡ f.name) → IsNamed (change_fork s k change)
-  changed_named k change same = by (map.get s.forks k) refl
-    where
-      by : (o : Option Fork) → map.get s.forks k ≡ o → IsNamed (option_map_or (λ f. with_fork s (change f)) o s)
-      by None is = n
-      by (Some f) is = put (change f) (subst IsForkName (sym (same f)) (living_fits k f is))
+  changed_named k change same = looked_up IsNamed _ s (map.get s.forks k) (λ f is. put s n (change f) (subst IsForkName (sym (same f)) (living_fits s n k f is))) (λ none. n)
 
   poked_named : (t : Tty) (slot : Slot) (offset word : ℕ) (r : Referred name_cmp) → Leaves (poked s t slot offset word r)
   poked_named t slot offset word (granted p) = n
@@ -166,39 +159,23 @@ module _ (s : PlainState) (n : IsNamed s) where
   poked_named t slot offset word full = n
 
   -- an event of a job
-  job_named : (t : Tty) (act : PlainJob → Effect) → ((j : PlainJob) → Leaves (act j)) → (o : Option PlainJob) → Leaves (option_map_or act o (refused s (NoJob t)))
-  job_named t act does None = n
-  job_named t act does (Some j) = does j
+  job_named : (t : Tty) (act : PlainJob → Effect) → ((j : PlainJob) → Leaves (act j)) → Leaves (at_job s t act)
+  job_named t act does = looked_up Leaves act _ (map.get s.jobs t.0) (λ j is. does j) (λ none. n)
 
   poke_named : (t : Tty) (address word : ℕ) → Leaves (poke s t address word)
-  poke_named t address word = job_named t _ does (map.get s.jobs t.0)
-    where
-      does : (j : PlainJob) → Leaves (cond (nat_lt address ACCUMULATORS) (record { state = change_fork s j.top (with_accumulator address word); items = [] })
-          (let slot = slot_at j.top address in poked s t slot (address % PAGE_WORDS) word (reference s.pages (in_map slot) Write t)))
-      does j =
-          let slot = slot_at j.top address in
-          cond_both (nat_lt address ACCUMULATORS) _ _ Leaves (λ below. changed_named j.top (with_accumulator address word) (λ f. refl)) (λ above.
-          poked_named t slot (address % PAGE_WORDS) word (reference s.pages (in_map slot) Write t))
+  poke_named t address word = job_named t (poked_at s t address word) (λ j.
+      let slot = slot_at j.top address in
+      cond_both (nat_lt address ACCUMULATORS) _ _ Leaves (λ below. changed_named j.top (with_accumulator address word) (λ f. refl)) (λ above. poked_named t slot (address % PAGE_WORDS) word (reference s.pages (in_map slot) Write t)))
 
   start_named : (t : Tty) (address : ℕ) → Leaves (start s t address)
-  start_named t address = job_named t _ does (map.get s.jobs t.0)
-    where
-      does : (j : PlainJob) → Leaves (record { state = record (change_fork s j.top (restarted address)) { jobs = map.insert s.jobs t.0 (record j { mode = Program }) }; items = [] })
-      does j = let m = changed_named j.top (restarted address) (λ f. refl) in record { stands = m.stands; begun = m.begun; each = m.each }
-
-  word_named : (t : Tty) (serial address : ℕ) (o : Option ℕ) → Leaves (option_map_or (λ word. record { state = s; items = Examined t serial address word ∷ [] }) o (refused s (NoPage t)))
-  word_named t serial address None = n
-  word_named t serial address (Some word) = n
+  start_named t address = job_named t _ (λ j. let m = changed_named j.top (restarted address) (λ f. refl) in record { stands = m.stands; begun = m.begun; each = m.each })
 
   examine_named : (t : Tty) (serial address : ℕ) → Leaves (examine s t serial address)
-  examine_named t serial address = job_named t _ (λ j. fork_named (map.get s.forks (record { tty = t; serial = serial }))) (map.get s.jobs t.0)
-    where
-      fork_named : (o : Option Fork) → Leaves (option_map_or (λ f. option_map_or (λ word. record { state = s; items = Examined t serial address word ∷ [] }) (word_seen s f address) (refused s (NoPage t))) o (refused s (NoFork t)))
-      fork_named None = n
-      fork_named (Some f) = word_named t serial address (word_seen s f address)
+  examine_named t serial address = job_named t _ (λ j.
+      looked_up Leaves (examined_in s t serial address) _ (map.get s.forks (record { tty = t; serial = serial })) (λ f is. looked_up Leaves _ _ (word_seen s f address) (λ word seen. n) (λ none. n)) (λ none. n))
 
   forks_named : (t : Tty) → Leaves (show_forks s t)
-  forks_named t = job_named t _ (λ j. n) (map.get s.jobs t.0)
+  forks_named t = job_named t _ (λ j. n)
 
   outer_named : (e : Event) → FitsEvent e → Leaves (outer s e)
   unfolding outer

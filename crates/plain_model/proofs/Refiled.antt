@@ -13,7 +13,7 @@ use Rattle.plain_model.specs.State.{PlainPages, refiled}
 use Rattle.plain_model.specs.Orders.{file_page_cmp}
 use Rattle.plain_model.specs.Maps.{Link, Chain, chain, entry_at, permits}
 use Rattle.plain_model.specs.Room.{names, uses, live, HasRoom}
-use Rattle.plain_model.specs.References.{Spot, in_map, in_file, Making, blank, copy, blanks, copies, along_chain, private_access, makings, make, make_all, new_page, drop_unnamed, words_at, page_at, Referred, granted, denied, full, reference}
+use Rattle.plain_model.specs.References.{Spot, in_map, in_file, Making, blank, copy, blanks, copy_in, copies, along_chain, private_access, makings, make, make_all, new_page, drop_unnamed, drop_copied, words_at, page_at, Referred, granted, denied, full, reference}
 use Rattle.plain_model.proofs.Counts.{has_count, different_same}
 use Rattle.plain_model.proofs.Whole.{map_uses, tally, uses_are}
 
@@ -28,11 +28,23 @@ AllAlike [] [] = Unit {0}
 AllAlike (m ∷ ms) (n ∷ ns) = Alike m n × AllAlike ms ns
 AllAlike ms ns = ⊥
 
-abbrev copy_at : {K : Type 0} → Chain → Option Link → List (Making K)
-copy_at c l = option_map_or (λ k. copy k.slot (private_access c) ∷ []) l []
-
 abbrev blank_at : {K : Type 0} → Chain → Option PageName → List (Making K)
 blank_at c n = if is_some n then [] else blank (in_map c.end) ∷ []
+
+module _ (K L : Type 0) where
+  copied : (c : Chain) (kind : Kind) → AllAlike (copies {K = K} kind c) (copies {K = L} kind c)
+  copied c Read = tt
+  copied c Execute = tt
+  copied c Write = found (find (λ l. l.access.c) c.links)
+    where
+      found : (l : Option Link) → AllAlike (copy_in {K = K} c l) (copy_in {K = L} c l)
+      found None = tt
+      found (Some l) = ((refl, refl), tt)
+
+  -- what a reference makes along a chain is alike
+  listed : (c : Chain) (kind : Kind) (n : Option PageName) → AllAlike (blank_at {K = K} c n ++ copies kind c) (blank_at {K = L} c n ++ copies kind c)
+  listed c kind None = (refl, copied c kind)
+  listed c kind (Some n) = copied c kind
 
 module _ {K L : Type 0} {file_cmp : K → K → Ordering} (other_cmp : L → L → Ordering) where
   -- maps of the pages of files that name the same pages, each as often
@@ -65,7 +77,7 @@ module _ {K L : Type 0} {file_cmp : K → K → Ordering} (other_cmp : L → L �
     moved true p q = refl
     moved false p q = refl
 
-    copy_refiled : (q : PlainPages file_cmp) → NameAlike q files → (n : Option PageName) → option_map_or (drop_unnamed (refiled other_cmp q files)) n (refiled other_cmp q files) ≡ refiled other_cmp (option_map_or (drop_unnamed q) n q) files
+    copy_refiled : (q : PlainPages file_cmp) → NameAlike q files → (n : Option PageName) → drop_copied (refiled other_cmp q files) n ≡ refiled other_cmp (drop_copied q n) files
     copy_refiled q alike None = refl
     copy_refiled q alike (Some n) =
         let gone : PlainPages file_cmp = record q { objects = map.remove q.objects n } in
@@ -85,12 +97,12 @@ module _ {K L : Type 0} {file_cmp : K → K → Ordering} (other_cmp : L → L �
         q = new_page p owner (in_map s) a (words_at p (in_map s))
 
         from : Option PageName → List ℕ → PlainPages other_cmp
-        from n words = let r = new_page (refiled other_cmp p files) owner (in_map s) a words in option_map_or (drop_unnamed r) n r
+        from n words = drop_copied (new_page (refiled other_cmp p files) owner (in_map s) a words) n
 
         words_same : words_at (refiled other_cmp p files) (in_map s) ≡ words_at p (in_map s)
         words_same = ap (λ (n : Option PageName). option_map_or (λ m. Rattle.std.specs.Option.unwrap_or (map.get p.objects m) Rattle.plain_model.specs.References.zero_words) n Rattle.plain_model.specs.References.zero_words) (page_refiled p s)
 
-        same : from (page_at (refiled other_cmp p files) (in_map s)) (words_at (refiled other_cmp p files) (in_map s)) ≡ refiled other_cmp (option_map_or (drop_unnamed q) (page_at p (in_map s)) q) files
+        same : from (page_at (refiled other_cmp p files) (in_map s)) (words_at (refiled other_cmp p files) (in_map s)) ≡ refiled other_cmp (drop_copied q (page_at p (in_map s))) files
         same = ap (λ n. from n (words_at (refiled other_cmp p files) (in_map s))) (page_refiled p s) ∙ ap (from (page_at p (in_map s))) words_same ∙ copy_refiled q alike (page_at p (in_map s))
 
     files_stay : (p : PlainPages file_cmp) (m : Making K) (n : Making L) → Alike m n → (make p owner m).files ≡ p.files
@@ -110,7 +122,7 @@ module _ {K L : Type 0} {file_cmp : K → K → Ordering} (other_cmp : L → L �
         dropped n true = refl
         dropped n false = refl
 
-        by : (n : Option PageName) → (option_map_or (drop_unnamed q) n q).files ≡ p.files
+        by : (n : Option PageName) → (drop_copied q n).files ≡ p.files
         by None = refl
         by (Some n) = dropped n (uses q n == 0)
 
@@ -144,23 +156,34 @@ module _ {K L : Type 0} {file_cmp : K → K → Ordering} (other_cmp : L → L �
         made : (ms : List (Making K)) (ns : List (Making L)) → AllAlike ms ns → from (Some ns) ≡ to (Some ms)
         made ms ns h = makings_refiled ms ns p alike h
 
-        copied : (c : Chain) (kind : Kind) → AllAlike (copies {K = K} kind c) (copies {K = L} kind c)
-        copied c Read = tt
-        copied c Execute = tt
-        copied c Write = found (find (λ l. l.access.c) c.links)
-          where
-            found : (l : Option Link) → AllAlike (copy_at {K = K} c l) (copy_at {K = L} c l)
-            found None = tt
-            found (Some l) = ((refl, refl), tt)
-
-        listed : (c : Chain) (n : Option PageName) → AllAlike (blank_at {K = K} c n ++ copies kind c) (blank_at {K = L} c n ++ copies kind c)
-        listed c None = (refl, copied c kind)
-        listed c (Some n) = copied c kind
-
         permitted : (c : Chain) (b : Bool) → from (if b then Some (blanks c ++ copies kind c) else None) ≡ to (if b then Some (blanks c ++ copies kind c) else None)
-        permitted c true = made (blanks c ++ copies kind c) (blanks c ++ copies kind c) (listed c c.page)
+        permitted c true = made (blanks c ++ copies kind c) (blanks c ++ copies kind c) (listed K L c kind c.page)
         permitted c false = refl
 
         by : (oc : Option Chain) → from (option_and_then (along_chain kind) oc) ≡ to (option_and_then (along_chain kind) oc)
         by None = refl
         by (Some c) = permitted c (permits kind c)
+
+    all_stay : (ms : List (Making K)) (ns : List (Making L)) (p q : PlainPages file_cmp) → AllAlike ms ns → make_all p owner ms ≡ granted q → q.files ≡ p.files
+    unfolding make_all
+    all_stay [] [] p q h made = let same : p ≡ q = cc made in ap (λ (x : PlainPages file_cmp). x.files) (sym same)
+    all_stay (m ∷ ms) [] p q h made = absurd h
+    all_stay [] (n ∷ ns) p q h made = absurd h
+    all_stay (m ∷ ms) (n ∷ ns) p q h made = by (all_stay ms ns (make p owner m) q h.1) (HasRoom (make p owner m) owner) made
+      where
+        by : (make_all (make p owner m) owner ms ≡ granted q → q.files ≡ (make p owner m).files) → (b : Bool) → cond b (make_all (make p owner m) owner ms) full ≡ granted q → q.files ≡ p.files
+        by rest true g = rest g ∙ files_stay p m n h.0
+        by rest false g = absurd (cc g)
+
+    -- and it leaves the pages of files
+    pub reference_leaves : (p q : PlainPages file_cmp) (s : Slot) (kind : Kind) → reference p (in_map s) kind owner ≡ granted q → q.files ≡ p.files
+    unfolding reference makings
+    reference_leaves p q s kind refers = by (chain (entry_at p.maps) s) refers
+      where
+        permitted : (c : Chain) (b : Bool) → option_map_or (make_all p owner) (if b then Some (blanks c ++ copies kind c) else None) (denied kind) ≡ granted q → q.files ≡ p.files
+        permitted c true g = all_stay (blanks c ++ copies kind c) (blanks c ++ copies kind c) p q (listed K L c kind c.page) g
+        permitted c false g = absurd (cc g)
+
+        by : (oc : Option Chain) → option_map_or (make_all p owner) (option_and_then (along_chain kind) oc) (denied kind) ≡ granted q → q.files ≡ p.files
+        by None g = absurd (cc g)
+        by (Some c) g = permitted c (permits kind c) g

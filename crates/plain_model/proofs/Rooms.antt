@@ -15,7 +15,7 @@ use Rattle.plain_model.specs.State.{PlainPages}
 use Rattle.plain_model.specs.Orders.{page_cmp}
 use Rattle.plain_model.specs.Maps.{entry_at, full_access}
 use Rattle.plain_model.specs.Room.{same_page, page_in, uses, live, HasRoom}
-use Rattle.plain_model.specs.References.{Spot, in_map, in_file, blank, copy, make, next_page, new_page, drop_unnamed, page_at, words_at, zero_words}
+use Rattle.plain_model.specs.References.{Spot, in_map, in_file, blank, copy, make, next_page, new_page, drop_copied, page_at, words_at, zero_words}
 use Rattle.plain_model.specs.Pages.{IsOwner, is_sole}
 use Rattle.plain_model.specs.Whole.{AreWhole}
 use Rattle.plain_model.proofs.OrderLemmas.{page_cmp_total}
@@ -62,7 +62,7 @@ module _ {K : Type 0} {file_cmp : K → K → Ordering} (o : IsTotalOrder file_c
 
     -- where the old page keeps a name there is one page more, and where it does not there are as many
     abbrev Counted : Bool → Option PageName → Type 0
-    Counted sole n = map.len (option_map_or (drop_unnamed q) n q).objects + cond sole 1 0 ≡ map.len p.objects + 1
+    Counted sole n = map.len (drop_copied q n).objects + cond sole 1 0 ≡ map.len p.objects + 1
 
     has_old : (old : PageName) → map.contains_key p.objects old ≡ true → map.contains_key q.objects old ≡ true
     has_old old there = ap is_some (map.get-insert page_cmp_total p.objects (next_page p owner) (words_at p (in_map s)) old) ∙ by (eq_by_cmp page_cmp old (next_page p owner)) (map.get p.objects old) there
@@ -112,7 +112,7 @@ module _ {K : Type 0} {file_cmp : K → K → Ordering} (o : IsTotalOrder file_c
         let less : uses q n + 1 ≡ uses p n = omega (arith, uses_of (Names n b) h n, one, not_new n there) in
         subst (λ (m : Option PageName). Counted (uses p n == 1) m) (sym (named_end o p w s n b h)) (kept n (uses p n == 1) (one_less (uses q n) (uses p n) less) there)
 
-    made_objects : map.len (make p owner (copy s a)).objects ≡ map.len (option_map_or (drop_unnamed q) (page_at p (in_map s)) q).objects
+    made_objects : map.len (make p owner (copy s a)).objects ≡ map.len (drop_copied q (page_at p (in_map s))).objects
     unfolding make
     made_objects = refl
 
@@ -132,7 +132,7 @@ module _ {K : Type 0} {file_cmp : K → K → Ordering} (o : IsTotalOrder file_c
         dropped n true = refl
         dropped n false = refl
 
-        by : (n : Option PageName) → (option_map_or (drop_unnamed q) n q).limit ≡ p.limit
+        by : (n : Option PageName) → (drop_copied q n).limit ≡ p.limit
         by None = refl
         by (Some n) = dropped n (uses q n == 0)
 

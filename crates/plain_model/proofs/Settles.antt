@@ -1,7 +1,7 @@
 -- What is left to make once the first page of a reference is made, and what a touch says of the reference.
 use Rattle.std.proofs.Common.{◌≡◌, ◌≢◌, ℕ, Bool, true, false, cond, List, [], ◌∷◌, ◌++◌, Option, None, Some, ◌⊎◌, inl, inr, refl, sym, ◌∙◌, ap, subst, Ordering}
 use Rattle.std.specs.Prelude.{◌==◌, find, is_some, if◌then◌else◌}
-use Rattle.std.specs.Option.{option_map_or, option_and_then}
+use Rattle.std.specs.Option.{option_and_then}
 use Rattle.std.specs.Ordering.{is_eq}
 use Rattle.std.specs.Cmp.{IsTotalOrder}
 use Rattle.std.proofs.lemmas.Cmp.{tied_itself}
@@ -18,7 +18,7 @@ use Rattle.plain_model.specs.State.{PlainPages, Maps}
 use Rattle.plain_model.specs.Orders.{FilePage}
 use Rattle.plain_model.specs.Maps.{Link, Chain, entry_at, set_entry, full_access, chain, chain_within, permits, permit_write}
 use Rattle.plain_model.specs.Room.{uses}
-use Rattle.plain_model.specs.References.{Spot, in_map, in_file, Making, blank, copy, blanks, copies, along_chain, in_its_file, private_access, makings, make, next_page, new_page, drop_unnamed, words_at, page_at}
+use Rattle.plain_model.specs.References.{Spot, in_map, in_file, Making, blank, copy, blanks, copy_in, copies, along_chain, in_its_file, private_access, makings, make, next_page, new_page, drop_copied, words_at, page_at}
 use Rattle.plain_model.proofs.Chains.{access_of, marked, chain_empty, IsMarked, chain_marked, chain_filled, IsPrivate, chain_copied, entry_set, entry_other, slot_tells}
 use Rattle.plain_model.proofs.Makings.{CanMake, file_page_total}
 
@@ -29,7 +29,7 @@ module _ {K : Type 0} where
   first_copy Execute c m rest h = absurd (cc h)
   first_copy Write c m rest h = (refl, by (find marked c.links) refl h)
     where
-      by : (l : Option Link) → find marked c.links ≡ l → option_map_or (λ k. copy k.slot (private_access c) ∷ []) l [] ≡ m ∷ rest → (k : Link) × (find marked c.links ≡ Some k) × (copy k.slot (private_access c) ≡ m) × ([] ≡ rest)
+      by : (l : Option Link) → find marked c.links ≡ l → copy_in c l ≡ m ∷ rest → (k : Link) × (find marked c.links ≡ Some k) × (copy k.slot (private_access c) ≡ m) × ([] ≡ rest)
       by None is g = absurd (cc g)
       by (Some k) is g = (k, is, cc g, cc g)
 
@@ -60,7 +60,7 @@ module _ {K : Type 0} {file_cmp : K → K → Ordering} (o : IsTotalOrder file_c
       dropped n true = refl
       dropped n false = refl
 
-      by : (n : Option PageName) → (option_map_or (drop_unnamed q) n q).maps ≡ set_entry p.maps s (Names (next_page p owner) a)
+      by : (n : Option PageName) → (drop_copied q n).maps ≡ set_entry p.maps s (Names (next_page p owner) a)
       by None = refl
       by (Some n) = dropped n (uses q n == 0)
 
@@ -75,7 +75,7 @@ module _ {K : Type 0} {file_cmp : K → K → Ordering} (o : IsTotalOrder file_c
       dropped n true = refl
       dropped n false = refl
 
-      by : (n : Option PageName) → (option_map_or (drop_unnamed q) n q).files ≡ p.files
+      by : (n : Option PageName) → (drop_copied q n).files ≡ p.files
       by None = refl
       by (Some n) = dropped n (uses q n == 0)
 
@@ -168,7 +168,7 @@ module _ {K : Type 0} {file_cmp : K → K → Ordering} (o : IsTotalOrder file_c
           ap (option_and_then (along_chain kind)) now ∙ ap (λ k. along_chain k d) writes
           ∙ ap (λ b. if b then Some (blanks d ++ copies Write d) else None) r.2.writes
           ∙ ap (λ (n : Option PageName). Some ((if is_some n then [] else blank (in_map d.end) ∷ []) ++ copies Write d)) r.2.named
-          ∙ ap (λ (k : Option Link). Some (option_map_or (λ k. copy k.slot (private_access d) ∷ []) k [])) r.2.unmarked ∙ ap Some others
+          ∙ ap (λ (k : Option Link). Some (copy_in d k)) r.2.unmarked ∙ ap Some others
 
       by : (oc : Option Chain) → chain (entry_at p.maps) s ≡ oc → option_and_then (along_chain kind) oc ≡ Some (m ∷ rest) → After
       by None is g = absurd (cc g)

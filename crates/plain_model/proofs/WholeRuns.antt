@@ -1,7 +1,6 @@
 -- The plain state is whole wherever a run comes.
 use Rattle.std.proofs.Common.{◌≡◌, ◌≢◌, ℕ, ◌+◌, ◌%◌, ◌<◌, ◌≤◌, Bool, true, false, cond, List, [], ◌∷◌, length, Option, None, Some, ◌⊎◌, inl, inr, refl, sym, ◌∙◌, ap, subst, arith, length-set, Ordering, All, get_or-set_other}
-use Rattle.std.specs.Prelude.{◌==◌, is_some, nat_lt, slice_set, slice_index}
-use Rattle.std.specs.Option.{option_map_or}
+use Rattle.std.specs.Prelude.{◌==◌, is_some, nat_lt, nat_le, slice_set, slice_index}
 use Rattle.std.specs.Ordering.{eq_by_cmp, nat_cmp, is_eq}
 use Rattle.std.specs.Cmp.{Equal-is, IsTotalOrder, nat_cmp_total}
 use Rattle.std.specs.Cmp.Lexicographic.{nat_list_cmp_total}
@@ -9,6 +8,9 @@ use Rattle.std.specs.FinMap as map
 use Rattle.std.proofs.lemmas.Cmp.{tied_itself}
 use Rattle.outside.specs.declared.TheConstants.{PAGE_WORDS}
 use Rattle.plain_model.specs.declared.names.TheConstants.{TERMINALS, ACCUMULATORS, LAST_SERIAL}
+use Rattle.plain_model.specs.declared.unit.TheConstants.{MOST_REFERENCES}
+use Rattle.plain_model.specs.declared.unit.Put.{Put}
+use Rattle.plain_model.specs.Instructions.{instruction}
 use Rattle.plain_model.specs.declared.names.Tty.{Tty}
 use Rattle.plain_model.specs.declared.names.ForkName.{ForkName}
 use Rattle.plain_model.specs.declared.names.PageName.{PageName}
@@ -21,22 +23,20 @@ use Rattle.plain_model.specs.Orders.{fork_cmp, page_cmp, name_cmp}
 use Rattle.plain_model.specs.Maps.{Chain, full_access}
 use Rattle.plain_model.specs.declared.names.Access.{Access}
 use Rattle.plain_model.specs.Room.{HasRoom, same_page, live, names}
-use Rattle.plain_model.specs.References.{in_map, in_file, Making, blank, copy, makings, make, make_all, next_page, Referred, granted, denied, full, reference, page_at, words_of, stored, word_at}
+use Rattle.plain_model.specs.References.{in_map, in_file, Making, blank, copy, makings, make, make_all, next_page, Referred, granted, denied, full, reference, page_at, words_of, with_word, stored}
 use Rattle.plain_model.specs.Pages.{IsOwner}
-use Rattle.plain_model.specs.declared.names.Kind.TheVariants.{Execute, Write}
+use Rattle.plain_model.specs.declared.names.Kind.TheVariants.{Write}
 use Rattle.plain_model.specs.declared.fork.TerminalMode.TheVariants.{Command, Program}
 use Rattle.plain_model.specs.declared.fork.ForkStatus.{ForkStatus}
 use Rattle.plain_model.specs.declared.fork.ForkStatus.TheVariants.{Run as Running, Wait, Halted, Forced}
 use Rattle.plain_model.specs.Interrupts.{posted, pended, listens, is_panic}
 use Rattle.plain_model.specs.declared.call.TheConstants.{PBOUT, HALTF}
-use Rattle.plain_model.specs.declared.channel.TheConstants.{ILLEGAL_INSTRUCTION, DRUM_FULL}
-use Rattle.plain_model.specs.Unit.{Effect, Deed, goes, calls, traps, word as fetches, in_command_mode, printed, stop_text, stopped, unit_ended, trapped, pbout, haltf, called, done_by, executed, unit, deed_of, advanced, fetched, fetched_by}
+use Rattle.plain_model.specs.declared.channel.TheConstants.{ILLEGAL_INSTRUCTION}
+use Rattle.plain_model.specs.Unit.{Effect, in_command_mode, stopped, unit_ended, trapped, called, advanced, posted_if, went, over, unit_on, unit}
 use Rattle.plain_model.specs.References.{slot_at}
-use Rattle.plain_model.specs.Steps.{denied_channel}
+use Rattle.plain_model.specs.Steps.{Steps, refers, widens, keeps, ends, traps, calls, Planned, Progress, Ending, goes, done, call, trap, need, stopped as unit_stopped, is_accumulator, goes_on, asked_at, plain_asked, plainly, word_taken, referred, widened, run, begun, put_into, pages_left}
 use Rattle.plain_model.specs.declared.event.Event.{Event}
 use Rattle.plain_model.specs.declared.event.Event.TheVariants.{Login, TypeIn, File, Words, Poke, Start, Run, Tick, Evict, Drum, Auto, Examine, Forks, Page, Trace}
-use Rattle.plain_model.specs.declared.event.Item.TheVariants.{Char, Examined}
-use Rattle.plain_model.specs.declared.event.Refusal.TheVariants.{Busy, NoJob, NoFork, NoPage, SerialsOut, Full}
 use Rattle.plain_model.specs.declared.event.Step.{Step}
 use Rattle.plain_model.specs.declared.event.Step.TheVariants.{Outer, Unit as AUnit, Idle}
 use Rattle.plain_model.specs.Run.{apply, state_after}
@@ -44,11 +44,12 @@ use Rattle.std.proofs.lemmas.Grind.{get_or-set_at}
 use Rattle.std.proofs.lemmas.Bool.Decides.{eqb_tells}
 use Rattle.std.proofs.lemmas.List.Elements.{All-head, All-tail}
 use Rattle.plain_model.specs.declared.map.NewMap.TheVariants.{Empty as EmptyMap}
-use Rattle.plain_model.specs.Events.{refused, at_job, empty_map, with_map, new_job, next_fork, with_job, login, with_accumulator, poked, poke, restarted, start, word_seen, outer}
+use Rattle.plain_model.specs.Events.{at_job, empty_map, with_map, new_job, next_fork, with_job, login, with_accumulator, poked, poked_at, poke, restarted, started, start, word_seen, examined_in, outer}
 use Rattle.plain_model.specs.Limits.{IsForkName, IsTerminal, FitsEvent, FitsStep}
 use Rattle.std.proofs.lemmas.Bool.{cond_both}
 use Rattle.plain_model.specs.Forks.{top_fork, with_fork, with_regs, with_status, counted, change_fork}
 use Rattle.plain_model.specs.Whole.{AreWhole, IsWhole}
+use Rattle.plain_model.proofs.Lookups.{looked_up}
 use Rattle.plain_model.proofs.OrderLemmas.{fork_cmp_total, fork_cmp_apart, page_cmp_total, page_tied}
 use Rattle.plain_model.proofs.Counts.{Same, page_tells}
 use Rattle.plain_model.proofs.Chains.{keys_set}
@@ -86,9 +87,9 @@ whole_opening limit = record {
 -- a word more in a page that is there leaves whole pages whole
 module _ {K : Type 0} {file_cmp : K → K → Ordering} (o : IsTotalOrder file_cmp) (p : PlainPages file_cmp) (w : AreWhole p) (s : Slot) (offset word : ℕ) where
   pub stored_whole : AreWhole (stored p (in_map s) offset word)
-  stored_whole = by (page_at p (in_map s)) refl
+  stored_whole = looked_up AreWhole _ p (page_at p (in_map s)) (λ n is. written n (page_there o p w s n is)) (λ none. w)
     where
-      written : (n : PageName) → map.contains_key p.objects n ≡ true → AreWhole (record p { objects = map.insert p.objects n (slice_set (words_of p n) offset word) })
+      written : (n : PageName) → map.contains_key p.objects n ≡ true → AreWhole (with_word p offset word n)
       written n there = record { named = λ x. same x ∙ w.named x ∙ ap (nat_lt 0) (sym (uses_objects p rest x)); words = fits; entries = w.entries; old = λ x h. w.old x (sym (same x) ∙ h); owners = w.owners }
         where
           rest : map.FinMap page_cmp (List ℕ)
@@ -111,32 +112,16 @@ module _ {K : Type 0} {file_cmp : K → K → Ordering} (o : IsTotalOrder file_c
               at (inl e) k = let is : slice_set (words_of p n) offset word ≡ ws = cc (e.0, k) in ap length (sym is) ∙ length-set (words_of p n) offset word ∙ words_fit o p w n (map.get p.objects n) refl
               at (inr e) k = w.words x ws (cc (e.0, k))
 
-      by : (n : Option PageName) → page_at p (in_map s) ≡ n → AreWhole (option_map_or (λ n. record p { objects = map.insert p.objects n (slice_set (words_of p n) offset word) }) n p)
-      by None is = w
-      by (Some n) is = written n (page_there o p w s n is)
-
 module _ (p : NamedPages) (s : Slot) (offset word : ℕ) where
   stored_room : live p ≤ p.limit → live (stored p (in_map s) offset word) ≤ (stored p (in_map s) offset word).limit
   unfolding live names
-  stored_room h = by (page_at p (in_map s))
-    where
-      by : (n : Option PageName) → let q = option_map_or (λ n. record p { objects = map.insert p.objects n (slice_set (words_of p n) offset word) }) n p in live q ≤ q.limit
-      by None = h
-      by (Some n) = h
+  stored_room h = looked_up (λ (q : NamedPages). live q ≤ q.limit) _ p (page_at p (in_map s)) (λ n is. h) (λ none. h)
 
   stored_files : (stored p (in_map s) offset word).files ≡ p.files
-  stored_files = by (page_at p (in_map s))
-    where
-      by : (n : Option PageName) → (option_map_or (λ n. record p { objects = map.insert p.objects n (slice_set (words_of p n) offset word) }) n p).files ≡ p.files
-      by None = refl
-      by (Some n) = refl
+  stored_files = looked_up (λ (q : NamedPages). q.files ≡ p.files) _ p (page_at p (in_map s)) (λ n is. refl) (λ none. refl)
 
   stored_maps : (f : ForkName) → map.contains_key (stored p (in_map s) offset word).maps f ≡ map.contains_key p.maps f
-  stored_maps f = by (page_at p (in_map s))
-    where
-      by : (n : Option PageName) → map.contains_key (option_map_or (λ n. record p { objects = map.insert p.objects n (slice_set (words_of p n) offset word) }) n p).maps f ≡ map.contains_key p.maps f
-      by None = refl
-      by (Some n) = refl
+  stored_maps f = looked_up (λ (q : NamedPages). map.contains_key q.maps f ≡ map.contains_key p.maps f) _ p (page_at p (in_map s)) (λ n is. refl) (λ none. refl)
 
 -- a state with a fork changed that keeps its name and slot
 module _ (s : PlainState) (w : IsWhole s) where
@@ -280,11 +265,7 @@ posted_same f channel =
     cond_both (listens f.body.psi channel) (pended f channel) dropped (IsSame f) (λ takes. (refl, refl)) (λ misses. cond_both (is_panic channel) (with_status f (Forced channel)) f (IsSame f) (λ panics. (refl, refl)) (λ drops. (refl, refl)))
 
 mode_whole : (s : PlainState) → IsWhole s → (t : Tty) → IsWhole (in_command_mode s t)
-mode_whole s w t = by (map.get s.jobs t.0) refl
-  where
-    by : (o : Option PlainJob) → map.get s.jobs t.0 ≡ o → IsWhole (option_map_or (λ j. record s { jobs = map.insert s.jobs t.0 (record j { mode = Command }) }) o s)
-    by None is = w
-    by (Some j) is = job_whole s w t.0 j (record j { mode = Command }) is refl
+mode_whole s w t = looked_up IsWhole _ s (map.get s.jobs t.0) (λ j is. job_whole s w t.0 j (record j { mode = Command }) is refl) (λ none. w)
 
 module _ (s : PlainState) (w : IsWhole s) (name : ForkName) (f : Fork) (there : map.get s.forks name ≡ Some f) where
   put : (g : Fork) → IsSame f g → IsWhole (with_fork s g)
@@ -293,7 +274,7 @@ module _ (s : PlainState) (w : IsWhole s) (name : ForkName) (f : Fork) (there : 
   stopped_whole : (g : Fork) → IsSame f g → Leaves (stopped s g)
   stopped_whole g same =
       let t = with_fork s (counted g) in let m : IsWhole t = put (counted g) same in
-      cond_both (is_some g.superior) (record { state = t; items = [] }) (record { state = in_command_mode t g.name.tty; items = printed g.name.tty (stop_text g.body.status) }) Leaves (λ below. m) (λ top. mode_whole t m g.name.tty)
+      cond_both (is_some g.superior) _ _ Leaves (λ below. m) (λ top. mode_whole t m g.name.tty)
 
   ended_whole_fork : (g : Fork) (status : ForkStatus) → IsSame f g → Leaves (unit_ended s g status)
   ended_whole_fork g Running same = put (counted g) same
@@ -306,41 +287,74 @@ module _ (s : PlainState) (w : IsWhole s) (name : ForkName) (f : Fork) (there : 
 
   called_whole : (number : ℕ) → Leaves (called s f number)
   called_whole number =
-      cond_both (number == PBOUT) (pbout s f) (cond (number == HALTF) (haltf s f) (trapped s f ILLEGAL_INSTRUCTION)) Leaves (λ prints. put (counted (with_regs f (advanced f.body.regs))) (refl, refl)) (λ other.
-      cond_both (number == HALTF) (haltf s f) (trapped s f ILLEGAL_INSTRUCTION) Leaves (λ halts. stopped_whole (with_status (with_regs f (advanced f.body.regs)) Halted) (refl, refl)) (λ none. trapped_whole ILLEGAL_INSTRUCTION))
+      cond_both (number == PBOUT) _ _ Leaves (λ prints. put (counted (with_regs f (advanced f.body.regs))) (refl, refl)) (λ other.
+      cond_both (number == HALTF) _ _ Leaves (λ halts. stopped_whole (with_status (with_regs f (advanced f.body.regs)) Halted) (refl, refl)) (λ none. trapped_whole ILLEGAL_INSTRUCTION))
 
-  done_whole : (q : NamedPages) → IsWhole (record s { pages = q }) → (d : Deed) → Leaves (done_by s f q d)
-  done_whole q whole (goes regs) = fork_whole (record s { pages = q }) whole name f (counted (with_regs f regs)) there (w.own name f there) refl
-  done_whole q whole (calls number) = called_whole number
-  done_whole q whole (traps channel) = trapped_whole channel
+-- a unit that goes through leaves its fork's name and slot
+went_whole : (s : PlainState) (w : IsWhole s) (name : ForkName) (f : Fork) → map.get s.forks name ≡ Some f → (q : NamedPages) → IsWhole (record s { pages = q }) → (e : Ending) → Leaves (went s f q e)
+went_whole s w name f there q whole e = by e.post
+  where
+    g : Fork
+    g = with_regs f e.regs
 
-  fetched_whole : IsOwner f.name.tty → Leaves (executed s f (fetched s.pages f))
-  fetched_whole own =
-      let at = slot_at f.name f.body.regs.pc in
-      let offset = f.body.regs.pc % PAGE_WORDS in
-      let r = reference s.pages (in_map at) Execute f.name.tty in
-      cond_both (nat_lt f.body.regs.pc ACCUMULATORS) (fetches (slice_index f.body.regs.ac f.body.regs.pc) s.pages) (fetched_by s.pages at offset r) (λ x. Leaves (executed s f x)) (λ low. done_whole s.pages w (deed_of f.body.regs (slice_index f.body.regs.ac f.body.regs.pc))) (λ high. by r refl)
-    where
-      by : (r : Referred name_cmp) → reference s.pages (in_map (slot_at f.name f.body.regs.pc)) Execute f.name.tty ≡ r → Leaves (executed s f (fetched_by s.pages (slot_at f.name f.body.regs.pc) (f.body.regs.pc % PAGE_WORDS) r))
-      by (granted q) is = done_whole q (referred_whole s w f.name.tty own (slot_at f.name f.body.regs.pc) Execute q is) (deed_of f.body.regs (word_at s.pages (in_map (slot_at f.name f.body.regs.pc)) (f.body.regs.pc % PAGE_WORDS)))
-      by (denied kind) is = trapped_whole (denied_channel kind)
-      by full is = trapped_whole DRUM_FULL
+    by : (post : Option ℕ) → Leaves (unit_ended (record s { pages = q }) (posted_if g post) (posted_if g post).body.status)
+    by None = ended_whole_fork (record s { pages = q }) whole name f there g g.body.status (refl, refl)
+    by (Some channel) = ended_whole_fork (record s { pages = q }) whole name f there (posted g channel) (posted g channel).body.status (posted_same g channel)
+
+-- the references of a unit leave a whole state whole, and so do the words that it stores
+module _ (s : PlainState) (f : ForkName) where
+  abbrev WholeWith : NamedPages → Type 0
+  WholeWith p = IsWhole (record s { pages = p })
+
+  abbrev LeavesWhole : Planned name_cmp ⊥ → Type 0
+  LeavesWhole (done t e) = WholeWith (pages_left f t e)
+  LeavesWhole (unit_stopped why) = Unit {0}
+  LeavesWhole (call number) = Unit {0}
+
+  module _ (own : IsOwner f.tty) where
+    asked_whole : (p : NamedPages) → WholeWith p → (a : ℕ) (kind : Kind) (next : NamedPages → Planned name_cmp ⊥) → ((q : NamedPages) → WholeWith q → LeavesWhole (next q)) → LeavesWhole (goes_on (asked_at (plainly f) f p a kind) next)
+    asked_whole p w a kind next leaves = cond_both (is_accumulator a) (goes p) (plainly f p (slot_at f a) kind) (λ x. LeavesWhole (goes_on x next)) (λ low. leaves p w) (λ high. by (reference p (in_map (slot_at f a)) kind f.tty) refl)
+      where
+        by : (r : Referred name_cmp) → reference p (in_map (slot_at f a)) kind f.tty ≡ r → LeavesWhole (goes_on (plain_asked r) next)
+        by (granted q) is = leaves q (referred_whole (record s { pages = p }) w f.tty own (slot_at f a) kind q is)
+        by (denied k) is = tt
+        by full is = tt
+
+    put_whole : (p : NamedPages) → WholeWith p → (put : Option Put) → WholeWith (put_into f p put)
+    put_whole p w None = w
+    put_whole p w (Some put) =
+        let at = slot_at f put.at in
+        let offset = put.at % PAGE_WORDS in
+        pages_whole (record s { pages = p }) w (stored p (in_map at) offset put.word) (stored_whole nat_list_cmp_total p w.pages at offset put.word) (stored_room p at offset put.word w.room) (stored_files p at offset put.word) (stored_maps p at offset put.word)
+
+    run_whole : (steps : Steps) (t : Progress name_cmp) → WholeWith t.pages → LeavesWhole (run (plainly f) f steps t)
+    unfolding run
+    run_whole (refers a kind next) t w =
+        cond_both (nat_le MOST_REFERENCES (length t.refs)) _ _ LeavesWhole (λ most. tt) (λ few. asked_whole t.pages w a kind _ (λ q whole. run_whole (next (word_taken f (referred t a kind q) a)) (referred t a kind q) whole))
+    run_whole (widens a next) t w = asked_whole t.pages w a Write _ (λ q whole. run_whole next (widened t a q) whole)
+    run_whole (keeps a word next) t w = run_whole next (record t { kept = Some (record { at = a; word = word }) }) w
+    run_whole (ends e) t w = put_whole (put_into f t.pages t.kept) (put_whole t.pages w t.kept) e.put
+    run_whole (traps channel) t w = tt
+    run_whole (calls number) t w = tt
 
 module _ (s : PlainState) (w : IsWhole s) where
+  over_whole : (name : ForkName) (f : Fork) → map.get s.forks name ≡ Some f → (r : Planned name_cmp ⊥) → LeavesWhole s f.name r → Leaves (over s f r)
+  over_whole name f there (done t e) left = went_whole s w name f there (pages_left f.name t e) left e
+  over_whole name f there (unit_stopped (trap channel)) left = trapped_whole s w name f there channel
+  over_whole name f there (unit_stopped (need none)) left = absurd none
+  over_whole name f there (call number) left = called_whole s w name f there number
+
   unit_whole : (name : ForkName) → IsForkName name → Leaves (unit s name)
   unfolding unit
-  unit_whole name fits = by (map.get s.forks name) refl
+  unit_whole name fits = looked_up Leaves _ _ (map.get s.forks name) (λ f is. runs f is) (λ none. w)
     where
-      by : (o : Option Fork) → map.get s.forks name ≡ o → Leaves (option_map_or (λ f. executed s f (fetched s.pages f)) o (record { state = s; items = [] }))
-      by None is = w
-      by (Some f) is = fetched_whole s w name f is (inl (subst (λ (n : ForkName). n.tty.0 < TERMINALS) (sym (w.own name f is)) fits.0))
+      runs : (f : Fork) → map.get s.forks name ≡ Some f → Leaves (over s f (unit_on f.name s.pages f.body.regs))
+      runs f is =
+          let own : IsOwner f.name.tty = inl (subst (λ (n : ForkName). n.tty.0 < TERMINALS) (sym (w.own name f is)) fits.0) in
+          over_whole name f is (unit_on f.name s.pages f.body.regs) (run_whole s f.name own (instruction f.body.regs) (begun s.pages f.body.regs.ac) w)
 
   changed_whole : (name : ForkName) (change : Fork → Fork) → ((f : Fork) → IsSame f (change f)) → IsWhole (change_fork s name change)
-  changed_whole name change same = by (map.get s.forks name) refl
-    where
-      by : (o : Option Fork) → map.get s.forks name ≡ o → IsWhole (option_map_or (λ f. with_fork s (change f)) o s)
-      by None is = w
-      by (Some f) is = put s w name f is (change f) (same f)
+  changed_whole name change same = looked_up IsWhole _ s (map.get s.forks name) (λ f is. put s w name f is (change f) (same f)) (λ none. w)
 
   -- no fork has the next name
   next_absent : (t : Tty) → map.get s.pages.maps (next_fork s t) ≡ None
@@ -409,13 +423,9 @@ module _ (s : PlainState) (w : IsWhole s) where
 
   login_whole : (t : Tty) (user : List ℕ) → IsTerminal t → Leaves (login s t user)
   login_whole t user terminal =
-      let made : Effect = record { state = with_job s t user; items = Char t 64 ∷ [] } in
-      let room = HasRoom (with_map s.pages (next_fork s t) EmptyMap) t in
-      let last : Bool = nat_lt LAST_SERIAL (next_fork s t).serial in
-      let roomy_made : Effect = cond room made (refused s (Full t)) in
-      cond_both (is_some (map.get s.jobs t.0)) (refused s (Busy t)) (cond last (refused s (SerialsOut t)) roomy_made) Leaves (λ busy. w) (λ free.
-      cond_both last (refused s (SerialsOut t)) roomy_made Leaves (λ out. w) (λ few.
-      cond_both room made (refused s (Full t)) Leaves (λ fits. with_job_whole t user terminal fits) (λ none. w)))
+      cond_both (is_some (map.get s.jobs t.0)) _ _ Leaves (λ busy. w) (λ free.
+      cond_both (nat_lt LAST_SERIAL (next_fork s t).serial) _ _ Leaves (λ out. w) (λ few.
+      cond_both (HasRoom (with_map s.pages (next_fork s t) EmptyMap) t) _ _ Leaves (λ fits. with_job_whole t user terminal fits) (λ none. w)))
 
   poked_whole : (t : Tty) → IsTerminal t → (at : Slot) (offset word : ℕ) (r : Referred name_cmp) → reference s.pages (in_map at) Write t ≡ r → Leaves (poked s t at offset word r)
   poked_whole t terminal at offset word (granted q) is =
@@ -425,32 +435,20 @@ module _ (s : PlainState) (w : IsWhole s) where
   poked_whole t terminal at offset word full is = w
 
   job_effect : (t : Tty) (act : PlainJob → Effect) → ((j : PlainJob) → map.get s.jobs t.0 ≡ Some j → Leaves (act j)) → Leaves (at_job s t act)
-  job_effect t act does = by (map.get s.jobs t.0) refl
-    where
-      by : (o : Option PlainJob) → map.get s.jobs t.0 ≡ o → Leaves (option_map_or act o (refused s (NoJob t)))
-      by None is = w
-      by (Some j) is = does j is
+  job_effect t act does = looked_up Leaves act _ (map.get s.jobs t.0) does (λ none. w)
 
   poke_whole : (t : Tty) (address word : ℕ) → IsTerminal t → Leaves (poke s t address word)
-  poke_whole t address word terminal = job_effect t _ (λ j is. does j)
-    where
-      does : (j : PlainJob) → Leaves (cond (nat_lt address ACCUMULATORS) (record { state = change_fork s j.top (with_accumulator address word); items = [] })
-          (let slot = slot_at j.top address in poked s t slot (address % PAGE_WORDS) word (reference s.pages (in_map slot) Write t)))
-      does j =
-          let at = slot_at j.top address in
-          cond_both (nat_lt address ACCUMULATORS) _ _ Leaves (λ low. changed_whole j.top (with_accumulator address word) (λ f. (refl, refl))) (λ high. poked_whole t terminal at (address % PAGE_WORDS) word (reference s.pages (in_map at) Write t) refl)
+  poke_whole t address word terminal = job_effect t (poked_at s t address word) (λ j is.
+      let at = slot_at j.top address in
+      cond_both (nat_lt address ACCUMULATORS) _ _ Leaves (λ low. changed_whole j.top (with_accumulator address word) (λ f. (refl, refl))) (λ high. poked_whole t terminal at (address % PAGE_WORDS) word (reference s.pages (in_map at) Write t) refl))
 
   start_whole : (t : Tty) (address : ℕ) → Leaves (start s t address)
   start_whole t address = job_effect t _ does
     where
       jobs_stay : (j : PlainJob) → (change_fork s j.top (restarted address)).jobs ≡ s.jobs
-      jobs_stay j = by (map.get s.forks j.top)
-        where
-          by : (o : Option Fork) → (option_map_or (λ f. with_fork s (restarted address f)) o s).jobs ≡ s.jobs
-          by None = refl
-          by (Some f) = refl
+      jobs_stay j = looked_up (λ (c : PlainState). c.jobs ≡ s.jobs) _ s (map.get s.forks j.top) (λ f is. refl) (λ none. refl)
 
-      does : (j : PlainJob) → map.get s.jobs t.0 ≡ Some j → Leaves (record { state = record (change_fork s j.top (restarted address)) { jobs = map.insert s.jobs t.0 (record j { mode = Program }) }; items = [] })
+      does : (j : PlainJob) → map.get s.jobs t.0 ≡ Some j → IsWhole (started s t address j)
       does j is =
           let c = change_fork s j.top (restarted address) in
           let same = jobs_stay j in
@@ -462,15 +460,8 @@ module _ (s : PlainState) (w : IsWhole s) where
   outer_whole (Login t user) fits = login_whole t user fits.0
   outer_whole (Poke t address word) fits = poke_whole t address word fits.0
   outer_whole (Start t address) fits = start_whole t address
-  outer_whole (Examine t serial address) fits = job_effect t _ (λ j is. by (map.get s.forks (record { tty = t; serial = serial })))
-    where
-      seen : (o : Option ℕ) → Leaves (option_map_or (λ word. record { state = s; items = Examined t serial address word ∷ [] }) o (refused s (NoPage t)))
-      seen None = w
-      seen (Some word) = w
-
-      by : (o : Option Fork) → Leaves (option_map_or (λ f. option_map_or (λ word. record { state = s; items = Examined t serial address word ∷ [] }) (word_seen s f address) (refused s (NoPage t))) o (refused s (NoFork t)))
-      by None = w
-      by (Some f) = seen (word_seen s f address)
+  outer_whole (Examine t serial address) fits = job_effect t _ (λ j is.
+      looked_up Leaves (examined_in s t serial address) _ (map.get s.forks (record { tty = t; serial = serial })) (λ f there. looked_up Leaves _ _ (word_seen s f address) (λ word seen. w) (λ none. w)) (λ none. w))
   outer_whole (Forks t) fits = job_effect t _ (λ j is. w)
   outer_whole Tick fits = record { pages = w.pages; room = w.room; files = w.files; forks = w.forks; own = w.own; old = w.old; terminals = w.terminals; tops = w.tops }
   outer_whole (Trace on) fits = record { pages = w.pages; room = w.room; files = w.files; forks = w.forks; own = w.own; old = w.old; terminals = w.terminals; tops = w.tops }

@@ -1,5 +1,5 @@
 -- What each instruction does with the word that it takes, one definition a family (PDP-10 handbook, "User operations").
-use Rattle.std.specs.Prelude.{ℕ, ◌+◌, ◌-◌, ◌*◌, ◌/◌, ◌%◌, ◌^◌, Bool, true, false, ◌-ℤ◌, ◌||◌, ◌&&◌, nat_lt, nat_le, ◌==◌, if◌then◌else◌, Option, None, Some, List, slice_index, slice_set}
+use Rattle.std.specs.Prelude.{ℕ, ◌+◌, ◌-◌, ◌/◌, ◌%◌, ◌^◌, Bool, true, false, ◌-ℤ◌, ◌||◌, ◌&&◌, nat_lt, nat_le, ◌==◌, if◌then◌else◌, Option, None, Some, slice_index}
 use Rattle.std.specs.Int.{bit_at}
 use Rattle.word36.specs.declared.flags.Flags.{Flags}
 use Rattle.word36.specs.Words.{left, right, joined, signed, is_negative}
@@ -8,13 +8,11 @@ use Rattle.word36.specs.Shifts.{shifted, first_one}
 use Rattle.word36.specs.Boolean.{boolean_of}
 use Rattle.word36.specs.Halves.{half_of}
 use Rattle.word36.specs.Tests.{mask_of, tested, test_skips, condition_holds}
-use Rattle.word36.specs.Bytes.{incremented, loaded, deposited}
 use Rattle.ka10_table.specs.declared.families.Family.{Family}
-use Rattle.ka10_table.specs.declared.families.Family.TheVariants.{Illegal, Local, Monitor, ByteOp, Move, Imul, Mul, Idiv, Div, Shift, Jffo, DoubleShift, Exch, Blt, Aobj, Jrst, Jfcl, Xct, Pushj, PushPop, Popj, JsrJsp, JsaJra, AddSub, Compare, JumpSkip, AddOne, SubOne, Boolean, Half, Test}
+use Rattle.ka10_table.specs.declared.families.Family.TheVariants.{Move, Imul, Mul, Idiv, Div, Shift, Jffo, DoubleShift, Exch, Blt, Aobj, Jrst, Jfcl, Pushj, PushPop, Popj, JsrJsp, JsaJra, AddSub, Compare, JumpSkip, AddOne, SubOne, Boolean, Half, Test}
 use Rattle.ka10_table.specs.declared.families.OpMode.{OpMode}
-use Rattle.ka10_table.specs.declared.families.OpMode.TheVariants.{Basic, Immediate, Memory, Both, Own}
+use Rattle.ka10_table.specs.declared.families.OpMode.TheVariants.{Basic, Immediate, Memory, Own}
 use Rattle.ka10_table.specs.declared.families.TableRow.{TableRow}
-use Rattle.ka10_table.specs.Rows.{row_of}
 use Rattle.plain_model.specs.declared.channel.TheConstants.{OVERFLOW, PUSHDOWN_OVERFLOW}
 use Rattle.plain_model.specs.declared.fork.Regs.{Regs}
 

@@ -89,22 +89,27 @@ poked s t slot offset word (granted p) = record { state = record s { pages = sto
 poked s t slot offset word (denied kind) = refused s (Denied t)
 poked s t slot offset word full = refused s (Full t)
 
+-- a word put at an address of a job's top fork
+abbrev pub poked_at : PlainState → Tty → ℕ → ℕ → PlainJob → Effect
+poked_at s t address word j =
+    if nat_lt address ACCUMULATORS then record { state = change_fork s j.top (with_accumulator address word); items = [] }
+    else (let slot = slot_at j.top address in poked s t slot (address % PAGE_WORDS) word (reference s.pages (in_map slot) Write t))
+
 -- POKE: a write of the top fork, by its access; low addresses are its accumulators
 abbrev pub poke : PlainState → Tty → ℕ → ℕ → Effect
-poke s t address word = at_job s t (λ j.
-    if nat_lt address ACCUMULATORS then record { state = change_fork s j.top (with_accumulator address word); items = [] }
-    else (let slot = slot_at j.top address in poked s t slot (address % PAGE_WORDS) word (reference s.pages (in_map slot) Write t)))
+poke s t address word = at_job s t (poked_at s t address word)
 
 -- a fork that runs at an address, with no freeze mark
 abbrev pub restarted : ℕ → Fork → Fork
 restarted address f = record f { frozen = false; body = record f.body { status = Running; regs = record f.body.regs { pc = address } } }
 
+-- a terminal's job in program mode, with its top fork started at an address
+abbrev pub started : PlainState → Tty → ℕ → PlainJob → PlainState
+started s t address j = record (change_fork s j.top (restarted address)) { jobs = map.insert s.jobs t.0 (record j { mode = Program }) }
+
 -- START: the top fork runs at the address, with no freeze mark, in program mode
 abbrev pub start : PlainState → Tty → ℕ → Effect
-start s t address = at_job s t (λ j. record {
-  state = record (change_fork s j.top (restarted address)) { jobs = map.insert s.jobs t.0 (record j { mode = Program }) };
-  items = [];
-})
+start s t address = at_job s t (λ j. record { state = started s t address j; items = [] })
 
 -- the word at an address of a fork, whatever its access, where a page is there; low addresses are its accumulators
 abbrev pub word_seen : PlainState → Fork → ℕ → Option ℕ
@@ -112,11 +117,17 @@ word_seen s f address =
     if nat_lt address ACCUMULATORS then Some (slice_index f.body.regs.ac address)
     else option_map (λ n. slice_index (words_of s.pages n) (address % PAGE_WORDS)) (page_at s.pages (in_map (slot_at f.name address)))
 
+-- a word of a fork as it is shown
+abbrev pub examined : PlainState → Tty → ℕ → ℕ → ℕ → Effect
+examined s t serial address word = record { state = s; items = Examined t serial address word ∷ [] }
+
+-- the word at an address of a fork is shown; it is refused where no page is there
+abbrev pub examined_in : PlainState → Tty → ℕ → ℕ → Fork → Effect
+examined_in s t serial address f = option_map_or (examined s t serial address) (word_seen s f address) (refused s (NoPage t))
+
 -- EXAMINE: the word at an address of one of the job's forks; nothing is made
 abbrev pub examine : PlainState → Tty → ℕ → ℕ → Effect
-examine s t serial address = at_job s t (λ j. option_map_or
-    (λ f. option_map_or (λ word. record { state = s; items = Examined t serial address word ∷ [] }) (word_seen s f address) (refused s (NoPage t)))
-    (map.get s.forks (record { tty = t; serial = serial })) (refused s (NoFork t)))
+examine s t serial address = at_job s t (λ j. option_map_or (examined_in s t serial address) (map.get s.forks (record { tty = t; serial = serial })) (refused s (NoFork t)))
 
 -- FORKS: a job's forks by slot
 abbrev pub show_forks : PlainState → Tty → Effect

@@ -15,7 +15,7 @@ use Rattle.plain_model.specs.declared.names.Kind.TheVariants.{Write}
 use Rattle.plain_model.specs.declared.map.MapEntry.TheVariants.{Names}
 use Rattle.plain_model.specs.Orders.{FilePage}
 use Rattle.plain_model.specs.State.{PlainPages, is_console, page_serial}
-use Rattle.plain_model.specs.Maps.{Chain, chain, entry_at, set_entry, permits, full_access}
+use Rattle.plain_model.specs.Maps.{Link, Chain, chain, entry_at, set_entry, permits, full_access}
 use Rattle.plain_model.specs.Room.{HasRoom, uses}
 
 -- 512 words, all of them 0
@@ -44,9 +44,13 @@ blanks c = if is_some c.page then [] else blank (in_map c.end) ∷ []
 abbrev pub private_access : Chain → Access
 private_access c = record full_access { x = list_all (λ l. l.access.x) c.links }
 
+-- the copy in the slot of a marked entry, where a chain has one
+abbrev pub copy_in : {K : Type 0} → Chain → Option Link → List (Making K)
+copy_in c marked = option_map_or (λ l. copy l.slot (private_access c) ∷ []) marked []
+
 -- the copy that a write makes in the first slot with the copy mark
 abbrev pub copies : {K : Type 0} → Kind → Chain → List (Making K)
-copies Write c = option_map_or (λ l. copy l.slot (private_access c) ∷ []) (find (λ l. l.access.c) c.links) []
+copies Write c = copy_in c (find (λ l. l.access.c) c.links)
 copies kind c = []
 
 -- what a reference makes along a chain, in order; none is made, nor granted, where the chain does not permit it
@@ -105,10 +109,14 @@ module _ {K : Type 0} {file_cmp : K → K → Ordering} where
   abbrev pub drop_unnamed : PlainPages file_cmp → PageName → PlainPages file_cmp
   drop_unnamed p n = if uses p n == 0 then record p { objects = map.remove p.objects n } else p
 
+  -- the pages without one from which a page was copied, if that took its last name
+  abbrev pub drop_copied : PlainPages file_cmp → Option PageName → PlainPages file_cmp
+  drop_copied p n = option_map_or (drop_unnamed p) n p
+
   -- the pages with one page more of an owner; a copy may take the last name of the old page
   unfoldable pub make : PlainPages file_cmp → Tty → Making K → PlainPages file_cmp
   make p owner (blank at) = new_page p owner at full_access zero_words
-  make p owner (copy s access) = let q = new_page p owner (in_map s) access (words_at p (in_map s)) in option_map_or (drop_unnamed q) (page_at p (in_map s)) q
+  make p owner (copy s access) = drop_copied (new_page p owner (in_map s) access (words_at p (in_map s))) (page_at p (in_map s))
 
   -- makings in order, each on the pages that those before leave, and each asking for room
   unfoldable pub make_all : PlainPages file_cmp → Tty → List (Making K) → Referred file_cmp
@@ -131,6 +139,10 @@ module _ {K : Type 0} {file_cmp : K → K → Ordering} where
   abbrev pub word_at : PlainPages file_cmp → Spot K → ℕ → ℕ
   word_at p at offset = slice_index (words_at p at) offset
 
+  -- a page with a word at an offset
+  abbrev pub with_word : PlainPages file_cmp → ℕ → ℕ → PageName → PlainPages file_cmp
+  with_word p offset word n = record p { objects = map.insert p.objects n (slice_set (words_of p n) offset word) }
+
   -- the pages with a word at an offset of a spot's page
   abbrev pub stored : PlainPages file_cmp → Spot K → ℕ → ℕ → PlainPages file_cmp
-  stored p at offset word = option_map_or (λ n. record p { objects = map.insert p.objects n (slice_set (words_of p n) offset word) }) (page_at p at) p
+  stored p at offset word = option_map_or (with_word p offset word) (page_at p at) p

@@ -1,19 +1,13 @@
 -- One unit of a fork: an instruction, or a trap (PDP-10 handbook, "Instruction format").
-use Rattle.std.specs.Prelude.{ℕ, ◌+◌, ◌/◌, ◌%◌, ◌^◌, List, [], ◌∷◌, ◌++◌, map, codes, decimal, is_some, ◌&&◌, nat_lt, if◌then◌else◌, ◌==◌, slice_index, slice_set}
+use Rattle.std.specs.Prelude.{ℕ, ◌+◌, ◌%◌, ◌^◌, List, [], ◌∷◌, ◌++◌, map, codes, decimal, is_some, Option, None, Some, if◌then◌else◌, ◌==◌, slice_index}
 use Rattle.std.specs.Option.{option_map_or}
 use Rattle.std.specs.declared.cmp.Ordering.{Ordering}
 use Rattle.std.specs.FinMap as map_of
 use Rattle.plain_model.specs.declared.names.Tty.{Tty}
 use Rattle.plain_model.specs.declared.names.ForkName.{ForkName}
-use Rattle.plain_model.specs.declared.names.Slot.{Slot}
-use Rattle.outside.specs.declared.TheConstants.{PAGE_WORDS}
-use Rattle.plain_model.specs.declared.names.TheConstants.{ACCUMULATORS}
-use Rattle.plain_model.specs.declared.opcode.TheConstants.{JSYS, MOVEI, JRST}
 use Rattle.plain_model.specs.declared.call.TheConstants.{PBOUT, HALTF}
-use Rattle.plain_model.specs.declared.channel.TheConstants.{ILLEGAL_INSTRUCTION, DRUM_FULL}
+use Rattle.plain_model.specs.declared.channel.TheConstants.{ILLEGAL_INSTRUCTION}
 use Rattle.plain_model.specs.declared.character.TheConstants.{LINE_END, CARRIAGE_RETURN, LINE_FEED, PROMPT}
-use Rattle.plain_model.specs.declared.names.Kind.{Kind}
-use Rattle.plain_model.specs.declared.names.Kind.TheVariants.{Read, Write, Execute}
 use Rattle.plain_model.specs.declared.fork.TerminalMode.TheVariants.{Command}
 use Rattle.plain_model.specs.declared.fork.ForkStatus.{ForkStatus}
 use Rattle.plain_model.specs.declared.fork.ForkStatus.TheVariants.{Halted, Forced}
@@ -22,10 +16,8 @@ use Rattle.plain_model.specs.declared.fork.Fork.{Fork}
 use Rattle.plain_model.specs.declared.event.Item.{Item}
 use Rattle.plain_model.specs.declared.event.Item.TheVariants.{Char}
 use Rattle.plain_model.specs.State.{PlainState, PlainPages, NamedPages}
-use Rattle.plain_model.specs.References.{Referred, granted, denied, full, in_map, reference, slot_at, word_at}
-use Rattle.word36.specs.Words.{right}
-use Rattle.plain_model.specs.Steps.{denied_channel}
-use Rattle.plain_model.specs.Addressing.{opcode, ac_field}
+use Rattle.plain_model.specs.Steps.{Planned, Ending, done, call, trap, need, stopped as unit_stopped, run, begun, plainly, pages_left}
+use Rattle.plain_model.specs.Instructions.{instruction}
 use Rattle.plain_model.specs.Forks.{with_fork, with_regs, with_status, counted}
 use Rattle.plain_model.specs.Interrupts.{posted}
 use Rattle.plain_model.specs.Orders.{name_cmp}
@@ -35,55 +27,9 @@ pub record Effect : Type 0 where
   pub state : PlainState
   pub items : List Item
 
--- what a word that stands at the program counter does
-pub data Deed : Type 0 where
-  goes : Regs → Deed
-  calls : ℕ → Deed
-  traps : ℕ → Deed
-
--- the indirect bit and the index register of a word together, bits 13 to 17
-abbrev pub index_bits : ℕ → ℕ
-index_bits w = w / 2 ^ 18 % 32
-
 -- the program counter goes on by one, modulo 2^18
 abbrev pub advanced : Regs → Regs
 advanced regs = record regs { pc = (regs.pc + 1) % 2 ^ 18 }
-
--- MOVEI: the address goes to the accumulator
-abbrev pub movei : Regs → ℕ → Deed
-movei regs w = goes (advanced (record regs { ac = slice_set regs.ac (ac_field w) (right w) }))
-
--- JRST: to the address
-abbrev pub jrst : Regs → ℕ → Deed
-jrst regs w = goes (record regs { pc = right w })
-
--- the rows that are built: MOVEI, JRST with no function, and the monitor calls, with an address that
--- is neither indexed nor indirect; every other word traps as an illegal instruction
-abbrev pub deed_of : Regs → ℕ → Deed
-deed_of regs w =
-    if index_bits w == 0 then
-    (if opcode w == MOVEI then movei regs w
-    else (if (opcode w == JRST) && (ac_field w == 0) then jrst regs w
-    else (if opcode w == JSYS then calls (right w) else traps ILLEGAL_INSTRUCTION)))
-    else traps ILLEGAL_INSTRUCTION
-
--- a fetch: the word and the pages that the reference leaves, or the channel of its trap
-pub data Fetched {K : Type 0} (file_cmp : K → K → Ordering) : Type 0 where
-  word : ℕ → PlainPages file_cmp → Fetched file_cmp
-  stops : ℕ → Fetched file_cmp
-
-module _ {K : Type 0} {file_cmp : K → K → Ordering} where
-  -- no making changes a word, so the word is that of the pages before
-  abbrev pub fetched_by : PlainPages file_cmp → Slot → ℕ → Referred file_cmp → Fetched file_cmp
-  fetched_by p slot offset (granted q) = word (word_at p (in_map slot) offset) q
-  fetched_by p slot offset (denied kind) = stops (denied_channel kind)
-  fetched_by p slot offset full = stops DRUM_FULL
-
-  -- the word at the program counter; low addresses are the accumulators
-  abbrev pub fetched : PlainPages file_cmp → Fork → Fetched file_cmp
-  fetched p f =
-      if nat_lt f.body.regs.pc ACCUMULATORS then word (slice_index f.body.regs.ac f.body.regs.pc) p
-      else (let slot = slot_at f.name f.body.regs.pc in fetched_by p slot (f.body.regs.pc % PAGE_WORDS) (reference p (in_map slot) Execute f.name.tty))
 
 -- characters that a terminal prints
 abbrev pub printed : Tty → List ℕ → List Item
@@ -134,16 +80,26 @@ haltf s f = stopped s (with_status (with_regs f (advanced f.body.regs)) Halted)
 abbrev pub called : PlainState → Fork → ℕ → Effect
 called s f number = if number == PBOUT then pbout s f else (if number == HALTF then haltf s f else trapped s f ILLEGAL_INSTRUCTION)
 
--- a monitor call is done on the state before its fetch
-abbrev pub done_by : PlainState → Fork → NamedPages → Deed → Effect
-done_by s f pages (goes regs) = record { state = with_fork (record s { pages = pages }) (counted (with_regs f regs)); items = [] }
-done_by s f pages (calls number) = called s f number
-done_by s f pages (traps channel) = trapped s f channel
+-- what a unit comes to, on these pages and registers of a fork
+abbrev pub unit_on : {K : Type 0} {file_cmp : K → K → Ordering} → ForkName → PlainPages file_cmp → Regs → Planned file_cmp ⊥
+unit_on f p regs = run (plainly f) f (instruction regs) (begun p regs.ac)
 
-abbrev pub executed : PlainState → Fork → Fetched name_cmp → Effect
-executed s f (word w pages) = done_by s f pages (deed_of f.body.regs w)
-executed s f (stops channel) = trapped s f channel
+-- a fork with a channel posted, if one is
+abbrev pub posted_if : Fork → Option ℕ → Fork
+posted_if f None = f
+posted_if f (Some channel) = posted f channel
+
+-- a unit has gone through: its fork has the registers that it leaves, and then the channel that it posts
+abbrev pub went : PlainState → Fork → NamedPages → Ending → Effect
+went s f pages e = let g = posted_if (with_regs f e.regs) e.post in unit_ended (record s { pages = pages }) g g.body.status
+
+-- a unit is over; a monitor call is done on the state before it, so that no page is made for its fetch
+abbrev pub over : PlainState → Fork → Planned name_cmp ⊥ → Effect
+over s f (done t e) = went s f (pages_left f.name t e) e
+over s f (unit_stopped (trap channel)) = trapped s f channel
+over s f (unit_stopped (need none)) = absurd none
+over s f (call number) = called s f number
 
 -- one unit of a fork
 unfoldable pub unit : PlainState → ForkName → Effect
-unit s f = option_map_or (λ k. executed s k (fetched s.pages k)) (map_of.get s.forks f) (record { state = s; items = [] })
+unit s f = option_map_or (λ k. over s k (unit_on k.name s.pages k.body.regs)) (map_of.get s.forks f) (record { state = s; items = [] })

@@ -60,15 +60,11 @@ pub(crate) enum Passed {
 
 impl Buffer {
     /// No bytes.
-    pub fn new() -> Self
-        ensures { result ≡ [] }
-    {
-        Buffer {
-            bytes: [0; ROOM],
-            from: 0,
-            to: 0,
-        }
-    }
+    pub const EMPTY: Buffer = Buffer {
+        bytes: [0; ROOM],
+        from: 0,
+        to: 0,
+    };
 
     /// The bytes.
     pub fn bytes(&self) -> &[u8]

@@ -71,7 +71,7 @@ impl Lines {
         ensures open { IsOpen result }
     {
         Lines {
-            buffer: Buffer::new(),
+            buffer: Buffer::EMPTY,
             reached: Reached::start(),
             stage: Stage::Open,
         }
