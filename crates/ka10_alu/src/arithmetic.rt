@@ -34,6 +34,7 @@ pub fn arith(op: u16, a: Word, a1: Word, m: Word) -> Option<Out>
 }
 
 /// MOVS: the halves exchanged.
+#[inline(always)]
 fn swap(w: Word) -> Out
     ensures { result ≡ out_of (swapped w) }
 {
@@ -41,6 +42,7 @@ fn swap(w: Word) -> Out
 }
 
 /// The sum of two words and a carry into bit 35.
+#[inline(always)]
 fn sum(a: u64, m: u64, carry: u64) -> Out
     requires a { a < 2 ^ 36 }
     requires m { m < 2 ^ 36 }
@@ -63,21 +65,25 @@ fn sum(a: u64, m: u64, carry: u64) -> Out
     }
 }
 
-/// ADD.
-fn add(a: Word, m: Word) -> Out
+/// ADD: the sum of two words. Carry 0 and carry 1 are the carries out of bits 0 and 1; overflow
+/// comes where they differ (PDP-10 handbook, "Fixed point arithmetic").
+#[inline(always)]
+pub fn add(a: Word, m: Word) -> Out
     ensures { result ≡ out_of (added a m) }
 {
     sum(a.value(), m.value(), 0)
 }
 
-/// SUB: the complement and 1 are added.
-fn subtract(a: Word, m: Word) -> Out
+/// SUB: the first word less the second. The complement and 1 are added, with flags as ADD.
+#[inline(always)]
+pub fn subtract(a: Word, m: Word) -> Out
     ensures { result ≡ out_of (subtracted a m) }
 {
     sum(a.value(), m.value() ^ Word::MASK, 1)
 }
 
 /// MOVN: 0 less the word.
+#[inline(always)]
 fn negate(m: Word) -> Out
     ensures { result ≡ out_of (negated m) }
 {
@@ -85,6 +91,7 @@ fn negate(m: Word) -> Out
 }
 
 /// MOVM: a negative word negated.
+#[inline(always)]
 fn magnitude_of(m: Word) -> Out
     ensures { result ≡ out_of (magnitude m) }
 {

@@ -7,6 +7,7 @@ use word36::Word;
 use word36::opcodes::SETZ;
 
 /// A word where the function's number has a 1 in a place, else 0.
+#[inline(always)]
 fn picked(function: u16, place: u16, w: u64) -> u64
     requires function { function < 16 }
     requires place { place < 4 }
@@ -18,7 +19,7 @@ fn picked(function: u16, place: u16, w: u64) -> u64
 }
 
 /// One of the sixteen functions, bit by bit.
-#[inline]
+#[inline(always)]
 pub fn boolean_by(function: u16, a: Word, m: Word) -> Word
     requires { function < 16 }
     ensures { result ≡ boolean_word function a m }
@@ -37,7 +38,7 @@ pub fn boolean_by(function: u16, a: Word, m: Word) -> Word
 
 /// The result of SETZ to SETO, opcodes 400 to 477, whatever their mode, of the accumulator's word
 /// and the memory operand's (PDP-10 handbook, "Boolean functions").
-#[inline]
+#[inline(always)]
 pub fn boolean(op: u16, a: Word, m: Word) -> Word
     requires { IsBoolean op }
     ensures { result ≡ boolean_of op a m }

@@ -4,7 +4,7 @@ ghost use Rattle.word36.specs.Tests.{condition_holds};
 
 /// Whether a number meets a condition, one of eight, against 0 (PDP-10 handbook, "Arithmetic
 /// testing"): never, less, equal, less or equal, always, greater or equal, not equal, greater.
-#[inline]
+#[inline(always)]
 pub fn holds(condition: u8, n: i64) -> bool
     requires { condition < 8 }
     ensures { result ≡ condition_holds condition n }

@@ -6,6 +6,7 @@ use word36::Word;
 use word36::opcodes::HLL;
 
 /// The destination's other half, by the third letter: none, Z, O or E.
+#[inline(always)]
 fn other(letter: u16, old: u32, moved: u32) -> u32
     requires letter { letter < 4 }
     requires old { old < 2 ^ 18 }
@@ -25,7 +26,7 @@ fn other(letter: u16, old: u32, moved: u32) -> u32
 /// data transmission"): the first letter names the source's half, the second the destination's;
 /// the destination's other half stays, or becomes 0, all ones, or copies of the moved half's
 /// leftmost bit.
-#[inline]
+#[inline(always)]
 #[tactic(auto, unfolding(word36::specs::Halves::half_of))]
 pub fn half(op: u16, source: Word, dest: Word) -> Word
     requires { IsHalfwordMove op }

@@ -12,7 +12,7 @@ mod out;
 mod shifts;
 mod tests;
 
-pub use arithmetic::arith;
+pub use arithmetic::{add, arith, subtract};
 pub use booleans::boolean;
 pub use conditions::holds;
 pub use halves::half;

@@ -9,7 +9,7 @@ use word36::opcodes::{AND, ANDCM, IOR, SETA, TRN, XOR};
 
 /// The mask of TRN to TSON, opcodes 600 to 677, of 0,,E (R and L) or of the word at E (D and S):
 /// L and S swap its halves (PDP-10 handbook, "Logical testing and modification").
-#[inline]
+#[inline(always)]
 pub fn mask(op: u16, m: Word) -> Word
     ensures { result ≡ mask_of op m }
 {
@@ -21,6 +21,7 @@ pub fn mask(op: u16, m: Word) -> Word
 }
 
 /// Whether all masked bits of a word are 0.
+#[inline(always)]
 fn is_clear(a: Word, mask: Word) -> bool
     ensures { result ≡ (boolean_of AND a mask == 0) }
 {
@@ -31,7 +32,7 @@ fn is_clear(a: Word, mask: Word) -> bool
 /// instruction is skipped (PDP-10 handbook, "Logical testing and modification"). The masked bits
 /// stay (N), or become 0 (Z), their complement (C), 1 (O). The skip comes never, where the masked
 /// bits of the old word are all 0 (E), always (A), where they are not all 0 (N).
-#[inline]
+#[inline(always)]
 pub fn test(op: u16, a: Word, mask: Word) -> (Word, bool)
     requires { IsTest op }
     ensures word { result.0 ≡ tested op a mask }

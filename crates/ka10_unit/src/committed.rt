@@ -1,0 +1,47 @@
+// What is told of an instruction that was committed.
+ghost use Rattle.std.specs.Prelude.{◌≡◌, ◌==◌};
+ghost use Rattle.ka10_unit.specs.Commits.{channel_of};
+ghost use Rattle.plain_model.specs.Deeds.{overflow_post};
+
+use word36::Word;
+
+/// The channel that a unit posts when it is done.
+#[derive(Clone, Copy, Debug, PartialEq, Eq)]
+pub enum Post {
+    Nothing,
+    /// An arithmetic result was no signed word, or a division was not done.
+    Overflow,
+    /// A pushdown list ran over, or under.
+    Pushdown,
+}
+
+/// What an instruction tells that was committed.
+#[derive(Clone, Copy, Debug, PartialEq, Eq)]
+pub struct Committed {
+    /// The word that the instruction stores. Any word where it stores none.
+    pub word: Word,
+    /// The channel that it posts.
+    pub post: Post,
+}
+
+impl Post {
+    /// Overflow, where the result overflowed.
+    #[inline(always)]
+    pub(crate) fn overflow(overflow: bool) -> Post
+        ensures { channel_of result ≡ overflow_post overflow }
+    {
+        if overflow {
+            Post::Overflow
+        } else {
+            Post::Nothing
+        }
+    }
+}
+
+impl Committed {
+    /// Nothing is stored or posted.
+    pub(crate) const NOTHING: Committed = Committed {
+        word: Word::ZERO,
+        post: Post::Nothing,
+    };
+}

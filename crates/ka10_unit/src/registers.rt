@@ -1,0 +1,116 @@
+// The steps of commits: the program counter, flags, accumulators.
+ghost use Rattle.std.specs.Prelude.{◌≡◌, ℕ, ◌+◌, ◌%◌, ◌^◌, ◌<◌, slice_index, Option, Some, None};
+ghost use Rattle.plain_model.specs.Deeds.{behind_ac, by_mode, in_ac, next_pc, set_with, skip_pc, to_ac, to_next, unless_zero};
+ghost use Rattle.plain_model.specs.Instructions.{with_deed, with_word};
+ghost use Rattle.ka10_unit.specs.Commits.{Leaves};
+
+use crate::committed::{Committed, Post};
+use ka10_table::OpMode;
+use plain_model::Regs;
+use word36::{Flags, Word};
+
+/// The address of the next instruction.
+#[inline(always)]
+pub fn next(regs: &Regs) -> u32
+    requires { regs.now.pc < 2 ^ 18 }
+    ensures value { result ≡ next_pc regs.now }
+    ensures below { result < 2 ^ 18 }
+{
+    regs.pc + 1 & Word::HALF_MASK
+}
+
+/// The address of the instruction behind the next one.
+#[inline(always)]
+pub fn skip(regs: &Regs) -> u32
+    requires { regs.now.pc < 2 ^ 18 }
+    ensures value { result ≡ skip_pc regs.now }
+    ensures below { result < 2 ^ 18 }
+{
+    regs.pc + 2 & Word::HALF_MASK
+}
+
+/// The number of the accumulator behind one.
+#[inline(always)]
+pub fn behind(ac: u8) -> u8
+    requires { ac < 16 }
+    ensures value { result ≡ behind_ac ac }
+    ensures below { result < 16 }
+{
+    ac + 1 & 0o17
+}
+
+/// The word of an accumulator.
+#[inline(always)]
+pub fn word_in(regs: &Regs, ac: u8) -> Word
+    requires { ac < 16 }
+    ensures { result ≡ in_ac regs.now ac }
+{
+    regs.ac[ac as usize]
+}
+
+/// Flags are set, and others stay.
+#[inline(always)]
+pub fn set(regs: &mut Regs, flags: Flags)
+    ensures { regs.new ≡ record regs.old { flags = set_with regs.old.flags flags } }
+{
+    regs.flags.overflow |= flags.overflow;
+    regs.flags.carry0 |= flags.carry0;
+    regs.flags.carry1 |= flags.carry1;
+    regs.flags.fov |= flags.fov;
+    regs.flags.bis |= flags.bis;
+    regs.flags.nodiv |= flags.nodiv;
+}
+
+/// A word goes to an accumulator that isn't accumulator 0.
+#[inline(always)]
+pub fn give_own(regs: &mut Regs, ac: u8, word: Word)
+    requires { ac < 16 }
+    ensures { regs.new ≡ record regs.old { ac = with_word regs.old.ac ac (unless_zero ac word) } }
+{
+    if ac != 0 {
+        regs.ac[ac as usize] = word;
+    }
+}
+
+/// A result goes to the accumulator by its mode.
+#[inline(always)]
+pub fn give(mode: OpMode, regs: &mut Regs, ac: u8, word: Word)
+    requires { ac < 16 }
+    ensures { regs.new ≡ record regs.old { ac = with_word regs.old.ac ac (to_ac mode ac word) } }
+{
+    match mode {
+        OpMode::Basic | OpMode::Immediate | OpMode::Both => regs.ac[ac as usize] = word,
+        OpMode::Memory => {}
+        OpMode::Own => give_own(regs, ac, word),
+    }
+}
+
+/// A second word goes to the next accumulator by the mode.
+#[inline(always)]
+pub fn give_next(mode: OpMode, regs: &mut Regs, ac: u8, low: Option<Word>)
+    requires { ac < 16 }
+    ensures { regs.new ≡ record regs.old { ac = with_word regs.old.ac (behind_ac ac) (to_next mode low) } }
+{
+    match (mode, low) {
+        (OpMode::Memory, _) | (_, None) => {}
+        (_, Some(word)) => {
+            let next = behind(ac);
+            regs.ac[next as usize] = word;
+        }
+    }
+}
+
+/// A result in its mode, with the next instruction.
+#[inline(always)]
+pub fn commit_result(mode: OpMode, regs: &mut Regs, ac: u8, e: u32, word: Word) -> Committed
+    requires pc { regs.old.pc < 2 ^ 18 }
+    requires ac { ac < 16 }
+    ensures { Leaves (by_mode mode regs.old ac e word) ac regs.old regs.new result }
+{
+    regs.pc = next(regs);
+    give(mode, regs, ac, word);
+    Committed {
+        word,
+        post: Post::Nothing,
+    }
+}
