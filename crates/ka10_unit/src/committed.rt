@@ -1,7 +1,7 @@
 // What is told of an instruction that was committed.
-ghost use Rattle.std.specs.Prelude.{◌≡◌, ◌==◌};
+ghost use Rattle.std.specs.Prelude.{◌≡◌, ◌^◌, ◌<◌};
 ghost use Rattle.ka10_unit.specs.Commits.{channel_of};
-ghost use Rattle.plain_model.specs.Deeds.{overflow_post};
+ghost use Rattle.plain_model.specs.Deeds.{overflow_post, pushdown_post};
 
 use word36::Word;
 
@@ -36,6 +36,18 @@ impl Post {
             Post::Nothing
         }
     }
+
+    /// A pushdown list that ran over or under, where the left half of its word came to a limit.
+    #[inline(always)]
+    pub(crate) fn pushdown(limit: u32, word: Word) -> Post
+        ensures { channel_of result ≡ pushdown_post limit word }
+    {
+        if word.left() == limit {
+            Post::Pushdown
+        } else {
+            Post::Nothing
+        }
+    }
 }
 
 impl Committed {
@@ -44,4 +56,16 @@ impl Committed {
         word: Word::ZERO,
         post: Post::Nothing,
     };
+
+    /// A word is stored, and nothing posted.
+    #[inline(always)]
+    pub(crate) fn storing(word: Word) -> Committed
+        ensures word { result.word ≡ word }
+        ensures post { result.post ≡ Post.Nothing }
+    {
+        Committed {
+            word,
+            post: Post::Nothing,
+        }
+    }
 }

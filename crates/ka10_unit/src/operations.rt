@@ -1,12 +1,13 @@
 // Operations in modes: sums, products, quotients, shifts.
 ghost use Rattle.std.specs.Prelude.{◌≡◌, ℕ, ◌^◌, ◌<◌, Some, None};
 ghost use Rattle.word36.specs.Arithmetic.{IsArithmetic, arithmetic};
-ghost use Rattle.plain_model.specs.Deeds.{behind_ac, in_ac, operated};
+ghost use Rattle.word36.specs.Shifts.{IsShift};
+ghost use Rattle.plain_model.specs.Deeds.{behind_ac, in_ac, operated, shifts};
 ghost use Rattle.ka10_unit.specs.Commits.{Leaves, outcome_of};
 
 use crate::committed::{Committed, Post};
 use crate::registers::{behind, give, give_next, next, set, word_in};
-use ka10_alu::{Out, arith};
+use ka10_alu::{Out, arith, shift};
 use ka10_table::OpMode;
 use plain_model::Regs;
 use word36::Word;
@@ -63,4 +64,18 @@ pub fn commit_operation(
         Some(out) => commit_out(mode, regs, ac, e, out),
         None => commit_undone(regs),
     }
+}
+
+/// ASH, ROT and LSH (240 to 242), ASHC, ROTC and LSHC (244 to 246), of the accumulator and the one
+/// behind it by the effective address.
+#[inline(always)]
+pub fn commit_shift(op: u16, regs: &mut Regs, ac: u8, e: u32) -> Committed
+    requires op { IsShift op }
+    requires pc { regs.old.pc < 2 ^ 18 }
+    requires ac { ac < 16 }
+    requires e { e < 2 ^ 18 }
+    ensures { Leaves (shifts op regs.old ac (in_ac regs.old ac) (in_ac regs.old (behind_ac ac)) e) ac regs.old regs.new result }
+{
+    let out = shift(op, word_in(regs, ac), word_in(regs, behind(ac)), e);
+    commit_out(OpMode::Basic, regs, ac, e, out)
 }

@@ -1,5 +1,5 @@
 // The steps of commits: the program counter, flags, accumulators.
-ghost use Rattle.std.specs.Prelude.{◌≡◌, ℕ, ◌+◌, ◌%◌, ◌^◌, ◌<◌, slice_index, Option, Some, None};
+ghost use Rattle.std.specs.Prelude.{◌≡◌, ℕ, ◌+◌, ◌%◌, ◌^◌, ◌<◌, if◌then◌else◌};
 ghost use Rattle.plain_model.specs.Deeds.{behind_ac, by_mode, in_ac, next_pc, set_with, skip_pc, to_ac, to_next, unless_zero};
 ghost use Rattle.plain_model.specs.Instructions.{with_deed, with_word};
 ghost use Rattle.ka10_unit.specs.Commits.{Leaves};
@@ -27,6 +27,27 @@ pub fn skip(regs: &Regs) -> u32
     ensures below { result < 2 ^ 18 }
 {
     regs.pc + 2 & Word::HALF_MASK
+}
+
+/// The effective address where an instruction jumps, else the address of the next one.
+#[inline(always)]
+pub fn jump_if(jumps: bool, regs: &Regs, e: u32) -> u32
+    requires pc { regs.now.pc < 2 ^ 18 }
+    requires e { e < 2 ^ 18 }
+    ensures value { result ≡ (if jumps then e else next_pc regs.now) }
+    ensures below { result < 2 ^ 18 }
+{
+    if jumps { e } else { next(regs) }
+}
+
+/// The address behind the next instruction where an instruction skips, else that of the next one.
+#[inline(always)]
+pub fn skip_if(skips: bool, regs: &Regs) -> u32
+    requires { regs.now.pc < 2 ^ 18 }
+    ensures value { result ≡ (if skips then skip_pc regs.now else next_pc regs.now) }
+    ensures below { result < 2 ^ 18 }
+{
+    if skips { skip(regs) } else { next(regs) }
 }
 
 /// The number of the accumulator behind one.
