@@ -10,13 +10,30 @@ use Rattle.plain_model.specs.Instructions.{with_deed}
 use Rattle.ka10_unit.specs.declared.committed.Committed.{Committed}
 use Rattle.ka10_unit.specs.declared.committed.Post.{Post}
 use Rattle.ka10_unit.specs.declared.committed.Post.TheVariants as post
+use Rattle.ka10_unit.specs.declared.operands.Destination.{Destination}
+use Rattle.ka10_unit.specs.declared.operands.Destination.TheVariants as destination
 
--- the word that a store stores
-abbrev pub Stores : Store → ℕ → Type 0
-Stores nowhere v = Unit {0}
-Stores (back at w) v = v ≡ w
-Stores (into at w) v = v ≡ w
-Stores (before at w) v = v ≡ w
+-- the word that a store stores, if it stores one
+abbrev pub stored_word : Store → Option ℕ
+stored_word nowhere = None
+stored_word (back at w) = Some w
+stored_word (into at w) = Some w
+stored_word (before at w) = Some w
+
+-- the store of a word at a destination; where there is no word nothing is stored
+abbrev pub store_at : Destination → Option ℕ → Store
+store_at d None = nowhere
+store_at destination.Nowhere (Some w) = nowhere
+store_at (destination.Back at) (Some w) = back at w
+store_at (destination.Into at) (Some w) = into at w
+store_at (destination.Before at) (Some w) = before at w
+
+-- the address of a destination is below a limit
+abbrev pub LiesBelow : ℕ → Destination → Type 0
+LiesBelow limit destination.Nowhere = Unit {0}
+LiesBelow limit (destination.Back at) = at < limit
+LiesBelow limit (destination.Into at) = at < limit
+LiesBelow limit (destination.Before at) = at < limit
 
 -- the channel of a post
 abbrev pub channel_of : Post → Option ℕ
@@ -24,10 +41,10 @@ channel_of post.Nothing = None
 channel_of post.Overflow = Some OVERFLOW
 channel_of post.Pushdown = Some PUSHDOWN_OVERFLOW
 
--- a deed is done on the registers; the word that it stores, if it stores one, and its post are told
+-- a deed is done on the registers, and the word that it stores and its post are told
 pub record Leaves (d : Deed) (ac : ℕ) (old new : Regs) (told : Committed) : Type 0 where
   pub regs : new ≡ with_deed old ac d
-  pub word : Stores d.store told.word
+  pub stored : told.stored ≡ stored_word d.store
   pub post : channel_of told.post ≡ d.post
   pub pc : new.pc < 2 ^ 18
 

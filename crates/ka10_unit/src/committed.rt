@@ -1,5 +1,5 @@
 // What is told of an instruction that was committed.
-ghost use Rattle.std.specs.Prelude.{◌≡◌, ◌^◌, ◌<◌};
+ghost use Rattle.std.specs.Prelude.{◌≡◌, Some};
 ghost use Rattle.ka10_unit.specs.Commits.{channel_of};
 ghost use Rattle.plain_model.specs.Deeds.{overflow_post, pushdown_post};
 
@@ -18,8 +18,8 @@ pub enum Post {
 /// What an instruction tells that was committed.
 #[derive(Clone, Copy, Debug, PartialEq, Eq)]
 pub struct Committed {
-    /// The word that the instruction stores. Any word where it stores none.
-    pub word: Word,
+    /// The word that the instruction stores. None exactly where it stores none.
+    pub stored: Option<Word>,
     /// The channel that it posts.
     pub post: Post,
 }
@@ -53,18 +53,18 @@ impl Post {
 impl Committed {
     /// Nothing is stored or posted.
     pub(crate) const NOTHING: Committed = Committed {
-        word: Word::ZERO,
+        stored: None,
         post: Post::Nothing,
     };
 
     /// A word is stored, and nothing posted.
     #[inline(always)]
     pub(crate) fn storing(word: Word) -> Committed
-        ensures word { result.word ≡ word }
+        ensures stored { result.stored ≡ Some word }
         ensures post { result.post ≡ Post.Nothing }
     {
         Committed {
-            word,
+            stored: Some(word),
             post: Post::Nothing,
         }
     }

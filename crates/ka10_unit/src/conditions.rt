@@ -57,7 +57,7 @@ pub fn commit_count(by: Word, code: u8, regs: &mut Regs, ac: u8, e: u32, m: Word
         set(regs, out.flags);
         regs.ac[ac as usize] = out.word;
         Committed {
-            word: out.word,
+            stored: None,
             post: Post::overflow(out.flags.overflow),
         }
     } else {
@@ -66,7 +66,7 @@ pub fn commit_count(by: Word, code: u8, regs: &mut Regs, ac: u8, e: u32, m: Word
         set(regs, out.flags);
         give_own(regs, ac, out.word);
         Committed {
-            word: out.word,
+            stored: Some(out.word),
             post: Post::overflow(out.flags.overflow),
         }
     }

@@ -9,6 +9,7 @@ mod committed;
 mod conditions;
 mod jumps;
 mod moves;
+mod operands;
 mod operations;
 mod program_words;
 mod registers;
@@ -26,6 +27,7 @@ pub use jumps::{
     commit_aobj, commit_jfcl, commit_jffo, commit_jrst, commit_jsa_or_jra, commit_jsr_or_jsp,
 };
 pub use moves::commit_move;
+pub use operands::{Destination, destination_of, operand_address};
 pub use operations::{commit_operation, commit_shift};
 pub use program_words::{flags_of, half_of_flags, pc_word};
 pub use stacks::{commit_popj, commit_push_or_pop, commit_pushj, pushed};

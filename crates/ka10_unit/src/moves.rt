@@ -44,7 +44,7 @@ fn commit_store(op: u16, regs: &mut Regs, ac: u8, e: u32, m: Word) -> Committed
         Some(out) => {
             set(regs, out.flags);
             Committed {
-                word: out.word,
+                stored: Some(out.word),
                 post: Post::overflow(out.flags.overflow),
             }
         }

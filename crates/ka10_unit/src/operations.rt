@@ -6,7 +6,7 @@ ghost use Rattle.plain_model.specs.Deeds.{behind_ac, in_ac, operated, shifts};
 ghost use Rattle.ka10_unit.specs.Commits.{Leaves, outcome_of};
 
 use crate::committed::{Committed, Post};
-use crate::registers::{behind, give, give_next, next, set, word_in};
+use crate::registers::{behind, give, give_next, next, set, stored_in, word_in};
 use ka10_alu::{Out, arith, shift};
 use ka10_table::OpMode;
 use plain_model::Regs;
@@ -24,7 +24,7 @@ pub fn commit_out(mode: OpMode, regs: &mut Regs, ac: u8, e: u32, out: Out) -> Co
     give(mode, regs, ac, out.word);
     give_next(mode, regs, ac, out.low);
     Committed {
-        word: out.word,
+        stored: stored_in(mode, out.word),
         post: Post::overflow(out.flags.overflow),
     }
 }
@@ -39,7 +39,7 @@ pub fn commit_undone(regs: &mut Regs) -> Committed
     regs.flags.overflow = true;
     regs.flags.nodiv = true;
     Committed {
-        word: Word::ZERO,
+        stored: None,
         post: Post::Overflow,
     }
 }

@@ -1,8 +1,8 @@
 // The steps of commits: the program counter, flags, accumulators.
 ghost use Rattle.std.specs.Prelude.{◌≡◌, ℕ, ◌+◌, ◌%◌, ◌^◌, ◌<◌, if◌then◌else◌};
-ghost use Rattle.plain_model.specs.Deeds.{behind_ac, by_mode, in_ac, next_pc, set_with, skip_pc, to_ac, to_next, unless_zero};
+ghost use Rattle.plain_model.specs.Deeds.{behind_ac, by_mode, in_ac, next_pc, set_with, skip_pc, to_ac, to_e, to_next, unless_zero};
 ghost use Rattle.plain_model.specs.Instructions.{with_deed, with_word};
-ghost use Rattle.ka10_unit.specs.Commits.{Leaves};
+ghost use Rattle.ka10_unit.specs.Commits.{Leaves, stored_word};
 
 use crate::committed::{Committed, Post};
 use ka10_table::OpMode;
@@ -121,6 +121,17 @@ pub fn give_next(mode: OpMode, regs: &mut Regs, ac: u8, low: Option<Word>)
     }
 }
 
+/// The result of a mode that stores it.
+#[inline(always)]
+pub fn stored_in(mode: OpMode, word: Word) -> Option<Word>
+    ensures { (e : ℕ) → result ≡ stored_word (to_e mode e word) }
+{
+    match mode {
+        OpMode::Basic | OpMode::Immediate => None,
+        OpMode::Memory | OpMode::Both | OpMode::Own => Some(word),
+    }
+}
+
 /// A result in its mode, with the next instruction.
 #[inline(always)]
 pub fn commit_result(mode: OpMode, regs: &mut Regs, ac: u8, e: u32, word: Word) -> Committed
@@ -131,7 +142,7 @@ pub fn commit_result(mode: OpMode, regs: &mut Regs, ac: u8, e: u32, word: Word) 
     regs.pc = next(regs);
     give(mode, regs, ac, word);
     Committed {
-        word,
+        stored: stored_in(mode, word),
         post: Post::Nothing,
     }
 }

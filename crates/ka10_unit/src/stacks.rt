@@ -60,7 +60,7 @@ pub fn commit_pushj(regs: &mut Regs, ac: u8, e: u32) -> Committed
     regs.flags.bis = false;
     regs.pc = e;
     Committed {
-        word,
+        stored: Some(word),
         post: Post::pushdown(0, top),
     }
 }
@@ -78,14 +78,14 @@ pub fn commit_push_or_pop(code: u8, regs: &mut Regs, ac: u8, e: u32, m: Word) ->
         let top = pushed(regs, ac);
         regs.ac[ac as usize] = top;
         Committed {
-            word: m,
+            stored: Some(m),
             post: Post::pushdown(0, top),
         }
     } else {
         let top = down(word_in(regs, ac));
         regs.ac[ac as usize] = top;
         Committed {
-            word: m,
+            stored: Some(m),
             post: Post::pushdown(Word::HALF_MASK, top),
         }
     }
@@ -101,7 +101,7 @@ pub fn commit_popj(regs: &mut Regs, ac: u8, m: Word) -> Committed
     regs.ac[ac as usize] = top;
     regs.pc = m.right();
     Committed {
-        word: Word::ZERO,
+        stored: None,
         post: Post::pushdown(Word::HALF_MASK, top),
     }
 }
