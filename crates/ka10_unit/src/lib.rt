@@ -3,6 +3,7 @@
 //! Stands on the table of rows, on the integer operations and on byte pointers.
 #![tactic(auto)]
 
+mod acts;
 mod bytes;
 mod commit;
 mod committed;
@@ -16,6 +17,7 @@ mod registers;
 mod stacks;
 mod words;
 
+pub use acts::{Act, act_at};
 pub use bytes::{
     ByteStep, byte_step, commit_deposit, commit_first_part, commit_increment, commit_load,
     forget_first_part,
@@ -32,3 +34,6 @@ pub use operations::{commit_operation, commit_shift};
 pub use program_words::{flags_of, half_of_flags, pc_word};
 pub use stacks::{commit_popj, commit_push_or_pop, commit_pushj, pushed};
 pub use words::{commit_blt, commit_boolean, commit_exch, commit_half, commit_test};
+
+#[cfg(test)]
+mod tests;

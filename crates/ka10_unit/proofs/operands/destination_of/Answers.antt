@@ -14,12 +14,24 @@ returns-in-Imul-clause-value c = λ op last m.
     let a1 : ℕ = in_ac regs (behind_ac c.args.ac) in
     let at = c.result_destination in
     let P : Family → Type 0 = λ f.
-        store_at at.result (stored_word (done_by f c.args.row.mode c.args.row.code op regs c.args.ac a a1 c.args.e last m).store)
-        ≡ (done_by f c.args.row.mode c.args.row.code op regs c.args.ac a a1 c.args.e last m).store in
-    elim c.in-Imul.is [ inl h ↦ subst P (sym h) (at.ensures.operations regs c.args.ac (arithmetic op a a1 m))
-    | inr x ↦ elim x [ inl h ↦ subst P (sym h) (at.ensures.operations regs c.args.ac (arithmetic op a a1 m))
-    | inr x ↦ elim x [ inl h ↦ subst P (sym h) (at.ensures.operations regs c.args.ac (arithmetic op a a1 m))
-    | inr x ↦ elim x [ inl h ↦ subst P (sym h) (at.ensures.operations regs c.args.ac (arithmetic op a a1 m))
-    | inr x ↦ elim x [ inl h ↦ subst P (sym h) (at.ensures.operations regs c.args.ac (arithmetic op a a1 m))
-    | inr x ↦ elim x [ inl h ↦ subst P (sym h) (at.ensures.booleans regs c.args.ac (boolean_of op a m))
-    | inr h ↦ subst P (sym h) (at.ensures.halves op regs c.args.ac a m) ] ] ] ] ] ]
+    store_at at.result (stored_word (done_by f c.args.row.mode c.args.row.code op regs c.args.ac a a1 c.args.e last m).store)
+    ≡ (done_by f c.args.row.mode c.args.row.code op regs c.args.ac a a1 c.args.e last m).store in
+    elim c.in-Imul.is [
+      | inl h ↦ subst P (sym h) (at.ensures.operations regs c.args.ac (arithmetic op a a1 m))
+      | inr x ↦ elim x [
+        | inl h ↦ subst P (sym h) (at.ensures.operations regs c.args.ac (arithmetic op a a1 m))
+        | inr x ↦ elim x [
+          | inl h ↦ subst P (sym h) (at.ensures.operations regs c.args.ac (arithmetic op a a1 m))
+          | inr x ↦ elim x [
+            | inl h ↦ subst P (sym h) (at.ensures.operations regs c.args.ac (arithmetic op a a1 m))
+            | inr x ↦ elim x [
+              | inl h ↦ subst P (sym h) (at.ensures.operations regs c.args.ac (arithmetic op a a1 m))
+              | inr x ↦ elim x [
+                | inl h ↦ subst P (sym h) (at.ensures.booleans regs c.args.ac (boolean_of op a m))
+                | inr h ↦ subst P (sym h) (at.ensures.halves op regs c.args.ac a m)
+              ]
+            ]
+          ]
+        ]
+      ]
+    ]
