@@ -1,3 +1,5 @@
+mod Outcomes
+mod Acting
 pub mod Singles
 pub mod Growing
 pub mod Adding

@@ -3,8 +3,41 @@
 //! Stands on `plain_model` for the definitions, and on the `ka10_` crates for rows and operations.
 #![tactic(auto)]
 
+mod acts;
+mod bytes;
+mod commit;
+mod committed;
+mod conditions;
 mod gather;
+mod jumps;
+mod moves;
+mod operands;
+mod operations;
+mod program_words;
+mod registers;
+mod stacks;
 mod taken;
+mod words;
 
+pub use acts::{Act, act_at};
+pub use bytes::{
+    ByteStep, byte_step, commit_deposit, commit_first_part, commit_increment, commit_load,
+    forget_first_part,
+};
+pub use commit::commit_row;
+pub use committed::{Committed, Post};
+pub use conditions::{commit_compare, commit_count, commit_jump_or_skip};
 pub use gather::{Added, Asking, Gather, MOST_MAKINGS};
+pub use jumps::{
+    commit_aobj, commit_jfcl, commit_jffo, commit_jrst, commit_jsa_or_jra, commit_jsr_or_jsp,
+};
+pub use moves::commit_move;
+pub use operands::{Destination, destination_of, operand_address};
+pub use operations::{commit_operation, commit_shift};
+pub use program_words::{flags_of, half_of_flags, pc_word};
+pub use stacks::{commit_popj, commit_push_or_pop, commit_pushj, pushed};
 pub use taken::{Taken, Trap};
+pub use words::{commit_blt, commit_boolean, commit_exch, commit_half, commit_test};
+
+#[cfg(test)]
+mod tests;

@@ -1,0 +1,185 @@
+// Byte instructions: which step is done, and what it leaves.
+ghost use Rattle.std.specs.Prelude.{◌≡◌, ℕ, ◌^◌, ◌<◌};
+ghost use Rattle.plain_model.specs.Instructions.{does_byte, first_part_done};
+ghost use Rattle.ka10_unit.specs.Bytes.{byte_deposited, byte_loaded, first_part, pointer_stepped, steps_of};
+ghost use Rattle.ka10_unit.specs.Commits.{Leaves};
+
+use crate::committed::Committed;
+use crate::registers::{next, word_in};
+use ka10_bytes::{deposit, increment, load};
+use plain_model::Regs;
+use word36::Word;
+
+/// What a byte instruction does once its pointer is taken.
+#[derive(Clone, Copy, Debug, PartialEq, Eq)]
+pub enum ByteStep {
+    /// IBP: the pointer is incremented.
+    Increment,
+    /// ILDB or IDPB: the pointer is incremented, and the instruction is done again.
+    FirstPart,
+    /// LDB.
+    Load,
+    /// ILDB once its first part is done.
+    LoadSecond,
+    /// DPB.
+    Deposit,
+    /// IDPB once its first part is done.
+    DepositSecond,
+}
+
+// The codes of IBP, ILDB, LDB, IDPB; that of DPB is the last.
+const IBP: u8 = 0;
+
+const ILDB: u8 = 1;
+
+const LDB: u8 = 2;
+
+const IDPB: u8 = 3;
+
+/// The step of a byte instruction, 133 to 137, by its code. ILDB and IDPB have two parts: the flag
+/// tells that the first is done.
+#[inline(always)]
+pub fn byte_step(code: u8, regs: &Regs) -> ByteStep
+    requires { code < 5 }
+    ensures { (ac e p : ℕ) → does_byte code regs.now ac e p ≡ steps_of result regs.now ac e p }
+{
+    match code {
+        IBP => ByteStep::Increment,
+        LDB => ByteStep::Load,
+        ILDB if regs.flags.bis => ByteStep::LoadSecond,
+        IDPB if regs.flags.bis => ByteStep::DepositSecond,
+        ILDB | IDPB => ByteStep::FirstPart,
+        _ => ByteStep::Deposit,
+    }
+}
+
+/// The pointer incremented, which goes back to where it was taken.
+#[inline(always)]
+pub fn commit_increment(regs: &mut Regs, ac: u8, e: u32, p: Word) -> Committed
+    requires { regs.old.pc < 2 ^ 18 }
+    ensures { Leaves (pointer_stepped regs.old e p) ac regs.old regs.new result }
+{
+    regs.pc = next(regs);
+    Committed::storing(increment(p))
+}
+
+/// The first part of ILDB and IDPB: the pointer incremented goes back, the flag tells that it was,
+/// and the program counter stays.
+#[inline(always)]
+pub fn commit_first_part(regs: &mut Regs, ac: u8, e: u32, p: Word) -> Committed
+    requires { regs.old.pc < 2 ^ 18 }
+    ensures { Leaves (first_part regs.old e p) ac regs.old regs.new result }
+{
+    regs.flags.bis = true;
+    Committed::storing(increment(p))
+}
+
+/// The flag of the first part is cleared, with which the second part begins.
+#[inline(always)]
+pub fn forget_first_part(regs: &mut Regs)
+    ensures { regs.new ≡ first_part_done regs.old }
+{
+    regs.flags.bis = false;
+}
+
+/// The byte that a pointer names in a word goes to AC.
+#[inline(always)]
+pub fn commit_load(regs: &mut Regs, ac: u8, p: Word, w: Word) -> Committed
+    requires pc { regs.old.pc < 2 ^ 18 }
+    requires ac { ac < 16 }
+    ensures { Leaves (byte_loaded regs.old p w) ac regs.old regs.new result }
+{
+    regs.pc = next(regs);
+    regs.ac[ac as usize] = load(p, w);
+    Committed::NOTHING
+}
+
+/// The low bits of AC go to where a pointer names a byte of a word, which stands at `e`.
+#[inline(always)]
+pub fn commit_deposit(regs: &mut Regs, ac: u8, p: Word, e: u32, w: Word) -> Committed
+    requires pc { regs.old.pc < 2 ^ 18 }
+    requires ac { ac < 16 }
+    ensures { Leaves (byte_deposited regs.old ac p e w) ac regs.old regs.new result }
+{
+    regs.pc = next(regs);
+    Committed::storing(deposit(p, w, word_in(regs, ac)))
+}
+
+#[cfg(test)]
+mod tests {
+    use super::*;
+    use crate::{flags_of, half_of_flags};
+
+    // The characters N, A, M, E and ?, seven bits each.
+    const NAME: u64 = 0o472031542576;
+
+    // The flags' half with the user bit, and with the mark of a first part.
+    const NONE: u32 = 0o010000;
+
+    const FIRST: u32 = 0o030000;
+
+    fn registers(a: u64, half: u32) -> Regs
+        requires { half < 2 ^ 18 }
+        ensures { result.pc < 2 ^ 18 }
+    {
+        let mut ac = [Word::ZERO; 16];
+        ac[3] = Word::wrapped(a);
+        Regs {
+            ac,
+            pc: 0o100,
+            flags: flags_of(half),
+        }
+    }
+
+    #[test]
+    fn steps(rt: HostRuntime) {
+        for (code, clear, marked) in [
+            (0, ByteStep::Increment, ByteStep::Increment),
+            (1, ByteStep::FirstPart, ByteStep::LoadSecond),
+            (2, ByteStep::Load, ByteStep::Load),
+            (3, ByteStep::FirstPart, ByteStep::DepositSecond),
+            (4, ByteStep::Deposit, ByteStep::Deposit),
+        ] {
+            assert_eq!(rt; byte_step(code, &registers(0, NONE)), clear, "code {code}");
+            assert_eq!(rt;
+                byte_step(code, &registers(0, FIRST)),
+                marked,
+                "code {code}"
+            );
+        }
+    }
+
+    #[test]
+    fn pointers(rt: HostRuntime) {
+        let pointer = Word::wrapped(0o010700001000);
+        let next = Some(Word::wrapped(0o350700001001));
+        let mut regs = registers(5, NONE);
+        assert_eq!(rt;
+            commit_increment(&mut regs, 3, 0o2000, pointer).stored,
+            next
+        );
+        assert_eq!(rt; (regs.pc, half_of_flags(regs.flags)), (0o101, NONE));
+        let mut regs = registers(5, NONE);
+        assert_eq!(rt;
+            commit_first_part(&mut regs, 3, 0o2000, pointer).stored,
+            next
+        );
+        assert_eq!(rt; (regs.pc, half_of_flags(regs.flags)), (0o100, FIRST));
+        forget_first_part(&mut regs);
+        assert_eq!(rt; (regs.pc, half_of_flags(regs.flags)), (0o100, NONE));
+    }
+
+    #[test]
+    fn bytes_of_words(rt: HostRuntime) {
+        let pointer = Word::wrapped(0o260700001000);
+        let word = Word::wrapped(NAME);
+        let mut regs = registers(0o102, FIRST);
+        let told = commit_deposit(&mut regs, 3, pointer, 0o1000, word);
+        assert_eq!(rt; told.stored, Some(Word::wrapped(0o472051542576)));
+        assert_eq!(rt; (regs.ac[3].value(), regs.pc), (0o102, 0o101));
+        let told = commit_load(&mut regs, 3, pointer, word);
+        assert_eq!(rt; told.stored, None);
+        assert_eq!(rt; (regs.ac[3].value(), regs.pc), (0o101, 0o102));
+        assert_eq!(rt; half_of_flags(regs.flags), FIRST);
+    }
+}

@@ -1,0 +1,71 @@
+// What is told of an instruction that was committed.
+ghost use Rattle.std.specs.Prelude.{◌≡◌, Some};
+ghost use Rattle.ka10_unit.specs.Commits.{channel_of};
+ghost use Rattle.plain_model.specs.Deeds.{overflow_post, pushdown_post};
+
+use word36::Word;
+
+/// The channel that a unit posts when it is done.
+#[derive(Clone, Copy, Debug, PartialEq, Eq)]
+pub enum Post {
+    Nothing,
+    /// An arithmetic result was no signed word, or a division was not done.
+    Overflow,
+    /// A pushdown list ran over, or under.
+    Pushdown,
+}
+
+/// What an instruction tells that was committed.
+#[derive(Clone, Copy, Debug, PartialEq, Eq)]
+pub struct Committed {
+    /// The word that the instruction stores. None exactly where it stores none.
+    pub stored: Option<Word>,
+    /// The channel that it posts.
+    pub post: Post,
+}
+
+impl Post {
+    /// Overflow, where the result overflowed.
+    #[inline(always)]
+    pub(crate) fn overflow(overflow: bool) -> Post
+        ensures { channel_of result ≡ overflow_post overflow }
+    {
+        if overflow {
+            Post::Overflow
+        } else {
+            Post::Nothing
+        }
+    }
+
+    /// A pushdown list that ran over or under, where the left half of its word came to a limit.
+    #[inline(always)]
+    pub(crate) fn pushdown(limit: u32, word: Word) -> Post
+        ensures { channel_of result ≡ pushdown_post limit word }
+    {
+        if word.left() == limit {
+            Post::Pushdown
+        } else {
+            Post::Nothing
+        }
+    }
+}
+
+impl Committed {
+    /// Nothing is stored or posted.
+    pub(crate) const NOTHING: Committed = Committed {
+        stored: None,
+        post: Post::Nothing,
+    };
+
+    /// A word is stored, and nothing posted.
+    #[inline(always)]
+    pub(crate) fn storing(word: Word) -> Committed
+        ensures stored { result.stored ≡ Some word }
+        ensures post { result.post ≡ Post.Nothing }
+    {
+        Committed {
+            stored: Some(word),
+            post: Post::Nothing,
+        }
+    }
+}

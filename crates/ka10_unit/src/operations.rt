@@ -1,0 +1,81 @@
+// Operations in modes: sums, products, quotients, shifts.
+ghost use Rattle.std.specs.Prelude.{◌≡◌, ℕ, ◌^◌, ◌<◌, Some, None};
+ghost use Rattle.word36.specs.Arithmetic.{IsArithmetic, arithmetic};
+ghost use Rattle.word36.specs.Shifts.{IsShift};
+ghost use Rattle.plain_model.specs.Deeds.{behind_ac, in_ac, operated, shifts};
+ghost use Rattle.ka10_unit.specs.Commits.{Leaves, outcome_of};
+
+use crate::committed::{Committed, Post};
+use crate::registers::{behind, give, give_next, next, set, stored_in, word_in};
+use ka10_alu::{Out, arith, shift};
+use ka10_table::OpMode;
+use plain_model::Regs;
+use word36::Word;
+
+/// What an operation gave, in its mode.
+#[inline(always)]
+pub fn commit_out(mode: OpMode, regs: &mut Regs, ac: u8, e: u32, out: Out) -> Committed
+    requires pc { regs.old.pc < 2 ^ 18 }
+    requires ac { ac < 16 }
+    ensures { Leaves (operated mode regs.old ac e (Some (outcome_of out))) ac regs.old regs.new result }
+{
+    regs.pc = next(regs);
+    set(regs, out.flags);
+    give(mode, regs, ac, out.word);
+    give_next(mode, regs, ac, out.low);
+    Committed {
+        stored: stored_in(mode, out.word),
+        post: Post::overflow(out.flags.overflow),
+    }
+}
+
+/// A division that isn't done sets flags alone.
+#[inline(always)]
+pub fn commit_undone(regs: &mut Regs) -> Committed
+    requires { regs.old.pc < 2 ^ 18 }
+    ensures { (mode : OpMode) (ac e : ℕ) → Leaves (operated mode regs.old ac e None) ac regs.old regs.new result }
+{
+    regs.pc = next(regs);
+    regs.flags.overflow = true;
+    regs.flags.nodiv = true;
+    Committed {
+        stored: None,
+        post: Post::Overflow,
+    }
+}
+
+/// IMUL, MUL, IDIV and DIV (220 to 237), ADD and SUB (270 to 277), of the accumulator and the
+/// operand, in one of their modes.
+#[inline(always)]
+pub fn commit_operation(
+    mode: OpMode,
+    op: u16,
+    regs: &mut Regs,
+    ac: u8,
+    e: u32,
+    m: Word,
+) -> Committed
+    requires op { IsArithmetic op }
+    requires pc { regs.old.pc < 2 ^ 18 }
+    requires ac { ac < 16 }
+    ensures { Leaves (operated mode regs.old ac e (arithmetic op (in_ac regs.old ac) (in_ac regs.old (behind_ac ac)) m)) ac regs.old regs.new result }
+{
+    match arith(op, word_in(regs, ac), word_in(regs, behind(ac)), m) {
+        Some(out) => commit_out(mode, regs, ac, e, out),
+        None => commit_undone(regs),
+    }
+}
+
+/// ASH, ROT and LSH (240 to 242), ASHC, ROTC and LSHC (244 to 246), of the accumulator and the one
+/// behind it by the effective address.
+#[inline(always)]
+pub fn commit_shift(op: u16, regs: &mut Regs, ac: u8, e: u32) -> Committed
+    requires op { IsShift op }
+    requires pc { regs.old.pc < 2 ^ 18 }
+    requires ac { ac < 16 }
+    requires e { e < 2 ^ 18 }
+    ensures { Leaves (shifts op regs.old ac (in_ac regs.old ac) (in_ac regs.old (behind_ac ac)) e) ac regs.old regs.new result }
+{
+    let out = shift(op, word_in(regs, ac), word_in(regs, behind(ac)), e);
+    commit_out(OpMode::Basic, regs, ac, e, out)
+}
