@@ -5,3 +5,7 @@ pub mod Growing
 pub mod Adding
 pub mod Referring
 pub mod Seeing
+pub mod Leading
+pub mod Finishing
+pub mod Blocks
+pub mod Parts

@@ -1,13 +1,22 @@
 -- The references of a unit that make pages, one after another, and the pages that they leave.
-use Rattle.std.specs.Prelude.{◌≡◌, List, [], ◌∷◌, Bool, true, false, ◌&&◌, is_some}
+use Rattle.std.specs.Prelude.{◌≡◌, ◌<◌, List, [], ◌∷◌, Bool, true, false, ◌&&◌, is_some}
 use Rattle.std.specs.Ordering.{nat_cmp}
 use Rattle.plain_model.specs.declared.names.ForkName.{ForkName}
 use Rattle.plain_model.specs.declared.names.Slot.{Slot}
+use Rattle.plain_model.specs.declared.names.TheConstants.{TERMINALS}
 use Rattle.plain_model.specs.State.{NumberedPages}
 use Rattle.plain_model.specs.References.{Referred, granted, denied, full, in_map, reference, next_making}
+use Rattle.plain_model.specs.Pages.{PagesMeaning}
 use Rattle.ka10_unit.specs.declared.gather.Asking.{Asking}
 use Rattle.ka10_unit.specs.declared.gather.Added.{Added}
 use Rattle.ka10_unit.specs.declared.gather.Added.TheVariants.{Went, Denied, Full}
+
+-- pages where every page is in core and each entry is an end, in which a terminal's fork lives
+pub record Serves {P : Type 0} (means : PagesMeaning P) (pages : P) (f : ForkName) : Type 0 where
+  pub flat : means.flat ≡ true
+  pub single : means.single ≡ true
+  pub lives : means.lives pages f ≡ true
+  pub terminal : f.tty.0 < TERMINALS
 
 -- the slot of a page of a fork's space
 abbrev pub slot_of : ForkName → Asking → Slot

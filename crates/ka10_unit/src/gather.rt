@@ -2,11 +2,11 @@
 ghost use Rattle.std.specs.Prelude.{◌≡◌, ◌≢◌, ◌+◌, ◌≤◌, ◌<◌, List, [], ◌∷◌, ◌++◌, length, true, Some, ◌==◌};
 ghost use Rattle.std.specs.List.{list_any};
 ghost use Rattle.plain_model.specs.declared.map.MapEntry.TheVariants.{Empty};
-ghost use Rattle.plain_model.specs.declared.names.TheConstants.{TERMINALS};
+ghost use Rattle.plain_model.specs.declared.names.TheConstants.{SPACE_PAGES, TERMINALS};
 ghost use Rattle.plain_model.specs.Maps.{entry_at};
 ghost use Rattle.plain_model.specs.Outcome.{DrumWords};
-ghost use Rattle.plain_model.specs.Pages.{IsPlace, fork_place};
-ghost use Rattle.ka10_unit.specs.Gathers.{AddsTo, all_make};
+ghost use Rattle.plain_model.specs.Pages.{fork_place};
+ghost use Rattle.ka10_unit.specs.Gathers.{AddsTo, Serves, all_make};
 
 use arrayvec::ArrayVec;
 use plain_model::{ForkName, Kind, Pages, Place, Slot, Touch};
@@ -122,10 +122,8 @@ impl Gather {
     /// pages that the references so far leave; else Denied or Full as it comes to there, and nothing is
     /// added.
     pub fn add<P: Pages>(&mut self, pages: &P, fork: ForkName, asking: Asking) -> Added
-        requires flat { P.means.flat ≡ true }
-        requires single { P.means.single ≡ true }
-        requires place { IsPlace (P.means.lives pages.now) (fork_place fork asking.page) }
-        requires terminal { fork.tty.0 < TERMINALS }
+        requires serves { Serves P.means pages.now fork }
+        requires page { asking.page < SPACE_PAGES }
         requires room { length self.old < MOST_MAKINGS }
         ensures room { length self.new ≤ length self.old + 1 }
         ensures stopped { result ≢ Added.Went → self.new ≡ self.old }

@@ -4,15 +4,19 @@
 #![tactic(auto)]
 
 mod acts;
+mod addresses;
 mod bytes;
 mod commit;
 mod committed;
 mod conditions;
+mod ending;
 mod gather;
 mod jumps;
 mod moves;
 mod operands;
 mod operations;
+mod plan;
+mod pointed;
 mod program_words;
 mod registers;
 mod stacks;
@@ -20,6 +24,7 @@ mod taken;
 mod words;
 
 pub use acts::{Act, act_at};
+pub use addresses::{Address, address_of};
 pub use bytes::{
     ByteStep, byte_step, commit_deposit, commit_first_part, commit_increment, commit_load,
     forget_first_part,
@@ -27,6 +32,7 @@ pub use bytes::{
 pub use commit::commit_row;
 pub use committed::{Committed, Post};
 pub use conditions::{commit_compare, commit_count, commit_jump_or_skip};
+pub use ending::Ending;
 pub use gather::{Added, Asking, Gather, MOST_MAKINGS};
 pub use jumps::{
     commit_aobj, commit_jfcl, commit_jffo, commit_jrst, commit_jsa_or_jra, commit_jsr_or_jsp,
@@ -34,6 +40,7 @@ pub use jumps::{
 pub use moves::commit_move;
 pub use operands::{Destination, destination_of, operand_address};
 pub use operations::{commit_operation, commit_shift};
+pub use plan::Planned;
 pub use program_words::{flags_of, half_of_flags, pc_word};
 pub use stacks::{commit_popj, commit_push_or_pop, commit_pushj, pushed};
 pub use taken::{Taken, Trap};

@@ -2,7 +2,7 @@
 ghost use Rattle.std.specs.Prelude.{◌≡◌, ◌≢◌, ◌+◌, ◌-◌, ◌/◌, ◌%◌, ◌≤◌, ◌<◌, ◌^◌, ◌==◌, ◌&&◌, List, [], ◌∷◌, ◌++◌, ℕ, length, true, false, None, Some, Option, nat_lt, OnErr, slice_index, slice_set, is_some};
 ghost use Rattle.std.specs.Option.{option_map_or};
 ghost use Rattle.outside.specs.declared.TheConstants.{PAGE_WORDS};
-ghost use Rattle.plain_model.specs.declared.names.TheConstants.{ACCUMULATORS, TERMINALS};
+ghost use Rattle.plain_model.specs.declared.names.TheConstants.{ACCUMULATORS};
 ghost use Rattle.plain_model.specs.Limits.{IsAddress};
 ghost use Rattle.plain_model.specs.Outcome.{DrumWords};
 ghost use Rattle.plain_model.specs.References.{in_map, page_at, slot_at};
@@ -10,7 +10,7 @@ ghost use Rattle.plain_model.specs.Room.{same_page};
 ghost use Rattle.plain_model.specs.Steps.{denied_channel, is_accumulator, refers, widens, word_taken, seen};
 ghost use Rattle.plain_model.specs.declared.names.PageName.{PageName as APageName};
 ghost use Rattle.ka10_unit.specs.declared.gather.Asking.{Asking as AAsking};
-ghost use Rattle.ka10_unit.specs.Gathers.{after_all, all_make};
+ghost use Rattle.ka10_unit.specs.Gathers.{Serves, after_all, all_make};
 ghost use Rattle.ka10_unit.specs.Taking.{AsksAt, CanWrite, Follows, HasPage, IsOpen, IsPutBelow, Stands, are_same, pages_so_far, progress, stands_at, widened_by, word_there};
 
 use crate::gather::{Added, Asking, Gather, page_of};
@@ -93,10 +93,7 @@ fn ask<P: Pages>(
     at: u32,
     kind: Kind,
 ) -> Result<(), Trap>
-    requires flat { P.means.flat ≡ true }
-    requires single { P.means.single ≡ true }
-    requires lives { P.means.lives pages.now fork ≡ true }
-    requires terminal { fork.tty.0 < TERMINALS }
+    requires serves { Serves P.means pages.now fork }
     requires address { IsAddress at }
     requires room { length gather.old < 17 }
     ensures room { length gather.new ≤ length gather.old + 1 }
@@ -139,8 +136,7 @@ fn are_one(there: Option<PageName>, other: Option<PageName>) -> bool
 
 /// The word at an address, in the pages as they are; 0 where there is no page.
 fn held_word<P: Pages>(pages: &P, fork: ForkName, at: u32) -> Word
-    requires flat { P.means.flat ≡ true }
-    requires lives { P.means.lives pages.now fork ≡ true }
+    requires serves { Serves P.means pages.now fork }
     requires address { IsAddress at }
     ensures told { (d : DrumWords) → P.means.fits pages.now d → result ≡ word_there fork (P.means.plain pages.now d) at }
 {
@@ -154,10 +150,7 @@ fn held_word<P: Pages>(pages: &P, fork: ForkName, at: u32) -> Word
 /// Whether a word that the unit has stored at an address stands at another: at the same place of the
 /// same page, which may have two names.
 fn is_stored_at<P: Pages>(pages: &P, fork: ForkName, stored: u32, at: u32) -> bool
-    requires flat { P.means.flat ≡ true }
-    requires single { P.means.single ≡ true }
-    requires lives { P.means.lives pages.now fork ≡ true }
-    requires terminal { fork.tty.0 < TERMINALS }
+    requires serves { Serves P.means pages.now fork }
     requires address { IsAddress at }
     requires stored { IsAddress stored }
     ensures told { (d : DrumWords) (rs : List AAsking) (n : APageName) → P.means.fits pages.now d → all_make fork (P.means.plain pages.now d) rs ≡ true
@@ -176,10 +169,7 @@ fn is_stored_at<P: Pages>(pages: &P, fork: ForkName, stored: u32, at: u32) -> bo
 
 /// The word at an address whose page was asked for, or the word that the unit has stored there.
 fn seen_word<P: Pages>(pages: &P, fork: ForkName, kept: Option<Put>, at: u32) -> Word
-    requires flat { P.means.flat ≡ true }
-    requires single { P.means.single ≡ true }
-    requires lives { P.means.lives pages.now fork ≡ true }
-    requires terminal { fork.tty.0 < TERMINALS }
+    requires serves { Serves P.means pages.now fork }
     requires address { IsAddress at }
     requires kept { IsPutBelow (2 ^ 18) kept }
     ensures told { (d : DrumWords) (rs : List AAsking) (n : APageName) → P.means.fits pages.now d → all_make fork (P.means.plain pages.now d) rs ≡ true
@@ -207,10 +197,7 @@ fn accumulator(regs: &Regs, at: u32) -> Word
 
 /// The word at an address that was referred to.
 fn word_at<P: Pages>(taken: &Taken, regs: &Regs, pages: &P, fork: ForkName, at: u32) -> Word
-    requires flat { P.means.flat ≡ true }
-    requires single { P.means.single ≡ true }
-    requires lives { P.means.lives pages.now fork ≡ true }
-    requires terminal { fork.tty.0 < TERMINALS }
+    requires serves { Serves P.means pages.now fork }
     requires address { IsAddress at }
     requires kept { IsPutBelow (2 ^ 18) taken.now.kept }
     ensures told { (d : DrumWords) → P.means.fits pages.now d → all_make fork (P.means.plain pages.now d) taken.now.gather ≡ true → HasPage fork (pages_so_far fork (P.means.plain pages.now d) taken.now) at
@@ -232,10 +219,7 @@ pub fn refer<P: Pages>(
     at: u32,
     kind: Kind,
 ) -> Result<Word, Trap>
-    requires flat { P.means.flat ≡ true }
-    requires single { P.means.single ≡ true }
-    requires lives { P.means.lives pages.now fork ≡ true }
-    requires terminal { fork.tty.0 < TERMINALS }
+    requires serves { Serves P.means pages.now fork }
     requires address { IsAddress at }
     requires is_open { IsOpen taken.old }
     requires kept { IsPutBelow (2 ^ 18) taken.old.kept }
@@ -279,10 +263,7 @@ pub fn widen<P: Pages>(
     fork: ForkName,
     at: u32,
 ) -> Result<(), Trap>
-    requires flat { P.means.flat ≡ true }
-    requires single { P.means.single ≡ true }
-    requires lives { P.means.lives pages.now fork ≡ true }
-    requires terminal { fork.tty.0 < TERMINALS }
+    requires serves { Serves P.means pages.now fork }
     requires address { IsAddress at }
     requires is_open { IsOpen taken.old }
     ensures kept { taken.new.kept ≡ taken.old.kept }

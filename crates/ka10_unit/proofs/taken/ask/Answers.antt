@@ -14,4 +14,4 @@ pub returns-in-Went-clause-told : goal.returns-in-Went-clause-told
 returns-in-Went-clause-told g c d fits all =
     let p : NumberedPages = g.P.Pages.means.plain c.args.pages.now d in
     let high : is_accumulator c.args.at ≡ false = grind (arith, nat_tests) in
-    asks_high c.args.fork (inl c.requires.terminal) p (g.met.P.Pages.whole c.args.pages.now d fits) (g.met.P.Pages.single c.args.pages.now d c.requires.single fits) _ _ all c.args.at c.args.kind _ high (c.in-Went.ensures.told d fits all)
+    asks_high c.args.fork (inl c.requires.serves.terminal) p (g.met.P.Pages.whole c.args.pages.now d fits) (g.met.P.Pages.single c.args.pages.now d c.requires.serves.single fits) _ _ all c.args.at c.args.kind _ high (c.in-Went.ensures.told d fits all)
