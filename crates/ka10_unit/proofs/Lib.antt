@@ -9,3 +9,4 @@ pub mod Leading
 pub mod Finishing
 pub mod Blocks
 pub mod Parts
+pub mod Stepping

@@ -18,8 +18,6 @@ use Rattle.ka10_unit.specs.declared.addresses.Address.{Address}
 use Rattle.ka10_unit.specs.declared.committed.Committed.{Committed}
 use Rattle.ka10_unit.specs.declared.operands.Destination.{Destination}
 use Rattle.ka10_unit.specs.declared.ending.Ending.{Ending}
-use Rattle.ka10_unit.specs.declared.plan.Class.{Class}
-use Rattle.ka10_unit.specs.declared.plan.Class.TheVariants as class
 use Rattle.ka10_unit.specs.declared.plan.Next.{Next}
 use Rattle.ka10_unit.specs.declared.plan.Step.{Step}
 use Rattle.ka10_unit.specs.declared.plan.Step.TheVariants as step
@@ -29,7 +27,7 @@ use Rattle.ka10_unit.specs.declared.taken.Taken.{Taken}
 use Rattle.ka10_unit.specs.declared.taken.Trap.{Trap}
 use Rattle.ka10_unit.specs.Once.{unit_on}
 use Rattle.ka10_unit.specs.Commits.{Leaves, channel_of, store_at}
-use Rattle.ka10_unit.specs.Taking.{CanPut, Plan, Stands, pages_so_far, progress}
+use Rattle.ka10_unit.specs.Taking.{CanPut, IsOpen, IsPutBelow, Plan, Stands, pages_so_far, progress}
 
 -- an effective address, with so many words at most, and with any
 abbrev pub reached_within : ℕ → List ℕ → ℕ → (Address → Steps) → Steps
@@ -70,30 +68,24 @@ pub record IsDone (d : Deed) (n : ℕ) (old new : Regs) (to : Destination) (told
   pub store : store_at to told.stored ≡ d.store
   pub block : (at w : ℕ) → d.store ≡ before at w → (d.next ≡ None) × ((a : ℕ) × (d.ac ≡ Some a))
 
--- an instruction of a class
-abbrev pub class_of : Family → Class
-class_of family.Illegal = class.Illegal
-class_of family.Local = class.Local
-class_of family.Monitor = class.Monitor
-class_of family.ByteOp = class.Byte
-class_of family.Jrst = class.Jump
-class_of family.Xct = class.Execute
-class_of f = class.Ordinary
+-- a word that is illegal before its address is taken: no instruction, a monitor call behind a local call, and JRST of the executive
+abbrev pub is_illegal : Family → Bool → ℕ → Bool
+is_illegal family.Illegal is_local ac = true
+is_illegal family.Monitor is_local ac = is_local
+is_illegal family.Jrst is_local ac = is_executive ac
+is_illegal f is_local ac = false
 
 -- a local call stores at 40 and goes on at 41
 abbrev pub calls_local : ℕ → ℕ → (Bool → ℕ → Steps) → Steps
 calls_local w e next = refers LOCAL_CALL Write (λ v. keeps LOCAL_CALL (local_word w e) (refers LOCAL_HANDLER Execute (next true)))
 
--- what an instruction does, by its class
-abbrev pub executes_by : Class → TableRow → Bool → Regs → ℕ → (Bool → ℕ → Steps) → Steps
-executes_by class.Illegal row is_local regs w next = traps ILLEGAL_INSTRUCTION
-executes_by class.Monitor row is_local regs w next = if is_local then traps ILLEGAL_INSTRUCTION else address regs.ac w (λ e last. calls e)
-executes_by class.Execute row is_local regs w next = address regs.ac w (λ e last. refers e Execute (next is_local))
-executes_by class.Local row is_local regs w next = address regs.ac w (λ e last. calls_local w e next)
-executes_by class.Byte row is_local regs w next = address regs.ac w (λ e last. does_pointer row.code regs (ac_field w) e)
-executes_by class.Jump row is_local regs w next =
-    if is_executive (ac_field w) then traps ILLEGAL_INSTRUCTION else address regs.ac w (does row (opcode w) regs (ac_field w))
-executes_by class.Ordinary row is_local regs w next = address regs.ac w (does row (opcode w) regs (ac_field w))
+-- what an instruction does with its address
+abbrev pub does_at : Family → TableRow → Bool → Regs → ℕ → Address → (Bool → ℕ → Steps) → Steps
+does_at family.Monitor row is_local regs w a next = calls a.at
+does_at family.Xct row is_local regs w a next = refers a.at Execute (next is_local)
+does_at family.Local row is_local regs w a next = calls_local w a.at next
+does_at family.ByteOp row is_local regs w a next = does_pointer row.code regs (ac_field w) a.at
+does_at f row is_local regs w a next = does row (opcode w) regs (ac_field w) a.at a.last
 
 -- what one word of a unit comes to
 abbrev pub stepped : ForkName → NumberedPages → List ℕ → Taken → Result Step Trap → (Bool → ℕ → Plan) → Plan
@@ -134,3 +126,24 @@ pub record Plans (f : ForkName) (p : NumberedPages) (regs : Regs) (t : Taken) (r
   pub stands : Stands f p t
   pub put : CanDo f (pages_so_far f p t) result
   pub is : unit_on f p regs ≡ planned_as f p regs.ac t result
+
+-- an end is of the machine: its program counter and its last word's address are addresses
+abbrev pub IsEnd : Ending → Taken → Type 0
+IsEnd x t = (x.regs.pc < 2 ^ 18) × IsPutBelow (2 ^ 18) x.put × IsPutBelow (2 ^ 18) t.kept
+
+-- a step that goes on leaves a unit that is open
+abbrev pub IsStep : Result Step Trap → Taken → Type 0
+IsStep (Ok (step.Goes n)) t = IsOpen t × IsPutBelow (2 ^ 18) t.kept
+IsStep (Ok (step.Ends x)) t = IsEnd x t
+IsStep (Ok (step.Calls n)) t = n < 2 ^ 18
+IsStep (Err e) t = Unit {0}
+
+abbrev pub IsPlan : Planned → Taken → Type 0
+IsPlan (planned.Do x) t = IsEnd x t
+IsPlan (planned.Trap channel) t = Unit {0}
+IsPlan (planned.Call number) t = number < 2 ^ 18
+
+-- a call that ended a unit is a step that ends it
+abbrev pub as_step : Result Ending Trap → Result Step Trap
+as_step (Ok x) = Ok (step.Ends x)
+as_step (Err e) = Err e

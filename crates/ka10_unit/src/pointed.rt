@@ -42,7 +42,16 @@ fn load_byte<P: Pages>(
     let word = refer(taken, regs, pages, fork, address.at, Kind::Read)?;
     let mut after = *regs;
     let told = commit_load(&mut after, ac, pointer, word);
-    finish(taken, regs, pages, fork, after, ac, Destination::Nowhere, told)
+    finish(
+        taken,
+        regs,
+        pages,
+        fork,
+        after,
+        ac,
+        Destination::Nowhere,
+        told,
+    )
 }
 
 /// The low bits of AC go into the word that a pointer names.
@@ -110,12 +119,30 @@ pub fn byte_instruction<P: Pages>(
         ByteStep::Increment => {
             let mut after = *regs;
             let told = commit_increment(&mut after, ac, e, pointer);
-            finish(taken, regs, pages, fork, after, ac, Destination::Back(e), told)
+            finish(
+                taken,
+                regs,
+                pages,
+                fork,
+                after,
+                ac,
+                Destination::Back(e),
+                told,
+            )
         }
         ByteStep::FirstPart => {
             let mut after = *regs;
             let told = commit_first_part(&mut after, ac, e, pointer);
-            finish(taken, regs, pages, fork, after, ac, Destination::Back(e), told)
+            finish(
+                taken,
+                regs,
+                pages,
+                fork,
+                after,
+                ac,
+                Destination::Back(e),
+                told,
+            )
         }
         ByteStep::Load => load_byte(taken, regs, pages, fork, ac, pointer),
         ByteStep::Deposit => deposit_byte(taken, regs, pages, fork, ac, pointer),

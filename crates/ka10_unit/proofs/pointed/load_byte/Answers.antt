@@ -18,7 +18,7 @@ returns-in_err-word-clause-told g c d fits stands =
     let p = err_from_is_err_and c.from_residual-in_err-word.result c.from_residual-in_err-word.ensures.1 in
     let first = c.in_ok-address.ensures.told d fits stands in
     rw (p.1, p.2) (then_ends _ _ _ _ c.address_of.new.taken _ (reached c.args.regs.now.ac c.args.pointer) (λ a. refers a.at Read (λ w. finishes c.args.regs.now c.args.ac (byte_loaded c.args.regs.now c.args.pointer w))) _ _ first
-        (then_stops _ _ _ c.address_of.new.taken _ (refers c.in_ok-address.address.at Read) (λ w. finishes c.args.regs.now c.args.ac (byte_loaded c.args.regs.now c.args.pointer w)) _ (c.in_err-word.ensures.told d fits first.stands)))
+    (then_stops _ _ _ c.address_of.new.taken _ (refers c.in_ok-address.address.at Read) (λ w. finishes c.args.regs.now c.args.ac (byte_loaded c.args.regs.now c.args.pointer w)) _ (c.in_err-word.ensures.told d fits first.stands)))
 
 pub returns-clause-told : goal.returns-clause-told
 returns-clause-told g c d fits stands =
