@@ -15,11 +15,11 @@ use Rattle.plain_model.specs.Addressing.{opcode, ac_field}
 use Rattle.plain_model.specs.Instructions.{execute, executes, does, instruction, local_word, LOCAL_CALL, LOCAL_HANDLER}
 use Rattle.ka10_unit.specs.declared.addresses.Address.{Address}
 use Rattle.ka10_unit.specs.declared.ending.Ending.{Ending}
-use Rattle.ka10_unit.specs.declared.plan.Next.{Next}
-use Rattle.ka10_unit.specs.declared.plan.Step.{Step}
-use Rattle.ka10_unit.specs.declared.plan.Step.TheVariants as step
-use Rattle.ka10_unit.specs.declared.plan.Planned.{Planned}
-use Rattle.ka10_unit.specs.declared.plan.Planned.TheVariants as planned
+use Rattle.ka10_unit.specs.declared.plans.Next.{Next}
+use Rattle.ka10_unit.specs.declared.plans.Step.{Step}
+use Rattle.ka10_unit.specs.declared.plans.Step.TheVariants as step
+use Rattle.ka10_unit.specs.declared.plans.Planned.{Planned}
+use Rattle.ka10_unit.specs.declared.plans.Planned.TheVariants as planned
 use Rattle.ka10_unit.specs.declared.taken.Taken.{Taken}
 use Rattle.ka10_unit.specs.declared.taken.Trap.{Trap}
 use Rattle.ka10_unit.specs.Gathers.{after_all, all_make}

@@ -18,11 +18,11 @@ use Rattle.ka10_unit.specs.declared.addresses.Address.{Address}
 use Rattle.ka10_unit.specs.declared.committed.Committed.{Committed}
 use Rattle.ka10_unit.specs.declared.operands.Destination.{Destination}
 use Rattle.ka10_unit.specs.declared.ending.Ending.{Ending}
-use Rattle.ka10_unit.specs.declared.plan.Next.{Next}
-use Rattle.ka10_unit.specs.declared.plan.Step.{Step}
-use Rattle.ka10_unit.specs.declared.plan.Step.TheVariants as step
-use Rattle.ka10_unit.specs.declared.plan.Planned.{Planned}
-use Rattle.ka10_unit.specs.declared.plan.Planned.TheVariants as planned
+use Rattle.ka10_unit.specs.declared.plans.Next.{Next}
+use Rattle.ka10_unit.specs.declared.plans.Step.{Step}
+use Rattle.ka10_unit.specs.declared.plans.Step.TheVariants as step
+use Rattle.ka10_unit.specs.declared.plans.Planned.{Planned}
+use Rattle.ka10_unit.specs.declared.plans.Planned.TheVariants as planned
 use Rattle.ka10_unit.specs.declared.taken.Taken.{Taken}
 use Rattle.ka10_unit.specs.declared.taken.Trap.{Trap}
 use Rattle.ka10_unit.specs.Once.{unit_on}

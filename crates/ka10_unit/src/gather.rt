@@ -6,6 +6,7 @@ ghost use Rattle.plain_model.specs.declared.names.TheConstants.{SPACE_PAGES, TER
 ghost use Rattle.plain_model.specs.Maps.{entry_at};
 ghost use Rattle.plain_model.specs.Outcome.{DrumWords};
 ghost use Rattle.plain_model.specs.Pages.{fork_place};
+ghost use Rattle.ka10_unit.specs.Askings.{ArePages};
 ghost use Rattle.ka10_unit.specs.Gathers.{AddsTo, Serves, all_make};
 
 use arrayvec::ArrayVec;
@@ -57,6 +58,10 @@ impl Model for Gather {
     ghost Value = { List Asking };
 
     ghost view = { λ g. g.makings.items };
+
+    ghost use Rattle.ka10_unit.specs.Askings.{ArePages};
+
+    ghost invariant = { λ g. ArePages g.makings.items };
 }
 
 /// A page of a fork's space.
@@ -88,6 +93,7 @@ impl Gather {
     pub fn makings(&self) -> &[Asking]
         ensures makings { result.now ≡ self.now }
         ensures few { length result.now ≤ MOST_MAKINGS }
+        ensures pages { ArePages result.now }
     {
         self.makings.as_slice()
     }
@@ -102,6 +108,7 @@ impl Gather {
     // One reference more, to a page that was none before the unit.
     fn add_empty<P: Pages>(&mut self, pages: &P, fork: ForkName, asking: Asking) -> Added
         requires terminal { fork.tty.0 < TERMINALS }
+        requires page { asking.page < SPACE_PAGES }
         requires room { length self.old < MOST_MAKINGS }
         ensures room { length self.new ≤ length self.old + 1 }
         ensures stopped { result ≢ Added.Went → self.new ≡ self.old }

@@ -117,7 +117,7 @@ fn ask<P: Pages>(
 }
 
 /// The page of an address of a fork's space.
-fn page_of_address(fork: ForkName, at: u32) -> Place
+pub fn page_of_address(fork: ForkName, at: u32) -> Place
     requires { IsAddress at }
     ensures { result ≡ Place.Fork (slot_at fork at) }
 {

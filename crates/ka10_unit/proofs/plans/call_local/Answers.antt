@@ -3,7 +3,7 @@ use Rattle.plain_model.specs.declared.names.Kind.TheVariants.{Execute, Write}
 use Rattle.plain_model.specs.Steps.{refers, keeps}
 use Rattle.plain_model.specs.Instructions.{local_word, LOCAL_CALL, LOCAL_HANDLER}
 use Rattle.ka10_unit.proofs.Stepping.{steps_stop, local_stands, local_goes}
-use Rattle.ka10_unit.proofs.plan.call_local.Goals as goal
+use Rattle.ka10_unit.proofs.plans.call_local.Goals as goal
 
 pub returns-in-Err-clause-told : goal.returns-in-Err-clause-told
 returns-in-Err-clause-told g c d fits stands =

@@ -1,5 +1,5 @@
 use Rattle.ka10_unit.proofs.Stepping.{none_stands, plan_stops, plan_goes}
-use Rattle.ka10_unit.proofs.plan.plan.Goals as goal
+use Rattle.ka10_unit.proofs.plans.plan.Goals as goal
 
 pub returns-in-Err-clause-told : goal.returns-in-Err-clause-told
 returns-in-Err-clause-told g c d fits =

@@ -1,6 +1,6 @@
 use Rattle.std.proofs.Common.{◌<◌, arith}
 use Rattle.ka10_unit.proofs.Stepping.{out_of_words, word_stops, word_calls, word_ends, word_goes}
-use Rattle.ka10_unit.proofs.plan.+follow.Goals as goal
+use Rattle.ka10_unit.proofs.plans.+follow.Goals as goal
 
 pub returns-then-left-eq0-clause-told : goal.returns-then-left-eq0-clause-told
 returns-then-left-eq0-clause-told g t c d fits stands = out_of_words _ _ c.args.regs.now _ c.args.left c.args.word c.args.is_local c.if-left-eq0.true stands
