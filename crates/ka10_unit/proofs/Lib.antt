@@ -10,3 +10,4 @@ pub mod Finishing
 pub mod Blocks
 pub mod Parts
 pub mod Stepping
+pub mod Carried

@@ -1,10 +1,11 @@
 -- The parts of a unit, as the calls do them that plan it.
-use Rattle.std.specs.Prelude.{◌≡◌, ℕ, zero, suc, ◌<◌, ◌^◌, Bool, true, false, if◌then◌else◌, Option, None, Some, List, [], Result, Ok, Err, IsSome}
+use Rattle.std.specs.Prelude.{◌≡◌, ℕ, zero, suc, ◌<◌, ◌^◌, Bool, true, false, if◌then◌else◌, Option, None, Some, List, [], length, Result, Ok, Err, IsSome}
 use Rattle.std.specs.Ordering.{nat_cmp}
 use Rattle.ka10_table.specs.declared.families.Family.{Family}
 use Rattle.ka10_table.specs.declared.families.Family.TheVariants as family
 use Rattle.ka10_table.specs.declared.families.TableRow.{TableRow}
 use Rattle.plain_model.specs.declared.channel.TheConstants.{ILLEGAL_INSTRUCTION}
+use Rattle.plain_model.specs.declared.names.TheConstants.{ACCUMULATORS}
 use Rattle.plain_model.specs.declared.names.ForkName.{ForkName}
 use Rattle.plain_model.specs.declared.names.Kind.TheVariants.{Execute, Write}
 use Rattle.plain_model.specs.declared.fork.Regs.{Regs}
@@ -127,9 +128,14 @@ pub record Plans (f : ForkName) (p : NumberedPages) (regs : Regs) (t : Taken) (r
   pub put : CanDo f (pages_so_far f p t) result
   pub is : unit_on f p regs ≡ planned_as f p regs.ac t result
 
--- an end is of the machine: its program counter and its last word's address are addresses
+-- an end is of the machine: its registers, and the address of its last word
+pub record IsEnding (x : Ending) : Type 0 where
+  pub pc : x.regs.pc < 2 ^ 18
+  pub accumulators : length x.regs.ac ≡ ACCUMULATORS
+  pub put : IsPutBelow (2 ^ 18) x.put
+
 abbrev pub IsEnd : Ending → Taken → Type 0
-IsEnd x t = (x.regs.pc < 2 ^ 18) × IsPutBelow (2 ^ 18) x.put × IsPutBelow (2 ^ 18) t.kept
+IsEnd x t = IsEnding x × IsPutBelow (2 ^ 18) t.kept
 
 -- a step that goes on leaves a unit that is open
 abbrev pub IsStep : Result Step Trap → Taken → Type 0

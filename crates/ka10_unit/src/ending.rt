@@ -8,7 +8,7 @@ ghost use Rattle.plain_model.specs.Limits.{IsAddress};
 ghost use Rattle.plain_model.specs.Outcome.{DrumWords};
 ghost use Rattle.ka10_unit.specs.Commits.{LiesBelow, channel_of};
 ghost use Rattle.ka10_unit.specs.Gathers.{Serves};
-ghost use Rattle.ka10_unit.specs.Planning.{Ends, IsDone, end_of};
+ghost use Rattle.ka10_unit.specs.Planning.{Ends, IsDone, IsEnding, end_of};
 ghost use Rattle.ka10_unit.specs.Taking.{Follows, IsOpen, IsPutBelow, Stands};
 
 use crate::addresses::Address;
@@ -55,6 +55,8 @@ pub fn operand<P: Pages>(
 
 /// The end of a unit that stores nothing more.
 fn end_with(regs: Regs, post: Post) -> Ending
+    requires { regs.pc < 2 ^ 18 }
+    ensures end { IsEnding result }
     ensures regs { result.regs ≡ regs }
     ensures put { result.put ≡ None }
     ensures post { result.post ≡ post }
@@ -71,8 +73,7 @@ fn end_storing(regs: Regs, at: u32, word: Word, post: Post) -> Ending
     requires at { IsAddress at }
     requires pc { regs.pc < 2 ^ 18 }
     ensures is { end_of result ≡ storing regs at word (channel_of post) }
-    ensures pc { result.regs.pc < 2 ^ 18 }
-    ensures put { IsPutBelow (2 ^ 18) result.put }
+    ensures end { IsEnding result }
 {
     if at < ACCUMULATORS {
         let mut after = regs;
@@ -105,8 +106,7 @@ pub fn finish<P: Pages>(
     requires is_open { IsOpen taken.old }
     requires kept { IsPutBelow (2 ^ 18) taken.old.kept }
     ensures kept { taken.new.kept ≡ taken.old.kept }
-    ensures pc { IfOk result (λ x. x.regs.pc < 2 ^ 18) }
-    ensures put { IfOk result (λ x. IsPutBelow (2 ^ 18) x.put) }
+    ensures end { IfOk result (λ x. IsEnding x) }
     ensures told { (d : DrumWords) (deed : Deed) (old : ARegs) → P.means.fits pages.now d → Stands fork (P.means.plain pages.now d) taken.old → IsDone deed ac old after to told
         → Ends fork (P.means.plain pages.now d) regs.now.ac taken.old taken.new (finishes old ac deed) result }
 {
@@ -153,8 +153,7 @@ pub fn ordinary<P: Pages>(
     requires is_open { IsOpen taken.old }
     requires kept { IsPutBelow (2 ^ 18) taken.old.kept }
     ensures kept { taken.new.kept ≡ taken.old.kept }
-    ensures pc { IfOk result (λ x. x.regs.pc < 2 ^ 18) }
-    ensures put { IfOk result (λ x. IsPutBelow (2 ^ 18) x.put) }
+    ensures end { IfOk result (λ x. IsEnding x) }
     ensures told { (d : DrumWords) → P.means.fits pages.now d → Stands fork (P.means.plain pages.now d) taken.old
         → Ends fork (P.means.plain pages.now d) regs.now.ac taken.old taken.new (does row op regs.now ac e.now.at e.now.last) result }
 {

@@ -4,7 +4,7 @@ ghost use Rattle.plain_model.specs.Instructions.{deposits_byte, does_pointer, fi
 ghost use Rattle.plain_model.specs.Limits.{IsAddress};
 ghost use Rattle.plain_model.specs.Outcome.{DrumWords};
 ghost use Rattle.ka10_unit.specs.Gathers.{Serves};
-ghost use Rattle.ka10_unit.specs.Planning.{Ends};
+ghost use Rattle.ka10_unit.specs.Planning.{Ends, IsEnding};
 ghost use Rattle.ka10_unit.specs.Taking.{IsOpen, IsPutBelow, Stands};
 
 use crate::addresses::address_of;
@@ -33,8 +33,7 @@ fn load_byte<P: Pages>(
     requires is_open { IsOpen taken.old }
     requires kept { IsPutBelow (2 ^ 18) taken.old.kept }
     ensures kept { taken.new.kept ≡ taken.old.kept }
-    ensures pc { IfOk result (λ x. x.regs.pc < 2 ^ 18) }
-    ensures put { IfOk result (λ x. IsPutBelow (2 ^ 18) x.put) }
+    ensures end { IfOk result (λ x. IsEnding x) }
     ensures told { (d : DrumWords) → P.means.fits pages.now d → Stands fork (P.means.plain pages.now d) taken.old
         → Ends fork (P.means.plain pages.now d) regs.now.ac taken.old taken.new (loads_byte regs.now ac pointer) result }
 {
@@ -69,8 +68,7 @@ fn deposit_byte<P: Pages>(
     requires is_open { IsOpen taken.old }
     requires kept { IsPutBelow (2 ^ 18) taken.old.kept }
     ensures kept { taken.new.kept ≡ taken.old.kept }
-    ensures pc { IfOk result (λ x. x.regs.pc < 2 ^ 18) }
-    ensures put { IfOk result (λ x. IsPutBelow (2 ^ 18) x.put) }
+    ensures end { IfOk result (λ x. IsEnding x) }
     ensures told { (d : DrumWords) → P.means.fits pages.now d → Stands fork (P.means.plain pages.now d) taken.old
         → Ends fork (P.means.plain pages.now d) regs.now.ac taken.old taken.new (deposits_byte regs.now ac pointer) result }
 {
@@ -109,8 +107,7 @@ pub fn byte_instruction<P: Pages>(
     requires is_open { IsOpen taken.old }
     requires kept { IsPutBelow (2 ^ 18) taken.old.kept }
     ensures kept { taken.new.kept ≡ taken.old.kept }
-    ensures pc { IfOk result (λ x. x.regs.pc < 2 ^ 18) }
-    ensures put { IfOk result (λ x. IsPutBelow (2 ^ 18) x.put) }
+    ensures end { IfOk result (λ x. IsEnding x) }
     ensures told { (d : DrumWords) → P.means.fits pages.now d → Stands fork (P.means.plain pages.now d) taken.old
         → Ends fork (P.means.plain pages.now d) regs.now.ac taken.old taken.new (does_pointer code regs.now ac e) result }
 {

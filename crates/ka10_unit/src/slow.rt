@@ -1,5 +1,6 @@
 // One unit by its plan.
-ghost use Rattle.std.specs.Prelude.{◌<◌, ◌+◌, ◌^◌};
+ghost use Rattle.std.specs.Prelude.{◌≡◌, ◌<◌, ◌+◌, ◌^◌, length};
+ghost use Rattle.plain_model.specs.declared.names.TheConstants.{ACCUMULATORS};
 ghost use Rattle.ka10_unit.specs.Carrying.{Slowly};
 ghost use Rattle.ka10_unit.specs.Gathers.{Serves};
 
@@ -20,6 +21,12 @@ pub enum Outcome {
     Call(u32),
 }
 
+/// Registers have their accumulators. It does nothing when it runs.
+#[inline(always)]
+fn have_accumulators(regs: Regs)
+    ensures { length regs.ac ≡ ACCUMULATORS }
+{}
+
 /// Does the unit of the instruction at the program counter: any word whatever. What is taken before is
 /// forgotten.
 pub fn slow_unit<P: Pages>(
@@ -33,6 +40,7 @@ pub fn slow_unit<P: Pages>(
     requires serial { P.means.serial pages.old fork.tty + 17 < 2 ^ 63 }
     ensures { Slowly P.means fork pages.old pages.new regs.old regs.new result }
 {
+    have_accumulators(*regs);
     match plan(taken, regs, pages, fork) {
         Planned::Trap(channel) => Outcome::Trap(channel),
         Planned::Call(number) => Outcome::Call(number),
