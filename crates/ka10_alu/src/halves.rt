@@ -1,6 +1,6 @@
 // Halfword moves.
-ghost use Rattle.std.specs.Prelude.{◌≡◌, ◌/◌, ◌%◌, ◌<◌, ◌^◌, ◌==◌};
-ghost use Rattle.word36.specs.Halves.{IsHalfwordMove, half_moved, half_of, other_half};
+ghost use Rattle.std.specs.Prelude.{◌≡◌, ◌<◌, ◌^◌};
+ghost use Rattle.word36.specs.Halves.{IsHalfwordMove, half_of, other_half};
 
 use word36::Word;
 use word36::opcodes::HLL;
@@ -22,13 +22,17 @@ fn other(letter: u16, old: u32, moved: u32) -> u32
     }
 }
 
-/// One of the sixteen moves. To the right half go those from 8 on; the source's half has the same
-/// letter where the number is even; its next two bits are the third letter.
+/// The result of HLL to HLRE, opcodes 500 to 577, whatever their mode (PDP-10 handbook, "Half word
+/// data transmission"): the first letter names the source's half, the second the destination's;
+/// the destination's other half stays, or becomes 0, all ones, or copies of the moved half's
+/// leftmost bit.
 #[inline(always)]
-fn half_by(code: u16, source: Word, dest: Word) -> Word
-    requires { code < 16 }
-    ensures { result ≡ half_moved (code / 8 == code % 2) (code / 8 == 0) (code / 2 % 4) source dest }
+#[tactic(auto, unfolding(word36::specs::Halves::half_of))]
+pub fn half(op: u16, source: Word, dest: Word) -> Word
+    requires { IsHalfwordMove op }
+    ensures { result ≡ half_of op source dest }
 {
+    let code = (op - HLL) / 4;
     let to_left = code < 8;
     let from_left = to_left == (code % 2 == 0);
     let moved = if from_left {
@@ -41,37 +45,6 @@ fn half_by(code: u16, source: Word, dest: Word) -> Word
         Word::join(moved, other(letter, dest.right(), moved))
     } else {
         Word::join(other(letter, dest.left(), moved), moved)
-    }
-}
-
-/// The result of HLL to HLRE, opcodes 500 to 577, whatever their mode (PDP-10 handbook, "Half word
-/// data transmission"): the first letter names the source's half, the second the destination's;
-/// the destination's other half stays, or becomes 0, all ones, or copies of the moved half's
-/// leftmost bit.
-#[inline(always)]
-#[tactic(auto, unfolding(word36::specs::Halves::half_of))]
-pub fn half(op: u16, source: Word, dest: Word) -> Word
-    requires { IsHalfwordMove op }
-    ensures { result ≡ half_of op source dest }
-{
-    // One by one, so that of each move only its own halves are computed.
-    match (op - HLL) / 4 {
-        0 => half_by(0, source, dest),
-        1 => half_by(1, source, dest),
-        2 => half_by(2, source, dest),
-        3 => half_by(3, source, dest),
-        4 => half_by(4, source, dest),
-        5 => half_by(5, source, dest),
-        6 => half_by(6, source, dest),
-        7 => half_by(7, source, dest),
-        8 => half_by(8, source, dest),
-        9 => half_by(9, source, dest),
-        10 => half_by(10, source, dest),
-        11 => half_by(11, source, dest),
-        12 => half_by(12, source, dest),
-        13 => half_by(13, source, dest),
-        14 => half_by(14, source, dest),
-        _ => half_by(15, source, dest),
     }
 }
 
