@@ -8,6 +8,7 @@ mod bytes;
 mod commit;
 mod committed;
 mod conditions;
+mod instructions;
 mod jumps;
 mod moves;
 mod operands;
@@ -25,6 +26,10 @@ pub use bytes::{
 pub use commit::commit_row;
 pub use committed::{Committed, Post};
 pub use conditions::{commit_compare, commit_count, commit_jump_or_skip};
+pub use instructions::{
+    AddOne, Aobj, Blt, Boolean, Commit, Compare, Exch, Half, Jfcl, Jffo, Jrst, JsaJra, JsrJsp,
+    JumpSkip, Move, Operation, Popj, PushPop, Pushj, Shift, SubOne, Test,
+};
 pub use jumps::{
     commit_aobj, commit_jfcl, commit_jffo, commit_jrst, commit_jsa_or_jra, commit_jsr_or_jsp,
 };
