@@ -43,7 +43,25 @@ pub fn boolean(op: u16, a: Word, m: Word) -> Word
     requires { IsBoolean op }
     ensures { result ≡ boolean_of op a m }
 {
-    boolean_by((op - SETZ) / 4, a, m)
+    // One by one, so that of each function only its own bits are computed.
+    match (op - SETZ) / 4 {
+        0 => boolean_by(0, a, m),
+        1 => boolean_by(1, a, m),
+        2 => boolean_by(2, a, m),
+        3 => boolean_by(3, a, m),
+        4 => boolean_by(4, a, m),
+        5 => boolean_by(5, a, m),
+        6 => boolean_by(6, a, m),
+        7 => boolean_by(7, a, m),
+        8 => boolean_by(8, a, m),
+        9 => boolean_by(9, a, m),
+        10 => boolean_by(10, a, m),
+        11 => boolean_by(11, a, m),
+        12 => boolean_by(12, a, m),
+        13 => boolean_by(13, a, m),
+        14 => boolean_by(14, a, m),
+        _ => boolean_by(15, a, m),
+    }
 }
 
 #[cfg(test)]

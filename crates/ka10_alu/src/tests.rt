@@ -38,11 +38,11 @@ pub fn test(op: u16, a: Word, mask: Word) -> (Word, bool)
     ensures word { result.0 ≡ tested op a mask }
     ensures skips { result.1 ≡ test_skips op a mask }
 {
-    let function = match (op - TRN) / 0o20 {
-        0 => SETA,
-        1 => ANDCM,
-        2 => XOR,
-        _ => IOR,
+    let word = match (op - TRN) / 0o20 {
+        0 => boolean(SETA, a, mask),
+        1 => boolean(ANDCM, a, mask),
+        2 => boolean(XOR, a, mask),
+        _ => boolean(IOR, a, mask),
     };
     let none = is_clear(a, mask);
     let skips = match op % 8 / 2 {
@@ -51,7 +51,7 @@ pub fn test(op: u16, a: Word, mask: Word) -> (Word, bool)
         2 => true,
         _ => !none,
     };
-    (boolean(function, a, mask), skips)
+    (word, skips)
 }
 
 #[cfg(test)]

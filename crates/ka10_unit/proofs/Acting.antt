@@ -1,6 +1,5 @@
 -- The acts are those of the opcodes, computed over all 512.
 use Rattle.std.proofs.Common.{◌≡◌, ℕ, zero, suc, ◌+◌, ◌<◌, List, [], ◌∷◌, length, get_or, refl, sym, ◌∙◌, ap, subst, arith}
-use Rattle.ka10_table.specs.declared.families.TableRow.{TableRow}
 use Rattle.ka10_table.specs.Rows.{row_among, row_of, rows_from}
 use Rattle.ka10_unit.specs.declared.acts.Act.{Act}
 use Rattle.ka10_unit.specs.declared.acts.TheConstants.{ACTS}

@@ -1,5 +1,5 @@
 -- Which instruction is done for an opcode.
-use Rattle.std.specs.Prelude.{ℕ, ◌+◌, ◌*◌, ◌/◌, ◌%◌, List, [], ◌∷◌}
+use Rattle.std.specs.Prelude.{◌≡◌, ◌⊎◌, ℕ, ◌+◌, ◌*◌, ◌/◌, ◌%◌, List, [], ◌∷◌}
 use Rattle.ka10_table.specs.declared.families.Family.{Family}
 use Rattle.ka10_table.specs.declared.families.Family.TheVariants as family
 use Rattle.ka10_table.specs.declared.families.OpMode.{OpMode}
@@ -25,6 +25,13 @@ one op f mode code = record { op = op; row = record { family = f; mode = mode; c
 -- one of a family in a mode, else as it is
 abbrev pub any : Family → OpMode → Instruction → Instruction
 any f mode i = one i.op f mode i.row.code
+
+-- the families of the operations of two words, and those of the shifts
+abbrev pub IsOperation : Family → Type 0
+IsOperation f = (f ≡ family.Imul) ⊎ (f ≡ family.Mul) ⊎ (f ≡ family.Idiv) ⊎ (f ≡ family.Div) ⊎ (f ≡ family.AddSub)
+
+abbrev pub IsShiftOfWords : Family → Type 0
+IsShiftOfWords f = (f ≡ family.Shift) ⊎ (f ≡ family.DoubleShift)
 
 -- the instruction of an act; what an act doesn't tell is that of a given instruction, to which it is equal where the act is
 -- the act of its opcode

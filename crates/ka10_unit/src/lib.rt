@@ -12,6 +12,7 @@ mod committed;
 mod conditions;
 mod ending;
 mod gather;
+mod instructions;
 mod jumps;
 mod moves;
 mod operands;
@@ -36,6 +37,10 @@ pub use committed::{Committed, Post};
 pub use conditions::{commit_compare, commit_count, commit_jump_or_skip};
 pub use ending::Ending;
 pub use gather::{Added, Asking, Gather, MOST_MAKINGS};
+pub use instructions::{
+    AddOne, Aobj, Blt, Boolean, Commit, Compare, Exch, Half, Jfcl, Jffo, Jrst, JsaJra, JsrJsp,
+    JumpSkip, Move, Operation, Popj, PushPop, Pushj, Shift, SubOne, Test,
+};
 pub use jumps::{
     commit_aobj, commit_jfcl, commit_jffo, commit_jrst, commit_jsa_or_jra, commit_jsr_or_jsp,
 };

@@ -1,4 +1,4 @@
-use Rattle.std.proofs.Common.{◌≡◌, ℕ, ◌⊎◌, inl, inr, subst, sym}
+use Rattle.std.proofs.Common.{◌≡◌, ℕ, inl, inr, subst, sym}
 use Rattle.word36.specs.Arithmetic.{arithmetic}
 use Rattle.word36.specs.Boolean.{boolean_of}
 use Rattle.ka10_table.specs.declared.families.Family.{Family}
