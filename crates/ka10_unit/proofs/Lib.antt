@@ -6,7 +6,7 @@ pub mod Adding
 pub mod Referring
 pub mod Seeing
 pub mod Leading
-pub mod Finishing
+pub mod UnitEnds
 pub mod Blocks
 pub mod Parts
 pub mod Stepping

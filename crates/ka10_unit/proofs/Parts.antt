@@ -12,7 +12,7 @@ use Rattle.ka10_table.specs.declared.families.TableRow.{TableRow}
 use Rattle.ka10_unit.specs.declared.committed.Committed.{Committed}
 use Rattle.ka10_unit.specs.declared.operands.Destination.{Destination}
 use Rattle.ka10_unit.specs.declared.operands.Destination.TheVariants.{Nowhere, Back}
-use Rattle.ka10_unit.specs.declared.ending.Ending.{Ending}
+use Rattle.ka10_unit.specs.declared.ends.Ending.{Ending}
 use Rattle.ka10_unit.specs.declared.taken.Taken.{Taken}
 use Rattle.ka10_unit.specs.declared.taken.Trap.{Trap}
 use Rattle.ka10_unit.specs.Commits.{Leaves, stored_word, store_at}

@@ -14,7 +14,7 @@ use Rattle.plain_model.specs.Steps.{Steps, refers, keeps, traps, calls, run, pla
 use Rattle.plain_model.specs.Addressing.{opcode, ac_field}
 use Rattle.plain_model.specs.Instructions.{execute, executes, does, instruction, local_word, LOCAL_CALL, LOCAL_HANDLER}
 use Rattle.ka10_unit.specs.declared.addresses.Address.{Address}
-use Rattle.ka10_unit.specs.declared.ending.Ending.{Ending}
+use Rattle.ka10_unit.specs.declared.ends.Ending.{Ending}
 use Rattle.ka10_unit.specs.declared.plans.Next.{Next}
 use Rattle.ka10_unit.specs.declared.plans.Step.{Step}
 use Rattle.ka10_unit.specs.declared.plans.Step.TheVariants as step

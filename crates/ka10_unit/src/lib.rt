@@ -10,7 +10,7 @@ mod carry;
 mod commit;
 mod committed;
 mod conditions;
-mod ending;
+mod ends;
 mod gather;
 mod instructions;
 mod jumps;
@@ -35,7 +35,7 @@ pub use bytes::{
 pub use commit::commit_row;
 pub use committed::{Committed, Post};
 pub use conditions::{commit_compare, commit_count, commit_jump_or_skip};
-pub use ending::Ending;
+pub use ends::Ending;
 pub use gather::{Added, Asking, Gather, MOST_MAKINGS};
 pub use instructions::{
     AddOne, Aobj, Blt, Boolean, Commit, Compare, Exch, Half, Jfcl, Jffo, Jrst, JsaJra, JsrJsp,

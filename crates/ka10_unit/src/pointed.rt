@@ -12,7 +12,7 @@ use crate::bytes::{
     ByteStep, byte_step, commit_deposit, commit_first_part, commit_increment, commit_load,
     forget_first_part,
 };
-use crate::ending::{Ending, finish};
+use crate::ends::{Ending, finish};
 use crate::operands::Destination;
 use crate::taken::{Taken, Trap, refer};
 use plain_model::{ForkName, Kind, Pages, Regs};

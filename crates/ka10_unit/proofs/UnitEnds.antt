@@ -14,7 +14,7 @@ use Rattle.plain_model.specs.Deeds.{Deed, Store, nowhere, back, into, before, be
 use Rattle.plain_model.specs.Instructions.{takes, with_word, with_deed, storing, storing_first, finishes, finishes_by}
 use Rattle.ka10_unit.specs.declared.committed.Post.{Post}
 use Rattle.ka10_unit.specs.declared.operands.Destination.{Destination}
-use Rattle.ka10_unit.specs.declared.ending.Ending.{Ending}
+use Rattle.ka10_unit.specs.declared.ends.Ending.{Ending}
 use Rattle.ka10_unit.specs.declared.taken.Taken.{Taken}
 use Rattle.ka10_unit.specs.declared.taken.Trap.{Trap}
 use Rattle.ka10_unit.specs.Commits.{channel_of, store_at}

@@ -1,6 +1,6 @@
 use Rattle.std.proofs.lemmas.Result.{err_from_is_err_and}
 use Rattle.ka10_unit.proofs.Parts.{does_stops, does_ends, done_row}
-use Rattle.ka10_unit.proofs.ending.ordinary.Goals as goal
+use Rattle.ka10_unit.proofs.ends.ordinary.Goals as goal
 
 pub returns-in_err-m-clause-told : goal.returns-in_err-m-clause-told
 returns-in_err-m-clause-told g c d fits stands =

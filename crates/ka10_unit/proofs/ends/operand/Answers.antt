@@ -1,5 +1,5 @@
-use Rattle.ka10_unit.proofs.Finishing.{takes_none, takes_some}
-use Rattle.ka10_unit.proofs.ending.operand.Goals as goal
+use Rattle.ka10_unit.proofs.UnitEnds.{takes_none, takes_some}
+use Rattle.ka10_unit.proofs.ends.operand.Goals as goal
 
 pub returns-in-None-clause-told : goal.returns-in-None-clause-told
 returns-in-None-clause-told g c d fits stands = rw c.in-None.is (takes_none _ _ _ c.args.taken.now c.args.e _ stands c.join.ensures)
