@@ -7,3 +7,15 @@ pub mod Placing
 pub mod IndirectWords
 pub mod Units
 pub mod BurstLemmas
+pub mod Singles
+pub mod Growing
+pub mod Adding
+pub mod Referring
+pub mod Seeing
+pub mod Leading
+pub mod UnitEnds
+pub mod Blocks
+pub mod Parts
+pub mod Stepping
+pub mod Carried
+pub mod InARow

@@ -5,8 +5,8 @@ use Rattle.std.specs.declared.cmp.Ordering.{Ordering}
 use Rattle.plain_model.specs.declared.names.ForkName.{ForkName}
 use Rattle.plain_model.specs.declared.fork.Regs.{Regs}
 use Rattle.plain_model.specs.State.{PlainPages}
-use Rattle.plain_model.specs.Steps.{Planned, Progress, done, stopped, call, run, begun, plainly, pages_left}
-use Rattle.plain_model.specs.Instructions.{instruction}
+use Rattle.plain_model.specs.Steps.{Planned, done, stopped, call, pages_left}
+use Rattle.plain_model.specs.Unit.{unit_on}
 
 -- what a unit leaves that goes through: the pages, the registers, and a channel that it posts
 pub record After {K : Type 0} (file_cmp : K → K → Ordering) : Type 0 where
@@ -15,11 +15,7 @@ pub record After {K : Type 0} (file_cmp : K → K → Ordering) : Type 0 where
   pub post : Option ℕ
 
 module _ {K : Type 0} {file_cmp : K → K → Ordering} where
-  -- what a unit comes to, on these pages and registers of a fork
-  abbrev pub unit_on : ForkName → PlainPages file_cmp → Regs → Planned file_cmp ⊥
-  unit_on f p regs = run (plainly f) f (instruction regs) (begun p regs.ac)
-
-  -- what it leaves, if it goes through
+  -- what a unit leaves, if it goes through
   abbrev pub went_through : ForkName → Planned file_cmp ⊥ → Option (After file_cmp)
   went_through f (done t e) = Some (record { pages = pages_left f t e; regs = e.regs; post = e.post })
   went_through f (stopped why) = None

@@ -4,29 +4,39 @@
 #![tactic(auto)]
 
 mod acts;
+mod addresses;
 mod addressing;
 mod bursts;
 mod bytes;
+mod carry;
 mod commit;
 mod committed;
 mod conditions;
 mod dispatch;
 mod ending;
+mod ends;
+mod gather;
 mod in_place;
 mod instruction;
 mod instructions;
 mod jumps;
+mod laws;
 mod moves;
 mod operands;
 mod operations;
+mod plans;
+mod pointed;
 mod program_words;
 mod registers;
+mod slow;
 mod spots;
 mod stacks;
+mod taken;
 mod ways;
 mod words;
 
 pub use acts::{Act, act_at};
+pub use addresses::{Address, address_of};
 pub use bursts::burst;
 pub use bytes::{
     ByteStep, byte_step, commit_deposit, commit_first_part, commit_increment, commit_load,
@@ -36,6 +46,8 @@ pub use commit::commit_row;
 pub use committed::{Committed, Post};
 pub use conditions::{commit_compare, commit_count, commit_jump_or_skip};
 pub use ending::{Burst, End, Quick};
+pub use ends::Ending;
+pub use gather::{Added, Asking, Gather, MOST_MAKINGS};
 pub use in_place::quick;
 pub use instructions::{
     AddOne, Aobj, Blt, Boolean, Commit, Compare, Exch, Half, Jfcl, Jffo, Jrst, JsaJra, JsrJsp,
@@ -44,11 +56,18 @@ pub use instructions::{
 pub use jumps::{
     commit_aobj, commit_jfcl, commit_jffo, commit_jrst, commit_jsa_or_jra, commit_jsr_or_jsp,
 };
+pub use laws::{
+    blocks_are_copied, blocks_move_by_words, exchanged_words_change_places, pushed_calls_return,
+    pushed_words_come_back, stored_calls_return, vectors_are_gone_over,
+};
 pub use moves::commit_move;
 pub use operands::{Destination, destination_of, operand_address};
 pub use operations::{commit_operation, commit_shift};
+pub use plans::{Planned, plan};
 pub use program_words::{flags_of, half_of_flags, pc_word};
+pub use slow::{Outcome, slow_unit};
 pub use stacks::{commit_popj, commit_push_or_pop, commit_pushj, pushed};
+pub use taken::{Taken, Trap};
 pub use words::{commit_blt, commit_boolean, commit_exch, commit_half, commit_test};
 
 #[cfg(test)]

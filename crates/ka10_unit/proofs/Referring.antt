@@ -1,0 +1,107 @@
+-- The page of an address asked for.
+use Rattle.std.proofs.Common.{◌≡◌, ℕ, ◌+◌, ◌-◌, ◌/◌, ◌<◌, ◌≤◌, Bool, true, false, cond, List, [], ◌∷◌, ◌++◌, length, Option, None, Some, refl, sym, ◌∙◌, ap, subst, arith, length-append}
+use Rattle.std.specs.Prelude.{⊤, Result, Ok, Err, nat_le, slice_set}
+use Rattle.std.proofs.lemmas.Bool.Decides.{nat_tests}
+use Rattle.std.specs.Ordering.{nat_cmp}
+use Rattle.plain_model.specs.declared.names.ForkName.{ForkName}
+use Rattle.plain_model.specs.declared.names.Kind.{Kind}
+use Rattle.plain_model.specs.declared.names.Kind.TheVariants.{Write}
+use Rattle.plain_model.specs.State.{NumberedPages}
+use Rattle.plain_model.specs.References.{Referred, granted, denied, full, makings, in_map, slot_at}
+use Rattle.plain_model.specs.Pages.{IsOwner, AreSingle}
+use Rattle.plain_model.specs.Whole.{AreWhole}
+use Rattle.plain_model.specs.Steps.{is_accumulator, plainly, plain_asked, goes, Asked, Progress, refers, referred, run, widened, word_taken}
+use Rattle.plain_model.specs.declared.channel.TheConstants.{ILLEGAL_INSTRUCTION}
+use Rattle.plain_model.specs.declared.unit.Put.{Put}
+use Rattle.ka10_unit.specs.declared.taken.Taken.{Taken}
+use Rattle.ka10_unit.specs.declared.taken.Trap.{Trap}
+use Rattle.ka10_unit.specs.declared.gather.Asking.{Asking}
+use Rattle.ka10_unit.specs.declared.gather.Added.TheVariants.{Went}
+use Rattle.ka10_unit.specs.Gathers.{asked_for, left_by, added_by, after_all, all_make, AddsTo}
+use Rattle.ka10_unit.specs.Taking.{AsksAt, CanPut, Follows, IsOpenAt, Stands, pages_so_far, progress, widened_by}
+use Rattle.ka10_unit.proofs.Adding.{went_gone}
+
+-- it goes through
+pub asks_high : (f : ForkName) → IsOwner f.tty → (p : NumberedPages) → AreWhole p → AreSingle p.maps → (old new : List Asking) → all_make f p old ≡ true → (at : ℕ) (kind : Kind) (x : ⊤) → is_accumulator at ≡ false
+    → AddsTo f p old new (record { page = at / 512; kind = kind }) Went → AsksAt f p old new at kind (Ok x)
+asks_high f own p whole single old new all at kind x high a =
+    let r : Asking = record { page = at / 512; kind = kind } in
+    let q : NumberedPages = after_all f p old in
+    let gone = went_gone f own p whole single old all r new a in
+    record {
+      all = a.all;
+      is = ap (λ b. cond b (goes q) (plainly f q (slot_at f at) kind)) high ∙ granted_goes (asked_for f q r) a.is (after_all f p new) a.leaves;
+      page = λ y is low. gone.page;
+      open_at = λ y is writes low. ap (λ k. makings (after_all f p new) (in_map (slot_at f at)) k) (sym writes) ∙ gone.again;
+      still = λ b h. gone.still (slot_at f b) h;
+    }
+  where
+    granted_goes : (x : Referred nat_cmp) → Went ≡ added_by x → (y : NumberedPages) → y ≡ left_by (after_all f p old) x → plain_asked x ≡ goes y
+    granted_goes (granted z) h y is = ap goes (sym is)
+    granted_goes (denied kind) h y is = absurd (cc h)
+    granted_goes full h y is = absurd (cc h)
+
+-- ---- one reference of a unit
+
+at_least : (m n : ℕ) → m ≤ n → nat_le m n ≡ true
+at_least m n h = grind (arith, nat_tests)
+
+at_most : (m n : ℕ) → n < m → nat_le m n ≡ false
+at_most m n h = grind (arith, nat_tests)
+
+-- a word that is kept can be stored still
+put_still : (f : ForkName) (q q' : NumberedPages) (kept : Option Put) → ((a : ℕ) → IsOpenAt f q a → IsOpenAt f q' a) → CanPut f q kept → CanPut f q' kept
+put_still f q q' None still h = tt
+put_still f q q' (Some put) still h = still put.at h
+
+module _ (f : ForkName) (p : NumberedPages) (ac : List ℕ) where
+  stands_still : (t new : Taken) (at : ℕ) (kind : Kind) (result : Result ⊤ Trap) → Stands f p t → AsksAt f p t.gather new.gather at kind result → new.kept ≡ t.kept → Stands f p new
+  stands_still t new at kind result s asked kept = record { all = asked.all; kept = rw kept (put_still f (pages_so_far f p t) (pages_so_far f p new) t.kept asked.still s.kept) }
+
+  -- the 17th
+  pub refer_full : (t : Taken) (at : ℕ) (kind : Kind) → Stands f p t → 16 ≤ length t.refs.items → Follows f p ac t t (refers at kind) (Err (record { channel = ILLEGAL_INSTRUCTION }))
+  unfolding run
+  refer_full t at kind s most = record { stands = s; runs = λ next. rw (at_least 16 (length t.refs.items) most) refl }
+
+  -- a reference that stops the unit
+  pub refer_stops : (t new : Taken) (at : ℕ) (kind : Kind) (stop : Trap) → Stands f p t → length t.refs.items < 16 → AsksAt f p t.gather new.gather at kind (Err stop) → new.kept ≡ t.kept → Follows f p ac t new (refers at kind) (Err stop)
+  unfolding run
+  refer_stops t new at kind stop s room asked kept = record { stands = stands_still t new at kind (Err stop) s asked kept; runs = λ next. rw (at_most 16 (length t.refs.items) room, asked.is) refl }
+
+  -- a reference that goes through
+  pub refer_goes : (t new : Taken) (at w : ℕ) (kind : Kind) (x : ⊤) → Stands f p t → length t.refs.items < 16 → AsksAt f p t.gather new.gather at kind (Ok x) → new.refs.items ≡ t.refs.items ++ record { address = at; kind = kind } ∷ [] → new.kept ≡ t.kept
+      → w ≡ word_taken f (progress f p ac new) at → Follows f p ac t new (refers at kind) (Ok w)
+  unfolding run
+  refer_goes t new at w kind x s room asked refs kept word =
+      let now : progress f p ac new ≡ referred (progress f p ac t) at kind (pages_so_far f p new) = rw (refs, kept) refl in
+      let there : w ≡ word_taken f (referred (progress f p ac t) at kind (pages_so_far f p new)) at = word ∙ ap (λ (y : Progress nat_cmp). word_taken f y at) now in
+      record { stands = stands_still t new at kind (Ok x) s asked kept; runs = λ next. rw (at_most 16 (length t.refs.items) room, asked.is, there, now) refl }
+
+  pub widen_stops : (t new : Taken) (at : ℕ) (stop : Trap) → Stands f p t → AsksAt f p t.gather new.gather at Write (Err stop) → new.kept ≡ t.kept → Follows f p ac t new (widened_by at) (Err stop)
+  unfolding run
+  widen_stops t new at stop s asked kept = record { stands = stands_still t new at Write (Err stop) s asked kept; runs = λ next. rw asked.is refl }
+
+  pub widen_goes : (t new : Taken) (at : ℕ) (x y : ⊤) → Stands f p t → AsksAt f p t.gather new.gather at Write (Ok y) → new.refs.items ≡ slice_set t.refs.items (length t.refs.items - 1) (record { address = at; kind = Write }) → new.kept ≡ t.kept
+      → Follows f p ac t new (widened_by at) (Ok x)
+  unfolding run
+  widen_goes t new at x y s asked refs kept =
+      let now : progress f p ac new ≡ widened (progress f p ac t) at (pages_so_far f p new) = rw (refs, kept) refl in
+      record { stands = stands_still t new at Write (Ok y) s asked kept; runs = λ next. rw (asked.is, now) refl }
+
+-- the last item of a list replaced
+last_set : {A : Type 0} (xs : List A) (x y : A) → slice_set (xs ++ x ∷ []) (length (xs ++ x ∷ []) - 1) y ≡ xs ++ y ∷ []
+last_set xs x y = ap (λ n. slice_set (xs ++ x ∷ []) n y) (by (length-append xs (x ∷ []))) ∙ at xs
+  where
+    by : length (xs ++ x ∷ []) ≡ length xs + 1 → length (xs ++ x ∷ []) - 1 ≡ length xs
+    by h = omega arith
+
+    at : (ys : List _) → slice_set (ys ++ x ∷ []) (length ys) y ≡ ys ++ y ∷ []
+    at [] = refl
+    at (z ∷ ys) = ap (λ zs. z ∷ zs) (at ys)
+
+pub last_replaced : {A : Type 0} (old rest new : List A) (x y : A) → old ≡ rest ++ x ∷ [] → new ≡ rest ++ y ∷ [] → new ≡ slice_set old (length old - 1) y
+last_replaced old rest new x y was is = is ∙ sym (last_set rest x y) ∙ ap (λ xs. slice_set xs (length xs - 1) y) (sym was)
+
+pub none_replaced : {A : Type 0} (old new : List A) (y : A) → (0 < length old → ⊥) → old ≡ new → new ≡ slice_set old (length old - 1) y
+none_replaced [] new y none same = sym same
+none_replaced (x ∷ xs) new y none same = absurd (none (omega arith))

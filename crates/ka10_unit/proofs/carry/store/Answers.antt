@@ -1,0 +1,18 @@
+use Rattle.std.proofs.Common.{◌≡◌, inl, refl, ◌∙◌, sym, subst}
+use Rattle.plain_model.specs.State.{NumberedPages}
+use Rattle.plain_model.specs.declared.names.Kind.TheVariants.{Write}
+use Rattle.plain_model.specs.References.{in_map, slot_at}
+use Rattle.ka10_unit.specs.Taking.{CanPut}
+use Rattle.ka10_unit.proofs.Carried.{ready_found}
+use Rattle.ka10_unit.proofs.carry.store.Goals as goal
+
+pub returns-in_default-touch : goal.returns-in_default-touch
+returns-in_default-touch g c = record {
+  told = λ d fits can.
+      let p : NumberedPages = g.P.Pages.means.plain c.args.pages.now d in
+      let touched = rw c.page_of_address-at.ensures at (c.touch.ensures.told d c.args.fork.tty fits (inl c.requires.serves.terminal)) in
+      let open_at = rw c.in-Some.is at can in
+      absurd (c.in_default-touch.not-Ready (ready_found p (g.P.Pages.means.scene c.args.pages.now) (in_map (slot_at c.args.fork c.in-Some.put.at)) Write c.args.fork.tty c.touch.result touched (c.touch.ensures.core c.requires.serves.flat) open_at));
+  fits = λ d fits. fits;
+  stays = record { touched = refl; scene = refl; space = refl; place = refl; lives = refl; forks = refl; serials = refl; most = refl };
+}

@@ -1,0 +1,27 @@
+use Rattle.std.proofs.Common.{◌<◌, arith}
+use Rattle.ka10_unit.proofs.Stepping.{out_of_words, word_stops, word_calls, word_ends, word_goes}
+use Rattle.ka10_unit.proofs.plans.+follow.Goals as goal
+
+pub returns-then-left-eq0-clause-told : goal.returns-then-left-eq0-clause-told
+returns-then-left-eq0-clause-told g t c d fits stands = out_of_words _ _ c.args.regs.now _ c.args.left c.args.word c.args.is_local c.if-left-eq0.true stands
+
+pub returns-in-Err-clause-told : goal.returns-in-Err-clause-told
+returns-in-Err-clause-told g t c d fits stands =
+    let more : 0 < c.args.left = omega arith in
+    word_stops _ _ c.args.regs.now _ _ c.args.left c.args.word c.args.is_local more c.in-Err.trap (c.in-Err.ensures.told d fits stands)
+
+pub returns-in-Ok-Calls-clause-told : goal.returns-in-Ok-Calls-clause-told
+returns-in-Ok-Calls-clause-told g t c d fits stands =
+    let more : 0 < c.args.left = omega arith in
+    word_calls _ _ c.args.regs.now _ _ c.args.left c.args.word c.args.is_local more c.in-Ok-Calls.number (rw c.in-Ok-Calls.field-0-is at (c.in-Ok-Calls.ensures.told d fits stands))
+
+pub returns-in-Ok-Ends-clause-told : goal.returns-in-Ok-Ends-clause-told
+returns-in-Ok-Ends-clause-told g t c d fits stands =
+    let more : 0 < c.args.left = omega arith in
+    word_ends _ _ c.args.regs.now _ _ c.args.left c.args.word c.args.is_local more c.in-Ok-Ends.ending (rw c.in-Ok-Ends.field-0-is at (c.in-Ok-Ends.ensures.told d fits stands))
+
+pub returns-in-Ok-Goes-clause-told : goal.returns-in-Ok-Goes-clause-told
+returns-in-Ok-Goes-clause-told g t c d fits stands =
+    let more : 0 < c.args.left = omega arith in
+    let here = rw c.in-Ok-Goes.field-0-is at (c.in-Ok-Goes.ensures.told d fits stands) in
+    word_goes _ _ c.args.regs.now _ _ c.args.left c.args.word c.args.is_local more _ c.in-Ok-Goes.next _ here (c.follow.ensures.told d fits here.stands)

@@ -1,0 +1,10 @@
+use Rattle.ka10_unit.proofs.Stepping.{steps_stop, steps_on}
+use Rattle.plain_model.specs.declared.names.Kind.TheVariants.{Execute}
+use Rattle.plain_model.specs.Steps.{refers}
+use Rattle.ka10_unit.proofs.plans.go_on.Goals as goal
+
+pub returns-in-Err-clause-told : goal.returns-in-Err-clause-told
+returns-in-Err-clause-told g c d fits stands = steps_stop _ _ _ _ _ (refers c.args.at Execute) (λ next. next c.args.is_local) _ (c.in-Err.ensures.told d fits stands)
+
+pub returns-in-Ok-clause-told : goal.returns-in-Ok-clause-told
+returns-in-Ok-clause-told g c d fits stands = steps_on _ _ _ _ _ c.args.at c.in-Ok.word c.args.is_local (c.in-Ok.ensures.told d fits stands)

@@ -1,0 +1,39 @@
+use Rattle.std.proofs.Common.{◌≡◌, ◌∙◌, ap, sym, refl, arith, rules, Some}
+use Rattle.plain_model.specs.State.{NumberedPages}
+use Rattle.ka10_unit.specs.Commits.{channel_of}
+use Rattle.ka10_unit.specs.Once.{once, went_through}
+use Rattle.ka10_unit.proofs.Carried.{grows_none, grows_within}
+use Rattle.ka10_unit.proofs.slow.slow_unit.Goals as goal
+
+pub returns-in-Trap : goal.returns-in-Trap
+returns-in-Trap g c = record {
+  told = λ d fits. (fits, (c.in-Trap.ensures.told d fits).is);
+  stopped = (refl, refl);
+  grows = grows_within g.P.Pages.means c.args.fork.tty 0 17 _ _ (omega arith) (grows_none g.P.Pages.means c.args.fork.tty _);
+  pc = c.requires.pc;
+  number = tt;
+  accumulators = refl;
+}
+
+pub returns-in-Call : goal.returns-in-Call
+returns-in-Call g c = record {
+  told = λ d fits. (fits, (c.in-Call.ensures.told d fits).is);
+  stopped = (refl, refl);
+  grows = grows_within g.P.Pages.means c.args.fork.tty 0 17 _ _ (omega arith) (grows_none g.P.Pages.means c.args.fork.tty _);
+  pc = c.requires.pc;
+  number = c.in-Call.ensures.bounds;
+  accumulators = refl;
+}
+
+pub returns-in-Do : goal.returns-in-Do
+unfolding once
+returns-in-Do g c = record {
+  told = λ d fits.
+      let planned = c.in-Do.ensures.told d fits in
+      (c.carry.ensures.fits d fits, ap (went_through c.args.fork) planned.is ∙ ap (λ (q : NumberedPages). Some (record { pages = q; regs = c.in-Do.ending.regs; post = channel_of c.in-Do.ending.post })) (sym (c.carry.ensures.told d fits planned.stands planned.put)));
+  stopped = tt;
+  grows = c.carry.ensures.grows;
+  pc = c.in-Do.ensures.bounds.0.pc;
+  number = tt;
+  accumulators = c.in-Do.ensures.bounds.0.accumulators ∙ sym c.have_accumulators.ensures;
+}

@@ -1,0 +1,82 @@
+-- What instructions do in a row, in the words of their users.
+use Rattle.std.specs.Prelude.{◌≡◌, ◌≢◌, ◌⊎◌, ℕ, zero, suc, ◌+◌, ◌-◌, ◌*◌, ◌/◌, ◌%◌, ◌^◌, ◌<◌, ◌≤◌, Bool, true, false, ◌==◌, if◌then◌else◌, Option, None, Some, List}
+use Rattle.word36.specs.Words.{left, right, joined, is_negative}
+use Rattle.ka10_table.specs.declared.families.Family.TheVariants.{Exch, Blt, PushPop, Popj}
+use Rattle.ka10_table.specs.declared.families.OpMode.TheVariants.{Basic}
+use Rattle.plain_model.specs.declared.fork.Regs.{Regs}
+use Rattle.plain_model.specs.Addressing.{is_indirect, indexed}
+use Rattle.plain_model.specs.Deeds.{Deed, back, into, before, next_pc, pc_word, up, down, halves_up, exchanges, moves_block, calls_by_push, pushes_or_pops, returns_by_pop, calls_by_word, taken_by}
+
+-- EXCH: the accumulator gets the word at E, which gets the accumulator's
+pub record ChangePlaces (regs : Regs) (ac a e m : ℕ) : Type 0 where
+  pub taken : taken_by Exch Basic 0 a e ≡ Some e
+  pub accumulator : (exchanges regs a e m).ac ≡ Some m
+  pub memory : (exchanges regs a e m).store ≡ back e a
+
+-- POP behind PUSH: it takes the word from where PUSH stored it, and leaves the list pointer as it was
+pub record ComesBack (pushed popped : Regs) (a e m to : ℕ) : Type 0 where
+  pub pointer : ℕ
+  pub grows : (pushes_or_pops 0 pushed a e m).ac ≡ Some pointer
+  pub stores : (pushes_or_pops 0 pushed a e m).store ≡ into (right pointer) m
+  pub takes : taken_by PushPop Basic 1 pointer to ≡ Some (right pointer)
+  pub shrinks : (pushes_or_pops 1 popped pointer to m).ac ≡ Some a
+  pub gives : (pushes_or_pops 1 popped pointer to m).store ≡ into to m
+
+-- POPJ behind PUSHJ: it goes on behind the PUSHJ, and leaves the list pointer as it was
+pub record ReturnsByPop (calling returning : Regs) (a e : ℕ) : Type 0 where
+  pub pointer : ℕ
+  pub goes : (calls_by_push calling a e).pc ≡ e
+  pub grows : (calls_by_push calling a e).ac ≡ Some pointer
+  pub stores : (calls_by_push calling a e).store ≡ into (right pointer) (pc_word calling)
+  pub takes : taken_by Popj Basic 0 pointer e ≡ Some (right pointer)
+  pub comes : (returns_by_pop returning pointer (pc_word calling)).pc ≡ next_pc calling
+  pub shrinks : (returns_by_pop returning pointer (pc_word calling)).ac ≡ Some a
+
+-- the word that JSR stores at E is neither indirect nor indexed, and an indirect jump through it goes on behind the JSR
+pub record ReturnsByWord (calling : Regs) (ac : List ℕ) (e : ℕ) : Type 0 where
+  pub goes : (calls_by_word 0 calling e).pc ≡ (e + 1) % 2 ^ 18
+  pub stores : (calls_by_word 0 calling e).store ≡ into e (pc_word calling)
+  pub direct : is_indirect (pc_word calling) ≡ false
+  pub comes : indexed ac (pc_word calling) ≡ next_pc calling
+
+-- a word to both halves of which 1 was added so many times
+unfoldable pub ups : ℕ → ℕ → ℕ
+ups zero a = a
+ups (suc n) a = up (ups n a)
+
+-- a vector of so many words from an address on: the count, negated, and the address
+abbrev pub vector : ℕ → ℕ → ℕ
+vector n first = joined (2 ^ 18 - n) first
+
+-- AOBJN over a vector: while words are left the result is negative, and its right half is the next one's address
+pub record GoesOver (n first : ℕ) : Type 0 where
+  pub each : (k : ℕ) → k < n → ups k (vector n first) ≡ joined (2 ^ 18 - n + k) (first + k)
+  pub negative : (k : ℕ) → k < n → is_negative (ups k (vector n first)) ≡ true
+  pub last : ups n (vector n first) ≡ first + n
+  pub ends : is_negative (ups n (vector n first)) ≡ false
+
+-- words by address, and the accumulator of a BLT over them
+pub record Moving : Type 0 where
+  pub pointer : ℕ
+  pub words : ℕ → ℕ
+
+-- a unit of a BLT whose words are none of the accumulators
+abbrev pub moved_one : Moving → Moving
+moved_one t = record { pointer = halves_up t.pointer; words = λ x. if x == right t.pointer then t.words (left t.pointer) else t.words x }
+
+unfoldable pub moved : ℕ → Moving → Moving
+moved zero t = t
+moved (suc n) t = moved_one (moved n t)
+
+-- a unit of BLT is one of these: it takes, stores and counts so, and is done again while it stores below E
+pub record MovesOne (regs : Regs) (ac a e m : ℕ) : Type 0 where
+  pub takes : taken_by Blt Basic 0 a e ≡ Some (left a)
+  pub stores : (moves_block regs ac a e m).store ≡ before (right a) m
+  pub counts : right a ≢ ac → (moves_block regs ac a e m).ac ≡ Some (halves_up a)
+  pub again : right a < e → (moves_block regs ac a e m).pc ≡ regs.pc
+  pub over : e ≤ right a → (moves_block regs ac a e m).pc ≡ next_pc regs
+
+-- so many units of it copy as many words, where no word copied is one of those stored before
+pub record CopiesBlock (n from to : ℕ) (words : ℕ → ℕ) : Type 0 where
+  pub copied : (i : ℕ) → i < n → (moved n (record { pointer = joined from to; words = words })).words (to + i) ≡ words (from + i)
+  pub others : (x : ℕ) → (x < to) ⊎ (to + n ≤ x) → (moved n (record { pointer = joined from to; words = words })).words x ≡ words x

@@ -1,0 +1,155 @@
+-- The parts of a unit, as the calls do them that plan it.
+use Rattle.std.specs.Prelude.{◌≡◌, ℕ, zero, suc, ◌<◌, ◌^◌, Bool, true, false, if◌then◌else◌, Option, None, Some, List, [], length, Result, Ok, Err, IsSome}
+use Rattle.std.specs.Ordering.{nat_cmp}
+use Rattle.ka10_table.specs.declared.families.Family.{Family}
+use Rattle.ka10_table.specs.declared.families.Family.TheVariants as family
+use Rattle.ka10_table.specs.declared.families.TableRow.{TableRow}
+use Rattle.plain_model.specs.declared.channel.TheConstants.{ILLEGAL_INSTRUCTION}
+use Rattle.plain_model.specs.declared.names.TheConstants.{ACCUMULATORS}
+use Rattle.plain_model.specs.declared.names.ForkName.{ForkName}
+use Rattle.plain_model.specs.declared.names.Kind.TheVariants.{Execute, Write}
+use Rattle.plain_model.specs.declared.fork.Regs.{Regs}
+use Rattle.plain_model.specs.declared.unit.Put.{Put}
+use Rattle.plain_model.specs.State.{NumberedPages}
+use Rattle.plain_model.specs.Steps.{Steps, Ending as End, refers, keeps, traps, calls, trap, done, stopped, call, run, plainly}
+use Rattle.plain_model.specs.Addressing.{opcode, ac_field, address, address_within}
+use Rattle.plain_model.specs.Deeds.{Deed, before}
+use Rattle.plain_model.specs.Instructions.{does, does_pointer, is_executive, local_word, LOCAL_CALL, LOCAL_HANDLER}
+use Rattle.ka10_unit.specs.declared.addresses.Address.{Address}
+use Rattle.ka10_unit.specs.declared.committed.Committed.{Committed}
+use Rattle.ka10_unit.specs.declared.operands.Destination.{Destination}
+use Rattle.ka10_unit.specs.declared.ends.Ending.{Ending}
+use Rattle.ka10_unit.specs.declared.plans.Next.{Next}
+use Rattle.ka10_unit.specs.declared.plans.Step.{Step}
+use Rattle.ka10_unit.specs.declared.plans.Step.TheVariants as step
+use Rattle.ka10_unit.specs.declared.plans.Planned.{Planned}
+use Rattle.ka10_unit.specs.declared.plans.Planned.TheVariants as planned
+use Rattle.ka10_unit.specs.declared.taken.Taken.{Taken}
+use Rattle.ka10_unit.specs.declared.taken.Trap.{Trap}
+use Rattle.plain_model.specs.Unit.{unit_on}
+use Rattle.ka10_unit.specs.Commits.{Leaves, channel_of, store_at}
+use Rattle.ka10_unit.specs.Taking.{CanPut, IsOpen, IsPutBelow, Plan, Stands, pages_so_far, progress}
+
+-- an effective address, with so many words at most, and with any
+abbrev pub reached_within : ℕ → List ℕ → ℕ → (Address → Steps) → Steps
+reached_within n ac w next = address_within n ac w (λ e last. next (record { at = e; last = last }))
+
+abbrev pub reached : List ℕ → ℕ → (Address → Steps) → Steps
+reached ac w next = address ac w (λ e last. next (record { at = e; last = last }))
+
+-- the same unit is left behind a part that was done as behind the whole
+pub record Leads {A : Type 0} (f : ForkName) (p : NumberedPages) (ac : List ℕ) (old new : Taken) (whole left : (A → Steps) → Steps) : Type 0 where
+  pub stands : Stands f p new
+  pub runs : (next : A → Steps) → run (plainly f) f (whole next) (progress f p ac old) ≡ run (plainly f) f (left next) (progress f p ac new)
+
+-- the end of a unit, with the channel of its post
+abbrev pub end_of : Ending → End
+end_of x = record { regs = x.regs; put = x.put; post = channel_of x.post }
+
+-- a unit that ended, or stopped
+abbrev pub ended : ForkName → NumberedPages → List ℕ → Taken → Result Ending Trap → Plan
+ended f p ac t (Ok x) = done (progress f p ac t) (end_of x)
+ended f p ac t (Err e) = stopped (trap e.channel)
+
+-- the last word of an end can be stored
+abbrev pub CanEnd : ForkName → NumberedPages → Result Ending Trap → Type 0
+CanEnd f p (Ok x) = CanPut f p x.put
+CanEnd f p (Err e) = Unit {0}
+
+-- a call that ends a unit
+pub record Ends (f : ForkName) (p : NumberedPages) (ac : List ℕ) (old new : Taken) (left : Steps) (result : Result Ending Trap) : Type 0 where
+  pub stands : Stands f p new
+  pub put : CanEnd f (pages_so_far f p new) result
+  pub runs : run (plainly f) f left (progress f p ac old) ≡ ended f p ac new result
+
+-- a deed is done on the registers before it, and its word goes to a destination; a word that is stored before the accumulators are
+-- written comes with a word for its own accumulator, and none for the next
+pub record IsDone (d : Deed) (n : ℕ) (old new : Regs) (to : Destination) (told : Committed) : Type 0 where
+  pub leaves : Leaves d n old new told
+  pub store : store_at to told.stored ≡ d.store
+  pub block : (at w : ℕ) → d.store ≡ before at w → (d.next ≡ None) × ((a : ℕ) × (d.ac ≡ Some a))
+
+-- a word that is illegal before its address is taken: no instruction, a monitor call behind a local call, and JRST of the executive
+abbrev pub is_illegal : Family → Bool → ℕ → Bool
+is_illegal family.Illegal is_local ac = true
+is_illegal family.Monitor is_local ac = is_local
+is_illegal family.Jrst is_local ac = is_executive ac
+is_illegal f is_local ac = false
+
+-- a local call stores at 40 and goes on at 41
+abbrev pub calls_local : ℕ → ℕ → (Bool → ℕ → Steps) → Steps
+calls_local w e next = refers LOCAL_CALL Write (λ v. keeps LOCAL_CALL (local_word w e) (refers LOCAL_HANDLER Execute (next true)))
+
+-- what an instruction does with its address
+abbrev pub does_at : Family → TableRow → Bool → Regs → ℕ → Address → (Bool → ℕ → Steps) → Steps
+does_at family.Monitor row is_local regs w a next = calls a.at
+does_at family.Xct row is_local regs w a next = refers a.at Execute (next is_local)
+does_at family.Local row is_local regs w a next = calls_local w a.at next
+does_at family.ByteOp row is_local regs w a next = does_pointer row.code regs (ac_field w) a.at
+does_at f row is_local regs w a next = does row (opcode w) regs (ac_field w) a.at a.last
+
+-- what one word of a unit comes to
+abbrev pub stepped : ForkName → NumberedPages → List ℕ → Taken → Result Step Trap → (Bool → ℕ → Plan) → Plan
+stepped f p ac t (Ok (step.Goes n)) next = next n.is_local n.word
+stepped f p ac t (Ok (step.Ends x)) next = done (progress f p ac t) (end_of x)
+stepped f p ac t (Ok (step.Calls n)) next = call n
+stepped f p ac t (Err e) next = stopped (trap e.channel)
+
+abbrev pub CanStep : ForkName → NumberedPages → Result Step Trap → Type 0
+CanStep f p (Ok (step.Ends x)) = CanPut f p x.put
+CanStep f p result = Unit {0}
+
+-- a call that does one word of a unit: it ends the unit, or goes on with the word of an XCT or a local call
+pub record StepsOn (f : ForkName) (p : NumberedPages) (ac : List ℕ) (old new : Taken) (left : (Bool → ℕ → Steps) → Steps) (result : Result Step Trap) : Type 0 where
+  pub stands : Stands f p new
+  pub put : CanStep f (pages_so_far f p new) result
+  pub runs : (next : Bool → ℕ → Steps) → run (plainly f) f (left next) (progress f p ac old) ≡ stepped f p ac new result (λ l v. run (plainly f) f (next l v) (progress f p ac new))
+
+-- what a plan says
+abbrev pub planned_as : ForkName → NumberedPages → List ℕ → Taken → Planned → Plan
+planned_as f p ac t (planned.Do x) = done (progress f p ac t) (end_of x)
+planned_as f p ac t (planned.Trap channel) = stopped (trap channel)
+planned_as f p ac t (planned.Call number) = call number
+
+abbrev pub CanDo : ForkName → NumberedPages → Planned → Type 0
+CanDo f p (planned.Do x) = CanPut f p x.put
+CanDo f p (planned.Trap channel) = Unit {0}
+CanDo f p (planned.Call number) = Unit {0}
+
+-- what was planned is what is left of a unit
+pub record Concludes (f : ForkName) (p : NumberedPages) (ac : List ℕ) (old new : Taken) (left : Steps) (result : Planned) : Type 0 where
+  pub stands : Stands f p new
+  pub put : CanDo f (pages_so_far f p new) result
+  pub runs : run (plainly f) f left (progress f p ac old) ≡ planned_as f p ac new result
+
+-- a plan is what the whole unit comes to, and it can be carried out
+pub record Plans (f : ForkName) (p : NumberedPages) (regs : Regs) (t : Taken) (result : Planned) : Type 0 where
+  pub stands : Stands f p t
+  pub put : CanDo f (pages_so_far f p t) result
+  pub is : unit_on f p regs ≡ planned_as f p regs.ac t result
+
+-- an end is of the machine: its registers, and the address of its last word
+pub record IsEnding (x : Ending) : Type 0 where
+  pub pc : x.regs.pc < 2 ^ 18
+  pub accumulators : length x.regs.ac ≡ ACCUMULATORS
+  pub put : IsPutBelow (2 ^ 18) x.put
+
+abbrev pub IsEnd : Ending → Taken → Type 0
+IsEnd x t = IsEnding x × IsPutBelow (2 ^ 18) t.kept
+
+-- a step that goes on leaves a unit that is open
+abbrev pub IsStep : Result Step Trap → Taken → Type 0
+IsStep (Ok (step.Goes n)) t = IsOpen t × IsPutBelow (2 ^ 18) t.kept
+IsStep (Ok (step.Ends x)) t = IsEnd x t
+IsStep (Ok (step.Calls n)) t = n < 2 ^ 18
+IsStep (Err e) t = Unit {0}
+
+abbrev pub IsPlan : Planned → Taken → Type 0
+IsPlan (planned.Do x) t = IsEnd x t
+IsPlan (planned.Trap channel) t = Unit {0}
+IsPlan (planned.Call number) t = number < 2 ^ 18
+
+-- a call that ended a unit is a step that ends it
+abbrev pub as_step : Result Ending Trap → Result Step Trap
+as_step (Ok x) = Ok (step.Ends x)
+as_step (Err e) = Err e

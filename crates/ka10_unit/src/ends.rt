@@ -1,0 +1,189 @@
+// The end of a unit: the operand of its instruction, and the word that it stores.
+ghost use Rattle.std.specs.Prelude.{◌≡◌, ◌<◌, ◌^◌, ℕ, IfOk, IfSome, None};
+ghost use Rattle.plain_model.specs.declared.fork.Regs.{Regs as ARegs};
+ghost use Rattle.plain_model.specs.Deeds.{Deed};
+ghost use Rattle.plain_model.specs.Instructions.{does, finishes, storing, takes};
+ghost use Rattle.ka10_table.specs.Rows.{IsInLine};
+ghost use Rattle.plain_model.specs.Limits.{IsAddress};
+ghost use Rattle.plain_model.specs.Outcome.{DrumWords};
+ghost use Rattle.ka10_unit.specs.Commits.{LiesBelow, channel_of};
+ghost use Rattle.ka10_unit.specs.Gathers.{Serves};
+ghost use Rattle.ka10_unit.specs.Planning.{Ends, IsDone, IsEnding, end_of};
+ghost use Rattle.ka10_unit.specs.Taking.{Follows, IsOpen, IsPutBelow, Stands};
+
+use crate::addresses::Address;
+use crate::commit::commit_row;
+use crate::committed::{Committed, Post};
+use crate::operands::{Destination, destination_of, operand_address};
+use crate::taken::{Taken, Trap, refer, widen};
+use ka10_table::TableRow;
+use plain_model::{ACCUMULATORS, ForkName, Kind, Pages, Put, Regs};
+use word36::Word;
+
+/// How a unit ends that goes through: its registers, the word that it stores last, and its post.
+#[derive(Clone, Copy, Debug, PartialEq, Eq)]
+pub struct Ending {
+    pub regs: Regs,
+    pub put: Option<Put>,
+    pub post: Post,
+}
+
+/// The word at an address, or 0,,E.
+pub fn operand<P: Pages>(
+    taken: &mut Taken,
+    regs: &Regs,
+    pages: &P,
+    fork: ForkName,
+    at: Option<u32>,
+    e: u32,
+) -> Result<Word, Trap>
+    requires serves { Serves P.means pages.now fork }
+    requires at { IfSome at (λ a. IsAddress a) }
+    requires e { IsAddress e }
+    requires is_open { IsOpen taken.old }
+    requires kept { IsPutBelow (2 ^ 18) taken.old.kept }
+    ensures is_open { IsOpen taken.new }
+    ensures kept { taken.new.kept ≡ taken.old.kept }
+    ensures told { (d : DrumWords) → P.means.fits pages.now d → Stands fork (P.means.plain pages.now d) taken.old
+        → Follows fork (P.means.plain pages.now d) regs.now.ac taken.old taken.new (takes at e) result }
+{
+    match at {
+        None => Ok(Word::join(0, e)),
+        Some(at) => refer(taken, regs, pages, fork, at, Kind::Read),
+    }
+}
+
+/// The end of a unit that stores nothing more.
+fn end_with(regs: Regs, post: Post) -> Ending
+    requires { regs.pc < 2 ^ 18 }
+    ensures end { IsEnding result }
+    ensures regs { result.regs ≡ regs }
+    ensures put { result.put ≡ None }
+    ensures post { result.post ≡ post }
+{
+    Ending {
+        regs,
+        put: None,
+        post,
+    }
+}
+
+/// The end of a unit that stores a word last; low addresses are the accumulators.
+fn end_storing(regs: Regs, at: u32, word: Word, post: Post) -> Ending
+    requires at { IsAddress at }
+    requires pc { regs.pc < 2 ^ 18 }
+    ensures is { end_of result ≡ storing regs at word (channel_of post) }
+    ensures end { IsEnding result }
+{
+    if at < ACCUMULATORS {
+        let mut after = regs;
+        after.ac[at as usize] = word;
+        return end_with(after, post);
+    }
+    Ending {
+        regs,
+        put: Some(Put { at, word }),
+        post,
+    }
+}
+
+/// What is left of a unit once its instruction is committed on its registers: the word that it stores
+/// is asked for.
+pub fn finish<P: Pages>(
+    taken: &mut Taken,
+    regs: &Regs,
+    pages: &P,
+    fork: ForkName,
+    after: Regs,
+    ac: u8,
+    to: Destination,
+    told: Committed,
+) -> Result<Ending, Trap>
+    requires serves { Serves P.means pages.now fork }
+    requires to { LiesBelow (2 ^ 18) to }
+    requires ac { ac < 16 }
+    requires pc { after.pc < 2 ^ 18 }
+    requires is_open { IsOpen taken.old }
+    requires kept { IsPutBelow (2 ^ 18) taken.old.kept }
+    ensures kept { taken.new.kept ≡ taken.old.kept }
+    ensures end { IfOk result (λ x. IsEnding x) }
+    ensures told { (d : DrumWords) (deed : Deed) (old : ARegs) → P.means.fits pages.now d → Stands fork (P.means.plain pages.now d) taken.old → IsDone deed ac old after to told
+        → Ends fork (P.means.plain pages.now d) regs.now.ac taken.old taken.new (finishes old ac deed) result }
+{
+    let Some(word) = told.stored else {
+        return Ok(end_with(after, told.post));
+    };
+    match to {
+        Destination::Nowhere => Ok(end_with(after, told.post)),
+        Destination::Back(at) => {
+            widen(taken, regs, pages, fork, at)?;
+            Ok(end_storing(after, at, word, told.post))
+        }
+        Destination::Into(at) => {
+            refer(taken, regs, pages, fork, at, Kind::Write)?;
+            Ok(end_storing(after, at, word, told.post))
+        }
+        Destination::Before(at) => {
+            refer(taken, regs, pages, fork, at, Kind::Write)?;
+            if at == u32::from(ac) {
+                return Ok(end_with(after, told.post));
+            }
+            Ok(end_storing(after, at, word, told.post))
+        }
+    }
+}
+
+/// The instruction of a row, with its opcode and its effective address: it takes its operand, is
+/// committed on a copy of the registers, and its word is asked for.
+pub fn ordinary<P: Pages>(
+    taken: &mut Taken,
+    regs: &Regs,
+    pages: &P,
+    fork: ForkName,
+    row: TableRow,
+    op: u16,
+    ac: u8,
+    e: &Address,
+) -> Result<Ending, Trap>
+    requires serves { Serves P.means pages.now fork }
+    requires line { IsInLine op row }
+    requires ac { ac < 16 }
+    requires e { e.now.at < 2 ^ 18 }
+    requires pc { regs.now.pc < 2 ^ 18 }
+    requires is_open { IsOpen taken.old }
+    requires kept { IsPutBelow (2 ^ 18) taken.old.kept }
+    ensures kept { taken.new.kept ≡ taken.old.kept }
+    ensures end { IfOk result (λ x. IsEnding x) }
+    ensures told { (d : DrumWords) → P.means.fits pages.now d → Stands fork (P.means.plain pages.now d) taken.old
+        → Ends fork (P.means.plain pages.now d) regs.now.ac taken.old taken.new (does row op regs.now ac e.now.at e.now.last) result }
+{
+    let at = operand_address(row, regs, ac, e.at);
+    let m = operand(taken, regs, pages, fork, at, e.at)?;
+    let to = destination_of(row, regs, ac, e.at);
+    let mut after = *regs;
+    let told = commit_row(row, op, &mut after, ac, e.at, e.last, m);
+    finish(taken, regs, pages, fork, after, ac, to, told)
+}
+
+#[cfg(test)]
+mod tests {
+    use super::*;
+    use word36::Flags;
+
+    // The word 77 stored last: at an address below 20 (octal) it goes to that accumulator.
+    #[test]
+    fn words_stored_last(rt: HostRuntime) {
+        for (at, ac3, put) in [(0o3, 0o77, None), (0o17, 0, None), (0o20, 0, Some(0o20))] {
+            assert!(rt; at < 0o1000000);
+            let regs = Regs {
+                ac: [Word::ZERO; 16],
+                pc: 0o100,
+                flags: Flags::CLEAR,
+            };
+            let end = end_storing(regs, at, Word::wrapped(0o77), Post::Overflow);
+            assert_eq!(rt; end.regs.ac[3].value(), ac3, "at {at}");
+            assert_eq!(rt; end.put.map(|put| put.at), put, "at {at}");
+            assert_eq!(rt; end.post, Post::Overflow);
+        }
+    }
+}

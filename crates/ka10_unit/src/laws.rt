@@ -1,0 +1,41 @@
+// What follows from the definitions of instructions, in the words of their users. A law does nothing
+// when it runs.
+ghost use Rattle.std.specs.Prelude.{◌≡◌, ◌⊎◌, ℕ, ◌+◌, ◌*◌, ◌<◌, ◌≤◌, ◌^◌, List};
+ghost use Rattle.word36.specs.Words.{IsWord};
+ghost use Rattle.plain_model.specs.declared.fork.Regs.{Regs as ARegs};
+ghost use Rattle.ka10_unit.specs.Laws.{ChangePlaces, ComesBack, CopiesBlock, GoesOver, MovesOne, ReturnsByPop, ReturnsByWord};
+
+/// EXCH: the accumulator and the word at E change places.
+pub fn exchanged_words_change_places()
+    ensures { (regs : ARegs) (ac a e m : ℕ) → ChangePlaces regs ac a e m }
+{}
+
+/// What PUSH put onto a list POP takes from there, and the list's pointer is as it was.
+pub fn pushed_words_come_back()
+    ensures { (pushed popped : ARegs) (a e m to : ℕ) → IsWord a → ComesBack pushed popped a e m to }
+{}
+
+/// POPJ goes on behind the PUSHJ by which it was reached, and the list's pointer is as it was.
+pub fn pushed_calls_return()
+    ensures { (calling returning : ARegs) (a e : ℕ) → IsWord a → ReturnsByPop calling returning a e }
+{}
+
+/// A jump through the word that JSR stored goes on behind the JSR.
+pub fn stored_calls_return()
+    ensures { (calling : ARegs) (ac : List ℕ) (e : ℕ) → ReturnsByWord calling ac e }
+{}
+
+/// AOBJN goes over the words of a vector, one after another, and ends behind the last.
+pub fn vectors_are_gone_over()
+    ensures { (n first : ℕ) → 1 ≤ n → n ≤ 2 ^ 17 → first + n < 2 ^ 18 → GoesOver n first }
+{}
+
+/// BLT moves one word a unit.
+pub fn blocks_move_by_words()
+    ensures { (regs : ARegs) (ac a e m : ℕ) → MovesOne regs ac a e m }
+{}
+
+/// As many units of BLT copy as many words, where source and destination do not overlap.
+pub fn blocks_are_copied()
+    ensures { (n from to : ℕ) (words : ℕ → ℕ) → from + n < 2 ^ 18 → to + n < 2 ^ 18 → (from + n ≤ to) ⊎ (to + n ≤ from) → CopiesBlock n from to words }
+{}

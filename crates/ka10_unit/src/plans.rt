@@ -1,0 +1,341 @@
+// A unit planned: any word whatever, on pages that it leaves as they are.
+ghost use Rattle.std.specs.Prelude.{◌≡◌, ◌<◌, ◌^◌, IfOk};
+ghost use Rattle.ka10_table.specs.Rows.{IsInLine, row_of};
+ghost use Rattle.plain_model.specs.Addressing.{ac_field, opcode};
+ghost use Rattle.plain_model.specs.Instructions.{execute as executed, executes, is_executive as is_executive_ac, local_word};
+ghost use Rattle.plain_model.specs.Limits.{IsAddress};
+ghost use Rattle.plain_model.specs.Outcome.{DrumWords};
+ghost use Rattle.plain_model.specs.Steps.{refers};
+ghost use Rattle.ka10_unit.specs.Gathers.{Serves};
+ghost use Rattle.ka10_unit.specs.Planning.{Concludes, IsPlan, IsStep, Plans, StepsOn, as_step, calls_local, does_at, is_illegal as is_illegal_word};
+ghost use Rattle.ka10_unit.specs.Taking.{IsOpen, IsPutBelow, Stands};
+
+use crate::addresses::{Address, address_of};
+use crate::ends::{Ending, ordinary};
+use crate::pointed::byte_instruction;
+use crate::taken::{Taken, Trap, refer};
+use ka10_table::{Family, TableRow, row};
+use plain_model::{ForkName, Kind, Pages, Put, Regs};
+use word36::Word;
+
+// Where a local call stores its word, and where the word stands that it executes.
+const LOCAL_CALL: u32 = 0o40;
+
+const LOCAL_HANDLER: u32 = 0o41;
+
+// How many words a unit executes at most: more than it may refer to.
+const MOST_WORDS: u32 = 17;
+
+/// Another word to be executed, behind a local call or not.
+#[derive(Clone, Copy, Debug, PartialEq, Eq)]
+pub struct Next {
+    pub is_local: bool,
+    pub word: Word,
+}
+
+/// What one word of a unit comes to.
+#[derive(Clone, Copy, Debug, PartialEq, Eq)]
+pub enum Step {
+    Goes(Next),
+    Ends(Ending),
+    /// A monitor call, of this number.
+    Calls(u32),
+}
+
+/// What a unit comes to.
+#[derive(Clone, Copy, Debug, PartialEq, Eq)]
+pub enum Planned {
+    /// It goes through: it makes the pages that were gathered, stores the word that was kept, and ends
+    /// so.
+    Do(Ending),
+    /// It traps, with a channel, and changes nothing.
+    Trap(u8),
+    /// It is a monitor call, of this number, and changes nothing yet.
+    Call(u32),
+}
+
+/// The opcode of a word, bits 0 to 8.
+fn opcode_of(word: Word) -> u16
+    ensures value { result ≡ opcode word }
+    ensures below { result < 512 }
+{
+    (word.left() >> 9) as u16
+}
+
+/// AC of a word, bits 9 to 12.
+fn accumulator_of(word: Word) -> u8
+    ensures value { result ≡ ac_field word }
+    ensures below { result < 16 }
+{
+    (word.left() >> 5 & 0o17) as u8
+}
+
+/// AC with bit 4 or bit 10 (octal) makes JRST an instruction of the executive.
+fn is_executive(ac: u8) -> bool
+    requires { ac < 16 }
+    ensures { result ≡ is_executive_ac ac }
+{
+    ac >> 2 & 1 == 1 || ac >> 3 & 1 == 1
+}
+
+/// The word that a local call stores: the opcode and AC of its own, with the address E.
+fn stored_call(word: Word, e: u32) -> Word
+    requires { IsAddress e }
+    ensures { result ≡ local_word word e }
+{
+    Word::join(word.left() >> 5 << 5, e)
+}
+
+/// Takes another word to be executed.
+fn go_on<P: Pages>(
+    taken: &mut Taken,
+    regs: &Regs,
+    pages: &P,
+    fork: ForkName,
+    at: u32,
+    is_local: bool,
+) -> Result<Step, Trap>
+    requires serves { Serves P.means pages.now fork }
+    requires address { IsAddress at }
+    requires is_open { IsOpen taken.old }
+    requires kept { IsPutBelow (2 ^ 18) taken.old.kept }
+    ensures bounds { IsStep result taken.new }
+    ensures told { (d : DrumWords) → P.means.fits pages.now d → Stands fork (P.means.plain pages.now d) taken.old
+        → StepsOn fork (P.means.plain pages.now d) regs.now.ac taken.old taken.new (λ next. refers at Kind.Execute (next is_local)) result }
+{
+    match refer(taken, regs, pages, fork, at, Kind::Execute) {
+        Err(trap) => Err(trap),
+        Ok(word) => Ok(Step::Goes(Next { is_local, word })),
+    }
+}
+
+/// A local call: its word is stored at 40, and the word at 41 is executed.
+fn call_local<P: Pages>(
+    taken: &mut Taken,
+    regs: &Regs,
+    pages: &P,
+    fork: ForkName,
+    word: Word,
+    e: u32,
+) -> Result<Step, Trap>
+    requires serves { Serves P.means pages.now fork }
+    requires e { IsAddress e }
+    requires is_open { IsOpen taken.old }
+    requires kept { IsPutBelow (2 ^ 18) taken.old.kept }
+    ensures bounds { IsStep result taken.new }
+    ensures told { (d : DrumWords) → P.means.fits pages.now d → Stands fork (P.means.plain pages.now d) taken.old
+        → StepsOn fork (P.means.plain pages.now d) regs.now.ac taken.old taken.new (calls_local word e) result }
+{
+    match refer(taken, regs, pages, fork, LOCAL_CALL, Kind::Write) {
+        Err(trap) => Err(trap),
+        Ok(_) => {
+            taken.kept = Some(Put {
+                at: LOCAL_CALL,
+                word: stored_call(word, e),
+            });
+            go_on(taken, regs, pages, fork, LOCAL_HANDLER, true)
+        }
+    }
+}
+
+/// Whether a word is illegal before its address is taken.
+fn is_illegal(family: Family, is_local: bool, ac: u8) -> bool
+    requires { ac < 16 }
+    ensures { result ≡ is_illegal_word family is_local ac }
+{
+    match family {
+        Family::Illegal => true,
+        Family::Monitor => is_local,
+        Family::Jrst => is_executive(ac),
+        _ => false,
+    }
+}
+
+/// How a unit ended, as a step.
+fn ended(end: Result<Ending, Trap>) -> Result<Step, Trap>
+    ensures { result ≡ as_step end }
+{
+    match end {
+        Err(trap) => Err(trap),
+        Ok(ending) => Ok(Step::Ends(ending)),
+    }
+}
+
+/// What an instruction does with its effective address.
+fn do_at<P: Pages>(
+    taken: &mut Taken,
+    regs: &Regs,
+    pages: &P,
+    fork: ForkName,
+    row: TableRow,
+    word: Word,
+    is_local: bool,
+    address: &Address,
+) -> Result<Step, Trap>
+    requires serves { Serves P.means pages.now fork }
+    requires line { IsInLine (opcode word) row }
+    requires pc { regs.now.pc < 2 ^ 18 }
+    requires address { address.now.at < 2 ^ 18 }
+    requires is_open { IsOpen taken.old }
+    requires kept { IsPutBelow (2 ^ 18) taken.old.kept }
+    ensures bounds { IsStep result taken.new }
+    ensures told { (d : DrumWords) → P.means.fits pages.now d → Stands fork (P.means.plain pages.now d) taken.old
+        → StepsOn fork (P.means.plain pages.now d) regs.now.ac taken.old taken.new (does_at row.family row is_local regs.now word address.now) result }
+{
+    let ac = accumulator_of(word);
+    match row.family {
+        Family::Monitor => Ok(Step::Calls(address.at)),
+        Family::Xct => go_on(taken, regs, pages, fork, address.at, is_local),
+        Family::Local => call_local(taken, regs, pages, fork, word, address.at),
+        Family::ByteOp => ended(byte_instruction(
+            taken, regs, pages, fork, row.code, ac, address.at,
+        )),
+        _ => ended(ordinary(taken, regs, pages, fork, row, opcode_of(word), ac, address)),
+    }
+}
+
+/// One word of a unit.
+fn do_word<P: Pages>(
+    taken: &mut Taken,
+    regs: &Regs,
+    pages: &P,
+    fork: ForkName,
+    word: Word,
+    is_local: bool,
+) -> Result<Step, Trap>
+    requires serves { Serves P.means pages.now fork }
+    requires pc { regs.now.pc < 2 ^ 18 }
+    requires is_open { IsOpen taken.old }
+    requires kept { IsPutBelow (2 ^ 18) taken.old.kept }
+    ensures bounds { IsStep result taken.new }
+    ensures told { (d : DrumWords) → P.means.fits pages.now d → Stands fork (P.means.plain pages.now d) taken.old
+        → StepsOn fork (P.means.plain pages.now d) regs.now.ac taken.old taken.new (executes (row_of (opcode word)).family (row_of (opcode word)) is_local regs.now word) result }
+{
+    let row = row(opcode_of(word));
+    if is_illegal(row.family, is_local, accumulator_of(word)) {
+        return Err(Trap::ILLEGAL);
+    }
+    match address_of(taken, regs, pages, fork, word) {
+        Err(trap) => Err(trap),
+        Ok(address) => do_at(taken, regs, pages, fork, row, word, is_local, &address),
+    }
+}
+
+/// Executes a word, and those that it leads to, with so many words at most.
+fn follow<P: Pages>(
+    left: u32,
+    taken: &mut Taken,
+    regs: &Regs,
+    pages: &P,
+    fork: ForkName,
+    word: Word,
+    is_local: bool,
+) -> Planned
+    requires serves { Serves P.means pages.now fork }
+    requires pc { regs.now.pc < 2 ^ 18 }
+    requires is_open { IsOpen taken.old }
+    requires kept { IsPutBelow (2 ^ 18) taken.old.kept }
+    ensures bounds { IsPlan result taken.new }
+    ensures told { (d : DrumWords) → P.means.fits pages.now d → Stands fork (P.means.plain pages.now d) taken.old
+        → Concludes fork (P.means.plain pages.now d) regs.now.ac taken.old taken.new (executed left is_local regs.now word) result }
+{
+    if left == 0 {
+        return Planned::Trap(Trap::ILLEGAL.channel);
+    }
+    match do_word(taken, regs, pages, fork, word, is_local) {
+        Err(trap) => Planned::Trap(trap.channel),
+        Ok(Step::Calls(number)) => Planned::Call(number),
+        Ok(Step::Ends(ending)) => Planned::Do(ending),
+        Ok(Step::Goes(next)) => follow(
+            left - 1,
+            taken,
+            regs,
+            pages,
+            fork,
+            next.word,
+            next.is_local,
+        ),
+    }
+}
+
+/// Plans the unit of the instruction at the program counter: any word whatever. It changes nothing but
+/// what is taken, which is then that of this unit: the pages that it makes, in order, its references,
+/// and the word that it kept.
+pub fn plan<P: Pages>(taken: &mut Taken, regs: &Regs, pages: &P, fork: ForkName) -> Planned
+    requires serves { Serves P.means pages.now fork }
+    requires pc { regs.now.pc < 2 ^ 18 }
+    ensures bounds { IsPlan result taken.new }
+    ensures told { (d : DrumWords) → P.means.fits pages.now d → Plans fork (P.means.plain pages.now d) regs.now taken.new result }
+{
+    taken.restart();
+    match refer(taken, regs, pages, fork, regs.pc, Kind::Execute) {
+        Err(trap) => Planned::Trap(trap.channel),
+        Ok(word) => follow(MOST_WORDS, taken, regs, pages, fork, word, false),
+    }
+}
+
+#[cfg(test)]
+mod tests {
+    use super::*;
+
+    // A word is its opcode, AC, I, X and Y: bits 0 to 8, 9 to 12, 13, 14 to 17 and 18 to 35.
+    #[test]
+    fn fields_of_words(rt: HostRuntime) {
+        for (word, op, ac) in [
+            (0o200040001000, 0o200, 1),
+            (0o254000000100, 0o254, 0),
+            (0o777777777777, 0o777, 0o17),
+            (0o001777000005, 0o001, 0o17),
+            (0o104000000170, 0o104, 0),
+        ] {
+            assert_eq!(rt; opcode_of(Word::wrapped(word)), op, "in {word}");
+            assert_eq!(rt; accumulator_of(Word::wrapped(word)), ac, "in {word}");
+        }
+    }
+
+    // A local call keeps its opcode and AC; I, X and Y become those of its address.
+    #[test]
+    fn words_of_local_calls(rt: HostRuntime) {
+        for (word, e, kept) in [
+            (0o001037000005, 0o5, 0o001000000005),
+            (0o037777777777, 0o123456, 0o037740123456),
+            (0o012340000001, 0, 0o012340000000),
+        ] {
+            assert!(rt; e < 0o1000000);
+            assert_eq!(rt;
+                stored_call(Word::wrapped(word), e).value(),
+                kept,
+                "of {word}"
+            );
+        }
+    }
+
+    // JRST is the executive's with bit 4 or bit 10 (octal) of AC; a monitor call is illegal behind a
+    // local call alone.
+    #[test]
+    fn illegal_words(rt: HostRuntime) {
+        for (op, is_local, ac, illegal) in [
+            (0o000, false, 0, true),
+            (0o040, false, 0, true),
+            (0o700, false, 0, true),
+            (0o001, true, 0, false),
+            (0o104, false, 0, false),
+            (0o104, true, 0, true),
+            (0o200, true, 0o14, false),
+            (0o254, false, 0, false),
+            (0o254, false, 0o3, false),
+            (0o254, false, 0o4, true),
+            (0o254, true, 0o10, true),
+            (0o254, false, 0o17, true),
+            (0o256, true, 0, false),
+        ] {
+            assert!(rt; op < 512);
+            assert!(rt; ac < 16);
+            assert_eq!(rt;
+                is_illegal(row(op).family, is_local, ac),
+                illegal,
+                "at {op}"
+            );
+        }
+    }
+}

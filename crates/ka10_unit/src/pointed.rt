@@ -1,0 +1,155 @@
+// Byte instructions: the pointer, and the word whose byte it names.
+ghost use Rattle.std.specs.Prelude.{◌≡◌, ◌<◌, ◌^◌, IfOk};
+ghost use Rattle.plain_model.specs.Instructions.{deposits_byte, does_pointer, first_part_done, loads_byte};
+ghost use Rattle.plain_model.specs.Limits.{IsAddress};
+ghost use Rattle.plain_model.specs.Outcome.{DrumWords};
+ghost use Rattle.ka10_unit.specs.Gathers.{Serves};
+ghost use Rattle.ka10_unit.specs.Planning.{Ends, IsEnding};
+ghost use Rattle.ka10_unit.specs.Taking.{IsOpen, IsPutBelow, Stands};
+
+use crate::addresses::address_of;
+use crate::bytes::{
+    ByteStep, byte_step, commit_deposit, commit_first_part, commit_increment, commit_load,
+    forget_first_part,
+};
+use crate::ends::{Ending, finish};
+use crate::operands::Destination;
+use crate::taken::{Taken, Trap, refer};
+use plain_model::{ForkName, Kind, Pages, Regs};
+use word36::Word;
+
+/// The byte that a pointer names goes to AC.
+fn load_byte<P: Pages>(
+    taken: &mut Taken,
+    regs: &Regs,
+    pages: &P,
+    fork: ForkName,
+    ac: u8,
+    pointer: Word,
+) -> Result<Ending, Trap>
+    requires serves { Serves P.means pages.now fork }
+    requires ac { ac < 16 }
+    requires pc { regs.now.pc < 2 ^ 18 }
+    requires is_open { IsOpen taken.old }
+    requires kept { IsPutBelow (2 ^ 18) taken.old.kept }
+    ensures kept { taken.new.kept ≡ taken.old.kept }
+    ensures end { IfOk result (λ x. IsEnding x) }
+    ensures told { (d : DrumWords) → P.means.fits pages.now d → Stands fork (P.means.plain pages.now d) taken.old
+        → Ends fork (P.means.plain pages.now d) regs.now.ac taken.old taken.new (loads_byte regs.now ac pointer) result }
+{
+    let address = address_of(taken, regs, pages, fork, pointer)?;
+    let word = refer(taken, regs, pages, fork, address.at, Kind::Read)?;
+    let mut after = *regs;
+    let told = commit_load(&mut after, ac, pointer, word);
+    finish(
+        taken,
+        regs,
+        pages,
+        fork,
+        after,
+        ac,
+        Destination::Nowhere,
+        told,
+    )
+}
+
+/// The low bits of AC go into the word that a pointer names.
+fn deposit_byte<P: Pages>(
+    taken: &mut Taken,
+    regs: &Regs,
+    pages: &P,
+    fork: ForkName,
+    ac: u8,
+    pointer: Word,
+) -> Result<Ending, Trap>
+    requires serves { Serves P.means pages.now fork }
+    requires ac { ac < 16 }
+    requires pc { regs.now.pc < 2 ^ 18 }
+    requires is_open { IsOpen taken.old }
+    requires kept { IsPutBelow (2 ^ 18) taken.old.kept }
+    ensures kept { taken.new.kept ≡ taken.old.kept }
+    ensures end { IfOk result (λ x. IsEnding x) }
+    ensures told { (d : DrumWords) → P.means.fits pages.now d → Stands fork (P.means.plain pages.now d) taken.old
+        → Ends fork (P.means.plain pages.now d) regs.now.ac taken.old taken.new (deposits_byte regs.now ac pointer) result }
+{
+    let address = address_of(taken, regs, pages, fork, pointer)?;
+    let word = refer(taken, regs, pages, fork, address.at, Kind::Read)?;
+    let mut after = *regs;
+    let told = commit_deposit(&mut after, ac, pointer, address.at, word);
+    let to = Destination::Back(address.at);
+    finish(taken, regs, pages, fork, after, ac, to, told)
+}
+
+/// The registers with which the second part of ILDB or IDPB begins.
+fn second_part(regs: &Regs) -> Regs
+    ensures { result ≡ first_part_done regs.now }
+{
+    let mut second = *regs;
+    forget_first_part(&mut second);
+    second
+}
+
+/// A byte instruction, by its code: its pointer stands at an address.
+pub fn byte_instruction<P: Pages>(
+    taken: &mut Taken,
+    regs: &Regs,
+    pages: &P,
+    fork: ForkName,
+    code: u8,
+    ac: u8,
+    e: u32,
+) -> Result<Ending, Trap>
+    requires serves { Serves P.means pages.now fork }
+    requires code { code < 5 }
+    requires ac { ac < 16 }
+    requires e { IsAddress e }
+    requires pc { regs.now.pc < 2 ^ 18 }
+    requires is_open { IsOpen taken.old }
+    requires kept { IsPutBelow (2 ^ 18) taken.old.kept }
+    ensures kept { taken.new.kept ≡ taken.old.kept }
+    ensures end { IfOk result (λ x. IsEnding x) }
+    ensures told { (d : DrumWords) → P.means.fits pages.now d → Stands fork (P.means.plain pages.now d) taken.old
+        → Ends fork (P.means.plain pages.now d) regs.now.ac taken.old taken.new (does_pointer code regs.now ac e) result }
+{
+    let pointer = refer(taken, regs, pages, fork, e, Kind::Read)?;
+    match byte_step(code, regs) {
+        ByteStep::Increment => {
+            let mut after = *regs;
+            let told = commit_increment(&mut after, ac, e, pointer);
+            finish(
+                taken,
+                regs,
+                pages,
+                fork,
+                after,
+                ac,
+                Destination::Back(e),
+                told,
+            )
+        }
+        ByteStep::FirstPart => {
+            let mut after = *regs;
+            let told = commit_first_part(&mut after, ac, e, pointer);
+            finish(
+                taken,
+                regs,
+                pages,
+                fork,
+                after,
+                ac,
+                Destination::Back(e),
+                told,
+            )
+        }
+        ByteStep::Load => load_byte(taken, regs, pages, fork, ac, pointer),
+        ByteStep::Deposit => deposit_byte(taken, regs, pages, fork, ac, pointer),
+        ByteStep::LoadSecond => {
+            let second = second_part(regs);
+            load_byte(taken, &second, pages, fork, ac, pointer)
+        }
+        ByteStep::DepositSecond => {
+            let second = second_part(regs);
+            deposit_byte(taken, &second, pages, fork, ac, pointer)
+        }
+    }
+}

@@ -1,0 +1,53 @@
+// One unit by its plan.
+ghost use Rattle.std.specs.Prelude.{◌≡◌, ◌<◌, ◌+◌, ◌^◌, length};
+ghost use Rattle.plain_model.specs.declared.names.TheConstants.{ACCUMULATORS};
+ghost use Rattle.ka10_unit.specs.Carrying.{Slowly};
+ghost use Rattle.ka10_unit.specs.Gathers.{Serves};
+
+use crate::carry::carry;
+use crate::committed::Post;
+use crate::plans::{Planned, plan};
+use crate::taken::Taken;
+use plain_model::{ForkName, Pages, Regs};
+
+/// How a unit came out.
+#[derive(Clone, Copy, Debug, PartialEq, Eq)]
+pub enum Outcome {
+    /// It went through, and posts this.
+    Done(Post),
+    /// It traps, with a channel, and has changed nothing.
+    Trap(u8),
+    /// It is a monitor call, of this number, and has changed nothing.
+    Call(u32),
+}
+
+/// Registers have their accumulators. It does nothing when it runs.
+#[inline(always)]
+fn have_accumulators(regs: Regs)
+    ensures { length regs.ac ≡ ACCUMULATORS }
+{}
+
+/// Does the unit of the instruction at the program counter: any word whatever. What is taken before is
+/// forgotten.
+pub fn slow_unit<P: Pages>(
+    taken: &mut Taken,
+    regs: &mut Regs,
+    pages: &mut P,
+    fork: ForkName,
+) -> Outcome
+    requires serves { Serves P.means pages.old fork }
+    requires pc { regs.old.pc < 2 ^ 18 }
+    requires serial { P.means.serial pages.old fork.tty + 17 < 2 ^ 63 }
+    ensures { Slowly P.means fork pages.old pages.new regs.old regs.new result }
+{
+    have_accumulators(*regs);
+    match plan(taken, regs, pages, fork) {
+        Planned::Trap(channel) => Outcome::Trap(channel),
+        Planned::Call(number) => Outcome::Call(number),
+        Planned::Do(ending) => {
+            carry(taken, ending.put, pages, fork);
+            *regs = ending.regs;
+            Outcome::Done(ending.post)
+        }
+    }
+}
