@@ -7,3 +7,5 @@ pub mod Placing
 pub mod IndirectWords
 pub mod Units
 pub mod BurstLemmas
+pub mod ByteLemmas
+pub mod BlockLemmas

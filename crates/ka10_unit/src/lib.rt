@@ -5,7 +5,9 @@
 
 mod acts;
 mod addressing;
+mod blocks;
 mod bursts;
+mod byte_units;
 mod bytes;
 mod commit;
 mod committed;
