@@ -19,3 +19,5 @@ pub mod Parts
 pub mod Stepping
 pub mod Carried
 pub mod InARow
+pub mod ByteLemmas
+pub mod BlockLemmas

@@ -37,7 +37,7 @@ use Rattle.ka10_unit.specs.Stores.{IsNowhere, GoesTo, IsOperand}
 use Rattle.ka10_unit.proofs.Finishing.{if_ended, if_more, never_slow, for_all, ends_bare, ends_low, ends_high, takes_none, takes_some, no_word}
 
 -- no accumulator more or less
-length_with : (ac : List ℕ) (i : ℕ) (w : Option ℕ) → length (with_word ac i w) ≡ length ac
+pub length_with : (ac : List ℕ) (i : ℕ) (w : Option ℕ) → length (with_word ac i w) ≡ length ac
 length_with ac i None = refl
 length_with ac i (Some w) = length-set ac i w
 

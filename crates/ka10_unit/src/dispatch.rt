@@ -5,6 +5,8 @@ ghost use Rattle.plain_model.specs.Pages.{HasSpace};
 ghost use Rattle.ka10_unit.specs.InPlace.{Addressee, InPlace};
 
 use crate::acts::{Act, act_at};
+use crate::blocks::move_word;
+use crate::byte_units::byte;
 use crate::ending::Quick;
 use crate::instruction::Instruction;
 use crate::instructions::{
@@ -38,7 +40,8 @@ macro_rules! one {
     };
 }
 
-/// The rest of the unit of an opcode's instruction, behind its effective address.
+/// The rest of the unit of an opcode's instruction, behind its effective address. The instructions
+/// that programs do most are here, so that these are compiled into the loop of a burst.
 #[inline(always)]
 #[rattlefmt::skip]
 pub fn carry<P: Pages>(op: u16, it: Instruction, regs: &mut Regs, pages: &mut P, space: SpaceHandle) -> Quick
@@ -51,53 +54,12 @@ pub fn carry<P: Pages>(op: u16, it: Instruction, regs: &mut Regs, pages: &mut P,
     let e = it.e;
     let code = row(op).code;
     match act_at(op) {
-        Act::Illegal | Act::Local | Act::Jsys | Act::Xct => Quick::Slow,
-        Act::Ibp | Act::Ildb | Act::Ldb | Act::Idpb | Act::Dpb | Act::Blt => Quick::Slow,
         Act::Jrst if is_executive(it.ac) => Quick::Slow,
         Act::Jrst => bare(Jrst, it, regs, pages, space),
         Act::Move => read(one!(Move 0o200 Move Basic 0), it, regs, pages, space, e),
         Act::Movei => bare(one!(Move 0o201 Move Immediate 0), it, regs, pages, space),
         Act::Movem => write(one!(Move 0o202 Move Memory 0), it, regs, pages, space, e),
         Act::Moves => replace(one!(Move 0o203 Move Own 0), it, regs, pages, space),
-        Act::Movs => read(one!(Move 0o204 Move Basic 1), it, regs, pages, space, e),
-        Act::Movsi => bare(one!(Move 0o205 Move Immediate 1), it, regs, pages, space),
-        Act::Movsm => write(one!(Move 0o206 Move Memory 1), it, regs, pages, space, e),
-        Act::Movss => replace(one!(Move 0o207 Move Own 1), it, regs, pages, space),
-        Act::Movn => read(one!(Move 0o210 Move Basic 2), it, regs, pages, space, e),
-        Act::Movni => bare(one!(Move 0o211 Move Immediate 2), it, regs, pages, space),
-        Act::Movnm => write(one!(Move 0o212 Move Memory 2), it, regs, pages, space, e),
-        Act::Movns => replace(one!(Move 0o213 Move Own 2), it, regs, pages, space),
-        Act::Movm => read(one!(Move 0o214 Move Basic 3), it, regs, pages, space, e),
-        Act::Movmi => bare(one!(Move 0o215 Move Immediate 3), it, regs, pages, space),
-        Act::Movmm => write(one!(Move 0o216 Move Memory 3), it, regs, pages, space, e),
-        Act::Movms => replace(one!(Move 0o217 Move Own 3), it, regs, pages, space),
-        Act::Imul => read(one!(Operation 0o220 Imul Basic 0), it, regs, pages, space, e),
-        Act::Imuli => bare(one!(Operation 0o221 Imul Immediate 0), it, regs, pages, space),
-        Act::Imulm => replace(one!(Operation 0o222 Imul Memory 0), it, regs, pages, space),
-        Act::Imulb => replace(one!(Operation 0o223 Imul Both 0), it, regs, pages, space),
-        Act::Mul => read(one!(Operation 0o224 Mul Basic 0), it, regs, pages, space, e),
-        Act::Muli => bare(one!(Operation 0o225 Mul Immediate 0), it, regs, pages, space),
-        Act::Mulm => replace(one!(Operation 0o226 Mul Memory 0), it, regs, pages, space),
-        Act::Mulb => replace(one!(Operation 0o227 Mul Both 0), it, regs, pages, space),
-        Act::Idiv => read(one!(Operation 0o230 Idiv Basic 0), it, regs, pages, space, e),
-        Act::Idivi => bare(one!(Operation 0o231 Idiv Immediate 0), it, regs, pages, space),
-        Act::Idivm => replace(one!(Operation 0o232 Idiv Memory 0), it, regs, pages, space),
-        Act::Idivb => replace(one!(Operation 0o233 Idiv Both 0), it, regs, pages, space),
-        Act::Div => read(one!(Operation 0o234 Div Basic 0), it, regs, pages, space, e),
-        Act::Divi => bare(one!(Operation 0o235 Div Immediate 0), it, regs, pages, space),
-        Act::Divm => replace(one!(Operation 0o236 Div Memory 0), it, regs, pages, space),
-        Act::Divb => replace(one!(Operation 0o237 Div Both 0), it, regs, pages, space),
-        Act::Ash => bare(one!(Shift 0o240 Shift Basic 0), it, regs, pages, space),
-        Act::Rot => bare(one!(Shift 0o241 Shift Basic 1), it, regs, pages, space),
-        Act::Lsh => bare(one!(Shift 0o242 Shift Basic 2), it, regs, pages, space),
-        Act::Jffo => bare(Jffo, it, regs, pages, space),
-        Act::Ashc => bare(one!(Shift 0o244 DoubleShift Basic 0), it, regs, pages, space),
-        Act::Rotc => bare(one!(Shift 0o245 DoubleShift Basic 1), it, regs, pages, space),
-        Act::Lshc => bare(one!(Shift 0o246 DoubleShift Basic 2), it, regs, pages, space),
-        Act::Exch => replace(Exch, it, regs, pages, space),
-        Act::Aobjp => bare(Aobj { code: 0 }, it, regs, pages, space),
-        Act::Aobjn => bare(Aobj { code: 1 }, it, regs, pages, space),
-        Act::Jfcl => bare(Jfcl, it, regs, pages, space),
         Act::Pushj => {
             let to = pushed(regs, ac).right();
             write(Pushj, it, regs, pages, space, to)
@@ -116,13 +78,6 @@ pub fn carry<P: Pages>(op: u16, it: Instruction, regs: &mut Regs, pages: &mut P,
             let from = word_in(regs, ac).right();
             read(Popj, it, regs, pages, space, from)
         }
-        Act::Jsr => write(JsrJsp { code: 0 }, it, regs, pages, space, e),
-        Act::Jsp => bare(JsrJsp { code: 1 }, it, regs, pages, space),
-        Act::Jsa => write(JsaJra { code: 0 }, it, regs, pages, space, e),
-        Act::Jra => {
-            let from = word_in(regs, ac).left();
-            read(JsaJra { code: 1 }, it, regs, pages, space, from)
-        }
         Act::Add => read(one!(Operation 0o270 AddSub Basic 0), it, regs, pages, space, e),
         Act::Addi => bare(one!(Operation 0o271 AddSub Immediate 0), it, regs, pages, space),
         Act::Addm => replace(one!(Operation 0o272 AddSub Memory 0), it, regs, pages, space),
@@ -131,22 +86,6 @@ pub fn carry<P: Pages>(op: u16, it: Instruction, regs: &mut Regs, pages: &mut P,
         Act::Subi => bare(one!(Operation 0o275 AddSub Immediate 1), it, regs, pages, space),
         Act::Subm => replace(one!(Operation 0o276 AddSub Memory 1), it, regs, pages, space),
         Act::Subb => replace(one!(Operation 0o277 AddSub Both 1), it, regs, pages, space),
-        Act::Cai => bare(Compare { code: 0 }, it, regs, pages, space),
-        Act::Cail => bare(Compare { code: 1 }, it, regs, pages, space),
-        Act::Caie => bare(Compare { code: 2 }, it, regs, pages, space),
-        Act::Caile => bare(Compare { code: 3 }, it, regs, pages, space),
-        Act::Caia => bare(Compare { code: 4 }, it, regs, pages, space),
-        Act::Caige => bare(Compare { code: 5 }, it, regs, pages, space),
-        Act::Cain => bare(Compare { code: 6 }, it, regs, pages, space),
-        Act::Caig => bare(Compare { code: 7 }, it, regs, pages, space),
-        Act::Cam => read(Compare { code: 8 }, it, regs, pages, space, e),
-        Act::Caml => read(Compare { code: 9 }, it, regs, pages, space, e),
-        Act::Came => read(Compare { code: 10 }, it, regs, pages, space, e),
-        Act::Camle => read(Compare { code: 11 }, it, regs, pages, space, e),
-        Act::Cama => read(Compare { code: 12 }, it, regs, pages, space, e),
-        Act::Camge => read(Compare { code: 13 }, it, regs, pages, space, e),
-        Act::Camn => read(Compare { code: 14 }, it, regs, pages, space, e),
-        Act::Camg => read(Compare { code: 15 }, it, regs, pages, space, e),
         Act::Jump => bare(JumpSkip { code: 0 }, it, regs, pages, space),
         Act::Jumpl => bare(JumpSkip { code: 1 }, it, regs, pages, space),
         Act::Jumpe => bare(JumpSkip { code: 2 }, it, regs, pages, space),
@@ -205,6 +144,91 @@ pub fn carry<P: Pages>(op: u16, it: Instruction, regs: &mut Regs, pages: &mut P,
         Act::HalfOwn => replace(one!(Half op Half Own code), it, regs, pages, space),
         Act::TestImmediate => bare(one!(Test op Test Basic code / 16 * 16 + code % 8), it, regs, pages, space),
         Act::TestMemory => read(one!(Test op Test Basic code / 16 * 16 + 8 + code % 8), it, regs, pages, space, e),
+        _ => carry_other(op, it, regs, pages, space),
+    }
+}
+
+/// The same of the other instructions.
+#[inline(never)]
+#[rattlefmt::skip]
+fn carry_other<P: Pages>(op: u16, it: Instruction, regs: &mut Regs, pages: &mut P, space: SpaceHandle) -> Quick
+    requires op { op < 512 }
+    requires space { HasSpace P.means pages.old space }
+    requires pc { regs.old.pc < 2 ^ 18 }
+    ensures { InPlace P.means space (Addressee op regs.old it.ac it.e it.last) pages.old pages.new regs.old regs.new result }
+{
+    let ac = it.ac;
+    let e = it.e;
+    match act_at(op) {
+        Act::Ibp => byte(0o133, 0, it, regs, pages, space),
+        Act::Ildb => byte(0o134, 1, it, regs, pages, space),
+        Act::Ldb => byte(0o135, 2, it, regs, pages, space),
+        Act::Idpb => byte(0o136, 3, it, regs, pages, space),
+        Act::Dpb => byte(0o137, 4, it, regs, pages, space),
+        Act::Blt => move_word(it, regs, pages, space),
+        Act::Movs => read(one!(Move 0o204 Move Basic 1), it, regs, pages, space, e),
+        Act::Movsi => bare(one!(Move 0o205 Move Immediate 1), it, regs, pages, space),
+        Act::Movsm => write(one!(Move 0o206 Move Memory 1), it, regs, pages, space, e),
+        Act::Movss => replace(one!(Move 0o207 Move Own 1), it, regs, pages, space),
+        Act::Movn => read(one!(Move 0o210 Move Basic 2), it, regs, pages, space, e),
+        Act::Movni => bare(one!(Move 0o211 Move Immediate 2), it, regs, pages, space),
+        Act::Movnm => write(one!(Move 0o212 Move Memory 2), it, regs, pages, space, e),
+        Act::Movns => replace(one!(Move 0o213 Move Own 2), it, regs, pages, space),
+        Act::Movm => read(one!(Move 0o214 Move Basic 3), it, regs, pages, space, e),
+        Act::Movmi => bare(one!(Move 0o215 Move Immediate 3), it, regs, pages, space),
+        Act::Movmm => write(one!(Move 0o216 Move Memory 3), it, regs, pages, space, e),
+        Act::Movms => replace(one!(Move 0o217 Move Own 3), it, regs, pages, space),
+        Act::Imul => read(one!(Operation 0o220 Imul Basic 0), it, regs, pages, space, e),
+        Act::Imuli => bare(one!(Operation 0o221 Imul Immediate 0), it, regs, pages, space),
+        Act::Imulm => replace(one!(Operation 0o222 Imul Memory 0), it, regs, pages, space),
+        Act::Imulb => replace(one!(Operation 0o223 Imul Both 0), it, regs, pages, space),
+        Act::Mul => read(one!(Operation 0o224 Mul Basic 0), it, regs, pages, space, e),
+        Act::Muli => bare(one!(Operation 0o225 Mul Immediate 0), it, regs, pages, space),
+        Act::Mulm => replace(one!(Operation 0o226 Mul Memory 0), it, regs, pages, space),
+        Act::Mulb => replace(one!(Operation 0o227 Mul Both 0), it, regs, pages, space),
+        Act::Idiv => read(one!(Operation 0o230 Idiv Basic 0), it, regs, pages, space, e),
+        Act::Idivi => bare(one!(Operation 0o231 Idiv Immediate 0), it, regs, pages, space),
+        Act::Idivm => replace(one!(Operation 0o232 Idiv Memory 0), it, regs, pages, space),
+        Act::Idivb => replace(one!(Operation 0o233 Idiv Both 0), it, regs, pages, space),
+        Act::Div => read(one!(Operation 0o234 Div Basic 0), it, regs, pages, space, e),
+        Act::Divi => bare(one!(Operation 0o235 Div Immediate 0), it, regs, pages, space),
+        Act::Divm => replace(one!(Operation 0o236 Div Memory 0), it, regs, pages, space),
+        Act::Divb => replace(one!(Operation 0o237 Div Both 0), it, regs, pages, space),
+        Act::Ash => bare(one!(Shift 0o240 Shift Basic 0), it, regs, pages, space),
+        Act::Rot => bare(one!(Shift 0o241 Shift Basic 1), it, regs, pages, space),
+        Act::Lsh => bare(one!(Shift 0o242 Shift Basic 2), it, regs, pages, space),
+        Act::Jffo => bare(Jffo, it, regs, pages, space),
+        Act::Ashc => bare(one!(Shift 0o244 DoubleShift Basic 0), it, regs, pages, space),
+        Act::Rotc => bare(one!(Shift 0o245 DoubleShift Basic 1), it, regs, pages, space),
+        Act::Lshc => bare(one!(Shift 0o246 DoubleShift Basic 2), it, regs, pages, space),
+        Act::Exch => replace(Exch, it, regs, pages, space),
+        Act::Aobjp => bare(Aobj { code: 0 }, it, regs, pages, space),
+        Act::Aobjn => bare(Aobj { code: 1 }, it, regs, pages, space),
+        Act::Jfcl => bare(Jfcl, it, regs, pages, space),
+        Act::Jsr => write(JsrJsp { code: 0 }, it, regs, pages, space, e),
+        Act::Jsp => bare(JsrJsp { code: 1 }, it, regs, pages, space),
+        Act::Jsa => write(JsaJra { code: 0 }, it, regs, pages, space, e),
+        Act::Jra => {
+            let from = word_in(regs, ac).left();
+            read(JsaJra { code: 1 }, it, regs, pages, space, from)
+        }
+        Act::Cai => bare(Compare { code: 0 }, it, regs, pages, space),
+        Act::Cail => bare(Compare { code: 1 }, it, regs, pages, space),
+        Act::Caie => bare(Compare { code: 2 }, it, regs, pages, space),
+        Act::Caile => bare(Compare { code: 3 }, it, regs, pages, space),
+        Act::Caia => bare(Compare { code: 4 }, it, regs, pages, space),
+        Act::Caige => bare(Compare { code: 5 }, it, regs, pages, space),
+        Act::Cain => bare(Compare { code: 6 }, it, regs, pages, space),
+        Act::Caig => bare(Compare { code: 7 }, it, regs, pages, space),
+        Act::Cam => read(Compare { code: 8 }, it, regs, pages, space, e),
+        Act::Caml => read(Compare { code: 9 }, it, regs, pages, space, e),
+        Act::Came => read(Compare { code: 10 }, it, regs, pages, space, e),
+        Act::Camle => read(Compare { code: 11 }, it, regs, pages, space, e),
+        Act::Cama => read(Compare { code: 12 }, it, regs, pages, space, e),
+        Act::Camge => read(Compare { code: 13 }, it, regs, pages, space, e),
+        Act::Camn => read(Compare { code: 14 }, it, regs, pages, space, e),
+        Act::Camg => read(Compare { code: 15 }, it, regs, pages, space, e),
+        _ => Quick::Slow,
     }
 }
 

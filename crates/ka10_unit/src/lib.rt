@@ -6,7 +6,9 @@
 mod acts;
 mod addresses;
 mod addressing;
+mod blocks;
 mod bursts;
+mod byte_units;
 mod bytes;
 mod carry;
 mod commit;

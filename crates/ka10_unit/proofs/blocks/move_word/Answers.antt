@@ -1,0 +1,17 @@
+use Rattle.std.proofs.Common.{ℕ, Some, refl, sym, ap, ◌∙◌, subst}
+use Rattle.word36.specs.Words.{left}
+use Rattle.plain_model.specs.Deeds.{Deed, in_ac}
+use Rattle.ka10_unit.specs.InPlace.{Finish, InPlace}
+use Rattle.ka10_unit.proofs.BlockLemmas.{blt, blt_row, blt_deed}
+use Rattle.ka10_unit.proofs.Placing.{deed_in_place}
+use Rattle.ka10_unit.proofs.blocks.move_word.Goals as goal
+
+pub returns-in-Some : goal.returns-in-Some
+returns-in-Some g c =
+    let regs = c.args.regs.now in
+    let ac = c.args.it.ac in
+    let m = c.in-Some.m in
+    deed_in_place g.P.Pages.means c.args.space blt ac c.args.it.e c.args.it.last m regs blt_row refl c.args.pages.now c.store_word.new.pages c.store_word.new.regs c.store_word.result
+    (subst (λ (d : Deed). InPlace g.P.Pages.means c.args.space (Finish regs ac d) c.args.pages.now c.store_word.new.pages regs c.store_word.new.regs c.store_word.result) (sym (blt_deed regs ac c.args.it.e c.args.it.last m))
+    c.store_word.ensures)
+    (Some c.left.result) (sym (ap Some (c.left.ensures.value ∙ ap (λ (a : ℕ). left a) c.word_in-a.ensures))) c.in-Some.ensures.told
