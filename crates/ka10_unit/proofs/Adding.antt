@@ -11,7 +11,7 @@ use Rattle.plain_model.specs.declared.names.PageName.{PageName}
 use Rattle.plain_model.specs.declared.names.Kind.{Kind}
 use Rattle.plain_model.specs.declared.names.Kind.TheVariants.{Read, Write, Execute}
 use Rattle.plain_model.specs.declared.map.MapEntry.TheVariants.{Empty, Names}
-use Rattle.plain_model.specs.declared.map.Touch.TheVariants.{Ready, Zero, Denied as Denies, Full as NoRoom}
+use Rattle.plain_model.specs.declared.map.Touch.TheVariants.{Ready, Denied as Denies}
 use Rattle.plain_model.specs.State.{NumberedPages}
 use Rattle.plain_model.specs.Maps.{entry_at, full_access}
 use Rattle.plain_model.specs.Room.{live}
@@ -22,7 +22,7 @@ use Rattle.ka10_unit.specs.declared.gather.Asking.{Asking}
 use Rattle.ka10_unit.specs.declared.gather.Added.TheVariants.{Went, Denied, Full}
 use Rattle.ka10_unit.specs.Gathers.{slot_of, asked_for, left_by, added_by, is_granted, makes_page, after_all, all_make, AddsTo}
 use Rattle.ka10_unit.proofs.Singles.{none_makings, none_asked, named_asked, empty_asked, empty_makings, named_makings, named_page, ready_named, denied_tells, permits_one, makes_none, Entered, is_absent, is_empty, is_named, entered}
-use Rattle.ka10_unit.proofs.Growing.{Grown, grown, among, page_slot, made_here, made_other, not_here}
+use Rattle.ka10_unit.proofs.Growing.{Grown, grown, among, made_here, made_other, not_here}
 
 -- where a write makes nothing the entry names a page that may be written
 pub open_named : (p : NumberedPages) (t : Slot) → AreSingle p.maps → makings p (in_map t) Write ≡ Some [] → (n : PageName) × (a : Access) × (entry_at p.maps t ≡ Some (Names n a)) × (a.c ≡ false) × (permits_one Write a ≡ true)

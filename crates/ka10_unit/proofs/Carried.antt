@@ -1,5 +1,5 @@
 -- A unit carried out: what touches answer on its way, and what is left to make.
-use Rattle.std.proofs.Common.{◌≡◌, ℕ, zero, suc, ◌%◌, ◌+◌, ◌<◌, ◌≤◌, Bool, true, false, cond, List, [], ◌∷◌, length, drop, get_or, Option, None, Some, refl, sym, ◌∙◌, ap, subst, arith, add-one}
+use Rattle.std.proofs.Common.{◌≡◌, ℕ, zero, suc, ◌%◌, ◌+◌, ◌<◌, ◌≤◌, Bool, true, false, cond, List, [], ◌∷◌, length, drop, get_or, Option, None, Some, refl, sym, ◌∙◌, ap, arith, add-one}
 use Rattle.std.specs.Prelude.{◌&&◌, nat_lt, slice_get, slice_set}
 use Rattle.std.specs.Option.{option_and_then, option_map_or}
 use Rattle.std.specs.Ordering.{nat_cmp}
@@ -7,13 +7,12 @@ use Rattle.std.specs.FinMap as map
 use Rattle.outside.specs.declared.TheConstants.{PAGE_WORDS}
 use Rattle.std.proofs.Math.Seq.{drop-cons}
 use Rattle.plain_model.specs.declared.names.Tty.{Tty}
-use Rattle.plain_model.specs.declared.names.Slot.{Slot}
 use Rattle.plain_model.specs.declared.names.ForkName.{ForkName}
 use Rattle.plain_model.specs.declared.names.PageName.{PageName}
 use Rattle.plain_model.specs.declared.names.Kind.{Kind}
 use Rattle.plain_model.specs.declared.names.Kind.TheVariants.{Write}
 use Rattle.plain_model.specs.declared.map.Touch.{Touch}
-use Rattle.plain_model.specs.declared.map.Touch.TheVariants.{Ready, Zero, Absent, NeedFrame}
+use Rattle.plain_model.specs.declared.map.Touch.TheVariants.{Ready, Zero, NeedFrame}
 use Rattle.plain_model.specs.declared.unit.Put.{Put}
 use Rattle.plain_model.specs.State.{NumberedPages}
 use Rattle.plain_model.specs.References.{Spot, Making, Referred, granted, in_map, blank, make, makings, next_making, page_at, reference, settled, slot_at, stored, words_of}

@@ -1,10 +1,9 @@
 -- Pages that references make one after another: what becomes of each entry, and how many there are.
 use Rattle.std.proofs.Common.{◌≡◌, ◌≢◌, ℕ, ◌+◌, Bool, true, false, cond, List, [], ◌∷◌, Option, None, Some, ◌⊎◌, inl, inr, length, refl, sym, ◌∙◌, ap, subst, arith}
-use Rattle.std.specs.Prelude.{◌==◌, ◌||◌, ◌&&◌, nat_lt, nat_le, not, is_some, slice_get}
+use Rattle.std.specs.Prelude.{◌==◌, ◌||◌, ◌&&◌, nat_lt, nat_le, is_some, slice_get}
 use Rattle.std.specs.List.{list_any}
-use Rattle.std.specs.Option.{option_map_or, option_and_then, unwrap_or}
+use Rattle.std.specs.Option.{option_and_then, unwrap_or}
 use Rattle.std.specs.Cmp.{nat_cmp_total}
-use Rattle.std.specs.Ordering.{nat_cmp, eq_by_cmp}
 use Rattle.std.specs.FinMap as map
 use Rattle.std.proofs.lemmas.Bool.Decides.{eqb_tells}
 use Rattle.plain_model.specs.declared.names.Tty.{Tty}
@@ -15,10 +14,9 @@ use Rattle.plain_model.specs.declared.names.PageName.{PageName}
 use Rattle.plain_model.specs.declared.map.MapEntry.{MapEntry}
 use Rattle.plain_model.specs.declared.map.MapEntry.TheVariants.{Empty, Names}
 use Rattle.plain_model.specs.State.{NumberedPages}
-use Rattle.plain_model.specs.Orders.{page_cmp}
-use Rattle.plain_model.specs.Maps.{entry_at, set_entry, full_access}
+use Rattle.plain_model.specs.Maps.{entry_at, full_access}
 use Rattle.plain_model.specs.Room.{live, same_page}
-use Rattle.plain_model.specs.References.{in_map, blank, make, next_page, new_page, words_of, zero_words, next_making, makings, Making, granted, full, denied, Referred}
+use Rattle.plain_model.specs.References.{in_map, blank, make, next_page, words_of, zero_words, next_making, makings, Making, granted, full}
 use Rattle.plain_model.specs.Pages.{IsOwner, AreSingle, is_single}
 use Rattle.plain_model.specs.Whole.{AreWhole}
 use Rattle.plain_model.proofs.OrderLemmas.{page_tied, page_cmp_total}
@@ -29,7 +27,7 @@ use Rattle.plain_model.proofs.Rooms.{live_blank}
 use Rattle.plain_model.proofs.Whole.{unmade}
 use Rattle.ka10_unit.specs.declared.gather.Asking.{Asking}
 use Rattle.ka10_unit.specs.Gathers.{slot_of, asked_for, left_by, is_granted, makes_page, after_all, all_make}
-use Rattle.ka10_unit.proofs.Singles.{Entered, is_absent, is_empty, is_named, entered, none_asked, named_asked, empty_asked, empty_makings, named_makings, permits_one, makes_none}
+use Rattle.ka10_unit.proofs.Singles.{Entered, is_absent, is_empty, is_named, entered, none_asked, empty_asked, named_makings, permits_one, makes_none}
 
 -- ---- one page more
 

@@ -1,16 +1,16 @@
 -- Addresses that are reached word by word.
-use Rattle.std.proofs.Common.{◌≡◌, ℕ, suc, ◌+◌, ◌-◌, ◌<◌, ◌≤◌, true, false, List, refl, sym, ◌∙◌, ap, arith}
+use Rattle.std.proofs.Common.{◌≡◌, ℕ, suc, ◌+◌, ◌-◌, ◌<◌, ◌≤◌, true, false, List, refl, ◌∙◌, arith}
 use Rattle.std.specs.Prelude.{Ok, Err}
 use Rattle.plain_model.specs.declared.channel.TheConstants.{ILLEGAL_INSTRUCTION}
 use Rattle.plain_model.specs.declared.names.ForkName.{ForkName}
 use Rattle.plain_model.specs.declared.names.Kind.TheVariants.{Read}
 use Rattle.plain_model.specs.State.{NumberedPages}
-use Rattle.plain_model.specs.Steps.{Steps, refers, run, plainly}
+use Rattle.plain_model.specs.Steps.{refers, run}
 use Rattle.plain_model.specs.Addressing.{address, address_within, indexed, is_indirect, last_taken}
 use Rattle.ka10_unit.specs.declared.addresses.Address.{Address}
 use Rattle.ka10_unit.specs.declared.taken.Taken.{Taken}
 use Rattle.ka10_unit.specs.declared.taken.Trap.{Trap}
-use Rattle.ka10_unit.specs.Taking.{Follows, Stands, progress}
+use Rattle.ka10_unit.specs.Taking.{Follows, Stands}
 use Rattle.ka10_unit.specs.Planning.{Leads, reached, reached_within}
 
 one_more : (n i : ℕ) → i < n → n - i ≡ suc (n - (i + 1))

@@ -1,5 +1,5 @@
 -- The page of an address asked for.
-use Rattle.std.proofs.Common.{◌≡◌, ℕ, ◌+◌, ◌-◌, ◌/◌, ◌<◌, ◌≤◌, Bool, true, false, cond, List, [], ◌∷◌, ◌++◌, length, Option, None, Some, refl, sym, ◌∙◌, ap, subst, arith, length-append}
+use Rattle.std.proofs.Common.{◌≡◌, ℕ, ◌+◌, ◌-◌, ◌/◌, ◌<◌, ◌≤◌, true, false, cond, List, [], ◌∷◌, ◌++◌, length, Option, None, Some, refl, sym, ◌∙◌, ap, arith, length-append}
 use Rattle.std.specs.Prelude.{⊤, Result, Ok, Err, nat_le, slice_set}
 use Rattle.std.proofs.lemmas.Bool.Decides.{nat_tests}
 use Rattle.std.specs.Ordering.{nat_cmp}
@@ -10,7 +10,7 @@ use Rattle.plain_model.specs.State.{NumberedPages}
 use Rattle.plain_model.specs.References.{Referred, granted, denied, full, makings, in_map, slot_at}
 use Rattle.plain_model.specs.Pages.{IsOwner, AreSingle}
 use Rattle.plain_model.specs.Whole.{AreWhole}
-use Rattle.plain_model.specs.Steps.{is_accumulator, plainly, plain_asked, goes, Asked, Progress, refers, referred, run, widened, word_taken}
+use Rattle.plain_model.specs.Steps.{is_accumulator, plainly, plain_asked, goes, Progress, refers, referred, run, widened, word_taken}
 use Rattle.plain_model.specs.declared.channel.TheConstants.{ILLEGAL_INSTRUCTION}
 use Rattle.plain_model.specs.declared.unit.Put.{Put}
 use Rattle.ka10_unit.specs.declared.taken.Taken.{Taken}

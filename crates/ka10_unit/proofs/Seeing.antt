@@ -1,5 +1,5 @@
 -- The word at an address whose page was asked for, from the pages as they were before the unit.
-use Rattle.std.proofs.Common.{◌≡◌, ◌≢◌, ℕ, zero, suc, ◌/◌, ◌%◌, Bool, true, false, cond, List, [], ◌∷◌, Option, None, Some, ◌⊎◌, inl, inr, refl, sym, ◌∙◌, ap, replicate}
+use Rattle.std.proofs.Common.{◌≡◌, ◌≢◌, ℕ, zero, suc, ◌/◌, ◌%◌, Bool, true, false, List, Option, None, Some, ◌⊎◌, inl, inr, refl, sym, ◌∙◌, ap, replicate}
 use Rattle.std.specs.Prelude.{◌==◌, ◌&&◌, slice_index}
 use Rattle.std.specs.Option.{option_map_or, unwrap_or}
 use Rattle.std.specs.Cmp.{nat_cmp_total}
@@ -7,9 +7,8 @@ use Rattle.outside.specs.declared.TheConstants.{PAGE_WORDS}
 use Rattle.plain_model.specs.declared.names.ForkName.{ForkName}
 use Rattle.plain_model.specs.declared.names.Slot.{Slot}
 use Rattle.plain_model.specs.declared.names.PageName.{PageName}
-use Rattle.plain_model.specs.declared.names.Access.{Access}
-use Rattle.plain_model.specs.declared.map.MapEntry.TheVariants.{Empty, Names}
-use Rattle.plain_model.specs.declared.map.Peeked.TheVariants.{Is, Absent, NoPage}
+use Rattle.plain_model.specs.declared.map.MapEntry.TheVariants.{Empty}
+use Rattle.plain_model.specs.declared.map.Peeked.TheVariants.{Is, NoPage}
 use Rattle.plain_model.specs.State.{NumberedPages}
 use Rattle.plain_model.specs.Maps.{entry_at, full_access}
 use Rattle.plain_model.specs.Room.{same_page}

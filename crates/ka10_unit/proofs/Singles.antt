@@ -3,7 +3,6 @@ use Rattle.std.proofs.Common.{◌≡◌, ℕ, ◌+◌, Bool, true, false, cond, 
 use Rattle.std.specs.Prelude.{nat_le, not}
 use Rattle.std.specs.Option.{option_and_then}
 use Rattle.std.specs.Cmp.{nat_cmp_total}
-use Rattle.std.specs.Ordering.{nat_cmp}
 use Rattle.plain_model.specs.declared.names.Tty.{Tty}
 use Rattle.plain_model.specs.declared.names.Slot.{Slot}
 use Rattle.plain_model.specs.declared.names.Access.{Access}
@@ -16,7 +15,7 @@ use Rattle.plain_model.specs.declared.map.Touch.TheVariants.{Ready, Zero, Denied
 use Rattle.plain_model.specs.State.{NumberedPages}
 use Rattle.plain_model.specs.Maps.{Chain, entry_at, full_access, single_link}
 use Rattle.plain_model.specs.Room.{live}
-use Rattle.plain_model.specs.References.{Spot, in_map, Making, blank, along_chain, makings, make, make_all, page_at, Referred, granted, denied, full, reference}
+use Rattle.plain_model.specs.References.{Spot, in_map, Making, blank, along_chain, makings, make, make_all, page_at, granted, denied, full, reference}
 use Rattle.plain_model.specs.Pages.{Scene, IsOwner, AreSingle, touch_of}
 use Rattle.plain_model.specs.Whole.{AreWhole}
 use Rattle.plain_model.proofs.Equations.{no_chain, empty_chain, named_chain}

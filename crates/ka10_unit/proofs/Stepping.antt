@@ -1,5 +1,5 @@
 -- The words of a unit, one behind the other.
-use Rattle.std.proofs.Common.{◌≡◌, ℕ, suc, ◌-◌, ◌<◌, Bool, true, false, cond, List, [], Option, None, Some, refl, sym, ◌∙◌, ap, arith}
+use Rattle.std.proofs.Common.{◌≡◌, ℕ, suc, ◌-◌, ◌<◌, Bool, true, false, cond, List, [], None, Some, refl, ◌∙◌, arith}
 use Rattle.std.specs.Prelude.{Result, Ok, Err}
 use Rattle.ka10_table.specs.declared.families.Family.{Family}
 use Rattle.ka10_table.specs.declared.families.Family.TheVariants.{Illegal, Local, Monitor, ByteOp, Move, Imul, Mul, Idiv, Div, Shift, Jffo, DoubleShift, Exch, Blt, Aobj, Jrst, Jfcl, Xct, Pushj, PushPop, Popj, JsrJsp, JsaJra, AddSub, Compare, JumpSkip, AddOne, SubOne, Boolean, Half, Test}
@@ -10,7 +10,7 @@ use Rattle.plain_model.specs.declared.names.ForkName.{ForkName}
 use Rattle.plain_model.specs.declared.names.Kind.TheVariants.{Execute, Write}
 use Rattle.plain_model.specs.declared.fork.Regs.{Regs}
 use Rattle.plain_model.specs.State.{NumberedPages}
-use Rattle.plain_model.specs.Steps.{Steps, refers, keeps, traps, calls, run, plainly, begun}
+use Rattle.plain_model.specs.Steps.{Steps, refers, keeps, traps, calls, run, begun}
 use Rattle.plain_model.specs.Addressing.{opcode, ac_field}
 use Rattle.plain_model.specs.Instructions.{execute, executes, does, instruction, local_word, LOCAL_CALL, LOCAL_HANDLER}
 use Rattle.ka10_unit.specs.declared.addresses.Address.{Address}

@@ -1,7 +1,6 @@
 -- The end of a unit, by where its word goes.
-use Rattle.std.proofs.Common.{◌≡◌, ◌≢◌, ℕ, zero, suc, ◌<◌, Bool, true, false, cond, List, [], ◌∷◌, Option, None, Some, refl, sym, ◌∙◌, ap, subst, arith}
-use Rattle.std.specs.Prelude.{⊤, Result, Ok, Err, nat_lt, slice_set}
-use Rattle.std.proofs.lemmas.Bool.Decides.{nat_tests}
+use Rattle.std.proofs.Common.{◌≡◌, ◌≢◌, ℕ, zero, suc, Bool, true, false, cond, List, [], ◌∷◌, Option, None, Some, refl, sym, ◌∙◌, ap, subst, arith}
+use Rattle.std.specs.Prelude.{⊤, Result, Ok, Err, slice_set}
 use Rattle.std.proofs.lemmas.List.{set-set}
 use Rattle.word36.specs.Words.{joined}
 use Rattle.plain_model.specs.declared.names.ForkName.{ForkName}
@@ -9,9 +8,9 @@ use Rattle.plain_model.specs.declared.names.Kind.TheVariants.{Read, Write}
 use Rattle.plain_model.specs.declared.fork.Regs.{Regs}
 use Rattle.plain_model.specs.declared.unit.Put.{Put}
 use Rattle.plain_model.specs.State.{NumberedPages}
-use Rattle.plain_model.specs.Steps.{Ending as End, refers, ends, done, run, plainly, is_accumulator}
-use Rattle.plain_model.specs.Deeds.{Deed, Store, nowhere, back, into, before, behind_ac}
-use Rattle.plain_model.specs.Instructions.{takes, with_word, with_deed, storing, storing_first, finishes, finishes_by}
+use Rattle.plain_model.specs.Steps.{Ending as End, refers, ends, done, run, is_accumulator}
+use Rattle.plain_model.specs.Deeds.{Deed, Store, nowhere, back, into, before}
+use Rattle.plain_model.specs.Instructions.{takes, with_deed, storing, storing_first, finishes}
 use Rattle.ka10_unit.specs.declared.committed.Post.{Post}
 use Rattle.ka10_unit.specs.declared.operands.Destination.{Destination}
 use Rattle.ka10_unit.specs.declared.ends.Ending.{Ending}

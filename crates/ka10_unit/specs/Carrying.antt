@@ -2,13 +2,11 @@
 use Rattle.std.specs.Prelude.{◌≡◌, ◌≢◌, ℕ, ◌+◌, ◌≤◌, ◌<◌, ◌^◌, length, Some}
 use Rattle.plain_model.specs.declared.names.Tty.{Tty}
 use Rattle.plain_model.specs.declared.names.ForkName.{ForkName}
-use Rattle.plain_model.specs.declared.names.TheConstants.{SPACE_PAGES}
 use Rattle.plain_model.specs.declared.fork.Regs.{Regs}
 use Rattle.plain_model.specs.Outcome.{DrumWords}
 use Rattle.plain_model.specs.State.{NumberedPages}
 use Rattle.plain_model.specs.Pages.{PagesMeaning}
 use Rattle.plain_model.specs.Steps.{stopped, trap, call}
-use Rattle.ka10_unit.specs.declared.gather.Asking.{Asking}
 use Rattle.ka10_unit.specs.declared.slow.Outcome.{Outcome}
 use Rattle.ka10_unit.specs.declared.slow.Outcome.TheVariants as outcome
 use Rattle.ka10_unit.specs.Once.{once}

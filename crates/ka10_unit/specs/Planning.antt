@@ -1,17 +1,14 @@
 -- The parts of a unit, as the calls do them that plan it.
-use Rattle.std.specs.Prelude.{◌≡◌, ℕ, zero, suc, ◌<◌, ◌^◌, Bool, true, false, if◌then◌else◌, Option, None, Some, List, [], length, Result, Ok, Err, IsSome}
-use Rattle.std.specs.Ordering.{nat_cmp}
+use Rattle.std.specs.Prelude.{◌≡◌, ℕ, ◌<◌, ◌^◌, Bool, true, false, None, Some, List, length, Result, Ok, Err}
 use Rattle.ka10_table.specs.declared.families.Family.{Family}
 use Rattle.ka10_table.specs.declared.families.Family.TheVariants as family
 use Rattle.ka10_table.specs.declared.families.TableRow.{TableRow}
-use Rattle.plain_model.specs.declared.channel.TheConstants.{ILLEGAL_INSTRUCTION}
 use Rattle.plain_model.specs.declared.names.TheConstants.{ACCUMULATORS}
 use Rattle.plain_model.specs.declared.names.ForkName.{ForkName}
 use Rattle.plain_model.specs.declared.names.Kind.TheVariants.{Execute, Write}
 use Rattle.plain_model.specs.declared.fork.Regs.{Regs}
-use Rattle.plain_model.specs.declared.unit.Put.{Put}
 use Rattle.plain_model.specs.State.{NumberedPages}
-use Rattle.plain_model.specs.Steps.{Steps, Ending as End, refers, keeps, traps, calls, trap, done, stopped, call, run, plainly}
+use Rattle.plain_model.specs.Steps.{Steps, Ending as End, refers, keeps, calls, trap, done, stopped, call, run, plainly}
 use Rattle.plain_model.specs.Addressing.{opcode, ac_field, address, address_within}
 use Rattle.plain_model.specs.Deeds.{Deed, before}
 use Rattle.plain_model.specs.Instructions.{does, does_pointer, is_executive, local_word, LOCAL_CALL, LOCAL_HANDLER}
@@ -19,7 +16,6 @@ use Rattle.ka10_unit.specs.declared.addresses.Address.{Address}
 use Rattle.ka10_unit.specs.declared.committed.Committed.{Committed}
 use Rattle.ka10_unit.specs.declared.operands.Destination.{Destination}
 use Rattle.ka10_unit.specs.declared.ends.Ending.{Ending}
-use Rattle.ka10_unit.specs.declared.plans.Next.{Next}
 use Rattle.ka10_unit.specs.declared.plans.Step.{Step}
 use Rattle.ka10_unit.specs.declared.plans.Step.TheVariants as step
 use Rattle.ka10_unit.specs.declared.plans.Planned.{Planned}

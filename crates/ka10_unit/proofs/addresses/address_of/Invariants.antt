@@ -1,4 +1,4 @@
-use Rattle.std.proofs.Common.{◌≡◌, ◌-◌, ◌^◌}
+use Rattle.std.proofs.Common.{◌≡◌, ◌-◌}
 use Rattle.plain_model.specs.Outcome.{DrumWords}
 use Rattle.ka10_unit.specs.Taking.{IsOpen, Stands}
 use Rattle.ka10_unit.specs.Planning.{Leads, reached, reached_within}

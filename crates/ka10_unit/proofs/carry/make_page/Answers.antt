@@ -1,7 +1,5 @@
-use Rattle.std.proofs.Common.{◌≡◌, inl, refl, ◌∙◌, sym, arith, true}
+use Rattle.std.proofs.Common.{inl, refl, ◌∙◌, arith}
 use Rattle.plain_model.specs.State.{NumberedPages}
-use Rattle.plain_model.specs.declared.map.Touch.TheVariants.{Zero}
-use Rattle.plain_model.specs.Pages.{is_in_core}
 use Rattle.ka10_unit.proofs.Carried.{making_found, making_settled}
 use Rattle.ka10_unit.proofs.carry.make_page.Goals as goal
 

@@ -1,7 +1,6 @@
-use Rattle.std.proofs.Common.{◌≡◌, ◌≤◌, length, refl, ◌∙◌, sym, ap, subst, arith, List, true}
-use Rattle.ka10_unit.specs.declared.gather.Asking.{Asking}
+use Rattle.std.proofs.Common.{◌≡◌, ◌∙◌, ap, true}
 use Rattle.ka10_unit.specs.Gathers.{all_make, after_all}
-use Rattle.ka10_unit.proofs.Carried.{grows_more, grows_within, next_makes, left_more, left_all}
+use Rattle.ka10_unit.proofs.Carried.{grows_more, next_makes, left_more, left_all}
 use Rattle.ka10_unit.proofs.carry.make_pages.Goals as goal
 
 pub loop-making-preserved : goal.loop-making-preserved

@@ -1,8 +1,7 @@
-use Rattle.std.proofs.Common.{◌≡◌, inl, refl, ◌∙◌, sym, subst}
+use Rattle.std.proofs.Common.{inl, refl}
 use Rattle.plain_model.specs.State.{NumberedPages}
 use Rattle.plain_model.specs.declared.names.Kind.TheVariants.{Write}
 use Rattle.plain_model.specs.References.{in_map, slot_at}
-use Rattle.ka10_unit.specs.Taking.{CanPut}
 use Rattle.ka10_unit.proofs.Carried.{ready_found}
 use Rattle.ka10_unit.proofs.carry.store.Goals as goal
 

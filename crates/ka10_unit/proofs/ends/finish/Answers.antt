@@ -1,4 +1,4 @@
-use Rattle.std.proofs.Common.{◌≡◌, ◌≢◌, Some, None, refl, sym, ap, arith, true}
+use Rattle.std.proofs.Common.{◌≡◌, ◌≢◌, Some, None, refl, arith, true}
 use Rattle.std.proofs.lemmas.Result.{err_from_is_err_and}
 use Rattle.std.proofs.lemmas.Bool.Decides.{nat_tests}
 use Rattle.plain_model.specs.Steps.{is_accumulator}

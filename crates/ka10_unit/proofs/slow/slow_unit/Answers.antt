@@ -1,4 +1,4 @@
-use Rattle.std.proofs.Common.{◌≡◌, ◌∙◌, ap, sym, refl, arith, rules, Some}
+use Rattle.std.proofs.Common.{◌∙◌, ap, sym, refl, arith, Some}
 use Rattle.plain_model.specs.State.{NumberedPages}
 use Rattle.ka10_unit.specs.Commits.{channel_of}
 use Rattle.ka10_unit.specs.Once.{once, went_through}

@@ -1,12 +1,7 @@
-use Rattle.std.proofs.Common.{◌≡◌, ◌≤◌, ℕ, ◌/◌, false, inl, refl, sym, ◌∙◌, ap, subst, arith}
-use Rattle.std.specs.Prelude.{nat_lt}
+use Rattle.std.proofs.Common.{◌≡◌, false, inl, arith}
 use Rattle.std.proofs.lemmas.Bool.Decides.{nat_tests}
 use Rattle.plain_model.specs.State.{NumberedPages}
-use Rattle.plain_model.specs.declared.names.Kind.{Kind}
-use Rattle.plain_model.specs.References.{slot_at}
 use Rattle.plain_model.specs.Steps.{is_accumulator}
-use Rattle.ka10_unit.specs.declared.gather.Asking.{Asking}
-use Rattle.ka10_unit.proofs.Adding.{went_gone}
 use Rattle.ka10_unit.proofs.Referring.{asks_high}
 use Rattle.ka10_unit.proofs.taken.ask.Goals as goal
 

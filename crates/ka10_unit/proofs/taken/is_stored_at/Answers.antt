@@ -1,4 +1,4 @@
-use Rattle.std.proofs.Common.{◌≡◌, ◌≢◌, ◌/◌, ◌%◌, true, inl, ◌∙◌, sym, ap, arith, Option}
+use Rattle.std.proofs.Common.{◌≡◌, ◌%◌, true, inl, ◌∙◌, ap, arith, Option}
 use Rattle.std.specs.Prelude.{◌==◌}
 use Rattle.std.proofs.lemmas.Bool.Decides.{nat_tests}
 use Rattle.plain_model.specs.declared.names.PageName.{PageName}

@@ -1,4 +1,4 @@
-use Rattle.std.proofs.Common.{◌≡◌, ◌<◌, ◌≤◌, length, arith, refl}
+use Rattle.std.proofs.Common.{◌<◌, length, arith, refl}
 use Rattle.ka10_unit.proofs.Referring.{refer_full, refer_stops, refer_goes}
 use Rattle.ka10_unit.proofs.taken.refer.Goals as goal
 

@@ -1,4 +1,4 @@
-use Rattle.std.proofs.Common.{◌≡◌, Bool, false, cond, inl, ◌∙◌, sym, ap}
+use Rattle.std.proofs.Common.{◌≡◌, false, inl, ◌∙◌, sym}
 use Rattle.plain_model.specs.State.{NumberedPages}
 use Rattle.ka10_unit.specs.Gathers.{after_all}
 use Rattle.ka10_unit.specs.Taking.{stands_at}

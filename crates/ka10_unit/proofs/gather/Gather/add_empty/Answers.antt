@@ -1,4 +1,4 @@
-use Rattle.std.proofs.Common.{◌≡◌, ◌<◌, ◌≤◌, ◌-◌, length, sym, inl, arith, ◌∙◌, ap, ℕ, List, [], ◌∷◌, ◌++◌, false}
+use Rattle.std.proofs.Common.{◌≡◌, ◌<◌, ◌≤◌, ◌-◌, length, sym, inl, arith, ◌∙◌, ap, List, [], ◌∷◌, ◌++◌, false}
 use Rattle.plain_model.specs.State.{NumberedPages}
 use Rattle.plain_model.specs.Room.{live}
 use Rattle.ka10_unit.specs.declared.gather.Asking.{Asking}

@@ -1,0 +1,7 @@
+//! Units of programs over pages in memory, and what each leaves, worked out from the handbook by hand.
+//! No layer stands above; to a reader each row of a table is a program in the accumulators.
+//! Stands on ka10_unit and flat_pages.
+#![tactic(auto)]
+
+#[cfg(test)]
+mod runs;
