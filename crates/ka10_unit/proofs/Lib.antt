@@ -14,7 +14,7 @@ pub mod Referring
 pub mod Seeing
 pub mod Leading
 pub mod UnitEnds
-pub mod Blocks
+pub mod FinishedBy
 pub mod Parts
 pub mod Stepping
 pub mod Carried

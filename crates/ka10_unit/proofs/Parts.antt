@@ -18,7 +18,7 @@ use Rattle.ka10_unit.specs.declared.taken.Trap.{Trap}
 use Rattle.ka10_unit.specs.Commits.{Leaves, stored_word, store_at}
 use Rattle.ka10_unit.specs.Taking.{Follows}
 use Rattle.ka10_unit.specs.Planning.{Ends, IsDone}
-use Rattle.ka10_unit.proofs.Blocks.{only_blocks}
+use Rattle.ka10_unit.proofs.FinishedBy.{only_blocks}
 
 module _ (f : ForkName) (p : NumberedPages) (ac : List ℕ) where
   -- a part that stops the unit, and one behind which it goes on

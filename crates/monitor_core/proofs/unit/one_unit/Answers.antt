@@ -5,9 +5,6 @@ use Rattle.monitor_core.proofs.Sounds.{ended_keeps, posted_keeps, called_keeps}
 use Rattle.monitor_core.proofs.UnitRan.{done_behind, trap_behind, call_behind}
 use Rattle.monitor_core.proofs.unit.one_unit.Goals as goal
 
-pub slow_unit-requires-clause-stub : goal.slow_unit-requires-clause-stub
-slow_unit-requires-clause-stub g c = ?
-
 pub returns-in-Done : goal.returns-in-Done
 returns-in-Done g c =
     let f = c.args.fork.now in
