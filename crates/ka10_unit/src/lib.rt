@@ -54,4 +54,6 @@ pub use stacks::{commit_popj, commit_push_or_pop, commit_pushj, pushed};
 pub use words::{commit_blt, commit_boolean, commit_exch, commit_half, commit_test};
 
 #[cfg(test)]
+mod burst_tests;
+#[cfg(test)]
 mod tests;
