@@ -1,6 +1,7 @@
 // Instructions in place, by their opcodes.
 ghost use Rattle.std.specs.Prelude.{◌≡◌, ◌<◌, ◌^◌};
 ghost use Rattle.plain_model.specs.Instructions as instructions;
+ghost use Rattle.plain_model.specs.Limits.{IsAddress};
 ghost use Rattle.plain_model.specs.Pages.{HasSpace};
 ghost use Rattle.ka10_unit.specs.InPlace.{Addressee, InPlace};
 
@@ -18,6 +19,7 @@ use crate::stacks::pushed;
 use crate::ways::{bare, read, replace, transfer, write};
 use ka10_table::{Family, OpMode, TableRow, row};
 use plain_model::{Pages, Regs, SpaceHandle};
+use word36::Word;
 
 // A row of the table.
 macro_rules! row {
@@ -44,22 +46,24 @@ macro_rules! one {
 /// that programs do most are here, so that these are compiled into the loop of a burst.
 #[inline(always)]
 #[rattlefmt::skip]
-pub fn carry<P: Pages>(op: u16, it: Instruction, regs: &mut Regs, pages: &mut P, space: SpaceHandle) -> Quick
+pub fn carry<P: Pages>(
+    op: u16, ac: u8, e: u32, last: Word, regs: &mut Regs, pages: &mut P, space: SpaceHandle
+) -> Quick
     requires op { op < 512 }
+    requires ac { ac < 16 }
+    requires e { IsAddress e }
     requires space { HasSpace P.means pages.old space }
     requires pc { regs.old.pc < 2 ^ 18 }
-    ensures { InPlace P.means space (Addressee op regs.old it.ac it.e it.last) pages.old pages.new regs.old regs.new result }
+    ensures { InPlace P.means space (Addressee op regs.old ac e last) pages.old pages.new regs.old regs.new result }
 {
-    let ac = it.ac;
-    let e = it.e;
+    let it = Instruction { ac, e, last };
     let code = row(op).code;
     match act_at(op) {
-        Act::Jrst if is_executive(it.ac) => Quick::Slow,
+        Act::Jrst if is_executive(ac) => Quick::Slow,
         Act::Jrst => bare(Jrst, it, regs, pages, space),
         Act::Move => read(one!(Move 0o200 Move Basic 0), it, regs, pages, space, e),
         Act::Movei => bare(one!(Move 0o201 Move Immediate 0), it, regs, pages, space),
         Act::Movem => write(one!(Move 0o202 Move Memory 0), it, regs, pages, space, e),
-        Act::Moves => replace(one!(Move 0o203 Move Own 0), it, regs, pages, space),
         Act::Pushj => {
             let to = pushed(regs, ac).right();
             write(Pushj, it, regs, pages, space, to)
@@ -81,36 +85,70 @@ pub fn carry<P: Pages>(op: u16, it: Instruction, regs: &mut Regs, pages: &mut P,
         Act::Add => read(one!(Operation 0o270 AddSub Basic 0), it, regs, pages, space, e),
         Act::Addi => bare(one!(Operation 0o271 AddSub Immediate 0), it, regs, pages, space),
         Act::Addm => replace(one!(Operation 0o272 AddSub Memory 0), it, regs, pages, space),
-        Act::Addb => replace(one!(Operation 0o273 AddSub Both 0), it, regs, pages, space),
         Act::Sub => read(one!(Operation 0o274 AddSub Basic 1), it, regs, pages, space, e),
         Act::Subi => bare(one!(Operation 0o275 AddSub Immediate 1), it, regs, pages, space),
+        Act::Jumpl => bare(JumpSkip { code: 1 }, it, regs, pages, space),
+        Act::Jumpe => bare(JumpSkip { code: 2 }, it, regs, pages, space),
+        Act::Jumpge => bare(JumpSkip { code: 5 }, it, regs, pages, space),
+        Act::Jumpn => bare(JumpSkip { code: 6 }, it, regs, pages, space),
+        Act::Skipe => read(JumpSkip { code: 10 }, it, regs, pages, space, e),
+        Act::Skipn => read(JumpSkip { code: 14 }, it, regs, pages, space, e),
+        Act::Aoja => bare(AddOne { code: 4 }, it, regs, pages, space),
+        Act::Aos => replace(AddOne { code: 8 }, it, regs, pages, space),
+        Act::Sojge => bare(SubOne { code: 5 }, it, regs, pages, space),
+        Act::Sojg => bare(SubOne { code: 7 }, it, regs, pages, space),
+        Act::Sos => replace(SubOne { code: 8 }, it, regs, pages, space),
+        Act::Boolean => read(one!(Boolean op Boolean Basic code), it, regs, pages, space, e),
+        Act::BooleanImmediate => bare(one!(Boolean op Boolean Immediate code), it, regs, pages, space),
+        Act::Half => read(one!(Half op Half Basic code), it, regs, pages, space, e),
+        Act::TestImmediate => bare(one!(Test op Test Basic code / 16 * 16 + code % 8), it, regs, pages, space),
+        _ => carry_other(op, ac, e, last, regs, pages, space),
+    }
+}
+
+/// The same of the other instructions.
+#[inline(never)]
+#[rattlefmt::skip]
+fn carry_other<P: Pages>(
+    op: u16, ac: u8, e: u32, last: Word, regs: &mut Regs, pages: &mut P, space: SpaceHandle
+) -> Quick
+    requires op { op < 512 }
+    requires ac { ac < 16 }
+    requires e { IsAddress e }
+    requires space { HasSpace P.means pages.old space }
+    requires pc { regs.old.pc < 2 ^ 18 }
+    ensures { InPlace P.means space (Addressee op regs.old ac e last) pages.old pages.new regs.old regs.new result }
+{
+    let it = Instruction { ac, e, last };
+    let code = row(op).code;
+    match act_at(op) {
+        Act::Ibp => byte(0o133, 0, it, regs, pages, space),
+        Act::Ildb => byte(0o134, 1, it, regs, pages, space),
+        Act::Ldb => byte(0o135, 2, it, regs, pages, space),
+        Act::Idpb => byte(0o136, 3, it, regs, pages, space),
+        Act::Dpb => byte(0o137, 4, it, regs, pages, space),
+        Act::Blt => move_word(it, regs, pages, space),
+        Act::Moves => replace(one!(Move 0o203 Move Own 0), it, regs, pages, space),
+        Act::Addb => replace(one!(Operation 0o273 AddSub Both 0), it, regs, pages, space),
         Act::Subm => replace(one!(Operation 0o276 AddSub Memory 1), it, regs, pages, space),
         Act::Subb => replace(one!(Operation 0o277 AddSub Both 1), it, regs, pages, space),
         Act::Jump => bare(JumpSkip { code: 0 }, it, regs, pages, space),
-        Act::Jumpl => bare(JumpSkip { code: 1 }, it, regs, pages, space),
-        Act::Jumpe => bare(JumpSkip { code: 2 }, it, regs, pages, space),
         Act::Jumple => bare(JumpSkip { code: 3 }, it, regs, pages, space),
         Act::Jumpa => bare(JumpSkip { code: 4 }, it, regs, pages, space),
-        Act::Jumpge => bare(JumpSkip { code: 5 }, it, regs, pages, space),
-        Act::Jumpn => bare(JumpSkip { code: 6 }, it, regs, pages, space),
         Act::Jumpg => bare(JumpSkip { code: 7 }, it, regs, pages, space),
         Act::Skip => read(JumpSkip { code: 8 }, it, regs, pages, space, e),
         Act::Skipl => read(JumpSkip { code: 9 }, it, regs, pages, space, e),
-        Act::Skipe => read(JumpSkip { code: 10 }, it, regs, pages, space, e),
         Act::Skiple => read(JumpSkip { code: 11 }, it, regs, pages, space, e),
         Act::Skipa => read(JumpSkip { code: 12 }, it, regs, pages, space, e),
         Act::Skipge => read(JumpSkip { code: 13 }, it, regs, pages, space, e),
-        Act::Skipn => read(JumpSkip { code: 14 }, it, regs, pages, space, e),
         Act::Skipg => read(JumpSkip { code: 15 }, it, regs, pages, space, e),
         Act::Aoj => bare(AddOne { code: 0 }, it, regs, pages, space),
         Act::Aojl => bare(AddOne { code: 1 }, it, regs, pages, space),
         Act::Aoje => bare(AddOne { code: 2 }, it, regs, pages, space),
         Act::Aojle => bare(AddOne { code: 3 }, it, regs, pages, space),
-        Act::Aoja => bare(AddOne { code: 4 }, it, regs, pages, space),
         Act::Aojge => bare(AddOne { code: 5 }, it, regs, pages, space),
         Act::Aojn => bare(AddOne { code: 6 }, it, regs, pages, space),
         Act::Aojg => bare(AddOne { code: 7 }, it, regs, pages, space),
-        Act::Aos => replace(AddOne { code: 8 }, it, regs, pages, space),
         Act::Aosl => replace(AddOne { code: 9 }, it, regs, pages, space),
         Act::Aose => replace(AddOne { code: 10 }, it, regs, pages, space),
         Act::Aosle => replace(AddOne { code: 11 }, it, regs, pages, space),
@@ -123,10 +161,7 @@ pub fn carry<P: Pages>(op: u16, it: Instruction, regs: &mut Regs, pages: &mut P,
         Act::Soje => bare(SubOne { code: 2 }, it, regs, pages, space),
         Act::Sojle => bare(SubOne { code: 3 }, it, regs, pages, space),
         Act::Soja => bare(SubOne { code: 4 }, it, regs, pages, space),
-        Act::Sojge => bare(SubOne { code: 5 }, it, regs, pages, space),
         Act::Sojn => bare(SubOne { code: 6 }, it, regs, pages, space),
-        Act::Sojg => bare(SubOne { code: 7 }, it, regs, pages, space),
-        Act::Sos => replace(SubOne { code: 8 }, it, regs, pages, space),
         Act::Sosl => replace(SubOne { code: 9 }, it, regs, pages, space),
         Act::Sose => replace(SubOne { code: 10 }, it, regs, pages, space),
         Act::Sosle => replace(SubOne { code: 11 }, it, regs, pages, space),
@@ -134,38 +169,12 @@ pub fn carry<P: Pages>(op: u16, it: Instruction, regs: &mut Regs, pages: &mut P,
         Act::Sosge => replace(SubOne { code: 13 }, it, regs, pages, space),
         Act::Sosn => replace(SubOne { code: 14 }, it, regs, pages, space),
         Act::Sosg => replace(SubOne { code: 15 }, it, regs, pages, space),
-        Act::Boolean => read(one!(Boolean op Boolean Basic code), it, regs, pages, space, e),
-        Act::BooleanImmediate => bare(one!(Boolean op Boolean Immediate code), it, regs, pages, space),
         Act::BooleanMemory => replace(one!(Boolean op Boolean Memory code), it, regs, pages, space),
         Act::BooleanBoth => replace(one!(Boolean op Boolean Both code), it, regs, pages, space),
-        Act::Half => read(one!(Half op Half Basic code), it, regs, pages, space, e),
         Act::HalfImmediate => bare(one!(Half op Half Immediate code), it, regs, pages, space),
         Act::HalfMemory => replace(one!(Half op Half Memory code), it, regs, pages, space),
         Act::HalfOwn => replace(one!(Half op Half Own code), it, regs, pages, space),
-        Act::TestImmediate => bare(one!(Test op Test Basic code / 16 * 16 + code % 8), it, regs, pages, space),
         Act::TestMemory => read(one!(Test op Test Basic code / 16 * 16 + 8 + code % 8), it, regs, pages, space, e),
-        _ => carry_other(op, it, regs, pages, space),
-    }
-}
-
-/// The same of the other instructions.
-#[inline(never)]
-#[rattlefmt::skip]
-fn carry_other<P: Pages>(op: u16, it: Instruction, regs: &mut Regs, pages: &mut P, space: SpaceHandle) -> Quick
-    requires op { op < 512 }
-    requires space { HasSpace P.means pages.old space }
-    requires pc { regs.old.pc < 2 ^ 18 }
-    ensures { InPlace P.means space (Addressee op regs.old it.ac it.e it.last) pages.old pages.new regs.old regs.new result }
-{
-    let ac = it.ac;
-    let e = it.e;
-    match act_at(op) {
-        Act::Ibp => byte(0o133, 0, it, regs, pages, space),
-        Act::Ildb => byte(0o134, 1, it, regs, pages, space),
-        Act::Ldb => byte(0o135, 2, it, regs, pages, space),
-        Act::Idpb => byte(0o136, 3, it, regs, pages, space),
-        Act::Dpb => byte(0o137, 4, it, regs, pages, space),
-        Act::Blt => move_word(it, regs, pages, space),
         Act::Movs => read(one!(Move 0o204 Move Basic 1), it, regs, pages, space, e),
         Act::Movsi => bare(one!(Move 0o205 Move Immediate 1), it, regs, pages, space),
         Act::Movsm => write(one!(Move 0o206 Move Memory 1), it, regs, pages, space, e),

@@ -6,7 +6,6 @@ ghost use Rattle.ka10_unit.specs.InPlace.{InPlace, OneUnit};
 use crate::addressing::{ac_field, effective_address, opcode};
 use crate::dispatch::carry;
 use crate::ending::Quick;
-use crate::instruction::Instruction;
 use crate::spots::take;
 use plain_model::{Kind, Pages, Regs, SpaceHandle};
 
@@ -27,14 +26,15 @@ pub fn quick<P: Pages>(regs: &mut Regs, pages: &mut P, space: SpaceHandle) -> Qu
         None => Quick::Slow,
         Some(word) => match effective_address(regs, pages, space, word, INDIRECT_WORDS) {
             None => Quick::Slow,
-            Some(address) => {
-                let it = Instruction {
-                    ac: ac_field(word),
-                    e: address.e,
-                    last: address.last,
-                };
-                carry(opcode(word), it, regs, pages, space)
-            }
+            Some(address) => carry(
+                opcode(word),
+                ac_field(word),
+                address.e,
+                address.last,
+                regs,
+                pages,
+                space,
+            ),
         },
     }
 }

@@ -1,0 +1,191 @@
+// Programs in place, over pages in memory alone: each is begun at 100 and runs up to an illegal word,
+// unless it ends before.
+ghost use Rattle.std.specs.Prelude.{◌≡◌, ◌<◌, ◌≤◌, ◌+◌, ◌^◌, true, false};
+ghost use Rattle.plain_model.specs.Pages.{HasSpace};
+
+use crate::{Burst, End, burst};
+use flat_pages::PlainStore;
+use plain_model::{ForkName, Kind, NewMap, Pages, Place, Regs, Slot, SpaceHandle, Touch, Tty};
+use std::test::Fail;
+use word36::{Flags, Word};
+
+const TOP: ForkName = ForkName {
+    tty: Tty(3),
+    serial: 7,
+};
+
+// The first page of the fork's space is made.
+fn make_page<P: Pages>(pages: &mut P)
+    requires lives { P.means.lives pages.old TOP ≡ true }
+    requires serial { P.means.serial pages.old Tty.CONSOLE < 1000 }
+    ensures { P.means.lives pages.new TOP ≡ true }
+{
+    let at = Place::Fork(Slot { fork: TOP, page: 0 });
+    if let Touch::Zero = pages.touch(at, Kind::Write) {
+        pages.settle(at, Kind::Write, Tty::CONSOLE);
+    }
+}
+
+fn space_of<P: Pages>(pages: &P) -> SpaceHandle
+    requires { P.means.lives pages.now TOP ≡ true }
+    ensures { HasSpace P.means pages.now result }
+{
+    pages.space(TOP)
+}
+
+fn poke<P: Pages>(pages: &mut P, space: SpaceHandle, at: u32, word: u64)
+    requires at { at < 512 }
+    requires space { HasSpace P.means pages.old space }
+    ensures { HasSpace P.means pages.new space }
+{
+    match pages.find(space, 0, Kind::Write) {
+        None => {}
+        Some(found) => pages.store(space, found, at, Word::wrapped(word)),
+    }
+}
+
+// A program's words by their addresses in the first page.
+fn run<P: Pages>(pages: &mut P, program: &[(u32, u64)]) -> (Burst, Regs)
+    requires room { P.means.count pages.old < P.means.most pages.old }
+    requires absent { P.means.lives pages.old TOP ≡ false }
+    requires few { P.means.forks_of pages.old TOP.tty < P.means.most_forks }
+    requires serial { P.means.serial pages.old Tty.CONSOLE < 900 }
+{
+    pages.add_fork(TOP, NewMap::Empty);
+    make_page(pages);
+    let space = space_of(pages);
+    for (at, word) in program {
+        poke(pages, space, *at % 512, *word);
+    }
+    let mut regs = Regs {
+        ac: [Word::ZERO; 16],
+        pc: 0o100,
+        flags: Flags::CLEAR,
+    };
+    let done = burst(&mut regs, pages, space, 100);
+    (done, regs)
+}
+
+#[test]
+fn programs(rt: HostRuntime) -> Result<(), Fail> {
+    for (program, units, end, pc, ac, value) in [
+        // MOVEI 1,5; ADDI 1,3; MOVEM 1,200; MOVE 2,200
+        (
+            &[
+                (0o100, 0o201040000005),
+                (0o101, 0o271040000003),
+                (0o102, 0o202040000200),
+                (0o103, 0o200100000200),
+            ][..],
+            4,
+            End::Slow,
+            0o104,
+            2,
+            0o10,
+        ),
+        // ILDB 2,110, in two units: the first byte of NAME
+        (
+            &[
+                (0o100, 0o134100000110),
+                (0o110, 0o440700000200),
+                (0o200, 0o472031542576),
+            ][..],
+            2,
+            End::Slow,
+            0o101,
+            2,
+            0o116,
+        ),
+        // MOVE 1,110; BLT 1,302, a word a unit; MOVE 2,302
+        (
+            &[
+                (0o100, 0o200040000110),
+                (0o101, 0o251040000302),
+                (0o102, 0o200100000302),
+                (0o110, 0o000200000300),
+                (0o202, 0o000000000033),
+            ][..],
+            5,
+            End::Slow,
+            0o103,
+            2,
+            0o33,
+        ),
+        // MOVE 1,110; PUSHJ 1,105; at 105 POPJ 1,
+        (
+            &[
+                (0o100, 0o200040000110),
+                (0o101, 0o260040000105),
+                (0o105, 0o263040000000),
+                (0o110, 0o777770000400),
+            ][..],
+            3,
+            End::Slow,
+            0o102,
+            1,
+            0o777770000400,
+        ),
+        // MOVEI 3,3; SOJG 3,101
+        (
+            &[(0o100, 0o201140000003), (0o101, 0o367140000101)][..],
+            4,
+            End::Slow,
+            0o102,
+            3,
+            0,
+        ),
+        // MOVE 1,110; ADDI 1,1 overflows
+        (
+            &[
+                (0o100, 0o200040000110),
+                (0o101, 0o271040000001),
+                (0o110, 0o377777777777),
+            ][..],
+            1,
+            End::Overflow,
+            0o102,
+            1,
+            0o400000000000,
+        ),
+        // MOVE 1,110; PUSH 1,110 fills the list
+        (
+            &[
+                (0o100, 0o200040000110),
+                (0o101, 0o261040000110),
+                (0o110, 0o777777000400),
+            ][..],
+            1,
+            End::Pushdown,
+            0o102,
+            1,
+            0o000000000401,
+        ),
+        // MOVE 1,@200
+        (
+            &[
+                (0o100, 0o200060000200),
+                (0o200, 0o000000000201),
+                (0o201, 0o000000000007),
+            ][..],
+            1,
+            End::Slow,
+            0o101,
+            1,
+            7,
+        ),
+        // JSYS 74, a monitor call
+        (&[(0o100, 0o104000000074)][..], 0, End::Slow, 0o100, 1, 0),
+        // MOVE 1,5000, in a page that isn't made
+        (&[(0o100, 0o200040005000)][..], 0, End::Slow, 0o100, 1, 0),
+        // JRST 100
+        (&[(0o100, 0o254000000100)][..], 100, End::Most, 0o100, 1, 0),
+    ] {
+        let mut pages = PlainStore::boot(rt.alloc(), 8)?;
+        let (done, regs) = run(&mut pages, program);
+        assert_eq!(rt; done, Burst { units, end });
+        assert_eq!(rt; regs.pc, pc);
+        assert!(rt; ac < 16);
+        assert_eq!(rt; regs.ac[ac as usize], Word::wrapped(value));
+    }
+    Ok(())
+}
