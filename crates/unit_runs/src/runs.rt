@@ -88,15 +88,16 @@ fn come_out(alloc: Global, limit: u32, first: Regs, units: u32) -> Result<Came, 
     })
 }
 
-/// The program stands in accumulators 1 to 7, and begins at 1. Each row: how many pages and forks there
-/// may be; accumulators 1 to 7; how many units; how the last came out; accumulators 3 to 6 then; the
-/// program counter; and how many pages and forks there are.
+/// The program stands in accumulators 1 to 7, and begins at 1. Each row: how many pages and forks
+/// there may be; accumulators 1 to 7; how many units; how the last came out; accumulators 3 to 6
+/// then; the program counter; and how many pages and forks there are.
 #[test]
 #[rattlefmt::skip]
 fn programs(rt: HostRuntime) -> Result<(), Fail> {
     let done = Outcome::Done(Post::Nothing);
     for (limit, program, units, outcome, after, pc, live) in [
-        // XCT of itself, and MOVE through an indirect word of itself: more references than there may be
+        // XCT of itself, and MOVE through an indirect word of itself: more references than there
+        // may be
         (9, [0o256000000001, 0, 0, 0, 0, 0, 0], 1, Outcome::Trap(0o17), [0, 0, 0, 0], 1, 1),
         (9, [0o200160000002, 0o000020000002, 0, 0, 0, 0, 0], 1, Outcome::Trap(0o17), [0, 0, 0, 0], 1, 1),
         // MOVE 3,23 makes a page of zeros
