@@ -65,8 +65,8 @@ fn store<P: Pages>(pages: &mut P, fork: ForkName, put: Option<Put>)
     }
 }
 
-/// Carries out a unit: its pages are made in the order of its references, then the word that it kept is
-/// stored, and then its last word.
+/// Carries out a unit: its pages are made in the order of its references, then the word that it
+/// kept is stored, and then its last word.
 pub fn carry<P: Pages>(taken: &Taken, put: Option<Put>, pages: &mut P, fork: ForkName)
     requires serves { Serves P.means pages.old fork }
     requires kept { IsPutBelow (2 ^ 18) taken.now.kept }

@@ -87,8 +87,8 @@ fn end_storing(regs: Regs, at: u32, word: Word, post: Post) -> Ending
     }
 }
 
-/// What is left of a unit once its instruction is committed on its registers: the word that it stores
-/// is asked for.
+/// What is left of a unit once its instruction is committed on its registers: the word that it
+/// stores is asked for.
 pub fn finish<P: Pages>(
     taken: &mut Taken,
     regs: &Regs,

@@ -13,8 +13,8 @@ use arrayvec::ArrayVec;
 use plain_model::{ForkName, Kind, Pages, Place, Slot, Touch};
 use std::marker::Model;
 
-/// How many pages a unit makes at most: one for each of its references, and one where its last word,
-/// which was read, is asked for again, to write.
+/// How many pages a unit makes at most: one for each of its references, and one where its last
+/// word, which was read, is asked for again, to write.
 pub const MOST_MAKINGS: usize = 17;
 
 /// A reference to a page of a fork's space, 0 to 511.
@@ -125,9 +125,9 @@ impl Gather {
         Added::Went
     }
 
-    /// One reference more, to a page of a living fork's space. Went exactly where it is granted on the
-    /// pages that the references so far leave; else Denied or Full as it comes to there, and nothing is
-    /// added.
+    /// One reference more, to a page of a living fork's space. Went exactly where it is granted on
+    /// the pages that the references so far leave; else Denied or Full as it comes to there, and
+    /// nothing is added.
     pub fn add<P: Pages>(&mut self, pages: &P, fork: ForkName, asking: Asking) -> Added
         requires serves { Serves P.means pages.now fork }
         requires page { asking.page < SPACE_PAGES }

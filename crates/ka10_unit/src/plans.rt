@@ -45,8 +45,8 @@ pub enum Step {
 /// What a unit comes to.
 #[derive(Clone, Copy, Debug, PartialEq, Eq)]
 pub enum Planned {
-    /// It goes through: it makes the pages that were gathered, stores the word that was kept, and ends
-    /// so.
+    /// It goes through: it makes the pages that were gathered, stores the word that was kept, and
+    /// ends so.
     Do(Ending),
     /// It traps, with a channel, and changes nothing.
     Trap(u8),
@@ -258,9 +258,9 @@ fn follow<P: Pages>(
     }
 }
 
-/// Plans the unit of the instruction at the program counter: any word whatever. It changes nothing but
-/// what is taken, which is then that of this unit: the pages that it makes, in order, its references,
-/// and the word that it kept.
+/// Plans the unit of the instruction at the program counter: any word whatever. It changes nothing
+/// but what is taken, which is then that of this unit: the pages that it makes, in order, its
+/// references, and the word that it kept.
 pub fn plan<P: Pages>(taken: &mut Taken, regs: &Regs, pages: &P, fork: ForkName) -> Planned
     requires serves { Serves P.means pages.now fork }
     requires pc { regs.now.pc < 2 ^ 18 }
@@ -310,8 +310,8 @@ mod tests {
         }
     }
 
-    // JRST is the executive's with bit 4 or bit 10 (octal) of AC; a monitor call is illegal behind a
-    // local call alone.
+    // JRST is the executive's with bit 4 or bit 10 (octal) of AC; a monitor call is illegal behind
+    // a local call alone.
     #[test]
     fn illegal_words(rt: HostRuntime) {
         for (op, is_local, ac, illegal) in [

@@ -27,8 +27,8 @@ fn have_accumulators(regs: Regs)
     ensures { length regs.ac ≡ ACCUMULATORS }
 {}
 
-/// Does the unit of the instruction at the program counter: any word whatever. What is taken before is
-/// forgotten.
+/// Does the unit of the instruction at the program counter: any word whatever. What is taken before
+/// is forgotten.
 pub fn slow_unit<P: Pages>(
     taken: &mut Taken,
     regs: &mut Regs,

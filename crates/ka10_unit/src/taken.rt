@@ -39,8 +39,8 @@ impl Trap {
     };
 }
 
-/// What a unit has taken so far: its references, those of them that make pages, and the word that it
-/// has stored for its later references to see.
+/// What a unit has taken so far: its references, those of them that make pages, and the word that
+/// it has stored for its later references to see.
 #[derive(Drop)]
 pub struct Taken {
     pub gather: Gather,
@@ -147,8 +147,8 @@ fn held_word<P: Pages>(pages: &P, fork: ForkName, at: u32) -> Word
     }
 }
 
-/// Whether a word that the unit has stored at an address stands at another: at the same place of the
-/// same page, which may have two names.
+/// Whether a word that the unit has stored at an address stands at another: at the same place of
+/// the same page, which may have two names.
 fn is_stored_at<P: Pages>(pages: &P, fork: ForkName, stored: u32, at: u32) -> bool
     requires serves { Serves P.means pages.now fork }
     requires address { IsAddress at }
@@ -209,8 +209,8 @@ fn word_at<P: Pages>(taken: &Taken, regs: &Regs, pages: &P, fork: ForkName, at: 
     seen_word(pages, fork, taken.kept, at)
 }
 
-/// Refers to an address, and takes the word there. Err: the page is denied, or has to be made and the
-/// drum is full; or it would be a reference more than a unit may have.
+/// Refers to an address, and takes the word there. Err: the page is denied, or has to be made and
+/// the drum is full; or it would be a reference more than a unit may have.
 pub fn refer<P: Pages>(
     taken: &mut Taken,
     regs: &Regs,

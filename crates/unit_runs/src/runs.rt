@@ -20,8 +20,35 @@ const TOP: ForkName = ForkName {
 #[derive(Drop)]
 struct Came {
     outcome: Outcome,
-    regs: Regs,
+    /// The words of accumulators 3 to 6.
+    words: [u64; 4],
+    pc: u32,
     live: u32,
+}
+
+/// Registers with a program in accumulators 1 to 7, at 1.
+fn registers(program: [u64; 7]) -> Regs
+    ensures { result.pc < 2 ^ 18 }
+{
+    let mut ac = [Word::ZERO; 16];
+    for at in 0..7usize {
+        ac[at + 1] = Word::wrapped(program[at]);
+    }
+    Regs {
+        ac,
+        pc: 1,
+        flags: Flags::CLEAR,
+    }
+}
+
+/// The words of accumulators 3 to 6.
+fn words_of(regs: &Regs) -> [u64; 4] {
+    [
+        regs.ac[3].value(),
+        regs.ac[4].value(),
+        regs.ac[5].value(),
+        regs.ac[6].value(),
+    ]
 }
 
 /// Does so many units, as long as they go through.
@@ -53,23 +80,24 @@ fn come_out(alloc: Global, limit: u32, first: Regs, units: u32) -> Result<Came, 
     pages.add_fork(TOP, NewMap::Empty);
     let mut regs = first;
     let outcome = run(&mut pages, &mut regs, units);
-    let live = pages.live();
     Ok(Came {
         outcome,
-        regs,
-        live,
+        words: words_of(&regs),
+        pc: regs.pc,
+        live: pages.live(),
     })
 }
 
-/// The program stands in accumulators 1 to 7, and begins at 1. Each row: how many pages and forks there
-/// may be; accumulators 1 to 7; how many units; how the last came out; accumulators 3 to 6 then; the
-/// program counter; and how many pages and forks there are.
+/// The program stands in accumulators 1 to 7, and begins at 1. Each row: how many pages and forks
+/// there may be; accumulators 1 to 7; how many units; how the last came out; accumulators 3 to 6
+/// then; the program counter; and how many pages and forks there are.
 #[test]
 #[rattlefmt::skip]
 fn programs(rt: HostRuntime) -> Result<(), Fail> {
     let done = Outcome::Done(Post::Nothing);
     for (limit, program, units, outcome, after, pc, live) in [
-        // XCT of itself, and MOVE through an indirect word of itself: more references than there may be
+        // XCT of itself, and MOVE through an indirect word of itself: more references than there
+        // may be
         (9, [0o256000000001, 0, 0, 0, 0, 0, 0], 1, Outcome::Trap(0o17), [0, 0, 0, 0], 1, 1),
         (9, [0o200160000002, 0o000020000002, 0, 0, 0, 0, 0], 1, Outcome::Trap(0o17), [0, 0, 0, 0], 1, 1),
         // MOVE 3,23 makes a page of zeros
@@ -100,20 +128,11 @@ fn programs(rt: HostRuntime) -> Result<(), Fail> {
     ] {
         assert!(rt; limit >= 1 && limit <= 9);
         assert!(rt; units < 100);
-        let [one, two, three, four, five, six, seven] = program.map(Word::wrapped);
-        let zero = Word::ZERO;
-        let first = Regs {
-            ac: [zero, one, two, three, four, five, six, seven, zero, zero, zero, zero, zero, zero, zero, zero],
-            pc: 1,
-            flags: Flags::CLEAR,
-        };
-        let left = come_out(rt.alloc(), limit, first, units)?;
-        assert_eq!(rt; left.outcome, outcome, "of {one:?}");
-        let ac = left.regs.ac;
-        let words = [ac[3].value(), ac[4].value(), ac[5].value(), ac[6].value()];
-        assert_eq!(rt; words, after, "of {one:?}");
-        assert_eq!(rt; left.regs.pc, pc, "of {one:?}");
-        assert_eq!(rt; left.live, live, "of {one:?}");
+        let left = come_out(rt.alloc(), limit, registers(program), units)?;
+        assert_eq!(rt; left.outcome, outcome, "of {program:?}");
+        assert_eq!(rt; left.words, after, "of {program:?}");
+        assert_eq!(rt; left.pc, pc, "of {program:?}");
+        assert_eq!(rt; left.live, live, "of {program:?}");
     }
     Ok(())
 }
