@@ -73,6 +73,4 @@ pub use taken::{Taken, Trap};
 pub use words::{commit_blt, commit_boolean, commit_exch, commit_half, commit_test};
 
 #[cfg(test)]
-mod burst_tests;
-#[cfg(test)]
 mod tests;

@@ -3,7 +3,7 @@
 ghost use Rattle.std.specs.Prelude.{◌≡◌, ◌<◌, ◌≤◌, ◌+◌, ◌^◌, true, false};
 ghost use Rattle.plain_model.specs.Pages.{HasSpace};
 
-use crate::{Burst, End, burst};
+use ka10_unit::{Burst, End, burst};
 use flat_pages::PlainStore;
 use plain_model::{ForkName, Kind, NewMap, Pages, Place, Regs, Slot, SpaceHandle, Touch, Tty};
 use std::test::Fail;
