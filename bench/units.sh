@@ -1,17 +1,32 @@
 #!/usr/bin/env bash
-# Prints how many units a second the program runs, as ./tenex builds it, in a loop of one instruction that
-# jumps to itself, and how many machine instructions a unit takes. Both leave out the start of the program:
-# they are the difference between two runs. The seconds are of processor time.
+# Prints how many machine instructions a unit takes, and how many units a second the program runs, as ./tenex
+# builds it, in loops of a few instructions. Both leave out the start of the program: they are the difference
+# between two runs. The seconds are of processor time.
 set -eu
 source "$(dirname "$0")/program.inc"
 millions=${1:-20}
 
-# A script of the loop, with RUN lines of so many units, once for each argument.
+# What each loop pokes at terminal 0, an address and a word a pair. It runs from 100 on.
+declare -A loops=(
+    ['JRST 100']='100 254000000100'
+    ['AOS 0(2); ADD 2,4; SOJG 3,100']='2 1000 3 377777777777 100 350002000000 101 270100000004 102 367140000100 1000 0'
+    ['MOVE, ADD, MOVEM, JRST']='100 200040001000 101 270040001001 102 202040001002 103 254000000100 1000 1'
+    ['MOVE, ILDB, HLRZ, TRNN, JRST']='100 200100001000 101 134040000002 102 554140000001 103 606140000001 104 254000000100 1000 440700001001'
+    ['PUSHJ, PUSH, POP, POPJ, JRST']='17 777000001777 100 260740000110 101 254000000100 110 261740001000 111 262740001001 112 263740000000 1000 1 2000 0'
+)
+order=('JRST 100' 'AOS 0(2); ADD 2,4; SOJG 3,100' 'MOVE, ADD, MOVEM, JRST' 'MOVE, ILDB, HLRZ, TRNN, JRST' 'PUSHJ, PUSH, POP, POPJ, JRST')
+
+# script JOBS LOOP UNITS..: the loop at terminal 0 beside jobs that do not run, with RUN lines of so many units.
 script() {
-    printf 'LOGIN 0 SMITH\nPOKE 0 100 254000000100\nSTART 0 100\n'
-    for units; do
-        printf 'RUN %d\n' "$units"
+    local jobs=$1 loop=$2 job
+    shift 2
+    for ((job = 0; job < jobs; job++)); do
+        echo "LOGIN $job SMITH"
     done
+    # shellcheck disable=SC2086 # addresses and words in pairs
+    printf 'POKE 0 %s %s\n' ${loops[$loop]}
+    echo 'START 0 100'
+    [ $# -eq 0 ] || printf 'RUN %d\n' "$@"
 }
 
 # The machine instructions that a run of a script takes.
@@ -20,21 +35,27 @@ instructions() {
         awk '/Collected/ { print $NF }'
 }
 
-script >start.script
-script 1000000 >one.script
-script 500000 >half.script
-script $(for ((i = 0; i < millions; i++)); do echo 1000000; done) >long.script
+# measure NAME JOBS LOOP: a line of the table.
+measure() {
+    local name=$1 counted='not counted' taken
+    script "$2" "$3" >start.script
+    script "$2" "$3" 1000000 >one.script
+    script "$2" "$3" 500000 >half.script
+    # shellcheck disable=SC2046 # a number a RUN line
+    script "$2" "$3" $(yes 1000000 | head -n "$millions") >long.script
+    "$program" run <one.script >/dev/null
+    [ "$(tail -n 2 tenex.record)" = $'U 0 1 1000000\nE 0 0' ]
+    if command -v valgrind >/dev/null; then
+        counted=$(($(instructions one.script) - $(instructions half.script)))
+        counted=$((counted / 500000)).$((counted / 50000 % 10))
+    fi
+    taken=$(($(milliseconds long.script) - $(milliseconds start.script)))
+    printf '%-40s %12s %14d\n' "$name" "$counted" $((millions * 1000 / (taken > 0 ? taken : 1)))
+}
 
-begun=$(date +%s%N)
-"$program" run <one.script >/dev/null
-echo "1000000 units, with the start of the program: $((($(date +%s%N) - begun) / 1000000)) ms by the clock"
-[ "$(tail -n 2 tenex.record)" = $'U 0 1 1000000\nE 0 0' ]
-
-taken=$(($(milliseconds long.script) - $(milliseconds start.script)))
-echo "$millions million units: $taken ms, $((millions * 1000000 / (taken > 0 ? taken : 1))) thousand units a second"
-
-if command -v valgrind >/dev/null; then
-    echo "machine instructions a unit: $((($(instructions one.script) - $(instructions half.script)) / 500000))"
-else
-    echo "machine instructions a unit: not counted, as valgrind is not there"
-fi
+printf '%-40s %12s %14s\n' loop 'instructions' 'units a us'
+for loop in "${order[@]}"; do
+    measure "$loop" 1 "$loop"
+done
+measure 'JRST 100, beside fifteen jobs' 16 'JRST 100'
+command -v valgrind >/dev/null || echo 'machine instructions: not counted, as valgrind is not there'

@@ -10,6 +10,8 @@ mod examples;
 #[cfg(test)]
 mod failures;
 #[cfg(test)]
+mod instructions;
+#[cfg(test)]
 mod limits;
 #[cfg(test)]
 mod machine;
