@@ -19,3 +19,5 @@ mod machine;
 mod memory_run;
 #[cfg(test)]
 mod scripts;
+#[cfg(test)]
+mod units;
