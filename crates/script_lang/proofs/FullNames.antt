@@ -1,5 +1,5 @@
 -- The test of full names decides them.
-use Rattle.std.proofs.Common.{◌≡◌, ℕ, ◌+◌, ◌<◌, ◌≤◌, List, [], ◌∷◌, ◌++◌, length, get_or, true, false, Bool, None, Some, refl, sym, ◌∙◌, ap, arith, ◌⊎◌, inl, inr, All, length-append, length-take}
+use Rattle.std.proofs.Common.{◌≡◌, ℕ, ◌+◌, ◌<◌, ◌≤◌, List, [], ◌∷◌, ◌++◌, length, get_or, true, false, Bool, None, Some, refl, sym, ◌∙◌, ap, subst, arith, ◌⊎◌, inl, inr, All, length-append, length-take}
 use Rattle.std.specs.Prelude.{◌==◌, nat_le, ◌&&◌, if◌then◌else◌}
 use Rattle.std.specs.Char.{to_ascii_uppercase}
 use Rattle.std.specs.List.{list_all, position_or_len}
@@ -132,6 +132,15 @@ long_named user extension text long = ap (λ b. if b then Some (full_name user e
 pub one_named : (user extension text : List ℕ) → IsFileName (full_name user extension text) → file_named user extension text ≡ Some (full_name user extension text)
 unfolding file_named
 one_named user extension text name = ap (λ b. if b then Some (full_name user extension text) else None) (is_named (full_name user extension text) name)
+
+-- what a text names is the full name of a file
+some_by : (b : Bool) (text name : List ℕ) → is_file_name text ≡ b → if b then Some text else None ≡ Some name → IsFileName name
+some_by true text name e is = let same : text ≡ name = cc is in subst IsFileName same (named_is text e)
+some_by false text name e is = absurd (cc is)
+
+pub what_is_named : (user extension text name : List ℕ) → file_named user extension text ≡ Some name → IsFileName name
+unfolding file_named
+what_is_named user extension text name e = some_by (is_file_name (full_name user extension text)) (full_name user extension text) name refl e
 
 -- how a full name is put together
 pub full_name-parts : (user extension text : List ℕ) → full_name user extension text ≡ directory_before user text ++ (raised text ++ extension_behind extension text)

@@ -2,7 +2,7 @@
 ghost use Rattle.std.specs.Prelude.{◌≡◌, ◌+◌, ◌<◌, ℕ, [], drop, slice_get, IfSome, MatchOption};
 ghost use Rattle.plain_model.specs.Limits.{FitsEvent};
 ghost use Rattle.script_lang.specs.Generator.{big_events, generated_file, one_word, terminal};
-ghost use Rattle.script_lang.specs.Stages.{IsLoading, IsStage, Moves, rest_of};
+ghost use Rattle.script_lang.specs.Stages.{IsStage, Moves, rest_of};
 ghost use Rattle.script_lang.specs.declared.stages.Stage.TheVariants.{Login as AtLogin, MakeFile as AtFile, Fill as AtFill, Load as AtLoad, Evict as AtEvict, Run as AtRun, Show as AtShow};
 
 use crate::draws::Draws;

@@ -1,4 +1,4 @@
-//! The console script: a line as an event, an event as its canonical line, and a source as the events of its lines.
+//! The console script: lines as events, events as canonical lines, the names of files, and the generated script.
 //! To the layers above an answer is about the whole bytes of a script, in whatever pieces they came.
 //! Stands on `plain_model` for events, on `outside` for sources, and on `word36` for words.
 #![tactic(auto)]

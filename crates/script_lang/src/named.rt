@@ -1,5 +1,5 @@
 // The files that texts name.
-ghost use Rattle.std.specs.Prelude.{◌≡◌, ◌+◌, ◌<◌, ◌++◌, ◌↔◌, ℕ, List, length, IsTrue, MatchOption, true};
+ghost use Rattle.std.specs.Prelude.{◌≡◌, ◌+◌, ◌<◌, ◌++◌, ◌↔◌, ℕ, List, length, MatchOption, Some, true};
 ghost use Rattle.plain_model.specs.Limits.{IsFileName};
 ghost use Rattle.script_lang.specs.Names.{directory_before, extension_behind, file_named, full_name as full_name_of, has_directory as opens, has_point as is_pointed, is_file_name, raised};
 
@@ -20,9 +20,11 @@ pub fn read_name(text: &[u8], extension: &[u8], user: &DirName) -> Option<FileNa
     file_name(full.as_slice())
 }
 
-/// A text is the full name of a file exactly where the test says so.
+/// A text is the full name of a file exactly where the test says so, and what a text names is such a
+/// name.
 pub fn full_names()
-    ensures { (text : List ℕ) → (is_file_name text ≡ true) ↔ IsFileName text }
+    ensures test { (text : List ℕ) → (is_file_name text ≡ true) ↔ IsFileName text }
+    ensures named { (user : List ℕ) (extension : List ℕ) (text : List ℕ) (name : List ℕ) → file_named user extension text ≡ Some name → IsFileName name }
 {}
 
 // The full name that a text stands for. None exactly where it has too many characters.

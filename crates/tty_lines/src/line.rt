@@ -1,5 +1,5 @@
 // The line of a job's terminal.
-ghost use Rattle.std.specs.Prelude.{◌≡◌, ◌≢◌, ◌<◌, ◌↔◌, [], length, drop, slice_get, IsTrue, IfOk, IfSome};
+ghost use Rattle.std.specs.Prelude.{◌≡◌, ◌<◌, ◌↔◌, [], drop, slice_get, IsTrue, IfOk, IfSome};
 ghost use Rattle.std.specs.FinMap as map;
 ghost use Rattle.tty_lines.specs.Characters.{read_as as is_read_as};
 ghost use Rattle.tty_lines.specs.Lines.{AreAssigned, IsAssignable, IsLine, assigned_to, new_line, without_codes_of};
