@@ -1,15 +1,21 @@
 // What follows from the definitions, in the words of their users. A law does nothing when it runs.
-ghost use Rattle.std.specs.Prelude.{◌≡◌, ◌≢◌, ℕ, ◌<◌, List, None, Some, true, false};
+ghost use Rattle.std.specs.Prelude.{◌≡◌, ◌≢◌, ℕ, ◌<◌, List, None, Some, IsSome, true, false};
 ghost use Rattle.frame_order.specs.FrameOrder.{stands_in};
 ghost use Rattle.plain_model.specs.declared.names.Home.{Home};
 ghost use Rattle.frame_table.specs.Ages.{AreByAge, AreOlder, renewed};
 ghost use Rattle.frame_table.specs.Core.{Core, IsCore, can_leave, home_in, is_held, seat_of, used, victim_of, with_page, without_page};
-ghost use Rattle.frame_table.specs.Deeds.{Deed, IsHeldThrough, after_all};
+ghost use Rattle.frame_table.specs.Deeds.{Deed, IsHeldThrough, after, after_all};
 
 /// A frame that is held keeps the page of its home, whatever is done, until its holds are spent and
 /// its pins taken away.
 pub fn held_frames_keep_their_pages()
     ensures { (c : Core) (ds : List Deed) (f : ℕ) → IsHeldThrough c ds f → home_in (after_all c ds) f ≡ home_in c f }
+{}
+
+/// A hold that is spent leaves no trace, and neither does a pin that is taken away.
+pub fn spent_holds_leave_no_trace()
+    ensures holds { (c : Core) (f : ℕ) → IsSome (seat_of c f) → after (after c (Deed.Holds f)) (Deed.Releases f) ≡ c }
+    ensures pins { (c : Core) (f : ℕ) → IsSome (seat_of c f) → after (after c (Deed.Pins f)) (Deed.Unpins f) ≡ c }
 {}
 
 /// The frames stand by their ages, the numbers of their last uses: a use, or a page that comes in,

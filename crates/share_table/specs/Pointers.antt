@@ -1,5 +1,5 @@
 -- Pointers as words: which entry of a map a word of its page stands for.
-use Rattle.std.specs.Prelude.{ℕ, ◌+◌, ◌*◌, ◌^◌, ◌<◌, ◌≤◌, Bool, true, false, ⊤}
+use Rattle.std.specs.Prelude.{◌≡◌, ℕ, ◌+◌, ◌*◌, ◌^◌, ◌<◌, ◌≤◌, Bool, true, false, ⊤}
 use Rattle.plain_model.specs.declared.names.Access.{Access}
 use Rattle.plain_model.specs.declared.names.TheConstants.{MOST_HOMES, LAST_SERIAL, SPACE_PAGES}
 use Rattle.share_table.specs.declared.pointer.Pointer.{Pointer}
@@ -31,3 +31,7 @@ IsPointer Empty = ⊤
 IsPointer (Private home access) = home.0 < MOST_HOMES
 IsPointer (Shared share access) = share.0 < MOST_SHARES
 IsPointer (Indirect serial page access) = (1 ≤ serial) × (serial ≤ LAST_SERIAL) × (page < SPACE_PAGES)
+
+-- an entry has this word
+abbrev pub IsEntryWord : ℕ → Type 0
+IsEntryWord w = (p : Pointer) × IsPointer p × (pointer_word p ≡ w)
