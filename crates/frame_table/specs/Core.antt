@@ -30,10 +30,11 @@ home_in c f = option_map (λ t. t.home) (seat_of c f)
 abbrev pub IsAway : Core → Home → Type 0
 IsAway c h = (f : ℕ) → home_in c f ≢ Some h
 
--- how many holds of a frame are not spent, and how many pins it has
+-- how many holds of a frame are not spent
 abbrev pub holds_of : Core → ℕ → ℕ
 holds_of c f = option_map_or (λ t. t.holds) (seat_of c f) 0
 
+-- how many pins a frame has
 abbrev pub pins_of : Core → ℕ → ℕ
 pins_of c f = option_map_or (λ t. t.pins) (seat_of c f) 0
 

@@ -6,6 +6,7 @@ use Rattle.share_table.specs.declared.pointer.Pointer.{Pointer}
 use Rattle.share_table.specs.declared.pointer.Pointer.TheVariants.{Empty, Private, Shared, Indirect}
 use Rattle.share_table.specs.declared.shares.TheConstants.{MOST_SHARES}
 
+-- a bit that is set is 1
 abbrev pub bit_of : Bool → ℕ
 bit_of true = 1
 bit_of false = 0
