@@ -96,11 +96,17 @@ fn shared(table: &ShareTable, s: Share) -> Option<(Home, u32)> {
 fn shares_come_and_go(rt: HostRuntime) -> Result<(), Fail> {
     let mut table = ShareTable::boot(rt.alloc(), 2)?;
     let (first, second) = (Share(0), Share(1));
-    assert_eq!(rt; (table.len(), table.room(), table.has(first)), (0, 2, false));
+    assert_eq!(rt;
+        (table.len(), table.room(), table.has(first)),
+        (0, 2, false)
+    );
     assert_eq!(rt; share(&mut table, Home(7)), Some(first));
     assert_eq!(rt; share(&mut table, Home(9)), Some(second));
     assert_eq!(rt; share(&mut table, Home(5)), None);
-    assert_eq!(rt; (table.len(), shared(&table, first)), (2, Some((Home(7), 1))));
+    assert_eq!(rt;
+        (table.len(), shared(&table, first)),
+        (2, Some((Home(7), 1)))
+    );
     join(&mut table, first);
     join(&mut table, first);
     assert_eq!(rt; shared(&table, first), Some((Home(7), 3)));
@@ -108,7 +114,10 @@ fn shares_come_and_go(rt: HostRuntime) -> Result<(), Fail> {
     assert_eq!(rt; leave(&mut table, first), None);
     assert_eq!(rt; leave(&mut table, first), None);
     assert_eq!(rt; leave(&mut table, first), Some(Home(7)));
-    assert_eq!(rt; (table.has(first), table.has(second), table.len()), (false, true, 1));
+    assert_eq!(rt;
+        (table.has(first), table.has(second), table.len()),
+        (false, true, 1)
+    );
     assert_eq!(rt; share(&mut table, Home(8)), Some(first));
     assert_eq!(rt; shared(&table, first), Some((Home(8), 1)));
     assert_eq!(rt; shared(&table, second), Some((Home(9), 1)));
