@@ -1,9 +1,8 @@
 -- A frame that is held keeps its page.
-use Rattle.std.proofs.Common.{◌≡◌, ◌≢◌, ℕ, ◌+◌, ◌-◌, ◌<◌, ◌≤◌, ◌⊎◌, inl, inr, List, [], ◌∷◌, ◌++◌, length, Option, None, Some, is_some, Bool, true, false, cond, refl, sym, ◌∙◌, ap, subst, arith, get_or, set}
+use Rattle.std.proofs.Common.{◌≡◌, ◌≢◌, ℕ, ◌+◌, ◌-◌, inl, inr, List, [], ◌∷◌, ◌++◌, length, Option, None, Some, is_some, Bool, true, false, cond, refl, sym, ◌∙◌, ap, arith, set}
 use Rattle.std.specs.Option.{option_map, option_map_or}
 use Rattle.std.proofs.lemmas.Bool.{cases_eq, cases_lt, false≢true}
 use Rattle.std.proofs.lemmas.List.{get_or-set_same, get_or-set_other, get_or_past, set_past, set-get_or, set-set}
-use Rattle.plain_model.specs.declared.names.Home.{Home}
 use Rattle.frame_table.specs.declared.tenant.Tenant.{Tenant}
 use Rattle.frame_table.specs.Core.{Core, seat_of, home_in, is_held, is_kept, new_tenant, with_tenant}
 use Rattle.frame_order.specs.FrameOrder.{without}

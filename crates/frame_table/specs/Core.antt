@@ -1,5 +1,5 @@
 -- The frames of core.
-use Rattle.std.specs.Prelude.{◌≡◌, ◌≢◌, ℕ, ◌+◌, ◌<◌, ◌≤◌, ◌==◌, List, ◌∷◌, [], ◌++◌, length, Option, None, Some, is_some, IsSome, Bool, true, false, not, ◌&&◌, ◌||◌, slice_index_or, slice_set, if◌then◌else◌}
+use Rattle.std.specs.Prelude.{◌≡◌, ◌≢◌, ℕ, ◌<◌, ◌≤◌, ◌==◌, List, ◌∷◌, [], ◌++◌, length, Option, None, Some, is_some, IsSome, Bool, false, not, ◌&&◌, slice_index_or, slice_set, if◌then◌else◌}
 use Rattle.std.specs.Option.{option_map, option_map_or}
 use Rattle.std.specs.List.{find}
 use Rattle.frame_order.specs.FrameOrder.{IsOrder, stands_in, without}

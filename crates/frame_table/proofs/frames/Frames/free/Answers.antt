@@ -1,4 +1,4 @@
-use Rattle.std.proofs.Common.{◌≡◌, ◌<◌, None, length, sym, ap, ◌∙◌, subst, arith}
+use Rattle.std.proofs.Common.{◌≡◌, ◌<◌, None, length, sym, ◌∙◌, subst}
 use Rattle.std.proofs.lemmas.List.{get_or_read}
 use Rattle.frame_table.specs.Core.{Core, seat_of, without_page}
 use Rattle.frame_table.specs.Seats.{core_of}

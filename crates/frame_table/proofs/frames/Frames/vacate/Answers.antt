@@ -1,4 +1,4 @@
-use Rattle.std.proofs.Common.{◌≡◌, ◌<◌, ◌+◌, ◌^◌, Some, is_some, true, sym, ap, ◌∙◌, arith}
+use Rattle.std.proofs.Common.{◌≡◌, Some, ap, ◌∙◌, arith}
 use Rattle.frame_table.specs.Core.{Core, home_in}
 use Rattle.frame_table.specs.Seats.{core_of}
 use Rattle.frame_table.proofs.Kept.{kept_vacated, free_small}
