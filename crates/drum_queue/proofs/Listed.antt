@@ -1,5 +1,5 @@
 -- The list of the transfers that stand at the places of some frames.
-use Rattle.std.proofs.Common.{◌≡◌, ◌≢◌, ℕ, ◌==◌, inl, inr, List, [], ◌∷◌, map, Option, None, Some, is_some, Bool, true, false, not, cond, ◌||◌, refl, sym, ◌∙◌, ap, arith, set}
+use Rattle.std.proofs.Common.{◌≡◌, ◌≢◌, ℕ, ◌==◌, inl, inr, List, [], ◌∷◌, map, Option, None, Some, is_some, Bool, true, false, not, cond, ◌||◌, refl, sym, ◌∙◌, ap, set}
 use Rattle.std.specs.List.{cons_option}
 use Rattle.std.proofs.lemmas.Bool.{cases_eq, false≢true}
 use Rattle.std.proofs.lemmas.List.{get_or-set_other}

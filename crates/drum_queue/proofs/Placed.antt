@@ -1,5 +1,5 @@
 -- What a transfer put last, taken back or ended makes of the places.
-use Rattle.std.proofs.Common.{◌≡◌, ◌≢◌, ℕ, zero, suc, ◌<◌, ◌==◌, inl, inr, List, [], ◌∷◌, ◌++◌, length, Option, None, Some, is_some, IsSome, Bool, true, false, not, cond, ◌||◌, refl, sym, ◌∙◌, ap, subst, arith, set, drop, slice_get, replicate}
+use Rattle.std.proofs.Common.{◌≡◌, ◌≢◌, ℕ, zero, suc, ◌<◌, inl, inr, List, [], ◌∷◌, ◌++◌, length, Option, None, Some, is_some, IsSome, Bool, true, false, not, cond, ◌||◌, refl, sym, ◌∙◌, ap, subst, arith, set, drop, slice_get, replicate}
 use Rattle.std.specs.List.{cons_option}
 use Rattle.std.proofs.lemmas.Bool.{cases_eq, false≢true}
 use Rattle.std.proofs.lemmas.List.{get_or-set_same, get_or-set_other, length-set, length-replicate}

@@ -15,6 +15,7 @@ abbrev pub frame_of : Transfer → ℕ
 frame_of (Read f h) = f.0
 frame_of (Write f h) = f.0
 
+-- whether a transfer writes a page, and does not read one
 abbrev pub is_write : Transfer → Bool
 is_write (Read f h) = false
 is_write (Write f h) = true

@@ -12,6 +12,8 @@ fn transfers_come_and_go(rt: HostRuntime) -> Result<(), Fail> {
     queue.start_read(FrameId(1), Home(103));
     let read = Transfer::Read(FrameId(2), Home(100));
     assert_eq!(rt; queue.next(), Some(read));
+    assert_eq!(rt; (read.frame(), read.is_write()), (FrameId(2), false));
+    assert_eq!(rt; Transfer::Write(FrameId(3), Home(0)).is_write(), true);
     assert_eq!(rt; queue.transfer_of(FrameId(2)), Some(read));
     assert_eq!(rt; queue.rescue(FrameId(2)), false);
     assert_eq!(rt; queue.rescue(FrameId(0)), true);

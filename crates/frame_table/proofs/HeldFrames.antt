@@ -1,9 +1,8 @@
 -- A frame that is held keeps its page.
-use Rattle.std.proofs.Common.{◌≡◌, ◌≢◌, ℕ, ◌+◌, ◌-◌, ◌<◌, ◌≤◌, ◌⊎◌, inl, inr, List, [], ◌∷◌, ◌++◌, length, Option, None, Some, is_some, Bool, true, false, cond, refl, sym, ◌∙◌, ap, subst, arith, get_or, set}
+use Rattle.std.proofs.Common.{◌≡◌, ◌≢◌, ℕ, ◌+◌, ◌-◌, inl, inr, List, [], ◌∷◌, ◌++◌, length, Option, None, Some, is_some, Bool, true, false, cond, refl, sym, ◌∙◌, ap, arith, set}
 use Rattle.std.specs.Option.{option_map, option_map_or}
 use Rattle.std.proofs.lemmas.Bool.{cases_eq, cases_lt, false≢true}
-use Rattle.std.proofs.lemmas.List.{get_or-set_same, get_or-set_other, get_or_past, length-set, set_past}
-use Rattle.plain_model.specs.declared.names.Home.{Home}
+use Rattle.std.proofs.lemmas.List.{get_or-set_same, get_or-set_other, get_or_past, set_past, set-get_or, set-set}
 use Rattle.frame_table.specs.declared.tenant.Tenant.{Tenant}
 use Rattle.frame_table.specs.Core.{Core, seat_of, home_in, is_held, is_kept, new_tenant, with_tenant}
 use Rattle.frame_order.specs.FrameOrder.{without}
@@ -60,3 +59,29 @@ stays_after c (Writes k ws) f allowed held = refl
 pub stays_through : (c : Core) (ds : List Deed) (f : ℕ) → IsHeldThrough c ds f → home_in (after_all c ds) f ≡ home_in c f
 stays_through c [] f through = refl
 stays_through c (d ∷ ds) f through = stays_through (after c d) ds f through.2 ∙ stays_after c d f through.0 through.1
+
+some_tenant : (s : Option Tenant) → is_some s ≡ true → (t : Tenant) × (s ≡ Some t)
+some_tenant None some = absurd (false≢true some)
+some_tenant (Some t) some = (t, refl)
+
+-- what a frame is taken by is changed, and changed back
+pub changed_back : (c : Core) (f : ℕ) (g h : Tenant → Tenant) → ((t : Tenant) → h (g t) ≡ t) → is_some (seat_of c f) ≡ true → with_tenant (with_tenant c f g) f h ≡ c
+changed_back c f g h back some =
+    let was = some_tenant (seat_of c f) some in
+    let here : seat_of c f ≡ Some was.0 = was.1 in
+    elim (cases_lt f (length c.seats)) [
+      | inl below ↦
+          let now : option_map h (seat_of (with_tenant c f g) f) ≡ seat_of c f =
+          ap (option_map h) (get_or-set_same c.seats f (option_map g (seat_of c f)) None below ∙ ap (option_map g) here) ∙ ap Some (back was.0) ∙ sym here in
+          ap (λ (ss : List (Option Tenant)). record c { seats = ss })
+          (ap (set (set c.seats f (option_map g (seat_of c f))) f) now ∙ set-set c.seats f (option_map g (seat_of c f)) (seat_of c f) ∙ set-get_or c.seats f None)
+      | inr past ↦ let no : None ≡ Some was.0 = sym (get_or_past c.seats f None past) ∙ here in absurd cc
+    ]
+
+pub hold_spent : (c : Core) (f : ℕ) → is_some (seat_of c f) ≡ true → after (after c (Holds f)) (Releases f) ≡ c
+hold_spent c f some = changed_back c f (λ t. record t { holds = t.holds + 1 }) (λ t. record t { holds = t.holds - 1 })
+    (λ t. ap (λ (n : ℕ). record t { holds = n }) (let same : t.holds + 1 - 1 ≡ t.holds = omega arith in same)) some
+
+pub pin_taken_away : (c : Core) (f : ℕ) → is_some (seat_of c f) ≡ true → after (after c (Pins f)) (Unpins f) ≡ c
+pin_taken_away c f some = changed_back c f (λ t. record t { pins = t.pins + 1 }) (λ t. record t { pins = t.pins - 1 })
+    (λ t. ap (λ (n : ℕ). record t { pins = n }) (let same : t.pins + 1 - 1 ≡ t.pins = omega arith in same)) some

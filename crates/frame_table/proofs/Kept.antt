@@ -1,13 +1,13 @@
 -- What each change of a frame leaves of how the frames are kept.
-use Rattle.std.proofs.Common.{◌≡◌, ◌≢◌, ℕ, zero, suc, ◌+◌, ◌-◌, ◌^◌, ◌<◌, ◌≤◌, ◌⊎◌, inl, inr, List, [], ◌∷◌, ◌++◌, length, Option, None, Some, is_some, IsSome, Bool, true, false, not, cond, min, refl, sym, ◌∙◌, ap, subst, arith, get_or, set, replicate, count_by}
+use Rattle.std.proofs.Common.{◌≡◌, ◌≢◌, ℕ, zero, suc, ◌+◌, ◌-◌, ◌^◌, ◌<◌, ◌≤◌, inl, inr, List, [], ◌∷◌, ◌++◌, length, Option, None, Some, is_some, IsSome, true, false, cond, min, refl, sym, ◌∙◌, ap, subst, arith, get_or, set, replicate, count_by}
 use Rattle.std.specs.Prelude.{is_none}
 use Rattle.std.specs.Option.{option_map}
 use Rattle.std.specs.Ordering.{nat_cmp}
 use Rattle.std.specs.FinMap as map
-use Rattle.std.proofs.lemmas.Bool.{cases_eq, cases_lt, false≢true}
+use Rattle.std.proofs.lemmas.Bool.{cases_eq, cases_lt}
 use Rattle.std.proofs.lemmas.List.{get_or-set_same, get_or-set_other, length-set, get_or_past, length-replicate, set-get_or}
 use Rattle.std.proofs.lemmas.List.Sums.{sum_by-set, sum_by-cons, count_by-le-length, get_or-le-sum_by}
-use Rattle.frame_order.specs.FrameOrder.{Order, IsOrder, stands_in, without}
+use Rattle.frame_order.specs.FrameOrder.{IsOrder, stands_in, without}
 use Rattle.frame_order.proofs.Changes.{order_pushed, order_taken, stands_last, stands_before, absent_taken, stands_taken}
 use Rattle.frame_order.proofs.Orders.{without_absent}
 use Rattle.number_map.proofs.Keys.{get_put, get_put_other, get_gone, get_gone_other}
@@ -17,7 +17,7 @@ use Rattle.plain_model.specs.declared.names.TheConstants.{MOST_HOMES}
 use Rattle.plain_model.specs.References.{zero_words}
 use Rattle.frame_table.specs.declared.tenant.Tenant.{Tenant}
 use Rattle.frame_table.specs.declared.tenant.TheConstants.{MOST_PINS}
-use Rattle.frame_table.specs.Core.{Core, IsCore, seat_of, home_in, IsAway, IsLeastFree, with_page, without_page, with_words, new_tenant}
+use Rattle.frame_table.specs.Core.{Core, seat_of, home_in, IsAway, IsLeastFree, with_page, without_page, with_words, new_tenant}
 use Rattle.frame_table.specs.Seats.{AreKept}
 
 -- the seat of a frame, and its home

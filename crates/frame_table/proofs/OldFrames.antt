@@ -1,5 +1,5 @@
 -- The order of uses and the ages of frames.
-use Rattle.std.proofs.Common.{◌≡◌, ◌≢◌, ℕ, ◌<◌, ◌≤◌, ◌==◌, ◌⊎◌, inl, inr, List, [], ◌∷◌, ◌++◌, Option, None, Some, is_some, Bool, true, false, not, cond, ◌||◌, ◌&&◌, refl, sym, ◌∙◌, ap, subst, arith}
+use Rattle.std.proofs.Common.{◌≡◌, ◌≢◌, ℕ, ◌<◌, ◌==◌, ◌⊎◌, inl, inr, List, [], ◌∷◌, ◌++◌, Option, None, Some, is_some, Bool, true, false, not, cond, ◌&&◌, refl, sym, ◌∙◌, ap, subst, arith}
 use Rattle.std.specs.List.{find}
 use Rattle.std.specs.Option.{option_map_or}
 use Rattle.std.proofs.lemmas.Bool.{cases_eq, false≢true}
@@ -9,7 +9,7 @@ use Rattle.frame_order.proofs.Orders.{first_or_behind, stands_first, stands_behi
 use Rattle.plain_model.specs.declared.names.Home.{Home}
 use Rattle.frame_table.specs.declared.tenant.Tenant.{Tenant}
 use Rattle.frame_table.specs.Core.{Core, IsCore, seat_of, can_leave, is_held, is_kept, victim_of, used, with_page}
-use Rattle.frame_table.specs.Ages.{AreByAge, AreOlder, renewed}
+use Rattle.frame_table.specs.Ages.{AreByAge, AreOlder, RenewsAge, HasLeastAge, renewed}
 
 renewed_same : (age : ℕ → ℕ) (f now g : ℕ) → g ≡ f → renewed age f now g ≡ now
 renewed_same age f now g e = ap (λ (b : Bool). cond b now (age g)) (same_test g f e)
@@ -52,19 +52,13 @@ by_age_push age now f (k ∷ ks) is older absent =
       by_age_push age now f ks is.1 (λ g here. older g (stands_behind g k ks here)) (not_behind f k ks absent),
     )
 
-taken_test : (s : Option Tenant) → s ≢ None → is_some s ≡ true
-taken_test None some = absurd (some refl)
-taken_test (Some t) some = refl
-
-pub by_age_used : (age : ℕ → ℕ) (now : ℕ) (c : Core) (f : ℕ) → IsCore c → seat_of c f ≢ None → AreByAge age c.uses → AreOlder age now c.uses
-    → AreByAge (renewed age f now) (used c f).uses
-by_age_used age now c f is some by older =
-    subst (λ (b : Bool). AreByAge (renewed age f now) (cond b (record c { uses = without f c.uses ++ f ∷ [] }) c).uses) (sym (taken_test (seat_of c f) some))
+pub by_age_used : (c : Core) (f : ℕ) → is_some (seat_of c f) ≡ true → RenewsAge c.uses f (used c f).uses
+by_age_used c f some age now by older =
+    subst (λ (b : Bool). AreByAge (renewed age f now) (cond b (record c { uses = without f c.uses ++ f ∷ [] }) c).uses) (sym some)
     (by_age_push age now f (without f c.uses) (by_age_without age f c.uses by) (λ g here. older g (stood g f c.uses here)) (absent_taken f c.uses))
 
-pub by_age_comes : (age : ℕ → ℕ) (now : ℕ) (c : Core) (f : ℕ) (h : Home) → IsCore c → seat_of c f ≡ None → AreByAge age c.uses → AreOlder age now c.uses
-    → AreByAge (renewed age f now) (with_page c f h).uses
-by_age_comes age now c f h is none by older = by_age_push age now f c.uses by older (sym (is.taken f) ∙ ap is_some none)
+pub by_age_comes : (c : Core) (f : ℕ) (h : Home) → IsCore c → seat_of c f ≡ None → RenewsAge c.uses f (with_page c f h).uses
+by_age_comes c f h is none age now by older = by_age_push age now f c.uses by older (sym (is.taken f) ∙ ap is_some none)
 
 first_more : (p : ℕ → Bool) (age : ℕ → ℕ) (k : ℕ) (ks : List ℕ) (f g : ℕ) → AreByAge age (k ∷ ks) → stands_in g (k ∷ ks) ≡ true → p g ≡ true → g ≢ f
     → (b : Bool) → p k ≡ b → cond b (Some k) (find p ks) ≡ Some f → (find p ks ≡ Some f → stands_in g ks ≡ true → age f < age g) → age f < age g
@@ -122,11 +116,14 @@ leaves_let_go : (s : Option Tenant) → option_map_or (λ t. not (is_kept t) && 
 leaves_let_go None leaves = refl
 leaves_let_go (Some t) leaves = let_go (is_kept t) (not t.in_transfer) leaves
 
-pub victim_free : (c : Core) (f : ℕ) → victim_of c ≡ Some f → is_held c f ≡ false
-victim_free c f found = leaves_let_go (seat_of c f) (first_passes (can_leave c) c.uses f found)
+pub victim_leaves : (c : Core) (f : ℕ) → victim_of c ≡ Some f → can_leave c f ≡ true
+victim_leaves c f found = first_passes (can_leave c) c.uses f found
 
-pub victim_least : (age : ℕ → ℕ) (c : Core) (f g : ℕ) → IsCore c → AreByAge age c.uses → victim_of c ≡ Some f → can_leave c g ≡ true → g ≢ f → age f < age g
-victim_least age c f g is by found leaves other = first_least (can_leave c) age c.uses f g by leaves other found (leaves_used c g is leaves)
+pub victim_free : (c : Core) (f : ℕ) → victim_of c ≡ Some f → is_held c f ≡ false
+victim_free c f found = leaves_let_go (seat_of c f) (victim_leaves c f found)
+
+pub victim_least : (c : Core) (f : ℕ) → IsCore c → victim_of c ≡ Some f → HasLeastAge c f
+victim_least c f is found age g by leaves other = first_least (can_leave c) age c.uses f g by leaves other found (leaves_used c g is leaves)
 
 either : (b : Bool) → (b ≡ true) ⊎ (b ≡ false)
 either true = inl refl

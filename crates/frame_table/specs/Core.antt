@@ -1,5 +1,5 @@
 -- The frames of core.
-use Rattle.std.specs.Prelude.{◌≡◌, ◌≢◌, ℕ, ◌+◌, ◌<◌, ◌≤◌, ◌==◌, List, ◌∷◌, [], ◌++◌, length, Option, None, Some, is_some, IsSome, Bool, true, false, not, ◌&&◌, ◌||◌, slice_index_or, slice_set, if◌then◌else◌}
+use Rattle.std.specs.Prelude.{◌≡◌, ◌≢◌, ℕ, ◌<◌, ◌≤◌, ◌==◌, List, ◌∷◌, [], ◌++◌, length, Option, None, Some, is_some, IsSome, Bool, false, not, ◌&&◌, slice_index_or, slice_set, if◌then◌else◌}
 use Rattle.std.specs.Option.{option_map, option_map_or}
 use Rattle.std.specs.List.{find}
 use Rattle.frame_order.specs.FrameOrder.{IsOrder, stands_in, without}
@@ -30,10 +30,11 @@ home_in c f = option_map (λ t. t.home) (seat_of c f)
 abbrev pub IsAway : Core → Home → Type 0
 IsAway c h = (f : ℕ) → home_in c f ≢ Some h
 
--- how many holds of a frame are not spent, and how many pins it has
+-- how many holds of a frame are not spent
 abbrev pub holds_of : Core → ℕ → ℕ
 holds_of c f = option_map_or (λ t. t.holds) (seat_of c f) 0
 
+-- how many pins a frame has
 abbrev pub pins_of : Core → ℕ → ℕ
 pins_of c f = option_map_or (λ t. t.pins) (seat_of c f) 0
 

@@ -8,6 +8,7 @@ use Rattle.plain_model.specs.declared.names.FrameId.{FrameId}
 use Rattle.frame_table.specs.declared.tenant.Tenant.{Tenant}
 use Rattle.frame_table.specs.Core.{Core, IsCore, seat_of, home_in}
 
+-- the frames as they are kept in
 abbrev pub core_of : List (Option Tenant) → List (List ℕ) → Order → Core
 core_of seats words order = record { seats = seats; words = words; uses = order.order }
 

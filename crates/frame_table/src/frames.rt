@@ -103,6 +103,28 @@ impl Frames {
         }
     }
 
+    /// How many holds of a frame are not spent.
+    pub fn holds(&self, f: FrameId) -> u32
+        requires { f.0 < length self.now.seats }
+        ensures { result ≡ holds_of self.now f.0 }
+    {
+        match self.seats[f.0 as usize] {
+            Some(tenant) => tenant.holds,
+            None => 0,
+        }
+    }
+
+    /// How many pins a frame has, at most 63.
+    pub fn pins(&self, f: FrameId) -> u8
+        requires { f.0 < length self.now.seats }
+        ensures { result ≡ pins_of self.now f.0 }
+    {
+        match self.seats[f.0 as usize] {
+            Some(tenant) => tenant.pins,
+            None => 0,
+        }
+    }
+
     /// Whether a transfer of a frame is queued.
     pub fn in_transfer(&self, f: FrameId) -> bool
         requires { f.0 < length self.now.seats }
@@ -151,6 +173,7 @@ impl Frames {
         requires few { holds_of self.old f.0 < MOST_HOLDS }
         ensures frame { result ≡ f.0 }
         ensures held { self.new ≡ with_tenant self.old f.0 (λ t. record t { holds = t.holds + 1 }) }
+        ensures counted { holds_of self.new f.0 ≡ holds_of self.old f.0 + 1 }
     {
         let tenant = self.tenant(f);
         let holds = tenant.holds + 1;

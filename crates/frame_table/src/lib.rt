@@ -10,7 +10,8 @@ mod tenant;
 
 pub use frames::{Frames, MOST_HOLDS};
 pub use laws::{
-    a_victim_has_the_least_age, a_victim_is_found, held_frames_keep_their_pages, uses_renew_ages,
+    a_victim_has_the_least_age, a_victim_is_found, held_frames_keep_their_pages,
+    spent_holds_leave_no_trace, uses_renew_ages,
 };
 pub use tenant::{Hold, MOST_PINS};
 

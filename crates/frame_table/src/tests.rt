@@ -1,6 +1,70 @@
-use crate::Frames;
-use plain_model::{FrameId, Home};
+use crate::{Frames, MOST_HOLDS, MOST_PINS};
+use plain_model::{FrameId, Home, MOST_HOMES};
 use std::test::Fail;
+
+// A frame for the page of a home that is in none.
+fn assign(frames: &mut Frames, home: Home) -> Option<FrameId> {
+    if home.0 >= MOST_HOMES || frames.frame_of(home).is_some() {
+        return None;
+    }
+    frames.assign(home)
+}
+
+// Makes a frame free, where it isn't held.
+fn free(frames: &mut Frames, f: FrameId) {
+    if f.0 < frames.len() && !frames.is_held(f) {
+        frames.free(f);
+    }
+}
+
+// The home whose page a frame holds.
+fn home_of(frames: &Frames, f: FrameId) -> Option<Home> {
+    if f.0 < frames.len() {
+        frames.home_of(f)
+    } else {
+        None
+    }
+}
+
+// Pins a frame that is taken, where one pin more is allowed.
+fn pin(frames: &mut Frames, f: FrameId) {
+    if f.0 < frames.len() && frames.home_of(f).is_some() && frames.pins(f) < MOST_PINS {
+        frames.pin(f);
+    }
+}
+
+// Takes one pin away, where there is one.
+fn unpin(frames: &mut Frames, f: FrameId) {
+    if f.0 < frames.len() && frames.pins(f) > 0 {
+        frames.unpin(f);
+    }
+}
+
+// A transfer of a frame begins or ends.
+fn set_transfer(frames: &mut Frames, f: FrameId, on: bool) {
+    if f.0 < frames.len() {
+        frames.set_transfer(f, on);
+    }
+}
+
+// A use of a frame.
+fn touch_age(frames: &mut Frames, f: FrameId) {
+    if f.0 < frames.len() {
+        frames.touch_age(f);
+    }
+}
+
+// Who would go next, and how many holds there are, while a frame that is taken is held.
+fn seen_while_held(frames: &mut Frames, f: FrameId) -> Option<(Option<FrameId>, u32)> {
+    let taken = f.0 < frames.len() && frames.home_of(f).is_some();
+    if !taken || frames.holds(f) == MOST_HOLDS {
+        return None;
+    }
+    let hold = frames.hold(f);
+    let seen = (frames.victim(), frames.holds(f));
+    frames.release(hold);
+    Some(seen)
+}
 
 #[test]
 fn frames_are_taken_and_free(rt: HostRuntime) -> Result<(), Fail> {
@@ -9,26 +73,29 @@ fn frames_are_taken_and_free(rt: HostRuntime) -> Result<(), Fail> {
         (frames.len(), frames.free_frames(), frames.victim()),
         (3, 3, None)
     );
-    assert_eq!(rt; frames.assign(Home(70)), Some(FrameId(0)));
-    assert_eq!(rt; frames.assign(Home(50)), Some(FrameId(1)));
-    assert_eq!(rt; frames.assign(Home(60)), Some(FrameId(2)));
-    assert_eq!(rt; (frames.assign(Home(40)), frames.free_frames()), (None, 0));
+    assert_eq!(rt; assign(&mut frames, Home(70)), Some(FrameId(0)));
+    assert_eq!(rt; assign(&mut frames, Home(50)), Some(FrameId(1)));
+    assert_eq!(rt; assign(&mut frames, Home(60)), Some(FrameId(2)));
+    assert_eq!(rt;
+        (assign(&mut frames, Home(40)), frames.free_frames()),
+        (None, 0)
+    );
     assert_eq!(rt;
         (frames.frame_of(Home(50)), frames.frame_of(Home(40))),
         (Some(FrameId(1)), None)
     );
-    assert_eq!(rt; frames.home_of(FrameId(2)), Some(Home(60)));
-    frames.free(FrameId(1));
-    frames.free(FrameId(0));
+    assert_eq!(rt; home_of(&frames, FrameId(2)), Some(Home(60)));
+    free(&mut frames, FrameId(1));
+    free(&mut frames, FrameId(0));
     assert_eq!(rt;
         (frames.free_frames(), frames.frame_of(Home(50))),
         (2, None)
     );
-    assert_eq!(rt; frames.home_of(FrameId(1)), None);
-    frames.free(FrameId(1));
+    assert_eq!(rt; home_of(&frames, FrameId(1)), None);
+    free(&mut frames, FrameId(1));
     assert_eq!(rt; frames.free_frames(), 2);
-    assert_eq!(rt; frames.assign(Home(40)), Some(FrameId(0)));
-    assert_eq!(rt; frames.assign(Home(50)), Some(FrameId(1)));
+    assert_eq!(rt; assign(&mut frames, Home(40)), Some(FrameId(0)));
+    assert_eq!(rt; assign(&mut frames, Home(50)), Some(FrameId(1)));
     assert_eq!(rt; frames.victim(), Some(FrameId(2)));
     Ok(())
 }
@@ -37,35 +104,28 @@ fn frames_are_taken_and_free(rt: HostRuntime) -> Result<(), Fail> {
 fn the_oldest_use_goes_first(rt: HostRuntime) -> Result<(), Fail> {
     let mut frames = Frames::boot(rt.alloc(), 4)?;
     for home in [Home(9), Home(8), Home(7)] {
-        if frames.frame_of(home).is_none() {
-            frames.assign(home);
-        }
+        let _ = assign(&mut frames, home);
     }
     assert_eq!(rt; frames.victim(), Some(FrameId(0)));
-    frames.touch_age(FrameId(0));
+    touch_age(&mut frames, FrameId(0));
     assert_eq!(rt; frames.victim(), Some(FrameId(1)));
-    frames.set_transfer(FrameId(1), true);
-    assert_eq!(rt;
-        (frames.in_transfer(FrameId(1)), frames.victim()),
-        (true, Some(FrameId(2)))
-    );
-    frames.pin(FrameId(2));
-    frames.pin(FrameId(2));
-    assert_eq!(rt;
-        (frames.is_held(FrameId(2)), frames.victim()),
-        (true, Some(FrameId(0)))
-    );
-    let hold = frames.hold(FrameId(0));
-    assert_eq!(rt; frames.victim(), None);
-    frames.unpin(FrameId(2));
-    assert_eq!(rt; frames.victim(), None);
-    frames.unpin(FrameId(2));
+    set_transfer(&mut frames, FrameId(1), true);
     assert_eq!(rt; frames.victim(), Some(FrameId(2)));
-    frames.set_transfer(FrameId(1), false);
-    frames.touch_age(FrameId(3));
+    pin(&mut frames, FrameId(2));
+    pin(&mut frames, FrameId(2));
+    assert_eq!(rt; frames.victim(), Some(FrameId(0)));
+    free(&mut frames, FrameId(2));
+    assert_eq!(rt; home_of(&frames, FrameId(2)), Some(Home(7)));
+    assert_eq!(rt; seen_while_held(&mut frames, FrameId(0)), Some((None, 1)));
+    assert_eq!(rt; seen_while_held(&mut frames, FrameId(3)), None);
+    assert_eq!(rt; frames.victim(), Some(FrameId(0)));
+    unpin(&mut frames, FrameId(2));
+    assert_eq!(rt; frames.victim(), Some(FrameId(0)));
+    unpin(&mut frames, FrameId(2));
+    assert_eq!(rt; frames.victim(), Some(FrameId(2)));
+    set_transfer(&mut frames, FrameId(1), false);
+    touch_age(&mut frames, FrameId(3));
     assert_eq!(rt; frames.victim(), Some(FrameId(1)));
-    frames.release(hold);
-    assert_eq!(rt; frames.is_held(FrameId(0)), false);
     Ok(())
 }
 

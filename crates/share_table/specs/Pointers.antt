@@ -1,11 +1,12 @@
 -- Pointers as words: which entry of a map a word of its page stands for.
-use Rattle.std.specs.Prelude.{ℕ, ◌+◌, ◌*◌, ◌^◌, ◌<◌, ◌≤◌, Bool, true, false, ⊤}
+use Rattle.std.specs.Prelude.{◌≡◌, ℕ, ◌+◌, ◌*◌, ◌^◌, ◌<◌, ◌≤◌, Bool, true, false, ⊤}
 use Rattle.plain_model.specs.declared.names.Access.{Access}
 use Rattle.plain_model.specs.declared.names.TheConstants.{MOST_HOMES, LAST_SERIAL, SPACE_PAGES}
 use Rattle.share_table.specs.declared.pointer.Pointer.{Pointer}
 use Rattle.share_table.specs.declared.pointer.Pointer.TheVariants.{Empty, Private, Shared, Indirect}
 use Rattle.share_table.specs.declared.shares.TheConstants.{MOST_SHARES}
 
+-- a bit that is set is 1
 abbrev pub bit_of : Bool → ℕ
 bit_of true = 1
 bit_of false = 0
@@ -31,3 +32,7 @@ IsPointer Empty = ⊤
 IsPointer (Private home access) = home.0 < MOST_HOMES
 IsPointer (Shared share access) = share.0 < MOST_SHARES
 IsPointer (Indirect serial page access) = (1 ≤ serial) × (serial ≤ LAST_SERIAL) × (page < SPACE_PAGES)
+
+-- an entry has this word
+abbrev pub IsEntryWord : ℕ → Type 0
+IsEntryWord w = (p : Pointer) × IsPointer p × (pointer_word p ≡ w)

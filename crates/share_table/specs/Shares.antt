@@ -1,5 +1,5 @@
 -- The pages that have more than one name.
-use Rattle.std.specs.Prelude.{◌≡◌, refl, ℕ, ◌+◌, ◌-◌, ◌^◌, ◌≤◌, ◌<◌, ◌==◌, Option, None, Some, Bool, if◌then◌else◌}
+use Rattle.std.specs.Prelude.{◌≡◌, refl, ℕ, ◌+◌, ◌-◌, ◌^◌, ◌≤◌, ◌<◌, ◌==◌, Option, None, Some, if◌then◌else◌}
 use Rattle.std.specs.Ordering.{nat_cmp}
 use Rattle.std.specs.Coded.{Coded, code_by, coded×, coded_ℕ}
 use Rattle.std.specs.FinMap as map
@@ -14,10 +14,11 @@ pub record Shares : Type 0 where
   pub room : ℕ
   pub pages : map.FinMap nat_cmp SharedPage
 
--- a shared page is stored as two numbers, and shares with their room
+-- a shared page is stored as two numbers
 abbrev page_code : Coded SharedPage
 page_code = code_by (ℕ × ℕ) (coded× coded_ℕ coded_ℕ) (λ p. (p.home.0, p.count)) (λ n. record { home = record { 0 = n.0 }; count = n.1 }) (λ _. refl)
 
+-- the shares are stored with their room
 abbrev pub shares_code : Coded Shares
 shares_code =
     code_by (ℕ × map.FinMap nat_cmp SharedPage) (coded× coded_ℕ (map.code coded_ℕ page_code))
@@ -43,19 +44,21 @@ one_more n = if n == LAST_COUNT then n else n + 1
 abbrev pub one_fewer : ℕ → ℕ
 one_fewer n = if n == LAST_COUNT then n else n - 1
 
--- the page of a share, if it is there, has one name more
+-- a share with this page has one name more; without a page nothing changes
 abbrev pub joined_to : Shares → ℕ → Option SharedPage → Shares
 joined_to t s None = t
 joined_to t s (Some p) = with_page t s (record p { count = one_more p.count })
 
+-- the page of a share has one name more
 abbrev pub joined : Shares → ℕ → Shares
 joined t s = joined_to t s (page_at t s)
 
--- the page of a share, if it is there, has one name fewer; without a name the share has gone
+-- a share with this page has one name fewer, and has gone where that was the last; without a page nothing changes
 abbrev pub left_by : Shares → ℕ → Option SharedPage → Shares
 left_by t s None = t
 left_by t s (Some p) = if p.count == 1 then without t s else with_page t s (record p { count = one_fewer p.count })
 
+-- the page of a share has one name fewer
 abbrev pub left : Shares → ℕ → Shares
 left t s = left_by t s (page_at t s)
 

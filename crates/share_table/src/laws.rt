@@ -1,8 +1,8 @@
 // What follows from the definitions, in the words of their users.
-ghost use Rattle.std.specs.Prelude.{◌≡◌, ℕ, ◌+◌, ◌<◌, Some, IfSome};
+ghost use Rattle.std.specs.Prelude.{◌≡◌, ℕ, ◌+◌, ◌<◌, Some};
 ghost use Rattle.share_table.specs.declared.shares.SharedPage.{SharedPage as ASharedPage};
 ghost use Rattle.share_table.specs.declared.shares.TheConstants.{LAST_COUNT};
-ghost use Rattle.share_table.specs.Pointers.{IsPointer};
+ghost use Rattle.share_table.specs.Pointers.{IsEntryWord, IsPointer};
 ghost use Rattle.share_table.specs.Shares.{Shares, joined, left, page_at};
 
 use crate::{Pointer, decode, encode};
@@ -16,9 +16,10 @@ pub fn pointers_come_back(p: Pointer) -> Option<Pointer>
     decode(encode(p))
 }
 
-/// A word that is an entry's comes back when the entry is encoded.
+/// The word of an entry that is decoded and encoded comes back.
 pub fn words_come_back(w: Word) -> Option<Word>
-    ensures { IfSome result (λ v. v ≡ w) }
+    requires { IsEntryWord w }
+    ensures { result ≡ Some w }
 {
     match decode(w) {
         Some(p) => Some(encode(p)),

@@ -62,27 +62,65 @@ fn words_of_no_entry(rt: HostRuntime) {
     }
 }
 
+// A new share, while there is room for one.
+fn share(table: &mut ShareTable, home: Home) -> Option<Share> {
+    if table.len() < table.room() {
+        Some(table.share(home))
+    } else {
+        None
+    }
+}
+
+// One name more, where the share is there.
+fn join(table: &mut ShareTable, s: Share) {
+    if table.has(s) {
+        table.join(s);
+    }
+}
+
+// One name fewer, where the share is there.
+fn leave(table: &mut ShareTable, s: Share) -> Option<Home> {
+    if table.has(s) { table.leave(s) } else { None }
+}
+
+// The home and the count of a share that is there.
+fn shared(table: &ShareTable, s: Share) -> Option<(Home, u32)> {
+    if table.has(s) {
+        Some((table.home_of(s), table.count_of(s)))
+    } else {
+        None
+    }
+}
+
 #[test]
 fn shares_come_and_go(rt: HostRuntime) -> Result<(), Fail> {
     let mut table = ShareTable::boot(rt.alloc(), 2)?;
-    assert_eq!(rt; (table.len(), table.has(Share(0))), (0, false));
-    let first = table.share(Home(7));
-    let second = table.share(Home(9));
-    assert!(rt; first != second);
-    assert_eq!(rt; (table.len(), table.room()), (2, 2));
-    assert_eq!(rt; (table.home_of(first), table.count_of(first)), (Home(7), 1));
-    table.join(first);
-    table.join(first);
-    assert_eq!(rt; (table.count_of(first), table.count_of(second)), (3, 1));
-    assert_eq!(rt; (table.leave(first), table.leave(first)), (None, None));
-    assert_eq!(rt; table.leave(first), Some(Home(7)));
-    assert_eq!(rt; (table.has(first), table.has(second)), (false, true));
-    let third = table.share(Home(8));
-    assert_eq!(rt; third, first);
+    let (first, second) = (Share(0), Share(1));
     assert_eq!(rt;
-        (table.home_of(second), table.home_of(third)),
-        (Home(9), Home(8))
+        (table.len(), table.room(), table.has(first)),
+        (0, 2, false)
     );
+    assert_eq!(rt; share(&mut table, Home(7)), Some(first));
+    assert_eq!(rt; share(&mut table, Home(9)), Some(second));
+    assert_eq!(rt; share(&mut table, Home(5)), None);
+    assert_eq!(rt;
+        (table.len(), shared(&table, first)),
+        (2, Some((Home(7), 1)))
+    );
+    join(&mut table, first);
+    join(&mut table, first);
+    assert_eq!(rt; shared(&table, first), Some((Home(7), 3)));
+    assert_eq!(rt; shared(&table, second), Some((Home(9), 1)));
+    assert_eq!(rt; leave(&mut table, first), None);
+    assert_eq!(rt; leave(&mut table, first), None);
+    assert_eq!(rt; leave(&mut table, first), Some(Home(7)));
+    assert_eq!(rt;
+        (table.has(first), table.has(second), table.len()),
+        (false, true, 1)
+    );
+    assert_eq!(rt; share(&mut table, Home(8)), Some(first));
+    assert_eq!(rt; shared(&table, first), Some((Home(8), 1)));
+    assert_eq!(rt; shared(&table, second), Some((Home(9), 1)));
     Ok(())
 }
 

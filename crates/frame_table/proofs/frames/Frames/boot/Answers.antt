@@ -1,4 +1,4 @@
-use Rattle.std.proofs.Common.{◌≡◌, ◌<◌, ◌^◌, arith, rules, replicate}
+use Rattle.std.proofs.Common.{arith, rules}
 use Rattle.frame_table.proofs.Kept.{kept_none}
 use Rattle.frame_table.proofs.frames.Frames.boot.Goals as goal
 

@@ -1,5 +1,4 @@
-use Rattle.std.proofs.Common.{◌≡◌, ◌<◌, ◌^◌, sym, ◌∙◌, arith}
-use Rattle.slab.specs.Slab.{Slab}
+use Rattle.std.proofs.Common.{sym, ◌∙◌, arith}
 use Rattle.share_table.proofs.Slabs.{none_held}
 use Rattle.share_table.proofs.shares.ShareTable.boot.Goals as goal
 

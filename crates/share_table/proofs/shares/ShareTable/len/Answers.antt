@@ -1,4 +1,4 @@
-use Rattle.std.proofs.Common.{◌≡◌, ◌<◌, ◌^◌, ◌∙◌, arith}
+use Rattle.std.proofs.Common.{◌∙◌, arith}
 use Rattle.share_table.proofs.Slabs.{len_is}
 use Rattle.share_table.proofs.shares.ShareTable.len.Goals as goal
 

@@ -1,6 +1,5 @@
-use Rattle.std.proofs.Common.{◌≡◌, Some, None, IsSome, Option, is_some, sym, ap, ◌∙◌, subst}
+use Rattle.std.proofs.Common.{◌≡◌, Some, None, sym, ap, ◌∙◌}
 use Rattle.std.specs.Option.{option_copied_mut}
-use Rattle.share_table.specs.declared.shares.SharedPage.{SharedPage}
 use Rattle.share_table.proofs.Slabs.{page_is, counted_again}
 use Rattle.slab.specs.Slab.{get}
 use Rattle.share_table.proofs.shares.ShareTable.set_count.Goals as goal

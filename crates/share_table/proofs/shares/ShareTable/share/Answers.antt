@@ -1,4 +1,4 @@
-use Rattle.std.proofs.Common.{◌<◌, ◌∙◌, arith}
+use Rattle.std.proofs.Common.{◌∙◌, arith}
 use Rattle.share_table.proofs.Slabs.{page_is, shared, room_more}
 use Rattle.share_table.proofs.shares.ShareTable.share.Goals as goal
 
