@@ -1,5 +1,5 @@
 -- A text names one file: its directory, its name and its extension are told apart at the brackets and the first point.
-use Rattle.std.proofs.Common.{◌≡◌, ◌⊎◌, inl, inr, ℕ, ◌+◌, ◌≤◌, List, [], ◌∷◌, ◌++◌, length, true, false, refl, sym, ◌∙◌, ap, subst, arith, All, append_assoc, length-append, map as each, Option, Some, None, MatchOption}
+use Rattle.std.proofs.Common.{◌≡◌, inl, inr, ℕ, ◌+◌, ◌≤◌, List, [], ◌∷◌, ◌++◌, length, true, false, refl, sym, ◌∙◌, ap, subst, arith, All, append_assoc, length-append, map as each, Option, Some, None, MatchOption}
 use Rattle.std.proofs.lemmas.List.{append-nil, length-map}
 use Rattle.std.proofs.lemmas.List.Elements.{All-head, All-tail, All-append, All-cons, All-weaker}
 use Rattle.std.proofs.lemmas.List.Folds.{map_fixed}
