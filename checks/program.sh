@@ -119,6 +119,20 @@ fresh
 printf '%b' 'LOGIN 0 A\nPOKE 0 100 001000000200\nPOKE 0 41 254000000300\nSTART 0 100\nRUN 1\nEXAMINE 0 1 40\nFORKS 0\n' >"$work/script"
 ends 'a local call' 0 'T0 @\nX 0 1 000040 001000000200\nF 0 1 0 RUN PC 000300\n' 'LOGIN 0 A\nPOKE 0 100 1000000200\nPOKE 0 41 254000000300\nSTART 0 100\nU 0 1 1\nEXAMINE 0 1 40\nFORKS 0\nE 0 0\n' run <"$work/script"
 
+# Each opcode once, with an address whose word jumps on, a stack, and halting for the monitor call: the 157
+# illegal ones trap, and no other.
+fresh
+echo 'LOGIN 0 A' >"$work/script"
+for ((opcode = 0; opcode < 512; opcode++)); do
+    address=$((opcode == 8#104 ? 8#170 : 8#41))
+    printf 'POKE 0 0 777000001000\nPOKE 0 41 254000000101\nPOKE 0 100 %o\nSTART 0 100\nRUN 1\n' \
+        $((opcode << 27 | address))
+done >>"$work/script"
+cases=$((cases + 1))
+(cd "$work/at" && exec "$program" run <"$work/script" >"$work/out") || fail "illegal opcodes: status $?"
+illegal=$(grep -cxF 'T0 ?FORCED 15\015\012' "$work/out")
+[ "$illegal" -eq 157 ] || fail "illegal opcodes: $illegal trap, wanted 157"
+
 fresh
 ends "sizes that are asked for" 0 '' 'E 0 0\n' run --drum=256 --frames 160 </dev/null
 said='usage: tenex run [--frames N] [--drum N]'

@@ -1,9 +1,6 @@
 // Programs of instructions: what the accumulators, the words and the program counter are afterwards.
-use crate::memory_run::{ROOM, assert_runs, run_over, run_script};
-use outside::{MemSink, MemSource};
-use std::fmt::Write;
+use crate::memory_run::assert_runs;
 use std::test::Fail;
-use tenex_console::Status;
 
 // MOVN of the least number, JSP, IDIV by 0, JSP.
 #[test]
@@ -234,28 +231,4 @@ fn a_unit_makes_the_pages_that_it_refers_to(rt: HostRuntime) -> Result<(), Fail>
         b"T0 @\n?NO PAGE 0\nX 0 1 003000 000000000000\nX 0 1 004000 000000000000\nX 0 1 002000 000000000000\nT0 \\015\\012\nT0 ?FORCED 15\\015\\012\nT0 @\n?NO PAGE 0\nF 0 1 0 FORCED 15 PC 005000\n",
         b"LOGIN 0 A\nPOKE 0 17 777700001777\nPOKE 0 100 200040003000\nPOKE 0 101 261740004000\nPOKE 0 102 254000005000\nEXAMINE 0 1 3000\nSTART 0 100\nU 0 1 2\nEXAMINE 0 1 3000\nEXAMINE 0 1 4000\nEXAMINE 0 1 2000\nU 0 1 2\nEXAMINE 0 1 5000\nFORKS 0\nE 0 0\n",
     )
-}
-
-// How many of these bytes begin this text.
-fn count_of(text: &str, bytes: &[u8]) -> usize {
-    bytes
-        .windows(text.len())
-        .filter(|part| *part == text.as_bytes())
-        .count()
-}
-
-// Each opcode once, with an address whose word jumps on, a stack, and halting for the monitor call.
-#[test]
-fn illegal_opcodes_trap(rt: HostRuntime) -> Result<(), Fail> {
-    let alloc = rt.alloc();
-    let mut script = String::from_str(alloc, "LOGIN 0 A\n")?;
-    for opcode in 0..512u64 {
-        let address = if opcode == 0o104 { 0o170 } else { 0o41 };
-        writeln!(script, "POKE 0 100 {:o}", opcode << 27 | address)?;
-        script.push_str("POKE 0 0 777000001000\nPOKE 0 41 254000000101\nSTART 0 100\nRUN 1\n")?;
-    }
-    let ran = run_script(alloc, script.as_bytes())?;
-    assert_eq!(rt; ran.status, Status::Done);
-    assert_eq!(rt; count_of("?FORCED 15", ran.out.bytes()), 157);
-    Ok(())
 }
