@@ -1,5 +1,6 @@
 // Names of files as they are typed, and fronts of full names.
-ghost use Rattle.std.specs.Prelude.{◌≡◌, ◌<◌, [], length, MatchOption};
+ghost use Rattle.std.specs.Prelude.{◌≡◌, ◌<◌, [], length, IfSome, MatchOption};
+ghost use Rattle.plain_model.specs.Limits.{IsFileName};
 ghost use Rattle.std.specs.List.{flat_map};
 ghost use Rattle.script_lang.specs.Names.{file_named};
 
@@ -14,7 +15,8 @@ type NameText = ArrayVec<u8, MOST_FILE>;
 /// is in the user's, and one without a point has no extension. None exactly where the full form that
 /// this gives is no name, as where it has more than 39 characters.
 pub fn read_name(text: &[u8], user: &DirName) -> Option<FileName>
-    ensures { result ≡ file_named user.now [] text.now }
+    ensures named { result ≡ file_named user.now [] text.now }
+    ensures name { IfSome result (λ name. IsFileName name) }
 {
     script_lang::read_name(text, b"", user)
 }

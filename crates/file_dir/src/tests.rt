@@ -161,6 +161,5 @@ fn there_are_512_files_at_most(rt: HostRuntime) -> Result<(), Fail> {
 fn the_laws_are_called(_rt: HostRuntime) -> Result<(), Fail> {
     a_created_file_is_found();
     a_listing_is_whole();
-    a_text_names_one_file();
     Ok(())
 }

@@ -3,8 +3,8 @@
 ghost use Rattle.std.specs.Prelude.{◌≡◌, ◌<◌, ◌≤◌, ◌+◌, ◌^◌, true, false};
 ghost use Rattle.plain_model.specs.Pages.{HasSpace};
 
-use ka10_unit::{Burst, End, burst};
 use flat_pages::PlainStore;
+use ka10_unit::{Burst, End, burst};
 use plain_model::{ForkName, Kind, NewMap, Pages, Place, Regs, Slot, SpaceHandle, Touch, Tty};
 use std::test::Fail;
 use word36::{Flags, Word};
