@@ -16,14 +16,9 @@ use Rattle.plain_model.specs.declared.map.MapEntry.{MapEntry}
 use Rattle.plain_model.specs.declared.map.MapEntry.TheVariants.{Empty, Names, Follows}
 use Rattle.plain_model.specs.State.{Map, Maps}
 use Rattle.plain_model.specs.Orders.{fork_cmp}
+pub use Rattle.plain_model.specs.Maps.{access_of}
 use Rattle.plain_model.specs.Maps.{Entries, Link, Chain, entry_at, set_entry, followed, full_access, single_link, behind, chain_from, chain_within, permit_write}
 use Rattle.plain_model.proofs.OrderLemmas.{fork_cmp_total, fork_cmp_apart}
-
--- what an entry permits
-abbrev pub access_of : MapEntry → Access
-access_of Empty = full_access
-access_of (Names n a) = a
-access_of (Follows serial page a) = a
 
 abbrev pub marked : Link → Bool
 marked l = l.access.c

@@ -10,6 +10,7 @@ pub mod Makings
 pub mod Settles
 pub mod Touches
 pub mod Rooms
+pub mod Kept
 pub mod Refiled
 pub mod RefiledUnits
 pub mod Equations
@@ -17,3 +18,13 @@ pub mod WholeRuns
 pub mod ExampleTexts
 pub mod ExampleRun
 pub mod ExampleScript
+pub mod Ends
+pub mod Ways
+pub mod Made
+pub mod Following
+pub mod Reading
+pub mod Copying
+pub mod Narrowing
+pub mod NarrowedPages
+pub mod InCore
+pub mod MapTurns

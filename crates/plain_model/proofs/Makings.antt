@@ -35,7 +35,7 @@ pub file_page_total : {K : Type 0} {file_cmp : K → K → Ordering} → IsTotal
 file_page_total o = then_total (on_total (λ f. f.file) o) (on_total (λ f. f.page) nat_cmp_total)
 
 -- the names in maps, with another entry in a slot
-names_set : (maps : Maps) (s : Slot) (e y : MapEntry) (x : PageName) → entry_at maps s ≡ Some e
+pub names_set : (maps : Maps) (s : Slot) (e y : MapEntry) (x : PageName) → entry_at maps s ≡ Some e
     → sum_by (map_uses x) (map.values (set_entry maps s y)) + weight (same_page x) page_in e ≡ sum_by (map_uses x) (map.values maps) + weight (same_page x) page_in y
 names_set maps s e y x h =
     let m = entry_map (map.get maps s.fork) s.page e h in
@@ -52,10 +52,10 @@ or_true : (a b : Bool) → b ≡ true → (a || b) ≡ true
 or_true true b h = refl
 or_true false b h = h
 
-none_used : (k : ℕ) → (k == 0) ≡ true → nat_lt 0 k ≡ false
+pub none_used : (k : ℕ) → (k == 0) ≡ true → nat_lt 0 k ≡ false
 none_used k h = grind (arith, nat_tests)
 
-some_used : (k : ℕ) → (k == 0) ≡ false → nat_lt 0 k ≡ true
+pub some_used : (k : ℕ) → (k == 0) ≡ false → nat_lt 0 k ≡ true
 some_used k h = grind (arith, nat_tests)
 
 -- a test of an object that was put in

@@ -6,14 +6,16 @@ use Rattle.std.specs.Option.{option_map_or, option_and_then}
 use Rattle.std.specs.FinMap as map
 use Rattle.plain_model.specs.declared.names.Tty.{Tty}
 use Rattle.plain_model.specs.declared.names.PageName.{PageName}
+use Rattle.plain_model.specs.declared.names.ForkName.{ForkName}
 use Rattle.plain_model.specs.declared.names.Slot.{Slot}
+use Rattle.plain_model.specs.declared.map.MapEntry.{MapEntry}
 use Rattle.plain_model.specs.declared.names.Kind.{Kind}
 use Rattle.plain_model.specs.declared.names.Kind.TheVariants.{Read, Write, Execute}
 use Rattle.plain_model.specs.State.{PlainPages, refiled}
 use Rattle.plain_model.specs.Orders.{file_page_cmp}
-use Rattle.plain_model.specs.Maps.{Link, Chain, chain, entry_at, permits}
-use Rattle.plain_model.specs.Room.{names, uses, live, HasRoom}
-use Rattle.plain_model.specs.References.{Spot, in_map, in_file, Making, blank, copy, blanks, copy_in, copies, along_chain, private_access, makings, make, make_all, new_page, drop_unnamed, drop_copied, words_at, page_at, Referred, granted, denied, full, reference}
+use Rattle.plain_model.specs.Maps.{Link, Chain, chain, entry_at, set_entry, permits}
+use Rattle.plain_model.specs.Room.{names, page_in, uses, live, HasRoom}
+use Rattle.plain_model.specs.References.{Spot, in_map, in_file, Making, blank, copy, blanks, copy_in, copies, along_chain, private_access, makings, make, make_all, new_page, drop_unnamed, drop_copied, drop_all_unnamed, names_in, with_entry, without_fork, words_at, page_at, Referred, granted, denied, full, reference}
 use Rattle.plain_model.proofs.Counts.{has_count, different_same}
 use Rattle.plain_model.proofs.Whole.{map_uses, tally, uses_are}
 
@@ -190,3 +192,34 @@ module _ {K L : Type 0} {file_cmp : K → K → Ordering} (other_cmp : L → L �
 -- and it leaves the pages of files
 pub reference_leaves : {K : Type 0} {file_cmp : K → K → Ordering} (owner : Tty) (p q : PlainPages file_cmp) (s : Slot) (kind : Kind) → reference p (in_map s) kind owner ≡ granted q → q.files ≡ p.files
 reference_leaves {file_cmp = file_cmp} owner p q s kind refers = leaves file_cmp p.files owner p q s kind refers
+
+module _ {K L : Type 0} {file_cmp : K → K → Ordering} (other_cmp : L → L → Ordering) (files : map.FinMap (file_page_cmp other_cmp) PageName) where
+  drop_refiled : (q : PlainPages file_cmp) (n : PageName) → NameAlike other_cmp q files → drop_unnamed (refiled other_cmp q files) n ≡ refiled other_cmp (drop_unnamed q n) files
+  drop_refiled q n alike =
+      let gone : PlainPages file_cmp = record q { objects = map.remove q.objects n } in
+      ap (λ k. cond (k == 0) (refiled other_cmp gone files) (refiled other_cmp q files)) (uses_refiled other_cmp q files alike n) ∙ moved other_cmp files (record { 0 = 0 }) (uses q n == 0) gone q
+
+  -- nor does an entry that is set depend on it
+  pub entry_refiled : (p : PlainPages file_cmp) (s : Slot) (e : MapEntry) → NameAlike other_cmp p files → with_entry (refiled other_cmp p files) s e ≡ refiled other_cmp (with_entry p s e) files
+  unfolding with_entry
+  entry_refiled p s e alike = by (option_and_then page_in (entry_at p.maps s))
+    where
+      q : PlainPages file_cmp
+      q = record p { maps = set_entry p.maps s e }
+
+      by : (n : Option PageName) → option_map_or (drop_unnamed (refiled other_cmp q files)) n (refiled other_cmp q files) ≡ refiled other_cmp (option_map_or (drop_unnamed q) n q) files
+      by None = refl
+      by (Some n) = drop_refiled q n alike
+
+  drop_all_refiled : (q : PlainPages file_cmp) (ns : List PageName) → NameAlike other_cmp q files → drop_all_unnamed (refiled other_cmp q files) ns ≡ refiled other_cmp (drop_all_unnamed q ns) files
+  drop_all_refiled q [] alike = refl
+  drop_all_refiled q (n ∷ ns) alike = ap (λ (r : PlainPages other_cmp). drop_all_unnamed r ns) (drop_refiled q n alike) ∙ drop_all_refiled (drop_unnamed q n) ns (λ x. alike x ∙ ap (λ f. sum_by (tally x) (map.values f)) (sym (by (uses q n == 0))))
+    where
+      by : (b : Bool) → (cond b (record q { objects = map.remove q.objects n }) q).files ≡ q.files
+      by true = refl
+      by false = refl
+
+  -- nor a fork that ends
+  pub fork_refiled : (p : PlainPages file_cmp) (f : ForkName) → NameAlike other_cmp p files → without_fork (refiled other_cmp p files) f ≡ refiled other_cmp (without_fork p f) files
+  unfolding without_fork
+  fork_refiled p f alike = drop_all_refiled (record p { maps = map.remove p.maps f }) (names_in p f) alike

@@ -15,10 +15,16 @@ pub mod Entries
 pub mod Script
 pub mod Taker
 pub mod Outcome
+pub mod Stores
 pub mod Pages
 pub mod Whole
+pub mod Laws
 pub mod Example
 pub mod Steps
 pub mod Addressing
 pub mod Deeds
 pub mod Instructions
+pub mod Handles
+pub mod AccessWords
+pub mod Calls
+pub mod MapCalls

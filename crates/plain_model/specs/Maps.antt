@@ -1,5 +1,5 @@
 -- Maps, and the chains that their entries make (CACM paper, "The memory management").
-use Rattle.std.specs.Prelude.{ℕ, zero, suc, List, [], ◌∷◌, Bool, true, false, ◌&&◌, Option, None, Some, if◌then◌else◌, slice_get, slice_set}
+use Rattle.std.specs.Prelude.{ℕ, zero, suc, List, [], ◌∷◌, Bool, true, false, ◌&&◌, ◌||◌, Option, None, Some, if◌then◌else◌, slice_get, slice_set}
 use Rattle.std.specs.List.{list_all}
 use Rattle.std.specs.Option.{option_map, option_and_then, option_map_or}
 use Rattle.std.specs.FinMap as map
@@ -32,6 +32,32 @@ followed s serial page = record { fork = record { tty = s.fork.tty; serial = ser
 -- every right, and no copy mark: the access of a zero page, and what an empty entry permits
 abbrev pub full_access : Access
 full_access = record { r = true; w = true; x = true; c = false }
+
+-- what an entry permits
+abbrev pub access_of : MapEntry → Access
+access_of Empty = full_access
+access_of (Names n a) = a
+access_of (Follows serial page a) = a
+
+-- what was permitted and is given too; the copy mark where it was or is given
+abbrev pub narrowed : Access → Access → Access
+narrowed old given = record { r = old.r && given.r; w = old.w && given.w; x = old.x && given.x; c = old.c || given.c }
+
+-- an entry of which no more is permitted than is given
+abbrev pub narrow : Access → MapEntry → MapEntry
+narrow given Empty = Empty
+narrow given (Names n a) = Names n (narrowed a given)
+narrow given (Follows serial page a) = Follows serial page (narrowed a given)
+
+-- the slot whose entry an entry follows, if it follows one
+abbrev pub next_slot : Slot → MapEntry → Option Slot
+next_slot s (Follows serial page a) = Some (followed s serial page)
+next_slot s e = None
+
+-- the slot that is reached from another where so many entries are followed
+abbrev pub reached : ℕ → Entries → Slot → Option Slot
+reached zero entries s = Some s
+reached (suc n) entries s = option_and_then (reached n entries) (option_and_then (next_slot s) (entries s))
 
 -- a slot, with what its entry permits
 pub record Link : Type 0 where
@@ -90,3 +116,7 @@ abbrev pub permits : Kind → Chain → Bool
 permits Read c = list_all (λ l. l.access.r) c.links
 permits Execute c = list_all (λ l. l.access.x) c.links
 permits Write c = permit_write c.links
+
+-- whether a reference of this kind to a slot is permitted: the slot has a chain, which permits it
+abbrev pub may : Entries → Slot → Kind → Bool
+may entries s kind = option_map_or (permits kind) (chain entries s) false

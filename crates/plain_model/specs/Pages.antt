@@ -1,6 +1,6 @@
 -- What the calls on pages answer and leave: over the plain pages, and over what is in frames.
-use Rattle.std.specs.Prelude.{◌≡◌, ◌⊎◌, ℕ, ◌+◌, ◌<◌, ◌≤◌, List, [], ◌∷◌, Bool, true, false, not, ◌&&◌, nat_lt, Option, None, Some, if◌then◌else◌, ◌==◌, slice_index}
-use Rattle.std.specs.Option.{option_or, option_map_or, option_and_then}
+use Rattle.std.specs.Prelude.{◌≡◌, ◌⊎◌, ℕ, ◌+◌, ◌<◌, ◌≤◌, List, [], ◌∷◌, length, Bool, true, false, not, ◌&&◌, nat_lt, nat_le, Option, None, Some, if◌then◌else◌, ◌==◌, slice_index}
+use Rattle.std.specs.Option.{option_map, option_or, option_map_or, option_and_then}
 use Rattle.std.specs.declared.cmp.Ordering.{Ordering}
 use Rattle.std.specs.FinMap as map
 use Rattle.plain_model.specs.declared.names.Tty.{Tty}
@@ -22,11 +22,18 @@ use Rattle.plain_model.specs.declared.map.Touch.{Touch}
 use Rattle.plain_model.specs.declared.map.Touch.TheVariants.{Ready, Zero, Copy, Absent, NeedFrame, Denied, Full}
 use Rattle.plain_model.specs.declared.map.Peeked.{Peeked}
 use Rattle.plain_model.specs.declared.map.Peeked.TheVariants.{Is, Absent as Away, NoPage}
+use Rattle.plain_model.specs.declared.map.Seen.{Seen}
+use Rattle.plain_model.specs.declared.map.Seen.TheVariants.{Is as Entry, Absent as MapAway, Missing}
+use Rattle.plain_model.specs.declared.map.NewEntry.{NewEntry}
+use Rattle.plain_model.specs.declared.map.NewEntry.TheVariants.{Empty as SetEmpty, FilePage as SetFilePage, Follows as SetFollows, Narrow as SetNarrow}
+use Rattle.plain_model.specs.declared.store.Room.{Room}
+use Rattle.plain_model.specs.declared.store.Room.TheVariants.{Enough, NeedFrame as NoFrame, Full as NoRoom}
 use Rattle.plain_model.specs.Outcome.{DrumWords}
 use Rattle.plain_model.specs.State.{PlainPages, NumberedPages, Maps, page_serial}
-use Rattle.plain_model.specs.Maps.{entry_at, maps_on_way}
+use Rattle.plain_model.specs.Maps.{entry_at, maps_on_way, narrow}
 use Rattle.plain_model.specs.Room.{live, uses}
-use Rattle.plain_model.specs.References.{Spot, in_map, in_file, Making, blank, copy, Referred, granted, denied, full, reference, next_making, words_of, page_at}
+use Rattle.plain_model.specs.References.{Spot, in_map, in_file, Making, blank, copy, Referred, granted, denied, full, reference, next_making, words_of, page_at, with_entry}
+use Rattle.plain_model.specs.Stores.{StoreMeaning, IsSound, away, place}
 
 -- What is in frames: for each fork the home of its map and for each page its home, where that is in no
 -- frame; and how many frames are free.
@@ -47,6 +54,12 @@ pub record StaysInCore (old new : Scene) (taken : ℕ) : Type 0 where
   pub pages : (n : PageName) → old.page_away n ≡ None → new.page_away n ≡ None
   pub frames : old.free_frames ≤ new.free_frames + taken
 
+-- nothing has come into a frame or left it, but for so many frames that were taken
+pub record TakesFrames (old new : Scene) (taken : ℕ) : Type 0 where
+  pub maps : new.map_away ≡ old.map_away
+  pub pages : new.page_away ≡ old.page_away
+  pub frames : new.free_frames + taken ≡ old.free_frames
+
 -- the first of these maps that is in no frame
 abbrev pub first_away : Scene → List ForkName → Option ℕ
 first_away scene [] = None
@@ -60,6 +73,10 @@ absent_or None t = t
 abbrev pub away_or : Option ℕ → Peeked → Peeked
 away_or (Some home) seen = Away (record { 0 = home })
 away_or None seen = seen
+
+abbrev pub map_away_or : Option ℕ → Seen → Seen
+map_away_or (Some home) seen = MapAway (record { 0 = home })
+map_away_or None seen = seen
 
 -- what wants a frame answers so, where none is free
 abbrev pub framed : Scene → Touch → Touch
@@ -100,6 +117,29 @@ module _ {K : Type 0} {file_cmp : K → K → Ordering} where
   unfoldable pub peek_of : PlainPages file_cmp → Scene → Spot K → ℕ → Peeked
   peek_of p scene at offset =
       away_or (map_away p scene at) (away_or (page_away p scene at) (option_map_or (λ n. Is (slice_index (words_of p n) offset)) (page_at p at) NoPage))
+
+  -- what a look at an entry finds: whether there is one, its map, and the entry
+  unfoldable pub seen_of : PlainPages file_cmp → Scene → Slot → Seen
+  seen_of p scene s = option_map_or (λ e. map_away_or (scene.map_away s.fork) (Entry e)) (entry_at p.maps s) Missing
+
+  -- a page, with the number of its names
+  abbrev pub counted : PlainPages file_cmp → Option PageName → Option (PageName × ℕ)
+  counted p n = option_map (λ m. (m, uses p m)) n
+
+-- whether so many pages more may live, and then whether they find frames
+abbrev pub room_for : ℕ → ℕ → ℕ → ℕ → Room
+room_for live limit frames pages = if nat_le (live + pages) limit then (if nat_le pages frames then Enough else NoFrame) else NoRoom
+
+-- what an entry becomes that is set anew
+abbrev pub entry_to : NumberedPages → NewEntry → MapEntry → MapEntry
+entry_to p SetEmpty e = Empty
+entry_to p (SetFilePage f page a) e = option_map_or (λ n. Names n a) (map.get p.files (record { file = f.0; page = page })) e
+entry_to p (SetFollows serial page a) e = Follows serial page a
+entry_to p (SetNarrow a) e = narrow a e
+
+-- the pages with an entry set anew, where there is one
+unfoldable pub changed : NumberedPages → Slot → NewEntry → NumberedPages
+changed p s new = option_map_or (λ e. with_entry p s (entry_to p new e)) (entry_at p.maps s) p
 
 -- the spot of a place
 abbrev pub spot_of : Place → Spot ℕ
@@ -150,13 +190,34 @@ is_in_core (Absent home) = false
 is_in_core NeedFrame = false
 is_in_core t = true
 
--- the maps that a new fork may have: the empty one
-abbrev pub IsBuiltMap : NewMap → Type 0
-IsBuiltMap EmptyMap = Unit {0}
-IsBuiltMap (FollowAll f) = ⊥
-
 abbrev pub same_fork : ForkName → ForkName → Bool
 same_fork f g = (f.tty.0 == g.tty.0) && (f.serial == g.serial)
+
+-- what the map of a new fork may be: it may follow a fork that lives, of the same terminal
+abbrev pub IsNewMap : (ForkName → Bool) → ForkName → NewMap → Type 0
+IsNewMap lives f EmptyMap = Unit {0}
+IsNewMap lives f (FollowAll g) = (lives g ≡ true) × (g.tty ≡ f.tty)
+
+-- what an entry may be set to: it may follow a page of a space; pages of files aren't built
+abbrev pub IsNewEntry : NewEntry → Type 0
+IsNewEntry (SetFilePage f page a) = ⊥
+IsNewEntry (SetFollows serial page a) = page < SPACE_PAGES
+IsNewEntry new = Unit {0}
+
+-- an entry was found
+abbrev pub is_entry : Seen → Bool
+is_entry (Entry e) = true
+is_entry seen = false
+
+-- a look at an entry that finds what it wants in frames
+abbrev pub is_seen_entry : Seen → Bool
+is_seen_entry (MapAway home) = false
+is_seen_entry seen = true
+
+-- an entry that follows another follows a page of a space
+abbrev pub FollowsPage : Seen → Type 0
+FollowsPage (Entry (Follows serial page a)) = page < SPACE_PAGES
+FollowsPage seen = Unit {0}
 
 -- what the clauses say of a type of pages
 pub record PagesMeaning (P : Type 0) : Type 1 where
@@ -166,8 +227,9 @@ pub record PagesMeaning (P : Type 0) : Type 1 where
   pub plain : P → DrumWords → NumberedPages
   -- what is in frames
   pub scene : P → Scene
-  -- what a touch answers
+  -- what a touch answers, and a look at an entry
   pub touched : P → Place → Kind → Touch
+  pub seen : P → Slot → Seen
   -- which forks live, and how many of a terminal
   pub lives : P → ForkName → Bool
   pub forks_of : P → Tty → ℕ
@@ -181,11 +243,13 @@ pub record PagesMeaning (P : Type 0) : Type 1 where
   -- nothing is ever in no frame, and nothing depends on a drum
   pub flat : Bool
   -- no entry follows another, and none has the copy mark
-  pub single : Bool
+  pub single : P → Bool
   -- the handle of a living fork's space
   pub space : P → ForkName → Option SpaceHandle
   -- where the page of a space is that a look found, under its number
   pub place : P → SpaceHandle → ℕ → Option Found
+  -- the homes and frames in which the pages stand
+  pub store : StoreMeaning P
 
 -- a touch of a page of a fork's space finds it ready
 abbrev pub IsTouched : {P : Type 0} → PagesMeaning P → P → ForkName → ℕ → Kind → Type 0
@@ -214,6 +278,36 @@ pub record StaysPut {P : Type 0} (means : PagesMeaning P) (old new : P) : Type 0
   pub forks : means.forks_of new ≡ means.forks_of old
   pub serials : means.serial new ≡ means.serial old
   pub most : means.most new ≡ means.most old
+  pub single : means.single new ≡ means.single old
+
+-- what a transfer leaves, and what is asked of frames: the handles, and all numbers
+pub record StaysMapped {P : Type 0} (means : PagesMeaning P) (old new : P) : Type 0 where
+  pub space : means.space new ≡ means.space old
+  pub lives : means.lives new ≡ means.lives old
+  pub forks : means.forks_of new ≡ means.forks_of old
+  pub serials : means.serial new ≡ means.serial old
+  pub count : means.count new ≡ means.count old
+  pub most : means.most new ≡ means.most old
+
+-- over each drum that fits, the plain pages are the same
+abbrev pub StaysPlain : {P : Type 0} → PagesMeaning P → P → P → Type 0
+StaysPlain means old new = (d : DrumWords) → means.fits old d → means.fits new d × (means.plain new d ≡ means.plain old d)
+
+-- what is asked of frames and changes no page: what a touch finds stays, and each word
+pub record StaysSame {P : Type 0} (means : PagesMeaning P) (old new : P) : Type 0 where
+  pub plain : StaysPlain means old new
+  pub put : StaysPut means old new
+  pub count : means.count new ≡ means.count old
+
+-- the pages stand in a sound store, which has no more homes than pages may live: what is in no frame has a home that is away, and the free
+-- frames are the store's
+pub record AreHoused {P : Type 0} (means : PagesMeaning P) (p : P) : Type 0 where
+  pub sound : IsSound means.store p
+  pub maps : (f : ForkName) (home : ℕ) → (means.scene p).map_away f ≡ Some home → place (means.store.homes p) home ≡ away
+  pub pages : (n : PageName) (home : ℕ) → (means.scene p).page_away n ≡ Some home → place (means.store.homes p) home ≡ away
+  pub frames : (means.scene p).free_frames ≡ means.store.spare p
+  pub homes : length (means.store.homes p) ≤ means.most p
+  pub flat : means.store.flat ≡ means.flat
 
 -- an entry that follows none, and has no copy mark
 abbrev pub is_single : MapEntry → Bool
@@ -225,9 +319,12 @@ is_single (Follows serial page a) = false
 pub record AreSingle (maps : Maps) : Type 0 where
   pub each : (s : Slot) (e : MapEntry) → entry_at maps s ≡ Some e → is_single e ≡ true
 
--- over each drum that fits, the plain pages have the numbers that are told without it
+-- over each drum that fits, the plain pages have the numbers that are told without it, no more than may be; and what is in no frame is there
 pub record Agrees {P : Type 0} (means : PagesMeaning P) (p : P) (plain : NumberedPages) : Type 0 where
   pub living : (f : ForkName) → means.lives p f ≡ map.contains_key plain.maps f
   pub next : (t : Tty) → IsOwner t → means.serial p t ≡ page_serial plain t
   pub number : means.count p ≡ live plain
   pub bound : means.most p ≡ plain.limit
+  pub room : live plain ≤ plain.limit
+  pub absent_pages : (n : PageName) (home : ℕ) → (means.scene p).page_away n ≡ Some home → map.contains_key plain.objects n ≡ true
+  pub absent_maps : (f : ForkName) (home : ℕ) → (means.scene p).map_away f ≡ Some home → map.contains_key plain.maps f ≡ true

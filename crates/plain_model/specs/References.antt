@@ -1,6 +1,6 @@
 -- References to pages: what they make, and what they leave.
 use Rattle.std.specs.Prelude.{ℕ, ◌+◌, ◌/◌, List, [], ◌∷◌, ◌++◌, Option, None, Some, is_some, if◌then◌else◌, ◌==◌, replicate, slice_get, slice_index, slice_set, find}
-use Rattle.std.specs.List.{list_all}
+use Rattle.std.specs.List.{list_all, filter_map}
 use Rattle.std.specs.Option.{option_map_or, option_and_then, unwrap_or}
 use Rattle.std.specs.declared.cmp.Ordering.{Ordering}
 use Rattle.std.specs.FinMap as map
@@ -12,11 +12,12 @@ use Rattle.plain_model.specs.declared.names.Access.{Access}
 use Rattle.plain_model.specs.declared.names.PageName.{PageName}
 use Rattle.plain_model.specs.declared.names.Kind.{Kind}
 use Rattle.plain_model.specs.declared.names.Kind.TheVariants.{Write}
+use Rattle.plain_model.specs.declared.map.MapEntry.{MapEntry}
 use Rattle.plain_model.specs.declared.map.MapEntry.TheVariants.{Names}
 use Rattle.plain_model.specs.Orders.{FilePage}
 use Rattle.plain_model.specs.State.{PlainPages, is_console, page_serial}
 use Rattle.plain_model.specs.Maps.{Link, Chain, chain, entry_at, set_entry, permits, full_access}
-use Rattle.plain_model.specs.Room.{HasRoom, uses}
+use Rattle.plain_model.specs.Room.{HasRoom, page_in, uses}
 
 -- 512 words, all of them 0
 unfoldable pub zero_words : List ℕ
@@ -108,6 +109,23 @@ module _ {K : Type 0} {file_cmp : K → K → Ordering} where
   -- a page that nothing names is dropped
   abbrev pub drop_unnamed : PlainPages file_cmp → PageName → PlainPages file_cmp
   drop_unnamed p n = if uses p n == 0 then record p { objects = map.remove p.objects n } else p
+
+  -- the pages with another entry in a slot, which is there; a page that loses its last name is dropped
+  unfoldable pub with_entry : PlainPages file_cmp → Slot → MapEntry → PlainPages file_cmp
+  with_entry p s e = let q = record p { maps = set_entry p.maps s e } in option_map_or (drop_unnamed q) (option_and_then page_in (entry_at p.maps s)) q
+
+  -- of these pages those are dropped that nothing names
+  abbrev pub drop_all_unnamed : PlainPages file_cmp → List PageName → PlainPages file_cmp
+  drop_all_unnamed p [] = p
+  drop_all_unnamed p (n ∷ ns) = drop_all_unnamed (drop_unnamed p n) ns
+
+  -- the pages that the map of a fork names, each as often as it is named there
+  abbrev pub names_in : PlainPages file_cmp → ForkName → List PageName
+  names_in p f = option_map_or (filter_map page_in) (map.get p.maps f) []
+
+  -- the pages without the map of a fork; those that lose their last name are dropped
+  unfoldable pub without_fork : PlainPages file_cmp → ForkName → PlainPages file_cmp
+  without_fork p f = drop_all_unnamed (record p { maps = map.remove p.maps f }) (names_in p f)
 
   -- the pages without one from which a page was copied, if that took its last name
   abbrev pub drop_copied : PlainPages file_cmp → Option PageName → PlainPages file_cmp

@@ -11,9 +11,11 @@ mod entries;
 mod event;
 mod example;
 mod fork;
+mod laws;
 mod map;
 mod names;
 mod pages;
+mod store;
 mod taker;
 mod text;
 mod unit;
@@ -23,12 +25,18 @@ pub use entries::{entries_fit, runs_are_whole};
 pub use event::{Event, ForkLine, Item, Refusal, Step, WordRow};
 pub use example::{empty_script, first_script};
 pub use fork::{Answer, Body, Chars, Fork, ForkStatus, Jfn, Mode, Psi, Regs, TerminalMode, WaitOn};
-pub use map::{Found, MapEntry, Need, NewEntry, NewMap, Peeked, SpaceHandle, Touch};
+pub use laws::{
+    access_is_that_of_all_entries, chains_are_short, copies_are_made_once,
+    followers_read_the_followed, narrowing_never_widens, pages_go_with_their_last_name,
+    references_change_no_word,
+};
+pub use map::{Found, MapEntry, Need, NewEntry, NewMap, Peeked, Seen, SpaceHandle, Touch};
 pub use names::{
     ACCUMULATORS, Access, FileNo, ForkName, FrameId, Home, Kind, LAST_SERIAL, MOST_FORKS,
     MOST_HOMES, PageName, Place, SPACE_PAGES, Slot, TERMINALS, Tty,
 };
 pub use pages::Pages;
+pub use store::{Completed, MOST_HELD, MOST_HOLDERS, Room, Store};
 pub use taker::Taker;
 pub use text::{DirName, FileName, Text, TypedText};
 pub use unit::{MOST_REFERENCES, Put, Reference};

@@ -56,6 +56,16 @@ pub enum Peeked {
     NoPage,
 }
 
+/// What a look at an entry finds.
+#[derive(Clone, Copy, Debug, PartialEq, Eq)]
+pub enum Seen {
+    Is(MapEntry),
+    /// This home, of the map, is in no frame.
+    Absent(Home),
+    /// No such fork lives.
+    Missing,
+}
+
 /// What a fork in page wait waits for: a page, or any frame.
 #[derive(Clone, Copy, Debug, PartialEq, Eq)]
 pub enum Need {

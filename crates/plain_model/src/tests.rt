@@ -25,5 +25,12 @@ fn the_laws_are_called(_rt: HostRuntime) -> Result<(), Fail> {
     bounds_hold();
     entries_fit();
     runs_are_whole();
+    chains_are_short();
+    access_is_that_of_all_entries();
+    followers_read_the_followed();
+    copies_are_made_once();
+    references_change_no_word();
+    pages_go_with_their_last_name();
+    narrowing_never_widens();
     Ok(())
 }
