@@ -4,7 +4,7 @@
 # each time stands what the table is filled with (the length of a line for exec_cmd, events for script_lang).
 # The sources run by `rt try`: nothing is proved, and each access is checked as it goes, which is many times
 # slower than what ./tenex builds. So the columns tell whether a call grows, and not how long it takes there.
-# Calls that look through what stands in the table may grow: `grows` has them, each with the reason.
+# Calls that say in their comment that they grow with the table may: `grows` has them, each with the reason.
 # Status 1: another one took longer at the full table, by the factor 4 or the argument. 2: nothing was timed.
 set -eu
 factor=${1:-4}
@@ -12,11 +12,8 @@ top=$(cd "$(dirname "$0")/.." && pwd)
 work=$(mktemp -d)
 trap 'rm -rf "$work"' EXIT
 
-grows='number_map first_free=looks at each number from the first on
-file_dir create, delete=moves the names behind it
-frame_table free, assign=looks at frames from the one behind the last one assigned on
-frame_table victim, others pinned=looks past each frame that is pinned'
-timed='number_map page_files jfn_table file_dir frame_order drum_queue frame_table share_table script_lang tty_lines exec_cmd'
+grows='file_dir create, delete=create moves the names behind the new one'
+timed='number_set tournament number_map page_files jfn_table file_dir frame_order drum_queue frame_table share_table script_lang tty_lines exec_cmd'
 
 mkdir -p "$work/crates/leaf_speed/src"
 for crate in word36 outside ka10_table plain_model $timed; do
@@ -37,6 +34,7 @@ use frame_order::FrameOrder;
 use frame_table::Frames;
 use jfn_table::JobJfns;
 use number_map::NumberMap;
+use number_set::NumberSet;
 use outside::Memory;
 use page_files::{Files, Lengths, place};
 use plain_model::{Access, DirName, FileName, FileNo, ForkName, FrameId, Home, TERMINALS, Tty};
@@ -44,6 +42,7 @@ use script_lang::big_from;
 use share_table::{Pointer, Share, ShareTable, decode, encode};
 use std::io;
 use std::time::CpuClock;
+use tournament::Tournament;
 use tty_lines::{CONTROL_C, Line};
 
 // How many nanoseconds the last round of turns takes at least.
@@ -93,6 +92,35 @@ impl<'a> Timer<'a> {
 // A table that there was memory for.
 fn there<T>(made: Result<T, Memory>) -> io::Result<T> {
     made.map_err(|_| io::Error::from(io::ErrorKind::OutOfMemory))
+}
+
+fn number_set(rt: &HostRuntime, filled: u32) -> io::Result<()> {
+    let timer = Timer::of(rt, "number_set", filled);
+    let mut numbers = there(NumberSet::boot(rt.alloc(), 262144))?;
+    for n in 0..filled {
+        numbers.insert(n as usize);
+    }
+    timer.time("least_absent", |n| numbers.least_absent(n as usize))?;
+    timer.time("remove, least_absent, insert", |n| {
+        numbers.remove(n as usize);
+        let least = numbers.least_absent(0);
+        numbers.insert(n as usize);
+        least
+    })
+}
+
+fn tournament(rt: &HostRuntime, filled: u32) -> io::Result<()> {
+    let timer = Timer::of(rt, "tournament", filled);
+    let mut keys = there(Tournament::boot(rt.alloc(), filled as usize))?;
+    for n in 0..filled {
+        keys.set(n as usize, Some(u64::from(n)));
+    }
+    timer.time("winner", |_| keys.winner())?;
+    timer.time("set, set, winner", |n| {
+        keys.set(n as usize, None);
+        keys.set(n as usize, Some(u64::from(n)));
+        keys.winner()
+    })
 }
 
 fn number_map(rt: &HostRuntime, filled: u32) -> io::Result<()> {
@@ -301,7 +329,8 @@ fn generated(rt: &HostRuntime, events: u32) -> io::Result<()> {
 
 fn main(rt: HostRuntime) -> io::Result<()> {
     Timer::of(&rt, "the", 1).time("loop", |n| n)?;
-    for filled in [16, 16384] {
+    for filled in [64, 16384] {
+        number_set(&rt, filled)?;
         number_map(&rt, filled)?;
         share_table(&rt, filled)?;
     }
@@ -311,7 +340,8 @@ fn main(rt: HostRuntime) -> io::Result<()> {
     jfn_table(&rt, 19)?;
     file_dir(&rt, 16)?;
     file_dir(&rt, 512)?;
-    for frames in [16, 8192] {
+    for frames in [64, 8192] {
+        tournament(&rt, frames)?;
         frame_order(&rt, frames)?;
         drum_queue(&rt, frames)?;
         frame_table(&rt, frames)?;

@@ -1,11 +1,10 @@
 -- A frame that is held keeps its page.
-use Rattle.std.proofs.Common.{◌≡◌, ◌≢◌, ℕ, ◌+◌, ◌-◌, inl, inr, List, [], ◌∷◌, ◌++◌, length, Option, None, Some, is_some, Bool, true, false, cond, refl, sym, ◌∙◌, ap, arith, set}
+use Rattle.std.proofs.Common.{◌≡◌, ◌≢◌, ℕ, ◌+◌, ◌-◌, inl, inr, List, [], ◌∷◌, length, Option, None, Some, is_some, Bool, true, false, cond, refl, sym, ◌∙◌, ap, arith, set}
 use Rattle.std.specs.Option.{option_map, option_map_or}
 use Rattle.std.proofs.lemmas.Bool.{cases_eq, cases_lt, false≢true}
 use Rattle.std.proofs.lemmas.List.{get_or-set_same, get_or-set_other, get_or_past, set_past, set-get_or, set-set}
 use Rattle.frame_table.specs.declared.tenant.Tenant.{Tenant}
-use Rattle.frame_table.specs.Core.{Core, seat_of, home_in, is_held, is_kept, new_tenant, with_tenant}
-use Rattle.frame_order.specs.FrameOrder.{without}
+use Rattle.frame_table.specs.Core.{Core, seat_of, home_in, is_held, is_kept, new_tenant, next_use, with_tenant}
 use Rattle.frame_table.specs.Deeds.{Deed, Assigns, Frees, Holds, Releases, Pins, Unpins, Moves, Uses, Writes, after, after_all, IsAllowed, IsHeldThrough}
 
 -- a frame that is held is taken
@@ -34,15 +33,15 @@ home_kept c f k g same = elim (cases_eq f k) [
   | inr other ↦ home_other c f k (option_map g (seat_of c k)) other
 ]
 
-uses_aside : (b : Bool) (c : Core) (us : List ℕ) (f : ℕ) → home_in (cond b (record c { uses = us }) c) f ≡ home_in c f
-uses_aside true c us f = refl
-uses_aside false c us f = refl
+used_aside : (b : Bool) (c q : Core) (f : ℕ) → home_in q f ≡ home_in c f → home_in (cond b q c) f ≡ home_in c f
+used_aside true c q f same = same
+used_aside false c q f same = refl
 
 -- a call leaves the page of a frame that is held
 stays_after : (c : Core) (d : Deed) (f : ℕ) → IsAllowed c d → is_held c f ≡ true → home_in (after c d) f ≡ home_in c f
 stays_after c (Assigns k h) f allowed held = elim (cases_eq f k) [
   | inl e ↦ absurd (held_taken c f held (ap (seat_of c) e ∙ allowed.0.free))
-  | inr other ↦ home_other c f k (Some (new_tenant h)) other
+  | inr other ↦ home_other c f k (Some (new_tenant h c.uses)) other
 ]
 stays_after c (Frees k) f allowed held = elim (cases_eq f k) [
   | inl e ↦ absurd (false≢true (sym allowed ∙ ap (is_held c) (sym e) ∙ held))
@@ -53,7 +52,9 @@ stays_after c (Releases k) f allowed held = home_kept c f k (λ t. record t { ho
 stays_after c (Pins k) f allowed held = home_kept c f k (λ t. record t { pins = t.pins + 1 }) (λ t. refl)
 stays_after c (Unpins k) f allowed held = home_kept c f k (λ t. record t { pins = t.pins - 1 }) (λ t. refl)
 stays_after c (Moves k on) f allowed held = home_kept c f k (λ t. record t { in_transfer = on }) (λ t. refl)
-stays_after c (Uses k) f allowed held = uses_aside (is_some (seat_of c k)) c (without k c.uses ++ k ∷ []) f
+stays_after c (Uses k) f allowed held =
+    used_aside (is_some (seat_of c k)) c (record (with_tenant c k (λ t. record t { age = c.uses })) { uses = next_use c.uses }) f
+    (home_kept c f k (λ t. record t { age = c.uses }) (λ t. refl))
 stays_after c (Writes k ws) f allowed held = refl
 
 pub stays_through : (c : Core) (ds : List Deed) (f : ℕ) → IsHeldThrough c ds f → home_in (after_all c ds) f ≡ home_in c f

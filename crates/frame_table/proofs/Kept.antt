@@ -1,24 +1,31 @@
 -- What each change of a frame leaves of how the frames are kept.
-use Rattle.std.proofs.Common.{◌≡◌, ◌≢◌, ℕ, zero, suc, ◌+◌, ◌-◌, ◌^◌, ◌<◌, ◌≤◌, inl, inr, List, [], ◌∷◌, ◌++◌, length, Option, None, Some, is_some, IsSome, true, false, cond, min, refl, sym, ◌∙◌, ap, subst, arith, get_or, set, replicate, count_by}
+use Rattle.std.proofs.Common.{◌≡◌, ◌≢◌, ◌∷◌, ℕ, zero, suc, ◌+◌, ◌-◌, ◌^◌, ◌<◌, ◌≤◌, inl, inr, List, length, map as each, Option, None, Some, is_some, cond, refl, sym, ◌∙◌, ap, subst, arith, get_or, set, replicate, count_by}
 use Rattle.std.specs.Prelude.{is_none}
-use Rattle.std.specs.Option.{option_map}
+use Rattle.std.specs.Option.{option_map, option_map_or}
 use Rattle.std.specs.Ordering.{nat_cmp}
 use Rattle.std.specs.FinMap as map
+use Rattle.std.specs.FinSet as members
 use Rattle.std.proofs.lemmas.Bool.{cases_eq, cases_lt}
-use Rattle.std.proofs.lemmas.List.{get_or-set_same, get_or-set_other, length-set, get_or_past, length-replicate, set-get_or}
-use Rattle.std.proofs.lemmas.List.Sums.{sum_by-set, sum_by-cons, count_by-le-length, get_or-le-sum_by}
-use Rattle.frame_order.specs.FrameOrder.{IsOrder, stands_in, without}
-use Rattle.frame_order.proofs.Changes.{order_pushed, order_taken, stands_last, stands_before, absent_taken, stands_taken}
-use Rattle.frame_order.proofs.Orders.{without_absent}
+use Rattle.std.proofs.lemmas.List.{get_or-set_same, get_or-set_other, length-set, get_or_past, length-replicate, map-set, set-get_or}
+use Rattle.std.proofs.lemmas.List.Sums.{sum_by-set, sum_by-cons, count_by-le-length}
 use Rattle.number_map.proofs.Keys.{get_put, get_put_other, get_gone, get_gone_other}
+use Rattle.number_set.proofs.Members as numbers
+use Rattle.number_set.specs.Numbers.{Numbers}
 use Rattle.plain_model.specs.declared.names.Home.{Home}
 use Rattle.plain_model.specs.declared.names.FrameId.{FrameId}
 use Rattle.plain_model.specs.declared.names.TheConstants.{MOST_HOMES}
 use Rattle.plain_model.specs.References.{zero_words}
 use Rattle.frame_table.specs.declared.tenant.Tenant.{Tenant}
 use Rattle.frame_table.specs.declared.tenant.TheConstants.{MOST_PINS}
-use Rattle.frame_table.specs.Core.{Core, seat_of, home_in, IsAway, IsLeastFree, with_page, without_page, with_words, new_tenant}
-use Rattle.frame_table.specs.Seats.{AreKept}
+use Rattle.frame_table.specs.Core.{Core, LAST_USE, seat_of, home_in, age_of, IsAway, new_tenant, next_use, with_page, without_page, with_words}
+use Rattle.frame_table.specs.Seats.{AreKept, leaving, leaving_age}
+
+-- the ages of the frames that may give up their page; those that are taken; and each home's frame
+abbrev Ages : Type 0
+Ages = List (Option ℕ)
+
+abbrev Homes : Type 0
+Homes = map.FinMap nat_cmp FrameId
 
 -- the seat of a frame, and its home
 abbrev seat : List (Option Tenant) → ℕ → Option Tenant
@@ -49,11 +56,15 @@ count_set seats f s below = sum_by-set (λ o. cond (is_none o) 1 0) seats f s No
 same_home : (h k : Home) → h.0 ≡ k.0 → h ≡ k
 same_home h k same = ap (λ (n : ℕ). let r : Home = record { 0 = n } in r) same
 
--- a frame's tenant changes, but not its home
-pub kept_changed : (c : Core) (n : ℕ) (homes : map.FinMap nat_cmp FrameId) (free first f : ℕ) (t u : Tenant) → AreKept c n homes free first
-    → seat_of c f ≡ Some t → u.home ≡ t.home → u.pins ≤ MOST_PINS
-    → AreKept (record c { seats = set c.seats f (Some u) }) n homes free first
-kept_changed c n homes free first f t u is at same few =
+-- the number of the next use isn't less than that of this one, and greater until the last
+pub next_after : (n : ℕ) → n ≤ LAST_USE → (n ≤ next_use n) × (next_use n ≤ LAST_USE) × (next_use n < LAST_USE → n < next_use n)
+next_after n last = (omega arith, omega arith, λ before. omega arith)
+
+-- a frame's tenant changes, but not its home; uses may go on
+pub kept_changed : (c : Core) (ages : Ages) (taken : Numbers) (homes : Homes) (free f uses : ℕ) (t u : Tenant) → AreKept c ages taken homes free
+    → seat_of c f ≡ Some t → u.home ≡ t.home → u.pins ≤ MOST_PINS → c.uses ≤ uses → uses ≤ LAST_USE → (uses < LAST_USE → u.age < uses)
+    → AreKept (record c { seats = set c.seats f (Some u); uses = uses }) (set ages f (leaving_age u)) taken homes free
+kept_changed c ages taken homes free f uses t u is at same few later last young =
     let core = is.core in
     let seats : List (Option Tenant) = set c.seats f (Some u) in
     let below : f < length c.seats = taken_below c.seats f t at in
@@ -80,87 +91,67 @@ kept_changed c n homes free first f t u is at same few =
               subst (λ (w : Tenant). w.pins ≤ MOST_PINS) is_it few
           | inr other ↦ core.pinned g v (sym (there g other) ∙ one)
         ];
-        order = subst (λ (m : ℕ). IsOrder (record { frames = m; order = c.uses })) (sym size) core.order;
-        taken = λ g. some_stay g ∙ core.taken g;
+        numbered = last;
+        aged = λ g v one before. elim (cases_eq g f) [
+          | inl e ↦
+              let both : Some u ≡ Some v = sym here ∙ ap (seat seats) (sym e) ∙ one in
+              let is_it : u ≡ v = cc in
+              subst (λ (w : Tenant). w.age < uses) is_it (young before)
+          | inr other ↦ omega (arith, core.aged g v (sym (there g other) ∙ one) (omega arith))
+        ];
         worded = core.worded ∙ sym size;
       };
       small = subst (λ (m : ℕ). m < 2 ^ 32) (sym size) is.small;
-      frames = is.frames ∙ sym size;
+      leave = ap (λ ks. set ks f (leaving_age u)) is.leave ∙ sym (map-set leaving c.seats f (Some u));
+      bound = is.bound ∙ sym size;
+      occupied = λ g. is.occupied g ∙ sym (some_stay g);
       found = λ h g at_h. homes_stay g.0 ∙ is.found h g at_h;
       listed = λ g h one. is.listed g h (sym (homes_stay g) ∙ one);
       free = is.free ∙ omega arith;
-      first = λ g low. some_stay g ∙ is.first g low;
     }
 
 -- a frame has other words
-pub kept_words : (c : Core) (n : ℕ) (homes : map.FinMap nat_cmp FrameId) (free first f : ℕ) (ws : List ℕ) → AreKept c n homes free first
-    → AreKept (with_words c f ws) n homes free first
-kept_words c n homes free first f ws is =
+pub kept_words : (c : Core) (ages : Ages) (taken : Numbers) (homes : Homes) (free f : ℕ) (ws : List ℕ) → AreKept c ages taken homes free
+    → AreKept (with_words c f ws) ages taken homes free
+kept_words c ages taken homes free f ws is =
     let core = is.core in
     record {
       core = record {
         single = core.single;
         below = core.below;
         pinned = core.pinned;
-        order = core.order;
-        taken = core.taken;
+        numbered = core.numbered;
+        aged = core.aged;
         worded = length-set c.words f ws ∙ core.worded;
       };
       small = is.small;
-      frames = is.frames;
+      leave = is.leave;
+      bound = is.bound;
+      occupied = is.occupied;
       found = is.found;
       listed = is.listed;
       free = is.free;
-      first = is.first;
     }
 
--- a frame that is taken is used
-pub kept_used : (c : Core) (n : ℕ) (homes : map.FinMap nat_cmp FrameId) (free first f : ℕ) → AreKept c n homes free first
-    → is_some (seat_of c f) ≡ true → AreKept (record c { uses = without f c.uses ++ f ∷ [] }) n homes free first
-kept_used c n homes free first f is taken =
+-- a free frame gets the page of a home that is in no frame
+pub kept_seated : (c : Core) (ages : Ages) (taken : Numbers) (homes : Homes) (free f : ℕ) (h : Home) → AreKept c ages taken homes free
+    → f < length c.seats → seat_of c f ≡ None → IsAway c h → h.0 < MOST_HOMES
+    → AreKept (with_page c f h) (set ages f (leaving_age (new_tenant h c.uses))) (record taken { members = members.insert taken.members f })
+    (map.insert homes h.0 (record { 0 = f })) (free - 1)
+kept_seated c ages taken homes free f h is below none away low =
     let core = is.core in
-    let stands : stands_in f c.uses ≡ true = sym (core.taken f) ∙ taken in
-    let fewer = order_taken (record { frames = length c.seats; order = c.uses }) f core.order stands in
-    record {
-      core = record {
-        single = core.single;
-        below = core.below;
-        pinned = core.pinned;
-        order = order_pushed (record { frames = length c.seats; order = without f c.uses }) f fewer (core.order.below f stands) (absent_taken f c.uses);
-        taken = λ g. elim (cases_eq g f) [
-          | inl e ↦ ap (λ (k : ℕ). is_some (seat_of c k)) e ∙ taken ∙ sym (stands_last g f (without f c.uses) e)
-          | inr other ↦ core.taken g ∙ sym (stands_before g f (without f c.uses) other ∙ stands_taken f g c.uses other)
-        ];
-        worded = core.worded;
-      };
-      small = is.small;
-      frames = is.frames;
-      found = is.found;
-      listed = is.listed;
-      free = is.free;
-      first = is.first;
-    }
-
--- a free frame, the one of least number, gets the page of a home that is in no frame
-pub kept_seated : (c : Core) (n : ℕ) (homes : map.FinMap nat_cmp FrameId) (free first f : ℕ) (h : Home) → AreKept c n homes free first
-    → IsLeastFree c f → IsAway c h → h.0 < MOST_HOMES
-    → AreKept (with_page c f h) n (map.insert homes h.0 (record { 0 = f })) (free - 1) (f + 1)
-kept_seated c n homes free first f h is least away low =
-    let core = is.core in
-    let seats : List (Option Tenant) = set c.seats f (Some (new_tenant h)) in
-    let below : f < length c.seats = least.below in
-    let none : seat c.seats f ≡ None = least.free in
-    let here : seat seats f ≡ Some (new_tenant h) = get_or-set_same c.seats f (Some (new_tenant h)) None below in
-    let there : (g : ℕ) → g ≢ f → seat seats g ≡ seat c.seats g = λ g other. get_or-set_other c.seats f g (Some (new_tenant h)) None other in
+    let seats : List (Option Tenant) = set c.seats f (Some (new_tenant h c.uses)) in
+    let here : seat seats f ≡ Some (new_tenant h c.uses) = get_or-set_same c.seats f (Some (new_tenant h c.uses)) None below in
+    let there : (g : ℕ) → g ≢ f → seat seats g ≡ seat c.seats g = λ g other. get_or-set_other c.seats f g (Some (new_tenant h c.uses)) None other in
     let home_here : home seats f ≡ Some h = ap (option_map (λ v. v.home)) here in
     let home_there : (g : ℕ) → g ≢ f → home seats g ≡ home c.seats g = λ g other. ap (option_map (λ v. v.home)) (there g other) in
     let home_before : home c.seats f ≡ None = ap (option_map (λ v. v.home)) none in
     let new : (g : ℕ) (k : Home) → g ≡ f → home seats g ≡ Some k → k ≡ h = λ g k e at.
     (let both : Some h ≡ Some k = sym home_here ∙ ap (home seats) (sym e) ∙ at in let it : k ≡ h = cc in it) in
-    let size : length seats ≡ length c.seats = length-set c.seats f (Some (new_tenant h)) in
+    let size : length seats ≡ length c.seats = length-set c.seats f (Some (new_tenant h c.uses)) in
     let count : count_by is_none seats + 1 ≡ count_by is_none c.seats + 0 =
-    subst (λ (o : Option Tenant). count_by is_none seats + cond (is_none o) 1 0 ≡ count_by is_none c.seats + 0) none (count_set c.seats f (Some (new_tenant h)) below) in
-    let absent : stands_in f c.uses ≡ false = sym (core.taken f) ∙ ap is_some none in
+    subst (λ (o : Option Tenant). count_by is_none seats + cond (is_none o) 1 0 ≡ count_by is_none c.seats + 0) none (count_set c.seats f (Some (new_tenant h c.uses)) below) in
+    let next = next_after c.uses core.numbered in
     record {
       core = record {
         single = λ g k j one two. elim (cases_eq g f) [
@@ -179,21 +170,28 @@ kept_seated c n homes free first f h is least away low =
         ];
         pinned = λ g v one. elim (cases_eq g f) [
           | inl e ↦
-              let both : Some (new_tenant h) ≡ Some v = sym here ∙ ap (seat seats) (sym e) ∙ one in
-              let is_it : new_tenant h ≡ v = cc in
+              let both : Some (new_tenant h c.uses) ≡ Some v = sym here ∙ ap (seat seats) (sym e) ∙ one in
+              let is_it : new_tenant h c.uses ≡ v = cc in
               subst (λ (w : Tenant). w.pins ≤ MOST_PINS) is_it (omega arith)
           | inr other ↦ core.pinned g v (sym (there g other) ∙ one)
         ];
-        order = subst (λ (m : ℕ). IsOrder (record { frames = m; order = c.uses ++ f ∷ [] })) (sym size)
-            (order_pushed (record { frames = length c.seats; order = c.uses }) f core.order below absent);
-        taken = λ g. elim (cases_eq g f) [
-          | inl e ↦ ap (λ (k : ℕ). is_some (seat seats k)) e ∙ ap is_some here ∙ sym (stands_last g f c.uses e)
-          | inr other ↦ ap is_some (there g other) ∙ core.taken g ∙ sym (stands_before g f c.uses other)
+        numbered = next.1;
+        aged = λ g v one before. elim (cases_eq g f) [
+          | inl e ↦
+              let both : Some (new_tenant h c.uses) ≡ Some v = sym here ∙ ap (seat seats) (sym e) ∙ one in
+              let is_it : new_tenant h c.uses ≡ v = cc in
+              subst (λ (w : Tenant). w.age < next_use c.uses) is_it (next.2 before)
+          | inr other ↦ omega (arith, next.0, core.aged g v (sym (there g other) ∙ one) (omega (arith, next.0)))
         ];
         worded = core.worded ∙ sym size;
       };
       small = subst (λ (m : ℕ). m < 2 ^ 32) (sym size) is.small;
-      frames = is.frames ∙ sym size;
+      leave = ap (λ ks. set ks f (leaving_age (new_tenant h c.uses))) is.leave ∙ sym (map-set leaving c.seats f (Some (new_tenant h c.uses)));
+      bound = is.bound ∙ sym size;
+      occupied = λ g. elim (cases_eq g f) [
+        | inl e ↦ numbers.added taken.members f g e ∙ sym (ap (λ (k : ℕ). is_some (seat seats k)) e ∙ ap is_some here)
+        | inr other ↦ numbers.added_other taken.members f g other ∙ is.occupied g ∙ sym (ap is_some (there g other))
+      ];
       found = λ k g at. elim (cases_eq k h.0) [
         | inl e ↦
             let both : Some (let r : FrameId = record { 0 = f } in r) ≡ Some g = sym (get_put homes h.0 k (record { 0 = f }) e) ∙ at in
@@ -210,17 +208,13 @@ kept_seated c n homes free first f h is least away low =
             get_put_other homes h.0 k.0 (record { 0 = f }) (λ e. away g (before ∙ ap Some (same_home k h e))) ∙ is.listed g k before
       ];
       free = omega (arith, is.free);
-      first = λ g lower. elim (cases_eq g f) [
-        | inl e ↦ ap (λ (k : ℕ). is_some (seat seats k)) e ∙ ap is_some here
-        | inr other ↦ ap is_some (there g other) ∙ least.taken g (omega arith)
-      ];
     }
 
 -- a frame that is taken becomes free
-pub kept_vacated : (c : Core) (n : ℕ) (homes : map.FinMap nat_cmp FrameId) (free first f : ℕ) (h : Home) → AreKept c n homes free first
+pub kept_vacated : (c : Core) (ages : Ages) (taken : Numbers) (homes : Homes) (free f : ℕ) (h : Home) → AreKept c ages taken homes free
     → home_in c f ≡ Some h
-    → AreKept (without_page c f) n (map.remove homes h.0) (free + 1) (min first f)
-kept_vacated c n homes free first f h is at =
+    → AreKept (without_page c f) (set ages f None) (record taken { members = members.remove taken.members f }) (map.remove homes h.0) (free + 1)
+kept_vacated c ages taken homes free f h is at =
     let core = is.core in
     let seats : List (Option Tenant) = set c.seats f None in
     let was = homed (seat c.seats f) h at in
@@ -235,7 +229,6 @@ kept_vacated c n homes free first f h is at =
     let size : length seats ≡ length c.seats = length-set c.seats f None in
     let count : count_by is_none seats + 0 ≡ count_by is_none c.seats + 1 =
     subst (λ (o : Option Tenant). count_by is_none seats + cond (is_none o) 1 0 ≡ count_by is_none c.seats + 1) before (count_set c.seats f None below) in
-    let stands : stands_in f c.uses ≡ true = sym (core.taken f) ∙ ap is_some before in
     let stay : (g : ℕ) (k : Home) → home seats g ≡ Some k → home c.seats g ≡ Some k = λ g k one. sym (home_there g (apart g k one)) ∙ one in
     record {
       core = record {
@@ -245,16 +238,20 @@ kept_vacated c n homes free first f h is at =
           | inl e ↦ let no : None ≡ Some v = sym here ∙ ap (seat seats) (sym e) ∙ one in absurd cc
           | inr other ↦ core.pinned g v (sym (there g other) ∙ one)
         ];
-        order = subst (λ (m : ℕ). IsOrder (record { frames = m; order = without f c.uses })) (sym size)
-            (order_taken (record { frames = length c.seats; order = c.uses }) f core.order stands);
-        taken = λ g. elim (cases_eq g f) [
-          | inl e ↦ ap (λ (k : ℕ). is_some (seat seats k)) e ∙ ap is_some here ∙ sym (ap (λ (k : ℕ). stands_in k (without f c.uses)) e ∙ absent_taken f c.uses)
-          | inr other ↦ ap is_some (there g other) ∙ core.taken g ∙ sym (stands_taken f g c.uses other)
+        numbered = core.numbered;
+        aged = λ g v one before. elim (cases_eq g f) [
+          | inl e ↦ let gone : None ≡ Some v = sym here ∙ ap (seat seats) (sym e) ∙ one in absurd cc
+          | inr other ↦ core.aged g v (sym (there g other) ∙ one) before
         ];
         worded = core.worded ∙ sym size;
       };
       small = subst (λ (m : ℕ). m < 2 ^ 32) (sym size) is.small;
-      frames = is.frames ∙ sym size;
+      leave = ap (λ ks. set ks f None) is.leave ∙ sym (map-set leaving c.seats f None);
+      bound = is.bound ∙ sym size;
+      occupied = λ g. elim (cases_eq g f) [
+        | inl e ↦ numbers.gone taken.members f g e ∙ sym (ap (λ (k : ℕ). is_some (seat seats k)) e ∙ ap is_some here)
+        | inr other ↦ numbers.gone_other taken.members f g other ∙ is.occupied g ∙ sym (ap is_some (there g other))
+      ];
       found = λ k g one. elim (cases_eq k h.0) [
         | inl e ↦ let no : None ≡ Some g = sym (get_gone homes h.0 k e) ∙ one in absurd cc
         | inr other ↦
@@ -266,16 +263,12 @@ kept_vacated c n homes free first f h is at =
       listed = λ g k one.
           get_gone_other homes h.0 k.0 (λ e. apart g k one (core.single g f h (stay g k one ∙ ap Some (same_home k h e)) at)) ∙ is.listed g k (stay g k one);
       free = omega (arith, is.free);
-      first = λ g lower. elim (cases_lt g f) [
-        | inl less ↦ ap is_some (there g (omega arith)) ∙ is.first g (omega arith)
-        | inr more ↦ absurd (omega arith)
-      ];
     }
 
 -- there is room to count one more free frame
-pub free_small : (c : Core) (n : ℕ) (homes : map.FinMap nat_cmp FrameId) (free first f : ℕ) (h : Home) → AreKept c n homes free first → home_in c f ≡ Some h → free + 1 < 2 ^ 32
-free_small c n homes free first f h is at =
-    let next = kept_vacated c n homes free first f h is at in
+pub free_small : (c : Core) (ages : Ages) (taken : Numbers) (homes : Homes) (free f : ℕ) (h : Home) → AreKept c ages taken homes free → home_in c f ≡ Some h → free + 1 < 2 ^ 32
+free_small c ages taken homes free f h is at =
+    let next = kept_vacated c ages taken homes free f h is at in
     omega (arith, next.free, next.small, count_by-le-length is_none (set c.seats f None))
 
 count_none : (n : ℕ) → count_by is_none (replicate {A = Option Tenant} n None) ≡ n
@@ -287,50 +280,51 @@ none_at zero f = refl
 none_at (suc n) zero = refl
 none_at (suc n) (suc f) = none_at n f
 
+none_leave : (n : ℕ) → each leaving (replicate n None) ≡ replicate n None
+none_leave zero = refl
+none_leave (suc n) = ap (λ ks. None ∷ ks) (none_leave n)
+
 -- all frames are free at the beginning
-pub kept_none : (n : ℕ) → n < 2 ^ 32 → AreKept (record { seats = replicate n None; words = replicate n zero_words; uses = [] }) n map.empty n 0
+pub kept_none : (n : ℕ) → n < 2 ^ 32
+    → AreKept (record { seats = replicate n None; words = replicate n zero_words; uses = 0 }) (replicate n None) (record { bound = n; members = members.empty }) map.empty n
 kept_none n small =
     let seats : List (Option Tenant) = replicate n None in
     let size : length seats ≡ n = length-replicate {A = Option Tenant} n None in
-    let no_home : (f : ℕ) (h : Home) → home seats f ≡ Some h → ⊥ = λ f h at. (let no : None ≡ Some h = sym (ap (option_map (λ v. v.home)) (none_at n f)) ∙ at in let r : ⊥ = absurd cc in r) in
+    let no_home : (f : ℕ) (h : Home) → home seats f ≡ Some h → ⊥ = λ f h at. (let gone : None ≡ Some h = sym (ap (option_map (λ v. v.home)) (none_at n f)) ∙ at in let r : ⊥ = absurd cc in r) in
     record {
       core = record {
         single = λ f g h one two. absurd (no_home f h one);
         below = λ f h one. absurd (no_home f h one);
-        pinned = λ f t one. let no : None ≡ Some t = sym (none_at n f) ∙ one in absurd cc;
-        order = record { once = tt; below = λ f here. absurd cc };
-        taken = λ f. ap is_some (none_at n f);
+        pinned = λ f t one. let gone : None ≡ Some t = sym (none_at n f) ∙ one in absurd cc;
+        numbered = omega arith;
+        aged = λ f t one before. let gone : None ≡ Some t = sym (none_at n f) ∙ one in absurd cc;
         worded = length-replicate {A = List ℕ} n zero_words ∙ sym size;
       };
       small = subst (λ (m : ℕ). m < 2 ^ 32) (sym size) small;
-      frames = sym size;
-      found = λ h f at. let no : None ≡ Some f = sym (map.get-empty nat_cmp h) ∙ at in absurd cc;
+      leave = sym (none_leave n);
+      bound = sym size;
+      occupied = λ f. members.contains-empty nat_cmp f ∙ sym (ap is_some (none_at n f));
+      found = λ h f at. let gone : None ≡ Some f = sym (map.get-empty nat_cmp h) ∙ at in absurd cc;
       listed = λ f h one. absurd (no_home f h one);
       free = sym (count_none n);
-      first = λ f low. absurd (omega arith);
     }
 
--- the same as callers say it, of a home and not of a tenant
-pub kept_reseated : (c q : Core) (n : ℕ) (homes : map.FinMap nat_cmp FrameId) (free first f : ℕ) (u : Tenant) → AreKept c n homes free first → c ≡ q
-    → home_in q f ≡ Some u.home → u.pins ≤ MOST_PINS → AreKept (record c { seats = set c.seats f (Some u) }) n homes free first
-kept_reseated c q n homes free first f u is view at few =
+-- what a frame is taken by is changed, but not its home nor its age
+pub kept_reseated : (c q : Core) (ages : Ages) (taken : Numbers) (homes : Homes) (free f : ℕ) (u : Tenant) → AreKept c ages taken homes free → c ≡ q
+    → home_in q f ≡ Some u.home → age_of q f ≡ u.age → u.pins ≤ MOST_PINS → AreKept (record c { seats = set c.seats f (Some u) }) (set ages f (leaving_age u)) taken homes free
+kept_reseated c q ages taken homes free f u is view at age few =
     let was = homed (seat c.seats f) u.home (ap (λ (r : Core). home_in r f) view ∙ at) in
-    kept_changed c n homes free first f was.0 u is was.1 (sym was.2) few
+    let same : was.0.age ≡ u.age = sym (ap (λ (o : Option Tenant). option_map_or (λ t. t.age) o 0) was.1) ∙ ap (λ (r : Core). age_of r f) view ∙ age in
+    kept_changed c ages taken homes free f c.uses was.0 u is was.1 (sym was.2) few (omega arith) is.core.numbered
+    (λ before. subst (λ (n : ℕ). n < c.uses) same (is.core.aged f was.0 was.1 before))
+
+-- a frame that is taken is used
+pub kept_used : (c : Core) (ages : Ages) (taken : Numbers) (homes : Homes) (free f : ℕ) (t : Tenant) → AreKept c ages taken homes free → seat_of c f ≡ Some t
+    → AreKept (record c { seats = set c.seats f (Some (record t { age = c.uses })); uses = next_use c.uses }) (set ages f (leaving_age (record t { age = c.uses }))) taken homes free
+kept_used c ages taken homes free f t is at =
+    let next = next_after c.uses is.core.numbered in
+    kept_changed c ages taken homes free f (next_use c.uses) t (record t { age = c.uses }) is at refl (is.core.pinned f t at) next.0 next.1 next.2
 
 -- to make a free frame free changes nothing
-pub free_stays : (c : Core) (n : ℕ) (homes : map.FinMap nat_cmp FrameId) (free first f : ℕ) → AreKept c n homes free first → seat_of c f ≡ None
-    → c ≡ without_page c f
-free_stays c n homes free first f is none =
-    let same_seats : set c.seats f None ≡ c.seats = ap (set c.seats f) (sym none) ∙ set-get_or c.seats f None in
-    let same_uses : without f c.uses ≡ c.uses = without_absent f c.uses (sym (is.core.taken f) ∙ ap is_some none) in
-    sym (ap (λ (ss : List (Option Tenant)). record c { seats = ss; uses = without f c.uses }) same_seats ∙ ap (λ (us : List ℕ). record c { uses = us }) same_uses)
-
-not_none : (o : Option Tenant) → cond (is_none o) 1 0 ≤ 0 → IsSome o
-not_none None few = absurd (omega arith)
-not_none (Some t) few = refl
-
--- where no frame is free, all are taken
-pub all_taken : (c : Core) (n : ℕ) (homes : map.FinMap nat_cmp FrameId) (free first : ℕ) → AreKept c n homes free first → free ≡ 0
-    → (f : ℕ) → f < length c.seats → IsSome (seat_of c f)
-all_taken c n homes free first is none f below =
-    not_none (seat c.seats f) (omega (arith, get_or-le-sum_by (λ (o : Option Tenant). cond (is_none o) 1 0) c.seats f None below, is.free))
+pub free_stays : (c : Core) (f : ℕ) → seat_of c f ≡ None → c ≡ without_page c f
+free_stays c f none = ap (λ (ss : List (Option Tenant)). record c { seats = ss }) (sym (ap (set c.seats f) (sym none) ∙ set-get_or c.seats f None))

@@ -1,3 +1,4 @@
 pub mod Kept
+pub mod Found
 pub mod HeldFrames
-pub mod OldFrames
+pub mod YoungFrames

@@ -1,25 +1,15 @@
--- The ages of frames: the number of the last use of each.
-use Rattle.std.specs.Prelude.{◌≡◌, ◌≢◌, ℕ, ◌<◌, ◌==◌, List, [], ◌∷◌, true, ⊤, if◌then◌else◌}
-use Rattle.frame_order.specs.FrameOrder.{stands_in}
-use Rattle.frame_table.specs.Core.{Core, can_leave}
+-- What a use makes of the ages of frames.
+use Rattle.std.specs.Prelude.{◌≡◌, ◌≢◌, ℕ, ◌<◌, IsSome}
+use Rattle.frame_table.specs.Core.{Core, age_of, seat_of}
 
--- these frames stand in the order of their ages
-abbrev pub AreByAge : (ℕ → ℕ) → List ℕ → Type 0
-AreByAge age [] = ⊤
-AreByAge age (f ∷ fs) = ((g : ℕ) → stands_in g fs ≡ true → age f < age g) × AreByAge age fs
+-- a frame was used after all others that are taken
+abbrev pub IsYoungest : Core → ℕ → Type 0
+IsYoungest c f = (g : ℕ) → g ≢ f → IsSome (seat_of c g) → age_of c g < age_of c f
 
--- none of these frames was used since
-abbrev pub AreOlder : (ℕ → ℕ) → ℕ → List ℕ → Type 0
-AreOlder age now fs = (g : ℕ) → stands_in g fs ≡ true → age g < now
+-- all other frames keep their ages
+abbrev pub OthersKeepAges : Core → Core → ℕ → Type 0
+OthersKeepAges old new f = (g : ℕ) → g ≢ f → age_of new g ≡ age_of old g
 
--- one frame is used now
-abbrev pub renewed : (ℕ → ℕ) → ℕ → ℕ → ℕ → ℕ
-renewed age f now g = if g == f then now else age g
-
--- frames that stood by their ages stand so still, the one that is used now last
-abbrev pub RenewsAge : List ℕ → ℕ → List ℕ → Type 0
-RenewsAge old f new = (age : ℕ → ℕ) (now : ℕ) → AreByAge age old → AreOlder age now old → AreByAge (renewed age f now) new
-
--- a frame is older than each other that may give up its page
-abbrev pub HasLeastAge : Core → ℕ → Type 0
-HasLeastAge c f = (age : ℕ → ℕ) (g : ℕ) → AreByAge age c.uses → can_leave c g ≡ true → g ≢ f → age f < age g
+-- one frame alone has another age, which makes it the youngest
+abbrev pub RenewsAge : Core → Core → ℕ → Type 0
+RenewsAge old new f = IsYoungest new f × OthersKeepAges old new f

@@ -1,20 +1,20 @@
 // The frames of core.
-ghost use Rattle.std.specs.Prelude.{◌≡◌, ◌+◌, ◌-◌, ◌<◌, ◌≤◌, [], Some, None, IsSome, IfNone, IfOk, IfSome, ℕ, MatchOption, true, false, is_none, count_by, length, replicate, slice_index};
-ghost use Rattle.std.specs.Option.{option_map};
+ghost use Rattle.std.specs.Prelude.{◌≡◌, ◌+◌, ◌-◌, ◌<◌, ◌≤◌, Some, None, IsSome, IfOk, IfSome, ℕ, MatchOption, true, false, is_none, count_by, length, replicate, slice_index};
 ghost use Rattle.std.specs.Borrow.{Array, Lends, sem, u64 as number};
 ghost use Rattle.plain_model.specs.References.{zero_words};
-ghost use Rattle.frame_table.specs.Core.{AreAllTaken, IsAway, IsCore, IsLeastFree, can_leave, holds_of, home_in, is_held, is_moving, pins_of, seat_of, used, victim_of, with_page, with_tenant, with_words, without_page, words_of};
+ghost use Rattle.frame_table.specs.Core.{AreAllTaken, IsAway, IsCore, IsLeastFree, IsVictim, age_of, can_leave, holds_of, home_in, is_held, is_moving, pins_of, seat_of, used, with_page, with_tenant, with_words, without_page, words_of};
 ghost use Rattle.frame_table.specs.contracts.frames.Frames.{the_row};
 
 use crate::pages::zero_pages;
 use crate::tenant::Tenant;
 use crate::{Hold, MOST_PINS};
-use frame_order::FrameOrder;
 use number_map::NumberMap;
+use number_set::NumberSet;
 use outside::{Memory, PAGE_WORDS};
 use plain_model::{FrameId, Home, MOST_HOMES};
 use std::alloc::Global;
 use std::marker::Model;
+use tournament::Tournament;
 
 /// How many holds of a frame are not spent at most.
 pub const MOST_HOLDS: u32 = u32::MAX;
@@ -23,17 +23,19 @@ pub const MOST_HOLDS: u32 = u32::MAX;
 const HOMES: usize = MOST_HOMES as usize;
 
 /// The frames of core with the words that they hold. A frame is free, or it is taken by the page of
-/// a home, and no home's page takes two. The frames that are taken stand in the order of their last
-/// uses, so that the one that goes next is found from the order's beginning.
+/// a home, and no home's page takes two. Uses are numbered, and the age of a frame is the number of
+/// its last use.
 #[derive(Drop)]
 pub struct Frames {
     seats: Vec<Option<Tenant>>,
     pages: Vec<[u64; PAGE_WORDS]>,
-    uses: FrameOrder,
+    // The ages of the frames that may give up their page.
+    leaving: Tournament,
+    taken: NumberSet,
     homes: NumberMap<FrameId, HOMES>,
     free: u32,
-    // No frame below this one is free.
-    first: u32,
+    // The number of the next use.
+    uses: u64,
 }
 
 impl Model for Frames {
@@ -44,21 +46,22 @@ impl Model for Frames {
 
     ghost view = { λ s. core_of s.seats.items s.pages.items s.uses };
 
-    ghost invariant = { λ s. AreKept (core_of s.seats.items s.pages.items s.uses) s.uses.frames s.homes s.free s.first };
+    ghost invariant = { λ s. AreKept (core_of s.seats.items s.pages.items s.uses) s.leaving s.taken s.homes s.free };
 }
 
 impl Frames {
     /// So many frames, all of them free and with zero words. Memory where there is none for them.
     pub fn boot(alloc: Global, n: u32) -> Result<Self, Memory>
-        ensures { IfOk result (λ c. c ≡ record { seats = replicate n None; words = replicate n zero_words; uses = [] }) }
+        ensures { IfOk result (λ c. c ≡ record { seats = replicate n None; words = replicate n zero_words; uses = 0 }) }
     {
         Ok(Frames {
             seats: vec![in alloc; None; n as usize]?,
             pages: zero_pages(alloc, n)?,
-            uses: FrameOrder::boot(alloc, n)?,
+            leaving: Tournament::boot(alloc, n as usize)?,
+            taken: NumberSet::boot(alloc, n as usize)?,
             homes: NumberMap::boot(alloc)?,
             free: n,
-            first: 0,
+            uses: 0,
         })
     }
 
@@ -67,7 +70,7 @@ impl Frames {
         ensures len { result ≡ length self.now.seats }
         ensures whole { IsCore self.now }
     {
-        self.uses.frames()
+        self.seats.len() as u32
     }
 
     /// How many frames are free.
@@ -98,7 +101,7 @@ impl Frames {
         ensures { result ≡ is_held self.now f.0 }
     {
         match self.seats[f.0 as usize] {
-            Some(tenant) => !(tenant.holds == 0 && tenant.pins == 0),
+            Some(tenant) => tenant.is_held(),
             None => false,
         }
     }
@@ -157,13 +160,15 @@ impl Frames {
         }
     }
 
-    // Changes what takes a frame, but not its home.
+    // Changes what takes a frame, but not its home nor its age.
     fn reseat(&mut self, f: FrameId, tenant: Tenant)
         requires home { home_in self.old f.0 ≡ Some tenant.home }
+        requires age { age_of self.old f.0 ≡ tenant.age }
         requires pins { tenant.pins ≤ MOST_PINS }
         ensures { self.new ≡ with_tenant self.old f.0 (λ t. tenant) }
     {
         self.seats[f.0 as usize] = Some(tenant);
+        self.leaving.set(f.0 as usize, tenant.leaving_age());
     }
 
     /// Holds a frame that is taken, until the hold is released. Fewer than 2^32 - 1 holds of it are
@@ -246,40 +251,22 @@ impl Frames {
         &mut self.pages[hold.frame().0 as usize]
     }
 
-    // Whether a frame may give up its page.
-    fn can_leave(&self, frame: u32) -> bool
-        ensures { result ≡ can_leave self.now frame }
-    {
-        match self.seats.get(frame as usize) {
-            Some(Some(tenant)) => tenant.holds == 0 && tenant.pins == 0 && !tenant.in_transfer,
-            _ => false,
-        }
-    }
-
-    /// The frame whose page goes next: of those that are taken, and neither held nor in transfer,
-    /// the one whose last use is the oldest. None exactly where every frame is held, free or in
+    /// The frame whose page goes next: of those that are taken, and neither held nor in transfer, the
+    /// one of least age, then least number. None exactly where every frame is held, free or in
     /// transfer.
     pub fn victim(&self) -> Option<FrameId>
-        ensures oldest { option_map (λ f. f.0) result ≡ victim_of self.now }
-        ensures none { IfNone result ((f : ℕ) → can_leave self.now f ≡ false) }
+        ensures { MatchOption result ((f : ℕ) → can_leave self.now f ≡ false) (λ f. IsVictim self.now f.0) }
     {
-        let frame = self.uses.iter().find(|f| self.can_leave(*f))?;
-        Some(FrameId(frame))
+        let f = self.leaving.winner()?;
+        Some(FrameId(f as u32))
     }
 
     // The free frame of least number. None exactly where all are taken.
     fn least_free(&self) -> Option<FrameId>
         ensures { MatchOption result (AreAllTaken self.now) (λ f. IsLeastFree self.now f.0) }
     {
-        if self.free == 0 {
-            return None;
-        }
-        for frame in self.first..self.uses.frames() {
-            if self.seats[frame as usize].is_none() {
-                return Some(FrameId(frame));
-            }
-        }
-        None
+        let f = self.taken.least_absent(0)?;
+        Some(FrameId(f as u32))
     }
 
     /// Gives the free frame of least number to the page of a home, which is in no frame. The words
@@ -303,11 +290,13 @@ impl Frames {
         requires free { IsLeastFree self.old f.0 }
         ensures { self.new ≡ with_page self.old f.0 home }
     {
-        self.seats[f.0 as usize] = Some(Tenant::new(home));
+        let tenant = Tenant::new(home, self.uses);
+        self.seats[f.0 as usize] = Some(tenant);
+        self.leaving.set(f.0 as usize, tenant.leaving_age());
+        self.taken.insert(f.0 as usize);
         self.homes.insert(home.0 as usize, f);
-        self.uses.push(f.0);
         self.free -= 1;
-        self.first = f.0 + 1;
+        self.uses = self.uses.saturating_add(1);
     }
 
     /// Makes a frame free that is not held. Its words stay. A free frame stays free.
@@ -327,21 +316,34 @@ impl Frames {
         ensures { self.new ≡ without_page self.old f.0 }
     {
         self.seats[f.0 as usize] = None;
+        self.leaving.set(f.0 as usize, None);
+        self.taken.remove(f.0 as usize);
         self.homes.remove(home.0 as usize);
-        self.uses.remove(f.0);
         self.free += 1;
-        self.first = self.first.min(f.0);
     }
 
-    /// A use of a frame: its age is renewed, so that all others go before it. A free frame has no
-    /// age.
+    /// A use of a frame: its age is the number of this use. At the end of their type the numbers
+    /// stand still. A free frame has no age.
     pub fn touch_age(&mut self, f: FrameId)
         requires { f.0 < length self.old.seats }
         ensures { self.new ≡ used self.old f.0 }
     {
-        if self.seats[f.0 as usize].is_some() {
-            self.uses.remove(f.0);
-            self.uses.push(f.0);
+        if let Some(tenant) = self.seats[f.0 as usize] {
+            self.renew(f, tenant);
         }
+    }
+
+    // A use of a frame that is taken.
+    fn renew(&mut self, f: FrameId, tenant: Tenant)
+        requires { seat_of self.old f.0 ≡ Some tenant }
+        ensures { self.new ≡ used self.old f.0 }
+    {
+        let renewed = Tenant {
+            age: self.uses,
+            ..tenant
+        };
+        self.seats[f.0 as usize] = Some(renewed);
+        self.leaving.set(f.0 as usize, renewed.leaving_age());
+        self.uses = self.uses.saturating_add(1);
     }
 }

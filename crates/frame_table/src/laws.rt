@@ -1,8 +1,8 @@
 // What follows from the definitions, in the words of their users. A law does nothing when it runs.
-ghost use Rattle.std.specs.Prelude.{◌≡◌, ℕ, List, None, Some, IsSome, true, false};
+ghost use Rattle.std.specs.Prelude.{◌≡◌, ℕ, ◌<◌, List, IsSome, false, length};
 ghost use Rattle.plain_model.specs.declared.names.Home.{Home};
-ghost use Rattle.frame_table.specs.Ages.{AreByAge, HasLeastAge, RenewsAge};
-ghost use Rattle.frame_table.specs.Core.{Core, IsCore, can_leave, home_in, is_held, seat_of, used, victim_of, with_page, without_page};
+ghost use Rattle.frame_table.specs.Ages.{OthersKeepAges, RenewsAge};
+ghost use Rattle.frame_table.specs.Core.{Core, IsCore, IsVictim, LAST_USE, home_in, is_held, seat_of, used, with_page, without_page};
 ghost use Rattle.frame_table.specs.Deeds.{Deed, IsHeldThrough, after, after_all};
 
 /// A frame that is held keeps the page of its home, whatever is done, until its holds are spent and
@@ -17,22 +17,16 @@ pub fn spent_holds_leave_no_trace()
     ensures pins { (c : Core) (f : ℕ) → IsSome (seat_of c f) → after (after c (Deed.Pins f)) (Deed.Unpins f) ≡ c }
 {}
 
-/// The frames stand by their ages, the numbers of their last uses: a use, or a page that comes in,
-/// puts a frame last, and one that is made free leaves the others as they are.
+/// Until the numbers of uses end, a use, or a page that comes in, makes a frame the youngest, and no
+/// other frame's age changes. One that is made free leaves the others as they are.
 pub fn uses_renew_ages()
-    ensures used { (c : Core) (f : ℕ) → IsSome (seat_of c f) → RenewsAge c.uses f (used c f).uses }
-    ensures comes { (c : Core) (f : ℕ) (h : Home) → IsCore c → seat_of c f ≡ None → RenewsAge c.uses f (with_page c f h).uses }
-    ensures goes { (age : ℕ → ℕ) (c : Core) (f : ℕ) → AreByAge age c.uses → AreByAge age (without_page c f).uses }
+    ensures used { (c : Core) (f : ℕ) → IsCore c → c.uses < LAST_USE → IsSome (seat_of c f) → RenewsAge c (used c f) f }
+    ensures comes { (c : Core) (f : ℕ) (h : Home) → IsCore c → c.uses < LAST_USE → f < length c.seats → RenewsAge c (with_page c f h) f }
+    ensures goes { (c : Core) (f : ℕ) → OthersKeepAges c (without_page c f) f }
 {}
 
-/// A victim is not held, and of the frames that may give up their page it has the least age.
-pub fn a_victim_has_the_least_age()
-    ensures free { (c : Core) (f : ℕ) → victim_of c ≡ Some f → is_held c f ≡ false }
-    ensures least { (c : Core) (f : ℕ) → IsCore c → victim_of c ≡ Some f → HasLeastAge c f }
-{}
-
-/// There is a victim exactly where a frame may give up its page.
-pub fn a_victim_is_found()
-    ensures none { (c : Core) → IsCore c → victim_of c ≡ None → (f : ℕ) → can_leave c f ≡ false }
-    ensures some { (c : Core) (f : ℕ) → victim_of c ≡ Some f → can_leave c f ≡ true }
+/// A victim is taken and not held.
+pub fn a_victim_is_not_held()
+    ensures taken { (c : Core) (f : ℕ) → IsVictim c f → IsSome (seat_of c f) }
+    ensures let_go { (c : Core) (f : ℕ) → IsVictim c f → is_held c f ≡ false }
 {}

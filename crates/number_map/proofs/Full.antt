@@ -6,7 +6,7 @@ use Rattle.std.specs.Ordering.{nat_cmp}
 use Rattle.std.specs.FinMap as map
 use Rattle.std.proofs.lemmas.Cmp.{nat_cmp_total}
 use Rattle.number_map.specs.Numbers.{AreTaken}
-use Rattle.number_map.proofs.Keys.{get_put, get_put_other, get_gone, get_gone_other, same}
+use Rattle.number_map.proofs.Keys.{get_put_other, get_gone, get_gone_other, same}
 use Rattle.number_map.proofs.Places.{gone_already, put_back}
 
 module _ {V : Type 0} where

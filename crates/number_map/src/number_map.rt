@@ -4,6 +4,7 @@ ghost use Rattle.std.specs.Ordering.{nat_cmp};
 ghost use Rattle.std.specs.FinMap as map;
 ghost use Rattle.number_map.specs.Numbers.{AreTaken, IsLeastFree};
 
+use number_set::NumberSet;
 use outside::Memory;
 use std::alloc::Global;
 use std::marker::Model;
@@ -12,14 +13,16 @@ use std::marker::Model;
 #[derive(Drop)]
 pub struct NumberMap<V: Copy, const N: usize> {
     places: Vec<Option<V>>,
+    // The numbers that have a value.
+    taken: NumberSet,
 }
 
 impl<V: Copy, const N: usize> Model for NumberMap<V, N> {
-    ghost use Rattle.std.specs.Prelude.{◌≡◌, vec_len};
+    ghost use Rattle.std.specs.Prelude.{◌≡◌};
     ghost use Rattle.std.specs.Ordering.{nat_cmp};
     ghost use Rattle.std.specs.Coded.{coded_ℕ};
     ghost use Rattle.std.specs.FinMap as map;
-    ghost use Rattle.number_map.specs.Numbers.{held};
+    ghost use Rattle.number_map.specs.Numbers.{AreKept, held};
 
     ghost Value = { map.FinMap nat_cmp V };
 
@@ -27,7 +30,7 @@ impl<V: Copy, const N: usize> Model for NumberMap<V, N> {
 
     ghost view = { λ t. held 0 t.places.items };
 
-    ghost invariant = { λ t. vec_len t.places ≡ N };
+    ghost invariant = { λ t. AreKept t.places.items t.taken N };
 }
 
 impl<V: Copy, const N: usize> NumberMap<V, N> {
@@ -37,6 +40,7 @@ impl<V: Copy, const N: usize> NumberMap<V, N> {
     {
         Ok(NumberMap {
             places: vec![in alloc; None; N]?,
+            taken: NumberSet::boot(alloc, N)?,
         })
     }
 
@@ -54,6 +58,7 @@ impl<V: Copy, const N: usize> NumberMap<V, N> {
         ensures put { self.new ≡ map.insert self.old n value }
         ensures replaced { result ≡ map.get self.old n }
     {
+        self.taken.insert(n);
         self.places[n].replace(value)
     }
 
@@ -62,7 +67,12 @@ impl<V: Copy, const N: usize> NumberMap<V, N> {
         ensures gone { self.new ≡ map.remove self.old n }
         ensures taken { result ≡ map.get self.old n }
     {
-        if n < N { self.places[n].take() } else { None }
+        if n < N {
+            self.taken.remove(n);
+            self.places[n].take()
+        } else {
+            None
+        }
     }
 
     /// The least number from one on that has no value. None exactly where there is none below the
@@ -70,12 +80,7 @@ impl<V: Copy, const N: usize> NumberMap<V, N> {
     pub fn first_free(&self, from: usize) -> Option<usize>
         ensures least { MatchOption result (AreTaken self.now from N) (λ n. (n < N) × IsLeastFree self.now from n) }
     {
-        for n in from..N {
-            if self.places[n].is_none() {
-                return Some(n);
-            }
-        }
-        None
+        self.taken.least_absent(from)
     }
 }
 

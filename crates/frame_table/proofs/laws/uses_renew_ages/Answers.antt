@@ -1,11 +1,12 @@
-use Rattle.frame_table.proofs.OldFrames.{by_age_used, by_age_comes, by_age_without}
+use Rattle.std.proofs.Common.{None}
+use Rattle.frame_table.proofs.YoungFrames.{frame_used, others_keep, page_comes}
 use Rattle.frame_table.proofs.laws.uses_renew_ages.Goals as goal
 
 pub returns-clause-used : goal.returns-clause-used
-returns-clause-used c = by_age_used
+returns-clause-used c = frame_used
 
 pub returns-clause-comes : goal.returns-clause-comes
-returns-clause-comes c = by_age_comes
+returns-clause-comes c = page_comes
 
 pub returns-clause-goes : goal.returns-clause-goes
-returns-clause-goes c = λ age core f is. by_age_without age f core.uses is
+returns-clause-goes c = λ q f. others_keep q f q.uses None

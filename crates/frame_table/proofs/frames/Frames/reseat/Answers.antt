@@ -5,6 +5,7 @@ use Rattle.frame_table.proofs.frames.Frames.reseat.Goals as goal
 
 pub invariant_of-self : goal.invariant_of-self
 invariant_of-self c =
-    let now : Core = core_of c.self.inside.seats.items c.self.inside.pages.items c.self.inside.uses in
-    kept_reseated now c.args.self.now c.self.inside.uses.frames c.self.inside.homes c.self.inside.free c.self.inside.first
-    c.args.f.0 c.args.tenant c.self.invariant c.self.view_is c.requires.home c.requires.pins
+    let inside = c.self.inside in
+    let now : Core = core_of inside.seats.items inside.pages.items inside.uses in
+    rw (c.set.ensures, c.leaving_age.ensures)
+    (kept_reseated now c.args.self.now inside.leaving inside.taken inside.homes inside.free c.args.f.0 c.args.tenant c.self.invariant c.self.view_is c.requires.home c.requires.age c.requires.pins)

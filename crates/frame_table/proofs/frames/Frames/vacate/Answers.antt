@@ -6,14 +6,16 @@ use Rattle.frame_table.proofs.frames.Frames.vacate.Goals as goal
 
 pub overflow_add-self : goal.overflow_add-self
 overflow_add-self c =
-    let now : Core = core_of c.self.inside.seats.items c.self.inside.pages.items c.self.inside.uses in
+    let inside = c.self.inside in
+    let now : Core = core_of inside.seats.items inside.pages.items inside.uses in
     let at : home_in now c.args.f.0 ≡ Some c.args.home = ap (λ (q : Core). home_in q c.args.f.0) c.self.view_is ∙ c.requires in
-    let small = free_small now c.self.inside.uses.frames c.self.inside.homes c.self.inside.free c.self.inside.first c.args.f.0 c.args.home c.self.invariant at in
+    let small = free_small now inside.leaving inside.taken inside.homes inside.free c.args.f.0 c.args.home c.self.invariant at in
     omega arith
 
 pub invariant_of-self : goal.invariant_of-self
 invariant_of-self c =
-    let now : Core = core_of c.self.inside.seats.items c.self.inside.pages.items c.self.inside.uses in
+    let inside = c.self.inside in
+    let now : Core = core_of inside.seats.items inside.pages.items inside.uses in
     let at : home_in now c.args.f.0 ≡ Some c.args.home = ap (λ (q : Core). home_in q c.args.f.0) c.self.view_is ∙ c.requires in
-    rw (c.remove-2.ensures, c.remove.ensures.gone, c.min-self-inside.ensures)
-    (kept_vacated now c.self.inside.uses.frames c.self.inside.homes c.self.inside.free c.self.inside.first c.args.f.0 c.args.home c.self.invariant at)
+    rw (c.set.ensures, c.remove.ensures, c.remove-2.ensures.gone)
+    (kept_vacated now inside.leaving inside.taken inside.homes inside.free c.args.f.0 c.args.home c.self.invariant at)

@@ -1,8 +1,13 @@
 use Rattle.std.proofs.Common.{sym, ◌∙◌, ap, arith, None}
 use Rattle.std.specs.FinMap as map
 use Rattle.std.proofs.lemmas.List.{get_or_read}
+use Rattle.number_map.proofs.Kept.{kept_gone}
 use Rattle.number_map.proofs.Places.{get_held, held_beyond, held_gone, gone_already}
 use Rattle.number_map.proofs.number_map.NumberMap.remove.Goals as goal
+
+pub invariant_of-self : goal.invariant_of-self
+invariant_of-self g c =
+    rw (c.take.ensures.after, c.remove.ensures) (kept_gone c.self.inside.places.items c.self.inside.taken g.row.N c.args.n c.self.invariant c.if-n.true)
 
 pub returns-then-n-clause-gone : goal.returns-then-n-clause-gone
 returns-then-n-clause-gone g c =
