@@ -1,5 +1,11 @@
-pub mod HeldPages
 pub mod Serials
-pub mod Spaces
-pub mod Tables
-pub mod Meaning
+pub mod HeldMaps
+pub mod StoredPages
+pub mod StoreMeaning
+pub mod Walks
+pub mod SlotTables
+pub mod SlotTouches
+pub mod TableSteps
+pub mod SlotSteps
+pub mod SlotMeaning
+pub mod Emptying

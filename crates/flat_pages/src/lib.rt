@@ -1,13 +1,16 @@
-//! The pages of forks in memory alone: every page is always in core, and no drum is asked.
-//! To the layers above `PlainStore` is a `Pages` whose every answer is that of the plain pages.
-//! Stands on `plain_model` for the definitions and the contract of pages.
+//! The pages of forks in memory, and maps of forks in memory over any store of pages.
+//! To the layers above `FlatSlots` is a `Pages`, and `FlatStore` a `Store` in which nothing is ever away.
+//! Stands on `plain_model` for the definitions and the contracts of both.
 #![tactic(auto)]
 
-mod held_page;
+mod chain_walk;
+mod flat_slots;
+mod flat_store;
+mod held_entry;
+mod held_map;
+mod map_tables;
 mod page_serials;
-mod plain_store;
-mod space;
-#[cfg(test)]
-mod tests;
+mod stored_page;
 
-pub use plain_store::PlainStore;
+pub use flat_slots::FlatSlots;
+pub use flat_store::FlatStore;

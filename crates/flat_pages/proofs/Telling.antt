@@ -1,0 +1,98 @@
+-- What is told of tables that agree.
+use Rattle.std.proofs.Common.{◌≡◌, ◌≢◌, ◌⊎◌, inl, inr, ℕ, zero, suc, ◌+◌, ◌<◌, ◌≤◌, List, [], ◌∷◌, Bool, true, false, cond, Option, None, Some, length, refl, sym, ◌∙◌, ap, subst, arith, is_some, nat_eq}
+use Rattle.std.specs.Prelude.{slice_index_or, count_by}
+use Rattle.std.specs.List.{sum_by}
+use Rattle.std.specs.Option.{option_map_or, option_and_then}
+use Rattle.std.proofs.lemmas.Bool.Decides.{eqb_tells}
+use Rattle.std.proofs.lemmas.List.Sums.{sum_by-cons}
+use Rattle.outside.specs.Drums.{IsPage, page_at as drum_page}
+use Rattle.plain_model.specs.declared.names.ForkName.{ForkName}
+use Rattle.plain_model.specs.declared.names.PageName.{PageName}
+use Rattle.plain_model.specs.declared.names.Tty.{Tty}
+use Rattle.plain_model.specs.Outcome.{DrumWords}
+use Rattle.plain_model.specs.Room.{same_page, live}
+use Rattle.plain_model.specs.Stores.{HomePlace, free, away, here, place, is_taken, over_drum, content, FitsHomes}
+use Rattle.plain_model.specs.State.{NumberedPages}
+use Rattle.std.specs.FinMap as fin
+use Rattle.plain_model.proofs.Counts.{Same, page_tells}
+use Rattle.flat_pages.specs.declared.held_map.HeldMap.{HeldMap}
+use Rattle.flat_pages.specs.HeldMaps.{fork_at, index_of, name_at, one_later, living_of, maps_held}
+use Rattle.flat_pages.specs.SlotTables.{Tables, plain_of, AreTables, AreSized}
+use Rattle.flat_pages.specs.SlotTouches.{away_home, away_at, home_named, scene_of}
+use Rattle.flat_pages.specs.SlotMeaning.{AreTold}
+use Rattle.flat_pages.proofs.ForkMaps.{searched}
+use Rattle.flat_pages.proofs.LivingMaps.{lives_held}
+use Rattle.flat_pages.proofs.Agreement.{tables_whole, tables_live, object_home}
+use Rattle.flat_pages.proofs.Settling.{sized_of}
+use Rattle.flat_pages.proofs.Singles.{single_plain}
+
+-- the home that is a page's has its name
+pub named_home : (names : List (Option PageName)) (x : PageName) (h : ℕ) → home_named names x ≡ Some h → name_at names h ≡ Some x
+named_home [] x h e = absurd (cc e)
+named_home (n ∷ names) x h e = by n (home_named names x) refl (λ k f. named_home names x k f) e
+  where
+    later : (o : Option ℕ) → home_named names x ≡ o → ((k : ℕ) → home_named names x ≡ Some k → name_at names k ≡ Some x) → one_later o ≡ Some h → name_at (n ∷ names) h ≡ Some x
+    later None is rest k = absurd (cc k)
+    later (Some j) is rest k = let same : suc j ≡ h = cc k in ap (name_at (n ∷ names)) (sym same) ∙ rest j is
+
+    by : (m : Option PageName) (o : Option ℕ) → home_named names x ≡ o → ((k : ℕ) → home_named names x ≡ Some k → name_at names k ≡ Some x) → cond (option_map_or (same_page x) m false) (Some 0) (one_later (home_named names x)) ≡ Some h → name_at (m ∷ names) h ≡ Some x
+    by None o is rest k = at_later None (home_named names x) refl rest k
+      where
+        at_later : (m : Option PageName) (o : Option ℕ) → home_named names x ≡ o → ((k : ℕ) → home_named names x ≡ Some k → name_at names k ≡ Some x) → one_later o ≡ Some h → name_at (m ∷ names) h ≡ Some x
+        at_later m None is rest k = absurd (cc k)
+        at_later m (Some j) is rest k = let same : suc j ≡ h = cc k in ap (name_at (m ∷ names)) (sym same) ∙ rest j is
+    by (Some m) o is rest k = tells (page_tells x m) k
+      where
+        at_later : (o : Option ℕ) → home_named names x ≡ o → one_later o ≡ Some h → name_at (Some m ∷ names) h ≡ Some x
+        at_later None is k = absurd (cc k)
+        at_later (Some j) is k = let same : suc j ≡ h = cc k in ap (name_at (Some m ∷ names)) (sym same) ∙ rest j is
+
+        tells : Same x m → cond (same_page x m) (Some 0) (one_later (home_named names x)) ≡ Some h → name_at (Some m ∷ names) h ≡ Some x
+        tells (inl t) k =
+            let zero_is : 0 ≡ h = (let z : ◌≡◌ {A = Option ℕ} (Some 0) (Some h) = sym (ap (λ b. cond b (Some 0) (one_later (home_named names x))) t.0) ∙ k in cc z) in
+            ap (name_at (Some m ∷ names)) (sym zero_is) ∙ ap Some (sym t.1)
+        tells (inr t) k = at_later (home_named names x) refl (sym (ap (λ b. cond b (Some 0) (one_later (home_named names x))) t.0) ∙ k)
+
+-- a page that is away
+record IsAway (t : Tables) (n : PageName) (home : ℕ) : Type 0 where
+  name : name_at t.names home ≡ Some n
+  away : place t.places home ≡ away
+
+is_away : (t : Tables) (n : PageName) (home frames : ℕ) → (scene_of t frames).page_away n ≡ Some home → IsAway t n home
+is_away t n home frames e = by (home_named t.names n) refl e
+  where
+    at : (h : ℕ) (p : HomePlace) → place t.places h ≡ p → away_home p h ≡ Some home → (h ≡ home) × (place t.places h ≡ away)
+    at h free is k = absurd (cc k)
+    at h away is k = (cc k, is)
+    at h (here words) is k = absurd (cc k)
+
+    by : (o : Option ℕ) → home_named t.names n ≡ o → option_and_then (away_at t.places) o ≡ Some home → IsAway t n home
+    by None is k = absurd (cc k)
+    by (Some h) is k = let at_h = at h (place t.places h) refl k in record { name = ap (name_at t.names) (sym at_h.0) ∙ named_home t.names n h is; away = ap (place t.places) (sym at_h.0) ∙ at_h.1 }
+
+-- a terminal of which no fork lives has none of that name
+none_counted : (maps : List HeldMap) (f : ForkName) → living_of maps f.tty ≡ 0 → (k : ℕ) → fork_at maps k ≢ Some f
+none_counted [] f none k e = cc e
+none_counted (m ∷ maps) f none zero e =
+    let one : ◌≡◌ {A = ℕ} (cond (option_map_or (λ g. nat_eq g.tty.0 f.tty.0) m.fork false) 1 0) 1 = ap (λ (o : Option ForkName). cond (option_map_or (λ g. nat_eq g.tty.0 f.tty.0) o false) 1 0) e ∙ itself f.tty.0 in
+    (omega (arith, none, one, sum_by-cons (λ (x : HeldMap). cond (option_map_or (λ g. nat_eq g.tty.0 f.tty.0) x.fork false) 1 0) m maps))
+  where
+    itself : (n : ℕ) → ◌≡◌ {A = ℕ} (cond (nat_eq n n) 1 0) 1
+    itself n = elim (eqb_tells n n) [ inl t ↦ ap (λ b. cond b 1 0) t.0 | inr t ↦ absurd (t.1 refl) ]
+none_counted (m ∷ maps) f none (suc k) e = none_counted maps f (omega (arith, none, sum_by-cons (λ (x : HeldMap). cond (option_map_or (λ g. nat_eq g.tty.0 f.tty.0) x.fork false) 1 0) m maps)) k e
+
+pub tables_told : (t : Tables) → AreTables t → ((h : ℕ) (words : List ℕ) → place t.places h ≡ here words → IsPage words) → AreTold t
+unfolding content
+tables_told t a pages = record {
+  whole = λ d fits. tables_whole t a d (sized_of t.places d fits pages);
+  number = λ d fits. sym (tables_live t a d (sized_of t.places d fits pages));
+  room = λ d fits. omega (arith, a.room, tables_live t a d (sized_of t.places d fits pages));
+  lives = λ f. sym (lives_held t.names t.maps f);
+  alone = λ f none. elim (searched t.maps f) [ inl r ↦ absurd (none_counted t.maps f none r.0 r.2) | inr r ↦ ap is_some r.0 ];
+  away = λ n home frames e. let x = is_away t n home frames e in x.away;
+  there = λ d n home frames fits e. let x = is_away t n home frames e in
+      ap is_some (object_home t a d (sized_of t.places d fits pages) home n x.name ∙ ap (λ p. over_drum p (drum_page d home)) x.away);
+  homes = omega (arith, a.homes);
+  single = single_plain t.names t.maps a.held;
+  mapped = λ home e. cc e;
+}

@@ -1,0 +1,81 @@
+use Rattle.std.proofs.Common.{◌≡◌, ◌≢◌, ◌≤◌, ◌<◌, ◌+◌, ◌∙◌, true, false, Bool, ℕ, List, [], None, Some, Option, sym, ap, subst, cond, arith, refl, rules, is_some, ◌⊎◌, inl, inr}
+use Rattle.std.specs.Prelude.{IsSome, slice_index, slice_set}
+use Rattle.std.specs.Option.{option_map, option_map_or, option_and_then, unwrap_or}
+use Rattle.plain_model.specs.declared.names.Home.{Home}
+use Rattle.plain_model.specs.declared.names.Kind.{Kind}
+use Rattle.plain_model.specs.declared.names.Slot.{Slot}
+use Rattle.plain_model.specs.declared.names.Place.{Place}
+use Rattle.plain_model.specs.declared.names.Place.TheVariants.{Fork, File}
+use Rattle.plain_model.specs.declared.names.ForkName.{ForkName}
+use Rattle.plain_model.specs.declared.map.Touch.{Touch}
+use Rattle.plain_model.specs.declared.map.Touch.TheVariants.{Denied, Ready}
+use Rattle.plain_model.specs.Stores.{HomePlace, place, here, is_taken, is_here, word_in, content}
+use Rattle.flat_pages.specs.declared.held_entry.EntryAt.{EntryAt}
+use Rattle.flat_pages.specs.declared.held_entry.HeldEntry.{HeldEntry}
+use Rattle.flat_pages.specs.declared.chain_walk.Walk.{Walk}
+use Rattle.flat_pages.specs.HeldMaps.{index_of, held_entry, name_of}
+use Rattle.flat_pages.specs.SlotTables.{Tables, plain_of, AreTables, share_of}
+use Rattle.flat_pages.specs.SlotTouches.{walk_of, scene_of, away_at, touch_walked, touch_made, copy_of, allows}
+use Rattle.flat_pages.specs.TableSteps.{tables_of}
+use Rattle.flat_pages.proofs.Meeting.{stands, found_walk, home_taken_is, copy_held, place_lives, at_told}
+use Rattle.flat_pages.proofs.Settling.{sized_of}
+use Rattle.plain_model.specs.declared.names.Kind.TheVariants.{Write}
+use Rattle.plain_model.specs.Stores.{with_word_in}
+use Rattle.flat_pages.specs.SlotTouches.{scene_with, touch_with}
+use Rattle.flat_pages.specs.SlotMeaning.{place_along}
+use Rattle.flat_pages.proofs.Settling.{fits_set}
+use Rattle.flat_pages.proofs.Telling.{tables_told}
+use Rattle.flat_pages.proofs.Meeting.{Reached, reached, reached_taken, ready_words}
+use Rattle.flat_pages.proofs.Putting.{replaced, put_places, put_away, put_tables, stored_at}
+use Rattle.plain_model.specs.Stores.{FitsHomes}
+use Rattle.flat_pages.specs.SlotTables.{AreSized}
+use Rattle.flat_pages.proofs.flat_slots.FlatSlotsPages.put.Goals as goal
+
+pub put-is_put-requires-clause-taken : goal.put-is_put-requires-clause-taken
+put-is_put-requires-clause-taken g c =
+    let s = c.args.self.now in
+    let t = tables_of (g.S.Store.means.homes s.store) s.tables in
+    reached_taken t s.agree c.args.at c.in-Some.home (reached t s.agree c.args.at c.in-Some.home c.requires.place c.in-Some.ensures)
+
+pub invariant_of-self : goal.invariant_of-self
+invariant_of-self g c =
+    let s = c.args.self.now in
+    let t = tables_of (g.S.Store.means.homes s.store) s.tables in
+    let r = reached t s.agree c.args.at c.in-Some.home c.requires.place c.in-Some.ensures in
+    let x = ready_words t s.agree c.args.at c.in-Some.home r (g.S.Store.means.spare s.store) Write c.requires.ready in
+    let agree = subst (λ (places : List HomePlace). AreTables (replaced t places)) (sym c.put-is_put.ensures.homes) (put_tables t s.agree c.in-Some.home.0 x.0 x.1 c.args.offset c.args.word) in
+    record { agree = agree; told = tables_told (tables_of (g.S.Store.means.homes c.put-is_put.new.self) s.tables) agree (g.met.S.Store.sound c.put-is_put.new.self).pages }
+
+pub returns-in-Some-clause-told : goal.returns-in-Some-clause-told
+returns-in-Some-clause-told g c d fits =
+    let s = c.args.self.now in
+    let t = tables_of (g.S.Store.means.homes s.store) s.tables in
+    let homes' = g.S.Store.means.homes c.put-is_put.new.self in
+    let h = c.in-Some.home in
+    let r = reached t s.agree c.args.at h c.requires.place c.in-Some.ensures in
+    let x = ready_words t s.agree c.args.at h r (g.S.Store.means.spare s.store) Write c.requires.ready in
+    let same = c.put-is_put.ensures.homes in
+    let fits' = subst (λ (places : List HomePlace). FitsHomes places d) (sym same) (fits_set t.places d h.0 (with_word_in (place t.places h.0) c.args.offset c.args.word) fits) in
+    let sized' = subst (λ (places : List HomePlace). AreSized places d) same (sized_of homes' d fits' (g.met.S.Store.sound c.put-is_put.new.self).pages) in
+    (fits', ap (λ places. plain_of (replaced t places) d) same ∙ stored_at t s.agree c.args.at h r x.0 x.1 c.args.offset c.args.word d (sized_of t.places d fits (g.met.S.Store.sound s.store).pages) sized')
+
+pub returns-in-Some-clause-stays : goal.returns-in-Some-clause-stays
+returns-in-Some-clause-stays g c =
+    let s = c.args.self.now in
+    let t = tables_of (g.S.Store.means.homes s.store) s.tables in
+    let h = c.in-Some.home in
+    let r = reached t s.agree c.args.at h c.requires.place c.in-Some.ensures in
+    let x = ready_words t s.agree c.args.at h r (g.S.Store.means.spare s.store) Write c.requires.ready in
+    let absent = ap away_at c.put-is_put.ensures.homes ∙ put_away t s.agree h.0 x.0 x.1 c.args.offset c.args.word in
+    let framed = c.put-is_put.ensures.used.framed in
+    record {
+      touched = λ i. touch_with (absent i) t (scene_with (absent i) t.names (framed.spare i));
+      scene = λ i. scene_with (absent i) t.names (framed.spare i);
+      space = refl;
+      place = λ i. place_along (framed.found i) t;
+      lives = refl;
+      single = refl;
+      forks = refl;
+      serials = refl;
+      most = refl;
+    }

@@ -1,0 +1,414 @@
+use Rattle.std.proofs.Common.{◌≡◌, ◌≢◌, ◌∙◌, true, false, Bool, ℕ, None, Some, Option, sym, ap, subst, List, cond, refl, arith, is_some}
+use Rattle.std.specs.Prelude.{IsSome}
+use Rattle.std.proofs.lemmas.Bool.Decides.{nat_tests, eqb_tells}
+use Rattle.plain_model.specs.declared.names.Access.{Access}
+use Rattle.plain_model.specs.declared.names.Home.{Home}
+use Rattle.plain_model.specs.declared.names.Place.{Place}
+use Rattle.plain_model.specs.References.{settled}
+use Rattle.plain_model.specs.Pages.{spot_of}
+use Rattle.plain_model.specs.Stores.{HomePlace, FitsHomes}
+use Rattle.flat_pages.specs.declared.held_entry.EntryAt.{EntryAt}
+use Rattle.flat_pages.specs.declared.held_entry.HeldEntry.{HeldEntry}
+use Rattle.flat_pages.specs.declared.held_entry.HeldEntry.TheVariants.{Empty, Page, Follows}
+use Rattle.flat_pages.specs.HeldMaps.{held_entry, fork_at}
+use Rattle.flat_pages.specs.SlotTables.{Tables, plain_of, share_of}
+use Rattle.flat_pages.specs.SlotTouches.{is_alone}
+use Rattle.flat_pages.specs.TableSteps.{tables_of}
+use Rattle.flat_pages.proofs.Making.{held_is}
+use Rattle.flat_pages.proofs.Meeting.{copy_held}
+use Rattle.flat_pages.proofs.Settling.{sized_of}
+use Rattle.flat_pages.proofs.Settled.{Announced, announced, walk_found, can_copy, copy_marked, ready_away, home_here, copy_lives, stays_told, alone_home, zero_stored, copy_stored, alone_stored}
+use Rattle.plain_model.specs.Maps.{full_access}
+use Rattle.flat_pages.proofs.EntrySetting.{names_none}
+use Rattle.flat_pages.proofs.Settled.{slot_lives, one_is, not_one}
+use Rattle.flat_pages.proofs.flat_slots.FlatSlotsPages.settle.Goals as goal
+use Rattle.flat_pages.proofs.flat_slots.FlatSlotsPages.settle.Goals.{in_default-entry-via-in-Page+else-share-eq1, in_default-entry-via-in_default-entry}
+
+pub make_zero-requires-clause-empty : goal.make_zero-requires-clause-empty
+make_zero-requires-clause-empty g c =
+    let s = c.args.self.now in
+    let store = g.S.Store.means in
+    let t = tables_of (store.homes s.store) s.tables in
+    let w = c.in-Some.walk in
+    let r = announced t (store.spare s.store) c.args.at c.in-Fork.slot c.args.kind w c.in-Fork.is c.requires.place (sym c.walk.ensures ∙ c.in-Some.is) c.requires.ready in
+    (walk_found t s.agree (store.spare s.store) c.in-Fork.slot c.args.kind w r).meets.empty c.in_default-home.is
+
+pub make_zero-requires-clause-lives : goal.make_zero-requires-clause-lives
+make_zero-requires-clause-lives g c =
+    let s = c.args.self.now in
+    let store = g.S.Store.means in
+    let t = tables_of (store.homes s.store) s.tables in
+    let w = c.in-Some.walk in
+    let r = announced t (store.spare s.store) c.args.at c.in-Fork.slot c.args.kind w c.in-Fork.is c.requires.place (sym c.walk.ensures ∙ c.in-Some.is) c.requires.ready in
+    slot_lives s.tables.maps.items w.end (walk_found t s.agree (store.spare s.store) c.in-Fork.slot c.args.kind w r).links.end (walk_found t s.agree (store.spare s.store) c.in-Fork.slot c.args.kind w r).meets.end
+
+pub returns-in_default-home-clause-told : goal.returns-in_default-home-clause-told
+returns-in_default-home-clause-told g c =
+    let s = c.args.self.now in
+    let store = g.S.Store.means in
+    let t = tables_of (store.homes s.store) s.tables in
+    let w = c.in-Some.walk in
+    let r = announced t (store.spare s.store) c.args.at c.in-Fork.slot c.args.kind w c.in-Fork.is c.requires.place (sym c.walk.ensures ∙ c.in-Some.is) c.requires.ready in
+    (zero_stored store s.store c.make_zero.new.self.store (g.met.S.Store.sound s.store) (g.met.S.Store.sound c.make_zero.new.self.store) s.tables c.make_zero.new.self.tables s.agree c.make_zero.new.self.agree c.args.at c.in-Fork.slot c.in-Fork.is c.args.kind w r c.args.owner c.requires.owner c.in_default-home.is c.make_zero.ensures).told
+
+pub returns-in_default-home-clause-settles : goal.returns-in_default-home-clause-settles
+returns-in_default-home-clause-settles g c =
+    let s = c.args.self.now in
+    let store = g.S.Store.means in
+    let t = tables_of (store.homes s.store) s.tables in
+    let w = c.in-Some.walk in
+    let r = announced t (store.spare s.store) c.args.at c.in-Fork.slot c.args.kind w c.in-Fork.is c.requires.place (sym c.walk.ensures ∙ c.in-Some.is) c.requires.ready in
+    (zero_stored store s.store c.make_zero.new.self.store (g.met.S.Store.sound s.store) (g.met.S.Store.sound c.make_zero.new.self.store) s.tables c.make_zero.new.self.tables s.agree c.make_zero.new.self.agree c.args.at c.in-Fork.slot c.in-Fork.is c.args.kind w r c.args.owner c.requires.owner c.in_default-home.is c.make_zero.ensures).settles
+
+pub returns-in_default-home-clause-scene : goal.returns-in_default-home-clause-scene
+returns-in_default-home-clause-scene g c =
+    let s = c.args.self.now in
+    let store = g.S.Store.means in
+    let t = tables_of (store.homes s.store) s.tables in
+    let w = c.in-Some.walk in
+    let r = announced t (store.spare s.store) c.args.at c.in-Fork.slot c.args.kind w c.in-Fork.is c.requires.place (sym c.walk.ensures ∙ c.in-Some.is) c.requires.ready in
+    (zero_stored store s.store c.make_zero.new.self.store (g.met.S.Store.sound s.store) (g.met.S.Store.sound c.make_zero.new.self.store) s.tables c.make_zero.new.self.tables s.agree c.make_zero.new.self.agree c.args.at c.in-Fork.slot c.in-Fork.is c.args.kind w r c.args.owner c.requires.owner c.in_default-home.is c.make_zero.ensures).scene
+
+pub returns-in_default-home-clause-lives : goal.returns-in_default-home-clause-lives
+returns-in_default-home-clause-lives g c =
+    let s = c.args.self.now in
+    let store = g.S.Store.means in
+    let t = tables_of (store.homes s.store) s.tables in
+    let w = c.in-Some.walk in
+    let r = announced t (store.spare s.store) c.args.at c.in-Fork.slot c.args.kind w c.in-Fork.is c.requires.place (sym c.walk.ensures ∙ c.in-Some.is) c.requires.ready in
+    (zero_stored store s.store c.make_zero.new.self.store (g.met.S.Store.sound s.store) (g.met.S.Store.sound c.make_zero.new.self.store) s.tables c.make_zero.new.self.tables s.agree c.make_zero.new.self.agree c.args.at c.in-Fork.slot c.in-Fork.is c.args.kind w r c.args.owner c.requires.owner c.in_default-home.is c.make_zero.ensures).lives
+
+pub returns-in_default-home-clause-forks : goal.returns-in_default-home-clause-forks
+returns-in_default-home-clause-forks g c =
+    let s = c.args.self.now in
+    let store = g.S.Store.means in
+    let t = tables_of (store.homes s.store) s.tables in
+    let w = c.in-Some.walk in
+    let r = announced t (store.spare s.store) c.args.at c.in-Fork.slot c.args.kind w c.in-Fork.is c.requires.place (sym c.walk.ensures ∙ c.in-Some.is) c.requires.ready in
+    (zero_stored store s.store c.make_zero.new.self.store (g.met.S.Store.sound s.store) (g.met.S.Store.sound c.make_zero.new.self.store) s.tables c.make_zero.new.self.tables s.agree c.make_zero.new.self.agree c.args.at c.in-Fork.slot c.in-Fork.is c.args.kind w r c.args.owner c.requires.owner c.in_default-home.is c.make_zero.ensures).forks
+
+pub returns-in_default-home-clause-single : goal.returns-in_default-home-clause-single
+returns-in_default-home-clause-single g c =
+    let s = c.args.self.now in
+    let store = g.S.Store.means in
+    let t = tables_of (store.homes s.store) s.tables in
+    let w = c.in-Some.walk in
+    let r = announced t (store.spare s.store) c.args.at c.in-Fork.slot c.args.kind w c.in-Fork.is c.requires.place (sym c.walk.ensures ∙ c.in-Some.is) c.requires.ready in
+    (zero_stored store s.store c.make_zero.new.self.store (g.met.S.Store.sound s.store) (g.met.S.Store.sound c.make_zero.new.self.store) s.tables c.make_zero.new.self.tables s.agree c.make_zero.new.self.agree c.args.at c.in-Fork.slot c.in-Fork.is c.args.kind w r c.args.owner c.requires.owner c.in_default-home.is c.make_zero.ensures).single
+
+pub used-requires : goal.used-requires
+used-requires g c =
+    let s = c.args.self.now in
+    let store = g.S.Store.means in
+    let t = tables_of (store.homes s.store) s.tables in
+    let w = c.in-Some.walk in
+    let r = announced t (store.spare s.store) c.args.at c.in-Fork.slot c.args.kind w c.in-Fork.is c.requires.place (sym c.walk.ensures ∙ c.in-Some.is) c.requires.ready in
+    home_here t s.agree (store.spare s.store) c.in-Fork.slot c.args.kind w r c.in-Some-home.home c.in-Some-home.is (ready_away t s.agree (store.spare s.store) c.in-Fork.slot c.args.kind w r c.in-Some-home.home c.in-Some-home.is (sym c.copy_for.ensures ∙ c.in_default-copy_for.is))
+
+pub returns-in_default-copy_for-clause-told : goal.returns-in_default-copy_for-clause-told
+returns-in_default-copy_for-clause-told g c d fits =
+    let s = c.args.self.now in
+    let store = g.S.Store.means in
+    let t = tables_of (store.homes s.store) s.tables in
+    let w = c.in-Some.walk in
+    let r = announced t (store.spare s.store) c.args.at c.in-Fork.slot c.args.kind w c.in-Fork.is c.requires.place (sym c.walk.ensures ∙ c.in-Some.is) c.requires.ready in
+    let same = c.used.ensures.homes in (
+      subst (λ (places : List HomePlace). FitsHomes places d) (sym same) fits,
+      ap (λ (places : List HomePlace). plain_of (tables_of places s.tables) d) same
+          ∙ stays_told t s.agree (store.spare s.store) c.in-Fork.slot c.args.kind w r d (sized_of t.places d fits (g.met.S.Store.sound s.store).pages) c.args.owner c.requires.owner c.in-Some-home.home c.in-Some-home.is (sym c.copy_for.ensures ∙ c.in_default-copy_for.is)
+          ∙ ap (λ (x : Place). settled (plain_of t d) (spot_of x) c.args.kind c.args.owner) (sym c.in-Fork.is),
+    )
+
+pub entry-requires : goal.entry-requires
+entry-requires g c =
+    let s = c.args.self.now in
+    let store = g.S.Store.means in
+    let t = tables_of (store.homes s.store) s.tables in
+    let w = c.in-Some.walk in
+    let r = announced t (store.spare s.store) c.args.at c.in-Fork.slot c.args.kind w c.in-Fork.is c.requires.place (sym c.walk.ensures ∙ c.in-Some.is) c.requires.ready in
+    copy_held t s.agree c.in-Fork.slot w (walk_found t s.agree (store.spare s.store) c.in-Fork.slot c.args.kind w r) c.args.kind c.in-Some-copy_for.to (sym c.copy_for.ensures ∙ c.in-Some-copy_for.is)
+
+pub copy_alone-requires-clause-entry : goal.copy_alone-requires-clause-entry
+copy_alone-requires-clause-entry g c =
+    let s = c.args.self.now in
+    let store = g.S.Store.means in
+    let t = tables_of (store.homes s.store) s.tables in
+    let w = c.in-Some.walk in
+    let r = announced t (store.spare s.store) c.args.at c.in-Fork.slot c.args.kind w c.in-Fork.is c.requires.place (sym c.walk.ensures ∙ c.in-Some.is) c.requires.ready in
+    let home_is : Page c.in-Page.field-0 c.in-Page.old ≡ Page c.in-Some-home.home c.in-Page.old = ap (λ (x : Home). Page x c.in-Page.old) (alone_home t s.agree (store.spare s.store) c.in-Fork.slot c.args.kind w r c.in-Some-home.home c.in-Some-copy_for.to c.in-Page.field-0 c.in-Page.old c.in-Some-home.is (sym c.copy_for.ensures ∙ c.in-Some-copy_for.is) (c.entry.ensures ∙ ap Some c.in-Page.is)) in
+    let there : held_entry s.tables.maps.items c.in-Some-copy_for.to ≡ Some (Page c.in-Some-home.home c.in-Page.old) = c.entry.ensures ∙ ap Some c.in-Page.is ∙ ap Some home_is in
+    there
+
+pub copy_alone-requires-clause-alone : goal.copy_alone-requires-clause-alone
+copy_alone-requires-clause-alone g c =
+    let s = c.args.self.now in
+    let store = g.S.Store.means in
+    let t = tables_of (store.homes s.store) s.tables in
+    let w = c.in-Some.walk in
+    let r = announced t (store.spare s.store) c.args.at c.in-Fork.slot c.args.kind w c.in-Fork.is c.requires.place (sym c.walk.ensures ∙ c.in-Some.is) c.requires.ready in
+    let home_is : Page c.in-Page.field-0 c.in-Page.old ≡ Page c.in-Some-home.home c.in-Page.old = ap (λ (x : Home). Page x c.in-Page.old) (alone_home t s.agree (store.spare s.store) c.in-Fork.slot c.args.kind w r c.in-Some-home.home c.in-Some-copy_for.to c.in-Page.field-0 c.in-Page.old c.in-Some-home.is (sym c.copy_for.ensures ∙ c.in-Some-copy_for.is) (c.entry.ensures ∙ ap Some c.in-Page.is)) in
+    let there : held_entry s.tables.maps.items c.in-Some-copy_for.to ≡ Some (Page c.in-Some-home.home c.in-Page.old) = c.entry.ensures ∙ ap Some c.in-Page.is ∙ ap Some home_is in
+    let alone : is_alone s.tables.shares.items (held_entry s.tables.maps.items c.in-Some-copy_for.to) ≡ true = ap (is_alone s.tables.shares.items) there ∙ one_is (share_of s.tables.shares.items c.in-Some-home.home.0) (sym c.share.ensures ∙ c.if-share-eq1.true) in
+    alone
+
+pub copy_new-requires-clause-lives : goal.copy_new-requires-clause-lives
+copy_new-requires-clause-lives g c =
+    let s = c.args.self.now in
+    let store = g.S.Store.means in
+    let t = tables_of (store.homes s.store) s.tables in
+    let w = c.in-Some.walk in
+    let r = announced t (store.spare s.store) c.args.at c.in-Fork.slot c.args.kind w c.in-Fork.is c.requires.place (sym c.walk.ensures ∙ c.in-Some.is) c.requires.ready in
+    copy_lives t s.agree (store.spare s.store) c.in-Fork.slot c.args.kind w r c.in-Some-copy_for.to (sym c.copy_for.ensures ∙ c.in-Some-copy_for.is)
+
+pub copy_new-requires-clause-shared : goal.copy_new-requires-clause-shared
+copy_new-requires-clause-shared g c =
+    let s = c.args.self.now in
+    let store = g.S.Store.means in
+    let t = tables_of (store.homes s.store) s.tables in
+    let w = c.in-Some.walk in
+    let r = announced t (store.spare s.store) c.args.at c.in-Fork.slot c.args.kind w c.in-Fork.is c.requires.place (sym c.walk.ensures ∙ c.in-Some.is) c.requires.ready in
+    let shared : is_alone s.tables.shares.items (held_entry s.tables.maps.items c.in-Some-copy_for.to) ≡ false = elim c.in_default-entry.branch [
+      | in_default-entry-via-in-Page+else-share-eq1 v ↦
+          ap (is_alone s.tables.shares.items) (c.entry.ensures ∙ ap Some v.in-Page.is)
+          ∙ ap (λ (x : Home). is_alone s.tables.shares.items (Some (Page x v.in-Page.old))) (alone_home t s.agree (store.spare s.store) c.in-Fork.slot c.args.kind w r c.in-Some-home.home c.in-Some-copy_for.to v.in-Page.field-0 v.in-Page.old c.in-Some-home.is (sym c.copy_for.ensures ∙ c.in-Some-copy_for.is) (c.entry.ensures ∙ ap Some v.in-Page.is))
+          ∙ not_one (share_of s.tables.shares.items c.in-Some-home.home.0) (λ one. v.if-share-eq1.false (v.share.ensures ∙ one))
+      | in_default-entry-via-in_default-entry v ↦ ap (is_alone s.tables.shares.items) c.entry.ensures ∙ names_none s.tables.shares.items c.entry.result (λ h b is. v.in_default-entry.not-Page h b is)
+    ] in
+    shared
+
+pub copy_new-requires-clause-from : goal.copy_new-requires-clause-from
+copy_new-requires-clause-from g c =
+    let s = c.args.self.now in
+    let store = g.S.Store.means in
+    let t = tables_of (store.homes s.store) s.tables in
+    let w = c.in-Some.walk in
+    let r = announced t (store.spare s.store) c.args.at c.in-Fork.slot c.args.kind w c.in-Fork.is c.requires.place (sym c.walk.ensures ∙ c.in-Some.is) c.requires.ready in
+    home_here t s.agree (store.spare s.store) c.in-Fork.slot c.args.kind w r c.in-Some-home.home c.in-Some-home.is (can_copy t s.agree (store.spare s.store) c.in-Fork.slot c.args.kind w r c.in-Some-home.home c.in-Some-copy_for.to c.in-Some-home.is (sym c.copy_for.ensures ∙ c.in-Some-copy_for.is)).away
+
+pub copy_new-requires-clause-room : goal.copy_new-requires-clause-room
+copy_new-requires-clause-room g c =
+    let s = c.args.self.now in
+    let store = g.S.Store.means in
+    let t = tables_of (store.homes s.store) s.tables in
+    let w = c.in-Some.walk in
+    let r = announced t (store.spare s.store) c.args.at c.in-Fork.slot c.args.kind w c.in-Fork.is c.requires.place (sym c.walk.ensures ∙ c.in-Some.is) c.requires.ready in
+    let shared : is_alone s.tables.shares.items (held_entry s.tables.maps.items c.in-Some-copy_for.to) ≡ false = elim c.in_default-entry.branch [
+      | in_default-entry-via-in-Page+else-share-eq1 v ↦
+          ap (is_alone s.tables.shares.items) (c.entry.ensures ∙ ap Some v.in-Page.is)
+          ∙ ap (λ (x : Home). is_alone s.tables.shares.items (Some (Page x v.in-Page.old))) (alone_home t s.agree (store.spare s.store) c.in-Fork.slot c.args.kind w r c.in-Some-home.home c.in-Some-copy_for.to v.in-Page.field-0 v.in-Page.old c.in-Some-home.is (sym c.copy_for.ensures ∙ c.in-Some-copy_for.is) (c.entry.ensures ∙ ap Some v.in-Page.is))
+          ∙ not_one (share_of s.tables.shares.items c.in-Some-home.home.0) (λ one. v.if-share-eq1.false (v.share.ensures ∙ one))
+      | in_default-entry-via-in_default-entry v ↦ ap (is_alone s.tables.shares.items) c.entry.ensures ∙ names_none s.tables.shares.items c.entry.result (λ h b is. v.in_default-entry.not-Page h b is)
+    ] in
+    (can_copy t s.agree (store.spare s.store) c.in-Fork.slot c.args.kind w r c.in-Some-home.home c.in-Some-copy_for.to c.in-Some-home.is (sym c.copy_for.ensures ∙ c.in-Some-copy_for.is)).room shared
+
+pub copy_new-requires-clause-frame : goal.copy_new-requires-clause-frame
+copy_new-requires-clause-frame g c =
+    let s = c.args.self.now in
+    let store = g.S.Store.means in
+    let t = tables_of (store.homes s.store) s.tables in
+    let w = c.in-Some.walk in
+    let r = announced t (store.spare s.store) c.args.at c.in-Fork.slot c.args.kind w c.in-Fork.is c.requires.place (sym c.walk.ensures ∙ c.in-Some.is) c.requires.ready in
+    let shared : is_alone s.tables.shares.items (held_entry s.tables.maps.items c.in-Some-copy_for.to) ≡ false = elim c.in_default-entry.branch [
+      | in_default-entry-via-in-Page+else-share-eq1 v ↦
+          ap (is_alone s.tables.shares.items) (c.entry.ensures ∙ ap Some v.in-Page.is)
+          ∙ ap (λ (x : Home). is_alone s.tables.shares.items (Some (Page x v.in-Page.old))) (alone_home t s.agree (store.spare s.store) c.in-Fork.slot c.args.kind w r c.in-Some-home.home c.in-Some-copy_for.to v.in-Page.field-0 v.in-Page.old c.in-Some-home.is (sym c.copy_for.ensures ∙ c.in-Some-copy_for.is) (c.entry.ensures ∙ ap Some v.in-Page.is))
+          ∙ not_one (share_of s.tables.shares.items c.in-Some-home.home.0) (λ one. v.if-share-eq1.false (v.share.ensures ∙ one))
+      | in_default-entry-via-in_default-entry v ↦ ap (is_alone s.tables.shares.items) c.entry.ensures ∙ names_none s.tables.shares.items c.entry.result (λ h b is. v.in_default-entry.not-Page h b is)
+    ] in
+    (can_copy t s.agree (store.spare s.store) c.in-Fork.slot c.args.kind w r c.in-Some-home.home c.in-Some-copy_for.to c.in-Some-home.is (sym c.copy_for.ensures ∙ c.in-Some-copy_for.is)).frame shared
+
+pub returns-in-Page-clause-told : goal.returns-in-Page-clause-told
+returns-in-Page-clause-told g c =
+    let s = c.args.self.now in
+    let store = g.S.Store.means in
+    let t = tables_of (store.homes s.store) s.tables in
+    let w = c.in-Some.walk in
+    let r = announced t (store.spare s.store) c.args.at c.in-Fork.slot c.args.kind w c.in-Fork.is c.requires.place (sym c.walk.ensures ∙ c.in-Some.is) c.requires.ready in
+    let home_is : Page c.in-Page.field-0 c.in-Page.old ≡ Page c.in-Some-home.home c.in-Page.old = ap (λ (x : Home). Page x c.in-Page.old) (alone_home t s.agree (store.spare s.store) c.in-Fork.slot c.args.kind w r c.in-Some-home.home c.in-Some-copy_for.to c.in-Page.field-0 c.in-Page.old c.in-Some-home.is (sym c.copy_for.ensures ∙ c.in-Some-copy_for.is) (c.entry.ensures ∙ ap Some c.in-Page.is)) in
+    let there : held_entry s.tables.maps.items c.in-Some-copy_for.to ≡ Some (Page c.in-Some-home.home c.in-Page.old) = c.entry.ensures ∙ ap Some c.in-Page.is ∙ ap Some home_is in
+    let alone : is_alone s.tables.shares.items (held_entry s.tables.maps.items c.in-Some-copy_for.to) ≡ true = ap (is_alone s.tables.shares.items) there ∙ one_is (share_of s.tables.shares.items c.in-Some-home.home.0) (sym c.share.ensures ∙ c.if-share-eq1.true) in
+    (alone_stored store s.store c.copy_alone.new.self.store (g.met.S.Store.sound s.store) (g.met.S.Store.sound c.copy_alone.new.self.store) s.tables c.copy_alone.new.self.tables s.agree c.copy_alone.new.self.agree c.args.at c.in-Fork.slot c.in-Fork.is c.args.kind w r c.args.owner c.requires.owner c.in-Some-home.home c.in-Some-copy_for.to (record full_access { x = w.executes }) c.in-Some-home.is (sym c.copy_for.ensures ∙ c.in-Some-copy_for.is) refl c.in-Page.old there alone c.copy_alone.ensures.tables c.copy_alone.ensures.used).told
+
+pub returns-in-Page-clause-settles : goal.returns-in-Page-clause-settles
+returns-in-Page-clause-settles g c =
+    let s = c.args.self.now in
+    let store = g.S.Store.means in
+    let t = tables_of (store.homes s.store) s.tables in
+    let w = c.in-Some.walk in
+    let r = announced t (store.spare s.store) c.args.at c.in-Fork.slot c.args.kind w c.in-Fork.is c.requires.place (sym c.walk.ensures ∙ c.in-Some.is) c.requires.ready in
+    let home_is : Page c.in-Page.field-0 c.in-Page.old ≡ Page c.in-Some-home.home c.in-Page.old = ap (λ (x : Home). Page x c.in-Page.old) (alone_home t s.agree (store.spare s.store) c.in-Fork.slot c.args.kind w r c.in-Some-home.home c.in-Some-copy_for.to c.in-Page.field-0 c.in-Page.old c.in-Some-home.is (sym c.copy_for.ensures ∙ c.in-Some-copy_for.is) (c.entry.ensures ∙ ap Some c.in-Page.is)) in
+    let there : held_entry s.tables.maps.items c.in-Some-copy_for.to ≡ Some (Page c.in-Some-home.home c.in-Page.old) = c.entry.ensures ∙ ap Some c.in-Page.is ∙ ap Some home_is in
+    let alone : is_alone s.tables.shares.items (held_entry s.tables.maps.items c.in-Some-copy_for.to) ≡ true = ap (is_alone s.tables.shares.items) there ∙ one_is (share_of s.tables.shares.items c.in-Some-home.home.0) (sym c.share.ensures ∙ c.if-share-eq1.true) in
+    (alone_stored store s.store c.copy_alone.new.self.store (g.met.S.Store.sound s.store) (g.met.S.Store.sound c.copy_alone.new.self.store) s.tables c.copy_alone.new.self.tables s.agree c.copy_alone.new.self.agree c.args.at c.in-Fork.slot c.in-Fork.is c.args.kind w r c.args.owner c.requires.owner c.in-Some-home.home c.in-Some-copy_for.to (record full_access { x = w.executes }) c.in-Some-home.is (sym c.copy_for.ensures ∙ c.in-Some-copy_for.is) refl c.in-Page.old there alone c.copy_alone.ensures.tables c.copy_alone.ensures.used).settles
+
+pub returns-in-Page-clause-scene : goal.returns-in-Page-clause-scene
+returns-in-Page-clause-scene g c =
+    let s = c.args.self.now in
+    let store = g.S.Store.means in
+    let t = tables_of (store.homes s.store) s.tables in
+    let w = c.in-Some.walk in
+    let r = announced t (store.spare s.store) c.args.at c.in-Fork.slot c.args.kind w c.in-Fork.is c.requires.place (sym c.walk.ensures ∙ c.in-Some.is) c.requires.ready in
+    let home_is : Page c.in-Page.field-0 c.in-Page.old ≡ Page c.in-Some-home.home c.in-Page.old = ap (λ (x : Home). Page x c.in-Page.old) (alone_home t s.agree (store.spare s.store) c.in-Fork.slot c.args.kind w r c.in-Some-home.home c.in-Some-copy_for.to c.in-Page.field-0 c.in-Page.old c.in-Some-home.is (sym c.copy_for.ensures ∙ c.in-Some-copy_for.is) (c.entry.ensures ∙ ap Some c.in-Page.is)) in
+    let there : held_entry s.tables.maps.items c.in-Some-copy_for.to ≡ Some (Page c.in-Some-home.home c.in-Page.old) = c.entry.ensures ∙ ap Some c.in-Page.is ∙ ap Some home_is in
+    let alone : is_alone s.tables.shares.items (held_entry s.tables.maps.items c.in-Some-copy_for.to) ≡ true = ap (is_alone s.tables.shares.items) there ∙ one_is (share_of s.tables.shares.items c.in-Some-home.home.0) (sym c.share.ensures ∙ c.if-share-eq1.true) in
+    (alone_stored store s.store c.copy_alone.new.self.store (g.met.S.Store.sound s.store) (g.met.S.Store.sound c.copy_alone.new.self.store) s.tables c.copy_alone.new.self.tables s.agree c.copy_alone.new.self.agree c.args.at c.in-Fork.slot c.in-Fork.is c.args.kind w r c.args.owner c.requires.owner c.in-Some-home.home c.in-Some-copy_for.to (record full_access { x = w.executes }) c.in-Some-home.is (sym c.copy_for.ensures ∙ c.in-Some-copy_for.is) refl c.in-Page.old there alone c.copy_alone.ensures.tables c.copy_alone.ensures.used).scene
+
+pub returns-in-Page-clause-count : goal.returns-in-Page-clause-count
+returns-in-Page-clause-count g c =
+    let s = c.args.self.now in
+    let store = g.S.Store.means in
+    let t = tables_of (store.homes s.store) s.tables in
+    let w = c.in-Some.walk in
+    let r = announced t (store.spare s.store) c.args.at c.in-Fork.slot c.args.kind w c.in-Fork.is c.requires.place (sym c.walk.ensures ∙ c.in-Some.is) c.requires.ready in
+    let home_is : Page c.in-Page.field-0 c.in-Page.old ≡ Page c.in-Some-home.home c.in-Page.old = ap (λ (x : Home). Page x c.in-Page.old) (alone_home t s.agree (store.spare s.store) c.in-Fork.slot c.args.kind w r c.in-Some-home.home c.in-Some-copy_for.to c.in-Page.field-0 c.in-Page.old c.in-Some-home.is (sym c.copy_for.ensures ∙ c.in-Some-copy_for.is) (c.entry.ensures ∙ ap Some c.in-Page.is)) in
+    let there : held_entry s.tables.maps.items c.in-Some-copy_for.to ≡ Some (Page c.in-Some-home.home c.in-Page.old) = c.entry.ensures ∙ ap Some c.in-Page.is ∙ ap Some home_is in
+    let alone : is_alone s.tables.shares.items (held_entry s.tables.maps.items c.in-Some-copy_for.to) ≡ true = ap (is_alone s.tables.shares.items) there ∙ one_is (share_of s.tables.shares.items c.in-Some-home.home.0) (sym c.share.ensures ∙ c.if-share-eq1.true) in
+    (alone_stored store s.store c.copy_alone.new.self.store (g.met.S.Store.sound s.store) (g.met.S.Store.sound c.copy_alone.new.self.store) s.tables c.copy_alone.new.self.tables s.agree c.copy_alone.new.self.agree c.args.at c.in-Fork.slot c.in-Fork.is c.args.kind w r c.args.owner c.requires.owner c.in-Some-home.home c.in-Some-copy_for.to (record full_access { x = w.executes }) c.in-Some-home.is (sym c.copy_for.ensures ∙ c.in-Some-copy_for.is) refl c.in-Page.old there alone c.copy_alone.ensures.tables c.copy_alone.ensures.used).count
+
+pub returns-in-Page-clause-lives : goal.returns-in-Page-clause-lives
+returns-in-Page-clause-lives g c =
+    let s = c.args.self.now in
+    let store = g.S.Store.means in
+    let t = tables_of (store.homes s.store) s.tables in
+    let w = c.in-Some.walk in
+    let r = announced t (store.spare s.store) c.args.at c.in-Fork.slot c.args.kind w c.in-Fork.is c.requires.place (sym c.walk.ensures ∙ c.in-Some.is) c.requires.ready in
+    let home_is : Page c.in-Page.field-0 c.in-Page.old ≡ Page c.in-Some-home.home c.in-Page.old = ap (λ (x : Home). Page x c.in-Page.old) (alone_home t s.agree (store.spare s.store) c.in-Fork.slot c.args.kind w r c.in-Some-home.home c.in-Some-copy_for.to c.in-Page.field-0 c.in-Page.old c.in-Some-home.is (sym c.copy_for.ensures ∙ c.in-Some-copy_for.is) (c.entry.ensures ∙ ap Some c.in-Page.is)) in
+    let there : held_entry s.tables.maps.items c.in-Some-copy_for.to ≡ Some (Page c.in-Some-home.home c.in-Page.old) = c.entry.ensures ∙ ap Some c.in-Page.is ∙ ap Some home_is in
+    let alone : is_alone s.tables.shares.items (held_entry s.tables.maps.items c.in-Some-copy_for.to) ≡ true = ap (is_alone s.tables.shares.items) there ∙ one_is (share_of s.tables.shares.items c.in-Some-home.home.0) (sym c.share.ensures ∙ c.if-share-eq1.true) in
+    (alone_stored store s.store c.copy_alone.new.self.store (g.met.S.Store.sound s.store) (g.met.S.Store.sound c.copy_alone.new.self.store) s.tables c.copy_alone.new.self.tables s.agree c.copy_alone.new.self.agree c.args.at c.in-Fork.slot c.in-Fork.is c.args.kind w r c.args.owner c.requires.owner c.in-Some-home.home c.in-Some-copy_for.to (record full_access { x = w.executes }) c.in-Some-home.is (sym c.copy_for.ensures ∙ c.in-Some-copy_for.is) refl c.in-Page.old there alone c.copy_alone.ensures.tables c.copy_alone.ensures.used).lives
+
+pub returns-in-Page-clause-forks : goal.returns-in-Page-clause-forks
+returns-in-Page-clause-forks g c =
+    let s = c.args.self.now in
+    let store = g.S.Store.means in
+    let t = tables_of (store.homes s.store) s.tables in
+    let w = c.in-Some.walk in
+    let r = announced t (store.spare s.store) c.args.at c.in-Fork.slot c.args.kind w c.in-Fork.is c.requires.place (sym c.walk.ensures ∙ c.in-Some.is) c.requires.ready in
+    let home_is : Page c.in-Page.field-0 c.in-Page.old ≡ Page c.in-Some-home.home c.in-Page.old = ap (λ (x : Home). Page x c.in-Page.old) (alone_home t s.agree (store.spare s.store) c.in-Fork.slot c.args.kind w r c.in-Some-home.home c.in-Some-copy_for.to c.in-Page.field-0 c.in-Page.old c.in-Some-home.is (sym c.copy_for.ensures ∙ c.in-Some-copy_for.is) (c.entry.ensures ∙ ap Some c.in-Page.is)) in
+    let there : held_entry s.tables.maps.items c.in-Some-copy_for.to ≡ Some (Page c.in-Some-home.home c.in-Page.old) = c.entry.ensures ∙ ap Some c.in-Page.is ∙ ap Some home_is in
+    let alone : is_alone s.tables.shares.items (held_entry s.tables.maps.items c.in-Some-copy_for.to) ≡ true = ap (is_alone s.tables.shares.items) there ∙ one_is (share_of s.tables.shares.items c.in-Some-home.home.0) (sym c.share.ensures ∙ c.if-share-eq1.true) in
+    (alone_stored store s.store c.copy_alone.new.self.store (g.met.S.Store.sound s.store) (g.met.S.Store.sound c.copy_alone.new.self.store) s.tables c.copy_alone.new.self.tables s.agree c.copy_alone.new.self.agree c.args.at c.in-Fork.slot c.in-Fork.is c.args.kind w r c.args.owner c.requires.owner c.in-Some-home.home c.in-Some-copy_for.to (record full_access { x = w.executes }) c.in-Some-home.is (sym c.copy_for.ensures ∙ c.in-Some-copy_for.is) refl c.in-Page.old there alone c.copy_alone.ensures.tables c.copy_alone.ensures.used).forks
+
+pub returns-in-Page-clause-single : goal.returns-in-Page-clause-single
+returns-in-Page-clause-single g c =
+    let s = c.args.self.now in
+    let store = g.S.Store.means in
+    let t = tables_of (store.homes s.store) s.tables in
+    let w = c.in-Some.walk in
+    let r = announced t (store.spare s.store) c.args.at c.in-Fork.slot c.args.kind w c.in-Fork.is c.requires.place (sym c.walk.ensures ∙ c.in-Some.is) c.requires.ready in
+    let home_is : Page c.in-Page.field-0 c.in-Page.old ≡ Page c.in-Some-home.home c.in-Page.old = ap (λ (x : Home). Page x c.in-Page.old) (alone_home t s.agree (store.spare s.store) c.in-Fork.slot c.args.kind w r c.in-Some-home.home c.in-Some-copy_for.to c.in-Page.field-0 c.in-Page.old c.in-Some-home.is (sym c.copy_for.ensures ∙ c.in-Some-copy_for.is) (c.entry.ensures ∙ ap Some c.in-Page.is)) in
+    let there : held_entry s.tables.maps.items c.in-Some-copy_for.to ≡ Some (Page c.in-Some-home.home c.in-Page.old) = c.entry.ensures ∙ ap Some c.in-Page.is ∙ ap Some home_is in
+    let alone : is_alone s.tables.shares.items (held_entry s.tables.maps.items c.in-Some-copy_for.to) ≡ true = ap (is_alone s.tables.shares.items) there ∙ one_is (share_of s.tables.shares.items c.in-Some-home.home.0) (sym c.share.ensures ∙ c.if-share-eq1.true) in
+    (alone_stored store s.store c.copy_alone.new.self.store (g.met.S.Store.sound s.store) (g.met.S.Store.sound c.copy_alone.new.self.store) s.tables c.copy_alone.new.self.tables s.agree c.copy_alone.new.self.agree c.args.at c.in-Fork.slot c.in-Fork.is c.args.kind w r c.args.owner c.requires.owner c.in-Some-home.home c.in-Some-copy_for.to (record full_access { x = w.executes }) c.in-Some-home.is (sym c.copy_for.ensures ∙ c.in-Some-copy_for.is) refl c.in-Page.old there alone c.copy_alone.ensures.tables c.copy_alone.ensures.used).single
+
+pub returns-in_default-entry-clause-told : goal.returns-in_default-entry-clause-told
+returns-in_default-entry-clause-told g c =
+    let s = c.args.self.now in
+    let store = g.S.Store.means in
+    let t = tables_of (store.homes s.store) s.tables in
+    let w = c.in-Some.walk in
+    let r = announced t (store.spare s.store) c.args.at c.in-Fork.slot c.args.kind w c.in-Fork.is c.requires.place (sym c.walk.ensures ∙ c.in-Some.is) c.requires.ready in
+    let shared : is_alone s.tables.shares.items (held_entry s.tables.maps.items c.in-Some-copy_for.to) ≡ false = elim c.in_default-entry.branch [
+      | in_default-entry-via-in-Page+else-share-eq1 v ↦
+          ap (is_alone s.tables.shares.items) (c.entry.ensures ∙ ap Some v.in-Page.is)
+          ∙ ap (λ (x : Home). is_alone s.tables.shares.items (Some (Page x v.in-Page.old))) (alone_home t s.agree (store.spare s.store) c.in-Fork.slot c.args.kind w r c.in-Some-home.home c.in-Some-copy_for.to v.in-Page.field-0 v.in-Page.old c.in-Some-home.is (sym c.copy_for.ensures ∙ c.in-Some-copy_for.is) (c.entry.ensures ∙ ap Some v.in-Page.is))
+          ∙ not_one (share_of s.tables.shares.items c.in-Some-home.home.0) (λ one. v.if-share-eq1.false (v.share.ensures ∙ one))
+      | in_default-entry-via-in_default-entry v ↦ ap (is_alone s.tables.shares.items) c.entry.ensures ∙ names_none s.tables.shares.items c.entry.result (λ h b is. v.in_default-entry.not-Page h b is)
+    ] in
+    (copy_stored store s.store c.copy_new.new.self.store (g.met.S.Store.sound s.store) (g.met.S.Store.sound c.copy_new.new.self.store) s.tables c.copy_new.new.self.tables s.agree c.copy_new.new.self.agree c.args.at c.in-Fork.slot c.in-Fork.is c.args.kind w r c.args.owner c.requires.owner c.in-Some-home.home c.in-Some-copy_for.to (record full_access { x = w.executes }) c.in-Some-home.is (sym c.copy_for.ensures ∙ c.in-Some-copy_for.is) refl c.entry.result c.entry.ensures shared c.copy_new.ensures).told
+
+pub returns-in_default-entry-clause-settles : goal.returns-in_default-entry-clause-settles
+returns-in_default-entry-clause-settles g c =
+    let s = c.args.self.now in
+    let store = g.S.Store.means in
+    let t = tables_of (store.homes s.store) s.tables in
+    let w = c.in-Some.walk in
+    let r = announced t (store.spare s.store) c.args.at c.in-Fork.slot c.args.kind w c.in-Fork.is c.requires.place (sym c.walk.ensures ∙ c.in-Some.is) c.requires.ready in
+    let shared : is_alone s.tables.shares.items (held_entry s.tables.maps.items c.in-Some-copy_for.to) ≡ false = elim c.in_default-entry.branch [
+      | in_default-entry-via-in-Page+else-share-eq1 v ↦
+          ap (is_alone s.tables.shares.items) (c.entry.ensures ∙ ap Some v.in-Page.is)
+          ∙ ap (λ (x : Home). is_alone s.tables.shares.items (Some (Page x v.in-Page.old))) (alone_home t s.agree (store.spare s.store) c.in-Fork.slot c.args.kind w r c.in-Some-home.home c.in-Some-copy_for.to v.in-Page.field-0 v.in-Page.old c.in-Some-home.is (sym c.copy_for.ensures ∙ c.in-Some-copy_for.is) (c.entry.ensures ∙ ap Some v.in-Page.is))
+          ∙ not_one (share_of s.tables.shares.items c.in-Some-home.home.0) (λ one. v.if-share-eq1.false (v.share.ensures ∙ one))
+      | in_default-entry-via-in_default-entry v ↦ ap (is_alone s.tables.shares.items) c.entry.ensures ∙ names_none s.tables.shares.items c.entry.result (λ h b is. v.in_default-entry.not-Page h b is)
+    ] in
+    (copy_stored store s.store c.copy_new.new.self.store (g.met.S.Store.sound s.store) (g.met.S.Store.sound c.copy_new.new.self.store) s.tables c.copy_new.new.self.tables s.agree c.copy_new.new.self.agree c.args.at c.in-Fork.slot c.in-Fork.is c.args.kind w r c.args.owner c.requires.owner c.in-Some-home.home c.in-Some-copy_for.to (record full_access { x = w.executes }) c.in-Some-home.is (sym c.copy_for.ensures ∙ c.in-Some-copy_for.is) refl c.entry.result c.entry.ensures shared c.copy_new.ensures).settles
+
+pub returns-in_default-entry-clause-scene : goal.returns-in_default-entry-clause-scene
+returns-in_default-entry-clause-scene g c =
+    let s = c.args.self.now in
+    let store = g.S.Store.means in
+    let t = tables_of (store.homes s.store) s.tables in
+    let w = c.in-Some.walk in
+    let r = announced t (store.spare s.store) c.args.at c.in-Fork.slot c.args.kind w c.in-Fork.is c.requires.place (sym c.walk.ensures ∙ c.in-Some.is) c.requires.ready in
+    let shared : is_alone s.tables.shares.items (held_entry s.tables.maps.items c.in-Some-copy_for.to) ≡ false = elim c.in_default-entry.branch [
+      | in_default-entry-via-in-Page+else-share-eq1 v ↦
+          ap (is_alone s.tables.shares.items) (c.entry.ensures ∙ ap Some v.in-Page.is)
+          ∙ ap (λ (x : Home). is_alone s.tables.shares.items (Some (Page x v.in-Page.old))) (alone_home t s.agree (store.spare s.store) c.in-Fork.slot c.args.kind w r c.in-Some-home.home c.in-Some-copy_for.to v.in-Page.field-0 v.in-Page.old c.in-Some-home.is (sym c.copy_for.ensures ∙ c.in-Some-copy_for.is) (c.entry.ensures ∙ ap Some v.in-Page.is))
+          ∙ not_one (share_of s.tables.shares.items c.in-Some-home.home.0) (λ one. v.if-share-eq1.false (v.share.ensures ∙ one))
+      | in_default-entry-via-in_default-entry v ↦ ap (is_alone s.tables.shares.items) c.entry.ensures ∙ names_none s.tables.shares.items c.entry.result (λ h b is. v.in_default-entry.not-Page h b is)
+    ] in
+    (copy_stored store s.store c.copy_new.new.self.store (g.met.S.Store.sound s.store) (g.met.S.Store.sound c.copy_new.new.self.store) s.tables c.copy_new.new.self.tables s.agree c.copy_new.new.self.agree c.args.at c.in-Fork.slot c.in-Fork.is c.args.kind w r c.args.owner c.requires.owner c.in-Some-home.home c.in-Some-copy_for.to (record full_access { x = w.executes }) c.in-Some-home.is (sym c.copy_for.ensures ∙ c.in-Some-copy_for.is) refl c.entry.result c.entry.ensures shared c.copy_new.ensures).scene
+
+pub returns-in_default-entry-clause-count : goal.returns-in_default-entry-clause-count
+returns-in_default-entry-clause-count g c =
+    let s = c.args.self.now in
+    let store = g.S.Store.means in
+    let t = tables_of (store.homes s.store) s.tables in
+    let w = c.in-Some.walk in
+    let r = announced t (store.spare s.store) c.args.at c.in-Fork.slot c.args.kind w c.in-Fork.is c.requires.place (sym c.walk.ensures ∙ c.in-Some.is) c.requires.ready in
+    let shared : is_alone s.tables.shares.items (held_entry s.tables.maps.items c.in-Some-copy_for.to) ≡ false = elim c.in_default-entry.branch [
+      | in_default-entry-via-in-Page+else-share-eq1 v ↦
+          ap (is_alone s.tables.shares.items) (c.entry.ensures ∙ ap Some v.in-Page.is)
+          ∙ ap (λ (x : Home). is_alone s.tables.shares.items (Some (Page x v.in-Page.old))) (alone_home t s.agree (store.spare s.store) c.in-Fork.slot c.args.kind w r c.in-Some-home.home c.in-Some-copy_for.to v.in-Page.field-0 v.in-Page.old c.in-Some-home.is (sym c.copy_for.ensures ∙ c.in-Some-copy_for.is) (c.entry.ensures ∙ ap Some v.in-Page.is))
+          ∙ not_one (share_of s.tables.shares.items c.in-Some-home.home.0) (λ one. v.if-share-eq1.false (v.share.ensures ∙ one))
+      | in_default-entry-via-in_default-entry v ↦ ap (is_alone s.tables.shares.items) c.entry.ensures ∙ names_none s.tables.shares.items c.entry.result (λ h b is. v.in_default-entry.not-Page h b is)
+    ] in
+    (copy_stored store s.store c.copy_new.new.self.store (g.met.S.Store.sound s.store) (g.met.S.Store.sound c.copy_new.new.self.store) s.tables c.copy_new.new.self.tables s.agree c.copy_new.new.self.agree c.args.at c.in-Fork.slot c.in-Fork.is c.args.kind w r c.args.owner c.requires.owner c.in-Some-home.home c.in-Some-copy_for.to (record full_access { x = w.executes }) c.in-Some-home.is (sym c.copy_for.ensures ∙ c.in-Some-copy_for.is) refl c.entry.result c.entry.ensures shared c.copy_new.ensures).count
+
+pub returns-in_default-entry-clause-lives : goal.returns-in_default-entry-clause-lives
+returns-in_default-entry-clause-lives g c =
+    let s = c.args.self.now in
+    let store = g.S.Store.means in
+    let t = tables_of (store.homes s.store) s.tables in
+    let w = c.in-Some.walk in
+    let r = announced t (store.spare s.store) c.args.at c.in-Fork.slot c.args.kind w c.in-Fork.is c.requires.place (sym c.walk.ensures ∙ c.in-Some.is) c.requires.ready in
+    let shared : is_alone s.tables.shares.items (held_entry s.tables.maps.items c.in-Some-copy_for.to) ≡ false = elim c.in_default-entry.branch [
+      | in_default-entry-via-in-Page+else-share-eq1 v ↦
+          ap (is_alone s.tables.shares.items) (c.entry.ensures ∙ ap Some v.in-Page.is)
+          ∙ ap (λ (x : Home). is_alone s.tables.shares.items (Some (Page x v.in-Page.old))) (alone_home t s.agree (store.spare s.store) c.in-Fork.slot c.args.kind w r c.in-Some-home.home c.in-Some-copy_for.to v.in-Page.field-0 v.in-Page.old c.in-Some-home.is (sym c.copy_for.ensures ∙ c.in-Some-copy_for.is) (c.entry.ensures ∙ ap Some v.in-Page.is))
+          ∙ not_one (share_of s.tables.shares.items c.in-Some-home.home.0) (λ one. v.if-share-eq1.false (v.share.ensures ∙ one))
+      | in_default-entry-via-in_default-entry v ↦ ap (is_alone s.tables.shares.items) c.entry.ensures ∙ names_none s.tables.shares.items c.entry.result (λ h b is. v.in_default-entry.not-Page h b is)
+    ] in
+    (copy_stored store s.store c.copy_new.new.self.store (g.met.S.Store.sound s.store) (g.met.S.Store.sound c.copy_new.new.self.store) s.tables c.copy_new.new.self.tables s.agree c.copy_new.new.self.agree c.args.at c.in-Fork.slot c.in-Fork.is c.args.kind w r c.args.owner c.requires.owner c.in-Some-home.home c.in-Some-copy_for.to (record full_access { x = w.executes }) c.in-Some-home.is (sym c.copy_for.ensures ∙ c.in-Some-copy_for.is) refl c.entry.result c.entry.ensures shared c.copy_new.ensures).lives
+
+pub returns-in_default-entry-clause-forks : goal.returns-in_default-entry-clause-forks
+returns-in_default-entry-clause-forks g c =
+    let s = c.args.self.now in
+    let store = g.S.Store.means in
+    let t = tables_of (store.homes s.store) s.tables in
+    let w = c.in-Some.walk in
+    let r = announced t (store.spare s.store) c.args.at c.in-Fork.slot c.args.kind w c.in-Fork.is c.requires.place (sym c.walk.ensures ∙ c.in-Some.is) c.requires.ready in
+    let shared : is_alone s.tables.shares.items (held_entry s.tables.maps.items c.in-Some-copy_for.to) ≡ false = elim c.in_default-entry.branch [
+      | in_default-entry-via-in-Page+else-share-eq1 v ↦
+          ap (is_alone s.tables.shares.items) (c.entry.ensures ∙ ap Some v.in-Page.is)
+          ∙ ap (λ (x : Home). is_alone s.tables.shares.items (Some (Page x v.in-Page.old))) (alone_home t s.agree (store.spare s.store) c.in-Fork.slot c.args.kind w r c.in-Some-home.home c.in-Some-copy_for.to v.in-Page.field-0 v.in-Page.old c.in-Some-home.is (sym c.copy_for.ensures ∙ c.in-Some-copy_for.is) (c.entry.ensures ∙ ap Some v.in-Page.is))
+          ∙ not_one (share_of s.tables.shares.items c.in-Some-home.home.0) (λ one. v.if-share-eq1.false (v.share.ensures ∙ one))
+      | in_default-entry-via-in_default-entry v ↦ ap (is_alone s.tables.shares.items) c.entry.ensures ∙ names_none s.tables.shares.items c.entry.result (λ h b is. v.in_default-entry.not-Page h b is)
+    ] in
+    (copy_stored store s.store c.copy_new.new.self.store (g.met.S.Store.sound s.store) (g.met.S.Store.sound c.copy_new.new.self.store) s.tables c.copy_new.new.self.tables s.agree c.copy_new.new.self.agree c.args.at c.in-Fork.slot c.in-Fork.is c.args.kind w r c.args.owner c.requires.owner c.in-Some-home.home c.in-Some-copy_for.to (record full_access { x = w.executes }) c.in-Some-home.is (sym c.copy_for.ensures ∙ c.in-Some-copy_for.is) refl c.entry.result c.entry.ensures shared c.copy_new.ensures).forks
+
+pub returns-in_default-entry-clause-single : goal.returns-in_default-entry-clause-single
+returns-in_default-entry-clause-single g c =
+    let s = c.args.self.now in
+    let store = g.S.Store.means in
+    let t = tables_of (store.homes s.store) s.tables in
+    let w = c.in-Some.walk in
+    let r = announced t (store.spare s.store) c.args.at c.in-Fork.slot c.args.kind w c.in-Fork.is c.requires.place (sym c.walk.ensures ∙ c.in-Some.is) c.requires.ready in
+    let shared : is_alone s.tables.shares.items (held_entry s.tables.maps.items c.in-Some-copy_for.to) ≡ false = elim c.in_default-entry.branch [
+      | in_default-entry-via-in-Page+else-share-eq1 v ↦
+          ap (is_alone s.tables.shares.items) (c.entry.ensures ∙ ap Some v.in-Page.is)
+          ∙ ap (λ (x : Home). is_alone s.tables.shares.items (Some (Page x v.in-Page.old))) (alone_home t s.agree (store.spare s.store) c.in-Fork.slot c.args.kind w r c.in-Some-home.home c.in-Some-copy_for.to v.in-Page.field-0 v.in-Page.old c.in-Some-home.is (sym c.copy_for.ensures ∙ c.in-Some-copy_for.is) (c.entry.ensures ∙ ap Some v.in-Page.is))
+          ∙ not_one (share_of s.tables.shares.items c.in-Some-home.home.0) (λ one. v.if-share-eq1.false (v.share.ensures ∙ one))
+      | in_default-entry-via-in_default-entry v ↦ ap (is_alone s.tables.shares.items) c.entry.ensures ∙ names_none s.tables.shares.items c.entry.result (λ h b is. v.in_default-entry.not-Page h b is)
+    ] in
+    (copy_stored store s.store c.copy_new.new.self.store (g.met.S.Store.sound s.store) (g.met.S.Store.sound c.copy_new.new.self.store) s.tables c.copy_new.new.self.tables s.agree c.copy_new.new.self.agree c.args.at c.in-Fork.slot c.in-Fork.is c.args.kind w r c.args.owner c.requires.owner c.in-Some-home.home c.in-Some-copy_for.to (record full_access { x = w.executes }) c.in-Some-home.is (sym c.copy_for.ensures ∙ c.in-Some-copy_for.is) refl c.entry.result c.entry.ensures shared c.copy_new.ensures).single

@@ -1,7 +1,0 @@
-use Rattle.std.proofs.Common.{rules}
-use Rattle.plain_model.specs.References.{zero_words}
-use Rattle.flat_pages.proofs.held_page.zero_page.Goals as goal
-
-pub returns : goal.returns
-unfolding zero_words
-returns c = search rules

@@ -1,0 +1,39 @@
+-- A map whose entries are emptied one after another, and a fork that ends so.
+use Rattle.std.specs.Prelude.{◌≡◌, ℕ, ◌<◌, Bool, true, false, Option, None, Some, length, nat_lt, if◌then◌else◌}
+use Rattle.std.specs.FinMap as map
+use Rattle.plain_model.specs.declared.names.ForkName.{ForkName}
+use Rattle.plain_model.specs.declared.names.PageName.{PageName}
+use Rattle.plain_model.specs.Outcome.{DrumWords}
+use Rattle.plain_model.specs.State.{NumberedPages}
+use Rattle.plain_model.specs.Room.{uses}
+use Rattle.plain_model.specs.Pages.{StaysInCore, same_fork}
+use Rattle.plain_model.specs.Stores.{StoreMeaning, FitsHomes}
+use Rattle.flat_pages.specs.declared.held_entry.EntryAt.{EntryAt}
+use Rattle.flat_pages.specs.declared.held_entry.HeldEntry.TheVariants.{Empty}
+use Rattle.flat_pages.specs.declared.map_tables.MapTables.{MapTables}
+use Rattle.flat_pages.specs.HeldMaps.{fork_at, held_entry}
+use Rattle.flat_pages.specs.SlotTables.{plain_of}
+use Rattle.flat_pages.specs.SlotTouches.{scene_of}
+use Rattle.flat_pages.specs.TableSteps.{tables_of}
+
+-- pages of which one fork's map alone names fewer: those that are still named are there with their words
+pub record AreFewer (p q : NumberedPages) (f : ForkName) : Type 0 where
+  pub objects : (n : PageName) → map.get q.objects n ≡ (if nat_lt 0 (uses q n) then map.get p.objects n else None)
+  pub named : (n : PageName) → nat_lt 0 (uses q n) ≡ true → nat_lt 0 (uses p n) ≡ true
+  pub others : (g : ForkName) → same_fork g f ≡ false → map.get q.maps g ≡ map.get p.maps g
+  pub files : q.files ≡ p.files
+  pub page_serials : q.page_serials ≡ p.page_serials
+  pub console_serial : q.console_serial ≡ p.console_serial
+  pub limit : q.limit ≡ p.limit
+
+-- the first entries of the map with a number were emptied: what no entry names any more was given up, and nothing has left its frame
+pub record EmptiesMap {S : Type 0} (store : StoreMeaning S) (old new : S) (tables tables' : MapTables) (k pages : ℕ) : Type 0 where
+  pub told : (d : DrumWords) (f : ForkName) → fork_at tables.maps.items k ≡ Some f → FitsHomes (store.homes old) d
+      → FitsHomes (store.homes new) d × AreFewer (plain_of (tables_of (store.homes old) tables) d) (plain_of (tables_of (store.homes new) tables') d) f
+  pub many : length tables'.maps.items ≡ length tables.maps.items
+  pub forks : (j : ℕ) → fork_at tables'.maps.items j ≡ fork_at tables.maps.items j
+  pub entries : (page : ℕ) → page < pages → held_entry tables'.maps.items (record { map = k; page = page }) ≡ Some Empty
+  pub serials : tables'.serials ≡ tables.serials
+  pub living : tables'.living ≡ tables.living
+  pub limit : tables'.limit ≡ tables.limit
+  pub core : StaysInCore (scene_of (tables_of (store.homes old) tables) (store.spare old)) (scene_of (tables_of (store.homes new) tables') (store.spare new)) 0

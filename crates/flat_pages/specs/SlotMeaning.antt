@@ -1,0 +1,139 @@
+-- What the clauses of pages say of maps in memory over a store.
+use Rattle.std.specs.Prelude.{◌≡◌, ◌≢◌, ℕ, ◌+◌, ◌≤◌, List, [], length, Bool, true, false, Option, None, Some, is_some, MatchOption}
+use Rattle.std.specs.Option.{option_map, option_map_or, option_and_then}
+use Rattle.std.specs.FinMap as map
+use Rattle.std.proofs.Common.{refl, sym, ◌∙◌, ap, subst}
+use Rattle.plain_model.specs.declared.names.ForkName.{ForkName}
+use Rattle.plain_model.specs.declared.names.PageName.{PageName}
+use Rattle.plain_model.specs.declared.names.Tty.{Tty}
+use Rattle.plain_model.specs.declared.names.Slot.{Slot}
+use Rattle.plain_model.specs.declared.names.Home.{Home}
+use Rattle.plain_model.specs.declared.names.TheConstants.{MOST_FORKS}
+use Rattle.plain_model.specs.declared.map.Found.{Found}
+use Rattle.plain_model.specs.declared.map.SpaceHandle.{SpaceHandle}
+use Rattle.plain_model.specs.declared.map.Seen.{Seen}
+use Rattle.plain_model.specs.declared.map.Seen.TheVariants.{Is, Missing}
+use Rattle.plain_model.specs.Outcome.{DrumWords}
+use Rattle.plain_model.specs.Room.{live}
+use Rattle.plain_model.specs.Whole.{AreWhole}
+use Rattle.plain_model.specs.Stores.{StoreMeaning, IsSound, CanLeave, AllStay, FitsHomes, HomePlace, away, place}
+use Rattle.plain_model.specs.Pages.{PagesMeaning, Agrees, AreHoused, AreSingle}
+use Rattle.flat_pages.specs.declared.held_entry.EntryAt.{EntryAt}
+use Rattle.flat_pages.specs.declared.held_entry.HeldEntry.{HeldEntry}
+use Rattle.flat_pages.specs.Serials.{serial_of}
+use Rattle.flat_pages.specs.HeldMaps.{are_single, index_of, held_entry, entry_of, living_of, maps_held}
+use Rattle.flat_pages.specs.Walks.{walk}
+use Rattle.flat_pages.specs.SlotTables.{Tables, plain_of, AreTables}
+use Rattle.flat_pages.specs.SlotTouches.{scene_of, touch_of_place, walk_of}
+
+-- an entry as a look at it finds it; its map is always in memory
+abbrev pub seen_entry : Tables → Option HeldEntry → Seen
+seen_entry t None = Missing
+seen_entry t (Some e) = Is (entry_of t.names e)
+
+abbrev pub seen_in : Tables → Slot → Seen
+seen_in t s = seen_entry t (option_and_then (λ k. held_entry t.maps (record { map = k; page = s.page })) (index_of t.maps s.fork))
+
+-- where the page at the end of a chain is, if it is in a frame
+abbrev pub place_along : (ℕ → Option Found) → Tables → SpaceHandle → ℕ → Option Found
+place_along found t space page = option_and_then (λ w. option_and_then (λ h. found h.0) w.home) (walk t.maps (record { map = space.0; page = page }))
+
+-- a store's meaning, for what has a store
+abbrev pub within : {P S : Type 0} → StoreMeaning S → (P → S) → StoreMeaning P
+within store part = record {
+  homes = λ p. store.homes (part p);
+  spare = λ p. store.spare (part p);
+  queue = λ p. store.queue (part p);
+  untold = λ p. store.untold (part p);
+  holds = λ p. store.holds (part p);
+  tenant = λ p. store.tenant (part p);
+  victim = λ p. store.victim (part p);
+  found = λ p. store.found (part p);
+  members = λ p. store.members (part p);
+  flat = store.flat;
+}
+
+-- pages that have a store and tables
+abbrev pub slots_meaning : {P S : Type 0} → StoreMeaning S → (P → S) → (P → Tables) → PagesMeaning P
+slots_meaning store part tables = record {
+  fits = λ p d. FitsHomes (tables p).places d;
+  plain = λ p d. plain_of (tables p) d;
+  scene = λ p. scene_of (tables p) (store.spare (part p));
+  touched = λ p. touch_of_place (tables p) (store.spare (part p));
+  seen = λ p. seen_in (tables p);
+  lives = λ p f. is_some (index_of (tables p).maps f);
+  forks_of = λ p. living_of (tables p).maps;
+  serial = λ p. serial_of (tables p).serials;
+  count = λ p. (tables p).taken + (tables p).living;
+  most = λ p. (tables p).limit;
+  most_forks = MOST_FORKS;
+  flat = store.flat;
+  single = λ p. are_single (tables p).maps;
+  space = λ p f. option_map (λ k. record { 0 = k }) (index_of (tables p).maps f);
+  place = λ p. place_along (store.found (part p)) (tables p);
+  store = within store part;
+}
+
+-- what is told of tables that agree, over each drum that fits
+pub record AreTold (t : Tables) : Type 0 where
+  pub whole : (d : DrumWords) → FitsHomes t.places d → AreWhole (plain_of t d)
+  pub number : (d : DrumWords) → FitsHomes t.places d → t.taken + t.living ≡ live (plain_of t d)
+  pub room : (d : DrumWords) → FitsHomes t.places d → live (plain_of t d) ≤ t.limit
+  pub lives : (f : ForkName) → is_some (index_of t.maps f) ≡ map.contains_key (maps_held t.names t.maps) f
+  pub alone : (f : ForkName) → living_of t.maps f.tty ≡ 0 → is_some (index_of t.maps f) ≡ false
+  pub away : (n : PageName) (home : ℕ) (frames : ℕ) → (scene_of t frames).page_away n ≡ Some home → place t.places home ≡ away
+  pub there : (d : DrumWords) (n : PageName) (home frames : ℕ) → FitsHomes t.places d → (scene_of t frames).page_away n ≡ Some home → map.contains_key (plain_of t d).objects n ≡ true
+  pub homes : length t.places ≤ t.limit
+  pub single : are_single t.maps ≡ true → AreSingle (maps_held t.names t.maps)
+  pub mapped : (home : ℕ) → ◌≡◌ {A = Option ℕ} None (Some home) → ⊥
+
+module _ {P S : Type 0} (store : StoreMeaning S) (part : P → S) where
+  leaves : (p : P) (frame home : ℕ) → CanLeave (within store part) p frame home → CanLeave store (part p) frame home
+  leaves p frame home c = record { there = c.there; still = c.still; unheld = c.unheld }
+
+  left : (p : P) (frame home : ℕ) → CanLeave store (part p) frame home → CanLeave (within store part) p frame home
+  left p frame home c = record { there = c.there; still = c.still; unheld = c.unheld }
+
+  next_within : (p : P) (o : Option ℕ) → MatchOption o (AllStay store (part p)) (λ frame. (home : ℕ) × CanLeave store (part p) frame home) → MatchOption o (AllStay (within store part) p) (λ frame. (home : ℕ) × CanLeave (within store part) p frame home)
+  next_within p None stay = λ frame home c. stay frame home (leaves p frame home c)
+  next_within p (Some frame) h = (h.0, left p frame h.0 h.1)
+
+  -- what has a sound store is sound
+  pub sound_within : (p : P) → IsSound store (part p) → IsSound (within store part) p
+  sound_within p s = record {
+    few = s.few;
+    pages = s.pages;
+    finds = s.finds;
+    comes = s.comes;
+    goes = s.goes;
+    once = s.once;
+    held = s.held;
+    unmoved = s.unmoved;
+    next = next_within p (store.victim (part p)) s.next;
+    core = s.core;
+    still = s.still;
+    frames = s.frames;
+  }
+
+  module _ (tables : P → Tables) (p : P) (told : AreTold (tables p)) where
+    -- the homes are those of the store
+    pub slots_housed : store.homes (part p) ≡ (tables p).places → IsSound store (part p) → AreHoused (slots_meaning store part tables) p
+    slots_housed same s = record {
+      sound = sound_within p s;
+      maps = λ f home is. absurd (told.mapped home is);
+      pages = λ n home is. ap (λ places. place places home) same ∙ told.away n home (store.spare (part p)) is;
+      frames = refl;
+      homes = subst (λ (places : List HomePlace). length places ≤ (tables p).limit) (sym same) told.homes;
+      flat = refl;
+    }
+
+    pub slots_agree : (d : DrumWords) → FitsHomes (tables p).places d → Agrees (slots_meaning store part tables) p (plain_of (tables p) d)
+    slots_agree d fits = record {
+      living = told.lives;
+      next = λ t owner. refl;
+      number = told.number d fits;
+      bound = refl;
+      room = told.room d fits;
+      absent_pages = λ n home is. told.there d n home (store.spare (part p)) fits is;
+      absent_maps = λ f home is. absurd (told.mapped home is);
+    }

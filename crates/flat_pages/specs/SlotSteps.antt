@@ -1,0 +1,43 @@
+-- What steps do to a store and to the tables beside it.
+use Rattle.std.specs.Prelude.{◌≡◌, ℕ, Bool, Some, not, ◌&&◌}
+use Rattle.plain_model.specs.Maps.{narrowed}
+use Rattle.plain_model.specs.declared.names.Access.{Access}
+use Rattle.plain_model.specs.declared.names.Home.{Home}
+use Rattle.plain_model.specs.declared.names.Tty.{Tty}
+use Rattle.plain_model.specs.Stores.{StoreMeaning, HomePlace, IsMade}
+use Rattle.flat_pages.specs.declared.held_entry.EntryAt.{EntryAt}
+use Rattle.flat_pages.specs.declared.map_tables.MapTables.{MapTables}
+use Rattle.plain_model.specs.declared.names.Slot.{Slot}
+use Rattle.plain_model.specs.Outcome.{DrumWords}
+use Rattle.plain_model.specs.References.{with_entry as entry_put}
+use Rattle.plain_model.specs.Pages.{StaysInCore}
+use Rattle.plain_model.specs.Stores.{FitsHomes}
+use Rattle.flat_pages.specs.declared.held_entry.HeldEntry.{HeldEntry}
+use Rattle.flat_pages.specs.declared.held_entry.HeldEntry.TheVariants.{Empty, Page, Follows}
+use Rattle.flat_pages.specs.HeldMaps.{with_entry, entry_of}
+use Rattle.flat_pages.specs.Walks.{slot_of}
+use Rattle.flat_pages.specs.SlotTables.{plain_of}
+use Rattle.flat_pages.specs.SlotTouches.{scene_of}
+use Rattle.flat_pages.specs.TableSteps.{tables_of, home_taken}
+
+-- a free home was taken, for a new page of an owner that an entry names now
+pub record TakesHome {S : Type 0} (store : StoreMeaning S) (old new : S) (tables tables' : MapTables) (at : EntryAt) (page : HomePlace) (access : Access) (owner : Tty) : Type 0 where
+  pub home : Home
+  pub made : IsMade store home.0 page old new
+  pub taken : tables_of (store.homes new) tables' ≡ home_taken (tables_of (store.homes old) tables) at home page access owner
+
+-- an entry was set: what no entry names any more was given up, and nothing has left its frame
+pub record SetsEntry {S : Type 0} (store : StoreMeaning S) (old new : S) (tables tables' : MapTables) (at : EntryAt) (e : HeldEntry) : Type 0 where
+  pub told : (d : DrumWords) (s : Slot) → slot_of tables.maps.items at ≡ Some s → FitsHomes (store.homes old) d
+      → FitsHomes (store.homes new) d × (plain_of (tables_of (store.homes new) tables') d ≡ entry_put (plain_of (tables_of (store.homes old) tables) d) s (entry_of tables.names.items e))
+  pub maps : tables'.maps.items ≡ with_entry tables.maps.items at e
+  pub serials : tables'.serials ≡ tables.serials
+  pub living : tables'.living ≡ tables.living
+  pub limit : tables'.limit ≡ tables.limit
+  pub core : StaysInCore (scene_of (tables_of (store.homes old) tables) (store.spare old)) (scene_of (tables_of (store.homes new) tables') (store.spare new)) 0
+
+-- an entry of which no more is permitted than is given
+abbrev pub narrow_held : Access → HeldEntry → HeldEntry
+narrow_held given Empty = Empty
+narrow_held given (Page h a) = Page h (narrowed a given)
+narrow_held given (Follows l a) = Follows l (narrowed a given)

@@ -1,0 +1,74 @@
+-- What each kind of step does to the tables.
+use Rattle.std.specs.Prelude.{ℕ, ◌+◌, ◌-◌, List, Option, None, Some, slice_set}
+use Rattle.plain_model.specs.declared.names.Access.{Access}
+use Rattle.plain_model.specs.declared.names.Home.{Home}
+use Rattle.plain_model.specs.declared.names.ForkName.{ForkName}
+use Rattle.plain_model.specs.declared.names.PageName.{PageName}
+use Rattle.plain_model.specs.declared.names.Tty.{Tty}
+use Rattle.plain_model.specs.Stores.{HomePlace, free}
+use Rattle.flat_pages.specs.declared.held_entry.EntryAt.{EntryAt}
+use Rattle.flat_pages.specs.declared.held_entry.HeldEntry.{HeldEntry}
+use Rattle.flat_pages.specs.declared.held_entry.HeldEntry.TheVariants.{Empty, Page, Follows}
+use Rattle.flat_pages.specs.declared.page_serials.PageSerials.{PageSerials}
+use Rattle.flat_pages.specs.declared.map_tables.MapTables.{MapTables}
+use Rattle.flat_pages.specs.Serials.{serial_of, with_next}
+use Rattle.flat_pages.specs.HeldMaps.{map_at, held_entry, with_entry}
+use Rattle.flat_pages.specs.SlotTables.{Tables, share_of}
+
+-- the tables beside a store
+abbrev pub tables_of : List HomePlace → MapTables → Tables
+tables_of places m = record { places = places; names = m.names.items; shares = m.shares.items; maps = m.maps.items; serials = m.serials; taken = m.taken; living = m.living; limit = m.limit }
+
+-- the name of an owner's next page
+abbrev pub next_name : PageSerials → Tty → PageName
+next_name serials owner = record { tty = owner; serial = serial_of serials owner }
+
+-- the page that an entry names is named once less
+abbrev pub left_shares : List ℕ → Option HeldEntry → List ℕ
+left_shares shares (Some (Page h a)) = slice_set shares h.0 (share_of shares h.0 - 1)
+left_shares shares e = shares
+
+-- a home is taken, for a new page of an owner that an entry names in place of what it named
+abbrev pub home_taken : Tables → EntryAt → Home → HomePlace → Access → Tty → Tables
+home_taken t at home page access owner = record t {
+  places = slice_set t.places home.0 page;
+  names = slice_set t.names home.0 (Some (next_name t.serials owner));
+  shares = slice_set (left_shares t.shares (held_entry t.maps at)) home.0 1;
+  maps = with_entry t.maps at (Page home access);
+  serials = with_next t.serials owner;
+  taken = t.taken + 1;
+}
+
+-- the home of a page that one entry alone names becomes that of a new page of an owner
+abbrev pub home_renamed : Tables → EntryAt → Home → Access → Tty → Tables
+home_renamed t at home access owner = record t {
+  names = slice_set t.names home.0 (Some (next_name t.serials owner));
+  maps = with_entry t.maps at (Page home access);
+  serials = with_next t.serials owner;
+}
+
+-- an entry becomes another, of the same page or of none
+abbrev pub entry_kept : Tables → EntryAt → HeldEntry → Tables
+entry_kept t at e = record t { maps = with_entry t.maps at e }
+
+-- an entry becomes one of no page, and its page is named once less
+abbrev pub entry_left : Tables → EntryAt → HeldEntry → Tables
+entry_left t at e = record t { shares = left_shares t.shares (held_entry t.maps at); maps = with_entry t.maps at e }
+
+-- and the page's home is given up
+abbrev pub home_freed : Tables → EntryAt → Home → HeldEntry → Tables
+home_freed t at home e = record t {
+  places = slice_set t.places home.0 free;
+  names = slice_set t.names home.0 None;
+  shares = slice_set t.shares home.0 0;
+  maps = with_entry t.maps at e;
+  taken = t.taken - 1;
+}
+
+-- a fork begins to live, with the map that has a number and these entries
+abbrev pub fork_begun : Tables → ℕ → ForkName → List HeldEntry → Tables
+fork_begun t k f entries = record t { maps = slice_set t.maps k (record { fork = Some f; entries = entries }); living = t.living + 1 }
+
+-- a fork ends, whose map has a number
+abbrev pub fork_ended : Tables → ℕ → Tables
+fork_ended t k = record t { maps = slice_set t.maps k (record (map_at t.maps k) { fork = None }); living = t.living - 1 }

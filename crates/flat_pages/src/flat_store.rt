@@ -1,0 +1,140 @@
+// A store in memory.
+ghost use Rattle.flat_pages.specs.StoredPages.{AreStored};
+
+use crate::stored_page::{StoredPage, all_homes, free_pages, zero_page};
+use outside::{Drum, Memory};
+use plain_model::{Completed, Found, FrameId, Home, MOST_HOMES, Need, Room, Store};
+use std::alloc::Global;
+use word36::Word;
+
+/// Pages under homes in memory alone: there are no frames, no page is ever away, and no transfer is
+/// queued. Nothing is allocated after the boot.
+#[derive(Drop)]
+pub struct FlatStore {
+    pages: Vec<StoredPage>,
+    // The homes that are free stand first.
+    homes: Vec<Home>,
+    spare: u32,
+    ghost stored: { AreStored pages.items homes.items spare },
+}
+
+impl FlatStore {
+    ghost use Rattle.std.specs.Prelude.{◌≡◌, ◌≤◌, IfOk, replicate};
+    ghost use Rattle.plain_model.specs.Stores.{free};
+
+    /// So many homes, 16,384 at most, all of them free. Err: no memory.
+    pub fn boot(alloc: Global, pages: u32) -> Result<FlatStore, Memory>
+        requires { pages ≤ MOST_HOMES }
+        ensures { IfOk result (λ s. ⟦<FlatStore as Store>⟧.means.homes s ≡ replicate pages free) }
+    {
+        let homes = all_homes(alloc, pages)?;
+        let stored = free_pages(alloc, pages)?;
+        Ok(FlatStore {
+            pages: stored,
+            homes,
+            spare: pages,
+        })
+    }
+}
+
+impl Store for FlatStore {
+    ghost use Rattle.flat_pages.specs.StoreMeaning.{flat_meaning, flat_sound};
+
+    ghost means = { flat_meaning };
+
+    fn taken(&self, home: Home) -> bool {
+        (home.0 as usize) < self.pages.len() && self.pages[home.0 as usize].taken
+    }
+
+    #[inline]
+    fn word(&self, home: Home, at: u16) -> Option<Word> {
+        Some(self.pages[home.0 as usize].words[at as usize])
+    }
+
+    #[inline]
+    fn put(&mut self, home: Home, at: u16, word: Word) -> bool {
+        let page = &mut self.pages[home.0 as usize];
+        page.words[at as usize] = word;
+        true
+    }
+
+    fn used(&mut self, home: Home) {}
+
+    #[inline]
+    fn find(&self, home: Home) -> Option<Found> {
+        Some(Found(home.0))
+    }
+
+    #[inline]
+    fn load(&self, found: Found, at: u16) -> Word {
+        self.pages[found.0 as usize].words[at as usize]
+    }
+
+    #[inline]
+    fn store(&mut self, found: Found, at: u16, word: Word) {
+        let page = &mut self.pages[found.0 as usize];
+        page.words[at as usize] = word;
+    }
+
+    fn room(&self, pages: u32) -> Room {
+        if self.spare < pages {
+            Room::Full
+        } else {
+            Room::Enough
+        }
+    }
+
+    fn make(&mut self) -> Home {
+        self.spare -= 1;
+        let home = self.homes[self.spare as usize];
+        let page = &mut self.pages[home.0 as usize];
+        page.taken = true;
+        page.words = zero_page();
+        home
+    }
+
+    fn copy(&mut self, from: Home) -> Home {
+        self.spare -= 1;
+        let home = self.homes[self.spare as usize];
+        let words = self.pages[from.0 as usize].words;
+        let page = &mut self.pages[home.0 as usize];
+        page.taken = true;
+        page.words = words;
+        home
+    }
+
+    fn free(&mut self, home: Home) {
+        let page = &mut self.pages[home.0 as usize];
+        page.taken = false;
+        self.homes[self.spare as usize] = home;
+        self.spare += 1;
+    }
+
+    fn fetch(&mut self, need: Need) -> Need {
+        Need::Frame
+    }
+
+    fn complete<D: Drum>(&mut self, drum: &mut D) -> Completed {
+        Completed::Nothing
+    }
+
+    fn cancelled(&mut self) -> Option<Need> {
+        None
+    }
+
+    fn evict(&mut self, frame: FrameId) {}
+
+    fn keep(&mut self, holder: u16, home: Home) {}
+
+    fn held(&self, holder: u16) -> u32 {
+        0
+    }
+
+    fn let_go(&mut self, holder: u16) {}
+
+    fn members(&self) -> u32 {
+        u32::MAX
+    }
+
+    ghost sound = { flat_sound };
+}
