@@ -1,0 +1,11 @@
+pub mod Values
+pub mod Ranges
+pub mod Slots
+pub mod Tables
+pub mod TableChanges
+pub mod Kept
+pub mod Upward
+pub mod Leaves
+pub mod Rounds
+pub mod Listed
+pub mod Branches

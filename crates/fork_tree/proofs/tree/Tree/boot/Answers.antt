@@ -1,0 +1,20 @@
+use Rattle.std.proofs.Common.{◌≡◌, ◌∙◌, sym, ap, subst, refl, rules, List, ℕ, replicate}
+use Rattle.plain_model.specs.State.{first_serials}
+use Rattle.plain_model.specs.Forks.{ForkMap}
+use Rattle.fork_tree.specs.Trees.{IsTree, PlainTree, no_forks}
+use Rattle.fork_tree.proofs.Kept.{none_tree}
+use Rattle.fork_tree.proofs.tree.Tree.boot.Goals as goal
+
+ones : (serials : List ℕ) (n : ℕ) → n ≡ 16 → serials ≡ replicate n 1 → serials ≡ first_serials
+unfolding first_serials
+ones serials n is e = e ∙ ap (λ k. replicate k 1) is
+
+pub invariant_of-result : goal.invariant_of-result
+invariant_of-result c =
+    let serials = ones c.in_ok-vec.field-0.items c.from.result c.from.ensures (c.in_ok-vec.ensures.items_if_clones_equal (λ y h. search rules)) in
+    rw (c.in_ok-boot.ensures, serials) none_tree
+
+pub returns : goal.returns
+returns c =
+    let serials = ones c.in_ok-vec.field-0.items c.from.result c.from.ensures (c.in_ok-vec.ensures.items_if_clones_equal (λ y h. search rules)) in
+    rw (c.in_ok-boot.ensures, serials) refl

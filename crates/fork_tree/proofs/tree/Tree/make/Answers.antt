@@ -1,0 +1,50 @@
+use Rattle.std.proofs.Common.{◌≡◌, ◌∙◌, ◌≤◌, sym, ap, subst, arith, refl, Some, None, get_or, Ok}
+use Rattle.std.specs.Prelude.{IsSome, MatchOption}
+use Rattle.std.proofs.lemmas.List.{get_or_read}
+use Rattle.std.specs.FinMap as map
+use Rattle.plain_model.specs.Forks.{fork_in}
+use Rattle.fork_tree.specs.Making.{free_slot, new_fork}
+use Rattle.fork_tree.specs.Trees.{PlainTree}
+use Rattle.fork_tree.proofs.Kept.{made_tree, new_name, slot_first, slot_free, slot_last}
+use Rattle.fork_tree.proofs.tree.Tree.make.Goals as goal
+
+pub insert-requires-clause-first : goal.insert-requires-clause-first
+insert-requires-clause-first c =
+    let t = c.self.inside in
+    let tree : PlainTree = record { forks = t.forks; serials = t.serials.items } in
+    let serial : c.index-serial.result.now ≡ get_or t.serials.items c.args.tty.0 0 =
+    get_or_read t.serials.items c.from.result c.index-serial.result.now (omega (arith, c.from.ensures, c.self.invariant.terminals, c.requires.terminal)) c.index-serial.ensures 0
+    ∙ ap (λ i. get_or t.serials.items i 0) c.from.ensures in
+    let over = subst (λ m. MatchOption c.args.superior (fork_in m c.args.tty 1 ≡ None) (λ s. IsSome (fork_in m c.args.tty s))) (sym (ap (λ x. x.forks) c.self.view_is)) c.requires.superior in
+    rw c.new_fork.ensures (slot_first tree c.args.tty c.args.superior c.in-Some.slot c.self.invariant c.requires.terminal (sym c.in-Some.ensures) (omega (arith, serial, c.if-serial-gt-LAST_SERIAL.false)) over)
+
+pub insert-requires-clause-last : goal.insert-requires-clause-last
+insert-requires-clause-last c =
+    let t = c.self.inside in
+    let tree : PlainTree = record { forks = t.forks; serials = t.serials.items } in
+    let serial : c.index-serial.result.now ≡ get_or t.serials.items c.args.tty.0 0 =
+    get_or_read t.serials.items c.from.result c.index-serial.result.now (omega (arith, c.from.ensures, c.self.invariant.terminals, c.requires.terminal)) c.index-serial.ensures 0
+    ∙ ap (λ i. get_or t.serials.items i 0) c.from.ensures in
+    let over = subst (λ m. MatchOption c.args.superior (fork_in m c.args.tty 1 ≡ None) (λ s. IsSome (fork_in m c.args.tty s))) (sym (ap (λ x. x.forks) c.self.view_is)) c.requires.superior in
+    rw c.new_fork.ensures (slot_last tree c.args.tty c.args.superior c.in-Some.slot c.self.invariant c.requires.terminal (sym c.in-Some.ensures) (omega (arith, serial, c.if-serial-gt-LAST_SERIAL.false)) over)
+
+pub insert-requires-clause-free : goal.insert-requires-clause-free
+insert-requires-clause-free c =
+    let t = c.self.inside in
+    let tree : PlainTree = record { forks = t.forks; serials = t.serials.items } in
+    let serial : c.index-serial.result.now ≡ get_or t.serials.items c.args.tty.0 0 =
+    get_or_read t.serials.items c.from.result c.index-serial.result.now (omega (arith, c.from.ensures, c.self.invariant.terminals, c.requires.terminal)) c.index-serial.ensures 0
+    ∙ ap (λ i. get_or t.serials.items i 0) c.from.ensures in
+    let over = subst (λ m. MatchOption c.args.superior (fork_in m c.args.tty 1 ≡ None) (λ s. IsSome (fork_in m c.args.tty s))) (sym (ap (λ x. x.forks) c.self.view_is)) c.requires.superior in
+    rw c.new_fork.ensures (slot_free tree c.args.tty c.args.superior c.in-Some.slot c.self.invariant c.requires.terminal (sym c.in-Some.ensures) (omega (arith, serial, c.if-serial-gt-LAST_SERIAL.false)) over)
+
+pub invariant_of-self : goal.invariant_of-self
+invariant_of-self c =
+    let t = c.self.inside in
+    let tree : PlainTree = record { forks = t.forks; serials = t.serials.items } in
+    let serial : c.index-serial.result.now ≡ get_or t.serials.items c.args.tty.0 0 =
+    get_or_read t.serials.items c.from.result c.index-serial.result.now (omega (arith, c.from.ensures, c.self.invariant.terminals, c.requires.terminal)) c.index-serial.ensures 0
+    ∙ ap (λ i. get_or t.serials.items i 0) c.from.ensures in
+    let over = subst (λ m. MatchOption c.args.superior (fork_in m c.args.tty 1 ≡ None) (λ s. IsSome (fork_in m c.args.tty s))) (sym (ap (λ x. x.forks) c.self.view_is)) c.requires.superior in
+    rw (c.insert.ensures, c.new_fork.ensures, c.from-2.ensures, serial)
+    (made_tree tree c.args.tty c.args.superior c.in-Some.slot c.self.invariant c.requires.terminal (sym c.in-Some.ensures) (omega (arith, serial, c.if-serial-gt-LAST_SERIAL.false)) over)

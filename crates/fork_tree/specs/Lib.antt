@@ -1,0 +1,7 @@
+pub mod Trees
+pub mod Making
+pub mod Inferiors
+pub mod Changes
+pub mod Turns
+pub mod Places
+pub mod Lending

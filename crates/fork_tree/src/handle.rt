@@ -1,0 +1,34 @@
+// What a program calls forks of its job.
+ghost use Rattle.std.specs.Prelude.{◌≡◌};
+ghost use Rattle.std.specs.Option.{option_copied, option_map};
+ghost use Rattle.plain_model.specs.Handles.{named as named_of, named_by};
+
+use crate::tree::{Tree, name_of};
+use plain_model::call::{FIRST_HANDLE, FORK_SELF, FORK_SUPERIOR, LAST_HANDLE};
+use plain_model::{Fork, ForkName};
+
+impl Tree {
+    // The fork that a handle of a living fork names.
+    fn named_by<'a>(&'a self, caller: &'a Fork, handle: u32) -> Option<&'a Fork>
+        ensures { option_copied result ≡ named_by self.now.forks handle caller.now }
+    {
+        match handle {
+            FORK_SELF => Some(caller),
+            FORK_SUPERIOR => self.superior(caller),
+            FIRST_HANDLE..=LAST_HANDLE => self.fork_at(caller.name.tty, (handle - FORK_SELF) as u8),
+            _ => None,
+        }
+    }
+
+    /// The fork that a handle names: 400000 octal is the caller, 777777 its superior, and 400000 and a slot, 1 to 30, the fork of its job in
+    /// that slot. None exactly where the handle names no living fork, or the caller does not live. One step.
+    #[tactic(auto, unfolding(plain_model::specs::Handles::named))]
+    pub fn named(&self, who: ForkName, handle: u32) -> Option<ForkName>
+        ensures { result ≡ option_map (λ f. f.name) (named_of self.now.forks who handle) }
+    {
+        match self.fork(who) {
+            Some(caller) => name_of(self.named_by(caller, handle)),
+            None => None,
+        }
+    }
+}

@@ -1,0 +1,74 @@
+// What follows from the definitions, in the words of their users. A law does nothing when it runs.
+ghost use Rattle.std.specs.Prelude.{◌≡◌, ◌≢◌, ◌↔◌, ◌≤◌, ◌<◌, ◌||◌, ℕ, Option, Some, None, Ok, Err, Contains, MatchBool, length, true, false};
+ghost use Rattle.std.specs.FinMap as map;
+ghost use Rattle.plain_model.specs.declared.fork.Fork.{Fork as AFork};
+ghost use Rattle.plain_model.specs.declared.names.ForkName.{ForkName as AForkName};
+ghost use Rattle.plain_model.specs.declared.names.Tty.{Tty as ATty};
+ghost use Rattle.plain_model.specs.declared.names.TheConstants.{MOST_FORKS};
+ghost use Rattle.plain_model.specs.Forks.{ForkMap, IsRunnable, fork_in, forks_by_slot, is_frozen};
+ghost use Rattle.plain_model.specs.Pages.{same_fork};
+ghost use Rattle.plain_model.specs.State.{PlainState, opening};
+ghost use Rattle.fork_tree.specs.Inferiors.{HasNoInferior, IsInferior, IsLeafBelow, is_inferior, without_branch};
+ghost use Rattle.fork_tree.specs.Making.{Makes, new_fork, room_for};
+ghost use Rattle.fork_tree.specs.Trees.{CanRun, IsAncestor, IsTree, Lives, PlainTree, above, tree_of};
+ghost use Rattle.fork_tree.specs.Turns.{IsPlace, steps_to};
+
+use crate::NoFork;
+
+/// The forks of the opening state are trees.
+pub fn trees_from_the_opening()
+    ensures { (limit : ℕ) → IsTree (tree_of (opening limit)) }
+{}
+
+/// A fork that was made is found under its name, which no fork had, and in a slot that was free, with the
+/// superior that was given. Every other fork stays.
+pub fn a_made_fork_is_found()
+    ensures found { (old new : PlainTree) (t : ATty) (superior : Option ℕ) (name : AForkName) → IsTree old → IsTree new → Makes old new t superior (Ok name)
+        → (slot : ℕ) × (map.get new.forks name ≡ Some (new_fork name slot superior)) × (fork_in new.forks t slot ≡ Some (new_fork name slot superior))
+        × (map.get old.forks name ≡ None) × (fork_in old.forks t slot ≡ None) }
+    ensures others { (old new : PlainTree) (t : ATty) (superior : Option ℕ) (name : AForkName) → Makes old new t superior (Ok name)
+        → (q : AForkName) → q ≢ name → map.get new.forks q ≡ map.get old.forks q }
+{}
+
+/// A job has at most thirty forks, each once in the list by slots, and is full exactly where it has thirty.
+pub fn a_full_job_has_thirty_forks()
+    ensures most { (forks : ForkMap) (t : ATty) → length (forks_by_slot forks t) ≤ MOST_FORKS }
+    ensures listed { (tree : PlainTree) (f : AFork) → IsTree tree → Lives tree.forks f → Contains (forks_by_slot tree.forks f.name.tty) f }
+    ensures full { (tree : PlainTree) (t : ATty) → (room_for tree t ≡ Err NoFork.ForksFull) ↔ (length (forks_by_slot tree.forks t) ≡ MOST_FORKS) }
+{}
+
+/// An ancestor lives, in the same job, and is older; so nobody is its own ancestor, and nobody has thirty.
+pub fn ancestors_are_older()
+    ensures older { (tree : PlainTree) (f g : AFork) → IsTree tree → Lives tree.forks f → IsAncestor tree.forks g f
+        → Lives tree.forks g × (g.name.tty.0 ≡ f.name.tty.0) × (g.name.serial < f.name.serial) }
+    ensures apart { (tree : PlainTree) (f : AFork) → IsTree tree → Lives tree.forks f → IsAncestor tree.forks f f → ⊥ }
+    ensures few { (tree : PlainTree) (f : AFork) → IsTree tree → Lives tree.forks f → above MOST_FORKS tree.forks f ≡ None }
+{}
+
+/// A fork is an inferior of another exactly where the other is its ancestor.
+pub fn inferiors_have_it_above()
+    ensures { (tree : PlainTree) (who name : AForkName) → IsTree tree → (is_inferior tree.forks who name ≡ true) ↔ IsInferior tree.forks who name }
+{}
+
+/// A fork is frozen exactly where it or an ancestor is marked; and a fork can run exactly where the plain
+/// machine may run it.
+pub fn forks_are_frozen_from_above()
+    ensures frozen { (tree : PlainTree) (f : AFork) → IsTree tree → Lives tree.forks f
+        → (is_frozen MOST_FORKS tree.forks (Some f) ≡ false) ↔ ((f.frozen ≡ false) × ((g : AFork) → IsAncestor tree.forks g f → g.frozen ≡ false)) }
+    ensures runs { (s : PlainState) (name : AForkName) → IsRunnable s name ↔ CanRun s.forks name }
+{}
+
+/// Who kills a fork's inferiors that have none themselves, one after another, and then the fork, kills the fork
+/// and all its inferiors and nobody else.
+pub fn a_branch_is_killed_from_below()
+    ensures gone { (forks : ForkMap) (who name : AForkName)
+        → MatchBool (same_fork name who || is_inferior forks who name) (map.get (without_branch forks who) name ≡ None) (map.get (without_branch forks who) name ≡ map.get forks name) }
+    ensures leaf { (tree : PlainTree) (who : AForkName) (f : AFork) → IsTree tree → IsLeafBelow tree.forks who f → without_branch (map.remove tree.forks f.name) who ≡ without_branch tree.forks who }
+    ensures last { (forks : ForkMap) (who : AForkName) → HasNoInferior forks who → without_branch forks who ≡ map.remove forks who }
+{}
+
+/// Of all places the one that a turn is behind comes last, and no two come together.
+pub fn who_ran_comes_last()
+    ensures last { (p q : ℕ) → IsPlace p → IsPlace q → steps_to p q ≤ steps_to p p }
+    ensures apart { (p q r : ℕ) → IsPlace p → IsPlace q → IsPlace r → steps_to p q ≡ steps_to p r → q ≡ r }
+{}

@@ -1,0 +1,22 @@
+//! The forks of all jobs: which live, in which slots, and who is whose superior.
+//! To the layers above a tree is the plain machine's finite map of forks, with the next serial of each terminal.
+//! Stands on `plain_model` for forks and for that map.
+#![tactic(auto)]
+
+mod fork_table;
+mod handle;
+mod inferiors;
+mod laws;
+mod making;
+mod runnable;
+mod tree;
+
+pub use laws::{
+    a_branch_is_killed_from_below, a_full_job_has_thirty_forks, a_made_fork_is_found,
+    ancestors_are_older, forks_are_frozen_from_above, inferiors_have_it_above,
+    trees_from_the_opening, who_ran_comes_last,
+};
+pub use tree::{NoFork, Tree};
+
+#[cfg(test)]
+mod tests;
