@@ -1,0 +1,10 @@
+pub mod Walking
+pub mod Changing
+pub mod Near
+pub mod Words
+pub mod Stepping
+pub mod Answering
+pub mod Lookups
+pub mod Judged
+pub mod Settling
+pub mod WordsSeen

@@ -1,0 +1,23 @@
+use Rattle.std.proofs.Common.{◌+◌, sym, ◌∙◌, ap, subst}
+use Rattle.std.specs.Option.{option_map}
+use Rattle.plain_model.specs.State.{NumberedPages}
+use Rattle.plain_model.specs.Pages.{room_for}
+use Rattle.page_gather.specs.declared.judging.Judged.{Judged}
+use Rattle.page_gather.specs.Gathering.{after_all, Judges}
+use Rattle.page_gather.proofs.Judged.{judges_denied, judges_found}
+use Rattle.page_gather.proofs.judging.judge_found.Goals as goal
+
+pub returns-then-not-permits-clause-told : goal.returns-then-not-permits-clause-told
+returns-then-not-permits-clause-told g c d owner rs fits k j =
+    let p : NumberedPages = g.P.Pages.means.plain c.args.pages.now d in
+    subst (λ (x : Judged). Judges p (g.P.Pages.means.scene c.args.pages.now) owner rs c.args.changes.now c.args.r x.answer x.makings x.homes) (sym c.refused.ensures)
+    (judges_denied p _ owner rs c.args.changes.now c.args.homes c.args.r k c.args.w j (sym c.if-not-permits.ensures))
+
+pub returns-clause-told : goal.returns-clause-told
+returns-clause-told g c d owner rs fits k j =
+    let p : NumberedPages = g.P.Pages.means.plain c.args.pages.now d in
+    let a = g.met.P.Pages.agrees c.args.pages.now d fits in
+    judges_found p _ owner rs c.args.changes.now c.args.homes c.args.r k c.args.w j c.makings_of-makings.result (c.args.homes + c.homes.result)
+    (c.makings_of-makings.ensures.told d (after_all p owner rs) owner c.args.homes fits j (sym c.if-not-permits.ensures)) (ap (λ n. c.args.homes + n) c.homes.ensures) c.room.result
+    (c.room.ensures.answer ∙ λ i. room_for (a.number i) (a.bound i) (g.P.Pages.means.scene c.args.pages.now).free_frames (c.args.homes + c.homes.result))
+    (option_map (λ home. home.0) c.page_away.result) (c.page_away.ensures.told d (after_all p owner rs) owner c.args.homes c.args.r.slot fits j) c.conclude-answer.result c.conclude-answer.ensures.answer
