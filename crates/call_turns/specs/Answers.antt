@@ -1,0 +1,41 @@
+-- What a turn answers, and what it leaves of the parts that its call sees.
+use Rattle.std.specs.Prelude.{◌≡◌, ◌⊎◌, [], ◌∷◌, None}
+use Rattle.plain_model.specs.declared.call.End.{End}
+use Rattle.plain_model.specs.declared.call.End.TheVariants as end
+use Rattle.plain_model.specs.declared.fork.Answer.{Answer}
+use Rattle.plain_model.specs.declared.fork.Answer.TheVariants.{After, Refused, Trap, Need as Needs}
+use Rattle.plain_model.specs.declared.fork.Chars.{Chars}
+use Rattle.plain_model.specs.declared.map.Need.{Need}
+use Rattle.plain_model.specs.Pages.{Scene}
+use Rattle.plain_model.specs.Calls.{parts_behind}
+use Rattle.call_turns.specs.Telling.{IsReason}
+
+-- nothing is printed
+abbrev pub no_chars : Chars
+no_chars = record { count = 0; codes = 0 ∷ 0 ∷ [] }
+
+abbrev pub answer_of : {C : Type 0} → End C → Answer
+answer_of (end.Done change regs) = After regs no_chars None
+answer_of (end.Refused code) = Refused code
+answer_of (end.Trap channel) = Trap channel
+
+-- a turn went to its end: its answer says how, and its change is made
+pub record Went {C V : Type 0} (changed : C → V → V) (old new : V) (answer : Answer) (e : End C) : Type 0 where
+  pub answered : answer ≡ answer_of e
+  pub left : new ≡ parts_behind changed old e
+
+-- a turn needs something first, and leaves all as it was
+pub record Waits {V : Type 0} (scene : Scene) (old new : V) (answer : Answer) : Type 0 where
+  pub need : Need
+  pub answered : answer ≡ Needs need
+  pub reason : IsReason scene need
+  pub left : new ≡ old
+
+-- a turn of a call that ends so over the plain pages: it went there, or needs something first
+abbrev pub IsTurn : {C V : Type 0} → Scene → (C → V → V) → V → V → Answer → End C → Type 0
+IsTurn scene changed old new answer e = Went changed old new answer e ⊎ Waits scene old new answer
+
+-- an answer that needs nothing first
+abbrev pub IsDone : Answer → Type 0
+IsDone (Needs need) = ⊥
+IsDone answer = Unit {0}

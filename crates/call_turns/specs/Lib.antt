@@ -1,0 +1,3 @@
+pub mod Turns
+pub mod Telling
+pub mod Answers

@@ -1,0 +1,51 @@
+-- A turn as it is driven: its first step and what is left of it, and the whole turn that this comes to.
+use Rattle.std.specs.Prelude.{ℕ, zero, suc, ◌<◌, Option, None}
+use Rattle.plain_model.specs.declared.call.End.{End}
+use Rattle.plain_model.specs.declared.call.End.TheVariants.{Done, Refused, Trap}
+use Rattle.plain_model.specs.declared.channel.TheConstants.{ILLEGAL_INSTRUCTION}
+use Rattle.plain_model.specs.declared.names.TheConstants.{SPACE_PAGES}
+use Rattle.plain_model.specs.declared.names.PageName.{PageName}
+use Rattle.plain_model.specs.declared.map.MapEntry.{MapEntry}
+use Rattle.plain_model.specs.declared.map.MapEntry.TheVariants.{Empty}
+use Rattle.plain_model.specs.Calls.{Turn, sees, finds, ends}
+use Rattle.call_turns.specs.declared.turn.Ask.{Ask}
+use Rattle.call_turns.specs.declared.turn.Ask.TheVariants.{Sees, Finds}
+use Rattle.call_turns.specs.declared.turn.Reply.{Reply}
+use Rattle.call_turns.specs.declared.turn.Reply.TheVariants.{Entry, Page}
+use Rattle.call_turns.specs.declared.turn.Turn.{Turn as Step}
+use Rattle.call_turns.specs.declared.turn.Turn.TheVariants.{Ends, Asks}
+
+abbrev pub entry_in : Reply → MapEntry
+entry_in (Entry e) = e
+entry_in (Page n) = Empty
+
+abbrev pub page_in : Reply → Option PageName
+page_in (Entry e) = None
+page_in (Page n) = n
+
+-- asks, and goes on with what is told
+abbrev pub asking : {C : Type 0} → Ask → (Reply → Turn C) → Turn C
+asking (Sees s) next = sees s (λ e. next (Entry e))
+asking (Finds s) next = finds s (λ n. next (Page n))
+
+-- the whole turn, where what is left is done after each reply, and where more than so many asks trap
+abbrev pub turn_of : {C S : Type 0} → (S → Reply → Step C S) → Step C S → ℕ → Turn C
+turn_of later (Ends e) n = ends e
+turn_of later (Asks what rest) zero = ends (Trap ILLEGAL_INSTRUCTION)
+turn_of later (Asks what rest) (suc n) = asking what (λ r. turn_of later (later rest r) n)
+
+-- what is asked is of a page of a fork's space
+abbrev pub IsAsk : Ask → Type 0
+IsAsk (Sees s) = s.page < SPACE_PAGES
+IsAsk (Finds s) = s.page < SPACE_PAGES
+
+-- a change that is made is sound
+abbrev pub FitsEnd : {C : Type 0} → (C → Type 0) → End C → Type 0
+FitsEnd sound (Done change regs) = sound change
+FitsEnd sound (Refused code) = Unit {0}
+FitsEnd sound (Trap channel) = Unit {0}
+
+-- what is asked is of a page, what is left holds, and a change that is made is sound
+abbrev pub FitsTurn : {C S : Type 0} → (S → Type 0) → (C → Type 0) → Step C S → Type 0
+FitsTurn holds sound (Ends e) = FitsEnd sound e
+FitsTurn holds sound (Asks what rest) = IsAsk what × holds rest

@@ -1,0 +1,72 @@
+// What a turn asks, asked of pages of which some may be in no frame.
+ghost use Rattle.std.specs.Prelude.{◌≡◌, ◌<◌, ℕ, true, IsOk};
+ghost use Rattle.plain_model.specs.declared.names.Access.{Access as AnAccess};
+ghost use Rattle.plain_model.specs.declared.names.TheConstants.{SPACE_PAGES};
+ghost use Rattle.plain_model.specs.Outcome.{DrumWords};
+ghost use Rattle.plain_model.specs.Calls.{entry_of};
+ghost use Rattle.plain_model.specs.Maps.{entry_at};
+ghost use Rattle.call_turns.specs.Telling.{IsTold, page_within, told_of};
+ghost use Rattle.call_turns.specs.Turns.{IsAsk};
+
+use crate::{Ask, Reply};
+use plain_model::{ForkName, MapEntry, Need, PageName, Pages, Seen, Slot};
+
+/// How many links a chain has at most.
+const MOST_LINKS: u32 = 4;
+
+// The entry of a slot, Empty where its fork isn't there.
+fn entry_of<P: Pages>(pages: &P, slot: Slot) -> Result<MapEntry, Need>
+    requires { slot.page < SPACE_PAGES }
+    ensures told { (d : DrumWords) → P.means.fits pages.now d → IsTold (P.means.scene pages.now) result (entry_of (P.means.plain pages.now d) slot) }
+    ensures page { (serial page : ℕ) (a : AnAccess) → result ≡ Ok (MapEntry.Follows serial page a) → page < SPACE_PAGES }
+    ensures core { P.means.flat ≡ true → IsOk result }
+{
+    match pages.entry(slot) {
+        Seen::Is(entry) => Ok(entry),
+        Seen::Missing => Ok(MapEntry::Empty),
+        Seen::Absent(home) => Err(Need::Page(home)),
+    }
+}
+
+// The page at the end of a slot's chain, where so many links are enough.
+fn page_within<P: Pages>(pages: &P, slot: Slot, links: u32) -> Result<Option<PageName>, Need>
+    requires { slot.page < SPACE_PAGES }
+    ensures told { (d : DrumWords) → P.means.fits pages.now d → IsTold (P.means.scene pages.now) result (page_within links (entry_at (P.means.plain pages.now d).maps) slot) }
+    ensures core { P.means.flat ≡ true → IsOk result }
+{
+    if links == 0 {
+        return Ok(None);
+    }
+    match entry_of(pages, slot) {
+        Ok(entry) => match entry {
+            MapEntry::Empty => Ok(None),
+            MapEntry::Names(name, _) => Ok(Some(name)),
+            MapEntry::Follows(serial, page, _) => {
+                let fork = ForkName {
+                    tty: slot.fork.tty,
+                    serial,
+                };
+                page_within(pages, Slot { fork, page }, links - 1)
+            }
+        },
+        Err(need) => Err(need),
+    }
+}
+
+/// Asks the pages.
+pub fn ask<P: Pages>(what: Ask, pages: &P) -> Result<Reply, Need>
+    requires { IsAsk what }
+    ensures told { (d : DrumWords) → P.means.fits pages.now d → IsTold (P.means.scene pages.now) result (told_of (P.means.plain pages.now d) what) }
+    ensures core { P.means.flat ≡ true → IsOk result }
+{
+    match what {
+        Ask::Sees(slot) => match entry_of(pages, slot) {
+            Ok(entry) => Ok(Reply::Entry(entry)),
+            Err(need) => Err(need),
+        },
+        Ask::Finds(slot) => match page_within(pages, slot, MOST_LINKS) {
+            Ok(page) => Ok(Reply::Page(page)),
+            Err(need) => Err(need),
+        },
+    }
+}

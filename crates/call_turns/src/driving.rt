@@ -1,0 +1,59 @@
+// A turn, driven to its end: all that it asks is asked, and nothing is changed.
+ghost use Rattle.std.specs.Prelude.{◌≡◌, true, IsOk, IfOk};
+ghost use Rattle.plain_model.specs.Outcome.{DrumWords};
+ghost use Rattle.plain_model.specs.Calls.{end_of};
+ghost use Rattle.call_turns.specs.Telling.{IsTold};
+ghost use Rattle.call_turns.specs.Turns.{FitsTurn, FitsEnd, turn_of};
+ghost use Rattle.call_turns.specs.declared.turn.Reply.{Reply as AReply};
+ghost use Rattle.call_turns.specs.declared.turn.Turn.{Turn as ATurn};
+
+use crate::asking::ask;
+use crate::{Reply, Turn};
+use plain_model::call::End;
+use plain_model::channel::ILLEGAL_INSTRUCTION;
+use plain_model::{Need, Pages};
+
+/// What is left of a call's turn, over the parts of the machine that its crate sees.
+pub trait Rest<C, V> {
+    /// What it does with what it is told.
+    ghost later: { V → Self → AReply → ATurn C Self };
+
+    /// What holds of it.
+    ghost holds: { Self → Type 0 };
+
+    /// What holds of a change that it makes.
+    ghost sound: { C → Type 0 };
+
+    /// Goes on with what it is told.
+    fn later(self, parts: &V, reply: Reply) -> Turn<C, Self>
+        requires { holds self }
+        ensures later { result ≡ later parts.now self reply }
+        ensures fits { FitsTurn holds sound result };
+}
+
+/// Drives a turn to its end. A turn asks so many things at most: one that would ask more traps. A need comes only
+/// where what it asks for stands in no frame.
+pub fn driven<C: Copy, V, S: Rest<C, V> + Copy, P: Pages>(
+    turn: Turn<C, S>,
+    most: u32,
+    parts: &V,
+    pages: &P,
+) -> Result<End<C>, Need>
+    requires turn { FitsTurn S.holds S.sound turn }
+    ensures sound { IfOk result (FitsEnd S.sound) }
+    ensures told { (d : DrumWords) → P.means.fits pages.now d → IsTold (P.means.scene pages.now) result (end_of (P.means.plain pages.now d) (turn_of (S.later parts.now) turn most)) }
+    ensures core { P.means.flat ≡ true → IsOk result }
+{
+    match turn {
+        Turn::Ends(end) => Ok(end),
+        Turn::Asks(what, rest) => {
+            if most == 0 {
+                return Ok(End::Trap(ILLEGAL_INSTRUCTION));
+            }
+            match ask(what, pages) {
+                Ok(reply) => driven(rest.later(parts, reply), most - 1, parts, pages),
+                Err(need) => Err(need),
+            }
+        }
+    }
+}

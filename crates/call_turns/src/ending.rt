@@ -1,0 +1,52 @@
+// How a turn ends.
+ghost use Rattle.std.specs.Prelude.{◌≡◌, ◌<◌, ◌^◌, length};
+ghost use Rattle.plain_model.specs.Calls.{behind_call, returning as returning_of, with_ac as with_ac_of};
+ghost use Rattle.call_turns.specs.Answers.{answer_of as answer_to};
+
+use plain_model::call::End;
+use plain_model::{Answer, Chars, Regs};
+use word36::Word;
+
+/// The registers with a word in an accumulator, 0 to 15.
+pub fn with_ac(mut regs: Regs, ac: usize, word: Word) -> Regs
+    requires { ac < length regs.ac }
+    ensures { result ≡ with_ac_of regs ac word }
+{
+    regs.ac[ac] = word;
+    regs
+}
+
+/// The registers behind the call: the program counter goes on by one, modulo 2^18.
+pub fn behind(mut regs: Regs) -> Regs
+    requires { regs.pc < 2 ^ 18 }
+    ensures { result ≡ behind_call regs }
+{
+    regs.pc = regs.pc + 1 & Word::HALF_MASK;
+    regs
+}
+
+/// The call is done, and returns with these registers.
+pub fn returning<C>(change: C, regs: Regs) -> End<C>
+    requires { regs.pc < 2 ^ 18 }
+    ensures { result ≡ returning_of change regs }
+{
+    End::Done(change, behind(regs))
+}
+
+/// The answer of a turn that ends so.
+pub fn answer_of<C: Copy>(end: End<C>) -> Answer
+    ensures { result ≡ answer_to end }
+{
+    match end {
+        End::Done(_, regs) => Answer::After {
+            regs,
+            out: Chars {
+                count: 0,
+                codes: [0; 2],
+            },
+            post: None,
+        },
+        End::Refused(code) => Answer::Refused(code),
+        End::Trap(channel) => Answer::Trap(channel),
+    }
+}

@@ -1,0 +1,59 @@
+-- A change as the pages make it, and as the plain call has it.
+use Rattle.std.proofs.Common.{◌≡◌, ℕ, Option, None, Some, refl, sym, ap}
+use Rattle.std.specs.Option.{option_map_or}
+use Rattle.plain_model.specs.declared.call.End.{End}
+use Rattle.plain_model.specs.declared.call.End.TheVariants.{Done, Refused, Trap}
+use Rattle.plain_model.specs.declared.call.MapChange.{MapChange}
+use Rattle.plain_model.specs.declared.call.MapChange.TheVariants.{Nothing, Unmap, Follow, Narrow}
+use Rattle.plain_model.specs.declared.fork.Regs.{Regs}
+use Rattle.plain_model.specs.declared.names.Access.{Access}
+use Rattle.plain_model.specs.declared.names.Slot.{Slot}
+use Rattle.plain_model.specs.declared.map.MapEntry.{MapEntry}
+use Rattle.plain_model.specs.declared.map.NewEntry.{NewEntry}
+use Rattle.plain_model.specs.declared.map.NewEntry.TheVariants as new
+use Rattle.plain_model.specs.declared.map.Seen.TheVariants.{Is, Missing}
+use Rattle.plain_model.specs.State.{NumberedPages}
+use Rattle.plain_model.specs.Maps.{entry_at}
+use Rattle.plain_model.specs.References.{with_entry}
+use Rattle.plain_model.specs.Pages.{Scene, seen_of, map_away_or, changed, entry_to}
+use Rattle.plain_model.specs.Calls.{parts_behind}
+use Rattle.plain_model.specs.MapCalls.{map_changed}
+
+module _ (p : NumberedPages) where
+  -- where no fork is there is no entry to be set
+  pub missing_stays : (scene : Scene) (s : Slot) (e : NewEntry) → Missing ≡ seen_of p scene s → p ≡ changed p s e
+  unfolding seen_of changed
+  missing_stays scene s e h = by (entry_at p.maps s) (scene.map_away s.fork) h
+    where
+      by : (o : Option MapEntry) (away : Option ℕ) → Missing ≡ option_map_or (λ x. map_away_or away (Is x)) o Missing → p ≡ option_map_or (λ x. with_entry p s (entry_to p e x)) o p
+      by None away h = refl
+      by (Some x) None h = absurd (cc h)
+      by (Some x) (Some home) h = absurd (cc h)
+
+  pub nothing_changed : (what : MapChange) → what ≡ Nothing → p ≡ map_changed what p
+  unfolding map_changed
+  nothing_changed what is = sym (ap (λ w. map_changed w p) is)
+
+  pub unmaps : (what : MapChange) (s : Slot) → what ≡ Unmap s → changed p s new.Empty ≡ map_changed what p
+  unfolding map_changed changed
+  unmaps what s is = sym (ap (λ w. map_changed w p) is)
+
+  pub follows : (what : MapChange) (s t : Slot) (a : Access) → what ≡ Follow s t a → changed p s (new.Follows t.fork.serial t.page a) ≡ map_changed what p
+  unfolding map_changed changed
+  follows what s t a is = sym (ap (λ w. map_changed w p) is)
+
+  pub narrows : (what : MapChange) (s : Slot) (a : Access) → what ≡ Narrow s a → changed p s (new.Narrow a) ≡ map_changed what p
+  unfolding map_changed changed
+  narrows what s a is = sym (ap (λ w. map_changed w p) is)
+
+  pub behind_done : (e : End MapChange) (what : MapChange) (regs : Regs) → e ≡ Done what regs → map_changed what p ≡ parts_behind map_changed p e
+  unfolding parts_behind
+  behind_done e what regs is = sym (ap (parts_behind map_changed p) is)
+
+  pub behind_refused : (e : End MapChange) (code : ℕ) → e ≡ Refused code → p ≡ parts_behind map_changed p e
+  unfolding parts_behind
+  behind_refused e code is = sym (ap (parts_behind map_changed p) is)
+
+  pub behind_trap : (e : End MapChange) (channel : ℕ) → e ≡ Trap channel → p ≡ parts_behind map_changed p e
+  unfolding parts_behind
+  behind_trap e channel is = sym (ap (parts_behind map_changed p) is)

@@ -1,0 +1,17 @@
+use Rattle.std.proofs.Common.{◌∙◌, sym, ap, inl}
+use Rattle.call_turns.specs.Answers.{answer_of}
+use Rattle.pmap_calls.proofs.Changes.{behind_done, behind_refused, behind_trap}
+use Rattle.pmap_calls.proofs.turn.end.Goals as goal
+
+pub returns-in-Ok-clause-told : goal.returns-in-Ok-clause-told
+returns-in-Ok-clause-told g c d f =
+    let t = c.in-Ok.ensures.told d f in
+    (t.0, inl (record { answered = c.answer_of.ensures ∙ sym (ap answer_of c.in-Done.is); left = t.1 ∙ behind_done (g.P.Pages.means.plain c.args.pages.now d) c.args.end c.in-Done.what c.in-Done.field-1 c.in-Done.is }))
+
+pub returns-in-Refused-clause-told : goal.returns-in-Refused-clause-told
+returns-in-Refused-clause-told g c d f =
+    (f, inl (record { answered = c.answer_of-in-Refused.ensures; left = behind_refused (g.P.Pages.means.plain c.args.pages.now d) c.args.end c.in-Refused.field-0 c.in-Refused.is }))
+
+pub returns-in-Trap-clause-told : goal.returns-in-Trap-clause-told
+returns-in-Trap-clause-told g c d f =
+    (f, inl (record { answered = c.answer_of-in-Trap.ensures; left = behind_trap (g.P.Pages.means.plain c.args.pages.now d) c.args.end c.in-Trap.field-0 c.in-Trap.is }))

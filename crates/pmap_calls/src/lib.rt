@@ -1,0 +1,21 @@
+//! The monitor calls on maps: PMAP, RPACS, SPACS, RMAP.
+//! To the machine a turn of one is a function: its answer and the pages that it leaves are those of the plain call.
+//! Stands on `call_turns` for turns, on `fork_tree` for handles, on `plain_model` for the definitions and the pages.
+#![tactic(auto)]
+
+mod access;
+mod calls;
+mod laws;
+mod naming;
+mod pmap;
+mod stage;
+mod table;
+#[cfg(test)]
+mod tests;
+mod turn;
+
+pub use laws::{
+    access_comes_back, mapped_pages_read_their_source, pages_are_counted_down,
+    refusals_leave_an_error_alone,
+};
+pub use turn::call;

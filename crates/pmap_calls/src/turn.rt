@@ -1,0 +1,89 @@
+// One turn of a call on maps.
+ghost use Rattle.std.specs.Prelude.{◌≡◌, ◌<◌, true, IsOk};
+ghost use Rattle.plain_model.specs.declared.names.TheConstants.{SPACE_PAGES};
+ghost use Rattle.plain_model.specs.Calls.{end_of};
+ghost use Rattle.plain_model.specs.MapCalls.{map_call, map_changed};
+ghost use Rattle.plain_model.specs.Pages.{IsNewEntry, changed};
+ghost use Rattle.call_turns.specs.Answers.{IsDone};
+ghost use Rattle.call_turns.specs.Turns.{FitsEnd};
+ghost use Rattle.pmap_calls.specs.Making.{Makes, MakesNone, Turns};
+ghost use Rattle.pmap_calls.specs.Stages.{IsMapChange, IsRegs};
+
+use crate::table::first;
+use call_turns::{answer_of, driven};
+use fork_tree::Tree;
+use plain_model::call::{End, MapChange};
+use plain_model::{Answer, ForkName, Need, NewEntry, Pages, Regs, Seen, Slot};
+
+/// A call on maps asks twice at most: for an entry, and for the page behind it.
+const MOST_ASKS: u32 = 2;
+
+// Sets an entry, whose map has to be in core.
+fn set<P: Pages>(pages: &mut P, slot: Slot, new: NewEntry) -> Result<(), Need>
+    requires page { slot.page < SPACE_PAGES }
+    requires new { IsNewEntry new }
+    ensures told { Makes P.means pages.old pages.new result (λ p. changed p slot new) }
+    ensures core { P.means.flat ≡ true → IsOk result }
+    ensures none { MakesNone P.means pages.old pages.new }
+{
+    match pages.entry(slot) {
+        Seen::Is(_) => {
+            pages.set_entry(slot, new);
+            Ok(())
+        }
+        Seen::Missing => Ok(()),
+        Seen::Absent(home) => Err(Need::Page(home)),
+    }
+}
+
+// Makes a change.
+fn change<P: Pages>(pages: &mut P, what: MapChange) -> Result<(), Need>
+    requires { IsMapChange what }
+    ensures told { Makes P.means pages.old pages.new result (map_changed what) }
+    ensures core { P.means.flat ≡ true → IsOk result }
+    ensures none { MakesNone P.means pages.old pages.new }
+{
+    match what {
+        MapChange::Nothing => Ok(()),
+        MapChange::Unmap(slot) => set(pages, slot, NewEntry::Empty),
+        MapChange::Follow(slot, other, access) => set(
+            pages,
+            slot,
+            NewEntry::Follows(other.fork.serial, other.page, access),
+        ),
+        MapChange::Narrow(slot, access) => set(pages, slot, NewEntry::Narrow(access)),
+    }
+}
+
+// Ends a turn: its change is made, if it has one.
+fn end<P: Pages>(end: End<MapChange>, pages: &mut P) -> Answer
+    requires { FitsEnd IsMapChange end }
+    ensures told { Turns P.means pages.old pages.new result (λ p. end) }
+    ensures core { P.means.flat ≡ true → IsDone result }
+    ensures none { MakesNone P.means pages.old pages.new }
+{
+    match end {
+        End::Done(what, _) => match change(pages, what) {
+            Ok(()) => answer_of(end),
+            Err(need) => Answer::Need(need),
+        },
+        End::Refused(_) => answer_of(end),
+        End::Trap(_) => answer_of(end),
+    }
+}
+
+/// One turn of a call on maps, by its number (JSYS Manual): its answer is that of the plain call, and so are the
+/// pages that it leaves. It asks first and changes then: it needs something first only where a map stands in no
+/// frame, and leaves all as it was. It makes no page. A number that is no call on maps traps as an illegal
+/// instruction.
+pub fn call<P: Pages>(number: u32, regs: &Regs, who: ForkName, tree: &Tree, pages: &mut P) -> Answer
+    requires { IsRegs regs.now }
+    ensures told { Turns P.means pages.old pages.new result (λ p. end_of p (map_call number (record { who = who; regs = regs.now; forks = tree.now.forks }))) }
+    ensures core { P.means.flat ≡ true → IsDone result }
+    ensures none { MakesNone P.means pages.old pages.new }
+{
+    match driven(first(number, regs, who, tree), MOST_ASKS, tree, pages) {
+        Ok(ending) => end(ending, pages),
+        Err(need) => Answer::Need(need),
+    }
+}
