@@ -45,6 +45,7 @@ module _ {P : Type 0} (means : PagesMeaning P) (space : SpaceHandle) where
     forks = h.forks ∙ g.forks;
     serials = h.serials ∙ g.serials;
     most = h.most ∙ g.most;
+    single = h.single ∙ g.single;
   }
 
   of_fork : (s t : P) (f : ForkName) → StaysPut means s t → means.space s f ≡ Some space → means.space t f ≡ Some space

@@ -138,21 +138,22 @@ module _ {P : Type 0} (means : PagesMeaning P) (owner : Tty) where
     most = h.most ∙ g.most;
     serial = omega (arith, g.serial, h.serial);
     serials = λ t ne. h.serials t ne ∙ g.serials t ne;
+    single = λ is. h.single (g.single is);
   }
 
   pub grows_within : (n m : ℕ) (old new : P) → n ≤ m → Grows means owner n old new → Grows means owner m old new
-  grows_within n m old new l g = record { lives = g.lives; forks = g.forks; most = g.most; serial = omega (arith, l, g.serial); serials = g.serials }
+  grows_within n m old new l g = record { lives = g.lives; forks = g.forks; most = g.most; serial = omega (arith, l, g.serial); serials = g.serials; single = g.single }
 
   pub grows_none : (old : P) → Grows means owner 0 old old
-  grows_none old = record { lives = refl; forks = refl; most = refl; serial = omega arith; serials = λ t ne. refl }
+  grows_none old = record { lives = refl; forks = refl; most = refl; serial = omega arith; serials = λ t ne. refl; single = λ is. is }
 
   -- a word stored makes no page
   pub grows_stored : (old new : P) → StaysPut means old new → Grows means owner 0 old new
-  grows_stored old new s = record { lives = s.lives; forks = s.forks; most = s.most; serial = omega (arith, same); serials = λ t ne. ap (λ (serial : Tty → ℕ). serial t) s.serials }
+  grows_stored old new s = record { lives = s.lives; forks = s.forks; most = s.most; serial = omega (arith, same); serials = λ t ne. ap (λ (serial : Tty → ℕ). serial t) s.serials; single = λ is. s.single ∙ is }
     where
       same : means.serial new owner ≡ means.serial old owner
       same = ap (λ (serial : Tty → ℕ). serial owner) s.serials
 
 -- pages that serve a fork serve it still
-pub serves_still : {P : Type 0} (means : PagesMeaning P) (f : ForkName) (old new : P) → means.lives new ≡ means.lives old → Serves means old f → Serves means new f
-serves_still means f old new same s = record { flat = s.flat; single = s.single; lives = ap (λ (lives : ForkName → Bool). lives f) same ∙ s.lives; terminal = s.terminal }
+pub serves_still : {P : Type 0} (means : PagesMeaning P) (f : ForkName) (old new : P) → means.lives new ≡ means.lives old → (means.single old ≡ true → means.single new ≡ true) → Serves means old f → Serves means new f
+serves_still means f old new same single s = record { flat = s.flat; single = single s.single; lives = ap (λ (lives : ForkName → Bool). lives f) same ∙ s.lives; terminal = s.terminal }

@@ -44,7 +44,7 @@ length_with ac i (Some w) = length-set ac i w
 module _ {P : Type 0} (means : PagesMeaning P) where
   -- pages that stay as they are
   pub stays_put : (s : P) → StaysPut means s s
-  stays_put s = record { touched = refl; scene = refl; space = refl; place = refl; lives = refl; forks = refl; serials = refl; most = refl }
+  stays_put s = record { touched = refl; scene = refl; space = refl; place = refl; lives = refl; forks = refl; serials = refl; most = refl; single = refl }
 
   module _ (space : SpaceHandle) where
     -- what isn't done here

@@ -1,5 +1,5 @@
 -- What a unit that is carried out leaves.
-use Rattle.std.specs.Prelude.{◌≡◌, ◌≢◌, ℕ, ◌+◌, ◌≤◌, ◌<◌, ◌^◌, length, Some}
+use Rattle.std.specs.Prelude.{◌≡◌, ◌≢◌, ℕ, ◌+◌, ◌≤◌, ◌<◌, ◌^◌, length, true, Some}
 use Rattle.plain_model.specs.declared.names.Tty.{Tty}
 use Rattle.plain_model.specs.declared.names.ForkName.{ForkName}
 use Rattle.plain_model.specs.declared.fork.Regs.{Regs}
@@ -20,6 +20,7 @@ pub record Grows {P : Type 0} (means : PagesMeaning P) (owner : Tty) (pages : �
   pub most : means.most new ≡ means.most old
   pub serial : means.serial new owner ≤ means.serial old owner + pages
   pub serials : (t : Tty) → t ≢ owner → means.serial new t ≡ means.serial old t
+  pub single : means.single old ≡ true → means.single new ≡ true
 
 -- what a unit came to, on plain pages, which it left as others
 abbrev pub CameTo : ForkName → NumberedPages → Regs → NumberedPages → Regs → Outcome → Type 0

@@ -14,7 +14,7 @@ use Rattle.ka10_unit.specs.declared.gather.Added.TheVariants.{Went, Denied, Full
 -- pages where every page is in core and each entry is an end, in which a terminal's fork lives
 pub record Serves {P : Type 0} (means : PagesMeaning P) (pages : P) (f : ForkName) : Type 0 where
   pub flat : means.flat ≡ true
-  pub single : means.single ≡ true
+  pub single : means.single pages ≡ true
   pub lives : means.lives pages f ≡ true
   pub terminal : f.tty.0 < TERMINALS
 

@@ -1,15 +1,27 @@
 -- Where a word of a space is.
-use Rattle.std.specs.Prelude.{◌≡◌, ℕ, ◌/◌, ◌%◌, ◌<◌, ◌≤◌, Option, None, Some, length, slice_set}
+use Rattle.std.specs.Prelude.{◌≡◌, ℕ, ◌+◌, ◌/◌, ◌%◌, ◌<◌, ◌≤◌, List, Option, None, Some, IfSome, length, slice_set}
 use Rattle.outside.specs.declared.TheConstants.{PAGE_WORDS}
 use Rattle.plain_model.specs.declared.names.TheConstants.{ACCUMULATORS}
 use Rattle.plain_model.specs.declared.names.ForkName.{ForkName}
 use Rattle.plain_model.specs.declared.map.SpaceHandle.{SpaceHandle}
 use Rattle.plain_model.specs.declared.fork.Regs.{Regs}
+use Rattle.plain_model.specs.Addressing.{indexed, last_taken}
 use Rattle.plain_model.specs.Outcome.{DrumWords}
 use Rattle.plain_model.specs.Pages.{PagesMeaning, StaysPut}
 use Rattle.plain_model.specs.References.{in_map, slot_at, stored}
+use Rattle.ka10_unit.specs.declared.addressing.Address.{Address}
 use Rattle.ka10_unit.specs.declared.spots.Spot.{Spot}
 use Rattle.ka10_unit.specs.declared.spots.Spot.TheVariants.{Accumulator, Page}
+use Rattle.ka10_unit.specs.Glide.{Addressed}
+
+-- the address that a word names which isn't indirect
+abbrev pub addressed : List ℕ → ℕ → Address
+addressed ac word = record { e = indexed ac word; last = last_taken ac word }
+
+-- fewer indirect words than these lead from a word to an address
+abbrev pub LeadsTo : {P : Type 0} → PagesMeaning P → P → SpaceHandle → List ℕ → ℕ → ℕ → Option Address → Type 0
+LeadsTo means p space ac most word found = (d : DrumWords) (f : ForkName) (before : ℕ) → means.fits p d → means.space p f ≡ Some space → before + most ≤ 16
+    → IfSome found (λ address. Addressed f (means.plain p d) ac before most word address.e address.last)
 
 module _ {P : Type 0} (means : PagesMeaning P) (space : SpaceHandle) (at : ℕ) where
   -- the word at an address is there
@@ -19,6 +31,7 @@ module _ {P : Type 0} (means : PagesMeaning P) (space : SpaceHandle) (at : ℕ) 
 
   -- the word at an address is this one now, and nothing else has changed
   pub record Stored (word : ℕ) (old new : P) (regs after : Regs) : Type 0 where
+    -- in an accumulator, or else in a page
     pub low : at < ACCUMULATORS → (new ≡ old) × (after ≡ record regs { ac = slice_set regs.ac at word })
     pub high : ACCUMULATORS ≤ at → after ≡ regs
     pub told : (d : DrumWords) (f : ForkName) → ACCUMULATORS ≤ at → means.fits old d → means.space old f ≡ Some space → means.plain new d ≡ stored (means.plain old d) (in_map (slot_at f at)) (at % PAGE_WORDS) word

@@ -1,11 +1,12 @@
 // The fields of an instruction word, and effective addresses in place.
-ghost use Rattle.std.specs.Prelude.{◌≡◌, ℕ, ◌+◌, ◌≤◌, ◌<◌, ◌^◌, Some, IfSome};
+ghost use Rattle.std.specs.Prelude.{◌≡◌, ◌<◌, IfSome};
+ghost use Rattle.std.specs.Option.{option_map};
 ghost use Rattle.plain_model.specs.declared.names.ForkName.{ForkName as AForkName};
 ghost use Rattle.plain_model.specs.Addressing as word_fields;
 ghost use Rattle.plain_model.specs.Limits.{IsAddress};
 ghost use Rattle.plain_model.specs.Outcome.{DrumWords};
 ghost use Rattle.plain_model.specs.Pages.{HasSpace};
-ghost use Rattle.ka10_unit.specs.Glide.{Addressed};
+ghost use Rattle.ka10_unit.specs.Spots.{LeadsTo, addressed};
 
 use crate::spots::take;
 use plain_model::{Kind, Pages, Regs, SpaceHandle};
@@ -48,8 +49,7 @@ fn is_indirect(word: Word) -> bool
 /// Y of a word, plus the right half of accumulator X where X isn't 0.
 #[inline(always)]
 fn index(regs: &Regs, word: Word) -> Address
-    ensures e { result.e ≡ word_fields.indexed regs.now.ac word }
-    ensures last { result.last ≡ word_fields.last_taken regs.now.ac word }
+    ensures address { result ≡ addressed regs.now.ac word }
     ensures below { IsAddress result.e }
 {
     let y = word.right();
@@ -64,27 +64,25 @@ fn index(regs: &Regs, word: Word) -> Address
     }
 }
 
-/// The effective address of a word that may be indirect, by fewer indirect words than these.
+/// The word to which a word leads by fewer indirect words than these: the first that isn't indirect.
 #[inline(never)]
-fn through<P: Pages>(
+fn followed<P: Pages>(
     regs: &Regs,
     pages: &P,
     space: SpaceHandle,
     first: Word,
     most: u32,
-) -> Option<Address>
+) -> Option<Word>
     requires space { HasSpace P.means pages.now space }
     requires most { most < 16 }
-    ensures below { IfSome result (λ address. IsAddress address.e) }
-    ensures told { (d : DrumWords) (f : AForkName) (before : ℕ) → P.means.fits pages.now d → P.means.space pages.now f ≡ Some space → before + most ≤ 16 → IfSome result (λ address. Addressed f (P.means.plain pages.now d) regs.now.ac before most first address.e address.last) }
+    ensures { LeadsTo P.means pages.now space regs.now.ac most first (option_map (addressed regs.now.ac) result) }
 {
     let mut word = first;
     for words in 0..most {
-        let address = index(regs, word);
         if !is_indirect(word) {
-            return Some(address);
+            return Some(word);
         }
-        match take(regs, pages, space, address.e, Kind::Read) {
+        match take(regs, pages, space, index(regs, word).e, Kind::Read) {
             None => return None,
             Some(next) => word = next,
         }
@@ -105,10 +103,13 @@ pub fn effective_address<P: Pages>(
     requires some { 0 < most }
     requires most { most < 16 }
     ensures below { IfSome result (λ address. IsAddress address.e) }
-    ensures told { (d : DrumWords) (f : AForkName) (before : ℕ) → P.means.fits pages.now d → P.means.space pages.now f ≡ Some space → before + most ≤ 16 → IfSome result (λ address. Addressed f (P.means.plain pages.now d) regs.now.ac before most word address.e address.last) }
+    ensures told { LeadsTo P.means pages.now space regs.now.ac most word result }
 {
     if is_indirect(word) {
-        return through(regs, pages, space, word, most);
+        return match followed(regs, pages, space, word, most) {
+            None => None,
+            Some(last) => Some(index(regs, last)),
+        };
     }
     Some(index(regs, word))
 }

@@ -112,7 +112,7 @@ impl Gather {
         requires room { length self.old < MOST_MAKINGS }
         ensures room { length self.new ≤ length self.old + 1 }
         ensures stopped { result ≢ Added.Went → self.new ≡ self.old }
-        ensures told { (d : DrumWords) → P.means.single ≡ true → P.means.fits pages.now d → all_make fork (P.means.plain pages.now d) self.old ≡ true → entry_at (P.means.plain pages.now d).maps (record { fork = fork; page = asking.page }) ≡ Some Empty
+        ensures told { (d : DrumWords) → P.means.single pages.now ≡ true → P.means.fits pages.now d → all_make fork (P.means.plain pages.now d) self.old ≡ true → entry_at (P.means.plain pages.now d).maps (record { fork = fork; page = asking.page }) ≡ Some Empty
             → AddsTo fork (P.means.plain pages.now d) self.old self.new asking result }
     {
         if self.makes(asking.page) {

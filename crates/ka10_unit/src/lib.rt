@@ -1,4 +1,4 @@
-//! The unit of an instruction, over any pages: done in place where each page is there, and else planned.
+//! The unit of an instruction: in place over any pages where each is there, and planned over pages in memory.
 //! To the layers above a unit done leaves what the plain machine's leaves, and a plan says what it comes to.
 //! Stands on `plain_model` for the definitions, and on the `ka10_` crates for rows and operations.
 #![tactic(auto)]

@@ -147,6 +147,18 @@ fn held_word<P: Pages>(pages: &P, fork: ForkName, at: u32) -> Word
     }
 }
 
+/// The name of the page at an address, in the pages as they are.
+fn name_at<P: Pages>(pages: &P, fork: ForkName, at: u32) -> Option<PageName>
+    requires serves { Serves P.means pages.now fork }
+    requires address { IsAddress at }
+    ensures told { (d : DrumWords) → P.means.fits pages.now d → result ≡ page_at (P.means.plain pages.now d) (in_map (slot_at fork at)) }
+{
+    match pages.page_at(page_of_address(fork, at)) {
+        Some(page) => Some(page.0),
+        None => None,
+    }
+}
+
 /// Whether a word that the unit has stored at an address stands at another: at the same place of
 /// the same page, which may have two names.
 fn is_stored_at<P: Pages>(pages: &P, fork: ForkName, stored: u32, at: u32) -> bool
@@ -162,9 +174,7 @@ fn is_stored_at<P: Pages>(pages: &P, fork: ForkName, stored: u32, at: u32) -> bo
     if stored / WORDS == at / WORDS {
         return true;
     }
-    let there = pages.page_at(page_of_address(fork, at));
-    let other = pages.page_at(page_of_address(fork, stored));
-    are_one(there, other)
+    are_one(name_at(pages, fork, at), name_at(pages, fork, stored))
 }
 
 /// The word at an address whose page was asked for, or the word that the unit has stored there.

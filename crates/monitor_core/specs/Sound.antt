@@ -24,7 +24,7 @@ pub record IsJob (t : ℕ) (j : Job) : Type 0 where
 -- serials are serials, or the one behind the last; and the pages are in memory alone and none follows another, with room for a fork of each terminal
 pub record AreSound {P : Type 0} (means : PagesMeaning P) (p : P) (jobs : List (Option Job)) (serials : List ℕ) (terminals : ℕ) : Type 0 where
   pub flat : means.flat ≡ true
-  pub single : means.single ≡ true
+  pub single : means.single p ≡ true
   pub roomy : 0 < means.most_forks
   pub job_room : length jobs ≡ TERMINALS
   pub serial_room : length serials ≡ TERMINALS

@@ -1,5 +1,5 @@
 -- A word that is written through a fork's map, as the plain pages have it.
-use Rattle.std.specs.Prelude.{◌≡◌, ◌≢◌, ℕ, ◌+◌, ◌≤◌, Result, Ok, Err, OnErr}
+use Rattle.std.specs.Prelude.{◌≡◌, ◌≢◌, ℕ, ◌+◌, ◌≤◌, Result, Ok, Err, OnErr, true}
 use Rattle.std.specs.Ordering.{nat_cmp}
 use Rattle.plain_model.specs.declared.names.Tty.{Tty}
 use Rattle.plain_model.specs.declared.names.Slot.{Slot}
@@ -47,6 +47,7 @@ pub record Makes {P : Type 0} (means : PagesMeaning P) (old new : P) (owner : Tt
   pub most : means.most new ≡ means.most old
   pub own : means.serial new owner ≤ means.serial old owner + count
   pub others : (t : Tty) → t ≢ owner → means.serial new t ≡ means.serial old t
+  pub single : means.single old ≡ true → means.single new ≡ true
 
 -- a job with a word in an accumulator of its top fork
 abbrev pub with_word : Job → ℕ → ℕ → Job

@@ -1,4 +1,4 @@
-use Rattle.std.proofs.Common.{ℕ, refl, subst, lit≤, lit<}
+use Rattle.std.proofs.Common.{refl, subst, lit≤, lit<}
 use Rattle.plain_model.specs.declared.fork.Regs.{Regs}
 use Rattle.plain_model.specs.Instructions.{finishes}
 use Rattle.ka10_unit.specs.Bytes.{byte_deposited}

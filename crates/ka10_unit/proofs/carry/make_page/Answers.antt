@@ -16,5 +16,5 @@ returns-in_default g c = record {
       let touched = rw c.page_of-at.ensures at (c.touch.ensures.told d c.args.fork.tty fits (inl c.requires.serves.terminal)) in
       absurd (c.in_default.not-Zero (making_found c.args.fork (inl c.requires.serves.terminal) p (g.met.P.Pages.whole c.args.pages.now d fits) (g.met.P.Pages.single c.args.pages.now d c.requires.serves.single fits) c.args.asking makes (g.P.Pages.means.scene c.args.pages.now) c.touch.result touched (c.touch.ensures.core c.requires.serves.flat)));
   fits = λ d fits. fits;
-  grows = record { lives = refl; forks = refl; most = refl; serial = omega arith; serials = λ t ne. refl };
+  grows = record { lives = refl; forks = refl; most = refl; serial = omega arith; serials = λ t ne. refl; single = λ is. is };
 }

@@ -13,8 +13,6 @@ returns g c = record {
   told = λ d rs n fits all there.
       let p : NumberedPages = g.P.Pages.means.plain c.args.pages.now d in
       let same : (c.args.stored % 512 == c.args.at % 512) ≡ true = grind (arith, nat_tests) in
-      let here = rw c.page_of_address.ensures at (c.page_at-there.ensures.told d c.requires.serves.flat fits) in
-      let other = rw c.page_of_address-2.ensures at (c.page_at-other.ensures.told d c.requires.serves.flat fits) in
-      c.are_one.ensures ∙ ap (λ (x : Option PageName). are_same x c.page_at-other.result) here ∙ ap (λ (x : Option PageName). are_same (page_at p (in_map (slot_at c.args.fork c.args.at))) x) other
+      c.are_one.ensures ∙ ap (λ (x : Option PageName). are_same x c.name_at-2.result) (c.name_at.ensures.told d fits) ∙ ap (λ (x : Option PageName). are_same (page_at p (in_map (slot_at c.args.fork c.args.at))) x) (c.name_at-2.ensures.told d fits)
       ∙ two_slots c.args.fork (inl c.requires.serves.terminal) p (g.met.P.Pages.whole c.args.pages.now d fits) (g.met.P.Pages.single c.args.pages.now d c.requires.serves.single fits) rs all c.args.stored c.args.at n same c.if-stored-at-2.false there;
 }

@@ -25,7 +25,7 @@ invariant_of-self g c =
     let job = c.args.self.now.sound.each_job c.args.fork.tty.0 c.in-Some.job at in
     let ran = c.ran.ensures.ran.top in
     record {
-      sound = sound_job g.P.Pages.means c.args.self.now.pages c.args.self.now.jobs.items c.args.self.now.fork_serials.items c.args.self.now.terminals c.args.self.now.sound c.ran.new.pages c.args.fork.tty.0 c.in-Some.job c.ran.new.self at ran.made.lives ran.made.forks ran.keeps.name
+      sound = sound_job g.P.Pages.means c.args.self.now.pages c.args.self.now.jobs.items c.args.self.now.fork_serials.items c.args.self.now.terminals c.args.self.now.sound c.ran.new.pages c.args.fork.tty.0 c.in-Some.job c.ran.new.self at ran.made.lives ran.made.forks ran.made.single ran.keeps.name
           (job_runs c.args.fork.tty.0 c.ran.result.count c.in-Some.job c.ran.new.self job ran.keeps);
     }
 
