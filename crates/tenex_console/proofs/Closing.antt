@@ -1,15 +1,19 @@
 -- What the sinks took of a run.
-use Rattle.std.proofs.Common.{◌≡◌, inl, inr, ℕ, ◌-◌, ◌<◌, ◌^◌, List, [], ◌∷◌, ◌++◌, length, Bool, true, Option, None, Some, refl, sym, ◌∙◌, ap, subst, arith}
-use Rattle.std.proofs.lemmas.List.{append-nil}
+use Rattle.std.proofs.Common.{◌≡◌, inl, inr, ℕ, ◌-◌, ◌<◌, ◌^◌, List, [], ◌∷◌, ◌++◌, length, replicate, Bool, true, Option, None, Some, refl, sym, ◌∙◌, ap, subst, arith}
+use Rattle.std.proofs.lemmas.List.{append-nil, get_or-replicate, length-replicate}
+use Rattle.outside.specs.Drums.{IsPage}
 use Rattle.outside.specs.Told.{Grows, Stays}
 use Rattle.plain_model.specs.declared.event.Item.{Item}
 use Rattle.plain_model.specs.declared.event.Step.{Step}
 use Rattle.plain_model.specs.State.{PlainState}
 use Rattle.plain_model.specs.Outcome.{DrumWords}
+use Rattle.plain_model.specs.References.{zero_words}
+use Rattle.plain_model.specs.Stores.{FitsHomes, free}
 use Rattle.plain_model.specs.Taker.{GoesOn}
 use Rattle.plain_model.specs.Script.{IsScript}
 use Rattle.plain_model.specs.Texts.{transcript, record_after}
 use Rattle.plain_model.proofs.Named.{opened_fit}
+use Rattle.flat_pages.proofs.StoredPlaces.{zeros_fit}
 use Rattle.command_words.specs.declared.sizes.Sizes.{Sizes}
 use Rattle.monitor_core.specs.declared.machine.Machine.{Machine}
 use Rattle.monitor_core.specs.Machines.{Fits, limit, plain}
@@ -71,9 +75,19 @@ module _ {T R : Type 0} (out_taken : T → Option (List ℕ)) (rec_taken : R →
       let ends = fails.each w [] [] start in
       inr (refl, ends.out, stays_partly (rec_taken w.rec.now) (rec_taken u.rec.now) ends.rec)
 
+-- a drum of so many pages of zeros
+abbrev zero_drum : ℕ → DrumWords
+zero_drum n = replicate n zero_words
+
+drum_fits : (n : ℕ) → FitsHomes (replicate n free) (zero_drum n)
+drum_fits n = record {
+  enough = omega (arith, length-replicate n free, length-replicate n zero_words);
+  pages = λ home l. subst IsPage (sym (get_or-replicate n home zero_words [] (omega (arith, l, length-replicate n zero_words)))) zeros_fit;
+}
+
 -- over pages in memory a booted machine opens whatever the drum tells
-pub opens_booted : {P : Type 0} {b : _} {D : Type 0} (held : D → Option DrumWords) (m : Machine P b) (drum : D) → IsBooted (limit m) m → b.means.flat ≡ true → OpensOver b.means.flat Fits plain held (limit m) m drum []
-opens_booted held m drum booted is_flat = record { stood = inr is_flat; opened = booted.opened [] }
+pub opens_booted : {P : Type 0} {b : _} {D : Type 0} (held : D → Option DrumWords) (m : Machine P b) (drum : D) → IsBooted (limit m) m → b.means.flat ≡ true → OpensOver b.means.flat Fits plain held (limit m) m drum (zero_drum (limit m))
+opens_booted held m drum booted is_flat = record { stood = inr is_flat; opened = booted.opened (zero_drum (limit m)) (drum_fits (limit m)) }
 
 -- the last lines are those of the counts that the drum told
 pub last_told : (driven : Driven) {a b c d a' b' c' d' : ℕ} {last this : Option Last} → a ≡ a' → b ≡ b' → c ≡ c' → d ≡ d' → last ≡ last_after driven (a - b) (c - d) → last ≡ this → last_after driven (a' - b') (c' - d') ≡ this

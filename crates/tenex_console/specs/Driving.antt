@@ -1,11 +1,12 @@
 -- How far a script was driven, and what the taker was given.
-use Rattle.std.specs.Prelude.{◌≡◌, ℕ, ◌<◌, ◌≤◌, List, [], ◌++◌, length, All, Bool, true, Option, Some}
+use Rattle.std.specs.Prelude.{◌≡◌, ℕ, ◌<◌, ◌≤◌, List, [], ◌++◌, length, replicate, All, Bool, true, Option, Some}
 use Rattle.plain_model.specs.declared.event.Event.{Event}
 use Rattle.plain_model.specs.declared.event.Item.{Item}
 use Rattle.plain_model.specs.declared.event.Step.{Step}
 use Rattle.plain_model.specs.State.{PlainState, opening}
 use Rattle.plain_model.specs.Limits.{FitsEvent}
 use Rattle.plain_model.specs.Outcome.{DrumWords, Stands}
+use Rattle.plain_model.specs.Stores.{FitsHomes, free}
 use Rattle.plain_model.specs.Taker.{GoesOn, IsCut, max_steps}
 use Rattle.plain_model.specs.Script.{IsScript, StopsAt, IsTooLong, IsReadTo, BeginsWith}
 use Rattle.monitor_core.specs.declared.machine.Machine.{Machine}
@@ -70,11 +71,11 @@ pub record IsNew {P : Type 0} {b : _} (m : Machine P b) : Type 0 where
   pub auto_on : auto m ≡ true
   pub none : done m ≡ 0
 
--- a new machine with room for so many pages and forks, which stands for the opening state over any words of a drum
+-- a new machine with room for so many pages and forks, which stands for the opening state over any drum with so many pages
 pub record IsBooted {P : Type 0} {b : _} (room : ℕ) (m : Machine P b) : Type 0 where
   pub new : IsNew m
   pub room_is : limit m ≡ room
-  pub opened : (d : DrumWords) → StandsFor Fits plain m d (opening room)
+  pub opened : (d : DrumWords) → FitsHomes (replicate room free) d → StandsFor Fits plain m d (opening room)
 
 -- what the driving of a machine over pages came to
 abbrev pub Drove : {P S D K : Type 0} {b : _} → (D → Option DrumWords) → (S → Option (List ℕ)) → (stands cut : K → K → List Item → List Step → Type 0)

@@ -7,7 +7,7 @@ ghost use Rattle.tenex_console.specs.Driving.{IsBooted};
 ghost use Rattle.tenex_console.specs.Headline.{IsTrueOf, status_of};
 
 use command_words::{Sizes, asked_sizes};
-use flat_pages::PlainStore;
+use flat_pages::{FlatSlots, FlatStore};
 use monitor_core::{Config, Machine};
 use outside::Memory;
 use std::alloc::Global;
@@ -60,7 +60,7 @@ pub fn asked_machine(
     alloc: Global,
     words: &[String],
     drum_pages: u32,
-) -> Result<Machine<PlainStore>, Unbegun>
+) -> Result<Machine<FlatSlots<FlatStore>>, Unbegun>
     ensures booted { IfOk result (λ m. (sizes : ASizes) × IsAsked words.now drum_pages sizes × IsBooted sizes.drum m) }
     ensures why { IfErr result (IsTrueOf words.now drum_pages) }
 {
@@ -74,14 +74,15 @@ pub fn asked_machine(
 }
 
 // A new machine of these sizes over pages in memory.
-fn boot(alloc: Global, sizes: Sizes) -> Result<Machine<PlainStore>, Memory>
+fn boot(alloc: Global, sizes: Sizes) -> Result<Machine<FlatSlots<FlatStore>>, Memory>
     requires least_frames { KEPT_FRAMES + MEMBER_FRAMES ≤ sizes.frames }
     requires most_frames { sizes.frames < KEPT_FRAMES + (MOST_MEMBERS + 1) * MEMBER_FRAMES }
     requires least_pages { 1 ≤ sizes.drum }
     requires most_pages { sizes.drum ≤ MOST_HOMES }
     ensures { IfOk result (IsBooted sizes.drum) }
 {
-    let pages = PlainStore::boot(alloc, sizes.drum)?;
+    let store = FlatStore::boot(alloc, sizes.drum)?;
+    let pages = FlatSlots::boot(alloc, store, sizes.drum)?;
     let set = (sizes.frames - KEPT_FRAMES) / MEMBER_FRAMES;
     Machine::boot(alloc, Config { set }, pages)
 }

@@ -14,7 +14,7 @@ ghost use Rattle.tenex_console.specs.Statuses.{IsEarly, IsFaultless, IsUsageOrBe
 
 use crate::asked::{Unbegun, asked_machine};
 use crate::driver::drive;
-use flat_pages::PlainStore;
+use flat_pages::{FlatSlots, FlatStore};
 use monitor_core::Machine;
 use outside::{Drum, Failed, Sink, Source};
 use std::alloc::Global;
@@ -95,7 +95,7 @@ fn stop<T: Sink, R: Sink>(why: Unbegun, out: &mut T, rec: &mut R) -> Status
 
 // Runs the script on a new machine.
 fn run<S: Source, T: Sink, R: Sink, D: Drum>(
-    machine: &mut Machine<PlainStore>,
+    machine: &mut Machine<FlatSlots<FlatStore>>,
     script: &mut S,
     out: &mut T,
     rec: &mut R,

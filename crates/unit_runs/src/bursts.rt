@@ -3,7 +3,7 @@
 ghost use Rattle.std.specs.Prelude.{◌≡◌, ◌<◌, ◌≤◌, ◌+◌, ◌^◌, true, false};
 ghost use Rattle.plain_model.specs.Pages.{HasSpace};
 
-use flat_pages::PlainStore;
+use flat_pages::{FlatSlots, FlatStore};
 use ka10_unit::{Burst, End, burst};
 use plain_model::{ForkName, Kind, NewMap, Pages, Place, Regs, Slot, SpaceHandle, Touch, Tty};
 use std::test::Fail;
@@ -180,7 +180,8 @@ fn programs(rt: HostRuntime) -> Result<(), Fail> {
         // JRST 100
         (&[(0o100, 0o254000000100)][..], 100, End::Most, 0o100, 1, 0),
     ] {
-        let mut pages = PlainStore::boot(rt.alloc(), 8)?;
+        let store = FlatStore::boot(rt.alloc(), 8)?;
+        let mut pages = FlatSlots::boot(rt.alloc(), store, 8)?;
         let (done, regs) = run(&mut pages, program);
         assert_eq!(rt; done, Burst { units, end });
         assert_eq!(rt; regs.pc, pc);

@@ -3,7 +3,7 @@ ghost use Rattle.std.specs.Prelude.{◌≡◌, ◌<◌, ◌≤◌, ◌^◌, IfOk
 ghost use Rattle.plain_model.specs.declared.names.TheConstants.{MOST_HOMES};
 ghost use Rattle.ka10_unit.specs.Gathers.{Serves};
 
-use flat_pages::PlainStore;
+use flat_pages::{FlatSlots, FlatStore};
 use ka10_unit::{Outcome, Post, Taken, slow_unit};
 use outside::Memory;
 use plain_model::{ForkName, NewMap, Pages, Regs, Tty};
@@ -52,9 +52,9 @@ fn words_of(regs: &Regs) -> [u64; 4] {
 }
 
 /// Does so many units, as long as they go through.
-fn run(pages: &mut PlainStore, regs: &mut Regs, units: u32) -> Outcome
-    requires serves { Serves ⟦<PlainStore as Pages>⟧.means pages.old TOP }
-    requires serial { ⟦<PlainStore as Pages>⟧.means.serial pages.old TOP.tty ≤ 1 }
+fn run<P: Pages>(pages: &mut P, regs: &mut Regs, units: u32) -> Outcome
+    requires serves { Serves P.means pages.old TOP }
+    requires serial { P.means.serial pages.old TOP.tty ≤ 1 }
     requires units { units < 100 }
     requires pc { regs.old.pc < 2 ^ 18 }
 {
@@ -76,7 +76,8 @@ fn come_out(alloc: Global, limit: u32, first: Regs, units: u32) -> Result<Came, 
     requires units { units < 100 }
     requires pc { first.pc < 2 ^ 18 }
 {
-    let mut pages = PlainStore::boot(alloc, limit)?;
+    let store = FlatStore::boot(alloc, limit)?;
+    let mut pages = FlatSlots::boot(alloc, store, limit)?;
     pages.add_fork(TOP, NewMap::Empty);
     let mut regs = first;
     let outcome = run(&mut pages, &mut regs, units);

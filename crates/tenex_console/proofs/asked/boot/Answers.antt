@@ -8,16 +8,16 @@ if_all : {A E : Type 0} {P Q R S T U : A → Type 0} (r : Result A E) → ((x : 
 if_all (Ok x) all p q r s t = all x p q r s t
 if_all (Err e) all p q r s t = p
 
-pub boot-requires-2-clause-opening : goal.boot-requires-2-clause-opening
-boot-requires-2-clause-opening c d u = c.in_ok-pages.ensures.plain d ∙ ap (opening_pages nat_cmp) (sym c.in_ok-pages.ensures.most)
+pub boot-requires-3-clause-opening : goal.boot-requires-3-clause-opening
+boot-requires-3-clause-opening c d u = c.in_ok-pages.ensures.plain d ∙ ap (opening_pages nat_cmp) (sym c.in_ok-pages.ensures.most)
 
 pub returns : goal.returns
 returns c =
     let most = c.in_ok-pages.ensures.most in
-    if_all c.boot-2.result
+    if_all c.boot-3.result
     (λ m state limit none live auto_on. record {
       new = record { live = live; auto_on = auto_on; none = none };
       room_is = limit ∙ most;
-      opened = λ d. let s = state d (c.in_ok-pages.ensures.fits d) in record { fit = s.0; state = s.1 ∙ ap opening most };
+      opened = λ d homes. let s = state d (c.in_ok-pages.ensures.fits d homes) in record { fit = s.0; state = s.1 ∙ ap opening most };
     })
-    c.boot-2.ensures.state c.boot-2.ensures.limit c.boot-2.ensures.done c.boot-2.ensures.live c.boot-2.ensures.auto
+    c.boot-3.ensures.state c.boot-3.ensures.limit c.boot-3.ensures.done c.boot-3.ensures.live c.boot-3.ensures.auto

@@ -1,6 +1,5 @@
 use Rattle.std.proofs.Common.{◌+◌, ◌*◌, ◌<◌, ◌≤◌, ◌^◌}
 use Rattle.plain_model.specs.declared.names.ForkName.{ForkName}
-use Rattle.flat_pages.specs.Meaning.{meaning}
 use Rattle.ka10_unit.specs.Gathers.{Serves}
 use Rattle.unit_runs.proofs.runs.run.Given as goal
 
@@ -8,8 +7,8 @@ abbrev top : ForkName
 top = record { tty = record { 0 = 3 }; serial = 7 }
 
 abbrev pub invariant-loop-unit : goal.invariant-loop-unit
-invariant-loop-unit l = record {
-  serves : Serves meaning l.pages top;
-  serial : meaning.serial l.pages top.tty ≤ 1 + 17 * l.unit;
+invariant-loop-unit g l = record {
+  serves : Serves g.P.Pages.means l.pages top;
+  serial : g.P.Pages.means.serial l.pages top.tty ≤ 1 + 17 * l.unit;
   pc : l.regs.pc < 2 ^ 18;
 }
