@@ -1,22 +1,16 @@
 -- Bursts, unit by unit.
-use Rattle.std.proofs.Common.{◌≡◌, ℕ, zero, suc, ◌+◌, ◌<◌, ◌^◌, Option, Some, None, refl, sym, ◌∙◌, ap, subst, add-one}
-use Rattle.std.specs.Prelude.{length}
-use Rattle.std.specs.Option.{option_and_then}
+use Rattle.std.proofs.Common.{◌≡◌, ℕ, ◌+◌, ◌<◌, ◌^◌, Option, Some, None, refl, ◌∙◌, ap, subst, add-one}
 use Rattle.std.specs.Ordering.{nat_cmp}
 use Rattle.plain_model.specs.declared.fork.Regs.{Regs}
 use Rattle.plain_model.specs.declared.map.SpaceHandle.{SpaceHandle}
 use Rattle.plain_model.specs.declared.names.ForkName.{ForkName}
-use Rattle.plain_model.specs.Outcome.{DrumWords}
 use Rattle.plain_model.specs.Pages.{PagesMeaning, HasSpace, StaysPut}
 use Rattle.plain_model.specs.State.{NumberedPages}
-use Rattle.ka10_unit.specs.declared.ending.Quick.{Quick}
 use Rattle.ka10_unit.specs.declared.ending.Quick.TheVariants as quick
-use Rattle.ka10_unit.specs.declared.ending.Burst.{Burst}
-use Rattle.ka10_unit.specs.declared.ending.End.{End}
 use Rattle.ka10_unit.specs.declared.ending.End.TheVariants as end
-use Rattle.ka10_unit.specs.Once.{After, once, in_a_row, unless_posted}
+use Rattle.ka10_unit.specs.Once.{After, once, in_a_row}
 use Rattle.ka10_unit.specs.InPlace.{InPlace, OneUnit}
-use Rattle.ka10_unit.specs.Bursts.{Came, InRow, SoFar, and_one_more}
+use Rattle.ka10_unit.specs.Bursts.{InRow, SoFar, and_one_more}
 use Rattle.ka10_unit.proofs.Placing.{stays_put}
 
 module _ (f : ForkName) (p : NumberedPages) (regs : Regs) where

@@ -7,8 +7,6 @@ pub mod Placing
 pub mod IndirectWords
 pub mod Units
 pub mod BurstLemmas
-pub mod Singles
-pub mod Growing
 pub mod Adding
 pub mod Referring
 pub mod Seeing

@@ -1,5 +1,5 @@
 -- Units in a row, done in place.
-use Rattle.std.specs.Prelude.{◌≡◌, ℕ, ◌<◌, ◌≤◌, ◌^◌, Option, None, Some, length}
+use Rattle.std.specs.Prelude.{◌≡◌, ℕ, ◌<◌, ◌^◌, Option, None, Some, length}
 use Rattle.std.specs.Option.{option_and_then}
 use Rattle.std.specs.Ordering.{nat_cmp}
 use Rattle.plain_model.specs.declared.channel.TheConstants.{OVERFLOW, PUSHDOWN_OVERFLOW}
@@ -13,7 +13,6 @@ use Rattle.ka10_unit.specs.declared.ending.Burst.{Burst}
 use Rattle.ka10_unit.specs.declared.ending.End.{End}
 use Rattle.ka10_unit.specs.declared.ending.End.TheVariants as end
 use Rattle.ka10_unit.specs.Once.{After, once, in_a_row}
-use Rattle.ka10_unit.specs.InPlace.{InPlace}
 
 -- so many units in a row, and then one more
 abbrev pub and_one_more : ForkName → ℕ → NumberedPages → Regs → Option (After nat_cmp)

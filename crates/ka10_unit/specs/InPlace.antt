@@ -12,7 +12,7 @@ use Rattle.plain_model.specs.declared.names.ForkName.{ForkName}
 use Rattle.plain_model.specs.Deeds.{Deed, deed_of, in_ac, taken_by}
 use Rattle.plain_model.specs.Instructions.{does, does_pointer, finishes, is_executive}
 use Rattle.plain_model.specs.Outcome.{DrumWords}
-use Rattle.plain_model.specs.Pages.{PagesMeaning, HasSpace, StaysPut}
+use Rattle.plain_model.specs.Pages.{PagesMeaning, StaysPut}
 use Rattle.plain_model.specs.State.{NumberedPages}
 use Rattle.plain_model.specs.Steps.{Steps}
 use Rattle.ka10_unit.specs.declared.ending.Quick.{Quick}

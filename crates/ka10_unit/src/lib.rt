@@ -17,7 +17,6 @@ mod conditions;
 mod dispatch;
 mod ending;
 mod ends;
-mod gather;
 mod in_place;
 mod instruction;
 mod instructions;
@@ -49,7 +48,6 @@ pub use committed::{Committed, Post};
 pub use conditions::{commit_compare, commit_count, commit_jump_or_skip};
 pub use ending::{Burst, End, Quick};
 pub use ends::Ending;
-pub use gather::{Added, Asking, Gather, MOST_MAKINGS};
 pub use in_place::quick;
 pub use instructions::{
     AddOne, Aobj, Blt, Boolean, Commit, Compare, Exch, Half, Jfcl, Jffo, Jrst, JsaJra, JsrJsp,

@@ -39,11 +39,10 @@ module _ (jobs : List (Option Job)) (none : jobs ≡ no_jobs TERMINALS) where
   none_there : {A : Type 0} (t : ℕ) (j : Job) → job_at jobs t ≡ Some j → A
   none_there t j e = absurd (let f : None ≡ Some j = sym (no_job t) ∙ e in cc f)
 
-  pub sound_boot : {P : Type 0} (means : PagesMeaning P) (p : P) (serials : List ℕ) → serials ≡ replicate TERMINALS 1 → means.flat ≡ true → means.single p ≡ true → 0 < means.most_forks → ((t : Tty) → means.forks_of p t ≡ 0) → AreSound means p jobs serials 0
+  pub sound_boot : {P : Type 0} (means : PagesMeaning P) (p : P) (serials : List ℕ) → serials ≡ replicate TERMINALS 1 → means.flat ≡ true → 0 < means.most_forks → ((t : Tty) → means.forks_of p t ≡ 0) → AreSound means p jobs serials 0
   unfolding no_jobs
-  sound_boot means p serials ones flat single roomy forks = record {
+  sound_boot means p serials ones flat roomy forks = record {
     flat = flat;
-    single = single;
     roomy = roomy;
     job_room = ap length none ∙ length-replicate {A = Option Job} TERMINALS None;
     serial_room = ap length ones ∙ length-replicate {A = ℕ} TERMINALS 1;

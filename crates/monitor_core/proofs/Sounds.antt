@@ -184,15 +184,14 @@ job_begins t f k own low first last top =
 
 module _ {P : Type 0} (means : PagesMeaning P) (p : P) (jobs : List (Option Job)) (serials : List ℕ) (terminals : ℕ) (s : AreSound means p jobs serials terminals) where
   -- another job with the same top fork in a terminal's place
-  pub sound_job : (q : P) (t : ℕ) (j k : Job) → job_at jobs t ≡ Some j → means.lives q ≡ means.lives p → means.forks_of q ≡ means.forks_of p → (means.single p ≡ true → means.single q ≡ true) → k.top.name ≡ j.top.name → IsJob t k → AreSound means q (set jobs t (Some k)) serials terminals
-  sound_job q t j k at alive absent single name job =
+  pub sound_job : (q : P) (t : ℕ) (j k : Job) → job_at jobs t ≡ Some j → means.lives q ≡ means.lives p → means.forks_of q ≡ means.forks_of p → k.top.name ≡ j.top.name → IsJob t k → AreSound means q (set jobs t (Some k)) serials terminals
+  sound_job q t j k at alive absent name job =
       let within : t < length jobs = omega (arith, s.job_room, (s.each_job t j at).low) in
       let here : job_at (set jobs t (Some k)) t ≡ Some k = get_or-set_same jobs t (Some k) None within in
       let other : (u : ℕ) → (u ≡ t → ⊥) → job_at (set jobs t (Some k)) u ≡ job_at jobs u = λ u ne. get_or-set_other jobs t u (Some k) None ne in
       let found : (u : ℕ) (i : Job) → u ≡ t → job_at (set jobs t (Some k)) u ≡ Some i → k ≡ i = λ u i same e. let f : Some k ≡ Some i = sym here ∙ ap (job_at (set jobs t (Some k))) (sym same) ∙ e in cc f in
       record {
         flat = s.flat;
-        single = single s.single;
         roomy = s.roomy;
         job_room = length-set jobs t (Some k) ∙ s.job_room;
         serial_room = s.serial_room;
@@ -218,9 +217,9 @@ module _ {P : Type 0} (means : PagesMeaning P) (p : P) (jobs : List (Option Job)
 
   -- a new job, with its fork
   pub sound_begun : (q : P) (t : Tty) (f : ForkName) (k : Job) (after : ℕ) → job_at jobs t.0 ≡ None → f.tty ≡ t → f.serial ≡ slice_index serials t.0 → f.serial ≤ LAST_SERIAL → t.0 < TERMINALS → k.top ≡ top_fork f
-      → ((g : ForkName) → means.lives q g ≡ (same_fork g f || means.lives p g)) → ((u : Tty) → u ≢ f.tty → means.forks_of q u ≡ means.forks_of p u) → (means.single p ≡ true → means.single q ≡ true) → after ≡ max terminals (t.0 + 1)
+      → ((g : ForkName) → means.lives q g ≡ (same_fork g f || means.lives p g)) → ((u : Tty) → u ≢ f.tty → means.forks_of q u ≡ means.forks_of p u) → after ≡ max terminals (t.0 + 1)
       → AreSound means q (set jobs t.0 (Some k)) (set serials t.0 (f.serial + 1)) after
-  sound_begun q t f k after free own numbered last low top alive others single later =
+  sound_begun q t f k after free own numbered last low top alive others later =
       let within : t.0 < length jobs = omega (arith, s.job_room, low) in
       let here : job_at (set jobs t.0 (Some k)) t.0 ≡ Some k = get_or-set_same jobs t.0 (Some k) None within in
       let other : (u : ℕ) → (u ≡ t.0 → ⊥) → job_at (set jobs t.0 (Some k)) u ≡ job_at jobs u = λ u ne. get_or-set_other jobs t.0 u (Some k) None ne in
@@ -229,7 +228,6 @@ module _ {P : Type 0} (means : PagesMeaning P) (p : P) (jobs : List (Option Job)
       let job = job_begins t f k own low first last top in
       record {
         flat = s.flat;
-        single = single s.single;
         roomy = s.roomy;
         job_room = length-set jobs t.0 (Some k) ∙ s.job_room;
         serial_room = length-set serials t.0 (f.serial + 1) ∙ s.serial_room;

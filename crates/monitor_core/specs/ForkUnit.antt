@@ -84,9 +84,9 @@ pub record Kept (f g : Fork) (count : ℕ) : Type 0 where
   pub accumulators : length g.body.regs.ac ≡ ACCUMULATORS
   pub units : g.body.units ≡ f.body.units + count
 
--- so many pages at most are made in one unit, one a reference, and one where its last word is asked for again
+-- so many pages at most are made in one unit: two for each reference that a gather has room for
 abbrev pub most_of_unit : ℕ
-most_of_unit = 17
+most_of_unit = 128
 
 -- one unit of a fork ran, over each drum that fits, and showed this
 pub record RanOne {P : Type 0} (means : PagesMeaning P) (old new : P) (f g : Fork) (shown : Shown) : Type 0 where

@@ -21,10 +21,9 @@ pub record IsJob (t : ℕ) (j : Job) : Type 0 where
   pub accumulators : length j.top.body.regs.ac ≡ ACCUMULATORS
 
 -- the jobs are of the terminals below this number, and their top forks live; a terminal without a job has no fork; the next
--- serials are serials, or the one behind the last; and the pages are in memory alone and none follows another, with room for a fork of each terminal
+-- serials are serials, or the one behind the last; and the pages are in memory alone, with room for a fork of each terminal
 pub record AreSound {P : Type 0} (means : PagesMeaning P) (p : P) (jobs : List (Option Job)) (serials : List ℕ) (terminals : ℕ) : Type 0 where
   pub flat : means.flat ≡ true
-  pub single : means.single p ≡ true
   pub roomy : 0 < means.most_forks
   pub job_room : length jobs ≡ TERMINALS
   pub serial_room : length serials ≡ TERMINALS

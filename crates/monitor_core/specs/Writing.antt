@@ -47,7 +47,6 @@ pub record Makes {P : Type 0} (means : PagesMeaning P) (old new : P) (owner : Tt
   pub most : means.most new ≡ means.most old
   pub own : means.serial new owner ≤ means.serial old owner + count
   pub others : (t : Tty) → t ≢ owner → means.serial new t ≡ means.serial old t
-  pub single : means.single old ≡ true → means.single new ≡ true
 
 -- a job with a word in an accumulator of its top fork
 abbrev pub with_word : Job → ℕ → ℕ → Job

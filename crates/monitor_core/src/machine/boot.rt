@@ -17,7 +17,6 @@ impl<P: Pages + Drop> Machine<P> {
     /// balance set isn't looked at before there is one. Memory, where none was found.
     pub fn boot(alloc: Global, _config: Config, pages: P) -> Result<Machine<P>, Memory>
         requires flat { P.means.flat ≡ true }
-        requires single { P.means.single pages ≡ true }
         requires roomy { 0 < P.means.most_forks }
         requires forks { (t : ATty) → P.means.forks_of pages t ≡ 0 }
         requires serials { (t : ATty) → P.means.serial pages t ≤ 1 }

@@ -22,7 +22,6 @@ impl<P: Pages + Drop> System<P> {
     /// No job, over pages without a fork. Memory, where none was found.
     pub fn boot(alloc: Global, pages: P) -> Result<System<P>, Memory>
         requires flat { P.means.flat ≡ true }
-        requires single { P.means.single pages ≡ true }
         requires roomy { 0 < P.means.most_forks }
         requires none { (t : ATty) → P.means.forks_of pages t ≡ 0 }
         ensures pages { IfOk result (λ m. m.pages ≡ pages) }

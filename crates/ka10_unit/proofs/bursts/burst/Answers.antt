@@ -1,4 +1,4 @@
-use Rattle.ka10_unit.proofs.BurstLemmas.{so_far_none, so_far_more, ends_overflow, ends_pushdown, ends_slow, ends_most, space_stays}
+use Rattle.ka10_unit.proofs.BurstLemmas.{so_far_none, so_far_more, ends_overflow, ends_pushdown, ends_slow, space_stays}
 use Rattle.ka10_unit.proofs.bursts.burst.Goals as goal
 
 pub loop-units-init : goal.loop-units-init

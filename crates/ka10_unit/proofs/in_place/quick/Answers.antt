@@ -1,4 +1,4 @@
-use Rattle.std.proofs.Common.{◌≡◌, lit≤}
+use Rattle.std.proofs.Common.{lit≤}
 use Rattle.ka10_unit.specs.InPlace.{Addressee, OneUnit}
 use Rattle.ka10_unit.proofs.Finishing.{for_all}
 use Rattle.ka10_unit.proofs.Placing.{in_place_more}

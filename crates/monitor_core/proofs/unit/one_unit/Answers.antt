@@ -18,7 +18,7 @@ returns-in-Done g c =
           let q = g.P.Pages.means.plain c.slow_unit.new.pages d in
           (told.0, done_behind f p q regs (channel_of c.in-Done.post) told.1 ∙ (λ i. record { fork = sym ended.fork i; pages = q; shown = sym ended.shown i }));
       keeps = subst (λ h. Kept f h 1) (sym ended.fork) (ended_keeps f c.requires.can.off regs slow.pc (slow.accumulators ∙ c.requires.can.accumulators) c.in-Done.post);
-      made = record { lives = slow.grows.lives; forks = slow.grows.forks; most = slow.grows.most; own = slow.grows.serial; others = slow.grows.serials; single = slow.grows.single };
+      made = record { lives = slow.grows.lives; forks = slow.grows.forks; most = slow.grows.most; own = slow.grows.serial; others = slow.grows.serials };
       fits = ended.fits;
     }
 
@@ -35,7 +35,7 @@ returns-in-Trap g c =
           let q = g.P.Pages.means.plain c.slow_unit.new.pages d in
           (told.0, trap_behind f p q regs c.in-Trap.channel told.1 (ap (λ x. g.P.Pages.means.plain x d) slow.stopped.1) slow.stopped.0 ∙ (λ i. record { fork = sym posted.fork i; pages = q; shown = sym posted.shown i }));
       keeps = subst (λ h. Kept f h 1) (sym posted.fork) (posted_keeps f c.requires.can.off regs slow.pc (slow.accumulators ∙ c.requires.can.accumulators) c.in-Trap.channel);
-      made = record { lives = slow.grows.lives; forks = slow.grows.forks; most = slow.grows.most; own = slow.grows.serial; others = slow.grows.serials; single = slow.grows.single };
+      made = record { lives = slow.grows.lives; forks = slow.grows.forks; most = slow.grows.most; own = slow.grows.serial; others = slow.grows.serials };
       fits = posted.fits;
     }
 
@@ -52,6 +52,6 @@ returns-in-Call g c =
           let q = g.P.Pages.means.plain c.slow_unit.new.pages d in
           (told.0, call_behind f p q regs c.in-Call.number told.1 (ap (λ x. g.P.Pages.means.plain x d) slow.stopped.1) slow.stopped.0 ∙ (λ i. record { fork = sym called.fork i; pages = q; shown = sym called.shown i }));
       keeps = subst (λ h. Kept f h 1) (sym called.fork) (called_keeps f c.requires.can.off regs slow.pc (slow.accumulators ∙ c.requires.can.accumulators) c.in-Call.number);
-      made = record { lives = slow.grows.lives; forks = slow.grows.forks; most = slow.grows.most; own = slow.grows.serial; others = slow.grows.serials; single = slow.grows.single };
+      made = record { lives = slow.grows.lives; forks = slow.grows.forks; most = slow.grows.most; own = slow.grows.serial; others = slow.grows.serials };
       fits = called.fits;
     }

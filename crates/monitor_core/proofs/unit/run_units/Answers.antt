@@ -26,7 +26,7 @@ returns-in-Most-clause-ran g c =
             subst (λ k. RanUnits f p n (record { fork = ran_on f k regs; pages = q; shown = Nothing })) (sym c.from.ensures) (row_ran f p n (record { pages = q; regs = regs; post = None }) (omega (arith, counted, c.requires.some)) came),
           );
       keeps = subst (λ k. Kept f (ran_on f k regs) n) (sym c.from.ensures) (row_keeps f n regs burst.pc (burst.accumulators ∙ c.requires.can.accumulators));
-      made = record { lives = burst.stays.lives; forks = burst.stays.forks; most = burst.stays.most; own = omega (arith, ap (λ s. s f.name.tty) burst.stays.serials); others = λ t ne. ap (λ s. s t) burst.stays.serials; single = λ is. burst.stays.single ∙ is };
+      made = record { lives = burst.stays.lives; forks = burst.stays.forks; most = burst.stays.most; own = omega (arith, ap (λ s. s f.name.tty) burst.stays.serials); others = λ t ne. ap (λ s. s t) burst.stays.serials };
       shown = tt;
     }
 
@@ -47,7 +47,7 @@ returns-in-Overflow-clause-ran g c =
           (burst.fits d fits, subst (RanUnits f p (n + 1)) (λ i. record { fork = fork i; pages = q; shown = sym ended.shown i }) (post_behind f p n (record { pages = q; regs = regs; post = Some OVERFLOW }) came));
       keeps = one_more_keeps f (ran_on f n regs) _ n row
           (subst (λ h. Kept (ran_on f n regs) h 1) (ap (λ k. counted (posted_if (ran_on f k regs) (Some OVERFLOW))) (sym c.from.ensures) ∙ sym ended.fork) (ended_keeps (ran_on f n regs) c.requires.can.off regs burst.pc row.accumulators Overflow));
-      made = record { lives = burst.stays.lives; forks = burst.stays.forks; most = burst.stays.most; own = omega (arith, ap (λ s. s f.name.tty) burst.stays.serials); others = λ t ne. ap (λ s. s t) burst.stays.serials; single = λ is. burst.stays.single ∙ is };
+      made = record { lives = burst.stays.lives; forks = burst.stays.forks; most = burst.stays.most; own = omega (arith, ap (λ s. s f.name.tty) burst.stays.serials); others = λ t ne. ap (λ s. s t) burst.stays.serials };
       shown = ended.fits;
     }
 
@@ -68,7 +68,7 @@ returns-in-Pushdown-clause-ran g c =
           (burst.fits d fits, subst (RanUnits f p (n + 1)) (λ i. record { fork = fork i; pages = q; shown = sym ended.shown i }) (post_behind f p n (record { pages = q; regs = regs; post = Some PUSHDOWN_OVERFLOW }) came));
       keeps = one_more_keeps f (ran_on f n regs) _ n row
           (subst (λ h. Kept (ran_on f n regs) h 1) (ap (λ k. counted (posted_if (ran_on f k regs) (Some PUSHDOWN_OVERFLOW))) (sym c.from.ensures) ∙ sym ended.fork) (ended_keeps (ran_on f n regs) c.requires.can.off regs burst.pc row.accumulators Pushdown));
-      made = record { lives = burst.stays.lives; forks = burst.stays.forks; most = burst.stays.most; own = omega (arith, ap (λ s. s f.name.tty) burst.stays.serials); others = λ t ne. ap (λ s. s t) burst.stays.serials; single = λ is. burst.stays.single ∙ is };
+      made = record { lives = burst.stays.lives; forks = burst.stays.forks; most = burst.stays.most; own = omega (arith, ap (λ s. s f.name.tty) burst.stays.serials); others = λ t ne. ap (λ s. s t) burst.stays.serials };
       shown = ended.fits;
     }
 
@@ -95,7 +95,6 @@ returns-in-Slow-clause-ran g c =
         most = one.made.most ∙ burst.stays.most;
         own = omega (arith, one.made.own, ap (λ s. s f.name.tty) burst.stays.serials);
         others = λ t ne. one.made.others t ne ∙ ap (λ s. s t) burst.stays.serials;
-        single = λ is. one.made.single (burst.stays.single ∙ is);
       };
       shown = one.fits;
     }

@@ -9,7 +9,7 @@ invariant_of-self g c =
     let f : ForkName = record { tty = c.args.t; serial = c.args.serial } in
     record {
       sound = sound_begun g.P.Pages.means c.args.self.now.pages c.args.self.now.jobs.items c.args.self.now.fork_serials.items c.args.self.now.terminals c.args.self.now.sound c.add_fork.new.self c.args.t f c.new.result c.max-self.result c.requires.free refl c.requires.serial c.requires.unused c.requires.terminal c.new.ensures.top
-          c.add_fork.ensures.lives c.add_fork.ensures.others (c.add_fork.ensures.single refl) c.max-self.ensures;
+          c.add_fork.ensures.lives c.add_fork.ensures.others c.max-self.ensures;
     }
 
 pub returns : goal.returns

@@ -26,13 +26,13 @@ invariant_of-self-in-Poke g c =
     let at = job_read c.args.self.now.jobs.items c.args.t.0 _ c.in-Some.job c.args.self.now.sound.job_room c.requires.terminal c.index_mut.ensures.value c.in-Some.is in
     let job = c.args.self.now.sound.each_job c.args.t.0 c.in-Some.job at in
     let poked = poked_job c.args.t.0 c.in-Poke.address c.in-Poke.word c.in-Some.job c.poke.new.self job (λ low. (c.poke.ensures.low low).1) (λ high. (c.poke.ensures.high high).0) in
-    record { sound = sound_job g.P.Pages.means c.args.self.now.pages c.args.self.now.jobs.items c.args.self.now.fork_serials.items c.args.self.now.terminals c.args.self.now.sound c.poke.new.pages c.args.t.0 c.in-Some.job c.poke.new.self at c.poke.ensures.made.lives c.poke.ensures.made.forks c.poke.ensures.made.single poked.0 poked.1 }
+    record { sound = sound_job g.P.Pages.means c.args.self.now.pages c.args.self.now.jobs.items c.args.self.now.fork_serials.items c.args.self.now.terminals c.args.self.now.sound c.poke.new.pages c.args.t.0 c.in-Some.job c.poke.new.self at c.poke.ensures.made.lives c.poke.ensures.made.forks poked.0 poked.1 }
 
 pub invariant_of-self-in-Start : goal.invariant_of-self-in-Start
 invariant_of-self-in-Start g c =
     let at = job_read c.args.self.now.jobs.items c.args.t.0 _ c.in-Some.job c.args.self.now.sound.job_room c.requires.terminal c.index_mut.ensures.value c.in-Some.is in
     record {
-      sound = sound_job g.P.Pages.means c.args.self.now.pages c.args.self.now.jobs.items c.args.self.now.fork_serials.items c.args.self.now.terminals c.args.self.now.sound c.args.self.now.pages c.args.t.0 c.in-Some.job c.start.new.self at refl refl (λ is. is) (ap (λ f. f.name) c.start.ensures.top)
+      sound = sound_job g.P.Pages.means c.args.self.now.pages c.args.self.now.jobs.items c.args.self.now.fork_serials.items c.args.self.now.terminals c.args.self.now.sound c.args.self.now.pages c.args.t.0 c.in-Some.job c.start.new.self at refl refl (ap (λ f. f.name) c.start.ensures.top)
           (job_restarts c.args.t.0 c.in-Start.address c.in-Some.job c.start.new.self (c.args.self.now.sound.each_job c.args.t.0 c.in-Some.job at) (subst FitsJobEvent c.in-Start.is c.requires.fits) c.start.ensures.top);
     }
 

@@ -17,7 +17,7 @@ ran-requires-clause-few g c =
 pub ran-requires-clause-serves : goal.ran-requires-clause-serves
 ran-requires-clause-serves g c =
     let holds = holds_top c.args.self.now c.args.fork.tty.0 c.in-Some.job (ran_job c.args.self.now c.args.fork c.requires.can _ c.in-Some.job c.index_mut.ensures.value c.in-Some.is) in
-    record { flat = holds.flat; single = c.args.self.now.sound.single; lives = holds.lives; terminal = holds.terminal }
+    record { flat = holds.flat; lives = holds.lives; terminal = holds.terminal }
 
 pub invariant_of-self : goal.invariant_of-self
 invariant_of-self g c =
@@ -25,7 +25,7 @@ invariant_of-self g c =
     let job = c.args.self.now.sound.each_job c.args.fork.tty.0 c.in-Some.job at in
     let ran = c.ran.ensures.ran.top in
     record {
-      sound = sound_job g.P.Pages.means c.args.self.now.pages c.args.self.now.jobs.items c.args.self.now.fork_serials.items c.args.self.now.terminals c.args.self.now.sound c.ran.new.pages c.args.fork.tty.0 c.in-Some.job c.ran.new.self at ran.made.lives ran.made.forks ran.made.single ran.keeps.name
+      sound = sound_job g.P.Pages.means c.args.self.now.pages c.args.self.now.jobs.items c.args.self.now.fork_serials.items c.args.self.now.terminals c.args.self.now.sound c.ran.new.pages c.args.fork.tty.0 c.in-Some.job c.ran.new.self at ran.made.lives ran.made.forks ran.keeps.name
           (job_runs c.args.fork.tty.0 c.ran.result.count c.in-Some.job c.ran.new.self job ran.keeps);
     }
 
