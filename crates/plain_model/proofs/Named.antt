@@ -28,7 +28,12 @@ use Rattle.plain_model.specs.References.{Referred, granted, denied, full, in_map
 use Rattle.plain_model.specs.Room.{HasRoom}
 use Rattle.plain_model.specs.declared.call.TheConstants.{PBOUT, HALTF}
 use Rattle.plain_model.specs.declared.channel.TheConstants.{ILLEGAL_INSTRUCTION}
-use Rattle.plain_model.specs.Unit.{Effect, in_command_mode, stopped, unit_ended, trapped, pbout, haltf, called, advanced, posted_if, went, over, unit_on, unit}
+use Rattle.plain_model.specs.Unit.{Effect, in_command_mode, stopped, unit_ended, trapped, pbout, haltf, turned, called, advanced, posted_if, went, over, unit_on, unit}
+use Rattle.plain_model.specs.declared.call.End.{End}
+use Rattle.plain_model.specs.declared.call.End.TheVariants.{Done, Refused, Trap}
+use Rattle.plain_model.specs.declared.call.MapChange.{MapChange}
+use Rattle.plain_model.specs.Calls.{end_of, with_error, fork_behind, parts_behind, lifted}
+use Rattle.plain_model.specs.MapCalls.{map_call, map_changed, pages_seen}
 use Rattle.plain_model.specs.Steps.{Planned, Ending, done, call, trap, need, stopped as unit_stopped, pages_left}
 use Rattle.plain_model.specs.References.{slot_at}
 use Rattle.plain_model.specs.declared.map.NewMap.TheVariants.{Empty as EmptyMap}
@@ -63,6 +68,12 @@ posted_fits f channel fits =
     let Fits : Fork → Type 0 = λ g. IsForkName g.name in
     let dropped : Fork = cond (is_panic channel) (with_status f (Forced channel)) f in
     cond_both (listens f.body.psi channel) (pended f channel) dropped Fits (λ takes. fits) (λ misses. cond_both (is_panic channel) (with_status f (Forced channel)) f Fits (λ panics. fits) (λ drops. fits))
+
+behind_fits : {C : Type 0} (f : Fork) (e : End C) → IsForkName f.name → IsForkName (fork_behind f e).name
+unfolding fork_behind
+behind_fits f (Done change regs) fits = fits
+behind_fits f (Refused code) fits = posted_fits (with_error f code) ILLEGAL_INSTRUCTION fits
+behind_fits f (Trap channel) fits = posted_fits f channel fits
 
 module _ (s : PlainState) (n : IsNamed s) where
   living_fits : (k : ForkName) (f : Fork) → map.get s.forks k ≡ Some f → IsForkName f.name
@@ -112,10 +123,14 @@ module _ (s : PlainState) (n : IsNamed s) where
   haltf_named : (f : Fork) → IsForkName f.name → Leaves (haltf s f)
   haltf_named f fits = stopped_named s n (with_status (with_regs f (advanced f.body.regs)) Halted) fits
 
+  turned_named : (f : Fork) (e : End MapChange) → IsForkName f.name → Leaves (turned (lifted pages_seen map_changed s f e))
+  turned_named f e fits = ended_named (record s { pages = parts_behind map_changed s.pages e }) n (fork_behind f e) (fork_behind f e).body.status (behind_fits f e fits)
+
   called_named : (f : Fork) (number : ℕ) → IsForkName f.name → Leaves (called s f number)
   called_named f number fits =
       cond_both (number == PBOUT) _ _ Leaves (λ prints. pbout_named f fits) (λ other.
-      cond_both (number == HALTF) _ _ Leaves (λ halts. haltf_named f fits) (λ none. trapped_named f ILLEGAL_INSTRUCTION fits))
+      cond_both (number == HALTF) _ _ Leaves (λ halts. haltf_named f fits) (λ none.
+      turned_named f (end_of s.pages (map_call number (record { who = f.name; regs = f.body.regs; forks = s.forks }))) fits))
 
   over_named : (f : Fork) (r : Planned name_cmp ⊥) → IsForkName f.name → Leaves (over s f r)
   over_named f (done t e) fits = went_named s n f (pages_left f.name t e) e fits

@@ -32,7 +32,13 @@ use Rattle.plain_model.specs.declared.fork.ForkStatus.TheVariants.{Run as Runnin
 use Rattle.plain_model.specs.Interrupts.{posted, pended, listens, is_panic}
 use Rattle.plain_model.specs.declared.call.TheConstants.{PBOUT, HALTF}
 use Rattle.plain_model.specs.declared.channel.TheConstants.{ILLEGAL_INSTRUCTION}
-use Rattle.plain_model.specs.Unit.{Effect, in_command_mode, stopped, unit_ended, trapped, called, advanced, posted_if, went, over, unit_on, unit}
+use Rattle.plain_model.specs.Unit.{Effect, in_command_mode, stopped, unit_ended, trapped, turned, called, advanced, posted_if, went, over, unit_on, unit}
+use Rattle.plain_model.specs.declared.call.End.{End}
+use Rattle.plain_model.specs.declared.call.End.TheVariants.{Done, Refused, Trap}
+use Rattle.plain_model.specs.declared.call.MapChange.{MapChange}
+use Rattle.plain_model.specs.Calls.{end_of, with_error, fork_behind, parts_behind, lifted}
+use Rattle.plain_model.specs.MapCalls.{map_call, map_changed, pages_seen}
+use Rattle.plain_model.proofs.MapTurns.{turn_whole}
 use Rattle.plain_model.specs.References.{slot_at}
 use Rattle.plain_model.specs.Steps.{Steps, refers, widens, keeps, ends, traps, calls, Planned, Progress, Ending, goes, done, call, trap, need, stopped as unit_stopped, is_accumulator, goes_on, asked_at, plain_asked, plainly, word_taken, referred, widened, run, begun, put_into, pages_left}
 use Rattle.plain_model.specs.declared.event.Event.{Event}
@@ -285,10 +291,27 @@ module _ (s : PlainState) (w : IsWhole s) (name : ForkName) (f : Fork) (there : 
   trapped_whole : (channel : ℕ) → Leaves (trapped s f channel)
   trapped_whole channel = ended_whole_fork (posted f channel) (posted f channel).body.status (posted_same f channel)
 
+-- a turn of a call leaves its fork's name and slot
+behind_same : {C : Type 0} (f : Fork) (e : End C) → IsSame f (fork_behind f e)
+unfolding fork_behind
+behind_same f (Done change regs) = (refl, refl)
+behind_same f (Refused code) = posted_same (with_error f code) ILLEGAL_INSTRUCTION
+behind_same f (Trap channel) = posted_same f channel
+
+module _ (s : PlainState) (w : IsWhole s) (name : ForkName) (f : Fork) (there : map.get s.forks name ≡ Some f) where
+  -- a call on maps changes pages alone
+  turned_whole : (e : End MapChange) → Leaves (turned (lifted pages_seen map_changed s f e))
+  turned_whole e =
+      let q = parts_behind map_changed s.pages e in
+      let stays = turn_whole s.pages w.pages e in
+      let whole = pages_whole s w q stays.whole (omega (arith, w.room, stays.room, stays.limit)) stays.files stays.keys in
+      ended_whole_fork (record s { pages = q }) whole name f there (fork_behind f e) (fork_behind f e).body.status (behind_same f e)
+
   called_whole : (number : ℕ) → Leaves (called s f number)
   called_whole number =
-      cond_both (number == PBOUT) _ _ Leaves (λ prints. put (counted (with_regs f (advanced f.body.regs))) (refl, refl)) (λ other.
-      cond_both (number == HALTF) _ _ Leaves (λ halts. stopped_whole (with_status (with_regs f (advanced f.body.regs)) Halted) (refl, refl)) (λ none. trapped_whole ILLEGAL_INSTRUCTION))
+      cond_both (number == PBOUT) _ _ Leaves (λ prints. put s w name f there (counted (with_regs f (advanced f.body.regs))) (refl, refl)) (λ other.
+      cond_both (number == HALTF) _ _ Leaves (λ halts. stopped_whole s w name f there (with_status (with_regs f (advanced f.body.regs)) Halted) (refl, refl)) (λ none.
+      turned_whole (end_of s.pages (map_call number (record { who = f.name; regs = f.body.regs; forks = s.forks })))))
 
 -- a unit that goes through leaves its fork's name and slot
 went_whole : (s : PlainState) (w : IsWhole s) (name : ForkName) (f : Fork) → map.get s.forks name ≡ Some f → (q : NamedPages) → IsWhole (record s { pages = q }) → (e : Ending) → Leaves (went s f q e)

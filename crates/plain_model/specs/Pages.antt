@@ -29,7 +29,7 @@ use Rattle.plain_model.specs.declared.map.NewEntry.TheVariants.{Empty as SetEmpt
 use Rattle.plain_model.specs.declared.store.Room.{Room}
 use Rattle.plain_model.specs.declared.store.Room.TheVariants.{Enough, NeedFrame as NoFrame, Full as NoRoom}
 use Rattle.plain_model.specs.Outcome.{DrumWords}
-use Rattle.plain_model.specs.State.{PlainPages, NumberedPages, Maps, page_serial}
+use Rattle.plain_model.specs.State.{PlainPages, NumberedPages, page_serial}
 use Rattle.plain_model.specs.Maps.{entry_at, maps_on_way, narrow}
 use Rattle.plain_model.specs.Room.{live, uses}
 use Rattle.plain_model.specs.References.{Spot, in_map, in_file, Making, blank, copy, Referred, granted, denied, full, reference, next_making, words_of, page_at, with_entry}
@@ -242,8 +242,6 @@ pub record PagesMeaning (P : Type 0) : Type 1 where
   pub most_forks : ℕ
   -- nothing is ever in no frame, and nothing depends on a drum
   pub flat : Bool
-  -- no entry follows another, and none has the copy mark
-  pub single : P → Bool
   -- the handle of a living fork's space
   pub space : P → ForkName → Option SpaceHandle
   -- where the page of a space is that a look found, under its number
@@ -278,7 +276,6 @@ pub record StaysPut {P : Type 0} (means : PagesMeaning P) (old new : P) : Type 0
   pub forks : means.forks_of new ≡ means.forks_of old
   pub serials : means.serial new ≡ means.serial old
   pub most : means.most new ≡ means.most old
-  pub single : means.single new ≡ means.single old
 
 -- what a transfer leaves, and what is asked of frames: the handles, and all numbers
 pub record StaysMapped {P : Type 0} (means : PagesMeaning P) (old new : P) : Type 0 where
@@ -308,16 +305,6 @@ pub record AreHoused {P : Type 0} (means : PagesMeaning P) (p : P) : Type 0 wher
   pub frames : (means.scene p).free_frames ≡ means.store.spare p
   pub homes : length (means.store.homes p) ≤ means.most p
   pub flat : means.store.flat ≡ means.flat
-
--- an entry that follows none, and has no copy mark
-abbrev pub is_single : MapEntry → Bool
-is_single Empty = true
-is_single (Names n a) = not a.c
-is_single (Follows serial page a) = false
-
--- each entry of a map is single
-pub record AreSingle (maps : Maps) : Type 0 where
-  pub each : (s : Slot) (e : MapEntry) → entry_at maps s ≡ Some e → is_single e ≡ true
 
 -- over each drum that fits, the plain pages have the numbers that are told without it, no more than may be; and what is in no frame is there
 pub record Agrees {P : Type 0} (means : PagesMeaning P) (p : P) (plain : NumberedPages) : Type 0 where

@@ -6,7 +6,6 @@ use Rattle.std.specs.FinMap as map_of
 use Rattle.plain_model.specs.declared.names.Tty.{Tty}
 use Rattle.plain_model.specs.declared.names.ForkName.{ForkName}
 use Rattle.plain_model.specs.declared.call.TheConstants.{PBOUT, HALTF}
-use Rattle.plain_model.specs.declared.channel.TheConstants.{ILLEGAL_INSTRUCTION}
 use Rattle.plain_model.specs.declared.character.TheConstants.{LINE_END, CARRIAGE_RETURN, LINE_FEED, PROMPT}
 use Rattle.plain_model.specs.declared.fork.TerminalMode.TheVariants.{Command}
 use Rattle.plain_model.specs.declared.fork.ForkStatus.{ForkStatus}
@@ -18,6 +17,8 @@ use Rattle.plain_model.specs.declared.event.Item.TheVariants.{Char}
 use Rattle.plain_model.specs.State.{PlainState, PlainPages, NamedPages}
 use Rattle.plain_model.specs.Steps.{Planned, Ending, done, call, trap, need, stopped as unit_stopped, run, begun, plainly, pages_left}
 use Rattle.plain_model.specs.Instructions.{instruction}
+use Rattle.plain_model.specs.Calls.{Called}
+use Rattle.plain_model.specs.MapCalls.{map_called}
 use Rattle.plain_model.specs.Forks.{with_fork, with_regs, with_status, counted}
 use Rattle.plain_model.specs.Interrupts.{posted}
 use Rattle.plain_model.specs.Orders.{name_cmp}
@@ -76,9 +77,13 @@ pbout s f = record {
 abbrev pub haltf : PlainState → Fork → Effect
 haltf s f = stopped s (with_status (with_regs f (advanced f.body.regs)) Halted)
 
+-- a turn is over of a call that changes parts of the state
+abbrev pub turned : Called → Effect
+turned c = unit_ended c.state c.fork c.fork.body.status
+
 -- a turn of a monitor call; a number that is no call traps as an illegal instruction
 abbrev pub called : PlainState → Fork → ℕ → Effect
-called s f number = if number == PBOUT then pbout s f else (if number == HALTF then haltf s f else trapped s f ILLEGAL_INSTRUCTION)
+called s f number = if number == PBOUT then pbout s f else (if number == HALTF then haltf s f else turned (map_called s f number))
 
 -- what a unit comes to, on these pages and registers of a fork
 abbrev pub unit_on : {K : Type 0} {file_cmp : K → K → Ordering} → ForkName → PlainPages file_cmp → Regs → Planned file_cmp ⊥

@@ -11,7 +11,7 @@ ghost use Rattle.plain_model.specs.Outcome.{DrumWords, Stands};
 ghost use Rattle.plain_model.specs.References.{in_map, settled, slot_at, word_at, stored, page_at as named_at, without_fork};
 ghost use Rattle.plain_model.specs.Stores.{IsFetched, CanFetch, Completes, Tells, Evicts, CanKeep, Keeps, LetsGo, awaited, meeting};
 ghost use Rattle.plain_model.specs.Whole.{AreWhole};
-ghost use Rattle.plain_model.specs.Pages.{PagesMeaning, Agrees, AreSingle, AreHoused, HasSpace, StaysInCore, TakesFrames, StaysPut, StaysMapped, StaysPlain, StaysSame, IsPlace, IsTouched, IsReady, CanChange, IsOwner, IsNewMap, IsNewEntry, FollowsPage, SettlesTo, spot_of, touch_of, peek_of, seen_of, map_away, counted, changed, room_for, can_settle, frames_taken, is_in_core, is_seen, is_entry, is_seen_entry, same_fork};
+ghost use Rattle.plain_model.specs.Pages.{PagesMeaning, Agrees, AreHoused, HasSpace, StaysInCore, TakesFrames, StaysPut, StaysMapped, StaysPlain, StaysSame, IsPlace, IsTouched, IsReady, CanChange, IsOwner, IsNewMap, IsNewEntry, FollowsPage, SettlesTo, spot_of, touch_of, peek_of, seen_of, map_away, counted, changed, room_for, can_settle, frames_taken, is_in_core, is_seen, is_entry, is_seen_entry, same_fork};
 
 use crate::{
     Completed, ForkName, Found, FrameId, Home, Kind, MOST_HELD, MOST_HOLDERS, Need, NewEntry,
@@ -35,7 +35,6 @@ pub trait Pages {
         ensures answer { result ≡ means.touched self.now at kind }
         ensures told { (d : DrumWords) (owner : ATty) → means.fits self.now d → IsOwner owner → result ≡ touch_of (means.plain self.now d) (means.scene self.now) (spot_of at) kind owner }
         ensures copies { (sole : Bool) → result ≡ Touch.Copy sole → kind ≡ Kind.Write }
-        ensures single { (sole : Bool) → means.single self.now ≡ true → result ≢ Touch.Copy sole }
         ensures core { means.flat ≡ true → is_in_core result ≡ true };
 
     /// The word at an offset of the page of a place, which a touch to read or to execute finds Ready.
@@ -93,7 +92,6 @@ pub trait Pages {
         ensures scene { TakesFrames (means.scene self.old) (means.scene self.new) (frames_taken (means.touched self.old at kind)) }
         ensures count { means.count self.new ≡ means.count self.old + frames_taken (means.touched self.old at kind) }
         ensures lives { means.lives self.new ≡ means.lives self.old }
-        ensures single { means.single self.old ≡ true → means.single self.new ≡ true }
         ensures forks { means.forks_of self.new ≡ means.forks_of self.old }
         ensures serial { means.serial self.new owner ≤ means.serial self.old owner + 1 }
         ensures serials { (t : ATty) → t ≢ owner → means.serial self.new t ≡ means.serial self.old t }
@@ -147,16 +145,16 @@ pub trait Pages {
         ensures fits { (d : DrumWords) → means.fits self.old d → means.fits self.new d }
         ensures stays { StaysPut means self.old self.new };
 
-    /// Adds a fork with its map, which takes a frame at most. The map is empty, or each entry of it follows the
-    /// same entry of a fork of the same terminal.
+    /// Adds a fork with its map, which takes a frame at most, and one is free. The map is empty, or each entry of it
+    /// follows the same entry of a fork of the same terminal.
     fn add_fork(&mut self, fork: ForkName, map: NewMap)
         requires room { means.count self.old < means.most self.old }
+        requires frame { 0 < (means.scene self.old).free_frames }
         requires absent { means.lives self.old fork ≡ false }
         requires few { means.forks_of self.old fork.tty < means.most_forks }
         requires terminal { fork.tty.0 < TERMINALS }
         requires map { IsNewMap (means.lives self.old) fork map }
         ensures told { (d : DrumWords) → means.fits self.old d → means.fits self.new d × (means.plain self.new d ≡ with_map (means.plain self.old d) fork map) }
-        ensures single { map ≡ NewMap.Empty → means.single self.old ≡ true → means.single self.new ≡ true }
         ensures scene { StaysInCore (means.scene self.old) (means.scene self.new) 1 }
         ensures lives { (f : AForkName) → means.lives self.new f ≡ (same_fork f fork || means.lives self.old f) }
         ensures forks { means.forks_of self.new fork.tty ≡ means.forks_of self.old fork.tty + 1 }
@@ -244,9 +242,6 @@ pub trait Pages {
 
     /// Over each drum that fits, the plain pages are whole.
     ghost whole: { (p : Self) (d : DrumWords) → means.fits p d → AreWhole (means.plain p d) };
-
-    /// Where no entry follows another, the plain pages have none that does.
-    ghost single: { (p : Self) (d : DrumWords) → means.single p ≡ true → means.fits p d → AreSingle (means.plain p d).maps };
 
     /// A terminal of which no fork lives has none of that name.
     ghost none_lives: { (p : Self) (f : AForkName) → means.forks_of p f.tty ≡ 0 → means.lives p f ≡ false };
