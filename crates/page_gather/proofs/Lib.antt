@@ -8,3 +8,4 @@ pub mod Lookups
 pub mod Judged
 pub mod Settling
 pub mod WordsSeen
+pub mod Again

@@ -198,10 +198,10 @@ pub record IsKept (owner : Tty) (rs : List PageReference) (cs : List Change) (ho
   pub slots : list_all (λ r. nat_lt r.slot.page SPACE_PAGES) rs ≡ true
   pub sources : are_in_space cs ≡ true
 
--- a place was referred to
-abbrev pub IsReferred : Gathering → Place → Type 0
-IsReferred g (Fork s) = refers_to g.references s ≡ true
-IsReferred g (File f page) = ⊥
+-- the maps on the way of a place of a fork's space, and its page if it has one, are in frames
+abbrev pub IsPlaceNear : NumberedPages → Scene → Place → Type 0
+IsPlaceNear p scene (Fork s) = IsNear p scene s
+IsPlaceNear p scene (File f page) = ⊥
 
 -- one reference more, to a place
 abbrev pub PlaceAdds : List PageReference → List PageReference → Place → Kind → Type 0

@@ -6,7 +6,7 @@ ghost use Rattle.plain_model.specs.State.{NumberedPages};
 ghost use Rattle.plain_model.specs.Pages.{IsOwner, IsPlace, Scene, spot_of};
 ghost use Rattle.plain_model.specs.References.{page_at, word_at};
 ghost use Rattle.page_gather.specs.Changes.{are_in_space};
-ghost use Rattle.page_gather.specs.Gathering.{Adds, ArePlaces, AreSound, Gathers, IsReferred, PlaceAdds, are_same, changes_of, changes_with, is_needless, left_of};
+ghost use Rattle.page_gather.specs.Gathering.{Adds, ArePlaces, AreSound, Gathers, IsPlaceNear, PlaceAdds, are_same, changes_of, changes_with, is_needless, left_of};
 ghost use Rattle.plain_model.specs.declared.names.Slot.{Slot as ASlot};
 ghost use Rattle.plain_model.specs.declared.names.TheConstants.{SPACE_PAGES};
 ghost use Rattle.page_gather.specs.Making.{Grows};
@@ -145,11 +145,11 @@ impl Gather {
         self.add_judged(pages, r)
     }
 
-    /// Whether both places, which were added, name one page after the references.
+    /// Whether both places, which are in frames, name one page after the references.
     pub fn same<P: Pages>(&self, pages: &P, a: Place, b: Place) -> bool
         requires place { IsPlace (P.means.lives pages.now) a }
         requires other { IsPlace (P.means.lives pages.now) b }
-        ensures told { (d : DrumWords) → P.means.fits pages.now d → Gathers (P.means.plain pages.now d) (P.means.scene pages.now) self.now → IsReferred self.now a → IsReferred self.now b
+        ensures told { (d : DrumWords) → P.means.fits pages.now d → Gathers (P.means.plain pages.now d) (P.means.scene pages.now) self.now → IsPlaceNear (left_of (P.means.plain pages.now d) self.now) (P.means.scene pages.now) a → IsPlaceNear (left_of (P.means.plain pages.now d) self.now) (P.means.scene pages.now) b
             → result ≡ are_same (page_at (left_of (P.means.plain pages.now d) self.now) (spot_of a)) (page_at (left_of (P.means.plain pages.now d) self.now) (spot_of b)) }
     {
         are_together(
@@ -160,12 +160,12 @@ impl Gather {
         )
     }
 
-    /// The word at an offset of a place that was added, after the references. A copy that they make has the words
+    /// The word at an offset of a place that is in frames, after the references. A copy that they make has the words
     /// of its page already, also where it ends a chain that was too long before.
     pub fn word<P: Pages>(&self, pages: &P, at: Place, offset: u16) -> Word
         requires place { IsPlace (P.means.lives pages.now) at }
         requires offset { offset < PAGE_WORDS }
-        ensures told { (d : DrumWords) → P.means.fits pages.now d → Gathers (P.means.plain pages.now d) (P.means.scene pages.now) self.now → IsReferred self.now at
+        ensures told { (d : DrumWords) → P.means.fits pages.now d → Gathers (P.means.plain pages.now d) (P.means.scene pages.now) self.now → IsPlaceNear (left_of (P.means.plain pages.now d) self.now) (P.means.scene pages.now) at
             → result ≡ word_at (left_of (P.means.plain pages.now d) self.now) (spot_of at) offset }
     {
         word_after(pages, self.changes.as_slice(), slot_of(pages, at), offset)

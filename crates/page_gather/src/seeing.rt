@@ -10,7 +10,7 @@ ghost use Rattle.plain_model.specs.References.{in_map, page_at, word_at};
 ghost use Rattle.page_gather.specs.declared.reference.PageReference.{PageReference as APageReference};
 ghost use Rattle.page_gather.specs.Changes.{are_in_space, change_of, is_in_space, source_words};
 ghost use Rattle.page_gather.specs.Seen.{word_of};
-ghost use Rattle.page_gather.specs.Gathering.{AreGathered, HasWalked, IsSourceNear, after_all, are_same, refers_to};
+ghost use Rattle.page_gather.specs.Gathering.{AreGathered, HasWalked, IsNear, IsSourceNear, after_all, are_same};
 
 use crate::chains::{MOST_LINKS, Way, is_same, is_same_page, last_change, source_of, walk};
 use crate::change::Change;
@@ -57,12 +57,13 @@ fn end_together<P: Pages>(pages: &P, changes: &[Change], x: Walked, y: Walked) -
     is_same_page(n, m)
 }
 
-/// Whether two slots that were referred to name one page, after the changes.
+/// Whether two slots that are in frames name one page, after the changes.
 pub fn are_together<P: Pages>(pages: &P, changes: &[Change], a: Slot, b: Slot) -> bool
     requires page { a.page < SPACE_PAGES }
     requires other { b.page < SPACE_PAGES }
     ensures told { (d : DrumWords) (owner : ATty) (homes : ℕ) (rs : List APageReference) → P.means.fits pages.now d → AreGathered (P.means.plain pages.now d) (P.means.scene pages.now) owner rs changes.now homes
-        → refers_to rs a ≡ true → refers_to rs b ≡ true → result ≡ are_same (page_at (after_all (P.means.plain pages.now d) owner rs) (in_map a)) (page_at (after_all (P.means.plain pages.now d) owner rs) (in_map b)) }
+        → IsNear (after_all (P.means.plain pages.now d) owner rs) (P.means.scene pages.now) a → IsNear (after_all (P.means.plain pages.now d) owner rs) (P.means.scene pages.now) b
+        → result ≡ are_same (page_at (after_all (P.means.plain pages.now d) owner rs) (in_map a)) (page_at (after_all (P.means.plain pages.now d) owner rs) (in_map b)) }
 {
     let Way::Found(x) = walk(pages, changes, MOST_LINKS, a) else {
         return false;
@@ -99,13 +100,13 @@ fn source_word<P: Pages>(pages: &P, source: Option<Slot>, offset: u16) -> Word
     found_word(pages.peek(Place::Fork(slot), offset))
 }
 
-/// The word at an offset of the page of a slot that was referred to, after the changes.
+/// The word at an offset of the page of a slot that is in frames, after the changes.
 pub fn word_after<P: Pages>(pages: &P, changes: &[Change], slot: Slot, offset: u16) -> Word
     requires page { slot.page < SPACE_PAGES }
     requires offset { offset < PAGE_WORDS }
     requires sources { are_in_space changes.now ≡ true }
     ensures told { (d : DrumWords) (owner : ATty) (homes : ℕ) (rs : List APageReference) → P.means.fits pages.now d → AreGathered (P.means.plain pages.now d) (P.means.scene pages.now) owner rs changes.now homes
-        → refers_to rs slot ≡ true → result ≡ word_at (after_all (P.means.plain pages.now d) owner rs) (in_map slot) offset }
+        → IsNear (after_all (P.means.plain pages.now d) owner rs) (P.means.scene pages.now) slot → result ≡ word_at (after_all (P.means.plain pages.now d) owner rs) (in_map slot) offset }
 {
     let Way::Found(w) = walk(pages, changes, MOST_LINKS, slot) else {
         return Word::ZERO;

@@ -9,7 +9,7 @@ pub returns-in_default : goal.returns-in_default
 returns-in_default g c = record {
   told = λ d owner homes rs fits k first second.
       let p : NumberedPages = g.P.Pages.means.plain c.args.pages.now d in
-      let none = lost_told p (after_all p owner rs) (g.P.Pages.means.scene c.args.pages.now) owner c.args.changes.now homes c.args.a _ c.in_default.not-Found (k.near c.args.a first).maps (c.walk.ensures.told d (after_all p owner rs) owner homes fits k.changed) in
+      let none = lost_told p (after_all p owner rs) (g.P.Pages.means.scene c.args.pages.now) owner c.args.changes.now homes c.args.a _ c.in_default.not-Found first.maps (c.walk.ensures.told d (after_all p owner rs) owner homes fits k.changed) in
       sym (ap (λ n. are_same n (page_at (after_all p owner rs) (in_map c.args.b))) none);
 }
 
@@ -17,7 +17,7 @@ pub returns-in_default-walk : goal.returns-in_default-walk
 returns-in_default-walk g c = record {
   told = λ d owner homes rs fits k first second.
       let p : NumberedPages = g.P.Pages.means.plain c.args.pages.now d in
-      let none = lost_told p (after_all p owner rs) (g.P.Pages.means.scene c.args.pages.now) owner c.args.changes.now homes c.args.b _ c.in_default-walk.not-Found (k.near c.args.b second).maps (c.walk-2.ensures.told d (after_all p owner rs) owner homes fits k.changed) in
+      let none = lost_told p (after_all p owner rs) (g.P.Pages.means.scene c.args.pages.now) owner c.args.changes.now homes c.args.b _ c.in_default-walk.not-Found second.maps (c.walk-2.ensures.told d (after_all p owner rs) owner homes fits k.changed) in
       sym (ap (are_same (page_at (after_all p owner rs) (in_map c.args.a))) none ∙ same_none (page_at (after_all p owner rs) (in_map c.args.a)));
 }
 
