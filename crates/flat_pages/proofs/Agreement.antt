@@ -1,14 +1,12 @@
 -- The plain pages that tables in agreement are.
-use Rattle.std.proofs.Common.{◌≡◌, ◌≢◌, ◌⊎◌, inl, inr, ℕ, zero, suc, ◌+◌, ◌<◌, ◌≤◌, List, [], ◌∷◌, Bool, true, false, not, cond, ◌&&◌, ◌||◌, Option, None, Some, length, map, refl, sym, ◌∙◌, ap, subst, arith, is_some, nat_eq}
-use Rattle.std.specs.Prelude.{slice_get, slice_set, slice_index, slice_index_or, ◌==◌, nat_lt, count_by}
+use Rattle.std.proofs.Common.{◌≡◌, ◌≢◌, ◌⊎◌, inl, inr, ℕ, zero, suc, ◌+◌, ◌<◌, ◌≤◌, List, [], ◌∷◌, true, false, cond, Option, None, Some, length, map, refl, sym, ◌∙◌, ap, subst, arith, is_some}
+use Rattle.std.specs.Prelude.{slice_index_or, nat_lt, count_by}
 use Rattle.std.specs.List.{sum_by}
-use Rattle.std.specs.Option.{option_map, option_map_or, option_and_then, unwrap_or}
+use Rattle.std.specs.Option.{option_map, option_map_or, unwrap_or}
 use Rattle.std.specs.FinMap as fin
-use Rattle.std.specs.Ordering.{eq_by_cmp, nat_cmp}
-use Rattle.std.proofs.lemmas.Bool.{cases_eq, cases_lt}
-use Rattle.std.proofs.lemmas.Bool.Decides.{eqb_tells, nat_tests}
+use Rattle.std.specs.Ordering.{nat_cmp}
+use Rattle.std.proofs.lemmas.Bool.Decides.{nat_tests}
 use Rattle.std.proofs.lemmas.List.Sums.{sum_by-cons}
-use Rattle.std.proofs.lemmas.Option.{slice_get-map}
 use Rattle.std.proofs.lemmas.List.{length-map}
 use Rattle.outside.specs.declared.TheConstants.{PAGE_WORDS}
 use Rattle.plain_model.specs.declared.names.ForkName.{ForkName}
@@ -20,22 +18,22 @@ use Rattle.plain_model.specs.declared.map.MapEntry.{MapEntry}
 use Rattle.plain_model.specs.declared.map.MapEntry.TheVariants as entry
 use Rattle.plain_model.specs.Outcome.{DrumWords}
 use Rattle.plain_model.specs.Orders.{page_cmp, fork_cmp, file_page_cmp}
-use Rattle.plain_model.specs.State.{Map, Maps, NumberedPages, page_serial}
+use Rattle.plain_model.specs.State.{Map, NumberedPages, page_serial}
 use Rattle.plain_model.specs.Room.{same_page, page_in, uses, live}
 use Rattle.plain_model.specs.Stores.{HomePlace, free, away, here, place, is_taken, over_drum, content}
 use Rattle.plain_model.specs.Whole.{AreWhole}
-use Rattle.plain_model.proofs.OrderLemmas.{page_cmp_total, page_cmp_apart, page_tied, fork_cmp_total}
+use Rattle.plain_model.proofs.OrderLemmas.{page_cmp_total, page_tied, fork_cmp_total}
 use Rattle.plain_model.proofs.Counts.{Same, page_tells, same_itself, weight, total_insert}
-use Rattle.plain_model.proofs.Whole.{map_uses, tally, uses_are, live_whole, no_values}
+use Rattle.plain_model.proofs.Whole.{tally, uses_are, live_whole, no_values}
 use Rattle.flat_pages.specs.declared.held_entry.EntryAt.{EntryAt}
 use Rattle.flat_pages.specs.declared.held_entry.HeldEntry.{HeldEntry}
 use Rattle.flat_pages.specs.declared.held_entry.HeldEntry.TheVariants.{Empty, Page, Follows}
 use Rattle.flat_pages.specs.declared.held_map.HeldMap.{HeldMap}
-use Rattle.flat_pages.specs.HeldMaps.{map_at, fork_at, held_entry, name_at, nobody, entry_of, entries_of, with_held, maps_from, maps_held, entries_total, points_at, living_in, AreHeld}
+use Rattle.flat_pages.specs.HeldMaps.{map_at, fork_at, held_entry, name_at, nobody, entry_of, entries_of, maps_from, maps_held, entries_total, points_at, living_in}
 use Rattle.flat_pages.specs.SlotTables.{Objects, with_object, objects_from, objects_of, Tables, plain_of, share_of, AreTables, AreSized}
 use Rattle.flat_pages.proofs.HeldEntries.{total_le, total_same, total_none, sum_zero, points_self, points_here, points_other}
 use Rattle.flat_pages.proofs.ForkMaps.{Once, searched, index_none, fork_within}
-use Rattle.flat_pages.proofs.LivingMaps.{get_held, get_from, get_living, get_gone}
+use Rattle.flat_pages.proofs.LivingMaps.{get_from, get_living, get_gone}
 
 -- a page has a home under its name, or none
 abbrev pub Housed : List (Option PageName) → PageName → Type 0

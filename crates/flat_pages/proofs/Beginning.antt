@@ -1,7 +1,7 @@
 -- What is left once a fork begins to live.
-use Rattle.std.proofs.Common.{◌≡◌, ◌≢◌, ◌⊎◌, inl, inr, ℕ, zero, suc, ◌+◌, ◌<◌, ◌≤◌, List, [], ◌∷◌, Bool, true, false, cond, ◌||◌, ◌++◌, Option, None, Some, length, map, replicate, take, refl, sym, ◌∙◌, ap, subst, arith, is_some, nat_eq}
-use Rattle.std.specs.Prelude.{slice_get, slice_set, slice_index_or}
-use Rattle.std.specs.List.{sum_by, count_by, range_with_len}
+use Rattle.std.proofs.Common.{◌≡◌, ◌≢◌, ◌⊎◌, inl, inr, ℕ, zero, suc, ◌+◌, ◌<◌, ◌≤◌, List, [], ◌∷◌, false, cond, ◌||◌, ◌++◌, Option, None, Some, length, map, replicate, take, refl, sym, ◌∙◌, ap, subst, arith, is_some, nat_eq}
+use Rattle.std.specs.Prelude.{slice_get, slice_set}
+use Rattle.std.specs.List.{sum_by, range_with_len}
 use Rattle.std.specs.Option.{option_map, option_map_or}
 use Rattle.std.specs.FinMap as fin
 use Rattle.std.proofs.lemmas.Bool.{cases_eq}
@@ -15,21 +15,18 @@ use Rattle.plain_model.specs.declared.names.ForkName.{ForkName}
 use Rattle.plain_model.specs.declared.names.PageName.{PageName}
 use Rattle.plain_model.specs.declared.names.Tty.{Tty}
 use Rattle.plain_model.specs.declared.names.TheConstants.{SPACE_PAGES, MOST_FORKS, TERMINALS}
-use Rattle.plain_model.specs.declared.map.MapEntry.{MapEntry}
 use Rattle.plain_model.specs.declared.map.MapEntry.TheVariants as entry
 use Rattle.plain_model.specs.Events.{empty_map, following_map}
 use Rattle.plain_model.specs.Maps.{full_access}
-use Rattle.plain_model.specs.Orders.{fork_cmp}
 use Rattle.plain_model.specs.Outcome.{DrumWords}
 use Rattle.plain_model.specs.Pages.{same_fork, StaysInCore}
 use Rattle.plain_model.specs.State.{Map, Maps}
 use Rattle.plain_model.proofs.OrderLemmas.{fork_cmp_total, fork_cmp_apart}
-use Rattle.flat_pages.specs.declared.held_entry.EntryAt.{EntryAt}
 use Rattle.flat_pages.specs.declared.held_entry.HeldEntry.{HeldEntry}
-use Rattle.flat_pages.specs.declared.held_entry.HeldEntry.TheVariants.{Empty, Page, Follows}
+use Rattle.flat_pages.specs.declared.held_entry.HeldEntry.TheVariants.{Empty, Follows}
 use Rattle.flat_pages.specs.declared.held_entry.Link.{Link}
 use Rattle.flat_pages.specs.declared.held_map.HeldMap.{HeldMap}
-use Rattle.flat_pages.specs.HeldMaps.{map_at, fork_at, held_entry, index_of, first_map, entry_of, entries_of, maps_held, entries_total, points_at, living_in, living_of, are_single, followers, AreHeld}
+use Rattle.flat_pages.specs.HeldMaps.{map_at, fork_at, index_of, first_map, entry_of, entries_of, maps_held, entries_total, points_at, living_in, living_of, followers, AreHeld}
 use Rattle.flat_pages.specs.SlotTables.{Tables, plain_of, AreTables}
 use Rattle.flat_pages.specs.Serials.{serial_of}
 use Rattle.flat_pages.specs.SlotTouches.{scene_of}
@@ -37,7 +34,6 @@ use Rattle.flat_pages.specs.TableSteps.{fork_begun}
 use Rattle.flat_pages.proofs.ForkMaps.{SameFork, fork_tells, Once, searched, index_is, index_none}
 use Rattle.flat_pages.proofs.HeldEntries.{sum_zero}
 use Rattle.flat_pages.proofs.LivingMaps.{inserted, get_living, get_gone}
-use Rattle.flat_pages.proofs.Singles.{single_begun}
 
 -- ---- the entries of a new map
 
@@ -312,6 +308,3 @@ module _ (t : Tables) (a : AreTables t) (k : ℕ) (f : ForkName) (unlived : fork
 
   pub old_empty : map (entry_of t.names) (map_at t.maps k).entries ≡ empty_map
   old_empty = unused_empty t.names t.maps a.held k within unlived
-
-  pub stays_single : (later : Tables) → later ≡ fork_begun t k f (map_at t.maps k).entries → are_single t.maps ≡ true → are_single later.maps ≡ true
-  stays_single later is h = ap (λ (x : Tables). are_single x.maps) is ∙ single_begun t.maps h k f within

@@ -1,7 +1,7 @@
 -- A map whose entries are emptied one after another.
-use Rattle.std.proofs.Common.{◌≡◌, ◌≢◌, ◌⊎◌, inl, inr, ℕ, zero, suc, ◌+◌, ◌<◌, ◌≤◌, List, [], ◌∷◌, Bool, true, false, cond, Option, None, Some, refl, sym, ◌∙◌, ap, subst, arith, is_some, length}
+use Rattle.std.proofs.Common.{◌≡◌, inl, inr, ℕ, zero, suc, ◌+◌, ◌<◌, ◌≤◌, List, [], ◌∷◌, Bool, true, false, cond, Option, None, Some, refl, sym, ◌∙◌, ap, subst, arith, length}
 use Rattle.std.specs.Prelude.{IsSome, nat_lt, slice_get, slice_set}
-use Rattle.std.specs.Option.{option_map, option_map_or, option_and_then}
+use Rattle.std.specs.Option.{option_map, option_map_or}
 use Rattle.std.specs.FinMap as fin
 use Rattle.std.proofs.lemmas.Bool.{cases_eq}
 use Rattle.std.proofs.lemmas.Bool.Decides.{nat_tests}
@@ -13,13 +13,12 @@ use Rattle.plain_model.specs.declared.map.MapEntry.TheVariants as entry
 use Rattle.plain_model.specs.declared.names.TheConstants.{SPACE_PAGES}
 use Rattle.plain_model.specs.Outcome.{DrumWords}
 use Rattle.plain_model.specs.State.{NumberedPages, Map, Maps}
-use Rattle.plain_model.specs.Maps.{entry_at, set_entry}
-use Rattle.plain_model.specs.Room.{same_page, page_in, uses}
+use Rattle.plain_model.specs.Maps.{entry_at}
+use Rattle.plain_model.specs.Room.{uses}
 use Rattle.plain_model.specs.References.{with_entry as entry_put}
 use Rattle.plain_model.specs.Pages.{StaysInCore, same_fork}
 use Rattle.plain_model.specs.Stores.{StoreMeaning, FitsHomes}
 use Rattle.plain_model.specs.Whole.{AreWhole}
-use Rattle.plain_model.proofs.Counts.{weight}
 use Rattle.plain_model.proofs.Kept.{entry_kept, entry_maps, uses_entry, unnamed_gone}
 use Rattle.flat_pages.specs.declared.held_entry.EntryAt.{EntryAt}
 use Rattle.flat_pages.specs.declared.held_entry.HeldEntry.{HeldEntry}
@@ -27,7 +26,7 @@ use Rattle.flat_pages.specs.declared.held_entry.HeldEntry.TheVariants.{Empty}
 use Rattle.flat_pages.specs.declared.held_map.HeldMap.{HeldMap}
 use Rattle.flat_pages.specs.declared.map_tables.MapTables.{MapTables}
 use Rattle.flat_pages.specs.HeldMaps.{AreHeld, fork_at, held_entry, map_at, with_entry, entry_of}
-use Rattle.flat_pages.specs.SlotTables.{Tables, plain_of, AreTables}
+use Rattle.flat_pages.specs.SlotTables.{plain_of, AreTables}
 use Rattle.flat_pages.specs.SlotMeaning.{AreTold}
 use Rattle.flat_pages.specs.SlotSteps.{SetsEntry}
 use Rattle.flat_pages.specs.TableSteps.{tables_of}
@@ -120,7 +119,7 @@ module _ {S : Type 0} (store : StoreMeaning S) (k : ℕ) where
 
   -- one more
   pub empties_more : (old now new : S) (tables then_tables tables' : MapTables) (page : ℕ) → AreTables (tables_of (store.homes now) then_tables) → AreTold (tables_of (store.homes now) then_tables)
-      → EmptiesMap store old now tables then_tables k page → IsSome (held_entry then_tables.maps.items (record { map = k; page = page })) → SetsEntry store now new then_tables tables' (record { map = k; page = page }) Empty → EmptiesMap store old new tables tables' k (page + 1)
+      → EmptiesMap store old now tables then_tables k page → IsSome (held_entry then_tables.maps.held.items (record { map = k; page = page })) → SetsEntry store now new then_tables tables' (record { map = k; page = page }) Empty → EmptiesMap store old new tables tables' k (page + 1)
   empties_more old now new tables then_tables tables' page agree told so_far some sets = record {
     told = λ d f is fits. told_more d f is fits;
     many = ap length sets.maps ∙ maps_length maps at Empty ∙ so_far.many;
@@ -133,7 +132,7 @@ module _ {S : Type 0} (store : StoreMeaning S) (k : ℕ) where
   }
     where
       maps : List HeldMap
-      maps = then_tables.maps.items
+      maps = then_tables.maps.held.items
 
       at : EntryAt
       at = record { map = k; page = page }
@@ -147,7 +146,7 @@ module _ {S : Type 0} (store : StoreMeaning S) (k : ℕ) where
         | inr ne ↦ entry_other maps at Empty (record { map = k; page = j }) (λ e. ne (ap (λ (x : EntryAt). x.page) e)) ∙ so_far.entries j (omega (arith, l, ne))
       ]
 
-      told_more : (d : DrumWords) (f : ForkName) → fork_at tables.maps.items k ≡ Some f → FitsHomes (store.homes old) d → FitsHomes (store.homes new) d × AreFewer (plain_of (tables_of (store.homes old) tables) d) (plain_of (tables_of (store.homes new) tables') d) f
+      told_more : (d : DrumWords) (f : ForkName) → fork_at tables.maps.held.items k ≡ Some f → FitsHomes (store.homes old) d → FitsHomes (store.homes new) d × AreFewer (plain_of (tables_of (store.homes old) tables) d) (plain_of (tables_of (store.homes new) tables') d) f
       told_more d f is fits =
           let before = so_far.told d f is fits in
           let slot : Slot = record { fork = f; page = page } in

@@ -1,20 +1,18 @@
 -- A fork that ends once its map is empty.
-use Rattle.std.proofs.Common.{◌≡◌, ◌≢◌, ◌⊎◌, inl, inr, ℕ, zero, suc, ◌+◌, ◌-◌, ◌<◌, ◌≤◌, List, [], ◌∷◌, Bool, true, false, not, ◌&&◌, cond, Option, None, Some, refl, sym, ◌∙◌, ap, subst, arith, is_some, length, map}
-use Rattle.std.specs.Prelude.{IsSome, nat_eq, nat_lt, slice_get, slice_set}
+use Rattle.std.proofs.Common.{◌≡◌, ◌≢◌, ◌⊎◌, inl, inr, ℕ, suc, ◌+◌, ◌<◌, List, [], ◌∷◌, Bool, true, false, not, ◌&&◌, cond, Option, None, Some, refl, sym, ◌∙◌, ap, arith, is_some, length, map}
+use Rattle.std.specs.Prelude.{nat_eq, nat_lt, slice_get, slice_set}
 use Rattle.std.specs.List.{count_by, sum_by}
-use Rattle.std.specs.Option.{option_map, option_map_or}
+use Rattle.std.specs.Option.{option_map_or}
 use Rattle.std.specs.FinMap as fin
-use Rattle.std.proofs.lemmas.Bool.{cases_eq, cases_lt}
+use Rattle.std.proofs.lemmas.Bool.{cases_eq}
 use Rattle.std.proofs.lemmas.Bool.Decides.{eqb_tells}
 use Rattle.std.proofs.lemmas.List.{get_or-set_same, get_or-set_other, length-set}
 use Rattle.std.proofs.lemmas.List.Sums.{sum_by-set, sum_by-cons}
 use Rattle.plain_model.specs.declared.names.ForkName.{ForkName}
 use Rattle.plain_model.specs.declared.names.PageName.{PageName}
 use Rattle.plain_model.specs.declared.names.Tty.{Tty}
-use Rattle.plain_model.specs.declared.names.Access.{Access}
 use Rattle.plain_model.specs.declared.map.MapEntry.TheVariants as map_entry
-use Rattle.plain_model.specs.Orders.{fork_cmp}
-use Rattle.plain_model.specs.State.{NumberedPages, Map, Maps}
+use Rattle.plain_model.specs.State.{NumberedPages, Map}
 use Rattle.plain_model.specs.Room.{same_page, page_in, uses}
 use Rattle.plain_model.specs.References.{without_fork}
 use Rattle.plain_model.specs.Pages.{same_fork}
@@ -25,8 +23,7 @@ use Rattle.plain_model.proofs.Whole.{map_uses, uses_are}
 use Rattle.plain_model.proofs.Kept.{AreKept, kept_same, kept_on, fork_kept, fork_maps, total_remove, unmapped_kept}
 use Rattle.flat_pages.specs.declared.held_entry.EntryAt.{EntryAt}
 use Rattle.flat_pages.specs.declared.held_entry.HeldEntry.{HeldEntry}
-use Rattle.flat_pages.specs.declared.held_entry.HeldEntry.TheVariants.{Empty, Follows}
-use Rattle.flat_pages.specs.declared.held_entry.Link.{Link}
+use Rattle.flat_pages.specs.declared.held_entry.HeldEntry.TheVariants.{Empty}
 use Rattle.flat_pages.specs.declared.held_map.HeldMap.{HeldMap}
 use Rattle.flat_pages.specs.HeldMaps.{AreHeld, fork_at, held_entry, map_at, entries_of, entries_total, entry_of, points_at, index_of, living_in, living_of, maps_held}
 use Rattle.flat_pages.specs.SlotTables.{Tables, AreTables}

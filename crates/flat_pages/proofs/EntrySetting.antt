@@ -1,28 +1,25 @@
 -- An entry that is set: what the pages are then, and what is in frames.
-use Rattle.std.proofs.Common.{◌≡◌, ◌≢◌, ℕ, ◌+◌, ◌<◌, ◌≤◌, List, Bool, true, false, cond, Option, None, Some, refl, sym, ◌∙◌, ap, subst, arith, is_some, length}
-use Rattle.std.specs.Prelude.{IsSome, slice_set}
+use Rattle.std.proofs.Common.{◌≡◌, ◌≢◌, ℕ, ◌<◌, List, false, Option, None, Some, refl, sym, ◌∙◌, ap, subst, arith}
+use Rattle.std.specs.Prelude.{IsSome}
 use Rattle.std.specs.Option.{option_map, option_and_then}
-use Rattle.std.proofs.lemmas.Bool.{cases_eq}
-use Rattle.std.proofs.lemmas.List.{get_or-set_same, get_or-set_other}
+use Rattle.std.proofs.lemmas.List.{get_or-set_other}
 use Rattle.plain_model.specs.declared.names.ForkName.{ForkName}
 use Rattle.plain_model.specs.declared.names.PageName.{PageName}
 use Rattle.plain_model.specs.declared.names.Home.{Home}
 use Rattle.plain_model.specs.declared.names.Access.{Access}
-use Rattle.plain_model.specs.declared.names.Slot.{Slot}
 use Rattle.plain_model.specs.declared.map.MapEntry.{MapEntry}
 use Rattle.plain_model.specs.declared.names.TheConstants.{SPACE_PAGES}
 use Rattle.plain_model.specs.Maps.{set_entry}
 use Rattle.plain_model.specs.Outcome.{DrumWords}
 use Rattle.plain_model.specs.Pages.{Scene, StaysInCore}
-use Rattle.plain_model.specs.Stores.{StoreMeaning, HomePlace, IsSound, IsFreed, FitsHomes, free, place, content}
+use Rattle.plain_model.specs.Stores.{StoreMeaning, IsSound, IsFreed, FitsHomes, free, content}
 use Rattle.flat_pages.specs.declared.held_entry.EntryAt.{EntryAt}
 use Rattle.flat_pages.specs.declared.held_entry.HeldEntry.{HeldEntry}
 use Rattle.flat_pages.specs.declared.held_entry.HeldEntry.TheVariants.{Empty, Page, Follows}
 use Rattle.flat_pages.specs.declared.held_entry.Link.{Link}
 use Rattle.flat_pages.specs.declared.map_tables.MapTables.{MapTables}
 use Rattle.flat_pages.specs.HeldMaps.{fork_at, held_entry, with_entry, name_at, entry_of, maps_held, points_at}
-use Rattle.flat_pages.specs.Walks.{slot_of}
-use Rattle.flat_pages.specs.SlotTables.{Tables, plain_of, share_of, AreTables}
+use Rattle.flat_pages.specs.SlotTables.{Tables, share_of, AreTables}
 use Rattle.flat_pages.specs.SlotTouches.{away_at, away_home, scene_of, home_named, is_alone}
 use Rattle.flat_pages.specs.SlotMeaning.{AreTold}
 use Rattle.flat_pages.specs.TableSteps.{tables_of, entry_kept, entry_left, home_freed}

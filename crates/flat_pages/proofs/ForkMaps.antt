@@ -1,17 +1,12 @@
 -- Which map is whose, and the maps that those in memory are.
-use Rattle.std.proofs.Common.{◌≡◌, ◌≢◌, ◌⊎◌, inl, inr, ℕ, zero, suc, ◌+◌, ◌*◌, ◌<◌, ◌≤◌, List, [], ◌∷◌, Bool, true, false, cond, ◌&&◌, Option, None, Some, length, map, refl, sym, ◌∙◌, ap, subst, arith, nat_eq, is_some}
-use Rattle.std.specs.Prelude.{slice_get, slice_set, slice_index_or, ◌==◌}
-use Rattle.std.specs.List.{sum_by, count_by}
-use Rattle.std.specs.Option.{option_map, option_map_or, option_and_then}
-use Rattle.std.specs.Ordering.{eq_by_cmp}
-use Rattle.std.specs.FinMap as fin
-use Rattle.std.proofs.lemmas.Bool.{cases_eq, cases_lt}
+use Rattle.std.proofs.Common.{◌≡◌, ◌≢◌, ◌⊎◌, inl, inr, ℕ, zero, suc, ◌<◌, List, [], ◌∷◌, true, false, Option, None, Some, length, refl, sym, ◌∙◌, ap, arith}
+use Rattle.std.specs.Prelude.{◌==◌}
+use Rattle.std.specs.Option.{option_map_or}
 use Rattle.std.proofs.lemmas.Bool.Decides.{eqb_tells}
 use Rattle.plain_model.specs.declared.names.ForkName.{ForkName}
-use Rattle.plain_model.specs.declared.names.PageName.{PageName}
 use Rattle.plain_model.specs.Pages.{same_fork}
 use Rattle.flat_pages.specs.declared.held_map.HeldMap.{HeldMap}
-use Rattle.flat_pages.specs.HeldMaps.{map_at, fork_at, is_map_of, one_later, index_of, AreHeld}
+use Rattle.flat_pages.specs.HeldMaps.{fork_at, is_map_of, index_of}
 
 abbrev pub SameFork : ForkName → ForkName → Type 0
 SameFork f g = ((same_fork f g ≡ true) × (f ≡ g)) ⊎ ((same_fork f g ≡ false) × (f ≢ g))

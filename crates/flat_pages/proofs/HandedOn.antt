@@ -1,14 +1,14 @@
 -- What is asked of the store that the pages stand in, and what that leaves of the pages.
-use Rattle.std.proofs.Common.{◌≡◌, ℕ, ◌+◌, List, [], ◌∷◌, Bool, true, false, Option, None, Some, refl, sym, ◌∙◌, ap, subst}
+use Rattle.std.proofs.Common.{◌≡◌, ℕ, ◌+◌, sym, ap, subst}
 use Rattle.plain_model.specs.Stores.{StoreMeaning, StaysThere, Ends, Completes, FitsHomes}
-use Rattle.plain_model.specs.Pages.{PagesMeaning, StaysSame, StaysPut}
+use Rattle.plain_model.specs.Pages.{StaysSame, StaysPut}
 use Rattle.plain_model.specs.declared.map.Need.{Need}
 use Rattle.plain_model.specs.declared.store.Completed.{Completed}
 use Rattle.flat_pages.specs.SlotTables.{Tables, plain_of}
 use Rattle.flat_pages.specs.SlotTouches.{touch_of_place, scene_of}
-use Rattle.flat_pages.specs.HeldMaps.{are_single, index_of, living_of}
+use Rattle.flat_pages.specs.HeldMaps.{living_of}
 use Rattle.flat_pages.specs.Serials.{serial_of}
-use Rattle.flat_pages.specs.SlotMeaning.{slots_meaning, within, place_along, seen_in}
+use Rattle.flat_pages.specs.SlotMeaning.{slots_meaning, within, place_along}
 
 module _ {P S : Type 0} (store : StoreMeaning S) (part : P → S) where
   -- a store that ends a transfer ends it for the pages
@@ -42,7 +42,6 @@ module _ {P S : Type 0} (store : StoreMeaning S) (part : P → S) where
       forks = λ i. living_of (same i).maps;
       serials = λ i. serial_of (same i).serials;
       most = λ i. (same i).limit;
-      single = λ i. are_single (same i).maps;
     }
 
     pub stays_same : StaysSame (slots_meaning store part tables) p q

@@ -1,23 +1,17 @@
 -- An entry is set, and its page may lose its last name: the tables agree afterwards, and the pages are kept that are still named.
-use Rattle.std.proofs.Common.{◌≡◌, ◌≢◌, ◌⊎◌, inl, inr, ℕ, zero, suc, ◌+◌, ◌-◌, ◌<◌, ◌≤◌, List, [], ◌∷◌, Bool, true, false, not, cond, Option, None, Some, length, refl, sym, ◌∙◌, ap, subst, arith, is_some, nat_eq}
-use Rattle.std.specs.Prelude.{slice_index, slice_index_or, slice_set, slice_get, nat_lt, count_by}
-use Rattle.std.specs.List.{sum_by}
-use Rattle.std.specs.Option.{option_map, unwrap_or}
-use Rattle.std.specs.Ordering.{nat_cmp}
+use Rattle.std.proofs.Common.{◌≡◌, ◌≢◌, inl, inr, ℕ, zero, suc, ◌+◌, ◌-◌, ◌<◌, ◌≤◌, List, [], ◌∷◌, true, false, cond, Option, None, Some, length, refl, sym, ◌∙◌, ap, arith, is_some}
+use Rattle.std.specs.Prelude.{nat_lt, count_by}
 use Rattle.std.specs.FinMap as fin
 use Rattle.std.proofs.lemmas.Bool.{cases_eq, cases_lt}
-use Rattle.std.proofs.lemmas.Bool.Decides.{nat_tests}
 use Rattle.std.proofs.lemmas.List.{length-set, get_or-set_same, get_or-set_other}
 use Rattle.std.proofs.lemmas.List.Sums.{sum_by-set}
 use Rattle.plain_model.specs.declared.names.Access.{Access}
 use Rattle.plain_model.specs.declared.names.Home.{Home}
-use Rattle.plain_model.specs.declared.names.ForkName.{ForkName}
 use Rattle.plain_model.specs.declared.names.PageName.{PageName}
 use Rattle.plain_model.specs.declared.names.Slot.{Slot}
 use Rattle.plain_model.specs.declared.names.TheConstants.{SPACE_PAGES}
 use Rattle.plain_model.specs.declared.map.MapEntry.{MapEntry}
 use Rattle.plain_model.specs.Outcome.{DrumWords}
-use Rattle.plain_model.specs.State.{NumberedPages}
 use Rattle.plain_model.specs.Maps.{entry_at, set_entry}
 use Rattle.plain_model.specs.Room.{uses}
 use Rattle.plain_model.specs.References.{with_entry as entry_put}
@@ -27,17 +21,12 @@ use Rattle.flat_pages.specs.declared.held_entry.EntryAt.{EntryAt}
 use Rattle.flat_pages.specs.declared.held_entry.HeldEntry.{HeldEntry}
 use Rattle.flat_pages.specs.declared.held_entry.HeldEntry.TheVariants.{Empty, Page, Follows}
 use Rattle.flat_pages.specs.declared.held_entry.Link.{Link}
-use Rattle.flat_pages.specs.declared.held_map.HeldMap.{HeldMap}
-use Rattle.flat_pages.specs.HeldMaps.{fork_at, held_entry, with_entry, name_at, entry_of, maps_held, points_at, entries_total}
-use Rattle.flat_pages.specs.Walks.{slot_of}
+use Rattle.flat_pages.specs.HeldMaps.{fork_at, held_entry, name_at, maps_held, points_at, entries_total}
 use Rattle.flat_pages.specs.SlotTables.{Tables, plain_of, share_of, AreTables, AreSized}
 use Rattle.flat_pages.specs.TableSteps.{left_shares, entry_kept, entry_left, home_freed}
-use Rattle.flat_pages.proofs.HeldEntries.{total_with, total_le, points_self, points_here, points_other}
-use Rattle.flat_pages.proofs.LivingMaps.{entry_held}
+use Rattle.flat_pages.proofs.HeldEntries.{total_with, total_le, points_self, points_other}
 use Rattle.flat_pages.proofs.Agreement.{Housed, housed, uses_home, uses_none, object_home, object_gone, tables_whole}
-use Rattle.flat_pages.proofs.Settling.{content_other}
-use Rattle.flat_pages.proofs.Taking.{held_set, living_set, left_is, left_length, points_most, positive_same, none_shared}
-use Rattle.flat_pages.proofs.Told.{maps_set, none_else, entry_still}
+use Rattle.flat_pages.proofs.Taking.{held_set, living_set, left_is, left_length, points_most, positive_same}
 
 module _ (t : Tables) (a : AreTables t) (at : EntryAt) (q e : HeldEntry) (there : held_entry t.maps at ≡ Some q) (page : (l : Link) (b : Access) → e ≡ Follows l b → l.page < SPACE_PAGES) (used : fork_at t.maps at.map ≡ None → e ≡ Empty) where
   le : (k : ℕ) → points_at k q ≤ share_of t.shares k

@@ -16,7 +16,6 @@ pub mod Making
 pub mod Leaving
 pub mod Meeting
 pub mod Beginning
-pub mod Singles
 pub mod Seeing
 pub mod Putting
 pub mod EntrySetting
@@ -28,3 +27,6 @@ pub mod HandedOn
 pub mod PageWalks
 pub mod Settled
 pub mod Opening
+pub mod Looking
+pub mod StoredRows
+pub mod Numbering

@@ -1,32 +1,22 @@
 -- The maps of the living forks, as those in memory change.
-use Rattle.std.proofs.Common.{◌≡◌, ◌≢◌, ◌⊎◌, inl, inr, ℕ, zero, suc, ◌+◌, ◌<◌, ◌≤◌, List, [], ◌∷◌, Bool, true, false, not, cond, ◌&&◌, ◌||◌, Option, None, Some, length, map, refl, sym, ◌∙◌, ap, subst, arith, is_some}
-use Rattle.std.specs.Prelude.{slice_get, slice_set, slice_index_or, ◌==◌}
-use Rattle.std.specs.List.{sum_by, count_by}
-use Rattle.std.specs.Option.{option_map, option_map_or, option_and_then, unwrap_or}
-use Rattle.std.specs.Ordering.{eq_by_cmp}
+use Rattle.std.proofs.Common.{◌≡◌, ◌≢◌, ◌⊎◌, inl, inr, ℕ, List, [], ◌∷◌, Bool, true, false, cond, Option, None, Some, refl, sym, ◌∙◌, ap, is_some}
+use Rattle.std.specs.Prelude.{slice_get}
+use Rattle.std.specs.Option.{option_map, option_map_or, option_and_then}
 use Rattle.std.specs.FinMap as fin
-use Rattle.std.proofs.lemmas.Bool.{cases_eq, cases_lt}
-use Rattle.std.proofs.lemmas.List.{map-set, get_or-set_same, get_or-set_other}
-use Rattle.std.proofs.lemmas.List.Sums.{sum_by-cons}
-use Rattle.std.proofs.lemmas.Option.{slice_get-map, slice_get_within}
+use Rattle.std.proofs.lemmas.Option.{slice_get-map}
 use Rattle.plain_model.specs.declared.names.ForkName.{ForkName}
 use Rattle.plain_model.specs.declared.names.PageName.{PageName}
 use Rattle.plain_model.specs.declared.names.Slot.{Slot}
-use Rattle.plain_model.specs.declared.map.MapEntry.{MapEntry}
 use Rattle.plain_model.specs.State.{Map, Maps}
 use Rattle.plain_model.specs.Orders.{fork_cmp}
-use Rattle.plain_model.specs.Maps.{entry_at, set_entry}
+use Rattle.plain_model.specs.Maps.{entry_at}
 use Rattle.plain_model.specs.Pages.{same_fork}
 use Rattle.plain_model.proofs.OrderLemmas.{fork_cmp_total, fork_cmp_apart, fork_tied}
-use Rattle.plain_model.proofs.Counts.{total_insert}
 use Rattle.flat_pages.specs.declared.held_entry.EntryAt.{EntryAt}
-use Rattle.flat_pages.specs.declared.held_entry.HeldEntry.{HeldEntry}
-use Rattle.flat_pages.specs.declared.held_entry.HeldEntry.TheVariants.{Empty, Page, Follows}
 use Rattle.flat_pages.specs.declared.held_map.HeldMap.{HeldMap}
-use Rattle.flat_pages.specs.HeldMaps.{map_at, fork_at, held_entry, entry_set, with_entry, is_map_of, one_later, index_of, entry_of, entries_of, with_held, maps_from, maps_held, entries_total, living_in}
+use Rattle.flat_pages.specs.HeldMaps.{map_at, fork_at, held_entry, one_later, index_of, entry_of, entries_of, maps_from, maps_held}
 use Rattle.flat_pages.specs.Walks.{slot_of}
-use Rattle.flat_pages.proofs.ForkMaps.{SameFork, fork_tells, Once, index_none, index_is, index_fork, searched}
-use Rattle.flat_pages.proofs.HeldEntries.{held_within, map_set_same, map_set_other, fork_set, entry_same}
+use Rattle.flat_pages.proofs.ForkMaps.{SameFork, fork_tells, Once, index_none, index_is, searched}
 
 Names : Type 0
 Names = List (Option PageName)

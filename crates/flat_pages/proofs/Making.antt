@@ -1,7 +1,6 @@
 -- The tables agree once a page is made.
-use Rattle.std.proofs.Common.{◌≡◌, ◌≢◌, ◌⊎◌, inl, inr, ℕ, zero, suc, ◌+◌, ◌*◌, ◌<◌, ◌≤◌, List, [], ◌∷◌, Bool, true, false, cond, Option, None, Some, length, take, refl, sym, ◌∙◌, ap, subst, arith, is_some, nat_eq}
-use Rattle.std.specs.Prelude.{nat_le, IsSome, slice_index_or, slice_set, count_by, ◌==◌}
-use Rattle.std.specs.List.{sum_by}
+use Rattle.std.proofs.Common.{◌≡◌, ◌≢◌, inl, inr, ℕ, zero, suc, ◌+◌, ◌<◌, ◌≤◌, List, [], Bool, true, false, cond, Option, None, Some, length, take, refl, sym, ◌∙◌, ap, subst, arith, nat_eq}
+use Rattle.std.specs.Prelude.{IsSome, slice_index_or, slice_set, count_by, ◌==◌}
 use Rattle.std.specs.Option.{option_map_or}
 use Rattle.std.proofs.lemmas.Bool.{cases_lt}
 use Rattle.std.proofs.lemmas.Bool.Decides.{nat_tests, eqb_tells}
@@ -22,9 +21,9 @@ use Rattle.flat_pages.specs.declared.map_tables.MapTables.{MapTables}
 use Rattle.flat_pages.specs.HeldMaps.{fork_at, held_entry, points_at, living_of, first_map, AreHeld}
 use Rattle.flat_pages.specs.SlotTables.{Tables, share_of, AreTables}
 use Rattle.flat_pages.specs.SlotTouches.{has_room, is_alone}
-use Rattle.flat_pages.specs.TableSteps.{tables_of, home_taken, home_renamed}
+use Rattle.flat_pages.specs.TableSteps.{tables_of, home_taken}
 use Rattle.flat_pages.specs.SlotSteps.{TakesHome}
-use Rattle.flat_pages.proofs.Taking.{taken_tables, renamed_tables}
+use Rattle.flat_pages.proofs.Taking.{taken_tables}
 use Rattle.flat_pages.proofs.HeldEntries.{points_other}
 
 pub fits_one : (t : Tables) → has_room t 1 ≡ true → t.taken + t.living + 1 ≤ t.limit

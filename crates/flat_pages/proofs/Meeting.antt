@@ -1,9 +1,7 @@
 -- What a walk from the slot of a living fork finds.
-use Rattle.std.proofs.Common.{◌≡◌, ◌≢◌, ◌⊎◌, inl, inr, ℕ, zero, suc, ◌+◌, ◌<◌, ◌≤◌, List, [], ◌∷◌, Bool, true, false, cond, Option, None, Some, length, refl, sym, ◌∙◌, ap, subst, arith, is_some}
-use Rattle.std.specs.Prelude.{slice_index, IsSome, slice_index_or, is_none, nat_lt, ◌&&◌, find}
+use Rattle.std.proofs.Common.{◌≡◌, ℕ, ◌<◌, List, Bool, true, false, cond, Option, None, Some, refl, sym, ◌∙◌, ap, subst, is_some}
+use Rattle.std.specs.Prelude.{slice_index, IsSome, is_none, nat_lt, ◌&&◌, find}
 use Rattle.std.specs.Option.{option_map, option_map_or, option_and_then, unwrap_or}
-use Rattle.std.specs.FinMap as fin
-use Rattle.plain_model.specs.declared.names.Access.{Access}
 use Rattle.plain_model.specs.declared.names.Home.{Home}
 use Rattle.plain_model.specs.declared.names.Kind.{Kind}
 use Rattle.plain_model.specs.declared.names.Kind.TheVariants.{Read, Write, Execute}
@@ -15,14 +13,12 @@ use Rattle.plain_model.specs.declared.names.Slot.{Slot}
 use Rattle.plain_model.specs.declared.names.Tty.{Tty}
 use Rattle.plain_model.specs.declared.names.TheConstants.{SPACE_PAGES}
 use Rattle.plain_model.specs.Outcome.{DrumWords}
-use Rattle.plain_model.specs.State.{NumberedPages}
 use Rattle.plain_model.specs.Maps.{Chain, entry_at, chain, maps_on_way}
 use Rattle.plain_model.specs.Room.{uses}
 use Rattle.plain_model.specs.declared.map.Found.{Found as AFound}
 use Rattle.plain_model.specs.declared.map.SpaceHandle.{SpaceHandle}
 use Rattle.plain_model.specs.declared.map.Touch.{Touch}
 use Rattle.plain_model.specs.declared.map.Touch.TheVariants.{Ready, Zero, Copy, NeedFrame, Denied, Full}
-use Rattle.plain_model.specs.declared.map.Peeked.{Peeked}
 use Rattle.plain_model.specs.declared.map.Peeked.TheVariants.{Is, Absent, NoPage}
 use Rattle.plain_model.specs.References.{in_map, page_at, words_of, words_at, word_at, zero_words}
 use Rattle.plain_model.specs.Pages.{Scene, IsPlace, IsOwner, touch_of, spot_of, peek_of, away_or, map_away, counted, absent_or, framed}
@@ -30,7 +26,6 @@ use Rattle.plain_model.specs.Stores.{HomePlace, free, away, here, place, is_take
 use Rattle.plain_model.proofs.Chains.{marked}
 use Rattle.flat_pages.specs.declared.held_entry.EntryAt.{EntryAt}
 use Rattle.flat_pages.specs.declared.held_entry.HeldEntry.{HeldEntry}
-use Rattle.flat_pages.specs.declared.held_entry.HeldEntry.TheVariants.{Page}
 use Rattle.flat_pages.specs.declared.held_map.HeldMap.{HeldMap}
 use Rattle.flat_pages.specs.declared.chain_walk.Walk.{Walk}
 use Rattle.flat_pages.specs.HeldMaps.{index_of, held_entry, fork_at, maps_held, name_at, name_of}

@@ -1,32 +1,28 @@
 -- Tables with no fork and no page.
-use Rattle.std.proofs.Common.{◌≡◌, ◌≢◌, ◌⊎◌, inl, inr, ℕ, zero, suc, ◌+◌, ◌*◌, ◌<◌, ◌≤◌, List, [], ◌∷◌, Bool, true, false, cond, Option, None, Some, if◌then◌else◌, length, map, replicate, refl, sym, ◌∙◌, ap, subst, arith, is_some, nat_eq, get_or, eq-eqb}
+use Rattle.std.proofs.Common.{◌≡◌, inl, inr, ℕ, zero, suc, ◌*◌, ◌<◌, ◌≤◌, List, [], Bool, true, false, cond, Option, None, Some, if◌then◌else◌, length, replicate, refl, sym, ◌∙◌, ap, arith, is_some, nat_eq, get_or, eq-eqb}
 use Rattle.std.specs.Prelude.{slice_get, slice_index, slice_index_or, nat_lt}
-use Rattle.std.specs.List.{sum_by, count_by}
+use Rattle.std.specs.List.{sum_by}
 use Rattle.std.specs.Option.{option_map_or}
 use Rattle.std.specs.Ordering.{nat_cmp}
 use Rattle.std.specs.FinMap as fin
-use Rattle.std.proofs.lemmas.Bool.{cases_eq}
 use Rattle.std.proofs.lemmas.List.{length-replicate, get_or-replicate}
 use Rattle.std.proofs.lemmas.List.Folds.{sum_by-replicate}
-use Rattle.plain_model.specs.declared.names.Access.{Access}
 use Rattle.plain_model.specs.declared.names.ForkName.{ForkName}
 use Rattle.plain_model.specs.declared.names.PageName.{PageName}
 use Rattle.plain_model.specs.declared.names.Tty.{Tty}
-use Rattle.plain_model.specs.declared.names.TheConstants.{SPACE_PAGES, TERMINALS, MOST_FORKS, MOST_HOMES}
+use Rattle.plain_model.specs.declared.names.TheConstants.{SPACE_PAGES, TERMINALS, MOST_HOMES}
 use Rattle.plain_model.specs.Outcome.{DrumWords}
 use Rattle.plain_model.specs.Pages.{IsOwner}
-use Rattle.plain_model.specs.State.{NumberedPages, Maps, is_console, opening_pages, first_serials}
-use Rattle.plain_model.specs.Stores.{HomePlace, free, place, is_free, is_taken, free_homes, content}
-use Rattle.flat_pages.specs.declared.held_entry.EntryAt.{EntryAt}
+use Rattle.plain_model.specs.State.{is_console, opening_pages, first_serials}
+use Rattle.plain_model.specs.Stores.{HomePlace, free, is_free, is_taken, content}
 use Rattle.flat_pages.specs.declared.held_entry.HeldEntry.{HeldEntry}
-use Rattle.flat_pages.specs.declared.held_entry.HeldEntry.TheVariants.{Empty, Page, Follows}
-use Rattle.flat_pages.specs.declared.held_entry.Link.{Link}
+use Rattle.flat_pages.specs.declared.held_entry.HeldEntry.TheVariants.{Empty, Follows}
 use Rattle.flat_pages.specs.declared.held_map.HeldMap.{HeldMap}
 use Rattle.flat_pages.specs.declared.held_map.TheConstants.{MOST_MAPS}
 use Rattle.flat_pages.specs.declared.page_serials.PageSerials.{PageSerials}
 use Rattle.flat_pages.specs.Serials.{serial_of}
-use Rattle.flat_pages.specs.HeldMaps.{no_page, free_map, map_at, fork_at, held_entry, index_of, name_at, maps_from, maps_held, entries_total, points_at, living_in, living_of, marks, are_single, AreHeld}
-use Rattle.flat_pages.specs.SlotTables.{Tables, Objects, objects_from, objects_of, plain_of, share_of, AreTables}
+use Rattle.flat_pages.specs.HeldMaps.{no_page, free_map, map_at, fork_at, index_of, maps_from, maps_held, entries_total, points_at, living_of, AreHeld}
+use Rattle.flat_pages.specs.SlotTables.{Tables, objects_from, objects_of, plain_of, AreTables}
 use Rattle.flat_pages.proofs.ForkMaps.{index_none}
 
 -- reading what is the same everywhere
@@ -44,18 +40,18 @@ abbrev free_maps : List HeldMap
 free_maps = replicate MOST_MAPS free_map
 
 -- no map is a fork's
-none_at : (n k : ℕ) → fork_at (replicate n free_map) k ≡ None
+pub none_at : (n k : ℕ) → fork_at (replicate n free_map) k ≡ None
 none_at zero k = refl
 none_at (suc n) zero = refl
 none_at (suc n) (suc k) = none_at n k
 
-entry_none : (n k page : ℕ) (e : HeldEntry) → slice_get (map_at (replicate n free_map) k).entries page ≡ Some e → e ≡ Empty
+pub entry_none : (n k page : ℕ) (e : HeldEntry) → slice_get (map_at (replicate n free_map) k).entries page ≡ Some e → e ≡ Empty
 unfolding no_page
 entry_none zero k page e h = absurd (cc h)
 entry_none (suc n) zero page e h = all_get SPACE_PAGES page Empty e h
 entry_none (suc n) (suc k) page e h = entry_none n k page e h
 
-entries_sized : (n k : ℕ) → k < length (replicate n free_map) → length (map_at (replicate n free_map) k).entries ≡ SPACE_PAGES
+pub entries_sized : (n k : ℕ) → k < length (replicate n free_map) → length (map_at (replicate n free_map) k).entries ≡ SPACE_PAGES
 unfolding no_page
 entries_sized n k l = ap (λ (m : HeldMap). length m.entries) (get_or-replicate n k free_map (record { fork = None; entries = [] }) (omega (arith, length-replicate n free_map))) ∙ length-replicate SPACE_PAGES Empty
 
@@ -145,9 +141,6 @@ module _ (limit : ℕ) (serials : PageSerials) (terminals : serials.terminals �
     where
       none_times : (k : ℕ) → k * 0 ≡ 0
       none_times k = omega arith
-
-  pub opened_single : are_single free_maps ≡ true
-  opened_single = ap (λ n. nat_eq n 0) (total_free marks refl MOST_MAPS)
 
   first_is_one : (k : ℕ) → k < TERMINALS → slice_index first_serials k ≡ 1
   unfolding first_serials

@@ -1,6 +1,6 @@
 -- A word is put into the page of a home, and places of homes change while none is taken or given up.
-use Rattle.std.proofs.Common.{◌≡◌, ◌≢◌, ◌⊎◌, inl, inr, ℕ, zero, suc, ◌+◌, ◌<◌, ◌≤◌, List, [], ◌∷◌, Bool, true, false, not, cond, Option, None, Some, length, map, refl, sym, ◌∙◌, ap, subst, arith, is_some}
-use Rattle.std.specs.Prelude.{slice_index, slice_index_or, slice_set, count_by}
+use Rattle.std.proofs.Common.{◌≡◌, ◌≢◌, inl, inr, ℕ, ◌<◌, List, [], ◌∷◌, Bool, false, not, cond, Option, Some, length, map, refl, sym, ◌∙◌, ap, arith}
+use Rattle.std.specs.Prelude.{slice_index_or, slice_set}
 use Rattle.std.specs.List.{sum_by}
 use Rattle.std.specs.Option.{option_map_or, unwrap_or}
 use Rattle.std.specs.FinMap as fin
@@ -13,19 +13,18 @@ use Rattle.plain_model.specs.declared.names.PageName.{PageName}
 use Rattle.plain_model.specs.declared.names.Home.{Home}
 use Rattle.plain_model.specs.declared.names.Place.{Place}
 use Rattle.plain_model.specs.Outcome.{DrumWords}
-use Rattle.plain_model.specs.Orders.{page_cmp}
 use Rattle.plain_model.specs.State.{NumberedPages}
 use Rattle.plain_model.specs.Room.{same_page}
-use Rattle.plain_model.specs.References.{words_of, with_word, stored, page_at, zero_words}
+use Rattle.plain_model.specs.References.{words_of, with_word, stored, zero_words}
 use Rattle.plain_model.specs.Pages.{spot_of}
 use Rattle.plain_model.specs.Stores.{HomePlace, free, away, here, place, is_free, is_taken, with_word_in, free_homes, content}
 use Rattle.plain_model.proofs.OrderLemmas.{page_cmp_total, page_cmp_apart, page_tied}
 use Rattle.plain_model.proofs.Counts.{Same, page_tells}
-use Rattle.flat_pages.specs.HeldMaps.{name_at, name_of}
-use Rattle.flat_pages.specs.SlotTables.{Tables, Objects, plain_of, AreTables, AreSized}
+use Rattle.flat_pages.specs.HeldMaps.{name_at}
+use Rattle.flat_pages.specs.SlotTables.{Tables, plain_of, AreTables, AreSized}
 use Rattle.flat_pages.specs.SlotTouches.{away_home, away_at}
 use Rattle.flat_pages.proofs.Agreement.{Housed, housed, object_home, object_gone}
-use Rattle.flat_pages.proofs.Meeting.{Reached, reached_page, reached_taken, home_name}
+use Rattle.flat_pages.proofs.Meeting.{Reached, reached_page, home_name}
 use Rattle.flat_pages.proofs.Settling.{content_here, content_other}
 
 -- the tables with the homes elsewhere

@@ -1,6 +1,6 @@
 -- A page that is settled: what its touch answered, and what it answers then.
-use Rattle.std.proofs.Common.{◌≡◌, ◌≢◌, ◌⊎◌, inl, inr, ℕ, zero, suc, ◌+◌, ◌<◌, ◌≤◌, List, [], ◌∷◌, ◌++◌, Bool, true, false, cond, Option, None, Some, length, refl, sym, ◌∙◌, ap, subst, arith, is_some}
-use Rattle.std.specs.Prelude.{IsSome, nat_lt, nat_le, ◌==◌, slice_set, find}
+use Rattle.std.proofs.Common.{◌≡◌, ◌≢◌, inl, inr, ℕ, ◌+◌, ◌<◌, List, [], ◌++◌, Bool, true, false, cond, Option, None, Some, length, refl, sym, ◌∙◌, ap, subst, arith, is_some}
+use Rattle.std.specs.Prelude.{IsSome, nat_lt, ◌==◌, slice_set, find}
 use Rattle.std.specs.Option.{option_map, option_map_or, option_and_then}
 use Rattle.std.proofs.lemmas.Bool.{cases_eq}
 use Rattle.std.proofs.lemmas.Bool.Decides.{nat_tests, eqb_tells}
@@ -13,15 +13,15 @@ use Rattle.plain_model.specs.declared.names.Kind.TheVariants.{Read, Write, Execu
 use Rattle.plain_model.specs.declared.names.ForkName.{ForkName}
 use Rattle.plain_model.specs.declared.names.PageName.{PageName}
 use Rattle.plain_model.specs.declared.names.Place.{Place}
-use Rattle.plain_model.specs.declared.names.Place.TheVariants.{Fork, File}
+use Rattle.plain_model.specs.declared.names.Place.TheVariants.{Fork}
 use Rattle.plain_model.specs.declared.names.Slot.{Slot}
 use Rattle.plain_model.specs.declared.names.Tty.{Tty}
 use Rattle.plain_model.specs.declared.map.Touch.{Touch}
-use Rattle.plain_model.specs.declared.map.Touch.TheVariants.{Ready, Zero, Copy, Absent, NeedFrame, Denied, Full}
+use Rattle.plain_model.specs.declared.map.Touch.TheVariants.{Ready, Zero, Copy, NeedFrame, Denied, Full}
 use Rattle.plain_model.specs.Outcome.{DrumWords}
 use Rattle.plain_model.specs.State.{NumberedPages}
-use Rattle.plain_model.specs.Maps.{Chain, entry_at, chain, full_access, permits}
-use Rattle.plain_model.specs.References.{in_map, Making, blank, copy, blanks, copies, private_access, makings, make, settled, page_at, words_at, words_of, zero_words}
+use Rattle.plain_model.specs.Maps.{Chain, full_access, permits}
+use Rattle.plain_model.specs.References.{in_map, blank, copy, blanks, copies, private_access, makings, make, settled, words_at, words_of, zero_words}
 use Rattle.plain_model.specs.Pages.{Scene, IsPlace, IsOwner, spot_of, absent_or, framed, can_settle, SettlesTo, TakesFrames, frames_taken}
 use Rattle.plain_model.specs.Stores.{StoreMeaning, IsSound, IsUsed, HomePlace, free, away, here, place, is_taken, is_here, content, FitsHomes}
 use Rattle.plain_model.proofs.Chains.{marked}
@@ -29,11 +29,11 @@ use Rattle.plain_model.proofs.Reading.{mark_there}
 use Rattle.plain_model.proofs.Touches.{settled_makes, settled_stays}
 use Rattle.flat_pages.specs.declared.held_entry.EntryAt.{EntryAt}
 use Rattle.flat_pages.specs.declared.held_entry.HeldEntry.{HeldEntry}
-use Rattle.flat_pages.specs.declared.held_entry.HeldEntry.TheVariants.{Empty, Page, Follows}
+use Rattle.flat_pages.specs.declared.held_entry.HeldEntry.TheVariants.{Empty, Page}
 use Rattle.flat_pages.specs.declared.held_map.HeldMap.{HeldMap}
 use Rattle.flat_pages.specs.declared.map_tables.MapTables.{MapTables}
 use Rattle.flat_pages.specs.declared.chain_walk.Walk.{Walk}
-use Rattle.flat_pages.specs.HeldMaps.{fork_at, index_of, held_entry, with_entry, name_at, points_at, living_of, marks, are_single}
+use Rattle.flat_pages.specs.HeldMaps.{fork_at, index_of, held_entry, with_entry, name_at, points_at, living_of}
 use Rattle.flat_pages.specs.Walks.{slot_of, walk}
 use Rattle.flat_pages.specs.SlotTables.{Tables, plain_of, share_of, AreTables, AreSized}
 use Rattle.flat_pages.specs.SlotTouches.{walk_of, scene_of, away_home, away_at, home_named, has_room, is_alone, touch_copy, touch_made, touch_walked, touch_of_place, allows, copy_of}
@@ -43,7 +43,7 @@ use Rattle.flat_pages.specs.SlotSteps.{TakesHome}
 use Rattle.flat_pages.proofs.HeldEntries.{total_le, points_self}
 use Rattle.flat_pages.proofs.Walked.{IsCopy}
 use Rattle.flat_pages.proofs.Taking.{none_shared}
-use Rattle.flat_pages.proofs.Touching.{home_is, allowed_is, listed, blanks_none, blanks_some, copies_none, Copied, copied}
+use Rattle.flat_pages.proofs.Touching.{home_is, allowed_is, listed, blanks_none, blanks_some, copies_none, copied}
 use Rattle.flat_pages.proofs.Settling.{sized_of, fits_set, content_here, content_set, content_other, told_blank, told_copy}
 use Rattle.flat_pages.proofs.Telling.{named_home}
 use Rattle.flat_pages.proofs.Rooming.{here_when}
@@ -51,7 +51,6 @@ use Rattle.flat_pages.proofs.Making.{alone_share, home_under}
 use Rattle.flat_pages.proofs.Meeting.{Stands, stands, Found, found_walk, home_taken_is, words_are, place_lives}
 use Rattle.flat_pages.proofs.SlotSetting.{set_forks, index_same, set_lives, set_living, slot_at}
 use Rattle.flat_pages.proofs.PageWalks.{marked_home, Copies, walk_filled, walk_copied}
-use Rattle.flat_pages.proofs.Singles.{single_with}
 
 -- where a home gets another page that is in a frame, and none of its old one was away, the pages are away that were
 module _ (t t' : Tables) (a : AreTables t) (a' : AreTables t') (home : ℕ) (names : (k : ℕ) → k ≢ home → name_at t'.names k ≡ name_at t.names k) (places : (k : ℕ) → k ≢ home → place t'.places k ≡ place t.places k)
@@ -102,7 +101,6 @@ pub record Settles (t u : Tables) (frames frames' : ℕ) (at : Place) (kind : Ki
   pub count : u.taken + u.living ≡ t.taken + t.living + frames_taken (touch_of_place t frames at kind)
   pub lives : ◌≡◌ {A = ForkName → Bool} (λ f. is_some (index_of u.maps f)) (λ f. is_some (index_of t.maps f))
   pub forks : living_of u.maps ≡ living_of t.maps
-  pub single : are_single t.maps ≡ true → are_single u.maps ≡ true
 
 -- what a copy's touch may answer
 abbrev copying : Option ℕ → Bool → Bool → Bool → Touch
@@ -382,7 +380,6 @@ module _ (t : Tables) (a : AreTables t) (pages : ArePages t) (frames : ℕ) (s :
         count = subst (λ (x : Touch). v.taken + v.living ≡ t.taken + t.living + frames_taken x) (sym is) (omega arith);
         lives = set_lives t.maps v.maps w.end (Page h full_access) refl;
         forks = set_living t.maps v.maps w.end (Page h full_access) refl;
-        single = λ one. single_with t.maps one w.end Empty (Page h full_access) end refl;
       }
 
   pub copy_settled : (old : Home) (m : EntryAt) (b : Access) (q : HeldEntry) (words : List ℕ) → w.home ≡ Some old → copy_of kind w ≡ Some m → held_entry t.maps m ≡ Some q → b ≡ record full_access { x = w.executes } → is_alone t.shares (held_entry t.maps m) ≡ false
@@ -401,7 +398,6 @@ module _ (t : Tables) (a : AreTables t) (pages : ArePages t) (frames : ℕ) (s :
         count = subst (λ (x : Touch). v.taken + v.living ≡ t.taken + t.living + frames_taken x) (sym is) (omega arith);
         lives = set_lives t.maps v.maps m (Page h b) refl;
         forks = set_living t.maps v.maps m (Page h b) refl;
-        single = λ one. single_with t.maps one m q (Page h b) there (ap (λ (x : Access). marks (Page h x)) access);
       }
 
 -- the home of a page that one entry alone names becomes that of its copy
@@ -427,7 +423,6 @@ module _ (t : Tables) (a : AreTables t) (pages : ArePages t) (frames : ℕ) (s :
         count = subst (λ (x : Touch). v.taken + v.living ≡ t.taken + t.living + frames_taken x) (sym is) (omega arith);
         lives = set_lives t.maps v.maps m (Page h b) refl;
         forks = set_living t.maps v.maps m (Page h b) refl;
-        single = λ single. single_with t.maps single m (Page h old) (Page h b) there (ap (λ (x : Access). marks (Page h x)) access);
       }
 
 -- what a slot's touch announces

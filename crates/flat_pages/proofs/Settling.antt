@@ -1,54 +1,41 @@
 -- Each page that is settled is the first that a reference to the plain pages makes.
-use Rattle.std.proofs.Common.{◌≡◌, ◌≢◌, ◌⊎◌, inl, inr, ℕ, zero, suc, ◌+◌, ◌-◌, ◌<◌, ◌≤◌, List, [], ◌∷◌, ◌++◌, Bool, true, false, not, cond, Option, None, Some, length, map, refl, sym, ◌∙◌, ap, subst, arith, is_some, nat_eq}
-use Rattle.std.specs.Prelude.{slice_index, slice_index_or, slice_set, nat_lt, ◌==◌}
-use Rattle.std.specs.Option.{option_map, option_map_or, unwrap_or}
-use Rattle.std.specs.Ordering.{nat_cmp}
+use Rattle.std.proofs.Common.{◌≡◌, ◌≢◌, inl, inr, ℕ, ◌+◌, ◌<◌, List, Bool, true, false, cond, Option, None, Some, length, refl, sym, ◌∙◌, ap, arith}
+use Rattle.std.specs.Prelude.{slice_index, slice_set, ◌==◌}
+use Rattle.std.specs.Option.{option_map, unwrap_or}
 use Rattle.std.specs.Cmp.{nat_cmp_total}
 use Rattle.std.specs.FinMap as fin
-use Rattle.std.proofs.lemmas.Bool.{cases_eq, cases_lt}
+use Rattle.std.proofs.lemmas.Bool.{cases_lt}
 use Rattle.std.proofs.lemmas.List.{get_or-set_same, get_or-set_other, get_or_past, length-set}
 use Rattle.outside.specs.Drums.{IsPage, page_at as drum_page}
 use Rattle.outside.specs.declared.TheConstants.{PAGE_WORDS}
 use Rattle.plain_model.specs.declared.names.Access.{Access}
 use Rattle.plain_model.specs.declared.names.Home.{Home}
-use Rattle.plain_model.specs.declared.names.ForkName.{ForkName}
 use Rattle.plain_model.specs.declared.names.PageName.{PageName}
 use Rattle.plain_model.specs.declared.names.Slot.{Slot}
 use Rattle.plain_model.specs.declared.names.Tty.{Tty}
-use Rattle.plain_model.specs.declared.names.Kind.{Kind}
-use Rattle.plain_model.specs.declared.map.MapEntry.{MapEntry}
 use Rattle.plain_model.specs.declared.map.MapEntry.TheVariants as entry
 use Rattle.plain_model.specs.Outcome.{DrumWords}
-use Rattle.plain_model.specs.Orders.{file_page_cmp}
 use Rattle.plain_model.specs.State.{NumberedPages, is_console, page_serial}
-use Rattle.plain_model.specs.Maps.{Chain, entry_at, set_entry, permits, full_access}
+use Rattle.plain_model.specs.Maps.{entry_at, set_entry, full_access}
 use Rattle.plain_model.specs.Room.{uses}
-use Rattle.plain_model.specs.References.{in_map, Making, blank, copy, blanks, copies, private_access, makings, make, settled, page_at, words_at, words_of, zero_words, next_page, new_page, drop_copied, drop_unnamed}
+use Rattle.plain_model.specs.References.{in_map, blank, copy, make, page_at, words_at, zero_words, next_page, new_page, drop_copied, drop_unnamed}
 use Rattle.plain_model.specs.Pages.{IsOwner}
 use Rattle.plain_model.specs.Stores.{HomePlace, free, away, here, place, is_taken, over_drum, content, FitsHomes}
 use Rattle.plain_model.specs.Whole.{AreWhole}
-use Rattle.plain_model.proofs.Made.{IsMade, is_blank, is_copy}
-use Rattle.plain_model.proofs.Reading.{mark_there}
+use Rattle.plain_model.proofs.Made.{is_blank, is_copy}
 use Rattle.plain_model.proofs.Settles.{copy_maps, copy_files}
-use Rattle.plain_model.proofs.Touches.{settled_makes, settled_stays}
 use Rattle.flat_pages.specs.declared.held_entry.EntryAt.{EntryAt}
 use Rattle.flat_pages.specs.declared.held_entry.HeldEntry.{HeldEntry}
-use Rattle.flat_pages.specs.declared.held_entry.HeldEntry.TheVariants.{Empty, Page, Follows}
+use Rattle.flat_pages.specs.declared.held_entry.HeldEntry.TheVariants.{Empty, Page}
 use Rattle.flat_pages.specs.declared.page_serials.PageSerials.{PageSerials}
-use Rattle.flat_pages.specs.declared.chain_walk.Walk.{Walk}
 use Rattle.flat_pages.specs.Serials.{serial_of, with_next}
-use Rattle.flat_pages.specs.HeldMaps.{fork_at, held_entry, with_entry, name_at, name_of, entry_of, maps_held, points_at}
+use Rattle.flat_pages.specs.HeldMaps.{held_entry, with_entry, name_at, entry_of, maps_held, points_at}
 use Rattle.flat_pages.specs.Walks.{slot_of}
 use Rattle.flat_pages.specs.SlotTables.{Tables, plain_of, share_of, AreTables, AreSized}
-use Rattle.flat_pages.specs.SlotTouches.{allows, copy_of}
-use Rattle.flat_pages.specs.TableSteps.{next_name, home_taken, home_renamed}
-use Rattle.flat_pages.proofs.HeldEntries.{points_self}
+use Rattle.flat_pages.specs.TableSteps.{next_name}
 use Rattle.flat_pages.proofs.LivingMaps.{entry_held}
-use Rattle.flat_pages.proofs.Agreement.{entry_named, object_home, tables_whole}
-use Rattle.flat_pages.proofs.Walked.{Meets}
-use Rattle.flat_pages.proofs.Taking.{taken_tables, renamed_tables}
+use Rattle.flat_pages.proofs.Agreement.{tables_whole}
 use Rattle.flat_pages.proofs.Told.{maps_set, none_else, entry_still, told_made}
-use Rattle.flat_pages.proofs.Touching.{found, listed, blanks_none, blanks_some, copies_none, Copied, copied, page_along}
 
 -- the words of a page that is in a frame
 pub content_here : (places : List HomePlace) (d : DrumWords) (h : ℕ) (words : List ℕ) → place places h ≡ here words → content places d h ≡ Some words

@@ -1,7 +1,6 @@
 -- An entry of a slot that is set.
-use Rattle.std.proofs.Common.{◌≡◌, ◌≢◌, ℕ, zero, suc, ◌+◌, ◌<◌, List, [], ◌∷◌, Bool, true, false, cond, Option, None, Some, refl, sym, ◌∙◌, ap, subst, arith, is_some, length}
+use Rattle.std.proofs.Common.{◌≡◌, ℕ, suc, List, [], ◌∷◌, Bool, true, false, cond, Option, None, Some, refl, sym, ◌∙◌, ap, subst, arith, is_some, length}
 use Rattle.std.specs.Prelude.{IsSome, nat_eq}
-use Rattle.std.specs.List.{count_by}
 use Rattle.std.specs.Option.{option_map, option_map_or, option_and_then}
 use Rattle.std.proofs.lemmas.List.Sums.{sum_by-cons}
 use Rattle.plain_model.specs.declared.names.ForkName.{ForkName}
@@ -9,7 +8,6 @@ use Rattle.plain_model.specs.declared.names.PageName.{PageName}
 use Rattle.plain_model.specs.declared.names.Tty.{Tty}
 use Rattle.plain_model.specs.declared.names.Access.{Access}
 use Rattle.plain_model.specs.declared.names.Slot.{Slot}
-use Rattle.plain_model.specs.declared.names.TheConstants.{SPACE_PAGES}
 use Rattle.plain_model.specs.declared.map.MapEntry.{MapEntry}
 use Rattle.plain_model.specs.declared.map.NewEntry.{NewEntry}
 use Rattle.plain_model.specs.declared.map.NewEntry.TheVariants as new_entry
@@ -27,7 +25,7 @@ use Rattle.flat_pages.specs.declared.held_map.HeldMap.{HeldMap}
 use Rattle.flat_pages.specs.declared.map_tables.MapTables.{MapTables}
 use Rattle.flat_pages.specs.HeldMaps.{AreHeld, fork_at, held_entry, with_entry, index_of, is_map_of, one_later, living_of, entry_of}
 use Rattle.flat_pages.specs.Walks.{slot_of}
-use Rattle.flat_pages.specs.SlotTables.{Tables, plain_of, AreTables}
+use Rattle.flat_pages.specs.SlotTables.{Tables, plain_of}
 use Rattle.flat_pages.specs.SlotMeaning.{seen_in, seen_entry}
 use Rattle.flat_pages.specs.SlotSteps.{SetsEntry, narrow_held}
 use Rattle.flat_pages.specs.TableSteps.{tables_of}
@@ -101,7 +99,7 @@ seen_there t s k is seen = by (held_entry t.maps (record { map = k; page = s.pag
     by None e g = absurd (cc g)
     by (Some q) e g = (q, e)
 
-module _ {S : Type 0} (store : StoreMeaning S) (old new : S) (tables tables' : MapTables) (s : Slot) (k : ℕ) (is : index_of tables.maps.items s.fork ≡ Some k) (held : AreHeld tables.maps.items) where
+module _ {S : Type 0} (store : StoreMeaning S) (old new : S) (tables tables' : MapTables) (s : Slot) (k : ℕ) (is : index_of tables.maps.held.items s.fork ≡ Some k) (held : AreHeld tables.maps.held.items) where
   abbrev at : EntryAt
   at = record { map = k; page = s.page }
 

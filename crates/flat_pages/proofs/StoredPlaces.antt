@@ -1,15 +1,14 @@
 -- The places of a store in memory, as its pages change.
-use Rattle.std.proofs.Common.{◌≡◌, ◌≢◌, ◌⊎◌, inl, inr, ℕ, zero, suc, ◌+◌, ◌-◌, ◌<◌, ◌≤◌, List, [], ◌∷◌, Bool, true, false, cond, ◌||◌, Option, None, Some, length, map, refl, sym, ◌∙◌, ap, subst, arith}
-use Rattle.std.specs.Prelude.{slice_set, slice_index_or, slice_index, is_some, replicate, nat_lt}
+use Rattle.std.proofs.Common.{◌≡◌, ◌≢◌, inl, inr, ℕ, zero, suc, ◌+◌, ◌-◌, ◌<◌, ◌≤◌, List, [], ◌∷◌, Bool, true, false, cond, ◌||◌, Option, None, Some, length, refl, sym, ◌∙◌, ap, subst, arith}
+use Rattle.std.specs.Prelude.{slice_set, slice_index_or, slice_index, replicate, nat_lt}
 use Rattle.std.specs.List.{range_with_len}
-use Rattle.std.proofs.Math.ListN.{get_or-map}
 use Rattle.std.proofs.lemmas.Bool.{cases_eq, cases_lt}
 use Rattle.std.proofs.lemmas.Bool.Decides.{nat_tests}
 use Rattle.std.specs.Option.{option_map}
 use Rattle.std.proofs.Math.Path.{fun_ext}
 use Rattle.std.proofs.lemmas.Option.{get_or_from_slice_get, slice_get-map, slice_get-get_or}
 use Rattle.std.proofs.lemmas.List.FromFn.{length-map-range_with_len, get_or-range_with_len, length-range_with_len}
-use Rattle.std.proofs.lemmas.List.{map-set, get_or-set_same, get_or-set_other, length-set, length-map, length-replicate, get_or_past}
+use Rattle.std.proofs.lemmas.List.{get_or-set_same, get_or-set_other, length-set, length-replicate, get_or_past}
 use Rattle.std.proofs.lemmas.List.Sums.{sum_by-set, sum_by-cons, count_by-le-length}
 use Rattle.word36.specs.Words.{IsWord}
 use Rattle.outside.specs.Drums.{IsPage}
@@ -18,11 +17,10 @@ use Rattle.plain_model.specs.References.{zero_words}
 use Rattle.plain_model.specs.declared.names.Home.{Home}
 use Rattle.plain_model.specs.declared.names.TheConstants.{MOST_HOMES}
 use Rattle.plain_model.specs.declared.map.Found.{Found}
-use Rattle.plain_model.specs.Stores.{HomePlace, free, away, here, place, is_free, is_taken, is_here, with_word_in, word_in, free_homes, room_of}
+use Rattle.plain_model.specs.Stores.{HomePlace, free, here, place, is_free, is_taken, is_here, with_word_in, free_homes, room_of}
 use Rattle.plain_model.specs.declared.store.Room.TheVariants.{Enough, NeedFrame, Full}
-use Rattle.flat_pages.specs.declared.stored_page.StoredPage.{StoredPage}
-use Rattle.flat_pages.specs.StoredPages.{free_page, stored_at, place_of, places_of, found_at, free_at, homes_below, AreStored}
-use Rattle.flat_pages.specs.StoreMeaning.{place_at, places_set, places_length, taken_place, taken_is, here_is, core_is}
+use Rattle.flat_pages.specs.StoredPages.{StoredPage, free_page, stored_at, place_of, places_of, found_at, free_at, homes_below, AreStored}
+use Rattle.flat_pages.specs.StoreMeaning.{place_at, places_set, places_length, taken_is, core_is}
 
 -- a home that is taken is there
 pub taken_below : (pages : List StoredPage) (h : ℕ) → is_taken (place (places_of pages) h) ≡ true → h < length pages

@@ -1,30 +1,23 @@
 -- What is told of tables that agree.
-use Rattle.std.proofs.Common.{◌≡◌, ◌≢◌, ◌⊎◌, inl, inr, ℕ, zero, suc, ◌+◌, ◌<◌, ◌≤◌, List, [], ◌∷◌, Bool, true, false, cond, Option, None, Some, length, refl, sym, ◌∙◌, ap, subst, arith, is_some, nat_eq}
-use Rattle.std.specs.Prelude.{slice_index_or, count_by}
-use Rattle.std.specs.List.{sum_by}
+use Rattle.std.proofs.Common.{◌≡◌, ◌≢◌, inl, inr, ℕ, zero, suc, List, [], ◌∷◌, false, cond, Option, None, Some, refl, sym, ◌∙◌, ap, arith, is_some, nat_eq}
 use Rattle.std.specs.Option.{option_map_or, option_and_then}
 use Rattle.std.proofs.lemmas.Bool.Decides.{eqb_tells}
 use Rattle.std.proofs.lemmas.List.Sums.{sum_by-cons}
 use Rattle.outside.specs.Drums.{IsPage, page_at as drum_page}
 use Rattle.plain_model.specs.declared.names.ForkName.{ForkName}
 use Rattle.plain_model.specs.declared.names.PageName.{PageName}
-use Rattle.plain_model.specs.declared.names.Tty.{Tty}
-use Rattle.plain_model.specs.Outcome.{DrumWords}
-use Rattle.plain_model.specs.Room.{same_page, live}
-use Rattle.plain_model.specs.Stores.{HomePlace, free, away, here, place, is_taken, over_drum, content, FitsHomes}
-use Rattle.plain_model.specs.State.{NumberedPages}
-use Rattle.std.specs.FinMap as fin
+use Rattle.plain_model.specs.Room.{same_page}
+use Rattle.plain_model.specs.Stores.{HomePlace, free, away, here, place, over_drum, content}
 use Rattle.plain_model.proofs.Counts.{Same, page_tells}
 use Rattle.flat_pages.specs.declared.held_map.HeldMap.{HeldMap}
-use Rattle.flat_pages.specs.HeldMaps.{fork_at, index_of, name_at, one_later, living_of, maps_held}
-use Rattle.flat_pages.specs.SlotTables.{Tables, plain_of, AreTables, AreSized}
+use Rattle.flat_pages.specs.HeldMaps.{fork_at, name_at, one_later, living_of}
+use Rattle.flat_pages.specs.SlotTables.{Tables, AreTables}
 use Rattle.flat_pages.specs.SlotTouches.{away_home, away_at, home_named, scene_of}
 use Rattle.flat_pages.specs.SlotMeaning.{AreTold}
 use Rattle.flat_pages.proofs.ForkMaps.{searched}
 use Rattle.flat_pages.proofs.LivingMaps.{lives_held}
 use Rattle.flat_pages.proofs.Agreement.{tables_whole, tables_live, object_home}
 use Rattle.flat_pages.proofs.Settling.{sized_of}
-use Rattle.flat_pages.proofs.Singles.{single_plain}
 
 -- the home that is a page's has its name
 pub named_home : (names : List (Option PageName)) (x : PageName) (h : ℕ) → home_named names x ≡ Some h → name_at names h ≡ Some x
@@ -93,6 +86,5 @@ tables_told t a pages = record {
   there = λ d n home frames fits e. let x = is_away t n home frames e in
       ap is_some (object_home t a d (sized_of t.places d fits pages) home n x.name ∙ ap (λ p. over_drum p (drum_page d home)) x.away);
   homes = omega (arith, a.homes);
-  single = single_plain t.names t.maps a.held;
   mapped = λ home e. cc e;
 }

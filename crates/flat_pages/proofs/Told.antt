@@ -1,17 +1,12 @@
 -- The plain pages once a page is made.
-use Rattle.std.proofs.Common.{◌≡◌, ◌≢◌, ◌⊎◌, inl, inr, ℕ, zero, suc, ◌+◌, ◌-◌, ◌<◌, ◌≤◌, List, [], ◌∷◌, Bool, true, false, not, cond, Option, None, Some, length, map, refl, sym, ◌∙◌, ap, subst, arith, is_some, nat_eq}
-use Rattle.std.specs.Prelude.{slice_index, slice_index_or, slice_set, slice_get, nat_lt, ◌==◌}
+use Rattle.std.proofs.Common.{◌≡◌, ◌≢◌, ◌⊎◌, inl, inr, ℕ, zero, suc, ◌+◌, List, [], ◌∷◌, true, false, Option, None, Some, map, refl, sym, ◌∙◌, ap, arith, is_some}
+use Rattle.std.specs.Prelude.{slice_set, slice_get, nat_lt}
 use Rattle.std.specs.List.{sum_by}
 use Rattle.std.specs.Option.{option_map, option_map_or, unwrap_or}
-use Rattle.std.specs.Ordering.{nat_cmp}
-use Rattle.std.specs.Cmp.{nat_cmp_total}
 use Rattle.std.specs.FinMap as fin
-use Rattle.std.proofs.lemmas.Bool.{cases_eq, cases_lt}
-use Rattle.std.proofs.lemmas.Bool.Decides.{nat_tests}
+use Rattle.std.proofs.lemmas.Bool.{cases_eq}
 use Rattle.std.proofs.lemmas.List.{map-set}
-use Rattle.std.proofs.lemmas.Option.{get_or_from_slice_get}
 use Rattle.plain_model.specs.declared.names.Access.{Access}
-use Rattle.plain_model.specs.declared.names.Home.{Home}
 use Rattle.plain_model.specs.declared.names.ForkName.{ForkName}
 use Rattle.plain_model.specs.declared.names.PageName.{PageName}
 use Rattle.plain_model.specs.declared.names.Slot.{Slot}
@@ -19,13 +14,11 @@ use Rattle.plain_model.specs.declared.names.Tty.{Tty}
 use Rattle.plain_model.specs.declared.map.MapEntry.{MapEntry}
 use Rattle.plain_model.specs.declared.map.MapEntry.TheVariants as entry
 use Rattle.plain_model.specs.Outcome.{DrumWords}
-use Rattle.plain_model.specs.Orders.{file_page_cmp}
-use Rattle.plain_model.specs.State.{Map, Maps, NumberedPages, is_console, page_serial}
+use Rattle.plain_model.specs.State.{Map, NumberedPages}
 use Rattle.plain_model.specs.Maps.{set_entry}
 use Rattle.plain_model.specs.Room.{uses}
 use Rattle.plain_model.specs.References.{zero_words, next_page, words_of}
 use Rattle.plain_model.specs.Stores.{content}
-use Rattle.plain_model.specs.Whole.{AreWhole}
 use Rattle.plain_model.proofs.Kept.{same_pages}
 use Rattle.plain_model.proofs.Made.{IsMade}
 use Rattle.plain_model.proofs.Whole.{map_uses, tally, uses_are}
@@ -33,7 +26,7 @@ use Rattle.flat_pages.specs.declared.held_entry.EntryAt.{EntryAt}
 use Rattle.flat_pages.specs.declared.held_entry.HeldEntry.{HeldEntry}
 use Rattle.flat_pages.specs.declared.held_entry.HeldEntry.TheVariants.{Empty, Page, Follows}
 use Rattle.flat_pages.specs.declared.held_map.HeldMap.{HeldMap}
-use Rattle.flat_pages.specs.HeldMaps.{map_at, fork_at, held_entry, with_entry, entry_set, name_at, name_of, entry_of, entries_of, maps_held, points_at, entries_total, AreHeld}
+use Rattle.flat_pages.specs.HeldMaps.{map_at, fork_at, held_entry, with_entry, name_at, entry_of, entries_of, maps_held, points_at, AreHeld}
 use Rattle.flat_pages.specs.Walks.{slot_of}
 use Rattle.flat_pages.specs.SlotTables.{Tables, plain_of, share_of, AreTables, AreSized}
 use Rattle.flat_pages.proofs.HeldEntries.{held_within, map_set_same, map_set_other, fork_set, entry_other, total_with, total_le, points_here}

@@ -1,44 +1,40 @@
 -- What a touch answers is what a reference to the plain pages comes to.
-use Rattle.std.proofs.Common.{◌≡◌, ◌≢◌, ◌⊎◌, inl, inr, ℕ, zero, suc, ◌+◌, ◌<◌, ◌≤◌, List, [], ◌∷◌, ◌++◌, Bool, true, false, not, cond, ◌&&◌, ◌||◌, Option, None, Some, length, map, refl, sym, ◌∙◌, ap, subst, arith, is_some}
-use Rattle.std.specs.Prelude.{find, is_none, nat_le, ◌==◌, slice_get}
-use Rattle.std.specs.Option.{option_map, option_map_or, option_and_then, unwrap_or}
-use Rattle.std.specs.Ordering.{nat_cmp}
+use Rattle.std.proofs.Common.{◌≡◌, inl, inr, ℕ, zero, suc, ◌+◌, List, [], ◌∷◌, ◌++◌, Bool, true, false, cond, Option, None, Some, refl, sym, ◌∙◌, ap, arith, is_some}
+use Rattle.std.specs.Prelude.{find, nat_le, ◌==◌, slice_get}
+use Rattle.std.specs.Option.{option_map, option_and_then, unwrap_or}
 use Rattle.std.specs.Cmp.{nat_cmp_total}
 use Rattle.std.proofs.lemmas.Bool.Decides.{nat_tests}
 use Rattle.plain_model.specs.declared.names.ForkName.{ForkName}
 use Rattle.plain_model.specs.declared.names.PageName.{PageName}
-use Rattle.plain_model.specs.declared.names.Access.{Access}
 use Rattle.plain_model.specs.declared.names.Home.{Home}
 use Rattle.plain_model.specs.declared.names.Slot.{Slot}
 use Rattle.plain_model.specs.declared.names.Tty.{Tty}
 use Rattle.plain_model.specs.declared.names.Kind.{Kind}
 use Rattle.plain_model.specs.declared.names.Kind.TheVariants.{Read, Write, Execute}
-use Rattle.plain_model.specs.declared.map.MapEntry.{MapEntry}
 use Rattle.plain_model.specs.declared.map.MapEntry.TheVariants as entry
-use Rattle.plain_model.specs.declared.map.Touch.{Touch}
-use Rattle.plain_model.specs.declared.map.Touch.TheVariants.{Ready, Zero, Copy, Absent, NeedFrame, Denied, Full}
+use Rattle.plain_model.specs.declared.map.Touch.TheVariants.{Ready, Zero, Copy, Denied, Full}
 use Rattle.plain_model.specs.Outcome.{DrumWords}
 use Rattle.plain_model.specs.State.{NumberedPages}
 use Rattle.plain_model.specs.Maps.{Link as ChainLink, Chain, entry_at, chain, maps_on_way, permits, full_access}
 use Rattle.plain_model.specs.Room.{same_page, uses, live, HasRoom}
-use Rattle.plain_model.specs.References.{Spot, in_map, Making, blank, copy, blanks, copies, copy_in, private_access, along_chain, makings, make, make_all, Referred, granted, denied, full, reference, next_making, page_at, zero_words}
-use Rattle.plain_model.specs.Pages.{Scene, IsOwner, touch_of, touched_by, absent_or, announced, is_sole, framed, map_away, page_away, first_away}
+use Rattle.plain_model.specs.References.{in_map, Making, blank, copy, blanks, copies, copy_in, private_access, along_chain, makings, make, make_all, granted, full, reference, next_making, page_at, zero_words}
+use Rattle.plain_model.specs.Pages.{Scene, IsOwner, touch_of, touched_by, absent_or, announced, is_sole, framed, page_away, first_away}
 use Rattle.plain_model.specs.Whole.{AreWhole}
 use Rattle.plain_model.proofs.Chains.{marked}
 use Rattle.plain_model.proofs.Counts.{page_tells, Same}
 use Rattle.plain_model.proofs.Ends.{AtMark, mark_follows, mark_names, at_mark}
-use Rattle.plain_model.proofs.Makings.{CanMake, make_whole}
+use Rattle.plain_model.proofs.Makings.{CanMake}
 use Rattle.plain_model.proofs.Made.{IsMade, is_blank}
 use Rattle.plain_model.proofs.Rooms.{room_blank, room_copy, live_blank}
-use Rattle.plain_model.proofs.Settles.{makings_settled, makings_can}
+use Rattle.plain_model.proofs.Settles.{makings_can}
 use Rattle.plain_model.proofs.Touches.{reference_makes, reference_denied, make_first}
 use Rattle.flat_pages.specs.declared.held_entry.EntryAt.{EntryAt}
 use Rattle.flat_pages.specs.declared.held_entry.HeldEntry.{HeldEntry}
 use Rattle.flat_pages.specs.declared.held_entry.HeldEntry.TheVariants.{Empty, Page, Follows}
 use Rattle.flat_pages.specs.declared.chain_walk.Walk.{Walk}
-use Rattle.flat_pages.specs.HeldMaps.{held_entry, name_at, nobody, name_of, entry_of, maps_held, one_later}
+use Rattle.flat_pages.specs.HeldMaps.{held_entry, name_at, nobody, name_of, entry_of, one_later}
 use Rattle.flat_pages.specs.Walks.{slot_of, walk}
-use Rattle.flat_pages.specs.SlotTables.{Tables, plain_of, share_of, AreTables, AreSized}
+use Rattle.flat_pages.specs.SlotTables.{Tables, plain_of, AreTables, AreSized}
 use Rattle.flat_pages.specs.SlotTouches.{away_at, home_named, scene_of, has_room, allows, copy_of, is_alone, touch_copy, touch_made, touch_walked}
 use Rattle.flat_pages.proofs.LivingMaps.{entry_held}
 use Rattle.flat_pages.proofs.Agreement.{entry_named, uses_home, tables_whole, tables_live}

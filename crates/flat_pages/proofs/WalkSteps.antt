@@ -1,21 +1,18 @@
 -- Walks, entry by entry.
-use Rattle.std.proofs.Common.{◌≡◌, ◌≢◌, ◌⊎◌, inl, inr, ℕ, zero, suc, ◌+◌, ◌-◌, ◌<◌, ◌≤◌, List, [], ◌∷◌, Bool, true, false, not, cond, ◌&&◌, ◌||◌, Option, None, Some, length, refl, sym, ◌∙◌, ap, subst, arith, is_some}
+use Rattle.std.proofs.Common.{◌≡◌, ◌≢◌, ℕ, zero, suc, ◌-◌, List, Bool, true, false, not, cond, ◌&&◌, ◌||◌, Option, None, Some, refl, sym, ◌∙◌, ap, arith}
 use Rattle.std.specs.Prelude.{is_none, IsSome}
 use Rattle.std.specs.Option.{option_map, option_and_then}
 use Rattle.plain_model.specs.declared.names.Access.{Access}
 use Rattle.plain_model.specs.declared.names.Home.{Home}
 use Rattle.plain_model.specs.declared.names.ForkName.{ForkName}
-use Rattle.plain_model.specs.declared.names.TheConstants.{SPACE_PAGES}
-use Rattle.plain_model.specs.Maps.{full_access}
 use Rattle.flat_pages.specs.declared.held_entry.EntryAt.{EntryAt}
 use Rattle.flat_pages.specs.declared.held_entry.HeldEntry.{HeldEntry}
-use Rattle.flat_pages.specs.declared.held_entry.HeldEntry.TheVariants.{Empty, Page, Follows}
 use Rattle.flat_pages.specs.declared.held_entry.Link.{Link}
 use Rattle.flat_pages.specs.declared.held_map.HeldMap.{HeldMap}
 use Rattle.flat_pages.specs.declared.chain_walk.Walk.{Walk}
 use Rattle.flat_pages.specs.declared.chain_walk.Use.{Use}
 use Rattle.flat_pages.specs.declared.chain_walk.Use.TheVariants.{Read, Write, Execute, Change}
-use Rattle.flat_pages.specs.HeldMaps.{fork_at, held_entry, index_of, AreHeld}
+use Rattle.flat_pages.specs.HeldMaps.{fork_at, held_entry, index_of}
 use Rattle.flat_pages.specs.Walks.{next_at, walk_end, walk_behind, walk_from, walk_within, walk, lets, lets_along, ready_home, terminal_of}
 use Rattle.flat_pages.proofs.ForkMaps.{index_fork}
 

@@ -1,5 +1,5 @@
 -- A map whose entries are emptied one after another, and a fork that ends so.
-use Rattle.std.specs.Prelude.{◌≡◌, ℕ, ◌<◌, Bool, true, false, Option, None, Some, length, nat_lt, if◌then◌else◌}
+use Rattle.std.specs.Prelude.{◌≡◌, ℕ, ◌<◌, true, false, None, Some, length, nat_lt, if◌then◌else◌}
 use Rattle.std.specs.FinMap as map
 use Rattle.plain_model.specs.declared.names.ForkName.{ForkName}
 use Rattle.plain_model.specs.declared.names.PageName.{PageName}
@@ -8,7 +8,6 @@ use Rattle.plain_model.specs.State.{NumberedPages}
 use Rattle.plain_model.specs.Room.{uses}
 use Rattle.plain_model.specs.Pages.{StaysInCore, same_fork}
 use Rattle.plain_model.specs.Stores.{StoreMeaning, FitsHomes}
-use Rattle.flat_pages.specs.declared.held_entry.EntryAt.{EntryAt}
 use Rattle.flat_pages.specs.declared.held_entry.HeldEntry.TheVariants.{Empty}
 use Rattle.flat_pages.specs.declared.map_tables.MapTables.{MapTables}
 use Rattle.flat_pages.specs.HeldMaps.{fork_at, held_entry}
@@ -28,11 +27,11 @@ pub record AreFewer (p q : NumberedPages) (f : ForkName) : Type 0 where
 
 -- the first entries of the map with a number were emptied: what no entry names any more was given up, and nothing has left its frame
 pub record EmptiesMap {S : Type 0} (store : StoreMeaning S) (old new : S) (tables tables' : MapTables) (k pages : ℕ) : Type 0 where
-  pub told : (d : DrumWords) (f : ForkName) → fork_at tables.maps.items k ≡ Some f → FitsHomes (store.homes old) d
+  pub told : (d : DrumWords) (f : ForkName) → fork_at tables.maps.held.items k ≡ Some f → FitsHomes (store.homes old) d
       → FitsHomes (store.homes new) d × AreFewer (plain_of (tables_of (store.homes old) tables) d) (plain_of (tables_of (store.homes new) tables') d) f
-  pub many : length tables'.maps.items ≡ length tables.maps.items
-  pub forks : (j : ℕ) → fork_at tables'.maps.items j ≡ fork_at tables.maps.items j
-  pub entries : (page : ℕ) → page < pages → held_entry tables'.maps.items (record { map = k; page = page }) ≡ Some Empty
+  pub many : length tables'.maps.held.items ≡ length tables.maps.held.items
+  pub forks : (j : ℕ) → fork_at tables'.maps.held.items j ≡ fork_at tables.maps.held.items j
+  pub entries : (page : ℕ) → page < pages → held_entry tables'.maps.held.items (record { map = k; page = page }) ≡ Some Empty
   pub serials : tables'.serials ≡ tables.serials
   pub living : tables'.living ≡ tables.living
   pub limit : tables'.limit ≡ tables.limit

@@ -1,14 +1,13 @@
 -- The maps of forks as they stand in memory, and the maps that they are.
-use Rattle.std.specs.Prelude.{◌≡◌, ℕ, suc, ◌+◌, ◌*◌, ◌<◌, ◌≤◌, List, [], ◌∷◌, Bool, true, false, Option, None, Some, if◌then◌else◌, nat_eq, length, map, replicate, slice_get, slice_index_or, slice_set}
+use Rattle.std.specs.Prelude.{◌≡◌, ℕ, suc, ◌+◌, ◌*◌, ◌<◌, ◌≤◌, List, [], ◌∷◌, Bool, false, Option, None, Some, if◌then◌else◌, nat_eq, length, map, replicate, slice_get, slice_index_or, slice_set}
 use Rattle.std.specs.List.{count_by, sum_by, range_with_len}
-use Rattle.std.specs.Option.{option_map, option_map_or, unwrap_or}
+use Rattle.std.specs.Option.{option_map_or, unwrap_or}
 use Rattle.std.specs.Prelude.{is_some}
 use Rattle.std.specs.FinMap as map
 use Rattle.plain_model.specs.declared.names.ForkName.{ForkName}
 use Rattle.plain_model.specs.declared.names.Tty.{Tty}
 use Rattle.plain_model.specs.declared.names.PageName.{PageName}
 use Rattle.plain_model.specs.declared.names.Home.{Home}
-use Rattle.plain_model.specs.declared.names.Slot.{Slot}
 use Rattle.plain_model.specs.declared.names.Access.{Access}
 use Rattle.plain_model.specs.declared.names.TheConstants.{SPACE_PAGES, MOST_FORKS}
 use Rattle.plain_model.specs.declared.map.MapEntry.{MapEntry}
@@ -130,13 +129,3 @@ living_in maps = count_by (λ m. is_some m.fork) maps
 -- how many forks of a terminal live
 abbrev pub living_of : List HeldMap → Tty → ℕ
 living_of maps t = count_by (λ m. option_map_or (λ f. nat_eq f.tty.0 t.0) m.fork false) maps
-
--- an entry that follows none and has no copy mark counts nothing
-abbrev pub marks : HeldEntry → ℕ
-marks Empty = 0
-marks (Page h a) = if a.c then 1 else 0
-marks (Follows l a) = 1
-
--- no entry follows another, and none has the copy mark
-abbrev pub are_single : List HeldMap → Bool
-are_single maps = nat_eq (entries_total marks maps) 0

@@ -1,8 +1,11 @@
 pub mod Serials
 pub mod HeldMaps
 pub mod StoredPages
+pub mod StoredLists
 pub mod StoreMeaning
 pub mod Walks
+pub mod Looks
+pub mod MapNumbers
 pub mod SlotTables
 pub mod SlotTouches
 pub mod TableSteps

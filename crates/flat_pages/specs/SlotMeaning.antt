@@ -1,13 +1,11 @@
 -- What the clauses of pages say of maps in memory over a store.
-use Rattle.std.specs.Prelude.{◌≡◌, ◌≢◌, ℕ, ◌+◌, ◌≤◌, List, [], length, Bool, true, false, Option, None, Some, is_some, MatchOption}
-use Rattle.std.specs.Option.{option_map, option_map_or, option_and_then}
+use Rattle.std.specs.Prelude.{◌≡◌, ℕ, ◌+◌, ◌≤◌, List, length, true, false, Option, None, Some, is_some, MatchOption}
+use Rattle.std.specs.Option.{option_map, option_and_then}
 use Rattle.std.specs.FinMap as map
 use Rattle.std.proofs.Common.{refl, sym, ◌∙◌, ap, subst}
 use Rattle.plain_model.specs.declared.names.ForkName.{ForkName}
 use Rattle.plain_model.specs.declared.names.PageName.{PageName}
-use Rattle.plain_model.specs.declared.names.Tty.{Tty}
 use Rattle.plain_model.specs.declared.names.Slot.{Slot}
-use Rattle.plain_model.specs.declared.names.Home.{Home}
 use Rattle.plain_model.specs.declared.names.TheConstants.{MOST_FORKS}
 use Rattle.plain_model.specs.declared.map.Found.{Found}
 use Rattle.plain_model.specs.declared.map.SpaceHandle.{SpaceHandle}
@@ -17,14 +15,13 @@ use Rattle.plain_model.specs.Outcome.{DrumWords}
 use Rattle.plain_model.specs.Room.{live}
 use Rattle.plain_model.specs.Whole.{AreWhole}
 use Rattle.plain_model.specs.Stores.{StoreMeaning, IsSound, CanLeave, AllStay, FitsHomes, HomePlace, away, place}
-use Rattle.plain_model.specs.Pages.{PagesMeaning, Agrees, AreHoused, AreSingle}
-use Rattle.flat_pages.specs.declared.held_entry.EntryAt.{EntryAt}
+use Rattle.plain_model.specs.Pages.{PagesMeaning, Agrees, AreHoused}
 use Rattle.flat_pages.specs.declared.held_entry.HeldEntry.{HeldEntry}
 use Rattle.flat_pages.specs.Serials.{serial_of}
-use Rattle.flat_pages.specs.HeldMaps.{are_single, index_of, held_entry, entry_of, living_of, maps_held}
+use Rattle.flat_pages.specs.HeldMaps.{index_of, held_entry, entry_of, living_of, maps_held}
 use Rattle.flat_pages.specs.Walks.{walk}
-use Rattle.flat_pages.specs.SlotTables.{Tables, plain_of, AreTables}
-use Rattle.flat_pages.specs.SlotTouches.{scene_of, touch_of_place, walk_of}
+use Rattle.flat_pages.specs.SlotTables.{Tables, plain_of}
+use Rattle.flat_pages.specs.SlotTouches.{scene_of, touch_of_place}
 
 -- an entry as a look at it finds it; its map is always in memory
 abbrev pub seen_entry : Tables → Option HeldEntry → Seen
@@ -68,7 +65,6 @@ slots_meaning store part tables = record {
   most = λ p. (tables p).limit;
   most_forks = MOST_FORKS;
   flat = store.flat;
-  single = λ p. are_single (tables p).maps;
   space = λ p f. option_map (λ k. record { 0 = k }) (index_of (tables p).maps f);
   place = λ p. place_along (store.found (part p)) (tables p);
   store = within store part;
@@ -84,7 +80,6 @@ pub record AreTold (t : Tables) : Type 0 where
   pub away : (n : PageName) (home : ℕ) (frames : ℕ) → (scene_of t frames).page_away n ≡ Some home → place t.places home ≡ away
   pub there : (d : DrumWords) (n : PageName) (home frames : ℕ) → FitsHomes t.places d → (scene_of t frames).page_away n ≡ Some home → map.contains_key (plain_of t d).objects n ≡ true
   pub homes : length t.places ≤ t.limit
-  pub single : are_single t.maps ≡ true → AreSingle (maps_held t.names t.maps)
   pub mapped : (home : ℕ) → ◌≡◌ {A = Option ℕ} None (Some home) → ⊥
 
 module _ {P S : Type 0} (store : StoreMeaning S) (part : P → S) where

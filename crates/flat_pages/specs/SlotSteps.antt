@@ -1,5 +1,5 @@
 -- What steps do to a store and to the tables beside it.
-use Rattle.std.specs.Prelude.{◌≡◌, ℕ, Bool, Some, not, ◌&&◌}
+use Rattle.std.specs.Prelude.{◌≡◌, Some}
 use Rattle.plain_model.specs.Maps.{narrowed}
 use Rattle.plain_model.specs.declared.names.Access.{Access}
 use Rattle.plain_model.specs.declared.names.Home.{Home}
@@ -28,9 +28,9 @@ pub record TakesHome {S : Type 0} (store : StoreMeaning S) (old new : S) (tables
 
 -- an entry was set: what no entry names any more was given up, and nothing has left its frame
 pub record SetsEntry {S : Type 0} (store : StoreMeaning S) (old new : S) (tables tables' : MapTables) (at : EntryAt) (e : HeldEntry) : Type 0 where
-  pub told : (d : DrumWords) (s : Slot) → slot_of tables.maps.items at ≡ Some s → FitsHomes (store.homes old) d
+  pub told : (d : DrumWords) (s : Slot) → slot_of tables.maps.held.items at ≡ Some s → FitsHomes (store.homes old) d
       → FitsHomes (store.homes new) d × (plain_of (tables_of (store.homes new) tables') d ≡ entry_put (plain_of (tables_of (store.homes old) tables) d) s (entry_of tables.names.items e))
-  pub maps : tables'.maps.items ≡ with_entry tables.maps.items at e
+  pub maps : tables'.maps.held.items ≡ with_entry tables.maps.held.items at e
   pub serials : tables'.serials ≡ tables.serials
   pub living : tables'.living ≡ tables.living
   pub limit : tables'.limit ≡ tables.limit

@@ -1,6 +1,5 @@
 -- What the clauses of stores say of one in memory.
-use Rattle.std.specs.Prelude.{◌≡◌, ℕ, ◌-◌, ◌^◌, ◌≤◌, List, [], length, Bool, true, false, if◌then◌else◌, Option, None, Some, is_some, count_by, Contains, slice_set}
-use Rattle.std.specs.List.{list_any}
+use Rattle.std.specs.Prelude.{◌≡◌, ℕ, ◌-◌, ◌^◌, ◌≤◌, List, [], length, Bool, true, false, if◌then◌else◌, None, Some, is_some, slice_set}
 use Rattle.std.proofs.Common.{refl, sym, ◌∙◌, ap, subst}
 use Rattle.std.proofs.Math.ListN.{get_or-map}
 use Rattle.std.proofs.Math.Nat.{le_of_sub-eq-zero, not-suc-le-zero}
@@ -9,10 +8,10 @@ use Rattle.std.proofs.lemmas.List.{length-map, map-set}
 use Rattle.outside.specs.Drums.{IsPage}
 use Rattle.plain_model.specs.declared.names.TheConstants.{MOST_HOMES}
 use Rattle.plain_model.specs.declared.map.Found.{Found}
-use Rattle.plain_model.specs.Stores.{StoreMeaning, IsSound, HomePlace, free, away, here, place, is_taken, is_here, free_homes}
-use Rattle.flat_pages.specs.declared.stored_page.StoredPage.{StoredPage}
+use Rattle.plain_model.specs.Stores.{StoreMeaning, IsSound, HomePlace, free, here, place, is_taken, is_here, free_homes}
 use Rattle.flat_pages.specs.declared.flat_store.FlatStore.{FlatStore}
-use Rattle.flat_pages.specs.StoredPages.{free_page, stored_at, place_of, places_of, found_at}
+use Rattle.flat_pages.specs.StoredLists.{pages_of}
+use Rattle.flat_pages.specs.StoredPages.{StoredPage, free_page, stored_at, place_of, places_of, found_at}
 
 pub place_at : (pages : List StoredPage) (h : ℕ) → place (places_of pages) h ≡ place_of (stored_at pages h)
 place_at pages h = get_or-map place_of pages h free_page
@@ -80,14 +79,14 @@ none_counted = le_of_sub-eq-zero refl
 -- nothing is away, nothing moves, nothing is held, and nobody's pages are too many
 abbrev pub flat_meaning : StoreMeaning FlatStore
 flat_meaning = record {
-  homes = λ s. places_of s.pages.items;
-  spare = λ s. free_homes (places_of s.pages.items);
+  homes = λ s. places_of (pages_of s.pages);
+  spare = λ s. free_homes (places_of (pages_of s.pages));
   queue = λ s. [];
   untold = λ s. [];
   holds = λ s holder. [];
   tenant = λ s frame. None;
   victim = λ s. None;
-  found = λ s. found_at (places_of s.pages.items);
+  found = λ s. found_at (places_of (pages_of s.pages));
   members = λ s. 2 ^ 32 - 1;
   flat = true;
 }
@@ -95,16 +94,16 @@ flat_meaning = record {
 -- what holds of each store
 pub flat_sound : (s : FlatStore) → IsSound flat_meaning s
 flat_sound s = record {
-  few = few_places s.pages.items s.stored.few;
-  pages = λ home words is. subst IsPage (words_here s.pages.items home words is) (s.stored.words home);
-  finds = finds_is s.pages.items;
+  few = few_places (pages_of s.pages) s.stored.few;
+  pages = λ home words is. subst IsPage (words_here (pages_of s.pages) home words is) (s.stored.words home);
+  finds = finds_is (pages_of s.pages);
   comes = λ home some. absurd (true≢false (sym some));
   goes = λ home some. absurd (true≢false (sym some));
   once = λ home. none_counted;
   held = λ holder home is. absurd (not-suc-le-zero is.1);
   unmoved = λ holder home is. absurd (not-suc-le-zero is.1);
   next = λ frame home leaves. true≢false (sym (ap is_some leaves.there));
-  core = λ flat home. core_is s.pages.items home;
+  core = λ flat home. core_is (pages_of s.pages) home;
   still = λ flat. refl;
   frames = λ flat. refl;
 }

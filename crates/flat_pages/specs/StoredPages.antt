@@ -1,5 +1,5 @@
 -- The pages of a store in memory.
-use Rattle.std.specs.Prelude.{◌≡◌, ℕ, ◌+◌, ◌<◌, ◌≤◌, List, [], Bool, true, false, if◌then◌else◌, nat_lt, Option, None, Some, length, map, slice_index_or, slice_set}
+use Rattle.std.specs.Prelude.{◌≡◌, ℕ, ◌<◌, ◌≤◌, List, [], ◌∷◌, Bool, false, if◌then◌else◌, Option, None, Some, length, map, slice_index_or}
 use Rattle.std.specs.List.{range_with_len}
 use Rattle.outside.specs.Drums.{IsPage}
 use Rattle.plain_model.specs.declared.names.Home.{Home}
@@ -7,7 +7,17 @@ use Rattle.plain_model.specs.declared.names.TheConstants.{MOST_HOMES}
 use Rattle.plain_model.specs.declared.map.Found.{Found}
 use Rattle.plain_model.specs.References.{zero_words}
 use Rattle.plain_model.specs.Stores.{HomePlace, free, here, place, is_taken, free_homes}
-use Rattle.flat_pages.specs.declared.stored_page.StoredPage.{StoredPage}
+
+-- the page of a home: whether it is taken, and its words, which are nobody's where it is not
+pub record StoredPage : Type 0 where
+  pub taken : Bool
+  pub words : List ℕ
+
+-- the pages of all homes
+abbrev pub pages_from : List (List ℕ) → List Bool → List StoredPage
+pages_from [] taken = []
+pages_from (w ∷ words) [] = []
+pages_from (w ∷ words) (t ∷ taken) = record { taken = t; words = w } ∷ pages_from words taken
 
 -- the page of a home that is not taken
 abbrev pub free_page : StoredPage

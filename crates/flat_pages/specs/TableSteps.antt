@@ -8,7 +8,7 @@ use Rattle.plain_model.specs.declared.names.Tty.{Tty}
 use Rattle.plain_model.specs.Stores.{HomePlace, free}
 use Rattle.flat_pages.specs.declared.held_entry.EntryAt.{EntryAt}
 use Rattle.flat_pages.specs.declared.held_entry.HeldEntry.{HeldEntry}
-use Rattle.flat_pages.specs.declared.held_entry.HeldEntry.TheVariants.{Empty, Page, Follows}
+use Rattle.flat_pages.specs.declared.held_entry.HeldEntry.TheVariants.{Page}
 use Rattle.flat_pages.specs.declared.page_serials.PageSerials.{PageSerials}
 use Rattle.flat_pages.specs.declared.map_tables.MapTables.{MapTables}
 use Rattle.flat_pages.specs.Serials.{serial_of, with_next}
@@ -17,7 +17,7 @@ use Rattle.flat_pages.specs.SlotTables.{Tables, share_of}
 
 -- the tables beside a store
 abbrev pub tables_of : List HomePlace → MapTables → Tables
-tables_of places m = record { places = places; names = m.names.items; shares = m.shares.items; maps = m.maps.items; serials = m.serials; taken = m.taken; living = m.living; limit = m.limit }
+tables_of places m = record { places = places; names = m.names.items; shares = m.shares.items; maps = m.maps.held.items; serials = m.serials; taken = m.taken; living = m.living; limit = m.limit }
 
 -- the name of an owner's next page
 abbrev pub next_name : PageSerials → Tty → PageName

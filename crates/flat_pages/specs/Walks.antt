@@ -1,5 +1,5 @@
 -- Walks along the chains of maps in memory.
-use Rattle.std.specs.Prelude.{◌≡◌, ℕ, zero, suc, List, Bool, true, false, not, ◌&&◌, ◌||◌, Option, None, Some, if◌then◌else◌, is_none}
+use Rattle.std.specs.Prelude.{ℕ, zero, suc, List, Bool, not, ◌&&◌, ◌||◌, Option, None, Some, if◌then◌else◌, is_none}
 use Rattle.std.specs.Option.{option_map, option_map_or, option_and_then}
 use Rattle.plain_model.specs.declared.names.Access.{Access}
 use Rattle.plain_model.specs.declared.names.Home.{Home}

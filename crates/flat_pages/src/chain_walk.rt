@@ -7,7 +7,8 @@ ghost use Rattle.flat_pages.specs.SlotTouches.{allows, copy_of};
 ghost use Rattle.flat_pages.specs.Walks.{next_at, walk_end, walk_behind, walk_within, use_of, lets, ready_home};
 
 use crate::held_entry::{EntryAt, HeldEntry, Link};
-use crate::held_map::{HeldMap, entry_held, map_of};
+use crate::held_map::entry_held;
+use crate::kept_maps::KeptMaps;
 use plain_model::{Access, ForkName, Home, Kind, SPACE_PAGES};
 
 /// How many entries a chain has at most.
@@ -75,6 +76,19 @@ impl Walk {
         }
     }
 
+    /// The home of the page, where the chain lets it be used so as it is.
+    fn ready_home(self, wanted: Use) -> Option<Home>
+        ensures { result ≡ ready_home wanted self }
+    {
+        let is_let = match wanted {
+            Use::Read => self.reads,
+            Use::Write => self.writes && self.copy.is_none(),
+            Use::Execute => self.executes,
+            Use::Change => self.reads && self.writes && self.copy.is_none(),
+        };
+        if is_let { self.home } else { None }
+    }
+
     /// Where a reference makes a copy, if it makes one.
     pub fn copy_for(self, kind: Kind) -> Option<EntryAt>
         ensures { result ≡ copy_of kind self }
@@ -132,13 +146,13 @@ fn goes_on(at: EntryAt, access: Access, rest: Walk) -> Walk
 
 // Where the entry stands that a link names. None exactly where its fork doesn't live.
 #[inline]
-fn followed(maps: &Vec<HeldMap>, at: EntryAt, link: Link) -> Option<EntryAt>
-    requires held { AreHeld maps.now.items }
-    requires map { at.map < length maps.now.items }
-    requires lives { IsSome (fork_at maps.now.items at.map) }
-    ensures { result ≡ next_at maps.now.items at link }
+fn followed(maps: &KeptMaps, at: EntryAt, link: Link) -> Option<EntryAt>
+    requires held { AreHeld maps.now.held.items }
+    requires map { at.map < length maps.now.held.items }
+    requires lives { IsSome (fork_at maps.now.held.items at.map) }
+    ensures { result ≡ next_at maps.now.held.items at link }
 {
-    let fork = match maps[at.map as usize].fork {
+    let fork = match maps.held[at.map as usize].fork {
         Some(own) => ForkName {
             tty: own.tty,
             serial: link.serial,
@@ -153,27 +167,27 @@ fn followed(maps: &Vec<HeldMap>, at: EntryAt, link: Link) -> Option<EntryAt>
 
 // The number of a fork's map, which is looked at first where it may be.
 #[inline]
-fn map_near(maps: &Vec<HeldMap>, fork: ForkName, near: u16) -> Option<u32>
-    requires held { AreHeld maps.now.items }
-    ensures { result ≡ index_of maps.now.items fork }
+fn map_near(maps: &KeptMaps, fork: ForkName, near: u16) -> Option<u32>
+    requires held { AreHeld maps.now.held.items }
+    ensures { result ≡ index_of maps.now.held.items fork }
 {
-    if (near as usize) < maps.len() && maps[near as usize].fork == Some(fork) {
+    if (near as usize) < maps.held.len() && maps.held[near as usize].fork == Some(fork) {
         return Some(u32::from(near));
     }
-    map_of(maps, fork)
+    maps.map_of(fork)
 }
 
 /// The walk from an entry of a living fork's map along its chain, where so many entries are enough.
-pub fn walk_along(maps: &Vec<HeldMap>, most: u32, at: EntryAt) -> Option<Walk>
-    requires held { AreHeld maps.now.items }
-    requires lives { IsSome (fork_at maps.now.items at.map) }
+pub fn walk_along(maps: &KeptMaps, most: u32, at: EntryAt) -> Option<Walk>
+    requires held { AreHeld maps.now.held.items }
+    requires lives { IsSome (fork_at maps.now.held.items at.map) }
     requires page { at.page < SPACE_PAGES }
-    ensures { result ≡ walk_within most maps.now.items at }
+    ensures { result ≡ walk_within most maps.now.held.items at }
 {
     if most == 0 {
         return None;
     }
-    match entry_held(maps, at) {
+    match entry_held(&maps.held, at) {
         HeldEntry::Empty => Some(ends(at, FULL_ACCESS, None)),
         HeldEntry::Page(home, access) => Some(ends(at, access, Some(home))),
         HeldEntry::Follows(link, access) => {
@@ -190,32 +204,14 @@ pub fn walk_along(maps: &Vec<HeldMap>, most: u32, at: EntryAt) -> Option<Walk>
 
 /// The home of the page at the end of a chain, where so many entries are enough, and each lets the page be
 /// used so as it is.
-pub fn home_along(maps: &Vec<HeldMap>, most: u32, at: EntryAt, wanted: Use) -> Option<Home>
-    requires held { AreHeld maps.now.items }
-    requires lives { IsSome (fork_at maps.now.items at.map) }
+pub fn home_of(maps: &KeptMaps, most: u32, at: EntryAt, wanted: Use) -> Option<Home>
+    requires held { AreHeld maps.now.held.items }
+    requires lives { IsSome (fork_at maps.now.held.items at.map) }
     requires page { at.page < SPACE_PAGES }
-    ensures { result ≡ option_and_then (ready_home wanted) (walk_within most maps.now.items at) }
+    ensures { result ≡ option_and_then (ready_home wanted) (walk_within most maps.now.held.items at) }
 {
-    if most == 0 {
-        return None;
-    }
-    match entry_held(maps, at) {
-        HeldEntry::Empty => None,
-        HeldEntry::Page(home, access) => {
-            if wanted.is_let(access) {
-                Some(home)
-            } else {
-                None
-            }
-        }
-        HeldEntry::Follows(link, access) => {
-            if !wanted.is_let(access) {
-                return None;
-            }
-            match followed(maps, at, link) {
-                Some(next) => home_along(maps, most - 1, next, wanted),
-                None => None,
-            }
-        }
+    match walk_along(maps, most, at) {
+        None => None,
+        Some(walk) => walk.ready_home(wanted),
     }
 }

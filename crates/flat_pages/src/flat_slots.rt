@@ -3,9 +3,9 @@ ghost use Rattle.flat_pages.specs.SlotTables.{AreTables};
 ghost use Rattle.flat_pages.specs.TableSteps.{tables_of};
 ghost use Rattle.flat_pages.specs.SlotMeaning.{AreTold};
 
-use crate::chain_walk::{CHAIN, FULL_ACCESS, Use, Walk, home_along};
+use crate::chain_walk::{FULL_ACCESS, Use};
 use crate::held_entry::{EntryAt, HeldEntry, Link};
-use crate::held_map::{entry_held, free_map_of, free_maps, map_of, near_map};
+use crate::held_map::free_map_of;
 use crate::map_tables::MapTables;
 use crate::page_serials::PageSerials;
 use outside::{Drum, Memory, PAGE_WORDS};
@@ -51,8 +51,8 @@ impl<S: Store + Drop> FlatSlots<S> {
         ensures most { IfOk result (λ s. ⟦<FlatSlots<S> as Pages>⟧.means.most s ≡ pages) }
         ensures serials { IfOk result (λ s. (t : ATty) → IsOwner t → ⟦<FlatSlots<S> as Pages>⟧.means.serial s t ≡ 1) }
         ensures first { IfOk result (λ s. (t : ATty) → ⟦<FlatSlots<S> as Pages>⟧.means.serial s t ≤ 1) }
+        ensures frames { IfOk result (λ s. (⟦<FlatSlots<S> as Pages>⟧.means.scene s).free_frames ≡ S.means.spare store) }
         ensures lives { IfOk result (λ s. (f : AForkName) → ⟦<FlatSlots<S> as Pages>⟧.means.lives s f ≡ false) }
-        ensures single { IfOk result (λ s. ⟦<FlatSlots<S> as Pages>⟧.means.single s ≡ true) }
         ensures forks { IfOk result (λ s. (t : ATty) → ⟦<FlatSlots<S> as Pages>⟧.means.forks_of s t ≡ 0) }
     {
         let tables = MapTables::boot(alloc, pages)?;
@@ -106,8 +106,8 @@ impl<S: Store> FlatSlots<S> {
     // What a touch answers where a page has to be copied into an entry.
     fn copied(&self, home: Home, at: EntryAt) -> Touch
         requires taken { is_taken (place (S.means.homes self.now.store) home.0) ≡ true }
-        requires there { IsSome (held_entry self.now.tables.maps.items at) }
-        ensures { result ≡ touch_copy (tables_of (S.means.homes self.now.store) self.now.tables) (scene_of (tables_of (S.means.homes self.now.store) self.now.tables) (S.means.spare self.now.store)) (away_at (S.means.homes self.now.store) home.0) (is_alone self.now.tables.shares.items (held_entry self.now.tables.maps.items at)) }
+        requires there { IsSome (held_entry self.now.tables.maps.held.items at) }
+        ensures { result ≡ touch_copy (tables_of (S.means.homes self.now.store) self.now.tables) (scene_of (tables_of (S.means.homes self.now.store) self.now.tables) (S.means.spare self.now.store)) (away_at (S.means.homes self.now.store) home.0) (is_alone self.now.tables.shares.items (held_entry self.now.tables.maps.held.items at)) }
     {
         if self.tables.is_alone(at) {
             return self.present(home, Touch::Copy { sole: true });
@@ -122,7 +122,7 @@ impl<S: Store> FlatSlots<S> {
     // What a touch answers that is permitted.
     fn made(&self, home: Option<Home>, copy: Option<EntryAt>) -> Touch
         requires taken { (h : AHome) → home ≡ Some h → is_taken (place (S.means.homes self.now.store) h.0) ≡ true }
-        requires there { (m : AnEntry) → copy ≡ Some m → IsSome (held_entry self.now.tables.maps.items m) }
+        requires there { (m : AnEntry) → copy ≡ Some m → IsSome (held_entry self.now.tables.maps.held.items m) }
         ensures { result ≡ touch_made (away_at (S.means.homes self.now.store)) (tables_of (S.means.homes self.now.store) self.now.tables) (scene_of (tables_of (S.means.homes self.now.store) self.now.tables) (S.means.spare self.now.store)) home copy }
     {
         let Some(home) = home else {
@@ -154,8 +154,8 @@ impl<S: Store> FlatSlots<S> {
 
     // A zero page in a home of its own, for an empty entry.
     fn make_zero(&mut self, at: EntryAt, owner: Tty)
-        requires empty { held_entry self.old.tables.maps.items at ≡ Some entry.Empty }
-        requires lives { IsSome (fork_at self.old.tables.maps.items at.map) }
+        requires empty { held_entry self.old.tables.maps.held.items at ≡ Some entry.Empty }
+        requires lives { IsSome (fork_at self.old.tables.maps.held.items at.map) }
         requires owner { IsOwner owner }
         requires serial { serial_of self.old.tables.serials owner < 2 ^ 63 }
         requires room { has_room (tables_of (S.means.homes self.old.store) self.old.tables) 1 ≡ true }
@@ -168,9 +168,9 @@ impl<S: Store> FlatSlots<S> {
 
     // A copy in a home of its own, of a page that keeps another name.
     fn copy_new(&mut self, at: EntryAt, from: Home, access: Access, owner: Tty)
-        requires there { IsSome (held_entry self.old.tables.maps.items at) }
-        requires lives { IsSome (fork_at self.old.tables.maps.items at.map) }
-        requires shared { is_alone self.old.tables.shares.items (held_entry self.old.tables.maps.items at) ≡ false }
+        requires there { IsSome (held_entry self.old.tables.maps.held.items at) }
+        requires lives { IsSome (fork_at self.old.tables.maps.held.items at.map) }
+        requires shared { is_alone self.old.tables.shares.items (held_entry self.old.tables.maps.held.items at) ≡ false }
         requires from { is_here (place (S.means.homes self.old.store) from.0) ≡ true }
         requires owner { IsOwner owner }
         requires serial { serial_of self.old.tables.serials owner < 2 ^ 63 }
@@ -184,9 +184,9 @@ impl<S: Store> FlatSlots<S> {
 
     // A copy of a page that has no other name takes its home.
     fn copy_alone(&mut self, at: EntryAt, home: Home, old: Access, access: Access, owner: Tty)
-        requires entry { held_entry self.old.tables.maps.items at ≡ Some (entry.Page home old) }
-        requires lives { IsSome (fork_at self.old.tables.maps.items at.map) }
-        requires alone { is_alone self.old.tables.shares.items (held_entry self.old.tables.maps.items at) ≡ true }
+        requires entry { held_entry self.old.tables.maps.held.items at ≡ Some (entry.Page home old) }
+        requires lives { IsSome (fork_at self.old.tables.maps.held.items at.map) }
+        requires alone { is_alone self.old.tables.shares.items (held_entry self.old.tables.maps.held.items at) ≡ true }
         requires from { is_here (place (S.means.homes self.old.store) home.0) ≡ true }
         requires owner { IsOwner owner }
         requires serial { serial_of self.old.tables.serials owner < 2 ^ 63 }
@@ -221,9 +221,9 @@ impl<S: Store> FlatSlots<S> {
 
     // An entry becomes one of no page, in the place of one that alone named the page of a home.
     fn drop_page(&mut self, at: EntryAt, home: Home, old: Access, new: HeldEntry)
-        requires there { held_entry self.old.tables.maps.items at ≡ Some (entry.Page home old) }
-        requires lives { IsSome (fork_at self.old.tables.maps.items at.map) }
-        requires alone { is_alone self.old.tables.shares.items (held_entry self.old.tables.maps.items at) ≡ true }
+        requires there { held_entry self.old.tables.maps.held.items at ≡ Some (entry.Page home old) }
+        requires lives { IsSome (fork_at self.old.tables.maps.held.items at.map) }
+        requires alone { is_alone self.old.tables.shares.items (held_entry self.old.tables.maps.held.items at) ≡ true }
         requires none { (k : ℕ) → points_at k new ≡ 0 }
         requires page { (l : ALink) (a : AnAccess) → new ≡ entry.Follows l a → l.page < SPACE_PAGES }
         ensures freed { IsFreed S.means home.0 self.old.store self.new.store }
@@ -235,8 +235,8 @@ impl<S: Store> FlatSlots<S> {
 
     // An entry becomes one of no page. A page that loses its last name is given up.
     fn set_unnamed(&mut self, at: EntryAt, new: HeldEntry)
-        requires there { IsSome (held_entry self.old.tables.maps.items at) }
-        requires lives { IsSome (fork_at self.old.tables.maps.items at.map) }
+        requires there { IsSome (held_entry self.old.tables.maps.held.items at) }
+        requires lives { IsSome (fork_at self.old.tables.maps.held.items at.map) }
         requires none { (k : ℕ) → points_at k new ≡ 0 }
         requires page { (l : ALink) (a : AnAccess) → new ≡ entry.Follows l a → l.page < SPACE_PAGES }
         ensures { SetsEntry S.means self.old.store self.new.store self.old.tables self.new.tables at new }
@@ -252,8 +252,8 @@ impl<S: Store> FlatSlots<S> {
 
     // An entry becomes another of the same page, or of none as before.
     fn set_kept(&mut self, at: EntryAt, old: HeldEntry, new: HeldEntry)
-        requires there { held_entry self.old.tables.maps.items at ≡ Some old }
-        requires lives { IsSome (fork_at self.old.tables.maps.items at.map) }
+        requires there { held_entry self.old.tables.maps.held.items at ≡ Some old }
+        requires lives { IsSome (fork_at self.old.tables.maps.held.items at.map) }
         requires same { (k : ℕ) → points_at k new ≡ points_at k old }
         requires page { (l : ALink) (a : AnAccess) → new ≡ entry.Follows l a → l.page < SPACE_PAGES }
         ensures { SetsEntry S.means self.old.store self.new.store self.old.tables self.new.tables at new }
@@ -263,8 +263,8 @@ impl<S: Store> FlatSlots<S> {
 
     // The home of the page at the end of the chain of a place.
     fn home_of(&self, at: Place) -> Option<Home>
-        requires { IsPlace (λ f. is_some (index_of self.now.tables.maps.items f)) at }
-        ensures { (s : ASlot) → at ≡ Place.Fork s → result ≡ option_and_then (λ w. w.home) (walk_of self.now.tables.maps.items s) }
+        requires { IsPlace (λ f. is_some (index_of self.now.tables.maps.held.items f)) at }
+        ensures { (s : ASlot) → at ≡ Place.Fork s → result ≡ option_and_then (λ w. w.home) (walk_of self.now.tables.maps.held.items s) }
     {
         let Place::Fork(slot) = at else {
             return None;
@@ -278,12 +278,12 @@ impl<S: Store> FlatSlots<S> {
     // Where the page is at the end of a chain that lets it be used so as it is, if it is in a frame.
     #[inline(always)]
     fn found(&self, space: SpaceHandle, page: u16, wanted: Use) -> Option<Found>
-        requires lives { IsSome (fork_at self.now.tables.maps.items space.0) }
+        requires lives { IsSome (fork_at self.now.tables.maps.held.items space.0) }
         requires page { page < SPACE_PAGES }
-        ensures { result ≡ option_and_then (λ h. S.means.found self.now.store h.0) (option_and_then (ready_home wanted) (walk self.now.tables.maps.items (record { map = space.0; page = page }))) }
+        ensures { result ≡ option_and_then (λ h. S.means.found self.now.store h.0) (option_and_then (ready_home wanted) (walk self.now.tables.maps.held.items (record { map = space.0; page = page }))) }
     {
         let at = EntryAt { map: space.0, page };
-        match self.home_for(at, wanted) {
+        match self.tables.maps.home_for(at, wanted) {
             Some(home) => self.store.find(home),
             None => None,
         }
@@ -291,31 +291,11 @@ impl<S: Store> FlatSlots<S> {
 
     // Each entry of a map is emptied. Pages that lose their last name are given up.
     fn empty_map(&mut self, map: u32)
-        requires lives { IsSome (fork_at self.old.tables.maps.items map) }
+        requires lives { IsSome (fork_at self.old.tables.maps.held.items map) }
         ensures { EmptiesMap S.means self.old.store self.new.store self.old.tables self.new.tables map SPACE_PAGES }
     {
         for page in 0..SPACE_PAGES as u16 {
             self.set_unnamed(EntryAt { map, page }, HeldEntry::Empty);
-        }
-    }
-
-    // The home of the page at the end of a chain that lets it be used so as it is.
-    #[inline(always)]
-    fn home_for(&self, at: EntryAt, wanted: Use) -> Option<Home>
-        requires lives { IsSome (fork_at self.now.tables.maps.items at.map) }
-        requires page { at.page < SPACE_PAGES }
-        ensures { result ≡ option_and_then (ready_home wanted) (walk self.now.tables.maps.items at) }
-    {
-        match entry_held(&self.tables.maps, at) {
-            HeldEntry::Page(home, access) => {
-                if wanted.is_let(access) {
-                    Some(home)
-                } else {
-                    None
-                }
-            }
-            HeldEntry::Empty => None,
-            HeldEntry::Follows(_, _) => home_along(&self.tables.maps, CHAIN, at, wanted),
         }
     }
 }
@@ -364,7 +344,7 @@ impl<S: Store> Pages for FlatSlots<S> {
     }
 
     fn entry(&self, slot: Slot) -> Seen {
-        match map_of(&self.tables.maps, slot.fork) {
+        match self.tables.maps.map_of(slot.fork) {
             Some(map) => {
                 let at = EntryAt {
                     map,
@@ -377,7 +357,7 @@ impl<S: Store> Pages for FlatSlots<S> {
     }
 
     fn set_entry(&mut self, slot: Slot, new: NewEntry) {
-        let Some(map) = map_of(&self.tables.maps, slot.fork) else {
+        let Some(map) = self.tables.maps.map_of(slot.fork) else {
             return;
         };
         let at = EntryAt {
@@ -392,7 +372,7 @@ impl<S: Store> Pages for FlatSlots<S> {
                     tty: slot.fork.tty,
                     serial,
                 };
-                let map = near_map(&self.tables.maps, fork);
+                let map = self.tables.maps.near_map(fork);
                 self.set_unnamed(at, HeldEntry::Follows(Link { serial, page, map }, access));
             }
             NewEntry::Narrow(access) => {
@@ -436,45 +416,45 @@ impl<S: Store> Pages for FlatSlots<S> {
     }
 
     fn space(&self, fork: ForkName) -> SpaceHandle {
-        match map_of(&self.tables.maps, fork) {
+        match self.tables.maps.map_of(fork) {
             Some(map) => SpaceHandle(map),
             None => unreachable!(),
         }
     }
 
-    #[inline]
+    #[inline(always)]
     fn find(&self, space: SpaceHandle, page: u16, kind: Kind) -> Option<Found> {
         self.found(space, page, Use::of(kind))
     }
 
-    #[inline]
+    #[inline(always)]
     fn find_to_change(&self, space: SpaceHandle, page: u16) -> Option<Found> {
         self.found(space, page, Use::Change)
     }
 
-    #[inline]
+    #[inline(always)]
     fn load(&self, space: SpaceHandle, found: Found, address: u32) -> Word {
         self.store.load(found, (address % WORDS) as u16)
     }
 
-    #[inline]
+    #[inline(always)]
     fn store(&mut self, space: SpaceHandle, found: Found, address: u32, word: Word) {
         self.store.store(found, (address % WORDS) as u16, word);
     }
 
     fn add_fork(&mut self, fork: ForkName, map: NewMap) {
-        let number = free_map_of(&self.tables.maps, fork.tty);
+        let number = free_map_of(&self.tables.maps.held, fork.tty);
         match map {
             NewMap::Empty => self.tables.add_empty(number, fork),
             NewMap::FollowAll(other) => {
-                let near = near_map(&self.tables.maps, other);
+                let near = self.tables.maps.near_map(other);
                 self.tables.add_follower(number, fork, other.serial, near);
             }
         }
     }
 
     fn drop_fork(&mut self, fork: ForkName) {
-        let Some(map) = map_of(&self.tables.maps, fork) else {
+        let Some(map) = self.tables.maps.map_of(fork) else {
             return;
         };
         self.empty_map(map);
@@ -536,8 +516,6 @@ impl<S: Store> Pages for FlatSlots<S> {
     ghost agrees = { λ s d fits. slots_agree S.means (λ p. p.store) (λ p. tables_of (S.means.homes p.store) p.tables) s s.told d fits };
 
     ghost whole = { λ s d fits. s.told.whole d fits };
-
-    ghost single = { λ s d is fits. s.told.single is };
 
     ghost none_lives = { λ s f none. s.told.alone f none };
 }

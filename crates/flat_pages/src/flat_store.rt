@@ -1,7 +1,8 @@
 // A store in memory.
 ghost use Rattle.flat_pages.specs.StoredPages.{AreStored};
+ghost use Rattle.flat_pages.specs.StoredLists.{pages_of};
 
-use crate::stored_page::{StoredPage, all_homes, free_pages, zero_page};
+use crate::stored_page::{StoredPages, all_homes, zero_page};
 use outside::{Drum, Memory};
 use plain_model::{Completed, Found, FrameId, Home, MOST_HOMES, Need, Room, Store};
 use std::alloc::Global;
@@ -11,11 +12,11 @@ use word36::Word;
 /// queued. Nothing is allocated after the boot.
 #[derive(Drop)]
 pub struct FlatStore {
-    pages: Vec<StoredPage>,
+    pages: StoredPages,
     // The homes that are free stand first.
     homes: Vec<Home>,
     spare: u32,
-    ghost stored: { AreStored pages.items homes.items spare },
+    ghost stored: { AreStored (pages_of pages) homes.items spare },
 }
 
 impl FlatStore {
@@ -25,10 +26,11 @@ impl FlatStore {
     /// So many homes, 16,384 at most, all of them free. Err: no memory.
     pub fn boot(alloc: Global, pages: u32) -> Result<FlatStore, Memory>
         requires { pages ≤ MOST_HOMES }
-        ensures { IfOk result (λ s. ⟦<FlatStore as Store>⟧.means.homes s ≡ replicate pages free) }
+        ensures homes { IfOk result (λ s. ⟦<FlatStore as Store>⟧.means.homes s ≡ replicate pages free) }
+        ensures spare { IfOk result (λ s. ⟦<FlatStore as Store>⟧.means.spare s ≡ pages) }
     {
         let homes = all_homes(alloc, pages)?;
-        let stored = free_pages(alloc, pages)?;
+        let stored = StoredPages::free(alloc, pages)?;
         Ok(FlatStore {
             pages: stored,
             homes,
@@ -43,37 +45,35 @@ impl Store for FlatStore {
     ghost means = { flat_meaning };
 
     fn taken(&self, home: Home) -> bool {
-        (home.0 as usize) < self.pages.len() && self.pages[home.0 as usize].taken
+        self.pages.is_taken(home)
     }
 
     #[inline]
     fn word(&self, home: Home, at: u16) -> Option<Word> {
-        Some(self.pages[home.0 as usize].words[at as usize])
+        Some(self.pages.word(home.0, at))
     }
 
     #[inline]
     fn put(&mut self, home: Home, at: u16, word: Word) -> bool {
-        let page = &mut self.pages[home.0 as usize];
-        page.words[at as usize] = word;
+        self.pages.put(home.0, at, word);
         true
     }
 
     fn used(&mut self, home: Home) {}
 
-    #[inline]
+    #[inline(always)]
     fn find(&self, home: Home) -> Option<Found> {
         Some(Found(home.0))
     }
 
-    #[inline]
+    #[inline(always)]
     fn load(&self, found: Found, at: u16) -> Word {
-        self.pages[found.0 as usize].words[at as usize]
+        self.pages.word(found.0, at)
     }
 
-    #[inline]
+    #[inline(always)]
     fn store(&mut self, found: Found, at: u16, word: Word) {
-        let page = &mut self.pages[found.0 as usize];
-        page.words[at as usize] = word;
+        self.pages.put(found.0, at, word);
     }
 
     fn room(&self, pages: u32) -> Room {
@@ -87,25 +87,20 @@ impl Store for FlatStore {
     fn make(&mut self) -> Home {
         self.spare -= 1;
         let home = self.homes[self.spare as usize];
-        let page = &mut self.pages[home.0 as usize];
-        page.taken = true;
-        page.words = zero_page();
+        self.pages.take(home, zero_page());
         home
     }
 
     fn copy(&mut self, from: Home) -> Home {
         self.spare -= 1;
         let home = self.homes[self.spare as usize];
-        let words = self.pages[from.0 as usize].words;
-        let page = &mut self.pages[home.0 as usize];
-        page.taken = true;
-        page.words = words;
+        let words = self.pages.page(from);
+        self.pages.take(home, words);
         home
     }
 
     fn free(&mut self, home: Home) {
-        let page = &mut self.pages[home.0 as usize];
-        page.taken = false;
+        self.pages.give_up(home);
         self.homes[self.spare as usize] = home;
         self.spare += 1;
     }

@@ -59,7 +59,7 @@ pub fn set_held(maps: &mut Vec<HeldMap>, at: EntryAt, entry: HeldEntry)
     map.entries[at.page as usize] = entry;
 }
 
-/// The number of a fork's map. None exactly where the fork has none.
+/// The number of a fork's map, looked for among those of its terminal. None exactly where the fork has none.
 pub fn map_of(maps: &Vec<HeldMap>, fork: ForkName) -> Option<u32>
     requires held { AreHeld maps.now.items }
     ensures { result ≡ index_of maps.now.items fork }
@@ -71,16 +71,6 @@ pub fn map_of(maps: &Vec<HeldMap>, fork: ForkName) -> Option<u32>
         }
     }
     None
-}
-
-/// The number of a fork's map, or 0 where the fork has none.
-pub fn near_map(maps: &Vec<HeldMap>, fork: ForkName) -> u16
-    requires held { AreHeld maps.now.items }
-{
-    match map_of(maps, fork) {
-        Some(map) if map <= u32::from(u16::MAX) => map as u16,
-        _ => 0,
-    }
 }
 
 /// The number of a map of no fork, among those of a terminal.

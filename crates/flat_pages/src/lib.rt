@@ -8,9 +8,14 @@ mod flat_slots;
 mod flat_store;
 mod held_entry;
 mod held_map;
+mod kept_maps;
+mod look;
 mod map_tables;
 mod page_serials;
 mod stored_page;
 
 pub use flat_slots::FlatSlots;
 pub use flat_store::FlatStore;
+
+#[cfg(test)]
+mod tests;

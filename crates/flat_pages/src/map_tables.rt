@@ -1,20 +1,21 @@
 // The tables beside a store: the maps of forks, the names of pages, and how often each is named.
-ghost use Rattle.std.specs.Prelude.{◌≡◌, ◌<◌, ◌≤◌, ◌+◌, ◌^◌, None, Some, IsSome, IfOk, List, length, replicate, slice_set};
+ghost use Rattle.std.specs.Prelude.{◌≡◌, ◌<◌, ◌≤◌, ◌+◌, ◌^◌, false, is_some, None, Some, IsSome, IfOk, List, length, replicate, slice_set};
 ghost use Rattle.std.specs.Option.{option_map};
 ghost use Rattle.plain_model.specs.Pages.{IsOwner};
 ghost use Rattle.plain_model.specs.Stores.{HomePlace, free};
-ghost use Rattle.plain_model.specs.declared.names.TheConstants.{TERMINALS};
+ghost use Rattle.plain_model.specs.declared.names.TheConstants.{TERMINALS, MOST_FORKS};
 ghost use Rattle.flat_pages.specs.Serials.{serial_of, with_next};
 ghost use Rattle.plain_model.specs.State.{first_serials};
 ghost use Rattle.flat_pages.specs.declared.held_map.TheConstants.{MOST_MAPS};
-ghost use Rattle.flat_pages.specs.HeldMaps.{free_map, AreHeld, map_at, followers, held_entry, with_entry, index_of, entry_of, name_of};
+ghost use Rattle.flat_pages.specs.HeldMaps.{free_map, AreHeld, map_at, followers, held_entry, with_entry, index_of, first_map, entry_of, name_of};
 ghost use Rattle.flat_pages.specs.SlotTables.{share_of};
 ghost use Rattle.flat_pages.specs.SlotTouches.{walk_of, is_alone, has_room};
 ghost use Rattle.flat_pages.specs.TableSteps.{tables_of, next_name, left_shares, home_taken, home_renamed, entry_kept, entry_left, home_freed, fork_begun, fork_ended};
 
 use crate::chain_walk::{CHAIN, Walk, walk_along};
 use crate::held_entry::{EntryAt, HeldEntry};
-use crate::held_map::{HeldMap, entry_held, following, free_maps, map_of, set_held};
+use crate::held_map::entry_held;
+use crate::kept_maps::KeptMaps;
 use crate::page_serials::PageSerials;
 use plain_model::{Access, ForkName, Home, MapEntry, PageName, SPACE_PAGES, Slot, Tty};
 use std::alloc::{AllocError, Global};
@@ -25,7 +26,7 @@ use std::alloc::{AllocError, Global};
 pub struct MapTables {
     pub names: Vec<Option<PageName>>,
     pub shares: Vec<u32>,
-    pub maps: Vec<HeldMap>,
+    pub maps: KeptMaps,
     pub serials: PageSerials,
     pub taken: u32,
     pub living: u32,
@@ -55,14 +56,14 @@ impl MapTables {
     pub fn boot(alloc: Global, limit: u32) -> Result<MapTables, AllocError>
         ensures names { IfOk result (λ m. m.names.items ≡ replicate limit None) }
         ensures shares { IfOk result (λ m. m.shares.items ≡ replicate limit 0) }
-        ensures maps { IfOk result (λ m. m.maps.items ≡ replicate MOST_MAPS free_map) }
+        ensures maps { IfOk result (λ m. m.maps.held.items ≡ replicate MOST_MAPS free_map) }
         ensures terminals { IfOk result (λ m. m.serials.terminals ≡ first_serials) }
         ensures console { IfOk result (λ m. m.serials.console ≡ 1) }
         ensures numbers { IfOk result (λ m. (m.taken ≡ 0) × (m.living ≡ 0) × (m.limit ≡ limit)) }
     {
         let names = no_names(alloc, limit)?;
         let shares = no_shares(alloc, limit)?;
-        let maps = free_maps(alloc)?;
+        let maps = KeptMaps::boot(alloc)?;
         Ok(MapTables {
             names,
             shares,
@@ -76,11 +77,11 @@ impl MapTables {
 
     /// The walk along the chain of a slot. None where its fork doesn't live, too.
     pub fn walk(&self, slot: Slot) -> Option<Walk>
-        requires held { AreHeld self.now.maps.items }
+        requires held { AreHeld self.now.maps.held.items }
         requires page { slot.page < SPACE_PAGES }
-        ensures { result ≡ walk_of self.now.maps.items slot }
+        ensures { result ≡ walk_of self.now.maps.held.items slot }
     {
-        let Some(map) = map_of(&self.maps, slot.fork) else {
+        let Some(map) = self.maps.map_of(slot.fork) else {
             return None;
         };
         walk_along(
@@ -105,10 +106,10 @@ impl MapTables {
 
     /// The entry at a place.
     pub fn entry(&self, at: EntryAt) -> HeldEntry
-        requires { IsSome (held_entry self.now.maps.items at) }
-        ensures { held_entry self.now.maps.items at ≡ Some result }
+        requires { IsSome (held_entry self.now.maps.held.items at) }
+        ensures { held_entry self.now.maps.held.items at ≡ Some result }
     {
-        entry_held(&self.maps, at)
+        entry_held(&self.maps.held, at)
     }
 
     /// An entry as it is seen: it names the page of a home.
@@ -148,8 +149,8 @@ impl MapTables {
 
     /// Whether an entry is the only one that names its page.
     pub fn is_alone(&self, at: EntryAt) -> bool
-        requires { IsSome (held_entry self.now.maps.items at) }
-        ensures { result ≡ is_alone self.now.shares.items (held_entry self.now.maps.items at) }
+        requires { IsSome (held_entry self.now.maps.held.items at) }
+        ensures { result ≡ is_alone self.now.shares.items (held_entry self.now.maps.held.items at) }
     {
         match self.entry(at) {
             HeldEntry::Empty => false,
@@ -186,16 +187,16 @@ impl MapTables {
 
     // Sets an entry.
     fn set(&mut self, at: EntryAt, entry: HeldEntry)
-        requires { IsSome (held_entry self.old.maps.items at) }
-        ensures maps { self.new.maps.items ≡ with_entry self.old.maps.items at entry }
+        requires { IsSome (held_entry self.old.maps.held.items at) }
+        ensures maps { self.new.maps.held.items ≡ with_entry self.old.maps.held.items at entry }
         ensures rest { self.new ≡ record self.old { maps = self.new.maps } }
     {
-        set_held(&mut self.maps, at, entry);
+        self.maps.set(at, entry);
     }
 
     /// A home that was free is taken for a new page of an owner, and an entry names it.
     pub fn take_home(&mut self, at: EntryAt, home: Home, access: Access, owner: Tty)
-        requires there { IsSome (held_entry self.old.maps.items at) }
+        requires there { IsSome (held_entry self.old.maps.held.items at) }
         requires name { home.0 < length self.old.names.items }
         requires share { home.0 < length self.old.shares.items }
         requires owner { IsOwner owner }
@@ -214,7 +215,7 @@ impl MapTables {
 
     /// The home of a page that an entry alone names becomes that of a new page of an owner.
     pub fn rename_home(&mut self, at: EntryAt, home: Home, access: Access, owner: Tty)
-        requires there { IsSome (held_entry self.old.maps.items at) }
+        requires there { IsSome (held_entry self.old.maps.held.items at) }
         requires name { home.0 < length self.old.names.items }
         requires owner { IsOwner owner }
         requires serial { serial_of self.old.serials owner < 2 ^ 63 }
@@ -227,7 +228,7 @@ impl MapTables {
 
     /// An entry becomes another, of the same page or of none.
     pub fn keep_page(&mut self, at: EntryAt, entry: HeldEntry)
-        requires { IsSome (held_entry self.old.maps.items at) }
+        requires { IsSome (held_entry self.old.maps.held.items at) }
         ensures { (places : List HomePlace) → tables_of places self.new ≡ entry_kept (tables_of places self.old) at entry }
     {
         self.set(at, entry);
@@ -235,7 +236,7 @@ impl MapTables {
 
     /// An entry becomes one of no page, and its page is named once less.
     pub fn leave_page(&mut self, at: EntryAt, entry: HeldEntry)
-        requires { IsSome (held_entry self.old.maps.items at) }
+        requires { IsSome (held_entry self.old.maps.held.items at) }
         ensures { (places : List HomePlace) → tables_of places self.new ≡ entry_left (tables_of places self.old) at entry }
     {
         let old = self.entry(at);
@@ -245,7 +246,7 @@ impl MapTables {
 
     /// An entry that alone named the page of a home becomes one of no page, and the home has none any more.
     pub fn drop_page(&mut self, at: EntryAt, home: Home, entry: HeldEntry)
-        requires there { IsSome (held_entry self.old.maps.items at) }
+        requires there { IsSome (held_entry self.old.maps.held.items at) }
         requires name { home.0 < length self.old.names.items }
         requires share { home.0 < length self.old.shares.items }
         requires taken { 1 ≤ self.old.taken }
@@ -259,35 +260,37 @@ impl MapTables {
 
     /// A fork begins to live, with the empty map that has this number.
     pub fn add_empty(&mut self, number: u32, fork: ForkName)
-        requires map { number < length self.old.maps.items }
+        requires map { number < length self.old.maps.held.items }
+        requires absent { is_some (index_of self.old.maps.held.items fork) ≡ false }
+        requires from { first_map fork.tty ≤ number }
+        requires below { number < first_map fork.tty + MOST_FORKS }
         requires living { self.old.living < 2 ^ 31 }
-        ensures { (places : List HomePlace) → tables_of places self.new ≡ fork_begun (tables_of places self.old) number fork (map_at self.old.maps.items number).entries }
+        ensures { (places : List HomePlace) → tables_of places self.new ≡ fork_begun (tables_of places self.old) number fork (map_at self.old.maps.held.items number).entries }
     {
-        let map = &mut self.maps[number as usize];
-        map.fork = Some(fork);
+        self.maps.begin(number, fork);
         self.living += 1;
     }
 
     /// A fork begins to live, each entry of whose map follows the same entry of another fork.
     pub fn add_follower(&mut self, number: u32, fork: ForkName, serial: u32, near: u16)
-        requires map { number < length self.old.maps.items }
+        requires map { number < length self.old.maps.held.items }
+        requires absent { is_some (index_of self.old.maps.held.items fork) ≡ false }
+        requires from { first_map fork.tty ≤ number }
+        requires below { number < first_map fork.tty + MOST_FORKS }
         requires living { self.old.living < 2 ^ 31 }
         ensures { (places : List HomePlace) → tables_of places self.new ≡ fork_begun (tables_of places self.old) number fork (followers serial near) }
     {
-        let map = &mut self.maps[number as usize];
-        map.fork = Some(fork);
-        map.entries = following(serial, near);
+        self.maps.begin_following(number, fork, serial, near);
         self.living += 1;
     }
 
     /// A fork ends, whose map has this number and is empty.
     pub fn end_fork(&mut self, number: u32)
-        requires map { number < length self.old.maps.items }
+        requires map { number < length self.old.maps.held.items }
         requires living { 1 ≤ self.old.living }
         ensures { (places : List HomePlace) → tables_of places self.new ≡ fork_ended (tables_of places self.old) number }
     {
-        let map = &mut self.maps[number as usize];
-        map.fork = None;
+        self.maps.end(number);
         self.living -= 1;
     }
 }

@@ -1,8 +1,7 @@
-use Rattle.std.proofs.Common.{◌≡◌, ◌<◌, ◌≤◌, ℕ, [], None, Some, length, sym, ap, ◌∙◌, arith, rules}
+use Rattle.std.proofs.Common.{◌≡◌, ◌<◌, [], None, Some, length, sym, ap, ◌∙◌, arith, rules}
 use Rattle.std.proofs.lemmas.List.{get_or_read}
-use Rattle.plain_model.specs.declared.names.ForkName.{ForkName}
 use Rattle.flat_pages.specs.declared.held_map.HeldMap.{HeldMap}
-use Rattle.flat_pages.specs.HeldMaps.{map_at, fork_at}
+use Rattle.flat_pages.specs.HeldMaps.{map_at}
 use Rattle.flat_pages.proofs.ForkMaps.{index_is, index_none}
 use Rattle.flat_pages.proofs.held_map.map_of.Goals as goal
 

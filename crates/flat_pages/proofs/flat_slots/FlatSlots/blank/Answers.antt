@@ -1,10 +1,7 @@
-use Rattle.std.proofs.Common.{◌≡◌, ◌≤◌, ◌∙◌, true, false, Bool, sym, ap, cond, arith, refl}
-use Rattle.std.proofs.lemmas.Bool.Decides.{nat_tests}
-use Rattle.plain_model.specs.declared.map.Touch.{Touch}
+use Rattle.std.proofs.Common.{◌∙◌, sym, ap, cond}
 use Rattle.plain_model.specs.declared.map.Touch.TheVariants.{Zero, Full}
 use Rattle.plain_model.specs.Pages.{framed}
-use Rattle.flat_pages.specs.SlotTables.{Tables}
-use Rattle.flat_pages.specs.SlotTouches.{scene_of, has_room}
+use Rattle.flat_pages.specs.SlotTouches.{scene_of}
 use Rattle.flat_pages.specs.TableSteps.{tables_of}
 use Rattle.flat_pages.proofs.Rooming.{room_less}
 use Rattle.flat_pages.proofs.flat_slots.FlatSlots.blank.Goals as goal

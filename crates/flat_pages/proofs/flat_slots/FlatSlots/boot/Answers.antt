@@ -1,10 +1,10 @@
-use Rattle.std.proofs.Common.{◌≡◌, ◌∙◌, sym, ap, subst, arith, List, is_some}
+use Rattle.std.proofs.Common.{◌≡◌, ◌∙◌, sym, ap, subst, List, is_some}
 use Rattle.plain_model.specs.Stores.{HomePlace, FitsHomes}
 use Rattle.flat_pages.specs.declared.held_map.HeldMap.{HeldMap}
-use Rattle.flat_pages.specs.HeldMaps.{index_of, living_of, are_single}
+use Rattle.flat_pages.specs.HeldMaps.{index_of, living_of}
 use Rattle.flat_pages.specs.SlotTables.{Tables, AreTables, plain_of}
 use Rattle.flat_pages.specs.TableSteps.{tables_of}
-use Rattle.flat_pages.proofs.Opening.{opened, opened_plain, opened_tables, opened_single, nobody_lives, none_of, first_serial, low_serial}
+use Rattle.flat_pages.proofs.Opening.{opened, opened_plain, opened_tables, nobody_lives, none_of, first_serial, low_serial}
 use Rattle.flat_pages.proofs.Telling.{tables_told}
 use Rattle.flat_pages.proofs.flat_slots.FlatSlots.boot.Goals as goal
 
@@ -36,11 +36,6 @@ pub returns-clause-lives : goal.returns-clause-lives
 returns-clause-lives g c f =
     let e = c.in_ok-tables.ensures in
     ap (λ (ms : List HeldMap). is_some (index_of ms f)) e.maps ∙ nobody_lives c.args.pages c.in_ok-tables.tables.serials e.terminals e.console f
-
-pub returns-clause-single : goal.returns-clause-single
-returns-clause-single g c =
-    let e = c.in_ok-tables.ensures in
-    ap are_single e.maps ∙ opened_single c.args.pages c.in_ok-tables.tables.serials e.terminals e.console
 
 pub returns-clause-forks : goal.returns-clause-forks
 returns-clause-forks g c t =

@@ -1,12 +1,8 @@
-use Rattle.std.proofs.Common.{◌≡◌, ◌≤◌, ◌∙◌, true, false, Bool, sym, ap, cond, arith, refl}
-use Rattle.std.proofs.lemmas.Bool.Decides.{nat_tests}
-use Rattle.plain_model.specs.declared.map.Touch.{Touch}
-use Rattle.plain_model.specs.declared.map.Touch.TheVariants.{Zero, Copy, Full}
+use Rattle.std.proofs.Common.{◌∙◌, false, sym, ap, cond}
+use Rattle.plain_model.specs.declared.map.Touch.TheVariants.{Copy, Full}
 use Rattle.plain_model.specs.Pages.{framed, absent_or}
-use Rattle.flat_pages.specs.SlotTables.{Tables}
-use Rattle.flat_pages.specs.SlotTouches.{scene_of, has_room, touch_copy, away_at}
+use Rattle.flat_pages.specs.SlotTouches.{scene_of, touch_copy, away_at}
 use Rattle.flat_pages.specs.TableSteps.{tables_of}
-use Rattle.flat_pages.proofs.Rooming.{room_less}
 use Rattle.flat_pages.proofs.flat_slots.FlatSlots.copied.Goals as goal
 
 pub returns-then-not-has_room : goal.returns-then-not-has_room

@@ -1,16 +1,10 @@
-use Rattle.std.proofs.Common.{◌≡◌, ◌≢◌, ◌≤◌, ◌<◌, ◌+◌, ◌∙◌, true, false, Bool, ℕ, None, Some, Option, sym, ap, subst, cond, arith, refl, rules}
-use Rattle.std.specs.Prelude.{IsSome}
-use Rattle.plain_model.specs.declared.names.ForkName.{ForkName}
-use Rattle.plain_model.specs.Maps.{full_access}
-use Rattle.plain_model.specs.References.{zero_words}
-use Rattle.plain_model.specs.Stores.{HomePlace, here, is_taken, is_here, place}
-use Rattle.flat_pages.specs.declared.held_entry.HeldEntry.{HeldEntry}
-use Rattle.flat_pages.specs.declared.held_entry.HeldEntry.TheVariants.{Empty, Page, Follows}
-use Rattle.flat_pages.specs.HeldMaps.{fork_at, held_entry}
-use Rattle.flat_pages.specs.SlotTables.{Tables, AreTables, share_of}
+use Rattle.std.proofs.Common.{◌≡◌, ◌<◌, ◌∙◌, sym, ap, subst}
+use Rattle.plain_model.specs.Stores.{place}
+use Rattle.flat_pages.specs.HeldMaps.{fork_at}
+use Rattle.flat_pages.specs.SlotTables.{AreTables, share_of}
 use Rattle.flat_pages.specs.SlotTouches.{is_alone}
-use Rattle.flat_pages.specs.TableSteps.{tables_of, home_renamed}
-use Rattle.flat_pages.proofs.Making.{fits_one, some_lives, stays_shared, alone_share, take_agrees, held_is, here_taken, takes_home, home_under}
+use Rattle.flat_pages.specs.TableSteps.{tables_of}
+use Rattle.flat_pages.proofs.Making.{some_lives, alone_share, here_taken, home_under}
 use Rattle.flat_pages.proofs.Taking.{renamed_tables}
 use Rattle.flat_pages.proofs.Telling.{tables_told}
 use Rattle.flat_pages.proofs.flat_slots.FlatSlots.copy_alone.Goals as goal
@@ -26,5 +20,5 @@ invariant_of-self g c =
     let one : share_of s.tables.shares.items c.args.home.0 ≡ 1 = alone_share t c.args.home c.args.old (ap (is_alone s.tables.shares.items) (sym c.requires.entry) ∙ c.requires.alone) in
     let below : c.args.home.0 < t.limit = home_under t s.agree c.args.home.0 (here_taken (place (store.homes s.store) c.args.home.0) c.requires.from) in
     let same = ap (λ homes. tables_of homes c.rename_home.new.self) c.used.ensures.homes ∙ c.rename_home.ensures (store.homes s.store) in
-    let agree = subst AreTables (sym same) (renamed_tables t s.agree c.args.owner c.requires.owner c.args.home.0 below c.args.at c.args.access c.args.old c.requires.entry (some_lives (fork_at s.tables.maps.items c.args.at.map) c.requires.lives) one) in
+    let agree = subst AreTables (sym same) (renamed_tables t s.agree c.args.owner c.requires.owner c.args.home.0 below c.args.at c.args.access c.args.old c.requires.entry (some_lives (fork_at s.tables.maps.held.items c.args.at.map) c.requires.lives) one) in
     record { agree = agree; told = tables_told (tables_of (store.homes c.used.new.self) c.rename_home.new.self) agree (λ h words e. (g.met.S.Store.sound c.used.new.self).pages h words e) }

@@ -1,17 +1,9 @@
-use Rattle.std.proofs.Common.{◌≡◌, ◌≢◌, ◌≤◌, ◌<◌, ◌+◌, ◌∙◌, true, false, Bool, ℕ, None, Some, Option, sym, ap, subst, cond, arith, refl, rules}
-use Rattle.std.specs.Prelude.{IsSome}
-use Rattle.plain_model.specs.declared.names.ForkName.{ForkName}
-use Rattle.plain_model.specs.Maps.{full_access}
-use Rattle.plain_model.specs.References.{zero_words}
-use Rattle.plain_model.specs.Stores.{HomePlace, here, is_taken, is_here, place}
-use Rattle.flat_pages.specs.declared.held_entry.HeldEntry.{HeldEntry}
-use Rattle.flat_pages.specs.declared.held_entry.HeldEntry.TheVariants.{Empty, Page, Follows}
+use Rattle.std.proofs.Common.{◌∙◌, sym, ap}
+use Rattle.plain_model.specs.Stores.{place}
 use Rattle.flat_pages.specs.HeldMaps.{fork_at, held_entry}
-use Rattle.flat_pages.specs.SlotTables.{Tables, AreTables, share_of}
 use Rattle.flat_pages.specs.SlotTouches.{is_alone}
-use Rattle.flat_pages.specs.TableSteps.{tables_of, home_renamed}
-use Rattle.flat_pages.proofs.Making.{fits_one, some_lives, stays_shared, alone_share, take_agrees, held_is, here_taken, takes_home}
-use Rattle.flat_pages.proofs.Taking.{renamed_tables}
+use Rattle.flat_pages.specs.TableSteps.{tables_of}
+use Rattle.flat_pages.proofs.Making.{fits_one, some_lives, stays_shared, take_agrees, held_is, here_taken, takes_home}
 use Rattle.flat_pages.proofs.Telling.{tables_told}
 use Rattle.flat_pages.proofs.flat_slots.FlatSlots.copy_new.Goals as goal
 
@@ -21,8 +13,8 @@ invariant_of-self g c =
     let store = g.S.Store.means in
     let t = tables_of (store.homes s.store) s.tables in
     let page = place (store.homes s.store) c.args.from.0 in
-    let q = held_is (held_entry s.tables.maps.items c.args.at) c.requires.there in
+    let q = held_is (held_entry s.tables.maps.held.items c.args.at) c.requires.there in
     let takes = takes_home store s.store c.copy-home.new.self s.tables c.take_home.new.self c.args.at c.copy-home.result page c.args.access c.args.owner c.copy-home.ensures c.take_home.ensures in
     let agree = take_agrees store s.store c.copy-home.new.self s.tables c.take_home.new.self c.args.at page c.args.access c.args.owner c.requires.owner s.agree takes
-    q.0 q.1 (some_lives (fork_at s.tables.maps.items c.args.at.map) c.requires.lives) (here_taken page c.requires.from) (stays_shared t q.0 (ap (is_alone s.tables.shares.items) (sym q.1) ∙ c.requires.shared)) (fits_one t c.requires.room) in
+    q.0 q.1 (some_lives (fork_at s.tables.maps.held.items c.args.at.map) c.requires.lives) (here_taken page c.requires.from) (stays_shared t q.0 (ap (is_alone s.tables.shares.items) (sym q.1) ∙ c.requires.shared)) (fits_one t c.requires.room) in
     record { agree = agree; told = tables_told (tables_of (store.homes c.copy-home.new.self) c.take_home.new.self) agree (λ h words e. (g.met.S.Store.sound c.copy-home.new.self).pages h words e) }

@@ -1,4 +1,4 @@
-use Rattle.std.proofs.Common.{◌≡◌, ℕ, sym, ◌∙◌, ap, subst, arith, is_some, Option}
+use Rattle.std.proofs.Common.{◌≡◌, ℕ, ◌∙◌, ap, subst, arith, is_some, Option}
 use Rattle.plain_model.specs.declared.names.ForkName.{ForkName}
 use Rattle.flat_pages.specs.Emptying.{EmptiesMap}
 use Rattle.flat_pages.proofs.EmptyMaps.{empties_none, empties_more, page_there}
@@ -9,14 +9,14 @@ loop-page-init g c = empties_none g.S.Store.means c.args.map c.args.self.now.sto
 
 pub set_unnamed-requires-clause-there : goal.set_unnamed-requires-clause-there
 set_unnamed-requires-clause-there g c =
-    page_there c.loop-page.self.tables.maps.items c.loop-page.self.agree.held c.args.map c.loop-page.page (ap (λ (o : Option ForkName). is_some o) (c.loop-page.invariant.forks c.args.map) ∙ c.requires.lives) c.loop-page-test.true
+    page_there c.loop-page.self.tables.maps.held.items c.loop-page.self.agree.held c.args.map c.loop-page.page (ap (λ (o : Option ForkName). is_some o) (c.loop-page.invariant.forks c.args.map) ∙ c.requires.lives) c.loop-page-test.true
 
 pub set_unnamed-requires-clause-lives : goal.set_unnamed-requires-clause-lives
 set_unnamed-requires-clause-lives g c = ap (λ (o : Option ForkName). is_some o) (c.loop-page.invariant.forks c.args.map) ∙ c.requires.lives
 
 pub loop-page-preserved : goal.loop-page-preserved
 loop-page-preserved g c =
-    let there = page_there c.loop-page.self.tables.maps.items c.loop-page.self.agree.held c.args.map c.loop-page.page (ap (λ (o : Option ForkName). is_some o) (c.loop-page.invariant.forks c.args.map) ∙ c.requires.lives) c.loop-page-test.true in
+    let there = page_there c.loop-page.self.tables.maps.held.items c.loop-page.self.agree.held c.args.map c.loop-page.page (ap (λ (o : Option ForkName). is_some o) (c.loop-page.invariant.forks c.args.map) ∙ c.requires.lives) c.loop-page-test.true in
     empties_more g.S.Store.means c.args.map c.args.self.now.store c.loop-page.self.store c.set_unnamed.new.self.store c.args.self.now.tables c.loop-page.self.tables c.set_unnamed.new.self.tables c.loop-page.page
     c.loop-page.self.agree c.loop-page.self.told c.loop-page.invariant there c.set_unnamed.ensures
 

@@ -1,17 +1,11 @@
-use Rattle.std.proofs.Common.{◌≡◌, ◌≢◌, ◌≤◌, ◌<◌, ◌+◌, ◌∙◌, true, false, Bool, ℕ, None, Some, Option, sym, ap, subst, cond, arith, refl, rules}
-use Rattle.std.specs.Prelude.{IsSome}
-use Rattle.plain_model.specs.declared.names.ForkName.{ForkName}
+use Rattle.std.proofs.Common.{refl}
 use Rattle.plain_model.specs.Maps.{full_access}
 use Rattle.plain_model.specs.References.{zero_words}
-use Rattle.plain_model.specs.Stores.{HomePlace, here, is_taken, is_here, place}
-use Rattle.flat_pages.specs.declared.held_entry.HeldEntry.{HeldEntry}
-use Rattle.flat_pages.specs.declared.held_entry.HeldEntry.TheVariants.{Empty, Page, Follows}
-use Rattle.flat_pages.specs.HeldMaps.{fork_at, held_entry}
-use Rattle.flat_pages.specs.SlotTables.{Tables, AreTables, share_of}
-use Rattle.flat_pages.specs.SlotTouches.{is_alone}
-use Rattle.flat_pages.specs.TableSteps.{tables_of, home_renamed}
-use Rattle.flat_pages.proofs.Making.{fits_one, some_lives, stays_shared, alone_share, take_agrees, held_is, here_taken, takes_home}
-use Rattle.flat_pages.proofs.Taking.{renamed_tables}
+use Rattle.plain_model.specs.Stores.{here}
+use Rattle.flat_pages.specs.declared.held_entry.HeldEntry.TheVariants.{Empty}
+use Rattle.flat_pages.specs.HeldMaps.{fork_at}
+use Rattle.flat_pages.specs.TableSteps.{tables_of}
+use Rattle.flat_pages.proofs.Making.{fits_one, some_lives, stays_shared, take_agrees, takes_home}
 use Rattle.flat_pages.proofs.Telling.{tables_told}
 use Rattle.flat_pages.proofs.flat_slots.FlatSlots.make_zero.Goals as goal
 
@@ -22,5 +16,5 @@ invariant_of-self g c =
     let t = tables_of (store.homes s.store) s.tables in
     let takes = takes_home store s.store c.make-home.new.self s.tables c.take_home.new.self c.args.at c.make-home.result (here zero_words) full_access c.args.owner c.make-home.ensures c.take_home.ensures in
     let agree = take_agrees store s.store c.make-home.new.self s.tables c.take_home.new.self c.args.at (here zero_words) full_access c.args.owner c.requires.owner s.agree takes
-    Empty c.requires.empty (some_lives (fork_at s.tables.maps.items c.args.at.map) c.requires.lives) refl (stays_shared t Empty refl) (fits_one t c.requires.room) in
+    Empty c.requires.empty (some_lives (fork_at s.tables.maps.held.items c.args.at.map) c.requires.lives) refl (stays_shared t Empty refl) (fits_one t c.requires.room) in
     record { agree = agree; told = tables_told (tables_of (store.homes c.make-home.new.self) c.take_home.new.self) agree (λ h words e. (g.met.S.Store.sound c.make-home.new.self).pages h words e) }

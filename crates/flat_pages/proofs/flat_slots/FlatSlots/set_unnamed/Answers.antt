@@ -1,4 +1,4 @@
-use Rattle.std.proofs.Common.{◌≡◌, Bool, false, Some, refl, sym, ◌∙◌, ap}
+use Rattle.std.proofs.Common.{◌≡◌, false, Some, refl, sym, ◌∙◌, ap}
 use Rattle.flat_pages.specs.SlotTouches.{is_alone}
 use Rattle.flat_pages.specs.TableSteps.{tables_of}
 use Rattle.flat_pages.specs.declared.held_entry.HeldEntry.TheVariants.{Page}

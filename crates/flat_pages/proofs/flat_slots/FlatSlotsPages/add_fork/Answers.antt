@@ -1,9 +1,9 @@
-use Rattle.std.proofs.Common.{◌∙◌, sym, ap, refl}
+use Rattle.std.proofs.Common.{◌∙◌, sym, ap}
 use Rattle.plain_model.specs.Events.{with_map}
 use Rattle.flat_pages.specs.HeldMaps.{map_at, followers}
 use Rattle.flat_pages.specs.SlotTables.{plain_of}
 use Rattle.flat_pages.specs.TableSteps.{tables_of}
-use Rattle.flat_pages.proofs.Beginning.{agrees_begun, told_begun, scene_begun, who_lives, own_lives, others_live, serials_begun, old_new, old_empty, stays_single, followers_new, followers_follow}
+use Rattle.flat_pages.proofs.Beginning.{agrees_begun, told_begun, scene_begun, who_lives, own_lives, others_live, serials_begun, old_new, old_empty, followers_new, followers_follow}
 use Rattle.flat_pages.proofs.Telling.{tables_told}
 use Rattle.flat_pages.proofs.flat_slots.FlatSlotsPages.add_fork.Goals as goal
 
@@ -12,7 +12,7 @@ invariant_of-self g c =
     let s = c.args.self.now in
     let t = tables_of (g.S.Store.means.homes s.store) s.tables in
     let n = c.free_map_of-number in
-    let agree = agrees_begun t s.agree n.result c.args.fork n.ensures.fork n.ensures.from n.ensures.below c.requires.terminal c.requires.absent c.requires.room (map_at s.tables.maps.items n.result).entries (old_new t s.agree n.result c.args.fork n.ensures.fork n.ensures.from n.ensures.below c.requires.terminal c.requires.absent c.requires.room) _ (c.add_empty.ensures (g.S.Store.means.homes s.store)) in
+    let agree = agrees_begun t s.agree n.result c.args.fork n.ensures.fork n.ensures.from n.ensures.below c.requires.terminal c.requires.absent c.requires.room (map_at s.tables.maps.held.items n.result).entries (old_new t s.agree n.result c.args.fork n.ensures.fork n.ensures.from n.ensures.below c.requires.terminal c.requires.absent c.requires.room) _ (c.add_empty.ensures (g.S.Store.means.homes s.store)) in
     record { agree = agree; told = tables_told _ agree (g.met.S.Store.sound s.store).pages }
 
 pub returns-in-Empty-clause-told : goal.returns-in-Empty-clause-told
@@ -20,49 +20,42 @@ returns-in-Empty-clause-told g c d fits =
     let s = c.args.self.now in
     let t = tables_of (g.S.Store.means.homes s.store) s.tables in
     let n = c.free_map_of-number in
-    (fits, told_begun t s.agree n.result c.args.fork n.ensures.fork n.ensures.from n.ensures.below c.requires.terminal c.requires.absent c.requires.room (map_at s.tables.maps.items n.result).entries (old_new t s.agree n.result c.args.fork n.ensures.fork n.ensures.from n.ensures.below c.requires.terminal c.requires.absent c.requires.room) _ (c.add_empty.ensures (g.S.Store.means.homes s.store)) _ (old_empty t s.agree n.result c.args.fork n.ensures.fork n.ensures.from n.ensures.below c.requires.terminal c.requires.absent c.requires.room) d ∙ ap (with_map (plain_of t d) c.args.fork) (sym c.in-Empty.is))
+    (fits, told_begun t s.agree n.result c.args.fork n.ensures.fork n.ensures.from n.ensures.below c.requires.terminal c.requires.absent c.requires.room (map_at s.tables.maps.held.items n.result).entries (old_new t s.agree n.result c.args.fork n.ensures.fork n.ensures.from n.ensures.below c.requires.terminal c.requires.absent c.requires.room) _ (c.add_empty.ensures (g.S.Store.means.homes s.store)) _ (old_empty t s.agree n.result c.args.fork n.ensures.fork n.ensures.from n.ensures.below c.requires.terminal c.requires.absent c.requires.room) d ∙ ap (with_map (plain_of t d) c.args.fork) (sym c.in-Empty.is))
 
 pub returns-in-Empty-clause-scene : goal.returns-in-Empty-clause-scene
 returns-in-Empty-clause-scene g c =
     let s = c.args.self.now in
     let t = tables_of (g.S.Store.means.homes s.store) s.tables in
     let n = c.free_map_of-number in
-    scene_begun t s.agree n.result c.args.fork n.ensures.fork n.ensures.from n.ensures.below c.requires.terminal c.requires.absent c.requires.room (map_at s.tables.maps.items n.result).entries (old_new t s.agree n.result c.args.fork n.ensures.fork n.ensures.from n.ensures.below c.requires.terminal c.requires.absent c.requires.room) _ (c.add_empty.ensures (g.S.Store.means.homes s.store)) (g.S.Store.means.spare s.store)
+    scene_begun t s.agree n.result c.args.fork n.ensures.fork n.ensures.from n.ensures.below c.requires.terminal c.requires.absent c.requires.room (map_at s.tables.maps.held.items n.result).entries (old_new t s.agree n.result c.args.fork n.ensures.fork n.ensures.from n.ensures.below c.requires.terminal c.requires.absent c.requires.room) _ (c.add_empty.ensures (g.S.Store.means.homes s.store)) (g.S.Store.means.spare s.store)
 
 pub returns-in-Empty-clause-lives : goal.returns-in-Empty-clause-lives
 returns-in-Empty-clause-lives g c =
     let s = c.args.self.now in
     let t = tables_of (g.S.Store.means.homes s.store) s.tables in
     let n = c.free_map_of-number in
-    who_lives t s.agree n.result c.args.fork n.ensures.fork n.ensures.from n.ensures.below c.requires.terminal c.requires.absent c.requires.room (map_at s.tables.maps.items n.result).entries (old_new t s.agree n.result c.args.fork n.ensures.fork n.ensures.from n.ensures.below c.requires.terminal c.requires.absent c.requires.room) _ (c.add_empty.ensures (g.S.Store.means.homes s.store))
+    who_lives t s.agree n.result c.args.fork n.ensures.fork n.ensures.from n.ensures.below c.requires.terminal c.requires.absent c.requires.room (map_at s.tables.maps.held.items n.result).entries (old_new t s.agree n.result c.args.fork n.ensures.fork n.ensures.from n.ensures.below c.requires.terminal c.requires.absent c.requires.room) _ (c.add_empty.ensures (g.S.Store.means.homes s.store))
 
 pub returns-in-Empty-clause-forks : goal.returns-in-Empty-clause-forks
 returns-in-Empty-clause-forks g c =
     let s = c.args.self.now in
     let t = tables_of (g.S.Store.means.homes s.store) s.tables in
     let n = c.free_map_of-number in
-    own_lives t s.agree n.result c.args.fork n.ensures.fork n.ensures.from n.ensures.below c.requires.terminal c.requires.absent c.requires.room (map_at s.tables.maps.items n.result).entries (old_new t s.agree n.result c.args.fork n.ensures.fork n.ensures.from n.ensures.below c.requires.terminal c.requires.absent c.requires.room) _ (c.add_empty.ensures (g.S.Store.means.homes s.store))
+    own_lives t s.agree n.result c.args.fork n.ensures.fork n.ensures.from n.ensures.below c.requires.terminal c.requires.absent c.requires.room (map_at s.tables.maps.held.items n.result).entries (old_new t s.agree n.result c.args.fork n.ensures.fork n.ensures.from n.ensures.below c.requires.terminal c.requires.absent c.requires.room) _ (c.add_empty.ensures (g.S.Store.means.homes s.store))
 
 pub returns-in-Empty-clause-others : goal.returns-in-Empty-clause-others
 returns-in-Empty-clause-others g c =
     let s = c.args.self.now in
     let t = tables_of (g.S.Store.means.homes s.store) s.tables in
     let n = c.free_map_of-number in
-    others_live t s.agree n.result c.args.fork n.ensures.fork n.ensures.from n.ensures.below c.requires.terminal c.requires.absent c.requires.room (map_at s.tables.maps.items n.result).entries (old_new t s.agree n.result c.args.fork n.ensures.fork n.ensures.from n.ensures.below c.requires.terminal c.requires.absent c.requires.room) _ (c.add_empty.ensures (g.S.Store.means.homes s.store))
+    others_live t s.agree n.result c.args.fork n.ensures.fork n.ensures.from n.ensures.below c.requires.terminal c.requires.absent c.requires.room (map_at s.tables.maps.held.items n.result).entries (old_new t s.agree n.result c.args.fork n.ensures.fork n.ensures.from n.ensures.below c.requires.terminal c.requires.absent c.requires.room) _ (c.add_empty.ensures (g.S.Store.means.homes s.store))
 
 pub returns-in-Empty-clause-serials : goal.returns-in-Empty-clause-serials
 returns-in-Empty-clause-serials g c =
     let s = c.args.self.now in
     let t = tables_of (g.S.Store.means.homes s.store) s.tables in
     let n = c.free_map_of-number in
-    serials_begun t s.agree n.result c.args.fork n.ensures.fork n.ensures.from n.ensures.below c.requires.terminal c.requires.absent c.requires.room (map_at s.tables.maps.items n.result).entries (old_new t s.agree n.result c.args.fork n.ensures.fork n.ensures.from n.ensures.below c.requires.terminal c.requires.absent c.requires.room) _ (c.add_empty.ensures (g.S.Store.means.homes s.store))
-
-pub returns-in-Empty-clause-single : goal.returns-in-Empty-clause-single
-returns-in-Empty-clause-single g c empty h =
-    let s = c.args.self.now in
-    let t = tables_of (g.S.Store.means.homes s.store) s.tables in
-    let n = c.free_map_of-number in
-    stays_single t s.agree n.result c.args.fork n.ensures.fork n.ensures.from n.ensures.below c.requires.terminal c.requires.absent c.requires.room _ (c.add_empty.ensures (g.S.Store.means.homes s.store)) h
+    serials_begun t s.agree n.result c.args.fork n.ensures.fork n.ensures.from n.ensures.below c.requires.terminal c.requires.absent c.requires.room (map_at s.tables.maps.held.items n.result).entries (old_new t s.agree n.result c.args.fork n.ensures.fork n.ensures.from n.ensures.below c.requires.terminal c.requires.absent c.requires.room) _ (c.add_empty.ensures (g.S.Store.means.homes s.store))
 
 pub invariant_of-self-in-FollowAll : goal.invariant_of-self-in-FollowAll
 invariant_of-self-in-FollowAll g c =

@@ -6,7 +6,7 @@ use Rattle.flat_pages.proofs.ForkEnds.{map_below, some_living, fork_drops, fork_
 use Rattle.flat_pages.proofs.flat_slots.FlatSlotsPages.drop_fork.Goals as goal
 
 pub empty_map-requires : goal.empty_map-requires
-empty_map-requires g c = record { lives = fork_some c.args.self.now.tables.maps.items c.args.fork c.in-Some.map (sym c.map_of.ensures ∙ c.in-Some.is) }
+empty_map-requires g c = record { lives = fork_some c.args.self.now.tables.maps.held.items c.args.fork c.in-Some.map (sym c.map_of.ensures ∙ c.in-Some.is) }
 
 pub end_fork-requires-clause-map : goal.end_fork-requires-clause-map
 end_fork-requires-clause-map g c =

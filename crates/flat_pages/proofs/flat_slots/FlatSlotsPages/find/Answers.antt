@@ -1,37 +1,17 @@
-use Rattle.std.proofs.Common.{◌≡◌, ◌≢◌, ◌≤◌, ◌<◌, ◌+◌, ◌∙◌, true, false, Bool, ℕ, List, [], None, Some, Option, sym, ap, subst, cond, arith, refl, rules, is_some, ◌⊎◌, inl, inr}
-use Rattle.std.specs.Prelude.{IsSome, slice_index, slice_set}
-use Rattle.std.specs.Option.{option_map, option_map_or, option_and_then, unwrap_or}
-use Rattle.plain_model.specs.declared.names.Home.{Home}
-use Rattle.plain_model.specs.declared.names.Kind.{Kind}
-use Rattle.plain_model.specs.declared.names.Slot.{Slot}
-use Rattle.plain_model.specs.declared.names.Place.{Place}
-use Rattle.plain_model.specs.declared.names.Place.TheVariants.{Fork, File}
-use Rattle.plain_model.specs.declared.names.ForkName.{ForkName}
-use Rattle.plain_model.specs.declared.map.Touch.{Touch}
-use Rattle.plain_model.specs.declared.map.Touch.TheVariants.{Denied, Ready}
-use Rattle.plain_model.specs.Stores.{HomePlace, place, here, is_taken, is_here, word_in, content}
-use Rattle.flat_pages.specs.declared.held_entry.EntryAt.{EntryAt}
-use Rattle.flat_pages.specs.declared.held_entry.HeldEntry.{HeldEntry}
-use Rattle.flat_pages.specs.declared.chain_walk.Walk.{Walk}
-use Rattle.flat_pages.specs.HeldMaps.{index_of, held_entry, name_of}
-use Rattle.flat_pages.specs.SlotTables.{Tables, plain_of, AreTables, share_of}
-use Rattle.flat_pages.specs.SlotTouches.{walk_of, scene_of, away_at, touch_walked, touch_made, copy_of, allows}
+use Rattle.std.proofs.Common.{◌≡◌, ◌∙◌, Option, sym, ap, subst}
+use Rattle.std.specs.Prelude.{IsSome}
+use Rattle.std.specs.Option.{option_and_then}
 use Rattle.flat_pages.specs.TableSteps.{tables_of}
-use Rattle.flat_pages.proofs.Meeting.{stands, found_walk, home_taken_is, copy_held, place_lives, at_told}
 use Rattle.flat_pages.proofs.Settling.{sized_of}
-use Rattle.plain_model.specs.declared.names.Kind.TheVariants.{Read, Write}
-use Rattle.plain_model.specs.declared.names.Tty.{Tty}
 use Rattle.plain_model.specs.declared.map.Found.{Found}
 use Rattle.flat_pages.specs.HeldMaps.{fork_at}
 use Rattle.flat_pages.specs.Walks.{walk, use_of, ready_home}
-use Rattle.flat_pages.specs.declared.chain_walk.Use.{Use}
-use Rattle.flat_pages.specs.declared.chain_walk.Use.TheVariants as to
 use Rattle.flat_pages.proofs.WalkSteps.{some_fork}
-use Rattle.flat_pages.proofs.Meeting.{place_told, space_fork, find_from, find_to, change_touched, touched_change, load_word, lives_at}
+use Rattle.flat_pages.proofs.Meeting.{place_told, space_fork, find_from, find_to, lives_at}
 use Rattle.flat_pages.proofs.flat_slots.FlatSlotsPages.find.Goals as goal
 
 pub found-requires-clause-lives : goal.found-requires-clause-lives
-found-requires-clause-lives g c = some_fork (fork_at c.args.self.now.tables.maps.items c.args.space.0) c.requires.space.fork (space_fork c.args.self.now.tables.maps.items c.requires.space.fork c.args.space c.requires.space.is)
+found-requires-clause-lives g c = some_fork (fork_at c.args.self.now.tables.maps.held.items c.args.space.0) c.requires.space.fork (space_fork c.args.self.now.tables.maps.held.items c.requires.space.fork c.args.space c.requires.space.is)
 
 pub returns-clause-ready : goal.returns-clause-ready
 returns-clause-ready g c f is =
@@ -40,9 +20,9 @@ returns-clause-ready g c f is =
     let frames = g.S.Store.means.spare s.store in
     let found = g.S.Store.means.found s.store in
     let finds = (g.met.S.Store.sound s.store).finds in
-    let there = space_fork s.tables.maps.items f c.args.space is in
-    let result : c.found.result ≡ option_and_then (λ h. found h.0) (option_and_then (ready_home (use_of c.args.kind)) (walk s.tables.maps.items (record { map = c.args.space.0; page = c.args.page }))) =
-    c.found.ensures ∙ ap (λ u. option_and_then (λ h. found h.0) (option_and_then (ready_home u) (walk s.tables.maps.items (record { map = c.args.space.0; page = c.args.page })))) c.of.ensures in (
+    let there = space_fork s.tables.maps.held.items f c.args.space is in
+    let result : c.found.result ≡ option_and_then (λ h. found h.0) (option_and_then (ready_home (use_of c.args.kind)) (walk s.tables.maps.held.items (record { map = c.args.space.0; page = c.args.page }))) =
+    c.found.ensures ∙ ap (λ u. option_and_then (λ h. found h.0) (option_and_then (ready_home u) (walk s.tables.maps.held.items (record { map = c.args.space.0; page = c.args.page })))) c.of.ensures in (
       λ some. find_from t s.agree found finds c.args.space.0 c.args.page f there c.args.kind frames (subst (λ (o : Option Found). IsSome o) result some),
       λ ready. subst (λ (o : Option Found). IsSome o) (sym result) (find_to t s.agree found finds c.args.space.0 c.args.page f there c.args.kind frames ready),
     )
@@ -54,8 +34,8 @@ returns-clause-told g c d f fits is some owner own =
     let frames = g.S.Store.means.spare s.store in
     let found = g.S.Store.means.found s.store in
     let sound = g.met.S.Store.sound s.store in
-    let there = space_fork s.tables.maps.items f c.args.space is in
-    let result : c.found.result ≡ option_and_then (λ h. found h.0) (option_and_then (ready_home (use_of c.args.kind)) (walk s.tables.maps.items (record { map = c.args.space.0; page = c.args.page }))) =
-    c.found.ensures ∙ ap (λ u. option_and_then (λ h. found h.0) (option_and_then (ready_home u) (walk s.tables.maps.items (record { map = c.args.space.0; page = c.args.page })))) c.of.ensures in
+    let there = space_fork s.tables.maps.held.items f c.args.space is in
+    let result : c.found.result ≡ option_and_then (λ h. found h.0) (option_and_then (ready_home (use_of c.args.kind)) (walk s.tables.maps.held.items (record { map = c.args.space.0; page = c.args.page }))) =
+    c.found.ensures ∙ ap (λ u. option_and_then (λ h. found h.0) (option_and_then (ready_home u) (walk s.tables.maps.held.items (record { map = c.args.space.0; page = c.args.page })))) c.of.ensures in
     place_told t s.agree frames d (sized_of t.places d fits sound.pages) owner own (record { fork = f; page = c.args.page }) c.args.kind (lives_at t s.agree found sound.finds c.args.space.0 c.args.page f there)
     ∙ find_from t s.agree found sound.finds c.args.space.0 c.args.page f there c.args.kind frames (subst (λ (o : Option Found). IsSome o) result some)

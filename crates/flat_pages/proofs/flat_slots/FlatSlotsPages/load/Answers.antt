@@ -1,34 +1,8 @@
-use Rattle.std.proofs.Common.{◌≡◌, ◌≢◌, ◌≤◌, ◌<◌, ◌+◌, ◌∙◌, true, false, Bool, ℕ, List, [], None, Some, Option, sym, ap, subst, cond, arith, refl, rules, is_some, ◌⊎◌, inl, inr}
-use Rattle.std.specs.Prelude.{IsSome, slice_index, slice_set}
-use Rattle.std.specs.Option.{option_map, option_map_or, option_and_then, unwrap_or}
-use Rattle.plain_model.specs.declared.names.Home.{Home}
-use Rattle.plain_model.specs.declared.names.Kind.{Kind}
-use Rattle.plain_model.specs.declared.names.Slot.{Slot}
-use Rattle.plain_model.specs.declared.names.Place.{Place}
-use Rattle.plain_model.specs.declared.names.Place.TheVariants.{Fork, File}
-use Rattle.plain_model.specs.declared.names.ForkName.{ForkName}
-use Rattle.plain_model.specs.declared.map.Touch.{Touch}
-use Rattle.plain_model.specs.declared.map.Touch.TheVariants.{Denied, Ready}
-use Rattle.plain_model.specs.Stores.{HomePlace, place, here, is_taken, is_here, word_in, content}
-use Rattle.flat_pages.specs.declared.held_entry.EntryAt.{EntryAt}
-use Rattle.flat_pages.specs.declared.held_entry.HeldEntry.{HeldEntry}
-use Rattle.flat_pages.specs.declared.chain_walk.Walk.{Walk}
-use Rattle.flat_pages.specs.HeldMaps.{index_of, held_entry, name_of}
-use Rattle.flat_pages.specs.SlotTables.{Tables, plain_of, AreTables, share_of}
-use Rattle.flat_pages.specs.SlotTouches.{walk_of, scene_of, away_at, touch_walked, touch_made, copy_of, allows}
+use Rattle.std.proofs.Common.{sym}
 use Rattle.flat_pages.specs.TableSteps.{tables_of}
-use Rattle.flat_pages.proofs.Meeting.{stands, found_walk, home_taken_is, copy_held, place_lives, at_told}
 use Rattle.flat_pages.proofs.Settling.{sized_of}
 use Rattle.std.proofs.Common.{◌/◌, ◌%◌}
-use Rattle.plain_model.specs.declared.names.Kind.TheVariants.{Read, Write}
-use Rattle.plain_model.specs.declared.names.Tty.{Tty}
-use Rattle.plain_model.specs.declared.map.Found.{Found}
-use Rattle.flat_pages.specs.HeldMaps.{fork_at}
-use Rattle.flat_pages.specs.Walks.{walk, use_of, ready_home}
-use Rattle.flat_pages.specs.declared.chain_walk.Use.{Use}
-use Rattle.flat_pages.specs.declared.chain_walk.Use.TheVariants as to
-use Rattle.flat_pages.proofs.WalkSteps.{some_fork}
-use Rattle.flat_pages.proofs.Meeting.{place_told, space_fork, find_from, find_to, change_touched, touched_change, load_word}
+use Rattle.flat_pages.proofs.Meeting.{space_fork, load_word}
 use Rattle.flat_pages.proofs.flat_slots.FlatSlotsPages.load.Goals as goal
 
 pub returns : goal.returns
@@ -37,5 +11,5 @@ returns g c =
     let t = tables_of (g.S.Store.means.homes s.store) s.tables in
     let sound = g.met.S.Store.sound s.store in
     record {
-      told = λ d f fits is. sym (load_word t s.agree (g.S.Store.means.found s.store) sound.finds c.args.space.0 (c.args.address / 512) f (space_fork s.tables.maps.items f c.args.space is) d (sized_of t.places d fits sound.pages) c.args.found (c.args.address % 512) c.load.result c.requires.place c.load.ensures);
+      told = λ d f fits is. sym (load_word t s.agree (g.S.Store.means.found s.store) sound.finds c.args.space.0 (c.args.address / 512) f (space_fork s.tables.maps.held.items f c.args.space is) d (sized_of t.places d fits sound.pages) c.args.found (c.args.address % 512) c.load.result c.requires.place c.load.ensures);
     }

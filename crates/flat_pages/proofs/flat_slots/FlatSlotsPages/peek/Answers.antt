@@ -1,28 +1,8 @@
-use Rattle.std.proofs.Common.{◌≡◌, ◌≢◌, ◌≤◌, ◌<◌, ◌+◌, ◌∙◌, true, false, Bool, ℕ, List, [], None, Some, Option, sym, ap, subst, cond, arith, refl, rules, is_some, ◌⊎◌, inl, inr}
-use Rattle.std.specs.Prelude.{IsSome, slice_index, slice_set}
-use Rattle.std.specs.Option.{option_map, option_map_or, option_and_then, unwrap_or}
-use Rattle.plain_model.specs.declared.names.Home.{Home}
-use Rattle.plain_model.specs.declared.names.Kind.{Kind}
-use Rattle.plain_model.specs.declared.names.Slot.{Slot}
-use Rattle.plain_model.specs.declared.names.Place.{Place}
-use Rattle.plain_model.specs.declared.names.Place.TheVariants.{Fork, File}
-use Rattle.plain_model.specs.declared.names.ForkName.{ForkName}
-use Rattle.plain_model.specs.declared.map.Touch.{Touch}
-use Rattle.plain_model.specs.declared.map.Touch.TheVariants.{Denied, Ready}
-use Rattle.plain_model.specs.Stores.{HomePlace, place, here, is_taken, is_here, word_in, content}
-use Rattle.flat_pages.specs.declared.held_entry.EntryAt.{EntryAt}
-use Rattle.flat_pages.specs.declared.held_entry.HeldEntry.{HeldEntry}
-use Rattle.flat_pages.specs.declared.chain_walk.Walk.{Walk}
-use Rattle.flat_pages.specs.HeldMaps.{index_of, held_entry, name_of}
-use Rattle.flat_pages.specs.SlotTables.{Tables, plain_of, AreTables, share_of}
-use Rattle.flat_pages.specs.SlotTouches.{walk_of, scene_of, away_at, touch_walked, touch_made, copy_of, allows}
+use Rattle.std.proofs.Common.{◌≡◌, ◌∙◌, true, false, sym, ap}
+use Rattle.plain_model.specs.Stores.{place, is_here}
 use Rattle.flat_pages.specs.TableSteps.{tables_of}
-use Rattle.flat_pages.proofs.Meeting.{stands, found_walk, home_taken_is, copy_held, place_lives, at_told}
 use Rattle.flat_pages.proofs.Settling.{sized_of}
-use Rattle.outside.specs.Drums.{IsPage}
-use Rattle.plain_model.specs.References.{word_at, page_at}
-use Rattle.plain_model.specs.Pages.{spot_of}
-use Rattle.flat_pages.proofs.Meeting.{Reached, reached, Unreached, unreached, word_here, word_away, reached_taken, reached_word, reached_counted, peek_here, peek_away, peek_none, unreached_page}
+use Rattle.flat_pages.proofs.Meeting.{reached, unreached, word_here, word_away, reached_taken, peek_here, peek_away, peek_none}
 use Rattle.plain_model.specs.declared.map.Peeked.TheVariants.{Is}
 use Rattle.flat_pages.proofs.flat_slots.FlatSlotsPages.peek.Goals as goal
 

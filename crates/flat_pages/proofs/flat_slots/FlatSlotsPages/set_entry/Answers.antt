@@ -1,20 +1,19 @@
-use Rattle.std.proofs.Common.{◌≡◌, Some, sym, ◌∙◌, ap, subst}
+use Rattle.std.proofs.Common.{Some, sym, ◌∙◌, ap, subst}
 use Rattle.plain_model.specs.declared.map.NewEntry.{NewEntry}
-use Rattle.plain_model.specs.declared.map.NewEntry.TheVariants as new_entry
 use Rattle.flat_pages.specs.declared.held_entry.HeldEntry.{HeldEntry}
-use Rattle.flat_pages.specs.SlotSteps.{SetsEntry, narrow_held}
+use Rattle.flat_pages.specs.SlotSteps.{SetsEntry}
 use Rattle.flat_pages.specs.TableSteps.{tables_of}
 use Rattle.flat_pages.proofs.SlotSetting.{Changes, fork_some, seen_there, narrowed_page, set_lives, set_living, told_empty, told_follows, told_narrow}
 use Rattle.flat_pages.proofs.flat_slots.FlatSlotsPages.set_entry.Goals as goal
 
 pub set_unnamed-requires-clause-lives : goal.set_unnamed-requires-clause-lives
-set_unnamed-requires-clause-lives g c = fork_some c.args.self.now.tables.maps.items c.args.slot.fork c.in-Some.map (sym c.map_of.ensures ∙ c.in-Some.is)
+set_unnamed-requires-clause-lives g c = fork_some c.args.self.now.tables.maps.held.items c.args.slot.fork c.in-Some.map (sym c.map_of.ensures ∙ c.in-Some.is)
 
 pub set_unnamed-requires-in-Follows-clause-lives : goal.set_unnamed-requires-in-Follows-clause-lives
-set_unnamed-requires-in-Follows-clause-lives g c = fork_some c.args.self.now.tables.maps.items c.args.slot.fork c.in-Some.map (sym c.map_of.ensures ∙ c.in-Some.is)
+set_unnamed-requires-in-Follows-clause-lives g c = fork_some c.args.self.now.tables.maps.held.items c.args.slot.fork c.in-Some.map (sym c.map_of.ensures ∙ c.in-Some.is)
 
 pub set_kept-requires-clause-lives : goal.set_kept-requires-clause-lives
-set_kept-requires-clause-lives g c = fork_some c.args.self.now.tables.maps.items c.args.slot.fork c.in-Some.map (sym c.map_of.ensures ∙ c.in-Some.is)
+set_kept-requires-clause-lives g c = fork_some c.args.self.now.tables.maps.held.items c.args.slot.fork c.in-Some.map (sym c.map_of.ensures ∙ c.in-Some.is)
 
 pub set_kept-requires-clause-page : goal.set_kept-requires-clause-page
 set_kept-requires-clause-page g c = λ l a is.
@@ -30,10 +29,10 @@ returns-in-Empty-clause-told g c =
     subst (λ (x : NewEntry). Changes g.S.Store.means now.store c.set_unnamed.new.self.store now.tables c.set_unnamed.new.self.tables c.args.slot c.in-Some.map index now.agree.held x) (sym c.in-Empty.is) told
 
 pub returns-in-Empty-clause-lives : goal.returns-in-Empty-clause-lives
-returns-in-Empty-clause-lives g c = set_lives c.args.self.now.tables.maps.items c.set_unnamed.new.self.tables.maps.items _ _ c.set_unnamed.ensures.maps
+returns-in-Empty-clause-lives g c = set_lives c.args.self.now.tables.maps.held.items c.set_unnamed.new.self.tables.maps.held.items _ _ c.set_unnamed.ensures.maps
 
 pub returns-in-Empty-clause-forks : goal.returns-in-Empty-clause-forks
-returns-in-Empty-clause-forks g c = set_living c.args.self.now.tables.maps.items c.set_unnamed.new.self.tables.maps.items _ _ c.set_unnamed.ensures.maps
+returns-in-Empty-clause-forks g c = set_living c.args.self.now.tables.maps.held.items c.set_unnamed.new.self.tables.maps.held.items _ _ c.set_unnamed.ensures.maps
 
 pub returns-in-Follows-clause-told : goal.returns-in-Follows-clause-told
 returns-in-Follows-clause-told g c =
@@ -44,10 +43,10 @@ returns-in-Follows-clause-told g c =
     subst (λ (x : NewEntry). Changes g.S.Store.means now.store c.set_unnamed-in-Follows.new.self.store now.tables c.set_unnamed-in-Follows.new.self.tables c.args.slot c.in-Some.map index now.agree.held x) (sym c.in-Follows.is) told
 
 pub returns-in-Follows-clause-lives : goal.returns-in-Follows-clause-lives
-returns-in-Follows-clause-lives g c = set_lives c.args.self.now.tables.maps.items c.set_unnamed-in-Follows.new.self.tables.maps.items _ _ c.set_unnamed-in-Follows.ensures.maps
+returns-in-Follows-clause-lives g c = set_lives c.args.self.now.tables.maps.held.items c.set_unnamed-in-Follows.new.self.tables.maps.held.items _ _ c.set_unnamed-in-Follows.ensures.maps
 
 pub returns-in-Follows-clause-forks : goal.returns-in-Follows-clause-forks
-returns-in-Follows-clause-forks g c = set_living c.args.self.now.tables.maps.items c.set_unnamed-in-Follows.new.self.tables.maps.items _ _ c.set_unnamed-in-Follows.ensures.maps
+returns-in-Follows-clause-forks g c = set_living c.args.self.now.tables.maps.held.items c.set_unnamed-in-Follows.new.self.tables.maps.held.items _ _ c.set_unnamed-in-Follows.ensures.maps
 
 pub returns-in-Narrow-clause-told : goal.returns-in-Narrow-clause-told
 returns-in-Narrow-clause-told g c =
@@ -58,7 +57,7 @@ returns-in-Narrow-clause-told g c =
     subst (λ (x : NewEntry). Changes g.S.Store.means now.store c.set_kept.new.self.store now.tables c.set_kept.new.self.tables c.args.slot c.in-Some.map index now.agree.held x) (sym c.in-Narrow.is) told
 
 pub returns-in-Narrow-clause-lives : goal.returns-in-Narrow-clause-lives
-returns-in-Narrow-clause-lives g c = set_lives c.args.self.now.tables.maps.items c.set_kept.new.self.tables.maps.items _ _ c.set_kept.ensures.maps
+returns-in-Narrow-clause-lives g c = set_lives c.args.self.now.tables.maps.held.items c.set_kept.new.self.tables.maps.held.items _ _ c.set_kept.ensures.maps
 
 pub returns-in-Narrow-clause-forks : goal.returns-in-Narrow-clause-forks
-returns-in-Narrow-clause-forks g c = set_living c.args.self.now.tables.maps.items c.set_kept.new.self.tables.maps.items _ _ c.set_kept.ensures.maps
+returns-in-Narrow-clause-forks g c = set_living c.args.self.now.tables.maps.held.items c.set_kept.new.self.tables.maps.held.items _ _ c.set_kept.ensures.maps

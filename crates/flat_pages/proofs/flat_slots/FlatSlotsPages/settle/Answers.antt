@@ -1,23 +1,17 @@
-use Rattle.std.proofs.Common.{◌≡◌, ◌≢◌, ◌∙◌, true, false, Bool, ℕ, None, Some, Option, sym, ap, subst, List, cond, refl, arith, is_some}
-use Rattle.std.specs.Prelude.{IsSome}
-use Rattle.std.proofs.lemmas.Bool.Decides.{nat_tests, eqb_tells}
-use Rattle.plain_model.specs.declared.names.Access.{Access}
+use Rattle.std.proofs.Common.{◌≡◌, ◌∙◌, true, false, Some, sym, ap, subst, List, refl}
 use Rattle.plain_model.specs.declared.names.Home.{Home}
 use Rattle.plain_model.specs.declared.names.Place.{Place}
 use Rattle.plain_model.specs.References.{settled}
 use Rattle.plain_model.specs.Pages.{spot_of}
 use Rattle.plain_model.specs.Stores.{HomePlace, FitsHomes}
-use Rattle.flat_pages.specs.declared.held_entry.EntryAt.{EntryAt}
-use Rattle.flat_pages.specs.declared.held_entry.HeldEntry.{HeldEntry}
-use Rattle.flat_pages.specs.declared.held_entry.HeldEntry.TheVariants.{Empty, Page, Follows}
-use Rattle.flat_pages.specs.HeldMaps.{held_entry, fork_at}
-use Rattle.flat_pages.specs.SlotTables.{Tables, plain_of, share_of}
+use Rattle.flat_pages.specs.declared.held_entry.HeldEntry.TheVariants.{Page}
+use Rattle.flat_pages.specs.HeldMaps.{held_entry}
+use Rattle.flat_pages.specs.SlotTables.{plain_of, share_of}
 use Rattle.flat_pages.specs.SlotTouches.{is_alone}
 use Rattle.flat_pages.specs.TableSteps.{tables_of}
-use Rattle.flat_pages.proofs.Making.{held_is}
 use Rattle.flat_pages.proofs.Meeting.{copy_held}
 use Rattle.flat_pages.proofs.Settling.{sized_of}
-use Rattle.flat_pages.proofs.Settled.{Announced, announced, walk_found, can_copy, copy_marked, ready_away, home_here, copy_lives, stays_told, alone_home, zero_stored, copy_stored, alone_stored}
+use Rattle.flat_pages.proofs.Settled.{announced, walk_found, can_copy, ready_away, home_here, copy_lives, stays_told, alone_home, zero_stored, copy_stored, alone_stored}
 use Rattle.plain_model.specs.Maps.{full_access}
 use Rattle.flat_pages.proofs.EntrySetting.{names_none}
 use Rattle.flat_pages.proofs.Settled.{slot_lives, one_is, not_one}
@@ -40,7 +34,7 @@ make_zero-requires-clause-lives g c =
     let t = tables_of (store.homes s.store) s.tables in
     let w = c.in-Some.walk in
     let r = announced t (store.spare s.store) c.args.at c.in-Fork.slot c.args.kind w c.in-Fork.is c.requires.place (sym c.walk.ensures ∙ c.in-Some.is) c.requires.ready in
-    slot_lives s.tables.maps.items w.end (walk_found t s.agree (store.spare s.store) c.in-Fork.slot c.args.kind w r).links.end (walk_found t s.agree (store.spare s.store) c.in-Fork.slot c.args.kind w r).meets.end
+    slot_lives s.tables.maps.held.items w.end (walk_found t s.agree (store.spare s.store) c.in-Fork.slot c.args.kind w r).links.end (walk_found t s.agree (store.spare s.store) c.in-Fork.slot c.args.kind w r).meets.end
 
 pub returns-in_default-home-clause-told : goal.returns-in_default-home-clause-told
 returns-in_default-home-clause-told g c =
@@ -87,15 +81,6 @@ returns-in_default-home-clause-forks g c =
     let r = announced t (store.spare s.store) c.args.at c.in-Fork.slot c.args.kind w c.in-Fork.is c.requires.place (sym c.walk.ensures ∙ c.in-Some.is) c.requires.ready in
     (zero_stored store s.store c.make_zero.new.self.store (g.met.S.Store.sound s.store) (g.met.S.Store.sound c.make_zero.new.self.store) s.tables c.make_zero.new.self.tables s.agree c.make_zero.new.self.agree c.args.at c.in-Fork.slot c.in-Fork.is c.args.kind w r c.args.owner c.requires.owner c.in_default-home.is c.make_zero.ensures).forks
 
-pub returns-in_default-home-clause-single : goal.returns-in_default-home-clause-single
-returns-in_default-home-clause-single g c =
-    let s = c.args.self.now in
-    let store = g.S.Store.means in
-    let t = tables_of (store.homes s.store) s.tables in
-    let w = c.in-Some.walk in
-    let r = announced t (store.spare s.store) c.args.at c.in-Fork.slot c.args.kind w c.in-Fork.is c.requires.place (sym c.walk.ensures ∙ c.in-Some.is) c.requires.ready in
-    (zero_stored store s.store c.make_zero.new.self.store (g.met.S.Store.sound s.store) (g.met.S.Store.sound c.make_zero.new.self.store) s.tables c.make_zero.new.self.tables s.agree c.make_zero.new.self.agree c.args.at c.in-Fork.slot c.in-Fork.is c.args.kind w r c.args.owner c.requires.owner c.in_default-home.is c.make_zero.ensures).single
-
 pub used-requires : goal.used-requires
 used-requires g c =
     let s = c.args.self.now in
@@ -136,7 +121,7 @@ copy_alone-requires-clause-entry g c =
     let w = c.in-Some.walk in
     let r = announced t (store.spare s.store) c.args.at c.in-Fork.slot c.args.kind w c.in-Fork.is c.requires.place (sym c.walk.ensures ∙ c.in-Some.is) c.requires.ready in
     let home_is : Page c.in-Page.field-0 c.in-Page.old ≡ Page c.in-Some-home.home c.in-Page.old = ap (λ (x : Home). Page x c.in-Page.old) (alone_home t s.agree (store.spare s.store) c.in-Fork.slot c.args.kind w r c.in-Some-home.home c.in-Some-copy_for.to c.in-Page.field-0 c.in-Page.old c.in-Some-home.is (sym c.copy_for.ensures ∙ c.in-Some-copy_for.is) (c.entry.ensures ∙ ap Some c.in-Page.is)) in
-    let there : held_entry s.tables.maps.items c.in-Some-copy_for.to ≡ Some (Page c.in-Some-home.home c.in-Page.old) = c.entry.ensures ∙ ap Some c.in-Page.is ∙ ap Some home_is in
+    let there : held_entry s.tables.maps.held.items c.in-Some-copy_for.to ≡ Some (Page c.in-Some-home.home c.in-Page.old) = c.entry.ensures ∙ ap Some c.in-Page.is ∙ ap Some home_is in
     there
 
 pub copy_alone-requires-clause-alone : goal.copy_alone-requires-clause-alone
@@ -147,8 +132,8 @@ copy_alone-requires-clause-alone g c =
     let w = c.in-Some.walk in
     let r = announced t (store.spare s.store) c.args.at c.in-Fork.slot c.args.kind w c.in-Fork.is c.requires.place (sym c.walk.ensures ∙ c.in-Some.is) c.requires.ready in
     let home_is : Page c.in-Page.field-0 c.in-Page.old ≡ Page c.in-Some-home.home c.in-Page.old = ap (λ (x : Home). Page x c.in-Page.old) (alone_home t s.agree (store.spare s.store) c.in-Fork.slot c.args.kind w r c.in-Some-home.home c.in-Some-copy_for.to c.in-Page.field-0 c.in-Page.old c.in-Some-home.is (sym c.copy_for.ensures ∙ c.in-Some-copy_for.is) (c.entry.ensures ∙ ap Some c.in-Page.is)) in
-    let there : held_entry s.tables.maps.items c.in-Some-copy_for.to ≡ Some (Page c.in-Some-home.home c.in-Page.old) = c.entry.ensures ∙ ap Some c.in-Page.is ∙ ap Some home_is in
-    let alone : is_alone s.tables.shares.items (held_entry s.tables.maps.items c.in-Some-copy_for.to) ≡ true = ap (is_alone s.tables.shares.items) there ∙ one_is (share_of s.tables.shares.items c.in-Some-home.home.0) (sym c.share.ensures ∙ c.if-share-eq1.true) in
+    let there : held_entry s.tables.maps.held.items c.in-Some-copy_for.to ≡ Some (Page c.in-Some-home.home c.in-Page.old) = c.entry.ensures ∙ ap Some c.in-Page.is ∙ ap Some home_is in
+    let alone : is_alone s.tables.shares.items (held_entry s.tables.maps.held.items c.in-Some-copy_for.to) ≡ true = ap (is_alone s.tables.shares.items) there ∙ one_is (share_of s.tables.shares.items c.in-Some-home.home.0) (sym c.share.ensures ∙ c.if-share-eq1.true) in
     alone
 
 pub copy_new-requires-clause-lives : goal.copy_new-requires-clause-lives
@@ -167,7 +152,7 @@ copy_new-requires-clause-shared g c =
     let t = tables_of (store.homes s.store) s.tables in
     let w = c.in-Some.walk in
     let r = announced t (store.spare s.store) c.args.at c.in-Fork.slot c.args.kind w c.in-Fork.is c.requires.place (sym c.walk.ensures ∙ c.in-Some.is) c.requires.ready in
-    let shared : is_alone s.tables.shares.items (held_entry s.tables.maps.items c.in-Some-copy_for.to) ≡ false = elim c.in_default-entry.branch [
+    let shared : is_alone s.tables.shares.items (held_entry s.tables.maps.held.items c.in-Some-copy_for.to) ≡ false = elim c.in_default-entry.branch [
       | in_default-entry-via-in-Page+else-share-eq1 v ↦
           ap (is_alone s.tables.shares.items) (c.entry.ensures ∙ ap Some v.in-Page.is)
           ∙ ap (λ (x : Home). is_alone s.tables.shares.items (Some (Page x v.in-Page.old))) (alone_home t s.agree (store.spare s.store) c.in-Fork.slot c.args.kind w r c.in-Some-home.home c.in-Some-copy_for.to v.in-Page.field-0 v.in-Page.old c.in-Some-home.is (sym c.copy_for.ensures ∙ c.in-Some-copy_for.is) (c.entry.ensures ∙ ap Some v.in-Page.is))
@@ -192,7 +177,7 @@ copy_new-requires-clause-room g c =
     let t = tables_of (store.homes s.store) s.tables in
     let w = c.in-Some.walk in
     let r = announced t (store.spare s.store) c.args.at c.in-Fork.slot c.args.kind w c.in-Fork.is c.requires.place (sym c.walk.ensures ∙ c.in-Some.is) c.requires.ready in
-    let shared : is_alone s.tables.shares.items (held_entry s.tables.maps.items c.in-Some-copy_for.to) ≡ false = elim c.in_default-entry.branch [
+    let shared : is_alone s.tables.shares.items (held_entry s.tables.maps.held.items c.in-Some-copy_for.to) ≡ false = elim c.in_default-entry.branch [
       | in_default-entry-via-in-Page+else-share-eq1 v ↦
           ap (is_alone s.tables.shares.items) (c.entry.ensures ∙ ap Some v.in-Page.is)
           ∙ ap (λ (x : Home). is_alone s.tables.shares.items (Some (Page x v.in-Page.old))) (alone_home t s.agree (store.spare s.store) c.in-Fork.slot c.args.kind w r c.in-Some-home.home c.in-Some-copy_for.to v.in-Page.field-0 v.in-Page.old c.in-Some-home.is (sym c.copy_for.ensures ∙ c.in-Some-copy_for.is) (c.entry.ensures ∙ ap Some v.in-Page.is))
@@ -208,7 +193,7 @@ copy_new-requires-clause-frame g c =
     let t = tables_of (store.homes s.store) s.tables in
     let w = c.in-Some.walk in
     let r = announced t (store.spare s.store) c.args.at c.in-Fork.slot c.args.kind w c.in-Fork.is c.requires.place (sym c.walk.ensures ∙ c.in-Some.is) c.requires.ready in
-    let shared : is_alone s.tables.shares.items (held_entry s.tables.maps.items c.in-Some-copy_for.to) ≡ false = elim c.in_default-entry.branch [
+    let shared : is_alone s.tables.shares.items (held_entry s.tables.maps.held.items c.in-Some-copy_for.to) ≡ false = elim c.in_default-entry.branch [
       | in_default-entry-via-in-Page+else-share-eq1 v ↦
           ap (is_alone s.tables.shares.items) (c.entry.ensures ∙ ap Some v.in-Page.is)
           ∙ ap (λ (x : Home). is_alone s.tables.shares.items (Some (Page x v.in-Page.old))) (alone_home t s.agree (store.spare s.store) c.in-Fork.slot c.args.kind w r c.in-Some-home.home c.in-Some-copy_for.to v.in-Page.field-0 v.in-Page.old c.in-Some-home.is (sym c.copy_for.ensures ∙ c.in-Some-copy_for.is) (c.entry.ensures ∙ ap Some v.in-Page.is))
@@ -225,8 +210,8 @@ returns-in-Page-clause-told g c =
     let w = c.in-Some.walk in
     let r = announced t (store.spare s.store) c.args.at c.in-Fork.slot c.args.kind w c.in-Fork.is c.requires.place (sym c.walk.ensures ∙ c.in-Some.is) c.requires.ready in
     let home_is : Page c.in-Page.field-0 c.in-Page.old ≡ Page c.in-Some-home.home c.in-Page.old = ap (λ (x : Home). Page x c.in-Page.old) (alone_home t s.agree (store.spare s.store) c.in-Fork.slot c.args.kind w r c.in-Some-home.home c.in-Some-copy_for.to c.in-Page.field-0 c.in-Page.old c.in-Some-home.is (sym c.copy_for.ensures ∙ c.in-Some-copy_for.is) (c.entry.ensures ∙ ap Some c.in-Page.is)) in
-    let there : held_entry s.tables.maps.items c.in-Some-copy_for.to ≡ Some (Page c.in-Some-home.home c.in-Page.old) = c.entry.ensures ∙ ap Some c.in-Page.is ∙ ap Some home_is in
-    let alone : is_alone s.tables.shares.items (held_entry s.tables.maps.items c.in-Some-copy_for.to) ≡ true = ap (is_alone s.tables.shares.items) there ∙ one_is (share_of s.tables.shares.items c.in-Some-home.home.0) (sym c.share.ensures ∙ c.if-share-eq1.true) in
+    let there : held_entry s.tables.maps.held.items c.in-Some-copy_for.to ≡ Some (Page c.in-Some-home.home c.in-Page.old) = c.entry.ensures ∙ ap Some c.in-Page.is ∙ ap Some home_is in
+    let alone : is_alone s.tables.shares.items (held_entry s.tables.maps.held.items c.in-Some-copy_for.to) ≡ true = ap (is_alone s.tables.shares.items) there ∙ one_is (share_of s.tables.shares.items c.in-Some-home.home.0) (sym c.share.ensures ∙ c.if-share-eq1.true) in
     (alone_stored store s.store c.copy_alone.new.self.store (g.met.S.Store.sound s.store) (g.met.S.Store.sound c.copy_alone.new.self.store) s.tables c.copy_alone.new.self.tables s.agree c.copy_alone.new.self.agree c.args.at c.in-Fork.slot c.in-Fork.is c.args.kind w r c.args.owner c.requires.owner c.in-Some-home.home c.in-Some-copy_for.to (record full_access { x = w.executes }) c.in-Some-home.is (sym c.copy_for.ensures ∙ c.in-Some-copy_for.is) refl c.in-Page.old there alone c.copy_alone.ensures.tables c.copy_alone.ensures.used).told
 
 pub returns-in-Page-clause-settles : goal.returns-in-Page-clause-settles
@@ -237,8 +222,8 @@ returns-in-Page-clause-settles g c =
     let w = c.in-Some.walk in
     let r = announced t (store.spare s.store) c.args.at c.in-Fork.slot c.args.kind w c.in-Fork.is c.requires.place (sym c.walk.ensures ∙ c.in-Some.is) c.requires.ready in
     let home_is : Page c.in-Page.field-0 c.in-Page.old ≡ Page c.in-Some-home.home c.in-Page.old = ap (λ (x : Home). Page x c.in-Page.old) (alone_home t s.agree (store.spare s.store) c.in-Fork.slot c.args.kind w r c.in-Some-home.home c.in-Some-copy_for.to c.in-Page.field-0 c.in-Page.old c.in-Some-home.is (sym c.copy_for.ensures ∙ c.in-Some-copy_for.is) (c.entry.ensures ∙ ap Some c.in-Page.is)) in
-    let there : held_entry s.tables.maps.items c.in-Some-copy_for.to ≡ Some (Page c.in-Some-home.home c.in-Page.old) = c.entry.ensures ∙ ap Some c.in-Page.is ∙ ap Some home_is in
-    let alone : is_alone s.tables.shares.items (held_entry s.tables.maps.items c.in-Some-copy_for.to) ≡ true = ap (is_alone s.tables.shares.items) there ∙ one_is (share_of s.tables.shares.items c.in-Some-home.home.0) (sym c.share.ensures ∙ c.if-share-eq1.true) in
+    let there : held_entry s.tables.maps.held.items c.in-Some-copy_for.to ≡ Some (Page c.in-Some-home.home c.in-Page.old) = c.entry.ensures ∙ ap Some c.in-Page.is ∙ ap Some home_is in
+    let alone : is_alone s.tables.shares.items (held_entry s.tables.maps.held.items c.in-Some-copy_for.to) ≡ true = ap (is_alone s.tables.shares.items) there ∙ one_is (share_of s.tables.shares.items c.in-Some-home.home.0) (sym c.share.ensures ∙ c.if-share-eq1.true) in
     (alone_stored store s.store c.copy_alone.new.self.store (g.met.S.Store.sound s.store) (g.met.S.Store.sound c.copy_alone.new.self.store) s.tables c.copy_alone.new.self.tables s.agree c.copy_alone.new.self.agree c.args.at c.in-Fork.slot c.in-Fork.is c.args.kind w r c.args.owner c.requires.owner c.in-Some-home.home c.in-Some-copy_for.to (record full_access { x = w.executes }) c.in-Some-home.is (sym c.copy_for.ensures ∙ c.in-Some-copy_for.is) refl c.in-Page.old there alone c.copy_alone.ensures.tables c.copy_alone.ensures.used).settles
 
 pub returns-in-Page-clause-scene : goal.returns-in-Page-clause-scene
@@ -249,8 +234,8 @@ returns-in-Page-clause-scene g c =
     let w = c.in-Some.walk in
     let r = announced t (store.spare s.store) c.args.at c.in-Fork.slot c.args.kind w c.in-Fork.is c.requires.place (sym c.walk.ensures ∙ c.in-Some.is) c.requires.ready in
     let home_is : Page c.in-Page.field-0 c.in-Page.old ≡ Page c.in-Some-home.home c.in-Page.old = ap (λ (x : Home). Page x c.in-Page.old) (alone_home t s.agree (store.spare s.store) c.in-Fork.slot c.args.kind w r c.in-Some-home.home c.in-Some-copy_for.to c.in-Page.field-0 c.in-Page.old c.in-Some-home.is (sym c.copy_for.ensures ∙ c.in-Some-copy_for.is) (c.entry.ensures ∙ ap Some c.in-Page.is)) in
-    let there : held_entry s.tables.maps.items c.in-Some-copy_for.to ≡ Some (Page c.in-Some-home.home c.in-Page.old) = c.entry.ensures ∙ ap Some c.in-Page.is ∙ ap Some home_is in
-    let alone : is_alone s.tables.shares.items (held_entry s.tables.maps.items c.in-Some-copy_for.to) ≡ true = ap (is_alone s.tables.shares.items) there ∙ one_is (share_of s.tables.shares.items c.in-Some-home.home.0) (sym c.share.ensures ∙ c.if-share-eq1.true) in
+    let there : held_entry s.tables.maps.held.items c.in-Some-copy_for.to ≡ Some (Page c.in-Some-home.home c.in-Page.old) = c.entry.ensures ∙ ap Some c.in-Page.is ∙ ap Some home_is in
+    let alone : is_alone s.tables.shares.items (held_entry s.tables.maps.held.items c.in-Some-copy_for.to) ≡ true = ap (is_alone s.tables.shares.items) there ∙ one_is (share_of s.tables.shares.items c.in-Some-home.home.0) (sym c.share.ensures ∙ c.if-share-eq1.true) in
     (alone_stored store s.store c.copy_alone.new.self.store (g.met.S.Store.sound s.store) (g.met.S.Store.sound c.copy_alone.new.self.store) s.tables c.copy_alone.new.self.tables s.agree c.copy_alone.new.self.agree c.args.at c.in-Fork.slot c.in-Fork.is c.args.kind w r c.args.owner c.requires.owner c.in-Some-home.home c.in-Some-copy_for.to (record full_access { x = w.executes }) c.in-Some-home.is (sym c.copy_for.ensures ∙ c.in-Some-copy_for.is) refl c.in-Page.old there alone c.copy_alone.ensures.tables c.copy_alone.ensures.used).scene
 
 pub returns-in-Page-clause-count : goal.returns-in-Page-clause-count
@@ -261,8 +246,8 @@ returns-in-Page-clause-count g c =
     let w = c.in-Some.walk in
     let r = announced t (store.spare s.store) c.args.at c.in-Fork.slot c.args.kind w c.in-Fork.is c.requires.place (sym c.walk.ensures ∙ c.in-Some.is) c.requires.ready in
     let home_is : Page c.in-Page.field-0 c.in-Page.old ≡ Page c.in-Some-home.home c.in-Page.old = ap (λ (x : Home). Page x c.in-Page.old) (alone_home t s.agree (store.spare s.store) c.in-Fork.slot c.args.kind w r c.in-Some-home.home c.in-Some-copy_for.to c.in-Page.field-0 c.in-Page.old c.in-Some-home.is (sym c.copy_for.ensures ∙ c.in-Some-copy_for.is) (c.entry.ensures ∙ ap Some c.in-Page.is)) in
-    let there : held_entry s.tables.maps.items c.in-Some-copy_for.to ≡ Some (Page c.in-Some-home.home c.in-Page.old) = c.entry.ensures ∙ ap Some c.in-Page.is ∙ ap Some home_is in
-    let alone : is_alone s.tables.shares.items (held_entry s.tables.maps.items c.in-Some-copy_for.to) ≡ true = ap (is_alone s.tables.shares.items) there ∙ one_is (share_of s.tables.shares.items c.in-Some-home.home.0) (sym c.share.ensures ∙ c.if-share-eq1.true) in
+    let there : held_entry s.tables.maps.held.items c.in-Some-copy_for.to ≡ Some (Page c.in-Some-home.home c.in-Page.old) = c.entry.ensures ∙ ap Some c.in-Page.is ∙ ap Some home_is in
+    let alone : is_alone s.tables.shares.items (held_entry s.tables.maps.held.items c.in-Some-copy_for.to) ≡ true = ap (is_alone s.tables.shares.items) there ∙ one_is (share_of s.tables.shares.items c.in-Some-home.home.0) (sym c.share.ensures ∙ c.if-share-eq1.true) in
     (alone_stored store s.store c.copy_alone.new.self.store (g.met.S.Store.sound s.store) (g.met.S.Store.sound c.copy_alone.new.self.store) s.tables c.copy_alone.new.self.tables s.agree c.copy_alone.new.self.agree c.args.at c.in-Fork.slot c.in-Fork.is c.args.kind w r c.args.owner c.requires.owner c.in-Some-home.home c.in-Some-copy_for.to (record full_access { x = w.executes }) c.in-Some-home.is (sym c.copy_for.ensures ∙ c.in-Some-copy_for.is) refl c.in-Page.old there alone c.copy_alone.ensures.tables c.copy_alone.ensures.used).count
 
 pub returns-in-Page-clause-lives : goal.returns-in-Page-clause-lives
@@ -273,8 +258,8 @@ returns-in-Page-clause-lives g c =
     let w = c.in-Some.walk in
     let r = announced t (store.spare s.store) c.args.at c.in-Fork.slot c.args.kind w c.in-Fork.is c.requires.place (sym c.walk.ensures ∙ c.in-Some.is) c.requires.ready in
     let home_is : Page c.in-Page.field-0 c.in-Page.old ≡ Page c.in-Some-home.home c.in-Page.old = ap (λ (x : Home). Page x c.in-Page.old) (alone_home t s.agree (store.spare s.store) c.in-Fork.slot c.args.kind w r c.in-Some-home.home c.in-Some-copy_for.to c.in-Page.field-0 c.in-Page.old c.in-Some-home.is (sym c.copy_for.ensures ∙ c.in-Some-copy_for.is) (c.entry.ensures ∙ ap Some c.in-Page.is)) in
-    let there : held_entry s.tables.maps.items c.in-Some-copy_for.to ≡ Some (Page c.in-Some-home.home c.in-Page.old) = c.entry.ensures ∙ ap Some c.in-Page.is ∙ ap Some home_is in
-    let alone : is_alone s.tables.shares.items (held_entry s.tables.maps.items c.in-Some-copy_for.to) ≡ true = ap (is_alone s.tables.shares.items) there ∙ one_is (share_of s.tables.shares.items c.in-Some-home.home.0) (sym c.share.ensures ∙ c.if-share-eq1.true) in
+    let there : held_entry s.tables.maps.held.items c.in-Some-copy_for.to ≡ Some (Page c.in-Some-home.home c.in-Page.old) = c.entry.ensures ∙ ap Some c.in-Page.is ∙ ap Some home_is in
+    let alone : is_alone s.tables.shares.items (held_entry s.tables.maps.held.items c.in-Some-copy_for.to) ≡ true = ap (is_alone s.tables.shares.items) there ∙ one_is (share_of s.tables.shares.items c.in-Some-home.home.0) (sym c.share.ensures ∙ c.if-share-eq1.true) in
     (alone_stored store s.store c.copy_alone.new.self.store (g.met.S.Store.sound s.store) (g.met.S.Store.sound c.copy_alone.new.self.store) s.tables c.copy_alone.new.self.tables s.agree c.copy_alone.new.self.agree c.args.at c.in-Fork.slot c.in-Fork.is c.args.kind w r c.args.owner c.requires.owner c.in-Some-home.home c.in-Some-copy_for.to (record full_access { x = w.executes }) c.in-Some-home.is (sym c.copy_for.ensures ∙ c.in-Some-copy_for.is) refl c.in-Page.old there alone c.copy_alone.ensures.tables c.copy_alone.ensures.used).lives
 
 pub returns-in-Page-clause-forks : goal.returns-in-Page-clause-forks
@@ -285,21 +270,9 @@ returns-in-Page-clause-forks g c =
     let w = c.in-Some.walk in
     let r = announced t (store.spare s.store) c.args.at c.in-Fork.slot c.args.kind w c.in-Fork.is c.requires.place (sym c.walk.ensures ∙ c.in-Some.is) c.requires.ready in
     let home_is : Page c.in-Page.field-0 c.in-Page.old ≡ Page c.in-Some-home.home c.in-Page.old = ap (λ (x : Home). Page x c.in-Page.old) (alone_home t s.agree (store.spare s.store) c.in-Fork.slot c.args.kind w r c.in-Some-home.home c.in-Some-copy_for.to c.in-Page.field-0 c.in-Page.old c.in-Some-home.is (sym c.copy_for.ensures ∙ c.in-Some-copy_for.is) (c.entry.ensures ∙ ap Some c.in-Page.is)) in
-    let there : held_entry s.tables.maps.items c.in-Some-copy_for.to ≡ Some (Page c.in-Some-home.home c.in-Page.old) = c.entry.ensures ∙ ap Some c.in-Page.is ∙ ap Some home_is in
-    let alone : is_alone s.tables.shares.items (held_entry s.tables.maps.items c.in-Some-copy_for.to) ≡ true = ap (is_alone s.tables.shares.items) there ∙ one_is (share_of s.tables.shares.items c.in-Some-home.home.0) (sym c.share.ensures ∙ c.if-share-eq1.true) in
+    let there : held_entry s.tables.maps.held.items c.in-Some-copy_for.to ≡ Some (Page c.in-Some-home.home c.in-Page.old) = c.entry.ensures ∙ ap Some c.in-Page.is ∙ ap Some home_is in
+    let alone : is_alone s.tables.shares.items (held_entry s.tables.maps.held.items c.in-Some-copy_for.to) ≡ true = ap (is_alone s.tables.shares.items) there ∙ one_is (share_of s.tables.shares.items c.in-Some-home.home.0) (sym c.share.ensures ∙ c.if-share-eq1.true) in
     (alone_stored store s.store c.copy_alone.new.self.store (g.met.S.Store.sound s.store) (g.met.S.Store.sound c.copy_alone.new.self.store) s.tables c.copy_alone.new.self.tables s.agree c.copy_alone.new.self.agree c.args.at c.in-Fork.slot c.in-Fork.is c.args.kind w r c.args.owner c.requires.owner c.in-Some-home.home c.in-Some-copy_for.to (record full_access { x = w.executes }) c.in-Some-home.is (sym c.copy_for.ensures ∙ c.in-Some-copy_for.is) refl c.in-Page.old there alone c.copy_alone.ensures.tables c.copy_alone.ensures.used).forks
-
-pub returns-in-Page-clause-single : goal.returns-in-Page-clause-single
-returns-in-Page-clause-single g c =
-    let s = c.args.self.now in
-    let store = g.S.Store.means in
-    let t = tables_of (store.homes s.store) s.tables in
-    let w = c.in-Some.walk in
-    let r = announced t (store.spare s.store) c.args.at c.in-Fork.slot c.args.kind w c.in-Fork.is c.requires.place (sym c.walk.ensures ∙ c.in-Some.is) c.requires.ready in
-    let home_is : Page c.in-Page.field-0 c.in-Page.old ≡ Page c.in-Some-home.home c.in-Page.old = ap (λ (x : Home). Page x c.in-Page.old) (alone_home t s.agree (store.spare s.store) c.in-Fork.slot c.args.kind w r c.in-Some-home.home c.in-Some-copy_for.to c.in-Page.field-0 c.in-Page.old c.in-Some-home.is (sym c.copy_for.ensures ∙ c.in-Some-copy_for.is) (c.entry.ensures ∙ ap Some c.in-Page.is)) in
-    let there : held_entry s.tables.maps.items c.in-Some-copy_for.to ≡ Some (Page c.in-Some-home.home c.in-Page.old) = c.entry.ensures ∙ ap Some c.in-Page.is ∙ ap Some home_is in
-    let alone : is_alone s.tables.shares.items (held_entry s.tables.maps.items c.in-Some-copy_for.to) ≡ true = ap (is_alone s.tables.shares.items) there ∙ one_is (share_of s.tables.shares.items c.in-Some-home.home.0) (sym c.share.ensures ∙ c.if-share-eq1.true) in
-    (alone_stored store s.store c.copy_alone.new.self.store (g.met.S.Store.sound s.store) (g.met.S.Store.sound c.copy_alone.new.self.store) s.tables c.copy_alone.new.self.tables s.agree c.copy_alone.new.self.agree c.args.at c.in-Fork.slot c.in-Fork.is c.args.kind w r c.args.owner c.requires.owner c.in-Some-home.home c.in-Some-copy_for.to (record full_access { x = w.executes }) c.in-Some-home.is (sym c.copy_for.ensures ∙ c.in-Some-copy_for.is) refl c.in-Page.old there alone c.copy_alone.ensures.tables c.copy_alone.ensures.used).single
 
 pub returns-in_default-entry-clause-told : goal.returns-in_default-entry-clause-told
 returns-in_default-entry-clause-told g c =
@@ -308,7 +281,7 @@ returns-in_default-entry-clause-told g c =
     let t = tables_of (store.homes s.store) s.tables in
     let w = c.in-Some.walk in
     let r = announced t (store.spare s.store) c.args.at c.in-Fork.slot c.args.kind w c.in-Fork.is c.requires.place (sym c.walk.ensures ∙ c.in-Some.is) c.requires.ready in
-    let shared : is_alone s.tables.shares.items (held_entry s.tables.maps.items c.in-Some-copy_for.to) ≡ false = elim c.in_default-entry.branch [
+    let shared : is_alone s.tables.shares.items (held_entry s.tables.maps.held.items c.in-Some-copy_for.to) ≡ false = elim c.in_default-entry.branch [
       | in_default-entry-via-in-Page+else-share-eq1 v ↦
           ap (is_alone s.tables.shares.items) (c.entry.ensures ∙ ap Some v.in-Page.is)
           ∙ ap (λ (x : Home). is_alone s.tables.shares.items (Some (Page x v.in-Page.old))) (alone_home t s.agree (store.spare s.store) c.in-Fork.slot c.args.kind w r c.in-Some-home.home c.in-Some-copy_for.to v.in-Page.field-0 v.in-Page.old c.in-Some-home.is (sym c.copy_for.ensures ∙ c.in-Some-copy_for.is) (c.entry.ensures ∙ ap Some v.in-Page.is))
@@ -324,7 +297,7 @@ returns-in_default-entry-clause-settles g c =
     let t = tables_of (store.homes s.store) s.tables in
     let w = c.in-Some.walk in
     let r = announced t (store.spare s.store) c.args.at c.in-Fork.slot c.args.kind w c.in-Fork.is c.requires.place (sym c.walk.ensures ∙ c.in-Some.is) c.requires.ready in
-    let shared : is_alone s.tables.shares.items (held_entry s.tables.maps.items c.in-Some-copy_for.to) ≡ false = elim c.in_default-entry.branch [
+    let shared : is_alone s.tables.shares.items (held_entry s.tables.maps.held.items c.in-Some-copy_for.to) ≡ false = elim c.in_default-entry.branch [
       | in_default-entry-via-in-Page+else-share-eq1 v ↦
           ap (is_alone s.tables.shares.items) (c.entry.ensures ∙ ap Some v.in-Page.is)
           ∙ ap (λ (x : Home). is_alone s.tables.shares.items (Some (Page x v.in-Page.old))) (alone_home t s.agree (store.spare s.store) c.in-Fork.slot c.args.kind w r c.in-Some-home.home c.in-Some-copy_for.to v.in-Page.field-0 v.in-Page.old c.in-Some-home.is (sym c.copy_for.ensures ∙ c.in-Some-copy_for.is) (c.entry.ensures ∙ ap Some v.in-Page.is))
@@ -340,7 +313,7 @@ returns-in_default-entry-clause-scene g c =
     let t = tables_of (store.homes s.store) s.tables in
     let w = c.in-Some.walk in
     let r = announced t (store.spare s.store) c.args.at c.in-Fork.slot c.args.kind w c.in-Fork.is c.requires.place (sym c.walk.ensures ∙ c.in-Some.is) c.requires.ready in
-    let shared : is_alone s.tables.shares.items (held_entry s.tables.maps.items c.in-Some-copy_for.to) ≡ false = elim c.in_default-entry.branch [
+    let shared : is_alone s.tables.shares.items (held_entry s.tables.maps.held.items c.in-Some-copy_for.to) ≡ false = elim c.in_default-entry.branch [
       | in_default-entry-via-in-Page+else-share-eq1 v ↦
           ap (is_alone s.tables.shares.items) (c.entry.ensures ∙ ap Some v.in-Page.is)
           ∙ ap (λ (x : Home). is_alone s.tables.shares.items (Some (Page x v.in-Page.old))) (alone_home t s.agree (store.spare s.store) c.in-Fork.slot c.args.kind w r c.in-Some-home.home c.in-Some-copy_for.to v.in-Page.field-0 v.in-Page.old c.in-Some-home.is (sym c.copy_for.ensures ∙ c.in-Some-copy_for.is) (c.entry.ensures ∙ ap Some v.in-Page.is))
@@ -356,7 +329,7 @@ returns-in_default-entry-clause-count g c =
     let t = tables_of (store.homes s.store) s.tables in
     let w = c.in-Some.walk in
     let r = announced t (store.spare s.store) c.args.at c.in-Fork.slot c.args.kind w c.in-Fork.is c.requires.place (sym c.walk.ensures ∙ c.in-Some.is) c.requires.ready in
-    let shared : is_alone s.tables.shares.items (held_entry s.tables.maps.items c.in-Some-copy_for.to) ≡ false = elim c.in_default-entry.branch [
+    let shared : is_alone s.tables.shares.items (held_entry s.tables.maps.held.items c.in-Some-copy_for.to) ≡ false = elim c.in_default-entry.branch [
       | in_default-entry-via-in-Page+else-share-eq1 v ↦
           ap (is_alone s.tables.shares.items) (c.entry.ensures ∙ ap Some v.in-Page.is)
           ∙ ap (λ (x : Home). is_alone s.tables.shares.items (Some (Page x v.in-Page.old))) (alone_home t s.agree (store.spare s.store) c.in-Fork.slot c.args.kind w r c.in-Some-home.home c.in-Some-copy_for.to v.in-Page.field-0 v.in-Page.old c.in-Some-home.is (sym c.copy_for.ensures ∙ c.in-Some-copy_for.is) (c.entry.ensures ∙ ap Some v.in-Page.is))
@@ -372,7 +345,7 @@ returns-in_default-entry-clause-lives g c =
     let t = tables_of (store.homes s.store) s.tables in
     let w = c.in-Some.walk in
     let r = announced t (store.spare s.store) c.args.at c.in-Fork.slot c.args.kind w c.in-Fork.is c.requires.place (sym c.walk.ensures ∙ c.in-Some.is) c.requires.ready in
-    let shared : is_alone s.tables.shares.items (held_entry s.tables.maps.items c.in-Some-copy_for.to) ≡ false = elim c.in_default-entry.branch [
+    let shared : is_alone s.tables.shares.items (held_entry s.tables.maps.held.items c.in-Some-copy_for.to) ≡ false = elim c.in_default-entry.branch [
       | in_default-entry-via-in-Page+else-share-eq1 v ↦
           ap (is_alone s.tables.shares.items) (c.entry.ensures ∙ ap Some v.in-Page.is)
           ∙ ap (λ (x : Home). is_alone s.tables.shares.items (Some (Page x v.in-Page.old))) (alone_home t s.agree (store.spare s.store) c.in-Fork.slot c.args.kind w r c.in-Some-home.home c.in-Some-copy_for.to v.in-Page.field-0 v.in-Page.old c.in-Some-home.is (sym c.copy_for.ensures ∙ c.in-Some-copy_for.is) (c.entry.ensures ∙ ap Some v.in-Page.is))
@@ -388,7 +361,7 @@ returns-in_default-entry-clause-forks g c =
     let t = tables_of (store.homes s.store) s.tables in
     let w = c.in-Some.walk in
     let r = announced t (store.spare s.store) c.args.at c.in-Fork.slot c.args.kind w c.in-Fork.is c.requires.place (sym c.walk.ensures ∙ c.in-Some.is) c.requires.ready in
-    let shared : is_alone s.tables.shares.items (held_entry s.tables.maps.items c.in-Some-copy_for.to) ≡ false = elim c.in_default-entry.branch [
+    let shared : is_alone s.tables.shares.items (held_entry s.tables.maps.held.items c.in-Some-copy_for.to) ≡ false = elim c.in_default-entry.branch [
       | in_default-entry-via-in-Page+else-share-eq1 v ↦
           ap (is_alone s.tables.shares.items) (c.entry.ensures ∙ ap Some v.in-Page.is)
           ∙ ap (λ (x : Home). is_alone s.tables.shares.items (Some (Page x v.in-Page.old))) (alone_home t s.agree (store.spare s.store) c.in-Fork.slot c.args.kind w r c.in-Some-home.home c.in-Some-copy_for.to v.in-Page.field-0 v.in-Page.old c.in-Some-home.is (sym c.copy_for.ensures ∙ c.in-Some-copy_for.is) (c.entry.ensures ∙ ap Some v.in-Page.is))
@@ -396,19 +369,3 @@ returns-in_default-entry-clause-forks g c =
       | in_default-entry-via-in_default-entry v ↦ ap (is_alone s.tables.shares.items) c.entry.ensures ∙ names_none s.tables.shares.items c.entry.result (λ h b is. v.in_default-entry.not-Page h b is)
     ] in
     (copy_stored store s.store c.copy_new.new.self.store (g.met.S.Store.sound s.store) (g.met.S.Store.sound c.copy_new.new.self.store) s.tables c.copy_new.new.self.tables s.agree c.copy_new.new.self.agree c.args.at c.in-Fork.slot c.in-Fork.is c.args.kind w r c.args.owner c.requires.owner c.in-Some-home.home c.in-Some-copy_for.to (record full_access { x = w.executes }) c.in-Some-home.is (sym c.copy_for.ensures ∙ c.in-Some-copy_for.is) refl c.entry.result c.entry.ensures shared c.copy_new.ensures).forks
-
-pub returns-in_default-entry-clause-single : goal.returns-in_default-entry-clause-single
-returns-in_default-entry-clause-single g c =
-    let s = c.args.self.now in
-    let store = g.S.Store.means in
-    let t = tables_of (store.homes s.store) s.tables in
-    let w = c.in-Some.walk in
-    let r = announced t (store.spare s.store) c.args.at c.in-Fork.slot c.args.kind w c.in-Fork.is c.requires.place (sym c.walk.ensures ∙ c.in-Some.is) c.requires.ready in
-    let shared : is_alone s.tables.shares.items (held_entry s.tables.maps.items c.in-Some-copy_for.to) ≡ false = elim c.in_default-entry.branch [
-      | in_default-entry-via-in-Page+else-share-eq1 v ↦
-          ap (is_alone s.tables.shares.items) (c.entry.ensures ∙ ap Some v.in-Page.is)
-          ∙ ap (λ (x : Home). is_alone s.tables.shares.items (Some (Page x v.in-Page.old))) (alone_home t s.agree (store.spare s.store) c.in-Fork.slot c.args.kind w r c.in-Some-home.home c.in-Some-copy_for.to v.in-Page.field-0 v.in-Page.old c.in-Some-home.is (sym c.copy_for.ensures ∙ c.in-Some-copy_for.is) (c.entry.ensures ∙ ap Some v.in-Page.is))
-          ∙ not_one (share_of s.tables.shares.items c.in-Some-home.home.0) (λ one. v.if-share-eq1.false (v.share.ensures ∙ one))
-      | in_default-entry-via-in_default-entry v ↦ ap (is_alone s.tables.shares.items) c.entry.ensures ∙ names_none s.tables.shares.items c.entry.result (λ h b is. v.in_default-entry.not-Page h b is)
-    ] in
-    (copy_stored store s.store c.copy_new.new.self.store (g.met.S.Store.sound s.store) (g.met.S.Store.sound c.copy_new.new.self.store) s.tables c.copy_new.new.self.tables s.agree c.copy_new.new.self.agree c.args.at c.in-Fork.slot c.in-Fork.is c.args.kind w r c.args.owner c.requires.owner c.in-Some-home.home c.in-Some-copy_for.to (record full_access { x = w.executes }) c.in-Some-home.is (sym c.copy_for.ensures ∙ c.in-Some-copy_for.is) refl c.entry.result c.entry.ensures shared c.copy_new.ensures).single

@@ -1,23 +1,9 @@
-use Rattle.std.proofs.Common.{◌≡◌, ◌≢◌, ◌≤◌, ◌<◌, ◌+◌, ◌∙◌, true, false, Bool, ℕ, List, [], None, Some, Option, sym, ap, subst, cond, arith, refl, rules, is_some, ◌⊎◌, inl, inr}
-use Rattle.std.specs.Prelude.{IsSome, slice_index, slice_set}
-use Rattle.std.specs.Option.{option_map, option_map_or, option_and_then, unwrap_or}
-use Rattle.plain_model.specs.declared.names.Home.{Home}
-use Rattle.plain_model.specs.declared.names.Kind.{Kind}
-use Rattle.plain_model.specs.declared.names.Slot.{Slot}
-use Rattle.plain_model.specs.declared.names.Place.{Place}
-use Rattle.plain_model.specs.declared.names.Place.TheVariants.{Fork, File}
-use Rattle.plain_model.specs.declared.names.ForkName.{ForkName}
-use Rattle.plain_model.specs.declared.map.Touch.{Touch}
-use Rattle.plain_model.specs.declared.map.Touch.TheVariants.{Denied, Ready}
-use Rattle.plain_model.specs.Stores.{HomePlace, place, here, is_taken, is_here, word_in, content}
-use Rattle.flat_pages.specs.declared.held_entry.EntryAt.{EntryAt}
-use Rattle.flat_pages.specs.declared.held_entry.HeldEntry.{HeldEntry}
-use Rattle.flat_pages.specs.declared.chain_walk.Walk.{Walk}
-use Rattle.flat_pages.specs.HeldMaps.{index_of, held_entry, name_of}
-use Rattle.flat_pages.specs.SlotTables.{Tables, plain_of, AreTables, share_of}
-use Rattle.flat_pages.specs.SlotTouches.{walk_of, scene_of, away_at, touch_walked, touch_made, copy_of, allows}
+use Rattle.std.proofs.Common.{◌∙◌, List, sym, ap, subst, refl}
+use Rattle.plain_model.specs.declared.names.Place.TheVariants.{Fork}
+use Rattle.plain_model.specs.Stores.{HomePlace, place}
+use Rattle.flat_pages.specs.SlotTables.{plain_of, AreTables}
+use Rattle.flat_pages.specs.SlotTouches.{away_at}
 use Rattle.flat_pages.specs.TableSteps.{tables_of}
-use Rattle.flat_pages.proofs.Meeting.{stands, found_walk, home_taken_is, copy_held, place_lives, at_told}
 use Rattle.flat_pages.proofs.Settling.{sized_of}
 use Rattle.std.proofs.Common.{◌/◌, ◌%◌}
 use Rattle.plain_model.specs.Stores.{with_word_in, FitsHomes}
@@ -27,7 +13,7 @@ use Rattle.flat_pages.specs.SlotMeaning.{place_along}
 use Rattle.flat_pages.proofs.Settling.{fits_set}
 use Rattle.flat_pages.proofs.Telling.{tables_told}
 use Rattle.flat_pages.proofs.Meeting.{space_fork, placed}
-use Rattle.flat_pages.proofs.Putting.{replaced, put_places, put_away, put_tables, stored_at}
+use Rattle.flat_pages.proofs.Putting.{replaced, put_away, put_tables, stored_at}
 use Rattle.flat_pages.proofs.flat_slots.FlatSlotsPages.store.Goals as goal
 
 pub invariant_of-self : goal.invariant_of-self
@@ -35,7 +21,7 @@ invariant_of-self g c =
     let s = c.args.self.now in
     let t = tables_of (g.S.Store.means.homes s.store) s.tables in
     let f = c.requires.space.fork in
-    let x = placed t s.agree (g.S.Store.means.found s.store) (g.met.S.Store.sound s.store).finds c.args.space.0 (c.args.address / 512) f (space_fork s.tables.maps.items f c.args.space c.requires.space.is) c.args.found c.requires.place in
+    let x = placed t s.agree (g.S.Store.means.found s.store) (g.met.S.Store.sound s.store).finds c.args.space.0 (c.args.address / 512) f (space_fork s.tables.maps.held.items f c.args.space c.requires.space.is) c.args.found c.requires.place in
     let agree = subst (λ (places : List HomePlace). AreTables (replaced t places)) (sym (c.store.ensures.homes x.home.0 x.spots)) (put_tables t s.agree x.home.0 x.words x.holds (c.args.address % 512) c.args.word) in
     record { agree = agree; told = tables_told (tables_of (g.S.Store.means.homes c.store.new.self) s.tables) agree (g.met.S.Store.sound c.store.new.self).pages }
 
@@ -46,7 +32,7 @@ returns-clause-told g c d f fits is =
     let homes' = g.S.Store.means.homes c.store.new.self in
     let page = c.args.address / 512 in
     let offset = c.args.address % 512 in
-    let x = placed t s.agree (g.S.Store.means.found s.store) (g.met.S.Store.sound s.store).finds c.args.space.0 page f (space_fork s.tables.maps.items f c.args.space is) c.args.found c.requires.place in
+    let x = placed t s.agree (g.S.Store.means.found s.store) (g.met.S.Store.sound s.store).finds c.args.space.0 page f (space_fork s.tables.maps.held.items f c.args.space is) c.args.found c.requires.place in
     let h = x.home in
     let same = c.store.ensures.homes h.0 x.spots in
     let fits' = subst (λ (places : List HomePlace). FitsHomes places d) (sym same) (fits_set t.places d h.0 (with_word_in (place t.places h.0) offset c.args.word) fits) in
@@ -58,7 +44,7 @@ returns-clause-stays g c =
     let s = c.args.self.now in
     let t = tables_of (g.S.Store.means.homes s.store) s.tables in
     let f = c.requires.space.fork in
-    let x = placed t s.agree (g.S.Store.means.found s.store) (g.met.S.Store.sound s.store).finds c.args.space.0 (c.args.address / 512) f (space_fork s.tables.maps.items f c.args.space c.requires.space.is) c.args.found c.requires.place in
+    let x = placed t s.agree (g.S.Store.means.found s.store) (g.met.S.Store.sound s.store).finds c.args.space.0 (c.args.address / 512) f (space_fork s.tables.maps.held.items f c.args.space c.requires.space.is) c.args.found c.requires.place in
     let absent = ap away_at (c.store.ensures.homes x.home.0 x.spots) ∙ put_away t s.agree x.home.0 x.words x.holds (c.args.address % 512) c.args.word in
     let used = c.store.ensures.used x.home.0 x.spots in
     record {
@@ -67,7 +53,6 @@ returns-clause-stays g c =
       space = refl;
       place = λ i. place_along (used.framed.found i) t;
       lives = refl;
-      single = refl;
       forks = refl;
       serials = refl;
       most = refl;

@@ -1,25 +1,10 @@
-use Rattle.std.proofs.Common.{◌≡◌, ◌≢◌, ◌≤◌, ◌<◌, ◌+◌, ◌∙◌, true, false, Bool, ℕ, List, [], None, Some, Option, sym, ap, subst, cond, arith, refl, rules, is_some, ◌⊎◌, inl, inr}
-use Rattle.std.specs.Prelude.{IsSome, slice_index, slice_set}
-use Rattle.std.specs.Option.{option_map, option_map_or, option_and_then, unwrap_or}
-use Rattle.plain_model.specs.declared.names.Home.{Home}
-use Rattle.plain_model.specs.declared.names.Kind.{Kind}
-use Rattle.plain_model.specs.declared.names.Slot.{Slot}
-use Rattle.plain_model.specs.declared.names.Place.{Place}
-use Rattle.plain_model.specs.declared.names.Place.TheVariants.{Fork, File}
-use Rattle.plain_model.specs.declared.names.ForkName.{ForkName}
-use Rattle.plain_model.specs.declared.map.Touch.{Touch}
-use Rattle.plain_model.specs.declared.map.Touch.TheVariants.{Denied, Ready}
-use Rattle.plain_model.specs.Stores.{HomePlace, place, here, is_taken, is_here, word_in, content}
-use Rattle.flat_pages.specs.declared.held_entry.EntryAt.{EntryAt}
-use Rattle.flat_pages.specs.declared.held_entry.HeldEntry.{HeldEntry}
-use Rattle.flat_pages.specs.declared.chain_walk.Walk.{Walk}
-use Rattle.flat_pages.specs.HeldMaps.{index_of, held_entry, name_of}
-use Rattle.flat_pages.specs.SlotTables.{Tables, plain_of, AreTables, share_of}
-use Rattle.flat_pages.specs.SlotTouches.{walk_of, scene_of, away_at, touch_walked, touch_made, copy_of, allows}
+use Rattle.std.proofs.Common.{◌∙◌, sym, ap, cond, is_some}
+use Rattle.plain_model.specs.declared.map.Touch.TheVariants.{Denied}
+use Rattle.flat_pages.specs.HeldMaps.{index_of}
+use Rattle.flat_pages.specs.SlotTouches.{scene_of, away_at, touch_walked, touch_made, copy_of}
 use Rattle.flat_pages.specs.TableSteps.{tables_of}
-use Rattle.flat_pages.proofs.Meeting.{stands, found_walk, home_taken_is, copy_held, place_lives, at_told}
+use Rattle.flat_pages.proofs.Meeting.{found_walk, home_taken_is, copy_held, place_lives, at_told}
 use Rattle.flat_pages.proofs.Settling.{sized_of}
-use Rattle.flat_pages.proofs.Singles.{walk_single, touch_uncopied}
 use Rattle.flat_pages.proofs.flat_slots.FlatSlotsPages.touch.Goals as goal
 
 pub returns-in_default-walk-clause-told : goal.returns-in_default-walk-clause-told
@@ -27,7 +12,7 @@ returns-in_default-walk-clause-told g c d owner fits own =
     let s = c.args.self.now in
     let t = tables_of (g.S.Store.means.homes s.store) s.tables in
     let frames = g.S.Store.means.spare s.store in
-    let lives = place_lives (λ f. is_some (index_of s.tables.maps.items f)) c.args.at c.in-Fork.slot c.in-Fork.is c.requires in
+    let lives = place_lives (λ f. is_some (index_of s.tables.maps.held.items f)) c.args.at c.in-Fork.slot c.in-Fork.is c.requires in
     sym (at_told t s.agree frames d (sized_of t.places d fits (g.met.S.Store.sound s.store).pages) owner own c.args.at c.in-Fork.slot c.in-Fork.is c.args.kind lives.0
     ∙ ap (touch_walked (away_at t.places) t (scene_of t frames) c.args.kind) (sym c.in_default-walk.ensures))
 
@@ -37,7 +22,7 @@ returns-then-not-permits-clause-told g c d owner fits own =
     let t = tables_of (g.S.Store.means.homes s.store) s.tables in
     let frames = g.S.Store.means.spare s.store in
     let w = c.in-Some.walk in
-    let lives = place_lives (λ f. is_some (index_of s.tables.maps.items f)) c.args.at c.in-Fork.slot c.in-Fork.is c.requires in
+    let lives = place_lives (λ f. is_some (index_of s.tables.maps.held.items f)) c.args.at c.in-Fork.slot c.in-Fork.is c.requires in
     sym (at_told t s.agree frames d (sized_of t.places d fits (g.met.S.Store.sound s.store).pages) owner own c.args.at c.in-Fork.slot c.in-Fork.is c.args.kind lives.0
     ∙ ap (touch_walked (away_at t.places) t (scene_of t frames) c.args.kind) (sym c.in-Some.ensures)
     ∙ ap (λ b. cond b (touch_made (away_at t.places) t (scene_of t frames) w.home (copy_of c.args.kind w)) (Denied c.args.kind)) (sym c.permits.ensures ∙ c.if-not-permits.true))
@@ -46,14 +31,14 @@ pub made-requires-clause-taken : goal.made-requires-clause-taken
 made-requires-clause-taken g c h is_home =
     let s = c.args.self.now in
     let t = tables_of (g.S.Store.means.homes s.store) s.tables in
-    let lives = place_lives (λ f. is_some (index_of s.tables.maps.items f)) c.args.at c.in-Fork.slot c.in-Fork.is c.requires in
+    let lives = place_lives (λ f. is_some (index_of s.tables.maps.held.items f)) c.args.at c.in-Fork.slot c.in-Fork.is c.requires in
     home_taken_is t s.agree c.in-Fork.slot c.in-Some.walk (found_walk t s.agree c.in-Fork.slot c.in-Some.walk lives.0 (sym c.in-Some.ensures)) h is_home
 
 pub made-requires-clause-there : goal.made-requires-clause-there
 made-requires-clause-there g c m is_copy =
     let s = c.args.self.now in
     let t = tables_of (g.S.Store.means.homes s.store) s.tables in
-    let lives = place_lives (λ f. is_some (index_of s.tables.maps.items f)) c.args.at c.in-Fork.slot c.in-Fork.is c.requires in
+    let lives = place_lives (λ f. is_some (index_of s.tables.maps.held.items f)) c.args.at c.in-Fork.slot c.in-Fork.is c.requires in
     copy_held t s.agree c.in-Fork.slot c.in-Some.walk (found_walk t s.agree c.in-Fork.slot c.in-Some.walk lives.0 (sym c.in-Some.ensures)) c.args.kind m (sym c.copy_for.ensures ∙ is_copy)
 
 pub returns-clause-told : goal.returns-clause-told
@@ -62,17 +47,8 @@ returns-clause-told g c d owner fits own =
     let t = tables_of (g.S.Store.means.homes s.store) s.tables in
     let frames = g.S.Store.means.spare s.store in
     let w = c.in-Some.walk in
-    let lives = place_lives (λ f. is_some (index_of s.tables.maps.items f)) c.args.at c.in-Fork.slot c.in-Fork.is c.requires in
+    let lives = place_lives (λ f. is_some (index_of s.tables.maps.held.items f)) c.args.at c.in-Fork.slot c.in-Fork.is c.requires in
     sym (at_told t s.agree frames d (sized_of t.places d fits (g.met.S.Store.sound s.store).pages) owner own c.args.at c.in-Fork.slot c.in-Fork.is c.args.kind lives.0
     ∙ ap (touch_walked (away_at t.places) t (scene_of t frames) c.args.kind) (sym c.in-Some.ensures)
     ∙ ap (λ b. cond b (touch_made (away_at t.places) t (scene_of t frames) w.home (copy_of c.args.kind w)) (Denied c.args.kind)) (sym c.permits.ensures ∙ c.if-not-permits.false)
     ∙ ap (touch_made (away_at t.places) t (scene_of t frames) w.home) (sym c.copy_for.ensures) ∙ sym c.made.ensures)
-
-pub returns-clause-single : goal.returns-clause-single
-returns-clause-single g c sole one is =
-    let s = c.args.self.now in
-    let t = tables_of (g.S.Store.means.homes s.store) s.tables in
-    let scene = scene_of t (g.S.Store.means.spare s.store) in
-    let w = c.in-Some.walk in
-    let none = c.copy_for.ensures ∙ walk_single s.tables.maps.items one c.in-Fork.slot w (sym c.in-Some.ensures) c.args.kind in
-    touch_uncopied (away_at t.places) t scene w.home sole (sym (c.made.ensures ∙ ap (touch_made (away_at t.places) t scene w.home) none) ∙ is)

@@ -1,44 +1,33 @@
-use Rattle.std.proofs.Common.{◌≡◌, ◌<◌, ◌≤◌, ◌-◌, ◌∙◌, ℕ, true, refl, sym, ap, subst, length, slice_set, rules, arith}
-use Rattle.std.proofs.lemmas.List.{get_or_read}
-use Rattle.outside.specs.Drums.{IsPage}
-use Rattle.plain_model.specs.declared.names.Home.{Home}
-use Rattle.plain_model.specs.declared.map.Need.{Need}
-use Rattle.plain_model.specs.declared.map.Need.TheVariants.{Page, Frame}
-use Rattle.plain_model.specs.References.{zero_words}
-use Rattle.plain_model.specs.Stores.{HomePlace, place, here, is_taken, is_here, with_word_in, free_homes, CanFetch, IsFetched, awaited, meeting}
-use Rattle.flat_pages.specs.declared.stored_page.StoredPage.{StoredPage}
-use Rattle.flat_pages.specs.StoredPages.{free_page, free_at, stored_at, place_of, places_of, found_at, AreStored}
-use Rattle.flat_pages.specs.StoreMeaning.{flat_meaning, place_at, places_set, core_is}
-use Rattle.flat_pages.proofs.StoredPlaces.{taken_below, here_words, put_stored, put_places, put_found, put_spare, word_fits, zeros_fit, found_home, some_spare, make_stored, spare_below, free_stored}
+use Rattle.std.proofs.Common.{◌∙◌, refl, sym, ap, subst, slice_set, rules, List}
+use Rattle.plain_model.specs.Stores.{free_homes}
+use Rattle.flat_pages.specs.StoredLists.{pages_of}
+use Rattle.flat_pages.specs.StoredPages.{StoredPage, stored_at, places_of, found_at, AreStored}
+use Rattle.flat_pages.proofs.StoredPlaces.{put_stored, put_places, put_found, put_spare, word_fits}
 use Rattle.flat_pages.proofs.flat_store.FlatStoreStore.put.Goals as goal
 
 pub invariant_of-self : goal.invariant_of-self
 invariant_of-self c =
     let s = c.args.self.now in
-    let is : c.index_mut-page.result.now ≡ stored_at s.pages.items c.args.home.0 = get_or_read _ _ _ (taken_below s.pages.items c.args.home.0 c.requires.taken) c.index_mut-page.ensures.value free_page in
+    let words = slice_set (stored_at (pages_of s.pages) c.args.home.0).words c.args.at c.args.word in
     record {
-      stored = subst (λ (p : StoredPage). AreStored (slice_set s.pages.items c.args.home.0 (record p { words = slice_set p.words c.args.at c.args.word })) s.homes.items s.spare) (sym is)
-          (put_stored s.stored c.args.home.0 (slice_set (stored_at s.pages.items c.args.home.0).words c.args.at c.args.word) c.requires.taken (word_fits (stored_at s.pages.items c.args.home.0).words c.args.at c.args.word (s.stored.words c.args.home.0) (search rules)));
+      stored = subst (λ (ps : List StoredPage). AreStored ps s.homes.items s.spare) (sym c.put.ensures)
+          (put_stored s.stored c.args.home.0 words c.requires.taken (word_fits (stored_at (pages_of s.pages) c.args.home.0).words c.args.at c.args.word (s.stored.words c.args.home.0) (search rules)));
     }
 
 pub returns-clause-homes : goal.returns-clause-homes
 returns-clause-homes c =
     let s = c.args.self.now in
-    let is : c.index_mut-page.result.now ≡ stored_at s.pages.items c.args.home.0 = get_or_read _ _ _ (taken_below s.pages.items c.args.home.0 c.requires.taken) c.index_mut-page.ensures.value free_page in
-    ap (λ (p : StoredPage). places_of (slice_set s.pages.items c.args.home.0 (record p { words = slice_set p.words c.args.at c.args.word }))) is
-    ∙ put_places s.stored c.args.home.0 c.args.at c.args.word c.requires.taken
+    ap places_of c.put.ensures ∙ put_places s.stored c.args.home.0 c.args.at c.args.word c.requires.taken
 
 pub returns-clause-used : goal.returns-clause-used
 returns-clause-used c =
     let s = c.args.self.now in
-    let h = c.args.home.0 in
-    let words = slice_set (stored_at s.pages.items h).words c.args.at c.args.word in
-    let is : c.index_mut-page.result.now ≡ stored_at s.pages.items h = get_or_read _ _ _ (taken_below s.pages.items h c.requires.taken) c.index_mut-page.ensures.value free_page in
-    let fits = word_fits (stored_at s.pages.items h).words c.args.at c.args.word (s.stored.words h) (search rules) in
+    let words = slice_set (stored_at (pages_of s.pages) c.args.home.0).words c.args.at c.args.word in
+    let fits = word_fits (stored_at (pages_of s.pages) c.args.home.0).words c.args.at c.args.word (s.stored.words c.args.home.0) (search rules) in
     record {
       framed = record {
-        spare = ap (λ (p : StoredPage). free_homes (places_of (slice_set s.pages.items h (record p { words = slice_set p.words c.args.at c.args.word })))) is ∙ put_spare s.stored h words c.requires.taken fits;
-        found = ap (λ (p : StoredPage). found_at (places_of (slice_set s.pages.items h (record p { words = slice_set p.words c.args.at c.args.word })))) is ∙ put_found s.stored h words c.requires.taken;
+        spare = ap (λ (ps : List StoredPage). free_homes (places_of ps)) c.put.ensures ∙ put_spare s.stored c.args.home.0 words c.requires.taken fits;
+        found = ap (λ (ps : List StoredPage). found_at (places_of ps)) c.put.ensures ∙ put_found s.stored c.args.home.0 words c.requires.taken;
         tenant = refl;
         members = refl;
       };
