@@ -1,178 +1,131 @@
--- A reference more to the pages that references leave.
-use Rattle.std.proofs.Common.{◌≡◌, ℕ, ◌+◌, ◌-◌, ◌≤◌, ◌<◌, Bool, true, false, cond, List, [], ◌∷◌, ◌++◌, Option, None, Some, ◌⊎◌, inl, inr, length, refl, sym, ◌∙◌, ap, subst, arith}
-use Rattle.std.specs.Prelude.{◌&&◌, nat_le, is_some, slice_get}
-use Rattle.std.specs.Option.{option_and_then}
+-- The page of an address asked for, over pages in core.
+use Rattle.std.proofs.Common.{◌≡◌, ℕ, zero, suc, ◌<◌, Bool, true, false, cond, List, [], ◌∷◌, ◌++◌, Option, None, refl, sym, ◌∙◌, ap, subst, arith}
+use Rattle.std.specs.Prelude.{⊤, Ok, Err, nat_le}
+use Rattle.std.specs.List.{All}
 use Rattle.std.specs.Ordering.{nat_cmp}
-use Rattle.std.proofs.lemmas.Bool.Decides.{nat_tests}
 use Rattle.plain_model.specs.declared.names.ForkName.{ForkName}
-use Rattle.plain_model.specs.declared.names.Slot.{Slot}
-use Rattle.plain_model.specs.declared.names.Access.{Access}
-use Rattle.plain_model.specs.declared.names.PageName.{PageName}
 use Rattle.plain_model.specs.declared.names.Kind.{Kind}
-use Rattle.plain_model.specs.declared.names.Kind.TheVariants.{Read, Write, Execute}
-use Rattle.plain_model.specs.declared.map.MapEntry.TheVariants.{Empty, Names}
-use Rattle.plain_model.specs.declared.map.Touch.TheVariants.{Ready, Denied as Denies}
-use Rattle.plain_model.specs.State.{NumberedPages}
-use Rattle.plain_model.specs.Maps.{entry_at, full_access}
+use Rattle.plain_model.specs.declared.names.Place.{Place}
+use Rattle.plain_model.specs.declared.names.Place.TheVariants.{Fork}
+use Rattle.plain_model.specs.declared.names.Slot.{Slot}
+use Rattle.plain_model.specs.declared.names.TheConstants.{SPACE_PAGES}
+use Rattle.plain_model.specs.declared.names.Tty.{Tty}
+use Rattle.plain_model.specs.declared.map.Need.TheVariants as need
+use Rattle.plain_model.specs.declared.channel.TheConstants.{DRUM_FULL}
 use Rattle.plain_model.specs.Room.{live}
-use Rattle.plain_model.specs.References.{Referred, granted, denied, full, in_map, blank, make, makings, Making, next_making, page_at}
-use Rattle.plain_model.specs.Pages.{Scene, IsOwner, AreSingle, touch_of}
+use Rattle.plain_model.specs.State.{NumberedPages}
+use Rattle.plain_model.specs.References.{Referred, granted, denied, full, in_map, makings, reference, slot_at}
+use Rattle.plain_model.specs.Pages.{PagesMeaning, Agrees, AreHoused, IsOwner, page_away}
 use Rattle.plain_model.specs.Whole.{AreWhole}
-use Rattle.ka10_unit.specs.declared.gather.Asking.{Asking}
-use Rattle.ka10_unit.specs.declared.gather.Added.TheVariants.{Went, Denied, Full}
-use Rattle.ka10_unit.specs.Gathers.{slot_of, asked_for, left_by, added_by, is_granted, makes_page, after_all, all_make, AddsTo}
-use Rattle.ka10_unit.proofs.Singles.{none_makings, none_asked, named_asked, empty_asked, empty_makings, named_makings, named_page, ready_named, denied_tells, permits_one, makes_none, Entered, is_absent, is_empty, is_named, entered}
-use Rattle.ka10_unit.proofs.Growing.{Grown, grown, among, made_here, made_other, not_here}
+use Rattle.plain_model.specs.Steps.{is_accumulator, asked_at, denied_channel, plainly, plain_asked, goes, stops, trap}
+use Rattle.plain_model.proofs.InCore.{way_in_core, end_in_core}
+use Rattle.page_gather.specs.declared.reference.PageReference.{PageReference}
+use Rattle.page_gather.specs.declared.reference.Added.{Added}
+use Rattle.page_gather.specs.declared.reference.Added.TheVariants.{Went, Need, Denied, Full}
+use Rattle.page_gather.specs.Gathering.{Adds, ArePlaces, AreSound, Gathering, Gathers, IsPlaceNear, PlaceAdds, answered, came_to, is_needless, left_of, page_or, referred_to}
+use Rattle.page_gather.proofs.Again.{reference_leaves}
+use Rattle.ka10_unit.specs.Gathers.{Framed, IsOf, added_by}
+use Rattle.ka10_unit.specs.declared.taken.Trap.{Trap}
+use Rattle.ka10_unit.specs.Taking.{AsksAt}
 
--- where a write makes nothing the entry names a page that may be written
-pub open_named : (p : NumberedPages) (t : Slot) → AreSingle p.maps → makings p (in_map t) Write ≡ Some [] → (n : PageName) × (a : Access) × (entry_at p.maps t ≡ Some (Names n a)) × (a.c ≡ false) × (permits_one Write a ≡ true)
-open_named p t single h = by (entered p t single)
-  where
-    permitted : (b : Bool) → makes_none b ≡ Some [] → b ≡ true
-    permitted true g = refl
-    permitted false g = absurd (cc g)
+-- ---- pages in core
 
-    by : Entered p t → (n : PageName) × (a : Access) × (entry_at p.maps t ≡ Some (Names n a)) × (a.c ≡ false) × (permits_one Write a ≡ true)
-    by (is_absent e) = absurd (let no : None ≡ Some [] = sym (none_makings p t Write e) ∙ h in cc no)
-    by (is_empty e) = absurd (let no : Some (blank (in_map t) ∷ []) ≡ Some [] = sym (empty_makings p t Write e) ∙ h in cc no)
-    by (is_named n a e c) = (n, a, e, c, permitted a.w (sym (named_makings p t Write n a c e) ∙ h))
+module _ {P : Type 0} (means : PagesMeaning P) (pages : P) (housed : AreHoused means pages) (flat : means.flat ≡ true) where
+  -- a place of a fork's space is in frames
+  pub near_in_core : (q : NumberedPages) (at : Place) (s : Slot) → at ≡ Fork s → IsPlaceNear q (means.scene pages) at
+  near_in_core q at s is = subst (IsPlaceNear q (means.scene pages)) (sym is) (record { maps = way_in_core means pages housed flat q (in_map s); page = end_in_core means pages housed flat q (in_map s) })
 
-all_more : (f : ForkName) (p : NumberedPages) (rs : List Asking) (r : Asking) → all_make f p rs ≡ true → makes_page f (after_all f p rs) r ≡ true → all_make f p (rs ++ r ∷ []) ≡ true
-unfolding all_make after_all
-all_more f p [] r h m = ap (λ b. b && true) m
-all_more f p (s ∷ rs) r h m = two (makes_page f p s) (all_make f (left_by p (asked_for f p s)) rs) (all_make f (left_by p (asked_for f p s)) (rs ++ r ∷ [])) h (λ g. all_more f (left_by p (asked_for f p s)) rs r g m)
-  where
-    two : (a b c : Bool) → (a && b) ≡ true → (b ≡ true → c ≡ true) → (a && c) ≡ true
-    two true b c h g = g h
-    two false b c h g = absurd (cc h)
+  -- a reference that is added is answered by what it comes to
+  pub added_in_core : (q : NumberedPages) (most : ℕ) (owner : Tty) (r : PageReference) (result : Added) → result ≡ answered q (means.scene pages) most owner r → is_needless result ≡ true → result ≡ added_by (referred_to q owner r)
+  unfolding answered
+  added_in_core q most owner r result is needless =
+      by (referred_to q owner r)
+      (is
+      ∙ ap (λ (o : Option ℕ). page_or o (came_to (referred_to q owner r) (page_away q (means.scene pages) (in_map r.slot)) most)) (way_in_core means pages housed flat q (in_map r.slot))
+      ∙ ap (λ (o : Option ℕ). came_to (referred_to q owner r) o most) (end_in_core means pages housed flat q (in_map r.slot)))
+    where
+      framed_or : (b : Bool) → result ≡ cond b Went (Need need.Frame) → result ≡ Went
+      framed_or true g = g
+      framed_or false g = absurd (let no : false ≡ true = sym (ap is_needless g) ∙ needless in cc no)
 
-after_more : (f : ForkName) (p : NumberedPages) (rs : List Asking) (r : Asking) → after_all f p (rs ++ r ∷ []) ≡ left_by (after_all f p rs) (asked_for f (after_all f p rs) r)
-unfolding after_all
-after_more f p [] r = refl
-after_more f p (s ∷ rs) r = after_more f (left_by p (asked_for f p s)) rs r
+      by : (x : Referred nat_cmp) → result ≡ came_to x None most → result ≡ added_by x
+      by (granted y) g = framed_or (nat_le (live y) most) g
+      by (denied kind) g = g
+      by full g = g
 
-module _ (f : ForkName) (own : IsOwner f.tty) (p : NumberedPages) (whole : AreWhole p) (single : AreSingle p.maps) (old : List Asking) (all : all_make f p old ≡ true) (r : Asking) where
+-- pages as they stand are sound
+pub sound_as : {P : Type 0} (means : PagesMeaning P) (pages : P) (p : NumberedPages) → AreWhole p → Agrees means pages p → AreSound p (means.scene pages)
+sound_as means pages p whole agrees = record { whole = whole; room = agrees.room; away = agrees.absent_pages }
+
+-- ---- the references of a fork
+
+more_of : (f : ForkName) (rs : List PageReference) (r : PageReference) → All (λ (x : PageReference). (x.slot.fork ≡ f) × (x.slot.page < SPACE_PAGES)) rs → (r.slot.fork ≡ f) × (r.slot.page < SPACE_PAGES)
+    → All (λ (x : PageReference). (x.slot.fork ≡ f) × (x.slot.page < SPACE_PAGES)) (rs ++ r ∷ [])
+more_of f [] r all own zero d less = own
+more_of f [] r all own (suc k) d less = absurd (omega (arith, less))
+more_of f (x ∷ rs) r all own zero d less = all 0 d (omega arith)
+more_of f (x ∷ rs) r all own (suc k) d less = more_of f rs r (λ i e l. all (suc i) e (omega (arith, l))) own k d (omega (arith, less))
+
+-- one reference more is of the fork too
+pub own_more : (f : ForkName) (old new : Gathering) (at : Place) (kind : Kind) (page : ℕ) → at ≡ Fork (record { fork = f; page = page }) → page < SPACE_PAGES → IsOf f old → new.owner ≡ old.owner → PlaceAdds old.references new.references at kind → IsOf f new
+own_more f old new at kind page is less own same adds =
+    let more = subst (λ (a : Place). PlaceAdds old.references new.references a kind) is adds in
+    record { owner = same ∙ own.owner; references = subst (All (λ (x : PageReference). (x.slot.fork ≡ f) × (x.slot.page < SPACE_PAGES))) (sym more) (more_of f old.references _ own.references (refl, less)) }
+
+-- they are places where the fork lives
+pub are_places : (lives : ForkName → Bool) (f : ForkName) (g : Gathering) → lives f ≡ true → IsOf f g → ArePlaces lives g.references
+are_places lives f g alive own = λ k d less. (let of_fork = own.references k d less in (ap lives of_fork.0 ∙ alive, of_fork.1))
+
+-- ---- what a unit learns of the page of an address
+
+module _ (f : ForkName) (own : IsOwner f.tty) (p : Framed) (old new : Gathering) (of_fork : old.owner ≡ f.tty) (at : ℕ) (kind : Kind) (high : is_accumulator at ≡ false) (gathers : Gathers p.pages p.scene old) where
+  abbrev r : PageReference
+  r = record { slot = slot_at f at; kind = kind }
+
   abbrev q : NumberedPages
-  q = after_all f p old
+  q = left_of p.pages old
 
-  g : Grown f p old q
-  g = grown f own p whole single old all
+  its_own : referred_to q old.owner r ≡ reference q (in_map (slot_at f at)) kind f.tty
+  its_own = ap (reference q (in_map (slot_at f at)) kind) of_fork
 
-  -- nothing is added
-  stays : (x : Referred nat_cmp) → asked_for f q r ≡ x → left_by q x ≡ q → AddsTo f p old old r (added_by x)
-  stays x is same = record { all = all; is = ap added_by (sym is); leaves = sym same ∙ ap (left_by q) (sym is) }
+  asks : (x : Referred nat_cmp) → referred_to q old.owner r ≡ x → asked_at (plainly f) f q at kind ≡ plain_asked x
+  asks x is = ap (λ b. cond b (goes q) (plainly f q (slot_at f at) kind)) high ∙ ap plain_asked (sym its_own ∙ is)
 
-  went_named : (n : PageName) (a : Access) → a.c ≡ false → entry_at q.maps (slot_of f r) ≡ Some (Names n a) → permits_one r.kind a ≡ true → AddsTo f p old old r Went
-  went_named n a c e may = stays (granted q) (named_asked q (slot_of f r) r.kind f.tty n a c e ∙ ap (λ b. cond b (granted q) (denied r.kind)) may) refl
-
-  all_permitted : (kind : Kind) → permits_one kind full_access ≡ true
-  all_permitted Read = refl
-  all_permitted Write = refl
-  all_permitted Execute = refl
-
-  -- the page was there before the unit
-  pub adds_ready : (scene : Scene) → Ready ≡ touch_of p scene (in_map (slot_of f r)) r.kind f.tty → AddsTo f p old old r Went
-  adds_ready scene t =
-      let e = ready_named p (slot_of f r) single scene f.tty r.kind (sym t) in
-      went_named e.0 e.1 e.3 (g.named (slot_of f r) e.0 e.1 e.2) e.4
-
-  -- it is denied
-  pub adds_denied : (scene : Scene) (k : Kind) → Denies k ≡ touch_of p scene (in_map (slot_of f r)) r.kind f.tty → AddsTo f p old old r (Denied r.kind)
-  adds_denied scene k t = by (denied_tells p (slot_of f r) single scene f.tty r.kind whole own k (sym t))
-    where
-      by : (entry_at p.maps (slot_of f r) ≡ None) ⊎ ((n : PageName) × (a : Access) × (entry_at p.maps (slot_of f r) ≡ Some (Names n a)) × (a.c ≡ false) × (permits_one r.kind a ≡ false)) → AddsTo f p old old r (Denied r.kind)
-      by (inl e) = stays (denied r.kind) (none_asked q (slot_of f r) r.kind f.tty (g.absent (slot_of f r) e)) refl
-      by (inr e) = stays (denied r.kind) (named_asked q (slot_of f r) r.kind f.tty e.0 e.1 e.3 (g.named (slot_of f r) e.0 e.1 e.2) ∙ ap (λ b. cond b (granted q) (denied r.kind)) e.4) refl
-
-  module _ (empty : entry_at p.maps (slot_of f r) ≡ Some Empty) where
-    -- the page was made by a reference before
-    pub adds_again : true ≡ among r.page old → AddsTo f p old old r Went
-    adds_again some = let there = g.filled r.page empty (sym some) in went_named there.name full_access refl there.entry (all_permitted r.kind)
-
-    module _ (none : among r.page old ≡ false) where
-      still : entry_at q.maps (slot_of f r) ≡ Some Empty
-      still = g.empty r.page empty none
-
-      asked : (b : Bool) → nat_le (live q + 1) q.limit ≡ b → asked_for f q r ≡ cond b (granted (make q f.tty (blank (in_map (slot_of f r))))) full
-      asked b room = empty_asked q (slot_of f r) f.tty own g.whole still r.kind ∙ ap (λ c. cond c (granted (make q f.tty (blank (in_map (slot_of f r))))) full) room
-
-      -- there is no room for it
-      pub adds_full : p.limit - live p ≤ length old → AddsTo f p old old r Full
-      adds_full h = stays full (asked false no) refl
-        where
-          over : q.limit ≤ live q
-          over = omega (arith, h, g.count, g.limit)
-
-          no : nat_le (live q + 1) q.limit ≡ false
-          no = grind (arith, nat_tests, over)
-
-      -- it is made
-      pub adds_zero : length old < p.limit - live p → (new : List Asking) → new ≡ old ++ r ∷ [] → AddsTo f p old new r Went
-      adds_zero h new is = subst (λ (rs : List Asking). AddsTo f p old rs r Went) (sym is) (record {
-        all = all_more f p old r all makes;
-        is = ap added_by (sym goes);
-        leaves = after_more f p old r;
-      })
-        where
-          under : live q < q.limit
-          under = omega (arith, h, g.count, g.limit)
-
-          yes : nat_le (live q + 1) q.limit ≡ true
-          yes = grind (arith, nat_tests, under)
-
-          goes : asked_for f q r ≡ granted (make q f.tty (blank (in_map (slot_of f r))))
-          goes = asked true yes
-
-          makes : makes_page f q r ≡ true
-          makes = ap (λ (x : Referred nat_cmp). is_granted x && is_some (next_making q (in_map (slot_of f r)) r.kind)) goes ∙ ap (λ (x : Option (List (Making ℕ))). is_some (option_and_then (λ ms. slice_get ms 0) x)) (empty_makings q (slot_of f r) r.kind still)
-
-  -- a reference that goes through has a page, and makes nothing when it comes again; where a write made nothing before it makes nothing still
-  pub record Gone (new : List Asking) : Type 0 where
-    pub page : is_some (page_at (after_all f p new) (in_map (slot_of f r))) ≡ true
-    pub again : makings (after_all f p new) (in_map (slot_of f r)) r.kind ≡ Some []
-    pub still : (t : Slot) → makings q (in_map t) Write ≡ Some [] → makings (after_all f p new) (in_map t) Write ≡ Some []
-
-  pub went_gone : (new : List Asking) → AddsTo f p old new r Went → Gone new
-  went_gone new a = by (entered q (slot_of f r) g.single)
-    where
-      granted_is : (x : Referred nat_cmp) → Went ≡ added_by x → (y : NumberedPages) × (x ≡ granted y)
-      granted_is (granted y) h = (y, refl)
-      granted_is (denied kind) h = absurd (cc h)
-      granted_is full h = absurd (cc h)
-
-      is_permitted : (b : Bool) → Went ≡ added_by (cond b (granted q) (denied r.kind)) → b ≡ true
-      is_permitted true h = refl
-      is_permitted false h = absurd (cc h)
-
-      is_roomy : (b : Bool) (y : NumberedPages) → Went ≡ added_by (cond b (granted y) full) → b ≡ true
-      is_roomy true y h = refl
-      is_roomy false y h = absurd (cc h)
-
-      moved : (y : NumberedPages) → after_all f p new ≡ y → is_some (page_at y (in_map (slot_of f r))) ≡ true → makings y (in_map (slot_of f r)) r.kind ≡ Some []
-          → ((t : Slot) → makings q (in_map t) Write ≡ Some [] → makings y (in_map t) Write ≡ Some []) → Gone new
-      moved y is page again still = record {
-        page = ap (λ (x : NumberedPages). is_some (page_at x (in_map (slot_of f r)))) is ∙ page;
-        again = ap (λ (x : NumberedPages). makings x (in_map (slot_of f r)) r.kind) is ∙ again;
-        still = λ t h. ap (λ (x : NumberedPages). makings x (in_map t) Write) is ∙ still t h;
+  -- it goes through
+  pub asks_went : (x : ⊤) → Adds p.pages p.scene old new r Went → AsksAt f p old new at kind (Ok x)
+  asks_went x a =
+      let goes_on = a.leaves refl in
+      let left = reference_leaves f.tty own q (left_of p.pages new) gathers.changed.whole (slot_at f at) kind (sym its_own ∙ goes_on) in
+      record {
+        gathers = a.gathers;
+        is = asks (granted (left_of p.pages new)) goes_on;
+        page = λ y is low. left.page;
+        open_at = λ y is writes low. ap (λ k. makings (left_of p.pages new) (in_map (slot_at f at)) k) (sym writes) ∙ left.again;
+        still = λ b h. left.still (slot_at f b) h;
       }
 
-      by : Entered q (slot_of f r) → Gone new
-      by (is_absent e) = absurd (let no : Went ≡ Denied r.kind = a.is ∙ ap added_by (none_asked q (slot_of f r) r.kind f.tty e) in cc no)
-      by (is_named n b e c) =
-          let asked = named_asked q (slot_of f r) r.kind f.tty n b c e in
-          let may = is_permitted (permits_one r.kind b) (a.is ∙ ap added_by asked) in
-          let stays : asked_for f q r ≡ granted q = asked ∙ ap (λ d. cond d (granted q) (denied r.kind)) may in
-          moved q (a.leaves ∙ ap (left_by q) stays) (ap is_some (named_page q (slot_of f r) n b e)) (named_makings q (slot_of f r) r.kind n b c e ∙ ap makes_none may) (λ t h. h)
-      by (is_empty e) =
-          let y = make q f.tty (blank (in_map (slot_of f r))) in
-          let asked = empty_asked q (slot_of f r) f.tty own g.whole e r.kind in
-          let room = is_roomy (nat_le (live q + 1) q.limit) y (a.is ∙ ap added_by asked) in
-          let made : asked_for f q r ≡ granted y = asked ∙ ap (λ d. cond d (granted y) full) room in
-          let here = made_here q g.single g.whole f.tty own (slot_of f r) e in
-          moved y (a.leaves ∙ ap (left_by q) made) (ap is_some (named_page y (slot_of f r) _ full_access here)) (named_makings y (slot_of f r) r.kind _ full_access refl here ∙ ap makes_none (all_permitted r.kind)) (still_made e)
-        where
-          still_made : entry_at q.maps (slot_of f r) ≡ Some Empty → (t : Slot) → makings q (in_map t) Write ≡ Some [] → makings (make q f.tty (blank (in_map (slot_of f r)))) (in_map t) Write ≡ Some []
-          still_made e t h =
-              let o = open_named q t g.single h in
-              let kept = made_other q g.single g.whole f.tty own (slot_of f r) e t (not_here q g.single g.whole f.tty own (slot_of f r) e t (Some (Names o.0 o.1)) o.2 (λ d. cc d)) ∙ o.2 in
-              named_makings (make q f.tty (blank (in_map (slot_of f r)))) t Write o.0 o.1 o.3 kept ∙ ap makes_none o.4
+  -- it stops the unit
+  stops_at : (t : Trap) → new ≡ old → asked_at (plainly f) f q at kind ≡ stops (trap t.channel) → AsksAt f p old new at kind (Err t)
+  stops_at t same is = subst (λ (g : Gathering). AsksAt f p old g at kind (Err t)) (sym same) (record {
+    gathers = gathers;
+    is = is;
+    page = λ x no. absurd (cc no);
+    open_at = λ x no. absurd (cc no);
+    still = λ a h. h;
+  })
+
+  pub asks_denied : (k : Kind) (t : Trap) → Denied k ≡ added_by (referred_to q old.owner r) → new ≡ old → t.channel ≡ denied_channel k → AsksAt f p old new at kind (Err t)
+  asks_denied k t is same channel = stops_at t same (by (referred_to q old.owner r) refl is)
+    where
+      by : (x : Referred nat_cmp) → referred_to q old.owner r ≡ x → Denied k ≡ added_by x → asked_at (plainly f) f q at kind ≡ stops (trap t.channel)
+      by (granted y) e g = absurd (cc g)
+      by full e g = absurd (cc g)
+      by (denied j) e g = let one : k ≡ j = cc g in asks (denied j) e ∙ ap (λ (i : Kind). stops (trap (denied_channel i))) (sym one) ∙ ap (λ (n : ℕ). stops (trap n)) (sym channel)
+
+  pub asks_full : (t : Trap) → Full ≡ added_by (referred_to q old.owner r) → new ≡ old → t.channel ≡ DRUM_FULL → AsksAt f p old new at kind (Err t)
+  asks_full t is same channel = stops_at t same (by (referred_to q old.owner r) refl is)
+    where
+      by : (x : Referred nat_cmp) → referred_to q old.owner r ≡ x → Full ≡ added_by x → asked_at (plainly f) f q at kind ≡ stops (trap t.channel)
+      by (granted y) e g = absurd (cc g)
+      by (denied j) e g = absurd (cc g)
+      by full e g = asks full e ∙ ap (λ (n : ℕ). stops (trap n)) (sym channel)

@@ -1,12 +1,11 @@
 -- Block transfers in place.
-use Rattle.std.proofs.Common.{◌≡◌, ◌⊎◌, ◌≢◌, ℕ, zero, suc, ◌+◌, ◌%◌, ◌<◌, ◌≤◌, Bool, true, false, cond, List, [], ◌∷◌, Option, Some, None, refl, sym, ◌∙◌, ap, subst, inl, inr, arith}
+use Rattle.std.proofs.Common.{◌≡◌, ◌⊎◌, ◌≢◌, ℕ, zero, suc, ◌%◌, ◌<◌, ◌≤◌, Bool, true, false, cond, List, [], ◌∷◌, Some, None, refl, sym, ◌∙◌, ap, inl, inr, arith}
 use Rattle.std.specs.Prelude.{slice_set, length, ◌==◌}
-use Rattle.std.specs.Ordering.{nat_cmp}
 use Rattle.std.proofs.lemmas.Bool.{cases_lt}
 use Rattle.std.proofs.lemmas.List.{set-set}
 use borrow.Author.Tests.{eqb-true, eqb-false}
 use Rattle.outside.specs.declared.TheConstants.{PAGE_WORDS}
-use Rattle.word36.specs.Words.{right, left}
+use Rattle.word36.specs.Words.{right}
 use Rattle.plain_model.specs.declared.names.ForkName.{ForkName}
 use Rattle.plain_model.specs.declared.names.Kind.TheVariants.{Write}
 use Rattle.plain_model.specs.declared.names.TheConstants.{ACCUMULATORS}
@@ -22,7 +21,6 @@ use Rattle.plain_model.specs.Deeds.{Deed, before, behind_ac, deed_of, in_ac, mov
 use Rattle.plain_model.specs.Instructions.{finishes, with_word}
 use Rattle.ka10_unit.specs.declared.committed.Committed.{Committed}
 use Rattle.ka10_unit.specs.declared.ending.Quick.{Quick}
-use Rattle.ka10_unit.specs.Once.{After}
 use Rattle.ka10_unit.specs.Acts.{Instruction, one}
 use Rattle.ka10_table.specs.declared.families.Family.TheVariants as family
 use Rattle.ka10_table.specs.declared.families.OpMode.TheVariants.{Basic}

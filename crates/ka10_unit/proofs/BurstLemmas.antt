@@ -1,23 +1,23 @@
 -- Bursts, unit by unit.
-use Rattle.std.proofs.Common.{◌≡◌, ℕ, zero, suc, ◌+◌, ◌<◌, ◌^◌, Option, Some, None, refl, sym, ◌∙◌, ap, subst, add-one}
-use Rattle.std.specs.Prelude.{length}
-use Rattle.std.specs.Option.{option_and_then}
+use Rattle.std.proofs.Common.{◌≡◌, ℕ, ◌+◌, ◌<◌, ◌^◌, Option, Some, None, refl, ◌∙◌, ap, subst, add-one}
 use Rattle.std.specs.Ordering.{nat_cmp}
 use Rattle.plain_model.specs.declared.fork.Regs.{Regs}
 use Rattle.plain_model.specs.declared.map.SpaceHandle.{SpaceHandle}
 use Rattle.plain_model.specs.declared.names.ForkName.{ForkName}
-use Rattle.plain_model.specs.Outcome.{DrumWords}
 use Rattle.plain_model.specs.Pages.{PagesMeaning, HasSpace, StaysPut}
+use Rattle.plain_model.specs.Outcome.{DrumWords}
 use Rattle.plain_model.specs.State.{NumberedPages}
 use Rattle.ka10_unit.specs.declared.ending.Quick.{Quick}
 use Rattle.ka10_unit.specs.declared.ending.Quick.TheVariants as quick
-use Rattle.ka10_unit.specs.declared.ending.Burst.{Burst}
-use Rattle.ka10_unit.specs.declared.ending.End.{End}
 use Rattle.ka10_unit.specs.declared.ending.End.TheVariants as end
-use Rattle.ka10_unit.specs.Once.{After, once, in_a_row, unless_posted}
-use Rattle.ka10_unit.specs.InPlace.{InPlace, OneUnit}
-use Rattle.ka10_unit.specs.Bursts.{Came, InRow, SoFar, and_one_more}
+use Rattle.ka10_unit.specs.Once.{After, once, in_a_row}
+use Rattle.ka10_unit.specs.declared.fetch_page.FetchPage.{FetchPage}
+use Rattle.ka10_unit.specs.InPlace.{IfDone, InPlace}
+use Rattle.ka10_unit.specs.Fetches.{CanExecute, FetchedUnit, IsThere}
+use Rattle.ka10_unit.specs.Bursts.{InRow, SoFar, and_one_more}
 use Rattle.ka10_unit.proofs.Placing.{stays_put}
+use Rattle.ka10_unit.proofs.Finishing.{if_more}
+use Rattle.ka10_unit.proofs.Fetching.{has_none}
 
 module _ (f : ForkName) (p : NumberedPages) (regs : Regs) where
   row_none : in_a_row f 0 p regs ≡ Some (record { pages = p; regs = regs; post = None })
@@ -45,7 +45,6 @@ module _ {P : Type 0} (means : PagesMeaning P) (space : SpaceHandle) where
     forks = h.forks ∙ g.forks;
     serials = h.serials ∙ g.serials;
     most = h.most ∙ g.most;
-    single = h.single ∙ g.single;
   }
 
   of_fork : (s t : P) (f : ForkName) → StaysPut means s t → means.space s f ≡ Some space → means.space t f ≡ Some space
@@ -55,13 +54,29 @@ module _ {P : Type 0} (means : PagesMeaning P) (space : SpaceHandle) where
   pub space_stays : (s t : P) → HasSpace means s space → StaysPut means s t → HasSpace means t space
   space_stays s t h stays = record { fork = h.fork; is = of_fork s t h.fork stays h.is }
 
-  pub so_far_none : (s : P) (regs : Regs) → regs.pc < 2 ^ 18 → SoFar means space s s regs regs 0
-  so_far_none s regs pc = record { told = λ d f fits is. row_none f (means.plain s d) regs; fits = λ d fits. fits; stays = stays_put means s; pc = pc; accumulators = refl }
+  pub so_far_none : (s : P) (regs : Regs) (page : FetchPage) → page.length ≡ 0 → regs.pc < 2 ^ 18 → SoFar means space s s regs regs page 0
+  so_far_none s regs page none pc = record {
+    told = λ d f fits is. row_none f (means.plain s d) regs;
+    fetches = λ d f fits is at has. has_none page at none has;
+    there = λ at has. has_none page at none has;
+    fits = λ d fits. fits;
+    stays = stays_put means s;
+    pc = pc;
+    accumulators = refl;
+  }
 
-  module _ (old s t : P) (regs r after : Regs) (n : ℕ) (before : SoFar means space old s regs r n) where
-    pub so_far_more : InPlace means space (OneUnit r) s t r after quick.Done → SoFar means space old t regs after (n + 1)
-    so_far_more i = record {
-      told = λ d f fits is. row_more f (means.plain old d) regs n _ (means.plain t d) after (before.told d f fits is) (i.told d f (before.fits d fits) (of_fork old s f before.stays is));
+  module _ (old s t : P) (regs r after : Regs) (first page : FetchPage) (n : ℕ) (before : SoFar means space old s regs r first n) where
+    module _ (q : Quick) (i : InPlace means space (FetchedUnit r first page) s t r after q) where
+      -- the unit behind those before
+      one : (d : DrumWords) (f : ForkName) → means.fits old d → means.space old f ≡ Some space
+          → IfDone q (λ post. CanExecute f (means.plain t d) page × (once f (means.plain s d) r ≡ Some (record { pages = means.plain t d; regs = after; post = post })))
+      one d f fits is = if_more q _ _ (λ post u. u (before.fetches d f fits is)) (i.told d f (before.fits d fits) (of_fork old s f before.stays is))
+
+    pub so_far_more : InPlace means space (FetchedUnit r first page) s t r after quick.Done → IsThere means space t page → SoFar means space old t regs after page (n + 1)
+    so_far_more i there = record {
+      told = λ d f fits is. row_more f (means.plain old d) regs n _ (means.plain t d) after (before.told d f fits is) (one quick.Done i d f fits is).1;
+      fetches = λ d f fits is. (one quick.Done i d f fits is).0;
+      there = there;
       fits = λ d fits. i.fits d (before.fits d fits);
       stays = stays_on old s t before.stays i.stays;
       pc = i.pc;
@@ -69,31 +84,31 @@ module _ {P : Type 0} (means : PagesMeaning P) (space : SpaceHandle) where
     }
 
     module _ (most : ℕ) (less : n < most) where
-      pub ends_overflow : InPlace means space (OneUnit r) s t r after quick.Overflow → InRow means space most old t regs after (record { units = n; end = end.Overflow })
+      pub ends_overflow : InPlace means space (FetchedUnit r first page) s t r after quick.Overflow → InRow means space most old t regs after (record { units = n; end = end.Overflow })
       ends_overflow i = record {
         count = less;
-        told = λ d f fits is. one_more f (means.plain old d) regs n _ _ (before.told d f fits is) (i.told d f (before.fits d fits) (of_fork old s f before.stays is));
+        told = λ d f fits is. one_more f (means.plain old d) regs n _ _ (before.told d f fits is) (one quick.Overflow i d f fits is).1;
         fits = λ d fits. i.fits d (before.fits d fits);
         stays = stays_on old s t before.stays i.stays;
         pc = i.pc;
         accumulators = i.accumulators ∙ before.accumulators;
       }
 
-      pub ends_pushdown : InPlace means space (OneUnit r) s t r after quick.Pushdown → InRow means space most old t regs after (record { units = n; end = end.Pushdown })
+      pub ends_pushdown : InPlace means space (FetchedUnit r first page) s t r after quick.Pushdown → InRow means space most old t regs after (record { units = n; end = end.Pushdown })
       ends_pushdown i = record {
         count = less;
-        told = λ d f fits is. one_more f (means.plain old d) regs n _ _ (before.told d f fits is) (i.told d f (before.fits d fits) (of_fork old s f before.stays is));
+        told = λ d f fits is. one_more f (means.plain old d) regs n _ _ (before.told d f fits is) (one quick.Pushdown i d f fits is).1;
         fits = λ d fits. i.fits d (before.fits d fits);
         stays = stays_on old s t before.stays i.stays;
         pc = i.pc;
         accumulators = i.accumulators ∙ before.accumulators;
       }
 
-      pub ends_slow : InPlace means space (OneUnit r) s t r after quick.Slow → InRow means space most old t regs after (record { units = n; end = end.Slow })
+      pub ends_slow : InPlace means space (FetchedUnit r first page) s t r after quick.Slow → InRow means space most old t regs after (record { units = n; end = end.Slow })
       ends_slow i = let same = i.slow refl in rw (same.0, same.1) (record { count = less; told = before.told; fits = before.fits; stays = before.stays; pc = before.pc; accumulators = before.accumulators })
 
-  pub ends_most : (old s : P) (regs r : Regs) (most n : ℕ) → n ≡ most → SoFar means space old s regs r n → InRow means space most old s regs r (record { units = most; end = end.Most })
-  ends_most old s regs r most n is before = record {
+  pub ends_most : (old s : P) (regs r : Regs) (page : FetchPage) (most n : ℕ) → n ≡ most → SoFar means space old s regs r page n → InRow means space most old s regs r (record { units = most; end = end.Most })
+  ends_most old s regs r page most n is before = record {
     count = refl;
     told = λ d f fits h. subst (λ (k : ℕ). in_a_row f k (means.plain old d) regs ≡ Some (record { pages = means.plain s d; regs = r; post = None })) is (before.told d f fits h);
     fits = before.fits;

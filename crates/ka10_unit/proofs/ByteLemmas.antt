@@ -1,5 +1,5 @@
 -- Byte instructions in place.
-use Rattle.std.proofs.Common.{◌≡◌, ℕ, ◌+◌, ◌<◌, ◌≤◌, Bool, true, false, cond, List, Option, Some, None, refl, sym, ◌∙◌, ap, subst, arith}
+use Rattle.std.proofs.Common.{◌≡◌, ℕ, ◌+◌, ◌<◌, ◌≤◌, Bool, true, false, cond, List, Some, None, refl, sym, ◌∙◌, ap, subst, arith}
 use Rattle.std.specs.Prelude.{nat_le}
 use Rattle.std.specs.Ordering.{nat_cmp}
 use Rattle.ka10_table.specs.declared.families.Family.TheVariants as family
@@ -7,7 +7,6 @@ use Rattle.ka10_table.specs.declared.families.OpMode.TheVariants.{Basic}
 use Rattle.ka10_table.specs.declared.families.TableRow.{TableRow}
 use Rattle.ka10_table.specs.Rows.{row_of}
 use Rattle.plain_model.specs.declared.names.ForkName.{ForkName}
-use Rattle.plain_model.specs.declared.names.Kind.{Kind}
 use Rattle.plain_model.specs.declared.names.Kind.TheVariants.{Read}
 use Rattle.plain_model.specs.declared.fork.Regs.{Regs}
 use Rattle.plain_model.specs.declared.map.SpaceHandle.{SpaceHandle}
@@ -24,7 +23,7 @@ use Rattle.ka10_unit.specs.declared.bytes.ByteStep.{ByteStep}
 use Rattle.ka10_unit.specs.Bytes.{steps_of}
 use Rattle.ka10_unit.specs.ByteRests.{PointsTo, begun, byte_rest, deposited_word, depositing, loaded_byte, loading}
 use Rattle.ka10_unit.specs.Once.{After}
-use Rattle.ka10_unit.specs.Glide.{glide, is_ready, word_of, Takes, Addressed}
+use Rattle.ka10_unit.specs.Glide.{glide, is_ready, word_of, Takes}
 use Rattle.ka10_unit.specs.InPlace.{Addressee, InPlace, Rest, behind_address, ended, is_addressed}
 use Rattle.ka10_unit.proofs.Finishing.{few, for_all, never_slow}
 use Rattle.ka10_unit.proofs.Placing.{in_place_more}

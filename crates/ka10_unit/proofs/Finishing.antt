@@ -1,33 +1,31 @@
 -- How a deed ends a unit, done in place.
-use Rattle.std.proofs.Common.{◌≡◌, ℕ, ◌+◌, ◌/◌, ◌%◌, ◌<◌, ◌≤◌, Bool, true, false, cond, List, [], Option, Some, None, refl, sym, ◌∙◌, ap, subst, inl, inr, arith, Ordering}
-use Rattle.std.specs.Prelude.{nat_le, nat_lt, slice_set, slice_index}
+use Rattle.std.proofs.Common.{◌≡◌, ℕ, ◌+◌, ◌/◌, ◌%◌, ◌<◌, ◌≤◌, Bool, true, false, cond, List, [], Option, Some, None, refl, sym, ◌∙◌, ap, subst, inr, arith, Ordering}
+use Rattle.std.specs.Prelude.{nat_le, slice_set, slice_index}
 use Rattle.std.proofs.lemmas.Bool.Decides.{nat_tests}
 use Rattle.outside.specs.declared.TheConstants.{PAGE_WORDS}
 use Rattle.plain_model.specs.declared.names.ForkName.{ForkName}
 use Rattle.plain_model.specs.declared.names.Tty.{Tty}
 use Rattle.plain_model.specs.declared.names.Kind.{Kind}
-use Rattle.plain_model.specs.declared.names.Kind.TheVariants.{Read, Write, Execute}
+use Rattle.plain_model.specs.declared.names.Kind.TheVariants.{Read, Write}
 use Rattle.plain_model.specs.declared.names.TheConstants.{ACCUMULATORS}
 use Rattle.plain_model.specs.declared.fork.Regs.{Regs}
 use Rattle.plain_model.specs.declared.unit.TheConstants.{MOST_REFERENCES}
-use Rattle.plain_model.specs.declared.map.Touch.TheVariants.{Ready}
 use Rattle.plain_model.specs.State.{PlainPages}
 use Rattle.plain_model.specs.Outcome.{DrumWords}
-use Rattle.plain_model.specs.Pages.{PagesMeaning, IsReady, IsOwner}
-use Rattle.plain_model.specs.References.{Making, in_map, makings, slot_at, word_at, stored}
-use Rattle.plain_model.specs.Steps.{Steps, refers, widens, ends, is_accumulator}
+use Rattle.plain_model.specs.Pages.{PagesMeaning, IsReady}
+use Rattle.plain_model.specs.References.{in_map, makings, slot_at, word_at, stored}
+use Rattle.plain_model.specs.Steps.{Steps, is_accumulator}
 use Rattle.plain_model.specs.Deeds.{Deed, Store, nowhere, back, into, before}
-use Rattle.plain_model.specs.Instructions.{with_deed, finishes, finishes_by, takes}
+use Rattle.plain_model.specs.Instructions.{finishes, finishes_by, takes}
 use Rattle.plain_model.proofs.Touches.{ready_touch}
 use Rattle.ka10_unit.specs.declared.committed.Post.{Post}
 use Rattle.ka10_unit.specs.declared.committed.Post.TheVariants as post
 use Rattle.ka10_unit.specs.declared.committed.Committed.{Committed}
 use Rattle.ka10_unit.specs.declared.ending.Quick.{Quick}
 use Rattle.ka10_unit.specs.declared.ending.Quick.TheVariants as quick
-use Rattle.ka10_unit.specs.Once.{After}
 use Rattle.ka10_unit.specs.Commits.{Leaves, channel_of, store_at, stored_word}
 use Rattle.ka10_unit.specs.declared.operands.Destination.TheVariants as destination
-use Rattle.ka10_unit.specs.Glide.{makes_none, is_ready, word_of, glide, Takes}
+use Rattle.ka10_unit.specs.Glide.{makes_none, is_ready, glide, Takes}
 use Rattle.ka10_unit.specs.InPlace.{IfDone, ended}
 use Rattle.ka10_unit.specs.Stores.{IsNowhere, GoesTo}
 

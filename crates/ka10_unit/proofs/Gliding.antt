@@ -1,20 +1,20 @@
 -- Units whose references all go through as the pages are.
-use Rattle.std.proofs.Common.{◌≡◌, ℕ, zero, suc, ◌+◌, ◌-◌, ◌%◌, ◌<◌, ◌≤◌, Bool, true, false, cond, List, [], ◌∷◌, ◌++◌, Option, Some, None, length, refl, sym, ◌∙◌, ap, arith, Ordering}
-use Rattle.std.specs.Prelude.{nat_le, nat_lt, slice_set, slice_index, replicate}
+use Rattle.std.proofs.Common.{◌≡◌, ℕ, ◌+◌, ◌-◌, ◌%◌, ◌<◌, Bool, true, false, cond, List, [], ◌∷◌, ◌++◌, Option, Some, None, length, refl, sym, ◌∙◌, ap, arith, Ordering}
+use Rattle.std.specs.Prelude.{nat_le, slice_set, slice_index}
 use Rattle.std.specs.Option.{option_map_or}
 use Rattle.std.proofs.lemmas.List.{length-set, length-append, get_or-replicate}
 use Rattle.outside.specs.declared.TheConstants.{PAGE_WORDS}
 use Rattle.plain_model.specs.declared.names.ForkName.{ForkName}
 use Rattle.plain_model.specs.declared.names.PageName.{PageName}
 use Rattle.plain_model.specs.declared.names.Kind.{Kind}
-use Rattle.plain_model.specs.declared.names.Kind.TheVariants.{Read, Write, Execute}
+use Rattle.plain_model.specs.declared.names.Kind.TheVariants.{Write}
 use Rattle.plain_model.specs.declared.fork.Regs.{Regs}
 use Rattle.plain_model.specs.declared.unit.Reference.{Reference}
 use Rattle.plain_model.specs.declared.unit.TheConstants.{MOST_REFERENCES}
 use Rattle.plain_model.specs.State.{PlainPages}
-use Rattle.plain_model.specs.References.{Making, Spot, in_map, makings, slot_at, page_at, words_of, word_at, zero_words, reference}
-use Rattle.plain_model.specs.Steps.{Steps, refers, widens, keeps, ends, traps, calls, is_accumulator, Asked, goes, asked_at, Progress, Planned, run, begun, plainly, plain_asked, goes_on, seen, word_taken, referred, widened}
-use Rattle.plain_model.specs.Instructions.{instruction, execute}
+use Rattle.plain_model.specs.References.{Making, in_map, makings, slot_at, page_at, words_of, word_at, zero_words}
+use Rattle.plain_model.specs.Steps.{Steps, refers, widens, keeps, ends, traps, calls, is_accumulator, goes, asked_at, Progress, run, plainly, plain_asked, seen, word_taken}
+use Rattle.plain_model.specs.Instructions.{instruction}
 use Rattle.plain_model.proofs.Touches.{reference_stays}
 use Rattle.ka10_unit.specs.Once.{After, once, went_through}
 use Rattle.ka10_unit.specs.Glide.{makes_none, is_ready, word_of, glide}
@@ -25,7 +25,7 @@ no_making (Some []) h = refl
 no_making (Some (m ∷ ms)) h = absurd (cc h)
 
 -- one that goes through was asked for
-through : {X : Type 0} (b r : Bool) (g : Option X) (x : X) → cond b None (cond r g None) ≡ Some x → (b ≡ false) × (r ≡ true) × (g ≡ Some x)
+pub through : {X : Type 0} (b r : Bool) (g : Option X) (x : X) → cond b None (cond r g None) ≡ Some x → (b ≡ false) × (r ≡ true) × (g ≡ Some x)
 through true r g x h = absurd (cc h)
 through false true g x h = (refl, refl, h)
 through false false g x h = absurd (cc h)

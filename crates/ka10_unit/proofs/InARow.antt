@@ -1,11 +1,11 @@
 -- Instructions in a row.
-use Rattle.std.proofs.Common.{◌≡◌, ◌≢◌, ◌⊎◌, inl, inr, ℕ, zero, suc, ◌+◌, ◌-◌, ◌*◌, ◌/◌, ◌%◌, ◌^◌, ◌<◌, ◌≤◌, Bool, true, false, cond, refl, sym, ◌∙◌, ap, arith}
-use Rattle.std.specs.Prelude.{◌==◌, nat_le, if◌then◌else◌}
+use Rattle.std.proofs.Common.{◌≡◌, ◌≢◌, ◌⊎◌, inl, inr, ℕ, zero, suc, ◌+◌, ◌-◌, ◌^◌, ◌<◌, ◌≤◌, Bool, true, false, refl, sym, ◌∙◌, ap, arith}
+use Rattle.std.specs.Prelude.{◌==◌, if◌then◌else◌}
 use Rattle.std.proofs.lemmas.Bool.Decides.{nat_tests, eqb_tells}
 use Rattle.word36.specs.Words.{left, right, joined, is_negative}
 use Rattle.plain_model.specs.declared.fork.Regs.{Regs}
 use Rattle.plain_model.specs.Deeds.{up, down, halves_up, next_pc, pc_word}
-use Rattle.ka10_unit.specs.Laws.{ups, vector, GoesOver, Moving, moved_one, moved, CopiesBlock}
+use Rattle.ka10_unit.specs.Laws.{ups, vector, GoesOver, Moving, moved, CopiesBlock}
 
 -- one word fewer behind one word more is as many
 pub down_up : (a : ℕ) → a < 2 ^ 36 → down (up a) ≡ a

@@ -4,19 +4,19 @@ use Rattle.std.specs.Prelude.{Ok, Err}
 use Rattle.plain_model.specs.declared.channel.TheConstants.{ILLEGAL_INSTRUCTION}
 use Rattle.plain_model.specs.declared.names.ForkName.{ForkName}
 use Rattle.plain_model.specs.declared.names.Kind.TheVariants.{Read}
-use Rattle.plain_model.specs.State.{NumberedPages}
 use Rattle.plain_model.specs.Steps.{refers, run}
 use Rattle.plain_model.specs.Addressing.{address, address_within, indexed, is_indirect, last_taken}
 use Rattle.ka10_unit.specs.declared.addresses.Address.{Address}
 use Rattle.ka10_unit.specs.declared.taken.Taken.{Taken}
 use Rattle.ka10_unit.specs.declared.taken.Trap.{Trap}
+use Rattle.ka10_unit.specs.Gathers.{Framed}
 use Rattle.ka10_unit.specs.Taking.{Follows, Stands}
 use Rattle.ka10_unit.specs.Planning.{Leads, reached, reached_within}
 
 one_more : (n i : ℕ) → i < n → n - i ≡ suc (n - (i + 1))
 one_more n i h = omega arith
 
-module _ (f : ForkName) (p : NumberedPages) (ac : List ℕ) where
+module _ (f : ForkName) (p : Framed) (ac : List ℕ) where
   -- nothing is taken yet
   pub leads_none : (t : Taken) (w : ℕ) → Stands f p t → Leads f p ac t t (reached ac w) (reached_within 17 ac w)
   unfolding address

@@ -6,9 +6,8 @@ pub mod Finishing
 pub mod Placing
 pub mod IndirectWords
 pub mod Units
+pub mod Fetching
 pub mod BurstLemmas
-pub mod Singles
-pub mod Growing
 pub mod Adding
 pub mod Referring
 pub mod Seeing

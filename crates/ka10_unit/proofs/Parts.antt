@@ -4,7 +4,6 @@ use Rattle.std.specs.Prelude.{Result, Ok, Err}
 use Rattle.plain_model.specs.declared.names.ForkName.{ForkName}
 use Rattle.plain_model.specs.declared.names.Kind.TheVariants.{Read}
 use Rattle.plain_model.specs.declared.fork.Regs.{Regs}
-use Rattle.plain_model.specs.State.{NumberedPages}
 use Rattle.plain_model.specs.Steps.{Steps, refers}
 use Rattle.plain_model.specs.Deeds.{Deed, nowhere, back, taken_of, deed_of}
 use Rattle.plain_model.specs.Instructions.{does, does_byte, does_pointer, finishes, takes}
@@ -16,11 +15,12 @@ use Rattle.ka10_unit.specs.declared.ends.Ending.{Ending}
 use Rattle.ka10_unit.specs.declared.taken.Taken.{Taken}
 use Rattle.ka10_unit.specs.declared.taken.Trap.{Trap}
 use Rattle.ka10_unit.specs.Commits.{Leaves, stored_word, store_at}
+use Rattle.ka10_unit.specs.Gathers.{Framed}
 use Rattle.ka10_unit.specs.Taking.{Follows}
 use Rattle.ka10_unit.specs.Planning.{Ends, IsDone}
 use Rattle.ka10_unit.proofs.FinishedBy.{only_blocks}
 
-module _ (f : ForkName) (p : NumberedPages) (ac : List ℕ) where
+module _ (f : ForkName) (p : Framed) (ac : List ℕ) where
   -- a part that stops the unit, and one behind which it goes on
   pub then_stops : {A : Type 0} (t new : Taken) (part : (A → Steps) → Steps) (rest : A → Steps) (stop : Trap) → Follows f p ac t new part (Err stop) → Ends f p ac t new (part rest) (Err stop)
   then_stops t new part rest stop h = record { stands = h.stands; put = tt; runs = h.runs rest }

@@ -1,40 +1,37 @@
 -- Units and their rests in place.
-use Rattle.std.proofs.Common.{◌≡◌, ◌⊎◌, ℕ, ◌+◌, ◌/◌, ◌%◌, ◌<◌, ◌≤◌, ◌^◌, Bool, true, false, cond, List, [], Option, Some, None, refl, sym, ◌∙◌, ap, subst, inl, inr, arith}
-use Rattle.std.specs.Prelude.{slice_set, slice_index, length}
+use Rattle.std.proofs.Common.{◌≡◌, ◌⊎◌, ℕ, ◌+◌, ◌<◌, ◌≤◌, ◌^◌, true, List, Option, Some, None, refl, sym, ◌∙◌, ap, subst, inl, inr, arith}
+use Rattle.std.specs.Prelude.{length}
 use Rattle.std.proofs.lemmas.List.{length-set}
 use Rattle.std.specs.Ordering.{nat_cmp}
 use Rattle.std.proofs.lemmas.Bool.{cases_lt}
-use Rattle.outside.specs.declared.TheConstants.{PAGE_WORDS}
 use Rattle.word36.specs.Words.{joined}
 use Rattle.ka10_table.specs.declared.families.Family.{Family}
 use Rattle.ka10_table.specs.declared.families.Family.TheVariants.{ByteOp}
 use Rattle.ka10_table.specs.declared.families.TableRow.{TableRow}
 use Rattle.ka10_table.specs.Rows.{row_of}
 use Rattle.plain_model.specs.declared.names.ForkName.{ForkName}
-use Rattle.plain_model.specs.declared.names.Kind.TheVariants.{Read, Write, Execute}
+use Rattle.plain_model.specs.declared.names.Kind.TheVariants.{Write}
 use Rattle.plain_model.specs.declared.names.TheConstants.{ACCUMULATORS}
 use Rattle.plain_model.specs.declared.fork.Regs.{Regs}
 use Rattle.plain_model.specs.declared.map.SpaceHandle.{SpaceHandle}
 use Rattle.plain_model.specs.State.{NumberedPages}
 use Rattle.plain_model.specs.Outcome.{DrumWords}
 use Rattle.plain_model.specs.Pages.{PagesMeaning, StaysPut}
-use Rattle.plain_model.specs.References.{in_map, slot_at, stored}
-use Rattle.plain_model.specs.Deeds.{Deed, deed_of, in_ac, taken_by, taken_of}
+use Rattle.plain_model.specs.Deeds.{Deed, in_ac, taken_of}
 use Rattle.plain_model.specs.Instructions.{does, finishes, with_word}
-use Rattle.ka10_unit.specs.declared.committed.Post.{Post}
 use Rattle.ka10_unit.specs.declared.committed.Committed.{Committed}
 use Rattle.ka10_unit.specs.declared.ending.Quick.{Quick}
 use Rattle.ka10_unit.specs.declared.ending.Quick.TheVariants as quick
 use Rattle.ka10_unit.specs.Commits.{Leaves, channel_of}
 use Rattle.ka10_unit.specs.Acts.{Instruction}
-use Rattle.ka10_unit.specs.Glide.{is_ready, glide, Takes}
+use Rattle.ka10_unit.specs.Glide.{is_ready, glide}
 use Rattle.ka10_unit.specs.Targets.{unstored, target_of, place_of}
 use Rattle.ka10_unit.proofs.Storing.{stores_at, stored_nowhere, stored_to}
 use Rattle.ka10_unit.specs.Once.{After}
 use Rattle.ka10_unit.specs.InPlace.{Does, IsOwnRow, deed_in, taken_in, IfDone, InPlace, Finish, Addressee, is_addressed, is_deed, behind_address, ended}
 use Rattle.ka10_unit.specs.Spots.{Stored, StoredIf}
 use Rattle.ka10_unit.specs.Stores.{IsNowhere, GoesTo, IsOperand}
-use Rattle.ka10_unit.proofs.Finishing.{if_ended, if_more, never_slow, for_all, ends_bare, ends_low, ends_high, takes_none, takes_some, no_word}
+use Rattle.ka10_unit.proofs.Finishing.{if_ended, never_slow, for_all, ends_bare, ends_low, ends_high, takes_none, takes_some, no_word}
 
 -- no accumulator more or less
 pub length_with : (ac : List ℕ) (i : ℕ) (w : Option ℕ) → length (with_word ac i w) ≡ length ac
@@ -44,7 +41,7 @@ length_with ac i (Some w) = length-set ac i w
 module _ {P : Type 0} (means : PagesMeaning P) where
   -- pages that stay as they are
   pub stays_put : (s : P) → StaysPut means s s
-  stays_put s = record { touched = refl; scene = refl; space = refl; place = refl; lives = refl; forks = refl; serials = refl; most = refl; single = refl }
+  stays_put s = record { touched = refl; scene = refl; space = refl; place = refl; lives = refl; forks = refl; serials = refl; most = refl }
 
   module _ (space : SpaceHandle) where
     -- what isn't done here

@@ -1,5 +1,5 @@
--- The page of an address asked for.
-use Rattle.std.proofs.Common.{◌≡◌, ℕ, ◌+◌, ◌-◌, ◌/◌, ◌<◌, ◌≤◌, true, false, cond, List, [], ◌∷◌, ◌++◌, length, Option, None, Some, refl, sym, ◌∙◌, ap, arith, length-append}
+-- One reference of a unit.
+use Rattle.std.proofs.Common.{◌≡◌, ℕ, ◌+◌, ◌-◌, ◌<◌, ◌≤◌, true, false, List, [], ◌∷◌, ◌++◌, length, Option, None, Some, refl, sym, ◌∙◌, ap, arith, length-append}
 use Rattle.std.specs.Prelude.{⊤, Result, Ok, Err, nat_le, slice_set}
 use Rattle.std.proofs.lemmas.Bool.Decides.{nat_tests}
 use Rattle.std.specs.Ordering.{nat_cmp}
@@ -7,41 +7,13 @@ use Rattle.plain_model.specs.declared.names.ForkName.{ForkName}
 use Rattle.plain_model.specs.declared.names.Kind.{Kind}
 use Rattle.plain_model.specs.declared.names.Kind.TheVariants.{Write}
 use Rattle.plain_model.specs.State.{NumberedPages}
-use Rattle.plain_model.specs.References.{Referred, granted, denied, full, makings, in_map, slot_at}
-use Rattle.plain_model.specs.Pages.{IsOwner, AreSingle}
-use Rattle.plain_model.specs.Whole.{AreWhole}
-use Rattle.plain_model.specs.Steps.{is_accumulator, plainly, plain_asked, goes, Progress, refers, referred, run, widened, word_taken}
+use Rattle.plain_model.specs.Steps.{Progress, refers, referred, run, widened, word_taken}
 use Rattle.plain_model.specs.declared.channel.TheConstants.{ILLEGAL_INSTRUCTION}
 use Rattle.plain_model.specs.declared.unit.Put.{Put}
 use Rattle.ka10_unit.specs.declared.taken.Taken.{Taken}
 use Rattle.ka10_unit.specs.declared.taken.Trap.{Trap}
-use Rattle.ka10_unit.specs.declared.gather.Asking.{Asking}
-use Rattle.ka10_unit.specs.declared.gather.Added.TheVariants.{Went}
-use Rattle.ka10_unit.specs.Gathers.{asked_for, left_by, added_by, after_all, all_make, AddsTo}
+use Rattle.ka10_unit.specs.Gathers.{Framed}
 use Rattle.ka10_unit.specs.Taking.{AsksAt, CanPut, Follows, IsOpenAt, Stands, pages_so_far, progress, widened_by}
-use Rattle.ka10_unit.proofs.Adding.{went_gone}
-
--- it goes through
-pub asks_high : (f : ForkName) → IsOwner f.tty → (p : NumberedPages) → AreWhole p → AreSingle p.maps → (old new : List Asking) → all_make f p old ≡ true → (at : ℕ) (kind : Kind) (x : ⊤) → is_accumulator at ≡ false
-    → AddsTo f p old new (record { page = at / 512; kind = kind }) Went → AsksAt f p old new at kind (Ok x)
-asks_high f own p whole single old new all at kind x high a =
-    let r : Asking = record { page = at / 512; kind = kind } in
-    let q : NumberedPages = after_all f p old in
-    let gone = went_gone f own p whole single old all r new a in
-    record {
-      all = a.all;
-      is = ap (λ b. cond b (goes q) (plainly f q (slot_at f at) kind)) high ∙ granted_goes (asked_for f q r) a.is (after_all f p new) a.leaves;
-      page = λ y is low. gone.page;
-      open_at = λ y is writes low. ap (λ k. makings (after_all f p new) (in_map (slot_at f at)) k) (sym writes) ∙ gone.again;
-      still = λ b h. gone.still (slot_at f b) h;
-    }
-  where
-    granted_goes : (x : Referred nat_cmp) → Went ≡ added_by x → (y : NumberedPages) → y ≡ left_by (after_all f p old) x → plain_asked x ≡ goes y
-    granted_goes (granted z) h y is = ap goes (sym is)
-    granted_goes (denied kind) h y is = absurd (cc h)
-    granted_goes full h y is = absurd (cc h)
-
--- ---- one reference of a unit
 
 at_least : (m n : ℕ) → m ≤ n → nat_le m n ≡ true
 at_least m n h = grind (arith, nat_tests)
@@ -54,9 +26,9 @@ put_still : (f : ForkName) (q q' : NumberedPages) (kept : Option Put) → ((a : 
 put_still f q q' None still h = tt
 put_still f q q' (Some put) still h = still put.at h
 
-module _ (f : ForkName) (p : NumberedPages) (ac : List ℕ) where
+module _ (f : ForkName) (p : Framed) (ac : List ℕ) where
   stands_still : (t new : Taken) (at : ℕ) (kind : Kind) (result : Result ⊤ Trap) → Stands f p t → AsksAt f p t.gather new.gather at kind result → new.kept ≡ t.kept → Stands f p new
-  stands_still t new at kind result s asked kept = record { all = asked.all; kept = rw kept (put_still f (pages_so_far f p t) (pages_so_far f p new) t.kept asked.still s.kept) }
+  stands_still t new at kind result s asked kept = record { gathers = asked.gathers; kept = rw kept (put_still f (pages_so_far p t) (pages_so_far p new) t.kept asked.still s.kept) }
 
   -- the 17th
   pub refer_full : (t : Taken) (at : ℕ) (kind : Kind) → Stands f p t → 16 ≤ length t.refs.items → Follows f p ac t t (refers at kind) (Err (record { channel = ILLEGAL_INSTRUCTION }))
@@ -70,11 +42,11 @@ module _ (f : ForkName) (p : NumberedPages) (ac : List ℕ) where
 
   -- a reference that goes through
   pub refer_goes : (t new : Taken) (at w : ℕ) (kind : Kind) (x : ⊤) → Stands f p t → length t.refs.items < 16 → AsksAt f p t.gather new.gather at kind (Ok x) → new.refs.items ≡ t.refs.items ++ record { address = at; kind = kind } ∷ [] → new.kept ≡ t.kept
-      → w ≡ word_taken f (progress f p ac new) at → Follows f p ac t new (refers at kind) (Ok w)
+      → w ≡ word_taken f (progress p ac new) at → Follows f p ac t new (refers at kind) (Ok w)
   unfolding run
   refer_goes t new at w kind x s room asked refs kept word =
-      let now : progress f p ac new ≡ referred (progress f p ac t) at kind (pages_so_far f p new) = rw (refs, kept) refl in
-      let there : w ≡ word_taken f (referred (progress f p ac t) at kind (pages_so_far f p new)) at = word ∙ ap (λ (y : Progress nat_cmp). word_taken f y at) now in
+      let now : progress p ac new ≡ referred (progress p ac t) at kind (pages_so_far p new) = rw (refs, kept) refl in
+      let there : w ≡ word_taken f (referred (progress p ac t) at kind (pages_so_far p new)) at = word ∙ ap (λ (y : Progress nat_cmp). word_taken f y at) now in
       record { stands = stands_still t new at kind (Ok x) s asked kept; runs = λ next. rw (at_most 16 (length t.refs.items) room, asked.is, there, now) refl }
 
   pub widen_stops : (t new : Taken) (at : ℕ) (stop : Trap) → Stands f p t → AsksAt f p t.gather new.gather at Write (Err stop) → new.kept ≡ t.kept → Follows f p ac t new (widened_by at) (Err stop)
@@ -85,7 +57,7 @@ module _ (f : ForkName) (p : NumberedPages) (ac : List ℕ) where
       → Follows f p ac t new (widened_by at) (Ok x)
   unfolding run
   widen_goes t new at x y s asked refs kept =
-      let now : progress f p ac new ≡ widened (progress f p ac t) at (pages_so_far f p new) = rw (refs, kept) refl in
+      let now : progress p ac new ≡ widened (progress p ac t) at (pages_so_far p new) = rw (refs, kept) refl in
       record { stands = stands_still t new at Write (Ok y) s asked kept; runs = λ next. rw (asked.is, now) refl }
 
 -- the last item of a list replaced

@@ -9,7 +9,6 @@ use Rattle.plain_model.specs.declared.channel.TheConstants.{ILLEGAL_INSTRUCTION}
 use Rattle.plain_model.specs.declared.names.ForkName.{ForkName}
 use Rattle.plain_model.specs.declared.names.Kind.TheVariants.{Execute, Write}
 use Rattle.plain_model.specs.declared.fork.Regs.{Regs}
-use Rattle.plain_model.specs.State.{NumberedPages}
 use Rattle.plain_model.specs.Steps.{Steps, refers, keeps, traps, calls, run, begun}
 use Rattle.plain_model.specs.Addressing.{opcode, ac_field}
 use Rattle.plain_model.specs.Instructions.{execute, executes, does, instruction, local_word, LOCAL_CALL, LOCAL_HANDLER}
@@ -22,7 +21,8 @@ use Rattle.ka10_unit.specs.declared.plans.Planned.{Planned}
 use Rattle.ka10_unit.specs.declared.plans.Planned.TheVariants as planned
 use Rattle.ka10_unit.specs.declared.taken.Taken.{Taken}
 use Rattle.ka10_unit.specs.declared.taken.Trap.{Trap}
-use Rattle.ka10_unit.specs.Gathers.{after_all, all_make}
+use Rattle.page_gather.specs.Gathering.{Gathers, after_all}
+use Rattle.ka10_unit.specs.Gathers.{Framed}
 use Rattle.ka10_unit.specs.Taking.{CanWrite, Follows, Stands, progress}
 use Rattle.ka10_unit.specs.Planning.{Concludes, Ends, Plans, StepsOn, as_step, calls_local, does_at, is_illegal, reached}
 
@@ -99,7 +99,7 @@ does_ordinary Test m x l b row is_local regs w a next = refl
 one_less : (n : ℕ) → 0 < n → n ≡ suc (n - 1)
 one_less n h = omega arith
 
-module _ (f : ForkName) (p : NumberedPages) (ac : List ℕ) where
+module _ (f : ForkName) (p : Framed) (ac : List ℕ) where
   -- ---- one word
 
   pub steps_stop : {A : Type 0} (t new : Taken) (part : (A → Steps) → Steps) (rest : (Bool → ℕ → Steps) → A → Steps) (stop : Trap) → Follows f p ac t new part (Err stop) → StepsOn f p ac t new (λ next. part (rest next)) (Err stop)
@@ -122,7 +122,7 @@ module _ (f : ForkName) (p : NumberedPages) (ac : List ℕ) where
 
   -- the word of a local call is kept
   pub local_stands : (t : Taken) (w v : ℕ) → Stands f p t → CanWrite {A = ℕ} f p t LOCAL_CALL (Ok v) → Stands f p (record t { kept = Some (record { at = LOCAL_CALL; word = w }) })
-  local_stands t w v s may = record { all = s.all; kept = may refl }
+  local_stands t w v s may = record { gathers = s.gathers; kept = may refl }
 
   pub local_goes : (t mid new : Taken) (w e v : ℕ) (result : Result Step Trap) → Follows f p ac t mid (refers LOCAL_CALL Write) (Ok v)
       → StepsOn f p ac (record mid { kept = Some (record { at = LOCAL_CALL; word = local_word w e }) }) new (λ next. refers LOCAL_HANDLER Execute (next true)) result → StepsOn f p ac t new (calls_local w e) result
@@ -140,7 +140,7 @@ module _ (f : ForkName) (p : NumberedPages) (ac : List ℕ) where
         → StepsOn f p ac t new (executes row.family row is_local regs w) result
     takes_address t new result is h = record { stands = h.stands; put = h.put; runs = λ next. rw (executes_is row.family row is_local regs w next, is) (h.runs next) }
 
-module _ (f : ForkName) (p : NumberedPages) (regs : Regs) where
+module _ (f : ForkName) (p : Framed) (regs : Regs) where
   -- ---- all words
 
   pub out_of_words : (t : Taken) (left w : ℕ) (is_local : Bool) → left ≡ 0 → Stands f p t → Concludes f p regs.ac t t (execute left is_local regs w) (planned.Trap ILLEGAL_INSTRUCTION)
@@ -168,18 +168,17 @@ module _ (f : ForkName) (p : NumberedPages) (regs : Regs) where
   -- ---- the fetch
 
   -- nothing is taken
-  pub none_stands : (t : Taken) → t.gather ≡ [] → t.kept ≡ None → Stands f p t
-  unfolding all_make
-  none_stands t gather kept = record { all = rw gather refl; kept = rw kept tt }
+  pub none_stands : (t : Taken) → Gathers p.pages p.scene t.gather → t.kept ≡ None → Stands f p t
+  none_stands t gathers kept = record { gathers = gathers; kept = rw kept tt }
 
-  none_begun : (t : Taken) → t.gather ≡ [] → t.refs.items ≡ [] → t.kept ≡ None → progress f p regs.ac t ≡ begun p regs.ac
+  none_begun : (t : Taken) → t.gather.references ≡ [] → t.refs.items ≡ [] → t.kept ≡ None → progress p regs.ac t ≡ begun p.pages regs.ac
   unfolding after_all
   none_begun t gather refs kept = rw (gather, refs, kept) refl
 
-  pub plan_stops : (t new : Taken) (e : Trap) → t.gather ≡ [] → t.refs.items ≡ [] → t.kept ≡ None → Follows f p regs.ac t new (refers regs.pc Execute) (Err e) → Plans f p regs new (planned.Trap e.channel)
+  pub plan_stops : (t new : Taken) (e : Trap) → t.gather.references ≡ [] → t.refs.items ≡ [] → t.kept ≡ None → Follows f p regs.ac t new (refers regs.pc Execute) (Err e) → Plans f p regs new (planned.Trap e.channel)
   unfolding instruction
   plan_stops t new e gather refs kept h = record { stands = h.stands; put = tt; is = rw (← none_begun t gather refs kept) (h.runs (execute 17 false regs)) }
 
-  pub plan_goes : (t mid new : Taken) (w : ℕ) (result : Planned) → t.gather ≡ [] → t.refs.items ≡ [] → t.kept ≡ None → Follows f p regs.ac t mid (refers regs.pc Execute) (Ok w) → Concludes f p regs.ac mid new (execute 17 false regs w) result → Plans f p regs new result
+  pub plan_goes : (t mid new : Taken) (w : ℕ) (result : Planned) → t.gather.references ≡ [] → t.refs.items ≡ [] → t.kept ≡ None → Follows f p regs.ac t mid (refers regs.pc Execute) (Ok w) → Concludes f p regs.ac mid new (execute 17 false regs w) result → Plans f p regs new result
   unfolding instruction
   plan_goes t mid new w result gather refs kept h k = record { stands = k.stands; put = k.put; is = rw (← none_begun t gather refs kept) (h.runs (execute 17 false regs) ∙ k.runs) }

@@ -1,20 +1,16 @@
 -- Where each instruction stores.
-use Rattle.std.proofs.Common.{◌≡◌, ℕ, ◌-◌, ◌^◌, ◌<◌, ◌≤◌, ◌⊎◌, Bool, true, false, cond, Option, Some, None, refl, sym, ◌∙◌, subst, inl, inr, arith, ℤ}
+use Rattle.std.proofs.Common.{◌≡◌, ℕ, ◌-◌, ◌^◌, Bool, true, false, Option, Some, None, refl, subst}
 use Rattle.std.specs.Prelude.{nat_lt, ◌==◌}
-use Rattle.std.proofs.lemmas.Bool.Decides.{nat_tests}
-use Rattle.word36.specs.declared.opcodes.TheConstants.{MOVE, MOVS, MOVN, MOVM, IMUL, MUL, IDIV, DIV, ASH, ADD, SUB, CAI}
-use Rattle.word36.specs.Arithmetic.{Outcome, arithmetic, added, divided, is_divisible, long}
-use Rattle.word36.specs.Words.{signed, right}
+use Rattle.word36.specs.Arithmetic.{Outcome, arithmetic, added}
+use Rattle.word36.specs.Words.{right}
 use Rattle.ka10_table.specs.declared.families.Family.{Family}
 use Rattle.ka10_table.specs.declared.families.Family.TheVariants.{Illegal, Local, Monitor, ByteOp, Move, Imul, Mul, Idiv, Div, Shift, Jffo, DoubleShift, Exch, Blt, Aobj, Jrst, Jfcl, Xct, Pushj, PushPop, Popj, JsrJsp, JsaJra, AddSub, Compare, JumpSkip, AddOne, SubOne, Boolean, Half, Test}
 use Rattle.ka10_table.specs.declared.families.OpMode.{OpMode}
 use Rattle.ka10_table.specs.declared.families.OpMode.TheVariants.{Basic, Immediate, Memory, Both, Own}
 use Rattle.ka10_table.specs.declared.families.TableRow.{TableRow}
-use Rattle.ka10_table.specs.Rows.{row_of, line_of, IsInLine}
-use Rattle.ka10_table.proofs.Listed.{row_in_line}
 use Rattle.plain_model.specs.declared.fork.Regs.{Regs}
-use Rattle.plain_model.specs.Deeds.{Deed, Store, nowhere, back, into, before, deed_of, done_by, in_ac, behind_ac, operated, moves, by_mode, steps_by, jumps_or_skips, pushes_or_pops, calls_by_word, calls_by_accumulator, moves_half, up, counted_word}
-use Rattle.ka10_unit.specs.Stores.{IsNowhere, GoesTo, IsBefore}
+use Rattle.plain_model.specs.Deeds.{Deed, deed_of, done_by, in_ac, behind_ac, operated, moves, by_mode, steps_by, jumps_or_skips, pushes_or_pops, calls_by_word, calls_by_accumulator, moves_half, up, counted_word}
+use Rattle.ka10_unit.specs.Stores.{IsNowhere, GoesTo}
 use Rattle.ka10_unit.specs.Targets.{Target, unstored, operand, top, block, target_of, target_by, by_mode_at, by_eight, StoresAt, place_of}
 
 -- an operation stores its result by its mode, if it gives one

@@ -17,6 +17,7 @@ use Rattle.ka10_unit.specs.declared.ends.Ending.{Ending}
 use Rattle.ka10_unit.specs.declared.taken.Taken.{Taken}
 use Rattle.ka10_unit.specs.declared.taken.Trap.{Trap}
 use Rattle.ka10_unit.specs.Commits.{channel_of, store_at}
+use Rattle.ka10_unit.specs.Gathers.{Framed}
 use Rattle.ka10_unit.specs.Taking.{CanPut, CanWrite, Follows, IsOpenAt, Stands, pages_so_far, progress, widened_by}
 use Rattle.ka10_unit.specs.Planning.{Ends, end_of}
 
@@ -49,7 +50,7 @@ end_bare x regs regs' post post' r n q e d =
 
 -- ---- the operand
 
-module _ (f : ForkName) (p : NumberedPages) (ac : List ℕ) where
+module _ (f : ForkName) (p : Framed) (ac : List ℕ) where
   pub takes_none : (t : Taken) (e w : ℕ) → Stands f p t → w ≡ joined 0 e → Follows f p ac t t (takes None e) (Ok w)
   unfolding takes
   takes_none t e w s is =
@@ -80,8 +81,8 @@ module _ (f : ForkName) (p : NumberedPages) (ac : List ℕ) where
     unfolding finishes run
     ends_nowhere t x s store is = record {
       stands = s;
-      put = put_of (pages_so_far f p t) x (record { regs = after; put = None; post = deed.post }) is tt;
-      runs = rw store (ap (done (progress f p ac t)) (sym is));
+      put = put_of (pages_so_far p t) x (record { regs = after; put = None; post = deed.post }) is tt;
+      runs = rw store (ap (done (progress p ac t)) (sym is));
     }
 
     -- the word that was taken is replaced
@@ -90,8 +91,8 @@ module _ (f : ForkName) (p : NumberedPages) (ac : List ℕ) where
     unfolding finishes run
     ends_back t new x at w y store asked may is = record {
       stands = asked.stands;
-      put = put_of (pages_so_far f p new) x (storing after at w deed.post) is (storing_put (pages_so_far f p new) after at w deed.post may);
-      runs = rw store (asked.runs (λ z. ends (storing after at w deed.post)) ∙ ap (done (progress f p ac new)) (sym is));
+      put = put_of (pages_so_far p new) x (storing after at w deed.post) is (storing_put (pages_so_far p new) after at w deed.post may);
+      runs = rw store (asked.runs (λ z. ends (storing after at w deed.post)) ∙ ap (done (progress p ac new)) (sym is));
     }
 
     pub stops_back : (t new : Taken) (stop : Trap) (at w : ℕ) → deed.store ≡ back at w → Follows f p ac t new (widened_by at) (Err stop) → Ends f p ac t new (finishes old n deed) (Err stop)
@@ -104,8 +105,8 @@ module _ (f : ForkName) (p : NumberedPages) (ac : List ℕ) where
     unfolding finishes run
     ends_into t new x at w v store asked may is = record {
       stands = asked.stands;
-      put = put_of (pages_so_far f p new) x (storing after at w deed.post) is (storing_put (pages_so_far f p new) after at w deed.post may);
-      runs = rw store (asked.runs (λ z. ends (storing after at w deed.post)) ∙ ap (done (progress f p ac new)) (sym is));
+      put = put_of (pages_so_far p new) x (storing after at w deed.post) is (storing_put (pages_so_far p new) after at w deed.post may);
+      runs = rw store (asked.runs (λ z. ends (storing after at w deed.post)) ∙ ap (done (progress p ac new)) (sym is));
     }
 
     pub stops_into : (t new : Taken) (stop : Trap) (at w : ℕ) → deed.store ≡ into at w → Follows f p ac t new (refers at Write) (Err stop) → Ends f p ac t new (finishes old n deed) (Err stop)
@@ -139,8 +140,8 @@ module _ (f : ForkName) (p : NumberedPages) (ac : List ℕ) where
       unfolding finishes run
       ends_before t new x v ne store asked may is = record {
         stands = asked.stands;
-        put = put_of (pages_so_far f p new) x (storing after at w deed.post) is (storing_put (pages_so_far f p new) after at w deed.post may);
-        runs = rw store (asked.runs (λ z. ends (storing_first old n deed at w)) ∙ ap (done (progress f p ac new)) (first_other ne ∙ sym is));
+        put = put_of (pages_so_far p new) x (storing after at w deed.post) is (storing_put (pages_so_far p new) after at w deed.post may);
+        runs = rw store (asked.runs (λ z. ends (storing_first old n deed at w)) ∙ ap (done (progress p ac new)) (first_other ne ∙ sym is));
       }
 
       pub ends_overwritten : (t new : Taken) (x : Ending) (v : ℕ) → at ≡ n → is_accumulator at ≡ true → deed.store ≡ before at w → Follows f p ac t new (refers at Write) (Ok v) → end_of x ≡ record { regs = after; put = None; post = deed.post }
@@ -148,6 +149,6 @@ module _ (f : ForkName) (p : NumberedPages) (ac : List ℕ) where
       unfolding finishes run
       ends_overwritten t new x v same low store asked is = record {
         stands = asked.stands;
-        put = put_of (pages_so_far f p new) x (record { regs = after; put = None; post = deed.post }) is tt;
-        runs = rw store (asked.runs (λ z. ends (storing_first old n deed at w)) ∙ ap (done (progress f p ac new)) (first_same same low ∙ sym is));
+        put = put_of (pages_so_far p new) x (record { regs = after; put = None; post = deed.post }) is tt;
+        runs = rw store (asked.runs (λ z. ends (storing_first old n deed at w)) ∙ ap (done (progress p ac new)) (first_same same low ∙ sym is));
       }

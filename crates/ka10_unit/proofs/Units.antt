@@ -1,8 +1,8 @@
 -- Units in place, from the fetch on.
-use Rattle.std.proofs.Common.{◌≡◌, ℕ, ◌+◌, ◌<◌, Bool, true, false, cond, not, List, Option, Some, None, refl, sym, ◌∙◌, ap, subst, arith}
+use Rattle.std.proofs.Common.{◌≡◌, ℕ, Bool, true, false, cond, not, Some, refl, ◌∙◌, ap, subst, arith}
 use Rattle.std.specs.Ordering.{nat_cmp}
 use Rattle.ka10_table.specs.declared.families.Family.{Family}
-use Rattle.ka10_table.specs.declared.families.Family.TheVariants.{Illegal, Local, Monitor, ByteOp, Jrst, Xct}
+use Rattle.ka10_table.specs.declared.families.Family.TheVariants.{Illegal, Local, Monitor, Jrst, Xct}
 use Rattle.ka10_table.specs.declared.families.TableRow.{TableRow}
 use Rattle.ka10_table.specs.Rows.{row_of}
 use Rattle.plain_model.specs.declared.channel.TheConstants.{ILLEGAL_INSTRUCTION}
@@ -13,10 +13,9 @@ use Rattle.plain_model.specs.State.{NumberedPages}
 use Rattle.plain_model.specs.Steps.{Steps, traps}
 use Rattle.plain_model.specs.Addressing.{address, opcode, ac_field}
 use Rattle.plain_model.specs.Instructions.{instruction, execute, executes, does, is_executive}
-use Rattle.ka10_unit.specs.Once.{After, once}
+use Rattle.ka10_unit.specs.Once.{After}
 use Rattle.ka10_unit.specs.Glide.{glide, Takes, Addressed}
 use Rattle.ka10_unit.specs.InPlace.{Addressee, is_addressed, behind_address}
-use Rattle.ka10_unit.proofs.Gliding.{once_glides}
 
 -- an instruction with an address goes on with it
 executes_addressed : (family : Family) (row : TableRow) (regs : Regs) (w : ℕ) (next : Bool → ℕ → Steps) → is_addressed family (ac_field w) ≡ true → executes family row false regs w next ≡ address regs.ac w (behind_address family row (opcode w) regs (ac_field w))
@@ -32,10 +31,10 @@ executes_addressed Jrst row regs w next h = by (is_executive (ac_field w)) h
 executes_addressed family row regs w next h = refl
 
 -- a unit is its fetch, its address, and the rest
-pub unit_done : (f : ForkName) (p : NumberedPages) (regs : Regs) (w op ac e last : ℕ) (a : After nat_cmp) → Takes f p regs.ac regs.pc Execute w → op ≡ opcode w → ac ≡ ac_field w → Addressed f p regs.ac 1 13 w e last
-    → Addressee op regs ac e last f p a → once f p regs ≡ Some a
+pub unit_glides : (f : ForkName) (p : NumberedPages) (regs : Regs) (w op ac e last : ℕ) (a : After nat_cmp) → Takes f p regs.ac regs.pc Execute w → op ≡ opcode w → ac ≡ ac_field w → Addressed f p regs.ac 1 13 w e last
+    → Addressee op regs ac e last f p a → glide f p regs.ac 0 (instruction regs) ≡ Some a
 unfolding glide instruction execute
-unit_done f p regs w op ac e last a t is_op is_ac at h = once_glides f p regs a (rw (t.ready, ← t.is) rest)
+unit_glides f p regs w op ac e last a t is_op is_ac at h = rw (t.ready, ← t.is) rest
   where
     here : Addressee (opcode w) regs (ac_field w) e last f p a
     here = subst (λ (o : ℕ). Addressee o regs (ac_field w) e last f p a) is_op (subst (λ (x : ℕ). Addressee op regs x e last f p a) is_ac h)

@@ -1,5 +1,5 @@
 -- Units in a row, done in place.
-use Rattle.std.specs.Prelude.{◌≡◌, ℕ, ◌<◌, ◌≤◌, ◌^◌, Option, None, Some, length}
+use Rattle.std.specs.Prelude.{◌≡◌, ℕ, ◌<◌, ◌^◌, Option, None, Some, length}
 use Rattle.std.specs.Option.{option_and_then}
 use Rattle.std.specs.Ordering.{nat_cmp}
 use Rattle.plain_model.specs.declared.channel.TheConstants.{OVERFLOW, PUSHDOWN_OVERFLOW}
@@ -12,8 +12,9 @@ use Rattle.plain_model.specs.State.{NumberedPages}
 use Rattle.ka10_unit.specs.declared.ending.Burst.{Burst}
 use Rattle.ka10_unit.specs.declared.ending.End.{End}
 use Rattle.ka10_unit.specs.declared.ending.End.TheVariants as end
+use Rattle.ka10_unit.specs.declared.fetch_page.FetchPage.{FetchPage}
 use Rattle.ka10_unit.specs.Once.{After, once, in_a_row}
-use Rattle.ka10_unit.specs.InPlace.{InPlace}
+use Rattle.ka10_unit.specs.Fetches.{CanExecute, IsThere}
 
 -- so many units in a row, and then one more
 abbrev pub and_one_more : ForkName → ℕ → NumberedPages → Regs → Option (After nat_cmp)
@@ -41,9 +42,11 @@ pub record InRow {P : Type 0} (means : PagesMeaning P) (space : SpaceHandle) (mo
   pub pc : after.pc < 2 ^ 18
   pub accumulators : length after.ac ≡ length regs.ac
 
--- so far a burst has done so many units, and none has posted
-pub record SoFar {P : Type 0} (means : PagesMeaning P) (space : SpaceHandle) (old new : P) (regs after : Regs) (units : ℕ) : Type 0 where
+-- so far a burst has done so many units, and none has posted; the page that it keeps can be fetched from
+pub record SoFar {P : Type 0} (means : PagesMeaning P) (space : SpaceHandle) (old new : P) (regs after : Regs) (page : FetchPage) (units : ℕ) : Type 0 where
   pub told : (d : DrumWords) (f : ForkName) → means.fits old d → means.space old f ≡ Some space → in_a_row f units (means.plain old d) regs ≡ Some (record { pages = means.plain new d; regs = after; post = None })
+  pub fetches : (d : DrumWords) (f : ForkName) → means.fits old d → means.space old f ≡ Some space → CanExecute f (means.plain new d) page
+  pub there : IsThere means space new page
   pub fits : (d : DrumWords) → means.fits old d → means.fits new d
   pub stays : StaysPut means old new
   pub pc : after.pc < 2 ^ 18

@@ -1,12 +1,10 @@
 -- The rest of a byte instruction's unit, behind its effective address.
-use Rattle.std.specs.Prelude.{◌≡◌, ℕ, ◌<◌, Bool, true, false, List, Some}
-use Rattle.std.specs.Ordering.{nat_cmp}
+use Rattle.std.specs.Prelude.{ℕ, ◌<◌, Bool, true, false, List}
 use Rattle.plain_model.specs.declared.fork.Regs.{Regs}
 use Rattle.plain_model.specs.declared.names.ForkName.{ForkName}
 use Rattle.plain_model.specs.declared.names.Kind.TheVariants.{Read}
 use Rattle.plain_model.specs.State.{NumberedPages}
 use Rattle.plain_model.specs.Steps.{Steps, refers}
-use Rattle.plain_model.specs.Addressing.{indexed, is_indirect}
 use Rattle.plain_model.specs.Instructions.{finishes, first_part_done}
 use Rattle.ka10_unit.specs.declared.bytes.ByteStep.{ByteStep}
 use Rattle.ka10_unit.specs.declared.bytes.ByteStep.TheVariants.{Load, LoadSecond, Deposit, DepositSecond}

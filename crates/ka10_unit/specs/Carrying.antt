@@ -1,5 +1,5 @@
 -- What a unit that is carried out leaves.
-use Rattle.std.specs.Prelude.{◌≡◌, ◌≢◌, ℕ, ◌+◌, ◌≤◌, ◌<◌, ◌^◌, length, true, Some}
+use Rattle.std.specs.Prelude.{◌≡◌, ◌≢◌, ℕ, ◌+◌, ◌≤◌, ◌<◌, ◌^◌, length, Some}
 use Rattle.plain_model.specs.declared.names.Tty.{Tty}
 use Rattle.plain_model.specs.declared.names.ForkName.{ForkName}
 use Rattle.plain_model.specs.declared.fork.Regs.{Regs}
@@ -20,7 +20,6 @@ pub record Grows {P : Type 0} (means : PagesMeaning P) (owner : Tty) (pages : �
   pub most : means.most new ≡ means.most old
   pub serial : means.serial new owner ≤ means.serial old owner + pages
   pub serials : (t : Tty) → t ≢ owner → means.serial new t ≡ means.serial old t
-  pub single : means.single old ≡ true → means.single new ≡ true
 
 -- what a unit came to, on plain pages, which it left as others
 abbrev pub CameTo : ForkName → NumberedPages → Regs → NumberedPages → Regs → Outcome → Type 0
@@ -44,7 +43,7 @@ IsNumbered (outcome.Call number) = number < 2 ^ 18
 pub record Slowly {P : Type 0} (means : PagesMeaning P) (f : ForkName) (old new : P) (regs after : Regs) (result : Outcome) : Type 0 where
   pub told : (d : DrumWords) → means.fits old d → means.fits new d × CameTo f (means.plain old d) regs (means.plain new d) after result
   pub stopped : Keeps old new regs after result
-  pub grows : Grows means f.tty 17 old new
+  pub grows : Grows means f.tty 128 old new
   pub pc : after.pc < 2 ^ 18
   pub number : IsNumbered result
   pub accumulators : length after.ac ≡ length regs.ac

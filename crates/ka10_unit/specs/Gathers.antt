@@ -1,64 +1,39 @@
--- The references of a unit that make pages, one after another, and the pages that they leave.
-use Rattle.std.specs.Prelude.{◌≡◌, ◌<◌, List, [], ◌∷◌, Bool, true, false, ◌&&◌, is_some}
+-- Pages as a unit of a fork finds them, and the references that it gathers.
+use Rattle.std.specs.Prelude.{◌≡◌, ◌<◌, true}
+use Rattle.std.specs.List.{All}
 use Rattle.std.specs.Ordering.{nat_cmp}
 use Rattle.plain_model.specs.declared.names.ForkName.{ForkName}
-use Rattle.plain_model.specs.declared.names.Slot.{Slot}
-use Rattle.plain_model.specs.declared.names.TheConstants.{TERMINALS}
+use Rattle.plain_model.specs.declared.names.TheConstants.{SPACE_PAGES, TERMINALS}
+use Rattle.plain_model.specs.Outcome.{DrumWords}
 use Rattle.plain_model.specs.State.{NumberedPages}
-use Rattle.plain_model.specs.References.{Referred, granted, denied, full, in_map, reference, next_making}
-use Rattle.plain_model.specs.Pages.{PagesMeaning}
-use Rattle.ka10_unit.specs.declared.gather.Asking.{Asking}
-use Rattle.ka10_unit.specs.declared.gather.Added.{Added}
-use Rattle.ka10_unit.specs.declared.gather.Added.TheVariants.{Went, Denied, Full}
+use Rattle.plain_model.specs.References.{Referred, granted, denied, full}
+use Rattle.plain_model.specs.Pages.{PagesMeaning, Scene}
+use Rattle.page_gather.specs.declared.reference.Added.{Added}
+use Rattle.page_gather.specs.declared.reference.Added.TheVariants.{Went, Denied, Full}
+use Rattle.page_gather.specs.Gathering.{Gathering}
 
--- pages where every page is in core and each entry is an end, in which a terminal's fork lives
+-- pages where every page is in core, in which a terminal's fork lives
 pub record Serves {P : Type 0} (means : PagesMeaning P) (pages : P) (f : ForkName) : Type 0 where
   pub flat : means.flat ≡ true
-  pub single : means.single pages ≡ true
   pub lives : means.lives pages f ≡ true
   pub terminal : f.tty.0 < TERMINALS
 
--- the slot of a page of a fork's space
-abbrev pub slot_of : ForkName → Asking → Slot
-slot_of f r = record { fork = f; page = r.page }
+-- plain pages, and what of them is in frames
+pub record Framed : Type 0 where
+  pub pages : NumberedPages
+  pub scene : Scene
 
--- what a reference to a page comes to
-abbrev pub asked_for : ForkName → NumberedPages → Asking → Referred nat_cmp
-asked_for f p r = reference p (in_map (slot_of f r)) r.kind f.tty
+-- those that pages stand for over a drum
+abbrev pub framed : {P : Type 0} → PagesMeaning P → P → DrumWords → Framed
+framed means s d = record { pages = means.plain s d; scene = means.scene s }
 
--- the pages that a reference leaves: as they were, where it is not granted
-abbrev pub left_by : NumberedPages → Referred nat_cmp → NumberedPages
-left_by p (granted q) = q
-left_by p (denied kind) = p
-left_by p full = p
+-- the references of a gather are to pages of a fork's space, and what they make is its terminal's
+pub record IsOf (f : ForkName) (g : Gathering) : Type 0 where
+  pub owner : g.owner ≡ f.tty
+  pub references : All (λ r. (r.slot.fork ≡ f) × (r.slot.page < SPACE_PAGES)) g.references
 
-abbrev pub is_granted : Referred nat_cmp → Bool
-is_granted (granted q) = true
-is_granted (denied kind) = false
-is_granted full = false
-
--- a reference is granted, and makes a page
-abbrev pub makes_page : ForkName → NumberedPages → Asking → Bool
-makes_page f p r = is_granted (asked_for f p r) && is_some (next_making p (in_map (slot_of f r)) r.kind)
-
--- the pages that references leave, each on those that the ones before it leave
-unfoldable pub after_all : ForkName → NumberedPages → List Asking → NumberedPages
-after_all f p [] = p
-after_all f p (r ∷ rs) = after_all f (left_by p (asked_for f p r)) rs
-
--- each of them is granted there, and makes a page
-unfoldable pub all_make : ForkName → NumberedPages → List Asking → Bool
-all_make f p [] = true
-all_make f p (r ∷ rs) = makes_page f p r && all_make f (left_by p (asked_for f p r)) rs
-
--- what it comes to that a reference is added
+-- what it comes to in core that a reference is added
 abbrev pub added_by : Referred nat_cmp → Added
 added_by (granted q) = Went
 added_by (denied kind) = Denied kind
 added_by full = Full
-
--- a reference more is as it is on the pages that those before it leave: it goes through where it is granted there, and leaves what it leaves there
-pub record AddsTo (f : ForkName) (p : NumberedPages) (old new : List Asking) (r : Asking) (result : Added) : Type 0 where
-  pub all : all_make f p new ≡ true
-  pub is : result ≡ added_by (asked_for f (after_all f p old) r)
-  pub leaves : after_all f p new ≡ left_by (after_all f p old) (asked_for f (after_all f p old) r)

@@ -12,7 +12,7 @@ use Rattle.plain_model.specs.declared.names.ForkName.{ForkName}
 use Rattle.plain_model.specs.Deeds.{Deed, deed_of, in_ac, taken_by}
 use Rattle.plain_model.specs.Instructions.{does, does_pointer, finishes, is_executive}
 use Rattle.plain_model.specs.Outcome.{DrumWords}
-use Rattle.plain_model.specs.Pages.{PagesMeaning, HasSpace, StaysPut}
+use Rattle.plain_model.specs.Pages.{PagesMeaning, StaysPut}
 use Rattle.plain_model.specs.State.{NumberedPages}
 use Rattle.plain_model.specs.Steps.{Steps}
 use Rattle.ka10_unit.specs.declared.ending.Quick.{Quick}
@@ -21,7 +21,7 @@ use Rattle.ka10_unit.specs.declared.committed.Post.{Post}
 use Rattle.ka10_unit.specs.declared.committed.Post.TheVariants as post
 use Rattle.ka10_unit.specs.Acts.{Instruction}
 use Rattle.ka10_unit.specs.Glide.{glide}
-use Rattle.ka10_unit.specs.Once.{After, once}
+use Rattle.ka10_unit.specs.Once.{After}
 
 -- a fact about a unit that was done, with the channel that it posts
 abbrev pub IfDone : Quick → (Option ℕ → Type 0) → Type 0
@@ -49,10 +49,6 @@ pub record InPlace {P : Type 0} (means : PagesMeaning P) (space : SpaceHandle) (
   pub stays : StaysPut means old new
   pub pc : after.pc < 2 ^ 18
   pub accumulators : length after.ac ≡ length regs.ac
-
--- the unit of the instruction at the program counter
-abbrev pub OneUnit : Regs → Does
-OneUnit regs f p a = once f p regs ≡ Some a
 
 -- the rest of a unit, behind so many references at most
 abbrev pub Rest : ℕ → Regs → Steps → Does

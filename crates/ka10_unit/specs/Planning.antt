@@ -24,6 +24,7 @@ use Rattle.ka10_unit.specs.declared.taken.Taken.{Taken}
 use Rattle.ka10_unit.specs.declared.taken.Trap.{Trap}
 use Rattle.plain_model.specs.Unit.{unit_on}
 use Rattle.ka10_unit.specs.Commits.{Leaves, channel_of, store_at}
+use Rattle.ka10_unit.specs.Gathers.{Framed, IsOf}
 use Rattle.ka10_unit.specs.Taking.{CanPut, IsOpen, IsPutBelow, Plan, Stands, pages_so_far, progress}
 
 -- an effective address, with so many words at most, and with any
@@ -34,18 +35,18 @@ abbrev pub reached : List ℕ → ℕ → (Address → Steps) → Steps
 reached ac w next = address ac w (λ e last. next (record { at = e; last = last }))
 
 -- the same unit is left behind a part that was done as behind the whole
-pub record Leads {A : Type 0} (f : ForkName) (p : NumberedPages) (ac : List ℕ) (old new : Taken) (whole left : (A → Steps) → Steps) : Type 0 where
+pub record Leads {A : Type 0} (f : ForkName) (p : Framed) (ac : List ℕ) (old new : Taken) (whole left : (A → Steps) → Steps) : Type 0 where
   pub stands : Stands f p new
-  pub runs : (next : A → Steps) → run (plainly f) f (whole next) (progress f p ac old) ≡ run (plainly f) f (left next) (progress f p ac new)
+  pub runs : (next : A → Steps) → run (plainly f) f (whole next) (progress p ac old) ≡ run (plainly f) f (left next) (progress p ac new)
 
 -- the end of a unit, with the channel of its post
 abbrev pub end_of : Ending → End
 end_of x = record { regs = x.regs; put = x.put; post = channel_of x.post }
 
 -- a unit that ended, or stopped
-abbrev pub ended : ForkName → NumberedPages → List ℕ → Taken → Result Ending Trap → Plan
-ended f p ac t (Ok x) = done (progress f p ac t) (end_of x)
-ended f p ac t (Err e) = stopped (trap e.channel)
+abbrev pub ended : Framed → List ℕ → Taken → Result Ending Trap → Plan
+ended p ac t (Ok x) = done (progress p ac t) (end_of x)
+ended p ac t (Err e) = stopped (trap e.channel)
 
 -- the last word of an end can be stored
 abbrev pub CanEnd : ForkName → NumberedPages → Result Ending Trap → Type 0
@@ -53,10 +54,10 @@ CanEnd f p (Ok x) = CanPut f p x.put
 CanEnd f p (Err e) = Unit {0}
 
 -- a call that ends a unit
-pub record Ends (f : ForkName) (p : NumberedPages) (ac : List ℕ) (old new : Taken) (left : Steps) (result : Result Ending Trap) : Type 0 where
+pub record Ends (f : ForkName) (p : Framed) (ac : List ℕ) (old new : Taken) (left : Steps) (result : Result Ending Trap) : Type 0 where
   pub stands : Stands f p new
-  pub put : CanEnd f (pages_so_far f p new) result
-  pub runs : run (plainly f) f left (progress f p ac old) ≡ ended f p ac new result
+  pub put : CanEnd f (pages_so_far p new) result
+  pub runs : run (plainly f) f left (progress p ac old) ≡ ended p ac new result
 
 -- a deed is done on the registers before it, and its word goes to a destination; a word that is stored before the accumulators are
 -- written comes with a word for its own accumulator, and none for the next
@@ -85,27 +86,27 @@ does_at family.ByteOp row is_local regs w a next = does_pointer row.code regs (a
 does_at f row is_local regs w a next = does row (opcode w) regs (ac_field w) a.at a.last
 
 -- what one word of a unit comes to
-abbrev pub stepped : ForkName → NumberedPages → List ℕ → Taken → Result Step Trap → (Bool → ℕ → Plan) → Plan
-stepped f p ac t (Ok (step.Goes n)) next = next n.is_local n.word
-stepped f p ac t (Ok (step.Ends x)) next = done (progress f p ac t) (end_of x)
-stepped f p ac t (Ok (step.Calls n)) next = call n
-stepped f p ac t (Err e) next = stopped (trap e.channel)
+abbrev pub stepped : Framed → List ℕ → Taken → Result Step Trap → (Bool → ℕ → Plan) → Plan
+stepped p ac t (Ok (step.Goes n)) next = next n.is_local n.word
+stepped p ac t (Ok (step.Ends x)) next = done (progress p ac t) (end_of x)
+stepped p ac t (Ok (step.Calls n)) next = call n
+stepped p ac t (Err e) next = stopped (trap e.channel)
 
 abbrev pub CanStep : ForkName → NumberedPages → Result Step Trap → Type 0
 CanStep f p (Ok (step.Ends x)) = CanPut f p x.put
 CanStep f p result = Unit {0}
 
 -- a call that does one word of a unit: it ends the unit, or goes on with the word of an XCT or a local call
-pub record StepsOn (f : ForkName) (p : NumberedPages) (ac : List ℕ) (old new : Taken) (left : (Bool → ℕ → Steps) → Steps) (result : Result Step Trap) : Type 0 where
+pub record StepsOn (f : ForkName) (p : Framed) (ac : List ℕ) (old new : Taken) (left : (Bool → ℕ → Steps) → Steps) (result : Result Step Trap) : Type 0 where
   pub stands : Stands f p new
-  pub put : CanStep f (pages_so_far f p new) result
-  pub runs : (next : Bool → ℕ → Steps) → run (plainly f) f (left next) (progress f p ac old) ≡ stepped f p ac new result (λ l v. run (plainly f) f (next l v) (progress f p ac new))
+  pub put : CanStep f (pages_so_far p new) result
+  pub runs : (next : Bool → ℕ → Steps) → run (plainly f) f (left next) (progress p ac old) ≡ stepped p ac new result (λ l v. run (plainly f) f (next l v) (progress p ac new))
 
 -- what a plan says
-abbrev pub planned_as : ForkName → NumberedPages → List ℕ → Taken → Planned → Plan
-planned_as f p ac t (planned.Do x) = done (progress f p ac t) (end_of x)
-planned_as f p ac t (planned.Trap channel) = stopped (trap channel)
-planned_as f p ac t (planned.Call number) = call number
+abbrev pub planned_as : Framed → List ℕ → Taken → Planned → Plan
+planned_as p ac t (planned.Do x) = done (progress p ac t) (end_of x)
+planned_as p ac t (planned.Trap channel) = stopped (trap channel)
+planned_as p ac t (planned.Call number) = call number
 
 abbrev pub CanDo : ForkName → NumberedPages → Planned → Type 0
 CanDo f p (planned.Do x) = CanPut f p x.put
@@ -113,16 +114,16 @@ CanDo f p (planned.Trap channel) = Unit {0}
 CanDo f p (planned.Call number) = Unit {0}
 
 -- what was planned is what is left of a unit
-pub record Concludes (f : ForkName) (p : NumberedPages) (ac : List ℕ) (old new : Taken) (left : Steps) (result : Planned) : Type 0 where
+pub record Concludes (f : ForkName) (p : Framed) (ac : List ℕ) (old new : Taken) (left : Steps) (result : Planned) : Type 0 where
   pub stands : Stands f p new
-  pub put : CanDo f (pages_so_far f p new) result
-  pub runs : run (plainly f) f left (progress f p ac old) ≡ planned_as f p ac new result
+  pub put : CanDo f (pages_so_far p new) result
+  pub runs : run (plainly f) f left (progress p ac old) ≡ planned_as p ac new result
 
 -- a plan is what the whole unit comes to, and it can be carried out
-pub record Plans (f : ForkName) (p : NumberedPages) (regs : Regs) (t : Taken) (result : Planned) : Type 0 where
+pub record Plans (f : ForkName) (p : Framed) (regs : Regs) (t : Taken) (result : Planned) : Type 0 where
   pub stands : Stands f p t
-  pub put : CanDo f (pages_so_far f p t) result
-  pub is : unit_on f p regs ≡ planned_as f p regs.ac t result
+  pub put : CanDo f (pages_so_far p t) result
+  pub is : unit_on f p.pages regs ≡ planned_as p regs.ac t result
 
 -- an end is of the machine: its registers, and the address of its last word
 pub record IsEnding (x : Ending) : Type 0 where
@@ -130,20 +131,20 @@ pub record IsEnding (x : Ending) : Type 0 where
   pub accumulators : length x.regs.ac ≡ ACCUMULATORS
   pub put : IsPutBelow (2 ^ 18) x.put
 
-abbrev pub IsEnd : Ending → Taken → Type 0
-IsEnd x t = IsEnding x × IsPutBelow (2 ^ 18) t.kept
+abbrev pub IsEnd : ForkName → Ending → Taken → Type 0
+IsEnd f x t = IsEnding x × IsPutBelow (2 ^ 18) t.kept × IsOf f t.gather
 
 -- a step that goes on leaves a unit that is open
-abbrev pub IsStep : Result Step Trap → Taken → Type 0
-IsStep (Ok (step.Goes n)) t = IsOpen t × IsPutBelow (2 ^ 18) t.kept
-IsStep (Ok (step.Ends x)) t = IsEnd x t
-IsStep (Ok (step.Calls n)) t = n < 2 ^ 18
-IsStep (Err e) t = Unit {0}
+abbrev pub IsStep : ForkName → Result Step Trap → Taken → Type 0
+IsStep f (Ok (step.Goes n)) t = IsOpen f t × IsPutBelow (2 ^ 18) t.kept
+IsStep f (Ok (step.Ends x)) t = IsEnd f x t
+IsStep f (Ok (step.Calls n)) t = n < 2 ^ 18
+IsStep f (Err e) t = Unit {0}
 
-abbrev pub IsPlan : Planned → Taken → Type 0
-IsPlan (planned.Do x) t = IsEnd x t
-IsPlan (planned.Trap channel) t = Unit {0}
-IsPlan (planned.Call number) t = number < 2 ^ 18
+abbrev pub IsPlan : ForkName → Planned → Taken → Type 0
+IsPlan f (planned.Do x) t = IsEnd f x t
+IsPlan f (planned.Trap channel) t = Unit {0}
+IsPlan f (planned.Call number) t = number < 2 ^ 18
 
 -- a call that ended a unit is a step that ends it
 abbrev pub as_step : Result Ending Trap → Result Step Trap

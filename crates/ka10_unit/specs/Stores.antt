@@ -1,6 +1,5 @@
 -- Where a deed stores its word, if it stores one.
 use Rattle.std.specs.Prelude.{◌≡◌, ℕ, Option, None, Some, List}
-use Rattle.std.specs.Ordering.{nat_cmp}
 use Rattle.plain_model.specs.declared.names.ForkName.{ForkName}
 use Rattle.plain_model.specs.declared.names.Kind.TheVariants.{Read}
 use Rattle.plain_model.specs.State.{NumberedPages}

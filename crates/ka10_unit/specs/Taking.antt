@@ -1,5 +1,5 @@
 -- How far a unit has come, and what a part of it that was done says of the whole.
-use Rattle.std.specs.Prelude.{◌≡◌, ℕ, ◌%◌, ◌≤◌, ◌<◌, ◌==◌, ◌&&◌, Bool, true, false, List, [], length, Option, None, Some, Result, Ok, Err, ⊤, is_some, slice_index}
+use Rattle.std.specs.Prelude.{◌≡◌, ℕ, ◌%◌, ◌≤◌, ◌<◌, ◌==◌, ◌&&◌, Bool, true, false, List, [], length, Option, None, Some, Result, Ok, Err, ⊤, is_some}
 use Rattle.std.specs.Option.{option_map_or}
 use Rattle.std.specs.Ordering.{nat_cmp}
 use Rattle.outside.specs.declared.TheConstants.{PAGE_WORDS}
@@ -10,25 +10,25 @@ use Rattle.plain_model.specs.declared.names.Kind.TheVariants.{Write}
 use Rattle.plain_model.specs.declared.unit.Put.{Put}
 use Rattle.plain_model.specs.declared.unit.TheConstants.{MOST_REFERENCES}
 use Rattle.plain_model.specs.State.{NumberedPages}
-use Rattle.plain_model.specs.References.{in_map, makings, page_at, slot_at, words_of}
+use Rattle.plain_model.specs.References.{in_map, makings, page_at, slot_at}
 use Rattle.plain_model.specs.Room.{same_page}
 use Rattle.plain_model.specs.Steps.{Steps, widens, trap, Asked, goes, stops, Progress, Planned, stopped, is_accumulator, asked_at, run, plainly}
-use Rattle.ka10_unit.specs.declared.gather.Asking.{Asking}
 use Rattle.ka10_unit.specs.declared.taken.Taken.{Taken}
 use Rattle.ka10_unit.specs.declared.taken.Trap.{Trap}
-use Rattle.ka10_unit.specs.Gathers.{after_all, all_make}
+use Rattle.page_gather.specs.Gathering.{Gathering, Gathers, left_of}
+use Rattle.ka10_unit.specs.Gathers.{Framed, IsOf}
 
 -- a unit as a plan, which over pages in core needs nothing first
 abbrev pub Plan : Type 0
 Plan = Planned nat_cmp ⊥
 
 -- the pages that the references so far leave
-abbrev pub pages_so_far : ForkName → NumberedPages → Taken → NumberedPages
-pages_so_far f p t = after_all f p t.gather
+abbrev pub pages_so_far : Framed → Taken → NumberedPages
+pages_so_far p t = left_of p.pages t.gather
 
 -- how far a unit has come: with the pages, as its fork has them, and its accumulators
-abbrev pub progress : ForkName → NumberedPages → List ℕ → Taken → Progress nat_cmp
-progress f p ac t = record { pages = pages_so_far f p t; ac = ac; refs = t.refs.items; kept = t.kept }
+abbrev pub progress : Framed → List ℕ → Taken → Progress nat_cmp
+progress p ac t = record { pages = pages_so_far p t; ac = ac; refs = t.refs.items; kept = t.kept }
 
 -- a write at an address of a page makes nothing more
 abbrev pub IsOpenAt : ForkName → NumberedPages → ℕ → Type 0
@@ -39,14 +39,15 @@ abbrev pub CanPut : ForkName → NumberedPages → Option Put → Type 0
 CanPut f p None = Unit {0}
 CanPut f p (Some put) = IsOpenAt f p put.at
 
--- each reference that makes a page is granted, and the word that is kept can be stored
-pub record Stands (f : ForkName) (p : NumberedPages) (t : Taken) : Type 0 where
-  pub all : all_make f p t.gather ≡ true
-  pub kept : CanPut f (pages_so_far f p t) t.kept
+-- each reference goes through, and the word that is kept can be stored
+pub record Stands (f : ForkName) (p : Framed) (t : Taken) : Type 0 where
+  pub gathers : Gathers p.pages p.scene t.gather
+  pub kept : CanPut f (pages_so_far p t) t.kept
 
--- at most so many references were taken, and no more of them make pages
-pub record IsOpen (t : Taken) : Type 0 where
-  pub makings : length t.gather ≤ length t.refs.items
+-- the references taken are of the fork, and so many at most
+pub record IsOpen (f : ForkName) (t : Taken) : Type 0 where
+  pub own : IsOf f t.gather
+  pub gathered : length t.gather.references ≤ length t.refs.items
   pub references : length t.refs.items ≤ MOST_REFERENCES
 
 -- the word of a kept put is at an address
@@ -64,12 +65,12 @@ abbrev pub HasPage : ForkName → NumberedPages → ℕ → Type 0
 HasPage f p a = is_accumulator a ≡ false → is_some (page_at p (in_map (slot_at f a))) ≡ true
 
 -- the page of an address was asked for, on the pages that the references before leave
-pub record AsksAt (f : ForkName) (p : NumberedPages) (old new : List Asking) (at : ℕ) (kind : Kind) (result : Result ⊤ Trap) : Type 0 where
-  pub all : all_make f p new ≡ true
-  pub is : asked_at (plainly f) f (after_all f p old) at kind ≡ asked_as result (after_all f p new)
-  pub page : (x : ⊤) → result ≡ Ok x → HasPage f (after_all f p new) at
-  pub open_at : (x : ⊤) → result ≡ Ok x → kind ≡ Write → is_accumulator at ≡ false → IsOpenAt f (after_all f p new) at
-  pub still : (a : ℕ) → IsOpenAt f (after_all f p old) a → IsOpenAt f (after_all f p new) a
+pub record AsksAt (f : ForkName) (p : Framed) (old new : Gathering) (at : ℕ) (kind : Kind) (result : Result ⊤ Trap) : Type 0 where
+  pub gathers : Gathers p.pages p.scene new
+  pub is : asked_at (plainly f) f (left_of p.pages old) at kind ≡ asked_as result (left_of p.pages new)
+  pub page : (x : ⊤) → result ≡ Ok x → HasPage f (left_of p.pages new) at
+  pub open_at : (x : ⊤) → result ≡ Ok x → kind ≡ Write → is_accumulator at ≡ false → IsOpenAt f (left_of p.pages new) at
+  pub still : (a : ℕ) → IsOpenAt f (left_of p.pages old) a → IsOpenAt f (left_of p.pages new) a
 
 -- a unit goes on with what a part of it gives, or stops
 abbrev pub went_on : {A : Type 0} → Result A Trap → (A → Plan) → Plan
@@ -77,27 +78,18 @@ went_on (Ok x) next = next x
 went_on (Err t) next = stopped (trap t.channel)
 
 -- A part of a unit was done: whatever comes behind it, the unit stops as this part did, or goes on from what it gave.
-pub record Follows {A : Type 0} (f : ForkName) (p : NumberedPages) (ac : List ℕ) (old new : Taken) (part : (A → Steps) → Steps) (result : Result A Trap) : Type 0 where
+pub record Follows {A : Type 0} (f : ForkName) (p : Framed) (ac : List ℕ) (old new : Taken) (part : (A → Steps) → Steps) (result : Result A Trap) : Type 0 where
   pub stands : Stands f p new
-  pub runs : (next : A → Steps) → run (plainly f) f (part next) (progress f p ac old) ≡ went_on result (λ x. run (plainly f) f (next x) (progress f p ac new))
+  pub runs : (next : A → Steps) → run (plainly f) f (part next) (progress p ac old) ≡ went_on result (λ x. run (plainly f) f (next x) (progress p ac new))
 
 -- what comes behind a part that gives nothing
 abbrev pub widened_by : ℕ → (⊤ → Steps) → Steps
 widened_by at next = widens at (next tt)
 
 -- a write at an address makes nothing more, once a reference to write there went through
-abbrev pub CanWrite : {A : Type 0} → ForkName → NumberedPages → Taken → ℕ → Result A Trap → Type 0
-CanWrite f p t at (Ok x) = is_accumulator at ≡ false → IsOpenAt f (pages_so_far f p t) at
+abbrev pub CanWrite : {A : Type 0} → ForkName → Framed → Taken → ℕ → Result A Trap → Type 0
+CanWrite f p t at (Ok x) = is_accumulator at ≡ false → IsOpenAt f (pages_so_far p t) at
 CanWrite f p t at (Err e) = Unit {0}
-
--- the word at an address in the pages as they are, and 0 where there is no page
-abbrev pub word_there : ForkName → NumberedPages → ℕ → ℕ
-word_there f p a = option_map_or (λ n. slice_index (words_of p n) (a % PAGE_WORDS)) (page_at p (in_map (slot_at f a))) 0
-
--- whether two names, if there are, are those of one page
-abbrev pub are_same : Option PageName → Option PageName → Bool
-are_same (Some n) (Some m) = same_page n m
-are_same n m = false
 
 -- whether a word that was stored at an address stands at another, of this page
 abbrev pub stands_at : ForkName → NumberedPages → ℕ → ℕ → PageName → Bool

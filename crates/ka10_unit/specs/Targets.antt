@@ -1,5 +1,5 @@
 -- Where the instruction of a row stores its word.
-use Rattle.std.specs.Prelude.{◌≡◌, ℕ, nat_lt, ◌==◌, if◌then◌else◌, Option, None, Some}
+use Rattle.std.specs.Prelude.{ℕ, nat_lt, ◌==◌, if◌then◌else◌, Option, None, Some}
 use Rattle.word36.specs.Words.{right}
 use Rattle.ka10_table.specs.declared.families.Family.{Family}
 use Rattle.ka10_table.specs.declared.families.Family.TheVariants.{Move, Imul, Mul, Idiv, Div, Exch, Blt, Pushj, PushPop, JsrJsp, JsaJra, AddSub, AddOne, SubOne, Boolean, Half}

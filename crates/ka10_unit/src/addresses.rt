@@ -2,7 +2,7 @@
 ghost use Rattle.std.specs.Prelude.{◌≡◌, ◌<◌, ◌^◌, ◌-◌, ℕ, IfOk};
 ghost use Rattle.plain_model.specs.Addressing.{index_field, indexed, is_indirect as is_indirect_word, last_taken};
 ghost use Rattle.plain_model.specs.Outcome.{DrumWords};
-ghost use Rattle.ka10_unit.specs.Gathers.{Serves};
+ghost use Rattle.ka10_unit.specs.Gathers.{Serves, framed};
 ghost use Rattle.ka10_unit.specs.Planning.{reached};
 ghost use Rattle.ka10_unit.specs.Taking.{Follows, IsOpen, IsPutBelow, Stands};
 
@@ -63,13 +63,13 @@ pub fn address_of<P: Pages>(
     first: Word,
 ) -> Result<Address, Trap>
     requires serves { Serves P.means pages.now fork }
-    requires is_open { IsOpen taken.old }
+    requires is_open { IsOpen fork taken.old }
     requires kept { IsPutBelow (2 ^ 18) taken.old.kept }
-    ensures is_open { IsOpen taken.new }
+    ensures is_open { IsOpen fork taken.new }
     ensures kept { taken.new.kept ≡ taken.old.kept }
     ensures below { IfOk result (λ e. e.at < 2 ^ 18) }
-    ensures told { (d : DrumWords) → P.means.fits pages.now d → Stands fork (P.means.plain pages.now d) taken.old
-        → Follows fork (P.means.plain pages.now d) regs.now.ac taken.old taken.new (reached regs.now.ac first) result }
+    ensures told { (d : DrumWords) → P.means.fits pages.now d → Stands fork (framed P.means pages.now d) taken.old
+        → Follows fork (framed P.means pages.now d) regs.now.ac taken.old taken.new (reached regs.now.ac first) result }
 {
     let mut word = first;
     for left in 0..MOST_WORDS {

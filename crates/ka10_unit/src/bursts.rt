@@ -4,6 +4,7 @@ ghost use Rattle.plain_model.specs.Pages.{HasSpace};
 ghost use Rattle.ka10_unit.specs.Bursts.{InRow};
 
 use crate::ending::{Burst, End, Quick};
+use crate::fetch_page::FetchPage;
 use crate::in_place::quick;
 use plain_model::{Pages, Regs, SpaceHandle};
 
@@ -16,8 +17,9 @@ pub fn burst<P: Pages>(regs: &mut Regs, pages: &mut P, space: SpaceHandle, most:
     requires pc { regs.old.pc < 2 ^ 18 }
     ensures { InRow P.means space most pages.old pages.new regs.old regs.new result }
 {
+    let mut kept = FetchPage::NONE;
     for units in 0..most {
-        match quick(regs, pages, space) {
+        match quick(regs, pages, space, &mut kept) {
             Quick::Done => {}
             Quick::Overflow => {
                 return Burst {

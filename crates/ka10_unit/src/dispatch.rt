@@ -247,5 +247,5 @@ fn is_executive(ac: u8) -> bool
     requires { ac < 16 }
     ensures { result ≡ instructions.is_executive ac }
 {
-    ac / 4 % 2 == 1 || ac / 8 % 2 == 1
+    ac >= 4
 }

@@ -7,7 +7,7 @@ ghost use Rattle.ka10_table.specs.Rows.{IsInLine};
 ghost use Rattle.plain_model.specs.Limits.{IsAddress};
 ghost use Rattle.plain_model.specs.Outcome.{DrumWords};
 ghost use Rattle.ka10_unit.specs.Commits.{LiesBelow, channel_of};
-ghost use Rattle.ka10_unit.specs.Gathers.{Serves};
+ghost use Rattle.ka10_unit.specs.Gathers.{IsOf, Serves, framed};
 ghost use Rattle.ka10_unit.specs.Planning.{Ends, IsDone, IsEnding, end_of};
 ghost use Rattle.ka10_unit.specs.Taking.{Follows, IsOpen, IsPutBelow, Stands};
 
@@ -40,12 +40,12 @@ pub fn operand<P: Pages>(
     requires serves { Serves P.means pages.now fork }
     requires at { IfSome at (λ a. IsAddress a) }
     requires e { IsAddress e }
-    requires is_open { IsOpen taken.old }
+    requires is_open { IsOpen fork taken.old }
     requires kept { IsPutBelow (2 ^ 18) taken.old.kept }
-    ensures is_open { IsOpen taken.new }
+    ensures is_open { IsOpen fork taken.new }
     ensures kept { taken.new.kept ≡ taken.old.kept }
-    ensures told { (d : DrumWords) → P.means.fits pages.now d → Stands fork (P.means.plain pages.now d) taken.old
-        → Follows fork (P.means.plain pages.now d) regs.now.ac taken.old taken.new (takes at e) result }
+    ensures told { (d : DrumWords) → P.means.fits pages.now d → Stands fork (framed P.means pages.now d) taken.old
+        → Follows fork (framed P.means pages.now d) regs.now.ac taken.old taken.new (takes at e) result }
 {
     match at {
         None => Ok(Word::join(0, e)),
@@ -103,12 +103,13 @@ pub fn finish<P: Pages>(
     requires to { LiesBelow (2 ^ 18) to }
     requires ac { ac < 16 }
     requires pc { after.pc < 2 ^ 18 }
-    requires is_open { IsOpen taken.old }
+    requires is_open { IsOpen fork taken.old }
     requires kept { IsPutBelow (2 ^ 18) taken.old.kept }
+    ensures own { IsOf fork taken.new.gather }
     ensures kept { taken.new.kept ≡ taken.old.kept }
     ensures end { IfOk result (λ x. IsEnding x) }
-    ensures told { (d : DrumWords) (deed : Deed) (old : ARegs) → P.means.fits pages.now d → Stands fork (P.means.plain pages.now d) taken.old → IsDone deed ac old after to told
-        → Ends fork (P.means.plain pages.now d) regs.now.ac taken.old taken.new (finishes old ac deed) result }
+    ensures told { (d : DrumWords) (deed : Deed) (old : ARegs) → P.means.fits pages.now d → Stands fork (framed P.means pages.now d) taken.old → IsDone deed ac old after to told
+        → Ends fork (framed P.means pages.now d) regs.now.ac taken.old taken.new (finishes old ac deed) result }
 {
     let Some(word) = told.stored else {
         return Ok(end_with(after, told.post));
@@ -150,12 +151,13 @@ pub fn ordinary<P: Pages>(
     requires ac { ac < 16 }
     requires e { e.now.at < 2 ^ 18 }
     requires pc { regs.now.pc < 2 ^ 18 }
-    requires is_open { IsOpen taken.old }
+    requires is_open { IsOpen fork taken.old }
     requires kept { IsPutBelow (2 ^ 18) taken.old.kept }
+    ensures own { IsOf fork taken.new.gather }
     ensures kept { taken.new.kept ≡ taken.old.kept }
     ensures end { IfOk result (λ x. IsEnding x) }
-    ensures told { (d : DrumWords) → P.means.fits pages.now d → Stands fork (P.means.plain pages.now d) taken.old
-        → Ends fork (P.means.plain pages.now d) regs.now.ac taken.old taken.new (does row op regs.now ac e.now.at e.now.last) result }
+    ensures told { (d : DrumWords) → P.means.fits pages.now d → Stands fork (framed P.means pages.now d) taken.old
+        → Ends fork (framed P.means pages.now d) regs.now.ac taken.old taken.new (does row op regs.now ac e.now.at e.now.last) result }
 {
     let at = operand_address(row, regs, ac, e.at);
     let m = operand(taken, regs, pages, fork, at, e.at)?;

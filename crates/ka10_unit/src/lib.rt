@@ -17,7 +17,8 @@ mod conditions;
 mod dispatch;
 mod ending;
 mod ends;
-mod gather;
+mod fetch_page;
+mod fetches;
 mod in_place;
 mod instruction;
 mod instructions;
@@ -49,7 +50,7 @@ pub use committed::{Committed, Post};
 pub use conditions::{commit_compare, commit_count, commit_jump_or_skip};
 pub use ending::{Burst, End, Quick};
 pub use ends::Ending;
-pub use gather::{Added, Asking, Gather, MOST_MAKINGS};
+pub use fetch_page::FetchPage;
 pub use in_place::quick;
 pub use instructions::{
     AddOne, Aobj, Blt, Boolean, Commit, Compare, Exch, Half, Jfcl, Jffo, Jrst, JsaJra, JsrJsp,

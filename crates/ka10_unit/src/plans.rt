@@ -6,7 +6,7 @@ ghost use Rattle.plain_model.specs.Instructions.{execute as executed, executes, 
 ghost use Rattle.plain_model.specs.Limits.{IsAddress};
 ghost use Rattle.plain_model.specs.Outcome.{DrumWords};
 ghost use Rattle.plain_model.specs.Steps.{refers};
-ghost use Rattle.ka10_unit.specs.Gathers.{Serves};
+ghost use Rattle.ka10_unit.specs.Gathers.{Serves, framed};
 ghost use Rattle.ka10_unit.specs.Planning.{Concludes, IsPlan, IsStep, Plans, StepsOn, as_step, calls_local, does_at, is_illegal as is_illegal_word};
 ghost use Rattle.ka10_unit.specs.Taking.{IsOpen, IsPutBelow, Stands};
 
@@ -97,11 +97,11 @@ fn go_on<P: Pages>(
 ) -> Result<Step, Trap>
     requires serves { Serves P.means pages.now fork }
     requires address { IsAddress at }
-    requires is_open { IsOpen taken.old }
+    requires is_open { IsOpen fork taken.old }
     requires kept { IsPutBelow (2 ^ 18) taken.old.kept }
-    ensures bounds { IsStep result taken.new }
-    ensures told { (d : DrumWords) → P.means.fits pages.now d → Stands fork (P.means.plain pages.now d) taken.old
-        → StepsOn fork (P.means.plain pages.now d) regs.now.ac taken.old taken.new (λ next. refers at Kind.Execute (next is_local)) result }
+    ensures bounds { IsStep fork result taken.new }
+    ensures told { (d : DrumWords) → P.means.fits pages.now d → Stands fork (framed P.means pages.now d) taken.old
+        → StepsOn fork (framed P.means pages.now d) regs.now.ac taken.old taken.new (λ next. refers at Kind.Execute (next is_local)) result }
 {
     match refer(taken, regs, pages, fork, at, Kind::Execute) {
         Err(trap) => Err(trap),
@@ -120,11 +120,11 @@ fn call_local<P: Pages>(
 ) -> Result<Step, Trap>
     requires serves { Serves P.means pages.now fork }
     requires e { IsAddress e }
-    requires is_open { IsOpen taken.old }
+    requires is_open { IsOpen fork taken.old }
     requires kept { IsPutBelow (2 ^ 18) taken.old.kept }
-    ensures bounds { IsStep result taken.new }
-    ensures told { (d : DrumWords) → P.means.fits pages.now d → Stands fork (P.means.plain pages.now d) taken.old
-        → StepsOn fork (P.means.plain pages.now d) regs.now.ac taken.old taken.new (calls_local word e) result }
+    ensures bounds { IsStep fork result taken.new }
+    ensures told { (d : DrumWords) → P.means.fits pages.now d → Stands fork (framed P.means pages.now d) taken.old
+        → StepsOn fork (framed P.means pages.now d) regs.now.ac taken.old taken.new (calls_local word e) result }
 {
     match refer(taken, regs, pages, fork, LOCAL_CALL, Kind::Write) {
         Err(trap) => Err(trap),
@@ -176,11 +176,11 @@ fn do_at<P: Pages>(
     requires line { IsInLine (opcode word) row }
     requires pc { regs.now.pc < 2 ^ 18 }
     requires address { address.now.at < 2 ^ 18 }
-    requires is_open { IsOpen taken.old }
+    requires is_open { IsOpen fork taken.old }
     requires kept { IsPutBelow (2 ^ 18) taken.old.kept }
-    ensures bounds { IsStep result taken.new }
-    ensures told { (d : DrumWords) → P.means.fits pages.now d → Stands fork (P.means.plain pages.now d) taken.old
-        → StepsOn fork (P.means.plain pages.now d) regs.now.ac taken.old taken.new (does_at row.family row is_local regs.now word address.now) result }
+    ensures bounds { IsStep fork result taken.new }
+    ensures told { (d : DrumWords) → P.means.fits pages.now d → Stands fork (framed P.means pages.now d) taken.old
+        → StepsOn fork (framed P.means pages.now d) regs.now.ac taken.old taken.new (does_at row.family row is_local regs.now word address.now) result }
 {
     let ac = accumulator_of(word);
     match row.family {
@@ -205,11 +205,11 @@ fn do_word<P: Pages>(
 ) -> Result<Step, Trap>
     requires serves { Serves P.means pages.now fork }
     requires pc { regs.now.pc < 2 ^ 18 }
-    requires is_open { IsOpen taken.old }
+    requires is_open { IsOpen fork taken.old }
     requires kept { IsPutBelow (2 ^ 18) taken.old.kept }
-    ensures bounds { IsStep result taken.new }
-    ensures told { (d : DrumWords) → P.means.fits pages.now d → Stands fork (P.means.plain pages.now d) taken.old
-        → StepsOn fork (P.means.plain pages.now d) regs.now.ac taken.old taken.new (executes (row_of (opcode word)).family (row_of (opcode word)) is_local regs.now word) result }
+    ensures bounds { IsStep fork result taken.new }
+    ensures told { (d : DrumWords) → P.means.fits pages.now d → Stands fork (framed P.means pages.now d) taken.old
+        → StepsOn fork (framed P.means pages.now d) regs.now.ac taken.old taken.new (executes (row_of (opcode word)).family (row_of (opcode word)) is_local regs.now word) result }
 {
     let row = row(opcode_of(word));
     if is_illegal(row.family, is_local, accumulator_of(word)) {
@@ -233,11 +233,11 @@ fn follow<P: Pages>(
 ) -> Planned
     requires serves { Serves P.means pages.now fork }
     requires pc { regs.now.pc < 2 ^ 18 }
-    requires is_open { IsOpen taken.old }
+    requires is_open { IsOpen fork taken.old }
     requires kept { IsPutBelow (2 ^ 18) taken.old.kept }
-    ensures bounds { IsPlan result taken.new }
-    ensures told { (d : DrumWords) → P.means.fits pages.now d → Stands fork (P.means.plain pages.now d) taken.old
-        → Concludes fork (P.means.plain pages.now d) regs.now.ac taken.old taken.new (executed left is_local regs.now word) result }
+    ensures bounds { IsPlan fork result taken.new }
+    ensures told { (d : DrumWords) → P.means.fits pages.now d → Stands fork (framed P.means pages.now d) taken.old
+        → Concludes fork (framed P.means pages.now d) regs.now.ac taken.old taken.new (executed left is_local regs.now word) result }
 {
     if left == 0 {
         return Planned::Trap(Trap::ILLEGAL.channel);
@@ -259,15 +259,15 @@ fn follow<P: Pages>(
 }
 
 /// Plans the unit of the instruction at the program counter: any word whatever. It changes nothing
-/// but what is taken, which is then that of this unit: the pages that it makes, in order, its
-/// references, and the word that it kept.
+/// but what is taken, which is then that of this unit: its references, what they come to, and the
+/// word that it kept.
 pub fn plan<P: Pages>(taken: &mut Taken, regs: &Regs, pages: &P, fork: ForkName) -> Planned
     requires serves { Serves P.means pages.now fork }
     requires pc { regs.now.pc < 2 ^ 18 }
-    ensures bounds { IsPlan result taken.new }
-    ensures told { (d : DrumWords) → P.means.fits pages.now d → Plans fork (P.means.plain pages.now d) regs.now taken.new result }
+    ensures bounds { IsPlan fork result taken.new }
+    ensures told { (d : DrumWords) → P.means.fits pages.now d → Plans fork (framed P.means pages.now d) regs.now taken.new result }
 {
-    taken.restart();
+    taken.restart(fork);
     match refer(taken, regs, pages, fork, regs.pc, Kind::Execute) {
         Err(trap) => Planned::Trap(trap.channel),
         Ok(word) => follow(MOST_WORDS, taken, regs, pages, fork, word, false),

@@ -3,7 +3,7 @@ ghost use Rattle.std.specs.Prelude.{◌≡◌, ◌<◌, ◌^◌, IfOk};
 ghost use Rattle.plain_model.specs.Instructions.{deposits_byte, does_pointer, first_part_done, loads_byte};
 ghost use Rattle.plain_model.specs.Limits.{IsAddress};
 ghost use Rattle.plain_model.specs.Outcome.{DrumWords};
-ghost use Rattle.ka10_unit.specs.Gathers.{Serves};
+ghost use Rattle.ka10_unit.specs.Gathers.{IsOf, Serves, framed};
 ghost use Rattle.ka10_unit.specs.Planning.{Ends, IsEnding};
 ghost use Rattle.ka10_unit.specs.Taking.{IsOpen, IsPutBelow, Stands};
 
@@ -30,12 +30,13 @@ fn load_byte<P: Pages>(
     requires serves { Serves P.means pages.now fork }
     requires ac { ac < 16 }
     requires pc { regs.now.pc < 2 ^ 18 }
-    requires is_open { IsOpen taken.old }
+    requires is_open { IsOpen fork taken.old }
     requires kept { IsPutBelow (2 ^ 18) taken.old.kept }
+    ensures own { IsOf fork taken.new.gather }
     ensures kept { taken.new.kept ≡ taken.old.kept }
     ensures end { IfOk result (λ x. IsEnding x) }
-    ensures told { (d : DrumWords) → P.means.fits pages.now d → Stands fork (P.means.plain pages.now d) taken.old
-        → Ends fork (P.means.plain pages.now d) regs.now.ac taken.old taken.new (loads_byte regs.now ac pointer) result }
+    ensures told { (d : DrumWords) → P.means.fits pages.now d → Stands fork (framed P.means pages.now d) taken.old
+        → Ends fork (framed P.means pages.now d) regs.now.ac taken.old taken.new (loads_byte regs.now ac pointer) result }
 {
     let address = address_of(taken, regs, pages, fork, pointer)?;
     let word = refer(taken, regs, pages, fork, address.at, Kind::Read)?;
@@ -65,12 +66,13 @@ fn deposit_byte<P: Pages>(
     requires serves { Serves P.means pages.now fork }
     requires ac { ac < 16 }
     requires pc { regs.now.pc < 2 ^ 18 }
-    requires is_open { IsOpen taken.old }
+    requires is_open { IsOpen fork taken.old }
     requires kept { IsPutBelow (2 ^ 18) taken.old.kept }
+    ensures own { IsOf fork taken.new.gather }
     ensures kept { taken.new.kept ≡ taken.old.kept }
     ensures end { IfOk result (λ x. IsEnding x) }
-    ensures told { (d : DrumWords) → P.means.fits pages.now d → Stands fork (P.means.plain pages.now d) taken.old
-        → Ends fork (P.means.plain pages.now d) regs.now.ac taken.old taken.new (deposits_byte regs.now ac pointer) result }
+    ensures told { (d : DrumWords) → P.means.fits pages.now d → Stands fork (framed P.means pages.now d) taken.old
+        → Ends fork (framed P.means pages.now d) regs.now.ac taken.old taken.new (deposits_byte regs.now ac pointer) result }
 {
     let address = address_of(taken, regs, pages, fork, pointer)?;
     let word = refer(taken, regs, pages, fork, address.at, Kind::Read)?;
@@ -104,12 +106,13 @@ pub fn byte_instruction<P: Pages>(
     requires ac { ac < 16 }
     requires e { IsAddress e }
     requires pc { regs.now.pc < 2 ^ 18 }
-    requires is_open { IsOpen taken.old }
+    requires is_open { IsOpen fork taken.old }
     requires kept { IsPutBelow (2 ^ 18) taken.old.kept }
+    ensures own { IsOf fork taken.new.gather }
     ensures kept { taken.new.kept ≡ taken.old.kept }
     ensures end { IfOk result (λ x. IsEnding x) }
-    ensures told { (d : DrumWords) → P.means.fits pages.now d → Stands fork (P.means.plain pages.now d) taken.old
-        → Ends fork (P.means.plain pages.now d) regs.now.ac taken.old taken.new (does_pointer code regs.now ac e) result }
+    ensures told { (d : DrumWords) → P.means.fits pages.now d → Stands fork (framed P.means pages.now d) taken.old
+        → Ends fork (framed P.means pages.now d) regs.now.ac taken.old taken.new (does_pointer code regs.now ac e) result }
 {
     let pointer = refer(taken, regs, pages, fork, e, Kind::Read)?;
     match byte_step(code, regs) {

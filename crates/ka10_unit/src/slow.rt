@@ -37,7 +37,7 @@ pub fn slow_unit<P: Pages>(
 ) -> Outcome
     requires serves { Serves P.means pages.old fork }
     requires pc { regs.old.pc < 2 ^ 18 }
-    requires serial { P.means.serial pages.old fork.tty + 17 < 2 ^ 63 }
+    requires serial { P.means.serial pages.old fork.tty < 2 ^ 62 }
     ensures { Slowly P.means fork pages.old pages.new regs.old regs.new result }
 {
     have_accumulators(*regs);

@@ -22,7 +22,7 @@ pub enum Spot {
 
 /// The page of an address.
 #[inline(always)]
-fn page_of(at: u32) -> u16
+pub fn page_of(at: u32) -> u16
     requires { IsAddress at }
     ensures page { result ≡ at / PAGE_WORDS }
     ensures below { result < 512 }

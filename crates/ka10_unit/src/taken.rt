@@ -2,23 +2,25 @@
 ghost use Rattle.std.specs.Prelude.{◌≡◌, ◌≢◌, ◌+◌, ◌-◌, ◌/◌, ◌%◌, ◌≤◌, ◌<◌, ◌^◌, ◌==◌, ◌&&◌, List, [], ◌∷◌, ◌++◌, ℕ, length, true, false, None, Some, Option, nat_lt, OnErr, slice_index, slice_set, is_some};
 ghost use Rattle.std.specs.Option.{option_map_or};
 ghost use Rattle.outside.specs.declared.TheConstants.{PAGE_WORDS};
-ghost use Rattle.plain_model.specs.declared.names.TheConstants.{ACCUMULATORS};
+ghost use Rattle.plain_model.specs.declared.names.TheConstants.{ACCUMULATORS, TERMINALS};
 ghost use Rattle.plain_model.specs.Limits.{IsAddress};
 ghost use Rattle.plain_model.specs.Outcome.{DrumWords};
-ghost use Rattle.plain_model.specs.References.{in_map, page_at, slot_at};
+ghost use Rattle.plain_model.specs.State.{NumberedPages};
+ghost use Rattle.plain_model.specs.Pages.{Scene};
+ghost use Rattle.plain_model.specs.References.{in_map, page_at, slot_at, word_at as word_at_spot};
 ghost use Rattle.plain_model.specs.Room.{same_page};
 ghost use Rattle.plain_model.specs.Steps.{denied_channel, is_accumulator, refers, widens, word_taken, seen};
 ghost use Rattle.plain_model.specs.declared.names.PageName.{PageName as APageName};
-ghost use Rattle.ka10_unit.specs.declared.gather.Asking.{Asking as AAsking};
-ghost use Rattle.ka10_unit.specs.Gathers.{Serves, after_all, all_make};
-ghost use Rattle.ka10_unit.specs.Taking.{AsksAt, CanWrite, Follows, HasPage, IsOpen, IsPutBelow, Stands, are_same, pages_so_far, progress, stands_at, widened_by, word_there};
+ghost use Rattle.page_gather.specs.Gathering.{AreSound, Gathers, left_of};
+ghost use Rattle.ka10_unit.specs.Gathers.{IsOf, Serves, framed};
+ghost use Rattle.ka10_unit.specs.Taking.{AsksAt, CanWrite, Follows, HasPage, IsOpen, IsPutBelow, Stands, pages_so_far, progress, stands_at, widened_by};
 
-use crate::gather::{Added, Asking, Gather, page_of};
 use arrayvec::ArrayVec;
 use outside::PAGE_WORDS;
+use page_gather::{Added, Gather};
 use plain_model::{
-    ACCUMULATORS, ForkName, Kind, MOST_REFERENCES, PageName, Pages, Peeked, Place, Put, Reference,
-    Regs, channel,
+    ACCUMULATORS, ForkName, Kind, MOST_REFERENCES, Pages, Place, Put, Reference, Regs, Slot, Tty,
+    channel,
 };
 use word36::Word;
 
@@ -39,8 +41,8 @@ impl Trap {
     };
 }
 
-/// What a unit has taken so far: its references, those of them that make pages, and the word that
-/// it has stored for its later references to see.
+/// What a unit has taken so far: its references, what they come to, and the word that it has stored
+/// for its later references to see.
 #[derive(Drop)]
 pub struct Taken {
     pub gather: Gather,
@@ -51,24 +53,27 @@ pub struct Taken {
 impl Taken {
     /// Nothing is taken.
     pub fn new() -> Taken
-        ensures gather { result.gather ≡ [] }
+        ensures gather { result.gather.references ≡ [] }
         ensures refs { result.refs.items ≡ [] }
         ensures kept { result.kept ≡ None }
     {
         Taken {
-            gather: Gather::new(),
+            gather: Gather::new(Tty::CONSOLE),
             refs: ArrayVec::new(),
             kept: None,
         }
     }
 
-    /// Nothing is taken again.
-    pub fn restart(&mut self)
-        ensures gather { self.new.gather ≡ [] }
+    /// Nothing is taken again, for a unit of this fork.
+    pub fn restart(&mut self, fork: ForkName)
+        requires { fork.tty.0 < TERMINALS }
+        ensures own { IsOf fork self.new.gather }
+        ensures gather { self.new.gather.references ≡ [] }
         ensures refs { self.new.refs.items ≡ [] }
         ensures kept { self.new.kept ≡ None }
+        ensures told { (p : NumberedPages) (scene : Scene) → AreSound p scene → Gathers p scene self.new.gather }
     {
-        self.gather.restart();
+        self.gather.restart(fork.tty);
         self.refs.clear();
         self.kept = None;
     }
@@ -85,6 +90,17 @@ fn denied(kind: Kind) -> u8
     }
 }
 
+/// The page of an address of a fork's space.
+pub fn page_of_address(fork: ForkName, at: u32) -> Place
+    requires { IsAddress at }
+    ensures { result ≡ Place.Fork (slot_at fork at) }
+{
+    Place::Fork(Slot {
+        fork,
+        page: (at / WORDS) as u16,
+    })
+}
+
 /// Asks for the page of an address; the accumulators touch none.
 fn ask<P: Pages>(
     gather: &mut Gather,
@@ -95,17 +111,18 @@ fn ask<P: Pages>(
 ) -> Result<(), Trap>
     requires serves { Serves P.means pages.now fork }
     requires address { IsAddress at }
-    requires room { length gather.old < 17 }
-    ensures room { length gather.new ≤ length gather.old + 1 }
+    requires own { IsOf fork gather.old }
+    requires room { length gather.old.references < 17 }
+    ensures own { IsOf fork gather.new }
+    ensures room { length gather.new.references ≤ length gather.old.references + 1 }
     ensures stopped { OnErr result (gather.new ≡ gather.old) }
-    ensures told { (d : DrumWords) → P.means.fits pages.now d → all_make fork (P.means.plain pages.now d) gather.old ≡ true
-        → AsksAt fork (P.means.plain pages.now d) gather.old gather.new at kind result }
+    ensures told { (d : DrumWords) → P.means.fits pages.now d → Gathers (P.means.plain pages.now d) (P.means.scene pages.now) gather.old
+        → AsksAt fork (framed P.means pages.now d) gather.old gather.new at kind result }
 {
     if at < ACCUMULATORS {
         return Ok(());
     }
-    let page = (at / WORDS) as u16;
-    match gather.add(pages, fork, Asking { page, kind }) {
+    match gather.add(pages, page_of_address(fork, at), kind) {
         Added::Went => Ok(()),
         Added::Denied(kind) => Err(Trap {
             channel: denied(kind),
@@ -113,60 +130,28 @@ fn ask<P: Pages>(
         Added::Full => Err(Trap {
             channel: channel::DRUM_FULL,
         }),
+        Added::Need(_) => unreachable!(),
     }
 }
 
-/// The page of an address of a fork's space.
-pub fn page_of_address(fork: ForkName, at: u32) -> Place
-    requires { IsAddress at }
-    ensures { result ≡ Place.Fork (slot_at fork at) }
-{
-    page_of(fork, (at / WORDS) as u16)
-}
-
-/// Whether two names, if there are, are those of one page.
-fn are_one(there: Option<PageName>, other: Option<PageName>) -> bool
-    ensures { result ≡ are_same there other }
-{
-    match (there, other) {
-        (Some(n), Some(m)) => n.tty.0 == m.tty.0 && n.serial == m.serial,
-        _ => false,
-    }
-}
-
-/// The word at an address, in the pages as they are; 0 where there is no page.
-fn held_word<P: Pages>(pages: &P, fork: ForkName, at: u32) -> Word
+/// The word at an address whose page was asked for.
+fn held_word<P: Pages>(gather: &Gather, pages: &P, fork: ForkName, at: u32) -> Word
     requires serves { Serves P.means pages.now fork }
     requires address { IsAddress at }
-    ensures told { (d : DrumWords) → P.means.fits pages.now d → result ≡ word_there fork (P.means.plain pages.now d) at }
+    ensures told { (d : DrumWords) → P.means.fits pages.now d → Gathers (P.means.plain pages.now d) (P.means.scene pages.now) gather.now
+        → result ≡ word_at_spot (left_of (P.means.plain pages.now d) gather.now) (in_map (slot_at fork at)) (at % PAGE_WORDS) }
 {
-    match pages.peek(page_of_address(fork, at), (at % WORDS) as u16) {
-        Peeked::Is(word) => word,
-        Peeked::NoPage => Word::ZERO,
-        Peeked::Absent(_) => unreachable!(),
-    }
-}
-
-/// The name of the page at an address, in the pages as they are.
-fn name_at<P: Pages>(pages: &P, fork: ForkName, at: u32) -> Option<PageName>
-    requires serves { Serves P.means pages.now fork }
-    requires address { IsAddress at }
-    ensures told { (d : DrumWords) → P.means.fits pages.now d → result ≡ page_at (P.means.plain pages.now d) (in_map (slot_at fork at)) }
-{
-    match pages.page_at(page_of_address(fork, at)) {
-        Some(page) => Some(page.0),
-        None => None,
-    }
+    gather.word(pages, page_of_address(fork, at), (at % WORDS) as u16)
 }
 
 /// Whether a word that the unit has stored at an address stands at another: at the same place of
 /// the same page, which may have two names.
-fn is_stored_at<P: Pages>(pages: &P, fork: ForkName, stored: u32, at: u32) -> bool
+fn is_stored_at<P: Pages>(gather: &Gather, pages: &P, fork: ForkName, stored: u32, at: u32) -> bool
     requires serves { Serves P.means pages.now fork }
     requires address { IsAddress at }
     requires stored { IsAddress stored }
-    ensures told { (d : DrumWords) (rs : List AAsking) (n : APageName) → P.means.fits pages.now d → all_make fork (P.means.plain pages.now d) rs ≡ true
-        → page_at (after_all fork (P.means.plain pages.now d) rs) (in_map (slot_at fork at)) ≡ Some n → result ≡ stands_at fork (after_all fork (P.means.plain pages.now d) rs) stored at n }
+    ensures told { (d : DrumWords) (n : APageName) → P.means.fits pages.now d → Gathers (P.means.plain pages.now d) (P.means.scene pages.now) gather.now
+        → page_at (left_of (P.means.plain pages.now d) gather.now) (in_map (slot_at fork at)) ≡ Some n → result ≡ stands_at fork (left_of (P.means.plain pages.now d) gather.now) stored at n }
 {
     if stored % WORDS != at % WORDS {
         return false;
@@ -174,24 +159,34 @@ fn is_stored_at<P: Pages>(pages: &P, fork: ForkName, stored: u32, at: u32) -> bo
     if stored / WORDS == at / WORDS {
         return true;
     }
-    are_one(name_at(pages, fork, at), name_at(pages, fork, stored))
+    gather.same(
+        pages,
+        page_of_address(fork, at),
+        page_of_address(fork, stored),
+    )
 }
 
 /// The word at an address whose page was asked for, or the word that the unit has stored there.
-fn seen_word<P: Pages>(pages: &P, fork: ForkName, kept: Option<Put>, at: u32) -> Word
+fn seen_word<P: Pages>(
+    gather: &Gather,
+    pages: &P,
+    fork: ForkName,
+    kept: Option<Put>,
+    at: u32,
+) -> Word
     requires serves { Serves P.means pages.now fork }
     requires address { IsAddress at }
     requires kept { IsPutBelow (2 ^ 18) kept }
-    ensures told { (d : DrumWords) (rs : List AAsking) (n : APageName) → P.means.fits pages.now d → all_make fork (P.means.plain pages.now d) rs ≡ true
-        → page_at (after_all fork (P.means.plain pages.now d) rs) (in_map (slot_at fork at)) ≡ Some n → result ≡ seen (after_all fork (P.means.plain pages.now d) rs) fork kept at (Some n) }
+    ensures told { (d : DrumWords) (n : APageName) → P.means.fits pages.now d → Gathers (P.means.plain pages.now d) (P.means.scene pages.now) gather.now
+        → page_at (left_of (P.means.plain pages.now d) gather.now) (in_map (slot_at fork at)) ≡ Some n → result ≡ seen (left_of (P.means.plain pages.now d) gather.now) fork kept at (Some n) }
 {
     match kept {
-        None => held_word(pages, fork, at),
+        None => held_word(gather, pages, fork, at),
         Some(put) => {
-            if is_stored_at(pages, fork, put.at, at) {
+            if is_stored_at(gather, pages, fork, put.at, at) {
                 put.word
             } else {
-                held_word(pages, fork, at)
+                held_word(gather, pages, fork, at)
             }
         }
     }
@@ -210,13 +205,13 @@ fn word_at<P: Pages>(taken: &Taken, regs: &Regs, pages: &P, fork: ForkName, at: 
     requires serves { Serves P.means pages.now fork }
     requires address { IsAddress at }
     requires kept { IsPutBelow (2 ^ 18) taken.now.kept }
-    ensures told { (d : DrumWords) → P.means.fits pages.now d → all_make fork (P.means.plain pages.now d) taken.now.gather ≡ true → HasPage fork (pages_so_far fork (P.means.plain pages.now d) taken.now) at
-        → result ≡ word_taken fork (progress fork (P.means.plain pages.now d) regs.now.ac taken.now) at }
+    ensures told { (d : DrumWords) → P.means.fits pages.now d → Gathers (P.means.plain pages.now d) (P.means.scene pages.now) taken.now.gather → HasPage fork (pages_so_far (framed P.means pages.now d) taken.now) at
+        → result ≡ word_taken fork (progress (framed P.means pages.now d) regs.now.ac taken.now) at }
 {
     if at < ACCUMULATORS {
         return accumulator(regs, at);
     }
-    seen_word(pages, fork, taken.kept, at)
+    seen_word(&taken.gather, pages, fork, taken.kept, at)
 }
 
 /// Refers to an address, and takes the word there. Err: the page is denied, or has to be made and
@@ -231,14 +226,14 @@ pub fn refer<P: Pages>(
 ) -> Result<Word, Trap>
     requires serves { Serves P.means pages.now fork }
     requires address { IsAddress at }
-    requires is_open { IsOpen taken.old }
+    requires is_open { IsOpen fork taken.old }
     requires kept { IsPutBelow (2 ^ 18) taken.old.kept }
-    ensures is_open { IsOpen taken.new }
+    ensures is_open { IsOpen fork taken.new }
     ensures kept { taken.new.kept ≡ taken.old.kept }
-    ensures told { (d : DrumWords) → P.means.fits pages.now d → Stands fork (P.means.plain pages.now d) taken.old
-        → Follows fork (P.means.plain pages.now d) regs.now.ac taken.old taken.new (refers at kind) result }
-    ensures writes { (d : DrumWords) → P.means.fits pages.now d → Stands fork (P.means.plain pages.now d) taken.old → kind ≡ Kind.Write
-        → CanWrite fork (P.means.plain pages.now d) taken.new at result }
+    ensures told { (d : DrumWords) → P.means.fits pages.now d → Stands fork (framed P.means pages.now d) taken.old
+        → Follows fork (framed P.means pages.now d) regs.now.ac taken.old taken.new (refers at kind) result }
+    ensures writes { (d : DrumWords) → P.means.fits pages.now d → Stands fork (framed P.means pages.now d) taken.old → kind ≡ Kind.Write
+        → CanWrite fork (framed P.means pages.now d) taken.new at result }
 {
     if taken.refs.len() >= MOST_REFERENCES as usize {
         return Err(Trap::ILLEGAL);
@@ -275,12 +270,13 @@ pub fn widen<P: Pages>(
 ) -> Result<(), Trap>
     requires serves { Serves P.means pages.now fork }
     requires address { IsAddress at }
-    requires is_open { IsOpen taken.old }
+    requires is_open { IsOpen fork taken.old }
+    ensures own { IsOf fork taken.new.gather }
     ensures kept { taken.new.kept ≡ taken.old.kept }
-    ensures told { (d : DrumWords) → P.means.fits pages.now d → Stands fork (P.means.plain pages.now d) taken.old
-        → Follows fork (P.means.plain pages.now d) regs.now.ac taken.old taken.new (widened_by at) result }
-    ensures writes { (d : DrumWords) → P.means.fits pages.now d → Stands fork (P.means.plain pages.now d) taken.old
-        → CanWrite fork (P.means.plain pages.now d) taken.new at result }
+    ensures told { (d : DrumWords) → P.means.fits pages.now d → Stands fork (framed P.means pages.now d) taken.old
+        → Follows fork (framed P.means pages.now d) regs.now.ac taken.old taken.new (widened_by at) result }
+    ensures writes { (d : DrumWords) → P.means.fits pages.now d → Stands fork (framed P.means pages.now d) taken.old
+        → CanWrite fork (framed P.means pages.now d) taken.new at result }
 {
     match ask(&mut taken.gather, pages, fork, at, Kind::Write) {
         Err(trap) => Err(trap),

@@ -1,37 +1,15 @@
-// Programs in place, over pages in memory alone: each is begun at 100 and runs up to an illegal word,
-// unless it ends before.
+// Programs in place, over pages in memory alone, by themselves and at the end of chains: each is begun at 100
+// and runs up to an illegal word, unless it ends before.
 ghost use Rattle.std.specs.Prelude.{◌≡◌, ◌<◌, ◌≤◌, ◌+◌, ◌^◌, true, false};
 ghost use Rattle.plain_model.specs.Pages.{HasSpace};
 
+use crate::spaces::{first_page, space_of};
+use crate::top::{TOP, add_top};
 use flat_pages::{FlatSlots, FlatStore};
 use ka10_unit::{Burst, End, burst};
-use plain_model::{ForkName, Kind, NewMap, Pages, Place, Regs, Slot, SpaceHandle, Touch, Tty};
+use plain_model::{Kind, Pages, Regs, SpaceHandle, Tty};
 use std::test::Fail;
 use word36::{Flags, Word};
-
-const TOP: ForkName = ForkName {
-    tty: Tty(3),
-    serial: 7,
-};
-
-// The first page of the fork's space is made.
-fn make_page<P: Pages>(pages: &mut P)
-    requires lives { P.means.lives pages.old TOP ≡ true }
-    requires serial { P.means.serial pages.old Tty.CONSOLE < 1000 }
-    ensures { P.means.lives pages.new TOP ≡ true }
-{
-    let at = Place::Fork(Slot { fork: TOP, page: 0 });
-    if let Touch::Zero = pages.touch(at, Kind::Write) {
-        pages.settle(at, Kind::Write, Tty::CONSOLE);
-    }
-}
-
-fn space_of<P: Pages>(pages: &P) -> SpaceHandle
-    requires { P.means.lives pages.now TOP ≡ true }
-    ensures { HasSpace P.means pages.now result }
-{
-    pages.space(TOP)
-}
 
 fn poke<P: Pages>(pages: &mut P, space: SpaceHandle, at: u32, word: u64)
     requires at { at < 512 }
@@ -44,15 +22,16 @@ fn poke<P: Pages>(pages: &mut P, space: SpaceHandle, at: u32, word: u64)
     }
 }
 
-// A program's words by their addresses in the first page.
-fn run<P: Pages>(pages: &mut P, program: &[(u32, u64)]) -> (Burst, Regs)
+// A program's words by their addresses in the first page, which may stand at the end of a chain.
+fn run<P: Pages>(pages: &mut P, program: &[(u32, u64)], is_chained: bool) -> (Burst, Regs)
+    requires flat { P.means.flat ≡ true }
     requires room { P.means.count pages.old < P.means.most pages.old }
     requires absent { P.means.lives pages.old TOP ≡ false }
     requires few { P.means.forks_of pages.old TOP.tty < P.means.most_forks }
     requires serial { P.means.serial pages.old Tty.CONSOLE < 900 }
 {
-    pages.add_fork(TOP, NewMap::Empty);
-    make_page(pages);
+    add_top(pages);
+    first_page(pages, is_chained);
     let space = space_of(pages);
     for (at, word) in program {
         poke(pages, space, *at % 512, *word);
@@ -80,7 +59,7 @@ fn programs(rt: HostRuntime) -> Result<(), Fail> {
             4,
             End::Slow,
             0o104,
-            2,
+            2usize,
             0o10,
         ),
         // ILDB 2,110, in two units: the first byte of NAME
@@ -177,16 +156,33 @@ fn programs(rt: HostRuntime) -> Result<(), Fail> {
         (&[(0o100, 0o104000000074)][..], 0, End::Slow, 0o100, 1, 0),
         // MOVE 1,5000, in a page that isn't made
         (&[(0o100, 0o200040005000)][..], 0, End::Slow, 0o100, 1, 0),
+        // MOVE 1,110; JRST 1, where a JRST 102 stands then
+        (
+            &[
+                (0o100, 0o200040000110),
+                (0o101, 0o254000000001),
+                (0o110, 0o254000000102),
+            ][..],
+            3,
+            End::Slow,
+            0o102,
+            1,
+            0o254000000102,
+        ),
+        // JRST 1100, to the same place of a page that isn't made
+        (&[(0o100, 0o254000001100)][..], 1, End::Slow, 0o1100, 1, 0),
         // JRST 100
         (&[(0o100, 0o254000000100)][..], 100, End::Most, 0o100, 1, 0),
     ] {
-        let store = FlatStore::boot(rt.alloc(), 8)?;
-        let mut pages = FlatSlots::boot(rt.alloc(), store, 8)?;
-        let (done, regs) = run(&mut pages, program);
-        assert_eq!(rt; done, Burst { units, end });
-        assert_eq!(rt; regs.pc, pc);
-        assert!(rt; ac < 16);
-        assert_eq!(rt; regs.ac[ac as usize], Word::wrapped(value));
+        for is_chained in [false, true] {
+            let store = FlatStore::boot(rt.alloc(), 8)?;
+            let mut pages = FlatSlots::boot(rt.alloc(), store, 8)?;
+            let (done, regs) = run(&mut pages, program, is_chained);
+            assert_eq!(rt; done, Burst { units, end });
+            assert_eq!(rt; regs.pc, pc);
+            assert!(rt; ac < 16);
+            assert_eq!(rt; regs.ac[ac], Word::wrapped(value));
+        }
     }
     Ok(())
 }

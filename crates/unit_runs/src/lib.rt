@@ -7,3 +7,7 @@
 mod bursts;
 #[cfg(test)]
 mod runs;
+#[cfg(test)]
+mod spaces;
+#[cfg(test)]
+mod top;

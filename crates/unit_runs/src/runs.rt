@@ -1,20 +1,16 @@
 // Programs in the accumulators of a fork, whose pages are made as they come to be referred to.
-ghost use Rattle.std.specs.Prelude.{◌≡◌, ◌<◌, ◌≤◌, ◌^◌, IfOk};
+ghost use Rattle.std.specs.Prelude.{◌<◌, ◌≤◌, ◌^◌};
 ghost use Rattle.plain_model.specs.declared.names.TheConstants.{MOST_HOMES};
 ghost use Rattle.ka10_unit.specs.Gathers.{Serves};
 
+use crate::top::{TOP, add_top};
 use flat_pages::{FlatSlots, FlatStore};
 use ka10_unit::{Outcome, Post, Taken, slow_unit};
 use outside::Memory;
-use plain_model::{ForkName, NewMap, Pages, Regs, Tty};
+use plain_model::{Pages, Regs};
 use std::alloc::Global;
 use std::test::Fail;
 use word36::{Flags, Word};
-
-const TOP: ForkName = ForkName {
-    tty: Tty(3),
-    serial: 7,
-};
 
 /// How the last of some units came out, and what they left.
 #[derive(Drop)]
@@ -78,7 +74,7 @@ fn come_out(alloc: Global, limit: u32, first: Regs, units: u32) -> Result<Came, 
 {
     let store = FlatStore::boot(alloc, limit)?;
     let mut pages = FlatSlots::boot(alloc, store, limit)?;
-    pages.add_fork(TOP, NewMap::Empty);
+    add_top(&mut pages);
     let mut regs = first;
     let outcome = run(&mut pages, &mut regs, units);
     Ok(Came {

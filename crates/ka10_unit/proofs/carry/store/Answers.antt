@@ -13,5 +13,5 @@ returns-in_default-touch g c = record {
       let open_at = rw c.in-Some.is at can in
       absurd (c.in_default-touch.not-Ready (ready_found p (g.P.Pages.means.scene c.args.pages.now) (in_map (slot_at c.args.fork c.in-Some.put.at)) Write c.args.fork.tty c.touch.result touched (c.touch.ensures.core c.requires.serves.flat) open_at));
   fits = λ d fits. fits;
-  stays = record { touched = refl; scene = refl; space = refl; place = refl; lives = refl; forks = refl; serials = refl; most = refl; single = refl };
+  stays = record { touched = refl; scene = refl; space = refl; place = refl; lives = refl; forks = refl; serials = refl; most = refl };
 }

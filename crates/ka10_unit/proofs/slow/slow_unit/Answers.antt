@@ -9,7 +9,7 @@ pub returns-in-Trap : goal.returns-in-Trap
 returns-in-Trap g c = record {
   told = λ d fits. (fits, (c.in-Trap.ensures.told d fits).is);
   stopped = (refl, refl);
-  grows = grows_within g.P.Pages.means c.args.fork.tty 0 17 _ _ (omega arith) (grows_none g.P.Pages.means c.args.fork.tty _);
+  grows = grows_within g.P.Pages.means c.args.fork.tty 0 128 _ _ (omega arith) (grows_none g.P.Pages.means c.args.fork.tty _);
   pc = c.requires.pc;
   number = tt;
   accumulators = refl;
@@ -19,7 +19,7 @@ pub returns-in-Call : goal.returns-in-Call
 returns-in-Call g c = record {
   told = λ d fits. (fits, (c.in-Call.ensures.told d fits).is);
   stopped = (refl, refl);
-  grows = grows_within g.P.Pages.means c.args.fork.tty 0 17 _ _ (omega arith) (grows_none g.P.Pages.means c.args.fork.tty _);
+  grows = grows_within g.P.Pages.means c.args.fork.tty 0 128 _ _ (omega arith) (grows_none g.P.Pages.means c.args.fork.tty _);
   pc = c.requires.pc;
   number = c.in-Call.ensures.bounds;
   accumulators = refl;

@@ -1,8 +1,15 @@
-use Rattle.ka10_unit.proofs.Seeing.{peek_is, peek_none}
+use Rattle.std.proofs.Common.{◌%◌, ◌∙◌, ap}
+use Rattle.outside.specs.declared.TheConstants.{PAGE_WORDS}
+use Rattle.plain_model.specs.declared.names.Place.{Place}
+use Rattle.plain_model.specs.Pages.{spot_of}
+use Rattle.plain_model.specs.References.{slot_at, word_at}
+use Rattle.page_gather.specs.Gathering.{left_of}
+use Rattle.ka10_unit.proofs.Adding.{near_in_core}
 use Rattle.ka10_unit.proofs.taken.held_word.Goals as goal
 
-pub returns-in-Is : goal.returns-in-Is
-returns-in-Is g c = record { told = λ d fits. peek_is (g.P.Pages.means.plain c.args.pages.now d) (g.P.Pages.means.scene c.args.pages.now) c.args.fork c.args.at _ (rw c.page_of_address.ensures at (c.in-Is.ensures.told d fits)) }
-
-pub returns-in-NoPage : goal.returns-in-NoPage
-returns-in-NoPage g c = record { told = λ d fits. peek_none (g.P.Pages.means.plain c.args.pages.now d) (g.P.Pages.means.scene c.args.pages.now) c.args.fork c.args.at (rw c.page_of_address.ensures at (c.in-NoPage.ensures.told d fits)) }
+pub returns : goal.returns
+returns g c = record {
+  told = λ d fits gathers.
+      let near = near_in_core g.P.Pages.means c.args.pages.now (g.met.P.Pages.housed c.args.pages.now) c.requires.serves.flat (left_of (g.P.Pages.means.plain c.args.pages.now d) c.args.gather.now) _ (slot_at c.args.fork c.args.at) c.page_of_address.ensures in
+      c.word.ensures.told d fits gathers near ∙ ap (λ (at : Place). word_at (left_of (g.P.Pages.means.plain c.args.pages.now d) c.args.gather.now) (spot_of at) (c.args.at % PAGE_WORDS)) c.page_of_address.ensures;
+}

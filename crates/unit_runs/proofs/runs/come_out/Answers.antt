@@ -6,11 +6,11 @@ use Rattle.unit_runs.proofs.runs.come_out.Goals as goal
 abbrev top : ForkName
 top = record { tty = record { 0 = 3 }; serial = 7 }
 
-pub add_fork-requires-clause-absent : goal.add_fork-requires-clause-absent
-add_fork-requires-clause-absent c = c.in_ok-pages.ensures.lives top
+pub add_top-requires-clause-absent : goal.add_top-requires-clause-absent
+add_top-requires-clause-absent c = c.in_ok-pages.ensures.lives top
 
 pub run-outcome-requires-clause-serves : goal.run-outcome-requires-clause-serves
-run-outcome-requires-clause-serves c = record { flat = refl; single = c.add_fork.ensures.single refl c.in_ok-pages.ensures.single; lives = c.add_fork.ensures.lives top; terminal = omega arith }
+run-outcome-requires-clause-serves c = record { flat = refl; lives = c.add_top.ensures.lives; terminal = omega arith }
 
 pub run-outcome-requires-clause-serial : goal.run-outcome-requires-clause-serial
-run-outcome-requires-clause-serial c = omega (arith, ap (λ (serial : Tty → ℕ). serial (record { 0 = 3 })) c.add_fork.ensures.serials, c.in_ok-pages.ensures.first (record { 0 = 3 }))
+run-outcome-requires-clause-serial c = omega (arith, ap (λ (serial : Tty → ℕ). serial (record { 0 = 3 })) c.add_top.ensures.serials, c.in_ok-pages.ensures.first (record { 0 = 3 }))

@@ -4,7 +4,7 @@ use Rattle.unit_runs.proofs.runs.run.Goals as goal
 
 pub loop-unit-preserved : goal.loop-unit-preserved
 loop-unit-preserved g c = record {
-  serves = serves_still g.P.Pages.means _ c.loop-unit.pages _ c.slow_unit-outcome.ensures.grows.lives c.slow_unit-outcome.ensures.grows.single c.loop-unit.invariant.serves;
+  serves = serves_still g.P.Pages.means _ c.loop-unit.pages _ c.slow_unit-outcome.ensures.grows.lives c.loop-unit.invariant.serves;
   serial = omega (arith, c.slow_unit-outcome.ensures.grows.serial, c.loop-unit.invariant.serial);
   pc = c.slow_unit-outcome.ensures.pc;
 }

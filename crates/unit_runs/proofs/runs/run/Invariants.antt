@@ -9,6 +9,6 @@ top = record { tty = record { 0 = 3 }; serial = 7 }
 abbrev pub invariant-loop-unit : goal.invariant-loop-unit
 invariant-loop-unit g l = record {
   serves : Serves g.P.Pages.means l.pages top;
-  serial : g.P.Pages.means.serial l.pages top.tty ≤ 1 + 17 * l.unit;
+  serial : g.P.Pages.means.serial l.pages top.tty ≤ 1 + 128 * l.unit;
   pc : l.regs.pc < 2 ^ 18;
 }
