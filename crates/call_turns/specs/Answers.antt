@@ -1,14 +1,15 @@
 -- What a turn answers, and what it leaves of the parts that its call sees.
-use Rattle.std.specs.Prelude.{◌≡◌, ◌⊎◌, [], ◌∷◌, None}
+use Rattle.std.specs.Prelude.{◌≡◌, ◌⊎◌, ◌<◌, [], ◌∷◌, None}
 use Rattle.plain_model.specs.declared.call.End.{End}
 use Rattle.plain_model.specs.declared.call.End.TheVariants as end
 use Rattle.plain_model.specs.declared.fork.Answer.{Answer}
-use Rattle.plain_model.specs.declared.fork.Answer.TheVariants.{After, Refused, Trap, Need as Needs}
+use Rattle.plain_model.specs.declared.fork.Answer.TheVariants.{After, Wait, Halt, Refused, Trap, Need as Needs}
 use Rattle.plain_model.specs.declared.fork.Chars.{Chars}
 use Rattle.plain_model.specs.declared.map.Need.{Need}
 use Rattle.plain_model.specs.Pages.{Scene}
 use Rattle.plain_model.specs.Calls.{parts_behind}
 use Rattle.call_turns.specs.Telling.{IsReason}
+use Rattle.call_turns.specs.Turns.{IsRegs}
 
 -- nothing is printed
 abbrev pub no_chars : Chars
@@ -39,3 +40,12 @@ IsTurn scene changed old new answer e = Went changed old new answer e ⊎ Waits 
 abbrev pub IsDone : Answer → Type 0
 IsDone (Needs need) = ⊥
 IsDone answer = Unit {0}
+
+-- the limits of an answer of a turn that ends
+abbrev pub FitsAnswer : Answer → Type 0
+FitsAnswer (After regs out post) = IsRegs regs
+FitsAnswer (Wait on) = ⊥
+FitsAnswer Halt = ⊥
+FitsAnswer (Refused code) = Unit {0}
+FitsAnswer (Trap channel) = channel < 36
+FitsAnswer (Needs need) = Unit {0}

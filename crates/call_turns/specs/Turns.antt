@@ -1,10 +1,11 @@
 -- A turn as it is driven: its first step and what is left of it, and the whole turn that this comes to.
-use Rattle.std.specs.Prelude.{ℕ, zero, suc, ◌<◌, Option, None}
+use Rattle.std.specs.Prelude.{◌≡◌, ℕ, zero, suc, ◌<◌, ◌^◌, Option, None, length}
 use Rattle.plain_model.specs.declared.call.End.{End}
 use Rattle.plain_model.specs.declared.call.End.TheVariants.{Done, Refused, Trap}
 use Rattle.plain_model.specs.declared.channel.TheConstants.{ILLEGAL_INSTRUCTION}
-use Rattle.plain_model.specs.declared.names.TheConstants.{SPACE_PAGES}
+use Rattle.plain_model.specs.declared.names.TheConstants.{SPACE_PAGES, ACCUMULATORS}
 use Rattle.plain_model.specs.declared.names.PageName.{PageName}
+use Rattle.plain_model.specs.declared.fork.Regs.{Regs}
 use Rattle.plain_model.specs.declared.map.MapEntry.{MapEntry}
 use Rattle.plain_model.specs.declared.map.MapEntry.TheVariants.{Empty}
 use Rattle.plain_model.specs.Calls.{Turn, sees, finds, ends}
@@ -39,13 +40,17 @@ abbrev pub IsAsk : Ask → Type 0
 IsAsk (Sees s) = s.page < SPACE_PAGES
 IsAsk (Finds s) = s.page < SPACE_PAGES
 
--- a change that is made is sound
-abbrev pub FitsEnd : {C : Type 0} → (C → Type 0) → End C → Type 0
-FitsEnd sound (Done change regs) = sound change
-FitsEnd sound (Refused code) = Unit {0}
-FitsEnd sound (Trap channel) = Unit {0}
+-- registers of a fork: an address for a program counter, and 16 accumulators
+abbrev pub IsRegs : Regs → Type 0
+IsRegs regs = (regs.pc < 2 ^ 18) × (length regs.ac ≡ ACCUMULATORS)
 
--- what is asked is of a page, what is left holds, and a change that is made is sound
+-- a change that is made is sound, and registers and a channel are within their limits
+abbrev pub FitsEnd : {C : Type 0} → (C → Type 0) → End C → Type 0
+FitsEnd sound (Done change regs) = sound change × IsRegs regs
+FitsEnd sound (Refused code) = Unit {0}
+FitsEnd sound (Trap channel) = channel < 36
+
+-- what is asked is of a page, what is left holds, and the end is within its limits
 abbrev pub FitsTurn : {C S : Type 0} → (S → Type 0) → (C → Type 0) → Step C S → Type 0
 FitsTurn holds sound (Ends e) = FitsEnd sound e
 FitsTurn holds sound (Asks what rest) = IsAsk what × holds rest

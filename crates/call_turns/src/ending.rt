@@ -1,7 +1,9 @@
 // How a turn ends.
 ghost use Rattle.std.specs.Prelude.{◌≡◌, ◌<◌, ◌^◌, length};
+ghost use Rattle.plain_model.specs.declared.names.TheConstants.{ACCUMULATORS};
 ghost use Rattle.plain_model.specs.Calls.{behind_call, returning as returning_of, with_ac as with_ac_of};
 ghost use Rattle.call_turns.specs.Answers.{answer_of as answer_to};
+ghost use Rattle.call_turns.specs.Turns.{IsRegs};
 
 use plain_model::call::End;
 use plain_model::{Answer, Chars, Regs};
@@ -10,7 +12,8 @@ use word36::Word;
 /// The registers with a word in an accumulator, 0 to 15.
 pub fn with_ac(mut regs: Regs, ac: usize, word: Word) -> Regs
     requires { ac < length regs.ac }
-    ensures { result ≡ with_ac_of regs ac word }
+    ensures with { result ≡ with_ac_of regs ac word }
+    ensures fits { IsRegs regs → IsRegs result }
 {
     regs.ac[ac] = word;
     regs
@@ -19,7 +22,8 @@ pub fn with_ac(mut regs: Regs, ac: usize, word: Word) -> Regs
 /// The registers behind the call: the program counter goes on by one, modulo 2^18.
 pub fn behind(mut regs: Regs) -> Regs
     requires { regs.pc < 2 ^ 18 }
-    ensures { result ≡ behind_call regs }
+    ensures behind { result ≡ behind_call regs }
+    ensures fits { length regs.ac ≡ ACCUMULATORS → IsRegs result }
 {
     regs.pc = regs.pc + 1 & Word::HALF_MASK;
     regs
@@ -28,7 +32,8 @@ pub fn behind(mut regs: Regs) -> Regs
 /// The call is done, and returns with these registers.
 pub fn returning<C>(change: C, regs: Regs) -> End<C>
     requires { regs.pc < 2 ^ 18 }
-    ensures { result ≡ returning_of change regs }
+    ensures end { result ≡ returning_of change regs }
+    ensures fits { IsRegs regs → IsRegs (behind_call regs) }
 {
     End::Done(change, behind(regs))
 }

@@ -65,6 +65,14 @@ impl Tree {
         })
     }
 
+    /// The forks of each job are a tree, whatever was done. It does nothing when it runs.
+    #[inline(always)]
+    pub fn are_trees(&self)
+        ensures { IsTree self.now }
+    {
+        let _ = &self.forks;
+    }
+
     /// The fork of a name. None exactly where none of that name lives. One step.
     pub fn fork(&self, name: ForkName) -> Option<&Fork>
         ensures found { option_copied result ≡ map.get self.now.forks name }

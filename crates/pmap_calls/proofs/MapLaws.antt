@@ -28,7 +28,7 @@ use Rattle.plain_model.proofs.Chains.{entry_set, entry_other}
 use Rattle.plain_model.proofs.Kept.{entry_maps}
 use Rattle.plain_model.proofs.Reading.{follower_words}
 use Rattle.pmap_calls.specs.Laws.{HasEntry, LeavesErrorAlone, refusal}
-use Rattle.pmap_calls.specs.Stages.{IsRegs}
+use Rattle.call_turns.specs.Turns.{IsRegs}
 
 bits : (r w x c : Bool) → access_in (access_word (record { r = r; w = w; x = x; c = c })) ≡ record { r = r; w = w; x = x; c = c }
 unfolding access_in access_word

@@ -1,6 +1,6 @@
 -- What is left of a call on maps, and the whole turn that this comes to.
-use Rattle.std.specs.Prelude.{◌≡◌, ◌<◌, ◌^◌, ℕ, length}
-use Rattle.plain_model.specs.declared.names.TheConstants.{SPACE_PAGES, ACCUMULATORS}
+use Rattle.std.specs.Prelude.{◌<◌, ℕ}
+use Rattle.plain_model.specs.declared.names.TheConstants.{SPACE_PAGES}
 use Rattle.plain_model.specs.declared.call.MapChange.{MapChange}
 use Rattle.plain_model.specs.declared.call.MapChange.TheVariants.{Nothing, Unmap, Follow, Narrow as Narrowed}
 use Rattle.plain_model.specs.declared.fork.Regs.{Regs}
@@ -11,7 +11,7 @@ use Rattle.call_turns.specs.declared.turn.Ask.TheVariants.{Finds}
 use Rattle.call_turns.specs.declared.turn.Reply.{Reply}
 use Rattle.call_turns.specs.declared.turn.Turn.{Turn as Step}
 use Rattle.call_turns.specs.declared.turn.Turn.TheVariants.{Ends, Asks}
-use Rattle.call_turns.specs.Turns.{entry_in, page_in, turn_of}
+use Rattle.call_turns.specs.Turns.{IsRegs, entry_in, page_in, turn_of}
 use Rattle.pmap_calls.specs.declared.stage.Stage.{Stage}
 use Rattle.pmap_calls.specs.declared.stage.Stage.TheVariants.{Access, Source, Page, Narrow}
 
@@ -29,10 +29,6 @@ most_asks = 2
 -- the whole turn of a first step
 abbrev pub whole : PlainTree → Step MapChange Stage → Turn MapChange
 whole tree step = turn_of (later tree) step most_asks
-
--- registers of a fork: an address for a program counter, and 16 accumulators
-abbrev pub IsRegs : Regs → Type 0
-IsRegs regs = (regs.pc < 2 ^ 18) × (length regs.ac ≡ ACCUMULATORS)
 
 abbrev pub IsStage : Stage → Type 0
 IsStage (Access slot regs) = (slot.page < SPACE_PAGES) × IsRegs regs

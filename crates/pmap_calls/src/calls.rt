@@ -1,8 +1,8 @@
 // The first step of each call on maps, by its definition.
 ghost use Rattle.std.specs.Prelude.{◌≡◌};
 ghost use Rattle.plain_model.specs.MapCalls.{pmap as pmap_of, rmap as rmap_of, rpacs as rpacs_of, spacs as spacs_of};
-ghost use Rattle.call_turns.specs.Turns.{FitsTurn};
-ghost use Rattle.pmap_calls.specs.Stages.{IsMapChange, IsRegs, IsStage, whole};
+ghost use Rattle.call_turns.specs.Turns.{IsRegs, FitsTurn};
+ghost use Rattle.pmap_calls.specs.Stages.{IsMapChange, IsStage, whole};
 
 use crate::access::access_in;
 use crate::naming::{place_named, slot_named};

@@ -12,7 +12,7 @@ ghost use Rattle.plain_model.specs.Deeds.{next_pc};
 ghost use Rattle.plain_model.specs.AccessWords.{access_in, access_word};
 ghost use Rattle.plain_model.specs.Calls.{fork_behind, parts_behind};
 ghost use Rattle.plain_model.specs.MapCalls.{behind_page, is_counted, map_changed, pages_left};
-ghost use Rattle.pmap_calls.specs.Stages.{IsRegs};
+ghost use Rattle.call_turns.specs.Turns.{IsRegs};
 ghost use Rattle.pmap_calls.specs.Laws.{HasEntry, LeavesErrorAlone, refusal};
 
 use plain_model::MapEntry;

@@ -1,7 +1,8 @@
 // PMAP, page by page.
 ghost use Rattle.std.specs.Prelude.{◌≡◌, ◌<◌, true, IfOk};
 ghost use Rattle.plain_model.specs.MapCalls.{behind_page as behind_page_of, is_counted as is_counted_of, mapped as mapped_of, next_source as next_source_of, one_page as one_page_of, on_next_page as on_next_page_of, pages_left as pages_left_of, unmapped as unmapped_of};
-ghost use Rattle.pmap_calls.specs.Stages.{IsMapChange, IsRegs};
+ghost use Rattle.call_turns.specs.Turns.{IsRegs};
+ghost use Rattle.pmap_calls.specs.Stages.{IsMapChange};
 
 use crate::access::access_in;
 use crate::naming::{names_page, place_named, place_of};
@@ -45,7 +46,8 @@ fn next_source(word: Word) -> Word
 fn on_next_page(regs: Regs) -> Regs
     requires regs { IsRegs regs }
     requires left { 0 < pages_left_of regs }
-    ensures { result ≡ on_next_page_of regs }
+    ensures next { result ≡ on_next_page_of regs }
+    ensures fits { IsRegs result }
 {
     let source = next_source(regs.ac[1]);
     let destination = Word::wrapped(regs.ac[2].value() + 1);
@@ -58,7 +60,8 @@ fn on_next_page(regs: Regs) -> Regs
 pub fn behind_page(regs: Regs) -> Regs
     requires regs { IsRegs regs }
     requires left { is_counted_of regs ≡ true → 0 < pages_left_of regs }
-    ensures { result ≡ behind_page_of regs }
+    ensures behind { result ≡ behind_page_of regs }
+    ensures fits { IsRegs result }
 {
     if !is_counted(&regs) {
         return behind(regs);

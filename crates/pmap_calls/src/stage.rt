@@ -2,8 +2,8 @@
 ghost use Rattle.std.specs.Prelude.{◌≡◌, ◌<◌};
 ghost use Rattle.plain_model.specs.MapCalls.{narrows as narrows_of, source_of as source_of_entry, tells_access as tells_access_of};
 ghost use Rattle.plain_model.specs.declared.names.TheConstants.{SPACE_PAGES};
-ghost use Rattle.call_turns.specs.Turns.{FitsEnd};
-ghost use Rattle.pmap_calls.specs.Stages.{IsMapChange, IsRegs};
+ghost use Rattle.call_turns.specs.Turns.{IsRegs, FitsEnd};
+ghost use Rattle.pmap_calls.specs.Stages.{IsMapChange};
 
 use crate::access::access_told;
 use call_turns::{Ask, Reply, Rest, Turn, returning, with_ac};

@@ -1,8 +1,8 @@
 // The calls on maps by their numbers.
 ghost use Rattle.std.specs.Prelude.{◌≡◌};
 ghost use Rattle.plain_model.specs.MapCalls.{map_call};
-ghost use Rattle.call_turns.specs.Turns.{FitsTurn};
-ghost use Rattle.pmap_calls.specs.Stages.{IsMapChange, IsRegs, IsStage, whole};
+ghost use Rattle.call_turns.specs.Turns.{IsRegs, FitsTurn};
+ghost use Rattle.pmap_calls.specs.Stages.{IsMapChange, IsStage, whole};
 
 use crate::calls::{pmap, rmap, rpacs, spacs};
 use crate::stage::Stage;

@@ -1,7 +1,8 @@
 // The first step of each call, and what is done with what is told, worked out by hand from the manual's calls. Fork
 // 1 of terminal 0 calls, at 103; fork 2 is its inferior.
 ghost use Rattle.std.specs.Prelude.{◌≡◌, ◌<◌, ◌^◌, length};
-ghost use Rattle.pmap_calls.specs.Stages.{IsRegs, IsStage};
+ghost use Rattle.call_turns.specs.Turns.{IsRegs};
+ghost use Rattle.pmap_calls.specs.Stages.{IsStage};
 
 use crate::stage::Stage;
 use crate::table::first;

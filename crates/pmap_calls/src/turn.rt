@@ -4,10 +4,10 @@ ghost use Rattle.plain_model.specs.declared.names.TheConstants.{SPACE_PAGES};
 ghost use Rattle.plain_model.specs.Calls.{end_of};
 ghost use Rattle.plain_model.specs.MapCalls.{map_call, map_changed};
 ghost use Rattle.plain_model.specs.Pages.{IsNewEntry, changed};
-ghost use Rattle.call_turns.specs.Answers.{IsDone};
-ghost use Rattle.call_turns.specs.Turns.{FitsEnd};
+ghost use Rattle.call_turns.specs.Answers.{FitsAnswer, IsDone};
+ghost use Rattle.call_turns.specs.Turns.{IsRegs, FitsEnd};
 ghost use Rattle.pmap_calls.specs.Making.{Makes, MakesNone, Turns};
-ghost use Rattle.pmap_calls.specs.Stages.{IsMapChange, IsRegs};
+ghost use Rattle.pmap_calls.specs.Stages.{IsMapChange};
 
 use crate::table::first;
 use call_turns::{answer_of, driven};
@@ -60,6 +60,7 @@ fn end<P: Pages>(end: End<MapChange>, pages: &mut P) -> Answer
     requires { FitsEnd IsMapChange end }
     ensures told { Turns P.means pages.old pages.new result (λ p. end) }
     ensures core { P.means.flat ≡ true → IsDone result }
+    ensures fits { FitsAnswer result }
     ensures none { MakesNone P.means pages.old pages.new }
 {
     match end {
@@ -80,6 +81,7 @@ pub fn call<P: Pages>(number: u32, regs: &Regs, who: ForkName, tree: &Tree, page
     requires { IsRegs regs.now }
     ensures told { Turns P.means pages.old pages.new result (λ p. end_of p (map_call number (record { who = who; regs = regs.now; forks = tree.now.forks }))) }
     ensures core { P.means.flat ≡ true → IsDone result }
+    ensures fits { FitsAnswer result }
     ensures none { MakesNone P.means pages.old pages.new }
 {
     match driven(first(number, regs, who, tree), MOST_ASKS, tree, pages) {
