@@ -1,53 +1,52 @@
 -- The steps that are no job's: TICK and LOGIN.
-use Rattle.std.proofs.Common.{◌≡◌, ℕ, ◌+◌, ◌<◌, ◌≤◌, [], ◌∷◌, List, length, set, Bool, true, false, cond, Option, None, Some, inl, inr, refl, sym, ◌∙◌, ap, subst, arith, nat_lt, nat_le, is_some, slice_index, get_or-set_same, get_or-set_other}
-use Rattle.std.proofs.lemmas.Bool.{cases_eq}
+use Rattle.std.proofs.Common.{◌≡◌, ℕ, ◌+◌, ◌<◌, ◌≤◌, [], ◌∷◌, List, length, set, Bool, true, false, cond, Option, None, Some, refl, sym, ◌∙◌, ap, subst, arith, nat_lt, nat_le, is_some, slice_index}
 use Rattle.std.proofs.lemmas.Bool.Decides.{nat_tests}
 use Rattle.std.specs.FinMap as fin
 use Rattle.plain_model.specs.declared.names.TheConstants.{LAST_SERIAL}
 use Rattle.plain_model.specs.declared.character.TheConstants.{PROMPT}
 use Rattle.plain_model.specs.declared.names.Tty.{Tty}
-use Rattle.plain_model.specs.declared.names.ForkName.{ForkName}
 use Rattle.plain_model.specs.declared.map.NewMap.TheVariants.{Empty as EmptyMap}
 use Rattle.plain_model.specs.declared.fork.TerminalMode.TheVariants.{Command}
 use Rattle.plain_model.specs.declared.event.Event.TheVariants.{Login, Tick}
-use Rattle.plain_model.specs.declared.event.Step.TheVariants.{Outer, Idle}
+use Rattle.plain_model.specs.declared.event.Step.TheVariants.{Outer}
 use Rattle.plain_model.specs.declared.event.Item.TheVariants.{Char}
 use Rattle.plain_model.specs.declared.event.Refusal.TheVariants.{Busy, SerialsOut, Full}
 use Rattle.plain_model.specs.Orders.{name_cmp}
-use Rattle.plain_model.specs.State.{PlainState}
 use Rattle.plain_model.specs.Outcome.{DrumWords}
 use Rattle.plain_model.specs.Limits.{IsTerminal}
 use Rattle.plain_model.specs.Room.{live, HasRoom}
 use Rattle.plain_model.specs.Forks.{top_fork}
 use Rattle.plain_model.specs.Unit.{Effect}
+use Rattle.fork_tree.specs.Making.{next_name, with_new_in}
+use Rattle.fork_tree.specs.Trees.{PlainTree}
 use Rattle.plain_model.specs.Pages.{Agrees}
 use Rattle.plain_model.specs.Events.{refused, with_map, with_job, new_job, next_fork, outer}
-use Rattle.plain_model.proofs.Equations.{apply_outer, apply_idle, outer_login, outer_tick}
+use Rattle.plain_model.proofs.Equations.{apply_outer, outer_login, outer_tick}
 use Rattle.monitor_core.specs.declared.job.Job.{Job}
 use Rattle.monitor_core.specs.declared.reply.Reply.TheVariants.{Nothing, One}
 use Rattle.monitor_core.specs.declared.system.System.{System}
-use Rattle.monitor_core.specs.Jobs.{jobs_of, forks_of, job_at, plain_job}
+use Rattle.monitor_core.specs.Jobs.{jobs_of, job_at, plain_job}
 use Rattle.monitor_core.specs.Systems.{state_of, FitsPages, Did}
-use Rattle.monitor_core.proofs.Lookups.{job_found, job_missing, jobs_set, forks_set}
-use Rattle.monitor_core.proofs.Systems.{owns, within_later}
+use Rattle.monitor_core.proofs.Lookups.{job_found, job_missing, jobs_set}
+use Rattle.monitor_core.proofs.Systems.{units_changed}
 use Rattle.plain_model.proofs.Refiled.{live_refiled}
 use Rattle.monitor_core.proofs.Rooms.{room_le, no_room_le, live_map, has_room}
 use Rattle.monitor_core.proofs.Unfiled.{named, alike}
 
 module _ {P : Type 0} {b : _} (m m' : System P b) where
-  pub did_tick : m'.pages ≡ m.pages → m'.jobs.items ≡ m.jobs.items → m'.fork_serials.items ≡ m.fork_serials.items → m'.clock ≡ m.clock + 1 → Did m m' (Outer Tick) Nothing
-  did_tick same jobs serials clock = record {
+  pub did_tick : m'.pages ≡ m.pages → m'.tree ≡ m.tree → m'.jobs.items ≡ m.jobs.items → m'.clock ≡ m.clock + 1 → Did m m' (Outer Tick) Nothing
+  did_tick same tree jobs clock = record {
     each = λ d f.
         let old = state_of m d in
         let effect = apply_outer old Tick ∙ outer_tick old in (
           record { pages = subst (λ p. b.means.fits p d) (sym same) f.pages; unfiled = ap (λ p. (b.means.plain p d).files) same ∙ f.unfiled },
-          (λ i. record old { pages = named (b.means.plain (same i) d); jobs = jobs_of (jobs i); forks = forks_of (jobs i); fork_serials = serials i; clock = clock i }) ∙ ap (λ e. e.state) (sym effect),
+          (λ i. record old { pages = named (b.means.plain (same i) d); jobs = jobs_of (jobs i); forks = (tree i).forks; fork_serials = (tree i).serials; clock = clock i }) ∙ ap (λ e. e.state) (sym effect),
           ap (λ e. e.items) (sym effect),
         );
     shown = tt;
     within = λ entries w. record {
       ticks = omega (arith, clock, w.ticks);
-      units = λ t j e. omega (arith, w.units t j (ap (λ js. job_at js t) (sym jobs) ∙ e));
+      units = λ f e. omega (arith, w.units f (ap (λ (x : PlainTree). fin.get x.forks f.name) (sym tree) ∙ e));
       serials = λ t. omega (arith, ap (λ p. b.means.serial p t) same, w.serials t);
     };
     most = ap b.means.most same;
@@ -73,26 +72,26 @@ module _ {P : Type 0} {b : _} (m : System P b) (t : Tty) (user : List ℕ) where
   abbrev room : DrumWords → Bool
   room d = HasRoom (with_map (state_of m d).pages (next_fork (state_of m d) t) EmptyMap) t
 
-  asks : (d : DrumWords) → outer (state_of m d) (Login t user) ≡ asked d (is_some (fin.get (state_of m d).jobs t.0)) (nat_lt LAST_SERIAL (slice_index m.fork_serials.items t.0)) (room d)
+  asks : (d : DrumWords) → outer (state_of m d) (Login t user) ≡ asked d (is_some (fin.get (state_of m d).jobs t.0)) (nat_lt LAST_SERIAL (slice_index m.tree.serials t.0)) (room d)
   asks d = outer_login (state_of m d) t user
 
   -- the terminal has a job
   pub is_busy : (d : DrumWords) → is_some (job_at m.jobs.items t.0) ≡ true → outer (state_of m d) (Login t user) ≡ refused (state_of m d) (Busy t)
-  is_busy d has = asks d ∙ ap (λ h. asked d h (nat_lt LAST_SERIAL (slice_index m.fork_serials.items t.0)) (room d)) (there (job_at m.jobs.items t.0) refl has)
+  is_busy d has = asks d ∙ ap (λ h. asked d h (nat_lt LAST_SERIAL (slice_index m.tree.serials t.0)) (room d)) (there (job_at m.jobs.items t.0) refl has)
     where
       there : (o : Option Job) → job_at m.jobs.items t.0 ≡ o → is_some o ≡ true → is_some (fin.get (state_of m d).jobs t.0) ≡ true
       there None is h = absurd (cc h)
       there (Some j) is h = ap is_some (job_found m.jobs.items t.0 j is)
 
   module _ (free : job_at m.jobs.items t.0 ≡ None) where
-    not_busy : (d : DrumWords) → outer (state_of m d) (Login t user) ≡ asked d false (nat_lt LAST_SERIAL (slice_index m.fork_serials.items t.0)) (room d)
-    not_busy d = asks d ∙ ap (λ h. asked d h (nat_lt LAST_SERIAL (slice_index m.fork_serials.items t.0)) (room d)) (ap is_some (job_missing m.jobs.items t.0 free))
+    not_busy : (d : DrumWords) → outer (state_of m d) (Login t user) ≡ asked d false (nat_lt LAST_SERIAL (slice_index m.tree.serials t.0)) (room d)
+    not_busy d = asks d ∙ ap (λ h. asked d h (nat_lt LAST_SERIAL (slice_index m.tree.serials t.0)) (room d)) (ap is_some (job_missing m.jobs.items t.0 free))
 
     -- its serials are used up
-    pub serials_are_out : (d : DrumWords) → LAST_SERIAL < slice_index m.fork_serials.items t.0 → outer (state_of m d) (Login t user) ≡ refused (state_of m d) (SerialsOut t)
-    serials_are_out d used = not_busy d ∙ ap (λ o. asked d false o (room d)) (over LAST_SERIAL (slice_index m.fork_serials.items t.0) used)
+    pub serials_are_out : (d : DrumWords) → LAST_SERIAL < slice_index m.tree.serials t.0 → outer (state_of m d) (Login t user) ≡ refused (state_of m d) (SerialsOut t)
+    serials_are_out d used = not_busy d ∙ ap (λ o. asked d false o (room d)) (over LAST_SERIAL (slice_index m.tree.serials t.0) used)
 
-    module _ (d : DrumWords) (f : FitsPages m d) (a : Agrees b.means m.pages (b.means.plain m.pages d)) (dead : b.means.lives m.pages (next_fork (state_of m d) t) ≡ false) (unused : slice_index m.fork_serials.items t.0 ≤ LAST_SERIAL) where
+    module _ (d : DrumWords) (f : FitsPages m d) (a : Agrees b.means m.pages (b.means.plain m.pages d)) (dead : b.means.lives m.pages (next_fork (state_of m d) t) ≡ false) (unused : slice_index m.tree.serials t.0 ≤ LAST_SERIAL) where
       room_is : room d ≡ nat_le (b.means.count m.pages + 1) (b.means.most m.pages)
       room_is =
           let p = b.means.plain m.pages d in
@@ -103,7 +102,7 @@ module _ {P : Type 0} {b : _} (m : System P b) (t : Tty) (user : List ℕ) where
 
       answered : (r : Bool) → nat_le (b.means.count m.pages + 1) (b.means.most m.pages) ≡ r → outer (state_of m d) (Login t user) ≡ asked d false false r
       answered r is =
-          not_busy d ∙ ap (λ o. asked d false o (room d)) (not_over LAST_SERIAL (slice_index m.fork_serials.items t.0) unused) ∙ ap (asked d false false) (room_is ∙ is)
+          not_busy d ∙ ap (λ o. asked d false o (room d)) (not_over LAST_SERIAL (slice_index m.tree.serials t.0) unused) ∙ ap (asked d false false) (room_is ∙ is)
 
       -- there is no room
       pub is_full : b.means.most m.pages ≤ b.means.count m.pages → outer (state_of m d) (Login t user) ≡ refused (state_of m d) (Full t)
@@ -113,40 +112,28 @@ module _ {P : Type 0} {b : _} (m : System P b) (t : Tty) (user : List ℕ) where
       logs_in roomy = answered true (room_le (b.means.count m.pages + 1) (b.means.most m.pages) (omega (arith, roomy)))
 
     -- the job is made
-    pub did_login : (m' : System P b) (k : Job) (f : ForkName) → IsTerminal t → slice_index m.fork_serials.items t.0 ≤ LAST_SERIAL → ((d : DrumWords) → b.means.fits m.pages d → Agrees b.means m.pages (b.means.plain m.pages d)) → ((d : DrumWords) → b.means.lives m.pages (next_fork (state_of m d) t) ≡ false)
-        → b.means.count m.pages < b.means.most m.pages → f.tty ≡ t → f.serial ≡ slice_index m.fork_serials.items t.0 → m'.jobs.items ≡ set m.jobs.items t.0 (Some k) → k.user ≡ user → k.mode ≡ Command → k.top ≡ top_fork f → m'.fork_serials.items ≡ set m.fork_serials.items t.0 (f.serial + 1) → m'.clock ≡ m.clock
-        → ((d : DrumWords) → b.means.fits m.pages d → b.means.fits m'.pages d × (b.means.plain m'.pages d ≡ with_map (b.means.plain m.pages d) f EmptyMap)) → b.means.serial m'.pages ≡ b.means.serial m.pages → b.means.most m'.pages ≡ b.means.most m.pages
+    pub did_login : (m' : System P b) (k : Job) → IsTerminal t → slice_index m.tree.serials t.0 ≤ LAST_SERIAL → ((d : DrumWords) → b.means.fits m.pages d → Agrees b.means m.pages (b.means.plain m.pages d)) → b.means.lives m.pages (next_name m.tree t) ≡ false
+        → b.means.count m.pages < b.means.most m.pages → m'.tree ≡ with_new_in m.tree t None 1 → m'.jobs.items ≡ set m.jobs.items t.0 (Some k) → k.user ≡ user → k.mode ≡ Command → k.top ≡ next_name m.tree t → m'.clock ≡ m.clock
+        → ((d : DrumWords) → b.means.fits m.pages d → b.means.fits m'.pages d × (b.means.plain m'.pages d ≡ with_map (b.means.plain m.pages d) (next_name m.tree t) EmptyMap)) → b.means.serial m'.pages ≡ b.means.serial m.pages → b.means.most m'.pages ≡ b.means.most m.pages
         → Did m m' (Outer (Login t user)) (One (Char t PROMPT))
-    did_login m' k f low unused agrees dead room own numbered set_to user_is mode top serials clock told pages most = record {
+    did_login m' k low unused agrees dead room tree set_to user_is mode top clock told pages most = record {
       each = λ d fits.
           let old = state_of m d in
           let added = told d fits.pages in
+          let f = next_name m.tree t in
           let within : t.0 < length m.jobs.items = omega (arith, m.sound.job_room, low) in
-          let next_is : f ≡ next_fork old t = λ i. record { tty = own i; serial = numbered i } in
-          let there : k.top.name.tty.0 ≡ t.0 = ap (λ g. g.name.tty.0) top ∙ ap (λ u. u.0) own in
-          let plain_k : plain_job k ≡ new_job user f = λ i. record (new_job user f) { user = user_is i; mode = mode i; top = (top i).name } in
+          let plain_k : plain_job k ≡ new_job user f = λ i. record (new_job user f) { user = user_is i; mode = mode i; top = top i } in
           let jobs : jobs_of m'.jobs.items ≡ fin.insert old.jobs t.0 (new_job user f) = ap jobs_of set_to ∙ jobs_set m.jobs.items t.0 k within ∙ ap (fin.insert old.jobs t.0) plain_k in
-          let forks : forks_of m'.jobs.items ≡ fin.insert old.forks f (top_fork f) =
-          ap forks_of set_to ∙ forks_set m.jobs.items t.0 k (owns m) within there (λ x e. absurd (let g : None ≡ Some x = sym free ∙ e in cc g))
-          ∙ (λ i. fin.insert old.forks (top i).name (top i)) in
-          let mine : state_of m' d ≡ record old { pages = with_map old.pages f EmptyMap; jobs = fin.insert old.jobs t.0 (new_job user f); forks = fin.insert old.forks f (top_fork f); fork_serials = set old.fork_serials t.0 (f.serial + 1) } =
-          λ i. record old { pages = named (added.1 i); jobs = jobs i; forks = forks i; fork_serials = serials i; clock = clock i } in
-          let made : ◌≡◌ {A = PlainState} (record old { pages = with_map old.pages f EmptyMap; jobs = fin.insert old.jobs t.0 (new_job user f); forks = fin.insert old.forks f (top_fork f); fork_serials = set old.fork_serials t.0 (f.serial + 1) }) (with_job old t user) =
-          ap (λ g. record old { pages = with_map old.pages g EmptyMap; jobs = fin.insert old.jobs t.0 (new_job user g); forks = fin.insert old.forks g (top_fork g); fork_serials = set old.fork_serials t.0 (g.serial + 1) }) next_is in
-          let effect = apply_outer old (Login t user) ∙ logs_in d fits (agrees d fits.pages) (dead d) unused room in (
+          let mine : state_of m' d ≡ with_job old t user = λ i. record old { pages = named (added.1 i); jobs = jobs i; forks = (tree i).forks; fork_serials = (tree i).serials; clock = clock i } in
+          let effect = apply_outer old (Login t user) ∙ logs_in d fits (agrees d fits.pages) dead unused room in (
             record { pages = added.0; unfiled = ap (λ p. p.files) added.1 ∙ fits.unfiled },
-            mine ∙ made ∙ ap (λ e. e.state) (sym effect),
+            mine ∙ ap (λ e. e.state) (sym effect),
             ap (λ e. e.items) (sym effect),
           );
       shown = (low, omega arith);
       within = λ entries w. record {
         ticks = omega (arith, clock, w.ticks);
-        units = λ u i e. elim (cases_eq u t.0) [
-          | inl same ↦
-              let here : Some k ≡ Some i = sym (get_or-set_same m.jobs.items t.0 (Some k) None (omega (arith, m.sound.job_room, low))) ∙ ap (job_at (set m.jobs.items t.0 (Some k))) (sym same) ∙ ap (λ js. job_at js u) (sym set_to) ∙ e in
-              let is : k ≡ i = cc here in omega (arith, ap (λ x. x.top.body.units) is, ap (λ g. g.body.units) top)
-          | inr ne ↦ omega (arith, w.units u i (sym (get_or-set_other m.jobs.items t.0 u (Some k) None ne) ∙ ap (λ js. job_at js u) (sym set_to) ∙ e))
-        ];
+        units = λ f lives. units_changed m entries (entries + 1) (next_name m.tree t) (top_fork (next_name m.tree t)) w (omega arith) (omega arith) f (ap (λ (x : PlainTree). fin.get x.forks f.name) (sym tree) ∙ lives);
         serials = λ u. omega (arith, ap (λ s. s u) pages, w.serials u);
       };
       most = most;

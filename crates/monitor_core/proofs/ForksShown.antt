@@ -1,77 +1,89 @@
 -- The forks of a terminal as the machine shows them.
-use Rattle.std.proofs.Common.{◌≡◌, ℕ, zero, suc, ◌+◌, ◌≤◌, List, [], ◌∷◌, Bool, true, false, ◌&&◌, ◌==◌, Option, None, Some, refl, sym, ◌∙◌, ap, arith, map}
-use Rattle.std.proofs.lemmas.Bool.{and_from, eqb-true, eq-eqb, ne_eqb}
+use Rattle.std.proofs.Common.{◌≡◌, ℕ, zero, suc, ◌+◌, ◌-◌, ◌≤◌, List, [], ◌∷◌, ◌++◌, Option, None, Some, refl, sym, ◌∙◌, ap, arith, map}
+use Rattle.std.proofs.lemmas.List.{append-nil}
 use Rattle.std.specs.List.{cons_option, filter_map, range_with_len}
-use Rattle.std.specs.Option.{option_map_or, option_and_then}
-use Rattle.std.specs.FinMap as fin
+use Rattle.std.specs.Option.{option_map_or}
+use Rattle.plain_model.specs.declared.event.Item.{Item}
 use Rattle.plain_model.specs.declared.event.Item.TheVariants.{ForkLine}
+use Rattle.plain_model.specs.declared.names.Tty.{Tty}
+use Rattle.plain_model.specs.declared.names.TheConstants.{LAST_SERIAL, MOST_FORKS}
+use Rattle.plain_model.specs.declared.fork.Fork.{Fork}
 use Rattle.plain_model.specs.declared.fork.ForkStatus.{ForkStatus}
 use Rattle.plain_model.specs.declared.fork.ForkStatus.TheVariants.{Run, Wait, Halted, Forced}
-use Rattle.plain_model.specs.Limits.{FitsStatus}
-use Rattle.monitor_core.specs.Looking.{top_line}
-use Rattle.monitor_core.specs.Limits.{FitsForced}
-use Rattle.plain_model.specs.Orders.{fork_cmp}
-use Rattle.plain_model.proofs.OrderLemmas.{fork_cmp_total}
-use Rattle.plain_model.specs.declared.names.Tty.{Tty}
-use Rattle.plain_model.specs.declared.fork.Fork.{Fork}
-use Rattle.plain_model.specs.Forks.{fork_in, forks_by_slot, fork_line, ForkMap}
-use Rattle.monitor_core.specs.declared.job.Job.{Job}
-use Rattle.monitor_core.specs.Jobs.{forks_of, job_at}
-use Rattle.monitor_core.proofs.Lookups.{OwnForks, fork_found}
-use Rattle.monitor_core.proofs.Values.{found_none, found_only, values_all}
-
--- each job's top fork has the first slot
-abbrev pub FirstSlots : List (Option Job) → Type 0
-FirstSlots js = (t : ℕ) (j : Job) → job_at js t ≡ Some j → j.top.slot ≡ 1
+use Rattle.plain_model.specs.Limits.{FitsForkLine, FitsStatus}
+use Rattle.plain_model.specs.Forks.{ForkMap, fork_in, fork_line, superior_of}
+use Rattle.fork_tree.specs.Trees.{IsTree, Lives, PlainTree}
+use Rattle.fork_tree.proofs.Upward.{superior_lives}
+use Rattle.monitor_core.specs.Limits.{FitsForced, IsBody}
+use Rattle.monitor_core.specs.Replies.{lines_of}
 
 -- a status whose channel is one of the 36
-pub fits_status : (status : ForkStatus) → FitsForced status → FitsStatus status
+fits_status : (status : ForkStatus) → FitsForced status → FitsStatus status
 fits_status Run fits = tt
 fits_status (Wait on) fits = tt
 fits_status Halted fits = tt
 fits_status (Forced channel) fits = fits channel refl
 
-and_first : (b c : Bool) → (b && c) ≡ true → b ≡ true
-and_first true c h = refl
-and_first false c h = h
+-- a fork's superior has a serial
+superior_fits : (tree : PlainTree) → IsTree tree → (f : Fork) → Lives tree.forks f → option_map_or (λ g. g.name.serial) (superior_of tree.forks f) 0 ≤ LAST_SERIAL
+superior_fits tree is f lives = by (superior_of tree.forks f) refl
+  where
+    by : (o : Option Fork) → superior_of tree.forks f ≡ o → option_map_or (λ g. g.name.serial) o 0 ≤ LAST_SERIAL
+    by None e = omega arith
+    by (Some g) e = let over = superior_lives tree is f g lives e in (is.slotted.named g over.0).2
 
-and_none : (b c : Bool) → c ≡ false → (b && c) ≡ false
-and_none true c h = h
-and_none false c h = refl
+-- a fork is shown within its limits
+pub line_fits : (tree : PlainTree) → IsTree tree → (f : Fork) → Lives tree.forks f → IsBody f.body → FitsForkLine (fork_line tree.forks f)
+line_fits tree is f lives body = (is.slotted.named f lives, superior_fits tree is f lives, fits_status f.body.status body.status, body.pc)
 
--- no fork in these slots
-no_forks : (forks : ForkMap) (t : Tty) (n slot : ℕ) → ((k : ℕ) → slot ≤ k → fork_in forks t k ≡ None) → filter_map (fork_in forks t) (range_with_len slot n) ≡ []
-no_forks forks t zero slot none = refl
-no_forks forks t (suc n) slot none = ap (λ (f : Option Fork). cons_option f (filter_map (fork_in forks t) (range_with_len (slot + 1) n))) (none slot (omega arith)) ∙ no_forks forks t n (slot + 1) (λ k h. none k (omega (arith, h)))
+-- the forks in so many slots, and in one more
+abbrev pub lines : ForkMap → Tty → ℕ → List Item
+lines forks t n = map (λ f. ForkLine (fork_line forks f)) (filter_map (fork_in forks t) (range_with_len 1 n))
 
-module _ (js : List (Option Job)) (own : OwnForks js) (first : FirstSlots js) (t : Tty) (j : Job) (at : job_at js t.0 ≡ Some j) where
-  only_top : (i : ℕ) (x : Job) → job_at js i ≡ Some x → ((x.top.name.tty.0 == t.0) && (x.top.slot == 1)) ≡ true → x.top ≡ j.top
-  only_top i x there passes =
-      let same : i ≡ t.0 = sym (own i x there) ∙ eqb-true x.top.name.tty.0 t.0 (and_first (x.top.name.tty.0 == t.0) (x.top.slot == 1) passes) in
-      let f : Some x ≡ Some j = sym there ∙ ap (job_at js) same ∙ at in
-      let is : x ≡ j = cc in
-      ap (λ k. k.top) is
+module _ (forks : ForkMap) (t : Tty) where
+  abbrev shown : List Fork → List Item
+  shown fs = map (λ f. ForkLine (fork_line forks f)) fs
 
-  top_there : fork_in (forks_of js) t 1 ≡ Some j.top
-  top_there =
-      let passes : ((j.top.name.tty.0 == t.0) && (j.top.slot == 1)) ≡ true = and_from (j.top.name.tty.0 == t.0) (j.top.slot == 1) (eq-eqb j.top.name.tty.0 t.0 (own t.0 j at)) (eq-eqb j.top.slot 1 (first t.0 j at)) in
-      found_only fork_cmp (λ (f : Fork). (f.name.tty.0 == t.0) && (f.slot == 1)) j.top passes (forks_of js) j.top.name (fork_found js t.0 j own at)
-      (values_all fork_cmp_total (λ (f : Fork). ((f.name.tty.0 == t.0) && (f.slot == 1)) ≡ true → f ≡ j.top) (λ (i : ℕ) (x : Job). x.top.name) (λ x. x.top) 0 js only_top)
+  lines_cons : (o : Option Fork) (fs : List Fork) → shown (cons_option o fs) ≡ lines_of forks o ++ shown fs
+  lines_cons None fs = refl
+  lines_cons (Some f) fs = refl
 
-  none_else : (slot : ℕ) → 2 ≤ slot → fork_in (forks_of js) t slot ≡ None
-  none_else slot h =
-      found_none (λ (f : Fork). (f.name.tty.0 == t.0) && (f.slot == slot)) (fin.values (forks_of js))
-      (values_all fork_cmp_total (λ (f : Fork). ((f.name.tty.0 == t.0) && (f.slot == slot)) ≡ false) (λ (i : ℕ) (x : Job). x.top.name) (λ x. x.top) 0 js
-      (λ i x there. and_none (x.top.name.tty.0 == t.0) (x.top.slot == slot) (ne_eqb x.top.slot slot (λ e. omega (arith, e, first i x there, h)))))
+  append_again : (xs ys zs : List Item) → xs ++ (ys ++ zs) ≡ (xs ++ ys) ++ zs
+  append_again [] ys zs = refl
+  append_again (x ∷ xs) ys zs = ap (λ l. x ∷ l) (append_again xs ys zs)
 
-  -- the top fork is a job's one fork
-  pub one_fork : forks_by_slot (forks_of js) t ≡ j.top ∷ []
-  one_fork =
-      ap (λ (f : Option Fork). cons_option f (filter_map (fork_in (forks_of js) t) (range_with_len 2 29))) top_there
-      ∙ ap (λ fs. j.top ∷ fs) (no_forks (forks_of js) t 29 2 none_else)
+  lines_from : (from n : ℕ) → shown (filter_map (fork_in forks t) (range_with_len from (suc n))) ≡ shown (filter_map (fork_in forks t) (range_with_len from n)) ++ lines_of forks (fork_in forks t (from + n))
+  lines_from from zero =
+      let here : from + 0 ≡ from = omega arith in
+      lines_cons (fork_in forks t from) [] ∙ append-nil (lines_of forks (fork_in forks t from)) ∙ ap (λ k. lines_of forks (fork_in forks t k)) (sym here)
+  lines_from from (suc n) =
+      let next : from + 1 + n ≡ from + suc n = omega arith in
+      lines_cons (fork_in forks t from) (filter_map (fork_in forks t) (range_with_len (from + 1) (suc n)))
+      ∙ ap (λ l. lines_of forks (fork_in forks t from) ++ l) (lines_from (from + 1) n ∙ ap (λ k. shown (filter_map (fork_in forks t) (range_with_len (from + 1) n)) ++ lines_of forks (fork_in forks t k)) next)
+      ∙ append_again (lines_of forks (fork_in forks t from)) (shown (filter_map (fork_in forks t) (range_with_len (from + 1) n))) (lines_of forks (fork_in forks t (from + suc n)))
+      ∙ ap (λ l. l ++ lines_of forks (fork_in forks t (from + suc n))) (sym (lines_cons (fork_in forks t from) (filter_map (fork_in forks t) (range_with_len (from + 1) n))))
 
-  -- so the job's forks are shown by one line
-  pub one_line : j.top.superior ≡ None → map (λ f. ForkLine (fork_line (forks_of js) f)) (forks_by_slot (forks_of js) t) ≡ ForkLine (top_line j) ∷ []
-  one_line top =
-      ap (map (λ f. ForkLine (fork_line (forks_of js) f))) one_fork
-      ∙ ap (λ (o : Option ℕ). ForkLine (record (top_line j) { superior = option_map_or (λ g. g.name.serial) (option_and_then (fork_in (forks_of js) j.top.name.tty) o) 0 }) ∷ []) top
+  pub one_line_more : (slot : ℕ) → 1 ≤ slot → lines forks t (slot - 1) ++ lines_of forks (fork_in forks t slot) ≡ lines forks t slot
+  one_line_more zero h = absurd (omega arith)
+  one_line_more (suc n) h = let here : 1 + n ≡ suc n = omega arith in let less : suc n - 1 ≡ n = omega arith in ap (λ k. lines forks t k ++ lines_of forks (fork_in forks t (suc n))) less ∙ ap (λ k. lines forks t n ++ lines_of forks (fork_in forks t k)) (sym here) ∙ sym (lines_from 1 n)
+
+  -- all of them are those before a slot, that one, and others
+  more_lines : (n k : ℕ) → (rest : List Item) × (lines forks t (n + k) ≡ lines forks t n ++ rest)
+  more_lines n zero = let none : n + 0 ≡ n = omega arith in ([], ap (lines forks t) none ∙ sym (append-nil (lines forks t n)))
+  more_lines n (suc k) =
+      let before = more_lines n k in
+      let next : n + k + 1 ≡ n + suc k = omega arith in
+      let less : n + k + 1 - 1 ≡ n + k = omega arith in (
+        before.0 ++ lines_of forks (fork_in forks t (n + k + 1)),
+        ap (lines forks t) (sym next) ∙ sym (one_line_more (n + k + 1) (omega arith))
+            ∙ ap (λ l. l ++ lines_of forks (fork_in forks t (n + k + 1))) (ap (lines forks t) less ∙ before.1)
+            ∙ sym (append_again (lines forks t n) before.0 (lines_of forks (fork_in forks t (n + k + 1)))),
+      )
+
+  pub lines_upto : (slot : ℕ) → 1 ≤ slot → slot ≤ MOST_FORKS → (rest : List Item) × (lines forks t MOST_FORKS ≡ lines forks t (slot - 1) ++ (lines_of forks (fork_in forks t slot) ++ rest))
+  lines_upto slot first last =
+      let behind = more_lines slot (MOST_FORKS - slot) in
+      let all : slot + (MOST_FORKS - slot) ≡ MOST_FORKS = omega (arith, last) in (
+        behind.0,
+        ap (lines forks t) (sym all) ∙ behind.1 ∙ ap (λ l. l ++ behind.0) (sym (one_line_more slot first)) ∙ sym (append_again (lines forks t (slot - 1)) (lines_of forks (fork_in forks t slot)) behind.0),
+      )

@@ -1,16 +1,14 @@
 -- An event of a terminal's job, as the event of the plain machine.
 use Rattle.std.proofs.Common.{◌≡◌, inl, inr, ℕ, ◌+◌, ◌*◌, ◌<◌, ◌≤◌, ◌%◌, [], ◌∷◌, List, get_or, set, map, cond, Option, None, Some, refl, sym, ◌∙◌, ap, subst, arith, nat_lt, slice_set}
 use Rattle.std.specs.Prelude.{Result, Ok, Err, OnErr, IfErr}
-use Rattle.std.proofs.lemmas.Bool.{cases_eq, eq-eqb, ne_eqb}
+use Rattle.std.proofs.lemmas.Bool.{cases_eq}
 use Rattle.std.proofs.lemmas.List.{set-get_or}
 use Rattle.std.specs.Ordering.{nat_cmp}
-use Rattle.std.specs.Cmp.{nat_cmp_total}
 use Rattle.std.specs.Option.{option_map_or}
 use Rattle.std.specs.FinMap as fin
 use Rattle.outside.specs.declared.TheConstants.{PAGE_WORDS}
 use Rattle.plain_model.specs.declared.names.TheConstants.{ACCUMULATORS}
 use Rattle.plain_model.specs.declared.names.Tty.{Tty}
-use Rattle.plain_model.specs.declared.names.ForkName.{ForkName}
 use Rattle.plain_model.specs.declared.names.Slot.{Slot}
 use Rattle.plain_model.specs.declared.names.PageName.{PageName}
 use Rattle.plain_model.specs.declared.names.Kind.TheVariants.{Write}
@@ -27,7 +25,8 @@ use Rattle.plain_model.specs.Outcome.{DrumWords}
 use Rattle.plain_model.specs.Limits.{FitsCause, FitsItem, IsTerminal}
 use Rattle.plain_model.specs.Run.{apply}
 use Rattle.plain_model.specs.References.{Referred, granted, denied, full, in_map, reference, stored, words_of, page_at}
-use Rattle.plain_model.specs.Forks.{with_fork, change_fork, fork_line, forks_by_slot}
+use Rattle.plain_model.specs.Forks.{change_fork, fork_line, forks_by_slot}
+use Rattle.fork_tree.specs.Trees.{IsTree, PlainTree}
 use Rattle.plain_model.specs.Unit.{Effect}
 use Rattle.plain_model.specs.References.{slot_at}
 use Rattle.plain_model.specs.Events.{refused, poked, with_accumulator, restarted, word_seen, outer}
@@ -41,19 +40,18 @@ use Rattle.monitor_core.specs.declared.reply.Reply.{Reply}
 use Rattle.monitor_core.specs.declared.reply.Reply.TheVariants.{Nothing, One, Forks}
 use Rattle.monitor_core.specs.declared.system.System.{System}
 use Rattle.monitor_core.specs.JobEvents.{event_at}
-use Rattle.monitor_core.specs.Jobs.{jobs_of, forks_of, job_at, plain_job}
+use Rattle.monitor_core.specs.Jobs.{jobs_of, job_at, plain_job}
 use Rattle.monitor_core.specs.Looking.{word_in, examined_in, item_of}
 use Rattle.monitor_core.specs.Replies.{reply_items, FitsReply}
-use Rattle.monitor_core.specs.Sound.{IsJob}
-use Rattle.monitor_core.specs.Systems.{state_of, FitsPages, IsWithin, Did, most_makings}
-use Rattle.monitor_core.specs.Writing.{write_of, left_by, IsWritten, Makes, Writes, with_word}
+use Rattle.monitor_core.specs.Runners.{with_change}
+use Rattle.monitor_core.specs.Systems.{state_of, FitsPages, IsWithin, Did}
+use Rattle.monitor_core.specs.Writing.{write_of, left_by, most_makings, IsWritten, Makes, Writes}
 use Rattle.monitor_core.proofs.Looks.{below, not_below}
-use Rattle.monitor_core.proofs.Lookups.{job_found, job_missing, fork_found, fork_missing}
+use Rattle.monitor_core.proofs.Lookups.{job_found, job_missing, jobs_set}
 use Rattle.plain_model.proofs.RefiledUnits.{stored_leaves}
-use Rattle.monitor_core.proofs.Sounds.{split_at, job_worded}
-use Rattle.monitor_core.proofs.Systems.{owns, state_set, units_set}
+use Rattle.monitor_core.proofs.Sounds.{split_at}
+use Rattle.monitor_core.proofs.Systems.{change_is, units_change}
 use Rattle.monitor_core.proofs.Unfiled.{named, reference_named}
-use Rattle.monitor_core.proofs.UnitEffect.{job_stays}
 
 -- what was read is put back
 pub put_back : {X : Type 0} (xs : List X) (i : ℕ) (x y : X) → x ≡ get_or xs i x → x ≡ y → set xs i y ≡ xs
@@ -66,22 +64,22 @@ no_job_event s t (ToStart address) h = outer_start s t address ∙ rw h
 no_job_event s t (ToExamine serial address) h = outer_examine s t serial address ∙ rw h
 no_job_event s t ToShow h = outer_forks s t ∙ rw h
 
-module _ {P : Type 0} {b : _} (m m' : System P b) (same : m'.pages ≡ m.pages) (jobs : m'.jobs.items ≡ m.jobs.items) (serials : m'.fork_serials.items ≡ m.fork_serials.items) (clock : m'.clock ≡ m.clock) where
+module _ {P : Type 0} {b : _} (m m' : System P b) (same : m'.pages ≡ m.pages) (tree : m'.tree ≡ m.tree) (jobs : m'.jobs.items ≡ m.jobs.items) (clock : m'.clock ≡ m.clock) where
   -- an event that changes nothing
-  pub did_still : (e : Event) (reply : Reply) → FitsReply m.jobs.items reply → ((d : DrumWords) → FitsPages m d → ◌≡◌ {A = Effect} (outer (state_of m d) e) (record { state = state_of m d; items = reply_items (state_of m d) reply })) → Did m m' (Outer e) reply
+  pub did_still : (e : Event) (reply : Reply) → FitsReply reply → ((d : DrumWords) → FitsPages m d → ◌≡◌ {A = Effect} (outer (state_of m d) e) (record { state = state_of m d; items = reply_items (state_of m d) reply })) → Did m m' (Outer e) reply
   did_still e reply fits shows = record {
     each = λ d f.
         let old = state_of m d in
-        let new : state_of m' d ≡ old = λ i. record old { pages = named (b.means.plain (same i) d); jobs = jobs_of (jobs i); forks = forks_of (jobs i); fork_serials = serials i; clock = clock i } in
+        let new : state_of m' d ≡ old = λ i. record old { pages = named (b.means.plain (same i) d); jobs = jobs_of (jobs i); forks = (tree i).forks; fork_serials = (tree i).serials; clock = clock i } in
         let effect = apply_outer old e ∙ shows d f in (
           record { pages = subst (λ p. b.means.fits p d) (sym same) f.pages; unfiled = ap (λ p. (b.means.plain p d).files) same ∙ f.unfiled },
           new ∙ ap (λ x. x.state) (sym effect),
           ap (λ s. reply_items s reply) new ∙ ap (λ x. x.items) (sym effect),
         );
-    shown = subst (λ js. FitsReply js reply) (sym jobs) fits;
+    shown = fits;
     within = λ entries w. record {
       ticks = omega (arith, clock, w.ticks);
-      units = λ t j e. omega (arith, w.units t j (ap (λ js. job_at js t) (sym jobs) ∙ e));
+      units = λ f e. omega (arith, w.units f (ap (λ (x : PlainTree). fin.get x.forks f.name) (sym tree) ∙ e));
       serials = λ t. omega (arith, ap (λ p. b.means.serial p t) same, w.serials t);
     };
     most = ap b.means.most same;
@@ -91,47 +89,39 @@ module _ {P : Type 0} {b : _} (m m' : System P b) (same : m'.pages ≡ m.pages) 
   did_no_job t e terminal free = did_still (event_at t e) (One (Refusal (NoJob t))) terminal (λ d f. no_job_event (state_of m d) t e (job_missing m.jobs.items t.0 free))
 
   module _ (t : Tty) (e : JobEvent) (j : Job) (at : job_at m.jobs.items t.0 ≡ Some j) where
-    named_top : (serial : ℕ) → j.top.name.serial ≡ serial → ◌≡◌ {A = ForkName} (record { tty = t; serial = serial }) j.top.name
-    named_top serial is = λ i. record { tty = record { 0 = sym (owns m t.0 j at) i }; serial = sym is i }
-
-    top_tty : j.top.name.tty ≡ t
-    top_tty = λ i. record { 0 = owns m t.0 j at i }
-
     -- the word that is there, as the state has it
-    seen_word : (d : DrumWords) → word_seen (state_of m d) j.top ≡ word_in (b.means.plain m.pages d) j.top
+    seen_word : (d : DrumWords) (f : Fork) (address : ℕ) → word_seen (state_of m d) f address ≡ word_in (b.means.plain m.pages d) f address
     unfolding page_at
-    seen_word d = refl
+    seen_word d f address = refl
 
     shown_word : (s : PlainState) (serial address : ℕ) (o : Option ℕ) → ◌≡◌ {A = Effect} (option_map_or (λ word. record { state = s; items = Examined t serial address word ∷ [] }) o (refused s (NoPage t)))
-        (record { state = s; items = item_of (option_map_or (λ word. Ok (Examined j.top.name.tty serial address word)) o (Err (NoPage j.top.name.tty))) ∷ [] })
-    shown_word s serial address None = λ i. refused s (NoPage (sym top_tty i))
-    shown_word s serial address (Some word) = λ i. record { state = s; items = Examined (sym top_tty i) serial address word ∷ [] }
+        (record { state = s; items = item_of (option_map_or (λ word. Ok (Examined t serial address word)) o (Err (NoPage t))) ∷ [] })
+    shown_word s serial address None = refl
+    shown_word s serial address (Some word) = refl
 
-    examines : (d : DrumWords) (serial address : ℕ) → ◌≡◌ {A = Effect} (outer (state_of m d) (event_at t (ToExamine serial address))) (record { state = state_of m d; items = item_of (examined_in (b.means.plain m.pages d) j serial address) ∷ [] })
+    examines : (d : DrumWords) (serial address : ℕ) → ◌≡◌ {A = Effect} (outer (state_of m d) (event_at t (ToExamine serial address))) (record { state = state_of m d; items = item_of (examined_in (b.means.plain m.pages d) m.tree.forks t serial address) ∷ [] })
     examines d serial address =
-        let s = state_of m d in
-        let p = b.means.plain m.pages d in
-        let of_fork : Option Fork → Effect = λ o. option_map_or (λ f. option_map_or (λ word. record { state = s; items = Examined t serial address word ∷ [] }) (word_seen s f address) (refused s (NoPage t))) o (refused s (NoFork t)) in
-        let found : ◌≡◌ {A = Effect} (outer s (event_at t (ToExamine serial address))) (of_fork (fin.get s.forks (record { tty = t; serial = serial }))) =
-        outer_examine s t serial address ∙ ap (λ (o : Option PlainJob). option_map_or (λ i. of_fork (fin.get s.forks (record { tty = t; serial = serial }))) o (refused s (NoJob t))) (job_found m.jobs.items t.0 j at) in
-        elim (cases_eq j.top.name.serial serial) [
-          | inl is ↦
-              found ∙ ap (λ n. of_fork (fin.get s.forks n)) (named_top serial is) ∙ ap of_fork (fork_found m.jobs.items t.0 j (owns m) at)
-              ∙ ap (λ w. option_map_or (λ word. record { state = s; items = Examined t serial address word ∷ [] }) (w address) (refused s (NoPage t))) (seen_word d)
-              ∙ shown_word s serial address (word_in p j.top address)
-              ∙ ap (λ c. record { state = s; items = item_of (cond c (option_map_or (λ word. Ok (Examined j.top.name.tty serial address word)) (word_in p j.top address) (Err (NoPage j.top.name.tty))) (Err (NoFork j.top.name.tty))) ∷ [] }) (sym (eq-eqb j.top.name.serial serial is))
-          | inr ne ↦
-              found ∙ ap of_fork (fork_missing m.jobs.items t j serial (owns m) at ne)
-              ∙ ap (λ u. refused s (NoFork u)) (sym top_tty)
-              ∙ ap (λ c. record { state = s; items = item_of (cond c (option_map_or (λ word. Ok (Examined j.top.name.tty serial address word)) (word_in p j.top address) (Err (NoPage j.top.name.tty))) (Err (NoFork j.top.name.tty))) ∷ [] }) (sym (ne_eqb j.top.name.serial serial ne))
-        ]
+        outer_examine s t serial address ∙ ap (λ (o : Option PlainJob). option_map_or (λ i. of_fork (fin.get s.forks (record { tty = t; serial = serial }))) o (refused s (NoJob t))) (job_found m.jobs.items t.0 j at)
+        ∙ by (fin.get s.forks (record { tty = t; serial = serial }))
+      where
+        s : PlainState
+        s = state_of m d
 
-    pub did_examine : (serial address : ℕ) (r : Result Item Cause) (reply : Reply) → e ≡ ToExamine serial address → One (item_of r) ≡ reply → FitsItem (item_of r) → ((d : DrumWords) → b.means.fits m.pages d → r ≡ examined_in (b.means.plain m.pages d) j serial address) → Did m m' (Outer (event_at t e)) reply
+        of_fork : Option Fork → Effect
+        of_fork o = option_map_or (λ f. option_map_or (λ word. record { state = s; items = Examined t serial address word ∷ [] }) (word_seen s f address) (refused s (NoPage t))) o (refused s (NoFork t))
+
+        by : (o : Option Fork) → ◌≡◌ {A = Effect} (of_fork o) (record { state = s; items = item_of (option_map_or (λ f. option_map_or (λ word. Ok (Examined t serial address word)) (word_in (b.means.plain m.pages d) f address) (Err (NoPage t))) o (Err (NoFork t))) ∷ [] })
+        by None = refl
+        by (Some f) =
+            ap (λ w. option_map_or (λ word. record { state = s; items = Examined t serial address word ∷ [] }) w (refused s (NoPage t))) (seen_word d f address)
+            ∙ shown_word s serial address (word_in (b.means.plain m.pages d) f address)
+
+    pub did_examine : (serial address : ℕ) (r : Result Item Cause) (reply : Reply) → e ≡ ToExamine serial address → One (item_of r) ≡ reply → FitsItem (item_of r) → ((d : DrumWords) → b.means.fits m.pages d → r ≡ examined_in (b.means.plain m.pages d) m.tree.forks t serial address) → Did m m' (Outer (event_at t e)) reply
     did_examine serial address r reply is shows fits told =
         subst (λ x. Did m m' (Outer (event_at t x)) reply) (sym is) (subst (Did m m' (Outer (event_at t (ToExamine serial address)))) shows
         (did_still (event_at t (ToExamine serial address)) (One (item_of r)) fits (λ d f. examines d serial address ∙ ap (λ x. record { state = state_of m d; items = item_of x ∷ [] }) (sym (told d f.pages)))))
 
-    pub did_forks : e ≡ ToShow → FitsReply m.jobs.items (Forks t) → Did m m' (Outer (event_at t e)) (Forks t)
+    pub did_forks : e ≡ ToShow → FitsReply (Forks t) → Did m m' (Outer (event_at t e)) (Forks t)
     did_forks is fits =
         subst (λ x. Did m m' (Outer (event_at t x)) (Forks t)) (sym is)
         (did_still (event_at t ToShow) (Forks t) fits
@@ -177,74 +167,58 @@ written_files {p} {q} {at} {offset} {word} (Ok done) w =
     ap (λ x. x.files) (w.store done refl) ∙ stored_leaves w.ready at offset word ∙ reference_leaves at.fork.tty p w.ready at Write (was_granted at.fork.tty (reference p (in_map at) Write at.fork.tty) w.ready w.readied.refers)
 written_files (Err cause) w = ap (λ x. x.files) w.stays
 
-module _ {P : Type 0} {b : _} (m m' : System P b) (t : Tty) (e : JobEvent) (j : Job) (at : job_at m.jobs.items t.0 ≡ Some j) where
+module _ {P : Type 0} {b : _} (m m' : System P b) (is_tree : IsTree m.tree) (t : Tty) (e : JobEvent) (j : Job) (at : job_at m.jobs.items t.0 ≡ Some j) (clock : m'.clock ≡ m.clock) where
+  -- a job's top fork is of its terminal
+  owner : j.top.tty ≡ t
+  owner = λ i. record { 0 = (m.sound.each_job t.0 j at).terminal i }
+
   -- the pages that were made for the top fork's terminal, as counts
-  made_serials : (entries : ℕ) → IsWithin m entries → Makes b.means m.pages m'.pages j.top.name.tty 2 → (u : Tty) → b.means.serial m'.pages u ≤ most_makings * (entries + 1) + 1
-  made_serials entries w made u = elim (cases_eq u.0 j.top.name.tty.0) [
-    | inl same ↦ let is : u ≡ j.top.name.tty = λ i. record { 0 = same i } in omega (arith, ap (b.means.serial m'.pages) is, made.own, w.serials j.top.name.tty)
+  made_serials : (entries : ℕ) → IsWithin m entries → Makes b.means m.pages m'.pages j.top.tty 2 → (u : Tty) → b.means.serial m'.pages u ≤ most_makings * (entries + 1) + 1
+  made_serials entries w made u = elim (cases_eq u.0 j.top.tty.0) [
+    | inl same ↦ let is : u ≡ j.top.tty = λ i. record { 0 = same i } in omega (arith, ap (b.means.serial m'.pages) is, made.own, w.serials j.top.tty)
     | inr ne ↦ omega (arith, made.others u (λ h. ne (ap (λ x. x.0) h)), w.serials u)
   ]
 
-  module _ (k : Job) (set_to : m'.jobs.items ≡ set m.jobs.items t.0 (Some k)) (serials : m'.fork_serials.items ≡ m.fork_serials.items) (clock : m'.clock ≡ m.clock) where
-    later : (entries : ℕ) → IsWithin m entries → k.top.body.units ≡ j.top.body.units → ((u : Tty) → b.means.serial m'.pages u ≤ most_makings * (entries + 1) + 1) → IsWithin m' (entries + 1)
-    later entries w units made = record {
-      ticks = omega (arith, clock, w.ticks);
-      units = λ u i e. units_set m entries (entries + 1) t.0 j k w (omega arith) at (omega (arith, units, w.units t.0 j at)) u i (ap (λ js. job_at js u) (sym set_to) ∙ e);
-      serials = made;
-    }
-
-    there : (d : DrumWords) → fin.get (state_of m d).jobs j.top.name.tty.0 ≡ Some (plain_job j)
-    there d = ap (λ u. fin.get (jobs_of m.jobs.items) u) (owns m t.0 j at) ∙ job_found m.jobs.items t.0 j at
-
+  module _ (jobs : m'.jobs.items ≡ m.jobs.items) where
     -- a word was put into an accumulator
-    poked_low : (address word : ℕ) (d : DrumWords) → address < ACCUMULATORS → k ≡ with_word j address word → m'.pages ≡ m.pages
+    poked_low : (address word : ℕ) (d : DrumWords) → address < ACCUMULATORS → m'.tree ≡ with_change m.tree j.top (with_accumulator address word) → m'.pages ≡ m.pages
         → ◌≡◌ {A = Effect} (outer (state_of m d) (event_at t (ToPoke address word))) (record { state = state_of m' d; items = [] })
     poked_low address word d low is same =
         let old = state_of m d in
-        let job = m.sound.each_job t.0 j at in
-        let top = with_accumulator address word j.top in
-        let paged : Effect = poked old t (slot_at j.top.name address) (address % PAGE_WORDS) word (reference old.pages (in_map (slot_at j.top.name address)) Write t) in
-        let mine : state_of m' d ≡ with_fork old top =
-        state_set m m' d t.0 j k at set_to serials clock (ap (λ x. x.top.name) is)
-        ∙ (λ i. record old { pages = named (b.means.plain (same i) d); jobs = fin.insert old.jobs j.top.name.tty.0 (plain_job (is i)); forks = fin.insert old.forks j.top.name (is i).top })
-        ∙ sym (job_stays old j (there d) job.top job.off top refl) in
+        let paged : Effect = poked old t (slot_at j.top address) (address % PAGE_WORDS) word (reference old.pages (in_map (slot_at j.top address)) Write t) in
+        let mine : state_of m' d ≡ change_fork old j.top (with_accumulator address word) =
+        (λ i. record old { pages = named (b.means.plain (same i) d); jobs = jobs_of (jobs i); forks = (is i).forks; fork_serials = (is i).serials; clock = clock i })
+        ∙ sym (change_is old j.top (with_accumulator address word) (λ f. refl)) in
         outer_poke old t address word
         ∙ ap (λ (o : Option PlainJob). option_map_or (λ i. cond (nat_lt address ACCUMULATORS) (record { state = change_fork old i.top (with_accumulator address word); items = [] }) (poked old t (slot_at i.top address) (address % PAGE_WORDS) word (reference old.pages (in_map (slot_at i.top address)) Write t))) o (refused old (NoJob t))) (job_found m.jobs.items t.0 j at)
-        ∙ ap (λ c. cond c (record { state = change_fork old j.top.name (with_accumulator address word); items = [] }) paged) (below address low)
-        ∙ ap (λ (o : Option Fork). record { state = option_map_or (λ f. with_fork old (with_accumulator address word f)) o old; items = [] }) (fork_found m.jobs.items t.0 j (owns m) at)
+        ∙ ap (λ c. cond c (record { state = change_fork old j.top (with_accumulator address word); items = [] }) paged) (below address low)
         ∙ ap (λ s. record { state = s; items = [] }) (sym mine)
 
     -- a word was written into a page, or the write was refused
-    poked_high : {X : Type 0} (address word : ℕ) (d : DrumWords) (result : Result X Cause) → FitsPages m d → ACCUMULATORS ≤ address → k ≡ j → IsWritten (b.means.plain m.pages d) (b.means.plain m'.pages d) (slot_at j.top.name address) (address % PAGE_WORDS) word result
+    poked_high : {X : Type 0} (address word : ℕ) (d : DrumWords) (result : Result X Cause) → FitsPages m d → ACCUMULATORS ≤ address → m'.tree ≡ m.tree → IsWritten (b.means.plain m.pages d) (b.means.plain m'.pages d) (slot_at j.top address) (address % PAGE_WORDS) word result
         → ◌≡◌ {A = Effect} (outer (state_of m d) (event_at t (ToPoke address word))) (record { state = state_of m' d; items = reply_items (state_of m' d) (poke_reply result) })
     poked_high {X = X} address word d result f high is wrote =
         let old = state_of m d in
         let p = b.means.plain m.pages d in
         let q = b.means.plain m'.pages d in
-        let slot = slot_at j.top.name address in
-        let own : j.top.name.tty ≡ t = λ i. record { 0 = owns m t.0 j at i } in
-        let refers : write_of t (reference p (in_map slot) Write t) ≡ left_by wrote.ready result = subst (λ u. write_of u (reference p (in_map slot) Write u) ≡ left_by wrote.ready result) own wrote.readied.refers in
-        let mine : state_of m' d ≡ record old { pages = named q } = same_jobs d is in
+        let slot = slot_at j.top address in
+        let refers : write_of t (reference p (in_map slot) Write t) ≡ left_by wrote.ready result = subst (λ u. write_of u (reference p (in_map slot) Write u) ≡ left_by wrote.ready result) owner wrote.readied.refers in
+        let mine : state_of m' d ≡ record old { pages = named q } = λ i. record old { pages = named q; jobs = jobs_of (jobs i); forks = (is i).forks; fork_serials = (is i).serials; clock = clock i } in
         outer_poke old t address word
         ∙ ap (λ (o : Option PlainJob). option_map_or (λ i. cond (nat_lt address ACCUMULATORS) (record { state = change_fork old i.top (with_accumulator address word); items = [] }) (poked old t (slot_at i.top address) (address % PAGE_WORDS) word (reference old.pages (in_map (slot_at i.top address)) Write t))) o (refused old (NoJob t))) (job_found m.jobs.items t.0 j at)
-        ∙ ap (λ c. cond c (record { state = change_fork old j.top.name (with_accumulator address word); items = [] }) (poked old t slot (address % PAGE_WORDS) word (reference old.pages (in_map slot) Write t))) (not_below address high)
+        ∙ ap (λ c. cond c (record { state = change_fork old j.top (with_accumulator address word); items = [] }) (poked old t slot (address % PAGE_WORDS) word (reference old.pages (in_map slot) Write t))) (not_below address high)
         ∙ ap (poked old t slot (address % PAGE_WORDS) word) (reference_named p f.unfiled slot Write t)
         ∙ poked_by old t slot (address % PAGE_WORDS) word p wrote.ready q (reference p (in_map slot) Write t) result refers wrote.store wrote.stays
         ∙ (λ i. record { state = sym mine i; items = reply_of_poke result i })
       where
-        same_jobs : (d : DrumWords) → k ≡ j → state_of m' d ≡ record (state_of m d) { pages = named (b.means.plain m'.pages d) }
-        same_jobs d is =
-            let jobs : m'.jobs.items ≡ m.jobs.items = set_to ∙ ap (λ x. set m.jobs.items t.0 (Some x)) is ∙ ap (set m.jobs.items t.0) (sym at) ∙ set-get_or m.jobs.items t.0 None in
-            λ i. record (state_of m d) { pages = named (b.means.plain m'.pages d); jobs = jobs_of (jobs i); forks = forks_of (jobs i); fork_serials = serials i; clock = clock i }
-
         reply_of_poke : (r : Result X Cause) → reply_items (state_of m d) (poke_reply r) ≡ reply_items (state_of m' d) (poke_reply r)
         reply_of_poke (Ok done) = refl
         reply_of_poke (Err cause) = refl
 
     pub did_poke : (address word : ℕ) (result : Result (Unit {0}) Cause) (reply : Reply) → e ≡ ToPoke address word → poke_reply result ≡ reply → IfErr result FitsCause
-        → (address < ACCUMULATORS → (result ≡ Ok tt) × (k ≡ with_word j address word) × (m'.pages ≡ m.pages))
-        → (ACCUMULATORS ≤ address → (k ≡ j) × Writes b.means m.pages m'.pages (slot_at j.top.name address) (address % PAGE_WORDS) word result)
-        → Makes b.means m.pages m'.pages j.top.name.tty 2 → Did m m' (Outer (event_at t e)) reply
+        → (address < ACCUMULATORS → (result ≡ Ok tt) × (m'.tree ≡ with_change m.tree j.top (with_accumulator address word)) × (m'.pages ≡ m.pages))
+        → (ACCUMULATORS ≤ address → (m'.tree ≡ m.tree) × Writes b.means m.pages m'.pages (slot_at j.top address) (address % PAGE_WORDS) word result)
+        → Makes b.means m.pages m'.pages j.top.tty 2 → Did m m' (Outer (event_at t e)) reply
     did_poke address word result reply is shows fits low high made =
         subst (λ x. Did m m' (Outer (event_at t x)) reply) (sym is) (subst (Did m m' (Outer (event_at t (ToPoke address word)))) shows (record {
           each = λ d f. elim (split_at address ACCUMULATORS) [
@@ -264,47 +238,47 @@ module _ {P : Type 0} {b : _} (m m' : System P b) (t : Tty) (e : JobEvent) (j : 
                   ap (λ x. x.items) (sym effect),
                 )
           ];
-          shown = poke_fits m'.jobs.items result fits;
-          within = λ entries w. later entries w (units_stay address low high) (made_serials entries w made);
+          shown = reply_fits result fits;
+          within = λ entries w. record {
+            ticks = omega (arith, clock, w.ticks);
+            units = λ f lives. elim (split_at address ACCUMULATORS) [
+              | inl small ↦ units_change m entries (entries + 1) j.top (with_accumulator address word) is_tree (λ k. refl) w (omega arith) f (ap (λ (x : PlainTree). fin.get x.forks f.name) (sym (low small).1) ∙ lives)
+              | inr above ↦ omega (arith, w.units f (ap (λ (x : PlainTree). fin.get x.forks f.name) (sym (high above).0) ∙ lives))
+            ];
+            serials = made_serials entries w made;
+          };
           most = made.most;
         }))
       where
-        poke_fits : (js : List (Option Job)) (r : Result (Unit {0}) Cause) → IfErr r FitsCause → FitsReply js (poke_reply r)
-        poke_fits js (Ok done) fits = tt
-        poke_fits js (Err cause) fits = fits
+        reply_fits : (r : Result (Unit {0}) Cause) → IfErr r FitsCause → FitsReply (poke_reply r)
+        reply_fits (Ok done) h = tt
+        reply_fits (Err cause) h = h
 
-        units_stay : {A B C : Type 0} (address : ℕ) → (address < ACCUMULATORS → A × (k ≡ with_word j address word) × B) → (ACCUMULATORS ≤ address → (k ≡ j) × C) → k.top.body.units ≡ j.top.body.units
-        units_stay address low high = elim (split_at address ACCUMULATORS) [
-          | inl small ↦ ap (λ x. x.top.body.units) (low small).1
-          | inr above ↦ ap (λ x. x.top.body.units) (high above).0
-        ]
-
-    pub did_start : (address : ℕ) → e ≡ ToStart address → k.user ≡ j.user → k.mode ≡ Program → k.top ≡ restarted address j.top → m'.pages ≡ m.pages → Did m m' (Outer (event_at t e)) Nothing
-    did_start address is user mode top same = subst (λ x. Did m m' (Outer (event_at t x)) Nothing) (sym is) (record {
-      each = λ d f.
-          let old = state_of m d in
-          let job = m.sound.each_job t.0 j at in
-          let plain_k : plain_job k ≡ record (plain_job j) { mode = Program } = λ i. record (plain_job j) { user = user i; mode = mode i; top = (top i).name } in
-          let mine : state_of m' d ≡ record (with_fork old (restarted address j.top)) { jobs = fin.insert old.jobs t.0 (record (plain_job j) { mode = Program }) } =
-          state_set m m' d t.0 j k at set_to serials clock (ap (λ x. x.name) top)
-          ∙ (λ i. record old { pages = named (b.means.plain (same i) d); jobs = fin.insert old.jobs (job.terminal i) (plain_k i); forks = fin.insert old.forks j.top.name (top i) }) in
-          let effect : ◌≡◌ {A = Effect} (apply old (Outer (event_at t (ToStart address)))) (record { state = state_of m' d; items = [] }) =
-          apply_outer old (event_at t (ToStart address)) ∙ outer_start old t address
-          ∙ ap (λ (o : Option PlainJob). option_map_or (λ i. record { state = record (change_fork old i.top (restarted address)) { jobs = fin.insert old.jobs t.0 (record i { mode = Program }) }; items = [] }) o (refused old (NoJob t))) (job_found m.jobs.items t.0 j at)
-          ∙ ap (λ (o : Option Fork). record { state = record (option_map_or (λ f. with_fork old (restarted address f)) o old) { jobs = fin.insert old.jobs t.0 (record (plain_job j) { mode = Program }) }; items = [] }) (fork_found m.jobs.items t.0 j (owns m) at)
-          ∙ ap (λ s. record { state = s; items = [] }) (sym mine) in (
-            record { pages = subst (λ p. b.means.fits p d) (sym same) f.pages; unfiled = ap (λ p. (b.means.plain p d).files) same ∙ f.unfiled },
-            ap (λ x. x.state) (sym effect),
-            ap (λ x. x.items) (sym effect),
-          );
-      shown = tt;
-      within = λ entries w. later entries w (ap (λ f. f.body.units) top) (λ u. omega (arith, ap (λ p. b.means.serial p u) same, w.serials u));
-      most = ap b.means.most same;
-    })
-
--- a job that was poked is a job with the same top fork
-pub poked_job : (t address word : ℕ) (j k : Job) → IsJob t j → (address < ACCUMULATORS → k ≡ with_word j address word) → (ACCUMULATORS ≤ address → k ≡ j) → (k.top.name ≡ j.top.name) × IsJob t k
-poked_job t address word j k job low high = elim (split_at address ACCUMULATORS) [
-  | inl small ↦ (ap (λ x. x.top.name) (low small), subst (IsJob t) (sym (low small)) (job_worded t address word j job))
-  | inr above ↦ (ap (λ x. x.top.name) (high above), subst (IsJob t) (sym (high above)) job)
-]
+  -- the top fork was started
+  pub did_start : (k : Job) (address : ℕ) → m'.jobs.items ≡ set m.jobs.items t.0 (Some k) → e ≡ ToStart address → k.user ≡ j.user → k.mode ≡ Program → k.top ≡ j.top → m'.tree ≡ with_change m.tree j.top (restarted address) → m'.pages ≡ m.pages → Did m m' (Outer (event_at t e)) Nothing
+  did_start k address set_to is user mode top changes same = subst (λ x. Did m m' (Outer (event_at t x)) Nothing) (sym is) (record {
+    each = λ d f.
+        let old = state_of m d in
+        let job = m.sound.each_job t.0 j at in
+        let plain_k : plain_job k ≡ record (plain_job j) { mode = Program } = λ i. record (plain_job j) { user = user i; mode = mode i; top = top i } in
+        let jobs : jobs_of m'.jobs.items ≡ fin.insert old.jobs t.0 (record (plain_job j) { mode = Program }) =
+        ap jobs_of set_to ∙ jobs_set m.jobs.items t.0 k (omega (arith, m.sound.job_room, job.low)) ∙ ap (fin.insert old.jobs t.0) plain_k in
+        let mine : state_of m' d ≡ record (change_fork old j.top (restarted address)) { jobs = fin.insert old.jobs t.0 (record (plain_job j) { mode = Program }) } =
+        (λ i. record old { pages = named (b.means.plain (same i) d); jobs = jobs i; forks = (changes i).forks; fork_serials = (changes i).serials; clock = clock i })
+        ∙ ap (λ (s : PlainState). record s { jobs = fin.insert old.jobs t.0 (record (plain_job j) { mode = Program }) }) (sym (change_is old j.top (restarted address) (λ x. refl))) in
+        let effect : ◌≡◌ {A = Effect} (apply old (Outer (event_at t (ToStart address)))) (record { state = state_of m' d; items = [] }) =
+        apply_outer old (event_at t (ToStart address)) ∙ outer_start old t address
+        ∙ ap (λ (o : Option PlainJob). option_map_or (λ i. record { state = record (change_fork old i.top (restarted address)) { jobs = fin.insert old.jobs t.0 (record i { mode = Program }) }; items = [] }) o (refused old (NoJob t))) (job_found m.jobs.items t.0 j at)
+        ∙ ap (λ s. record { state = s; items = [] }) (sym mine) in (
+          record { pages = subst (λ p. b.means.fits p d) (sym same) f.pages; unfiled = ap (λ p. (b.means.plain p d).files) same ∙ f.unfiled },
+          ap (λ x. x.state) (sym effect),
+          ap (λ x. x.items) (sym effect),
+        );
+    shown = tt;
+    within = λ entries w. record {
+      ticks = omega (arith, clock, w.ticks);
+      units = λ f lives. units_change m entries (entries + 1) j.top (restarted address) is_tree (λ k. refl) w (omega arith) f (ap (λ (x : PlainTree). fin.get x.forks f.name) (sym changes) ∙ lives);
+      serials = λ u. omega (arith, ap (λ p. b.means.serial p u) same, w.serials u);
+    };
+    most = ap b.means.most same;
+  })

@@ -1,75 +1,75 @@
 -- Which forks of a system's plain state can run.
-use Rattle.std.proofs.Common.{◌≡◌, ℕ, ◌||◌, List, get_or, Bool, true, false, cond, Option, None, Some, refl, sym, ◌∙◌, ap, arith}
-use Rattle.std.specs.Ordering.{eq_by_cmp}
-use Rattle.std.specs.Cmp.{Equal-is}
-use Rattle.std.specs.FinMap as fin
-use Rattle.plain_model.specs.Orders.{fork_cmp}
-use Rattle.plain_model.proofs.OrderLemmas.{fork_cmp_total, fork_cmp_apart}
+use Rattle.std.proofs.Common.{◌≡◌, ℕ, ◌≤◌, ◌<◌, true, Some, refl, sym, ◌∙◌, ap, subst, arith}
+use Rattle.std.specs.FinMap as map
 use Rattle.plain_model.specs.declared.names.ForkName.{ForkName}
 use Rattle.plain_model.specs.declared.fork.Fork.{Fork}
 use Rattle.plain_model.specs.declared.event.Step.{Step}
 use Rattle.plain_model.specs.declared.event.Step.TheVariants.{Outer, Unit as AUnit, Idle}
-use Rattle.plain_model.specs.Forks.{IsRunnable, is_frozen, fork_in}
 use Rattle.plain_model.specs.Outcome.{DrumWords}
-use Rattle.plain_model.specs.Limits.{FitsStep}
+use Rattle.plain_model.specs.Limits.{FitsStep, IsForkName}
 use Rattle.plain_model.specs.Run.{IsLegalStep}
-use Rattle.std.specs.Option.{option_and_then}
-use Rattle.monitor_core.specs.declared.job.Job.{Job}
+use Rattle.fork_tree.specs.Trees.{CanRun, IsTree, Lives, PlainTree}
+use Rattle.fork_tree.specs.Turns.{IsNext, place_at, steps_to}
+use Rattle.fork_tree.proofs.Slots.{held_lives}
+use Rattle.monitor_core.specs.declared.runner.Runner.{Runner}
 use Rattle.monitor_core.specs.declared.system.System.{System}
-use Rattle.monitor_core.specs.Jobs.{forks_of, job_at}
-use Rattle.monitor_core.specs.Systems.{CanRun, CanDo, state_of}
-use Rattle.monitor_core.proofs.MapFrom.{with_key, found}
-use Rattle.monitor_core.proofs.Lookups.{OwnForks, forks_ranked, fork_found}
-use Rattle.monitor_core.proofs.Systems.{owns}
+use Rattle.monitor_core.specs.Runners.{IsRunner, IsSlot}
+use Rattle.monitor_core.specs.Systems.{CanDo, state_of}
 
--- a fork that is found is the top fork of a job of its terminal
-key_found : (f : ForkName) (e : Option Job) (k : Fork) → with_key fork_cmp (λ (u : ℕ) (j : Job). j.top.name) (λ j. j.top) f f.tty.0 e ≡ Some k → (j : Job) × (e ≡ Some j) × (j.top ≡ k) × (j.top.name ≡ f)
-key_found f None k h = absurd (cc h)
-key_found f (Some x) k h = let t = tied (eq_by_cmp fork_cmp f x.top.name) refl h in (x, refl, t.0, t.1)
-  where
-    tied : (b : Bool) → eq_by_cmp fork_cmp f x.top.name ≡ b → cond b (Some x.top) None ≡ Some k → (x.top ≡ k) × (x.top.name ≡ f)
-    tied true is h = (cc h, sym (fork_cmp_apart f x.top.name ((Equal-is (fork_cmp f x.top.name)).0 is)))
-    tied false is h = absurd (cc h)
+-- what can be done is legal
+pub is_legal : {P : Type 0} {b : _} (m : System P b) (d : DrumWords) (step : Step) → CanDo m step → IsLegalStep true (state_of m d) step
+is_legal m d (Outer e) can = tt
+is_legal m d (AUnit f) can = can
+is_legal m d Idle none = λ on f r. none f r
 
-its_job : (js : List (Option Job)) (f : ForkName) (k : Fork) → OwnForks js → fin.get (forks_of js) f ≡ Some k → (j : Job) × (job_at js f.tty.0 ≡ Some j) × (j.top ≡ k) × (j.top.name ≡ f)
-its_job js f k own h =
-    key_found f (get_or js f.tty.0 None) k (sym (found fork_cmp_total fork_cmp_apart (λ (u : ℕ) (j : Job). j.top.name) (λ j. j.top) (λ q. q.tty.0) 0 js f.tty.0 f (forks_ranked js own) (omega arith)) ∙ h)
+-- a fork that can run has a name and a slot
+pub runner_fits : (tree : PlainTree) (who : Runner) → IsRunner tree who → FitsStep (AUnit who.fork)
+runner_fits tree who r = subst IsForkName r.named (r.trees.slotted.named r.fork r.there.0)
 
-not_frozen : (b c : Bool) → (b || c) ≡ false → b ≡ false
-not_frozen true c h = h
-not_frozen false c h = refl
+pub runner_slot : (tree : PlainTree) (who : Runner) → IsRunner tree who → IsSlot who.fork.tty who.slot
+runner_slot tree who r =
+    let first = r.trees.slotted.first r.fork r.there.0 in
+    let last = r.trees.slotted.last r.fork r.there.0 in
+    record { terminal = (runner_fits tree who r).0; first = omega (arith, first, r.there.2); last = omega (arith, last, r.there.2) }
 
-module _ {P : Type 0} {b : _} (m : System P b) (d : DrumWords) where
-  -- a fork that can run is the top fork of a job that can
-  runs_there : (f : ForkName) → IsRunnable (state_of m d) f → CanRun m.jobs.items f
-  runs_there f r =
-      let j = its_job m.jobs.items f r.0 (owns m) r.1 in
-      record {
-        job = j.0;
-        there = j.1;
-        named = j.3;
-        runs = ap (λ k. k.body.status) j.2 ∙ r.2;
-        free = ap (λ k. k.frozen) j.2 ∙ not_frozen r.0.frozen (is_frozen 29 (forks_of m.jobs.items) (option_and_then (fork_in (forks_of m.jobs.items) r.0.name.tty) r.0.superior)) r.3;
-      }
+-- the fork that is next to run, as one that can
+pub next_runner : (tree : PlainTree) → IsTree tree → (from : ℕ) (f : Fork) → IsNext tree.forks from f → IsRunner tree (record { fork = f.name; slot = f.slot })
+next_runner tree is from f next = record { trees = is; fork = f; there = (next.lives, refl, refl); named = refl; runs = next.runs }
 
-  -- and the top fork of a job that can run is a fork that can
-  is_runnable : (f : ForkName) → CanRun m.jobs.items f → IsRunnable (state_of m d) f
-  is_runnable f c =
-      let top = c.job.top in
-      let forks = forks_of m.jobs.items in
-      let above : is_frozen 29 forks (option_and_then (fork_in forks top.name.tty) top.superior) ≡ false = ap (λ o. is_frozen 29 forks (option_and_then (fork_in forks top.name.tty) o)) (m.sound.each_job f.tty.0 c.job c.there).top in
-      (top, ap (fin.get forks) (sym c.named) ∙ fork_found m.jobs.items f.tty.0 c.job (owns m) c.there, c.runs, ap (λ b. b || is_frozen 29 forks (option_and_then (fork_in forks top.name.tty) top.superior)) c.free ∙ above)
+-- of two forks that can run, both in one slot, each is the other
+same_place : (tree : PlainTree) → IsTree tree → (f g : Fork) → Lives tree.forks f → Lives tree.forks g → place_at f.name.tty f.slot ≡ place_at g.name.tty g.slot → g.name ≡ f.name
+same_place tree is f g a b same =
+    let place : (f.name.tty.0 ≡ g.name.tty.0) × (f.slot ≡ g.slot) = (
+      omega (arith, same, is.slotted.first f a, is.slotted.last f a, is.slotted.first g b, is.slotted.last g b),
+      omega (arith, same, is.slotted.first f a, is.slotted.last f a, is.slotted.first g b, is.slotted.last g b),
+    ) in
+    let one = is.slotted.once f.name.tty f.slot f g (a, refl, refl) (b, sym place.0, sym place.1) in ap (λ k. k.name) (sym one)
 
-  -- what can be done is legal
-  pub is_legal : (step : Step) → CanDo m step → IsLegalStep true (state_of m d) step
-  is_legal (Outer e) can = tt
-  is_legal (AUnit f) can = is_runnable f can
-  is_legal Idle none = λ on f r. none f (runs_there f r)
+-- A fork that is next to run behind itself is the only one that can.
+module _ (tree : PlainTree) (who : Runner) (r : IsRunner tree who) (f : Fork) (next : IsNext tree.forks (place_at who.fork.tty who.slot) f) where
+  placed : (g : Fork) → Lives tree.forks g → place_at g.name.tty g.slot < 480
+  placed g lives = omega (arith, (r.trees.slotted.named g lives).0, r.trees.slotted.first g lives, r.trees.slotted.last g lives)
 
--- and within its limits
-pub fits_step : {P : Type 0} {b : _} (m : System P b) (step : Step) → CanDo m step → FitsStep step
-fits_step m (Outer e) can = can.0
-fits_step m (AUnit f) can =
-    let job = m.sound.each_job f.tty.0 can.job can.there in
-    (omega (arith, job.low), omega (arith, job.first, ap (λ n. n.serial) can.named), omega (arith, job.last, ap (λ n. n.serial) can.named))
-fits_step m Idle can = tt
+  own_place : place_at who.fork.tty who.slot ≡ place_at r.fork.name.tty r.fork.slot
+  own_place = omega (arith, r.there.1, r.there.2)
+
+  pub alone : f.slot ≡ who.slot → f.name.tty.0 ≡ who.fork.tty.0 → (name : ForkName) → CanRun tree.forks name → name ≡ who.fork
+  alone slot job name runs =
+      let g = runs.0 in
+      let lives = held_lives tree.forks r.trees.slotted name g runs.1 in
+      let own = r.trees.slotted.own name g runs.1 in
+      let first = next.first g lives (subst (CanRun tree.forks) (sym own) runs) in
+      let here : place_at f.name.tty f.slot ≡ place_at who.fork.tty who.slot = omega (arith, slot, job) in
+      let same : place_at r.fork.name.tty r.fork.slot ≡ place_at g.name.tty g.slot = at_last (place_at who.fork.tty who.slot) (place_at f.name.tty f.slot) (place_at g.name.tty g.slot) (place_at r.fork.name.tty r.fork.slot) here own_place (placed g lives) (placed r.fork r.there.0) first in
+      sym own ∙ same_place tree r.trees r.fork g r.there.0 lives same ∙ r.named
+    where
+      at_last : (from a b c : ℕ) → a ≡ from → from ≡ c → b < 480 → c < 480 → steps_to from a ≤ steps_to from b → c ≡ b
+      at_last from a b c here own few_b few_c h = omega (arith, here, own, few_b, few_c, h)
+
+  -- and the only one that can is next behind itself
+  pub only : ((name : ForkName) → CanRun tree.forks name → name ≡ who.fork) → (f.slot ≡ who.slot) × (f.name.tty.0 ≡ who.fork.tty.0)
+  only all =
+      let name : f.name ≡ who.fork = all f.name next.runs in
+      let both : Some f ≡ Some r.fork = sym next.lives ∙ ap (map.get tree.forks) (name ∙ sym r.named) ∙ r.there.0 in
+      let same : f ≡ r.fork = cc both in
+      (ap (λ k. k.slot) same ∙ r.there.2, ap (λ k. k.name.tty.0) same ∙ r.there.1)

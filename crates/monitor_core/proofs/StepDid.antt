@@ -22,7 +22,7 @@ use Rattle.monitor_core.specs.declared.reply.Reply.TheVariants.{Nothing, One, Pr
 use Rattle.monitor_core.specs.declared.shown.Shown.TheVariants.{Nothing as ShowsNothing, Code, LineEnd, Halted, Forced}
 use Rattle.monitor_core.specs.Acts.{Given, Cut, Acted, TookTurns}
 use Rattle.monitor_core.specs.Giving.{TookAll}
-use Rattle.monitor_core.specs.Machines.{Fits, plain, done, auto, is_live}
+use Rattle.monitor_core.specs.Machines.{plain, done, auto, is_live}
 use Rattle.monitor_core.specs.Replies.{reply_items, is_silent}
 use Rattle.monitor_core.specs.Systems.{CanDo, Did, DidAll, FitsPages, state_of}
 use Rattle.monitor_core.proofs.Runnable.{is_legal}

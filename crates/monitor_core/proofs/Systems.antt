@@ -1,60 +1,95 @@
 -- Steps of a system, as steps of the plain machine.
-use Rattle.std.proofs.Common.{◌≡◌, ℕ, ◌+◌, ◌<◌, ◌≤◌, length, set, None, Some, sym, ◌∙◌, ap, subst, arith, get_or-set_same, get_or-set_other, inl, inr}
-use Rattle.std.proofs.lemmas.Bool.{cases_eq}
-use Rattle.std.specs.FinMap as fin
-use Rattle.plain_model.specs.Outcome.{DrumWords}
+use Rattle.std.proofs.Common.{◌≡◌, ℕ, ◌<◌, ◌≤◌, ◌^◌, List, Option, None, Some, refl, sym, ◌∙◌, ap, subst, arith, inl, inr, length-set}
+use Rattle.std.specs.Option.{option_map, option_map_or}
+use Rattle.std.specs.FinMap as map
+use Rattle.plain_model.specs.declared.names.ForkName.{ForkName}
+use Rattle.plain_model.specs.declared.fork.Fork.{Fork}
+use Rattle.plain_model.specs.Forks.{change_fork, with_fork}
+use Rattle.plain_model.specs.State.{PlainState}
+use Rattle.fork_tree.specs.Changes.{changed}
+use Rattle.plain_model.specs.declared.names.TheConstants.{ACCUMULATORS}
+use Rattle.plain_model.specs.Events.{restarted, with_accumulator}
+use Rattle.fork_tree.specs.Trees.{IsTree, Lives, PlainTree}
+use Rattle.fork_tree.proofs.Slots.{held_lives}
 use Rattle.monitor_core.specs.declared.job.Job.{Job}
 use Rattle.monitor_core.specs.declared.system.System.{System}
 use Rattle.monitor_core.specs.Holding.{Holds}
-use Rattle.monitor_core.specs.Jobs.{jobs_of, forks_of, job_at, plain_job}
-use Rattle.monitor_core.specs.Systems.{state_of, IsWithin}
-use Rattle.monitor_core.proofs.Lookups.{OwnForks, jobs_set, forks_set}
-use Rattle.monitor_core.proofs.ForksShown.{FirstSlots}
-use Rattle.monitor_core.proofs.Unfiled.{named}
+use Rattle.monitor_core.specs.Jobs.{job_at}
+use Rattle.monitor_core.specs.Systems.{IsWithin}
+use Rattle.monitor_core.specs.Limits.{IsBody}
+use Rattle.monitor_core.specs.Runners.{with_change}
+use Rattle.monitor_core.specs.Sound.{AreSound}
+use Rattle.monitor_core.proofs.Sounds.{lives_now, same_tops, sound_change, sound_same, split_at}
+
+-- what a map of one value gives
+pub mapped_some : {X Y : Type 0} (f : X → Y) (o : Option X) (y : Y) → option_map f o ≡ Some y → (x : X) × (o ≡ Some x) × (f x ≡ y)
+mapped_some f None y e = absurd (cc e)
+mapped_some f (Some x) y e = (x, refl, cc e)
+
+-- a fork that is changed where it lives, as forks
+pub change_is : (s : PlainState) (name : ForkName) (change : Fork → Fork) → ((f : Fork) → (change f).name ≡ f.name) → change_fork s name change ≡ record s { forks = changed s.forks change (map.get s.forks name) }
+change_is s name change same = by (map.get s.forks name)
+  where
+    by : (o : Option Fork) → option_map_or (λ f. with_fork s (change f)) o s ≡ record s { forks = changed s.forks change o }
+    by None = refl
+    by (Some f) = λ i. record s { forks = map.insert s.forks (same f i) (change f) }
 
 module _ {P : Type 0} {b : _} where
-  -- each job's top fork is of the job's terminal
-  pub owns : (m : System P b) → OwnForks m.jobs.items
-  owns m t j at = (m.sound.each_job t j at).terminal
-
-  -- and has the first slot
-  pub first_slots : (m : System P b) → FirstSlots m.jobs.items
-  first_slots m t j at = (m.sound.each_job t j at).slot
+  -- the top fork of a job lives
+  pub top_fork_of : (m : System P b) (t : ℕ) (j : Job) → job_at m.jobs.items t ≡ Some j → (k : Fork) × (map.get m.tree.forks j.top ≡ Some k) × (k.slot ≡ 1)
+  top_fork_of m t j at = mapped_some (λ f. f.slot) (map.get m.tree.forks j.top) 1 (m.sound.each_job t j at).top
 
   -- and is held by the pages
-  pub holds_top : (m : System P b) (t : ℕ) (j : Job) → job_at m.jobs.items t ≡ Some j → Holds b.means m.pages j.top.name
-  holds_top m t j at = let job = m.sound.each_job t j at in record { flat = m.sound.flat; lives = m.sound.alive t j at; terminal = omega (arith, job.terminal, job.low) }
-
-  pub low_terminal : (m : System P b) (t : ℕ) (j : Job) → job_at m.jobs.items t ≡ Some j → t < length m.jobs.items
-  low_terminal m t j at = omega (arith, m.sound.job_room, (m.sound.each_job t j at).low)
-
-  -- another job with the same top fork in a terminal's place, in the plain state
-  pub state_set : (m m' : System P b) (d : DrumWords) (t : ℕ) (j k : Job) → job_at m.jobs.items t ≡ Some j → m'.jobs.items ≡ set m.jobs.items t (Some k) → m'.fork_serials.items ≡ m.fork_serials.items → m'.clock ≡ m.clock → k.top.name ≡ j.top.name
-      → state_of m' d ≡ record (state_of m d) { pages = named (b.means.plain m'.pages d); jobs = fin.insert (jobs_of m.jobs.items) j.top.name.tty.0 (plain_job k); forks = fin.insert (forks_of m.jobs.items) j.top.name k.top }
-  state_set m m' d t j k at set_to serials clock name =
+  pub holds_top : (m : System P b) → IsTree m.tree → (t : ℕ) (j : Job) → job_at m.jobs.items t ≡ Some j → Holds b.means m.pages j.top
+  holds_top m is t j at =
       let job = m.sound.each_job t j at in
-      let within = low_terminal m t j at in
-      let there : k.top.name.tty.0 ≡ t = ap (λ n. n.tty.0) name ∙ job.terminal in
-      let jobs : jobs_of m'.jobs.items ≡ fin.insert (jobs_of m.jobs.items) j.top.name.tty.0 (plain_job k) =
-      ap jobs_of set_to ∙ jobs_set m.jobs.items t k within ∙ ap (λ u. fin.insert (jobs_of m.jobs.items) u (plain_job k)) (sym job.terminal) in
-      let forks_is : forks_of m'.jobs.items ≡ fin.insert (forks_of m.jobs.items) j.top.name k.top =
-      ap forks_of set_to ∙ forks_set m.jobs.items t k (owns m) within there (λ x e. let f : Some j ≡ Some x = sym at ∙ e in let g : j ≡ x = cc f in ap (λ y. y.top.name) (sym g) ∙ sym name)
-      ∙ ap (λ n. fin.insert (forks_of m.jobs.items) n k.top) name in
-      λ i. record (state_of m d) { pages = named (b.means.plain m'.pages d); jobs = jobs i; forks = forks_is i; fork_serials = serials i; clock = clock i }
+      let k = top_fork_of m t j at in
+      let alive = m.sound.alive k.0 (held_lives m.tree.forks is.slotted j.top k.0 k.1) in
+      record { flat = m.sound.flat; lives = ap (b.means.lives m.pages) (sym (is.slotted.own j.top k.0 k.1)) ∙ alive; terminal = omega (arith, job.terminal, job.low) }
 
-  -- the units of the jobs where one of them has another top fork
-  pub units_set : (m : System P b) (entries later t : ℕ) (j k : Job) → IsWithin m entries → entries ≤ later → job_at m.jobs.items t ≡ Some j → k.top.body.units ≤ later → (u : ℕ) (i : Job) → job_at (set m.jobs.items t (Some k)) u ≡ Some i → i.top.body.units ≤ later
-  units_set m entries later t j k w more at few u i e = elim (cases_eq u t) [
-    | inl same ↦
-        let f : Some k ≡ Some i = sym (get_or-set_same m.jobs.items t (Some k) None (low_terminal m t j at)) ∙ ap (job_at (set m.jobs.items t (Some k))) (sym same) ∙ e in
-        let is : k ≡ i = cc f in subst (λ x. x.top.body.units ≤ later) is few
-    | inr ne ↦ omega (arith, more, w.units u i (sym (get_or-set_other m.jobs.items t u (Some k) None ne) ∙ e))
+  -- a fork that lives is held by the pages
+  pub holds_fork : (m : System P b) → IsTree m.tree → (f : Fork) → Lives m.tree.forks f → Holds b.means m.pages f.name
+  holds_fork m is f lives = record { flat = m.sound.flat; lives = m.sound.alive f lives; terminal = (is.slotted.named f lives).0 }
+
+  -- the units of the forks where one of them is another
+  pub units_changed : (m : System P b) (entries later : ℕ) (name : ForkName) (g : Fork) → IsWithin m entries → entries ≤ later → g.body.units ≤ later → (f : Fork) → Lives (map.insert m.tree.forks name g) f → f.body.units ≤ later
+  units_changed m entries later name g w more few f e = elim (lives_now m.tree.forks name g f e) [
+    | inl is ↦ subst (λ (x : Fork). x.body.units ≤ later) is few
+    | inr old ↦ omega (arith, more, w.units f old)
   ]
+
+  -- the same where it is changed, if it lives
+  pub units_change : (m : System P b) (entries later : ℕ) (n : ForkName) (change : Fork → Fork) → IsTree m.tree → ((f : Fork) → (change f).body.units ≡ f.body.units) → IsWithin m entries → entries ≤ later
+      → (f : Fork) → Lives (changed m.tree.forks change (map.get m.tree.forks n)) f → f.body.units ≤ later
+  units_change m entries later n change is same w more f = by (map.get m.tree.forks n) refl
+    where
+      by : (o : Option Fork) → map.get m.tree.forks n ≡ o → Lives (changed m.tree.forks change o) f → f.body.units ≤ later
+      by None e lives = omega (arith, more, w.units f lives)
+      by (Some k) e lives = units_changed m entries later k.name (change k) w more (omega (arith, same k, w.units k (held_lives m.tree.forks is.slotted n k e), more)) f lives
 
   -- nothing is counted but an entry
   pub within_later : (m : System P b) (entries later : ℕ) → IsWithin m entries → entries ≤ later → IsWithin m later
   within_later m entries later w h = record {
     ticks = omega (arith, w.ticks, h);
-    units = λ t j e. omega (arith, w.units t j e, h);
+    units = λ f e. omega (arith, w.units f e, h);
     serials = λ t. omega (arith, w.serials t, h);
   }
+
+-- a fork with a word in an accumulator stays within its limits, and so does one that is started again
+worded_body : (f : Fork) (at word : ℕ) → IsBody f.body → IsBody (with_accumulator at word f).body
+worded_body f at word b = record { status = b.status; off = b.off; pc = b.pc; accumulators = length-set f.body.regs.ac at word ∙ b.accumulators }
+
+pub restarted_body : (f : Fork) (address : ℕ) → address < 2 ^ 18 → IsBody f.body → IsBody (restarted address f).body
+restarted_body f address low b = record { status = λ c h. absurd (cc h); off = b.off; pc = low; accumulators = b.accumulators }
+
+-- a system with a word put at an address of a fork is sound
+pub sound_poked : {P : Type 0} {b : _} (m : System P b) → IsTree m.tree → (q : P) (tree : PlainTree) (jobs : List (Option Job)) (name : ForkName) (address word : ℕ) → b.means.lives q ≡ b.means.lives m.pages → b.means.forks_of q ≡ b.means.forks_of m.pages → jobs ≡ m.jobs.items
+    → (address < ACCUMULATORS → tree ≡ with_change m.tree name (with_accumulator address word)) → (ACCUMULATORS ≤ address → tree ≡ m.tree) → AreSound b.means q tree jobs
+sound_poked {b = b} m is q tree jobs name address word lives forks same low high =
+    let tops = same_tops m.jobs.items jobs same in
+    elim (split_at address ACCUMULATORS) [
+      | inl small ↦
+          subst (λ (x : PlainTree). AreSound b.means q x jobs) (sym (low small))
+          (sound_change b.means m.pages q m.tree m.jobs.items jobs m.sound lives forks tops is name (with_accumulator address word) (λ f. refl) (λ f. refl) (λ f body. worded_body f address word body))
+      | inr above ↦ subst (λ (x : PlainTree). AreSound b.means q x jobs) (sym (high above)) (sound_same b.means m.pages q m.tree m.jobs.items jobs m.sound lives forks tops)
+    ]

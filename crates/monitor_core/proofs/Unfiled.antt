@@ -15,6 +15,11 @@ use Rattle.plain_model.proofs.Whole.{tally, no_values}
 use Rattle.plain_model.specs.Steps.{Progress, Ending, done, begun, pages_left}
 use Rattle.plain_model.specs.Instructions.{instruction}
 use Rattle.plain_model.specs.Unit.{unit_on}
+use Rattle.plain_model.specs.Calls.{Turn, end_of, parts_behind}
+use Rattle.plain_model.specs.MapCalls.{map_changed}
+use Rattle.plain_model.specs.declared.call.End.{End}
+use Rattle.plain_model.specs.declared.call.MapChange.{MapChange}
+use Rattle.plain_model.proofs.MapTurns.{end_refiled, turn_files, turn_refiled}
 use Rattle.plain_model.proofs.Refiled.{NameAlike, refiled_result, reference_refiled}
 use Rattle.plain_model.proofs.RefiledUnits.{refiled_plan, run_refiled, LeavesFiles, run_leaves, left_leaves}
 
@@ -37,3 +42,13 @@ module _ (p : NumberedPages) (unfiled : p.files ≡ fin.empty) where
   -- which leaves no file
   pub unit_unfiled : (f : ForkName) (regs : Regs) (t : Progress nat_cmp) (e : Ending) → unit_on f p regs ≡ done t e → (pages_left f t e).files ≡ fin.empty
   unit_unfiled f regs t e is = left_leaves f t e ∙ subst (LeavesFiles p.files) is (run_leaves f (instruction regs) (begun p regs.ac)) ∙ unfiled
+
+  -- a turn of a call on maps ends the same, leaves the same, and leaves no file
+  pub end_named : {C : Type 0} (t : Turn C) → end_of (named p) t ≡ end_of p t
+  end_named t = end_refiled name_cmp fin.empty p t
+
+  pub turn_named : (e : End MapChange) → parts_behind map_changed (named p) e ≡ named (parts_behind map_changed p e)
+  turn_named e = turn_refiled name_cmp fin.empty p alike e
+
+  pub turn_unfiled : (e : End MapChange) → (parts_behind map_changed p e).files ≡ fin.empty
+  turn_unfiled e = turn_files p e ∙ unfiled

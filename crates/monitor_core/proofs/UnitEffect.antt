@@ -1,168 +1,237 @@
--- The unit of the plain machine, as far as it concerns one job.
-use Rattle.std.proofs.Common.{◌≡◌, ℕ, ◌%◌, ◌||◌, ◌∷◌, ◌++◌, [], Bool, true, false, cond, Option, None, Some, refl, sym, ◌∙◌, ap, subst, ◌==◌, slice_index, is_some, inl, inr, rules}
-use Rattle.std.proofs.lemmas.Bool.{cases_eq}
-use Rattle.std.specs.declared.cmp.Ordering.{Ordering}
-use Rattle.std.specs.Cmp.{IsTotalOrder, nat_cmp_total}
+-- One unit of a fork, as an entry of the plain machine.
+use Rattle.std.proofs.Common.{◌≡◌, ℕ, ◌%◌, ◌&&◌, ◌∷◌, ◌++◌, [], Bool, true, false, cond, not, Option, None, Some, refl, sym, ◌∙◌, ap, subst, ◌==◌, slice_index, is_some}
+use Rattle.std.proofs.lemmas.Bool.{ne_eqb}
 use Rattle.std.specs.Ordering.{nat_cmp}
-use Rattle.std.specs.Option.{option_map_or, option_and_then}
+use Rattle.std.specs.Option.{option_map_or}
 use Rattle.std.specs.FinMap as fin
 use Rattle.plain_model.specs.declared.call.TheConstants.{PBOUT, HALTF}
+use Rattle.plain_model.specs.declared.call.End.{End}
+use Rattle.plain_model.specs.declared.call.End.TheVariants as end
+use Rattle.plain_model.specs.declared.call.MapChange.{MapChange}
 use Rattle.plain_model.specs.declared.channel.TheConstants.{ILLEGAL_INSTRUCTION}
 use Rattle.plain_model.specs.declared.character.TheConstants.{LINE_END, CARRIAGE_RETURN, LINE_FEED}
 use Rattle.plain_model.specs.declared.event.Item.TheVariants.{UnitLine}
 use Rattle.plain_model.specs.declared.event.Step.TheVariants.{Unit as AUnit}
 use Rattle.plain_model.specs.declared.fork.Fork.{Fork}
-use Rattle.plain_model.specs.declared.fork.TerminalMode.{TerminalMode}
-use Rattle.plain_model.specs.declared.fork.TerminalMode.TheVariants.{Command}
+use Rattle.plain_model.specs.declared.fork.ForkStatus.{ForkStatus}
 use Rattle.plain_model.specs.declared.fork.ForkStatus.TheVariants.{Run, Forced as AForced, Halted as AHalted}
+use Rattle.plain_model.specs.declared.fork.TerminalMode.TheVariants.{Command}
+use Rattle.plain_model.specs.declared.names.TheConstants.{MOST_FORKS}
+use Rattle.plain_model.specs.declared.names.ForkName.{ForkName}
+use Rattle.plain_model.specs.declared.names.Tty.{Tty}
+use Rattle.plain_model.specs.Calls.{Turn, end_of, fork_behind, lifted, parts_behind, with_error}
+use Rattle.plain_model.specs.Forks.{counted, is_frozen, with_fork, with_regs, with_status}
+use Rattle.plain_model.specs.Interrupts.{is_panic, posted}
+use Rattle.plain_model.specs.MapCalls.{map_call, map_called, map_changed, pages_seen}
 use Rattle.plain_model.specs.Orders.{name_cmp}
-use Rattle.plain_model.specs.State.{PlainState, NumberedPages}
-use Rattle.plain_model.specs.Steps.{Planned, done, call, trap, need, stopped as unit_stopped, pages_left}
-use Rattle.plain_model.specs.Forks.{with_fork, with_regs, with_status, counted, is_frozen, fork_in}
-use Rattle.plain_model.specs.Interrupts.{posted, is_panic}
-use Rattle.plain_model.specs.Unit.{Effect, advanced, pbout, haltf, trapped, called, unit_ended, stopped, in_command_mode, printed, stop_text, posted_if, unit_on, went, over, unit}
-use Rattle.plain_model.specs.Run.{apply, unit_line, IsLegalStep}
-use Rattle.plain_model.proofs.Equations.{unit_some, apply_unit}
-use Rattle.plain_model.proofs.RefiledUnits.{refiled_plan, left_refiled}
-use Rattle.monitor_core.specs.declared.job.Job.{Job}
+use Rattle.plain_model.specs.Run.{IsLegalStep, apply, unit_line}
+use Rattle.plain_model.specs.State.{NumberedPages, PlainJob, PlainState}
+use Rattle.plain_model.specs.Steps.{Planned, call, done, need, pages_left, stopped as unit_stopped, trap}
+use Rattle.plain_model.specs.Unit.{Effect, advanced, called, haltf, in_command_mode, over, pbout, posted_if, printed, stop_text, stopped, turned, unit, unit_ended, unit_on, went}
+use Rattle.plain_model.proofs.Equations.{apply_unit, unit_some}
+use Rattle.plain_model.proofs.RefiledUnits.{left_refiled, refiled_plan}
+use Rattle.fork_tree.specs.Trees.{IsTree, tree_of}
 use Rattle.monitor_core.specs.declared.shown.Shown.{Shown}
 use Rattle.monitor_core.specs.declared.shown.Shown.TheVariants.{Nothing, Code, LineEnd, Halted, Forced}
-use Rattle.monitor_core.specs.ForkUnit.{Behind, behind, behind_unit, called_fork, called_shown, post_shown}
-use Rattle.monitor_core.specs.Shown.{shown_items, is_stop, code_shown}
-use Rattle.monitor_core.specs.Jobs.{plain_job}
-use Rattle.monitor_core.proofs.Sounds.{posted_off, dropped_off}
-use Rattle.monitor_core.proofs.Unfiled.{named, unit_named}
+use Rattle.monitor_core.specs.ForkUnit.{Behind, behind, behind_unit, called_behind, end_post, post_shown, turned_behind}
+use Rattle.monitor_core.specs.Shown.{code_shown, is_stop, seen_of, shown_items}
+use Rattle.monitor_core.proofs.Keeping.{dropped_off, posted_off}
+use Rattle.monitor_core.proofs.Unfiled.{end_named, named, turn_named, unit_named}
 
--- to insert what is there changes nothing
-pub insert_same : {V : Type 0} (m : fin.FinMap nat_cmp V) (k : ℕ) (v : V) → fin.get m k ≡ Some v → fin.insert m k v ≡ m
-insert_same m k v h = fin.same_map nat_cmp_total fin.nat_cmp-IsAntisymmetric _ _ (λ q. elim (cases_eq q k) [
-  | inl e ↦ subst (λ x. fin.get (fin.insert m k v) x ≡ fin.get m x) (sym e) (let f : fin.get (fin.insert m k v) k ≡ Some v = grind (fin.gets, rules) in f ∙ sym h)
-  | inr ne ↦ grind (fin.gets, rules)
-])
+-- the jobs once the monitor reads a terminal, if it does
+abbrev pub jobs_seen : fin.FinMap nat_cmp PlainJob → Tty → Bool → fin.FinMap nat_cmp PlainJob
+jobs_seen jobs t stops = cond stops (option_map_or (λ (j : PlainJob). fin.insert jobs t.0 (record j { mode = Command })) (fin.get jobs t.0) jobs) jobs
 
-module _ (s : PlainState) (j : Job) (job : fin.get s.jobs j.top.name.tty.0 ≡ Some (plain_job j)) (top : j.top.superior ≡ None) (off : j.top.body.psi.on ≡ false) where
-  -- the state with another fork and mode of the job
-  abbrev pub with_top : Fork → TerminalMode → PlainState
-  with_top g mode = record s {
-    jobs = fin.insert s.jobs j.top.name.tty.0 (plain_job (record j { top = g; mode = mode }));
-    forks = fin.insert s.forks j.top.name g;
-  }
+-- what a status is told of what is shown
+abbrev Tells : Shown → ForkStatus → Type 0
+Tells Nothing status = status ≡ Run
+Tells (Code c) status = ⊥
+Tells LineEnd status = ⊥
+Tells Halted status = status ≡ AHalted
+Tells (Forced channel) status = status ≡ AForced channel
 
-  abbrev pub ran_as : Fork → Shown → Effect
-  ran_as g shown = record { state = with_top g (cond (is_stop shown) Command j.mode); items = shown_items j.top.name.tty shown }
+-- a fork before and behind a unit, but for its count, which shows this
+record EndsAs (f g : Fork) (shown : Shown) : Type 0 where
+  pub name : g.name ≡ f.name
+  pub superior : g.superior ≡ f.superior
+  pub status : Tells shown g.body.status
 
-  -- the job stays as it is
-  pub job_stays : (g : Fork) → g.name ≡ j.top.name → with_fork s g ≡ with_top g j.mode
-  job_stays g name =
-      let same : plain_job (record j { top = g }) ≡ plain_job j = λ i. record (plain_job j) { top = name i } in
-      let jobs : fin.insert s.jobs j.top.name.tty.0 (plain_job (record j { top = g })) ≡ s.jobs = ap (λ k. fin.insert s.jobs j.top.name.tty.0 k) same ∙ insert_same s.jobs j.top.name.tty.0 (plain_job j) job in
-      λ i. record s { jobs = sym jobs i; forks = fin.insert s.forks (name i) g }
+module _ (s : PlainState) (f : Fork) where
+  -- the state behind it
+  abbrev left_as : Fork → Shown → PlainState
+  left_as g shown = record s { jobs = jobs_seen s.jobs f.name.tty (is_stop shown); forks = fin.insert s.forks f.name (counted g) }
 
-  -- the fork has stopped
-  stops_as : (g : Fork) → g.name ≡ j.top.name → g.superior ≡ None → stopped s g ≡ record { state = with_top (counted g) Command; items = printed j.top.name.tty (stop_text g.body.status) }
-  stops_as g name none =
-      let there : fin.get s.jobs g.name.tty.0 ≡ Some (plain_job j) = ap (λ n. fin.get s.jobs n.tty.0) name ∙ job in
-      let after = with_fork s (counted g) in
-      let first : stopped s g ≡ record { state = in_command_mode after g.name.tty; items = printed g.name.tty (stop_text g.body.status) } =
-      ap (λ b. cond b (record { state = after; items = [] }) (record { state = in_command_mode after g.name.tty; items = printed g.name.tty (stop_text g.body.status) })) (ap is_some none) in
-      let second : stopped s g ≡ record { state = record after { jobs = fin.insert s.jobs g.name.tty.0 (record (plain_job j) { mode = Command }) }; items = printed g.name.tty (stop_text g.body.status) } =
-      first ∙ ap (λ o. record { state = option_map_or (λ k. record after { jobs = fin.insert s.jobs g.name.tty.0 (record k { mode = Command }) }) o after; items = printed g.name.tty (stop_text g.body.status) }) there in
-      second ∙ (λ i. record {
-        state = record s { jobs = fin.insert s.jobs (name i).tty.0 (record (plain_job j) { mode = Command; top = sym name i }); forks = fin.insert s.forks (name i) (counted g) };
-        items = printed (name i).tty (stop_text g.body.status);
-      })
+  abbrev shows_as : Fork → Shown → Effect
+  shows_as g shown = record { state = left_as g shown; items = shown_items f.name.tty shown }
 
-  -- the fork goes on
-  goes_as : (h : Fork) → h.name ≡ j.top.name → h.body.status ≡ Run → unit_ended s h h.body.status ≡ ran_as (counted h) Nothing
-  goes_as h name runs = ap (unit_ended s h) runs ∙ (λ i. record { state = job_stays (counted h) name i; items = [] })
-
-  -- a channel is posted to the fork, if one is, and it is forced or goes on
-  pub ended_as : (h : Fork) (post : Option ℕ) → h.name ≡ j.top.name → h.superior ≡ None → h.body.psi.on ≡ false → h.body.status ≡ Run → unit_ended s (posted_if h post) (posted_if h post).body.status ≡ ran_as (counted (posted_if h post)) (post_shown post)
-  ended_as h None name none quiet runs = goes_as h name runs
-  ended_as h (Some channel) name none quiet runs = by (is_panic channel) refl
+  command_as : (t : Tty) (g : Fork) → in_command_mode (record s { forks = fin.insert s.forks f.name (counted g) }) t ≡ record s { jobs = jobs_seen s.jobs t true; forks = fin.insert s.forks f.name (counted g) }
+  command_as t g = by (fin.get s.jobs t.0)
     where
-      by : (b : Bool) → is_panic channel ≡ b → unit_ended s (posted h channel) (posted h channel).body.status ≡ ran_as (counted (posted h channel)) (post_shown (Some channel))
+      by : (o : Option PlainJob) → option_map_or (λ (j : PlainJob). record s { jobs = fin.insert s.jobs t.0 (record j { mode = Command }); forks = fin.insert s.forks f.name (counted g) }) o (record s { forks = fin.insert s.forks f.name (counted g) })
+          ≡ record s { jobs = option_map_or (λ (j : PlainJob). fin.insert s.jobs t.0 (record j { mode = Command })) o s.jobs; forks = fin.insert s.forks f.name (counted g) }
+      by None = refl
+      by (Some j) = refl
+
+  -- a fork that stops prints and gives its terminal to the monitor where it is a top fork
+  stops_as : (g : Fork) (shown : Shown) → g.name ≡ f.name → g.superior ≡ f.superior → is_some f.superior ≡ not (f.slot == 1) → is_stop shown ≡ true → shown_items f.name.tty shown ≡ printed f.name.tty (stop_text g.body.status)
+      → stopped s g ≡ shows_as g (seen_of f.slot shown)
+  stops_as g shown name superior top stops text =
+      (λ i. cond (is_some (superior i)) (quietly (name i)) (aloud (name i)))
+      ∙ ap (λ b. cond b (quietly f.name) (aloud f.name)) top
+      ∙ by (f.slot == 1)
+      ∙ ap (λ b. shows_as g (cond (b && not (f.slot == 1)) Nothing shown)) (sym stops)
+    where
+      quietly : ForkName → Effect
+      quietly n = record { state = record s { forks = fin.insert s.forks n (counted g) }; items = [] }
+
+      aloud : ForkName → Effect
+      aloud n = record { state = in_command_mode (record s { forks = fin.insert s.forks n (counted g) }) n.tty; items = printed n.tty (stop_text g.body.status) }
+
+      by : (b : Bool) → cond (not b) (quietly f.name) (aloud f.name) ≡ shows_as g (cond (true && not b) Nothing shown)
+      by true = λ i. record { state = (command_as f.name.tty g ∙ ap (λ c. record s { jobs = jobs_seen s.jobs f.name.tty c; forks = fin.insert s.forks f.name (counted g) }) (sym stops)) i; items = sym text i }
+      by false = refl
+
+  -- whatever a unit shows but a character, by the status that it leaves
+  ended_as : is_some f.superior ≡ not (f.slot == 1) → (g : Fork) (shown : Shown) → EndsAs f g shown → unit_ended s g g.body.status ≡ shows_as g (seen_of f.slot shown)
+  ended_as top g Nothing e = ap (unit_ended s g) e.status ∙ (λ i. record { state = record s { forks = fin.insert s.forks (e.name i) (counted g) }; items = [] })
+  ended_as top g (Code c) e = absurd e.status
+  ended_as top g LineEnd e = absurd e.status
+  ended_as top g Halted e = ap (unit_ended s g) e.status ∙ stops_as g Halted e.name e.superior top refl (ap (λ x. printed f.name.tty (stop_text x)) (sym e.status))
+  ended_as top g (Forced channel) e = ap (unit_ended s g) e.status ∙ stops_as g (Forced channel) e.name e.superior top refl (ap (λ x. printed f.name.tty (stop_text x)) (sym e.status))
+
+  -- a character is printed
+  printed_as : pbout s f ≡ shows_as (with_regs f (advanced f.body.regs)) (seen_of f.slot (code_shown (slice_index f.body.regs.ac 1 % 128)))
+  printed_as = by (code == LINE_END)
+    where
+      code : ℕ
+      code = slice_index f.body.regs.ac 1 % 128
+
+      g : Fork
+      g = with_regs f (advanced f.body.regs)
+
+      by : (b : Bool) → ◌≡◌ {A = Effect} (record { state = with_fork s (counted g); items = printed f.name.tty (cond b (CARRIAGE_RETURN ∷ LINE_FEED ∷ []) (code ∷ [])) }) (shows_as g (seen_of f.slot (cond b LineEnd (Code code))))
+      by true = refl
+      by false = refl
+
+-- a fork that runs and takes no channel, behind a channel that is posted to it
+module _ (f : Fork) where
+  posted_ends : (h : Fork) (channel : ℕ) → h.name ≡ f.name → h.superior ≡ f.superior → h.body.psi.on ≡ false → h.body.status ≡ Run → EndsAs f (posted h channel) (post_shown (Some channel))
+  posted_ends h channel name superior off runs = by (is_panic channel) refl
+    where
+      by : (b : Bool) → is_panic channel ≡ b → EndsAs f (posted h channel) (post_shown (Some channel))
       by true panic =
-          let forced = posted_off h channel quiet panic in
-          ap (λ g. unit_ended s g g.body.status) forced ∙ stops_as (with_status h (AForced channel)) name none ∙ (λ i. ran_as (counted (sym forced i)) (cond (sym panic i) (Forced channel) Nothing))
+          subst (λ c. EndsAs f (posted h channel) (cond c (Forced channel) Nothing)) (sym panic)
+          (subst (λ g. EndsAs f g (Forced channel)) (sym (posted_off h channel off panic)) (record { name = name; superior = superior; status = refl }))
       by false other =
-          let dropped = dropped_off h channel quiet other in
-          ap (λ g. unit_ended s g g.body.status) dropped ∙ goes_as h name runs ∙ (λ i. ran_as (counted (sym dropped i)) (cond (sym other i) (Forced channel) Nothing))
+          subst (λ c. EndsAs f (posted h channel) (cond c (Forced channel) Nothing)) (sym other)
+          (subst (λ g. EndsAs f g Nothing) (sym (dropped_off h channel off other)) (record { name = name; superior = superior; status = runs }))
 
-  prints_as : (b : Bool) (code : ℕ) (g : Fork) → g.name ≡ j.top.name → ◌≡◌ {A = Effect} (record { state = with_fork s g; items = printed j.top.name.tty (cond b (CARRIAGE_RETURN ∷ LINE_FEED ∷ []) (code ∷ [])) }) (ran_as g (cond b LineEnd (Code code)))
-  prints_as true code g name = λ i. record { state = job_stays g name i; items = printed j.top.name.tty (CARRIAGE_RETURN ∷ LINE_FEED ∷ []) }
-  prints_as false code g name = λ i. record { state = job_stays g name i; items = printed j.top.name.tty (code ∷ []) }
+  posted_if_ends : (h : Fork) (post : Option ℕ) → h.name ≡ f.name → h.superior ≡ f.superior → h.body.psi.on ≡ false → h.body.status ≡ Run → EndsAs f (posted_if h post) (post_shown post)
+  posted_if_ends h None name superior off runs = record { name = name; superior = superior; status = runs }
+  posted_if_ends h (Some channel) name superior off runs = posted_ends h channel name superior off runs
 
-  either_as : (b : Bool) (x y : Effect) (g h : Fork) (p q : Shown) → x ≡ ran_as g p → y ≡ ran_as h q → cond b x y ≡ ran_as (cond b g h) (cond b p q)
-  either_as true x y g h p q e f = e
-  either_as false x y g h p q e f = f
+  -- and behind a turn of a call on maps
+  turn_ends : f.body.psi.on ≡ false → f.body.status ≡ Run → (e : End MapChange) → EndsAs f (fork_behind f e) (post_shown (end_post e))
+  unfolding fork_behind
+  turn_ends off runs (end.Done change regs) = record { name = refl; superior = refl; status = runs }
+  turn_ends off runs (end.Refused code) = posted_ends (with_error f code) ILLEGAL_INSTRUCTION refl refl off runs
+  turn_ends off runs (end.Trap channel) = posted_ends f channel refl refl off runs
 
-  -- a turn of a monitor call
-  pub called_as : j.top.body.status ≡ Run → (number : ℕ) → called s j.top number ≡ ran_as (called_fork j.top number) (called_shown j.top number)
-  called_as runs number =
-      let regs = advanced j.top.body.regs in
-      let code = slice_index j.top.body.regs.ac 1 % 128 in
-      let printing : pbout s j.top ≡ ran_as (counted (with_regs j.top regs)) (code_shown code) = prints_as (code == LINE_END) code (counted (with_regs j.top regs)) refl in
-      let halting : haltf s j.top ≡ ran_as (counted (with_status (with_regs j.top regs) AHalted)) Halted = stops_as (with_status (with_regs j.top regs) AHalted) refl top in
-      let other : cond (number == HALTF) (haltf s j.top) (trapped s j.top ILLEGAL_INSTRUCTION) ≡ ran_as (cond (number == HALTF) (counted (with_status (with_regs j.top regs) AHalted)) (counted (posted j.top ILLEGAL_INSTRUCTION))) (cond (number == HALTF) Halted (Forced ILLEGAL_INSTRUCTION)) =
-      either_as (number == HALTF) (haltf s j.top) (trapped s j.top ILLEGAL_INSTRUCTION) (counted (with_status (with_regs j.top regs) AHalted)) (counted (posted j.top ILLEGAL_INSTRUCTION)) Halted (Forced ILLEGAL_INSTRUCTION) halting (ended_as j.top (Some ILLEGAL_INSTRUCTION) refl top off runs) in
-      either_as (number == PBOUT) (pbout s j.top) (cond (number == HALTF) (haltf s j.top) (trapped s j.top ILLEGAL_INSTRUCTION)) (counted (with_regs j.top regs)) (cond (number == HALTF) (counted (with_status (with_regs j.top regs) AHalted)) (counted (posted j.top ILLEGAL_INSTRUCTION))) (code_shown code) (cond (number == HALTF) Halted (Forced ILLEGAL_INSTRUCTION)) printing other
-
--- a state whose job of a terminal has a top fork that runs, over these pages
-pub record TopRuns (s : PlainState) (j : Job) (p : NumberedPages) : Type 0 where
-  pub job : fin.get s.jobs j.top.name.tty.0 ≡ Some (plain_job j)
-  pub fork : fin.get s.forks j.top.name ≡ Some j.top
+-- a state of trees without files in which a fork can run, over these pages
+pub record Runs (s : PlainState) (f : Fork) (p : NumberedPages) : Type 0 where
+  pub trees : IsTree (tree_of s)
+  pub fork : fin.get s.forks f.name ≡ Some f
   pub pages : s.pages ≡ named p
   pub unfiled : p.files ≡ fin.empty
   pub quiet : s.trace ≡ false
-  pub top : j.top.superior ≡ None
-  pub off : j.top.body.psi.on ≡ false
-  pub runs : j.top.body.status ≡ Run
-  pub free : j.top.frozen ≡ false
+  pub off : f.body.psi.on ≡ false
+  pub runs : f.body.status ≡ Run
+  pub thawed : is_frozen MOST_FORKS s.forks (Some f) ≡ false
 
--- the state behind a unit of the job's top fork
-abbrev pub behind_state : PlainState → Job → Behind → PlainState
-behind_state s j b = record s {
-  pages = named b.pages;
-  jobs = fin.insert s.jobs j.top.name.tty.0 (plain_job (record j { top = b.fork; mode = cond (is_stop b.shown) Command j.mode }));
-  forks = fin.insert s.forks j.top.name b.fork;
-}
+-- the state behind a unit of a fork, and what it shows
+abbrev pub behind_state : PlainState → Fork → Behind → PlainState
+behind_state s f b = record s { pages = named b.pages; jobs = jobs_seen s.jobs f.name.tty (is_stop (seen_of f.slot b.shown)); forks = fin.insert s.forks f.name b.fork }
 
-module _ (s : PlainState) (j : Job) (p : NumberedPages) (t : TopRuns s j p) where
-  abbrev effect_of : Behind → Effect
-  effect_of b = record { state = behind_state s j b; items = shown_items j.top.name.tty b.shown }
+abbrev pub effect_of : PlainState → Fork → Behind → Effect
+effect_of s f b = record { state = behind_state s f b; items = shown_items f.name.tty (seen_of f.slot b.shown) }
 
-  over_as : (x : Planned nat_cmp ⊥) → over s j.top (refiled_plan name_cmp fin.empty x) ≡ effect_of (behind j.top p x)
+module _ (s : PlainState) (f : Fork) (p : NumberedPages) (t : Runs s f p) where
+  -- the forks without a superior are those in slot 1
+  top : is_some f.superior ≡ not (f.slot == 1)
+  top = by f.superior refl
+    where
+      tops : (f.superior ≡ None → f.slot ≡ 1) × (f.slot ≡ 1 → f.superior ≡ None)
+      tops = let both = t.trees.tops f t.fork in (both.0, both.1)
+
+      by : (o : Option ℕ) → f.superior ≡ o → is_some o ≡ not (f.slot == 1)
+      by None none = ap (λ n. not (n == 1)) (sym (tops.0 none))
+      by (Some n) some = ap not (sym (ne_eqb f.slot 1 (λ first. let both : Some n ≡ None = sym some ∙ tops.1 first in cc both)))
+
+  either_as : (b : Bool) (x y : Effect) (u v : Behind) → x ≡ effect_of s f u → y ≡ effect_of s f v → cond b x y ≡ effect_of s f (cond b u v)
+  either_as true x y u v one other = one
+  either_as false x y u v one other = other
+
+  on_pages : (q : NumberedPages) (g : Fork) (shown : Shown) → EndsAs f g shown → unit_ended (record s { pages = named q }) g g.body.status ≡ effect_of s f (record { fork = counted g; pages = q; shown = shown })
+  on_pages q g shown e = ended_as (record s { pages = named q }) f top g shown e
+
+  -- a turn of a call on maps that ends so
+  turned_as : (e : End MapChange) → turned (lifted pages_seen map_changed s f e) ≡ effect_of s f (turned_behind f p e)
+  turned_as e =
+      let g = fork_behind f e in
+      ap (λ q. unit_ended (record s { pages = parts_behind map_changed q e }) g g.body.status) t.pages
+      ∙ ap (λ q. unit_ended (record s { pages = q }) g g.body.status) (turn_named p t.unfiled e)
+      ∙ on_pages (parts_behind map_changed p e) g (post_shown (end_post e)) (turn_ends f t.off t.runs e)
+
+  -- a turn of a monitor call
+  called_as : (number : ℕ) → called s f number ≡ effect_of s f (called_behind s.forks f p number)
+  called_as number =
+      either_as (number == PBOUT) (pbout s f) (cond (number == HALTF) (haltf s f) mapping) printing (cond (number == HALTF) halting mapped)
+      (ap (λ q. pbout (record s { pages = q }) f) t.pages ∙ printed_as (record s { pages = named p }) f)
+      (either_as (number == HALTF) (haltf s f) mapping halting mapped
+      (ap (λ q. haltf (record s { pages = q }) f) t.pages ∙ on_pages p (with_status (with_regs f (advanced f.body.regs)) AHalted) Halted (record { name = refl; superior = refl; status = refl }))
+      (ap (λ e. turned (lifted pages_seen map_changed s f e)) ends ∙ turned_as (end_of p turn)))
+    where
+      turn : Turn MapChange
+      turn = map_call number (record { who = f.name; regs = f.body.regs; forks = s.forks })
+
+      ends : end_of s.pages turn ≡ end_of p turn
+      ends = ap (λ q. end_of q turn) t.pages ∙ end_named p t.unfiled turn
+
+      mapping : Effect
+      mapping = turned (map_called s f number)
+
+      printing : Behind
+      printing = record { fork = counted (with_regs f (advanced f.body.regs)); pages = p; shown = code_shown (slice_index f.body.regs.ac 1 % 128) }
+
+      halting : Behind
+      halting = record { fork = counted (with_status (with_regs f (advanced f.body.regs)) AHalted); pages = p; shown = Halted }
+
+      mapped : Behind
+      mapped = turned_behind f p (end_of p turn)
+
+  over_as : (x : Planned nat_cmp ⊥) → over s f (refiled_plan name_cmp fin.empty x) ≡ effect_of s f (behind s.forks f p x)
   over_as (done u e) =
-      ap (λ q. went s j.top q e) (left_refiled name_cmp fin.empty j.top.name u e)
-      ∙ ended_as (record s { pages = named (pages_left j.top.name u e) }) j t.job t.top t.off (with_regs j.top e.regs) e.post refl t.top t.off t.runs
+      ap (λ q. went s f q e) (left_refiled name_cmp fin.empty f.name u e)
+      ∙ on_pages (pages_left f.name u e) (posted_if (with_regs f e.regs) e.post) (post_shown e.post) (posted_if_ends f (with_regs f e.regs) e.post refl refl t.off t.runs)
   over_as (unit_stopped (trap channel)) =
-      ended_as s j t.job t.top t.off j.top (Some channel) refl t.top t.off t.runs ∙ (λ i. record {
-        state = record (behind_state s j (record { fork = counted (posted j.top channel); pages = p; shown = post_shown (Some channel) })) { pages = t.pages i };
-        items = shown_items j.top.name.tty (post_shown (Some channel));
-      })
+      ap (λ q. unit_ended (record s { pages = q }) (posted f channel) (posted f channel).body.status) t.pages
+      ∙ on_pages p (posted f channel) (post_shown (Some channel)) (posted_ends f f channel refl refl t.off t.runs)
   over_as (unit_stopped (need none)) = absurd none
-  over_as (call number) =
-      called_as s j t.job t.top t.off t.runs number ∙ (λ i. record {
-        state = record (behind_state s j (record { fork = called_fork j.top number; pages = p; shown = called_shown j.top number })) { pages = t.pages i };
-        items = shown_items j.top.name.tty (called_shown j.top number);
-      })
+  over_as (call number) = called_as number
 
-  unit_as : unit s j.top.name ≡ effect_of (behind_unit j.top p)
+  unit_as : unit s f.name ≡ effect_of s f (behind_unit s.forks f p)
   unit_as =
-      unit_some s j.top.name j.top t.fork
-      ∙ ap (λ q. over s j.top (unit_on j.top.name q j.top.body.regs)) t.pages
-      ∙ ap (over s j.top) (unit_named p t.unfiled j.top.name j.top.body.regs)
-      ∙ over_as (unit_on j.top.name p j.top.body.regs)
+      unit_some s f.name f t.fork
+      ∙ ap (λ q. over s f (unit_on f.name q f.body.regs)) t.pages
+      ∙ ap (over s f) (unit_named p t.unfiled f.name f.body.regs)
+      ∙ over_as (unit_on f.name p f.body.regs)
 
   -- an entry of the fork
-  pub step_as : apply s (AUnit j.top.name) ≡ effect_of (behind_unit j.top p)
+  pub step_as : apply s (AUnit f.name) ≡ effect_of s f (behind_unit s.forks f p)
   step_as =
-      let line : unit_line s j.top.name ≡ [] = ap (λ b. cond b (option_map_or (λ k. UnitLine j.top.name k.body.regs.pc ∷ []) (fin.get s.forks j.top.name) []) []) t.quiet in
-      apply_unit s j.top.name ∙ (λ i. record { state = (unit_as i).state; items = line i ++ (unit_as i).items })
+      let line : unit_line s f.name ≡ [] = ap (λ b. cond b (option_map_or (λ k. UnitLine f.name k.body.regs.pc ∷ []) (fin.get s.forks f.name) []) []) t.quiet in
+      apply_unit s f.name ∙ (λ i. record { state = (unit_as i).state; items = line i ++ (unit_as i).items })
 
   -- which is legal
-  pub step_legal : (auto : Bool) → IsLegalStep auto s (AUnit j.top.name)
-  step_legal auto =
-      let above : is_frozen 29 s.forks (option_and_then (fork_in s.forks j.top.name.tty) j.top.superior) ≡ false = ap (λ o. is_frozen 29 s.forks (option_and_then (fork_in s.forks j.top.name.tty) o)) t.top in
-      (j.top, t.fork, t.runs, ap (λ b. b || is_frozen 29 s.forks (option_and_then (fork_in s.forks j.top.name.tty) j.top.superior)) t.free ∙ above)
+  pub step_legal : (auto : Bool) → IsLegalStep auto s (AUnit f.name)
+  step_legal auto = (f, t.fork, t.runs, t.thawed)

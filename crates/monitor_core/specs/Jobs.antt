@@ -1,10 +1,10 @@
--- The jobs of a machine as the plain machine's finite maps.
-use Rattle.std.specs.Prelude.{ℕ, ◌+◌, List, [], ◌∷◌, Option, None, Some, slice_index_or, replicate}
+-- The jobs of a machine as the plain machine's finite map.
+use Rattle.std.specs.Prelude.{ℕ, ◌+◌, List, [], ◌∷◌, Bool, Option, None, Some, if◌then◌else◌, slice_index_or, slice_set, replicate}
 use Rattle.std.specs.Ordering.{nat_cmp}
+use Rattle.std.specs.Option.{option_map_or}
 use Rattle.std.specs.declared.cmp.Ordering.{Ordering}
 use Rattle.std.specs.FinMap as map
-use Rattle.plain_model.specs.declared.fork.Fork.{Fork}
-use Rattle.plain_model.specs.Orders.{fork_cmp}
+use Rattle.plain_model.specs.declared.fork.TerminalMode.TheVariants.{Command}
 use Rattle.plain_model.specs.State.{PlainJob}
 use Rattle.monitor_core.specs.declared.job.Job.{Job}
 
@@ -20,19 +20,19 @@ map_from key value n (o ∷ os) = with_entry key value n o (map_from key value (
 
 -- a job as the plain machine has it, of which no command, file or typing is built
 abbrev pub plain_job : Job → PlainJob
-plain_job j = record { user = j.user; top = j.top.name; mode = j.mode; line = []; start = None; jfns = map.empty; input = []; codes = map.empty }
+plain_job j = record { user = j.user; top = j.top; mode = j.mode; line = []; start = None; jfns = map.empty; input = []; codes = map.empty }
 
 -- the jobs by terminal
 abbrev pub jobs_of : List (Option Job) → map.FinMap nat_cmp PlainJob
 jobs_of jobs = map_from (λ t j. t) plain_job 0 jobs
 
--- the forks by name
-abbrev pub forks_of : List (Option Job) → map.FinMap fork_cmp Fork
-forks_of jobs = map_from (λ t j. j.top.name) (λ j. j.top) 0 jobs
-
 -- the job of a terminal
 abbrev pub job_at : List (Option Job) → ℕ → Option Job
 job_at jobs t = slice_index_or jobs t None
+
+-- the jobs once the monitor reads a terminal, where its job's top fork has stopped
+abbrev pub jobs_left : List (Option Job) → ℕ → Bool → List (Option Job)
+jobs_left jobs t stops = if stops then option_map_or (λ j. slice_set jobs t (Some (record j { mode = Command }))) (job_at jobs t) jobs else jobs
 
 -- no job at so many terminals
 unfoldable pub no_jobs : ℕ → List (Option Job)

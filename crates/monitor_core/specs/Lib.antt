@@ -3,8 +3,8 @@ pub mod Shown
 pub mod Jobs
 pub mod Holding
 pub mod Writing
+pub mod Runners
 pub mod ForkUnit
-pub mod JobUnit
 pub mod Looking
 pub mod Sound
 pub mod Replies

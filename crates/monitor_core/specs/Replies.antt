@@ -1,16 +1,20 @@
 -- What a step shows, as items.
-use Rattle.std.specs.Prelude.{List, [], ◌∷◌, map, Bool, true, false, Option, IsSome, Result, Ok, Err}
+use Rattle.std.specs.Prelude.{List, [], ◌∷◌, map, Bool, true, false, Option, None, Some, Result, Ok, Err}
 use Rattle.plain_model.specs.declared.event.Item.{Item}
 use Rattle.plain_model.specs.declared.event.Item.TheVariants.{ForkLine, Refusal}
 use Rattle.plain_model.specs.declared.event.Refusal.{Refusal as Cause}
 use Rattle.plain_model.specs.State.{PlainState}
-use Rattle.plain_model.specs.Forks.{fork_line, forks_by_slot}
+use Rattle.plain_model.specs.declared.fork.Fork.{Fork}
+use Rattle.plain_model.specs.Forks.{ForkMap, fork_line, forks_by_slot}
 use Rattle.plain_model.specs.Limits.{IsTerminal, FitsItem}
-use Rattle.monitor_core.specs.declared.job.Job.{Job}
 use Rattle.monitor_core.specs.declared.reply.Reply.{Reply}
 use Rattle.monitor_core.specs.declared.reply.Reply.TheVariants.{Nothing, One, Prints, Forks}
-use Rattle.monitor_core.specs.Jobs.{job_at}
 use Rattle.monitor_core.specs.Shown.{shown_items, is_nothing, FitsShown}
+
+-- a fork as it is shown, if there is one
+abbrev pub lines_of : ForkMap → Option Fork → List Item
+lines_of forks None = []
+lines_of forks (Some f) = ForkLine (fork_line forks f) ∷ []
 
 -- the items of a reply, in the state that the step leaves
 abbrev pub reply_items : PlainState → Reply → List Item
@@ -25,12 +29,12 @@ is_silent Nothing = true
 is_silent (Prints t shown) = is_nothing shown
 is_silent reply = false
 
--- the limits of a reply, over the jobs that the step leaves: items within theirs, and forks of a job that is there
-abbrev pub FitsReply : List (Option Job) → Reply → Type 0
-FitsReply jobs Nothing = Unit {0}
-FitsReply jobs (One item) = FitsItem item
-FitsReply jobs (Prints t shown) = IsTerminal t × FitsShown shown
-FitsReply jobs (Forks t) = IsTerminal t × IsSome (job_at jobs t.0)
+-- the limits of a reply
+abbrev pub FitsReply : Reply → Type 0
+FitsReply Nothing = Unit {0}
+FitsReply (One item) = FitsItem item
+FitsReply (Prints t shown) = IsTerminal t × FitsShown shown
+FitsReply (Forks t) = IsTerminal t
 
 -- a refusal is shown, and nothing else
 abbrev pub reply_of : Result Reply Cause → Reply

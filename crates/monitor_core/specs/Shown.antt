@@ -1,5 +1,5 @@
 -- What a unit shows, as items.
-use Rattle.std.specs.Prelude.{ℕ, ◌<◌, List, [], ◌∷◌, Bool, true, false, if◌then◌else◌, ◌==◌}
+use Rattle.std.specs.Prelude.{ℕ, ◌<◌, List, [], ◌∷◌, Bool, true, false, not, ◌&&◌, if◌then◌else◌, ◌==◌}
 use Rattle.plain_model.specs.declared.character.TheConstants.{LINE_END, CARRIAGE_RETURN, LINE_FEED}
 use Rattle.plain_model.specs.declared.names.Tty.{Tty}
 use Rattle.plain_model.specs.declared.fork.ForkStatus.TheVariants.{Halted as AHalted, Forced as AForced}
@@ -29,7 +29,7 @@ abbrev pub is_nothing : Shown → Bool
 is_nothing Nothing = true
 is_nothing shown = false
 
--- whether the top fork has stopped
+-- whether a fork has stopped
 abbrev pub is_stop : Shown → Bool
 is_stop Nothing = false
 is_stop (Code c) = false
@@ -40,3 +40,7 @@ is_stop (Forced channel) = true
 -- a character as a terminal shows it
 abbrev pub code_shown : ℕ → Shown
 code_shown c = if c == LINE_END then LineEnd else Code c
+
+-- what a terminal shows of the fork in a slot of its job: one that is no top fork stops without a word
+abbrev pub seen_of : ℕ → Shown → Shown
+seen_of slot shown = if is_stop shown && not (slot == 1) then Nothing else shown

@@ -1,9 +1,9 @@
 -- The plain state that a system stands for, and what one step does to it.
-use Rattle.std.specs.Prelude.{◌≡◌, ℕ, ◌+◌, ◌*◌, ◌≤◌, List, true, false, Option, Some, replicate}
+use Rattle.std.specs.Prelude.{◌≡◌, ℕ, ◌+◌, ◌*◌, ◌≤◌, true, false, replicate}
 use Rattle.std.specs.FinMap as map
 use Rattle.plain_model.specs.declared.names.Tty.{Tty}
 use Rattle.plain_model.specs.declared.names.ForkName.{ForkName}
-use Rattle.plain_model.specs.declared.fork.ForkStatus.TheVariants.{Run}
+use Rattle.plain_model.specs.declared.fork.Fork.{Fork}
 use Rattle.plain_model.specs.declared.event.Step.{Step}
 use Rattle.plain_model.specs.declared.event.Step.TheVariants.{Outer, Unit as AUnit, Idle}
 use Rattle.plain_model.specs.Orders.{name_cmp}
@@ -11,23 +11,12 @@ use Rattle.plain_model.specs.State.{PlainState, refiled}
 use Rattle.plain_model.specs.Limits.{FitsStep, IsBuilt}
 use Rattle.plain_model.specs.Outcome.{DrumWords}
 use Rattle.plain_model.specs.Run.{apply, state_after, items_of, AreLegal}
-use Rattle.monitor_core.specs.declared.job.Job.{Job}
+use Rattle.fork_tree.specs.Trees.{CanRun, Lives}
 use Rattle.monitor_core.specs.declared.reply.Reply.{Reply}
 use Rattle.monitor_core.specs.declared.system.System.{System}
-use Rattle.monitor_core.specs.Jobs.{jobs_of, forks_of, job_at}
+use Rattle.monitor_core.specs.Jobs.{jobs_of}
 use Rattle.monitor_core.specs.Replies.{reply_items, FitsReply}
-
--- the top fork of this name can run: its terminal's job has it, its status is Run, and it has no freeze mark
-pub record CanRun (jobs : List (Option Job)) (f : ForkName) : Type 0 where
-  pub job : Job
-  pub there : job_at jobs f.tty.0 ≡ Some job
-  pub named : job.top.name ≡ f
-  pub runs : job.top.body.status ≡ Run
-  pub free : job.top.frozen ≡ false
-
--- so many pages at most are made in one entry
-abbrev pub most_makings : ℕ
-most_makings = 128
+use Rattle.monitor_core.specs.Writing.{most_makings}
 
 -- the plain state over the words of a drum; nothing shows its units or has a file yet
 abbrev pub state_of : {P : Type 0} {b : _} → System P b → DrumWords → PlainState
@@ -35,8 +24,8 @@ state_of {P} {b} m d = record {
   pages = refiled name_cmp (b.means.plain m.pages d) map.empty;
   files = map.empty;
   jobs = jobs_of m.jobs.items;
-  forks = forks_of m.jobs.items;
-  fork_serials = m.fork_serials.items;
+  forks = m.tree.forks;
+  fork_serials = m.tree.serials;
   clock = m.clock;
   trace = false;
 }
@@ -49,20 +38,20 @@ pub record FitsPages {P : Type 0} {b : _} (m : System P b) (d : DrumWords) : Typ
 -- its counts are no higher than so many entries let them be
 pub record IsWithin {P : Type 0} {b : _} (m : System P b) (entries : ℕ) : Type 0 where
   pub ticks : m.clock ≤ entries
-  pub units : (t : ℕ) (j : Job) → job_at m.jobs.items t ≡ Some j → j.top.body.units ≤ entries
+  pub units : (f : Fork) → Lives m.tree.forks f → f.body.units ≤ entries
   pub serials : (t : Tty) → b.means.serial m.pages t ≤ most_makings * entries + 1
 
 -- what a step asks: an event that is built and is one entry, within its limits; a fork that can run; or that none can
 abbrev pub CanDo : {P : Type 0} {b : _} → System P b → Step → Type 0
 CanDo m (Outer e) = FitsStep (Outer e) × IsBuilt e
-CanDo m (AUnit f) = CanRun m.jobs.items f
-CanDo m Idle = (f : ForkName) → CanRun m.jobs.items f → ⊥
+CanDo m (AUnit f) = CanRun m.tree.forks f
+CanDo m Idle = (f : ForkName) → CanRun m.tree.forks f → ⊥
 
 -- a step is done: over each drum that fits, the system stands for the state that the step leaves, and the reply is what it shows
 pub record Did {P : Type 0} {b : _} (old new : System P b) (step : Step) (reply : Reply) : Type 0 where
   pub each : (d : DrumWords) → FitsPages old d
       → FitsPages new d × (state_of new d ≡ (apply (state_of old d) step).state) × (reply_items (state_of new d) reply ≡ (apply (state_of old d) step).items)
-  pub shown : FitsReply new.jobs.items reply
+  pub shown : FitsReply reply
   pub within : (entries : ℕ) → IsWithin old entries → IsWithin new (entries + 1)
   pub most : b.means.most new.pages ≡ b.means.most old.pages
 
@@ -73,6 +62,6 @@ pub record DidAll {P : Type 0} {b : _} (old new : System P b) (step : Step) (cou
   pub legal : (d : DrumWords) → FitsPages old d → AreLegal true (state_of old d) (replicate count step)
   pub state : (d : DrumWords) → FitsPages old d → state_of new d ≡ state_after (state_of old d) (replicate count step)
   pub items : (d : DrumWords) → FitsPages old d → reply_items (state_of new d) reply ≡ items_of (state_of old d) (replicate count step)
-  pub shown : FitsReply new.jobs.items reply
+  pub shown : FitsReply reply
   pub within : (entries : ℕ) → IsWithin old entries → IsWithin new (entries + count)
   pub most : b.means.most new.pages ≡ b.means.most old.pages

@@ -1,5 +1,5 @@
 -- A word that is written through a fork's map, as the plain pages have it.
-use Rattle.std.specs.Prelude.{◌≡◌, ◌≢◌, ℕ, ◌+◌, ◌≤◌, Result, Ok, Err, OnErr, true}
+use Rattle.std.specs.Prelude.{◌≡◌, ◌≢◌, ℕ, ◌+◌, ◌≤◌, Result, Ok, Err, OnErr}
 use Rattle.std.specs.Ordering.{nat_cmp}
 use Rattle.plain_model.specs.declared.names.Tty.{Tty}
 use Rattle.plain_model.specs.declared.names.Slot.{Slot}
@@ -7,11 +7,9 @@ use Rattle.plain_model.specs.declared.names.Kind.TheVariants.{Write}
 use Rattle.plain_model.specs.declared.event.Refusal.{Refusal}
 use Rattle.plain_model.specs.declared.event.Refusal.TheVariants.{Denied, Full}
 use Rattle.plain_model.specs.State.{NumberedPages}
-use Rattle.plain_model.specs.Events.{with_accumulator}
 use Rattle.plain_model.specs.References.{Referred, granted, denied, full, in_map, reference, stored}
 use Rattle.plain_model.specs.Outcome.{DrumWords}
 use Rattle.plain_model.specs.Pages.{PagesMeaning}
-use Rattle.monitor_core.specs.declared.job.Job.{Job}
 
 -- a reference to write, as an event of a terminal has it: the pages that it leaves, or the refusal
 abbrev pub write_of : Tty → Referred nat_cmp → Result NumberedPages Refusal
@@ -40,6 +38,10 @@ pub record IsWritten {X : Type 0} (p q : NumberedPages) (s : Slot) (offset word 
 pub record Writes {P X : Type 0} (means : PagesMeaning P) (old new : P) (s : Slot) (offset word : ℕ) (result : Result X Refusal) : Type 0 where
   pub each : (d : DrumWords) → means.fits old d → means.fits new d × IsWritten (means.plain old d) (means.plain new d) s offset word result
 
+-- so many pages at most are made in one entry: two for each reference that a unit has room for
+abbrev pub most_makings : ℕ
+most_makings = 128
+
 -- pages were made for an owner, so many at most: the forks that live are the same, and so are the next serials of other owners
 pub record Makes {P : Type 0} (means : PagesMeaning P) (old new : P) (owner : Tty) (count : ℕ) : Type 0 where
   pub lives : means.lives new ≡ means.lives old
@@ -47,8 +49,3 @@ pub record Makes {P : Type 0} (means : PagesMeaning P) (old new : P) (owner : Tt
   pub most : means.most new ≡ means.most old
   pub own : means.serial new owner ≤ means.serial old owner + count
   pub others : (t : Tty) → t ≢ owner → means.serial new t ≡ means.serial old t
-  pub single : means.single old ≡ true → means.single new ≡ true
-
--- a job with a word in an accumulator of its top fork
-abbrev pub with_word : Job → ℕ → ℕ → Job
-with_word j at word = record j { top = with_accumulator at word j.top }

@@ -1,8 +1,9 @@
 // The machine, over any pages.
+ghost use Rattle.monitor_core.specs.Runners.{IsSlot};
 ghost use Rattle.monitor_core.specs.Systems.{IsWithin};
 
 use crate::system::System;
-use plain_model::Pages;
+use plain_model::{Pages, Tty};
 
 /// Sizes of a machine: how many forks the balance set has at most, 1 to 63.
 #[derive(Clone, Copy, Debug, PartialEq, Eq)]
@@ -22,8 +23,9 @@ pub enum Ended {
 #[derive(Drop)]
 pub struct Machine<P: Pages> {
     system: System<P>,
-    /// The terminal that is looked at first for the next unit: the one behind that which ran last.
-    next: u8,
+    /// Whose turn it was last: the terminal of a job, and the slot of its fork.
+    terminal: Tty,
+    slot: u8,
     /// How many events and entries of runs are done.
     done: u64,
     /// No fault has stopped it.
@@ -31,6 +33,7 @@ pub struct Machine<P: Pages> {
     /// A run completes transfers by itself.
     auto: bool,
     ghost within: { IsWithin system done },
+    ghost turn: { IsSlot terminal slot },
 }
 
 mod boot;

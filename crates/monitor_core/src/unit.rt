@@ -1,29 +1,37 @@
-// Units of one fork, as far as they concern it and its pages.
-ghost use Rattle.std.specs.Prelude.{◌≡◌, ◌<◌, ◌≤◌, ◌+◌, ◌%◌, ◌^◌, length, false, Some};
+// Units of one fork, as far as they concern its body and its pages.
+ghost use Rattle.std.specs.Prelude.{◌≡◌, ◌<◌, ◌+◌, ◌^◌, false, Some};
+ghost use Rattle.plain_model.specs.declared.fork.Fork.{Fork as AFork};
 ghost use Rattle.plain_model.specs.Forks.{counted};
 ghost use Rattle.plain_model.specs.Interrupts.{posted, is_panic};
-ghost use Rattle.plain_model.specs.Unit.{advanced, posted_if};
+ghost use Rattle.plain_model.specs.Unit.{posted_if};
 ghost use Rattle.ka10_unit.specs.Commits.{channel_of};
 ghost use Rattle.ka10_unit.specs.Gathers.{Serves};
-ghost use Rattle.monitor_core.specs.Shown.{code_shown, FitsShown};
-ghost use Rattle.monitor_core.specs.ForkUnit.{CanUnit, Ran, RanOne, called_fork, called_shown, post_shown};
+ghost use Rattle.fork_tree.specs.Changes.{with_body};
+ghost use Rattle.monitor_core.specs.Limits.{CanUnit};
+ghost use Rattle.monitor_core.specs.Shown.{FitsShown};
+ghost use Rattle.monitor_core.specs.ForkUnit.{HasRoom, Place as APlace, Ran, RanOne, fork_of, post_shown, units_over};
 
 use crate::shown::Shown;
 use ka10_unit::{End, Outcome, Post, Taken, burst, slow_unit};
-use plain_model::call::{HALTF, PBOUT};
 use plain_model::channel::{
     DENIED_EXECUTE, DRUM_FULL, ILLEGAL_INSTRUCTION, OVERFLOW, PUSHDOWN_OVERFLOW,
 };
-use plain_model::character::LINE_END;
-use plain_model::{ACCUMULATORS, Fork, ForkStatus, Pages, Regs};
-use word36::Word;
+use plain_model::{Body, ForkName, ForkStatus, Pages};
 
-/// Units of a fork in a row: how many, at least one, and what the last of them shows. Those before it show
-/// nothing.
+/// The last of units in a row.
 #[derive(Clone, Copy, Debug, PartialEq, Eq)]
-pub struct Units {
+pub enum Last {
+    /// It is over, and shows this.
+    Shows(Shown),
+    /// It is a monitor call, of this number, which is still to be made.
+    Calls(u32),
+}
+
+/// Units of a fork in a row: how many are over, and what the last is. Those before it show nothing.
+#[derive(Clone, Copy, Debug, PartialEq, Eq)]
+pub struct Row {
     pub count: u32,
-    pub shown: Shown,
+    pub last: Last,
 }
 
 // Whether a channel is a panic channel.
@@ -36,18 +44,18 @@ fn is_panic(channel: u8) -> bool
     }
 }
 
-// A unit is over that posts a channel to its fork, which takes none: a panic channel forces the fork, and
-// another is dropped.
-fn posted(fork: &mut Fork, channel: u8) -> Shown
-    requires off { fork.old.body.psi.on ≡ false }
-    requires few { fork.old.body.units < 2 ^ 63 }
-    ensures fork { fork.new ≡ counted (posted fork.old channel) }
+/// A unit is over that posts a channel to its fork, which takes none: a panic channel forces the fork, and
+/// another is dropped.
+pub fn posted(body: &mut Body, channel: u8) -> Shown
+    requires off { body.old.psi.on ≡ false }
+    requires few { body.old.units < 2 ^ 63 }
+    ensures fork { (f : AFork) → with_body body.new f ≡ counted (posted (with_body body.old f) channel) }
     ensures shown { result ≡ post_shown (Some channel) }
     ensures fits { FitsShown result }
 {
-    fork.body.units += 1;
+    body.units += 1;
     if is_panic(channel) {
-        fork.body.status = ForkStatus::Forced(channel);
+        body.status = ForkStatus::Forced(channel);
         Shown::Forced(channel)
     } else {
         Shown::Nothing
@@ -55,118 +63,99 @@ fn posted(fork: &mut Fork, channel: u8) -> Shown
 }
 
 // A unit is done that posts a channel, if it does.
-fn ended(fork: &mut Fork, post: Post) -> Shown
-    requires off { fork.old.body.psi.on ≡ false }
-    requires few { fork.old.body.units < 2 ^ 63 }
-    ensures fork { fork.new ≡ counted (posted_if fork.old (channel_of post)) }
+fn ended(body: &mut Body, post: Post) -> Shown
+    requires off { body.old.psi.on ≡ false }
+    requires few { body.old.units < 2 ^ 63 }
+    ensures fork { (f : AFork) → with_body body.new f ≡ counted (posted_if (with_body body.old f) (channel_of post)) }
     ensures shown { result ≡ post_shown (channel_of post) }
     ensures fits { FitsShown result }
 {
     match post {
         Post::Nothing => {
-            fork.body.units += 1;
+            body.units += 1;
             Shown::Nothing
         }
-        Post::Overflow => posted(fork, OVERFLOW),
-        Post::Pushdown => posted(fork, PUSHDOWN_OVERFLOW),
-    }
-}
-
-// The program counter goes on by one, modulo 2^18.
-fn advance(regs: &mut Regs)
-    requires { regs.old.pc < 2 ^ 18 }
-    ensures { regs.new ≡ advanced regs.old }
-{
-    regs.pc = (regs.pc + 1) % 0o1_000_000;
-}
-
-// What a terminal shows of the low 7 bits of a word.
-fn shown_code(word: Word) -> Shown
-    ensures code { result ≡ code_shown (word % 128) }
-    ensures fits { FitsShown result }
-{
-    let code = (word.value() % 128) as u8;
-    if code == LINE_END {
-        Shown::LineEnd
-    } else {
-        Shown::Code(code)
-    }
-}
-
-// A turn of a monitor call; a number that is no call traps.
-fn called(fork: &mut Fork, number: u32) -> Shown
-    requires off { fork.old.body.psi.on ≡ false }
-    requires few { fork.old.body.units < 2 ^ 63 }
-    requires pc { fork.old.body.regs.pc < 2 ^ 18 }
-    requires accumulators { length fork.old.body.regs.ac ≡ ACCUMULATORS }
-    ensures fork { fork.new ≡ called_fork fork.old number }
-    ensures shown { result ≡ called_shown fork.old number }
-    ensures fits { FitsShown result }
-{
-    match number {
-        PBOUT => {
-            let shown = shown_code(fork.body.regs.ac[1]);
-            advance(&mut fork.body.regs);
-            fork.body.units += 1;
-            shown
-        }
-        HALTF => {
-            advance(&mut fork.body.regs);
-            fork.body.status = ForkStatus::Halted;
-            fork.body.units += 1;
-            Shown::Halted
-        }
-        _ => posted(fork, ILLEGAL_INSTRUCTION),
+        Post::Overflow => posted(body, OVERFLOW),
+        Post::Pushdown => posted(body, PUSHDOWN_OVERFLOW),
     }
 }
 
 // One unit of a fork, whatever it wants.
-fn one_unit<P: Pages>(fork: &mut Fork, pages: &mut P, taken: &mut Taken) -> Shown
-    requires can { CanUnit fork.old }
-    requires few { fork.old.body.units < 2 ^ 63 }
-    requires serves { Serves P.means pages.old fork.old.name }
-    requires serial { P.means.serial pages.old fork.old.name.tty < 2 ^ 61 }
-    ensures { RanOne P.means pages.old pages.new fork.old fork.new result }
+fn one_unit<P: Pages>(body: &mut Body, fork: ForkName, pages: &mut P, taken: &mut Taken) -> Last
+    requires can { CanUnit body.old }
+    requires few { body.old.units < 2 ^ 63 }
+    requires serves { Serves P.means pages.old fork }
+    requires serial { P.means.serial pages.old fork.tty < 2 ^ 61 }
+    ensures { (at : APlace) → RanOne P.means pages.old pages.new (fork_of fork at body.old) (fork_of fork at body.new) result }
 {
-    match slow_unit(taken, &mut fork.body.regs, pages, fork.name) {
-        Outcome::Done(post) => ended(fork, post),
-        Outcome::Trap(channel) => posted(fork, channel),
-        Outcome::Call(number) => called(fork, number),
+    match slow_unit(taken, &mut body.regs, pages, fork) {
+        Outcome::Done(post) => Last::Shows(ended(body, post)),
+        Outcome::Trap(channel) => Last::Shows(posted(body, channel)),
+        Outcome::Call(number) => Last::Calls(number),
     }
 }
 
-/// Units of a fork in a row, at least one and so many at most: as many as go in place and post nothing, and
-/// the one behind them, where there is room for it.
-#[inline]
-pub fn run_units<P: Pages>(fork: &mut Fork, pages: &mut P, taken: &mut Taken, most: u32) -> Units
-    requires can { CanUnit fork.old }
-    requires few { fork.old.body.units < 2 ^ 62 }
-    requires serves { Serves P.means pages.old fork.old.name }
-    requires serial { P.means.serial pages.old fork.old.name.tty < 2 ^ 61 }
-    requires some { 1 ≤ most }
-    ensures ran { Ran P.means pages.old pages.new fork.old fork.new result }
-    ensures some { 1 ≤ result.count }
-    ensures few { result.count ≤ most }
+// The one unit behind units in a row.
+fn one_more<P: Pages>(
+    body: &mut Body,
+    fork: ForkName,
+    pages: &mut P,
+    taken: &mut Taken,
+    before: u32,
+) -> Row
+    requires can { CanUnit body.old }
+    requires few { body.old.units < 2 ^ 63 }
+    requires serves { Serves P.means pages.old fork }
+    requires serial { P.means.serial pages.old fork.tty < 2 ^ 61 }
+    requires room { before + 1 < 2 ^ 32 }
+    ensures one { (at : APlace) → RanOne P.means pages.old pages.new (fork_of fork at body.old) (fork_of fork at body.new) result.last }
+    ensures count { result.count ≡ before + units_over result.last }
 {
-    let space = pages.space(fork.name);
-    let burst = burst(&mut fork.body.regs, pages, space, most);
-    fork.body.units += u64::from(burst.units);
+    let last = one_unit(body, fork, pages, taken);
+    let over = match last {
+        Last::Shows(_) => 1,
+        Last::Calls(_) => 0,
+    };
+    Row {
+        count: before + over,
+        last,
+    }
+}
+
+/// Units of a fork in a row, as many as this at most: as many as go in place and post nothing, and the one behind
+/// them, where there is room for it. A monitor call is left to be made.
+#[inline]
+pub fn run_units<P: Pages>(
+    body: &mut Body,
+    fork: ForkName,
+    pages: &mut P,
+    taken: &mut Taken,
+    most: u32,
+) -> Row
+    requires can { CanUnit body.old }
+    requires few { body.old.units < 2 ^ 62 }
+    requires serves { Serves P.means pages.old fork }
+    requires serial { P.means.serial pages.old fork.tty < 2 ^ 61 }
+    requires some { 0 < most }
+    ensures ran { (at : APlace) → Ran P.means pages.old pages.new (fork_of fork at body.old) (fork_of fork at body.new) result }
+    ensures room { HasRoom most result.count result.last }
+{
+    let space = pages.space(fork);
+    let burst = burst(&mut body.regs, pages, space, most);
+    body.units += u64::from(burst.units);
     match burst.end {
-        End::Most => Units {
+        End::Most => Row {
             count: burst.units,
-            shown: Shown::Nothing,
+            last: Last::Shows(Shown::Nothing),
         },
-        End::Overflow => Units {
+        End::Overflow => Row {
             count: burst.units + 1,
-            shown: ended(fork, Post::Overflow),
+            last: Last::Shows(ended(body, Post::Overflow)),
         },
-        End::Pushdown => Units {
+        End::Pushdown => Row {
             count: burst.units + 1,
-            shown: ended(fork, Post::Pushdown),
+            last: Last::Shows(ended(body, Post::Pushdown)),
         },
-        End::Slow => Units {
-            count: burst.units + 1,
-            shown: one_unit(fork, pages, taken),
-        },
+        End::Slow => one_more(body, fork, pages, taken, burst.units),
     }
 }

@@ -9,7 +9,7 @@ ghost use Rattle.monitor_core.specs.Machines.{Fits, plain, limit, done, auto, is
 use crate::machine::{Config, Machine};
 use crate::system::System;
 use outside::Memory;
-use plain_model::Pages;
+use plain_model::{MOST_FORKS, Pages, TERMINALS, Tty};
 use std::alloc::Global;
 
 impl<P: Pages + Drop> Machine<P> {
@@ -17,7 +17,6 @@ impl<P: Pages + Drop> Machine<P> {
     /// balance set isn't looked at before there is one. Memory, where none was found.
     pub fn boot(alloc: Global, _config: Config, pages: P) -> Result<Machine<P>, Memory>
         requires flat { P.means.flat ≡ true }
-        requires single { P.means.single pages ≡ true }
         requires roomy { 0 < P.means.most_forks }
         requires forks { (t : ATty) → P.means.forks_of pages t ≡ 0 }
         requires serials { (t : ATty) → P.means.serial pages t ≤ 1 }
@@ -33,7 +32,9 @@ impl<P: Pages + Drop> Machine<P> {
         let system = System::boot(alloc, pages)?;
         Ok(Machine {
             system,
-            next: 0,
+            // So that slot 1 of terminal 0 comes first.
+            terminal: Tty(TERMINALS - 1),
+            slot: MOST_FORKS,
             done: 0,
             live: true,
             auto: true,

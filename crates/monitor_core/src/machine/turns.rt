@@ -3,14 +3,17 @@ ghost use Rattle.std.specs.Prelude.{◌≡◌, ◌<◌, ◌^◌, ◌+◌, ◌≤
 ghost use Rattle.plain_model.specs.declared.event.Event.{Event as AnEvent};
 ghost use Rattle.plain_model.specs.declared.event.Step.{Step as AStep};
 ghost use Rattle.plain_model.specs.declared.names.ForkName.{ForkName as AForkName};
-ghost use Rattle.monitor_core.specs.Systems.{CanDo, CanRun};
+ghost use Rattle.fork_tree.specs.Trees.{CanRun};
+ghost use Rattle.monitor_core.specs.Runners.{IsRunner};
+ghost use Rattle.monitor_core.specs.Systems.{CanDo};
 ghost use Rattle.monitor_core.specs.Machines.{done};
 ghost use Rattle.monitor_core.specs.Acts.{Acted, TookTurns};
 
 use crate::machine::Machine;
 use crate::reply::Reply;
+use crate::runner::Runner;
 use outside::Failed;
-use plain_model::{Event, ForkName, Pages, Step, Taker};
+use plain_model::{Event, Pages, Step, Taker};
 
 impl<P: Pages> Machine<P> {
     /// Does an event that is one step, counts it, and gives it behind the items that it shows.
@@ -26,23 +29,25 @@ impl<P: Pages> Machine<P> {
 
     // Units of a fork that can run, in a row, so many at most.
     #[inline]
-    fn units<T: Taker>(&mut self, fork: ForkName, most: u32, out: &mut T) -> Result<u32, Failed>
-        requires can { CanRun self.old.system.jobs.items fork }
-        requires some { 1 ≤ most }
+    fn units<T: Taker>(&mut self, who: Runner, most: u32, out: &mut T) -> Result<u32, Failed>
+        requires can { IsRunner self.old.system.tree who }
+        requires some { 0 < most }
         requires few { done self.old < 2 ^ 52 }
         ensures { TookTurns T.fault_count T.onward T.stands T.cut self.old self.new out.old out.new result most }
     {
-        let units = self.system.units(fork, most);
+        let units = self.system.units(who, most);
+        self.terminal = who.fork.tty;
+        self.slot = who.slot;
         self.done += u64::from(units.count);
-        let reply = Reply::Prints(fork.tty, units.shown);
+        let reply = Reply::Prints(who.fork.tty, units.shown);
         self.system
-            .give_all(&Step::Unit(fork), units.count, reply, out)?;
+            .give_all(&Step::Unit(who.fork), units.count, reply, out)?;
         Ok(units.count)
     }
 
     // Idle entries, where no fork can run.
     fn idle<T: Taker>(&mut self, count: u32, out: &mut T) -> Result<u32, Failed>
-        requires none { (f : AForkName) → CanRun self.old.system.jobs.items f → ⊥ }
+        requires none { (f : AForkName) → CanRun self.old.system.tree.forks f → ⊥ }
         requires some { 1 ≤ count }
         requires few { done self.old < 2 ^ 52 }
         ensures { TookTurns T.fault_count T.onward T.stands T.cut self.old self.new out.old out.new result count }
@@ -61,11 +66,16 @@ impl<P: Pages> Machine<P> {
         requires few { done self.old < 2 ^ 52 }
         ensures { TookTurns T.fault_count T.onward T.stands T.cut self.old self.new out.old out.new result left }
     {
-        match self.system.runnable(self.next) {
-            Some(fork) => {
-                self.next = fork.tty.0 + 1;
-                let most = if self.system.is_alone(fork) { left } else { 1 };
-                self.units(fork, most, out)
+        match self.system.next(self.terminal, self.slot) {
+            Some(who) => {
+                // Who comes next behind itself is alone, and need not be looked for again.
+                let again = who.slot == self.slot && who.fork.tty.0 == self.terminal.0;
+                let most = if again || self.system.is_alone(who) {
+                    left
+                } else {
+                    1
+                };
+                self.units(who, most, out)
             }
             None => self.idle(left, out),
         }

@@ -6,10 +6,11 @@ ghost use Rattle.monitor_core.specs.JobEvents.{event_at, FitsJobEvent};
 ghost use Rattle.monitor_core.specs.Replies.{reply_of};
 ghost use Rattle.monitor_core.specs.Systems.{Did, IsWithin};
 
+use crate::forks::{examined, poke, start};
 use crate::job_event::JobEvent;
 use crate::reply::Reply;
 use crate::system::System;
-use plain_model::{Pages, Refusal, Tty};
+use plain_model::{Pages, Refusal, TerminalMode, Tty};
 
 impl<P: Pages> System<P> {
     /// An event of a terminal's job. NoJob, where the terminal has none.
@@ -19,20 +20,22 @@ impl<P: Pages> System<P> {
         requires few { IsWithin self.old (2 ^ 52) }
         ensures { Did self.old self.new (AStep.Outer (event_at t e)) (reply_of result) }
     {
+        self.tree.are_trees();
         let Some(job) = &mut self.jobs[t.0 as usize] else {
             return Err(Refusal::NoJob(t));
         };
         match e {
             JobEvent::Poke(address, word) => {
-                job.poke(&mut self.pages, address, word)?;
+                poke(&mut self.tree, &mut self.pages, job.top, address, word)?;
                 Ok(Reply::Nothing)
             }
             JobEvent::Start(address) => {
-                job.start(address);
+                job.mode = TerminalMode::Program;
+                start(&mut self.tree, job.top, address);
                 Ok(Reply::Nothing)
             }
             JobEvent::Examine(serial, address) => {
-                let item = job.examined(&self.pages, serial, address)?;
+                let item = examined(&self.tree, &self.pages, t, serial, address)?;
                 Ok(Reply::One(item))
             }
             JobEvent::Forks => Ok(Reply::Forks(t)),

@@ -1,18 +1,19 @@
 // The items of a reply, and the steps behind them, given to a taker.
-ghost use Rattle.std.specs.Prelude.{◌<◌, ◌≤◌, [], IsSome, replicate};
-ghost use Rattle.plain_model.specs.Limits.{FitsStep, IsTerminal};
+ghost use Rattle.std.specs.Prelude.{◌<◌, ◌≤◌, [], replicate};
+ghost use Rattle.plain_model.specs.Forks.{fork_in};
+ghost use Rattle.plain_model.specs.Limits.{FitsStep};
 ghost use Rattle.plain_model.specs.Run.{IsTurn};
 ghost use Rattle.monitor_core.specs.declared.reply.Reply.{Reply as AReply};
-ghost use Rattle.monitor_core.specs.Jobs.{job_at};
 ghost use Rattle.monitor_core.specs.Giving.{TookAll, TookItems};
-ghost use Rattle.monitor_core.specs.Replies.{reply_items, FitsReply};
+ghost use Rattle.monitor_core.specs.Replies.{lines_of, reply_items, FitsReply};
 ghost use Rattle.monitor_core.specs.Systems.{state_of};
 
+use crate::forks::line;
 use crate::giving::give_shown;
 use crate::reply::Reply;
 use crate::system::System;
 use outside::Failed;
-use plain_model::{Item, Pages, Step, Taker, Tty};
+use plain_model::{Item, MOST_FORKS, Pages, Step, Taker, Tty};
 
 // Gives so many equal steps that show nothing: more than one are turns of a run.
 #[inline(always)]
@@ -29,23 +30,31 @@ fn give_steps<T: Taker>(step: &Step, count: u32, out: &mut T) -> Result<(), Fail
 }
 
 impl<P: Pages> System<P> {
-    // Gives the forks of a terminal's job, by slot: its one fork.
+    // Gives the fork in a slot of a terminal's job, if one is there.
+    fn give_fork<T: Taker>(&self, t: Tty, slot: u8, out: &mut T) -> Result<(), Failed>
+        ensures { TookItems T.fault_count T.onward T.stands T.cut out.old out.new result (λ d. lines_of self.now.tree.forks (fork_in self.now.tree.forks t slot)) }
+    {
+        match self.tree.fork_at(t, slot) {
+            Some(fork) => out.item(Item::ForkLine(line(&self.tree, fork))),
+            None => Ok(()),
+        }
+    }
+
+    // Gives the forks of a terminal's job, by slot.
     #[inline(never)]
     fn give_forks<T: Taker>(&self, t: Tty, out: &mut T) -> Result<(), Failed>
-        requires terminal { IsTerminal t }
-        requires job { IsSome (job_at self.now.jobs.items t.0) }
         ensures { TookItems T.fault_count T.onward T.stands T.cut out.old out.new result (λ d. reply_items (state_of self.now d) (AReply.Forks t)) }
     {
-        match &self.jobs[t.0 as usize] {
-            Some(job) => out.item(Item::ForkLine(job.line())),
-            None => unreachable!(),
+        for slot in 1..MOST_FORKS + 1 {
+            self.give_fork(t, slot, out)?;
         }
+        Ok(())
     }
 
     /// Gives the items of a reply, one by one.
     #[inline(always)]
     pub fn give<T: Taker>(&self, reply: Reply, out: &mut T) -> Result<(), Failed>
-        requires { FitsReply self.now.jobs.items reply }
+        requires { FitsReply reply }
         ensures { TookItems T.fault_count T.onward T.stands T.cut out.old out.new result (λ d. reply_items (state_of self.now d) reply) }
     {
         match reply {
@@ -67,7 +76,7 @@ impl<P: Pages> System<P> {
         requires fits { FitsStep step.now }
         requires some { 1 ≤ count }
         requires turn { 1 < count → IsTurn step.now }
-        requires reply { FitsReply self.now.jobs.items reply }
+        requires reply { FitsReply reply }
         ensures { TookAll T.fault_count T.onward T.stands T.cut out.old out.new result (λ d. reply_items (state_of self.now d) reply) (replicate count step.now) }
     {
         if reply.is_silent() {

@@ -1,8 +1,9 @@
 // LOGIN: a job is made.
-ghost use Rattle.std.specs.Prelude.{◌≡◌, ◌≤◌, ◌<◌, None, slice_index};
+ghost use Rattle.std.specs.Prelude.{◌≡◌, ◌<◌, None, Ok};
 ghost use Rattle.plain_model.specs.Limits.{IsTerminal};
 ghost use Rattle.plain_model.specs.declared.event.Event.{Event as AnEvent};
 ghost use Rattle.plain_model.specs.declared.event.Step.{Step as AStep};
+ghost use Rattle.fork_tree.specs.Making.{room_for};
 ghost use Rattle.monitor_core.specs.Jobs.{job_at};
 ghost use Rattle.monitor_core.specs.Replies.{reply_of};
 ghost use Rattle.monitor_core.specs.Systems.{Did};
@@ -10,24 +11,44 @@ ghost use Rattle.monitor_core.specs.Systems.{Did};
 use crate::job::Job;
 use crate::reply::Reply;
 use crate::system::System;
-use plain_model::{DirName, ForkName, Item, LAST_SERIAL, NewMap, Pages, Refusal, Tty, character};
+use fork_tree::NoFork;
+use plain_model::{DirName, ForkName, Item, NewMap, Pages, Refusal, Room, Tty, character};
 
 impl<P: Pages> System<P> {
     // Makes a job with its top fork, and its terminal waits for a command.
-    fn add_job(&mut self, t: Tty, serial: u32, user: DirName) -> Reply
+    fn add_job(&mut self, t: Tty, user: DirName) -> Reply
         requires terminal { IsTerminal t }
         requires free { job_at self.old.jobs.items t.0 ≡ None }
-        requires serial { serial ≡ slice_index self.old.fork_serials.items t.0 }
-        requires unused { serial ≤ LAST_SERIAL }
+        requires unused { room_for self.old.tree t ≡ Ok tt }
         requires room { P.means.count self.old.pages < P.means.most self.old.pages }
+        requires frame { 0 < (P.means.scene self.old.pages).free_frames }
         ensures { Did self.old self.new (AStep.Outer (AnEvent.Login t user)) result }
     {
-        let fork = ForkName { tty: t, serial };
-        self.pages.add_fork(fork, NewMap::Empty);
-        self.jobs[t.0 as usize] = Some(Job::new(user, fork));
-        self.fork_serials[t.0 as usize] = serial + 1;
-        self.terminals = self.terminals.max(t.0 + 1);
-        Reply::One(Item::Char(t, character::PROMPT))
+        self.tree.are_trees();
+        match self.tree.make(t, None) {
+            Ok(fork) => {
+                self.pages.add_fork(fork, NewMap::Empty);
+                self.jobs[t.0 as usize] = Some(Job::new(user, fork));
+                Reply::One(Item::Char(t, character::PROMPT))
+            }
+            Err(_) => unreachable!(),
+        }
+    }
+
+    // Makes a job where the drum has room for its fork. Full, where it has none.
+    fn add_where_room(&mut self, t: Tty, user: DirName) -> Result<Reply, Refusal>
+        requires terminal { IsTerminal t }
+        requires free { job_at self.old.jobs.items t.0 ≡ None }
+        requires unused { room_for self.old.tree t ≡ Ok tt }
+        ensures { Did self.old self.new (AStep.Outer (AnEvent.Login t user)) (reply_of result) }
+    {
+        self.tree.are_trees();
+        match self.pages.room(1) {
+            Room::Enough => Ok(self.add_job(t, user)),
+            Room::Full => Err(Refusal::Full(t)),
+            // Flat pages have no frames.
+            Room::NeedFrame => unreachable!(),
+        }
     }
 
     /// LOGIN: a user gets a job. Busy, where the terminal has one; SerialsOut, where its serials are used up;
@@ -39,13 +60,12 @@ impl<P: Pages> System<P> {
         if self.jobs[t.0 as usize].is_some() {
             return Err(Refusal::Busy(t));
         }
-        let serial = self.fork_serials[t.0 as usize];
-        if serial > LAST_SERIAL {
-            return Err(Refusal::SerialsOut(t));
+        self.tree.are_trees();
+        match self.tree.can_make(t) {
+            Ok(()) => self.add_where_room(t, user),
+            Err(NoFork::SerialsOut) => Err(Refusal::SerialsOut(t)),
+            // Where no job is, no slot is in use.
+            Err(NoFork::ForksFull) => unreachable!(),
         }
-        if self.pages.live() >= self.pages.limit() {
-            return Err(Refusal::Full(t));
-        }
-        Ok(self.add_job(t, serial, user))
     }
 }

@@ -5,28 +5,33 @@ ghost use Rattle.plain_model.specs.declared.event.Event.{Event as AnEvent};
 ghost use Rattle.plain_model.specs.declared.event.Step.{Step as AStep};
 ghost use Rattle.monitor_core.specs.declared.reply.Reply.{Reply as AReply};
 ghost use Rattle.monitor_core.specs.Replies.{reply_of};
-ghost use Rattle.monitor_core.specs.Systems.{CanDo, CanRun, Did, DidAll, IsWithin};
+ghost use Rattle.monitor_core.specs.Runners.{IsRunner};
+ghost use Rattle.monitor_core.specs.Systems.{CanDo, Did, DidAll, IsWithin};
 
+use crate::job::seen;
 use crate::job_event::JobEvent;
 use crate::reply::Reply;
+use crate::runner::Runner;
 use crate::system::System;
-use crate::unit::Units;
-use plain_model::{Event, ForkName, Item, Pages, Refusal};
+use crate::units::{Units, units_of};
+use plain_model::{Event, Item, Pages, Refusal};
 
 impl<P: Pages> System<P> {
-    /// Units of a fork that can run, in a row, at least one and so many at most; and what the last shows.
+    /// Units of a fork that can run, in a row, at least one and so many at most; and what the last shows at its
+    /// terminal.
     #[inline]
-    pub fn units(&mut self, fork: ForkName, most: u32) -> Units
-        requires can { CanRun self.old.jobs.items fork }
+    pub fn units(&mut self, who: Runner, most: u32) -> Units
+        requires can { IsRunner self.old.tree who }
         requires few { IsWithin self.old (2 ^ 52) }
-        requires some { 1 ≤ most }
-        ensures did { DidAll self.old self.new (AStep.Unit fork) result.count (AReply.Prints fork.tty result.shown) }
+        requires some { 0 < most }
+        ensures did { DidAll self.old self.new (AStep.Unit who.fork) result.count (AReply.Prints who.fork.tty result.shown) }
         ensures some { 1 ≤ result.count }
         ensures few { result.count ≤ most }
     {
-        match &mut self.jobs[fork.tty.0 as usize] {
-            Some(job) => job.ran(&mut self.pages, &mut self.taken, most),
-            None => unreachable!(),
+        let units = units_of(&mut self.tree, &mut self.pages, &mut self.taken, who, most);
+        Units {
+            count: units.count,
+            shown: seen(&mut self.jobs, who.fork.tty, who.slot, units.shown),
         }
     }
 

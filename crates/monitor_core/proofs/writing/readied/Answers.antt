@@ -37,7 +37,7 @@ returns-in_default g c =
                 (ready_refers q (g.P.Pages.means.scene c.settle.new.self) c.args.slot _ (c.touch-in-Zero.ensures.told d c.args.slot.fork.tty zero.0 (inl c.requires.fork.terminal)) ready)),
           );
       ready = sym c.touch-in-Zero.ensures.answer ∙ ready;
-      made = record { lives = c.settle.ensures.lives; forks = c.settle.ensures.forks; most = c.settle.ensures.most; own = omega (arith, c.settle.ensures.serial); others = c.settle.ensures.serials; single = c.settle.ensures.single };
+      made = record { lives = c.settle.ensures.lives; forks = c.settle.ensures.forks; most = c.settle.ensures.most; own = omega (arith, c.settle.ensures.serial); others = c.settle.ensures.serials };
       fits = tt;
     }
 

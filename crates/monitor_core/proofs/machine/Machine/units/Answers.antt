@@ -2,25 +2,28 @@ use Rattle.std.proofs.Common.{◌+◌, sym, ap, subst, arith, refl}
 use Rattle.plain_model.specs.declared.event.Step.TheVariants.{Unit as AUnit}
 use Rattle.monitor_core.specs.declared.reply.Reply.TheVariants.{Prints}
 use Rattle.monitor_core.specs.Systems.{IsWithin}
-use Rattle.monitor_core.proofs.Runnable.{fits_step}
+use Rattle.monitor_core.proofs.Runnable.{runner_fits, runner_slot}
 use Rattle.monitor_core.proofs.StepDid.{turns_given, turns_cut}
 use Rattle.monitor_core.proofs.Systems.{within_later}
 use Rattle.monitor_core.proofs.machine.Machine.units.Goals as goal
 
 pub invariant_of-self : goal.invariant_of-self
-invariant_of-self g c = record { within = subst (λ n. IsWithin c.units-units.new.self (c.args.self.now.done + n)) (sym c.from.ensures) (c.units-units.ensures.did.within c.args.self.now.done c.args.self.now.within) }
+invariant_of-self g c = record {
+  turn = runner_slot c.args.self.now.system.tree c.args.who c.requires.can;
+  within = subst (λ n. IsWithin c.units-units.new.self (c.args.self.now.done + n)) (sym c.from.ensures) (c.units-units.ensures.did.within c.args.self.now.done c.args.self.now.within);
+}
 
 pub give_all-requires-clause-fits : goal.give_all-requires-clause-fits
-give_all-requires-clause-fits g c = fits_step c.args.self.now.system (AUnit c.args.fork) c.requires.can
+give_all-requires-clause-fits g c = runner_fits c.args.self.now.system.tree c.args.who c.requires.can
 
 pub returns-in_err-give_all : goal.returns-in_err-give_all
 returns-in_err-give_all g c =
-    turns_cut g.T.Taker.fault_count g.T.Taker.onward g.T.Taker.stands g.T.Taker.cut c.args.self.now _ c.args.out.now c.give_all.new.out (AUnit c.args.fork) tt c.units-units.result.count c.args.most c.units-units.ensures.some c.units-units.ensures.few (Prints c.args.fork.tty c.units-units.result.shown) c.units-units.ensures.did
+    turns_cut g.T.Taker.fault_count g.T.Taker.onward g.T.Taker.stands g.T.Taker.cut c.args.self.now _ c.args.out.now c.give_all.new.out (AUnit c.args.who.fork) tt c.units-units.result.count c.args.most c.units-units.ensures.some c.units-units.ensures.few (Prints c.args.who.fork.tty c.units-units.result.shown) c.units-units.ensures.did
     (ap (λ n. c.args.self.now.done + n) c.from.ensures) refl refl _ c.from_residual.result c.from_residual.ensures.0 c.in_err-give_all.ensures
 
 pub returns : goal.returns
 returns g c =
-    turns_given g.T.Taker.fault_count g.T.Taker.onward g.T.Taker.stands g.T.Taker.cut c.args.self.now _ c.args.out.now c.give_all.new.out (AUnit c.args.fork) tt c.units-units.result.count c.args.most c.units-units.ensures.some c.units-units.ensures.few (Prints c.args.fork.tty c.units-units.result.shown) c.units-units.ensures.did
+    turns_given g.T.Taker.fault_count g.T.Taker.onward g.T.Taker.stands g.T.Taker.cut c.args.self.now _ c.args.out.now c.give_all.new.out (AUnit c.args.who.fork) tt c.units-units.result.count c.args.most c.units-units.ensures.some c.units-units.ensures.few (Prints c.args.who.fork.tty c.units-units.result.shown) c.units-units.ensures.did
     (ap (λ n. c.args.self.now.done + n) c.from.ensures) refl refl _ c.in_ok-give_all.ensures
 
 pub units-units-requires-clause-few : goal.units-units-requires-clause-few

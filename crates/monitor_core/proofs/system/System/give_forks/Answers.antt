@@ -1,24 +1,55 @@
-use Rattle.std.proofs.Common.{◌∷◌, [], sym, ◌∙◌, ap, subst, arith}
-use Rattle.plain_model.specs.declared.event.Item.TheVariants.{ForkLine}
-use Rattle.plain_model.specs.Limits.{FitsForkLine}
+use Rattle.std.proofs.Common.{◌≡◌, [], ◌++◌, ◌+◌, ◌-◌, ap, arith, sym, subst, ◌∙◌}
+use Rattle.plain_model.specs.declared.names.TheConstants.{MOST_FORKS}
+use Rattle.plain_model.specs.Forks.{fork_in}
+use Rattle.plain_model.specs.Taker.{GoesOn}
+use Rattle.plain_model.proofs.Runs.{goes_on_append, onward_then}
 use Rattle.monitor_core.specs.Giving.{Takes}
-use Rattle.monitor_core.proofs.Sounds.{job_read}
-use Rattle.monitor_core.proofs.Systems.{owns, first_slots}
-use Rattle.monitor_core.proofs.ForksShown.{one_line, fits_status}
+use Rattle.monitor_core.specs.Replies.{lines_of}
+use Rattle.monitor_core.proofs.ForksShown.{lines, lines_upto, one_line_more}
+use Rattle.monitor_core.proofs.Given.{on_err, takes_part, takes_then}
 use Rattle.monitor_core.proofs.system.System.give_forks.Goals as goal
 
-pub item-requires : goal.item-requires
-item-requires g c =
-    let at = job_read c.args.self.now.jobs.items c.args.t.0 _ c.in-Some.job c.args.self.now.sound.job_room c.requires.terminal c.index.ensures c.in-Some.is in
-    let job = c.args.self.now.sound.each_job c.args.t.0 c.in-Some.job at in
-    subst FitsForkLine (sym c.line.ensures) ((omega (arith, job.terminal, job.low), job.first, job.last), omega arith, fits_status c.in-Some.job.top.body.status job.status, job.pc)
+pub loop-slot-preserved : goal.loop-slot-preserved
+loop-slot-preserved g c =
+    let i = c.loop-slot.invariant in
+    let forks = c.args.self.now.tree.forks in
+    let slot = c.loop-slot.slot in
+    let one = c.in_ok-give_fork.ensures in
+    let less : slot ≡ slot + 1 - 1 = omega arith in
+    record {
+      first = omega (arith, i.first);
+      last = omega (arith, c.loop-slot-test.true);
+      later = omega (arith, i.later, one.taker.later);
+      onward = onward_then g.T.Taker.onward _ _ _ i.onward one.taker.goes_on;
+      given = subst (λ is. GoesOn g.T.Taker.stands c.args.out.now c.give_fork.new.out is []) (one_line_more forks c.args.t slot i.first ∙ ap (lines forks c.args.t) less)
+          (goes_on_append g.T.Taker.stands c.args.out.now _ c.give_fork.new.out (lines forks c.args.t (slot - 1)) (lines_of forks (fork_in forks c.args.t slot)) [] [] i.given (one.given []).ok);
+    }
+
+pub returns-in_err-give_fork : goal.returns-in_err-give_fork
+returns-in_err-give_fork g c =
+    let i = c.loop-slot.invariant in
+    let forks = c.args.self.now.tree.forks in
+    let slot = c.loop-slot.slot in
+    let r = c.from_residual.result in
+    let failed = c.in_err-give_fork.ensures in
+    let rest = lines_upto forks c.args.t slot i.first (omega (arith, c.loop-slot-test.true)) in
+    record {
+      taker = record {
+        later = omega (arith, i.later, failed.taker.later);
+        cause = on_err r (omega (arith, i.later, failed.taker.cause));
+        goes_on = onward_then g.T.Taker.onward _ _ _ i.onward failed.taker.goes_on;
+      };
+      given = λ d.
+          subst (λ is. Takes g.T.Taker.stands g.T.Taker.cut c.args.out.now c.give_fork.new.out r is []) (sym rest.1)
+          (takes_then g.T.Taker.stands g.T.Taker.cut c.args.out.now _ c.give_fork.new.out r (lines forks c.args.t (slot - 1)) (lines_of forks (fork_in forks c.args.t slot) ++ rest.0) [] [] i.given
+          (takes_part g.T.Taker.stands g.T.Taker.cut _ c.give_fork.new.out r (lines_of forks (fork_in forks c.args.t slot)) rest.0 [] [] c.from_residual.ensures.0 (failed.given d).err));
+    }
 
 pub returns : goal.returns
-returns g c = record {
-  taker = record { later = c.item.ensures.later; cause = c.item.ensures.cause; goes_on = c.item.ensures.onward };
-  given = λ d.
-      let at = job_read c.args.self.now.jobs.items c.args.t.0 _ c.in-Some.job c.args.self.now.sound.job_room c.requires.terminal c.index.ensures c.in-Some.is in
-      subst (λ is. Takes g.T.Taker.stands g.T.Taker.cut c.args.out.now c.item.new.self c.item.result is [])
-      (ap (λ l. ForkLine l ∷ []) c.line.ensures ∙ sym (one_line c.args.self.now.jobs.items (owns c.args.self.now) (first_slots c.args.self.now) c.args.t c.in-Some.job at (c.args.self.now.sound.each_job c.args.t.0 c.in-Some.job at).top))
-      (record { ok = c.item.ensures.ok; err = c.item.ensures.err });
-}
+returns g c =
+    let i = c.loop-slot.invariant in
+    let all : c.loop-slot.slot - 1 ≡ MOST_FORKS = omega (arith, i.last, c.loop-slot-test.false) in
+    record {
+      taker = record { later = i.later; cause = tt; goes_on = i.onward };
+      given = λ d. record { ok = subst (λ k. GoesOn g.T.Taker.stands c.args.out.now c.loop-slot.out (lines c.args.self.now.tree.forks c.args.t k) []) all i.given; err = tt };
+    }

@@ -1,12 +1,14 @@
-use Rattle.std.proofs.Common.{◌≡◌, sym, ◌∙◌, ap, refl, arith, is_some, None, slice_index}
+use Rattle.std.proofs.Common.{◌≡◌, sym, ◌∙◌, ap, refl, is_some, None}
+use Rattle.std.specs.Prelude.{Err}
 use Rattle.plain_model.specs.declared.event.Event.TheVariants.{Login}
 use Rattle.plain_model.specs.declared.event.Item.TheVariants.{Refusal}
-use Rattle.plain_model.specs.declared.event.Refusal.TheVariants.{Busy, SerialsOut, Full}
+use Rattle.plain_model.specs.declared.event.Refusal.TheVariants.{Busy, SerialsOut}
 use Rattle.monitor_core.specs.declared.reply.Reply.TheVariants.{One}
 use Rattle.monitor_core.specs.Jobs.{job_at}
-use Rattle.monitor_core.proofs.Sounds.{entry_read, stands}
+use Rattle.monitor_core.proofs.EventDid.{is_busy, serials_are_out, missing}
 use Rattle.monitor_core.proofs.JobDid.{did_still}
-use Rattle.monitor_core.proofs.EventDid.{is_busy, serials_are_out, is_full, missing}
+use Rattle.monitor_core.proofs.Logins.{never_full, none_first, used_up}
+use Rattle.monitor_core.proofs.Sounds.{entry_read}
 use Rattle.monitor_core.proofs.system.System.login.Goals as goal
 
 pub returns-then-is_some : goal.returns-then-is_some
@@ -14,17 +16,21 @@ returns-then-is_some g c =
     did_still c.args.self.now c.args.self.now refl refl refl refl (Login c.args.t c.args.user) (One (Refusal (Busy c.args.t))) c.requires
     (λ d f. is_busy c.args.self.now c.args.t c.args.user d (ap is_some (entry_read c.args.self.now.jobs.items c.args.t.0 c.index.result.now c.args.self.now.sound.job_room c.requires c.index.ensures) ∙ sym c.is_some.ensures ∙ c.if-is_some.true))
 
-pub returns-then-serial-gt-LAST_SERIAL : goal.returns-then-serial-gt-LAST_SERIAL
-returns-then-serial-gt-LAST_SERIAL g c =
-    let free : job_at c.args.self.now.jobs.items c.args.t.0 ≡ None = (entry_read c.args.self.now.jobs.items c.args.t.0 c.index.result.now c.args.self.now.sound.job_room c.requires c.index.ensures) ∙ missing c.index.result.now (sym c.is_some.ensures ∙ c.if-is_some.false) in
-    let read : slice_index c.args.self.now.fork_serials.items c.args.t.0 ≡ c.index-serial.result.now = stands c.args.self.now.fork_serials.items c.args.t.0 0 c.index-serial.result.now (omega (arith, c.args.self.now.sound.serial_room, c.requires)) ∙ sym c.index-serial.ensures in
-    did_still c.args.self.now c.args.self.now refl refl refl refl (Login c.args.t c.args.user) (One (Refusal (SerialsOut c.args.t))) c.requires
-    (λ d f. serials_are_out c.args.self.now c.args.t c.args.user free d (omega (arith, read, c.if-serial-gt-LAST_SERIAL.true)))
+pub add_where_room-requires-clause-free : goal.add_where_room-requires-clause-free
+add_where_room-requires-clause-free g c = (entry_read c.args.self.now.jobs.items c.args.t.0 c.index.result.now c.args.self.now.sound.job_room c.requires c.index.ensures) ∙ missing c.index.result.now (sym c.is_some.ensures ∙ c.if-is_some.false)
 
-pub returns-then-live-limit : goal.returns-then-live-limit
-returns-then-live-limit g c =
-    let free : job_at c.args.self.now.jobs.items c.args.t.0 ≡ None = (entry_read c.args.self.now.jobs.items c.args.t.0 c.index.result.now c.args.self.now.sound.job_room c.requires c.index.ensures) ∙ missing c.index.result.now (sym c.is_some.ensures ∙ c.if-is_some.false) in
-    let read : slice_index c.args.self.now.fork_serials.items c.args.t.0 ≡ c.index-serial.result.now = stands c.args.self.now.fork_serials.items c.args.t.0 0 c.index-serial.result.now (omega (arith, c.args.self.now.sound.serial_room, c.requires)) ∙ sym c.index-serial.ensures in
-    did_still c.args.self.now c.args.self.now refl refl refl refl (Login c.args.t c.args.user) (One (Refusal (Full c.args.t))) c.requires
-    (λ d f. is_full c.args.self.now c.args.t c.args.user free d f (g.met.P.Pages.agrees c.args.self.now.pages d f.pages) (g.met.P.Pages.none_lives c.args.self.now.pages _ (c.args.self.now.sound.absent c.args.t free c.requires))
-    (omega (arith, read, c.if-serial-gt-LAST_SERIAL.false)) (omega (arith, c.live.ensures, c.limit.ensures, c.if-live-limit.true)))
+pub unreachable-requires : goal.unreachable-requires
+unreachable-requires g c =
+    let m = c.args.self.now in
+    let free : job_at m.jobs.items c.args.t.0 ≡ None = (entry_read m.jobs.items c.args.t.0 c.index.result.now m.sound.job_room c.requires c.index.ensures) ∙ missing c.index.result.now (sym c.is_some.ensures ∙ c.if-is_some.false) in
+    let none = none_first g.P.Pages.means m.pages m.tree m.jobs.items m.sound c.args.t free c.requires c.are_trees.ensures in
+    never_full m.tree c.args.t none (sym c.can_make.ensures ∙ c.in-Err-ForksFull.is ∙ ap Err c.in-Err-ForksFull.field-0-is)
+
+pub returns-in-Err-SerialsOut : goal.returns-in-Err-SerialsOut
+returns-in-Err-SerialsOut g c =
+    let m = c.args.self.now in
+    let free : job_at m.jobs.items c.args.t.0 ≡ None = (entry_read m.jobs.items c.args.t.0 c.index.result.now m.sound.job_room c.requires c.index.ensures) ∙ missing c.index.result.now (sym c.is_some.ensures ∙ c.if-is_some.false) in
+    let none = none_first g.P.Pages.means m.pages m.tree m.jobs.items m.sound c.args.t free c.requires c.are_trees.ensures in
+    let used = used_up m.tree c.args.t none (sym c.can_make.ensures ∙ c.in-Err-SerialsOut.is ∙ ap Err c.in-Err-SerialsOut.field-0-is) in
+    did_still m m refl refl refl refl (Login c.args.t c.args.user) (One (Refusal (SerialsOut c.args.t))) c.requires
+    (λ d f. serials_are_out m c.args.t c.args.user free d used)

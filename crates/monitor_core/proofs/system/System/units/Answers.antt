@@ -1,35 +1,44 @@
-use Rattle.std.proofs.Common.{refl, arith}
-use Rattle.monitor_core.proofs.Sounds.{job_runs, sound_job}
-use Rattle.monitor_core.proofs.Systems.{holds_top}
-use Rattle.monitor_core.proofs.UnitDid.{did_units, can_run_job, ran_job}
+use Rattle.std.proofs.Common.{◌≡◌, IsSome, refl, sym, ◌∙◌, ap, subst, arith}
+use Rattle.plain_model.specs.declared.fork.Fork.{Fork}
+use Rattle.monitor_core.specs.Limits.{CanUnit}
+use Rattle.monitor_core.specs.Shown.{seen_of}
+use Rattle.monitor_core.proofs.Running.{place_of, runner, runner_lives, runner_only, runner_runs, runner_there}
+use Rattle.monitor_core.proofs.UnitDid.{did_units, units_sound}
 use Rattle.monitor_core.proofs.system.System.units.Goals as goal
 
-pub ran-requires-clause-can : goal.ran-requires-clause-can
-ran-requires-clause-can g c =
-    let at = ran_job c.args.self.now c.args.fork c.requires.can _ c.in-Some.job c.index_mut.ensures.value c.in-Some.is in
-    let job = c.args.self.now.sound.each_job c.args.fork.tty.0 c.in-Some.job at in
-    record { runs = (can_run_job c.args.self.now.jobs.items c.args.fork c.requires.can c.in-Some.job at).1; off = job.off; pc = job.pc; accumulators = job.accumulators }
+pub units_of-units-requires-clause-there : goal.units_of-units-requires-clause-there
+units_of-units-requires-clause-there g c = subst IsSome (sym (runner_there c.args.self.now.tree c.args.who c.requires.can)) refl
 
-pub ran-requires-clause-few : goal.ran-requires-clause-few
-ran-requires-clause-few g c =
-    omega (arith, c.requires.few.units c.args.fork.tty.0 c.in-Some.job (ran_job c.args.self.now c.args.fork c.requires.can _ c.in-Some.job c.index_mut.ensures.value c.in-Some.is))
+pub units_of-units-requires-clause-can : goal.units_of-units-requires-clause-can
+units_of-units-requires-clause-can g c f found =
+    let tree = c.args.self.now.tree in
+    let is = runner_only tree c.args.who c.requires.can f found in
+    let fits = c.args.self.now.sound.each_fork (runner tree c.args.who c.requires.can) (runner_lives tree c.args.who c.requires.can) in
+    (ap (λ (k : Fork). k.name) (sym is), subst (λ (k : Fork). CanUnit k.body) is (record { runs = (runner_runs tree c.args.who c.requires.can).0; fits = fits }))
 
-pub ran-requires-clause-serves : goal.ran-requires-clause-serves
-ran-requires-clause-serves g c =
-    let holds = holds_top c.args.self.now c.args.fork.tty.0 c.in-Some.job (ran_job c.args.self.now c.args.fork c.requires.can _ c.in-Some.job c.index_mut.ensures.value c.in-Some.is) in
-    record { flat = holds.flat; single = c.args.self.now.sound.single; lives = holds.lives; terminal = holds.terminal }
+pub units_of-units-requires-clause-few : goal.units_of-units-requires-clause-few
+units_of-units-requires-clause-few g c f found =
+    let tree = c.args.self.now.tree in
+    let is = ap (λ (k : Fork). k.body.units) (runner_only tree c.args.who c.requires.can f found) in
+    omega (arith, is, c.requires.few.units (runner tree c.args.who c.requires.can) (runner_lives tree c.args.who c.requires.can))
 
 pub invariant_of-self : goal.invariant_of-self
 invariant_of-self g c =
-    let at = ran_job c.args.self.now c.args.fork c.requires.can _ c.in-Some.job c.index_mut.ensures.value c.in-Some.is in
-    let job = c.args.self.now.sound.each_job c.args.fork.tty.0 c.in-Some.job at in
-    let ran = c.ran.ensures.ran.top in
-    record {
-      sound = sound_job g.P.Pages.means c.args.self.now.pages c.args.self.now.jobs.items c.args.self.now.fork_serials.items c.args.self.now.terminals c.args.self.now.sound c.ran.new.pages c.args.fork.tty.0 c.in-Some.job c.ran.new.self at ran.made.lives ran.made.forks ran.made.single ran.keeps.name
-          (job_runs c.args.fork.tty.0 c.ran.result.count c.in-Some.job c.ran.new.self job ran.keeps);
-    }
+    let m = c.args.self.now in
+    let who = c.args.who in
+    let r = c.requires.can in
+    let f = runner m.tree who r in
+    let ran = c.units_of-units.ensures.ran (place_of r.fork) r.fork.body (runner_there m.tree who r) in
+    record { sound = units_sound m f r.trees (runner_lives m.tree who r) c.units_of-units.new.pages c.units_of-units.new.tree c.seen.new.jobs.items c.units_of-units.result c.seen.result ran c.seen.ensures.jobs }
 
 pub returns-clause-did : goal.returns-clause-did
 returns-clause-did g c =
-    let at = ran_job c.args.self.now c.args.fork c.requires.can _ c.in-Some.job c.index_mut.ensures.value c.in-Some.is in
-    did_units c.args.self.now _ c.args.fork c.in-Some.job c.ran.new.self c.ran.result at c.requires.can refl refl refl c.ran.ensures.some c.ran.ensures.ran
+    let m = c.args.self.now in
+    let who = c.args.who in
+    let r = c.requires.can in
+    let f = runner m.tree who r in
+    let units = c.units_of-units.result in
+    let ran = c.units_of-units.ensures.ran (place_of r.fork) r.fork.body (runner_there m.tree who r) in
+    let seen : c.seen.result ≡ seen_of r.fork.slot units.shown = c.seen.ensures.shown ∙ ap (λ n. seen_of n units.shown) (sym r.there.2) in
+    let can = runner_runs m.tree who r in
+    did_units m f r.trees (runner_lives m.tree who r) _ units c.seen.result can.0 can.1 ran seen c.seen.ensures.jobs refl c.units_of-units.ensures.some

@@ -1,0 +1,107 @@
+-- What a unit keeps of its fork.
+use Rattle.std.proofs.Common.{◌≡◌, ℕ, ◌+◌, ◌%◌, ◌<◌, ◌^◌, length, Bool, true, false, cond, ◌&&◌, ◌==◌, refl, sym, ◌∙◌, ap, subst, arith, is_some}
+use Rattle.std.specs.Int.{bit_at}
+use Rattle.std.proofs.lemmas.Bool.Decides.{nat_tests}
+use Rattle.plain_model.specs.declared.channel.TheConstants.{OVERFLOW, PUSHDOWN_OVERFLOW, ILLEGAL_INSTRUCTION}
+use Rattle.plain_model.specs.declared.names.TheConstants.{ACCUMULATORS}
+use Rattle.plain_model.specs.declared.fork.Answer.{Answer}
+use Rattle.plain_model.specs.declared.fork.Answer.TheVariants as answer
+use Rattle.plain_model.specs.declared.fork.Fork.{Fork}
+use Rattle.plain_model.specs.declared.fork.Regs.{Regs}
+use Rattle.plain_model.specs.declared.fork.ForkStatus.TheVariants.{Forced as AForced, Halted as AHalted}
+use Rattle.plain_model.specs.Calls.{with_error}
+use Rattle.plain_model.specs.Forks.{with_regs, with_status, counted}
+use Rattle.plain_model.specs.Interrupts.{posted, pended, is_panic}
+use Rattle.plain_model.specs.Unit.{advanced, posted_if}
+use Rattle.call_turns.specs.Answers.{FitsAnswer}
+use Rattle.ka10_unit.specs.declared.committed.Post.{Post}
+use Rattle.ka10_unit.specs.declared.committed.Post.TheVariants.{Nothing, Overflow, Pushdown}
+use Rattle.ka10_unit.specs.Commits.{channel_of}
+use Rattle.monitor_core.specs.ForkUnit.{Kept, answered, ran_on}
+use Rattle.monitor_core.specs.Limits.{FitsForced, IsBody}
+
+-- a fork whose interrupts are off is forced by a panic channel
+pub posted_off : (f : Fork) (channel : ℕ) → f.body.psi.on ≡ false → is_panic channel ≡ true → posted f channel ≡ with_status f (AForced channel)
+posted_off f channel off panic =
+    ap (λ b. cond (b && is_some f.body.psi.table && (bit_at f.body.psi.active channel == 1)) (pended f channel) (cond (is_panic channel) (with_status f (AForced channel)) f)) off
+    ∙ ap (λ b. cond b (with_status f (AForced channel)) f) panic
+
+-- and another channel is dropped
+pub dropped_off : (f : Fork) (channel : ℕ) → f.body.psi.on ≡ false → is_panic channel ≡ false → posted f channel ≡ f
+dropped_off f channel off other =
+    ap (λ b. cond (b && is_some f.body.psi.table && (bit_at f.body.psi.active channel == 1)) (pended f channel) (cond (is_panic channel) (with_status f (AForced channel)) f)) off
+    ∙ ap (λ b. cond b (with_status f (AForced channel)) f) other
+
+forced_fits : (channel : ℕ) → channel < 36 → FitsForced (AForced channel)
+forced_fits channel few c h = let same : channel ≡ c = cc h in omega (arith, few, same)
+
+-- the panic channels are among the 36
+pub panic_fits : (channel : ℕ) → is_panic channel ≡ true → channel < 36
+panic_fits channel panic = grind (arith, nat_tests)
+
+-- a fork behind a unit that left these registers
+module _ (f : Fork) (off : f.body.psi.on ≡ false) (regs : Regs) (pc : regs.pc < 2 ^ 18) (accumulators : length regs.ac ≡ ACCUMULATORS) where
+  plain_keeps : Kept f (counted (with_regs f regs)) 1
+  plain_keeps = record { name = refl; slot = refl; superior = refl; status = λ s. s; on = refl; pc = pc; accumulators = accumulators; units = refl }
+
+  -- a channel was posted, and forced it or was dropped
+  pub posted_keeps : (channel : ℕ) → Kept f (counted (posted (with_regs f regs) channel)) 1
+  posted_keeps channel = by (is_panic channel) refl
+    where
+      by : (b : Bool) → is_panic channel ≡ b → Kept f (counted (posted (with_regs f regs) channel)) 1
+      by true panic =
+          subst (λ g. Kept f (counted g) 1) (sym (posted_off (with_regs f regs) channel off panic))
+          (record { name = refl; slot = refl; superior = refl; status = λ h. forced_fits channel (panic_fits channel panic); on = refl; pc = pc; accumulators = accumulators; units = refl })
+      by false other = subst (λ g. Kept f (counted g) 1) (sym (dropped_off (with_regs f regs) channel off other)) plain_keeps
+
+  -- it is done, and has posted this
+  pub ended_keeps : (post : Post) → Kept f (counted (posted_if (with_regs f regs) (channel_of post))) 1
+  ended_keeps Nothing = plain_keeps
+  ended_keeps Overflow = posted_keeps OVERFLOW
+  ended_keeps Pushdown = posted_keeps PUSHDOWN_OVERFLOW
+
+  wrapped : (n : ℕ) → n % 2 ^ 18 < 2 ^ 18
+  wrapped n = omega arith
+
+  -- it is behind a call that prints, or halts
+  pub printed_keeps : Kept f (counted (with_regs f (advanced regs))) 1
+  printed_keeps = record { name = refl; slot = refl; superior = refl; status = λ s. s; on = refl; pc = wrapped (regs.pc + 1); accumulators = accumulators; units = refl }
+
+  pub halted_keeps : Kept f (counted (with_status (with_regs f (advanced regs)) AHalted)) 1
+  halted_keeps = record { name = refl; slot = refl; superior = refl; status = λ s c h. absurd (cc h); on = refl; pc = wrapped (regs.pc + 1); accumulators = accumulators; units = refl }
+
+-- a fork behind a turn of a call with this answer
+pub answered_keeps : (f : Fork) → f.body.psi.on ≡ false → f.body.regs.pc < 2 ^ 18 → length f.body.regs.ac ≡ ACCUMULATORS → (a : Answer) → FitsAnswer a → Kept f (counted (answered f a)) 1
+answered_keeps f off pc acs (answer.After regs out post) fits = plain_keeps f off regs fits.0 fits.1
+answered_keeps f off pc acs (answer.Refused code) fits =
+    let k = posted_keeps (with_error f code) off f.body.regs pc acs ILLEGAL_INSTRUCTION in
+    record { name = k.name; slot = k.slot; superior = k.superior; status = k.status; on = k.on; pc = k.pc; accumulators = k.accumulators; units = k.units }
+answered_keeps f off pc acs (answer.Trap channel) fits = posted_keeps f off f.body.regs pc acs channel
+answered_keeps f off pc acs (answer.Wait on) fits = absurd fits
+answered_keeps f off pc acs answer.Halt fits = absurd fits
+answered_keeps f off pc acs (answer.Need need) fits = plain_keeps f off f.body.regs pc acs
+
+-- a call that is still to be made leaves its fork
+pub none_keeps : (f : Fork) (regs : Regs) → regs.pc < 2 ^ 18 → length regs.ac ≡ ACCUMULATORS → Kept f (with_regs f regs) 0
+none_keeps f regs pc acs = record { name = refl; slot = refl; superior = refl; status = λ s. s; on = refl; pc = pc; accumulators = acs; units = omega arith }
+
+-- so many units that left these registers and posted nothing
+pub row_keeps : (f : Fork) (n : ℕ) (regs : Regs) → regs.pc < 2 ^ 18 → length regs.ac ≡ ACCUMULATORS → Kept f (ran_on f n regs) n
+row_keeps f n regs pc accumulators = record { name = refl; slot = refl; superior = refl; status = λ s. s; on = refl; pc = pc; accumulators = accumulators; units = refl }
+
+-- and one more
+pub more_keeps : (f g h : Fork) (n m : ℕ) → Kept f g n → Kept g h m → Kept f h (n + m)
+more_keeps f g h n m a b = record {
+  name = b.name ∙ a.name;
+  slot = b.slot ∙ a.slot;
+  superior = b.superior ∙ a.superior;
+  status = λ s. b.status (a.status s);
+  on = b.on ∙ a.on;
+  pc = b.pc;
+  accumulators = b.accumulators;
+  units = omega (arith, a.units, b.units);
+}
+
+-- so it stays within its limits
+pub kept_body : (f g : Fork) (n : ℕ) → Kept f g n → IsBody f.body → IsBody g.body
+kept_body f g n k b = record { status = k.status b.status; off = k.on ∙ b.off; pc = k.pc; accumulators = k.accumulators }

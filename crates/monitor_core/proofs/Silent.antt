@@ -1,0 +1,55 @@
+-- Units in a row that post nothing.
+use Rattle.std.proofs.Common.{◌≡◌, ℕ, suc, Option, None, Some, refl, sym, ◌∙◌, ap}
+use Rattle.std.specs.Ordering.{nat_cmp}
+use Rattle.std.specs.Option.{option_and_then}
+use Rattle.std.specs.declared.cmp.Ordering.{Ordering}
+use Rattle.plain_model.specs.declared.fork.Fork.{Fork}
+use Rattle.plain_model.specs.declared.fork.Regs.{Regs}
+use Rattle.plain_model.specs.declared.names.ForkName.{ForkName}
+use Rattle.plain_model.specs.State.{PlainPages, NumberedPages}
+use Rattle.plain_model.specs.Steps.{Planned, Progress, Ending, done, stopped, call, pages_left}
+use Rattle.plain_model.specs.Forks.{ForkMap, with_regs, counted}
+use Rattle.plain_model.specs.Unit.{posted_if, unit_on}
+use Rattle.ka10_unit.specs.Once.{After, once, in_a_row, unless_posted, went_through}
+use Rattle.monitor_core.specs.ForkUnit.{behind, behind_unit, post_shown}
+use Rattle.monitor_core.specs.declared.shown.Shown.TheVariants.{Nothing}
+
+-- a unit that went through, and what it left
+went_as : {K : Type 0} {file_cmp : K → K → Ordering} (f : ForkName) (x : Planned file_cmp ⊥) (a : After file_cmp) → went_through f x ≡ Some a → (t : Progress file_cmp) × (e : Ending) × (x ≡ done t e) × (record { pages = pages_left f t e; regs = e.regs; post = e.post } ≡ a)
+went_as f (done t e) a h = (t, e, refl, cc h)
+went_as f (stopped why) a h = absurd (cc h)
+went_as f (call number) a h = absurd (cc h)
+
+pub once_as : {K : Type 0} {file_cmp : K → K → Ordering} (f : ForkName) (p : PlainPages file_cmp) (regs : Regs) (a : After file_cmp) → once f p regs ≡ Some a → (t : Progress file_cmp) × (e : Ending) × (unit_on f p regs ≡ done t e) × (record { pages = pages_left f t e; regs = e.regs; post = e.post } ≡ a)
+unfolding once
+once_as f p regs a h = went_as f (unit_on f p regs) a h
+
+-- one unit more in a row
+pub record OneMore {K : Type 0} {file_cmp : K → K → Ordering} (f : ForkName) (n : ℕ) (p : PlainPages file_cmp) (regs : Regs) (b : After file_cmp) : Type 0 where
+  pub before : After file_cmp
+  pub row : in_a_row f n p regs ≡ Some before
+  pub unit : once f before.pages before.regs ≡ Some b
+  pub silent : b.post ≡ None
+
+pub row_more : {K : Type 0} {file_cmp : K → K → Ordering} (f : ForkName) (n : ℕ) (p : PlainPages file_cmp) (regs : Regs) (b : After file_cmp) → in_a_row f (suc n) p regs ≡ Some b → OneMore f n p regs b
+unfolding in_a_row
+row_more {file_cmp = file_cmp} f n p regs b h = by (in_a_row f n p regs) refl h
+  where
+    last : (a : After file_cmp) (q : PlainPages file_cmp) (left : Regs) (post : Option ℕ) → in_a_row f n p regs ≡ Some a → once f a.pages a.regs ≡ Some (record { pages = q; regs = left; post = post }) → unless_posted (record { pages = q; regs = left; post = post }) ≡ Some b → OneMore f n p regs b
+    last a q left None row unit is = let same : record { pages = q; regs = left; post = None } ≡ b = cc is in record { before = a; row = row; unit = unit ∙ ap Some same; silent = ap (λ (c : After file_cmp). c.post) (sym same) }
+    last a q left (Some channel) row unit is = absurd (cc is)
+
+    then : (a : After file_cmp) (o : Option (After file_cmp)) → in_a_row f n p regs ≡ Some a → once f a.pages a.regs ≡ o → option_and_then unless_posted o ≡ Some b → OneMore f n p regs b
+    then a None row unit is = absurd (cc is)
+    then a (Some c) row unit is = last a c.pages c.regs c.post row unit is
+
+    by : (o : Option (After file_cmp)) → in_a_row f n p regs ≡ o → option_and_then (λ a. option_and_then unless_posted (once f a.pages a.regs)) o ≡ Some b → OneMore f n p regs b
+    by None row is = absurd (cc is)
+    by (Some a) row is = then a (once f a.pages a.regs) row refl is
+
+-- the pages, the fork and what is shown behind a unit that went through and posts nothing
+pub silent_unit : (forks : ForkMap) (f : Fork) (p : NumberedPages) (b : After nat_cmp) → once f.name p f.body.regs ≡ Some b → b.post ≡ None → behind_unit forks f p ≡ record { fork = counted (with_regs f b.regs); pages = b.pages; shown = Nothing }
+silent_unit forks f p b went silent =
+    let o = once_as f.name p f.body.regs b went in
+    ap (behind forks f p) o.2 ∙ (λ i. record { fork = counted (posted_if (with_regs f (o.3 i).regs) (o.3 i).post); pages = (o.3 i).pages; shown = post_shown (o.3 i).post })
+    ∙ (λ i. record { fork = counted (posted_if (with_regs f b.regs) (silent i)); pages = b.pages; shown = post_shown (silent i) })

@@ -1,0 +1,27 @@
+-- The one unit behind units in a row.
+use Rattle.std.proofs.Common.{◌≡◌, ℕ, ◌+◌, sym, ◌∙◌, ap, subst, arith, Some}
+use Rattle.std.specs.Ordering.{nat_cmp}
+use Rattle.plain_model.specs.declared.fork.Fork.{Fork}
+use Rattle.plain_model.specs.State.{NumberedPages}
+use Rattle.ka10_unit.specs.Once.{After, in_a_row}
+use Rattle.monitor_core.specs.ForkUnit.{IsOne, IsRow, RanUnits, forks_on, ran_on, units_over}
+use Rattle.monitor_core.specs.declared.unit.Last.{Last}
+use Rattle.monitor_core.specs.declared.unit.Last.TheVariants.{Shows, Calls}
+use Rattle.monitor_core.proofs.UnitRan.{one_behind}
+
+module _ (f : Fork) (p : NumberedPages) (n : ℕ) (a : After nat_cmp) (h : Fork) (r : NumberedPages) (row : in_a_row f.name n p f.body.regs ≡ Some a) where
+  by_last : (count : ℕ) (last : Last) → count ≡ n + units_over last → IsOne (ran_on f n a.regs) a.pages h r last → IsRow f p count h r last
+  by_last count (Shows shown) counts is = λ forks. subst (λ k. RanUnits forks f p k (record { fork = h; pages = r; shown = shown })) (sym counts) (one_behind forks f p n a _ row (is (forks_on forks f n a.regs)))
+  by_last count (Calls number) counts is =
+      let same : count ≡ n = omega (arith, counts) in
+      record {
+        after = a;
+        row = ap (λ k. in_a_row f.name k p f.body.regs) same ∙ row;
+        fork = ap (λ k. ran_on f k a.regs) same ∙ is.0;
+        pages = is.1;
+        calls = is.2;
+      }
+
+  -- units in a row, and one more, whose fork had run so many
+  pub more_row : (k count : ℕ) (last : Last) → k ≡ n → count ≡ n + units_over last → IsOne (ran_on f k a.regs) a.pages h r last → IsRow f p count h r last
+  more_row k count last same counts is = by_last count last counts (subst (λ m. IsOne (ran_on f m a.regs) a.pages h r last) same is)

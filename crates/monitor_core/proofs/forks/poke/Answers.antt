@@ -1,0 +1,24 @@
+use Rattle.std.proofs.Common.{◌%◌, refl, ◌∙◌, subst}
+use Rattle.outside.specs.declared.TheConstants.{PAGE_WORDS}
+use Rattle.plain_model.specs.Events.{with_accumulator}
+use Rattle.monitor_core.specs.Writing.{Writes}
+use Rattle.monitor_core.proofs.Changing.{poked_tree, unchanged_tree}
+use Rattle.monitor_core.proofs.forks.poke.Goals as goal
+use Rattle.monitor_core.proofs.forks.poke.Goals.{in-Some, in_default}
+
+pub returns-then-address-lt-ACCUMULATORS-clause-low : goal.returns-then-address-lt-ACCUMULATORS-clause-low
+returns-then-address-lt-ACCUMULATORS-clause-low g c low = (
+  refl,
+  elim c.match-body_mut.branch [
+    | in-Some w ↦ w.tree-is ∙ poked_tree c.args.tree.now c.args.fork c.args.address c.args.word w.in-Some.body.now w.in-Some.ensures.body
+    | in_default w ↦ w.tree-is ∙ unchanged_tree c.args.tree.now c.args.fork (with_accumulator c.args.address c.args.word) w.in_default.ensures.body
+  ],
+  refl,
+)
+
+pub returns-clause-high : goal.returns-clause-high
+returns-clause-high g c high = (
+  refl,
+  subst (λ s. Writes g.P.Pages.means c.args.pages.now c.write_word.new.pages s (c.args.address % PAGE_WORDS) c.args.word c.write_word.result) c.slot_at-slot.ensures.slot
+      (subst (λ o. Writes g.P.Pages.means c.args.pages.now c.write_word.new.pages c.slot_at-slot.result o c.args.word c.write_word.result) c.offset_in_page.ensures.offset c.write_word.ensures.told),
+)

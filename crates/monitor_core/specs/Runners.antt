@@ -1,0 +1,29 @@
+-- Forks of a tree that can run, as the machine chooses them.
+use Rattle.std.specs.Prelude.{◌≡◌, ℕ, ◌≤◌}
+use Rattle.std.specs.FinMap as map
+use Rattle.plain_model.specs.declared.names.Tty.{Tty}
+use Rattle.plain_model.specs.declared.names.ForkName.{ForkName}
+use Rattle.plain_model.specs.declared.names.TheConstants.{MOST_FORKS}
+use Rattle.plain_model.specs.declared.fork.Fork.{Fork}
+use Rattle.plain_model.specs.Limits.{IsTerminal}
+use Rattle.fork_tree.specs.Changes.{changed}
+use Rattle.fork_tree.specs.Trees.{CanRun, IsIn, IsTree, PlainTree}
+use Rattle.monitor_core.specs.declared.runner.Runner.{Runner}
+
+-- a fork of trees is in this slot, under this name, and can run
+pub record IsRunner (tree : PlainTree) (who : Runner) : Type 0 where
+  pub trees : IsTree tree
+  pub fork : Fork
+  pub there : IsIn tree.forks who.fork.tty who.slot fork
+  pub named : fork.name ≡ who.fork
+  pub runs : CanRun tree.forks who.fork
+
+-- a slot of a terminal's job
+pub record IsSlot (t : Tty) (slot : ℕ) : Type 0 where
+  pub terminal : IsTerminal t
+  pub first : 1 ≤ slot
+  pub last : slot ≤ MOST_FORKS
+
+-- a tree with a fork changed, where that lives
+abbrev pub with_change : PlainTree → ForkName → (Fork → Fork) → PlainTree
+with_change tree name change = record tree { forks = changed tree.forks change (map.get tree.forks name) }

@@ -1,0 +1,132 @@
+// Monitor calls by their numbers.
+ghost use Rattle.std.specs.Prelude.{◌≡◌, ◌<◌, ◌%◌, ◌^◌, IsSome, Some, false, length, true};
+ghost use Rattle.plain_model.specs.declared.fork.Body.{Body as ABody};
+ghost use Rattle.plain_model.specs.declared.fork.Fork.{Fork as AFork};
+ghost use Rattle.plain_model.specs.declared.fork.ForkStatus.{ForkStatus as AForkStatus};
+ghost use Rattle.plain_model.specs.Forks.{counted, fork_in, with_regs, with_status};
+ghost use Rattle.plain_model.specs.Unit.{advanced};
+ghost use Rattle.call_turns.specs.Answers.{FitsAnswer, IsDone};
+ghost use Rattle.fork_tree.specs.Changes.{with_body};
+ghost use Rattle.monitor_core.specs.Limits.{IsBody};
+ghost use Rattle.monitor_core.specs.Shown.{code_shown, FitsShown};
+ghost use Rattle.monitor_core.specs.ForkUnit.{Called, IsMapCall, Place as APlace, answer_post, answered as answered_of, fork_of, post_shown, printed_shown};
+
+use crate::runner::Runner;
+use crate::shown::Shown;
+use crate::unit::posted;
+use fork_tree::Tree;
+use plain_model::call::{HALTF, PBOUT};
+use plain_model::channel::ILLEGAL_INSTRUCTION;
+use plain_model::character::LINE_END;
+use plain_model::{ACCUMULATORS, Answer, Body, ForkStatus, Pages, Regs};
+use word36::Word;
+
+// The program counter goes on by one, modulo 2^18.
+fn advance(regs: &mut Regs)
+    requires { regs.old.pc < 2 ^ 18 }
+    ensures { regs.new ≡ advanced regs.old }
+{
+    regs.pc = (regs.pc + 1) % 0o1_000_000;
+}
+
+// What a terminal shows of the low 7 bits of a word.
+fn shown_code(word: Word) -> Shown
+    ensures code { result ≡ code_shown (word % 128) }
+    ensures fits { FitsShown result }
+{
+    let code = (word.value() % 128) as u8;
+    if code == LINE_END {
+        Shown::LineEnd
+    } else {
+        Shown::Code(code)
+    }
+}
+
+// PBOUT: the character in accumulator 1 is printed.
+fn printed(body: &mut Body) -> Shown
+    requires few { body.old.units < 2 ^ 63 }
+    requires pc { body.old.regs.pc < 2 ^ 18 }
+    requires accumulators { length body.old.regs.ac ≡ ACCUMULATORS }
+    ensures fork { (f : AFork) → with_body body.new f ≡ counted (with_regs (with_body body.old f) (advanced body.old.regs)) }
+    ensures shown { result ≡ printed_shown body.old.regs }
+    ensures fits { FitsShown result }
+{
+    let shown = shown_code(body.regs.ac[1]);
+    advance(&mut body.regs);
+    body.units += 1;
+    shown
+}
+
+// HALTF: the fork is halted, behind the call.
+fn halted(body: &mut Body) -> Shown
+    requires few { body.old.units < 2 ^ 63 }
+    requires pc { body.old.regs.pc < 2 ^ 18 }
+    ensures fork { (f : AFork) → with_body body.new f
+        ≡ counted (with_status (with_regs (with_body body.old f) (advanced body.old.regs)) AForkStatus.Halted) }
+    ensures shown { result ≡ Shown.Halted }
+{
+    advance(&mut body.regs);
+    body.status = ForkStatus::Halted;
+    body.units += 1;
+    Shown::Halted
+}
+
+// A turn is over that has answered so: a call that is refused leaves its error, and traps.
+fn answered(body: &mut Body, answer: Answer) -> Shown
+    requires off { body.old.psi.on ≡ false }
+    requires few { body.old.units < 2 ^ 63 }
+    requires fits { FitsAnswer answer }
+    requires done { IsDone answer }
+    ensures fork { (f : AFork) → with_body body.new f ≡ counted (answered_of (with_body body.old f) answer) }
+    ensures shown { result ≡ post_shown (answer_post answer) }
+    ensures fits { FitsShown result }
+{
+    match answer {
+        Answer::After { regs, .. } => {
+            body.regs = regs;
+            body.units += 1;
+            Shown::Nothing
+        }
+        Answer::Refused(code) => {
+            body.error = code;
+            posted(body, ILLEGAL_INSTRUCTION)
+        }
+        Answer::Trap(channel) => posted(body, channel),
+        // No call waits or halts yet, and flat pages are always in core.
+        Answer::Wait(_) | Answer::Halt | Answer::Need(_) => unreachable!(),
+    }
+}
+
+// A turn of a call on maps, by its number. A number that is no call traps.
+fn mapped<P: Pages>(tree: &mut Tree, pages: &mut P, who: Runner, number: u32) -> Shown
+    requires flat { P.means.flat ≡ true }
+    requires there { IsSome (fork_in tree.old.forks who.fork.tty who.slot) }
+    requires can { (f : AFork) → fork_in tree.old.forks who.fork.tty who.slot ≡ Some f → IsBody f.body }
+    requires few { (f : AFork) → fork_in tree.old.forks who.fork.tty who.slot ≡ Some f → f.body.units < 2 ^ 63 }
+    requires map { IsMapCall number }
+    ensures { (at : APlace) (b : ABody) → fork_in tree.old.forks who.fork.tty who.slot ≡ Some (fork_of who.fork at b)
+        → Called P.means pages.old pages.new tree.old tree.new (fork_of who.fork at b) number result }
+{
+    let Some(fork) = tree.fork_at(who.fork.tty, who.slot) else {
+        unreachable!();
+    };
+    let regs = fork.body.regs;
+    let answer = pmap_calls::call(number, &regs, who.fork, tree, pages);
+    answered(tree.body_at(who.fork.tty, who.slot), answer)
+}
+
+/// A turn of a monitor call of a fork of a tree, by its number. A number that is no call traps.
+pub fn called<P: Pages>(tree: &mut Tree, pages: &mut P, who: Runner, number: u32) -> Shown
+    requires flat { P.means.flat ≡ true }
+    requires there { IsSome (fork_in tree.old.forks who.fork.tty who.slot) }
+    requires can { (f : AFork) → fork_in tree.old.forks who.fork.tty who.slot ≡ Some f → IsBody f.body }
+    requires few { (f : AFork) → fork_in tree.old.forks who.fork.tty who.slot ≡ Some f → f.body.units < 2 ^ 63 }
+    ensures { (at : APlace) (b : ABody) → fork_in tree.old.forks who.fork.tty who.slot ≡ Some (fork_of who.fork at b)
+        → Called P.means pages.old pages.new tree.old tree.new (fork_of who.fork at b) number result }
+{
+    match number {
+        PBOUT => printed(tree.body_at(who.fork.tty, who.slot)),
+        HALTF => halted(tree.body_at(who.fork.tty, who.slot)),
+        _ => mapped(tree, pages, who, number),
+    }
+}

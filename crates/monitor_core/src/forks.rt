@@ -1,0 +1,113 @@
+// Forks of a tree: what is put into one, and what is shown of one.
+ghost use Rattle.std.specs.Prelude.{◌≡◌, ◌<◌, ◌≤◌, ◌%◌, ◌^◌, IfErr, IsSome, Ok, Some, length};
+ghost use Rattle.std.specs.FinMap as map;
+ghost use Rattle.outside.specs.declared.TheConstants.{PAGE_WORDS};
+ghost use Rattle.plain_model.specs.declared.fork.Fork.{Fork as AFork};
+ghost use Rattle.plain_model.specs.Events.{restarted, with_accumulator};
+ghost use Rattle.plain_model.specs.Forks.{fork_line, superior_of};
+ghost use Rattle.plain_model.specs.Limits.{FitsCause, FitsItem, IsAddress, IsTerminal};
+ghost use Rattle.plain_model.specs.Outcome.{DrumWords};
+ghost use Rattle.plain_model.specs.References.{slot_at as slot_of};
+ghost use Rattle.std.specs.Option.{option_map_or};
+ghost use Rattle.fork_tree.specs.Trees.{IsTree, Lives};
+ghost use Rattle.monitor_core.specs.Holding.{Holds};
+ghost use Rattle.monitor_core.specs.Looking.{examined_in, item_of};
+ghost use Rattle.monitor_core.specs.Runners.{with_change};
+ghost use Rattle.monitor_core.specs.Writing.{Makes, Writes};
+
+use crate::address::{offset_in_page, slot_at};
+use crate::looking::seen_word;
+use crate::writing::write_word;
+use fork_tree::Tree;
+use plain_model::{ACCUMULATORS, Fork, ForkLine, ForkName, ForkStatus, Item, Pages, Refusal, Tty};
+use word36::Word;
+
+/// Puts a word at an address of a fork: into an accumulator, or into a page by the fork's access. Denied, where its
+/// map forbids that; Full, where a page had to be made and the drum is full.
+pub fn poke<P: Pages>(
+    tree: &mut Tree,
+    pages: &mut P,
+    fork: ForkName,
+    address: u32,
+    word: Word,
+) -> Result<(), Refusal>
+    requires fork { Holds P.means pages.old fork }
+    requires accumulators { (f : AFork) → map.get tree.old.forks fork ≡ Some f → length f.body.regs.ac ≡ ACCUMULATORS }
+    requires serial { P.means.serial pages.old fork.tty < 2 ^ 61 }
+    requires address { IsAddress address }
+    ensures low { address < ACCUMULATORS
+        → (result ≡ Ok tt) × (tree.new ≡ with_change tree.old fork (with_accumulator address word)) × (pages.new ≡ pages.old) }
+    ensures high { ACCUMULATORS ≤ address
+        → (tree.new ≡ tree.old) × Writes P.means pages.old pages.new (slot_of fork address) (address % PAGE_WORDS) word result }
+    ensures made { Makes P.means pages.old pages.new fork.tty 2 }
+    ensures fits { IfErr result FitsCause }
+{
+    if address < ACCUMULATORS {
+        if let Some(body) = tree.body_mut(fork) {
+            body.regs.ac[address as usize] = word;
+        }
+        return Ok(());
+    }
+    let slot = slot_at(fork, address);
+    write_word(pages, slot, offset_in_page(address), word)
+}
+
+/// A fork runs at an address, with no freeze mark.
+pub fn start(tree: &mut Tree, fork: ForkName, address: u32)
+    requires tree { IsTree tree.old }
+    requires lives { IsSome (map.get tree.old.forks fork) }
+    ensures { tree.new ≡ with_change tree.old fork (restarted address) }
+{
+    tree.freeze(fork, false);
+    if let Some(body) = tree.body_mut(fork) {
+        body.status = ForkStatus::Run;
+        body.regs.pc = address;
+    }
+}
+
+/// The word at an address of a terminal's fork with this serial, whatever its access, as it is shown. NoFork, where
+/// none lives; NoPage, where no page is there.
+pub fn examined<P: Pages>(
+    tree: &Tree,
+    pages: &P,
+    t: Tty,
+    serial: u32,
+    address: u32,
+) -> Result<Item, Refusal>
+    requires each { (f : AFork) → map.get tree.now.forks (record { tty = t; serial = serial }) ≡ Some f
+        → Holds P.means pages.now f.name × (length f.body.regs.ac ≡ ACCUMULATORS) }
+    requires address { IsAddress address }
+    ensures told { (d : DrumWords) → P.means.fits pages.now d → result ≡ examined_in (P.means.plain pages.now d) tree.now.forks t serial address }
+    ensures fits { IsTerminal t → serial < 1000000 → FitsItem (item_of result) }
+{
+    let Some(fork) = tree.fork(ForkName { tty: t, serial }) else {
+        return Err(Refusal::NoFork(t));
+    };
+    match seen_word(pages, fork, address) {
+        Some(word) => Ok(Item::Examined(t, serial, address, word)),
+        None => Err(Refusal::NoPage(t)),
+    }
+}
+
+// The serial of a fork's superior, and 0 where it has none.
+fn superior_serial(tree: &Tree, fork: &Fork) -> u32
+    ensures { result ≡ option_map_or (λ g. g.name.serial) (superior_of tree.now.forks fork.now) 0 }
+{
+    match tree.superior(fork) {
+        Some(over) => over.name.serial,
+        None => 0,
+    }
+}
+
+/// A fork as it is shown.
+pub fn line(tree: &Tree, fork: &Fork) -> ForkLine
+    ensures { result ≡ fork_line tree.now.forks fork.now }
+{
+    ForkLine {
+        name: fork.name,
+        superior: superior_serial(tree, fork),
+        status: fork.body.status,
+        frozen: fork.frozen,
+        address: fork.body.regs.pc,
+    }
+}

@@ -1,0 +1,9 @@
+// A fork that can run.
+use plain_model::ForkName;
+
+/// A fork that can run, with its slot in its job.
+#[derive(Clone, Copy, Debug, PartialEq, Eq)]
+pub struct Runner {
+    pub fork: ForkName,
+    pub slot: u8,
+}

@@ -1,0 +1,61 @@
+// Units of a fork of a tree.
+ghost use Rattle.std.specs.Prelude.{◌≡◌, ◌<◌, ◌≤◌, ◌^◌, IsSome, Some};
+ghost use Rattle.plain_model.specs.declared.fork.Body.{Body as ABody};
+ghost use Rattle.plain_model.specs.declared.fork.Fork.{Fork as AFork};
+ghost use Rattle.plain_model.specs.Forks.{fork_in};
+ghost use Rattle.ka10_unit.specs.Gathers.{Serves};
+ghost use Rattle.fork_tree.specs.Trees.{IsTree};
+ghost use Rattle.monitor_core.specs.Limits.{CanUnit};
+ghost use Rattle.monitor_core.specs.ForkUnit.{Place as APlace, UnitsRan, fork_of};
+
+use crate::calls::called;
+use crate::runner::Runner;
+use crate::shown::Shown;
+use crate::unit::{Last, run_units};
+use fork_tree::Tree;
+use ka10_unit::Taken;
+use plain_model::Pages;
+
+/// Units of a fork in a row: how many, at least one, and what the last of them shows. Those before it show
+/// nothing.
+#[derive(Clone, Copy, Debug, PartialEq, Eq)]
+pub struct Units {
+    pub count: u32,
+    pub shown: Shown,
+}
+
+/// Units of a fork of a tree in a row, at least one and so many at most. A monitor call is made once the fork is
+/// back among the others, since it looks at all.
+#[inline]
+pub fn units_of<P: Pages>(
+    tree: &mut Tree,
+    pages: &mut P,
+    taken: &mut Taken,
+    who: Runner,
+    most: u32,
+) -> Units
+    requires tree { IsTree tree.old }
+    requires there { IsSome (fork_in tree.old.forks who.fork.tty who.slot) }
+    requires can { (f : AFork) → fork_in tree.old.forks who.fork.tty who.slot ≡ Some f → (f.name ≡ who.fork) × CanUnit f.body }
+    requires few { (f : AFork) → fork_in tree.old.forks who.fork.tty who.slot ≡ Some f → f.body.units < 2 ^ 62 }
+    requires serves { Serves P.means pages.old who.fork }
+    requires serial { P.means.serial pages.old who.fork.tty < 2 ^ 61 }
+    requires some { 0 < most }
+    ensures ran { (at : APlace) (b : ABody) → fork_in tree.old.forks who.fork.tty who.slot ≡ Some (fork_of who.fork at b)
+        → UnitsRan P.means pages.old pages.new tree.old tree.new (fork_of who.fork at b) result }
+    ensures some { 1 ≤ result.count }
+    ensures few { result.count ≤ most }
+{
+    let body = tree.body_at(who.fork.tty, who.slot);
+    let row = run_units(body, who.fork, pages, taken, most);
+    match row.last {
+        Last::Shows(shown) => Units {
+            count: row.count,
+            shown,
+        },
+        Last::Calls(number) => Units {
+            count: row.count + 1,
+            shown: called(tree, pages, who, number),
+        },
+    }
+}
