@@ -3,4 +3,5 @@ mod Turns
 mod Found
 mod Running
 mod Closing
+mod Causes
 mod Statuses

@@ -1,9 +1,11 @@
-use Rattle.std.proofs.Common.{ap, arith, refl, rules}
+use Rattle.std.proofs.Common.{ap, arith, refl, sym, ◌∙◌, rules}
 use Rattle.texts.proofs.Starts.{onward_start}
 use Rattle.tenex_console.specs.Headline.{Fronts}
-use Rattle.tenex_console.specs.Observed.{seen}
+use Rattle.texts.specs.declared.last.Status.TheVariants.{WriteFault}
+use Rattle.tenex_console.specs.Observed.{HandedOn, IsCaused, faults, seen}
 use Rattle.tenex_console.specs.Statuses.{Ran}
 use Rattle.tenex_console.proofs.Closing.{closed, cut_short, last_told, moved, opens_booted, unclosed}
+use Rattle.tenex_console.proofs.Causes.{caused_closed, caused_unclosed, handed_closed, handed_unclosed}
 use Rattle.tenex_console.proofs.Statuses.{judged_by}
 use Rattle.tenex_console.proofs.call.run.Goals as goal
 
@@ -48,3 +50,44 @@ pub returns-in-Ok-clause-judged : goal.returns-in-Ok-clause-judged
 returns-in-Ok-clause-judged g c bytes told =
     let ran = c.drive-driven.ensures.drove in
     judged_by (g.S.Source.left c.args.script.now) (g.S.Source.left c.drive-driven.new.script) c.drive-driven.result ran.events ran.found c.status.result c.status.ensures bytes told
+
+pub returns-in-Ok-clause-caused : goal.returns-in-Ok-clause-caused
+returns-in-Ok-clause-caused g c =
+    let w = c.new-writer.result in
+    let v = c.drive-driven.new.taker in
+    let u = c.close.new.writer in
+    let onward = c.close.ensures.onward.each w (c.drive-driven.ensures.onward.each w (onward_start g.T.Sink.fault_count g.R.Sink.fault_count w)) in
+    moved (λ o o' r r'. IsCaused c.status.result (faults g.S.Source.fault_count g.T.Sink.fault_count g.R.Sink.fault_count g.D.Drum.fault_count c.args.script.now c.drive-driven.new.script o o' r r' c.args.drum.now c.drive-driven.new.drum))
+    c.new-writer.ensures.out (search rules) c.new-writer.ensures.rec (search rules)
+    (caused_closed g.S.Source.fault_count g.T.Sink.fault_count g.R.Sink.fault_count g.D.Drum.fault_count c.args.script.now c.drive-driven.new.script c.args.drum.now c.drive-driven.new.drum w v u onward c.drive-driven.ensures.read_later c.drive-driven.ensures.drum.faults_later
+    c.drive-driven.result _ _ c.in-Some.last c.status.result (sym c.last.ensures ∙ c.in-Some.is) c.status.ensures c.drive-driven.ensures.read_cause c.drive-driven.ensures.drum_cause)
+
+pub returns-in-Err-clause-caused : goal.returns-in-Err-clause-caused
+returns-in-Err-clause-caused g c =
+    let w = c.new-writer.result in
+    let v = c.drive-driven.new.taker in
+    let u = c.close.new.writer in
+    let onward = c.close.ensures.onward.each w (c.drive-driven.ensures.onward.each w (onward_start g.T.Sink.fault_count g.R.Sink.fault_count w)) in
+    moved (λ o o' r r'. IsCaused WriteFault (faults g.S.Source.fault_count g.T.Sink.fault_count g.R.Sink.fault_count g.D.Drum.fault_count c.args.script.now c.drive-driven.new.script o o' r r' c.args.drum.now c.drive-driven.new.drum))
+    c.new-writer.ensures.out (search rules) c.new-writer.ensures.rec (search rules)
+    (caused_unclosed g.S.Source.fault_count g.T.Sink.fault_count g.R.Sink.fault_count g.D.Drum.fault_count c.args.script.now c.drive-driven.new.script c.args.drum.now c.drive-driven.new.drum w v u onward c.drive-driven.ensures.read_later c.drive-driven.ensures.drum.faults_later
+    c.new-writer.ensures.faults c.in-Err.ensures.cause)
+
+pub returns-in-Ok-clause-handed : goal.returns-in-Ok-clause-handed
+returns-in-Ok-clause-handed g c =
+    let w = c.new-writer.result in
+    let v = c.drive-driven.new.taker in
+    let u = c.close.new.writer in
+    moved (λ o o' r r'. HandedOn g.T.Sink.handed_on g.R.Sink.handed_on g.T.Sink.fault_count g.R.Sink.fault_count o o' r r' c.status.result)
+    c.new-writer.ensures.out (search rules) c.new-writer.ensures.rec (search rules)
+    (handed_closed g.T.Sink.handed_on g.R.Sink.handed_on g.T.Sink.fault_count g.R.Sink.fault_count w v u c.status.result c.in-Ok.ensures.handed)
+
+pub returns-in-Err-clause-handed : goal.returns-in-Err-clause-handed
+returns-in-Err-clause-handed g c =
+    let w = c.new-writer.result in
+    let v = c.drive-driven.new.taker in
+    let u = c.close.new.writer in
+    let onward = c.drive-driven.ensures.onward.each w (onward_start g.T.Sink.fault_count g.R.Sink.fault_count w) in
+    moved (λ o o' r r'. HandedOn g.T.Sink.handed_on g.R.Sink.handed_on g.T.Sink.fault_count g.R.Sink.fault_count o o' r r' WriteFault)
+    c.new-writer.ensures.out (search rules) c.new-writer.ensures.rec (search rules)
+    (handed_unclosed g.T.Sink.handed_on g.R.Sink.handed_on g.T.Sink.fault_count g.R.Sink.fault_count w v u onward c.close.ensures.tried)
