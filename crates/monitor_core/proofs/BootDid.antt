@@ -11,7 +11,8 @@ use Rattle.plain_model.specs.Outcome.{DrumWords}
 use Rattle.plain_model.specs.declared.fork.Fork.{Fork}
 use Rattle.plain_model.specs.Orders.{fork_cmp}
 use Rattle.plain_model.specs.Pages.{PagesMeaning}
-use Rattle.fork_tree.specs.Trees.{Lives, PlainTree, no_forks}
+use Rattle.fork_tree.specs.Trees.{Lives, no_forks}
+use Rattle.plain_model.specs.Trees.{PlainTree}
 use Rattle.monitor_core.specs.declared.job.Job.{Job}
 use Rattle.monitor_core.specs.declared.system.System.{System}
 use Rattle.monitor_core.specs.Jobs.{map_from, plain_job, no_jobs, job_at, jobs_of}

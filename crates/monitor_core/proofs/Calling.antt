@@ -19,8 +19,10 @@ use Rattle.plain_model.specs.Unit.{advanced}
 use Rattle.plain_model.specs.declared.fork.ForkStatus.TheVariants.{Halted as AHalted}
 use Rattle.plain_model.specs.Pages.{Scene}
 use Rattle.call_turns.specs.Answers.{IsDone, IsTurn, answer_of}
-use Rattle.fork_tree.specs.Changes.{body_in, changed, with_body, with_body_at}
-use Rattle.fork_tree.specs.Trees.{IsTree, PlainTree}
+use Rattle.fork_tree.specs.Changes.{body_in, with_body_at}
+use Rattle.plain_model.specs.Trees.{changed, with_body}
+use Rattle.fork_tree.specs.Trees.{IsTree}
+use Rattle.plain_model.specs.Trees.{PlainTree}
 use Rattle.fork_tree.proofs.Kept.{changed_tree}
 use Rattle.fork_tree.proofs.Slots.{get_put, in_found, in_tells, some_of}
 use Rattle.monitor_core.specs.ForkUnit.{Behind, IsMapCall, answer_post, answered, called_behind, end_post, post_shown, turned_behind}

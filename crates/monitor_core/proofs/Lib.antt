@@ -1,3 +1,4 @@
+pub mod ForkCalling
 mod Making
 mod Looks
 mod Writes

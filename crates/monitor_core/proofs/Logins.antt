@@ -14,8 +14,10 @@ use Rattle.plain_model.specs.Forks.{fork_in, top_fork, first_regs, psi_at_rest}
 use Rattle.plain_model.specs.Pages.{PagesMeaning, same_fork, room_for as frames_for}
 use Rattle.fork_tree.specs.declared.tree.NoFork.{NoFork}
 use Rattle.fork_tree.specs.declared.tree.NoFork.TheVariants.{ForksFull, SerialsOut}
-use Rattle.fork_tree.specs.Making.{free_slot, is_free, next_name, room_for, with_new, with_new_in}
-use Rattle.fork_tree.specs.Trees.{IsTree, PlainTree, next_serial}
+use Rattle.fork_tree.specs.Making.{is_free, next_name, room_for, with_new, with_new_in}
+use Rattle.plain_model.specs.Trees.{free_slot}
+use Rattle.fork_tree.specs.Trees.{IsTree}
+use Rattle.plain_model.specs.Trees.{PlainTree, next_serial}
 use Rattle.fork_tree.proofs.Slots.{get_put, get_put_other, in_none, same_itself}
 use Rattle.monitor_core.specs.declared.job.Job.{Job}
 use Rattle.monitor_core.specs.Jobs.{job_at}

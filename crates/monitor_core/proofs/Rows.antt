@@ -18,7 +18,7 @@ use Rattle.plain_model.specs.Unit.{unit_on}
 use Rattle.plain_model.proofs.OrderLemmas.{fork_cmp_total, fork_cmp_apart}
 use Rattle.plain_model.proofs.Runs.{AreLegal-append, items_of-append, state_after-append}
 use Rattle.ka10_unit.specs.Once.{After, in_a_row}
-use Rattle.fork_tree.specs.Trees.{tree_of}
+use Rattle.plain_model.specs.Trees.{tree_of}
 use Rattle.fork_tree.proofs.Kept.{changed_tree}
 use Rattle.fork_tree.proofs.Slots.{get_put}
 use Rattle.monitor_core.specs.ForkUnit.{Behind, RanUnits, behind, behind_unit, called_behind, ran_on}

@@ -10,8 +10,9 @@ use Rattle.plain_model.specs.declared.names.ForkName.{ForkName}
 use Rattle.plain_model.specs.declared.fork.Fork.{Fork}
 use Rattle.plain_model.specs.Forks.{ForkMap}
 use Rattle.plain_model.specs.Pages.{PagesMeaning}
-use Rattle.fork_tree.specs.Changes.{changed}
-use Rattle.fork_tree.specs.Trees.{IsTree, Lives, PlainTree}
+use Rattle.plain_model.specs.Trees.{changed}
+use Rattle.fork_tree.specs.Trees.{IsTree, Lives}
+use Rattle.plain_model.specs.Trees.{PlainTree}
 use Rattle.fork_tree.proofs.Slots.{cases_name, get_put, get_put_other, held_lives}
 use Rattle.monitor_core.specs.declared.job.Job.{Job}
 use Rattle.monitor_core.specs.Jobs.{job_at}

@@ -6,10 +6,11 @@ use Rattle.plain_model.specs.declared.names.ForkName.{ForkName}
 use Rattle.plain_model.specs.declared.fork.Fork.{Fork}
 use Rattle.plain_model.specs.Forks.{change_fork, with_fork}
 use Rattle.plain_model.specs.State.{PlainState}
-use Rattle.fork_tree.specs.Changes.{changed}
+use Rattle.plain_model.specs.Trees.{changed}
 use Rattle.plain_model.specs.declared.names.TheConstants.{ACCUMULATORS}
 use Rattle.plain_model.specs.Events.{restarted, with_accumulator}
-use Rattle.fork_tree.specs.Trees.{IsTree, Lives, PlainTree}
+use Rattle.fork_tree.specs.Trees.{IsTree, Lives}
+use Rattle.plain_model.specs.Trees.{PlainTree}
 use Rattle.fork_tree.proofs.Slots.{held_lives}
 use Rattle.monitor_core.specs.declared.job.Job.{Job}
 use Rattle.monitor_core.specs.declared.system.System.{System}

@@ -13,7 +13,8 @@ use Rattle.plain_model.specs.declared.event.Step.TheVariants.{Unit as AUnit}
 use Rattle.plain_model.specs.Forks.{is_frozen}
 use Rattle.plain_model.specs.Outcome.{DrumWords}
 use Rattle.plain_model.specs.State.{PlainJob}
-use Rattle.fork_tree.specs.Trees.{IsTree, Lives, PlainTree}
+use Rattle.fork_tree.specs.Trees.{IsTree, Lives}
+use Rattle.plain_model.specs.Trees.{PlainTree}
 use Rattle.monitor_core.specs.declared.job.Job.{Job}
 use Rattle.monitor_core.specs.declared.reply.Reply.TheVariants.{Prints}
 use Rattle.monitor_core.specs.declared.shown.Shown.{Shown}

@@ -30,7 +30,8 @@ use Rattle.plain_model.specs.Steps.{Planned, call, done, need, pages_left, stopp
 use Rattle.plain_model.specs.Unit.{Effect, advanced, called, haltf, in_command_mode, over, pbout, posted_if, printed, stop_text, stopped, turned, unit, unit_ended, unit_on, went}
 use Rattle.plain_model.proofs.Equations.{apply_unit, unit_some}
 use Rattle.plain_model.proofs.RefiledUnits.{left_refiled, refiled_plan}
-use Rattle.fork_tree.specs.Trees.{IsTree, tree_of}
+use Rattle.fork_tree.specs.Trees.{IsTree}
+use Rattle.plain_model.specs.Trees.{tree_of}
 use Rattle.monitor_core.specs.declared.shown.Shown.{Shown}
 use Rattle.monitor_core.specs.declared.shown.Shown.TheVariants.{Nothing, Code, LineEnd, Halted, Forced}
 use Rattle.monitor_core.specs.ForkUnit.{Behind, behind, behind_unit, called_behind, end_post, post_shown, turned_behind}

@@ -6,8 +6,9 @@ use Rattle.plain_model.specs.declared.names.ForkName.{ForkName}
 use Rattle.plain_model.specs.declared.names.TheConstants.{MOST_FORKS}
 use Rattle.plain_model.specs.declared.fork.Fork.{Fork}
 use Rattle.plain_model.specs.Limits.{IsTerminal}
-use Rattle.fork_tree.specs.Changes.{changed}
-use Rattle.fork_tree.specs.Trees.{CanRun, IsIn, IsTree, PlainTree}
+use Rattle.plain_model.specs.Trees.{changed}
+use Rattle.fork_tree.specs.Trees.{CanRun, IsIn, IsTree}
+use Rattle.plain_model.specs.Trees.{PlainTree}
 use Rattle.monitor_core.specs.declared.runner.Runner.{Runner}
 
 -- a fork of trees is in this slot, under this name, and can run

@@ -6,7 +6,8 @@ use Rattle.plain_model.specs.declared.names.TheConstants.{TERMINALS}
 use Rattle.plain_model.specs.declared.names.Tty.{Tty}
 use Rattle.plain_model.specs.declared.fork.Fork.{Fork}
 use Rattle.plain_model.specs.Pages.{PagesMeaning}
-use Rattle.fork_tree.specs.Trees.{Lives, PlainTree}
+use Rattle.fork_tree.specs.Trees.{Lives}
+use Rattle.plain_model.specs.Trees.{PlainTree}
 use Rattle.monitor_core.specs.declared.job.Job.{Job}
 use Rattle.monitor_core.specs.Jobs.{job_at}
 use Rattle.monitor_core.specs.Limits.{IsBody}

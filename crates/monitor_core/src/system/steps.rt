@@ -18,7 +18,7 @@ use plain_model::{Event, Item, Pages, Refusal};
 
 impl<P: Pages> System<P> {
     /// Units of a fork that can run, in a row, at least one and so many at most; and what the last shows at its
-    /// terminal.
+    /// terminal. Where it stops, who waits for a fork of its job runs again.
     #[inline]
     pub fn units(&mut self, who: Runner, most: u32) -> Units
         requires can { IsRunner self.old.tree who }
@@ -29,6 +29,9 @@ impl<P: Pages> System<P> {
         ensures few { result.count ≤ most }
     {
         let units = units_of(&mut self.tree, &mut self.pages, &mut self.taken, who, most);
+        if units.shown.is_stop() {
+            self.tree.wake_waiters(who.fork.tty);
+        }
         Units {
             count: units.count,
             shown: seen(&mut self.jobs, who.fork.tty, who.slot, units.shown),

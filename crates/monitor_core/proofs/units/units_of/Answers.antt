@@ -3,8 +3,9 @@ use Rattle.std.specs.Prelude.{IsSome}
 use Rattle.std.specs.FinMap as map
 use Rattle.plain_model.specs.declared.fork.Fork.{Fork}
 use Rattle.plain_model.proofs.OrderLemmas.{fork_cmp_total, fork_cmp_apart}
-use Rattle.fork_tree.specs.Changes.{body_in, with_body}
-use Rattle.fork_tree.specs.Trees.{PlainTree}
+use Rattle.fork_tree.specs.Changes.{body_in}
+use Rattle.plain_model.specs.Trees.{with_body}
+use Rattle.plain_model.specs.Trees.{PlainTree}
 use Rattle.fork_tree.proofs.Slots.{some_of}
 use Rattle.monitor_core.specs.Limits.{CanUnit, IsBody}
 use Rattle.monitor_core.specs.ForkUnit.{FitsLast, HasRoom, IsRow, Place, Ran, called_behind, fork_of}

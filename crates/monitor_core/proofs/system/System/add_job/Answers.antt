@@ -6,7 +6,7 @@ use Rattle.plain_model.specs.Events.{with_map}
 use Rattle.plain_model.specs.Outcome.{DrumWords}
 use Rattle.plain_model.specs.Pages.{same_fork}
 use Rattle.fork_tree.specs.Making.{next_name}
-use Rattle.fork_tree.specs.Trees.{PlainTree}
+use Rattle.plain_model.specs.Trees.{PlainTree}
 use Rattle.monitor_core.specs.Sound.{AreSound}
 use Rattle.monitor_core.proofs.EventDid.{did_login}
 use Rattle.monitor_core.proofs.Logins.{new_tree, none_first, sound_begun, unused}

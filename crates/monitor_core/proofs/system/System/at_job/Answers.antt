@@ -2,7 +2,7 @@ use Rattle.std.proofs.Common.{Some, set, refl, sym, ◌∙◌, ap, subst, arith}
 use Rattle.std.specs.Prelude.{IsSome}
 use Rattle.plain_model.specs.declared.fork.TerminalMode.TheVariants.{Program}
 use Rattle.plain_model.specs.Events.{restarted}
-use Rattle.fork_tree.specs.Trees.{PlainTree}
+use Rattle.plain_model.specs.Trees.{PlainTree}
 use Rattle.fork_tree.proofs.Slots.{held_lives}
 use Rattle.monitor_core.specs.declared.job.Job.{Job}
 use Rattle.monitor_core.specs.declared.reply.Reply.TheVariants.{One}
