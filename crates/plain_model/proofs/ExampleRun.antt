@@ -1,5 +1,5 @@
 -- The run of the example, entry by entry.
-use Rattle.std.proofs.Common.{◌≡◌, ℕ, ◌+◌, ◌%◌, List, [], ◌∷◌, ◌++◌, Bool, true, false, cond, Option, None, Some, refl, sym, ◌∙◌, ap, subst, inl, arith}
+use Rattle.std.proofs.Common.{◌≡◌, ℕ, ◌+◌, ◌%◌, List, [], ◌∷◌, ◌++◌, Bool, true, false, cond, Option, None, Some, refl, sym, ◌∙◌, ap, subst, inl, inr, arith}
 use Rattle.std.specs.Prelude.{if◌then◌else◌, is_some, replicate, codes, slice_get, slice_set, slice_index}
 use Rattle.std.specs.declared.cmp.Ordering.{Ordering}
 use Rattle.std.specs.Ordering.{nat_cmp, eq_by_cmp, is_eq}
@@ -47,7 +47,10 @@ use Rattle.plain_model.specs.Deeds.{deed_of, taken_of}
 use Rattle.plain_model.specs.Instructions.{instruction, execute, takes, finishes, does}
 use Rattle.plain_model.specs.Run.{apply, items_of, AreLegal, IsLegal, IsLegalStep, Follows, FollowsShape, single, shape_of, auto_after}
 use Rattle.plain_model.specs.Example.{first_terminal, first_fork, movei_word, pbout_word, haltf_word, example_events, example_steps, example_items}
+use Rattle.plain_model.specs.Trees.{unwaited, end_told}
 use Rattle.plain_model.proofs.OrderLemmas.{fork_cmp_total, page_cmp_total}
+use Rattle.plain_model.proofs.ForkMaps.{cases_name, get_put, get_put_other}
+use Rattle.plain_model.proofs.Waiters.{none_told, halts_so}
 
 -- a key that was just set
 get_set : {K V : Type 0} {R : K → K → Ordering} (o : IsTotalOrder R) (m : map.FinMap R V) (k : K) (v : V) → map.get (map.insert m k v) k ≡ Some v
@@ -294,9 +297,31 @@ prints : apply (at pages_5 jobs_2 forks_3) (AUnit first_fork) ≡ record { state
 unfolding run execute address address_within row_of row_among
 prints = applied jobs_2 forks_3 _ (fetches jobs_2 forks_3 regs_1 1 pbout_word (fork_set forks_2 first_fork (fork Run regs_1 1)) refl refl pbout_there ∙ ap (λ c. record { state = at pages_5 jobs_2 forks_4; items = printed first_terminal (shown_code (c % 128)) }) letter_there)
 
+-- the fork that halts is the only one, and waits for none
+the_only : (k : ForkName) (f : Fork) → map.get forks_5 k ≡ Some f → (f.name ≡ k) × (unwaited f ≡ f)
+the_only k f is = elim (cases_name k first_fork) [
+  | inl e ↦ let found : Some (fork Halted regs_3 3) ≡ Some f = sym (get_put forks_4 first_fork k (fork Halted regs_3 3) e) ∙ is in
+      let same : fork Halted regs_3 3 ≡ f = cc found in
+      (ap (λ (g : Fork). g.name) (sym same) ∙ sym e, subst (λ (g : Fork). unwaited g ≡ g) same refl)
+  | inr ne ↦ absurd (let no : None ≡ Some f = sym (nowhere_else k ne) ∙ is in cc no)
+]
+  where
+    nowhere_else : (k : ForkName) → (k ≡ first_fork → ⊥) → map.get forks_5 k ≡ None
+    nowhere_else k ne =
+        get_put_other forks_4 first_fork k (fork Halted regs_3 3) ne ∙ get_put_other forks_3 first_fork k (fork Run regs_2 2) ne ∙ get_put_other forks_2 first_fork k (fork Run regs_1 1) ne
+        ∙ get_put_other forks_1 first_fork k (fork Run regs_0 0) ne ∙ get_put_other map.empty first_fork k (top_fork first_fork) ne ∙ map.get-empty fork_cmp k
+
+nobody_told : end_told forks_5 (fork Halted regs_3 3) ≡ forks_5
+nobody_told = none_told forks_5 (λ k f is. let o = the_only k f is in o.0) (λ k f is. let o = the_only k f is in o.1) (fork Halted regs_3 3) refl
+
 halts : apply (at pages_5 jobs_2 forks_4) (AUnit first_fork) ≡ record { state = at pages_5 jobs_3 forks_5; items = Char first_terminal 13 ∷ Char first_terminal 10 ∷ Char first_terminal 64 ∷ [] }
 unfolding run execute address address_within row_of row_among
-halts = applied jobs_2 forks_4 _ (fetches jobs_2 forks_4 regs_2 2 haltf_word (fork_set forks_3 first_fork (fork Run regs_2 2)) refl refl haltf_there ∙ ap (λ j. record { state = option_map_or (λ j. at pages_5 (map.insert jobs_2 0 (record j { mode = Command })) forks_5) j (at pages_5 jobs_2 forks_5); items = printed first_terminal (stop_text Halted) }) (job_set jobs_1 0 (job Program)))
+halts = applied jobs_2 forks_4 _ (fetches jobs_2 forks_4 regs_2 2 haltf_word there refl refl haltf_there ∙ halts_so (at pages_5 jobs_2 forks_4) (fork Run regs_2 2) there
+    ∙ ap (λ forks. record { state = option_map_or (λ j. at pages_5 (map.insert jobs_2 0 (record j { mode = Command })) forks) (map.get jobs_2 0) (at pages_5 jobs_2 forks); items = printed first_terminal (stop_text Halted) }) nobody_told
+    ∙ ap (λ j. record { state = option_map_or (λ j. at pages_5 (map.insert jobs_2 0 (record j { mode = Command })) forks_5) j (at pages_5 jobs_2 forks_5); items = printed first_terminal (stop_text Halted) }) (job_set jobs_1 0 (job Program)))
+  where
+    there : map.get forks_4 first_fork ≡ Some (fork Run regs_2 2)
+    there = fork_set forks_3 first_fork (fork Run regs_2 2)
 
 -- the entries from each place on
 abbrev rest_9 : List Step

@@ -161,7 +161,7 @@ module _ {K : Type 0} {file_cmp : K → K → Ordering} where
   dropped_uses : (q : PlainPages file_cmp) (n x : PageName) → uses (drop_unnamed q n) x ≡ uses q x
   dropped_uses q n x = ap (λ (r : PlainPages file_cmp). uses r x) (drop_leaves q n) ∙ uses_objects q (drop_unnamed q n).objects x
 
-  drop_all_leaves : (q : PlainPages file_cmp) (ns : List PageName) → Leaves q (drop_all_unnamed q ns)
+  pub drop_all_leaves : (q : PlainPages file_cmp) (ns : List PageName) → Leaves q (drop_all_unnamed q ns)
   drop_all_leaves q [] = refl
   drop_all_leaves q (n ∷ ns) =
       drop_all_leaves (drop_unnamed q n) ns ∙ ap (λ (r : PlainPages file_cmp). record r { objects = (drop_all_unnamed (drop_unnamed q n) ns).objects }) (drop_leaves q n)
@@ -177,7 +177,7 @@ module _ {K : Type 0} {file_cmp : K → K → Ordering} where
       by true = subst (λ k. k ≤ map.len q.objects) (sym (map.len-remove page_cmp_total q.objects n)) (fewer (map.contains_key q.objects n))
       by false = omega arith
 
-  drop_all_len : (q : PlainPages file_cmp) (ns : List PageName) → map.len (drop_all_unnamed q ns).objects ≤ map.len q.objects
+  pub drop_all_len : (q : PlainPages file_cmp) (ns : List PageName) → map.len (drop_all_unnamed q ns).objects ≤ map.len q.objects
   drop_all_len q [] = omega arith
   drop_all_len q (n ∷ ns) = omega (arith, drop_len q n, drop_all_len (drop_unnamed q n) ns)
 

@@ -2,6 +2,8 @@ pub mod Fixed
 pub mod OrderLemmas
 pub mod Runs
 pub mod Lookups
+pub mod Values
+pub mod ForkMaps
 pub mod Named
 pub mod Counts
 pub mod Whole
@@ -14,6 +16,11 @@ pub mod Kept
 pub mod Refiled
 pub mod RefiledUnits
 pub mod Equations
+pub mod PageRuns
+pub mod Turns
+pub mod ForkEnds
+pub mod WholeForks
+pub mod Waiters
 pub mod WholeRuns
 pub mod ExampleTexts
 pub mod ExampleRun
@@ -28,3 +35,10 @@ pub mod Narrowing
 pub mod NarrowedPages
 pub mod InCore
 pub mod MapTurns
+pub mod ForkTurns
+pub mod Killed
+pub mod Marks
+pub mod OtherMaps
+pub mod OtherJobs
+pub mod UnitForks
+pub mod UnitJobs

@@ -5,7 +5,7 @@ use Rattle.std.specs.Prelude.{◌==◌}
 use Rattle.std.specs.Option.{option_map_or, option_and_then}
 use Rattle.std.specs.FinMap as map
 use Rattle.plain_model.specs.declared.call.End.{End}
-use Rattle.plain_model.specs.declared.call.End.TheVariants.{Done, Refused, Trap}
+use Rattle.plain_model.specs.declared.call.End.TheVariants.{Done, Waits, Halts, Refused, Failed, Trap}
 use Rattle.plain_model.specs.declared.call.MapChange.{MapChange}
 use Rattle.plain_model.specs.declared.call.MapChange.TheVariants.{Nothing, Unmap, Follow, Narrow}
 use Rattle.plain_model.specs.declared.names.ForkName.{ForkName}
@@ -17,9 +17,9 @@ use Rattle.plain_model.specs.State.{PlainPages, Maps, refiled}
 use Rattle.plain_model.specs.Orders.{file_page_cmp}
 use Rattle.plain_model.specs.Maps.{entry_at, set_entry, narrow}
 use Rattle.plain_model.specs.Room.{page_in, uses, live}
-use Rattle.plain_model.specs.References.{in_map, page_at, drop_unnamed, with_entry}
+use Rattle.plain_model.specs.References.{drop_unnamed, with_entry}
 use Rattle.plain_model.specs.Whole.{AreWhole}
-use Rattle.plain_model.specs.Calls.{Turn, sees, finds, ends, entry_of, end_of, parts_behind}
+use Rattle.plain_model.specs.Calls.{parts_behind}
 use Rattle.plain_model.specs.MapCalls.{with_changed, map_changed}
 use Rattle.plain_model.proofs.Chains.{keys_set}
 use Rattle.plain_model.proofs.Kept.{old_there, entry_kept, entry_maps, entry_whole, live_entry, narrow_page}
@@ -68,7 +68,10 @@ module _ {K : Type 0} {file_cmp : K → K → Ordering} (p : PlainPages file_cmp
   pub turn_whole : (e : End MapChange) → StaysWhole (parts_behind map_changed p e)
   unfolding parts_behind
   turn_whole (Done what regs) = change_whole what
+  turn_whole (Waits on) = as_it_was
+  turn_whole Halts = as_it_was
   turn_whole (Refused code) = as_it_was
+  turn_whole (Failed code) = as_it_was
   turn_whole (Trap channel) = as_it_was
 
 module _ {K : Type 0} {file_cmp : K → K → Ordering} (p : PlainPages file_cmp) where
@@ -101,17 +104,13 @@ module _ {K : Type 0} {file_cmp : K → K → Ordering} (p : PlainPages file_cmp
   turn_files (Done (Unmap s) regs) = changed_leaves s (λ e. Empty)
   turn_files (Done (Follow s t a) regs) = changed_leaves s (λ e. Follows t.fork.serial t.page a)
   turn_files (Done (Narrow s a) regs) = changed_leaves s (narrow a)
+  turn_files (Waits on) = refl
+  turn_files Halts = refl
   turn_files (Refused code) = refl
+  turn_files (Failed code) = refl
   turn_files (Trap channel) = refl
 
 module _ {K L : Type 0} {file_cmp : K → K → Ordering} (other_cmp : L → L → Ordering) (files : map.FinMap (file_page_cmp other_cmp) PageName) (p : PlainPages file_cmp) where
-  -- a turn ends the same
-  pub end_refiled : {C : Type 0} (t : Turn C) → end_of (refiled other_cmp p files) t ≡ end_of p t
-  unfolding end_of page_at
-  end_refiled (sees s next) = end_refiled (next (entry_of p s))
-  end_refiled (finds s next) = end_refiled (next (page_at p (in_map s)))
-  end_refiled (ends e) = refl
-
   changed_refiled : NameAlike other_cmp p files → (s : Slot) (change : MapEntry → MapEntry) → with_changed (refiled other_cmp p files) s change ≡ refiled other_cmp (with_changed p s change) files
   changed_refiled alike s change = by (entry_at p.maps s)
     where
@@ -119,12 +118,15 @@ module _ {K L : Type 0} {file_cmp : K → K → Ordering} (other_cmp : L → L �
       by None = refl
       by (Some e) = entry_refiled other_cmp files p s (change e) alike
 
-  -- and leaves the same
+  -- a turn leaves the same
   pub turn_refiled : NameAlike other_cmp p files → (e : End MapChange) → parts_behind map_changed (refiled other_cmp p files) e ≡ refiled other_cmp (parts_behind map_changed p e) files
   unfolding parts_behind map_changed
   turn_refiled alike (Done Nothing regs) = refl
   turn_refiled alike (Done (Unmap s) regs) = changed_refiled alike s (λ e. Empty)
   turn_refiled alike (Done (Follow s t a) regs) = changed_refiled alike s (λ e. Follows t.fork.serial t.page a)
   turn_refiled alike (Done (Narrow s a) regs) = changed_refiled alike s (narrow a)
+  turn_refiled alike (Waits on) = refl
+  turn_refiled alike Halts = refl
   turn_refiled alike (Refused code) = refl
+  turn_refiled alike (Failed code) = refl
   turn_refiled alike (Trap channel) = refl

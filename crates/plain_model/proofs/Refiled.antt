@@ -66,7 +66,7 @@ module _ {K L : Type 0} {file_cmp : K → K → Ordering} (other_cmp : L → L �
   unfolding live uses
   live_refiled p files alike = ap (λ k. k + map.len p.maps) (different_same (names (refiled other_cmp p files)) (names p) (λ n. has_count n (names (refiled other_cmp p files)) ∙ ap (nat_lt 0) (uses_refiled p files alike n) ∙ sym (has_count n (names p))))
 
-  room_refiled : (p : PlainPages file_cmp) (files : map.FinMap (file_page_cmp other_cmp) PageName) → NameAlike p files → (owner : Tty) → HasRoom (refiled other_cmp p files) owner ≡ HasRoom p owner
+  pub room_refiled : (p : PlainPages file_cmp) (files : map.FinMap (file_page_cmp other_cmp) PageName) → NameAlike p files → (owner : Tty) → HasRoom (refiled other_cmp p files) owner ≡ HasRoom p owner
   unfolding HasRoom
   room_refiled p files alike owner = ap (λ k. nat_le k p.limit) (live_refiled p files alike)
 

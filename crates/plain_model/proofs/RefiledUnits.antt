@@ -36,7 +36,7 @@ module _ {K L : Type 0} {file_cmp : K → K → Ordering} (other_cmp : L → L �
   refiled_plan (stopped why) = stopped why
   refiled_plan (call number) = call number
 
-  still_alike : (p q : PlainPages file_cmp) → NameAlike other_cmp p files → q.files ≡ p.files → NameAlike other_cmp q files
+  pub still_alike : (p q : PlainPages file_cmp) → NameAlike other_cmp p files → q.files ≡ p.files → NameAlike other_cmp q files
   still_alike p q alike same n = alike n ∙ ap (λ f. sum_by (tally n) (map.values f)) (sym same)
 
   module _ (f : ForkName) where
@@ -93,7 +93,7 @@ module _ {K L : Type 0} {file_cmp : K → K → Ordering} (other_cmp : L → L �
     run_refiled (traps channel) t alike = refl
     run_refiled (calls number) t alike = refl
 
-    stored_refiled : (p : PlainPages file_cmp) (s : Slot) (offset w : ℕ) → stored (rekeyed p) (in_map s) offset w ≡ rekeyed (stored p (in_map s) offset w)
+    pub stored_refiled : (p : PlainPages file_cmp) (s : Slot) (offset w : ℕ) → stored (rekeyed p) (in_map s) offset w ≡ rekeyed (stored p (in_map s) offset w)
     unfolding page_at
     stored_refiled p s offset w = by (page_at p (in_map s))
       where

@@ -1,19 +1,15 @@
 -- The events of a script that are one step of the plain machine.
-use Rattle.std.specs.Prelude.{ℕ, ◌+◌, ◌%◌, List, [], ◌∷◌, map, Bool, false, nat_lt, Option, None, Some, if◌then◌else◌, slice_index, slice_set, replicate, is_some}
-use Rattle.std.specs.List.{range_with_len}
+use Rattle.std.specs.Prelude.{ℕ, ◌+◌, ◌%◌, List, [], ◌∷◌, map, Bool, false, nat_lt, Option, None, Some, if◌then◌else◌, slice_index, slice_set, is_some}
 use Rattle.std.specs.Option.{option_map, option_map_or}
-use Rattle.std.specs.declared.cmp.Ordering.{Ordering}
 use Rattle.std.specs.FinMap as map
 use Rattle.outside.specs.declared.TheConstants.{PAGE_WORDS}
-use Rattle.plain_model.specs.declared.names.TheConstants.{SPACE_PAGES, LAST_SERIAL, ACCUMULATORS}
+use Rattle.plain_model.specs.declared.names.TheConstants.{LAST_SERIAL, ACCUMULATORS}
 use Rattle.plain_model.specs.declared.names.Tty.{Tty}
 use Rattle.plain_model.specs.declared.names.ForkName.{ForkName}
 use Rattle.plain_model.specs.declared.names.Slot.{Slot}
 use Rattle.plain_model.specs.declared.names.Kind.TheVariants.{Write}
 use Rattle.plain_model.specs.declared.character.TheConstants.{PROMPT}
-use Rattle.plain_model.specs.declared.map.MapEntry.TheVariants.{Empty, Follows}
-use Rattle.plain_model.specs.declared.map.NewMap.{NewMap}
-use Rattle.plain_model.specs.declared.map.NewMap.TheVariants.{Empty as EmptyMap, FollowAll}
+use Rattle.plain_model.specs.declared.map.NewMap.TheVariants.{Empty as EmptyMap}
 use Rattle.plain_model.specs.declared.fork.TerminalMode.TheVariants.{Command, Program}
 use Rattle.plain_model.specs.declared.fork.ForkStatus.TheVariants.{Run as Running}
 use Rattle.plain_model.specs.declared.fork.Fork.{Fork}
@@ -22,13 +18,14 @@ use Rattle.plain_model.specs.declared.event.Event.TheVariants.{Login, Poke, Star
 use Rattle.plain_model.specs.declared.event.Item.TheVariants.{Char, ForkLine, Examined, Refusal}
 use Rattle.plain_model.specs.declared.event.Refusal.{Refusal as Cause}
 use Rattle.plain_model.specs.declared.event.Refusal.TheVariants.{Busy, NoJob, SerialsOut, Full, Denied, NoFork, NoPage}
-use Rattle.plain_model.specs.State.{PlainState, PlainPages, PlainJob, Map}
+use Rattle.plain_model.specs.State.{PlainState, PlainJob}
 use Rattle.plain_model.specs.Orders.{name_cmp}
-use Rattle.plain_model.specs.Maps.{full_access}
 use Rattle.plain_model.specs.Room.{HasRoom}
 use Rattle.plain_model.specs.References.{Referred, granted, denied, full, in_map, reference, stored, words_of, page_at, slot_at}
 use Rattle.plain_model.specs.Forks.{top_fork, with_fork, change_fork, with_regs, forks_by_slot, fork_line}
 use Rattle.plain_model.specs.Unit.{Effect}
+unfoldable pub use Rattle.plain_model.specs.NewMaps.{empty_map, following_map}
+pub use Rattle.plain_model.specs.NewMaps.{new_map, with_map}
 
 -- an event that is refused changes nothing, and says why
 abbrev pub refused : PlainState → Cause → Effect
@@ -37,23 +34,6 @@ refused s cause = record { state = s; items = Refusal cause ∷ [] }
 -- an event of a terminal's job; it is refused where the terminal has none
 abbrev pub at_job : PlainState → Tty → (PlainJob → Effect) → Effect
 at_job s t act = option_map_or act (map.get s.jobs t.0) (refused s (NoJob t))
-
--- a map of which each entry is empty
-unfoldable pub empty_map : Map
-empty_map = replicate SPACE_PAGES Empty
-
--- a map of which each entry follows the same entry of a fork, with every right
-unfoldable pub following_map : ForkName → Map
-following_map f = map (λ page. Follows f.serial page full_access) (range_with_len 0 SPACE_PAGES)
-
--- the map of a new fork
-abbrev pub new_map : NewMap → Map
-new_map EmptyMap = empty_map
-new_map (FollowAll f) = following_map f
-
--- the pages with the map of a new fork
-abbrev pub with_map : {K : Type 0} {file_cmp : K → K → Ordering} → PlainPages file_cmp → ForkName → NewMap → PlainPages file_cmp
-with_map p f entries = record p { maps = map.insert p.maps f (new_map entries) }
 
 -- a job of a user whose terminal is in command mode
 abbrev pub new_job : List ℕ → ForkName → PlainJob

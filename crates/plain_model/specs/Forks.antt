@@ -16,6 +16,9 @@ use Rattle.plain_model.specs.declared.event.ForkLine.{ForkLine}
 use Rattle.plain_model.specs.Orders.{fork_cmp}
 use Rattle.plain_model.specs.State.{PlainState}
 
+abbrev pub same_fork : ForkName → ForkName → Bool
+same_fork f g = (f.tty.0 == g.tty.0) && (f.serial == g.serial)
+
 abbrev pub ForkMap : Type 0
 ForkMap = map.FinMap fork_cmp Fork
 

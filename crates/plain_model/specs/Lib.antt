@@ -6,6 +6,9 @@ pub mod Room
 pub mod References
 pub mod Forks
 pub mod Interrupts
+pub mod NewMaps
+pub mod Inferiors
+pub mod Trees
 pub mod Unit
 pub mod Events
 pub mod Run
@@ -28,3 +31,5 @@ pub mod Handles
 pub mod AccessWords
 pub mod Calls
 pub mod MapCalls
+pub mod ForkCalls
+pub mod ForkLaws

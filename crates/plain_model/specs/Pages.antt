@@ -1,5 +1,5 @@
 -- What the calls on pages answer and leave: over the plain pages, and over what is in frames.
-use Rattle.std.specs.Prelude.{◌≡◌, ◌⊎◌, ℕ, ◌+◌, ◌<◌, ◌≤◌, List, [], ◌∷◌, length, Bool, true, false, not, ◌&&◌, nat_lt, nat_le, Option, None, Some, if◌then◌else◌, ◌==◌, slice_index}
+use Rattle.std.specs.Prelude.{◌≡◌, ◌⊎◌, ℕ, ◌+◌, ◌<◌, ◌≤◌, List, [], ◌∷◌, length, Bool, true, false, nat_lt, nat_le, Option, None, Some, if◌then◌else◌, ◌==◌, slice_index}
 use Rattle.std.specs.Option.{option_map, option_or, option_map_or, option_and_then}
 use Rattle.std.specs.declared.cmp.Ordering.{Ordering}
 use Rattle.std.specs.FinMap as map
@@ -33,6 +33,7 @@ use Rattle.plain_model.specs.State.{PlainPages, NumberedPages, page_serial}
 use Rattle.plain_model.specs.Maps.{entry_at, maps_on_way, narrow}
 use Rattle.plain_model.specs.Room.{live, uses}
 use Rattle.plain_model.specs.References.{Spot, in_map, in_file, Making, blank, copy, Referred, granted, denied, full, reference, next_making, words_of, page_at, with_entry}
+pub use Rattle.plain_model.specs.Forks.{same_fork}
 use Rattle.plain_model.specs.Stores.{StoreMeaning, IsSound, away, place}
 
 -- What is in frames: for each fork the home of its map and for each page its home, where that is in no
@@ -189,9 +190,6 @@ abbrev pub is_in_core : Touch → Bool
 is_in_core (Absent home) = false
 is_in_core NeedFrame = false
 is_in_core t = true
-
-abbrev pub same_fork : ForkName → ForkName → Bool
-same_fork f g = (f.tty.0 == g.tty.0) && (f.serial == g.serial)
 
 -- what the map of a new fork may be: it may follow a fork that lives, of the same terminal
 abbrev pub IsNewMap : (ForkName → Bool) → ForkName → NewMap → Type 0

@@ -5,7 +5,7 @@ use Rattle.std.specs.declared.cmp.Ordering.{Ordering}
 use Rattle.std.specs.FinMap as map_of
 use Rattle.plain_model.specs.declared.names.Tty.{Tty}
 use Rattle.plain_model.specs.declared.names.ForkName.{ForkName}
-use Rattle.plain_model.specs.declared.call.TheConstants.{PBOUT, HALTF}
+use Rattle.plain_model.specs.declared.call.TheConstants.{PBOUT}
 use Rattle.plain_model.specs.declared.character.TheConstants.{LINE_END, CARRIAGE_RETURN, LINE_FEED, PROMPT}
 use Rattle.plain_model.specs.declared.fork.TerminalMode.TheVariants.{Command}
 use Rattle.plain_model.specs.declared.fork.ForkStatus.{ForkStatus}
@@ -17,9 +17,13 @@ use Rattle.plain_model.specs.declared.event.Item.TheVariants.{Char}
 use Rattle.plain_model.specs.State.{PlainState, PlainPages, NamedPages}
 use Rattle.plain_model.specs.Steps.{Planned, Ending, done, call, trap, need, stopped as unit_stopped, run, begun, plainly, pages_left}
 use Rattle.plain_model.specs.Instructions.{instruction}
-use Rattle.plain_model.specs.Calls.{Called}
+use Rattle.plain_model.specs.declared.call.End.{End}
+use Rattle.plain_model.specs.declared.call.ForkChange.{ForkChange}
+use Rattle.plain_model.specs.Calls.{Called, fork_behind, is_among}
 use Rattle.plain_model.specs.MapCalls.{map_called}
-use Rattle.plain_model.specs.Forks.{with_fork, with_regs, with_status, counted}
+use Rattle.plain_model.specs.ForkCalls.{fork_calls, fork_called, fork_end}
+use Rattle.plain_model.specs.Forks.{with_fork, with_regs, counted}
+use Rattle.plain_model.specs.Trees.{end_told}
 use Rattle.plain_model.specs.Interrupts.{posted}
 use Rattle.plain_model.specs.Orders.{name_cmp}
 
@@ -50,9 +54,13 @@ stop_text status = []
 abbrev pub in_command_mode : PlainState → Tty → PlainState
 in_command_mode s t = option_map_or (λ j. record s { jobs = map_of.insert s.jobs t.0 (record j { mode = Command }) }) (map_of.get s.jobs t.0) s
 
+-- the forks with one that has stopped with a unit: who waits for it runs again, and its superior is told
+abbrev pub with_stopped : PlainState → Fork → PlainState
+with_stopped s f = let t = with_fork s (counted f) in record t { forks = end_told t.forks (counted f) }
+
 -- a fork has stopped with a unit: where it is a top fork it prints, and its terminal is in command mode
 abbrev pub stopped : PlainState → Fork → Effect
-stopped s f = let t = with_fork s (counted f) in
+stopped s f = let t = with_stopped s f in
     if is_some f.superior then record { state = t; items = [] }
     else record { state = in_command_mode t f.name.tty; items = printed f.name.tty (stop_text f.body.status) }
 
@@ -73,17 +81,23 @@ pbout s f = record {
   items = printed f.name.tty (shown_code (slice_index f.body.regs.ac 1 % 128));
 }
 
--- HALTF (JSYS Manual): the fork is halted, behind the call
-abbrev pub haltf : PlainState → Fork → Effect
-haltf s f = stopped s (with_status (with_regs f (advanced f.body.regs)) Halted)
-
 -- a turn is over of a call that changes parts of the state
 abbrev pub turned : Called → Effect
 turned c = unit_ended c.state c.fork c.fork.body.status
 
+-- the fork that called is behind a turn that ends so
+abbrev pub caller_behind : PlainState → End ForkChange → Fork → Effect
+caller_behind s e f = turned (record { state = s; fork = fork_behind f e })
+
+-- a turn of a fork call; the fork that called is as the turn leaves it
+abbrev pub fork_turned : PlainState → Fork → ℕ → Effect
+fork_turned s f number = let t = fork_called s f number in
+    option_map_or (caller_behind t (fork_end s f number)) (map_of.get t.forks f.name) (record { state = t; items = [] })
+
 -- a turn of a monitor call; a number that is no call traps as an illegal instruction
 abbrev pub called : PlainState → Fork → ℕ → Effect
-called s f number = if number == PBOUT then pbout s f else (if number == HALTF then haltf s f else turned (map_called s f number))
+called s f number =
+    if number == PBOUT then pbout s f else (if is_among fork_calls number then fork_turned s f number else turned (map_called s f number))
 
 -- what a unit comes to, on these pages and registers of a fork
 abbrev pub unit_on : {K : Type 0} {file_cmp : K → K → Ordering} → ForkName → PlainPages file_cmp → Regs → Planned file_cmp ⊥

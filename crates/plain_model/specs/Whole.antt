@@ -1,5 +1,5 @@
 -- What holds of the plain state wherever a run comes.
-use Rattle.std.specs.Prelude.{◌≡◌, ℕ, ◌<◌, ◌≤◌, List, length, true, nat_lt, Some, slice_index}
+use Rattle.std.specs.Prelude.{◌≡◌, ℕ, ◌<◌, ◌≤◌, List, length, true, nat_lt, None, Some, slice_index}
 use Rattle.std.specs.declared.cmp.Ordering.{Ordering}
 use Rattle.std.specs.FinMap as map
 use Rattle.outside.specs.declared.TheConstants.{PAGE_WORDS}
@@ -20,7 +20,7 @@ pub record AreWhole {K : Type 0} {file_cmp : K → K → Ordering} (p : PlainPag
   pub owners : length p.page_serials ≡ TERMINALS
 
 -- besides, they have room; only a file that is there has pages; the forks that live are those with a map, each under its own name, whose
--- serial its terminal's next one is above; and the top fork of a job is in slot 1
+-- serial its terminal's next one is above; and the top fork of a job is in slot 1, and has no superior
 pub record IsWhole (s : PlainState) : Type 0 where
   pub pages : AreWhole s.pages
   pub room : live s.pages ≤ s.pages.limit
@@ -29,4 +29,4 @@ pub record IsWhole (s : PlainState) : Type 0 where
   pub own : (name : ForkName) (f : Fork) → map.get s.forks name ≡ Some f → f.name ≡ name
   pub old : (f : ForkName) → map.contains_key s.forks f ≡ true → f.serial < slice_index s.fork_serials f.tty.0
   pub terminals : length s.fork_serials ≡ TERMINALS
-  pub tops : (t : ℕ) (j : PlainJob) → map.get s.jobs t ≡ Some j → (f : Fork) × (map.get s.forks j.top ≡ Some f) × (f.slot ≡ 1)
+  pub tops : (t : ℕ) (j : PlainJob) → map.get s.jobs t ≡ Some j → (f : Fork) × (map.get s.forks j.top ≡ Some f) × (f.slot ≡ 1) × (f.superior ≡ None)

@@ -1,6 +1,7 @@
 //! Monitor calls (JSYS Manual): their numbers under their names, handles of forks, the codes of errors, and how
 //! a turn of a call ends.
-use crate::{Access, MOST_FORKS, Regs, Slot};
+use crate::{Access, Body, Fork, ForkName, MOST_FORKS, Regs, Slot, WaitOn};
+use word36::Word;
 
 /// Maps a page of one place into another, or takes one out of a map.
 pub const PMAP: u32 = 0o56;
@@ -16,6 +17,36 @@ pub const RMAP: u32 = 0o61;
 
 /// Prints the character in accumulator 1.
 pub const PBOUT: u32 = 0o74;
+
+/// Makes an inferior fork.
+pub const CFORK: u32 = 0o152;
+
+/// Kills an inferior, and all below it.
+pub const KFORK: u32 = 0o153;
+
+/// Freezes an inferior.
+pub const FFORK: u32 = 0o154;
+
+/// Resumes an inferior that is frozen.
+pub const RFORK: u32 = 0o155;
+
+/// Tells how a fork stands.
+pub const RFSTS: u32 = 0o156;
+
+/// Starts an inferior.
+pub const SFORK: u32 = 0o157;
+
+/// Sets the accumulators of an inferior.
+pub const SFACS: u32 = 0o160;
+
+/// Reads the accumulators of an inferior.
+pub const RFACS: u32 = 0o161;
+
+/// Halts an inferior.
+pub const HFORK: u32 = 0o162;
+
+/// Waits for an inferior to end.
+pub const WFORK: u32 = 0o163;
 
 /// Halts the fork.
 pub const HALTF: u32 = 0o170;
@@ -35,6 +66,18 @@ pub const LAST_HANDLE: u32 = FORK_SELF + MOST_FORKS as u32;
 /// The error of a handle that names no fork.
 pub const NO_HANDLE: u32 = 0o600001;
 
+/// The error of a fork that is no inferior, nor the caller where that is allowed.
+pub const NO_INFERIOR: u32 = 0o600002;
+
+/// The error of a job that has thirty forks.
+pub const FORKS_FULL: u32 = 0o600003;
+
+/// The error of a terminal whose serials are used up.
+pub const SERIALS_OUT: u32 = 0o600004;
+
+/// The error of a drum that is full.
+pub const NO_ROOM: u32 = 0o600005;
+
 /// The error of a JFN that isn't held.
 pub const NO_JFN: u32 = 0o600006;
 
@@ -49,8 +92,14 @@ pub const NO_PAGE: u32 = 0o600017;
 pub enum End<C> {
     /// The call's change is made, and its fork has these registers.
     Done(C, Regs),
+    /// The fork waits, and makes the call again when it goes on.
+    Waits(WaitOn),
+    /// The fork halts, behind the call.
+    Halts,
     /// The call, which has one return, is refused with the code of an error.
     Refused(u32),
+    /// The call, which has two returns, is refused: the code of the error is in accumulator 1, and its fork goes on behind the call.
+    Failed(u32),
     /// The unit traps, with a channel.
     Trap(u8),
 }
@@ -65,4 +114,22 @@ pub enum MapChange {
     Follow(Slot, Slot, Access),
     /// The entry of a slot keeps of its access what is given too, and gets the copy mark where that is given.
     Narrow(Slot, Access),
+}
+
+/// What a turn of a fork call changes.
+#[derive(Clone, Copy, Debug, PartialEq, Eq)]
+pub enum ForkChange {
+    Nothing,
+    /// A fork with the next serial of its terminal is made, in a free slot of its job.
+    Make(Fork),
+    /// A fork is killed, and all below it.
+    Kill(ForkName),
+    /// A fork has the freeze mark, or not.
+    Freeze(ForkName, bool),
+    /// A fork has another body.
+    Become(ForkName, Body),
+    /// A fork is halted, whatever its status was.
+    Halt(ForkName),
+    /// Sixteen words are stored in the space of a fork, from an address on.
+    Store(ForkName, u32, [Word; 16]),
 }

@@ -19,5 +19,8 @@ pub const DENIED_WRITE: u8 = 0o21;
 /// Channel 18: a page that may not be executed.
 pub const DENIED_EXECUTE: u8 = 0o22;
 
+/// Channel 19: an inferior halted, or was forced.
+pub const INFERIOR_ENDED: u8 = 0o23;
+
 /// Channel 20: a page had to be made, and the drum was full.
 pub const DRUM_FULL: u8 = 0o24;

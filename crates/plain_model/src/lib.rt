@@ -11,6 +11,7 @@ mod entries;
 mod event;
 mod example;
 mod fork;
+mod fork_laws;
 mod laws;
 mod map;
 mod names;
@@ -25,6 +26,10 @@ pub use entries::{entries_fit, runs_are_whole};
 pub use event::{Event, ForkLine, Item, Refusal, Step, WordRow};
 pub use example::{empty_script, first_script};
 pub use fork::{Answer, Body, Chars, Fork, ForkStatus, Jfn, Mode, Psi, Regs, TerminalMode, WaitOn};
+pub use fork_laws::{
+    frozen_forks_run_when_resumed, killed_forks_take_their_pages, units_leave_other_jobs,
+    waiters_go_on_when_a_fork_has_ended,
+};
 pub use laws::{
     access_is_that_of_all_entries, chains_are_short, copies_are_made_once,
     followers_read_the_followed, narrowing_never_widens, pages_go_with_their_last_name,

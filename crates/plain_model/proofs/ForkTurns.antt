@@ -1,0 +1,172 @@
+-- What the turn of a fork call leaves: the pages of files. It does not depend on what files are known by.
+use Rattle.std.proofs.Common.{◌≡◌, ℕ, zero, suc, ◌%◌, Bool, true, false, cond, List, [], ◌∷◌, Option, None, Some, refl, ◌∙◌, ap, Ordering}
+use Rattle.std.specs.List.{filter_map}
+use Rattle.std.specs.Option.{option_map_or}
+use Rattle.std.specs.FinMap as map
+use Rattle.outside.specs.declared.TheConstants.{PAGE_WORDS}
+use Rattle.plain_model.specs.declared.call.End.{End}
+use Rattle.plain_model.specs.declared.call.End.TheVariants.{Done, Waits, Halts, Refused, Failed, Trap}
+use Rattle.plain_model.specs.declared.call.ForkChange.{ForkChange}
+use Rattle.plain_model.specs.declared.call.ForkChange.TheVariants.{Nothing, Make, Kill, Freeze, Become, Halt, Store}
+use Rattle.plain_model.specs.declared.names.TheConstants.{MOST_FORKS}
+use Rattle.plain_model.specs.declared.names.ForkName.{ForkName}
+use Rattle.plain_model.specs.declared.names.PageName.{PageName}
+use Rattle.plain_model.specs.declared.fork.Fork.{Fork}
+use Rattle.plain_model.specs.State.{PlainPages, refiled}
+use Rattle.plain_model.specs.Orders.{file_page_cmp}
+use Rattle.plain_model.specs.Room.{page_in}
+use Rattle.plain_model.specs.References.{without_fork, stored, in_map, slot_at}
+use Rattle.plain_model.specs.Steps.{Ending, Planned, pages_left, done, stopped, trap, need, call, is_accumulator, begun}
+use Rattle.plain_model.specs.NewMaps.{with_map}
+use Rattle.plain_model.specs.Room.{HasRoom}
+use Rattle.plain_model.specs.Inferiors.{last_below}
+use Rattle.plain_model.specs.Calls.{Turn, sees, finds, takes, adds, ends, entry_of, stepped, steps_on, with_added, next_address, made_by, parts_behind}
+use Rattle.plain_model.specs.References.{page_at}
+use Rattle.plain_model.specs.Trees.{waiters_woken}
+use Rattle.plain_model.specs.ForkCalls.{ForkParts, with_forks, without, without_below, killed, with_halted, stored_from, fork_changed, fork_changed_by}
+use Rattle.plain_model.proofs.Kept.{drop_all_leaves}
+use Rattle.plain_model.proofs.Refiled.{NameAlike, fork_refiled}
+use Rattle.plain_model.proofs.RefiledUnits.{LeavesFiles, left_leaves, run_leaves, still_alike, stored_leaves, stored_refiled}
+use Rattle.plain_model.proofs.Turns.{made_refiled}
+
+module _ {K : Type 0} {file_cmp : K → K → Ordering} where
+  -- the turn makes no page of a file
+  pub made_leaves : {C : Type 0} (t : Turn C) (p : PlainPages file_cmp) → (made_by t p).files ≡ p.files
+  unfolding made_by
+  made_leaves (sees s next) p = made_leaves (next (entry_of p s)) p
+  made_leaves (finds s next) p = made_leaves (next (page_at p (in_map s))) p
+  made_leaves (takes f regs steps next) p = by (λ e q. made_leaves (next e) q) (steps_on f regs steps p) (run_leaves f steps (begun p regs.ac))
+    where
+      by : ((e : Ending) (q : PlainPages file_cmp) → (made_by (next e) q).files ≡ q.files) → (r : Planned file_cmp ⊥) → LeavesFiles p.files r → (stepped f r (λ q e. made_by (next e) q) (λ channel. p)).files ≡ p.files
+      by rest (done t e) leaves = rest e (pages_left f t e) ∙ left_leaves f t e ∙ leaves
+      by rest (stopped (trap channel)) leaves = refl
+      by rest (stopped (need none)) leaves = absurd none
+      by rest (call number) leaves = refl
+  made_leaves (adds f entries next) p = by (λ b q. made_leaves (next b) q) (HasRoom (with_map p f entries) f.tty)
+    where
+      by : ((b : Bool) (q : PlainPages file_cmp) → (made_by (next b) q).files ≡ q.files) → (b : Bool) → (made_by (next b) (with_added p f entries b)).files ≡ p.files
+      by rest true = rest true (with_map p f entries)
+      by rest false = rest false p
+  made_leaves (ends e) p = refl
+
+  fork_leaves : (p : PlainPages file_cmp) (f : ForkName) → (without_fork p f).files ≡ p.files
+  unfolding without_fork
+  fork_leaves p f = ap (λ (q : PlainPages file_cmp). q.files) (drop_all_leaves (record p { maps = map.remove p.maps f }) (option_map_or (filter_map page_in) (map.get p.maps f) []))
+
+  below_leaves : (n : ℕ) (f : ForkName) (v : ForkParts file_cmp) → (without_below n f v).pages.files ≡ v.pages.files
+  unfolding without_below
+  below_leaves zero f v = refl
+  below_leaves (suc n) f v = by (λ u. below_leaves n f u) (last_below v.tree.forks f)
+    where
+      by : ((u : ForkParts file_cmp) → (without_below n f u).pages.files ≡ u.pages.files) → (o : Option Fork) → (option_map_or (λ k. without_below n f (without v k.name)) o v).pages.files ≡ v.pages.files
+      by rest None = refl
+      by rest (Some k) = rest (without v k.name) ∙ fork_leaves v.pages k.name
+
+  stored_from_leaves : (p : PlainPages file_cmp) (f : ForkName) (at : ℕ) (words : List ℕ) → (stored_from p f at words).files ≡ p.files
+  stored_from_leaves p f at [] = refl
+  stored_from_leaves p f at (word ∷ words) = by (λ q. stored_from_leaves q f (next_address at) words) (is_accumulator at)
+    where
+      q : PlainPages file_cmp
+      q = stored p (in_map (slot_at f at)) (at % PAGE_WORDS) word
+
+      by : ((q : PlainPages file_cmp) → (stored_from q f (next_address at) words).files ≡ q.files) → (b : Bool) → (stored_from (cond b p q) f (next_address at) words).files ≡ p.files
+      by rest true = rest p
+      by rest false = rest q ∙ stored_leaves p (slot_at f at) (at % PAGE_WORDS) word
+
+  -- and no change touches one
+  pub changed_leaves : (change : ForkChange) (v : ForkParts file_cmp) → (fork_changed change v).pages.files ≡ v.pages.files
+  unfolding fork_changed
+  changed_leaves Nothing v = refl
+  changed_leaves (Make f) v = refl
+  changed_leaves (Kill f) v = fork_leaves (without_below MOST_FORKS f v).pages f ∙ below_leaves MOST_FORKS f v
+  changed_leaves (Freeze f on) v = refl
+  changed_leaves (Become f body) v = refl
+  changed_leaves (Halt f) v = by (map.get v.tree.forks f)
+    where
+      by : (o : Option Fork) → (option_map_or (with_halted v) o v).pages.files ≡ v.pages.files
+      by None = refl
+      by (Some g) = refl
+  changed_leaves (Store f at words) v = stored_from_leaves v.pages f at words
+
+module _ {K L : Type 0} {file_cmp : K → K → Ordering} (other_cmp : L → L → Ordering) (files : map.FinMap (file_page_cmp other_cmp) PageName) where
+  -- the same parts, with the pages of files under other keys
+  abbrev pub refiled_parts : ForkParts file_cmp → ForkParts other_cmp
+  refiled_parts v = record { tree = v.tree; pages = refiled other_cmp v.pages files }
+
+  abbrev AreAlike : ForkParts file_cmp → Type 0
+  AreAlike v = NameAlike other_cmp v.pages files
+
+  without_refiled : (v : ForkParts file_cmp) (f : ForkName) → AreAlike v → without (refiled_parts v) f ≡ refiled_parts (without v f)
+  without_refiled v f alike = ap (λ (p : PlainPages other_cmp). record { tree = record v.tree { forks = map.remove v.tree.forks f }; pages = p }) (fork_refiled other_cmp files v.pages f alike)
+
+  still : (v : ForkParts file_cmp) (f : ForkName) → AreAlike v → AreAlike (without v f)
+  still v f alike = still_alike other_cmp files v.pages (without_fork v.pages f) alike (fork_leaves v.pages f)
+
+  below_refiled : (n : ℕ) (f : ForkName) (v : ForkParts file_cmp) → AreAlike v → without_below n f (refiled_parts v) ≡ refiled_parts (without_below n f v)
+  unfolding without_below
+  below_refiled zero f v alike = refl
+  below_refiled (suc n) f v alike = by (λ u still. below_refiled n f u still) (last_below v.tree.forks f)
+    where
+      by : ((u : ForkParts file_cmp) → AreAlike u → without_below n f (refiled_parts u) ≡ refiled_parts (without_below n f u)) → (o : Option Fork)
+          → option_map_or (λ k. without_below n f (without (refiled_parts v) k.name)) o (refiled_parts v) ≡ refiled_parts (option_map_or (λ k. without_below n f (without v k.name)) o v)
+      by rest None = refl
+      by rest (Some k) = ap (without_below n f) (without_refiled v k.name alike) ∙ rest (without v k.name) (still v k.name alike)
+
+  killed_refiled : (f : ForkName) (v : ForkParts file_cmp) → AreAlike v → killed (refiled_parts v) f ≡ refiled_parts (killed v f)
+  killed_refiled f v alike =
+      let b = without_below MOST_FORKS f v in
+      ap (λ u. without u f) (below_refiled MOST_FORKS f v alike) ∙ without_refiled b f (still_alike other_cmp files v.pages b.pages alike (below_leaves MOST_FORKS f v))
+
+  stored_from_refiled : (p : PlainPages file_cmp) (f : ForkName) (at : ℕ) (words : List ℕ) → stored_from (refiled other_cmp p files) f at words ≡ refiled other_cmp (stored_from p f at words) files
+  stored_from_refiled p f at [] = refl
+  stored_from_refiled p f at (word ∷ words) = by (λ q. stored_from_refiled q f (next_address at) words) (is_accumulator at)
+    where
+      q : PlainPages file_cmp
+      q = stored p (in_map (slot_at f at)) (at % PAGE_WORDS) word
+
+      r : PlainPages other_cmp
+      r = stored (refiled other_cmp p files) (in_map (slot_at f at)) (at % PAGE_WORDS) word
+
+      by : ((q : PlainPages file_cmp) → stored_from (refiled other_cmp q files) f (next_address at) words ≡ refiled other_cmp (stored_from q f (next_address at) words) files) → (b : Bool)
+          → stored_from (cond b (refiled other_cmp p files) r) f (next_address at) words ≡ refiled other_cmp (stored_from (cond b p q) f (next_address at) words) files
+      by rest true = rest p
+      by rest false = ap (λ x. stored_from x f (next_address at) words) (stored_refiled other_cmp files f p (slot_at f at) (at % PAGE_WORDS) word) ∙ rest q
+
+  -- a change leaves the same
+  pub change_refiled : (change : ForkChange) (v : ForkParts file_cmp) → AreAlike v → fork_changed change (refiled_parts v) ≡ refiled_parts (fork_changed change v)
+  unfolding fork_changed
+  change_refiled Nothing v alike = refl
+  change_refiled (Make f) v alike = refl
+  change_refiled (Kill f) v alike = ap (λ k. with_forks k (waiters_woken k.tree.forks f.tty)) (killed_refiled f v alike)
+  change_refiled (Freeze f on) v alike = refl
+  change_refiled (Become f body) v alike = refl
+  change_refiled (Halt f) v alike = by (map.get v.tree.forks f)
+    where
+      by : (o : Option Fork) → option_map_or (with_halted (refiled_parts v)) o (refiled_parts v) ≡ refiled_parts (option_map_or (with_halted v) o v)
+      by None = refl
+      by (Some g) = refl
+  change_refiled (Store f at words) v alike = ap (λ (p : PlainPages other_cmp). record { tree = v.tree; pages = p }) (stored_from_refiled v.pages f at words)
+
+  -- and so does a turn
+  pub fork_turn_refiled : (t : Turn ForkChange) (e : End ForkChange) (v : ForkParts file_cmp) → AreAlike v
+      → parts_behind (fork_changed_by t) (refiled_parts v) e ≡ refiled_parts (parts_behind (fork_changed_by t) v e)
+  unfolding parts_behind
+  fork_turn_refiled t (Done change regs) v alike =
+      let made = record v { pages = made_by t v.pages } in
+      ap (λ (p : PlainPages other_cmp). fork_changed change (record { tree = v.tree; pages = p })) (made_refiled other_cmp files v.pages t alike)
+      ∙ change_refiled change made (still_alike other_cmp files v.pages made.pages alike (made_leaves t v.pages))
+  fork_turn_refiled t (Waits on) v alike = refl
+  fork_turn_refiled t Halts v alike = refl
+  fork_turn_refiled t (Refused code) v alike = refl
+  fork_turn_refiled t (Failed code) v alike = refl
+  fork_turn_refiled t (Trap channel) v alike = refl
+
+-- the pages of files stay
+pub fork_turn_files : {K : Type 0} {file_cmp : K → K → Ordering} (t : Turn ForkChange) (e : End ForkChange) (v : ForkParts file_cmp) → (parts_behind (fork_changed_by t) v e).pages.files ≡ v.pages.files
+unfolding parts_behind
+fork_turn_files t (Done change regs) v = changed_leaves change (record v { pages = made_by t v.pages }) ∙ made_leaves t v.pages
+fork_turn_files t (Waits on) v = refl
+fork_turn_files t Halts v = refl
+fork_turn_files t (Refused code) v = refl
+fork_turn_files t (Failed code) v = refl
+fork_turn_files t (Trap channel) v = refl

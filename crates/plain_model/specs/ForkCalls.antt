@@ -1,0 +1,283 @@
+-- The fork calls (JSYS Manual): CFORK, KFORK, FFORK, RFORK, RFSTS, SFORK, SFACS, RFACS, HFORK, WFORK, HALTF.
+use Rattle.std.specs.Prelude.{ℕ, zero, suc, ◌+◌, ◌%◌, List, [], ◌∷◌, Bool, true, false, nat_lt, ◌==◌, if◌then◌else◌, None, Result, Ok, Err, replicate, slice_set}
+use Rattle.std.specs.Option.{option_map, option_map_or}
+use Rattle.std.specs.declared.cmp.Ordering.{Ordering}
+use Rattle.std.specs.FinMap as map
+use Rattle.outside.specs.declared.TheConstants.{PAGE_WORDS}
+use Rattle.word36.specs.Words.{right, joined, bit}
+use Rattle.word36.specs.Flags.{no_flags}
+use Rattle.plain_model.specs.declared.call.TheConstants.{CFORK, KFORK, FFORK, RFORK, RFSTS, SFORK, SFACS, RFACS, HFORK, WFORK, HALTF, FORK_SELF, NO_HANDLE, NO_INFERIOR, FORKS_FULL, SERIALS_OUT, NO_ROOM}
+use Rattle.plain_model.specs.declared.call.End.{End}
+use Rattle.plain_model.specs.declared.call.End.TheVariants.{Waits, Halts, Failed}
+use Rattle.plain_model.specs.declared.call.ForkChange.{ForkChange}
+use Rattle.plain_model.specs.declared.call.ForkChange.TheVariants.{Nothing, Make, Kill, Freeze, Become, Halt, Store}
+use Rattle.plain_model.specs.declared.names.TheConstants.{ACCUMULATORS, LAST_SERIAL, MOST_FORKS}
+use Rattle.plain_model.specs.declared.names.ForkName.{ForkName}
+use Rattle.plain_model.specs.declared.names.Kind.TheVariants.{Read, Write}
+use Rattle.plain_model.specs.declared.map.NewMap.{NewMap}
+use Rattle.plain_model.specs.declared.map.NewMap.TheVariants.{Empty as EmptyMap, FollowAll}
+use Rattle.plain_model.specs.declared.fork.Fork.{Fork}
+use Rattle.plain_model.specs.declared.fork.Body.{Body}
+use Rattle.plain_model.specs.declared.fork.Regs.{Regs}
+use Rattle.plain_model.specs.declared.fork.ForkStatus.{ForkStatus}
+use Rattle.plain_model.specs.declared.fork.ForkStatus.TheVariants.{Run, Wait, Halted, Forced}
+use Rattle.plain_model.specs.declared.fork.WaitOn.TheVariants as on
+use Rattle.plain_model.specs.State.{PlainPages, PlainState}
+use Rattle.plain_model.specs.Orders.{name_cmp}
+use Rattle.plain_model.specs.References.{in_map, stored, slot_at, without_fork}
+use Rattle.plain_model.specs.Forks.{ForkMap, first_regs, same_fork, with_status}
+use Rattle.plain_model.specs.Steps.{is_accumulator}
+use Rattle.plain_model.specs.Deeds.{flags_half, in_ac, pc_word}
+use Rattle.plain_model.specs.Handles.{named}
+use Rattle.plain_model.specs.Inferiors.{is_inferior, last_below}
+use Rattle.plain_model.specs.Trees.{PlainTree, tree_of, next_serial, next_name, free_slot, new_fork, with_made, with_changed_of, with_body, with_mark, waiters_woken, end_told}
+use Rattle.plain_model.specs.AccessWords.{bit_word}
+use Rattle.plain_model.specs.Calls.{Turn, adds, ends, with_ac, and_then, returning, returning_second, given, numbered, next_address, with_block, end_of, made_by, Lens, lifted}
+
+-- who calls, with which registers, among which forks
+pub record ForkAsked : Type 0 where
+  pub who : ForkName
+  pub regs : Regs
+  pub tree : PlainTree
+
+-- the fork that the handle in accumulator 1 names
+abbrev pub fork_named : ForkAsked → Result Fork ℕ
+fork_named a = option_map_or Ok (named a.tree.forks a.who (right (in_ac a.regs 1))) (Err NO_HANDLE)
+
+-- a fork where it is an inferior of the caller
+abbrev pub if_inferior : ForkAsked → Fork → Result Fork ℕ
+if_inferior a f = if is_inferior a.tree.forks a.who f.name then Ok f else Err NO_INFERIOR
+
+-- the inferior that accumulator 1 names
+unfoldable pub inferior_named : ForkAsked → Result Fork ℕ
+inferior_named a = and_then (fork_named a) (if_inferior a)
+
+-- the same, where it may be the caller too
+unfoldable pub own_named : ForkAsked → Result Fork ℕ
+own_named a = and_then (fork_named a) (λ f. if same_fork f.name a.who then Ok f else if_inferior a f)
+
+-- the address in accumulator 2
+abbrev pub address_named : Regs → ℕ
+address_named regs = right (in_ac regs 2)
+
+-- bit 0 of accumulator 1 has the new fork's pages follow the caller's
+abbrev pub map_wanted : ForkAsked → NewMap
+map_wanted a = if bit (in_ac a.regs 1) 0 == 1 then FollowAll a.who else EmptyMap
+
+-- bit 4 has it started, at the right half of accumulator 1
+abbrev pub starts : Regs → Bool
+starts regs = bit (in_ac regs 1) 4 == 1
+
+-- the body of a new fork with these accumulators
+abbrev pub made_body : Regs → List ℕ → Body → Body
+made_body regs words body = record body {
+  status = if starts regs then Run else Halted;
+  regs = record first_regs { ac = words; pc = if starts regs then right (in_ac regs 1) else 0 };
+}
+
+-- the new fork, in a slot under the caller
+abbrev pub made_fork : ForkAsked → ℕ → List ℕ → Fork
+made_fork a slot words =
+    let f = new_fork (next_name a.tree a.who.tty) slot (option_map (λ k. k.slot) (map.get a.tree.forks a.who)) in
+    record f { body = made_body a.regs words f.body }
+
+-- it is made, and accumulator 1 becomes its handle
+abbrev pub making : ForkAsked → ℕ → List ℕ → End ForkChange
+making a slot words = returning_second (Make (made_fork a slot words)) (with_ac a.regs 1 (FORK_SELF + slot))
+
+-- bit 3 of accumulator 1 has its accumulators read, with the new fork there; else they are 0
+abbrev pub with_accumulators : ForkAsked → (List ℕ → Turn ForkChange) → Turn ForkChange
+with_accumulators a next =
+    if bit (in_ac a.regs 1) 3 == 1 then with_block a.who a.regs (address_named a.regs) Read next else next (replicate ACCUMULATORS 0)
+
+-- a fork is made in a slot, where a serial is left for it and the drum has room
+abbrev pub making_in : ForkAsked → ℕ → Turn ForkChange
+making_in a slot =
+    if nat_lt LAST_SERIAL (next_serial a.tree a.who.tty) then ends (Failed SERIALS_OUT)
+    else adds (next_name a.tree a.who.tty) (map_wanted a) (λ room.
+    if room then with_accumulators a (λ words. ends (making a slot words)) else ends (Failed NO_ROOM))
+
+-- CFORK: an inferior of the caller is made, in the least free slot
+abbrev pub cfork : ForkAsked → Turn ForkChange
+cfork a = option_map_or (making_in a) (free_slot a.tree.forks a.who.tty) (ends (Failed FORKS_FULL))
+
+-- a call that changes an inferior, and no more
+abbrev pub of_inferior : ForkAsked → (Fork → ForkChange) → Turn ForkChange
+of_inferior a change = given (inferior_named a) (λ f. ends (returning (change f) a.regs))
+
+-- KFORK: an inferior is killed, and all below it
+abbrev pub kfork : ForkAsked → Turn ForkChange
+kfork a = of_inferior a (λ f. Kill f.name)
+
+-- FFORK: an inferior gets the freeze mark
+abbrev pub ffork : ForkAsked → Turn ForkChange
+ffork a = of_inferior a (λ f. Freeze f.name true)
+
+-- RFORK: an inferior loses it
+abbrev pub rfork : ForkAsked → Turn ForkChange
+rfork a = of_inferior a (λ f. Freeze f.name false)
+
+-- the code of a status
+abbrev pub status_code : ForkStatus → ℕ
+status_code Run = 0
+status_code (Wait on.Input) = 1
+status_code Halted = 2
+status_code (Forced channel) = 3
+status_code (Wait on.Fork) = 4
+status_code (Wait (on.Sleep moment)) = 5
+
+-- the channel of a status
+abbrev pub status_channel : ForkStatus → ℕ
+status_channel (Forced channel) = channel
+status_channel status = 0
+
+-- how a fork stands: bit 0 is its own freeze mark, bits 1 to 17 the code, and the right half the channel
+unfoldable pub status_word : Fork → ℕ
+status_word f = bit_word f.frozen 0 + joined (status_code f.body.status) (status_channel f.body.status)
+
+-- the PC word of a fork: its flags, and the address of its next instruction, which is behind the call where it is the caller
+unfoldable pub place_word : ForkAsked → Fork → ℕ
+place_word a f = if same_fork f.name a.who then pc_word a.regs else joined (flags_half f.body.regs.flags) f.body.regs.pc
+
+-- RFSTS: accumulators 1 and 2 become the status and the PC word of the caller or an inferior
+abbrev pub rfsts : ForkAsked → Turn ForkChange
+rfsts a = given (own_named a) (λ f. ends (returning Nothing (with_ac (with_ac a.regs 1 (status_word f)) 2 (place_word a f))))
+
+-- a fork that is started at an address: it has no flags, and no pending channel, level or sleep
+abbrev pub started_at : ℕ → Body → Body
+started_at address body = record body {
+  status = Run;
+  regs = record body.regs { pc = address; flags = no_flags };
+  psi = record body.psi { pending = 0; levels = 0 };
+  sleep = None;
+}
+
+-- SFORK: an inferior is started at the address in accumulator 2
+abbrev pub sfork : ForkAsked → Turn ForkChange
+sfork a = of_inferior a (λ f. Become f.name (started_at (address_named a.regs) f.body))
+
+abbrev pub with_accumulators_of : Body → List ℕ → Body
+with_accumulators_of body words = record body { regs = record body.regs { ac = words } }
+
+-- SFACS: an inferior's accumulators become the sixteen words that accumulator 2 names
+abbrev pub sfacs : ForkAsked → Turn ForkChange
+sfacs a = given (inferior_named a) (λ f. with_block a.who a.regs (address_named a.regs) Read (λ words.
+    ends (returning (Become f.name (with_accumulators_of f.body words)) a.regs)))
+
+-- accumulators with these words stored from an address on; only low addresses are accumulators
+abbrev pub stored_low : List ℕ → ℕ → List ℕ → List ℕ
+stored_low ac a [] = ac
+stored_low ac a (w ∷ ws) = stored_low (if is_accumulator a then slice_set ac a w else ac) (next_address a) ws
+
+-- RFACS: an inferior's accumulators are stored at the sixteen words that accumulator 2 names
+abbrev pub rfacs : ForkAsked → Turn ForkChange
+rfacs a = given (inferior_named a) (λ f. let at = address_named a.regs in let words = f.body.regs.ac in
+    with_block a.who a.regs at Write (λ old. ends (returning (Store a.who at words) (record a.regs { ac = stored_low a.regs.ac at words }))))
+
+-- HFORK: an inferior is halted
+abbrev pub hfork : ForkAsked → Turn ForkChange
+hfork a = of_inferior a (λ f. Halt f.name)
+
+-- a fork has ended where it is halted or was forced
+abbrev pub has_ended : ForkStatus → Bool
+has_ended Halted = true
+has_ended (Forced channel) = true
+has_ended status = false
+
+-- who waits for a fork goes on where that has ended
+abbrev pub waits_for : Regs → ForkStatus → End ForkChange
+waits_for regs status = if has_ended status then returning Nothing regs else Waits on.Fork
+
+-- WFORK: the caller waits until an inferior is halted or forced
+abbrev pub wfork : ForkAsked → Turn ForkChange
+wfork a = given (inferior_named a) (λ f. ends (waits_for a.regs f.body.status))
+
+-- HALTF: the caller halts
+abbrev pub haltf : ForkAsked → Turn ForkChange
+haltf a = ends Halts
+
+-- the fork calls by their numbers
+abbrev pub fork_calls : List (ℕ × (ForkAsked → Turn ForkChange))
+fork_calls =
+    (CFORK, cfork)
+    ∷ (KFORK, kfork)
+    ∷ (FFORK, ffork)
+    ∷ (RFORK, rfork)
+    ∷ (RFSTS, rfsts)
+    ∷ (SFORK, sfork)
+    ∷ (SFACS, sfacs)
+    ∷ (RFACS, rfacs)
+    ∷ (HFORK, hfork)
+    ∷ (WFORK, wfork)
+    ∷ (HALTF, haltf)
+    ∷ []
+
+-- a turn of a fork call by its number
+abbrev pub fork_call : ℕ → ForkAsked → Turn ForkChange
+fork_call number a = numbered fork_calls number a
+
+-- the forks and the pages: what the fork calls change
+pub record ForkParts {K : Type 0} (file_cmp : K → K → Ordering) : Type 0 where
+  pub tree : PlainTree
+  pub pages : PlainPages file_cmp
+
+module _ {K : Type 0} {file_cmp : K → K → Ordering} where
+  -- without a fork and its map; a page that loses its last name is dropped
+  abbrev pub without : ForkParts file_cmp → ForkName → ForkParts file_cmp
+  without v f = record { tree = record v.tree { forks = map.remove v.tree.forks f }; pages = without_fork v.pages f }
+
+  -- without a fork's inferiors, so many of them at most: each time the last goes that has none itself
+  unfoldable pub without_below : ℕ → ForkName → ForkParts file_cmp → ForkParts file_cmp
+  without_below zero f v = v
+  without_below (suc n) f v = option_map_or (λ k. without_below n f (without v k.name)) (last_below v.tree.forks f) v
+
+  -- without a fork and all below it
+  abbrev pub killed : ForkParts file_cmp → ForkName → ForkParts file_cmp
+  killed v f = without (without_below MOST_FORKS f v) f
+
+  -- with other forks
+  abbrev pub with_forks : ForkParts file_cmp → ForkMap → ForkParts file_cmp
+  with_forks v forks = record v { tree = record v.tree { forks = forks } }
+
+  -- with a fork halted; its job and its superior are told
+  abbrev pub with_halted : ForkParts file_cmp → Fork → ForkParts file_cmp
+  with_halted v f = let g = with_status f Halted in with_forks v (end_told (map.insert v.tree.forks g.name g) g)
+
+  -- words stored in the space of a fork, from an address on
+  abbrev pub stored_from : PlainPages file_cmp → ForkName → ℕ → List ℕ → PlainPages file_cmp
+  stored_from p f a [] = p
+  stored_from p f a (w ∷ ws) =
+      stored_from (if is_accumulator a then p else stored p (in_map (slot_at f a)) (a % PAGE_WORDS) w) f (next_address a) ws
+
+  -- what a change of a fork call leaves
+  unfoldable pub fork_changed : ForkChange → ForkParts file_cmp → ForkParts file_cmp
+  fork_changed Nothing v = v
+  fork_changed (Make f) v = record v { tree = with_made v.tree f }
+  fork_changed (Kill f) v = let k = killed v f in with_forks k (waiters_woken k.tree.forks f.tty)
+  fork_changed (Freeze f on) v = record v { tree = with_changed_of v.tree f (with_mark on) }
+  fork_changed (Become f body) v = record v { tree = with_changed_of v.tree f (with_body body) }
+  fork_changed (Halt f) v = option_map_or (with_halted v) (map.get v.tree.forks f) v
+  fork_changed (Store f at words) v = record v { pages = stored_from v.pages f at words }
+
+  -- the same, with the pages that the turn has made
+  abbrev pub fork_changed_by : Turn ForkChange → ForkChange → ForkParts file_cmp → ForkParts file_cmp
+  fork_changed_by turn change v = fork_changed change (record v { pages = made_by turn v.pages })
+
+-- the parts of a state that fork calls change
+abbrev pub forks_seen : Lens (ForkParts name_cmp)
+forks_seen = record {
+  seen = λ s. record { tree = tree_of s; pages = s.pages };
+  with_seen = λ s v. record s { forks = v.tree.forks; fork_serials = v.tree.serials; pages = v.pages };
+}
+
+-- the turn of a fork call, over a state
+abbrev pub fork_turn : PlainState → Fork → ℕ → Turn ForkChange
+fork_turn s f number = fork_call number (record { who = f.name; regs = f.body.regs; tree = tree_of s })
+
+-- how it ends
+abbrev pub fork_end : PlainState → Fork → ℕ → End ForkChange
+fork_end s f number = end_of s.pages (fork_turn s f number)
+
+-- the state behind it, but for the fork that called
+abbrev pub fork_called : PlainState → Fork → ℕ → PlainState
+fork_called s f number = (lifted forks_seen (fork_changed_by (fork_turn s f number)) s f (fork_end s f number)).state

@@ -1,0 +1,89 @@
+-- The forks of all jobs with their serials: how a fork is made, is changed, and stops (CACM paper, "Forks").
+use Rattle.std.specs.Prelude.{ℕ, ◌+◌, List, [], ◌∷◌, Bool, Option, find, is_none, slice_index, slice_set}
+use Rattle.std.specs.List.{range_with_len}
+use Rattle.std.specs.Option.{option_map_or}
+use Rattle.std.specs.FinMap as map
+use Rattle.plain_model.specs.declared.channel.TheConstants.{INFERIOR_ENDED}
+use Rattle.plain_model.specs.declared.names.Tty.{Tty}
+use Rattle.plain_model.specs.declared.names.ForkName.{ForkName}
+use Rattle.plain_model.specs.declared.names.TheConstants.{MOST_FORKS}
+use Rattle.plain_model.specs.declared.fork.Fork.{Fork}
+use Rattle.plain_model.specs.declared.fork.Body.{Body}
+use Rattle.plain_model.specs.declared.fork.ForkStatus.{ForkStatus}
+use Rattle.plain_model.specs.declared.fork.ForkStatus.TheVariants.{Run, Wait}
+use Rattle.plain_model.specs.declared.fork.WaitOn.TheVariants as on
+use Rattle.plain_model.specs.State.{PlainState}
+use Rattle.plain_model.specs.Forks.{ForkMap, fork_in, superior_of, top_fork, with_status}
+use Rattle.plain_model.specs.Interrupts.{posted}
+
+-- the forks by name, and the next fork serial of each terminal
+pub record PlainTree : Type 0 where
+  pub forks : ForkMap
+  pub serials : List ℕ
+
+-- those of the plain state
+abbrev pub tree_of : PlainState → PlainTree
+tree_of s = record { forks = s.forks; serials = s.fork_serials }
+
+-- the next fork serial of a terminal
+abbrev pub next_serial : PlainTree → Tty → ℕ
+next_serial tree t = slice_index tree.serials t.0
+
+-- the name of the fork that is made next
+abbrev pub next_name : PlainTree → Tty → ForkName
+next_name tree t = record { tty = t; serial = next_serial tree t }
+
+-- whether no fork of a job is in a slot
+abbrev pub is_free : ForkMap → Tty → ℕ → Bool
+is_free forks t slot = is_none (fork_in forks t slot)
+
+-- the least slot of a job in which no fork is
+unfoldable pub free_slot : ForkMap → Tty → Option ℕ
+free_slot forks t = find (is_free forks t) (range_with_len 1 MOST_FORKS)
+
+-- a new fork: it is halted at address 0, with nothing in its accumulators, under a superior or as a top fork
+abbrev pub new_fork : ForkName → ℕ → Option ℕ → Fork
+new_fork name slot superior = record (top_fork name) { slot = slot; superior = superior }
+
+-- a fork that is made lives, and its terminal's next serial is behind its own
+abbrev pub with_made : PlainTree → Fork → PlainTree
+with_made tree f = record { forks = map.insert tree.forks f.name f; serials = slice_set tree.serials f.name.tty.0 (f.name.serial + 1) }
+
+-- a fork changed, where there is one
+abbrev pub changed : ForkMap → (Fork → Fork) → Option Fork → ForkMap
+changed forks change f = option_map_or (λ k. map.insert forks k.name (change k)) f forks
+
+abbrev pub with_body : Body → Fork → Fork
+with_body body f = record f { body = body }
+
+abbrev pub with_mark : Bool → Fork → Fork
+with_mark on f = record f { frozen = on }
+
+-- the fork of a name changed; nothing changes where none lives
+abbrev pub with_changed_of : PlainTree → ForkName → (Fork → Fork) → PlainTree
+with_changed_of tree name change = record tree { forks = changed tree.forks change (map.get tree.forks name) }
+
+-- who waits for a fork runs again
+abbrev pub without_wait : ForkStatus → ForkStatus
+without_wait (Wait on.Fork) = Run
+without_wait status = status
+
+abbrev pub unwaited : Fork → Fork
+unwaited f = with_status f (without_wait f.body.status)
+
+-- of these slots of a job, in order, who waits for a fork runs again
+abbrev pub woken_in : ForkMap → Tty → List ℕ → ForkMap
+woken_in forks t [] = forks
+woken_in forks t (slot ∷ slots) = woken_in (changed forks unwaited (fork_in forks t slot)) t slots
+
+-- a fork of a job has ended: who waits for a fork of that job runs again
+unfoldable pub waiters_woken : ForkMap → Tty → ForkMap
+waiters_woken forks t = woken_in forks t (range_with_len 1 MOST_FORKS)
+
+-- a channel posted to a fork, where there is one
+abbrev pub with_posted : ForkMap → ℕ → Option Fork → ForkMap
+with_posted forks channel f = changed forks (λ k. posted k channel) f
+
+-- a fork has halted or was forced: who waits for a fork of its job runs again, and then its superior is told by a channel
+abbrev pub end_told : ForkMap → Fork → ForkMap
+end_told forks f = let woken = waiters_woken forks f.name.tty in with_posted woken INFERIOR_ENDED (superior_of woken f)
