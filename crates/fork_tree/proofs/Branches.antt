@@ -1,20 +1,21 @@
 -- A branch of a tree, killed from below.
-use Rattle.std.proofs.Common.{◌≡◌, ◌≢◌, ℕ, zero, suc, Bool, true, false, cond, ◌||◌, Option, None, Some, refl, sym, ◌∙◌, ap, subst, ◌⊎◌, inl, inr}
+use Rattle.std.proofs.Common.{◌≡◌, ℕ, zero, suc, Bool, true, false, cond, ◌||◌, Option, None, Some, refl, sym, ◌∙◌, ap, ◌⊎◌, inl, inr}
 use Rattle.std.specs.Prelude.{MatchBool, not}
-use Rattle.std.specs.Option.{option_and_then, option_map_or}
+use Rattle.std.specs.Option.{option_and_then}
 use Rattle.std.specs.FinMap as map
 use Rattle.std.proofs.lemmas.Bool.{cases_Bool}
-use Rattle.plain_model.specs.Orders.{fork_cmp}
 use Rattle.plain_model.specs.Forks.{ForkMap, fork_in, superior_of}
 use Rattle.plain_model.specs.Pages.{same_fork}
 use Rattle.plain_model.proofs.OrderLemmas.{fork_cmp_apart}
 use Rattle.plain_model.specs.declared.names.ForkName.{ForkName}
 use Rattle.plain_model.specs.declared.names.TheConstants.{MOST_FORKS}
 use Rattle.plain_model.specs.declared.fork.Fork.{Fork}
-use Rattle.fork_tree.specs.Inferiors.{HasNoInferior, is_inferior, is_within, without_branch}
-use Rattle.fork_tree.specs.Trees.{IsTree, Lives, PlainTree, any_upward}
+use Rattle.plain_model.specs.Inferiors.{is_inferior, without_branch, any_upward}
+use Rattle.fork_tree.specs.Inferiors.{HasNoInferior}
+use Rattle.plain_model.specs.Trees.{PlainTree}
+use Rattle.fork_tree.specs.Trees.{IsTree, Lives}
 use Rattle.fork_tree.proofs.Kept.{IsNobodysSuperior, killed_tree}
-use Rattle.fork_tree.proofs.Leaves.{inferior_is, inferior_none, superior_slot}
+use Rattle.fork_tree.proofs.Leaves.{inferior_is, inferior_none}
 use Rattle.fork_tree.proofs.Slots.{cases_name, get_gone, get_gone_other, held_lives, in_found, names_same, same_forks, same_itself}
 use Rattle.fork_tree.proofs.Upward.{or_true, superior_in, superior_lives}
 
@@ -88,7 +89,7 @@ module _ (tree : PlainTree) (is : IsTree tree) (leaf : Fork) (lives : Lives tree
         by rest (Some g) e =
             ap (any_upward p (suc n) fewer.forks) (superior_stays f g there e).1 ∙ ap (λ b. p g || b) (rest g (superior_lives tree is f g there e).0)
 
-  inferior_stays : (who q : ForkName) → (q ≡ leaf.name → ⊥) → is_inferior fewer.forks who q ≡ is_inferior tree.forks who q
+  pub inferior_stays : (who q : ForkName) → (q ≡ leaf.name → ⊥) → is_inferior fewer.forks who q ≡ is_inferior tree.forks who q
   inferior_stays who q ne = by (map.get tree.forks q) refl
     where
       same : map.get fewer.forks q ≡ map.get tree.forks q

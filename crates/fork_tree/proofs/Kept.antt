@@ -1,8 +1,8 @@
 -- What a change leaves of what holds of a tree.
-use Rattle.std.proofs.Common.{◌≡◌, ◌≢◌, ◌↔◌, ℕ, zero, suc, ◌+◌, ◌<◌, ◌≤◌, Bool, true, false, cond, List, length, get_or, set, Option, None, Some, Ok, Err, refl, sym, ◌∙◌, ap, subst, arith, ◌⊎◌, inl, inr, get_or-set_same, get_or-set_other, length-set}
-use Rattle.std.specs.Prelude.{IsSome, MatchOption, if◌then◌else◌, is_none, nat_lt, slice_index, replicate}
+use Rattle.std.proofs.Common.{◌≡◌, ◌≢◌, ◌↔◌, ℕ, zero, suc, ◌+◌, ◌<◌, ◌≤◌, true, false, List, length, get_or, set, Option, None, Some, Ok, Err, refl, sym, ◌∙◌, ap, subst, arith, ◌⊎◌, inl, inr, get_or-set_same, get_or-set_other, length-set}
+use Rattle.std.specs.Prelude.{IsSome, MatchOption, if◌then◌else◌, is_none, nat_lt, slice_index}
 use Rattle.std.specs.Option.{option_and_then}
-use Rattle.std.proofs.lemmas.Bool.{cases_eq, cases_lt, cases_Bool}
+use Rattle.std.proofs.lemmas.Bool.{cases_eq, cases_lt}
 use Rattle.std.proofs.lemmas.List.{get_or-replicate, length-replicate}
 use Rattle.std.specs.FinMap as map
 use Rattle.plain_model.specs.Orders.{fork_cmp}
@@ -13,12 +13,12 @@ use Rattle.plain_model.specs.declared.names.Tty.{Tty}
 use Rattle.plain_model.specs.declared.names.ForkName.{ForkName}
 use Rattle.plain_model.specs.declared.names.TheConstants.{TERMINALS, MOST_FORKS, LAST_SERIAL}
 use Rattle.plain_model.specs.declared.fork.Fork.{Fork}
-use Rattle.fork_tree.specs.Changes.{changed}
+use Rattle.plain_model.specs.Trees.{changed, free_slot, is_free, new_fork, next_name, PlainTree, next_serial}
 use Rattle.fork_tree.specs.declared.tree.NoFork.TheVariants.{ForksFull, SerialsOut}
-use Rattle.fork_tree.specs.Making.{free_slot, is_free, new_fork, next_name, room_for}
-use Rattle.fork_tree.specs.Trees.{AreSlotted, IsIn, IsTree, Lives, PlainTree, next_serial, no_forks}
+use Rattle.fork_tree.specs.Making.{room_for}
+use Rattle.fork_tree.specs.Trees.{AreSlotted, IsIn, IsTree, Lives, no_forks}
 use Rattle.fork_tree.proofs.Ranges.{first_tells}
-use Rattle.fork_tree.proofs.Slots.{cases_name, get_gone, get_gone_other, get_put, get_put_other, in_found, in_none, in_tells, some_of}
+use Rattle.fork_tree.proofs.Slots.{cases_name, get_gone, get_gone_other, get_put, get_put_other, in_found, in_tells, some_of}
 
 -- no fork lives
 nobody : (name : ForkName) (f : Fork) → map.get (map.empty {X = Fork} {R = fork_cmp}) name ≡ Some f → ⊥

@@ -1,5 +1,5 @@
 -- Inferiors, and forks without any.
-use Rattle.std.proofs.Common.{◌≡◌, ℕ, zero, suc, ◌+◌, ◌-◌, ◌<◌, ◌≤◌, Bool, true, false, ◌||◌, get_or, Option, None, Some, refl, sym, ◌∙◌, ap, subst, arith, ◌⊎◌, inl, inr}
+use Rattle.std.proofs.Common.{◌≡◌, ℕ, zero, suc, ◌+◌, ◌≤◌, Bool, true, false, ◌||◌, get_or, Option, None, Some, refl, sym, ◌∙◌, ap, arith, inl, inr}
 use Rattle.std.specs.Prelude.{nat_eq}
 use Rattle.std.specs.List.{find, range_with_len}
 use Rattle.std.specs.Option.{option_and_then, option_eq, option_map_or}
@@ -10,8 +10,10 @@ use Rattle.plain_model.specs.Pages.{same_fork}
 use Rattle.plain_model.specs.declared.names.ForkName.{ForkName}
 use Rattle.plain_model.specs.declared.names.TheConstants.{MOST_FORKS}
 use Rattle.plain_model.specs.declared.fork.Fork.{Fork}
-use Rattle.fork_tree.specs.Inferiors.{HasNoInferior, IsLeafBelow, is_inferior, is_within}
-use Rattle.fork_tree.specs.Trees.{IsTree, Lives, PlainTree, above, next_serial}
+use Rattle.plain_model.specs.Inferiors.{is_inferior, is_under, is_within}
+use Rattle.fork_tree.specs.Inferiors.{HasNoInferior, IsLeafBelow}
+use Rattle.plain_model.specs.Trees.{PlainTree, next_serial}
+use Rattle.fork_tree.specs.Trees.{IsTree, Lives, above}
 use Rattle.fork_tree.proofs.Kept.{IsNobodysSuperior}
 use Rattle.fork_tree.proofs.Ranges.{first_tells, none_tells}
 use Rattle.fork_tree.proofs.Slots.{held_lives, in_found, in_tells, names_same, same_itself}
@@ -105,21 +107,20 @@ module _ (tree : PlainTree) (is : IsTree tree) where
       absurd (cc (below, fails))
 
   -- whether the fork in a slot of a fork's job has that fork as its superior
-  under_in : Fork → ℕ → Bool
-  under_in f slot = option_map_or (λ g. option_eq nat_eq g.superior (Some f.slot)) (fork_in tree.forks f.name.tty slot) false
+  abbrev under_in : Fork → ℕ → Bool
+  under_in f slot = is_under tree.forks f slot
 
   under_is : (f : Fork) (slot : ℕ) (o : Option Fork) → fork_in tree.forks f.name.tty slot ≡ o → under_in f slot ≡ option_map_or (λ g. option_eq nat_eq g.superior (Some f.slot)) o false
-  unfolding under_in
   under_is f slot o e = ap (λ x. option_map_or (λ (g : Fork). option_eq nat_eq g.superior (Some f.slot)) x false) e
 
-  under_none : (f : Fork) → Lives tree.forks f → find (under_in f) (range_with_len 1 MOST_FORKS) ≡ None → IsNobodysSuperior tree.forks f
+  pub under_none : (f : Fork) → Lives tree.forks f → find (under_in f) (range_with_len 1 MOST_FORKS) ≡ None → IsNobodysSuperior tree.forks f
   under_none f lives none = λ g there over.
       let s = superior_slot tree is f g lives over in
       let fails = none_tells (under_in f) 1 MOST_FORKS none g.slot (is.slotted.first g there) (omega (arith, is.slotted.last g there)) in
       let passes : under_in f g.slot ≡ true = under_is f g.slot (Some g) (in_found tree.forks is.slotted f.name.tty g.slot g (there, s.0, refl)) ∙ number_alike g.superior f.slot s.1 in
       absurd (cc (fails, passes))
 
-  under_some : (f : Fork) (slot : ℕ) → Lives tree.forks f → under_in f slot ≡ true → (g : Fork) × Lives tree.forks g × (superior_of tree.forks g ≡ Some f)
+  pub under_some : (f : Fork) (slot : ℕ) → Lives tree.forks f → under_in f slot ≡ true → (g : Fork) × Lives tree.forks g × (superior_of tree.forks g ≡ Some f)
   under_some f slot lives passes = by (fork_in tree.forks f.name.tty slot) refl
     where
       by : (o : Option Fork) → fork_in tree.forks f.name.tty slot ≡ o → (g : Fork) × Lives tree.forks g × (superior_of tree.forks g ≡ Some f)

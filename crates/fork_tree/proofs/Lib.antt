@@ -1,4 +1,3 @@
-pub mod Values
 pub mod Ranges
 pub mod Slots
 pub mod Tables
@@ -9,3 +8,6 @@ pub mod Leaves
 pub mod Rounds
 pub mod Listed
 pub mod Branches
+pub mod Killing
+pub mod Waking
+pub mod Named

@@ -1,5 +1,5 @@
 -- What a look finds, number by number, as a list.
-use Rattle.std.proofs.Common.{◌≡◌, ℕ, zero, suc, ◌+◌, ◌<◌, ◌≤◌, List, [], ◌∷◌, length, Bool, true, false, Option, None, Some, refl, sym, ◌∙◌, ap, subst, arith, ◌⊎◌, inl, inr}
+use Rattle.std.proofs.Common.{◌≡◌, ℕ, zero, suc, ◌+◌, ◌<◌, ◌≤◌, List, length, false, Option, None, Some, refl, sym, ◌∙◌, ap, subst, arith, ◌⊎◌, inl, inr}
 use Rattle.std.specs.Prelude.{Contains, is_none}
 use Rattle.std.specs.List.{cons_option, filter_map, range_with_len}
 use Rattle.std.proofs.lemmas.Bool.{cases_lt}

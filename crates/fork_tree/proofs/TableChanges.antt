@@ -10,10 +10,10 @@ use Rattle.plain_model.specs.Limits.{IsForkName}
 use Rattle.plain_model.specs.declared.names.ForkName.{ForkName}
 use Rattle.plain_model.specs.declared.names.TheConstants.{TERMINALS, MOST_FORKS, LAST_SERIAL}
 use Rattle.plain_model.specs.declared.fork.Fork.{Fork}
-use Rattle.fork_tree.specs.Changes.{changed}
+use Rattle.plain_model.specs.Trees.{changed}
 use Rattle.fork_tree.specs.Places.{IsTable, StandsAt, forks_of, name_index, place_in}
 use Rattle.fork_tree.proofs.Slots.{cases_name, get_gone, get_gone_other, get_put, get_put_other, name_numbers, same_forks}
-use Rattle.fork_tree.proofs.Tables.{found, found_at, got, once, one_fork}
+use Rattle.fork_tree.proofs.Tables.{found_at, got, once, one_fork}
 
 -- two look-ups that find the same are one
 agree : (a b : Option Fork) → ((v : Fork) → a ≡ Some v → b ≡ Some v) → ((v : Fork) → b ≡ Some v → a ≡ Some v) → a ≡ b

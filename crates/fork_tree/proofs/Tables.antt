@@ -1,18 +1,15 @@
 -- A table of forks and its map.
-use Rattle.std.proofs.Common.{◌≡◌, ℕ, zero, suc, ◌+◌, ◌*◌, ◌-◌, ◌<◌, ◌≤◌, List, [], ◌∷◌, length, get_or, set, Option, None, Some, refl, sym, ◌∙◌, ap, subst, arith, ◌⊎◌, inl, inr, get_or-set_same, get_or-set_other, length-set}
-use Rattle.std.specs.Prelude.{replicate, slice_index}
-use Rattle.std.proofs.lemmas.Bool.{cases_eq}
-use Rattle.std.proofs.lemmas.List.{get_or-replicate, get_or_past, length-replicate}
+use Rattle.std.proofs.Common.{◌≡◌, ℕ, zero, suc, ◌<◌, ◌≤◌, List, [], ◌∷◌, get_or, Option, None, Some, refl, sym, ◌∙◌, ap, subst, arith, ◌⊎◌, inl, inr}
+use Rattle.std.specs.Prelude.{slice_index}
 use Rattle.std.specs.FinMap as map
-use Rattle.plain_model.specs.Forks.{ForkMap, fork_in}
-use Rattle.plain_model.specs.Limits.{IsForkName}
+use Rattle.plain_model.specs.Forks.{fork_in}
 use Rattle.plain_model.specs.declared.names.Tty.{Tty}
 use Rattle.plain_model.specs.declared.names.ForkName.{ForkName}
-use Rattle.plain_model.specs.declared.names.TheConstants.{TERMINALS, MOST_FORKS, LAST_SERIAL}
+use Rattle.plain_model.specs.declared.names.TheConstants.{TERMINALS, MOST_FORKS}
 use Rattle.plain_model.specs.declared.fork.Fork.{Fork}
 use Rattle.fork_tree.specs.Places.{IsTable, StandsAt, forks_of, name_index, place_in}
-use Rattle.fork_tree.specs.Trees.{AreSlotted, IsIn, Lives}
-use Rattle.fork_tree.proofs.Slots.{cases_name, get_gone, get_gone_other, get_put, get_put_other, in_found, in_none, in_tells, name_numbers, same_forks}
+use Rattle.fork_tree.specs.Trees.{AreSlotted, Lives}
+use Rattle.fork_tree.proofs.Slots.{cases_name, get_put, get_put_other, in_found, in_none, in_tells}
 
 -- what the map of places has stands in one of them
 pub got : (places : List (Option Fork)) (q : ForkName) (f : Fork) → map.get (forks_of places) q ≡ Some f → (i : ℕ) × StandsAt places i f × (f.name ≡ q)

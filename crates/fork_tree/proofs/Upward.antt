@@ -8,7 +8,9 @@ use Rattle.plain_model.specs.Forks.{ForkMap, fork_in, is_frozen, superior_of}
 use Rattle.plain_model.specs.declared.names.Tty.{Tty}
 use Rattle.plain_model.specs.declared.names.TheConstants.{MOST_FORKS}
 use Rattle.plain_model.specs.declared.fork.Fork.{Fork}
-use Rattle.fork_tree.specs.Trees.{IsAncestor, IsIn, IsTree, Lives, PlainTree, above, any_upward}
+use Rattle.plain_model.specs.Inferiors.{any_upward}
+use Rattle.plain_model.specs.Trees.{PlainTree}
+use Rattle.fork_tree.specs.Trees.{IsAncestor, IsIn, IsTree, Lives, above}
 use Rattle.fork_tree.proofs.Slots.{in_found, in_tells}
 
 pub or_true : (b c : Bool) → c ≡ true → (b || c) ≡ true
@@ -49,7 +51,7 @@ below_one : (b : Bool) → cond b 1 0 ≤ 1
 below_one true = omega arith
 below_one false = omega arith
 
-tally_most : (p : ℕ → Bool) (from n : ℕ) → tally p from n ≤ n
+pub tally_most : (p : ℕ → Bool) (from n : ℕ) → tally p from n ≤ n
 tally_most p from zero = omega (arith, tally_zero p from)
 tally_most p from (suc n) = omega (arith, tally_suc p from n, tally_most p (from + 1) n, below_one (p from))
 
@@ -64,7 +66,7 @@ module _ (p q : ℕ → Bool) (each : (k : ℕ) → p k ≡ true → q k ≡ tru
   tally_more from (suc n) = omega (arith, tally_suc p from n, tally_suc q from n, tally_more (from + 1) n, more (p from) (q from) (each from))
 
   -- a test that passes a number more
-  tally_above : (from n k : ℕ) → from ≤ k → k < from + n → p k ≡ false → q k ≡ true → tally p from n < tally q from n
+  pub tally_above : (from n k : ℕ) → from ≤ k → k < from + n → p k ≡ false → q k ≡ true → tally p from n < tally q from n
   tally_above from zero k low high fails passes = absurd (omega arith)
   tally_above from (suc n) k low high fails passes = by (tally_above (from + 1) n k) (cases_lt from k)
     where

@@ -1,28 +1,17 @@
 -- A fork with another body, or with the freeze mark or without it.
-use Rattle.std.specs.Prelude.{ℕ, Bool, Option, None, Some}
+use Rattle.std.specs.Prelude.{ℕ, Bool, Option, None}
 use Rattle.std.specs.Option.{option_map_or}
-use Rattle.std.specs.FinMap as map
 use Rattle.plain_model.specs.declared.names.Tty.{Tty}
 use Rattle.plain_model.specs.declared.names.ForkName.{ForkName}
 use Rattle.plain_model.specs.declared.fork.Fork.{Fork}
 use Rattle.plain_model.specs.declared.fork.Body.{Body}
 use Rattle.plain_model.specs.declared.fork.ForkStatus.TheVariants.{Halted}
-use Rattle.plain_model.specs.Forks.{ForkMap, fork_in, first_regs, psi_at_rest}
-use Rattle.fork_tree.specs.Trees.{PlainTree}
-
--- a fork changed, where there is one
-abbrev pub changed : ForkMap → (Fork → Fork) → Option Fork → ForkMap
-changed forks change f = option_map_or (λ k. map.insert forks k.name (change k)) f forks
-
-abbrev pub with_body : Body → Fork → Fork
-with_body body f = record f { body = body }
-
-abbrev pub with_mark : Bool → Fork → Fork
-with_mark on f = record f { frozen = on }
+use Rattle.plain_model.specs.Forks.{fork_in, first_regs, psi_at_rest}
+use Rattle.plain_model.specs.Trees.{PlainTree, changed, with_body, with_changed_of, with_mark}
 
 -- the fork of a name has another body; nothing changes where none lives
 abbrev pub with_body_of : PlainTree → ForkName → Body → PlainTree
-with_body_of tree name body = record tree { forks = changed tree.forks (with_body body) (map.get tree.forks name) }
+with_body_of tree name body = with_changed_of tree name (with_body body)
 
 -- the fork in a slot of a job has another body; nothing changes where none is
 abbrev pub with_body_at : PlainTree → Tty → ℕ → Body → PlainTree
@@ -30,7 +19,7 @@ with_body_at tree t slot body = record tree { forks = changed tree.forks (with_b
 
 -- the fork of a name has the freeze mark, or not
 abbrev pub with_mark_of : PlainTree → ForkName → Bool → PlainTree
-with_mark_of tree name on = record tree { forks = changed tree.forks (with_mark on) (map.get tree.forks name) }
+with_mark_of tree name on = with_changed_of tree name (with_mark on)
 
 -- the body of a fork, where there is one
 abbrev pub body_in : Option Fork → Body

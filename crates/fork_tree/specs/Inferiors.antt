@@ -1,23 +1,13 @@
--- Who stands below whom, and which forks go with one that is killed.
-use Rattle.std.specs.Prelude.{◌≡◌, ℕ, ◌≤◌, Bool, true, false, not, ◌||◌, Option, None, Some}
-use Rattle.std.specs.Option.{option_map_or}
+-- Who stands below whom, in other words.
+use Rattle.std.specs.Prelude.{◌≡◌, ℕ, ◌≤◌, true, false, Option, None, Some}
 use Rattle.std.specs.FinMap as map
 use Rattle.plain_model.specs.declared.names.ForkName.{ForkName}
-use Rattle.plain_model.specs.declared.names.TheConstants.{MOST_FORKS}
 use Rattle.plain_model.specs.declared.fork.Fork.{Fork}
-use Rattle.plain_model.specs.Forks.{ForkMap, superior_of}
-use Rattle.plain_model.specs.Pages.{same_fork}
-use Rattle.fork_tree.specs.Trees.{IsAncestor, IsIn, Lives, any_upward}
+use Rattle.plain_model.specs.Forks.{ForkMap}
+use Rattle.plain_model.specs.Inferiors.{is_inferior}
+use Rattle.fork_tree.specs.Trees.{IsAncestor, IsIn, Lives}
 
--- whether a fork is one of a name or stands below it; so many forks are looked at
-abbrev pub is_within : ℕ → ForkMap → ForkName → Option Fork → Bool
-is_within n forks who f = any_upward (λ k. same_fork k.name who) n forks f
-
--- whether a fork is an inferior of another: it lives, and the other is its superior, that one's superior, and so on
-unfoldable pub is_inferior : ForkMap → ForkName → ForkName → Bool
-is_inferior forks who name = option_map_or (λ f. is_within MOST_FORKS forks who (superior_of forks f)) (map.get forks name) false
-
--- the same in other words
+-- a fork is an inferior of another: that one is its superior, the superior of that, and so on
 pub record IsInferior (forks : ForkMap) (who name : ForkName) : Type 0 where
   pub fork : Fork
   pub lives : map.get forks name ≡ Some fork
@@ -46,7 +36,3 @@ pub record IsLastBelow (forks : ForkMap) (who name : ForkName) : Type 0 where
   pub named : fork.name ≡ name
   pub leaf : IsLeafBelow forks who fork
   pub last : (g : Fork) → IsLeafBelow forks who g → g.slot ≤ fork.slot
-
--- the forks that are left where one and all its inferiors are killed
-unfoldable pub without_branch : ForkMap → ForkName → ForkMap
-without_branch forks who = map.retain_keys forks (λ name. not (same_fork name who || is_inferior forks who name))

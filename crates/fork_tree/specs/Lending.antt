@@ -1,6 +1,6 @@
 -- The body of one fork is lent out of those of all.
-use Rattle.std.specs.Prelude.{ℕ, Option, None, Some}
-use Rattle.std.specs.Option.{option_map, option_map_or}
+use Rattle.std.specs.Prelude.{ℕ, Option}
+use Rattle.std.specs.Option.{option_map}
 use Rattle.std.specs.Borrow.{Fml, Lends, LendsIf, MutBor}
 use Rattle.std.specs.contracts.option.Option.{the_row as option_row}
 use Rattle.plain_model.specs.declared.names.Tty.{Tty}
@@ -12,8 +12,8 @@ use Rattle.plain_model.specs.contracts.fork.Body.{the_row as body_row}
 use Rattle.plain_model.specs.Forks.{ForkMap, fork_in}
 use Rattle.fork_tree.specs.contracts.fork_table.ForkTable.{the_row as table_row}
 use Rattle.fork_tree.specs.contracts.tree.Tree.{the_row as tree_row}
-use Rattle.fork_tree.specs.Trees.{PlainTree}
-use Rattle.fork_tree.specs.Changes.{changed, with_body, with_body_at, with_body_of}
+use Rattle.plain_model.specs.Trees.{PlainTree, changed, with_body}
+use Rattle.fork_tree.specs.Changes.{with_body_at, with_body_of}
 
 -- the fork in a place then has the body that was left there
 abbrev pub LendsPlace : MutBor (Option Fork) → MutBor Body → Fml

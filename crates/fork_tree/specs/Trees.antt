@@ -1,5 +1,5 @@
 -- The forks of all jobs: each job's are a tree (CACM paper, "Forks").
-use Rattle.std.specs.Prelude.{◌≡◌, ◌↔◌, ℕ, suc, zero, ◌+◌, ◌<◌, ◌≤◌, Bool, false, ◌||◌, List, length, Option, Some, None, slice_index, refl}
+use Rattle.std.specs.Prelude.{◌≡◌, ◌↔◌, ℕ, suc, zero, ◌+◌, ◌<◌, ◌≤◌, false, List, length, Option, Some, None, refl}
 use Rattle.std.specs.Option.{option_and_then}
 use Rattle.std.specs.Coded.{Coded, code_by, coded×, coded_list, coded_ℕ}
 use Rattle.std.specs.FinMap as map
@@ -12,24 +12,12 @@ use Rattle.plain_model.specs.contracts.names.ForkName.{the_row as name_row}
 use Rattle.plain_model.specs.contracts.fork.Fork.{the_row as fork_row}
 use Rattle.plain_model.specs.Forks.{ForkMap, superior_of, is_frozen}
 use Rattle.plain_model.specs.Limits.{IsForkName}
-use Rattle.plain_model.specs.State.{PlainState, first_serials}
-
--- the forks by name, and the next fork serial of each terminal
-pub record PlainTree : Type 0 where
-  pub forks : ForkMap
-  pub serials : List ℕ
-
--- those of the plain state
-abbrev pub tree_of : PlainState → PlainTree
-tree_of s = record { forks = s.forks; serials = s.fork_serials }
+use Rattle.plain_model.specs.Trees.{PlainTree, next_serial}
+use Rattle.plain_model.specs.State.{first_serials}
 
 -- no fork lives, and none has
 abbrev pub no_forks : PlainTree
 no_forks = record { forks = map.empty; serials = first_serials }
-
--- the next fork serial of a terminal
-abbrev pub next_serial : PlainTree → Tty → ℕ
-next_serial tree t = slice_index tree.serials t.0
 
 -- a fork lives, as it is
 abbrev pub Lives : ForkMap → Fork → Type 0
@@ -66,12 +54,6 @@ above (suc n) forks f = option_and_then (above n forks) (superior_of forks f)
 -- a fork is an ancestor of another: its superior, that one's superior, and so on
 abbrev pub IsAncestor : ForkMap → Fork → Fork → Type 0
 IsAncestor forks g f = (n : ℕ) × (above (suc n) forks f ≡ Some g)
-
--- whether a fork or an ancestor of it passes a test; so many forks are looked at
-abbrev pub any_upward : (Fork → Bool) → ℕ → ForkMap → Option Fork → Bool
-any_upward p zero forks f = false
-any_upward p (suc n) forks None = false
-any_upward p (suc n) forks (Some f) = p f || any_upward p n forks (superior_of forks f)
 
 -- a fork can run: it lives, its status is Run, and neither it nor an ancestor is frozen
 abbrev pub CanRun : ForkMap → ForkName → Type 0

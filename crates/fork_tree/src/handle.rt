@@ -1,7 +1,8 @@
 // What a program calls forks of its job.
-ghost use Rattle.std.specs.Prelude.{◌≡◌};
+ghost use Rattle.std.specs.Prelude.{◌≡◌, IfSome};
 ghost use Rattle.std.specs.Option.{option_copied, option_map};
 ghost use Rattle.plain_model.specs.Handles.{named as named_of, named_by};
+ghost use Rattle.fork_tree.specs.Trees.{Lives};
 
 use crate::tree::{Tree, name_of};
 use plain_model::call::{FIRST_HANDLE, FORK_SELF, FORK_SUPERIOR, LAST_HANDLE};
@@ -22,12 +23,20 @@ impl Tree {
 
     /// The fork that a handle names: 400000 octal is the caller, 777777 its superior, and 400000 and a slot, 1 to 30, the fork of its job in
     /// that slot. None exactly where the handle names no living fork, or the caller does not live. One step.
-    #[tactic(auto, unfolding(plain_model::specs::Handles::named))]
     pub fn named(&self, who: ForkName, handle: u32) -> Option<ForkName>
         ensures { result ≡ option_map (λ f. f.name) (named_of self.now.forks who handle) }
     {
+        name_of(self.fork_named(who, handle))
+    }
+
+    /// The same fork itself, as it lives.
+    #[tactic(auto, unfolding(plain_model::specs::Handles::named))]
+    pub fn fork_named(&self, who: ForkName, handle: u32) -> Option<&Fork>
+        ensures found { option_copied result ≡ named_of self.now.forks who handle }
+        ensures lives { IfSome (option_copied result) (Lives self.now.forks) }
+    {
         match self.fork(who) {
-            Some(caller) => name_of(self.named_by(caller, handle)),
+            Some(caller) => self.named_by(caller, handle),
             None => None,
         }
     }

@@ -3,7 +3,8 @@ ghost use Rattle.std.specs.Prelude.{◌≡◌, ◌≢◌, ◌↔◌, ℕ, IsTrue
 ghost use Rattle.std.specs.Option.{option_copied};
 ghost use Rattle.plain_model.specs.declared.fork.Fork.{Fork as AFork};
 ghost use Rattle.plain_model.specs.Forks.{superior_of};
-ghost use Rattle.fork_tree.specs.Inferiors.{HasNoInferior, IsLastBelow, IsLeafBelow, IsLeafIn, is_inferior, is_within};
+ghost use Rattle.plain_model.specs.Inferiors.{is_inferior, is_within};
+ghost use Rattle.fork_tree.specs.Inferiors.{HasNoInferior, IsLastBelow, IsLeafBelow, IsLeafIn};
 ghost use Rattle.fork_tree.specs.Trees.{IsIn, Lives};
 
 use crate::tree::Tree;
@@ -29,7 +30,7 @@ impl Tree {
 
     /// Whether another fork is an inferior of a fork: it lives, and the fork is its superior, that one's superior, and so on. As many steps as
     /// it has superiors.
-    #[tactic(auto, unfolding(crate::specs::Inferiors::is_inferior))]
+    #[tactic(auto, unfolding(plain_model::specs::Inferiors::is_inferior))]
     pub fn below(&self, who: ForkName, other: ForkName) -> bool
         ensures { result ≡ is_inferior self.now.forks who other }
     {

@@ -1,5 +1,5 @@
 // What follows from the definitions, in the words of their users. A law does nothing when it runs.
-ghost use Rattle.std.specs.Prelude.{◌≡◌, ◌≢◌, ◌↔◌, ◌≤◌, ◌<◌, ◌||◌, ℕ, Option, Some, None, Ok, Err, Contains, MatchBool, length, true, false};
+ghost use Rattle.std.specs.Prelude.{◌≡◌, ◌≢◌, ◌↔◌, ◌≤◌, ◌<◌, ◌||◌, ℕ, Option, Some, None, Ok, Err, Contains, MatchBool, MatchOption, length, true, false};
 ghost use Rattle.std.specs.FinMap as map;
 ghost use Rattle.plain_model.specs.declared.fork.Fork.{Fork as AFork};
 ghost use Rattle.plain_model.specs.declared.names.ForkName.{ForkName as AForkName};
@@ -8,9 +8,14 @@ ghost use Rattle.plain_model.specs.declared.names.TheConstants.{MOST_FORKS};
 ghost use Rattle.plain_model.specs.Forks.{ForkMap, IsRunnable, fork_in, forks_by_slot, is_frozen};
 ghost use Rattle.plain_model.specs.Pages.{same_fork};
 ghost use Rattle.plain_model.specs.State.{PlainState, opening};
-ghost use Rattle.fork_tree.specs.Inferiors.{HasNoInferior, IsInferior, IsLeafBelow, is_inferior, without_branch};
-ghost use Rattle.fork_tree.specs.Making.{Makes, new_fork, room_for};
-ghost use Rattle.fork_tree.specs.Trees.{CanRun, IsAncestor, IsTree, Lives, PlainTree, above, tree_of};
+ghost use Rattle.std.specs.Option.{option_map};
+ghost use Rattle.std.specs.Ordering.{nat_cmp};
+ghost use Rattle.plain_model.specs.Inferiors.{is_inferior, last_below, without_branch};
+ghost use Rattle.fork_tree.specs.Inferiors.{HasNoInferior, IsInferior, IsLastBelow, IsLeafBelow};
+ghost use Rattle.plain_model.specs.Trees.{new_fork, PlainTree, tree_of, unwaited, waiters_woken};
+ghost use Rattle.plain_model.specs.ForkCalls.{ForkParts, killed};
+ghost use Rattle.fork_tree.specs.Making.{Makes, room_for};
+ghost use Rattle.fork_tree.specs.Trees.{CanRun, IsAncestor, IsTree, Lives, above};
 ghost use Rattle.fork_tree.specs.Turns.{IsPlace, steps_to};
 
 use crate::NoFork;
@@ -65,6 +70,23 @@ pub fn a_branch_is_killed_from_below()
         → MatchBool (same_fork name who || is_inferior forks who name) (map.get (without_branch forks who) name ≡ None) (map.get (without_branch forks who) name ≡ map.get forks name) }
     ensures leaf { (tree : PlainTree) (who : AForkName) (f : AFork) → IsTree tree → IsLeafBelow tree.forks who f → without_branch (map.remove tree.forks f.name) who ≡ without_branch tree.forks who }
     ensures last { (forks : ForkMap) (who : AForkName) → HasNoInferior forks who → without_branch forks who ≡ map.remove forks who }
+{}
+
+/// A fork that is killed goes with all its inferiors and with nobody else: each time the inferior goes first that is in
+/// the highest slot of those without any, and the fork itself goes last.
+pub fn a_killed_fork_takes_its_branch()
+    ensures first { (tree : PlainTree) (who : AForkName) → IsTree tree → MatchOption (last_below tree.forks who) (HasNoInferior tree.forks who) (λ f. IsLastBelow tree.forks who f.name) }
+    ensures once { (tree : PlainTree) (who : AForkName) (last : Option AForkName) → IsTree tree → MatchOption last (HasNoInferior tree.forks who) (λ name. IsLastBelow tree.forks who name)
+        → last ≡ option_map (λ f. f.name) (last_below tree.forks who) }
+    ensures branch { (v : ForkParts nat_cmp) (who : AForkName) → IsTree v.tree → (killed v who).tree.forks ≡ without_branch v.tree.forks who }
+{}
+
+/// Where a fork of a job ends, each fork of that job that waits for one runs again, and every other fork stays as it was.
+pub fn waiters_of_a_job_run_again()
+    ensures job { (tree : PlainTree) (t : ATty) (f : AFork) → IsTree tree → Lives tree.forks f → f.name.tty.0 ≡ t.0
+        → map.get (waiters_woken tree.forks t) f.name ≡ Some (unwaited f) }
+    ensures others { (tree : PlainTree) (t : ATty) (f : AFork) → IsTree tree → Lives tree.forks f → (f.name.tty.0 ≡ t.0 → ⊥)
+        → map.get (waiters_woken tree.forks t) f.name ≡ Some f }
 {}
 
 /// Of all places the one that a turn is behind comes last, and no two come together.

@@ -10,11 +10,13 @@ mod laws;
 mod making;
 mod runnable;
 mod tree;
+mod waiters;
 
 pub use laws::{
-    a_branch_is_killed_from_below, a_full_job_has_thirty_forks, a_made_fork_is_found,
-    ancestors_are_older, forks_are_frozen_from_above, inferiors_have_it_above,
-    trees_from_the_opening, who_ran_comes_last,
+    a_branch_is_killed_from_below, a_full_job_has_thirty_forks, a_killed_fork_takes_its_branch,
+    a_made_fork_is_found, ancestors_are_older, forks_are_frozen_from_above,
+    inferiors_have_it_above, trees_from_the_opening, waiters_of_a_job_run_again,
+    who_ran_comes_last,
 };
 pub use tree::{NoFork, Tree};
 

@@ -4,7 +4,8 @@ ghost use Rattle.std.specs.FinMap as map;
 ghost use Rattle.plain_model.specs.Forks.{fork_in};
 ghost use Rattle.plain_model.specs.Limits.{IsTerminal};
 ghost use Rattle.fork_tree.specs.Inferiors.{HasNoInferior};
-ghost use Rattle.fork_tree.specs.Making.{Makes, new_fork, room_for};
+ghost use Rattle.plain_model.specs.Trees.{new_fork, next_name};
+ghost use Rattle.fork_tree.specs.Making.{Makes, room_for, slot_for};
 
 use crate::tree::{NoFork, Tree};
 use plain_model::{ACCUMULATORS, Body, Fork, ForkName, ForkStatus, LAST_SERIAL, Psi, Regs, Tty};
@@ -50,6 +51,31 @@ impl Tree {
             return Err(NoFork::SerialsOut);
         }
         Ok(())
+    }
+
+    /// The name that the next fork of a terminal has.
+    pub fn next_name(&self, tty: Tty) -> ForkName
+        requires { IsTerminal tty }
+        ensures { result ≡ next_name self.now tty }
+    {
+        ForkName {
+            tty,
+            serial: self.serials[usize::from(tty.0)],
+        }
+    }
+
+    /// The slot that the next fork of a job would have, refused as `can_make` says. Thirty looks at most.
+    pub fn slot_for(&self, tty: Tty) -> Result<u8, NoFork>
+        requires { IsTerminal tty }
+        ensures { result ≡ slot_for self.now tty }
+    {
+        let Some(slot) = self.forks.free_slot(tty) else {
+            return Err(NoFork::ForksFull);
+        };
+        if self.serials[usize::from(tty.0)] > LAST_SERIAL {
+            return Err(NoFork::SerialsOut);
+        }
+        Ok(slot)
     }
 
     /// Makes a fork in the least free slot of a job, with the terminal's next serial: halted, at address 0, with nothing in its accumulators

@@ -33,7 +33,8 @@ pub struct Tree {
 }
 
 impl Model for Tree {
-    ghost use Rattle.fork_tree.specs.Trees.{PlainTree, IsTree, tree_code};
+    ghost use Rattle.plain_model.specs.Trees.{PlainTree};
+    ghost use Rattle.fork_tree.specs.Trees.{IsTree, tree_code};
 
     ghost Value = { PlainTree };
 

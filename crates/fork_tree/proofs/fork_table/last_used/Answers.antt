@@ -1,4 +1,4 @@
-use Rattle.std.proofs.Common.{◌≡◌, ℕ, ◌-◌, ◌+◌, ◌<◌, None, sym, ◌∙◌, ap, arith, get_or, ◌⊎◌, inl, inr}
+use Rattle.std.proofs.Common.{◌≡◌, ◌-◌, ◌+◌, None, sym, ◌∙◌, ap, arith, get_or, inl, inr}
 use Rattle.std.proofs.lemmas.Bool.{cases_lt}
 use Rattle.std.proofs.lemmas.List.{get_or_read}
 use Rattle.fork_tree.specs.Places.{place_in}

@@ -1,15 +1,14 @@
-use Rattle.std.proofs.Common.{◌≡◌, ◌≢◌, ◌∙◌, ap, sym, refl, subst, arith, true, Option, Some, None, Ok, Err, ℕ}
-use Rattle.std.specs.Prelude.{is_none}
+use Rattle.std.proofs.Common.{◌≡◌, ◌∙◌, ap, sym, refl, Option, Some, None, Ok, Err, ℕ}
 use Rattle.std.specs.Option.{option_map_or}
 use Rattle.std.specs.FinMap as map
 use Rattle.plain_model.specs.Forks.{fork_in}
 use Rattle.plain_model.specs.declared.names.Tty.{Tty}
 use Rattle.plain_model.specs.declared.names.ForkName.{ForkName}
 use Rattle.plain_model.specs.declared.names.TheConstants.{MOST_FORKS}
-use Rattle.plain_model.specs.declared.fork.Fork.{Fork}
 use Rattle.fork_tree.specs.declared.tree.NoFork.TheVariants.{ForksFull}
-use Rattle.fork_tree.specs.Making.{Makes, free_slot, is_free, new_fork, next_name, room_for, with_new, with_new_in}
-use Rattle.fork_tree.specs.Trees.{IsTree, PlainTree, next_serial}
+use Rattle.plain_model.specs.Trees.{free_slot, is_free, new_fork, next_name, PlainTree}
+use Rattle.fork_tree.specs.Making.{room_for, with_new, with_new_in}
+use Rattle.fork_tree.specs.Trees.{IsTree}
 use Rattle.fork_tree.proofs.Kept.{free_none, full_room, name_unused}
 use Rattle.fork_tree.proofs.Ranges.{first_tells}
 use Rattle.fork_tree.proofs.Slots.{get_put, get_put_other, in_found}

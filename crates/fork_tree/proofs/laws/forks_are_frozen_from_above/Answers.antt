@@ -3,7 +3,9 @@ use Rattle.std.proofs.lemmas.Bool.{cases_Bool}
 use Rattle.plain_model.specs.Forks.{is_frozen, superior_of}
 use Rattle.plain_model.specs.declared.names.TheConstants.{MOST_FORKS}
 use Rattle.plain_model.specs.declared.fork.Fork.{Fork}
-use Rattle.fork_tree.specs.Trees.{IsAncestor, IsTree, Lives, PlainTree, any_upward}
+use Rattle.plain_model.specs.Inferiors.{any_upward}
+use Rattle.plain_model.specs.Trees.{PlainTree}
+use Rattle.fork_tree.specs.Trees.{IsTree, Lives}
 use Rattle.fork_tree.proofs.Upward.{ancestor_any, any_ancestor, any_whole, frozen_any, or_true}
 use Rattle.fork_tree.proofs.laws.forks_are_frozen_from_above.Goals as goal
 

@@ -2,7 +2,8 @@ use Rattle.std.proofs.Common.{◌∙◌, sym, ap, subst, arith, refl, None}
 use Rattle.std.specs.Prelude.{IsSome}
 use Rattle.std.proofs.lemmas.List.{get_or_read}
 use Rattle.plain_model.specs.Forks.{fork_in}
-use Rattle.fork_tree.specs.Changes.{body_in, changed, with_body}
+use Rattle.plain_model.specs.Trees.{changed, with_body}
+use Rattle.fork_tree.specs.Changes.{body_in}
 use Rattle.fork_tree.specs.Places.{forks_of}
 use Rattle.fork_tree.proofs.Slots.{some_of}
 use Rattle.fork_tree.proofs.Tables.{in_at, in_place}

@@ -3,7 +3,7 @@ use Rattle.std.specs.Prelude.{is_none, is_some}
 use Rattle.std.specs.Option.{option_copied}
 use Rattle.std.specs.Borrow.{Bor}
 use Rattle.plain_model.specs.declared.fork.Fork.{Fork}
-use Rattle.fork_tree.specs.Making.{free_slot, is_free}
+use Rattle.plain_model.specs.Trees.{free_slot, is_free}
 use Rattle.fork_tree.proofs.Ranges.{first_found, first_none}
 use Rattle.fork_tree.proofs.fork_table.ForkTable.free_slot.Goals as goal
 

@@ -1,5 +1,5 @@
 use Rattle.std.proofs.Common.{◌≡◌, ℕ, ◌≤◌, ◌<◌, false}
-use Rattle.fork_tree.specs.Making.{is_free}
+use Rattle.plain_model.specs.Trees.{is_free}
 use Rattle.fork_tree.proofs.fork_table.ForkTable.free_slot.Given as goal
 
 abbrev pub invariant-loop-slot : goal.invariant-loop-slot

@@ -1,7 +1,7 @@
 use Rattle.std.proofs.Common.{◌∙◌, sym, ap, arith, refl, None}
 use Rattle.std.proofs.lemmas.List.{get_or_read}
 use Rattle.std.specs.FinMap as map
-use Rattle.fork_tree.specs.Changes.{changed, with_mark}
+use Rattle.plain_model.specs.Trees.{changed, with_mark}
 use Rattle.fork_tree.specs.Places.{forks_of}
 use Rattle.fork_tree.proofs.Slots.{some_of}
 use Rattle.fork_tree.proofs.Tables.{named_at}

@@ -1,6 +1,6 @@
 use Rattle.std.proofs.Common.{refl}
 use Rattle.plain_model.specs.Forks.{fork_in}
-use Rattle.fork_tree.specs.Changes.{with_body}
+use Rattle.plain_model.specs.Trees.{with_body}
 use Rattle.fork_tree.proofs.Kept.{changed_look}
 use Rattle.fork_tree.proofs.Slots.{in_tells}
 use Rattle.fork_tree.proofs.tree.Tree.body_at.Goals as goal

@@ -3,7 +3,8 @@ use Rattle.std.specs.Prelude.{IsSome}
 use Rattle.std.specs.Option.{option_map}
 use Rattle.std.specs.FinMap as map
 use Rattle.plain_model.specs.declared.names.ForkName.{ForkName}
-use Rattle.fork_tree.specs.Changes.{body_in, changed, with_body}
+use Rattle.plain_model.specs.Trees.{changed, with_body}
+use Rattle.fork_tree.specs.Changes.{body_in}
 use Rattle.fork_tree.proofs.Slots.{held_lives, in_found}
 use Rattle.fork_tree.proofs.tree.Tree.body_mut.Goals as goal
 

@@ -1,7 +1,5 @@
-use Rattle.std.proofs.Common.{◌≡◌, ◌∙◌, sym, ap, subst, refl, rules, List, ℕ, replicate}
+use Rattle.std.proofs.Common.{◌≡◌, ◌∙◌, ap, refl, rules, List, ℕ, replicate}
 use Rattle.plain_model.specs.State.{first_serials}
-use Rattle.plain_model.specs.Forks.{ForkMap}
-use Rattle.fork_tree.specs.Trees.{IsTree, PlainTree, no_forks}
 use Rattle.fork_tree.proofs.Kept.{none_tree}
 use Rattle.fork_tree.proofs.tree.Tree.boot.Goals as goal
 

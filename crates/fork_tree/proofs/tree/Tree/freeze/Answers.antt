@@ -1,6 +1,6 @@
 use Rattle.std.proofs.Common.{refl}
 use Rattle.std.specs.FinMap as map
-use Rattle.fork_tree.specs.Changes.{with_mark}
+use Rattle.plain_model.specs.Trees.{with_mark}
 use Rattle.fork_tree.proofs.Kept.{changed_look}
 use Rattle.fork_tree.proofs.Slots.{held_lives}
 use Rattle.fork_tree.proofs.tree.Tree.freeze.Goals as goal

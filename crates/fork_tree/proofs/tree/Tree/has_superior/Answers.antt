@@ -1,8 +1,8 @@
-use Rattle.std.proofs.Common.{◌≡◌, ◌∙◌, ◌-◌, ◌+◌, ◌||◌, ℕ, sym, ap, arith, None}
+use Rattle.std.proofs.Common.{◌≡◌, ◌∙◌, ◌-◌, ◌+◌, ◌||◌, sym, ap, arith}
 use Rattle.std.specs.Option.{option_copied}
 use Rattle.plain_model.specs.Forks.{superior_of}
 use Rattle.plain_model.specs.Pages.{same_fork}
-use Rattle.fork_tree.specs.Inferiors.{is_within}
+use Rattle.plain_model.specs.Inferiors.{is_within}
 use Rattle.fork_tree.proofs.Upward.{look_none, look_over, look_some}
 use Rattle.fork_tree.proofs.tree.Tree.has_superior.Goals as goal
 

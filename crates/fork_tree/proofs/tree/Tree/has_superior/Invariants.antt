@@ -2,7 +2,7 @@ use Rattle.std.proofs.Common.{◌≡◌, ◌-◌}
 use Rattle.std.specs.Option.{option_copied}
 use Rattle.plain_model.specs.Forks.{superior_of}
 use Rattle.plain_model.specs.declared.names.TheConstants.{MOST_FORKS}
-use Rattle.fork_tree.specs.Inferiors.{is_within}
+use Rattle.plain_model.specs.Inferiors.{is_within}
 use Rattle.fork_tree.proofs.tree.Tree.has_superior.Given as goal
 
 abbrev pub invariant-loop-superior : goal.invariant-loop-superior

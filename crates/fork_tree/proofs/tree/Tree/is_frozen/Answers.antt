@@ -1,8 +1,8 @@
-use Rattle.std.proofs.Common.{◌≡◌, ◌∙◌, ◌-◌, ◌+◌, ◌||◌, ℕ, sym, ap, arith, None, Some}
+use Rattle.std.proofs.Common.{◌≡◌, ◌∙◌, ◌-◌, ◌+◌, ◌||◌, sym, ap, arith, Some}
 use Rattle.std.specs.Option.{option_copied}
 use Rattle.plain_model.specs.Forks.{superior_of}
 use Rattle.plain_model.specs.declared.fork.Fork.{Fork}
-use Rattle.fork_tree.specs.Trees.{any_upward}
+use Rattle.plain_model.specs.Inferiors.{any_upward}
 use Rattle.fork_tree.proofs.Upward.{frozen_any, look_none, look_over, look_some}
 use Rattle.fork_tree.proofs.tree.Tree.is_frozen.Goals as goal
 

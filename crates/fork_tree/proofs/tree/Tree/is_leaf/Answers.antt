@@ -1,6 +1,7 @@
-use Rattle.std.proofs.Common.{◌≡◌, ◌≤◌, sym, refl, subst, arith, true, false, inl, inr}
+use Rattle.std.proofs.Common.{◌≡◌, ◌≤◌, sym, refl, subst, arith, true, inl, inr}
 use Rattle.std.proofs.lemmas.Bool.{cases_lt}
-use Rattle.fork_tree.specs.Trees.{IsTree, Lives, PlainTree}
+use Rattle.plain_model.specs.Trees.{PlainTree}
+use Rattle.fork_tree.specs.Trees.{IsTree, Lives}
 use Rattle.fork_tree.proofs.Leaves.{nobodys_superior, nobody_below, slot_superior, superior_slot}
 use Rattle.fork_tree.proofs.tree.Tree.is_leaf.Goals as goal
 

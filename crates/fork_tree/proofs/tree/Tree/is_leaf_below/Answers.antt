@@ -1,4 +1,4 @@
-use Rattle.std.proofs.Common.{◌≡◌, ◌∙◌, sym, false}
+use Rattle.std.proofs.Common.{◌∙◌, sym}
 use Rattle.fork_tree.proofs.Leaves.{inferior_is}
 use Rattle.fork_tree.proofs.tree.Tree.is_leaf_below.Goals as goal
 

@@ -1,7 +1,7 @@
 use Rattle.std.proofs.Common.{◌≡◌, ◌∙◌, sym, ap, subst, Some}
 use Rattle.std.specs.FinMap as map
 use Rattle.fork_tree.specs.Inferiors.{HasNoInferior}
-use Rattle.fork_tree.specs.Trees.{PlainTree}
+use Rattle.plain_model.specs.Trees.{PlainTree}
 use Rattle.fork_tree.proofs.Kept.{killed_tree}
 use Rattle.fork_tree.proofs.Leaves.{nobodys_superior}
 use Rattle.fork_tree.proofs.Slots.{held_lives, some_of}

@@ -1,4 +1,4 @@
-use Rattle.std.proofs.Common.{ℕ, ◌<◌, ◌≤◌}
+use Rattle.std.proofs.Common.{ℕ, ◌<◌}
 use Rattle.plain_model.specs.declared.fork.Fork.{Fork}
 use Rattle.fork_tree.specs.Inferiors.{IsLeafBelow}
 use Rattle.fork_tree.specs.Trees.{IsIn}

@@ -1,11 +1,9 @@
-use Rattle.std.proofs.Common.{◌≡◌, ◌∙◌, ◌≤◌, sym, ap, subst, arith, refl, Some, None, get_or, Ok}
+use Rattle.std.proofs.Common.{◌≡◌, ◌∙◌, sym, ap, subst, arith, None, get_or}
 use Rattle.std.specs.Prelude.{IsSome, MatchOption}
 use Rattle.std.proofs.lemmas.List.{get_or_read}
-use Rattle.std.specs.FinMap as map
 use Rattle.plain_model.specs.Forks.{fork_in}
-use Rattle.fork_tree.specs.Making.{free_slot, new_fork}
-use Rattle.fork_tree.specs.Trees.{PlainTree}
-use Rattle.fork_tree.proofs.Kept.{made_tree, new_name, slot_first, slot_free, slot_last}
+use Rattle.plain_model.specs.Trees.{PlainTree}
+use Rattle.fork_tree.proofs.Kept.{made_tree, slot_first, slot_free, slot_last}
 use Rattle.fork_tree.proofs.tree.Tree.make.Goals as goal
 
 pub insert-requires-clause-first : goal.insert-requires-clause-first

@@ -1,7 +1,4 @@
-use Rattle.std.proofs.Common.{◌≡◌, ◌≤◌, ◌+◌, ℕ, Option, Some, None, sym, ap, subst, refl}
-use Rattle.std.specs.Prelude.{MatchOption}
 use Rattle.std.specs.Option.{option_copied}
-use Rattle.plain_model.specs.declared.names.ForkName.{ForkName}
 use Rattle.fork_tree.proofs.Rounds.{next_after, next_before, next_behind, next_last}
 use Rattle.fork_tree.proofs.tree.Tree.next_runnable.Goals as goal
 

@@ -1,4 +1,4 @@
-use Rattle.std.proofs.Common.{◌≡◌, ◌∙◌, sym, ap, subst, true, Option, None, Some}
+use Rattle.std.proofs.Common.{◌≡◌, ◌∙◌, sym, ap, subst, true, None, Some}
 use Rattle.std.specs.Option.{option_copied}
 use Rattle.plain_model.specs.declared.fork.Fork.{Fork}
 use Rattle.fork_tree.specs.Trees.{CanRun}
