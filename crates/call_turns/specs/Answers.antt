@@ -17,7 +17,10 @@ no_chars = record { count = 0; codes = 0 ∷ 0 ∷ [] }
 
 abbrev pub answer_of : {C : Type 0} → End C → Answer
 answer_of (end.Done change regs) = After regs no_chars None
+answer_of (end.Waits on) = Wait on
+answer_of end.Halts = Halt
 answer_of (end.Refused code) = Refused code
+answer_of (end.Failed code) = Refused code
 answer_of (end.Trap channel) = Trap channel
 
 -- a turn went to its end: its answer says how, and its change is made
@@ -44,8 +47,8 @@ IsDone answer = Unit {0}
 -- the limits of an answer of a turn that ends
 abbrev pub FitsAnswer : Answer → Type 0
 FitsAnswer (After regs out post) = IsRegs regs
-FitsAnswer (Wait on) = ⊥
-FitsAnswer Halt = ⊥
+FitsAnswer (Wait on) = Unit {0}
+FitsAnswer Halt = Unit {0}
 FitsAnswer (Refused code) = Unit {0}
 FitsAnswer (Trap channel) = channel < 36
 FitsAnswer (Needs need) = Unit {0}

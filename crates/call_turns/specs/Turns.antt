@@ -1,7 +1,7 @@
 -- A turn as it is driven: its first step and what is left of it, and the whole turn that this comes to.
 use Rattle.std.specs.Prelude.{◌≡◌, ℕ, zero, suc, ◌<◌, ◌^◌, Option, None, length}
 use Rattle.plain_model.specs.declared.call.End.{End}
-use Rattle.plain_model.specs.declared.call.End.TheVariants.{Done, Refused, Trap}
+use Rattle.plain_model.specs.declared.call.End.TheVariants.{Done, Waits, Halts, Refused, Failed, Trap}
 use Rattle.plain_model.specs.declared.channel.TheConstants.{ILLEGAL_INSTRUCTION}
 use Rattle.plain_model.specs.declared.names.TheConstants.{SPACE_PAGES, ACCUMULATORS}
 use Rattle.plain_model.specs.declared.names.PageName.{PageName}
@@ -47,7 +47,10 @@ IsRegs regs = (regs.pc < 2 ^ 18) × (length regs.ac ≡ ACCUMULATORS)
 -- a change that is made is sound, and registers and a channel are within their limits
 abbrev pub FitsEnd : {C : Type 0} → (C → Type 0) → End C → Type 0
 FitsEnd sound (Done change regs) = sound change × IsRegs regs
+FitsEnd sound (Waits on) = Unit {0}
+FitsEnd sound Halts = Unit {0}
 FitsEnd sound (Refused code) = Unit {0}
+FitsEnd sound (Failed code) = Unit {0}
 FitsEnd sound (Trap channel) = channel < 36
 
 -- what is asked is of a page, what is left holds, and the end is within its limits

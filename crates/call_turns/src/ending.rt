@@ -38,7 +38,7 @@ pub fn returning<C>(change: C, regs: Regs) -> End<C>
     End::Done(change, behind(regs))
 }
 
-/// The answer of a turn that ends so.
+/// The answer of a turn that ends so. Whoever makes the call knows by its number how many returns it has, and so what a refusal leaves.
 pub fn answer_of<C: Copy>(end: End<C>) -> Answer
     ensures { result ≡ answer_to end }
 {
@@ -51,7 +51,10 @@ pub fn answer_of<C: Copy>(end: End<C>) -> Answer
             },
             post: None,
         },
+        End::Waits(on) => Answer::Wait(on),
+        End::Halts => Answer::Halt,
         End::Refused(code) => Answer::Refused(code),
+        End::Failed(code) => Answer::Refused(code),
         End::Trap(channel) => Answer::Trap(channel),
     }
 }

@@ -2,7 +2,8 @@
 use Rattle.std.proofs.Common.{◌≡◌, ℕ, Option, None, Some, refl, sym, ap}
 use Rattle.std.specs.Option.{option_map_or}
 use Rattle.plain_model.specs.declared.call.End.{End}
-use Rattle.plain_model.specs.declared.call.End.TheVariants.{Done, Refused, Trap}
+use Rattle.plain_model.specs.declared.call.End.TheVariants.{Done, Waits, Halts, Refused, Failed, Trap}
+use Rattle.plain_model.specs.declared.fork.WaitOn.{WaitOn}
 use Rattle.plain_model.specs.declared.call.MapChange.{MapChange}
 use Rattle.plain_model.specs.declared.call.MapChange.TheVariants.{Nothing, Unmap, Follow, Narrow}
 use Rattle.plain_model.specs.declared.fork.Regs.{Regs}
@@ -49,6 +50,18 @@ module _ (p : NumberedPages) where
   pub behind_done : (e : End MapChange) (what : MapChange) (regs : Regs) → e ≡ Done what regs → map_changed what p ≡ parts_behind map_changed p e
   unfolding parts_behind
   behind_done e what regs is = sym (ap (parts_behind map_changed p) is)
+
+  pub behind_waits : (e : End MapChange) (on : WaitOn) → e ≡ Waits on → p ≡ parts_behind map_changed p e
+  unfolding parts_behind
+  behind_waits e on is = sym (ap (parts_behind map_changed p) is)
+
+  pub behind_halts : (e : End MapChange) → e ≡ Halts → p ≡ parts_behind map_changed p e
+  unfolding parts_behind
+  behind_halts e is = sym (ap (parts_behind map_changed p) is)
+
+  pub behind_failed : (e : End MapChange) (code : ℕ) → e ≡ Failed code → p ≡ parts_behind map_changed p e
+  unfolding parts_behind
+  behind_failed e code is = sym (ap (parts_behind map_changed p) is)
 
   pub behind_refused : (e : End MapChange) (code : ℕ) → e ≡ Refused code → p ≡ parts_behind map_changed p e
   unfolding parts_behind

@@ -6,7 +6,7 @@ use Rattle.plain_model.specs.declared.call.MapChange.TheVariants.{Nothing, Unmap
 use Rattle.plain_model.specs.declared.fork.Regs.{Regs}
 use Rattle.plain_model.specs.Calls.{Turn, with_ac}
 use Rattle.plain_model.specs.MapCalls.{narrows, source_of, tells_access}
-use Rattle.fork_tree.specs.Trees.{PlainTree}
+use Rattle.plain_model.specs.Trees.{PlainTree}
 use Rattle.call_turns.specs.declared.turn.Ask.TheVariants.{Finds}
 use Rattle.call_turns.specs.declared.turn.Reply.{Reply}
 use Rattle.call_turns.specs.declared.turn.Turn.{Turn as Step}

@@ -68,7 +68,10 @@ fn end<P: Pages>(end: End<MapChange>, pages: &mut P) -> Answer
             Ok(()) => answer_of(end),
             Err(need) => Answer::Need(need),
         },
+        End::Waits(_) => answer_of(end),
+        End::Halts => answer_of(end),
         End::Refused(_) => answer_of(end),
+        End::Failed(_) => answer_of(end),
         End::Trap(_) => answer_of(end),
     }
 }
