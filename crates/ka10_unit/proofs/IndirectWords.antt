@@ -1,11 +1,14 @@
 -- Effective addresses in place, word by word.
-use Rattle.std.proofs.Common.{◌≡◌, ℕ, suc, ◌+◌, ◌-◌, ◌<◌, true, false, List, refl, ◌∙◌, arith, Ordering}
+use Rattle.std.proofs.Common.{◌≡◌, ℕ, suc, ◌+◌, ◌-◌, ◌<◌, ◌≤◌, true, false, List, refl, sym, ◌∙◌, ap, subst, arith, Ordering}
 use Rattle.plain_model.specs.declared.names.ForkName.{ForkName}
 use Rattle.plain_model.specs.declared.names.Kind.TheVariants.{Read}
-use Rattle.plain_model.specs.State.{PlainPages}
+use Rattle.plain_model.specs.Pages.{PagesMeaning}
+use Rattle.plain_model.specs.State.{NumberedPages, PlainPages}
 use Rattle.plain_model.specs.Steps.{Steps}
 use Rattle.plain_model.specs.Addressing.{address, address_within, indexed, is_indirect, last_taken, most_words}
-use Rattle.ka10_unit.specs.Glide.{glide, Takes, Addressed}
+use Rattle.ka10_unit.specs.declared.addressing.Address.{Address}
+use Rattle.ka10_unit.specs.Glide.{glide, word_of, Takes, Addressed}
+use Rattle.ka10_unit.specs.Spots.{IsLed, IsReached, addressed}
 use Rattle.ka10_unit.proofs.Finishing.{few}
 
 module _ {K : Type 0} {file_cmp : K → K → Ordering} (f : ForkName) (p : PlainPages file_cmp) (ac : List ℕ) (before : ℕ) where
@@ -34,3 +37,23 @@ module _ {K : Type 0} {file_cmp : K → K → Ordering} (f : ForkName) (p : Plai
   leads_on first w i e v less ind at t so_far =
       let more : before + i + 1 ≡ before + (i + 1) = omega arith in
       record { runs = λ next. so_far.runs next ∙ rw (one_more i (omega arith), ind, ← at, few (before + i) less, t.ready, ← t.is, ← more) refl }
+
+-- where all indirect words are reached, so is the one of a word, and those to come
+module _ {P : Type 0} (means : PagesMeaning P) (pages : P) (f : ForkName) (p : NumberedPages) (ac : List ℕ) where
+  pub led_from : (most first : ℕ) → IsLed means pages f p ac most first → IsLed means pages f p ac (most - 0) first
+  led_from most first led = let same : most ≡ most - 0 = omega arith in subst (λ n. IsLed means pages f p ac n first) same led
+
+  led_one : (most i w : ℕ) → i < most → is_indirect w ≡ true → IsLed means pages f p ac (most - i) w → IsReached means pages f (indexed ac w) Read × IsLed means pages f p ac (most - (i + 1)) (word_of f p ac (indexed ac w))
+  led_one most i w less ind led = let one : most - i ≡ suc (most - (i + 1)) = omega (arith, less) in subst (λ n. IsLed means pages f p ac n w) one led ind
+
+  pub led_reached : (most i w : ℕ) (a : Address) → i < most → is_indirect w ≡ true → a ≡ addressed ac w → IsLed means pages f p ac (most - i) w → IsReached means pages f a.e Read
+  led_reached most i w a less ind at led = subst (λ e. IsReached means pages f e Read) (sym (ap (λ x. x.e) at)) (led_one most i w less ind led).0
+
+  pub led_on : (most i w v : ℕ) (a : Address) → i < most → is_indirect w ≡ true → a ≡ addressed ac w → Takes f p ac a.e Read v → IsLed means pages f p ac (most - i) w → IsLed means pages f p ac (most - (i + 1)) v
+  led_on most i w v a less ind at taken led =
+      let v_is : word_of f p ac (indexed ac w) ≡ v = ap (λ x. word_of f p ac x.e) (sym at) ∙ sym taken.is in
+      subst (IsLed means pages f p ac (most - (i + 1))) v_is (led_one most i w less ind led).1
+
+  -- none leads on for ever
+  pub led_no_further : (most i w : ℕ) → most ≤ i → IsLed means pages f p ac (most - i) w → ⊥
+  led_no_further most i w over led = let none : most - i ≡ 0 = omega (arith, over) in subst (λ n. IsLed means pages f p ac n w) none led

@@ -20,3 +20,4 @@ pub mod Carried
 pub mod InARow
 pub mod ByteLemmas
 pub mod BlockLemmas
+pub mod TakenBlocks

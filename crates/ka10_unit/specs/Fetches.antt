@@ -1,5 +1,5 @@
 -- The page from which words are fetched.
-use Rattle.std.specs.Prelude.{◌≡◌, ℕ, ◌+◌, ◌/◌, ◌<◌, ◌≤◌, Bool, true, Some}
+use Rattle.std.specs.Prelude.{◌≡◌, ℕ, ◌+◌, ◌/◌, ◌<◌, ◌≤◌, Bool, true, false, Some}
 use Rattle.outside.specs.declared.TheConstants.{PAGE_WORDS}
 use Rattle.plain_model.specs.declared.names.ForkName.{ForkName}
 use Rattle.plain_model.specs.declared.names.Kind.TheVariants.{Execute}
@@ -8,7 +8,7 @@ use Rattle.plain_model.specs.declared.fork.Regs.{Regs}
 use Rattle.plain_model.specs.declared.map.Found.{Found}
 use Rattle.plain_model.specs.declared.map.SpaceHandle.{SpaceHandle}
 use Rattle.plain_model.specs.Outcome.{DrumWords}
-use Rattle.plain_model.specs.Pages.{PagesMeaning}
+use Rattle.plain_model.specs.Pages.{PagesMeaning, IsTouched}
 use Rattle.plain_model.specs.State.{NumberedPages}
 use Rattle.ka10_unit.specs.declared.fetch_page.FetchPage.{FetchPage}
 use Rattle.ka10_unit.specs.Glide.{is_ready}
@@ -41,8 +41,11 @@ abbrev pub CanExecute : ForkName → NumberedPages → FetchPage → Type 0
 CanExecute f p page = (at : ℕ) → Has page at → is_ready f p at Execute ≡ true
 
 -- a page is kept for an address, where it is to be had, in place of another: what could be executed can be
-pub record KeepsPage {P : Type 0} (means : PagesMeaning P) (space : SpaceHandle) (p : P) (at : ℕ) (old new : FetchPage) (is_kept : Bool) : Type 0 where
+pub record KeepsPage {P : Type 0} (means : PagesMeaning P) (space : SpaceHandle) (p : P)
+    (at : ℕ) (old new : FetchPage) (is_kept : Bool) : Type 0 where
   pub has : is_kept ≡ true → Has new at
+  pub missing : is_kept ≡ false → ACCUMULATORS ≤ at → (f : ForkName) → means.space p f ≡ Some space
+      → IsTouched means p f (at / PAGE_WORDS) Execute → ⊥
   pub there : IsThere means space p new
   pub told : (d : DrumWords) (f : ForkName) → means.fits p d → means.space p f ≡ Some space
       → CanExecute f (means.plain p d) old → CanExecute f (means.plain p d) new

@@ -1,18 +1,21 @@
 -- Where a word of a space is.
-use Rattle.std.specs.Prelude.{◌≡◌, ℕ, ◌+◌, ◌/◌, ◌%◌, ◌<◌, ◌≤◌, List, Option, None, Some, IfSome, length, slice_set}
+use Rattle.std.specs.Prelude.{◌≡◌, ℕ, zero, suc, ◌+◌, ◌/◌, ◌%◌, ◌<◌, ◌≤◌, true, List, Option, None, Some, IfSome, length, slice_set}
 use Rattle.outside.specs.declared.TheConstants.{PAGE_WORDS}
 use Rattle.plain_model.specs.declared.names.TheConstants.{ACCUMULATORS}
 use Rattle.plain_model.specs.declared.names.ForkName.{ForkName}
+use Rattle.plain_model.specs.declared.names.Kind.{Kind}
+use Rattle.plain_model.specs.declared.names.Kind.TheVariants.{Read}
 use Rattle.plain_model.specs.declared.map.SpaceHandle.{SpaceHandle}
 use Rattle.plain_model.specs.declared.fork.Regs.{Regs}
-use Rattle.plain_model.specs.Addressing.{indexed, last_taken}
+use Rattle.plain_model.specs.Addressing.{indexed, is_indirect, last_taken}
 use Rattle.plain_model.specs.Outcome.{DrumWords}
-use Rattle.plain_model.specs.Pages.{PagesMeaning, StaysPut}
+use Rattle.plain_model.specs.Pages.{PagesMeaning, StaysPut, IsTouched}
 use Rattle.plain_model.specs.References.{in_map, slot_at, stored}
+use Rattle.plain_model.specs.State.{NumberedPages}
 use Rattle.ka10_unit.specs.declared.addressing.Address.{Address}
 use Rattle.ka10_unit.specs.declared.spots.Spot.{Spot}
 use Rattle.ka10_unit.specs.declared.spots.Spot.TheVariants.{Accumulator, Page}
-use Rattle.ka10_unit.specs.Glide.{Addressed}
+use Rattle.ka10_unit.specs.Glide.{Addressed, word_of}
 
 -- the address that a word names which isn't indirect
 abbrev pub addressed : List ℕ → ℕ → Address
@@ -22,6 +25,15 @@ addressed ac word = record { e = indexed ac word; last = last_taken ac word }
 abbrev pub LeadsTo : {P : Type 0} → PagesMeaning P → P → SpaceHandle → List ℕ → ℕ → ℕ → Option Address → Type 0
 LeadsTo means p space ac most word found = (d : DrumWords) (f : ForkName) (before : ℕ) → means.fits p d → means.space p f ≡ Some space → before + most ≤ 16
     → IfSome found (λ address. Addressed f (means.plain p d) ac before most word address.e address.last)
+
+-- a reference to an address finds an accumulator, or its page ready
+abbrev pub IsReached : {P : Type 0} → PagesMeaning P → P → ForkName → ℕ → Kind → Type 0
+IsReached means p f at kind = ACCUMULATORS ≤ at → IsTouched means p f (at / PAGE_WORDS) kind
+
+-- fewer indirect words than these lead on from a word, and each of them is reached
+abbrev pub IsLed : {P : Type 0} → PagesMeaning P → P → ForkName → NumberedPages → List ℕ → ℕ → ℕ → Type 0
+IsLed means p f q ac zero word = ⊥
+IsLed means p f q ac (suc most) word = is_indirect word ≡ true → IsReached means p f (indexed ac word) Read × IsLed means p f q ac most (word_of f q ac (indexed ac word))
 
 module _ {P : Type 0} (means : PagesMeaning P) (space : SpaceHandle) (at : ℕ) where
   -- the word at an address is there

@@ -34,6 +34,10 @@ progress p ac t = record { pages = pages_so_far p t; ac = ac; refs = t.refs.item
 abbrev pub IsOpenAt : ForkName → NumberedPages → ℕ → Type 0
 IsOpenAt f p a = makings p (in_map (slot_at f a)) Write ≡ Some []
 
+-- where a write made nothing more, it makes nothing more still
+abbrev pub StaysOpen : ForkName → NumberedPages → NumberedPages → Type 0
+StaysOpen f p q = (a : ℕ) → IsOpenAt f p a → IsOpenAt f q a
+
 -- a word can be stored, if there is one
 abbrev pub CanPut : ForkName → NumberedPages → Option Put → Type 0
 CanPut f p None = Unit {0}

@@ -1,12 +1,12 @@
 // The fields of an instruction word, and effective addresses in place.
-ghost use Rattle.std.specs.Prelude.{◌≡◌, ◌<◌, IfSome};
+ghost use Rattle.std.specs.Prelude.{◌≡◌, ◌<◌, IfSome, IsSome, Some};
 ghost use Rattle.std.specs.Option.{option_map};
 ghost use Rattle.plain_model.specs.declared.names.ForkName.{ForkName as AForkName};
 ghost use Rattle.plain_model.specs.Addressing as word_fields;
 ghost use Rattle.plain_model.specs.Limits.{IsAddress};
 ghost use Rattle.plain_model.specs.Outcome.{DrumWords};
 ghost use Rattle.plain_model.specs.Pages.{HasSpace};
-ghost use Rattle.ka10_unit.specs.Spots.{LeadsTo, addressed};
+ghost use Rattle.ka10_unit.specs.Spots.{IsLed, LeadsTo, addressed};
 
 use crate::spots::take;
 use plain_model::{Kind, Pages, Regs, SpaceHandle};
@@ -64,7 +64,8 @@ fn index(regs: &Regs, word: Word) -> Address
     }
 }
 
-/// The word to which a word leads by fewer indirect words than these: the first that isn't indirect.
+/// The word to which a word leads by fewer indirect words than these, where each is reached as the pages are: the
+/// first that isn't indirect.
 #[inline(never)]
 fn followed<P: Pages>(
     regs: &Regs,
@@ -75,7 +76,8 @@ fn followed<P: Pages>(
 ) -> Option<Word>
     requires space { HasSpace P.means pages.now space }
     requires most { most < 16 }
-    ensures { LeadsTo P.means pages.now space regs.now.ac most first (option_map (addressed regs.now.ac) result) }
+    ensures told { LeadsTo P.means pages.now space regs.now.ac most first (option_map (addressed regs.now.ac) result) }
+    ensures led { (d : DrumWords) (f : AForkName) → P.means.fits pages.now d → P.means.space pages.now f ≡ Some space → IsLed P.means pages.now f (P.means.plain pages.now d) regs.now.ac most first → IsSome result }
 {
     let mut word = first;
     for words in 0..most {
@@ -90,7 +92,7 @@ fn followed<P: Pages>(
     None
 }
 
-/// The effective address of a word, by fewer indirect words than these.
+/// The effective address of a word, by fewer indirect words than these, where each is reached as the pages are.
 #[inline(always)]
 pub fn effective_address<P: Pages>(
     regs: &Regs,
@@ -104,6 +106,7 @@ pub fn effective_address<P: Pages>(
     requires most { most < 16 }
     ensures below { IfSome result (λ address. IsAddress address.e) }
     ensures told { LeadsTo P.means pages.now space regs.now.ac most word result }
+    ensures led { (d : DrumWords) (f : AForkName) → P.means.fits pages.now d → P.means.space pages.now f ≡ Some space → IsLed P.means pages.now f (P.means.plain pages.now d) regs.now.ac most word → IsSome result }
 {
     if is_indirect(word) {
         return match followed(regs, pages, space, word, most) {

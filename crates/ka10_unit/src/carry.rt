@@ -15,7 +15,7 @@ use plain_model::{ForkName, Kind, Pages, Put, Touch};
 const WORDS: u32 = PAGE_WORDS as u32;
 
 /// Stores a word, if there is one, in a page that a touch to write finds ready.
-fn store<P: Pages>(pages: &mut P, fork: ForkName, put: Option<Put>)
+pub fn store<P: Pages>(pages: &mut P, fork: ForkName, put: Option<Put>)
     requires serves { Serves P.means pages.old fork }
     requires put { IsPutBelow (2 ^ 18) put }
     ensures told { (d : DrumWords) → P.means.fits pages.old d → CanPut fork (P.means.plain pages.old d) put

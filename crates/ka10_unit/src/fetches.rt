@@ -1,5 +1,5 @@
 // Fetches in a burst: where the page of the program counter is, is found once for the units behind.
-ghost use Rattle.std.specs.Prelude.{◌≡◌, ◌<◌, ◌^◌, IfSome, slice_index};
+ghost use Rattle.std.specs.Prelude.{◌≡◌, ◌<◌, ◌^◌, Some, IsSome, IfSome, slice_index};
 ghost use Rattle.plain_model.specs.declared.names.ForkName.{ForkName as AForkName};
 ghost use Rattle.plain_model.specs.declared.names.Kind.TheVariants.{Execute};
 ghost use Rattle.plain_model.specs.declared.names.TheConstants.{ACCUMULATORS, SPACE_PAGES};
@@ -8,6 +8,7 @@ ghost use Rattle.plain_model.specs.Outcome.{DrumWords};
 ghost use Rattle.plain_model.specs.Pages.{HasSpace};
 ghost use Rattle.ka10_unit.specs.Glide.{Takes};
 ghost use Rattle.ka10_unit.specs.Fetches.{CanExecute, IsPage, IsThere, KeepsPage};
+ghost use Rattle.ka10_unit.specs.Spots.{IsReached};
 
 use crate::fetch_page::FetchPage;
 use crate::spots::page_of;
@@ -31,6 +32,8 @@ pub fn fetch<P: Pages>(
     requires pc { regs.now.pc < 2 ^ 18 }
     requires there { IsThere P.means space pages.now kept.old }
     ensures there { IsThere P.means space pages.now kept.new }
+    ensures reached { (f : AForkName) → P.means.space pages.now f ≡ Some space
+        → IsReached P.means pages.now f regs.now.pc Kind.Execute → IsSome result }
     ensures told { (d : DrumWords) (f : AForkName) → P.means.fits pages.now d → P.means.space pages.now f ≡ Some space
         → CanExecute f (P.means.plain pages.now d) kept.old → CanExecute f (P.means.plain pages.now d) kept.new
         × IfSome result (λ word. Takes f (P.means.plain pages.now d) regs.now.ac regs.now.pc Kind.Execute word) }

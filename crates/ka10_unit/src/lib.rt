@@ -36,6 +36,7 @@ mod spots;
 mod stacks;
 mod taken;
 mod ways;
+mod word_blocks;
 mod words;
 
 pub use acts::{Act, act_at};
@@ -71,6 +72,7 @@ pub use program_words::{flags_of, half_of_flags, pc_word};
 pub use slow::{Outcome, slow_unit};
 pub use stacks::{commit_popj, commit_push_or_pop, commit_pushj, pushed};
 pub use taken::{Taken, Trap};
+pub use word_blocks::{make_block, refer_block, store_block};
 pub use words::{commit_blt, commit_boolean, commit_exch, commit_half, commit_test};
 
 #[cfg(test)]

@@ -1,12 +1,12 @@
 // Where the words of a fork's space are: in its accumulators, or in pages that a look has found.
-ghost use Rattle.std.specs.Prelude.{◌≡◌, ◌/◌, ◌%◌, ◌<◌, ◌^◌, Some, IfSome, true};
+ghost use Rattle.std.specs.Prelude.{◌≡◌, ◌/◌, ◌%◌, ◌<◌, ◌^◌, Some, IsSome, IfSome, true};
 ghost use Rattle.outside.specs.declared.TheConstants.{PAGE_WORDS};
 ghost use Rattle.plain_model.specs.declared.names.ForkName.{ForkName as AForkName};
 ghost use Rattle.plain_model.specs.Limits.{IsAddress};
 ghost use Rattle.plain_model.specs.Outcome.{DrumWords};
-ghost use Rattle.plain_model.specs.Pages.{HasSpace};
+ghost use Rattle.plain_model.specs.Pages.{HasSpace, CanChange};
 ghost use Rattle.ka10_unit.specs.Glide.{Takes, is_ready, word_of};
-ghost use Rattle.ka10_unit.specs.Spots.{IsSpot, StoredIf};
+ghost use Rattle.ka10_unit.specs.Spots.{IsReached, IsSpot, StoredIf};
 
 use outside::PAGE_WORDS;
 use plain_model::{ACCUMULATORS, Found, Kind, Pages, Regs, SpaceHandle};
@@ -41,6 +41,7 @@ pub fn take<P: Pages>(
 ) -> Option<Word>
     requires space { HasSpace P.means pages.now space }
     requires address { IsAddress at }
+    ensures reached { (f : AForkName) → P.means.space pages.now f ≡ Some space → IsReached P.means pages.now f at kind → IsSome result }
     ensures told { (d : DrumWords) (f : AForkName) → P.means.fits pages.now d → P.means.space pages.now f ≡ Some space → IfSome result (λ word. Takes f (P.means.plain pages.now d) regs.now.ac at kind word) }
 {
     if at < ACCUMULATORS {
@@ -58,6 +59,7 @@ pub fn spot_to_write<P: Pages>(pages: &P, space: SpaceHandle, at: u32) -> Option
     requires space { HasSpace P.means pages.now space }
     requires address { IsAddress at }
     ensures spot { IfSome result (λ spot. IsSpot P.means space at pages.now spot) }
+    ensures reached { (f : AForkName) → P.means.space pages.now f ≡ Some space → IsReached P.means pages.now f at Kind.Write → IsSome result }
     ensures told { (d : DrumWords) (f : AForkName) → P.means.fits pages.now d → P.means.space pages.now f ≡ Some space → IfSome result (λ spot. is_ready f (P.means.plain pages.now d) at Kind.Write ≡ true) }
 {
     if at < ACCUMULATORS {
@@ -75,6 +77,7 @@ pub fn spot_to_change<P: Pages>(pages: &P, space: SpaceHandle, at: u32) -> Optio
     requires space { HasSpace P.means pages.now space }
     requires address { IsAddress at }
     ensures spot { IfSome result (λ spot. IsSpot P.means space at pages.now spot) }
+    ensures reached { (f : AForkName) → P.means.space pages.now f ≡ Some space → CanChange (IsReached P.means pages.now f at) → IsSome result }
     ensures read { (d : DrumWords) (f : AForkName) → P.means.fits pages.now d → P.means.space pages.now f ≡ Some space → IfSome result (λ spot. is_ready f (P.means.plain pages.now d) at Kind.Read ≡ true) }
     ensures write { (d : DrumWords) (f : AForkName) → P.means.fits pages.now d → P.means.space pages.now f ≡ Some space → IfSome result (λ spot. is_ready f (P.means.plain pages.now d) at Kind.Write ≡ true) }
 {

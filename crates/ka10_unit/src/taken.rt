@@ -13,7 +13,7 @@ ghost use Rattle.plain_model.specs.Steps.{denied_channel, is_accumulator, refers
 ghost use Rattle.plain_model.specs.declared.names.PageName.{PageName as APageName};
 ghost use Rattle.page_gather.specs.Gathering.{AreSound, Gathers, left_of};
 ghost use Rattle.ka10_unit.specs.Gathers.{IsOf, Serves, framed};
-ghost use Rattle.ka10_unit.specs.Taking.{AsksAt, CanWrite, Follows, HasPage, IsOpen, IsPutBelow, Stands, pages_so_far, progress, stands_at, widened_by};
+ghost use Rattle.ka10_unit.specs.Taking.{AsksAt, CanWrite, Follows, HasPage, IsOpen, IsPutBelow, Stands, StaysOpen, pages_so_far, progress, stands_at, widened_by};
 
 use arrayvec::ArrayVec;
 use outside::PAGE_WORDS;
@@ -214,6 +214,39 @@ fn word_at<P: Pages>(taken: &Taken, regs: &Regs, pages: &P, fork: ForkName, at: 
     seen_word(&taken.gather, pages, fork, taken.kept, at)
 }
 
+/// Refers to an address as `refer` does, where a reference is left to the unit.
+pub fn refer_next<P: Pages>(
+    taken: &mut Taken,
+    regs: &Regs,
+    pages: &P,
+    fork: ForkName,
+    at: u32,
+    kind: Kind,
+) -> Result<Word, Trap>
+    requires serves { Serves P.means pages.now fork }
+    requires address { IsAddress at }
+    requires is_open { IsOpen fork taken.old }
+    requires kept { IsPutBelow (2 ^ 18) taken.old.kept }
+    requires room { length taken.old.refs.items < 16 }
+    ensures is_open { IsOpen fork taken.new }
+    ensures kept { taken.new.kept ≡ taken.old.kept }
+    ensures count { length taken.new.refs.items ≤ length taken.old.refs.items + 1 }
+    ensures told { (d : DrumWords) → P.means.fits pages.now d → Stands fork (framed P.means pages.now d) taken.old
+        → Follows fork (framed P.means pages.now d) regs.now.ac taken.old taken.new (refers at kind) result }
+    ensures writes { (d : DrumWords) → P.means.fits pages.now d → Stands fork (framed P.means pages.now d) taken.old → kind ≡ Kind.Write
+        → CanWrite fork (framed P.means pages.now d) taken.new at result }
+    ensures still { (d : DrumWords) → P.means.fits pages.now d → Stands fork (framed P.means pages.now d) taken.old
+        → StaysOpen fork (pages_so_far (framed P.means pages.now d) taken.old) (pages_so_far (framed P.means pages.now d) taken.new) }
+{
+    match ask(&mut taken.gather, pages, fork, at, kind) {
+        Err(trap) => Err(trap),
+        Ok(()) => {
+            taken.refs.push(Reference { address: at, kind });
+            Ok(word_at(taken, regs, pages, fork, at))
+        }
+    }
+}
+
 /// Refers to an address, and takes the word there. Err: the page is denied, or has to be made and
 /// the drum is full; or it would be a reference more than a unit may have.
 pub fn refer<P: Pages>(
@@ -238,13 +271,7 @@ pub fn refer<P: Pages>(
     if taken.refs.len() >= MOST_REFERENCES as usize {
         return Err(Trap::ILLEGAL);
     }
-    match ask(&mut taken.gather, pages, fork, at, kind) {
-        Err(trap) => Err(trap),
-        Ok(()) => {
-            taken.refs.push(Reference { address: at, kind });
-            Ok(word_at(taken, regs, pages, fork, at))
-        }
-    }
+    refer_next(taken, regs, pages, fork, at, kind)
 }
 
 /// Makes the last reference one to write.

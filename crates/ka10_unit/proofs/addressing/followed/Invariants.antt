@@ -1,8 +1,12 @@
-use Rattle.std.proofs.Common.{◌≡◌, ℕ, ◌+◌, ◌≤◌, Some}
+use Rattle.std.proofs.Common.{◌≡◌, ℕ, ◌+◌, ◌-◌, ◌≤◌, Some}
 use Rattle.plain_model.specs.declared.names.ForkName.{ForkName}
 use Rattle.plain_model.specs.Outcome.{DrumWords}
+use Rattle.ka10_unit.specs.Spots.{IsLed}
 use Rattle.ka10_unit.proofs.IndirectWords.{Leads}
 use Rattle.ka10_unit.proofs.addressing.followed.Given as goal
 
+-- the words so far lead here, and where all are reached so are those to come
 abbrev pub invariant-loop-words : goal.invariant-loop-words
-invariant-loop-words g l = (d : DrumWords) (f : ForkName) (before : ℕ) → g.P.Pages.means.fits l.pages d → g.P.Pages.means.space l.pages f ≡ Some l.space → before + l.most ≤ 16 → Leads f (g.P.Pages.means.plain l.pages d) l.regs.ac before l.fn.first l.word l.words
+invariant-loop-words g l = (d : DrumWords) (f : ForkName) → g.P.Pages.means.fits l.pages d → g.P.Pages.means.space l.pages f ≡ Some l.space
+    → ((before : ℕ) → before + l.most ≤ 16 → Leads f (g.P.Pages.means.plain l.pages d) l.regs.ac before l.fn.first l.word l.words)
+    × (IsLed g.P.Pages.means l.pages f (g.P.Pages.means.plain l.pages d) l.regs.ac l.most l.fn.first → IsLed g.P.Pages.means l.pages f (g.P.Pages.means.plain l.pages d) l.regs.ac (l.most - l.words) l.word)

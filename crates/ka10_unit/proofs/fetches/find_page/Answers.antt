@@ -6,6 +6,7 @@ use Rattle.ka10_unit.proofs.fetches.find_page.Goals as goal
 pub returns-in-Some : goal.returns-in-Some
 returns-in-Some g c = record {
   has = λ yes. c.fetch_page.ensures.has c.args.at c.if-at-lt-ACCUMULATORS.false (sym c.page_of-page.ensures.page);
+  missing = λ no. absurd (cc no);
   there = λ at has. record {
     high = c.fetch_page.ensures.high at has;
     place = ap (λ (n : ℕ). g.P.Pages.means.place c.args.pages.now c.args.space n) (c.fetch_page.ensures.of at has) ∙ c.in-Some.ensures.place ∙ ap Some (sym c.fetch_page.ensures.place);

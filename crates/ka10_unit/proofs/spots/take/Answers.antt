@@ -4,6 +4,7 @@ use Rattle.ka10_unit.proofs.spots.take.Goals as goal
 
 pub returns-in-Some : goal.returns-in-Some
 returns-in-Some g c = record {
+  reached = λ f is h. refl;
   told = λ d f fits is. takes_high f (g.P.Pages.means.plain c.args.pages.now d) c.args.regs.now.ac c.args.at c.args.kind c.load.result c.if-at-lt-ACCUMULATORS.false
       (ready_there g.P.Pages.means c.args.pages.now d f c.args.at c.page_of.result c.args.kind c.page_of.ensures.page (c.in-Some.ensures.told d f fits is refl)) (c.load.ensures.told d f fits is);
 }

@@ -1,0 +1,118 @@
+-- Blocks of words that were referred to, and stored.
+use Rattle.std.proofs.Common.{◌≡◌, ℕ, suc, ◌+◌, ◌-◌, ◌%◌, ◌^◌, ◌<◌, ◌≤◌, Bool, true, false, cond, List, [], ◌∷◌, ◌++◌, None, refl, sym, ◌∙◌, ap, subst, arith, inl, inr}
+use Rattle.std.specs.Prelude.{Ok, Err, Result}
+use Rattle.std.proofs.lemmas.Bool.{cases_lt}
+use Rattle.plain_model.specs.declared.names.ForkName.{ForkName}
+use Rattle.plain_model.specs.declared.names.Kind.{Kind}
+use Rattle.plain_model.specs.declared.names.Kind.TheVariants.{Write}
+use Rattle.plain_model.specs.declared.fork.Regs.{Regs}
+use Rattle.plain_model.specs.References.{in_map, slot_at, stored}
+use Rattle.plain_model.specs.State.{NumberedPages}
+use Rattle.plain_model.specs.Pages.{PagesMeaning, StaysPut}
+use Rattle.plain_model.specs.Steps.{is_accumulator, refers, run, plainly}
+use Rattle.plain_model.specs.Calls.{next_address, block_steps}
+use Rattle.plain_model.specs.ForkCalls.{stored_from}
+use Rattle.page_gather.specs.Gathering.{after_all}
+use Rattle.ka10_unit.specs.declared.taken.Taken.{Taken}
+use Rattle.ka10_unit.specs.declared.taken.Trap.{Trap}
+use Rattle.ka10_unit.specs.Blocks.{AreOpenAt, TakenSoFar, TakesBlock, address_behind, stored_word}
+use Rattle.ka10_unit.specs.Gathers.{Framed}
+use Rattle.ka10_unit.specs.Taking.{CanWrite, Follows, IsOpenAt, Stands, StaysOpen, pages_so_far, progress}
+use Rattle.ka10_unit.proofs.Carried.{makings_stored}
+
+-- addresses go on by one
+pub first_address : (at : ℕ) → at < 2 ^ 18 → at ≡ address_behind at 0
+first_address at low = omega arith
+
+pub one_behind : (at k : ℕ) → next_address (address_behind at k) ≡ address_behind at (k + 1)
+one_behind at k = omega arith
+
+pub behind_low : (at k : ℕ) → address_behind at k < 2 ^ 18
+behind_low at k = omega arith
+
+one_more : (n i : ℕ) → i < n → n - i ≡ suc (n - (i + 1))
+one_more n i h = omega arith
+
+-- one address more
+opens_more : (f : ForkName) (p q : NumberedPages) (at i : ℕ) → AreOpenAt f p at i → StaysOpen f p q → (is_accumulator (address_behind at i) ≡ false → IsOpenAt f q (address_behind at i)) → AreOpenAt f q at (i + 1)
+opens_more f p q at i old still new = λ k less high. elim (cases_lt k i) [
+  | inl below ↦ still (address_behind at k) (old k below high)
+  | inr upto ↦
+      let same : k ≡ i = omega arith in
+      subst (λ (n : ℕ). IsOpenAt f q (address_behind at n)) (sym same) (new (ap (λ (n : ℕ). is_accumulator (address_behind at n)) (sym same) ∙ high))
+]
+
+module _ (f : ForkName) (p : Framed) (regs : Regs) (at : ℕ) (kind : Kind) where
+  -- nothing is taken yet
+  pub block_begins : (t : Taken) → at < 2 ^ 18 → Stands f p t → t.gather.references ≡ [] → t.refs.items ≡ [] → t.kept ≡ None → TakenSoFar f p regs at kind t 0 []
+  unfolding after_all
+  block_begins t low stands gather refs kept = record {
+    stands = stands;
+    runs = rw (← first_address at low, gather, refs, kept) refl;
+    open_at = λ writes k less. absurd (omega arith);
+  }
+
+  module _ (i : ℕ) (less : i < 16) (words : List ℕ) (t new : Taken) (so_far : TakenSoFar f p regs at kind t i words) where
+    abbrev Next : Result ℕ Trap → Type 0
+    Next result = Follows f p regs.ac t new (refers (address_behind at i) kind) result
+
+    -- a word is taken
+    pub block_goes : (w : ℕ) → Next (Ok w) → (kind ≡ Write → CanWrite {A = ℕ} f p new (address_behind at i) (Ok w)) → StaysOpen f (pages_so_far p t) (pages_so_far p new) → TakenSoFar f p regs at kind new (i + 1) (words ++ w ∷ [])
+    block_goes w goes can still = record {
+      stands = goes.stands;
+      runs =
+          sym (goes.runs (λ v. block_steps (16 - (i + 1)) (next_address (address_behind at i)) kind (words ++ v ∷ []) regs)
+          ∙ ap (λ (a : ℕ). run (plainly f) f (block_steps (16 - (i + 1)) a kind (words ++ w ∷ []) regs) (progress p regs.ac new)) (one_behind at i))
+          ∙ sym (ap (λ (n : ℕ). run (plainly f) f (block_steps n (address_behind at i) kind words regs) (progress p regs.ac t)) (one_more 16 i less))
+          ∙ so_far.runs;
+      open_at = λ writes. opens_more f (pages_so_far p t) (pages_so_far p new) at i (so_far.open_at writes) still (can writes);
+    }
+
+    -- one stops it
+    pub block_stops : (e : Trap) → Next (Err e) → TakesBlock f p regs at kind new (Err e)
+    block_stops e stops = record {
+      stands = stops.stands;
+      is =
+          sym so_far.runs ∙ ap (λ (n : ℕ). run (plainly f) f (block_steps n (address_behind at i) kind words regs) (progress p regs.ac t)) (one_more 16 i less)
+          ∙ stops.runs (λ v. block_steps (16 - (i + 1)) (next_address (address_behind at i)) kind (words ++ v ∷ []) regs);
+      open_at = λ ws no. absurd (cc no);
+    }
+
+  -- all are taken
+  pub block_done : (i : ℕ) (words all : List ℕ) (t : Taken) → 16 ≤ i → i ≤ 16 → words ≡ all → TakenSoFar f p regs at kind t i words → TakesBlock f p regs at kind t (Ok all)
+  unfolding run
+  block_done i words all t most upto same so_far =
+      let none : 16 - i ≡ 0 = omega arith in
+      let full : i ≡ 16 = omega arith in
+      record {
+        stands = so_far.stands;
+        is = sym so_far.runs ∙ rw (none, same) refl;
+        open_at = λ ws is writes. subst (λ (n : ℕ). AreOpenAt f (pages_so_far p t) at n) full (so_far.open_at writes);
+      }
+
+-- ---- words stored
+
+-- a word that is stored leaves each address open
+pub opens_stored : (f : ForkName) (q : NumberedPages) (a w : ℕ) → StaysOpen f q (stored_word f q a w)
+opens_stored f q a w b h = by (is_accumulator a)
+  where
+    by : (low : Bool) → IsOpenAt f (cond low q (stored q (in_map (slot_at f a)) (a % 512) w)) b
+    by true = h
+    by false = makings_stored q (in_map (slot_at f a)) (in_map (slot_at f b)) (a % 512) w Write ∙ h
+
+-- the words behind one that was stored
+pub stored_on : (f : ForkName) (q : NumberedPages) (at i w : ℕ) (ws : List ℕ) → stored_from (stored_word f q (address_behind at i) w) f (address_behind at (i + 1)) ws ≡ stored_from q f (address_behind at i) (w ∷ ws)
+stored_on f q at i w ws = ap (λ (a : ℕ). stored_from (stored_word f q (address_behind at i) w) f a ws) (sym (one_behind at i))
+
+-- words stored one after another
+pub stays_on : {P : Type 0} (means : PagesMeaning P) (old mid new : P) → StaysPut means old mid → StaysPut means mid new → StaysPut means old new
+stays_on means old mid new g h = record {
+  touched = h.touched ∙ g.touched;
+  scene = h.scene ∙ g.scene;
+  space = h.space ∙ g.space;
+  place = h.place ∙ g.place;
+  lives = h.lives ∙ g.lives;
+  forks = h.forks ∙ g.forks;
+  serials = h.serials ∙ g.serials;
+  most = h.most ∙ g.most;
+}

@@ -1,0 +1,103 @@
+// Sixteen words of a fork, from an address on.
+ghost use Rattle.std.specs.Prelude.{◌≡◌, ◌<◌, ◌^◌, None};
+ghost use Rattle.plain_model.specs.Calls.{next_address};
+ghost use Rattle.plain_model.specs.ForkCalls.{stored_from};
+ghost use Rattle.plain_model.specs.Limits.{IsAddress};
+ghost use Rattle.plain_model.specs.Outcome.{DrumWords};
+ghost use Rattle.plain_model.specs.Pages.{StaysPut};
+ghost use Rattle.plain_model.specs.declared.names.TheConstants.{ACCUMULATORS};
+ghost use Rattle.ka10_unit.specs.Blocks.{AreOpenAt, IsStoredAt, TakesBlock, stored_word};
+ghost use Rattle.ka10_unit.specs.Carrying.{Grows};
+ghost use Rattle.ka10_unit.specs.Gathers.{IsOf, Serves, framed};
+ghost use Rattle.ka10_unit.specs.Taking.{Stands, pages_so_far};
+
+use crate::carry::{carry, store};
+use crate::taken::{Taken, Trap, refer_next};
+use plain_model::{ACCUMULATORS, ForkName, Kind, Pages, Put, Regs};
+use word36::Word;
+
+/// How many words a block has.
+const WORDS: usize = ACCUMULATORS as usize;
+
+// The address behind another.
+fn next_address(at: u32) -> u32
+    requires { IsAddress at }
+    ensures { result ≡ next_address at }
+{
+    (at + 1) % 0o1_000_000
+}
+
+/// Refers to sixteen words of a fork from an address on, in order, and takes them. What is taken before is forgotten.
+/// Err: the first reference that is denied, or for which a page has to be made while the drum is full. No page is made
+/// before `make_block`.
+pub fn refer_block<P: Pages>(
+    taken: &mut Taken,
+    regs: &Regs,
+    pages: &P,
+    fork: ForkName,
+    at: u32,
+    kind: Kind,
+) -> Result<[Word; 16], Trap>
+    requires serves { Serves P.means pages.now fork }
+    requires address { IsAddress at }
+    ensures own { IsOf fork taken.new.gather }
+    ensures kept { taken.new.kept ≡ None }
+    ensures told { (d : DrumWords) → P.means.fits pages.now d → TakesBlock fork (framed P.means pages.now d) regs.now at kind taken.new result }
+{
+    taken.restart(fork);
+    let mut words = [Word::ZERO; WORDS];
+    let mut next = at;
+    for i in 0..WORDS {
+        match refer_next(taken, regs, pages, fork, next, kind) {
+            Err(trap) => return Err(trap),
+            Ok(word) => words[i] = word,
+        }
+        next = next_address(next);
+    }
+    Ok(words)
+}
+
+/// Makes the pages of a block that was referred to, in order.
+pub fn make_block<P: Pages>(taken: &Taken, pages: &mut P, fork: ForkName)
+    requires serves { Serves P.means pages.old fork }
+    requires own { IsOf fork taken.now.gather }
+    requires kept { taken.now.kept ≡ None }
+    requires serial { P.means.serial pages.old fork.tty < 2 ^ 62 }
+    ensures told { (d : DrumWords) → P.means.fits pages.old d → Stands fork (framed P.means pages.old d) taken.now
+        → P.means.plain pages.new d ≡ pages_so_far (framed P.means pages.old d) taken.now }
+    ensures fits { (d : DrumWords) → P.means.fits pages.old d → P.means.fits pages.new d }
+    ensures grows { Grows P.means fork.tty 128 pages.old pages.new }
+{
+    carry(taken, None, pages, fork);
+}
+
+// Stores a word at an address of a fork's pages; none at that of an accumulator.
+fn store_at<P: Pages>(pages: &mut P, fork: ForkName, at: u32, word: Word)
+    requires serves { Serves P.means pages.old fork }
+    requires address { IsAddress at }
+    ensures told { (d : DrumWords) → P.means.fits pages.old d → IsStoredAt fork (P.means.plain pages.old d) at
+        → P.means.plain pages.new d ≡ stored_word fork (P.means.plain pages.old d) at word }
+    ensures fits { (d : DrumWords) → P.means.fits pages.old d → P.means.fits pages.new d }
+    ensures stays { StaysPut P.means pages.old pages.new }
+{
+    if at >= ACCUMULATORS {
+        store(pages, fork, Some(Put { at, word }));
+    }
+}
+
+/// Stores sixteen words in a fork's pages, from an address on, where each can be stored. Those at addresses of
+/// accumulators are left out.
+pub fn store_block<P: Pages>(pages: &mut P, fork: ForkName, at: u32, words: &[Word; 16])
+    requires serves { Serves P.means pages.old fork }
+    requires address { IsAddress at }
+    ensures told { (d : DrumWords) → P.means.fits pages.old d → AreOpenAt fork (P.means.plain pages.old d) at ACCUMULATORS
+        → P.means.plain pages.new d ≡ stored_from (P.means.plain pages.old d) fork at words.now }
+    ensures fits { (d : DrumWords) → P.means.fits pages.old d → P.means.fits pages.new d }
+    ensures stays { StaysPut P.means pages.old pages.new }
+{
+    let mut next = at;
+    for i in 0..WORDS {
+        store_at(pages, fork, next, words[i]);
+        next = next_address(next);
+    }
+}
