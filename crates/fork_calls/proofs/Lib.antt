@@ -1,0 +1,14 @@
+pub mod Returning
+pub mod Counted
+pub mod Places
+pub mod Holdings
+pub mod Tops
+pub mod CallLeaving
+pub mod Halting
+pub mod Branch
+pub mod Bodies
+pub mod Going
+pub mod TurnBlocks
+pub mod Grown
+pub mod Added
+pub mod MadeTurns

@@ -1,0 +1,107 @@
+-- A turn of CFORK that has a slot.
+use Rattle.std.proofs.Common.{◌≡◌, ℕ, ◌<◌, ◌^◌, Bool, true, false, cond, List, length, Option, Some, refl, sym, ◌∙◌, ap, subst, arith, inl, inr}
+use Rattle.std.specs.Prelude.{Err, IsSome, is_some, ◌==◌}
+use Rattle.std.specs.Option.{option_map}
+use Rattle.std.specs.FinMap as map
+use Rattle.word36.specs.Words.{right, bit}
+use Rattle.plain_model.specs.declared.call.TheConstants.{NO_ROOM}
+use Rattle.plain_model.specs.declared.call.End.TheVariants.{Failed, Trap as TrapEnd}
+use Rattle.plain_model.specs.declared.call.ForkChange.{ForkChange}
+use Rattle.plain_model.specs.declared.call.ForkChange.TheVariants.{Make}
+use Rattle.plain_model.specs.declared.names.ForkName.{ForkName}
+use Rattle.plain_model.specs.declared.map.NewMap.TheVariants.{Empty as EmptyMap, FollowAll}
+use Rattle.plain_model.specs.declared.fork.Fork.{Fork}
+use Rattle.plain_model.specs.declared.fork.ForkStatus.TheVariants.{Run, Halted, Forced}
+use Rattle.plain_model.specs.State.{NumberedPages}
+use Rattle.plain_model.specs.Deeds.{in_ac}
+use Rattle.plain_model.specs.Forks.{ForkMap, psi_at_rest}
+use Rattle.plain_model.specs.NewMaps.{with_map}
+use Rattle.plain_model.specs.Room.{HasRoom}
+use Rattle.plain_model.specs.Pages.{IsNewMap}
+use Rattle.plain_model.specs.Trees.{PlainTree, next_name, with_made}
+use Rattle.plain_model.specs.Calls.{Turn, end_of, ends, made_by, with_added}
+use Rattle.plain_model.specs.ForkCalls.{ForkAsked, fork_changed, made_fork, making, map_wanted, starts, with_accumulators}
+use Rattle.plain_model.proofs.ForkMaps.{cases_name, get_put, get_put_other}
+use Rattle.fork_tree.proofs.Slots.{some_of}
+use Rattle.ka10_unit.specs.declared.taken.Trap.{Trap}
+use Rattle.fork_calls.specs.Blocks.{GoesOnWith, TookAccumulators}
+use Rattle.fork_calls.specs.Holding.{ComeOrNew, IsNew}
+use Rattle.fork_calls.specs.Steps.{made_where}
+use Rattle.fork_calls.specs.Turning.{parts}
+use Rattle.fork_calls.proofs.Places.{came_itself}
+
+module _ (a : ForkAsked) (slot : ℕ) (p : NumberedPages) where
+  abbrev mapped : NumberedPages
+  mapped = with_map p (next_name a.tree a.who.tty) (map_wanted a)
+
+  abbrev rest : Turn ForkChange
+  rest = with_accumulators a (λ words. ends (making a slot words))
+
+  -- there is no room for the map
+  pub made_full : HasRoom mapped a.who.tty ≡ false → end_of p (made_where a slot) ≡ Failed NO_ROOM
+  unfolding end_of
+  made_full none = ap (λ b. end_of (with_added p (next_name a.tree a.who.tty) (map_wanted a) b) (cond b rest (ends (Failed NO_ROOM)))) none
+
+  module _ (room : HasRoom mapped a.who.tty ≡ true) where
+    made_end : end_of p (made_where a slot) ≡ end_of mapped rest
+    unfolding end_of
+    made_end = ap (λ b. end_of (with_added p (next_name a.tree a.who.tty) (map_wanted a) b) (cond b rest (ends (Failed NO_ROOM)))) room
+
+    made_pages : made_by (made_where a slot) p ≡ made_by rest mapped
+    unfolding made_by
+    made_pages = ap (λ b. made_by (cond b rest (ends (Failed NO_ROOM))) (with_added p (next_name a.tree a.who.tty) (map_wanted a) b)) room
+
+    -- the words trap
+    pub made_traps : (r q : NumberedPages) (e : Trap) → r ≡ mapped → TookAccumulators a r q (Err e) → end_of p (made_where a slot) ≡ TrapEnd e.channel
+    made_traps r q e same took = made_end ∙ ap (λ (x : NumberedPages). end_of x rest) (sym same) ∙ took (λ words. ends (making a slot words))
+
+    -- or the fork is made
+    pub made_goes : (r q : NumberedPages) (words : List ℕ) → r ≡ mapped → GoesOnWith a r q words → (end_of p (made_where a slot) ≡ making a slot words) × (made_by (made_where a slot) p ≡ q)
+    unfolding end_of made_by
+    made_goes r q words same on = (
+      made_end ∙ ap (λ (x : NumberedPages). end_of x rest) (sym same) ∙ on.ends (λ ws. ends (making a slot ws)),
+      made_pages ∙ ap (λ (x : NumberedPages). made_by rest x) (sym same) ∙ on.made (λ ws. ends (making a slot ws)),
+    )
+
+pub make_changes : (tree grown : PlainTree) (f : Fork) (p q : NumberedPages) → grown ≡ with_made tree f → parts grown q ≡ fork_changed (Make f) (record (parts tree p) { pages = q })
+unfolding fork_changed
+make_changes tree grown f p q is = ap (λ (t : PlainTree). parts t q) is
+
+-- the map that is wanted follows the caller, which lives
+pub wanted_new : (a : ForkAsked) (lives : ForkName → Bool) (name : ForkName) → lives a.who ≡ true → name.tty ≡ a.who.tty → IsNewMap lives name (map_wanted a)
+wanted_new a lives name there tty = by (bit (in_ac a.regs 1) 0 == 1)
+  where
+    by : (b : Bool) → IsNewMap lives name (cond b (FollowAll a.who) EmptyMap)
+    by true = (there, sym tty)
+    by false = tt
+
+-- the fork that is made is new, below the caller, and within its limits
+pub made_new : (a : ForkAsked) (slot : ℕ) (words : List ℕ) → IsSome (map.get a.tree.forks a.who) → length words ≡ 16 → IsNew a.tree (made_fork a slot words)
+unfolding psi_at_rest
+made_new a slot words lives long = record {
+  name = refl;
+  units = refl;
+  within = record { status = λ channel e. status_fits (starts a.regs) channel e; off = refl; pc = pc_low (starts a.regs); accumulators = long };
+  below = ap (λ (o : Option Fork). is_some (option_map (λ k. k.slot) o)) (some_of (map.get a.tree.forks a.who) lives).1;
+}
+  where
+    status_fits : (b : Bool) (channel : ℕ) → cond b Run Halted ≡ Forced channel → channel < 36
+    status_fits true channel e = absurd (cc e)
+    status_fits false channel e = absurd (cc e)
+
+    pc_low : (b : Bool) → cond b (right (in_ac a.regs 1)) 0 < 2 ^ 18
+    pc_low true = omega arith
+    pc_low false = omega arith
+
+pub made_come : (tree : PlainTree) (f : Fork) → IsNew tree f → ComeOrNew tree (map.insert tree.forks f.name f)
+made_come tree f new = λ g e. elim (cases_name g.name f.name) [
+  | inl at ↦ let both : Some f ≡ Some g = sym (get_put tree.forks f.name g.name f at) ∙ e in let one : f ≡ g = cc both in inr (subst (IsNew tree) one new)
+  | inr ne ↦ inl (came_itself tree.forks g (sym (get_put_other tree.forks f.name g.name f ne) ∙ e))
+]
+
+-- who lived lives still
+pub still_there : (forks : ForkMap) (f : Fork) (who : ForkName) → map.contains_key forks who ≡ true → map.contains_key (map.insert forks f.name f) who ≡ true
+still_there forks f who lives = elim (cases_name who f.name) [
+  | inl at ↦ ap is_some (get_put forks f.name who f at)
+  | inr ne ↦ ap is_some (get_put_other forks f.name who f ne) ∙ lives
+]

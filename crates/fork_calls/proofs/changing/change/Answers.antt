@@ -1,0 +1,26 @@
+use Rattle.ka10_unit.proofs.Carried.{grows_none}
+use Rattle.fork_calls.specs.Turning.{parts}
+use Rattle.fork_calls.proofs.CallLeaving.{none_leaves, places_leave}
+use Rattle.fork_calls.proofs.TurnBlocks.{nothing_changes}
+use Rattle.fork_calls.proofs.changing.change.Goals as goal
+
+pub returns-in-Nothing-clause-told : goal.returns-in-Nothing-clause-told
+returns-in-Nothing-clause-told g c d fits = (fits, nothing_changes c.args.what (parts c.args.tree.now (g.P.Pages.means.plain c.args.pages.now d)) c.in-Nothing.is)
+
+pub returns-in-Nothing-clause-leaves : goal.returns-in-Nothing-clause-leaves
+returns-in-Nothing-clause-leaves g c = none_leaves g.P.Pages.means c.args.who c.args.tree.now c.args.pages.now c.requires.holds
+
+pub returns-in-Freeze-clause-leaves : goal.returns-in-Freeze-clause-leaves
+returns-in-Freeze-clause-leaves g c =
+    places_leave g.P.Pages.means c.args.who c.args.tree.now 0 c.args.pages.now c.args.pages.now (grows_none g.P.Pages.means c.args.who.tty c.args.pages.now) c.requires.holds
+    c.set_mark.new.tree c.are_trees.ensures.slotted c.set_mark.ensures.trees.slotted c.set_mark.ensures.same c.set_mark.ensures.kept
+
+pub returns-in-Become-clause-leaves : goal.returns-in-Become-clause-leaves
+returns-in-Become-clause-leaves g c =
+    places_leave g.P.Pages.means c.args.who c.args.tree.now 0 c.args.pages.now c.args.pages.now (grows_none g.P.Pages.means c.args.who.tty c.args.pages.now) c.requires.holds
+    c.set_body.new.tree c.are_trees.ensures.slotted c.set_body.ensures.trees.slotted c.set_body.ensures.same c.set_body.ensures.kept
+
+pub returns-in-Halt-clause-leaves : goal.returns-in-Halt-clause-leaves
+returns-in-Halt-clause-leaves g c =
+    places_leave g.P.Pages.means c.args.who c.args.tree.now 0 c.args.pages.now c.args.pages.now (grows_none g.P.Pages.means c.args.who.tty c.args.pages.now) c.requires.holds
+    c.halt.new.tree c.are_trees.ensures.slotted c.halt.ensures.trees.slotted c.halt.ensures.same c.halt.ensures.kept

@@ -1,0 +1,182 @@
+use Rattle.std.proofs.Common.{◌≡◌, ◌+◌, true, false, not, ◌&&◌, None, refl, sym, ◌∙◌, ap, subst, arith, inl}
+use Rattle.std.specs.Prelude.{nat_le, is_some}
+use Rattle.std.specs.FinMap as map
+use Rattle.plain_model.specs.declared.call.TheConstants.{NO_ROOM}
+use Rattle.plain_model.specs.declared.call.End.TheVariants.{Done, Failed, Trap}
+use Rattle.plain_model.specs.declared.call.ForkChange.{ForkChange}
+use Rattle.plain_model.specs.declared.call.ForkChange.TheVariants.{Make}
+use Rattle.plain_model.specs.declared.names.ForkName.{ForkName}
+use Rattle.plain_model.specs.declared.names.Tty.{Tty}
+use Rattle.plain_model.specs.declared.map.NewMap.{NewMap}
+use Rattle.plain_model.specs.declared.fork.Regs.{Regs}
+use Rattle.plain_model.specs.Forks.{ForkMap, same_fork}
+use Rattle.plain_model.specs.NewMaps.{with_map}
+use Rattle.plain_model.specs.Room.{HasRoom}
+use Rattle.plain_model.specs.References.{without_fork}
+use Rattle.plain_model.specs.Pages.{IsNewMap, PagesMeaning}
+use Rattle.plain_model.specs.Trees.{PlainTree, next_name}
+use Rattle.plain_model.specs.ForkCalls.{made_fork, map_wanted}
+use Rattle.plain_model.proofs.InCore.{map_in_core}
+use Rattle.call_turns.specs.Answers.{answer_of}
+use Rattle.ka10_unit.specs.Carrying.{Grows}
+use Rattle.ka10_unit.proofs.Carried.{grows_none, grows_within}
+use Rattle.fork_tree.specs.Trees.{AreSlotted}
+use Rattle.fork_tree.proofs.Kept.{name_unused}
+use Rattle.fork_tree.proofs.Slots.{empty_of}
+use Rattle.fork_calls.specs.Asking.{asked}
+use Rattle.fork_calls.specs.Holding.{ComeOrNew, Holds, MakesPages, TopsStay}
+use Rattle.fork_calls.specs.Steps.{made_where, second_regs}
+use Rattle.fork_calls.specs.Turning.{parts}
+use Rattle.fork_calls.proofs.Added.{added_dropped, added_holds, back_holds, enough_room, few_forks, no_room, room_is}
+use Rattle.fork_calls.proofs.Branch.{made_on, none_made}
+use Rattle.fork_calls.proofs.CallLeaving.{grown_leaves}
+use Rattle.fork_calls.proofs.Going.{goes, stops}
+use Rattle.fork_calls.proofs.Grown.{slot_told}
+use Rattle.fork_calls.proofs.Holdings.{grown_made, holds_still}
+use Rattle.fork_calls.proofs.MadeTurns.{still_there, made_come, made_full, made_goes, made_new, made_traps, make_changes, wanted_new}
+use Rattle.fork_calls.proofs.Places.{came_itself}
+use Rattle.fork_calls.proofs.Tops.{made_tops}
+use Rattle.fork_calls.proofs.making.make.Goals as goal
+
+-- pages of which a map was added, and then pages for words made
+words_made : {P : Type 0} (means : PagesMeaning P) (t : Tty) (old mid new : P) → means.serial mid ≡ means.serial old → means.most mid ≡ means.most old → Grows means t 128 mid new → MakesPages means t 128 old new
+words_made means t old mid new serials most grown = made_on means t 0 128 old mid new (none_made means old mid t serials most) (grown_made means t 128 mid new grown)
+
+pub add_fork-requires-clause-few : goal.add_fork-requires-clause-few
+add_fork-requires-clause-few g c =
+    let t = c.args.who.tty in
+    let few = few_forks c.args.tree.now.forks t c.args.slot (slot_told c.args.tree.now t c.args.slot c.requires.slot).0 in
+    let counts = c.requires.holds.counts t c.requires.serves.terminal in
+    let at : g.P.Pages.means.forks_of c.args.pages.now c.next_name-name.result.tty ≡ g.P.Pages.means.forks_of c.args.pages.now t = ap (λ (n : ForkName). g.P.Pages.means.forks_of c.args.pages.now n.tty) c.next_name-name.ensures in
+    omega (arith, few, counts, at, c.requires.holds.roomy)
+
+pub add_fork-requires-clause-map : goal.add_fork-requires-clause-map
+add_fork-requires-clause-map g c =
+    let a = asked c.args.who c.args.regs.now c.args.tree.now in
+    let lives = g.P.Pages.means.lives c.args.pages.now in
+    subst (λ (m : NewMap). IsNewMap lives c.next_name-name.result m) (sym (c.map_wanted.ensures c.args.tree.now)) (wanted_new a lives c.next_name-name.result c.requires.serves.lives (ap (λ (n : ForkName). n.tty) c.next_name-name.ensures))
+
+pub drop_fork-requires-clause-seen : goal.drop_fork-requires-clause-seen
+drop_fork-requires-clause-seen g c = map_in_core g.P.Pages.means c.accumulators.new.pages (g.met.P.Pages.housed c.accumulators.new.pages) c.requires.holds.flat c.next_name-name.result
+
+pub returns-in-Full-clause-told : goal.returns-in-Full-clause-told
+returns-in-Full-clause-told g c d fits =
+    let means = g.P.Pages.means in
+    let pages = c.args.pages.now in
+    let a = asked c.args.who c.args.regs.now c.args.tree.now in
+    let p = means.plain pages d in
+    let name = next_name c.args.tree.now c.args.who.tty in
+    let agrees = g.met.P.Pages.agrees pages d fits in
+    let dead : is_some (map.get p.maps name) ≡ false = sym (agrees.living name) ∙ c.requires.holds.living name ∙ ap is_some (name_unused c.args.tree.now c.args.who.tty c.are_trees.ensures) in
+    let absent = empty_of (map.get p.maps name) dead in
+    let none : HasRoom (with_map p name (map_wanted a)) c.args.who.tty ≡ false =
+    room_is p name (map_wanted a) absent (g.met.P.Pages.whole pages d fits) ∙ (λ i. nat_le (sym agrees.number i + 1) (sym agrees.bound i)) ∙ no_room (means.count pages) (means.most pages) (means.scene pages).free_frames c.in-Full.ensures.answer in
+    (fits, stops (parts c.args.tree.now p) (parts c.args.tree.now p) _ (made_where a c.args.slot) (Failed NO_ROOM) (made_full a c.args.slot p none) (λ what regs h. cc h) refl refl)
+
+pub returns-in-Err-clause-told : goal.returns-in-Err-clause-told
+returns-in-Err-clause-told g c d fits =
+    let means = g.P.Pages.means in
+    let pages = c.args.pages.now in
+    let tree = c.args.tree.now in
+    let a = asked c.args.who c.args.regs.now tree in
+    let p = means.plain pages d in
+    let name = next_name tree c.args.who.tty in
+    let agrees = g.met.P.Pages.agrees pages d fits in
+    let dead : is_some (map.get p.maps name) ≡ false = sym (agrees.living name) ∙ c.requires.holds.living name ∙ ap is_some (name_unused tree c.args.who.tty c.are_trees.ensures) in
+    let absent = empty_of (map.get p.maps name) dead in
+    let room : HasRoom (with_map p name (map_wanted a)) c.args.who.tty ≡ true =
+    room_is p name (map_wanted a) absent (g.met.P.Pages.whole pages d fits) ∙ (λ i. nat_le (sym agrees.number i + 1) (sym agrees.bound i)) ∙ enough_room (means.count pages) (means.most pages) (means.scene pages).free_frames c.in-Enough.ensures.answer in
+    let add = c.add_fork.ensures.told d fits in
+    let mapped : means.plain c.add_fork.new.self d ≡ with_map p name (map_wanted a) = add.1 ∙ (λ i. with_map p (c.next_name-name.ensures i) (c.map_wanted.ensures tree i)) in
+    let words = c.in-Err.ensures.told d tree add.0 in
+    let same : means.plain c.accumulators.new.pages d ≡ means.plain c.add_fork.new.self d = ap (λ s. means.plain s d) c.in-Err.ensures.stopped in
+    let drop = c.drop_fork.ensures.told d words.0 in
+    let back : means.plain c.drop_fork.new.self d ≡ p =
+    drop.1 ∙ (λ i. without_fork ((same ∙ mapped) i) (c.next_name-name.ensures i)) ∙ added_dropped p name (map_wanted a) absent in (
+      drop.0,
+      stops (parts tree p) (parts tree (means.plain c.drop_fork.new.self d)) _ (made_where a c.args.slot) (Trap c.in-Err.trap.channel)
+          (made_traps a c.args.slot p room (means.plain c.add_fork.new.self d) (means.plain c.accumulators.new.pages d) c.in-Err.trap mapped words.1) (λ what regs h. cc h) refl (ap (parts tree) back),
+    )
+
+pub returns-in-Ok-clause-told : goal.returns-in-Ok-clause-told
+returns-in-Ok-clause-told g c d fits =
+    let means = g.P.Pages.means in
+    let pages = c.args.pages.now in
+    let tree = c.args.tree.now in
+    let a = asked c.args.who c.args.regs.now tree in
+    let p = means.plain pages d in
+    let q = means.plain c.accumulators.new.pages d in
+    let name = next_name tree c.args.who.tty in
+    let agrees = g.met.P.Pages.agrees pages d fits in
+    let dead : is_some (map.get p.maps name) ≡ false = sym (agrees.living name) ∙ c.requires.holds.living name ∙ ap is_some (name_unused tree c.args.who.tty c.are_trees.ensures) in
+    let absent = empty_of (map.get p.maps name) dead in
+    let room : HasRoom (with_map p name (map_wanted a)) c.args.who.tty ≡ true =
+    room_is p name (map_wanted a) absent (g.met.P.Pages.whole pages d fits) ∙ (λ i. nat_le (sym agrees.number i + 1) (sym agrees.bound i)) ∙ enough_room (means.count pages) (means.most pages) (means.scene pages).free_frames c.in-Enough.ensures.answer in
+    let add = c.add_fork.ensures.told d fits in
+    let mapped : means.plain c.add_fork.new.self d ≡ with_map p name (map_wanted a) = add.1 ∙ (λ i. with_map p (c.next_name-name.ensures i) (c.map_wanted.ensures tree i)) in
+    let words = c.in-Ok.ensures.told d tree add.0 in
+    let made = made_goes a c.args.slot p room (means.plain c.add_fork.new.self d) q c.in-Ok.words mapped words.1 in
+    let f = made_fork a c.args.slot c.in-Ok.words in
+    let change : ForkChange = Make f in (
+      words.0,
+      goes (parts tree p) (parts c.grow.new.tree q) c.returned.result (made_where a c.args.slot) change (second_regs c.args.regs.now c.args.slot) q made.0 made.1
+          (make_changes tree c.grow.new.tree f p q (c.grow.ensures.told c.args.slot c.requires.slot)) (c.returned.ensures.answer change ∙ ap (λ (r : Regs). answer_of (Done change r)) c.with_handle.ensures.regs),
+    )
+
+pub returns-in-Full-clause-leaves : goal.returns-in-Full-clause-leaves
+returns-in-Full-clause-leaves g c =
+    let means = g.P.Pages.means in
+    let who = c.args.who in
+    let pages = c.args.pages.now in
+    grown_leaves means who c.args.tree.now 128 pages pages (grows_within means who.tty 0 128 pages pages (omega arith) (grows_none means who.tty pages)) c.requires.holds
+
+pub returns-in-Err-clause-leaves : goal.returns-in-Err-clause-leaves
+returns-in-Err-clause-leaves g c =
+    let means = g.P.Pages.means in
+    let t = c.args.who.tty in
+    let forks = c.args.tree.now.forks in
+    let name = c.next_name-name.result in
+    let absent : map.get forks name ≡ None = ap (map.get forks) c.next_name-name.ensures ∙ name_unused c.args.tree.now t c.are_trees.ensures in
+    let add = c.add_fork.ensures in
+    let drop = c.drop_fork.ensures in
+    let same = c.in-Err.ensures.stopped in
+    let old = c.args.pages.now in
+    let mapped = c.add_fork.new.self in
+    let grown = c.accumulators.new.pages in
+    let new = c.drop_fork.new.self in
+    record {
+      holds = back_holds means old mapped name add.lives add.forks add.others new forks absent (λ f. drop.lives f ∙ ap (λ s. not (same_fork f name) && means.lives s f) same)
+          (drop.forks ∙ ap (λ s. means.forks_of s name.tty) same) (λ u ne. drop.others u ne ∙ ap (λ s. means.forks_of s u) same) c.requires.holds;
+      kept = λ f lives. inl (came_itself forks f lives);
+      caller = λ lives. lives;
+      tops = λ n top. top;
+      made = made_on means t 128 0 old grown new (words_made means t old mapped grown add.serials add.most c.in-Err.ensures.grows) (none_made means grown new t drop.serials drop.most);
+    }
+
+pub returns-in-Ok-clause-leaves : goal.returns-in-Ok-clause-leaves
+returns-in-Ok-clause-leaves g c =
+    let means = g.P.Pages.means in
+    let tree = c.args.tree.now in
+    let who = c.args.who in
+    let a = asked who c.args.regs.now tree in
+    let f = made_fork a c.args.slot c.in-Ok.words in
+    let name = c.next_name-name.result in
+    let unused = name_unused tree who.tty c.are_trees.ensures in
+    let add = c.add_fork.ensures in
+    let made : c.grow.new.tree.forks ≡ map.insert tree.forks f.name f = ap (λ (t : PlainTree). t.forks) (c.grow.ensures.told c.args.slot c.requires.slot) in
+    let forks : c.grow.new.tree.forks ≡ map.insert tree.forks name f = made ∙ ap (λ (n : ForkName). map.insert tree.forks n f) (sym c.next_name-name.ensures) in
+    let absent : map.get tree.forks name ≡ None = ap (map.get tree.forks) c.next_name-name.ensures ∙ unused in
+    let slotted : AreSlotted (map.insert tree.forks name f) = subst AreSlotted forks c.are_trees-in-Ok.ensures.slotted in
+    let old = c.args.pages.now in
+    let mapped = c.add_fork.new.self in
+    let new = c.accumulators.new.pages in
+    let grows = c.in-Ok.ensures.grows in
+    let more : Holds means mapped (map.insert tree.forks name f) =
+    added_holds means old mapped name add.lives add.forks add.others tree.forks f (sym c.next_name-name.ensures) absent c.are_trees.ensures.slotted slotted c.requires.holds in
+    record {
+      holds = subst (Holds means new) (sym forks) (holds_still means mapped new (map.insert tree.forks name f) grows.lives grows.forks more);
+      kept = subst (ComeOrNew tree) (sym made) (made_come tree f (made_new a c.args.slot c.in-Ok.words c.requires.lives (omega arith)));
+      caller = λ lives. ap (λ (m : ForkMap). map.contains_key m who) made ∙ still_there tree.forks f who lives;
+      tops = subst (TopsStay tree.forks) (sym made) (made_tops tree.forks f unused);
+      made = words_made means who.tty old mapped new add.serials add.most grows;
+    }

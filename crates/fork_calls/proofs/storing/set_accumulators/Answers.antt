@@ -1,0 +1,54 @@
+use Rattle.std.proofs.Common.{ℕ, refl, ◌∙◌, ap, subst}
+use Rattle.std.specs.Prelude.{Err}
+use Rattle.plain_model.specs.declared.call.End.TheVariants.{Done}
+use Rattle.plain_model.specs.declared.call.ForkChange.TheVariants.{Become}
+use Rattle.plain_model.specs.declared.names.Kind.TheVariants.{Read}
+use Rattle.plain_model.specs.Calls.{ends}
+use Rattle.plain_model.specs.declared.fork.Regs.{Regs}
+use Rattle.plain_model.specs.ForkCalls.{address_named, with_accumulators_of}
+use Rattle.call_turns.specs.Answers.{answer_of}
+use Rattle.fork_calls.specs.Asking.{asked}
+use Rattle.fork_calls.specs.Blocks.{GoesOn, TookBlock}
+use Rattle.fork_calls.specs.Steps.{set_end, whole}
+use Rattle.fork_calls.specs.Turning.{parts}
+use Rattle.fork_calls.specs.declared.step.Step.TheVariants.{Sets}
+use Rattle.fork_calls.proofs.CallLeaving.{grown_leaves, places_leave}
+use Rattle.fork_calls.proofs.TurnBlocks.{block_goes, block_traps}
+use Rattle.fork_calls.proofs.storing.set_accumulators.Goals as goal
+
+pub returns-in-Err-clause-told : goal.returns-in-Err-clause-told
+returns-in-Err-clause-told g c d fits =
+    let means = g.P.Pages.means in
+    let t = c.in-Err.ensures.told d fits in
+    let at = c.address_named.ensures.address in
+    let a = asked c.args.who c.args.regs.now c.args.tree.now in
+    let p = means.plain c.args.pages.now d in
+    let traps = subst (λ (n : ℕ). TookBlock c.args.who c.args.regs.now n Read p (means.plain c.block.new.pages d) (Err c.in-Err.trap)) at t.1 in (
+      t.0,
+      block_traps (parts c.args.tree.now p) (parts c.args.tree.now (means.plain c.block.new.pages d)) c.in-Err.trap.channel (whole a (Sets c.args.fork)) (traps (λ words. ends (set_end a c.args.fork words)))
+          (ap (λ s. parts c.args.tree.now (means.plain s d)) c.in-Err.ensures.stopped),
+    )
+
+pub returns-in-Ok-clause-told : goal.returns-in-Ok-clause-told
+returns-in-Ok-clause-told g c d fits =
+    let means = g.P.Pages.means in
+    let t = c.in-Ok.ensures.told d fits in
+    let at = c.address_named.ensures.address in
+    let a = asked c.args.who c.args.regs.now c.args.tree.now in
+    let p = means.plain c.args.pages.now d in
+    let q = means.plain c.block.new.pages d in
+    let words = c.in-Ok.words in
+    let on = subst (λ (n : ℕ). GoesOn c.args.who c.args.regs.now n Read p q words) at t.1 in (
+      t.0,
+      block_goes (parts c.args.tree.now p) (parts c.set_body.new.tree q) c.returned.result c.args.who c.args.regs.now (address_named c.args.regs.now) Read q words on (λ ws. set_end a c.args.fork ws) _ _ refl
+          (c.set_body.ensures.told q)
+          (c.returned.ensures.answer (Become c.args.fork.name (with_accumulators_of c.args.fork.body words)) ∙ ap (λ (r : Regs). answer_of (Done (Become c.args.fork.name (with_accumulators_of c.args.fork.body words)) r)) c.behind.ensures.behind),
+    )
+
+pub returns-in-Err-clause-leaves : goal.returns-in-Err-clause-leaves
+returns-in-Err-clause-leaves g c = grown_leaves g.P.Pages.means c.args.who c.args.tree.now 128 c.args.pages.now c.block.new.pages c.in-Err.ensures.grows c.requires.holds
+
+pub returns-in-Ok-clause-leaves : goal.returns-in-Ok-clause-leaves
+returns-in-Ok-clause-leaves g c =
+    places_leave g.P.Pages.means c.args.who c.args.tree.now 128 c.args.pages.now c.block.new.pages c.in-Ok.ensures.grows c.requires.holds
+    c.set_body.new.tree c.are_trees.ensures.slotted c.set_body.ensures.trees.slotted c.set_body.ensures.same c.set_body.ensures.kept

@@ -1,0 +1,62 @@
+use Rattle.std.proofs.Common.{◌≡◌, sym, ◌∙◌, ap, subst, arith}
+use Rattle.plain_model.specs.Calls.{Turn, end_of}
+use Rattle.plain_model.specs.declared.call.ForkChange.{ForkChange}
+use Rattle.fork_calls.specs.Asking.{asked}
+use Rattle.fork_calls.specs.Steps.{IsEndOf, whole}
+use Rattle.fork_calls.specs.declared.step.Step.TheVariants.{Ends}
+use Rattle.plain_model.specs.ForkCalls.{fork_call}
+use Rattle.fork_calls.specs.Turning.{Turned}
+use Rattle.fork_calls.proofs.Returning.{step_returns}
+use Rattle.fork_calls.proofs.Holdings.{caller_serves, caller_terminal}
+use Rattle.fork_calls.proofs.turn.call.Goals as goal
+
+pub first-requires-clause-terminal : goal.first-requires-clause-terminal
+first-requires-clause-terminal g c = caller_terminal c.args.tree.now.forks c.are_trees.ensures.slotted c.args.who c.requires.lives
+
+pub make-requires-clause-serves : goal.make-requires-clause-serves
+make-requires-clause-serves g c = caller_serves g.P.Pages.means c.args.pages.now c.args.tree.now.forks c.are_trees.ensures.slotted c.args.who c.requires.lives c.requires.holds
+
+pub set_accumulators-requires-clause-serves : goal.set_accumulators-requires-clause-serves
+set_accumulators-requires-clause-serves g c = caller_serves g.P.Pages.means c.args.pages.now c.args.tree.now.forks c.are_trees.ensures.slotted c.args.who c.requires.lives c.requires.holds
+
+pub store_accumulators-requires-clause-serves : goal.store_accumulators-requires-clause-serves
+store_accumulators-requires-clause-serves g c = caller_serves g.P.Pages.means c.args.pages.now c.args.tree.now.forks c.are_trees.ensures.slotted c.args.who c.requires.lives c.requires.holds
+
+pub returns-in-Ends-clause-told : goal.returns-in-Ends-clause-told
+returns-in-Ends-clause-told g c =
+    let a = asked c.args.who c.args.regs.now c.args.tree.now in
+    let turn : whole a (Ends c.in-Ends.ending) ≡ fork_call c.args.number a = ap (whole a) (sym c.in-Ends.is) ∙ c.first.ensures.turn in
+    subst (λ (t : Turn ForkChange). Turned g.P.Pages.means c.args.pages.now c.end.new.pages c.args.tree.now c.end.new.tree c.end.result t) turn (c.end.ensures.told c.args.regs.now)
+
+pub returns-in-Ends-clause-returns : goal.returns-in-Ends-clause-returns
+returns-in-Ends-clause-returns g c p =
+    let a = asked c.args.who c.args.regs.now c.args.tree.now in
+    subst (λ (t : Turn ForkChange). IsEndOf c.args.number (end_of p t)) c.first.ensures.turn (step_returns c.args.number a c.first.result c.first.ensures.returns p)
+
+pub returns-in-Makes-clause-returns : goal.returns-in-Makes-clause-returns
+returns-in-Makes-clause-returns g c p =
+    let a = asked c.args.who c.args.regs.now c.args.tree.now in
+    subst (λ (t : Turn ForkChange). IsEndOf c.args.number (end_of p t)) c.first.ensures.turn (step_returns c.args.number a c.first.result c.first.ensures.returns p)
+
+pub returns-in-Sets-clause-returns : goal.returns-in-Sets-clause-returns
+returns-in-Sets-clause-returns g c p =
+    let a = asked c.args.who c.args.regs.now c.args.tree.now in
+    subst (λ (t : Turn ForkChange). IsEndOf c.args.number (end_of p t)) c.first.ensures.turn (step_returns c.args.number a c.first.result c.first.ensures.returns p)
+
+pub returns-in-Stores-clause-returns : goal.returns-in-Stores-clause-returns
+returns-in-Stores-clause-returns g c p =
+    let a = asked c.args.who c.args.regs.now c.args.tree.now in
+    subst (λ (t : Turn ForkChange). IsEndOf c.args.number (end_of p t)) c.first.ensures.turn (step_returns c.args.number a c.first.result c.first.ensures.returns p)
+
+-- no page was made, and so fewer than may be
+pub returns-in-Ends-clause-leaves : goal.returns-in-Ends-clause-leaves
+returns-in-Ends-clause-leaves g c =
+    let left = c.end.ensures.leaves in
+    let made = left.made in
+    record {
+      holds = left.holds;
+      kept = left.kept;
+      caller = left.caller;
+      tops = left.tops;
+      made = record { most = made.most; serial = omega (arith, made.serial); serials = made.serials };
+    }

@@ -1,0 +1,13 @@
+use Rattle.ka10_unit.specs.Gathers.{framed}
+use Rattle.fork_calls.proofs.TurnBlocks.{took_goes, took_traps}
+use Rattle.fork_calls.proofs.words.block.Goals as goal
+
+pub returns-in-Err-clause-told : goal.returns-in-Err-clause-told
+returns-in-Err-clause-told g c d fits = (fits, took_traps c.args.who (framed g.P.Pages.means c.args.pages.now d) c.args.regs.now c.args.at c.args.kind c.refer_block.new.taken c.in-Err.trap (c.in-Err.ensures.told d fits))
+
+pub returns-in-Ok-clause-told : goal.returns-in-Ok-clause-told
+returns-in-Ok-clause-told g c d fits =
+    let took = c.in-Ok.ensures.told d fits in (
+      c.make_block.ensures.fits d fits,
+      took_goes c.args.who (framed g.P.Pages.means c.args.pages.now d) c.args.regs.now c.args.at c.args.kind c.refer_block.new.taken c.in-Ok.words _ (c.make_block.ensures.told d fits took.stands) c.in-Ok.ensures.kept took,
+    )

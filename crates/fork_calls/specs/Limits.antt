@@ -1,0 +1,24 @@
+-- Limits of forks.
+use Rattle.std.specs.Prelude.{◌≡◌, ℕ, ◌<◌, ◌^◌, length, false}
+use Rattle.plain_model.specs.declared.names.TheConstants.{ACCUMULATORS}
+use Rattle.plain_model.specs.declared.fork.Body.{Body}
+use Rattle.plain_model.specs.declared.fork.Fork.{Fork}
+use Rattle.plain_model.specs.declared.fork.ForkStatus.{ForkStatus}
+use Rattle.plain_model.specs.declared.fork.ForkStatus.TheVariants.{Forced}
+use Rattle.plain_model.specs.Forks.{ForkMap}
+use Rattle.fork_tree.specs.Trees.{Lives}
+
+-- the channel by which a fork was forced is one of the 36
+abbrev pub FitsForced : ForkStatus → Type 0
+FitsForced status = (channel : ℕ) → status ≡ Forced channel → channel < 36
+
+-- a fork takes no channel, and its status and registers are within their limits
+pub record IsBody (b : Body) : Type 0 where
+  pub status : FitsForced b.status
+  pub off : b.psi.on ≡ false
+  pub pc : b.regs.pc < 2 ^ 18
+  pub accumulators : length b.regs.ac ≡ ACCUMULATORS
+
+-- so is each fork that lives
+abbrev pub AreWithin : ForkMap → Type 0
+AreWithin forks = (f : Fork) → Lives forks f → IsBody f.body

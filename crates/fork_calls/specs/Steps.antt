@@ -1,0 +1,112 @@
+-- The first step of a fork call, and the whole turn that this comes to.
+use Rattle.std.specs.Prelude.{◌≡◌, ◌≢◌, ℕ, ◌+◌, Some, Ok, if◌then◌else◌, List}
+use Rattle.std.specs.FinMap as map
+use Rattle.plain_model.specs.declared.call.TheConstants.{CFORK, FORK_SELF, NO_ROOM}
+use Rattle.plain_model.specs.declared.call.End.{End}
+use Rattle.plain_model.specs.declared.call.End.TheVariants.{Done, Waits, Halts, Refused, Failed, Trap}
+use Rattle.plain_model.specs.declared.call.ForkChange.{ForkChange}
+use Rattle.plain_model.specs.declared.call.ForkChange.TheVariants.{Nothing, Make, Kill, Freeze, Become, Halt, Store}
+use Rattle.plain_model.specs.declared.names.Kind.TheVariants.{Read, Write}
+use Rattle.plain_model.specs.declared.names.ForkName.{ForkName}
+use Rattle.plain_model.specs.declared.fork.Fork.{Fork}
+use Rattle.plain_model.specs.declared.fork.Body.{Body}
+use Rattle.plain_model.specs.declared.fork.Regs.{Regs}
+use Rattle.plain_model.specs.Deeds.{skip_pc}
+use Rattle.plain_model.specs.declared.fork.ForkStatus.TheVariants.{Halted}
+use Rattle.plain_model.specs.Forks.{ForkMap, with_status}
+use Rattle.plain_model.specs.Trees.{next_name}
+use Rattle.fork_tree.specs.Making.{slot_for}
+use Rattle.plain_model.specs.Calls.{Turn, adds, ends, returning, with_ac, with_block}
+use Rattle.plain_model.specs.ForkCalls.{ForkAsked, address_named, made_body, map_wanted, making, stored_low, with_accumulators, with_accumulators_of}
+use Rattle.fork_tree.specs.Trees.{Lives}
+use Rattle.call_turns.specs.Turns.{FitsEnd}
+use Rattle.fork_calls.specs.declared.step.Step.{Step}
+use Rattle.fork_calls.specs.declared.step.Step.TheVariants.{Ends, Makes, Sets, Stores}
+use Rattle.fork_calls.specs.Asking.{IsBelow}
+use Rattle.fork_calls.specs.Limits.{IsBody}
+
+-- how SFACS ends, told the words
+abbrev pub set_end : ForkAsked → Fork → List ℕ → End ForkChange
+set_end a f words = returning (Become f.name (with_accumulators_of f.body words)) a.regs
+
+-- how RFACS ends
+abbrev pub store_end : ForkAsked → Fork → End ForkChange
+store_end a f =
+    let at = address_named a.regs in let words = f.body.regs.ac in
+    returning (Store a.who at words) (record a.regs { ac = stored_low a.regs.ac at words })
+
+-- how CFORK goes on, told whether there is room
+abbrev pub made_where : ForkAsked → ℕ → Turn ForkChange
+made_where a slot = adds (next_name a.tree a.who.tty) (map_wanted a) (λ room.
+    if room then with_accumulators a (λ words. ends (making a slot words)) else ends (Failed NO_ROOM))
+
+-- the registers behind the second return of a call, with the handle of the fork in a slot
+abbrev pub second_regs : Regs → ℕ → Regs
+second_regs regs slot = let told = with_ac regs 1 (FORK_SELF + slot) in record told { pc = skip_pc told }
+
+-- the whole turn of a first step
+abbrev pub whole : ForkAsked → Step → Turn ForkChange
+whole a (Ends e) = ends e
+whole a (Makes slot) = made_where a slot
+whole a (Sets f) = with_block a.who a.regs (address_named a.regs) Read (λ words. ends (set_end a f words))
+whole a (Stores f) = with_block a.who a.regs (address_named a.regs) Write (λ old. ends (store_end a f))
+
+-- a fork as it is halted
+abbrev pub halted : Fork → Fork
+halted f = with_status f Halted
+
+-- a new fork with its accumulators
+abbrev pub begun : Regs → List ℕ → Fork → Fork
+begun regs words f = record f { body = made_body regs words f.body }
+
+-- a body that comes of that of a fork that lives: it has run as many units, and keeps its limits
+pub record IsBodyOf (forks : ForkMap) (name : ForkName) (b : Body) : Type 0 where
+  pub fork : Fork
+  pub lives : map.get forks name ≡ Some fork
+  pub units : b.units ≡ fork.body.units
+  pub within : IsBody fork.body → IsBody b
+
+-- a change of an inferior, made with no word of a page
+abbrev pub IsChangeBelow : ForkMap → ForkName → ForkChange → Type 0
+IsChangeBelow forks who Nothing = Unit {0}
+IsChangeBelow forks who (Make f) = ⊥
+IsChangeBelow forks who (Kill f) = IsBelow forks who f
+IsChangeBelow forks who (Freeze f on) = IsBelow forks who f
+IsChangeBelow forks who (Become f body) = IsBodyOf forks f body
+IsChangeBelow forks who (Halt f) = IsBelow forks who f
+IsChangeBelow forks who (Store f at words) = ⊥
+
+-- CFORK alone has two returns
+abbrev pub IsEndOf : ℕ → End ForkChange → Type 0
+IsEndOf number (Done change regs) = Unit {0}
+IsEndOf number (Waits on) = Unit {0}
+IsEndOf number Halts = Unit {0}
+IsEndOf number (Refused code) = number ≢ CFORK
+IsEndOf number (Failed code) = number ≡ CFORK
+IsEndOf number (Trap channel) = Unit {0}
+
+-- what holds of a first step: a fork is made in the free slot, while a serial is left for it; and words are those of an inferior
+abbrev pub FitsStep : ForkAsked → Step → Type 0
+FitsStep a (Ends e) = FitsEnd (IsChangeBelow a.tree.forks a.who) e
+FitsStep a (Makes slot) = slot_for a.tree a.who.tty ≡ Ok slot
+FitsStep a (Sets f) = Lives a.tree.forks f
+FitsStep a (Stores f) = Lives a.tree.forks f
+
+-- a step of a call with one return, and of one with two
+abbrev pub HasOneReturn : Step → Type 0
+HasOneReturn (Ends (Failed code)) = ⊥
+HasOneReturn (Makes slot) = ⊥
+HasOneReturn step = Unit {0}
+
+abbrev pub HasTwoReturns : Step → Type 0
+HasTwoReturns (Ends (Refused code)) = ⊥
+HasTwoReturns (Sets f) = ⊥
+HasTwoReturns (Stores f) = ⊥
+HasTwoReturns step = Unit {0}
+
+-- CFORK alone has two
+abbrev pub IsStepOf : ℕ → Step → Type 0
+IsStepOf number (Ends e) = IsEndOf number e
+IsStepOf number (Makes slot) = number ≡ CFORK
+IsStepOf number (Sets f) = number ≢ CFORK
+IsStepOf number (Stores f) = number ≢ CFORK

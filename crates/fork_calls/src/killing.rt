@@ -1,0 +1,72 @@
+// A fork is killed, with all below it.
+ghost use Rattle.std.specs.Prelude.{◌≡◌, ◌≤◌, IsSome};
+ghost use Rattle.std.specs.FinMap as map;
+ghost use Rattle.plain_model.specs.ForkCalls.{without_below};
+ghost use Rattle.plain_model.specs.declared.call.ForkChange.{ForkChange as AForkChange};
+ghost use Rattle.plain_model.specs.declared.names.TheConstants.{MOST_FORKS};
+ghost use Rattle.plain_model.specs.declared.names.ForkName.{ForkName as AForkName};
+ghost use Rattle.plain_model.specs.declared.names.Tty.{Tty as ATty};
+ghost use Rattle.plain_model.specs.Outcome.{DrumWords};
+ghost use Rattle.plain_model.specs.References.{without_fork};
+ghost use Rattle.fork_tree.specs.Inferiors.{HasNoInferior};
+ghost use Rattle.fork_calls.specs.Asking.{IsBelow};
+ghost use Rattle.fork_calls.specs.Holding.{CallLeaves, ComeFrom, Holds, MakesPages, TopsStay};
+ghost use Rattle.fork_calls.specs.Turning.{Changes, parts};
+
+use fork_tree::Tree;
+use plain_model::{ForkName, MOST_FORKS, Pages};
+
+// Kills all below a fork: each time the one that has none below itself and the highest slot, with its map.
+fn kill_below<P: Pages>(who: ForkName, tree: &mut Tree, pages: &mut P)
+    requires { Holds P.means pages.old tree.old.forks }
+    ensures told { (d : DrumWords) → P.means.fits pages.old d
+        → P.means.fits pages.new d × (without_below MOST_FORKS who (parts tree.old (P.means.plain pages.old d)) ≡ parts tree.new (P.means.plain pages.new d)) }
+    ensures holds { Holds P.means pages.new tree.new.forks }
+    ensures kept { ComeFrom tree.old.forks tree.new.forks }
+    ensures tops { TopsStay tree.old.forks tree.new.forks }
+    ensures made { (t : ATty) → MakesPages P.means t 0 pages.old pages.new }
+    ensures older { (q : AForkName) → q.serial ≤ who.serial → map.get tree.new.forks q ≡ map.get tree.old.forks q }
+    ensures bare { HasNoInferior tree.new.forks who }
+{
+    for _round in 0..MOST_FORKS {
+        tree.are_trees();
+        match tree.last_below(who) {
+            Some(name) => kill_bare(name, tree, pages),
+            None => return,
+        }
+    }
+    tree.are_trees();
+}
+
+// Kills a fork that has none below itself, with its map.
+fn kill_bare<P: Pages>(name: ForkName, tree: &mut Tree, pages: &mut P)
+    requires lives { IsSome (map.get tree.old.forks name) }
+    requires bare { HasNoInferior tree.old.forks name }
+    requires holds { Holds P.means pages.old tree.old.forks }
+    ensures tree { tree.new ≡ record tree.old { forks = map.remove tree.old.forks name } }
+    ensures told { (d : DrumWords) → P.means.fits pages.old d
+        → P.means.fits pages.new d × (P.means.plain pages.new d ≡ without_fork (P.means.plain pages.old d) name) }
+    ensures holds { Holds P.means pages.new tree.new.forks }
+    ensures kept { ComeFrom tree.old.forks tree.new.forks }
+    ensures made { (t : ATty) → MakesPages P.means t 0 pages.old pages.new }
+{
+    tree.are_trees();
+    tree.kill(name);
+    tree.are_trees();
+    pages.drop_fork(name);
+}
+
+/// Kills an inferior of a fork, and all below it, with their maps; who waits for a fork of the job runs again.
+pub fn kill<P: Pages>(who: ForkName, name: ForkName, tree: &mut Tree, pages: &mut P)
+    requires below { IsBelow tree.old.forks who name }
+    requires holds { Holds P.means pages.old tree.old.forks }
+    ensures told { Changes P.means pages.old pages.new tree.old tree.new (AForkChange.Kill name) }
+    ensures leaves { CallLeaves P.means pages.old pages.new tree.old tree.new who 0 }
+{
+    tree.are_trees();
+    kill_below(name, tree, pages);
+    kill_bare(name, tree, pages);
+    tree.are_trees();
+    tree.wake_waiters(name.tty);
+    tree.are_trees();
+}

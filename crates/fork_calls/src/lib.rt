@@ -1,0 +1,23 @@
+//! The fork calls: CFORK, KFORK, FFORK, RFORK, RFSTS, SFORK, SFACS, RFACS, HFORK, WFORK, HALTF.
+//! To the machine a turn of one is a function: its answer, and the forks and pages that it leaves, are those of the
+//! plain call. Stands on `fork_tree` for the forks, on `ka10_unit` for blocks of words, on `call_turns` for how a turn
+//! ends, on `plain_model` for the definitions and the pages.
+#![tactic(auto)]
+
+mod calls;
+mod changing;
+mod ending;
+mod killing;
+mod making;
+mod naming;
+mod standing;
+mod step;
+mod storing;
+mod table;
+#[cfg(test)]
+mod tests;
+mod turn;
+mod words;
+
+pub use table::is_fork_call;
+pub use turn::call;

@@ -1,0 +1,163 @@
+// CFORK: a fork is made.
+ghost use Rattle.std.specs.Prelude.{◌≡◌, ◌<◌, ◌≤◌, ◌^◌, ◌/◌, ◌%◌, ◌==◌, ℕ, Ok, Some, IsSome, OnErr, slice_index};
+ghost use Rattle.std.specs.FinMap as map;
+ghost use Rattle.plain_model.specs.declared.fork.Fork.{Fork as AFork};
+ghost use Rattle.plain_model.specs.ForkCalls.{made_body, made_fork, map_wanted as map_wanted_of};
+ghost use Rattle.plain_model.specs.Outcome.{DrumWords};
+ghost use Rattle.plain_model.specs.Forks.{first_regs};
+ghost use Rattle.plain_model.specs.Trees.{PlainTree, with_changed_of, with_made};
+ghost use Rattle.call_turns.specs.Turns.{IsRegs};
+ghost use Rattle.ka10_unit.specs.Carrying.{Grows};
+ghost use Rattle.ka10_unit.specs.Gathers.{Serves};
+ghost use Rattle.fork_tree.specs.Making.{slot_for};
+ghost use Rattle.fork_calls.specs.Asking.{asked};
+ghost use Rattle.fork_calls.specs.Blocks.{TookAccumulators};
+ghost use Rattle.fork_calls.specs.Holding.{CallLeaves, Holds};
+ghost use Rattle.fork_calls.specs.Steps.{begun, second_regs, whole};
+ghost use Rattle.fork_calls.specs.Turning.{HasRegs, Turned};
+ghost use Rattle.fork_calls.specs.declared.step.Step.{Step as AStep};
+
+use crate::ending::returned;
+use crate::naming::address_named;
+use crate::words::block;
+use call_turns::{behind, with_ac};
+use fork_tree::Tree;
+use ka10_unit::Trap;
+use plain_model::call::{FORK_SELF, NO_ROOM};
+use plain_model::{
+    ACCUMULATORS, Answer, Body, ForkName, ForkStatus, Kind, NewMap, Pages, Regs, Room,
+};
+use word36::Word;
+
+// Whether a bit of accumulator 1 is set, which has this value.
+fn asks(regs: &Regs, value: u64) -> bool
+    requires regs { IsRegs regs.now }
+    requires value { 1 ≤ value }
+    ensures { result ≡ (slice_index regs.now.ac 1 / value % 2 == 1) }
+{
+    regs.ac[1].value() / value % 2 == 1
+}
+
+// Bit 0 has the new fork's pages follow the caller's.
+fn map_wanted(regs: &Regs, who: ForkName) -> NewMap
+    requires { IsRegs regs.now }
+    ensures { (tree : PlainTree) → result ≡ map_wanted_of (asked who regs.now tree) }
+{
+    if asks(regs, 1 << 35) {
+        NewMap::FollowAll(who)
+    } else {
+        NewMap::Empty
+    }
+}
+
+// Bit 3 has its accumulators read, whose pages are made; else they are 0.
+fn accumulators<P: Pages>(regs: &Regs, who: ForkName, pages: &mut P) -> Result<[Word; 16], Trap>
+    requires regs { IsRegs regs.now }
+    requires serves { Serves P.means pages.old who }
+    requires serial { P.means.serial pages.old who.tty < 2 ^ 62 }
+    ensures told { (d : DrumWords) (tree : PlainTree) → P.means.fits pages.old d
+        → P.means.fits pages.new d × TookAccumulators (asked who regs.now tree) (P.means.plain pages.old d) (P.means.plain pages.new d) result }
+    ensures stopped { OnErr result (pages.new ≡ pages.old) }
+    ensures grows { Grows P.means who.tty 128 pages.old pages.new }
+{
+    if asks(regs, 1 << 32) {
+        block(regs, who, address_named(regs), Kind::Read, pages)
+    } else {
+        Ok([Word::ZERO; ACCUMULATORS as usize])
+    }
+}
+
+// A new fork has these accumulators; bit 4 has it started, at the right half of accumulator 1.
+fn begin(regs: &Regs, words: [Word; 16], body: &mut Body)
+    requires regs { IsRegs regs.now }
+    requires new { body.old.regs ≡ first_regs }
+    ensures body { body.new ≡ made_body regs.now words body.old }
+{
+    body.regs.ac = words;
+    if asks(regs, 1 << 31) {
+        body.status = ForkStatus::Run;
+        body.regs.pc = regs.ac[1].right();
+    } else {
+        body.status = ForkStatus::Halted;
+        body.regs.pc = 0;
+    }
+}
+
+// The registers behind the second return, with the handle of the fork in a slot.
+fn with_handle(regs: &Regs, slot: u8) -> Regs
+    requires { IsRegs regs.now }
+    ensures regs { result ≡ second_regs regs.now slot }
+    ensures fits { IsRegs result }
+{
+    let told = with_ac(*regs, 1, Word::join(0, FORK_SELF + u32::from(slot)));
+    behind(behind(told))
+}
+
+// The fork of a name, which is new, begins so.
+fn begin_in(regs: &Regs, words: [Word; 16], name: ForkName, tree: &mut Tree)
+    requires regs { IsRegs regs.now }
+    requires new { (f : AFork) → map.get tree.old.forks name ≡ Some f → f.body.regs ≡ first_regs }
+    requires lives { IsSome (map.get tree.old.forks name) }
+    ensures { tree.new ≡ with_changed_of tree.old name (begun regs.now words) }
+{
+    if let Some(body) = tree.body_mut(name) {
+        begin(regs, words, body);
+    }
+}
+
+// The tree has the fork that is made, under the caller.
+fn grow(regs: &Regs, words: [Word; 16], who: ForkName, tree: &mut Tree)
+    requires regs { IsRegs regs.now }
+    requires lives { IsSome (map.get tree.old.forks who) }
+    ensures told { (slot : ℕ) → slot_for tree.old who.tty ≡ Ok slot
+        → tree.new ≡ with_made tree.old (made_fork (asked who regs.now tree.old) slot words) }
+{
+    let Some(caller) = tree.fork(who) else {
+        return;
+    };
+    let slot = caller.slot;
+    if let Ok(name) = tree.make(who.tty, Some(slot)) {
+        tree.are_trees();
+        begin_in(regs, words, name, tree);
+    }
+}
+
+/// Makes an inferior of the caller in a slot: its map first, then its accumulators are read with the new map there, and
+/// then the fork itself. NO_ROOM where there is no room for the map. Where the words trap, nothing is made.
+pub fn make<P: Pages>(
+    slot: u8,
+    regs: &Regs,
+    who: ForkName,
+    tree: &mut Tree,
+    pages: &mut P,
+) -> Answer
+    requires regs { IsRegs regs.now }
+    requires lives { IsSome (map.get tree.old.forks who) }
+    requires slot { slot_for tree.old who.tty ≡ Ok slot }
+    requires serves { Serves P.means pages.old who }
+    requires holds { Holds P.means pages.old tree.old.forks }
+    requires serial { P.means.serial pages.old who.tty < 2 ^ 62 }
+    ensures told { Turned P.means pages.old pages.new tree.old tree.new result (whole (asked who regs.now tree.old) (AStep.Makes slot)) }
+    ensures leaves { CallLeaves P.means pages.old pages.new tree.old tree.new who 128 }
+    ensures regs { HasRegs result }
+{
+    tree.are_trees();
+    match pages.room(1) {
+        Room::Full => return Answer::Refused(NO_ROOM),
+        Room::NeedFrame => unreachable!(),
+        Room::Enough => {}
+    }
+    let name = tree.next_name(who.tty);
+    pages.add_fork(name, map_wanted(regs, who));
+    match accumulators(regs, who, pages) {
+        Err(trap) => {
+            pages.drop_fork(name);
+            Answer::Trap(trap.channel)
+        }
+        Ok(words) => {
+            grow(regs, words, who, tree);
+            tree.are_trees();
+            returned(with_handle(regs, slot))
+        }
+    }
+}

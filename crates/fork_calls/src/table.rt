@@ -1,0 +1,56 @@
+// The fork calls by their numbers.
+ghost use Rattle.std.specs.Prelude.{◌≡◌};
+ghost use Rattle.plain_model.specs.Calls.{is_among};
+ghost use Rattle.plain_model.specs.ForkCalls.{fork_call, fork_calls};
+ghost use Rattle.plain_model.specs.Limits.{IsTerminal};
+ghost use Rattle.call_turns.specs.Turns.{IsRegs};
+ghost use Rattle.fork_calls.specs.Asking.{asked};
+ghost use Rattle.fork_calls.specs.Limits.{AreWithin};
+ghost use Rattle.fork_calls.specs.Steps.{FitsStep, IsStepOf, whole};
+
+use crate::calls::{cfork, ffork, hfork, kfork, rfacs, rfork, rfsts, sfacs, sfork, wfork};
+use crate::step::Step;
+use fork_tree::Tree;
+use plain_model::call::{
+    CFORK, End, FFORK, HALTF, HFORK, KFORK, RFACS, RFORK, RFSTS, SFACS, SFORK, WFORK,
+};
+use plain_model::channel::ILLEGAL_INSTRUCTION;
+use plain_model::{ForkName, Regs};
+
+/// The first step of a call by its number. A number that is none of them traps as an illegal instruction.
+#[tactic(auto, using(crate::proofs::Returning::one_return))]
+pub fn first(number: u32, regs: &Regs, who: ForkName, tree: &Tree) -> Step
+    requires regs { IsRegs regs.now }
+    requires terminal { IsTerminal who.tty }
+    requires within { AreWithin tree.now.forks }
+    ensures turn { whole (asked who regs.now tree.now) result ≡ fork_call number (asked who regs.now tree.now) }
+    ensures fits { FitsStep (asked who regs.now tree.now) result }
+    ensures returns { IsStepOf number result }
+{
+    match number {
+        CFORK => cfork(who, tree),
+        KFORK => kfork(regs, who, tree),
+        FFORK => ffork(regs, who, tree),
+        RFORK => rfork(regs, who, tree),
+        RFSTS => rfsts(regs, who, tree),
+        SFORK => sfork(regs, who, tree),
+        SFACS => sfacs(regs, who, tree),
+        RFACS => rfacs(regs, who, tree),
+        HFORK => hfork(regs, who, tree),
+        WFORK => wfork(regs, who, tree),
+        HALTF => Step::Ends(End::Halts),
+        _ => Step::Ends(End::Trap(ILLEGAL_INSTRUCTION)),
+    }
+}
+
+/// Whether a number is that of a fork call.
+pub fn is_fork_call(number: u32) -> bool
+    ensures { result ≡ is_among fork_calls number }
+{
+    match number {
+        CFORK | KFORK | FFORK | RFORK | RFSTS | SFORK | SFACS | RFACS | HFORK | WFORK | HALTF => {
+            true
+        }
+        _ => false,
+    }
+}

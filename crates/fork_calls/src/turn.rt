@@ -1,0 +1,49 @@
+// One turn of a fork call.
+ghost use Rattle.std.specs.Prelude.{◌<◌, ◌^◌, IsSome};
+ghost use Rattle.std.specs.FinMap as map;
+ghost use Rattle.plain_model.specs.Calls.{end_of};
+ghost use Rattle.plain_model.specs.ForkCalls.{fork_call};
+ghost use Rattle.plain_model.specs.State.{NumberedPages};
+ghost use Rattle.call_turns.specs.Turns.{IsRegs};
+ghost use Rattle.fork_calls.specs.Asking.{asked};
+ghost use Rattle.fork_calls.specs.Holding.{CallLeaves, Holds};
+ghost use Rattle.fork_calls.specs.Limits.{AreWithin};
+ghost use Rattle.fork_calls.specs.Steps.{IsEndOf};
+ghost use Rattle.fork_calls.specs.Turning.{HasRegs, Turned};
+
+use crate::ending::end;
+use crate::making::make;
+use crate::step::Step;
+use crate::storing::{set_accumulators, store_accumulators};
+use crate::table::first;
+use fork_tree::Tree;
+use plain_model::{Answer, ForkName, Pages, Regs};
+
+/// One turn of a fork call, by its number (JSYS Manual), over pages in memory: its answer is that of the plain call, and
+/// so are the forks and pages that it leaves. It refers first and changes then. CFORK alone has two returns; a number
+/// that is no fork call traps as an illegal instruction.
+pub fn call<P: Pages>(
+    number: u32,
+    regs: &Regs,
+    who: ForkName,
+    tree: &mut Tree,
+    pages: &mut P,
+) -> Answer
+    requires regs { IsRegs regs.now }
+    requires lives { IsSome (map.get tree.old.forks who) }
+    requires holds { Holds P.means pages.old tree.old.forks }
+    requires within { AreWithin tree.old.forks }
+    requires serial { P.means.serial pages.old who.tty < 2 ^ 62 }
+    ensures told { Turned P.means pages.old pages.new tree.old tree.new result (fork_call number (asked who regs.now tree.old)) }
+    ensures returns { (p : NumberedPages) → IsEndOf number (end_of p (fork_call number (asked who regs.now tree.old))) }
+    ensures leaves { CallLeaves P.means pages.old pages.new tree.old tree.new who 128 }
+    ensures regs { HasRegs result }
+{
+    tree.are_trees();
+    match first(number, regs, who, tree) {
+        Step::Ends(ending) => end(ending, who, tree, pages),
+        Step::Makes(slot) => make(slot, regs, who, tree, pages),
+        Step::Sets(fork) => set_accumulators(fork, regs, who, tree, pages),
+        Step::Stores(fork) => store_accumulators(fork, regs, who, tree, pages),
+    }
+}
