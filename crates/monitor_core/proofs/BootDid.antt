@@ -1,17 +1,24 @@
 -- A system with nothing in it.
-use Rattle.std.proofs.Common.{◌≤◌, ◌≡◌, ℕ, zero, suc, ◌+◌, ◌<◌, List, length, get_or, true, false, Option, None, Some, refl, sym, ◌∙◌, ap, arith, replicate}
+use Rattle.std.proofs.Common.{◌≤◌, ◌≡◌, ℕ, zero, suc, ◌+◌, List, length, get_or, true, false, Option, None, Some, refl, sym, ◌∙◌, ap, subst, arith, replicate, is_some}
+use Rattle.std.specs.List.{cons_option, filter_map, range_with_len}
 use Rattle.std.proofs.lemmas.List.{length-replicate}
 use Rattle.std.specs.declared.cmp.Ordering.{Ordering}
 use Rattle.std.specs.Ordering.{nat_cmp}
 use Rattle.std.specs.FinMap as fin
-use Rattle.plain_model.specs.declared.names.TheConstants.{TERMINALS}
+use Rattle.plain_model.specs.declared.names.TheConstants.{MOST_FORKS, TERMINALS}
+use Rattle.plain_model.specs.declared.names.ForkName.{ForkName}
 use Rattle.plain_model.specs.declared.names.Tty.{Tty}
 use Rattle.plain_model.specs.State.{opening, opening_pages}
 use Rattle.plain_model.specs.Outcome.{DrumWords}
 use Rattle.plain_model.specs.declared.fork.Fork.{Fork}
 use Rattle.plain_model.specs.Orders.{fork_cmp}
 use Rattle.plain_model.specs.Pages.{PagesMeaning}
-use Rattle.fork_tree.specs.Trees.{Lives, PlainTree, no_forks}
+use Rattle.plain_model.specs.Forks.{fork_in}
+use Rattle.fork_tree.specs.Trees.{Lives, no_forks}
+use Rattle.fork_tree.proofs.Kept.{none_tree}
+use Rattle.fork_tree.proofs.Slots.{in_none}
+use Rattle.fork_calls.specs.Holding.{Holds}
+use Rattle.plain_model.specs.Trees.{PlainTree}
 use Rattle.monitor_core.specs.declared.job.Job.{Job}
 use Rattle.monitor_core.specs.declared.system.System.{System}
 use Rattle.monitor_core.specs.Jobs.{map_from, plain_job, no_jobs, job_at, jobs_of}
@@ -29,6 +36,11 @@ none_at zero i = refl
 none_at (suc n) zero = refl
 none_at (suc n) (suc i) = none_at n i
 
+-- nothing is listed where no look finds anything
+none_listed : {X : Type 0} (look : ℕ → Option X) → ((k : ℕ) → look k ≡ None) → (from n : ℕ) → length (filter_map look (range_with_len from n)) ≡ 0
+none_listed look none from zero = refl
+none_listed look none from (suc n) = ap (λ o. length (cons_option o (filter_map look (range_with_len (from + 1) n)))) (none from) ∙ none_listed look none (from + 1) n
+
 -- no fork lives
 nobody : {A : Type 0} (tree : PlainTree) (f : Fork) → tree ≡ no_forks → Lives tree.forks f → A
 nobody tree f none e = absurd (let h : None ≡ Some f = sym (fin.get-empty fork_cmp f.name) ∙ ap (λ (x : PlainTree). fin.get x.forks f.name) (sym none) ∙ e in cc h)
@@ -41,16 +53,18 @@ module _ (jobs : List (Option Job)) (none : jobs ≡ no_jobs TERMINALS) where
   none_there : {A : Type 0} (t : ℕ) (j : Job) → job_at jobs t ≡ Some j → A
   none_there t j e = absurd (let f : None ≡ Some j = sym (no_job t) ∙ e in cc f)
 
-  pub sound_boot : {P : Type 0} (means : PagesMeaning P) (p : P) (tree : PlainTree) → tree ≡ no_forks → means.flat ≡ true → 0 < means.most_forks → ((t : Tty) → means.forks_of p t ≡ 0) → AreSound means p tree jobs
+  pub sound_boot : {P : Type 0} (means : PagesMeaning P) (p : P) (tree : PlainTree) → tree ≡ no_forks → means.flat ≡ true → MOST_FORKS ≤ means.most_forks → ((t : Tty) → means.forks_of p t ≡ 0) → ((f : ForkName) → means.lives p f ≡ false) → AreSound means p tree jobs
   unfolding no_jobs
-  sound_boot means p tree empty flat roomy forks = record {
-    flat = flat;
-    roomy = roomy;
+  sound_boot means p tree empty flat roomy forks lives = record {
+    holds = subst (λ (x : PlainTree). Holds means p x.forks) (sym empty) (record {
+      flat = flat;
+      living = λ name. lives name ∙ sym (ap is_some (fin.get-empty fork_cmp name));
+      counts = λ t terminal. forks t ∙ sym (none_listed (fork_in no_forks.forks t) (λ slot. in_none no_forks.forks none_tree.slotted t slot (λ f at. nobody no_forks f refl at.0)) 1 MOST_FORKS);
+      roomy = roomy;
+    });
     job_room = ap length none ∙ length-replicate {A = Option Job} TERMINALS None;
     each_fork = λ f e. nobody tree f empty e;
-    alive = λ f e. nobody tree f empty e;
     each_job = λ t j e. none_there t j e;
-    absent = λ t e low. forks t;
     nobody = λ t f e lives at. nobody tree f empty lives;
   }
 

@@ -10,8 +10,10 @@ use Rattle.plain_model.specs.declared.fork.ForkStatus.TheVariants.{Run}
 use Rattle.plain_model.specs.Events.{restarted, with_accumulator}
 use Rattle.plain_model.specs.Forks.{ForkMap}
 use Rattle.plain_model.proofs.OrderLemmas.{fork_cmp_total, fork_cmp_apart}
-use Rattle.fork_tree.specs.Changes.{changed, with_body, with_body_of, with_mark, with_mark_of}
-use Rattle.fork_tree.specs.Trees.{IsTree, PlainTree}
+use Rattle.fork_tree.specs.Changes.{with_body_of, with_mark_of}
+use Rattle.plain_model.specs.Trees.{changed, with_body, with_mark}
+use Rattle.fork_tree.specs.Trees.{IsTree}
+use Rattle.plain_model.specs.Trees.{PlainTree}
 use Rattle.fork_tree.proofs.Slots.{get_put, some_of}
 use Rattle.monitor_core.specs.Runners.{with_change}
 use Rattle.monitor_core.proofs.Maps.{insert_twice}

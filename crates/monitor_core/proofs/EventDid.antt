@@ -17,8 +17,8 @@ use Rattle.plain_model.specs.Limits.{IsTerminal}
 use Rattle.plain_model.specs.Room.{live, HasRoom}
 use Rattle.plain_model.specs.Forks.{top_fork}
 use Rattle.plain_model.specs.Unit.{Effect}
-use Rattle.fork_tree.specs.Making.{next_name, with_new_in}
-use Rattle.fork_tree.specs.Trees.{PlainTree}
+use Rattle.fork_tree.specs.Making.{with_new_in}
+use Rattle.plain_model.specs.Trees.{PlainTree, next_name}
 use Rattle.plain_model.specs.Pages.{Agrees}
 use Rattle.plain_model.specs.Events.{refused, with_map, with_job, new_job, next_fork, outer}
 use Rattle.plain_model.proofs.Equations.{apply_outer, outer_login, outer_tick}

@@ -12,7 +12,8 @@ use Rattle.plain_model.specs.declared.fork.ForkStatus.{ForkStatus}
 use Rattle.plain_model.specs.declared.fork.ForkStatus.TheVariants.{Run, Wait, Halted, Forced}
 use Rattle.plain_model.specs.Limits.{FitsForkLine, FitsStatus}
 use Rattle.plain_model.specs.Forks.{ForkMap, fork_in, fork_line, superior_of}
-use Rattle.fork_tree.specs.Trees.{IsTree, Lives, PlainTree}
+use Rattle.fork_tree.specs.Trees.{IsTree, Lives}
+use Rattle.plain_model.specs.Trees.{PlainTree}
 use Rattle.fork_tree.proofs.Upward.{superior_lives}
 use Rattle.monitor_core.specs.Limits.{FitsForced, IsBody}
 use Rattle.monitor_core.specs.Replies.{lines_of}

@@ -26,7 +26,8 @@ use Rattle.plain_model.specs.Limits.{FitsCause, FitsItem, IsTerminal}
 use Rattle.plain_model.specs.Run.{apply}
 use Rattle.plain_model.specs.References.{Referred, granted, denied, full, in_map, reference, stored, words_of, page_at}
 use Rattle.plain_model.specs.Forks.{change_fork, fork_line, forks_by_slot}
-use Rattle.fork_tree.specs.Trees.{IsTree, PlainTree}
+use Rattle.fork_tree.specs.Trees.{IsTree}
+use Rattle.plain_model.specs.Trees.{PlainTree}
 use Rattle.plain_model.specs.Unit.{Effect}
 use Rattle.plain_model.specs.References.{slot_at}
 use Rattle.plain_model.specs.Events.{refused, poked, with_accumulator, restarted, word_seen, outer}

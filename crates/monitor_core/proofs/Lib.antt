@@ -1,3 +1,4 @@
+pub mod ForkCalling
 mod Making
 mod Looks
 mod Writes
@@ -11,12 +12,14 @@ mod Silent
 mod UnitRan
 mod UnitRows
 mod Keeping
+mod Leaving
 mod Calling
 mod Changing
 mod Sounds
 mod Systems
 mod Frozen
 mod Running
+mod CallerStays
 mod UnitEffect
 mod Rows
 mod UnitDid

@@ -1,6 +1,6 @@
 -- A job begins: its top fork is made, in the first slot.
 use Rattle.std.proofs.Common.{◌≡◌, ◌≢◌, ℕ, ◌+◌, ◌<◌, ◌≤◌, ◌||◌, List, length, set, Bool, true, false, cond, Option, None, Some, refl, sym, ◌∙◌, ap, subst, arith, nat_lt, nat_le, length-set, get_or-set_same, get_or-set_other, inl, inr}
-use Rattle.std.specs.Prelude.{Result, Ok, Err, find, is_none}
+use Rattle.std.specs.Prelude.{Result, Ok, Err, find, is_none, is_some}
 use Rattle.std.specs.List.{range_with_len}
 use Rattle.std.specs.Option.{option_map, option_map_or}
 use Rattle.std.proofs.lemmas.Bool.{cases_eq}
@@ -14,9 +14,13 @@ use Rattle.plain_model.specs.Forks.{fork_in, top_fork, first_regs, psi_at_rest}
 use Rattle.plain_model.specs.Pages.{PagesMeaning, same_fork, room_for as frames_for}
 use Rattle.fork_tree.specs.declared.tree.NoFork.{NoFork}
 use Rattle.fork_tree.specs.declared.tree.NoFork.TheVariants.{ForksFull, SerialsOut}
-use Rattle.fork_tree.specs.Making.{free_slot, is_free, next_name, room_for, with_new, with_new_in}
-use Rattle.fork_tree.specs.Trees.{IsTree, PlainTree, next_serial}
-use Rattle.fork_tree.proofs.Slots.{get_put, get_put_other, in_none, same_itself}
+use Rattle.fork_tree.specs.Making.{room_for, with_new, with_new_in}
+use Rattle.plain_model.specs.Trees.{free_slot, is_free, next_name}
+use Rattle.fork_tree.specs.Trees.{IsTree}
+use Rattle.plain_model.specs.Trees.{PlainTree, next_serial}
+use Rattle.fork_tree.proofs.Kept.{name_unused}
+use Rattle.fork_tree.proofs.Slots.{get_put, get_put_other, in_none}
+use Rattle.fork_calls.proofs.Added.{added_holds, few_forks}
 use Rattle.monitor_core.specs.declared.job.Job.{Job}
 use Rattle.monitor_core.specs.Jobs.{job_at}
 use Rattle.monitor_core.specs.Limits.{IsBody}
@@ -82,19 +86,25 @@ top_body : (name : ForkName) → IsBody (top_fork name).body
 unfolding first_regs psi_at_rest
 top_body name = record { status = λ c h. absurd (cc h); off = refl; pc = omega arith; accumulators = refl }
 
-or_true : (b c : Bool) → c ≡ true → (b || c) ≡ true
-or_true true c h = refl
-or_true false c h = h
-
 module _ {P : Type 0} (means : PagesMeaning P) (p : P) (tree : PlainTree) (jobs : List (Option Job)) (s : AreSound means p tree jobs) (t : Tty) (free : job_at jobs t.0 ≡ None) (low : t.0 < TERMINALS) where
   -- no fork is in the first slot of a terminal without a job
   pub none_first : IsTree tree → fork_in tree.forks t 1 ≡ None
   none_first is = in_none tree.forks is.slotted t 1 (λ f at. s.nobody t.0 f free at.0 at.1)
 
+  -- so its next fork has no map
+  pub none_held : IsTree tree → means.lives p (next_name tree t) ≡ false
+  none_held is = s.holds.living (next_name tree t) ∙ ap is_some (name_unused tree t is)
+
+  -- and there is room for its fork
+  pub room_held : IsTree tree → means.forks_of p t < means.most_forks
+  room_held is =
+      let few = few_forks tree.forks t 1 (first_free tree t (none_first is)) in
+      omega (arith, s.holds.counts t low, few, s.holds.roomy)
+
   -- a new job, with its fork
-  pub sound_begun : (q : P) (k : Job) → k.top ≡ next_name tree t → ((g : ForkName) → means.lives q g ≡ (same_fork g (next_name tree t) || means.lives p g)) → ((u : Tty) → u ≢ t → means.forks_of q u ≡ means.forks_of p u)
-      → AreSound means q (with_new_in tree t None 1) (set jobs t.0 (Some k))
-  sound_begun q k top alive others =
+  pub sound_begun : (q : P) (k : Job) → k.top ≡ next_name tree t → ((g : ForkName) → means.lives q g ≡ (same_fork g (next_name tree t) || means.lives p g)) → means.forks_of q t ≡ means.forks_of p t + 1
+      → ((u : Tty) → u ≢ t → means.forks_of q u ≡ means.forks_of p u) → IsTree tree → IsTree (with_new_in tree t None 1) → AreSound means q (with_new_in tree t None 1) (set jobs t.0 (Some k))
+  sound_begun q k top alive own others trees now =
       let name = next_name tree t in
       let within : t.0 < length jobs = omega (arith, s.job_room, low) in
       let here : job_at (set jobs t.0 (Some k)) t.0 ≡ Some k = get_or-set_same jobs t.0 (Some k) None within in
@@ -102,16 +112,11 @@ module _ {P : Type 0} (means : PagesMeaning P) (p : P) (tree : PlainTree) (jobs 
       let found : (u : ℕ) (i : Job) → u ≡ t.0 → job_at (set jobs t.0 (Some k)) u ≡ Some i → k ≡ i = λ u i same e. let f : Some k ≡ Some i = sym here ∙ ap (job_at (set jobs t.0 (Some k))) (sym same) ∙ e in cc f in
       let there : (u : ℕ) → u ≡ t.0 → job_at (set jobs t.0 (Some k)) u ≡ None → ⊥ = λ u same e. let f : Some k ≡ None = sym here ∙ ap (job_at (set jobs t.0 (Some k))) (sym same) ∙ e in cc f in
       record {
-        flat = s.flat;
-        roomy = s.roomy;
+        holds = added_holds means p q name alive own others tree.forks (top_fork name) refl (name_unused tree t trees) trees.slotted now.slotted s.holds;
         job_room = length-set jobs t.0 (Some k) ∙ s.job_room;
         each_fork = λ f e. elim (lives_now tree.forks name (top_fork name) f e) [
           | inl is ↦ subst (λ (x : Fork). IsBody x.body) is (top_body name)
           | inr old ↦ s.each_fork f old
-        ];
-        alive = λ f e. elim (lives_now tree.forks name (top_fork name) f e) [
-          | inl is ↦ ap (means.lives q) (ap (λ x. x.name) (sym is)) ∙ alive name ∙ ap (λ b. b || means.lives p name) (same_itself name)
-          | inr old ↦ alive f.name ∙ or_true (same_fork f.name name) (means.lives p f.name) (s.alive f old)
         ];
         each_job = λ u i e. elim (cases_eq u t.0) [
           | inl same ↦
@@ -120,10 +125,6 @@ module _ {P : Type 0} (means : PagesMeaning P) (p : P) (tree : PlainTree) (jobs 
           | inr ne ↦
               let job = s.each_job u i (sym (other u ne) ∙ e) in
               record { terminal = job.terminal; low = job.low; top = ap (option_map (λ f. f.slot)) (get_put_other tree.forks name i.top (top_fork name) (λ h. ne (sym job.terminal ∙ ap (λ n. n.tty.0) h))) ∙ job.top }
-        ];
-        absent = λ u e low_u. elim (cases_eq u.0 t.0) [
-          | inl same ↦ absurd (there u.0 same e)
-          | inr ne ↦ others u (λ h. ne (ap (λ x. x.0) h)) ∙ s.absent u (sym (other u.0 ne) ∙ e) low_u
         ];
         nobody = λ u f e lives at. elim (cases_eq u t.0) [
           | inl same ↦ there u same e

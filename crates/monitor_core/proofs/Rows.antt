@@ -7,10 +7,11 @@ use Rattle.std.specs.FinMap as fin
 use Rattle.plain_model.specs.declared.event.Step.TheVariants.{Unit as AUnit}
 use Rattle.plain_model.specs.declared.fork.Fork.{Fork}
 use Rattle.plain_model.specs.declared.names.TheConstants.{MOST_FORKS}
-use Rattle.plain_model.specs.Forks.{ForkMap, counted, with_regs}
+use Rattle.plain_model.specs.ForkCalls.{fork_call, fork_calls}
+use Rattle.plain_model.specs.Forks.{counted, with_regs}
 use Rattle.plain_model.specs.MapCalls.{map_call}
-use Rattle.plain_model.specs.Calls.{end_of}
-use Rattle.plain_model.specs.declared.call.TheConstants.{PBOUT, HALTF}
+use Rattle.plain_model.specs.Calls.{end_of, is_among}
+use Rattle.plain_model.specs.declared.call.TheConstants.{PBOUT}
 use Rattle.plain_model.specs.Run.{AreLegal, apply, items_of, state_after}
 use Rattle.plain_model.specs.State.{NumberedPages, PlainState}
 use Rattle.plain_model.specs.Steps.{Planned, call, done, need, stopped, trap}
@@ -18,34 +19,38 @@ use Rattle.plain_model.specs.Unit.{unit_on}
 use Rattle.plain_model.proofs.OrderLemmas.{fork_cmp_total, fork_cmp_apart}
 use Rattle.plain_model.proofs.Runs.{AreLegal-append, items_of-append, state_after-append}
 use Rattle.ka10_unit.specs.Once.{After, in_a_row}
-use Rattle.fork_tree.specs.Trees.{tree_of}
+use Rattle.plain_model.specs.Trees.{PlainTree, tree_of}
 use Rattle.fork_tree.proofs.Kept.{changed_tree}
 use Rattle.fork_tree.proofs.Slots.{get_put}
-use Rattle.monitor_core.specs.ForkUnit.{Behind, RanUnits, behind, behind_unit, called_behind, ran_on}
+use Rattle.monitor_core.specs.ForkUnit.{Behind, RanUnits, behind, behind_unit, called_behind, left_so, put_back, ran_on}
 use Rattle.monitor_core.specs.Shown.{seen_of, shown_items}
 use Rattle.monitor_core.specs.declared.shown.Shown.TheVariants.{Nothing}
 use Rattle.monitor_core.proofs.Frozen.{still_frozen}
 use Rattle.monitor_core.proofs.Maps.{insert_again, insert_twice}
 use Rattle.monitor_core.proofs.Silent.{row_more, silent_unit}
-use Rattle.monitor_core.proofs.Unfiled.{named, turn_unfiled, unit_unfiled}
-use Rattle.monitor_core.proofs.UnitEffect.{Runs, behind_state, step_as, step_legal}
+use Rattle.monitor_core.proofs.Unfiled.{forked_unfiled, named, turn_unfiled, unit_unfiled}
+use Rattle.monitor_core.proofs.UnitEffect.{Runs, StopsQuietly, behind_state, effect_of, step_as, step_legal}
 
 -- one more of the same
 one_more : {X : Type 0} (n : ℕ) (x : X) → replicate (suc n) x ≡ replicate n x ++ x ∷ []
 one_more n x = let more : suc n ≡ n + 1 = omega arith in ap (λ k. replicate k x) more ∙ sym (replicate-append-replicate n 1 x)
 
 -- what is behind a unit has no file
-module _ (forks : ForkMap) (f : Fork) (p : NumberedPages) (unfiled : p.files ≡ fin.empty) where
-  called_unfiled : (number : ℕ) → (called_behind forks f p number).pages.files ≡ fin.empty
-  called_unfiled number =
-      cond_both (number == PBOUT) _ _ (λ (b : Behind). b.pages.files ≡ fin.empty) (λ prints. unfiled) (λ other.
-      cond_both (number == HALTF) _ _ (λ (b : Behind). b.pages.files ≡ fin.empty) (λ halts. unfiled) (λ maps.
-      turn_unfiled p unfiled (end_of p (map_call number (record { who = f.name; regs = f.body.regs; forks = forks })))))
+module _ (tree : PlainTree) (f : Fork) (p : NumberedPages) (unfiled : p.files ≡ fin.empty) where
+  abbrev HasNoFile : Behind → Type 0
+  HasNoFile b = b.pages.files ≡ fin.empty
 
-  behind_unfiled : (behind_unit forks f p).pages.files ≡ fin.empty
+  called_unfiled : (number : ℕ) → HasNoFile (called_behind tree f p number)
+  called_unfiled number =
+      let forks = fork_call number (record { who = f.name; regs = f.body.regs; tree = tree }) in
+      cond_both (number == PBOUT) _ _ HasNoFile (λ prints. unfiled) (λ other.
+      cond_both (is_among fork_calls number) _ _ HasNoFile (λ is. forked_unfiled p unfiled tree forks (end_of p forks)) (λ maps.
+      turn_unfiled p unfiled (end_of p (map_call number (record { who = f.name; regs = f.body.regs; forks = tree.forks })))))
+
+  behind_unfiled : HasNoFile (behind_unit tree f p)
   behind_unfiled = by (unit_on f.name p f.body.regs) refl
     where
-      by : (x : Planned nat_cmp ⊥) → unit_on f.name p f.body.regs ≡ x → (behind forks f p x).pages.files ≡ fin.empty
+      by : (x : Planned nat_cmp ⊥) → unit_on f.name p f.body.regs ≡ x → (behind tree f p x).pages.files ≡ fin.empty
       by (done t e) is = unit_unfiled p unfiled f.name f.body.regs t e is
       by (stopped (trap channel)) is = unfiled
       by (stopped (need none)) is = absurd none
@@ -84,21 +89,20 @@ module _ (s : PlainState) (f : Fork) (p : NumberedPages) (t : Runs s f p) where
     pub unfiled : last.pages.files ≡ fin.empty
 
   -- one more entry behind them
-  behind_row : (n : ℕ) (a : After nat_cmp) (e : Behind) → RowDone n a → behind_unit (row_state n a).forks (ran_on f n a.regs) a.pages ≡ e → Entries (suc n) e
-  behind_row n a e d is =
+  behind_row : (n : ℕ) (a : After nat_cmp) (e : Behind) → RowDone n a → behind_unit (put_back (tree_of s) (ran_on f n a.regs)) (ran_on f n a.regs) a.pages ≡ e → StopsQuietly e → Entries (suc n) e
+  behind_row n a e d is quiet =
       let runs = runs_on n a d.unfiled in
       let ran = ran_on f n a.regs in
       let unit = AUnit f.name in
-      let step = step_as (row_state n a) ran a.pages runs ∙ ap (λ x. record { state = behind_state (row_state n a) ran x; items = shown_items f.name.tty (seen_of f.slot x.shown) }) is in
+      let step = step_as (row_state n a) ran a.pages runs (subst StopsQuietly (sym is) quiet) ∙ ap (effect_of (row_state n a) ran) is in
       let more = one_more n unit in
       let here = d.state in
-      let twice : behind_state (row_state n a) ran e ≡ behind_state s f e = ap (λ forks. record (behind_state s f e) { forks = forks }) (insert_twice fork_cmp_total fork_cmp_apart s.forks f.name ran e.fork) in
       record {
-        state = ap (state_after s) more ∙ state_after-append s (replicate n unit) (unit ∷ []) ∙ ap (λ x. (apply x unit).state) here ∙ ap (λ x. x.state) step ∙ twice;
+        state = ap (state_after s) more ∙ state_after-append s (replicate n unit) (unit ∷ []) ∙ ap (λ x. (apply x unit).state) here ∙ ap (λ x. x.state) step;
         items = ap (items_of s) more ∙ items_of-append s (replicate n unit) (unit ∷ []) ∙ ap (λ is. is ++ items_of (state_after s (replicate n unit)) (unit ∷ [])) d.items
             ∙ ap (λ x. (apply x unit).items ++ []) here ∙ append-nil (apply (row_state n a) unit).items ∙ ap (λ x. x.items) step;
         legal = subst (AreLegal true s) (sym more) (AreLegal-append true s (replicate n unit) (unit ∷ []) d.legal (subst (λ x. AreLegal true x (unit ∷ [])) (sym here) (step_legal (row_state n a) ran a.pages runs true, tt)));
-        unfiled = ap (λ (x : Behind). x.pages.files) (sym is) ∙ behind_unfiled (row_state n a).forks ran a.pages d.unfiled;
+        unfiled = ap (λ (x : Behind). x.pages.files) (sym is) ∙ behind_unfiled (put_back (tree_of s) ran) ran a.pages d.unfiled;
       }
 
   no_row : RowDone zero (record { pages = p; regs = f.body.regs; post = None })
@@ -120,15 +124,18 @@ module _ (s : PlainState) (f : Fork) (p : NumberedPages) (t : Runs s f p) where
       let a = more.before in
       let d = row_done n a more.row in
       let ran = ran_on f n a.regs in
-      let last = behind_row n a (record { fork = counted (with_regs ran b.regs); pages = b.pages; shown = Nothing }) d (silent_unit (row_state n a).forks ran a.pages b more.unit more.silent) in
+      let left = put_back (tree_of s) ran in
+      let went = counted (with_regs ran b.regs) in
+      let last = behind_row n a (left_so left went b.pages Nothing) d (silent_unit left ran a.pages b more.unit more.silent) (λ stops. absurd (cc stops)) in
       let counts : f.body.units + n + 1 ≡ f.body.units + suc n = omega arith in
       record {
-        state = last.state ∙ (λ i. record s { pages = named b.pages; forks = fin.insert s.forks f.name (record f { body = record f.body { regs = b.regs; units = counts i } }) });
+        state = last.state ∙ ap (λ forks. record s { pages = named b.pages; forks = forks }) (insert_twice fork_cmp_total fork_cmp_apart s.forks f.name ran went)
+            ∙ (λ i. record s { pages = named b.pages; forks = fin.insert s.forks f.name (record f { body = record f.body { regs = b.regs; units = counts i } }) });
         items = last.items;
         legal = last.legal;
         unfiled = last.unfiled;
       }
 
   -- units in a row, and the last behind them
-  pub units_as : (count : ℕ) (e : Behind) → RanUnits s.forks f p count e → Entries count e
-  units_as count e r = subst (λ n. Entries n e) (sym r.counts) (behind_row r.before r.after e (row_done r.before r.after r.row) r.ends)
+  pub units_as : (count : ℕ) (e : Behind) → RanUnits (tree_of s) f p count e → StopsQuietly e → Entries count e
+  units_as count e r quiet = subst (λ n. Entries n e) (sym r.counts) (behind_row r.before r.after e (row_done r.before r.after r.row) r.ends quiet)

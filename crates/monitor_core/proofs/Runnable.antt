@@ -8,7 +8,8 @@ use Rattle.plain_model.specs.declared.event.Step.TheVariants.{Outer, Unit as AUn
 use Rattle.plain_model.specs.Outcome.{DrumWords}
 use Rattle.plain_model.specs.Limits.{FitsStep, IsForkName}
 use Rattle.plain_model.specs.Run.{IsLegalStep}
-use Rattle.fork_tree.specs.Trees.{CanRun, IsTree, Lives, PlainTree}
+use Rattle.fork_tree.specs.Trees.{CanRun, IsTree, Lives}
+use Rattle.plain_model.specs.Trees.{PlainTree}
 use Rattle.fork_tree.specs.Turns.{IsNext, place_at, steps_to}
 use Rattle.fork_tree.proofs.Slots.{held_lives}
 use Rattle.monitor_core.specs.declared.runner.Runner.{Runner}

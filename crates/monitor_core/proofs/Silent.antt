@@ -8,10 +8,11 @@ use Rattle.plain_model.specs.declared.fork.Regs.{Regs}
 use Rattle.plain_model.specs.declared.names.ForkName.{ForkName}
 use Rattle.plain_model.specs.State.{PlainPages, NumberedPages}
 use Rattle.plain_model.specs.Steps.{Planned, Progress, Ending, done, stopped, call, pages_left}
-use Rattle.plain_model.specs.Forks.{ForkMap, with_regs, counted}
+use Rattle.plain_model.specs.Forks.{with_regs, counted}
+use Rattle.plain_model.specs.Trees.{PlainTree}
 use Rattle.plain_model.specs.Unit.{posted_if, unit_on}
 use Rattle.ka10_unit.specs.Once.{After, once, in_a_row, unless_posted, went_through}
-use Rattle.monitor_core.specs.ForkUnit.{behind, behind_unit, post_shown}
+use Rattle.monitor_core.specs.ForkUnit.{behind, behind_unit, left_so, post_shown}
 use Rattle.monitor_core.specs.declared.shown.Shown.TheVariants.{Nothing}
 
 -- a unit that went through, and what it left
@@ -47,9 +48,9 @@ row_more {file_cmp = file_cmp} f n p regs b h = by (in_a_row f n p regs) refl h
     by None row is = absurd (cc is)
     by (Some a) row is = then a (once f a.pages a.regs) row refl is
 
--- the pages, the fork and what is shown behind a unit that went through and posts nothing
-pub silent_unit : (forks : ForkMap) (f : Fork) (p : NumberedPages) (b : After nat_cmp) → once f.name p f.body.regs ≡ Some b → b.post ≡ None → behind_unit forks f p ≡ record { fork = counted (with_regs f b.regs); pages = b.pages; shown = Nothing }
-silent_unit forks f p b went silent =
+-- what is behind a unit that went through and posts nothing
+pub silent_unit : (tree : PlainTree) (f : Fork) (p : NumberedPages) (b : After nat_cmp) → once f.name p f.body.regs ≡ Some b → b.post ≡ None → behind_unit tree f p ≡ left_so tree (counted (with_regs f b.regs)) b.pages Nothing
+silent_unit tree f p b went silent =
     let o = once_as f.name p f.body.regs b went in
-    ap (behind forks f p) o.2 ∙ (λ i. record { fork = counted (posted_if (with_regs f (o.3 i).regs) (o.3 i).post); pages = (o.3 i).pages; shown = post_shown (o.3 i).post })
-    ∙ (λ i. record { fork = counted (posted_if (with_regs f b.regs) (silent i)); pages = b.pages; shown = post_shown (silent i) })
+    ap (behind tree f p) o.2 ∙ (λ i. left_so tree (counted (posted_if (with_regs f (o.3 i).regs) (o.3 i).post)) (o.3 i).pages (post_shown (o.3 i).post))
+    ∙ (λ i. left_so tree (counted (posted_if (with_regs f b.regs) (silent i))) b.pages (post_shown (silent i)))

@@ -10,9 +10,13 @@ use Rattle.plain_model.specs.declared.names.ForkName.{ForkName}
 use Rattle.plain_model.specs.declared.fork.Fork.{Fork}
 use Rattle.plain_model.specs.Forks.{ForkMap}
 use Rattle.plain_model.specs.Pages.{PagesMeaning}
-use Rattle.fork_tree.specs.Changes.{changed}
-use Rattle.fork_tree.specs.Trees.{IsTree, Lives, PlainTree}
+use Rattle.plain_model.specs.Trees.{changed}
+use Rattle.fork_tree.specs.Trees.{IsTree, Lives}
+use Rattle.plain_model.specs.Trees.{PlainTree}
+use Rattle.fork_tree.proofs.Kept.{changed_tree}
 use Rattle.fork_tree.proofs.Slots.{cases_name, get_put, get_put_other, held_lives}
+use Rattle.fork_calls.specs.Holding.{SamePlaces}
+use Rattle.fork_calls.proofs.Holdings.{holds_same, holds_still}
 use Rattle.monitor_core.specs.declared.job.Job.{Job}
 use Rattle.monitor_core.specs.Jobs.{job_at}
 use Rattle.monitor_core.specs.Limits.{IsBody}
@@ -77,58 +81,48 @@ module _ {P : Type 0} (means : PagesMeaning P) (p q : P) (tree : PlainTree) (job
   -- the forks stay
   pub sound_same : AreSound means q tree jobs'
   sound_same = record {
-    flat = s.flat;
-    roomy = s.roomy;
+    holds = holds_still means p q tree.forks lives_same forks_same s.holds;
     job_room = tops.room ∙ s.job_room;
     each_fork = s.each_fork;
-    alive = λ f e. ap (λ l. l f.name) lives_same ∙ s.alive f e;
     each_job = λ t k e.
         let j = tops.tops t k e in
         let job = s.each_job t j.0 j.1 in
         record { terminal = ap (λ n. n.tty.0) j.2 ∙ job.terminal; low = job.low; top = ap (λ n. option_map (λ f. f.slot) (map.get tree.forks n)) j.2 ∙ job.top };
-    absent = λ t e low. ap (λ l. l t) forks_same ∙ s.absent t (tops.none t.0 e) low;
     nobody = λ t f e lives. s.nobody t f (tops.none t e) lives;
   }
 
-  -- one fork is another of its name and slot
-  module _ (k g : Fork) (lives : Lives tree.forks k) (name : g.name ≡ k.name) (slot : g.slot ≡ k.slot) (body : IsBody g.body) where
-    abbrev forks' : ForkMap
-    forks' = map.insert tree.forks k.name g
+  module _ (trees : IsTree tree) where
+    -- one fork is another of its name, slot and superior
+    module _ (k g : Fork) (lives : Lives tree.forks k) (name : g.name ≡ k.name) (slot : g.slot ≡ k.slot) (superior : g.superior ≡ k.superior) (body : IsBody g.body) where
+      abbrev forks' : ForkMap
+      forks' = map.insert tree.forks k.name g
 
-    top_still : (n : ForkName) → option_map (λ f. f.slot) (map.get tree.forks n) ≡ Some 1 → option_map (λ f. f.slot) (map.get forks' n) ≡ Some 1
-    top_still n is = elim (cases_name n k.name) [
-      | inl same ↦
-          ap (option_map (λ f. f.slot)) (get_put tree.forks k.name n g same) ∙ ap Some slot
-          ∙ ap (option_map (λ f. f.slot)) (sym lives ∙ ap (map.get tree.forks) (sym same)) ∙ is
-      | inr ne ↦ ap (option_map (λ f. f.slot)) (get_put_other tree.forks k.name n g ne) ∙ is
-    ]
+      places : SamePlaces tree.forks forks'
+      places n = elim (cases_name n k.name) [
+        | inl same ↦ ap (option_map (λ f. f.slot)) (get_put tree.forks k.name n g same) ∙ ap Some slot ∙ ap (option_map (λ f. f.slot)) (sym lives ∙ ap (map.get tree.forks) (sym same))
+        | inr ne ↦ ap (option_map (λ f. f.slot)) (get_put_other tree.forks k.name n g ne)
+      ]
 
-    pub sound_changed : AreSound means q (record tree { forks = forks' }) jobs'
-    sound_changed = let still = sound_same in record {
-      flat = s.flat;
-      roomy = s.roomy;
-      job_room = still.job_room;
-      each_fork = λ f e. elim (lives_now tree.forks k.name g f e) [
-        | inl is ↦ subst (λ (x : Fork). IsBody x.body) is body
-        | inr old ↦ s.each_fork f old
-      ];
-      alive = λ f e. elim (lives_now tree.forks k.name g f e) [
-        | inl is ↦ ap (means.lives q) (ap (λ x. x.name) (sym is) ∙ name) ∙ still.alive k lives
-        | inr old ↦ still.alive f old
-      ];
-      each_job = λ t i e. let job = still.each_job t i e in record { terminal = job.terminal; low = job.low; top = top_still i.top job.top };
-      absent = still.absent;
-      nobody = λ t f e there at. elim (lives_now tree.forks k.name g f there) [
-        | inl is ↦ still.nobody t k e lives (ap (λ n. n.tty.0) (sym name ∙ ap (λ x. x.name) is) ∙ at)
-        | inr old ↦ still.nobody t f e old at
-      ];
-    }
+      pub sound_changed : AreSound means q (record tree { forks = forks' }) jobs'
+      sound_changed = let still = sound_same in record {
+        holds = holds_same means q tree.forks forks' trees.slotted (changed_tree tree k g trees lives name slot superior).slotted places still.holds;
+        job_room = still.job_room;
+        each_fork = λ f e. elim (lives_now tree.forks k.name g f e) [
+          | inl is ↦ subst (λ (x : Fork). IsBody x.body) is body
+          | inr old ↦ s.each_fork f old
+        ];
+        each_job = λ t i e. let job = still.each_job t i e in record { terminal = job.terminal; low = job.low; top = places i.top ∙ job.top };
+        nobody = λ t f e there at. elim (lives_now tree.forks k.name g f there) [
+          | inl is ↦ still.nobody t k e lives (ap (λ n. n.tty.0) (sym name ∙ ap (λ x. x.name) is) ∙ at)
+          | inr old ↦ still.nobody t f e old at
+        ];
+      }
 
-  -- a fork of a name is changed, if it lives
-  pub sound_change : IsTree tree → (n : ForkName) (change : Fork → Fork) → ((f : Fork) → (change f).name ≡ f.name) → ((f : Fork) → (change f).slot ≡ f.slot) → ((f : Fork) → IsBody f.body → IsBody (change f).body)
-      → AreSound means q (with_change tree n change) jobs'
-  sound_change is n change name slot body = by (map.get tree.forks n) refl
-    where
-      by : (o : Option Fork) → map.get tree.forks n ≡ o → AreSound means q (record tree { forks = changed tree.forks change o }) jobs'
-      by None e = sound_same
-      by (Some k) e = let lives = held_lives tree.forks is.slotted n k e in sound_changed k (change k) lives (name k) (slot k) (body k (s.each_fork k lives))
+    -- a fork of a name is changed, if it lives
+    pub sound_change : (n : ForkName) (change : Fork → Fork) → ((f : Fork) → (change f).name ≡ f.name) → ((f : Fork) → (change f).slot ≡ f.slot) → ((f : Fork) → (change f).superior ≡ f.superior) → ((f : Fork) → IsBody f.body → IsBody (change f).body)
+        → AreSound means q (with_change tree n change) jobs'
+    sound_change n change name slot superior body = by (map.get tree.forks n) refl
+      where
+        by : (o : Option Fork) → map.get tree.forks n ≡ o → AreSound means q (record tree { forks = changed tree.forks change o }) jobs'
+        by None e = sound_same
+        by (Some k) e = let lives = held_lives tree.forks trees.slotted n k e in sound_changed k (change k) lives (name k) (slot k) (superior k) (body k (s.each_fork k lives))

@@ -1,15 +1,16 @@
 -- Steps of a system, as steps of the plain machine.
-use Rattle.std.proofs.Common.{◌≡◌, ℕ, ◌<◌, ◌≤◌, ◌^◌, List, Option, None, Some, refl, sym, ◌∙◌, ap, subst, arith, inl, inr, length-set}
+use Rattle.std.proofs.Common.{◌≡◌, ℕ, ◌<◌, ◌≤◌, ◌^◌, is_some, List, Option, None, Some, refl, sym, ◌∙◌, ap, subst, arith, inl, inr, length-set}
 use Rattle.std.specs.Option.{option_map, option_map_or}
 use Rattle.std.specs.FinMap as map
 use Rattle.plain_model.specs.declared.names.ForkName.{ForkName}
 use Rattle.plain_model.specs.declared.fork.Fork.{Fork}
 use Rattle.plain_model.specs.Forks.{change_fork, with_fork}
 use Rattle.plain_model.specs.State.{PlainState}
-use Rattle.fork_tree.specs.Changes.{changed}
+use Rattle.plain_model.specs.Trees.{changed}
 use Rattle.plain_model.specs.declared.names.TheConstants.{ACCUMULATORS}
 use Rattle.plain_model.specs.Events.{restarted, with_accumulator}
-use Rattle.fork_tree.specs.Trees.{IsTree, Lives, PlainTree}
+use Rattle.fork_tree.specs.Trees.{IsTree, Lives}
+use Rattle.plain_model.specs.Trees.{PlainTree}
 use Rattle.fork_tree.proofs.Slots.{held_lives}
 use Rattle.monitor_core.specs.declared.job.Job.{Job}
 use Rattle.monitor_core.specs.declared.system.System.{System}
@@ -44,12 +45,11 @@ module _ {P : Type 0} {b : _} where
   holds_top m is t j at =
       let job = m.sound.each_job t j at in
       let k = top_fork_of m t j at in
-      let alive = m.sound.alive k.0 (held_lives m.tree.forks is.slotted j.top k.0 k.1) in
-      record { flat = m.sound.flat; lives = ap (b.means.lives m.pages) (sym (is.slotted.own j.top k.0 k.1)) ∙ alive; terminal = omega (arith, job.terminal, job.low) }
+      record { flat = m.sound.holds.flat; lives = m.sound.holds.living j.top ∙ ap is_some k.1; terminal = omega (arith, job.terminal, job.low) }
 
   -- a fork that lives is held by the pages
   pub holds_fork : (m : System P b) → IsTree m.tree → (f : Fork) → Lives m.tree.forks f → Holds b.means m.pages f.name
-  holds_fork m is f lives = record { flat = m.sound.flat; lives = m.sound.alive f lives; terminal = (is.slotted.named f lives).0 }
+  holds_fork m is f lives = record { flat = m.sound.holds.flat; lives = m.sound.holds.living f.name ∙ ap is_some lives; terminal = (is.slotted.named f lives).0 }
 
   -- the units of the forks where one of them is another
   pub units_changed : (m : System P b) (entries later : ℕ) (name : ForkName) (g : Fork) → IsWithin m entries → entries ≤ later → g.body.units ≤ later → (f : Fork) → Lives (map.insert m.tree.forks name g) f → f.body.units ≤ later
@@ -90,6 +90,6 @@ sound_poked {b = b} m is q tree jobs name address word lives forks same low high
     elim (split_at address ACCUMULATORS) [
       | inl small ↦
           subst (λ (x : PlainTree). AreSound b.means q x jobs) (sym (low small))
-          (sound_change b.means m.pages q m.tree m.jobs.items jobs m.sound lives forks tops is name (with_accumulator address word) (λ f. refl) (λ f. refl) (λ f body. worded_body f address word body))
+          (sound_change b.means m.pages q m.tree m.jobs.items jobs m.sound lives forks tops is name (with_accumulator address word) (λ f. refl) (λ f. refl) (λ f. refl) (λ f body. worded_body f address word body))
       | inr above ↦ subst (λ (x : PlainTree). AreSound b.means q x jobs) (sym (high above)) (sound_same b.means m.pages q m.tree m.jobs.items jobs m.sound lives forks tops)
     ]

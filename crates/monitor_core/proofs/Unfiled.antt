@@ -19,13 +19,22 @@ use Rattle.plain_model.specs.Calls.{Turn, end_of, parts_behind}
 use Rattle.plain_model.specs.MapCalls.{map_changed}
 use Rattle.plain_model.specs.declared.call.End.{End}
 use Rattle.plain_model.specs.declared.call.MapChange.{MapChange}
-use Rattle.plain_model.proofs.MapTurns.{end_refiled, turn_files, turn_refiled}
+use Rattle.plain_model.specs.declared.call.ForkChange.{ForkChange}
+use Rattle.plain_model.specs.ForkCalls.{ForkParts, fork_changed_by}
+use Rattle.plain_model.specs.Trees.{PlainTree}
+use Rattle.plain_model.proofs.ForkTurns.{fork_turn_files, fork_turn_refiled}
+use Rattle.plain_model.proofs.MapTurns.{turn_files, turn_refiled}
+use Rattle.plain_model.proofs.Turns.{end_refiled}
 use Rattle.plain_model.proofs.Refiled.{NameAlike, refiled_result, reference_refiled}
 use Rattle.plain_model.proofs.RefiledUnits.{refiled_plan, run_refiled, LeavesFiles, run_leaves, left_leaves}
 
 -- the same pages, without files
 abbrev pub named : NumberedPages → NamedPages
 named p = refiled name_cmp p fin.empty
+
+-- the same forks and pages, without files
+abbrev pub named_parts : ForkParts nat_cmp → ForkParts name_cmp
+named_parts v = record { tree = v.tree; pages = named v.pages }
 
 module _ (p : NumberedPages) (unfiled : p.files ≡ fin.empty) where
   pub alike : NameAlike name_cmp p fin.empty
@@ -45,10 +54,17 @@ module _ (p : NumberedPages) (unfiled : p.files ≡ fin.empty) where
 
   -- a turn of a call on maps ends the same, leaves the same, and leaves no file
   pub end_named : {C : Type 0} (t : Turn C) → end_of (named p) t ≡ end_of p t
-  end_named t = end_refiled name_cmp fin.empty p t
+  end_named t = end_refiled name_cmp fin.empty p t alike
 
   pub turn_named : (e : End MapChange) → parts_behind map_changed (named p) e ≡ named (parts_behind map_changed p e)
   turn_named e = turn_refiled name_cmp fin.empty p alike e
 
   pub turn_unfiled : (e : End MapChange) → (parts_behind map_changed p e).files ≡ fin.empty
   turn_unfiled e = turn_files p e ∙ unfiled
+
+  -- and so with a turn of a fork call
+  pub forked_named : (tree : PlainTree) (t : Turn ForkChange) (e : End ForkChange) → parts_behind (fork_changed_by t) (record { tree = tree; pages = named p }) e ≡ named_parts (parts_behind (fork_changed_by t) (record { tree = tree; pages = p }) e)
+  forked_named tree t e = fork_turn_refiled name_cmp fin.empty t e (record { tree = tree; pages = p }) alike
+
+  pub forked_unfiled : (tree : PlainTree) (t : Turn ForkChange) (e : End ForkChange) → (parts_behind (fork_changed_by t) (record { tree = tree; pages = p }) e).pages.files ≡ fin.empty
+  forked_unfiled tree t e = fork_turn_files t e (record { tree = tree; pages = p }) ∙ unfiled

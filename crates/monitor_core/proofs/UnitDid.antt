@@ -1,7 +1,7 @@
 -- Units of a system, as units of the plain machine.
-use Rattle.std.proofs.Common.{◌≡◌, ℕ, ◌<◌, ◌≤◌, ◌&&◌, List, length, slice_set, Bool, true, false, cond, not, Option, None, Some, refl, sym, ◌∙◌, ap, subst, arith, inl, inr, ◌==◌}
+use Rattle.std.proofs.Common.{◌≡◌, ℕ, ◌+◌, ◌*◌, ◌<◌, ◌≤◌, ◌&&◌, List, length, slice_set, Bool, true, false, cond, not, Option, None, Some, refl, sym, ◌∙◌, ap, subst, arith, inl, inr, ◌==◌}
 use Rattle.std.proofs.lemmas.Bool.{cases_eq}
-use Rattle.std.specs.Option.{option_map_or}
+use Rattle.std.specs.Option.{option_map, option_map_or}
 use Rattle.std.specs.Ordering.{nat_cmp}
 use Rattle.std.specs.FinMap as fin
 use Rattle.plain_model.specs.declared.names.TheConstants.{MOST_FORKS, TERMINALS}
@@ -10,10 +10,18 @@ use Rattle.plain_model.specs.declared.fork.Fork.{Fork}
 use Rattle.plain_model.specs.declared.fork.ForkStatus.TheVariants.{Run}
 use Rattle.plain_model.specs.declared.fork.TerminalMode.TheVariants.{Command}
 use Rattle.plain_model.specs.declared.event.Step.TheVariants.{Unit as AUnit}
-use Rattle.plain_model.specs.Forks.{is_frozen}
+use Rattle.plain_model.specs.declared.names.ForkName.{ForkName}
+use Rattle.plain_model.specs.Forks.{ForkMap, is_frozen}
 use Rattle.plain_model.specs.Outcome.{DrumWords}
 use Rattle.plain_model.specs.State.{PlainJob}
-use Rattle.fork_tree.specs.Trees.{IsTree, Lives, PlainTree}
+use Rattle.fork_tree.specs.Trees.{IsTree, Lives}
+use Rattle.plain_model.specs.Trees.{PlainTree, next_name}
+use Rattle.plain_model.proofs.ForkMaps.{AreOwn}
+use Rattle.fork_tree.proofs.Slots.{some_of}
+use Rattle.fork_calls.specs.Holding.{IsNew}
+use Rattle.fork_calls.specs.Limits.{AreWithin}
+use Rattle.fork_calls.proofs.Holdings.{holds_same}
+use Rattle.fork_calls.proofs.Places.{Keep, keep_itself, waiters_keep}
 use Rattle.monitor_core.specs.declared.job.Job.{Job}
 use Rattle.monitor_core.specs.declared.reply.Reply.TheVariants.{Prints}
 use Rattle.monitor_core.specs.declared.shown.Shown.{Shown}
@@ -22,13 +30,15 @@ use Rattle.monitor_core.specs.declared.system.System.{System}
 use Rattle.monitor_core.specs.declared.units.Units.{Units}
 use Rattle.monitor_core.specs.ForkUnit.{Behind, UnitsRan}
 use Rattle.monitor_core.specs.Jobs.{job_at, jobs_left, jobs_of}
+use Rattle.monitor_core.specs.Runners.{woken_where}
 use Rattle.monitor_core.specs.Shown.{FitsShown, is_stop, seen_of, shown_items}
 use Rattle.monitor_core.specs.Sound.{AreSound}
-use Rattle.monitor_core.specs.Systems.{DidAll, FitsPages, state_of}
-use Rattle.monitor_core.proofs.Keeping.{kept_body}
+use Rattle.monitor_core.specs.Systems.{DidAll, FitsPages, IsWithin, state_of}
+use Rattle.monitor_core.specs.Writing.{most_makings}
 use Rattle.monitor_core.proofs.Lookups.{job_found, job_missing, jobs_set}
 use Rattle.monitor_core.proofs.Rows.{Entries, units_as}
-use Rattle.monitor_core.proofs.Sounds.{SameTops, lives_now, same_tops, same_tops_set, sound_changed}
+use Rattle.monitor_core.proofs.Sounds.{SameTops, same_tops, same_tops_set}
+use Rattle.monitor_core.proofs.Unfiled.{named}
 use Rattle.monitor_core.proofs.UnitEffect.{Runs, behind_state, jobs_seen}
 
 -- the jobs of which one gives its terminal to the monitor, as the plain state has them
@@ -59,6 +69,11 @@ seen_fits : (b : Bool) (shown : Shown) → FitsShown shown → FitsShown (cond b
 seen_fits true shown fits = tt
 seen_fits false shown fits = fits
 
+-- the forks once who waits runs again: each in its place, within its limits
+woken_keeps : (forks : ForkMap) → AreOwn forks → (t : Tty) (stops : Bool) → Keep forks (woken_where forks t stops)
+woken_keeps forks own t true = waiters_keep forks own t
+woken_keeps forks own t false = keep_itself forks own
+
 module _ {P : Type 0} {b : _} (m : System P b) (f : Fork) (trees : IsTree m.tree) (lives : Lives m.tree.forks f) where
   low : f.name.tty.0 < TERMINALS
   low = (trees.slotted.named f lives).0
@@ -66,52 +81,102 @@ module _ {P : Type 0} {b : _} (m : System P b) (f : Fork) (trees : IsTree m.tree
   within_jobs : f.name.tty.0 < length m.jobs.items
   within_jobs = omega (arith, m.sound.job_room, low)
 
-  -- the tables stay sound
-  pub units_sound : (q : P) (tree' : PlainTree) (jobs' : List (Option Job)) (units : Units) (shown : Shown) → UnitsRan b.means m.pages q m.tree tree' f units → jobs' ≡ jobs_left m.jobs.items f.name.tty.0 (is_stop shown) → AreSound b.means q tree' jobs'
-  units_sound q tree' jobs' units shown ran jobs =
-      let tops = tops_left m.jobs.items f.name.tty.0 (is_stop shown) within_jobs in
-      let body = kept_body f ran.after units.count ran.keeps (m.sound.each_fork f lives) in
-      let left = jobs_left m.jobs.items f.name.tty.0 (is_stop shown) in
-      subst (λ x. AreSound b.means q x jobs') (sym ran.left)
-      (subst (AreSound b.means q (record m.tree { forks = fin.insert m.tree.forks f.name ran.after })) (sym jobs)
-      (sound_changed b.means m.pages q m.tree m.jobs.items left m.sound ran.made.lives ran.made.forks tops f ran.after lives ran.keeps.name ran.keeps.slot body))
+  -- behind units of a fork, and once who waits runs again
+  module _ (q : P) (left tree' : PlainTree) (units : Units) (ran : UnitsRan b.means m.pages q m.tree left f units) (left_trees : IsTree left) (woken : tree' ≡ record left { forks = woken_where left.forks f.name.tty (is_stop units.shown) }) where
+    left_within : AreWithin left.forks
+    left_within g there = elim (ran.leaves.kept g there) [
+      | inl came ↦ came.within (m.sound.each_fork came.before came.lived)
+      | inr new ↦ new.within
+    ]
 
-  module _ (m' : System P b) (units : Units) (shown : Shown) (runs : f.body.status ≡ Run) (thawed : is_frozen MOST_FORKS m.tree.forks (Some f) ≡ false) (ran : UnitsRan b.means m.pages m'.pages m.tree m'.tree f units)
-      (seen : shown ≡ seen_of f.slot units.shown) (jobs : m'.jobs.items ≡ jobs_left m.jobs.items f.name.tty.0 (is_stop shown)) (clock : m'.clock ≡ m.clock) (some : 1 ≤ units.count) where
-    module _ (d : DrumWords) (fits : FitsPages m d) where
-      abbrev last : Behind
-      last = record { fork = ran.after; pages = b.means.plain m'.pages d; shown = units.shown }
+    keeps : Keep left.forks tree'.forks
+    keeps = subst (λ (x : PlainTree). Keep left.forks x.forks) (sym woken) (woken_keeps left.forks left_trees.slotted.own f.name.tty (is_stop units.shown))
 
-      can_run : Runs (state_of m d) f (b.means.plain m.pages d)
-      can_run = record { trees = trees; fork = lives; pages = refl; unfiled = fits.unfiled; quiet = refl; off = (m.sound.each_fork f lives).off; runs = runs; thawed = thawed }
+    -- a fork of a job has no more units
+    few_units : (entries : ℕ) → IsWithin m entries → (g : Fork) → Lives tree'.forks g → g.body.units ≤ entries + units.count
+    few_units entries w g there =
+        let k = keeps.come g there in
+        elim (ran.leaves.kept k.before k.lived) [
+          | inl came ↦ omega (arith, k.units, came.units, w.units came.before came.lived)
+          | inr new ↦ omega (arith, k.units, new.units)
+        ]
 
-      entries : Entries (state_of m d) f (b.means.plain m.pages d) can_run units.count last
-      entries = units_as (state_of m d) f (b.means.plain m.pages d) can_run units.count last (ran.told d fits.pages).1
+    -- nor has a terminal that has none now
+    none_before : (t : ℕ) → ((g : Fork) → Lives m.tree.forks g → g.name.tty.0 ≡ t → ⊥) → (g : Fork) → Lives left.forks g → g.name.tty.0 ≡ t → ⊥
+    none_before t none g there at = elim (ran.leaves.kept g there) [
+      | inl came ↦ none came.before came.lived (ap (λ (n : ForkName). n.tty.0) (sym came.name) ∙ at)
+      | inr new ↦ made new (some_of g.superior new.below)
+    ]
+      where
+        made : IsNew m.tree g → (slot : ℕ) × (g.superior ≡ Some slot) → ⊥
+        made new over =
+            let o = left_trees.superiors g over.0 there over.1 in
+            elim (ran.leaves.kept o.0 o.1.0) [
+              | inl came ↦ none came.before came.lived (ap (λ (n : ForkName). n.tty.0) (sym came.name) ∙ o.1.1 ∙ at)
+              | inr also ↦
+                  let job : o.0.name.tty ≡ g.name.tty = λ i. record { 0 = o.1.1 i } in
+                  let same : o.0.name.serial ≡ g.name.serial = ap (λ (n : ForkName). n.serial) (also.name ∙ ap (next_name m.tree) job ∙ sym new.name) in
+                  omega (arith, same, o.2)
+            ]
 
-      state_is : state_of m' d ≡ behind_state (state_of m d) f last
-      state_is =
-          let jobs_are : jobs_of m'.jobs.items ≡ jobs_seen (jobs_of m.jobs.items) f.name.tty (is_stop (seen_of f.slot units.shown)) =
-          ap jobs_of jobs ∙ jobs_left_seen m.jobs.items f.name.tty (is_stop shown) within_jobs ∙ ap (λ x. jobs_seen (jobs_of m.jobs.items) f.name.tty (is_stop x)) seen in
-          λ i. record (state_of m' d) { jobs = jobs_are i; forks = (ran.left i).forks; fork_serials = (ran.left i).serials; clock = clock i }
+    -- the tables stay sound
+    pub units_sound : IsTree tree' → (jobs' : List (Option Job)) (shown : Shown) → jobs' ≡ jobs_left m.jobs.items f.name.tty.0 (is_stop shown) → AreSound b.means q tree' jobs'
+    units_sound now jobs' shown jobs =
+        let tops = tops_left m.jobs.items f.name.tty.0 (is_stop shown) within_jobs in
+        subst (AreSound b.means q tree') (sym jobs) (record {
+          holds = holds_same b.means q left.forks tree'.forks left_trees.slotted now.slotted keeps.same ran.leaves.holds;
+          job_room = tops.room ∙ m.sound.job_room;
+          each_fork = λ g there. let k = keeps.come g there in k.within (left_within k.before k.lived);
+          each_job = λ t k e.
+              let j = tops.tops t k e in
+              let job = m.sound.each_job t j.0 j.1 in
+              record {
+                terminal = ap (λ n. n.tty.0) j.2 ∙ job.terminal;
+                low = job.low;
+                top = keeps.same k.top ∙ ran.leaves.tops k.top (ap (λ n. option_map (λ f. f.slot) (fin.get m.tree.forks n)) j.2 ∙ job.top);
+              };
+          nobody = λ t g e there at.
+              let k = keeps.come g there in
+              none_before t (λ h lived. m.sound.nobody t h (tops.none t e) lived) k.before k.lived (ap (λ (n : ForkName). n.tty.0) (sym k.name) ∙ at);
+        })
 
-    -- units that ran in a row
-    pub did_units : DidAll m m' (AUnit f.name) units.count (Prints f.name.tty shown)
-    did_units = record {
-      fits = λ d fits. record { pages = (ran.told d fits.pages).0; unfiled = (entries d fits).unfiled };
-      legal = λ d fits. (entries d fits).legal;
-      state = λ d fits. state_is d fits ∙ sym (entries d fits).state;
-      items = λ d fits. ap (shown_items f.name.tty) seen ∙ sym (entries d fits).items;
-      shown = (low, subst FitsShown (sym seen) (seen_fits (is_stop units.shown && not (f.slot == 1)) units.shown ran.shown));
-      within = λ n w. record {
-        ticks = omega (arith, clock, w.ticks);
-        units = λ g there. elim (lives_now m.tree.forks f.name ran.after g (ap (λ (x : PlainTree). fin.get x.forks g.name) (sym ran.left) ∙ there)) [
-          | inl is ↦ omega (arith, ap (λ (x : Fork). x.body.units) is, ran.keeps.units, w.units f lives)
-          | inr old ↦ omega (arith, w.units g old)
-        ];
-        serials = λ u. elim (cases_eq u.0 f.name.tty.0) [
-          | inl same ↦ let is : u ≡ f.name.tty = λ i. record { 0 = same i } in omega (arith, ap (b.means.serial m'.pages) is, ran.made.own, w.serials f.name.tty, some)
-          | inr ne ↦ omega (arith, ran.made.others u (λ h. ne (ap (λ x. x.0) h)), w.serials u)
-        ];
-      };
-      most = ran.made.most;
-    }
+    module _ (m' : System P b) (pages_are : m'.pages ≡ q) (tree_is : m'.tree ≡ tree') (shown : Shown) (runs : f.body.status ≡ Run) (thawed : is_frozen MOST_FORKS m.tree.forks (Some f) ≡ false)
+        (seen : shown ≡ seen_of f.slot units.shown) (jobs : m'.jobs.items ≡ jobs_left m.jobs.items f.name.tty.0 (is_stop shown)) (clock : m'.clock ≡ m.clock) (some : 1 ≤ units.count) where
+      module _ (d : DrumWords) (fits : FitsPages m d) where
+        abbrev last : Behind
+        last = record { tree = left; fork = ran.after; pages = b.means.plain q d; shown = units.shown }
+
+        can_run : Runs (state_of m d) f (b.means.plain m.pages d)
+        can_run = record { trees = trees; fork = lives; pages = refl; unfiled = fits.unfiled; quiet = refl; off = (m.sound.each_fork f lives).off; runs = runs; thawed = thawed }
+
+        entries : Entries (state_of m d) f (b.means.plain m.pages d) can_run units.count last
+        entries = units_as (state_of m d) f (b.means.plain m.pages d) can_run units.count last (ran.told d fits.pages).1 (λ stops. record { own = left_trees.slotted.own; within = left_within })
+
+        state_is : state_of m' d ≡ behind_state (state_of m d) f last
+        state_is =
+            let jobs_are : jobs_of m'.jobs.items ≡ jobs_seen (jobs_of m.jobs.items) f.name.tty (is_stop (seen_of f.slot units.shown)) =
+            ap jobs_of jobs ∙ jobs_left_seen m.jobs.items f.name.tty (is_stop shown) within_jobs ∙ ap (λ x. jobs_seen (jobs_of m.jobs.items) f.name.tty (is_stop x)) seen in
+            let tree_so = tree_is ∙ woken in
+            λ i. record (state_of m' d) { pages = named (b.means.plain (pages_are i) d); jobs = jobs_are i; forks = (tree_so i).forks; fork_serials = (tree_so i).serials; clock = clock i }
+
+      -- units that ran in a row
+      pub did_units : DidAll m m' (AUnit f.name) units.count (Prints f.name.tty shown)
+      did_units = record {
+        fits = λ d fits. record { pages = subst (λ (x : P). b.means.fits x d) (sym pages_are) (ran.told d fits.pages).0; unfiled = ap (λ (x : P). (b.means.plain x d).files) pages_are ∙ (entries d fits).unfiled };
+        legal = λ d fits. (entries d fits).legal;
+        state = λ d fits. state_is d fits ∙ sym (entries d fits).state;
+        items = λ d fits. ap (shown_items f.name.tty) seen ∙ sym (entries d fits).items;
+        shown = (low, subst FitsShown (sym seen) (seen_fits (is_stop units.shown && not (f.slot == 1)) units.shown ran.shown));
+        within = λ n w. record {
+          ticks = omega (arith, clock, w.ticks);
+          units = λ g there. few_units n w g (ap (λ (x : PlainTree). fin.get x.forks g.name) (sym tree_is) ∙ there);
+          serials = λ u. subst (λ (x : P). b.means.serial x u ≤ most_makings * (n + units.count) + 1) (sym pages_are) (serials_left n w u);
+        };
+        most = ap b.means.most pages_are ∙ ran.leaves.made.most;
+      }
+        where
+          serials_left : (n : ℕ) → IsWithin m n → (u : Tty) → b.means.serial q u ≤ most_makings * (n + units.count) + 1
+          serials_left n w u = elim (cases_eq u.0 f.name.tty.0) [
+            | inl same ↦ let is : u ≡ f.name.tty = λ i. record { 0 = same i } in omega (arith, ap (b.means.serial q) is, ran.leaves.made.serial, w.serials f.name.tty, some)
+            | inr ne ↦ omega (arith, ran.leaves.made.serials u (λ h. ne (ap (λ x. x.0) h)), w.serials u)
+          ]

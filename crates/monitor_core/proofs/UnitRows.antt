@@ -4,14 +4,17 @@ use Rattle.std.specs.Ordering.{nat_cmp}
 use Rattle.plain_model.specs.declared.fork.Fork.{Fork}
 use Rattle.plain_model.specs.State.{NumberedPages}
 use Rattle.ka10_unit.specs.Once.{After, in_a_row}
-use Rattle.monitor_core.specs.ForkUnit.{IsOne, IsRow, RanUnits, forks_on, ran_on, units_over}
+use Rattle.monitor_core.specs.ForkUnit.{IsOne, IsRow, RanUnits, left_so, put_back, ran_on, units_over}
 use Rattle.monitor_core.specs.declared.unit.Last.{Last}
 use Rattle.monitor_core.specs.declared.unit.Last.TheVariants.{Shows, Calls}
-use Rattle.monitor_core.proofs.UnitRan.{one_behind}
+use Rattle.monitor_core.proofs.UnitRan.{one_behind, put_twice}
 
-module _ (f : Fork) (p : NumberedPages) (n : ℕ) (a : After nat_cmp) (h : Fork) (r : NumberedPages) (row : in_a_row f.name n p f.body.regs ≡ Some a) where
+module _ (f : Fork) (p : NumberedPages) (n : ℕ) (a : After nat_cmp) (h : Fork) (r : NumberedPages) (row : in_a_row f.name n p f.body.regs ≡ Some a) (name : h.name ≡ f.name) where
   by_last : (count : ℕ) (last : Last) → count ≡ n + units_over last → IsOne (ran_on f n a.regs) a.pages h r last → IsRow f p count h r last
-  by_last count (Shows shown) counts is = λ forks. subst (λ k. RanUnits forks f p k (record { fork = h; pages = r; shown = shown })) (sym counts) (one_behind forks f p n a _ row (is (forks_on forks f n a.regs)))
+  by_last count (Shows shown) counts is = λ tree.
+      let on = put_back tree (ran_on f n a.regs) in
+      subst (λ k. RanUnits tree f p k (left_so tree h r shown)) (sym counts)
+      (one_behind tree f p n a _ row (is on ∙ put_twice tree (ran_on f n a.regs) h r shown name))
   by_last count (Calls number) counts is =
       let same : count ≡ n = omega (arith, counts) in
       record {

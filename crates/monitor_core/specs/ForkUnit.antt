@@ -1,10 +1,11 @@
 -- What a unit does to its own fork and its pages, and what it shows; and so many of them in a row.
-use Rattle.std.specs.Prelude.{◌≡◌, ◌≢◌, ℕ, suc, ◌+◌, ◌≤◌, ◌<◌, ◌%◌, ◌^◌, length, Bool, Option, None, Some, if◌then◌else◌, ◌==◌, slice_index}
+use Rattle.std.specs.Prelude.{◌≡◌, ◌≢◌, ◌⊎◌, ℕ, suc, ◌+◌, ◌≤◌, ◌<◌, ◌%◌, ◌^◌, length, Bool, false, Option, None, Some, IsSome, if◌then◌else◌, ◌==◌, slice_index}
+use Rattle.std.specs.Option.{unwrap_or}
 use Rattle.std.specs.Ordering.{nat_cmp}
 use Rattle.std.specs.FinMap as map
 use Rattle.plain_model.specs.declared.names.TheConstants.{ACCUMULATORS}
 use Rattle.plain_model.specs.declared.names.ForkName.{ForkName}
-use Rattle.plain_model.specs.declared.call.TheConstants.{PBOUT, HALTF}
+use Rattle.plain_model.specs.declared.call.TheConstants.{PBOUT, CFORK}
 use Rattle.plain_model.specs.declared.call.End.{End}
 use Rattle.plain_model.specs.declared.call.End.TheVariants as end
 use Rattle.plain_model.specs.declared.call.MapChange.{MapChange}
@@ -14,9 +15,10 @@ use Rattle.plain_model.specs.declared.fork.Answer.TheVariants as answer
 use Rattle.plain_model.specs.declared.fork.Body.{Body}
 use Rattle.plain_model.specs.declared.fork.Fork.{Fork}
 use Rattle.plain_model.specs.declared.fork.Regs.{Regs}
-use Rattle.plain_model.specs.declared.fork.ForkStatus.TheVariants.{Halted as AHalted}
+use Rattle.plain_model.specs.declared.fork.ForkStatus.TheVariants.{Wait as AWait, Halted as AHalted}
 use Rattle.plain_model.specs.State.{NumberedPages}
-use Rattle.plain_model.specs.Calls.{end_of, fork_behind, parts_behind, with_error}
+use Rattle.plain_model.specs.Calls.{end_of, failed_regs, fork_behind, is_among, parts_behind, with_error}
+use Rattle.plain_model.specs.ForkCalls.{fork_call, fork_calls, fork_changed_by}
 use Rattle.plain_model.specs.MapCalls.{map_call, map_changed}
 use Rattle.plain_model.specs.Steps.{Planned, done, call, trap, need, stopped as unit_stopped, pages_left}
 use Rattle.plain_model.specs.Unit.{advanced, posted_if, unit_on}
@@ -25,8 +27,10 @@ use Rattle.plain_model.specs.Interrupts.{posted, is_panic}
 use Rattle.plain_model.specs.Outcome.{DrumWords}
 use Rattle.plain_model.specs.Pages.{PagesMeaning}
 use Rattle.ka10_unit.specs.Once.{After, in_a_row}
-use Rattle.fork_tree.specs.Trees.{PlainTree}
-use Rattle.monitor_core.specs.Limits.{FitsForced}
+use Rattle.plain_model.specs.Trees.{PlainTree}
+use Rattle.fork_tree.specs.Trees.{Lives}
+use Rattle.fork_calls.specs.Holding.{Holds, IsNew, MakesPages, TopsStay}
+use Rattle.monitor_core.specs.Limits.{FitsForced, IsBody}
 use Rattle.monitor_core.specs.Shown.{code_shown, FitsShown}
 use Rattle.monitor_core.specs.Writing.{Makes, most_makings}
 use Rattle.monitor_core.specs.declared.shown.Shown.{Shown}
@@ -51,63 +55,79 @@ abbrev pub post_shown : Option ℕ → Shown
 post_shown None = Nothing
 post_shown (Some channel) = if is_panic channel then Forced channel else Nothing
 
--- what is behind a unit: its fork, the pages, and what it shows
+-- what is behind a unit: the forks of all jobs with its own, that fork, the pages, and what it shows. Who waits for it is not woken yet
 pub record Behind : Type 0 where
+  pub tree : PlainTree
   pub fork : Fork
   pub pages : NumberedPages
   pub shown : Shown
 
--- the channel that the end of a turn posts
-abbrev pub end_post : {C : Type 0} → End C → Option ℕ
-end_post (end.Done change regs) = None
-end_post (end.Refused code) = Some ILLEGAL_INSTRUCTION
-end_post (end.Trap channel) = Some channel
+-- a fork is back among those of all jobs
+abbrev pub put_back : PlainTree → Fork → PlainTree
+put_back tree f = record tree { forks = map.insert tree.forks f.name f }
+
+-- a unit leaves its fork so, and of the others nothing but this
+abbrev pub left_so : PlainTree → Fork → NumberedPages → Shown → Behind
+left_so tree f p shown = record { tree = put_back tree f; fork = f; pages = p; shown = shown }
+
+-- what the end of a turn shows
+abbrev pub end_shown : {C : Type 0} → End C → Shown
+end_shown (end.Done change regs) = Nothing
+end_shown (end.Waits on) = Nothing
+end_shown end.Halts = Halted
+end_shown (end.Refused code) = post_shown (Some ILLEGAL_INSTRUCTION)
+end_shown (end.Failed code) = Nothing
+end_shown (end.Trap channel) = post_shown (Some channel)
 
 -- what is behind a turn of a call on maps that ends so
-abbrev pub turned_behind : Fork → NumberedPages → End MapChange → Behind
-turned_behind f p e = record { fork = counted (fork_behind f e); pages = parts_behind map_changed p e; shown = post_shown (end_post e) }
+abbrev pub turned_behind : PlainTree → Fork → NumberedPages → End MapChange → Behind
+turned_behind tree f p e = left_so tree (counted (fork_behind f e)) (parts_behind map_changed p e) (end_shown e)
+
+-- what is behind a turn of a fork call: the fork that called is as the change leaves it
+abbrev pub forked_behind : PlainTree → Fork → NumberedPages → ℕ → Behind
+forked_behind tree f p number =
+    let t = fork_call number (record { who = f.name; regs = f.body.regs; tree = tree }) in
+    let e = end_of p t in
+    let v = parts_behind (fork_changed_by t) (record { tree = tree; pages = p }) e in
+    left_so v.tree (counted (fork_behind (unwrap_or (map.get v.tree.forks f.name) f) e)) v.pages (end_shown e)
 
 -- a number that is none of the calls which change no map
 abbrev pub IsMapCall : ℕ → Type 0
-IsMapCall number = (number ≢ PBOUT) × (number ≢ HALTF)
+IsMapCall number = (number ≢ PBOUT) × (is_among fork_calls number ≡ false)
 
 -- what PBOUT shows
 abbrev pub printed_shown : Regs → Shown
 printed_shown regs = code_shown (slice_index regs.ac 1 % 128)
 
--- what is behind a turn of a monitor call, among these forks
-abbrev pub called_behind : ForkMap → Fork → NumberedPages → ℕ → Behind
-called_behind forks f p number =
-    if number == PBOUT then record { fork = counted (with_regs f (advanced f.body.regs)); pages = p; shown = printed_shown f.body.regs }
-    else (if number == HALTF then record { fork = counted (with_status (with_regs f (advanced f.body.regs)) AHalted); pages = p; shown = Halted }
-    else turned_behind f p (end_of p (map_call number (record { who = f.name; regs = f.body.regs; forks = forks }))))
+-- what is behind a turn of a monitor call
+abbrev pub called_behind : PlainTree → Fork → NumberedPages → ℕ → Behind
+called_behind tree f p number =
+    if number == PBOUT then left_so tree (counted (with_regs f (advanced f.body.regs))) p (printed_shown f.body.regs)
+    else (if is_among fork_calls number then forked_behind tree f p number
+    else turned_behind tree f p (end_of p (map_call number (record { who = f.name; regs = f.body.regs; forks = tree.forks }))))
 
 -- what is behind a unit of a fork that comes to this
-abbrev pub behind : ForkMap → Fork → NumberedPages → Planned nat_cmp ⊥ → Behind
-behind forks f p (done t e) =
-    record { fork = counted (posted_if (with_regs f e.regs) e.post); pages = pages_left f.name t e; shown = post_shown e.post }
-behind forks f p (unit_stopped (trap channel)) = record { fork = counted (posted f channel); pages = p; shown = post_shown (Some channel) }
-behind forks f p (unit_stopped (need none)) = absurd none
-behind forks f p (call number) = called_behind forks f p number
+abbrev pub behind : PlainTree → Fork → NumberedPages → Planned nat_cmp ⊥ → Behind
+behind tree f p (done t e) = left_so tree (counted (posted_if (with_regs f e.regs) e.post)) (pages_left f.name t e) (post_shown e.post)
+behind tree f p (unit_stopped (trap channel)) = left_so tree (counted (posted f channel)) p (post_shown (Some channel))
+behind tree f p (unit_stopped (need none)) = absurd none
+behind tree f p (call number) = called_behind tree f p number
 
 -- what is behind one unit of a fork
-abbrev pub behind_unit : ForkMap → Fork → NumberedPages → Behind
-behind_unit forks f p = behind forks f p (unit_on f.name p f.body.regs)
+abbrev pub behind_unit : PlainTree → Fork → NumberedPages → Behind
+behind_unit tree f p = behind tree f p (unit_on f.name p f.body.regs)
 
--- a fork behind so many units that left these registers, and the forks of all jobs then
+-- a fork behind so many units that left these registers
 abbrev pub ran_on : Fork → ℕ → Regs → Fork
 ran_on f n regs = record f { body = record f.body { regs = regs; units = f.body.units + n } }
 
-abbrev pub forks_on : ForkMap → Fork → ℕ → Regs → ForkMap
-forks_on forks f n regs = map.insert forks f.name (ran_on f n regs)
-
 -- so many units of a fork in a row: all but the last post nothing and show nothing, and the last leaves and shows this
-pub record RanUnits (forks : ForkMap) (f : Fork) (p : NumberedPages) (count : ℕ) (last : Behind) : Type 0 where
+pub record RanUnits (tree : PlainTree) (f : Fork) (p : NumberedPages) (count : ℕ) (last : Behind) : Type 0 where
   pub before : ℕ
   pub counts : count ≡ suc before
   pub after : After nat_cmp
   pub row : in_a_row f.name before p f.body.regs ≡ Some after
-  pub ends : behind_unit (forks_on forks f before after.regs) (ran_on f before after.regs) after.pages ≡ last
+  pub ends : behind_unit (put_back tree (ran_on f before after.regs)) (ran_on f before after.regs) after.pages ≡ last
 
 -- so many units in a row that post nothing and show nothing, and then a monitor call, which is still to be made
 pub record RanUpTo (f : Fork) (p : NumberedPages) (count : ℕ) (g : Fork) (q : NumberedPages) (number : ℕ) : Type 0 where
@@ -119,18 +139,23 @@ pub record RanUpTo (f : Fork) (p : NumberedPages) (count : ℕ) (g : Fork) (q : 
 
 -- units in a row, by their last
 abbrev pub IsRow : Fork → NumberedPages → ℕ → Fork → NumberedPages → Last → Type 0
-IsRow f p count g q (Shows shown) = (forks : ForkMap) → RanUnits forks f p count (record { fork = g; pages = q; shown = shown })
+IsRow f p count g q (Shows shown) = (tree : PlainTree) → RanUnits tree f p count (left_so tree g q shown)
 IsRow f p count g q (Calls number) = RanUpTo f p count g q number
 
 -- one unit, which is over or is a call that is still to be made
 abbrev pub IsOne : Fork → NumberedPages → Fork → NumberedPages → Last → Type 0
-IsOne f p g q (Shows shown) = (forks : ForkMap) → behind_unit forks f p ≡ record { fork = g; pages = q; shown = shown }
+IsOne f p g q (Shows shown) = (tree : PlainTree) → behind_unit tree f p ≡ left_so tree g q shown
 IsOne f p g q (Calls number) = (f ≡ g) × (p ≡ q) × (unit_on f.name q g.body.regs ≡ call number)
 
 -- how many units a last one is: a call that is still to be made is none
 abbrev pub units_over : Last → ℕ
 units_over (Shows shown) = 1
 units_over (Calls number) = 0
+
+-- how many pages it makes at most
+abbrev pub makings_of : Last → ℕ
+makings_of (Shows shown) = most_makings
+makings_of (Calls number) = 0
 
 -- the limits of what is shown
 abbrev pub FitsLast : Last → Type 0
@@ -157,44 +182,68 @@ pub record Kept (f g : Fork) (count : ℕ) : Type 0 where
 pub record RanOne {P : Type 0} (means : PagesMeaning P) (old new : P) (f g : Fork) (last : Last) : Type 0 where
   pub told : (d : DrumWords) → means.fits old d → means.fits new d × IsOne f (means.plain old d) g (means.plain new d) last
   pub keeps : Kept f g (units_over last)
-  pub made : Makes means old new f.name.tty most_makings
+  pub made : Makes means old new f.name.tty (makings_of last)
   pub fits : FitsLast last
 
 -- units of a fork ran in a row, over each drum that fits
 pub record Ran {P : Type 0} (means : PagesMeaning P) (old new : P) (f g : Fork) (row : Row) : Type 0 where
   pub told : (d : DrumWords) → means.fits old d → means.fits new d × IsRow f (means.plain old d) row.count g (means.plain new d) row.last
   pub keeps : Kept f g row.count
-  pub made : Makes means old new f.name.tty most_makings
+  pub made : Makes means old new f.name.tty (makings_of row.last)
   pub fits : FitsLast row.last
 
--- the fork that called, behind a turn with this answer but for its count of units; and the channel that this posts
-abbrev pub answered : Fork → Answer → Fork
-answered f (answer.After regs out post) = with_regs f regs
-answered f (answer.Refused code) = posted (with_error f code) ILLEGAL_INSTRUCTION
-answered f (answer.Trap channel) = posted f channel
-answered f other = f
+-- the fork that called, behind a turn of this call with this answer but for its count of units; CFORK alone has two returns
+abbrev pub answered : ℕ → Fork → Answer → Fork
+answered number f (answer.After regs out post) = with_regs f regs
+answered number f (answer.Wait on) = with_status f (AWait on)
+answered number f answer.Halt = with_status (with_regs f (advanced f.body.regs)) AHalted
+answered number f (answer.Refused code) =
+    if number == CFORK then with_error (with_regs f (failed_regs f.body.regs code)) code else posted (with_error f code) ILLEGAL_INSTRUCTION
+answered number f (answer.Trap channel) = posted f channel
+answered number f (answer.Need wanted) = f
 
-abbrev pub answer_post : Answer → Option ℕ
-answer_post (answer.Refused code) = Some ILLEGAL_INSTRUCTION
-answer_post (answer.Trap channel) = Some channel
-answer_post other = None
+-- and what it shows
+abbrev pub answer_shown : ℕ → Answer → Shown
+answer_shown number answer.Halt = Halted
+answer_shown number (answer.Refused code) = if number == CFORK then Nothing else post_shown (Some ILLEGAL_INSTRUCTION)
+answer_shown number (answer.Trap channel) = post_shown (Some channel)
+answer_shown number other = Nothing
+
+-- a fork that lives stands where one stood that lived under its name, has run so many units more at most, and keeps its limits
+pub record CameOn (old : ForkMap) (count : ℕ) (f : Fork) : Type 0 where
+  pub before : Fork
+  pub lived : Lives old before
+  pub name : f.name ≡ before.name
+  pub slot : f.slot ≡ before.slot
+  pub units : f.body.units ≤ before.body.units + count
+  pub within : IsBody before.body → IsBody f.body
+
+-- so of each fork but for those that are made
+abbrev pub ComeOn : PlainTree → ℕ → ForkMap → Type 0
+ComeOn tree count new = (f : Fork) → Lives new f → CameOn tree.forks count f ⊎ IsNew tree f
+
+-- what so many units of a fork leave of all that is told without a drum: pages and forks that go together, and that fork among them
+pub record LeavesForks {P : Type 0} (means : PagesMeaning P) (old new : P) (tree tree' : PlainTree) (f : Fork) (count : ℕ) : Type 0 where
+  pub holds : Holds means new tree'.forks
+  pub kept : ComeOn tree count tree'.forks
+  pub caller : IsSome (map.get tree'.forks f.name)
+  pub tops : TopsStay tree.forks tree'.forks
+  pub made : MakesPages means f.name.tty most_makings old new
 
 -- a call of a fork was made, over each drum that fits, and showed this
 pub record Called {P : Type 0} (means : PagesMeaning P) (old new : P) (tree tree' : PlainTree) (f : Fork) (number : ℕ) (shown : Shown) : Type 0 where
   pub after : Fork
-  pub left : tree' ≡ record tree { forks = map.insert tree.forks f.name after }
   pub told : (d : DrumWords) → means.fits old d
-      → means.fits new d × (called_behind tree.forks f (means.plain old d) number ≡ record { fork = after; pages = means.plain new d; shown = shown })
+      → means.fits new d × (called_behind tree f (means.plain old d) number ≡ record { tree = tree'; fork = after; pages = means.plain new d; shown = shown })
   pub keeps : Kept f after 1
-  pub made : Makes means old new f.name.tty 0
+  pub leaves : LeavesForks means old new tree tree' f 1
   pub fits : FitsShown shown
 
 -- units of a fork of a tree ran in a row, over each drum that fits: so many, and the last showed this
 pub record UnitsRan {P : Type 0} (means : PagesMeaning P) (old new : P) (tree tree' : PlainTree) (f : Fork) (units : Units) : Type 0 where
   pub after : Fork
-  pub left : tree' ≡ record tree { forks = map.insert tree.forks f.name after }
   pub told : (d : DrumWords) → means.fits old d
-      → means.fits new d × RanUnits tree.forks f (means.plain old d) units.count (record { fork = after; pages = means.plain new d; shown = units.shown })
+      → means.fits new d × RanUnits tree f (means.plain old d) units.count (record { tree = tree'; fork = after; pages = means.plain new d; shown = units.shown })
   pub keeps : Kept f after units.count
-  pub made : Makes means old new f.name.tty most_makings
+  pub leaves : LeavesForks means old new tree tree' f units.count
   pub shown : FitsShown units.shown

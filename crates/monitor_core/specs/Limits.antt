@@ -1,20 +1,8 @@
 -- Limits of a fork.
-use Rattle.std.specs.Prelude.{◌≡◌, ℕ, ◌<◌, ◌^◌, length, false}
-use Rattle.plain_model.specs.declared.names.TheConstants.{ACCUMULATORS}
+use Rattle.std.specs.Prelude.{◌≡◌}
 use Rattle.plain_model.specs.declared.fork.Body.{Body}
-use Rattle.plain_model.specs.declared.fork.ForkStatus.{ForkStatus}
-use Rattle.plain_model.specs.declared.fork.ForkStatus.TheVariants.{Run, Forced}
-
--- the channel by which a fork was forced is one of the 36
-abbrev pub FitsForced : ForkStatus → Type 0
-FitsForced status = (channel : ℕ) → status ≡ Forced channel → channel < 36
-
--- a fork takes no channel, and its status and registers are within their limits
-pub record IsBody (b : Body) : Type 0 where
-  pub status : FitsForced b.status
-  pub off : b.psi.on ≡ false
-  pub pc : b.regs.pc < 2 ^ 18
-  pub accumulators : length b.regs.ac ≡ ACCUMULATORS
+pub use Rattle.fork_calls.specs.Limits.{FitsForced, IsBody}
+use Rattle.plain_model.specs.declared.fork.ForkStatus.TheVariants.{Run}
 
 -- what units of a fork ask besides: it runs
 pub record CanUnit (b : Body) : Type 0 where

@@ -1,13 +1,15 @@
 -- Forks of a tree that can run, as the machine chooses them.
-use Rattle.std.specs.Prelude.{◌≡◌, ℕ, ◌≤◌}
+use Rattle.std.specs.Prelude.{◌≡◌, ℕ, ◌≤◌, Bool, if◌then◌else◌}
 use Rattle.std.specs.FinMap as map
 use Rattle.plain_model.specs.declared.names.Tty.{Tty}
 use Rattle.plain_model.specs.declared.names.ForkName.{ForkName}
 use Rattle.plain_model.specs.declared.names.TheConstants.{MOST_FORKS}
 use Rattle.plain_model.specs.declared.fork.Fork.{Fork}
 use Rattle.plain_model.specs.Limits.{IsTerminal}
-use Rattle.fork_tree.specs.Changes.{changed}
-use Rattle.fork_tree.specs.Trees.{CanRun, IsIn, IsTree, PlainTree}
+use Rattle.plain_model.specs.Forks.{ForkMap}
+use Rattle.plain_model.specs.Trees.{changed, waiters_woken}
+use Rattle.fork_tree.specs.Trees.{CanRun, IsIn, IsTree}
+use Rattle.plain_model.specs.Trees.{PlainTree}
 use Rattle.monitor_core.specs.declared.runner.Runner.{Runner}
 
 -- a fork of trees is in this slot, under this name, and can run
@@ -27,3 +29,7 @@ pub record IsSlot (t : Tty) (slot : ℕ) : Type 0 where
 -- a tree with a fork changed, where that lives
 abbrev pub with_change : PlainTree → ForkName → (Fork → Fork) → PlainTree
 with_change tree name change = record tree { forks = changed tree.forks change (map.get tree.forks name) }
+
+-- the forks once who waits for one of a job runs again, where one has stopped
+abbrev pub woken_where : ForkMap → Tty → Bool → ForkMap
+woken_where forks t stops = if stops then waiters_woken forks t else forks

@@ -1,24 +1,29 @@
 // Monitor calls by their numbers.
 ghost use Rattle.std.specs.Prelude.{◌≡◌, ◌<◌, ◌%◌, ◌^◌, IsSome, Some, false, length, true};
+ghost use Rattle.plain_model.specs.declared.names.TheConstants.{ACCUMULATORS};
 ghost use Rattle.plain_model.specs.declared.fork.Body.{Body as ABody};
 ghost use Rattle.plain_model.specs.declared.fork.Fork.{Fork as AFork};
 ghost use Rattle.plain_model.specs.declared.fork.ForkStatus.{ForkStatus as AForkStatus};
 ghost use Rattle.plain_model.specs.Forks.{counted, fork_in, with_regs, with_status};
 ghost use Rattle.plain_model.specs.Unit.{advanced};
-ghost use Rattle.call_turns.specs.Answers.{FitsAnswer, IsDone};
-ghost use Rattle.fork_tree.specs.Changes.{with_body};
-ghost use Rattle.monitor_core.specs.Limits.{IsBody};
+ghost use Rattle.plain_model.specs.Calls.{failed_regs, is_among, with_error};
+ghost use Rattle.plain_model.specs.ForkCalls.{fork_calls};
+ghost use Rattle.fork_calls.specs.Holding.{Holds};
+ghost use Rattle.fork_calls.specs.Limits.{AreWithin};
+ghost use Rattle.fork_calls.specs.Turning.{HasRegs};
+ghost use Rattle.plain_model.specs.Trees.{with_body};
 ghost use Rattle.monitor_core.specs.Shown.{code_shown, FitsShown};
-ghost use Rattle.monitor_core.specs.ForkUnit.{Called, IsMapCall, Place as APlace, answer_post, answered as answered_of, fork_of, post_shown, printed_shown};
+ghost use Rattle.monitor_core.specs.ForkUnit.{Called, IsMapCall, Place as APlace, answer_shown, answered as answered_of, fork_of, printed_shown};
 
 use crate::runner::Runner;
 use crate::shown::Shown;
 use crate::unit::posted;
+use fork_calls::is_fork_call;
 use fork_tree::Tree;
-use plain_model::call::{HALTF, PBOUT};
+use plain_model::call::{CFORK, PBOUT};
 use plain_model::channel::ILLEGAL_INSTRUCTION;
 use plain_model::character::LINE_END;
-use plain_model::{ACCUMULATORS, Answer, Body, ForkStatus, Pages, Regs};
+use plain_model::{Answer, Body, ForkStatus, Pages, Regs};
 use word36::Word;
 
 // The program counter goes on by one, modulo 2^18.
@@ -57,7 +62,7 @@ fn printed(body: &mut Body) -> Shown
     shown
 }
 
-// HALTF: the fork is halted, behind the call.
+// The fork is halted, behind the call.
 fn halted(body: &mut Body) -> Shown
     requires few { body.old.units < 2 ^ 63 }
     requires pc { body.old.regs.pc < 2 ^ 18 }
@@ -71,14 +76,30 @@ fn halted(body: &mut Body) -> Shown
     Shown::Halted
 }
 
-// A turn is over that has answered so: a call that is refused leaves its error, and traps.
-fn answered(body: &mut Body, answer: Answer) -> Shown
+// A call with two returns is refused: it returns by the first, with the code in accumulator 1.
+fn failed(body: &mut Body, code: u32)
+    requires few { body.old.units < 2 ^ 63 }
+    requires pc { body.old.regs.pc < 2 ^ 18 }
+    requires accumulators { length body.old.regs.ac ≡ ACCUMULATORS }
+    ensures { (f : AFork) → with_body body.new f
+        ≡ counted (with_error (with_regs (with_body body.old f) (failed_regs body.old.regs code)) code) }
+{
+    body.regs.ac[1] = Word::wrapped(u64::from(code));
+    advance(&mut body.regs);
+    body.error = code;
+    body.units += 1;
+}
+
+// A turn of a call is over that has answered so: one that is refused leaves its error, and traps where it has one return;
+// who waits stays on the call.
+fn answered(body: &mut Body, number: u32, answer: Answer) -> Shown
     requires off { body.old.psi.on ≡ false }
     requires few { body.old.units < 2 ^ 63 }
-    requires fits { FitsAnswer answer }
-    requires done { IsDone answer }
-    ensures fork { (f : AFork) → with_body body.new f ≡ counted (answered_of (with_body body.old f) answer) }
-    ensures shown { result ≡ post_shown (answer_post answer) }
+    requires pc { body.old.regs.pc < 2 ^ 18 }
+    requires accumulators { length body.old.regs.ac ≡ ACCUMULATORS }
+    requires done { HasRegs answer }
+    ensures fork { (f : AFork) → with_body body.new f ≡ counted (answered_of number (with_body body.old f) answer) }
+    ensures shown { result ≡ answer_shown number answer }
     ensures fits { FitsShown result }
 {
     match answer {
@@ -87,22 +108,58 @@ fn answered(body: &mut Body, answer: Answer) -> Shown
             body.units += 1;
             Shown::Nothing
         }
+        Answer::Wait(on) => {
+            body.status = ForkStatus::Wait(on);
+            body.units += 1;
+            Shown::Nothing
+        }
+        Answer::Halt => halted(body),
         Answer::Refused(code) => {
-            body.error = code;
-            posted(body, ILLEGAL_INSTRUCTION)
+            if number == CFORK {
+                failed(body, code);
+                Shown::Nothing
+            } else {
+                body.error = code;
+                posted(body, ILLEGAL_INSTRUCTION)
+            }
         }
         Answer::Trap(channel) => posted(body, channel),
-        // No call waits or halts yet, and flat pages are always in core.
-        Answer::Wait(_) | Answer::Halt | Answer::Need(_) => unreachable!(),
+        // Flat pages are always in core.
+        Answer::Need(_) => unreachable!(),
+    }
+}
+
+// A turn of a fork call, by its number: the fork that called is then as the change leaves it.
+fn forked<P: Pages>(tree: &mut Tree, pages: &mut P, who: Runner, number: u32) -> Shown
+    requires there { IsSome (fork_in tree.old.forks who.fork.tty who.slot) }
+    requires named { (f : AFork) → fork_in tree.old.forks who.fork.tty who.slot ≡ Some f → f.name ≡ who.fork }
+    requires can { AreWithin tree.old.forks }
+    requires few { (f : AFork) → fork_in tree.old.forks who.fork.tty who.slot ≡ Some f → f.body.units < 2 ^ 63 }
+    requires holds { Holds P.means pages.old tree.old.forks }
+    requires serial { P.means.serial pages.old who.fork.tty < 2 ^ 62 }
+    requires fork_call { is_among fork_calls number ≡ true }
+    ensures { (at : APlace) (b : ABody) → fork_in tree.old.forks who.fork.tty who.slot ≡ Some (fork_of who.fork at b)
+        → Called P.means pages.old pages.new tree.old tree.new (fork_of who.fork at b) number result }
+{
+    let Some(fork) = tree.fork_at(who.fork.tty, who.slot) else {
+        unreachable!();
+    };
+    let regs = fork.body.regs;
+    let answer = fork_calls::call(number, &regs, who.fork, tree, pages);
+    tree.are_trees();
+    match tree.body_mut(who.fork) {
+        Some(body) => answered(body, number, answer),
+        None => Shown::Nothing,
     }
 }
 
 // A turn of a call on maps, by its number. A number that is no call traps.
 fn mapped<P: Pages>(tree: &mut Tree, pages: &mut P, who: Runner, number: u32) -> Shown
-    requires flat { P.means.flat ≡ true }
     requires there { IsSome (fork_in tree.old.forks who.fork.tty who.slot) }
-    requires can { (f : AFork) → fork_in tree.old.forks who.fork.tty who.slot ≡ Some f → IsBody f.body }
+    requires named { (f : AFork) → fork_in tree.old.forks who.fork.tty who.slot ≡ Some f → f.name ≡ who.fork }
+    requires can { AreWithin tree.old.forks }
     requires few { (f : AFork) → fork_in tree.old.forks who.fork.tty who.slot ≡ Some f → f.body.units < 2 ^ 63 }
+    requires holds { Holds P.means pages.old tree.old.forks }
     requires map { IsMapCall number }
     ensures { (at : APlace) (b : ABody) → fork_in tree.old.forks who.fork.tty who.slot ≡ Some (fork_of who.fork at b)
         → Called P.means pages.old pages.new tree.old tree.new (fork_of who.fork at b) number result }
@@ -112,21 +169,26 @@ fn mapped<P: Pages>(tree: &mut Tree, pages: &mut P, who: Runner, number: u32) ->
     };
     let regs = fork.body.regs;
     let answer = pmap_calls::call(number, &regs, who.fork, tree, pages);
-    answered(tree.body_at(who.fork.tty, who.slot), answer)
+    answered(tree.body_at(who.fork.tty, who.slot), number, answer)
 }
 
 /// A turn of a monitor call of a fork of a tree, by its number. A number that is no call traps.
 pub fn called<P: Pages>(tree: &mut Tree, pages: &mut P, who: Runner, number: u32) -> Shown
-    requires flat { P.means.flat ≡ true }
     requires there { IsSome (fork_in tree.old.forks who.fork.tty who.slot) }
-    requires can { (f : AFork) → fork_in tree.old.forks who.fork.tty who.slot ≡ Some f → IsBody f.body }
+    requires named { (f : AFork) → fork_in tree.old.forks who.fork.tty who.slot ≡ Some f → f.name ≡ who.fork }
+    requires can { AreWithin tree.old.forks }
     requires few { (f : AFork) → fork_in tree.old.forks who.fork.tty who.slot ≡ Some f → f.body.units < 2 ^ 63 }
+    requires holds { Holds P.means pages.old tree.old.forks }
+    requires serial { P.means.serial pages.old who.fork.tty < 2 ^ 62 }
     ensures { (at : APlace) (b : ABody) → fork_in tree.old.forks who.fork.tty who.slot ≡ Some (fork_of who.fork at b)
         → Called P.means pages.old pages.new tree.old tree.new (fork_of who.fork at b) number result }
 {
-    match number {
-        PBOUT => printed(tree.body_at(who.fork.tty, who.slot)),
-        HALTF => halted(tree.body_at(who.fork.tty, who.slot)),
-        _ => mapped(tree, pages, who, number),
+    tree.are_trees();
+    if number == PBOUT {
+        return printed(tree.body_at(who.fork.tty, who.slot));
     }
+    if is_fork_call(number) {
+        return forked(tree, pages, who, number);
+    }
+    mapped(tree, pages, who, number)
 }

@@ -6,7 +6,7 @@ ghost use Rattle.plain_model.specs.Interrupts.{posted, is_panic};
 ghost use Rattle.plain_model.specs.Unit.{posted_if};
 ghost use Rattle.ka10_unit.specs.Commits.{channel_of};
 ghost use Rattle.ka10_unit.specs.Gathers.{Serves};
-ghost use Rattle.fork_tree.specs.Changes.{with_body};
+ghost use Rattle.plain_model.specs.Trees.{with_body};
 ghost use Rattle.monitor_core.specs.Limits.{CanUnit};
 ghost use Rattle.monitor_core.specs.Shown.{FitsShown};
 ghost use Rattle.monitor_core.specs.ForkUnit.{HasRoom, Place as APlace, Ran, RanOne, fork_of, post_shown, units_over};

@@ -5,6 +5,8 @@ ghost use Rattle.plain_model.specs.declared.fork.Fork.{Fork as AFork};
 ghost use Rattle.plain_model.specs.Forks.{fork_in};
 ghost use Rattle.ka10_unit.specs.Gathers.{Serves};
 ghost use Rattle.fork_tree.specs.Trees.{IsTree};
+ghost use Rattle.fork_calls.specs.Holding.{Holds};
+ghost use Rattle.fork_calls.specs.Limits.{AreWithin};
 ghost use Rattle.monitor_core.specs.Limits.{CanUnit};
 ghost use Rattle.monitor_core.specs.ForkUnit.{Place as APlace, UnitsRan, fork_of};
 
@@ -39,6 +41,8 @@ pub fn units_of<P: Pages>(
     requires can { (f : AFork) → fork_in tree.old.forks who.fork.tty who.slot ≡ Some f → (f.name ≡ who.fork) × CanUnit f.body }
     requires few { (f : AFork) → fork_in tree.old.forks who.fork.tty who.slot ≡ Some f → f.body.units < 2 ^ 62 }
     requires serves { Serves P.means pages.old who.fork }
+    requires holds { Holds P.means pages.old tree.old.forks }
+    requires within { AreWithin tree.old.forks }
     requires serial { P.means.serial pages.old who.fork.tty < 2 ^ 61 }
     requires some { 0 < most }
     ensures ran { (at : APlace) (b : ABody) → fork_in tree.old.forks who.fork.tty who.slot ≡ Some (fork_of who.fork at b)

@@ -1,5 +1,6 @@
 // A machine with nothing in it.
-ghost use Rattle.std.specs.Prelude.{◌≡◌, ◌<◌, ◌≤◌, true, IfOk};
+ghost use Rattle.std.specs.Prelude.{◌≡◌, ◌≤◌, true, IfOk};
+ghost use Rattle.plain_model.specs.declared.names.TheConstants.{MOST_FORKS};
 ghost use Rattle.std.specs.Ordering.{nat_cmp};
 ghost use Rattle.plain_model.specs.State.{opening, opening_pages};
 ghost use Rattle.plain_model.specs.Outcome.{DrumWords};
@@ -17,7 +18,7 @@ impl<P: Pages + Drop> Machine<P> {
     /// balance set isn't looked at before there is one. Memory, where none was found.
     pub fn boot(alloc: Global, _config: Config, pages: P) -> Result<Machine<P>, Memory>
         requires flat { P.means.flat ≡ true }
-        requires roomy { 0 < P.means.most_forks }
+        requires roomy { MOST_FORKS ≤ P.means.most_forks }
         requires forks { (t : ATty) → P.means.forks_of pages t ≡ 0 }
         requires serials { (t : ATty) → P.means.serial pages t ≤ 1 }
         requires opening { (d : DrumWords) → P.means.fits pages d → P.means.plain pages d ≡ opening_pages nat_cmp (P.means.most pages) }

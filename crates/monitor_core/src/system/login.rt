@@ -27,6 +27,7 @@ impl<P: Pages> System<P> {
         self.tree.are_trees();
         match self.tree.make(t, None) {
             Ok(fork) => {
+                self.tree.are_trees();
                 self.pages.add_fork(fork, NewMap::Empty);
                 self.jobs[t.0 as usize] = Some(Job::new(user, fork));
                 Reply::One(Item::Char(t, character::PROMPT))

@@ -5,7 +5,7 @@ ghost use Rattle.plain_model.specs.declared.event.Event.{Event as AnEvent};
 ghost use Rattle.plain_model.specs.declared.event.Step.{Step as AStep};
 ghost use Rattle.monitor_core.specs.declared.reply.Reply.{Reply as AReply};
 ghost use Rattle.monitor_core.specs.Replies.{reply_of};
-ghost use Rattle.monitor_core.specs.Runners.{IsRunner};
+ghost use Rattle.monitor_core.specs.Runners.{IsRunner, woken_where};
 ghost use Rattle.monitor_core.specs.Systems.{CanDo, Did, DidAll, IsWithin};
 
 use crate::job::seen;
@@ -14,11 +14,22 @@ use crate::reply::Reply;
 use crate::runner::Runner;
 use crate::system::System;
 use crate::units::{Units, units_of};
-use plain_model::{Event, Item, Pages, Refusal};
+use fork_tree::Tree;
+use plain_model::{Event, Item, Pages, Refusal, Tty};
+
+// Who waits for a fork of a job runs again, where one has stopped.
+#[inline]
+fn wake_where(tree: &mut Tree, t: Tty, stops: bool)
+    ensures { tree.new ≡ record tree.old { forks = woken_where tree.old.forks t stops } }
+{
+    if stops {
+        tree.wake_waiters(t);
+    }
+}
 
 impl<P: Pages> System<P> {
     /// Units of a fork that can run, in a row, at least one and so many at most; and what the last shows at its
-    /// terminal.
+    /// terminal. Where it stops, who waits for a fork of its job runs again.
     #[inline]
     pub fn units(&mut self, who: Runner, most: u32) -> Units
         requires can { IsRunner self.old.tree who }
@@ -29,6 +40,9 @@ impl<P: Pages> System<P> {
         ensures few { result.count ≤ most }
     {
         let units = units_of(&mut self.tree, &mut self.pages, &mut self.taken, who, most);
+        self.tree.are_trees();
+        wake_where(&mut self.tree, who.fork.tty, units.shown.is_stop());
+        self.tree.are_trees();
         Units {
             count: units.count,
             shown: seen(&mut self.jobs, who.fork.tty, who.slot, units.shown),

@@ -2,7 +2,7 @@ use Rattle.std.proofs.Common.{◌∙◌, ap}
 use Rattle.std.specs.Option.{option_map}
 use Rattle.std.specs.FinMap as map
 use Rattle.fork_tree.specs.Changes.{with_body_of}
-use Rattle.fork_tree.specs.Trees.{PlainTree}
+use Rattle.plain_model.specs.Trees.{PlainTree}
 use Rattle.plain_model.specs.declared.fork.Body.{Body}
 use Rattle.plain_model.specs.declared.fork.ForkStatus.TheVariants.{Run}
 use Rattle.monitor_core.proofs.Changing.{started_tree, still_there}

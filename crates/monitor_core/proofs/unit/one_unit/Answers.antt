@@ -1,7 +1,7 @@
-use Rattle.std.proofs.Common.{sym, ◌∙◌, ap, subst}
+use Rattle.std.proofs.Common.{arith, sym, ◌∙◌, ap, subst}
 use Rattle.ka10_unit.specs.Commits.{channel_of}
 use Rattle.plain_model.specs.Unit.{unit_on}
-use Rattle.monitor_core.specs.ForkUnit.{Kept, fork_of}
+use Rattle.monitor_core.specs.ForkUnit.{Kept, fork_of, left_so}
 use Rattle.monitor_core.proofs.Keeping.{ended_keeps, posted_keeps, none_keeps}
 use Rattle.monitor_core.proofs.UnitRan.{done_behind, trap_behind}
 use Rattle.monitor_core.proofs.unit.one_unit.Goals as goal
@@ -18,7 +18,7 @@ returns-in-Done g c at =
           let told = slow.told d fits in
           let p = g.P.Pages.means.plain c.args.pages.now d in
           let q = g.P.Pages.means.plain c.slow_unit.new.pages d in
-          (told.0, λ forks. done_behind forks f p q regs (channel_of c.in-Done.post) told.1 ∙ (λ i. record { fork = sym left i; pages = q; shown = sym ended.shown i }));
+          (told.0, λ tree. done_behind tree f p q regs (channel_of c.in-Done.post) told.1 ∙ (λ i. left_so tree (sym left i) q (sym ended.shown i)));
       keeps = subst (λ h. Kept f h 1) (sym left) (ended_keeps f c.requires.can.fits.off regs slow.pc (slow.accumulators ∙ c.requires.can.fits.accumulators) c.in-Done.post);
       made = record { lives = slow.grows.lives; forks = slow.grows.forks; most = slow.grows.most; own = slow.grows.serial; others = slow.grows.serials };
       fits = ended.fits;
@@ -36,7 +36,7 @@ returns-in-Trap g c at =
           let told = slow.told d fits in
           let p = g.P.Pages.means.plain c.args.pages.now d in
           let q = g.P.Pages.means.plain c.slow_unit.new.pages d in
-          (told.0, λ forks. trap_behind forks f p q regs c.in-Trap.channel told.1 (ap (λ x. g.P.Pages.means.plain x d) slow.stopped.1) slow.stopped.0 ∙ (λ i. record { fork = sym left i; pages = q; shown = sym posted.shown i }));
+          (told.0, λ tree. trap_behind tree f p q regs c.in-Trap.channel told.1 (ap (λ x. g.P.Pages.means.plain x d) slow.stopped.1) slow.stopped.0 ∙ (λ i. left_so tree (sym left i) q (sym posted.shown i)));
       keeps = subst (λ h. Kept f h 1) (sym left) (posted_keeps f c.requires.can.fits.off regs slow.pc (slow.accumulators ∙ c.requires.can.fits.accumulators) c.in-Trap.channel);
       made = record { lives = slow.grows.lives; forks = slow.grows.forks; most = slow.grows.most; own = slow.grows.serial; others = slow.grows.serials };
       fits = posted.fits;
@@ -54,6 +54,12 @@ returns-in-Call g c at =
           let pages = ap (λ x. g.P.Pages.means.plain x d) slow.stopped.1 in
           (told.0, ((λ i. fork_of c.args.fork at (record c.args.body.now { regs = sym slow.stopped.0 i })), sym pages, (λ i. unit_on c.args.fork (pages i) (slow.stopped.0 i)) ∙ told.1));
       keeps = none_keeps f regs slow.pc (slow.accumulators ∙ c.requires.can.fits.accumulators);
-      made = record { lives = slow.grows.lives; forks = slow.grows.forks; most = slow.grows.most; own = slow.grows.serial; others = slow.grows.serials };
+      made = record {
+        lives = slow.grows.lives;
+        forks = slow.grows.forks;
+        most = slow.grows.most;
+        own = omega (arith, ap (λ x. g.P.Pages.means.serial x c.args.fork.tty) slow.stopped.1);
+        others = slow.grows.serials;
+      };
       fits = tt;
     }

@@ -1,10 +1,10 @@
-use Rattle.std.proofs.Common.{◌+◌, None, Some, sym, ◌∙◌, ap, subst, arith}
+use Rattle.std.proofs.Common.{◌+◌, None, Some, refl, sym, ◌∙◌, ap, subst, arith}
 use Rattle.plain_model.specs.Forks.{counted}
 use Rattle.plain_model.specs.Unit.{posted_if}
 use Rattle.plain_model.specs.declared.channel.TheConstants.{OVERFLOW, PUSHDOWN_OVERFLOW}
 use Rattle.ka10_unit.specs.Bursts.{AreCounted, Came}
 use Rattle.ka10_unit.specs.declared.committed.Post.TheVariants.{Overflow, Pushdown}
-use Rattle.monitor_core.specs.ForkUnit.{Kept, RanUnits, fork_of, ran_on, units_over}
+use Rattle.monitor_core.specs.ForkUnit.{Kept, RanUnits, fork_of, left_so, ran_on, units_over}
 use Rattle.monitor_core.specs.declared.shown.Shown.TheVariants.{Nothing}
 use Rattle.monitor_core.proofs.Keeping.{ended_keeps, more_keeps, row_keeps}
 use Rattle.monitor_core.proofs.UnitRan.{post_behind, row_ran}
@@ -24,7 +24,8 @@ returns-in-Most-clause-ran g c at =
           let q = g.P.Pages.means.plain c.burst-burst.new.pages d in
           let came = subst (λ e. Came e n f.name p f.body.regs q regs) c.in-Most.is (burst.told d f.name fits c.space-space.ensures) in (
             burst.fits d fits,
-            λ forks. subst (λ k. RanUnits forks f p n (record { fork = ran_on f k regs; pages = q; shown = Nothing })) (sym c.from.ensures) (row_ran forks f p n (record { pages = q; regs = regs; post = None }) (omega (arith, counted, c.requires.some)) came),
+            λ tree. subst (λ k. RanUnits tree f p n (left_so tree (ran_on f k regs) q Nothing)) (sym c.from.ensures)
+                (row_ran tree f p n (record { pages = q; regs = regs; post = None }) (omega (arith, counted, c.requires.some)) came),
           );
       keeps = subst (λ k. Kept f (ran_on f k regs) n) (sym c.from.ensures) (row_keeps f n regs burst.pc (burst.accumulators ∙ c.requires.can.fits.accumulators));
       made = record { lives = burst.stays.lives; forks = burst.stays.forks; most = burst.stays.most; own = omega (arith, ap (λ s. s f.name.tty) burst.stays.serials); others = λ t ne. ap (λ s. s t) burst.stays.serials };
@@ -44,8 +45,11 @@ returns-in-Overflow-clause-ran g c at =
       told = λ d fits.
           let p = g.P.Pages.means.plain c.args.pages.now d in
           let q = g.P.Pages.means.plain c.burst-burst.new.pages d in
-          let came = subst (λ e. Came e n f.name p f.body.regs q regs) c.in-Overflow.is (burst.told d f.name fits c.space-space.ensures) in
-          (burst.fits d fits, λ forks. subst (RanUnits forks f p (n + 1)) (λ i. record { fork = fork i; pages = q; shown = sym ended.shown i }) (post_behind forks f p n (record { pages = q; regs = regs; post = Some OVERFLOW }) came));
+          let came = subst (λ e. Came e n f.name p f.body.regs q regs) c.in-Overflow.is (burst.told d f.name fits c.space-space.ensures) in (
+            burst.fits d fits,
+            λ tree. subst (RanUnits tree f p (n + 1)) (λ i. left_so tree (fork i) q (sym ended.shown i))
+                (post_behind tree f p n (record { pages = q; regs = regs; post = Some OVERFLOW }) came),
+          );
       keeps = more_keeps f (ran_on f n regs) _ n 1 row (subst (λ h. Kept (ran_on f n regs) h 1) fork (ended_keeps (ran_on f n regs) c.requires.can.fits.off regs burst.pc row.accumulators Overflow));
       made = record { lives = burst.stays.lives; forks = burst.stays.forks; most = burst.stays.most; own = omega (arith, ap (λ s. s f.name.tty) burst.stays.serials); others = λ t ne. ap (λ s. s t) burst.stays.serials };
       fits = ended.fits;
@@ -64,8 +68,11 @@ returns-in-Pushdown-clause-ran g c at =
       told = λ d fits.
           let p = g.P.Pages.means.plain c.args.pages.now d in
           let q = g.P.Pages.means.plain c.burst-burst.new.pages d in
-          let came = subst (λ e. Came e n f.name p f.body.regs q regs) c.in-Pushdown.is (burst.told d f.name fits c.space-space.ensures) in
-          (burst.fits d fits, λ forks. subst (RanUnits forks f p (n + 1)) (λ i. record { fork = fork i; pages = q; shown = sym ended.shown i }) (post_behind forks f p n (record { pages = q; regs = regs; post = Some PUSHDOWN_OVERFLOW }) came));
+          let came = subst (λ e. Came e n f.name p f.body.regs q regs) c.in-Pushdown.is (burst.told d f.name fits c.space-space.ensures) in (
+            burst.fits d fits,
+            λ tree. subst (RanUnits tree f p (n + 1)) (λ i. left_so tree (fork i) q (sym ended.shown i))
+                (post_behind tree f p n (record { pages = q; regs = regs; post = Some PUSHDOWN_OVERFLOW }) came),
+          );
       keeps = more_keeps f (ran_on f n regs) _ n 1 row (subst (λ h. Kept (ran_on f n regs) h 1) fork (ended_keeps (ran_on f n regs) c.requires.can.fits.off regs burst.pc row.accumulators Pushdown));
       made = record { lives = burst.stays.lives; forks = burst.stays.forks; most = burst.stays.most; own = omega (arith, ap (λ s. s f.name.tty) burst.stays.serials); others = λ t ne. ap (λ s. s t) burst.stays.serials };
       fits = ended.fits;
@@ -89,7 +96,7 @@ returns-in-Slow-clause-ran g c at =
           let q = g.P.Pages.means.plain c.burst-burst.new.pages d in
           let came = subst (λ e. Came e n f.name p f.body.regs q regs) c.in-Slow.is (burst.told d f.name fits c.space-space.ensures) in
           let left = one.told d (burst.fits d fits) in
-          (left.0, more_row f p n (record { pages = q; regs = regs; post = None }) h (g.P.Pages.means.plain c.one_more.new.pages d) came c.from.result c.one_more.result.count last counts more.count left.1);
+          (left.0, more_row f p n (record { pages = q; regs = regs; post = None }) h (g.P.Pages.means.plain c.one_more.new.pages d) came refl c.from.result c.one_more.result.count last counts more.count left.1);
       keeps = subst (Kept f h) (sym more.count) (more_keeps f (ran_on f n regs) h n (units_over last) row (subst (λ k. Kept (ran_on f k regs) h (units_over last)) counts one.keeps));
       made = record {
         lives = one.made.lives ∙ burst.stays.lives;

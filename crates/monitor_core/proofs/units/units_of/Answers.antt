@@ -1,18 +1,49 @@
-use Rattle.std.proofs.Common.{◌≡◌, Some, refl, sym, ◌∙◌, ap, subst, arith}
+use Rattle.std.proofs.Common.{◌≡◌, ℕ, Some, refl, sym, ◌∙◌, ap, subst, arith}
 use Rattle.std.specs.Prelude.{IsSome}
-use Rattle.std.specs.FinMap as map
+use Rattle.plain_model.specs.declared.fork.Body.{Body}
 use Rattle.plain_model.specs.declared.fork.Fork.{Fork}
-use Rattle.plain_model.proofs.OrderLemmas.{fork_cmp_total, fork_cmp_apart}
-use Rattle.fork_tree.specs.Changes.{body_in, with_body}
-use Rattle.fork_tree.specs.Trees.{PlainTree}
-use Rattle.fork_tree.proofs.Slots.{some_of}
-use Rattle.monitor_core.specs.Limits.{CanUnit, IsBody}
-use Rattle.monitor_core.specs.ForkUnit.{FitsLast, HasRoom, IsRow, Place, Ran, called_behind, fork_of}
+use Rattle.plain_model.specs.declared.names.ForkName.{ForkName}
+use Rattle.plain_model.specs.declared.names.Tty.{Tty}
+use Rattle.plain_model.specs.Forks.{fork_in}
+use Rattle.plain_model.specs.Pages.{PagesMeaning}
+use Rattle.plain_model.specs.Trees.{PlainTree, with_body}
+use Rattle.fork_tree.specs.Changes.{body_in, with_body_at}
+use Rattle.fork_tree.specs.Trees.{IsTree, Lives}
+use Rattle.fork_tree.proofs.Slots.{in_tells, some_of}
+use Rattle.fork_calls.specs.Holding.{Holds}
+use Rattle.fork_calls.specs.Limits.{AreWithin}
+use Rattle.fork_calls.proofs.Holdings.{holds_still}
+use Rattle.monitor_core.specs.Limits.{CanUnit}
+use Rattle.monitor_core.specs.Writing.{Makes}
+use Rattle.monitor_core.specs.ForkUnit.{FitsLast, HasRoom, IsRow, Kept, LeavesForks, Place, Ran, RanUnits, called_behind, fork_of, makings_of, put_back}
 use Rattle.monitor_core.proofs.Calling.{body_has, left_tree, still_in}
-use Rattle.monitor_core.proofs.Keeping.{kept_body, more_keeps}
-use Rattle.monitor_core.proofs.Maps.{insert_twice}
+use Rattle.monitor_core.proofs.Keeping.{more_keeps}
+use Rattle.monitor_core.proofs.Leaving.{leaves_one, leaves_then, left_came, left_holds}
 use Rattle.monitor_core.proofs.UnitRan.{call_behind}
 use Rattle.monitor_core.proofs.units.units_of.Goals as goal
+
+-- where a fork stands
+abbrev place_of : Fork → Place
+place_of f = record { slot = f.slot; superior = f.superior; frozen = f.frozen }
+
+-- the fork in a slot, behind units that left it this body
+module _ (tree : PlainTree) (is : IsTree tree) (t : Tty) (slot : ℕ) (f : Fork) (at : fork_in tree.forks t slot ≡ Some f) (body : Body) (n : ℕ) (keeps : Kept f (with_body body f) n) where
+  lived : Lives tree.forks f
+  lived = (in_tells tree.forks is.slotted t slot f at).0
+
+  back : with_body_at tree t slot body ≡ put_back tree (with_body body f)
+  back = left_tree tree t slot f body at
+
+  row_within : AreWithin tree.forks → AreWithin (with_body_at tree t slot body).forks
+  row_within can = subst (λ (x : PlainTree). AreWithin x.forks) (sym back) (λ k e. let came = left_came tree is f lived body n keeps k e in came.within (can came.before came.lived))
+
+  row_holds : {P : Type 0} (means : PagesMeaning P) (p q : P) (owner : Tty) (pages : ℕ) → Holds means p tree.forks → Makes means p q owner pages → Holds means q (with_body_at tree t slot body).forks
+  row_holds means p q owner pages holds made = subst (λ (x : PlainTree). Holds means q x.forks) (sym back) (left_holds tree is f lived body n keeps means q (holds_still means p q tree.forks made.lives made.forks holds))
+
+kept_as : (who : ForkName) (f : Fork) (x y : Body) (n : ℕ) → f.name ≡ who → x ≡ f.body → Kept (fork_of who (place_of f) x) (fork_of who (place_of f) y) n → Kept f (with_body y f) n
+kept_as who f x y n named here k =
+    let at = place_of f in
+    subst (λ name. Kept (fork_of name at f.body) (fork_of name at y) n) (sym named) (subst (λ b. Kept (fork_of who at b) (fork_of who at y) n) here k)
 
 pub run_units-row-requires-clause-can : goal.run_units-row-requires-clause-can
 run_units-row-requires-clause-can g c = body_has CanUnit _ c.body_at-body.result.now c.requires.there c.body_at-body.ensures.body (λ f e. (c.requires.can f e).1)
@@ -22,72 +53,95 @@ called-requires-clause-there g c =
     let f = some_of _ c.requires.there in
     subst IsSome (sym (still_in c.args.tree.now c.requires.tree c.args.who.fork.tty c.args.who.slot f.0 c.run_units-row.new.body f.1)) refl
 
--- the fork that called, once it is back
-pub called-requires-clause-can : goal.called-requires-clause-can
-called-requires-clause-can g c h e =
+pub called-requires-clause-named : goal.called-requires-clause-named
+called-requires-clause-named g c h e =
     let f = some_of _ c.requires.there in
     let both : Some (with_body c.run_units-row.new.body f.0) ≡ Some h = sym (still_in c.args.tree.now c.requires.tree c.args.who.fork.tty c.args.who.slot f.0 c.run_units-row.new.body f.1) ∙ e in
     let same : with_body c.run_units-row.new.body f.0 ≡ h = cc both in
-    let at : Place = record { slot = f.0.slot; superior = f.0.superior; frozen = f.0.frozen } in
-    let here : c.body_at-body.result.now ≡ f.0.body = c.body_at-body.ensures.body ∙ ap body_in f.1 in
-    subst (λ (k : Fork). IsBody k.body) same (kept_body _ _ c.run_units-row.result.count (c.run_units-row.ensures.ran at).keeps (subst IsBody (sym here) (c.requires.can f.0 f.1).1.fits))
+    ap (λ (k : Fork). k.name) (sym same) ∙ (c.requires.can f.0 f.1).0
+
+pub called-requires-clause-can : goal.called-requires-clause-can
+called-requires-clause-can g c =
+    let f = some_of _ c.requires.there in
+    let here = c.body_at-body.ensures.body ∙ ap body_in f.1 in
+    let keeps = kept_as c.args.who.fork f.0 _ c.run_units-row.new.body c.run_units-row.result.count (c.requires.can f.0 f.1).0 here (c.run_units-row.ensures.ran (place_of f.0)).keeps in
+    row_within c.args.tree.now c.requires.tree c.args.who.fork.tty c.args.who.slot f.0 f.1 c.run_units-row.new.body c.run_units-row.result.count keeps c.requires.within
 
 pub called-requires-clause-few : goal.called-requires-clause-few
 called-requires-clause-few g c h e =
     let f = some_of _ c.requires.there in
     let both : Some (with_body c.run_units-row.new.body f.0) ≡ Some h = sym (still_in c.args.tree.now c.requires.tree c.args.who.fork.tty c.args.who.slot f.0 c.run_units-row.new.body f.1) ∙ e in
     let same : with_body c.run_units-row.new.body f.0 ≡ h = cc both in
-    let at : Place = record { slot = f.0.slot; superior = f.0.superior; frozen = f.0.frozen } in
     let here : c.body_at-body.result.now.units ≡ f.0.body.units = ap (λ b. b.units) (c.body_at-body.ensures.body ∙ ap body_in f.1) in
     let room = subst (HasRoom c.args.most c.run_units-row.result.count) c.in-Calls.is c.run_units-row.ensures.room in
-    omega (arith, ap (λ (k : Fork). k.body.units) same, (c.run_units-row.ensures.ran at).keeps.units, here, c.requires.few f.0 f.1, room, c.ranges.most.fits)
+    omega (arith, ap (λ (k : Fork). k.body.units) same, (c.run_units-row.ensures.ran (place_of f.0)).keeps.units, here, c.requires.few f.0 f.1, room, c.ranges.most.fits)
+
+pub called-requires-clause-holds : goal.called-requires-clause-holds
+called-requires-clause-holds g c =
+    let f = some_of _ c.requires.there in
+    let ran = c.run_units-row.ensures.ran (place_of f.0) in
+    let keeps = kept_as c.args.who.fork f.0 _ c.run_units-row.new.body c.run_units-row.result.count (c.requires.can f.0 f.1).0 (c.body_at-body.ensures.body ∙ ap body_in f.1) ran.keeps in
+    row_holds c.args.tree.now c.requires.tree c.args.who.fork.tty c.args.who.slot f.0 f.1 c.run_units-row.new.body c.run_units-row.result.count keeps
+    g.P.Pages.means c.args.pages.now c.run_units-row.new.pages c.args.who.fork.tty (makings_of c.run_units-row.result.last) c.requires.holds ran.made
+
+pub called-requires-clause-serial : goal.called-requires-clause-serial
+called-requires-clause-serial g c =
+    let f = some_of _ c.requires.there in
+    let made = subst (λ l. Makes g.P.Pages.means c.args.pages.now c.run_units-row.new.pages c.args.who.fork.tty (makings_of l)) c.in-Calls.is (c.run_units-row.ensures.ran (place_of f.0)).made in
+    omega (arith, made.own, c.requires.serial)
 
 pub returns-in-Shows-clause-ran : goal.returns-in-Shows-clause-ran
 returns-in-Shows-clause-ran g c at b there =
-    let f = fork_of c.args.who.fork at b in
-    let after = fork_of c.args.who.fork at c.run_units-row.new.body in
+    let who = c.args.who.fork in
+    let tree = c.args.tree.now in
+    let f = fork_of who at b in
+    let body = c.run_units-row.new.body in
+    let after = fork_of who at body in
     let row = c.run_units-row.result in
     let here : c.body_at-body.result.now ≡ b = c.body_at-body.ensures.body ∙ ap body_in there in
-    let ran = subst (λ x. Ran g.P.Pages.means c.args.pages.now c.run_units-row.new.pages (fork_of c.args.who.fork at x) after row) here (c.run_units-row.ensures.ran at) in
+    let ran = subst (λ x. Ran g.P.Pages.means c.args.pages.now c.run_units-row.new.pages (fork_of who at x) after row) here (c.run_units-row.ensures.ran at) in
+    let is = c.requires.tree in
+    let lives = lived tree is who.tty c.args.who.slot f there body row.count ran.keeps in
+    let left = left_tree tree who.tty c.args.who.slot f body there in
     record {
       after = after;
-      left = left_tree c.args.tree.now c.args.who.fork.tty c.args.who.slot f c.run_units-row.new.body there;
       told = λ d drum.
           let p = g.P.Pages.means.plain c.args.pages.now d in
           let q = g.P.Pages.means.plain c.run_units-row.new.pages d in
           let t = ran.told d drum in
-          (t.0, subst (IsRow f p row.count after q) c.in-Shows.is t.1 c.args.tree.now.forks);
+          (t.0, subst (λ x. RanUnits tree f p row.count (record { tree = x; fork = after; pages = q; shown = c.in-Shows.shown })) (sym left) (subst (IsRow f p row.count after q) c.in-Shows.is t.1 tree));
       keeps = ran.keeps;
-      made = ran.made;
+      leaves = subst (λ x. LeavesForks g.P.Pages.means c.args.pages.now c.run_units-row.new.pages tree x f row.count) (sym left)
+          (leaves_one tree is f lives body row.count ran.keeps g.P.Pages.means c.args.pages.now c.run_units-row.new.pages c.requires.holds
+          (subst (λ l. Makes g.P.Pages.means c.args.pages.now c.run_units-row.new.pages who.tty (makings_of l)) c.in-Shows.is ran.made));
       shown = subst FitsLast c.in-Shows.is ran.fits;
     }
 
 pub returns-in-Calls-clause-ran : goal.returns-in-Calls-clause-ran
 returns-in-Calls-clause-ran g c at b there =
-    let f = fork_of c.args.who.fork at b in
-    let mid = fork_of c.args.who.fork at c.run_units-row.new.body in
+    let who = c.args.who.fork in
+    let tree = c.args.tree.now in
+    let f = fork_of who at b in
+    let body = c.run_units-row.new.body in
+    let mid = fork_of who at body in
     let row = c.run_units-row.result in
     let here : c.body_at-body.result.now ≡ b = c.body_at-body.ensures.body ∙ ap body_in there in
-    let ran = subst (λ x. Ran g.P.Pages.means c.args.pages.now c.run_units-row.new.pages (fork_of c.args.who.fork at x) mid row) here (c.run_units-row.ensures.ran at) in
-    let tree = c.args.tree.now in
-    let back = left_tree tree c.args.who.fork.tty c.args.who.slot f c.run_units-row.new.body there in
-    let called = c.called.ensures at c.run_units-row.new.body (still_in tree c.requires.tree c.args.who.fork.tty c.args.who.slot f c.run_units-row.new.body there) in
+    let ran = subst (λ x. Ran g.P.Pages.means c.args.pages.now c.run_units-row.new.pages (fork_of who at x) mid row) here (c.run_units-row.ensures.ran at) in
+    let is = c.requires.tree in
+    let lives = lived tree is who.tty c.args.who.slot f there body row.count ran.keeps in
+    let left = left_tree tree who.tty c.args.who.slot f body there in
+    let called = c.called.ensures at body (still_in tree is who.tty c.args.who.slot f body there) in
     record {
       after = called.after;
-      left = called.left ∙ ap (λ (x : PlainTree). record x { forks = map.insert x.forks c.args.who.fork called.after }) back ∙ ap (λ forks. record tree { forks = forks }) (insert_twice fork_cmp_total fork_cmp_apart tree.forks c.args.who.fork mid called.after);
       told = λ d drum.
           let p = g.P.Pages.means.plain c.args.pages.now d in
           let q = g.P.Pages.means.plain c.run_units-row.new.pages d in
           let t = ran.told d drum in
           let made = called.told d t.0 in
-          (made.0, call_behind tree.forks f p row.count mid q c.in-Calls.number _ (subst (IsRow f p row.count mid q) c.in-Calls.is t.1) (ap (λ (x : PlainTree). called_behind x.forks mid q c.in-Calls.number) (sym back) ∙ made.1));
+          (made.0, call_behind tree f p row.count mid q c.in-Calls.number _ (subst (IsRow f p row.count mid q) c.in-Calls.is t.1) (ap (λ (x : PlainTree). called_behind x mid q c.in-Calls.number) (sym left) ∙ made.1));
       keeps = more_keeps f mid called.after row.count 1 ran.keeps called.keeps;
-      made = record {
-        lives = called.made.lives ∙ ran.made.lives;
-        forks = called.made.forks ∙ ran.made.forks;
-        most = called.made.most ∙ ran.made.most;
-        own = omega (arith, called.made.own, ran.made.own);
-        others = λ t ne. called.made.others t ne ∙ ran.made.others t ne;
-      };
+      leaves = leaves_then tree is f lives body row.count ran.keeps g.P.Pages.means c.args.pages.now c.run_units-row.new.pages c.called.new.pages c.called.new.tree 1
+          (subst (λ l. Makes g.P.Pages.means c.args.pages.now c.run_units-row.new.pages who.tty (makings_of l)) c.in-Calls.is ran.made)
+          (subst (λ x. LeavesForks g.P.Pages.means c.run_units-row.new.pages c.called.new.pages x c.called.new.tree mid 1) left called.leaves);
       shown = called.fits;
     }

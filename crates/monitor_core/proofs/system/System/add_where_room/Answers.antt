@@ -5,7 +5,7 @@ use Rattle.plain_model.specs.declared.event.Refusal.TheVariants.{Full}
 use Rattle.monitor_core.specs.declared.reply.Reply.TheVariants.{One}
 use Rattle.monitor_core.proofs.EventDid.{is_full}
 use Rattle.monitor_core.proofs.JobDid.{did_still}
-use Rattle.monitor_core.proofs.Logins.{filled, none_first, unused}
+use Rattle.monitor_core.proofs.Logins.{filled, none_first, none_held, unused}
 use Rattle.monitor_core.proofs.system.System.add_where_room.Goals as goal
 
 pub returns-in-Full : goal.returns-in-Full
@@ -13,5 +13,5 @@ returns-in-Full g c =
     let m = c.args.self.now in
     let none = none_first g.P.Pages.means m.pages m.tree m.jobs.items m.sound c.args.t c.requires.free c.requires.terminal c.are_trees.ensures in
     did_still m m refl refl refl refl (Login c.args.t c.args.user) (One (Refusal (Full c.args.t))) c.requires.terminal
-    (λ d f. is_full m c.args.t c.args.user c.requires.free d f (g.met.P.Pages.agrees m.pages d f.pages) (g.met.P.Pages.none_lives m.pages _ (m.sound.absent c.args.t c.requires.free c.requires.terminal))
+    (λ d f. is_full m c.args.t c.args.user c.requires.free d f (g.met.P.Pages.agrees m.pages d f.pages) (none_held g.P.Pages.means m.pages m.tree m.jobs.items m.sound c.args.t c.requires.free c.requires.terminal c.are_trees.ensures)
     (unused m.tree c.args.t none c.requires.unused) (filled _ _ _ c.in-Full.ensures.answer))

@@ -2,7 +2,7 @@ use Rattle.std.proofs.Common.{Some, set, refl, sym, ◌∙◌, ap, subst, arith}
 use Rattle.std.specs.Prelude.{IsSome}
 use Rattle.plain_model.specs.declared.fork.TerminalMode.TheVariants.{Program}
 use Rattle.plain_model.specs.Events.{restarted}
-use Rattle.fork_tree.specs.Trees.{PlainTree}
+use Rattle.plain_model.specs.Trees.{PlainTree}
 use Rattle.fork_tree.proofs.Slots.{held_lives}
 use Rattle.monitor_core.specs.declared.job.Job.{Job}
 use Rattle.monitor_core.specs.declared.reply.Reply.TheVariants.{One}
@@ -58,7 +58,7 @@ invariant_of-self-in-Start g c =
       sound = subst (λ (x : PlainTree). AreSound g.P.Pages.means c.args.self.now.pages x jobs) (sym c.start.ensures)
           (sound_change g.P.Pages.means c.args.self.now.pages c.args.self.now.pages c.args.self.now.tree c.args.self.now.jobs.items jobs c.args.self.now.sound refl refl
           (same_tops_set c.args.self.now.jobs.items c.args.t.0 c.in-Some.job k (omega (arith, low, job.low)) at refl)
-          c.are_trees.ensures c.in-Some.job.top (restarted c.in-Start.address) (λ f. refl) (λ f. refl) (λ f b. restarted_body f c.in-Start.address (subst FitsJobEvent c.in-Start.is c.requires.fits) b));
+          c.are_trees.ensures c.in-Some.job.top (restarted c.in-Start.address) (λ f. refl) (λ f. refl) (λ f. refl) (λ f b. restarted_body f c.in-Start.address (subst FitsJobEvent c.in-Start.is c.requires.fits) b));
     }
 
 pub returns-in-Start : goal.returns-in-Start

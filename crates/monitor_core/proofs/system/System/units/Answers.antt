@@ -1,8 +1,10 @@
 use Rattle.std.proofs.Common.{◌≡◌, IsSome, refl, sym, ◌∙◌, ap, subst, arith}
 use Rattle.plain_model.specs.declared.fork.Fork.{Fork}
 use Rattle.monitor_core.specs.Limits.{CanUnit}
-use Rattle.monitor_core.specs.Shown.{seen_of}
+use Rattle.monitor_core.specs.Runners.{woken_where}
+use Rattle.monitor_core.specs.Shown.{is_stop, seen_of}
 use Rattle.monitor_core.proofs.Running.{place_of, runner, runner_lives, runner_only, runner_runs, runner_there}
+use Rattle.monitor_core.proofs.Systems.{holds_fork}
 use Rattle.monitor_core.proofs.UnitDid.{did_units, units_sound}
 use Rattle.monitor_core.proofs.system.System.units.Goals as goal
 
@@ -22,6 +24,12 @@ units_of-units-requires-clause-few g c f found =
     let is = ap (λ (k : Fork). k.body.units) (runner_only tree c.args.who c.requires.can f found) in
     omega (arith, is, c.requires.few.units (runner tree c.args.who c.requires.can) (runner_lives tree c.args.who c.requires.can))
 
+pub units_of-units-requires-clause-serves : goal.units_of-units-requires-clause-serves
+units_of-units-requires-clause-serves g c =
+    let m = c.args.self.now in
+    let held = holds_fork m c.requires.can.trees (runner m.tree c.args.who c.requires.can) (runner_lives m.tree c.args.who c.requires.can) in
+    record { flat = held.flat; lives = held.lives; terminal = held.terminal }
+
 pub invariant_of-self : goal.invariant_of-self
 invariant_of-self g c =
     let m = c.args.self.now in
@@ -29,7 +37,10 @@ invariant_of-self g c =
     let r = c.requires.can in
     let f = runner m.tree who r in
     let ran = c.units_of-units.ensures.ran (place_of r.fork) r.fork.body (runner_there m.tree who r) in
-    record { sound = units_sound m f r.trees (runner_lives m.tree who r) c.units_of-units.new.pages c.units_of-units.new.tree c.seen.new.jobs.items c.units_of-units.result c.seen.result ran c.seen.ensures.jobs }
+    let left = c.units_of-units.new.tree in
+    let woken : c.wake_where.new.tree ≡ record left { forks = woken_where left.forks who.fork.tty (is_stop c.units_of-units.result.shown) } =
+    ◌∙◌ {b = record left { forks = woken_where left.forks who.fork.tty c.is_stop.result }} c.wake_where.ensures (ap (λ b. record left { forks = woken_where left.forks who.fork.tty b }) c.is_stop.ensures) in
+    record { sound = units_sound m f r.trees (runner_lives m.tree who r) c.units_of-units.new.pages left c.wake_where.new.tree c.units_of-units.result ran c.are_trees.ensures woken c.are_trees-2.ensures c.seen.new.jobs.items c.seen.result c.seen.ensures.jobs }
 
 pub returns-clause-did : goal.returns-clause-did
 returns-clause-did g c =
@@ -40,5 +51,8 @@ returns-clause-did g c =
     let units = c.units_of-units.result in
     let ran = c.units_of-units.ensures.ran (place_of r.fork) r.fork.body (runner_there m.tree who r) in
     let seen : c.seen.result ≡ seen_of r.fork.slot units.shown = c.seen.ensures.shown ∙ ap (λ n. seen_of n units.shown) (sym r.there.2) in
+    let left = c.units_of-units.new.tree in
+    let woken : c.wake_where.new.tree ≡ record left { forks = woken_where left.forks who.fork.tty (is_stop c.units_of-units.result.shown) } =
+    ◌∙◌ {b = record left { forks = woken_where left.forks who.fork.tty c.is_stop.result }} c.wake_where.ensures (ap (λ b. record left { forks = woken_where left.forks who.fork.tty b }) c.is_stop.ensures) in
     let can = runner_runs m.tree who r in
-    did_units m f r.trees (runner_lives m.tree who r) _ units c.seen.result can.0 can.1 ran seen c.seen.ensures.jobs refl c.units_of-units.ensures.some
+    did_units m f r.trees (runner_lives m.tree who r) c.units_of-units.new.pages left c.wake_where.new.tree units ran c.are_trees.ensures woken _ refl refl c.seen.result can.0 can.1 seen c.seen.ensures.jobs refl c.units_of-units.ensures.some

@@ -1,0 +1,167 @@
+-- A fork that makes a fork call stands among the forks that its turn leaves, as it was.
+use Rattle.std.proofs.Common.{◌≡◌, ℕ, Bool, true, false, ◌||◌, List, [], ◌∷◌, Option, None, Some, refl, sym, ◌∙◌, ap, subst, arith, inl, inr, Ordering}
+use Rattle.std.specs.Prelude.{MatchBool}
+use Rattle.std.specs.List.{range_with_len}
+use Rattle.std.specs.Option.{option_map_or}
+use Rattle.std.specs.FinMap as map
+use Rattle.plain_model.specs.declared.call.End.{End}
+use Rattle.plain_model.specs.declared.call.End.TheVariants.{Done, Waits, Halts, Refused, Failed, Trap}
+use Rattle.plain_model.specs.declared.call.ForkChange.{ForkChange}
+use Rattle.plain_model.specs.declared.call.ForkChange.TheVariants.{Nothing, Make, Kill, Freeze, Become, Halt, Store}
+use Rattle.plain_model.specs.declared.channel.TheConstants.{INFERIOR_ENDED}
+use Rattle.plain_model.specs.declared.fork.Fork.{Fork}
+use Rattle.plain_model.specs.declared.fork.ForkStatus.TheVariants.{Run, Halted}
+use Rattle.plain_model.specs.declared.names.TheConstants.{MOST_FORKS}
+use Rattle.plain_model.specs.declared.names.ForkName.{ForkName}
+use Rattle.plain_model.specs.declared.names.Tty.{Tty}
+use Rattle.plain_model.specs.Calls.{Turn, end_of, made_by, parts_behind}
+use Rattle.plain_model.specs.Forks.{ForkMap, fork_in, same_fork, superior_of, with_status}
+use Rattle.plain_model.specs.ForkCalls.{ForkAsked, ForkParts, fork_call, fork_changed, fork_changed_by, killed, with_halted}
+use Rattle.plain_model.specs.Inferiors.{is_inferior, without_branch}
+use Rattle.plain_model.specs.Interrupts.{posted}
+use Rattle.plain_model.specs.State.{PlainPages}
+use Rattle.plain_model.specs.Trees.{PlainTree, changed, end_told, unwaited, waiters_woken, with_body, with_mark, without_wait, woken_in}
+use Rattle.plain_model.proofs.ForkEnds.{Anyhow, FitsChange, FitsEnd, call_names}
+use Rattle.plain_model.proofs.ForkMaps.{AreOwn, cases_name, get_put, get_put_other, held_there, names_same, slot_tells, superior_tells}
+use Rattle.plain_model.proofs.UnitForks.{posted_mark}
+use Rattle.fork_tree.specs.Trees.{IsTree, Lives}
+use Rattle.fork_tree.proofs.Branches.{goes, gone_or_left}
+use Rattle.fork_tree.proofs.Kept.{name_unused}
+use Rattle.fork_tree.proofs.Killing.{killed_branch}
+use Rattle.fork_tree.proofs.Leaves.{inferior_lives}
+use Rattle.fork_calls.proofs.Branch.{below_younger}
+use Rattle.monitor_core.proofs.Keeping.{dropped_off}
+
+module _ (f : Fork) (runs : f.body.status ≡ Run) (off : f.body.psi.on ≡ false) where
+  -- it stands among forks that are under their own names
+  record StandsIn (m : ForkMap) : Type 0 where
+    own : AreOwn m
+    there : map.get m f.name ≡ Some f
+
+  is_it : (m : ForkMap) → StandsIn m → (k : Fork) → map.get m k.name ≡ Some k → f.name ≡ k.name → k ≡ f
+  is_it m s k at same = let both : Some k ≡ Some f = sym at ∙ ap (map.get m) (sym same) ∙ s.there in cc both
+
+  put_in : (m : ForkMap) → StandsIn m → (k : Fork) → (f.name ≡ k.name → k ≡ f) → StandsIn (map.insert m k.name k)
+  put_in m s k same = record {
+    own = λ q g e. elim (cases_name q k.name) [
+      | inl at ↦ let both : Some k ≡ Some g = sym (get_put m k.name q k at) ∙ e in let one : k ≡ g = cc both in ap (λ (x : Fork). x.name) (sym one) ∙ sym at
+      | inr ne ↦ s.own q g (sym (get_put_other m k.name q k ne) ∙ e)
+    ];
+    there = elim (cases_name f.name k.name) [
+      | inl at ↦ get_put m k.name f.name k at ∙ ap Some (same at)
+      | inr ne ↦ get_put_other m k.name f.name k ne ∙ s.there
+    ];
+  }
+
+  -- a change leaves it, if there is one
+  changed_in : (m : ForkMap) → StandsIn m → (change : Fork → Fork) → ((k : Fork) → (change k).name ≡ k.name) → (o : Option Fork) → ((k : Fork) → o ≡ Some k → map.get m k.name ≡ Some k)
+      → ((k : Fork) → o ≡ Some k → k ≡ f → change k ≡ f) → StandsIn (changed m change o)
+  changed_in m s change name None there same = s
+  changed_in m s change name (Some k) there same =
+      subst (λ (n : ForkName). StandsIn (map.insert m n (change k))) (name k)
+      (put_in m s (change k) (λ e. same k refl (is_it m s k (there k refl) (e ∙ name k))))
+
+  unwaited_it : unwaited f ≡ f
+  unwaited_it = ap (λ x. with_status f (without_wait x)) runs ∙ (λ i. with_status f (sym runs i))
+
+  woken_stands : (t : Tty) (slots : List ℕ) (m : ForkMap) → StandsIn m → StandsIn (woken_in m t slots)
+  woken_stands t [] m s = s
+  woken_stands t (slot ∷ slots) m s =
+      woken_stands t slots (changed m unwaited (fork_in m t slot))
+      (changed_in m s unwaited (λ k. refl) (fork_in m t slot) (λ k e. let at = slot_tells m s.own t slot k e in at.0) (λ k e is. ap unwaited is ∙ unwaited_it))
+
+  waiters_stand : (m : ForkMap) → StandsIn m → (t : Tty) → StandsIn (waiters_woken m t)
+  unfolding waiters_woken
+  waiters_stand m s t = woken_stands t (range_with_len 1 MOST_FORKS) m s
+
+  told_stands : (m : ForkMap) → StandsIn m → (g : Fork) → StandsIn (end_told m g)
+  told_stands m s g =
+      let woken = waiters_woken m g.name.tty in
+      let w = waiters_stand m s g.name.tty in
+      changed_in woken w (λ k. posted k INFERIOR_ENDED) (λ k. (posted_mark k INFERIOR_ENDED).0) (superior_of woken g) (λ k e. let at = superior_tells woken w.own g k e in at.0)
+      (λ k e is. ap (λ (x : Fork). posted x INFERIOR_ENDED) is ∙ dropped_off f INFERIOR_ENDED off refl)
+
+  module _ (tree : PlainTree) (is : IsTree tree) (lives : Lives tree.forks f) where
+    stands : StandsIn tree.forks
+    stands = record { own = is.slotted.own; there = lives }
+
+    -- it is no inferior of itself
+    not_below : (k : Fork) → map.get tree.forks k.name ≡ Some k → is_inferior tree.forks f.name k.name ≡ true → k ≡ f → ⊥
+    not_below k at below same = let young = below_younger tree is f.name k at below in omega (arith, young, ap (λ (x : Fork). x.name.serial) same)
+
+    -- nor does it go with one
+    stays_with : (k : Fork) → map.get tree.forks k.name ≡ Some k → is_inferior tree.forks f.name k.name ≡ true → goes tree.forks k.name f.name ≡ false
+    stays_with k at below = by (same_fork f.name k.name) refl (is_inferior tree.forks k.name f.name) refl
+      where
+        by : (b : Bool) → same_fork f.name k.name ≡ b → (c : Bool) → is_inferior tree.forks k.name f.name ≡ c → (same_fork f.name k.name || is_inferior tree.forks k.name f.name) ≡ false
+        by true same c over = absurd (not_below k at below (is_it tree.forks stands k at (names_same f.name k.name same)))
+        by false same true over =
+            let young = below_younger tree is f.name k at below in
+            let old = below_younger tree is k.name f lives over in
+            absurd (omega (arith, young, old))
+        by false same false over = ap (λ b. b || is_inferior tree.forks k.name f.name) same ∙ over
+
+    branch_stands : (k : Fork) → map.get tree.forks k.name ≡ Some k → is_inferior tree.forks f.name k.name ≡ true → StandsIn (without_branch tree.forks k.name)
+    branch_stands k at below = record {
+      own = λ q g e. owned q g e (goes tree.forks k.name q) (gone_or_left tree.forks k.name q);
+      there = subst (λ b. MatchBool b (map.get (without_branch tree.forks k.name) f.name ≡ None) (map.get (without_branch tree.forks k.name) f.name ≡ map.get tree.forks f.name)) (stays_with k at below) (gone_or_left tree.forks k.name f.name) ∙ lives;
+    }
+      where
+        owned : (q : ForkName) (g : Fork) → map.get (without_branch tree.forks k.name) q ≡ Some g → (b : Bool) → MatchBool b (map.get (without_branch tree.forks k.name) q ≡ None) (map.get (without_branch tree.forks k.name) q ≡ map.get tree.forks q) → g.name ≡ q
+        owned q g e true gone = absurd (let no : None ≡ Some g = sym gone ∙ e in cc no)
+        owned q g e false left = is.slotted.own q g (sym left ∙ e)
+
+    abbrev asked_so : ForkAsked
+    asked_so = record { who = f.name; regs = f.body.regs; tree = tree }
+
+    of_inferior_stands : (name : ForkName) (change : Fork → Fork) → ((k : Fork) → (change k).name ≡ k.name) → is_inferior tree.forks f.name name ≡ true → StandsIn (changed tree.forks change (map.get tree.forks name))
+    of_inferior_stands name change named below =
+        changed_in tree.forks stands change named (map.get tree.forks name) (λ k e. held_there tree.forks is.slotted.own name k e)
+        (λ k e same. absurd (not_below k (held_there tree.forks is.slotted.own name k e) (ap (is_inferior tree.forks f.name) (is.slotted.own name k e) ∙ below) same))
+
+    module _ {K : Type 0} {file_cmp : K → K → Ordering} where
+      abbrev parts_so : PlainPages file_cmp → ForkParts file_cmp
+      parts_so p = record { tree = tree; pages = p }
+
+      killed_stands : (p : PlainPages file_cmp) (name : ForkName) → is_inferior tree.forks f.name name ≡ true → StandsIn (killed (parts_so p) name).tree.forks
+      killed_stands p name below =
+          let k = inferior_lives tree is f.name name below in
+          let named = is.slotted.own name k.0 k.1 in
+          subst StandsIn (sym (killed_branch name (parts_so p) is))
+          (subst (λ (n : ForkName). StandsIn (without_branch tree.forks n)) named
+          (branch_stands k.0 (held_there tree.forks is.slotted.own name k.0 k.1) (ap (is_inferior tree.forks f.name) named ∙ below)))
+
+      halted_stands : (p : PlainPages file_cmp) (name : ForkName) → is_inferior tree.forks f.name name ≡ true → StandsIn (option_map_or (with_halted (parts_so p)) (map.get tree.forks name) (parts_so p)).tree.forks
+      halted_stands p name below = by (map.get tree.forks name) refl
+        where
+          by : (o : Option Fork) → map.get tree.forks name ≡ o → StandsIn (option_map_or (with_halted (parts_so p)) o (parts_so p)).tree.forks
+          by None none = stands
+          by (Some k) there =
+              let at = held_there tree.forks is.slotted.own name k there in
+              let g = with_status k Halted in
+              told_stands (map.insert tree.forks g.name g)
+              (put_in tree.forks stands g (λ e. absurd (not_below k at (ap (is_inferior tree.forks f.name) (is.slotted.own name k there) ∙ below) (is_it tree.forks stands k at e)))) g
+
+      change_stands : (p q : PlainPages file_cmp) (change : ForkChange) → FitsChange asked_so p (Anyhow asked_so p) q change → StandsIn (fork_changed change (parts_so q)).tree.forks
+      unfolding fork_changed
+      change_stands p q Nothing fits = stands
+      change_stands p q (Make h) fits =
+          put_in tree.forks stands h (λ e. absurd (let no : Some f ≡ None = sym lives ∙ ap (map.get tree.forks) (e ∙ fits.name) ∙ name_unused tree f.name.tty is in cc no))
+      change_stands p q (Kill name) fits = waiters_stand (killed (parts_so q) name).tree.forks (killed_stands q name fits.0) name.tty
+      change_stands p q (Freeze name on) fits = of_inferior_stands name (with_mark on) (λ k. refl) fits.0
+      change_stands p q (Become name body) fits = of_inferior_stands name (with_body body) (λ k. refl) fits.0
+      change_stands p q (Halt name) fits = halted_stands q name fits.0
+      change_stands p q (Store name at words) fits = stands
+
+      end_stands : (turn : Turn ForkChange) (p : PlainPages file_cmp) (e : End ForkChange) → FitsEnd asked_so p (Anyhow asked_so p) (made_by turn p) e → StandsIn (parts_behind (fork_changed_by turn) (parts_so p) e).tree.forks
+      unfolding parts_behind
+      end_stands turn p (Done change regs) fits = change_stands p (made_by turn p) change fits
+      end_stands turn p (Waits on) fits = stands
+      end_stands turn p Halts fits = stands
+      end_stands turn p (Refused code) fits = stands
+      end_stands turn p (Failed code) fits = stands
+      end_stands turn p (Trap channel) fits = stands
+
+      -- the fork that called is there, as it was
+      pub caller_stays : (p : PlainPages file_cmp) (number : ℕ) → map.get (parts_behind (fork_changed_by (fork_call number asked_so)) (parts_so p) (end_of p (fork_call number asked_so))).tree.forks f.name ≡ Some f
+      caller_stays p number = (end_stands (fork_call number asked_so) p (end_of p (fork_call number asked_so)) (call_names asked_so p number)).there

@@ -1,0 +1,122 @@
+use Rattle.std.proofs.Common.{◌≡◌, ◌<◌, ◌^◌, ℕ, None, Some, refl, sym, ◌∙◌, ap, subst, arith}
+use Rattle.std.specs.Prelude.{IsSome}
+use Rattle.std.specs.Option.{option_map}
+use Rattle.std.specs.FinMap as map
+use Rattle.plain_model.specs.declared.fork.Body.{Body}
+use Rattle.plain_model.specs.declared.fork.Fork.{Fork}
+use Rattle.plain_model.specs.declared.names.ForkName.{ForkName}
+use Rattle.plain_model.specs.Calls.{end_of}
+use Rattle.plain_model.specs.ForkCalls.{fork_call, fork_changed_by}
+use Rattle.plain_model.specs.Forks.{counted, fork_in}
+use Rattle.plain_model.specs.Pages.{PagesMeaning}
+use Rattle.plain_model.specs.Trees.{PlainTree, changed, with_body, with_changed_of}
+use Rattle.call_turns.specs.Answers.{Went}
+use Rattle.fork_tree.specs.Trees.{IsTree, Lives}
+use Rattle.fork_tree.proofs.Slots.{in_tells, some_of}
+use Rattle.fork_calls.specs.Asking.{asked}
+use Rattle.fork_calls.specs.Holding.{CallLeaves}
+use Rattle.fork_calls.specs.Limits.{AreWithin, IsBody}
+use Rattle.fork_calls.specs.Steps.{IsEndOf}
+use Rattle.fork_calls.specs.Turning.{parts}
+use Rattle.monitor_core.specs.ForkUnit.{Kept, LeavesForks, answered, fork_of, put_back}
+use Rattle.monitor_core.proofs.Calling.{forked_as}
+use Rattle.monitor_core.proofs.Keeping.{answered_keeps}
+use Rattle.monitor_core.proofs.Leaving.{after_keeps, caller_keeps, caller_within, turn_leaves}
+use Rattle.monitor_core.proofs.calls.forked.Goals as goal
+
+-- the fork that called, behind its turn
+module _ {P : Type 0} {means : PagesMeaning P} {p q : P} {pages : ℕ} (old new : PlainTree) (who : ForkName) (left : CallLeaves means p q old new who pages)
+    (was : IsTree old) (is : IsTree new) (can : AreWithin old.forks) (slot : ℕ) (f : Fork) (at : fork_in old.forks who.tty slot ≡ Some f) (named : f.name ≡ who) where
+  lived : Lives old.forks f
+  lived = (in_tells old.forks was.slotted who.tty slot f at).0
+
+  there : (g : Fork) × (map.get new.forks f.name ≡ Some g)
+  there = let s = some_of (map.get new.forks who) (left.caller (subst IsSome (sym (ap (map.get old.forks) (sym named) ∙ lived)) refl)) in (s.0, ap (map.get new.forks) named ∙ s.1)
+
+  module _ (body : Body) (lent : Some body ≡ option_map (λ (k : Fork). k.body) (map.get new.forks who)) where
+    lent_is : body ≡ there.0.body
+    lent_is = let both : Some body ≡ Some there.0.body = lent ∙ ap (option_map (λ (k : Fork). k.body)) (ap (map.get new.forks) (sym named) ∙ there.1) in cc both
+
+    lent_within : IsBody body
+    lent_within = subst IsBody (sym lent_is) (caller_within old new was is left.kept f there.0 lived (can f lived) there.1)
+
+    lent_few : f.body.units < 2 ^ 63 → body.units < 2 ^ 63
+    lent_few few = omega (arith, few, ap (λ (b : Body). b.units) lent_is, (caller_keeps old new was is left.kept f there.0 lived (can f lived) there.1).units)
+
+pub call-answer-requires-clause-regs : goal.call-answer-requires-clause-regs
+call-answer-requires-clause-regs g c =
+    let f = c.in-Some.fork.now in
+    let lives = in_tells c.args.tree.now.forks c.fork_at.ensures.tree.slotted c.args.who.fork.tty c.args.who.slot f (sym c.in-Some.ensures.found) in
+    let fits = c.requires.can f lives.0 in
+    (fits.pc, fits.accumulators)
+
+pub call-answer-requires-clause-lives : goal.call-answer-requires-clause-lives
+call-answer-requires-clause-lives g c =
+    let f = some_of _ c.requires.there in
+    let lives = in_tells c.args.tree.now.forks c.fork_at.ensures.tree.slotted c.args.who.fork.tty c.args.who.slot f.0 f.1 in
+    subst IsSome (sym (ap (map.get c.args.tree.now.forks) (sym (c.requires.named f.0 f.1)) ∙ lives.0)) refl
+
+pub answered-requires : goal.answered-requires
+answered-requires g c =
+    let old = c.args.tree.now in
+    let new = c.call-answer.new.tree in
+    let was = c.fork_at.ensures.tree in
+    let left = c.call-answer.ensures.leaves in
+    let f = some_of _ c.requires.there in
+    let named = c.requires.named f.0 f.1 in
+    let within = lent_within old new c.args.who.fork left was c.are_trees.ensures c.requires.can c.args.who.slot f.0 f.1 named _ c.in-Some-body_mut.ensures.body in
+    record {
+      off = within.off;
+      few = lent_few old new c.args.who.fork left was c.are_trees.ensures c.requires.can c.args.who.slot f.0 f.1 named _ c.in-Some-body_mut.ensures.body (c.requires.few f.0 f.1);
+      pc = within.pc;
+      accumulators = within.accumulators;
+      done = c.call-answer.ensures.regs;
+    }
+
+pub returns-in-None : goal.returns-in-None
+returns-in-None g c at b found =
+    let who = c.args.who.fork in
+    let old = c.args.tree.now in
+    let new = c.call-answer.new.tree in
+    let stands = there old new who c.call-answer.ensures.leaves c.fork_at.ensures.tree c.are_trees.ensures c.requires.can c.args.who.slot (fork_of who at b) found refl in
+    let no : None ≡ Some stands.0.body = c.in-None.ensures.body ∙ ap (option_map (λ (k : Fork). k.body)) stands.1 in
+    absurd (cc no)
+
+pub returns-in-Some-body_mut : goal.returns-in-Some-body_mut
+returns-in-Some-body_mut g c at b found =
+    let who = c.args.who.fork in
+    let number = c.args.number in
+    let f = fork_of who at b in
+    let old = c.args.tree.now in
+    let new = c.call-answer.new.tree in
+    let answer = c.call-answer.result in
+    let was = c.fork_at.ensures.tree in
+    let is = c.are_trees.ensures in
+    let left = c.call-answer.ensures.leaves in
+    let body = c.answered.new.body in
+    let lent = c.in-Some-body_mut.ensures.body in
+    let lives : Lives old.forks f = lived old new who left was is c.requires.can c.args.who.slot f found refl in
+    let stands = there old new who left was is c.requires.can c.args.who.slot f found refl in
+    let k = stands.0 in
+    let fits = c.requires.can f lives in
+    let here = lent_is old new who left was is c.requires.can c.args.who.slot f found refl _ lent in
+    let within : IsBody k.body = caller_within old new was is left.kept f k lives fits stands.1 in
+    let seen : Some c.in-Some.fork.now ≡ Some f = c.in-Some.ensures.found ∙ found in
+    let same : c.in-Some.fork.now ≡ f = cc seen in
+    let fork : with_body body k ≡ counted (answered number k answer) = c.answered.ensures.fork k ∙ ap (λ x. counted (answered number (with_body x k) answer)) here in
+    let back : with_changed_of new who (with_body body) ≡ put_back new (with_body body k) = ap (λ o. record new { forks = changed new.forks (with_body body) o }) stands.1 in
+    let keeps : Kept k (with_body body k) 1 = subst (λ h. Kept k h 1) (sym fork) (answered_keeps number k within.off within.pc within.accumulators answer c.call-answer.ensures.regs) in
+    record {
+      after = with_body body k;
+      told = λ d drum.
+          let p = g.P.Pages.means.plain c.args.pages.now d in
+          let q = g.P.Pages.means.plain c.call-answer.new.pages d in
+          let t = c.call-answer.ensures.told d drum in
+          let ends = subst (λ (x : Fork). IsEndOf number (end_of p (fork_call number (asked who x.body.regs old)))) same (c.call-answer.ensures.returns p) in
+          let went = subst (λ (x : Fork). Went (fork_changed_by (fork_call number (asked who x.body.regs old))) (parts old p) (parts new q) answer (end_of p (fork_call number (asked who x.body.regs old)))) same t.1 in
+          (t.0, forked_as old new f k p q number answer body c.answered.result c.requires.fork_call stands.1 ends went fork c.answered.ensures.shown);
+      keeps = after_keeps old new was is left.kept f k lives fits stands.1 body keeps;
+      leaves = subst (λ x. LeavesForks g.P.Pages.means c.args.pages.now c.call-answer.new.pages old x f 1) (sym back)
+          (turn_leaves old new was is left.kept f k lives fits stands.1 body keeps g.P.Pages.means c.args.pages.now c.call-answer.new.pages left);
+      fits = c.answered.ensures.fits;
+    }
