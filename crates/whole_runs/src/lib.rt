@@ -4,11 +4,15 @@
 #![tactic(auto)]
 
 #[cfg(test)]
+mod calls_on_forks;
+#[cfg(test)]
 mod cuts;
 #[cfg(test)]
 mod examples;
 #[cfg(test)]
 mod failures;
+#[cfg(test)]
+mod fork_examples;
 #[cfg(test)]
 mod instructions;
 #[cfg(test)]

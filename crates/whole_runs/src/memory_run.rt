@@ -78,3 +78,21 @@ pub(crate) fn assert_ends<R: Abort + AllocGlobal>(
     assert_eq!(rt; ran.rec.bytes(), record);
     Ok(())
 }
+
+/// Runs a script over a drum of 256 pages to its end, which gives exactly these texts.
+pub(crate) fn assert_runs_small<R: Abort + AllocGlobal>(
+    rt: &R,
+    script: &[u8],
+    transcript: &[u8],
+    record: &[u8],
+) -> Result<(), Fail> {
+    let alloc = rt.alloc();
+    let mut source = MemSource::new(Vec::from_slice(alloc, script)?, Vec::new(alloc));
+    let out = MemSink::new(alloc, ROOM, Vec::new(alloc))?;
+    let rec = MemSink::new(alloc, ROOM, Vec::new(alloc))?;
+    let ran = run_over(alloc, &["run", "--drum", "256"], &mut source, out, rec, 256)?;
+    assert_eq!(rt; ran.status, Status::Done);
+    assert_eq!(rt; ran.out.bytes(), transcript);
+    assert_eq!(rt; ran.rec.bytes(), record);
+    Ok(())
+}
