@@ -19,7 +19,7 @@ use Rattle.plain_model.specs.declared.map.MapEntry.TheVariants as entry
 use Rattle.plain_model.specs.Events.{empty_map, following_map}
 use Rattle.plain_model.specs.Maps.{full_access}
 use Rattle.plain_model.specs.Outcome.{DrumWords}
-use Rattle.plain_model.specs.Pages.{same_fork, StaysInCore}
+use Rattle.plain_model.specs.Pages.{same_fork, TakesMap}
 use Rattle.plain_model.specs.State.{Map, Maps}
 use Rattle.plain_model.proofs.OrderLemmas.{fork_cmp_total, fork_cmp_apart}
 use Rattle.flat_pages.specs.declared.held_entry.HeldEntry.{HeldEntry}
@@ -288,8 +288,8 @@ module _ (t : Tables) (a : AreTables t) (k : ℕ) (f : ForkName) (unlived : fork
     pub told_begun : (m : Map) → map (entry_of t.names) entries ≡ m → (d : DrumWords) → plain_of after d ≡ record (plain_of t d) { maps = fin.insert (plain_of t d).maps f m }
     told_begun m same d = ap (λ (x : Tables). plain_of x d) is ∙ plain_begun t a k f entries within unlived from below absent new m same d
 
-    pub scene_begun : (spare : ℕ) → StaysInCore (scene_of t spare) (scene_of after spare) 1
-    scene_begun spare = subst (λ (x : Tables). StaysInCore (scene_of t spare) (scene_of x spare) 1) (sym is) (record { maps = λ g none. none; pages = λ n none. none; frames = omega arith })
+    pub scene_begun : (spare : ℕ) → TakesMap (scene_of t spare) (scene_of after spare) f
+    scene_begun spare = subst (λ (x : Tables). TakesMap (scene_of t spare) (scene_of x spare) f) (sym is) (record { own = refl; maps = refl; pages = refl; frames = omega arith })
 
     pub who_lives : (g : ForkName) → is_some (index_of after.maps g) ≡ (same_fork g f || is_some (index_of t.maps g))
     who_lives g = ap (λ (x : Tables). is_some (index_of x.maps g)) is ∙ lives_begun t.maps a.held k f entries within unlived from below absent new g

@@ -55,6 +55,13 @@ pub record StaysInCore (old new : Scene) (taken : ℕ) : Type 0 where
   pub pages : (n : PageName) → old.page_away n ≡ None → new.page_away n ≡ None
   pub frames : old.free_frames ≤ new.free_frames + taken
 
+-- the map of a new fork is in a frame, of which it took one at most; nothing else has come into a frame or left it
+pub record TakesMap (old new : Scene) (f : ForkName) : Type 0 where
+  pub own : new.map_away f ≡ None
+  pub maps : new.map_away ≡ old.map_away
+  pub pages : new.page_away ≡ old.page_away
+  pub frames : old.free_frames ≤ new.free_frames + 1
+
 -- nothing has come into a frame or left it, but for so many frames that were taken
 pub record TakesFrames (old new : Scene) (taken : ℕ) : Type 0 where
   pub maps : new.map_away ≡ old.map_away

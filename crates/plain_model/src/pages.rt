@@ -11,7 +11,7 @@ ghost use Rattle.plain_model.specs.Outcome.{DrumWords, Stands};
 ghost use Rattle.plain_model.specs.References.{in_map, settled, slot_at, word_at, stored, page_at as named_at, without_fork};
 ghost use Rattle.plain_model.specs.Stores.{IsFetched, CanFetch, Completes, Tells, Evicts, CanKeep, Keeps, LetsGo, awaited, meeting};
 ghost use Rattle.plain_model.specs.Whole.{AreWhole};
-ghost use Rattle.plain_model.specs.Pages.{PagesMeaning, Agrees, AreHoused, HasSpace, StaysInCore, TakesFrames, StaysPut, StaysMapped, StaysPlain, StaysSame, IsPlace, IsTouched, IsReady, CanChange, IsOwner, IsNewMap, IsNewEntry, FollowsPage, SettlesTo, spot_of, touch_of, peek_of, seen_of, map_away, counted, changed, room_for, can_settle, frames_taken, is_in_core, is_seen, is_entry, is_seen_entry, same_fork};
+ghost use Rattle.plain_model.specs.Pages.{PagesMeaning, Agrees, AreHoused, HasSpace, StaysInCore, TakesMap, TakesFrames, StaysPut, StaysMapped, StaysPlain, StaysSame, IsPlace, IsTouched, IsReady, CanChange, IsOwner, IsNewMap, IsNewEntry, FollowsPage, SettlesTo, spot_of, touch_of, peek_of, seen_of, map_away, counted, changed, room_for, can_settle, frames_taken, is_in_core, is_seen, is_entry, is_seen_entry, same_fork};
 
 use crate::{
     Completed, ForkName, Found, FrameId, Home, Kind, MOST_HELD, MOST_HOLDERS, Need, NewEntry,
@@ -66,6 +66,7 @@ pub trait Pages {
         ensures answer { result ≡ means.seen self.now slot }
         ensures told { (d : DrumWords) → means.fits self.now d → result ≡ seen_of (means.plain self.now d) (means.scene self.now) slot }
         ensures lives { (e : AMapEntry) → result ≡ Seen.Is e → means.lives self.now slot.fork ≡ true }
+        ensures near { is_seen_entry result ≡ true → means.lives self.now slot.fork ≡ true → (means.scene self.now).map_away slot.fork ≡ None }
         ensures follows { FollowsPage result }
         ensures core { means.flat ≡ true → is_seen_entry result ≡ true };
 
@@ -155,7 +156,7 @@ pub trait Pages {
         requires terminal { fork.tty.0 < TERMINALS }
         requires map { IsNewMap (means.lives self.old) fork map }
         ensures told { (d : DrumWords) → means.fits self.old d → means.fits self.new d × (means.plain self.new d ≡ with_map (means.plain self.old d) fork map) }
-        ensures scene { StaysInCore (means.scene self.old) (means.scene self.new) 1 }
+        ensures scene { TakesMap (means.scene self.old) (means.scene self.new) fork }
         ensures lives { (f : AForkName) → means.lives self.new f ≡ (same_fork f fork || means.lives self.old f) }
         ensures forks { means.forks_of self.new fork.tty ≡ means.forks_of self.old fork.tty + 1 }
         ensures others { (t : ATty) → t ≢ fork.tty → means.forks_of self.new t ≡ means.forks_of self.old t }
