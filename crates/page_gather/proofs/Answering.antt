@@ -140,6 +140,7 @@ module _ (p q : NumberedPages) (scene : Scene) (owner : Tty) (rs : List PageRefe
 
   -- THE REFERENCES WITH IT, where it goes through
   pub step_gathered : concluded roomy (page_away q scene (in_map r.slot)) ≡ Went → AreGathered p scene owner (rs ++ r ∷ []) cs' homes' × (referred_to q owner r ≡ granted (after_all p owner (rs ++ r ∷ [])))
+      × ((s : Slot) → IsNear q scene s → IsNear (after_all p owner (rs ++ r ∷ [])) scene s)
   step_gathered went = (
     record {
       sound = k.sound;
@@ -151,6 +152,7 @@ module _ (p q : NumberedPages) (scene : Scene) (owner : Tty) (rs : List PageRefe
       sources = step.sources here k.sources;
     },
     fits.1 ∙ ap (λ (x : NumberedPages). granted x) after,
+    λ s near. subst (λ (x : NumberedPages). IsNear x scene s) after (fits.3 s near),
   )
     where
       both : (nat_le (live p + homes') p.limit ≡ true) × (nat_le homes' scene.free_frames ≡ true) × (page_away q scene (in_map r.slot) ≡ None)

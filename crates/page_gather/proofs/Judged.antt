@@ -505,7 +505,7 @@ module _ (p : NumberedPages) (scene : Scene) (owner : Tty) (rs : List PageRefere
 
   -- nothing is added
   stopped : (answer : Added) (makings : Makings) → answer ≡ answered after scene (most_framed p scene) owner r → (answer ≡ Went → ⊥) → Judges p scene owner rs cs r answer makings homes
-  stopped answer makings is none = record { is = is; gathers = λ h. absurd (none h); leaves = λ h. absurd (none h) }
+  stopped answer makings is none = record { is = is; gathers = λ h. absurd (none h); leaves = λ h. absurd (none h); near = λ h. absurd (none h) }
 
   pub judges_absent : (home : Home) → WalkTold p after scene owner cs homes r.slot (way.Absent home) → Judges p scene owner rs cs r (Need (need.Page home)) Nothing homes
   judges_absent home told = stopped (Need (need.Page home)) Nothing (sym (answered_away after scene (most_framed p scene) owner r home.0 (absent_told p after scene owner cs homes r.slot home told))) (λ h. cc h)
@@ -527,6 +527,7 @@ module _ (p : NumberedPages) (scene : Scene) (owner : Tty) (rs : List PageRefere
       is = same ∙ sym (step_answer p after scene owner rs cs (changes_with cs makings) homes homes' r k refl j.near step);
       gathers = λ h. (step_gathered p after scene owner rs cs (changes_with cs makings) homes homes' r k refl j.near step (sym same ∙ h)).0;
       leaves = λ h. (step_gathered p after scene owner rs cs (changes_with cs makings) homes homes' r k refl j.near step (sym same ∙ h)).1;
+      near = λ h. (step_gathered p after scene owner rs cs (changes_with cs makings) homes homes' r k refl j.near step (sym same ∙ h)).2;
     }
       where
         step : GoesOn p after scene owner r cs (changes_with cs makings) homes'
@@ -537,7 +538,8 @@ module _ (p : NumberedPages) (scene : Scene) (owner : Tty) (rs : List PageRefere
 
   -- where nothing is to be made so far, and the page is ready
   pub ready_adds : cs ≡ [] → Ready ≡ touch_of p scene (in_map r.slot) r.kind owner → AreGathered p scene owner (rs ++ r ∷ []) cs homes × (Went ≡ answered after scene (most_framed p scene) owner r) × (referred_to after owner r ≡ granted (after_all p owner (rs ++ r ∷ [])))
-  ready_adds none touched = (added.0, sym (step_answer p after scene owner rs cs cs homes homes r k refl near.maps step ∙ went), added.1)
+      × ((s : Slot) → IsNear after scene s → IsNear (after_all p owner (rs ++ r ∷ [])) scene s)
+  ready_adds none touched = (added.0, sym (step_answer p after scene owner rs cs cs homes homes r k refl near.maps step ∙ went), added.1, added.2)
     where
       still : after ≡ p
       still = k.changed.still none
@@ -554,7 +556,7 @@ module _ (p : NumberedPages) (scene : Scene) (owner : Tty) (rs : List PageRefere
       went : concluded (room_for (live p) p.limit scene.free_frames homes) (page_away after scene (in_map r.slot)) ≡ Went
       went = ap (λ x. concluded x (page_away after scene (in_map r.slot))) (room_still p scene owner rs cs homes k) ∙ ap (λ o. page_or o Went) near.page
 
-      added : AreGathered p scene owner (rs ++ r ∷ []) cs homes × (referred_to after owner r ≡ granted (after_all p owner (rs ++ r ∷ [])))
+      added : AreGathered p scene owner (rs ++ r ∷ []) cs homes × (referred_to after owner r ≡ granted (after_all p owner (rs ++ r ∷ []))) × ((s : Slot) → IsNear after scene s → IsNear (after_all p owner (rs ++ r ∷ [])) scene s)
       added = step_gathered p after scene owner rs cs cs homes homes r k refl near.maps step went
 
 -- so is a reference added that finds its page ready
@@ -562,7 +564,7 @@ pub ready_told : (p : NumberedPages) (scene : Scene) (g : Gathering) → Gathers
     → Adds p scene g (record { owner = g.owner; references = g.references ++ r ∷ []; changes = g.changes; homes = homes }) r Went
 ready_told p scene g k r none touched homes same =
     let a = ready_adds p scene g.owner g.references g.changes g.homes r k none touched in
-    record { gathers = subst (λ n. AreGathered p scene g.owner (g.references ++ r ∷ []) g.changes n) (sym same) a.0; is = a.1; leaves = λ h. a.2 }
+    record { gathers = subst (λ n. AreGathered p scene g.owner (g.references ++ r ∷ []) g.changes n) (sym same) a.0; is = a.1; leaves = λ h. a.2; near = λ h. a.3 }
 
 pub no_changes : (cs : List Change) → length cs ≡ 0 → cs ≡ []
 no_changes [] h = refl

@@ -167,6 +167,7 @@ pub record Judges (p : NumberedPages) (scene : Scene) (owner : Tty) (rs : List P
   pub is : answer ≡ answered (after_all p owner rs) scene (most_framed p scene) owner r
   pub gathers : answer ≡ Went → AreGathered p scene owner (rs ++ r ∷ []) (changes_with cs makings) homes
   pub leaves : answer ≡ Went → referred_to (after_all p owner rs) owner r ≡ granted (after_all p owner (rs ++ r ∷ []))
+  pub near : answer ≡ Went → (s : Slot) → IsNear (after_all p owner rs) scene s → IsNear (after_all p owner (rs ++ r ∷ [])) scene s
 
 -- A GATHER: the owner of what is made, the references in order, the entries that they will change, and the homes that these take
 pub record Gathering : Type 0 where
@@ -188,6 +189,7 @@ pub record Adds (p : NumberedPages) (scene : Scene) (old new : Gathering) (r : P
   pub gathers : Gathers p scene new
   pub is : result ≡ answered (left_of p old) scene (most_framed p scene) old.owner r
   pub leaves : result ≡ Went → referred_to (left_of p old) old.owner r ≡ granted (left_of p new)
+  pub near : result ≡ Went → (s : Slot) → IsNear (left_of p old) scene s → IsNear (left_of p new) scene s
 
 -- what holds of every gather: an owner owns what it makes, its changes are few, and its slots are pages of a space
 pub record IsKept (owner : Tty) (rs : List PageReference) (cs : List Change) (homes : ℕ) : Type 0 where
