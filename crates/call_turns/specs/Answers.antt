@@ -6,9 +6,7 @@ use Rattle.plain_model.specs.declared.fork.Answer.{Answer}
 use Rattle.plain_model.specs.declared.fork.Answer.TheVariants.{After, Wait, Halt, Refused, Trap, Need as Needs}
 use Rattle.plain_model.specs.declared.fork.Chars.{Chars}
 use Rattle.plain_model.specs.declared.map.Need.{Need}
-use Rattle.plain_model.specs.Pages.{Scene}
 use Rattle.plain_model.specs.Calls.{parts_behind}
-use Rattle.call_turns.specs.Telling.{IsReason}
 use Rattle.call_turns.specs.Turns.{IsRegs}
 
 -- nothing is printed
@@ -28,16 +26,16 @@ pub record Went {C V : Type 0} (changed : C → V → V) (old new : V) (answer :
   pub answered : answer ≡ answer_of e
   pub left : new ≡ parts_behind changed old e
 
--- a turn needs something first, and leaves all as it was
-pub record Waits {V : Type 0} (scene : Scene) (old new : V) (answer : Answer) : Type 0 where
+-- a turn needs something first, for a reason, and leaves all as it was
+pub record Waits {V : Type 0} (IsReason : Need → Type 0) (old new : V) (answer : Answer) : Type 0 where
   pub need : Need
   pub answered : answer ≡ Needs need
-  pub reason : IsReason scene need
+  pub reason : IsReason need
   pub left : new ≡ old
 
 -- a turn of a call that ends so over the plain pages: it went there, or needs something first
-abbrev pub IsTurn : {C V : Type 0} → Scene → (C → V → V) → V → V → Answer → End C → Type 0
-IsTurn scene changed old new answer e = Went changed old new answer e ⊎ Waits scene old new answer
+abbrev pub IsTurn : {C V : Type 0} → (Need → Type 0) → (C → V → V) → V → V → Answer → End C → Type 0
+IsTurn IsReason changed old new answer e = Went changed old new answer e ⊎ Waits IsReason old new answer
 
 -- an answer that needs nothing first
 abbrev pub IsDone : Answer → Type 0

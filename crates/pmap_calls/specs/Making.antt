@@ -24,7 +24,7 @@ Makes means old new result changes =
 -- a turn of a call on maps that ends so over the plain pages, over each drum that fits: it went there, or needs something first
 abbrev pub Turns : {P : Type 0} → PagesMeaning P → P → P → Answer → (NumberedPages → End MapChange) → Type 0
 Turns means old new answer ends =
-    (d : DrumWords) → means.fits old d → means.fits new d × IsTurn (means.scene old) map_changed (means.plain old d) (means.plain new d) answer (ends (means.plain old d))
+    (d : DrumWords) → means.fits old d → means.fits new d × IsTurn (IsReason (means.scene old)) map_changed (means.plain old d) (means.plain new d) answer (ends (means.plain old d))
 
 -- a change of entries makes no page and no fork
 pub record MakesNone {P : Type 0} (means : PagesMeaning P) (old new : P) : Type 0 where
