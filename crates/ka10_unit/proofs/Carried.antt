@@ -1,43 +1,36 @@
 -- A unit carried out: what touches answer on its way, and what is left to make.
-use Rattle.std.proofs.Common.{◌≡◌, ℕ, ◌%◌, ◌+◌, ◌≤◌, Bool, true, false, List, [], Option, None, Some, refl, sym, ◌∙◌, ap, arith}
+use Rattle.std.proofs.Common.{◌≡◌, ℕ, ◌%◌, ◌+◌, ◌≤◌, Bool, List, [], Option, None, Some, sym, ◌∙◌, ap, subst, refl, arith}
 use Rattle.std.specs.Prelude.{slice_get, slice_set}
 use Rattle.std.specs.Option.{option_and_then, option_map_or}
-use Rattle.std.specs.Ordering.{nat_cmp}
 use Rattle.std.specs.FinMap as map
 use Rattle.outside.specs.declared.TheConstants.{PAGE_WORDS}
 use Rattle.plain_model.specs.declared.names.Tty.{Tty}
 use Rattle.plain_model.specs.declared.names.ForkName.{ForkName}
 use Rattle.plain_model.specs.declared.names.PageName.{PageName}
+use Rattle.plain_model.specs.declared.names.Slot.{Slot}
 use Rattle.plain_model.specs.declared.names.Kind.{Kind}
 use Rattle.plain_model.specs.declared.names.Kind.TheVariants.{Write}
-use Rattle.plain_model.specs.declared.map.Touch.{Touch}
 use Rattle.plain_model.specs.declared.map.Touch.TheVariants.{Ready}
 use Rattle.plain_model.specs.declared.unit.Put.{Put}
 use Rattle.plain_model.specs.State.{NumberedPages}
-use Rattle.plain_model.specs.References.{Spot, Making, Referred, granted, in_map, makings, next_making, page_at, reference, slot_at, stored, words_of}
-use Rattle.plain_model.specs.Pages.{PagesMeaning, Scene, StaysPut, absent_or, announced, is_in_core, map_away, page_away, touch_of, touched_by}
+use Rattle.plain_model.specs.References.{Spot, Making, in_map, makings, next_making, page_at, reference, slot_at, stored, words_of}
+use Rattle.plain_model.specs.Pages.{PagesMeaning, Scene, StaysPut, absent_or, announced, touch_of, touched_by}
 use Rattle.plain_model.specs.Steps.{put_into}
 use Rattle.plain_model.proofs.Touches.{reference_stays}
-use Rattle.ka10_unit.specs.Carrying.{Grows}
-use Rattle.ka10_unit.specs.Gathers.{Serves}
+use Rattle.page_gather.specs.Gathering.{IsNear}
+use Rattle.page_gather.proofs.Settling.{near_scene}
+use Rattle.ka10_unit.specs.Carrying.{Grows, StaysAway}
+use Rattle.ka10_unit.specs.Gathers.{Framed, Serves}
 use Rattle.ka10_unit.specs.Taking.{CanPut, IsOpenAt}
 
--- what is found in frames is found as it is there
-core_late : (x : Option ℕ) (t u : Touch) → u ≡ absent_or x t → is_in_core u ≡ true → u ≡ t
-core_late None t u h c = h
-core_late (Some home) t u h c = absurd (let no : false ≡ true = sym (ap is_in_core h) ∙ c in cc no)
-
-module _ (p : NumberedPages) (scene : Scene) (at : Spot ℕ) (kind : Kind) (owner : Tty) (u : Touch) (touched : u ≡ touch_of p scene at kind owner) (core : is_in_core u ≡ true) where
-  -- a granted reference announces its next making
-  announces : (q : NumberedPages) → reference p at kind owner ≡ granted q → u ≡ announced p scene (next_making p at kind)
-  unfolding touch_of
-  announces q is =
-      let late : u ≡ touched_by p scene at kind (reference p at kind owner) = core_late (map_away p scene at) (touched_by p scene at kind (reference p at kind owner)) u touched core in
-      core_late (page_away p scene at) (announced p scene (next_making p at kind)) u (late ∙ ap (λ (r : Referred nat_cmp). touched_by p scene at kind r) is) core
-
-  pub ready_found : makings p at kind ≡ Some [] → u ≡ Ready
-  ready_found h =
-      announces p (reference_stays p owner at kind h) ∙ ap (announced p scene) (ap (λ (x : Option (List (Making ℕ))). option_and_then (λ ms. slice_get ms 0) x) h)
+-- a page that is in a frame, and of which nothing more is to be made, is found ready
+pub ready_here : (p : NumberedPages) (scene : Scene) (s : Slot) (kind : Kind) (owner : Tty) → IsNear p scene s → makings p (in_map s) kind ≡ Some [] → touch_of p scene (in_map s) kind owner ≡ Ready
+unfolding touch_of
+ready_here p scene s kind owner near none =
+    ap (λ (o : Option ℕ). absent_or o (touched_by p scene (in_map s) kind (reference p (in_map s) kind owner))) near.maps
+    ∙ ap (touched_by p scene (in_map s) kind) (reference_stays p owner (in_map s) kind none)
+    ∙ ap (λ (o : Option ℕ). absent_or o (announced p scene (next_making p (in_map s) kind))) near.page
+    ∙ ap (λ (x : Option (List (Making ℕ))). announced p scene (option_and_then (λ ms. slice_get ms 0) x)) none
 
 -- ---- words stored
 
@@ -50,14 +43,44 @@ makings_stored q at other offset word kind = by (page_at q at)
     by None = refl
     by (Some n) = refl
 
-open_still : (f : ForkName) (q : NumberedPages) (put : Option Put) (a : ℕ) → IsOpenAt f q a → IsOpenAt f (put_into f q put) a
-open_still f q None a h = h
-open_still f q (Some put) a h = makings_stored q (in_map (slot_at f put.at)) (in_map (slot_at f a)) (put.at % PAGE_WORDS) put.word Write ∙ h
+-- nor does it take a page from its frame
+near_stored : (q : NumberedPages) (scene : Scene) (at : Spot ℕ) (offset word : ℕ) (s : Slot) → IsNear q scene s → IsNear (stored q at offset word) scene s
+unfolding page_at
+near_stored q scene at offset word s near = by (page_at q at)
+  where
+    by : (n : Option PageName) → IsNear (option_map_or (λ m. record q { objects = map.insert q.objects m (slice_set (words_of q m) offset word) }) n q) scene s
+    by None = near
+    by (Some n) = record { maps = near.maps; page = near.page }
+
+pub open_still : (f : ForkName) (q : Framed) (put : Option Put) (a : ℕ) → IsOpenAt f q a → IsOpenAt f (record q { pages = put_into f q.pages put }) a
+open_still f q None a h = record { makes = h.makes; near = h.near }
+open_still f q (Some put) a h = record {
+  makes = makings_stored q.pages (in_map (slot_at f put.at)) (in_map (slot_at f a)) (put.at % PAGE_WORDS) put.word Write ∙ h.makes;
+  near = near_stored q.pages q.scene (in_map (slot_at f put.at)) (put.at % PAGE_WORDS) put.word (slot_at f a) h.near;
+}
 
 -- another word can be stored still
-pub put_still : (f : ForkName) (q : NumberedPages) (first second : Option Put) → CanPut f q second → CanPut f (put_into f q first) second
+pub put_still : (f : ForkName) (q : Framed) (first second : Option Put) → CanPut f q second → CanPut f (record q { pages = put_into f q.pages first }) second
 put_still f q first None h = tt
 put_still f q first (Some put) h = open_still f q first put.at h
+
+-- ---- pages of which the same is in frames
+
+pub open_framed : (f : ForkName) (p q : Framed) → q.pages ≡ p.pages → StaysAway p.scene q.scene → (a : ℕ) → IsOpenAt f p a → IsOpenAt f q a
+open_framed f p q same away a h = record {
+  makes = ap (λ (x : NumberedPages). makings x (in_map (slot_at f a)) Write) same ∙ h.makes;
+  near = near_scene p.scene q.scene away.maps away.pages q.pages (slot_at f a) (subst (λ (x : NumberedPages). IsNear x p.scene (slot_at f a)) (sym same) h.near);
+}
+
+pub put_framed : (f : ForkName) (p q : Framed) → q.pages ≡ p.pages → StaysAway p.scene q.scene → (put : Option Put) → CanPut f p put → CanPut f q put
+put_framed f p q same away None h = tt
+put_framed f p q same away (Some put) h = open_framed f p q same away put.at h
+
+pub away_on : (old mid new : Scene) → StaysAway old mid → StaysAway mid new → StaysAway old new
+away_on old mid new g h = record { maps = h.maps ∙ g.maps; pages = h.pages ∙ g.pages }
+
+pub away_same : (old new : Scene) → new ≡ old → StaysAway old new
+away_same old new same = record { maps = ap (λ (x : Scene). x.map_away) same; pages = ap (λ (x : Scene). x.page_away) same }
 
 -- ---- pages made by several calls
 
@@ -86,4 +109,4 @@ module _ {P : Type 0} (means : PagesMeaning P) (owner : Tty) where
 
 -- pages that serve a fork serve it still
 pub serves_still : {P : Type 0} (means : PagesMeaning P) (f : ForkName) (old new : P) → means.lives new ≡ means.lives old → Serves means old f → Serves means new f
-serves_still means f old new same s = record { flat = s.flat; lives = ap (λ (lives : ForkName → Bool). lives f) same ∙ s.lives; terminal = s.terminal }
+serves_still means f old new same s = record { lives = ap (λ (lives : ForkName → Bool). lives f) same ∙ s.lives; terminal = s.terminal }

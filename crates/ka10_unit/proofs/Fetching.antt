@@ -1,19 +1,17 @@
 -- Fetches from a page that was found, and what a unit leaves of it.
-use Rattle.std.proofs.Common.{◌≡◌, ℕ, ◌+◌, ◌*◌, ◌/◌, ◌%◌, ◌<◌, ◌≤◌, true, false, cond, List, Option, None, Some, refl, sym, ◌∙◌, ap, arith}
+use Rattle.std.proofs.Common.{◌≡◌, ℕ, ◌+◌, ◌/◌, ◌%◌, true, false, cond, List, Option, None, Some, refl, sym, ◌∙◌, ap, arith}
 use Rattle.std.specs.Ordering.{nat_cmp}
 use Rattle.outside.specs.declared.TheConstants.{PAGE_WORDS}
 use Rattle.plain_model.specs.declared.names.ForkName.{ForkName}
 use Rattle.plain_model.specs.declared.names.Kind.{Kind}
 use Rattle.plain_model.specs.declared.names.Kind.TheVariants.{Execute, Write}
-use Rattle.plain_model.specs.declared.names.TheConstants.{ACCUMULATORS}
 use Rattle.plain_model.specs.declared.fork.Regs.{Regs}
 use Rattle.plain_model.specs.declared.map.Found.{Found}
 use Rattle.plain_model.specs.declared.map.SpaceHandle.{SpaceHandle}
 use Rattle.plain_model.specs.declared.unit.Put.{Put}
 use Rattle.plain_model.specs.declared.unit.TheConstants.{MOST_REFERENCES}
 use Rattle.plain_model.specs.State.{NumberedPages}
-use Rattle.plain_model.specs.Outcome.{DrumWords}
-use Rattle.plain_model.specs.Pages.{PagesMeaning, StaysPut, IsReady}
+use Rattle.plain_model.specs.Pages.{PagesMeaning, StaysPut}
 use Rattle.plain_model.specs.References.{Making, in_map, slot_at}
 use Rattle.plain_model.specs.Steps.{Steps, refers, widens, keeps, ends, traps, calls, is_accumulator, put_into}
 use Rattle.plain_model.specs.Addressing.{opcode, ac_field}
@@ -25,7 +23,6 @@ use Rattle.ka10_unit.specs.Glide.{makes_none, is_ready, word_of, glide, Takes, A
 use Rattle.ka10_unit.specs.InPlace.{Addressee}
 use Rattle.ka10_unit.specs.Fetches.{Has, IsThere, CanExecute}
 use Rattle.ka10_unit.proofs.Carried.{makings_stored}
-use Rattle.ka10_unit.proofs.Finishing.{ready_there}
 use Rattle.ka10_unit.proofs.Gliding.{through, once_glides}
 use Rattle.ka10_unit.proofs.Units.{unit_glides}
 

@@ -8,7 +8,8 @@ use Rattle.plain_model.specs.Steps.{refers, run}
 use Rattle.plain_model.specs.Addressing.{address, address_within, indexed, is_indirect, last_taken}
 use Rattle.ka10_unit.specs.declared.addresses.Address.{Address}
 use Rattle.ka10_unit.specs.declared.taken.Taken.{Taken}
-use Rattle.ka10_unit.specs.declared.taken.Trap.{Trap}
+use Rattle.ka10_unit.specs.declared.taken.Stop.{Stop}
+use Rattle.ka10_unit.specs.declared.taken.Stop.TheVariants.{Trap}
 use Rattle.ka10_unit.specs.Gathers.{Framed}
 use Rattle.ka10_unit.specs.Taking.{Follows, Stands}
 use Rattle.ka10_unit.specs.Planning.{Leads, reached, reached_within}
@@ -31,7 +32,7 @@ module _ (f : ForkName) (p : Framed) (ac : List ℕ) where
         record { stands = here.stands; runs = λ next. before.runs next ∙ rw (one_more 17 i less, ind) (here.runs (λ x. reached_within (17 - (i + 1)) ac x next)) }
 
     -- it stops the unit
-    pub leads_stop : (new : Taken) (stop : Trap) → i < 17 → is_indirect w ≡ true → Leads f p ac old mid (reached ac first) (reached_within (17 - i) ac w) → Follows f p ac mid new (refers (indexed ac w) Read) (Err stop)
+    pub leads_stop : (new : Taken) (stop : Stop) → i < 17 → is_indirect w ≡ true → Leads f p ac old mid (reached ac first) (reached_within (17 - i) ac w) → Follows f p ac mid new (refers (indexed ac w) Read) (Err stop)
         → Follows {A = Address} f p ac old new (reached ac first) (Err stop)
     unfolding address_within
     leads_stop new stop less ind before here =
@@ -45,7 +46,7 @@ module _ (f : ForkName) (p : Framed) (ac : List ℕ) where
         record { stands = before.stands; runs = λ next. before.runs next ∙ rw (one_more 17 i less, direct, ← at, ← last) refl }
 
     -- there were too many words
-    pub leads_out : 17 ≤ i → Leads f p ac old mid (reached ac first) (reached_within (17 - i) ac w) → Follows {A = Address} f p ac old mid (reached ac first) (Err (record { channel = ILLEGAL_INSTRUCTION }))
+    pub leads_out : 17 ≤ i → Leads f p ac old mid (reached ac first) (reached_within (17 - i) ac w) → Follows {A = Address} f p ac old mid (reached ac first) (Err (Trap ILLEGAL_INSTRUCTION))
     unfolding address_within run
     leads_out out before =
         let none : 17 - i ≡ 0 = omega arith in

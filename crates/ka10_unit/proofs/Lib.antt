@@ -8,6 +8,7 @@ pub mod IndirectWords
 pub mod Units
 pub mod Fetching
 pub mod BurstLemmas
+pub mod Plainly
 pub mod Adding
 pub mod Referring
 pub mod Seeing

@@ -13,7 +13,7 @@ use Rattle.ka10_unit.specs.declared.operands.Destination.{Destination}
 use Rattle.ka10_unit.specs.declared.operands.Destination.TheVariants.{Nowhere, Back}
 use Rattle.ka10_unit.specs.declared.ends.Ending.{Ending}
 use Rattle.ka10_unit.specs.declared.taken.Taken.{Taken}
-use Rattle.ka10_unit.specs.declared.taken.Trap.{Trap}
+use Rattle.ka10_unit.specs.declared.taken.Stop.{Stop}
 use Rattle.ka10_unit.specs.Commits.{Leaves, stored_word, store_at}
 use Rattle.ka10_unit.specs.Gathers.{Framed}
 use Rattle.ka10_unit.specs.Taking.{Follows}
@@ -22,27 +22,27 @@ use Rattle.ka10_unit.proofs.FinishedBy.{only_blocks}
 
 module _ (f : ForkName) (p : Framed) (ac : List ℕ) where
   -- a part that stops the unit, and one behind which it goes on
-  pub then_stops : {A : Type 0} (t new : Taken) (part : (A → Steps) → Steps) (rest : A → Steps) (stop : Trap) → Follows f p ac t new part (Err stop) → Ends f p ac t new (part rest) (Err stop)
+  pub then_stops : {A : Type 0} (t new : Taken) (part : (A → Steps) → Steps) (rest : A → Steps) (stop : Stop) → Follows f p ac t new part (Err stop) → Ends f p ac t new (part rest) (Err stop)
   then_stops t new part rest stop h = record { stands = h.stands; put = tt; runs = h.runs rest }
 
-  pub then_ends : {A : Type 0} (t mid new : Taken) (part : (A → Steps) → Steps) (rest : A → Steps) (x : A) (result : Result Ending Trap) → Follows f p ac t mid part (Ok x) → Ends f p ac mid new (rest x) result → Ends f p ac t new (part rest) result
+  pub then_ends : {A : Type 0} (t mid new : Taken) (part : (A → Steps) → Steps) (rest : A → Steps) (x : A) (result : Result Ending Stop) → Follows f p ac t mid part (Ok x) → Ends f p ac mid new (rest x) result → Ends f p ac t new (part rest) result
   then_ends t mid new part rest x result h k = record { stands = k.stands; put = k.put; runs = h.runs rest ∙ k.runs }
 
   -- a byte instruction behind its pointer
-  pub pointer_stops : (t new : Taken) (code n e : ℕ) (regs : Regs) (stop : Trap) → Follows f p ac t new (refers e Read) (Err stop) → Ends f p ac t new (does_pointer code regs n e) (Err stop)
+  pub pointer_stops : (t new : Taken) (code n e : ℕ) (regs : Regs) (stop : Stop) → Follows f p ac t new (refers e Read) (Err stop) → Ends f p ac t new (does_pointer code regs n e) (Err stop)
   unfolding does_pointer
   pointer_stops t new code n e regs stop h = then_stops t new (refers e Read) (does_byte code regs n e) stop h
 
-  pub pointer_ends : (t mid new : Taken) (code n e v : ℕ) (regs : Regs) (rest : Steps) (result : Result Ending Trap) → Follows f p ac t mid (refers e Read) (Ok v) → does_byte code regs n e v ≡ rest → Ends f p ac mid new rest result → Ends f p ac t new (does_pointer code regs n e) result
+  pub pointer_ends : (t mid new : Taken) (code n e v : ℕ) (regs : Regs) (rest : Steps) (result : Result Ending Stop) → Follows f p ac t mid (refers e Read) (Ok v) → does_byte code regs n e v ≡ rest → Ends f p ac mid new rest result → Ends f p ac t new (does_pointer code regs n e) result
   unfolding does_pointer
   pointer_ends t mid new code n e v regs rest result h is k = then_ends t mid new (refers e Read) (does_byte code regs n e) v result h (rw is k)
 
   -- an instruction with its operand
-  pub does_stops : (t new : Taken) (row : TableRow) (op n e last : ℕ) (regs : Regs) (at : Option ℕ) (stop : Trap) → at ≡ taken_of row regs n e → Follows f p ac t new (takes at e) (Err stop) → Ends f p ac t new (does row op regs n e last) (Err stop)
+  pub does_stops : (t new : Taken) (row : TableRow) (op n e last : ℕ) (regs : Regs) (at : Option ℕ) (stop : Stop) → at ≡ taken_of row regs n e → Follows f p ac t new (takes at e) (Err stop) → Ends f p ac t new (does row op regs n e last) (Err stop)
   unfolding does
   does_stops t new row op n e last regs at stop is h = rw (← is) (then_stops t new (takes at e) (λ m. finishes regs n (deed_of row op regs n e last m)) stop h)
 
-  pub does_ends : (t mid new : Taken) (row : TableRow) (op n e last m : ℕ) (regs : Regs) (at : Option ℕ) (result : Result Ending Trap) → at ≡ taken_of row regs n e → Follows f p ac t mid (takes at e) (Ok m)
+  pub does_ends : (t mid new : Taken) (row : TableRow) (op n e last m : ℕ) (regs : Regs) (at : Option ℕ) (result : Result Ending Stop) → at ≡ taken_of row regs n e → Follows f p ac t mid (takes at e) (Ok m)
       → Ends f p ac mid new (finishes regs n (deed_of row op regs n e last m)) result → Ends f p ac t new (does row op regs n e last) result
   unfolding does
   does_ends t mid new row op n e last m regs at result is h k = rw (← is) (then_ends t mid new (takes at e) (λ m. finishes regs n (deed_of row op regs n e last m)) m result h k)

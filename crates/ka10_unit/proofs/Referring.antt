@@ -6,14 +6,14 @@ use Rattle.std.specs.Ordering.{nat_cmp}
 use Rattle.plain_model.specs.declared.names.ForkName.{ForkName}
 use Rattle.plain_model.specs.declared.names.Kind.{Kind}
 use Rattle.plain_model.specs.declared.names.Kind.TheVariants.{Write}
-use Rattle.plain_model.specs.State.{NumberedPages}
 use Rattle.plain_model.specs.Steps.{Progress, refers, referred, run, widened, word_taken}
 use Rattle.plain_model.specs.declared.channel.TheConstants.{ILLEGAL_INSTRUCTION}
 use Rattle.plain_model.specs.declared.unit.Put.{Put}
 use Rattle.ka10_unit.specs.declared.taken.Taken.{Taken}
-use Rattle.ka10_unit.specs.declared.taken.Trap.{Trap}
+use Rattle.ka10_unit.specs.declared.taken.Stop.{Stop}
+use Rattle.ka10_unit.specs.declared.taken.Stop.TheVariants.{Trap}
 use Rattle.ka10_unit.specs.Gathers.{Framed}
-use Rattle.ka10_unit.specs.Taking.{AsksAt, CanPut, Follows, IsOpenAt, Stands, pages_so_far, progress, widened_by}
+use Rattle.ka10_unit.specs.Taking.{AsksAt, CanPut, Follows, Stands, StaysOpen, pages_so_far, progress, so_far, widened_by}
 
 at_least : (m n : ℕ) → m ≤ n → nat_le m n ≡ true
 at_least m n h = grind (arith, nat_tests)
@@ -22,21 +22,21 @@ at_most : (m n : ℕ) → n < m → nat_le m n ≡ false
 at_most m n h = grind (arith, nat_tests)
 
 -- a word that is kept can be stored still
-put_still : (f : ForkName) (q q' : NumberedPages) (kept : Option Put) → ((a : ℕ) → IsOpenAt f q a → IsOpenAt f q' a) → CanPut f q kept → CanPut f q' kept
+put_still : (f : ForkName) (q q' : Framed) (kept : Option Put) → StaysOpen f q q' → CanPut f q kept → CanPut f q' kept
 put_still f q q' None still h = tt
 put_still f q q' (Some put) still h = still put.at h
 
 module _ (f : ForkName) (p : Framed) (ac : List ℕ) where
-  stands_still : (t new : Taken) (at : ℕ) (kind : Kind) (result : Result ⊤ Trap) → Stands f p t → AsksAt f p t.gather new.gather at kind result → new.kept ≡ t.kept → Stands f p new
-  stands_still t new at kind result s asked kept = record { gathers = asked.gathers; kept = rw kept (put_still f (pages_so_far p t) (pages_so_far p new) t.kept asked.still s.kept) }
+  pub stands_still : (t new : Taken) (at : ℕ) (kind : Kind) (result : Result ⊤ Stop) → Stands f p t → AsksAt f p t.gather new.gather at kind result → new.kept ≡ t.kept → Stands f p new
+  stands_still t new at kind result s asked kept = record { gathers = asked.gathers; kept = rw kept (put_still f (so_far p t) (so_far p new) t.kept asked.still s.kept) }
 
   -- the 17th
-  pub refer_full : (t : Taken) (at : ℕ) (kind : Kind) → Stands f p t → 16 ≤ length t.refs.items → Follows f p ac t t (refers at kind) (Err (record { channel = ILLEGAL_INSTRUCTION }))
+  pub refer_full : (t : Taken) (at : ℕ) (kind : Kind) → Stands f p t → 16 ≤ length t.refs.items → Follows f p ac t t (refers at kind) (Err (Trap ILLEGAL_INSTRUCTION))
   unfolding run
   refer_full t at kind s most = record { stands = s; runs = λ next. rw (at_least 16 (length t.refs.items) most) refl }
 
   -- a reference that stops the unit
-  pub refer_stops : (t new : Taken) (at : ℕ) (kind : Kind) (stop : Trap) → Stands f p t → length t.refs.items < 16 → AsksAt f p t.gather new.gather at kind (Err stop) → new.kept ≡ t.kept → Follows f p ac t new (refers at kind) (Err stop)
+  pub refer_stops : (t new : Taken) (at : ℕ) (kind : Kind) (stop : Stop) → Stands f p t → length t.refs.items < 16 → AsksAt f p t.gather new.gather at kind (Err stop) → new.kept ≡ t.kept → Follows f p ac t new (refers at kind) (Err stop)
   unfolding run
   refer_stops t new at kind stop s room asked kept = record { stands = stands_still t new at kind (Err stop) s asked kept; runs = λ next. rw (at_most 16 (length t.refs.items) room, asked.is) refl }
 
@@ -49,7 +49,7 @@ module _ (f : ForkName) (p : Framed) (ac : List ℕ) where
       let there : w ≡ word_taken f (referred (progress p ac t) at kind (pages_so_far p new)) at = word ∙ ap (λ (y : Progress nat_cmp). word_taken f y at) now in
       record { stands = stands_still t new at kind (Ok x) s asked kept; runs = λ next. rw (at_most 16 (length t.refs.items) room, asked.is, there, now) refl }
 
-  pub widen_stops : (t new : Taken) (at : ℕ) (stop : Trap) → Stands f p t → AsksAt f p t.gather new.gather at Write (Err stop) → new.kept ≡ t.kept → Follows f p ac t new (widened_by at) (Err stop)
+  pub widen_stops : (t new : Taken) (at : ℕ) (stop : Stop) → Stands f p t → AsksAt f p t.gather new.gather at Write (Err stop) → new.kept ≡ t.kept → Follows f p ac t new (widened_by at) (Err stop)
   unfolding run
   widen_stops t new at stop s asked kept = record { stands = stands_still t new at Write (Err stop) s asked kept; runs = λ next. rw asked.is refl }
 

@@ -9,7 +9,7 @@ use Rattle.plain_model.specs.declared.channel.TheConstants.{ILLEGAL_INSTRUCTION}
 use Rattle.plain_model.specs.declared.names.ForkName.{ForkName}
 use Rattle.plain_model.specs.declared.names.Kind.TheVariants.{Execute, Write}
 use Rattle.plain_model.specs.declared.fork.Regs.{Regs}
-use Rattle.plain_model.specs.Steps.{Steps, refers, keeps, traps, calls, run, begun}
+use Rattle.plain_model.specs.Steps.{Steps, refers, keeps, stopped, traps, calls, run, begun}
 use Rattle.plain_model.specs.Addressing.{opcode, ac_field}
 use Rattle.plain_model.specs.Instructions.{execute, executes, does, instruction, local_word, LOCAL_CALL, LOCAL_HANDLER}
 use Rattle.ka10_unit.specs.declared.addresses.Address.{Address}
@@ -20,11 +20,13 @@ use Rattle.ka10_unit.specs.declared.plans.Step.TheVariants as step
 use Rattle.ka10_unit.specs.declared.plans.Planned.{Planned}
 use Rattle.ka10_unit.specs.declared.plans.Planned.TheVariants as planned
 use Rattle.ka10_unit.specs.declared.taken.Taken.{Taken}
-use Rattle.ka10_unit.specs.declared.taken.Trap.{Trap}
+use Rattle.ka10_unit.specs.declared.taken.Stop.{Stop}
+use Rattle.ka10_unit.specs.declared.taken.Stop.TheVariants.{Trap, Need}
 use Rattle.page_gather.specs.Gathering.{Gathers, after_all}
 use Rattle.ka10_unit.specs.Gathers.{Framed}
-use Rattle.ka10_unit.specs.Taking.{CanWrite, Follows, Stands, progress}
-use Rattle.ka10_unit.specs.Planning.{Concludes, Ends, Plans, StepsOn, as_step, calls_local, does_at, is_illegal, reached}
+use Rattle.ka10_unit.specs.Taking.{CanWrite, Follows, Stands, progress, so_far, stop_of}
+use Rattle.ka10_unit.specs.Planning.{CanDo, Concludes, Ends, Plans, StepsOn, as_step, calls_local, does_at, is_illegal, planned_as, reached, stopped_by, unit_over}
+use Rattle.ka10_unit.proofs.Plainly.{plain_of}
 
 -- an instruction is illegal, or takes its address first
 pub executes_is : (family : Family) (row : TableRow) (is_local : Bool) (regs : Regs) (w : ℕ) (next : Bool → ℕ → Steps)
@@ -96,20 +98,29 @@ does_ordinary Boolean m x l b row is_local regs w a next = refl
 does_ordinary Half m x l b row is_local regs w a next = refl
 does_ordinary Test m x l b row is_local regs w a next = refl
 
+-- a plan that stops stores nothing, and is as it stops
+stopped_puts : (f : ForkName) (p : Framed) (e : Stop) → CanDo f p (stopped_by e)
+stopped_puts f p (Trap channel) = tt
+stopped_puts f p (Need n) = tt
+
+stopped_as : (p : Framed) (ac : List ℕ) (t : Taken) (e : Stop) → stopped (stop_of e) ≡ planned_as p ac t (stopped_by e)
+stopped_as p ac t (Trap channel) = refl
+stopped_as p ac t (Need n) = refl
+
 one_less : (n : ℕ) → 0 < n → n ≡ suc (n - 1)
 one_less n h = omega arith
 
 module _ (f : ForkName) (p : Framed) (ac : List ℕ) where
   -- ---- one word
 
-  pub steps_stop : {A : Type 0} (t new : Taken) (part : (A → Steps) → Steps) (rest : (Bool → ℕ → Steps) → A → Steps) (stop : Trap) → Follows f p ac t new part (Err stop) → StepsOn f p ac t new (λ next. part (rest next)) (Err stop)
+  pub steps_stop : {A : Type 0} (t new : Taken) (part : (A → Steps) → Steps) (rest : (Bool → ℕ → Steps) → A → Steps) (stop : Stop) → Follows f p ac t new part (Err stop) → StepsOn f p ac t new (λ next. part (rest next)) (Err stop)
   steps_stop t new part rest stop h = record { stands = h.stands; put = tt; runs = λ next. h.runs (rest next) }
 
-  pub steps_at : {A : Type 0} (t mid new : Taken) (part : (A → Steps) → Steps) (rest : (Bool → ℕ → Steps) → A → Steps) (x : A) (result : Result Step Trap) → Follows f p ac t mid part (Ok x) → StepsOn f p ac mid new (λ next. rest next x) result
+  pub steps_at : {A : Type 0} (t mid new : Taken) (part : (A → Steps) → Steps) (rest : (Bool → ℕ → Steps) → A → Steps) (x : A) (result : Result Step Stop) → Follows f p ac t mid part (Ok x) → StepsOn f p ac mid new (λ next. rest next x) result
       → StepsOn f p ac t new (λ next. part (rest next)) result
   steps_at t mid new part rest x result h k = record { stands = k.stands; put = k.put; runs = λ next. h.runs (rest next) ∙ k.runs next }
 
-  pub steps_ended : (t new : Taken) (left : Steps) (result : Result Ending Trap) → Ends f p ac t new left result → StepsOn f p ac t new (λ next. left) (as_step result)
+  pub steps_ended : (t new : Taken) (left : Steps) (result : Result Ending Stop) → Ends f p ac t new left result → StepsOn f p ac t new (λ next. left) (as_step result)
   steps_ended t new left (Ok x) h = record { stands = h.stands; put = h.put; runs = λ next. h.runs }
   steps_ended t new left (Err e) h = record { stands = h.stands; put = tt; runs = λ next. h.runs }
 
@@ -124,19 +135,19 @@ module _ (f : ForkName) (p : Framed) (ac : List ℕ) where
   pub local_stands : (t : Taken) (w v : ℕ) → Stands f p t → CanWrite {A = ℕ} f p t LOCAL_CALL (Ok v) → Stands f p (record t { kept = Some (record { at = LOCAL_CALL; word = w }) })
   local_stands t w v s may = record { gathers = s.gathers; kept = may refl }
 
-  pub local_goes : (t mid new : Taken) (w e v : ℕ) (result : Result Step Trap) → Follows f p ac t mid (refers LOCAL_CALL Write) (Ok v)
+  pub local_goes : (t mid new : Taken) (w e v : ℕ) (result : Result Step Stop) → Follows f p ac t mid (refers LOCAL_CALL Write) (Ok v)
       → StepsOn f p ac (record mid { kept = Some (record { at = LOCAL_CALL; word = local_word w e }) }) new (λ next. refers LOCAL_HANDLER Execute (next true)) result → StepsOn f p ac t new (calls_local w e) result
   unfolding run
   local_goes t mid new w e v result h k = record { stands = k.stands; put = k.put; runs = λ next. h.runs (λ x. keeps LOCAL_CALL (local_word w e) (refers LOCAL_HANDLER Execute (next true))) ∙ k.runs next }
 
   module _ (regs : Regs) (w : ℕ) (is_local : Bool) (row : TableRow) where
     -- an illegal word
-    pub refuses : (t : Taken) → Stands f p t → is_illegal row.family is_local (ac_field w) ≡ true → StepsOn f p ac t t (executes row.family row is_local regs w) (Err (record { channel = ILLEGAL_INSTRUCTION }))
+    pub refuses : (t : Taken) → Stands f p t → is_illegal row.family is_local (ac_field w) ≡ true → StepsOn f p ac t t (executes row.family row is_local regs w) (Err (Trap ILLEGAL_INSTRUCTION))
     unfolding run
     refuses t s is = record { stands = s; put = tt; runs = λ next. rw (executes_is row.family row is_local regs w next, is) refl }
 
     -- a word that takes its address
-    pub takes_address : (t new : Taken) (result : Result Step Trap) → is_illegal row.family is_local (ac_field w) ≡ false → StepsOn f p ac t new (λ next. reached regs.ac w (λ a. does_at row.family row is_local regs w a next)) result
+    pub takes_address : (t new : Taken) (result : Result Step Stop) → is_illegal row.family is_local (ac_field w) ≡ false → StepsOn f p ac t new (λ next. reached regs.ac w (λ a. does_at row.family row is_local regs w a next)) result
         → StepsOn f p ac t new (executes row.family row is_local regs w) result
     takes_address t new result is h = record { stands = h.stands; put = h.put; runs = λ next. rw (executes_is row.family row is_local regs w next, is) (h.runs next) }
 
@@ -148,9 +159,9 @@ module _ (f : ForkName) (p : Framed) (regs : Regs) where
   out_of_words t left w is_local none s = record { stands = s; put = tt; runs = rw none refl }
 
   module _ (t new : Taken) (left w : ℕ) (is_local : Bool) (more : 0 < left) where
-    pub word_stops : (e : Trap) → StepsOn f p regs.ac t new (executes (row_of (opcode w)).family (row_of (opcode w)) is_local regs w) (Err e) → Concludes f p regs.ac t new (execute left is_local regs w) (planned.Trap e.channel)
+    pub word_stops : (e : Stop) → StepsOn f p regs.ac t new (executes (row_of (opcode w)).family (row_of (opcode w)) is_local regs w) (Err e) → Concludes f p regs.ac t new (execute left is_local regs w) (stopped_by e)
     unfolding execute
-    word_stops e h = record { stands = h.stands; put = tt; runs = rw (one_less left more) (h.runs (λ l v. execute (left - 1) l regs v)) }
+    word_stops e h = record { stands = h.stands; put = stopped_puts f (so_far p new) e; runs = rw (one_less left more) (h.runs (λ l v. execute (left - 1) l regs v) ∙ stopped_as p regs.ac new e) }
 
     pub word_calls : (n : ℕ) → StepsOn f p regs.ac t new (executes (row_of (opcode w)).family (row_of (opcode w)) is_local regs w) (Ok (step.Calls n)) → Concludes f p regs.ac t new (execute left is_local regs w) (planned.Call n)
     unfolding execute
@@ -175,10 +186,20 @@ module _ (f : ForkName) (p : Framed) (regs : Regs) where
   unfolding after_all
   none_begun t gather refs kept = rw (gather, refs, kept) refl
 
-  pub plan_stops : (t new : Taken) (e : Trap) → t.gather.references ≡ [] → t.refs.items ≡ [] → t.kept ≡ None → Follows f p regs.ac t new (refers regs.pc Execute) (Err e) → Plans f p regs new (planned.Trap e.channel)
+  -- what is planned is what the unit comes to
+  plans_as : (t : Taken) (result : Planned) → Stands f p t → CanDo f (so_far p t) result → unit_over f p regs ≡ planned_as p regs.ac t result → Plans f p regs t result
+  plans_as t result stands put is = record { stands = stands; put = put; is = is; plain = plain_of f p (instruction regs) (begun p.pages regs.ac) (planned_as p regs.ac t result) is }
+
+  pub plan_stops : (t new : Taken) (e : Stop) → t.gather.references ≡ [] → t.refs.items ≡ [] → t.kept ≡ None → Follows f p regs.ac t new (refers regs.pc Execute) (Err e) → Plans f p regs new (stopped_by e)
   unfolding instruction
-  plan_stops t new e gather refs kept h = record { stands = h.stands; put = tt; is = rw (← none_begun t gather refs kept) (h.runs (execute 17 false regs)) }
+  plan_stops t new e gather refs kept h = plans_as new (stopped_by e) h.stands (stopped_puts f (so_far p new) e) is
+    where
+      is : unit_over f p regs ≡ planned_as p regs.ac new (stopped_by e)
+      is = rw (← none_begun t gather refs kept) (h.runs (execute 17 false regs)) ∙ stopped_as p regs.ac new e
 
   pub plan_goes : (t mid new : Taken) (w : ℕ) (result : Planned) → t.gather.references ≡ [] → t.refs.items ≡ [] → t.kept ≡ None → Follows f p regs.ac t mid (refers regs.pc Execute) (Ok w) → Concludes f p regs.ac mid new (execute 17 false regs w) result → Plans f p regs new result
   unfolding instruction
-  plan_goes t mid new w result gather refs kept h k = record { stands = k.stands; put = k.put; is = rw (← none_begun t gather refs kept) (h.runs (execute 17 false regs) ∙ k.runs) }
+  plan_goes t mid new w result gather refs kept h k = plans_as new result k.stands k.put is
+    where
+      is : unit_over f p regs ≡ planned_as p regs.ac new result
+      is = rw (← none_begun t gather refs kept) (h.runs (execute 17 false regs) ∙ k.runs)

@@ -7,7 +7,6 @@ use Rattle.plain_model.specs.declared.names.ForkName.{ForkName}
 use Rattle.plain_model.specs.declared.names.Kind.TheVariants.{Read, Write}
 use Rattle.plain_model.specs.declared.fork.Regs.{Regs}
 use Rattle.plain_model.specs.declared.unit.Put.{Put}
-use Rattle.plain_model.specs.State.{NumberedPages}
 use Rattle.plain_model.specs.Steps.{Ending as End, refers, ends, done, run, is_accumulator}
 use Rattle.plain_model.specs.Deeds.{Deed, Store, nowhere, back, into, before}
 use Rattle.plain_model.specs.Instructions.{takes, with_deed, storing, storing_first, finishes}
@@ -15,10 +14,10 @@ use Rattle.ka10_unit.specs.declared.committed.Post.{Post}
 use Rattle.ka10_unit.specs.declared.operands.Destination.{Destination}
 use Rattle.ka10_unit.specs.declared.ends.Ending.{Ending}
 use Rattle.ka10_unit.specs.declared.taken.Taken.{Taken}
-use Rattle.ka10_unit.specs.declared.taken.Trap.{Trap}
+use Rattle.ka10_unit.specs.declared.taken.Stop.{Stop}
 use Rattle.ka10_unit.specs.Commits.{channel_of, store_at}
 use Rattle.ka10_unit.specs.Gathers.{Framed}
-use Rattle.ka10_unit.specs.Taking.{CanPut, CanWrite, Follows, IsOpenAt, Stands, pages_so_far, progress, widened_by}
+use Rattle.ka10_unit.specs.Taking.{CanPut, CanWrite, Follows, IsOpenAt, Stands, progress, so_far, widened_by}
 use Rattle.ka10_unit.specs.Planning.{Ends, end_of}
 
 -- writes to two places of a list, in either order
@@ -57,7 +56,7 @@ module _ (f : ForkName) (p : Framed) (ac : List ℕ) where
       let same : w ≡ e = omega arith in
       record { stands = s; runs = λ next. rw same refl }
 
-  pub takes_some : (t new : Taken) (e at : ℕ) (result : Result ℕ Trap) → Follows f p ac t new (refers at Read) result → Follows f p ac t new (takes (Some at) e) result
+  pub takes_some : (t new : Taken) (e at : ℕ) (result : Result ℕ Stop) → Follows f p ac t new (refers at Read) result → Follows f p ac t new (takes (Some at) e) result
   unfolding takes
   takes_some t new e at result h = record { stands = h.stands; runs = h.runs }
 
@@ -66,14 +65,14 @@ module _ (f : ForkName) (p : Framed) (ac : List ℕ) where
     after = with_deed old n deed
 
     -- the word that is stored last can be stored, where a write at its address makes nothing more
-    storing_put : (q : NumberedPages) (regs : Regs) (at w : ℕ) (post : Option ℕ) → (is_accumulator at ≡ false → IsOpenAt f q at) → CanPut f q (storing regs at w post).put
+    storing_put : (q : Framed) (regs : Regs) (at w : ℕ) (post : Option ℕ) → (is_accumulator at ≡ false → IsOpenAt f q at) → CanPut f q (storing regs at w post).put
     storing_put q regs at w post may = by (is_accumulator at) refl
       where
         by : (b : Bool) → is_accumulator at ≡ b → CanPut f q (either b (record { regs = record regs { ac = slice_set regs.ac at w }; put = None; post = post }) (record { regs = regs; put = Some (record { at = at; word = w }); post = post })).put
         by true is = tt
         by false is = may is
 
-    put_of : (q : NumberedPages) (x : Ending) (e : End) → end_of x ≡ e → CanPut f q e.put → CanPut f q x.put
+    put_of : (q : Framed) (x : Ending) (e : End) → end_of x ≡ e → CanPut f q e.put → CanPut f q x.put
     put_of q x e is h = subst (λ (o : Option Put). CanPut f q o) (sym (ap (λ (y : End). y.put) is)) h
 
     -- nothing is stored
@@ -81,7 +80,7 @@ module _ (f : ForkName) (p : Framed) (ac : List ℕ) where
     unfolding finishes run
     ends_nowhere t x s store is = record {
       stands = s;
-      put = put_of (pages_so_far p t) x (record { regs = after; put = None; post = deed.post }) is tt;
+      put = put_of (so_far p t) x (record { regs = after; put = None; post = deed.post }) is tt;
       runs = rw store (ap (done (progress p ac t)) (sym is));
     }
 
@@ -91,11 +90,11 @@ module _ (f : ForkName) (p : Framed) (ac : List ℕ) where
     unfolding finishes run
     ends_back t new x at w y store asked may is = record {
       stands = asked.stands;
-      put = put_of (pages_so_far p new) x (storing after at w deed.post) is (storing_put (pages_so_far p new) after at w deed.post may);
+      put = put_of (so_far p new) x (storing after at w deed.post) is (storing_put (so_far p new) after at w deed.post may);
       runs = rw store (asked.runs (λ z. ends (storing after at w deed.post)) ∙ ap (done (progress p ac new)) (sym is));
     }
 
-    pub stops_back : (t new : Taken) (stop : Trap) (at w : ℕ) → deed.store ≡ back at w → Follows f p ac t new (widened_by at) (Err stop) → Ends f p ac t new (finishes old n deed) (Err stop)
+    pub stops_back : (t new : Taken) (stop : Stop) (at w : ℕ) → deed.store ≡ back at w → Follows f p ac t new (widened_by at) (Err stop) → Ends f p ac t new (finishes old n deed) (Err stop)
     unfolding finishes
     stops_back t new stop at w store asked = record { stands = asked.stands; put = tt; runs = rw store (asked.runs (λ z. ends (storing after at w deed.post))) }
 
@@ -105,15 +104,15 @@ module _ (f : ForkName) (p : Framed) (ac : List ℕ) where
     unfolding finishes run
     ends_into t new x at w v store asked may is = record {
       stands = asked.stands;
-      put = put_of (pages_so_far p new) x (storing after at w deed.post) is (storing_put (pages_so_far p new) after at w deed.post may);
+      put = put_of (so_far p new) x (storing after at w deed.post) is (storing_put (so_far p new) after at w deed.post may);
       runs = rw store (asked.runs (λ z. ends (storing after at w deed.post)) ∙ ap (done (progress p ac new)) (sym is));
     }
 
-    pub stops_into : (t new : Taken) (stop : Trap) (at w : ℕ) → deed.store ≡ into at w → Follows f p ac t new (refers at Write) (Err stop) → Ends f p ac t new (finishes old n deed) (Err stop)
+    pub stops_into : (t new : Taken) (stop : Stop) (at w : ℕ) → deed.store ≡ into at w → Follows f p ac t new (refers at Write) (Err stop) → Ends f p ac t new (finishes old n deed) (Err stop)
     unfolding finishes
     stops_into t new stop at w store asked = record { stands = asked.stands; put = tt; runs = rw store (asked.runs (λ z. ends (storing after at w deed.post))) }
 
-    pub stops_before : (t new : Taken) (stop : Trap) (at w : ℕ) → deed.store ≡ before at w → Follows f p ac t new (refers at Write) (Err stop) → Ends f p ac t new (finishes old n deed) (Err stop)
+    pub stops_before : (t new : Taken) (stop : Stop) (at w : ℕ) → deed.store ≡ before at w → Follows f p ac t new (refers at Write) (Err stop) → Ends f p ac t new (finishes old n deed) (Err stop)
     unfolding finishes
     stops_before t new stop at w store asked = record { stands = asked.stands; put = tt; runs = rw store (asked.runs (λ z. ends (storing_first old n deed at w))) }
 
@@ -140,7 +139,7 @@ module _ (f : ForkName) (p : Framed) (ac : List ℕ) where
       unfolding finishes run
       ends_before t new x v ne store asked may is = record {
         stands = asked.stands;
-        put = put_of (pages_so_far p new) x (storing after at w deed.post) is (storing_put (pages_so_far p new) after at w deed.post may);
+        put = put_of (so_far p new) x (storing after at w deed.post) is (storing_put (so_far p new) after at w deed.post may);
         runs = rw store (asked.runs (λ z. ends (storing_first old n deed at w)) ∙ ap (done (progress p ac new)) (first_other ne ∙ sym is));
       }
 
@@ -149,6 +148,6 @@ module _ (f : ForkName) (p : Framed) (ac : List ℕ) where
       unfolding finishes run
       ends_overwritten t new x v same low store asked is = record {
         stands = asked.stands;
-        put = put_of (pages_so_far p new) x (record { regs = after; put = None; post = deed.post }) is tt;
+        put = put_of (so_far p new) x (record { regs = after; put = None; post = deed.post }) is tt;
         runs = rw store (asked.runs (λ z. ends (storing_first old n deed at w)) ∙ ap (done (progress p ac new)) (first_same same low ∙ sym is));
       }

@@ -1,17 +1,24 @@
 -- What a unit that is carried out leaves.
-use Rattle.std.specs.Prelude.{◌≡◌, ◌≢◌, ℕ, ◌+◌, ◌≤◌, ◌<◌, ◌^◌, length, Some}
+use Rattle.std.specs.Prelude.{◌≡◌, ◌≢◌, ℕ, ◌+◌, ◌≤◌, ◌<◌, ◌^◌, length, Some, true}
 use Rattle.plain_model.specs.declared.names.Tty.{Tty}
 use Rattle.plain_model.specs.declared.names.ForkName.{ForkName}
 use Rattle.plain_model.specs.declared.fork.Regs.{Regs}
 use Rattle.plain_model.specs.Outcome.{DrumWords}
 use Rattle.plain_model.specs.State.{NumberedPages}
-use Rattle.plain_model.specs.Pages.{PagesMeaning}
-use Rattle.plain_model.specs.Steps.{stopped, trap, call}
+use Rattle.plain_model.specs.Pages.{PagesMeaning, Scene}
+use Rattle.plain_model.specs.Steps.{stopped, trap, need, call}
 use Rattle.ka10_unit.specs.declared.slow.Outcome.{Outcome}
 use Rattle.ka10_unit.specs.declared.slow.Outcome.TheVariants as outcome
 use Rattle.ka10_unit.specs.Once.{once}
 use Rattle.plain_model.specs.Unit.{unit_on}
 use Rattle.ka10_unit.specs.Commits.{channel_of}
+use Rattle.ka10_unit.specs.Gathers.{Framed, framed}
+use Rattle.ka10_unit.specs.Planning.{unit_over}
+
+-- what was in a frame is in one still, and what was in none has not come into one
+pub record StaysAway (old new : Scene) : Type 0 where
+  pub maps : new.map_away ≡ old.map_away
+  pub pages : new.page_away ≡ old.page_away
 
 -- so many pages of an owner were made at most, and nothing else changed that is told without a drum
 pub record Grows {P : Type 0} (means : PagesMeaning P) (owner : Tty) (pages : ℕ) (old new : P) : Type 0 where
@@ -21,28 +28,33 @@ pub record Grows {P : Type 0} (means : PagesMeaning P) (owner : Tty) (pages : �
   pub serial : means.serial new owner ≤ means.serial old owner + pages
   pub serials : (t : Tty) → t ≢ owner → means.serial new t ≡ means.serial old t
 
--- what a unit came to, on plain pages, which it left as others
-abbrev pub CameTo : ForkName → NumberedPages → Regs → NumberedPages → Regs → Outcome → Type 0
-CameTo f p regs q after (outcome.Done post) = once f p regs ≡ Some (record { pages = q; regs = after; post = channel_of post })
-CameTo f p regs q after (outcome.Trap channel) = unit_on f p regs ≡ stopped (trap channel)
-CameTo f p regs q after (outcome.Call number) = unit_on f p regs ≡ call number
+-- what a unit came to on pages, which it left as others: over the plain ones, or it needs something first
+abbrev pub CameTo : ForkName → Framed → Regs → NumberedPages → Regs → Outcome → Type 0
+CameTo f p regs q after (outcome.Done post) = once f p.pages regs ≡ Some (record { pages = q; regs = after; post = channel_of post })
+CameTo f p regs q after (outcome.Need n) = unit_over f p regs ≡ stopped (need n)
+CameTo f p regs q after (outcome.Trap channel) = unit_on f p.pages regs ≡ stopped (trap channel)
+CameTo f p regs q after (outcome.Call number) = unit_on f p.pages regs ≡ call number
 
--- a trap and a monitor call change nothing
+-- a unit that isn't done changes nothing
 abbrev pub Keeps : {P : Type 0} → P → P → Regs → Regs → Outcome → Type 0
 Keeps old new regs after (outcome.Done post) = Unit {0}
-Keeps old new regs after (outcome.Trap channel) = (after ≡ regs) × (new ≡ old)
-Keeps old new regs after (outcome.Call number) = (after ≡ regs) × (new ≡ old)
+Keeps old new regs after other = (after ≡ regs) × (new ≡ old)
+
+-- a unit that needs nothing first
+abbrev pub IsOver : Outcome → Type 0
+IsOver (outcome.Need n) = ⊥
+IsOver other = Unit {0}
 
 -- the number of a monitor call is an address
 abbrev pub IsNumbered : Outcome → Type 0
-IsNumbered (outcome.Done post) = Unit {0}
-IsNumbered (outcome.Trap channel) = Unit {0}
 IsNumbered (outcome.Call number) = number < 2 ^ 18
+IsNumbered other = Unit {0}
 
 -- a unit of a fork as it came out on pages and registers
 pub record Slowly {P : Type 0} (means : PagesMeaning P) (f : ForkName) (old new : P) (regs after : Regs) (result : Outcome) : Type 0 where
-  pub told : (d : DrumWords) → means.fits old d → means.fits new d × CameTo f (means.plain old d) regs (means.plain new d) after result
+  pub told : (d : DrumWords) → means.fits old d → means.fits new d × CameTo f (framed means old d) regs (means.plain new d) after result
   pub stopped : Keeps old new regs after result
+  pub core : means.flat ≡ true → IsOver result
   pub grows : Grows means f.tty 128 old new
   pub pc : after.pc < 2 ^ 18
   pub number : IsNumbered result

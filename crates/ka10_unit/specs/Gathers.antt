@@ -1,20 +1,23 @@
 -- Pages as a unit of a fork finds them, and the references that it gathers.
 use Rattle.std.specs.Prelude.{◌≡◌, ◌<◌, true}
 use Rattle.std.specs.List.{All}
-use Rattle.std.specs.Ordering.{nat_cmp}
+use Rattle.plain_model.specs.declared.channel.TheConstants.{DRUM_FULL}
+use Rattle.plain_model.specs.declared.map.Need.{Need}
 use Rattle.plain_model.specs.declared.names.ForkName.{ForkName}
+use Rattle.plain_model.specs.declared.names.Kind.{Kind}
+use Rattle.plain_model.specs.declared.names.Slot.{Slot}
 use Rattle.plain_model.specs.declared.names.TheConstants.{SPACE_PAGES, TERMINALS}
 use Rattle.plain_model.specs.Outcome.{DrumWords}
 use Rattle.plain_model.specs.State.{NumberedPages}
-use Rattle.plain_model.specs.References.{Referred, granted, denied, full}
+use Rattle.plain_model.specs.Steps.{Asked, denied_channel, goes, need, stops, trap}
 use Rattle.plain_model.specs.Pages.{PagesMeaning, Scene}
+use Rattle.page_gather.specs.declared.reference.PageReference.{PageReference}
 use Rattle.page_gather.specs.declared.reference.Added.{Added}
-use Rattle.page_gather.specs.declared.reference.Added.TheVariants.{Went, Denied, Full}
-use Rattle.page_gather.specs.Gathering.{Gathering}
+use Rattle.page_gather.specs.declared.reference.Added.TheVariants as added
+use Rattle.page_gather.specs.Gathering.{Gathering, answered, left_by, most_framed, referred_to}
 
--- pages where every page is in core, in which a terminal's fork lives
+-- pages in which a terminal's fork lives
 pub record Serves {P : Type 0} (means : PagesMeaning P) (pages : P) (f : ForkName) : Type 0 where
-  pub flat : means.flat ≡ true
   pub lives : means.lives pages f ≡ true
   pub terminal : f.tty.0 < TERMINALS
 
@@ -32,8 +35,16 @@ pub record IsOf (f : ForkName) (g : Gathering) : Type 0 where
   pub owner : g.owner ≡ f.tty
   pub references : All (λ r. (r.slot.fork ≡ f) × (r.slot.page < SPACE_PAGES)) g.references
 
--- what it comes to in core that a reference is added
-abbrev pub added_by : Referred nat_cmp → Added
-added_by (granted q) = Went
-added_by (denied kind) = Denied kind
-added_by full = Full
+-- a unit goes on with these pages, or stops, as a reference that is added is answered
+abbrev pub asked_by : Added → NumberedPages → Asked Need NumberedPages
+asked_by added.Went q = goes q
+asked_by (added.Need n) q = stops (need n)
+asked_by (added.Denied kind) q = stops (trap (denied_channel kind))
+asked_by added.Full q = stops (trap DRUM_FULL)
+
+-- A REFERENCE OF A UNIT of a fork, on the pages that those before it leave. It needs something first exactly where a map on the way or its
+-- page is in no frame, or where the pages made so far find no frame; else it is that of the plain machine.
+unfoldable pub asks : ForkName → Framed → NumberedPages → Slot → Kind → Asked Need NumberedPages
+asks f p q s kind =
+    let r : PageReference = record { slot = s; kind = kind } in
+    asked_by (answered q p.scene (most_framed p.pages p.scene) f.tty r) (left_by q (referred_to q f.tty r))

@@ -1,5 +1,5 @@
 -- The parts of a unit, as the calls do them that plan it.
-use Rattle.std.specs.Prelude.{◌≡◌, ℕ, ◌<◌, ◌^◌, Bool, true, false, None, Some, List, length, Result, Ok, Err}
+use Rattle.std.specs.Prelude.{◌≡◌, ℕ, ◌<◌, ◌^◌, Bool, true, false, None, Some, List, length, Result, Ok, Err, IfErr, IfOk}
 use Rattle.ka10_table.specs.declared.families.Family.{Family}
 use Rattle.ka10_table.specs.declared.families.Family.TheVariants as family
 use Rattle.ka10_table.specs.declared.families.TableRow.{TableRow}
@@ -7,11 +7,11 @@ use Rattle.plain_model.specs.declared.names.TheConstants.{ACCUMULATORS}
 use Rattle.plain_model.specs.declared.names.ForkName.{ForkName}
 use Rattle.plain_model.specs.declared.names.Kind.TheVariants.{Execute, Write}
 use Rattle.plain_model.specs.declared.fork.Regs.{Regs}
-use Rattle.plain_model.specs.State.{NumberedPages}
-use Rattle.plain_model.specs.Steps.{Steps, Ending as End, refers, keeps, calls, trap, done, stopped, call, run, plainly}
+use Rattle.plain_model.specs.Pages.{PagesMeaning}
+use Rattle.plain_model.specs.Steps.{Steps, Ending as End, refers, keeps, calls, trap, need, done, stopped, call, begun}
 use Rattle.plain_model.specs.Addressing.{opcode, ac_field, address, address_within}
 use Rattle.plain_model.specs.Deeds.{Deed, before}
-use Rattle.plain_model.specs.Instructions.{does, does_pointer, is_executive, local_word, LOCAL_CALL, LOCAL_HANDLER}
+use Rattle.plain_model.specs.Instructions.{does, does_pointer, instruction, is_executive, local_word, LOCAL_CALL, LOCAL_HANDLER}
 use Rattle.ka10_unit.specs.declared.addresses.Address.{Address}
 use Rattle.ka10_unit.specs.declared.committed.Committed.{Committed}
 use Rattle.ka10_unit.specs.declared.operands.Destination.{Destination}
@@ -21,11 +21,12 @@ use Rattle.ka10_unit.specs.declared.plans.Step.TheVariants as step
 use Rattle.ka10_unit.specs.declared.plans.Planned.{Planned}
 use Rattle.ka10_unit.specs.declared.plans.Planned.TheVariants as planned
 use Rattle.ka10_unit.specs.declared.taken.Taken.{Taken}
-use Rattle.ka10_unit.specs.declared.taken.Trap.{Trap}
+use Rattle.ka10_unit.specs.declared.taken.Stop.{Stop}
+use Rattle.ka10_unit.specs.declared.taken.Stop.TheVariants as stop
 use Rattle.plain_model.specs.Unit.{unit_on}
 use Rattle.ka10_unit.specs.Commits.{Leaves, channel_of, store_at}
 use Rattle.ka10_unit.specs.Gathers.{Framed, IsOf}
-use Rattle.ka10_unit.specs.Taking.{CanPut, IsOpen, IsPutBelow, Plan, Stands, pages_so_far, progress}
+use Rattle.ka10_unit.specs.Taking.{CanPut, IsOpen, IsPlain, IsPutBelow, IsTrap, Plan, Stands, progress, run_over, so_far, stop_of}
 
 -- an effective address, with so many words at most, and with any
 abbrev pub reached_within : ℕ → List ℕ → ℕ → (Address → Steps) → Steps
@@ -37,27 +38,27 @@ reached ac w next = address ac w (λ e last. next (record { at = e; last = last 
 -- the same unit is left behind a part that was done as behind the whole
 pub record Leads {A : Type 0} (f : ForkName) (p : Framed) (ac : List ℕ) (old new : Taken) (whole left : (A → Steps) → Steps) : Type 0 where
   pub stands : Stands f p new
-  pub runs : (next : A → Steps) → run (plainly f) f (whole next) (progress p ac old) ≡ run (plainly f) f (left next) (progress p ac new)
+  pub runs : (next : A → Steps) → run_over f p (whole next) (progress p ac old) ≡ run_over f p (left next) (progress p ac new)
 
 -- the end of a unit, with the channel of its post
 abbrev pub end_of : Ending → End
 end_of x = record { regs = x.regs; put = x.put; post = channel_of x.post }
 
 -- a unit that ended, or stopped
-abbrev pub ended : Framed → List ℕ → Taken → Result Ending Trap → Plan
+abbrev pub ended : Framed → List ℕ → Taken → Result Ending Stop → Plan
 ended p ac t (Ok x) = done (progress p ac t) (end_of x)
-ended p ac t (Err e) = stopped (trap e.channel)
+ended p ac t (Err e) = stopped (stop_of e)
 
 -- the last word of an end can be stored
-abbrev pub CanEnd : ForkName → NumberedPages → Result Ending Trap → Type 0
+abbrev pub CanEnd : ForkName → Framed → Result Ending Stop → Type 0
 CanEnd f p (Ok x) = CanPut f p x.put
 CanEnd f p (Err e) = Unit {0}
 
 -- a call that ends a unit
-pub record Ends (f : ForkName) (p : Framed) (ac : List ℕ) (old new : Taken) (left : Steps) (result : Result Ending Trap) : Type 0 where
+pub record Ends (f : ForkName) (p : Framed) (ac : List ℕ) (old new : Taken) (left : Steps) (result : Result Ending Stop) : Type 0 where
   pub stands : Stands f p new
-  pub put : CanEnd f (pages_so_far p new) result
-  pub runs : run (plainly f) f left (progress p ac old) ≡ ended p ac new result
+  pub put : CanEnd f (so_far p new) result
+  pub runs : run_over f p left (progress p ac old) ≡ ended p ac new result
 
 -- a deed is done on the registers before it, and its word goes to a destination; a word that is stored before the accumulators are
 -- written comes with a word for its own accumulator, and none for the next
@@ -86,44 +87,61 @@ does_at family.ByteOp row is_local regs w a next = does_pointer row.code regs (a
 does_at f row is_local regs w a next = does row (opcode w) regs (ac_field w) a.at a.last
 
 -- what one word of a unit comes to
-abbrev pub stepped : Framed → List ℕ → Taken → Result Step Trap → (Bool → ℕ → Plan) → Plan
+abbrev pub stepped : Framed → List ℕ → Taken → Result Step Stop → (Bool → ℕ → Plan) → Plan
 stepped p ac t (Ok (step.Goes n)) next = next n.is_local n.word
 stepped p ac t (Ok (step.Ends x)) next = done (progress p ac t) (end_of x)
 stepped p ac t (Ok (step.Calls n)) next = call n
-stepped p ac t (Err e) next = stopped (trap e.channel)
+stepped p ac t (Err e) next = stopped (stop_of e)
 
-abbrev pub CanStep : ForkName → NumberedPages → Result Step Trap → Type 0
+abbrev pub CanStep : ForkName → Framed → Result Step Stop → Type 0
 CanStep f p (Ok (step.Ends x)) = CanPut f p x.put
 CanStep f p result = Unit {0}
 
 -- a call that does one word of a unit: it ends the unit, or goes on with the word of an XCT or a local call
-pub record StepsOn (f : ForkName) (p : Framed) (ac : List ℕ) (old new : Taken) (left : (Bool → ℕ → Steps) → Steps) (result : Result Step Trap) : Type 0 where
+pub record StepsOn (f : ForkName) (p : Framed) (ac : List ℕ) (old new : Taken) (left : (Bool → ℕ → Steps) → Steps) (result : Result Step Stop) : Type 0 where
   pub stands : Stands f p new
-  pub put : CanStep f (pages_so_far p new) result
-  pub runs : (next : Bool → ℕ → Steps) → run (plainly f) f (left next) (progress p ac old) ≡ stepped p ac new result (λ l v. run (plainly f) f (next l v) (progress p ac new))
+  pub put : CanStep f (so_far p new) result
+  pub runs : (next : Bool → ℕ → Steps) → run_over f p (left next) (progress p ac old) ≡ stepped p ac new result (λ l v. run_over f p (next l v) (progress p ac new))
+
+-- a plan that stops before its end
+abbrev pub stopped_by : Stop → Planned
+stopped_by (stop.Trap channel) = planned.Trap channel
+stopped_by (stop.Need n) = planned.Need n
 
 -- what a plan says
 abbrev pub planned_as : Framed → List ℕ → Taken → Planned → Plan
 planned_as p ac t (planned.Do x) = done (progress p ac t) (end_of x)
+planned_as p ac t (planned.Need n) = stopped (need n)
 planned_as p ac t (planned.Trap channel) = stopped (trap channel)
 planned_as p ac t (planned.Call number) = call number
 
-abbrev pub CanDo : ForkName → NumberedPages → Planned → Type 0
+abbrev pub CanDo : ForkName → Framed → Planned → Type 0
 CanDo f p (planned.Do x) = CanPut f p x.put
+CanDo f p (planned.Need n) = Unit {0}
 CanDo f p (planned.Trap channel) = Unit {0}
 CanDo f p (planned.Call number) = Unit {0}
 
 -- what was planned is what is left of a unit
 pub record Concludes (f : ForkName) (p : Framed) (ac : List ℕ) (old new : Taken) (left : Steps) (result : Planned) : Type 0 where
   pub stands : Stands f p new
-  pub put : CanDo f (pages_so_far p new) result
-  pub runs : run (plainly f) f left (progress p ac old) ≡ planned_as p ac new result
+  pub put : CanDo f (so_far p new) result
+  pub runs : run_over f p left (progress p ac old) ≡ planned_as p ac new result
 
--- a plan is what the whole unit comes to, and it can be carried out
+-- the unit of an instruction over pages of which some are in no frame
+abbrev pub unit_over : ForkName → Framed → Regs → Plan
+unit_over f p regs = run_over f p (instruction regs) (begun p.pages regs.ac)
+
+-- a plan is what the whole unit comes to over these pages, and over the plain ones where it needs nothing first; and it can be carried out
 pub record Plans (f : ForkName) (p : Framed) (regs : Regs) (t : Taken) (result : Planned) : Type 0 where
   pub stands : Stands f p t
-  pub put : CanDo f (pages_so_far p t) result
-  pub is : unit_on f p.pages regs ≡ planned_as p regs.ac t result
+  pub put : CanDo f (so_far p t) result
+  pub is : unit_over f p regs ≡ planned_as p regs.ac t result
+  pub plain : IsPlain (planned_as p regs.ac t result) (unit_on f p.pages regs)
+
+-- a plan that needs nothing first
+abbrev pub NeedsNothing : Planned → Type 0
+NeedsNothing (planned.Need n) = ⊥
+NeedsNothing plan = Unit {0}
 
 -- an end is of the machine: its registers, and the address of its last word
 pub record IsEnding (x : Ending) : Type 0 where
@@ -135,7 +153,7 @@ abbrev pub IsEnd : ForkName → Ending → Taken → Type 0
 IsEnd f x t = IsEnding x × IsPutBelow (2 ^ 18) t.kept × IsOf f t.gather
 
 -- a step that goes on leaves a unit that is open
-abbrev pub IsStep : ForkName → Result Step Trap → Taken → Type 0
+abbrev pub IsStep : ForkName → Result Step Stop → Taken → Type 0
 IsStep f (Ok (step.Goes n)) t = IsOpen f t × IsPutBelow (2 ^ 18) t.kept
 IsStep f (Ok (step.Ends x)) t = IsEnd f x t
 IsStep f (Ok (step.Calls n)) t = n < 2 ^ 18
@@ -143,10 +161,19 @@ IsStep f (Err e) t = Unit {0}
 
 abbrev pub IsPlan : ForkName → Planned → Taken → Type 0
 IsPlan f (planned.Do x) t = IsEnd f x t
+IsPlan f (planned.Need n) t = Unit {0}
 IsPlan f (planned.Trap channel) t = Unit {0}
 IsPlan f (planned.Call number) t = number < 2 ^ 18
 
+-- what a call that ends a unit leaves: references of its fork alone, and the word that was kept; its end is of the machine, and over pages
+-- in memory it needs nothing first
+pub record LeavesEnd {P : Type 0} (means : PagesMeaning P) (f : ForkName) (old new : Taken) (result : Result Ending Stop) : Type 0 where
+  pub own : IsOf f new.gather
+  pub kept : new.kept ≡ old.kept
+  pub end : IfOk result (λ x. IsEnding x)
+  pub core : means.flat ≡ true → IfErr result IsTrap
+
 -- a call that ended a unit is a step that ends it
-abbrev pub as_step : Result Ending Trap → Result Step Trap
+abbrev pub as_step : Result Ending Stop → Result Step Stop
 as_step (Ok x) = Ok (step.Ends x)
 as_step (Err e) = Err e

@@ -1,5 +1,5 @@
 -- How far a unit has come, and what a part of it that was done says of the whole.
-use Rattle.std.specs.Prelude.{◌≡◌, ℕ, ◌%◌, ◌≤◌, ◌<◌, ◌==◌, ◌&&◌, Bool, true, false, List, [], length, Option, None, Some, Result, Ok, Err, ⊤, is_some}
+use Rattle.std.specs.Prelude.{◌≡◌, ◌⊎◌, ℕ, ◌%◌, ◌≤◌, ◌<◌, ◌==◌, ◌&&◌, Bool, true, false, List, [], length, Option, None, Some, Result, Ok, Err, ⊤, is_some}
 use Rattle.std.specs.Option.{option_map_or}
 use Rattle.std.specs.Ordering.{nat_cmp}
 use Rattle.outside.specs.declared.TheConstants.{PAGE_WORDS}
@@ -12,41 +12,65 @@ use Rattle.plain_model.specs.declared.unit.TheConstants.{MOST_REFERENCES}
 use Rattle.plain_model.specs.State.{NumberedPages}
 use Rattle.plain_model.specs.References.{in_map, makings, page_at, slot_at}
 use Rattle.plain_model.specs.Room.{same_page}
-use Rattle.plain_model.specs.Steps.{Steps, widens, trap, Asked, goes, stops, Progress, Planned, stopped, is_accumulator, asked_at, run, plainly}
+use Rattle.plain_model.specs.declared.names.Home.{Home}
+use Rattle.plain_model.specs.declared.map.Need.{Need}
+use Rattle.plain_model.specs.declared.map.Need.TheVariants.{Page}
+use Rattle.plain_model.specs.Pages.{Scene}
+use Rattle.plain_model.specs.Steps.{Steps, Stop as Stopped, widens, trap, need, Asked, goes, stops, Progress, Planned, stopped, done, call, is_accumulator, asked_at, run}
 use Rattle.ka10_unit.specs.declared.taken.Taken.{Taken}
-use Rattle.ka10_unit.specs.declared.taken.Trap.{Trap}
-use Rattle.page_gather.specs.Gathering.{Gathering, Gathers, left_of}
-use Rattle.ka10_unit.specs.Gathers.{Framed, IsOf}
+use Rattle.ka10_unit.specs.declared.taken.Stop.{Stop}
+use Rattle.ka10_unit.specs.declared.taken.Stop.TheVariants as stop
+use Rattle.page_gather.specs.Gathering.{Gathering, Gathers, IsNear, left_of}
+use Rattle.ka10_unit.specs.Gathers.{Framed, IsOf, asks}
 
--- a unit as a plan, which over pages in core needs nothing first
+-- a unit as a plan, which may need something first
 abbrev pub Plan : Type 0
-Plan = Planned nat_cmp ⊥
+Plan = Planned nat_cmp Need
+
+-- steps of a fork over pages of which some are in no frame
+abbrev pub run_over : ForkName → Framed → Steps → Progress nat_cmp → Plan
+run_over f p = run (asks f p) f
+
+-- why a unit stops, as its steps do
+abbrev pub stop_of : Stop → Stopped Need
+stop_of (stop.Trap channel) = trap channel
+stop_of (stop.Need n) = need n
+
+-- a stop that needs nothing first
+abbrev pub IsTrap : Stop → Type 0
+IsTrap (stop.Trap channel) = Unit {0}
+IsTrap (stop.Need n) = ⊥
 
 -- the pages that the references so far leave
 abbrev pub pages_so_far : Framed → Taken → NumberedPages
 pages_so_far p t = left_of p.pages t.gather
 
+-- those pages, and what of them is in frames
+abbrev pub so_far : Framed → Taken → Framed
+so_far p t = record p { pages = pages_so_far p t }
+
 -- how far a unit has come: with the pages, as its fork has them, and its accumulators
 abbrev pub progress : Framed → List ℕ → Taken → Progress nat_cmp
 progress p ac t = record { pages = pages_so_far p t; ac = ac; refs = t.refs.items; kept = t.kept }
 
--- a write at an address of a page makes nothing more
-abbrev pub IsOpenAt : ForkName → NumberedPages → ℕ → Type 0
-IsOpenAt f p a = makings p (in_map (slot_at f a)) Write ≡ Some []
+-- an address is that of a page that is in a frame, and a write there makes nothing more
+pub record IsOpenAt (f : ForkName) (p : Framed) (a : ℕ) : Type 0 where
+  pub makes : makings p.pages (in_map (slot_at f a)) Write ≡ Some []
+  pub near : IsNear p.pages p.scene (slot_at f a)
 
 -- where a write made nothing more, it makes nothing more still
-abbrev pub StaysOpen : ForkName → NumberedPages → NumberedPages → Type 0
+abbrev pub StaysOpen : ForkName → Framed → Framed → Type 0
 StaysOpen f p q = (a : ℕ) → IsOpenAt f p a → IsOpenAt f q a
 
 -- a word can be stored, if there is one
-abbrev pub CanPut : ForkName → NumberedPages → Option Put → Type 0
+abbrev pub CanPut : ForkName → Framed → Option Put → Type 0
 CanPut f p None = Unit {0}
 CanPut f p (Some put) = IsOpenAt f p put.at
 
 -- each reference goes through, and the word that is kept can be stored
 pub record Stands (f : ForkName) (p : Framed) (t : Taken) : Type 0 where
   pub gathers : Gathers p.pages p.scene t.gather
-  pub kept : CanPut f (pages_so_far p t) t.kept
+  pub kept : CanPut f (so_far p t) t.kept
 
 -- the references taken are of the fork, and so many at most
 pub record IsOpen (f : ForkName) (t : Taken) : Type 0 where
@@ -60,41 +84,61 @@ IsPutBelow limit None = Unit {0}
 IsPutBelow limit (Some put) = put.at < limit
 
 -- what a page that was asked for comes to
-abbrev pub asked_as : Result ⊤ Trap → NumberedPages → Asked ⊥ NumberedPages
+abbrev pub asked_as : Result ⊤ Stop → NumberedPages → Asked Need NumberedPages
 asked_as (Ok x) q = goes q
-asked_as (Err t) q = stops (trap t.channel)
+asked_as (Err e) q = stops (stop_of e)
+
+-- the page of an address is there, in a frame
+pub record IsHere (f : ForkName) (p : Framed) (a : ℕ) : Type 0 where
+  pub page : is_some (page_at p.pages (in_map (slot_at f a))) ≡ true
+  pub near : IsNear p.pages p.scene (slot_at f a)
 
 -- an address that isn't an accumulator has a page
-abbrev pub HasPage : ForkName → NumberedPages → ℕ → Type 0
-HasPage f p a = is_accumulator a ≡ false → is_some (page_at p (in_map (slot_at f a))) ≡ true
+abbrev pub HasPage : ForkName → Framed → ℕ → Type 0
+HasPage f p a = is_accumulator a ≡ false → IsHere f p a
 
 -- the page of an address was asked for, on the pages that the references before leave
-pub record AsksAt (f : ForkName) (p : Framed) (old new : Gathering) (at : ℕ) (kind : Kind) (result : Result ⊤ Trap) : Type 0 where
+pub record AsksAt (f : ForkName) (p : Framed) (old new : Gathering) (at : ℕ) (kind : Kind) (result : Result ⊤ Stop) : Type 0 where
   pub gathers : Gathers p.pages p.scene new
-  pub is : asked_at (plainly f) f (left_of p.pages old) at kind ≡ asked_as result (left_of p.pages new)
-  pub page : (x : ⊤) → result ≡ Ok x → HasPage f (left_of p.pages new) at
-  pub open_at : (x : ⊤) → result ≡ Ok x → kind ≡ Write → is_accumulator at ≡ false → IsOpenAt f (left_of p.pages new) at
-  pub still : (a : ℕ) → IsOpenAt f (left_of p.pages old) a → IsOpenAt f (left_of p.pages new) a
+  pub is : asked_at (asks f p) f (left_of p.pages old) at kind ≡ asked_as result (left_of p.pages new)
+  pub page : (x : ⊤) → result ≡ Ok x → HasPage f (record p { pages = left_of p.pages new }) at
+  pub open_at : (x : ⊤) → result ≡ Ok x → kind ≡ Write → is_accumulator at ≡ false → IsOpenAt f (record p { pages = left_of p.pages new }) at
+  pub still : StaysOpen f (record p { pages = left_of p.pages old }) (record p { pages = left_of p.pages new })
 
 -- a unit goes on with what a part of it gives, or stops
-abbrev pub went_on : {A : Type 0} → Result A Trap → (A → Plan) → Plan
+abbrev pub went_on : {A : Type 0} → Result A Stop → (A → Plan) → Plan
 went_on (Ok x) next = next x
-went_on (Err t) next = stopped (trap t.channel)
+went_on (Err e) next = stopped (stop_of e)
 
 -- A part of a unit was done: whatever comes behind it, the unit stops as this part did, or goes on from what it gave.
-pub record Follows {A : Type 0} (f : ForkName) (p : Framed) (ac : List ℕ) (old new : Taken) (part : (A → Steps) → Steps) (result : Result A Trap) : Type 0 where
+pub record Follows {A : Type 0} (f : ForkName) (p : Framed) (ac : List ℕ) (old new : Taken) (part : (A → Steps) → Steps) (result : Result A Stop) : Type 0 where
   pub stands : Stands f p new
-  pub runs : (next : A → Steps) → run (plainly f) f (part next) (progress p ac old) ≡ went_on result (λ x. run (plainly f) f (next x) (progress p ac new))
+  pub runs : (next : A → Steps) → run_over f p (part next) (progress p ac old) ≡ went_on result (λ x. run_over f p (next x) (progress p ac new))
 
 -- what comes behind a part that gives nothing
 abbrev pub widened_by : ℕ → (⊤ → Steps) → Steps
 widened_by at next = widens at (next tt)
 
 -- a write at an address makes nothing more, once a reference to write there went through
-abbrev pub CanWrite : {A : Type 0} → ForkName → Framed → Taken → ℕ → Result A Trap → Type 0
-CanWrite f p t at (Ok x) = is_accumulator at ≡ false → IsOpenAt f (pages_so_far p t) at
+abbrev pub CanWrite : {A : Type 0} → ForkName → Framed → Taken → ℕ → Result A Stop → Type 0
+CanWrite f p t at (Ok x) = is_accumulator at ≡ false → IsOpenAt f (so_far p t) at
 CanWrite f p t at (Err e) = Unit {0}
 
 -- whether a word that was stored at an address stands at another, of this page
 abbrev pub stands_at : ForkName → NumberedPages → ℕ → ℕ → PageName → Bool
 stands_at f q stored a n = option_map_or (same_page n) (page_at q (in_map (slot_at f stored))) false && (stored % PAGE_WORDS == a % PAGE_WORDS)
+
+-- a plan that needs nothing first is that of the plain machine
+abbrev pub IsPlain : Plan → Planned nat_cmp ⊥ → Type 0
+IsPlain (done t e) x = x ≡ done t e
+IsPlain (stopped (trap channel)) x = x ≡ stopped (trap channel)
+IsPlain (stopped (need n)) x = Unit {0}
+IsPlain (call number) x = x ≡ call number
+
+-- a map or a page stands at a home, in no frame
+abbrev pub IsAway : Scene → ℕ → Type 0
+IsAway scene home = ((f : ForkName) × (scene.map_away f ≡ Some home)) ⊎ ((n : PageName) × (scene.page_away n ≡ Some home))
+
+-- steps that need a page first: at its home is a map or a page that is in no frame
+abbrev pub NeedsAway : Scene → Plan → Type 0
+NeedsAway scene plan = (home : Home) → plan ≡ stopped (need (Page home)) → IsAway scene home.0

@@ -1,12 +1,12 @@
 // Effective addresses.
-ghost use Rattle.std.specs.Prelude.{◌≡◌, ◌<◌, ◌^◌, ◌-◌, ℕ, IfOk};
+ghost use Rattle.std.specs.Prelude.{◌≡◌, ◌<◌, ◌^◌, ◌-◌, ℕ, IfErr, IfOk, true};
 ghost use Rattle.plain_model.specs.Addressing.{index_field, indexed, is_indirect as is_indirect_word, last_taken};
 ghost use Rattle.plain_model.specs.Outcome.{DrumWords};
 ghost use Rattle.ka10_unit.specs.Gathers.{Serves, framed};
 ghost use Rattle.ka10_unit.specs.Planning.{reached};
-ghost use Rattle.ka10_unit.specs.Taking.{Follows, IsOpen, IsPutBelow, Stands};
+ghost use Rattle.ka10_unit.specs.Taking.{Follows, IsOpen, IsPutBelow, IsTrap, Stands};
 
-use crate::taken::{Taken, Trap, refer};
+use crate::taken::{Stop, Taken, refer};
 use plain_model::{ForkName, Kind, Pages, Regs};
 use word36::Word;
 
@@ -61,13 +61,14 @@ pub fn address_of<P: Pages>(
     pages: &P,
     fork: ForkName,
     first: Word,
-) -> Result<Address, Trap>
+) -> Result<Address, Stop>
     requires serves { Serves P.means pages.now fork }
     requires is_open { IsOpen fork taken.old }
     requires kept { IsPutBelow (2 ^ 18) taken.old.kept }
     ensures is_open { IsOpen fork taken.new }
     ensures kept { taken.new.kept ≡ taken.old.kept }
     ensures below { IfOk result (λ e. e.at < 2 ^ 18) }
+    ensures core { P.means.flat ≡ true → IfErr result IsTrap }
     ensures told { (d : DrumWords) → P.means.fits pages.now d → Stands fork (framed P.means pages.now d) taken.old
         → Follows fork (framed P.means pages.now d) regs.now.ac taken.old taken.new (reached regs.now.ac first) result }
 {
@@ -79,7 +80,7 @@ pub fn address_of<P: Pages>(
         }
         word = refer(taken, regs, pages, fork, step.at, Kind::Read)?;
     }
-    Err(Trap::ILLEGAL)
+    Err(Stop::ILLEGAL)
 }
 
 #[cfg(test)]

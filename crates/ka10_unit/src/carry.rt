@@ -3,9 +3,9 @@ ghost use Rattle.std.specs.Prelude.{◌≡◌, ◌<◌, ◌^◌};
 ghost use Rattle.plain_model.specs.Outcome.{DrumWords};
 ghost use Rattle.plain_model.specs.Pages.{StaysPut};
 ghost use Rattle.plain_model.specs.Steps.{put_into};
-ghost use Rattle.ka10_unit.specs.Carrying.{Grows};
+ghost use Rattle.ka10_unit.specs.Carrying.{Grows, StaysAway};
 ghost use Rattle.ka10_unit.specs.Gathers.{IsOf, Serves, framed};
-ghost use Rattle.ka10_unit.specs.Taking.{CanPut, IsPutBelow, Stands, pages_so_far};
+ghost use Rattle.ka10_unit.specs.Taking.{CanPut, IsPutBelow, Stands, pages_so_far, so_far};
 
 use crate::taken::{Taken, page_of_address};
 use outside::PAGE_WORDS;
@@ -14,11 +14,11 @@ use plain_model::{ForkName, Kind, Pages, Put, Touch};
 // How many words a page has, as addresses count them.
 const WORDS: u32 = PAGE_WORDS as u32;
 
-/// Stores a word, if there is one, in a page that a touch to write finds ready.
+/// Stores a word, if there is one, in a page that is in a frame and that a write finds made.
 pub fn store<P: Pages>(pages: &mut P, fork: ForkName, put: Option<Put>)
     requires serves { Serves P.means pages.old fork }
     requires put { IsPutBelow (2 ^ 18) put }
-    ensures told { (d : DrumWords) → P.means.fits pages.old d → CanPut fork (P.means.plain pages.old d) put
+    ensures told { (d : DrumWords) → P.means.fits pages.old d → CanPut fork (framed P.means pages.old d) put
         → P.means.plain pages.new d ≡ put_into fork (P.means.plain pages.old d) put }
     ensures fits { (d : DrumWords) → P.means.fits pages.old d → P.means.fits pages.new d }
     ensures stays { StaysPut P.means pages.old pages.new }
@@ -40,10 +40,11 @@ pub fn carry<P: Pages>(taken: &Taken, put: Option<Put>, pages: &mut P, fork: For
     requires kept { IsPutBelow (2 ^ 18) taken.now.kept }
     requires put { IsPutBelow (2 ^ 18) put }
     requires serial { P.means.serial pages.old fork.tty < 2 ^ 62 }
-    ensures told { (d : DrumWords) → P.means.fits pages.old d → Stands fork (framed P.means pages.old d) taken.now → CanPut fork (pages_so_far (framed P.means pages.old d) taken.now) put
+    ensures told { (d : DrumWords) → P.means.fits pages.old d → Stands fork (framed P.means pages.old d) taken.now → CanPut fork (so_far (framed P.means pages.old d) taken.now) put
         → P.means.plain pages.new d ≡ put_into fork (put_into fork (pages_so_far (framed P.means pages.old d) taken.now) taken.now.kept) put }
     ensures fits { (d : DrumWords) → P.means.fits pages.old d → P.means.fits pages.new d }
     ensures grows { Grows P.means fork.tty 128 pages.old pages.new }
+    ensures away { StaysAway (P.means.scene pages.old) (P.means.scene pages.new) }
 {
     taken.gather.make(pages);
     store(pages, fork, taken.kept);

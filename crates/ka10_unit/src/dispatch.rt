@@ -241,9 +241,10 @@ fn carry_other<P: Pages>(
     }
 }
 
-/// Whether JRST with this accumulator is an instruction of the executive.
+/// Whether JRST with this accumulator, which has bit 4 or bit 10 (octal), is an instruction of the
+/// executive.
 #[inline(always)]
-fn is_executive(ac: u8) -> bool
+pub fn is_executive(ac: u8) -> bool
     requires { ac < 16 }
     ensures { result ≡ instructions.is_executive ac }
 {

@@ -1,5 +1,5 @@
 // The end of a unit: the operand of its instruction, and the word that it stores.
-ghost use Rattle.std.specs.Prelude.{◌≡◌, ◌<◌, ◌^◌, ℕ, IfOk, IfSome, None};
+ghost use Rattle.std.specs.Prelude.{◌≡◌, ◌<◌, ◌^◌, ℕ, IfErr, IfOk, IfSome, None, true};
 ghost use Rattle.plain_model.specs.declared.fork.Regs.{Regs as ARegs};
 ghost use Rattle.plain_model.specs.Deeds.{Deed};
 ghost use Rattle.plain_model.specs.Instructions.{does, finishes, storing, takes};
@@ -8,14 +8,14 @@ ghost use Rattle.plain_model.specs.Limits.{IsAddress};
 ghost use Rattle.plain_model.specs.Outcome.{DrumWords};
 ghost use Rattle.ka10_unit.specs.Commits.{LiesBelow, channel_of};
 ghost use Rattle.ka10_unit.specs.Gathers.{IsOf, Serves, framed};
-ghost use Rattle.ka10_unit.specs.Planning.{Ends, IsDone, IsEnding, end_of};
-ghost use Rattle.ka10_unit.specs.Taking.{Follows, IsOpen, IsPutBelow, Stands};
+ghost use Rattle.ka10_unit.specs.Planning.{Ends, IsDone, IsEnding, LeavesEnd, end_of};
+ghost use Rattle.ka10_unit.specs.Taking.{Follows, IsOpen, IsPutBelow, IsTrap, Stands};
 
 use crate::addresses::Address;
 use crate::commit::commit_row;
 use crate::committed::{Committed, Post};
 use crate::operands::{Destination, destination_of, operand_address};
-use crate::taken::{Taken, Trap, refer, widen};
+use crate::taken::{Stop, Taken, refer, widen};
 use ka10_table::TableRow;
 use plain_model::{ACCUMULATORS, ForkName, Kind, Pages, Put, Regs};
 use word36::Word;
@@ -36,7 +36,7 @@ pub fn operand<P: Pages>(
     fork: ForkName,
     at: Option<u32>,
     e: u32,
-) -> Result<Word, Trap>
+) -> Result<Word, Stop>
     requires serves { Serves P.means pages.now fork }
     requires at { IfSome at (λ a. IsAddress a) }
     requires e { IsAddress e }
@@ -44,6 +44,7 @@ pub fn operand<P: Pages>(
     requires kept { IsPutBelow (2 ^ 18) taken.old.kept }
     ensures is_open { IsOpen fork taken.new }
     ensures kept { taken.new.kept ≡ taken.old.kept }
+    ensures core { P.means.flat ≡ true → IfErr result IsTrap }
     ensures told { (d : DrumWords) → P.means.fits pages.now d → Stands fork (framed P.means pages.now d) taken.old
         → Follows fork (framed P.means pages.now d) regs.now.ac taken.old taken.new (takes at e) result }
 {
@@ -98,16 +99,14 @@ pub fn finish<P: Pages>(
     ac: u8,
     to: Destination,
     told: Committed,
-) -> Result<Ending, Trap>
+) -> Result<Ending, Stop>
     requires serves { Serves P.means pages.now fork }
     requires to { LiesBelow (2 ^ 18) to }
     requires ac { ac < 16 }
     requires pc { after.pc < 2 ^ 18 }
     requires is_open { IsOpen fork taken.old }
     requires kept { IsPutBelow (2 ^ 18) taken.old.kept }
-    ensures own { IsOf fork taken.new.gather }
-    ensures kept { taken.new.kept ≡ taken.old.kept }
-    ensures end { IfOk result (λ x. IsEnding x) }
+    ensures leaves { LeavesEnd P.means fork taken.old taken.new result }
     ensures told { (d : DrumWords) (deed : Deed) (old : ARegs) → P.means.fits pages.now d → Stands fork (framed P.means pages.now d) taken.old → IsDone deed ac old after to told
         → Ends fork (framed P.means pages.now d) regs.now.ac taken.old taken.new (finishes old ac deed) result }
 {
@@ -145,7 +144,7 @@ pub fn ordinary<P: Pages>(
     op: u16,
     ac: u8,
     e: &Address,
-) -> Result<Ending, Trap>
+) -> Result<Ending, Stop>
     requires serves { Serves P.means pages.now fork }
     requires line { IsInLine op row }
     requires ac { ac < 16 }
@@ -153,9 +152,7 @@ pub fn ordinary<P: Pages>(
     requires pc { regs.now.pc < 2 ^ 18 }
     requires is_open { IsOpen fork taken.old }
     requires kept { IsPutBelow (2 ^ 18) taken.old.kept }
-    ensures own { IsOf fork taken.new.gather }
-    ensures kept { taken.new.kept ≡ taken.old.kept }
-    ensures end { IfOk result (λ x. IsEnding x) }
+    ensures leaves { LeavesEnd P.means fork taken.old taken.new result }
     ensures told { (d : DrumWords) → P.means.fits pages.now d → Stands fork (framed P.means pages.now d) taken.old
         → Ends fork (framed P.means pages.now d) regs.now.ac taken.old taken.new (does row op regs.now ac e.now.at e.now.last) result }
 {

@@ -1,7 +1,12 @@
 // What follows from the definitions of instructions, in the words of their users. A law does nothing
 // when it runs.
 ghost use Rattle.std.specs.Prelude.{◌≡◌, ◌⊎◌, ℕ, ◌+◌, ◌*◌, ◌<◌, ◌≤◌, ◌^◌, List};
+ghost use Rattle.std.specs.Ordering.{nat_cmp};
 ghost use Rattle.word36.specs.Words.{IsWord};
+ghost use Rattle.plain_model.specs.declared.names.ForkName.{ForkName as AForkName};
+ghost use Rattle.plain_model.specs.Steps.{Progress, Steps, plainly, run};
+ghost use Rattle.ka10_unit.specs.Gathers.{Framed};
+ghost use Rattle.ka10_unit.specs.Taking.{IsPlain, NeedsAway, run_over};
 ghost use Rattle.plain_model.specs.declared.fork.Regs.{Regs as ARegs};
 ghost use Rattle.ka10_unit.specs.Laws.{ChangePlaces, ComesBack, CopiesBlock, GoesOver, MovesOne, ReturnsByPop, ReturnsByWord};
 
@@ -38,4 +43,11 @@ pub fn blocks_move_by_words()
 /// As many units of BLT copy as many words, where source and destination do not overlap.
 pub fn blocks_are_copied()
     ensures { (n from to : ℕ) (words : ℕ → ℕ) → from + n < 2 ^ 18 → to + n < 2 ^ 18 → (from + n ≤ to) ⊎ (to + n ≤ from) → CopiesBlock n from to words }
+{}
+
+/// Steps of a fork over pages of which some are in no frame: where they need nothing first they are those of the plain
+/// machine; and where they need a page, a map or a page that is in no frame stands at its home.
+pub fn units_are_plain_or_wait()
+    ensures plain { (f : AForkName) (p : Framed) (steps : Steps) (t : Progress nat_cmp) → IsPlain (run_over f p steps t) (run (plainly f) f steps t) }
+    ensures away { (f : AForkName) (p : Framed) (steps : Steps) (t : Progress nat_cmp) → NeedsAway p.scene (run_over f p steps t) }
 {}

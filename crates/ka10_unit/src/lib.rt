@@ -1,5 +1,5 @@
-//! The unit of an instruction: in place over any pages where each is there, and planned over pages in memory.
-//! To the layers above a unit done leaves what the plain machine's leaves, and a plan says what it comes to.
+//! The unit of an instruction: in place where each page is there, and planned over any pages.
+//! To the layers above a unit done leaves what the plain machine's leaves, and a plan says what it comes to or needs first.
 //! Stands on `plain_model` for the definitions, and on the `ka10_` crates for rows and operations.
 #![tactic(auto)]
 
@@ -62,7 +62,7 @@ pub use jumps::{
 };
 pub use laws::{
     blocks_are_copied, blocks_move_by_words, exchanged_words_change_places, pushed_calls_return,
-    pushed_words_come_back, stored_calls_return, vectors_are_gone_over,
+    pushed_words_come_back, stored_calls_return, units_are_plain_or_wait, vectors_are_gone_over,
 };
 pub use moves::commit_move;
 pub use operands::{Destination, destination_of, operand_address};
@@ -71,7 +71,7 @@ pub use plans::{Planned, plan};
 pub use program_words::{flags_of, half_of_flags, pc_word};
 pub use slow::{Outcome, slow_unit};
 pub use stacks::{commit_popj, commit_push_or_pop, commit_pushj, pushed};
-pub use taken::{Taken, Trap};
+pub use taken::{Stop, Taken};
 pub use word_blocks::{make_block, refer_block, store_block};
 pub use words::{commit_blt, commit_boolean, commit_exch, commit_half, commit_test};
 

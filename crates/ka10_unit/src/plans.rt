@@ -1,21 +1,24 @@
 // A unit planned: any word whatever, on pages that it leaves as they are.
-ghost use Rattle.std.specs.Prelude.{◌≡◌, ◌<◌, ◌^◌, IfOk};
+ghost use Rattle.std.specs.Prelude.{◌≡◌, ◌<◌, ◌^◌, IfErr, true};
 ghost use Rattle.ka10_table.specs.Rows.{IsInLine, row_of};
 ghost use Rattle.plain_model.specs.Addressing.{ac_field, opcode};
-ghost use Rattle.plain_model.specs.Instructions.{execute as executed, executes, is_executive as is_executive_ac, local_word};
+ghost use Rattle.plain_model.specs.Instructions.{execute as executed, executes, local_word};
 ghost use Rattle.plain_model.specs.Limits.{IsAddress};
 ghost use Rattle.plain_model.specs.Outcome.{DrumWords};
+ghost use Rattle.plain_model.specs.declared.names.ForkName.{ForkName as AForkName};
 ghost use Rattle.plain_model.specs.Steps.{refers};
+ghost use Rattle.ka10_unit.specs.declared.taken.Taken.{Taken as ATaken};
 ghost use Rattle.ka10_unit.specs.Gathers.{Serves, framed};
-ghost use Rattle.ka10_unit.specs.Planning.{Concludes, IsPlan, IsStep, Plans, StepsOn, as_step, calls_local, does_at, is_illegal as is_illegal_word};
-ghost use Rattle.ka10_unit.specs.Taking.{IsOpen, IsPutBelow, Stands};
+ghost use Rattle.ka10_unit.specs.Planning.{Concludes, IsPlan, IsStep, NeedsNothing, Plans, StepsOn, as_step, calls_local, does_at, is_illegal as is_illegal_word, stopped_by};
+ghost use Rattle.ka10_unit.specs.Taking.{IsOpen, IsPutBelow, IsTrap, Stands};
 
 use crate::addresses::{Address, address_of};
+use crate::dispatch::is_executive;
 use crate::ends::{Ending, ordinary};
 use crate::pointed::byte_instruction;
-use crate::taken::{Taken, Trap, refer};
+use crate::taken::{Stop, Taken, refer};
 use ka10_table::{Family, TableRow, row};
-use plain_model::{ForkName, Kind, Pages, Put, Regs};
+use plain_model::{ForkName, Kind, Need, Pages, Put, Regs};
 use word36::Word;
 
 // Where a local call stores its word, and where the word stands that it executes.
@@ -48,6 +51,9 @@ pub enum Planned {
     /// It goes through: it makes the pages that were gathered, stores the word that was kept, and
     /// ends so.
     Do(Ending),
+    /// It needs this first, and changes nothing: a map or a page that it refers to is in no frame, or
+    /// the pages that it makes find none.
+    Need(Need),
     /// It traps, with a channel, and changes nothing.
     Trap(u8),
     /// It is a monitor call, of this number, and changes nothing yet.
@@ -70,14 +76,6 @@ fn accumulator_of(word: Word) -> u8
     (word.left() >> 5 & 0o17) as u8
 }
 
-/// AC with bit 4 or bit 10 (octal) makes JRST an instruction of the executive.
-fn is_executive(ac: u8) -> bool
-    requires { ac < 16 }
-    ensures { result ≡ is_executive_ac ac }
-{
-    ac >> 2 & 1 == 1 || ac >> 3 & 1 == 1
-}
-
 /// The word that a local call stores: the opcode and AC of its own, with the address E.
 fn stored_call(word: Word, e: u32) -> Word
     requires { IsAddress e }
@@ -94,17 +92,18 @@ fn go_on<P: Pages>(
     fork: ForkName,
     at: u32,
     is_local: bool,
-) -> Result<Step, Trap>
+) -> Result<Step, Stop>
     requires serves { Serves P.means pages.now fork }
     requires address { IsAddress at }
     requires is_open { IsOpen fork taken.old }
     requires kept { IsPutBelow (2 ^ 18) taken.old.kept }
     ensures bounds { IsStep fork result taken.new }
+    ensures core { P.means.flat ≡ true → IfErr result IsTrap }
     ensures told { (d : DrumWords) → P.means.fits pages.now d → Stands fork (framed P.means pages.now d) taken.old
         → StepsOn fork (framed P.means pages.now d) regs.now.ac taken.old taken.new (λ next. refers at Kind.Execute (next is_local)) result }
 {
     match refer(taken, regs, pages, fork, at, Kind::Execute) {
-        Err(trap) => Err(trap),
+        Err(stop) => Err(stop),
         Ok(word) => Ok(Step::Goes(Next { is_local, word })),
     }
 }
@@ -117,17 +116,18 @@ fn call_local<P: Pages>(
     fork: ForkName,
     word: Word,
     e: u32,
-) -> Result<Step, Trap>
+) -> Result<Step, Stop>
     requires serves { Serves P.means pages.now fork }
     requires e { IsAddress e }
     requires is_open { IsOpen fork taken.old }
     requires kept { IsPutBelow (2 ^ 18) taken.old.kept }
     ensures bounds { IsStep fork result taken.new }
+    ensures core { P.means.flat ≡ true → IfErr result IsTrap }
     ensures told { (d : DrumWords) → P.means.fits pages.now d → Stands fork (framed P.means pages.now d) taken.old
         → StepsOn fork (framed P.means pages.now d) regs.now.ac taken.old taken.new (calls_local word e) result }
 {
     match refer(taken, regs, pages, fork, LOCAL_CALL, Kind::Write) {
-        Err(trap) => Err(trap),
+        Err(stop) => Err(stop),
         Ok(_) => {
             taken.kept = Some(Put {
                 at: LOCAL_CALL,
@@ -152,11 +152,11 @@ fn is_illegal(family: Family, is_local: bool, ac: u8) -> bool
 }
 
 /// How a unit ended, as a step.
-fn ended(end: Result<Ending, Trap>) -> Result<Step, Trap>
+fn ended(end: Result<Ending, Stop>) -> Result<Step, Stop>
     ensures { result ≡ as_step end }
 {
     match end {
-        Err(trap) => Err(trap),
+        Err(stop) => Err(stop),
         Ok(ending) => Ok(Step::Ends(ending)),
     }
 }
@@ -171,7 +171,7 @@ fn do_at<P: Pages>(
     word: Word,
     is_local: bool,
     address: &Address,
-) -> Result<Step, Trap>
+) -> Result<Step, Stop>
     requires serves { Serves P.means pages.now fork }
     requires line { IsInLine (opcode word) row }
     requires pc { regs.now.pc < 2 ^ 18 }
@@ -179,6 +179,7 @@ fn do_at<P: Pages>(
     requires is_open { IsOpen fork taken.old }
     requires kept { IsPutBelow (2 ^ 18) taken.old.kept }
     ensures bounds { IsStep fork result taken.new }
+    ensures core { P.means.flat ≡ true → IfErr result IsTrap }
     ensures told { (d : DrumWords) → P.means.fits pages.now d → Stands fork (framed P.means pages.now d) taken.old
         → StepsOn fork (framed P.means pages.now d) regs.now.ac taken.old taken.new (does_at row.family row is_local regs.now word address.now) result }
 {
@@ -202,22 +203,35 @@ fn do_word<P: Pages>(
     fork: ForkName,
     word: Word,
     is_local: bool,
-) -> Result<Step, Trap>
+) -> Result<Step, Stop>
     requires serves { Serves P.means pages.now fork }
     requires pc { regs.now.pc < 2 ^ 18 }
     requires is_open { IsOpen fork taken.old }
     requires kept { IsPutBelow (2 ^ 18) taken.old.kept }
     ensures bounds { IsStep fork result taken.new }
+    ensures core { P.means.flat ≡ true → IfErr result IsTrap }
     ensures told { (d : DrumWords) → P.means.fits pages.now d → Stands fork (framed P.means pages.now d) taken.old
         → StepsOn fork (framed P.means pages.now d) regs.now.ac taken.old taken.new (executes (row_of (opcode word)).family (row_of (opcode word)) is_local regs.now word) result }
 {
     let row = row(opcode_of(word));
     if is_illegal(row.family, is_local, accumulator_of(word)) {
-        return Err(Trap::ILLEGAL);
+        return Err(Stop::ILLEGAL);
     }
     match address_of(taken, regs, pages, fork, word) {
-        Err(trap) => Err(trap),
+        Err(stop) => Err(stop),
         Ok(address) => do_at(taken, regs, pages, fork, row, word, is_local, &address),
+    }
+}
+
+/// What a unit comes to that stops before its end.
+fn stopped(stop: Stop) -> Planned
+    ensures plan { result ≡ stopped_by stop }
+    ensures bounds { (f : AForkName) (t : ATaken) → IsPlan f result t }
+    ensures core { IsTrap stop → NeedsNothing result }
+{
+    match stop {
+        Stop::Trap(channel) => Planned::Trap(channel),
+        Stop::Need(need) => Planned::Need(need),
     }
 }
 
@@ -236,14 +250,15 @@ fn follow<P: Pages>(
     requires is_open { IsOpen fork taken.old }
     requires kept { IsPutBelow (2 ^ 18) taken.old.kept }
     ensures bounds { IsPlan fork result taken.new }
+    ensures core { P.means.flat ≡ true → NeedsNothing result }
     ensures told { (d : DrumWords) → P.means.fits pages.now d → Stands fork (framed P.means pages.now d) taken.old
         → Concludes fork (framed P.means pages.now d) regs.now.ac taken.old taken.new (executed left is_local regs.now word) result }
 {
     if left == 0 {
-        return Planned::Trap(Trap::ILLEGAL.channel);
+        return stopped(Stop::ILLEGAL);
     }
     match do_word(taken, regs, pages, fork, word, is_local) {
-        Err(trap) => Planned::Trap(trap.channel),
+        Err(stop) => stopped(stop),
         Ok(Step::Calls(number)) => Planned::Call(number),
         Ok(Step::Ends(ending)) => Planned::Do(ending),
         Ok(Step::Goes(next)) => follow(
@@ -265,11 +280,12 @@ pub fn plan<P: Pages>(taken: &mut Taken, regs: &Regs, pages: &P, fork: ForkName)
     requires serves { Serves P.means pages.now fork }
     requires pc { regs.now.pc < 2 ^ 18 }
     ensures bounds { IsPlan fork result taken.new }
+    ensures core { P.means.flat ≡ true → NeedsNothing result }
     ensures told { (d : DrumWords) → P.means.fits pages.now d → Plans fork (framed P.means pages.now d) regs.now taken.new result }
 {
     taken.restart(fork);
     match refer(taken, regs, pages, fork, regs.pc, Kind::Execute) {
-        Err(trap) => Planned::Trap(trap.channel),
+        Err(stop) => stopped(stop),
         Ok(word) => follow(MOST_WORDS, taken, regs, pages, fork, word, false),
     }
 }

@@ -1,11 +1,11 @@
 // Byte instructions: the pointer, and the word whose byte it names.
-ghost use Rattle.std.specs.Prelude.{◌≡◌, ◌<◌, ◌^◌, IfOk};
+ghost use Rattle.std.specs.Prelude.{◌≡◌, ◌<◌, ◌^◌, IfErr, IfOk, true};
 ghost use Rattle.plain_model.specs.Instructions.{deposits_byte, does_pointer, first_part_done, loads_byte};
 ghost use Rattle.plain_model.specs.Limits.{IsAddress};
 ghost use Rattle.plain_model.specs.Outcome.{DrumWords};
 ghost use Rattle.ka10_unit.specs.Gathers.{IsOf, Serves, framed};
-ghost use Rattle.ka10_unit.specs.Planning.{Ends, IsEnding};
-ghost use Rattle.ka10_unit.specs.Taking.{IsOpen, IsPutBelow, Stands};
+ghost use Rattle.ka10_unit.specs.Planning.{Ends, LeavesEnd};
+ghost use Rattle.ka10_unit.specs.Taking.{IsOpen, IsPutBelow, IsTrap, Stands};
 
 use crate::addresses::address_of;
 use crate::bytes::{
@@ -14,7 +14,7 @@ use crate::bytes::{
 };
 use crate::ends::{Ending, finish};
 use crate::operands::Destination;
-use crate::taken::{Taken, Trap, refer};
+use crate::taken::{Stop, Taken, refer};
 use plain_model::{ForkName, Kind, Pages, Regs};
 use word36::Word;
 
@@ -26,15 +26,13 @@ fn load_byte<P: Pages>(
     fork: ForkName,
     ac: u8,
     pointer: Word,
-) -> Result<Ending, Trap>
+) -> Result<Ending, Stop>
     requires serves { Serves P.means pages.now fork }
     requires ac { ac < 16 }
     requires pc { regs.now.pc < 2 ^ 18 }
     requires is_open { IsOpen fork taken.old }
     requires kept { IsPutBelow (2 ^ 18) taken.old.kept }
-    ensures own { IsOf fork taken.new.gather }
-    ensures kept { taken.new.kept ≡ taken.old.kept }
-    ensures end { IfOk result (λ x. IsEnding x) }
+    ensures leaves { LeavesEnd P.means fork taken.old taken.new result }
     ensures told { (d : DrumWords) → P.means.fits pages.now d → Stands fork (framed P.means pages.now d) taken.old
         → Ends fork (framed P.means pages.now d) regs.now.ac taken.old taken.new (loads_byte regs.now ac pointer) result }
 {
@@ -62,15 +60,13 @@ fn deposit_byte<P: Pages>(
     fork: ForkName,
     ac: u8,
     pointer: Word,
-) -> Result<Ending, Trap>
+) -> Result<Ending, Stop>
     requires serves { Serves P.means pages.now fork }
     requires ac { ac < 16 }
     requires pc { regs.now.pc < 2 ^ 18 }
     requires is_open { IsOpen fork taken.old }
     requires kept { IsPutBelow (2 ^ 18) taken.old.kept }
-    ensures own { IsOf fork taken.new.gather }
-    ensures kept { taken.new.kept ≡ taken.old.kept }
-    ensures end { IfOk result (λ x. IsEnding x) }
+    ensures leaves { LeavesEnd P.means fork taken.old taken.new result }
     ensures told { (d : DrumWords) → P.means.fits pages.now d → Stands fork (framed P.means pages.now d) taken.old
         → Ends fork (framed P.means pages.now d) regs.now.ac taken.old taken.new (deposits_byte regs.now ac pointer) result }
 {
@@ -100,7 +96,7 @@ pub fn byte_instruction<P: Pages>(
     code: u8,
     ac: u8,
     e: u32,
-) -> Result<Ending, Trap>
+) -> Result<Ending, Stop>
     requires serves { Serves P.means pages.now fork }
     requires code { code < 5 }
     requires ac { ac < 16 }
@@ -108,9 +104,7 @@ pub fn byte_instruction<P: Pages>(
     requires pc { regs.now.pc < 2 ^ 18 }
     requires is_open { IsOpen fork taken.old }
     requires kept { IsPutBelow (2 ^ 18) taken.old.kept }
-    ensures own { IsOf fork taken.new.gather }
-    ensures kept { taken.new.kept ≡ taken.old.kept }
-    ensures end { IfOk result (λ x. IsEnding x) }
+    ensures leaves { LeavesEnd P.means fork taken.old taken.new result }
     ensures told { (d : DrumWords) → P.means.fits pages.now d → Stands fork (framed P.means pages.now d) taken.old
         → Ends fork (framed P.means pages.now d) regs.now.ac taken.old taken.new (does_pointer code regs.now ac e) result }
 {

@@ -8,13 +8,15 @@ use crate::carry::carry;
 use crate::committed::Post;
 use crate::plans::{Planned, plan};
 use crate::taken::Taken;
-use plain_model::{ForkName, Pages, Regs};
+use plain_model::{ForkName, Need, Pages, Regs};
 
 /// How a unit came out.
 #[derive(Clone, Copy, Debug, PartialEq, Eq)]
 pub enum Outcome {
     /// It went through, and posts this.
     Done(Post),
+    /// It needs this first, and has changed nothing.
+    Need(Need),
     /// It traps, with a channel, and has changed nothing.
     Trap(u8),
     /// It is a monitor call, of this number, and has changed nothing.
@@ -42,6 +44,7 @@ pub fn slow_unit<P: Pages>(
 {
     have_accumulators(*regs);
     match plan(taken, regs, pages, fork) {
+        Planned::Need(need) => Outcome::Need(need),
         Planned::Trap(channel) => Outcome::Trap(channel),
         Planned::Call(number) => Outcome::Call(number),
         Planned::Do(ending) => {

@@ -1,5 +1,5 @@
 // What a unit has taken so far.
-ghost use Rattle.std.specs.Prelude.{◌≡◌, ◌≢◌, ◌+◌, ◌-◌, ◌/◌, ◌%◌, ◌≤◌, ◌<◌, ◌^◌, ◌==◌, ◌&&◌, List, [], ◌∷◌, ◌++◌, ℕ, length, true, false, None, Some, Option, nat_lt, OnErr, slice_index, slice_set, is_some};
+ghost use Rattle.std.specs.Prelude.{◌≡◌, ◌≢◌, ◌+◌, ◌-◌, ◌/◌, ◌%◌, ◌≤◌, ◌<◌, ◌^◌, ◌==◌, ◌&&◌, List, [], ◌∷◌, ◌++◌, ℕ, length, true, false, None, Some, Option, nat_lt, OnErr, IfErr, slice_index, slice_set, is_some};
 ghost use Rattle.std.specs.Option.{option_map_or};
 ghost use Rattle.outside.specs.declared.TheConstants.{PAGE_WORDS};
 ghost use Rattle.plain_model.specs.declared.names.TheConstants.{ACCUMULATORS, TERMINALS};
@@ -11,34 +11,34 @@ ghost use Rattle.plain_model.specs.References.{in_map, page_at, slot_at, word_at
 ghost use Rattle.plain_model.specs.Room.{same_page};
 ghost use Rattle.plain_model.specs.Steps.{denied_channel, is_accumulator, refers, widens, word_taken, seen};
 ghost use Rattle.plain_model.specs.declared.names.PageName.{PageName as APageName};
-ghost use Rattle.page_gather.specs.Gathering.{AreSound, Gathers, left_of};
+ghost use Rattle.page_gather.specs.Gathering.{AreSound, Gathers, IsNear, left_of};
 ghost use Rattle.ka10_unit.specs.Gathers.{IsOf, Serves, framed};
-ghost use Rattle.ka10_unit.specs.Taking.{AsksAt, CanWrite, Follows, HasPage, IsOpen, IsPutBelow, Stands, StaysOpen, pages_so_far, progress, stands_at, widened_by};
+ghost use Rattle.ka10_unit.specs.Taking.{AsksAt, CanPut, CanWrite, Follows, HasPage, IsOpen, IsPutBelow, IsTrap, Stands, StaysOpen, progress, so_far, stands_at, widened_by};
 
 use arrayvec::ArrayVec;
 use outside::PAGE_WORDS;
 use page_gather::{Added, Gather};
 use plain_model::{
-    ACCUMULATORS, ForkName, Kind, MOST_REFERENCES, Pages, Place, Put, Reference, Regs, Slot, Tty,
-    channel,
+    ACCUMULATORS, ForkName, Kind, MOST_REFERENCES, Need, Pages, Place, Put, Reference, Regs, Slot,
+    Tty, channel,
 };
 use word36::Word;
 
 // How many words a page has, as addresses count them.
 const WORDS: u32 = PAGE_WORDS as u32;
 
-/// Why a unit stops before its end: it traps.
+/// Why a unit stops before its end.
 #[derive(Clone, Copy, Debug, PartialEq, Eq)]
-pub struct Trap {
-    /// The channel of the trap.
-    pub channel: u8,
+pub enum Stop {
+    /// It traps, with this channel.
+    Trap(u8),
+    /// A map or a page that it refers to is in no frame, or the pages that it makes find none.
+    Need(Need),
 }
 
-impl Trap {
+impl Stop {
     /// An illegal instruction, or more references than a unit may have.
-    pub const ILLEGAL: Trap = Trap {
-        channel: channel::ILLEGAL_INSTRUCTION,
-    };
+    pub const ILLEGAL: Stop = Stop::Trap(channel::ILLEGAL_INSTRUCTION);
 }
 
 /// What a unit has taken so far: its references, what they come to, and the word that it has stored
@@ -108,7 +108,7 @@ fn ask<P: Pages>(
     fork: ForkName,
     at: u32,
     kind: Kind,
-) -> Result<(), Trap>
+) -> Result<(), Stop>
     requires serves { Serves P.means pages.now fork }
     requires address { IsAddress at }
     requires own { IsOf fork gather.old }
@@ -116,6 +116,7 @@ fn ask<P: Pages>(
     ensures own { IsOf fork gather.new }
     ensures room { length gather.new.references ≤ length gather.old.references + 1 }
     ensures stopped { OnErr result (gather.new ≡ gather.old) }
+    ensures core { P.means.flat ≡ true → IfErr result IsTrap }
     ensures told { (d : DrumWords) → P.means.fits pages.now d → Gathers (P.means.plain pages.now d) (P.means.scene pages.now) gather.old
         → AsksAt fork (framed P.means pages.now d) gather.old gather.new at kind result }
 {
@@ -124,13 +125,9 @@ fn ask<P: Pages>(
     }
     match gather.add(pages, page_of_address(fork, at), kind) {
         Added::Went => Ok(()),
-        Added::Denied(kind) => Err(Trap {
-            channel: denied(kind),
-        }),
-        Added::Full => Err(Trap {
-            channel: channel::DRUM_FULL,
-        }),
-        Added::Need(_) => unreachable!(),
+        Added::Need(need) => Err(Stop::Need(need)),
+        Added::Denied(kind) => Err(Stop::Trap(denied(kind))),
+        Added::Full => Err(Stop::Trap(channel::DRUM_FULL)),
     }
 }
 
@@ -139,18 +136,20 @@ fn held_word<P: Pages>(gather: &Gather, pages: &P, fork: ForkName, at: u32) -> W
     requires serves { Serves P.means pages.now fork }
     requires address { IsAddress at }
     ensures told { (d : DrumWords) → P.means.fits pages.now d → Gathers (P.means.plain pages.now d) (P.means.scene pages.now) gather.now
+        → IsNear (left_of (P.means.plain pages.now d) gather.now) (P.means.scene pages.now) (slot_at fork at)
         → result ≡ word_at_spot (left_of (P.means.plain pages.now d) gather.now) (in_map (slot_at fork at)) (at % PAGE_WORDS) }
 {
     gather.word(pages, page_of_address(fork, at), (at % WORDS) as u16)
 }
 
 /// Whether a word that the unit has stored at an address stands at another: at the same place of
-/// the same page, which may have two names.
+/// the same page, which may have two names. Both pages are in frames.
 fn is_stored_at<P: Pages>(gather: &Gather, pages: &P, fork: ForkName, stored: u32, at: u32) -> bool
     requires serves { Serves P.means pages.now fork }
     requires address { IsAddress at }
     requires stored { IsAddress stored }
     ensures told { (d : DrumWords) (n : APageName) → P.means.fits pages.now d → Gathers (P.means.plain pages.now d) (P.means.scene pages.now) gather.now
+        → IsNear (left_of (P.means.plain pages.now d) gather.now) (P.means.scene pages.now) (slot_at fork at) → IsNear (left_of (P.means.plain pages.now d) gather.now) (P.means.scene pages.now) (slot_at fork stored)
         → page_at (left_of (P.means.plain pages.now d) gather.now) (in_map (slot_at fork at)) ≡ Some n → result ≡ stands_at fork (left_of (P.means.plain pages.now d) gather.now) stored at n }
 {
     if stored % WORDS != at % WORDS {
@@ -178,6 +177,8 @@ fn seen_word<P: Pages>(
     requires address { IsAddress at }
     requires kept { IsPutBelow (2 ^ 18) kept }
     ensures told { (d : DrumWords) (n : APageName) → P.means.fits pages.now d → Gathers (P.means.plain pages.now d) (P.means.scene pages.now) gather.now
+        → IsNear (left_of (P.means.plain pages.now d) gather.now) (P.means.scene pages.now) (slot_at fork at)
+        → CanPut fork (record { pages = left_of (P.means.plain pages.now d) gather.now; scene = P.means.scene pages.now }) kept
         → page_at (left_of (P.means.plain pages.now d) gather.now) (in_map (slot_at fork at)) ≡ Some n → result ≡ seen (left_of (P.means.plain pages.now d) gather.now) fork kept at (Some n) }
 {
     match kept {
@@ -205,7 +206,7 @@ fn word_at<P: Pages>(taken: &Taken, regs: &Regs, pages: &P, fork: ForkName, at: 
     requires serves { Serves P.means pages.now fork }
     requires address { IsAddress at }
     requires kept { IsPutBelow (2 ^ 18) taken.now.kept }
-    ensures told { (d : DrumWords) → P.means.fits pages.now d → Gathers (P.means.plain pages.now d) (P.means.scene pages.now) taken.now.gather → HasPage fork (pages_so_far (framed P.means pages.now d) taken.now) at
+    ensures told { (d : DrumWords) → P.means.fits pages.now d → Stands fork (framed P.means pages.now d) taken.now → HasPage fork (so_far (framed P.means pages.now d) taken.now) at
         → result ≡ word_taken fork (progress (framed P.means pages.now d) regs.now.ac taken.now) at }
 {
     if at < ACCUMULATORS {
@@ -222,7 +223,7 @@ pub fn refer_next<P: Pages>(
     fork: ForkName,
     at: u32,
     kind: Kind,
-) -> Result<Word, Trap>
+) -> Result<Word, Stop>
     requires serves { Serves P.means pages.now fork }
     requires address { IsAddress at }
     requires is_open { IsOpen fork taken.old }
@@ -235,11 +236,12 @@ pub fn refer_next<P: Pages>(
         → Follows fork (framed P.means pages.now d) regs.now.ac taken.old taken.new (refers at kind) result }
     ensures writes { (d : DrumWords) → P.means.fits pages.now d → Stands fork (framed P.means pages.now d) taken.old → kind ≡ Kind.Write
         → CanWrite fork (framed P.means pages.now d) taken.new at result }
+    ensures core { P.means.flat ≡ true → IfErr result IsTrap }
     ensures still { (d : DrumWords) → P.means.fits pages.now d → Stands fork (framed P.means pages.now d) taken.old
-        → StaysOpen fork (pages_so_far (framed P.means pages.now d) taken.old) (pages_so_far (framed P.means pages.now d) taken.new) }
+        → StaysOpen fork (so_far (framed P.means pages.now d) taken.old) (so_far (framed P.means pages.now d) taken.new) }
 {
     match ask(&mut taken.gather, pages, fork, at, kind) {
-        Err(trap) => Err(trap),
+        Err(stop) => Err(stop),
         Ok(()) => {
             taken.refs.push(Reference { address: at, kind });
             Ok(word_at(taken, regs, pages, fork, at))
@@ -247,8 +249,9 @@ pub fn refer_next<P: Pages>(
     }
 }
 
-/// Refers to an address, and takes the word there. Err: the page is denied, or has to be made and
-/// the drum is full; or it would be a reference more than a unit may have.
+/// Refers to an address, and takes the word there. Err: a map on the way or the page is in no frame;
+/// or the page is denied, or has to be made and finds no frame, or the drum is full; or it would be
+/// a reference more than a unit may have.
 pub fn refer<P: Pages>(
     taken: &mut Taken,
     regs: &Regs,
@@ -256,20 +259,21 @@ pub fn refer<P: Pages>(
     fork: ForkName,
     at: u32,
     kind: Kind,
-) -> Result<Word, Trap>
+) -> Result<Word, Stop>
     requires serves { Serves P.means pages.now fork }
     requires address { IsAddress at }
     requires is_open { IsOpen fork taken.old }
     requires kept { IsPutBelow (2 ^ 18) taken.old.kept }
     ensures is_open { IsOpen fork taken.new }
     ensures kept { taken.new.kept ≡ taken.old.kept }
+    ensures core { P.means.flat ≡ true → IfErr result IsTrap }
     ensures told { (d : DrumWords) → P.means.fits pages.now d → Stands fork (framed P.means pages.now d) taken.old
         → Follows fork (framed P.means pages.now d) regs.now.ac taken.old taken.new (refers at kind) result }
     ensures writes { (d : DrumWords) → P.means.fits pages.now d → Stands fork (framed P.means pages.now d) taken.old → kind ≡ Kind.Write
         → CanWrite fork (framed P.means pages.now d) taken.new at result }
 {
     if taken.refs.len() >= MOST_REFERENCES as usize {
-        return Err(Trap::ILLEGAL);
+        return Err(Stop::ILLEGAL);
     }
     refer_next(taken, regs, pages, fork, at, kind)
 }
@@ -294,19 +298,20 @@ pub fn widen<P: Pages>(
     pages: &P,
     fork: ForkName,
     at: u32,
-) -> Result<(), Trap>
+) -> Result<(), Stop>
     requires serves { Serves P.means pages.now fork }
     requires address { IsAddress at }
     requires is_open { IsOpen fork taken.old }
     ensures own { IsOf fork taken.new.gather }
     ensures kept { taken.new.kept ≡ taken.old.kept }
+    ensures core { P.means.flat ≡ true → IfErr result IsTrap }
     ensures told { (d : DrumWords) → P.means.fits pages.now d → Stands fork (framed P.means pages.now d) taken.old
         → Follows fork (framed P.means pages.now d) regs.now.ac taken.old taken.new (widened_by at) result }
     ensures writes { (d : DrumWords) → P.means.fits pages.now d → Stands fork (framed P.means pages.now d) taken.old
         → CanWrite fork (framed P.means pages.now d) taken.new at result }
 {
     match ask(&mut taken.gather, pages, fork, at, Kind::Write) {
-        Err(trap) => Err(trap),
+        Err(stop) => Err(stop),
         Ok(()) => {
             replace_last(&mut taken.refs, at);
             Ok(())

@@ -1,5 +1,5 @@
 // Sixteen words of a fork, from an address on.
-ghost use Rattle.std.specs.Prelude.{◌≡◌, ◌<◌, ◌^◌, None};
+ghost use Rattle.std.specs.Prelude.{◌≡◌, ◌<◌, ◌^◌, ℕ, IfErr, None, true};
 ghost use Rattle.plain_model.specs.Calls.{next_address};
 ghost use Rattle.plain_model.specs.ForkCalls.{stored_from};
 ghost use Rattle.plain_model.specs.Limits.{IsAddress};
@@ -9,10 +9,10 @@ ghost use Rattle.plain_model.specs.declared.names.TheConstants.{ACCUMULATORS};
 ghost use Rattle.ka10_unit.specs.Blocks.{AreOpenAt, IsStoredAt, TakesBlock, stored_word};
 ghost use Rattle.ka10_unit.specs.Carrying.{Grows};
 ghost use Rattle.ka10_unit.specs.Gathers.{IsOf, Serves, framed};
-ghost use Rattle.ka10_unit.specs.Taking.{Stands, pages_so_far};
+ghost use Rattle.ka10_unit.specs.Taking.{IsTrap, Stands, pages_so_far, so_far};
 
 use crate::carry::{carry, store};
-use crate::taken::{Taken, Trap, refer_next};
+use crate::taken::{Stop, Taken, refer_next};
 use plain_model::{ACCUMULATORS, ForkName, Kind, Pages, Put, Regs};
 use word36::Word;
 
@@ -28,8 +28,8 @@ fn next_address(at: u32) -> u32
 }
 
 /// Refers to sixteen words of a fork from an address on, in order, and takes them. What is taken before is forgotten.
-/// Err: the first reference that is denied, or for which a page has to be made while the drum is full. No page is made
-/// before `make_block`.
+/// Err: the first reference whose page, or a map on the way, is in no frame; that is denied; or for which a page has to
+/// be made while the drum is full, or no frame is free. No page is made before `make_block`.
 pub fn refer_block<P: Pages>(
     taken: &mut Taken,
     regs: &Regs,
@@ -37,11 +37,12 @@ pub fn refer_block<P: Pages>(
     fork: ForkName,
     at: u32,
     kind: Kind,
-) -> Result<[Word; 16], Trap>
+) -> Result<[Word; 16], Stop>
     requires serves { Serves P.means pages.now fork }
     requires address { IsAddress at }
     ensures own { IsOf fork taken.new.gather }
     ensures kept { taken.new.kept ≡ None }
+    ensures core { P.means.flat ≡ true → IfErr result IsTrap }
     ensures told { (d : DrumWords) → P.means.fits pages.now d → TakesBlock fork (framed P.means pages.now d) regs.now at kind taken.new result }
 {
     taken.restart(fork);
@@ -49,7 +50,7 @@ pub fn refer_block<P: Pages>(
     let mut next = at;
     for i in 0..WORDS {
         match refer_next(taken, regs, pages, fork, next, kind) {
-            Err(trap) => return Err(trap),
+            Err(stop) => return Err(stop),
             Ok(word) => words[i] = word,
         }
         next = next_address(next);
@@ -65,6 +66,8 @@ pub fn make_block<P: Pages>(taken: &Taken, pages: &mut P, fork: ForkName)
     requires serial { P.means.serial pages.old fork.tty < 2 ^ 62 }
     ensures told { (d : DrumWords) → P.means.fits pages.old d → Stands fork (framed P.means pages.old d) taken.now
         → P.means.plain pages.new d ≡ pages_so_far (framed P.means pages.old d) taken.now }
+    ensures opens { (d : DrumWords) (at n : ℕ) → P.means.fits pages.old d → Stands fork (framed P.means pages.old d) taken.now
+        → AreOpenAt fork (so_far (framed P.means pages.old d) taken.now) at n → AreOpenAt fork (framed P.means pages.new d) at n }
     ensures fits { (d : DrumWords) → P.means.fits pages.old d → P.means.fits pages.new d }
     ensures grows { Grows P.means fork.tty 128 pages.old pages.new }
 {
@@ -75,7 +78,7 @@ pub fn make_block<P: Pages>(taken: &Taken, pages: &mut P, fork: ForkName)
 fn store_at<P: Pages>(pages: &mut P, fork: ForkName, at: u32, word: Word)
     requires serves { Serves P.means pages.old fork }
     requires address { IsAddress at }
-    ensures told { (d : DrumWords) → P.means.fits pages.old d → IsStoredAt fork (P.means.plain pages.old d) at
+    ensures told { (d : DrumWords) → P.means.fits pages.old d → IsStoredAt fork (framed P.means pages.old d) at
         → P.means.plain pages.new d ≡ stored_word fork (P.means.plain pages.old d) at word }
     ensures fits { (d : DrumWords) → P.means.fits pages.old d → P.means.fits pages.new d }
     ensures stays { StaysPut P.means pages.old pages.new }
@@ -90,7 +93,7 @@ fn store_at<P: Pages>(pages: &mut P, fork: ForkName, at: u32, word: Word)
 pub fn store_block<P: Pages>(pages: &mut P, fork: ForkName, at: u32, words: &[Word; 16])
     requires serves { Serves P.means pages.old fork }
     requires address { IsAddress at }
-    ensures told { (d : DrumWords) → P.means.fits pages.old d → AreOpenAt fork (P.means.plain pages.old d) at ACCUMULATORS
+    ensures told { (d : DrumWords) → P.means.fits pages.old d → AreOpenAt fork (framed P.means pages.old d) at ACCUMULATORS
         → P.means.plain pages.new d ≡ stored_from (P.means.plain pages.old d) fork at words.now }
     ensures fits { (d : DrumWords) → P.means.fits pages.old d → P.means.fits pages.new d }
     ensures stays { StaysPut P.means pages.old pages.new }

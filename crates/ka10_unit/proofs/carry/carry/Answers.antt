@@ -1,17 +1,28 @@
-use Rattle.std.proofs.Common.{◌≡◌, ◌∙◌, ap, sym, subst}
+use Rattle.std.proofs.Common.{◌≡◌, ◌∙◌, ap}
 use Rattle.plain_model.specs.State.{NumberedPages}
 use Rattle.plain_model.specs.Steps.{put_into}
-use Rattle.ka10_unit.specs.Gathers.{framed}
-use Rattle.ka10_unit.specs.Taking.{CanPut, pages_so_far}
-use Rattle.ka10_unit.proofs.Carried.{put_still}
+use Rattle.ka10_unit.specs.Carrying.{StaysAway}
+use Rattle.ka10_unit.specs.Gathers.{Framed, framed}
+use Rattle.ka10_unit.specs.Taking.{so_far}
+use Rattle.ka10_unit.proofs.Carried.{away_on, away_same, put_framed, put_still}
 use Rattle.ka10_unit.proofs.carry.carry.Goals as goal
 
 pub returns-clause-told : goal.returns-clause-told
 returns-clause-told g c d fits stands can =
-    let q : NumberedPages = pages_so_far (framed g.P.Pages.means c.args.pages.now d) c.args.taken.now in
-    let made : g.P.Pages.means.plain c.make.new.pages d ≡ q = c.make.ensures.told d fits stands.gathers in
+    let means = g.P.Pages.means in
+    let f = c.args.fork in
+    let kept = c.args.taken.now.kept in
+    let q : Framed = so_far (framed means c.args.pages.now d) c.args.taken.now in
+    let made : means.plain c.make.new.pages d ≡ q.pages = c.make.ensures.told d fits stands.gathers in
     let fits_made = c.make.ensures.fits d fits in
-    let kept = subst (λ (x : NumberedPages). CanPut c.args.fork x c.args.taken.now.kept) (sym made) stands.kept in
-    let one : g.P.Pages.means.plain c.store.new.pages d ≡ put_into c.args.fork q c.args.taken.now.kept = c.store.ensures.told d fits_made kept ∙ ap (λ (x : NumberedPages). put_into c.args.fork x c.args.taken.now.kept) made in
-    let last = subst (λ (x : NumberedPages). CanPut c.args.fork x c.args.put) (sym one) (put_still c.args.fork q c.args.taken.now.kept c.args.put can) in
-    c.store-2.ensures.told d (c.store.ensures.fits d fits_made) last ∙ ap (λ (x : NumberedPages). put_into c.args.fork x c.args.put) one
+    let away : StaysAway (means.scene c.args.pages.now) (means.scene c.make.new.pages) = record { maps = c.make.ensures.grows.maps_away; pages = c.make.ensures.grows.pages_away } in
+    let first = put_framed f q (framed means c.make.new.pages d) made away kept stands.kept in
+    let one : means.plain c.store.new.pages d ≡ put_into f q.pages kept = c.store.ensures.told d fits_made first ∙ ap (λ (x : NumberedPages). put_into f x kept) made in
+    let still : StaysAway (means.scene c.args.pages.now) (means.scene c.store.new.pages) = away_on _ _ _ away (away_same _ _ c.store.ensures.stays.scene) in
+    let last = put_framed f (record q { pages = put_into f q.pages kept }) (framed means c.store.new.pages d) one still c.args.put (put_still f q kept c.args.put can) in
+    c.store-2.ensures.told d (c.store.ensures.fits d fits_made) last ∙ ap (λ (x : NumberedPages). put_into f x c.args.put) one
+
+pub returns-clause-away : goal.returns-clause-away
+returns-clause-away g c =
+    let made = c.make.ensures.grows in
+    away_on _ _ _ (record { maps = made.maps_away; pages = made.pages_away }) (away_on _ _ _ (away_same _ _ c.store.ensures.stays.scene) (away_same _ _ c.store-2.ensures.stays.scene))

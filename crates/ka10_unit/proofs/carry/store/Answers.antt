@@ -1,8 +1,8 @@
-use Rattle.std.proofs.Common.{inl, refl}
+use Rattle.std.proofs.Common.{inl, refl, ◌∙◌}
 use Rattle.plain_model.specs.State.{NumberedPages}
 use Rattle.plain_model.specs.declared.names.Kind.TheVariants.{Write}
-use Rattle.plain_model.specs.References.{in_map, slot_at}
-use Rattle.ka10_unit.proofs.Carried.{ready_found}
+use Rattle.plain_model.specs.References.{slot_at}
+use Rattle.ka10_unit.proofs.Carried.{ready_here}
 use Rattle.ka10_unit.proofs.carry.store.Goals as goal
 
 pub returns-in_default-touch : goal.returns-in_default-touch
@@ -11,7 +11,7 @@ returns-in_default-touch g c = record {
       let p : NumberedPages = g.P.Pages.means.plain c.args.pages.now d in
       let touched = rw c.page_of_address-at.ensures at (c.touch.ensures.told d c.args.fork.tty fits (inl c.requires.serves.terminal)) in
       let open_at = rw c.in-Some.is at can in
-      absurd (c.in_default-touch.not-Ready (ready_found p (g.P.Pages.means.scene c.args.pages.now) (in_map (slot_at c.args.fork c.in-Some.put.at)) Write c.args.fork.tty c.touch.result touched (c.touch.ensures.core c.requires.serves.flat) open_at));
+      absurd (c.in_default-touch.not-Ready (touched ∙ ready_here p (g.P.Pages.means.scene c.args.pages.now) (slot_at c.args.fork c.in-Some.put.at) Write c.args.fork.tty open_at.near open_at.makes));
   fits = λ d fits. fits;
   stays = record { touched = refl; scene = refl; space = refl; place = refl; lives = refl; forks = refl; serials = refl; most = refl };
 }

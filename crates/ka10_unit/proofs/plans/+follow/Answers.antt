@@ -3,12 +3,12 @@ use Rattle.ka10_unit.proofs.Stepping.{out_of_words, word_stops, word_calls, word
 use Rattle.ka10_unit.proofs.plans.+follow.Goals as goal
 
 pub returns-then-left-eq0-clause-told : goal.returns-then-left-eq0-clause-told
-returns-then-left-eq0-clause-told g t c d fits stands = out_of_words _ _ c.args.regs.now _ c.args.left c.args.word c.args.is_local c.if-left-eq0.true stands
+returns-then-left-eq0-clause-told g t c d fits stands = rw c.stopped.ensures.plan (out_of_words _ _ c.args.regs.now _ c.args.left c.args.word c.args.is_local c.if-left-eq0.true stands)
 
 pub returns-in-Err-clause-told : goal.returns-in-Err-clause-told
 returns-in-Err-clause-told g t c d fits stands =
     let more : 0 < c.args.left = omega arith in
-    word_stops _ _ c.args.regs.now _ _ c.args.left c.args.word c.args.is_local more c.in-Err.trap (c.in-Err.ensures.told d fits stands)
+    rw c.stopped-in-Err.ensures.plan (word_stops _ _ c.args.regs.now _ _ c.args.left c.args.word c.args.is_local more c.in-Err.stop (c.in-Err.ensures.told d fits stands))
 
 pub returns-in-Ok-Calls-clause-told : goal.returns-in-Ok-Calls-clause-told
 returns-in-Ok-Calls-clause-told g t c d fits stands =

@@ -19,7 +19,7 @@ returns-in-Err-clause-told g c d fits stands =
     let is : row ≡ row_of (opcode c.args.word) = c.row-row.ensures.row ∙ ap row_of c.opcode_of.ensures.value in
     let legal : is_illegal row.family c.args.is_local (ac_field c.args.word) ≡ false = ap (is_illegal row.family c.args.is_local) (sym c.accumulator_of.ensures.value) ∙ sym c.is_illegal.ensures ∙ c.if-is_illegal.false in
     rw (← is) (takes_address _ _ _ c.args.regs.now c.args.word c.args.is_local row c.args.taken.now _ _ legal
-    (steps_stop _ _ _ c.args.taken.now _ (reached c.args.regs.now.ac c.args.word) (λ next a. does_at row.family row c.args.is_local c.args.regs.now c.args.word a next) c.in-Err.trap (c.in-Err.ensures.told d fits stands)))
+    (steps_stop _ _ _ c.args.taken.now _ (reached c.args.regs.now.ac c.args.word) (λ next a. does_at row.family row c.args.is_local c.args.regs.now c.args.word a next) c.in-Err.stop (c.in-Err.ensures.told d fits stands)))
 
 pub returns-in-Ok-clause-told : goal.returns-in-Ok-clause-told
 returns-in-Ok-clause-told g c d fits stands =

@@ -6,7 +6,7 @@ use Rattle.ka10_unit.proofs.plans.plan.Goals as goal
 pub returns-in-Err-clause-told : goal.returns-in-Err-clause-told
 returns-in-Err-clause-told g c d fits =
     let stands = none_stands _ (framed g.P.Pages.means c.args.pages.now d) c.args.regs.now c.restart.new.self (c.restart.ensures.told _ _ (sound_as g.P.Pages.means c.args.pages.now _ (g.met.P.Pages.whole c.args.pages.now d fits) (g.met.P.Pages.agrees c.args.pages.now d fits))) c.restart.ensures.kept in
-    plan_stops _ _ c.args.regs.now _ _ c.in-Err.trap c.restart.ensures.gather c.restart.ensures.refs c.restart.ensures.kept (c.in-Err.ensures.told d fits stands)
+    rw c.stopped.ensures.plan (plan_stops _ _ c.args.regs.now _ _ c.in-Err.stop c.restart.ensures.gather c.restart.ensures.refs c.restart.ensures.kept (c.in-Err.ensures.told d fits stands))
 
 pub returns-in-Ok-clause-told : goal.returns-in-Ok-clause-told
 returns-in-Ok-clause-told g c d fits =

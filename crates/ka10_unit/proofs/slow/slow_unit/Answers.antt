@@ -5,10 +5,22 @@ use Rattle.ka10_unit.specs.Once.{once, went_through}
 use Rattle.ka10_unit.proofs.Carried.{grows_none, grows_within}
 use Rattle.ka10_unit.proofs.slow.slow_unit.Goals as goal
 
+pub returns-in-Need : goal.returns-in-Need
+returns-in-Need g c = record {
+  told = λ d fits. (fits, (c.in-Need.ensures.told d fits).is);
+  stopped = (refl, refl);
+  core = c.in-Need.ensures.core;
+  grows = grows_within g.P.Pages.means c.args.fork.tty 0 128 _ _ (omega arith) (grows_none g.P.Pages.means c.args.fork.tty _);
+  pc = c.requires.pc;
+  number = tt;
+  accumulators = refl;
+}
+
 pub returns-in-Trap : goal.returns-in-Trap
 returns-in-Trap g c = record {
-  told = λ d fits. (fits, (c.in-Trap.ensures.told d fits).is);
+  told = λ d fits. (fits, (c.in-Trap.ensures.told d fits).plain);
   stopped = (refl, refl);
+  core = λ flat. tt;
   grows = grows_within g.P.Pages.means c.args.fork.tty 0 128 _ _ (omega arith) (grows_none g.P.Pages.means c.args.fork.tty _);
   pc = c.requires.pc;
   number = tt;
@@ -17,8 +29,9 @@ returns-in-Trap g c = record {
 
 pub returns-in-Call : goal.returns-in-Call
 returns-in-Call g c = record {
-  told = λ d fits. (fits, (c.in-Call.ensures.told d fits).is);
+  told = λ d fits. (fits, (c.in-Call.ensures.told d fits).plain);
   stopped = (refl, refl);
+  core = λ flat. tt;
   grows = grows_within g.P.Pages.means c.args.fork.tty 0 128 _ _ (omega arith) (grows_none g.P.Pages.means c.args.fork.tty _);
   pc = c.requires.pc;
   number = c.in-Call.ensures.bounds;
@@ -30,8 +43,9 @@ unfolding once
 returns-in-Do g c = record {
   told = λ d fits.
       let planned = c.in-Do.ensures.told d fits in
-      (c.carry.ensures.fits d fits, ap (went_through c.args.fork) planned.is ∙ ap (λ (q : NumberedPages). Some (record { pages = q; regs = c.in-Do.ending.regs; post = channel_of c.in-Do.ending.post })) (sym (c.carry.ensures.told d fits planned.stands planned.put)));
+      (c.carry.ensures.fits d fits, ap (went_through c.args.fork) planned.plain ∙ ap (λ (q : NumberedPages). Some (record { pages = q; regs = c.in-Do.ending.regs; post = channel_of c.in-Do.ending.post })) (sym (c.carry.ensures.told d fits planned.stands planned.put)));
   stopped = tt;
+  core = λ flat. tt;
   grows = c.carry.ensures.grows;
   pc = c.in-Do.ensures.bounds.0.pc;
   number = tt;

@@ -1,9 +1,9 @@
 use Rattle.std.proofs.Common.{refl}
-use Rattle.ka10_unit.proofs.Referring.{refer_stops, refer_goes}
+use Rattle.ka10_unit.proofs.Referring.{refer_stops, refer_goes, stands_still}
 use Rattle.ka10_unit.proofs.taken.refer_next.Goals as goal
 
 pub returns-in-Err-clause-told : goal.returns-in-Err-clause-told
-returns-in-Err-clause-told g c d fits stands = refer_stops _ _ _ c.args.taken.now _ _ _ c.in-Err.trap stands c.requires.room (c.in-Err.ensures.told d fits stands.gathers) refl
+returns-in-Err-clause-told g c d fits stands = refer_stops _ _ _ c.args.taken.now _ _ _ c.in-Err.stop stands c.requires.room (c.in-Err.ensures.told d fits stands.gathers) refl
 
 pub returns-in-Err-clause-still : goal.returns-in-Err-clause-still
 returns-in-Err-clause-still g c d fits stands = (c.in-Err.ensures.told d fits stands.gathers).still
@@ -11,7 +11,7 @@ returns-in-Err-clause-still g c d fits stands = (c.in-Err.ensures.told d fits st
 pub returns-in-Ok-clause-told : goal.returns-in-Ok-clause-told
 returns-in-Ok-clause-told g c d fits stands =
     let asked = c.in-Ok.ensures.told d fits stands.gathers in
-    refer_goes _ _ _ c.args.taken.now _ _ _ _ _ stands c.requires.room asked c.push.ensures.items refl (c.word_at.ensures.told d fits asked.gathers (asked.page _ refl))
+    refer_goes _ _ _ c.args.taken.now _ _ _ _ _ stands c.requires.room asked c.push.ensures.items refl (c.word_at.ensures.told d fits (stands_still _ _ c.args.regs.now.ac c.args.taken.now _ c.args.at c.args.kind _ stands asked refl) (asked.page _ refl))
 
 pub returns-in-Ok-clause-still : goal.returns-in-Ok-clause-still
 returns-in-Ok-clause-still g c d fits stands = (c.in-Ok.ensures.told d fits stands.gathers).still

@@ -40,8 +40,8 @@ returns-in-Err-clause-told g c d fits =
     let p = framed g.P.Pages.means c.args.pages.now d in
     let less : c.loop-i.i < 16 = omega arith in
     let stops = c.in-Err.ensures.told d fits so_far.stands in
-    block_stops c.args.fork p c.args.regs.now c.args.at c.args.kind c.loop-i.i less (take c.loop-i.i c.loop-i.words) c.loop-i.taken c.refer_next.new.taken so_far c.in-Err.trap
-    (subst (λ (a : ℕ). Follows c.args.fork p c.args.regs.now.ac c.loop-i.taken c.refer_next.new.taken (refers a c.args.kind) (Err c.in-Err.trap)) c.loop-i.invariant.next stops)
+    block_stops c.args.fork p c.args.regs.now c.args.at c.args.kind c.loop-i.i less (take c.loop-i.i c.loop-i.words) c.loop-i.taken c.refer_next.new.taken so_far c.in-Err.stop
+    (subst (λ (a : ℕ). Follows c.args.fork p c.args.regs.now.ac c.loop-i.taken c.refer_next.new.taken (refers a c.args.kind) (Err c.in-Err.stop)) c.loop-i.invariant.next stops)
 
 pub loop-i-preserved : goal.loop-i-preserved
 loop-i-preserved g c =

@@ -6,6 +6,7 @@ use Rattle.plain_model.specs.ForkCalls.{stored_from}
 use Rattle.plain_model.specs.Outcome.{DrumWords}
 use Rattle.ka10_unit.specs.Taking.{IsOpenAt}
 use Rattle.ka10_unit.specs.Blocks.{AreOpenAt, IsStoredAt, address_behind, stored_word}
+use Rattle.ka10_unit.specs.Gathers.{Framed, framed}
 use Rattle.ka10_unit.proofs.Carried.{serves_still}
 use Rattle.ka10_unit.proofs.TakenBlocks.{behind_low, first_address, one_behind, opens_stored, stored_on, stays_on}
 use Rattle.ka10_unit.proofs.word_blocks.store_block.Goals as goal
@@ -33,16 +34,16 @@ loop-i-preserved g c =
     let f = c.args.fork in
     let word : ℕ = get_or c.args.words.now i c.index-words-i.result in
     let in_range : i < length c.args.words.now = omega arith in
-    let told = λ (d : DrumWords) (fits : means.fits c.args.pages.now d) (all : AreOpenAt f (means.plain c.args.pages.now d) c.args.at 16).
-    let here : IsStoredAt f (means.plain c.loop-i.pages d) c.loop-i.next = subst (IsStoredAt f (means.plain c.loop-i.pages d)) (sym before.next) (before.open_at d fits all i c.loop-i-test.true) in
+    let told = λ (d : DrumWords) (fits : means.fits c.args.pages.now d) (all : AreOpenAt f (framed means c.args.pages.now d) c.args.at 16).
+    let here : IsStoredAt f (framed means c.loop-i.pages d) c.loop-i.next = subst (IsStoredAt f (framed means c.loop-i.pages d)) (sym before.next) (before.open_at d fits all i c.loop-i-test.true) in
     c.store_at.ensures.told d (before.fits d fits) here ∙ ap (λ (a : ℕ). stored_word f (means.plain c.loop-i.pages d) a word) before.next in
     record {
       next = c.next_address-next.ensures ∙ ap next_address before.next ∙ one_behind c.args.at i;
       stays = stays_on means c.args.pages.now c.loop-i.pages c.store_at.new.pages before.stays c.store_at.ensures.stays;
       fits = λ d fits. c.store_at.ensures.fits d (before.fits d fits);
       open_at = λ d fits all. λ k less high.
-          subst (λ (q : NumberedPages). IsOpenAt f q (address_behind c.args.at k)) (sym (told d fits all))
-          (opens_stored f (means.plain c.loop-i.pages d) (address_behind c.args.at i) word (address_behind c.args.at k) (before.open_at d fits all k less high));
+          subst (λ (q : Framed). IsOpenAt f q (address_behind c.args.at k)) (sym (λ i. record { pages = told d fits all i; scene = c.store_at.ensures.stays.scene i }))
+          (opens_stored f (framed means c.loop-i.pages d) (address_behind c.args.at i) word (address_behind c.args.at k) (before.open_at d fits all k less high));
       so_far = λ d fits all.
           let rest = drop (i + 1) c.args.words.now in
           ap (λ (q : NumberedPages). stored_from q f (address_behind c.args.at (i + 1)) rest) (told d fits all)
