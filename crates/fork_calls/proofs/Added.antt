@@ -4,7 +4,7 @@ use Rattle.std.specs.Prelude.{is_some, map as each, nat_le}
 use Rattle.std.specs.List.{filter_map, range_with_len}
 use Rattle.std.specs.Option.{option_map_or}
 use Rattle.std.specs.FinMap as map
-use Rattle.std.proofs.lemmas.Bool.{cases_eq}
+use Rattle.std.proofs.lemmas.Bool.{cases_eq, leb-false}
 use Rattle.plain_model.specs.declared.names.Tty.{Tty}
 use Rattle.plain_model.specs.declared.names.ForkName.{ForkName}
 use Rattle.plain_model.specs.declared.names.TheConstants.{MOST_FORKS, SPACE_PAGES}
@@ -21,7 +21,7 @@ use Rattle.plain_model.specs.References.{drop_all_unnamed, without_fork}
 use Rattle.plain_model.specs.Whole.{AreWhole}
 use Rattle.plain_model.specs.Limits.{IsTerminal}
 use Rattle.plain_model.specs.Forks.{ForkMap, fork_in, forks_by_slot, same_fork}
-use Rattle.plain_model.specs.Pages.{PagesMeaning, room_for as frames_for}
+use Rattle.plain_model.specs.Pages.{Agrees, PagesMeaning, room_for as frames_for}
 use Rattle.plain_model.specs.Trees.{free_slot, is_free}
 use Rattle.plain_model.proofs.ForkMaps.{cases_name, get_put, get_put_other, get_gone, get_gone_other, names_same, same_forks, same_itself}
 use Rattle.plain_model.proofs.OrderLemmas.{fork_cmp_total}
@@ -29,6 +29,7 @@ use Rattle.plain_model.proofs.Whole.{live_whole, map_whole}
 use Rattle.fork_tree.specs.Trees.{AreSlotted, Lives}
 use Rattle.fork_tree.proofs.Listed.{full_listed, listed_most}
 use Rattle.fork_tree.proofs.Ranges.{first_tells}
+use Rattle.fork_tree.proofs.Slots.{empty_of}
 use Rattle.fork_calls.specs.Holding.{Holds}
 use Rattle.fork_calls.proofs.Places.{one_fewer, others_same}
 
@@ -69,9 +70,17 @@ module _ (p : NumberedPages) (f : ForkName) (entries : NewMap) (absent : map.get
       let len : map.len (map.insert p.maps f (new_map entries)) ≡ map.len p.maps + 1 = map.len-insert fork_cmp_total p.maps f (new_map entries) ∙ ap (λ (o : Option Map). cond (is_some o) (map.len p.maps) (map.len p.maps + 1)) absent in
       omega (arith, live_whole (with_map p f entries) (map_whole p w f absent entries), live_whole p w, len)
 
-  pub room_is : AreWhole p → HasRoom (with_map p f entries) f.tty ≡ nat_le (live p + 1) p.limit
+  room_is : AreWhole p → HasRoom (with_map p f entries) f.tty ≡ nat_le (live p + 1) p.limit
   unfolding HasRoom
   room_is w = ap (λ (n : ℕ). nat_le n p.limit) (live_mapped w)
+
+-- so it is told of pages in which that fork doesn't live, by their numbers
+module _ {P : Type 0} (means : PagesMeaning P) (pages : P) (p : NumberedPages) (agrees : Agrees means pages p) (w : AreWhole p) (f : ForkName) (entries : NewMap) (dead : means.lives pages f ≡ false) where
+  pub not_there : map.get p.maps f ≡ None
+  not_there = empty_of (map.get p.maps f) (sym (agrees.living f) ∙ dead)
+
+  pub room_told : HasRoom (with_map p f entries) f.tty ≡ nat_le (means.count pages + 1) (means.most pages)
+  room_told = room_is p f entries not_there w ∙ (λ i. nat_le (sym agrees.number i + 1) (sym agrees.bound i))
 
 -- what is told of the room for one more
 pub enough_room : (count most frames : ℕ) → Enough ≡ frames_for count most frames 1 → nat_le (count + 1) most ≡ true
@@ -80,6 +89,14 @@ enough_room count most frames e = by (nat_le (count + 1) most) refl (nat_le 1 fr
     by : (b : Bool) → nat_le (count + 1) most ≡ b → (c : Bool) → Enough ≡ cond b (cond c Enough NeedFrame) Full → nat_le (count + 1) most ≡ true
     by true is c h = is
     by false is c h = absurd (cc h)
+
+pub no_frame : (count most frames : ℕ) → NeedFrame ≡ frames_for count most frames 1 → (nat_le (count + 1) most ≡ true) × (frames ≡ 0)
+no_frame count most frames e = by (nat_le (count + 1) most) refl (nat_le 1 frames) refl e
+  where
+    by : (b : Bool) → nat_le (count + 1) most ≡ b → (c : Bool) → nat_le 1 frames ≡ c → NeedFrame ≡ cond b (cond c Enough NeedFrame) Full → (nat_le (count + 1) most ≡ true) × (frames ≡ 0)
+    by true is false none h = (is, omega (arith, leb-false 1 frames none))
+    by true is true some h = absurd (cc h)
+    by false is c some h = absurd (cc h)
 
 pub no_room : (count most frames : ℕ) → Full ≡ frames_for count most frames 1 → nat_le (count + 1) most ≡ false
 no_room count most frames e = by (nat_le (count + 1) most) refl (nat_le 1 frames) e
@@ -113,7 +130,7 @@ module _ {P : Type 0} (means : PagesMeaning P) (old new : P) (name : ForkName) (
 
   -- with the fork that is made
   pub added_holds : (forks : ForkMap) (f : Fork) → f.name ≡ name → map.get forks name ≡ None → AreSlotted forks → AreSlotted (map.insert forks name f) → Holds means old forks → Holds means new (map.insert forks name f)
-  added_holds forks f is absent a b holds = record { flat = holds.flat; living = living; counts = counts; roomy = holds.roomy }
+  added_holds forks f is absent a b holds = record { living = living; counts = counts; roomy = holds.roomy }
     where
       more : ForkMap
       more = map.insert forks name f
@@ -156,7 +173,6 @@ module _ {P : Type 0} (means : PagesMeaning P) (old new : P) (name : ForkName) (
   pub back_holds : (last : P) (forks : ForkMap) → map.get forks name ≡ None → ((f : ForkName) → means.lives last f ≡ (not (same_fork f name) && means.lives new f)) → means.forks_of last name.tty + 1 ≡ means.forks_of new name.tty
       → ((t : Tty) → t ≢ name.tty → means.forks_of last t ≡ means.forks_of new t) → Holds means old forks → Holds means last forks
   back_holds last forks absent lives' own' others' holds = record {
-    flat = holds.flat;
     living = λ q. elim (cases_name q name) [
       | inl e ↦ lives' q ∙ ap (λ b. not b && means.lives new q) (ap (λ n. same_fork n name) e ∙ same_itself name) ∙ sym (ap is_some (ap (map.get forks) e ∙ absent))
       | inr ne ↦

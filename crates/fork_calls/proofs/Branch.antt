@@ -69,7 +69,7 @@ one_less r h = omega arith
 module _ {P : Type 0} (means : PagesMeaning P) (old new : P) (forks : ForkMap) (f : Fork) (a : AreSlotted forks) (b : AreSlotted (map.remove forks f.name)) (there : Lives forks f) (holds : Holds means old forks) where
   pub dropped_holds : ((name : ForkName) → means.lives new name ≡ (not (same_fork name f.name) && means.lives old name)) → means.forks_of new f.name.tty + 1 ≡ means.forks_of old f.name.tty
       → ((t : Tty) → t ≢ f.name.tty → means.forks_of new t ≡ means.forks_of old t) → Holds means new (map.remove forks f.name)
-  dropped_holds lives own others = record { flat = holds.flat; living = living; counts = counts; roomy = holds.roomy }
+  dropped_holds lives own others = record { living = living; counts = counts; roomy = holds.roomy }
     where
       living : (name : ForkName) → means.lives new name ≡ map.contains_key (map.remove forks f.name) name
       living name = elim (cases_name name f.name) [

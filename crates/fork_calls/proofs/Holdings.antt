@@ -18,7 +18,6 @@ module _ {P : Type 0} (means : PagesMeaning P) where
   -- forks that keep their places
   pub holds_same : (p : P) (old new : ForkMap) → AreSlotted old → AreSlotted new → SamePlaces old new → Holds means p old → Holds means p new
   holds_same p old new a b same holds = record {
-    flat = holds.flat;
     living = λ name. holds.living name ∙ sym (still_living old new same name);
     counts = λ t terminal. holds.counts t terminal ∙ sym (same_counted old new a b same t);
     roomy = holds.roomy;
@@ -27,7 +26,6 @@ module _ {P : Type 0} (means : PagesMeaning P) where
   -- pages whose forks are the same
   pub holds_still : (old new : P) (forks : ForkMap) → means.lives new ≡ means.lives old → means.forks_of new ≡ means.forks_of old → Holds means old forks → Holds means new forks
   holds_still old new forks lives counts holds = record {
-    flat = holds.flat;
     living = λ name. ap (λ (l : ForkName → _). l name) lives ∙ holds.living name;
     counts = λ t terminal. ap (λ (n : Tty → ℕ). n t) counts ∙ holds.counts t terminal;
     roomy = holds.roomy;
@@ -47,4 +45,4 @@ module _ (forks : ForkMap) (slotted : AreSlotted forks) (who : ForkName) (lives 
 pub caller_serves : {P : Type 0} (means : PagesMeaning P) (p : P) (forks : ForkMap) → AreSlotted forks → (who : ForkName) → IsSome (map.get forks who) → Holds means p forks → Serves means p who
 caller_serves means p forks slotted who lives holds =
     let f = some_of (map.get forks who) lives in
-    record { flat = holds.flat; lives = holds.living who ∙ ap is_some f.1; terminal = caller_terminal forks slotted who lives }
+    record { lives = holds.living who ∙ ap is_some f.1; terminal = caller_terminal forks slotted who lives }

@@ -3,6 +3,7 @@ pub mod Counted
 pub mod Places
 pub mod Holdings
 pub mod Tops
+pub mod Maps
 pub mod CallLeaving
 pub mod Halting
 pub mod Branch

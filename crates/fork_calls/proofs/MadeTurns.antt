@@ -5,7 +5,7 @@ use Rattle.std.specs.Option.{option_map}
 use Rattle.std.specs.FinMap as map
 use Rattle.word36.specs.Words.{right, bit}
 use Rattle.plain_model.specs.declared.call.TheConstants.{NO_ROOM}
-use Rattle.plain_model.specs.declared.call.End.TheVariants.{Failed, Trap as TrapEnd}
+use Rattle.plain_model.specs.declared.call.End.TheVariants.{Failed}
 use Rattle.plain_model.specs.declared.call.ForkChange.{ForkChange}
 use Rattle.plain_model.specs.declared.call.ForkChange.TheVariants.{Make}
 use Rattle.plain_model.specs.declared.names.ForkName.{ForkName}
@@ -17,18 +17,21 @@ use Rattle.plain_model.specs.Deeds.{in_ac}
 use Rattle.plain_model.specs.Forks.{ForkMap, psi_at_rest}
 use Rattle.plain_model.specs.NewMaps.{with_map}
 use Rattle.plain_model.specs.Room.{HasRoom}
-use Rattle.plain_model.specs.Pages.{IsNewMap}
+use Rattle.plain_model.specs.Pages.{IsNewMap, Scene, TakesMap}
 use Rattle.plain_model.specs.Trees.{PlainTree, next_name, with_made}
 use Rattle.plain_model.specs.Calls.{Turn, end_of, ends, made_by, with_added}
 use Rattle.plain_model.specs.ForkCalls.{ForkAsked, fork_changed, made_fork, making, map_wanted, starts, with_accumulators}
 use Rattle.plain_model.proofs.ForkMaps.{cases_name, get_put, get_put_other}
 use Rattle.fork_tree.proofs.Slots.{some_of}
-use Rattle.ka10_unit.specs.declared.taken.Trap.{Trap}
+use Rattle.ka10_unit.specs.declared.taken.Stop.{Stop}
+use Rattle.ka10_unit.specs.declared.taken.Stop.TheVariants.{Trap, Need}
 use Rattle.fork_calls.specs.Blocks.{GoesOnWith, TookAccumulators}
 use Rattle.fork_calls.specs.Holding.{ComeOrNew, IsNew}
+use Rattle.fork_calls.specs.Needing.{TurnNeeds}
 use Rattle.fork_calls.specs.Steps.{made_where}
 use Rattle.fork_calls.specs.Turning.{parts}
 use Rattle.fork_calls.proofs.Places.{came_itself}
+use Rattle.fork_calls.proofs.TurnBlocks.{StopsSo}
 
 module _ (a : ForkAsked) (slot : ℕ) (p : NumberedPages) where
   abbrev mapped : NumberedPages
@@ -51,9 +54,12 @@ module _ (a : ForkAsked) (slot : ℕ) (p : NumberedPages) where
     unfolding made_by
     made_pages = ap (λ b. made_by (cond b rest (ends (Failed NO_ROOM))) (with_added p (next_name a.tree a.who.tty) (map_wanted a) b)) room
 
-    -- the words trap
-    pub made_traps : (r q : NumberedPages) (e : Trap) → r ≡ mapped → TookAccumulators a r q (Err e) → end_of p (made_where a slot) ≡ TrapEnd e.channel
-    made_traps r q e same took = made_end ∙ ap (λ (x : NumberedPages). end_of x rest) (sym same) ∙ took (λ words. ends (making a slot words))
+    -- the words trap, or need something first, with the map there
+    pub made_stops : (before after : Scene) (r q : NumberedPages) (e : Stop) → r ≡ mapped → TakesMap before after (next_name a.tree a.who.tty) → TookAccumulators a (record { pages = r; scene = after }) q (Err e)
+        → StopsSo (record { pages = p; scene = before }) a.tree.forks (made_where a slot) e
+    made_stops before after r q (Trap channel) same takes took = made_end ∙ ap (λ (x : NumberedPages). end_of x rest) (sym same) ∙ took (λ words. ends (making a slot words))
+    made_stops before after r q (Need n) same takes took =
+        inr (after, takes, subst (λ (x : NumberedPages). TurnNeeds (record { pages = x; scene = after }) a.tree.forks rest n) same (took (λ words. ends (making a slot words))))
 
     -- or the fork is made
     pub made_goes : (r q : NumberedPages) (words : List ℕ) → r ≡ mapped → GoesOnWith a r q words → (end_of p (made_where a slot) ≡ making a slot words) × (made_by (made_where a slot) p ≡ q)

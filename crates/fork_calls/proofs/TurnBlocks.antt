@@ -1,5 +1,5 @@
 -- A turn that takes a block of words.
-use Rattle.std.proofs.Common.{◌≡◌, ℕ, true, false, cond, List, None, refl, sym, ◌∙◌, ap}
+use Rattle.std.proofs.Common.{◌≡◌, ℕ, Bool, true, false, cond, List, None, sym, ◌∙◌, ap, subst, inl, inr}
 use Rattle.std.specs.Prelude.{Result, Ok, Err, replicate, ◌==◌}
 use Rattle.std.specs.Ordering.{nat_cmp}
 use Rattle.word36.specs.Words.{bit}
@@ -14,20 +14,26 @@ use Rattle.plain_model.specs.declared.fork.Regs.{Regs}
 use Rattle.plain_model.specs.State.{NumberedPages}
 use Rattle.plain_model.specs.Trees.{PlainTree}
 use Rattle.plain_model.specs.Deeds.{in_ac}
-use Rattle.plain_model.specs.Steps.{put_into}
+use Rattle.plain_model.specs.Forks.{ForkMap}
+use Rattle.plain_model.specs.Steps.{Planned, put_into}
 use Rattle.plain_model.specs.declared.fork.Answer.{Answer}
-use Rattle.plain_model.specs.declared.fork.Answer.TheVariants as answer
 use Rattle.plain_model.specs.Calls.{Turn, end_of, ends, made_by, stepped, with_block}
 use Rattle.plain_model.specs.ForkCalls.{ForkAsked, ForkParts, address_named, fork_changed, fork_changed_by, stored_from}
 use Rattle.ka10_unit.specs.declared.taken.Taken.{Taken}
-use Rattle.ka10_unit.specs.declared.taken.Trap.{Trap}
+use Rattle.ka10_unit.specs.declared.taken.Stop.{Stop}
+use Rattle.ka10_unit.specs.declared.taken.Stop.TheVariants.{Trap, Need}
 use Rattle.ka10_unit.specs.Blocks.{TakesBlock}
 use Rattle.ka10_unit.specs.Gathers.{Framed}
-use Rattle.ka10_unit.specs.Taking.{Plan, pages_so_far}
-use Rattle.call_turns.specs.Answers.{Went, answer_of}
-use Rattle.fork_calls.specs.Turning.{parts}
+use Rattle.ka10_unit.specs.Taking.{pages_so_far}
+use Rattle.call_turns.specs.Answers.{IsTurn, Went, answer_of}
+use Rattle.fork_calls.specs.Needing.{TurnNeeds}
+use Rattle.fork_calls.specs.Turning.{parts, stopped_by}
 use Rattle.fork_calls.proofs.Going.{goes, stops}
 use Rattle.fork_calls.specs.Blocks.{GoesOn, GoesOnWith, TookAccumulators, TookBlock}
+
+-- a unit as a plan of the plain machine
+abbrev PlainPlan : Type 0
+PlainPlan = Planned nat_cmp ⊥
 
 -- nothing is changed
 pub nothing_changes : (what : ForkChange) (v : ForkParts nat_cmp) → what ≡ Nothing → v ≡ fork_changed what v
@@ -43,23 +49,29 @@ module _ (f : ForkName) (p : Framed) (regs : Regs) (at : ℕ) (kind : Kind) (t :
   unfolding end_of made_by
   took_goes words q made kept took = record {
     ends = λ next.
-        ap (λ (plan : Plan). stepped f plan (λ r e. end_of r (next e.regs.ac)) TrapEnd) took.is ∙ ap (λ (r : NumberedPages). end_of r (next words)) (left_there kept ∙ sym made);
+        ap (λ (plan : PlainPlan). stepped f plan (λ r e. end_of r (next e.regs.ac)) TrapEnd) took.plain ∙ ap (λ (r : NumberedPages). end_of r (next words)) (left_there kept ∙ sym made);
     made = λ next.
-        ap (λ (plan : Plan). stepped f plan (λ r e. made_by (next e.regs.ac) r) (λ channel. p.pages)) took.is ∙ ap (λ (r : NumberedPages). made_by (next words) r) (left_there kept ∙ sym made);
+        ap (λ (plan : PlainPlan). stepped f plan (λ r e. made_by (next e.regs.ac) r) (λ channel. p.pages)) took.plain ∙ ap (λ (r : NumberedPages). made_by (next words) r) (left_there kept ∙ sym made);
   }
 
-  pub took_traps : (e : Trap) → TakesBlock f p regs at kind t (Err e) → (next : List ℕ → Turn ForkChange) → end_of p.pages (with_block f regs at kind next) ≡ TrapEnd e.channel
+  pub took_stops : (e : Stop) (q : NumberedPages) → TakesBlock f p regs at kind t (Err e) → TookBlock f regs at kind p q (Err e)
   unfolding end_of
-  took_traps e took next = ap (λ (plan : Plan). stepped f plan (λ r x. end_of r (next x.regs.ac)) TrapEnd) took.is
+  took_stops (Trap channel) q took = λ next. ap (λ (plan : PlainPlan). stepped f plan (λ r x. end_of r (next x.regs.ac)) TrapEnd) took.plain
+  took_stops (Need n) q took = took.is
 
 -- the accumulators of a new fork, where they are read
-module _ (a : ForkAsked) (p q : NumberedPages) where
-  pub read_accumulators : (result : Result (List ℕ) Trap) → (bit (in_ac a.regs 1) 3 == 1) ≡ true → TookBlock a.who a.regs (address_named a.regs) Read p q result → TookAccumulators a p q result
+module _ (a : ForkAsked) (p : Framed) (q : NumberedPages) where
+  -- the turn that reads them, where they are
+  abbrev read_if : (List ℕ → Turn ForkChange) → Bool → Turn ForkChange
+  read_if next b = cond b (with_block a.who a.regs (address_named a.regs) Read next) (next (replicate 16 0))
+
+  pub read_accumulators : (result : Result (List ℕ) Stop) → (bit (in_ac a.regs 1) 3 == 1) ≡ true → TookBlock a.who a.regs (address_named a.regs) Read p q result → TookAccumulators a p q result
   read_accumulators (Ok words) reads took = record {
-    ends = λ next. ap (λ b. end_of p (cond b (with_block a.who a.regs (address_named a.regs) Read next) (next (replicate 16 0)))) reads ∙ took.ends next;
-    made = λ next. ap (λ b. made_by (cond b (with_block a.who a.regs (address_named a.regs) Read next) (next (replicate 16 0))) p) reads ∙ took.made next;
+    ends = λ next. ap (λ b. end_of p.pages (read_if next b)) reads ∙ took.ends next;
+    made = λ next. ap (λ b. made_by (read_if next b) p.pages) reads ∙ took.made next;
   }
-  read_accumulators (Err e) reads took = λ next. ap (λ b. end_of p (cond b (with_block a.who a.regs (address_named a.regs) Read next) (next (replicate 16 0)))) reads ∙ took next
+  read_accumulators (Err (Trap channel)) reads took = λ next. ap (λ b. end_of p.pages (read_if next b)) reads ∙ took next
+  read_accumulators (Err (Need n)) reads took = λ next. subst (λ b. TurnNeeds p a.tree.forks (read_if next b) n) (sym reads) took
 
 -- and where they are 0
 pub zero_accumulators : (a : ForkAsked) (p : NumberedPages) → (bit (in_ac a.regs 1) 3 == 1) ≡ false → GoesOnWith a p p (replicate 16 0)
@@ -70,10 +82,23 @@ zero_accumulators a p none = record {
 
 -- ---- how a turn goes that takes one block
 
-module _ (v w : ForkParts nat_cmp) where
-  pub block_traps : (channel : ℕ) (t : Turn ForkChange) → end_of v.pages t ≡ TrapEnd channel → w ≡ v → Went (fork_changed_by t) v w (answer.Trap channel) (end_of v.pages t)
-  block_traps channel t is same = stops v w (answer.Trap channel) t (TrapEnd channel) is (λ what regs h. cc h) refl same
+-- a turn stops so
+abbrev pub StopsSo : Framed → ForkMap → Turn ForkChange → Stop → Type 0
+StopsSo p forks t (Trap channel) = end_of p.pages t ≡ TrapEnd channel
+StopsSo p forks t (Need n) = TurnNeeds p forks t n
 
+module _ (tree : PlainTree) (p : Framed) (w : ForkParts nat_cmp) (result : Answer) where
+  -- it leaves all as it was, and answers why
+  pub turn_stops : (t : Turn ForkChange) (e : Stop) → StopsSo p tree.forks t e → w ≡ parts tree p.pages → result ≡ stopped_by e → IsTurn (TurnNeeds p tree.forks t) (fork_changed_by t) (parts tree p.pages) w result (end_of p.pages t)
+  turn_stops t (Trap channel) is same answered = inl (stops (parts tree p.pages) w result t (TrapEnd channel) is (λ what regs h. cc h) answered same)
+  turn_stops t (Need n) is same answered = inr (record { need = n; answered = answered; reason = is; left = same })
+
+-- so does one whose block does
+pub block_stops : (who : ForkName) (regs : Regs) (at : ℕ) (kind : Kind) (p : Framed) (q : NumberedPages) (forks : ForkMap) (next : List ℕ → Turn ForkChange) (e : Stop) → TookBlock who regs at kind p q (Err e) → StopsSo p forks (with_block who regs at kind next) e
+block_stops who regs at kind p q forks next (Trap channel) took = took next
+block_stops who regs at kind p q forks next (Need n) took = took
+
+module _ (v w : ForkParts nat_cmp) where
   pub block_goes : (result : Answer) (who : ForkName) (regs : Regs) (at : ℕ) (kind : Kind) (q : NumberedPages) (words : List ℕ) → GoesOn who regs at kind v.pages q words → (end : List ℕ → End ForkChange) (what : ForkChange) (after : Regs) → end words ≡ Done what after
       → w ≡ fork_changed what (record v { pages = q }) → result ≡ answer_of (Done what after) → Went (fork_changed_by (with_block who regs at kind (λ ws. ends (end ws)))) v w result (end_of v.pages (with_block who regs at kind (λ ws. ends (end ws))))
   unfolding end_of made_by

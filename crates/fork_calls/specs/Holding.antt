@@ -1,5 +1,5 @@
 -- Pages and a tree have the same forks.
-use Rattle.std.specs.Prelude.{◌≡◌, ◌≢◌, ℕ, ◌+◌, ◌≤◌, length, true, Some, IsSome, ◌⊎◌}
+use Rattle.std.specs.Prelude.{◌≡◌, ◌≢◌, ℕ, ◌+◌, ◌≤◌, length, Some, IsSome, ◌⊎◌}
 use Rattle.std.specs.Option.{option_map}
 use Rattle.std.specs.FinMap as map
 use Rattle.plain_model.specs.declared.names.Tty.{Tty}
@@ -13,9 +13,8 @@ use Rattle.plain_model.specs.Trees.{PlainTree, next_name}
 use Rattle.fork_tree.specs.Trees.{Lives}
 use Rattle.fork_calls.specs.Limits.{IsBody}
 
--- pages in memory alone have the forks of a tree, as many of each terminal as it has, and room for thirty
+-- pages have the forks of a tree, as many of each terminal as it has, and room for thirty
 pub record Holds {P : Type 0} (means : PagesMeaning P) (p : P) (forks : ForkMap) : Type 0 where
-  pub flat : means.flat ≡ true
   pub living : (name : ForkName) → means.lives p name ≡ map.contains_key forks name
   pub counts : (t : Tty) → IsTerminal t → means.forks_of p t ≡ length (forks_by_slot forks t)
   pub roomy : MOST_FORKS ≤ means.most_forks

@@ -4,3 +4,4 @@ pub mod Holding
 pub mod Steps
 pub mod Turning
 pub mod Blocks
+pub mod Needing

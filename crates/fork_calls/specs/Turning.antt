@@ -1,35 +1,48 @@
 -- A turn of a fork call, over forks and pages.
-use Rattle.std.specs.Prelude.{◌≡◌}
+use Rattle.std.specs.Prelude.{◌≡◌, Result, Ok, Err, ⊤}
 use Rattle.std.specs.Ordering.{nat_cmp}
 use Rattle.plain_model.specs.declared.call.ForkChange.{ForkChange}
 use Rattle.plain_model.specs.declared.fork.Answer.{Answer}
 use Rattle.plain_model.specs.declared.fork.Answer.TheVariants as answer
+use Rattle.plain_model.specs.declared.map.Need.{Need}
 use Rattle.plain_model.specs.Outcome.{DrumWords}
 use Rattle.plain_model.specs.State.{NumberedPages}
 use Rattle.plain_model.specs.Pages.{PagesMeaning}
 use Rattle.plain_model.specs.Trees.{PlainTree}
 use Rattle.plain_model.specs.Calls.{Turn, end_of}
 use Rattle.plain_model.specs.ForkCalls.{ForkParts, fork_changed, fork_changed_by}
-use Rattle.call_turns.specs.Answers.{Went}
+use Rattle.call_turns.specs.Answers.{IsTurn}
 use Rattle.call_turns.specs.Turns.{IsRegs}
+use Rattle.ka10_unit.specs.declared.taken.Stop.{Stop}
+use Rattle.ka10_unit.specs.declared.taken.Stop.TheVariants as stop
+use Rattle.ka10_unit.specs.Gathers.{Framed, framed}
+use Rattle.fork_calls.specs.Needing.{ChangeNeeds, TurnNeeds}
 
 -- forks and pages, as the fork calls change them
 abbrev pub parts : PlainTree → NumberedPages → ForkParts nat_cmp
 parts tree p = record { tree = tree; pages = p }
 
--- a change was made, over each drum that fits
-abbrev pub Changes : {P : Type 0} → PagesMeaning P → P → P → PlainTree → PlainTree → ForkChange → Type 0
-Changes means old new tree tree' what =
-    (d : DrumWords) → means.fits old d → means.fits new d × (parts tree' (means.plain new d) ≡ fork_changed what (parts tree (means.plain old d)))
-
--- A TURN WENT, over each drum that fits: its answer is that of its end, and what it leaves is what that leaves
+-- A TURN OF A CALL, over each drum that fits: its answer is that of its end, and what it leaves is what that leaves; or it needs something
+-- first, and leaves all as it was
 abbrev pub Turned : {P : Type 0} → PagesMeaning P → P → P → PlainTree → PlainTree → Answer → Turn ForkChange → Type 0
 Turned means old new tree tree' result t =
     (d : DrumWords) → means.fits old d
-    → means.fits new d × Went (fork_changed_by t) (parts tree (means.plain old d)) (parts tree' (means.plain new d)) result (end_of (means.plain old d) t)
+    → means.fits new d × IsTurn (TurnNeeds (framed means old d) tree.forks t) (fork_changed_by t) (parts tree (means.plain old d)) (parts tree' (means.plain new d)) result (end_of (means.plain old d) t)
 
--- an answer that needs nothing first, with registers within their limits
+-- a change was made over each drum that fits, or it needs something first, and nothing was changed
+abbrev pub MadeOver : Framed → NumberedPages → PlainTree → PlainTree → Result ⊤ Need → ForkChange → Type 0
+MadeOver p new tree tree' (Ok x) what = parts tree' new ≡ fork_changed what (parts tree p.pages)
+MadeOver p new tree tree' (Err n) what = (parts tree' new ≡ parts tree p.pages) × ChangeNeeds p.scene tree.forks what n
+
+abbrev pub ChangesIf : {P : Type 0} → PagesMeaning P → P → P → PlainTree → PlainTree → Result ⊤ Need → ForkChange → Type 0
+ChangesIf means old new tree tree' result what = (d : DrumWords) → means.fits old d → means.fits new d × MadeOver (framed means old d) (means.plain new d) tree tree' result what
+
+-- how an answer says that a call stops
+abbrev pub stopped_by : Stop → Answer
+stopped_by (stop.Trap channel) = answer.Trap channel
+stopped_by (stop.Need n) = answer.Need n
+
+-- an answer with registers within their limits
 abbrev pub HasRegs : Answer → Type 0
 HasRegs (answer.After regs out post) = IsRegs regs
-HasRegs (answer.Need need) = ⊥
 HasRegs other = Unit {0}

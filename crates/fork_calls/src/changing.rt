@@ -1,5 +1,5 @@
 // Changes that a fork call makes once it has ended, with no word of a page.
-ghost use Rattle.std.specs.Prelude.{◌≡◌, IsSome};
+ghost use Rattle.std.specs.Prelude.{◌≡◌, IsOk, IsSome, true};
 ghost use Rattle.std.specs.FinMap as map;
 ghost use Rattle.plain_model.specs.ForkCalls.{fork_changed};
 ghost use Rattle.plain_model.specs.declared.call.ForkChange.{ForkChange as AForkChange};
@@ -10,12 +10,12 @@ ghost use Rattle.fork_calls.specs.Asking.{IsBelow};
 ghost use Rattle.fork_calls.specs.Holding.{CallLeaves, ComeFrom, Holds, SamePlaces};
 ghost use Rattle.fork_calls.specs.Limits.{AreWithin};
 ghost use Rattle.fork_calls.specs.Steps.{IsBodyOf, IsChangeBelow, halted};
-ghost use Rattle.fork_calls.specs.Turning.{Changes, parts};
+ghost use Rattle.fork_calls.specs.Turning.{ChangesIf, parts};
 
 use crate::killing::kill;
 use fork_tree::Tree;
 use plain_model::call::ForkChange;
-use plain_model::{Body, ForkName, ForkStatus, Pages};
+use plain_model::{Body, ForkName, ForkStatus, Need, Pages};
 
 // A fork that lives is halted, whatever its status was.
 fn set_halted(name: ForkName, tree: &mut Tree)
@@ -69,22 +69,29 @@ pub fn set_body(name: ForkName, body: Body, tree: &mut Tree)
     tree.are_trees();
 }
 
-/// Makes a change of an inferior.
-pub fn change<P: Pages>(who: ForkName, what: ForkChange, tree: &mut Tree, pages: &mut P)
+/// Makes a change of an inferior. Err: it needs this first, and nothing was changed.
+pub fn change<P: Pages>(
+    who: ForkName,
+    what: ForkChange,
+    tree: &mut Tree,
+    pages: &mut P,
+) -> Result<(), Need>
     requires change { IsChangeBelow tree.old.forks who what }
     requires holds { Holds P.means pages.old tree.old.forks }
     requires within { AreWithin tree.old.forks }
-    ensures told { Changes P.means pages.old pages.new tree.old tree.new what }
+    ensures told { ChangesIf P.means pages.old pages.new tree.old tree.new result what }
+    ensures core { P.means.flat ≡ true → IsOk result }
     ensures leaves { CallLeaves P.means pages.old pages.new tree.old tree.new who 0 }
 {
     tree.are_trees();
     match what {
         ForkChange::Nothing => {}
         ForkChange::Make(_) => unreachable!(),
-        ForkChange::Kill(name) => kill(who, name, tree, pages),
+        ForkChange::Kill(name) => return kill(who, name, tree, pages),
         ForkChange::Freeze(name, on) => set_mark(who, name, on, tree),
         ForkChange::Become(name, body) => set_body(name, body, tree),
         ForkChange::Halt(name) => halt(who, name, tree),
         ForkChange::Store(..) => unreachable!(),
     }
+    Ok(())
 }

@@ -1,20 +1,22 @@
 // How a turn of a fork call ends.
-ghost use Rattle.std.specs.Prelude.{◌≡◌};
+ghost use Rattle.std.specs.Prelude.{◌≡◌, true};
 ghost use Rattle.plain_model.specs.declared.call.End.{End as AnEnd};
 ghost use Rattle.plain_model.specs.declared.call.ForkChange.{ForkChange as AForkChange};
 ghost use Rattle.plain_model.specs.declared.fork.Regs.{Regs as ARegs};
-ghost use Rattle.call_turns.specs.Answers.{answer_of as answer_to};
+ghost use Rattle.call_turns.specs.Answers.{IsDone, answer_of as answer_to};
 ghost use Rattle.call_turns.specs.Turns.{IsRegs, FitsEnd};
 ghost use Rattle.fork_calls.specs.Holding.{CallLeaves, Holds};
 ghost use Rattle.fork_calls.specs.Limits.{AreWithin};
 ghost use Rattle.fork_calls.specs.Asking.{asked};
 ghost use Rattle.fork_calls.specs.Steps.{IsChangeBelow, whole};
-ghost use Rattle.fork_calls.specs.Turning.{HasRegs, Turned};
+ghost use Rattle.fork_calls.specs.Turning.{HasRegs, Turned, stopped_by};
+ghost use Rattle.ka10_unit.specs.Taking.{IsTrap};
 ghost use Rattle.fork_calls.specs.declared.step.Step.{Step as AStep};
 
 use crate::changing::change;
 use call_turns::answer_of;
 use fork_tree::Tree;
+use ka10_unit::Stop;
 use plain_model::call::{End, ForkChange};
 use plain_model::{Answer, ForkName, Pages, Regs};
 
@@ -22,13 +24,27 @@ use plain_model::{Answer, ForkName, Pages, Regs};
 pub fn returned(regs: Regs) -> Answer
     requires { IsRegs regs }
     ensures answer { (change : AForkChange) → result ≡ answer_to (AnEnd.Done change regs) }
+    ensures core { IsDone result }
     ensures regs { HasRegs result }
 {
     let end: End<ForkChange> = End::Done(ForkChange::Nothing, regs);
     answer_of(end)
 }
 
-/// Ends a turn that asked for no word: its change is made, if it has one.
+/// A call that stops before its end.
+pub fn stopped(stop: Stop) -> Answer
+    ensures answer { result ≡ stopped_by stop }
+    ensures core { IsTrap stop → IsDone result }
+    ensures regs { HasRegs result }
+{
+    match stop {
+        Stop::Trap(channel) => Answer::Trap(channel),
+        Stop::Need(need) => Answer::Need(need),
+    }
+}
+
+/// Ends a turn that asked for no word: its change is made, if it has one, or needs something first.
+#[tactic(auto, using(crate::proofs::CallLeaving::none_leaves))]
 pub fn end<P: Pages>(
     ending: End<ForkChange>,
     who: ForkName,
@@ -39,14 +55,15 @@ pub fn end<P: Pages>(
     requires holds { Holds P.means pages.old tree.old.forks }
     requires within { AreWithin tree.old.forks }
     ensures told { (regs : ARegs) → Turned P.means pages.old pages.new tree.old tree.new result (whole (asked who regs tree.old) (AStep.Ends ending)) }
+    ensures core { P.means.flat ≡ true → IsDone result }
     ensures leaves { CallLeaves P.means pages.old pages.new tree.old tree.new who 0 }
     ensures regs { HasRegs result }
 {
     match ending {
-        End::Done(what, regs) => {
-            change(who, what, tree, pages);
-            returned(regs)
-        }
+        End::Done(what, regs) => match change(who, what, tree, pages) {
+            Ok(()) => returned(regs),
+            Err(need) => Answer::Need(need),
+        },
         End::Waits(_) => answer_of(ending),
         End::Halts => answer_of(ending),
         End::Refused(_) => answer_of(ending),

@@ -1,5 +1,5 @@
 // A fork is killed, with all below it.
-ghost use Rattle.std.specs.Prelude.{◌≡◌, ◌≤◌, IsSome};
+ghost use Rattle.std.specs.Prelude.{◌≡◌, ◌≤◌, IfErr, IsOk, IsSome, None, true};
 ghost use Rattle.std.specs.FinMap as map;
 ghost use Rattle.plain_model.specs.ForkCalls.{without_below};
 ghost use Rattle.plain_model.specs.declared.call.ForkChange.{ForkChange as AForkChange};
@@ -11,17 +11,57 @@ ghost use Rattle.plain_model.specs.References.{without_fork};
 ghost use Rattle.fork_tree.specs.Inferiors.{HasNoInferior};
 ghost use Rattle.fork_calls.specs.Asking.{IsBelow};
 ghost use Rattle.fork_calls.specs.Holding.{CallLeaves, ComeFrom, Holds, MakesPages, TopsStay};
-ghost use Rattle.fork_calls.specs.Turning.{Changes, parts};
+ghost use Rattle.fork_calls.specs.Turning.{ChangesIf, parts};
+ghost use Rattle.fork_calls.specs.Needing.{AreMapsHere, ChangeNeeds, IsMapAway};
 
 use fork_tree::Tree;
-use plain_model::{ForkName, MOST_FORKS, Pages};
+use plain_model::{ForkName, MOST_FORKS, Need, Pages, Seen, Slot};
+
+// Asks for the map of a fork that lives.
+fn ask_map<P: Pages>(name: ForkName, pages: &P) -> Result<(), Need>
+    requires lives { P.means.lives pages.now name ≡ true }
+    ensures there { IsOk result → (P.means.scene pages.now).map_away name ≡ None }
+    ensures told { (d : DrumWords) → P.means.fits pages.now d → IfErr result (IsMapAway (P.means.scene pages.now) name) }
+    ensures core { P.means.flat ≡ true → IsOk result }
+{
+    match pages.entry(Slot {
+        fork: name,
+        page: 0,
+    }) {
+        Seen::Is(_) => Ok(()),
+        Seen::Missing => Ok(()),
+        Seen::Absent(home) => Err(Need::Page(home)),
+    }
+}
+
+// Asks for the maps of a fork and of all below it.
+fn ask_maps<P: Pages>(name: ForkName, tree: &Tree, pages: &P) -> Result<(), Need>
+    requires lives { IsSome (map.get tree.now.forks name) }
+    requires holds { Holds P.means pages.now tree.now.forks }
+    ensures there { IsOk result → AreMapsHere (P.means.scene pages.now) tree.now.forks name }
+    ensures told { (d : DrumWords) → P.means.fits pages.now d → IfErr result (ChangeNeeds (P.means.scene pages.now) tree.now.forks (AForkChange.Kill name)) }
+    ensures core { P.means.flat ≡ true → IsOk result }
+{
+    tree.are_trees();
+    ask_map(name, pages)?;
+    for slot in 1..=MOST_FORKS {
+        if let Some(fork) = tree.fork_at(name.tty, slot) {
+            if tree.below(name, fork.name) {
+                ask_map(fork.name, pages)?;
+            }
+        }
+    }
+    Ok(())
+}
 
 // Kills all below a fork: each time the one that has none below itself and the highest slot, with its map.
 fn kill_below<P: Pages>(who: ForkName, tree: &mut Tree, pages: &mut P)
-    requires { Holds P.means pages.old tree.old.forks }
+    requires holds { Holds P.means pages.old tree.old.forks }
+    requires maps { AreMapsHere (P.means.scene pages.old) tree.old.forks who }
     ensures told { (d : DrumWords) → P.means.fits pages.old d
         → P.means.fits pages.new d × (without_below MOST_FORKS who (parts tree.old (P.means.plain pages.old d)) ≡ parts tree.new (P.means.plain pages.new d)) }
     ensures holds { Holds P.means pages.new tree.new.forks }
+    ensures maps { (P.means.scene pages.new).map_away who ≡ None }
     ensures kept { ComeFrom tree.old.forks tree.new.forks }
     ensures tops { TopsStay tree.old.forks tree.new.forks }
     ensures made { (t : ATty) → MakesPages P.means t 0 pages.old pages.new }
@@ -43,12 +83,14 @@ fn kill_bare<P: Pages>(name: ForkName, tree: &mut Tree, pages: &mut P)
     requires lives { IsSome (map.get tree.old.forks name) }
     requires bare { HasNoInferior tree.old.forks name }
     requires holds { Holds P.means pages.old tree.old.forks }
+    requires map { (P.means.scene pages.old).map_away name ≡ None }
     ensures tree { tree.new ≡ record tree.old { forks = map.remove tree.old.forks name } }
     ensures told { (d : DrumWords) → P.means.fits pages.old d
         → P.means.fits pages.new d × (P.means.plain pages.new d ≡ without_fork (P.means.plain pages.old d) name) }
     ensures holds { Holds P.means pages.new tree.new.forks }
     ensures kept { ComeFrom tree.old.forks tree.new.forks }
     ensures made { (t : ATty) → MakesPages P.means t 0 pages.old pages.new }
+    ensures maps { (f : AForkName) → (P.means.scene pages.old).map_away f ≡ None → (P.means.scene pages.new).map_away f ≡ None }
 {
     tree.are_trees();
     tree.kill(name);
@@ -56,17 +98,26 @@ fn kill_bare<P: Pages>(name: ForkName, tree: &mut Tree, pages: &mut P)
     pages.drop_fork(name);
 }
 
-/// Kills an inferior of a fork, and all below it, with their maps; who waits for a fork of the job runs again.
-pub fn kill<P: Pages>(who: ForkName, name: ForkName, tree: &mut Tree, pages: &mut P)
+/// Kills an inferior of a fork, and all below it, with their maps; who waits for a fork of the job runs again. Err: one of
+/// the maps is in no frame, and nothing was changed.
+pub fn kill<P: Pages>(
+    who: ForkName,
+    name: ForkName,
+    tree: &mut Tree,
+    pages: &mut P,
+) -> Result<(), Need>
     requires below { IsBelow tree.old.forks who name }
     requires holds { Holds P.means pages.old tree.old.forks }
-    ensures told { Changes P.means pages.old pages.new tree.old tree.new (AForkChange.Kill name) }
+    ensures told { ChangesIf P.means pages.old pages.new tree.old tree.new result (AForkChange.Kill name) }
+    ensures core { P.means.flat ≡ true → IsOk result }
     ensures leaves { CallLeaves P.means pages.old pages.new tree.old tree.new who 0 }
 {
     tree.are_trees();
+    ask_maps(name, tree, pages)?;
     kill_below(name, tree, pages);
     kill_bare(name, tree, pages);
     tree.are_trees();
     tree.wake_waiters(name.tty);
     tree.are_trees();
+    Ok(())
 }

@@ -1,7 +1,6 @@
 //! The fork calls: CFORK, KFORK, FFORK, RFORK, RFSTS, SFORK, SFACS, RFACS, HFORK, WFORK, HALTF.
-//! To the machine a turn of one is a function: its answer, and the forks and pages that it leaves, are those of the
-//! plain call. Stands on `fork_tree` for the forks, on `ka10_unit` for blocks of words, on `call_turns` for how a turn
-//! ends, on `plain_model` for the definitions and the pages.
+//! To the machine a turn of one is a function: its answer, and the forks and pages that it leaves, are those of the plain call.
+//! Stands on `fork_tree`, on `ka10_unit` for blocks of words, on `call_turns` for how a turn ends, and on `plain_model`.
 #![tactic(auto)]
 
 mod calls;

@@ -1,5 +1,5 @@
 // CFORK: a fork is made.
-ghost use Rattle.std.specs.Prelude.{◌≡◌, ◌<◌, ◌≤◌, ◌^◌, ◌/◌, ◌%◌, ◌==◌, ℕ, Ok, Some, IsSome, OnErr, slice_index};
+ghost use Rattle.std.specs.Prelude.{◌≡◌, ◌<◌, ◌≤◌, ◌^◌, ◌/◌, ◌%◌, ◌==◌, ℕ, Ok, Some, IsSome, IfErr, OnErr, slice_index, true};
 ghost use Rattle.std.specs.FinMap as map;
 ghost use Rattle.plain_model.specs.declared.fork.Fork.{Fork as AFork};
 ghost use Rattle.plain_model.specs.ForkCalls.{made_body, made_fork, map_wanted as map_wanted_of};
@@ -8,7 +8,9 @@ ghost use Rattle.plain_model.specs.Forks.{first_regs};
 ghost use Rattle.plain_model.specs.Trees.{PlainTree, with_changed_of, with_made};
 ghost use Rattle.call_turns.specs.Turns.{IsRegs};
 ghost use Rattle.ka10_unit.specs.Carrying.{Grows};
-ghost use Rattle.ka10_unit.specs.Gathers.{Serves};
+ghost use Rattle.call_turns.specs.Answers.{IsDone};
+ghost use Rattle.ka10_unit.specs.Gathers.{Serves, framed};
+ghost use Rattle.ka10_unit.specs.Taking.{IsTrap};
 ghost use Rattle.fork_tree.specs.Making.{slot_for};
 ghost use Rattle.fork_calls.specs.Asking.{asked};
 ghost use Rattle.fork_calls.specs.Blocks.{TookAccumulators};
@@ -17,15 +19,15 @@ ghost use Rattle.fork_calls.specs.Steps.{begun, second_regs, whole};
 ghost use Rattle.fork_calls.specs.Turning.{HasRegs, Turned};
 ghost use Rattle.fork_calls.specs.declared.step.Step.{Step as AStep};
 
-use crate::ending::returned;
+use crate::ending::{returned, stopped};
 use crate::naming::address_named;
 use crate::words::block;
 use call_turns::{behind, with_ac};
 use fork_tree::Tree;
-use ka10_unit::Trap;
+use ka10_unit::Stop;
 use plain_model::call::{FORK_SELF, NO_ROOM};
 use plain_model::{
-    ACCUMULATORS, Answer, Body, ForkName, ForkStatus, Kind, NewMap, Pages, Regs, Room,
+    ACCUMULATORS, Answer, Body, ForkName, ForkStatus, Kind, Need, NewMap, Pages, Regs, Room,
 };
 use word36::Word;
 
@@ -51,12 +53,13 @@ fn map_wanted(regs: &Regs, who: ForkName) -> NewMap
 }
 
 // Bit 3 has its accumulators read, whose pages are made; else they are 0.
-fn accumulators<P: Pages>(regs: &Regs, who: ForkName, pages: &mut P) -> Result<[Word; 16], Trap>
+fn accumulators<P: Pages>(regs: &Regs, who: ForkName, pages: &mut P) -> Result<[Word; 16], Stop>
     requires regs { IsRegs regs.now }
     requires serves { Serves P.means pages.old who }
     requires serial { P.means.serial pages.old who.tty < 2 ^ 62 }
     ensures told { (d : DrumWords) (tree : PlainTree) → P.means.fits pages.old d
-        → P.means.fits pages.new d × TookAccumulators (asked who regs.now tree) (P.means.plain pages.old d) (P.means.plain pages.new d) result }
+        → P.means.fits pages.new d × TookAccumulators (asked who regs.now tree) (framed P.means pages.old d) (P.means.plain pages.new d) result }
+    ensures core { P.means.flat ≡ true → IfErr result IsTrap }
     ensures stopped { OnErr result (pages.new ≡ pages.old) }
     ensures grows { Grows P.means who.tty 128 pages.old pages.new }
 {
@@ -123,7 +126,8 @@ fn grow(regs: &Regs, words: [Word; 16], who: ForkName, tree: &mut Tree)
 }
 
 /// Makes an inferior of the caller in a slot: its map first, then its accumulators are read with the new map there, and
-/// then the fork itself. NO_ROOM where there is no room for the map. Where the words trap, nothing is made.
+/// then the fork itself. NO_ROOM where there is no room for the map; a need where that finds no frame, or where the words
+/// need something first. Where they do or trap, nothing is made.
 pub fn make<P: Pages>(
     slot: u8,
     regs: &Regs,
@@ -138,21 +142,22 @@ pub fn make<P: Pages>(
     requires holds { Holds P.means pages.old tree.old.forks }
     requires serial { P.means.serial pages.old who.tty < 2 ^ 62 }
     ensures told { Turned P.means pages.old pages.new tree.old tree.new result (whole (asked who regs.now tree.old) (AStep.Makes slot)) }
+    ensures core { P.means.flat ≡ true → IsDone result }
     ensures leaves { CallLeaves P.means pages.old pages.new tree.old tree.new who 128 }
     ensures regs { HasRegs result }
 {
     tree.are_trees();
     match pages.room(1) {
         Room::Full => return Answer::Refused(NO_ROOM),
-        Room::NeedFrame => unreachable!(),
+        Room::NeedFrame => return Answer::Need(Need::Frame),
         Room::Enough => {}
     }
     let name = tree.next_name(who.tty);
     pages.add_fork(name, map_wanted(regs, who));
     match accumulators(regs, who, pages) {
-        Err(trap) => {
+        Err(stop) => {
             pages.drop_fork(name);
-            Answer::Trap(trap.channel)
+            stopped(stop)
         }
         Ok(words) => {
             grow(regs, words, who, tree);

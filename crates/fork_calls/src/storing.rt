@@ -1,9 +1,10 @@
 // Calls that go over sixteen words of their caller.
-ghost use Rattle.std.specs.Prelude.{◌≡◌, ◌<◌, ◌^◌, if◌then◌else◌, slice_set};
+ghost use Rattle.std.specs.Prelude.{◌≡◌, ◌<◌, ◌^◌, if◌then◌else◌, slice_set, true};
 ghost use Rattle.plain_model.specs.ForkCalls.{stored_low as stored_low_of};
 ghost use Rattle.plain_model.specs.Steps.{is_accumulator};
 ghost use Rattle.plain_model.specs.Limits.{IsAddress};
 ghost use Rattle.call_turns.specs.Turns.{IsRegs};
+ghost use Rattle.call_turns.specs.Answers.{IsDone};
 ghost use Rattle.ka10_unit.specs.Gathers.{Serves};
 ghost use Rattle.fork_tree.specs.Trees.{Lives};
 ghost use Rattle.fork_calls.specs.Asking.{asked};
@@ -13,7 +14,7 @@ ghost use Rattle.fork_calls.specs.Turning.{HasRegs, Turned};
 ghost use Rattle.fork_calls.specs.declared.step.Step.{Step as AStep};
 
 use crate::changing::set_body;
-use crate::ending::returned;
+use crate::ending::{returned, stopped};
 use crate::naming::address_named;
 use crate::words::block;
 use call_turns::behind;
@@ -59,12 +60,13 @@ pub fn set_accumulators<P: Pages>(
     requires holds { Holds P.means pages.old tree.old.forks }
     requires serial { P.means.serial pages.old who.tty < 2 ^ 62 }
     ensures told { Turned P.means pages.old pages.new tree.old tree.new result (whole (asked who regs.now tree.old) (AStep.Sets fork)) }
+    ensures core { P.means.flat ≡ true → IsDone result }
     ensures leaves { CallLeaves P.means pages.old pages.new tree.old tree.new who 128 }
     ensures regs { HasRegs result }
 {
     tree.are_trees();
     match block(regs, who, address_named(regs), Kind::Read, pages) {
-        Err(trap) => Answer::Trap(trap.channel),
+        Err(stop) => stopped(stop),
         Ok(words) => {
             let mut body = fork.body;
             body.regs.ac = words;
@@ -88,12 +90,13 @@ pub fn store_accumulators<P: Pages>(
     requires holds { Holds P.means pages.old tree.now.forks }
     requires serial { P.means.serial pages.old who.tty < 2 ^ 62 }
     ensures told { Turned P.means pages.old pages.new tree.now tree.now result (whole (asked who regs.now tree.now) (AStep.Stores fork)) }
+    ensures core { P.means.flat ≡ true → IsDone result }
     ensures leaves { CallLeaves P.means pages.old pages.new tree.now tree.now who 128 }
     ensures regs { HasRegs result }
 {
     let at = address_named(regs);
     match block(regs, who, at, Kind::Write, pages) {
-        Err(trap) => Answer::Trap(trap.channel),
+        Err(stop) => stopped(stop),
         Ok(_) => {
             let words = fork.body.regs.ac;
             store_block(pages, who, at, &words);

@@ -1,9 +1,10 @@
 // One turn of a fork call.
-ghost use Rattle.std.specs.Prelude.{◌<◌, ◌^◌, IsSome};
+ghost use Rattle.std.specs.Prelude.{◌≡◌, ◌<◌, ◌^◌, IsSome, true};
 ghost use Rattle.std.specs.FinMap as map;
 ghost use Rattle.plain_model.specs.Calls.{end_of};
 ghost use Rattle.plain_model.specs.ForkCalls.{fork_call};
 ghost use Rattle.plain_model.specs.State.{NumberedPages};
+ghost use Rattle.call_turns.specs.Answers.{IsDone};
 ghost use Rattle.call_turns.specs.Turns.{IsRegs};
 ghost use Rattle.fork_calls.specs.Asking.{asked};
 ghost use Rattle.fork_calls.specs.Holding.{CallLeaves, Holds};
@@ -19,9 +20,10 @@ use crate::table::first;
 use fork_tree::Tree;
 use plain_model::{Answer, ForkName, Pages, Regs};
 
-/// One turn of a fork call, by its number (JSYS Manual), over pages in memory: its answer is that of the plain call, and
-/// so are the forks and pages that it leaves. It refers first and changes then. CFORK alone has two returns; a number
-/// that is no fork call traps as an illegal instruction.
+/// One turn of a fork call, by its number (JSYS Manual): its answer is that of the plain call, and so are the forks and
+/// pages that it leaves. It refers first and changes then: it needs something first only where a page that it refers to,
+/// a map on the way or the map of a fork that it kills is in no frame, or where what it makes finds none; and leaves all
+/// as it was. CFORK alone has two returns; a number that is no fork call traps as an illegal instruction.
 pub fn call<P: Pages>(
     number: u32,
     regs: &Regs,
@@ -36,6 +38,7 @@ pub fn call<P: Pages>(
     requires serial { P.means.serial pages.old who.tty < 2 ^ 62 }
     ensures told { Turned P.means pages.old pages.new tree.old tree.new result (fork_call number (asked who regs.now tree.old)) }
     ensures returns { (p : NumberedPages) → IsEndOf number (end_of p (fork_call number (asked who regs.now tree.old))) }
+    ensures core { P.means.flat ≡ true → IsDone result }
     ensures leaves { CallLeaves P.means pages.old pages.new tree.old tree.new who 128 }
     ensures regs { HasRegs result }
 {

@@ -16,6 +16,11 @@ use Rattle.fork_calls.proofs.Places.{Keep, come_on, still_living, waiters_keep}
 use Rattle.fork_calls.proofs.Tops.{below_low, gone_tops, same_tops, tops_on}
 use Rattle.fork_calls.proofs.killing.kill.Goals as goal
 
+pub ask_maps-requires-clause-lives : goal.ask_maps-requires-clause-lives
+ask_maps-requires-clause-lives g c =
+    let f = inferior_lives c.args.tree.now c.are_trees.ensures c.args.who c.args.name c.requires.below in
+    subst IsSome (sym f.1) refl
+
 pub kill_bare-requires-clause-lives : goal.kill_bare-requires-clause-lives
 kill_bare-requires-clause-lives g c =
     let f = inferior_lives c.args.tree.now c.are_trees.ensures c.args.who c.args.name c.requires.below in

@@ -3,16 +3,12 @@ use Rattle.std.specs.FinMap as map
 use Rattle.plain_model.specs.declared.names.ForkName.{ForkName}
 use Rattle.plain_model.specs.Forks.{ForkMap}
 use Rattle.plain_model.specs.Trees.{PlainTree}
-use Rattle.plain_model.proofs.InCore.{map_in_core}
 use Rattle.fork_tree.specs.Trees.{AreSlotted}
 use Rattle.fork_tree.proofs.Slots.{held_lives, some_of}
 use Rattle.fork_calls.specs.Holding.{ComeFrom, Holds}
 use Rattle.fork_calls.proofs.Branch.{dropped_holds}
 use Rattle.fork_calls.proofs.Places.{fewer_come}
 use Rattle.fork_calls.proofs.killing.kill_bare.Goals as goal
-
-pub drop_fork-requires-clause-seen : goal.drop_fork-requires-clause-seen
-drop_fork-requires-clause-seen g c = map_in_core g.P.Pages.means c.args.pages.now (g.met.P.Pages.housed c.args.pages.now) c.requires.holds.flat c.args.name
 
 pub returns-clause-holds : goal.returns-clause-holds
 returns-clause-holds g c =

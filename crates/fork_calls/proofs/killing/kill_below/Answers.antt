@@ -1,4 +1,4 @@
-use Rattle.std.proofs.Common.{◌≡◌, ℕ, ◌+◌, ◌-◌, ◌<◌, Some, None, refl, sym, ◌∙◌, ap, subst, arith}
+use Rattle.std.proofs.Common.{◌≡◌, ℕ, ◌+◌, ◌-◌, ◌<◌, Some, None, refl, sym, ◌∙◌, ap, subst, arith, inl, inr}
 use Rattle.std.specs.Prelude.{IsSome}
 use Rattle.std.specs.Option.{option_map}
 use Rattle.std.specs.Ordering.{nat_cmp}
@@ -13,15 +13,18 @@ use Rattle.fork_tree.specs.Inferiors.{HasNoInferior}
 use Rattle.fork_tree.proofs.Killing.{below_in, fewer_counted, last_once, none_counted}
 use Rattle.fork_tree.proofs.Upward.{tally, tally_most}
 use Rattle.fork_calls.specs.Holding.{TopsStay}
+use Rattle.fork_calls.specs.Needing.{AreMapsHere, GoesWith}
 use Rattle.fork_calls.specs.Turning.{parts}
 use Rattle.fork_calls.proofs.Branch.{below_end, below_over, below_step, made_on, none_made, below_younger, one_less, told_last, told_none}
+use Rattle.fork_calls.proofs.Maps.{fewer_go}
 use Rattle.fork_calls.proofs.Places.{came_itself, come_on}
 use Rattle.fork_calls.proofs.Tops.{below_low, gone_tops, tops_on}
 use Rattle.fork_calls.proofs.killing.kill_below.Goals as goal
 
 pub loop-round-init : goal.loop-round-init
 loop-round-init g c = record {
-  holds = c.requires;
+  holds = c.requires.holds;
+  maps = c.requires.maps;
   kept = came_itself c.args.tree.now.forks;
   tops = λ name top. top;
   made = λ t. none_made g.P.Pages.means c.args.pages.now c.args.pages.now t refl refl;
@@ -37,6 +40,11 @@ kill_bare-requires-clause-lives g c =
 
 pub kill_bare-requires-clause-bare : goal.kill_bare-requires-clause-bare
 kill_bare-requires-clause-bare g c = let k = c.in-Some.ensures in subst (λ (n : ForkName). HasNoInferior c.loop-round.tree.forks n) k.named k.leaf.leaf
+
+pub kill_bare-requires-clause-map : goal.kill_bare-requires-clause-map
+kill_bare-requires-clause-map g c =
+    let k = c.in-Some.ensures in
+    c.loop-round.invariant.maps c.in-Some.name (inr (ap (is_inferior c.loop-round.tree.forks c.args.who) (sym k.named) ∙ k.leaf.below))
 
 pub loop-round-preserved : goal.loop-round-preserved
 loop-round-preserved g c =
@@ -57,6 +65,10 @@ loop-round-preserved g c =
     let counted : tally (below_in c.kill_bare.new.tree.forks who) 1 30 ≡ tally (below_in (map.remove tree.forks name) who) 1 30 = ap (λ (m : ForkMap). tally (below_in m who) 1 30) gone in
     record {
       holds = c.kill_bare.ensures.holds;
+      maps =
+          let here : AreMapsHere (means.scene c.loop-round.pages) (map.remove tree.forks name) who =
+          subst (λ (n : ForkName). AreMapsHere (means.scene c.loop-round.pages) (map.remove tree.forks n) who) k.named (fewer_go (means.scene c.loop-round.pages) tree is who k.fork k.leaf before.maps) in
+          λ f goes. c.kill_bare.ensures.maps f (here f (subst (λ (m : ForkMap). GoesWith m who f) gone goes));
       kept = come_on c.args.tree.now.forks tree.forks c.kill_bare.new.tree.forks before.kept c.kill_bare.ensures.kept;
       tops =
           let low = below_low tree is who name (ap (is_inferior tree.forks who) (sym k.named) ∙ k.leaf.below) in
@@ -80,12 +92,18 @@ loop-round-preserved g c =
           );
     }
 
+pub returns-in-None-clause-maps : goal.returns-in-None-clause-maps
+returns-in-None-clause-maps g c = c.loop-round.invariant.maps c.args.who (inl refl)
+
 pub returns-in-None-clause-told : goal.returns-in-None-clause-told
 returns-in-None-clause-told g c d fits =
     let tree = c.loop-round.tree in
     let t = c.loop-round.invariant.told d fits in
     let none = told_none (last_below tree.forks c.args.who) (last_once tree c.are_trees.ensures c.args.who None c.in-None.ensures) in
     (t.0, sym t.1 ∙ below_over c.args.who (30 - c.loop-round._round) (parts tree (g.P.Pages.means.plain c.loop-round.pages d)) none)
+
+pub returns-clause-maps : goal.returns-clause-maps
+returns-clause-maps g c = c.loop-round.invariant.maps c.args.who (inl refl)
 
 pub returns-clause-told : goal.returns-clause-told
 returns-clause-told g c d fits =

@@ -7,12 +7,14 @@ use Rattle.plain_model.specs.ForkCalls.{without_below}
 use Rattle.fork_tree.proofs.Killing.{below_in}
 use Rattle.fork_tree.proofs.Upward.{tally}
 use Rattle.fork_calls.specs.Holding.{ComeFrom, Holds, MakesPages, TopsStay}
+use Rattle.fork_calls.specs.Needing.{AreMapsHere}
 use Rattle.fork_calls.specs.Turning.{parts}
 use Rattle.fork_calls.proofs.killing.kill_below.Given as goal
 
 abbrev pub invariant-loop-round : goal.invariant-loop-round
 invariant-loop-round g l = record {
   holds : Holds g.P.Pages.means l.pages l.tree.forks;
+  maps : AreMapsHere (g.P.Pages.means.scene l.pages) l.tree.forks l.who;
   kept : ComeFrom l.fn.tree.forks l.tree.forks;
   tops : TopsStay l.fn.tree.forks l.tree.forks;
   made : (t : Tty) → MakesPages g.P.Pages.means t 0 l.fn.pages l.pages;

@@ -1,8 +1,8 @@
-use Rattle.std.proofs.Common.{◌≡◌, ◌+◌, true, false, not, ◌&&◌, None, refl, sym, ◌∙◌, ap, subst, arith, inl}
-use Rattle.std.specs.Prelude.{nat_le, is_some}
+use Rattle.std.proofs.Common.{◌≡◌, true, false, not, ◌&&◌, None, refl, sym, ◌∙◌, ap, subst, arith, inl, inr}
+use Rattle.std.specs.Prelude.{is_some}
 use Rattle.std.specs.FinMap as map
 use Rattle.plain_model.specs.declared.call.TheConstants.{NO_ROOM}
-use Rattle.plain_model.specs.declared.call.End.TheVariants.{Done, Failed, Trap}
+use Rattle.plain_model.specs.declared.call.End.TheVariants.{Done, Failed}
 use Rattle.plain_model.specs.declared.call.ForkChange.{ForkChange}
 use Rattle.plain_model.specs.declared.call.ForkChange.TheVariants.{Make}
 use Rattle.plain_model.specs.declared.names.ForkName.{ForkName}
@@ -13,30 +13,35 @@ use Rattle.plain_model.specs.Forks.{ForkMap, same_fork}
 use Rattle.plain_model.specs.NewMaps.{with_map}
 use Rattle.plain_model.specs.Room.{HasRoom}
 use Rattle.plain_model.specs.References.{without_fork}
-use Rattle.plain_model.specs.Pages.{IsNewMap, PagesMeaning}
+use Rattle.plain_model.specs.declared.map.Need.TheVariants.{Frame}
+use Rattle.plain_model.specs.Pages.{IsNewMap, PagesMeaning, TakesMap}
 use Rattle.plain_model.specs.Trees.{PlainTree, next_name}
 use Rattle.plain_model.specs.ForkCalls.{made_fork, map_wanted}
-use Rattle.plain_model.proofs.InCore.{map_in_core}
 use Rattle.call_turns.specs.Answers.{answer_of}
 use Rattle.ka10_unit.specs.Carrying.{Grows}
+use Rattle.ka10_unit.specs.Gathers.{framed}
 use Rattle.ka10_unit.proofs.Carried.{grows_none, grows_within}
-use Rattle.fork_tree.specs.Trees.{AreSlotted}
+use Rattle.fork_tree.specs.Trees.{AreSlotted, IsTree}
 use Rattle.fork_tree.proofs.Kept.{name_unused}
-use Rattle.fork_tree.proofs.Slots.{empty_of}
 use Rattle.fork_calls.specs.Asking.{asked}
 use Rattle.fork_calls.specs.Holding.{ComeOrNew, Holds, MakesPages, TopsStay}
 use Rattle.fork_calls.specs.Steps.{made_where, second_regs}
 use Rattle.fork_calls.specs.Turning.{parts}
-use Rattle.fork_calls.proofs.Added.{added_dropped, added_holds, back_holds, enough_room, few_forks, no_room, room_is}
+use Rattle.fork_calls.proofs.Added.{added_dropped, added_holds, back_holds, enough_room, few_forks, no_frame, no_room, not_there, room_told}
 use Rattle.fork_calls.proofs.Branch.{made_on, none_made}
 use Rattle.fork_calls.proofs.CallLeaving.{grown_leaves}
 use Rattle.fork_calls.proofs.Going.{goes, stops}
 use Rattle.fork_calls.proofs.Grown.{slot_told}
 use Rattle.fork_calls.proofs.Holdings.{grown_made, holds_still}
-use Rattle.fork_calls.proofs.MadeTurns.{still_there, made_come, made_full, made_goes, made_new, made_traps, make_changes, wanted_new}
+use Rattle.fork_calls.proofs.MadeTurns.{still_there, made_come, made_full, made_goes, made_new, made_stops, make_changes, wanted_new}
 use Rattle.fork_calls.proofs.Places.{came_itself}
 use Rattle.fork_calls.proofs.Tops.{made_tops}
+use Rattle.fork_calls.proofs.TurnBlocks.{turn_stops}
 use Rattle.fork_calls.proofs.making.make.Goals as goal
+
+-- the next fork of a terminal doesn't live yet
+unborn : {P : Type 0} (means : PagesMeaning P) (pages : P) (tree : PlainTree) → IsTree tree → Holds means pages tree.forks → (t : Tty) → means.lives pages (next_name tree t) ≡ false
+unborn means pages tree is holds t = holds.living (next_name tree t) ∙ ap is_some (name_unused tree t is)
 
 -- pages of which a map was added, and then pages for words made
 words_made : {P : Type 0} (means : PagesMeaning P) (t : Tty) (old mid new : P) → means.serial mid ≡ means.serial old → means.most mid ≡ means.most old → Grows means t 128 mid new → MakesPages means t 128 old new
@@ -57,21 +62,34 @@ add_fork-requires-clause-map g c =
     subst (λ (m : NewMap). IsNewMap lives c.next_name-name.result m) (sym (c.map_wanted.ensures c.args.tree.now)) (wanted_new a lives c.next_name-name.result c.requires.serves.lives (ap (λ (n : ForkName). n.tty) c.next_name-name.ensures))
 
 pub drop_fork-requires-clause-seen : goal.drop_fork-requires-clause-seen
-drop_fork-requires-clause-seen g c = map_in_core g.P.Pages.means c.accumulators.new.pages (g.met.P.Pages.housed c.accumulators.new.pages) c.requires.holds.flat c.next_name-name.result
+drop_fork-requires-clause-seen g c = ap (λ s. (g.P.Pages.means.scene s).map_away c.next_name-name.result) c.in-Err.ensures.stopped ∙ c.add_fork.ensures.scene.own
 
 pub returns-in-Full-clause-told : goal.returns-in-Full-clause-told
 returns-in-Full-clause-told g c d fits =
     let means = g.P.Pages.means in
     let pages = c.args.pages.now in
-    let a = asked c.args.who c.args.regs.now c.args.tree.now in
+    let tree = c.args.tree.now in
+    let a = asked c.args.who c.args.regs.now tree in
     let p = means.plain pages d in
-    let name = next_name c.args.tree.now c.args.who.tty in
-    let agrees = g.met.P.Pages.agrees pages d fits in
-    let dead : is_some (map.get p.maps name) ≡ false = sym (agrees.living name) ∙ c.requires.holds.living name ∙ ap is_some (name_unused c.args.tree.now c.args.who.tty c.are_trees.ensures) in
-    let absent = empty_of (map.get p.maps name) dead in
+    let name = next_name tree c.args.who.tty in
+    let dead = unborn means pages tree c.are_trees.ensures c.requires.holds c.args.who.tty in
     let none : HasRoom (with_map p name (map_wanted a)) c.args.who.tty ≡ false =
-    room_is p name (map_wanted a) absent (g.met.P.Pages.whole pages d fits) ∙ (λ i. nat_le (sym agrees.number i + 1) (sym agrees.bound i)) ∙ no_room (means.count pages) (means.most pages) (means.scene pages).free_frames c.in-Full.ensures.answer in
-    (fits, stops (parts c.args.tree.now p) (parts c.args.tree.now p) _ (made_where a c.args.slot) (Failed NO_ROOM) (made_full a c.args.slot p none) (λ what regs h. cc h) refl refl)
+    room_told means pages p (g.met.P.Pages.agrees pages d fits) (g.met.P.Pages.whole pages d fits) name (map_wanted a) dead ∙ no_room (means.count pages) (means.most pages) (means.scene pages).free_frames c.in-Full.ensures.answer in
+    (fits, inl (stops (parts tree p) (parts tree p) _ (made_where a c.args.slot) (Failed NO_ROOM) (made_full a c.args.slot p none) (λ what regs h. cc h) refl refl))
+
+pub returns-in-NeedFrame-clause-told : goal.returns-in-NeedFrame-clause-told
+returns-in-NeedFrame-clause-told g c d fits =
+    let means = g.P.Pages.means in
+    let pages = c.args.pages.now in
+    let tree = c.args.tree.now in
+    let a = asked c.args.who c.args.regs.now tree in
+    let p = means.plain pages d in
+    let name = next_name tree c.args.who.tty in
+    let dead = unborn means pages tree c.are_trees.ensures c.requires.holds c.args.who.tty in
+    let none = no_frame (means.count pages) (means.most pages) (means.scene pages).free_frames c.in-NeedFrame.ensures.answer in
+    let room : HasRoom (with_map p name (map_wanted a)) c.args.who.tty ≡ true =
+    room_told means pages p (g.met.P.Pages.agrees pages d fits) (g.met.P.Pages.whole pages d fits) name (map_wanted a) dead ∙ none.0 in
+    (fits, inr (record { need = Frame; answered = refl; reason = inl (record { room = room; frames = none.1; is = refl }); left = refl }))
 
 pub returns-in-Err-clause-told : goal.returns-in-Err-clause-told
 returns-in-Err-clause-told g c d fits =
@@ -79,23 +97,24 @@ returns-in-Err-clause-told g c d fits =
     let pages = c.args.pages.now in
     let tree = c.args.tree.now in
     let a = asked c.args.who c.args.regs.now tree in
-    let p = means.plain pages d in
+    let p = framed means pages d in
     let name = next_name tree c.args.who.tty in
     let agrees = g.met.P.Pages.agrees pages d fits in
-    let dead : is_some (map.get p.maps name) ≡ false = sym (agrees.living name) ∙ c.requires.holds.living name ∙ ap is_some (name_unused tree c.args.who.tty c.are_trees.ensures) in
-    let absent = empty_of (map.get p.maps name) dead in
-    let room : HasRoom (with_map p name (map_wanted a)) c.args.who.tty ≡ true =
-    room_is p name (map_wanted a) absent (g.met.P.Pages.whole pages d fits) ∙ (λ i. nat_le (sym agrees.number i + 1) (sym agrees.bound i)) ∙ enough_room (means.count pages) (means.most pages) (means.scene pages).free_frames c.in-Enough.ensures.answer in
+    let whole = g.met.P.Pages.whole pages d fits in
+    let dead = unborn means pages tree c.are_trees.ensures c.requires.holds c.args.who.tty in
+    let room : HasRoom (with_map p.pages name (map_wanted a)) c.args.who.tty ≡ true =
+    room_told means pages p.pages agrees whole name (map_wanted a) dead ∙ enough_room (means.count pages) (means.most pages) (means.scene pages).free_frames c.in-Enough.ensures.answer in
     let add = c.add_fork.ensures.told d fits in
-    let mapped : means.plain c.add_fork.new.self d ≡ with_map p name (map_wanted a) = add.1 ∙ (λ i. with_map p (c.next_name-name.ensures i) (c.map_wanted.ensures tree i)) in
+    let mapped : means.plain c.add_fork.new.self d ≡ with_map p.pages name (map_wanted a) = add.1 ∙ (λ i. with_map p.pages (c.next_name-name.ensures i) (c.map_wanted.ensures tree i)) in
+    let takes : TakesMap p.scene (means.scene c.add_fork.new.self) name = subst (λ (n : ForkName). TakesMap p.scene (means.scene c.add_fork.new.self) n) c.next_name-name.ensures c.add_fork.ensures.scene in
     let words = c.in-Err.ensures.told d tree add.0 in
     let same : means.plain c.accumulators.new.pages d ≡ means.plain c.add_fork.new.self d = ap (λ s. means.plain s d) c.in-Err.ensures.stopped in
     let drop = c.drop_fork.ensures.told d words.0 in
-    let back : means.plain c.drop_fork.new.self d ≡ p =
-    drop.1 ∙ (λ i. without_fork ((same ∙ mapped) i) (c.next_name-name.ensures i)) ∙ added_dropped p name (map_wanted a) absent in (
+    let back : means.plain c.drop_fork.new.self d ≡ p.pages =
+    drop.1 ∙ (λ i. without_fork ((same ∙ mapped) i) (c.next_name-name.ensures i)) ∙ added_dropped p.pages name (map_wanted a) (not_there means pages p.pages agrees whole name (map_wanted a) dead) in (
       drop.0,
-      stops (parts tree p) (parts tree (means.plain c.drop_fork.new.self d)) _ (made_where a c.args.slot) (Trap c.in-Err.trap.channel)
-          (made_traps a c.args.slot p room (means.plain c.add_fork.new.self d) (means.plain c.accumulators.new.pages d) c.in-Err.trap mapped words.1) (λ what regs h. cc h) refl (ap (parts tree) back),
+      turn_stops tree p (parts tree (means.plain c.drop_fork.new.self d)) c.stopped.result (made_where a c.args.slot) c.in-Err.stop
+          (made_stops a c.args.slot p.pages room p.scene (means.scene c.add_fork.new.self) (means.plain c.add_fork.new.self d) (means.plain c.accumulators.new.pages d) c.in-Err.stop mapped takes words.1) (ap (parts tree) back) c.stopped.ensures.answer,
     )
 
 pub returns-in-Ok-clause-told : goal.returns-in-Ok-clause-told
@@ -107,11 +126,10 @@ returns-in-Ok-clause-told g c d fits =
     let p = means.plain pages d in
     let q = means.plain c.accumulators.new.pages d in
     let name = next_name tree c.args.who.tty in
-    let agrees = g.met.P.Pages.agrees pages d fits in
-    let dead : is_some (map.get p.maps name) ≡ false = sym (agrees.living name) ∙ c.requires.holds.living name ∙ ap is_some (name_unused tree c.args.who.tty c.are_trees.ensures) in
-    let absent = empty_of (map.get p.maps name) dead in
+    let dead = unborn means pages tree c.are_trees.ensures c.requires.holds c.args.who.tty in
     let room : HasRoom (with_map p name (map_wanted a)) c.args.who.tty ≡ true =
-    room_is p name (map_wanted a) absent (g.met.P.Pages.whole pages d fits) ∙ (λ i. nat_le (sym agrees.number i + 1) (sym agrees.bound i)) ∙ enough_room (means.count pages) (means.most pages) (means.scene pages).free_frames c.in-Enough.ensures.answer in
+    room_told means pages p (g.met.P.Pages.agrees pages d fits) (g.met.P.Pages.whole pages d fits) name (map_wanted a) dead
+    ∙ enough_room (means.count pages) (means.most pages) (means.scene pages).free_frames c.in-Enough.ensures.answer in
     let add = c.add_fork.ensures.told d fits in
     let mapped : means.plain c.add_fork.new.self d ≡ with_map p name (map_wanted a) = add.1 ∙ (λ i. with_map p (c.next_name-name.ensures i) (c.map_wanted.ensures tree i)) in
     let words = c.in-Ok.ensures.told d tree add.0 in
@@ -119,8 +137,8 @@ returns-in-Ok-clause-told g c d fits =
     let f = made_fork a c.args.slot c.in-Ok.words in
     let change : ForkChange = Make f in (
       words.0,
-      goes (parts tree p) (parts c.grow.new.tree q) c.returned.result (made_where a c.args.slot) change (second_regs c.args.regs.now c.args.slot) q made.0 made.1
-          (make_changes tree c.grow.new.tree f p q (c.grow.ensures.told c.args.slot c.requires.slot)) (c.returned.ensures.answer change ∙ ap (λ (r : Regs). answer_of (Done change r)) c.with_handle.ensures.regs),
+      inl (goes (parts tree p) (parts c.grow.new.tree q) c.returned.result (made_where a c.args.slot) change (second_regs c.args.regs.now c.args.slot) q made.0 made.1
+          (make_changes tree c.grow.new.tree f p q (c.grow.ensures.told c.args.slot c.requires.slot)) (c.returned.ensures.answer change ∙ ap (λ (r : Regs). answer_of (Done change r)) c.with_handle.ensures.regs)),
     )
 
 pub returns-in-Full-clause-leaves : goal.returns-in-Full-clause-leaves

@@ -1,4 +1,4 @@
-use Rattle.std.proofs.Common.{ℕ, refl, ◌∙◌, ap, subst}
+use Rattle.std.proofs.Common.{ℕ, refl, ◌∙◌, ap, subst, inl}
 use Rattle.std.specs.Prelude.{Err}
 use Rattle.plain_model.specs.declared.call.End.TheVariants.{Done}
 use Rattle.plain_model.specs.declared.call.ForkChange.TheVariants.{Become}
@@ -7,26 +7,30 @@ use Rattle.plain_model.specs.Calls.{ends}
 use Rattle.plain_model.specs.declared.fork.Regs.{Regs}
 use Rattle.plain_model.specs.ForkCalls.{address_named, with_accumulators_of}
 use Rattle.call_turns.specs.Answers.{answer_of}
+use Rattle.ka10_unit.specs.Gathers.{framed}
 use Rattle.fork_calls.specs.Asking.{asked}
 use Rattle.fork_calls.specs.Blocks.{GoesOn, TookBlock}
 use Rattle.fork_calls.specs.Steps.{set_end, whole}
 use Rattle.fork_calls.specs.Turning.{parts}
 use Rattle.fork_calls.specs.declared.step.Step.TheVariants.{Sets}
 use Rattle.fork_calls.proofs.CallLeaving.{grown_leaves, places_leave}
-use Rattle.fork_calls.proofs.TurnBlocks.{block_goes, block_traps}
+use Rattle.fork_calls.proofs.TurnBlocks.{block_goes, block_stops, turn_stops}
 use Rattle.fork_calls.proofs.storing.set_accumulators.Goals as goal
 
 pub returns-in-Err-clause-told : goal.returns-in-Err-clause-told
 returns-in-Err-clause-told g c d fits =
     let means = g.P.Pages.means in
+    let who = c.args.who in
+    let regs = c.args.regs.now in
+    let tree = c.args.tree.now in
     let t = c.in-Err.ensures.told d fits in
-    let at = c.address_named.ensures.address in
-    let a = asked c.args.who c.args.regs.now c.args.tree.now in
-    let p = means.plain c.args.pages.now d in
-    let traps = subst (λ (n : ℕ). TookBlock c.args.who c.args.regs.now n Read p (means.plain c.block.new.pages d) (Err c.in-Err.trap)) at t.1 in (
+    let a = asked who regs tree in
+    let p = framed means c.args.pages.now d in
+    let q = means.plain c.block.new.pages d in
+    let took = subst (λ (n : ℕ). TookBlock who regs n Read p q (Err c.in-Err.stop)) c.address_named.ensures.address t.1 in (
       t.0,
-      block_traps (parts c.args.tree.now p) (parts c.args.tree.now (means.plain c.block.new.pages d)) c.in-Err.trap.channel (whole a (Sets c.args.fork)) (traps (λ words. ends (set_end a c.args.fork words)))
-          (ap (λ s. parts c.args.tree.now (means.plain s d)) c.in-Err.ensures.stopped),
+      turn_stops tree p (parts tree q) c.stopped.result (whole a (Sets c.args.fork)) c.in-Err.stop (block_stops who regs (address_named regs) Read p q tree.forks (λ words. ends (set_end a c.args.fork words)) c.in-Err.stop took)
+          (ap (λ s. parts tree (means.plain s d)) c.in-Err.ensures.stopped) c.stopped.ensures.answer,
     )
 
 pub returns-in-Ok-clause-told : goal.returns-in-Ok-clause-told
@@ -40,9 +44,9 @@ returns-in-Ok-clause-told g c d fits =
     let words = c.in-Ok.words in
     let on = subst (λ (n : ℕ). GoesOn c.args.who c.args.regs.now n Read p q words) at t.1 in (
       t.0,
-      block_goes (parts c.args.tree.now p) (parts c.set_body.new.tree q) c.returned.result c.args.who c.args.regs.now (address_named c.args.regs.now) Read q words on (λ ws. set_end a c.args.fork ws) _ _ refl
+      inl (block_goes (parts c.args.tree.now p) (parts c.set_body.new.tree q) c.returned.result c.args.who c.args.regs.now (address_named c.args.regs.now) Read q words on (λ ws. set_end a c.args.fork ws) _ _ refl
           (c.set_body.ensures.told q)
-          (c.returned.ensures.answer (Become c.args.fork.name (with_accumulators_of c.args.fork.body words)) ∙ ap (λ (r : Regs). answer_of (Done (Become c.args.fork.name (with_accumulators_of c.args.fork.body words)) r)) c.behind.ensures.behind),
+          (c.returned.ensures.answer (Become c.args.fork.name (with_accumulators_of c.args.fork.body words)) ∙ ap (λ (r : Regs). answer_of (Done (Become c.args.fork.name (with_accumulators_of c.args.fork.body words)) r)) c.behind.ensures.behind)),
     )
 
 pub returns-in-Err-clause-leaves : goal.returns-in-Err-clause-leaves

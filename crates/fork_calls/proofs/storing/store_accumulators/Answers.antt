@@ -1,4 +1,4 @@
-use Rattle.std.proofs.Common.{◌≡◌, ℕ, List, refl, ◌∙◌, ap, subst}
+use Rattle.std.proofs.Common.{◌≡◌, ℕ, List, refl, ◌∙◌, ap, subst, inl}
 use Rattle.std.specs.Prelude.{Err}
 use Rattle.plain_model.specs.declared.call.End.TheVariants.{Done}
 use Rattle.plain_model.specs.declared.call.ForkChange.{ForkChange}
@@ -9,26 +9,30 @@ use Rattle.plain_model.specs.declared.fork.Regs.{Regs}
 use Rattle.plain_model.specs.ForkCalls.{address_named, stored_from, stored_low}
 use Rattle.call_turns.specs.Answers.{answer_of}
 use Rattle.ka10_unit.proofs.Carried.{grows_more, grows_stored}
+use Rattle.ka10_unit.specs.Gathers.{framed}
 use Rattle.fork_calls.specs.Asking.{asked}
 use Rattle.fork_calls.specs.Blocks.{GoesOn, TookBlock}
 use Rattle.fork_calls.specs.Steps.{store_end, whole}
 use Rattle.fork_calls.specs.Turning.{parts}
 use Rattle.fork_calls.specs.declared.step.Step.TheVariants.{Stores}
 use Rattle.fork_calls.proofs.CallLeaving.{grown_leaves}
-use Rattle.fork_calls.proofs.TurnBlocks.{block_goes, block_traps, words_stored}
+use Rattle.fork_calls.proofs.TurnBlocks.{block_goes, block_stops, turn_stops, words_stored}
 use Rattle.fork_calls.proofs.storing.store_accumulators.Goals as goal
 
 pub returns-in-Err-clause-told : goal.returns-in-Err-clause-told
 returns-in-Err-clause-told g c d fits =
     let means = g.P.Pages.means in
+    let who = c.args.who in
+    let regs = c.args.regs.now in
+    let tree = c.args.tree.now in
     let t = c.in-Err.ensures.told d fits in
-    let at = c.address_named-at.ensures.address in
-    let a = asked c.args.who c.args.regs.now c.args.tree.now in
-    let p = means.plain c.args.pages.now d in
-    let traps = subst (λ (n : ℕ). TookBlock c.args.who c.args.regs.now n Write p (means.plain c.block.new.pages d) (Err c.in-Err.trap)) at t.1 in (
+    let a = asked who regs tree in
+    let p = framed means c.args.pages.now d in
+    let q = means.plain c.block.new.pages d in
+    let took = subst (λ (n : ℕ). TookBlock who regs n Write p q (Err c.in-Err.stop)) c.address_named-at.ensures.address t.1 in (
       t.0,
-      block_traps (parts c.args.tree.now p) (parts c.args.tree.now (means.plain c.block.new.pages d)) c.in-Err.trap.channel (whole a (Stores c.args.fork)) (traps (λ words. ends (store_end a c.args.fork)))
-          (ap (λ s. parts c.args.tree.now (means.plain s d)) c.in-Err.ensures.stopped),
+      turn_stops tree p (parts tree q) c.stopped.result (whole a (Stores c.args.fork)) c.in-Err.stop (block_stops who regs (address_named regs) Write p q tree.forks (λ old. ends (store_end a c.args.fork)) c.in-Err.stop took)
+          (ap (λ s. parts tree (means.plain s d)) c.in-Err.ensures.stopped) c.stopped.ensures.answer,
     )
 
 pub returns-in-Ok-clause-told : goal.returns-in-Ok-clause-told
@@ -47,9 +51,9 @@ returns-in-Ok-clause-told g c d fits =
     let change : ForkChange = Store c.args.who (address_named c.args.regs.now) stored in
     let low : c.stored_low-told.result ≡ stored_low c.args.regs.now.ac (address_named c.args.regs.now) stored = c.stored_low-told.ensures ∙ ap (λ (n : ℕ). stored_low c.args.regs.now.ac n stored) at in (
       c.store_block.ensures.fits d t.0,
-      block_goes (parts c.args.tree.now p) (parts c.args.tree.now (means.plain c.store_block.new.pages d)) c.returned.result c.args.who c.args.regs.now (address_named c.args.regs.now) Write q words on (λ old. store_end a c.args.fork) change _ refl
+      inl (block_goes (parts c.args.tree.now p) (parts c.args.tree.now (means.plain c.store_block.new.pages d)) c.returned.result c.args.who c.args.regs.now (address_named c.args.regs.now) Write q words on (λ old. store_end a c.args.fork) change _ refl
           (words_stored c.args.tree.now q (means.plain c.store_block.new.pages d) c.args.who (address_named c.args.regs.now) stored put p)
-          (c.returned.ensures.answer change ∙ ap (λ (r : Regs). answer_of (Done change r)) (c.behind.ensures.behind ∙ ap (λ (ac : List ℕ). behind_call (record c.args.regs.now { ac = ac })) low)),
+          (c.returned.ensures.answer change ∙ ap (λ (r : Regs). answer_of (Done change r)) (c.behind.ensures.behind ∙ ap (λ (ac : List ℕ). behind_call (record c.args.regs.now { ac = ac })) low))),
     )
 
 pub returns-in-Err-clause-leaves : goal.returns-in-Err-clause-leaves

@@ -1,9 +1,14 @@
 use Rattle.ka10_unit.specs.Gathers.{framed}
-use Rattle.fork_calls.proofs.TurnBlocks.{took_goes, took_traps}
+use Rattle.fork_calls.proofs.TurnBlocks.{took_goes, took_stops}
 use Rattle.fork_calls.proofs.words.block.Goals as goal
 
 pub returns-in-Err-clause-told : goal.returns-in-Err-clause-told
-returns-in-Err-clause-told g c d fits = (fits, took_traps c.args.who (framed g.P.Pages.means c.args.pages.now d) c.args.regs.now c.args.at c.args.kind c.refer_block.new.taken c.in-Err.trap (c.in-Err.ensures.told d fits))
+returns-in-Err-clause-told g c d fits = (fits, took_stops c.args.who (framed g.P.Pages.means c.args.pages.now d) c.args.regs.now c.args.at c.args.kind c.refer_block.new.taken c.in-Err.stop (g.P.Pages.means.plain c.args.pages.now d) (c.in-Err.ensures.told d fits))
+
+pub returns-in-Ok-clause-opens : goal.returns-in-Ok-clause-opens
+returns-in-Ok-clause-opens g c d words fits is kind =
+    let took = c.in-Ok.ensures.told d fits in
+    c.make_block.ensures.opens d c.args.at 16 fits took.stands (took.open_at words is kind)
 
 pub returns-in-Ok-clause-told : goal.returns-in-Ok-clause-told
 returns-in-Ok-clause-told g c d fits =
