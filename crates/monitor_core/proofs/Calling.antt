@@ -3,6 +3,7 @@ use Rattle.std.proofs.Common.{◌≡◌, ◌≢◌, ℕ, ◌==◌, ◌&&◌, Boo
 use Rattle.std.specs.Prelude.{IsSome, Result, Ok, Err, unwrap_or}
 use Rattle.std.proofs.lemmas.Bool.{ne_eqb}
 use Rattle.std.specs.FinMap as map
+use Rattle.plain_model.specs.declared.call.End.{End}
 use Rattle.plain_model.specs.declared.call.End.TheVariants.{Done}
 use Rattle.plain_model.specs.declared.call.MapChange.{MapChange}
 use Rattle.plain_model.specs.declared.call.MapChange.TheVariants.{Nothing}
@@ -12,6 +13,7 @@ use Rattle.plain_model.specs.declared.fork.Answer.TheVariants as answer
 use Rattle.plain_model.specs.declared.fork.Body.{Body}
 use Rattle.plain_model.specs.declared.fork.Fork.{Fork}
 use Rattle.plain_model.specs.declared.names.Access.{Access}
+use Rattle.plain_model.specs.declared.map.Need.{Need}
 use Rattle.plain_model.specs.declared.map.MapEntry.{MapEntry}
 use Rattle.plain_model.specs.declared.map.MapEntry.TheVariants as entry
 use Rattle.plain_model.specs.declared.names.Slot.{Slot}
@@ -24,7 +26,6 @@ use Rattle.plain_model.specs.ForkCalls.{ForkParts, fork_call, fork_calls, fork_c
 use Rattle.plain_model.specs.MapCalls.{Asked, behind_page, is_counted, map_call, map_changed, narrows, one_page, pages_left, place_named, pmap, rmap, rpacs, slot_named, spacs}
 use Rattle.plain_model.specs.Forks.{counted, fork_in, with_regs}
 use Rattle.plain_model.specs.Unit.{advanced}
-use Rattle.plain_model.specs.Pages.{Scene}
 use Rattle.plain_model.specs.Trees.{PlainTree, changed, with_body, with_changed_of}
 use Rattle.call_turns.specs.Answers.{FitsAnswer, IsDone, IsTurn, Went}
 use Rattle.fork_tree.specs.Changes.{body_in, with_body_at}
@@ -129,31 +130,35 @@ module _ (p : NumberedPages) (number : ℕ) (not : number ≢ CFORK) (a : Asked)
 
 -- ---- turns, behind their answers
 
--- an answer that needs nothing first
-pub has_regs : (a : Answer) → FitsAnswer a → IsDone a → HasRegs a
-has_regs (answer.After regs out post) fits done = fits
-has_regs (answer.Wait on) fits done = tt
-has_regs answer.Halt fits done = tt
-has_regs (answer.Refused code) fits done = tt
-has_regs (answer.Trap channel) fits done = tt
-has_regs (answer.Need need) fits done = absurd done
+-- an answer within its limits has registers within theirs
+pub has_regs : (a : Answer) → FitsAnswer a → HasRegs a
+has_regs (answer.After regs out post) fits = fits
+has_regs (answer.Wait on) fits = tt
+has_regs answer.Halt fits = tt
+has_regs (answer.Refused code) fits = tt
+has_regs (answer.Trap channel) fits = tt
+has_regs (answer.Need need) fits = tt
+
+-- a turn that needs nothing first went to its end
+pub turn_went : {C V : Type 0} {IsReason : Need → Type 0} {changed : C → V → V} {old new : V} {a : Answer} {e : End C} → IsDone a → IsTurn IsReason changed old new a e → Went changed old new a e
+turn_went done (inl went) = went
+turn_went done (inr waits) = absurd (subst IsDone waits.answered done)
 
 -- a call on maps is no fork call
 not_making : (number : ℕ) → IsMapCall number → number ≢ CFORK
 not_making number not same = let no : false ≡ true = sym not.1 ∙ ap (is_among fork_calls) same in cc no
 
--- a turn of a call on maps, which needs nothing first
-pub mapped_behind : (tree : PlainTree) (scene : Scene) (f g : Fork) (p q : NumberedPages) (number : ℕ) (a : Answer) (shown : Shown) → IsMapCall number → IsDone a
-    → IsTurn scene map_changed p q a (end_of p (map_call number (record { who = f.name; regs = f.body.regs; forks = tree.forks }))) → g ≡ counted (answered number f a) → shown ≡ answer_shown number a
+-- a turn of a call on maps
+pub mapped_behind : (tree : PlainTree) (f g : Fork) (p q : NumberedPages) (number : ℕ) (a : Answer) (shown : Shown) → IsMapCall number
+    → Went map_changed p q a (end_of p (map_call number (record { who = f.name; regs = f.body.regs; forks = tree.forks }))) → g ≡ counted (answered number f a) → shown ≡ answer_shown number a
     → called_behind tree f p number ≡ left_so tree g q shown
-mapped_behind tree scene f g p q number a shown not done (inl went) fork shows =
+mapped_behind tree f g p q number a shown not went fork shows =
     let asks : Asked = record { who = f.name; regs = f.body.regs; forks = tree.forks } in
     let e = end_of p (map_call number asks) in
     let returns = map_returns p number (not_making number not) asks in
     let fork_is : g ≡ counted (fork_behind f e) = fork ∙ ap (λ x. counted (answered number f x)) went.answered ∙ ap counted (answer_is number f e returns) in
     let shown_is : shown ≡ end_shown e = shows ∙ ap (answer_shown number) went.answered ∙ answer_shows number e returns in
     map_call_is tree f p number not ∙ (λ i. left_so tree (sym fork_is i) (sym went.left i) (sym shown_is i))
-mapped_behind tree scene f g p q number a shown not done (inr waits) fork shows = absurd (subst IsDone waits.answered done)
 
 -- a turn of a fork call, whose change leaves the fork that called so
 pub forked_as : (tree tree' : PlainTree) (f g : Fork) (p q : NumberedPages) (number : ℕ) (a : Answer) (body : Body) (shown : Shown) → is_among fork_calls number ≡ true → map.get tree'.forks f.name ≡ Some g

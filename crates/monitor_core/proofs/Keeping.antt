@@ -103,7 +103,7 @@ answered_keeps number f off pc acs (answer.Refused code) fits = by (number == CF
 answered_keeps number f off pc acs (answer.Trap channel) fits = posted_keeps f off f.body.regs pc acs channel
 answered_keeps number f off pc acs (answer.Wait on) fits = record { name = refl; slot = refl; superior = refl; status = λ s c h. absurd (cc h); on = refl; pc = pc; accumulators = acs; units = refl }
 answered_keeps number f off pc acs answer.Halt fits = halted_keeps f off f.body.regs pc acs
-answered_keeps number f off pc acs (answer.Need need) fits = absurd fits
+answered_keeps number f off pc acs (answer.Need need) fits = plain_keeps f off f.body.regs pc acs
 
 -- a call that is still to be made leaves its fork
 pub none_keeps : (f : Fork) (regs : Regs) → regs.pc < 2 ^ 18 → length regs.ac ≡ ACCUMULATORS → Kept f (with_regs f regs) 0

@@ -45,11 +45,11 @@ module _ {P : Type 0} {b : _} where
   holds_top m is t j at =
       let job = m.sound.each_job t j at in
       let k = top_fork_of m t j at in
-      record { flat = m.sound.holds.flat; lives = m.sound.holds.living j.top ∙ ap is_some k.1; terminal = omega (arith, job.terminal, job.low) }
+      record { flat = m.sound.flat; lives = m.sound.holds.living j.top ∙ ap is_some k.1; terminal = omega (arith, job.terminal, job.low) }
 
   -- a fork that lives is held by the pages
   pub holds_fork : (m : System P b) → IsTree m.tree → (f : Fork) → Lives m.tree.forks f → Holds b.means m.pages f.name
-  holds_fork m is f lives = record { flat = m.sound.holds.flat; lives = m.sound.holds.living f.name ∙ ap is_some lives; terminal = (is.slotted.named f lives).0 }
+  holds_fork m is f lives = record { flat = m.sound.flat; lives = m.sound.holds.living f.name ∙ ap is_some lives; terminal = (is.slotted.named f lives).0 }
 
   -- the units of the forks where one of them is another
   pub units_changed : (m : System P b) (entries later : ℕ) (name : ForkName) (g : Fork) → IsWithin m entries → entries ≤ later → g.body.units ≤ later → (f : Fork) → Lives (map.insert m.tree.forks name g) f → f.body.units ≤ later

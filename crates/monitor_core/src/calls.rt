@@ -8,6 +8,7 @@ ghost use Rattle.plain_model.specs.Forks.{counted, fork_in, with_regs, with_stat
 ghost use Rattle.plain_model.specs.Unit.{advanced};
 ghost use Rattle.plain_model.specs.Calls.{failed_regs, is_among, with_error};
 ghost use Rattle.plain_model.specs.ForkCalls.{fork_calls};
+ghost use Rattle.call_turns.specs.Answers.{IsDone};
 ghost use Rattle.fork_calls.specs.Holding.{Holds};
 ghost use Rattle.fork_calls.specs.Limits.{AreWithin};
 ghost use Rattle.fork_calls.specs.Turning.{HasRegs};
@@ -97,7 +98,8 @@ fn answered(body: &mut Body, number: u32, answer: Answer) -> Shown
     requires few { body.old.units < 2 ^ 63 }
     requires pc { body.old.regs.pc < 2 ^ 18 }
     requires accumulators { length body.old.regs.ac ≡ ACCUMULATORS }
-    requires done { HasRegs answer }
+    requires regs { HasRegs answer }
+    requires done { IsDone answer }
     ensures fork { (f : AFork) → with_body body.new f ≡ counted (answered_of number (with_body body.old f) answer) }
     ensures shown { result ≡ answer_shown number answer }
     ensures fits { FitsShown result }
@@ -135,6 +137,7 @@ fn forked<P: Pages>(tree: &mut Tree, pages: &mut P, who: Runner, number: u32) ->
     requires named { (f : AFork) → fork_in tree.old.forks who.fork.tty who.slot ≡ Some f → f.name ≡ who.fork }
     requires can { AreWithin tree.old.forks }
     requires few { (f : AFork) → fork_in tree.old.forks who.fork.tty who.slot ≡ Some f → f.body.units < 2 ^ 63 }
+    requires flat { P.means.flat ≡ true }
     requires holds { Holds P.means pages.old tree.old.forks }
     requires serial { P.means.serial pages.old who.fork.tty < 2 ^ 62 }
     requires fork_call { is_among fork_calls number ≡ true }
@@ -159,6 +162,7 @@ fn mapped<P: Pages>(tree: &mut Tree, pages: &mut P, who: Runner, number: u32) ->
     requires named { (f : AFork) → fork_in tree.old.forks who.fork.tty who.slot ≡ Some f → f.name ≡ who.fork }
     requires can { AreWithin tree.old.forks }
     requires few { (f : AFork) → fork_in tree.old.forks who.fork.tty who.slot ≡ Some f → f.body.units < 2 ^ 63 }
+    requires flat { P.means.flat ≡ true }
     requires holds { Holds P.means pages.old tree.old.forks }
     requires map { IsMapCall number }
     ensures { (at : APlace) (b : ABody) → fork_in tree.old.forks who.fork.tty who.slot ≡ Some (fork_of who.fork at b)
@@ -178,6 +182,7 @@ pub fn called<P: Pages>(tree: &mut Tree, pages: &mut P, who: Runner, number: u32
     requires named { (f : AFork) → fork_in tree.old.forks who.fork.tty who.slot ≡ Some f → f.name ≡ who.fork }
     requires can { AreWithin tree.old.forks }
     requires few { (f : AFork) → fork_in tree.old.forks who.fork.tty who.slot ≡ Some f → f.body.units < 2 ^ 63 }
+    requires flat { P.means.flat ≡ true }
     requires holds { Holds P.means pages.old tree.old.forks }
     requires serial { P.means.serial pages.old who.fork.tty < 2 ^ 62 }
     ensures { (at : APlace) (b : ABody) → fork_in tree.old.forks who.fork.tty who.slot ≡ Some (fork_of who.fork at b)

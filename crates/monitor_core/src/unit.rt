@@ -1,5 +1,5 @@
 // Units of one fork, as far as they concern its body and its pages.
-ghost use Rattle.std.specs.Prelude.{◌≡◌, ◌<◌, ◌+◌, ◌^◌, false, Some};
+ghost use Rattle.std.specs.Prelude.{◌≡◌, ◌<◌, ◌+◌, ◌^◌, true, false, Some};
 ghost use Rattle.plain_model.specs.declared.fork.Fork.{Fork as AFork};
 ghost use Rattle.plain_model.specs.Forks.{counted};
 ghost use Rattle.plain_model.specs.Interrupts.{posted, is_panic};
@@ -84,12 +84,15 @@ fn ended(body: &mut Body, post: Post) -> Shown
 fn one_unit<P: Pages>(body: &mut Body, fork: ForkName, pages: &mut P, taken: &mut Taken) -> Last
     requires can { CanUnit body.old }
     requires few { body.old.units < 2 ^ 63 }
+    requires flat { P.means.flat ≡ true }
     requires serves { Serves P.means pages.old fork }
     requires serial { P.means.serial pages.old fork.tty < 2 ^ 61 }
     ensures { (at : APlace) → RanOne P.means pages.old pages.new (fork_of fork at body.old) (fork_of fork at body.new) result }
 {
     match slow_unit(taken, &mut body.regs, pages, fork) {
         Outcome::Done(post) => Last::Shows(ended(body, post)),
+        // Flat pages are always in core.
+        Outcome::Need(_) => unreachable!(),
         Outcome::Trap(channel) => Last::Shows(posted(body, channel)),
         Outcome::Call(number) => Last::Calls(number),
     }
@@ -105,6 +108,7 @@ fn one_more<P: Pages>(
 ) -> Row
     requires can { CanUnit body.old }
     requires few { body.old.units < 2 ^ 63 }
+    requires flat { P.means.flat ≡ true }
     requires serves { Serves P.means pages.old fork }
     requires serial { P.means.serial pages.old fork.tty < 2 ^ 61 }
     requires room { before + 1 < 2 ^ 32 }
@@ -134,6 +138,7 @@ pub fn run_units<P: Pages>(
 ) -> Row
     requires can { CanUnit body.old }
     requires few { body.old.units < 2 ^ 62 }
+    requires flat { P.means.flat ≡ true }
     requires serves { Serves P.means pages.old fork }
     requires serial { P.means.serial pages.old fork.tty < 2 ^ 61 }
     requires some { 0 < most }

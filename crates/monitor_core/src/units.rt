@@ -1,5 +1,5 @@
 // Units of a fork of a tree.
-ghost use Rattle.std.specs.Prelude.{◌≡◌, ◌<◌, ◌≤◌, ◌^◌, IsSome, Some};
+ghost use Rattle.std.specs.Prelude.{◌≡◌, ◌<◌, ◌≤◌, ◌^◌, IsSome, Some, true};
 ghost use Rattle.plain_model.specs.declared.fork.Body.{Body as ABody};
 ghost use Rattle.plain_model.specs.declared.fork.Fork.{Fork as AFork};
 ghost use Rattle.plain_model.specs.Forks.{fork_in};
@@ -40,6 +40,7 @@ pub fn units_of<P: Pages>(
     requires there { IsSome (fork_in tree.old.forks who.fork.tty who.slot) }
     requires can { (f : AFork) → fork_in tree.old.forks who.fork.tty who.slot ≡ Some f → (f.name ≡ who.fork) × CanUnit f.body }
     requires few { (f : AFork) → fork_in tree.old.forks who.fork.tty who.slot ≡ Some f → f.body.units < 2 ^ 62 }
+    requires flat { P.means.flat ≡ true }
     requires serves { Serves P.means pages.old who.fork }
     requires holds { Holds P.means pages.old tree.old.forks }
     requires within { AreWithin tree.old.forks }

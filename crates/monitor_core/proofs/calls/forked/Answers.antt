@@ -19,7 +19,7 @@ use Rattle.fork_calls.specs.Limits.{AreWithin, IsBody}
 use Rattle.fork_calls.specs.Steps.{IsEndOf}
 use Rattle.fork_calls.specs.Turning.{parts}
 use Rattle.monitor_core.specs.ForkUnit.{Kept, LeavesForks, answered, fork_of, put_back}
-use Rattle.monitor_core.proofs.Calling.{forked_as}
+use Rattle.monitor_core.proofs.Calling.{forked_as, turn_went}
 use Rattle.monitor_core.proofs.Keeping.{answered_keeps}
 use Rattle.monitor_core.proofs.Leaving.{after_keeps, caller_keeps, caller_within, turn_leaves}
 use Rattle.monitor_core.proofs.calls.forked.Goals as goal
@@ -70,7 +70,8 @@ answered-requires g c =
       few = lent_few old new c.args.who.fork left was c.are_trees.ensures c.requires.can c.args.who.slot f.0 f.1 named _ c.in-Some-body_mut.ensures.body (c.requires.few f.0 f.1);
       pc = within.pc;
       accumulators = within.accumulators;
-      done = c.call-answer.ensures.regs;
+      regs = c.call-answer.ensures.regs;
+      done = c.call-answer.ensures.core c.requires.flat;
     }
 
 pub returns-in-None : goal.returns-in-None
@@ -113,7 +114,8 @@ returns-in-Some-body_mut g c at b found =
           let q = g.P.Pages.means.plain c.call-answer.new.pages d in
           let t = c.call-answer.ensures.told d drum in
           let ends = subst (λ (x : Fork). IsEndOf number (end_of p (fork_call number (asked who x.body.regs old)))) same (c.call-answer.ensures.returns p) in
-          let went = subst (λ (x : Fork). Went (fork_changed_by (fork_call number (asked who x.body.regs old))) (parts old p) (parts new q) answer (end_of p (fork_call number (asked who x.body.regs old)))) same t.1 in
+          let turn = turn_went (c.call-answer.ensures.core c.requires.flat) t.1 in
+          let went = subst (λ (x : Fork). Went (fork_changed_by (fork_call number (asked who x.body.regs old))) (parts old p) (parts new q) answer (end_of p (fork_call number (asked who x.body.regs old)))) same turn in
           (t.0, forked_as old new f k p q number answer body c.answered.result c.requires.fork_call stands.1 ends went fork c.answered.ensures.shown);
       keeps = after_keeps old new was is left.kept f k lives fits stands.1 body keeps;
       leaves = subst (λ x. LeavesForks g.P.Pages.means c.args.pages.now c.call-answer.new.pages old x f 1) (sym back)

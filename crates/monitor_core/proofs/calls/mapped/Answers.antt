@@ -4,11 +4,11 @@ use Rattle.plain_model.specs.declared.fork.Fork.{Fork}
 use Rattle.plain_model.specs.Calls.{end_of}
 use Rattle.plain_model.specs.MapCalls.{map_call, map_changed}
 use Rattle.plain_model.specs.Forks.{counted}
-use Rattle.call_turns.specs.Answers.{IsTurn}
+use Rattle.call_turns.specs.Answers.{Went}
 use Rattle.fork_tree.specs.Changes.{body_in}
 use Rattle.fork_tree.proofs.Slots.{in_tells, some_of}
 use Rattle.monitor_core.specs.ForkUnit.{Kept, LeavesForks, answered, fork_of}
-use Rattle.monitor_core.proofs.Calling.{has_regs, left_tree, lent_within, mapped_behind}
+use Rattle.monitor_core.proofs.Calling.{has_regs, left_tree, lent_within, mapped_behind, turn_went}
 use Rattle.monitor_core.proofs.Keeping.{answered_keeps}
 use Rattle.monitor_core.proofs.Leaving.{leaves_one}
 use Rattle.monitor_core.proofs.calls.mapped.Goals as goal
@@ -30,7 +30,8 @@ answered-requires g c =
       few = subst (λ (x : Body). x.units < 2 ^ 63) (sym here) (c.requires.few f.0 f.1);
       pc = fits.pc;
       accumulators = fits.accumulators;
-      done = has_regs c.call-answer.result c.call-answer.ensures.fits (c.call-answer.ensures.core c.requires.holds.flat);
+      regs = has_regs c.call-answer.result c.call-answer.ensures.fits;
+      done = c.call-answer.ensures.core c.requires.flat;
     }
 
 pub returns : goal.returns
@@ -48,8 +49,7 @@ returns g c at b there =
     let same : c.in-Some.fork.now ≡ f = cc seen in
     let fork : after ≡ counted (answered c.args.number f a) = c.answered.ensures.fork f ∙ ap (λ x. counted (answered c.args.number (fork_of who at x) a)) here in
     let none = c.call-answer.ensures.none in
-    let done = c.call-answer.ensures.core c.requires.holds.flat in
-    let keeps : Kept f after 1 = subst (λ h. Kept f h 1) (sym fork) (answered_keeps c.args.number f fits.off fits.pc fits.accumulators a (has_regs a c.call-answer.ensures.fits done)) in
+    let keeps : Kept f after 1 = subst (λ h. Kept f h 1) (sym fork) (answered_keeps c.args.number f fits.off fits.pc fits.accumulators a (has_regs a c.call-answer.ensures.fits)) in
     let back = left_tree tree who.tty c.args.who.slot f c.answered.new.body there in
     record {
       after = after;
@@ -57,9 +57,10 @@ returns g c at b there =
           let p = g.P.Pages.means.plain c.args.pages.now d in
           let q = g.P.Pages.means.plain c.call-answer.new.pages d in
           let t = c.call-answer.ensures.told d drum in
-          let turn = subst (λ (k : Fork). IsTurn (g.P.Pages.means.scene c.args.pages.now) map_changed p q a (end_of p (map_call c.args.number (record { who = who; regs = k.body.regs; forks = tree.forks })))) same t.1 in (
+          let turn = turn_went (c.call-answer.ensures.core c.requires.flat) t.1 in
+          let went = subst (λ (k : Fork). Went map_changed p q a (end_of p (map_call c.args.number (record { who = who; regs = k.body.regs; forks = tree.forks })))) same turn in (
             t.0,
-            mapped_behind tree (g.P.Pages.means.scene c.args.pages.now) f after p q c.args.number a c.answered.result c.requires.map done turn fork c.answered.ensures.shown
+            mapped_behind tree f after p q c.args.number a c.answered.result c.requires.map went fork c.answered.ensures.shown
                 ∙ (λ i. record { tree = sym back i; fork = after; pages = q; shown = c.answered.result }),
           );
       keeps = keeps;

@@ -1,4 +1,4 @@
-use Rattle.std.proofs.Common.{refl, ap, ℕ, arith}
+use Rattle.std.proofs.Common.{ap, ℕ, arith}
 use Rattle.plain_model.specs.declared.names.Tty.{Tty}
 use Rattle.plain_model.specs.declared.names.ForkName.{ForkName}
 use Rattle.unit_runs.proofs.runs.come_out.Goals as goal
@@ -10,7 +10,7 @@ pub add_top-requires-clause-absent : goal.add_top-requires-clause-absent
 add_top-requires-clause-absent c = c.in_ok-pages.ensures.lives top
 
 pub run-outcome-requires-clause-serves : goal.run-outcome-requires-clause-serves
-run-outcome-requires-clause-serves c = record { flat = refl; lives = c.add_top.ensures.lives; terminal = omega arith }
+run-outcome-requires-clause-serves c = record { lives = c.add_top.ensures.lives; terminal = omega arith }
 
 pub run-outcome-requires-clause-serial : goal.run-outcome-requires-clause-serial
 run-outcome-requires-clause-serial c = omega (arith, ap (λ (serial : Tty → ℕ). serial (record { 0 = 3 })) c.add_top.ensures.serials, c.in_ok-pages.ensures.first (record { 0 = 3 }))

@@ -28,7 +28,7 @@ pub units_of-units-requires-clause-serves : goal.units_of-units-requires-clause-
 units_of-units-requires-clause-serves g c =
     let m = c.args.self.now in
     let held = holds_fork m c.requires.can.trees (runner m.tree c.args.who c.requires.can) (runner_lives m.tree c.args.who c.requires.can) in
-    record { flat = held.flat; lives = held.lives; terminal = held.terminal }
+    record { lives = held.lives; terminal = held.terminal }
 
 pub invariant_of-self : goal.invariant_of-self
 invariant_of-self g c =
