@@ -1,19 +1,21 @@
 -- What a unit that is carried out leaves.
 use Rattle.std.specs.Prelude.{◌≡◌, ◌≢◌, ℕ, ◌+◌, ◌≤◌, ◌<◌, ◌^◌, length, Some, true}
+use Rattle.std.specs.Ordering.{nat_cmp}
 use Rattle.plain_model.specs.declared.names.Tty.{Tty}
 use Rattle.plain_model.specs.declared.names.ForkName.{ForkName}
 use Rattle.plain_model.specs.declared.fork.Regs.{Regs}
 use Rattle.plain_model.specs.Outcome.{DrumWords}
 use Rattle.plain_model.specs.State.{NumberedPages}
 use Rattle.plain_model.specs.Pages.{PagesMeaning, Scene}
-use Rattle.plain_model.specs.Steps.{stopped, trap, need, call}
+use Rattle.plain_model.specs.Steps.{Ending, Progress, done, stopped, trap, need, call}
 use Rattle.ka10_unit.specs.declared.slow.Outcome.{Outcome}
 use Rattle.ka10_unit.specs.declared.slow.Outcome.TheVariants as outcome
 use Rattle.ka10_unit.specs.Once.{once}
 use Rattle.plain_model.specs.Unit.{unit_on}
 use Rattle.ka10_unit.specs.Commits.{channel_of}
-use Rattle.ka10_unit.specs.Gathers.{Framed, framed}
+use Rattle.ka10_unit.specs.Gathers.{framed}
 use Rattle.ka10_unit.specs.Planning.{unit_over}
+use Rattle.ka10_unit.specs.Taking.{Plan}
 
 -- what was in a frame is in one still, and what was in none has not come into one
 pub record StaysAway (old new : Scene) : Type 0 where
@@ -28,12 +30,19 @@ pub record Grows {P : Type 0} (means : PagesMeaning P) (owner : Tty) (pages : �
   pub serial : means.serial new owner ≤ means.serial old owner + pages
   pub serials : (t : Tty) → t ≢ owner → means.serial new t ≡ means.serial old t
 
--- what a unit came to on pages, which it left as others: over the plain ones, or it needs something first
-abbrev pub CameTo : ForkName → Framed → Regs → NumberedPages → Regs → Outcome → Type 0
-CameTo f p regs q after (outcome.Done post) = once f p.pages regs ≡ Some (record { pages = q; regs = after; post = channel_of post })
-CameTo f p regs q after (outcome.Need n) = unit_over f p regs ≡ stopped (need n)
-CameTo f p regs q after (outcome.Trap channel) = unit_on f p.pages regs ≡ stopped (trap channel)
-CameTo f p regs q after (outcome.Call number) = unit_on f p.pages regs ≡ call number
+-- what a unit came to on plain pages, which it left as others; nothing is said where it needs something first
+abbrev pub CameTo : ForkName → NumberedPages → Regs → NumberedPages → Regs → Outcome → Type 0
+CameTo f p regs q after (outcome.Done post) = once f p regs ≡ Some (record { pages = q; regs = after; post = channel_of post })
+CameTo f p regs q after (outcome.Need n) = Unit {0}
+CameTo f p regs q after (outcome.Trap channel) = unit_on f p regs ≡ stopped (trap channel)
+CameTo f p regs q after (outcome.Call number) = unit_on f p regs ≡ call number
+
+-- how a unit came out, over pages of which some are in no frame: it needs something first exactly where this does
+abbrev pub CameOut : Plan → Outcome → Type 0
+CameOut plan (outcome.Done post) = (t : Progress nat_cmp) × (e : Ending) × (plan ≡ done t e)
+CameOut plan (outcome.Need n) = plan ≡ stopped (need n)
+CameOut plan (outcome.Trap channel) = plan ≡ stopped (trap channel)
+CameOut plan (outcome.Call number) = plan ≡ call number
 
 -- a unit that isn't done changes nothing
 abbrev pub Keeps : {P : Type 0} → P → P → Regs → Regs → Outcome → Type 0
@@ -52,7 +61,8 @@ IsNumbered other = Unit {0}
 
 -- a unit of a fork as it came out on pages and registers
 pub record Slowly {P : Type 0} (means : PagesMeaning P) (f : ForkName) (old new : P) (regs after : Regs) (result : Outcome) : Type 0 where
-  pub told : (d : DrumWords) → means.fits old d → means.fits new d × CameTo f (framed means old d) regs (means.plain new d) after result
+  pub told : (d : DrumWords) → means.fits old d → means.fits new d × CameTo f (means.plain old d) regs (means.plain new d) after result
+  pub over : (d : DrumWords) → means.fits old d → CameOut (unit_over f (framed means old d) regs) result
   pub stopped : Keeps old new regs after result
   pub core : means.flat ≡ true → IsOver result
   pub grows : Grows means f.tty 128 old new
