@@ -2,19 +2,19 @@
 use Rattle.std.proofs.Common.{◌≡◌, ℕ, zero, suc, ◌-◌, ◌<◌, Option, None, Some, refl, sym, ◌∙◌, ap, arith}
 use Rattle.std.specs.Prelude.{unwrap_or}
 use Rattle.std.specs.Option.{option_map, option_map_or, option_and_then}
-use Rattle.plain_model.specs.declared.names.Access.{Access}
-use Rattle.plain_model.specs.declared.names.Home.{Home}
-use Rattle.plain_model.specs.declared.names.PageName.{PageName}
-use Rattle.plain_model.specs.declared.names.Slot.{Slot}
-use Rattle.plain_model.specs.declared.map.MapEntry.{MapEntry}
-use Rattle.plain_model.specs.declared.map.MapEntry.TheVariants.{Empty, Names, Follows}
-use Rattle.plain_model.specs.declared.map.Seen.TheVariants.{Is, Absent, Missing}
-use Rattle.plain_model.specs.State.{NumberedPages}
-use Rattle.plain_model.specs.References.{in_map, page_at}
-use Rattle.plain_model.specs.Maps.{Entries, Chain, chain, chain_within, chain_from, entry_at, behind, followed}
-use Rattle.plain_model.specs.Pages.{Scene, seen_of, map_away_or}
+use Rattle.machine_names.specs.declared.names.Access.{Access}
+use Rattle.machine_names.specs.declared.homes.Home.{Home}
+use Rattle.machine_names.specs.declared.names.PageName.{PageName}
+use Rattle.machine_names.specs.declared.names.Slot.{Slot}
+use Rattle.plain_pages.specs.declared.map.MapEntry.{MapEntry}
+use Rattle.plain_pages.specs.declared.map.MapEntry.TheVariants.{Empty, Names, Follows}
+use Rattle.page_contracts.specs.declared.answers.Seen.TheVariants.{Is, Absent, Missing}
+use Rattle.plain_pages.specs.PlainPages.{NumberedPages}
+use Rattle.plain_pages.specs.References.{in_map, page_at}
+use Rattle.plain_pages.specs.Maps.{Entries, Chain, chain, chain_within, chain_from, entry_at, behind, followed}
+use Rattle.page_contracts.specs.Pages.{Scene, seen_of, map_away_or}
 use Rattle.plain_model.specs.Calls.{entry_of}
-use Rattle.plain_model.proofs.Chains.{chain_here}
+use Rattle.plain_pages.proofs.Chains.{chain_here}
 use Rattle.call_turns.specs.Telling.{page_within}
 
 module _ (p : NumberedPages) (scene : Scene) (s : Slot) where

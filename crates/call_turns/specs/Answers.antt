@@ -2,10 +2,10 @@
 use Rattle.std.specs.Prelude.{◌≡◌, ◌⊎◌, ◌<◌, [], ◌∷◌, None}
 use Rattle.plain_model.specs.declared.call.End.{End}
 use Rattle.plain_model.specs.declared.call.End.TheVariants as end
-use Rattle.plain_model.specs.declared.fork.Answer.{Answer}
-use Rattle.plain_model.specs.declared.fork.Answer.TheVariants.{After, Wait, Halt, Refused, Trap, Need as Needs}
-use Rattle.plain_model.specs.declared.fork.Chars.{Chars}
-use Rattle.plain_model.specs.declared.map.Need.{Need}
+use Rattle.call_turns.specs.declared.answer.Answer.{Answer}
+use Rattle.call_turns.specs.declared.answer.Answer.TheVariants.{After, Wait, Halt, Refused, Trap, Need as Needs}
+use Rattle.call_turns.specs.declared.answer.Chars.{Chars}
+use Rattle.page_contracts.specs.declared.answers.Need.{Need}
 use Rattle.plain_model.specs.Calls.{parts_behind}
 use Rattle.call_turns.specs.Turns.{IsRegs}
 

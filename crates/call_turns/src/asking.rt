@@ -1,15 +1,17 @@
 // What a turn asks, asked of pages of which some may be in no frame.
 ghost use Rattle.std.specs.Prelude.{◌≡◌, ◌<◌, ℕ, true, IsOk};
-ghost use Rattle.plain_model.specs.declared.names.Access.{Access as AnAccess};
-ghost use Rattle.plain_model.specs.declared.names.TheConstants.{SPACE_PAGES};
-ghost use Rattle.plain_model.specs.Outcome.{DrumWords};
+ghost use Rattle.machine_names.specs.declared.names.Access.{Access as AnAccess};
+ghost use Rattle.machine_names.specs.declared.names.TheConstants.{SPACE_PAGES};
+ghost use Rattle.page_contracts.specs.DrumWords.{DrumWords};
 ghost use Rattle.plain_model.specs.Calls.{entry_of};
-ghost use Rattle.plain_model.specs.Maps.{entry_at};
+ghost use Rattle.plain_pages.specs.Maps.{entry_at};
 ghost use Rattle.call_turns.specs.Telling.{IsTold, page_within, told_of};
 ghost use Rattle.call_turns.specs.Turns.{IsAsk};
 
 use crate::{Ask, Reply};
-use plain_model::{ForkName, MapEntry, Need, PageName, Pages, Seen, Slot};
+use machine_names::{ForkName, PageName, Slot};
+use page_contracts::{Need, Pages, Seen};
+use plain_pages::MapEntry;
 
 /// How many links a chain has at most.
 const MOST_LINKS: u32 = 4;

@@ -1,6 +1,6 @@
 // A turn, driven to its end: all that it asks is asked, and nothing is changed.
 ghost use Rattle.std.specs.Prelude.{◌≡◌, true, IsOk, IfOk};
-ghost use Rattle.plain_model.specs.Outcome.{DrumWords};
+ghost use Rattle.page_contracts.specs.DrumWords.{DrumWords};
 ghost use Rattle.plain_model.specs.Calls.{end_of};
 ghost use Rattle.call_turns.specs.Telling.{IsTold};
 ghost use Rattle.call_turns.specs.Turns.{FitsTurn, FitsEnd, turn_of};
@@ -9,9 +9,9 @@ ghost use Rattle.call_turns.specs.declared.turn.Turn.{Turn as ATurn};
 
 use crate::asking::ask;
 use crate::{Reply, Turn};
+use page_contracts::{Need, Pages};
 use plain_model::call::End;
-use plain_model::channel::ILLEGAL_INSTRUCTION;
-use plain_model::{Need, Pages};
+use plain_units::channel::ILLEGAL_INSTRUCTION;
 
 /// What is left of a call's turn, over the parts of the machine that its crate sees.
 pub trait Rest<C, V> {

@@ -1,12 +1,13 @@
 // How a turn ends.
 ghost use Rattle.std.specs.Prelude.{◌≡◌, ◌<◌, ◌^◌, length};
-ghost use Rattle.plain_model.specs.declared.names.TheConstants.{ACCUMULATORS};
+ghost use Rattle.machine_names.specs.declared.names.TheConstants.{ACCUMULATORS};
 ghost use Rattle.plain_model.specs.Calls.{behind_call, returning as returning_of, with_ac as with_ac_of};
 ghost use Rattle.call_turns.specs.Answers.{answer_of as answer_to};
 ghost use Rattle.call_turns.specs.Turns.{IsRegs};
 
+use crate::{Answer, Chars};
 use plain_model::call::End;
-use plain_model::{Answer, Chars, Regs};
+use plain_units::Regs;
 use word36::Word;
 
 /// The registers with a word in an accumulator, 0 to 15.

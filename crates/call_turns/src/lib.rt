@@ -1,13 +1,15 @@
 //! Turns of monitor calls: what a turn asks of the pages, before anything changes, and how it ends.
 //! To the crates of the calls a call is its first step, as a value; what it asks is asked here, and no page is changed.
-//! Stands on `plain_model` for the definitions of turns and the contract of pages.
+//! Stands on `plain_model` for the definitions of turns, and on `page_contracts` for the contract of pages.
 #![tactic(auto)]
 
+mod answer;
 mod asking;
 mod driving;
 mod ending;
 mod turn;
 
+pub use answer::{Answer, Chars};
 pub use driving::{Rest, driven};
 pub use ending::{answer_of, behind, returning, with_ac};
 pub use turn::{Ask, Reply, Turn};

@@ -2,8 +2,9 @@
 ghost use Rattle.std.specs.Prelude.{◌≡◌};
 ghost use Rattle.call_turns.specs.Turns.{entry_in, page_in};
 
+use machine_names::{PageName, Slot};
 use plain_model::call::End;
-use plain_model::{MapEntry, PageName, Slot};
+use plain_pages::MapEntry;
 
 /// What a turn asks of the pages. It is told of them as they are before it.
 #[derive(Clone, Copy, Debug, PartialEq, Eq)]

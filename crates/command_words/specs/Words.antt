@@ -1,6 +1,6 @@
 -- The words of the command: `run`, and options that set the sizes of a run.
 use Rattle.std.specs.Prelude.{◌≡◌, ℕ, ◌≤◌, Bool, true, false, List, [], ◌∷◌, ◌++◌, codes, Option, None, Some, map, filter, flat_map, String, string_bytes}
-use Rattle.plain_model.specs.Script.{IsDecimal}
+use Rattle.script_texts.specs.Script.{IsDecimal}
 use Rattle.command_words.specs.declared.sizes.Sizes.{Sizes}
 
 -- a word, by its bytes

@@ -1,5 +1,5 @@
 use crate::{Queue, Transfer};
-use plain_model::{FrameId, Home};
+use machine_names::{FrameId, Home};
 use std::test::Fail;
 
 #[test]

@@ -1,5 +1,5 @@
 // The commands of the monitor.
-use plain_model::FileName;
+use machine_names::FileName;
 
 /// What a line asks of the monitor.
 #[derive(Clone, Copy, Debug, PartialEq, Eq)]

@@ -1,6 +1,6 @@
 //! The lines that a user types to the monitor, read as commands.
 //! To the layers above each line is one command, said by its words alone.
-//! Stands on `script_lang` for the names of files, and on `plain_model` for their types.
+//! Stands on `script_lang` for the names of files, and on `machine_names` for their types.
 #![tactic(auto)]
 
 mod command;

@@ -4,7 +4,7 @@ ghost use Rattle.exec_cmd.specs.Commands.{alone as command_alone, command_of, fo
 
 use crate::command::Command;
 use crate::words::{first_word, says};
-use plain_model::{DirName, FileName};
+use machine_names::{DirName, FileName};
 use script_lang::read_name;
 
 /// The command that a user's line is: `Blank` exactly where it has no word, and `Unknown` exactly where

@@ -1,5 +1,5 @@
 use super::*;
-use plain_model::{DirName, FileName};
+use machine_names::{DirName, FileName};
 use std::test::Fail;
 
 // What a line of the user SMITH asks for.

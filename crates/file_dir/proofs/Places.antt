@@ -12,8 +12,8 @@ use Rattle.std.proofs.lemmas.List.Edits.{length-insert, get_or-insert_below, get
 use Rattle.std.specs.Ordering.{nat_cmp}
 use Rattle.std.specs.FinMap as map
 use Rattle.number_map.proofs.Keys.{get_put, get_put_other, get_gone, get_gone_other}
-use Rattle.plain_model.specs.declared.names.FileNo.{FileNo}
-use Rattle.plain_model.specs.Limits.{IsFileName}
+use Rattle.machine_names.specs.declared.names.FileNo.{FileNo}
+use Rattle.machine_names.specs.Bounds.{IsFileName}
 use Rattle.page_files.specs.declared.bytes.TheConstants.{MOST_FILES}
 use Rattle.file_dir.specs.Files.{AreFiles, ComesBefore, Files, IsAbsent}
 use Rattle.file_dir.specs.Order.{IsOrder, file_at, is_before, precedes}

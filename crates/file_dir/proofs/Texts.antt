@@ -5,7 +5,7 @@ use Rattle.std.specs.declared.cmp.Ordering.{Ordering}
 use Rattle.std.specs.declared.cmp.Ordering.TheVariants.{Less, Equal, Greater}
 use Rattle.std.proofs.lemmas.Cmp.{nat_cmp_total, nat_list_cmp_total, tied_itself}
 use Rattle.std.specs.FinMap.{nat_cmp-IsAntisymmetric, slice_cmp-IsAntisymmetric}
-use Rattle.plain_model.specs.Orders.{name_cmp}
+use Rattle.machine_names.specs.Orders.{name_cmp}
 use Rattle.file_dir.specs.Files.{ComesBefore}
 
 pub before_itself : (a : List ℕ) → ComesBefore a a → ⊥

@@ -4,9 +4,9 @@ use Rattle.std.specs.Ordering.{nat_cmp}
 use Rattle.std.specs.declared.cmp.Ordering.TheVariants.{Less}
 use Rattle.std.specs.FinMap as map
 use Rattle.number_map.specs.Numbers.{IsLeastFree}
-use Rattle.plain_model.specs.declared.names.FileNo.{FileNo}
-use Rattle.plain_model.specs.Limits.{IsFileName}
-use Rattle.plain_model.specs.Orders.{name_cmp}
+use Rattle.machine_names.specs.declared.names.FileNo.{FileNo}
+use Rattle.machine_names.specs.Bounds.{IsFileName}
+use Rattle.machine_names.specs.Orders.{name_cmp}
 use Rattle.page_files.specs.declared.bytes.TheConstants.{MOST_FILES}
 
 -- the full name of each file, by its number

@@ -2,7 +2,7 @@
 use Rattle.std.specs.Prelude.{◌≡◌, ◌↔◌, List, [], ◌∷◌, Option, Some, ℕ}
 use Rattle.std.specs.List.{AllPairs, Contains}
 use Rattle.std.specs.FinMap as map
-use Rattle.plain_model.specs.declared.names.FileNo.{FileNo}
+use Rattle.machine_names.specs.declared.names.FileNo.{FileNo}
 use Rattle.file_dir.specs.Files.{ComesAfter, ComesBefore, Files, IsInDirectory, IsNext}
 
 -- each of these files is the next one after the one before it, and none comes after the last

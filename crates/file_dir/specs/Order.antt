@@ -2,8 +2,8 @@
 use Rattle.std.specs.Prelude.{◌≡◌, ℕ, ◌+◌, ◌<◌, List, Option, Some, None, IsSome, Bool, false, length, slice_index_or}
 use Rattle.std.specs.Ordering.{is_lt}
 use Rattle.std.specs.FinMap as map
-use Rattle.plain_model.specs.declared.names.FileNo.{FileNo}
-use Rattle.plain_model.specs.Orders.{name_cmp}
+use Rattle.machine_names.specs.declared.names.FileNo.{FileNo}
+use Rattle.machine_names.specs.Orders.{name_cmp}
 use Rattle.file_dir.specs.Files.{ComesBefore, Files}
 
 -- the file at a place of a list of files

@@ -1,15 +1,15 @@
 // The files that there are.
 ghost use Rattle.std.specs.Prelude.{◌≡◌, ℕ, IfOk, IfSome, IsSome, MatchOption, MatchResult, Some};
 ghost use Rattle.std.specs.FinMap as map;
-ghost use Rattle.plain_model.specs.Limits.{IsFileName};
+ghost use Rattle.machine_names.specs.Bounds.{IsFileName};
 ghost use Rattle.file_dir.specs.Files.{AreFiles, ComesAfter, Creates, IsAbsent, IsNext};
 
 use crate::order::{Names, count_before, place_behind, place_of};
 use crate::reading::joined;
+use machine_names::{DirName, FileName, FileNo};
 use number_map::NumberMap;
 use outside::Memory;
 use page_files::MOST_FILES;
-use plain_model::{DirName, FileName, FileNo};
 use std::alloc::Global;
 use std::marker::Model;
 

@@ -1,7 +1,7 @@
 // What follows from the definitions, in the words of their users. A law does nothing when it runs.
 ghost use Rattle.std.specs.Prelude.{◌≡◌, ◌≢◌, ◌↔◌, ℕ, List, None, Some};
 ghost use Rattle.std.specs.FinMap as map;
-ghost use Rattle.plain_model.specs.declared.names.FileNo.{FileNo as AFileNo};
+ghost use Rattle.machine_names.specs.declared.names.FileNo.{FileNo as AFileNo};
 ghost use Rattle.file_dir.specs.Files.{AreFiles, Creates, Files, IsAbsent};
 ghost use Rattle.file_dir.specs.Listing.{IsWhole, Lists};
 

@@ -4,9 +4,9 @@ ghost use Rattle.std.specs.List.Sorted.{IsPartitionPoint};
 ghost use Rattle.std.specs.FinMap as map;
 ghost use Rattle.file_dir.specs.Order.{IsBehind, IsOrder, file_at, precedes};
 
+use machine_names::{FileName, FileNo};
 use number_map::NumberMap;
 use page_files::MOST_FILES;
-use plain_model::{FileName, FileNo};
 
 /// The full name of each file, by number.
 pub(crate) type Names = NumberMap<FileName, MOST_FILES>;

@@ -1,11 +1,11 @@
 // Names of files as they are typed, and fronts of full names.
 ghost use Rattle.std.specs.Prelude.{◌≡◌, ◌<◌, [], length, IfSome, MatchOption};
-ghost use Rattle.plain_model.specs.Limits.{IsFileName};
+ghost use Rattle.machine_names.specs.Bounds.{IsFileName};
 ghost use Rattle.std.specs.List.{flat_map};
 ghost use Rattle.script_lang.specs.Names.{file_named};
 
 use arrayvec::ArrayVec;
-use plain_model::{DirName, FileName};
+use machine_names::{DirName, FileName};
 use script_lang::MOST_FILE;
 
 // A text no longer than the full name of a file.

@@ -1,5 +1,5 @@
 use super::*;
-use plain_model::{DirName, FileName, FileNo};
+use machine_names::{DirName, FileName, FileNo};
 use std::test::Fail;
 
 const SMITH: &[u8] = b"SMITH";

@@ -9,22 +9,22 @@ use Rattle.std.proofs.lemmas.Bool.Decides.{nat_tests}
 use Rattle.std.proofs.lemmas.List.Sums.{sum_by-cons}
 use Rattle.std.proofs.lemmas.List.{length-map}
 use Rattle.outside.specs.declared.TheConstants.{PAGE_WORDS}
-use Rattle.plain_model.specs.declared.names.ForkName.{ForkName}
-use Rattle.plain_model.specs.declared.names.PageName.{PageName}
-use Rattle.plain_model.specs.declared.names.Home.{Home}
-use Rattle.plain_model.specs.declared.names.Access.{Access}
-use Rattle.plain_model.specs.declared.names.TheConstants.{SPACE_PAGES}
-use Rattle.plain_model.specs.declared.map.MapEntry.{MapEntry}
-use Rattle.plain_model.specs.declared.map.MapEntry.TheVariants as entry
-use Rattle.plain_model.specs.Outcome.{DrumWords}
-use Rattle.plain_model.specs.Orders.{page_cmp, fork_cmp, file_page_cmp}
-use Rattle.plain_model.specs.State.{Map, NumberedPages, page_serial}
-use Rattle.plain_model.specs.Room.{same_page, page_in, uses, live}
-use Rattle.plain_model.specs.Stores.{HomePlace, free, away, here, place, is_taken, over_drum, content}
-use Rattle.plain_model.specs.Whole.{AreWhole}
-use Rattle.plain_model.proofs.OrderLemmas.{page_cmp_total, page_tied, fork_cmp_total}
-use Rattle.plain_model.proofs.Counts.{Same, page_tells, same_itself, weight, total_insert}
-use Rattle.plain_model.proofs.Whole.{tally, uses_are, live_whole, no_values}
+use Rattle.machine_names.specs.declared.names.ForkName.{ForkName}
+use Rattle.machine_names.specs.declared.names.PageName.{PageName}
+use Rattle.machine_names.specs.declared.homes.Home.{Home}
+use Rattle.machine_names.specs.declared.names.Access.{Access}
+use Rattle.machine_names.specs.declared.names.TheConstants.{SPACE_PAGES}
+use Rattle.plain_pages.specs.declared.map.MapEntry.{MapEntry}
+use Rattle.plain_pages.specs.declared.map.MapEntry.TheVariants as entry
+use Rattle.page_contracts.specs.DrumWords.{DrumWords}
+use Rattle.machine_names.specs.Orders.{page_cmp, fork_cmp, file_page_cmp}
+use Rattle.plain_pages.specs.PlainPages.{Map, NumberedPages, page_serial}
+use Rattle.plain_pages.specs.Room.{same_page, page_in, uses, live}
+use Rattle.page_contracts.specs.Stores.{HomePlace, free, away, here, place, is_taken, over_drum, content}
+use Rattle.plain_pages.specs.WholePages.{AreWhole}
+use Rattle.machine_names.proofs.OrderLemmas.{page_cmp_total, page_tied, fork_cmp_total}
+use Rattle.plain_pages.proofs.Counts.{Same, page_tells, same_itself, weight, total_insert}
+use Rattle.plain_pages.proofs.Whole.{tally, uses_are, live_whole, no_values}
 use Rattle.flat_pages.specs.declared.held_entry.EntryAt.{EntryAt}
 use Rattle.flat_pages.specs.declared.held_entry.HeldEntry.{HeldEntry}
 use Rattle.flat_pages.specs.declared.held_entry.HeldEntry.TheVariants.{Empty, Page, Follows}

@@ -10,18 +10,19 @@ use Rattle.std.proofs.lemmas.List.{get_or-set_same, get_or-set_other, length-set
 use Rattle.std.proofs.lemmas.List.Sums.{sum_by-set}
 use Rattle.std.proofs.lemmas.List.FromFn.{length-map-range_with_len, map-range_with_len_more}
 use Rattle.std.proofs.lemmas.Option.{slice_get-map}
-use Rattle.plain_model.specs.declared.names.Access.{Access}
-use Rattle.plain_model.specs.declared.names.ForkName.{ForkName}
-use Rattle.plain_model.specs.declared.names.PageName.{PageName}
-use Rattle.plain_model.specs.declared.names.Tty.{Tty}
-use Rattle.plain_model.specs.declared.names.TheConstants.{SPACE_PAGES, MOST_FORKS, TERMINALS}
-use Rattle.plain_model.specs.declared.map.MapEntry.TheVariants as entry
-use Rattle.plain_model.specs.Events.{empty_map, following_map}
-use Rattle.plain_model.specs.Maps.{full_access}
-use Rattle.plain_model.specs.Outcome.{DrumWords}
-use Rattle.plain_model.specs.Pages.{same_fork, TakesMap}
-use Rattle.plain_model.specs.State.{Map, Maps}
-use Rattle.plain_model.proofs.OrderLemmas.{fork_cmp_total, fork_cmp_apart}
+use Rattle.machine_names.specs.declared.names.Access.{Access}
+use Rattle.machine_names.specs.declared.names.ForkName.{ForkName}
+use Rattle.machine_names.specs.declared.names.PageName.{PageName}
+use Rattle.machine_names.specs.declared.names.Tty.{Tty}
+use Rattle.machine_names.specs.declared.names.TheConstants.{SPACE_PAGES, MOST_FORKS, TERMINALS}
+use Rattle.plain_pages.specs.declared.map.MapEntry.TheVariants as entry
+use Rattle.plain_pages.specs.NewMaps.{empty_map, following_map}
+use Rattle.plain_pages.specs.Maps.{full_access}
+use Rattle.page_contracts.specs.DrumWords.{DrumWords}
+use Rattle.machine_names.specs.Orders.{same_fork}
+use Rattle.page_contracts.specs.Pages.{TakesMap}
+use Rattle.plain_pages.specs.PlainPages.{Map, Maps}
+use Rattle.machine_names.proofs.OrderLemmas.{fork_cmp_total, fork_cmp_apart}
 use Rattle.flat_pages.specs.declared.held_entry.HeldEntry.{HeldEntry}
 use Rattle.flat_pages.specs.declared.held_entry.HeldEntry.TheVariants.{Empty, Follows}
 use Rattle.flat_pages.specs.declared.held_entry.Link.{Link}

@@ -5,21 +5,22 @@ use Rattle.std.specs.Option.{option_map, option_map_or}
 use Rattle.std.specs.FinMap as fin
 use Rattle.std.proofs.lemmas.Bool.{cases_eq}
 use Rattle.std.proofs.lemmas.Bool.Decides.{nat_tests}
-use Rattle.plain_model.specs.declared.names.ForkName.{ForkName}
-use Rattle.plain_model.specs.declared.names.PageName.{PageName}
-use Rattle.plain_model.specs.declared.names.Slot.{Slot}
-use Rattle.plain_model.specs.declared.map.MapEntry.{MapEntry}
-use Rattle.plain_model.specs.declared.map.MapEntry.TheVariants as entry
-use Rattle.plain_model.specs.declared.names.TheConstants.{SPACE_PAGES}
-use Rattle.plain_model.specs.Outcome.{DrumWords}
-use Rattle.plain_model.specs.State.{NumberedPages, Map, Maps}
-use Rattle.plain_model.specs.Maps.{entry_at}
-use Rattle.plain_model.specs.Room.{uses}
-use Rattle.plain_model.specs.References.{with_entry as entry_put}
-use Rattle.plain_model.specs.Pages.{StaysInCore, same_fork}
-use Rattle.plain_model.specs.Stores.{StoreMeaning, FitsHomes}
-use Rattle.plain_model.specs.Whole.{AreWhole}
-use Rattle.plain_model.proofs.Kept.{entry_kept, entry_maps, uses_entry, unnamed_gone}
+use Rattle.machine_names.specs.declared.names.ForkName.{ForkName}
+use Rattle.machine_names.specs.declared.names.PageName.{PageName}
+use Rattle.machine_names.specs.declared.names.Slot.{Slot}
+use Rattle.plain_pages.specs.declared.map.MapEntry.{MapEntry}
+use Rattle.plain_pages.specs.declared.map.MapEntry.TheVariants as entry
+use Rattle.machine_names.specs.declared.names.TheConstants.{SPACE_PAGES}
+use Rattle.page_contracts.specs.DrumWords.{DrumWords}
+use Rattle.plain_pages.specs.PlainPages.{NumberedPages, Map, Maps}
+use Rattle.plain_pages.specs.Maps.{entry_at}
+use Rattle.plain_pages.specs.Room.{uses}
+use Rattle.plain_pages.specs.References.{with_entry as entry_put}
+use Rattle.page_contracts.specs.Pages.{StaysInCore}
+use Rattle.machine_names.specs.Orders.{same_fork}
+use Rattle.page_contracts.specs.Stores.{StoreMeaning, FitsHomes}
+use Rattle.plain_pages.specs.WholePages.{AreWhole}
+use Rattle.plain_pages.proofs.Kept.{entry_kept, entry_maps, uses_entry, unnamed_gone}
 use Rattle.flat_pages.specs.declared.held_entry.EntryAt.{EntryAt}
 use Rattle.flat_pages.specs.declared.held_entry.HeldEntry.{HeldEntry}
 use Rattle.flat_pages.specs.declared.held_entry.HeldEntry.TheVariants.{Empty}

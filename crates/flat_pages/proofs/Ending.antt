@@ -8,19 +8,19 @@ use Rattle.std.proofs.lemmas.Bool.{cases_eq}
 use Rattle.std.proofs.lemmas.Bool.Decides.{eqb_tells}
 use Rattle.std.proofs.lemmas.List.{get_or-set_same, get_or-set_other, length-set}
 use Rattle.std.proofs.lemmas.List.Sums.{sum_by-set, sum_by-cons}
-use Rattle.plain_model.specs.declared.names.ForkName.{ForkName}
-use Rattle.plain_model.specs.declared.names.PageName.{PageName}
-use Rattle.plain_model.specs.declared.names.Tty.{Tty}
-use Rattle.plain_model.specs.declared.map.MapEntry.TheVariants as map_entry
-use Rattle.plain_model.specs.State.{NumberedPages, Map}
-use Rattle.plain_model.specs.Room.{same_page, page_in, uses}
-use Rattle.plain_model.specs.References.{without_fork}
-use Rattle.plain_model.specs.Pages.{same_fork}
-use Rattle.plain_model.specs.Whole.{AreWhole}
-use Rattle.plain_model.proofs.OrderLemmas.{fork_cmp_total, fork_cmp_apart, fork_tied}
-use Rattle.plain_model.proofs.Counts.{weight}
-use Rattle.plain_model.proofs.Whole.{map_uses, uses_are}
-use Rattle.plain_model.proofs.Kept.{AreKept, kept_same, kept_on, fork_kept, fork_maps, total_remove, unmapped_kept}
+use Rattle.machine_names.specs.declared.names.ForkName.{ForkName}
+use Rattle.machine_names.specs.declared.names.PageName.{PageName}
+use Rattle.machine_names.specs.declared.names.Tty.{Tty}
+use Rattle.plain_pages.specs.declared.map.MapEntry.TheVariants as map_entry
+use Rattle.plain_pages.specs.PlainPages.{NumberedPages, Map}
+use Rattle.plain_pages.specs.Room.{same_page, page_in, uses}
+use Rattle.plain_pages.specs.References.{without_fork}
+use Rattle.machine_names.specs.Orders.{same_fork}
+use Rattle.plain_pages.specs.WholePages.{AreWhole}
+use Rattle.machine_names.proofs.OrderLemmas.{fork_cmp_total, fork_cmp_apart, fork_tied}
+use Rattle.plain_pages.proofs.Counts.{weight}
+use Rattle.plain_pages.proofs.Whole.{map_uses, uses_are}
+use Rattle.plain_pages.proofs.Kept.{AreKept, kept_same, kept_on, fork_kept, fork_maps, total_remove, unmapped_kept}
 use Rattle.flat_pages.specs.declared.held_entry.EntryAt.{EntryAt}
 use Rattle.flat_pages.specs.declared.held_entry.HeldEntry.{HeldEntry}
 use Rattle.flat_pages.specs.declared.held_entry.HeldEntry.TheVariants.{Empty}

@@ -2,13 +2,14 @@
 use Rattle.std.proofs.Common.{◌≡◌, ◌≢◌, inl, inr, ℕ, zero, suc, ◌+◌, ◌<◌, ◌≤◌, List, [], ◌∷◌, not, ◌&&◌, Some, sym, ◌∙◌, ap, subst, arith, is_some, length}
 use Rattle.std.specs.Prelude.{slice_get}
 use Rattle.std.proofs.lemmas.Bool.{cases_lt}
-use Rattle.plain_model.specs.declared.names.ForkName.{ForkName}
-use Rattle.plain_model.specs.declared.names.Tty.{Tty}
-use Rattle.plain_model.specs.Outcome.{DrumWords}
-use Rattle.plain_model.specs.State.{Maps}
-use Rattle.plain_model.specs.References.{without_fork}
-use Rattle.plain_model.specs.Pages.{StaysInCore, same_fork}
-use Rattle.plain_model.specs.Stores.{StoreMeaning, HomePlace, IsSound, FitsHomes}
+use Rattle.machine_names.specs.declared.names.ForkName.{ForkName}
+use Rattle.machine_names.specs.declared.names.Tty.{Tty}
+use Rattle.page_contracts.specs.DrumWords.{DrumWords}
+use Rattle.plain_pages.specs.PlainPages.{Maps}
+use Rattle.plain_pages.specs.References.{without_fork}
+use Rattle.page_contracts.specs.Pages.{StaysInCore}
+use Rattle.machine_names.specs.Orders.{same_fork}
+use Rattle.page_contracts.specs.Stores.{StoreMeaning, HomePlace, IsSound, FitsHomes}
 use Rattle.flat_pages.specs.declared.held_entry.HeldEntry.{HeldEntry}
 use Rattle.flat_pages.specs.declared.held_entry.HeldEntry.TheVariants.{Empty}
 use Rattle.flat_pages.specs.declared.held_map.HeldMap.{HeldMap}

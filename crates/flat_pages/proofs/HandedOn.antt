@@ -1,9 +1,9 @@
 -- What is asked of the store that the pages stand in, and what that leaves of the pages.
 use Rattle.std.proofs.Common.{◌≡◌, ℕ, ◌+◌, sym, ap, subst}
-use Rattle.plain_model.specs.Stores.{StoreMeaning, StaysThere, Ends, Completes, FitsHomes}
-use Rattle.plain_model.specs.Pages.{StaysSame, StaysPut}
-use Rattle.plain_model.specs.declared.map.Need.{Need}
-use Rattle.plain_model.specs.declared.store.Completed.{Completed}
+use Rattle.page_contracts.specs.Stores.{StoreMeaning, StaysThere, Ends, Completes, FitsHomes}
+use Rattle.page_contracts.specs.Pages.{StaysSame, StaysPut}
+use Rattle.page_contracts.specs.declared.answers.Need.{Need}
+use Rattle.page_contracts.specs.declared.store.Completed.{Completed}
 use Rattle.flat_pages.specs.SlotTables.{Tables, plain_of}
 use Rattle.flat_pages.specs.SlotTouches.{touch_of_place, scene_of}
 use Rattle.flat_pages.specs.HeldMaps.{living_of}

@@ -4,14 +4,13 @@ use Rattle.std.specs.Prelude.{slice_get}
 use Rattle.std.specs.Option.{option_map, option_map_or, option_and_then}
 use Rattle.std.specs.FinMap as fin
 use Rattle.std.proofs.lemmas.Option.{slice_get-map}
-use Rattle.plain_model.specs.declared.names.ForkName.{ForkName}
-use Rattle.plain_model.specs.declared.names.PageName.{PageName}
-use Rattle.plain_model.specs.declared.names.Slot.{Slot}
-use Rattle.plain_model.specs.State.{Map, Maps}
-use Rattle.plain_model.specs.Orders.{fork_cmp}
-use Rattle.plain_model.specs.Maps.{entry_at}
-use Rattle.plain_model.specs.Pages.{same_fork}
-use Rattle.plain_model.proofs.OrderLemmas.{fork_cmp_total, fork_cmp_apart, fork_tied}
+use Rattle.machine_names.specs.declared.names.ForkName.{ForkName}
+use Rattle.machine_names.specs.declared.names.PageName.{PageName}
+use Rattle.machine_names.specs.declared.names.Slot.{Slot}
+use Rattle.plain_pages.specs.PlainPages.{Map, Maps}
+use Rattle.machine_names.specs.Orders.{fork_cmp, same_fork}
+use Rattle.plain_pages.specs.Maps.{entry_at}
+use Rattle.machine_names.proofs.OrderLemmas.{fork_cmp_total, fork_cmp_apart, fork_tied}
 use Rattle.flat_pages.specs.declared.held_entry.EntryAt.{EntryAt}
 use Rattle.flat_pages.specs.declared.held_map.HeldMap.{HeldMap}
 use Rattle.flat_pages.specs.HeldMaps.{map_at, fork_at, held_entry, one_later, index_of, entry_of, entries_of, maps_from, maps_held}

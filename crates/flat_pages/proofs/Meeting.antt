@@ -2,28 +2,30 @@
 use Rattle.std.proofs.Common.{◌≡◌, ℕ, ◌<◌, List, Bool, true, false, cond, Option, None, Some, refl, sym, ◌∙◌, ap, subst, is_some}
 use Rattle.std.specs.Prelude.{slice_index, IsSome, is_none, nat_lt, ◌&&◌, find}
 use Rattle.std.specs.Option.{option_map, option_map_or, option_and_then, unwrap_or}
-use Rattle.plain_model.specs.declared.names.Home.{Home}
-use Rattle.plain_model.specs.declared.names.Kind.{Kind}
-use Rattle.plain_model.specs.declared.names.Kind.TheVariants.{Read, Write, Execute}
-use Rattle.plain_model.specs.declared.names.ForkName.{ForkName}
-use Rattle.plain_model.specs.declared.names.PageName.{PageName}
-use Rattle.plain_model.specs.declared.names.Place.{Place}
-use Rattle.plain_model.specs.declared.names.Place.TheVariants.{Fork, File}
-use Rattle.plain_model.specs.declared.names.Slot.{Slot}
-use Rattle.plain_model.specs.declared.names.Tty.{Tty}
-use Rattle.plain_model.specs.declared.names.TheConstants.{SPACE_PAGES}
-use Rattle.plain_model.specs.Outcome.{DrumWords}
-use Rattle.plain_model.specs.Maps.{Chain, entry_at, chain, maps_on_way}
-use Rattle.plain_model.specs.Room.{uses}
-use Rattle.plain_model.specs.declared.map.Found.{Found as AFound}
-use Rattle.plain_model.specs.declared.map.SpaceHandle.{SpaceHandle}
-use Rattle.plain_model.specs.declared.map.Touch.{Touch}
-use Rattle.plain_model.specs.declared.map.Touch.TheVariants.{Ready, Zero, Copy, NeedFrame, Denied, Full}
-use Rattle.plain_model.specs.declared.map.Peeked.TheVariants.{Is, Absent, NoPage}
-use Rattle.plain_model.specs.References.{in_map, page_at, words_of, words_at, word_at, zero_words}
-use Rattle.plain_model.specs.Pages.{Scene, IsPlace, IsOwner, touch_of, spot_of, peek_of, away_or, map_away, counted, absent_or, framed}
-use Rattle.plain_model.specs.Stores.{HomePlace, free, away, here, place, is_taken, is_here, word_in, content}
-use Rattle.plain_model.proofs.Chains.{marked}
+use Rattle.machine_names.specs.declared.homes.Home.{Home}
+use Rattle.machine_names.specs.declared.names.Kind.{Kind}
+use Rattle.machine_names.specs.declared.names.Kind.TheVariants.{Read, Write, Execute}
+use Rattle.machine_names.specs.declared.names.ForkName.{ForkName}
+use Rattle.machine_names.specs.declared.names.PageName.{PageName}
+use Rattle.machine_names.specs.declared.names.Place.{Place}
+use Rattle.machine_names.specs.declared.names.Place.TheVariants.{Fork, File}
+use Rattle.machine_names.specs.declared.names.Slot.{Slot}
+use Rattle.machine_names.specs.declared.names.Tty.{Tty}
+use Rattle.machine_names.specs.declared.names.TheConstants.{SPACE_PAGES}
+use Rattle.page_contracts.specs.DrumWords.{DrumWords}
+use Rattle.plain_pages.specs.Maps.{Chain, entry_at, chain, maps_on_way}
+use Rattle.plain_pages.specs.Room.{uses}
+use Rattle.page_contracts.specs.declared.answers.Found.{Found as AFound}
+use Rattle.page_contracts.specs.declared.answers.SpaceHandle.{SpaceHandle}
+use Rattle.page_contracts.specs.declared.answers.Touch.{Touch}
+use Rattle.page_contracts.specs.declared.answers.Touch.TheVariants.{Ready, Zero, Copy, NeedFrame, Denied, Full}
+use Rattle.page_contracts.specs.declared.answers.Peeked.TheVariants.{Is, Absent, NoPage}
+use Rattle.plain_pages.specs.References.{in_map, page_at, words_of, words_at, word_at}
+use Rattle.machine_names.specs.PageWords.{zero_words}
+use Rattle.page_contracts.specs.Pages.{Scene, IsPlace, touch_of, spot_of, peek_of, away_or, map_away, counted, absent_or, framed}
+use Rattle.machine_names.specs.Bounds.{IsOwner}
+use Rattle.page_contracts.specs.Stores.{HomePlace, free, away, here, place, is_taken, is_here, word_in, content}
+use Rattle.plain_pages.proofs.Chains.{marked}
 use Rattle.flat_pages.specs.declared.held_entry.EntryAt.{EntryAt}
 use Rattle.flat_pages.specs.declared.held_entry.HeldEntry.{HeldEntry}
 use Rattle.flat_pages.specs.declared.held_map.HeldMap.{HeldMap}

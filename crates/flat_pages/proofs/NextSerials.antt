@@ -4,9 +4,9 @@ use Rattle.std.specs.Prelude.{slice_index, slice_set, ◌==◌}
 use Rattle.std.proofs.lemmas.Bool.Decides.{eqb_tells}
 use Rattle.std.proofs.lemmas.List.{length-set, get_or-set_other}
 use Rattle.std.proofs.lemmas.Grind.{get_or-set_at}
-use Rattle.plain_model.specs.declared.names.Tty.{Tty}
-use Rattle.plain_model.specs.declared.names.TheConstants.{TERMINALS}
-use Rattle.plain_model.specs.Pages.{IsOwner}
+use Rattle.machine_names.specs.declared.names.Tty.{Tty}
+use Rattle.machine_names.specs.declared.names.TheConstants.{TERMINALS}
+use Rattle.machine_names.specs.Bounds.{IsOwner}
 use Rattle.flat_pages.specs.declared.page_serials.PageSerials.{PageSerials}
 use Rattle.flat_pages.specs.Serials.{serial_of, with_next}
 

@@ -7,14 +7,15 @@ use Rattle.std.specs.Ordering.{nat_cmp}
 use Rattle.std.specs.FinMap as fin
 use Rattle.std.proofs.lemmas.List.{length-replicate, get_or-replicate}
 use Rattle.std.proofs.lemmas.List.Folds.{sum_by-replicate}
-use Rattle.plain_model.specs.declared.names.ForkName.{ForkName}
-use Rattle.plain_model.specs.declared.names.PageName.{PageName}
-use Rattle.plain_model.specs.declared.names.Tty.{Tty}
-use Rattle.plain_model.specs.declared.names.TheConstants.{SPACE_PAGES, TERMINALS, MOST_HOMES}
-use Rattle.plain_model.specs.Outcome.{DrumWords}
-use Rattle.plain_model.specs.Pages.{IsOwner}
-use Rattle.plain_model.specs.State.{is_console, opening_pages, first_serials}
-use Rattle.plain_model.specs.Stores.{HomePlace, free, is_free, is_taken, content}
+use Rattle.machine_names.specs.declared.names.ForkName.{ForkName}
+use Rattle.machine_names.specs.declared.names.PageName.{PageName}
+use Rattle.machine_names.specs.declared.names.Tty.{Tty}
+use Rattle.machine_names.specs.declared.names.TheConstants.{SPACE_PAGES, TERMINALS}
+use Rattle.machine_names.specs.declared.homes.TheConstants.{MOST_HOMES}
+use Rattle.page_contracts.specs.DrumWords.{DrumWords}
+use Rattle.machine_names.specs.Bounds.{IsOwner}
+use Rattle.plain_pages.specs.PlainPages.{is_console, opening_pages, first_serials}
+use Rattle.page_contracts.specs.Stores.{HomePlace, free, is_free, is_taken, content}
 use Rattle.flat_pages.specs.declared.held_entry.HeldEntry.{HeldEntry}
 use Rattle.flat_pages.specs.declared.held_entry.HeldEntry.TheVariants.{Empty, Follows}
 use Rattle.flat_pages.specs.declared.held_map.HeldMap.{HeldMap}

@@ -9,17 +9,18 @@ use Rattle.std.proofs.Math.Path.{fun_ext}
 use Rattle.std.proofs.lemmas.Bool.{cases_eq, cases_lt}
 use Rattle.std.proofs.lemmas.List.{length-set, length-map, get_or-set_same, get_or-set_other, get_or_past}
 use Rattle.std.proofs.lemmas.List.Sums.{sum_by-set, sum_by-cons}
-use Rattle.plain_model.specs.declared.names.PageName.{PageName}
-use Rattle.plain_model.specs.declared.names.Home.{Home}
-use Rattle.plain_model.specs.declared.names.Place.{Place}
-use Rattle.plain_model.specs.Outcome.{DrumWords}
-use Rattle.plain_model.specs.State.{NumberedPages}
-use Rattle.plain_model.specs.Room.{same_page}
-use Rattle.plain_model.specs.References.{words_of, with_word, stored, zero_words}
-use Rattle.plain_model.specs.Pages.{spot_of}
-use Rattle.plain_model.specs.Stores.{HomePlace, free, away, here, place, is_free, is_taken, with_word_in, free_homes, content}
-use Rattle.plain_model.proofs.OrderLemmas.{page_cmp_total, page_cmp_apart, page_tied}
-use Rattle.plain_model.proofs.Counts.{Same, page_tells}
+use Rattle.machine_names.specs.declared.names.PageName.{PageName}
+use Rattle.machine_names.specs.declared.homes.Home.{Home}
+use Rattle.machine_names.specs.declared.names.Place.{Place}
+use Rattle.page_contracts.specs.DrumWords.{DrumWords}
+use Rattle.plain_pages.specs.PlainPages.{NumberedPages}
+use Rattle.plain_pages.specs.Room.{same_page}
+use Rattle.plain_pages.specs.References.{words_of, with_word, stored}
+use Rattle.machine_names.specs.PageWords.{zero_words}
+use Rattle.page_contracts.specs.Pages.{spot_of}
+use Rattle.page_contracts.specs.Stores.{HomePlace, free, away, here, place, is_free, is_taken, with_word_in, free_homes, content}
+use Rattle.machine_names.proofs.OrderLemmas.{page_cmp_total, page_cmp_apart, page_tied}
+use Rattle.plain_pages.proofs.Counts.{Same, page_tells}
 use Rattle.flat_pages.specs.HeldMaps.{name_at}
 use Rattle.flat_pages.specs.SlotTables.{Tables, plain_of, AreTables, AreSized}
 use Rattle.flat_pages.specs.SlotTouches.{away_home, away_at}

@@ -1,7 +1,7 @@
 -- Room for pages, and the frames that they want.
 use Rattle.std.proofs.Common.{◌≡◌, ℕ, ◌≤◌, List, true, false, None, Some, refl, arith}
 use Rattle.std.proofs.lemmas.Bool.Decides.{nat_tests}
-use Rattle.plain_model.specs.Stores.{HomePlace, free, away, here, place, is_taken, is_here}
+use Rattle.page_contracts.specs.Stores.{HomePlace, free, away, here, place, is_taken, is_here}
 use Rattle.flat_pages.specs.SlotTables.{Tables}
 use Rattle.flat_pages.specs.SlotTouches.{has_room, away_at, away_home}
 

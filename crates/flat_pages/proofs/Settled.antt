@@ -6,27 +6,29 @@ use Rattle.std.proofs.lemmas.Bool.{cases_eq}
 use Rattle.std.proofs.lemmas.Bool.Decides.{nat_tests, eqb_tells}
 use Rattle.std.proofs.lemmas.List.{get_or-set_same, get_or-set_other}
 use Rattle.outside.specs.Drums.{IsPage}
-use Rattle.plain_model.specs.declared.names.Access.{Access}
-use Rattle.plain_model.specs.declared.names.Home.{Home}
-use Rattle.plain_model.specs.declared.names.Kind.{Kind}
-use Rattle.plain_model.specs.declared.names.Kind.TheVariants.{Read, Write, Execute}
-use Rattle.plain_model.specs.declared.names.ForkName.{ForkName}
-use Rattle.plain_model.specs.declared.names.PageName.{PageName}
-use Rattle.plain_model.specs.declared.names.Place.{Place}
-use Rattle.plain_model.specs.declared.names.Place.TheVariants.{Fork}
-use Rattle.plain_model.specs.declared.names.Slot.{Slot}
-use Rattle.plain_model.specs.declared.names.Tty.{Tty}
-use Rattle.plain_model.specs.declared.map.Touch.{Touch}
-use Rattle.plain_model.specs.declared.map.Touch.TheVariants.{Ready, Zero, Copy, NeedFrame, Denied, Full}
-use Rattle.plain_model.specs.Outcome.{DrumWords}
-use Rattle.plain_model.specs.State.{NumberedPages}
-use Rattle.plain_model.specs.Maps.{Chain, full_access, permits}
-use Rattle.plain_model.specs.References.{in_map, blank, copy, blanks, copies, private_access, makings, make, settled, words_at, words_of, zero_words}
-use Rattle.plain_model.specs.Pages.{Scene, IsPlace, IsOwner, spot_of, absent_or, framed, can_settle, SettlesTo, TakesFrames, frames_taken}
-use Rattle.plain_model.specs.Stores.{StoreMeaning, IsSound, IsUsed, HomePlace, free, away, here, place, is_taken, is_here, content, FitsHomes}
-use Rattle.plain_model.proofs.Chains.{marked}
-use Rattle.plain_model.proofs.Reading.{mark_there}
-use Rattle.plain_model.proofs.Touches.{settled_makes, settled_stays}
+use Rattle.machine_names.specs.declared.names.Access.{Access}
+use Rattle.machine_names.specs.declared.homes.Home.{Home}
+use Rattle.machine_names.specs.declared.names.Kind.{Kind}
+use Rattle.machine_names.specs.declared.names.Kind.TheVariants.{Read, Write, Execute}
+use Rattle.machine_names.specs.declared.names.ForkName.{ForkName}
+use Rattle.machine_names.specs.declared.names.PageName.{PageName}
+use Rattle.machine_names.specs.declared.names.Place.{Place}
+use Rattle.machine_names.specs.declared.names.Place.TheVariants.{Fork}
+use Rattle.machine_names.specs.declared.names.Slot.{Slot}
+use Rattle.machine_names.specs.declared.names.Tty.{Tty}
+use Rattle.page_contracts.specs.declared.answers.Touch.{Touch}
+use Rattle.page_contracts.specs.declared.answers.Touch.TheVariants.{Ready, Zero, Copy, NeedFrame, Denied, Full}
+use Rattle.page_contracts.specs.DrumWords.{DrumWords}
+use Rattle.plain_pages.specs.PlainPages.{NumberedPages}
+use Rattle.plain_pages.specs.Maps.{Chain, full_access, permits}
+use Rattle.plain_pages.specs.References.{in_map, blank, copy, blanks, copies, private_access, makings, make, settled, words_at, words_of}
+use Rattle.machine_names.specs.PageWords.{zero_words}
+use Rattle.page_contracts.specs.Pages.{Scene, IsPlace, spot_of, absent_or, framed, can_settle, SettlesTo, TakesFrames, frames_taken}
+use Rattle.machine_names.specs.Bounds.{IsOwner}
+use Rattle.page_contracts.specs.Stores.{StoreMeaning, IsSound, IsUsed, HomePlace, free, away, here, place, is_taken, is_here, content, FitsHomes}
+use Rattle.plain_pages.proofs.Chains.{marked}
+use Rattle.plain_pages.proofs.Reading.{mark_there}
+use Rattle.plain_pages.proofs.ReferencesMade.{settled_makes, settled_stays}
 use Rattle.flat_pages.specs.declared.held_entry.EntryAt.{EntryAt}
 use Rattle.flat_pages.specs.declared.held_entry.HeldEntry.{HeldEntry}
 use Rattle.flat_pages.specs.declared.held_entry.HeldEntry.TheVariants.{Empty, Page}

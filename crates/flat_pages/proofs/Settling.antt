@@ -8,22 +8,23 @@ use Rattle.std.proofs.lemmas.Bool.{cases_lt}
 use Rattle.std.proofs.lemmas.List.{get_or-set_same, get_or-set_other, get_or_past, length-set}
 use Rattle.outside.specs.Drums.{IsPage, page_at as drum_page}
 use Rattle.outside.specs.declared.TheConstants.{PAGE_WORDS}
-use Rattle.plain_model.specs.declared.names.Access.{Access}
-use Rattle.plain_model.specs.declared.names.Home.{Home}
-use Rattle.plain_model.specs.declared.names.PageName.{PageName}
-use Rattle.plain_model.specs.declared.names.Slot.{Slot}
-use Rattle.plain_model.specs.declared.names.Tty.{Tty}
-use Rattle.plain_model.specs.declared.map.MapEntry.TheVariants as entry
-use Rattle.plain_model.specs.Outcome.{DrumWords}
-use Rattle.plain_model.specs.State.{NumberedPages, is_console, page_serial}
-use Rattle.plain_model.specs.Maps.{entry_at, set_entry, full_access}
-use Rattle.plain_model.specs.Room.{uses}
-use Rattle.plain_model.specs.References.{in_map, blank, copy, make, page_at, words_at, zero_words, next_page, new_page, drop_copied, drop_unnamed}
-use Rattle.plain_model.specs.Pages.{IsOwner}
-use Rattle.plain_model.specs.Stores.{HomePlace, free, away, here, place, is_taken, over_drum, content, FitsHomes}
-use Rattle.plain_model.specs.Whole.{AreWhole}
-use Rattle.plain_model.proofs.Made.{is_blank, is_copy}
-use Rattle.plain_model.proofs.Settles.{copy_maps, copy_files}
+use Rattle.machine_names.specs.declared.names.Access.{Access}
+use Rattle.machine_names.specs.declared.homes.Home.{Home}
+use Rattle.machine_names.specs.declared.names.PageName.{PageName}
+use Rattle.machine_names.specs.declared.names.Slot.{Slot}
+use Rattle.machine_names.specs.declared.names.Tty.{Tty}
+use Rattle.plain_pages.specs.declared.map.MapEntry.TheVariants as entry
+use Rattle.page_contracts.specs.DrumWords.{DrumWords}
+use Rattle.plain_pages.specs.PlainPages.{NumberedPages, is_console, page_serial}
+use Rattle.plain_pages.specs.Maps.{entry_at, set_entry, full_access}
+use Rattle.plain_pages.specs.Room.{uses}
+use Rattle.plain_pages.specs.References.{in_map, blank, copy, make, page_at, words_at, next_page, new_page, drop_copied, drop_unnamed}
+use Rattle.machine_names.specs.PageWords.{zero_words}
+use Rattle.machine_names.specs.Bounds.{IsOwner}
+use Rattle.page_contracts.specs.Stores.{HomePlace, free, away, here, place, is_taken, over_drum, content, FitsHomes}
+use Rattle.plain_pages.specs.WholePages.{AreWhole}
+use Rattle.plain_pages.proofs.Made.{is_blank, is_copy}
+use Rattle.plain_pages.proofs.Settles.{copy_maps, copy_files}
 use Rattle.flat_pages.specs.declared.held_entry.EntryAt.{EntryAt}
 use Rattle.flat_pages.specs.declared.held_entry.HeldEntry.{HeldEntry}
 use Rattle.flat_pages.specs.declared.held_entry.HeldEntry.TheVariants.{Empty, Page}

@@ -3,20 +3,21 @@ use Rattle.std.proofs.Common.{◌≡◌, ℕ, suc, List, [], ◌∷◌, Bool, tr
 use Rattle.std.specs.Prelude.{IsSome, nat_eq}
 use Rattle.std.specs.Option.{option_map, option_map_or, option_and_then}
 use Rattle.std.proofs.lemmas.List.Sums.{sum_by-cons}
-use Rattle.plain_model.specs.declared.names.ForkName.{ForkName}
-use Rattle.plain_model.specs.declared.names.PageName.{PageName}
-use Rattle.plain_model.specs.declared.names.Tty.{Tty}
-use Rattle.plain_model.specs.declared.names.Access.{Access}
-use Rattle.plain_model.specs.declared.names.Slot.{Slot}
-use Rattle.plain_model.specs.declared.map.MapEntry.{MapEntry}
-use Rattle.plain_model.specs.declared.map.NewEntry.{NewEntry}
-use Rattle.plain_model.specs.declared.map.NewEntry.TheVariants as new_entry
-use Rattle.plain_model.specs.Outcome.{DrumWords}
-use Rattle.plain_model.specs.State.{NumberedPages}
-use Rattle.plain_model.specs.Maps.{entry_at, narrow}
-use Rattle.plain_model.specs.References.{with_entry as entry_put}
-use Rattle.plain_model.specs.Pages.{is_entry, entry_to, changed}
-use Rattle.plain_model.specs.Stores.{StoreMeaning, FitsHomes}
+use Rattle.machine_names.specs.declared.names.ForkName.{ForkName}
+use Rattle.machine_names.specs.declared.names.PageName.{PageName}
+use Rattle.machine_names.specs.declared.names.Tty.{Tty}
+use Rattle.machine_names.specs.declared.names.Access.{Access}
+use Rattle.machine_names.specs.declared.names.Slot.{Slot}
+use Rattle.plain_pages.specs.declared.map.MapEntry.{MapEntry}
+use Rattle.plain_pages.specs.declared.map.NewEntry.{NewEntry}
+use Rattle.plain_pages.specs.declared.map.NewEntry.TheVariants as new_entry
+use Rattle.page_contracts.specs.DrumWords.{DrumWords}
+use Rattle.plain_pages.specs.PlainPages.{NumberedPages}
+use Rattle.plain_pages.specs.Maps.{entry_at, narrow}
+use Rattle.plain_pages.specs.References.{with_entry as entry_put}
+use Rattle.page_contracts.specs.Pages.{is_entry}
+use Rattle.plain_pages.specs.NewEntries.{entry_to, changed}
+use Rattle.page_contracts.specs.Stores.{StoreMeaning, FitsHomes}
 use Rattle.flat_pages.specs.declared.held_entry.EntryAt.{EntryAt}
 use Rattle.flat_pages.specs.declared.held_entry.HeldEntry.{HeldEntry}
 use Rattle.flat_pages.specs.declared.held_entry.HeldEntry.TheVariants.{Empty, Page, Follows}
@@ -47,7 +48,7 @@ index_same [] [] s f = refl
 index_same [] (y ∷ ys) s f = absurd (omega (arith, s.many))
 index_same (x ∷ xs) [] s f = absurd (omega (arith, s.many))
 index_same (x ∷ xs) (y ∷ ys) s f =
-    ap (λ (o : Option ForkName). cond (option_map_or (Rattle.plain_model.specs.Pages.same_fork f) o false) (Some 0) (one_later (index_of xs f))) (s.each 0)
+    ap (λ (o : Option ForkName). cond (option_map_or (Rattle.machine_names.specs.Orders.same_fork f) o false) (Some 0) (one_later (index_of xs f))) (s.each 0)
     ∙ ap (λ o. cond (is_map_of y f) (Some 0) (one_later o)) (index_same xs ys (later_forks x y xs ys s) f)
 
 pub living_same : (xs ys : List HeldMap) → SameForks xs ys → (t : Tty) → living_of xs t ≡ living_of ys t

@@ -13,12 +13,12 @@ use Rattle.std.proofs.lemmas.List.Sums.{sum_by-set, sum_by-cons, count_by-le-len
 use Rattle.word36.specs.Words.{IsWord}
 use Rattle.outside.specs.Drums.{IsPage}
 use Rattle.outside.specs.declared.TheConstants.{PAGE_WORDS}
-use Rattle.plain_model.specs.References.{zero_words}
-use Rattle.plain_model.specs.declared.names.Home.{Home}
-use Rattle.plain_model.specs.declared.names.TheConstants.{MOST_HOMES}
-use Rattle.plain_model.specs.declared.map.Found.{Found}
-use Rattle.plain_model.specs.Stores.{HomePlace, free, here, place, is_free, is_taken, is_here, with_word_in, free_homes, room_of}
-use Rattle.plain_model.specs.declared.store.Room.TheVariants.{Enough, NeedFrame, Full}
+use Rattle.machine_names.specs.PageWords.{zero_words}
+use Rattle.machine_names.specs.declared.homes.Home.{Home}
+use Rattle.machine_names.specs.declared.homes.TheConstants.{MOST_HOMES}
+use Rattle.page_contracts.specs.declared.answers.Found.{Found}
+use Rattle.page_contracts.specs.Stores.{HomePlace, free, here, place, is_free, is_taken, is_here, with_word_in, free_homes, room_of}
+use Rattle.page_contracts.specs.declared.store.Room.TheVariants.{Enough, NeedFrame, Full}
 use Rattle.flat_pages.specs.StoredPages.{StoredPage, free_page, stored_at, place_of, places_of, found_at, free_at, homes_below, AreStored}
 use Rattle.flat_pages.specs.StoreMeaning.{place_at, places_set, places_length, taken_is, core_is}
 

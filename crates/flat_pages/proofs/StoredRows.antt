@@ -1,7 +1,7 @@
 -- The words of pages, and whether homes are taken, as pages of homes.
 use Rattle.std.proofs.Common.{◌≡◌, ℕ, zero, suc, List, [], ◌∷◌, Bool, false, length, replicate, refl, ap, arith}
 use Rattle.std.specs.Prelude.{slice_set, slice_index_or}
-use Rattle.plain_model.specs.References.{zero_words}
+use Rattle.machine_names.specs.PageWords.{zero_words}
 use Rattle.flat_pages.specs.StoredPages.{pages_from, stored_at, free_page}
 
 pub rows_length : (words : List (List ℕ)) (taken : List Bool) → length words ≡ length taken → length (pages_from words taken) ≡ length words

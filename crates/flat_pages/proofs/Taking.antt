@@ -5,13 +5,13 @@ use Rattle.std.proofs.lemmas.Bool.{cases_eq, cases_lt}
 use Rattle.std.proofs.lemmas.Bool.Decides.{nat_tests}
 use Rattle.std.proofs.lemmas.List.{length-set, get_or-set_same, get_or-set_other, get_or_past}
 use Rattle.std.proofs.lemmas.List.Sums.{sum_by-set}
-use Rattle.plain_model.specs.declared.names.Access.{Access}
-use Rattle.plain_model.specs.declared.names.Home.{Home}
-use Rattle.plain_model.specs.declared.names.PageName.{PageName}
-use Rattle.plain_model.specs.declared.names.Tty.{Tty}
-use Rattle.plain_model.specs.declared.names.TheConstants.{SPACE_PAGES}
-use Rattle.plain_model.specs.Pages.{IsOwner}
-use Rattle.plain_model.specs.Stores.{HomePlace, free, away, here, place, is_free, is_taken, free_homes}
+use Rattle.machine_names.specs.declared.names.Access.{Access}
+use Rattle.machine_names.specs.declared.homes.Home.{Home}
+use Rattle.machine_names.specs.declared.names.PageName.{PageName}
+use Rattle.machine_names.specs.declared.names.Tty.{Tty}
+use Rattle.machine_names.specs.declared.names.TheConstants.{SPACE_PAGES}
+use Rattle.machine_names.specs.Bounds.{IsOwner}
+use Rattle.page_contracts.specs.Stores.{HomePlace, free, away, here, place, is_free, is_taken, free_homes}
 use Rattle.flat_pages.specs.declared.held_entry.EntryAt.{EntryAt}
 use Rattle.flat_pages.specs.declared.held_entry.HeldEntry.{HeldEntry}
 use Rattle.flat_pages.specs.declared.held_entry.HeldEntry.TheVariants.{Empty, Page, Follows}

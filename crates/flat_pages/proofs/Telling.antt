@@ -4,11 +4,11 @@ use Rattle.std.specs.Option.{option_map_or, option_and_then}
 use Rattle.std.proofs.lemmas.Bool.Decides.{eqb_tells}
 use Rattle.std.proofs.lemmas.List.Sums.{sum_by-cons}
 use Rattle.outside.specs.Drums.{IsPage, page_at as drum_page}
-use Rattle.plain_model.specs.declared.names.ForkName.{ForkName}
-use Rattle.plain_model.specs.declared.names.PageName.{PageName}
-use Rattle.plain_model.specs.Room.{same_page}
-use Rattle.plain_model.specs.Stores.{HomePlace, free, away, here, place, over_drum, content}
-use Rattle.plain_model.proofs.Counts.{Same, page_tells}
+use Rattle.machine_names.specs.declared.names.ForkName.{ForkName}
+use Rattle.machine_names.specs.declared.names.PageName.{PageName}
+use Rattle.plain_pages.specs.Room.{same_page}
+use Rattle.page_contracts.specs.Stores.{HomePlace, free, away, here, place, over_drum, content}
+use Rattle.plain_pages.proofs.Counts.{Same, page_tells}
 use Rattle.flat_pages.specs.declared.held_map.HeldMap.{HeldMap}
 use Rattle.flat_pages.specs.HeldMaps.{fork_at, name_at, one_later, living_of}
 use Rattle.flat_pages.specs.SlotTables.{Tables, AreTables}

@@ -6,22 +6,23 @@ use Rattle.std.specs.Option.{option_map, option_map_or, unwrap_or}
 use Rattle.std.specs.FinMap as fin
 use Rattle.std.proofs.lemmas.Bool.{cases_eq}
 use Rattle.std.proofs.lemmas.List.{map-set}
-use Rattle.plain_model.specs.declared.names.Access.{Access}
-use Rattle.plain_model.specs.declared.names.ForkName.{ForkName}
-use Rattle.plain_model.specs.declared.names.PageName.{PageName}
-use Rattle.plain_model.specs.declared.names.Slot.{Slot}
-use Rattle.plain_model.specs.declared.names.Tty.{Tty}
-use Rattle.plain_model.specs.declared.map.MapEntry.{MapEntry}
-use Rattle.plain_model.specs.declared.map.MapEntry.TheVariants as entry
-use Rattle.plain_model.specs.Outcome.{DrumWords}
-use Rattle.plain_model.specs.State.{Map, NumberedPages}
-use Rattle.plain_model.specs.Maps.{set_entry}
-use Rattle.plain_model.specs.Room.{uses}
-use Rattle.plain_model.specs.References.{zero_words, next_page, words_of}
-use Rattle.plain_model.specs.Stores.{content}
-use Rattle.plain_model.proofs.Kept.{same_pages}
-use Rattle.plain_model.proofs.Made.{IsMade}
-use Rattle.plain_model.proofs.Whole.{map_uses, tally, uses_are}
+use Rattle.machine_names.specs.declared.names.Access.{Access}
+use Rattle.machine_names.specs.declared.names.ForkName.{ForkName}
+use Rattle.machine_names.specs.declared.names.PageName.{PageName}
+use Rattle.machine_names.specs.declared.names.Slot.{Slot}
+use Rattle.machine_names.specs.declared.names.Tty.{Tty}
+use Rattle.plain_pages.specs.declared.map.MapEntry.{MapEntry}
+use Rattle.plain_pages.specs.declared.map.MapEntry.TheVariants as entry
+use Rattle.page_contracts.specs.DrumWords.{DrumWords}
+use Rattle.plain_pages.specs.PlainPages.{Map, NumberedPages}
+use Rattle.plain_pages.specs.Maps.{set_entry}
+use Rattle.plain_pages.specs.Room.{uses}
+use Rattle.machine_names.specs.PageWords.{zero_words}
+use Rattle.plain_pages.specs.References.{next_page, words_of}
+use Rattle.page_contracts.specs.Stores.{content}
+use Rattle.plain_pages.proofs.Kept.{same_pages}
+use Rattle.plain_pages.proofs.Made.{IsMade}
+use Rattle.plain_pages.proofs.Whole.{map_uses, tally, uses_are}
 use Rattle.flat_pages.specs.declared.held_entry.EntryAt.{EntryAt}
 use Rattle.flat_pages.specs.declared.held_entry.HeldEntry.{HeldEntry}
 use Rattle.flat_pages.specs.declared.held_entry.HeldEntry.TheVariants.{Empty, Page, Follows}

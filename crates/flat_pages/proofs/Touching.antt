@@ -4,30 +4,32 @@ use Rattle.std.specs.Prelude.{find, nat_le, ◌==◌, slice_get}
 use Rattle.std.specs.Option.{option_map, option_and_then, unwrap_or}
 use Rattle.std.specs.Cmp.{nat_cmp_total}
 use Rattle.std.proofs.lemmas.Bool.Decides.{nat_tests}
-use Rattle.plain_model.specs.declared.names.ForkName.{ForkName}
-use Rattle.plain_model.specs.declared.names.PageName.{PageName}
-use Rattle.plain_model.specs.declared.names.Home.{Home}
-use Rattle.plain_model.specs.declared.names.Slot.{Slot}
-use Rattle.plain_model.specs.declared.names.Tty.{Tty}
-use Rattle.plain_model.specs.declared.names.Kind.{Kind}
-use Rattle.plain_model.specs.declared.names.Kind.TheVariants.{Read, Write, Execute}
-use Rattle.plain_model.specs.declared.map.MapEntry.TheVariants as entry
-use Rattle.plain_model.specs.declared.map.Touch.TheVariants.{Ready, Zero, Copy, Denied, Full}
-use Rattle.plain_model.specs.Outcome.{DrumWords}
-use Rattle.plain_model.specs.State.{NumberedPages}
-use Rattle.plain_model.specs.Maps.{Link as ChainLink, Chain, entry_at, chain, maps_on_way, permits, full_access}
-use Rattle.plain_model.specs.Room.{same_page, uses, live, HasRoom}
-use Rattle.plain_model.specs.References.{in_map, Making, blank, copy, blanks, copies, copy_in, private_access, along_chain, makings, make, make_all, granted, full, reference, next_making, page_at, zero_words}
-use Rattle.plain_model.specs.Pages.{Scene, IsOwner, touch_of, touched_by, absent_or, announced, is_sole, framed, page_away, first_away}
-use Rattle.plain_model.specs.Whole.{AreWhole}
-use Rattle.plain_model.proofs.Chains.{marked}
-use Rattle.plain_model.proofs.Counts.{page_tells, Same}
-use Rattle.plain_model.proofs.Ends.{AtMark, mark_follows, mark_names, at_mark}
-use Rattle.plain_model.proofs.Makings.{CanMake}
-use Rattle.plain_model.proofs.Made.{IsMade, is_blank}
-use Rattle.plain_model.proofs.Rooms.{room_blank, room_copy, live_blank}
-use Rattle.plain_model.proofs.Settles.{makings_can}
-use Rattle.plain_model.proofs.Touches.{reference_makes, reference_denied, make_first}
+use Rattle.machine_names.specs.declared.names.ForkName.{ForkName}
+use Rattle.machine_names.specs.declared.names.PageName.{PageName}
+use Rattle.machine_names.specs.declared.homes.Home.{Home}
+use Rattle.machine_names.specs.declared.names.Slot.{Slot}
+use Rattle.machine_names.specs.declared.names.Tty.{Tty}
+use Rattle.machine_names.specs.declared.names.Kind.{Kind}
+use Rattle.machine_names.specs.declared.names.Kind.TheVariants.{Read, Write, Execute}
+use Rattle.plain_pages.specs.declared.map.MapEntry.TheVariants as entry
+use Rattle.page_contracts.specs.declared.answers.Touch.TheVariants.{Ready, Zero, Copy, Denied, Full}
+use Rattle.page_contracts.specs.DrumWords.{DrumWords}
+use Rattle.plain_pages.specs.PlainPages.{NumberedPages}
+use Rattle.plain_pages.specs.Maps.{Link as ChainLink, Chain, entry_at, chain, maps_on_way, permits, full_access}
+use Rattle.plain_pages.specs.Room.{same_page, uses, live, HasRoom}
+use Rattle.plain_pages.specs.References.{in_map, Making, blank, copy, blanks, copies, copy_in, private_access, along_chain, makings, make, make_all, granted, full, reference, next_making, page_at}
+use Rattle.machine_names.specs.PageWords.{zero_words}
+use Rattle.page_contracts.specs.Pages.{Scene, touch_of, touched_by, absent_or, announced, is_sole, framed, page_away, first_away}
+use Rattle.machine_names.specs.Bounds.{IsOwner}
+use Rattle.plain_pages.specs.WholePages.{AreWhole}
+use Rattle.plain_pages.proofs.Chains.{marked}
+use Rattle.plain_pages.proofs.Counts.{page_tells, Same}
+use Rattle.plain_pages.proofs.Ends.{AtMark, mark_follows, mark_names, at_mark}
+use Rattle.plain_pages.proofs.Makings.{CanMake}
+use Rattle.plain_pages.proofs.Made.{IsMade, is_blank}
+use Rattle.page_contracts.proofs.Rooms.{room_blank, room_copy, live_blank}
+use Rattle.plain_pages.proofs.Settles.{makings_can}
+use Rattle.plain_pages.proofs.ReferencesMade.{reference_makes, reference_denied, make_first}
 use Rattle.flat_pages.specs.declared.held_entry.EntryAt.{EntryAt}
 use Rattle.flat_pages.specs.declared.held_entry.HeldEntry.{HeldEntry}
 use Rattle.flat_pages.specs.declared.held_entry.HeldEntry.TheVariants.{Empty, Page, Follows}

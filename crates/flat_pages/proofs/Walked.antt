@@ -3,15 +3,15 @@ use Rattle.std.proofs.Common.{◌≡◌, ℕ, zero, suc, List, Bool, true, false
 use Rattle.std.specs.Prelude.{find}
 use Rattle.std.specs.List.{list_all}
 use Rattle.std.specs.Option.{option_map, option_map_or, option_and_then}
-use Rattle.plain_model.specs.declared.names.Access.{Access}
-use Rattle.plain_model.specs.declared.names.ForkName.{ForkName}
-use Rattle.plain_model.specs.declared.names.PageName.{PageName}
-use Rattle.plain_model.specs.declared.names.Home.{Home}
-use Rattle.plain_model.specs.declared.names.Slot.{Slot}
-use Rattle.plain_model.specs.declared.names.Tty.{Tty}
-use Rattle.plain_model.specs.declared.map.MapEntry.{MapEntry}
-use Rattle.plain_model.specs.Maps.{Entries, Link as ChainLink, Chain, entry_at, followed, full_access, single_link, behind, chain_from, chain_within, chain, permit_write}
-use Rattle.plain_model.proofs.Chains.{marked}
+use Rattle.machine_names.specs.declared.names.Access.{Access}
+use Rattle.machine_names.specs.declared.names.ForkName.{ForkName}
+use Rattle.machine_names.specs.declared.names.PageName.{PageName}
+use Rattle.machine_names.specs.declared.homes.Home.{Home}
+use Rattle.machine_names.specs.declared.names.Slot.{Slot}
+use Rattle.machine_names.specs.declared.names.Tty.{Tty}
+use Rattle.plain_pages.specs.declared.map.MapEntry.{MapEntry}
+use Rattle.plain_pages.specs.Maps.{Entries, Link as ChainLink, Chain, entry_at, followed, full_access, single_link, behind, chain_from, chain_within, chain, permit_write}
+use Rattle.plain_pages.proofs.Chains.{marked}
 use Rattle.flat_pages.specs.declared.held_entry.EntryAt.{EntryAt}
 use Rattle.flat_pages.specs.declared.held_entry.HeldEntry.{HeldEntry}
 use Rattle.flat_pages.specs.declared.held_entry.HeldEntry.TheVariants.{Empty, Page, Follows}

@@ -1,13 +1,14 @@
 -- A map whose entries are emptied one after another, and a fork that ends so.
 use Rattle.std.specs.Prelude.{◌≡◌, ℕ, ◌<◌, true, false, None, Some, length, nat_lt, if◌then◌else◌}
 use Rattle.std.specs.FinMap as map
-use Rattle.plain_model.specs.declared.names.ForkName.{ForkName}
-use Rattle.plain_model.specs.declared.names.PageName.{PageName}
-use Rattle.plain_model.specs.Outcome.{DrumWords}
-use Rattle.plain_model.specs.State.{NumberedPages}
-use Rattle.plain_model.specs.Room.{uses}
-use Rattle.plain_model.specs.Pages.{StaysInCore, same_fork}
-use Rattle.plain_model.specs.Stores.{StoreMeaning, FitsHomes}
+use Rattle.machine_names.specs.declared.names.ForkName.{ForkName}
+use Rattle.machine_names.specs.declared.names.PageName.{PageName}
+use Rattle.page_contracts.specs.DrumWords.{DrumWords}
+use Rattle.plain_pages.specs.PlainPages.{NumberedPages}
+use Rattle.plain_pages.specs.Room.{uses}
+use Rattle.page_contracts.specs.Pages.{StaysInCore}
+use Rattle.machine_names.specs.Orders.{same_fork}
+use Rattle.page_contracts.specs.Stores.{StoreMeaning, FitsHomes}
 use Rattle.flat_pages.specs.declared.held_entry.HeldEntry.TheVariants.{Empty}
 use Rattle.flat_pages.specs.declared.map_tables.MapTables.{MapTables}
 use Rattle.flat_pages.specs.HeldMaps.{fork_at, held_entry}

@@ -1,9 +1,9 @@
 -- What is kept beside the entries of maps, so that few steps tell whether a page may be used.
 use Rattle.std.specs.Prelude.{◌≡◌, ℕ, ◌/◌, ◌-◌, ◌^◌, ◌<◌, List, [], ◌∷◌, Bool, false, Option, None, Some, if◌then◌else◌, nat_eq, length, replicate, slice_index_or}
-use Rattle.plain_model.specs.declared.names.Access.{Access}
-use Rattle.plain_model.specs.declared.names.ForkName.{ForkName}
-use Rattle.plain_model.specs.declared.names.Home.{Home}
-use Rattle.plain_model.specs.declared.names.TheConstants.{MOST_FORKS, SPACE_PAGES}
+use Rattle.machine_names.specs.declared.names.Access.{Access}
+use Rattle.machine_names.specs.declared.names.ForkName.{ForkName}
+use Rattle.machine_names.specs.declared.homes.Home.{Home}
+use Rattle.machine_names.specs.declared.names.TheConstants.{MOST_FORKS, SPACE_PAGES}
 use Rattle.flat_pages.specs.declared.chain_walk.Use.{Use}
 use Rattle.flat_pages.specs.declared.chain_walk.Use.TheVariants.{Read, Write, Execute, Change}
 use Rattle.flat_pages.specs.declared.held_entry.EntryAt.{EntryAt}

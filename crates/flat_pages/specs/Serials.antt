@@ -1,7 +1,7 @@
 -- The next page serial of each owner.
 use Rattle.std.specs.Prelude.{ℕ, ◌+◌, if◌then◌else◌, slice_index, slice_set}
-use Rattle.plain_model.specs.declared.names.Tty.{Tty}
-use Rattle.plain_model.specs.State.{is_console}
+use Rattle.machine_names.specs.declared.names.Tty.{Tty}
+use Rattle.plain_pages.specs.PlainPages.{is_console}
 use Rattle.flat_pages.specs.declared.page_serials.PageSerials.{PageSerials}
 
 -- the next serial of an owner

@@ -3,19 +3,19 @@ use Rattle.std.specs.Prelude.{◌≡◌, ℕ, ◌+◌, ◌≤◌, List, length, 
 use Rattle.std.specs.Option.{option_map, option_and_then}
 use Rattle.std.specs.FinMap as map
 use Rattle.std.proofs.Common.{refl, sym, ◌∙◌, ap, subst}
-use Rattle.plain_model.specs.declared.names.ForkName.{ForkName}
-use Rattle.plain_model.specs.declared.names.PageName.{PageName}
-use Rattle.plain_model.specs.declared.names.Slot.{Slot}
-use Rattle.plain_model.specs.declared.names.TheConstants.{MOST_FORKS}
-use Rattle.plain_model.specs.declared.map.Found.{Found}
-use Rattle.plain_model.specs.declared.map.SpaceHandle.{SpaceHandle}
-use Rattle.plain_model.specs.declared.map.Seen.{Seen}
-use Rattle.plain_model.specs.declared.map.Seen.TheVariants.{Is, Missing}
-use Rattle.plain_model.specs.Outcome.{DrumWords}
-use Rattle.plain_model.specs.Room.{live}
-use Rattle.plain_model.specs.Whole.{AreWhole}
-use Rattle.plain_model.specs.Stores.{StoreMeaning, IsSound, CanLeave, AllStay, FitsHomes, HomePlace, away, place}
-use Rattle.plain_model.specs.Pages.{PagesMeaning, Agrees, AreHoused}
+use Rattle.machine_names.specs.declared.names.ForkName.{ForkName}
+use Rattle.machine_names.specs.declared.names.PageName.{PageName}
+use Rattle.machine_names.specs.declared.names.Slot.{Slot}
+use Rattle.machine_names.specs.declared.names.TheConstants.{MOST_FORKS}
+use Rattle.page_contracts.specs.declared.answers.Found.{Found}
+use Rattle.page_contracts.specs.declared.answers.SpaceHandle.{SpaceHandle}
+use Rattle.page_contracts.specs.declared.answers.Seen.{Seen}
+use Rattle.page_contracts.specs.declared.answers.Seen.TheVariants.{Is, Missing}
+use Rattle.page_contracts.specs.DrumWords.{DrumWords}
+use Rattle.plain_pages.specs.Room.{live}
+use Rattle.plain_pages.specs.WholePages.{AreWhole}
+use Rattle.page_contracts.specs.Stores.{StoreMeaning, IsSound, CanLeave, AllStay, FitsHomes, HomePlace, away, place}
+use Rattle.page_contracts.specs.Pages.{PagesMeaning, Agrees, AreHoused}
 use Rattle.flat_pages.specs.declared.held_entry.HeldEntry.{HeldEntry}
 use Rattle.flat_pages.specs.Serials.{serial_of}
 use Rattle.flat_pages.specs.HeldMaps.{index_of, held_entry, entry_of, living_of, maps_held}

@@ -1,17 +1,16 @@
 -- What steps do to a store and to the tables beside it.
 use Rattle.std.specs.Prelude.{◌≡◌, Some}
-use Rattle.plain_model.specs.Maps.{narrowed}
-use Rattle.plain_model.specs.declared.names.Access.{Access}
-use Rattle.plain_model.specs.declared.names.Home.{Home}
-use Rattle.plain_model.specs.declared.names.Tty.{Tty}
-use Rattle.plain_model.specs.Stores.{StoreMeaning, HomePlace, IsMade}
+use Rattle.plain_pages.specs.Maps.{narrowed}
+use Rattle.machine_names.specs.declared.names.Access.{Access}
+use Rattle.machine_names.specs.declared.homes.Home.{Home}
+use Rattle.machine_names.specs.declared.names.Tty.{Tty}
+use Rattle.page_contracts.specs.Stores.{StoreMeaning, HomePlace, IsMade, FitsHomes}
+use Rattle.machine_names.specs.declared.names.Slot.{Slot}
+use Rattle.page_contracts.specs.DrumWords.{DrumWords}
+use Rattle.plain_pages.specs.References.{with_entry as entry_put}
+use Rattle.page_contracts.specs.Pages.{StaysInCore}
 use Rattle.flat_pages.specs.declared.held_entry.EntryAt.{EntryAt}
 use Rattle.flat_pages.specs.declared.map_tables.MapTables.{MapTables}
-use Rattle.plain_model.specs.declared.names.Slot.{Slot}
-use Rattle.plain_model.specs.Outcome.{DrumWords}
-use Rattle.plain_model.specs.References.{with_entry as entry_put}
-use Rattle.plain_model.specs.Pages.{StaysInCore}
-use Rattle.plain_model.specs.Stores.{FitsHomes}
 use Rattle.flat_pages.specs.declared.held_entry.HeldEntry.{HeldEntry}
 use Rattle.flat_pages.specs.declared.held_entry.HeldEntry.TheVariants.{Empty, Page, Follows}
 use Rattle.flat_pages.specs.HeldMaps.{with_entry, entry_of}

@@ -1,18 +1,18 @@
 -- What references find of maps in memory over a store, and what is in frames.
 use Rattle.std.specs.Prelude.{ℕ, ◌+◌, List, [], ◌∷◌, Bool, true, false, Option, None, Some, if◌then◌else◌, ◌==◌, nat_le}
 use Rattle.std.specs.Option.{option_map_or, option_and_then}
-use Rattle.plain_model.specs.declared.names.PageName.{PageName}
-use Rattle.plain_model.specs.declared.names.Home.{Home}
-use Rattle.plain_model.specs.declared.names.Kind.{Kind}
-use Rattle.plain_model.specs.declared.names.Kind.TheVariants.{Read, Write, Execute}
-use Rattle.plain_model.specs.declared.names.Place.{Place}
-use Rattle.plain_model.specs.declared.names.Place.TheVariants.{Fork, File}
-use Rattle.plain_model.specs.declared.names.Slot.{Slot}
-use Rattle.plain_model.specs.declared.map.Touch.{Touch}
-use Rattle.plain_model.specs.declared.map.Touch.TheVariants.{Ready, Zero, Copy, Denied, Full}
-use Rattle.plain_model.specs.Room.{same_page}
-use Rattle.plain_model.specs.Pages.{Scene, absent_or, framed}
-use Rattle.plain_model.specs.Stores.{HomePlace, free, away, here, place}
+use Rattle.machine_names.specs.declared.names.PageName.{PageName}
+use Rattle.machine_names.specs.declared.homes.Home.{Home}
+use Rattle.machine_names.specs.declared.names.Kind.{Kind}
+use Rattle.machine_names.specs.declared.names.Kind.TheVariants.{Read, Write, Execute}
+use Rattle.machine_names.specs.declared.names.Place.{Place}
+use Rattle.machine_names.specs.declared.names.Place.TheVariants.{Fork, File}
+use Rattle.machine_names.specs.declared.names.Slot.{Slot}
+use Rattle.page_contracts.specs.declared.answers.Touch.{Touch}
+use Rattle.page_contracts.specs.declared.answers.Touch.TheVariants.{Ready, Zero, Copy, Denied, Full}
+use Rattle.plain_pages.specs.Room.{same_page}
+use Rattle.page_contracts.specs.Pages.{Scene, absent_or, framed}
+use Rattle.page_contracts.specs.Stores.{HomePlace, free, away, here, place}
 use Rattle.flat_pages.specs.declared.held_entry.EntryAt.{EntryAt}
 use Rattle.flat_pages.specs.declared.held_entry.HeldEntry.{HeldEntry}
 use Rattle.flat_pages.specs.declared.held_entry.HeldEntry.TheVariants.{Page}

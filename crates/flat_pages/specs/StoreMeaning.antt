@@ -6,9 +6,9 @@ use Rattle.std.proofs.Math.Nat.{le_of_sub-eq-zero, not-suc-le-zero}
 use Rattle.std.proofs.lemmas.Bool.{true≢false}
 use Rattle.std.proofs.lemmas.List.{length-map, map-set}
 use Rattle.outside.specs.Drums.{IsPage}
-use Rattle.plain_model.specs.declared.names.TheConstants.{MOST_HOMES}
-use Rattle.plain_model.specs.declared.map.Found.{Found}
-use Rattle.plain_model.specs.Stores.{StoreMeaning, IsSound, HomePlace, free, here, place, is_taken, is_here, free_homes}
+use Rattle.machine_names.specs.declared.homes.TheConstants.{MOST_HOMES}
+use Rattle.page_contracts.specs.declared.answers.Found.{Found}
+use Rattle.page_contracts.specs.Stores.{StoreMeaning, IsSound, HomePlace, free, here, place, is_taken, is_here, free_homes}
 use Rattle.flat_pages.specs.declared.flat_store.FlatStore.{FlatStore}
 use Rattle.flat_pages.specs.StoredLists.{pages_of}
 use Rattle.flat_pages.specs.StoredPages.{StoredPage, free_page, stored_at, place_of, places_of, found_at}

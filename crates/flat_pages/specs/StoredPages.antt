@@ -2,11 +2,11 @@
 use Rattle.std.specs.Prelude.{◌≡◌, ℕ, ◌<◌, ◌≤◌, List, [], ◌∷◌, Bool, false, if◌then◌else◌, Option, None, Some, length, map, slice_index_or}
 use Rattle.std.specs.List.{range_with_len}
 use Rattle.outside.specs.Drums.{IsPage}
-use Rattle.plain_model.specs.declared.names.Home.{Home}
-use Rattle.plain_model.specs.declared.names.TheConstants.{MOST_HOMES}
-use Rattle.plain_model.specs.declared.map.Found.{Found}
-use Rattle.plain_model.specs.References.{zero_words}
-use Rattle.plain_model.specs.Stores.{HomePlace, free, here, place, is_taken, free_homes}
+use Rattle.machine_names.specs.declared.homes.Home.{Home}
+use Rattle.machine_names.specs.declared.homes.TheConstants.{MOST_HOMES}
+use Rattle.page_contracts.specs.declared.answers.Found.{Found}
+use Rattle.machine_names.specs.PageWords.{zero_words}
+use Rattle.page_contracts.specs.Stores.{HomePlace, free, here, place, is_taken, free_homes}
 
 -- the page of a home: whether it is taken, and its words, which are nobody's where it is not
 pub record StoredPage : Type 0 where

@@ -1,7 +1,7 @@
 // Walks along the chains of maps in memory.
 ghost use Rattle.std.specs.Prelude.{◌≡◌, ◌<◌, ◌≤◌, None, Some, IsSome, length};
 ghost use Rattle.std.specs.Option.{option_and_then};
-ghost use Rattle.plain_model.specs.Maps.{full_access};
+ghost use Rattle.plain_pages.specs.Maps.{full_access};
 ghost use Rattle.flat_pages.specs.HeldMaps.{AreHeld, fork_at, index_of};
 ghost use Rattle.flat_pages.specs.SlotTouches.{allows, copy_of};
 ghost use Rattle.flat_pages.specs.Walks.{next_at, walk_end, walk_behind, walk_within, use_of, lets, ready_home};
@@ -9,7 +9,7 @@ ghost use Rattle.flat_pages.specs.Walks.{next_at, walk_end, walk_behind, walk_wi
 use crate::held_entry::{EntryAt, HeldEntry, Link};
 use crate::held_map::entry_held;
 use crate::kept_maps::KeptMaps;
-use plain_model::{Access, ForkName, Home, Kind, SPACE_PAGES};
+use machine_names::{Access, ForkName, Home, Kind, SPACE_PAGES};
 
 /// How many entries a chain has at most.
 pub const CHAIN: u32 = 4;

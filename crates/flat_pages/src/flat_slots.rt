@@ -8,11 +8,14 @@ use crate::held_entry::{EntryAt, HeldEntry, Link};
 use crate::held_map::free_map_of;
 use crate::map_tables::MapTables;
 use crate::page_serials::PageSerials;
-use outside::{Drum, Memory, PAGE_WORDS};
-use plain_model::{
-    Access, Completed, ForkName, Found, FrameId, Home, Kind, MOST_HOMES, Need, NewEntry, NewMap,
-    PageName, Pages, Peeked, Place, Room, SPACE_PAGES, Seen, Slot, SpaceHandle, Store, Touch, Tty,
+use machine_names::{
+    Access, ForkName, FrameId, Home, Kind, MOST_HOMES, PageName, Place, SPACE_PAGES, Slot, Tty,
 };
+use outside::{Drum, Memory, PAGE_WORDS};
+use page_contracts::{
+    Completed, Found, Need, Pages, Peeked, Room, Seen, SpaceHandle, Store, Touch,
+};
+use plain_pages::{NewEntry, NewMap};
 use std::alloc::Global;
 use word36::Word;
 
@@ -33,12 +36,12 @@ const WORDS: u32 = PAGE_WORDS as u32;
 impl<S: Store + Drop> FlatSlots<S> {
     ghost use Rattle.std.specs.Prelude.{◌≡◌, ◌≤◌, true, false, IfOk, replicate};
     ghost use Rattle.std.specs.Ordering.{nat_cmp};
-    ghost use Rattle.plain_model.specs.declared.names.Tty.{Tty as ATty};
-    ghost use Rattle.plain_model.specs.declared.names.ForkName.{ForkName as AForkName};
-    ghost use Rattle.plain_model.specs.Pages.{IsOwner};
-    ghost use Rattle.plain_model.specs.Outcome.{DrumWords};
-    ghost use Rattle.plain_model.specs.State.{opening_pages};
-    ghost use Rattle.plain_model.specs.Stores.{free, FitsHomes};
+    ghost use Rattle.machine_names.specs.declared.names.Tty.{Tty as ATty};
+    ghost use Rattle.machine_names.specs.declared.names.ForkName.{ForkName as AForkName};
+    ghost use Rattle.machine_names.specs.Bounds.{IsOwner};
+    ghost use Rattle.page_contracts.specs.DrumWords.{DrumWords};
+    ghost use Rattle.plain_pages.specs.PlainPages.{opening_pages};
+    ghost use Rattle.page_contracts.specs.Stores.{free, FitsHomes};
 
     /// No fork and no page, over a store with so many homes, at most 16,384, all of them free: so many pages
     /// and forks may live. Err: no memory.
@@ -62,10 +65,10 @@ impl<S: Store + Drop> FlatSlots<S> {
 
 impl<S: Store> FlatSlots<S> {
     ghost use Rattle.std.specs.Prelude.{◌≡◌, ◌≤◌, ◌+◌, true, Bool, ℕ, Some, None, IsSome, if◌then◌else◌};
-    ghost use Rattle.plain_model.specs.declared.names.Home.{Home as AHome};
-    ghost use Rattle.plain_model.specs.Pages.{framed};
-    ghost use Rattle.plain_model.specs.Stores.{place, is_taken};
-    ghost use Rattle.plain_model.specs.Pages.{absent_or};
+    ghost use Rattle.machine_names.specs.declared.homes.Home.{Home as AHome};
+    ghost use Rattle.page_contracts.specs.Pages.{framed};
+    ghost use Rattle.page_contracts.specs.Stores.{place, is_taken};
+    ghost use Rattle.page_contracts.specs.Pages.{absent_or};
     ghost use Rattle.flat_pages.specs.declared.held_entry.EntryAt.{EntryAt as AnEntry};
     ghost use Rattle.flat_pages.specs.HeldMaps.{held_entry};
     ghost use Rattle.flat_pages.specs.SlotTouches.{away_at, scene_of, has_room, is_alone, touch_copy, touch_made};
@@ -141,10 +144,10 @@ impl<S: Store> FlatSlots<S> {
 
 impl<S: Store> FlatSlots<S> {
     ghost use Rattle.std.specs.Prelude.{◌≡◌, ◌<◌, ◌^◌, IsSome, Some, true, false, ℕ};
-    ghost use Rattle.plain_model.specs.Maps.{full_access};
-    ghost use Rattle.plain_model.specs.Pages.{IsOwner};
-    ghost use Rattle.plain_model.specs.References.{zero_words};
-    ghost use Rattle.plain_model.specs.Stores.{IsUsed, here, is_here, place};
+    ghost use Rattle.plain_pages.specs.Maps.{full_access};
+    ghost use Rattle.machine_names.specs.Bounds.{IsOwner};
+    ghost use Rattle.machine_names.specs.PageWords.{zero_words};
+    ghost use Rattle.page_contracts.specs.Stores.{IsUsed, here, is_here, place};
     ghost use Rattle.flat_pages.specs.declared.held_entry.HeldEntry.TheVariants as entry;
     ghost use Rattle.flat_pages.specs.Serials.{serial_of};
     ghost use Rattle.flat_pages.specs.HeldMaps.{fork_at, held_entry};
@@ -202,14 +205,14 @@ impl<S: Store> FlatSlots<S> {
 impl<S: Store> FlatSlots<S> {
     ghost use Rattle.std.specs.Prelude.{◌≡◌, ◌<◌, ℕ, IsSome, Some, None, true, false};
     ghost use Rattle.std.specs.Option.{option_and_then};
-    ghost use Rattle.plain_model.specs.declared.names.Access.{Access as AnAccess};
-    ghost use Rattle.plain_model.specs.Stores.{IsFreed};
+    ghost use Rattle.machine_names.specs.declared.names.Access.{Access as AnAccess};
+    ghost use Rattle.page_contracts.specs.Stores.{IsFreed};
     ghost use Rattle.flat_pages.specs.declared.held_entry.HeldEntry.TheVariants as entry;
     ghost use Rattle.flat_pages.specs.declared.held_entry.Link.{Link as ALink};
     ghost use Rattle.flat_pages.specs.HeldMaps.{fork_at, held_entry, points_at};
     ghost use Rattle.std.specs.Prelude.{is_some};
-    ghost use Rattle.plain_model.specs.Pages.{IsPlace};
-    ghost use Rattle.plain_model.specs.declared.names.Slot.{Slot as ASlot};
+    ghost use Rattle.page_contracts.specs.Pages.{IsPlace};
+    ghost use Rattle.machine_names.specs.declared.names.Slot.{Slot as ASlot};
     ghost use Rattle.flat_pages.specs.HeldMaps.{index_of};
     ghost use Rattle.flat_pages.specs.SlotTouches.{is_alone, walk_of};
     ghost use Rattle.flat_pages.specs.TableSteps.{entry_kept, entry_left, home_freed};

@@ -3,8 +3,9 @@ ghost use Rattle.flat_pages.specs.StoredPages.{AreStored};
 ghost use Rattle.flat_pages.specs.StoredLists.{pages_of};
 
 use crate::stored_page::{StoredPages, all_homes, zero_page};
+use machine_names::{FrameId, Home, MOST_HOMES};
 use outside::{Drum, Memory};
-use plain_model::{Completed, Found, FrameId, Home, MOST_HOMES, Need, Room, Store};
+use page_contracts::{Completed, Found, Need, Room, Store};
 use std::alloc::Global;
 use word36::Word;
 
@@ -21,7 +22,7 @@ pub struct FlatStore {
 
 impl FlatStore {
     ghost use Rattle.std.specs.Prelude.{◌≡◌, ◌≤◌, IfOk, replicate};
-    ghost use Rattle.plain_model.specs.Stores.{free};
+    ghost use Rattle.page_contracts.specs.Stores.{free};
 
     /// So many homes, 16,384 at most, all of them free. Err: no memory.
     pub fn boot(alloc: Global, pages: u32) -> Result<FlatStore, Memory>

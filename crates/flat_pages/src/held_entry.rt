@@ -1,9 +1,9 @@
 // Entries of forks' maps as they stand in memory.
 ghost use Rattle.std.specs.Prelude.{◌≡◌};
-ghost use Rattle.plain_model.specs.Maps.{narrowed};
+ghost use Rattle.plain_pages.specs.Maps.{narrowed};
 ghost use Rattle.flat_pages.specs.SlotSteps.{narrow_held};
 
-use plain_model::{Access, Home};
+use machine_names::{Access, Home};
 
 /// An entry of a fork's map: nothing; the page of a home; or an entry of a fork of the same job, that
 /// it follows.

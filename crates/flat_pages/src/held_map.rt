@@ -4,7 +4,7 @@ ghost use Rattle.flat_pages.specs.HeldMaps.{AreHeld, no_page, free_map, map_at, 
 
 use crate::chain_walk::FULL_ACCESS;
 use crate::held_entry::{EntryAt, HeldEntry, Link};
-use plain_model::{ForkName, MOST_FORKS, SPACE_PAGES, TERMINALS, Tty};
+use machine_names::{ForkName, MOST_FORKS, SPACE_PAGES, TERMINALS, Tty};
 use std::alloc::{AllocError, Global};
 
 /// How many maps there is room for: those of the forks that a terminal may have stand in a row.

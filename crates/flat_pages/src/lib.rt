@@ -1,6 +1,6 @@
 //! The pages of forks in memory, and maps of forks in memory over any store of pages.
 //! To the layers above `FlatSlots` is a `Pages`, and `FlatStore` a `Store` in which nothing is ever away.
-//! Stands on `plain_model` for the definitions and the contracts of both.
+//! Stands on `plain_pages` for the definitions, and on `page_contracts` for the contracts of both.
 #![tactic(auto)]
 
 mod chain_walk;

@@ -4,7 +4,7 @@ ghost use Rattle.flat_pages.specs.Looks.{uses_of, no_uses, no_look, look_of, use
 
 use crate::chain_walk::Use;
 use crate::held_entry::HeldEntry;
-use plain_model::{Access, MOST_FORKS};
+use machine_names::{Access, MOST_FORKS};
 
 /// In how many ways a page is used.
 pub const USES: usize = 4;

@@ -1,11 +1,11 @@
 // The tables beside a store: the maps of forks, the names of pages, and how often each is named.
 ghost use Rattle.std.specs.Prelude.{◌≡◌, ◌<◌, ◌≤◌, ◌+◌, ◌^◌, false, is_some, None, Some, IsSome, IfOk, List, length, replicate, slice_set};
 ghost use Rattle.std.specs.Option.{option_map};
-ghost use Rattle.plain_model.specs.Pages.{IsOwner};
-ghost use Rattle.plain_model.specs.Stores.{HomePlace, free};
-ghost use Rattle.plain_model.specs.declared.names.TheConstants.{TERMINALS, MOST_FORKS};
+ghost use Rattle.machine_names.specs.Bounds.{IsOwner};
+ghost use Rattle.page_contracts.specs.Stores.{HomePlace, free};
+ghost use Rattle.machine_names.specs.declared.names.TheConstants.{TERMINALS, MOST_FORKS};
 ghost use Rattle.flat_pages.specs.Serials.{serial_of, with_next};
-ghost use Rattle.plain_model.specs.State.{first_serials};
+ghost use Rattle.plain_pages.specs.PlainPages.{first_serials};
 ghost use Rattle.flat_pages.specs.declared.held_map.TheConstants.{MOST_MAPS};
 ghost use Rattle.flat_pages.specs.HeldMaps.{free_map, AreHeld, map_at, followers, held_entry, with_entry, index_of, first_map, entry_of, name_of};
 ghost use Rattle.flat_pages.specs.SlotTables.{share_of};
@@ -17,7 +17,8 @@ use crate::held_entry::{EntryAt, HeldEntry};
 use crate::held_map::entry_held;
 use crate::kept_maps::KeptMaps;
 use crate::page_serials::PageSerials;
-use plain_model::{Access, ForkName, Home, MapEntry, PageName, SPACE_PAGES, Slot, Tty};
+use machine_names::{Access, ForkName, Home, PageName, SPACE_PAGES, Slot, Tty};
+use plain_pages::MapEntry;
 use std::alloc::{AllocError, Global};
 
 /// For each home the name of its page, where it has one, and how many entries name it; the maps of forks; the

@@ -1,10 +1,10 @@
 // The next page serial of each owner.
 ghost use Rattle.std.specs.Prelude.{◌≡◌, ◌<◌, ◌^◌, length};
-ghost use Rattle.plain_model.specs.Pages.{IsOwner};
-ghost use Rattle.plain_model.specs.State.{first_serials};
+ghost use Rattle.machine_names.specs.Bounds.{IsOwner};
+ghost use Rattle.plain_pages.specs.PlainPages.{first_serials};
 ghost use Rattle.flat_pages.specs.Serials.{serial_of, with_next};
 
-use plain_model::{TERMINALS, Tty};
+use machine_names::{TERMINALS, Tty};
 
 /// The next page serial of each terminal, and of the console.
 #[derive(Drop)]

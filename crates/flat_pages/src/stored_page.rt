@@ -1,10 +1,10 @@
 // Pages as a store in memory keeps them.
 ghost use Rattle.std.specs.Prelude.{◌≡◌, false, length, replicate, IfOk};
-ghost use Rattle.plain_model.specs.References.{zero_words};
+ghost use Rattle.machine_names.specs.PageWords.{zero_words};
 ghost use Rattle.flat_pages.specs.StoredPages.{homes_below};
 
+use machine_names::Home;
 use outside::PAGE_WORDS;
-use plain_model::Home;
 use std::alloc::{AllocError, Global};
 use word36::Word;
 

@@ -1,12 +1,11 @@
 // What becomes of the pages of two forks, step by step.
 ghost use Rattle.std.specs.Prelude.{◌≡◌, ◌≤◌, ◌<◌, ◌+◌, true, false, length};
-ghost use Rattle.plain_model.specs.Pages.{IsPlace, is_entry};
+ghost use Rattle.page_contracts.specs.Pages.{IsPlace, is_entry};
 
 use crate::{FlatSlots, FlatStore};
-use plain_model::{
-    Access, ForkName, Kind, NewEntry, NewMap, Pages, Place, Room, SPACE_PAGES, Seen, Slot, Touch,
-    Tty,
-};
+use machine_names::{Access, ForkName, Kind, Place, SPACE_PAGES, Slot, Tty};
+use page_contracts::{Pages, Room, Seen, Touch};
+use plain_pages::{NewEntry, NewMap};
 use std::test::Fail;
 use word36::Word;
 

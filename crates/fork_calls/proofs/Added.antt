@@ -5,27 +5,28 @@ use Rattle.std.specs.List.{filter_map, range_with_len}
 use Rattle.std.specs.Option.{option_map_or}
 use Rattle.std.specs.FinMap as map
 use Rattle.std.proofs.lemmas.Bool.{cases_eq, leb-false}
-use Rattle.plain_model.specs.declared.names.Tty.{Tty}
-use Rattle.plain_model.specs.declared.names.ForkName.{ForkName}
-use Rattle.plain_model.specs.declared.names.TheConstants.{MOST_FORKS, SPACE_PAGES}
-use Rattle.plain_model.specs.declared.map.MapEntry.TheVariants.{Empty, Follows}
-use Rattle.plain_model.specs.declared.map.NewMap.{NewMap}
-use Rattle.plain_model.specs.declared.map.NewMap.TheVariants.{Empty as EmptyMap, FollowAll}
-use Rattle.plain_model.specs.declared.store.Room.TheVariants.{Enough, NeedFrame, Full}
+use Rattle.machine_names.specs.declared.names.Tty.{Tty}
+use Rattle.machine_names.specs.declared.names.ForkName.{ForkName}
+use Rattle.machine_names.specs.declared.names.TheConstants.{MOST_FORKS, SPACE_PAGES}
+use Rattle.plain_pages.specs.declared.map.MapEntry.TheVariants.{Empty, Follows}
+use Rattle.plain_pages.specs.declared.map.NewMap.{NewMap}
+use Rattle.plain_pages.specs.declared.map.NewMap.TheVariants.{Empty as EmptyMap, FollowAll}
+use Rattle.page_contracts.specs.declared.store.Room.TheVariants.{Enough, NeedFrame, Full}
 use Rattle.plain_model.specs.declared.fork.Fork.{Fork}
-use Rattle.plain_model.specs.State.{NumberedPages, Map}
-use Rattle.plain_model.specs.Maps.{full_access}
-use Rattle.plain_model.specs.Room.{HasRoom, live, page_in}
-use Rattle.plain_model.specs.NewMaps.{empty_map, following_map, new_map, with_map}
-use Rattle.plain_model.specs.References.{drop_all_unnamed, without_fork}
-use Rattle.plain_model.specs.Whole.{AreWhole}
-use Rattle.plain_model.specs.Limits.{IsTerminal}
-use Rattle.plain_model.specs.Forks.{ForkMap, fork_in, forks_by_slot, same_fork}
-use Rattle.plain_model.specs.Pages.{Agrees, PagesMeaning, room_for as frames_for}
+use Rattle.plain_pages.specs.PlainPages.{NumberedPages, Map}
+use Rattle.plain_pages.specs.Maps.{full_access}
+use Rattle.plain_pages.specs.Room.{HasRoom, live, page_in}
+use Rattle.plain_pages.specs.NewMaps.{empty_map, following_map, new_map, with_map}
+use Rattle.plain_pages.specs.References.{drop_all_unnamed, without_fork}
+use Rattle.plain_pages.specs.WholePages.{AreWhole}
+use Rattle.machine_names.specs.Bounds.{IsTerminal}
+use Rattle.plain_model.specs.Forks.{ForkMap, fork_in, forks_by_slot}
+use Rattle.machine_names.specs.Orders.{same_fork}
+use Rattle.page_contracts.specs.Pages.{Agrees, PagesMeaning, room_for as frames_for}
 use Rattle.plain_model.specs.Trees.{free_slot, is_free}
 use Rattle.plain_model.proofs.ForkMaps.{cases_name, get_put, get_put_other, get_gone, get_gone_other, names_same, same_forks, same_itself}
-use Rattle.plain_model.proofs.OrderLemmas.{fork_cmp_total}
-use Rattle.plain_model.proofs.Whole.{live_whole, map_whole}
+use Rattle.machine_names.proofs.OrderLemmas.{fork_cmp_total}
+use Rattle.plain_pages.proofs.Whole.{live_whole, map_whole}
 use Rattle.fork_tree.specs.Trees.{AreSlotted, Lives}
 use Rattle.fork_tree.proofs.Listed.{full_listed, listed_most}
 use Rattle.fork_tree.proofs.Ranges.{first_tells}

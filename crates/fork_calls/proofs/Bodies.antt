@@ -2,10 +2,10 @@
 use Rattle.std.proofs.Common.{◌≡◌, Bool, Some, refl, sym, ◌∙◌, ap, subst}
 use Rattle.std.specs.FinMap as map
 use Rattle.plain_model.specs.declared.call.ForkChange.TheVariants.{Become, Freeze}
-use Rattle.plain_model.specs.declared.names.ForkName.{ForkName}
+use Rattle.machine_names.specs.declared.names.ForkName.{ForkName}
 use Rattle.plain_model.specs.declared.fork.Fork.{Fork}
 use Rattle.plain_model.specs.declared.fork.Body.{Body}
-use Rattle.plain_model.specs.State.{NumberedPages}
+use Rattle.plain_pages.specs.PlainPages.{NumberedPages}
 use Rattle.plain_model.specs.Trees.{PlainTree, with_body, with_changed_of, with_mark}
 use Rattle.plain_model.specs.ForkCalls.{fork_changed}
 use Rattle.plain_model.proofs.ForkMaps.{AreOwn}

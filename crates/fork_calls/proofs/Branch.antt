@@ -6,16 +6,17 @@ use Rattle.std.specs.Ordering.{nat_cmp}
 use Rattle.std.specs.FinMap as map
 use Rattle.std.proofs.lemmas.Bool.{cases_eq}
 use Rattle.plain_model.specs.declared.call.ForkChange.TheVariants.{Kill}
-use Rattle.plain_model.specs.declared.names.Tty.{Tty}
-use Rattle.plain_model.specs.declared.names.ForkName.{ForkName}
-use Rattle.plain_model.specs.declared.names.TheConstants.{MOST_FORKS}
+use Rattle.machine_names.specs.declared.names.Tty.{Tty}
+use Rattle.machine_names.specs.declared.names.ForkName.{ForkName}
+use Rattle.machine_names.specs.declared.names.TheConstants.{MOST_FORKS}
 use Rattle.plain_model.specs.declared.fork.Fork.{Fork}
-use Rattle.plain_model.specs.Forks.{ForkMap, forks_by_slot, same_fork}
+use Rattle.plain_model.specs.Forks.{ForkMap, forks_by_slot}
+use Rattle.machine_names.specs.Orders.{same_fork}
 use Rattle.plain_model.specs.Inferiors.{is_inferior, last_below}
-use Rattle.plain_model.specs.Limits.{IsTerminal}
-use Rattle.plain_model.specs.Pages.{PagesMeaning}
-use Rattle.plain_model.specs.References.{without_fork}
-use Rattle.plain_model.specs.State.{NumberedPages}
+use Rattle.machine_names.specs.Bounds.{IsTerminal}
+use Rattle.page_contracts.specs.Pages.{PagesMeaning}
+use Rattle.plain_pages.specs.References.{without_fork}
+use Rattle.plain_pages.specs.PlainPages.{NumberedPages}
 use Rattle.plain_model.specs.Trees.{PlainTree, waiters_woken}
 use Rattle.plain_model.specs.ForkCalls.{ForkParts, fork_changed, killed, without, without_below}
 use Rattle.plain_model.proofs.ForkMaps.{cases_name, get_gone, same_itself, names_same}

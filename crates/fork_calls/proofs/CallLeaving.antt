@@ -1,7 +1,7 @@
 -- What a call of a fork leaves, where the forks stay or keep their places.
 use Rattle.std.proofs.Common.{ℕ, ◌∙◌, inl}
-use Rattle.plain_model.specs.declared.names.ForkName.{ForkName}
-use Rattle.plain_model.specs.Pages.{PagesMeaning}
+use Rattle.machine_names.specs.declared.names.ForkName.{ForkName}
+use Rattle.page_contracts.specs.Pages.{PagesMeaning}
 use Rattle.plain_model.specs.Trees.{PlainTree}
 use Rattle.ka10_unit.specs.Carrying.{Grows}
 use Rattle.ka10_unit.proofs.Carried.{grows_none}

@@ -4,11 +4,11 @@ use Rattle.std.specs.Prelude.{◌==◌, is_some}
 use Rattle.std.specs.Int.{bit_at}
 use Rattle.std.specs.Option.{option_map_or}
 use Rattle.std.specs.FinMap as map
-use Rattle.plain_model.specs.declared.channel.TheConstants.{INFERIOR_ENDED}
+use Rattle.plain_units.specs.declared.channel.TheConstants.{INFERIOR_ENDED}
 use Rattle.plain_model.specs.declared.call.ForkChange.TheVariants.{Halt}
-use Rattle.plain_model.specs.declared.names.ForkName.{ForkName}
+use Rattle.machine_names.specs.declared.names.ForkName.{ForkName}
 use Rattle.plain_model.specs.declared.fork.Fork.{Fork}
-use Rattle.plain_model.specs.State.{NumberedPages}
+use Rattle.plain_pages.specs.PlainPages.{NumberedPages}
 use Rattle.plain_model.specs.Forks.{ForkMap, superior_of}
 use Rattle.plain_model.specs.Interrupts.{pended, posted}
 use Rattle.plain_model.specs.Trees.{PlainTree, changed, waiters_woken, with_changed_of, with_posted, end_told}

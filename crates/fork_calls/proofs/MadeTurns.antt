@@ -8,16 +8,16 @@ use Rattle.plain_model.specs.declared.call.TheConstants.{NO_ROOM}
 use Rattle.plain_model.specs.declared.call.End.TheVariants.{Failed}
 use Rattle.plain_model.specs.declared.call.ForkChange.{ForkChange}
 use Rattle.plain_model.specs.declared.call.ForkChange.TheVariants.{Make}
-use Rattle.plain_model.specs.declared.names.ForkName.{ForkName}
-use Rattle.plain_model.specs.declared.map.NewMap.TheVariants.{Empty as EmptyMap, FollowAll}
+use Rattle.machine_names.specs.declared.names.ForkName.{ForkName}
+use Rattle.plain_pages.specs.declared.map.NewMap.TheVariants.{Empty as EmptyMap, FollowAll}
 use Rattle.plain_model.specs.declared.fork.Fork.{Fork}
-use Rattle.plain_model.specs.declared.fork.ForkStatus.TheVariants.{Run, Halted, Forced}
-use Rattle.plain_model.specs.State.{NumberedPages}
-use Rattle.plain_model.specs.Deeds.{in_ac}
+use Rattle.script_texts.specs.declared.status.ForkStatus.TheVariants.{Run, Halted, Forced}
+use Rattle.plain_pages.specs.PlainPages.{NumberedPages}
+use Rattle.plain_units.specs.Deeds.{in_ac}
 use Rattle.plain_model.specs.Forks.{ForkMap, psi_at_rest}
-use Rattle.plain_model.specs.NewMaps.{with_map}
-use Rattle.plain_model.specs.Room.{HasRoom}
-use Rattle.plain_model.specs.Pages.{IsNewMap, Scene, TakesMap}
+use Rattle.plain_pages.specs.NewMaps.{with_map}
+use Rattle.plain_pages.specs.Room.{HasRoom}
+use Rattle.page_contracts.specs.Pages.{IsNewMap, Scene, TakesMap}
 use Rattle.plain_model.specs.Trees.{PlainTree, next_name, with_made}
 use Rattle.plain_model.specs.Calls.{Turn, end_of, ends, made_by, with_added}
 use Rattle.plain_model.specs.ForkCalls.{ForkAsked, fork_changed, made_fork, making, map_wanted, starts, with_accumulators}

@@ -6,17 +6,18 @@ use Rattle.word36.specs.Words.{bit}
 use Rattle.plain_model.specs.declared.call.TheConstants.{CFORK, NO_ROOM}
 use Rattle.plain_model.specs.declared.call.End.{End}
 use Rattle.plain_model.specs.declared.call.ForkChange.{ForkChange}
-use Rattle.plain_model.specs.declared.names.ForkName.{ForkName}
-use Rattle.plain_model.specs.declared.names.Kind.{Kind}
-use Rattle.plain_model.specs.declared.names.Kind.TheVariants.{Read, Write}
-use Rattle.plain_model.specs.declared.names.TheConstants.{ACCUMULATORS}
-use Rattle.plain_model.specs.State.{NumberedPages}
-use Rattle.plain_model.specs.Deeds.{in_ac}
-use Rattle.plain_model.specs.NewMaps.{with_map}
-use Rattle.plain_model.specs.Room.{HasRoom}
+use Rattle.machine_names.specs.declared.names.ForkName.{ForkName}
+use Rattle.machine_names.specs.declared.names.Kind.{Kind}
+use Rattle.machine_names.specs.declared.names.Kind.TheVariants.{Read, Write}
+use Rattle.machine_names.specs.declared.names.TheConstants.{ACCUMULATORS}
+use Rattle.plain_pages.specs.PlainPages.{NumberedPages}
+use Rattle.plain_units.specs.Deeds.{in_ac}
+use Rattle.plain_pages.specs.NewMaps.{with_map}
+use Rattle.plain_pages.specs.Room.{HasRoom}
 use Rattle.plain_model.specs.Trees.{next_name}
-use Rattle.plain_model.specs.Steps.{Planned, done, call, trap, need, stopped as unit_stopped}
-use Rattle.plain_model.specs.Calls.{block_steps, end_of, ends, stepped, steps_on, with_added, with_block}
+use Rattle.plain_units.specs.Steps.{Planned, done, call, trap, need, stopped as unit_stopped}
+use Rattle.plain_units.specs.Blocks.{block_steps, steps_on}
+use Rattle.plain_model.specs.Calls.{end_of, ends, stepped, with_added, with_block}
 use Rattle.plain_model.specs.ForkCalls.{ForkAsked, address_named, making, map_wanted, with_accumulators}
 use Rattle.plain_model.specs.declared.call.End.TheVariants.{Done, Waits, Halts, Refused, Failed, Trap}
 use Rattle.fork_calls.specs.declared.step.Step.{Step}

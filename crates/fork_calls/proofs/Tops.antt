@@ -2,10 +2,11 @@
 use Rattle.std.proofs.Common.{◌≡◌, ◌≢◌, ℕ, true, Option, None, Some, sym, ◌∙◌, ap, inl, inr}
 use Rattle.std.specs.Option.{option_and_then, option_map}
 use Rattle.std.specs.FinMap as map
-use Rattle.plain_model.specs.declared.names.ForkName.{ForkName}
-use Rattle.plain_model.specs.declared.names.TheConstants.{MOST_FORKS}
+use Rattle.machine_names.specs.declared.names.ForkName.{ForkName}
+use Rattle.machine_names.specs.declared.names.TheConstants.{MOST_FORKS}
 use Rattle.plain_model.specs.declared.fork.Fork.{Fork}
-use Rattle.plain_model.specs.Forks.{ForkMap, fork_in, same_fork}
+use Rattle.plain_model.specs.Forks.{ForkMap, fork_in}
+use Rattle.machine_names.specs.Orders.{same_fork}
 use Rattle.plain_model.specs.Inferiors.{is_inferior}
 use Rattle.plain_model.specs.Trees.{PlainTree}
 use Rattle.plain_model.proofs.ForkMaps.{cases_name, get_gone_other, get_put_other}

@@ -7,18 +7,19 @@ use Rattle.plain_model.specs.declared.call.End.{End}
 use Rattle.plain_model.specs.declared.call.End.TheVariants.{Done, Trap as TrapEnd}
 use Rattle.plain_model.specs.declared.call.ForkChange.{ForkChange}
 use Rattle.plain_model.specs.declared.call.ForkChange.TheVariants.{Nothing, Store}
-use Rattle.plain_model.specs.declared.names.ForkName.{ForkName}
-use Rattle.plain_model.specs.declared.names.Kind.{Kind}
-use Rattle.plain_model.specs.declared.names.Kind.TheVariants.{Read}
-use Rattle.plain_model.specs.declared.fork.Regs.{Regs}
-use Rattle.plain_model.specs.State.{NumberedPages}
+use Rattle.machine_names.specs.declared.names.ForkName.{ForkName}
+use Rattle.machine_names.specs.declared.names.Kind.{Kind}
+use Rattle.machine_names.specs.declared.names.Kind.TheVariants.{Read}
+use Rattle.plain_units.specs.declared.registers.Regs.{Regs}
+use Rattle.plain_pages.specs.PlainPages.{NumberedPages}
 use Rattle.plain_model.specs.Trees.{PlainTree}
-use Rattle.plain_model.specs.Deeds.{in_ac}
+use Rattle.plain_units.specs.Deeds.{in_ac}
 use Rattle.plain_model.specs.Forks.{ForkMap}
-use Rattle.plain_model.specs.Steps.{Planned, put_into}
-use Rattle.plain_model.specs.declared.fork.Answer.{Answer}
+use Rattle.plain_units.specs.Steps.{Planned, put_into}
+use Rattle.call_turns.specs.declared.answer.Answer.{Answer}
 use Rattle.plain_model.specs.Calls.{Turn, end_of, ends, made_by, stepped, with_block}
-use Rattle.plain_model.specs.ForkCalls.{ForkAsked, ForkParts, address_named, fork_changed, fork_changed_by, stored_from}
+use Rattle.plain_model.specs.ForkCalls.{ForkAsked, ForkParts, address_named, fork_changed, fork_changed_by}
+use Rattle.plain_units.specs.Blocks.{stored_from}
 use Rattle.ka10_unit.specs.declared.taken.Taken.{Taken}
 use Rattle.ka10_unit.specs.declared.taken.Stop.{Stop}
 use Rattle.ka10_unit.specs.declared.taken.Stop.TheVariants.{Trap, Need}

@@ -1,7 +1,7 @@
 -- Who asks what of which forks.
 use Rattle.std.specs.Prelude.{◌≡◌, true}
-use Rattle.plain_model.specs.declared.names.ForkName.{ForkName}
-use Rattle.plain_model.specs.declared.fork.Regs.{Regs}
+use Rattle.machine_names.specs.declared.names.ForkName.{ForkName}
+use Rattle.plain_units.specs.declared.registers.Regs.{Regs}
 use Rattle.plain_model.specs.Forks.{ForkMap}
 use Rattle.plain_model.specs.Inferiors.{is_inferior}
 use Rattle.plain_model.specs.Trees.{PlainTree}

@@ -2,13 +2,13 @@
 use Rattle.std.specs.Prelude.{◌≡◌, ℕ, List, Result, Ok, Err}
 use Rattle.plain_model.specs.declared.call.End.TheVariants.{Trap as TrapEnd}
 use Rattle.plain_model.specs.declared.call.ForkChange.{ForkChange}
-use Rattle.plain_model.specs.declared.names.ForkName.{ForkName}
-use Rattle.plain_model.specs.declared.names.Kind.{Kind}
-use Rattle.plain_model.specs.declared.fork.Regs.{Regs}
-use Rattle.plain_model.specs.State.{NumberedPages}
+use Rattle.machine_names.specs.declared.names.ForkName.{ForkName}
+use Rattle.machine_names.specs.declared.names.Kind.{Kind}
+use Rattle.plain_units.specs.declared.registers.Regs.{Regs}
+use Rattle.plain_pages.specs.PlainPages.{NumberedPages}
 use Rattle.plain_model.specs.Calls.{Turn, end_of, made_by, with_block}
 use Rattle.plain_model.specs.ForkCalls.{ForkAsked, with_accumulators}
-use Rattle.plain_model.specs.Steps.{stopped, need}
+use Rattle.plain_units.specs.Steps.{stopped, need}
 use Rattle.ka10_unit.specs.declared.taken.Stop.{Stop}
 use Rattle.ka10_unit.specs.declared.taken.Stop.TheVariants.{Trap, Need}
 use Rattle.ka10_unit.specs.Blocks.{block_over}

@@ -4,17 +4,17 @@ use Rattle.plain_model.specs.declared.call.End.{End}
 use Rattle.plain_model.specs.declared.call.End.TheVariants.{Done}
 use Rattle.plain_model.specs.declared.call.ForkChange.{ForkChange}
 use Rattle.plain_model.specs.declared.call.ForkChange.TheVariants.{Kill}
-use Rattle.plain_model.specs.declared.map.Need.{Need}
-use Rattle.plain_model.specs.declared.map.Need.TheVariants as need
-use Rattle.plain_model.specs.declared.map.NewMap.{NewMap}
-use Rattle.plain_model.specs.declared.names.ForkName.{ForkName}
+use Rattle.page_contracts.specs.declared.answers.Need.{Need}
+use Rattle.page_contracts.specs.declared.answers.Need.TheVariants as need
+use Rattle.plain_pages.specs.declared.map.NewMap.{NewMap}
+use Rattle.machine_names.specs.declared.names.ForkName.{ForkName}
 use Rattle.plain_model.specs.Calls.{Turn, sees, finds, takes, adds, ends}
 use Rattle.plain_model.specs.Forks.{ForkMap}
 use Rattle.plain_model.specs.Inferiors.{is_inferior}
-use Rattle.plain_model.specs.NewMaps.{with_map}
-use Rattle.plain_model.specs.Pages.{Scene, TakesMap}
-use Rattle.plain_model.specs.Room.{HasRoom}
-use Rattle.plain_model.specs.Steps.{begun, stopped, need as needs}
+use Rattle.plain_pages.specs.NewMaps.{with_map}
+use Rattle.page_contracts.specs.Pages.{Scene, TakesMap}
+use Rattle.plain_pages.specs.Room.{HasRoom}
+use Rattle.plain_units.specs.Steps.{begun, stopped, need as needs}
 use Rattle.ka10_unit.specs.Gathers.{Framed}
 use Rattle.ka10_unit.specs.Taking.{run_over}
 

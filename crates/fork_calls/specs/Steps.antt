@@ -6,18 +6,18 @@ use Rattle.plain_model.specs.declared.call.End.{End}
 use Rattle.plain_model.specs.declared.call.End.TheVariants.{Done, Waits, Halts, Refused, Failed, Trap}
 use Rattle.plain_model.specs.declared.call.ForkChange.{ForkChange}
 use Rattle.plain_model.specs.declared.call.ForkChange.TheVariants.{Nothing, Make, Kill, Freeze, Become, Halt, Store}
-use Rattle.plain_model.specs.declared.names.Kind.TheVariants.{Read, Write}
-use Rattle.plain_model.specs.declared.names.ForkName.{ForkName}
+use Rattle.machine_names.specs.declared.names.Kind.TheVariants.{Read, Write}
+use Rattle.machine_names.specs.declared.names.ForkName.{ForkName}
 use Rattle.plain_model.specs.declared.fork.Fork.{Fork}
 use Rattle.plain_model.specs.declared.fork.Body.{Body}
-use Rattle.plain_model.specs.declared.fork.Regs.{Regs}
-use Rattle.plain_model.specs.Deeds.{skip_pc}
-use Rattle.plain_model.specs.declared.fork.ForkStatus.TheVariants.{Halted}
+use Rattle.plain_units.specs.declared.registers.Regs.{Regs}
+use Rattle.plain_units.specs.Deeds.{skip_pc}
+use Rattle.script_texts.specs.declared.status.ForkStatus.TheVariants.{Halted}
 use Rattle.plain_model.specs.Forks.{ForkMap, with_status}
 use Rattle.plain_model.specs.Trees.{next_name}
-use Rattle.fork_tree.specs.Making.{slot_for}
 use Rattle.plain_model.specs.Calls.{Turn, adds, ends, returning, with_ac, with_block}
 use Rattle.plain_model.specs.ForkCalls.{ForkAsked, address_named, made_body, map_wanted, making, stored_low, with_accumulators, with_accumulators_of}
+use Rattle.fork_tree.specs.Making.{slot_for}
 use Rattle.fork_tree.specs.Trees.{Lives}
 use Rattle.call_turns.specs.Turns.{FitsEnd}
 use Rattle.fork_calls.specs.declared.step.Step.{Step}

@@ -2,12 +2,12 @@
 use Rattle.std.specs.Prelude.{◌≡◌, Result, Ok, Err, ⊤}
 use Rattle.std.specs.Ordering.{nat_cmp}
 use Rattle.plain_model.specs.declared.call.ForkChange.{ForkChange}
-use Rattle.plain_model.specs.declared.fork.Answer.{Answer}
-use Rattle.plain_model.specs.declared.fork.Answer.TheVariants as answer
-use Rattle.plain_model.specs.declared.map.Need.{Need}
-use Rattle.plain_model.specs.Outcome.{DrumWords}
-use Rattle.plain_model.specs.State.{NumberedPages}
-use Rattle.plain_model.specs.Pages.{PagesMeaning}
+use Rattle.call_turns.specs.declared.answer.Answer.{Answer}
+use Rattle.call_turns.specs.declared.answer.Answer.TheVariants as answer
+use Rattle.page_contracts.specs.declared.answers.Need.{Need}
+use Rattle.page_contracts.specs.DrumWords.{DrumWords}
+use Rattle.plain_pages.specs.PlainPages.{NumberedPages}
+use Rattle.page_contracts.specs.Pages.{PagesMeaning}
 use Rattle.plain_model.specs.Trees.{PlainTree}
 use Rattle.plain_model.specs.Calls.{Turn, end_of}
 use Rattle.plain_model.specs.ForkCalls.{ForkParts, fork_changed, fork_changed_by}

@@ -1,8 +1,8 @@
 // The first step of each fork call, by its definition.
 ghost use Rattle.std.specs.Prelude.{◌≡◌, ◌<◌, ◌^◌};
-ghost use Rattle.plain_model.specs.declared.fork.Regs.{Regs as ARegs};
+ghost use Rattle.plain_units.specs.declared.registers.Regs.{Regs as ARegs};
 ghost use Rattle.plain_model.specs.ForkCalls.{cfork as cfork_of, ffork as ffork_of, hfork as hfork_of, kfork as kfork_of, rfacs as rfacs_of, rfork as rfork_of, rfsts as rfsts_of, sfacs as sfacs_of, sfork as sfork_of, started_at as started_at_of, wfork as wfork_of, has_ended as has_ended_of};
-ghost use Rattle.plain_model.specs.Limits.{IsTerminal};
+ghost use Rattle.machine_names.specs.Bounds.{IsTerminal};
 ghost use Rattle.call_turns.specs.Turns.{IsRegs};
 ghost use Rattle.fork_calls.specs.Asking.{asked};
 ghost use Rattle.fork_calls.specs.Limits.{AreWithin, IsBody};
@@ -13,8 +13,11 @@ use crate::standing::{place_word, status_word};
 use crate::step::Step;
 use call_turns::{returning, with_ac};
 use fork_tree::{NoFork, Tree};
+use machine_names::ForkName;
+use plain_model::Body;
 use plain_model::call::{End, FORKS_FULL, ForkChange, SERIALS_OUT};
-use plain_model::{Body, ForkName, ForkStatus, Regs, WaitOn};
+use plain_units::Regs;
+use script_texts::{ForkStatus, WaitOn};
 use word36::Flags;
 
 /// CFORK: makes an inferior. FORKS_FULL, SERIALS_OUT, NO_ROOM.

@@ -3,7 +3,7 @@ ghost use Rattle.std.specs.Prelude.{◌≡◌, IsOk, IsSome, true};
 ghost use Rattle.std.specs.FinMap as map;
 ghost use Rattle.plain_model.specs.ForkCalls.{fork_changed};
 ghost use Rattle.plain_model.specs.declared.call.ForkChange.{ForkChange as AForkChange};
-ghost use Rattle.plain_model.specs.State.{NumberedPages};
+ghost use Rattle.plain_pages.specs.PlainPages.{NumberedPages};
 ghost use Rattle.plain_model.specs.Trees.{with_changed_of};
 ghost use Rattle.fork_tree.specs.Trees.{IsTree};
 ghost use Rattle.fork_calls.specs.Asking.{IsBelow};
@@ -14,8 +14,11 @@ ghost use Rattle.fork_calls.specs.Turning.{ChangesIf, parts};
 
 use crate::killing::kill;
 use fork_tree::Tree;
+use machine_names::ForkName;
+use page_contracts::{Need, Pages};
+use plain_model::Body;
 use plain_model::call::ForkChange;
-use plain_model::{Body, ForkName, ForkStatus, Need, Pages};
+use script_texts::ForkStatus;
 
 // A fork that lives is halted, whatever its status was.
 fn set_halted(name: ForkName, tree: &mut Tree)

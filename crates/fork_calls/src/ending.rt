@@ -2,7 +2,7 @@
 ghost use Rattle.std.specs.Prelude.{◌≡◌, true};
 ghost use Rattle.plain_model.specs.declared.call.End.{End as AnEnd};
 ghost use Rattle.plain_model.specs.declared.call.ForkChange.{ForkChange as AForkChange};
-ghost use Rattle.plain_model.specs.declared.fork.Regs.{Regs as ARegs};
+ghost use Rattle.plain_units.specs.declared.registers.Regs.{Regs as ARegs};
 ghost use Rattle.call_turns.specs.Answers.{IsDone, answer_of as answer_to};
 ghost use Rattle.call_turns.specs.Turns.{IsRegs, FitsEnd};
 ghost use Rattle.fork_calls.specs.Holding.{CallLeaves, Holds};
@@ -14,11 +14,13 @@ ghost use Rattle.ka10_unit.specs.Taking.{IsTrap};
 ghost use Rattle.fork_calls.specs.declared.step.Step.{Step as AStep};
 
 use crate::changing::change;
-use call_turns::answer_of;
+use call_turns::{Answer, answer_of};
 use fork_tree::Tree;
 use ka10_unit::Stop;
+use machine_names::ForkName;
+use page_contracts::Pages;
 use plain_model::call::{End, ForkChange};
-use plain_model::{Answer, ForkName, Pages, Regs};
+use plain_units::Regs;
 
 /// A turn that is done answers its registers, whatever it has changed.
 pub fn returned(regs: Regs) -> Answer

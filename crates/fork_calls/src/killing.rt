@@ -3,11 +3,11 @@ ghost use Rattle.std.specs.Prelude.{◌≡◌, ◌≤◌, IfErr, IsOk, IsSome, N
 ghost use Rattle.std.specs.FinMap as map;
 ghost use Rattle.plain_model.specs.ForkCalls.{without_below};
 ghost use Rattle.plain_model.specs.declared.call.ForkChange.{ForkChange as AForkChange};
-ghost use Rattle.plain_model.specs.declared.names.TheConstants.{MOST_FORKS};
-ghost use Rattle.plain_model.specs.declared.names.ForkName.{ForkName as AForkName};
-ghost use Rattle.plain_model.specs.declared.names.Tty.{Tty as ATty};
-ghost use Rattle.plain_model.specs.Outcome.{DrumWords};
-ghost use Rattle.plain_model.specs.References.{without_fork};
+ghost use Rattle.machine_names.specs.declared.names.TheConstants.{MOST_FORKS};
+ghost use Rattle.machine_names.specs.declared.names.ForkName.{ForkName as AForkName};
+ghost use Rattle.machine_names.specs.declared.names.Tty.{Tty as ATty};
+ghost use Rattle.page_contracts.specs.DrumWords.{DrumWords};
+ghost use Rattle.plain_pages.specs.References.{without_fork};
 ghost use Rattle.fork_tree.specs.Inferiors.{HasNoInferior};
 ghost use Rattle.fork_calls.specs.Asking.{IsBelow};
 ghost use Rattle.fork_calls.specs.Holding.{CallLeaves, ComeFrom, Holds, MakesPages, TopsStay};
@@ -15,7 +15,8 @@ ghost use Rattle.fork_calls.specs.Turning.{ChangesIf, parts};
 ghost use Rattle.fork_calls.specs.Needing.{AreMapsHere, ChangeNeeds, IsMapAway};
 
 use fork_tree::Tree;
-use plain_model::{ForkName, MOST_FORKS, Need, Pages, Seen, Slot};
+use machine_names::{ForkName, MOST_FORKS, Slot};
+use page_contracts::{Need, Pages, Seen};
 
 // Asks for the map of a fork that lives.
 fn ask_map<P: Pages>(name: ForkName, pages: &P) -> Result<(), Need>

@@ -3,7 +3,7 @@ ghost use Rattle.std.specs.Prelude.{◌≡◌, ◌<◌, ◌≤◌, ◌^◌, ◌/
 ghost use Rattle.std.specs.FinMap as map;
 ghost use Rattle.plain_model.specs.declared.fork.Fork.{Fork as AFork};
 ghost use Rattle.plain_model.specs.ForkCalls.{made_body, made_fork, map_wanted as map_wanted_of};
-ghost use Rattle.plain_model.specs.Outcome.{DrumWords};
+ghost use Rattle.page_contracts.specs.DrumWords.{DrumWords};
 ghost use Rattle.plain_model.specs.Forks.{first_regs};
 ghost use Rattle.plain_model.specs.Trees.{PlainTree, with_changed_of, with_made};
 ghost use Rattle.call_turns.specs.Turns.{IsRegs};
@@ -22,13 +22,16 @@ ghost use Rattle.fork_calls.specs.declared.step.Step.{Step as AStep};
 use crate::ending::{returned, stopped};
 use crate::naming::address_named;
 use crate::words::block;
-use call_turns::{behind, with_ac};
+use call_turns::{Answer, behind, with_ac};
 use fork_tree::Tree;
 use ka10_unit::Stop;
+use machine_names::{ACCUMULATORS, ForkName, Kind};
+use page_contracts::{Need, Pages, Room};
+use plain_model::Body;
 use plain_model::call::{FORK_SELF, NO_ROOM};
-use plain_model::{
-    ACCUMULATORS, Answer, Body, ForkName, ForkStatus, Kind, Need, NewMap, Pages, Regs, Room,
-};
+use plain_pages::NewMap;
+use plain_units::Regs;
+use script_texts::ForkStatus;
 use word36::Word;
 
 // Whether a bit of accumulator 1 is set, which has this value.

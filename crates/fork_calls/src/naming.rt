@@ -1,15 +1,17 @@
 // Whom a call is about.
 ghost use Rattle.std.specs.Prelude.{◌≡◌, IfOk};
 ghost use Rattle.plain_model.specs.ForkCalls.{address_named as address_named_of, fork_named as fork_named_of, if_inferior as if_inferior_of, inferior_named as inferior_named_of, own_named as own_named_of};
-ghost use Rattle.plain_model.specs.Forks.{same_fork};
-ghost use Rattle.plain_model.specs.Limits.{IsAddress};
+ghost use Rattle.machine_names.specs.Orders.{same_fork};
+ghost use Rattle.machine_names.specs.Bounds.{IsAddress};
 ghost use Rattle.call_turns.specs.Turns.{IsRegs};
 ghost use Rattle.fork_tree.specs.Trees.{Lives};
 ghost use Rattle.fork_calls.specs.Asking.{IsBelow, asked};
 
 use fork_tree::Tree;
+use machine_names::ForkName;
+use plain_model::Fork;
 use plain_model::call::{NO_HANDLE, NO_INFERIOR};
-use plain_model::{Fork, ForkName, Regs};
+use plain_units::Regs;
 
 // The fork that the handle in accumulator 1 names; or NO_HANDLE.
 fn fork_named(regs: &Regs, who: ForkName, tree: &Tree) -> Result<Fork, u32>

@@ -8,7 +8,10 @@ ghost use Rattle.fork_calls.specs.Asking.{asked};
 use crate::naming::same_fork;
 use fork_tree::Tree;
 use ka10_unit::{half_of_flags, pc_word};
-use plain_model::{Fork, ForkName, ForkStatus, Regs, WaitOn};
+use machine_names::ForkName;
+use plain_model::Fork;
+use plain_units::Regs;
+use script_texts::{ForkStatus, WaitOn};
 use word36::Word;
 
 /// Bit 0: the fork has a freeze mark of its own.

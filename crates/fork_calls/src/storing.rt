@@ -1,8 +1,8 @@
 // Calls that go over sixteen words of their caller.
 ghost use Rattle.std.specs.Prelude.{◌≡◌, ◌<◌, ◌^◌, if◌then◌else◌, slice_set, true};
 ghost use Rattle.plain_model.specs.ForkCalls.{stored_low as stored_low_of};
-ghost use Rattle.plain_model.specs.Steps.{is_accumulator};
-ghost use Rattle.plain_model.specs.Limits.{IsAddress};
+ghost use Rattle.plain_units.specs.Steps.{is_accumulator};
+ghost use Rattle.machine_names.specs.Bounds.{IsAddress};
 ghost use Rattle.call_turns.specs.Turns.{IsRegs};
 ghost use Rattle.call_turns.specs.Answers.{IsDone};
 ghost use Rattle.ka10_unit.specs.Gathers.{Serves};
@@ -17,10 +17,13 @@ use crate::changing::set_body;
 use crate::ending::{returned, stopped};
 use crate::naming::address_named;
 use crate::words::block;
-use call_turns::behind;
+use call_turns::{Answer, behind};
 use fork_tree::Tree;
 use ka10_unit::store_block;
-use plain_model::{ACCUMULATORS, Answer, Fork, ForkName, Kind, Pages, Regs};
+use machine_names::{ACCUMULATORS, ForkName, Kind};
+use page_contracts::Pages;
+use plain_model::Fork;
+use plain_units::Regs;
 use word36::Word;
 
 // Accumulators with a word stored at an address, where that is an accumulator.

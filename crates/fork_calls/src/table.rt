@@ -2,7 +2,7 @@
 ghost use Rattle.std.specs.Prelude.{◌≡◌};
 ghost use Rattle.plain_model.specs.Calls.{is_among};
 ghost use Rattle.plain_model.specs.ForkCalls.{fork_call, fork_calls};
-ghost use Rattle.plain_model.specs.Limits.{IsTerminal};
+ghost use Rattle.machine_names.specs.Bounds.{IsTerminal};
 ghost use Rattle.call_turns.specs.Turns.{IsRegs};
 ghost use Rattle.fork_calls.specs.Asking.{asked};
 ghost use Rattle.fork_calls.specs.Limits.{AreWithin};
@@ -11,11 +11,12 @@ ghost use Rattle.fork_calls.specs.Steps.{FitsStep, IsStepOf, whole};
 use crate::calls::{cfork, ffork, hfork, kfork, rfacs, rfork, rfsts, sfacs, sfork, wfork};
 use crate::step::Step;
 use fork_tree::Tree;
+use machine_names::ForkName;
 use plain_model::call::{
     CFORK, End, FFORK, HALTF, HFORK, KFORK, RFACS, RFORK, RFSTS, SFACS, SFORK, WFORK,
 };
-use plain_model::channel::ILLEGAL_INSTRUCTION;
-use plain_model::{ForkName, Regs};
+use plain_units::Regs;
+use plain_units::channel::ILLEGAL_INSTRUCTION;
 
 /// The first step of a call by its number. A number that is none of them traps as an illegal instruction.
 #[tactic(auto, using(crate::proofs::Returning::one_return))]

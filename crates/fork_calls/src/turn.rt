@@ -3,7 +3,7 @@ ghost use Rattle.std.specs.Prelude.{◌≡◌, ◌<◌, ◌^◌, IsSome, true};
 ghost use Rattle.std.specs.FinMap as map;
 ghost use Rattle.plain_model.specs.Calls.{end_of};
 ghost use Rattle.plain_model.specs.ForkCalls.{fork_call};
-ghost use Rattle.plain_model.specs.State.{NumberedPages};
+ghost use Rattle.plain_pages.specs.PlainPages.{NumberedPages};
 ghost use Rattle.call_turns.specs.Answers.{IsDone};
 ghost use Rattle.call_turns.specs.Turns.{IsRegs};
 ghost use Rattle.fork_calls.specs.Asking.{asked};
@@ -17,8 +17,11 @@ use crate::making::make;
 use crate::step::Step;
 use crate::storing::{set_accumulators, store_accumulators};
 use crate::table::first;
+use call_turns::Answer;
 use fork_tree::Tree;
-use plain_model::{Answer, ForkName, Pages, Regs};
+use machine_names::ForkName;
+use page_contracts::Pages;
+use plain_units::Regs;
 
 /// One turn of a fork call, by its number (JSYS Manual): its answer is that of the plain call, and so are the forks and
 /// pages that it leaves. It refers first and changes then: it needs something first only where a page that it refers to,

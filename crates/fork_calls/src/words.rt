@@ -1,9 +1,9 @@
 // Sixteen words of the caller.
 ghost use Rattle.std.specs.Prelude.{◌≡◌, ◌<◌, ◌^◌, Ok, IfErr, OnErr, List, ℕ, true};
-ghost use Rattle.plain_model.specs.declared.names.Kind.{Kind as AKind};
-ghost use Rattle.plain_model.specs.declared.names.TheConstants.{ACCUMULATORS};
-ghost use Rattle.plain_model.specs.Limits.{IsAddress};
-ghost use Rattle.plain_model.specs.Outcome.{DrumWords};
+ghost use Rattle.machine_names.specs.declared.names.Kind.{Kind as AKind};
+ghost use Rattle.machine_names.specs.declared.names.TheConstants.{ACCUMULATORS};
+ghost use Rattle.machine_names.specs.Bounds.{IsAddress};
+ghost use Rattle.page_contracts.specs.DrumWords.{DrumWords};
 ghost use Rattle.ka10_unit.specs.Blocks.{AreOpenAt};
 ghost use Rattle.ka10_unit.specs.Carrying.{Grows};
 ghost use Rattle.ka10_unit.specs.Gathers.{Serves, framed};
@@ -11,7 +11,9 @@ ghost use Rattle.ka10_unit.specs.Taking.{IsTrap};
 ghost use Rattle.fork_calls.specs.Blocks.{TookBlock};
 
 use ka10_unit::{Stop, Taken, make_block, refer_block};
-use plain_model::{ForkName, Kind, Pages, Regs};
+use machine_names::{ForkName, Kind};
+use page_contracts::Pages;
+use plain_units::Regs;
 use word36::Word;
 
 /// Refers to sixteen words of a fork from an address on, makes their pages, and takes the words. Err: a page of one, or a

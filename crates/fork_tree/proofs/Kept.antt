@@ -5,13 +5,13 @@ use Rattle.std.specs.Option.{option_and_then}
 use Rattle.std.proofs.lemmas.Bool.{cases_eq, cases_lt}
 use Rattle.std.proofs.lemmas.List.{get_or-replicate, length-replicate}
 use Rattle.std.specs.FinMap as map
-use Rattle.plain_model.specs.Orders.{fork_cmp}
-use Rattle.plain_model.specs.State.{first_serials}
+use Rattle.machine_names.specs.Orders.{fork_cmp}
+use Rattle.plain_pages.specs.PlainPages.{first_serials}
 use Rattle.plain_model.specs.Forks.{ForkMap, fork_in, superior_of}
-use Rattle.plain_model.specs.Limits.{IsForkName, IsTerminal}
-use Rattle.plain_model.specs.declared.names.Tty.{Tty}
-use Rattle.plain_model.specs.declared.names.ForkName.{ForkName}
-use Rattle.plain_model.specs.declared.names.TheConstants.{TERMINALS, MOST_FORKS, LAST_SERIAL}
+use Rattle.machine_names.specs.Bounds.{IsForkName, IsTerminal}
+use Rattle.machine_names.specs.declared.names.Tty.{Tty}
+use Rattle.machine_names.specs.declared.names.ForkName.{ForkName}
+use Rattle.machine_names.specs.declared.names.TheConstants.{TERMINALS, MOST_FORKS, LAST_SERIAL}
 use Rattle.plain_model.specs.declared.fork.Fork.{Fork}
 use Rattle.plain_model.specs.Trees.{changed, free_slot, is_free, new_fork, next_name, PlainTree, next_serial}
 use Rattle.fork_tree.specs.declared.tree.NoFork.TheVariants.{ForksFull, SerialsOut}

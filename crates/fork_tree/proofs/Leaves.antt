@@ -6,13 +6,13 @@ use Rattle.std.specs.Option.{option_and_then, option_eq, option_map_or}
 use Rattle.std.proofs.lemmas.Bool.{cases_Bool, eq-eqb, eqb-true}
 use Rattle.std.specs.FinMap as map
 use Rattle.plain_model.specs.Forks.{ForkMap, fork_in, superior_of}
-use Rattle.plain_model.specs.Pages.{same_fork}
-use Rattle.plain_model.specs.declared.names.ForkName.{ForkName}
-use Rattle.plain_model.specs.declared.names.TheConstants.{MOST_FORKS}
+use Rattle.machine_names.specs.Orders.{same_fork}
+use Rattle.machine_names.specs.declared.names.ForkName.{ForkName}
+use Rattle.machine_names.specs.declared.names.TheConstants.{MOST_FORKS}
 use Rattle.plain_model.specs.declared.fork.Fork.{Fork}
 use Rattle.plain_model.specs.Inferiors.{is_inferior, is_under, is_within}
-use Rattle.fork_tree.specs.Inferiors.{HasNoInferior, IsLeafBelow}
 use Rattle.plain_model.specs.Trees.{PlainTree, next_serial}
+use Rattle.fork_tree.specs.Inferiors.{HasNoInferior, IsLeafBelow}
 use Rattle.fork_tree.specs.Trees.{IsTree, Lives, above}
 use Rattle.fork_tree.proofs.Kept.{IsNobodysSuperior}
 use Rattle.fork_tree.proofs.Ranges.{first_tells, none_tells}

@@ -2,11 +2,11 @@
 use Rattle.std.proofs.Common.{◌≡◌, ℕ, ◌+◌, ◌-◌, ◌<◌, ◌≤◌, Option, None, Some, sym, subst, arith, ◌⊎◌, inl, inr}
 use Rattle.std.proofs.lemmas.Bool.{cases_lt}
 use Rattle.std.specs.Prelude.{MatchOption}
-use Rattle.plain_model.specs.declared.names.Tty.{Tty}
-use Rattle.plain_model.specs.declared.names.ForkName.{ForkName}
-use Rattle.plain_model.specs.declared.names.TheConstants.{TERMINALS, MOST_FORKS}
+use Rattle.machine_names.specs.declared.names.Tty.{Tty}
+use Rattle.machine_names.specs.declared.names.ForkName.{ForkName}
+use Rattle.machine_names.specs.declared.names.TheConstants.{TERMINALS, MOST_FORKS}
 use Rattle.plain_model.specs.declared.fork.Fork.{Fork}
-use Rattle.plain_model.specs.Limits.{IsTerminal}
+use Rattle.machine_names.specs.Bounds.{IsTerminal}
 use Rattle.plain_model.specs.Trees.{PlainTree}
 use Rattle.fork_tree.specs.Trees.{CanRun, IsTree, Lives}
 use Rattle.fork_tree.specs.Turns.{IsFirstIn, IsNext, NoneRunsAmong, NoneRunsIn, place_at, steps_to}

@@ -2,16 +2,16 @@
 use Rattle.std.proofs.Common.{◌≡◌, ℕ, true, false, Option, None, Some, refl, sym, ◌∙◌, ap}
 use Rattle.std.specs.Prelude.{IsSome, is_some}
 use Rattle.std.specs.FinMap as map
-use Rattle.plain_model.specs.Orders.{fork_cmp}
-use Rattle.plain_model.specs.Forks.{ForkMap, fork_in, same_fork}
-use Rattle.plain_model.specs.declared.names.Tty.{Tty}
-use Rattle.plain_model.specs.declared.names.ForkName.{ForkName}
+use Rattle.machine_names.specs.Orders.{fork_cmp, same_fork}
+use Rattle.plain_model.specs.Forks.{ForkMap, fork_in}
+use Rattle.machine_names.specs.declared.names.Tty.{Tty}
+use Rattle.machine_names.specs.declared.names.ForkName.{ForkName}
 use Rattle.plain_model.specs.declared.fork.Fork.{Fork}
-use Rattle.plain_model.proofs.OrderLemmas.{fork_cmp_total}
+use Rattle.machine_names.proofs.OrderLemmas.{fork_cmp_total}
 use Rattle.plain_model.proofs.Values.{found_only}
 use Rattle.plain_model.proofs.ForkMaps.{at_numbers, is_at, numbers_at, slot_tells}
-use Rattle.fork_tree.specs.Trees.{AreSlotted, IsIn, Lives}
 pub use Rattle.plain_model.proofs.ForkMaps.{both_first, both_second, names_same, same_itself, name_numbers, tied, untied, cases_name, get_put, get_put_other, get_gone, get_gone_other, same_forks}
+use Rattle.fork_tree.specs.Trees.{AreSlotted, IsIn, Lives}
 
 -- of forks that have slots of their own, the one in a slot is found, and only that
 module _ (m : ForkMap) (slotted : AreSlotted m) where

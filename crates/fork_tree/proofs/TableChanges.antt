@@ -5,10 +5,10 @@ use Rattle.std.proofs.lemmas.Bool.{cases_eq, cases_lt}
 use Rattle.std.proofs.lemmas.List.{get_or-replicate, get_or_past, length-replicate, set-get_or}
 use Rattle.std.specs.Option.{option_map}
 use Rattle.std.specs.FinMap as map
-use Rattle.plain_model.specs.Orders.{fork_cmp}
-use Rattle.plain_model.specs.Limits.{IsForkName}
-use Rattle.plain_model.specs.declared.names.ForkName.{ForkName}
-use Rattle.plain_model.specs.declared.names.TheConstants.{TERMINALS, MOST_FORKS, LAST_SERIAL}
+use Rattle.machine_names.specs.Orders.{fork_cmp}
+use Rattle.machine_names.specs.Bounds.{IsForkName}
+use Rattle.machine_names.specs.declared.names.ForkName.{ForkName}
+use Rattle.machine_names.specs.declared.names.TheConstants.{TERMINALS, MOST_FORKS, LAST_SERIAL}
 use Rattle.plain_model.specs.declared.fork.Fork.{Fork}
 use Rattle.plain_model.specs.Trees.{changed}
 use Rattle.fork_tree.specs.Places.{IsTable, StandsAt, forks_of, name_index, place_in}

@@ -5,8 +5,8 @@ use Rattle.std.specs.Option.{option_and_then, option_map_or}
 use Rattle.std.proofs.lemmas.Bool.{cases_Bool, cases_lt}
 use Rattle.std.proofs.lemmas.Bool.Decides.{nat_tests}
 use Rattle.plain_model.specs.Forks.{ForkMap, fork_in, is_frozen, superior_of}
-use Rattle.plain_model.specs.declared.names.Tty.{Tty}
-use Rattle.plain_model.specs.declared.names.TheConstants.{MOST_FORKS}
+use Rattle.machine_names.specs.declared.names.Tty.{Tty}
+use Rattle.machine_names.specs.declared.names.TheConstants.{MOST_FORKS}
 use Rattle.plain_model.specs.declared.fork.Fork.{Fork}
 use Rattle.plain_model.specs.Inferiors.{any_upward}
 use Rattle.plain_model.specs.Trees.{PlainTree}

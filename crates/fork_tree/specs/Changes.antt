@@ -1,11 +1,11 @@
 -- A fork with another body, or with the freeze mark or without it.
 use Rattle.std.specs.Prelude.{ℕ, Bool, Option, None}
 use Rattle.std.specs.Option.{option_map_or}
-use Rattle.plain_model.specs.declared.names.Tty.{Tty}
-use Rattle.plain_model.specs.declared.names.ForkName.{ForkName}
+use Rattle.machine_names.specs.declared.names.Tty.{Tty}
+use Rattle.machine_names.specs.declared.names.ForkName.{ForkName}
 use Rattle.plain_model.specs.declared.fork.Fork.{Fork}
 use Rattle.plain_model.specs.declared.fork.Body.{Body}
-use Rattle.plain_model.specs.declared.fork.ForkStatus.TheVariants.{Halted}
+use Rattle.script_texts.specs.declared.status.ForkStatus.TheVariants.{Halted}
 use Rattle.plain_model.specs.Forks.{fork_in, first_regs, psi_at_rest}
 use Rattle.plain_model.specs.Trees.{PlainTree, changed, with_body, with_changed_of, with_mark}
 

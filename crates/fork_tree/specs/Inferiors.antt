@@ -1,7 +1,7 @@
 -- Who stands below whom, in other words.
 use Rattle.std.specs.Prelude.{◌≡◌, ℕ, ◌≤◌, true, false, Option, None, Some}
 use Rattle.std.specs.FinMap as map
-use Rattle.plain_model.specs.declared.names.ForkName.{ForkName}
+use Rattle.machine_names.specs.declared.names.ForkName.{ForkName}
 use Rattle.plain_model.specs.declared.fork.Fork.{Fork}
 use Rattle.plain_model.specs.Forks.{ForkMap}
 use Rattle.plain_model.specs.Inferiors.{is_inferior}

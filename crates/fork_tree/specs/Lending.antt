@@ -3,16 +3,16 @@ use Rattle.std.specs.Prelude.{ℕ, Option}
 use Rattle.std.specs.Option.{option_map}
 use Rattle.std.specs.Borrow.{Fml, Lends, LendsIf, MutBor}
 use Rattle.std.specs.contracts.option.Option.{the_row as option_row}
-use Rattle.plain_model.specs.declared.names.Tty.{Tty}
-use Rattle.plain_model.specs.declared.names.ForkName.{ForkName}
+use Rattle.machine_names.specs.declared.names.Tty.{Tty}
+use Rattle.machine_names.specs.declared.names.ForkName.{ForkName}
 use Rattle.plain_model.specs.declared.fork.Fork.{Fork}
 use Rattle.plain_model.specs.declared.fork.Body.{Body}
 use Rattle.plain_model.specs.contracts.fork.Fork.{the_row as fork_row}
 use Rattle.plain_model.specs.contracts.fork.Body.{the_row as body_row}
 use Rattle.plain_model.specs.Forks.{ForkMap, fork_in}
+use Rattle.plain_model.specs.Trees.{PlainTree, changed, with_body}
 use Rattle.fork_tree.specs.contracts.fork_table.ForkTable.{the_row as table_row}
 use Rattle.fork_tree.specs.contracts.tree.Tree.{the_row as tree_row}
-use Rattle.plain_model.specs.Trees.{PlainTree, changed, with_body}
 use Rattle.fork_tree.specs.Changes.{with_body_at, with_body_of}
 
 -- the fork in a place then has the body that was left there

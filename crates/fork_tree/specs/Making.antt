@@ -1,12 +1,12 @@
 -- How a fork is made.
 use Rattle.std.specs.Prelude.{◌≡◌, ℕ, Option, Result, Ok, Err, if◌then◌else◌, is_none, nat_lt}
 use Rattle.std.specs.Option.{option_map_or}
-use Rattle.plain_model.specs.declared.names.Tty.{Tty}
-use Rattle.plain_model.specs.declared.names.ForkName.{ForkName}
-use Rattle.plain_model.specs.declared.names.TheConstants.{LAST_SERIAL}
+use Rattle.machine_names.specs.declared.names.Tty.{Tty}
+use Rattle.machine_names.specs.declared.names.ForkName.{ForkName}
+use Rattle.machine_names.specs.declared.names.TheConstants.{LAST_SERIAL}
+use Rattle.plain_model.specs.Trees.{PlainTree, next_serial, next_name, free_slot, new_fork, with_made}
 use Rattle.fork_tree.specs.declared.tree.NoFork.{NoFork}
 use Rattle.fork_tree.specs.declared.tree.NoFork.TheVariants.{ForksFull, SerialsOut}
-use Rattle.plain_model.specs.Trees.{PlainTree, next_serial, next_name, free_slot, new_fork, with_made}
 
 -- whether a job may have a fork more: not where each slot has one, nor where the terminal's serials are used up
 abbrev pub room_for : PlainTree → Tty → Result (Unit {0}) NoFork

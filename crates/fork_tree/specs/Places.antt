@@ -1,12 +1,12 @@
 -- The places of a table of forks: one for each slot of each job, and one for slot 0, which stays free.
 use Rattle.std.specs.Prelude.{◌≡◌, ℕ, ◌+◌, ◌*◌, ◌≤◌, ◌<◌, List, [], ◌∷◌, length, Option, None, Some, slice_index, slice_index_or}
 use Rattle.std.specs.FinMap as map
-use Rattle.plain_model.specs.declared.names.Tty.{Tty}
-use Rattle.plain_model.specs.declared.names.ForkName.{ForkName}
-use Rattle.plain_model.specs.declared.names.TheConstants.{TERMINALS, MOST_FORKS, LAST_SERIAL}
+use Rattle.machine_names.specs.declared.names.Tty.{Tty}
+use Rattle.machine_names.specs.declared.names.ForkName.{ForkName}
+use Rattle.machine_names.specs.declared.names.TheConstants.{TERMINALS, MOST_FORKS, LAST_SERIAL}
 use Rattle.plain_model.specs.declared.fork.Fork.{Fork}
 use Rattle.plain_model.specs.Forks.{ForkMap}
-use Rattle.plain_model.specs.Limits.{IsForkName}
+use Rattle.machine_names.specs.Bounds.{IsForkName}
 
 -- the forks that stand in places, by name
 unfoldable pub forks_of : List (Option Fork) → ForkMap

@@ -3,17 +3,17 @@ use Rattle.std.specs.Prelude.{◌≡◌, ◌↔◌, ℕ, suc, zero, ◌+◌, ◌
 use Rattle.std.specs.Option.{option_and_then}
 use Rattle.std.specs.Coded.{Coded, code_by, coded×, coded_list, coded_ℕ}
 use Rattle.std.specs.FinMap as map
-use Rattle.plain_model.specs.declared.names.Tty.{Tty}
-use Rattle.plain_model.specs.declared.names.ForkName.{ForkName}
-use Rattle.plain_model.specs.declared.names.TheConstants.{TERMINALS, MOST_FORKS, LAST_SERIAL}
+use Rattle.machine_names.specs.declared.names.Tty.{Tty}
+use Rattle.machine_names.specs.declared.names.ForkName.{ForkName}
+use Rattle.machine_names.specs.declared.names.TheConstants.{TERMINALS, MOST_FORKS, LAST_SERIAL}
 use Rattle.plain_model.specs.declared.fork.Fork.{Fork}
-use Rattle.plain_model.specs.declared.fork.ForkStatus.TheVariants.{Run}
-use Rattle.plain_model.specs.contracts.names.ForkName.{the_row as name_row}
+use Rattle.script_texts.specs.declared.status.ForkStatus.TheVariants.{Run}
+use Rattle.machine_names.specs.contracts.names.ForkName.{the_row as name_row}
 use Rattle.plain_model.specs.contracts.fork.Fork.{the_row as fork_row}
 use Rattle.plain_model.specs.Forks.{ForkMap, superior_of, is_frozen}
-use Rattle.plain_model.specs.Limits.{IsForkName}
+use Rattle.machine_names.specs.Bounds.{IsForkName}
 use Rattle.plain_model.specs.Trees.{PlainTree, next_serial}
-use Rattle.plain_model.specs.State.{first_serials}
+use Rattle.plain_pages.specs.PlainPages.{first_serials}
 
 -- no fork lives, and none has
 abbrev pub no_forks : PlainTree

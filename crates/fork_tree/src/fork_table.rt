@@ -5,15 +5,16 @@ ghost use Rattle.std.specs.Borrow.{sem};
 ghost use Rattle.std.specs.FinMap as map;
 ghost use Rattle.plain_model.specs.declared.fork.Fork.{Fork as AFork};
 ghost use Rattle.plain_model.specs.Forks.{fork_in};
-ghost use Rattle.plain_model.specs.Limits.{IsForkName, IsTerminal};
+ghost use Rattle.machine_names.specs.Bounds.{IsForkName, IsTerminal};
 ghost use Rattle.plain_model.specs.Trees.{changed, with_body, with_mark, free_slot as free_slot_of};
 ghost use Rattle.fork_tree.specs.Changes.{body_in};
 ghost use Rattle.fork_tree.specs.Lending.{LendsIn, LendsPlace};
 ghost use Rattle.fork_tree.specs.Places.{IsPlaceOf, name_index, place_in};
 ghost use Rattle.fork_tree.specs.Trees.{AreSlotted, Lives};
 
+use machine_names::{ForkName, LAST_SERIAL, MOST_FORKS, TERMINALS, Tty};
 use outside::Memory;
-use plain_model::{Body, Fork, ForkName, LAST_SERIAL, MOST_FORKS, TERMINALS, Tty};
+use plain_model::{Body, Fork};
 use std::alloc::{AllocError, Global};
 use std::marker::Model;
 
@@ -42,7 +43,7 @@ pub struct ForkTable {
 
 impl Model for ForkTable {
     ghost use Rattle.std.specs.FinMap as map;
-    ghost use Rattle.plain_model.specs.contracts.names.ForkName.{the_row as name_row};
+    ghost use Rattle.machine_names.specs.contracts.names.ForkName.{the_row as name_row};
     ghost use Rattle.plain_model.specs.contracts.fork.Fork.{the_row as fork_row};
     ghost use Rattle.plain_model.specs.Forks.{ForkMap};
     ghost use Rattle.fork_tree.specs.Places.{forks_of, IsTable};

@@ -5,8 +5,9 @@ ghost use Rattle.plain_model.specs.Handles.{named as named_of, named_by};
 ghost use Rattle.fork_tree.specs.Trees.{Lives};
 
 use crate::tree::{Tree, name_of};
+use machine_names::ForkName;
+use plain_model::Fork;
 use plain_model::call::{FIRST_HANDLE, FORK_SELF, FORK_SUPERIOR, LAST_HANDLE};
-use plain_model::{Fork, ForkName};
 
 impl Tree {
     // The fork that a handle of a living fork names.

@@ -8,7 +8,8 @@ ghost use Rattle.fork_tree.specs.Inferiors.{HasNoInferior, IsLastBelow, IsLeafBe
 ghost use Rattle.fork_tree.specs.Trees.{IsIn, Lives};
 
 use crate::tree::Tree;
-use plain_model::{Fork, ForkName, MOST_FORKS};
+use machine_names::{ForkName, MOST_FORKS};
+use plain_model::Fork;
 
 impl Tree {
     // Whether a fork has a superior of this name, or that one has, and so on.

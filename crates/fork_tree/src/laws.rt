@@ -2,11 +2,11 @@
 ghost use Rattle.std.specs.Prelude.{◌≡◌, ◌≢◌, ◌↔◌, ◌≤◌, ◌<◌, ◌||◌, ℕ, Option, Some, None, Ok, Err, Contains, MatchBool, MatchOption, length, true, false};
 ghost use Rattle.std.specs.FinMap as map;
 ghost use Rattle.plain_model.specs.declared.fork.Fork.{Fork as AFork};
-ghost use Rattle.plain_model.specs.declared.names.ForkName.{ForkName as AForkName};
-ghost use Rattle.plain_model.specs.declared.names.Tty.{Tty as ATty};
-ghost use Rattle.plain_model.specs.declared.names.TheConstants.{MOST_FORKS};
+ghost use Rattle.machine_names.specs.declared.names.ForkName.{ForkName as AForkName};
+ghost use Rattle.machine_names.specs.declared.names.Tty.{Tty as ATty};
+ghost use Rattle.machine_names.specs.declared.names.TheConstants.{MOST_FORKS};
 ghost use Rattle.plain_model.specs.Forks.{ForkMap, IsRunnable, fork_in, forks_by_slot, is_frozen};
-ghost use Rattle.plain_model.specs.Pages.{same_fork};
+ghost use Rattle.machine_names.specs.Orders.{same_fork};
 ghost use Rattle.plain_model.specs.State.{PlainState, opening};
 ghost use Rattle.std.specs.Option.{option_map};
 ghost use Rattle.std.specs.Ordering.{nat_cmp};

@@ -2,13 +2,16 @@
 ghost use Rattle.std.specs.Prelude.{◌≡◌, None, Some, IsSome, MatchOption};
 ghost use Rattle.std.specs.FinMap as map;
 ghost use Rattle.plain_model.specs.Forks.{fork_in};
-ghost use Rattle.plain_model.specs.Limits.{IsTerminal};
+ghost use Rattle.machine_names.specs.Bounds.{IsTerminal};
 ghost use Rattle.fork_tree.specs.Inferiors.{HasNoInferior};
 ghost use Rattle.plain_model.specs.Trees.{new_fork, next_name};
 ghost use Rattle.fork_tree.specs.Making.{Makes, room_for, slot_for};
 
 use crate::tree::{NoFork, Tree};
-use plain_model::{ACCUMULATORS, Body, Fork, ForkName, ForkStatus, LAST_SERIAL, Psi, Regs, Tty};
+use machine_names::{ACCUMULATORS, ForkName, LAST_SERIAL, Tty};
+use plain_model::{Body, Fork, Psi};
+use plain_units::Regs;
+use script_texts::ForkStatus;
 use word36::{Flags, Word};
 
 // A new fork, in a slot and under a superior or as a top fork.

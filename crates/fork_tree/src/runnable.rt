@@ -2,14 +2,16 @@
 ghost use Rattle.std.specs.Prelude.{◌≡◌, ◌↔◌, ◌≤◌, ◌<◌, IsTrue, MatchOption, Some, None, true, false};
 ghost use Rattle.std.specs.Option.{option_copied};
 ghost use Rattle.plain_model.specs.declared.fork.Fork.{Fork as AFork};
-ghost use Rattle.plain_model.specs.declared.names.ForkName.{ForkName as AForkName};
+ghost use Rattle.machine_names.specs.declared.names.ForkName.{ForkName as AForkName};
 ghost use Rattle.plain_model.specs.Forks.{is_frozen};
-ghost use Rattle.plain_model.specs.Limits.{IsTerminal};
+ghost use Rattle.machine_names.specs.Bounds.{IsTerminal};
 ghost use Rattle.fork_tree.specs.Trees.{CanRun, IsTree, Lives};
 ghost use Rattle.fork_tree.specs.Turns.{IsFirstAmong, IsFirstIn, IsNext, RunsIn, place_at};
 
 use crate::tree::Tree;
-use plain_model::{Fork, ForkName, ForkStatus, MOST_FORKS, TERMINALS, Tty};
+use machine_names::{ForkName, MOST_FORKS, TERMINALS, Tty};
+use plain_model::Fork;
+use script_texts::ForkStatus;
 
 impl Tree {
     // Whether a fork or one of its ancestors is marked frozen.

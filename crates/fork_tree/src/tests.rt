@@ -1,7 +1,8 @@
 use super::*;
-use plain_model::{
-    ACCUMULATORS, Body, Fork, ForkName, ForkStatus, MOST_FORKS, Psi, Regs, Tty, WaitOn,
-};
+use machine_names::{ACCUMULATORS, ForkName, MOST_FORKS, Tty};
+use plain_model::{Body, Fork, Psi};
+use plain_units::Regs;
+use script_texts::{ForkStatus, WaitOn};
 use std::test::Fail;
 use word36::{Flags, Word};
 

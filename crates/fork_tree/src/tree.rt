@@ -9,8 +9,10 @@ ghost use Rattle.fork_tree.specs.Lending.{LendsAt, LendsOf};
 ghost use Rattle.fork_tree.specs.Trees.{IsTree, no_forks};
 
 use crate::fork_table::ForkTable;
+use machine_names::{ForkName, TERMINALS, Tty};
 use outside::Memory;
-use plain_model::{Body, Fork, ForkName, ForkStatus, TERMINALS, Tty};
+use plain_model::{Body, Fork};
+use script_texts::ForkStatus;
 use std::alloc::Global;
 use std::marker::Model;
 

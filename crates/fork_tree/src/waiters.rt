@@ -4,7 +4,8 @@ ghost use Rattle.plain_model.specs.Forks.{fork_in};
 ghost use Rattle.plain_model.specs.Trees.{changed, unwaited, waiters_woken, without_wait};
 
 use crate::tree::Tree;
-use plain_model::{ForkStatus, MOST_FORKS, Tty, WaitOn};
+use machine_names::{MOST_FORKS, Tty};
+use script_texts::{ForkStatus, WaitOn};
 
 // The status of a fork that no longer waits for one.
 fn without_wait(status: ForkStatus) -> ForkStatus

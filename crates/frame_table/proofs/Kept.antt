@@ -11,10 +11,10 @@ use Rattle.std.proofs.lemmas.List.Sums.{sum_by-set, sum_by-cons, count_by-le-len
 use Rattle.number_map.proofs.Keys.{get_put, get_put_other, get_gone, get_gone_other}
 use Rattle.number_set.proofs.Members as numbers
 use Rattle.number_set.specs.Numbers.{Numbers}
-use Rattle.plain_model.specs.declared.names.Home.{Home}
-use Rattle.plain_model.specs.declared.names.FrameId.{FrameId}
-use Rattle.plain_model.specs.declared.names.TheConstants.{MOST_HOMES}
-use Rattle.plain_model.specs.References.{zero_words}
+use Rattle.machine_names.specs.declared.homes.Home.{Home}
+use Rattle.machine_names.specs.declared.homes.FrameId.{FrameId}
+use Rattle.machine_names.specs.declared.homes.TheConstants.{MOST_HOMES}
+use Rattle.machine_names.specs.PageWords.{zero_words}
 use Rattle.frame_table.specs.declared.tenant.Tenant.{Tenant}
 use Rattle.frame_table.specs.declared.tenant.TheConstants.{MOST_PINS}
 use Rattle.frame_table.specs.Core.{Core, LAST_USE, seat_of, home_in, age_of, IsAway, new_tenant, next_use, with_page, without_page, with_words}

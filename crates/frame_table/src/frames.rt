@@ -1,17 +1,17 @@
 // The frames of core.
 ghost use Rattle.std.specs.Prelude.{◌≡◌, ◌+◌, ◌-◌, ◌<◌, ◌≤◌, Some, None, IsSome, IfOk, IfSome, ℕ, MatchOption, true, false, is_none, count_by, length, replicate, slice_index};
 ghost use Rattle.std.specs.Borrow.{Array, Lends, sem, u64 as number};
-ghost use Rattle.plain_model.specs.References.{zero_words};
+ghost use Rattle.machine_names.specs.PageWords.{zero_words};
 ghost use Rattle.frame_table.specs.Core.{AreAllTaken, IsAway, IsCore, IsLeastFree, IsVictim, age_of, can_leave, holds_of, home_in, is_held, is_moving, pins_of, seat_of, used, with_page, with_tenant, with_words, without_page, words_of};
 ghost use Rattle.frame_table.specs.contracts.frames.Frames.{the_row};
 
 use crate::pages::zero_pages;
 use crate::tenant::Tenant;
 use crate::{Hold, MOST_PINS};
+use machine_names::{FrameId, Home, MOST_HOMES};
 use number_map::NumberMap;
 use number_set::NumberSet;
 use outside::{Memory, PAGE_WORDS};
-use plain_model::{FrameId, Home, MOST_HOMES};
 use std::alloc::Global;
 use std::marker::Model;
 use tournament::Tournament;

@@ -1,6 +1,6 @@
 // The words of frames as a run begins.
 ghost use Rattle.std.specs.Prelude.{◌≡◌, IfOk, replicate};
-ghost use Rattle.plain_model.specs.References.{zero_words};
+ghost use Rattle.machine_names.specs.PageWords.{zero_words};
 
 use outside::PAGE_WORDS;
 use std::alloc::{AllocError, Global};

@@ -1,5 +1,5 @@
 use crate::{Frames, MOST_HOLDS, MOST_PINS};
-use plain_model::{FrameId, Home, MOST_HOMES};
+use machine_names::{FrameId, Home, MOST_HOMES};
 use std::test::Fail;
 
 // A frame for the page of a home that is in none.

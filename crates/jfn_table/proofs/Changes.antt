@@ -7,7 +7,7 @@ use Rattle.std.specs.Ordering.{nat_cmp}
 use Rattle.std.specs.FinMap as map
 use Rattle.number_map.proofs.Keys.{get_put, get_put_other, get_gone, get_gone_other, same}
 use Rattle.number_map.proofs.Full.{IsWithin, len_most}
-use Rattle.plain_model.specs.declared.fork.Jfn.{Jfn}
+use Rattle.machine_names.specs.declared.file.Jfn.{Jfn}
 use Rattle.page_files.specs.declared.bytes.TheConstants.{MOST_FILES}
 use Rattle.jfn_table.specs.declared.jfns.TheConstants.{MOST_JFNS}
 use Rattle.jfn_table.specs.JobFiles.{AreJfns, CountNames, FitsJfn, Held, NamesNowhere, names_in, taken}

@@ -4,8 +4,8 @@ use Rattle.std.specs.Option.{IsSomeAnd}
 use Rattle.std.specs.Ordering.{nat_cmp}
 use Rattle.std.specs.FinMap as map
 use Rattle.number_map.specs.Numbers.{IsLeastFree}
-use Rattle.plain_model.specs.declared.fork.Jfn.{Jfn}
-use Rattle.plain_model.specs.declared.fork.Mode.{Mode}
+use Rattle.machine_names.specs.declared.file.Jfn.{Jfn}
+use Rattle.machine_names.specs.declared.file.Mode.{Mode}
 use Rattle.page_files.specs.declared.bytes.TheConstants.{LARGEST_BYTE, MOST_FILES}
 use Rattle.page_files.specs.Bytes.{IsByteSize, most_bytes}
 use Rattle.jfn_table.specs.declared.jfns.TheConstants.{MOST_JFNS}

@@ -2,7 +2,7 @@
 use Rattle.std.specs.Prelude.{ℕ, List, replicate, slice_index_or}
 use Rattle.std.specs.List.{sum_by}
 use Rattle.std.specs.FinMap as map
-use Rattle.plain_model.specs.declared.names.TheConstants.{TERMINALS}
+use Rattle.machine_names.specs.declared.names.TheConstants.{TERMINALS}
 use Rattle.jfn_table.specs.JobFiles.{Held, names_in}
 
 -- the JFNs of the job at a terminal

@@ -5,10 +5,10 @@ ghost use Rattle.std.specs.FinMap as map;
 ghost use Rattle.page_files.specs.Bytes.{IsByteSize, most_bytes};
 ghost use Rattle.jfn_table.specs.JobFiles.{AreJfns, CanSeek, FitsJfn, TakesLeast, moved, names_in, opened};
 
+use machine_names::{FileNo, Jfn, Mode};
 use number_map::NumberMap;
 use outside::Memory;
 use page_files::{LARGEST_BYTE, MOST_FILES};
-use plain_model::{FileNo, Jfn, Mode};
 use std::alloc::Global;
 use std::marker::Model;
 
@@ -37,7 +37,7 @@ pub struct Jfns {
 impl Model for Jfns {
     ghost use Rattle.std.specs.Coded.{coded_ℕ};
     ghost use Rattle.std.specs.FinMap as map;
-    ghost use Rattle.plain_model.specs.contracts.fork.Jfn.{the_row};
+    ghost use Rattle.machine_names.specs.contracts.file.Jfn.{the_row};
     ghost use Rattle.jfn_table.specs.JobFiles.{AreJfns, CountNames, Held};
 
     ghost Value = { Held };

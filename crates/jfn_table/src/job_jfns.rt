@@ -5,9 +5,9 @@ ghost use Rattle.jfn_table.specs.Jobs.{jfns_of, names_in_all, no_jfns};
 ghost use Rattle.jfn_table.specs.Lending.{LendsJfns};
 
 use crate::Jfns;
+use machine_names::{FileNo, TERMINALS, Tty};
 use outside::Memory;
 use page_files::MOST_FILES;
-use plain_model::{FileNo, TERMINALS, Tty};
 use std::alloc::Global;
 use std::marker::Model;
 
@@ -20,7 +20,7 @@ pub struct JobJfns {
 impl Model for JobJfns {
     ghost use Rattle.std.specs.Prelude.{◌≡◌, List, vec_len};
     ghost use Rattle.std.specs.Coded.{coded_list};
-    ghost use Rattle.plain_model.specs.declared.names.TheConstants.{TERMINALS};
+    ghost use Rattle.machine_names.specs.declared.names.TheConstants.{TERMINALS};
     ghost use Rattle.jfn_table.specs.contracts.jfns.Jfns.{the_row as jfns_row};
     ghost use Rattle.jfn_table.specs.JobFiles.{Held};
 

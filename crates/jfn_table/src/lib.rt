@@ -1,6 +1,6 @@
 //! The JFNs of each job: the files that its programs have named, under small numbers.
 //! To the layers above it is a finite map from numbers to JFNs for each terminal.
-//! Stands on `number_map`, on `page_files` for the bounds of files, and on `plain_model` for JFNs.
+//! Stands on `number_map`, on `page_files` for the bounds of files, and on `machine_names` for JFNs.
 #![tactic(auto)]
 
 mod jfns;

@@ -4,8 +4,8 @@ ghost use Rattle.jfn_table.specs.JobFiles.{taken as new_jfn};
 ghost use Rattle.jfn_table.specs.Jobs.{jfns_of};
 
 use super::*;
+use machine_names::{FileNo, Jfn, Mode, TERMINALS, Tty};
 use page_files::MOST_FILES;
-use plain_model::{FileNo, Jfn, Mode, TERMINALS, Tty};
 use std::test::Fail;
 
 const READ: Mode = Mode { r: true, w: false };

@@ -3,20 +3,21 @@ use Rattle.std.proofs.Common.{◌≡◌, ℕ, zero, suc, ◌<◌, Bool, true, fa
 use Rattle.std.specs.Prelude.{⊤, Ok, Err}
 use Rattle.std.specs.List.{All}
 use Rattle.std.specs.Ordering.{nat_cmp}
-use Rattle.plain_model.specs.declared.names.ForkName.{ForkName}
-use Rattle.plain_model.specs.declared.names.Kind.{Kind}
-use Rattle.plain_model.specs.declared.names.Place.{Place}
-use Rattle.plain_model.specs.declared.names.Place.TheVariants.{Fork}
-use Rattle.plain_model.specs.declared.names.Slot.{Slot}
-use Rattle.plain_model.specs.declared.names.TheConstants.{SPACE_PAGES}
-use Rattle.plain_model.specs.declared.names.Tty.{Tty}
-use Rattle.plain_model.specs.declared.map.Need.{Need as ANeed}
-use Rattle.plain_model.specs.declared.channel.TheConstants.{DRUM_FULL}
-use Rattle.plain_model.specs.State.{NumberedPages}
-use Rattle.plain_model.specs.References.{Referred, granted, in_map, makings, reference, slot_at}
-use Rattle.plain_model.specs.Pages.{PagesMeaning, Scene, Agrees, IsOwner}
-use Rattle.plain_model.specs.Whole.{AreWhole}
-use Rattle.plain_model.specs.Steps.{is_accumulator, asked_at, denied_channel, goes, stops, trap}
+use Rattle.machine_names.specs.declared.names.ForkName.{ForkName}
+use Rattle.machine_names.specs.declared.names.Kind.{Kind}
+use Rattle.machine_names.specs.declared.names.Place.{Place}
+use Rattle.machine_names.specs.declared.names.Place.TheVariants.{Fork}
+use Rattle.machine_names.specs.declared.names.Slot.{Slot}
+use Rattle.machine_names.specs.declared.names.TheConstants.{SPACE_PAGES}
+use Rattle.machine_names.specs.declared.names.Tty.{Tty}
+use Rattle.page_contracts.specs.declared.answers.Need.{Need as ANeed}
+use Rattle.plain_units.specs.declared.channel.TheConstants.{DRUM_FULL}
+use Rattle.plain_pages.specs.PlainPages.{NumberedPages}
+use Rattle.plain_pages.specs.References.{Referred, granted, in_map, makings, reference, slot_at}
+use Rattle.page_contracts.specs.Pages.{PagesMeaning, Scene, Agrees}
+use Rattle.machine_names.specs.Bounds.{IsOwner}
+use Rattle.plain_pages.specs.WholePages.{AreWhole}
+use Rattle.plain_units.specs.Steps.{is_accumulator, asked_at, denied_channel, goes, stops, trap}
 use Rattle.page_gather.specs.declared.reference.PageReference.{PageReference}
 use Rattle.page_gather.specs.declared.reference.Added.{Added}
 use Rattle.page_gather.specs.declared.reference.Added.TheVariants.{Went, Need, Denied, Full}

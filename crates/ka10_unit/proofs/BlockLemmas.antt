@@ -6,19 +6,19 @@ use Rattle.std.proofs.lemmas.List.{set-set}
 use borrow.Author.Tests.{eqb-true, eqb-false}
 use Rattle.outside.specs.declared.TheConstants.{PAGE_WORDS}
 use Rattle.word36.specs.Words.{right}
-use Rattle.plain_model.specs.declared.names.ForkName.{ForkName}
-use Rattle.plain_model.specs.declared.names.Kind.TheVariants.{Write}
-use Rattle.plain_model.specs.declared.names.TheConstants.{ACCUMULATORS}
-use Rattle.plain_model.specs.declared.fork.Regs.{Regs}
-use Rattle.plain_model.specs.declared.map.SpaceHandle.{SpaceHandle}
-use Rattle.plain_model.specs.declared.unit.TheConstants.{MOST_REFERENCES}
-use Rattle.plain_model.specs.State.{NumberedPages}
-use Rattle.plain_model.specs.Outcome.{DrumWords}
-use Rattle.plain_model.specs.Pages.{PagesMeaning}
-use Rattle.plain_model.specs.References.{in_map, slot_at, stored}
-use Rattle.plain_model.specs.Steps.{is_accumulator}
-use Rattle.plain_model.specs.Deeds.{Deed, before, behind_ac, deed_of, in_ac, moves_block}
-use Rattle.plain_model.specs.Instructions.{finishes, with_word}
+use Rattle.machine_names.specs.declared.names.ForkName.{ForkName}
+use Rattle.machine_names.specs.declared.names.Kind.TheVariants.{Write}
+use Rattle.machine_names.specs.declared.names.TheConstants.{ACCUMULATORS}
+use Rattle.plain_units.specs.declared.registers.Regs.{Regs}
+use Rattle.page_contracts.specs.declared.answers.SpaceHandle.{SpaceHandle}
+use Rattle.plain_units.specs.declared.unit.TheConstants.{MOST_REFERENCES}
+use Rattle.plain_pages.specs.PlainPages.{NumberedPages}
+use Rattle.page_contracts.specs.DrumWords.{DrumWords}
+use Rattle.page_contracts.specs.Pages.{PagesMeaning}
+use Rattle.plain_pages.specs.References.{in_map, slot_at, stored}
+use Rattle.plain_units.specs.Steps.{is_accumulator}
+use Rattle.plain_units.specs.Deeds.{Deed, before, behind_ac, deed_of, in_ac, moves_block}
+use Rattle.plain_units.specs.Instructions.{finishes, with_word}
 use Rattle.ka10_unit.specs.declared.committed.Committed.{Committed}
 use Rattle.ka10_unit.specs.declared.ending.Quick.{Quick}
 use Rattle.ka10_unit.specs.Acts.{Instruction, one}

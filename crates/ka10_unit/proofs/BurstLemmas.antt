@@ -1,12 +1,12 @@
 -- Bursts, unit by unit.
 use Rattle.std.proofs.Common.{◌≡◌, ℕ, ◌+◌, ◌<◌, ◌^◌, Option, Some, None, refl, ◌∙◌, ap, subst, add-one}
 use Rattle.std.specs.Ordering.{nat_cmp}
-use Rattle.plain_model.specs.declared.fork.Regs.{Regs}
-use Rattle.plain_model.specs.declared.map.SpaceHandle.{SpaceHandle}
-use Rattle.plain_model.specs.declared.names.ForkName.{ForkName}
-use Rattle.plain_model.specs.Pages.{PagesMeaning, HasSpace, StaysPut}
-use Rattle.plain_model.specs.Outcome.{DrumWords}
-use Rattle.plain_model.specs.State.{NumberedPages}
+use Rattle.plain_units.specs.declared.registers.Regs.{Regs}
+use Rattle.page_contracts.specs.declared.answers.SpaceHandle.{SpaceHandle}
+use Rattle.machine_names.specs.declared.names.ForkName.{ForkName}
+use Rattle.page_contracts.specs.Pages.{PagesMeaning, HasSpace, StaysPut}
+use Rattle.page_contracts.specs.DrumWords.{DrumWords}
+use Rattle.plain_pages.specs.PlainPages.{NumberedPages}
 use Rattle.ka10_unit.specs.declared.ending.Quick.{Quick}
 use Rattle.ka10_unit.specs.declared.ending.Quick.TheVariants as quick
 use Rattle.ka10_unit.specs.declared.ending.End.TheVariants as end

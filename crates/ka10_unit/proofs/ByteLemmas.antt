@@ -6,17 +6,17 @@ use Rattle.ka10_table.specs.declared.families.Family.TheVariants as family
 use Rattle.ka10_table.specs.declared.families.OpMode.TheVariants.{Basic}
 use Rattle.ka10_table.specs.declared.families.TableRow.{TableRow}
 use Rattle.ka10_table.specs.Rows.{row_of}
-use Rattle.plain_model.specs.declared.names.ForkName.{ForkName}
-use Rattle.plain_model.specs.declared.names.Kind.TheVariants.{Read}
-use Rattle.plain_model.specs.declared.fork.Regs.{Regs}
-use Rattle.plain_model.specs.declared.map.SpaceHandle.{SpaceHandle}
-use Rattle.plain_model.specs.declared.unit.TheConstants.{MOST_REFERENCES}
-use Rattle.plain_model.specs.State.{NumberedPages}
-use Rattle.plain_model.specs.Outcome.{DrumWords}
-use Rattle.plain_model.specs.Pages.{PagesMeaning}
-use Rattle.plain_model.specs.Steps.{Steps, refers}
-use Rattle.plain_model.specs.Addressing.{address}
-use Rattle.plain_model.specs.Instructions.{does_byte, does_pointer}
+use Rattle.machine_names.specs.declared.names.ForkName.{ForkName}
+use Rattle.machine_names.specs.declared.names.Kind.TheVariants.{Read}
+use Rattle.plain_units.specs.declared.registers.Regs.{Regs}
+use Rattle.page_contracts.specs.declared.answers.SpaceHandle.{SpaceHandle}
+use Rattle.plain_units.specs.declared.unit.TheConstants.{MOST_REFERENCES}
+use Rattle.plain_pages.specs.PlainPages.{NumberedPages}
+use Rattle.page_contracts.specs.DrumWords.{DrumWords}
+use Rattle.page_contracts.specs.Pages.{PagesMeaning}
+use Rattle.plain_units.specs.Steps.{Steps, refers}
+use Rattle.plain_units.specs.Addressing.{address}
+use Rattle.plain_units.specs.Instructions.{does_byte, does_pointer}
 use Rattle.ka10_unit.specs.declared.committed.Post.{Post}
 use Rattle.ka10_unit.specs.declared.ending.Quick.{Quick}
 use Rattle.ka10_unit.specs.declared.bytes.ByteStep.{ByteStep}

@@ -4,19 +4,19 @@ use Rattle.std.specs.Prelude.{slice_get, slice_set}
 use Rattle.std.specs.Option.{option_and_then, option_map_or}
 use Rattle.std.specs.FinMap as map
 use Rattle.outside.specs.declared.TheConstants.{PAGE_WORDS}
-use Rattle.plain_model.specs.declared.names.Tty.{Tty}
-use Rattle.plain_model.specs.declared.names.ForkName.{ForkName}
-use Rattle.plain_model.specs.declared.names.PageName.{PageName}
-use Rattle.plain_model.specs.declared.names.Slot.{Slot}
-use Rattle.plain_model.specs.declared.names.Kind.{Kind}
-use Rattle.plain_model.specs.declared.names.Kind.TheVariants.{Write}
-use Rattle.plain_model.specs.declared.map.Touch.TheVariants.{Ready}
-use Rattle.plain_model.specs.declared.unit.Put.{Put}
-use Rattle.plain_model.specs.State.{NumberedPages}
-use Rattle.plain_model.specs.References.{Spot, Making, in_map, makings, next_making, page_at, reference, slot_at, stored, words_of}
-use Rattle.plain_model.specs.Pages.{PagesMeaning, Scene, StaysPut, absent_or, announced, touch_of, touched_by}
-use Rattle.plain_model.specs.Steps.{put_into}
-use Rattle.plain_model.proofs.Touches.{reference_stays}
+use Rattle.machine_names.specs.declared.names.Tty.{Tty}
+use Rattle.machine_names.specs.declared.names.ForkName.{ForkName}
+use Rattle.machine_names.specs.declared.names.PageName.{PageName}
+use Rattle.machine_names.specs.declared.names.Slot.{Slot}
+use Rattle.machine_names.specs.declared.names.Kind.{Kind}
+use Rattle.machine_names.specs.declared.names.Kind.TheVariants.{Write}
+use Rattle.page_contracts.specs.declared.answers.Touch.TheVariants.{Ready}
+use Rattle.plain_units.specs.declared.unit.Put.{Put}
+use Rattle.plain_pages.specs.PlainPages.{NumberedPages}
+use Rattle.plain_pages.specs.References.{Spot, Making, in_map, makings, next_making, page_at, reference, slot_at, stored, words_of}
+use Rattle.page_contracts.specs.Pages.{PagesMeaning, Scene, StaysPut, absent_or, announced, touch_of, touched_by}
+use Rattle.plain_units.specs.Steps.{put_into}
+use Rattle.plain_pages.proofs.ReferencesMade.{reference_stays}
 use Rattle.page_gather.specs.Gathering.{IsNear}
 use Rattle.page_gather.proofs.Settling.{near_scene}
 use Rattle.ka10_unit.specs.Carrying.{Grows, StaysAway}

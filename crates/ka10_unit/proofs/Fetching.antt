@@ -2,20 +2,20 @@
 use Rattle.std.proofs.Common.{◌≡◌, ℕ, ◌+◌, ◌/◌, ◌%◌, true, false, cond, List, Option, None, Some, refl, sym, ◌∙◌, ap, arith}
 use Rattle.std.specs.Ordering.{nat_cmp}
 use Rattle.outside.specs.declared.TheConstants.{PAGE_WORDS}
-use Rattle.plain_model.specs.declared.names.ForkName.{ForkName}
-use Rattle.plain_model.specs.declared.names.Kind.{Kind}
-use Rattle.plain_model.specs.declared.names.Kind.TheVariants.{Execute, Write}
-use Rattle.plain_model.specs.declared.fork.Regs.{Regs}
-use Rattle.plain_model.specs.declared.map.Found.{Found}
-use Rattle.plain_model.specs.declared.map.SpaceHandle.{SpaceHandle}
-use Rattle.plain_model.specs.declared.unit.Put.{Put}
-use Rattle.plain_model.specs.declared.unit.TheConstants.{MOST_REFERENCES}
-use Rattle.plain_model.specs.State.{NumberedPages}
-use Rattle.plain_model.specs.Pages.{PagesMeaning, StaysPut}
-use Rattle.plain_model.specs.References.{Making, in_map, slot_at}
-use Rattle.plain_model.specs.Steps.{Steps, refers, widens, keeps, ends, traps, calls, is_accumulator, put_into}
-use Rattle.plain_model.specs.Addressing.{opcode, ac_field}
-use Rattle.plain_model.specs.Instructions.{instruction}
+use Rattle.machine_names.specs.declared.names.ForkName.{ForkName}
+use Rattle.machine_names.specs.declared.names.Kind.{Kind}
+use Rattle.machine_names.specs.declared.names.Kind.TheVariants.{Execute, Write}
+use Rattle.plain_units.specs.declared.registers.Regs.{Regs}
+use Rattle.page_contracts.specs.declared.answers.Found.{Found}
+use Rattle.page_contracts.specs.declared.answers.SpaceHandle.{SpaceHandle}
+use Rattle.plain_units.specs.declared.unit.Put.{Put}
+use Rattle.plain_units.specs.declared.unit.TheConstants.{MOST_REFERENCES}
+use Rattle.plain_pages.specs.PlainPages.{NumberedPages}
+use Rattle.page_contracts.specs.Pages.{PagesMeaning, StaysPut}
+use Rattle.plain_pages.specs.References.{Making, in_map, slot_at}
+use Rattle.plain_units.specs.Steps.{Steps, refers, widens, keeps, ends, traps, calls, is_accumulator, put_into}
+use Rattle.plain_units.specs.Addressing.{opcode, ac_field}
+use Rattle.plain_units.specs.Instructions.{instruction}
 use Rattle.std.specs.Prelude.{nat_le}
 use Rattle.ka10_unit.specs.declared.fetch_page.FetchPage.{FetchPage}
 use Rattle.ka10_unit.specs.Once.{After, once}

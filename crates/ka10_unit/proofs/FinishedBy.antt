@@ -9,8 +9,8 @@ use Rattle.ka10_table.specs.declared.families.Family.TheVariants.{Illegal, Local
 use Rattle.ka10_table.specs.declared.families.OpMode.{OpMode}
 use Rattle.ka10_table.specs.declared.families.OpMode.TheVariants.{Basic, Immediate, Memory, Both, Own}
 use Rattle.ka10_table.specs.declared.families.TableRow.{TableRow}
-use Rattle.plain_model.specs.declared.fork.Regs.{Regs}
-use Rattle.plain_model.specs.Deeds.{Deed, Store, nowhere, back, into, before, behind_ac, by_mode, calls_by_accumulator, calls_by_word, counted_word, deed_of, done_by, halves_up, in_ac, jumps_or_skips, moves, moves_half, operated, pushes_or_pops, steps_by}
+use Rattle.plain_units.specs.declared.registers.Regs.{Regs}
+use Rattle.plain_units.specs.Deeds.{Deed, Store, nowhere, back, into, before, behind_ac, by_mode, calls_by_accumulator, calls_by_word, counted_word, deed_of, done_by, halves_up, in_ac, jumps_or_skips, moves, moves_half, operated, pushes_or_pops, steps_by}
 
 -- whether a store comes before the accumulators
 abbrev is_before : Store → Bool

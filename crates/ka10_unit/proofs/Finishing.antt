@@ -3,21 +3,21 @@ use Rattle.std.proofs.Common.{◌≡◌, ℕ, ◌+◌, ◌/◌, ◌%◌, ◌<◌
 use Rattle.std.specs.Prelude.{nat_le, slice_set, slice_index}
 use Rattle.std.proofs.lemmas.Bool.Decides.{nat_tests}
 use Rattle.outside.specs.declared.TheConstants.{PAGE_WORDS}
-use Rattle.plain_model.specs.declared.names.ForkName.{ForkName}
-use Rattle.plain_model.specs.declared.names.Tty.{Tty}
-use Rattle.plain_model.specs.declared.names.Kind.{Kind}
-use Rattle.plain_model.specs.declared.names.Kind.TheVariants.{Read, Write}
-use Rattle.plain_model.specs.declared.names.TheConstants.{ACCUMULATORS}
-use Rattle.plain_model.specs.declared.fork.Regs.{Regs}
-use Rattle.plain_model.specs.declared.unit.TheConstants.{MOST_REFERENCES}
-use Rattle.plain_model.specs.State.{PlainPages}
-use Rattle.plain_model.specs.Outcome.{DrumWords}
-use Rattle.plain_model.specs.Pages.{PagesMeaning, IsReady}
-use Rattle.plain_model.specs.References.{in_map, makings, slot_at, word_at, stored}
-use Rattle.plain_model.specs.Steps.{Steps, is_accumulator}
-use Rattle.plain_model.specs.Deeds.{Deed, Store, nowhere, back, into, before}
-use Rattle.plain_model.specs.Instructions.{finishes, finishes_by, takes}
-use Rattle.plain_model.proofs.Touches.{ready_touch}
+use Rattle.machine_names.specs.declared.names.ForkName.{ForkName}
+use Rattle.machine_names.specs.declared.names.Tty.{Tty}
+use Rattle.machine_names.specs.declared.names.Kind.{Kind}
+use Rattle.machine_names.specs.declared.names.Kind.TheVariants.{Read, Write}
+use Rattle.machine_names.specs.declared.names.TheConstants.{ACCUMULATORS}
+use Rattle.plain_units.specs.declared.registers.Regs.{Regs}
+use Rattle.plain_units.specs.declared.unit.TheConstants.{MOST_REFERENCES}
+use Rattle.plain_pages.specs.PlainPages.{PlainPages}
+use Rattle.page_contracts.specs.DrumWords.{DrumWords}
+use Rattle.page_contracts.specs.Pages.{PagesMeaning, IsReady}
+use Rattle.plain_pages.specs.References.{in_map, makings, slot_at, word_at, stored}
+use Rattle.plain_units.specs.Steps.{Steps, is_accumulator}
+use Rattle.plain_units.specs.Deeds.{Deed, Store, nowhere, back, into, before}
+use Rattle.plain_units.specs.Instructions.{finishes, finishes_by, takes}
+use Rattle.page_contracts.proofs.Touches.{ready_touch}
 use Rattle.ka10_unit.specs.declared.committed.Post.{Post}
 use Rattle.ka10_unit.specs.declared.committed.Post.TheVariants as post
 use Rattle.ka10_unit.specs.declared.committed.Committed.{Committed}

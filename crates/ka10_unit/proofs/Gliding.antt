@@ -4,18 +4,19 @@ use Rattle.std.specs.Prelude.{nat_le, slice_set, slice_index}
 use Rattle.std.specs.Option.{option_map_or}
 use Rattle.std.proofs.lemmas.List.{length-set, length-append, get_or-replicate}
 use Rattle.outside.specs.declared.TheConstants.{PAGE_WORDS}
-use Rattle.plain_model.specs.declared.names.ForkName.{ForkName}
-use Rattle.plain_model.specs.declared.names.PageName.{PageName}
-use Rattle.plain_model.specs.declared.names.Kind.{Kind}
-use Rattle.plain_model.specs.declared.names.Kind.TheVariants.{Write}
-use Rattle.plain_model.specs.declared.fork.Regs.{Regs}
-use Rattle.plain_model.specs.declared.unit.Reference.{Reference}
-use Rattle.plain_model.specs.declared.unit.TheConstants.{MOST_REFERENCES}
-use Rattle.plain_model.specs.State.{PlainPages}
-use Rattle.plain_model.specs.References.{Making, in_map, makings, slot_at, page_at, words_of, word_at, zero_words}
-use Rattle.plain_model.specs.Steps.{Steps, refers, widens, keeps, ends, traps, calls, is_accumulator, goes, asked_at, Progress, run, plainly, plain_asked, seen, word_taken}
-use Rattle.plain_model.specs.Instructions.{instruction}
-use Rattle.plain_model.proofs.Touches.{reference_stays}
+use Rattle.machine_names.specs.declared.names.ForkName.{ForkName}
+use Rattle.machine_names.specs.declared.names.PageName.{PageName}
+use Rattle.machine_names.specs.declared.names.Kind.{Kind}
+use Rattle.machine_names.specs.declared.names.Kind.TheVariants.{Write}
+use Rattle.plain_units.specs.declared.registers.Regs.{Regs}
+use Rattle.plain_units.specs.declared.unit.Reference.{Reference}
+use Rattle.plain_units.specs.declared.unit.TheConstants.{MOST_REFERENCES}
+use Rattle.plain_pages.specs.PlainPages.{PlainPages}
+use Rattle.plain_pages.specs.References.{Making, in_map, makings, slot_at, page_at, words_of, word_at}
+use Rattle.machine_names.specs.PageWords.{zero_words}
+use Rattle.plain_units.specs.Steps.{Steps, refers, widens, keeps, ends, traps, calls, is_accumulator, goes, asked_at, Progress, run, plainly, plain_asked, seen, word_taken}
+use Rattle.plain_units.specs.Instructions.{instruction}
+use Rattle.plain_pages.proofs.ReferencesMade.{reference_stays}
 use Rattle.ka10_unit.specs.Once.{After, once, went_through}
 use Rattle.ka10_unit.specs.Glide.{makes_none, is_ready, word_of, glide}
 

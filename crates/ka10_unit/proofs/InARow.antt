@@ -3,8 +3,8 @@ use Rattle.std.proofs.Common.{◌≡◌, ◌≢◌, ◌⊎◌, inl, inr, ℕ, ze
 use Rattle.std.specs.Prelude.{◌==◌, if◌then◌else◌}
 use Rattle.std.proofs.lemmas.Bool.Decides.{nat_tests, eqb_tells}
 use Rattle.word36.specs.Words.{left, right, joined, is_negative}
-use Rattle.plain_model.specs.declared.fork.Regs.{Regs}
-use Rattle.plain_model.specs.Deeds.{up, down, halves_up, next_pc, pc_word}
+use Rattle.plain_units.specs.declared.registers.Regs.{Regs}
+use Rattle.plain_units.specs.Deeds.{up, down, halves_up, next_pc, pc_word}
 use Rattle.ka10_unit.specs.Laws.{ups, vector, GoesOver, Moving, moved, CopiesBlock}
 
 -- one word fewer behind one word more is as many

@@ -1,11 +1,11 @@
 -- Effective addresses in place, word by word.
 use Rattle.std.proofs.Common.{◌≡◌, ℕ, suc, ◌+◌, ◌-◌, ◌<◌, ◌≤◌, true, false, List, refl, sym, ◌∙◌, ap, subst, arith, Ordering}
-use Rattle.plain_model.specs.declared.names.ForkName.{ForkName}
-use Rattle.plain_model.specs.declared.names.Kind.TheVariants.{Read}
-use Rattle.plain_model.specs.Pages.{PagesMeaning}
-use Rattle.plain_model.specs.State.{NumberedPages, PlainPages}
-use Rattle.plain_model.specs.Steps.{Steps}
-use Rattle.plain_model.specs.Addressing.{address, address_within, indexed, is_indirect, last_taken, most_words}
+use Rattle.machine_names.specs.declared.names.ForkName.{ForkName}
+use Rattle.machine_names.specs.declared.names.Kind.TheVariants.{Read}
+use Rattle.page_contracts.specs.Pages.{PagesMeaning}
+use Rattle.plain_pages.specs.PlainPages.{NumberedPages, PlainPages}
+use Rattle.plain_units.specs.Steps.{Steps}
+use Rattle.plain_units.specs.Addressing.{address, address_within, indexed, is_indirect, last_taken, most_words}
 use Rattle.ka10_unit.specs.declared.addressing.Address.{Address}
 use Rattle.ka10_unit.specs.Glide.{glide, word_of, Takes, Addressed}
 use Rattle.ka10_unit.specs.Spots.{IsLed, IsReached, addressed}

@@ -1,12 +1,12 @@
 -- Parts of a unit one behind the other, and an instruction that is done on the registers.
 use Rattle.std.proofs.Common.{◌≡◌, ℕ, List, Option, sym, ◌∙◌, ap}
 use Rattle.std.specs.Prelude.{Result, Ok, Err}
-use Rattle.plain_model.specs.declared.names.ForkName.{ForkName}
-use Rattle.plain_model.specs.declared.names.Kind.TheVariants.{Read}
-use Rattle.plain_model.specs.declared.fork.Regs.{Regs}
-use Rattle.plain_model.specs.Steps.{Steps, refers}
-use Rattle.plain_model.specs.Deeds.{Deed, nowhere, back, taken_of, deed_of}
-use Rattle.plain_model.specs.Instructions.{does, does_byte, does_pointer, finishes, takes}
+use Rattle.machine_names.specs.declared.names.ForkName.{ForkName}
+use Rattle.machine_names.specs.declared.names.Kind.TheVariants.{Read}
+use Rattle.plain_units.specs.declared.registers.Regs.{Regs}
+use Rattle.plain_units.specs.Steps.{Steps, refers}
+use Rattle.plain_units.specs.Deeds.{Deed, nowhere, back, taken_of, deed_of}
+use Rattle.plain_units.specs.Instructions.{does, does_byte, does_pointer, finishes, takes}
 use Rattle.ka10_table.specs.declared.families.TableRow.{TableRow}
 use Rattle.ka10_unit.specs.declared.committed.Committed.{Committed}
 use Rattle.ka10_unit.specs.declared.operands.Destination.{Destination}

@@ -9,16 +9,16 @@ use Rattle.ka10_table.specs.declared.families.Family.{Family}
 use Rattle.ka10_table.specs.declared.families.Family.TheVariants.{ByteOp}
 use Rattle.ka10_table.specs.declared.families.TableRow.{TableRow}
 use Rattle.ka10_table.specs.Rows.{row_of}
-use Rattle.plain_model.specs.declared.names.ForkName.{ForkName}
-use Rattle.plain_model.specs.declared.names.Kind.TheVariants.{Write}
-use Rattle.plain_model.specs.declared.names.TheConstants.{ACCUMULATORS}
-use Rattle.plain_model.specs.declared.fork.Regs.{Regs}
-use Rattle.plain_model.specs.declared.map.SpaceHandle.{SpaceHandle}
-use Rattle.plain_model.specs.State.{NumberedPages}
-use Rattle.plain_model.specs.Outcome.{DrumWords}
-use Rattle.plain_model.specs.Pages.{PagesMeaning, StaysPut}
-use Rattle.plain_model.specs.Deeds.{Deed, in_ac, taken_of}
-use Rattle.plain_model.specs.Instructions.{does, finishes, with_word}
+use Rattle.machine_names.specs.declared.names.ForkName.{ForkName}
+use Rattle.machine_names.specs.declared.names.Kind.TheVariants.{Write}
+use Rattle.machine_names.specs.declared.names.TheConstants.{ACCUMULATORS}
+use Rattle.plain_units.specs.declared.registers.Regs.{Regs}
+use Rattle.page_contracts.specs.declared.answers.SpaceHandle.{SpaceHandle}
+use Rattle.plain_pages.specs.PlainPages.{NumberedPages}
+use Rattle.page_contracts.specs.DrumWords.{DrumWords}
+use Rattle.page_contracts.specs.Pages.{PagesMeaning, StaysPut}
+use Rattle.plain_units.specs.Deeds.{Deed, in_ac, taken_of}
+use Rattle.plain_units.specs.Instructions.{does, finishes, with_word}
 use Rattle.ka10_unit.specs.declared.committed.Committed.{Committed}
 use Rattle.ka10_unit.specs.declared.ending.Quick.{Quick}
 use Rattle.ka10_unit.specs.declared.ending.Quick.TheVariants as quick

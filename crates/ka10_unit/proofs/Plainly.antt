@@ -3,22 +3,22 @@ use Rattle.std.proofs.Common.{◌≡◌, ℕ, Bool, true, false, cond, List, [],
 use Rattle.std.specs.Option.{option_and_then, option_or}
 use Rattle.std.specs.Prelude.{length, nat_le}
 use Rattle.std.specs.Ordering.{nat_cmp}
-use Rattle.plain_model.specs.declared.channel.TheConstants.{ILLEGAL_INSTRUCTION}
-use Rattle.plain_model.specs.declared.names.Home.{Home}
-use Rattle.plain_model.specs.declared.map.Need.{Need}
-use Rattle.plain_model.specs.declared.map.Need.TheVariants.{Page, Frame}
-use Rattle.plain_model.specs.declared.names.ForkName.{ForkName}
-use Rattle.plain_model.specs.declared.names.Kind.{Kind}
-use Rattle.plain_model.specs.declared.names.Kind.TheVariants.{Write}
-use Rattle.plain_model.specs.declared.names.Slot.{Slot}
-use Rattle.plain_model.specs.declared.unit.TheConstants.{MOST_REFERENCES}
-use Rattle.plain_model.specs.declared.names.PageName.{PageName}
-use Rattle.plain_model.specs.Maps.{entry_at, maps_on_way}
-use Rattle.plain_model.specs.Pages.{Scene, first_away, map_away, page_away}
-use Rattle.plain_model.specs.References.{Referred, granted, denied, full, in_map, page_at, reference, slot_at}
-use Rattle.plain_model.specs.Room.{live}
-use Rattle.plain_model.specs.State.{NumberedPages}
-use Rattle.plain_model.specs.Steps.{Asked, Planned, Progress, Steps, asked_at, calls, ends, goes, goes_on, is_accumulator, keeps, need, plain_asked, plainly, referred, refers, run, stopped, stops, trap, traps, widened, widens, word_taken}
+use Rattle.plain_units.specs.declared.channel.TheConstants.{ILLEGAL_INSTRUCTION}
+use Rattle.machine_names.specs.declared.homes.Home.{Home}
+use Rattle.page_contracts.specs.declared.answers.Need.{Need}
+use Rattle.page_contracts.specs.declared.answers.Need.TheVariants.{Page, Frame}
+use Rattle.machine_names.specs.declared.names.ForkName.{ForkName}
+use Rattle.machine_names.specs.declared.names.Kind.{Kind}
+use Rattle.machine_names.specs.declared.names.Kind.TheVariants.{Write}
+use Rattle.machine_names.specs.declared.names.Slot.{Slot}
+use Rattle.plain_units.specs.declared.unit.TheConstants.{MOST_REFERENCES}
+use Rattle.machine_names.specs.declared.names.PageName.{PageName}
+use Rattle.plain_pages.specs.Maps.{entry_at, maps_on_way}
+use Rattle.page_contracts.specs.Pages.{Scene, first_away, map_away, page_away}
+use Rattle.plain_pages.specs.References.{Referred, granted, denied, full, in_map, page_at, reference, slot_at}
+use Rattle.plain_pages.specs.Room.{live}
+use Rattle.plain_pages.specs.PlainPages.{NumberedPages}
+use Rattle.plain_units.specs.Steps.{Asked, Planned, Progress, Steps, asked_at, calls, ends, goes, goes_on, is_accumulator, keeps, need, plain_asked, plainly, referred, refers, run, stopped, stops, trap, traps, widened, widens, word_taken}
 use Rattle.page_gather.specs.declared.reference.Added.TheVariants as added
 use Rattle.page_gather.specs.Gathering.{answered, came_to, left_by, most_framed, page_or}
 use Rattle.ka10_unit.specs.Gathers.{Framed, asked_by, asks}

@@ -3,12 +3,13 @@ use Rattle.std.proofs.Common.{◌≡◌, ℕ, ◌%◌, Bool, true, false, Option
 use Rattle.std.specs.Prelude.{◌==◌, ◌&&◌, slice_index}
 use Rattle.std.specs.Option.{option_map_or}
 use Rattle.outside.specs.declared.TheConstants.{PAGE_WORDS}
-use Rattle.plain_model.specs.declared.names.ForkName.{ForkName}
-use Rattle.plain_model.specs.declared.names.PageName.{PageName}
-use Rattle.plain_model.specs.declared.names.Slot.{Slot}
-use Rattle.plain_model.specs.State.{NumberedPages}
-use Rattle.plain_model.specs.Room.{same_page}
-use Rattle.plain_model.specs.References.{in_map, page_at, slot_at, word_at, words_of, zero_words}
+use Rattle.machine_names.specs.declared.names.ForkName.{ForkName}
+use Rattle.machine_names.specs.declared.names.PageName.{PageName}
+use Rattle.machine_names.specs.declared.names.Slot.{Slot}
+use Rattle.plain_pages.specs.PlainPages.{NumberedPages}
+use Rattle.plain_pages.specs.Room.{same_page}
+use Rattle.plain_pages.specs.References.{in_map, page_at, slot_at, word_at, words_of}
+use Rattle.machine_names.specs.PageWords.{zero_words}
 use Rattle.page_gather.specs.Gathering.{are_same}
 use Rattle.ka10_unit.specs.Taking.{stands_at}
 

@@ -5,13 +5,13 @@ use Rattle.ka10_table.specs.declared.families.Family.{Family}
 use Rattle.ka10_table.specs.declared.families.Family.TheVariants.{Illegal, Local, Monitor, ByteOp, Move, Imul, Mul, Idiv, Div, Shift, Jffo, DoubleShift, Exch, Blt, Aobj, Jrst, Jfcl, Xct, Pushj, PushPop, Popj, JsrJsp, JsaJra, AddSub, Compare, JumpSkip, AddOne, SubOne, Boolean, Half, Test}
 use Rattle.ka10_table.specs.declared.families.TableRow.{TableRow}
 use Rattle.ka10_table.specs.Rows.{row_of}
-use Rattle.plain_model.specs.declared.channel.TheConstants.{ILLEGAL_INSTRUCTION}
-use Rattle.plain_model.specs.declared.names.ForkName.{ForkName}
-use Rattle.plain_model.specs.declared.names.Kind.TheVariants.{Execute, Write}
-use Rattle.plain_model.specs.declared.fork.Regs.{Regs}
-use Rattle.plain_model.specs.Steps.{Steps, refers, keeps, stopped, traps, calls, run, begun}
-use Rattle.plain_model.specs.Addressing.{opcode, ac_field}
-use Rattle.plain_model.specs.Instructions.{execute, executes, does, instruction, local_word, LOCAL_CALL, LOCAL_HANDLER}
+use Rattle.plain_units.specs.declared.channel.TheConstants.{ILLEGAL_INSTRUCTION}
+use Rattle.machine_names.specs.declared.names.ForkName.{ForkName}
+use Rattle.machine_names.specs.declared.names.Kind.TheVariants.{Execute, Write}
+use Rattle.plain_units.specs.declared.registers.Regs.{Regs}
+use Rattle.plain_units.specs.Steps.{Steps, refers, keeps, stopped, traps, calls, run, begun}
+use Rattle.plain_units.specs.Addressing.{opcode, ac_field}
+use Rattle.plain_units.specs.Instructions.{execute, executes, does, instruction, local_word, LOCAL_CALL, LOCAL_HANDLER}
 use Rattle.ka10_unit.specs.declared.addresses.Address.{Address}
 use Rattle.ka10_unit.specs.declared.ends.Ending.{Ending}
 use Rattle.ka10_unit.specs.declared.plans.Next.{Next}

@@ -8,8 +8,8 @@ use Rattle.ka10_table.specs.declared.families.Family.TheVariants.{Illegal, Local
 use Rattle.ka10_table.specs.declared.families.OpMode.{OpMode}
 use Rattle.ka10_table.specs.declared.families.OpMode.TheVariants.{Basic, Immediate, Memory, Both, Own}
 use Rattle.ka10_table.specs.declared.families.TableRow.{TableRow}
-use Rattle.plain_model.specs.declared.fork.Regs.{Regs}
-use Rattle.plain_model.specs.Deeds.{Deed, deed_of, done_by, in_ac, behind_ac, operated, moves, by_mode, steps_by, jumps_or_skips, pushes_or_pops, calls_by_word, calls_by_accumulator, moves_half, up, counted_word}
+use Rattle.plain_units.specs.declared.registers.Regs.{Regs}
+use Rattle.plain_units.specs.Deeds.{Deed, deed_of, done_by, in_ac, behind_ac, operated, moves, by_mode, steps_by, jumps_or_skips, pushes_or_pops, calls_by_word, calls_by_accumulator, moves_half, up, counted_word}
 use Rattle.ka10_unit.specs.Stores.{IsNowhere, GoesTo}
 use Rattle.ka10_unit.specs.Targets.{Target, unstored, operand, top, block, target_of, target_by, by_mode_at, by_eight, StoresAt, place_of}
 

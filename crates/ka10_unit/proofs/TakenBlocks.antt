@@ -2,15 +2,14 @@
 use Rattle.std.proofs.Common.{◌≡◌, ℕ, suc, ◌+◌, ◌-◌, ◌^◌, ◌<◌, ◌≤◌, Bool, true, false, cond, List, [], ◌∷◌, ◌++◌, Some, None, refl, sym, ◌∙◌, ap, subst, arith, inl, inr}
 use Rattle.std.specs.Prelude.{Ok, Err, Result}
 use Rattle.std.proofs.lemmas.Bool.{cases_lt}
-use Rattle.plain_model.specs.declared.names.ForkName.{ForkName}
-use Rattle.plain_model.specs.declared.names.Kind.{Kind}
-use Rattle.plain_model.specs.declared.names.Kind.TheVariants.{Write}
-use Rattle.plain_model.specs.declared.fork.Regs.{Regs}
-use Rattle.plain_model.specs.State.{NumberedPages}
-use Rattle.plain_model.specs.Pages.{PagesMeaning, StaysPut}
-use Rattle.plain_model.specs.Steps.{begun, is_accumulator, put_into, refers, run}
-use Rattle.plain_model.specs.Calls.{next_address, block_steps}
-use Rattle.plain_model.specs.ForkCalls.{stored_from}
+use Rattle.machine_names.specs.declared.names.ForkName.{ForkName}
+use Rattle.machine_names.specs.declared.names.Kind.{Kind}
+use Rattle.machine_names.specs.declared.names.Kind.TheVariants.{Write}
+use Rattle.plain_units.specs.declared.registers.Regs.{Regs}
+use Rattle.plain_pages.specs.PlainPages.{NumberedPages}
+use Rattle.page_contracts.specs.Pages.{PagesMeaning, StaysPut}
+use Rattle.plain_units.specs.Steps.{begun, is_accumulator, put_into, refers, run}
+use Rattle.plain_units.specs.Blocks.{next_address, block_steps, stored_from}
 use Rattle.page_gather.specs.Gathering.{after_all}
 use Rattle.ka10_unit.specs.declared.taken.Taken.{Taken}
 use Rattle.ka10_unit.specs.declared.taken.Stop.{Stop}

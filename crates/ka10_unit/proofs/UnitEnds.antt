@@ -3,13 +3,13 @@ use Rattle.std.proofs.Common.{◌≡◌, ◌≢◌, ℕ, zero, suc, Bool, true, 
 use Rattle.std.specs.Prelude.{⊤, Result, Ok, Err, slice_set}
 use Rattle.std.proofs.lemmas.List.{set-set}
 use Rattle.word36.specs.Words.{joined}
-use Rattle.plain_model.specs.declared.names.ForkName.{ForkName}
-use Rattle.plain_model.specs.declared.names.Kind.TheVariants.{Read, Write}
-use Rattle.plain_model.specs.declared.fork.Regs.{Regs}
-use Rattle.plain_model.specs.declared.unit.Put.{Put}
-use Rattle.plain_model.specs.Steps.{Ending as End, refers, ends, done, run, is_accumulator}
-use Rattle.plain_model.specs.Deeds.{Deed, Store, nowhere, back, into, before}
-use Rattle.plain_model.specs.Instructions.{takes, with_deed, storing, storing_first, finishes}
+use Rattle.machine_names.specs.declared.names.ForkName.{ForkName}
+use Rattle.machine_names.specs.declared.names.Kind.TheVariants.{Read, Write}
+use Rattle.plain_units.specs.declared.registers.Regs.{Regs}
+use Rattle.plain_units.specs.declared.unit.Put.{Put}
+use Rattle.plain_units.specs.Steps.{Ending as End, refers, ends, done, run, is_accumulator}
+use Rattle.plain_units.specs.Deeds.{Deed, Store, nowhere, back, into, before}
+use Rattle.plain_units.specs.Instructions.{takes, with_deed, storing, storing_first, finishes}
 use Rattle.ka10_unit.specs.declared.committed.Post.{Post}
 use Rattle.ka10_unit.specs.declared.operands.Destination.{Destination}
 use Rattle.ka10_unit.specs.declared.ends.Ending.{Ending}

@@ -5,14 +5,14 @@ use Rattle.ka10_table.specs.declared.families.Family.{Family}
 use Rattle.ka10_table.specs.declared.families.Family.TheVariants.{Illegal, Local, Monitor, Jrst, Xct}
 use Rattle.ka10_table.specs.declared.families.TableRow.{TableRow}
 use Rattle.ka10_table.specs.Rows.{row_of}
-use Rattle.plain_model.specs.declared.channel.TheConstants.{ILLEGAL_INSTRUCTION}
-use Rattle.plain_model.specs.declared.names.ForkName.{ForkName}
-use Rattle.plain_model.specs.declared.names.Kind.TheVariants.{Execute}
-use Rattle.plain_model.specs.declared.fork.Regs.{Regs}
-use Rattle.plain_model.specs.State.{NumberedPages}
-use Rattle.plain_model.specs.Steps.{Steps, traps}
-use Rattle.plain_model.specs.Addressing.{address, opcode, ac_field}
-use Rattle.plain_model.specs.Instructions.{instruction, execute, executes, does, is_executive}
+use Rattle.plain_units.specs.declared.channel.TheConstants.{ILLEGAL_INSTRUCTION}
+use Rattle.machine_names.specs.declared.names.ForkName.{ForkName}
+use Rattle.machine_names.specs.declared.names.Kind.TheVariants.{Execute}
+use Rattle.plain_units.specs.declared.registers.Regs.{Regs}
+use Rattle.plain_pages.specs.PlainPages.{NumberedPages}
+use Rattle.plain_units.specs.Steps.{Steps, traps}
+use Rattle.plain_units.specs.Addressing.{address, opcode, ac_field}
+use Rattle.plain_units.specs.Instructions.{instruction, execute, executes, does, is_executive}
 use Rattle.ka10_unit.specs.Once.{After}
 use Rattle.ka10_unit.specs.Glide.{glide, Takes, Addressed}
 use Rattle.ka10_unit.specs.InPlace.{Addressee, is_addressed, behind_address}

@@ -2,13 +2,13 @@
 use Rattle.std.specs.Prelude.{◌≡◌, ℕ, ◌<◌, ◌^◌, Option, None, Some, length}
 use Rattle.std.specs.Option.{option_and_then}
 use Rattle.std.specs.Ordering.{nat_cmp}
-use Rattle.plain_model.specs.declared.channel.TheConstants.{OVERFLOW, PUSHDOWN_OVERFLOW}
-use Rattle.plain_model.specs.declared.fork.Regs.{Regs}
-use Rattle.plain_model.specs.declared.map.SpaceHandle.{SpaceHandle}
-use Rattle.plain_model.specs.declared.names.ForkName.{ForkName}
-use Rattle.plain_model.specs.Outcome.{DrumWords}
-use Rattle.plain_model.specs.Pages.{PagesMeaning, StaysPut}
-use Rattle.plain_model.specs.State.{NumberedPages}
+use Rattle.plain_units.specs.declared.channel.TheConstants.{OVERFLOW, PUSHDOWN_OVERFLOW}
+use Rattle.plain_units.specs.declared.registers.Regs.{Regs}
+use Rattle.page_contracts.specs.declared.answers.SpaceHandle.{SpaceHandle}
+use Rattle.machine_names.specs.declared.names.ForkName.{ForkName}
+use Rattle.page_contracts.specs.DrumWords.{DrumWords}
+use Rattle.page_contracts.specs.Pages.{PagesMeaning, StaysPut}
+use Rattle.plain_pages.specs.PlainPages.{NumberedPages}
 use Rattle.ka10_unit.specs.declared.ending.Burst.{Burst}
 use Rattle.ka10_unit.specs.declared.ending.End.{End}
 use Rattle.ka10_unit.specs.declared.ending.End.TheVariants as end

@@ -1,11 +1,11 @@
 -- The rest of a byte instruction's unit, behind its effective address.
 use Rattle.std.specs.Prelude.{ℕ, ◌<◌, Bool, true, false, List}
-use Rattle.plain_model.specs.declared.fork.Regs.{Regs}
-use Rattle.plain_model.specs.declared.names.ForkName.{ForkName}
-use Rattle.plain_model.specs.declared.names.Kind.TheVariants.{Read}
-use Rattle.plain_model.specs.State.{NumberedPages}
-use Rattle.plain_model.specs.Steps.{Steps, refers}
-use Rattle.plain_model.specs.Instructions.{finishes, first_part_done}
+use Rattle.plain_units.specs.declared.registers.Regs.{Regs}
+use Rattle.machine_names.specs.declared.names.ForkName.{ForkName}
+use Rattle.machine_names.specs.declared.names.Kind.TheVariants.{Read}
+use Rattle.plain_pages.specs.PlainPages.{NumberedPages}
+use Rattle.plain_units.specs.Steps.{Steps, refers}
+use Rattle.plain_units.specs.Instructions.{finishes, first_part_done}
 use Rattle.ka10_unit.specs.declared.bytes.ByteStep.{ByteStep}
 use Rattle.ka10_unit.specs.declared.bytes.ByteStep.TheVariants.{Load, LoadSecond, Deposit, DepositSecond}
 use Rattle.ka10_unit.specs.Bytes.{byte_deposited, byte_loaded, steps_of}

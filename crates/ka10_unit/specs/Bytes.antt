@@ -1,10 +1,10 @@
 -- Byte instructions as deeds: the pointer's, and that of the byte's word.
 use Rattle.std.specs.Prelude.{ℕ, true, Some}
 use Rattle.word36.specs.Bytes.{incremented, loaded, deposited}
-use Rattle.plain_model.specs.declared.fork.Regs.{Regs}
-use Rattle.plain_model.specs.Steps.{Steps}
-use Rattle.plain_model.specs.Deeds.{Deed, back, in_ac, nothing_done}
-use Rattle.plain_model.specs.Instructions.{finishes, loads_byte, deposits_byte, first_part_done}
+use Rattle.plain_units.specs.declared.registers.Regs.{Regs}
+use Rattle.plain_units.specs.Steps.{Steps}
+use Rattle.plain_units.specs.Deeds.{Deed, back, in_ac, nothing_done}
+use Rattle.plain_units.specs.Instructions.{finishes, loads_byte, deposits_byte, first_part_done}
 use Rattle.ka10_unit.specs.declared.bytes.ByteStep.{ByteStep}
 use Rattle.ka10_unit.specs.declared.bytes.ByteStep.TheVariants.{Increment, FirstPart, Load, LoadSecond, Deposit, DepositSecond}
 

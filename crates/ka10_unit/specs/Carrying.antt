@@ -1,17 +1,17 @@
 -- What a unit that is carried out leaves.
 use Rattle.std.specs.Prelude.{◌≡◌, ◌≢◌, ℕ, ◌+◌, ◌≤◌, ◌<◌, ◌^◌, length, Some, true}
 use Rattle.std.specs.Ordering.{nat_cmp}
-use Rattle.plain_model.specs.declared.names.Tty.{Tty}
-use Rattle.plain_model.specs.declared.names.ForkName.{ForkName}
-use Rattle.plain_model.specs.declared.fork.Regs.{Regs}
-use Rattle.plain_model.specs.Outcome.{DrumWords}
-use Rattle.plain_model.specs.State.{NumberedPages}
-use Rattle.plain_model.specs.Pages.{PagesMeaning, Scene}
-use Rattle.plain_model.specs.Steps.{Ending, Progress, done, stopped, trap, need, call}
+use Rattle.machine_names.specs.declared.names.Tty.{Tty}
+use Rattle.machine_names.specs.declared.names.ForkName.{ForkName}
+use Rattle.plain_units.specs.declared.registers.Regs.{Regs}
+use Rattle.page_contracts.specs.DrumWords.{DrumWords}
+use Rattle.plain_pages.specs.PlainPages.{NumberedPages}
+use Rattle.page_contracts.specs.Pages.{PagesMeaning, Scene}
+use Rattle.plain_units.specs.Steps.{Ending, Progress, done, stopped, trap, need, call}
+use Rattle.plain_units.specs.Units.{unit_on}
 use Rattle.ka10_unit.specs.declared.slow.Outcome.{Outcome}
 use Rattle.ka10_unit.specs.declared.slow.Outcome.TheVariants as outcome
 use Rattle.ka10_unit.specs.Once.{once}
-use Rattle.plain_model.specs.Unit.{unit_on}
 use Rattle.ka10_unit.specs.Commits.{channel_of}
 use Rattle.ka10_unit.specs.Gathers.{framed}
 use Rattle.ka10_unit.specs.Planning.{unit_over}

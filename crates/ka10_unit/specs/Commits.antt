@@ -3,10 +3,10 @@ use Rattle.std.specs.Prelude.{◌≡◌, ℕ, ◌<◌, ◌^◌, Option, None, So
 use Rattle.word36.specs.Arithmetic.{Outcome}
 use Rattle.ka10_alu.specs.declared.out.Out.{Out}
 use Rattle.ka10_table.specs.declared.families.TableRow.{TableRow}
-use Rattle.plain_model.specs.declared.channel.TheConstants.{OVERFLOW, PUSHDOWN_OVERFLOW}
-use Rattle.plain_model.specs.declared.fork.Regs.{Regs}
-use Rattle.plain_model.specs.Deeds.{Deed, Store, nowhere, back, into, before, deed_of}
-use Rattle.plain_model.specs.Instructions.{with_deed}
+use Rattle.plain_units.specs.declared.channel.TheConstants.{OVERFLOW, PUSHDOWN_OVERFLOW}
+use Rattle.plain_units.specs.declared.registers.Regs.{Regs}
+use Rattle.plain_units.specs.Deeds.{Deed, Store, nowhere, back, into, before, deed_of}
+use Rattle.plain_units.specs.Instructions.{with_deed}
 use Rattle.ka10_unit.specs.declared.committed.Committed.{Committed}
 use Rattle.ka10_unit.specs.declared.committed.Post.{Post}
 use Rattle.ka10_unit.specs.declared.committed.Post.TheVariants as post

@@ -1,16 +1,16 @@
 -- Pages as a unit of a fork finds them, and the references that it gathers.
 use Rattle.std.specs.Prelude.{◌≡◌, ◌<◌, true}
 use Rattle.std.specs.List.{All}
-use Rattle.plain_model.specs.declared.channel.TheConstants.{DRUM_FULL}
-use Rattle.plain_model.specs.declared.map.Need.{Need}
-use Rattle.plain_model.specs.declared.names.ForkName.{ForkName}
-use Rattle.plain_model.specs.declared.names.Kind.{Kind}
-use Rattle.plain_model.specs.declared.names.Slot.{Slot}
-use Rattle.plain_model.specs.declared.names.TheConstants.{SPACE_PAGES, TERMINALS}
-use Rattle.plain_model.specs.Outcome.{DrumWords}
-use Rattle.plain_model.specs.State.{NumberedPages}
-use Rattle.plain_model.specs.Steps.{Asked, denied_channel, goes, need, stops, trap}
-use Rattle.plain_model.specs.Pages.{PagesMeaning, Scene}
+use Rattle.plain_units.specs.declared.channel.TheConstants.{DRUM_FULL}
+use Rattle.page_contracts.specs.declared.answers.Need.{Need}
+use Rattle.machine_names.specs.declared.names.ForkName.{ForkName}
+use Rattle.machine_names.specs.declared.names.Kind.{Kind}
+use Rattle.machine_names.specs.declared.names.Slot.{Slot}
+use Rattle.machine_names.specs.declared.names.TheConstants.{SPACE_PAGES, TERMINALS}
+use Rattle.page_contracts.specs.DrumWords.{DrumWords}
+use Rattle.plain_pages.specs.PlainPages.{NumberedPages}
+use Rattle.plain_units.specs.Steps.{Asked, denied_channel, goes, need, stops, trap}
+use Rattle.page_contracts.specs.Pages.{PagesMeaning, Scene}
 use Rattle.page_gather.specs.declared.reference.PageReference.{PageReference}
 use Rattle.page_gather.specs.declared.reference.Added.{Added}
 use Rattle.page_gather.specs.declared.reference.Added.TheVariants as added

@@ -2,14 +2,14 @@
 use Rattle.std.specs.Prelude.{◌≡◌, ℕ, ◌+◌, ◌%◌, ◌<◌, Bool, true, false, List, [], ◌∷◌, Option, None, Some, nat_le, if◌then◌else◌, slice_index}
 use Rattle.std.specs.declared.cmp.Ordering.{Ordering}
 use Rattle.outside.specs.declared.TheConstants.{PAGE_WORDS}
-use Rattle.plain_model.specs.declared.names.ForkName.{ForkName}
-use Rattle.plain_model.specs.declared.names.Kind.{Kind}
-use Rattle.plain_model.specs.declared.names.Kind.TheVariants.{Write}
-use Rattle.plain_model.specs.declared.unit.TheConstants.{MOST_REFERENCES}
-use Rattle.plain_model.specs.State.{PlainPages}
-use Rattle.plain_model.specs.References.{Making, in_map, makings, slot_at, word_at}
-use Rattle.plain_model.specs.Steps.{Steps, refers, widens, keeps, ends, traps, calls, is_accumulator, put_into}
-use Rattle.plain_model.specs.Addressing.{address}
+use Rattle.machine_names.specs.declared.names.ForkName.{ForkName}
+use Rattle.machine_names.specs.declared.names.Kind.{Kind}
+use Rattle.machine_names.specs.declared.names.Kind.TheVariants.{Write}
+use Rattle.plain_units.specs.declared.unit.TheConstants.{MOST_REFERENCES}
+use Rattle.plain_pages.specs.PlainPages.{PlainPages}
+use Rattle.plain_pages.specs.References.{Making, in_map, makings, slot_at, word_at}
+use Rattle.plain_units.specs.Steps.{Steps, refers, widens, keeps, ends, traps, calls, is_accumulator, put_into}
+use Rattle.plain_units.specs.Addressing.{address}
 use Rattle.ka10_unit.specs.Once.{After}
 
 -- a reference that is granted, and makes no page

@@ -3,9 +3,9 @@ use Rattle.std.specs.Prelude.{◌≡◌, ◌≢◌, ◌⊎◌, ℕ, zero, suc, �
 use Rattle.word36.specs.Words.{left, right, joined, is_negative}
 use Rattle.ka10_table.specs.declared.families.Family.TheVariants.{Exch, Blt, PushPop, Popj}
 use Rattle.ka10_table.specs.declared.families.OpMode.TheVariants.{Basic}
-use Rattle.plain_model.specs.declared.fork.Regs.{Regs}
-use Rattle.plain_model.specs.Addressing.{is_indirect, indexed}
-use Rattle.plain_model.specs.Deeds.{back, into, before, next_pc, pc_word, up, halves_up, exchanges, moves_block, calls_by_push, pushes_or_pops, returns_by_pop, calls_by_word, taken_by}
+use Rattle.plain_units.specs.declared.registers.Regs.{Regs}
+use Rattle.plain_units.specs.Addressing.{is_indirect, indexed}
+use Rattle.plain_units.specs.Deeds.{back, into, before, next_pc, pc_word, up, halves_up, exchanges, moves_block, calls_by_push, pushes_or_pops, returns_by_pop, calls_by_word, taken_by}
 
 -- EXCH: the accumulator gets the word at E, which gets the accumulator's
 pub record ChangePlaces (regs : Regs) (ac a e m : ℕ) : Type 0 where

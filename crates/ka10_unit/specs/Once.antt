@@ -2,11 +2,11 @@
 use Rattle.std.specs.Prelude.{ℕ, zero, suc, Option, None, Some}
 use Rattle.std.specs.Option.{option_and_then}
 use Rattle.std.specs.declared.cmp.Ordering.{Ordering}
-use Rattle.plain_model.specs.declared.names.ForkName.{ForkName}
-use Rattle.plain_model.specs.declared.fork.Regs.{Regs}
-use Rattle.plain_model.specs.State.{PlainPages}
-use Rattle.plain_model.specs.Steps.{Planned, done, stopped, call, pages_left}
-use Rattle.plain_model.specs.Unit.{unit_on}
+use Rattle.machine_names.specs.declared.names.ForkName.{ForkName}
+use Rattle.plain_units.specs.declared.registers.Regs.{Regs}
+use Rattle.plain_pages.specs.PlainPages.{PlainPages}
+use Rattle.plain_units.specs.Steps.{Planned, done, stopped, call, pages_left}
+use Rattle.plain_units.specs.Units.{unit_on}
 
 -- what a unit leaves that goes through: the pages, the registers, and a channel that it posts
 pub record After {K : Type 0} (file_cmp : K → K → Ordering) : Type 0 where

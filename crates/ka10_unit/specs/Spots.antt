@@ -1,17 +1,17 @@
 -- Where a word of a space is.
 use Rattle.std.specs.Prelude.{◌≡◌, ℕ, zero, suc, ◌+◌, ◌/◌, ◌%◌, ◌<◌, ◌≤◌, true, List, Option, None, Some, IfSome, length, slice_set}
 use Rattle.outside.specs.declared.TheConstants.{PAGE_WORDS}
-use Rattle.plain_model.specs.declared.names.TheConstants.{ACCUMULATORS}
-use Rattle.plain_model.specs.declared.names.ForkName.{ForkName}
-use Rattle.plain_model.specs.declared.names.Kind.{Kind}
-use Rattle.plain_model.specs.declared.names.Kind.TheVariants.{Read}
-use Rattle.plain_model.specs.declared.map.SpaceHandle.{SpaceHandle}
-use Rattle.plain_model.specs.declared.fork.Regs.{Regs}
-use Rattle.plain_model.specs.Addressing.{indexed, is_indirect, last_taken}
-use Rattle.plain_model.specs.Outcome.{DrumWords}
-use Rattle.plain_model.specs.Pages.{PagesMeaning, StaysPut, IsTouched}
-use Rattle.plain_model.specs.References.{in_map, slot_at, stored}
-use Rattle.plain_model.specs.State.{NumberedPages}
+use Rattle.machine_names.specs.declared.names.TheConstants.{ACCUMULATORS}
+use Rattle.machine_names.specs.declared.names.ForkName.{ForkName}
+use Rattle.machine_names.specs.declared.names.Kind.{Kind}
+use Rattle.machine_names.specs.declared.names.Kind.TheVariants.{Read}
+use Rattle.page_contracts.specs.declared.answers.SpaceHandle.{SpaceHandle}
+use Rattle.plain_units.specs.declared.registers.Regs.{Regs}
+use Rattle.plain_units.specs.Addressing.{indexed, is_indirect, last_taken}
+use Rattle.page_contracts.specs.DrumWords.{DrumWords}
+use Rattle.page_contracts.specs.Pages.{PagesMeaning, StaysPut, IsTouched}
+use Rattle.plain_pages.specs.References.{in_map, slot_at, stored}
+use Rattle.plain_pages.specs.PlainPages.{NumberedPages}
 use Rattle.ka10_unit.specs.declared.addressing.Address.{Address}
 use Rattle.ka10_unit.specs.declared.spots.Spot.{Spot}
 use Rattle.ka10_unit.specs.declared.spots.Spot.TheVariants.{Accumulator, Page}

@@ -1,9 +1,9 @@
 -- Where a deed stores its word, if it stores one.
 use Rattle.std.specs.Prelude.{◌≡◌, ℕ, Option, None, Some, List}
-use Rattle.plain_model.specs.declared.names.ForkName.{ForkName}
-use Rattle.plain_model.specs.declared.names.Kind.TheVariants.{Read}
-use Rattle.plain_model.specs.State.{NumberedPages}
-use Rattle.plain_model.specs.Deeds.{Store, nowhere, back, into, before}
+use Rattle.machine_names.specs.declared.names.ForkName.{ForkName}
+use Rattle.machine_names.specs.declared.names.Kind.TheVariants.{Read}
+use Rattle.plain_pages.specs.PlainPages.{NumberedPages}
+use Rattle.plain_units.specs.Deeds.{Store, nowhere, back, into, before}
 use Rattle.ka10_unit.specs.Glide.{Takes}
 
 -- no word is stored

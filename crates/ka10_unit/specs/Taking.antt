@@ -3,20 +3,20 @@ use Rattle.std.specs.Prelude.{◌≡◌, ◌⊎◌, ℕ, ◌%◌, ◌≤◌, ◌
 use Rattle.std.specs.Option.{option_map_or}
 use Rattle.std.specs.Ordering.{nat_cmp}
 use Rattle.outside.specs.declared.TheConstants.{PAGE_WORDS}
-use Rattle.plain_model.specs.declared.names.ForkName.{ForkName}
-use Rattle.plain_model.specs.declared.names.PageName.{PageName}
-use Rattle.plain_model.specs.declared.names.Kind.{Kind}
-use Rattle.plain_model.specs.declared.names.Kind.TheVariants.{Write}
-use Rattle.plain_model.specs.declared.unit.Put.{Put}
-use Rattle.plain_model.specs.declared.unit.TheConstants.{MOST_REFERENCES}
-use Rattle.plain_model.specs.State.{NumberedPages}
-use Rattle.plain_model.specs.References.{in_map, makings, page_at, slot_at}
-use Rattle.plain_model.specs.Room.{same_page}
-use Rattle.plain_model.specs.declared.names.Home.{Home}
-use Rattle.plain_model.specs.declared.map.Need.{Need}
-use Rattle.plain_model.specs.declared.map.Need.TheVariants.{Page}
-use Rattle.plain_model.specs.Pages.{Scene}
-use Rattle.plain_model.specs.Steps.{Steps, Stop as Stopped, widens, trap, need, Asked, goes, stops, Progress, Planned, stopped, done, call, is_accumulator, asked_at, run}
+use Rattle.machine_names.specs.declared.names.ForkName.{ForkName}
+use Rattle.machine_names.specs.declared.names.PageName.{PageName}
+use Rattle.machine_names.specs.declared.names.Kind.{Kind}
+use Rattle.machine_names.specs.declared.names.Kind.TheVariants.{Write}
+use Rattle.plain_units.specs.declared.unit.Put.{Put}
+use Rattle.plain_units.specs.declared.unit.TheConstants.{MOST_REFERENCES}
+use Rattle.plain_pages.specs.PlainPages.{NumberedPages}
+use Rattle.plain_pages.specs.References.{in_map, makings, page_at, slot_at}
+use Rattle.plain_pages.specs.Room.{same_page}
+use Rattle.machine_names.specs.declared.homes.Home.{Home}
+use Rattle.page_contracts.specs.declared.answers.Need.{Need}
+use Rattle.page_contracts.specs.declared.answers.Need.TheVariants.{Page}
+use Rattle.page_contracts.specs.Pages.{Scene}
+use Rattle.plain_units.specs.Steps.{Steps, Stop as Stopped, widens, trap, need, Asked, goes, stops, Progress, Planned, stopped, done, call, is_accumulator, asked_at, run}
 use Rattle.ka10_unit.specs.declared.taken.Taken.{Taken}
 use Rattle.ka10_unit.specs.declared.taken.Stop.{Stop}
 use Rattle.ka10_unit.specs.declared.taken.Stop.TheVariants as stop

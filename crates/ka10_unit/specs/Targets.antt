@@ -6,7 +6,7 @@ use Rattle.ka10_table.specs.declared.families.Family.TheVariants.{Move, Imul, Mu
 use Rattle.ka10_table.specs.declared.families.OpMode.{OpMode}
 use Rattle.ka10_table.specs.declared.families.OpMode.TheVariants.{Basic, Immediate}
 use Rattle.ka10_table.specs.declared.families.TableRow.{TableRow}
-use Rattle.plain_model.specs.Deeds.{Deed, up}
+use Rattle.plain_units.specs.Deeds.{Deed, up}
 use Rattle.ka10_unit.specs.Stores.{IsNowhere, GoesTo, IsBefore}
 
 -- none; at E, if the operation is done; where a pushdown list is pushed; and where a block transfer stores

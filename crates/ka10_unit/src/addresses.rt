@@ -1,13 +1,15 @@
 // Effective addresses.
 ghost use Rattle.std.specs.Prelude.{◌≡◌, ◌<◌, ◌^◌, ◌-◌, ℕ, IfErr, IfOk, true};
-ghost use Rattle.plain_model.specs.Addressing.{index_field, indexed, is_indirect as is_indirect_word, last_taken};
-ghost use Rattle.plain_model.specs.Outcome.{DrumWords};
+ghost use Rattle.plain_units.specs.Addressing.{index_field, indexed, is_indirect as is_indirect_word, last_taken};
+ghost use Rattle.page_contracts.specs.DrumWords.{DrumWords};
 ghost use Rattle.ka10_unit.specs.Gathers.{Serves, framed};
 ghost use Rattle.ka10_unit.specs.Planning.{reached};
 ghost use Rattle.ka10_unit.specs.Taking.{Follows, IsOpen, IsPutBelow, IsTrap, Stands};
 
 use crate::taken::{Stop, Taken, refer};
-use plain_model::{ForkName, Kind, Pages, Regs};
+use machine_names::{ForkName, Kind};
+use page_contracts::Pages;
+use plain_units::Regs;
 use word36::Word;
 
 // How many words are taken for one address at most: more than a unit may refer to.

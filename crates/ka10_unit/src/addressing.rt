@@ -1,15 +1,17 @@
 // The fields of an instruction word, and effective addresses in place.
 ghost use Rattle.std.specs.Prelude.{◌≡◌, ◌<◌, IfSome, IsSome, Some};
 ghost use Rattle.std.specs.Option.{option_map};
-ghost use Rattle.plain_model.specs.declared.names.ForkName.{ForkName as AForkName};
-ghost use Rattle.plain_model.specs.Addressing as word_fields;
-ghost use Rattle.plain_model.specs.Limits.{IsAddress};
-ghost use Rattle.plain_model.specs.Outcome.{DrumWords};
-ghost use Rattle.plain_model.specs.Pages.{HasSpace};
+ghost use Rattle.machine_names.specs.declared.names.ForkName.{ForkName as AForkName};
+ghost use Rattle.plain_units.specs.Addressing as word_fields;
+ghost use Rattle.machine_names.specs.Bounds.{IsAddress};
+ghost use Rattle.page_contracts.specs.DrumWords.{DrumWords};
+ghost use Rattle.page_contracts.specs.Pages.{HasSpace};
 ghost use Rattle.ka10_unit.specs.Spots.{IsLed, LeadsTo, addressed};
 
 use crate::spots::take;
-use plain_model::{Kind, Pages, Regs, SpaceHandle};
+use machine_names::Kind;
+use page_contracts::{Pages, SpaceHandle};
+use plain_units::Regs;
 use word36::Word;
 
 /// An effective address, with the last word taken for it.

@@ -1,8 +1,8 @@
 // Block transfers in place, a word a unit.
 ghost use Rattle.std.specs.Prelude.{◌≡◌, ◌<◌, ◌^◌, ◌==◌, Some, None, if◌then◌else◌};
 ghost use Rattle.word36.specs.Words.{right};
-ghost use Rattle.plain_model.specs.Deeds.{in_ac, moves_block};
-ghost use Rattle.plain_model.specs.Pages.{HasSpace};
+ghost use Rattle.plain_units.specs.Deeds.{in_ac, moves_block};
+ghost use Rattle.page_contracts.specs.Pages.{HasSpace};
 ghost use Rattle.ka10_unit.specs.InPlace.{Addressee, Finish, InPlace};
 
 use crate::ending::{Quick, ended};
@@ -10,7 +10,9 @@ use crate::instruction::Instruction;
 use crate::registers::word_in;
 use crate::spots::{spot_to_write, store, take};
 use crate::words::commit_blt;
-use plain_model::{Kind, Pages, Regs, SpaceHandle};
+use machine_names::Kind;
+use page_contracts::{Pages, SpaceHandle};
+use plain_units::Regs;
 use word36::Word;
 
 /// The word of a block, if it is still there once AC is counted up: it is stored before that.

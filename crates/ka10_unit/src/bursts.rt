@@ -1,12 +1,13 @@
 // Units of one fork in a row, in place.
 ghost use Rattle.std.specs.Prelude.{◌≡◌, ◌<◌, ◌^◌};
-ghost use Rattle.plain_model.specs.Pages.{HasSpace};
+ghost use Rattle.page_contracts.specs.Pages.{HasSpace};
 ghost use Rattle.ka10_unit.specs.Bursts.{InRow};
 
 use crate::ending::{Burst, End, Quick};
 use crate::fetch_page::FetchPage;
 use crate::in_place::quick;
-use plain_model::{Pages, Regs, SpaceHandle};
+use page_contracts::{Pages, SpaceHandle};
+use plain_units::Regs;
 
 /// Does units in place, one behind another, up to so many, on the registers and pages of a fork
 /// whose space this is. It ends with a unit that posts, which isn't counted, and before one that

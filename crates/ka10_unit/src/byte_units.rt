@@ -3,11 +3,11 @@ ghost use Rattle.std.specs.Prelude.{◌≡◌, ◌<◌, ◌^◌, Some, IfSome};
 ghost use Rattle.ka10_table.specs.declared.families.Family.TheVariants as family;
 ghost use Rattle.ka10_table.specs.declared.families.OpMode.TheVariants.{Basic};
 ghost use Rattle.ka10_table.specs.Rows.{row_of};
-ghost use Rattle.plain_model.specs.declared.names.ForkName.{ForkName as AForkName};
-ghost use Rattle.plain_model.specs.Instructions.{does_pointer};
-ghost use Rattle.plain_model.specs.Limits.{IsAddress};
-ghost use Rattle.plain_model.specs.Outcome.{DrumWords};
-ghost use Rattle.plain_model.specs.Pages.{HasSpace};
+ghost use Rattle.machine_names.specs.declared.names.ForkName.{ForkName as AForkName};
+ghost use Rattle.plain_units.specs.Instructions.{does_pointer};
+ghost use Rattle.machine_names.specs.Bounds.{IsAddress};
+ghost use Rattle.page_contracts.specs.DrumWords.{DrumWords};
+ghost use Rattle.page_contracts.specs.Pages.{HasSpace};
 ghost use Rattle.ka10_unit.specs.ByteRests.{PointsTo, begun, byte_rest, deposited_word, depositing, loaded_byte, loading};
 ghost use Rattle.ka10_unit.specs.InPlace.{Addressee, InPlace, Rest};
 
@@ -19,7 +19,9 @@ use crate::bytes::{
 use crate::ending::{Quick, ended};
 use crate::instruction::Instruction;
 use crate::spots::{load, spot_to_change, store, take};
-use plain_model::{Kind, Pages, Regs, SpaceHandle};
+use machine_names::Kind;
+use page_contracts::{Pages, SpaceHandle};
+use plain_units::Regs;
 use word36::Word;
 
 // A pointer is followed without indirect words.

@@ -1,13 +1,13 @@
 // Byte instructions: which step is done, and what it leaves.
 ghost use Rattle.std.specs.Prelude.{◌≡◌, ℕ, ◌^◌, ◌<◌};
-ghost use Rattle.plain_model.specs.Instructions.{does_byte, first_part_done};
+ghost use Rattle.plain_units.specs.Instructions.{does_byte, first_part_done};
 ghost use Rattle.ka10_unit.specs.Bytes.{byte_deposited, byte_loaded, first_part, pointer_stepped, steps_of};
 ghost use Rattle.ka10_unit.specs.Commits.{Leaves};
 
 use crate::committed::Committed;
 use crate::registers::{next, word_in};
 use ka10_bytes::{deposit, increment, load};
-use plain_model::Regs;
+use plain_units::Regs;
 use word36::Word;
 
 /// What a byte instruction does once its pointer is taken.

@@ -1,15 +1,17 @@
 // Carrying out a unit that was planned: its pages are made, and its words stored.
 ghost use Rattle.std.specs.Prelude.{◌≡◌, ◌<◌, ◌^◌};
-ghost use Rattle.plain_model.specs.Outcome.{DrumWords};
-ghost use Rattle.plain_model.specs.Pages.{StaysPut};
-ghost use Rattle.plain_model.specs.Steps.{put_into};
+ghost use Rattle.page_contracts.specs.DrumWords.{DrumWords};
+ghost use Rattle.page_contracts.specs.Pages.{StaysPut};
+ghost use Rattle.plain_units.specs.Steps.{put_into};
 ghost use Rattle.ka10_unit.specs.Carrying.{Grows, StaysAway};
 ghost use Rattle.ka10_unit.specs.Gathers.{IsOf, Serves, framed};
 ghost use Rattle.ka10_unit.specs.Taking.{CanPut, IsPutBelow, Stands, pages_so_far, so_far};
 
 use crate::taken::{Taken, page_of_address};
+use machine_names::{ForkName, Kind};
 use outside::PAGE_WORDS;
-use plain_model::{ForkName, Kind, Pages, Put, Touch};
+use page_contracts::{Pages, Touch};
+use plain_units::Put;
 
 // How many words a page has, as addresses count them.
 const WORDS: u32 = PAGE_WORDS as u32;

@@ -14,13 +14,13 @@ use crate::registers::next;
 use crate::stacks::{commit_popj, commit_push_or_pop, commit_pushj};
 use crate::words::{commit_blt, commit_boolean, commit_exch, commit_half, commit_test};
 use ka10_table::{Family, TableRow};
-use plain_model::Regs;
+use plain_units::Regs;
 use word36::Word;
 
 /// The instruction of an opcode and its row, with accumulator AC, the effective address, the last
 /// word taken for that, and the operand. A row that is no instruction, that goes on with another
 /// word, a monitor call and a byte instruction only come to the next instruction here.
-#[tactic(auto, unfolding(plain_model::specs::Deeds::deed_of))]
+#[tactic(auto, unfolding(plain_units::specs::Deeds::deed_of))]
 pub fn commit_row(
     row: TableRow,
     op: u16,

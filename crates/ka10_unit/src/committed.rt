@@ -1,7 +1,7 @@
 // What is told of an instruction that was committed.
 ghost use Rattle.std.specs.Prelude.{◌≡◌, Some};
 ghost use Rattle.ka10_unit.specs.Commits.{channel_of};
-ghost use Rattle.plain_model.specs.Deeds.{overflow_post, pushdown_post};
+ghost use Rattle.plain_units.specs.Deeds.{overflow_post, pushdown_post};
 
 use word36::Word;
 

@@ -1,13 +1,13 @@
 // Jumps and skips on conditions.
 ghost use Rattle.std.specs.Prelude.{◌≡◌, ◌^◌, ◌<◌};
 ghost use Rattle.word36.specs.Arithmetic.{added};
-ghost use Rattle.plain_model.specs.Deeds.{compares, counted_word, in_ac, jumps_or_skips, steps_by};
+ghost use Rattle.plain_units.specs.Deeds.{compares, counted_word, in_ac, jumps_or_skips, steps_by};
 ghost use Rattle.ka10_unit.specs.Commits.{Leaves};
 
 use crate::committed::{Committed, Post};
 use crate::registers::{give_own, jump_if, set, skip_if, word_in};
 use ka10_alu::{add, holds};
-use plain_model::Regs;
+use plain_units::Regs;
 use word36::Word;
 
 /// CAI and CAM (300 to 317), codes 0 to 7 and 10 to 17: AC is compared with the operand.

@@ -1,8 +1,8 @@
 // Instructions in place, by their opcodes.
 ghost use Rattle.std.specs.Prelude.{◌≡◌, ◌<◌, ◌^◌};
-ghost use Rattle.plain_model.specs.Instructions as instructions;
-ghost use Rattle.plain_model.specs.Limits.{IsAddress};
-ghost use Rattle.plain_model.specs.Pages.{HasSpace};
+ghost use Rattle.plain_units.specs.Instructions as instructions;
+ghost use Rattle.machine_names.specs.Bounds.{IsAddress};
+ghost use Rattle.page_contracts.specs.Pages.{HasSpace};
 ghost use Rattle.ka10_unit.specs.InPlace.{Addressee, InPlace};
 
 use crate::acts::{Act, act_at};
@@ -18,7 +18,8 @@ use crate::registers::word_in;
 use crate::stacks::pushed;
 use crate::ways::{bare, read, replace, transfer, write};
 use ka10_table::{Family, OpMode, TableRow, row};
-use plain_model::{Pages, Regs, SpaceHandle};
+use page_contracts::{Pages, SpaceHandle};
+use plain_units::Regs;
 use word36::Word;
 
 // A row of the table.

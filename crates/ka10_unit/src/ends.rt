@@ -1,11 +1,11 @@
 // The end of a unit: the operand of its instruction, and the word that it stores.
 ghost use Rattle.std.specs.Prelude.{◌≡◌, ◌<◌, ◌^◌, ℕ, IfErr, IfOk, IfSome, None, true};
-ghost use Rattle.plain_model.specs.declared.fork.Regs.{Regs as ARegs};
-ghost use Rattle.plain_model.specs.Deeds.{Deed};
-ghost use Rattle.plain_model.specs.Instructions.{does, finishes, storing, takes};
+ghost use Rattle.plain_units.specs.declared.registers.Regs.{Regs as ARegs};
+ghost use Rattle.plain_units.specs.Deeds.{Deed};
+ghost use Rattle.plain_units.specs.Instructions.{does, finishes, storing, takes};
 ghost use Rattle.ka10_table.specs.Rows.{IsInLine};
-ghost use Rattle.plain_model.specs.Limits.{IsAddress};
-ghost use Rattle.plain_model.specs.Outcome.{DrumWords};
+ghost use Rattle.machine_names.specs.Bounds.{IsAddress};
+ghost use Rattle.page_contracts.specs.DrumWords.{DrumWords};
 ghost use Rattle.ka10_unit.specs.Commits.{LiesBelow, channel_of};
 ghost use Rattle.ka10_unit.specs.Gathers.{IsOf, Serves, framed};
 ghost use Rattle.ka10_unit.specs.Planning.{Ends, IsDone, IsEnding, LeavesEnd, end_of};
@@ -17,7 +17,9 @@ use crate::committed::{Committed, Post};
 use crate::operands::{Destination, destination_of, operand_address};
 use crate::taken::{Stop, Taken, refer, widen};
 use ka10_table::TableRow;
-use plain_model::{ACCUMULATORS, ForkName, Kind, Pages, Put, Regs};
+use machine_names::{ACCUMULATORS, ForkName, Kind};
+use page_contracts::Pages;
+use plain_units::{Put, Regs};
 use word36::Word;
 
 /// How a unit ends that goes through: its registers, the word that it stores last, and its post.

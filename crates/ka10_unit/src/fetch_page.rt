@@ -2,7 +2,7 @@
 ghost use Rattle.std.specs.Prelude.{◌<◌, ◌≤◌, ◌^◌};
 ghost use Rattle.outside.specs.declared.TheConstants.{PAGE_WORDS};
 
-use plain_model::Found;
+use page_contracts::Found;
 
 /// A page that was found and can be executed: its addresses that are no accumulators, so many from one
 /// on, 512 at most.

@@ -1,19 +1,21 @@
 // Fetches in a burst: where the page of the program counter is, is found once for the units behind.
 ghost use Rattle.std.specs.Prelude.{◌≡◌, ◌<◌, ◌^◌, Some, IsSome, IfSome, slice_index};
-ghost use Rattle.plain_model.specs.declared.names.ForkName.{ForkName as AForkName};
-ghost use Rattle.plain_model.specs.declared.names.Kind.TheVariants.{Execute};
-ghost use Rattle.plain_model.specs.declared.names.TheConstants.{ACCUMULATORS, SPACE_PAGES};
-ghost use Rattle.plain_model.specs.Limits.{IsAddress};
-ghost use Rattle.plain_model.specs.Outcome.{DrumWords};
-ghost use Rattle.plain_model.specs.Pages.{HasSpace};
+ghost use Rattle.machine_names.specs.declared.names.ForkName.{ForkName as AForkName};
+ghost use Rattle.machine_names.specs.declared.names.Kind.TheVariants.{Execute};
+ghost use Rattle.machine_names.specs.declared.names.TheConstants.{ACCUMULATORS, SPACE_PAGES};
+ghost use Rattle.machine_names.specs.Bounds.{IsAddress};
+ghost use Rattle.page_contracts.specs.DrumWords.{DrumWords};
+ghost use Rattle.page_contracts.specs.Pages.{HasSpace};
 ghost use Rattle.ka10_unit.specs.Glide.{Takes};
 ghost use Rattle.ka10_unit.specs.Fetches.{CanExecute, IsPage, IsThere, KeepsPage};
 ghost use Rattle.ka10_unit.specs.Spots.{IsReached};
 
 use crate::fetch_page::FetchPage;
 use crate::spots::page_of;
+use machine_names::{ACCUMULATORS, Kind};
 use outside::PAGE_WORDS;
-use plain_model::{ACCUMULATORS, Found, Kind, Pages, Regs, SpaceHandle};
+use page_contracts::{Found, Pages, SpaceHandle};
+use plain_units::Regs;
 use word36::Word;
 
 // How many words a page has, as addresses count them.

@@ -1,6 +1,6 @@
 // A unit in place.
 ghost use Rattle.std.specs.Prelude.{◌≡◌, ◌<◌, ◌^◌};
-ghost use Rattle.plain_model.specs.Pages.{HasSpace};
+ghost use Rattle.page_contracts.specs.Pages.{HasSpace};
 ghost use Rattle.ka10_unit.specs.InPlace.{InPlace};
 ghost use Rattle.ka10_unit.specs.Fetches.{FetchedUnit, IsThere};
 
@@ -9,7 +9,8 @@ use crate::dispatch::carry;
 use crate::ending::Quick;
 use crate::fetch_page::FetchPage;
 use crate::fetches::fetch;
-use plain_model::{Pages, Regs, SpaceHandle};
+use page_contracts::{Pages, SpaceHandle};
+use plain_units::Regs;
 
 // Indirect words are followed as far as these are more than they.
 const INDIRECT_WORDS: u32 = 13;

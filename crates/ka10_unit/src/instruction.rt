@@ -1,6 +1,6 @@
 // An instruction whose address is known.
 ghost use Rattle.std.specs.Prelude.{◌<◌, ◌^◌};
-ghost use Rattle.plain_model.specs.Limits.{IsAddress};
+ghost use Rattle.machine_names.specs.Bounds.{IsAddress};
 
 use word36::Word;
 

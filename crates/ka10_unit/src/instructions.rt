@@ -20,7 +20,7 @@ use crate::operations::{commit_operation, commit_shift};
 use crate::stacks::{commit_popj, commit_push_or_pop, commit_pushj};
 use crate::words::{commit_blt, commit_boolean, commit_exch, commit_half, commit_test};
 use ka10_table::TableRow;
-use plain_model::Regs;
+use plain_units::Regs;
 use word36::Word;
 
 /// An instruction that can be committed. What is generic over it is compiled for each family by
@@ -57,7 +57,7 @@ impl Commit for Move {
     ghost is_valid = { λ i. (i.row.family ≡ family.Move) × (IsArithmetic i.op) };
 
     #[inline(always)]
-    #[tactic(auto, unfolding(plain_model::specs::Deeds::deed_of))]
+    #[tactic(auto, unfolding(plain_units::specs::Deeds::deed_of))]
     fn commit(self, regs: &mut Regs, ac: u8, e: u32, last: Word, m: Word) -> Committed {
         commit_move(self.row.mode, self.op, regs, ac, e, m)
     }
@@ -76,7 +76,7 @@ impl Commit for Operation {
     ghost is_valid = { λ i. (IsOperation i.row.family) × (IsArithmetic i.op) };
 
     #[inline(always)]
-    #[tactic(auto, unfolding(plain_model::specs::Deeds::deed_of))]
+    #[tactic(auto, unfolding(plain_units::specs::Deeds::deed_of))]
     fn commit(self, regs: &mut Regs, ac: u8, e: u32, last: Word, m: Word) -> Committed {
         commit_operation(self.row.mode, self.op, regs, ac, e, m)
     }
@@ -95,7 +95,7 @@ impl Commit for Shift {
     ghost is_valid = { λ i. (IsShiftOfWords i.row.family) × (IsShift i.op) };
 
     #[inline(always)]
-    #[tactic(auto, unfolding(plain_model::specs::Deeds::deed_of))]
+    #[tactic(auto, unfolding(plain_units::specs::Deeds::deed_of))]
     fn commit(self, regs: &mut Regs, ac: u8, e: u32, last: Word, m: Word) -> Committed {
         commit_shift(self.op, regs, ac, e)
     }
@@ -111,7 +111,7 @@ impl Commit for Jffo {
     ghost is_valid = { λ i. Unit {0} };
 
     #[inline(always)]
-    #[tactic(auto, unfolding(plain_model::specs::Deeds::deed_of))]
+    #[tactic(auto, unfolding(plain_units::specs::Deeds::deed_of))]
     fn commit(self, regs: &mut Regs, ac: u8, e: u32, last: Word, m: Word) -> Committed {
         commit_jffo(regs, ac, e)
     }
@@ -127,7 +127,7 @@ impl Commit for Exch {
     ghost is_valid = { λ i. Unit {0} };
 
     #[inline(always)]
-    #[tactic(auto, unfolding(plain_model::specs::Deeds::deed_of))]
+    #[tactic(auto, unfolding(plain_units::specs::Deeds::deed_of))]
     fn commit(self, regs: &mut Regs, ac: u8, e: u32, last: Word, m: Word) -> Committed {
         commit_exch(regs, ac, e, m)
     }
@@ -143,7 +143,7 @@ impl Commit for Blt {
     ghost is_valid = { λ i. Unit {0} };
 
     #[inline(always)]
-    #[tactic(auto, unfolding(plain_model::specs::Deeds::deed_of))]
+    #[tactic(auto, unfolding(plain_units::specs::Deeds::deed_of))]
     fn commit(self, regs: &mut Regs, ac: u8, e: u32, last: Word, m: Word) -> Committed {
         commit_blt(regs, ac, e, m)
     }
@@ -161,7 +161,7 @@ impl Commit for Aobj {
     ghost is_valid = { λ i. Unit {0} };
 
     #[inline(always)]
-    #[tactic(auto, unfolding(plain_model::specs::Deeds::deed_of))]
+    #[tactic(auto, unfolding(plain_units::specs::Deeds::deed_of))]
     fn commit(self, regs: &mut Regs, ac: u8, e: u32, last: Word, m: Word) -> Committed {
         commit_aobj(self.code, regs, ac, e)
     }
@@ -177,7 +177,7 @@ impl Commit for Jrst {
     ghost is_valid = { λ i. Unit {0} };
 
     #[inline(always)]
-    #[tactic(auto, unfolding(plain_model::specs::Deeds::deed_of))]
+    #[tactic(auto, unfolding(plain_units::specs::Deeds::deed_of))]
     fn commit(self, regs: &mut Regs, ac: u8, e: u32, last: Word, m: Word) -> Committed {
         commit_jrst(regs, ac, e, last)
     }
@@ -193,7 +193,7 @@ impl Commit for Jfcl {
     ghost is_valid = { λ i. Unit {0} };
 
     #[inline(always)]
-    #[tactic(auto, unfolding(plain_model::specs::Deeds::deed_of))]
+    #[tactic(auto, unfolding(plain_units::specs::Deeds::deed_of))]
     fn commit(self, regs: &mut Regs, ac: u8, e: u32, last: Word, m: Word) -> Committed {
         commit_jfcl(regs, ac, e)
     }
@@ -209,7 +209,7 @@ impl Commit for Pushj {
     ghost is_valid = { λ i. Unit {0} };
 
     #[inline(always)]
-    #[tactic(auto, unfolding(plain_model::specs::Deeds::deed_of))]
+    #[tactic(auto, unfolding(plain_units::specs::Deeds::deed_of))]
     fn commit(self, regs: &mut Regs, ac: u8, e: u32, last: Word, m: Word) -> Committed {
         commit_pushj(regs, ac, e)
     }
@@ -227,7 +227,7 @@ impl Commit for PushPop {
     ghost is_valid = { λ i. Unit {0} };
 
     #[inline(always)]
-    #[tactic(auto, unfolding(plain_model::specs::Deeds::deed_of))]
+    #[tactic(auto, unfolding(plain_units::specs::Deeds::deed_of))]
     fn commit(self, regs: &mut Regs, ac: u8, e: u32, last: Word, m: Word) -> Committed {
         commit_push_or_pop(self.code, regs, ac, e, m)
     }
@@ -243,7 +243,7 @@ impl Commit for Popj {
     ghost is_valid = { λ i. Unit {0} };
 
     #[inline(always)]
-    #[tactic(auto, unfolding(plain_model::specs::Deeds::deed_of))]
+    #[tactic(auto, unfolding(plain_units::specs::Deeds::deed_of))]
     fn commit(self, regs: &mut Regs, ac: u8, e: u32, last: Word, m: Word) -> Committed {
         commit_popj(regs, ac, m)
     }
@@ -261,7 +261,7 @@ impl Commit for JsrJsp {
     ghost is_valid = { λ i. Unit {0} };
 
     #[inline(always)]
-    #[tactic(auto, unfolding(plain_model::specs::Deeds::deed_of))]
+    #[tactic(auto, unfolding(plain_units::specs::Deeds::deed_of))]
     fn commit(self, regs: &mut Regs, ac: u8, e: u32, last: Word, m: Word) -> Committed {
         commit_jsr_or_jsp(self.code, regs, ac, e)
     }
@@ -279,7 +279,7 @@ impl Commit for JsaJra {
     ghost is_valid = { λ i. Unit {0} };
 
     #[inline(always)]
-    #[tactic(auto, unfolding(plain_model::specs::Deeds::deed_of))]
+    #[tactic(auto, unfolding(plain_units::specs::Deeds::deed_of))]
     fn commit(self, regs: &mut Regs, ac: u8, e: u32, last: Word, m: Word) -> Committed {
         commit_jsa_or_jra(self.code, regs, ac, e, m)
     }
@@ -297,7 +297,7 @@ impl Commit for Compare {
     ghost is_valid = { λ i. Unit {0} };
 
     #[inline(always)]
-    #[tactic(auto, unfolding(plain_model::specs::Deeds::deed_of))]
+    #[tactic(auto, unfolding(plain_units::specs::Deeds::deed_of))]
     fn commit(self, regs: &mut Regs, ac: u8, e: u32, last: Word, m: Word) -> Committed {
         commit_compare(self.code, regs, ac, m)
     }
@@ -315,7 +315,7 @@ impl Commit for JumpSkip {
     ghost is_valid = { λ i. i.code < 16 };
 
     #[inline(always)]
-    #[tactic(auto, unfolding(plain_model::specs::Deeds::deed_of))]
+    #[tactic(auto, unfolding(plain_units::specs::Deeds::deed_of))]
     fn commit(self, regs: &mut Regs, ac: u8, e: u32, last: Word, m: Word) -> Committed {
         commit_jump_or_skip(self.code, regs, ac, e, m)
     }
@@ -333,7 +333,7 @@ impl Commit for AddOne {
     ghost is_valid = { λ i. i.code < 16 };
 
     #[inline(always)]
-    #[tactic(auto, unfolding(plain_model::specs::Deeds::deed_of))]
+    #[tactic(auto, unfolding(plain_units::specs::Deeds::deed_of))]
     fn commit(self, regs: &mut Regs, ac: u8, e: u32, last: Word, m: Word) -> Committed {
         commit_count(Word::wrapped(1), self.code, regs, ac, e, m)
     }
@@ -351,7 +351,7 @@ impl Commit for SubOne {
     ghost is_valid = { λ i. i.code < 16 };
 
     #[inline(always)]
-    #[tactic(auto, unfolding(plain_model::specs::Deeds::deed_of))]
+    #[tactic(auto, unfolding(plain_units::specs::Deeds::deed_of))]
     fn commit(self, regs: &mut Regs, ac: u8, e: u32, last: Word, m: Word) -> Committed {
         commit_count(Word::wrapped(Word::MASK), self.code, regs, ac, e, m)
     }
@@ -370,7 +370,7 @@ impl Commit for Boolean {
     ghost is_valid = { λ i. (i.row.family ≡ family.Boolean) × (IsBoolean i.op) };
 
     #[inline(always)]
-    #[tactic(auto, unfolding(plain_model::specs::Deeds::deed_of))]
+    #[tactic(auto, unfolding(plain_units::specs::Deeds::deed_of))]
     fn commit(self, regs: &mut Regs, ac: u8, e: u32, last: Word, m: Word) -> Committed {
         commit_boolean(self.row.mode, self.op, regs, ac, e, m)
     }
@@ -389,7 +389,7 @@ impl Commit for Half {
     ghost is_valid = { λ i. (i.row.family ≡ family.Half) × (IsHalfwordMove i.op) };
 
     #[inline(always)]
-    #[tactic(auto, unfolding(plain_model::specs::Deeds::deed_of))]
+    #[tactic(auto, unfolding(plain_units::specs::Deeds::deed_of))]
     fn commit(self, regs: &mut Regs, ac: u8, e: u32, last: Word, m: Word) -> Committed {
         commit_half(self.row.mode, self.op, regs, ac, e, m)
     }
@@ -408,7 +408,7 @@ impl Commit for Test {
     ghost is_valid = { λ i. (i.row.family ≡ family.Test) × (IsTest i.op) };
 
     #[inline(always)]
-    #[tactic(auto, unfolding(plain_model::specs::Deeds::deed_of))]
+    #[tactic(auto, unfolding(plain_units::specs::Deeds::deed_of))]
     fn commit(self, regs: &mut Regs, ac: u8, e: u32, last: Word, m: Word) -> Committed {
         commit_test(self.op, regs, ac, m)
     }

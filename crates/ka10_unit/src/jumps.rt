@@ -1,7 +1,7 @@
 // Jumps, calls and returns.
 ghost use Rattle.std.specs.Prelude.{◌≡◌, ◌+◌, ◌%◌, ◌^◌, ◌<◌, Bool, false, if◌then◌else◌};
 ghost use Rattle.word36.specs.Shifts.{first_one};
-ghost use Rattle.plain_model.specs.Deeds.{adds_to_both, calls_by_accumulator, calls_by_word, finds_first_one, in_ac, jumps, jumps_on_flags};
+ghost use Rattle.plain_units.specs.Deeds.{adds_to_both, calls_by_accumulator, calls_by_word, finds_first_one, in_ac, jumps, jumps_on_flags};
 ghost use Rattle.ka10_unit.specs.Commits.{Leaves};
 
 use crate::committed::Committed;
@@ -9,7 +9,7 @@ use crate::program_words::{flags_of, pc_word};
 use crate::registers::{behind, jump_if, next, word_in};
 use crate::stacks::{is_negative, up};
 use ka10_alu::shift;
-use plain_model::Regs;
+use plain_units::Regs;
 use word36::Word;
 use word36::opcodes::JFFO;
 

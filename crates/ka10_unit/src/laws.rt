@@ -3,11 +3,11 @@
 ghost use Rattle.std.specs.Prelude.{◌≡◌, ◌⊎◌, ℕ, ◌+◌, ◌*◌, ◌<◌, ◌≤◌, ◌^◌, List};
 ghost use Rattle.std.specs.Ordering.{nat_cmp};
 ghost use Rattle.word36.specs.Words.{IsWord};
-ghost use Rattle.plain_model.specs.declared.names.ForkName.{ForkName as AForkName};
-ghost use Rattle.plain_model.specs.Steps.{Progress, Steps, plainly, run};
+ghost use Rattle.machine_names.specs.declared.names.ForkName.{ForkName as AForkName};
+ghost use Rattle.plain_units.specs.Steps.{Progress, Steps, plainly, run};
 ghost use Rattle.ka10_unit.specs.Gathers.{Framed};
 ghost use Rattle.ka10_unit.specs.Taking.{IsPlain, NeedsAway, run_over};
-ghost use Rattle.plain_model.specs.declared.fork.Regs.{Regs as ARegs};
+ghost use Rattle.plain_units.specs.declared.registers.Regs.{Regs as ARegs};
 ghost use Rattle.ka10_unit.specs.Laws.{ChangePlaces, ComesBack, CopiesBlock, GoesOver, MovesOne, ReturnsByPop, ReturnsByWord};
 
 /// EXCH: the accumulator and the word at E change places.

@@ -1,6 +1,6 @@
 //! The unit of an instruction: in place where each page is there, and planned over any pages.
 //! To the layers above a unit done leaves what the plain machine's leaves, and a plan says what it comes to or needs first.
-//! Stands on `plain_model` for the definitions, and on the `ka10_` crates for rows and operations.
+//! Stands on `plain_units` for the definitions, and on the `ka10_` crates for rows and operations.
 #![tactic(auto)]
 
 mod acts;

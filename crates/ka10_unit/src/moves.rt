@@ -1,7 +1,7 @@
 // Moves of whole words.
 ghost use Rattle.std.specs.Prelude.{◌≡◌, ℕ, ◌^◌, ◌<◌};
 ghost use Rattle.word36.specs.Arithmetic.{IsArithmetic};
-ghost use Rattle.plain_model.specs.Deeds.{behind_ac, in_ac, moves};
+ghost use Rattle.plain_units.specs.Deeds.{behind_ac, in_ac, moves};
 ghost use Rattle.ka10_unit.specs.Commits.{Leaves};
 
 use crate::committed::{Committed, Post};
@@ -9,7 +9,7 @@ use crate::operations::commit_operation;
 use crate::registers::{behind, next, set, word_in};
 use ka10_alu::arith;
 use ka10_table::OpMode;
-use plain_model::Regs;
+use plain_units::Regs;
 use word36::Word;
 
 /// MOVE, MOVS, MOVN and MOVM (200 to 217) in one of their modes. In mode M the accumulator is the

@@ -1,13 +1,13 @@
 // Which word an instruction takes, and where it stores one.
 ghost use Rattle.std.specs.Prelude.{◌≡◌, ℕ, ◌^◌, ◌<◌, IfSome, Option};
 ghost use Rattle.word36.specs.Arithmetic.{Outcome};
-ghost use Rattle.plain_model.specs.Deeds.{by_mode, deed_of, moved_from, moves, moves_half, of_second_eight, operand_of, operated, taken_of};
+ghost use Rattle.plain_units.specs.Deeds.{by_mode, deed_of, moved_from, moves, moves_half, of_second_eight, operand_of, operated, taken_of};
 ghost use Rattle.ka10_unit.specs.Commits.{LiesBelow, store_at, stored_word};
 
 use crate::registers::word_in;
 use crate::stacks::pushed;
 use ka10_table::{Family, OpMode, TableRow};
-use plain_model::Regs;
+use plain_units::Regs;
 
 /// Where an instruction stores a word, with the address, if it stores one.
 #[derive(Clone, Copy, Debug, PartialEq, Eq)]
@@ -23,7 +23,7 @@ pub enum Destination {
 
 /// The address of the word that the instruction of a row takes. None exactly where it takes none:
 /// its operand is then 0,,E.
-#[tactic(auto, unfolding(plain_model::specs::Deeds::taken_of))]
+#[tactic(auto, unfolding(plain_units::specs::Deeds::taken_of))]
 pub fn operand_address(row: TableRow, regs: &Regs, ac: u8, e: u32) -> Option<u32>
     requires ac { ac < 16 }
     requires e { e < 2 ^ 18 }
@@ -88,7 +88,7 @@ fn address_behind_eight(code: u8, e: u32) -> Option<u32>
 
 /// Where the instruction of a row stores a word, if it stores one: whether it does is told once it
 /// is committed, since a division that isn't done stores none.
-#[tactic(auto, unfolding(plain_model::specs::Deeds::deed_of))]
+#[tactic(auto, unfolding(plain_units::specs::Deeds::deed_of))]
 pub fn destination_of(row: TableRow, regs: &Regs, ac: u8, e: u32) -> Destination
     requires ac { ac < 16 }
     requires e { e < 2 ^ 18 }

@@ -2,14 +2,14 @@
 ghost use Rattle.std.specs.Prelude.{◌≡◌, ℕ, ◌^◌, ◌<◌, Some, None};
 ghost use Rattle.word36.specs.Arithmetic.{IsArithmetic, arithmetic};
 ghost use Rattle.word36.specs.Shifts.{IsShift};
-ghost use Rattle.plain_model.specs.Deeds.{behind_ac, in_ac, operated, shifts};
+ghost use Rattle.plain_units.specs.Deeds.{behind_ac, in_ac, operated, shifts};
 ghost use Rattle.ka10_unit.specs.Commits.{Leaves, outcome_of};
 
 use crate::committed::{Committed, Post};
 use crate::registers::{behind, give, give_next, next, set, stored_in, word_in};
 use ka10_alu::{Out, arith, shift};
 use ka10_table::OpMode;
-use plain_model::Regs;
+use plain_units::Regs;
 use word36::Word;
 
 /// What an operation gave, in its mode.

@@ -1,12 +1,12 @@
 // A unit planned: any word whatever, on pages that it leaves as they are.
 ghost use Rattle.std.specs.Prelude.{◌≡◌, ◌<◌, ◌^◌, IfErr, true};
 ghost use Rattle.ka10_table.specs.Rows.{IsInLine, row_of};
-ghost use Rattle.plain_model.specs.Addressing.{ac_field, opcode};
-ghost use Rattle.plain_model.specs.Instructions.{execute as executed, executes, local_word};
-ghost use Rattle.plain_model.specs.Limits.{IsAddress};
-ghost use Rattle.plain_model.specs.Outcome.{DrumWords};
-ghost use Rattle.plain_model.specs.declared.names.ForkName.{ForkName as AForkName};
-ghost use Rattle.plain_model.specs.Steps.{refers};
+ghost use Rattle.plain_units.specs.Addressing.{ac_field, opcode};
+ghost use Rattle.plain_units.specs.Instructions.{execute as executed, executes, local_word};
+ghost use Rattle.machine_names.specs.Bounds.{IsAddress};
+ghost use Rattle.page_contracts.specs.DrumWords.{DrumWords};
+ghost use Rattle.machine_names.specs.declared.names.ForkName.{ForkName as AForkName};
+ghost use Rattle.plain_units.specs.Steps.{refers};
 ghost use Rattle.ka10_unit.specs.declared.taken.Taken.{Taken as ATaken};
 ghost use Rattle.ka10_unit.specs.Gathers.{Serves, framed};
 ghost use Rattle.ka10_unit.specs.Planning.{Concludes, IsPlan, IsStep, NeedsNothing, Plans, StepsOn, as_step, calls_local, does_at, is_illegal as is_illegal_word, stopped_by};
@@ -18,7 +18,9 @@ use crate::ends::{Ending, ordinary};
 use crate::pointed::byte_instruction;
 use crate::taken::{Stop, Taken, refer};
 use ka10_table::{Family, TableRow, row};
-use plain_model::{ForkName, Kind, Need, Pages, Put, Regs};
+use machine_names::{ForkName, Kind};
+use page_contracts::{Need, Pages};
+use plain_units::{Put, Regs};
 use word36::Word;
 
 // Where a local call stores its word, and where the word stands that it executes.

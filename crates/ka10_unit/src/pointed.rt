@@ -1,8 +1,8 @@
 // Byte instructions: the pointer, and the word whose byte it names.
 ghost use Rattle.std.specs.Prelude.{◌≡◌, ◌<◌, ◌^◌, IfErr, IfOk, true};
-ghost use Rattle.plain_model.specs.Instructions.{deposits_byte, does_pointer, first_part_done, loads_byte};
-ghost use Rattle.plain_model.specs.Limits.{IsAddress};
-ghost use Rattle.plain_model.specs.Outcome.{DrumWords};
+ghost use Rattle.plain_units.specs.Instructions.{deposits_byte, does_pointer, first_part_done, loads_byte};
+ghost use Rattle.machine_names.specs.Bounds.{IsAddress};
+ghost use Rattle.page_contracts.specs.DrumWords.{DrumWords};
 ghost use Rattle.ka10_unit.specs.Gathers.{IsOf, Serves, framed};
 ghost use Rattle.ka10_unit.specs.Planning.{Ends, LeavesEnd};
 ghost use Rattle.ka10_unit.specs.Taking.{IsOpen, IsPutBelow, IsTrap, Stands};
@@ -15,7 +15,9 @@ use crate::bytes::{
 use crate::ends::{Ending, finish};
 use crate::operands::Destination;
 use crate::taken::{Stop, Taken, refer};
-use plain_model::{ForkName, Kind, Pages, Regs};
+use machine_names::{ForkName, Kind};
+use page_contracts::Pages;
+use plain_units::Regs;
 use word36::Word;
 
 /// The byte that a pointer names goes to AC.

@@ -1,9 +1,9 @@
 // The PC word: the flags, and the address of the next instruction.
 ghost use Rattle.std.specs.Prelude.{◌≡◌, ◌^◌, ◌<◌, ◌≤◌};
-ghost use Rattle.plain_model.specs.Deeds.{flag_bit, flags_half, half_flags, pc_word};
+ghost use Rattle.plain_units.specs.Deeds.{flag_bit, flags_half, half_flags, pc_word};
 
 use crate::registers::next;
-use plain_model::Regs;
+use plain_units::Regs;
 use word36::{Flags, Word};
 
 /// A flag as a bit of the left half, with so many bits to its right.

@@ -1,12 +1,12 @@
 // The steps of commits: the program counter, flags, accumulators.
 ghost use Rattle.std.specs.Prelude.{◌≡◌, ℕ, ◌+◌, ◌%◌, ◌^◌, ◌<◌, if◌then◌else◌};
-ghost use Rattle.plain_model.specs.Deeds.{behind_ac, by_mode, in_ac, next_pc, set_with, skip_pc, to_ac, to_e, to_next, unless_zero};
-ghost use Rattle.plain_model.specs.Instructions.{with_deed, with_word};
+ghost use Rattle.plain_units.specs.Deeds.{behind_ac, by_mode, in_ac, next_pc, set_with, skip_pc, to_ac, to_e, to_next, unless_zero};
+ghost use Rattle.plain_units.specs.Instructions.{with_deed, with_word};
 ghost use Rattle.ka10_unit.specs.Commits.{Leaves, stored_word};
 
 use crate::committed::{Committed, Post};
 use ka10_table::OpMode;
-use plain_model::Regs;
+use plain_units::Regs;
 use word36::{Flags, Word};
 
 /// The address of the next instruction.

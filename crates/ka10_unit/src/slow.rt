@@ -1,6 +1,6 @@
 // One unit by its plan.
 ghost use Rattle.std.specs.Prelude.{◌≡◌, ◌<◌, ◌+◌, ◌^◌, length};
-ghost use Rattle.plain_model.specs.declared.names.TheConstants.{ACCUMULATORS};
+ghost use Rattle.machine_names.specs.declared.names.TheConstants.{ACCUMULATORS};
 ghost use Rattle.ka10_unit.specs.Carrying.{Slowly};
 ghost use Rattle.ka10_unit.specs.Gathers.{Serves};
 
@@ -8,7 +8,9 @@ use crate::carry::carry;
 use crate::committed::Post;
 use crate::plans::{Planned, plan};
 use crate::taken::Taken;
-use plain_model::{ForkName, Need, Pages, Regs};
+use machine_names::ForkName;
+use page_contracts::{Need, Pages};
+use plain_units::Regs;
 
 /// How a unit came out.
 #[derive(Clone, Copy, Debug, PartialEq, Eq)]

@@ -1,15 +1,17 @@
 // Where the words of a fork's space are: in its accumulators, or in pages that a look has found.
 ghost use Rattle.std.specs.Prelude.{◌≡◌, ◌/◌, ◌%◌, ◌<◌, ◌^◌, Some, IsSome, IfSome, true};
 ghost use Rattle.outside.specs.declared.TheConstants.{PAGE_WORDS};
-ghost use Rattle.plain_model.specs.declared.names.ForkName.{ForkName as AForkName};
-ghost use Rattle.plain_model.specs.Limits.{IsAddress};
-ghost use Rattle.plain_model.specs.Outcome.{DrumWords};
-ghost use Rattle.plain_model.specs.Pages.{HasSpace, CanChange};
+ghost use Rattle.machine_names.specs.declared.names.ForkName.{ForkName as AForkName};
+ghost use Rattle.machine_names.specs.Bounds.{IsAddress};
+ghost use Rattle.page_contracts.specs.DrumWords.{DrumWords};
+ghost use Rattle.page_contracts.specs.Pages.{HasSpace, CanChange};
 ghost use Rattle.ka10_unit.specs.Glide.{Takes, is_ready, word_of};
 ghost use Rattle.ka10_unit.specs.Spots.{IsReached, IsSpot, StoredIf};
 
+use machine_names::{ACCUMULATORS, Kind};
 use outside::PAGE_WORDS;
-use plain_model::{ACCUMULATORS, Found, Kind, Pages, Regs, SpaceHandle};
+use page_contracts::{Found, Pages, SpaceHandle};
+use plain_units::Regs;
 use word36::Word;
 
 /// Where the word at an address is.

@@ -1,13 +1,13 @@
 // Pushdown lists, which an accumulator names: its left half counts, its right half is an address.
 ghost use Rattle.std.specs.Prelude.{◌≡◌, ◌-◌, ◌^◌, ◌<◌};
 ghost use Rattle.word36.specs.Words as words;
-ghost use Rattle.plain_model.specs.Deeds.{calls_by_push, down, in_ac, pushdown_post, pushes_or_pops, returns_by_pop, up};
+ghost use Rattle.plain_units.specs.Deeds.{calls_by_push, down, in_ac, pushdown_post, pushes_or_pops, returns_by_pop, up};
 ghost use Rattle.ka10_unit.specs.Commits.{Leaves, channel_of};
 
 use crate::committed::{Committed, Post};
 use crate::program_words::pc_word;
 use crate::registers::{next, word_in};
-use plain_model::Regs;
+use plain_units::Regs;
 use word36::Word;
 
 // One in each half.

@@ -2,26 +2,25 @@
 ghost use Rattle.std.specs.Prelude.{◌≡◌, ◌≢◌, ◌+◌, ◌-◌, ◌/◌, ◌%◌, ◌≤◌, ◌<◌, ◌^◌, ◌==◌, ◌&&◌, List, [], ◌∷◌, ◌++◌, ℕ, length, true, false, None, Some, Option, nat_lt, OnErr, IfErr, slice_index, slice_set, is_some};
 ghost use Rattle.std.specs.Option.{option_map_or};
 ghost use Rattle.outside.specs.declared.TheConstants.{PAGE_WORDS};
-ghost use Rattle.plain_model.specs.declared.names.TheConstants.{ACCUMULATORS, TERMINALS};
-ghost use Rattle.plain_model.specs.Limits.{IsAddress};
-ghost use Rattle.plain_model.specs.Outcome.{DrumWords};
-ghost use Rattle.plain_model.specs.State.{NumberedPages};
-ghost use Rattle.plain_model.specs.Pages.{Scene};
-ghost use Rattle.plain_model.specs.References.{in_map, page_at, slot_at, word_at as word_at_spot};
-ghost use Rattle.plain_model.specs.Room.{same_page};
-ghost use Rattle.plain_model.specs.Steps.{denied_channel, is_accumulator, refers, widens, word_taken, seen};
-ghost use Rattle.plain_model.specs.declared.names.PageName.{PageName as APageName};
+ghost use Rattle.machine_names.specs.declared.names.TheConstants.{ACCUMULATORS, TERMINALS};
+ghost use Rattle.machine_names.specs.Bounds.{IsAddress};
+ghost use Rattle.page_contracts.specs.DrumWords.{DrumWords};
+ghost use Rattle.plain_pages.specs.PlainPages.{NumberedPages};
+ghost use Rattle.page_contracts.specs.Pages.{Scene};
+ghost use Rattle.plain_pages.specs.References.{in_map, page_at, slot_at, word_at as word_at_spot};
+ghost use Rattle.plain_pages.specs.Room.{same_page};
+ghost use Rattle.plain_units.specs.Steps.{denied_channel, is_accumulator, refers, widens, word_taken, seen};
+ghost use Rattle.machine_names.specs.declared.names.PageName.{PageName as APageName};
 ghost use Rattle.page_gather.specs.Gathering.{AreSound, Gathers, IsNear, left_of};
 ghost use Rattle.ka10_unit.specs.Gathers.{IsOf, Serves, framed};
 ghost use Rattle.ka10_unit.specs.Taking.{AsksAt, CanPut, CanWrite, Follows, HasPage, IsOpen, IsPutBelow, IsTrap, Stands, StaysOpen, progress, so_far, stands_at, widened_by};
 
 use arrayvec::ArrayVec;
+use machine_names::{ACCUMULATORS, ForkName, Kind, Place, Slot, Tty};
 use outside::PAGE_WORDS;
+use page_contracts::{Need, Pages};
 use page_gather::{Added, Gather};
-use plain_model::{
-    ACCUMULATORS, ForkName, Kind, MOST_REFERENCES, Need, Pages, Place, Put, Reference, Regs, Slot,
-    Tty, channel,
-};
+use plain_units::{MOST_REFERENCES, Put, Reference, Regs, channel};
 use word36::Word;
 
 // How many words a page has, as addresses count them.

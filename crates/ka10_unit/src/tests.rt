@@ -4,7 +4,7 @@ ghost use Rattle.std.specs.Prelude.{◌<◌, ◌^◌};
 
 use crate::{Committed, Post, commit_row, flags_of, half_of_flags};
 use ka10_table::row;
-use plain_model::Regs;
+use plain_units::Regs;
 use word36::Word;
 
 // The accumulator, and the one behind it.

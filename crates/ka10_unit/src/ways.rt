@@ -1,8 +1,8 @@
 // How an instruction is done in place behind its effective address, by the words that it refers to.
 ghost use Rattle.std.specs.Prelude.{◌≡◌, ℕ, ◌^◌, ◌<◌, Some, None, true};
-ghost use Rattle.plain_model.specs.Deeds.{in_ac};
-ghost use Rattle.plain_model.specs.Limits.{IsAddress};
-ghost use Rattle.plain_model.specs.Pages.{HasSpace};
+ghost use Rattle.plain_units.specs.Deeds.{in_ac};
+ghost use Rattle.machine_names.specs.Bounds.{IsAddress};
+ghost use Rattle.page_contracts.specs.Pages.{HasSpace};
 ghost use Rattle.ka10_unit.specs.InPlace.{Addressee, Finish, InPlace, IsOwnRow, deed_in, is_deed, taken_in};
 ghost use Rattle.ka10_unit.specs.Stores.{GoesTo, IsNowhere};
 ghost use Rattle.ka10_unit.specs.Targets.{unstored, operand, place_of, target_of};
@@ -11,7 +11,9 @@ use crate::ending::{Quick, ended};
 use crate::instruction::Instruction;
 use crate::instructions::Commit;
 use crate::spots::{load, spot_to_change, spot_to_write, store, take};
-use plain_model::{Kind, Pages, Regs, SpaceHandle};
+use machine_names::Kind;
+use page_contracts::{Pages, SpaceHandle};
+use plain_units::Regs;
 use word36::Word;
 
 /// A deed that stores no word.

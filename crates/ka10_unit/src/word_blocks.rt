@@ -1,11 +1,11 @@
 // Sixteen words of a fork, from an address on.
 ghost use Rattle.std.specs.Prelude.{◌≡◌, ◌<◌, ◌^◌, ℕ, IfErr, None, true};
-ghost use Rattle.plain_model.specs.Calls.{next_address};
-ghost use Rattle.plain_model.specs.ForkCalls.{stored_from};
-ghost use Rattle.plain_model.specs.Limits.{IsAddress};
-ghost use Rattle.plain_model.specs.Outcome.{DrumWords};
-ghost use Rattle.plain_model.specs.Pages.{StaysPut};
-ghost use Rattle.plain_model.specs.declared.names.TheConstants.{ACCUMULATORS};
+ghost use Rattle.plain_units.specs.Blocks.{next_address};
+ghost use Rattle.plain_units.specs.Blocks.{stored_from};
+ghost use Rattle.machine_names.specs.Bounds.{IsAddress};
+ghost use Rattle.page_contracts.specs.DrumWords.{DrumWords};
+ghost use Rattle.page_contracts.specs.Pages.{StaysPut};
+ghost use Rattle.machine_names.specs.declared.names.TheConstants.{ACCUMULATORS};
 ghost use Rattle.ka10_unit.specs.Blocks.{AreOpenAt, IsStoredAt, TakesBlock, stored_word};
 ghost use Rattle.ka10_unit.specs.Carrying.{Grows};
 ghost use Rattle.ka10_unit.specs.Gathers.{IsOf, Serves, framed};
@@ -13,7 +13,9 @@ ghost use Rattle.ka10_unit.specs.Taking.{IsTrap, Stands, pages_so_far, so_far};
 
 use crate::carry::{carry, store};
 use crate::taken::{Stop, Taken, refer_next};
-use plain_model::{ACCUMULATORS, ForkName, Kind, Pages, Put, Regs};
+use machine_names::{ACCUMULATORS, ForkName, Kind};
+use page_contracts::Pages;
+use plain_units::{Put, Regs};
 use word36::Word;
 
 /// How many words a block has.

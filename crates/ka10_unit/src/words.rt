@@ -3,14 +3,14 @@ ghost use Rattle.std.specs.Prelude.{◌≡◌, ◌^◌, ◌<◌};
 ghost use Rattle.word36.specs.Boolean.{IsBoolean, boolean_of};
 ghost use Rattle.word36.specs.Halves.{IsHalfwordMove};
 ghost use Rattle.word36.specs.Tests.{IsTest};
-ghost use Rattle.plain_model.specs.Deeds.{by_mode, exchanges, halves_up, in_ac, moves_block, moves_half, tests};
+ghost use Rattle.plain_units.specs.Deeds.{by_mode, exchanges, halves_up, in_ac, moves_block, moves_half, tests};
 ghost use Rattle.ka10_unit.specs.Commits.{Leaves};
 
 use crate::committed::Committed;
 use crate::registers::{commit_result, next, skip_if, word_in};
 use ka10_alu::{boolean, half, mask, test};
 use ka10_table::OpMode;
-use plain_model::Regs;
+use plain_units::Regs;
 use word36::Word;
 
 /// SETZ to SETO (400 to 477) in one of their modes.

@@ -5,20 +5,21 @@ use Rattle.std.proofs.lemmas.List.{length-replicate}
 use Rattle.std.specs.declared.cmp.Ordering.{Ordering}
 use Rattle.std.specs.Ordering.{nat_cmp}
 use Rattle.std.specs.FinMap as fin
-use Rattle.plain_model.specs.declared.names.TheConstants.{MOST_FORKS, TERMINALS}
-use Rattle.plain_model.specs.declared.names.ForkName.{ForkName}
-use Rattle.plain_model.specs.declared.names.Tty.{Tty}
-use Rattle.plain_model.specs.State.{opening, opening_pages}
-use Rattle.plain_model.specs.Outcome.{DrumWords}
+use Rattle.machine_names.specs.declared.names.TheConstants.{MOST_FORKS, TERMINALS}
+use Rattle.machine_names.specs.declared.names.ForkName.{ForkName}
+use Rattle.machine_names.specs.declared.names.Tty.{Tty}
+use Rattle.plain_model.specs.State.{opening}
+use Rattle.plain_pages.specs.PlainPages.{opening_pages}
+use Rattle.page_contracts.specs.DrumWords.{DrumWords}
 use Rattle.plain_model.specs.declared.fork.Fork.{Fork}
-use Rattle.plain_model.specs.Orders.{fork_cmp}
-use Rattle.plain_model.specs.Pages.{PagesMeaning}
+use Rattle.machine_names.specs.Orders.{fork_cmp}
+use Rattle.page_contracts.specs.Pages.{PagesMeaning}
 use Rattle.plain_model.specs.Forks.{fork_in}
+use Rattle.plain_model.specs.Trees.{PlainTree}
 use Rattle.fork_tree.specs.Trees.{Lives, no_forks}
 use Rattle.fork_tree.proofs.Kept.{none_tree}
 use Rattle.fork_tree.proofs.Slots.{in_none}
 use Rattle.fork_calls.specs.Holding.{Holds}
-use Rattle.plain_model.specs.Trees.{PlainTree}
 use Rattle.monitor_core.specs.declared.job.Job.{Job}
 use Rattle.monitor_core.specs.declared.system.System.{System}
 use Rattle.monitor_core.specs.Jobs.{map_from, plain_job, no_jobs, job_at, jobs_of}

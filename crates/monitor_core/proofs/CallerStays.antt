@@ -8,22 +8,23 @@ use Rattle.plain_model.specs.declared.call.End.{End}
 use Rattle.plain_model.specs.declared.call.End.TheVariants.{Done, Waits, Halts, Refused, Failed, Trap}
 use Rattle.plain_model.specs.declared.call.ForkChange.{ForkChange}
 use Rattle.plain_model.specs.declared.call.ForkChange.TheVariants.{Nothing, Make, Kill, Freeze, Become, Halt, Store}
-use Rattle.plain_model.specs.declared.channel.TheConstants.{INFERIOR_ENDED}
+use Rattle.plain_units.specs.declared.channel.TheConstants.{INFERIOR_ENDED}
 use Rattle.plain_model.specs.declared.fork.Fork.{Fork}
-use Rattle.plain_model.specs.declared.fork.ForkStatus.TheVariants.{Run, Halted}
-use Rattle.plain_model.specs.declared.names.TheConstants.{MOST_FORKS}
-use Rattle.plain_model.specs.declared.names.ForkName.{ForkName}
-use Rattle.plain_model.specs.declared.names.Tty.{Tty}
+use Rattle.script_texts.specs.declared.status.ForkStatus.TheVariants.{Run, Halted}
+use Rattle.machine_names.specs.declared.names.TheConstants.{MOST_FORKS}
+use Rattle.machine_names.specs.declared.names.ForkName.{ForkName}
+use Rattle.machine_names.specs.declared.names.Tty.{Tty}
 use Rattle.plain_model.specs.Calls.{Turn, end_of, made_by, parts_behind}
-use Rattle.plain_model.specs.Forks.{ForkMap, fork_in, same_fork, superior_of, with_status}
+use Rattle.plain_model.specs.Forks.{ForkMap, fork_in, superior_of, with_status}
+use Rattle.machine_names.specs.Orders.{same_fork}
 use Rattle.plain_model.specs.ForkCalls.{ForkAsked, ForkParts, fork_call, fork_changed, fork_changed_by, killed, with_halted}
 use Rattle.plain_model.specs.Inferiors.{is_inferior, without_branch}
 use Rattle.plain_model.specs.Interrupts.{posted}
-use Rattle.plain_model.specs.State.{PlainPages}
+use Rattle.plain_pages.specs.PlainPages.{PlainPages}
 use Rattle.plain_model.specs.Trees.{PlainTree, changed, end_told, unwaited, waiters_woken, with_body, with_mark, without_wait, woken_in}
 use Rattle.plain_model.proofs.ForkEnds.{Anyhow, FitsChange, FitsEnd, call_names}
 use Rattle.plain_model.proofs.ForkMaps.{AreOwn, cases_name, get_put, get_put_other, held_there, names_same, slot_tells, superior_tells}
-use Rattle.plain_model.proofs.UnitForks.{posted_mark}
+use Rattle.plain_model.proofs.Posted.{posted_mark}
 use Rattle.fork_tree.specs.Trees.{IsTree, Lives}
 use Rattle.fork_tree.proofs.Branches.{goes, gone_or_left}
 use Rattle.fork_tree.proofs.Kept.{name_unused}

@@ -8,20 +8,20 @@ use Rattle.plain_model.specs.declared.call.End.TheVariants.{Done}
 use Rattle.plain_model.specs.declared.call.MapChange.{MapChange}
 use Rattle.plain_model.specs.declared.call.MapChange.TheVariants.{Nothing}
 use Rattle.plain_model.specs.declared.call.TheConstants.{CFORK, PBOUT, PMAP, RMAP, RPACS, SPACS}
-use Rattle.plain_model.specs.declared.fork.Answer.{Answer}
-use Rattle.plain_model.specs.declared.fork.Answer.TheVariants as answer
+use Rattle.call_turns.specs.declared.answer.Answer.{Answer}
+use Rattle.call_turns.specs.declared.answer.Answer.TheVariants as answer
 use Rattle.plain_model.specs.declared.fork.Body.{Body}
 use Rattle.plain_model.specs.declared.fork.Fork.{Fork}
-use Rattle.plain_model.specs.declared.names.Access.{Access}
-use Rattle.plain_model.specs.declared.map.Need.{Need}
-use Rattle.plain_model.specs.declared.map.MapEntry.{MapEntry}
-use Rattle.plain_model.specs.declared.map.MapEntry.TheVariants as entry
-use Rattle.plain_model.specs.declared.names.Slot.{Slot}
-use Rattle.plain_model.specs.declared.names.Tty.{Tty}
-use Rattle.plain_model.specs.State.{NumberedPages}
+use Rattle.machine_names.specs.declared.names.Access.{Access}
+use Rattle.page_contracts.specs.declared.answers.Need.{Need}
+use Rattle.plain_pages.specs.declared.map.MapEntry.{MapEntry}
+use Rattle.plain_pages.specs.declared.map.MapEntry.TheVariants as entry
+use Rattle.machine_names.specs.declared.names.Slot.{Slot}
+use Rattle.machine_names.specs.declared.names.Tty.{Tty}
+use Rattle.plain_pages.specs.PlainPages.{NumberedPages}
 use Rattle.plain_model.specs.AccessWords.{access_in}
 use Rattle.plain_model.specs.Calls.{Turn, end_of, ends, entry_of, fork_behind, given, is_among, returning}
-use Rattle.plain_model.specs.Deeds.{in_ac}
+use Rattle.plain_units.specs.Deeds.{in_ac}
 use Rattle.plain_model.specs.ForkCalls.{ForkParts, fork_call, fork_calls, fork_changed_by}
 use Rattle.plain_model.specs.MapCalls.{Asked, behind_page, is_counted, map_call, map_changed, narrows, one_page, pages_left, place_named, pmap, rmap, rpacs, slot_named, spacs}
 use Rattle.plain_model.specs.Forks.{counted, fork_in, with_regs}

@@ -3,17 +3,16 @@ use Rattle.std.proofs.Common.{◌≡◌, ℕ, false, Option, None, Some, refl, s
 use Rattle.std.specs.Prelude.{IsSome}
 use Rattle.std.specs.Option.{option_map}
 use Rattle.std.specs.FinMap as map
-use Rattle.plain_model.specs.declared.names.ForkName.{ForkName}
+use Rattle.machine_names.specs.declared.names.ForkName.{ForkName}
 use Rattle.plain_model.specs.declared.fork.Body.{Body}
 use Rattle.plain_model.specs.declared.fork.Fork.{Fork}
-use Rattle.plain_model.specs.declared.fork.ForkStatus.TheVariants.{Run}
+use Rattle.script_texts.specs.declared.status.ForkStatus.TheVariants.{Run}
 use Rattle.plain_model.specs.Events.{restarted, with_accumulator}
 use Rattle.plain_model.specs.Forks.{ForkMap}
-use Rattle.plain_model.proofs.OrderLemmas.{fork_cmp_total, fork_cmp_apart}
+use Rattle.machine_names.proofs.OrderLemmas.{fork_cmp_total, fork_cmp_apart}
+use Rattle.plain_model.specs.Trees.{changed, with_body, with_mark, PlainTree}
 use Rattle.fork_tree.specs.Changes.{with_body_of, with_mark_of}
-use Rattle.plain_model.specs.Trees.{changed, with_body, with_mark}
 use Rattle.fork_tree.specs.Trees.{IsTree}
-use Rattle.plain_model.specs.Trees.{PlainTree}
 use Rattle.fork_tree.proofs.Slots.{get_put, some_of}
 use Rattle.monitor_core.specs.Runners.{with_change}
 use Rattle.monitor_core.proofs.Maps.{insert_twice}

@@ -2,26 +2,28 @@
 use Rattle.std.proofs.Common.{◌≡◌, ℕ, ◌+◌, ◌<◌, ◌≤◌, [], ◌∷◌, List, length, set, Bool, true, false, cond, Option, None, Some, refl, sym, ◌∙◌, ap, subst, arith, nat_lt, nat_le, is_some, slice_index}
 use Rattle.std.proofs.lemmas.Bool.Decides.{nat_tests}
 use Rattle.std.specs.FinMap as fin
-use Rattle.plain_model.specs.declared.names.TheConstants.{LAST_SERIAL}
-use Rattle.plain_model.specs.declared.character.TheConstants.{PROMPT}
-use Rattle.plain_model.specs.declared.names.Tty.{Tty}
-use Rattle.plain_model.specs.declared.map.NewMap.TheVariants.{Empty as EmptyMap}
+use Rattle.machine_names.specs.declared.names.TheConstants.{LAST_SERIAL}
+use Rattle.machine_names.specs.declared.character.TheConstants.{PROMPT}
+use Rattle.machine_names.specs.declared.names.Tty.{Tty}
+use Rattle.plain_pages.specs.declared.map.NewMap.TheVariants.{Empty as EmptyMap}
 use Rattle.plain_model.specs.declared.fork.TerminalMode.TheVariants.{Command}
-use Rattle.plain_model.specs.declared.event.Event.TheVariants.{Login, Tick}
-use Rattle.plain_model.specs.declared.event.Step.TheVariants.{Outer}
-use Rattle.plain_model.specs.declared.event.Item.TheVariants.{Char}
-use Rattle.plain_model.specs.declared.event.Refusal.TheVariants.{Busy, SerialsOut, Full}
-use Rattle.plain_model.specs.Orders.{name_cmp}
-use Rattle.plain_model.specs.Outcome.{DrumWords}
-use Rattle.plain_model.specs.Limits.{IsTerminal}
-use Rattle.plain_model.specs.Room.{live, HasRoom}
+use Rattle.script_texts.specs.declared.event.Event.TheVariants.{Login, Tick}
+use Rattle.script_texts.specs.declared.event.Step.TheVariants.{Outer}
+use Rattle.script_texts.specs.declared.event.Item.TheVariants.{Char}
+use Rattle.script_texts.specs.declared.event.Refusal.TheVariants.{Busy, SerialsOut, Full}
+use Rattle.machine_names.specs.Orders.{name_cmp}
+use Rattle.page_contracts.specs.DrumWords.{DrumWords}
+use Rattle.machine_names.specs.Bounds.{IsTerminal}
+use Rattle.plain_pages.specs.Room.{live, HasRoom}
 use Rattle.plain_model.specs.Forks.{top_fork}
 use Rattle.plain_model.specs.Unit.{Effect}
-use Rattle.fork_tree.specs.Making.{with_new_in}
 use Rattle.plain_model.specs.Trees.{PlainTree, next_name}
-use Rattle.plain_model.specs.Pages.{Agrees}
-use Rattle.plain_model.specs.Events.{refused, with_map, with_job, new_job, next_fork, outer}
+use Rattle.page_contracts.specs.Pages.{Agrees}
+use Rattle.plain_model.specs.Events.{refused, with_job, new_job, next_fork, outer}
+use Rattle.plain_pages.specs.NewMaps.{with_map}
 use Rattle.plain_model.proofs.Equations.{apply_outer, outer_login, outer_tick}
+use Rattle.plain_pages.proofs.Refiled.{live_refiled}
+use Rattle.fork_tree.specs.Making.{with_new_in}
 use Rattle.monitor_core.specs.declared.job.Job.{Job}
 use Rattle.monitor_core.specs.declared.reply.Reply.TheVariants.{Nothing, One}
 use Rattle.monitor_core.specs.declared.system.System.{System}
@@ -29,7 +31,6 @@ use Rattle.monitor_core.specs.Jobs.{jobs_of, job_at, plain_job}
 use Rattle.monitor_core.specs.Systems.{state_of, FitsPages, Did}
 use Rattle.monitor_core.proofs.Lookups.{job_found, job_missing, jobs_set}
 use Rattle.monitor_core.proofs.Systems.{units_changed}
-use Rattle.plain_model.proofs.Refiled.{live_refiled}
 use Rattle.monitor_core.proofs.Rooms.{room_le, no_room_le, live_map, has_room}
 use Rattle.monitor_core.proofs.Unfiled.{named, alike}
 

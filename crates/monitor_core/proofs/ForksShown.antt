@@ -3,17 +3,17 @@ use Rattle.std.proofs.Common.{◌≡◌, ℕ, zero, suc, ◌+◌, ◌-◌, ◌�
 use Rattle.std.proofs.lemmas.List.{append-nil}
 use Rattle.std.specs.List.{cons_option, filter_map, range_with_len}
 use Rattle.std.specs.Option.{option_map_or}
-use Rattle.plain_model.specs.declared.event.Item.{Item}
-use Rattle.plain_model.specs.declared.event.Item.TheVariants.{ForkLine}
-use Rattle.plain_model.specs.declared.names.Tty.{Tty}
-use Rattle.plain_model.specs.declared.names.TheConstants.{LAST_SERIAL, MOST_FORKS}
+use Rattle.script_texts.specs.declared.event.Item.{Item}
+use Rattle.script_texts.specs.declared.event.Item.TheVariants.{ForkLine}
+use Rattle.machine_names.specs.declared.names.Tty.{Tty}
+use Rattle.machine_names.specs.declared.names.TheConstants.{LAST_SERIAL, MOST_FORKS}
 use Rattle.plain_model.specs.declared.fork.Fork.{Fork}
-use Rattle.plain_model.specs.declared.fork.ForkStatus.{ForkStatus}
-use Rattle.plain_model.specs.declared.fork.ForkStatus.TheVariants.{Run, Wait, Halted, Forced}
-use Rattle.plain_model.specs.Limits.{FitsForkLine, FitsStatus}
+use Rattle.script_texts.specs.declared.status.ForkStatus.{ForkStatus}
+use Rattle.script_texts.specs.declared.status.ForkStatus.TheVariants.{Run, Wait, Halted, Forced}
+use Rattle.script_texts.specs.Limits.{FitsForkLine, FitsStatus}
 use Rattle.plain_model.specs.Forks.{ForkMap, fork_in, fork_line, superior_of}
-use Rattle.fork_tree.specs.Trees.{IsTree, Lives}
 use Rattle.plain_model.specs.Trees.{PlainTree}
+use Rattle.fork_tree.specs.Trees.{IsTree, Lives}
 use Rattle.fork_tree.proofs.Upward.{superior_lives}
 use Rattle.monitor_core.specs.Limits.{FitsForced, IsBody}
 use Rattle.monitor_core.specs.Replies.{lines_of}

@@ -3,10 +3,10 @@ use Rattle.std.proofs.Common.{◌≡◌, ℕ, zero, suc, ◌||◌, Option, None,
 use Rattle.std.specs.Option.{option_and_then}
 use Rattle.std.specs.FinMap as map
 use Rattle.plain_model.specs.declared.fork.Fork.{Fork}
-use Rattle.plain_model.specs.declared.names.Tty.{Tty}
+use Rattle.machine_names.specs.declared.names.Tty.{Tty}
 use Rattle.plain_model.specs.Forks.{ForkMap, fork_in, is_frozen, superior_of}
-use Rattle.fork_tree.specs.Trees.{AreSlotted, IsTree, Lives}
 use Rattle.plain_model.specs.Trees.{PlainTree}
+use Rattle.fork_tree.specs.Trees.{AreSlotted, IsTree, Lives}
 use Rattle.fork_tree.proofs.Kept.{changed_tree}
 use Rattle.fork_tree.proofs.Slots.{cases_name, get_put, get_put_other, in_found, in_none, in_tells}
 

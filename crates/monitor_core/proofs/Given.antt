@@ -4,14 +4,14 @@ use Rattle.std.specs.Prelude.{Result, Ok, Err, OnErr, codes}
 use Rattle.std.specs.Result.{IsErr}
 use Rattle.std.proofs.lemmas.List.{map-append, drop_more, replicate-append-replicate}
 use Rattle.std.proofs.lemmas.Result.{on_ok_weaker, on_err_weaker}
-use Rattle.plain_model.specs.declared.character.TheConstants.{CARRIAGE_RETURN, LINE_FEED, PROMPT}
-use Rattle.plain_model.specs.declared.names.Tty.{Tty}
-use Rattle.plain_model.specs.declared.event.Item.{Item}
-use Rattle.plain_model.specs.declared.event.Item.TheVariants.{Char}
-use Rattle.plain_model.specs.declared.event.Step.{Step}
-use Rattle.plain_model.specs.Taker.{GoesOn, IsCut}
+use Rattle.machine_names.specs.declared.character.TheConstants.{CARRIAGE_RETURN, LINE_FEED, PROMPT}
+use Rattle.machine_names.specs.declared.names.Tty.{Tty}
+use Rattle.script_texts.specs.declared.event.Item.{Item}
+use Rattle.script_texts.specs.declared.event.Item.TheVariants.{Char}
+use Rattle.script_texts.specs.declared.event.Step.{Step}
+use Rattle.script_texts.specs.Taker.{GoesOn, IsCut}
 use Rattle.plain_model.specs.Unit.{printed}
-use Rattle.plain_model.proofs.Runs.{onward_then, goes_on_append, cut_behind, cut_longer}
+use Rattle.script_texts.proofs.Takers.{onward_then, goes_on_append, cut_behind, cut_longer}
 use Rattle.monitor_core.specs.Giving.{StaysTaker, Takes}
 
 abbrev pub forced_start : List ℕ

@@ -7,33 +7,35 @@ use Rattle.std.specs.Ordering.{nat_cmp}
 use Rattle.std.specs.Option.{option_map_or}
 use Rattle.std.specs.FinMap as fin
 use Rattle.outside.specs.declared.TheConstants.{PAGE_WORDS}
-use Rattle.plain_model.specs.declared.names.TheConstants.{ACCUMULATORS}
-use Rattle.plain_model.specs.declared.names.Tty.{Tty}
-use Rattle.plain_model.specs.declared.names.Slot.{Slot}
-use Rattle.plain_model.specs.declared.names.PageName.{PageName}
-use Rattle.plain_model.specs.declared.names.Kind.TheVariants.{Write}
+use Rattle.machine_names.specs.declared.names.TheConstants.{ACCUMULATORS}
+use Rattle.machine_names.specs.declared.names.Tty.{Tty}
+use Rattle.machine_names.specs.declared.names.Slot.{Slot}
+use Rattle.machine_names.specs.declared.names.PageName.{PageName}
+use Rattle.machine_names.specs.declared.names.Kind.TheVariants.{Write}
 use Rattle.plain_model.specs.declared.fork.Fork.{Fork}
 use Rattle.plain_model.specs.declared.fork.TerminalMode.TheVariants.{Program}
-use Rattle.plain_model.specs.declared.event.Event.{Event}
-use Rattle.plain_model.specs.declared.event.Step.TheVariants.{Outer}
-use Rattle.plain_model.specs.declared.event.Item.{Item}
-use Rattle.plain_model.specs.declared.event.Item.TheVariants.{Examined, ForkLine, Refusal}
-use Rattle.plain_model.specs.declared.event.Refusal.{Refusal as Cause}
-use Rattle.plain_model.specs.declared.event.Refusal.TheVariants.{NoJob, NoFork, NoPage, Denied, Full}
-use Rattle.plain_model.specs.State.{PlainState, NumberedPages, PlainJob}
-use Rattle.plain_model.specs.Outcome.{DrumWords}
-use Rattle.plain_model.specs.Limits.{FitsCause, FitsItem, IsTerminal}
+use Rattle.script_texts.specs.declared.event.Event.{Event}
+use Rattle.script_texts.specs.declared.event.Step.TheVariants.{Outer}
+use Rattle.script_texts.specs.declared.event.Item.{Item}
+use Rattle.script_texts.specs.declared.event.Item.TheVariants.{Examined, ForkLine, Refusal}
+use Rattle.script_texts.specs.declared.event.Refusal.{Refusal as Cause}
+use Rattle.script_texts.specs.declared.event.Refusal.TheVariants.{NoJob, NoFork, NoPage, Denied, Full}
+use Rattle.plain_model.specs.State.{PlainState, PlainJob}
+use Rattle.plain_pages.specs.PlainPages.{NumberedPages}
+use Rattle.page_contracts.specs.DrumWords.{DrumWords}
+use Rattle.script_texts.specs.Limits.{FitsCause, FitsItem}
+use Rattle.machine_names.specs.Bounds.{IsTerminal}
 use Rattle.plain_model.specs.Run.{apply}
-use Rattle.plain_model.specs.References.{Referred, granted, denied, full, in_map, reference, stored, words_of, page_at}
+use Rattle.plain_pages.specs.References.{Referred, granted, denied, full, in_map, reference, stored, words_of, page_at, slot_at}
 use Rattle.plain_model.specs.Forks.{change_fork, fork_line, forks_by_slot}
-use Rattle.fork_tree.specs.Trees.{IsTree}
 use Rattle.plain_model.specs.Trees.{PlainTree}
 use Rattle.plain_model.specs.Unit.{Effect}
-use Rattle.plain_model.specs.References.{slot_at}
 use Rattle.plain_model.specs.Events.{refused, poked, with_accumulator, restarted, word_seen, outer}
 use Rattle.plain_model.proofs.Equations.{apply_outer, outer_poke, outer_start, outer_examine, outer_forks}
-use Rattle.plain_model.proofs.Refiled.{refiled_result, reference_leaves}
-use Rattle.plain_model.specs.Orders.{name_cmp}
+use Rattle.plain_pages.proofs.Refiled.{refiled_result, reference_leaves}
+use Rattle.machine_names.specs.Orders.{name_cmp}
+use Rattle.plain_units.proofs.RefiledUnits.{stored_leaves}
+use Rattle.fork_tree.specs.Trees.{IsTree}
 use Rattle.monitor_core.specs.declared.job.Job.{Job}
 use Rattle.monitor_core.specs.declared.job_event.JobEvent.{JobEvent}
 use Rattle.monitor_core.specs.declared.job_event.JobEvent.TheVariants.{Poke as ToPoke, Start as ToStart, Examine as ToExamine, Forks as ToShow}
@@ -49,7 +51,6 @@ use Rattle.monitor_core.specs.Systems.{state_of, FitsPages, IsWithin, Did}
 use Rattle.monitor_core.specs.Writing.{write_of, left_by, most_makings, IsWritten, Makes, Writes}
 use Rattle.monitor_core.proofs.Looks.{below, not_below}
 use Rattle.monitor_core.proofs.Lookups.{job_found, job_missing, jobs_set}
-use Rattle.plain_model.proofs.RefiledUnits.{stored_leaves}
 use Rattle.monitor_core.proofs.Sounds.{split_at}
 use Rattle.monitor_core.proofs.Systems.{change_is, units_change}
 use Rattle.monitor_core.proofs.Unfiled.{named, reference_named}

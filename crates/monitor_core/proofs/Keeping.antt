@@ -2,13 +2,13 @@
 use Rattle.std.proofs.Common.{◌≡◌, ℕ, ◌+◌, ◌%◌, ◌<◌, ◌^◌, length, Bool, true, false, cond, ◌&&◌, ◌==◌, refl, sym, ◌∙◌, ap, subst, arith, is_some, length-set}
 use Rattle.std.specs.Int.{bit_at}
 use Rattle.std.proofs.lemmas.Bool.Decides.{nat_tests}
-use Rattle.plain_model.specs.declared.channel.TheConstants.{OVERFLOW, PUSHDOWN_OVERFLOW, ILLEGAL_INSTRUCTION}
-use Rattle.plain_model.specs.declared.names.TheConstants.{ACCUMULATORS}
-use Rattle.plain_model.specs.declared.fork.Answer.{Answer}
-use Rattle.plain_model.specs.declared.fork.Answer.TheVariants as answer
+use Rattle.plain_units.specs.declared.channel.TheConstants.{OVERFLOW, PUSHDOWN_OVERFLOW, ILLEGAL_INSTRUCTION}
+use Rattle.machine_names.specs.declared.names.TheConstants.{ACCUMULATORS}
+use Rattle.call_turns.specs.declared.answer.Answer.{Answer}
+use Rattle.call_turns.specs.declared.answer.Answer.TheVariants as answer
 use Rattle.plain_model.specs.declared.fork.Fork.{Fork}
-use Rattle.plain_model.specs.declared.fork.Regs.{Regs}
-use Rattle.plain_model.specs.declared.fork.ForkStatus.TheVariants.{Forced as AForced, Halted as AHalted}
+use Rattle.plain_units.specs.declared.registers.Regs.{Regs}
+use Rattle.script_texts.specs.declared.status.ForkStatus.TheVariants.{Forced as AForced, Halted as AHalted}
 use Rattle.plain_model.specs.Calls.{failed_regs, with_error}
 use Rattle.plain_model.specs.Forks.{with_regs, with_status, counted}
 use Rattle.plain_model.specs.Interrupts.{posted, pended, is_panic}

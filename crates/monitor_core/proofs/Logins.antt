@@ -5,19 +5,19 @@ use Rattle.std.specs.List.{range_with_len}
 use Rattle.std.specs.Option.{option_map, option_map_or}
 use Rattle.std.proofs.lemmas.Bool.{cases_eq}
 use Rattle.std.proofs.lemmas.Bool.Decides.{nat_tests}
-use Rattle.plain_model.specs.declared.names.TheConstants.{TERMINALS, LAST_SERIAL}
-use Rattle.plain_model.specs.declared.names.Tty.{Tty}
-use Rattle.plain_model.specs.declared.names.ForkName.{ForkName}
+use Rattle.machine_names.specs.declared.names.TheConstants.{TERMINALS, LAST_SERIAL}
+use Rattle.machine_names.specs.declared.names.Tty.{Tty}
+use Rattle.machine_names.specs.declared.names.ForkName.{ForkName}
 use Rattle.plain_model.specs.declared.fork.Fork.{Fork}
-use Rattle.plain_model.specs.declared.store.Room.TheVariants.{Enough, NeedFrame, Full}
+use Rattle.page_contracts.specs.declared.store.Room.TheVariants.{Enough, NeedFrame, Full}
 use Rattle.plain_model.specs.Forks.{fork_in, top_fork, first_regs, psi_at_rest}
-use Rattle.plain_model.specs.Pages.{PagesMeaning, same_fork, room_for as frames_for}
+use Rattle.page_contracts.specs.Pages.{PagesMeaning, room_for as frames_for}
+use Rattle.machine_names.specs.Orders.{same_fork}
+use Rattle.plain_model.specs.Trees.{free_slot, is_free, next_name, PlainTree, next_serial}
 use Rattle.fork_tree.specs.declared.tree.NoFork.{NoFork}
 use Rattle.fork_tree.specs.declared.tree.NoFork.TheVariants.{ForksFull, SerialsOut}
 use Rattle.fork_tree.specs.Making.{room_for, with_new, with_new_in}
-use Rattle.plain_model.specs.Trees.{free_slot, is_free, next_name}
 use Rattle.fork_tree.specs.Trees.{IsTree}
-use Rattle.plain_model.specs.Trees.{PlainTree, next_serial}
 use Rattle.fork_tree.proofs.Kept.{name_unused}
 use Rattle.fork_tree.proofs.Slots.{get_put, get_put_other, in_none}
 use Rattle.fork_calls.proofs.Added.{added_holds, few_forks}

@@ -3,16 +3,15 @@ use Rattle.std.proofs.Common.{◌≡◌, ℕ, ◌<◌, ◌≤◌, true, false, a
 use Rattle.std.proofs.lemmas.Bool.Decides.{nat_tests}
 use Rattle.std.specs.Option.{option_map, option_map_or}
 use Rattle.outside.specs.declared.TheConstants.{PAGE_WORDS}
-use Rattle.plain_model.specs.declared.names.TheConstants.{ACCUMULATORS}
-use Rattle.plain_model.specs.declared.names.Slot.{Slot}
-use Rattle.plain_model.specs.declared.names.PageName.{PageName}
-use Rattle.plain_model.specs.declared.map.Peeked.{Peeked}
-use Rattle.plain_model.specs.declared.map.Peeked.TheVariants.{Is, Absent, NoPage}
+use Rattle.machine_names.specs.declared.names.TheConstants.{ACCUMULATORS}
+use Rattle.machine_names.specs.declared.names.Slot.{Slot}
+use Rattle.machine_names.specs.declared.names.PageName.{PageName}
+use Rattle.page_contracts.specs.declared.answers.Peeked.{Peeked}
+use Rattle.page_contracts.specs.declared.answers.Peeked.TheVariants.{Is, Absent, NoPage}
 use Rattle.plain_model.specs.declared.fork.Fork.{Fork}
-use Rattle.plain_model.specs.State.{NumberedPages}
-use Rattle.plain_model.specs.References.{in_map, page_at, words_of}
-use Rattle.plain_model.specs.References.{slot_at}
-use Rattle.plain_model.specs.Pages.{Scene, peek_of, away_or, map_away, page_away}
+use Rattle.plain_pages.specs.PlainPages.{NumberedPages}
+use Rattle.plain_pages.specs.References.{in_map, page_at, words_of, slot_at}
+use Rattle.page_contracts.specs.Pages.{Scene, peek_of, away_or, map_away, page_away}
 use Rattle.monitor_core.specs.Looking.{word_in}
 
 pub below : (a : ℕ) → a < ACCUMULATORS → nat_lt a ACCUMULATORS ≡ true

@@ -1,13 +1,13 @@
 -- What a reference to a map's page makes, for whatever keys files have.
 use Rattle.std.proofs.Common.{◌≡◌, Bool, true, false, cond, List, [], ◌∷◌, ◌++◌, Option, None, Some, refl, ◌∙◌, Ordering}
 use Rattle.std.specs.Option.{option_and_then}
-use Rattle.plain_model.specs.declared.names.Slot.{Slot}
-use Rattle.plain_model.specs.declared.names.Access.{Access}
-use Rattle.plain_model.specs.declared.names.Kind.{Kind}
-use Rattle.plain_model.specs.State.{PlainPages}
-use Rattle.plain_model.specs.Maps.{Chain, chain, entry_at, permits}
-use Rattle.plain_model.specs.References.{in_map, Making, blank, copy, blanks, copies, along_chain, makings}
-use Rattle.plain_model.proofs.Settles.{FirstOf, is_blank, is_copy, first_of_chain}
+use Rattle.machine_names.specs.declared.names.Slot.{Slot}
+use Rattle.machine_names.specs.declared.names.Access.{Access}
+use Rattle.machine_names.specs.declared.names.Kind.{Kind}
+use Rattle.plain_pages.specs.PlainPages.{PlainPages}
+use Rattle.plain_pages.specs.Maps.{Chain, chain, entry_at, permits}
+use Rattle.plain_pages.specs.References.{in_map, Making, blank, copy, blanks, copies, along_chain, makings}
+use Rattle.plain_pages.proofs.Settles.{FirstOf, is_blank, is_copy, first_of_chain}
 
 module _ {K : Type 0} {file_cmp : K → K → Ordering} (p : PlainPages file_cmp) (s : Slot) (kind : Kind) (m : Making K) (rest : List (Making K)) (first : makings p (in_map s) kind ≡ Some (m ∷ rest)) where
   permitted : (b : Bool) (ms : List (Making K)) → cond b (Some ms) None ≡ Some (m ∷ rest) → ms ≡ m ∷ rest

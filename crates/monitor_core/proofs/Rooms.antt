@@ -3,18 +3,18 @@ use Rattle.std.proofs.Common.{◌≡◌, ℕ, zero, suc, ◌+◌, ◌≤◌, ◌
 use Rattle.std.specs.Option.{option_map_or}
 use Rattle.std.proofs.lemmas.Bool.Decides.{nat_tests}
 use Rattle.std.specs.FinMap as fin
-use Rattle.plain_model.specs.declared.names.TheConstants.{SPACE_PAGES}
-use Rattle.plain_model.specs.declared.names.ForkName.{ForkName}
-use Rattle.plain_model.specs.declared.names.PageName.{PageName}
-use Rattle.plain_model.specs.declared.map.MapEntry.TheVariants.{Empty}
-use Rattle.plain_model.specs.declared.map.NewMap.TheVariants.{Empty as EmptyMap}
-use Rattle.plain_model.specs.declared.names.Tty.{Tty}
-use Rattle.plain_model.specs.State.{PlainPages, Map}
-use Rattle.plain_model.specs.Room.{live, names, uses, HasRoom}
-use Rattle.plain_model.specs.Events.{with_map, empty_map}
-use Rattle.plain_model.proofs.OrderLemmas.{fork_cmp_total}
-use Rattle.plain_model.proofs.Counts.{has_count, different_same, total_insert}
-use Rattle.plain_model.proofs.Whole.{map_uses, uses_are}
+use Rattle.machine_names.specs.declared.names.TheConstants.{SPACE_PAGES}
+use Rattle.machine_names.specs.declared.names.ForkName.{ForkName}
+use Rattle.machine_names.specs.declared.names.PageName.{PageName}
+use Rattle.plain_pages.specs.declared.map.MapEntry.TheVariants.{Empty}
+use Rattle.plain_pages.specs.declared.map.NewMap.TheVariants.{Empty as EmptyMap}
+use Rattle.machine_names.specs.declared.names.Tty.{Tty}
+use Rattle.plain_pages.specs.PlainPages.{PlainPages, Map}
+use Rattle.plain_pages.specs.Room.{live, names, uses, HasRoom}
+use Rattle.plain_pages.specs.NewMaps.{with_map, empty_map}
+use Rattle.machine_names.proofs.OrderLemmas.{fork_cmp_total}
+use Rattle.plain_pages.proofs.Counts.{has_count, different_same, total_insert}
+use Rattle.plain_pages.proofs.Whole.{map_uses, uses_are}
 
 no_names : (n : PageName) (k : ℕ) → map_uses n (replicate k Empty) ≡ 0
 no_names n zero = refl

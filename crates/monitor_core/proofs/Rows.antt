@@ -4,22 +4,23 @@ use Rattle.std.proofs.lemmas.Bool.{cond_both}
 use Rattle.std.proofs.lemmas.List.{append-nil, replicate-append-replicate}
 use Rattle.std.specs.Ordering.{nat_cmp}
 use Rattle.std.specs.FinMap as fin
-use Rattle.plain_model.specs.declared.event.Step.TheVariants.{Unit as AUnit}
+use Rattle.script_texts.specs.declared.event.Step.TheVariants.{Unit as AUnit}
 use Rattle.plain_model.specs.declared.fork.Fork.{Fork}
-use Rattle.plain_model.specs.declared.names.TheConstants.{MOST_FORKS}
+use Rattle.machine_names.specs.declared.names.TheConstants.{MOST_FORKS}
 use Rattle.plain_model.specs.ForkCalls.{fork_call, fork_calls}
 use Rattle.plain_model.specs.Forks.{counted, with_regs}
 use Rattle.plain_model.specs.MapCalls.{map_call}
 use Rattle.plain_model.specs.Calls.{end_of, is_among}
 use Rattle.plain_model.specs.declared.call.TheConstants.{PBOUT}
 use Rattle.plain_model.specs.Run.{AreLegal, apply, items_of, state_after}
-use Rattle.plain_model.specs.State.{NumberedPages, PlainState}
-use Rattle.plain_model.specs.Steps.{Planned, call, done, need, stopped, trap}
-use Rattle.plain_model.specs.Unit.{unit_on}
-use Rattle.plain_model.proofs.OrderLemmas.{fork_cmp_total, fork_cmp_apart}
+use Rattle.plain_pages.specs.PlainPages.{NumberedPages}
+use Rattle.plain_model.specs.State.{PlainState}
+use Rattle.plain_units.specs.Steps.{Planned, call, done, need, stopped, trap}
+use Rattle.plain_units.specs.Units.{unit_on}
+use Rattle.machine_names.proofs.OrderLemmas.{fork_cmp_total, fork_cmp_apart}
 use Rattle.plain_model.proofs.Runs.{AreLegal-append, items_of-append, state_after-append}
-use Rattle.ka10_unit.specs.Once.{After, in_a_row}
 use Rattle.plain_model.specs.Trees.{PlainTree, tree_of}
+use Rattle.ka10_unit.specs.Once.{After, in_a_row}
 use Rattle.fork_tree.proofs.Kept.{changed_tree}
 use Rattle.fork_tree.proofs.Slots.{get_put}
 use Rattle.monitor_core.specs.ForkUnit.{Behind, RanUnits, behind, behind_unit, called_behind, left_so, put_back, ran_on}

@@ -1,15 +1,16 @@
 -- Which forks of a system's plain state can run.
 use Rattle.std.proofs.Common.{◌≡◌, ℕ, ◌≤◌, ◌<◌, true, Some, refl, sym, ◌∙◌, ap, subst, arith}
 use Rattle.std.specs.FinMap as map
-use Rattle.plain_model.specs.declared.names.ForkName.{ForkName}
+use Rattle.machine_names.specs.declared.names.ForkName.{ForkName}
 use Rattle.plain_model.specs.declared.fork.Fork.{Fork}
-use Rattle.plain_model.specs.declared.event.Step.{Step}
-use Rattle.plain_model.specs.declared.event.Step.TheVariants.{Outer, Unit as AUnit, Idle}
-use Rattle.plain_model.specs.Outcome.{DrumWords}
-use Rattle.plain_model.specs.Limits.{FitsStep, IsForkName}
+use Rattle.script_texts.specs.declared.event.Step.{Step}
+use Rattle.script_texts.specs.declared.event.Step.TheVariants.{Outer, Unit as AUnit, Idle}
+use Rattle.page_contracts.specs.DrumWords.{DrumWords}
+use Rattle.script_texts.specs.Limits.{FitsStep}
+use Rattle.machine_names.specs.Bounds.{IsForkName}
 use Rattle.plain_model.specs.Run.{IsLegalStep}
-use Rattle.fork_tree.specs.Trees.{CanRun, IsTree, Lives}
 use Rattle.plain_model.specs.Trees.{PlainTree}
+use Rattle.fork_tree.specs.Trees.{CanRun, IsTree, Lives}
 use Rattle.fork_tree.specs.Turns.{IsNext, place_at, steps_to}
 use Rattle.fork_tree.proofs.Slots.{held_lives}
 use Rattle.monitor_core.specs.declared.runner.Runner.{Runner}

@@ -1,11 +1,11 @@
 -- A fork that can run, in its slot of a tree.
 use Rattle.std.proofs.Common.{◌≡◌, false, Some, sym, ◌∙◌, ap, subst}
 use Rattle.plain_model.specs.declared.fork.Fork.{Fork}
-use Rattle.plain_model.specs.declared.fork.ForkStatus.TheVariants.{Run}
-use Rattle.plain_model.specs.declared.names.TheConstants.{MOST_FORKS}
+use Rattle.script_texts.specs.declared.status.ForkStatus.TheVariants.{Run}
+use Rattle.machine_names.specs.declared.names.TheConstants.{MOST_FORKS}
 use Rattle.plain_model.specs.Forks.{fork_in, is_frozen}
-use Rattle.fork_tree.specs.Trees.{Lives}
 use Rattle.plain_model.specs.Trees.{PlainTree}
+use Rattle.fork_tree.specs.Trees.{Lives}
 use Rattle.fork_tree.proofs.Slots.{in_found}
 use Rattle.monitor_core.specs.declared.runner.Runner.{Runner}
 use Rattle.monitor_core.specs.ForkUnit.{Place, fork_of}

@@ -4,13 +4,14 @@ use Rattle.std.specs.Ordering.{nat_cmp}
 use Rattle.std.specs.Option.{option_and_then}
 use Rattle.std.specs.declared.cmp.Ordering.{Ordering}
 use Rattle.plain_model.specs.declared.fork.Fork.{Fork}
-use Rattle.plain_model.specs.declared.fork.Regs.{Regs}
-use Rattle.plain_model.specs.declared.names.ForkName.{ForkName}
-use Rattle.plain_model.specs.State.{PlainPages, NumberedPages}
-use Rattle.plain_model.specs.Steps.{Planned, Progress, Ending, done, stopped, call, pages_left}
+use Rattle.plain_units.specs.declared.registers.Regs.{Regs}
+use Rattle.machine_names.specs.declared.names.ForkName.{ForkName}
+use Rattle.plain_pages.specs.PlainPages.{PlainPages, NumberedPages}
+use Rattle.plain_units.specs.Steps.{Planned, Progress, Ending, done, stopped, call, pages_left}
 use Rattle.plain_model.specs.Forks.{with_regs, counted}
 use Rattle.plain_model.specs.Trees.{PlainTree}
-use Rattle.plain_model.specs.Unit.{posted_if, unit_on}
+use Rattle.plain_model.specs.Unit.{posted_if}
+use Rattle.plain_units.specs.Units.{unit_on}
 use Rattle.ka10_unit.specs.Once.{After, once, in_a_row, unless_posted, went_through}
 use Rattle.monitor_core.specs.ForkUnit.{behind, behind_unit, left_so, post_shown}
 use Rattle.monitor_core.specs.declared.shown.Shown.TheVariants.{Nothing}

@@ -5,14 +5,13 @@ use Rattle.std.specs.FinMap as map
 use Rattle.std.proofs.lemmas.Bool.{cases_eq, cases_Bool}
 use Rattle.std.proofs.lemmas.Bool.Decides.{nat_tests}
 use Rattle.std.proofs.lemmas.List.{get_or_default}
-use Rattle.plain_model.specs.declared.names.TheConstants.{TERMINALS}
-use Rattle.plain_model.specs.declared.names.ForkName.{ForkName}
+use Rattle.machine_names.specs.declared.names.TheConstants.{TERMINALS}
+use Rattle.machine_names.specs.declared.names.ForkName.{ForkName}
 use Rattle.plain_model.specs.declared.fork.Fork.{Fork}
 use Rattle.plain_model.specs.Forks.{ForkMap}
-use Rattle.plain_model.specs.Pages.{PagesMeaning}
-use Rattle.plain_model.specs.Trees.{changed}
+use Rattle.page_contracts.specs.Pages.{PagesMeaning}
+use Rattle.plain_model.specs.Trees.{changed, PlainTree}
 use Rattle.fork_tree.specs.Trees.{IsTree, Lives}
-use Rattle.plain_model.specs.Trees.{PlainTree}
 use Rattle.fork_tree.proofs.Kept.{changed_tree}
 use Rattle.fork_tree.proofs.Slots.{cases_name, get_put, get_put_other, held_lives}
 use Rattle.fork_calls.specs.Holding.{SamePlaces}

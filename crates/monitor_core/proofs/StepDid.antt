@@ -3,18 +3,21 @@ use Rattle.std.proofs.Common.{◌≡◌, ℕ, zero, suc, ◌+◌, ◌≤◌, ◌
 use Rattle.std.specs.Prelude.{Result, Ok, Err, OnOk, OnErr}
 use Rattle.std.specs.Result.{IsErr}
 use Rattle.std.proofs.lemmas.List.{append-nil, length-replicate}
-use Rattle.plain_model.specs.declared.event.Event.{Event}
-use Rattle.plain_model.specs.declared.event.Event.TheVariants.{Run, Auto}
-use Rattle.plain_model.specs.declared.event.Item.{Item}
-use Rattle.plain_model.specs.declared.event.Step.{Step}
-use Rattle.plain_model.specs.declared.event.Step.TheVariants.{Outer, Idle}
+use Rattle.script_texts.specs.declared.event.Event.{Event}
+use Rattle.script_texts.specs.declared.event.Event.TheVariants.{Run, Auto}
+use Rattle.script_texts.specs.declared.event.Item.{Item}
+use Rattle.script_texts.specs.declared.event.Step.{Step}
+use Rattle.script_texts.specs.declared.event.Step.TheVariants.{Outer, Idle}
 use Rattle.plain_model.specs.State.{PlainState}
-use Rattle.plain_model.specs.Outcome.{DrumWords, Gave}
-use Rattle.plain_model.specs.Taker.{GoesOn, IsCut}
-use Rattle.plain_model.specs.Run.{apply, state_after, items_of, shape_of, single, IsTurn, AreTurns, AreLegal, IsLegalStep, FollowsOne, FollowsShape, Begins, BeginsShape, auto_after}
+use Rattle.page_contracts.specs.DrumWords.{DrumWords}
+use Rattle.monitor_core.specs.Outcome.{Gave}
+use Rattle.script_texts.specs.Taker.{GoesOn, IsCut}
+use Rattle.plain_model.specs.Run.{apply, state_after, items_of, AreLegal, IsLegalStep}
+use Rattle.script_texts.specs.Follows.{shape_of, single, IsTurn, AreTurns, FollowsOne, FollowsShape, Begins, BeginsShape, auto_after}
 use Rattle.plain_model.specs.Unit.{Effect}
 use Rattle.plain_model.proofs.Equations.{apply_idle}
-use Rattle.plain_model.proofs.Runs.{onward_nil, AreTurns-append, gave_none, gave_append, gave_cut}
+use Rattle.script_texts.proofs.Takers.{onward_nil, AreTurns-append}
+use Rattle.monitor_core.proofs.Gave.{gave_none, gave_append, gave_cut}
 use Rattle.monitor_core.specs.declared.machine.Machine.{Machine}
 use Rattle.monitor_core.specs.declared.system.System.{System}
 use Rattle.monitor_core.specs.declared.reply.Reply.{Reply}

@@ -3,18 +3,18 @@ use Rattle.std.proofs.Common.{◌≡◌, sym, ◌∙◌, ap, subst}
 use Rattle.std.specs.Ordering.{nat_cmp}
 use Rattle.std.specs.List.{sum_by}
 use Rattle.std.specs.FinMap as fin
-use Rattle.plain_model.specs.declared.names.Tty.{Tty}
-use Rattle.plain_model.specs.declared.names.Slot.{Slot}
-use Rattle.plain_model.specs.declared.names.ForkName.{ForkName}
-use Rattle.plain_model.specs.declared.fork.Regs.{Regs}
-use Rattle.plain_model.specs.declared.names.Kind.{Kind}
-use Rattle.plain_model.specs.Orders.{name_cmp, file_page_cmp}
-use Rattle.plain_model.specs.State.{NumberedPages, NamedPages, refiled}
-use Rattle.plain_model.specs.References.{in_map, reference}
-use Rattle.plain_model.proofs.Whole.{tally, no_values}
-use Rattle.plain_model.specs.Steps.{Progress, Ending, done, begun, pages_left}
-use Rattle.plain_model.specs.Instructions.{instruction}
-use Rattle.plain_model.specs.Unit.{unit_on}
+use Rattle.machine_names.specs.declared.names.Tty.{Tty}
+use Rattle.machine_names.specs.declared.names.Slot.{Slot}
+use Rattle.machine_names.specs.declared.names.ForkName.{ForkName}
+use Rattle.plain_units.specs.declared.registers.Regs.{Regs}
+use Rattle.machine_names.specs.declared.names.Kind.{Kind}
+use Rattle.machine_names.specs.Orders.{name_cmp, file_page_cmp}
+use Rattle.plain_pages.specs.PlainPages.{NumberedPages, NamedPages, refiled}
+use Rattle.plain_pages.specs.References.{in_map, reference}
+use Rattle.plain_pages.proofs.Whole.{tally, no_values}
+use Rattle.plain_units.specs.Steps.{Progress, Ending, done, begun, pages_left}
+use Rattle.plain_units.specs.Instructions.{instruction}
+use Rattle.plain_units.specs.Units.{unit_on}
 use Rattle.plain_model.specs.Calls.{Turn, end_of, parts_behind}
 use Rattle.plain_model.specs.MapCalls.{map_changed}
 use Rattle.plain_model.specs.declared.call.End.{End}
@@ -25,8 +25,8 @@ use Rattle.plain_model.specs.Trees.{PlainTree}
 use Rattle.plain_model.proofs.ForkTurns.{fork_turn_files, fork_turn_refiled}
 use Rattle.plain_model.proofs.MapTurns.{turn_files, turn_refiled}
 use Rattle.plain_model.proofs.Turns.{end_refiled}
-use Rattle.plain_model.proofs.Refiled.{NameAlike, refiled_result, reference_refiled}
-use Rattle.plain_model.proofs.RefiledUnits.{refiled_plan, run_refiled, LeavesFiles, run_leaves, left_leaves}
+use Rattle.plain_pages.proofs.Refiled.{NameAlike, refiled_result, reference_refiled}
+use Rattle.plain_units.proofs.RefiledUnits.{refiled_plan, run_refiled, LeavesFiles, run_leaves, left_leaves}
 
 -- the same pages, without files
 abbrev pub named : NumberedPages → NamedPages

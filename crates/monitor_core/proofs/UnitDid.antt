@@ -4,19 +4,19 @@ use Rattle.std.proofs.lemmas.Bool.{cases_eq}
 use Rattle.std.specs.Option.{option_map, option_map_or}
 use Rattle.std.specs.Ordering.{nat_cmp}
 use Rattle.std.specs.FinMap as fin
-use Rattle.plain_model.specs.declared.names.TheConstants.{MOST_FORKS, TERMINALS}
-use Rattle.plain_model.specs.declared.names.Tty.{Tty}
+use Rattle.machine_names.specs.declared.names.TheConstants.{MOST_FORKS, TERMINALS}
+use Rattle.machine_names.specs.declared.names.Tty.{Tty}
 use Rattle.plain_model.specs.declared.fork.Fork.{Fork}
-use Rattle.plain_model.specs.declared.fork.ForkStatus.TheVariants.{Run}
+use Rattle.script_texts.specs.declared.status.ForkStatus.TheVariants.{Run}
 use Rattle.plain_model.specs.declared.fork.TerminalMode.TheVariants.{Command}
-use Rattle.plain_model.specs.declared.event.Step.TheVariants.{Unit as AUnit}
-use Rattle.plain_model.specs.declared.names.ForkName.{ForkName}
+use Rattle.script_texts.specs.declared.event.Step.TheVariants.{Unit as AUnit}
+use Rattle.machine_names.specs.declared.names.ForkName.{ForkName}
 use Rattle.plain_model.specs.Forks.{ForkMap, is_frozen}
-use Rattle.plain_model.specs.Outcome.{DrumWords}
+use Rattle.page_contracts.specs.DrumWords.{DrumWords}
 use Rattle.plain_model.specs.State.{PlainJob}
-use Rattle.fork_tree.specs.Trees.{IsTree, Lives}
 use Rattle.plain_model.specs.Trees.{PlainTree, next_name}
 use Rattle.plain_model.proofs.ForkMaps.{AreOwn}
+use Rattle.fork_tree.specs.Trees.{IsTree, Lives}
 use Rattle.fork_tree.proofs.Slots.{some_of}
 use Rattle.fork_calls.specs.Holding.{IsNew}
 use Rattle.fork_calls.specs.Limits.{AreWithin}

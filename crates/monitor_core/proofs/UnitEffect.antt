@@ -9,33 +9,35 @@ use Rattle.plain_model.specs.declared.call.End.{End}
 use Rattle.plain_model.specs.declared.call.End.TheVariants as end
 use Rattle.plain_model.specs.declared.call.ForkChange.{ForkChange}
 use Rattle.plain_model.specs.declared.call.MapChange.{MapChange}
-use Rattle.plain_model.specs.declared.channel.TheConstants.{ILLEGAL_INSTRUCTION, INFERIOR_ENDED}
-use Rattle.plain_model.specs.declared.character.TheConstants.{LINE_END, CARRIAGE_RETURN, LINE_FEED}
-use Rattle.plain_model.specs.declared.event.Item.TheVariants.{UnitLine}
-use Rattle.plain_model.specs.declared.event.Step.TheVariants.{Unit as AUnit}
+use Rattle.plain_units.specs.declared.channel.TheConstants.{ILLEGAL_INSTRUCTION, INFERIOR_ENDED}
+use Rattle.machine_names.specs.declared.character.TheConstants.{LINE_END, CARRIAGE_RETURN, LINE_FEED}
+use Rattle.script_texts.specs.declared.event.Item.TheVariants.{UnitLine}
+use Rattle.script_texts.specs.declared.event.Step.TheVariants.{Unit as AUnit}
 use Rattle.plain_model.specs.declared.fork.Fork.{Fork}
-use Rattle.plain_model.specs.declared.fork.ForkStatus.{ForkStatus}
-use Rattle.plain_model.specs.declared.fork.ForkStatus.TheVariants.{Run, Wait, Forced as AForced, Halted as AHalted}
-use Rattle.plain_model.specs.declared.fork.WaitOn.{WaitOn}
+use Rattle.script_texts.specs.declared.status.ForkStatus.{ForkStatus}
+use Rattle.script_texts.specs.declared.status.ForkStatus.TheVariants.{Run, Wait, Forced as AForced, Halted as AHalted}
+use Rattle.script_texts.specs.declared.status.WaitOn.{WaitOn}
 use Rattle.plain_model.specs.declared.fork.TerminalMode.TheVariants.{Command}
-use Rattle.plain_model.specs.declared.names.TheConstants.{MOST_FORKS}
-use Rattle.plain_model.specs.declared.names.ForkName.{ForkName}
-use Rattle.plain_model.specs.declared.names.Tty.{Tty}
+use Rattle.machine_names.specs.declared.names.TheConstants.{MOST_FORKS}
+use Rattle.machine_names.specs.declared.names.ForkName.{ForkName}
+use Rattle.machine_names.specs.declared.names.Tty.{Tty}
 use Rattle.plain_model.specs.Calls.{Turn, end_of, fork_behind, is_among, lifted, parts_behind, with_error}
 use Rattle.plain_model.specs.ForkCalls.{ForkParts, fork_call, fork_called, fork_calls, fork_changed_by, fork_end}
 use Rattle.plain_model.specs.Forks.{ForkMap, counted, is_frozen, superior_of, with_fork, with_regs}
 use Rattle.plain_model.specs.Interrupts.{is_panic, posted}
 use Rattle.plain_model.specs.MapCalls.{map_call, map_called, map_changed, pages_seen}
-use Rattle.plain_model.specs.Orders.{name_cmp}
+use Rattle.machine_names.specs.Orders.{name_cmp}
 use Rattle.plain_model.specs.Run.{IsLegalStep, apply, unit_line}
-use Rattle.plain_model.specs.State.{NumberedPages, PlainJob, PlainState}
-use Rattle.plain_model.specs.Steps.{Planned, call, done, need, pages_left, stopped as unit_stopped, trap}
-use Rattle.plain_model.specs.Unit.{Effect, advanced, called, caller_behind, fork_turned, in_command_mode, over, pbout, posted_if, printed, stop_text, stopped, turned, unit, unit_ended, unit_on, went}
+use Rattle.plain_pages.specs.PlainPages.{NumberedPages}
+use Rattle.plain_model.specs.State.{PlainJob, PlainState}
+use Rattle.plain_units.specs.Steps.{Planned, call, done, need, pages_left, stopped as unit_stopped, trap}
+use Rattle.plain_model.specs.Unit.{Effect, advanced, called, caller_behind, fork_turned, in_command_mode, over, pbout, posted_if, printed, stop_text, stopped, turned, unit, unit_ended, went}
+use Rattle.plain_units.specs.Units.{unit_on}
 use Rattle.plain_model.proofs.Equations.{apply_unit, unit_some}
 use Rattle.plain_model.proofs.ForkMaps.{AreOwn, put_itself, superior_tells}
-use Rattle.plain_model.proofs.RefiledUnits.{left_refiled, refiled_plan}
-use Rattle.fork_tree.specs.Trees.{IsTree}
+use Rattle.plain_units.proofs.RefiledUnits.{left_refiled, refiled_plan}
 use Rattle.plain_model.specs.Trees.{end_told, tree_of, waiters_woken, with_posted}
+use Rattle.fork_tree.specs.Trees.{IsTree}
 use Rattle.fork_calls.specs.Limits.{AreWithin}
 use Rattle.fork_calls.proofs.Places.{Keep, waiters_keep}
 use Rattle.monitor_core.specs.declared.shown.Shown.{Shown}

@@ -4,20 +4,21 @@ use Rattle.std.specs.Option.{option_and_then}
 use Rattle.std.specs.Ordering.{nat_cmp}
 use Rattle.std.specs.FinMap as map
 use Rattle.plain_model.specs.declared.fork.Fork.{Fork}
-use Rattle.plain_model.specs.declared.fork.Regs.{Regs}
+use Rattle.plain_units.specs.declared.registers.Regs.{Regs}
 use Rattle.plain_model.specs.Forks.{with_regs, counted}
 use Rattle.plain_model.specs.Interrupts.{posted}
-use Rattle.plain_model.specs.State.{NumberedPages}
-use Rattle.plain_model.specs.Steps.{call, stopped, trap}
-use Rattle.plain_model.specs.Unit.{posted_if, unit_on}
+use Rattle.plain_pages.specs.PlainPages.{NumberedPages}
+use Rattle.plain_units.specs.Steps.{call, stopped, trap}
+use Rattle.plain_model.specs.Unit.{posted_if}
+use Rattle.plain_units.specs.Units.{unit_on}
+use Rattle.plain_model.specs.Trees.{PlainTree}
+use Rattle.machine_names.proofs.OrderLemmas.{fork_cmp_total, fork_cmp_apart}
+use Rattle.plain_model.proofs.Posted.{posted_same}
 use Rattle.ka10_unit.specs.Once.{After, once, in_a_row}
 use Rattle.ka10_unit.specs.Bursts.{and_one_more}
-use Rattle.plain_model.specs.Trees.{PlainTree}
 use Rattle.monitor_core.specs.ForkUnit.{Behind, RanUnits, RanUpTo, behind, behind_unit, called_behind, left_so, post_shown, put_back, ran_on}
 use Rattle.monitor_core.specs.declared.shown.Shown.{Shown}
 use Rattle.monitor_core.specs.declared.shown.Shown.TheVariants.{Nothing}
-use Rattle.plain_model.proofs.OrderLemmas.{fork_cmp_total, fork_cmp_apart}
-use Rattle.plain_model.proofs.WholeForks.{posted_same}
 use Rattle.monitor_core.proofs.Maps.{insert_twice}
 use Rattle.monitor_core.proofs.Silent.{once_as, row_more, silent_unit}
 

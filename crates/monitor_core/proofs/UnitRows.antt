@@ -2,7 +2,7 @@
 use Rattle.std.proofs.Common.{◌≡◌, ℕ, ◌+◌, sym, ◌∙◌, ap, subst, arith, Some}
 use Rattle.std.specs.Ordering.{nat_cmp}
 use Rattle.plain_model.specs.declared.fork.Fork.{Fork}
-use Rattle.plain_model.specs.State.{NumberedPages}
+use Rattle.plain_pages.specs.PlainPages.{NumberedPages}
 use Rattle.ka10_unit.specs.Once.{After, in_a_row}
 use Rattle.monitor_core.specs.ForkUnit.{IsOne, IsRow, RanUnits, left_so, put_back, ran_on, units_over}
 use Rattle.monitor_core.specs.declared.unit.Last.{Last}

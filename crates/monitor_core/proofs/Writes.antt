@@ -4,18 +4,19 @@ use Rattle.std.specs.Prelude.{Result, Ok, Err}
 use Rattle.std.specs.Result.{IsErrAnd}
 use Rattle.std.specs.Ordering.{nat_cmp}
 use Rattle.std.specs.Cmp.{nat_cmp_total}
-use Rattle.plain_model.specs.declared.names.Slot.{Slot}
-use Rattle.plain_model.specs.declared.names.Kind.{Kind}
-use Rattle.plain_model.specs.declared.names.Kind.TheVariants.{Write}
-use Rattle.plain_model.specs.declared.map.Touch.{Touch}
-use Rattle.plain_model.specs.declared.map.Touch.TheVariants.{Ready, Zero, Copy, Denied, Full}
-use Rattle.plain_model.specs.declared.event.Refusal.{Refusal}
-use Rattle.plain_model.specs.declared.event.Refusal.TheVariants.{Denied as ADenied, Full as AFull}
-use Rattle.plain_model.specs.State.{NumberedPages}
-use Rattle.plain_model.specs.References.{in_map, Making, blank, copy, makings, make, Referred, granted, reference, settled}
-use Rattle.plain_model.specs.Pages.{Scene, touch_of, SettlesTo, is_in_core}
-use Rattle.plain_model.proofs.Touches.{reference_stays, reference_settled, settled_makes, ready_touch, zero_touch, copy_touch, denied_touch, full_touch}
-use Rattle.plain_model.proofs.Settles.{makings_settled}
+use Rattle.machine_names.specs.declared.names.Slot.{Slot}
+use Rattle.machine_names.specs.declared.names.Kind.{Kind}
+use Rattle.machine_names.specs.declared.names.Kind.TheVariants.{Write}
+use Rattle.page_contracts.specs.declared.answers.Touch.{Touch}
+use Rattle.page_contracts.specs.declared.answers.Touch.TheVariants.{Ready, Zero, Copy, Denied, Full}
+use Rattle.script_texts.specs.declared.event.Refusal.{Refusal}
+use Rattle.script_texts.specs.declared.event.Refusal.TheVariants.{Denied as ADenied, Full as AFull}
+use Rattle.plain_pages.specs.PlainPages.{NumberedPages}
+use Rattle.plain_pages.specs.References.{in_map, Making, blank, copy, makings, make, Referred, granted, reference, settled}
+use Rattle.page_contracts.specs.Pages.{Scene, touch_of, SettlesTo, is_in_core}
+use Rattle.plain_pages.proofs.ReferencesMade.{reference_stays, reference_settled, settled_makes}
+use Rattle.page_contracts.proofs.Touches.{ready_touch, zero_touch, copy_touch, denied_touch, full_touch}
+use Rattle.plain_pages.proofs.Settles.{makings_settled}
 use Rattle.monitor_core.specs.Writing.{write_of, IsReadied, IsWritten}
 use Rattle.monitor_core.proofs.Making.{copy_last}
 

@@ -1,10 +1,11 @@
 -- What a machine gave a taker of an event.
 use Rattle.std.specs.Prelude.{◌≡◌, ℕ, ◌+◌, ◌≤◌, List, length, true, Result, OnOk, OnErr, IfOk}
-use Rattle.plain_model.specs.declared.event.Event.{Event}
-use Rattle.plain_model.specs.declared.event.Event.TheVariants.{Run}
-use Rattle.plain_model.specs.declared.event.Step.{Step}
-use Rattle.plain_model.specs.Outcome.{DrumWords, Gave, GaveCut}
-use Rattle.plain_model.specs.Run.{FollowsOne, Begins, auto_after}
+use Rattle.script_texts.specs.declared.event.Event.{Event}
+use Rattle.script_texts.specs.declared.event.Event.TheVariants.{Run}
+use Rattle.script_texts.specs.declared.event.Step.{Step}
+use Rattle.page_contracts.specs.DrumWords.{DrumWords}
+use Rattle.monitor_core.specs.Outcome.{Gave, GaveCut}
+use Rattle.script_texts.specs.Follows.{FollowsOne, Begins, auto_after}
 use Rattle.monitor_core.specs.declared.machine.Machine.{Machine}
 use Rattle.monitor_core.specs.Machines.{Fits, plain, limit, done, auto, is_live}
 use Rattle.monitor_core.specs.Giving.{Standing, StaysTaker}

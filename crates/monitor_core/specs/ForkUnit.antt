@@ -3,31 +3,32 @@ use Rattle.std.specs.Prelude.{◌≡◌, ◌≢◌, ◌⊎◌, ℕ, suc, ◌+◌
 use Rattle.std.specs.Option.{unwrap_or}
 use Rattle.std.specs.Ordering.{nat_cmp}
 use Rattle.std.specs.FinMap as map
-use Rattle.plain_model.specs.declared.names.TheConstants.{ACCUMULATORS}
-use Rattle.plain_model.specs.declared.names.ForkName.{ForkName}
+use Rattle.machine_names.specs.declared.names.TheConstants.{ACCUMULATORS}
+use Rattle.machine_names.specs.declared.names.ForkName.{ForkName}
 use Rattle.plain_model.specs.declared.call.TheConstants.{PBOUT, CFORK}
 use Rattle.plain_model.specs.declared.call.End.{End}
 use Rattle.plain_model.specs.declared.call.End.TheVariants as end
 use Rattle.plain_model.specs.declared.call.MapChange.{MapChange}
-use Rattle.plain_model.specs.declared.channel.TheConstants.{ILLEGAL_INSTRUCTION}
-use Rattle.plain_model.specs.declared.fork.Answer.{Answer}
-use Rattle.plain_model.specs.declared.fork.Answer.TheVariants as answer
+use Rattle.plain_units.specs.declared.channel.TheConstants.{ILLEGAL_INSTRUCTION}
+use Rattle.call_turns.specs.declared.answer.Answer.{Answer}
+use Rattle.call_turns.specs.declared.answer.Answer.TheVariants as answer
 use Rattle.plain_model.specs.declared.fork.Body.{Body}
 use Rattle.plain_model.specs.declared.fork.Fork.{Fork}
-use Rattle.plain_model.specs.declared.fork.Regs.{Regs}
-use Rattle.plain_model.specs.declared.fork.ForkStatus.TheVariants.{Wait as AWait, Halted as AHalted}
-use Rattle.plain_model.specs.State.{NumberedPages}
+use Rattle.plain_units.specs.declared.registers.Regs.{Regs}
+use Rattle.script_texts.specs.declared.status.ForkStatus.TheVariants.{Wait as AWait, Halted as AHalted}
+use Rattle.plain_pages.specs.PlainPages.{NumberedPages}
 use Rattle.plain_model.specs.Calls.{end_of, failed_regs, fork_behind, is_among, parts_behind, with_error}
 use Rattle.plain_model.specs.ForkCalls.{fork_call, fork_calls, fork_changed_by}
 use Rattle.plain_model.specs.MapCalls.{map_call, map_changed}
-use Rattle.plain_model.specs.Steps.{Planned, done, call, trap, need, stopped as unit_stopped, pages_left}
-use Rattle.plain_model.specs.Unit.{advanced, posted_if, unit_on}
+use Rattle.plain_units.specs.Steps.{Planned, done, call, trap, need, stopped as unit_stopped, pages_left}
+use Rattle.plain_model.specs.Unit.{advanced, posted_if}
+use Rattle.plain_units.specs.Units.{unit_on}
 use Rattle.plain_model.specs.Forks.{ForkMap, with_regs, with_status, counted}
 use Rattle.plain_model.specs.Interrupts.{posted, is_panic}
-use Rattle.plain_model.specs.Outcome.{DrumWords}
-use Rattle.plain_model.specs.Pages.{PagesMeaning}
-use Rattle.ka10_unit.specs.Once.{After, in_a_row}
+use Rattle.page_contracts.specs.DrumWords.{DrumWords}
+use Rattle.page_contracts.specs.Pages.{PagesMeaning}
 use Rattle.plain_model.specs.Trees.{PlainTree}
+use Rattle.ka10_unit.specs.Once.{After, in_a_row}
 use Rattle.fork_tree.specs.Trees.{Lives}
 use Rattle.fork_calls.specs.Holding.{Holds, IsNew, MakesPages, TopsStay}
 use Rattle.monitor_core.specs.Limits.{FitsForced, IsBody}

@@ -1,10 +1,10 @@
 -- What a taker was given, whether it took all of it or failed.
 use Rattle.std.specs.Prelude.{ℕ, ◌≤◌, List, [], Result, OnOk, OnErr}
 use Rattle.outside.specs.Faults.{Rose}
-use Rattle.plain_model.specs.declared.event.Item.{Item}
-use Rattle.plain_model.specs.declared.event.Step.{Step}
-use Rattle.plain_model.specs.Outcome.{DrumWords}
-use Rattle.plain_model.specs.Taker.{GoesOn, IsCut, StaysOnward}
+use Rattle.script_texts.specs.declared.event.Item.{Item}
+use Rattle.script_texts.specs.declared.event.Step.{Step}
+use Rattle.page_contracts.specs.DrumWords.{DrumWords}
+use Rattle.script_texts.specs.Taker.{GoesOn, IsCut, StaysOnward}
 
 -- since the first, a taker stands for these items and steps, or is cut within them
 abbrev pub Standing : Type 0 → Type 1

@@ -1,8 +1,8 @@
 -- The forks that pages hold.
 use Rattle.std.specs.Prelude.{◌≡◌, true}
-use Rattle.plain_model.specs.declared.names.ForkName.{ForkName}
-use Rattle.plain_model.specs.Limits.{IsTerminal}
-use Rattle.plain_model.specs.Pages.{PagesMeaning}
+use Rattle.machine_names.specs.declared.names.ForkName.{ForkName}
+use Rattle.machine_names.specs.Bounds.{IsTerminal}
+use Rattle.page_contracts.specs.Pages.{PagesMeaning}
 
 -- pages in memory alone hold a fork of a terminal
 pub record Holds {P : Type 0} (means : PagesMeaning P) (p : P) (f : ForkName) : Type 0 where

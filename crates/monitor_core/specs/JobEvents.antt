@@ -1,9 +1,9 @@
 -- The events of a terminal's job, as events of the script.
 use Rattle.std.specs.Prelude.{◌<◌, ◌^◌}
-use Rattle.plain_model.specs.declared.names.Tty.{Tty}
-use Rattle.plain_model.specs.declared.event.Event.{Event}
-use Rattle.plain_model.specs.declared.event.Event.TheVariants.{Poke, Start, Examine, Forks}
-use Rattle.plain_model.specs.Limits.{IsAddress}
+use Rattle.machine_names.specs.declared.names.Tty.{Tty}
+use Rattle.script_texts.specs.declared.event.Event.{Event}
+use Rattle.script_texts.specs.declared.event.Event.TheVariants.{Poke, Start, Examine, Forks}
+use Rattle.machine_names.specs.Bounds.{IsAddress}
 use Rattle.monitor_core.specs.declared.job_event.JobEvent.{JobEvent}
 use Rattle.monitor_core.specs.declared.job_event.JobEvent.TheVariants.{Poke as ToPoke, Start as ToStart, Examine as ToExamine, Forks as ToShow}
 

@@ -1,3 +1,4 @@
+pub mod Outcome
 pub mod Limits
 pub mod Shown
 pub mod Jobs

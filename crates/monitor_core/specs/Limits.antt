@@ -1,8 +1,8 @@
 -- Limits of a fork.
 use Rattle.std.specs.Prelude.{◌≡◌}
 use Rattle.plain_model.specs.declared.fork.Body.{Body}
+use Rattle.script_texts.specs.declared.status.ForkStatus.TheVariants.{Run}
 pub use Rattle.fork_calls.specs.Limits.{FitsForced, IsBody}
-use Rattle.plain_model.specs.declared.fork.ForkStatus.TheVariants.{Run}
 
 -- what units of a fork ask besides: it runs
 pub record CanUnit (b : Body) : Type 0 where

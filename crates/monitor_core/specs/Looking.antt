@@ -3,16 +3,15 @@ use Rattle.std.specs.Prelude.{ℕ, ◌%◌, Option, Some, Result, Ok, Err, nat_l
 use Rattle.std.specs.Option.{option_map, option_map_or}
 use Rattle.std.specs.FinMap as map
 use Rattle.outside.specs.declared.TheConstants.{PAGE_WORDS}
-use Rattle.plain_model.specs.declared.names.TheConstants.{ACCUMULATORS}
-use Rattle.plain_model.specs.declared.names.Tty.{Tty}
+use Rattle.machine_names.specs.declared.names.TheConstants.{ACCUMULATORS}
+use Rattle.machine_names.specs.declared.names.Tty.{Tty}
 use Rattle.plain_model.specs.declared.fork.Fork.{Fork}
-use Rattle.plain_model.specs.declared.event.Item.{Item}
-use Rattle.plain_model.specs.declared.event.Item.TheVariants.{Examined, Refusal as ARefusal}
-use Rattle.plain_model.specs.declared.event.Refusal.{Refusal}
-use Rattle.plain_model.specs.declared.event.Refusal.TheVariants.{NoFork, NoPage}
-use Rattle.plain_model.specs.State.{NumberedPages}
-use Rattle.plain_model.specs.References.{in_map, words_of, page_at}
-use Rattle.plain_model.specs.References.{slot_at}
+use Rattle.script_texts.specs.declared.event.Item.{Item}
+use Rattle.script_texts.specs.declared.event.Item.TheVariants.{Examined, Refusal as ARefusal}
+use Rattle.script_texts.specs.declared.event.Refusal.{Refusal}
+use Rattle.script_texts.specs.declared.event.Refusal.TheVariants.{NoFork, NoPage}
+use Rattle.plain_pages.specs.PlainPages.{NumberedPages}
+use Rattle.plain_pages.specs.References.{in_map, words_of, page_at, slot_at}
 use Rattle.plain_model.specs.Forks.{ForkMap}
 
 -- the word there, whatever the access, where a page is there; low addresses are the accumulators

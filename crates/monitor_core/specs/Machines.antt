@@ -1,7 +1,7 @@
 -- What the layers above see of a machine.
 use Rattle.std.specs.Prelude.{ℕ, Bool}
 use Rattle.plain_model.specs.State.{PlainState}
-use Rattle.plain_model.specs.Outcome.{DrumWords}
+use Rattle.page_contracts.specs.DrumWords.{DrumWords}
 use Rattle.monitor_core.specs.declared.machine.Machine.{Machine}
 use Rattle.monitor_core.specs.Systems.{state_of, FitsPages}
 

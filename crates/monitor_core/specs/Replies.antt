@@ -1,12 +1,13 @@
 -- What a step shows, as items.
 use Rattle.std.specs.Prelude.{List, [], ◌∷◌, map, Bool, true, false, Option, None, Some, Result, Ok, Err}
-use Rattle.plain_model.specs.declared.event.Item.{Item}
-use Rattle.plain_model.specs.declared.event.Item.TheVariants.{ForkLine, Refusal}
-use Rattle.plain_model.specs.declared.event.Refusal.{Refusal as Cause}
+use Rattle.script_texts.specs.declared.event.Item.{Item}
+use Rattle.script_texts.specs.declared.event.Item.TheVariants.{ForkLine, Refusal}
+use Rattle.script_texts.specs.declared.event.Refusal.{Refusal as Cause}
 use Rattle.plain_model.specs.State.{PlainState}
 use Rattle.plain_model.specs.declared.fork.Fork.{Fork}
 use Rattle.plain_model.specs.Forks.{ForkMap, fork_line, forks_by_slot}
-use Rattle.plain_model.specs.Limits.{IsTerminal, FitsItem}
+use Rattle.machine_names.specs.Bounds.{IsTerminal}
+use Rattle.script_texts.specs.Limits.{FitsItem}
 use Rattle.monitor_core.specs.declared.reply.Reply.{Reply}
 use Rattle.monitor_core.specs.declared.reply.Reply.TheVariants.{Nothing, One, Prints, Forks}
 use Rattle.monitor_core.specs.Shown.{shown_items, is_nothing, FitsShown}

@@ -1,15 +1,14 @@
 -- Forks of a tree that can run, as the machine chooses them.
 use Rattle.std.specs.Prelude.{◌≡◌, ℕ, ◌≤◌, Bool, if◌then◌else◌}
 use Rattle.std.specs.FinMap as map
-use Rattle.plain_model.specs.declared.names.Tty.{Tty}
-use Rattle.plain_model.specs.declared.names.ForkName.{ForkName}
-use Rattle.plain_model.specs.declared.names.TheConstants.{MOST_FORKS}
+use Rattle.machine_names.specs.declared.names.Tty.{Tty}
+use Rattle.machine_names.specs.declared.names.ForkName.{ForkName}
+use Rattle.machine_names.specs.declared.names.TheConstants.{MOST_FORKS}
 use Rattle.plain_model.specs.declared.fork.Fork.{Fork}
-use Rattle.plain_model.specs.Limits.{IsTerminal}
+use Rattle.machine_names.specs.Bounds.{IsTerminal}
 use Rattle.plain_model.specs.Forks.{ForkMap}
-use Rattle.plain_model.specs.Trees.{changed, waiters_woken}
+use Rattle.plain_model.specs.Trees.{changed, waiters_woken, PlainTree}
 use Rattle.fork_tree.specs.Trees.{CanRun, IsIn, IsTree}
-use Rattle.plain_model.specs.Trees.{PlainTree}
 use Rattle.monitor_core.specs.declared.runner.Runner.{Runner}
 
 -- a fork of trees is in this slot, under this name, and can run

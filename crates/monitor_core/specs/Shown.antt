@@ -1,9 +1,9 @@
 -- What a unit shows, as items.
 use Rattle.std.specs.Prelude.{ℕ, ◌<◌, List, [], ◌∷◌, Bool, true, false, not, ◌&&◌, if◌then◌else◌, ◌==◌}
-use Rattle.plain_model.specs.declared.character.TheConstants.{LINE_END, CARRIAGE_RETURN, LINE_FEED}
-use Rattle.plain_model.specs.declared.names.Tty.{Tty}
-use Rattle.plain_model.specs.declared.fork.ForkStatus.TheVariants.{Halted as AHalted, Forced as AForced}
-use Rattle.plain_model.specs.declared.event.Item.{Item}
+use Rattle.machine_names.specs.declared.character.TheConstants.{LINE_END, CARRIAGE_RETURN, LINE_FEED}
+use Rattle.machine_names.specs.declared.names.Tty.{Tty}
+use Rattle.script_texts.specs.declared.status.ForkStatus.TheVariants.{Halted as AHalted, Forced as AForced}
+use Rattle.script_texts.specs.declared.event.Item.{Item}
 use Rattle.plain_model.specs.Unit.{printed, stop_text}
 use Rattle.monitor_core.specs.declared.shown.Shown.{Shown}
 use Rattle.monitor_core.specs.declared.shown.Shown.TheVariants.{Nothing, Code, LineEnd, Halted, Forced}

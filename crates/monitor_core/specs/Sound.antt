@@ -2,13 +2,13 @@
 use Rattle.std.specs.Prelude.{◌≡◌, ℕ, ◌<◌, List, length, true, Option, None, Some}
 use Rattle.std.specs.Option.{option_map}
 use Rattle.std.specs.FinMap as map
-use Rattle.plain_model.specs.declared.names.TheConstants.{TERMINALS}
+use Rattle.machine_names.specs.declared.names.TheConstants.{TERMINALS}
 use Rattle.plain_model.specs.declared.fork.Fork.{Fork}
-use Rattle.plain_model.specs.Pages.{PagesMeaning}
+use Rattle.page_contracts.specs.Pages.{PagesMeaning}
+use Rattle.plain_model.specs.Trees.{PlainTree}
 use Rattle.fork_tree.specs.Trees.{Lives}
 use Rattle.fork_calls.specs.Holding.{Holds}
 use Rattle.fork_calls.specs.Limits.{AreWithin}
-use Rattle.plain_model.specs.Trees.{PlainTree}
 use Rattle.monitor_core.specs.declared.job.Job.{Job}
 use Rattle.monitor_core.specs.Jobs.{job_at}
 

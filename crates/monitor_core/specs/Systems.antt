@@ -1,15 +1,16 @@
 -- The plain state that a system stands for, and what one step does to it.
 use Rattle.std.specs.Prelude.{◌≡◌, ℕ, ◌+◌, ◌*◌, ◌≤◌, true, false, replicate}
 use Rattle.std.specs.FinMap as map
-use Rattle.plain_model.specs.declared.names.Tty.{Tty}
-use Rattle.plain_model.specs.declared.names.ForkName.{ForkName}
+use Rattle.machine_names.specs.declared.names.Tty.{Tty}
+use Rattle.machine_names.specs.declared.names.ForkName.{ForkName}
 use Rattle.plain_model.specs.declared.fork.Fork.{Fork}
-use Rattle.plain_model.specs.declared.event.Step.{Step}
-use Rattle.plain_model.specs.declared.event.Step.TheVariants.{Outer, Unit as AUnit, Idle}
-use Rattle.plain_model.specs.Orders.{name_cmp}
-use Rattle.plain_model.specs.State.{PlainState, refiled}
-use Rattle.plain_model.specs.Limits.{FitsStep, IsBuilt}
-use Rattle.plain_model.specs.Outcome.{DrumWords}
+use Rattle.script_texts.specs.declared.event.Step.{Step}
+use Rattle.script_texts.specs.declared.event.Step.TheVariants.{Outer, Unit as AUnit, Idle}
+use Rattle.machine_names.specs.Orders.{name_cmp}
+use Rattle.plain_model.specs.State.{PlainState}
+use Rattle.plain_pages.specs.PlainPages.{refiled}
+use Rattle.script_texts.specs.Limits.{FitsStep, IsBuilt}
+use Rattle.page_contracts.specs.DrumWords.{DrumWords}
 use Rattle.plain_model.specs.Run.{apply, state_after, items_of, AreLegal}
 use Rattle.fork_tree.specs.Trees.{CanRun, Lives}
 use Rattle.monitor_core.specs.declared.reply.Reply.{Reply}

@@ -1,15 +1,15 @@
 -- A word that is written through a fork's map, as the plain pages have it.
 use Rattle.std.specs.Prelude.{◌≡◌, ◌≢◌, ℕ, ◌+◌, ◌≤◌, Result, Ok, Err, OnErr}
 use Rattle.std.specs.Ordering.{nat_cmp}
-use Rattle.plain_model.specs.declared.names.Tty.{Tty}
-use Rattle.plain_model.specs.declared.names.Slot.{Slot}
-use Rattle.plain_model.specs.declared.names.Kind.TheVariants.{Write}
-use Rattle.plain_model.specs.declared.event.Refusal.{Refusal}
-use Rattle.plain_model.specs.declared.event.Refusal.TheVariants.{Denied, Full}
-use Rattle.plain_model.specs.State.{NumberedPages}
-use Rattle.plain_model.specs.References.{Referred, granted, denied, full, in_map, reference, stored}
-use Rattle.plain_model.specs.Outcome.{DrumWords}
-use Rattle.plain_model.specs.Pages.{PagesMeaning}
+use Rattle.machine_names.specs.declared.names.Tty.{Tty}
+use Rattle.machine_names.specs.declared.names.Slot.{Slot}
+use Rattle.machine_names.specs.declared.names.Kind.TheVariants.{Write}
+use Rattle.script_texts.specs.declared.event.Refusal.{Refusal}
+use Rattle.script_texts.specs.declared.event.Refusal.TheVariants.{Denied, Full}
+use Rattle.plain_pages.specs.PlainPages.{NumberedPages}
+use Rattle.plain_pages.specs.References.{Referred, granted, denied, full, in_map, reference, stored}
+use Rattle.page_contracts.specs.DrumWords.{DrumWords}
+use Rattle.page_contracts.specs.Pages.{PagesMeaning}
 
 -- a reference to write, as an event of a terminal has it: the pages that it leaves, or the refusal
 abbrev pub write_of : Tty → Referred nat_cmp → Result NumberedPages Refusal

@@ -1,10 +1,10 @@
 // Where an address of a fork's space stands.
 ghost use Rattle.std.specs.Prelude.{◌≡◌, ◌<◌, ◌%◌};
 ghost use Rattle.outside.specs.declared.TheConstants.{PAGE_WORDS};
-ghost use Rattle.plain_model.specs.Limits.{IsAddress};
-ghost use Rattle.plain_model.specs.References.{slot_at as slot_of};
+ghost use Rattle.machine_names.specs.Bounds.{IsAddress};
+ghost use Rattle.plain_pages.specs.References.{slot_at as slot_of};
 
-use plain_model::{ForkName, SPACE_PAGES, Slot};
+use machine_names::{ForkName, SPACE_PAGES, Slot};
 
 /// How many words a page has.
 const WORDS: u32 = outside::PAGE_WORDS as u32;

@@ -1,9 +1,9 @@
 // Monitor calls by their numbers.
 ghost use Rattle.std.specs.Prelude.{◌≡◌, ◌<◌, ◌%◌, ◌^◌, IsSome, Some, false, length, true};
-ghost use Rattle.plain_model.specs.declared.names.TheConstants.{ACCUMULATORS};
+ghost use Rattle.machine_names.specs.declared.names.TheConstants.{ACCUMULATORS};
 ghost use Rattle.plain_model.specs.declared.fork.Body.{Body as ABody};
 ghost use Rattle.plain_model.specs.declared.fork.Fork.{Fork as AFork};
-ghost use Rattle.plain_model.specs.declared.fork.ForkStatus.{ForkStatus as AForkStatus};
+ghost use Rattle.script_texts.specs.declared.status.ForkStatus.{ForkStatus as AForkStatus};
 ghost use Rattle.plain_model.specs.Forks.{counted, fork_in, with_regs, with_status};
 ghost use Rattle.plain_model.specs.Unit.{advanced};
 ghost use Rattle.plain_model.specs.Calls.{failed_regs, is_among, with_error};
@@ -19,12 +19,16 @@ ghost use Rattle.monitor_core.specs.ForkUnit.{Called, IsMapCall, Place as APlace
 use crate::runner::Runner;
 use crate::shown::Shown;
 use crate::unit::posted;
+use call_turns::Answer;
 use fork_calls::is_fork_call;
 use fork_tree::Tree;
+use machine_names::character::LINE_END;
+use page_contracts::Pages;
+use plain_model::Body;
 use plain_model::call::{CFORK, PBOUT};
-use plain_model::channel::ILLEGAL_INSTRUCTION;
-use plain_model::character::LINE_END;
-use plain_model::{Answer, Body, ForkStatus, Pages, Regs};
+use plain_units::Regs;
+use plain_units::channel::ILLEGAL_INSTRUCTION;
+use script_texts::ForkStatus;
 use word36::Word;
 
 // The program counter goes on by one, modulo 2^18.

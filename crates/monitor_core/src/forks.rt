@@ -5,9 +5,10 @@ ghost use Rattle.outside.specs.declared.TheConstants.{PAGE_WORDS};
 ghost use Rattle.plain_model.specs.declared.fork.Fork.{Fork as AFork};
 ghost use Rattle.plain_model.specs.Events.{restarted, with_accumulator};
 ghost use Rattle.plain_model.specs.Forks.{fork_line, superior_of};
-ghost use Rattle.plain_model.specs.Limits.{FitsCause, FitsItem, IsAddress, IsTerminal};
-ghost use Rattle.plain_model.specs.Outcome.{DrumWords};
-ghost use Rattle.plain_model.specs.References.{slot_at as slot_of};
+ghost use Rattle.script_texts.specs.Limits.{FitsCause, FitsItem};
+ghost use Rattle.machine_names.specs.Bounds.{IsAddress, IsTerminal};
+ghost use Rattle.page_contracts.specs.DrumWords.{DrumWords};
+ghost use Rattle.plain_pages.specs.References.{slot_at as slot_of};
 ghost use Rattle.std.specs.Option.{option_map_or};
 ghost use Rattle.fork_tree.specs.Trees.{IsTree, Lives};
 ghost use Rattle.monitor_core.specs.Holding.{Holds};
@@ -19,7 +20,10 @@ use crate::address::{offset_in_page, slot_at};
 use crate::looking::seen_word;
 use crate::writing::write_word;
 use fork_tree::Tree;
-use plain_model::{ACCUMULATORS, Fork, ForkLine, ForkName, ForkStatus, Item, Pages, Refusal, Tty};
+use machine_names::{ACCUMULATORS, ForkName, Tty};
+use page_contracts::Pages;
+use plain_model::Fork;
+use script_texts::{ForkLine, ForkStatus, Item, Refusal};
 use word36::Word;
 
 /// Puts a word at an address of a fork: into an accumulator, or into a page by the fork's access. Denied, where its

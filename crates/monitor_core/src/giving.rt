@@ -1,14 +1,15 @@
 // What a unit shows, given to a taker.
 ghost use Rattle.std.specs.Prelude.{◌<◌, All};
-ghost use Rattle.plain_model.specs.Limits.{IsTerminal};
+ghost use Rattle.machine_names.specs.Bounds.{IsTerminal};
 ghost use Rattle.plain_model.specs.Unit.{printed};
 ghost use Rattle.monitor_core.specs.Giving.{TookItems};
 ghost use Rattle.monitor_core.specs.Shown.{shown_items, FitsShown};
 
 use crate::shown::Shown;
 use itoa::Buffer;
+use machine_names::Tty;
 use outside::Failed;
-use plain_model::{Item, Taker, Tty};
+use script_texts::{Item, Taker};
 
 // Gives the characters that a terminal prints.
 fn give_text<T: Taker>(out: &mut T, t: Tty, text: &[u8]) -> Result<(), Failed>

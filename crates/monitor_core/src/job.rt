@@ -1,11 +1,12 @@
 // A job.
 ghost use Rattle.std.specs.Prelude.{◌≡◌, ◌<◌, IfOk, length};
-ghost use Rattle.plain_model.specs.Limits.{IsTerminal};
+ghost use Rattle.machine_names.specs.Bounds.{IsTerminal};
 ghost use Rattle.monitor_core.specs.Jobs.{jobs_left, no_jobs};
 ghost use Rattle.monitor_core.specs.Shown.{is_stop as is_stop_of, seen_of};
 
 use crate::shown::Shown;
-use plain_model::{DirName, ForkName, TERMINALS, TerminalMode, Tty};
+use machine_names::{DirName, ForkName, TERMINALS, Tty};
+use plain_model::TerminalMode;
 use std::alloc::{AllocError, Global};
 
 /// A job of a terminal: its user, who reads the terminal, and its top fork.

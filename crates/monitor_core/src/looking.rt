@@ -1,12 +1,14 @@
 // A look at a word of a fork's space.
 ghost use Rattle.std.specs.Prelude.{◌≡◌, ◌<◌, ◌^◌, length, true};
-ghost use Rattle.plain_model.specs.Limits.{IsAddress};
-ghost use Rattle.plain_model.specs.Outcome.{DrumWords};
+ghost use Rattle.machine_names.specs.Bounds.{IsAddress};
+ghost use Rattle.page_contracts.specs.DrumWords.{DrumWords};
 ghost use Rattle.monitor_core.specs.Holding.{Holds};
 ghost use Rattle.monitor_core.specs.Looking.{word_in};
 
 use crate::address::{offset_in_page, slot_at};
-use plain_model::{ACCUMULATORS, Fork, Pages, Peeked, Place};
+use machine_names::{ACCUMULATORS, Place};
+use page_contracts::{Pages, Peeked};
+use plain_model::Fork;
 use word36::Word;
 
 /// The word at an address of a fork, whatever its access. None, where no page is there; nothing is made.

@@ -3,7 +3,8 @@ ghost use Rattle.monitor_core.specs.Runners.{IsSlot};
 ghost use Rattle.monitor_core.specs.Systems.{IsWithin};
 
 use crate::system::System;
-use plain_model::{Pages, Tty};
+use machine_names::Tty;
+use page_contracts::Pages;
 
 /// Sizes of a machine: how many forks the balance set has at most, 1 to 63.
 #[derive(Clone, Copy, Debug, PartialEq, Eq)]

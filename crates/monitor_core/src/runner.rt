@@ -1,5 +1,5 @@
 // A fork that can run.
-use plain_model::ForkName;
+use machine_names::ForkName;
 
 /// A fork that can run, with its slot in its job.
 #[derive(Clone, Copy, Debug, PartialEq, Eq)]

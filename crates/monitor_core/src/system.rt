@@ -4,7 +4,7 @@ ghost use Rattle.monitor_core.specs.Sound.{AreSound};
 use crate::job::Job;
 use fork_tree::Tree;
 use ka10_unit::Taken;
-use plain_model::Pages;
+use page_contracts::Pages;
 
 /// The pages, the forks of all jobs, the jobs, and the clock. Its steps are those of the plain machine; which fork
 /// runs next, and what is given to whom, is not its concern.

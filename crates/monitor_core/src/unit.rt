@@ -13,10 +13,13 @@ ghost use Rattle.monitor_core.specs.ForkUnit.{HasRoom, Place as APlace, Ran, Ran
 
 use crate::shown::Shown;
 use ka10_unit::{End, Outcome, Post, Taken, burst, slow_unit};
-use plain_model::channel::{
+use machine_names::ForkName;
+use page_contracts::Pages;
+use plain_model::Body;
+use plain_units::channel::{
     DENIED_EXECUTE, DRUM_FULL, ILLEGAL_INSTRUCTION, OVERFLOW, PUSHDOWN_OVERFLOW,
 };
-use plain_model::{Body, ForkName, ForkStatus, Pages};
+use script_texts::ForkStatus;
 
 /// The last of units in a row.
 #[derive(Clone, Copy, Debug, PartialEq, Eq)]

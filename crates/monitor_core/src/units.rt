@@ -16,7 +16,7 @@ use crate::shown::Shown;
 use crate::unit::{Last, run_units};
 use fork_tree::Tree;
 use ka10_unit::Taken;
-use plain_model::Pages;
+use page_contracts::Pages;
 
 /// Units of a fork in a row: how many, at least one, and what the last of them shows. Those before it show
 /// nothing.

@@ -1,12 +1,15 @@
 // A word that is written through a fork's map.
 ghost use Rattle.std.specs.Prelude.{◌≡◌, ◌<◌, ◌^◌, true, IfErr, OnOk};
 ghost use Rattle.outside.specs.declared.TheConstants.{PAGE_WORDS};
-ghost use Rattle.plain_model.specs.Limits.{FitsCause, IsTerminal};
-ghost use Rattle.plain_model.specs.Outcome.{DrumWords};
+ghost use Rattle.script_texts.specs.Limits.{FitsCause};
+ghost use Rattle.machine_names.specs.Bounds.{IsTerminal};
+ghost use Rattle.page_contracts.specs.DrumWords.{DrumWords};
 ghost use Rattle.monitor_core.specs.Holding.{Holds};
 ghost use Rattle.monitor_core.specs.Writing.{IsReadied, Makes, Writes};
 
-use plain_model::{Kind, Pages, Place, Refusal, SPACE_PAGES, Slot, Touch};
+use machine_names::{Kind, Place, SPACE_PAGES, Slot};
+use page_contracts::{Pages, Touch};
+use script_texts::Refusal;
 use word36::Word;
 
 // Makes what a write to a slot wants: a zero page, a private copy, or the one and then the other.

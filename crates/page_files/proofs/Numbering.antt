@@ -7,9 +7,8 @@ use Rattle.std.proofs.lemmas.Cmp.{nat_cmp_total}
 use Rattle.std.proofs.lemmas.Bool.{cases_Bool, cases_lt}
 use Rattle.std.specs.FinMap as map
 use Rattle.std.specs.FinMap.{IsAntisymmetric, find}
-use Rattle.plain_model.specs.Orders.{FilePage, file_page_cmp}
-use Rattle.plain_model.proofs.Makings.{file_page_total}
-use Rattle.plain_model.proofs.OrderLemmas.{pairs_tied}
+use Rattle.machine_names.specs.Orders.{FilePage, file_page_cmp}
+use Rattle.machine_names.proofs.OrderLemmas.{file_page_total, pairs_tied}
 use Rattle.page_files.specs.declared.bytes.TheConstants.{FILE_PAGES}
 use Rattle.page_files.specs.Pages.{PagesOf, OthersStay, file_page, by_file}
 

@@ -1,6 +1,6 @@
 -- The lengths of files and the sizes of their bytes.
 use Rattle.std.specs.Prelude.{ℕ, ◌≤◌, List, map, slice_index_or}
-use Rattle.plain_model.specs.State.{PlainFile}
+use Rattle.machine_names.specs.Files.{PlainFile}
 use Rattle.page_files.specs.declared.bytes.TheConstants.{LARGEST_BYTE}
 use Rattle.page_files.specs.declared.lengths.FileLength.{FileLength}
 use Rattle.page_files.specs.Bytes.{IsByteSize, most_bytes}

@@ -4,8 +4,8 @@ ghost use Rattle.page_files.specs.Bytes.{IsByteSize, most_bytes as room_for};
 ghost use Rattle.page_files.specs.Sizes.{FitsFile, file_at, new_file};
 
 use crate::{LARGEST_BYTE, MOST_FILES};
+use machine_names::FileNo;
 use outside::Memory;
-use plain_model::FileNo;
 use std::alloc::Global;
 use std::marker::Model;
 
@@ -24,7 +24,7 @@ pub struct Lengths {
 
 impl Model for Lengths {
     ghost use Rattle.std.specs.Prelude.{◌≡◌, List, All, vec_len};
-    ghost use Rattle.plain_model.specs.State.{PlainFile};
+    ghost use Rattle.machine_names.specs.Files.{PlainFile};
     ghost use Rattle.page_files.specs.declared.bytes.TheConstants.{MOST_FILES};
     ghost use Rattle.page_files.specs.Sizes.{FitsFile, plain_files};
 

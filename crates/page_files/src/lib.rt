@@ -1,6 +1,6 @@
 //! What files hold: their pages, their lengths, and where each byte stands.
 //! To the layers above it is a finite map from pages of files, and a list of lengths and byte sizes.
-//! Stands on `number_map`, and on `plain_model` for the names of files and pages.
+//! Stands on `number_map`, and on `machine_names` for the names of files and pages.
 #![tactic(auto)]
 
 mod bytes;

@@ -1,5 +1,5 @@
 use super::*;
-use plain_model::FileNo;
+use machine_names::FileNo;
 use std::test::Fail;
 use word36::Word;
 

@@ -4,25 +4,25 @@ use Rattle.std.specs.Prelude.{find, is_some}
 use Rattle.std.specs.Option.{option_map, option_and_then}
 use Rattle.std.specs.Ordering.{nat_cmp}
 use Rattle.std.specs.Cmp.{nat_cmp_total}
-use Rattle.plain_model.specs.declared.names.Tty.{Tty}
-use Rattle.plain_model.specs.declared.names.PageName.{PageName}
-use Rattle.plain_model.specs.declared.names.Slot.{Slot}
-use Rattle.plain_model.specs.declared.names.Access.{Access}
-use Rattle.plain_model.specs.declared.names.Kind.{Kind}
-use Rattle.plain_model.specs.declared.names.Kind.TheVariants.{Write}
-use Rattle.plain_model.specs.declared.map.MapEntry.{MapEntry}
-use Rattle.plain_model.specs.declared.map.MapEntry.TheVariants.{Empty, Names, Follows}
-use Rattle.plain_model.specs.State.{NumberedPages}
-use Rattle.plain_model.specs.Maps.{Entries, Link, Chain, followed, full_access, access_of, behind, chain_within, chain, entry_at, permits}
-use Rattle.plain_model.specs.Room.{HasRoom}
-use Rattle.plain_model.specs.References.{in_map, Making, blank, copy, blanks, copies, copy_in, along_chain, private_access, makings, make, make_all, granted, denied, reference, page_at}
-use Rattle.plain_model.specs.Pages.{IsOwner}
-use Rattle.plain_model.specs.Whole.{AreWhole}
-use Rattle.plain_model.proofs.Chains.{marked, chain_here, chain_empty, chain_marked, slot_tells}
-use Rattle.plain_model.proofs.Ends.{Begun, at_empty, at_page, at_other, begun, no_chain_within}
-use Rattle.plain_model.proofs.Made.{IsMade, is_blank, is_copy}
-use Rattle.plain_model.proofs.Settles.{FirstOf, is_blank as first_blank, is_copy as first_copy, first_of_chain, makings_settled}
-use Rattle.plain_model.proofs.Touches.{roomy, reference_makes, reference_denied}
+use Rattle.machine_names.specs.declared.names.Tty.{Tty}
+use Rattle.machine_names.specs.declared.names.PageName.{PageName}
+use Rattle.machine_names.specs.declared.names.Slot.{Slot}
+use Rattle.machine_names.specs.declared.names.Access.{Access}
+use Rattle.machine_names.specs.declared.names.Kind.{Kind}
+use Rattle.machine_names.specs.declared.names.Kind.TheVariants.{Write}
+use Rattle.plain_pages.specs.declared.map.MapEntry.{MapEntry}
+use Rattle.plain_pages.specs.declared.map.MapEntry.TheVariants.{Empty, Names, Follows}
+use Rattle.plain_pages.specs.PlainPages.{NumberedPages}
+use Rattle.plain_pages.specs.Maps.{Entries, Link, Chain, followed, full_access, access_of, behind, chain_within, chain, entry_at, permits}
+use Rattle.plain_pages.specs.Room.{HasRoom}
+use Rattle.plain_pages.specs.References.{in_map, Making, blank, copy, blanks, copies, copy_in, along_chain, private_access, makings, make, make_all, granted, denied, reference, page_at}
+use Rattle.machine_names.specs.Bounds.{IsOwner}
+use Rattle.plain_pages.specs.WholePages.{AreWhole}
+use Rattle.plain_pages.proofs.Chains.{marked, chain_here, chain_empty, chain_marked, slot_tells}
+use Rattle.plain_pages.proofs.Ends.{Begun, at_empty, at_page, at_other, begun, no_chain_within}
+use Rattle.plain_pages.proofs.Made.{IsMade, is_blank, is_copy}
+use Rattle.plain_pages.proofs.Settles.{FirstOf, is_blank as first_blank, is_copy as first_copy, first_of_chain, makings_settled}
+use Rattle.plain_pages.proofs.ReferencesMade.{roomy, reference_makes, reference_denied}
 
 -- a first link that has no copy mark, and a rest that has none
 unmarked : (l : Link) (ls : List Link) → find marked (l ∷ ls) ≡ None → (l.access.c ≡ false) × (find marked ls ≡ None)

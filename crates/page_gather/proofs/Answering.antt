@@ -4,19 +4,21 @@ use Rattle.std.specs.Prelude.{nat_le, ◌||◌}
 use Rattle.std.specs.Option.{option_and_then}
 use Rattle.std.specs.Ordering.{nat_cmp}
 use Rattle.std.proofs.lemmas.Bool.Decides.{nat_tests}
-use Rattle.plain_model.specs.declared.names.Tty.{Tty}
-use Rattle.plain_model.specs.declared.names.Slot.{Slot}
-use Rattle.plain_model.specs.declared.map.Need.TheVariants as need
-use Rattle.plain_model.specs.declared.map.Touch.{Touch}
-use Rattle.plain_model.specs.declared.map.Touch.TheVariants.{Ready}
-use Rattle.plain_model.specs.declared.store.Room.{Room}
-use Rattle.plain_model.specs.declared.store.Room.TheVariants as room
-use Rattle.plain_model.specs.State.{NumberedPages}
-use Rattle.plain_model.specs.Maps.{Chain, entry_at, chain, permits}
-use Rattle.plain_model.specs.Room.{live}
-use Rattle.plain_model.specs.References.{Referred, granted, denied, full, in_map, blanks, copies, along_chain, makings, next_making}
-use Rattle.plain_model.specs.Pages.{Scene, IsOwner, map_away, page_away, touch_of, touched_by, absent_or, announced, room_for}
-use Rattle.plain_model.proofs.Touches.{reference_stays, reference_denied, ready_touch}
+use Rattle.machine_names.specs.declared.names.Tty.{Tty}
+use Rattle.machine_names.specs.declared.names.Slot.{Slot}
+use Rattle.page_contracts.specs.declared.answers.Need.TheVariants as need
+use Rattle.page_contracts.specs.declared.answers.Touch.{Touch}
+use Rattle.page_contracts.specs.declared.answers.Touch.TheVariants.{Ready}
+use Rattle.page_contracts.specs.declared.store.Room.{Room}
+use Rattle.page_contracts.specs.declared.store.Room.TheVariants as room
+use Rattle.plain_pages.specs.PlainPages.{NumberedPages}
+use Rattle.plain_pages.specs.Maps.{Chain, entry_at, chain, permits}
+use Rattle.plain_pages.specs.Room.{live}
+use Rattle.plain_pages.specs.References.{Referred, granted, denied, full, in_map, blanks, copies, along_chain, makings, next_making}
+use Rattle.page_contracts.specs.Pages.{Scene, map_away, page_away, touch_of, touched_by, absent_or, announced, room_for}
+use Rattle.machine_names.specs.Bounds.{IsOwner}
+use Rattle.plain_pages.proofs.ReferencesMade.{reference_stays, reference_denied}
+use Rattle.page_contracts.proofs.Touches.{ready_touch}
 use Rattle.page_gather.specs.declared.change.Change.{Change}
 use Rattle.page_gather.specs.declared.reference.PageReference.{PageReference}
 use Rattle.page_gather.specs.declared.reference.Added.{Added}

@@ -7,22 +7,23 @@ use Rattle.std.specs.FinMap as map
 use Rattle.std.proofs.lemmas.Bool.Decides.{eqb_tells, nat_tests}
 use Rattle.std.proofs.lemmas.List.{take_more}
 use Rattle.std.proofs.lemmas.List.Sums.{sum_by-append}
-use Rattle.plain_model.specs.declared.names.Tty.{Tty}
-use Rattle.plain_model.specs.declared.names.Slot.{Slot}
-use Rattle.plain_model.specs.declared.names.PageName.{PageName}
-use Rattle.plain_model.specs.declared.names.Access.{Access}
-use Rattle.plain_model.specs.declared.map.MapEntry.{MapEntry}
-use Rattle.plain_model.specs.declared.map.MapEntry.TheVariants.{Empty, Names, Follows}
-use Rattle.plain_model.specs.State.{NumberedPages}
-use Rattle.plain_model.specs.Maps.{entry_at}
-use Rattle.plain_model.specs.Room.{same_page, page_in, uses, live}
-use Rattle.plain_model.specs.References.{next_page, zero_words}
-use Rattle.plain_model.specs.Pages.{IsOwner}
-use Rattle.plain_model.specs.Whole.{AreWhole}
-use Rattle.plain_model.proofs.Counts.{weight, same_itself}
-use Rattle.plain_model.proofs.Makings.{entry_there, at_zero}
-use Rattle.plain_model.proofs.Whole.{tally}
-use Rattle.plain_model.proofs.Made.{IsMade, not_next, not_later}
+use Rattle.machine_names.specs.declared.names.Tty.{Tty}
+use Rattle.machine_names.specs.declared.names.Slot.{Slot}
+use Rattle.machine_names.specs.declared.names.PageName.{PageName}
+use Rattle.machine_names.specs.declared.names.Access.{Access}
+use Rattle.plain_pages.specs.declared.map.MapEntry.{MapEntry}
+use Rattle.plain_pages.specs.declared.map.MapEntry.TheVariants.{Empty, Names, Follows}
+use Rattle.plain_pages.specs.PlainPages.{NumberedPages}
+use Rattle.plain_pages.specs.Maps.{entry_at}
+use Rattle.plain_pages.specs.Room.{same_page, page_in, uses, live}
+use Rattle.plain_pages.specs.References.{next_page}
+use Rattle.machine_names.specs.PageWords.{zero_words}
+use Rattle.machine_names.specs.Bounds.{IsOwner}
+use Rattle.plain_pages.specs.WholePages.{AreWhole}
+use Rattle.plain_pages.proofs.Counts.{weight, same_itself}
+use Rattle.plain_pages.proofs.Makings.{entry_there, at_zero}
+use Rattle.plain_pages.proofs.Whole.{tally}
+use Rattle.plain_pages.proofs.Made.{IsMade, not_next, not_later}
 use Rattle.page_gather.specs.declared.change.Change.{Change}
 use Rattle.page_gather.specs.Changes.{same_slot, change_of, taken_names, source_words, are_in_space, is_in_space, NamesNew, IsChanged, AreChanged}
 
@@ -174,7 +175,7 @@ module _ (p q r : NumberedPages) (owner : Tty) (own : IsOwner owner) (w : AreWho
         one = ap (λ b. cond b 1 0) (same_itself new)
 
         not_used : uses q new ≡ 0
-        not_used = Rattle.plain_model.proofs.Whole.unmade q h.whole owner
+        not_used = Rattle.plain_pages.proofs.Whole.unmade q h.whole owner
 
     new_still : (s : Slot) (d : Change) → s ≢ c.slot → NamesNew p q s d → NamesNew p r s d
     new_still s d ne k = record {

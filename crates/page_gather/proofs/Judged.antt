@@ -5,32 +5,33 @@ use Rattle.std.specs.Option.{option_map, option_map_or, option_and_then, unwrap_
 use Rattle.std.specs.Cmp.{nat_cmp_total}
 use Rattle.std.specs.FinMap as map
 use Rattle.std.proofs.lemmas.Bool.Decides.{nat_tests}
-use Rattle.plain_model.specs.declared.names.Tty.{Tty}
-use Rattle.plain_model.specs.declared.names.Home.{Home}
-use Rattle.plain_model.specs.declared.names.Slot.{Slot}
-use Rattle.plain_model.specs.declared.names.PageName.{PageName}
-use Rattle.plain_model.specs.declared.names.Access.{Access}
-use Rattle.plain_model.specs.declared.names.Kind.{Kind}
-use Rattle.plain_model.specs.declared.names.Kind.TheVariants.{Read, Write, Execute}
-use Rattle.plain_model.specs.declared.map.MapEntry.{MapEntry}
-use Rattle.plain_model.specs.declared.map.MapEntry.TheVariants.{Names, Follows}
-use Rattle.plain_model.specs.declared.map.Need.TheVariants as need
-use Rattle.plain_model.specs.declared.map.Touch.TheVariants.{Ready}
-use Rattle.plain_model.specs.declared.store.Room.{Room}
-use Rattle.plain_model.specs.declared.map.Peeked.{Peeked}
-use Rattle.plain_model.specs.declared.map.Peeked.TheVariants as peeked
-use Rattle.plain_model.specs.State.{NumberedPages}
-use Rattle.plain_model.specs.Maps.{Link, Chain, entry_at, full_access, chain, chain_within, permits}
-use Rattle.plain_model.specs.Room.{same_page, page_in, uses, live}
-use Rattle.plain_model.specs.References.{granted, in_map, copy, copy_in, copies, private_access, page_at, words_of}
-use Rattle.plain_model.specs.Pages.{Scene, IsOwner, touch_of, room_for, is_sole, map_away, page_away, peek_of, away_or, counted}
-use Rattle.plain_model.proofs.Counts.{Same, page_tells, same_itself}
-use Rattle.plain_model.proofs.Equations.{chain_is_four}
-use Rattle.plain_model.proofs.Chains.{access_of, marked, IsMarked, chain_marked}
-use Rattle.plain_model.proofs.Ends.{AtEnd, ends_empty, ends_named, at_end, AtMark, mark_follows, mark_names, at_mark}
-use Rattle.plain_model.proofs.Ways.{way_of_named, end_in_frame}
-use Rattle.plain_model.proofs.Makings.{entry_there, named_end}
-use Rattle.plain_model.proofs.Made.{two_names}
+use Rattle.machine_names.specs.declared.names.Tty.{Tty}
+use Rattle.machine_names.specs.declared.homes.Home.{Home}
+use Rattle.machine_names.specs.declared.names.Slot.{Slot}
+use Rattle.machine_names.specs.declared.names.PageName.{PageName}
+use Rattle.machine_names.specs.declared.names.Access.{Access}
+use Rattle.machine_names.specs.declared.names.Kind.{Kind}
+use Rattle.machine_names.specs.declared.names.Kind.TheVariants.{Read, Write, Execute}
+use Rattle.plain_pages.specs.declared.map.MapEntry.{MapEntry}
+use Rattle.plain_pages.specs.declared.map.MapEntry.TheVariants.{Names, Follows}
+use Rattle.page_contracts.specs.declared.answers.Need.TheVariants as need
+use Rattle.page_contracts.specs.declared.answers.Touch.TheVariants.{Ready}
+use Rattle.page_contracts.specs.declared.store.Room.{Room}
+use Rattle.page_contracts.specs.declared.answers.Peeked.{Peeked}
+use Rattle.page_contracts.specs.declared.answers.Peeked.TheVariants as peeked
+use Rattle.plain_pages.specs.PlainPages.{NumberedPages}
+use Rattle.plain_pages.specs.Maps.{Link, Chain, entry_at, full_access, chain, chain_within, permits, access_of}
+use Rattle.plain_pages.specs.Room.{same_page, page_in, uses, live}
+use Rattle.plain_pages.specs.References.{granted, in_map, copy, copy_in, copies, private_access, page_at, words_of}
+use Rattle.page_contracts.specs.Pages.{Scene, touch_of, room_for, is_sole, map_away, page_away, peek_of, away_or, counted}
+use Rattle.machine_names.specs.Bounds.{IsOwner}
+use Rattle.plain_pages.proofs.Counts.{Same, page_tells, same_itself}
+use Rattle.plain_pages.proofs.ChainEquations.{chain_is_four}
+use Rattle.plain_pages.proofs.Chains.{marked, IsMarked, chain_marked}
+use Rattle.plain_pages.proofs.Ends.{AtEnd, ends_empty, ends_named, at_end, AtMark, mark_follows, mark_names, at_mark}
+use Rattle.page_contracts.proofs.Ways.{way_of_named, end_in_frame}
+use Rattle.plain_pages.proofs.Makings.{entry_there, named_end}
+use Rattle.plain_pages.proofs.Made.{two_names}
 use Rattle.page_gather.specs.declared.change.Change.{Change}
 use Rattle.page_gather.specs.declared.reference.PageReference.{PageReference}
 use Rattle.page_gather.specs.declared.walk.Walked.{Walked}

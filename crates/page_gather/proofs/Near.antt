@@ -2,20 +2,20 @@
 use Rattle.std.proofs.Common.{◌≡◌, ℕ, List, true, false, Option, None, Some, ◌⊎◌, inl, inr, refl, sym, ◌∙◌, ap}
 use Rattle.std.specs.Option.{option_and_then}
 use Rattle.std.specs.FinMap as map
-use Rattle.plain_model.specs.declared.names.Tty.{Tty}
-use Rattle.plain_model.specs.declared.names.Slot.{Slot}
-use Rattle.plain_model.specs.declared.names.PageName.{PageName}
-use Rattle.plain_model.specs.declared.names.Access.{Access}
-use Rattle.plain_model.specs.declared.map.MapEntry.{MapEntry}
-use Rattle.plain_model.specs.State.{NumberedPages}
-use Rattle.plain_model.specs.Maps.{entry_at, chain, maps_on_way}
-use Rattle.plain_model.specs.References.{in_map, next_page, page_at}
-use Rattle.plain_model.specs.Pages.{Scene, map_away, page_away}
-use Rattle.plain_model.proofs.Ends.{page_within, page_made}
-use Rattle.plain_model.proofs.Ways.{way_away, way_shorter}
+use Rattle.machine_names.specs.declared.names.Tty.{Tty}
+use Rattle.machine_names.specs.declared.names.Slot.{Slot}
+use Rattle.machine_names.specs.declared.names.PageName.{PageName}
+use Rattle.machine_names.specs.declared.names.Access.{Access}
+use Rattle.plain_pages.specs.declared.map.MapEntry.{MapEntry}
+use Rattle.plain_pages.specs.PlainPages.{NumberedPages}
+use Rattle.plain_pages.specs.Maps.{entry_at, chain, maps_on_way}
+use Rattle.plain_pages.specs.References.{in_map, next_page, page_at}
+use Rattle.page_contracts.specs.Pages.{Scene, map_away, page_away}
+use Rattle.plain_pages.proofs.Ends.{page_within, page_made}
+use Rattle.page_contracts.proofs.Ways.{way_away, way_shorter}
+use Rattle.plain_pages.proofs.Makings.{named_end}
+use Rattle.plain_pages.proofs.Made.{IsMade}
 use Rattle.std.specs.Cmp.{nat_cmp_total}
-use Rattle.plain_model.proofs.Makings.{named_end}
-use Rattle.plain_model.proofs.Made.{IsMade}
 use Rattle.page_gather.specs.Gathering.{IsNear, AreSound}
 
 module _ (p : NumberedPages) where

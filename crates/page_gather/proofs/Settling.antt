@@ -7,28 +7,31 @@ use Rattle.std.specs.Cmp.{nat_cmp_total}
 use Rattle.std.proofs.Math.Seq.{drop-cons}
 use Rattle.std.proofs.lemmas.List.{drop_all}
 use Rattle.std.proofs.lemmas.Bool.Decides.{nat_tests}
-use Rattle.plain_model.specs.declared.names.Tty.{Tty}
-use Rattle.plain_model.specs.declared.names.ForkName.{ForkName}
-use Rattle.plain_model.specs.declared.names.PageName.{PageName}
-use Rattle.plain_model.specs.declared.names.Slot.{Slot}
-use Rattle.plain_model.specs.declared.names.Access.{Access}
-use Rattle.plain_model.specs.declared.names.Kind.{Kind}
-use Rattle.plain_model.specs.declared.names.Kind.TheVariants.{Read, Write, Execute}
-use Rattle.plain_model.specs.declared.map.MapEntry.TheVariants.{Empty}
-use Rattle.plain_model.specs.declared.map.Touch.{Touch}
-use Rattle.plain_model.specs.declared.map.Touch.TheVariants.{Ready, Zero, Copy, NeedFrame}
-use Rattle.plain_model.specs.State.{NumberedPages}
-use Rattle.plain_model.specs.Maps.{Link, Chain, entry_at, full_access, maps_on_way}
-use Rattle.plain_model.specs.Room.{live, HasRoom}
-use Rattle.plain_model.specs.References.{Spot, in_map, Making, blank, copy, copies, copy_in, makings, make, make_all, Referred, granted, denied, reference, next_making, next_page, page_at, settled, zero_words}
-use Rattle.plain_model.specs.Pages.{PagesMeaning, Agrees, Scene, IsOwner, first_away, is_sole, touch_of, touched_by, announced, absent_or, framed, can_settle}
-use Rattle.plain_model.specs.Whole.{AreWhole}
-use Rattle.plain_model.proofs.Makings.{CanMake as CanBeMade, make_whole}
-use Rattle.plain_model.proofs.Made.{is_blank}
-use Rattle.plain_model.proofs.Rooms.{live_blank, live_copy}
-use Rattle.plain_model.proofs.Settles.{FirstOf, is_blank as first_blank, is_copy as first_copy, first_making, makings_settled, makings_can}
-use Rattle.plain_model.proofs.Touches.{reference_makes, reference_stays, reference_denied, reference_settled, settled_makes, settled_stays, make_first, roomy, ready_touch, zero_touch, copy_touch}
-use Rattle.plain_model.proofs.Whole.{unmade}
+use Rattle.machine_names.specs.declared.names.Tty.{Tty}
+use Rattle.machine_names.specs.declared.names.ForkName.{ForkName}
+use Rattle.machine_names.specs.declared.names.PageName.{PageName}
+use Rattle.machine_names.specs.declared.names.Slot.{Slot}
+use Rattle.machine_names.specs.declared.names.Access.{Access}
+use Rattle.machine_names.specs.declared.names.Kind.{Kind}
+use Rattle.machine_names.specs.declared.names.Kind.TheVariants.{Read, Write, Execute}
+use Rattle.plain_pages.specs.declared.map.MapEntry.TheVariants.{Empty}
+use Rattle.page_contracts.specs.declared.answers.Touch.{Touch}
+use Rattle.page_contracts.specs.declared.answers.Touch.TheVariants.{Ready, Zero, Copy, NeedFrame}
+use Rattle.plain_pages.specs.PlainPages.{NumberedPages}
+use Rattle.plain_pages.specs.Maps.{Link, Chain, entry_at, full_access, maps_on_way}
+use Rattle.plain_pages.specs.Room.{live, HasRoom}
+use Rattle.plain_pages.specs.References.{Spot, in_map, Making, blank, copy, copies, copy_in, makings, make, make_all, Referred, granted, denied, reference, next_making, next_page, page_at, settled}
+use Rattle.machine_names.specs.PageWords.{zero_words}
+use Rattle.page_contracts.specs.Pages.{PagesMeaning, Agrees, Scene, first_away, is_sole, touch_of, touched_by, announced, absent_or, framed, can_settle}
+use Rattle.machine_names.specs.Bounds.{IsOwner}
+use Rattle.plain_pages.specs.WholePages.{AreWhole}
+use Rattle.plain_pages.proofs.Makings.{CanMake as CanBeMade, make_whole}
+use Rattle.plain_pages.proofs.Made.{is_blank}
+use Rattle.page_contracts.proofs.Rooms.{live_blank, live_copy}
+use Rattle.plain_pages.proofs.Settles.{FirstOf, is_blank as first_blank, is_copy as first_copy, first_making, makings_settled, makings_can}
+use Rattle.plain_pages.proofs.ReferencesMade.{reference_makes, reference_stays, reference_denied, reference_settled, settled_makes, settled_stays, make_first, roomy}
+use Rattle.page_contracts.proofs.Touches.{ready_touch, zero_touch, copy_touch}
+use Rattle.plain_pages.proofs.Whole.{unmade}
 use Rattle.page_gather.specs.declared.reference.PageReference.{PageReference}
 use Rattle.page_gather.specs.Gathering.{referred_to, left_by, after_all, AllWent, IsNear, AreSound, most_framed}
 use Rattle.page_gather.specs.Making.{CanMake, Grows}

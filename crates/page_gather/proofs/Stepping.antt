@@ -5,23 +5,25 @@ use Rattle.std.specs.Option.{option_map_or, option_and_then}
 use Rattle.std.specs.Cmp.{nat_cmp_total}
 use Rattle.std.specs.FinMap as map
 use Rattle.std.proofs.lemmas.Bool.Decides.{nat_tests}
-use Rattle.plain_model.specs.declared.names.Tty.{Tty}
-use Rattle.plain_model.specs.declared.names.Slot.{Slot}
-use Rattle.plain_model.specs.declared.names.PageName.{PageName}
-use Rattle.plain_model.specs.declared.names.Access.{Access}
-use Rattle.plain_model.specs.declared.map.MapEntry.{MapEntry}
-use Rattle.plain_model.specs.declared.map.MapEntry.TheVariants.{Empty, Follows}
-use Rattle.plain_model.specs.State.{NumberedPages, page_serial}
-use Rattle.plain_model.specs.Maps.{Link, Chain, entry_at, full_access, chain, chain_within, permits}
-use Rattle.plain_model.specs.Room.{page_in, live, HasRoom}
-use Rattle.plain_model.specs.References.{in_map, Making, blank, copy, blanks, copies, along_chain, private_access, makings, make, make_all, granted, full, next_page, words_at, words_of, zero_words}
-use Rattle.plain_model.specs.Pages.{Scene, IsOwner, is_sole}
-use Rattle.plain_model.proofs.Equations.{chain_is_four}
-use Rattle.plain_model.proofs.Chains.{marked, chain_empty, chain_filled}
-use Rattle.plain_model.proofs.Ends.{AtMark, mark_follows, mark_names, at_mark, mark_chain}
-use Rattle.plain_model.proofs.Made.{IsMade, not_later, is_blank, is_copy}
-use Rattle.plain_model.proofs.Rooms.{live_blank, room_blank, live_copy, room_copy}
-use Rattle.plain_model.proofs.Touches.{reference_makes, reference_stays, make_first, has_room}
+use Rattle.machine_names.specs.declared.names.Tty.{Tty}
+use Rattle.machine_names.specs.declared.names.Slot.{Slot}
+use Rattle.machine_names.specs.declared.names.PageName.{PageName}
+use Rattle.machine_names.specs.declared.names.Access.{Access}
+use Rattle.plain_pages.specs.declared.map.MapEntry.{MapEntry}
+use Rattle.plain_pages.specs.declared.map.MapEntry.TheVariants.{Empty, Follows}
+use Rattle.plain_pages.specs.PlainPages.{NumberedPages, page_serial}
+use Rattle.plain_pages.specs.Maps.{Link, Chain, entry_at, full_access, chain, chain_within, permits}
+use Rattle.plain_pages.specs.Room.{page_in, live, HasRoom}
+use Rattle.plain_pages.specs.References.{in_map, Making, blank, copy, blanks, copies, along_chain, private_access, makings, make, make_all, granted, full, next_page, words_at, words_of}
+use Rattle.machine_names.specs.PageWords.{zero_words}
+use Rattle.page_contracts.specs.Pages.{Scene, is_sole}
+use Rattle.machine_names.specs.Bounds.{IsOwner}
+use Rattle.plain_pages.proofs.ChainEquations.{chain_is_four}
+use Rattle.plain_pages.proofs.Chains.{marked, chain_empty, chain_filled}
+use Rattle.plain_pages.proofs.Ends.{AtMark, mark_follows, mark_names, at_mark, mark_chain}
+use Rattle.plain_pages.proofs.Made.{IsMade, not_later, is_blank, is_copy}
+use Rattle.page_contracts.proofs.Rooms.{live_blank, room_blank, live_copy, room_copy}
+use Rattle.plain_pages.proofs.ReferencesMade.{reference_makes, reference_stays, make_first, has_room}
 use Rattle.page_gather.specs.declared.change.Change.{Change}
 use Rattle.page_gather.specs.declared.reference.PageReference.{PageReference}
 use Rattle.page_gather.specs.Changes.{source_of, AreChanged}

@@ -2,13 +2,13 @@
 use Rattle.std.proofs.Common.{◌≡◌, ℕ, zero, suc, Bool, true, false, cond, Option, None, Some, refl, ◌∙◌, ap}
 use Rattle.std.specs.Prelude.{◌&&◌, ◌||◌, find, is_some, not}
 use Rattle.std.specs.Option.{option_map, option_or}
-use Rattle.plain_model.specs.declared.names.PageName.{PageName}
-use Rattle.plain_model.specs.declared.names.Slot.{Slot}
-use Rattle.plain_model.specs.declared.names.Access.{Access}
-use Rattle.plain_model.specs.declared.map.MapEntry.{MapEntry}
-use Rattle.plain_model.specs.declared.map.MapEntry.TheVariants.{Empty, Names, Follows}
-use Rattle.plain_model.specs.Maps.{Entries, Link, Chain, followed, full_access, single_link, behind, chain_from, chain_within, maps_from, maps_within}
-use Rattle.plain_model.specs.Pages.{Scene, first_away}
+use Rattle.machine_names.specs.declared.names.PageName.{PageName}
+use Rattle.machine_names.specs.declared.names.Slot.{Slot}
+use Rattle.machine_names.specs.declared.names.Access.{Access}
+use Rattle.plain_pages.specs.declared.map.MapEntry.{MapEntry}
+use Rattle.plain_pages.specs.declared.map.MapEntry.TheVariants.{Empty, Names, Follows}
+use Rattle.plain_pages.specs.Maps.{Entries, Link, Chain, followed, full_access, single_link, behind, chain_from, chain_within, maps_from, maps_within}
+use Rattle.page_contracts.specs.Pages.{Scene, first_away}
 use Rattle.page_gather.specs.declared.walk.Walked.{Walked}
 use Rattle.page_gather.specs.Walks.{view, views_of, walked, last_walked, behind_walked, walked_from, walk_within, away_from, away_within}
 

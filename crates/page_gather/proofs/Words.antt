@@ -3,20 +3,21 @@ use Rattle.std.proofs.Common.{◌≡◌, ℕ, List, Option, None, Some, refl, sy
 use Rattle.std.specs.Prelude.{find}
 use Rattle.std.specs.Option.{option_map_or, option_and_then, unwrap_or}
 use Rattle.std.specs.Cmp.{nat_cmp_total}
-use Rattle.plain_model.specs.declared.names.Tty.{Tty}
-use Rattle.plain_model.specs.declared.names.Slot.{Slot}
-use Rattle.plain_model.specs.declared.names.PageName.{PageName}
-use Rattle.plain_model.specs.declared.names.Access.{Access}
-use Rattle.plain_model.specs.declared.map.MapEntry.TheVariants.{Names}
-use Rattle.plain_model.specs.State.{NumberedPages}
-use Rattle.plain_model.specs.Maps.{Link, Chain, entry_at, chain_within}
-use Rattle.plain_model.specs.References.{in_map, page_at, words_at, words_of, zero_words}
-use Rattle.plain_model.specs.Pages.{Scene}
-use Rattle.plain_model.specs.Whole.{AreWhole}
-use Rattle.plain_model.proofs.Chains.{marked}
-use Rattle.plain_model.proofs.Ends.{chain_named, mark_chain}
-use Rattle.plain_model.proofs.Ways.{way_of_named, end_in_frame}
-use Rattle.plain_model.proofs.Makings.{entry_there, named_end}
+use Rattle.machine_names.specs.declared.names.Tty.{Tty}
+use Rattle.machine_names.specs.declared.names.Slot.{Slot}
+use Rattle.machine_names.specs.declared.names.PageName.{PageName}
+use Rattle.machine_names.specs.declared.names.Access.{Access}
+use Rattle.plain_pages.specs.declared.map.MapEntry.TheVariants.{Names}
+use Rattle.plain_pages.specs.PlainPages.{NumberedPages}
+use Rattle.plain_pages.specs.Maps.{Link, Chain, entry_at, chain_within}
+use Rattle.plain_pages.specs.References.{in_map, page_at, words_at, words_of}
+use Rattle.machine_names.specs.PageWords.{zero_words}
+use Rattle.page_contracts.specs.Pages.{Scene}
+use Rattle.plain_pages.specs.WholePages.{AreWhole}
+use Rattle.plain_pages.proofs.Chains.{marked}
+use Rattle.plain_pages.proofs.Ends.{chain_named, mark_chain}
+use Rattle.page_contracts.proofs.Ways.{way_of_named, end_in_frame}
+use Rattle.plain_pages.proofs.Makings.{entry_there, named_end}
 use Rattle.page_gather.specs.declared.change.Change.{Change}
 use Rattle.page_gather.specs.Changes.{change_of, source_of, source_words, IsChanged, AreChanged}
 use Rattle.page_gather.specs.Gathering.{IsNear, AreSourcesNear}

@@ -3,20 +3,21 @@ use Rattle.std.proofs.Common.{◌≡◌, ℕ, zero, suc, true, false, List, Opti
 use Rattle.std.specs.Prelude.{replicate, slice_index}
 use Rattle.std.specs.Option.{option_map_or, option_and_then}
 use Rattle.outside.specs.declared.TheConstants.{PAGE_WORDS}
-use Rattle.plain_model.specs.declared.names.Tty.{Tty}
-use Rattle.plain_model.specs.declared.names.Slot.{Slot}
-use Rattle.plain_model.specs.declared.names.PageName.{PageName}
-use Rattle.plain_model.specs.declared.map.MapEntry.{MapEntry}
-use Rattle.plain_model.specs.declared.map.Seen.{Seen}
-use Rattle.plain_model.specs.declared.map.Seen.TheVariants as seen
-use Rattle.plain_model.specs.declared.map.Peeked.{Peeked}
-use Rattle.plain_model.specs.declared.map.Peeked.TheVariants as peeked
-use Rattle.plain_model.specs.State.{NumberedPages}
-use Rattle.plain_model.specs.Maps.{Chain, entry_at}
-use Rattle.plain_model.specs.References.{in_map, page_at, words_of, word_at, zero_words}
-use Rattle.plain_model.specs.Pages.{Scene, away_or, peek_of, map_away_or, seen_of}
-use Rattle.plain_model.proofs.Equations.{no_chain, chain_is_four}
-use Rattle.plain_model.proofs.Ways.{own_in_frame}
+use Rattle.machine_names.specs.declared.names.Tty.{Tty}
+use Rattle.machine_names.specs.declared.names.Slot.{Slot}
+use Rattle.machine_names.specs.declared.names.PageName.{PageName}
+use Rattle.plain_pages.specs.declared.map.MapEntry.{MapEntry}
+use Rattle.page_contracts.specs.declared.answers.Seen.{Seen}
+use Rattle.page_contracts.specs.declared.answers.Seen.TheVariants as seen
+use Rattle.page_contracts.specs.declared.answers.Peeked.{Peeked}
+use Rattle.page_contracts.specs.declared.answers.Peeked.TheVariants as peeked
+use Rattle.plain_pages.specs.PlainPages.{NumberedPages}
+use Rattle.plain_pages.specs.Maps.{Chain, entry_at}
+use Rattle.plain_pages.specs.References.{in_map, page_at, words_of, word_at}
+use Rattle.machine_names.specs.PageWords.{zero_words}
+use Rattle.page_contracts.specs.Pages.{Scene, away_or, peek_of, map_away_or, seen_of}
+use Rattle.plain_pages.proofs.ChainEquations.{no_chain, chain_is_four}
+use Rattle.page_contracts.proofs.Ways.{own_in_frame}
 use Rattle.page_gather.specs.declared.change.Change.{Change}
 use Rattle.page_gather.specs.declared.walk.Walked.{Walked}
 use Rattle.page_gather.specs.Seen.{word_of}

@@ -3,17 +3,18 @@ use Rattle.std.specs.Prelude.{◌≡◌, ℕ, ◌+◌, ◌≤◌, ◌==◌, List
 use Rattle.std.specs.List.{count_by, list_all}
 use Rattle.std.specs.Option.{option_map_or, option_or}
 use Rattle.std.specs.FinMap as map
-use Rattle.plain_model.specs.declared.names.Tty.{Tty}
-use Rattle.plain_model.specs.declared.names.Slot.{Slot}
-use Rattle.plain_model.specs.declared.names.PageName.{PageName}
-use Rattle.plain_model.specs.declared.map.MapEntry.TheVariants.{Names}
-use Rattle.plain_model.specs.declared.names.TheConstants.{SPACE_PAGES}
-use Rattle.plain_model.specs.State.{NumberedPages, page_serial}
-use Rattle.plain_model.specs.Maps.{entry_at}
-use Rattle.plain_model.specs.Room.{same_page, uses, live}
-use Rattle.plain_model.specs.References.{in_map, words_of, words_at, zero_words}
-use Rattle.plain_model.specs.Pages.{same_fork}
-use Rattle.plain_model.specs.Whole.{AreWhole}
+use Rattle.machine_names.specs.declared.names.Tty.{Tty}
+use Rattle.machine_names.specs.declared.names.Slot.{Slot}
+use Rattle.machine_names.specs.declared.names.PageName.{PageName}
+use Rattle.plain_pages.specs.declared.map.MapEntry.TheVariants.{Names}
+use Rattle.machine_names.specs.declared.names.TheConstants.{SPACE_PAGES}
+use Rattle.plain_pages.specs.PlainPages.{NumberedPages, page_serial}
+use Rattle.plain_pages.specs.Maps.{entry_at}
+use Rattle.plain_pages.specs.Room.{same_page, uses, live}
+use Rattle.plain_pages.specs.References.{in_map, words_of, words_at}
+use Rattle.machine_names.specs.PageWords.{zero_words}
+use Rattle.machine_names.specs.Orders.{same_fork}
+use Rattle.plain_pages.specs.WholePages.{AreWhole}
 use Rattle.page_gather.specs.declared.change.Change.{Change}
 
 abbrev pub same_slot : Slot → Slot → Bool

@@ -3,23 +3,24 @@ use Rattle.std.specs.Prelude.{◌≡◌, ℕ, ◌+◌, ◌*◌, ◌≤◌, List,
 use Rattle.std.specs.List.{All, list_all, list_any}
 use Rattle.std.specs.Ordering.{nat_cmp}
 use Rattle.std.specs.FinMap as map
-use Rattle.plain_model.specs.declared.names.Tty.{Tty}
-use Rattle.plain_model.specs.declared.names.Slot.{Slot}
-use Rattle.plain_model.specs.declared.names.Kind.{Kind}
-use Rattle.plain_model.specs.declared.names.PageName.{PageName}
-use Rattle.plain_model.specs.declared.map.Need.TheVariants as need
-use Rattle.plain_model.specs.declared.store.Room.{Room}
-use Rattle.plain_model.specs.declared.store.Room.TheVariants as room
-use Rattle.plain_model.specs.declared.names.TheConstants.{SPACE_PAGES}
-use Rattle.plain_model.specs.State.{NumberedPages}
-use Rattle.plain_model.specs.Maps.{Chain, entry_at, chain}
-use Rattle.plain_model.specs.Room.{live, same_page}
-use Rattle.plain_model.specs.References.{Referred, granted, denied, full, in_map, reference}
-use Rattle.plain_model.specs.declared.names.ForkName.{ForkName}
-use Rattle.plain_model.specs.declared.names.Place.{Place}
-use Rattle.plain_model.specs.declared.names.Place.TheVariants.{Fork, File}
-use Rattle.plain_model.specs.Pages.{Scene, IsOwner, IsPlace, map_away, page_away}
-use Rattle.plain_model.specs.Whole.{AreWhole}
+use Rattle.machine_names.specs.declared.names.Tty.{Tty}
+use Rattle.machine_names.specs.declared.names.Slot.{Slot}
+use Rattle.machine_names.specs.declared.names.Kind.{Kind}
+use Rattle.machine_names.specs.declared.names.PageName.{PageName}
+use Rattle.page_contracts.specs.declared.answers.Need.TheVariants as need
+use Rattle.page_contracts.specs.declared.store.Room.{Room}
+use Rattle.page_contracts.specs.declared.store.Room.TheVariants as room
+use Rattle.machine_names.specs.declared.names.TheConstants.{SPACE_PAGES}
+use Rattle.plain_pages.specs.PlainPages.{NumberedPages}
+use Rattle.plain_pages.specs.Maps.{Chain, entry_at, chain}
+use Rattle.plain_pages.specs.Room.{live, same_page}
+use Rattle.plain_pages.specs.References.{Referred, granted, denied, full, in_map, reference}
+use Rattle.machine_names.specs.declared.names.ForkName.{ForkName}
+use Rattle.machine_names.specs.declared.names.Place.{Place}
+use Rattle.machine_names.specs.declared.names.Place.TheVariants.{Fork, File}
+use Rattle.page_contracts.specs.Pages.{Scene, IsPlace, map_away, page_away}
+use Rattle.machine_names.specs.Bounds.{IsOwner}
+use Rattle.plain_pages.specs.WholePages.{AreWhole}
 use Rattle.page_gather.specs.declared.change.Change.{Change}
 use Rattle.page_gather.specs.declared.reference.PageReference.{PageReference}
 use Rattle.page_gather.specs.declared.reference.Added.{Added}

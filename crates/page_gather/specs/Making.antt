@@ -1,11 +1,11 @@
 -- What the making of pages leaves.
 use Rattle.std.specs.Prelude.{◌≡◌, ◌≢◌, ℕ, ◌+◌, ◌≤◌, List, true}
-use Rattle.plain_model.specs.declared.names.Tty.{Tty}
-use Rattle.plain_model.specs.Outcome.{DrumWords}
-use Rattle.plain_model.specs.State.{NumberedPages}
-use Rattle.plain_model.specs.Room.{live}
-use Rattle.plain_model.specs.References.{granted}
-use Rattle.plain_model.specs.Pages.{PagesMeaning, Scene}
+use Rattle.machine_names.specs.declared.names.Tty.{Tty}
+use Rattle.page_contracts.specs.DrumWords.{DrumWords}
+use Rattle.plain_pages.specs.PlainPages.{NumberedPages}
+use Rattle.plain_pages.specs.Room.{live}
+use Rattle.plain_pages.specs.References.{granted}
+use Rattle.page_contracts.specs.Pages.{PagesMeaning, Scene}
 use Rattle.page_gather.specs.declared.reference.PageReference.{PageReference}
 use Rattle.page_gather.specs.declared.change.Change.{Change}
 use Rattle.page_gather.specs.declared.walk.Walked.{Walked}

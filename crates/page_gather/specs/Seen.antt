@@ -1,7 +1,7 @@
 -- What a look at a word finds.
 use Rattle.std.specs.Prelude.{ℕ}
-use Rattle.plain_model.specs.declared.map.Peeked.{Peeked}
-use Rattle.plain_model.specs.declared.map.Peeked.TheVariants.{Is}
+use Rattle.page_contracts.specs.declared.answers.Peeked.{Peeked}
+use Rattle.page_contracts.specs.declared.answers.Peeked.TheVariants.{Is}
 
 -- the word, and 0 where there is none
 abbrev pub word_of : Peeked → ℕ

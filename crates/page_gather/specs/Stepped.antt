@@ -1,7 +1,7 @@
 -- What a chain meets at a slot, and what a walk along it comes to, where a map may be in no frame.
 use Rattle.std.specs.Prelude.{◌≡◌, ℕ, ◌<◌, Bool, true, false, Option, None, Some}
-use Rattle.plain_model.specs.declared.names.ForkName.{ForkName}
-use Rattle.plain_model.specs.declared.names.TheConstants.{SPACE_PAGES}
+use Rattle.machine_names.specs.declared.names.ForkName.{ForkName}
+use Rattle.machine_names.specs.declared.names.TheConstants.{SPACE_PAGES}
 use Rattle.page_gather.specs.declared.walk.Walked.{Walked}
 use Rattle.page_gather.specs.declared.chains.Step.{Step}
 use Rattle.page_gather.specs.declared.chains.Step.TheVariants as step

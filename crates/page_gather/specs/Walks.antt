@@ -1,14 +1,14 @@
 -- Walks along chains: what they find, whatever pages the entries name, and the maps on their way.
 use Rattle.std.specs.Prelude.{ℕ, zero, suc, Bool, true, false, not, ◌&&◌, ◌||◌, if◌then◌else◌, Option, None, Some, is_some, find}
 use Rattle.std.specs.Option.{option_map, option_or}
-use Rattle.plain_model.specs.declared.names.ForkName.{ForkName}
-use Rattle.plain_model.specs.declared.names.Slot.{Slot}
-use Rattle.plain_model.specs.declared.names.Access.{Access}
-use Rattle.plain_model.specs.declared.names.Kind.{Kind}
-use Rattle.plain_model.specs.declared.names.Kind.TheVariants.{Read, Write, Execute}
-use Rattle.plain_model.specs.declared.map.MapEntry.{MapEntry}
-use Rattle.plain_model.specs.declared.map.MapEntry.TheVariants.{Empty, Names, Follows}
-use Rattle.plain_model.specs.Maps.{Entries, Chain, followed, full_access, permits}
+use Rattle.machine_names.specs.declared.names.ForkName.{ForkName}
+use Rattle.machine_names.specs.declared.names.Slot.{Slot}
+use Rattle.machine_names.specs.declared.names.Access.{Access}
+use Rattle.machine_names.specs.declared.names.Kind.{Kind}
+use Rattle.machine_names.specs.declared.names.Kind.TheVariants.{Read, Write, Execute}
+use Rattle.plain_pages.specs.declared.map.MapEntry.{MapEntry}
+use Rattle.plain_pages.specs.declared.map.MapEntry.TheVariants.{Empty, Names, Follows}
+use Rattle.plain_pages.specs.Maps.{Entries, Chain, followed, full_access, permits}
 use Rattle.page_gather.specs.declared.walk.Walked.{Walked}
 
 -- what an entry is to a chain, whatever page it names: it ends the chain, empty or not, or goes on at a page of another fork

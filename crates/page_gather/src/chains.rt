@@ -1,11 +1,11 @@
 // Chains over the entries of pages and the changes to come.
 ghost use Rattle.std.specs.Prelude.{◌≡◌, ◌≤◌, ◌<◌, ℕ, List, length, true};
-ghost use Rattle.plain_model.specs.declared.names.Tty.{Tty as ATty};
-ghost use Rattle.plain_model.specs.declared.names.TheConstants.{SPACE_PAGES};
-ghost use Rattle.plain_model.specs.Maps.{entry_at, followed as followed_slot};
-ghost use Rattle.plain_model.specs.Outcome.{DrumWords};
-ghost use Rattle.plain_model.specs.Room.{same_page};
-ghost use Rattle.plain_model.specs.State.{NumberedPages};
+ghost use Rattle.machine_names.specs.declared.names.Tty.{Tty as ATty};
+ghost use Rattle.machine_names.specs.declared.names.TheConstants.{SPACE_PAGES};
+ghost use Rattle.plain_pages.specs.Maps.{entry_at, followed as followed_slot};
+ghost use Rattle.page_contracts.specs.DrumWords.{DrumWords};
+ghost use Rattle.plain_pages.specs.Room.{same_page};
+ghost use Rattle.plain_pages.specs.PlainPages.{NumberedPages};
 ghost use Rattle.std.specs.Option.{option_map, option_map_or, option_or};
 ghost use Rattle.std.specs.Prelude.{if◌then◌else◌, Some, None, false};
 ghost use Rattle.page_gather.specs.Walks.{away_within, view, views_of, walk_within};
@@ -14,7 +14,9 @@ ghost use Rattle.page_gather.specs.Stepped.{EndsAtPlace, IsOfLiving, is_found, i
 
 use crate::change::{Change, FULL_ACCESS};
 use crate::walk::Walked;
-use plain_model::{Access, ForkName, Home, MapEntry, PageName, Pages, Seen, Slot};
+use machine_names::{Access, ForkName, Home, PageName, Slot};
+use page_contracts::{Pages, Seen};
+use plain_pages::MapEntry;
 
 /// How many entries a chain has at most.
 pub const MOST_LINKS: usize = 4;

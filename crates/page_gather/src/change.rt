@@ -1,6 +1,6 @@
 // An entry that a reference will change.
 use crate::reference::NO_SLOT;
-use plain_model::{Access, PageName, Slot};
+use machine_names::{Access, PageName, Slot};
 
 /// An entry that will name a new page.
 #[derive(Clone, Copy, Debug, PartialEq, Eq)]

@@ -1,14 +1,15 @@
 // The references of one unit, and what they are to make.
 ghost use Rattle.std.specs.Prelude.{◌≡◌, ◌≢◌, ◌<◌, ◌≤◌, ◌+◌, ◌*◌, ◌^◌, ◌∷◌, ◌++◌, [], length, true};
 ghost use Rattle.outside.specs.declared.TheConstants.{PAGE_WORDS};
-ghost use Rattle.plain_model.specs.Outcome.{DrumWords};
-ghost use Rattle.plain_model.specs.State.{NumberedPages};
-ghost use Rattle.plain_model.specs.Pages.{IsOwner, IsPlace, Scene, spot_of};
-ghost use Rattle.plain_model.specs.References.{page_at, word_at};
+ghost use Rattle.page_contracts.specs.DrumWords.{DrumWords};
+ghost use Rattle.plain_pages.specs.PlainPages.{NumberedPages};
+ghost use Rattle.machine_names.specs.Bounds.{IsOwner};
+ghost use Rattle.page_contracts.specs.Pages.{IsPlace, Scene, spot_of};
+ghost use Rattle.plain_pages.specs.References.{page_at, word_at};
 ghost use Rattle.page_gather.specs.Changes.{are_in_space};
 ghost use Rattle.page_gather.specs.Gathering.{Adds, ArePlaces, AreSound, Gathers, IsPlaceNear, PlaceAdds, are_same, changes_of, changes_with, is_needless, left_of};
-ghost use Rattle.plain_model.specs.declared.names.Slot.{Slot as ASlot};
-ghost use Rattle.plain_model.specs.declared.names.TheConstants.{SPACE_PAGES};
+ghost use Rattle.machine_names.specs.declared.names.Slot.{Slot as ASlot};
+ghost use Rattle.machine_names.specs.declared.names.TheConstants.{SPACE_PAGES};
 ghost use Rattle.page_gather.specs.Making.{Grows};
 
 use crate::change::Change;
@@ -18,7 +19,8 @@ use crate::makings::{MOST_CHANGES, Makings};
 use crate::reference::{Added, PageReference};
 use crate::seeing::{are_together, word_after};
 use arrayvec::ArrayVec;
-use plain_model::{Kind, Pages, Place, Slot, Touch, Tty};
+use machine_names::{Kind, Place, Slot, Tty};
+use page_contracts::{Pages, Touch};
 use std::marker::Model;
 use word36::Word;
 

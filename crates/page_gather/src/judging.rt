@@ -1,13 +1,13 @@
 // What a reference makes and what it is answered, from what a walk found.
 ghost use Rattle.std.specs.Prelude.{◌≡◌, ◌≤◌, ◌<◌, ◌+◌, ℕ, List, length, true, false, None, Some, is_some};
 ghost use Rattle.std.specs.Option.{option_map};
-ghost use Rattle.plain_model.specs.declared.names.Tty.{Tty as ATty};
-ghost use Rattle.plain_model.specs.declared.names.Slot.{Slot as ASlot};
-ghost use Rattle.plain_model.specs.declared.names.TheConstants.{SPACE_PAGES};
-ghost use Rattle.plain_model.specs.Outcome.{DrumWords};
-ghost use Rattle.plain_model.specs.State.{NumberedPages};
-ghost use Rattle.plain_model.specs.References.{in_map, page_at};
-ghost use Rattle.plain_model.specs.Pages.{page_away as the_page_away};
+ghost use Rattle.machine_names.specs.declared.names.Tty.{Tty as ATty};
+ghost use Rattle.machine_names.specs.declared.names.Slot.{Slot as ASlot};
+ghost use Rattle.machine_names.specs.declared.names.TheConstants.{SPACE_PAGES};
+ghost use Rattle.page_contracts.specs.DrumWords.{DrumWords};
+ghost use Rattle.plain_pages.specs.PlainPages.{NumberedPages};
+ghost use Rattle.plain_pages.specs.References.{in_map, page_at};
+ghost use Rattle.page_contracts.specs.Pages.{page_away as the_page_away};
 ghost use Rattle.page_gather.specs.declared.change.Change.{Change as AChange};
 ghost use Rattle.page_gather.specs.Walks.{copied_walked, permits_walked};
 ghost use Rattle.page_gather.specs.Changes.{are_in_space};
@@ -20,7 +20,8 @@ use crate::change::{Change, FULL_ACCESS};
 use crate::makings::Makings;
 use crate::reference::{Added, PageReference};
 use crate::walk::Walked;
-use plain_model::{Access, Home, Need, PageName, Pages, Peeked, Place, Room, Slot};
+use machine_names::{Access, Home, PageName, Place, Slot};
+use page_contracts::{Need, Pages, Peeked, Room};
 
 // A zero page in a slot.
 fn zero_page(slot: Slot) -> Change

@@ -1,15 +1,17 @@
 // Making what references ask for, in order.
 ghost use Rattle.std.specs.Prelude.{◌≡◌, ◌≢◌, ◌<◌, ◌≤◌, ◌+◌, ◌*◌, ◌^◌, ℕ, List, [], ◌∷◌, length, true, Some};
-ghost use Rattle.plain_model.specs.declared.names.ForkName.{ForkName as AForkName};
-ghost use Rattle.plain_model.specs.Outcome.{DrumWords};
-ghost use Rattle.plain_model.specs.Pages.{IsOwner, IsPlace};
-ghost use Rattle.plain_model.specs.References.{Making, Spot, blank, in_map, makings};
-ghost use Rattle.plain_model.specs.State.{NumberedPages};
+ghost use Rattle.machine_names.specs.declared.names.ForkName.{ForkName as AForkName};
+ghost use Rattle.page_contracts.specs.DrumWords.{DrumWords};
+ghost use Rattle.machine_names.specs.Bounds.{IsOwner};
+ghost use Rattle.page_contracts.specs.Pages.{IsPlace};
+ghost use Rattle.plain_pages.specs.References.{Making, Spot, blank, in_map, makings};
+ghost use Rattle.plain_pages.specs.PlainPages.{NumberedPages};
 ghost use Rattle.page_gather.specs.Gathering.{AllWent, ArePlaces, after_all, most_framed};
 ghost use Rattle.page_gather.specs.Making.{CanMake, Grows};
 
 use crate::reference::PageReference;
-use plain_model::{Pages, Place, Touch, Tty};
+use machine_names::{Place, Tty};
+use page_contracts::{Pages, Touch};
 
 // Makes what is left of a reference that makes no zero page, or uses its page.
 fn make_rest<P: Pages>(pages: &mut P, owner: Tty, r: PageReference)

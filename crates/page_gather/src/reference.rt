@@ -1,5 +1,6 @@
 // A reference of a unit to a page, and what it comes to that it is added to others.
-use plain_model::{ForkName, Kind, Need, Slot, Tty};
+use machine_names::{ForkName, Kind, Slot, Tty};
+use page_contracts::Need;
 
 /// A reference to a page of a fork's space.
 #[derive(Clone, Copy, Debug, PartialEq, Eq)]

@@ -1,12 +1,12 @@
 // What stands at places after the changes to come.
 ghost use Rattle.std.specs.Prelude.{◌≡◌, ◌<◌, ℕ, List, Some, true, is_some, slice_index};
 ghost use Rattle.outside.specs.declared.TheConstants.{PAGE_WORDS};
-ghost use Rattle.plain_model.specs.declared.names.Tty.{Tty as ATty};
-ghost use Rattle.plain_model.specs.declared.names.Slot.{Slot as ASlot};
-ghost use Rattle.plain_model.specs.declared.names.TheConstants.{SPACE_PAGES};
-ghost use Rattle.plain_model.specs.Outcome.{DrumWords};
-ghost use Rattle.plain_model.specs.State.{NumberedPages};
-ghost use Rattle.plain_model.specs.References.{in_map, page_at, word_at};
+ghost use Rattle.machine_names.specs.declared.names.Tty.{Tty as ATty};
+ghost use Rattle.machine_names.specs.declared.names.Slot.{Slot as ASlot};
+ghost use Rattle.machine_names.specs.declared.names.TheConstants.{SPACE_PAGES};
+ghost use Rattle.page_contracts.specs.DrumWords.{DrumWords};
+ghost use Rattle.plain_pages.specs.PlainPages.{NumberedPages};
+ghost use Rattle.plain_pages.specs.References.{in_map, page_at, word_at};
 ghost use Rattle.page_gather.specs.declared.reference.PageReference.{PageReference as APageReference};
 ghost use Rattle.page_gather.specs.Changes.{are_in_space, change_of, is_in_space, source_words};
 ghost use Rattle.page_gather.specs.Seen.{word_of};
@@ -15,7 +15,8 @@ ghost use Rattle.page_gather.specs.Gathering.{AreGathered, HasWalked, IsNear, Is
 use crate::chains::{MOST_LINKS, Way, is_same, is_same_page, last_change, source_of, walk};
 use crate::change::Change;
 use crate::walk::Walked;
-use plain_model::{Pages, Peeked, Place, Seen, Slot};
+use machine_names::{Place, Slot};
+use page_contracts::{Pages, Peeked, Seen};
 use word36::Word;
 
 // Whether a slot was changed.

@@ -2,7 +2,7 @@
 ghost use Rattle.std.specs.Prelude.{◌≡◌, if◌then◌else◌, ◌&&◌, None, Some};
 ghost use Rattle.page_gather.specs.Walks.{last_walked, behind_walked, permits_walked, copied_walked};
 
-use plain_model::{Access, Kind, Slot};
+use machine_names::{Access, Kind, Slot};
 
 /// What a walk along a chain finds, whatever page it ends at.
 #[derive(Clone, Copy, Debug, PartialEq, Eq)]

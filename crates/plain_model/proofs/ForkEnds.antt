@@ -11,28 +11,29 @@ use Rattle.plain_model.specs.declared.call.End.{End}
 use Rattle.plain_model.specs.declared.call.End.TheVariants.{Done, Waits, Halts, Refused, Failed, Trap}
 use Rattle.plain_model.specs.declared.call.ForkChange.{ForkChange}
 use Rattle.plain_model.specs.declared.call.ForkChange.TheVariants.{Nothing, Make, Kill, Freeze, Become, Halt, Store}
-use Rattle.plain_model.specs.declared.names.TheConstants.{ACCUMULATORS, LAST_SERIAL}
-use Rattle.plain_model.specs.declared.names.ForkName.{ForkName}
-use Rattle.plain_model.specs.declared.channel.TheConstants.{ILLEGAL_INSTRUCTION}
-use Rattle.plain_model.specs.declared.names.Kind.{Kind}
-use Rattle.plain_model.specs.declared.names.Kind.TheVariants.{Read, Write}
+use Rattle.machine_names.specs.declared.names.TheConstants.{ACCUMULATORS, LAST_SERIAL}
+use Rattle.machine_names.specs.declared.names.ForkName.{ForkName}
+use Rattle.plain_units.specs.declared.channel.TheConstants.{ILLEGAL_INSTRUCTION}
+use Rattle.machine_names.specs.declared.names.Kind.{Kind}
+use Rattle.machine_names.specs.declared.names.Kind.TheVariants.{Read, Write}
 use Rattle.plain_model.specs.declared.fork.Fork.{Fork}
-use Rattle.plain_model.specs.declared.fork.ForkStatus.{ForkStatus}
-use Rattle.plain_model.specs.declared.fork.ForkStatus.TheVariants.{Run as Running, Wait, Halted, Forced}
-use Rattle.plain_model.specs.State.{PlainPages}
-use Rattle.plain_model.specs.Room.{HasRoom}
-use Rattle.plain_model.specs.NewMaps.{with_map}
-use Rattle.plain_model.specs.Pages.{IsOwner}
-use Rattle.plain_model.specs.Steps.{Steps, Planned, done, stopped, call, begun}
-use Rattle.plain_model.specs.Deeds.{in_ac}
+use Rattle.script_texts.specs.declared.status.ForkStatus.{ForkStatus}
+use Rattle.script_texts.specs.declared.status.ForkStatus.TheVariants.{Run as Running, Wait, Halted, Forced}
+use Rattle.plain_pages.specs.PlainPages.{PlainPages}
+use Rattle.plain_pages.specs.Room.{HasRoom}
+use Rattle.plain_pages.specs.NewMaps.{with_map}
+use Rattle.machine_names.specs.Bounds.{IsOwner}
+use Rattle.plain_units.specs.Steps.{Steps, Planned, done, stopped, call, begun}
+use Rattle.plain_units.specs.Deeds.{in_ac}
 use Rattle.plain_model.specs.Inferiors.{is_inferior}
 use Rattle.plain_model.specs.Trees.{next_name, next_serial, free_slot}
-use Rattle.plain_model.specs.Calls.{Turn, steps_on, adds, ends, and_then, given, with_block, block_steps, end_of, made_by}
+use Rattle.plain_model.specs.Calls.{Turn, adds, ends, and_then, given, with_block, end_of, made_by}
+use Rattle.plain_units.specs.Blocks.{steps_on, block_steps}
 use Rattle.plain_model.specs.ForkCalls.{ForkAsked, address_named, fork_named, if_inferior, inferior_named, own_named, map_wanted, making, with_accumulators, making_in, cfork, of_inferior, rfsts, sfacs, rfacs, waits_for, wfork, fork_call}
-use Rattle.plain_model.proofs.PageRuns.{AreSound, Keeps, PlanLeaves, kept_itself, run_kept}
-use Rattle.plain_model.proofs.Lookups.{looked_up}
-use Rattle.plain_model.proofs.Whole.{map_whole}
-use Rattle.plain_model.proofs.Touches.{has_room}
+use Rattle.plain_units.proofs.PageRuns.{AreSound, Keeps, PlanLeaves, kept_itself, run_kept}
+use Rattle.plain_units.proofs.Lookups.{looked_up}
+use Rattle.plain_pages.proofs.Whole.{map_whole}
+use Rattle.plain_pages.proofs.ReferencesMade.{has_room}
 use Rattle.plain_model.proofs.Turns.{takes_comes, adds_comes}
 
 -- a fork that is an inferior of the caller

@@ -4,12 +4,12 @@ use Rattle.std.proofs.lemmas.Bool.{cases_Bool, eq-eqb, eqb-true, and_from}
 use Rattle.std.specs.Ordering.{eq_by_cmp}
 use Rattle.std.specs.FinMap as map
 use Rattle.std.specs.Option.{option_and_then}
-use Rattle.plain_model.specs.Orders.{fork_cmp}
-use Rattle.plain_model.specs.Forks.{ForkMap, fork_in, superior_of, same_fork}
-use Rattle.plain_model.specs.declared.names.Tty.{Tty}
-use Rattle.plain_model.specs.declared.names.ForkName.{ForkName}
+use Rattle.machine_names.specs.Orders.{fork_cmp, same_fork}
+use Rattle.plain_model.specs.Forks.{ForkMap, fork_in, superior_of}
+use Rattle.machine_names.specs.declared.names.Tty.{Tty}
+use Rattle.machine_names.specs.declared.names.ForkName.{ForkName}
 use Rattle.plain_model.specs.declared.fork.Fork.{Fork}
-use Rattle.plain_model.proofs.OrderLemmas.{fork_cmp_total, fork_cmp_apart, fork_tied}
+use Rattle.machine_names.proofs.OrderLemmas.{fork_cmp_total, fork_cmp_apart, fork_tied}
 use Rattle.plain_model.proofs.Values.{found_passes, found_holds, values_all}
 
 pub both_first : (b c : Bool) → (b && c) ≡ true → b ≡ true

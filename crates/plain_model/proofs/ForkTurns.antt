@@ -8,25 +8,24 @@ use Rattle.plain_model.specs.declared.call.End.{End}
 use Rattle.plain_model.specs.declared.call.End.TheVariants.{Done, Waits, Halts, Refused, Failed, Trap}
 use Rattle.plain_model.specs.declared.call.ForkChange.{ForkChange}
 use Rattle.plain_model.specs.declared.call.ForkChange.TheVariants.{Nothing, Make, Kill, Freeze, Become, Halt, Store}
-use Rattle.plain_model.specs.declared.names.TheConstants.{MOST_FORKS}
-use Rattle.plain_model.specs.declared.names.ForkName.{ForkName}
-use Rattle.plain_model.specs.declared.names.PageName.{PageName}
+use Rattle.machine_names.specs.declared.names.TheConstants.{MOST_FORKS}
+use Rattle.machine_names.specs.declared.names.ForkName.{ForkName}
+use Rattle.machine_names.specs.declared.names.PageName.{PageName}
 use Rattle.plain_model.specs.declared.fork.Fork.{Fork}
-use Rattle.plain_model.specs.State.{PlainPages, refiled}
-use Rattle.plain_model.specs.Orders.{file_page_cmp}
-use Rattle.plain_model.specs.Room.{page_in}
-use Rattle.plain_model.specs.References.{without_fork, stored, in_map, slot_at}
-use Rattle.plain_model.specs.Steps.{Ending, Planned, pages_left, done, stopped, trap, need, call, is_accumulator, begun}
-use Rattle.plain_model.specs.NewMaps.{with_map}
-use Rattle.plain_model.specs.Room.{HasRoom}
+use Rattle.plain_pages.specs.PlainPages.{PlainPages, refiled}
+use Rattle.machine_names.specs.Orders.{file_page_cmp}
+use Rattle.plain_pages.specs.Room.{page_in, HasRoom}
+use Rattle.plain_pages.specs.References.{without_fork, stored, in_map, slot_at, page_at}
+use Rattle.plain_units.specs.Steps.{Ending, Planned, pages_left, done, stopped, trap, need, call, is_accumulator, begun}
+use Rattle.plain_pages.specs.NewMaps.{with_map}
 use Rattle.plain_model.specs.Inferiors.{last_below}
-use Rattle.plain_model.specs.Calls.{Turn, sees, finds, takes, adds, ends, entry_of, stepped, steps_on, with_added, next_address, made_by, parts_behind}
-use Rattle.plain_model.specs.References.{page_at}
+use Rattle.plain_model.specs.Calls.{Turn, sees, finds, takes, adds, ends, entry_of, stepped, with_added, made_by, parts_behind}
+use Rattle.plain_units.specs.Blocks.{steps_on, next_address, stored_from}
 use Rattle.plain_model.specs.Trees.{waiters_woken}
-use Rattle.plain_model.specs.ForkCalls.{ForkParts, with_forks, without, without_below, killed, with_halted, stored_from, fork_changed, fork_changed_by}
-use Rattle.plain_model.proofs.Kept.{drop_all_leaves}
-use Rattle.plain_model.proofs.Refiled.{NameAlike, fork_refiled}
-use Rattle.plain_model.proofs.RefiledUnits.{LeavesFiles, left_leaves, run_leaves, still_alike, stored_leaves, stored_refiled}
+use Rattle.plain_model.specs.ForkCalls.{ForkParts, with_forks, without, without_below, killed, with_halted, fork_changed, fork_changed_by}
+use Rattle.plain_pages.proofs.Kept.{drop_all_leaves}
+use Rattle.plain_pages.proofs.Refiled.{NameAlike, fork_refiled}
+use Rattle.plain_units.proofs.RefiledUnits.{LeavesFiles, left_leaves, run_leaves, still_alike, stored_leaves, stored_refiled}
 use Rattle.plain_model.proofs.Turns.{made_refiled}
 
 module _ {K : Type 0} {file_cmp : K → K → Ordering} where

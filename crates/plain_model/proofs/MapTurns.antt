@@ -8,22 +8,22 @@ use Rattle.plain_model.specs.declared.call.End.{End}
 use Rattle.plain_model.specs.declared.call.End.TheVariants.{Done, Waits, Halts, Refused, Failed, Trap}
 use Rattle.plain_model.specs.declared.call.MapChange.{MapChange}
 use Rattle.plain_model.specs.declared.call.MapChange.TheVariants.{Nothing, Unmap, Follow, Narrow}
-use Rattle.plain_model.specs.declared.names.ForkName.{ForkName}
-use Rattle.plain_model.specs.declared.names.PageName.{PageName}
-use Rattle.plain_model.specs.declared.names.Slot.{Slot}
-use Rattle.plain_model.specs.declared.map.MapEntry.{MapEntry}
-use Rattle.plain_model.specs.declared.map.MapEntry.TheVariants.{Empty, Follows}
-use Rattle.plain_model.specs.State.{PlainPages, Maps, refiled}
-use Rattle.plain_model.specs.Orders.{file_page_cmp}
-use Rattle.plain_model.specs.Maps.{entry_at, set_entry, narrow}
-use Rattle.plain_model.specs.Room.{page_in, uses, live}
-use Rattle.plain_model.specs.References.{drop_unnamed, with_entry}
-use Rattle.plain_model.specs.Whole.{AreWhole}
+use Rattle.machine_names.specs.declared.names.ForkName.{ForkName}
+use Rattle.machine_names.specs.declared.names.PageName.{PageName}
+use Rattle.machine_names.specs.declared.names.Slot.{Slot}
+use Rattle.plain_pages.specs.declared.map.MapEntry.{MapEntry}
+use Rattle.plain_pages.specs.declared.map.MapEntry.TheVariants.{Empty, Follows}
+use Rattle.plain_pages.specs.PlainPages.{PlainPages, Maps, refiled}
+use Rattle.machine_names.specs.Orders.{file_page_cmp}
+use Rattle.plain_pages.specs.Maps.{entry_at, set_entry, narrow}
+use Rattle.plain_pages.specs.Room.{page_in, uses, live}
+use Rattle.plain_pages.specs.References.{drop_unnamed, with_entry}
+use Rattle.plain_pages.specs.WholePages.{AreWhole}
 use Rattle.plain_model.specs.Calls.{parts_behind}
 use Rattle.plain_model.specs.MapCalls.{with_changed, map_changed}
-use Rattle.plain_model.proofs.Chains.{keys_set}
-use Rattle.plain_model.proofs.Kept.{old_there, entry_kept, entry_maps, entry_whole, live_entry, narrow_page}
-use Rattle.plain_model.proofs.Refiled.{NameAlike, entry_refiled}
+use Rattle.plain_pages.proofs.Chains.{keys_set}
+use Rattle.plain_pages.proofs.Kept.{old_there, entry_kept, entry_maps, entry_whole, live_entry, narrow_page}
+use Rattle.plain_pages.proofs.Refiled.{NameAlike, entry_refiled}
 
 module _ {K : Type 0} {file_cmp : K → K → Ordering} (p : PlainPages file_cmp) (w : AreWhole p) where
   -- whole pages, of as many forks, which are no more

@@ -3,21 +3,22 @@ use Rattle.std.proofs.Common.{◌≡◌, ℕ, Bool, true, false, refl, ◌∙◌
 use Rattle.std.specs.FinMap as map
 use Rattle.plain_model.specs.declared.call.End.{End}
 use Rattle.plain_model.specs.declared.call.End.TheVariants.{Trap}
-use Rattle.plain_model.specs.declared.channel.TheConstants.{ILLEGAL_INSTRUCTION}
-use Rattle.plain_model.specs.declared.names.ForkName.{ForkName}
-use Rattle.plain_model.specs.declared.names.PageName.{PageName}
-use Rattle.plain_model.specs.declared.map.NewMap.{NewMap}
-use Rattle.plain_model.specs.declared.fork.Regs.{Regs}
-use Rattle.plain_model.specs.State.{PlainPages, refiled}
-use Rattle.plain_model.specs.Orders.{file_page_cmp}
-use Rattle.plain_model.specs.Room.{HasRoom}
-use Rattle.plain_model.specs.References.{in_map, page_at}
-use Rattle.plain_model.specs.NewMaps.{with_map}
-use Rattle.plain_model.specs.Steps.{Steps, Ending, Planned, done, call, trap, need, stopped, begun, pages_left}
-use Rattle.plain_model.specs.Calls.{Turn, sees, finds, takes, adds, ends, entry_of, stepped, steps_on, with_added, end_of, made_by}
-use Rattle.plain_model.proofs.PageRuns.{PlanLeaves}
-use Rattle.plain_model.proofs.Refiled.{NameAlike, room_refiled}
-use Rattle.plain_model.proofs.RefiledUnits.{LeavesFiles, left_leaves, left_refiled, refiled_plan, run_leaves, run_refiled, still_alike}
+use Rattle.plain_units.specs.declared.channel.TheConstants.{ILLEGAL_INSTRUCTION}
+use Rattle.machine_names.specs.declared.names.ForkName.{ForkName}
+use Rattle.machine_names.specs.declared.names.PageName.{PageName}
+use Rattle.plain_pages.specs.declared.map.NewMap.{NewMap}
+use Rattle.plain_units.specs.declared.registers.Regs.{Regs}
+use Rattle.plain_pages.specs.PlainPages.{PlainPages, refiled}
+use Rattle.machine_names.specs.Orders.{file_page_cmp}
+use Rattle.plain_pages.specs.Room.{HasRoom}
+use Rattle.plain_pages.specs.References.{in_map, page_at}
+use Rattle.plain_pages.specs.NewMaps.{with_map}
+use Rattle.plain_units.specs.Steps.{Steps, Ending, Planned, done, call, trap, need, stopped, begun, pages_left}
+use Rattle.plain_model.specs.Calls.{Turn, sees, finds, takes, adds, ends, entry_of, stepped, with_added, end_of, made_by}
+use Rattle.plain_units.specs.Blocks.{steps_on}
+use Rattle.plain_units.proofs.PageRuns.{PlanLeaves}
+use Rattle.plain_pages.proofs.Refiled.{NameAlike, room_refiled}
+use Rattle.plain_units.proofs.RefiledUnits.{LeavesFiles, left_leaves, left_refiled, refiled_plan, run_leaves, run_refiled, still_alike}
 
 module _ {C K : Type 0} {file_cmp : K → K → Ordering} (p : PlainPages file_cmp) (Holds : End C → PlainPages file_cmp → Type 0) where
   abbrev pub Comes : Turn C → Type 0

@@ -2,10 +2,10 @@
 -- bit 5 tells that a page is there, and bit 6 that the entry follows another.
 use Rattle.std.specs.Prelude.{ℕ, ◌+◌, ◌-◌, ◌^◌, Bool, true, if◌then◌else◌, ◌==◌, Option, is_some}
 use Rattle.word36.specs.Words.{bit}
-use Rattle.plain_model.specs.declared.names.Access.{Access}
-use Rattle.plain_model.specs.declared.names.PageName.{PageName}
-use Rattle.plain_model.specs.declared.map.MapEntry.{MapEntry}
-use Rattle.plain_model.specs.declared.map.MapEntry.TheVariants.{Empty, Names, Follows}
+use Rattle.machine_names.specs.declared.names.Access.{Access}
+use Rattle.machine_names.specs.declared.names.PageName.{PageName}
+use Rattle.plain_pages.specs.declared.map.MapEntry.{MapEntry}
+use Rattle.plain_pages.specs.declared.map.MapEntry.TheVariants.{Empty, Names, Follows}
 
 -- a word with one bit, or with none
 abbrev pub bit_word : Bool → ℕ → ℕ

@@ -1,29 +1,31 @@
 -- Monitor calls: what a turn of one asks, how it ends, and what it leaves (JSYS Manual).
-use Rattle.std.specs.Prelude.{ℕ, ◌+◌, ◌%◌, ◌^◌, zero, suc, List, [], ◌∷◌, ◌++◌, Bool, false, ◌||◌, Option, None, Result, Ok, Err, if◌then◌else◌, ◌==◌, unwrap_or, slice_set}
+use Rattle.std.specs.Prelude.{ℕ, List, [], ◌∷◌, Bool, false, ◌||◌, Option, Result, Ok, Err, if◌then◌else◌, ◌==◌, unwrap_or, slice_set}
 use Rattle.std.specs.declared.cmp.Ordering.{Ordering}
 use Rattle.plain_model.specs.declared.call.End.{End}
 use Rattle.plain_model.specs.declared.call.End.TheVariants.{Done, Waits, Halts, Refused, Failed, Trap}
-use Rattle.plain_model.specs.declared.channel.TheConstants.{ILLEGAL_INSTRUCTION}
-use Rattle.plain_model.specs.declared.names.TheConstants.{ACCUMULATORS}
-use Rattle.plain_model.specs.declared.names.ForkName.{ForkName}
-use Rattle.plain_model.specs.declared.names.PageName.{PageName}
-use Rattle.plain_model.specs.declared.names.Slot.{Slot}
-use Rattle.plain_model.specs.declared.names.Kind.{Kind}
-use Rattle.plain_model.specs.declared.map.NewMap.{NewMap}
-use Rattle.plain_model.specs.declared.map.MapEntry.{MapEntry}
-use Rattle.plain_model.specs.declared.map.MapEntry.TheVariants.{Empty}
+use Rattle.plain_units.specs.declared.channel.TheConstants.{ILLEGAL_INSTRUCTION}
+use Rattle.machine_names.specs.declared.names.TheConstants.{ACCUMULATORS}
+use Rattle.machine_names.specs.declared.names.ForkName.{ForkName}
+use Rattle.machine_names.specs.declared.names.PageName.{PageName}
+use Rattle.machine_names.specs.declared.names.Slot.{Slot}
+use Rattle.machine_names.specs.declared.names.Kind.{Kind}
+use Rattle.plain_pages.specs.declared.map.NewMap.{NewMap}
+use Rattle.plain_pages.specs.declared.map.MapEntry.{MapEntry}
+use Rattle.plain_pages.specs.declared.map.MapEntry.TheVariants.{Empty}
 use Rattle.plain_model.specs.declared.fork.Fork.{Fork}
-use Rattle.plain_model.specs.declared.fork.ForkStatus.TheVariants.{Wait, Halted}
-use Rattle.plain_model.specs.declared.fork.Regs.{Regs}
-use Rattle.plain_model.specs.State.{PlainPages, PlainState}
-use Rattle.plain_model.specs.Maps.{entry_at}
-use Rattle.plain_model.specs.Room.{HasRoom}
-use Rattle.plain_model.specs.References.{in_map, page_at}
-use Rattle.plain_model.specs.NewMaps.{with_map}
+use Rattle.script_texts.specs.declared.status.ForkStatus.TheVariants.{Wait, Halted}
+use Rattle.plain_units.specs.declared.registers.Regs.{Regs}
+use Rattle.plain_pages.specs.PlainPages.{PlainPages}
+use Rattle.plain_model.specs.State.{PlainState}
+use Rattle.plain_pages.specs.Maps.{entry_at}
+use Rattle.plain_pages.specs.Room.{HasRoom}
+use Rattle.plain_pages.specs.References.{in_map, page_at}
+use Rattle.plain_pages.specs.NewMaps.{with_map}
 use Rattle.plain_model.specs.Forks.{with_regs, with_status}
 use Rattle.plain_model.specs.Interrupts.{posted}
-use Rattle.plain_model.specs.Steps.{Steps, Ending, Planned, done, call, trap, need, stopped as unit_stopped, refers as refers_at, ends as steps_end, run, begun, plainly, pages_left}
-use Rattle.plain_model.specs.Deeds.{next_pc, skip_pc}
+use Rattle.plain_units.specs.Steps.{Steps, Ending, Planned, done, call, trap, need, stopped as unit_stopped, pages_left}
+use Rattle.plain_units.specs.Deeds.{next_pc, skip_pc}
+use Rattle.plain_units.specs.Blocks.{block_steps, steps_on}
 
 -- what is left of a turn, which makes changes of some kind: what it asks, it is told of the pages before it, with those
 -- that it made
@@ -74,15 +76,6 @@ abbrev pub is_among : {A C : Type 0} → List (ℕ × (A → Turn C)) → ℕ �
 is_among [] number = false
 is_among (row ∷ rows) number = (row.0 == number) || is_among rows number
 
--- the address behind another
-abbrev pub next_address : ℕ → ℕ
-next_address a = (a + 1) % 2 ^ 18
-
--- so many references of a kind, from an address on; they end with the words there as accumulators
-abbrev pub block_steps : ℕ → ℕ → Kind → List ℕ → Regs → Steps
-block_steps zero a kind words regs = steps_end (record { regs = record regs { ac = words }; put = None; post = None })
-block_steps (suc n) a kind words regs = refers_at a kind (λ w. block_steps n (next_address a) kind (words ++ w ∷ []) regs)
-
 -- a turn refers to sixteen words of a fork from an address on, and goes on with them
 abbrev pub with_block : {C : Type 0} → ForkName → Regs → ℕ → Kind → (List ℕ → Turn C) → Turn C
 with_block f regs a kind next = takes f regs (block_steps ACCUMULATORS a kind [] regs) (λ e. next e.regs.ac)
@@ -94,10 +87,6 @@ module _ {K : Type 0} {file_cmp : K → K → Ordering} where
   stepped f (unit_stopped (trap channel)) next trapped = trapped channel
   stepped f (unit_stopped (need none)) next trapped = absurd none
   stepped f (call number) next trapped = trapped ILLEGAL_INSTRUCTION
-
-  -- what steps come to on these pages
-  abbrev pub steps_on : ForkName → Regs → Steps → PlainPages file_cmp → Planned file_cmp ⊥
-  steps_on f regs steps p = run (plainly f) f steps (begun p regs.ac)
 
   -- the pages with the map of a new fork, where there is room for it
   abbrev pub with_added : PlainPages file_cmp → ForkName → NewMap → Bool → PlainPages file_cmp

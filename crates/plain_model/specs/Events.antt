@@ -3,29 +3,28 @@ use Rattle.std.specs.Prelude.{ℕ, ◌+◌, ◌%◌, List, [], ◌∷◌, map, B
 use Rattle.std.specs.Option.{option_map, option_map_or}
 use Rattle.std.specs.FinMap as map
 use Rattle.outside.specs.declared.TheConstants.{PAGE_WORDS}
-use Rattle.plain_model.specs.declared.names.TheConstants.{LAST_SERIAL, ACCUMULATORS}
-use Rattle.plain_model.specs.declared.names.Tty.{Tty}
-use Rattle.plain_model.specs.declared.names.ForkName.{ForkName}
-use Rattle.plain_model.specs.declared.names.Slot.{Slot}
-use Rattle.plain_model.specs.declared.names.Kind.TheVariants.{Write}
-use Rattle.plain_model.specs.declared.character.TheConstants.{PROMPT}
-use Rattle.plain_model.specs.declared.map.NewMap.TheVariants.{Empty as EmptyMap}
+use Rattle.machine_names.specs.declared.names.TheConstants.{LAST_SERIAL, ACCUMULATORS}
+use Rattle.machine_names.specs.declared.names.Tty.{Tty}
+use Rattle.machine_names.specs.declared.names.ForkName.{ForkName}
+use Rattle.machine_names.specs.declared.names.Slot.{Slot}
+use Rattle.machine_names.specs.declared.names.Kind.TheVariants.{Write}
+use Rattle.machine_names.specs.declared.character.TheConstants.{PROMPT}
+use Rattle.plain_pages.specs.declared.map.NewMap.TheVariants.{Empty as EmptyMap}
 use Rattle.plain_model.specs.declared.fork.TerminalMode.TheVariants.{Command, Program}
-use Rattle.plain_model.specs.declared.fork.ForkStatus.TheVariants.{Run as Running}
+use Rattle.script_texts.specs.declared.status.ForkStatus.TheVariants.{Run as Running}
 use Rattle.plain_model.specs.declared.fork.Fork.{Fork}
-use Rattle.plain_model.specs.declared.event.Event.{Event}
-use Rattle.plain_model.specs.declared.event.Event.TheVariants.{Login, Poke, Start, Tick, Examine, Forks, Trace}
-use Rattle.plain_model.specs.declared.event.Item.TheVariants.{Char, ForkLine, Examined, Refusal}
-use Rattle.plain_model.specs.declared.event.Refusal.{Refusal as Cause}
-use Rattle.plain_model.specs.declared.event.Refusal.TheVariants.{Busy, NoJob, SerialsOut, Full, Denied, NoFork, NoPage}
+use Rattle.script_texts.specs.declared.event.Event.{Event}
+use Rattle.script_texts.specs.declared.event.Event.TheVariants.{Login, Poke, Start, Tick, Examine, Forks, Trace}
+use Rattle.script_texts.specs.declared.event.Item.TheVariants.{Char, ForkLine, Examined, Refusal}
+use Rattle.script_texts.specs.declared.event.Refusal.{Refusal as Cause}
+use Rattle.script_texts.specs.declared.event.Refusal.TheVariants.{Busy, NoJob, SerialsOut, Full, Denied, NoFork, NoPage}
 use Rattle.plain_model.specs.State.{PlainState, PlainJob}
-use Rattle.plain_model.specs.Orders.{name_cmp}
-use Rattle.plain_model.specs.Room.{HasRoom}
-use Rattle.plain_model.specs.References.{Referred, granted, denied, full, in_map, reference, stored, words_of, page_at, slot_at}
+use Rattle.machine_names.specs.Orders.{name_cmp}
+use Rattle.plain_pages.specs.Room.{HasRoom}
+use Rattle.plain_pages.specs.References.{Referred, granted, denied, full, in_map, reference, stored, words_of, page_at, slot_at}
 use Rattle.plain_model.specs.Forks.{top_fork, with_fork, change_fork, with_regs, forks_by_slot, fork_line}
 use Rattle.plain_model.specs.Unit.{Effect}
-unfoldable pub use Rattle.plain_model.specs.NewMaps.{empty_map, following_map}
-pub use Rattle.plain_model.specs.NewMaps.{new_map, with_map}
+use Rattle.plain_pages.specs.NewMaps.{with_map}
 
 -- an event that is refused changes nothing, and says why
 abbrev pub refused : PlainState → Cause → Effect

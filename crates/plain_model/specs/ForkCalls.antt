@@ -1,9 +1,8 @@
 -- The fork calls (JSYS Manual): CFORK, KFORK, FFORK, RFORK, RFSTS, SFORK, SFACS, RFACS, HFORK, WFORK, HALTF.
-use Rattle.std.specs.Prelude.{ℕ, zero, suc, ◌+◌, ◌%◌, List, [], ◌∷◌, Bool, true, false, nat_lt, ◌==◌, if◌then◌else◌, None, Result, Ok, Err, replicate, slice_set}
+use Rattle.std.specs.Prelude.{ℕ, zero, suc, ◌+◌, List, [], ◌∷◌, Bool, true, false, nat_lt, ◌==◌, if◌then◌else◌, None, Result, Ok, Err, replicate, slice_set}
 use Rattle.std.specs.Option.{option_map, option_map_or}
 use Rattle.std.specs.declared.cmp.Ordering.{Ordering}
 use Rattle.std.specs.FinMap as map
-use Rattle.outside.specs.declared.TheConstants.{PAGE_WORDS}
 use Rattle.word36.specs.Words.{right, joined, bit}
 use Rattle.word36.specs.Flags.{no_flags}
 use Rattle.plain_model.specs.declared.call.TheConstants.{CFORK, KFORK, FFORK, RFORK, RFSTS, SFORK, SFACS, RFACS, HFORK, WFORK, HALTF, FORK_SELF, NO_HANDLE, NO_INFERIOR, FORKS_FULL, SERIALS_OUT, NO_ROOM}
@@ -11,28 +10,30 @@ use Rattle.plain_model.specs.declared.call.End.{End}
 use Rattle.plain_model.specs.declared.call.End.TheVariants.{Waits, Halts, Failed}
 use Rattle.plain_model.specs.declared.call.ForkChange.{ForkChange}
 use Rattle.plain_model.specs.declared.call.ForkChange.TheVariants.{Nothing, Make, Kill, Freeze, Become, Halt, Store}
-use Rattle.plain_model.specs.declared.names.TheConstants.{ACCUMULATORS, LAST_SERIAL, MOST_FORKS}
-use Rattle.plain_model.specs.declared.names.ForkName.{ForkName}
-use Rattle.plain_model.specs.declared.names.Kind.TheVariants.{Read, Write}
-use Rattle.plain_model.specs.declared.map.NewMap.{NewMap}
-use Rattle.plain_model.specs.declared.map.NewMap.TheVariants.{Empty as EmptyMap, FollowAll}
+use Rattle.machine_names.specs.declared.names.TheConstants.{ACCUMULATORS, LAST_SERIAL, MOST_FORKS}
+use Rattle.machine_names.specs.declared.names.ForkName.{ForkName}
+use Rattle.machine_names.specs.declared.names.Kind.TheVariants.{Read, Write}
+use Rattle.plain_pages.specs.declared.map.NewMap.{NewMap}
+use Rattle.plain_pages.specs.declared.map.NewMap.TheVariants.{Empty as EmptyMap, FollowAll}
 use Rattle.plain_model.specs.declared.fork.Fork.{Fork}
 use Rattle.plain_model.specs.declared.fork.Body.{Body}
-use Rattle.plain_model.specs.declared.fork.Regs.{Regs}
-use Rattle.plain_model.specs.declared.fork.ForkStatus.{ForkStatus}
-use Rattle.plain_model.specs.declared.fork.ForkStatus.TheVariants.{Run, Wait, Halted, Forced}
-use Rattle.plain_model.specs.declared.fork.WaitOn.TheVariants as on
-use Rattle.plain_model.specs.State.{PlainPages, PlainState}
-use Rattle.plain_model.specs.Orders.{name_cmp}
-use Rattle.plain_model.specs.References.{in_map, stored, slot_at, without_fork}
-use Rattle.plain_model.specs.Forks.{ForkMap, first_regs, same_fork, with_status}
-use Rattle.plain_model.specs.Steps.{is_accumulator}
-use Rattle.plain_model.specs.Deeds.{flags_half, in_ac, pc_word}
+use Rattle.plain_units.specs.declared.registers.Regs.{Regs}
+use Rattle.script_texts.specs.declared.status.ForkStatus.{ForkStatus}
+use Rattle.script_texts.specs.declared.status.ForkStatus.TheVariants.{Run, Wait, Halted, Forced}
+use Rattle.script_texts.specs.declared.status.WaitOn.TheVariants as on
+use Rattle.plain_pages.specs.PlainPages.{PlainPages}
+use Rattle.plain_model.specs.State.{PlainState}
+use Rattle.machine_names.specs.Orders.{name_cmp, same_fork}
+use Rattle.plain_pages.specs.References.{without_fork}
+use Rattle.plain_model.specs.Forks.{ForkMap, first_regs, with_status}
+use Rattle.plain_units.specs.Steps.{is_accumulator}
+use Rattle.plain_units.specs.Deeds.{flags_half, in_ac, pc_word}
 use Rattle.plain_model.specs.Handles.{named}
 use Rattle.plain_model.specs.Inferiors.{is_inferior, last_below}
 use Rattle.plain_model.specs.Trees.{PlainTree, tree_of, next_serial, next_name, free_slot, new_fork, with_made, with_changed_of, with_body, with_mark, waiters_woken, end_told}
 use Rattle.plain_model.specs.AccessWords.{bit_word}
-use Rattle.plain_model.specs.Calls.{Turn, adds, ends, with_ac, and_then, returning, returning_second, given, numbered, next_address, with_block, end_of, made_by, Lens, lifted}
+use Rattle.plain_model.specs.Calls.{Turn, adds, ends, with_ac, and_then, returning, returning_second, given, numbered, with_block, end_of, made_by, Lens, lifted}
+use Rattle.plain_units.specs.Blocks.{next_address, stored_from}
 
 -- who calls, with which registers, among which forks
 pub record ForkAsked : Type 0 where
@@ -242,12 +243,6 @@ module _ {K : Type 0} {file_cmp : K → K → Ordering} where
   -- with a fork halted; its job and its superior are told
   abbrev pub with_halted : ForkParts file_cmp → Fork → ForkParts file_cmp
   with_halted v f = let g = with_status f Halted in with_forks v (end_told (map.insert v.tree.forks g.name g) g)
-
-  -- words stored in the space of a fork, from an address on
-  abbrev pub stored_from : PlainPages file_cmp → ForkName → ℕ → List ℕ → PlainPages file_cmp
-  stored_from p f a [] = p
-  stored_from p f a (w ∷ ws) =
-      stored_from (if is_accumulator a then p else stored p (in_map (slot_at f a)) (a % PAGE_WORDS) w) f (next_address a) ws
 
   -- what a change of a fork call leaves
   unfoldable pub fork_changed : ForkChange → ForkParts file_cmp → ForkParts file_cmp

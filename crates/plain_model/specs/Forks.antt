@@ -3,21 +3,18 @@ use Rattle.std.specs.Prelude.{◌≡◌, ℕ, zero, suc, ◌+◌, List, Bool, fa
 use Rattle.std.specs.List.{filter_map, range_with_len}
 use Rattle.std.specs.Option.{option_map_or, option_and_then}
 use Rattle.std.specs.FinMap as map
-use Rattle.plain_model.specs.declared.names.TheConstants.{MOST_FORKS, ACCUMULATORS}
+use Rattle.machine_names.specs.declared.names.TheConstants.{MOST_FORKS, ACCUMULATORS}
 use Rattle.word36.specs.Flags.{no_flags}
-use Rattle.plain_model.specs.declared.names.Tty.{Tty}
-use Rattle.plain_model.specs.declared.names.ForkName.{ForkName}
-use Rattle.plain_model.specs.declared.fork.ForkStatus.{ForkStatus}
-use Rattle.plain_model.specs.declared.fork.ForkStatus.TheVariants.{Run, Halted}
-use Rattle.plain_model.specs.declared.fork.Regs.{Regs}
+use Rattle.machine_names.specs.declared.names.Tty.{Tty}
+use Rattle.machine_names.specs.declared.names.ForkName.{ForkName}
+use Rattle.script_texts.specs.declared.status.ForkStatus.{ForkStatus}
+use Rattle.script_texts.specs.declared.status.ForkStatus.TheVariants.{Run, Halted}
+use Rattle.plain_units.specs.declared.registers.Regs.{Regs}
 use Rattle.plain_model.specs.declared.fork.Psi.{Psi}
 use Rattle.plain_model.specs.declared.fork.Fork.{Fork}
-use Rattle.plain_model.specs.declared.event.ForkLine.{ForkLine}
-use Rattle.plain_model.specs.Orders.{fork_cmp}
+use Rattle.script_texts.specs.declared.event.ForkLine.{ForkLine}
+use Rattle.machine_names.specs.Orders.{fork_cmp}
 use Rattle.plain_model.specs.State.{PlainState}
-
-abbrev pub same_fork : ForkName → ForkName → Bool
-same_fork f g = (f.tty.0 == g.tty.0) && (f.serial == g.serial)
 
 abbrev pub ForkMap : Type 0
 ForkMap = map.FinMap fork_cmp Fork

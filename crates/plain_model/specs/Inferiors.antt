@@ -3,10 +3,11 @@ use Rattle.std.specs.Prelude.{ℕ, suc, zero, Bool, false, not, ◌||◌, ◌&&�
 use Rattle.std.specs.List.{range_with_len}
 use Rattle.std.specs.Option.{option_eq, option_or, option_map_or, option_and_then}
 use Rattle.std.specs.FinMap as map
-use Rattle.plain_model.specs.declared.names.ForkName.{ForkName}
-use Rattle.plain_model.specs.declared.names.TheConstants.{MOST_FORKS}
+use Rattle.machine_names.specs.declared.names.ForkName.{ForkName}
+use Rattle.machine_names.specs.declared.names.TheConstants.{MOST_FORKS}
 use Rattle.plain_model.specs.declared.fork.Fork.{Fork}
-use Rattle.plain_model.specs.Forks.{ForkMap, fork_in, superior_of, same_fork}
+use Rattle.plain_model.specs.Forks.{ForkMap, fork_in, superior_of}
+use Rattle.machine_names.specs.Orders.{same_fork}
 
 -- whether a fork or an ancestor of it passes a test; so many forks are looked at
 abbrev pub any_upward : (Fork → Bool) → ℕ → ForkMap → Option Fork → Bool

@@ -1,11 +1,11 @@
 -- Pseudo-interrupts: what posting a channel does to a fork (JSYS Manual, "Pseudo-interrupt system").
 use Rattle.std.specs.Prelude.{ℕ, ◌+◌, ◌^◌, Bool, ◌||◌, ◌&&◌, if◌then◌else◌, ◌==◌, is_some, nat_le}
 use Rattle.std.specs.Int.{bit_at}
-use Rattle.plain_model.specs.declared.channel.TheConstants.{PUSHDOWN_OVERFLOW, ILLEGAL_INSTRUCTION, DENIED_EXECUTE, DRUM_FULL}
+use Rattle.plain_units.specs.declared.channel.TheConstants.{PUSHDOWN_OVERFLOW, ILLEGAL_INSTRUCTION, DENIED_EXECUTE, DRUM_FULL}
 use Rattle.plain_model.specs.declared.fork.Psi.{Psi}
 use Rattle.plain_model.specs.declared.fork.Fork.{Fork}
-use Rattle.plain_model.specs.declared.fork.ForkStatus.{ForkStatus}
-use Rattle.plain_model.specs.declared.fork.ForkStatus.TheVariants.{Run, Wait, Forced}
+use Rattle.script_texts.specs.declared.status.ForkStatus.{ForkStatus}
+use Rattle.script_texts.specs.declared.status.ForkStatus.TheVariants.{Run, Wait, Forced}
 use Rattle.plain_model.specs.Forks.{with_status}
 
 -- the panic channels, which force a fork that doesn't take them

@@ -9,20 +9,21 @@ use Rattle.plain_model.specs.declared.call.End.{End}
 use Rattle.plain_model.specs.declared.call.End.TheVariants.{Done, Refused}
 use Rattle.plain_model.specs.declared.call.MapChange.{MapChange}
 use Rattle.plain_model.specs.declared.call.MapChange.TheVariants.{Nothing, Unmap, Follow, Narrow}
-use Rattle.plain_model.specs.declared.names.TheConstants.{SPACE_PAGES}
-use Rattle.plain_model.specs.declared.names.ForkName.{ForkName}
-use Rattle.plain_model.specs.declared.names.PageName.{PageName}
-use Rattle.plain_model.specs.declared.names.Slot.{Slot}
-use Rattle.plain_model.specs.declared.names.Access.{Access}
-use Rattle.plain_model.specs.declared.map.MapEntry.{MapEntry}
-use Rattle.plain_model.specs.declared.map.MapEntry.TheVariants as entry
+use Rattle.machine_names.specs.declared.names.TheConstants.{SPACE_PAGES}
+use Rattle.machine_names.specs.declared.names.ForkName.{ForkName}
+use Rattle.machine_names.specs.declared.names.PageName.{PageName}
+use Rattle.machine_names.specs.declared.names.Slot.{Slot}
+use Rattle.machine_names.specs.declared.names.Access.{Access}
+use Rattle.plain_pages.specs.declared.map.MapEntry.{MapEntry}
+use Rattle.plain_pages.specs.declared.map.MapEntry.TheVariants as entry
 use Rattle.plain_model.specs.declared.fork.Fork.{Fork}
-use Rattle.plain_model.specs.declared.fork.Regs.{Regs}
-use Rattle.plain_model.specs.State.{PlainPages, NamedPages, PlainState}
-use Rattle.plain_model.specs.Maps.{entry_at, narrow}
-use Rattle.plain_model.specs.References.{with_entry}
+use Rattle.plain_units.specs.declared.registers.Regs.{Regs}
+use Rattle.plain_pages.specs.PlainPages.{PlainPages, NamedPages}
+use Rattle.plain_model.specs.State.{PlainState}
+use Rattle.plain_pages.specs.Maps.{entry_at, narrow}
+use Rattle.plain_pages.specs.References.{with_entry}
 use Rattle.plain_model.specs.Forks.{ForkMap}
-use Rattle.plain_model.specs.Deeds.{in_ac}
+use Rattle.plain_units.specs.Deeds.{in_ac}
 use Rattle.plain_model.specs.Handles.{named}
 use Rattle.plain_model.specs.AccessWords.{access_in, access_told}
 use Rattle.plain_model.specs.Calls.{Turn, sees, finds, ends, behind_call, with_ac, and_then, returning, given, numbered, end_of, Lens, Called, lifted}

@@ -1,22 +1,21 @@
 -- One unit of a fork: an instruction, or a trap (PDP-10 handbook, "Instruction format").
 use Rattle.std.specs.Prelude.{ℕ, ◌+◌, ◌%◌, ◌^◌, List, [], ◌∷◌, ◌++◌, map, codes, decimal, is_some, Option, None, Some, if◌then◌else◌, ◌==◌, slice_index}
 use Rattle.std.specs.Option.{option_map_or}
-use Rattle.std.specs.declared.cmp.Ordering.{Ordering}
 use Rattle.std.specs.FinMap as map_of
-use Rattle.plain_model.specs.declared.names.Tty.{Tty}
-use Rattle.plain_model.specs.declared.names.ForkName.{ForkName}
+use Rattle.machine_names.specs.declared.names.Tty.{Tty}
+use Rattle.machine_names.specs.declared.names.ForkName.{ForkName}
 use Rattle.plain_model.specs.declared.call.TheConstants.{PBOUT}
-use Rattle.plain_model.specs.declared.character.TheConstants.{LINE_END, CARRIAGE_RETURN, LINE_FEED, PROMPT}
+use Rattle.machine_names.specs.declared.character.TheConstants.{LINE_END, CARRIAGE_RETURN, LINE_FEED, PROMPT}
 use Rattle.plain_model.specs.declared.fork.TerminalMode.TheVariants.{Command}
-use Rattle.plain_model.specs.declared.fork.ForkStatus.{ForkStatus}
-use Rattle.plain_model.specs.declared.fork.ForkStatus.TheVariants.{Halted, Forced}
-use Rattle.plain_model.specs.declared.fork.Regs.{Regs}
+use Rattle.script_texts.specs.declared.status.ForkStatus.{ForkStatus}
+use Rattle.script_texts.specs.declared.status.ForkStatus.TheVariants.{Halted, Forced}
+use Rattle.plain_units.specs.declared.registers.Regs.{Regs}
 use Rattle.plain_model.specs.declared.fork.Fork.{Fork}
-use Rattle.plain_model.specs.declared.event.Item.{Item}
-use Rattle.plain_model.specs.declared.event.Item.TheVariants.{Char}
-use Rattle.plain_model.specs.State.{PlainState, PlainPages, NamedPages}
-use Rattle.plain_model.specs.Steps.{Planned, Ending, done, call, trap, need, stopped as unit_stopped, run, begun, plainly, pages_left}
-use Rattle.plain_model.specs.Instructions.{instruction}
+use Rattle.script_texts.specs.declared.event.Item.{Item}
+use Rattle.script_texts.specs.declared.event.Item.TheVariants.{Char}
+use Rattle.plain_model.specs.State.{PlainState}
+use Rattle.plain_pages.specs.PlainPages.{NamedPages}
+use Rattle.plain_units.specs.Steps.{Planned, Ending, done, call, trap, need, stopped as unit_stopped, pages_left}
 use Rattle.plain_model.specs.declared.call.End.{End}
 use Rattle.plain_model.specs.declared.call.ForkChange.{ForkChange}
 use Rattle.plain_model.specs.Calls.{Called, fork_behind, is_among}
@@ -25,7 +24,8 @@ use Rattle.plain_model.specs.ForkCalls.{fork_calls, fork_called, fork_end}
 use Rattle.plain_model.specs.Forks.{with_fork, with_regs, counted}
 use Rattle.plain_model.specs.Trees.{end_told}
 use Rattle.plain_model.specs.Interrupts.{posted}
-use Rattle.plain_model.specs.Orders.{name_cmp}
+use Rattle.machine_names.specs.Orders.{name_cmp}
+use Rattle.plain_units.specs.Units.{unit_on}
 
 -- what a step leaves, and what it shows
 pub record Effect : Type 0 where
@@ -98,10 +98,6 @@ fork_turned s f number = let t = fork_called s f number in
 abbrev pub called : PlainState → Fork → ℕ → Effect
 called s f number =
     if number == PBOUT then pbout s f else (if is_among fork_calls number then fork_turned s f number else turned (map_called s f number))
-
--- what a unit comes to, on these pages and registers of a fork
-abbrev pub unit_on : {K : Type 0} {file_cmp : K → K → Ordering} → ForkName → PlainPages file_cmp → Regs → Planned file_cmp ⊥
-unit_on f p regs = run (plainly f) f (instruction regs) (begun p regs.ac)
 
 -- a fork with a channel posted, if one is
 abbrev pub posted_if : Fork → Option ℕ → Fork

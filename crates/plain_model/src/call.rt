@@ -1,6 +1,9 @@
 //! Monitor calls (JSYS Manual): their numbers under their names, handles of forks, the codes of errors, and how
 //! a turn of a call ends.
-use crate::{Access, Body, Fork, ForkName, MOST_FORKS, Regs, Slot, WaitOn};
+use crate::{Body, Fork};
+use machine_names::{Access, ForkName, MOST_FORKS, Slot};
+use plain_units::Regs;
+use script_texts::WaitOn;
 use word36::Word;
 
 /// Maps a page of one place into another, or takes one out of a map.

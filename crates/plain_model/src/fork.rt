@@ -1,35 +1,7 @@
-// Forks, jobs, and what they wait for.
-use crate::{FileNo, ForkName};
-use word36::{Flags, Word};
-
-/// What a waiting fork waits for.
-#[derive(Clone, Copy, Debug, PartialEq, Eq)]
-pub enum WaitOn {
-    /// A character of its terminal.
-    Input,
-    /// The end of another fork of its job.
-    Fork,
-    /// A moment of the clock, in ticks.
-    Sleep(u64),
-}
-
-/// How a fork stands (JSYS Manual, RFSTS).
-#[derive(Clone, Copy, Debug, PartialEq, Eq)]
-pub enum ForkStatus {
-    Run,
-    Wait(WaitOn),
-    Halted,
-    /// Stopped by the channel of a pseudo-interrupt.
-    Forced(u8),
-}
-
-/// The registers of a fork: 16 accumulators, the program counter below 2^18, and the flags.
-#[derive(Clone, Copy, Debug, PartialEq, Eq)]
-pub struct Regs {
-    pub ac: [Word; 16],
-    pub pc: u32,
-    pub flags: Flags,
-}
+// Forks, and who reads their terminal.
+use machine_names::ForkName;
+use plain_units::Regs;
+use script_texts::ForkStatus;
 
 /// The pseudo-interrupts of a fork (JSYS Manual, "Pseudo-interrupt system"): whether they are on;
 /// where the level table and the channel table are; which of the channels 0 to 35 are active and
@@ -85,48 +57,4 @@ pub enum TerminalMode {
     Command,
     /// The job's forks.
     Program,
-}
-
-/// How a file is open.
-#[derive(Clone, Copy, Debug, PartialEq, Eq)]
-pub struct Mode {
-    pub r: bool,
-    pub w: bool,
-}
-
-/// What a JFN stands for (JSYS Manual, "File handling"): a file, how it is open, and the position
-/// in it, in bytes of the given size, 1 to 36 bits.
-#[derive(Clone, Copy, Debug, PartialEq, Eq)]
-pub struct Jfn {
-    pub file: FileNo,
-    pub mode: Option<Mode>,
-    pub at: u64,
-    pub size: u8,
-}
-
-/// Up to two characters that a monitor call prints. Those past the count are 0.
-#[derive(Clone, Copy, Debug, PartialEq, Eq)]
-pub struct Chars {
-    pub count: u8,
-    pub codes: [u8; 2],
-}
-
-/// What one turn of a monitor call answers. All but `After`, `Wait` and `Halt` leave everything
-/// as it was.
-#[derive(Clone, Copy, Debug, PartialEq, Eq)]
-pub enum Answer {
-    /// The call is done: its registers, what it prints, and a channel that it posts to a fork.
-    After {
-        regs: Regs,
-        out: Chars,
-        post: Option<(ForkName, u8)>,
-    },
-    Wait(WaitOn),
-    Halt,
-    /// Refused, with an error code.
-    Refused(u32),
-    /// The unit traps, with a channel.
-    Trap(u8),
-    /// The turn wants a page or a frame first.
-    Need(crate::Need),
 }

@@ -3,20 +3,21 @@ use Rattle.std.proofs.Common.{◌≡◌, ℕ, Option, None, Some, refl, sym, ap}
 use Rattle.std.specs.Option.{option_map_or}
 use Rattle.plain_model.specs.declared.call.End.{End}
 use Rattle.plain_model.specs.declared.call.End.TheVariants.{Done, Waits, Halts, Refused, Failed, Trap}
-use Rattle.plain_model.specs.declared.fork.WaitOn.{WaitOn}
+use Rattle.script_texts.specs.declared.status.WaitOn.{WaitOn}
 use Rattle.plain_model.specs.declared.call.MapChange.{MapChange}
 use Rattle.plain_model.specs.declared.call.MapChange.TheVariants.{Nothing, Unmap, Follow, Narrow}
-use Rattle.plain_model.specs.declared.fork.Regs.{Regs}
-use Rattle.plain_model.specs.declared.names.Access.{Access}
-use Rattle.plain_model.specs.declared.names.Slot.{Slot}
-use Rattle.plain_model.specs.declared.map.MapEntry.{MapEntry}
-use Rattle.plain_model.specs.declared.map.NewEntry.{NewEntry}
-use Rattle.plain_model.specs.declared.map.NewEntry.TheVariants as new
-use Rattle.plain_model.specs.declared.map.Seen.TheVariants.{Is, Missing}
-use Rattle.plain_model.specs.State.{NumberedPages}
-use Rattle.plain_model.specs.Maps.{entry_at}
-use Rattle.plain_model.specs.References.{with_entry}
-use Rattle.plain_model.specs.Pages.{Scene, seen_of, map_away_or, changed, entry_to}
+use Rattle.plain_units.specs.declared.registers.Regs.{Regs}
+use Rattle.machine_names.specs.declared.names.Access.{Access}
+use Rattle.machine_names.specs.declared.names.Slot.{Slot}
+use Rattle.plain_pages.specs.declared.map.MapEntry.{MapEntry}
+use Rattle.plain_pages.specs.declared.map.NewEntry.{NewEntry}
+use Rattle.plain_pages.specs.declared.map.NewEntry.TheVariants as new
+use Rattle.page_contracts.specs.declared.answers.Seen.TheVariants.{Is, Missing}
+use Rattle.plain_pages.specs.PlainPages.{NumberedPages}
+use Rattle.plain_pages.specs.Maps.{entry_at}
+use Rattle.plain_pages.specs.References.{with_entry}
+use Rattle.page_contracts.specs.Pages.{Scene, seen_of, map_away_or}
+use Rattle.plain_pages.specs.NewEntries.{changed, entry_to}
 use Rattle.plain_model.specs.Calls.{parts_behind}
 use Rattle.plain_model.specs.MapCalls.{map_changed}
 

@@ -4,29 +4,29 @@ use Rattle.std.specs.Prelude.{◌==◌}
 use Rattle.std.proofs.lemmas.Bool.{cond_both}
 use Rattle.std.proofs.lemmas.Bool.Decides.{nat_tests}
 use Rattle.std.specs.Option.{option_map_or}
-use Rattle.plain_model.specs.declared.names.TheConstants.{ACCUMULATORS}
-use Rattle.plain_model.specs.declared.names.Access.{Access}
-use Rattle.plain_model.specs.declared.names.Slot.{Slot}
+use Rattle.machine_names.specs.declared.names.TheConstants.{ACCUMULATORS}
+use Rattle.machine_names.specs.declared.names.Access.{Access}
+use Rattle.machine_names.specs.declared.names.Slot.{Slot}
 use Rattle.plain_model.specs.declared.call.MapChange.TheVariants.{Follow, Unmap}
-use Rattle.plain_model.specs.declared.channel.TheConstants.{ILLEGAL_INSTRUCTION}
-use Rattle.plain_model.specs.declared.map.MapEntry.{MapEntry}
-use Rattle.plain_model.specs.declared.map.MapEntry.TheVariants.{Empty, Follows}
+use Rattle.plain_units.specs.declared.channel.TheConstants.{ILLEGAL_INSTRUCTION}
+use Rattle.plain_pages.specs.declared.map.MapEntry.{MapEntry}
+use Rattle.plain_pages.specs.declared.map.MapEntry.TheVariants.{Empty, Follows}
 use Rattle.plain_model.specs.declared.fork.Fork.{Fork}
-use Rattle.plain_model.specs.declared.fork.Regs.{Regs}
-use Rattle.plain_model.specs.declared.fork.ForkStatus.TheVariants.{Forced}
-use Rattle.plain_model.specs.State.{NumberedPages, Maps}
-use Rattle.plain_model.specs.Maps.{Chain, chain, entry_at, followed}
-use Rattle.plain_model.specs.References.{in_map, words_at, with_entry}
-use Rattle.plain_model.specs.Whole.{AreWhole}
+use Rattle.plain_units.specs.declared.registers.Regs.{Regs}
+use Rattle.script_texts.specs.declared.status.ForkStatus.TheVariants.{Forced}
+use Rattle.plain_pages.specs.PlainPages.{NumberedPages, Maps}
+use Rattle.plain_pages.specs.Maps.{Chain, chain, entry_at, followed}
+use Rattle.plain_pages.specs.References.{in_map, words_at, with_entry}
+use Rattle.plain_pages.specs.WholePages.{AreWhole}
 use Rattle.plain_model.specs.Forks.{with_status}
 use Rattle.plain_model.specs.Interrupts.{listens, pended, is_panic}
-use Rattle.plain_model.specs.Deeds.{next_pc, in_ac}
+use Rattle.plain_units.specs.Deeds.{next_pc, in_ac}
 use Rattle.plain_model.specs.AccessWords.{access_in, access_word}
 use Rattle.plain_model.specs.Calls.{behind_call, with_error, fork_behind, parts_behind}
 use Rattle.plain_model.specs.MapCalls.{behind_last, behind_page, is_counted, map_changed, on_next_page, pages_left, next_source}
-use Rattle.plain_model.proofs.Chains.{entry_set, entry_other}
-use Rattle.plain_model.proofs.Kept.{entry_maps}
-use Rattle.plain_model.proofs.Reading.{follower_words}
+use Rattle.plain_pages.proofs.Chains.{entry_set, entry_other}
+use Rattle.plain_pages.proofs.Kept.{entry_maps}
+use Rattle.plain_pages.proofs.Reading.{follower_words}
 use Rattle.pmap_calls.specs.Laws.{HasEntry, LeavesErrorAlone, refusal}
 use Rattle.call_turns.specs.Turns.{IsRegs}
 

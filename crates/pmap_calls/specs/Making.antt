@@ -1,13 +1,13 @@
 -- A change of a call on maps, made on pages of which some may be in no frame.
 use Rattle.std.specs.Prelude.{◌≡◌, Result, Ok, Err}
-use Rattle.plain_model.specs.declared.map.Need.{Need}
-use Rattle.plain_model.specs.declared.fork.Answer.{Answer}
+use Rattle.page_contracts.specs.declared.answers.Need.{Need}
+use Rattle.call_turns.specs.declared.answer.Answer.{Answer}
 use Rattle.plain_model.specs.declared.call.End.{End}
 use Rattle.plain_model.specs.declared.call.MapChange.{MapChange}
 use Rattle.plain_model.specs.MapCalls.{map_changed}
-use Rattle.plain_model.specs.Outcome.{DrumWords}
-use Rattle.plain_model.specs.State.{NumberedPages}
-use Rattle.plain_model.specs.Pages.{Scene, PagesMeaning}
+use Rattle.page_contracts.specs.DrumWords.{DrumWords}
+use Rattle.plain_pages.specs.PlainPages.{NumberedPages}
+use Rattle.page_contracts.specs.Pages.{Scene, PagesMeaning}
 use Rattle.call_turns.specs.Answers.{IsTurn}
 use Rattle.call_turns.specs.Telling.{IsReason}
 

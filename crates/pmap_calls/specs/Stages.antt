@@ -1,9 +1,9 @@
 -- What is left of a call on maps, and the whole turn that this comes to.
 use Rattle.std.specs.Prelude.{◌<◌, ℕ}
-use Rattle.plain_model.specs.declared.names.TheConstants.{SPACE_PAGES}
+use Rattle.machine_names.specs.declared.names.TheConstants.{SPACE_PAGES}
 use Rattle.plain_model.specs.declared.call.MapChange.{MapChange}
 use Rattle.plain_model.specs.declared.call.MapChange.TheVariants.{Nothing, Unmap, Follow, Narrow as Narrowed}
-use Rattle.plain_model.specs.declared.fork.Regs.{Regs}
+use Rattle.plain_units.specs.declared.registers.Regs.{Regs}
 use Rattle.plain_model.specs.Calls.{Turn, with_ac}
 use Rattle.plain_model.specs.MapCalls.{narrows, source_of, tells_access}
 use Rattle.plain_model.specs.Trees.{PlainTree}

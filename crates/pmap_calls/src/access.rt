@@ -2,7 +2,8 @@
 ghost use Rattle.std.specs.Prelude.{◌≡◌, ◌≤◌, ◌+◌, ◌/◌, ◌%◌, ◌==◌, if◌then◌else◌};
 ghost use Rattle.plain_model.specs.AccessWords.{access_in as access_in_of, access_told as access_told_of, access_word, entry_word};
 
-use plain_model::{Access, MapEntry, PageName};
+use machine_names::{Access, PageName};
+use plain_pages::MapEntry;
 use word36::Word;
 
 /// Bit 2: the page may be read.

@@ -10,8 +10,9 @@ use crate::pmap::{behind_page, is_counted, one_page, pages_left};
 use crate::stage::Stage;
 use call_turns::{Ask, Turn, returning};
 use fork_tree::Tree;
+use machine_names::ForkName;
 use plain_model::call::{End, MapChange};
-use plain_model::{ForkName, Regs};
+use plain_units::Regs;
 
 /// RPACS: tells the access of a page in accumulator 2. BAD_PAGE, NO_HANDLE, NO_JFN.
 pub fn rpacs(regs: &Regs, who: ForkName, tree: &Tree) -> Turn<MapChange, Stage>

@@ -1,22 +1,22 @@
 // What the calls on maps come to, in the words of those who use them. A law does nothing when it runs.
 ghost use Rattle.std.specs.Prelude.{◌≡◌, ◌≢◌, ◌+◌, ◌<◌, ℕ, true, Some, if◌then◌else◌, ◌==◌};
-ghost use Rattle.plain_model.specs.declared.names.Slot.{Slot as ASlot};
-ghost use Rattle.plain_model.specs.declared.names.Access.{Access as AnAccess};
-ghost use Rattle.plain_model.specs.declared.fork.Regs.{Regs as ARegs};
+ghost use Rattle.machine_names.specs.declared.names.Slot.{Slot as ASlot};
+ghost use Rattle.machine_names.specs.declared.names.Access.{Access as AnAccess};
+ghost use Rattle.plain_units.specs.declared.registers.Regs.{Regs as ARegs};
 ghost use Rattle.plain_model.specs.declared.fork.Fork.{Fork as AFork};
-ghost use Rattle.plain_model.specs.State.{NumberedPages};
-ghost use Rattle.plain_model.specs.Maps.{Chain, chain, entry_at};
-ghost use Rattle.plain_model.specs.References.{in_map, words_at};
-ghost use Rattle.plain_model.specs.Whole.{AreWhole};
-ghost use Rattle.plain_model.specs.Deeds.{next_pc};
+ghost use Rattle.plain_pages.specs.PlainPages.{NumberedPages};
+ghost use Rattle.plain_pages.specs.Maps.{Chain, chain, entry_at};
+ghost use Rattle.plain_pages.specs.References.{in_map, words_at};
+ghost use Rattle.plain_pages.specs.WholePages.{AreWhole};
+ghost use Rattle.plain_units.specs.Deeds.{next_pc};
 ghost use Rattle.plain_model.specs.AccessWords.{access_in, access_word};
 ghost use Rattle.plain_model.specs.Calls.{fork_behind, parts_behind};
 ghost use Rattle.plain_model.specs.MapCalls.{behind_page, is_counted, map_changed, pages_left};
 ghost use Rattle.call_turns.specs.Turns.{IsRegs};
 ghost use Rattle.pmap_calls.specs.Laws.{HasEntry, LeavesErrorAlone, refusal};
 
-use plain_model::MapEntry;
 use plain_model::call::MapChange;
+use plain_pages::MapEntry;
 
 /// An access that is told is the access that was meant.
 pub fn access_comes_back()

@@ -1,6 +1,6 @@
 //! The monitor calls on maps: PMAP, RPACS, SPACS, RMAP.
 //! To the machine a turn of one is a function: its answer and the pages that it leaves are those of the plain call.
-//! Stands on `call_turns` for turns, on `fork_tree` for handles, on `plain_model` for the definitions and the pages.
+//! Stands on `call_turns` for turns, on `fork_tree` for handles, on `plain_model` for the definitions, and on `page_contracts` for the pages.
 #![tactic(auto)]
 
 mod access;

@@ -1,12 +1,12 @@
 // The pages that words name.
 ghost use Rattle.std.specs.Prelude.{◌≡◌, ◌<◌, nat_lt, IfOk};
 ghost use Rattle.word36.specs.Words.{right};
-ghost use Rattle.plain_model.specs.declared.names.TheConstants.{SPACE_PAGES};
+ghost use Rattle.machine_names.specs.declared.names.TheConstants.{SPACE_PAGES};
 ghost use Rattle.plain_model.specs.MapCalls.{on_page, place_of as place_of_word, slot_of as slot_of_word};
 
 use fork_tree::Tree;
+use machine_names::{ForkName, SPACE_PAGES, Slot};
 use plain_model::call::{BAD_PAGE, FORK_SELF, NO_HANDLE, NO_JFN};
-use plain_model::{ForkName, SPACE_PAGES, Slot};
 use word36::Word;
 
 /// Whether a word's right half is the number of a page, 0 to 777 octal.

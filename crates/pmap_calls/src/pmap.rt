@@ -8,8 +8,9 @@ use crate::access::access_in;
 use crate::naming::{names_page, place_named, place_of};
 use call_turns::{behind, with_ac};
 use fork_tree::Tree;
+use machine_names::ForkName;
 use plain_model::call::{BAD_PAGE, MapChange};
-use plain_model::{ForkName, Regs};
+use plain_units::Regs;
 use word36::Word;
 
 /// A source of all ones: the destination is taken out of its map.

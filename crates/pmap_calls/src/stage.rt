@@ -1,15 +1,17 @@
 // What is left of a call on maps once it is told what it asked for.
 ghost use Rattle.std.specs.Prelude.{◌≡◌, ◌<◌};
 ghost use Rattle.plain_model.specs.MapCalls.{narrows as narrows_of, source_of as source_of_entry, tells_access as tells_access_of};
-ghost use Rattle.plain_model.specs.declared.names.TheConstants.{SPACE_PAGES};
+ghost use Rattle.machine_names.specs.declared.names.TheConstants.{SPACE_PAGES};
 ghost use Rattle.call_turns.specs.Turns.{IsRegs, FitsEnd};
 ghost use Rattle.pmap_calls.specs.Stages.{IsMapChange};
 
 use crate::access::access_told;
 use call_turns::{Ask, Reply, Rest, Turn, returning, with_ac};
 use fork_tree::Tree;
+use machine_names::{Access, ForkName, PageName, Slot};
 use plain_model::call::{End, FORK_SELF, MapChange, NO_PAGE};
-use plain_model::{Access, ForkName, MapEntry, PageName, Regs, Slot};
+use plain_pages::MapEntry;
+use plain_units::Regs;
 use word36::Word;
 
 /// The rest of a call on maps.

@@ -8,9 +8,10 @@ use crate::calls::{pmap, rmap, rpacs, spacs};
 use crate::stage::Stage;
 use call_turns::Turn;
 use fork_tree::Tree;
+use machine_names::ForkName;
 use plain_model::call::{End, MapChange, PMAP, RMAP, RPACS, SPACS};
-use plain_model::channel::ILLEGAL_INSTRUCTION;
-use plain_model::{ForkName, Regs};
+use plain_units::Regs;
+use plain_units::channel::ILLEGAL_INSTRUCTION;
 
 /// The first step of a call by its number. A number that is none of them traps as an illegal instruction.
 pub fn first(number: u32, regs: &Regs, who: ForkName, tree: &Tree) -> Turn<MapChange, Stage>

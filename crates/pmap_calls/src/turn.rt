@@ -1,19 +1,22 @@
 // One turn of a call on maps.
 ghost use Rattle.std.specs.Prelude.{◌≡◌, ◌<◌, true, IsOk};
-ghost use Rattle.plain_model.specs.declared.names.TheConstants.{SPACE_PAGES};
+ghost use Rattle.machine_names.specs.declared.names.TheConstants.{SPACE_PAGES};
 ghost use Rattle.plain_model.specs.Calls.{end_of};
 ghost use Rattle.plain_model.specs.MapCalls.{map_call, map_changed};
-ghost use Rattle.plain_model.specs.Pages.{IsNewEntry, changed};
+ghost use Rattle.plain_pages.specs.NewEntries.{IsNewEntry, changed};
 ghost use Rattle.call_turns.specs.Answers.{FitsAnswer, IsDone};
 ghost use Rattle.call_turns.specs.Turns.{IsRegs, FitsEnd};
 ghost use Rattle.pmap_calls.specs.Making.{Makes, MakesNone, Turns};
 ghost use Rattle.pmap_calls.specs.Stages.{IsMapChange};
 
 use crate::table::first;
-use call_turns::{answer_of, driven};
+use call_turns::{Answer, answer_of, driven};
 use fork_tree::Tree;
+use machine_names::{ForkName, Slot};
+use page_contracts::{Need, Pages, Seen};
 use plain_model::call::{End, MapChange};
-use plain_model::{Answer, ForkName, Need, NewEntry, Pages, Regs, Seen, Slot};
+use plain_pages::NewEntry;
+use plain_units::Regs;
 
 /// A call on maps asks twice at most: for an entry, and for the page behind it.
 const MOST_ASKS: u32 = 2;

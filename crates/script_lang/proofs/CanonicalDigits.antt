@@ -7,8 +7,8 @@ use Rattle.std.proofs.lemmas.Fmt.{decimal_by_steps, length-decimal-le}
 use Rattle.std.proofs.lemmas.List.Elements.{All-cons, All-nil, All-append}
 use Rattle.word36.specs.Octal.{octal_padded, octal_value, AreOctalDigits}
 use Rattle.word36.proofs.OctalLemmas.{digits-octal_padded, length-octal_padded, octal_value-octal_padded}
-use Rattle.plain_model.specs.Script.{IsDigit, IsDecimal, IsOctal, decimal_value}
-use Rattle.plain_model.specs.Texts.{octal, trimmed}
+use Rattle.script_texts.specs.Script.{IsDigit, IsDecimal, IsOctal, decimal_value}
+use Rattle.script_texts.specs.Texts.{octal, trimmed}
 use Rattle.script_lang.proofs.Numbers.{decimal_value-append}
 
 -- digits, at least one, that write a number

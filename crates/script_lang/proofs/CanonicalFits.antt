@@ -4,7 +4,7 @@ use Rattle.std.specs.List.{list_all}
 use Rattle.std.proofs.lemmas.Bool.Decides.{nat_tests}
 use Rattle.std.proofs.lemmas.List.Elements.{All-weaker}
 use Rattle.std.proofs.lemmas.List.Sums.{AllPass-from_list_all}
-use Rattle.plain_model.specs.Limits.{IsFileName, is_name_code}
+use Rattle.machine_names.specs.Bounds.{IsFileName, is_name_code}
 
 low_at : (c : ℕ) → nat_lt c 128 ≡ true → c < 128
 low_at c h = grind (arith, nat_tests)

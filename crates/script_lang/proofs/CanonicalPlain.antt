@@ -6,12 +6,13 @@ use Rattle.std.proofs.lemmas.List.Elements.{All-append, All-cons, All-nil, All-w
 use Rattle.std.proofs.lemmas.List.Sums.{AllPass-from_list_all}
 use Rattle.word36.specs.Octal.{octal_padded}
 use Rattle.word36.proofs.OctalLemmas.{digits-octal_padded}
-use Rattle.plain_model.specs.declared.names.Tty.{Tty}
-use Rattle.plain_model.specs.declared.event.Event.{Event}
-use Rattle.plain_model.specs.declared.event.Event.TheVariants.{Login, TypeIn, File, Words, Poke, Start, Run, Tick, Evict, Drum, Auto, Examine, Forks, Page, Trace}
-use Rattle.plain_model.specs.Limits.{FitsEvent, IsTerminal}
-use Rattle.plain_model.specs.Script.{HasNoFeed}
-use Rattle.plain_model.specs.Texts.{escaped, field, line_of, octal, on_or_off}
+use Rattle.machine_names.specs.declared.names.Tty.{Tty}
+use Rattle.script_texts.specs.declared.event.Event.{Event}
+use Rattle.script_texts.specs.declared.event.Event.TheVariants.{Login, TypeIn, File, Words, Poke, Start, Run, Tick, Evict, Drum, Auto, Examine, Forks, Page, Trace}
+use Rattle.script_texts.specs.Limits.{FitsEvent}
+use Rattle.machine_names.specs.Bounds.{IsTerminal}
+use Rattle.script_texts.specs.Script.{HasNoFeed}
+use Rattle.script_texts.specs.Texts.{escaped, field, line_of, octal, on_or_off}
 use Rattle.script_lang.specs.Fields.{Lacks}
 use Rattle.script_lang.proofs.CanonicalDigits.{decimal_digits, digits-octal}
 use Rattle.script_lang.proofs.Fronts.{digits_lack, file_lacks, name_lacks, octal_lacks}

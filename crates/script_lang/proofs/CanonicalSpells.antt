@@ -5,12 +5,13 @@ use Rattle.std.proofs.lemmas.Bool.Decides.{nat_tests}
 use Rattle.std.proofs.lemmas.List.Elements.{All-head, All-tail, All-take}
 use Rattle.word36.specs.Octal.{octal_padded}
 use Rattle.word36.proofs.OctalLemmas.{digits-octal_padded, length-octal_padded, octal_value-octal_padded}
-use Rattle.plain_model.specs.declared.names.Tty.{Tty}
-use Rattle.plain_model.specs.declared.event.Event.{Event}
-use Rattle.plain_model.specs.declared.event.Event.TheVariants.{Login, TypeIn, File, Words, Poke, Start, Run, Tick, Evict, Drum, Auto, Examine, Forks, Page, Trace}
-use Rattle.plain_model.specs.Limits.{FitsEvent, IsTerminal, IsAddress}
-use Rattle.plain_model.specs.Script.{IsDecimal, IsOctal, IsTty, Spells, Types, TypesOne, WordFields}
-use Rattle.plain_model.specs.Texts.{escaped, field, line_of, octal}
+use Rattle.machine_names.specs.declared.names.Tty.{Tty}
+use Rattle.script_texts.specs.declared.event.Event.{Event}
+use Rattle.script_texts.specs.declared.event.Event.TheVariants.{Login, TypeIn, File, Words, Poke, Start, Run, Tick, Evict, Drum, Auto, Examine, Forks, Page, Trace}
+use Rattle.script_texts.specs.Limits.{FitsEvent}
+use Rattle.machine_names.specs.Bounds.{IsTerminal, IsAddress}
+use Rattle.script_texts.specs.Script.{IsDecimal, IsOctal, IsTty, Spells, Types, TypesOne, WordFields}
+use Rattle.script_texts.specs.Texts.{escaped, field, line_of, octal}
 use Rattle.script_lang.proofs.Spellings.{one_event, spelled_short}
 use Rattle.script_lang.proofs.CanonicalDigits.{is_decimal, is_octal}
 

@@ -7,8 +7,8 @@ use Rattle.std.proofs.lemmas.List.{take_at, drop_at}
 use Rattle.std.proofs.lemmas.List.Elements.{All-cons, All-nil}
 use Rattle.word36.proofs.OctalLemmas.{length-octal_padded}
 use Rattle.word36.specs.Octal.{octal_value}
-use Rattle.plain_model.specs.Script.{IsOctal, Types, TypesOne}
-use Rattle.plain_model.specs.Texts.{escaped}
+use Rattle.script_texts.specs.Script.{IsOctal, Types, TypesOne}
+use Rattle.script_texts.specs.Texts.{escaped}
 use Rattle.script_lang.specs.Typing.{EscapesFirst, EscapesNone, TypesFirst, TypesNone}
 use Rattle.script_lang.proofs.Sequences.{IsSequence}
 

@@ -1,10 +1,10 @@
 -- A line is told by its keyword, and each event has one of the keywords.
 use Rattle.std.proofs.Common.{◌≡◌, ◌≢◌, List, ℕ, ◌++◌, codes, sym, subst}
 use Rattle.std.specs.Prelude.{Option, Some, None, MatchOption}
-use Rattle.plain_model.specs.declared.event.Event.{Event}
-use Rattle.plain_model.specs.declared.event.Event.TheVariants.{Login, TypeIn, File, Words, Poke, Start, Run, Tick, Evict, Drum, Auto, Examine, Forks, Page, Trace}
-use Rattle.plain_model.specs.Script.{Spells}
-use Rattle.plain_model.specs.Texts.{field, on_or_off}
+use Rattle.script_texts.specs.declared.event.Event.{Event}
+use Rattle.script_texts.specs.declared.event.Event.TheVariants.{Login, TypeIn, File, Words, Poke, Start, Run, Tick, Evict, Drum, Auto, Examine, Forks, Page, Trace}
+use Rattle.script_texts.specs.Script.{Spells}
+use Rattle.script_texts.specs.Texts.{field, on_or_off}
 use Rattle.script_lang.specs.Grammar.{IsOfFile, IsOfMachine, IsOfTerminal, SpellsNone, SpellsNoneOf}
 
 -- what is read behind a keyword is what the line spells

@@ -5,10 +5,10 @@ use Rattle.std.proofs.lemmas.List.{append-nil, drop_all, drop_at, take-append-dr
 use Rattle.std.proofs.lemmas.List.Elements.{All-weaker, All-cons, All-nil, All-append}
 use Rattle.word36.proofs.OctalLemmas.{octal_value-below}
 use Rattle.word36.specs.Octal.{AreOctalDigits}
-use Rattle.plain_model.specs.declared.names.Tty.{Tty}
-use Rattle.plain_model.specs.Limits.{IsFileName, IsNameCode, is_name_code}
-use Rattle.plain_model.specs.Script.{IsDigit, IsDecimal, IsOctal, IsTty}
-use Rattle.plain_model.specs.Texts.{field, on_or_off}
+use Rattle.machine_names.specs.declared.names.Tty.{Tty}
+use Rattle.machine_names.specs.Bounds.{IsFileName, IsNameCode, is_name_code}
+use Rattle.script_texts.specs.Script.{IsDigit, IsDecimal, IsOctal, IsTty}
+use Rattle.script_texts.specs.Texts.{field, on_or_off}
 use Rattle.script_lang.specs.Fields.{Begins, BeginsNot, IsBehind, IsCut, IsHead, Lacks}
 use Rattle.script_lang.proofs.Numbers.{decimal_value-most}
 use Rattle.script_lang.proofs.Splits.{IsNot, one_split, no_split}

@@ -2,7 +2,7 @@
 use Rattle.std.proofs.Common.{◌≡◌, ℕ, suc, ◌+◌, ◌-◌, ◌*◌, [], ◌∷◌, ◌++◌, refl, ◌∙◌, ap, arith}
 use Rattle.std.specs.Prelude.{codes, map}
 use Rattle.std.specs.List.{range_with_len}
-use Rattle.plain_model.specs.declared.event.Event.TheVariants.{Login, Words, Run, Evict, Forks}
+use Rattle.script_texts.specs.declared.event.Event.TheVariants.{Login, Words, Run, Evict, Forks}
 use Rattle.script_lang.specs.Generator.{drawn, evictions, fills, generated_file, logins, next_number, number_after, one_word, pokes, program_words, programs, shown, terminal}
 use Rattle.script_lang.specs.Stages.{behind_code, closing, evicting, loading, rest_of}
 use Rattle.script_lang.specs.declared.stages.Loading.TheVariants.{Code}

@@ -7,7 +7,7 @@ use Rattle.std.proofs.lemmas.List.{drop-take, drop-drop, drop_more, take-append-
 use Rattle.std.proofs.lemmas.List.Elements.{All-from_get_or}
 use Rattle.std.proofs.Math.Seq.{take-append-add}
 use Rattle.memchr.specs.Find.{IsFirstByte, is_byte}
-use Rattle.plain_model.specs.Script.{HasNoFeed}
+use Rattle.script_texts.specs.Script.{HasNoFeed}
 use Rattle.script_lang.specs.Feeds.{IsFed}
 use borrow.Rule.Slice.PartMut.{put_mid}
 

@@ -3,9 +3,9 @@ use Rattle.std.proofs.Common.{◌≡◌, ◌≢◌, ◌⊎◌, inl, inr, ℕ, �
 use Rattle.std.specs.Prelude.{Option}
 use Rattle.std.proofs.lemmas.Grind.{flat_map-append}
 use Rattle.std.proofs.lemmas.List.{append-nil, take_at, drop_at}
-use Rattle.plain_model.specs.declared.event.Event.{Event}
-use Rattle.plain_model.specs.Limits.{IsBuilt}
-use Rattle.plain_model.specs.Script.{AreLines, Gives, GiveAll, HasNoFeed, IsBadLine, IsBadRest, IsBlank, IsLongRest, Means, Spells, joined, most_bytes}
+use Rattle.script_texts.specs.declared.event.Event.{Event}
+use Rattle.script_texts.specs.Limits.{IsBuilt}
+use Rattle.script_texts.specs.Script.{AreLines, Gives, GiveAll, HasNoFeed, IsBadLine, IsBadRest, IsBlank, IsLongRest, Means, Spells, joined, most_bytes}
 use Rattle.script_lang.specs.Feeds.{AllLeft, EndsWithin, GoesBeyond, IsFed, Reads, StopsWithin}
 use Rattle.script_lang.specs.Lines.{Breaks, FrontIsBad, FrontIsLong, GivesFront, GivesLine, IsDone, IsFinal, IsReadBy, IsUndecided, Passes, Skips, Takes, given, lines_given, pending, turns_given}
 use Rattle.script_lang.specs.declared.lines.Line.{Line}

@@ -1,9 +1,9 @@
 -- A line begins with its event's keyword, and keywords differ in their first two bytes.
 use Rattle.std.proofs.Common.{◌≡◌, ℕ, ◌+◌, ◌*◌, ◌≤◌, inl, inr, List, [], ◌++◌, get_or, codes, ap, arith}
-use Rattle.plain_model.specs.declared.event.Event.{Event}
-use Rattle.plain_model.specs.declared.event.Event.TheVariants.{Login, TypeIn, File, Words, Poke, Start, Run, Tick, Evict, Drum, Auto, Examine, Forks, Page, Trace}
-use Rattle.plain_model.specs.Script.{IsBlank, Spells}
-use Rattle.plain_model.specs.Texts.{field, on_or_off}
+use Rattle.script_texts.specs.declared.event.Event.{Event}
+use Rattle.script_texts.specs.declared.event.Event.TheVariants.{Login, TypeIn, File, Words, Poke, Start, Run, Tick, Evict, Drum, Auto, Examine, Forks, Page, Trace}
+use Rattle.script_texts.specs.Script.{IsBlank, Spells}
+use Rattle.script_texts.specs.Texts.{field, on_or_off}
 
 abbrev pub keyword : Event → List ℕ
 keyword (Login t user) = codes "LOGIN"

@@ -5,9 +5,10 @@ use Rattle.std.proofs.Math.Seq.{drop-cons}
 use Rattle.std.proofs.lemmas.Bool.{eqb-true, ltb-true}
 use Rattle.std.proofs.lemmas.List.Elements.{All-cons, All-weaker}
 use Rattle.std.proofs.lemmas.List.Sums.{AllPass-from_list_all}
-use Rattle.plain_model.specs.declared.event.Event.{Event}
-use Rattle.plain_model.specs.declared.event.Event.TheVariants.{Login, File, Words, Poke, Start as Starts, Run, Tick, Evict, Forks}
-use Rattle.plain_model.specs.Limits.{IsDirName, IsFileName, FitsRow, is_name_code}
+use Rattle.script_texts.specs.declared.event.Event.{Event}
+use Rattle.script_texts.specs.declared.event.Event.TheVariants.{Login, File, Words, Poke, Start as Starts, Run, Tick, Evict, Forks}
+use Rattle.machine_names.specs.Bounds.{IsDirName, IsFileName, is_name_code}
+use Rattle.script_texts.specs.Limits.{FitsRow}
 use Rattle.script_lang.specs.Names.{is_file_name}
 use Rattle.script_lang.specs.Generator.{big_events, drawn, first_number, generated_file, next_number, one_word, pokes, program_words, terminal}
 use Rattle.script_lang.specs.Stages.{Moves, behind_code, evicting, filing, loading, rest_of}

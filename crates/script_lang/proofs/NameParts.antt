@@ -1,6 +1,6 @@
 -- The full name of a file is cut at its first > and then at its first point.
 use Rattle.std.proofs.Common.{◌≡◌, ℕ, ◌≤◌, List, ◌∷◌, ◌++◌, length, refl, sym, ◌∙◌, ap, subst, arith, All}
-use Rattle.plain_model.specs.Limits.{IsDirName, IsFileName, IsNameCode}
+use Rattle.machine_names.specs.Bounds.{IsDirName, IsFileName, IsNameCode}
 use Rattle.script_lang.specs.Fields.{AreParts, IsCut, Lacks}
 use Rattle.script_lang.proofs.Fronts.{name_lacks}
 use Rattle.script_lang.proofs.Splits.{one_split, no_split}

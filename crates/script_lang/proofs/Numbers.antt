@@ -4,7 +4,7 @@ use Rattle.std.proofs.Math.Nat.{pow-suc, pow-le-pow_right, mul-le-mul_right}
 use Rattle.std.proofs.lemmas.Nat.{pow-add}
 use Rattle.std.proofs.lemmas.List.{take_more, length-take-le}
 use Rattle.std.proofs.lemmas.List.Elements.{All-head, All-tail}
-use Rattle.plain_model.specs.Script.{IsDigit, decimal_value}
+use Rattle.script_texts.specs.Script.{IsDigit, decimal_value}
 
 tenfold : (k : ℕ) → 10 ^ (k + 1) ≡ 10 ^ k * 10
 tenfold k = pow-add 10 k 1

@@ -4,7 +4,7 @@ use Rattle.std.specs.Prelude.{Option}
 use Rattle.std.proofs.lemmas.List.{append-nil, take-append-le, take-append-drop, length-take-le}
 use Rattle.std.proofs.lemmas.List.Elements.{All-head, All-tail, All-append, All-take}
 use Rattle.outside.specs.Told.{Loses}
-use Rattle.plain_model.specs.Script.{HasNoFeed}
+use Rattle.script_texts.specs.Script.{HasNoFeed}
 use Rattle.script_lang.proofs.Splits.{IsNot}
 use Rattle.script_lang.specs.Feeds.{AllLeft, EndsWithin, Fills, GoesBeyond, IsFed, IsLeft, Reads, Spends, StopsWithin}
 use Rattle.script_lang.specs.declared.buffer.TheConstants.{ROOM}

@@ -1,13 +1,14 @@
 -- What stands behind each keyword: the fields of its event, in their order, and that they have one event.
 use Rattle.std.proofs.Common.{◌≡◌, ℕ, ◌+◌, ◌≤◌, Bool, List, ◌++◌, length, codes, refl, sym, ◌∙◌, ap, subst, arith, take}
 use Rattle.std.proofs.lemmas.List.{length-take-le}
-use Rattle.plain_model.specs.declared.names.Tty.{Tty}
-use Rattle.plain_model.specs.declared.event.Event.{Event}
-use Rattle.plain_model.specs.declared.event.Event.TheVariants.{Login, TypeIn, File, Words, Poke, Start, Run, Tick, Evict, Drum, Auto, Examine, Forks, Page, Trace}
-use Rattle.plain_model.specs.declared.event.WordRow.{WordRow}
-use Rattle.plain_model.specs.Limits.{FitsRow, IsDirName, IsFileName}
-use Rattle.plain_model.specs.Script.{IsDecimal, IsOctal, IsTty, Spells, Types, WordFields}
-use Rattle.plain_model.specs.Texts.{field, on_or_off}
+use Rattle.machine_names.specs.declared.names.Tty.{Tty}
+use Rattle.script_texts.specs.declared.event.Event.{Event}
+use Rattle.script_texts.specs.declared.event.Event.TheVariants.{Login, TypeIn, File, Words, Poke, Start, Run, Tick, Evict, Drum, Auto, Examine, Forks, Page, Trace}
+use Rattle.script_texts.specs.declared.event.WordRow.{WordRow}
+use Rattle.script_texts.specs.Limits.{FitsRow}
+use Rattle.machine_names.specs.Bounds.{IsDirName, IsFileName}
+use Rattle.script_texts.specs.Script.{IsDecimal, IsOctal, IsTty, Spells, Types, WordFields}
+use Rattle.script_texts.specs.Texts.{field, on_or_off}
 use Rattle.script_lang.specs.Fields.{Begins, IsHead}
 use Rattle.script_lang.proofs.Fronts.{IsNamed, begins_once, decimal_field, head_once, named_field, octal_field, switch_once, tty_field}
 use Rattle.script_lang.proofs.KeywordBytes.{begins_keyword, mark}

@@ -2,10 +2,10 @@
 use Rattle.std.proofs.Common.{◌≡◌, inl, inr, ℕ, ◌+◌, ◌≤◌, ◌<◌, ◌*◌, List, [], ◌∷◌, ◌++◌, length, get_or, set, take, drop, refl, sym, ◌∙◌, ap, subst, arith, length-append, All}
 use Rattle.std.proofs.lemmas.List.{drop-set-lt, drop_more, length-take-le, take-append-drop}
 use Rattle.std.proofs.lemmas.List.Elements.{All-head, All-tail}
-use Rattle.plain_model.specs.declared.event.WordRow.{WordRow}
-use Rattle.plain_model.specs.Limits.{FitsRow}
-use Rattle.plain_model.specs.Script.{IsOctal, WordFields}
-use Rattle.plain_model.specs.Texts.{field}
+use Rattle.script_texts.specs.declared.event.WordRow.{WordRow}
+use Rattle.script_texts.specs.Limits.{FitsRow}
+use Rattle.script_texts.specs.Script.{IsOctal, WordFields}
+use Rattle.script_texts.specs.Texts.{field}
 use Rattle.script_lang.specs.Fields.{IsBehind, IsHead}
 use Rattle.script_lang.specs.Rows.{StartsNoWord, StartsWord}
 use Rattle.script_lang.proofs.Fronts.{octal_field, head_once}

@@ -5,12 +5,12 @@ use Rattle.std.specs.List.{flat_map}
 use Rattle.std.proofs.lemmas.Fmt.{length-decimal-le}
 use Rattle.std.proofs.lemmas.List.{length-take-le}
 use Rattle.std.proofs.lemmas.List.Elements.{All-append, All-cons, All-nil}
-use Rattle.plain_model.specs.declared.names.Tty.{Tty}
-use Rattle.plain_model.specs.declared.event.Event.{Event}
-use Rattle.plain_model.specs.declared.event.Event.TheVariants.{Login, TypeIn, File, Words, Poke, Start, Run, Tick, Evict, Drum, Auto, Examine, Forks, Page, Trace}
-use Rattle.plain_model.specs.Limits.{FitsEvent}
-use Rattle.plain_model.specs.Script.{Gives, GiveAll, IsScript, IsTty, Spells}
-use Rattle.plain_model.specs.Texts.{escaped, field, line_of, on_or_off}
+use Rattle.machine_names.specs.declared.names.Tty.{Tty}
+use Rattle.script_texts.specs.declared.event.Event.{Event}
+use Rattle.script_texts.specs.declared.event.Event.TheVariants.{Login, TypeIn, File, Words, Poke, Start, Run, Tick, Evict, Drum, Auto, Examine, Forks, Page, Trace}
+use Rattle.script_texts.specs.Limits.{FitsEvent}
+use Rattle.script_texts.specs.Script.{Gives, GiveAll, IsScript, IsTty, Spells}
+use Rattle.script_texts.specs.Texts.{escaped, field, line_of, on_or_off}
 use Rattle.script_lang.proofs.Characters.{types_longer, types_small}
 use Rattle.script_lang.proofs.Fronts.{decimal_below, octal_below}
 use Rattle.script_lang.proofs.Numbers.{decimal_value-below}

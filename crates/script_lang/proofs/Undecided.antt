@@ -5,8 +5,8 @@ use Rattle.std.proofs.Math.Dec.{leb}
 use Rattle.std.proofs.lemmas.List.{append-nil, take-append-le, take_at}
 use Rattle.std.proofs.lemmas.Bool.{cases_lt, le-leb, leb-true}
 use Rattle.std.proofs.lemmas.List.Elements.{All-take}
-use Rattle.plain_model.specs.declared.event.Event.{Event}
-use Rattle.plain_model.specs.Script.{Gives, GiveAll, HasNoFeed, IsBlank, joined, most_bytes}
+use Rattle.script_texts.specs.declared.event.Event.{Event}
+use Rattle.script_texts.specs.Script.{Gives, GiveAll, HasNoFeed, IsBlank, joined, most_bytes}
 use Rattle.script_lang.specs.Feeds.{IsFed, Reads}
 use Rattle.script_lang.specs.Lines.{Advances, GivesFront, IsPassedOver, IsUndecided, Skips, given, lines_given, pending}
 use Rattle.script_lang.specs.declared.lines.Lines.{Lines}

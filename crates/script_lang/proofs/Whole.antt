@@ -2,8 +2,8 @@
 use Rattle.std.proofs.Common.{◌≡◌, ℕ, ◌+◌, ◌≤◌, List, [], ◌++◌, length, sym, ◌∙◌, ap, subst, arith, append_assoc, length-append}
 use Rattle.std.specs.Prelude.{Option, Some}
 use Rattle.std.proofs.lemmas.List.{append-nil}
-use Rattle.plain_model.specs.declared.event.Event.{Event}
-use Rattle.plain_model.specs.Script.{AreLines, IsBadRest, IsLongRest, IsReadTo, IsScript, IsTooLong, StopsAt, most_turns, turns_in}
+use Rattle.script_texts.specs.declared.event.Event.{Event}
+use Rattle.script_texts.specs.Script.{AreLines, IsBadRest, IsLongRest, IsReadTo, IsScript, IsTooLong, StopsAt, most_turns, turns_in}
 use Rattle.script_lang.specs.Feeds.{AllLeft, IsLeft, Reads}
 use Rattle.script_lang.specs.Lines.{Breaks, IsDone, IsUndecided, Passes, Takes, given, lines_given, pending, turns_given}
 use Rattle.script_lang.specs.declared.lines.Lines.{Lines}

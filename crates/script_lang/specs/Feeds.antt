@@ -1,7 +1,7 @@
 -- Where lines end, in bytes that are there and in those that a source may tell.
 use Rattle.std.specs.Prelude.{◌≡◌, ◌⊎◌, ℕ, ◌<◌, ◌≤◌, List, [], ◌∷◌, ◌++◌, length, take, Option, Some}
 use Rattle.outside.specs.Told.{Loses}
-use Rattle.plain_model.specs.Script.{HasNoFeed}
+use Rattle.script_texts.specs.Script.{HasNoFeed}
 use Rattle.script_lang.specs.declared.buffer.Passed.{Passed}
 use Rattle.script_lang.specs.declared.buffer.Passed.TheVariants.{Feed, Last, Over, Fault}
 use Rattle.script_lang.specs.declared.buffer.TheConstants.{ROOM}

@@ -1,7 +1,7 @@
 -- How the fields of a line are told apart.
 use Rattle.std.specs.Prelude.{◌≡◌, ◌≢◌, ◌⊎◌, ℕ, List, [], ◌∷◌, ◌++◌, ◌≤◌, length, All}
-use Rattle.plain_model.specs.Limits.{IsDirName, IsNameCode}
-use Rattle.plain_model.specs.Texts.{field}
+use Rattle.machine_names.specs.Bounds.{IsDirName, IsNameCode}
+use Rattle.script_texts.specs.Texts.{field}
 
 -- this byte is not among these
 abbrev pub Lacks : ℕ → List ℕ → Type 0

@@ -1,11 +1,11 @@
 -- The generated script: eight users each run one program with numbers drawn from a seed, while frames are evicted.
 use Rattle.std.specs.Prelude.{ℕ, zero, suc, ◌+◌, ◌*◌, ◌/◌, ◌%◌, ◌^◌, List, [], ◌∷◌, ◌++◌, map, replicate, codes, Bool, true, false, ◌==◌, if◌then◌else◌, Option, None, Some}
 use Rattle.std.specs.List.{range_with_len}
-use Rattle.plain_model.specs.declared.names.Tty.{Tty}
-use Rattle.plain_model.specs.declared.event.Event.{Event}
-use Rattle.plain_model.specs.declared.event.Event.TheVariants.{Login, File, Words, Poke, Start, Run, Tick, Evict, Forks}
-use Rattle.plain_model.specs.declared.event.WordRow.{WordRow}
-use Rattle.plain_model.specs.Run.{Shape, silent, turns, single, shape_of}
+use Rattle.machine_names.specs.declared.names.Tty.{Tty}
+use Rattle.script_texts.specs.declared.event.Event.{Event}
+use Rattle.script_texts.specs.declared.event.Event.TheVariants.{Login, File, Words, Poke, Start, Run, Tick, Evict, Forks}
+use Rattle.script_texts.specs.declared.event.WordRow.{WordRow}
+use Rattle.script_texts.specs.Follows.{Shape, silent, turns, single, shape_of}
 
 -- each number of the sequence is got from the one before
 abbrev pub next_number : ℕ → ℕ

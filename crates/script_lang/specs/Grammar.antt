@@ -1,8 +1,8 @@
 -- Lines that spell no event, and the kinds of events that keywords tell apart.
 use Rattle.std.specs.Prelude.{ℕ, List}
-use Rattle.plain_model.specs.declared.event.Event.{Event}
-use Rattle.plain_model.specs.declared.event.Event.TheVariants.{Login, TypeIn, File, Words, Poke, Start, Run, Tick, Evict, Drum, Auto, Examine, Forks, Page, Trace}
-use Rattle.plain_model.specs.Script.{Spells}
+use Rattle.script_texts.specs.declared.event.Event.{Event}
+use Rattle.script_texts.specs.declared.event.Event.TheVariants.{Login, TypeIn, File, Words, Poke, Start, Run, Tick, Evict, Drum, Auto, Examine, Forks, Page, Trace}
+use Rattle.script_texts.specs.Script.{Spells}
 
 -- a line spells no event
 abbrev pub SpellsNone : List ℕ → Type 0

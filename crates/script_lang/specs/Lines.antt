@@ -1,7 +1,7 @@
 -- A script that is read in pieces: what was taken of it and not yet given, and how far it is given.
 use Rattle.std.specs.Prelude.{◌≡◌, ℕ, ◌+◌, ◌<◌, ◌≤◌, List, [], ◌∷◌, ◌++◌, length, Option}
-use Rattle.plain_model.specs.declared.event.Event.{Event}
-use Rattle.plain_model.specs.Script.{AreLines, Gives, HasNoFeed, IsBadRest, IsBlank, IsLongRest, most_bytes, most_turns}
+use Rattle.script_texts.specs.declared.event.Event.{Event}
+use Rattle.script_texts.specs.Script.{AreLines, Gives, HasNoFeed, IsBadRest, IsBlank, IsLongRest, most_bytes, most_turns}
 use Rattle.script_lang.specs.Feeds.{IsLeft}
 use Rattle.script_lang.specs.declared.lines.Lines.{Lines}
 use Rattle.script_lang.specs.declared.lines.Next.{Next}

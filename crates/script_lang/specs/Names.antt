@@ -2,7 +2,7 @@
 use Rattle.std.specs.Prelude.{ℕ, List, [], ◌∷◌, ◌++◌, length, map, Bool, false, ◌&&◌, nat_lt, nat_le, ◌==◌, if◌then◌else◌, Option, None, Some}
 use Rattle.std.specs.List.{list_all, list_any, position_or_len, before_first, after_first}
 use Rattle.std.specs.Char.{to_ascii_uppercase}
-use Rattle.plain_model.specs.Limits.{is_name_code}
+use Rattle.machine_names.specs.Bounds.{is_name_code}
 
 -- a text with its small letters raised
 abbrev pub raised : List ℕ → List ℕ

@@ -1,8 +1,8 @@
 -- Rows of words, each in a field behind its space.
 use Rattle.std.specs.Prelude.{◌≡◌, ℕ, ◌≤◌, ◌<◌, ◌^◌, List, ◌++◌, length, take, drop, All}
-use Rattle.plain_model.specs.declared.event.WordRow.{WordRow}
-use Rattle.plain_model.specs.Script.{IsOctal, WordFields}
-use Rattle.plain_model.specs.Texts.{field}
+use Rattle.script_texts.specs.declared.event.WordRow.{WordRow}
+use Rattle.script_texts.specs.Script.{IsOctal, WordFields}
+use Rattle.script_texts.specs.Texts.{field}
 use Rattle.script_lang.specs.Fields.{IsBehind}
 
 -- a text begins with a field of this word, and goes on with the rest

@@ -1,8 +1,8 @@
 -- What is left of a generated script.
 use Rattle.std.specs.Prelude.{◌≡◌, ℕ, ◌+◌, ◌-◌, ◌*◌, ◌<◌, List, [], ◌∷◌, ◌++◌, drop}
-use Rattle.plain_model.specs.declared.event.Event.{Event}
-use Rattle.plain_model.specs.declared.event.Event.TheVariants.{File, Poke, Start as Starts, Run as Runs, Tick as Ticks}
-use Rattle.plain_model.specs.Limits.{FitsEvent}
+use Rattle.script_texts.specs.declared.event.Event.{Event}
+use Rattle.script_texts.specs.declared.event.Event.TheVariants.{File, Poke, Start as Starts, Run as Runs, Tick as Ticks}
+use Rattle.script_texts.specs.Limits.{FitsEvent}
 use Rattle.script_lang.specs.declared.stages.Loading.{Loading}
 use Rattle.script_lang.specs.declared.stages.Loading.TheVariants.{Code, Address, Turns, Stride, Start}
 use Rattle.script_lang.specs.declared.stages.Stage.{Stage}

@@ -1,6 +1,6 @@
 -- The first character that a text types.
 use Rattle.std.specs.Prelude.{◌≡◌, ℕ, ◌<◌, List, ◌++◌, length}
-use Rattle.plain_model.specs.Script.{IsOctal, TypesOne}
+use Rattle.script_texts.specs.Script.{IsOctal, TypesOne}
 
 -- a text types this character first, and goes on with the rest
 pub record TypesFirst (text : List ℕ) (c : ℕ) (rest : List ℕ) : Type 0 where

@@ -1,13 +1,14 @@
 // The generated script, event by event.
 ghost use Rattle.std.specs.Prelude.{◌≡◌, ◌+◌, ◌<◌, ℕ, [], drop, slice_get, IfSome, MatchOption};
-ghost use Rattle.plain_model.specs.Limits.{FitsEvent};
+ghost use Rattle.script_texts.specs.Limits.{FitsEvent};
 ghost use Rattle.script_lang.specs.Generator.{big_events, generated_file, one_word, terminal};
 ghost use Rattle.script_lang.specs.Stages.{IsStage, Moves, rest_of};
 ghost use Rattle.script_lang.specs.declared.stages.Stage.TheVariants.{Login as AtLogin, MakeFile as AtFile, Fill as AtFill, Load as AtLoad, Evict as AtEvict, Run as AtRun, Show as AtShow};
 
 use crate::draws::Draws;
 use crate::stages::{Loading, Stage};
-use plain_model::{DirName, Event, FileName, Tty, WordRow};
+use machine_names::{DirName, FileName, Tty};
+use script_texts::{Event, WordRow};
 use std::marker::Model;
 use word36::Word;
 
@@ -49,7 +50,7 @@ pub struct Big {
 
 impl Model for Big {
     ghost use Rattle.std.specs.Prelude.{List};
-    ghost use Rattle.plain_model.specs.declared.event.Event.{Event};
+    ghost use Rattle.script_texts.specs.declared.event.Event.{Event};
     ghost use Rattle.script_lang.specs.Stages.{IsStage, rest_of};
 
     ghost Value = { List Event };

@@ -1,6 +1,7 @@
 // The generated script of seed 7, event by event, and the first numbers of others.
 use crate::{Big, big_from, big_script};
-use plain_model::{DirName, Event, FileName, Tty, WordRow};
+use machine_names::{DirName, FileName, Tty};
+use script_texts::{Event, WordRow};
 use std::test::Fail;
 use word36::Word;
 

@@ -2,7 +2,7 @@
 ghost use Rattle.std.specs.Prelude.{◌≡◌, ◌<◌, ◌≤◌, ◌⊎◌, ◌≢◌, ℕ, [], length, drop, IfOk, MatchOption, OnErr};
 ghost use Rattle.outside.specs.Faults.{Rose};
 ghost use Rattle.outside.specs.Told.{EndsOnly, Stays};
-ghost use Rattle.plain_model.specs.Script.{HasNoFeed, most_bytes};
+ghost use Rattle.script_texts.specs.Script.{HasNoFeed, most_bytes};
 ghost use Rattle.script_lang.specs.Feeds.{EndsSo, Fills, IsFed, Reads, Spends, StopsWithin};
 
 use crate::reached::MOST_LINE;

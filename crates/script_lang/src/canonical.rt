@@ -1,18 +1,19 @@
 // The canonical lines of events.
 ghost use Rattle.std.specs.Prelude.{◌≡◌, ◌≤◌, ◌<◌, ◌+◌, ◌*◌, ◌++◌, length, take, drop, decimal};
 ghost use Rattle.std.specs.List.{flat_map};
-ghost use Rattle.plain_model.specs.Limits.{FitsEvent};
-ghost use Rattle.plain_model.specs.Script.{IsShort, Spells};
-ghost use Rattle.plain_model.specs.Texts.{line_of, on_or_off, escaped, octal, field};
-ghost use Rattle.plain_model.specs.declared.event.Event.{Event as AnEvent};
-ghost use Rattle.plain_model.specs.declared.event.Event.TheVariants.{Login as ALogin, TypeIn as ATypeIn, Words as AWords, Poke as APoke, Start as AStart, Examine as AnExamine, Page as APage};
+ghost use Rattle.script_texts.specs.Limits.{FitsEvent};
+ghost use Rattle.script_texts.specs.Script.{IsShort, Spells};
+ghost use Rattle.script_texts.specs.Texts.{line_of, on_or_off, escaped, octal, field};
+ghost use Rattle.script_texts.specs.declared.event.Event.{Event as AnEvent};
+ghost use Rattle.script_texts.specs.declared.event.Event.TheVariants.{Login as ALogin, TypeIn as ATypeIn, Words as AWords, Poke as APoke, Start as AStart, Examine as AnExamine, Page as APage};
 ghost use Rattle.script_lang.specs.Canonical.{Adds};
 
 use crate::digits::{DECIMAL_DIGITS, decimal, escaped, octal};
 use crate::names::{MOST_FILE, MOST_USER};
 use crate::reached::MOST_LINE;
 use crate::rows::MOST_WORDS;
-use plain_model::{DirName, Event, FileName, Tty, TypedText, WordRow};
+use machine_names::{DirName, FileName, Tty, TypedText};
+use script_texts::{Event, WordRow};
 use word36::{WORD_DIGITS, Word};
 
 /// Room for the longest line, without its line feed.

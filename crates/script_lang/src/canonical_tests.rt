@@ -1,8 +1,9 @@
 // The canonical line of each event, byte for byte.
-ghost use Rattle.plain_model.specs.Limits.{FitsEvent};
+ghost use Rattle.script_texts.specs.Limits.{FitsEvent};
 
 use crate::write_line;
-use plain_model::{DirName, Event, FileName, Tty, TypedText, WordRow};
+use machine_names::{DirName, FileName, Tty, TypedText};
+use script_texts::{Event, WordRow};
 use word36::Word;
 
 // Whether this is the canonical line of an event.

@@ -1,10 +1,10 @@
 // Numbers as digits.
 ghost use Rattle.std.specs.Prelude.{◌≡◌, ◌≤◌, decimal};
 ghost use Rattle.word36.specs.Octal.{octal_padded};
-ghost use Rattle.plain_model.specs.Texts.{octal, trimmed, escaped};
+ghost use Rattle.script_texts.specs.Texts.{octal, trimmed, escaped};
 
 use itoa::Buffer;
-use plain_model::Text;
+use machine_names::Text;
 use word36::{WORD_DIGITS, fill_octal};
 
 /// How many decimal digits a number has at most.

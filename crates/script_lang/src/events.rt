@@ -1,6 +1,6 @@
 // The events of lines, read from what stands behind their keywords.
 ghost use Rattle.std.specs.Prelude.{◌++◌, MatchOption, codes};
-ghost use Rattle.plain_model.specs.Script.{Spells};
+ghost use Rattle.script_texts.specs.Script.{Spells};
 ghost use Rattle.script_lang.specs.Grammar.{SpellsNone};
 
 use crate::fields::{
@@ -11,7 +11,7 @@ use crate::names::{dir_name, file_name};
 use crate::rows::row;
 use crate::typed::typed;
 use outside::PAGE_WORDS;
-use plain_model::Event;
+use script_texts::Event;
 
 // How many decimal digits a number of units, of a frame or of transfers has at most.
 const COUNT_DIGITS: usize = 7;

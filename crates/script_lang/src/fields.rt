@@ -1,12 +1,12 @@
 // The fields of a line, told apart by spaces.
 ghost use Rattle.std.specs.Prelude.{◌≡◌, ◌≤◌, ℕ, Bool, MatchOption};
-ghost use Rattle.plain_model.specs.Script.{IsDecimal, IsOctal, IsTty};
-ghost use Rattle.plain_model.specs.Texts.{on_or_off};
-ghost use Rattle.plain_model.specs.declared.names.Tty.{Tty as ATty};
+ghost use Rattle.script_texts.specs.Script.{IsDecimal, IsOctal, IsTty};
+ghost use Rattle.script_texts.specs.Texts.{on_or_off};
+ghost use Rattle.machine_names.specs.declared.names.Tty.{Tty as ATty};
 ghost use Rattle.script_lang.specs.Fields.{Begins, BeginsNot, IsCut, IsHead, Lacks};
 
+use machine_names::{TERMINALS, Tty};
 use memchr::memchr;
-use plain_model::{TERMINALS, Tty};
 use word36::{WORD_DIGITS, Word, read_octal};
 
 // How many octal digits an address has at most.

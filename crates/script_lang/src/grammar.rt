@@ -1,13 +1,13 @@
 // What a line of a script is.
 ghost use Rattle.std.specs.Prelude.{◌≡◌, ◌≤◌, ◌↔◌, ℕ, List, length, All, IsTrue};
-ghost use Rattle.plain_model.specs.Limits.{FitsEvent};
-ghost use Rattle.plain_model.specs.Script.{IsBlank, IsScript, Spells};
-ghost use Rattle.plain_model.specs.declared.event.Event.{Event as AnEvent};
+ghost use Rattle.script_texts.specs.Limits.{FitsEvent};
+ghost use Rattle.script_texts.specs.Script.{IsBlank, IsScript, Spells};
+ghost use Rattle.script_texts.specs.declared.event.Event.{Event as AnEvent};
 ghost use Rattle.script_lang.specs.Grammar.{SpellsNone};
 
 use crate::keywords::event;
 use crate::reached::MOST_LINE;
-use plain_model::Event;
+use script_texts::Event;
 
 /// What a line without its line feed is.
 #[derive(Clone, Copy, Debug, PartialEq, Eq)]

@@ -1,13 +1,13 @@
 // The events of lines, told apart by their keywords.
 ghost use Rattle.std.specs.Prelude.{MatchOption};
-ghost use Rattle.plain_model.specs.Script.{Spells};
+ghost use Rattle.script_texts.specs.Script.{Spells};
 ghost use Rattle.script_lang.specs.Grammar.{IsOfFile, IsOfMachine, IsOfTerminal, SpellsNone, SpellsNoneOf};
 
 use crate::events::{
     auto, drum, evict, examine, file, forks, login, poke, run, show_page, start, trace, type_in,
     words,
 };
-use plain_model::Event;
+use script_texts::Event;
 
 /// The event that a line spells. None exactly where it spells none.
 pub(crate) fn event(line: &[u8]) -> Option<Event>

@@ -1,6 +1,6 @@
 //! The console script: lines as events, events as canonical lines, the names of files, and the generated script.
 //! To the layers above an answer is about the whole bytes of a script, in whatever pieces they came.
-//! Stands on `plain_model` for events, on `outside` for sources, and on `word36` for words.
+//! Stands on `script_texts` for events, on `outside` for sources, and on `word36` for words.
 #![tactic(auto)]
 
 mod big;

@@ -1,16 +1,16 @@
 // A script's lines, from a source that gives its bytes in pieces.
 ghost use Rattle.std.specs.Prelude.{◌≡◌, ◌≢◌, ◌⊎◌, ◌↔◌, ◌+◌, ◌-◌, ◌^◌, ◌<◌, ◌≤◌, ℕ, [], ◌∷◌, drop, length, take, IsTrue};
 ghost use Rattle.outside.specs.Faults.{Rose};
-ghost use Rattle.plain_model.specs.Limits.{FitsEvent, IsBuilt};
-ghost use Rattle.plain_model.specs.Script.{HasNoFeed, IsBadRest, IsLongRest, most_bytes, most_turns, turns_of as turns_asked};
-ghost use Rattle.plain_model.specs.declared.event.Event.{Event as AnEvent};
+ghost use Rattle.script_texts.specs.Limits.{FitsEvent, IsBuilt};
+ghost use Rattle.script_texts.specs.Script.{HasNoFeed, IsBadRest, IsLongRest, most_bytes, most_turns, turns_of as turns_asked};
+ghost use Rattle.script_texts.specs.declared.event.Event.{Event as AnEvent};
 ghost use Rattle.script_lang.specs.Feeds.{AllLeft, IsFed, Reads, Spends};
 
 use crate::buffer::{Buffer, Found, Passed, line_end};
 use crate::grammar::{Read, is_blank, read_line};
 use crate::reached::{MOST_BYTES, MOST_LINE, MOST_TURNS, Reached};
 use outside::Source;
-use plain_model::Event;
+use script_texts::Event;
 
 /// What a script has next.
 #[derive(Clone, Copy, Debug, PartialEq, Eq)]

@@ -1,11 +1,11 @@
 // The files that texts name.
 ghost use Rattle.std.specs.Prelude.{◌≡◌, ◌+◌, ◌<◌, ◌++◌, ◌↔◌, ℕ, List, length, MatchOption, Some, true};
-ghost use Rattle.plain_model.specs.Limits.{IsFileName};
+ghost use Rattle.machine_names.specs.Bounds.{IsFileName};
 ghost use Rattle.script_lang.specs.Names.{directory_before, extension_behind, file_named, full_name as full_name_of, has_directory as opens, has_point as is_pointed, is_file_name, raised};
 
 use crate::names::{MOST_FILE, file_name};
 use arrayvec::ArrayVec;
-use plain_model::{DirName, FileName};
+use machine_names::{DirName, FileName};
 
 // A full name, as far as it is put together.
 type NameRoom = ArrayVec<u8, MOST_FILE>;

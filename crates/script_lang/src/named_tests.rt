@@ -1,6 +1,6 @@
 // The files that texts name.
 use crate::{full_names, read_name};
-use plain_model::{DirName, FileName};
+use machine_names::{DirName, FileName};
 use std::test::Fail;
 
 // Whether a text names this file for the user SMITH; a name without a point has no extension.

@@ -1,10 +1,10 @@
 // The names of users and of files.
 ghost use Rattle.std.specs.Prelude.{◌≡◌, ◌↔◌, IsTrue, All, MatchOption};
-ghost use Rattle.plain_model.specs.Limits.{IsDirName, IsFileName, IsNameCode, is_name_code as of_names};
+ghost use Rattle.machine_names.specs.Bounds.{IsDirName, IsFileName, IsNameCode, is_name_code as of_names};
 ghost use Rattle.script_lang.specs.Fields.{AreParts};
 
 use crate::fields::cut;
-use plain_model::{DirName, FileName};
+use machine_names::{DirName, FileName};
 
 /// How many characters the name of a user has at most.
 pub(crate) const MOST_USER: usize = 12;

@@ -1,6 +1,6 @@
 // How far a script was given.
 ghost use Rattle.std.specs.Prelude.{◌≡◌, ◌≤◌, ◌<◌, ◌+◌};
-ghost use Rattle.plain_model.specs.Script.{most_bytes, most_turns};
+ghost use Rattle.script_texts.specs.Script.{most_bytes, most_turns};
 
 /// How many bytes a script may have.
 pub const MOST_BYTES: u64 = 16_777_216;

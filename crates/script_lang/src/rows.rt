@@ -1,10 +1,10 @@
 // Rows of words.
 ghost use Rattle.std.specs.Prelude.{◌<◌, ℕ, List, length, MatchOption};
-ghost use Rattle.plain_model.specs.Script.{WordFields};
+ghost use Rattle.script_texts.specs.Script.{WordFields};
 ghost use Rattle.script_lang.specs.Rows.{IsRow};
 
 use crate::fields::{head, word};
-use plain_model::WordRow;
+use script_texts::WordRow;
 use word36::Word;
 
 /// How many words a row has at most.

@@ -2,8 +2,9 @@
 ghost use Rattle.std.specs.Prelude.{ℕ, List, Option, None};
 
 use super::*;
+use machine_names::{DirName, FileName, Tty, TypedText};
 use outside::{Failed, MemSource, Source};
-use plain_model::{DirName, Event, FileName, Tty, TypedText, WordRow};
+use script_texts::{Event, WordRow};
 use std::test::Fail;
 use word36::Word;
 

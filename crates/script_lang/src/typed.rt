@@ -1,9 +1,9 @@
 // What a line types: characters, some of them as a backslash and three octal digits.
 ghost use Rattle.std.specs.Prelude.{◌≤◌, ◌<◌, ℕ, List, length, MatchOption};
-ghost use Rattle.plain_model.specs.Script.{Types};
+ghost use Rattle.script_texts.specs.Script.{Types};
 ghost use Rattle.script_lang.specs.Typing.{EscapesFirst, EscapesNone, TypesFirst, TypesNone};
 
-use plain_model::TypedText;
+use machine_names::TypedText;
 use word36::read_octal;
 
 // How many characters a line types at most.

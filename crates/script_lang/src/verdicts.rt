@@ -1,7 +1,7 @@
 // A text has one verdict.
 ghost use Rattle.std.specs.Prelude.{◌≡◌, ℕ, List};
-ghost use Rattle.plain_model.specs.Script.{IsScript, IsTooLong, StopsAt};
-ghost use Rattle.plain_model.specs.declared.event.Event.{Event as AnEvent};
+ghost use Rattle.script_texts.specs.Script.{IsScript, IsTooLong, StopsAt};
+ghost use Rattle.script_texts.specs.declared.event.Event.{Event as AnEvent};
 
 /// A text is a script, or stops at a bad line, or is too long: never two of these, with one list of
 /// events and one line number.

@@ -1,7 +1,8 @@
 -- Pointers as words: which entry of a map a word of its page stands for.
 use Rattle.std.specs.Prelude.{◌≡◌, ℕ, ◌+◌, ◌*◌, ◌^◌, ◌<◌, ◌≤◌, Bool, true, false, ⊤}
-use Rattle.plain_model.specs.declared.names.Access.{Access}
-use Rattle.plain_model.specs.declared.names.TheConstants.{MOST_HOMES, LAST_SERIAL, SPACE_PAGES}
+use Rattle.machine_names.specs.declared.names.Access.{Access}
+use Rattle.machine_names.specs.declared.homes.TheConstants.{MOST_HOMES}
+use Rattle.machine_names.specs.declared.names.TheConstants.{LAST_SERIAL, SPACE_PAGES}
 use Rattle.share_table.specs.declared.pointer.Pointer.{Pointer}
 use Rattle.share_table.specs.declared.pointer.Pointer.TheVariants.{Empty, Private, Shared, Indirect}
 use Rattle.share_table.specs.declared.shares.TheConstants.{MOST_SHARES}

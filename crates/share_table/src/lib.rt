@@ -1,6 +1,6 @@
 //! The entries of maps as words, and the pages that more than one of them names.
 //! To the layers above a pointer is its word and back, and shared pages are a finite map from shares to homes and counts.
-//! Stands on slab for the numbers of shares, on plain_model for homes and access, and on word36 for words.
+//! Stands on slab for the numbers of shares, on machine_names for homes and access, and on word36 for words.
 #![tactic(auto)]
 
 mod laws;

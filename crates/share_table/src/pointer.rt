@@ -4,7 +4,7 @@ ghost use Rattle.share_table.specs.declared.pointer.Pointer.{Pointer as APointer
 ghost use Rattle.share_table.specs.Pointers.{IsPointer, access_bits, fields, pointer_word};
 
 use crate::{MOST_SHARES, Share};
-use plain_model::{Access, Home, LAST_SERIAL, MOST_HOMES, SPACE_PAGES};
+use machine_names::{Access, Home, LAST_SERIAL, MOST_HOMES, SPACE_PAGES};
 use word36::Word;
 
 /// An entry of a map: empty, a page at its home that has no other name, a page that is shared, or

@@ -1,5 +1,5 @@
 use crate::{MOST_SHARES, Pointer, Share, ShareTable, decode, encode};
-use plain_model::{Access, Home};
+use machine_names::{Access, Home};
 use std::test::Fail;
 use word36::Word;
 

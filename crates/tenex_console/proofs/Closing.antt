@@ -3,16 +3,16 @@ use Rattle.std.proofs.Common.{◌≡◌, inl, inr, ℕ, ◌-◌, ◌<◌, ◌^�
 use Rattle.std.proofs.lemmas.List.{append-nil, get_or-replicate, length-replicate}
 use Rattle.outside.specs.Drums.{IsPage}
 use Rattle.outside.specs.Told.{Grows, Stays}
-use Rattle.plain_model.specs.declared.event.Item.{Item}
-use Rattle.plain_model.specs.declared.event.Step.{Step}
+use Rattle.script_texts.specs.declared.event.Item.{Item}
+use Rattle.script_texts.specs.declared.event.Step.{Step}
 use Rattle.plain_model.specs.State.{PlainState}
-use Rattle.plain_model.specs.Outcome.{DrumWords}
-use Rattle.plain_model.specs.References.{zero_words}
-use Rattle.plain_model.specs.Stores.{FitsHomes, free}
-use Rattle.plain_model.specs.Taker.{GoesOn}
-use Rattle.plain_model.specs.Script.{IsScript}
-use Rattle.plain_model.specs.Texts.{transcript, record_after}
-use Rattle.plain_model.proofs.Named.{opened_fit}
+use Rattle.page_contracts.specs.DrumWords.{DrumWords}
+use Rattle.machine_names.specs.PageWords.{zero_words}
+use Rattle.page_contracts.specs.Stores.{FitsHomes, free}
+use Rattle.script_texts.specs.Taker.{GoesOn}
+use Rattle.script_texts.specs.Script.{IsScript}
+use Rattle.script_texts.specs.Texts.{transcript, record_after}
+use Rattle.plain_laws.proofs.Named.{opened_fit}
 use Rattle.flat_pages.proofs.StoredPlaces.{zeros_fit}
 use Rattle.command_words.specs.declared.sizes.Sizes.{Sizes}
 use Rattle.monitor_core.specs.declared.machine.Machine.{Machine}

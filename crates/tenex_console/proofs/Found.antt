@@ -1,13 +1,13 @@
 -- What a script is found to be.
 use Rattle.std.proofs.Common.{◌≡◌, ℕ, ◌≤◌, List, [], ◌++◌, Option, Some, refl, sym, ◌∙◌, ap, subst, append_assoc}
 use Rattle.std.proofs.lemmas.List.{append-nil}
-use Rattle.plain_model.specs.declared.event.Event.{Event}
-use Rattle.plain_model.specs.Script.{BeginsWith, IsTooLong, StopsAt, most_turns, turns_in}
+use Rattle.script_texts.specs.declared.event.Event.{Event}
+use Rattle.script_texts.specs.Script.{BeginsWith, IsTooLong, StopsAt, most_turns, turns_in}
 use Rattle.script_lang.specs.Feeds.{AllLeft, Reads, Spends}
 use Rattle.script_lang.specs.Lines.{Breaks, IsDone, IsUndecided, Passes, Takes, given, lines_given, pending, turns_given}
 use Rattle.script_lang.specs.declared.lines.Lines.{Lines}
 use Rattle.script_lang.proofs.Whole.{script_of_whole, stop_of_whole, long_of_whole, taken_of_whole, read_of_whole}
-use Rattle.tenex_console.specs.Driving.{Found, Verdict}
+use Rattle.tenex_console.specs.Verdicts.{Found, Verdict}
 use Rattle.tenex_console.specs.declared.driver.Driven.TheVariants.{Done, Bad, Long, ReadFault}
 
 module _ {S : Type 0} {left : S → Option (List ℕ)} {first l : Lines} {s t : S} {es : List Event} (none : pending first ≡ []) (start : given first ≡ 0) (takes : Takes left first l s t es) (few : turns_in es ≤ most_turns) where

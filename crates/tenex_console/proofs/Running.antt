@@ -2,23 +2,27 @@
 use Rattle.std.proofs.Common.{◌≡◌, inl, inr, ℕ, ◌+◌, ◌*◌, ◌<◌, ◌≤◌, List, [], ◌∷◌, ◌++◌, length, All, Bool, true, false, Option, refl, sym, ◌∙◌, ap, subst, arith, append_assoc, length-append}
 use Rattle.std.proofs.lemmas.List.{append-nil}
 use Rattle.std.proofs.lemmas.List.Elements.{All-append, All-cons, All-nil}
-use Rattle.plain_model.specs.declared.event.Event.{Event}
-use Rattle.plain_model.specs.declared.event.Item.{Item}
-use Rattle.plain_model.specs.declared.event.Step.{Step}
+use Rattle.script_texts.specs.declared.event.Event.{Event}
+use Rattle.script_texts.specs.declared.event.Item.{Item}
+use Rattle.script_texts.specs.declared.event.Step.{Step}
 use Rattle.plain_model.specs.State.{PlainState, opening}
-use Rattle.plain_model.specs.Limits.{FitsEvent}
-use Rattle.plain_model.specs.Run.{Follows, Begins, Unfinished, AreLegal, IsLegal, ShownFirst, auto_after, auto_behind, state_after, items_of}
-use Rattle.plain_model.specs.Script.{turns_of, turns_in, most_bytes, most_turns}
-use Rattle.plain_model.specs.Taker.{GoesOn, IsCut, max_steps}
-use Rattle.plain_model.specs.Outcome.{DrumWords, Stands, Went, Stopped, CutOff, judged_by}
-use Rattle.plain_model.proofs.Runs.{AreLegal-append, Follows-push, IsLegal-push, state_after-append, items_of-append, goes_on_nil, goes_on_append, cut_behind, legal_anywhere}
+use Rattle.script_texts.specs.Limits.{FitsEvent}
+use Rattle.script_texts.specs.Follows.{Follows, Begins, Unfinished, auto_after, auto_behind}
+use Rattle.plain_model.specs.Run.{AreLegal, IsLegal, ShownFirst, state_after, items_of}
+use Rattle.script_texts.specs.Script.{turns_of, turns_in, most_bytes, most_turns}
+use Rattle.script_texts.specs.Taker.{GoesOn, IsCut, max_steps}
+use Rattle.page_contracts.specs.DrumWords.{DrumWords, Stands}
+use Rattle.monitor_core.specs.Outcome.{Went, Stopped, CutOff, judged_by}
+use Rattle.plain_model.proofs.Runs.{AreLegal-append, IsLegal-push, state_after-append, items_of-append, legal_anywhere}
+use Rattle.script_texts.proofs.Takers.{Follows-push, goes_on_nil, goes_on_append, cut_behind}
 use Rattle.script_lang.specs.Lines.{Advances, Skips, Takes, given, pending, turns_given}
 use Rattle.script_lang.specs.declared.lines.Lines.{Lines}
 use Rattle.script_lang.proofs.Judging.{takes_none, takes_both, takes_skipped}
 use Rattle.tenex_console.specs.declared.driver.Driven.{Driven}
 use Rattle.tenex_console.specs.declared.driver.Driven.TheVariants.{DrumFault, TakerFault}
 use Rattle.tenex_console.specs.Runs.{AreEntries, BreaksOff, FollowsTo, RunsTo}
-use Rattle.tenex_console.specs.Driving.{Found, Handed, OpensOver, RanTo, StandsFor, Verdict}
+use Rattle.tenex_console.specs.Driving.{Handed, OpensOver, RanTo, StandsFor}
+use Rattle.tenex_console.specs.Verdicts.{Found, Verdict}
 use Rattle.tenex_console.proofs.Found.{found_begun}
 use Rattle.tenex_console.proofs.Turns.{follows_few, begins_few, unfinished_few, turns_push, auto_push}
 

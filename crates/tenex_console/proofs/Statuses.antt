@@ -2,8 +2,8 @@
 use Rattle.std.proofs.Common.{◌≡◌, ◌⊎◌, inl, inr, ℕ, List, ◌++◌, Option, Some, refl, sym, ◌∙◌, ap, subst, arith, String}
 use Rattle.std.proofs.lemmas.List.{append-nil}
 use Rattle.outside.specs.Faults.{Rose}
-use Rattle.plain_model.specs.declared.event.Event.{Event}
-use Rattle.plain_model.specs.Script.{IsScript, IsTooLong, StopsAt}
+use Rattle.script_texts.specs.declared.event.Event.{Event}
+use Rattle.script_texts.specs.Script.{IsScript, IsTooLong, StopsAt}
 use Rattle.script_lang.proofs.OnePlace.{script_not_bad, script_not_long, bad_not_too_long}
 use Rattle.command_words.specs.declared.sizes.Sizes.{Sizes}
 use Rattle.texts.specs.declared.last.Status.{Status}
@@ -13,7 +13,7 @@ use Rattle.tenex_console.specs.declared.asked.Unbegun.TheVariants.{Usage as Wron
 use Rattle.tenex_console.specs.declared.driver.Driven.{Driven}
 use Rattle.tenex_console.specs.declared.driver.Driven.TheVariants.{Done as WholeScript, Bad, Long, ReadFault as Unread, DrumFault as Unpaged, TakerFault}
 use Rattle.tenex_console.specs.Command.{IsRight, IsUsage}
-use Rattle.tenex_console.specs.Driving.{Found, Verdict}
+use Rattle.tenex_console.specs.Verdicts.{Found, Verdict}
 use Rattle.tenex_console.specs.Headline.{IsTrueOf, Stops}
 use Rattle.tenex_console.specs.Observed.{AreSteady, Faults, IsCaused, IsSteady, Observed}
 use Rattle.tenex_console.specs.Statuses.{IsEarly, IsFaultless, Judges, Ran, RanAsked, Tells, status_after}

@@ -1,9 +1,9 @@
 -- How many entries an event has.
 use Rattle.std.proofs.Common.{◌≡◌, ◌+◌, ◌≤◌, List, [], ◌∷◌, ◌++◌, length, Bool, ap, refl, arith}
-use Rattle.plain_model.specs.declared.event.Event.{Event}
-use Rattle.plain_model.specs.declared.event.Step.{Step}
-use Rattle.plain_model.specs.Run.{Shape, silent, turns, single, shape_of, FollowsShape, FollowsOne, BeginsShape, Begins, UnfinishedShape, Unfinished, auto_after, auto_behind}
-use Rattle.plain_model.specs.Script.{turns_asked, turns_of, turns_in}
+use Rattle.script_texts.specs.declared.event.Event.{Event}
+use Rattle.script_texts.specs.declared.event.Step.{Step}
+use Rattle.script_texts.specs.Follows.{Shape, silent, turns, single, shape_of, FollowsShape, FollowsOne, BeginsShape, Begins, UnfinishedShape, Unfinished, auto_after, auto_behind}
+use Rattle.script_texts.specs.Script.{turns_asked, turns_of, turns_in}
 
 few_follow : (shape : Shape) (e : Event) (ss : List Step) → FollowsShape shape e ss → length ss ≤ turns_asked shape + 1
 few_follow silent e ss h = omega (arith, ap length h)

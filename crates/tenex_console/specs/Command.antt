@@ -1,7 +1,7 @@
 -- The words of the command, and the sizes that they ask for.
 use Rattle.std.specs.Prelude.{◌⊎◌, ℕ, ◌<◌, ◌≤◌, List, String}
-use Rattle.plain_model.specs.declared.event.Event.{Event}
-use Rattle.plain_model.specs.Script.{IsScript}
+use Rattle.script_texts.specs.declared.event.Event.{Event}
+use Rattle.script_texts.specs.Script.{IsScript}
 use Rattle.command_words.specs.declared.sizes.Sizes.{Sizes}
 use Rattle.command_words.specs.Words.{IsRun}
 

@@ -1,33 +1,19 @@
 -- How far a script was driven, and what the taker was given.
-use Rattle.std.specs.Prelude.{◌≡◌, ℕ, ◌<◌, ◌≤◌, List, [], ◌++◌, length, replicate, All, Bool, true, Option, Some}
-use Rattle.plain_model.specs.declared.event.Event.{Event}
-use Rattle.plain_model.specs.declared.event.Item.{Item}
-use Rattle.plain_model.specs.declared.event.Step.{Step}
+use Rattle.std.specs.Prelude.{◌≡◌, ℕ, ◌<◌, ◌≤◌, List, length, replicate, All, Bool, true, Option}
+use Rattle.script_texts.specs.declared.event.Event.{Event}
+use Rattle.script_texts.specs.declared.event.Item.{Item}
+use Rattle.script_texts.specs.declared.event.Step.{Step}
 use Rattle.plain_model.specs.State.{PlainState, opening}
-use Rattle.plain_model.specs.Limits.{FitsEvent}
-use Rattle.plain_model.specs.Outcome.{DrumWords, Stands}
-use Rattle.plain_model.specs.Stores.{FitsHomes, free}
-use Rattle.plain_model.specs.Taker.{GoesOn, IsCut, max_steps}
-use Rattle.plain_model.specs.Script.{IsScript, StopsAt, IsTooLong, IsReadTo, BeginsWith}
+use Rattle.script_texts.specs.Limits.{FitsEvent}
+use Rattle.page_contracts.specs.DrumWords.{DrumWords, Stands}
+use Rattle.page_contracts.specs.Stores.{FitsHomes, free}
+use Rattle.script_texts.specs.Taker.{GoesOn, IsCut, max_steps}
 use Rattle.monitor_core.specs.declared.machine.Machine.{Machine}
 use Rattle.monitor_core.specs.Machines.{Fits, auto, done, is_live, limit, plain}
 use Rattle.tenex_console.specs.declared.driver.Driven.{Driven}
-use Rattle.tenex_console.specs.declared.driver.Driven.TheVariants.{Done, Bad, Long, ReadFault, DrumFault, TakerFault}
+use Rattle.tenex_console.specs.declared.driver.Driven.TheVariants.{TakerFault}
 use Rattle.tenex_console.specs.Runs.{FollowsTo, RunsTo}
-
--- A script that told its bytes has lost some of them from its front: this is so of those that were taken
--- and of those that are left.
-pub record Found (script script' : Option (List ℕ)) (P : (taken rest : List ℕ) → Type 0) : Type 0 where
-  pub each : (bytes : List ℕ) → script ≡ Some bytes → (taken : List ℕ) × (rest : List ℕ) × (bytes ≡ taken ++ rest) × (script' ≡ Some rest) × P taken rest
-
--- what the bytes that were taken and those that are left are found to be where the driving ended like this
-abbrev pub Verdict : Driven → List Event → (taken rest : List ℕ) → Type 0
-Verdict Done events taken rest = IsScript taken events × (rest ≡ [])
-Verdict (Bad n) events taken rest = StopsAt n (taken ++ rest) events
-Verdict Long events taken rest = IsTooLong (taken ++ rest) events
-Verdict ReadFault events taken rest = IsReadTo taken events
-Verdict DrumFault events taken rest = BeginsWith taken events
-Verdict TakerFault events taken rest = BeginsWith taken events
+use Rattle.tenex_console.specs.Verdicts.{Found, Verdict}
 
 -- what the taker was given where the driving ended like this: all, or it is cut within
 abbrev pub Handed : {K : Type 0} → (stands cut : K → K → List Item → List Step → Type 0) → (out out' : K) → Driven → List Item → List Step → Type 0

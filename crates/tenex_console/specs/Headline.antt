@@ -1,14 +1,15 @@
 -- What a run reads and writes, on each way in which it ends.
 use Rattle.std.specs.Prelude.{◌≡◌, ◌⊎◌, ℕ, List, [], ◌++◌, true, Option, None, Some, String}
 use Rattle.outside.specs.Told.{Grows, Stays}
-use Rattle.plain_model.specs.declared.event.Event.{Event}
-use Rattle.plain_model.specs.declared.event.Item.{Item}
-use Rattle.plain_model.specs.declared.event.Step.{Step}
+use Rattle.script_texts.specs.declared.event.Event.{Event}
+use Rattle.script_texts.specs.declared.event.Item.{Item}
+use Rattle.script_texts.specs.declared.event.Step.{Step}
 use Rattle.plain_model.specs.State.{opening}
-use Rattle.plain_model.specs.Entries.{FitsRecord}
-use Rattle.plain_model.specs.Run.{Follows, IsLegal, AreLegal, items_of}
-use Rattle.plain_model.specs.Script.{IsScript}
-use Rattle.plain_model.specs.Texts.{transcript, record_after, record_text}
+use Rattle.script_texts.specs.Entries.{FitsRecord}
+use Rattle.script_texts.specs.Follows.{Follows}
+use Rattle.plain_model.specs.Run.{IsLegal, AreLegal, items_of}
+use Rattle.script_texts.specs.Script.{IsScript}
+use Rattle.script_texts.specs.Texts.{transcript, record_after, record_text}
 use Rattle.command_words.specs.declared.sizes.Sizes.{Sizes}
 use Rattle.command_words.specs.Words.{IsRun}
 use Rattle.texts.specs.declared.last.Status.{Status}
@@ -22,7 +23,7 @@ use Rattle.tenex_console.specs.declared.driver.Driven.TheVariants.{Done as Whole
 use Rattle.tenex_console.specs.declared.asked.Unbegun.{Unbegun}
 use Rattle.tenex_console.specs.declared.asked.Unbegun.TheVariants.{Usage as WrongWords, Memory as NoMemory}
 use Rattle.tenex_console.specs.Command.{IsUsage}
-use Rattle.tenex_console.specs.Driving.{Found, Verdict}
+use Rattle.tenex_console.specs.Verdicts.{Found, Verdict}
 use Rattle.tenex_console.specs.Observed.{Observed}
 use Rattle.tenex_console.specs.Runs.{RunsTo}
 

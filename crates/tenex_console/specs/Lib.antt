@@ -1,5 +1,6 @@
 pub mod Command
 pub mod Runs
+pub mod Verdicts
 pub mod Driving
 pub mod Observed
 pub mod Headline

@@ -1,12 +1,13 @@
 -- A run in memory, where all is told.
 use Rattle.std.specs.Prelude.{◌≡◌, ℕ, ◌-◌, List, ◌++◌, true, String}
-use Rattle.plain_model.specs.declared.event.Event.{Event}
-use Rattle.plain_model.specs.declared.event.Step.{Step}
+use Rattle.script_texts.specs.declared.event.Event.{Event}
+use Rattle.script_texts.specs.declared.event.Step.{Step}
 use Rattle.plain_model.specs.State.{opening}
-use Rattle.plain_model.specs.Entries.{FitsRecord}
-use Rattle.plain_model.specs.Run.{Follows, IsLegal, AreLegal, items_of}
-use Rattle.plain_model.specs.Script.{IsScript}
-use Rattle.plain_model.specs.Texts.{transcript, record_text}
+use Rattle.script_texts.specs.Entries.{FitsRecord}
+use Rattle.script_texts.specs.Follows.{Follows}
+use Rattle.plain_model.specs.Run.{IsLegal, AreLegal, items_of}
+use Rattle.script_texts.specs.Script.{IsScript}
+use Rattle.script_texts.specs.Texts.{transcript, record_text}
 use Rattle.outside.specs.declared.memory_drum.SureDrum.{SureDrum}
 use Rattle.outside.specs.declared.memory_sink.MemSink.{MemSink}
 use Rattle.command_words.specs.declared.sizes.Sizes.{Sizes}

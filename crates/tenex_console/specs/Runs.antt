@@ -1,11 +1,12 @@
 -- Which entries the events of a script may have, and what the plain machine shows over them, from the
 -- opening state on.
 use Rattle.std.specs.Prelude.{◌≡◌, ◌⊎◌, ℕ, List, [], ◌∷◌, ◌++◌, Bool, true}
-use Rattle.plain_model.specs.declared.event.Event.{Event}
-use Rattle.plain_model.specs.declared.event.Item.{Item}
-use Rattle.plain_model.specs.declared.event.Step.{Step}
+use Rattle.script_texts.specs.declared.event.Event.{Event}
+use Rattle.script_texts.specs.declared.event.Item.{Item}
+use Rattle.script_texts.specs.declared.event.Step.{Step}
 use Rattle.plain_model.specs.State.{opening}
-use Rattle.plain_model.specs.Run.{Follows, Begins, Unfinished, ShownFirst, IsLegal, AreLegal, auto_behind, state_after, items_of}
+use Rattle.script_texts.specs.Follows.{Follows, Begins, Unfinished, auto_behind}
+use Rattle.plain_model.specs.Run.{ShownFirst, IsLegal, AreLegal, state_after, items_of}
 use Rattle.tenex_console.specs.declared.driver.Driven.{Driven}
 use Rattle.tenex_console.specs.declared.driver.Driven.TheVariants.{DrumFault, TakerFault}
 

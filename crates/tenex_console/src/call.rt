@@ -1,9 +1,9 @@
 // The top call.
 ghost use Rattle.std.specs.Prelude.{◌≡◌, ◌⊎◌, ◌≤◌, ℕ, List, Some, OnOk, OnErr};
 ghost use Rattle.outside.specs.Faults.{Rose};
-ghost use Rattle.plain_model.specs.Script.{IsTooLong, StopsAt};
-ghost use Rattle.plain_model.specs.Taker.{StaysOnward};
-ghost use Rattle.plain_model.specs.declared.event.Event.{Event as AnEvent};
+ghost use Rattle.script_texts.specs.Script.{IsTooLong, StopsAt};
+ghost use Rattle.script_texts.specs.Taker.{StaysOnward};
+ghost use Rattle.script_texts.specs.declared.event.Event.{Event as AnEvent};
 ghost use Rattle.monitor_core.specs.Machines.{limit};
 ghost use Rattle.texts.specs.Writer.{FailsAtEnd, Finishes, HandsOn, IsHandedOn, IsOnward};
 ghost use Rattle.tenex_console.specs.Command.{IsRight, IsUsage};

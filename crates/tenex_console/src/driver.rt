@@ -1,7 +1,7 @@
 // A script, driven through a machine.
 ghost use Rattle.std.specs.Prelude.{◌≡◌, ◌≤◌, true, OnOk, OnErr, []};
 ghost use Rattle.outside.specs.Faults.{Rose};
-ghost use Rattle.plain_model.specs.Taker.{GoesOn, IsCut, StaysOnward};
+ghost use Rattle.script_texts.specs.Taker.{GoesOn, IsCut, StaysOnward};
 ghost use Rattle.script_lang.specs.Lines.{Skips, NeedsRead};
 ghost use Rattle.monitor_core.specs.Machines.{limit};
 ghost use Rattle.tenex_console.specs.Driving.{Drove, DrumStays, IsNew};
@@ -10,8 +10,9 @@ ghost use Rattle.tenex_console.specs.Statuses.{status_after};
 
 use monitor_core::{Ended, Machine};
 use outside::{Drum, Failed, Source};
-use plain_model::{Pages, Taker};
+use page_contracts::Pages;
 use script_lang::{Lines, Next};
+use script_texts::Taker;
 use texts::{Last, Status};
 
 /// How the driving of a script ended.

@@ -3,9 +3,9 @@ use Rattle.std.proofs.Common.{◌≡◌, ℕ, List, [], ◌∷◌, ◌++◌, dec
 use Rattle.std.proofs.lemmas.Bool.Decides.{nat_tests}
 use Rattle.std.proofs.lemmas.List.{append-nil}
 use Rattle.std.specs.List.{flat_map}
-use Rattle.plain_model.specs.declared.event.Item.{Item}
-use Rattle.plain_model.specs.declared.event.Item.TheVariants.{Char, ForkLine, Examined, PageLine, PageWord, UnitLine, Refusal}
-use Rattle.plain_model.specs.Texts.{Open, text_after, transcript, line_start, line_end, escaped, ended, shown_line}
+use Rattle.script_texts.specs.declared.event.Item.{Item}
+use Rattle.script_texts.specs.declared.event.Item.TheVariants.{Char, ForkLine, Examined, PageLine, PageWord, UnitLine, Refusal}
+use Rattle.script_texts.specs.Texts.{Open, text_after, transcript, line_start, line_end, escaped, ended, shown_line}
 use Rattle.texts.specs.TranscriptLines.{TranscriptLine, typed, shown, joined_to, lines_of, text_of}
 
 abbrev all_of : List TranscriptLine → List ℕ

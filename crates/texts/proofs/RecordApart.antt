@@ -3,12 +3,12 @@ use Rattle.std.proofs.Common.{◌≡◌, ℕ, ◌^◌, ◌<◌, ◌≤◌, List,
 use Rattle.std.proofs.lemmas.Fmt.{decimal_injective}
 use Rattle.std.proofs.lemmas.List.{append_cancel_left}
 use Rattle.std.proofs.lemmas.List.Elements.{All-head, All-tail}
-use Rattle.plain_model.specs.declared.event.Event.{Event}
-use Rattle.plain_model.specs.declared.event.Event.TheVariants.{Login, TypeIn, File, Words, Poke, Start, Run, Tick, Evict, Drum, Auto, Examine, Forks, Page, Trace}
-use Rattle.plain_model.specs.declared.event.Step.{Step}
-use Rattle.plain_model.specs.Entries.{EntriesOf, FitsRecord}
-use Rattle.plain_model.specs.Script.{HasNoFeed}
-use Rattle.plain_model.specs.Texts.{field, line_of, record_text}
+use Rattle.script_texts.specs.declared.event.Event.{Event}
+use Rattle.script_texts.specs.declared.event.Event.TheVariants.{Login, TypeIn, File, Words, Poke, Start, Run, Tick, Evict, Drum, Auto, Examine, Forks, Page, Trace}
+use Rattle.script_texts.specs.declared.event.Step.{Step}
+use Rattle.script_texts.specs.Entries.{EntriesOf, FitsRecord}
+use Rattle.script_texts.specs.Script.{HasNoFeed}
+use Rattle.script_texts.specs.Texts.{field, line_of, record_text}
 use Rattle.script_lang.proofs.CanonicalSpells.{same_event}
 use Rattle.script_lang.proofs.CanonicalPlain.{decimal_without, plain_line, plain_then, plain_word}
 use Rattle.script_lang.proofs.Splits.{one_split}

@@ -5,13 +5,13 @@ use Rattle.std.proofs.lemmas.Bool.Decides.{nat_tests}
 use Rattle.std.proofs.lemmas.Grind.{flat_map-append}
 use Rattle.std.proofs.lemmas.List.{append-nil, replicate_more, reverse-append}
 use Rattle.std.proofs.lemmas.List.Elements.{All-append, All-cons, All-head, All-nil, All-tail}
-use Rattle.plain_model.specs.declared.names.ForkName.{ForkName}
-use Rattle.plain_model.specs.declared.event.Event.{Event}
-use Rattle.plain_model.specs.declared.event.Step.{Step}
-use Rattle.plain_model.specs.declared.event.Step.TheVariants.{Outer, Unit as AUnit, Idle}
-use Rattle.plain_model.specs.Entries.{FitsRecord}
-use Rattle.plain_model.specs.Limits.{FitsEvent, FitsStep}
-use Rattle.plain_model.specs.Texts.{OpenRun, counts_line, ended, field, line_of, name_text, record_after, record_text, run_end, run_line, same_turn, step_run, step_text}
+use Rattle.machine_names.specs.declared.names.ForkName.{ForkName}
+use Rattle.script_texts.specs.declared.event.Event.{Event}
+use Rattle.script_texts.specs.declared.event.Step.{Step}
+use Rattle.script_texts.specs.declared.event.Step.TheVariants.{Outer, Unit as AUnit, Idle}
+use Rattle.script_texts.specs.Entries.{FitsRecord}
+use Rattle.script_texts.specs.Limits.{FitsEvent, FitsStep}
+use Rattle.script_texts.specs.Texts.{OpenRun, counts_line, ended, field, line_of, name_text, record_after, record_text, run_end, run_line, same_turn, step_run, step_text}
 
 -- an event, so many equal turns, or how often the drum was read and written
 pub data RecordLine : Type 0 where

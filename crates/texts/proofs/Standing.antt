@@ -3,13 +3,14 @@ use Rattle.std.proofs.Common.{◌≡◌, ℕ, ◌+◌, ◌<◌, ◌≤◌, List,
 use Rattle.std.proofs.lemmas.List.{append-nil, length-replicate}
 use Rattle.outside.specs.Told.{Grows}
 use Rattle.outside.specs.declared.failure.Failed.{Failed}
-use Rattle.plain_model.specs.declared.event.Item.{Item}
-use Rattle.plain_model.specs.declared.event.Step.{Step}
-use Rattle.plain_model.specs.declared.names.ForkName.{ForkName}
-use Rattle.plain_model.specs.Taker.{GoesOn, IsCut, max_steps}
+use Rattle.script_texts.specs.declared.event.Item.{Item}
+use Rattle.script_texts.specs.declared.event.Step.{Step}
+use Rattle.machine_names.specs.declared.names.ForkName.{ForkName}
+use Rattle.script_texts.specs.Taker.{GoesOn, IsCut, max_steps}
+use Rattle.script_texts.specs.Texts.{text_after, transcript, item_text, item_open, step_text, step_run, record_after, same_turn, run_line}
+use Rattle.script_texts.specs.declared.event.Step.TheVariants.{Unit as UnitStep, Idle as IdleStep}
+use Rattle.script_texts.proofs.Takers.{cut_longer}
 use Rattle.std.specs.Prelude.{replicate}
-use Rattle.plain_model.specs.Texts.{text_after, transcript, item_text, item_open, step_text, step_run, record_after, same_turn, run_line}
-use Rattle.plain_model.specs.declared.event.Step.TheVariants.{Unit as UnitStep, Idle as IdleStep}
 use Rattle.texts.specs.declared.last.Last.{Last}
 use Rattle.texts.specs.declared.writer.Writer.{Writer}
 use Rattle.texts.specs.Ends.{end_line, record_end}
@@ -18,7 +19,6 @@ use Rattle.texts.specs.declared.turns.Turn.{Turn}
 use Rattle.texts.specs.declared.turns.Turn.TheVariants.{Unit as UnitOf, Idle as IdleTurn}
 use Rattle.texts.specs.Wrote.{Wrote, WrotePartly, GrowsPartly}
 use Rattle.texts.specs.Writer.{Stands, IsCutWithin, IsCutAtEnd, Keeps, KeepsWritten, Finishes, FailsAtEnd}
-use Rattle.plain_model.proofs.Runs.{cut_longer}
 use Rattle.texts.proofs.Writes.{wrote_more, wrote_list, wrote_partly, wrote_cut, wrote_end, wrote_end_partly, cut_here, whole_partly, partly_stays, wrote_stays}
 
 -- a turn behind an open run of equal turns is counted

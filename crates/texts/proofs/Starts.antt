@@ -1,7 +1,7 @@
 -- What a new writer stands for.
 use Rattle.std.proofs.Common.{◌≡◌, ℕ, ◌≤◌, List, [], ◌++◌, Option, None, Some, refl, sym, ◌∙◌, ap, subst, arith}
 use Rattle.std.proofs.lemmas.List.{append-nil}
-use Rattle.plain_model.specs.Texts.{text_after, transcript, record_after}
+use Rattle.script_texts.specs.Texts.{text_after, transcript, record_after}
 use Rattle.texts.specs.declared.writer.Writer.{Writer}
 use Rattle.texts.specs.Turns.{open_run, run_count}
 use Rattle.texts.specs.Wrote.{Wrote}

@@ -1,6 +1,6 @@
 -- How the texts end.
 use Rattle.std.specs.Prelude.{ℕ, List, [], ◌++◌, codes, decimal}
-use Rattle.plain_model.specs.Texts.{ended, counts_line}
+use Rattle.script_texts.specs.Texts.{ended, counts_line}
 use Rattle.texts.specs.declared.last.Status.{Status}
 use Rattle.texts.specs.declared.last.Status.TheVariants.{Done, Usage, Script, DrumFault, Memory, ReadFault, WriteFault, LongScript}
 use Rattle.texts.specs.declared.last.Last.{Last}

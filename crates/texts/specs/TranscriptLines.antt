@@ -1,9 +1,9 @@
 -- The transcript as lines: each longest run of one terminal's characters, and each other item.
 use Rattle.std.specs.Prelude.{ℕ, List, [], ◌∷◌, ◌++◌, codes, decimal, if◌then◌else◌, ◌==◌}
 use Rattle.std.specs.List.{flat_map}
-use Rattle.plain_model.specs.declared.event.Item.{Item}
-use Rattle.plain_model.specs.declared.event.Item.TheVariants.{Char, ForkLine, Examined, PageLine, PageWord, UnitLine, Refusal}
-use Rattle.plain_model.specs.Texts.{escaped, ended, shown_line}
+use Rattle.script_texts.specs.declared.event.Item.{Item}
+use Rattle.script_texts.specs.declared.event.Item.TheVariants.{Char, ForkLine, Examined, PageLine, PageWord, UnitLine, Refusal}
+use Rattle.script_texts.specs.Texts.{escaped, ended, shown_line}
 
 -- characters of a terminal, or another item's text
 pub data TranscriptLine : Type 0 where

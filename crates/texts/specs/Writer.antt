@@ -3,10 +3,10 @@ use Rattle.std.specs.Prelude.{◌≡◌, ◌⊎◌, ℕ, ◌<◌, ◌≤◌, Lis
 use Rattle.outside.specs.Faults.{Rose}
 use Rattle.outside.specs.declared.failure.Failed.{Failed}
 use Rattle.outside.specs.Told.{Stays}
-use Rattle.plain_model.specs.declared.event.Item.{Item}
-use Rattle.plain_model.specs.declared.event.Step.{Step}
-use Rattle.plain_model.specs.Taker.{StaysOnward}
-use Rattle.plain_model.specs.Texts.{text_after, transcript, record_after}
+use Rattle.script_texts.specs.declared.event.Item.{Item}
+use Rattle.script_texts.specs.declared.event.Step.{Step}
+use Rattle.script_texts.specs.Taker.{StaysOnward}
+use Rattle.script_texts.specs.Texts.{text_after, transcript, record_after}
 use Rattle.texts.specs.Turns.{open_run, run_count}
 use Rattle.texts.specs.declared.writer.Writer.{Writer}
 use Rattle.texts.specs.Wrote.{Told, Wrote, WrotePartly}

@@ -1,6 +1,6 @@
 // The end of the transcript.
 ghost use Rattle.std.specs.Prelude.{◌≡◌, ◌≤◌, ◌++◌, length};
-ghost use Rattle.plain_model.specs.Texts.{line_end};
+ghost use Rattle.script_texts.specs.Texts.{line_end};
 ghost use Rattle.texts.specs.Ends.{closing_line, end_line};
 
 use crate::line::Line;

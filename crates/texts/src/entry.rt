@@ -1,15 +1,15 @@
 // The entries of the record.
 ghost use Rattle.std.specs.Prelude.{◌≡◌, ◌≤◌, ◌++◌, length};
-ghost use Rattle.plain_model.specs.Limits.{FitsEvent};
-ghost use Rattle.plain_model.specs.Texts.{counts_line, ended, line_of, run_end};
+ghost use Rattle.script_texts.specs.Limits.{FitsEvent};
+ghost use Rattle.script_texts.specs.Texts.{counts_line, ended, line_of, run_end};
 ghost use Rattle.texts.specs.Ends.{record_end};
 ghost use Rattle.texts.specs.Turns.{open_run};
 
 use crate::Last;
 use crate::line::{EVENT_ROOM, Line, RUN_ROOM};
 use crate::turns::{Turns, run_line};
-use plain_model::Event;
 use script_lang::write_line;
+use script_texts::Event;
 
 /// The line of the run that is open, and behind it the canonical line of an event.
 pub fn entry_line(run: Option<Turns>, e: &Event) -> Line

@@ -1,13 +1,15 @@
 // The lines of the transcript.
 ghost use Rattle.std.specs.Prelude.{◌≡◌, ◌≤◌, ◌+◌, ◌++◌, length, codes, decimal};
 ghost use Rattle.word36.specs.Octal.{octal_padded};
-ghost use Rattle.plain_model.specs.Limits.{FitsItem, FitsCause, IsFileName};
-ghost use Rattle.plain_model.specs.Texts.{item_text, item_open, line_end, line_start, escaped, char_end, ended, field, fork_text, cause_text, wait_text, status_text, frozen_text, shown_line};
-ghost use Rattle.plain_model.specs.declared.event.Item.TheVariants.{Examined as AnExamined, PageLine as APageLine, PageWord as APageWord, UnitLine as AUnitLine};
+ghost use Rattle.script_texts.specs.Limits.{FitsItem, FitsCause};
+ghost use Rattle.machine_names.specs.Bounds.{IsFileName};
+ghost use Rattle.script_texts.specs.Texts.{item_text, item_open, line_end, line_start, escaped, char_end, ended, field, fork_text, cause_text, wait_text, status_text, frozen_text, shown_line};
+ghost use Rattle.script_texts.specs.declared.event.Item.TheVariants.{Examined as AnExamined, PageLine as APageLine, PageWord as APageWord, UnitLine as AUnitLine};
 
 use crate::line::{ADDRESS_DIGITS, LINE_ROOM, Line};
-use plain_model::{FileName, ForkLine, ForkName, ForkStatus, Item, Refusal, Tty, WaitOn};
+use machine_names::{FileName, ForkName, Tty};
 use script_lang::digits::{DECIMAL_DIGITS, escaped, octal};
+use script_texts::{ForkLine, ForkStatus, Item, Refusal, WaitOn};
 use word36::{WORD_DIGITS, Word};
 
 /// How many octal digits the offset of a word in its page is written with.

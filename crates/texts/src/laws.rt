@@ -1,10 +1,10 @@
 //! What the definitions of the texts come to.
 ghost use Rattle.std.specs.Prelude.{◌≡◌, ℕ, List};
 ghost use Rattle.std.specs.List.{flat_map};
-ghost use Rattle.plain_model.specs.Entries.{EntriesOf, FitsRecord};
-ghost use Rattle.plain_model.specs.declared.event.Item.{Item};
-ghost use Rattle.plain_model.specs.declared.event.Step.{Step};
-ghost use Rattle.plain_model.specs.Texts.{record_text, transcript};
+ghost use Rattle.script_texts.specs.Entries.{EntriesOf, FitsRecord};
+ghost use Rattle.script_texts.specs.declared.event.Item.{Item};
+ghost use Rattle.script_texts.specs.declared.event.Step.{Step};
+ghost use Rattle.script_texts.specs.Texts.{record_text, transcript};
 ghost use Rattle.texts.specs.TranscriptLines.{lines_of, text_of};
 
 /// The transcript is its lines, one after another: each longest run of one terminal's characters, which a line

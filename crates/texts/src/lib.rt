@@ -1,6 +1,6 @@
 //! The transcript and the record of a run, written to two sinks as the run goes.
 //! To the layers above the sinks have then taken the texts of the items and the steps that were given.
-//! Stands on `plain_model` for both texts' definitions, on `outside` for sinks, on `script_lang` for canonical lines and digits.
+//! Stands on `script_texts` for both texts' definitions, on `outside` for sinks, on `script_lang` for canonical lines and digits.
 #![tactic(auto)]
 
 mod end_line;

@@ -1,9 +1,9 @@
 // Lines of a text, each made whole before it is written.
 ghost use Rattle.std.specs.Prelude.{◌≡◌, ◌≤◌, ◌+◌, ◌++◌, [], length, decimal};
 ghost use Rattle.word36.specs.Octal.{octal_padded};
-ghost use Rattle.plain_model.specs.Texts.{line_end, name_text};
+ghost use Rattle.script_texts.specs.Texts.{line_end, name_text};
 
-use plain_model::ForkName;
+use machine_names::ForkName;
 use script_lang::digits::{DECIMAL_DIGITS, decimal, octal_padded};
 use std::marker::Model;
 use word36::WORD_DIGITS;

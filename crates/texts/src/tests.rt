@@ -1,10 +1,8 @@
 // What a writer writes, byte for byte.
 use crate::{Last, Status, Writer};
+use machine_names::{DirName, ForkName, Tty, TypedText};
 use outside::{MemSink, Sink};
-use plain_model::{
-    DirName, Event, ForkLine, ForkName, ForkStatus, Item, Refusal, Step, Taker, Tty, TypedText,
-    WaitOn,
-};
+use script_texts::{Event, ForkLine, ForkStatus, Item, Refusal, Step, Taker, WaitOn};
 use std::test::Fail;
 use word36::Word;
 

@@ -1,10 +1,10 @@
 // Runs of equal turns: of units of one fork, or of idle entries.
 ghost use Rattle.std.specs.Prelude.{◌≡◌, ◌≤◌, length};
-ghost use Rattle.plain_model.specs.Texts.{same_turn, run_end, run_line};
+ghost use Rattle.script_texts.specs.Texts.{same_turn, run_end, run_line};
 ghost use Rattle.texts.specs.Turns.{step_of, open_run};
 
 use crate::line::{Line, RUN_ROOM};
-use plain_model::ForkName;
+use machine_names::ForkName;
 
 /// An entry of a RUN line: one unit of a fork, or an idle entry.
 #[derive(Clone, Copy, Debug, PartialEq, Eq)]

@@ -1,7 +1,7 @@
 // A taker that writes both texts.
 ghost use Rattle.std.specs.Prelude.{◌≡◌, ◌≤◌, ◌<◌, None, Some, [], ◌∷◌, replicate, OnOk, OnErr};
 ghost use Rattle.outside.specs.Faults.{CountsUp, Rose};
-ghost use Rattle.plain_model.specs.Taker.{GoesOn, IsCut, StaysOnward};
+ghost use Rattle.script_texts.specs.Taker.{GoesOn, IsCut, StaysOnward};
 ghost use Rattle.texts.specs.Turns.{step_of, open_run};
 
 use crate::Last;
@@ -11,7 +11,7 @@ use crate::item_line::{item_line, open_line};
 use crate::put::put;
 use crate::turns::{Turn, Turns, is_same_turn, run_line};
 use outside::{Failed, Sink};
-use plain_model::{Event, Item, Step, Taker};
+use script_texts::{Event, Item, Step, Taker};
 
 /// Writes the transcript of the items to one sink and the record of the steps to another, each as it comes.
 /// It holds back the line feed behind the characters of one terminal, and the line of a run of equal turns,
@@ -26,10 +26,10 @@ pub struct Writer<'a, T: Sink, R: Sink> {
 }
 
 impl<'a, T: Sink, R: Sink> Writer<'a, T, R> {
-    ghost use Rattle.plain_model.specs.declared.event.Step.TheVariants.{Outer as AnOuter};
+    ghost use Rattle.script_texts.specs.declared.event.Step.TheVariants.{Outer as AnOuter};
     ghost use Rattle.texts.specs.declared.last.Last.{Last as ALast};
-    ghost use Rattle.plain_model.specs.Limits.{FitsEvent};
-    ghost use Rattle.plain_model.specs.Texts.{step_text, step_run, run_end};
+    ghost use Rattle.script_texts.specs.Limits.{FitsEvent};
+    ghost use Rattle.script_texts.specs.Texts.{step_text, step_run, run_end};
     ghost use Rattle.texts.specs.Writer.{IsOnward, IsHandedOn, HandsOn, Counts, Stands, IsCutWithin, IsCutAtEnd, Finishes, FailsAtEnd, Keeps, KeepsWritten};
 
     /// A writer that has written nothing, of the transcript to `out` and of the record to `rec`.

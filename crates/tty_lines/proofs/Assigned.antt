@@ -6,7 +6,7 @@ use Rattle.std.proofs.lemmas.Bool.{cases_eq, cases_lt}
 use Rattle.std.specs.Ordering.{nat_cmp}
 use Rattle.std.specs.Cmp.{nat_cmp_total}
 use Rattle.std.specs.FinMap as map
-use Rattle.plain_model.specs.declared.names.ForkName.{ForkName}
+use Rattle.machine_names.specs.declared.names.ForkName.{ForkName}
 use Rattle.number_map.proofs.Keys.{get_gone, get_gone_other, get_put, get_put_other, same}
 use Rattle.tty_lines.specs.declared.typing.TheConstants.{ASSIGNABLE_CODES}
 use Rattle.tty_lines.specs.Lines.{Codes, AreAssigned, IsAssignable, IsLine, assigned_to, without_codes_of}

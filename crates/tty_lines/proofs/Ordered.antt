@@ -5,7 +5,7 @@ use Rattle.std.specs.List.{filter}
 use Rattle.std.specs.FinMap as map
 use Rattle.std.proofs.lemmas.List.{take-append-le, take_all}
 use Rattle.std.proofs.lemmas.Bool.{ltb-true, ltb-false}
-use Rattle.plain_model.specs.declared.names.ForkName.{ForkName}
+use Rattle.machine_names.specs.declared.names.ForkName.{ForkName}
 use Rattle.tty_lines.specs.declared.typing.Typed.{Typed}
 use Rattle.tty_lines.specs.declared.typing.Typed.TheVariants.{Stored, Dropped, Posts, ControlC}
 use Rattle.tty_lines.specs.declared.typing.TheConstants.{CONTROL_C, MOST_STORED}

@@ -1,6 +1,6 @@
 -- The characters of a terminal.
 use Rattle.std.specs.Prelude.{ℕ, ◌==◌, if◌then◌else◌}
-use Rattle.plain_model.specs.declared.character.TheConstants.{CARRIAGE_RETURN, LINE_END}
+use Rattle.machine_names.specs.declared.character.TheConstants.{CARRIAGE_RETURN, LINE_END}
 
 -- what a typed character is read as
 abbrev pub read_as : ℕ → ℕ

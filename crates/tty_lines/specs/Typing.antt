@@ -1,7 +1,7 @@
 -- What becomes of what is typed.
 use Rattle.std.specs.Prelude.{ℕ, List, [], ◌∷◌, ◌++◌, length, Bool, nat_lt, is_none, ◌&&◌, not, ◌==◌, if◌then◌else◌, Option, None, Some}
 use Rattle.std.specs.FinMap as map
-use Rattle.plain_model.specs.declared.names.ForkName.{ForkName}
+use Rattle.machine_names.specs.declared.names.ForkName.{ForkName}
 use Rattle.tty_lines.specs.declared.typing.Typed.{Typed}
 use Rattle.tty_lines.specs.declared.typing.Typed.TheVariants.{Stored, Dropped, Posts, ControlC}
 use Rattle.tty_lines.specs.declared.typing.TheConstants.{CONTROL_C, MOST_STORED}

@@ -1,6 +1,6 @@
 //! What is typed at the terminal of a job while its forks read it: stored, dropped, or taken as an interrupt.
 //! To the layers above a line is a list of characters and a finite map of the codes that forks have assigned.
-//! Stands on `number_map` for the codes, and on `plain_model` for the names of forks.
+//! Stands on `number_map` for the codes, and on `machine_names` for the names of forks.
 #![tactic(auto)]
 
 mod laws;

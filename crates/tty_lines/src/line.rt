@@ -7,9 +7,9 @@ ghost use Rattle.tty_lines.specs.Typing.{fate_of, left_by};
 
 use crate::typing::{ASSIGNABLE_CODES, CONTROL_C, MOST_STORED, Typed, read_as};
 use circular_buffer::HeapCircularBuffer;
+use machine_names::ForkName;
 use number_map::NumberMap;
 use outside::Memory;
-use plain_model::ForkName;
 use std::alloc::Global;
 use std::marker::Model;
 

@@ -1,5 +1,5 @@
 use super::*;
-use plain_model::{ForkName, Tty};
+use machine_names::{ForkName, Tty};
 use std::test::Fail;
 
 // A fork of terminal 2.

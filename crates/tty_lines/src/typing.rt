@@ -2,8 +2,8 @@
 ghost use Rattle.std.specs.Prelude.{◌≡◌};
 ghost use Rattle.tty_lines.specs.Characters.{read_as as is_read_as};
 
-use plain_model::ForkName;
-use plain_model::character::{CARRIAGE_RETURN, LINE_END};
+use machine_names::ForkName;
+use machine_names::character::{CARRIAGE_RETURN, LINE_END};
 
 /// How many characters a line stores at most.
 pub const MOST_STORED: usize = 80;

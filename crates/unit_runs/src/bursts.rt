@@ -1,13 +1,15 @@
 // Programs in place, over pages in memory alone, by themselves and at the end of chains: each is begun at 100
 // and runs up to an illegal word, unless it ends before.
 ghost use Rattle.std.specs.Prelude.{◌≡◌, ◌<◌, ◌≤◌, ◌+◌, ◌^◌, true, false};
-ghost use Rattle.plain_model.specs.Pages.{HasSpace};
+ghost use Rattle.page_contracts.specs.Pages.{HasSpace};
 
 use crate::spaces::{first_page, space_of};
 use crate::top::{TOP, add_top};
 use flat_pages::{FlatSlots, FlatStore};
 use ka10_unit::{Burst, End, burst};
-use plain_model::{Kind, Pages, Regs, SpaceHandle, Tty};
+use machine_names::{Kind, Tty};
+use page_contracts::{Pages, SpaceHandle};
+use plain_units::Regs;
 use std::test::Fail;
 use word36::{Flags, Word};
 

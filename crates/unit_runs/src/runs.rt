@@ -1,13 +1,14 @@
 // Programs in the accumulators of a fork, whose pages are made as they come to be referred to.
 ghost use Rattle.std.specs.Prelude.{◌<◌, ◌≤◌, ◌^◌};
-ghost use Rattle.plain_model.specs.declared.names.TheConstants.{MOST_HOMES};
+ghost use Rattle.machine_names.specs.declared.homes.TheConstants.{MOST_HOMES};
 ghost use Rattle.ka10_unit.specs.Gathers.{Serves};
 
 use crate::top::{TOP, add_top};
 use flat_pages::{FlatSlots, FlatStore};
 use ka10_unit::{Outcome, Post, Taken, slow_unit};
 use outside::Memory;
-use plain_model::{Pages, Regs};
+use page_contracts::Pages;
+use plain_units::Regs;
 use std::alloc::Global;
 use std::test::Fail;
 use word36::{Flags, Word};

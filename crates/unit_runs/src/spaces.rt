@@ -1,9 +1,11 @@
 // The space of a fork whose programs are run: its pages, each by itself or at the end of a chain of four entries.
 ghost use Rattle.std.specs.Prelude.{◌≡◌, ◌<◌, ◌≤◌, ◌+◌, true};
-ghost use Rattle.plain_model.specs.Pages.{HasSpace};
+ghost use Rattle.page_contracts.specs.Pages.{HasSpace};
 
 use crate::top::TOP;
-use plain_model::{Access, Kind, NewEntry, Pages, Place, Seen, Slot, SpaceHandle, Touch, Tty};
+use machine_names::{Access, Kind, Place, Slot, Tty};
+use page_contracts::{Pages, Seen, SpaceHandle, Touch};
+use plain_pages::NewEntry;
 
 // How many pages lie between an entry and the one that it follows.
 const APART: u16 = 64;

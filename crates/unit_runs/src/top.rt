@@ -1,7 +1,9 @@
 // The fork whose programs are run.
 ghost use Rattle.std.specs.Prelude.{◌≡◌, ◌<◌, ◌≤◌, true, false};
 
-use plain_model::{ForkName, NewMap, Pages, Room, Tty};
+use machine_names::{ForkName, Tty};
+use page_contracts::{Pages, Room};
+use plain_pages::NewMap;
 
 pub const TOP: ForkName = ForkName {
     tty: Tty(3),

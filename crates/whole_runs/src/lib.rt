@@ -1,6 +1,6 @@
 //! Whole runs of the emulator in memory: scripts, and what they print and record, byte by byte.
 //! No layer stands above; to a reader each test is a script with its two texts.
-//! Stands on tenex_console.
+//! Stands on tenex_console, and calls the laws of plain_laws.
 #![tactic(auto)]
 
 #[cfg(test)]
@@ -15,6 +15,8 @@ mod failures;
 mod fork_examples;
 #[cfg(test)]
 mod instructions;
+#[cfg(test)]
+mod laws;
 #[cfg(test)]
 mod limits;
 #[cfg(test)]

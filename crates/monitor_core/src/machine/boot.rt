@@ -1,16 +1,18 @@
 // A machine with nothing in it.
 ghost use Rattle.std.specs.Prelude.{◌≡◌, ◌≤◌, true, IfOk};
-ghost use Rattle.plain_model.specs.declared.names.TheConstants.{MOST_FORKS};
+ghost use Rattle.machine_names.specs.declared.names.TheConstants.{MOST_FORKS};
 ghost use Rattle.std.specs.Ordering.{nat_cmp};
-ghost use Rattle.plain_model.specs.State.{opening, opening_pages};
-ghost use Rattle.plain_model.specs.Outcome.{DrumWords};
-ghost use Rattle.plain_model.specs.declared.names.Tty.{Tty as ATty};
+ghost use Rattle.plain_model.specs.State.{opening};
+ghost use Rattle.plain_pages.specs.PlainPages.{opening_pages};
+ghost use Rattle.page_contracts.specs.DrumWords.{DrumWords};
+ghost use Rattle.machine_names.specs.declared.names.Tty.{Tty as ATty};
 ghost use Rattle.monitor_core.specs.Machines.{Fits, plain, limit, done, auto, is_live};
 
 use crate::machine::{Config, Machine};
 use crate::system::System;
+use machine_names::{MOST_FORKS, TERMINALS, Tty};
 use outside::Memory;
-use plain_model::{MOST_FORKS, Pages, TERMINALS, Tty};
+use page_contracts::Pages;
 use std::alloc::Global;
 
 impl<P: Pages + Drop> Machine<P> {

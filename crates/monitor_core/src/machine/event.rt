@@ -1,16 +1,17 @@
 // One event: its steps, given to a taker.
 ghost use Rattle.std.specs.Prelude.{◌≡◌, ◌<◌, ◌^◌, ◌≤◌, ◌↔◌, true};
 ghost use Rattle.outside.specs.Faults.{Rose};
-ghost use Rattle.plain_model.specs.Taker.{StaysOnward};
-ghost use Rattle.plain_model.specs.Limits.{FitsEvent, IsBuilt};
-ghost use Rattle.plain_model.specs.Outcome.{Went, Stopped, CutOff};
-ghost use Rattle.plain_model.specs.Run.{auto_after};
+ghost use Rattle.script_texts.specs.Taker.{StaysOnward};
+ghost use Rattle.script_texts.specs.Limits.{FitsEvent, IsBuilt};
+ghost use Rattle.monitor_core.specs.Outcome.{Went, Stopped, CutOff};
+ghost use Rattle.script_texts.specs.Follows.{auto_after};
 ghost use Rattle.monitor_core.specs.Machines.{Fits, plain, limit, done, auto, is_live as live_of};
 ghost use Rattle.monitor_core.specs.Acts.{Acted};
 
 use crate::machine::{Ended, Machine};
 use outside::{Drum, Failed};
-use plain_model::{Event, Pages, Taker};
+use page_contracts::Pages;
+use script_texts::{Event, Taker};
 
 impl<P: Pages> Machine<P> {
     // Does an event, and gives its steps.

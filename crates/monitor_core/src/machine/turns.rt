@@ -1,8 +1,8 @@
 // The steps of a machine, given to a taker: one, some turns of a run, and so many of them.
 ghost use Rattle.std.specs.Prelude.{◌≡◌, ◌<◌, ◌^◌, ◌+◌, ◌≤◌};
-ghost use Rattle.plain_model.specs.declared.event.Event.{Event as AnEvent};
-ghost use Rattle.plain_model.specs.declared.event.Step.{Step as AStep};
-ghost use Rattle.plain_model.specs.declared.names.ForkName.{ForkName as AForkName};
+ghost use Rattle.script_texts.specs.declared.event.Event.{Event as AnEvent};
+ghost use Rattle.script_texts.specs.declared.event.Step.{Step as AStep};
+ghost use Rattle.machine_names.specs.declared.names.ForkName.{ForkName as AForkName};
 ghost use Rattle.fork_tree.specs.Trees.{CanRun};
 ghost use Rattle.monitor_core.specs.Runners.{IsRunner};
 ghost use Rattle.monitor_core.specs.Systems.{CanDo};
@@ -13,7 +13,8 @@ use crate::machine::Machine;
 use crate::reply::Reply;
 use crate::runner::Runner;
 use outside::Failed;
-use plain_model::{Event, Pages, Step, Taker};
+use page_contracts::Pages;
+use script_texts::{Event, Step, Taker};
 
 impl<P: Pages> Machine<P> {
     /// Does an event that is one step, counts it, and gives it behind the items that it shows.

@@ -1,7 +1,7 @@
 // The events of a terminal's job.
 ghost use Rattle.std.specs.Prelude.{◌≡◌, ◌<◌, ◌^◌, ◌+◌};
-ghost use Rattle.plain_model.specs.Limits.{IsTerminal};
-ghost use Rattle.plain_model.specs.declared.event.Step.{Step as AStep};
+ghost use Rattle.machine_names.specs.Bounds.{IsTerminal};
+ghost use Rattle.script_texts.specs.declared.event.Step.{Step as AStep};
 ghost use Rattle.monitor_core.specs.JobEvents.{event_at, FitsJobEvent};
 ghost use Rattle.monitor_core.specs.Replies.{reply_of};
 ghost use Rattle.monitor_core.specs.Systems.{Did, IsWithin};
@@ -10,7 +10,10 @@ use crate::forks::{examined, poke, start};
 use crate::job_event::JobEvent;
 use crate::reply::Reply;
 use crate::system::System;
-use plain_model::{Pages, Refusal, TerminalMode, Tty};
+use machine_names::Tty;
+use page_contracts::Pages;
+use plain_model::TerminalMode;
+use script_texts::Refusal;
 
 impl<P: Pages> System<P> {
     /// An event of a terminal's job. NoJob, where the terminal has none.

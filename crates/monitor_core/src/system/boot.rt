@@ -1,7 +1,7 @@
 // A system with nothing in it.
 ghost use Rattle.std.specs.Prelude.{◌≡◌, ◌≤◌, true, IfOk};
-ghost use Rattle.plain_model.specs.declared.names.TheConstants.{MOST_FORKS};
-ghost use Rattle.plain_model.specs.declared.names.Tty.{Tty as ATty};
+ghost use Rattle.machine_names.specs.declared.names.TheConstants.{MOST_FORKS};
+ghost use Rattle.machine_names.specs.declared.names.Tty.{Tty as ATty};
 ghost use Rattle.fork_tree.specs.Trees.{no_forks};
 ghost use Rattle.monitor_core.specs.Jobs.{no_jobs};
 
@@ -9,8 +9,9 @@ use crate::job::empty_jobs;
 use crate::system::System;
 use fork_tree::Tree;
 use ka10_unit::Taken;
+use machine_names::TERMINALS;
 use outside::Memory;
-use plain_model::{Pages, TERMINALS};
+use page_contracts::Pages;
 use std::alloc::Global;
 
 impl<P: Pages + Drop> System<P> {

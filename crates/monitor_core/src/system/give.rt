@@ -1,8 +1,8 @@
 // The items of a reply, and the steps behind them, given to a taker.
 ghost use Rattle.std.specs.Prelude.{◌<◌, ◌≤◌, [], replicate};
 ghost use Rattle.plain_model.specs.Forks.{fork_in};
-ghost use Rattle.plain_model.specs.Limits.{FitsStep};
-ghost use Rattle.plain_model.specs.Run.{IsTurn};
+ghost use Rattle.script_texts.specs.Limits.{FitsStep};
+ghost use Rattle.script_texts.specs.Follows.{IsTurn};
 ghost use Rattle.monitor_core.specs.declared.reply.Reply.{Reply as AReply};
 ghost use Rattle.monitor_core.specs.Giving.{TookAll, TookItems};
 ghost use Rattle.monitor_core.specs.Replies.{lines_of, reply_items, FitsReply};
@@ -12,8 +12,10 @@ use crate::forks::line;
 use crate::giving::give_shown;
 use crate::reply::Reply;
 use crate::system::System;
+use machine_names::{MOST_FORKS, Tty};
 use outside::Failed;
-use plain_model::{Item, MOST_FORKS, Pages, Step, Taker, Tty};
+use page_contracts::Pages;
+use script_texts::{Item, Step, Taker};
 
 // Gives so many equal steps that show nothing: more than one are turns of a run.
 #[inline(always)]

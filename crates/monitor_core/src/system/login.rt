@@ -1,8 +1,8 @@
 // LOGIN: a job is made.
 ghost use Rattle.std.specs.Prelude.{◌≡◌, ◌<◌, None, Ok};
-ghost use Rattle.plain_model.specs.Limits.{IsTerminal};
-ghost use Rattle.plain_model.specs.declared.event.Event.{Event as AnEvent};
-ghost use Rattle.plain_model.specs.declared.event.Step.{Step as AStep};
+ghost use Rattle.machine_names.specs.Bounds.{IsTerminal};
+ghost use Rattle.script_texts.specs.declared.event.Event.{Event as AnEvent};
+ghost use Rattle.script_texts.specs.declared.event.Step.{Step as AStep};
 ghost use Rattle.fork_tree.specs.Making.{room_for};
 ghost use Rattle.monitor_core.specs.Jobs.{job_at};
 ghost use Rattle.monitor_core.specs.Replies.{reply_of};
@@ -12,7 +12,10 @@ use crate::job::Job;
 use crate::reply::Reply;
 use crate::system::System;
 use fork_tree::NoFork;
-use plain_model::{DirName, ForkName, Item, NewMap, Pages, Refusal, Room, Tty, character};
+use machine_names::{DirName, ForkName, Tty, character};
+use page_contracts::{Pages, Room};
+use plain_pages::NewMap;
+use script_texts::{Item, Refusal};
 
 impl<P: Pages> System<P> {
     // Makes a job with its top fork, and its terminal waits for a command.

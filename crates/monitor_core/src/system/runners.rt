@@ -1,12 +1,13 @@
 // Which forks can run.
 ghost use Rattle.std.specs.Prelude.{◌≡◌, ◌↔◌, IsTrue, MatchOption};
-ghost use Rattle.plain_model.specs.declared.names.ForkName.{ForkName as AForkName};
+ghost use Rattle.machine_names.specs.declared.names.ForkName.{ForkName as AForkName};
 ghost use Rattle.fork_tree.specs.Trees.{CanRun};
 ghost use Rattle.monitor_core.specs.Runners.{IsRunner, IsSlot};
 
 use crate::runner::Runner;
 use crate::system::System;
-use plain_model::{Pages, Tty};
+use machine_names::Tty;
+use page_contracts::Pages;
 
 impl<P: Pages> System<P> {
     /// The fork that is next to run behind a slot of a job: the first that can run, by terminal and slot, going round

@@ -1,8 +1,8 @@
 // Steps: an event that is one, and units of a fork.
 ghost use Rattle.std.specs.Prelude.{◌≡◌, ◌<◌, ◌≤◌, ◌^◌, ◌+◌};
-ghost use Rattle.plain_model.specs.Limits.{FitsStep, IsBuilt};
-ghost use Rattle.plain_model.specs.declared.event.Event.{Event as AnEvent};
-ghost use Rattle.plain_model.specs.declared.event.Step.{Step as AStep};
+ghost use Rattle.script_texts.specs.Limits.{FitsStep, IsBuilt};
+ghost use Rattle.script_texts.specs.declared.event.Event.{Event as AnEvent};
+ghost use Rattle.script_texts.specs.declared.event.Step.{Step as AStep};
 ghost use Rattle.monitor_core.specs.declared.reply.Reply.{Reply as AReply};
 ghost use Rattle.monitor_core.specs.Replies.{reply_of};
 ghost use Rattle.monitor_core.specs.Runners.{IsRunner, woken_where};
@@ -15,7 +15,9 @@ use crate::runner::Runner;
 use crate::system::System;
 use crate::units::{Units, units_of};
 use fork_tree::Tree;
-use plain_model::{Event, Item, Pages, Refusal, Tty};
+use machine_names::Tty;
+use page_contracts::Pages;
+use script_texts::{Event, Item, Refusal};
 
 // Who waits for a fork of a job runs again, where one has stopped.
 #[inline]

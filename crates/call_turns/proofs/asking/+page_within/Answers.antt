@@ -1,7 +1,7 @@
 use Rattle.std.proofs.Common.{◌<◌, ◌∙◌, sym, subst, arith}
 use Rattle.std.specs.Prelude.{Option}
-use Rattle.plain_model.specs.declared.names.PageName.{PageName}
-use Rattle.plain_model.specs.Maps.{Entries, entry_at}
+use Rattle.machine_names.specs.declared.names.PageName.{PageName}
+use Rattle.plain_pages.specs.Maps.{Entries, entry_at}
 use Rattle.call_turns.specs.Telling.{IsTold}
 use Rattle.call_turns.proofs.Looks.{no_links, no_page, named_page, followed_page}
 use Rattle.call_turns.proofs.asking.+page_within.Goals as goal

@@ -1,8 +1,8 @@
 use Rattle.std.proofs.Common.{◌≡◌, subst}
-use Rattle.plain_model.specs.declared.map.MapEntry.{MapEntry}
-use Rattle.plain_model.specs.declared.map.MapEntry.TheVariants.{Follows}
-use Rattle.plain_model.specs.declared.map.Seen.TheVariants.{Is}
-use Rattle.plain_model.specs.Pages.{FollowsPage}
+use Rattle.plain_pages.specs.declared.map.MapEntry.{MapEntry}
+use Rattle.plain_pages.specs.declared.map.MapEntry.TheVariants.{Follows}
+use Rattle.page_contracts.specs.declared.answers.Seen.TheVariants.{Is}
+use Rattle.page_contracts.specs.Pages.{FollowsPage}
 use Rattle.call_turns.proofs.Looks.{is_entry, missing_entry, absent_map}
 use Rattle.call_turns.proofs.asking.entry_of.Goals as goal
 

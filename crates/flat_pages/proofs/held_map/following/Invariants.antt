@@ -1,6 +1,6 @@
 use Rattle.std.proofs.Common.{◌≡◌, length, map, take}
 use Rattle.std.specs.List.{range_with_len}
-use Rattle.plain_model.specs.declared.names.TheConstants.{SPACE_PAGES}
+use Rattle.machine_names.specs.declared.names.TheConstants.{SPACE_PAGES}
 use Rattle.flat_pages.proofs.Beginning.{follower}
 use Rattle.flat_pages.proofs.held_map.following.Given as goal
 

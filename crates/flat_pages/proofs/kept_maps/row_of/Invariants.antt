@@ -1,5 +1,5 @@
 use Rattle.std.proofs.Common.{◌≡◌, length, map, take}
-use Rattle.plain_model.specs.declared.names.TheConstants.{SPACE_PAGES}
+use Rattle.machine_names.specs.declared.names.TheConstants.{SPACE_PAGES}
 use Rattle.flat_pages.specs.Looks.{look_of}
 use Rattle.flat_pages.proofs.kept_maps.row_of.Given as goal
 

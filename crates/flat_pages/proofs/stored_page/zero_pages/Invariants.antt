@@ -1,5 +1,5 @@
 use Rattle.std.proofs.Common.{◌≡◌, replicate}
-use Rattle.plain_model.specs.References.{zero_words}
+use Rattle.machine_names.specs.PageWords.{zero_words}
 use Rattle.flat_pages.proofs.stored_page.zero_pages.Given as goal
 
 abbrev pub invariant-loop-page : goal.invariant-loop-page

@@ -1,5 +1,5 @@
 use Rattle.std.proofs.Common.{◌≤◌, ◌+◌, ◌*◌}
-use Rattle.plain_model.specs.declared.names.Tty.{Tty}
+use Rattle.machine_names.specs.declared.names.Tty.{Tty}
 use Rattle.flat_pages.proofs.tests.first_wrong.Given as goal
 
 abbrev pub invariant-loop-number : goal.invariant-loop-number

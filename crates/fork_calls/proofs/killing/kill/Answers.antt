@@ -1,12 +1,12 @@
 use Rattle.std.proofs.Common.{◌≡◌, refl, sym, ◌∙◌, ap, subst, ◌<◌, arith, inl}
 use Rattle.std.specs.Prelude.{IsSome, is_some}
 use Rattle.std.specs.Option.{option_map}
-use Rattle.plain_model.specs.declared.names.ForkName.{ForkName}
-use Rattle.std.specs.FinMap as map
+use Rattle.machine_names.specs.declared.names.ForkName.{ForkName}
 use Rattle.plain_model.specs.Inferiors.{is_inferior}
 use Rattle.plain_model.proofs.ForkMaps.{get_gone_other}
-use Rattle.fork_tree.proofs.Slots.{held_lives}
 use Rattle.plain_model.specs.Trees.{PlainTree}
+use Rattle.std.specs.FinMap as map
+use Rattle.fork_tree.proofs.Slots.{held_lives}
 use Rattle.fork_tree.proofs.Leaves.{inferior_lives}
 use Rattle.fork_calls.specs.Holding.{TopsStay}
 use Rattle.fork_calls.specs.Turning.{parts}

@@ -1,6 +1,6 @@
 use Rattle.std.proofs.Common.{◌≡◌, sym, ap, subst}
 use Rattle.std.specs.FinMap as map
-use Rattle.plain_model.specs.declared.names.ForkName.{ForkName}
+use Rattle.machine_names.specs.declared.names.ForkName.{ForkName}
 use Rattle.plain_model.specs.Forks.{ForkMap}
 use Rattle.plain_model.specs.Trees.{PlainTree}
 use Rattle.fork_tree.specs.Trees.{AreSlotted}

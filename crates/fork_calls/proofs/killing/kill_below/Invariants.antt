@@ -1,8 +1,8 @@
 use Rattle.std.proofs.Common.{◌≡◌, ◌-◌, ◌≤◌}
 use Rattle.std.specs.FinMap as map
-use Rattle.plain_model.specs.declared.names.ForkName.{ForkName}
-use Rattle.plain_model.specs.declared.names.Tty.{Tty}
-use Rattle.plain_model.specs.Outcome.{DrumWords}
+use Rattle.machine_names.specs.declared.names.ForkName.{ForkName}
+use Rattle.machine_names.specs.declared.names.Tty.{Tty}
+use Rattle.page_contracts.specs.DrumWords.{DrumWords}
 use Rattle.plain_model.specs.ForkCalls.{without_below}
 use Rattle.fork_tree.proofs.Killing.{below_in}
 use Rattle.fork_tree.proofs.Upward.{tally}

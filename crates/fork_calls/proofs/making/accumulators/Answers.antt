@@ -1,5 +1,5 @@
 use Rattle.std.proofs.Common.{ℕ, sym, ◌∙◌, subst}
-use Rattle.plain_model.specs.declared.names.Kind.TheVariants.{Read}
+use Rattle.machine_names.specs.declared.names.Kind.TheVariants.{Read}
 use Rattle.ka10_unit.specs.Gathers.{framed}
 use Rattle.fork_calls.specs.Asking.{asked}
 use Rattle.fork_calls.specs.Blocks.{TookBlock}

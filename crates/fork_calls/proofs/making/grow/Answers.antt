@@ -1,7 +1,7 @@
 use Rattle.std.proofs.Common.{◌≡◌, Some, refl, sym, ◌∙◌, ap, subst}
 use Rattle.std.specs.Prelude.{IsSome}
 use Rattle.std.specs.FinMap as map
-use Rattle.plain_model.specs.declared.names.ForkName.{ForkName}
+use Rattle.machine_names.specs.declared.names.ForkName.{ForkName}
 use Rattle.fork_tree.proofs.Slots.{held_lives, in_found}
 use Rattle.fork_calls.proofs.Grown.{all_grown, new_regs, new_stands, room_slot}
 use Rattle.fork_calls.proofs.making.grow.Goals as goal

@@ -5,16 +5,17 @@ use Rattle.plain_model.specs.declared.call.TheConstants.{NO_ROOM}
 use Rattle.plain_model.specs.declared.call.End.TheVariants.{Done, Failed}
 use Rattle.plain_model.specs.declared.call.ForkChange.{ForkChange}
 use Rattle.plain_model.specs.declared.call.ForkChange.TheVariants.{Make}
-use Rattle.plain_model.specs.declared.names.ForkName.{ForkName}
-use Rattle.plain_model.specs.declared.names.Tty.{Tty}
-use Rattle.plain_model.specs.declared.map.NewMap.{NewMap}
-use Rattle.plain_model.specs.declared.fork.Regs.{Regs}
-use Rattle.plain_model.specs.Forks.{ForkMap, same_fork}
-use Rattle.plain_model.specs.NewMaps.{with_map}
-use Rattle.plain_model.specs.Room.{HasRoom}
-use Rattle.plain_model.specs.References.{without_fork}
-use Rattle.plain_model.specs.declared.map.Need.TheVariants.{Frame}
-use Rattle.plain_model.specs.Pages.{IsNewMap, PagesMeaning, TakesMap}
+use Rattle.machine_names.specs.declared.names.ForkName.{ForkName}
+use Rattle.machine_names.specs.declared.names.Tty.{Tty}
+use Rattle.plain_pages.specs.declared.map.NewMap.{NewMap}
+use Rattle.plain_units.specs.declared.registers.Regs.{Regs}
+use Rattle.plain_model.specs.Forks.{ForkMap}
+use Rattle.machine_names.specs.Orders.{same_fork}
+use Rattle.plain_pages.specs.NewMaps.{with_map}
+use Rattle.plain_pages.specs.Room.{HasRoom}
+use Rattle.plain_pages.specs.References.{without_fork}
+use Rattle.page_contracts.specs.declared.answers.Need.TheVariants.{Frame}
+use Rattle.page_contracts.specs.Pages.{IsNewMap, PagesMeaning, TakesMap}
 use Rattle.plain_model.specs.Trees.{PlainTree, next_name}
 use Rattle.plain_model.specs.ForkCalls.{made_fork, map_wanted}
 use Rattle.call_turns.specs.Answers.{answer_of}

@@ -2,9 +2,9 @@ use Rattle.std.proofs.Common.{ℕ, refl, ◌∙◌, ap, subst, inl}
 use Rattle.std.specs.Prelude.{Err}
 use Rattle.plain_model.specs.declared.call.End.TheVariants.{Done}
 use Rattle.plain_model.specs.declared.call.ForkChange.TheVariants.{Become}
-use Rattle.plain_model.specs.declared.names.Kind.TheVariants.{Read}
+use Rattle.machine_names.specs.declared.names.Kind.TheVariants.{Read}
 use Rattle.plain_model.specs.Calls.{ends}
-use Rattle.plain_model.specs.declared.fork.Regs.{Regs}
+use Rattle.plain_units.specs.declared.registers.Regs.{Regs}
 use Rattle.plain_model.specs.ForkCalls.{address_named, with_accumulators_of}
 use Rattle.call_turns.specs.Answers.{answer_of}
 use Rattle.ka10_unit.specs.Gathers.{framed}

@@ -3,10 +3,11 @@ use Rattle.std.specs.Prelude.{Err}
 use Rattle.plain_model.specs.declared.call.End.TheVariants.{Done}
 use Rattle.plain_model.specs.declared.call.ForkChange.{ForkChange}
 use Rattle.plain_model.specs.declared.call.ForkChange.TheVariants.{Store}
-use Rattle.plain_model.specs.declared.names.Kind.TheVariants.{Write}
+use Rattle.machine_names.specs.declared.names.Kind.TheVariants.{Write}
 use Rattle.plain_model.specs.Calls.{behind_call, ends}
-use Rattle.plain_model.specs.declared.fork.Regs.{Regs}
-use Rattle.plain_model.specs.ForkCalls.{address_named, stored_from, stored_low}
+use Rattle.plain_units.specs.declared.registers.Regs.{Regs}
+use Rattle.plain_model.specs.ForkCalls.{address_named, stored_low}
+use Rattle.plain_units.specs.Blocks.{stored_from}
 use Rattle.call_turns.specs.Answers.{answer_of}
 use Rattle.ka10_unit.proofs.Carried.{grows_more, grows_stored}
 use Rattle.ka10_unit.specs.Gathers.{framed}

@@ -1,10 +1,10 @@
 use Rattle.std.proofs.Common.{◌≡◌, sym, ◌∙◌, ap, subst, arith}
 use Rattle.plain_model.specs.Calls.{Turn, end_of}
 use Rattle.plain_model.specs.declared.call.ForkChange.{ForkChange}
+use Rattle.plain_model.specs.ForkCalls.{fork_call}
 use Rattle.fork_calls.specs.Asking.{asked}
 use Rattle.fork_calls.specs.Steps.{IsEndOf, whole}
 use Rattle.fork_calls.specs.declared.step.Step.TheVariants.{Ends}
-use Rattle.plain_model.specs.ForkCalls.{fork_call}
 use Rattle.fork_calls.specs.Turning.{Turned}
 use Rattle.fork_calls.proofs.Returning.{step_returns}
 use Rattle.fork_calls.proofs.Holdings.{caller_serves, caller_terminal}

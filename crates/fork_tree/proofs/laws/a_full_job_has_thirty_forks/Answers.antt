@@ -1,9 +1,9 @@
 use Rattle.std.proofs.Common.{◌≡◌, refl, arith, Bool, true, false, Option, Some, None, Ok, Err, ℕ}
 use Rattle.std.specs.Prelude.{is_none, nat_lt, if◌then◌else◌}
 use Rattle.plain_model.specs.Forks.{fork_in}
-use Rattle.plain_model.specs.declared.names.TheConstants.{LAST_SERIAL}
-use Rattle.fork_tree.specs.declared.tree.NoFork.TheVariants.{ForksFull, SerialsOut}
+use Rattle.machine_names.specs.declared.names.TheConstants.{LAST_SERIAL}
 use Rattle.plain_model.specs.Trees.{free_slot, is_free, next_serial}
+use Rattle.fork_tree.specs.declared.tree.NoFork.TheVariants.{ForksFull, SerialsOut}
 use Rattle.fork_tree.proofs.Kept.{full_room}
 use Rattle.fork_tree.proofs.Listed.{full_listed, listed_full, listed_has, listed_most}
 use Rattle.fork_tree.proofs.Ranges.{first_none, none_tells}

@@ -2,11 +2,11 @@ use Rattle.std.proofs.Common.{◌≡◌, ◌∙◌, ap, sym, refl, Option, Some,
 use Rattle.std.specs.Option.{option_map_or}
 use Rattle.std.specs.FinMap as map
 use Rattle.plain_model.specs.Forks.{fork_in}
-use Rattle.plain_model.specs.declared.names.Tty.{Tty}
-use Rattle.plain_model.specs.declared.names.ForkName.{ForkName}
-use Rattle.plain_model.specs.declared.names.TheConstants.{MOST_FORKS}
-use Rattle.fork_tree.specs.declared.tree.NoFork.TheVariants.{ForksFull}
+use Rattle.machine_names.specs.declared.names.Tty.{Tty}
+use Rattle.machine_names.specs.declared.names.ForkName.{ForkName}
+use Rattle.machine_names.specs.declared.names.TheConstants.{MOST_FORKS}
 use Rattle.plain_model.specs.Trees.{free_slot, is_free, new_fork, next_name, PlainTree}
+use Rattle.fork_tree.specs.declared.tree.NoFork.TheVariants.{ForksFull}
 use Rattle.fork_tree.specs.Making.{room_for, with_new, with_new_in}
 use Rattle.fork_tree.specs.Trees.{IsTree}
 use Rattle.fork_tree.proofs.Kept.{free_none, full_room, name_unused}

@@ -1,6 +1,6 @@
 use Rattle.std.proofs.Common.{◌∙◌, ap, sym}
-use Rattle.plain_model.specs.Pages.{same_fork}
-use Rattle.plain_model.specs.declared.names.TheConstants.{MOST_FORKS}
+use Rattle.machine_names.specs.Orders.{same_fork}
+use Rattle.machine_names.specs.declared.names.TheConstants.{MOST_FORKS}
 use Rattle.plain_model.specs.declared.fork.Fork.{Fork}
 use Rattle.fork_tree.proofs.Leaves.{inferior_is, inferior_lives}
 use Rattle.fork_tree.proofs.Slots.{held_lives, names_same, same_itself}

@@ -1,6 +1,6 @@
 use Rattle.std.proofs.Common.{◌≡◌, true, false, rules, ◌∙◌, refl}
 use Rattle.std.proofs.lemmas.Result.{err_from_is_err_and}
-use Rattle.plain_model.specs.Addressing.{is_indirect}
+use Rattle.plain_units.specs.Addressing.{is_indirect}
 use Rattle.ka10_unit.proofs.Leading.{leads_none, leads_on, leads_stop, leads_done, leads_out}
 use Rattle.ka10_unit.proofs.addresses.address_of.Goals as goal
 

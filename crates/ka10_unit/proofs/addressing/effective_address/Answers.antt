@@ -1,5 +1,5 @@
 use Rattle.std.proofs.Common.{◌≡◌, false, ap, rules}
-use Rattle.plain_model.specs.Addressing.{is_indirect}
+use Rattle.plain_units.specs.Addressing.{is_indirect}
 use Rattle.ka10_unit.proofs.IndirectWords.{directly}
 use Rattle.ka10_unit.proofs.addressing.effective_address.Goals as goal
 

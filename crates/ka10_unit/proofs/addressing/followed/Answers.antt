@@ -1,5 +1,5 @@
 use Rattle.std.proofs.Common.{◌≡◌, true, false, IsSome, refl, ap, subst, rules, arith}
-use Rattle.plain_model.specs.Addressing.{is_indirect}
+use Rattle.plain_units.specs.Addressing.{is_indirect}
 use Rattle.ka10_unit.proofs.IndirectWords.{leads_none, leads_done, leads_on, led_from, led_on, led_reached, led_no_further}
 use Rattle.ka10_unit.proofs.addressing.followed.Goals as goal
 

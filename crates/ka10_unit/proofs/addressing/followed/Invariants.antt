@@ -1,6 +1,6 @@
 use Rattle.std.proofs.Common.{◌≡◌, ℕ, ◌+◌, ◌-◌, ◌≤◌, Some}
-use Rattle.plain_model.specs.declared.names.ForkName.{ForkName}
-use Rattle.plain_model.specs.Outcome.{DrumWords}
+use Rattle.machine_names.specs.declared.names.ForkName.{ForkName}
+use Rattle.page_contracts.specs.DrumWords.{DrumWords}
 use Rattle.ka10_unit.specs.Spots.{IsLed}
 use Rattle.ka10_unit.proofs.IndirectWords.{Leads}
 use Rattle.ka10_unit.proofs.addressing.followed.Given as goal

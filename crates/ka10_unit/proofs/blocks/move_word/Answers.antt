@@ -1,6 +1,6 @@
 use Rattle.std.proofs.Common.{ℕ, Some, refl, sym, ap, ◌∙◌, subst}
 use Rattle.word36.specs.Words.{left}
-use Rattle.plain_model.specs.Deeds.{Deed}
+use Rattle.plain_units.specs.Deeds.{Deed}
 use Rattle.ka10_unit.specs.InPlace.{Finish, InPlace}
 use Rattle.ka10_unit.proofs.BlockLemmas.{blt, blt_row, blt_deed}
 use Rattle.ka10_unit.proofs.Placing.{deed_in_place}

@@ -1,6 +1,6 @@
 use Rattle.std.proofs.Common.{refl, subst, lit≤, lit<}
-use Rattle.plain_model.specs.declared.fork.Regs.{Regs}
-use Rattle.plain_model.specs.Instructions.{finishes}
+use Rattle.plain_units.specs.declared.registers.Regs.{Regs}
+use Rattle.plain_units.specs.Instructions.{finishes}
 use Rattle.ka10_unit.specs.Bytes.{byte_deposited}
 use Rattle.ka10_unit.specs.ByteRests.{begun, deposited_word}
 use Rattle.ka10_unit.specs.Commits.{Leaves}

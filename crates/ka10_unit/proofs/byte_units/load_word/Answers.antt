@@ -1,6 +1,6 @@
 use Rattle.std.proofs.Common.{subst, lit≤, lit<}
-use Rattle.plain_model.specs.declared.fork.Regs.{Regs}
-use Rattle.plain_model.specs.Instructions.{finishes}
+use Rattle.plain_units.specs.declared.registers.Regs.{Regs}
+use Rattle.plain_units.specs.Instructions.{finishes}
 use Rattle.ka10_unit.specs.Bytes.{byte_loaded}
 use Rattle.ka10_unit.specs.ByteRests.{begun, loaded_byte}
 use Rattle.ka10_unit.specs.Commits.{Leaves}

@@ -1,6 +1,6 @@
 use Rattle.std.proofs.Common.{◌≡◌, ◌∙◌, ap}
-use Rattle.plain_model.specs.State.{NumberedPages}
-use Rattle.plain_model.specs.Steps.{put_into}
+use Rattle.plain_pages.specs.PlainPages.{NumberedPages}
+use Rattle.plain_units.specs.Steps.{put_into}
 use Rattle.ka10_unit.specs.Carrying.{StaysAway}
 use Rattle.ka10_unit.specs.Gathers.{Framed, framed}
 use Rattle.ka10_unit.specs.Taking.{so_far}

@@ -1,7 +1,7 @@
 use Rattle.std.proofs.Common.{inl, refl, ◌∙◌}
-use Rattle.plain_model.specs.State.{NumberedPages}
-use Rattle.plain_model.specs.declared.names.Kind.TheVariants.{Write}
-use Rattle.plain_model.specs.References.{slot_at}
+use Rattle.plain_pages.specs.PlainPages.{NumberedPages}
+use Rattle.machine_names.specs.declared.names.Kind.TheVariants.{Write}
+use Rattle.plain_pages.specs.References.{slot_at}
 use Rattle.ka10_unit.proofs.Carried.{ready_here}
 use Rattle.ka10_unit.proofs.carry.store.Goals as goal
 

@@ -1,5 +1,5 @@
 use Rattle.std.proofs.Common.{ℕ, Some, refl, sym, ◌∙◌, ap}
-use Rattle.plain_model.specs.declared.names.Kind.TheVariants.{Execute}
+use Rattle.machine_names.specs.declared.names.Kind.TheVariants.{Execute}
 use Rattle.ka10_unit.proofs.Finishing.{ready_there}
 use Rattle.ka10_unit.proofs.fetches.find_page.Goals as goal
 

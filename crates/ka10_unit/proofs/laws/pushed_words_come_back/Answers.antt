@@ -1,5 +1,5 @@
 use Rattle.std.proofs.Common.{refl, ap, Some}
-use Rattle.plain_model.specs.Deeds.{up}
+use Rattle.plain_units.specs.Deeds.{up}
 use Rattle.ka10_unit.proofs.InARow.{down_up}
 use Rattle.ka10_unit.proofs.laws.pushed_words_come_back.Goals as goal
 

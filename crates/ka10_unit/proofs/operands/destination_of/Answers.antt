@@ -2,7 +2,7 @@ use Rattle.std.proofs.Common.{◌≡◌, ℕ, inl, inr, subst, sym}
 use Rattle.word36.specs.Arithmetic.{arithmetic}
 use Rattle.word36.specs.Boolean.{boolean_of}
 use Rattle.ka10_table.specs.declared.families.Family.{Family}
-use Rattle.plain_model.specs.Deeds.{behind_ac, deed_of, done_by, in_ac}
+use Rattle.plain_units.specs.Deeds.{behind_ac, deed_of, done_by, in_ac}
 use Rattle.ka10_unit.specs.Commits.{store_at, stored_word}
 use Rattle.ka10_unit.proofs.operands.destination_of.Goals as goal
 

@@ -2,7 +2,7 @@ use Rattle.std.proofs.Common.{◌≡◌, Option, Some, None, subst}
 use Rattle.std.specs.Prelude.{option_map}
 use Rattle.word36.specs.Arithmetic.{Outcome, arithmetic}
 use Rattle.ka10_alu.specs.Outs.{out_of}
-use Rattle.plain_model.specs.Deeds.{behind_ac, in_ac, operated}
+use Rattle.plain_units.specs.Deeds.{behind_ac, in_ac, operated}
 use Rattle.ka10_unit.specs.Commits.{Leaves}
 use Rattle.ka10_unit.proofs.Outcomes.{outcome_given, none_given}
 use Rattle.ka10_unit.proofs.operations.commit_operation.Goals as goal

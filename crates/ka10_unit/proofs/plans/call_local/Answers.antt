@@ -1,7 +1,7 @@
 use Rattle.std.proofs.Common.{refl, true}
-use Rattle.plain_model.specs.declared.names.Kind.TheVariants.{Execute, Write}
-use Rattle.plain_model.specs.Steps.{refers, keeps}
-use Rattle.plain_model.specs.Instructions.{local_word, LOCAL_CALL, LOCAL_HANDLER}
+use Rattle.machine_names.specs.declared.names.Kind.TheVariants.{Execute, Write}
+use Rattle.plain_units.specs.Steps.{refers, keeps}
+use Rattle.plain_units.specs.Instructions.{local_word, LOCAL_CALL, LOCAL_HANDLER}
 use Rattle.ka10_unit.proofs.Stepping.{steps_stop, local_stands, local_goes}
 use Rattle.ka10_unit.proofs.plans.call_local.Goals as goal
 

@@ -1,7 +1,7 @@
 use Rattle.std.proofs.Common.{◌≡◌, ◌∙◌, sym, ap, true, false}
 use Rattle.ka10_table.specs.declared.families.TableRow.{TableRow}
 use Rattle.ka10_table.specs.Rows.{row_of}
-use Rattle.plain_model.specs.Addressing.{ac_field, opcode}
+use Rattle.plain_units.specs.Addressing.{ac_field, opcode}
 use Rattle.ka10_unit.specs.Planning.{does_at, is_illegal, reached}
 use Rattle.ka10_unit.proofs.Stepping.{refuses, takes_address, steps_stop, steps_at}
 use Rattle.ka10_unit.proofs.plans.do_word.Goals as goal

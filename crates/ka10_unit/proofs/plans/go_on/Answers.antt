@@ -1,6 +1,6 @@
 use Rattle.ka10_unit.proofs.Stepping.{steps_stop, steps_on}
-use Rattle.plain_model.specs.declared.names.Kind.TheVariants.{Execute}
-use Rattle.plain_model.specs.Steps.{refers}
+use Rattle.machine_names.specs.declared.names.Kind.TheVariants.{Execute}
+use Rattle.plain_units.specs.Steps.{refers}
 use Rattle.ka10_unit.proofs.plans.go_on.Goals as goal
 
 pub returns-in-Err-clause-told : goal.returns-in-Err-clause-told

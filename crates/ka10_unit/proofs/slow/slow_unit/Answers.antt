@@ -1,5 +1,5 @@
 use Rattle.std.proofs.Common.{◌∙◌, ap, sym, refl, arith, Some}
-use Rattle.plain_model.specs.State.{NumberedPages}
+use Rattle.plain_pages.specs.PlainPages.{NumberedPages}
 use Rattle.ka10_unit.specs.Commits.{channel_of}
 use Rattle.ka10_unit.specs.Once.{once, went_through}
 use Rattle.ka10_unit.proofs.Carried.{grows_none, grows_within}

@@ -1,5 +1,5 @@
 use Rattle.std.proofs.Common.{refl}
-use Rattle.plain_model.specs.declared.names.Kind.TheVariants.{Read, Write}
+use Rattle.machine_names.specs.declared.names.Kind.TheVariants.{Read, Write}
 use Rattle.ka10_unit.proofs.Finishing.{ready_there}
 use Rattle.ka10_unit.proofs.spots.spot_to_change.Goals as goal
 

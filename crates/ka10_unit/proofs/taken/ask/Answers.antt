@@ -1,7 +1,7 @@
 use Rattle.std.proofs.Common.{◌≡◌, false, inl, refl, arith}
 use Rattle.std.proofs.lemmas.Bool.Decides.{nat_tests}
-use Rattle.plain_model.specs.References.{slot_at}
-use Rattle.plain_model.specs.Steps.{is_accumulator}
+use Rattle.plain_pages.specs.References.{slot_at}
+use Rattle.plain_units.specs.Steps.{is_accumulator}
 use Rattle.ka10_unit.specs.Gathers.{framed}
 use Rattle.ka10_unit.proofs.Adding.{asks_went, asks_need, asks_denied, asks_full}
 use Rattle.ka10_unit.proofs.taken.ask.Goals as goal

@@ -1,9 +1,9 @@
 use Rattle.std.proofs.Common.{◌%◌, ◌∙◌, ap}
 use Rattle.outside.specs.declared.TheConstants.{PAGE_WORDS}
-use Rattle.plain_model.specs.declared.names.Place.{Place}
-use Rattle.plain_model.specs.Pages.{spot_of}
-use Rattle.plain_model.specs.State.{NumberedPages}
-use Rattle.plain_model.specs.References.{slot_at, word_at}
+use Rattle.machine_names.specs.declared.names.Place.{Place}
+use Rattle.page_contracts.specs.Pages.{spot_of}
+use Rattle.plain_pages.specs.PlainPages.{NumberedPages}
+use Rattle.plain_pages.specs.References.{slot_at, word_at}
 use Rattle.page_gather.specs.Gathering.{left_of}
 use Rattle.ka10_unit.proofs.Adding.{near_place}
 use Rattle.ka10_unit.proofs.taken.held_word.Goals as goal

@@ -1,9 +1,9 @@
 use Rattle.std.proofs.Common.{◌≡◌, ◌%◌, true, ◌∙◌, arith}
 use Rattle.std.specs.Prelude.{◌==◌}
 use Rattle.std.proofs.lemmas.Bool.Decides.{nat_tests}
-use Rattle.plain_model.specs.State.{NumberedPages}
-use Rattle.plain_model.specs.Pages.{spot_of}
-use Rattle.plain_model.specs.References.{page_at, slot_at}
+use Rattle.plain_pages.specs.PlainPages.{NumberedPages}
+use Rattle.page_contracts.specs.Pages.{spot_of}
+use Rattle.plain_pages.specs.References.{page_at, slot_at}
 use Rattle.page_gather.specs.Gathering.{are_same, left_of}
 use Rattle.ka10_unit.proofs.Adding.{near_place}
 use Rattle.ka10_unit.proofs.Seeing.{stands_same}

@@ -1,7 +1,7 @@
 use Rattle.std.proofs.Common.{◌≡◌, ◌∙◌, ap, sym, ◌++◌, Option, false, true}
 use Rattle.std.specs.Option.{option_to_list}
 use Rattle.arrayvec.specs.ArrayVec.{ArrayVec}
-use Rattle.plain_model.specs.declared.unit.Reference.{Reference}
+use Rattle.plain_units.specs.declared.unit.Reference.{Reference}
 use Rattle.ka10_unit.proofs.Referring.{last_replaced, none_replaced}
 use Rattle.ka10_unit.proofs.taken.replace_last.Goals as goal
 

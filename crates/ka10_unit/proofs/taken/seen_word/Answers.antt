@@ -1,6 +1,6 @@
 use Rattle.std.proofs.Common.{◌≡◌, ◌%◌, true, false, ◌∙◌, sym, refl}
 use Rattle.outside.specs.declared.TheConstants.{PAGE_WORDS}
-use Rattle.plain_model.specs.References.{slot_at}
+use Rattle.plain_pages.specs.References.{slot_at}
 use Rattle.page_gather.specs.Gathering.{left_of}
 use Rattle.ka10_unit.specs.Taking.{stands_at}
 use Rattle.ka10_unit.proofs.Seeing.{word_named}

@@ -1,5 +1,5 @@
 use Rattle.std.proofs.Common.{Some, ap}
-use Rattle.plain_model.specs.Deeds.{in_ac}
+use Rattle.plain_units.specs.Deeds.{in_ac}
 use Rattle.ka10_unit.specs.InPlace.{deed_in}
 use Rattle.ka10_unit.specs.Targets.{Target, place_of}
 use Rattle.ka10_unit.proofs.Placing.{deed_in_place, deed_to, finish_at_in_place}

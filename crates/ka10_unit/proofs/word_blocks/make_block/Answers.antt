@@ -1,6 +1,6 @@
 use Rattle.std.proofs.Common.{◌∙◌, Option, ap}
-use Rattle.plain_model.specs.declared.unit.Put.{Put}
-use Rattle.plain_model.specs.Steps.{put_into}
+use Rattle.plain_units.specs.declared.unit.Put.{Put}
+use Rattle.plain_units.specs.Steps.{put_into}
 use Rattle.ka10_unit.specs.Gathers.{framed}
 use Rattle.ka10_unit.specs.Taking.{pages_so_far, so_far}
 use Rattle.ka10_unit.proofs.TakenBlocks.{opens_framed}

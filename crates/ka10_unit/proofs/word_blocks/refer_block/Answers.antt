@@ -1,9 +1,9 @@
 use Rattle.std.proofs.Common.{◌≡◌, ◌+◌, ◌<◌, ◌≤◌, List, length, take, refl, sym, ◌∙◌, ap, subst, arith, ℕ}
 use Rattle.std.proofs.lemmas.List.{take_all, take_more_set}
 use Rattle.std.proofs.Math.ListN.{length-set}
-use Rattle.plain_model.specs.declared.names.Kind.TheVariants.{Write}
-use Rattle.plain_model.specs.Calls.{next_address}
-use Rattle.plain_model.specs.Steps.{refers}
+use Rattle.machine_names.specs.declared.names.Kind.TheVariants.{Write}
+use Rattle.plain_units.specs.Blocks.{next_address}
+use Rattle.plain_units.specs.Steps.{refers}
 use Rattle.std.specs.Prelude.{Ok, Err}
 use Rattle.ka10_unit.specs.Blocks.{TakenSoFar, address_behind}
 use Rattle.ka10_unit.specs.Gathers.{framed}

@@ -1,5 +1,5 @@
 use Rattle.std.proofs.Common.{◌≡◌, ◌≤◌, length, take, None}
-use Rattle.plain_model.specs.Outcome.{DrumWords}
+use Rattle.page_contracts.specs.DrumWords.{DrumWords}
 use Rattle.ka10_unit.specs.Blocks.{TakenSoFar, address_behind}
 use Rattle.ka10_unit.specs.Gathers.{framed}
 use Rattle.ka10_unit.specs.Taking.{IsOpen}

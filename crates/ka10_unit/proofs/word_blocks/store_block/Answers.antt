@@ -1,9 +1,8 @@
 use Rattle.std.proofs.Common.{◌≡◌, ◌+◌, ◌<◌, [], List, length, drop, get_or, refl, sym, ◌∙◌, ap, subst, arith, ℕ}
 use Rattle.std.proofs.lemmas.List.{at_drop_more, drop_all}
-use Rattle.plain_model.specs.State.{NumberedPages}
-use Rattle.plain_model.specs.Calls.{next_address}
-use Rattle.plain_model.specs.ForkCalls.{stored_from}
-use Rattle.plain_model.specs.Outcome.{DrumWords}
+use Rattle.plain_pages.specs.PlainPages.{NumberedPages}
+use Rattle.plain_units.specs.Blocks.{next_address, stored_from}
+use Rattle.page_contracts.specs.DrumWords.{DrumWords}
 use Rattle.ka10_unit.specs.Taking.{IsOpenAt}
 use Rattle.ka10_unit.specs.Blocks.{AreOpenAt, IsStoredAt, address_behind, stored_word}
 use Rattle.ka10_unit.specs.Gathers.{Framed, framed}

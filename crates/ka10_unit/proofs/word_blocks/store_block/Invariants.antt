@@ -1,7 +1,7 @@
 use Rattle.std.proofs.Common.{◌≡◌, drop}
-use Rattle.plain_model.specs.ForkCalls.{stored_from}
-use Rattle.plain_model.specs.Outcome.{DrumWords}
-use Rattle.plain_model.specs.Pages.{StaysPut}
+use Rattle.plain_units.specs.Blocks.{stored_from}
+use Rattle.page_contracts.specs.DrumWords.{DrumWords}
+use Rattle.page_contracts.specs.Pages.{StaysPut}
 use Rattle.ka10_unit.specs.Blocks.{AreOpenAt, address_behind}
 use Rattle.ka10_unit.specs.Gathers.{framed}
 use Rattle.ka10_unit.proofs.word_blocks.store_block.Given as goal

@@ -1,7 +1,7 @@
 use Rattle.std.proofs.Common.{◌≡◌, ◌==◌, Bool, true, cond, sym, ◌∙◌, ap, eq-eqb}
 use Rattle.plain_model.specs.declared.call.TheConstants.{CFORK}
-use Rattle.plain_model.specs.declared.channel.TheConstants.{ILLEGAL_INSTRUCTION}
-use Rattle.plain_model.specs.declared.fork.Answer.{Answer}
+use Rattle.plain_units.specs.declared.channel.TheConstants.{ILLEGAL_INSTRUCTION}
+use Rattle.call_turns.specs.declared.answer.Answer.{Answer}
 use Rattle.plain_model.specs.Calls.{failed_regs, with_error}
 use Rattle.plain_model.specs.Forks.{counted, with_regs}
 use Rattle.plain_model.specs.Interrupts.{posted}

@@ -4,11 +4,11 @@ use Rattle.std.specs.Option.{option_map}
 use Rattle.std.specs.FinMap as map
 use Rattle.plain_model.specs.declared.fork.Body.{Body}
 use Rattle.plain_model.specs.declared.fork.Fork.{Fork}
-use Rattle.plain_model.specs.declared.names.ForkName.{ForkName}
+use Rattle.machine_names.specs.declared.names.ForkName.{ForkName}
 use Rattle.plain_model.specs.Calls.{end_of}
 use Rattle.plain_model.specs.ForkCalls.{fork_call, fork_changed_by}
 use Rattle.plain_model.specs.Forks.{counted, fork_in}
-use Rattle.plain_model.specs.Pages.{PagesMeaning}
+use Rattle.page_contracts.specs.Pages.{PagesMeaning}
 use Rattle.plain_model.specs.Trees.{PlainTree, changed, with_body, with_changed_of}
 use Rattle.call_turns.specs.Answers.{Went}
 use Rattle.fork_tree.specs.Trees.{IsTree, Lives}

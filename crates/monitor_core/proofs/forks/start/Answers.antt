@@ -4,7 +4,7 @@ use Rattle.std.specs.FinMap as map
 use Rattle.fork_tree.specs.Changes.{with_body_of}
 use Rattle.plain_model.specs.Trees.{PlainTree}
 use Rattle.plain_model.specs.declared.fork.Body.{Body}
-use Rattle.plain_model.specs.declared.fork.ForkStatus.TheVariants.{Run}
+use Rattle.script_texts.specs.declared.status.ForkStatus.TheVariants.{Run}
 use Rattle.monitor_core.proofs.Changing.{started_tree, still_there}
 use Rattle.monitor_core.proofs.forks.start.Goals as goal
 

@@ -1,7 +1,7 @@
 use Rattle.std.proofs.Common.{◌≡◌, [], ◌++◌, sym, ◌∙◌, subst}
 use Rattle.std.specs.Prelude.{decimal}
 use Rattle.plain_model.specs.Unit.{printed}
-use Rattle.plain_model.specs.Taker.{GoesOn, IsCut}
+use Rattle.script_texts.specs.Taker.{GoesOn, IsCut}
 use Rattle.monitor_core.specs.Giving.{Takes}
 use Rattle.monitor_core.proofs.Given.{forced_start, forced_end, printed_three, taker_failed, taker_then, takes_part, takes_then}
 use Rattle.monitor_core.proofs.giving.give_forced.Goals as goal

@@ -1,7 +1,7 @@
 use Rattle.std.proofs.Common.{[], ◌∷◌, take, drop, get_or, ◌+◌, arith, sym, subst}
-use Rattle.plain_model.specs.declared.event.Item.TheVariants.{Char}
+use Rattle.script_texts.specs.declared.event.Item.TheVariants.{Char}
 use Rattle.plain_model.specs.Unit.{printed}
-use Rattle.plain_model.proofs.Runs.{onward_then}
+use Rattle.script_texts.proofs.Takers.{onward_then}
 use Rattle.monitor_core.specs.Giving.{Takes}
 use Rattle.monitor_core.proofs.Given.{on_err, takes_part, takes_then, printed_split}
 use Rattle.monitor_core.proofs.giving.give_text.Goals as goal

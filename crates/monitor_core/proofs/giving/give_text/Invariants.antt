@@ -1,5 +1,5 @@
 use Rattle.std.proofs.Common.{[], take, ◌≤◌}
-use Rattle.plain_model.specs.Taker.{GoesOn, StaysOnward}
+use Rattle.script_texts.specs.Taker.{GoesOn, StaysOnward}
 use Rattle.plain_model.specs.Unit.{printed}
 use Rattle.monitor_core.proofs.giving.give_text.Given as goal
 

@@ -1,7 +1,7 @@
 use Rattle.std.proofs.Common.{◌+◌, None, Some, refl, sym, ◌∙◌, ap, subst, arith}
 use Rattle.plain_model.specs.Forks.{counted}
 use Rattle.plain_model.specs.Unit.{posted_if}
-use Rattle.plain_model.specs.declared.channel.TheConstants.{OVERFLOW, PUSHDOWN_OVERFLOW}
+use Rattle.plain_units.specs.declared.channel.TheConstants.{OVERFLOW, PUSHDOWN_OVERFLOW}
 use Rattle.ka10_unit.specs.Bursts.{AreCounted, Came}
 use Rattle.ka10_unit.specs.declared.committed.Post.TheVariants.{Overflow, Pushdown}
 use Rattle.monitor_core.specs.ForkUnit.{Kept, RanUnits, fork_of, left_so, ran_on, units_over}

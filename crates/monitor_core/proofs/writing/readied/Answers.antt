@@ -1,6 +1,6 @@
 use Rattle.std.proofs.Common.{◌≡◌, true, inl, refl, sym, ◌∙◌, subst, arith}
-use Rattle.plain_model.specs.declared.map.Touch.TheVariants.{Ready}
-use Rattle.plain_model.specs.Pages.{SettlesTo, is_in_core}
+use Rattle.page_contracts.specs.declared.answers.Touch.TheVariants.{Ready}
+use Rattle.page_contracts.specs.Pages.{SettlesTo, is_in_core}
 use Rattle.monitor_core.proofs.Writes.{readied_as, ready_refers, copy_refers, zero_refers, denied_refers, full_refers, settles_ready}
 use Rattle.monitor_core.proofs.writing.readied.Goals as goal
 

@@ -1,5 +1,5 @@
 use Rattle.std.proofs.Common.{◌∙◌, ap, arith}
-use Rattle.plain_model.specs.Maps.{entry_at}
+use Rattle.plain_pages.specs.Maps.{entry_at}
 use Rattle.page_gather.specs.declared.walk.Walked.{Walked}
 use Rattle.page_gather.specs.declared.chains.Way.TheVariants as way
 use Rattle.page_gather.specs.Walks.{views_of}

@@ -1,5 +1,5 @@
 use Rattle.std.proofs.Common.{sym, subst}
-use Rattle.plain_model.specs.State.{NumberedPages}
+use Rattle.plain_pages.specs.PlainPages.{NumberedPages}
 use Rattle.page_gather.specs.declared.judging.Judged.{Judged}
 use Rattle.page_gather.specs.Gathering.{after_all, Judges}
 use Rattle.page_gather.proofs.Judged.{judges_absent, judges_nowhere, found_told}

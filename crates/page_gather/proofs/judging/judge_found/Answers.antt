@@ -1,7 +1,7 @@
 use Rattle.std.proofs.Common.{◌+◌, sym, ◌∙◌, ap, subst}
 use Rattle.std.specs.Option.{option_map}
-use Rattle.plain_model.specs.State.{NumberedPages}
-use Rattle.plain_model.specs.Pages.{room_for}
+use Rattle.plain_pages.specs.PlainPages.{NumberedPages}
+use Rattle.page_contracts.specs.Pages.{room_for}
 use Rattle.page_gather.specs.declared.judging.Judged.{Judged}
 use Rattle.page_gather.specs.Gathering.{after_all, Judges}
 use Rattle.page_gather.proofs.Judged.{judges_denied, judges_found}

@@ -1,6 +1,6 @@
 use Rattle.std.proofs.Common.{◌+◌, ◌∷◌, [], ◌++◌, None, sym, subst}
 use Rattle.page_gather.specs.declared.change.Change.{Change}
-use Rattle.plain_model.specs.Maps.{full_access}
+use Rattle.plain_pages.specs.Maps.{full_access}
 use Rattle.page_gather.specs.Gathering.{GoesOn}
 use Rattle.page_gather.proofs.Judged.{told_ready, told_zero, told_both}
 use Rattle.page_gather.proofs.judging.makings_of.Goals as goal

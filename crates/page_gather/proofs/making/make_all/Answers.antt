@@ -1,5 +1,5 @@
 use Rattle.std.proofs.Common.{◌+◌, ◌*◌, get_or, ◌∙◌, ap, arith}
-use Rattle.plain_model.specs.declared.names.Kind.TheVariants.{Read}
+use Rattle.machine_names.specs.declared.names.Kind.TheVariants.{Read}
 use Rattle.page_gather.specs.declared.reference.PageReference.{PageReference}
 use Rattle.page_gather.specs.Gathering.{AreSound}
 use Rattle.page_gather.proofs.Settling.{next_left, next_can, all_made, grows_more, still_framed}

@@ -1,5 +1,5 @@
 use Rattle.std.proofs.Common.{◌*◌}
-use Rattle.plain_model.specs.Outcome.{DrumWords}
+use Rattle.page_contracts.specs.DrumWords.{DrumWords}
 use Rattle.page_gather.specs.Gathering.{AllWent, most_framed}
 use Rattle.page_gather.specs.Making.{Grows}
 use Rattle.page_gather.proofs.Settling.{LeftOver}

@@ -1,5 +1,5 @@
 use Rattle.std.proofs.Common.{◌≡◌, ◌+◌, refl, ◌∙◌, arith}
-use Rattle.plain_model.specs.Room.{live}
+use Rattle.plain_pages.specs.Room.{live}
 use Rattle.page_gather.specs.Gathering.{AreSound}
 use Rattle.page_gather.proofs.Settling.{not_stuck, ready_settled, copy_settled, zero_can, zero_once}
 use Rattle.page_gather.proofs.making.make_one.Goals as goal

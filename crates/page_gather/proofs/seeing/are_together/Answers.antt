@@ -1,6 +1,6 @@
 use Rattle.std.proofs.Common.{sym, ◌∙◌, ap}
-use Rattle.plain_model.specs.State.{NumberedPages}
-use Rattle.plain_model.specs.References.{in_map, page_at}
+use Rattle.plain_pages.specs.PlainPages.{NumberedPages}
+use Rattle.plain_pages.specs.References.{in_map, page_at}
 use Rattle.page_gather.specs.Gathering.{after_all, are_same}
 use Rattle.page_gather.proofs.Judged.{lost_told, found_told, same_none}
 use Rattle.page_gather.proofs.seeing.are_together.Goals as goal

@@ -1,6 +1,6 @@
 use Rattle.std.proofs.Common.{Option, sym, ◌∙◌, ap}
 use Rattle.std.specs.Prelude.{slice_index}
-use Rattle.plain_model.specs.declared.names.Slot.{Slot}
+use Rattle.machine_names.specs.declared.names.Slot.{Slot}
 use Rattle.page_gather.specs.Changes.{source_words}
 use Rattle.page_gather.proofs.WordsSeen.{zeros_at, word_none, peek_word, entry_none}
 use Rattle.page_gather.proofs.seeing.source_word.Goals as goal

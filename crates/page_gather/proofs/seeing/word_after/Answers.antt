@@ -1,6 +1,6 @@
 use Rattle.std.proofs.Common.{sym, ◌∙◌, ap}
 use Rattle.std.specs.Prelude.{slice_index}
-use Rattle.plain_model.specs.State.{NumberedPages}
+use Rattle.plain_pages.specs.PlainPages.{NumberedPages}
 use Rattle.page_gather.specs.Changes.{source_words}
 use Rattle.page_gather.specs.Gathering.{after_all}
 use Rattle.page_gather.proofs.Judged.{lost_told, found_told}

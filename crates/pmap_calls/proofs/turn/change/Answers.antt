@@ -1,5 +1,5 @@
 use Rattle.std.proofs.Common.{subst}
-use Rattle.plain_model.specs.State.{NumberedPages}
+use Rattle.plain_pages.specs.PlainPages.{NumberedPages}
 use Rattle.pmap_calls.specs.Making.{IsMade}
 use Rattle.pmap_calls.proofs.Changes.{nothing_changed, unmaps, follows, narrows}
 use Rattle.pmap_calls.proofs.turn.change.Goals as goal

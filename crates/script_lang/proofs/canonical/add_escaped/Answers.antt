@@ -1,5 +1,5 @@
 use Rattle.std.proofs.Common.{◌∙◌, ap, arith, length}
-use Rattle.plain_model.specs.Texts.{escaped}
+use Rattle.script_texts.specs.Texts.{escaped}
 use Rattle.script_lang.proofs.CanonicalRoom.{adds_each, adds_same}
 use Rattle.script_lang.proofs.FlatMaps.{flat_room}
 use Rattle.script_lang.proofs.canonical.add_escaped.Goals as goal

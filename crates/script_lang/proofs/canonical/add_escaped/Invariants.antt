@@ -1,6 +1,6 @@
 use Rattle.std.proofs.Common.{take}
 use Rattle.std.specs.List.{flat_map}
-use Rattle.plain_model.specs.Texts.{escaped}
+use Rattle.script_texts.specs.Texts.{escaped}
 use Rattle.script_lang.specs.Canonical.{Adds}
 use Rattle.script_lang.proofs.canonical.add_escaped.Given as goal
 

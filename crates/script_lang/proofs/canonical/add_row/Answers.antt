@@ -1,5 +1,5 @@
 use Rattle.std.proofs.Common.{◌∙◌, ap, arith}
-use Rattle.plain_model.specs.Texts.{field, octal}
+use Rattle.script_texts.specs.Texts.{field, octal}
 use Rattle.script_lang.proofs.CanonicalRoom.{adds_each, adds_same}
 use Rattle.script_lang.proofs.canonical.add_row.Goals as goal
 

@@ -1,5 +1,5 @@
 use Rattle.std.proofs.Common.{◌++◌, ap, codes}
-use Rattle.plain_model.specs.Texts.{field, octal}
+use Rattle.script_texts.specs.Texts.{field, octal}
 use Rattle.script_lang.proofs.CanonicalRoom.{adds_both, adds_same}
 use Rattle.script_lang.proofs.canonical.write_page.Goals as goal
 

@@ -1,6 +1,6 @@
 use Rattle.std.proofs.Common.{◌++◌, ap, codes, take}
 use Rattle.std.specs.List.{flat_map}
-use Rattle.plain_model.specs.Texts.{field, octal}
+use Rattle.script_texts.specs.Texts.{field, octal}
 use Rattle.script_lang.proofs.CanonicalRoom.{adds_both, adds_same}
 use Rattle.script_lang.proofs.canonical.write_words.Goals as goal
 

@@ -1,8 +1,8 @@
 use Rattle.std.proofs.Common.{◌++◌, replicate, refl, sym, subst, lit<, lit≤}
 use Rattle.std.specs.Fmt.{digits}
 use Rattle.word36.specs.Octal.{octal_padded}
-use Rattle.plain_model.specs.Limits.{FitsEvent}
-use Rattle.plain_model.specs.declared.event.Event.TheVariants.{TypeIn}
+use Rattle.script_texts.specs.Limits.{FitsEvent}
+use Rattle.script_texts.specs.declared.event.Event.TheVariants.{TypeIn}
 use Rattle.script_lang.proofs.CanonicalFits.{typed_low}
 use Rattle.script_lang.proofs.canonical_tests.fills_the_room.Goals as goal
 

@@ -1,6 +1,6 @@
 use Rattle.std.proofs.Common.{◌≡◌, ◌<◌, ◌^◌, [], ◌∷◌, codes, refl, sym, subst, arith, lit<, lit≤}
 use Rattle.std.proofs.lemmas.List.Elements.{All-from_recursion, All-replicate}
-use Rattle.plain_model.specs.Limits.{IsFileName}
+use Rattle.machine_names.specs.Bounds.{IsFileName}
 use Rattle.script_lang.proofs.CanonicalFits.{is_file_name}
 use Rattle.script_lang.proofs.canonical_tests.writes_lines_of_files.Goals as goal
 

@@ -1,5 +1,5 @@
 use Rattle.std.proofs.Common.{arith, ap, length, lit<}
-use Rattle.plain_model.specs.Texts.{trimmed}
+use Rattle.script_texts.specs.Texts.{trimmed}
 use Rattle.script_lang.proofs.CanonicalDigits.{octal_short}
 use Rattle.script_lang.proofs.digits.octal.Goals as goal
 

@@ -1,5 +1,5 @@
 use Rattle.std.proofs.Common.{◌≡◌, ◌≤◌, ◌-◌, length, drop}
-use Rattle.plain_model.specs.Texts.{trimmed}
+use Rattle.script_texts.specs.Texts.{trimmed}
 use Rattle.script_lang.proofs.digits.trim.Given as goal
 
 abbrev pub invariant-loop-at : goal.invariant-loop-at

@@ -1,4 +1,4 @@
-use Rattle.plain_model.specs.Script.{IsDecimal, IsOctal}
+use Rattle.script_texts.specs.Script.{IsDecimal, IsOctal}
 use Rattle.script_lang.specs.Fields.{Begins}
 use Rattle.script_lang.proofs.Fronts.{decimal_field, moved, tty_field}
 use Rattle.script_lang.proofs.Readings.{examine_parts, examine_spells}

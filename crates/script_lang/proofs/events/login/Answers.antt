@@ -1,4 +1,4 @@
-use Rattle.plain_model.specs.Limits.{IsDirName}
+use Rattle.machine_names.specs.Bounds.{IsDirName}
 use Rattle.script_lang.proofs.Fronts.{moved, tty_field}
 use Rattle.script_lang.proofs.Readings.{login_parts, login_spells}
 use Rattle.script_lang.proofs.events.login.Goals as goal

@@ -1,4 +1,4 @@
-use Rattle.plain_model.specs.Script.{IsOctal}
+use Rattle.script_texts.specs.Script.{IsOctal}
 use Rattle.script_lang.specs.Fields.{Begins}
 use Rattle.script_lang.proofs.Fronts.{moved, octal_field, tty_field}
 use Rattle.script_lang.proofs.Readings.{poke_parts, poke_spells}

@@ -1,4 +1,4 @@
-use Rattle.plain_model.specs.Script.{IsOctal}
+use Rattle.script_texts.specs.Script.{IsOctal}
 use Rattle.script_lang.proofs.Fronts.{IsNamed, cut_named, moved, named_field, no_name, uncut}
 use Rattle.script_lang.proofs.Readings.{page_parts, page_spells}
 use Rattle.script_lang.proofs.events.show_page.Goals as goal

@@ -1,4 +1,4 @@
-use Rattle.plain_model.specs.Script.{IsOctal}
+use Rattle.script_texts.specs.Script.{IsOctal}
 use Rattle.script_lang.proofs.Fronts.{moved, tty_field}
 use Rattle.script_lang.proofs.Readings.{start_parts, start_spells}
 use Rattle.script_lang.proofs.events.start.Goals as goal

@@ -1,6 +1,6 @@
 use Rattle.std.proofs.Common.{length, arith, ap}
 use Rattle.std.proofs.lemmas.Bool.Decides.{nat_tests}
-use Rattle.plain_model.specs.Script.{Types}
+use Rattle.script_texts.specs.Script.{Types}
 use Rattle.script_lang.proofs.Characters.{typing}
 use Rattle.script_lang.proofs.Fronts.{moved, tty_field}
 use Rattle.script_lang.proofs.Readings.{type_in_parts, type_in_spells}

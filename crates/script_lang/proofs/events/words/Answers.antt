@@ -1,6 +1,6 @@
 use Rattle.std.proofs.Common.{take, arith}
 use Rattle.std.proofs.lemmas.List.{length-take-le}
-use Rattle.plain_model.specs.Script.{IsOctal}
+use Rattle.script_texts.specs.Script.{IsOctal}
 use Rattle.script_lang.specs.Fields.{Begins}
 use Rattle.script_lang.proofs.Fronts.{IsNamed, cut_named, moved, named_field, no_name, uncut}
 use Rattle.script_lang.proofs.Readings.{words_at, words_many, words_parts, words_spells}

@@ -1,4 +1,4 @@
-use Rattle.plain_model.specs.Script.{IsOctal}
+use Rattle.script_texts.specs.Script.{IsOctal}
 use Rattle.script_lang.proofs.Fronts.{cut_not, octal_field, uncut}
 use Rattle.script_lang.proofs.fields.page_field.Goals as goal
 

@@ -1,6 +1,6 @@
 use Rattle.std.proofs.Common.{◌≡◌, take, arith}
 use Rattle.std.proofs.lemmas.List.Elements.{All-more}
-use Rattle.plain_model.specs.Script.{IsDigit, decimal_value}
+use Rattle.script_texts.specs.Script.{IsDigit, decimal_value}
 use Rattle.script_lang.proofs.Numbers.{decimal_value-room, decimal_value-take}
 use Rattle.script_lang.proofs.fields.read_decimal.Goals as goal
 

@@ -1,5 +1,5 @@
 use Rattle.std.proofs.Common.{◌≡◌, take, All}
-use Rattle.plain_model.specs.Script.{IsDigit, decimal_value}
+use Rattle.script_texts.specs.Script.{IsDigit, decimal_value}
 use Rattle.script_lang.proofs.fields.read_decimal.Given as goal
 
 abbrev pub invariant-loop-digit : goal.invariant-loop-digit

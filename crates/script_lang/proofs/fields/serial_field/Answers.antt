@@ -1,4 +1,4 @@
-use Rattle.plain_model.specs.Script.{IsDecimal}
+use Rattle.script_texts.specs.Script.{IsDecimal}
 use Rattle.script_lang.proofs.Fronts.{cut_not, decimal_field, uncut}
 use Rattle.script_lang.proofs.fields.serial_field.Goals as goal
 

@@ -1,4 +1,4 @@
-use Rattle.plain_model.specs.Script.{IsTty}
+use Rattle.script_texts.specs.Script.{IsTty}
 use Rattle.script_lang.proofs.Fronts.{cut_not, tty_field, uncut}
 use Rattle.script_lang.proofs.fields.tty_field.Goals as goal
 

@@ -1,5 +1,5 @@
 use Rattle.std.proofs.Common.{◌≡◌, ap, refl, subst}
-use Rattle.plain_model.specs.Script.{Spells}
+use Rattle.script_texts.specs.Script.{Spells}
 use Rattle.script_lang.specs.declared.grammar.Read.TheVariants.{One}
 use Rattle.script_lang.proofs.KeywordBytes.{blank_spells_none}
 use Rattle.script_lang.proofs.Spellings.{one_event, spelled_fits}

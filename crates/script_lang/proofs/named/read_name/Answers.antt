@@ -1,6 +1,6 @@
 use Rattle.std.proofs.Common.{◌≡◌, ◌∙◌, sym, ap, subst, Some, None, Option, List, ℕ}
 use Rattle.std.specs.Prelude.{MatchOption}
-use Rattle.plain_model.specs.Limits.{IsFileName}
+use Rattle.machine_names.specs.Bounds.{IsFileName}
 use Rattle.script_lang.specs.Names.{file_named, full_name}
 use Rattle.script_lang.proofs.FullNames.{long_named, none_named, one_named}
 use Rattle.script_lang.proofs.named.read_name.Goals as goal

@@ -4,7 +4,7 @@ use Rattle.std.proofs.lemmas.Bool.Decides.{Decides-eqb, nat_tests}
 use Rattle.std.proofs.lemmas.List.{length-take-le, nil_from_length, take_more_set}
 use Rattle.std.proofs.lemmas.List.Elements.{All-set}
 use Rattle.std.proofs.lemmas.Slice.Eq.{strip_prefix_is}
-use Rattle.plain_model.specs.Script.{WordFields}
+use Rattle.script_texts.specs.Script.{WordFields}
 use Rattle.script_lang.specs.Rows.{StartsNoWord, StartsWord}
 use Rattle.script_lang.proofs.Fronts.{octal_below}
 use Rattle.script_lang.proofs.RowWords.{rowing, starts_no_word, starts_with_space, starts_word, zeros_set}

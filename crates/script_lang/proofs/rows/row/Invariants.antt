@@ -1,5 +1,5 @@
 use Rattle.std.proofs.Common.{◌≡◌, ◌<◌, ◌≤◌, ◌^◌, length, take, drop, All}
-use Rattle.plain_model.specs.Script.{WordFields}
+use Rattle.script_texts.specs.Script.{WordFields}
 use Rattle.script_lang.proofs.Sequences.{Reaches}
 use Rattle.script_lang.proofs.rows.row.Given as goal
 

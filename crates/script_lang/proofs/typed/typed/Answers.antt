@@ -2,7 +2,7 @@ use Rattle.std.proofs.Common.{rules, ◌≡◌, ◌≢◌, [], length, take, ari
 use Rattle.std.proofs.lemmas.Bool.{eqb-true}
 use Rattle.std.proofs.lemmas.Bool.Decides.{nat_tests}
 use Rattle.std.proofs.lemmas.List.{length-take-le, nil_from_length, take_more_set}
-use Rattle.plain_model.specs.Script.{Types}
+use Rattle.script_texts.specs.Script.{Types}
 use Rattle.script_lang.proofs.Characters.{typing}
 use Rattle.script_lang.proofs.Sequences.{Reaches, reaches_beyond, reaches_end, reaches_more, reaches_nothing}
 use Rattle.script_lang.proofs.typed.typed.Goals as goal

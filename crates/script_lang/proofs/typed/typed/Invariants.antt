@@ -1,5 +1,5 @@
 use Rattle.std.proofs.Common.{◌≡◌, ◌≤◌, length, take}
-use Rattle.plain_model.specs.Script.{Types}
+use Rattle.script_texts.specs.Script.{Types}
 use Rattle.script_lang.proofs.Sequences.{Reaches}
 use Rattle.script_lang.proofs.typed.typed.Given as goal
 

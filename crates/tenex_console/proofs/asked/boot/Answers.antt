@@ -1,6 +1,7 @@
 use Rattle.std.proofs.Common.{Result, Ok, Err, IfOk, sym, ◌∙◌, ap}
 use Rattle.std.specs.Ordering.{nat_cmp}
-use Rattle.plain_model.specs.State.{opening, opening_pages}
+use Rattle.plain_model.specs.State.{opening}
+use Rattle.plain_pages.specs.PlainPages.{opening_pages}
 use Rattle.tenex_console.proofs.asked.boot.Goals as goal
 
 -- five facts of a result make one

@@ -1,6 +1,6 @@
 use Rattle.std.proofs.Common.{◌≡◌, ◌≤◌, ◌-◌, [], true}
-use Rattle.plain_model.specs.Script.{most_bytes}
-use Rattle.plain_model.specs.Taker.{StaysOnward}
+use Rattle.script_texts.specs.Script.{most_bytes}
+use Rattle.script_texts.specs.Taker.{StaysOnward}
 use Rattle.script_lang.specs.Lines.{IsOpen, given, lines_given, pending}
 use Rattle.monitor_core.specs.Machines.{Fits, auto, done, is_live, limit, plain}
 use Rattle.tenex_console.proofs.Running.{SoFar}

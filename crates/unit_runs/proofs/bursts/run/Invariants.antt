@@ -1,4 +1,4 @@
-use Rattle.plain_model.specs.Pages.{HasSpace}
+use Rattle.page_contracts.specs.Pages.{HasSpace}
 use Rattle.unit_runs.proofs.bursts.run.Given as goal
 
 abbrev pub invariant-loop-at : goal.invariant-loop-at

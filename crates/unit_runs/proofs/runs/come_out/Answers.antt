@@ -1,6 +1,6 @@
 use Rattle.std.proofs.Common.{ap, ℕ, arith}
-use Rattle.plain_model.specs.declared.names.Tty.{Tty}
-use Rattle.plain_model.specs.declared.names.ForkName.{ForkName}
+use Rattle.machine_names.specs.declared.names.Tty.{Tty}
+use Rattle.machine_names.specs.declared.names.ForkName.{ForkName}
 use Rattle.unit_runs.proofs.runs.come_out.Goals as goal
 
 abbrev top : ForkName

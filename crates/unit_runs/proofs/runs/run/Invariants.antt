@@ -1,5 +1,5 @@
 use Rattle.std.proofs.Common.{◌+◌, ◌*◌, ◌<◌, ◌≤◌, ◌^◌}
-use Rattle.plain_model.specs.declared.names.ForkName.{ForkName}
+use Rattle.machine_names.specs.declared.names.ForkName.{ForkName}
 use Rattle.ka10_unit.specs.Gathers.{Serves}
 use Rattle.unit_runs.proofs.runs.run.Given as goal
 

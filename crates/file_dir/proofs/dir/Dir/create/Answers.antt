@@ -2,7 +2,7 @@ use Rattle.std.proofs.Common.{◌+◌, ◌<◌, sym, ◌∙◌, ap, subst, refl,
 use Rattle.std.specs.FinMap as map
 use Rattle.number_map.specs.Numbers.{AreTaken, IsLeastFree}
 use Rattle.number_map.proofs.Full.{IsWithin, len_full, len_free}
-use Rattle.plain_model.specs.declared.names.FileNo.{FileNo}
+use Rattle.machine_names.specs.declared.names.FileNo.{FileNo}
 use Rattle.page_files.specs.declared.bytes.TheConstants.{MOST_FILES}
 use Rattle.file_dir.specs.Files.{AreFiles, Files, IsAbsent}
 use Rattle.file_dir.proofs.Places.{files_put, order_put, split_on}

@@ -4,7 +4,7 @@ use Rattle.std.specs.Prelude.{nat_eq}
 use Rattle.std.specs.Bool.{then_some}
 use Rattle.std.specs.Cmp.Lexicographic.{pointwise}
 use Rattle.std.specs.FinMap as map
-use Rattle.plain_model.specs.declared.names.FileNo.{FileNo}
+use Rattle.machine_names.specs.declared.names.FileNo.{FileNo}
 use Rattle.file_dir.specs.Files.{IsAbsent}
 use Rattle.file_dir.specs.Order.{file_at}
 use Rattle.file_dir.proofs.Places.{absent_end, found_or_absent, no_file, split_on}

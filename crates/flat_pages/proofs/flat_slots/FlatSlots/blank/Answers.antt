@@ -1,6 +1,6 @@
 use Rattle.std.proofs.Common.{◌∙◌, sym, ap, cond}
-use Rattle.plain_model.specs.declared.map.Touch.TheVariants.{Zero, Full}
-use Rattle.plain_model.specs.Pages.{framed}
+use Rattle.page_contracts.specs.declared.answers.Touch.TheVariants.{Zero, Full}
+use Rattle.page_contracts.specs.Pages.{framed}
 use Rattle.flat_pages.specs.SlotTouches.{scene_of}
 use Rattle.flat_pages.specs.TableSteps.{tables_of}
 use Rattle.flat_pages.proofs.Rooming.{room_less}

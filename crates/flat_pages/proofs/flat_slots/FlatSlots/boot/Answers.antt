@@ -1,5 +1,5 @@
 use Rattle.std.proofs.Common.{◌≡◌, ◌∙◌, sym, ap, subst, List, is_some}
-use Rattle.plain_model.specs.Stores.{HomePlace, FitsHomes}
+use Rattle.page_contracts.specs.Stores.{HomePlace, FitsHomes}
 use Rattle.flat_pages.specs.declared.held_map.HeldMap.{HeldMap}
 use Rattle.flat_pages.specs.HeldMaps.{index_of, living_of}
 use Rattle.flat_pages.specs.SlotTables.{Tables, AreTables, plain_of}

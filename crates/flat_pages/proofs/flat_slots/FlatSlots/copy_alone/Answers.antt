@@ -1,5 +1,5 @@
 use Rattle.std.proofs.Common.{◌≡◌, ◌<◌, ◌∙◌, sym, ap, subst}
-use Rattle.plain_model.specs.Stores.{place}
+use Rattle.page_contracts.specs.Stores.{place}
 use Rattle.flat_pages.specs.HeldMaps.{fork_at}
 use Rattle.flat_pages.specs.SlotTables.{AreTables, share_of}
 use Rattle.flat_pages.specs.SlotTouches.{is_alone}

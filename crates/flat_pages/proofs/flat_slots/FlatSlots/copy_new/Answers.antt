@@ -1,5 +1,5 @@
 use Rattle.std.proofs.Common.{◌∙◌, sym, ap}
-use Rattle.plain_model.specs.Stores.{place}
+use Rattle.page_contracts.specs.Stores.{place}
 use Rattle.flat_pages.specs.HeldMaps.{fork_at, held_entry}
 use Rattle.flat_pages.specs.SlotTouches.{is_alone}
 use Rattle.flat_pages.specs.TableSteps.{tables_of}

@@ -1,5 +1,5 @@
 use Rattle.std.proofs.Common.{◌≡◌, ℕ, ◌∙◌, ap, subst, arith, is_some, Option}
-use Rattle.plain_model.specs.declared.names.ForkName.{ForkName}
+use Rattle.machine_names.specs.declared.names.ForkName.{ForkName}
 use Rattle.flat_pages.specs.Emptying.{EmptiesMap}
 use Rattle.flat_pages.proofs.EmptyMaps.{empties_none, empties_more, page_there}
 use Rattle.flat_pages.proofs.flat_slots.FlatSlots.empty_map.Goals as goal

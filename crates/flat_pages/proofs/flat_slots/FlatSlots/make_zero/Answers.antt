@@ -1,7 +1,7 @@
 use Rattle.std.proofs.Common.{refl}
-use Rattle.plain_model.specs.Maps.{full_access}
-use Rattle.plain_model.specs.References.{zero_words}
-use Rattle.plain_model.specs.Stores.{here}
+use Rattle.plain_pages.specs.Maps.{full_access}
+use Rattle.machine_names.specs.PageWords.{zero_words}
+use Rattle.page_contracts.specs.Stores.{here}
 use Rattle.flat_pages.specs.declared.held_entry.HeldEntry.TheVariants.{Empty}
 use Rattle.flat_pages.specs.HeldMaps.{fork_at}
 use Rattle.flat_pages.specs.TableSteps.{tables_of}

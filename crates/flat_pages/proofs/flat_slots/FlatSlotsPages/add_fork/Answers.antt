@@ -1,5 +1,5 @@
 use Rattle.std.proofs.Common.{◌∙◌, sym, ap}
-use Rattle.plain_model.specs.Events.{with_map}
+use Rattle.plain_pages.specs.NewMaps.{with_map}
 use Rattle.flat_pages.specs.HeldMaps.{map_at, followers}
 use Rattle.flat_pages.specs.SlotTables.{plain_of}
 use Rattle.flat_pages.specs.TableSteps.{tables_of}

@@ -1,9 +1,8 @@
 use Rattle.std.proofs.Common.{List, sym, ap, subst, refl}
-use Rattle.plain_model.specs.Stores.{HomePlace}
+use Rattle.page_contracts.specs.Stores.{HomePlace, FitsHomes}
 use Rattle.flat_pages.specs.SlotTables.{plain_of}
 use Rattle.flat_pages.specs.SlotTouches.{away_at}
 use Rattle.flat_pages.specs.TableSteps.{tables_of}
-use Rattle.plain_model.specs.Stores.{FitsHomes}
 use Rattle.flat_pages.specs.SlotTouches.{scene_with, touch_with}
 use Rattle.flat_pages.specs.SlotMeaning.{place_along}
 use Rattle.flat_pages.proofs.Putting.{replaced}

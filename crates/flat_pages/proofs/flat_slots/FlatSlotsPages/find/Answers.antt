@@ -3,7 +3,7 @@ use Rattle.std.specs.Prelude.{IsSome}
 use Rattle.std.specs.Option.{option_and_then}
 use Rattle.flat_pages.specs.TableSteps.{tables_of}
 use Rattle.flat_pages.proofs.Settling.{sized_of}
-use Rattle.plain_model.specs.declared.map.Found.{Found}
+use Rattle.page_contracts.specs.declared.answers.Found.{Found}
 use Rattle.flat_pages.specs.HeldMaps.{fork_at}
 use Rattle.flat_pages.specs.Walks.{walk, use_of, ready_home}
 use Rattle.flat_pages.proofs.WalkSteps.{some_fork}

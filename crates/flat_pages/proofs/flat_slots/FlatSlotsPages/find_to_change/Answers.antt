@@ -1,15 +1,15 @@
 use Rattle.std.proofs.Common.{◌∙◌, Option, sym, subst}
 use Rattle.std.specs.Prelude.{IsSome}
-use Rattle.plain_model.specs.declared.names.Kind.{Kind}
+use Rattle.machine_names.specs.declared.names.Kind.{Kind}
+use Rattle.machine_names.specs.declared.names.Kind.TheVariants.{Read, Write}
+use Rattle.machine_names.specs.declared.names.Tty.{Tty}
+use Rattle.page_contracts.specs.declared.answers.Found.{Found}
+use Rattle.machine_names.specs.Bounds.{IsOwner}
 use Rattle.flat_pages.specs.TableSteps.{tables_of}
 use Rattle.flat_pages.proofs.Settling.{sized_of}
-use Rattle.plain_model.specs.declared.names.Kind.TheVariants.{Read, Write}
-use Rattle.plain_model.specs.declared.names.Tty.{Tty}
-use Rattle.plain_model.specs.declared.map.Found.{Found}
 use Rattle.flat_pages.specs.HeldMaps.{fork_at}
 use Rattle.flat_pages.proofs.WalkSteps.{some_fork}
 use Rattle.flat_pages.proofs.Meeting.{place_told, space_fork, change_touched, touched_change, lives_at}
-use Rattle.plain_model.specs.Pages.{IsOwner}
 use Rattle.flat_pages.proofs.flat_slots.FlatSlotsPages.find_to_change.Goals as goal
 
 pub found-requires-clause-lives : goal.found-requires-clause-lives

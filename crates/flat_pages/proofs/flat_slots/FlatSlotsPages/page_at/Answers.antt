@@ -3,7 +3,7 @@ use Rattle.flat_pages.specs.SlotTables.{plain_of}
 use Rattle.flat_pages.specs.TableSteps.{tables_of}
 use Rattle.flat_pages.proofs.Settling.{sized_of}
 use Rattle.flat_pages.proofs.Meeting.{reached, unreached, reached_counted, unreached_page}
-use Rattle.plain_model.specs.Pages.{counted}
+use Rattle.page_contracts.specs.Pages.{counted}
 use Rattle.flat_pages.proofs.flat_slots.FlatSlotsPages.page_at.Goals as goal
 
 pub returns-in-Some : goal.returns-in-Some

@@ -1,9 +1,9 @@
 use Rattle.std.proofs.Common.{◌≡◌, ◌∙◌, true, false, sym, ap}
-use Rattle.plain_model.specs.Stores.{place, is_here}
+use Rattle.page_contracts.specs.Stores.{place, is_here}
+use Rattle.page_contracts.specs.declared.answers.Peeked.TheVariants.{Is}
 use Rattle.flat_pages.specs.TableSteps.{tables_of}
 use Rattle.flat_pages.proofs.Settling.{sized_of}
 use Rattle.flat_pages.proofs.Meeting.{reached, unreached, word_here, word_away, reached_taken, peek_here, peek_away, peek_none}
-use Rattle.plain_model.specs.declared.map.Peeked.TheVariants.{Is}
 use Rattle.flat_pages.proofs.flat_slots.FlatSlotsPages.peek.Goals as goal
 
 pub word-requires-clause-taken : goal.word-requires-clause-taken

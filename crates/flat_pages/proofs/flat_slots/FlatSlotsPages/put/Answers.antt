@@ -1,18 +1,16 @@
 use Rattle.std.proofs.Common.{◌∙◌, List, sym, ap, subst, refl}
-use Rattle.plain_model.specs.Stores.{HomePlace, place}
+use Rattle.page_contracts.specs.Stores.{HomePlace, place, with_word_in, FitsHomes}
+use Rattle.machine_names.specs.declared.names.Kind.TheVariants.{Write}
 use Rattle.flat_pages.specs.SlotTables.{plain_of, AreTables}
 use Rattle.flat_pages.specs.SlotTouches.{away_at}
 use Rattle.flat_pages.specs.TableSteps.{tables_of}
 use Rattle.flat_pages.proofs.Settling.{sized_of}
-use Rattle.plain_model.specs.declared.names.Kind.TheVariants.{Write}
-use Rattle.plain_model.specs.Stores.{with_word_in}
 use Rattle.flat_pages.specs.SlotTouches.{scene_with, touch_with}
 use Rattle.flat_pages.specs.SlotMeaning.{place_along}
 use Rattle.flat_pages.proofs.Settling.{fits_set}
 use Rattle.flat_pages.proofs.Telling.{tables_told}
 use Rattle.flat_pages.proofs.Meeting.{reached, reached_taken, ready_words}
 use Rattle.flat_pages.proofs.Putting.{replaced, put_away, put_tables, stored_at}
-use Rattle.plain_model.specs.Stores.{FitsHomes}
 use Rattle.flat_pages.specs.SlotTables.{AreSized}
 use Rattle.flat_pages.proofs.flat_slots.FlatSlotsPages.put.Goals as goal
 

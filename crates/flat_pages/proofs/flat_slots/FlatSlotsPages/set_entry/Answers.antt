@@ -1,5 +1,5 @@
 use Rattle.std.proofs.Common.{Some, sym, ◌∙◌, ap, subst}
-use Rattle.plain_model.specs.declared.map.NewEntry.{NewEntry}
+use Rattle.plain_pages.specs.declared.map.NewEntry.{NewEntry}
 use Rattle.flat_pages.specs.declared.held_entry.HeldEntry.{HeldEntry}
 use Rattle.flat_pages.specs.SlotSteps.{SetsEntry}
 use Rattle.flat_pages.specs.TableSteps.{tables_of}

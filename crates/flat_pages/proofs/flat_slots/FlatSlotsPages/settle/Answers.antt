@@ -1,9 +1,10 @@
 use Rattle.std.proofs.Common.{◌≡◌, ◌∙◌, true, false, Some, sym, ap, subst, List, refl}
-use Rattle.plain_model.specs.declared.names.Home.{Home}
-use Rattle.plain_model.specs.declared.names.Place.{Place}
-use Rattle.plain_model.specs.References.{settled}
-use Rattle.plain_model.specs.Pages.{spot_of}
-use Rattle.plain_model.specs.Stores.{HomePlace, FitsHomes}
+use Rattle.machine_names.specs.declared.homes.Home.{Home}
+use Rattle.machine_names.specs.declared.names.Place.{Place}
+use Rattle.plain_pages.specs.References.{settled}
+use Rattle.page_contracts.specs.Pages.{spot_of}
+use Rattle.page_contracts.specs.Stores.{HomePlace, FitsHomes}
+use Rattle.plain_pages.specs.Maps.{full_access}
 use Rattle.flat_pages.specs.declared.held_entry.HeldEntry.TheVariants.{Page}
 use Rattle.flat_pages.specs.HeldMaps.{held_entry}
 use Rattle.flat_pages.specs.SlotTables.{plain_of, share_of}
@@ -12,7 +13,6 @@ use Rattle.flat_pages.specs.TableSteps.{tables_of}
 use Rattle.flat_pages.proofs.Meeting.{copy_held}
 use Rattle.flat_pages.proofs.Settling.{sized_of}
 use Rattle.flat_pages.proofs.Settled.{announced, walk_found, can_copy, ready_away, home_here, copy_lives, stays_told, alone_home, zero_stored, copy_stored, alone_stored}
-use Rattle.plain_model.specs.Maps.{full_access}
 use Rattle.flat_pages.proofs.EntrySetting.{names_none}
 use Rattle.flat_pages.proofs.Settled.{slot_lives, one_is, not_one}
 use Rattle.flat_pages.proofs.flat_slots.FlatSlotsPages.settle.Goals as goal

@@ -1,12 +1,11 @@
 use Rattle.std.proofs.Common.{◌∙◌, List, sym, ap, subst, refl}
-use Rattle.plain_model.specs.declared.names.Place.TheVariants.{Fork}
-use Rattle.plain_model.specs.Stores.{HomePlace, place}
+use Rattle.machine_names.specs.declared.names.Place.TheVariants.{Fork}
+use Rattle.page_contracts.specs.Stores.{HomePlace, place, with_word_in, FitsHomes}
 use Rattle.flat_pages.specs.SlotTables.{plain_of, AreTables}
 use Rattle.flat_pages.specs.SlotTouches.{away_at}
 use Rattle.flat_pages.specs.TableSteps.{tables_of}
 use Rattle.flat_pages.proofs.Settling.{sized_of}
 use Rattle.std.proofs.Common.{◌/◌, ◌%◌}
-use Rattle.plain_model.specs.Stores.{with_word_in, FitsHomes}
 use Rattle.flat_pages.specs.SlotTables.{AreSized}
 use Rattle.flat_pages.specs.SlotTouches.{scene_with, touch_with}
 use Rattle.flat_pages.specs.SlotMeaning.{place_along}

@@ -1,5 +1,5 @@
 use Rattle.std.proofs.Common.{◌∙◌, sym, ap, cond, is_some}
-use Rattle.plain_model.specs.declared.map.Touch.TheVariants.{Denied}
+use Rattle.page_contracts.specs.declared.answers.Touch.TheVariants.{Denied}
 use Rattle.flat_pages.specs.HeldMaps.{index_of}
 use Rattle.flat_pages.specs.SlotTouches.{scene_of, away_at, touch_walked, touch_made, copy_of}
 use Rattle.flat_pages.specs.TableSteps.{tables_of}

@@ -1,10 +1,10 @@
 use Rattle.std.proofs.Common.{◌≡◌, ◌∙◌, ℕ, List, sym, ap, inl, inr}
 use Rattle.std.specs.Option.{unwrap_or}
-use Rattle.plain_model.specs.Stores.{place, here, word_in}
+use Rattle.page_contracts.specs.Stores.{place, here, word_in}
+use Rattle.machine_names.specs.declared.names.Kind.TheVariants.{Read, Execute}
 use Rattle.flat_pages.specs.TableSteps.{tables_of}
 use Rattle.flat_pages.proofs.Settling.{sized_of}
 use Rattle.flat_pages.proofs.Meeting.{reached, reached_taken, reached_word, ready_words}
-use Rattle.plain_model.specs.declared.names.Kind.TheVariants.{Read, Execute}
 use Rattle.flat_pages.proofs.flat_slots.FlatSlotsPages.word.Goals as goal
 
 pub word-requires-clause-taken : goal.word-requires-clause-taken

@@ -1,5 +1,5 @@
 use Rattle.std.proofs.Common.{ap, sym, ◌∙◌, List}
-use Rattle.plain_model.specs.Stores.{free_homes}
+use Rattle.page_contracts.specs.Stores.{free_homes}
 use Rattle.flat_pages.specs.StoredPages.{StoredPage, places_of}
 use Rattle.flat_pages.proofs.StoredPlaces.{boot_stored, boot_places}
 use Rattle.flat_pages.proofs.flat_store.FlatStore.boot.Goals as goal

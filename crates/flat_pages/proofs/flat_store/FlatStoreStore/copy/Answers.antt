@@ -1,7 +1,7 @@
 use Rattle.std.proofs.Common.{◌<◌, ◌-◌, ◌+◌, ◌∙◌, true, refl, sym, ap, subst, length, slice_set, arith, List}
 use Rattle.std.proofs.lemmas.List.{get_or_read}
 use Rattle.outside.specs.Drums.{IsPage}
-use Rattle.plain_model.specs.Stores.{here, free_homes}
+use Rattle.page_contracts.specs.Stores.{here, free_homes}
 use Rattle.flat_pages.specs.StoredLists.{pages_of}
 use Rattle.flat_pages.specs.StoredPages.{StoredPage, places_of, AreStored}
 use Rattle.flat_pages.specs.StoreMeaning.{places_set, core_is}

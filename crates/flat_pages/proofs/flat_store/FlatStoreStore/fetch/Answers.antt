@@ -1,8 +1,8 @@
 use Rattle.std.proofs.Common.{◌≡◌, ◌∙◌, ℕ, true, false, refl, sym, ap, subst, arith, List, []}
-use Rattle.plain_model.specs.declared.names.Home.{Home}
-use Rattle.plain_model.specs.declared.map.Need.{Need}
-use Rattle.plain_model.specs.declared.map.Need.TheVariants.{Page, Frame}
-use Rattle.plain_model.specs.Stores.{HomePlace, away, place, is_taken, is_here, free_homes, CanFetch, IsFetched, awaited, meeting}
+use Rattle.machine_names.specs.declared.homes.Home.{Home}
+use Rattle.page_contracts.specs.declared.answers.Need.{Need}
+use Rattle.page_contracts.specs.declared.answers.Need.TheVariants.{Page, Frame}
+use Rattle.page_contracts.specs.Stores.{HomePlace, away, place, is_taken, is_here, free_homes, CanFetch, IsFetched, awaited, meeting}
 use Rattle.flat_pages.specs.declared.flat_store.FlatStore.{FlatStore}
 use Rattle.flat_pages.specs.StoredLists.{pages_of}
 use Rattle.flat_pages.specs.StoredPages.{places_of}

@@ -1,5 +1,5 @@
 use Rattle.std.proofs.Common.{◌+◌, ◌∙◌, false, refl, sym, ap, subst, slice_set, rules, List}
-use Rattle.plain_model.specs.Stores.{free_homes}
+use Rattle.page_contracts.specs.Stores.{free_homes}
 use Rattle.flat_pages.specs.StoredLists.{pages_of}
 use Rattle.flat_pages.specs.StoredPages.{StoredPage, stored_at, places_of, AreStored}
 use Rattle.flat_pages.specs.StoreMeaning.{places_set}

@@ -1,5 +1,5 @@
 use Rattle.std.proofs.Common.{◌≡◌, ◌∙◌, true, refl, sym, ap, subst, slice_set, rules, List}
-use Rattle.plain_model.specs.Stores.{place, is_taken, with_word_in, free_homes}
+use Rattle.page_contracts.specs.Stores.{place, is_taken, with_word_in, free_homes}
 use Rattle.flat_pages.specs.StoredLists.{pages_of}
 use Rattle.flat_pages.specs.StoredPages.{StoredPage, stored_at, places_of, found_at, AreStored}
 use Rattle.flat_pages.proofs.StoredPlaces.{put_stored, put_places, put_found, put_spare, word_fits, found_home}

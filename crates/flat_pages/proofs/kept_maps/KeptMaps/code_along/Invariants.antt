@@ -1,7 +1,7 @@
 use Rattle.std.proofs.Common.{◌≡◌, ◌<◌, ◌-◌}
 use Rattle.std.specs.Prelude.{IsSome}
 use Rattle.std.specs.Option.{option_and_then}
-use Rattle.plain_model.specs.declared.names.TheConstants.{SPACE_PAGES}
+use Rattle.machine_names.specs.declared.names.TheConstants.{SPACE_PAGES}
 use Rattle.flat_pages.specs.HeldMaps.{fork_at}
 use Rattle.flat_pages.specs.Walks.{walk_within, ready_home}
 use Rattle.flat_pages.proofs.kept_maps.KeptMaps.code_along.Given as goal

@@ -1,5 +1,5 @@
 use Rattle.std.proofs.Common.{rules}
-use Rattle.plain_model.specs.State.{first_serials}
+use Rattle.plain_pages.specs.PlainPages.{first_serials}
 use Rattle.flat_pages.proofs.page_serials.PageSerials.first.Goals as goal
 
 pub returns-clause-terminals : goal.returns-clause-terminals

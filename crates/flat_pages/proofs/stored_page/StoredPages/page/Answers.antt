@@ -1,6 +1,6 @@
 use Rattle.std.proofs.Common.{◌<◌, ◌∙◌, length, sym, arith, rules}
 use Rattle.std.proofs.lemmas.List.{get_or_read}
-use Rattle.plain_model.specs.References.{zero_words}
+use Rattle.machine_names.specs.PageWords.{zero_words}
 use Rattle.flat_pages.proofs.StoredRows.{rows_length, words_row}
 use Rattle.flat_pages.proofs.stored_page.StoredPages.page.Goals as goal
 

@@ -1,7 +1,7 @@
 use Rattle.std.proofs.Common.{◌≡◌, ◌<◌, ◌∙◌, ℕ, List, length, ap, sym, arith, rules}
 use Rattle.std.specs.Prelude.{slice_set}
 use Rattle.std.proofs.lemmas.List.{get_or_read}
-use Rattle.plain_model.specs.References.{zero_words}
+use Rattle.machine_names.specs.PageWords.{zero_words}
 use Rattle.flat_pages.specs.StoredPages.{stored_at}
 use Rattle.flat_pages.specs.StoredLists.{pages_of}
 use Rattle.flat_pages.proofs.StoredRows.{rows_length, words_row, words_put}

@@ -2,7 +2,7 @@ use Rattle.std.proofs.Common.{◌≡◌, ◌∙◌, sym, ap, Some, None}
 use Rattle.std.specs.Option.{option_copied}
 use Rattle.std.specs.FinMap as map
 use Rattle.plain_model.specs.declared.fork.Fork.{Fork}
-use Rattle.plain_model.specs.Pages.{same_fork}
+use Rattle.machine_names.specs.Orders.{same_fork}
 use Rattle.fork_tree.proofs.Slots.{in_tells, named_in, names_same}
 use Rattle.fork_tree.proofs.fork_table.ForkTable.fork.Goals as goal
 use Rattle.fork_tree.proofs.fork_table.ForkTable.fork.Goals.{in_default-via-in-Some+else-eq, in_default-via-in_default}

@@ -1,7 +1,7 @@
 use Rattle.std.proofs.Common.{◌≡◌, ◌∙◌, sym, ap, arith, None, get_or, length, length-set}
 use Rattle.std.proofs.lemmas.List.{get_or_read}
 use Rattle.std.specs.FinMap as map
-use Rattle.plain_model.specs.declared.names.ForkName.{ForkName}
+use Rattle.machine_names.specs.declared.names.ForkName.{ForkName}
 use Rattle.fork_tree.specs.Places.{forks_of, place_in}
 use Rattle.fork_tree.proofs.Slots.{some_of}
 use Rattle.fork_tree.proofs.Tables.{named_at}

@@ -1,7 +1,7 @@
 use Rattle.std.proofs.Common.{◌∙◌, ap, subst, arith, get_or}
 use Rattle.std.proofs.lemmas.List.{get_or_read}
 use Rattle.std.specs.FinMap as map
-use Rattle.plain_model.specs.declared.names.ForkName.{ForkName}
+use Rattle.machine_names.specs.declared.names.ForkName.{ForkName}
 use Rattle.fork_tree.specs.Trees.{AreSlotted}
 use Rattle.fork_tree.proofs.Tables.{got, slot_had, slotted}
 use Rattle.fork_tree.proofs.fork_table.ForkTable.slot_of.Goals as goal

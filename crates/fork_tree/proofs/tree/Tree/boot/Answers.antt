@@ -1,5 +1,5 @@
 use Rattle.std.proofs.Common.{◌≡◌, ◌∙◌, ap, refl, rules, List, ℕ, replicate}
-use Rattle.plain_model.specs.State.{first_serials}
+use Rattle.plain_pages.specs.PlainPages.{first_serials}
 use Rattle.fork_tree.proofs.Kept.{none_tree}
 use Rattle.fork_tree.proofs.tree.Tree.boot.Goals as goal
 

@@ -1,7 +1,7 @@
 use Rattle.std.proofs.Common.{◌≡◌, ◌∙◌, ◌-◌, ◌+◌, ◌||◌, sym, ap, arith}
 use Rattle.std.specs.Option.{option_copied}
 use Rattle.plain_model.specs.Forks.{superior_of}
-use Rattle.plain_model.specs.Pages.{same_fork}
+use Rattle.machine_names.specs.Orders.{same_fork}
 use Rattle.plain_model.specs.Inferiors.{is_within}
 use Rattle.fork_tree.proofs.Upward.{look_none, look_over, look_some}
 use Rattle.fork_tree.proofs.tree.Tree.has_superior.Goals as goal

@@ -1,7 +1,7 @@
 use Rattle.std.proofs.Common.{◌≡◌, ◌-◌}
 use Rattle.std.specs.Option.{option_copied}
 use Rattle.plain_model.specs.Forks.{superior_of}
-use Rattle.plain_model.specs.declared.names.TheConstants.{MOST_FORKS}
+use Rattle.machine_names.specs.declared.names.TheConstants.{MOST_FORKS}
 use Rattle.plain_model.specs.Inferiors.{is_within}
 use Rattle.fork_tree.proofs.tree.Tree.has_superior.Given as goal
 

@@ -1,6 +1,6 @@
 use Rattle.std.proofs.Common.{◌≡◌, ◌∙◌, replicate, ap, arith}
 use Rattle.std.specs.FinMap as map
-use Rattle.plain_model.specs.declared.names.TheConstants.{TERMINALS}
+use Rattle.machine_names.specs.declared.names.TheConstants.{TERMINALS}
 use Rattle.jfn_table.specs.JobFiles.{Held}
 use Rattle.jfn_table.specs.Jobs.{no_jfns}
 use Rattle.jfn_table.proofs.job_jfns.JobJfns.boot.Goals as goal

@@ -1,5 +1,5 @@
 use Rattle.std.proofs.Common.{inl, inr, refl, sym, subst}
-use Rattle.plain_model.specs.declared.event.Event.TheVariants.{Evict, Drum}
+use Rattle.script_texts.specs.declared.event.Event.TheVariants.{Evict, Drum}
 use Rattle.monitor_core.specs.Acts.{Acted}
 use Rattle.monitor_core.proofs.StepDid.{silent_acted}
 use Rattle.monitor_core.proofs.machine.Machine.act.Goals as goal

@@ -1,5 +1,5 @@
 use Rattle.std.proofs.Common.{◌+◌, ap, arith, refl}
-use Rattle.plain_model.specs.declared.event.Step.TheVariants.{Idle}
+use Rattle.script_texts.specs.declared.event.Step.TheVariants.{Idle}
 use Rattle.monitor_core.specs.declared.reply.Reply.TheVariants.{Nothing}
 use Rattle.monitor_core.proofs.StepDid.{did_idle, turns_given, turns_cut}
 use Rattle.monitor_core.proofs.machine.Machine.idle.Goals as goal

@@ -1,6 +1,6 @@
 use Rattle.std.proofs.Common.{◌-◌, ◌∙◌, arith}
 use Rattle.std.proofs.lemmas.Result.{IfOk-from_err}
-use Rattle.plain_model.proofs.Runs.{onward_then}
+use Rattle.script_texts.proofs.Takers.{onward_then}
 use Rattle.monitor_core.proofs.Given.{on_err}
 use Rattle.monitor_core.proofs.StepDid.{turns_more, more_cut}
 use Rattle.monitor_core.proofs.machine.Machine.run.Goals as goal

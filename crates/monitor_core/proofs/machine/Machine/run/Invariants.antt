@@ -1,6 +1,6 @@
 use Rattle.std.proofs.Common.{◌≡◌, ◌≤◌, ◌-◌}
-use Rattle.plain_model.specs.declared.event.Event.TheVariants.{Run}
-use Rattle.plain_model.specs.Taker.{StaysOnward}
+use Rattle.script_texts.specs.declared.event.Event.TheVariants.{Run}
+use Rattle.script_texts.specs.Taker.{StaysOnward}
 use Rattle.monitor_core.specs.Acts.{Given}
 use Rattle.monitor_core.specs.Machines.{auto, is_live, limit}
 use Rattle.monitor_core.proofs.machine.Machine.run.Given as goal

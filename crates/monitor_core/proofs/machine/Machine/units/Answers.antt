@@ -1,5 +1,5 @@
 use Rattle.std.proofs.Common.{◌+◌, sym, ap, subst, arith, refl}
-use Rattle.plain_model.specs.declared.event.Step.TheVariants.{Unit as AUnit}
+use Rattle.script_texts.specs.declared.event.Step.TheVariants.{Unit as AUnit}
 use Rattle.monitor_core.specs.declared.reply.Reply.TheVariants.{Prints}
 use Rattle.monitor_core.specs.Systems.{IsWithin}
 use Rattle.monitor_core.proofs.Runnable.{runner_fits, runner_slot}

@@ -1,10 +1,10 @@
 use Rattle.std.proofs.Common.{◌≡◌, ◌≢◌, ◌||◌, ◌<◌, ◌+◌, set, false, Some, refl, sym, ◌∙◌, subst}
-use Rattle.plain_model.specs.declared.map.NewMap.TheVariants.{Empty}
-use Rattle.plain_model.specs.declared.names.ForkName.{ForkName}
-use Rattle.plain_model.specs.declared.names.Tty.{Tty}
-use Rattle.plain_model.specs.Events.{with_map}
-use Rattle.plain_model.specs.Outcome.{DrumWords}
-use Rattle.plain_model.specs.Pages.{same_fork}
+use Rattle.plain_pages.specs.declared.map.NewMap.TheVariants.{Empty}
+use Rattle.machine_names.specs.declared.names.ForkName.{ForkName}
+use Rattle.machine_names.specs.declared.names.Tty.{Tty}
+use Rattle.plain_pages.specs.NewMaps.{with_map}
+use Rattle.page_contracts.specs.DrumWords.{DrumWords}
+use Rattle.machine_names.specs.Orders.{same_fork}
 use Rattle.plain_model.specs.Trees.{PlainTree}
 use Rattle.fork_tree.specs.Trees.{IsTree}
 use Rattle.monitor_core.specs.Sound.{AreSound}

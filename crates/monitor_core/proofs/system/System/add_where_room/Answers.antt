@@ -1,7 +1,7 @@
 use Rattle.std.proofs.Common.{refl}
-use Rattle.plain_model.specs.declared.event.Event.TheVariants.{Login}
-use Rattle.plain_model.specs.declared.event.Item.TheVariants.{Refusal}
-use Rattle.plain_model.specs.declared.event.Refusal.TheVariants.{Full}
+use Rattle.script_texts.specs.declared.event.Event.TheVariants.{Login}
+use Rattle.script_texts.specs.declared.event.Item.TheVariants.{Refusal}
+use Rattle.script_texts.specs.declared.event.Refusal.TheVariants.{Full}
 use Rattle.monitor_core.specs.declared.reply.Reply.TheVariants.{One}
 use Rattle.monitor_core.proofs.EventDid.{is_full}
 use Rattle.monitor_core.proofs.JobDid.{did_still}

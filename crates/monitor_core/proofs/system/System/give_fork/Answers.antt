@@ -1,5 +1,5 @@
 use Rattle.std.proofs.Common.{sym, subst}
-use Rattle.plain_model.specs.Limits.{FitsForkLine}
+use Rattle.script_texts.specs.Limits.{FitsForkLine}
 use Rattle.fork_tree.proofs.Slots.{in_tells}
 use Rattle.monitor_core.proofs.ForksShown.{line_fits}
 use Rattle.monitor_core.proofs.system.System.give_fork.Goals as goal

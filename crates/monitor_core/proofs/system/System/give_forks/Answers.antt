@@ -1,8 +1,8 @@
 use Rattle.std.proofs.Common.{◌≡◌, [], ◌++◌, ◌+◌, ◌-◌, ap, arith, sym, subst, ◌∙◌}
-use Rattle.plain_model.specs.declared.names.TheConstants.{MOST_FORKS}
+use Rattle.machine_names.specs.declared.names.TheConstants.{MOST_FORKS}
 use Rattle.plain_model.specs.Forks.{fork_in}
-use Rattle.plain_model.specs.Taker.{GoesOn}
-use Rattle.plain_model.proofs.Runs.{goes_on_append, onward_then}
+use Rattle.script_texts.specs.Taker.{GoesOn}
+use Rattle.script_texts.proofs.Takers.{goes_on_append, onward_then}
 use Rattle.monitor_core.specs.Giving.{Takes}
 use Rattle.monitor_core.specs.Replies.{lines_of}
 use Rattle.monitor_core.proofs.ForksShown.{lines, lines_upto, one_line_more}

@@ -1,6 +1,6 @@
 use Rattle.std.proofs.Common.{[], ◌≤◌, ◌-◌, ◌+◌}
-use Rattle.plain_model.specs.declared.names.TheConstants.{MOST_FORKS}
-use Rattle.plain_model.specs.Taker.{GoesOn, StaysOnward}
+use Rattle.machine_names.specs.declared.names.TheConstants.{MOST_FORKS}
+use Rattle.script_texts.specs.Taker.{GoesOn, StaysOnward}
 use Rattle.monitor_core.proofs.ForksShown.{lines}
 use Rattle.monitor_core.proofs.system.System.give_forks.Given as goal
 

@@ -1,8 +1,8 @@
 use Rattle.std.proofs.Common.{◌≡◌, sym, ◌∙◌, ap, refl, is_some, None}
 use Rattle.std.specs.Prelude.{Err}
-use Rattle.plain_model.specs.declared.event.Event.TheVariants.{Login}
-use Rattle.plain_model.specs.declared.event.Item.TheVariants.{Refusal}
-use Rattle.plain_model.specs.declared.event.Refusal.TheVariants.{Busy, SerialsOut}
+use Rattle.script_texts.specs.declared.event.Event.TheVariants.{Login}
+use Rattle.script_texts.specs.declared.event.Item.TheVariants.{Refusal}
+use Rattle.script_texts.specs.declared.event.Refusal.TheVariants.{Busy, SerialsOut}
 use Rattle.monitor_core.specs.declared.reply.Reply.TheVariants.{One}
 use Rattle.monitor_core.specs.Jobs.{job_at}
 use Rattle.monitor_core.proofs.EventDid.{is_busy, serials_are_out, missing}

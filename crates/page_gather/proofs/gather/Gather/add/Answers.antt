@@ -1,9 +1,9 @@
 use Rattle.std.proofs.Common.{◌≡◌, [], ◌∷◌, ◌++◌, length, sym, ◌∙◌, ap, subst, rules}
-use Rattle.plain_model.specs.declared.names.Place.TheVariants.{Fork}
-use Rattle.plain_model.specs.declared.names.Slot.{Slot}
-use Rattle.plain_model.specs.declared.map.Touch.TheVariants.{Ready}
-use Rattle.plain_model.specs.Pages.{spot_of, touch_of}
-use Rattle.plain_model.specs.References.{in_map}
+use Rattle.machine_names.specs.declared.names.Place.TheVariants.{Fork}
+use Rattle.machine_names.specs.declared.names.Slot.{Slot}
+use Rattle.page_contracts.specs.declared.answers.Touch.TheVariants.{Ready}
+use Rattle.page_contracts.specs.Pages.{spot_of, touch_of}
+use Rattle.plain_pages.specs.References.{in_map}
 use Rattle.page_gather.specs.declared.reference.Added.TheVariants.{Went}
 use Rattle.page_gather.specs.Gathering.{Gathering, Adds}
 use Rattle.page_gather.proofs.Judged.{ready_told, no_changes}

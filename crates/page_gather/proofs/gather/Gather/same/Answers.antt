@@ -1,6 +1,6 @@
 use Rattle.std.proofs.Common.{List, sym, ◌∙◌, ap, subst}
-use Rattle.plain_model.specs.Pages.{spot_of}
-use Rattle.plain_model.specs.References.{page_at}
+use Rattle.page_contracts.specs.Pages.{spot_of}
+use Rattle.plain_pages.specs.References.{page_at}
 use Rattle.page_gather.specs.declared.change.Change.{Change}
 use Rattle.page_gather.specs.Gathering.{AreGathered, Gathering, IsPlaceNear, are_same, left_of}
 use Rattle.page_gather.proofs.gather.Gather.same.Goals as goal

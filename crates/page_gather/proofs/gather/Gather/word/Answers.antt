@@ -1,7 +1,7 @@
 use Rattle.std.proofs.Common.{List, sym, ◌∙◌, ap, subst}
-use Rattle.plain_model.specs.declared.names.Place.{Place}
-use Rattle.plain_model.specs.Pages.{spot_of}
-use Rattle.plain_model.specs.References.{word_at}
+use Rattle.machine_names.specs.declared.names.Place.{Place}
+use Rattle.page_contracts.specs.Pages.{spot_of}
+use Rattle.plain_pages.specs.References.{word_at}
 use Rattle.page_gather.specs.declared.change.Change.{Change}
 use Rattle.page_gather.specs.Gathering.{AreGathered, Gathering, IsPlaceNear, left_of}
 use Rattle.page_gather.proofs.gather.Gather.word.Goals as goal

@@ -1,5 +1,5 @@
 use Rattle.std.proofs.Common.{ap, arith, length, subst}
-use Rattle.plain_model.specs.Script.{HasNoFeed}
+use Rattle.script_texts.specs.Script.{HasNoFeed}
 use Rattle.script_lang.specs.Feeds.{StopsWithin}
 use Rattle.script_lang.proofs.Reading.{reads_filled}
 use Rattle.script_lang.proofs.buffer.Buffer.find.Goals as goal

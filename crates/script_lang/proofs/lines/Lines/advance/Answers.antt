@@ -1,5 +1,5 @@
 use Rattle.std.proofs.Common.{◌≡◌, ◌+◌, [], ◌∷◌, arith, subst, sym, ◌∙◌, ap, refl}
-use Rattle.plain_model.specs.Script.{turns_of}
+use Rattle.script_texts.specs.Script.{turns_of}
 use Rattle.script_lang.specs.Feeds.{AllLeft}
 use Rattle.script_lang.specs.Lines.{Breaks, GivesFront, IsUndecided, Takes, given, lines_given, pending, turns_given}
 use Rattle.script_lang.specs.declared.lines.Line.TheVariants.{One}

@@ -1,6 +1,6 @@
 use Rattle.std.proofs.Common.{◌≡◌, inl, inr, sym, ◌+◌, ◌<◌, [], ◌∷◌, arith, take, subst, ◌∙◌, ap, refl}
-use Rattle.plain_model.specs.Limits.{IsBuilt}
-use Rattle.plain_model.specs.Script.{IsBlank, Means, Spells, turns_of, most_turns}
+use Rattle.script_texts.specs.Limits.{IsBuilt}
+use Rattle.script_texts.specs.Script.{IsBlank, Means, Spells, turns_of, most_turns}
 use Rattle.script_lang.specs.Lines.{given, pending, turns_given}
 use Rattle.script_lang.proofs.Judging.{long_front, bad_front, gives_line, gives_event, gives_none, fed_line, means_built, unbuilt_bad}
 use Rattle.script_lang.proofs.lines.Lines.judge.Goals as goal

@@ -1,5 +1,5 @@
 use Rattle.std.proofs.Common.{◌⊎◌, inl, inr, ◌<◌, length, subst, sym, arith, refl}
-use Rattle.plain_model.specs.Script.{IsBadRest, IsLongRest}
+use Rattle.script_texts.specs.Script.{IsBadRest, IsLongRest}
 use Rattle.script_lang.specs.Lines.{IsUndecided, given, pending, turns_given}
 use Rattle.script_lang.proofs.Judging.{ends_bad, goes_long, stops_bad, stops_undecided}
 use Rattle.script_lang.proofs.Reading.{all_read, all_spent, reads_weaker}

@@ -1,5 +1,5 @@
 use Rattle.std.proofs.Common.{◌-◌}
-use Rattle.plain_model.specs.Script.{most_bytes}
+use Rattle.script_texts.specs.Script.{most_bytes}
 use Rattle.script_lang.specs.Lines.{Skips, given}
 use Rattle.script_lang.proofs.lines.Lines.needs_read.Given as goal
 

@@ -1,5 +1,5 @@
 use Rattle.std.proofs.Common.{refl, arith}
-use Rattle.plain_model.specs.declared.event.Step.TheVariants.{Outer}
+use Rattle.script_texts.specs.declared.event.Step.TheVariants.{Outer}
 use Rattle.texts.proofs.Answered.{went, failed, any_err, same_grows, same_partly}
 use Rattle.texts.proofs.Standing.{step_goes_on, step_cut}
 use Rattle.texts.proofs.writer.Writer.event.Goals as goal

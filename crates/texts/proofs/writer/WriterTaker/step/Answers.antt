@@ -1,5 +1,5 @@
 use Rattle.std.proofs.Common.{sym}
-use Rattle.plain_model.specs.declared.event.Step.TheVariants.{Outer, Unit, Idle}
+use Rattle.script_texts.specs.declared.event.Step.TheVariants.{Outer, Unit, Idle}
 use Rattle.texts.proofs.Standing.{named_ok, named_err}
 use Rattle.texts.proofs.writer.WriterTaker.step.Goals as goal
 

@@ -1,6 +1,6 @@
 use Rattle.std.proofs.Common.{sym, subst, []}
 use Rattle.std.specs.Prelude.{OnOk, OnErr, replicate}
-use Rattle.plain_model.specs.Taker.{GoesOn, IsCut}
+use Rattle.script_texts.specs.Taker.{GoesOn, IsCut}
 use Rattle.texts.specs.Writer.{Stands, IsCutWithin}
 use Rattle.texts.proofs.writer.WriterTaker.turns.Goals as goal
 

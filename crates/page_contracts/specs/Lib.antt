@@ -1,0 +1,3 @@
+pub mod DrumWords
+pub mod Stores
+pub mod Pages

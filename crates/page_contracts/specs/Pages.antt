@@ -1,0 +1,299 @@
+-- What the calls on pages answer and leave: over the plain pages, and over what is in frames.
+use Rattle.std.specs.Prelude.{◌≡◌, ◌⊎◌, ℕ, ◌+◌, ◌<◌, ◌≤◌, List, [], ◌∷◌, length, Bool, true, false, nat_lt, nat_le, Option, None, Some, if◌then◌else◌, ◌==◌, slice_index}
+use Rattle.std.specs.Option.{option_map, option_or, option_map_or, option_and_then}
+use Rattle.std.specs.declared.cmp.Ordering.{Ordering}
+use Rattle.std.specs.FinMap as map
+use Rattle.machine_names.specs.declared.names.Tty.{Tty}
+use Rattle.machine_names.specs.declared.names.ForkName.{ForkName}
+use Rattle.machine_names.specs.declared.names.PageName.{PageName}
+use Rattle.machine_names.specs.declared.names.Place.{Place}
+use Rattle.machine_names.specs.declared.names.Place.TheVariants.{Fork, File}
+use Rattle.machine_names.specs.declared.names.Kind.{Kind}
+use Rattle.machine_names.specs.declared.names.Kind.TheVariants.{Read, Write}
+use Rattle.machine_names.specs.declared.names.TheConstants.{SPACE_PAGES}
+use Rattle.plain_pages.specs.declared.map.MapEntry.{MapEntry}
+use Rattle.plain_pages.specs.declared.map.MapEntry.TheVariants.{Names, Follows}
+use Rattle.page_contracts.specs.declared.answers.SpaceHandle.{SpaceHandle}
+use Rattle.page_contracts.specs.declared.answers.Found.{Found}
+use Rattle.machine_names.specs.declared.names.Slot.{Slot}
+use Rattle.plain_pages.specs.declared.map.NewMap.{NewMap}
+use Rattle.plain_pages.specs.declared.map.NewMap.TheVariants.{Empty as EmptyMap, FollowAll}
+use Rattle.page_contracts.specs.declared.answers.Touch.{Touch}
+use Rattle.page_contracts.specs.declared.answers.Touch.TheVariants.{Ready, Zero, Copy, Absent, NeedFrame, Denied, Full}
+use Rattle.page_contracts.specs.declared.answers.Peeked.{Peeked}
+use Rattle.page_contracts.specs.declared.answers.Peeked.TheVariants.{Is, Absent as Away, NoPage}
+use Rattle.page_contracts.specs.declared.answers.Seen.{Seen}
+use Rattle.page_contracts.specs.declared.answers.Seen.TheVariants.{Is as Entry, Absent as MapAway, Missing}
+use Rattle.page_contracts.specs.declared.store.Room.{Room}
+use Rattle.page_contracts.specs.declared.store.Room.TheVariants.{Enough, NeedFrame as NoFrame, Full as NoRoom}
+use Rattle.page_contracts.specs.DrumWords.{DrumWords}
+use Rattle.plain_pages.specs.PlainPages.{PlainPages, NumberedPages, page_serial}
+use Rattle.plain_pages.specs.Maps.{entry_at, maps_on_way}
+use Rattle.plain_pages.specs.Room.{live, uses}
+use Rattle.plain_pages.specs.References.{Spot, in_map, in_file, Making, blank, copy, Referred, granted, denied, full, reference, next_making, words_of, page_at}
+use Rattle.page_contracts.specs.Stores.{StoreMeaning, IsSound, away, place}
+use Rattle.machine_names.specs.Bounds.{IsOwner}
+
+-- What is in frames: for each fork the home of its map and for each page its home, where that is in no
+-- frame; and how many frames are free.
+pub record Scene : Type 0 where
+  pub map_away : ForkName → Option ℕ
+  pub page_away : PageName → Option ℕ
+  pub free_frames : ℕ
+
+-- everything is in frames, and one is free
+pub record IsInCore (scene : Scene) : Type 0 where
+  pub maps : (f : ForkName) → scene.map_away f ≡ None
+  pub pages : (n : PageName) → scene.page_away n ≡ None
+  pub frame : 0 < scene.free_frames
+
+-- nothing has left its frame, and so many frames at most were taken
+pub record StaysInCore (old new : Scene) (taken : ℕ) : Type 0 where
+  pub maps : (f : ForkName) → old.map_away f ≡ None → new.map_away f ≡ None
+  pub pages : (n : PageName) → old.page_away n ≡ None → new.page_away n ≡ None
+  pub frames : old.free_frames ≤ new.free_frames + taken
+
+-- the map of a new fork is in a frame, of which it took one at most; nothing else has come into a frame or left it
+pub record TakesMap (old new : Scene) (f : ForkName) : Type 0 where
+  pub own : new.map_away f ≡ None
+  pub maps : new.map_away ≡ old.map_away
+  pub pages : new.page_away ≡ old.page_away
+  pub frames : old.free_frames ≤ new.free_frames + 1
+
+-- nothing has come into a frame or left it, but for so many frames that were taken
+pub record TakesFrames (old new : Scene) (taken : ℕ) : Type 0 where
+  pub maps : new.map_away ≡ old.map_away
+  pub pages : new.page_away ≡ old.page_away
+  pub frames : new.free_frames + taken ≡ old.free_frames
+
+-- the first of these maps that is in no frame
+abbrev pub first_away : Scene → List ForkName → Option ℕ
+first_away scene [] = None
+first_away scene (f ∷ fs) = option_or (scene.map_away f) (first_away scene fs)
+
+-- a home that is in no frame, and else what is answered
+abbrev pub absent_or : Option ℕ → Touch → Touch
+absent_or (Some home) t = Absent (record { 0 = home })
+absent_or None t = t
+
+abbrev pub away_or : Option ℕ → Peeked → Peeked
+away_or (Some home) seen = Away (record { 0 = home })
+away_or None seen = seen
+
+abbrev pub map_away_or : Option ℕ → Seen → Seen
+map_away_or (Some home) seen = MapAway (record { 0 = home })
+map_away_or None seen = seen
+
+-- what wants a frame answers so, where none is free
+abbrev pub framed : Scene → Touch → Touch
+framed scene t = if nat_lt 0 scene.free_frames then t else NeedFrame
+
+module _ {K : Type 0} {file_cmp : K → K → Ordering} where
+  -- the first map on the way to a spot that is in no frame
+  abbrev pub map_away : PlainPages file_cmp → Scene → Spot K → Option ℕ
+  map_away p scene (in_map s) = first_away scene (maps_on_way (entry_at p.maps) s)
+  map_away p scene (in_file f) = None
+
+  -- a spot's page, where that is in no frame
+  abbrev pub page_away : PlainPages file_cmp → Scene → Spot K → Option ℕ
+  page_away p scene at = option_and_then scene.page_away (page_at p at)
+
+  -- whether an entry is the only name of its page
+  abbrev pub is_sole : PlainPages file_cmp → Option MapEntry → Bool
+  is_sole p (Some (Names n a)) = uses p n == 1
+  is_sole p e = false
+
+  -- what a touch says of the next page to be made; a sole copy takes the home of the old page, and no frame
+  abbrev pub announced : PlainPages file_cmp → Scene → Option (Making K) → Touch
+  announced p scene None = Ready
+  announced p scene (Some (blank at)) = framed scene Zero
+  announced p scene (Some (copy s access)) = if is_sole p (entry_at p.maps s) then Copy true else framed scene (Copy false)
+
+  -- the access and the room are those of the reference; then the page, and what is to be made
+  abbrev pub touched_by : PlainPages file_cmp → Scene → Spot K → Kind → Referred file_cmp → Touch
+  touched_by p scene at kind (granted q) = absent_or (page_away p scene at) (announced p scene (next_making p at kind))
+  touched_by p scene at kind (denied k) = Denied k
+  touched_by p scene at kind full = Full
+
+  -- what a touch answers, in this order: the maps on the way, the access, the room, the page, the frames
+  unfoldable pub touch_of : PlainPages file_cmp → Scene → Spot K → Kind → Tty → Touch
+  touch_of p scene at kind owner = absent_or (map_away p scene at) (touched_by p scene at kind (reference p at kind owner))
+
+  -- what a look at a word finds, whatever the access: the maps on the way, the page, and the word
+  unfoldable pub peek_of : PlainPages file_cmp → Scene → Spot K → ℕ → Peeked
+  peek_of p scene at offset =
+      away_or (map_away p scene at) (away_or (page_away p scene at) (option_map_or (λ n. Is (slice_index (words_of p n) offset)) (page_at p at) NoPage))
+
+  -- what a look at an entry finds: whether there is one, its map, and the entry
+  unfoldable pub seen_of : PlainPages file_cmp → Scene → Slot → Seen
+  seen_of p scene s = option_map_or (λ e. map_away_or (scene.map_away s.fork) (Entry e)) (entry_at p.maps s) Missing
+
+  -- a page, with the number of its names
+  abbrev pub counted : PlainPages file_cmp → Option PageName → Option (PageName × ℕ)
+  counted p n = option_map (λ m. (m, uses p m)) n
+
+-- whether so many pages more may live, and then whether they find frames
+abbrev pub room_for : ℕ → ℕ → ℕ → ℕ → Room
+room_for live limit frames pages = if nat_le (live + pages) limit then (if nat_le pages frames then Enough else NoFrame) else NoRoom
+
+-- the spot of a place
+abbrev pub spot_of : Place → Spot ℕ
+spot_of (Fork s) = in_map s
+spot_of (File f page) = in_file (record { file = f.0; page = page })
+
+-- a page of a fork's space as a place
+abbrev pub fork_place : ForkName → ℕ → Place
+fork_place f page = Fork (record { fork = f; page = page })
+
+-- a place that is there: a page of a living fork; those of files aren't built
+abbrev pub IsPlace : (ForkName → Bool) → Place → Type 0
+IsPlace lives (Fork s) = (lives s.fork ≡ true) × (s.page < SPACE_PAGES)
+IsPlace lives (File f page) = ⊥
+
+-- a look that finds what it wants in frames
+abbrev pub is_seen : Peeked → Bool
+is_seen (Away home) = false
+is_seen seen = true
+
+-- a touch after which the page can be settled
+abbrev pub can_settle : Touch → Bool
+can_settle Ready = true
+can_settle Zero = true
+can_settle (Copy sole) = true
+can_settle t = false
+
+-- what a touch answers once the page that it announced is made: a zero page may have to be copied then
+abbrev pub SettlesTo : Touch → Touch → Type 0
+SettlesTo Ready new = new ≡ Ready
+SettlesTo Zero new = (new ≡ Ready) ⊎ ((sole : Bool) × (new ≡ Copy sole)) ⊎ (new ≡ NeedFrame)
+SettlesTo (Copy sole) new = new ≡ Ready
+SettlesTo t new = ⊥
+
+-- how many frames the page takes that a touch announces
+abbrev pub frames_taken : Touch → ℕ
+frames_taken Zero = 1
+frames_taken (Copy sole) = if sole then 0 else 1
+frames_taken t = 0
+
+-- a touch that finds what it wants in frames
+abbrev pub is_in_core : Touch → Bool
+is_in_core (Absent home) = false
+is_in_core NeedFrame = false
+is_in_core t = true
+
+-- what the map of a new fork may be: it may follow a fork that lives, of the same terminal
+abbrev pub IsNewMap : (ForkName → Bool) → ForkName → NewMap → Type 0
+IsNewMap lives f EmptyMap = Unit {0}
+IsNewMap lives f (FollowAll g) = (lives g ≡ true) × (g.tty ≡ f.tty)
+
+-- an entry was found
+abbrev pub is_entry : Seen → Bool
+is_entry (Entry e) = true
+is_entry seen = false
+
+-- a look at an entry that finds what it wants in frames
+abbrev pub is_seen_entry : Seen → Bool
+is_seen_entry (MapAway home) = false
+is_seen_entry seen = true
+
+-- an entry that follows another follows a page of a space
+abbrev pub FollowsPage : Seen → Type 0
+FollowsPage (Entry (Follows serial page a)) = page < SPACE_PAGES
+FollowsPage seen = Unit {0}
+
+-- what the clauses say of a type of pages
+pub record PagesMeaning (P : Type 0) : Type 1 where
+  -- whether the words of this drum fit: each page that stands on the drum alone can be read
+  pub fits : P → DrumWords → Type 0
+  -- the plain pages that these stand for over the words of a drum
+  pub plain : P → DrumWords → NumberedPages
+  -- what is in frames
+  pub scene : P → Scene
+  -- what a touch answers, and a look at an entry
+  pub touched : P → Place → Kind → Touch
+  pub seen : P → Slot → Seen
+  -- which forks live, and how many of a terminal
+  pub lives : P → ForkName → Bool
+  pub forks_of : P → Tty → ℕ
+  -- the next page serial of an owner
+  pub serial : P → Tty → ℕ
+  -- how many pages and forks there are, and may be
+  pub count : P → ℕ
+  pub most : P → ℕ
+  -- how many forks of one terminal there is room for
+  pub most_forks : ℕ
+  -- nothing is ever in no frame, and nothing depends on a drum
+  pub flat : Bool
+  -- the handle of a living fork's space
+  pub space : P → ForkName → Option SpaceHandle
+  -- where the page of a space is that a look found, under its number
+  pub place : P → SpaceHandle → ℕ → Option Found
+  -- the homes and frames in which the pages stand
+  pub store : StoreMeaning P
+
+-- a touch of a page of a fork's space finds it ready
+abbrev pub IsTouched : {P : Type 0} → PagesMeaning P → P → ForkName → ℕ → Kind → Type 0
+IsTouched means p f page kind = means.touched p (fork_place f page) kind ≡ Ready
+
+-- over the words of a drum, whoever is to own what is made
+abbrev pub IsReady : {P : Type 0} → PagesMeaning P → P → DrumWords → ForkName → ℕ → Kind → Type 0
+IsReady means p d f page kind = (owner : Tty) → IsOwner owner → touch_of (means.plain p d) (means.scene p) (in_map (record { fork = f; page = page })) kind owner ≡ Ready
+
+-- what holds of a touch to read and of one to write
+abbrev pub CanChange : (Kind → Type 0) → Type 0
+CanChange holds = holds Read × holds Write
+
+-- a handle is that of a fork's space
+pub record HasSpace {P : Type 0} (means : PagesMeaning P) (p : P) (space : SpaceHandle) : Type 0 where
+  pub fork : ForkName
+  pub is : means.space p fork ≡ Some space
+
+-- what a word put into a page leaves: what a touch finds, the handles and the places, and all numbers
+pub record StaysPut {P : Type 0} (means : PagesMeaning P) (old new : P) : Type 0 where
+  pub touched : means.touched new ≡ means.touched old
+  pub scene : means.scene new ≡ means.scene old
+  pub space : means.space new ≡ means.space old
+  pub place : means.place new ≡ means.place old
+  pub lives : means.lives new ≡ means.lives old
+  pub forks : means.forks_of new ≡ means.forks_of old
+  pub serials : means.serial new ≡ means.serial old
+  pub most : means.most new ≡ means.most old
+
+-- what a transfer leaves, and what is asked of frames: the handles, and all numbers
+pub record StaysMapped {P : Type 0} (means : PagesMeaning P) (old new : P) : Type 0 where
+  pub space : means.space new ≡ means.space old
+  pub lives : means.lives new ≡ means.lives old
+  pub forks : means.forks_of new ≡ means.forks_of old
+  pub serials : means.serial new ≡ means.serial old
+  pub count : means.count new ≡ means.count old
+  pub most : means.most new ≡ means.most old
+
+-- over each drum that fits, the plain pages are the same
+abbrev pub StaysPlain : {P : Type 0} → PagesMeaning P → P → P → Type 0
+StaysPlain means old new = (d : DrumWords) → means.fits old d → means.fits new d × (means.plain new d ≡ means.plain old d)
+
+-- what is asked of frames and changes no page: what a touch finds stays, and each word
+pub record StaysSame {P : Type 0} (means : PagesMeaning P) (old new : P) : Type 0 where
+  pub plain : StaysPlain means old new
+  pub put : StaysPut means old new
+  pub count : means.count new ≡ means.count old
+
+-- the pages stand in a sound store, which has no more homes than pages may live: what is in no frame has a home that is away, and the free
+-- frames are the store's
+pub record AreHoused {P : Type 0} (means : PagesMeaning P) (p : P) : Type 0 where
+  pub sound : IsSound means.store p
+  pub maps : (f : ForkName) (home : ℕ) → (means.scene p).map_away f ≡ Some home → place (means.store.homes p) home ≡ away
+  pub pages : (n : PageName) (home : ℕ) → (means.scene p).page_away n ≡ Some home → place (means.store.homes p) home ≡ away
+  pub frames : (means.scene p).free_frames ≡ means.store.spare p
+  pub homes : length (means.store.homes p) ≤ means.most p
+  pub flat : means.store.flat ≡ means.flat
+
+-- over each drum that fits, the plain pages have the numbers that are told without it, no more than may be; and what is in no frame is there
+pub record Agrees {P : Type 0} (means : PagesMeaning P) (p : P) (plain : NumberedPages) : Type 0 where
+  pub living : (f : ForkName) → means.lives p f ≡ map.contains_key plain.maps f
+  pub next : (t : Tty) → IsOwner t → means.serial p t ≡ page_serial plain t
+  pub number : means.count p ≡ live plain
+  pub bound : means.most p ≡ plain.limit
+  pub room : live plain ≤ plain.limit
+  pub absent_pages : (n : PageName) (home : ℕ) → (means.scene p).page_away n ≡ Some home → map.contains_key plain.objects n ≡ true
+  pub absent_maps : (f : ForkName) (home : ℕ) → (means.scene p).map_away f ≡ Some home → map.contains_key plain.maps f ≡ true

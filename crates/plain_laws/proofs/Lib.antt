@@ -1,0 +1,17 @@
+pub mod Named
+pub mod WholeForks
+pub mod Waiters
+pub mod WholeRuns
+pub mod ExampleTexts
+pub mod ExampleRun
+pub mod ExampleScript
+pub mod ReadsOn
+pub mod Copying
+pub mod Narrowing
+pub mod NarrowedPages
+pub mod Killed
+pub mod Marks
+pub mod OtherMaps
+pub mod OtherJobs
+pub mod UnitForks
+pub mod UnitJobs

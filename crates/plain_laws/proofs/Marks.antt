@@ -1,0 +1,221 @@
+-- Who has the freeze mark keeps it, until a fork call resumes it.
+use Rattle.std.proofs.Common.{◌≡◌, ◌⊎◌, ℕ, zero, suc, ◌||◌, Bool, true, false, List, [], ◌∷◌, Option, None, Some, inl, inr, refl, sym, ◌∙◌, ap, subst}
+use Rattle.std.specs.Prelude.{is_some}
+use Rattle.std.specs.List.{range_with_len}
+use Rattle.std.specs.Option.{option_map_or}
+use Rattle.std.specs.FinMap as map
+use Rattle.plain_model.specs.declared.call.End.{End}
+use Rattle.plain_model.specs.declared.call.End.TheVariants.{Done, Waits, Halts, Refused, Failed, Trap}
+use Rattle.plain_model.specs.declared.call.ForkChange.{ForkChange}
+use Rattle.plain_model.specs.declared.call.ForkChange.TheVariants.{Nothing, Make, Kill, Freeze, Become, Halt, Store}
+use Rattle.plain_units.specs.declared.channel.TheConstants.{INFERIOR_ENDED}
+use Rattle.machine_names.specs.declared.names.TheConstants.{MOST_FORKS}
+use Rattle.machine_names.specs.declared.names.Tty.{Tty}
+use Rattle.machine_names.specs.declared.names.ForkName.{ForkName}
+use Rattle.plain_units.specs.declared.registers.Regs.{Regs}
+use Rattle.plain_model.specs.declared.fork.Fork.{Fork}
+use Rattle.script_texts.specs.declared.status.ForkStatus.TheVariants.{Halted}
+use Rattle.plain_model.specs.State.{PlainState}
+use Rattle.plain_pages.specs.PlainPages.{NamedPages}
+use Rattle.machine_names.specs.Orders.{name_cmp}
+use Rattle.plain_model.specs.Forks.{ForkMap, IsRunnable, fork_in, is_frozen, superior_of, with_status}
+use Rattle.plain_model.specs.Interrupts.{posted}
+use Rattle.plain_model.specs.Inferiors.{last_below}
+use Rattle.plain_model.specs.Trees.{tree_of, next_name, changed, with_body, with_mark, unwaited, woken_in, waiters_woken, end_told}
+use Rattle.plain_model.specs.Calls.{made_by, parts_behind}
+use Rattle.plain_model.specs.ForkCalls.{ForkAsked, ForkParts, without, without_below, with_halted, fork_changed, fork_changed_by, fork_turn, fork_end, fork_called}
+use Rattle.plain_laws.specs.ForkLaws.{Resumes, UnitResumes}
+use Rattle.plain_units.specs.Steps.{Planned, done, call, stopped as unit_stopped}
+use Rattle.plain_model.specs.Unit.{fork_turned, over, unit}
+use Rattle.plain_units.specs.Units.{unit_on}
+use Rattle.plain_laws.specs.Whole.{IsWhole}
+use Rattle.plain_model.proofs.ForkMaps.{AreOwn, cases_name, get_put, get_put_other, get_gone, get_gone_other, held_there, slot_tells, superior_tells}
+use Rattle.plain_model.proofs.ForkEnds.{FitsChange, FitsEnd, call_names}
+use Rattle.plain_laws.proofs.UnitForks.{KeptBy, fork_kept, over_kept}
+use Rattle.plain_model.proofs.Posted.{posted_mark}
+use Rattle.plain_laws.proofs.WholeForks.{no_fork}
+
+-- whatever a fork with the mark is changed to, it has it
+abbrev KeepsMark : (Fork → Fork) → Type 0
+KeepsMark change = (f : Fork) → ((change f).name ≡ f.name) × ((change f).frozen ≡ f.frozen)
+
+-- a fork with the mark does not run
+pub frozen_waits : (s : PlainState) (name : ForkName) (f : Fork) → map.get s.forks name ≡ Some f → f.frozen ≡ true → IsRunnable s name → ⊥
+frozen_waits s name f there mark runs =
+    let both : Some f ≡ Some runs.0 = sym there ∙ runs.1 in
+    let same : f ≡ runs.0 = cc both in
+    let on : (runs.0).frozen ≡ true = ap (λ (g : Fork). g.frozen) (sym same) ∙ mark in
+    let no : true ≡ false = sym (ap (λ b. b || is_frozen 29 s.forks (superior_of s.forks runs.0)) on) ∙ runs.3 in
+    cc no
+
+module _ (name : ForkName) where
+  -- each fork under its own name, and this one with the mark, where it is there
+  record Marked (m : ForkMap) : Type 0 where
+    own : AreOwn m
+    mark : (g : Fork) → map.get m name ≡ Some g → g.frozen ≡ true
+
+  put_marked : (m : ForkMap) → Marked m → (f : Fork) → (f.name ≡ name → f.frozen ≡ true) → Marked (map.insert m f.name f)
+  put_marked m w f marked = record { own = λ q h is. owned q h is; mark = λ g is. marks g is }
+    where
+      owned : (q : ForkName) (h : Fork) → map.get (map.insert m f.name f) q ≡ Some h → h.name ≡ q
+      owned q h is = elim (cases_name q f.name) [
+        | inl e ↦ let both : Some f ≡ Some h = sym (get_put m f.name q f e) ∙ is in let same : f ≡ h = cc both in ap (λ (x : Fork). x.name) (sym same) ∙ sym e
+        | inr ne ↦ w.own q h (sym (get_put_other m f.name q f ne) ∙ is)
+      ]
+
+      marks : (g : Fork) → map.get (map.insert m f.name f) name ≡ Some g → g.frozen ≡ true
+      marks g is = elim (cases_name name f.name) [
+        | inl e ↦ let both : Some f ≡ Some g = sym (get_put m f.name name f e) ∙ is in let same : f ≡ g = cc both in ap (λ (x : Fork). x.frozen) (sym same) ∙ marked (sym e)
+        | inr ne ↦ w.mark g (sym (get_put_other m f.name name f ne) ∙ is)
+      ]
+
+  changed_marked : (m : ForkMap) → Marked m → (change : Fork → Fork) → KeepsMark change → (o : Option Fork) → ((k : Fork) → o ≡ Some k → map.get m k.name ≡ Some k) → Marked (changed m change o)
+  changed_marked m w change keeps None there = w
+  changed_marked m w change keeps (Some k) there =
+      let same = keeps k in
+      subst (λ n. Marked (map.insert m n (change k))) same.0
+      (put_marked m w (change k) (λ e. same.1 ∙ w.mark k (ap (map.get m) (sym (sym same.0 ∙ e)) ∙ there k refl)))
+
+  woken_marked : (m : ForkMap) → Marked m → (t : Tty) (slots : List ℕ) → Marked (woken_in m t slots)
+  woken_marked m w t [] = w
+  woken_marked m w t (slot ∷ slots) =
+      woken_marked (changed m unwaited (fork_in m t slot)) (changed_marked m w unwaited (λ f. (refl, refl)) (fork_in m t slot) (λ k is. let at = slot_tells m w.own t slot k is in at.0)) t slots
+
+  waiters_marked : (m : ForkMap) → Marked m → (t : Tty) → Marked (waiters_woken m t)
+  unfolding waiters_woken
+  waiters_marked m w t = woken_marked m w t (range_with_len 1 MOST_FORKS)
+
+  told_marked : (m : ForkMap) → Marked m → (f : Fork) → Marked (end_told m f)
+  told_marked m w f =
+      let v = waiters_woken m f.name.tty in
+      let u = waiters_marked m w f.name.tty in
+      changed_marked v u (λ k. posted k INFERIOR_ENDED) (λ j. posted_mark j INFERIOR_ENDED) (superior_of v f) (λ k is. let at = superior_tells v u.own f k is in at.0)
+
+  gone_marked : (m : ForkMap) → Marked m → (f : ForkName) → Marked (map.remove m f)
+  gone_marked m w f = record { own = λ q h is. w.own q h (left q h is); mark = λ g is. w.mark g (left name g is) }
+    where
+      left : (q : ForkName) (h : Fork) → map.get (map.remove m f) q ≡ Some h → map.get m q ≡ Some h
+      left q h is = elim (cases_name q f) [
+        | inl e ↦ absurd (let no : None ≡ Some h = sym (get_gone m f q e) ∙ is in cc no)
+        | inr ne ↦ sym (get_gone_other m f q ne) ∙ is
+      ]
+
+  below_marked : (n : ℕ) (f : ForkName) (v : ForkParts name_cmp) → Marked v.tree.forks → Marked (without_below n f v).tree.forks
+  unfolding without_below
+  below_marked zero f v w = w
+  below_marked (suc n) f v w = by (λ u m. below_marked n f u m) (last_below v.tree.forks f)
+    where
+      by : ((u : ForkParts name_cmp) → Marked u.tree.forks → Marked (without_below n f u).tree.forks) → (o : Option Fork) → Marked (option_map_or (λ k. without_below n f (without v k.name)) o v).tree.forks
+      by rest None = w
+      by rest (Some k) = rest (without v k.name) (gone_marked v.tree.forks w k.name)
+
+  module _ (s : PlainState) (w : IsWhole s) (f : Fork) (there : map.get s.forks name ≡ Some f) (mark : f.frozen ≡ true) where
+    marked : Marked s.forks
+    marked = record { own = w.own; mark = λ g is. let both : Some f ≡ Some g = sym there ∙ is in let same : f ≡ g = cc both in ap (λ (x : Fork). x.frozen) (sym same) ∙ mark }
+
+    -- it has it still, or this change takes it
+    abbrev Stays : ForkChange → ForkMap → Type 0
+    Stays change m = Marked m ⊎ (change ≡ Freeze name false)
+
+    held : (k : ForkName) (h : Fork) → map.get s.forks k ≡ Some h → map.get s.forks h.name ≡ Some h
+    held k h is = held_there s.forks w.own k h is
+
+    frozen_stays : (k : ForkName) (on : Bool) → Stays (Freeze k on) (changed s.forks (with_mark on) (map.get s.forks k))
+    frozen_stays k true = inl (by (map.get s.forks k))
+      where
+        by : (o : Option Fork) → Marked (changed s.forks (with_mark true) o)
+        by None = marked
+        by (Some h) = put_marked s.forks marked (with_mark true h) (λ e. refl)
+    frozen_stays k false = by (map.get s.forks k) refl
+      where
+        by : (o : Option Fork) → map.get s.forks k ≡ o → Stays (Freeze k false) (changed s.forks (with_mark false) o)
+        by None none = inl marked
+        by (Some h) some = elim (cases_name name h.name) [
+          | inl e ↦ inr (ap (λ (x : ForkName). Freeze x false) (sym (w.own k h some) ∙ sym e))
+          | inr ne ↦ inl (put_marked s.forks marked (with_mark false h) (λ e. absurd (ne (sym e))))
+        ]
+
+    not_next : (t : Tty) → next_name (tree_of s) t ≡ name → ⊥
+    not_next t e = let no : true ≡ false = sym (ap is_some there) ∙ ap (map.contains_key s.forks) (sym e) ∙ no_fork s w t in cc no
+
+    module _ (who : ForkName) (regs : Regs) (p q : NamedPages) where
+      abbrev caller_asked : ForkAsked
+      caller_asked = record { who = who; regs = regs; tree = tree_of s }
+
+      abbrev parts : ForkParts name_cmp
+      parts = record { tree = tree_of s; pages = q }
+
+      change_stays : (change : ForkChange) → FitsChange caller_asked p (λ x y. Unit {0}) q change → Stays change (fork_changed change parts).tree.forks
+      unfolding fork_changed
+      change_stays Nothing fits = inl marked
+      change_stays (Make h) fits = inl (put_marked s.forks marked h (λ e. absurd (not_next who.tty (sym fits.name ∙ e))))
+      change_stays (Kill k) fits =
+          let below = below_marked MOST_FORKS k parts marked in
+          let left = (without_below MOST_FORKS k parts).tree.forks in
+          inl (waiters_marked (map.remove left k) (gone_marked left below k) k.tty)
+      change_stays (Freeze k on) fits = frozen_stays k on
+      change_stays (Become k body) fits = inl (changed_marked s.forks marked (with_body body) (λ f. (refl, refl)) (map.get s.forks k) (λ h at. held k h at))
+      change_stays (Halt k) fits = inl (by (map.get s.forks k) (λ h at. held k h at))
+        where
+          by : (o : Option Fork) → ((h : Fork) → o ≡ Some h → map.get s.forks h.name ≡ Some h) → Marked (option_map_or (with_halted (record { tree = tree_of s; pages = q })) o (record { tree = tree_of s; pages = q })).tree.forks
+          by None at = marked
+          by (Some h) at = let k = with_status h Halted in told_marked (map.insert s.forks h.name k) (put_marked s.forks marked k (λ e. marked.mark h (ap (map.get s.forks) (sym e) ∙ at h refl))) k
+      change_stays (Store k at words) fits = inl marked
+
+    call_stays : (caller : Fork) (number : ℕ) → Marked (fork_called s caller number).forks ⊎ Resumes s caller number name
+    unfolding parts_behind
+    call_stays caller number = by (fork_end s caller number) refl (call_names (record { who = caller.name; regs = caller.body.regs; tree = tree_of s }) s.pages number)
+      where
+        q : NamedPages
+        q = made_by (fork_turn s caller number) s.pages
+
+        by : (e : End ForkChange) → fork_end s caller number ≡ e → FitsEnd (record { who = caller.name; regs = caller.body.regs; tree = tree_of s }) s.pages (λ x y. Unit {0}) q e
+            → Marked (parts_behind (fork_changed_by (fork_turn s caller number)) (record { tree = tree_of s; pages = s.pages }) e).tree.forks ⊎ Resumes s caller number name
+        by (Done change regs) ends fits = elim (change_stays caller.name caller.body.regs s.pages q change fits) [
+          | inl m ↦ inl m
+          | inr c ↦ inr (regs, ends ∙ ap (λ (x : ForkChange). Done x regs) c)
+        ]
+        by (Waits on) ends fits = inl marked
+        by Halts ends fits = inl marked
+        by (Refused code) ends fits = inl marked
+        by (Failed code) ends fits = inl marked
+        by (Trap channel) ends fits = inl marked
+
+    -- a fork is good that has the mark, if it is this one
+    abbrev Good : Fork → Type 0
+    Good g = g.name ≡ name → g.frozen ≡ true
+
+    by_mark : KeptBy Marked Good
+    by_mark = record {
+      same = λ g h is good e. is.1 ∙ good (sym is.0 ∙ e);
+      put = λ m u g good. put_marked m u g good;
+      told = λ m u g good. told_marked m u g;
+    }
+
+    good_in : (m : ForkMap) → Marked m → (k : ForkName) (g : Fork) → map.get m k ≡ Some g → Good g
+    good_in m u k g is e = u.mark g (ap (map.get m) (sym e ∙ u.own k g is) ∙ is)
+
+    -- a unit of a fork leaves the mark, or its call takes it
+    module _ (who : ForkName) (caller : Fork) (living : map.get s.forks who ≡ Some caller) where
+      over_marks : (r : Planned name_cmp ⊥) → Marked (over s caller r).state.forks ⊎ ((number : ℕ) × (r ≡ call number) × Resumes s caller number name)
+      over_marks (done t e) = inl (over_kept Marked Good by_mark s marked caller (good_in s.forks marked who caller living) (done t e) (λ number is. absurd (cc is)))
+      over_marks (unit_stopped why) = inl (over_kept Marked Good by_mark s marked caller (good_in s.forks marked who caller living) (unit_stopped why) (λ number is. absurd (cc is)))
+      over_marks (call number) = elim (call_stays caller number) [
+        | inr resumes ↦ inr (number, refl, resumes)
+        | inl u ↦
+            let good = good_in s.forks marked who caller living in
+            let turns = fork_kept Marked Good by_mark s marked caller good number u (λ g is. good_in (fork_called s caller number).forks u caller.name g is) in
+            inl (over_kept Marked Good by_mark s marked caller good (call number) (λ n is.
+            let same : number ≡ n = cc is in subst (λ m. Marked (fork_turned s caller m).state.forks) same turns))
+      ]
+
+    pub mark_stays : (who : ForkName) (g : Fork) → map.get (unit s who).state.forks name ≡ Some g → (g.frozen ≡ true) ⊎ UnitResumes s who name
+    unfolding unit
+    mark_stays who g is = by (map.get s.forks who) refl is
+      where
+        by : (o : Option Fork) → map.get s.forks who ≡ o → map.get (option_map_or (λ c. over s c (unit_on c.name s.pages c.body.regs)) o (record { state = s; items = [] })).state.forks name ≡ Some g → (g.frozen ≡ true) ⊎ UnitResumes s who name
+        by None none at = inl (marked.mark g at)
+        by (Some c) some at = elim (over_marks who c some (unit_on c.name s.pages c.body.regs)) [
+          | inl u ↦ inl (u.mark g at)
+          | inr r ↦ inr (record { caller = c; living = some; number = r.0; calls = r.1; resumes = r.2 })
+        ]

@@ -1,0 +1,190 @@
+-- What a fork call leaves: the forks and the maps of other jobs.
+use Rattle.std.proofs.Common.{◌≡◌, ◌||◌, ℕ, zero, suc, Bool, true, false, List, [], ◌∷◌, Option, None, Some, inl, inr, refl, sym, ◌∙◌, ap, subst}
+use Rattle.std.specs.List.{range_with_len}
+use Rattle.std.specs.Option.{option_map_or}
+use Rattle.std.specs.FinMap as map
+use Rattle.machine_names.specs.declared.names.Tty.{Tty}
+use Rattle.machine_names.specs.declared.names.ForkName.{ForkName}
+use Rattle.plain_units.specs.Steps.{begun}
+use Rattle.plain_model.specs.Calls.{end_of, made_by, parts_behind}
+use Rattle.plain_model.specs.ForkCalls.{ForkAsked, ForkParts, map_wanted, without, without_below, with_halted, fork_changed, fork_changed_by, fork_call, fork_called}
+use Rattle.plain_model.specs.declared.call.End.{End}
+use Rattle.plain_model.specs.declared.call.End.TheVariants.{Done, Waits, Halts, Refused, Failed, Trap}
+use Rattle.plain_model.specs.declared.call.ForkChange.{ForkChange}
+use Rattle.plain_model.specs.declared.call.ForkChange.TheVariants.{Nothing, Make, Kill, Freeze, Become, Halt, Store}
+use Rattle.plain_units.specs.declared.channel.TheConstants.{INFERIOR_ENDED}
+use Rattle.machine_names.specs.declared.names.TheConstants.{MOST_FORKS}
+use Rattle.plain_model.specs.declared.fork.Fork.{Fork}
+use Rattle.plain_units.specs.declared.registers.Regs.{Regs}
+use Rattle.script_texts.specs.declared.status.ForkStatus.TheVariants.{Halted}
+use Rattle.plain_model.specs.State.{PlainState}
+use Rattle.plain_pages.specs.PlainPages.{NamedPages}
+use Rattle.machine_names.specs.Orders.{name_cmp, same_fork}
+use Rattle.plain_pages.specs.NewMaps.{new_map}
+use Rattle.plain_model.specs.Forks.{ForkMap, fork_in, superior_of, with_status}
+use Rattle.plain_model.specs.Interrupts.{posted}
+use Rattle.plain_model.specs.Inferiors.{is_within, is_inferior, last_below}
+use Rattle.plain_model.specs.Trees.{tree_of, next_name, changed, with_mark, with_body, unwaited, woken_in, waiters_woken, end_told}
+use Rattle.plain_laws.specs.Whole.{IsWhole}
+use Rattle.plain_model.proofs.ForkEnds.{FitsChange, FitsEnd, Leads, call_ends, mapped}
+use Rattle.plain_laws.proofs.WholeForks.{last_tells}
+use Rattle.plain_model.proofs.Posted.{posted_same}
+use Rattle.plain_model.proofs.ForkMaps.{AreOwn, cases_name, get_put, get_put_other, get_gone, get_gone_other, names_same, slot_tells, superior_tells}
+use Rattle.plain_laws.proofs.OtherMaps.{not_it, Elsewhere, run_other, words_other, gone_maps}
+use Rattle.std.specs.Cmp.Lexicographic.{nat_list_cmp_total}
+
+-- whether a fork stands below another, they are of one job
+module _ (forks : ForkMap) (own : AreOwn forks) (who : ForkName) where
+  within_job : (n : ℕ) (t : ℕ) (o : Option Fork) → ((g : Fork) → o ≡ Some g → g.name.tty.0 ≡ t) → is_within n forks who o ≡ true → who.tty.0 ≡ t
+  within_job zero t o of h = absurd (cc h)
+  within_job (suc n) t None of h = absurd (cc h)
+  within_job (suc n) t (Some g) of h = by (λ o of h. within_job n t o of h) (same_fork g.name who) refl h
+    where
+      by : ((o : Option Fork) → ((k : Fork) → o ≡ Some k → k.name.tty.0 ≡ t) → is_within n forks who o ≡ true → who.tty.0 ≡ t) → (b : Bool) → same_fork g.name who ≡ b → (b || is_within n forks who (superior_of forks g)) ≡ true → who.tty.0 ≡ t
+      by rest true same e = ap (λ (x : ForkName). x.tty.0) (sym (names_same g.name who same)) ∙ of g refl
+      by rest false apart e = rest (superior_of forks g) (λ k is. let at = superior_tells forks own g k is in at.1 ∙ of g refl) e
+
+  pub inferior_job : (name : ForkName) → is_inferior forks who name ≡ true → name.tty.0 ≡ who.tty.0
+  unfolding is_inferior
+  inferior_job name is = by (map.get forks name) refl is
+    where
+      by : (o : Option Fork) → map.get forks name ≡ o → option_map_or (λ f. is_within MOST_FORKS forks who (superior_of forks f)) o false ≡ true → name.tty.0 ≡ who.tty.0
+      by None none h = absurd (cc h)
+      by (Some f) some h = sym (within_job MOST_FORKS name.tty.0 (superior_of forks f) (λ g is. let at = superior_tells forks own f g is in at.1 ∙ ap (λ (x : ForkName). x.tty.0) (own name f some)) h)
+
+-- the forks of a job change, and this one stays as it was
+module _ (t : Tty) (k : ForkName) (other : k.tty.0 ≡ t.0 → ⊥) (there : Option Fork) where
+  pub record Stays (m : ForkMap) : Type 0 where
+    pub own : AreOwn m
+    pub stays : map.get m k ≡ there
+
+  -- a name is kept
+  abbrev KeepsName : (Fork → Fork) → Type 0
+  KeepsName change = (f : Fork) → (change f).name ≡ f.name
+
+  pub put_stays : (m : ForkMap) → Stays m → (f : Fork) → f.name.tty.0 ≡ t.0 → Stays (map.insert m f.name f)
+  put_stays m w f here = record { own = λ q h is. owned q h is; stays = get_put_other m f.name k f (not_it t k other f.name here) ∙ w.stays }
+    where
+      owned : (q : ForkName) (h : Fork) → map.get (map.insert m f.name f) q ≡ Some h → h.name ≡ q
+      owned q h is = elim (cases_name q f.name) [
+        | inl e ↦ let both : Some f ≡ Some h = sym (get_put m f.name q f e) ∙ is in let same : f ≡ h = cc both in ap (λ (x : Fork). x.name) (sym same) ∙ sym e
+        | inr ne ↦ w.own q h (sym (get_put_other m f.name q f ne) ∙ is)
+      ]
+
+  changed_stays : (m : ForkMap) → Stays m → (change : Fork → Fork) → KeepsName change → (o : Option Fork) → ((j : Fork) → o ≡ Some j → j.name.tty.0 ≡ t.0) → Stays (changed m change o)
+  changed_stays m w change same None here = w
+  changed_stays m w change same (Some j) here =
+      subst (λ n. Stays (map.insert m n (change j))) (same j) (put_stays m w (change j) (ap (λ (x : ForkName). x.tty.0) (same j) ∙ here j refl))
+
+  woken_stays : (m : ForkMap) → Stays m → (u : Tty) → u.0 ≡ t.0 → (slots : List ℕ) → Stays (woken_in m u slots)
+  woken_stays m w u here [] = w
+  woken_stays m w u here (slot ∷ slots) =
+      woken_stays (changed m unwaited (fork_in m u slot)) (changed_stays m w unwaited (λ f. refl) (fork_in m u slot) (λ j is. let at = slot_tells m w.own u slot j is in at.1 ∙ here)) u here slots
+
+  waiters_stay : (m : ForkMap) → Stays m → (u : Tty) → u.0 ≡ t.0 → Stays (waiters_woken m u)
+  unfolding waiters_woken
+  waiters_stay m w u here = woken_stays m w u here (range_with_len 1 MOST_FORKS)
+
+  pub told_stays : (m : ForkMap) → Stays m → (f : Fork) → f.name.tty.0 ≡ t.0 → Stays (end_told m f)
+  told_stays m w f here =
+      let v = waiters_woken m f.name.tty in
+      let u = waiters_stay m w f.name.tty here in
+      changed_stays v u (λ j. posted j INFERIOR_ENDED) (λ j. let same = posted_same j INFERIOR_ENDED in same.0) (superior_of v f) (λ j is. let at = superior_tells v u.own f j is in at.1 ∙ here)
+
+  gone_stays : (m : ForkMap) → Stays m → (f : ForkName) → f.tty.0 ≡ t.0 → Stays (map.remove m f)
+  gone_stays m w f here = record { own = λ q h is. w.own q h (left q h is); stays = get_gone_other m f k (not_it t k other f here) ∙ w.stays }
+    where
+      left : (q : ForkName) (h : Fork) → map.get (map.remove m f) q ≡ Some h → map.get m q ≡ Some h
+      left q h is = elim (cases_name q f) [
+        | inl e ↦ absurd (let no : None ≡ Some h = sym (get_gone m f q e) ∙ is in cc no)
+        | inr ne ↦ sym (get_gone_other m f q ne) ∙ is
+      ]
+
+  -- the forks and the maps of other jobs
+  record PartsStay (p : NamedPages) (v : ForkParts name_cmp) : Type 0 where
+    forks : Stays v.tree.forks
+    maps : Elsewhere t k other p v.pages
+
+  below_stays : (n : ℕ) (f : ForkName) (p : NamedPages) (v : ForkParts name_cmp) → f.tty.0 ≡ t.0 → PartsStay p v → PartsStay p (without_below n f v)
+  unfolding without_below
+  below_stays zero f p v here w = w
+  below_stays (suc n) f p v here w = by (λ u m. below_stays n f p u here m) (last_below v.tree.forks f) refl
+    where
+      by : ((u : ForkParts name_cmp) → PartsStay p u → PartsStay p (without_below n f u)) → (o : Option Fork) → last_below v.tree.forks f ≡ o → PartsStay p (option_map_or (λ j. without_below n f (without v j.name)) o v)
+      by rest None none = w
+      by rest (Some j) is =
+          let at = inferior_job v.tree.forks w.forks.own f j.name (last_tells v.tree.forks f j is) ∙ here in
+          rest (without v j.name) (record { forks = gone_stays v.tree.forks w.forks j.name at; maps = gone_maps t k other v.pages j.name at ∙ w.maps })
+
+module _ (s : PlainState) (w : IsWhole s) (who : ForkName) (regs : Regs) (k : ForkName) (other : k.tty.0 ≡ who.tty.0 → ⊥) where
+  abbrev caller : ForkAsked
+  caller = record { who = who; regs = regs; tree = tree_of s }
+
+  abbrev Same : ForkParts name_cmp → Type 0
+  Same v = PartsStay who.tty k other (map.get s.forks k) s.pages v
+
+  as_it_was : Stays who.tty k other (map.get s.forks k) s.forks
+  as_it_was = record { own = w.own; stays = refl }
+
+  in_job : (f : ForkName) → is_inferior s.forks who f ≡ true → f.tty.0 ≡ who.tty.0
+  in_job f below = inferior_job s.forks w.own who f below
+
+  held_job : (f : ForkName) → f.tty.0 ≡ who.tty.0 → (j : Fork) → map.get s.forks f ≡ Some j → j.name.tty.0 ≡ who.tty.0
+  held_job f here j is = ap (λ (x : ForkName). x.tty.0) (w.own f j is) ∙ here
+
+  module _ (q : NamedPages) where
+    abbrev parts : ForkParts name_cmp
+    parts = record { tree = tree_of s; pages = q }
+
+    change_same : (change : ForkChange) → FitsChange caller s.pages (Elsewhere who.tty k other) q change → Same (fork_changed change parts)
+    unfolding fork_changed
+    change_same Nothing fits = record { forks = as_it_was; maps = fits }
+    change_same (Make f) made = record {
+      forks = put_stays who.tty k other (map.get s.forks k) s.forks as_it_was f (ap (λ (x : ForkName). x.tty.0) made.name);
+      maps = made.pages ∙ get_put_other s.pages.maps (next_name (tree_of s) who.tty) k (new_map (map_wanted caller)) (not_it who.tty k other (next_name (tree_of s) who.tty) refl);
+    }
+    change_same (Kill f) fits =
+        let here = in_job f fits.0 in
+        let below = below_stays who.tty k other (map.get s.forks k) MOST_FORKS f s.pages parts here (record { forks = as_it_was; maps = fits.1 }) in
+        let u = without_below MOST_FORKS f parts in
+        record {
+          forks = waiters_stay who.tty k other (map.get s.forks k) (map.remove u.tree.forks f) (gone_stays who.tty k other (map.get s.forks k) u.tree.forks below.forks f here) f.tty here;
+          maps = gone_maps who.tty k other u.pages f here ∙ below.maps;
+        }
+    change_same (Freeze f on) fits = record { forks = changed_stays who.tty k other (map.get s.forks k) s.forks as_it_was (with_mark on) (λ j. refl) (map.get s.forks f) (held_job f (in_job f fits.0)); maps = fits.1 }
+    change_same (Become f body) fits = record { forks = changed_stays who.tty k other (map.get s.forks k) s.forks as_it_was (with_body body) (λ j. refl) (map.get s.forks f) (held_job f (in_job f fits.0)); maps = fits.1 }
+    change_same (Halt f) fits = by (map.get s.forks f) (held_job f (in_job f fits.0))
+      where
+        by : (o : Option Fork) → ((j : Fork) → o ≡ Some j → j.name.tty.0 ≡ who.tty.0) → Same (option_map_or (with_halted (record { tree = tree_of s; pages = q })) o (record { tree = tree_of s; pages = q }))
+        by None here = record { forks = as_it_was; maps = fits.1 }
+        by (Some j) here =
+            let g = with_status j Halted in
+            record { forks = told_stays who.tty k other (map.get s.forks k) (map.insert s.forks j.name g) (put_stays who.tty k other (map.get s.forks k) s.forks as_it_was g (here j refl)) g (here j refl); maps = fits.1 }
+    change_same (Store f at words) fits = record { forks = as_it_was; maps = words_other who.tty k other nat_list_cmp_total f (ap (λ (x : ForkName). x.tty.0) fits.0) q at words ∙ fits.1 }
+
+  call_same : (number : ℕ) → Same (parts_behind (fork_changed_by (fork_call number caller)) (record { tree = tree_of s; pages = s.pages }) (end_of s.pages (fork_call number caller)))
+  unfolding parts_behind
+  call_same number = by (end_of s.pages (fork_call number caller)) (call_ends caller s.pages (Elsewhere who.tty k other) (leading s.pages) (λ room. leading (mapped caller s.pages)) number)
+    where
+      leading : (q : NamedPages) → Leads caller s.pages (Elsewhere who.tty k other) q
+      leading q = record { itself = refl; runs = λ steps. run_other who.tty k other nat_list_cmp_total who refl q steps (begun q regs.ac) refl }
+
+      by : (e : End ForkChange) → FitsEnd caller s.pages (Elsewhere who.tty k other) (made_by (fork_call number caller) s.pages) e
+          → Same (parts_behind (fork_changed_by (fork_call number caller)) (record { tree = tree_of s; pages = s.pages }) e)
+      by (Done change r) fits = change_same (made_by (fork_call number caller) s.pages) change fits
+      by (Waits on) fits = record { forks = as_it_was; maps = refl }
+      by Halts fits = record { forks = as_it_was; maps = refl }
+      by (Refused code) fits = record { forks = as_it_was; maps = refl }
+      by (Failed code) fits = record { forks = as_it_was; maps = refl }
+      by (Trap channel) fits = record { forks = as_it_was; maps = refl }
+
+-- a fork call leaves the forks and the maps of other jobs
+module _ (s : PlainState) (w : IsWhole s) (caller : Fork) (number : ℕ) (k : ForkName) (other : k.tty.0 ≡ caller.name.tty.0 → ⊥) where
+  pub forks_same : map.get (fork_called s caller number).forks k ≡ map.get s.forks k
+  forks_same = let same = call_same s w caller.name caller.body.regs k other number in same.forks.stays
+
+  pub call_stays : Stays caller.name.tty k other (map.get s.forks k) (fork_called s caller number).forks
+  call_stays = let same = call_same s w caller.name caller.body.regs k other number in same.forks
+
+  pub maps_same : map.get (fork_called s caller number).pages.maps k ≡ map.get s.pages.maps k
+  maps_same = let same = call_same s w caller.name caller.body.regs k other number in same.maps

@@ -1,0 +1,50 @@
+-- A fork that stops, where nobody waits for one; and the call by which a fork halts.
+use Rattle.std.proofs.Common.{◌≡◌, ℕ, List, [], ◌∷◌, Option, None, Some, refl, ◌∙◌, ap}
+use Rattle.std.specs.List.{range_with_len}
+use Rattle.std.specs.Option.{option_map_or, option_and_then}
+use Rattle.std.specs.FinMap as map
+use Rattle.plain_model.specs.declared.call.TheConstants.{HALTF}
+use Rattle.plain_model.specs.declared.call.End.TheVariants.{Halts}
+use Rattle.plain_units.specs.declared.channel.TheConstants.{INFERIOR_ENDED}
+use Rattle.machine_names.specs.declared.names.Tty.{Tty}
+use Rattle.machine_names.specs.declared.names.ForkName.{ForkName}
+use Rattle.plain_model.specs.declared.fork.Fork.{Fork}
+use Rattle.script_texts.specs.declared.status.ForkStatus.TheVariants.{Halted}
+use Rattle.plain_model.specs.State.{PlainState}
+use Rattle.plain_model.specs.Forks.{ForkMap, fork_in, with_regs, with_status}
+use Rattle.plain_model.specs.Trees.{changed, unwaited, woken_in, waiters_woken, with_posted, end_told}
+use Rattle.plain_model.specs.Calls.{behind_call, end_of, parts_behind, fork_behind}
+use Rattle.plain_model.specs.Unit.{stopped, caller_behind, called}
+use Rattle.plain_model.proofs.ForkMaps.{AreOwn, put_itself, slot_tells}
+
+-- no fork waits for one
+abbrev pub NoneWaits : ForkMap → Type 0
+NoneWaits forks = (k : ForkName) (f : Fork) → map.get forks k ≡ Some f → unwaited f ≡ f
+
+module _ (forks : ForkMap) (own : AreOwn forks) (none : NoneWaits forks) where
+  none_changed : (t : Tty) (slot : ℕ) → changed forks unwaited (fork_in forks t slot) ≡ forks
+  none_changed t slot = by (fork_in forks t slot) refl
+    where
+      by : (o : Option Fork) → fork_in forks t slot ≡ o → changed forks unwaited o ≡ forks
+      by None is = refl
+      by (Some f) is = let at = slot_tells forks own t slot f is in ap (map.insert forks f.name) (none f.name f at.0) ∙ put_itself forks f.name f at.0
+
+  none_in : (t : Tty) (slots : List ℕ) → woken_in forks t slots ≡ forks
+  none_in t [] = refl
+  none_in t (slot ∷ slots) = ap (λ m. woken_in m t slots) (none_changed t slot) ∙ none_in t slots
+
+  -- then nobody is woken
+  pub none_woken : (t : Tty) → waiters_woken forks t ≡ forks
+  unfolding waiters_woken
+  none_woken t = none_in t (range_with_len 1 30)
+
+  -- and of the end of a top fork nobody is told
+  pub none_told : (f : Fork) → f.superior ≡ None → end_told forks f ≡ forks
+  none_told f top =
+      ap (λ woken. with_posted woken INFERIOR_ENDED (option_and_then (fork_in woken f.name.tty) f.superior)) (none_woken f.name.tty)
+      ∙ ap (λ (o : Option ℕ). with_posted forks INFERIOR_ENDED (option_and_then (fork_in forks f.name.tty) o)) top
+
+-- a fork that calls HALTF stops, behind the call
+pub halts_so : (s : PlainState) (f : Fork) → map.get s.forks f.name ≡ Some f → called s f HALTF ≡ stopped s (with_status (with_regs f (behind_call f.body.regs)) Halted)
+unfolding end_of parts_behind fork_behind
+halts_so s f there = ap (λ (o : Option Fork). option_map_or (caller_behind s Halts) o (record { state = s; items = [] })) there

@@ -1,0 +1,427 @@
+-- A whole state stays whole where forks are changed but for their names, slots and superiors, and where one is made or killed.
+use Rattle.std.proofs.Common.{◌≡◌, ◌≢◌, ℕ, zero, suc, ◌+◌, ◌%◌, ◌<◌, ◌≤◌, ◌&&◌, Bool, true, false, cond, not, List, [], ◌∷◌, Option, None, Some, ◌⊎◌, inl, inr, refl, sym, ◌∙◌, ap, subst, arith, length-set, get_or-set_other}
+use Rattle.std.specs.Prelude.{◌==◌, is_some, slice_set, slice_index}
+use Rattle.std.specs.List.{filter_map, range_with_len}
+use Rattle.std.specs.Option.{option_or, option_map_or, option_and_then}
+use Rattle.std.specs.Ordering.{eq_by_cmp, nat_cmp}
+use Rattle.std.specs.Cmp.{Equal-is, nat_cmp_total}
+use Rattle.std.specs.Cmp.Lexicographic.{nat_list_cmp_total}
+use Rattle.std.specs.FinMap as map
+use Rattle.std.proofs.lemmas.Bool.{cond_both}
+use Rattle.std.proofs.lemmas.Bool.Decides.{eqb_tells}
+use Rattle.std.proofs.lemmas.Grind.{get_or-set_at}
+use Rattle.outside.specs.declared.TheConstants.{PAGE_WORDS}
+use Rattle.machine_names.specs.declared.names.TheConstants.{MOST_FORKS, TERMINALS}
+use Rattle.machine_names.specs.declared.names.Tty.{Tty}
+use Rattle.machine_names.specs.declared.names.ForkName.{ForkName}
+use Rattle.machine_names.specs.declared.names.PageName.{PageName}
+use Rattle.plain_pages.specs.declared.map.NewMap.{NewMap}
+use Rattle.plain_model.specs.declared.fork.Body.{Body}
+use Rattle.plain_units.specs.declared.registers.Regs.{Regs}
+use Rattle.plain_model.specs.declared.fork.Fork.{Fork}
+use Rattle.script_texts.specs.declared.status.ForkStatus.TheVariants.{Halted}
+use Rattle.plain_units.specs.declared.channel.TheConstants.{ILLEGAL_INSTRUCTION, INFERIOR_ENDED}
+use Rattle.plain_model.specs.declared.call.End.{End}
+use Rattle.plain_model.specs.declared.call.End.TheVariants.{Done, Waits, Halts, Refused, Failed, Trap}
+use Rattle.plain_model.specs.declared.call.ForkChange.{ForkChange}
+use Rattle.plain_model.specs.declared.call.ForkChange.TheVariants.{Nothing, Make, Kill, Freeze, Become, Halt, Store}
+use Rattle.plain_model.specs.State.{PlainState, PlainJob}
+use Rattle.plain_pages.specs.PlainPages.{NamedPages, Map, Maps}
+use Rattle.machine_names.specs.Orders.{fork_cmp, name_cmp, same_fork}
+use Rattle.plain_pages.specs.Room.{page_in, live}
+use Rattle.plain_pages.specs.References.{in_map, stored, slot_at, without_fork, drop_all_unnamed}
+use Rattle.machine_names.specs.Bounds.{IsOwner, IsForkName, IsTerminal}
+use Rattle.plain_pages.specs.NewMaps.{new_map, with_map}
+use Rattle.plain_model.specs.Forks.{ForkMap, fork_in, superior_of, with_fork, with_status}
+use Rattle.plain_model.specs.Interrupts.{posted}
+use Rattle.plain_units.specs.Steps.{is_accumulator}
+use Rattle.plain_model.specs.Inferiors.{any_upward, is_within, is_inferior, has_inferior, leaf_below, last_up_to, last_below}
+use Rattle.plain_model.specs.Trees.{tree_of, next_name, with_made, changed, with_mark, with_body, unwaited, woken_in, waiters_woken, with_posted, end_told}
+use Rattle.plain_units.specs.Blocks.{next_address, stored_from}
+use Rattle.plain_model.specs.Calls.{with_error, fork_behind, made_by, parts_behind}
+use Rattle.plain_model.specs.ForkCalls.{ForkAsked, map_wanted, ForkParts, without, without_below, killed, with_halted, fork_changed, fork_changed_by, fork_turn, fork_end, fork_called}
+use Rattle.plain_pages.specs.WholePages.{AreWhole}
+use Rattle.plain_laws.specs.Whole.{IsWhole}
+use Rattle.plain_units.proofs.Lookups.{looked_up}
+use Rattle.machine_names.proofs.OrderLemmas.{fork_cmp_total, fork_cmp_apart}
+use Rattle.plain_model.proofs.ForkMaps.{cases_name, get_put, get_put_other, get_gone, get_gone_other, gone_itself, slot_tells, superior_tells}
+use Rattle.plain_pages.proofs.Kept.{fork_kept, fork_maps, live_fork, fork_whole as fork_left_whole}
+use Rattle.plain_units.proofs.PageRuns.{AreSound, Keeps, kept_itself, kept_on, stored_kept}
+use Rattle.plain_model.proofs.ForkEnds.{FitsChange, FitsEnd, call_keeps}
+use Rattle.plain_model.proofs.Posted.{IsSame, posted_same}
+
+-- a state with a fork changed that keeps its name, slot and superior
+module _ (s : PlainState) (w : IsWhole s) where
+  pub fork_at_whole : (name : ForkName) (f g : Fork) → map.get s.forks name ≡ Some f → g.name ≡ name → g.slot ≡ f.slot → g.superior ≡ f.superior → IsWhole (record s { forks = map.insert s.forks name g })
+  fork_at_whole name f g there named slot superior = record {
+    pages = w.pages;
+    room = w.room;
+    files = w.files;
+    forks = λ k. same k ∙ w.forks k;
+    own = λ k h is. owned k h (tells k) (sym (found k) ∙ is);
+    old = λ k h. w.old k (sym (same k) ∙ h);
+    terminals = w.terminals;
+    tops = λ t j is. let top = w.tops t j is in top_of j.top top.0 top.1 top.2 top.3 (tells j.top);
+  }
+    where
+      found : (k : ForkName) → map.get (map.insert s.forks name g) k ≡ cond (eq_by_cmp fork_cmp k name) (Some g) (map.get s.forks k)
+      found k = map.get-insert fork_cmp_total s.forks name g k
+
+      tells : (k : ForkName) → ((eq_by_cmp fork_cmp k name ≡ true) × (k ≡ name)) ⊎ (eq_by_cmp fork_cmp k name ≡ false)
+      tells k = by (eq_by_cmp fork_cmp k name) refl
+        where
+          by : (b : Bool) → eq_by_cmp fork_cmp k name ≡ b → ((eq_by_cmp fork_cmp k name ≡ true) × (k ≡ name)) ⊎ (eq_by_cmp fork_cmp k name ≡ false)
+          by true is = inl (is, fork_cmp_apart k name ((Equal-is (fork_cmp k name)).0 is))
+          by false is = inr is
+
+      same : (k : ForkName) → map.contains_key (map.insert s.forks name g) k ≡ map.contains_key s.forks k
+      same k = ap is_some (found k) ∙ at (tells k)
+        where
+          at : ((eq_by_cmp fork_cmp k name ≡ true) × (k ≡ name)) ⊎ (eq_by_cmp fork_cmp k name ≡ false) → is_some (cond (eq_by_cmp fork_cmp k name) (Some g) (map.get s.forks k)) ≡ map.contains_key s.forks k
+          at (inl e) = ap (λ b. is_some (cond b (Some g) (map.get s.forks k))) e.0 ∙ sym (ap is_some (ap (map.get s.forks) e.1 ∙ there))
+          at (inr e) = ap (λ b. is_some (cond b (Some g) (map.get s.forks k))) e
+
+      owned : (k : ForkName) (h : Fork) → ((eq_by_cmp fork_cmp k name ≡ true) × (k ≡ name)) ⊎ (eq_by_cmp fork_cmp k name ≡ false) → cond (eq_by_cmp fork_cmp k name) (Some g) (map.get s.forks k) ≡ Some h → h.name ≡ k
+      owned k h (inl e) is = let here : g ≡ h = cc (e.0, is) in ap (λ (x : Fork). x.name) (sym here) ∙ named ∙ sym e.1
+      owned k h (inr e) is = w.own k h (cc (e, is))
+
+      top_of : (k : ForkName) (h : Fork) → map.get s.forks k ≡ Some h → h.slot ≡ 1 → h.superior ≡ None → ((eq_by_cmp fork_cmp k name ≡ true) × (k ≡ name)) ⊎ (eq_by_cmp fork_cmp k name ≡ false)
+          → (x : Fork) × (map.get (map.insert s.forks name g) k ≡ Some x) × (x.slot ≡ 1) × (x.superior ≡ None)
+      top_of k h is one none (inl e) =
+          let both : Some f ≡ Some h = sym there ∙ sym (ap (map.get s.forks) e.1) ∙ is in
+          let here : f ≡ h = cc both in
+          (g, found k ∙ ap (λ b. cond b (Some g) (map.get s.forks k)) e.0, slot ∙ ap (λ (x : Fork). x.slot) here ∙ one, superior ∙ ap (λ (x : Fork). x.superior) here ∙ none)
+      top_of k h is one none (inr e) = (h, found k ∙ ap (λ b. cond b (Some g) (map.get s.forks k)) e ∙ is, one, none)
+
+  pub fork_whole : (name : ForkName) (f g : Fork) → map.get s.forks name ≡ Some f → g.name ≡ name → g.slot ≡ f.slot → g.superior ≡ f.superior → IsWhole (with_fork s g)
+  fork_whole name f g there named slot superior = subst (λ k. IsWhole (record s { forks = map.insert s.forks k g })) (sym named) (fork_at_whole name f g there named slot superior)
+
+  -- a job changed that keeps its top fork
+  pub job_whole : (t : ℕ) (j k : PlainJob) → map.get s.jobs t ≡ Some j → k.top ≡ j.top → IsWhole (record s { jobs = map.insert s.jobs t k })
+  job_whole t j k there top = record {
+    pages = w.pages;
+    room = w.room;
+    files = w.files;
+    forks = w.forks;
+    own = w.own;
+    old = w.old;
+    terminals = w.terminals;
+    tops = λ u i is. at u i (eq_by_cmp nat_cmp u t) (sym (map.get-insert nat_cmp_total s.jobs t k u) ∙ is);
+  }
+    where
+      at : (u : ℕ) (i : PlainJob) (b : Bool) → cond b (Some k) (map.get s.jobs u) ≡ Some i → (f : Fork) × (map.get s.forks i.top ≡ Some f) × (f.slot ≡ 1) × (f.superior ≡ None)
+      at u i true is =
+          let here : k ≡ i = cc is in
+          let f = w.tops t j there in
+          (f.0, ap (λ (x : PlainJob). map.get s.forks x.top) (sym here) ∙ ap (map.get s.forks) top ∙ f.1, f.2, f.3)
+      at u i false is = w.tops u i is
+
+  pub pages_whole : (q : NamedPages) → AreWhole q → live q ≤ q.limit → q.files ≡ s.pages.files → ((f : ForkName) → map.contains_key q.maps f ≡ map.contains_key s.pages.maps f) → IsWhole (record s { pages = q })
+  pages_whole q whole room files keys = record {
+    pages = whole;
+    room = room;
+    files = λ f h. w.files f (ap (λ (m : map.FinMap _ PageName). map.contains_key m f) (sym files) ∙ h);
+    forks = λ f. w.forks f ∙ sym (keys f);
+    own = w.own;
+    old = w.old;
+    terminals = w.terminals;
+    tops = w.tops;
+  }
+
+  pub sound : AreSound s.pages
+  sound = record { whole = w.pages; room = w.room }
+
+  -- other pages that are sound, with the same files and forks
+  pub keeps_whole : (q : NamedPages) → Keeps s.pages q → IsWhole (record s { pages = q })
+  keeps_whole q k = pages_whole q k.sound.whole k.sound.room k.forks.files k.forks.keys
+
+-- a turn of a call leaves its fork's name, slot and superior
+pub behind_same : {C : Type 0} (f : Fork) (e : End C) → IsSame f (fork_behind f e)
+unfolding fork_behind
+behind_same f (Done change regs) = (refl, refl, refl)
+behind_same f (Waits on) = (refl, refl, refl)
+behind_same f Halts = (refl, refl, refl)
+behind_same f (Refused code) = posted_same (with_error f code) ILLEGAL_INSTRUCTION
+behind_same f (Failed code) = (refl, refl, refl)
+behind_same f (Trap channel) = posted_same f channel
+
+module _ (s : PlainState) (w : IsWhole s) where
+  -- a fork put in place of one
+  pub put : (name : ForkName) (f : Fork) → map.get s.forks name ≡ Some f → (g : Fork) → IsSame f g → IsWhole (with_fork s g)
+  put name f there g same = fork_whole s w name f g there (same.0 ∙ w.own name f there) same.1 same.2
+
+  -- a fork changed, if there is one
+  pub changed_if : (change : Fork → Fork) → ((f : Fork) → IsSame f (change f)) → (o : Option Fork) → ((k : Fork) → o ≡ Some k → map.get s.forks k.name ≡ Some k) → IsWhole (record s { forks = changed s.forks change o })
+  changed_if change same None there = w
+  changed_if change same (Some k) there = let is = same k in fork_at_whole s w k.name k (change k) (there k refl) is.0 is.1 is.2
+
+-- who waits for a fork runs again, slot by slot
+woken_whole : (s : PlainState) → IsWhole s → (t : Tty) (slots : List ℕ) → IsWhole (record s { forks = woken_in s.forks t slots })
+woken_whole s w t [] = w
+woken_whole s w t (slot ∷ slots) =
+    let forks = changed s.forks unwaited (fork_in s.forks t slot) in
+    woken_whole (record s { forks = forks }) (changed_if s w unwaited (λ f. (refl, refl, refl)) (fork_in s.forks t slot) (λ k is. let at = slot_tells s.forks w.own t slot k is in at.0)) t slots
+
+module _ (s : PlainState) (w : IsWhole s) where
+  pub waiters_whole : (t : Tty) → IsWhole (record s { forks = waiters_woken s.forks t })
+  unfolding waiters_woken
+  waiters_whole t = woken_whole s w t (range_with_len 1 MOST_FORKS)
+
+  posted_whole : (f : Fork) (channel : ℕ) → IsWhole (record s { forks = with_posted s.forks channel (superior_of s.forks f) })
+  posted_whole f channel = changed_if s w (λ k. posted k channel) (λ k. posted_same k channel) (superior_of s.forks f) (λ k is. let at = superior_tells s.forks w.own f k is in at.0)
+
+-- a fork that ended is told of
+pub told_whole : (s : PlainState) → IsWhole s → (f : Fork) → IsWhole (record s { forks = end_told s.forks f })
+told_whole s w f = posted_whole (record s { forks = waiters_woken s.forks f.name.tty }) (waiters_whole s w f.name.tty) f INFERIOR_ENDED
+
+-- a fork is the top fork of no job
+abbrev pub IsNoTop : PlainState → ForkName → Type 0
+IsNoTop s name = (t : ℕ) (j : PlainJob) → map.get s.jobs t ≡ Some j → j.top ≡ name → ⊥
+
+module _ (s : PlainState) (w : IsWhole s) (name : ForkName) where
+  -- a fork that goes with its map leaves the state whole
+  pub gone_whole : IsNoTop s name → IsWhole (record s { forks = map.remove s.forks name; pages = without_fork s.pages name })
+  unfolding without_fork
+  gone_whole no_top = by (map.get s.pages.maps name) refl
+    where
+      left : (k : ForkName) (f : Fork) → map.get (map.remove s.forks name) k ≡ Some f → map.get s.forks k ≡ Some f
+      left k f is = elim (cases_name k name) [
+        | inl e ↦ absurd (let no : None ≡ Some f = sym (get_gone s.forks name k e) ∙ is in cc no)
+        | inr ne ↦ sym (get_gone_other s.forks name k ne) ∙ is
+      ]
+
+      has : (k : ForkName) → map.contains_key (map.remove s.forks name) k ≡ true → map.contains_key s.forks k ≡ true
+      has k h = elim (cases_name k name) [
+        | inl e ↦ absurd (let no : false ≡ true = sym (ap is_some (get_gone s.forks name k e)) ∙ h in cc no)
+        | inr ne ↦ sym (ap is_some (get_gone_other s.forks name k ne)) ∙ h
+      ]
+
+      top_of : (t : ℕ) (j : PlainJob) → map.get s.jobs t ≡ Some j → (f : Fork) × (map.get (map.remove s.forks name) j.top ≡ Some f) × (f.slot ≡ 1) × (f.superior ≡ None)
+      top_of t j is = let top = w.tops t j is in (top.0, get_gone_other s.forks name j.top (no_top t j is) ∙ top.1, top.2, top.3)
+
+      keys : (m : Maps) → m ≡ map.remove s.pages.maps name → (k : ForkName) → map.contains_key (map.remove s.forks name) k ≡ map.contains_key m k
+      keys m e k = elim (cases_name k name) [
+        | inl is ↦ ap is_some (get_gone s.forks name k is) ∙ sym (ap is_some (get_gone s.pages.maps name k is)) ∙ ap (λ (x : Maps). map.contains_key x k) (sym e)
+        | inr ne ↦ ap is_some (get_gone_other s.forks name k ne) ∙ w.forks k ∙ sym (ap is_some (get_gone_other s.pages.maps name k ne)) ∙ ap (λ (x : Maps). map.contains_key x k) (sym e)
+      ]
+
+      with_pages : (q : NamedPages) → AreWhole q → live q ≤ q.limit → q.files ≡ s.pages.files → q.maps ≡ map.remove s.pages.maps name → IsWhole (record s { forks = map.remove s.forks name; pages = q })
+      with_pages q whole room files maps = record {
+        pages = whole;
+        room = room;
+        files = λ f h. w.files f (ap (λ (m : map.FinMap _ PageName). map.contains_key m f) (sym files) ∙ h);
+        forks = keys q.maps maps;
+        own = λ k f is. w.own k f (left k f is);
+        old = λ k h. w.old k (has k h);
+        terminals = w.terminals;
+        tops = top_of;
+      }
+
+      none_there : map.get s.pages.maps name ≡ None → without_fork s.pages name ≡ s.pages
+      none_there none = ap (λ (o : Option Map). drop_all_unnamed (record s.pages { maps = map.remove s.pages.maps name }) (option_map_or (filter_map page_in) o [])) none ∙ ap (λ (m : Maps). record s.pages { maps = m }) (gone_itself s.pages.maps name none)
+
+      by : (o : Option Map) → map.get s.pages.maps name ≡ o → IsWhole (record s { forks = map.remove s.forks name; pages = without_fork s.pages name })
+      by None none = with_pages (without_fork s.pages name) (subst (λ (q : NamedPages). AreWhole q) (sym (none_there none)) w.pages) (subst (λ (q : NamedPages). live q ≤ q.limit) (sym (none_there none)) w.room)
+          (ap (λ (q : NamedPages). q.files) (none_there none)) (ap (λ (q : NamedPages). q.maps) (none_there none) ∙ sym (gone_itself s.pages.maps name none))
+      by (Some m) some =
+          let kept = fork_kept s.pages w.pages name m some in
+          with_pages (without_fork s.pages name) (fork_left_whole s.pages w.pages name m some) (omega (arith, live_fork s.pages w.pages name m some, w.room, kept.limit)) kept.files (fork_maps s.pages w.pages name m some)
+
+  -- who has a superior is no top fork
+  pub below_no_top : (f : Fork) → map.get s.forks name ≡ Some f → is_some f.superior ≡ true → IsNoTop s name
+  below_no_top f there some t j is same =
+      let top = w.tops t j is in
+      let both : Some top.0 ≡ Some f = sym top.1 ∙ ap (map.get s.forks) same ∙ there in
+      let here : top.0 ≡ f = cc both in
+      let no : false ≡ true = sym (ap is_some (sym (ap (λ (x : Fork). x.superior) here) ∙ top.3)) ∙ some in
+      cc no
+
+-- an inferior lives, and has a superior
+pub inferior_tells : (forks : ForkMap) (who name : ForkName) → is_inferior forks who name ≡ true → (f : Fork) × (map.get forks name ≡ Some f) × (is_some f.superior ≡ true)
+unfolding is_inferior
+inferior_tells forks who name is = by (map.get forks name) refl is
+  where
+    over : (f : Fork) (o : Option ℕ) → f.superior ≡ o → any_upward (λ k. same_fork k.name who) MOST_FORKS forks (option_and_then (fork_in forks f.name.tty) o) ≡ true → is_some f.superior ≡ true
+    over f None none h = absurd (cc h)
+    over f (Some slot) some h = ap is_some some
+
+    by : (o : Option Fork) → map.get forks name ≡ o → option_map_or (λ f. is_within MOST_FORKS forks who (superior_of forks f)) o false ≡ true → (f : Fork) × (map.get forks name ≡ Some f) × (is_some f.superior ≡ true)
+    by None none h = absurd (cc h)
+    by (Some f) there h = (f, there, over f f.superior refl h)
+
+-- the last fork below another is an inferior of it
+pub last_tells : (forks : ForkMap) (who : ForkName) (f : Fork) → last_below forks who ≡ Some f → is_inferior forks who f.name ≡ true
+unfolding last_below
+last_tells forks who f is = up_to MOST_FORKS is
+  where
+    leaf : (o : Option Fork) → option_and_then (leaf_below forks who) o ≡ Some f → is_inferior forks who f.name ≡ true
+    leaf None e = absurd (cc e)
+    leaf (Some k) e = by (is_inferior forks who k.name) refl (has_inferior forks k) e
+      where
+        by : (b : Bool) → is_inferior forks who k.name ≡ b → (c : Bool) → cond (b && not c) (Some k) None ≡ Some f → is_inferior forks who f.name ≡ true
+        by true below false h = let same : k ≡ f = cc h in ap (λ (x : Fork). is_inferior forks who x.name) (sym same) ∙ below
+        by true below true h = absurd (cc h)
+        by false above c h = absurd (cc h)
+
+    either : (a b : Option Fork) → (a ≡ Some f → is_inferior forks who f.name ≡ true) → (b ≡ Some f → is_inferior forks who f.name ≡ true) → option_or a b ≡ Some f → is_inferior forks who f.name ≡ true
+    either None b first second e = second e
+    either (Some k) b first second e = first e
+
+    up_to : (n : ℕ) → last_up_to forks who n ≡ Some f → is_inferior forks who f.name ≡ true
+    up_to zero e = absurd (cc e)
+    up_to (suc n) e = either (option_and_then (leaf_below forks who) (fork_in forks who.tty (suc n))) (last_up_to forks who n) (leaf (fork_in forks who.tty (suc n))) (up_to n) e
+
+-- the state with other parts
+abbrev pub with_parts : PlainState → ForkParts name_cmp → PlainState
+with_parts s v = record s { forks = v.tree.forks; fork_serials = v.tree.serials; pages = v.pages }
+
+abbrev pub parts_of : PlainState → ForkParts name_cmp
+parts_of s = record { tree = tree_of s; pages = s.pages }
+
+-- without a fork's inferiors
+below_whole : (n : ℕ) (f : ForkName) (s : PlainState) → IsWhole s → IsWhole (with_parts s (without_below n f (parts_of s)))
+unfolding without_below
+below_whole zero f s w = w
+below_whole (suc n) f s w = by (λ t whole. below_whole n f t whole) (last_below s.forks f) refl
+  where
+    by : ((t : PlainState) → IsWhole t → IsWhole (with_parts t (without_below n f (parts_of t)))) → (o : Option Fork) → last_below s.forks f ≡ o → IsWhole (with_parts s (option_map_or (λ k. without_below n f (without (parts_of s) k.name)) o (parts_of s)))
+    by rest None none = w
+    by rest (Some k) is =
+        let own = inferior_tells s.forks f k.name (last_tells s.forks f k is) in
+        rest (with_parts s (without (parts_of s) k.name)) (gone_whole s w k.name (below_no_top s w k.name own.0 own.1 own.2))
+
+module _ (s : PlainState) (w : IsWhole s) where
+  -- without a fork and its inferiors; who waits for a fork runs again
+  pub killed_whole : (f : ForkName) → IsNoTop s f → IsWhole (with_parts s (fork_changed (Kill f) (parts_of s)))
+  unfolding fork_changed
+  killed_whole f no_top =
+      let t = with_parts s (without_below MOST_FORKS f (parts_of s)) in
+      let u = with_parts s (killed (parts_of s) f) in
+      waiters_whole u (gone_whole t (below_whole MOST_FORKS f s w) f no_top) f.tty
+
+  pub halted_whole : (f : ForkName) → IsWhole (with_parts s (fork_changed (Halt f) (parts_of s)))
+  unfolding fork_changed
+  halted_whole f = looked_up (λ v. IsWhole (with_parts s v)) (with_halted (parts_of s)) (parts_of s) (map.get s.forks f)
+      (λ g is. let h = with_status g Halted in told_whole (with_fork s h) (put s w f g is h (refl, refl, refl)) h) (λ none. w)
+
+  pub mark_whole : (f : ForkName) (on : Bool) → IsWhole (with_parts s (fork_changed (Freeze f on) (parts_of s)))
+  unfolding fork_changed
+  mark_whole f on = changed_if s w (with_mark on) (λ k. (refl, refl, refl)) (map.get s.forks f) (λ k is. ap (map.get s.forks) (w.own f k is) ∙ is)
+
+  pub body_whole : (f : ForkName) (body : Body) → IsWhole (with_parts s (fork_changed (Become f body) (parts_of s)))
+  unfolding fork_changed
+  body_whole f body = changed_if s w (with_body body) (λ k. (refl, refl, refl)) (map.get s.forks f) (λ k is. ap (map.get s.forks) (w.own f k is) ∙ is)
+
+stored_from_kept : (p : NamedPages) → AreSound p → (f : ForkName) (at : ℕ) (words : List ℕ) → Keeps p (stored_from p f at words)
+stored_from_kept p w f at [] = kept_itself p w
+stored_from_kept p w f at (word ∷ words) =
+    let slot = slot_at f at in
+    let q = stored p (in_map slot) (at % PAGE_WORDS) word in
+    cond_both (is_accumulator at) p q (λ x. Keeps p (stored_from x f (next_address at) words)) (λ low. stored_from_kept p w f (next_address at) words)
+    (λ high. let k = stored_kept p slot (at % PAGE_WORDS) word nat_list_cmp_total w in kept_on p q (stored_from q f (next_address at) words) k (stored_from_kept q k.sound f (next_address at) words))
+
+module _ (s : PlainState) (w : IsWhole s) where
+  -- no fork has the next name
+  pub next_absent : (t : Tty) → map.get s.pages.maps (next_name (tree_of s) t) ≡ None
+  next_absent t = by (map.get s.pages.maps (next_name (tree_of s) t)) refl
+    where
+      by : (o : Option Map) → map.get s.pages.maps (next_name (tree_of s) t) ≡ o → o ≡ None
+      by None is = refl
+      by (Some m) is = absurd (omega (arith, w.old (next_name (tree_of s) t) (w.forks (next_name (tree_of s) t) ∙ ap is_some is)))
+
+  pub no_fork : (t : Tty) → map.contains_key s.forks (next_name (tree_of s) t) ≡ false
+  no_fork t = w.forks (next_name (tree_of s) t) ∙ ap is_some (next_absent t)
+
+  -- a fork with the next name, and its map, leave the state whole
+  module _ (t : Tty) (terminal : IsTerminal t) (f : Fork) (entries : NewMap) (q : NamedPages) (sound : AreSound q) (files : q.files ≡ s.pages.files)
+      (keys : (k : ForkName) → map.contains_key q.maps k ≡ map.contains_key (with_map s.pages (next_name (tree_of s) t) entries).maps k) where
+    name : ForkName
+    name = next_name (tree_of s) t
+
+    made_at_whole : f.name ≡ name → IsWhole (record s { forks = map.insert s.forks name f; fork_serials = slice_set s.fork_serials t.0 (name.serial + 1); pages = q })
+    unfolding name
+    made_at_whole named = record {
+      pages = sound.whole;
+      room = sound.room;
+      files = λ g h. w.files g (ap (λ (m : map.FinMap _ PageName). map.contains_key m g) (sym files) ∙ h);
+      forks = λ k. alike k ∙ sym (keys k);
+      own = λ k h is. elim (cases_name k name) [
+        | inl e ↦ let here : Some f ≡ Some h = sym (get_put s.forks name k f e) ∙ is in let same : f ≡ h = cc here in ap (λ (x : Fork). x.name) (sym same) ∙ named ∙ sym e
+        | inr ne ↦ w.own k h (sym (get_put_other s.forks name k f ne) ∙ is)
+      ];
+      old = λ k h. elim (cases_name k name) [
+        | inl e ↦ subst (λ (n : ForkName). n.serial < slice_index (slice_set s.fork_serials t.0 (name.serial + 1)) n.tty.0) (sym e) (omega (arith, next_own))
+        | inr ne ↦ below k (sym (ap is_some (get_put_other s.forks name k f ne)) ∙ h)
+      ];
+      terminals = length-set s.fork_serials t.0 (name.serial + 1) ∙ w.terminals;
+      tops = λ u j is. let top = w.tops u j is in (top.0, get_put_other s.forks name j.top f (λ e. gone j.top top.0 top.1 e) ∙ top.1, top.2, top.3);
+    }
+      where
+        alike : (k : ForkName) → map.contains_key (map.insert s.forks name f) k ≡ map.contains_key (with_map s.pages name entries).maps k
+        alike k = elim (cases_name k name) [
+          | inl e ↦ ap is_some (get_put s.forks name k f e) ∙ sym (ap is_some (get_put s.pages.maps name k (new_map entries) e))
+          | inr ne ↦ ap is_some (get_put_other s.forks name k f ne) ∙ w.forks k ∙ sym (ap is_some (get_put_other s.pages.maps name k (new_map entries) ne))
+        ]
+
+        gone : (k : ForkName) (h : Fork) → map.get s.forks k ≡ Some h → k ≡ name → ⊥
+        gone k h is e = let no : true ≡ false = sym (ap is_some is) ∙ ap (map.contains_key s.forks) e ∙ no_fork t in cc no
+
+        next_own : slice_index (slice_set s.fork_serials t.0 (name.serial + 1)) t.0 ≡ name.serial + 1
+        next_own = get_or-set_at s.fork_serials t.0 t.0 (name.serial + 1) 0 refl (omega (arith, terminal, w.terminals))
+
+        below : (k : ForkName) → map.contains_key s.forks k ≡ true → k.serial < slice_index (slice_set s.fork_serials t.0 (name.serial + 1)) k.tty.0
+        below k h = by (eqb_tells k.tty.0 t.0)
+          where
+            by : (((k.tty.0 == t.0) ≡ true) × (k.tty.0 ≡ t.0)) ⊎ (((k.tty.0 == t.0) ≡ false) × (k.tty.0 ≢ t.0)) → k.serial < slice_index (slice_set s.fork_serials t.0 (name.serial + 1)) k.tty.0
+            by (inl e) =
+                let here : slice_index (slice_set s.fork_serials t.0 (name.serial + 1)) k.tty.0 ≡ name.serial + 1 = ap (slice_index (slice_set s.fork_serials t.0 (name.serial + 1))) e.1 ∙ next_own in
+                let before : slice_index s.fork_serials k.tty.0 ≡ name.serial = ap (slice_index s.fork_serials) e.1 in
+                omega (arith, here, before, w.old k h)
+            by (inr e) = omega (arith, get_or-set_other s.fork_serials t.0 k.tty.0 (name.serial + 1) 0 e.1, w.old k h)
+
+    pub made_whole : f.name ≡ next_name (tree_of s) t → IsWhole (with_parts s (record { tree = with_made (tree_of s) f; pages = q }))
+    unfolding name
+    made_whole named = subst (λ (n : ForkName). IsWhole (record s { forks = map.insert s.forks n f; fork_serials = slice_set s.fork_serials n.tty.0 (n.serial + 1); pages = q })) (sym named) (made_at_whole named)
+
+  -- a change of a fork call leaves the state whole
+  module _ (who : ForkName) (regs : Regs) (terminal : IsTerminal who.tty) (q : NamedPages) where
+    abbrev caller : ForkAsked
+    caller = record { who = who; regs = regs; tree = tree_of s }
+
+    no_top : (f : ForkName) → is_inferior s.forks who f ≡ true → IsNoTop s f
+    no_top f below = let own = inferior_tells s.forks who f below in below_no_top s w f own.0 own.1 own.2
+
+    change_whole : (change : ForkChange) → FitsChange caller s.pages (λ x y. Keeps x y) q change → IsWhole (with_parts s (fork_changed change (record (parts_of s) { pages = q })))
+    unfolding fork_changed
+    change_whole Nothing k = keeps_whole s w q k
+    change_whole (Make f) made = made_whole who.tty terminal f (map_wanted caller) q made.pages.sound made.pages.forks.files made.pages.forks.keys made.name
+    change_whole (Kill f) fits = killed_whole (record s { pages = q }) (keeps_whole s w q fits.1) f (no_top f fits.0)
+    change_whole (Freeze f on) fits = mark_whole (record s { pages = q }) (keeps_whole s w q fits.1) f on
+    change_whole (Become f body) fits = body_whole (record s { pages = q }) (keeps_whole s w q fits.1) f body
+    change_whole (Halt f) fits = halted_whole (record s { pages = q }) (keeps_whole s w q fits.1) f
+    change_whole (Store f at words) fits = keeps_whole s w (stored_from q f at words) (kept_on s.pages q (stored_from q f at words) fits.1 (stored_from_kept q fits.1.sound f at words))
+
+  -- a fork call leaves the state whole
+  pub fork_called_whole : (name : ForkName) (f : Fork) → map.get s.forks name ≡ Some f → IsForkName name → (number : ℕ) → IsWhole (fork_called s f number)
+  unfolding parts_behind
+  fork_called_whole name f there fits number = by (fork_end s f number) (call_keeps nat_list_cmp_total a own s.pages (sound s w) (next_absent f.name.tty) number)
+    where
+      a : ForkAsked
+      a = record { who = f.name; regs = f.body.regs; tree = tree_of s }
+
+      terminal : IsTerminal f.name.tty
+      terminal = subst (λ (n : ForkName). n.tty.0 < TERMINALS) (sym (w.own name f there)) fits.0
+
+      own : IsOwner f.name.tty
+      own = inl terminal
+
+      q : NamedPages
+      q = made_by (fork_turn s f number) s.pages
+
+      by : (e : End ForkChange) → FitsEnd a s.pages (λ x y. Keeps x y) q e → IsWhole (with_parts s (parts_behind (fork_changed_by (fork_turn s f number)) (parts_of s) e))
+      by (Done change regs) ok = change_whole f.name f.body.regs terminal q change ok
+      by (Waits on) ok = w
+      by Halts ok = w
+      by (Refused code) ok = w
+      by (Failed code) ok = w
+      by (Trap channel) ok = w

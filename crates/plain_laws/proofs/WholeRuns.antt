@@ -1,0 +1,249 @@
+-- The plain state is whole wherever a run comes.
+use Rattle.std.proofs.Common.{◌≡◌, ℕ, ◌+◌, ◌%◌, ◌<◌, ◌≤◌, Bool, true, false, cond, List, [], ◌∷◌, length, Option, None, Some, inl, refl, sym, ◌∙◌, ap, subst, arith, All}
+use Rattle.std.specs.Prelude.{◌==◌, is_some, nat_lt, slice_set}
+use Rattle.std.specs.Ordering.{eq_by_cmp, nat_cmp}
+use Rattle.std.specs.Cmp.{nat_cmp_total}
+use Rattle.std.specs.Cmp.Lexicographic.{nat_list_cmp_total}
+use Rattle.std.specs.FinMap as map
+use Rattle.std.proofs.lemmas.Bool.{cond_both}
+use Rattle.std.proofs.lemmas.List.Elements.{All-head, All-tail}
+use Rattle.outside.specs.declared.TheConstants.{PAGE_WORDS}
+use Rattle.machine_names.specs.declared.names.TheConstants.{TERMINALS, ACCUMULATORS, LAST_SERIAL}
+use Rattle.plain_units.specs.Instructions.{instruction}
+use Rattle.machine_names.specs.declared.names.Tty.{Tty}
+use Rattle.machine_names.specs.declared.names.ForkName.{ForkName}
+use Rattle.machine_names.specs.declared.names.Slot.{Slot}
+use Rattle.plain_model.specs.declared.fork.Fork.{Fork}
+use Rattle.plain_model.specs.State.{PlainState, PlainJob, opening}
+use Rattle.plain_pages.specs.PlainPages.{NamedPages, Map, opening_pages, first_serials}
+use Rattle.machine_names.specs.Orders.{fork_cmp, page_cmp, name_cmp}
+use Rattle.plain_pages.specs.Room.{HasRoom, live}
+use Rattle.plain_pages.specs.References.{in_map, Referred, granted, denied, full, reference, stored, slot_at}
+use Rattle.machine_names.specs.Bounds.{IsOwner, IsForkName, IsTerminal}
+use Rattle.machine_names.specs.declared.names.Kind.TheVariants.{Write}
+use Rattle.plain_model.specs.declared.fork.TerminalMode.TheVariants.{Command, Program}
+use Rattle.script_texts.specs.declared.status.ForkStatus.{ForkStatus}
+use Rattle.script_texts.specs.declared.status.ForkStatus.TheVariants.{Run as Running, Wait, Halted, Forced}
+use Rattle.plain_model.specs.Interrupts.{posted}
+use Rattle.plain_model.specs.declared.call.TheConstants.{PBOUT}
+use Rattle.plain_model.specs.Unit.{Effect, in_command_mode, with_stopped, stopped, unit_ended, trapped, turned, caller_behind, fork_turned, called, advanced, posted_if, went, over, unit}
+use Rattle.plain_units.specs.Units.{unit_on}
+use Rattle.plain_model.specs.declared.call.End.{End}
+use Rattle.plain_model.specs.declared.call.MapChange.{MapChange}
+use Rattle.plain_model.specs.Calls.{end_of, fork_behind, parts_behind, lifted, is_among}
+use Rattle.plain_model.specs.MapCalls.{map_call, map_changed, pages_seen}
+use Rattle.plain_model.specs.ForkCalls.{fork_calls, fork_end, fork_called}
+use Rattle.plain_units.specs.Steps.{Planned, Ending, done, call, trap, need, stopped as unit_stopped, begun, pages_left}
+use Rattle.script_texts.specs.declared.event.Event.{Event}
+use Rattle.script_texts.specs.declared.event.Event.TheVariants.{Login, TypeIn, File, Words, Poke, Start, Run, Tick, Evict, Drum, Auto, Examine, Forks, Page, Trace}
+use Rattle.script_texts.specs.declared.event.Step.{Step}
+use Rattle.script_texts.specs.declared.event.Step.TheVariants.{Outer, Unit as AUnit, Idle}
+use Rattle.plain_model.specs.Run.{apply, state_after}
+use Rattle.plain_pages.specs.declared.map.NewMap.TheVariants.{Empty as EmptyMap}
+use Rattle.plain_pages.specs.NewMaps.{with_map}
+use Rattle.plain_model.specs.Events.{at_job, new_job, next_fork, with_job, login, with_accumulator, poked, poked_at, poke, restarted, start, started, word_seen, examined_in, outer}
+use Rattle.script_texts.specs.Limits.{FitsEvent, FitsStep}
+use Rattle.plain_model.specs.Forks.{top_fork, with_fork, with_regs, counted, change_fork}
+use Rattle.plain_laws.specs.Whole.{IsWhole}
+use Rattle.plain_units.proofs.Lookups.{looked_up}
+use Rattle.plain_model.proofs.ForkMaps.{get_put}
+use Rattle.plain_pages.proofs.Whole.{opening_whole, map_whole, live_whole}
+use Rattle.plain_pages.proofs.ReferencesMade.{has_room}
+use Rattle.plain_model.proofs.MapTurns.{turn_whole}
+use Rattle.plain_units.proofs.PageRuns.{AreSound, PlanKeeps, kept_itself, kept_on, reference_kept, run_kept, stored_kept}
+use Rattle.plain_laws.proofs.WholeForks.{job_whole, pages_whole, sound, keeps_whole, behind_same, put, told_whole, made_whole, next_absent, fork_called_whole}
+use Rattle.plain_model.proofs.Posted.{IsSame, posted_same}
+
+-- the opening state is whole
+pub whole_opening : (limit : ℕ) → IsWhole (opening limit)
+unfolding opening opening_pages
+whole_opening limit = record {
+  pages = opening_whole name_cmp limit;
+  room = subst (λ n. n ≤ limit) (sym none_live) (omega arith);
+  files = λ f h. absurd (cc (sym (ap is_some (map.get-empty _ f)) ∙ h));
+  forks = λ f. none f ∙ sym (no_map f);
+  own = λ k f h. absurd (cc (sym (map.get-empty fork_cmp k) ∙ h));
+  old = λ f h. absurd (cc (sym (none f) ∙ h));
+  terminals = first_terminals;
+  tops = λ t j h. absurd (cc (sym (map.get-empty nat_cmp t) ∙ h));
+}
+  where
+    none_live : live (opening limit).pages ≡ 0
+    none_live = live_whole (opening limit).pages (opening_whole name_cmp limit) ∙ ap (λ n. n + map.len (map.empty {X = Map} {R = fork_cmp})) (map.len-empty page_cmp (List ℕ)) ∙ ap (λ n. 0 + n) (map.len-empty fork_cmp Map)
+
+    none : (f : ForkName) → map.contains_key (map.empty {X = Fork} {R = fork_cmp}) f ≡ false
+    none f = ap is_some (map.get-empty fork_cmp f)
+
+    no_map : (f : ForkName) → map.contains_key (map.empty {X = Map} {R = fork_cmp}) f ≡ false
+    no_map f = ap is_some (map.get-empty fork_cmp f)
+
+    first_terminals : length first_serials ≡ TERMINALS
+    first_terminals = (opening_whole name_cmp limit).owners
+
+-- what a step leaves is whole
+abbrev Leaves : Effect → Type 0
+Leaves e = IsWhole e.state
+
+mode_whole : (s : PlainState) → IsWhole s → (t : Tty) → IsWhole (in_command_mode s t)
+mode_whole s w t = looked_up IsWhole _ s (map.get s.jobs t.0) (λ j is. job_whole s w t.0 j (record j { mode = Command }) is refl) (λ none. w)
+
+module _ (s : PlainState) (w : IsWhole s) (name : ForkName) (f : Fork) (there : map.get s.forks name ≡ Some f) where
+  stopped_whole : (g : Fork) → IsSame f g → Leaves (stopped s g)
+  stopped_whole g same =
+      let t = with_stopped s g in let m : IsWhole t = told_whole (with_fork s (counted g)) (put s w name f there (counted g) same) (counted g) in
+      cond_both (is_some g.superior) _ _ Leaves (λ below. m) (λ top. mode_whole t m g.name.tty)
+
+  ended_whole_fork : (g : Fork) (status : ForkStatus) → IsSame f g → Leaves (unit_ended s g status)
+  ended_whole_fork g Running same = put s w name f there (counted g) same
+  ended_whole_fork g (Wait on) same = put s w name f there (counted g) same
+  ended_whole_fork g Halted same = stopped_whole g same
+  ended_whole_fork g (Forced channel) same = stopped_whole g same
+
+  trapped_whole : (channel : ℕ) → Leaves (trapped s f channel)
+  trapped_whole channel = ended_whole_fork (posted f channel) (posted f channel).body.status (posted_same f channel)
+
+module _ (s : PlainState) (w : IsWhole s) (name : ForkName) (f : Fork) (there : map.get s.forks name ≡ Some f) where
+  -- a call on maps changes pages alone
+  turned_whole : (e : End MapChange) → Leaves (turned (lifted pages_seen map_changed s f e))
+  turned_whole e =
+      let q = parts_behind map_changed s.pages e in
+      let stays = turn_whole s.pages w.pages e in
+      let whole = pages_whole s w q stays.whole (omega (arith, w.room, stays.room, stays.limit)) stays.files stays.keys in
+      ended_whole_fork (record s { pages = q }) whole name f there (fork_behind f e) (fork_behind f e).body.status (behind_same f e)
+
+  -- a fork call changes forks and pages
+  fork_turned_whole : (number : ℕ) → IsForkName name → Leaves (fork_turned s f number)
+  fork_turned_whole number fits =
+      let t = fork_called s f number in
+      let whole = fork_called_whole s w name f there fits number in
+      looked_up Leaves (caller_behind t (fork_end s f number)) _ (map.get t.forks f.name)
+      (λ g is. let h = fork_behind g (fork_end s f number) in ended_whole_fork t whole f.name g is h h.body.status (behind_same g (fork_end s f number))) (λ none. whole)
+
+  called_whole : (number : ℕ) → IsForkName name → Leaves (called s f number)
+  called_whole number fits =
+      cond_both (number == PBOUT) _ _ Leaves (λ prints. put s w name f there (counted (with_regs f (advanced f.body.regs))) (refl, refl, refl)) (λ other.
+      cond_both (is_among fork_calls number) _ _ Leaves (λ is. fork_turned_whole number fits) (λ none.
+      turned_whole (end_of s.pages (map_call number (record { who = f.name; regs = f.body.regs; forks = s.forks })))))
+
+-- a unit that goes through leaves its fork's name and slot
+went_whole : (s : PlainState) (w : IsWhole s) (name : ForkName) (f : Fork) → map.get s.forks name ≡ Some f → (q : NamedPages) → IsWhole (record s { pages = q }) → (e : Ending) → Leaves (went s f q e)
+went_whole s w name f there q whole e = by e.post
+  where
+    g : Fork
+    g = with_regs f e.regs
+
+    by : (post : Option ℕ) → Leaves (unit_ended (record s { pages = q }) (posted_if g post) (posted_if g post).body.status)
+    by None = ended_whole_fork (record s { pages = q }) whole name f there g g.body.status (refl, refl, refl)
+    by (Some channel) = ended_whole_fork (record s { pages = q }) whole name f there (posted g channel) (posted g channel).body.status (posted_same g channel)
+
+module _ (s : PlainState) (w : IsWhole s) where
+  over_whole : (name : ForkName) (f : Fork) → map.get s.forks name ≡ Some f → IsForkName name → (r : Planned name_cmp ⊥) → PlanKeeps nat_list_cmp_total s.pages f.name r → Leaves (over s f r)
+  over_whole name f there fits (done t e) left = went_whole s w name f there (pages_left f.name t e) (keeps_whole s w (pages_left f.name t e) left) e
+  over_whole name f there fits (unit_stopped (trap channel)) left = trapped_whole s w name f there channel
+  over_whole name f there fits (unit_stopped (need none)) left = absurd none
+  over_whole name f there fits (call number) left = called_whole s w name f there number fits
+
+  unit_whole : (name : ForkName) → IsForkName name → Leaves (unit s name)
+  unfolding unit
+  unit_whole name fits = looked_up Leaves _ _ (map.get s.forks name) (λ f is. runs f is) (λ none. w)
+    where
+      runs : (f : Fork) → map.get s.forks name ≡ Some f → Leaves (over s f (unit_on f.name s.pages f.body.regs))
+      runs f is =
+          let own : IsOwner f.name.tty = inl (subst (λ (n : ForkName). n.tty.0 < TERMINALS) (sym (w.own name f is)) fits.0) in
+          over_whole name f is fits (unit_on f.name s.pages f.body.regs) (run_kept nat_list_cmp_total s.pages f.name own (instruction f.body.regs) (begun s.pages f.body.regs.ac) (kept_itself s.pages (sound s w)))
+
+  changed_whole : (name : ForkName) (change : Fork → Fork) → ((f : Fork) → IsSame f (change f)) → IsWhole (change_fork s name change)
+  changed_whole name change same = looked_up IsWhole _ s (map.get s.forks name) (λ f is. put s w name f is (change f) (same f)) (λ none. w)
+
+  with_job_whole : (t : Tty) (user : List ℕ) → IsTerminal t → HasRoom (with_map s.pages (next_fork s t) EmptyMap) t ≡ true → IsWhole (with_job s t user)
+  with_job_whole t user terminal room = record {
+    pages = m.pages;
+    room = m.room;
+    files = m.files;
+    forks = m.forks;
+    own = m.own;
+    old = m.old;
+    terminals = m.terminals;
+    tops = λ u i is. top_of i (eq_by_cmp nat_cmp u t.0) u (sym (map.get-insert nat_cmp_total s.jobs t.0 (new_job user f) u) ∙ is);
+  }
+    where
+      f : ForkName
+      f = next_fork s t
+
+      sound : AreSound (with_map s.pages f EmptyMap)
+      sound = record { whole = map_whole s.pages w.pages f (next_absent s w t) EmptyMap; room = has_room (with_map s.pages f EmptyMap) t room }
+
+      m : IsWhole (record (with_fork s (top_fork f)) { pages = with_map s.pages f EmptyMap; fork_serials = slice_set s.fork_serials t.0 (f.serial + 1) })
+      m = made_whole s w t terminal (top_fork f) EmptyMap (with_map s.pages f EmptyMap) sound refl (λ k. refl) refl
+
+      top_of : (i : PlainJob) (b : Bool) (u : ℕ) → cond b (Some (new_job user f)) (map.get s.jobs u) ≡ Some i → (x : Fork) × (map.get (map.insert s.forks f (top_fork f)) i.top ≡ Some x) × (x.slot ≡ 1) × (x.superior ≡ None)
+      top_of i true u is =
+          let here : new_job user f ≡ i = cc is in
+          (top_fork f, ap (λ (j : PlainJob). map.get (map.insert s.forks f (top_fork f)) j.top) (sym here) ∙ get_put s.forks f f (top_fork f) refl, refl, refl)
+      top_of i false u is = m.tops u i is
+
+  login_whole : (t : Tty) (user : List ℕ) → IsTerminal t → Leaves (login s t user)
+  login_whole t user terminal =
+      cond_both (is_some (map.get s.jobs t.0)) _ _ Leaves (λ busy. w) (λ free.
+      cond_both (nat_lt LAST_SERIAL (next_fork s t).serial) _ _ Leaves (λ out. w) (λ few.
+      cond_both (HasRoom (with_map s.pages (next_fork s t) EmptyMap) t) _ _ Leaves (λ fits. with_job_whole t user terminal fits) (λ none. w)))
+
+  poked_whole : (t : Tty) → IsTerminal t → (at : Slot) (offset word : ℕ) (r : Referred name_cmp) → reference s.pages (in_map at) Write t ≡ r → Leaves (poked s t at offset word r)
+  poked_whole t terminal at offset word (granted q) is =
+      let k = reference_kept nat_list_cmp_total t (inl terminal) s.pages q at Write (sound s w) is in
+      let r = stored q (in_map at) offset word in
+      keeps_whole s w r (kept_on s.pages q r k (stored_kept q at offset word nat_list_cmp_total k.sound))
+  poked_whole t terminal at offset word (denied kind) is = w
+  poked_whole t terminal at offset word full is = w
+
+  job_effect : (t : Tty) (act : PlainJob → Effect) → ((j : PlainJob) → map.get s.jobs t.0 ≡ Some j → Leaves (act j)) → Leaves (at_job s t act)
+  job_effect t act does = looked_up Leaves act _ (map.get s.jobs t.0) does (λ none. w)
+
+  poke_whole : (t : Tty) (address word : ℕ) → IsTerminal t → Leaves (poke s t address word)
+  poke_whole t address word terminal = job_effect t (poked_at s t address word) (λ j is.
+      let at = slot_at j.top address in
+      cond_both (nat_lt address ACCUMULATORS) _ _ Leaves (λ low. changed_whole j.top (with_accumulator address word) (λ f. (refl, refl, refl))) (λ high. poked_whole t terminal at (address % PAGE_WORDS) word (reference s.pages (in_map at) Write t) refl))
+
+  start_whole : (t : Tty) (address : ℕ) → Leaves (start s t address)
+  start_whole t address = job_effect t _ does
+    where
+      jobs_stay : (j : PlainJob) → (change_fork s j.top (restarted address)).jobs ≡ s.jobs
+      jobs_stay j = looked_up (λ (c : PlainState). c.jobs ≡ s.jobs) _ s (map.get s.forks j.top) (λ f is. refl) (λ none. refl)
+
+      does : (j : PlainJob) → map.get s.jobs t.0 ≡ Some j → IsWhole (started s t address j)
+      does j is =
+          let c = change_fork s j.top (restarted address) in
+          let same = jobs_stay j in
+          let m = job_whole c (changed_whole j.top (restarted address) (λ f. (refl, refl, refl))) t.0 j (record j { mode = Program }) (ap (λ x. map.get x t.0) same ∙ is) refl in
+          subst (λ x. IsWhole (record c { jobs = map.insert x t.0 (record j { mode = Program }) })) same m
+
+  outer_whole : (e : Event) → FitsEvent e → Leaves (outer s e)
+  unfolding outer
+  outer_whole (Login t user) fits = login_whole t user fits.0
+  outer_whole (Poke t address word) fits = poke_whole t address word fits.0
+  outer_whole (Start t address) fits = start_whole t address
+  outer_whole (Examine t serial address) fits = job_effect t _ (λ j is.
+      looked_up Leaves (examined_in s t serial address) _ (map.get s.forks (record { tty = t; serial = serial })) (λ f there. looked_up Leaves _ _ (word_seen s f address) (λ word seen. w) (λ none. w)) (λ none. w))
+  outer_whole (Forks t) fits = job_effect t _ (λ j is. w)
+  outer_whole Tick fits = record { pages = w.pages; room = w.room; files = w.files; forks = w.forks; own = w.own; old = w.old; terminals = w.terminals; tops = w.tops }
+  outer_whole (Trace on) fits = record { pages = w.pages; room = w.room; files = w.files; forks = w.forks; own = w.own; old = w.old; terminals = w.terminals; tops = w.tops }
+  outer_whole (TypeIn t text) fits = w
+  outer_whole (File name) fits = w
+  outer_whole (Words name page offset row) fits = w
+  outer_whole (Run n) fits = w
+  outer_whole (Evict n) fits = w
+  outer_whole (Drum n) fits = w
+  outer_whole (Auto on) fits = w
+  outer_whole (Page name page) fits = w
+
+  -- an entry within its limits leaves a whole state whole
+  pub step_whole : (x : Step) → FitsStep x → IsWhole (apply s x).state
+  unfolding apply
+  step_whole (Outer e) fits = outer_whole e fits.0
+  step_whole (AUnit name) fits = unit_whole name fits
+  step_whole Idle fits = w
+
+-- and so do entries in order
+pub steps_whole : (s : PlainState) (xs : List Step) → IsWhole s → All FitsStep xs → IsWhole (state_after s xs)
+steps_whole s [] w fits = w
+steps_whole s (x ∷ xs) w fits = steps_whole (apply s x).state xs (step_whole s w x (All-head FitsStep x xs fits)) (All-tail FitsStep x xs fits)

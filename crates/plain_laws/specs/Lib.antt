@@ -1,0 +1,4 @@
+pub mod Whole
+pub mod Laws
+pub mod Example
+pub mod ForkLaws

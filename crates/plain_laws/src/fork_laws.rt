@@ -1,0 +1,51 @@
+// What the definitions of the fork calls say, in the words of those who use them. A law does nothing when it runs.
+ghost use Rattle.std.specs.Prelude.{◌≡◌, ◌⊎◌, ℕ, true, false, Ok, Some};
+ghost use Rattle.std.specs.FinMap as map;
+ghost use Rattle.plain_model.specs.declared.call.TheConstants.{WFORK};
+ghost use Rattle.machine_names.specs.declared.names.ForkName.{ForkName as AForkName};
+ghost use Rattle.plain_model.specs.declared.fork.Fork.{Fork as AFork};
+ghost use Rattle.plain_model.specs.declared.call.ForkChange.{ForkChange as AForkChange};
+ghost use Rattle.plain_pages.specs.PlainPages.{NumberedPages};
+ghost use Rattle.plain_model.specs.State.{PlainState};
+ghost use Rattle.plain_model.specs.Calls.{end_of, fork_behind, returning};
+ghost use Rattle.plain_model.specs.Forks.{IsRunnable};
+ghost use Rattle.plain_model.specs.ForkCalls.{ForkAsked, ForkParts, fork_call, fork_changed, has_ended, inferior_named};
+ghost use Rattle.plain_laws.specs.ForkLaws.{AreLeft, UnitResumes, waiting};
+ghost use Rattle.plain_model.specs.Unit.{unit};
+ghost use Rattle.plain_pages.specs.WholePages.{AreWhole};
+ghost use Rattle.plain_laws.specs.Whole.{IsWhole};
+ghost use Rattle.std.specs.Ordering.{nat_cmp};
+
+use plain_model::call::ForkChange;
+
+/// Who waits for a fork goes on behind the call where that fork has halted or was forced; till then it waits, on
+/// the call, which it makes again when it goes on.
+pub fn waiters_go_on_when_a_fork_has_ended()
+    ensures ended { (p : NumberedPages) (a : ForkAsked) (f : AFork) → inferior_named a ≡ Ok f → has_ended f.body.status ≡ true
+        → end_of p (fork_call WFORK a) ≡ returning ForkChange.Nothing a.regs }
+    ensures waits { (p : NumberedPages) (a : ForkAsked) (f : AFork) → inferior_named a ≡ Ok f → has_ended f.body.status ≡ false
+        → end_of p (fork_call WFORK a) ≡ waiting }
+    ensures stays { (f : AFork) → (fork_behind f waiting).body.regs ≡ f.body.regs }
+{}
+
+/// A fork that is killed, with all below it, takes along the pages that no other map and no file names, and no
+/// other; and as many fewer pages and forks live as are gone.
+pub fn killed_forks_take_their_pages()
+    ensures { (v : ForkParts nat_cmp) (f : AForkName) → AreWhole v.pages → AreLeft v.pages (fork_changed (ForkChange.Kill f) v).pages }
+{}
+
+/// A fork with the freeze mark does not run, and keeps the mark until a unit is a fork call that resumes it.
+pub fn frozen_forks_run_when_resumed()
+    ensures frozen { (s : PlainState) (name : AForkName) (f : AFork) → map.get s.forks name ≡ Some f → f.frozen ≡ true → IsRunnable s name → ⊥ }
+    ensures kept { (s : PlainState) (who name : AForkName) (f g : AFork) → IsWhole s → map.get s.forks name ≡ Some f → f.frozen ≡ true
+        → map.get (unit s who).state.forks name ≡ Some g → (g.frozen ≡ true) ⊎ UnitResumes s who name }
+{}
+
+/// No unit changes a fork of another job, or its map: neither what it does itself, nor a call, nor what is told of a
+/// fork that ends.
+pub fn units_leave_other_jobs()
+    ensures forks { (s : PlainState) (who name : AForkName) → IsWhole s → (name.tty.0 ≡ who.tty.0 → ⊥)
+        → map.get (unit s who).state.forks name ≡ map.get s.forks name }
+    ensures maps { (s : PlainState) (who name : AForkName) → IsWhole s → (name.tty.0 ≡ who.tty.0 → ⊥)
+        → map.get (unit s who).state.pages.maps name ≡ map.get s.pages.maps name }
+{}

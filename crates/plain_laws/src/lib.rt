@@ -1,0 +1,21 @@
+//! Laws of the plain machine: what its definitions say of pages, of forks and of runs, in the words of those who use
+//! them, and two scripts computed. To the layers above they are facts to cite; nothing that runs stands on them.
+//! Stands on `plain_model`, and on the definitions below it.
+#![tactic(auto)]
+
+mod entries;
+mod example;
+mod fork_laws;
+mod laws;
+
+pub use entries::{entries_fit, runs_are_whole};
+pub use example::{empty_script, first_script};
+pub use fork_laws::{
+    frozen_forks_run_when_resumed, killed_forks_take_their_pages, units_leave_other_jobs,
+    waiters_go_on_when_a_fork_has_ended,
+};
+pub use laws::{
+    access_is_that_of_all_entries, chains_are_short, copies_are_made_once,
+    followers_read_the_followed, narrowing_never_widens, pages_go_with_their_last_name,
+    references_change_no_word,
+};

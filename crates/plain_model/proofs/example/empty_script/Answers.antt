@@ -1,5 +1,0 @@
-use Rattle.plain_model.proofs.ExampleTexts.{empty_recorded}
-use Rattle.plain_model.proofs.example.empty_script.Goals as goal
-
-pub returns-clause-record : goal.returns-clause-record
-returns-clause-record c = empty_recorded

@@ -1,5 +1,0 @@
-use Rattle.plain_model.proofs.Fixed.{padded_text}
-use Rattle.plain_model.proofs.text.Text.new.Goals as goal
-
-pub invariant_of-result : goal.invariant_of-result
-invariant_of-result g c = padded_text g.row.N c.args.text.now c.copy_from_slice.new.self c.copy_from_slice.ensures.after c.requires

@@ -1,0 +1,13 @@
+pub mod Counts
+pub mod Whole
+pub mod Chains
+pub mod Makings
+pub mod Settles
+pub mod ReferencesMade
+pub mod Kept
+pub mod Refiled
+pub mod ChainEquations
+pub mod Ends
+pub mod Made
+pub mod Following
+pub mod Reading

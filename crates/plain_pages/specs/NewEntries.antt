@@ -1,0 +1,30 @@
+-- What an entry becomes that is set anew.
+use Rattle.std.specs.Prelude.{◌<◌}
+use Rattle.std.specs.Option.{option_map_or}
+use Rattle.std.specs.FinMap as map
+use Rattle.machine_names.specs.declared.names.TheConstants.{SPACE_PAGES}
+use Rattle.plain_pages.specs.declared.map.MapEntry.{MapEntry}
+use Rattle.plain_pages.specs.declared.map.MapEntry.TheVariants.{Empty, Names, Follows}
+use Rattle.machine_names.specs.declared.names.Slot.{Slot}
+use Rattle.plain_pages.specs.declared.map.NewEntry.{NewEntry}
+use Rattle.plain_pages.specs.declared.map.NewEntry.TheVariants.{Empty as SetEmpty, FilePage as SetFilePage, Follows as SetFollows, Narrow as SetNarrow}
+use Rattle.plain_pages.specs.PlainPages.{NumberedPages}
+use Rattle.plain_pages.specs.Maps.{entry_at, narrow}
+use Rattle.plain_pages.specs.References.{with_entry}
+
+-- what an entry becomes that is set anew
+abbrev pub entry_to : NumberedPages → NewEntry → MapEntry → MapEntry
+entry_to p SetEmpty e = Empty
+entry_to p (SetFilePage f page a) e = option_map_or (λ n. Names n a) (map.get p.files (record { file = f.0; page = page })) e
+entry_to p (SetFollows serial page a) e = Follows serial page a
+entry_to p (SetNarrow a) e = narrow a e
+
+-- the pages with an entry set anew, where there is one
+unfoldable pub changed : NumberedPages → Slot → NewEntry → NumberedPages
+changed p s new = option_map_or (λ e. with_entry p s (entry_to p new e)) (entry_at p.maps s) p
+
+-- what an entry may be set to: it may follow a page of a space; pages of files aren't built
+abbrev pub IsNewEntry : NewEntry → Type 0
+IsNewEntry (SetFilePage f page a) = ⊥
+IsNewEntry (SetFollows serial page a) = page < SPACE_PAGES
+IsNewEntry new = Unit {0}

@@ -1,0 +1,328 @@
+-- What each instruction does with the word that it takes, one definition a family (PDP-10 handbook, "User operations").
+use Rattle.std.specs.Prelude.{ℕ, ◌+◌, ◌-◌, ◌/◌, ◌%◌, ◌^◌, Bool, true, false, ◌-ℤ◌, ◌||◌, ◌&&◌, nat_lt, nat_le, ◌==◌, if◌then◌else◌, Option, None, Some, slice_index}
+use Rattle.std.specs.Int.{bit_at}
+use Rattle.word36.specs.declared.flags.Flags.{Flags}
+use Rattle.word36.specs.Words.{left, right, joined, signed, is_negative}
+use Rattle.word36.specs.Arithmetic.{Outcome, arithmetic, added, not_divided}
+use Rattle.word36.specs.Shifts.{shifted, first_one}
+use Rattle.word36.specs.Boolean.{boolean_of}
+use Rattle.word36.specs.Halves.{half_of}
+use Rattle.word36.specs.Tests.{mask_of, tested, test_skips, condition_holds}
+use Rattle.ka10_table.specs.declared.families.Family.{Family}
+use Rattle.ka10_table.specs.declared.families.Family.TheVariants.{Move, Imul, Mul, Idiv, Div, Shift, Jffo, DoubleShift, Exch, Blt, Aobj, Jrst, Jfcl, Pushj, PushPop, Popj, JsrJsp, JsaJra, AddSub, Compare, JumpSkip, AddOne, SubOne, Boolean, Half, Test}
+use Rattle.ka10_table.specs.declared.families.OpMode.{OpMode}
+use Rattle.ka10_table.specs.declared.families.OpMode.TheVariants.{Basic, Immediate, Memory, Own}
+use Rattle.ka10_table.specs.declared.families.TableRow.{TableRow}
+use Rattle.plain_units.specs.declared.channel.TheConstants.{OVERFLOW, PUSHDOWN_OVERFLOW}
+use Rattle.plain_units.specs.declared.registers.Regs.{Regs}
+
+-- where a word goes: nowhere; back to where the operand was read; to a place that is only written; and the same, but
+-- before the accumulators are written
+pub data Store : Type 0 where
+  nowhere : Store
+  back : ℕ → ℕ → Store
+  into : ℕ → ℕ → Store
+  before : ℕ → ℕ → Store
+
+-- what an instruction leaves: the words of accumulators AC and AC plus 1, if they change, the flags, the program
+-- counter, a word that it stores, and a channel that it posts
+pub record Deed : Type 0 where
+  pub ac : Option ℕ
+  pub next : Option ℕ
+  pub flags : Flags
+  pub pc : ℕ
+  pub store : Store
+  pub post : Option ℕ
+
+-- the address of the next instruction, and of that behind it
+abbrev pub next_pc : Regs → ℕ
+next_pc regs = (regs.pc + 1) % 2 ^ 18
+
+abbrev pub skip_pc : Regs → ℕ
+skip_pc regs = (regs.pc + 2) % 2 ^ 18
+
+-- nothing but the next instruction
+abbrev pub nothing_done : Regs → Deed
+nothing_done regs = record { ac = None; next = None; flags = regs.flags; pc = next_pc regs; store = nowhere; post = None }
+
+-- flags that are set stay, and others are set with them
+abbrev pub set_with : Flags → Flags → Flags
+set_with f g = record {
+  overflow = f.overflow || g.overflow;
+  carry0 = f.carry0 || g.carry0;
+  carry1 = f.carry1 || g.carry1;
+  fov = f.fov || g.fov;
+  bis = f.bis || g.bis;
+  nodiv = f.nodiv || g.nodiv;
+}
+
+-- a flag as a bit of the left half
+abbrev pub flag_bit : Bool → ℕ → ℕ
+flag_bit on n = if on then 2 ^ n else 0
+
+-- the flags in a left half: overflow bit 0, carry 0 bit 1, carry 1 bit 2, floating overflow bit 3, first part done bit
+-- 4, user bit 5, which is always 1, no divide bit 12
+abbrev pub flags_half : Flags → ℕ
+flags_half f = flag_bit f.overflow 17 + flag_bit f.carry0 16 + flag_bit f.carry1 15 + flag_bit f.fov 14 + flag_bit f.bis 13 + 2 ^ 12 + flag_bit f.nodiv 5
+
+-- the flags of a left half
+abbrev pub half_flags : ℕ → Flags
+half_flags h = record {
+  overflow = bit_at h 17 == 1;
+  carry0 = bit_at h 16 == 1;
+  carry1 = bit_at h 15 == 1;
+  fov = bit_at h 14 == 1;
+  bis = bit_at h 13 == 1;
+  nodiv = bit_at h 5 == 1;
+}
+
+-- the PC word: the flags, and the address of the next instruction
+abbrev pub pc_word : Regs → ℕ
+pc_word regs = joined (flags_half regs.flags) (next_pc regs)
+
+-- the first part of a byte instruction isn't done
+abbrev pub without_bis : Flags → Flags
+without_bis f = record f { bis = false }
+
+-- a word for an accumulator that isn't accumulator 0
+abbrev pub unless_zero : ℕ → ℕ → Option ℕ
+unless_zero ac w = if ac == 0 then None else Some w
+
+-- the result of a mode goes to AC, to AC, to E, to both, or to E and to AC where AC isn't 0
+abbrev pub to_ac : OpMode → ℕ → ℕ → Option ℕ
+to_ac Memory ac w = None
+to_ac Own ac w = unless_zero ac w
+to_ac mode ac w = Some w
+
+abbrev pub to_e : OpMode → ℕ → ℕ → Store
+to_e Basic e w = nowhere
+to_e Immediate e w = nowhere
+to_e mode e w = back e w
+
+abbrev pub by_mode : OpMode → Regs → ℕ → ℕ → ℕ → Deed
+by_mode mode regs ac e w = record (nothing_done regs) { ac = to_ac mode ac w; store = to_e mode e w }
+
+-- a second word goes to AC plus 1, but in mode M
+abbrev pub to_next : OpMode → Option ℕ → Option ℕ
+to_next Memory low = None
+to_next mode low = low
+
+-- overflow posts its channel
+abbrev pub overflow_post : Bool → Option ℕ
+overflow_post overflow = if overflow then Some OVERFLOW else None
+
+-- an operation in its mode; a division that isn't done sets flags alone
+abbrev pub operated : OpMode → Regs → ℕ → ℕ → Option Outcome → Deed
+operated mode regs ac e (Some o) = record (by_mode mode regs ac e o.word) { next = to_next mode o.low; flags = set_with regs.flags o.flags; post = overflow_post o.flags.overflow }
+operated mode regs ac e None = record (nothing_done regs) { flags = set_with regs.flags not_divided; post = overflow_post true }
+
+-- 200 to 217: MOVE, MOVS, MOVN, MOVM; in mode M the accumulator is the source, and E is only written
+abbrev pub moves : OpMode → ℕ → Regs → ℕ → ℕ → ℕ → ℕ → ℕ → Deed
+moves Memory op regs ac a a1 e m = into_e (arithmetic op a a1 a)
+  where
+    into_e : Option Outcome → Deed
+    into_e (Some o) = record (nothing_done regs) { flags = set_with regs.flags o.flags; store = into e o.word; post = overflow_post o.flags.overflow }
+    into_e None = nothing_done regs
+moves mode op regs ac a a1 e m = operated mode regs ac e (arithmetic op a a1 m)
+
+-- 240 to 242, 244 to 246: ASH, ROT, LSH and ASHC, ROTC, LSHC
+abbrev pub shifts : ℕ → Regs → ℕ → ℕ → ℕ → ℕ → Deed
+shifts op regs ac a a1 e = operated Basic regs ac e (Some (shifted op a a1 e))
+
+-- 243: JFFO jumps where there is a one, and counts the zeros before it
+abbrev pub finds_first_one : Regs → ℕ → ℕ → Deed
+finds_first_one regs a e = record (nothing_done regs) { next = Some (first_one a); pc = if a == 0 then next_pc regs else e }
+
+-- 250: EXCH
+abbrev pub exchanges : Regs → ℕ → ℕ → ℕ → Deed
+exchanges regs a e m = record (nothing_done regs) { ac = Some m; store = back e a }
+
+-- both halves of a word one higher, each by itself
+abbrev pub halves_up : ℕ → ℕ
+halves_up w = joined ((left w + 1) % 2 ^ 18) ((right w + 1) % 2 ^ 18)
+
+-- 251: BLT moves one word from the left half's address to the right half's, and then counts AC up as it stands; it
+-- goes on with itself until the address just stored is E or greater
+abbrev pub moves_block : Regs → ℕ → ℕ → ℕ → ℕ → Deed
+moves_block regs ac a e m = record (nothing_done regs) {
+  ac = Some (halves_up (if right a == ac then m else a));
+  pc = if nat_le e (right a) then next_pc regs else regs.pc;
+  store = before (right a) m;
+}
+
+-- one in each half, added as one number
+abbrev pub both_ones : ℕ
+both_ones = 2 ^ 18 + 1
+
+abbrev pub up : ℕ → ℕ
+up w = (w + both_ones) % 2 ^ 36
+
+abbrev pub down : ℕ → ℕ
+down w = (w + 2 ^ 36 - both_ones) % 2 ^ 36
+
+-- 252, 253: AOBJP, AOBJN jump where the result isn't negative, is negative
+abbrev pub adds_to_both : ℕ → Regs → ℕ → ℕ → Deed
+adds_to_both code regs a e = record (nothing_done regs) { ac = Some (up a); pc = if is_negative (up a) then (if code == 0 then next_pc regs else e) else (if code == 0 then e else next_pc regs) }
+
+-- 254: JRST jumps; with bit 2 of AC the flags become those of the last word taken for the address
+abbrev pub jumps : Regs → ℕ → ℕ → ℕ → Deed
+jumps regs ac e last = record (nothing_done regs) { flags = if ac / 2 % 2 == 1 then half_flags (left last) else regs.flags; pc = e }
+
+-- 255: JFCL jumps where a flag that AC names is set, and clears those named: overflow 10, carry 0 4, carry 1 2, floating overflow 1 (octal)
+abbrev pub jumps_on_flags : Regs → ℕ → ℕ → Deed
+jumps_on_flags regs ac e =
+    let f = regs.flags in
+    let o = bit_at ac 3 == 1 in
+    let c0 = bit_at ac 2 == 1 in
+    let c1 = bit_at ac 1 == 1 in
+    let fov = bit_at ac 0 == 1 in
+    record (nothing_done regs) {
+      flags = record f { overflow = if o then false else f.overflow; carry0 = if c0 then false else f.carry0; carry1 = if c1 then false else f.carry1; fov = if fov then false else f.fov };
+      pc = if (o && f.overflow) || (c0 && f.carry0) || (c1 && f.carry1) || (fov && f.fov) then e else next_pc regs;
+    }
+
+-- a left half that comes to this posts that a pushdown list ran over, or under
+abbrev pub pushdown_post : ℕ → ℕ → Option ℕ
+pushdown_post limit w = if left w == limit then Some PUSHDOWN_OVERFLOW else None
+
+-- 260: PUSHJ
+abbrev pub calls_by_push : Regs → ℕ → ℕ → Deed
+calls_by_push regs a e = record (nothing_done regs) { ac = Some (up a); flags = without_bis regs.flags; pc = e; store = into (right (up a)) (pc_word regs); post = pushdown_post 0 (up a) }
+
+-- 261, 262: PUSH, POP
+abbrev pub pushes_or_pops : ℕ → Regs → ℕ → ℕ → ℕ → Deed
+pushes_or_pops code regs a e m =
+    if code == 0 then record (nothing_done regs) { ac = Some (up a); store = into (right (up a)) m; post = pushdown_post 0 (up a) }
+    else record (nothing_done regs) { ac = Some (down a); store = into e m; post = pushdown_post (2 ^ 18 - 1) (down a) }
+
+-- 263: POPJ
+abbrev pub returns_by_pop : Regs → ℕ → ℕ → Deed
+returns_by_pop regs a m = record (nothing_done regs) { ac = Some (down a); pc = right m; post = pushdown_post (2 ^ 18 - 1) (down a) }
+
+-- 264, 265: JSR, JSP
+abbrev pub calls_by_word : ℕ → Regs → ℕ → Deed
+calls_by_word code regs e =
+    if code == 0 then record (nothing_done regs) { flags = without_bis regs.flags; pc = (e + 1) % 2 ^ 18; store = into e (pc_word regs) }
+    else record (nothing_done regs) { ac = Some (pc_word regs); flags = without_bis regs.flags; pc = e }
+
+-- 266, 267: JSA, JRA
+abbrev pub calls_by_accumulator : ℕ → Regs → ℕ → ℕ → ℕ → Deed
+calls_by_accumulator code regs a e m =
+    if code == 0 then record (nothing_done regs) { ac = Some (joined e (next_pc regs)); pc = (e + 1) % 2 ^ 18; store = into e a }
+    else record (nothing_done regs) { ac = Some m; pc = e }
+
+-- 300 to 317: CAI, CAM compare the accumulator with the operand
+abbrev pub compares : ℕ → Regs → ℕ → ℕ → Deed
+compares code regs a m = record (nothing_done regs) { pc = if condition_holds (code % 8) (signed a -ℤ signed m) then skip_pc regs else next_pc regs }
+
+-- 320 to 377: JUMP, AOJ, SOJ jump by the accumulator, SKIP, AOS, SOS skip by the word at E, with a number added to it first
+abbrev pub steps_by : Outcome → ℕ → Regs → ℕ → ℕ → Deed
+steps_by o code regs ac e = record (if nat_lt code 8 then jumped else skipped) { flags = set_with regs.flags o.flags; post = overflow_post o.flags.overflow }
+  where
+    jumped : Deed
+    jumped = record (nothing_done regs) { ac = Some o.word; pc = if condition_holds code (signed o.word) then e else next_pc regs }
+
+    skipped : Deed
+    skipped = record (nothing_done regs) { ac = unless_zero ac o.word; pc = if condition_holds (code - 8) (signed o.word) then skip_pc regs else next_pc regs; store = back e o.word }
+
+-- 320 to 337: JUMP, SKIP
+abbrev pub jumps_or_skips : ℕ → Regs → ℕ → ℕ → ℕ → ℕ → Deed
+jumps_or_skips code regs ac a e m =
+    if nat_lt code 8 then record (nothing_done regs) { pc = if condition_holds code (signed a) then e else next_pc regs }
+    else record (nothing_done regs) { ac = unless_zero ac m; pc = if condition_holds (code - 8) (signed m) then skip_pc regs else next_pc regs }
+
+-- 500 to 577: halfwords; in mode M the accumulator's half goes to the word at E, in mode S the word's half into itself
+abbrev pub moves_half : OpMode → ℕ → Regs → ℕ → ℕ → ℕ → ℕ → Deed
+moves_half Memory op regs ac a e m = by_mode Memory regs ac e (half_of op a m)
+moves_half Own op regs ac a e m = by_mode Own regs ac e (half_of op m m)
+moves_half mode op regs ac a e m = by_mode mode regs ac e (half_of op m a)
+
+-- 600 to 677: tests; the skip looks at the old word
+abbrev pub tests : ℕ → Regs → ℕ → ℕ → Deed
+tests op regs a m = let mask = mask_of op m in
+    record (nothing_done regs) { ac = Some (tested op a mask); pc = if test_skips op a mask then skip_pc regs else next_pc regs }
+
+-- in mode I the operand is 0,,E, and no word is taken
+abbrev pub operand_of : OpMode → ℕ → Option ℕ
+operand_of Immediate e = None
+operand_of mode e = Some e
+
+-- in modes I and M a move takes no word
+abbrev pub moved_from : OpMode → ℕ → Option ℕ
+moved_from Memory e = None
+moved_from mode e = operand_of mode e
+
+-- the first eight of sixteen look at the accumulator, the others at the word at E
+abbrev pub of_second_eight : ℕ → ℕ → Option ℕ
+of_second_eight code e = if nat_lt code 8 then None else Some e
+
+-- which word an instruction takes, with this word in its accumulator; none where its operand is 0,,E
+abbrev pub taken_by : Family → OpMode → ℕ → ℕ → ℕ → Option ℕ
+taken_by Move mode code a e = moved_from mode e
+taken_by Imul mode code a e = operand_of mode e
+taken_by Mul mode code a e = operand_of mode e
+taken_by Idiv mode code a e = operand_of mode e
+taken_by Div mode code a e = operand_of mode e
+taken_by Exch mode code a e = Some e
+taken_by Blt mode code a e = Some (left a)
+taken_by PushPop mode code a e = if code == 0 then Some e else Some (right a)
+taken_by Popj mode code a e = Some (right a)
+taken_by JsaJra mode code a e = if code == 0 then None else Some (left a)
+taken_by AddSub mode code a e = operand_of mode e
+taken_by Compare mode code a e = of_second_eight code e
+taken_by JumpSkip mode code a e = of_second_eight code e
+taken_by AddOne mode code a e = of_second_eight code e
+taken_by SubOne mode code a e = of_second_eight code e
+taken_by Boolean mode code a e = operand_of mode e
+taken_by Half mode code a e = operand_of mode e
+taken_by Test mode code a e = of_second_eight (code % 16) e
+taken_by family mode code a e = None
+
+-- the word that is counted up or down: the accumulator's for a jump, the operand's for a skip
+abbrev pub counted_word : ℕ → ℕ → ℕ → ℕ
+counted_word code a m = if nat_lt code 8 then a else m
+
+-- what an instruction does with accumulator AC, with its address, the last word taken for that, and its operand
+abbrev pub done_by : Family → OpMode → ℕ → ℕ → Regs → ℕ → ℕ → ℕ → ℕ → ℕ → ℕ → Deed
+done_by Move mode code op regs ac a a1 e last m = moves mode op regs ac a a1 e m
+done_by Imul mode code op regs ac a a1 e last m = operated mode regs ac e (arithmetic op a a1 m)
+done_by Mul mode code op regs ac a a1 e last m = operated mode regs ac e (arithmetic op a a1 m)
+done_by Idiv mode code op regs ac a a1 e last m = operated mode regs ac e (arithmetic op a a1 m)
+done_by Div mode code op regs ac a a1 e last m = operated mode regs ac e (arithmetic op a a1 m)
+done_by Shift mode code op regs ac a a1 e last m = shifts op regs ac a a1 e
+done_by Jffo mode code op regs ac a a1 e last m = finds_first_one regs a e
+done_by DoubleShift mode code op regs ac a a1 e last m = shifts op regs ac a a1 e
+done_by Exch mode code op regs ac a a1 e last m = exchanges regs a e m
+done_by Blt mode code op regs ac a a1 e last m = moves_block regs ac a e m
+done_by Aobj mode code op regs ac a a1 e last m = adds_to_both code regs a e
+done_by Jrst mode code op regs ac a a1 e last m = jumps regs ac e last
+done_by Jfcl mode code op regs ac a a1 e last m = jumps_on_flags regs ac e
+done_by Pushj mode code op regs ac a a1 e last m = calls_by_push regs a e
+done_by PushPop mode code op regs ac a a1 e last m = pushes_or_pops code regs a e m
+done_by Popj mode code op regs ac a a1 e last m = returns_by_pop regs a m
+done_by JsrJsp mode code op regs ac a a1 e last m = calls_by_word code regs e
+done_by JsaJra mode code op regs ac a a1 e last m = calls_by_accumulator code regs a e m
+done_by AddSub mode code op regs ac a a1 e last m = operated mode regs ac e (arithmetic op a a1 m)
+done_by Compare mode code op regs ac a a1 e last m = compares code regs a m
+done_by JumpSkip mode code op regs ac a a1 e last m = jumps_or_skips code regs ac a e m
+done_by AddOne mode code op regs ac a a1 e last m = steps_by (added (counted_word code a m) 1) code regs ac e
+done_by SubOne mode code op regs ac a a1 e last m = steps_by (added (counted_word code a m) (2 ^ 36 - 1)) code regs ac e
+done_by Boolean mode code op regs ac a a1 e last m = by_mode mode regs ac e (boolean_of op a m)
+done_by Half mode code op regs ac a a1 e last m = moves_half mode op regs ac a e m
+done_by Test mode code op regs ac a a1 e last m = tests op regs a m
+done_by family mode code op regs ac a a1 e last m = nothing_done regs
+
+-- the word of an accumulator, and that of the one behind it
+abbrev pub in_ac : Regs → ℕ → ℕ
+in_ac regs ac = slice_index regs.ac ac
+
+abbrev pub behind_ac : ℕ → ℕ
+behind_ac ac = (ac + 1) % 16
+
+-- the address of the word that the instruction of a row takes, if it takes one
+unfoldable pub taken_of : TableRow → Regs → ℕ → ℕ → Option ℕ
+taken_of row regs ac e = taken_by row.family row.mode row.code (in_ac regs ac) e
+
+-- what the instruction of an opcode, with its row, does
+unfoldable pub deed_of : TableRow → ℕ → Regs → ℕ → ℕ → ℕ → ℕ → Deed
+deed_of row op regs ac e last m = done_by row.family row.mode row.code op regs ac (in_ac regs ac) (in_ac regs (behind_ac ac)) e last m

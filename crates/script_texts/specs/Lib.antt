@@ -1,0 +1,6 @@
+pub mod Follows
+pub mod Texts
+pub mod Limits
+pub mod Entries
+pub mod Script
+pub mod Taker

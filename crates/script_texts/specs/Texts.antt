@@ -1,0 +1,214 @@
+-- The texts of a run: the canonical lines of events, the transcript of items, the record of entries.
+use Rattle.std.specs.Prelude.{ℕ, ◌+◌, List, [], ◌∷◌, ◌++◌, codes, decimal, take, Bool, true, false, ◌||◌, ◌&&◌, nat_lt, Option, None, Some, if◌then◌else◌, ◌==◌}
+use Rattle.std.specs.List.{flat_map}
+use Rattle.word36.specs.Octal.{octal_padded}
+use Rattle.machine_names.specs.declared.names.ForkName.{ForkName}
+use Rattle.script_texts.specs.declared.status.WaitOn.{WaitOn}
+use Rattle.script_texts.specs.declared.status.WaitOn.TheVariants.{Input, Fork, Sleep}
+use Rattle.script_texts.specs.declared.status.ForkStatus.{ForkStatus}
+use Rattle.script_texts.specs.declared.status.ForkStatus.TheVariants.{Run as Running, Wait, Halted, Forced}
+use Rattle.script_texts.specs.declared.event.Event.{Event}
+use Rattle.script_texts.specs.declared.event.Event.TheVariants.{Login, TypeIn, File, Words, Poke, Start, Run, Tick, Evict, Drum, Auto, Examine, Forks, Page, Trace}
+use Rattle.script_texts.specs.declared.event.Item.{Item}
+use Rattle.script_texts.specs.declared.event.Item.TheVariants.{Char, ForkLine, Examined, PageLine, PageWord, UnitLine, Refusal}
+use Rattle.script_texts.specs.declared.event.ForkLine.{ForkLine as ForkShown}
+use Rattle.script_texts.specs.declared.event.Refusal.{Refusal as Cause}
+use Rattle.script_texts.specs.declared.event.Refusal.TheVariants.{Busy, NoJob, SerialsOut, Full, Denied, NoFork, NoPage, Exists, FilesFull, NoFile, FileFull, NoFilePage}
+use Rattle.script_texts.specs.declared.event.Step.{Step}
+use Rattle.script_texts.specs.declared.event.Step.TheVariants.{Outer, Unit as AUnit, Idle}
+
+-- a text of digits without the zeros in front of its number
+abbrev pub trimmed : List ℕ → List ℕ
+trimmed [] = []
+trimmed (c ∷ []) = c ∷ []
+trimmed (c ∷ d ∷ ds) = if c == 48 then trimmed (d ∷ ds) else c ∷ d ∷ ds
+
+-- an octal number below 2^36 without zeros in front
+abbrev pub octal : ℕ → List ℕ
+octal n = trimmed (octal_padded 12 n)
+
+-- a field behind a space
+abbrev pub field : List ℕ → List ℕ
+field text = 32 ∷ text
+
+-- how a switch is spelled
+abbrev pub on_or_off : Bool → List ℕ
+on_or_off true = codes "ON"
+on_or_off false = codes "OFF"
+
+-- a typed character: itself, or a backslash and three octal digits
+abbrev pub escaped : ℕ → List ℕ
+escaped c = if nat_lt c 32 || nat_lt 126 c || (c == 92) then 92 ∷ octal_padded 3 c else c ∷ []
+
+-- the canonical line of an event, without its line feed
+abbrev pub line_of : Event → List ℕ
+line_of (Login t user) = codes "LOGIN " ++ (decimal t.0 ++ field user)
+line_of (TypeIn t text) = codes "TYPE " ++ (decimal t.0 ++ field (flat_map escaped text))
+line_of (File name) = codes "FILE " ++ name
+line_of (Words name page offset row) =
+    codes "WORDS " ++ (name ++ (field (octal page) ++ (field (octal offset) ++ flat_map (λ w. field (octal w)) (take row.count row.words))))
+line_of (Poke t address word) = codes "POKE " ++ (decimal t.0 ++ (field (octal address) ++ field (octal word)))
+line_of (Start t address) = codes "START " ++ (decimal t.0 ++ field (octal address))
+line_of (Run n) = codes "RUN " ++ decimal n
+line_of Tick = codes "TICK"
+line_of (Evict n) = codes "EVICT " ++ decimal n
+line_of (Drum n) = codes "DRUM " ++ decimal n
+line_of (Auto on) = codes "AUTO " ++ on_or_off on
+line_of (Examine t serial address) = codes "EXAMINE " ++ (decimal t.0 ++ (field (decimal serial) ++ field (octal address)))
+line_of (Forks t) = codes "FORKS " ++ decimal t.0
+line_of (Page name page) = codes "PAGE " ++ (name ++ field (octal page))
+line_of (Trace on) = codes "TRACE " ++ on_or_off on
+
+-- a line with its line feed
+abbrev pub ended : List ℕ → List ℕ
+ended line = line ++ 10 ∷ []
+
+-- the terminal whose line of characters is open
+abbrev pub Open : Type 0
+Open = Option ℕ
+
+-- the end of the open line
+abbrev pub line_end : Open → List ℕ
+line_end None = []
+line_end (Some t) = 10 ∷ []
+
+-- what stands before a character of a terminal, behind what is open
+abbrev pub line_start : Open → ℕ → List ℕ
+line_start None t = 84 ∷ (decimal t ++ 32 ∷ [])
+line_start (Some s) t = if s == t then [] else 10 ∷ 84 ∷ (decimal t ++ 32 ∷ [])
+
+-- a line ends after a line feed
+abbrev pub char_end : ℕ → List ℕ
+char_end c = if c == 10 then 10 ∷ [] else []
+
+-- the terminal whose line is open behind a character
+abbrev pub char_open : ℕ → ℕ → Open
+char_open t c = if c == 10 then None else Some t
+
+-- what a fork waits for
+abbrev pub wait_text : WaitOn → List ℕ
+wait_text Input = codes "INPUT"
+wait_text Fork = codes "FORK"
+wait_text (Sleep moment) = codes "SLEEP"
+
+-- how a fork stands
+abbrev pub status_text : ForkStatus → List ℕ
+status_text Running = codes "RUN"
+status_text (Wait on) = wait_text on
+status_text Halted = codes "HALT"
+status_text (Forced channel) = codes "FORCED " ++ decimal channel
+
+-- behind the status of a fork that has the freeze mark itself
+abbrev pub frozen_text : Bool → List ℕ
+frozen_text true = codes " FROZEN"
+frozen_text false = []
+
+-- a fork's terminal and serial
+abbrev pub name_text : ForkName → List ℕ
+name_text f = decimal f.tty.0 ++ field (decimal f.serial)
+
+-- the line of a fork: name, superior's serial or 0, status, and program counter
+abbrev pub fork_text : ForkShown → List ℕ
+fork_text l = codes "F " ++ (name_text l.name ++ (field (decimal l.superior) ++ (field (status_text l.status) ++ (frozen_text l.frozen ++ (codes " PC " ++ octal_padded 6 l.address)))))
+
+-- the line of a refusal
+abbrev pub cause_text : Cause → List ℕ
+cause_text (Busy t) = codes "?BUSY " ++ decimal t.0
+cause_text (NoJob t) = codes "?NO JOB " ++ decimal t.0
+cause_text (SerialsOut t) = codes "?SERIALS OUT " ++ decimal t.0
+cause_text (Full t) = codes "?FULL " ++ decimal t.0
+cause_text (Denied t) = codes "?DENIED " ++ decimal t.0
+cause_text (NoFork t) = codes "?NO FORK " ++ decimal t.0
+cause_text (NoPage t) = codes "?NO PAGE " ++ decimal t.0
+cause_text (Exists name) = codes "?EXISTS " ++ name
+cause_text (FilesFull name) = codes "?FILES FULL " ++ name
+cause_text (NoFile name) = codes "?NO FILE " ++ name
+cause_text (FileFull name) = codes "?FULL " ++ name
+cause_text (NoFilePage name) = codes "?NO PAGE " ++ name
+
+-- the line of an item that is no character, without its line feed
+abbrev pub shown_line : Item → List ℕ
+shown_line (Char t c) = []
+shown_line (ForkLine l) = fork_text l
+shown_line (Examined t serial address word) = codes "X " ++ (decimal t.0 ++ (field (decimal serial) ++ (field (octal_padded 6 address) ++ field (octal_padded 12 word))))
+shown_line (PageLine name page) = codes "P " ++ (name ++ field (octal page))
+shown_line (PageWord offset word) = codes "W " ++ (octal_padded 3 offset ++ field (octal_padded 12 word))
+shown_line (UnitLine f address) = codes "U " ++ (name_text f ++ field (octal_padded 6 address))
+shown_line (Refusal cause) = cause_text cause
+
+-- a line of its own, behind the end of the one that is open
+abbrev pub own_line : Open → Item → List ℕ
+own_line is_open i = line_end is_open ++ ended (shown_line i)
+
+-- one item's bytes behind what is open
+abbrev pub item_text : Open → Item → List ℕ
+item_text is_open (Char t c) = line_start is_open t.0 ++ (escaped c ++ char_end c)
+item_text is_open i = own_line is_open i
+
+-- the terminal whose line is open behind an item
+abbrev pub item_open : Item → Open
+item_open (Char t c) = char_open t.0 c
+item_open i = None
+
+-- the text of the items that come while a line may be open, with the last line closed
+abbrev pub text_after : Open → List Item → List ℕ
+text_after is_open [] = line_end is_open
+text_after is_open (i ∷ is) = item_text is_open i ++ text_after (item_open i) is
+
+-- the transcript of a run's items
+abbrev pub transcript : List Item → List ℕ
+transcript is = text_after None is
+
+-- equal turns: units of one fork, or idle entries
+abbrev pub same_turn : Step → Step → Bool
+same_turn (AUnit f) (AUnit g) = (f.tty.0 == g.tty.0) && (f.serial == g.serial)
+same_turn Idle Idle = true
+same_turn x y = false
+
+-- the run of equal turns that is open, and how many they are
+abbrev pub OpenRun : Type 0
+OpenRun = Option (Step × ℕ)
+
+-- the line of so many equal turns; an event is no turn
+abbrev pub run_line : Step → ℕ → List ℕ
+run_line (AUnit f) n = ended (codes "U " ++ (name_text f ++ field (decimal n)))
+run_line Idle n = ended (codes "I " ++ decimal n)
+run_line (Outer e) n = []
+
+-- the line of the run that is open
+abbrev pub run_end : OpenRun → List ℕ
+run_end None = []
+run_end (Some r) = run_line r.0 r.1
+
+-- one turn's bytes behind an open run
+abbrev pub turn_text : OpenRun → Step → List ℕ
+turn_text None s = []
+turn_text (Some r) s = if same_turn r.0 s then [] else run_line r.0 r.1
+
+-- the run that is open behind a turn
+abbrev pub turn_run : OpenRun → Step → OpenRun
+turn_run None s = Some (s, 1)
+turn_run (Some r) s = if same_turn r.0 s then Some (s, r.1 + 1) else Some (s, 1)
+
+-- one entry's bytes behind an open run
+abbrev pub step_text : OpenRun → Step → List ℕ
+step_text run (Outer e) = run_end run ++ ended (line_of e)
+step_text run s = turn_text run s
+
+-- the run that is open behind an entry
+abbrev pub step_run : OpenRun → Step → OpenRun
+step_run run (Outer e) = None
+step_run run s = turn_run run s
+
+-- the record of the steps that come while a run may be open, with the last run closed
+abbrev pub record_after : OpenRun → List Step → List ℕ
+record_after run [] = run_end run
+record_after run (s ∷ ss) = step_text run s ++ record_after (step_run run s) ss
+
+-- the last line of a record: how often the drum was read and written
+abbrev pub counts_line : ℕ → ℕ → List ℕ
+counts_line reads writes = ended (codes "E " ++ (decimal reads ++ field (decimal writes)))
+
+-- the record of a run's entries
+abbrev pub record_text : List Step → ℕ → ℕ → List ℕ
+record_text ss reads writes = record_after None ss ++ counts_line reads writes
