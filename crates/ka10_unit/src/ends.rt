@@ -21,7 +21,7 @@ use plain_model::{ACCUMULATORS, ForkName, Kind, Pages, Put, Regs};
 use word36::Word;
 
 /// How a unit ends that goes through: its registers, the word that it stores last, and its post.
-#[derive(Clone, Copy, Debug, PartialEq, Eq)]
+#[derive(Clone, Copy)]
 pub struct Ending {
     pub regs: Regs,
     pub put: Option<Put>,

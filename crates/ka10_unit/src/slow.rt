@@ -11,7 +11,7 @@ use crate::taken::Taken;
 use plain_model::{ForkName, Need, Pages, Regs};
 
 /// How a unit came out.
-#[derive(Clone, Copy, Debug, PartialEq, Eq)]
+#[derive(Clone, Copy)]
 pub enum Outcome {
     /// It went through, and posts this.
     Done(Post),

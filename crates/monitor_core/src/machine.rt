@@ -6,13 +6,13 @@ use crate::system::System;
 use plain_model::{Pages, Tty};
 
 /// Sizes of a machine: how many forks the balance set has at most, 1 to 63.
-#[derive(Clone, Copy, Debug, PartialEq, Eq)]
+#[derive(Clone, Copy, PartialEq, Eq)]
 pub struct Config {
     pub set: u32,
 }
 
 /// How an event ended.
-#[derive(Clone, Copy, Debug, PartialEq, Eq)]
+#[derive(Clone, Copy, PartialEq, Eq)]
 pub enum Ended {
     Went,
     DrumFault,

@@ -6,7 +6,7 @@ use crate::shown::Shown;
 use plain_model::{Item, Tty};
 
 /// What a step shows. Its items are made as they are given, one by one, so that it is small however many they are.
-#[derive(Clone, Copy, Debug, PartialEq, Eq)]
+#[derive(Clone, Copy)]
 pub enum Reply {
     Nothing,
     One(Item),

@@ -20,7 +20,7 @@ use plain_model::{Access, ForkName, Home, MapEntry, PageName, Pages, Seen, Slot}
 pub const MOST_LINKS: usize = 4;
 
 /// What a chain meets at a slot.
-#[derive(Clone, Copy, Debug, PartialEq, Eq)]
+#[derive(Clone, Copy, PartialEq, Eq)]
 pub enum Step {
     /// No such fork lives.
     Missing,
@@ -33,7 +33,7 @@ pub enum Step {
 }
 
 /// What a walk comes to.
-#[derive(Clone, Copy, Debug, PartialEq, Eq)]
+#[derive(Clone, Copy, PartialEq, Eq)]
 pub enum Way {
     /// This home, of a map on the way, is in no frame.
     Absent(Home),

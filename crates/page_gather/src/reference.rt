@@ -2,7 +2,7 @@
 use plain_model::{ForkName, Kind, Need, Slot, Tty};
 
 /// A reference to a page of a fork's space.
-#[derive(Clone, Copy, Debug, PartialEq, Eq)]
+#[derive(Clone, Copy, PartialEq, Eq)]
 pub struct PageReference {
     pub slot: Slot,
     pub kind: Kind,
@@ -28,7 +28,7 @@ pub const NO_SLOT: Slot = Slot {
 };
 
 /// What it comes to that a reference is added.
-#[derive(Clone, Copy, Debug, PartialEq, Eq)]
+#[derive(Clone, Copy)]
 pub enum Added {
     Went,
     /// A map or the page is in no frame; or the pages to be made so far find no frame.

@@ -3,7 +3,7 @@ use crate::{FileNo, ForkName};
 use word36::{Flags, Word};
 
 /// What a waiting fork waits for.
-#[derive(Clone, Copy, Debug, PartialEq, Eq)]
+#[derive(Clone, Copy, PartialEq, Eq)]
 pub enum WaitOn {
     /// A character of its terminal.
     Input,
@@ -14,7 +14,7 @@ pub enum WaitOn {
 }
 
 /// How a fork stands (JSYS Manual, RFSTS).
-#[derive(Clone, Copy, Debug, PartialEq, Eq)]
+#[derive(Clone, Copy, PartialEq, Eq)]
 pub enum ForkStatus {
     Run,
     Wait(WaitOn),
@@ -24,7 +24,7 @@ pub enum ForkStatus {
 }
 
 /// The registers of a fork: 16 accumulators, the program counter below 2^18, and the flags.
-#[derive(Clone, Copy, Debug, PartialEq, Eq)]
+#[derive(Clone, Copy)]
 pub struct Regs {
     pub ac: [Word; 16],
     pub pc: u32,
@@ -35,7 +35,7 @@ pub struct Regs {
 /// where the level table and the channel table are; which of the channels 0 to 35 are active and
 /// which are pending, channel c being the bit of value 2^c; and the levels in progress, level n
 /// being the bit of value 2^n.
-#[derive(Clone, Copy, Debug, PartialEq, Eq)]
+#[derive(Clone, Copy)]
 pub struct Psi {
     pub on: bool,
     pub table: Option<(u32, u32)>,
@@ -57,7 +57,7 @@ impl Psi {
 
 /// What a fork is but its place in the tree: its status and registers, its interrupts, the moment
 /// to which it sleeps, how many units it has run, and the code of its last error.
-#[derive(Clone, Copy, Debug, PartialEq, Eq)]
+#[derive(Clone, Copy)]
 pub struct Body {
     pub status: ForkStatus,
     pub regs: Regs,
@@ -69,7 +69,7 @@ pub struct Body {
 
 /// A fork (CACM paper, "Forks"): its name, its slot in the job from 1 to 30, the slot of its
 /// superior, which the top fork has not, its freeze mark, and its body.
-#[derive(Clone, Copy, Debug, PartialEq, Eq)]
+#[derive(Clone, Copy)]
 pub struct Fork {
     pub name: ForkName,
     pub slot: u8,
@@ -79,7 +79,7 @@ pub struct Fork {
 }
 
 /// Who reads what is typed at a terminal.
-#[derive(Clone, Copy, Debug, PartialEq, Eq)]
+#[derive(Clone, Copy, PartialEq, Eq)]
 pub enum TerminalMode {
     /// The monitor's command line.
     Command,
@@ -88,7 +88,7 @@ pub enum TerminalMode {
 }
 
 /// How a file is open.
-#[derive(Clone, Copy, Debug, PartialEq, Eq)]
+#[derive(Clone, Copy)]
 pub struct Mode {
     pub r: bool,
     pub w: bool,
@@ -96,7 +96,7 @@ pub struct Mode {
 
 /// What a JFN stands for (JSYS Manual, "File handling"): a file, how it is open, and the position
 /// in it, in bytes of the given size, 1 to 36 bits.
-#[derive(Clone, Copy, Debug, PartialEq, Eq)]
+#[derive(Clone, Copy)]
 pub struct Jfn {
     pub file: FileNo,
     pub mode: Option<Mode>,
@@ -105,7 +105,7 @@ pub struct Jfn {
 }
 
 /// Up to two characters that a monitor call prints. Those past the count are 0.
-#[derive(Clone, Copy, Debug, PartialEq, Eq)]
+#[derive(Clone, Copy, PartialEq, Eq)]
 pub struct Chars {
     pub count: u8,
     pub codes: [u8; 2],
@@ -113,7 +113,7 @@ pub struct Chars {
 
 /// What one turn of a monitor call answers. All but `After`, `Wait` and `Halt` leave everything
 /// as it was.
-#[derive(Clone, Copy, Debug, PartialEq, Eq)]
+#[derive(Clone, Copy)]
 pub enum Answer {
     /// The call is done: its registers, what it prints, and a channel that it posts to a fork.
     After {

@@ -45,6 +45,3 @@ pub use store::{Completed, MOST_HELD, MOST_HOLDERS, Room, Store};
 pub use taker::Taker;
 pub use text::{DirName, FileName, Text, TypedText};
 pub use unit::{MOST_REFERENCES, Put, Reference};
-
-#[cfg(test)]
-mod tests;

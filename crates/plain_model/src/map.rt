@@ -4,7 +4,7 @@ use word36::Word;
 
 /// An entry of a fork's map (CACM paper, "The memory management"): nothing; a page; or an entry of
 /// a fork of the same job, named by its serial, that it follows.
-#[derive(Clone, Copy, Debug, PartialEq, Eq)]
+#[derive(Clone, Copy)]
 pub enum MapEntry {
     Empty,
     Names(PageName, Access),
@@ -12,7 +12,7 @@ pub enum MapEntry {
 }
 
 /// What an entry is set to. Narrow keeps of the access what is given too, and adds the copy mark.
-#[derive(Clone, Copy, Debug, PartialEq, Eq)]
+#[derive(Clone, Copy)]
 pub enum NewEntry {
     Empty,
     FilePage(FileNo, u16, Access),
@@ -21,14 +21,14 @@ pub enum NewEntry {
 }
 
 /// The map of a new fork: empty, or each entry following the same entry of a fork.
-#[derive(Clone, Copy, Debug, PartialEq, Eq)]
+#[derive(Clone, Copy)]
 pub enum NewMap {
     Empty,
     FollowAll(ForkName),
 }
 
 /// What a reference to a page finds.
-#[derive(Clone, Copy, Debug, PartialEq, Eq)]
+#[derive(Clone, Copy)]
 pub enum Touch {
     /// The page is there.
     Ready,
@@ -47,7 +47,7 @@ pub enum Touch {
 }
 
 /// What a look at a word finds, whatever the access.
-#[derive(Clone, Copy, Debug, PartialEq, Eq)]
+#[derive(Clone, Copy)]
 pub enum Peeked {
     Is(Word),
     /// This home is in no frame.
@@ -57,7 +57,7 @@ pub enum Peeked {
 }
 
 /// What a look at an entry finds.
-#[derive(Clone, Copy, Debug, PartialEq, Eq)]
+#[derive(Clone, Copy)]
 pub enum Seen {
     Is(MapEntry),
     /// This home, of the map, is in no frame.
@@ -67,16 +67,16 @@ pub enum Seen {
 }
 
 /// What a fork in page wait waits for: a page, or any frame.
-#[derive(Clone, Copy, Debug, PartialEq, Eq)]
+#[derive(Clone, Copy)]
 pub enum Need {
     Page(Home),
     Frame,
 }
 
 /// The handle of a living fork's space, looked up once for many references.
-#[derive(Clone, Copy, Debug, PartialEq, Eq)]
+#[derive(Clone, Copy, PartialEq, Eq)]
 pub struct SpaceHandle(pub u32);
 
 /// Where the words of a page are that a look has found. It stays so until an entry changes.
-#[derive(Clone, Copy, Debug, PartialEq, Eq)]
+#[derive(Clone, Copy, PartialEq, Eq)]
 pub struct Found(pub u32);

@@ -1,6 +1,6 @@
 ghost use Rattle.std.specs.Prelude.{◌≤◌};
 
-use super::*;
+use plain_model::*;
 use std::test::Fail;
 
 #[test]
