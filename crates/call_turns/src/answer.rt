@@ -4,7 +4,7 @@ use plain_units::Regs;
 use script_texts::WaitOn;
 
 /// Up to two characters that a monitor call prints. Those past the count are 0.
-#[derive(Clone, Copy, Debug, PartialEq, Eq)]
+#[derive(Clone, Copy, PartialEq, Eq)]
 pub struct Chars {
     pub count: u8,
     pub codes: [u8; 2],
@@ -12,7 +12,7 @@ pub struct Chars {
 
 /// What one turn of a monitor call answers. All but `After`, `Wait` and `Halt` leave everything
 /// as it was.
-#[derive(Clone, Copy, Debug, PartialEq, Eq)]
+#[derive(Clone, Copy)]
 pub enum Answer {
     /// The call is done: its registers, what it prints, and a channel that it posts to a fork.
     After {

@@ -7,7 +7,7 @@ use plain_model::call::End;
 use plain_pages::MapEntry;
 
 /// What a turn asks of the pages. It is told of them as they are before it.
-#[derive(Clone, Copy, Debug, PartialEq, Eq)]
+#[derive(Clone, Copy, PartialEq, Eq)]
 pub enum Ask {
     /// The entry of a slot, Empty where its fork isn't there.
     Sees(Slot),
@@ -16,7 +16,7 @@ pub enum Ask {
 }
 
 /// What a turn is told.
-#[derive(Clone, Copy, Debug, PartialEq, Eq)]
+#[derive(Clone, Copy)]
 pub enum Reply {
     Entry(MapEntry),
     Page(Option<PageName>),
@@ -45,7 +45,7 @@ impl Reply {
 }
 
 /// A turn of a call that makes changes of some kind: it ends, or it asks, and goes on with what is left of it.
-#[derive(Clone, Copy, Debug, PartialEq, Eq)]
+#[derive(Clone, Copy)]
 pub enum Turn<C, S> {
     Ends(End<C>),
     Asks(Ask, S),

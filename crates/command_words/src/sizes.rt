@@ -6,7 +6,7 @@ use outside::MOST_DRUM_PAGES;
 use script_lang::read_decimal;
 
 /// How large a run is.
-#[derive(Clone, Copy, Debug, PartialEq, Eq)]
+#[derive(Clone, Copy, PartialEq, Eq)]
 pub struct Sizes {
     /// The page frames of core, 160 to 8,192.
     pub frames: u32,

@@ -6,7 +6,7 @@ use machine_names::{FrameId, Home};
 
 /// What is to go between a frame and the drum: the page of a home is read into the frame, or
 /// written from it.
-#[derive(Clone, Copy, Debug, PartialEq, Eq)]
+#[derive(Clone, Copy, PartialEq, Eq)]
 pub enum Transfer {
     Read(FrameId, Home),
     Write(FrameId, Home),

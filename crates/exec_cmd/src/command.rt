@@ -2,7 +2,7 @@
 use machine_names::FileName;
 
 /// What a line asks of the monitor.
-#[derive(Clone, Copy, Debug, PartialEq, Eq)]
+#[derive(Clone, Copy, PartialEq, Eq)]
 pub enum Command {
     /// Nothing: the line has no word.
     Blank,

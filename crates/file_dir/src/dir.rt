@@ -14,7 +14,7 @@ use std::alloc::Global;
 use std::marker::Model;
 
 /// There are as many files as there may be.
-#[derive(Clone, Copy, Debug, PartialEq, Eq)]
+#[derive(Clone, Copy, PartialEq, Eq)]
 pub struct FilesFull;
 
 /// The files that there are, each under its number, below 512, with its full name `<DIR>NAME.EXT`.

@@ -15,7 +15,7 @@ use machine_names::{Access, ForkName, Home, Kind, SPACE_PAGES};
 pub const CHAIN: u32 = 4;
 
 /// What a walk along a chain finds.
-#[derive(Clone, Copy, Debug, PartialEq, Eq)]
+#[derive(Clone, Copy, PartialEq, Eq)]
 pub struct Walk {
     /// Where the last entry stands, and the home of the page that it names, if it names one.
     pub end: EntryAt,
@@ -29,7 +29,7 @@ pub struct Walk {
 }
 
 /// What is done with a page: it is read, written, executed, or read and then written.
-#[derive(Clone, Copy, Debug, PartialEq, Eq)]
+#[derive(Clone, Copy, PartialEq, Eq)]
 pub enum Use {
     Read,
     Write,

@@ -7,7 +7,7 @@ use machine_names::{Access, Home};
 
 /// An entry of a fork's map: nothing; the page of a home; or an entry of a fork of the same job, that
 /// it follows.
-#[derive(Clone, Copy, Debug, PartialEq, Eq)]
+#[derive(Clone, Copy, PartialEq, Eq)]
 pub enum HeldEntry {
     Empty,
     Page(Home, Access),
@@ -16,7 +16,7 @@ pub enum HeldEntry {
 
 /// The entry that another follows: the serial of its fork, and its page. The number is that of the map
 /// which the fork had when the link was made; where another fork has it now, the map is looked for.
-#[derive(Clone, Copy, Debug, PartialEq, Eq)]
+#[derive(Clone, Copy, PartialEq, Eq)]
 pub struct Link {
     pub serial: u32,
     pub page: u16,
@@ -24,7 +24,7 @@ pub struct Link {
 }
 
 /// Where an entry stands: the number of the map, and the page.
-#[derive(Clone, Copy, Debug, PartialEq, Eq)]
+#[derive(Clone, Copy, PartialEq, Eq)]
 pub struct EntryAt {
     pub map: u32,
     pub page: u16,

@@ -41,7 +41,7 @@ enum Step {
 }
 
 /// What comes of it.
-#[derive(Clone, Copy, Debug, PartialEq, Eq)]
+#[derive(Clone, Copy, PartialEq, Eq)]
 enum Came {
     Word(u64),
     /// A look finds the page, or not.

@@ -3,7 +3,7 @@ use plain_model::Fork;
 use plain_model::call::{End, ForkChange};
 
 /// What a call does once it is known whom it is about.
-#[derive(Clone, Copy, Debug, PartialEq, Eq)]
+#[derive(Clone, Copy)]
 pub enum Step {
     Ends(End<ForkChange>),
     /// CFORK makes a fork in this slot, where there is room for its map.

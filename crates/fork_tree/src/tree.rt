@@ -17,7 +17,7 @@ use std::alloc::Global;
 use std::marker::Model;
 
 /// Why no fork is made.
-#[derive(Clone, Copy, Debug, PartialEq, Eq)]
+#[derive(Clone, Copy, PartialEq, Eq)]
 pub enum NoFork {
     /// The job has thirty forks.
     ForksFull,

@@ -11,7 +11,7 @@ pub const MOST_PINS: u8 = 63;
 
 /// What a frame is taken by: the home whose page it holds, the number of its last use, how many
 /// holds of it are not spent, how many pins it has, and whether a transfer of it is queued.
-#[derive(Clone, Copy, Debug, PartialEq, Eq)]
+#[derive(Clone, Copy, PartialEq, Eq)]
 pub struct Tenant {
     pub home: Home,
     pub age: u64,

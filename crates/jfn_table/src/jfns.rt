@@ -22,7 +22,7 @@ const FIRST_JFN: usize = 1;
 const PLACES: usize = MOST_JFNS + 1;
 
 /// A job holds as many JFNs as it may.
-#[derive(Clone, Copy, Debug, PartialEq, Eq)]
+#[derive(Clone, Copy, PartialEq, Eq)]
 pub struct JfnsFull;
 
 /// The JFNs that one job holds (JSYS Manual, "File handling"): each stands under its number, 1 to

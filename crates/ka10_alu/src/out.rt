@@ -5,7 +5,7 @@ use word36::{Flags, Word};
 
 /// What an operation gives: a word for the accumulator or for memory, a second word for the next
 /// accumulator if the operation has one, and the flags that the operation sets.
-#[derive(Clone, Copy, Debug, PartialEq, Eq)]
+#[derive(Clone, Copy, PartialEq, Eq)]
 pub struct Out {
     /// The result.
     pub word: Word,

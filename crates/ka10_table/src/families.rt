@@ -1,6 +1,6 @@
 /// The lines of the instruction table, in the order of their opcodes (PDP-10 handbook, "User
 /// operations").
-#[derive(Clone, Copy, Debug, PartialEq, Eq)]
+#[derive(Clone, Copy, PartialEq, Eq)]
 pub enum Family {
     /// No instruction: the machine traps.
     Illegal,
@@ -67,7 +67,7 @@ pub enum Family {
 }
 
 /// Where the operand comes from and where the result goes (PDP-10 handbook, "Modes").
-#[derive(Clone, Copy, Debug, PartialEq, Eq)]
+#[derive(Clone, Copy, PartialEq, Eq)]
 pub enum OpMode {
     /// From the word at the effective address to the accumulator; also each row without modes.
     Basic,
@@ -82,7 +82,7 @@ pub enum OpMode {
 }
 
 /// What an opcode is.
-#[derive(Clone, Copy, Debug, PartialEq, Eq)]
+#[derive(Clone, Copy, PartialEq, Eq)]
 pub struct TableRow {
     /// The line of the table.
     pub family: Family,

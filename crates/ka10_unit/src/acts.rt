@@ -5,7 +5,7 @@ ghost use Rattle.ka10_unit.specs.Acts.{acted, instruction_at};
 /// What is done for an opcode: an instruction under its mnemonic, so that all of its row is known,
 /// or, of the Boolean functions, the halfwords and the tests, instructions that take and store
 /// their words alike and are told apart by the opcode (PDP-10 handbook, "User operations").
-#[derive(Clone, Copy, Debug, PartialEq, Eq)]
+#[derive(Clone, Copy, PartialEq, Eq)]
 pub enum Act {
     /// No instruction.
     Illegal,

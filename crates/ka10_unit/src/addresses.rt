@@ -17,7 +17,7 @@ const MOST_WORDS: usize = 17;
 
 /// An effective address, below 2^18, and the last word taken for it: the accumulator X, where the
 /// last step had one, else the last indirect word, else the instruction.
-#[derive(Clone, Copy, Debug, PartialEq, Eq)]
+#[derive(Clone, Copy, PartialEq, Eq)]
 pub struct Address {
     pub at: u32,
     pub last: Word,

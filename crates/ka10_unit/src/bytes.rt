@@ -11,7 +11,7 @@ use plain_units::Regs;
 use word36::Word;
 
 /// What a byte instruction does once its pointer is taken.
-#[derive(Clone, Copy, Debug, PartialEq, Eq)]
+#[derive(Clone, Copy, PartialEq, Eq)]
 pub enum ByteStep {
     /// IBP: the pointer is incremented.
     Increment,

@@ -6,7 +6,7 @@ ghost use Rattle.plain_units.specs.Deeds.{overflow_post, pushdown_post};
 use word36::Word;
 
 /// The channel that a unit posts when it is done.
-#[derive(Clone, Copy, Debug, PartialEq, Eq)]
+#[derive(Clone, Copy, PartialEq, Eq)]
 pub enum Post {
     Nothing,
     /// An arithmetic result was no signed word, or a division was not done.
@@ -16,7 +16,7 @@ pub enum Post {
 }
 
 /// What an instruction tells that was committed.
-#[derive(Clone, Copy, Debug, PartialEq, Eq)]
+#[derive(Clone, Copy, PartialEq, Eq)]
 pub struct Committed {
     /// The word that the instruction stores. None exactly where it stores none.
     pub stored: Option<Word>,

@@ -5,7 +5,7 @@ ghost use Rattle.ka10_unit.specs.InPlace.{ended};
 use crate::committed::Post;
 
 /// What a try at a unit in place comes to.
-#[derive(Clone, Copy, Debug, PartialEq, Eq)]
+#[derive(Clone, Copy, PartialEq, Eq)]
 pub enum Quick {
     /// The unit is done, and posts nothing.
     Done,
@@ -31,7 +31,7 @@ pub fn ended(post: Post) -> Quick
 }
 
 /// Why a burst ended.
-#[derive(Clone, Copy, Debug, PartialEq, Eq)]
+#[derive(Clone, Copy, PartialEq, Eq)]
 pub enum End {
     /// As many units were done as were asked for, and none posted.
     Most,
@@ -45,7 +45,7 @@ pub enum End {
 }
 
 /// What a burst came to.
-#[derive(Clone, Copy, Debug, PartialEq, Eq)]
+#[derive(Clone, Copy, PartialEq, Eq)]
 pub struct Burst {
     /// How many units were done that posted nothing.
     pub units: u32,

@@ -23,7 +23,7 @@ use plain_units::{Put, Regs};
 use word36::Word;
 
 /// How a unit ends that goes through: its registers, the word that it stores last, and its post.
-#[derive(Clone, Copy, Debug, PartialEq, Eq)]
+#[derive(Clone, Copy)]
 pub struct Ending {
     pub regs: Regs,
     pub put: Option<Put>,

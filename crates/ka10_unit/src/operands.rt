@@ -10,7 +10,7 @@ use ka10_table::{Family, OpMode, TableRow};
 use plain_units::Regs;
 
 /// Where an instruction stores a word, with the address, if it stores one.
-#[derive(Clone, Copy, Debug, PartialEq, Eq)]
+#[derive(Clone, Copy, PartialEq, Eq)]
 pub enum Destination {
     Nowhere,
     /// Back to where its operand was read.

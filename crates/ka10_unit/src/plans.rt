@@ -32,14 +32,14 @@ const LOCAL_HANDLER: u32 = 0o41;
 const MOST_WORDS: u32 = 17;
 
 /// Another word to be executed, behind a local call or not.
-#[derive(Clone, Copy, Debug, PartialEq, Eq)]
+#[derive(Clone, Copy, PartialEq, Eq)]
 pub struct Next {
     pub is_local: bool,
     pub word: Word,
 }
 
 /// What one word of a unit comes to.
-#[derive(Clone, Copy, Debug, PartialEq, Eq)]
+#[derive(Clone, Copy)]
 pub enum Step {
     Goes(Next),
     Ends(Ending),
@@ -48,7 +48,7 @@ pub enum Step {
 }
 
 /// What a unit comes to.
-#[derive(Clone, Copy, Debug, PartialEq, Eq)]
+#[derive(Clone, Copy)]
 pub enum Planned {
     /// It goes through: it makes the pages that were gathered, stores the word that was kept, and
     /// ends so.

@@ -13,7 +13,7 @@ use page_contracts::{Need, Pages};
 use plain_units::Regs;
 
 /// How a unit came out.
-#[derive(Clone, Copy, Debug, PartialEq, Eq)]
+#[derive(Clone, Copy)]
 pub enum Outcome {
     /// It went through, and posts this.
     Done(Post),

@@ -27,7 +27,7 @@ use word36::Word;
 const WORDS: u32 = PAGE_WORDS as u32;
 
 /// Why a unit stops before its end.
-#[derive(Clone, Copy, Debug, PartialEq, Eq)]
+#[derive(Clone, Copy)]
 pub enum Stop {
     /// It traps, with this channel.
     Trap(u8),

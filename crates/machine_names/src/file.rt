@@ -2,7 +2,7 @@
 use crate::FileNo;
 
 /// How a file is open.
-#[derive(Clone, Copy, Debug, PartialEq, Eq)]
+#[derive(Clone, Copy)]
 pub struct Mode {
     pub r: bool,
     pub w: bool,
@@ -10,7 +10,7 @@ pub struct Mode {
 
 /// What a JFN stands for (JSYS Manual, "File handling"): a file, how it is open, and the position
 /// in it, in bytes of the given size, 1 to 36 bits.
-#[derive(Clone, Copy, Debug, PartialEq, Eq)]
+#[derive(Clone, Copy)]
 pub struct Jfn {
     pub file: FileNo,
     pub mode: Option<Mode>,

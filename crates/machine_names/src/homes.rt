@@ -4,9 +4,9 @@
 pub const MOST_HOMES: u32 = 16384;
 
 /// The home of a page: where it stands on the drum.
-#[derive(Clone, Copy, Debug, PartialEq, Eq)]
+#[derive(Clone, Copy, PartialEq, Eq)]
 pub struct Home(pub u32);
 
 /// A frame of core.
-#[derive(Clone, Copy, Debug, PartialEq, Eq)]
+#[derive(Clone, Copy, PartialEq, Eq)]
 pub struct FrameId(pub u32);

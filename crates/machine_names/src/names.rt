@@ -16,7 +16,7 @@ pub const SPACE_PAGES: usize = 512;
 pub const ACCUMULATORS: u32 = 16;
 
 /// A terminal: 0 to 15, or the console.
-#[derive(Clone, Copy, Debug, PartialEq, Eq)]
+#[derive(Clone, Copy, PartialEq, Eq)]
 pub struct Tty(pub u8);
 
 impl Tty {
@@ -25,32 +25,32 @@ impl Tty {
 }
 
 /// A fork's name: the terminal of its job, and its serial there, 1 to 262,143.
-#[derive(Clone, Copy, Debug, PartialEq, Eq)]
+#[derive(Clone, Copy, PartialEq, Eq)]
 pub struct ForkName {
     pub tty: Tty,
     pub serial: u32,
 }
 
 /// A page's name: the terminal whose fork made it or the console, and its serial there.
-#[derive(Clone, Copy, Debug, PartialEq, Eq)]
+#[derive(Clone, Copy, PartialEq, Eq)]
 pub struct PageName {
     pub tty: Tty,
     pub serial: u64,
 }
 
 /// A file's number, below 512.
-#[derive(Clone, Copy, Debug, PartialEq, Eq)]
+#[derive(Clone, Copy, PartialEq, Eq)]
 pub struct FileNo(pub u16);
 
 /// A page of a fork's space, 0 to 511.
-#[derive(Clone, Copy, Debug, PartialEq, Eq)]
+#[derive(Clone, Copy, PartialEq, Eq)]
 pub struct Slot {
     pub fork: ForkName,
     pub page: u16,
 }
 
 /// Where a reference goes: to a page of a fork's space, or to a page of a file.
-#[derive(Clone, Copy, Debug, PartialEq, Eq)]
+#[derive(Clone, Copy)]
 pub enum Place {
     Fork(Slot),
     File(FileNo, u16),
@@ -58,7 +58,7 @@ pub enum Place {
 
 /// What a map entry permits (CACM paper, "The memory management"): to read, to write, to execute;
 /// and whether the page is copied before it is written.
-#[derive(Clone, Copy, Debug, PartialEq, Eq)]
+#[derive(Clone, Copy, PartialEq, Eq)]
 pub struct Access {
     pub r: bool,
     pub w: bool,
@@ -67,7 +67,7 @@ pub struct Access {
 }
 
 /// What a reference does with a page. Execute is the fetch of an instruction.
-#[derive(Clone, Copy, Debug, PartialEq, Eq)]
+#[derive(Clone, Copy, PartialEq, Eq)]
 pub enum Kind {
     Read,
     Write,

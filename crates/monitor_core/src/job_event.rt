@@ -2,7 +2,7 @@
 use word36::Word;
 
 /// An event that a terminal's job does, or that is refused where the terminal has none.
-#[derive(Clone, Copy, Debug, PartialEq, Eq)]
+#[derive(Clone, Copy, PartialEq, Eq)]
 pub enum JobEvent {
     /// A word is put at an address of the top fork.
     Poke(u32, Word),

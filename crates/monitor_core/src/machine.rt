@@ -7,13 +7,13 @@ use machine_names::Tty;
 use page_contracts::Pages;
 
 /// Sizes of a machine: how many forks the balance set has at most, 1 to 63.
-#[derive(Clone, Copy, Debug, PartialEq, Eq)]
+#[derive(Clone, Copy, PartialEq, Eq)]
 pub struct Config {
     pub set: u32,
 }
 
 /// How an event ended.
-#[derive(Clone, Copy, Debug, PartialEq, Eq)]
+#[derive(Clone, Copy, PartialEq, Eq)]
 pub enum Ended {
     Went,
     DrumFault,

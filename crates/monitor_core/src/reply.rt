@@ -7,7 +7,7 @@ use machine_names::Tty;
 use script_texts::Item;
 
 /// What a step shows. Its items are made as they are given, one by one, so that it is small however many they are.
-#[derive(Clone, Copy, Debug, PartialEq, Eq)]
+#[derive(Clone, Copy)]
 pub enum Reply {
     Nothing,
     One(Item),

@@ -2,7 +2,7 @@
 use machine_names::ForkName;
 
 /// A fork that can run, with its slot in its job.
-#[derive(Clone, Copy, Debug, PartialEq, Eq)]
+#[derive(Clone, Copy, PartialEq, Eq)]
 pub struct Runner {
     pub fork: ForkName,
     pub slot: u8,

@@ -3,7 +3,7 @@ ghost use Rattle.std.specs.Prelude.{◌≡◌};
 ghost use Rattle.monitor_core.specs.Shown.{is_stop as is_stop_of};
 
 /// What one unit shows, at the terminal of its job.
-#[derive(Clone, Copy, Debug, PartialEq, Eq)]
+#[derive(Clone, Copy, PartialEq, Eq)]
 pub enum Shown {
     Nothing,
     /// A character.

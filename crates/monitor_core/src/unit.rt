@@ -22,7 +22,7 @@ use plain_units::channel::{
 use script_texts::ForkStatus;
 
 /// The last of units in a row.
-#[derive(Clone, Copy, Debug, PartialEq, Eq)]
+#[derive(Clone, Copy, PartialEq, Eq)]
 pub enum Last {
     /// It is over, and shows this.
     Shows(Shown),
@@ -31,7 +31,7 @@ pub enum Last {
 }
 
 /// Units of a fork in a row: how many are over, and what the last is. Those before it show nothing.
-#[derive(Clone, Copy, Debug, PartialEq, Eq)]
+#[derive(Clone, Copy, PartialEq, Eq)]
 pub struct Row {
     pub count: u32,
     pub last: Last,

@@ -4,6 +4,7 @@ ghost use Rattle.outside.specs.Drums.{AreWords};
 use super::*;
 use std::fs::{self, File};
 use std::io::{self, ErrorKind, Read, Seek, SeekFrom, Write};
+use std::process::Abort;
 use std::test::Fail;
 
 // A page with one word in each place.
@@ -45,17 +46,22 @@ impl Write for Keeping {
     }
 }
 
+// Both are the same.
+fn same<T: Copy + PartialEq>(rt: &impl Abort, got: T, want: T) {
+    assert!(rt; got == want);
+}
+
 #[test]
 fn a_flush_is_the_writers(rt: HostRuntime) -> Result<(), Fail> {
     let mut writer = Keeping { kept: 0, given: 0 };
     let mut sink = StdSink::new(&mut writer);
-    assert_eq!(rt; sink.write(b"abc"), Ok(3));
-    assert_eq!(rt; sink.flush(), Ok(()));
+    same(&rt, sink.write(b"abc"), Ok(3));
+    same(&rt, sink.flush(), Ok(()));
     assert!(rt; sink.error().is_none());
-    assert_eq!(rt; (sink.flush(), sink.faults()), (Err(Failed), 1));
+    same(&rt, (sink.flush(), sink.faults()), (Err(Failed), 1));
     let kind = sink.error().map(|error| error.kind());
-    assert_eq!(rt; kind, Some(ErrorKind::BrokenPipe));
-    assert_eq!(rt; writer.given, 3);
+    same(&rt, kind, Some(ErrorKind::BrokenPipe));
+    same(&rt, writer.given, 3);
     Ok(())
 }
 
@@ -71,9 +77,9 @@ fn reads_in_pieces(rt: HostRuntime) -> Result<(), Fail> {
         (Ok(0), *b"cb", 1),
     ];
     for (answer, bytes, faults) in want {
-        assert_eq!(rt; source.read(&mut piece), answer);
-        assert_eq!(rt; piece, bytes);
-        assert_eq!(rt; source.faults(), faults);
+        same(&rt, source.read(&mut piece), answer);
+        same(&rt, piece, bytes);
+        same(&rt, source.faults(), faults);
     }
     Ok(())
 }
@@ -82,13 +88,13 @@ fn reads_in_pieces(rt: HostRuntime) -> Result<(), Fail> {
 fn takes_what_fits(rt: HostRuntime) -> Result<(), Fail> {
     let alloc = rt.alloc();
     let mut sink = MemSink::new(alloc, 3, vec![in alloc; 3]?)?;
-    assert_eq!(rt; sink.write(b"ab"), Ok(2));
-    assert_eq!(rt; sink.write(b"cd"), Err(Failed), "one byte too many");
-    assert_eq!(rt; sink.write(b"c"), Err(Failed), "the third call");
-    assert_eq!(rt; sink.write(b"c"), Ok(1));
-    assert_eq!(rt; sink.write(b""), Ok(0));
-    assert_eq!(rt; sink.bytes(), b"abc".as_slice());
-    assert_eq!(rt; sink.faults(), 2);
+    same(&rt, sink.write(b"ab"), Ok(2));
+    same(&rt, sink.write(b"cd"), Err(Failed));
+    same(&rt, sink.write(b"c"), Err(Failed));
+    same(&rt, sink.write(b"c"), Ok(1));
+    same(&rt, sink.write(b""), Ok(0));
+    same(&rt, sink.bytes(), b"abc".as_slice());
+    same(&rt, sink.faults(), 2);
     Ok(())
 }
 
@@ -97,15 +103,15 @@ fn hands_on_what_it_took(rt: HostRuntime) -> Result<(), Fail> {
     let alloc = rt.alloc();
     let sink = MemSink::new(alloc, 3, vec![in alloc; 2]?)?;
     let mut sink = sink.with_failing_flushes(vec![in alloc; 2]?);
-    assert_eq!(rt; sink.write(b"ab"), Ok(2));
+    same(&rt, sink.write(b"ab"), Ok(2));
     let answers = [Ok(()), Err(Failed), Ok(())];
     for answer in answers {
-        assert_eq!(rt; sink.flush(), answer);
+        same(&rt, sink.flush(), answer);
     }
-    assert_eq!(rt; sink.write(b"c"), Err(Failed), "the second call of write");
-    assert_eq!(rt; sink.bytes(), b"ab".as_slice());
-    assert_eq!(rt; sink.faults(), 2);
-    assert_eq!(rt; SureSink::new().flush(), Ok(()));
+    same(&rt, sink.write(b"c"), Err(Failed));
+    same(&rt, sink.bytes(), b"ab".as_slice());
+    same(&rt, sink.faults(), 2);
+    same(&rt, SureSink::new().flush(), Ok(()));
     Ok(())
 }
 
@@ -115,16 +121,17 @@ fn pages_come_back(rt: HostRuntime) -> Result<(), Fail> {
     let mut drum = MemDrum::new(alloc, 2, vec![in alloc; 2]?, vec![in alloc; 1]?)?;
     let ones = filled(0o777777777777);
     let mut words = [1; PAGE_WORDS];
-    assert_eq!(rt; drum.write(1, &ones), Err(Failed));
-    assert_eq!(rt; drum.write(1, &ones), Ok(()));
-    assert_eq!(rt; drum.read(0, &mut words), Ok(()));
-    assert_eq!(rt; words, [0; PAGE_WORDS]);
-    assert_eq!(rt; drum.read(1, &mut words), Err(Failed));
-    assert_eq!(rt; drum.read(1, &mut words), Ok(()));
-    assert_eq!(rt; words, ones);
-    assert_eq!(rt;
+    same(&rt, drum.write(1, &ones), Err(Failed));
+    same(&rt, drum.write(1, &ones), Ok(()));
+    same(&rt, drum.read(0, &mut words), Ok(()));
+    same(&rt, words, [0; PAGE_WORDS]);
+    same(&rt, drum.read(1, &mut words), Err(Failed));
+    same(&rt, drum.read(1, &mut words), Ok(()));
+    same(&rt, words, ones);
+    same(
+        &rt,
         (drum.reads(), drum.writes(), drum.faults(), drum.pages()),
-        (2, 1, 2, 2)
+        (2, 1, 2, 2),
     );
     Ok(())
 }
@@ -134,18 +141,19 @@ fn sure_objects_go_on(rt: HostRuntime) -> Result<(), Fail> {
     let alloc = rt.alloc();
     let mut source = SureSource::new(b"a".to_vec(alloc)?);
     let mut piece = [0; 2];
-    assert_eq!(rt; source.read(&mut piece), Ok(1));
-    assert_eq!(rt; piece, *b"a\0");
-    assert_eq!(rt; SureSink::new().write(b"ab"), Ok(2));
+    same(&rt, source.read(&mut piece), Ok(1));
+    same(&rt, piece, *b"a\0");
+    same(&rt, SureSink::new().write(b"ab"), Ok(2));
     let mut drum = SureDrum::new(alloc, 1)?;
     let twos = filled(2);
     let mut words = [0; PAGE_WORDS];
-    assert_eq!(rt; drum.write(0, &twos), Ok(()));
-    assert_eq!(rt; drum.read(0, &mut words), Ok(()));
-    assert_eq!(rt; words, twos);
-    assert_eq!(rt;
+    same(&rt, drum.write(0, &twos), Ok(()));
+    same(&rt, drum.read(0, &mut words), Ok(()));
+    same(&rt, words, twos);
+    same(
+        &rt,
         (drum.reads(), drum.writes(), drum.faults(), drum.pages()),
-        (1, 1, 0, 1)
+        (1, 1, 0, 1),
     );
     Ok(())
 }
@@ -155,22 +163,23 @@ fn readers_and_writers(rt: HostRuntime) -> Result<(), Fail> {
     let bytes: &[u8] = b"abc";
     let mut source = StdSource::new(bytes);
     let mut piece = [0; 2];
-    assert_eq!(rt; source.read(&mut piece), Ok(2));
-    assert_eq!(rt; source.read(&mut piece), Ok(1));
-    assert_eq!(rt; piece, *b"cb");
-    assert_eq!(rt; (source.read(&mut piece), source.faults()), (Ok(0), 0));
+    same(&rt, source.read(&mut piece), Ok(2));
+    same(&rt, source.read(&mut piece), Ok(1));
+    same(&rt, piece, *b"cb");
+    same(&rt, (source.read(&mut piece), source.faults()), (Ok(0), 0));
     let mut source = StdSource::new(Interrupted);
-    assert_eq!(rt;
+    same(
+        &rt,
         (source.read(&mut piece), source.faults()),
-        (Err(Failed), 1)
+        (Err(Failed), 1),
     );
     let mut room = [0; 3];
     let mut sink = StdSink::new(&mut room[..]);
-    assert_eq!(rt; sink.write(b"ab"), Ok(2));
-    assert_eq!(rt; sink.write(b"cd"), Ok(1));
-    assert_eq!(rt; sink.write(b"d"), Err(Failed), "the writer takes nothing");
-    assert_eq!(rt; (sink.write(b""), sink.faults()), (Ok(0), 1));
-    assert_eq!(rt; room, *b"abc");
+    same(&rt, sink.write(b"ab"), Ok(2));
+    same(&rt, sink.write(b"cd"), Ok(1));
+    same(&rt, sink.write(b"d"), Err(Failed));
+    same(&rt, (sink.write(b""), sink.faults()), (Ok(0), 1));
+    same(&rt, room, *b"abc");
     Ok(())
 }
 
@@ -186,15 +195,15 @@ fn drum_file(rt: &HostRuntime, name: &str) -> io::Result<(File, FileDrum)> {
 fn words_stand_in_a_file(rt: HostRuntime) -> Result<(), Fail> {
     let name = "words_stand_in_a_file.drum";
     let (mut file, mut drum) = drum_file(&rt, name)?;
-    assert_eq!(rt; file.metadata()?.len(), 67_108_864);
+    same(&rt, file.metadata()?.len(), 67_108_864);
     let written = filled(0o404000000000);
     let mut words = [1; PAGE_WORDS];
-    assert_eq!(rt; drum.write(1, &written), Ok(()));
-    assert_eq!(rt; drum.read(1, &mut words), Ok(()));
-    assert_eq!(rt; words, written);
+    same(&rt, drum.write(1, &written), Ok(()));
+    same(&rt, drum.read(1, &mut words), Ok(()));
+    same(&rt, words, written);
     for page in [0, 2, 16383] {
-        assert_eq!(rt; drum.read(page, &mut words), Ok(()), "page {page}");
-        assert_eq!(rt; words, [0; PAGE_WORDS], "page {page}");
+        same(&rt, drum.read(page, &mut words), Ok(()));
+        same(&rt, words, [0; PAGE_WORDS]);
     }
     let mut bytes = [1; 8];
     for (place, wanted) in [
@@ -205,11 +214,12 @@ fn words_stand_in_a_file(rt: HostRuntime) -> Result<(), Fail> {
     ] {
         file.seek(SeekFrom::Start(place))?;
         file.read_exact(&mut bytes)?;
-        assert_eq!(rt; bytes, wanted, "at {place}");
+        same(&rt, bytes, wanted);
     }
-    assert_eq!(rt;
+    same(
+        &rt,
         (drum.reads(), drum.writes(), drum.faults(), drum.pages()),
-        (4, 1, 0, 16384)
+        (4, 1, 0, 16384),
     );
     fs::remove_file(&rt, name)?;
     Ok(())
@@ -228,17 +238,17 @@ fn a_file_that_fails(rt: HostRuntime) -> Result<(), Fail> {
         (2, ErrorKind::UnexpectedEof, 2),
         (3, ErrorKind::UnexpectedEof, 3),
     ] {
-        assert_eq!(rt; drum.read(page, &mut words), Err(Failed), "page {page}");
+        same(&rt, drum.read(page, &mut words), Err(Failed));
         let kept = drum.error().map(|error| error.kind());
-        assert_eq!(rt; (kept, drum.faults()), (Some(kind), faults));
+        same(&rt, (kept, drum.faults()), (Some(kind), faults));
     }
-    assert_eq!(rt; drum.write(2, &filled(1)), Ok(()));
-    assert_eq!(rt; drum.read(2, &mut words), Ok(()));
-    assert_eq!(rt; (drum.reads(), drum.writes(), drum.faults()), (1, 1, 3));
+    same(&rt, drum.write(2, &filled(1)), Ok(()));
+    same(&rt, drum.read(2, &mut words), Ok(()));
+    same(&rt, (drum.reads(), drum.writes(), drum.faults()), (1, 1, 3));
     let mut drum = FileDrum::new(File::open(&rt, name)?);
-    assert_eq!(rt; drum.faults(), 1, "a file for reading alone gets no size");
-    assert_eq!(rt; drum.write(2, &filled(1)), Err(Failed));
-    assert_eq!(rt; (drum.writes(), drum.faults()), (0, 2));
+    same(&rt, drum.faults(), 1);
+    same(&rt, drum.write(2, &filled(1)), Err(Failed));
+    same(&rt, (drum.writes(), drum.faults()), (0, 2));
     fs::remove_file(&rt, name)?;
     Ok(())
 }

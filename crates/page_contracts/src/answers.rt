@@ -4,7 +4,7 @@ use plain_pages::MapEntry;
 use word36::Word;
 
 /// What a reference to a page finds.
-#[derive(Clone, Copy, Debug, PartialEq, Eq)]
+#[derive(Clone, Copy)]
 pub enum Touch {
     /// The page is there.
     Ready,
@@ -23,7 +23,7 @@ pub enum Touch {
 }
 
 /// What a look at a word finds, whatever the access.
-#[derive(Clone, Copy, Debug, PartialEq, Eq)]
+#[derive(Clone, Copy)]
 pub enum Peeked {
     Is(Word),
     /// This home is in no frame.
@@ -33,7 +33,7 @@ pub enum Peeked {
 }
 
 /// What a look at an entry finds.
-#[derive(Clone, Copy, Debug, PartialEq, Eq)]
+#[derive(Clone, Copy)]
 pub enum Seen {
     Is(MapEntry),
     /// This home, of the map, is in no frame.
@@ -43,16 +43,16 @@ pub enum Seen {
 }
 
 /// What a fork in page wait waits for: a page, or any frame.
-#[derive(Clone, Copy, Debug, PartialEq, Eq)]
+#[derive(Clone, Copy)]
 pub enum Need {
     Page(Home),
     Frame,
 }
 
 /// The handle of a living fork's space, looked up once for many references.
-#[derive(Clone, Copy, Debug, PartialEq, Eq)]
+#[derive(Clone, Copy, PartialEq, Eq)]
 pub struct SpaceHandle(pub u32);
 
 /// Where the words of a page are that a look has found. It stays so until an entry changes.
-#[derive(Clone, Copy, Debug, PartialEq, Eq)]
+#[derive(Clone, Copy, PartialEq, Eq)]
 pub struct Found(pub u32);

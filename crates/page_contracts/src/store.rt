@@ -11,7 +11,7 @@ use outside::Drum;
 use word36::Word;
 
 /// Whether so many pages more find homes and frames.
-#[derive(Clone, Copy, Debug, PartialEq, Eq)]
+#[derive(Clone, Copy, PartialEq, Eq)]
 pub enum Room {
     Enough,
     /// There are homes, and fewer frames are free.
@@ -21,7 +21,7 @@ pub enum Room {
 }
 
 /// How the oldest transfer ended.
-#[derive(Clone, Copy, Debug, PartialEq, Eq)]
+#[derive(Clone, Copy)]
 pub enum Completed {
     /// What its end tells: a page is in a frame, or a frame is free.
     Done(Need),

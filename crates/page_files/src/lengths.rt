@@ -10,7 +10,7 @@ use std::alloc::Global;
 use std::marker::Model;
 
 // How many bytes a file has, and of how many bits.
-#[derive(Clone, Copy, Debug, PartialEq, Eq)]
+#[derive(Clone, Copy, PartialEq, Eq)]
 struct FileLength {
     length: u64,
     size: u8,

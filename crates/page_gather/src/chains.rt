@@ -22,7 +22,7 @@ use plain_pages::MapEntry;
 pub const MOST_LINKS: usize = 4;
 
 /// What a chain meets at a slot.
-#[derive(Clone, Copy, Debug, PartialEq, Eq)]
+#[derive(Clone, Copy, PartialEq, Eq)]
 pub enum Step {
     /// No such fork lives.
     Missing,
@@ -35,7 +35,7 @@ pub enum Step {
 }
 
 /// What a walk comes to.
-#[derive(Clone, Copy, Debug, PartialEq, Eq)]
+#[derive(Clone, Copy, PartialEq, Eq)]
 pub enum Way {
     /// This home, of a map on the way, is in no frame.
     Absent(Home),

@@ -3,7 +3,7 @@ use crate::reference::NO_SLOT;
 use machine_names::{Access, PageName, Slot};
 
 /// An entry that will name a new page.
-#[derive(Clone, Copy, Debug, PartialEq, Eq)]
+#[derive(Clone, Copy, PartialEq, Eq)]
 pub struct Change {
     pub slot: Slot,
     /// The access that the entry will have.

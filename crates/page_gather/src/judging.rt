@@ -162,7 +162,7 @@ fn page_first(away: Option<Home>, answer: Added) -> Added
 }
 
 /// What is answered to a reference; where it goes through, what it makes, and how many homes are taken in all.
-#[derive(Clone, Copy, Debug, PartialEq, Eq)]
+#[derive(Clone, Copy)]
 pub struct Judged {
     pub answer: Added,
     pub makings: Makings,

@@ -9,7 +9,7 @@ use arrayvec::ArrayVec;
 pub const MOST_CHANGES: usize = 128;
 
 /// What a reference makes, on the pages that those before it leave.
-#[derive(Clone, Copy, Debug, PartialEq, Eq)]
+#[derive(Clone, Copy, PartialEq, Eq)]
 pub enum Makings {
     Nothing,
     /// A zero page.

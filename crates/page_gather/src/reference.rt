@@ -3,7 +3,7 @@ use machine_names::{ForkName, Kind, Slot, Tty};
 use page_contracts::Need;
 
 /// A reference to a page of a fork's space.
-#[derive(Clone, Copy, Debug, PartialEq, Eq)]
+#[derive(Clone, Copy, PartialEq, Eq)]
 pub struct PageReference {
     pub slot: Slot,
     pub kind: Kind,
@@ -29,7 +29,7 @@ pub const NO_SLOT: Slot = Slot {
 };
 
 /// What it comes to that a reference is added.
-#[derive(Clone, Copy, Debug, PartialEq, Eq)]
+#[derive(Clone, Copy)]
 pub enum Added {
     Went,
     /// A map or the page is in no frame; or the pages to be made so far find no frame.

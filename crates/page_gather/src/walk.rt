@@ -5,7 +5,7 @@ ghost use Rattle.page_gather.specs.Walks.{last_walked, behind_walked, permits_wa
 use machine_names::{Access, Kind, Slot};
 
 /// What a walk along a chain finds, whatever page it ends at.
-#[derive(Clone, Copy, Debug, PartialEq, Eq)]
+#[derive(Clone, Copy, PartialEq, Eq)]
 pub struct Walked {
     /// The slot of the last entry.
     pub end: Slot,

@@ -91,7 +91,7 @@ pub const BAD_PAGE: u32 = 0o600016;
 pub const NO_PAGE: u32 = 0o600017;
 
 /// How a turn of a monitor call ends.
-#[derive(Clone, Copy, Debug, PartialEq, Eq)]
+#[derive(Clone, Copy)]
 pub enum End<C> {
     /// The call's change is made, and its fork has these registers.
     Done(C, Regs),
@@ -108,7 +108,7 @@ pub enum End<C> {
 }
 
 /// What a turn of a call on maps changes.
-#[derive(Clone, Copy, Debug, PartialEq, Eq)]
+#[derive(Clone, Copy)]
 pub enum MapChange {
     Nothing,
     /// The entry of a slot becomes empty.
@@ -120,7 +120,7 @@ pub enum MapChange {
 }
 
 /// What a turn of a fork call changes.
-#[derive(Clone, Copy, Debug, PartialEq, Eq)]
+#[derive(Clone, Copy)]
 pub enum ForkChange {
     Nothing,
     /// A fork with the next serial of its terminal is made, in a free slot of its job.

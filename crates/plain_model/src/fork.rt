@@ -7,7 +7,7 @@ use script_texts::ForkStatus;
 /// where the level table and the channel table are; which of the channels 0 to 35 are active and
 /// which are pending, channel c being the bit of value 2^c; and the levels in progress, level n
 /// being the bit of value 2^n.
-#[derive(Clone, Copy, Debug, PartialEq, Eq)]
+#[derive(Clone, Copy)]
 pub struct Psi {
     pub on: bool,
     pub table: Option<(u32, u32)>,
@@ -29,7 +29,7 @@ impl Psi {
 
 /// What a fork is but its place in the tree: its status and registers, its interrupts, the moment
 /// to which it sleeps, how many units it has run, and the code of its last error.
-#[derive(Clone, Copy, Debug, PartialEq, Eq)]
+#[derive(Clone, Copy)]
 pub struct Body {
     pub status: ForkStatus,
     pub regs: Regs,
@@ -41,7 +41,7 @@ pub struct Body {
 
 /// A fork (CACM paper, "Forks"): its name, its slot in the job from 1 to 30, the slot of its
 /// superior, which the top fork has not, its freeze mark, and its body.
-#[derive(Clone, Copy, Debug, PartialEq, Eq)]
+#[derive(Clone, Copy)]
 pub struct Fork {
     pub name: ForkName,
     pub slot: u8,
@@ -51,7 +51,7 @@ pub struct Fork {
 }
 
 /// Who reads what is typed at a terminal.
-#[derive(Clone, Copy, Debug, PartialEq, Eq)]
+#[derive(Clone, Copy, PartialEq, Eq)]
 pub enum TerminalMode {
     /// The monitor's command line.
     Command,

@@ -3,7 +3,7 @@ use machine_names::{Access, FileNo, ForkName, PageName};
 
 /// An entry of a fork's map (CACM paper, "The memory management"): nothing; a page; or an entry of
 /// a fork of the same job, named by its serial, that it follows.
-#[derive(Clone, Copy, Debug, PartialEq, Eq)]
+#[derive(Clone, Copy)]
 pub enum MapEntry {
     Empty,
     Names(PageName, Access),
@@ -11,7 +11,7 @@ pub enum MapEntry {
 }
 
 /// What an entry is set to. Narrow keeps of the access what is given too, and adds the copy mark.
-#[derive(Clone, Copy, Debug, PartialEq, Eq)]
+#[derive(Clone, Copy)]
 pub enum NewEntry {
     Empty,
     FilePage(FileNo, u16, Access),
@@ -20,7 +20,7 @@ pub enum NewEntry {
 }
 
 /// The map of a new fork: empty, or each entry following the same entry of a fork.
-#[derive(Clone, Copy, Debug, PartialEq, Eq)]
+#[derive(Clone, Copy)]
 pub enum NewMap {
     Empty,
     FollowAll(ForkName),

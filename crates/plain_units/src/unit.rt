@@ -7,7 +7,7 @@ pub const MOST_REFERENCES: u8 = 16;
 
 /// An address at which a unit takes or stores a word. An operand that is read and written is one
 /// reference, of the kind Write.
-#[derive(Clone, Copy, Debug, PartialEq, Eq)]
+#[derive(Clone, Copy, PartialEq, Eq)]
 pub struct Reference {
     pub address: u32,
     pub kind: Kind,
@@ -24,7 +24,7 @@ impl Default for Reference {
 }
 
 /// A word that a unit stores at an address.
-#[derive(Clone, Copy, Debug, PartialEq, Eq)]
+#[derive(Clone, Copy, PartialEq, Eq)]
 pub struct Put {
     pub at: u32,
     pub word: Word,

@@ -15,7 +15,7 @@ use plain_units::Regs;
 use word36::Word;
 
 /// The rest of a call on maps.
-#[derive(Clone, Copy, Debug, PartialEq, Eq)]
+#[derive(Clone, Copy)]
 pub enum Stage {
     /// RPACS, told the entry of a slot.
     Access(Slot, Regs),

@@ -6,7 +6,7 @@ ghost use Rattle.script_lang.specs.Generator.{drawn, first_number, next_number};
 const MODULUS: u64 = 1 << 31;
 
 /// A sequence of numbers, of which a seed gives the first.
-#[derive(Clone, Copy, Debug)]
+#[derive(Clone, Copy)]
 pub(crate) struct Draws {
     pub last: u32,
     ghost small: { last < 2 ^ 31 },

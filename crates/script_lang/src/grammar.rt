@@ -10,7 +10,7 @@ use crate::reached::MOST_LINE;
 use script_texts::Event;
 
 /// What a line without its line feed is.
-#[derive(Clone, Copy, Debug, PartialEq, Eq)]
+#[derive(Clone, Copy)]
 pub enum Read {
     /// An empty line or a comment, which begins with a semicolon.
     Nothing,

@@ -13,7 +13,7 @@ use outside::Source;
 use script_texts::Event;
 
 /// What a script has next.
-#[derive(Clone, Copy, Debug, PartialEq, Eq)]
+#[derive(Clone, Copy)]
 pub enum Next {
     /// The event of the next line that has one.
     One(Event),

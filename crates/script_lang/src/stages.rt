@@ -1,7 +1,7 @@
 // Where a generated script stands.
 
 /// What comes next of a terminal's program: a word of its code, what it has in its accumulators, or its start.
-#[derive(Clone, Copy, Debug, PartialEq, Eq)]
+#[derive(Clone, Copy, PartialEq, Eq)]
 pub(crate) enum Loading {
     /// The word of this number.
     Code(u8),
@@ -15,7 +15,7 @@ pub(crate) enum Loading {
 }
 
 /// What comes next of a generated script.
-#[derive(Clone, Copy, Debug, PartialEq, Eq)]
+#[derive(Clone, Copy, PartialEq, Eq)]
 pub(crate) enum Stage {
     /// The user of this terminal logs in.
     Login(u8),

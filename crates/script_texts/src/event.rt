@@ -7,14 +7,14 @@ use machine_names::{DirName, FileName, ForkName, Tty, TypedText};
 use word36::Word;
 
 /// One to eight words of a file's page. Those past the count are 0.
-#[derive(Clone, Copy, Debug, PartialEq, Eq)]
+#[derive(Clone, Copy)]
 pub struct WordRow {
     pub count: u8,
     pub words: [Word; 8],
 }
 
 /// One line of the console script, with the line's fields in their order.
-#[derive(Clone, Copy, Debug, PartialEq, Eq)]
+#[derive(Clone, Copy)]
 pub enum Event {
     /// A user logs in at a terminal.
     Login(Tty, DirName),
@@ -75,7 +75,7 @@ impl Event {
 
 /// A fork as the machine shows it: its name, its superior's serial or 0, its status, its own
 /// freeze mark, and its program counter.
-#[derive(Clone, Copy, Debug, PartialEq, Eq)]
+#[derive(Clone, Copy)]
 pub struct ForkLine {
     pub name: ForkName,
     pub superior: u32,
@@ -85,7 +85,7 @@ pub struct ForkLine {
 }
 
 /// Why an event did nothing.
-#[derive(Clone, Copy, Debug, PartialEq, Eq)]
+#[derive(Clone, Copy)]
 pub enum Refusal {
     /// The terminal has a job.
     Busy(Tty),
@@ -114,7 +114,7 @@ pub enum Refusal {
 }
 
 /// What the machine shows.
-#[derive(Clone, Copy, Debug, PartialEq, Eq)]
+#[derive(Clone, Copy)]
 pub enum Item {
     /// A character, printed at a terminal.
     Char(Tty, u8),
@@ -130,7 +130,7 @@ pub enum Item {
 }
 
 /// What the machine did: an event, one unit of a fork, or an idle entry of a run.
-#[derive(Clone, Copy, Debug, PartialEq, Eq)]
+#[derive(Clone, Copy)]
 pub enum Step {
     Outer(Event),
     Unit(ForkName),

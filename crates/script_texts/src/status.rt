@@ -1,7 +1,7 @@
 // How forks stand, and what they wait for.
 
 /// What a waiting fork waits for.
-#[derive(Clone, Copy, Debug, PartialEq, Eq)]
+#[derive(Clone, Copy, PartialEq, Eq)]
 pub enum WaitOn {
     /// A character of its terminal.
     Input,
@@ -12,7 +12,7 @@ pub enum WaitOn {
 }
 
 /// How a fork stands (JSYS Manual, RFSTS).
-#[derive(Clone, Copy, Debug, PartialEq, Eq)]
+#[derive(Clone, Copy, PartialEq, Eq)]
 pub enum ForkStatus {
     Run,
     Wait(WaitOn),

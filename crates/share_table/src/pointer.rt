@@ -10,7 +10,7 @@ use word36::Word;
 /// An entry of a map: empty, a page at its home that has no other name, a page that is shared, or
 /// what the page of another fork's space is. The fork is named by its serial, 1 to 262,143, its
 /// page is 0 to 511, and homes and shares are below 16,384.
-#[derive(Clone, Copy, Debug, PartialEq, Eq)]
+#[derive(Clone, Copy, PartialEq, Eq)]
 pub enum Pointer {
     Empty,
     Private(Home, Access),

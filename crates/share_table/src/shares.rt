@@ -17,11 +17,11 @@ pub const MOST_SHARES: u32 = 16384;
 const LAST_COUNT: u32 = u32::MAX;
 
 /// The number of a page that is shared.
-#[derive(Clone, Copy, Debug, PartialEq, Eq)]
+#[derive(Clone, Copy, PartialEq, Eq)]
 pub struct Share(pub u32);
 
 /// A page that is shared: its home, and how many map entries and pages of files name it.
-#[derive(Clone, Copy, Debug, PartialEq, Eq)]
+#[derive(Clone, Copy, PartialEq, Eq)]
 pub struct SharedPage {
     pub home: Home,
     pub count: u32,

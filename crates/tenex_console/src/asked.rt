@@ -23,7 +23,7 @@ const MEMBER_FRAMES: u32 = 128;
 const MOST_MEMBERS: u32 = 63;
 
 /// Why a run did not begin.
-#[derive(Clone, Copy, Debug, PartialEq, Eq)]
+#[derive(Clone, Copy, PartialEq, Eq)]
 pub enum Unbegun {
     /// The words are wrong, or the drum has fewer pages than they ask for.
     Usage,

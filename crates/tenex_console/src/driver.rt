@@ -16,7 +16,7 @@ use script_texts::Taker;
 use texts::{Last, Status};
 
 /// How the driving of a script ended.
-#[derive(Clone, Copy, Debug, PartialEq, Eq)]
+#[derive(Clone, Copy, PartialEq, Eq)]
 pub enum Driven {
     /// The whole script was run.
     Done,

@@ -3,7 +3,7 @@ ghost use Rattle.std.specs.Prelude.{◌≡◌};
 ghost use Rattle.texts.specs.Ends.{status_number};
 
 /// How a run ended, in the order of the exit statuses, 0 to 7.
-#[derive(Clone, Copy, Debug, PartialEq, Eq)]
+#[derive(Clone, Copy, PartialEq, Eq)]
 pub enum Status {
     /// The script was run to its end.
     Done,
@@ -43,7 +43,7 @@ impl Status {
 
 /// What the last lines tell: how often the drum was read and written in a run that is done, or how a run
 /// stopped and at which line of the script, counted from 1. Only `Script` shows the line.
-#[derive(Clone, Copy, Debug, PartialEq, Eq)]
+#[derive(Clone, Copy, PartialEq, Eq)]
 pub enum Last {
     Done { reads: u64, writes: u64 },
     Stopped(Status, u64),

@@ -7,14 +7,14 @@ use crate::line::{Line, RUN_ROOM};
 use machine_names::ForkName;
 
 /// An entry of a RUN line: one unit of a fork, or an idle entry.
-#[derive(Clone, Copy, Debug, PartialEq, Eq)]
+#[derive(Clone, Copy, PartialEq, Eq)]
 pub enum Turn {
     Unit(ForkName),
     Idle,
 }
 
 /// A run of equal turns, and how many they are.
-#[derive(Clone, Copy, Debug, PartialEq, Eq)]
+#[derive(Clone, Copy, PartialEq, Eq)]
 pub struct Turns {
     pub turn: Turn,
     pub count: u64,

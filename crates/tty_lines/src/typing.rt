@@ -15,7 +15,7 @@ pub const ASSIGNABLE_CODES: usize = 0o33;
 pub const CONTROL_C: u8 = 0o3;
 
 /// What becomes of a character that is typed.
-#[derive(Clone, Copy, Debug, PartialEq, Eq)]
+#[derive(Clone, Copy, PartialEq, Eq)]
 pub enum Typed {
     /// It stands last among the stored ones, and is echoed.
     Stored,

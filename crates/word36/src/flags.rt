@@ -1,6 +1,6 @@
 /// The processor's flags (PDP-10 handbook, "Program flags"). Each stays as it is until an
 /// operation sets it or an instruction clears it.
-#[derive(Clone, Copy, Debug, PartialEq, Eq)]
+#[derive(Clone, Copy, PartialEq, Eq)]
 pub struct Flags {
     /// An arithmetic result was no signed word.
     pub overflow: bool,

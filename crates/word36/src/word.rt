@@ -5,7 +5,7 @@ ghost use Rattle.word36.specs.Words.{left, right, joined, signed, word_of};
 use std::marker::Model;
 
 /// A word of 36 bits: a number below 2^36 (PDP-10 handbook, "Number system"). Bit 0 is leftmost.
-#[derive(Clone, Copy, Debug, PartialEq, Eq)]
+#[derive(Clone, Copy, PartialEq, Eq)]
 pub struct Word {
     bits: u64,
 }
