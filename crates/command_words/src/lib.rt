@@ -4,8 +4,6 @@
 #![tactic(auto)]
 
 mod sizes;
-#[cfg(test)]
-mod tests;
 mod words;
 
 pub use sizes::Sizes;

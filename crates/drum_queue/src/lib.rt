@@ -10,6 +10,3 @@ mod transfer;
 pub use laws::transfers_end_in_order;
 pub use queue::Queue;
 pub use transfer::Transfer;
-
-#[cfg(test)]
-mod tests;

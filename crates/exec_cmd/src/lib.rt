@@ -6,8 +6,6 @@
 mod command;
 mod laws;
 mod line;
-#[cfg(test)]
-mod tests;
 mod words;
 
 pub use command::Command;

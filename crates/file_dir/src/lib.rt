@@ -7,8 +7,6 @@ mod dir;
 mod laws;
 mod order;
 mod reading;
-#[cfg(test)]
-mod tests;
 
 pub use dir::{Dir, FilesFull};
 pub use laws::{a_created_file_is_found, a_listing_is_whole};

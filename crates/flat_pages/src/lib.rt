@@ -16,6 +16,3 @@ mod stored_page;
 
 pub use flat_slots::FlatSlots;
 pub use flat_store::FlatStore;
-
-#[cfg(test)]
-mod tests;

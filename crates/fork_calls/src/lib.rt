@@ -13,8 +13,6 @@ mod standing;
 mod step;
 mod storing;
 mod table;
-#[cfg(test)]
-mod tests;
 mod turn;
 mod words;
 

@@ -19,6 +19,3 @@ pub use laws::{
     who_ran_comes_last,
 };
 pub use tree::{NoFork, Tree};
-
-#[cfg(test)]
-mod tests;

@@ -6,6 +6,3 @@
 mod order;
 
 pub use order::{FrameOrder, Iter};
-
-#[cfg(test)]
-mod tests;

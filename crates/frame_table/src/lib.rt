@@ -13,6 +13,3 @@ pub use laws::{
     a_victim_is_not_held, held_frames_keep_their_pages, spent_holds_leave_no_trace, uses_renew_ages,
 };
 pub use tenant::{Hold, MOST_PINS};
-
-#[cfg(test)]
-mod tests;

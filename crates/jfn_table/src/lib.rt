@@ -6,8 +6,6 @@
 mod jfns;
 mod job_jfns;
 mod laws;
-#[cfg(test)]
-mod tests;
 
 pub use jfns::{Jfns, JfnsFull, MOST_JFNS};
 pub use job_jfns::JobJfns;

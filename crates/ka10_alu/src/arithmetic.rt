@@ -236,6 +236,3 @@ fn divide_long(a: Word, a1: Word, m: Word) -> Option<Out>
         false,
     ))
 }
-
-#[cfg(test)]
-mod tests;

@@ -281,6 +281,3 @@ fn find_first_one(a: Word) -> Out
     }
     Out::two_words(a, Word::wrapped(zeros(n) as u64), false)
 }
-
-#[cfg(test)]
-mod tests;

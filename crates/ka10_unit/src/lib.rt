@@ -74,6 +74,3 @@ pub use stacks::{commit_popj, commit_push_or_pop, commit_pushj, pushed};
 pub use taken::{Stop, Taken};
 pub use word_blocks::{make_block, refer_block, store_block};
 pub use words::{commit_blt, commit_boolean, commit_exch, commit_half, commit_test};
-
-#[cfg(test)]
-mod tests;

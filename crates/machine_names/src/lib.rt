@@ -18,6 +18,3 @@ pub use names::{
     SPACE_PAGES, Slot, TERMINALS, Tty,
 };
 pub use text::{DirName, FileName, Text, TypedText};
-
-#[cfg(test)]
-mod tests;

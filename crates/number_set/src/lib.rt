@@ -6,6 +6,3 @@
 mod number_set;
 
 pub use number_set::NumberSet;
-
-#[cfg(test)]
-mod tests;

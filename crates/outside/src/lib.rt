@@ -29,6 +29,3 @@ pub const PAGE_WORDS: usize = 512;
 
 /// How many pages of a drum a run uses at most.
 pub const MOST_DRUM_PAGES: u32 = 16384;
-
-#[cfg(test)]
-mod tests;

@@ -7,8 +7,6 @@ mod bytes;
 mod files;
 mod laws;
 mod lengths;
-#[cfg(test)]
-mod tests;
 
 pub use bytes::{FILE_PAGES, LARGEST_BYTE, MOST_FILES, most_bytes, place};
 pub use files::Files;

@@ -10,8 +10,6 @@ mod naming;
 mod pmap;
 mod stage;
 mod table;
-#[cfg(test)]
-mod tests;
 mod turn;
 
 pub use laws::{

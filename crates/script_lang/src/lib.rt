@@ -5,12 +5,8 @@
 
 mod big;
 mod big_laws;
-#[cfg(test)]
-mod big_tests;
 mod buffer;
 mod canonical;
-#[cfg(test)]
-mod canonical_tests;
 pub mod digits;
 mod draws;
 mod events;
@@ -19,14 +15,10 @@ mod grammar;
 mod keywords;
 mod lines;
 mod named;
-#[cfg(test)]
-mod named_tests;
 mod names;
 mod reached;
 mod rows;
 mod stages;
-#[cfg(test)]
-mod tests;
 mod typed;
 mod verdicts;
 

@@ -10,6 +10,3 @@ mod shares;
 pub use laws::{pointers_come_back, what_joins_may_leave, words_come_back};
 pub use pointer::{Pointer, decode, encode};
 pub use shares::{MOST_SHARES, Share, ShareTable};
-
-#[cfg(test)]
-mod tests;

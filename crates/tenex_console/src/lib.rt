@@ -9,8 +9,6 @@ mod call;
 mod driver;
 mod faultless;
 mod in_memory;
-#[cfg(test)]
-mod tests;
 
 pub use call::tenex;
 pub use faultless::run_faultless;

@@ -15,6 +15,3 @@ mod writer;
 
 pub use last::{Last, Status};
 pub use writer::Writer;
-
-#[cfg(test)]
-mod tests;

@@ -6,6 +6,3 @@
 mod tournament;
 
 pub use tournament::Tournament;
-
-#[cfg(test)]
-mod tests;

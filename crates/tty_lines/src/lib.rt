@@ -5,8 +5,6 @@
 
 mod laws;
 mod line;
-#[cfg(test)]
-mod tests;
 mod typing;
 
 pub use laws::{oldest_first, typed_in_order};

@@ -1,0 +1,13 @@
+//! Tests of the forks of a job and of the monitor calls on forks and maps, over pages in memory.
+//! No layer stands above; to a reader each test is a job's forks and what calls make of them.
+//! Stands on fork_tree, fork_calls, pmap_calls and flat_pages.
+#![tactic(auto)]
+
+#[cfg(test)]
+mod from_fork_calls__tests;
+#[cfg(test)]
+mod from_fork_tree__tests;
+#[cfg(test)]
+mod from_pmap_calls__tests;
+#[cfg(test)]
+mod same;

@@ -1,0 +1,6 @@
+use std::process::Abort;
+
+// Both are the same.
+pub fn same<T: Copy + PartialEq>(rt: &impl Abort, got: T, want: T) {
+    assert!(rt; got == want);
+}
