@@ -1,7 +1,7 @@
 ghost use Rattle.std.specs.Prelude.{◌≡◌, ◌<◌, IfOk, slice_set};
 ghost use Rattle.std.specs.FinMap as map;
-ghost use Rattle.jfn_table.specs.JobFiles.{taken as new_jfn};
-ghost use Rattle.jfn_table.specs.Jobs.{jfns_of};
+ghost use Rattle.plain_files.specs.JobFiles.{taken as new_jfn};
+ghost use Rattle.plain_files.specs.Jobs.{jfns_of};
 
 use super::*;
 use machine_names::{FileNo, Jfn, Mode, TERMINALS, Tty};

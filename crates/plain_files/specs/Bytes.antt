@@ -1,7 +1,7 @@
 -- Where the bytes of a file stand.
 use Rattle.std.specs.Prelude.{◌≡◌, ℕ, ◌+◌, ◌-◌, ◌*◌, ◌/◌, ◌%◌, ◌^◌, ◌≤◌, ◌⊎◌}
 use Rattle.outside.specs.declared.TheConstants.{PAGE_WORDS}
-use Rattle.page_files.specs.declared.bytes.TheConstants.{FILE_PAGES, LARGEST_BYTE}
+use Rattle.plain_files.specs.declared.bounds.TheConstants.{FILE_PAGES, LARGEST_BYTE}
 
 -- a byte has 1 to 36 bits
 abbrev pub IsByteSize : ℕ → Type 0

@@ -5,7 +5,8 @@ use Rattle.std.specs.Coded.{Coded, code_by, coded×, coded_list, coded_ℕ}
 use Rattle.std.specs.Option.{option_map_or}
 use Rattle.std.specs.FinMap as map
 use Rattle.machine_names.specs.declared.names.ForkName.{ForkName}
-use Rattle.tty_lines.specs.declared.typing.TheConstants.{ASSIGNABLE_CODES, CONTROL_C, MOST_STORED}
+use Rattle.machine_names.specs.Orders.{same_fork}
+use Rattle.plain_typing.specs.declared.typed.TheConstants.{ASSIGNABLE_CODES, CONTROL_C, MOST_STORED}
 
 -- the fork and the channel of each code that is assigned
 abbrev pub Codes : Type 0
@@ -44,10 +45,6 @@ pub record IsLine (line : InputLine) : Type 0 where
   pub few : length line.input ≤ MOST_STORED
   pub small : All (λ c. c < 128) line.input
   pub assigned : AreAssigned line.codes
-
--- whether two names are those of one fork
-abbrev pub same_fork : ForkName → ForkName → Bool
-same_fork f g = (f.tty.0 == g.tty.0) && (f.serial == g.serial)
 
 -- whether a code is assigned to a fork
 abbrev pub assigned_to : ForkName → Option (ForkName × ℕ) → Bool

@@ -1,10 +1,10 @@
 -- What the lines say that a user types to the monitor.
 use Rattle.std.specs.Prelude.{ℕ, List, [], ◌∷◌, codes, Bool, if◌then◌else◌, Option, None, Some}
 use Rattle.std.specs.Str.{bytes_eq}
-use Rattle.script_lang.specs.Names.{file_named, raised}
-use Rattle.exec_cmd.specs.declared.command.Command.{Command}
-use Rattle.exec_cmd.specs.declared.command.Command.TheVariants.{Blank, Run, Start, Continue, Directory, Delete, Logout, Unknown}
-use Rattle.exec_cmd.specs.Words.{words}
+use Rattle.machine_names.specs.FileNames.{file_named, raised}
+use Rattle.plain_typing.specs.declared.command.Command.{Command}
+use Rattle.plain_typing.specs.declared.command.Command.TheVariants.{Blank, Run, Start, Continue, Directory, Delete, Logout, Unknown}
+use Rattle.plain_typing.specs.Words.{words}
 
 -- whether a word is this one, its small letters raised
 abbrev pub says : List ℕ → List ℕ → Bool

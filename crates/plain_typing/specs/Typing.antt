@@ -2,11 +2,11 @@
 use Rattle.std.specs.Prelude.{ℕ, List, [], ◌∷◌, ◌++◌, length, Bool, nat_lt, is_none, ◌&&◌, not, ◌==◌, if◌then◌else◌, Option, None, Some}
 use Rattle.std.specs.FinMap as map
 use Rattle.machine_names.specs.declared.names.ForkName.{ForkName}
-use Rattle.tty_lines.specs.declared.typing.Typed.{Typed}
-use Rattle.tty_lines.specs.declared.typing.Typed.TheVariants.{Stored, Dropped, Posts, ControlC}
-use Rattle.tty_lines.specs.declared.typing.TheConstants.{CONTROL_C, MOST_STORED}
-use Rattle.tty_lines.specs.Characters.{read_as}
-use Rattle.tty_lines.specs.Lines.{InputLine, Codes}
+use Rattle.plain_typing.specs.declared.typed.Typed.{Typed}
+use Rattle.plain_typing.specs.declared.typed.Typed.TheVariants.{Stored, Dropped, Posts, ControlC}
+use Rattle.plain_typing.specs.declared.typed.TheConstants.{CONTROL_C, MOST_STORED}
+use Rattle.plain_typing.specs.Characters.{read_as}
+use Rattle.plain_typing.specs.Lines.{InputLine, Codes}
 
 -- a character that nobody has assigned: it is stored where there is room
 abbrev pub stored_or_dropped : List ℕ → Typed

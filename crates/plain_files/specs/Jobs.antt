@@ -3,7 +3,7 @@ use Rattle.std.specs.Prelude.{ℕ, List, replicate, slice_index_or}
 use Rattle.std.specs.List.{sum_by}
 use Rattle.std.specs.FinMap as map
 use Rattle.machine_names.specs.declared.names.TheConstants.{TERMINALS}
-use Rattle.jfn_table.specs.JobFiles.{Held, names_in}
+use Rattle.plain_files.specs.JobFiles.{Held, names_in}
 
 -- the JFNs of the job at a terminal
 abbrev pub jfns_of : List Held → ℕ → Held

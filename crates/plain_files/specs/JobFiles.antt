@@ -4,11 +4,11 @@ use Rattle.std.specs.Option.{IsSomeAnd}
 use Rattle.std.specs.Ordering.{nat_cmp}
 use Rattle.std.specs.FinMap as map
 use Rattle.number_map.specs.Numbers.{IsLeastFree}
-use Rattle.machine_names.specs.declared.file.Jfn.{Jfn}
-use Rattle.machine_names.specs.declared.file.Mode.{Mode}
-use Rattle.page_files.specs.declared.bytes.TheConstants.{LARGEST_BYTE, MOST_FILES}
-use Rattle.page_files.specs.Bytes.{IsByteSize, most_bytes}
-use Rattle.jfn_table.specs.declared.jfns.TheConstants.{MOST_JFNS}
+use Rattle.plain_files.specs.declared.jfn.Jfn.{Jfn}
+use Rattle.plain_files.specs.declared.jfn.Mode.{Mode}
+use Rattle.plain_files.specs.declared.bounds.TheConstants.{LARGEST_BYTE, MOST_FILES}
+use Rattle.plain_files.specs.Bytes.{IsByteSize, most_bytes}
+use Rattle.plain_files.specs.declared.bounds.TheConstants.{MOST_JFNS}
 
 -- the JFNs that a job holds, each under its number
 abbrev pub Held : Type 0
@@ -47,11 +47,6 @@ names_in m f = count_by (λ jfn. jfn.file.0 == f) (map.values m)
 -- no JFN stands for the file
 abbrev pub NamesNowhere : Held → ℕ → Type 0
 NamesNowhere m f = (n : ℕ) → IfSome (map.get m n) (λ jfn. jfn.file.0 ≢ f)
-
--- for each file there is how many JFNs name it
-pub record CountNames (names : List ℕ) (m : Held) : Type 0 where
-  pub size : length names ≡ MOST_FILES
-  pub counts : (f : ℕ) → f < MOST_FILES → slice_index names f ≡ names_in m f
 
 -- there was room, and the least free number was given to a file
 pub record TakesLeast (old new : Held) (f n : ℕ) : Type 0 where

@@ -1,5 +1,5 @@
 // How files are open.
-use crate::FileNo;
+use machine_names::FileNo;
 
 /// How a file is open.
 #[derive(Clone, Copy)]
