@@ -6,7 +6,7 @@ use word36::Word;
 #[test]
 fn functions_of_two_words(rt: HostRuntime) {
     // The accumulator has the bits 0011, the memory operand 0101, nine times.
-    for (op, result) in [
+    for &(op, result) in &[
         (0o400, 0o000000000000),
         (0o404, 0o042104210421),
         (0o410, 0o210421042104),
@@ -34,7 +34,7 @@ fn functions_of_two_words(rt: HostRuntime) {
 
 #[test]
 fn functions_of_edge_words(rt: HostRuntime) {
-    for (op, a, m, result) in [
+    for &(op, a, m, result) in &[
         (0o404, 0o777777777777, 0o400000000001, 0o400000000001),
         (0o410, 0o377777777777, 0o400000000001, 0o400000000000),
         (0o420, 0o400000000001, 0o400000000000, 0o000000000001),

@@ -8,7 +8,7 @@ const NAME: u64 = 0o472031542576;
 
 #[test]
 fn next_bytes(rt: HostRuntime) {
-    for (pointer, next) in [
+    for &(pointer, next) in &[
         (0o350700001000, 0o260700001000),
         (0o010700001000, 0o350700001001),
         (0o440700001000, 0o350700001000),
@@ -33,7 +33,7 @@ fn next_bytes(rt: HostRuntime) {
 
 #[test]
 fn bytes_of_a_word(rt: HostRuntime) {
-    for (pointer, byte) in [
+    for &(pointer, byte) in &[
         (0o350700001000, 0o116),
         (0o260700001000, 0o101),
         (0o010700001000, 0o077),
@@ -52,7 +52,7 @@ fn bytes_of_a_word(rt: HostRuntime) {
 
 #[test]
 fn bytes_put_into_a_word(rt: HostRuntime) {
-    for (pointer, byte, word) in [
+    for &(pointer, byte, word) in &[
         (0o350700001000, 0o101, 0o406031542576),
         (0o350700001000, 0o777777777701, 0o406031542576),
         (0o010700001000, 0o101, 0o472031542602),

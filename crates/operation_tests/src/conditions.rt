@@ -8,7 +8,7 @@ fn conditions_of_edge_words(rt: HostRuntime) {
     let negative = [false, true, false, true, true, false, true, false];
     let zero = [false, false, true, true, true, true, false, false];
     let positive = [false, false, false, false, true, true, true, true];
-    for (word, answers) in [
+    for &(word, answers) in &[
         (0, zero),
         (1, positive),
         (0o777777777777, negative),

@@ -5,7 +5,7 @@ use word36::Word;
 
 #[test]
 fn halves_of_400000000001_to_123456654321(rt: HostRuntime) {
-    for (op, result) in [
+    for &(op, result) in &[
         (0o500, 0o400000654321),
         (0o503, 0o400000654321),
         (0o504, 0o000001654321),
@@ -34,7 +34,7 @@ fn halves_of_400000000001_to_123456654321(rt: HostRuntime) {
 
 #[test]
 fn halves_of_edge_words_extended(rt: HostRuntime) {
-    for (word, hlle, hrle, hrre, hlre) in [
+    for &(word, hlle, hrle, hrre, hlre) in &[
         (0, 0, 0, 0, 0),
         (1, 0, 0o000001000000, 1, 0),
         (

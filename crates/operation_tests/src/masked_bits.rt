@@ -5,7 +5,7 @@ use word36::Word;
 
 #[test]
 fn words_and_skips(rt: HostRuntime) {
-    for (op, a, mask, word, skips) in [
+    for &(op, a, mask, word, skips) in &[
         (0o600, 7, 2, 7, false),
         (0o602, 7, 2, 7, false),
         (0o604, 7, 2, 7, true),
@@ -28,7 +28,7 @@ fn words_and_skips(rt: HostRuntime) {
 
 #[test]
 fn edge_words(rt: HostRuntime) {
-    for (op, a, mask, word, skips) in [
+    for &(op, a, mask, word, skips) in &[
         (0o630, 0o777777777777, 0o377777777777, 0o400000000000, false),
         (0o632, 0o000000000001, 0o400000000000, 0o000000000001, true),
         (0o654, 0o400000000001, 0o777777777777, 0o377777777776, true),
@@ -45,7 +45,7 @@ fn edge_words(rt: HostRuntime) {
 
 #[test]
 fn masks(rt: HostRuntime) {
-    for (op, m, masked) in [
+    for &(op, m, masked) in &[
         (0o600, 0o000000400001, 0o000000400001),
         (0o621, 0o000000400001, 0o400001000000),
         (0o650, 0o400000000001, 0o400000000001),

@@ -16,7 +16,7 @@ fn rows_without_an_instruction(rt: HostRuntime) {
 
 #[test]
 fn rows_of_the_handbook(rt: HostRuntime) {
-    for (op, family, mode, code) in [
+    for &(op, family, mode, code) in &[
         (0o000, Illegal, Basic, 0),
         (0o037, Local, Basic, 0o36),
         (0o104, Monitor, Basic, 0),

@@ -1,8 +1,10 @@
-use super::*;
+// What is done for opcodes.
+use crate::same::{same, same_at};
+use ka10_unit::{Act, act_at};
 
 #[test]
 fn acts_of_the_handbook(rt: HostRuntime) {
-    for (op, act) in [
+    for &(op, act) in &[
         (0o000, Act::Illegal),
         (0o037, Act::Local),
         (0o104, Act::Jsys),
@@ -24,8 +26,17 @@ fn acts_of_the_handbook(rt: HostRuntime) {
         (0o777, Act::Illegal),
     ] {
         assert!(rt; op < 512);
-        assert_eq!(rt; act_at(op), act, "at {op}");
+        same_at(&rt, op, act_at(op), act);
     }
-    let illegal = ACTS.iter().filter(|act| **act == Act::Illegal).count();
-    assert_eq!(rt; illegal, 157);
+}
+
+#[test]
+fn opcodes_without_an_instruction(rt: HostRuntime) {
+    let mut illegal = 0;
+    for op in 0..512 {
+        if act_at(op) == Act::Illegal {
+            illegal += 1;
+        }
+    }
+    same(&rt, illegal, 157);
 }

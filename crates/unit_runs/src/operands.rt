@@ -1,11 +1,20 @@
-use super::*;
+// Which word an instruction takes, and where it stores one.
+use crate::same::same_at;
 use ka10_table::row;
+use ka10_unit::{Destination, destination_of, operand_address};
+use plain_units::Regs;
 use word36::{Flags, Word};
 
 // AC is accumulator 3 with the word 2000,,3000, and E is 1000.
 #[test]
 fn places_of_words(rt: HostRuntime) {
-    for (op, operand, stores) in [
+    let mut regs = Regs {
+        ac: [Word::ZERO; 16],
+        pc: 0o100,
+        flags: Flags::CLEAR,
+    };
+    regs.ac[3] = Word::wrapped(0o002000003000);
+    for &(op, operand, stores) in &[
         (0o200, Some(0o1000), Destination::Nowhere),
         (0o201, None, Destination::Nowhere),
         (0o202, None, Destination::Into(0o1000)),
@@ -35,14 +44,8 @@ fn places_of_words(rt: HostRuntime) {
         (0o612, Some(0o1000), Destination::Nowhere),
     ] {
         assert!(rt; op < 512);
-        let mut regs = Regs {
-            ac: [Word::ZERO; 16],
-            pc: 0o100,
-            flags: Flags::CLEAR,
-        };
-        regs.ac[3] = Word::wrapped(0o002000003000);
         let row = row(op);
-        assert_eq!(rt; operand_address(row, &regs, 3, 0o1000), operand, "at {op}");
-        assert_eq!(rt; destination_of(row, &regs, 3, 0o1000), stores, "at {op}");
+        same_at(&rt, op, operand_address(row, &regs, 3, 0o1000), operand);
+        same_at(&rt, op, destination_of(row, &regs, 3, 0o1000), stores);
     }
 }

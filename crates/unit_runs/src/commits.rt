@@ -2,9 +2,11 @@
 // the instruction stands at 100, and the flags are told as a left half.
 ghost use Rattle.std.specs.Prelude.{◌<◌, ◌^◌};
 
-use crate::{Committed, Post, commit_row, flags_of, half_of_flags};
+use crate::same::same_at;
 use ka10_table::row;
+use ka10_unit::{Committed, Post, commit_row, flags_of, half_of_flags};
 use plain_units::Regs;
+use std::process::Abort;
 use word36::Word;
 
 // The accumulator, and the one behind it.
@@ -36,13 +38,104 @@ fn registers(a: u64, a1: u64) -> Regs
 }
 
 fn stored(told: Committed) -> Option<u64> {
-    told.stored.map(|word| word.value())
+    match told.stored {
+        Some(word) => Some(word.value()),
+        None => None,
+    }
+}
+
+// Operations: the opcode, AC, the accumulator behind it and the operand; then AC, the accumulator
+// behind it, the word that is stored, the flags and the post.
+fn operate(rt: &impl Abort, rows: &[(u16, u64, u64, u64, u64, u64, Option<u64>, u32, Post)]) {
+    for &(op, a, a1, m, ac, next, word, flags, post) in rows {
+        assert!(rt; op < 512);
+        let mut regs = registers(a, a1);
+        let m = Word::wrapped(m);
+        let told = commit_row(row(op), op, &mut regs, AC, 0o1000, Word::ZERO, m);
+        same_at(rt, ("AC", op), regs.ac[3].value(), ac);
+        same_at(rt, ("AC plus 1", op), regs.ac[4].value(), next);
+        same_at(rt, ("stored", op), stored(told), word);
+        same_at(rt, ("flags", op), half_of_flags(regs.flags), flags);
+        same_at(rt, ("post", op), told.post, post);
+        same_at(rt, ("PC", op), regs.pc, 0o101);
+    }
+}
+
+// Shifts: the opcode, AC, the accumulator behind it and the effective address; then AC, the
+// accumulator behind it, the program counter and the flags.
+fn shift(rt: &impl Abort, rows: &[(u16, u64, u64, u32, u64, u64, u32, u32)]) {
+    for &(op, a, a1, e, ac, next, pc, flags) in rows {
+        assert!(rt; op < 512 && e < 1 << 18);
+        let mut regs = registers(a, a1);
+        let told = commit_row(row(op), op, &mut regs, AC, e, Word::ZERO, Word::ZERO);
+        same_at(rt, ("AC", op), regs.ac[3].value(), ac);
+        same_at(rt, ("AC plus 1", op), regs.ac[4].value(), next);
+        same_at(rt, ("PC", op), regs.pc, pc);
+        same_at(rt, ("flags", op), half_of_flags(regs.flags), flags);
+        same_at(
+            rt,
+            ("post", op),
+            told.post == Post::Overflow,
+            flags == OVERFLOW,
+        );
+        same_at(rt, ("stored", op), stored(told), None);
+    }
+}
+
+// Jumps and skips: the opcode, AC and the operand; then AC, the word that is stored, the program
+// counter and the flags.
+fn jump(rt: &impl Abort, rows: &[(u16, u64, u64, u64, Option<u64>, u32, u32)]) {
+    for &(op, a, m, ac, word, pc, flags) in rows {
+        assert!(rt; op < 512);
+        let mut regs = registers(a, 6);
+        let m = Word::wrapped(m);
+        let told = commit_row(row(op), op, &mut regs, AC, 0o1000, Word::ZERO, m);
+        same_at(rt, ("AC", op), regs.ac[3].value(), ac);
+        same_at(rt, ("stored", op), stored(told), word);
+        same_at(rt, ("PC", op), regs.pc, pc);
+        same_at(rt, ("flags", op), half_of_flags(regs.flags), flags);
+        same_at(
+            rt,
+            ("post", op),
+            told.post == Post::Overflow,
+            flags == OVERFLOW_CARRY1,
+        );
+    }
+}
+
+// Stacks: the opcode, AC and the operand; then AC, the word that is stored, the program counter and
+// the post.
+fn stack(rt: &impl Abort, rows: &[(u16, u64, u64, u64, Option<u64>, u32, Post)]) {
+    for &(op, a, m, ac, word, pc, post) in rows {
+        assert!(rt; op < 512);
+        let mut regs = registers(a, 6);
+        let m = Word::wrapped(m);
+        let told = commit_row(row(op), op, &mut regs, AC, 0o1000, Word::ZERO, m);
+        same_at(rt, ("AC", op), regs.ac[3].value(), ac);
+        same_at(rt, ("stored", op), stored(told), word);
+        same_at(rt, ("PC", op), regs.pc, pc);
+        same_at(rt, ("post", op), told.post, post);
+    }
+}
+
+// Flags: the opcode, its AC, the flags before and the word last taken for the address; then the
+// program counter and the flags.
+fn change_flags(rt: &impl Abort, rows: &[(u16, u8, u32, u64, u32, u32)]) {
+    for &(op, ac, before, last, pc, after) in rows {
+        assert!(rt; op < 512 && ac < 16 && before < 1 << 18);
+        let mut regs = registers(0, 0);
+        regs.flags = flags_of(before);
+        let last = Word::wrapped(last);
+        commit_row(row(op), op, &mut regs, ac, 0o1000, last, Word::ZERO);
+        same_at(rt, ("PC", op), regs.pc, pc);
+        same_at(rt, ("flags", op), half_of_flags(regs.flags), after);
+    }
 }
 
 #[test]
 #[rattlefmt::skip]
 fn operations(rt: HostRuntime) {
-    for (op, a, a1, m, ac, next, word, flags, post) in [
+    operate(&rt, &[
         // MOVE, MOVEI, MOVEM, MOVES
         (0o200, 5, 6, 0o123456654321, 0o123456654321, 6, None, NONE, Post::Nothing),
         (0o201, 5, 6, 0o1000, 0o1000, 6, None, NONE, Post::Nothing),
@@ -99,23 +192,13 @@ fn operations(rt: HostRuntime) {
         (0o562, 5, 6, 0, 5, 6, Some(0o777777000005), NONE, Post::Nothing),
         // EXCH
         (0o250, 5, 6, 7, 7, 6, Some(5), NONE, Post::Nothing),
-    ] {
-        assert!(rt; op < 512);
-        let mut regs = registers(a, a1);
-        let told = commit_row(row(op), op, &mut regs, AC, 0o1000, Word::ZERO, Word::wrapped(m));
-        assert_eq!(rt; regs.ac[3].value(), ac, "AC at {op}");
-        assert_eq!(rt; regs.ac[4].value(), next, "AC plus 1 at {op}");
-        assert_eq!(rt; stored(told), word, "stored at {op}");
-        assert_eq!(rt; half_of_flags(regs.flags), flags, "flags at {op}");
-        assert_eq!(rt; told.post, post, "post at {op}");
-        assert_eq!(rt; regs.pc, 0o101, "PC at {op}");
-    }
+    ]);
 }
 
 #[test]
 #[rattlefmt::skip]
 fn shifts(rt: HostRuntime) {
-    for (op, a, a1, e, ac, next, pc, flags) in [
+    shift(&rt, &[
         // ASH by 1, which loses a bit, and by -1
         (0o240, 1 << 34, 6, 1, 0, 6, 0o101, OVERFLOW),
         (0o240, 1 << 35, 6, 0o777777, 0o600000000000, 6, 0o101, NONE),
@@ -130,27 +213,13 @@ fn shifts(rt: HostRuntime) {
         (0o244, 0, 1 << 34, 1, 1, 0, 0o101, NONE),
         (0o245, 1, 5, 0o44, 5, 1, 0o101, NONE),
         (0o246, 1, 5, 0o44, 5, 0, 0o101, NONE),
-    ] {
-        assert!(rt; op < 512 && e < 1 << 18);
-        let mut regs = registers(a, a1);
-        let told = commit_row(row(op), op, &mut regs, AC, e, Word::ZERO, Word::ZERO);
-        assert_eq!(rt; regs.ac[3].value(), ac, "AC at {op}");
-        assert_eq!(rt; regs.ac[4].value(), next, "AC plus 1 at {op}");
-        assert_eq!(rt; regs.pc, pc, "PC at {op}");
-        assert_eq!(rt; half_of_flags(regs.flags), flags, "flags at {op}");
-        assert_eq!(rt;
-            told.post == Post::Overflow,
-            flags == OVERFLOW,
-            "post at {op}"
-        );
-        assert_eq!(rt; stored(told), None, "stored at {op}");
-    }
+    ]);
 }
 
 #[test]
 #[rattlefmt::skip]
 fn jumps_and_skips(rt: HostRuntime) {
-    for (op, a, m, ac, word, pc, flags) in [
+    jump(&rt, &[
         // CAIL, CAIE, CAMG of -1 and 0, CAMA
         (0o301, 0o777777777777, 0, 0o777777777777, None, 0o102, NONE),
         (0o302, 0o777777777777, 0, 0o777777777777, None, 0o101, NONE),
@@ -191,26 +260,13 @@ fn jumps_and_skips(rt: HostRuntime) {
         (0o251, 0o005000001000, 7, 0o005001001001, Some(7), 0o101, NONE),
         (0o251, 0o005000000003, 0o000010000020, 0o000011000021, Some(0o000010000020), 0o100, NONE),
         (0o251, 0o777777777777, 7, 0, Some(7), 0o101, NONE),
-    ] {
-        assert!(rt; op < 512);
-        let mut regs = registers(a, 6);
-        let told = commit_row(row(op), op, &mut regs, AC, 0o1000, Word::ZERO, Word::wrapped(m));
-        assert_eq!(rt; regs.ac[3].value(), ac, "AC at {op}");
-        assert_eq!(rt; stored(told), word, "stored at {op}");
-        assert_eq!(rt; regs.pc, pc, "PC at {op}");
-        assert_eq!(rt; half_of_flags(regs.flags), flags, "flags at {op}");
-        assert_eq!(rt;
-            told.post == Post::Overflow,
-            flags == OVERFLOW_CARRY1,
-            "post at {op}"
-        );
-    }
+    ]);
 }
 
 #[test]
 #[rattlefmt::skip]
 fn stacks(rt: HostRuntime) {
-    for (op, a, m, ac, word, pc, post) in [
+    stack(&rt, &[
         // PUSHJ, PUSH, POP and POPJ, each at the limit too
         (0o260, 0o777770001000, 0, 0o777771001001, Some(0o010000000101), 0o1000, Post::Nothing),
         (0o260, 0o777777001000, 0, 0o000000001001, Some(0o010000000101), 0o1000, Post::Pushdown),
@@ -220,21 +276,13 @@ fn stacks(rt: HostRuntime) {
         (0o262, 0o000000001001, 7, 0o777777001000, Some(7), 0o101, Post::Pushdown),
         (0o263, 0o000002001001, 0o010000000200, 0o000001001000, None, 0o200, Post::Nothing),
         (0o263, 0o000000001001, 0o010000000200, 0o777777001000, None, 0o200, Post::Pushdown),
-    ] {
-        assert!(rt; op < 512);
-        let mut regs = registers(a, 6);
-        let told = commit_row(row(op), op, &mut regs, AC, 0o1000, Word::ZERO, Word::wrapped(m));
-        assert_eq!(rt; regs.ac[3].value(), ac, "AC at {op}");
-        assert_eq!(rt; stored(told), word, "stored at {op}");
-        assert_eq!(rt; regs.pc, pc, "PC at {op}");
-        assert_eq!(rt; told.post, post, "post at {op}");
-    }
+    ]);
 }
 
 #[test]
 #[rattlefmt::skip]
 fn flags(rt: HostRuntime) {
-    for (op, ac, before, last, pc, after) in [
+    change_flags(&rt, &[
         // JRST, and with bit 2 of AC
         (0o254, 0, OVERFLOW, 0, 0o1000, OVERFLOW),
         (0o254, 2, OVERFLOW, 0o020040000000, 0o1000, 0o030040),
@@ -250,20 +298,12 @@ fn flags(rt: HostRuntime) {
         (0o265, AC, 0o430000, 0, 0o1000, OVERFLOW),
         // Flags stay set
         (0o270, AC, 0o430040, 0, 0o101, 0o430040),
-    ] {
-        assert!(rt; op < 512 && ac < 16 && before < 1 << 18);
-        let mut regs = registers(0, 0);
-        regs.flags = flags_of(before);
-        let last = Word::wrapped(last);
-        commit_row(row(op), op, &mut regs, ac, 0o1000, last, Word::ZERO);
-        assert_eq!(rt; regs.pc, pc, "PC at {op}");
-        assert_eq!(rt; half_of_flags(regs.flags), after, "flags at {op}");
-    }
+    ]);
 }
 
 #[test]
 fn accumulator_0_in_mode_s(rt: HostRuntime) {
-    for (op, m, word) in [
+    for &(op, m, word) in &[
         (0o203, 7, Some(7)),
         (0o213, 7, Some(0o777777777771)),
         (0o553, 7, Some(7)),
@@ -273,17 +313,10 @@ fn accumulator_0_in_mode_s(rt: HostRuntime) {
         assert!(rt; op < 512);
         let mut regs = registers(0, 0);
         regs.ac[0] = Word::wrapped(5);
-        let told = commit_row(
-            row(op),
-            op,
-            &mut regs,
-            0,
-            0o1000,
-            Word::ZERO,
-            Word::wrapped(m),
-        );
-        assert_eq!(rt; regs.ac[0].value(), 5, "AC at {op}");
-        assert_eq!(rt; stored(told), word, "stored at {op}");
+        let m = Word::wrapped(m);
+        let told = commit_row(row(op), op, &mut regs, 0, 0o1000, Word::ZERO, m);
+        same_at(&rt, ("AC", op), regs.ac[0].value(), 5);
+        same_at(&rt, ("stored", op), stored(told), word);
     }
 }
 
@@ -300,6 +333,6 @@ fn the_accumulator_behind_the_last_is_the_first(rt: HostRuntime) {
         Word::ZERO,
         Word::wrapped(2),
     );
-    assert_eq!(rt; regs.ac[15].value(), 3);
-    assert_eq!(rt; regs.ac[0].value(), 1);
+    same_at(&rt, "AC", regs.ac[15].value(), 3);
+    same_at(&rt, "AC plus 1", regs.ac[0].value(), 1);
 }

@@ -1,5 +1,5 @@
 use Rattle.std.proofs.Common.{arith}
-use Rattle.flat_pages.proofs.tests.pages_of_two_forks.Goals as goal
+use Rattle.unit_runs.proofs.page_steps.come_so.Goals as goal
 
 pub first_wrong-requires-clause-few : goal.first_wrong-requires-clause-few
 first_wrong-requires-clause-few g c = omega (arith, c.in_ok-pages.ensures.forks (record { 0 = 3 }))
