@@ -107,11 +107,17 @@ fn is_last(got: Next, want: Next) -> bool {
     }
 }
 
-// A script gives so many events, and then this last answer.
-fn ends_so<S: Source>(rt: &impl Abort, script: &[u8], source: &mut S, want: (u64, Next)) {
+// A source gives so many events, and then this last answer.
+fn ends_so<S: Source>(source: &mut S, want: (u64, Next)) -> bool {
     let (events, last) = ends(source);
-    same_for(rt, script, events, want.0);
-    same_for(rt, script, is_last(last, want.1), true);
+    events == want.0 && is_last(last, want.1)
+}
+
+// So does a script in pieces of so many bytes, where the read of this number fails.
+fn gives(rt: &impl Abort, script: &[u8], most: usize, fails: u64, want: (u64, Next)) {
+    let is_given = ends_so(&mut Pieces::new(script, most, fails), want);
+    let text = str::from_utf8(script).unwrap_or("other bytes");
+    assert!(rt; is_given, "read {fails} fails, pieces of {most}: {text}");
 }
 
 const LONG_LINE: [u8; 9000] = [b'A'; 9000];
@@ -151,10 +157,10 @@ fn ends_the_same_in_all_pieces(rt: HostRuntime) -> Result<(), Fail> {
         (&LONG_LINE, (0, Next::Bad(1))),
     ] {
         for most in [1, 5, 9000] {
-            ends_so(&rt, bytes, &mut Pieces::new(bytes, most, 0), want);
+            gives(&rt, bytes, most, 0, want);
         }
         let mut source = MemSource::new(bytes.to_vec(alloc)?, Vec::new(alloc));
-        ends_so(&rt, bytes, &mut source, want);
+        same_for(&rt, bytes, ends_so(&mut source, want), true);
     }
     Ok(())
 }
@@ -183,12 +189,7 @@ fn a_failed_read_is_told_behind_what_was_known(rt: HostRuntime) {
         (19, 1, (0, Next::ReadFault)),
         (19, 2, (2, Next::Bad(4))),
     ] {
-        ends_so(
-            &rt,
-            BAD_FOURTH,
-            &mut Pieces::new(BAD_FOURTH, most, fails),
-            want,
-        );
+        gives(&rt, BAD_FOURTH, most, fails, want);
     }
 }
 
@@ -202,7 +203,7 @@ fn a_failed_read_is_told_at_the_end(rt: HostRuntime) {
         (b"RUN 5\nTOCK\n", (1, Next::Bad(2))),
     ] {
         let fails = if bytes.is_empty() { 1 } else { 2 };
-        ends_so(&rt, bytes, &mut Pieces::new(bytes, 100, fails), want);
+        gives(&rt, bytes, 100, fails, want);
     }
 }
 
@@ -218,7 +219,7 @@ fn a_failed_read_is_told_within_a_long_line(rt: HostRuntime) {
         (&ended, 3, (0, Next::ReadFault)),
         (&ended, 4, (0, Next::Bad(1))),
     ] {
-        ends_so(&rt, bytes, &mut Pieces::new(bytes, 100, fails), want);
+        gives(&rt, bytes, 100, fails, want);
     }
 }
 
@@ -265,19 +266,11 @@ const COMMENT: [u8; 255] = [b';'; 255];
 
 #[test]
 fn stops_at_the_limits(rt: HostRuntime) {
-    let mut pokes = Endless {
-        line: b"POKE 0 100 350002000000",
-        at: 0,
-    };
-    ends_so(&rt, pokes.line, &mut pokes, (699_050, Next::Long));
-    let mut runs = Endless {
-        line: b"RUN 1000000",
-        at: 0,
-    };
-    ends_so(&rt, runs.line, &mut runs, (1_099_511, Next::Bad(1_099_512)));
-    let mut comments = Endless {
-        line: &COMMENT,
-        at: 0,
-    };
-    ends_so(&rt, comments.line, &mut comments, (0, Next::Long));
+    for (line, want) in [
+        (b"POKE 0 100 350002000000".as_slice(), (699_050, Next::Long)),
+        (b"RUN 1000000", (1_099_511, Next::Bad(1_099_512))),
+        (&COMMENT, (0, Next::Long)),
+    ] {
+        same_for(&rt, line, ends_so(&mut Endless { line, at: 0 }, want), true);
+    }
 }

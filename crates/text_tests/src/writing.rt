@@ -3,7 +3,6 @@ use crate::events::spells;
 use crate::same::same;
 use machine_names::{DirName, ForkName, Tty, TypedText};
 use outside::{Failed, MemSink, Sink};
-use script_lang::{Read, read_line};
 use script_texts::{Event, ForkLine, ForkStatus, Item, Refusal, Step, Taker, WaitOn};
 use std::alloc::Global;
 use std::process::Abort;
@@ -127,15 +126,13 @@ fn writes_each_item(rt: HostRuntime) -> Result<(), Fail> {
     Ok(())
 }
 
-// Writes what a line types, behind two pieces of a run.
-fn write_pieces(writer: &mut InMemory<'_>, line: &[u8]) -> Result<(), Failed> {
+// Writes what is typed behind two pieces of a run.
+fn write_pieces(writer: &mut InMemory<'_>) -> Result<(), Failed> {
     writer.step(Step::Unit(FORK))?;
     writer.step(Step::Unit(FORK))?;
     writer.step(Step::Outer(Event::Tick))?;
     writer.step(Step::Unit(FORK))?;
-    if let Read::One(Event::TypeIn(tty, text)) = read_line(line) {
-        writer.step(Step::Outer(Event::TypeIn(tty, text)))?;
-    }
+    writer.step(Step::Outer(Event::TypeIn(Tty(10), TypedText::new(b"A \\\r"))))?;
     writer.step(Step::Outer(Event::Trace(true)))?;
     writer.finish(Last::Done {
         reads: 3,
@@ -150,7 +147,7 @@ fn joins_a_run_over_pieces(rt: HostRuntime) -> Result<(), Fail> {
     let line = b"TYPE 10 A \\134\\015".as_slice();
     let typed = Event::TypeIn(Tty(10), TypedText::new(b"A \\\r"));
     same(&rt, spells(line, &typed), true);
-    let written = write_pieces(&mut Writer::new(&mut out, &mut rec), line);
+    let written = write_pieces(&mut Writer::new(&mut out, &mut rec));
     same(&rt, written, Ok(()));
     let record = b"U 0 1 2\nTICK\nU 0 1 1\nTYPE 10 A \\134\\015\nTRACE ON\nE 3 40\n";
     have(&rt, &out, &rec, b"", record);

@@ -32,10 +32,10 @@ fn acts_of_the_handbook(rt: HostRuntime) {
 
 #[test]
 fn opcodes_without_an_instruction(rt: HostRuntime) {
-    let mut illegal = 0;
+    let mut illegal = 0_u16;
     for op in 0..512 {
         if act_at(op) == Act::Illegal {
-            illegal += 1;
+            illegal = illegal.saturating_add(1);
         }
     }
     same(&rt, illegal, 157);

@@ -60,6 +60,12 @@ fn pointers(rt: HostRuntime) {
     let told = commit_increment(&mut regs, 3, 0o2000, pointer);
     same_at(&rt, "incremented", told.stored, next);
     same_at(&rt, "incremented", standing(&regs), (0o101, NONE));
+}
+
+#[test]
+fn first_parts(rt: HostRuntime) {
+    let pointer = Word::wrapped(0o010700001000);
+    let next = Some(Word::wrapped(0o350700001001));
     let mut regs = registers(5, NONE);
     let told = commit_first_part(&mut regs, 3, 0o2000, pointer);
     same_at(&rt, "first part", told.stored, next);

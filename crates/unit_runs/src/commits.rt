@@ -56,7 +56,7 @@ fn operate(rt: &impl Abort, rows: &[(u16, u64, u64, u64, u64, u64, Option<u64>, 
         same_at(rt, ("AC plus 1", op), regs.ac[4].value(), next);
         same_at(rt, ("stored", op), stored(told), word);
         same_at(rt, ("flags", op), half_of_flags(regs.flags), flags);
-        same_at(rt, ("post", op), told.post, post);
+        same_at(rt, ("post", op), told.post == post, true);
         same_at(rt, ("PC", op), regs.pc, 0o101);
     }
 }
@@ -114,7 +114,7 @@ fn stack(rt: &impl Abort, rows: &[(u16, u64, u64, u64, Option<u64>, u32, Post)])
         same_at(rt, ("AC", op), regs.ac[3].value(), ac);
         same_at(rt, ("stored", op), stored(told), word);
         same_at(rt, ("PC", op), regs.pc, pc);
-        same_at(rt, ("post", op), told.post, post);
+        same_at(rt, ("post", op), told.post == post, true);
     }
 }
 

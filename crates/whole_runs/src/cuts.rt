@@ -42,7 +42,14 @@ fn a_script_may_end_after_each_line_alone(rt: HostRuntime) {
         for length in end..next {
             let ran = made(&rt, run_script(rt.alloc(), front(length)));
             if length == end {
-                assert_ended_at(&rt, length, &ran, Status::Done, (out, b""), (rec, b"E 0 0\n"));
+                assert_ended_at(
+                    &rt,
+                    length,
+                    &ran,
+                    Status::Done,
+                    (out, b""),
+                    (rec, b"E 0 0\n"),
+                );
             } else {
                 assert_ended_at(&rt, length, &ran, Status::Script, (out, bad), (rec, b""));
             }
@@ -95,7 +102,10 @@ fn each_read_may_fail(rt: HostRuntime) {
                 faults: 0,
             };
             let ran = made(&rt, run_source(rt.alloc(), &mut source));
-            let texts = ((out, b"?READ\n".as_slice()), (record_of(end), b"".as_slice()));
+            let texts = (
+                (out, b"?READ\n".as_slice()),
+                (record_of(end), b"".as_slice()),
+            );
             assert_ended_at(&rt, fails, &ran, Status::ReadFault, texts.0, texts.1);
         }
     }

@@ -1,7 +1,10 @@
 // Runs that end early: each status with its line, and what both texts have by then.
 use crate::first;
-use crate::memory_run::{PAGES, ROOM, Ran, assert_ended, made, run_over, run_script, run_source, sink, source};
-use crate::same::{same, same_at};
+use crate::memory_run::{
+    PAGES, ROOM, Ran, assert_ended, assert_ended_at, made, run_over, run_script, run_source, sink,
+    source,
+};
+use crate::same::same;
 use outside::{MemSink, MemSource, Memory, Sink};
 use std::alloc::Global;
 use std::process::Abort;
@@ -15,11 +18,18 @@ fn run_first(
     rec: MemSink,
     pages: u32,
 ) -> Result<Ran, Memory> {
-    run_over(alloc, words, &mut source(alloc, first::SCRIPT)?, out, rec, pages)
+    run_over(
+        alloc,
+        words,
+        &mut source(alloc, first::SCRIPT)?,
+        out,
+        rec,
+        pages,
+    )
 }
 
 // Runs the first script by these words, with room for a transcript of 99 bytes.
-fn run_words(alloc: Global, words: &[&str], pages: u32) -> Result<Ran, Memory> {
+fn run_by(alloc: Global, words: &[&str], pages: u32) -> Result<Ran, Memory> {
     run_first(alloc, words, sink(alloc, 99)?, sink(alloc, ROOM)?, pages)
 }
 
@@ -29,12 +39,24 @@ fn failing_sink(alloc: Global, call: u64) -> Result<MemSink, Memory> {
 
 // Runs the first script with a write of its transcript failing.
 fn run_without_transcript(alloc: Global, call: u64) -> Result<Ran, Memory> {
-    run_first(alloc, &["run"], failing_sink(alloc, call)?, sink(alloc, ROOM)?, PAGES)
+    run_first(
+        alloc,
+        &["run"],
+        failing_sink(alloc, call)?,
+        sink(alloc, ROOM)?,
+        PAGES,
+    )
 }
 
 // Runs the first script with a write of its record failing.
 fn run_without_record(alloc: Global, call: u64) -> Result<Ran, Memory> {
-    run_first(alloc, &["run"], sink(alloc, ROOM)?, failing_sink(alloc, call)?, PAGES)
+    run_first(
+        alloc,
+        &["run"],
+        sink(alloc, ROOM)?,
+        failing_sink(alloc, call)?,
+        PAGES,
+    )
 }
 
 #[test]
@@ -63,7 +85,7 @@ fn wrong_words_are_refused(rt: HostRuntime) {
         &["help"],
         &["--version"],
     ] {
-        let ran = made(&rt, run_words(rt.alloc(), words, PAGES));
+        let ran = made(&rt, run_by(rt.alloc(), words, PAGES));
         assert_ended(&rt, &ran, Status::Usage, b"?USAGE\n", b"");
     }
 }
@@ -77,7 +99,7 @@ fn sizes_may_be_asked_for(rt: HostRuntime) {
         &["run", "--frames", "160"],
         &["run"],
     ] {
-        let ran = made(&rt, run_words(rt.alloc(), words, PAGES));
+        let ran = made(&rt, run_by(rt.alloc(), words, PAGES));
         assert_ended(&rt, &ran, Status::Done, first::TRANSCRIPT, first::RECORD);
     }
 }
@@ -90,19 +112,35 @@ fn a_small_drum_is_refused(rt: HostRuntime) {
         (PAGES, Status::Done, first::TRANSCRIPT, first::RECORD),
         (PAGES + 1, Status::Done, first::TRANSCRIPT, first::RECORD),
     ] {
-        let ran = made(&rt, run_words(rt.alloc(), &["run"], pages));
-        assert_ended(&rt, &ran, status, out, rec);
+        let ran = made(&rt, run_by(rt.alloc(), &["run"], pages));
+        assert_ended_at(&rt, pages as usize, &ran, status, (out, b""), (rec, b""));
     }
 }
 
 #[test]
 fn bad_lines_are_numbered(rt: HostRuntime) {
     for (script, out, rec) in [
-        (b"LOGIN 0 A".as_slice(), b"?LINE 1\n".as_slice(), b"".as_slice()),
+        (
+            b"LOGIN 0 A".as_slice(),
+            b"?LINE 1\n".as_slice(),
+            b"".as_slice(),
+        ),
         (b"RUN 0\n", b"?LINE 1\n", b""),
-        (b"LOGIN 0 A\nLOGIN 16 A\n", b"T0 @\n?LINE 2\n", b"LOGIN 0 A\n"),
-        (b"LOGIN 0 A\nRUN 3\nRUN 4\nSTOP\nRUN 5\n", b"T0 @\n?LINE 4\n", b"LOGIN 0 A\nI 7\n"),
-        (b"START 0 0\nRUN 1\nSTART 0 0", b"?NO JOB 0\n?LINE 3\n", b"START 0 0\nI 1\n"),
+        (
+            b"LOGIN 0 A\nLOGIN 16 A\n",
+            b"T0 @\n?LINE 2\n",
+            b"LOGIN 0 A\n",
+        ),
+        (
+            b"LOGIN 0 A\nRUN 3\nRUN 4\nSTOP\nRUN 5\n",
+            b"T0 @\n?LINE 4\n",
+            b"LOGIN 0 A\nI 7\n",
+        ),
+        (
+            b"START 0 0\nRUN 1\nSTART 0 0",
+            b"?NO JOB 0\n?LINE 3\n",
+            b"START 0 0\nI 1\n",
+        ),
         // JRST 100
         (
             b"LOGIN 0 A\nPOKE 0 100 254000000100\nSTART 0 100\nRUN 9\nSTART 0 1000000\n",
@@ -118,7 +156,10 @@ fn bad_lines_are_numbered(rt: HostRuntime) {
 // Runs the first script, of which one read gives all lines and one fails.
 fn run_failing(alloc: Global, read: u64) -> Result<Ran, Memory> {
     let bytes = Vec::from_slice(alloc, first::SCRIPT)?;
-    run_source(alloc, &mut MemSource::new(bytes, Vec::from_slice(alloc, &[read])?))
+    run_source(
+        alloc,
+        &mut MemSource::new(bytes, Vec::from_slice(alloc, &[read])?),
+    )
 }
 
 #[test]
@@ -127,8 +168,16 @@ fn a_failed_read_ends_the_run(rt: HostRuntime) {
     assert_ended(&rt, &ran, Status::ReadFault, b"?READ\n", b"");
     let ran = made(&rt, run_failing(rt.alloc(), 2));
     same(&rt, ran.status, Status::ReadFault);
-    same(&rt, ran.out.bytes(), b"T0 @A\\015\\012\nT0 @\n?READ\n".as_slice());
-    same(&rt, Some(ran.rec.bytes()), first::RECORD.strip_suffix(b"E 0 0\n"));
+    same(
+        &rt,
+        ran.out.bytes(),
+        b"T0 @A\\015\\012\nT0 @\n?READ\n".as_slice(),
+    );
+    same(
+        &rt,
+        Some(ran.rec.bytes()),
+        first::RECORD.strip_suffix(b"E 0 0\n"),
+    );
 }
 
 // Whether a run ended at a failed write: then each text is cut off where it stood.
@@ -179,13 +228,22 @@ fn run_unflushed(alloc: Global, flush: u64) -> Result<Ran, Memory> {
 fn a_failed_flush_is_a_failed_write(rt: HostRuntime) {
     for (flush, status, out, rec) in [
         (1, Status::WriteFault, first::TRANSCRIPT, first::RECORD),
-        (2, Status::WriteFault, b"\n".as_slice(), b"I 2\nE 0 0\n".as_slice()),
+        (
+            2,
+            Status::WriteFault,
+            b"\n".as_slice(),
+            b"I 2\nE 0 0\n".as_slice(),
+        ),
         (3, Status::WriteFault, b"", b""),
         (4, Status::Done, b"", b""),
     ] {
         let ran = made(&rt, run_unflushed(rt.alloc(), flush));
         same(&rt, ran.status, status);
-        same(&rt, Some(ran.out.bytes()), first::TRANSCRIPT.strip_suffix(out));
+        same(
+            &rt,
+            Some(ran.out.bytes()),
+            first::TRANSCRIPT.strip_suffix(out),
+        );
         same(&rt, Some(ran.rec.bytes()), first::RECORD.strip_suffix(rec));
     }
 }

@@ -80,7 +80,12 @@ fn the_longest_script_is_run(rt: HostRuntime) {
 #[test]
 fn comments_count_for_the_length(rt: HostRuntime) {
     for (rest, status, out, rec) in [
-        (b"".as_slice(), Status::Done, b"".as_slice(), b"E 0 0\n".as_slice()),
+        (
+            b"".as_slice(),
+            Status::Done,
+            b"".as_slice(),
+            b"E 0 0\n".as_slice(),
+        ),
         (b"\n", Status::LongScript, b"?LONG SCRIPT\n", b""),
         (b";", Status::LongScript, b"?LONG SCRIPT\n", b""),
     ] {
@@ -105,7 +110,12 @@ fn commented(alloc: Global, bytes: usize) -> Result<Vec<u8>, Memory> {
 #[test]
 fn a_line_has_256_bytes_at_most(rt: HostRuntime) {
     for (bytes, status, out, rec) in [
-        (256, Status::Done, b"T0 @\n".as_slice(), b"LOGIN 0 A\nE 0 0\n".as_slice()),
+        (
+            256,
+            Status::Done,
+            b"T0 @\n".as_slice(),
+            b"LOGIN 0 A\nE 0 0\n".as_slice(),
+        ),
         (257, Status::Script, b"?LINE 1\n", b""),
     ] {
         let script = made(&rt, commented(rt.alloc(), bytes));

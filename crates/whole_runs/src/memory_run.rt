@@ -74,7 +74,12 @@ pub(crate) fn run_source<S: Source>(alloc: Global, script: &mut S) -> Result<Ran
 }
 
 /// Runs a script by these words, over a drum of so many pages.
-pub(crate) fn run_words(alloc: Global, texts: &[&str], script: &[u8], pages: u32) -> Result<Ran, Memory> {
+pub(crate) fn run_words(
+    alloc: Global,
+    texts: &[&str],
+    script: &[u8],
+    pages: u32,
+) -> Result<Ran, Memory> {
     let mut script = source(alloc, script)?;
     let out = sink(alloc, ROOM)?;
     let rec = sink(alloc, ROOM)?;
@@ -87,7 +92,13 @@ pub(crate) fn run_script(alloc: Global, script: &[u8]) -> Result<Ran, Memory> {
 }
 
 /// A run ended with this status and exactly these texts.
-pub(crate) fn assert_ended(rt: &impl Abort, ran: &Ran, status: Status, transcript: &[u8], record: &[u8]) {
+pub(crate) fn assert_ended(
+    rt: &impl Abort,
+    ran: &Ran,
+    status: Status,
+    transcript: &[u8],
+    record: &[u8],
+) {
     same(rt, ran.status, status);
     same(rt, ran.out.bytes(), transcript);
     same(rt, ran.rec.bytes(), record);
@@ -103,8 +114,18 @@ pub(crate) fn assert_ended_at(
     record: (&[u8], &[u8]),
 ) {
     same_at(rt, row, ran.status, status);
-    same_at(rt, row, ran.out.bytes().strip_prefix(transcript.0), Some(transcript.1));
-    same_at(rt, row, ran.rec.bytes().strip_prefix(record.0), Some(record.1));
+    same_at(
+        rt,
+        row,
+        ran.out.bytes().strip_prefix(transcript.0),
+        Some(transcript.1),
+    );
+    same_at(
+        rt,
+        row,
+        ran.rec.bytes().strip_prefix(record.0),
+        Some(record.1),
+    );
 }
 
 /// Runs a script to its end, which gives exactly these texts and never asks the drum.
