@@ -8,5 +8,5 @@ use Rattle.text_tests.proofs.writing.write_pieces.Goals as goal
 
 pub step-requires-5 : goal.step-requires-5
 unfolding digits octal_padded
-step-requires-5 g c =
+step-requires-5 c =
     (subst (λ l. FitsEvent (TypeIn (record { 0 = 10 }) l)) (sym c.new.ensures) (lit< tt, lit≤ tt, lit≤ tt, typed_low (65 ∷ 32 ∷ 92 ∷ 13 ∷ []) refl, lit≤ tt), refl)
