@@ -1,5 +1,5 @@
 // Bytes to be read.
-ghost use Rattle.std.specs.Prelude.{◌≡◌, ◌<◌, ◌≤◌, ℕ, List, Option, length, take, IfOk, OnErr};
+ghost use Rattle.std.specs.Prelude.{◌≡◌, ◌<◌, ◌≤◌, ℕ, List, Option, length, take, IfOk, OnOk, OnErr};
 ghost use Rattle.outside.specs.Faults.{Rose};
 ghost use Rattle.outside.specs.Told.{Loses, EndsOnly, Stays};
 
@@ -18,11 +18,12 @@ pub trait Source {
         ensures { result ≡ fault_count self.now };
 
     /// Fills the front of a piece that isn't empty, and answers how many bytes were filled; 0 is the
-    /// end of input. Fails only where the count of faults rises, and then takes nothing from what is left.
+    /// end of input. Fails exactly where the count of faults rises, and then takes nothing from what is left.
     fn read(&mut self, piece: &mut [u8]) -> Result<usize, Failed>
         requires { 0 < length piece.old }
         ensures later { fault_count self.old ≤ fault_count self.new }
         ensures cause { OnErr result (Rose (fault_count self.old) (fault_count self.new)) }
+        ensures unfaulted { OnOk result (fault_count self.new ≡ fault_count self.old) }
         ensures bound { IfOk result (λ n. n ≤ length piece.old) }
         ensures bytes { IfOk result (λ n. Loses (left self.old) (left self.new) (take n piece.new)) }
         ensures end { IfOk result (λ n. EndsOnly (left self.old) n) }

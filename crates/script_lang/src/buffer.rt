@@ -1,5 +1,5 @@
 // The bytes of a script that were read and not yet given.
-ghost use Rattle.std.specs.Prelude.{◌≡◌, ◌<◌, ◌≤◌, ◌⊎◌, ◌≢◌, ℕ, [], length, drop, IfOk, MatchOption, OnErr};
+ghost use Rattle.std.specs.Prelude.{◌≡◌, ◌<◌, ◌≤◌, ◌⊎◌, ◌≢◌, ℕ, [], length, drop, IfOk, MatchOption, OnOk, OnErr};
 ghost use Rattle.outside.specs.Faults.{Rose};
 ghost use Rattle.outside.specs.Told.{EndsOnly, Stays};
 ghost use Rattle.script_texts.specs.Script.{HasNoFeed, most_bytes};
@@ -86,6 +86,7 @@ impl Buffer {
         requires { length self.old < ROOM }
         ensures later { S.fault_count s.old ≤ S.fault_count s.new }
         ensures cause { OnErr result (Rose (S.fault_count s.old) (S.fault_count s.new)) }
+        ensures unfaulted { OnOk result (S.fault_count s.new ≡ S.fault_count s.old) }
         ensures bytes { IfOk result (λ n. Fills S.left self.old self.new s.old s.new n) }
         ensures fits { IfOk result (λ _. length self.new ≤ ROOM) }
         ensures end { IfOk result (EndsOnly (S.left s.old)) }
@@ -105,6 +106,7 @@ impl Buffer {
     pub fn find<S: Source>(&mut self, s: &mut S, room: u64) -> Found
         ensures later { S.fault_count s.old ≤ S.fault_count s.new }
         ensures cause { result ≡ Found.Fault → Rose (S.fault_count s.old) (S.fault_count s.new) }
+        ensures unfaulted { result ≢ Found.Fault → S.fault_count s.new ≡ S.fault_count s.old }
         ensures reads { Reads S.left (StopsWithin 0 room) self.old s.old s.new (λ xs. xs ≡ self.new) }
         ensures line { (n : ℕ) → result ≡ Found.Line n → IsFed self.new n }
         ensures spends { result ≡ Found.Last → Spends (S.left s.old) (S.left s.new) }
@@ -138,6 +140,7 @@ impl Buffer {
         requires small { room ≤ most_bytes }
         ensures later { S.fault_count s.old ≤ S.fault_count s.new }
         ensures cause { result ≡ Passed.Fault → Rose (S.fault_count s.old) (S.fault_count s.new) }
+        ensures unfaulted { result ≢ Passed.Fault → S.fault_count s.new ≡ S.fault_count s.old }
         ensures reads { Reads S.left (StopsWithin 0 room) self.now s.old s.new (EndsSo (length self.now) room result) }
         ensures spends { result ≡ Passed.Last → Spends (S.left s.old) (S.left s.new) }
     {

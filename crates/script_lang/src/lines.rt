@@ -103,13 +103,14 @@ impl Lines {
     }
 
     /// What the script has next. The source is read only while that is not known, and at most a piece
-    /// is taken from it behind what tells. A fault comes only where the source failed, and is told
+    /// is taken from it behind what tells. A fault comes exactly where the source failed, and is told
     /// only behind all that was known without that read. Nothing may be asked for behind an answer
     /// other than `One`.
     pub fn next<S: Source>(&mut self, s: &mut S) -> Next
         requires { IsOpen self.old }
         ensures later { S.fault_count s.old ≤ S.fault_count s.new }
         ensures cause { result ≡ Next.ReadFault → Rose (S.fault_count s.old) (S.fault_count s.new) }
+        ensures unfaulted { result ≢ Next.ReadFault → S.fault_count s.new ≡ S.fault_count s.old }
         ensures unread { (NeedsRead self.old → ⊥) → s.new ≡ s.old }
         ensures reads { Reads S.left (IsUndecided (given self.old)) (pending self.old) s.old s.new (IsReadFor (given self.old) result) }
 
@@ -137,6 +138,7 @@ impl Lines {
     fn advance<S: Source>(&mut self, s: &mut S) -> Next
         ensures later { S.fault_count s.old ≤ S.fault_count s.new }
         ensures cause { result ≡ Next.ReadFault → Rose (S.fault_count s.old) (S.fault_count s.new) }
+        ensures unfaulted { result ≢ Next.ReadFault → S.fault_count s.new ≡ S.fault_count s.old }
         ensures reads { Reads S.left (IsUndecided (given self.old)) (pending self.old) s.old s.new (IsReadFor (given self.old) result) }
         ensures stage { self.new.stage ≡ self.old.stage }
         ensures fits { (e : AnEvent) → result ≡ Next.One e → FitsEvent e × IsBuilt e }
@@ -163,6 +165,7 @@ impl Lines {
     fn line<S: Source>(&mut self, s: &mut S) -> Line
         ensures later { S.fault_count s.old ≤ S.fault_count s.new }
         ensures cause { result ≡ Line.Fault → Rose (S.fault_count s.old) (S.fault_count s.new) }
+        ensures unfaulted { result ≢ Line.Fault → S.fault_count s.new ≡ S.fault_count s.old }
         ensures reads { Reads S.left (IsUndecided (given self.old)) (pending self.old) s.old s.new (IsReadBy self.old self.new result) }
         ensures stage { self.new.stage ≡ self.old.stage }
         ensures fits { (e : AnEvent) → result ≡ Line.One e → FitsEvent e × IsBuilt e }
@@ -251,6 +254,7 @@ impl Lines {
         requires over { (MOST_LINE < length (pending self.now)) ⊎ (most_bytes - given self.now < length (pending self.now)) }
         ensures later { S.fault_count s.old ≤ S.fault_count s.new }
         ensures cause { result ≡ Line.Fault → Rose (S.fault_count s.old) (S.fault_count s.new) }
+        ensures unfaulted { result ≢ Line.Fault → S.fault_count s.new ≡ S.fault_count s.old }
         ensures reads { Reads S.left (IsUndecided (given self.now)) (pending self.now) s.old s.new (IsReadBy self.now self.now result) }
         ensures here { IsFinal result }
         ensures bad { result ≡ Line.Bad → AllLeft S.left (pending self.now) s.old (IsBadRest (given self.now) (turns_given self.now)) }

@@ -1,5 +1,5 @@
 -- Where faults come from, and what the sinks have handed on, behind a writer that was to be closed.
-use Rattle.std.proofs.Common.{◌≡◌, ◌⊎◌, inl, inr, ℕ, ◌+◌, ◌≤◌, ◌<◌, Option, None, Some, refl, sym, ◌∙◌, arith}
+use Rattle.std.proofs.Common.{◌≡◌, ◌⊎◌, inl, inr, ℕ, ◌+◌, ◌≤◌, ◌<◌, Option, None, Some, ap, refl, sym, ◌∙◌, arith}
 use Rattle.outside.specs.Faults.{Rose}
 use Rattle.texts.specs.declared.writer.Writer.{Writer}
 use Rattle.texts.specs.declared.last.Last.{Last}
@@ -50,12 +50,14 @@ module _ {S T R D : Type 0} (of_script : S → ℕ) (of_out : T → ℕ) (of_rec
   -- the texts were closed
   pub caused_closed : (driven : Driven) (reads writes : ℕ) (last : Last) (status : Status) → last_after driven reads writes ≡ Some last → status ≡ status_after driven
       → (driven ≡ Unread → Rose (of_script script) (of_script script')) → (driven ≡ Unpaged → Rose (of_drum drum) (of_drum drum'))
+      → ((driven ≡ Unread → ⊥) → of_script script' ≡ of_script script)
       → IsCaused status (faults of_script of_out of_rec of_drum script script' w.out.now u.out.now w.rec.now u.rec.now drum drum')
-  caused_closed driven reads writes last status there is read paged = record {
+  caused_closed driven reads writes last status there is read paged sure = record {
     read = λ s. unread driven read (sym is ∙ s);
     write = λ s. written driven reads writes last there (sym is ∙ s);
     drum = λ s. unpaged driven paged (sym is ∙ s);
     later = later;
+    unfaulted = λ no_read no_write. sure (λ u. no_read (is ∙ ap status_after u));
   }
 
   -- they could not be closed
@@ -65,6 +67,7 @@ module _ {S T R D : Type 0} (of_script : S → ℕ) (of_out : T → ℕ) (of_rec
     write = λ s. onward.cause (omega (arith, zero, rose));
     drum = λ s. absurd (cc s);
     later = later;
+    unfaulted = λ no_read no_write. absurd (no_write refl);
   }
 
 module _ {T R : Type 0} (out_handed : T → Type 0) (rec_handed : R → Type 0) (of_out : T → ℕ) (of_rec : R → ℕ) (w v u : Writer T R) where

@@ -77,12 +77,13 @@ pub record NoneFell (f : Faults) : Type 0 where
   pub rec : f.rec ≤ f.rec_after
   pub drum : f.drum ≤ f.drum_after
 
--- a fault comes only where a count rose, and no count falls
+-- a fault comes only where a count rose, and no count falls; a source that fails ends the run, so no other status but that of a write follows
 pub record IsCaused (status : Status) (f : Faults) : Type 0 where
   pub read : status ≡ ReadFault → Rose f.script f.script_after
   pub write : status ≡ WriteFault → Rose f.out f.out_after ⊎ Rose f.rec f.rec_after
   pub drum : status ≡ DrumFault → Rose f.drum f.drum_after
   pub later : NoneFell f
+  pub unfaulted : (status ≡ ReadFault → ⊥) → (status ≡ WriteFault → ⊥) → f.script_after ≡ f.script
 
 -- each sink has handed on all that it took, or its count of faults rose; and without a write fault both have
 pub record HandedOn {T R : Type 0} (out_handed : T → Type 0) (rec_handed : R → Type 0) (out_faults : T → ℕ) (rec_faults : R → ℕ) (out out' : T) (rec rec' : R) (status : Status) : Type 0 where

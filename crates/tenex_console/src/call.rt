@@ -58,6 +58,9 @@ pub fn tenex<S: Source, T: Sink, R: Sink, D: Drum>(
     ensures write_cause { result ≡ Status.WriteFault → Rose (T.fault_count out.old) (T.fault_count out.new) ⊎ Rose (R.fault_count rec.old) (R.fault_count rec.new) }
     ensures drum_cause { result ≡ Status.DrumFault → Rose (D.fault_count drum.old) (D.fault_count drum.new) }
 
+    // A source that fails ends the run: no read is tried again.
+    ensures unfaulted { (result ≡ Status.ReadFault → ⊥) → (result ≡ Status.WriteFault → ⊥) → S.fault_count script.new ≡ S.fault_count script.old }
+
     // So where no count rose the status tells of no fault. No count falls.
     ensures complete { AreSteady (faults S.fault_count T.fault_count R.fault_count D.fault_count script.old script.new out.old out.new rec.old rec.new drum.old drum.new) → IsFaultless result }
     ensures later { NoneFell (faults S.fault_count T.fault_count R.fault_count D.fault_count script.old script.new out.old out.new rec.old rec.new drum.old drum.new) }

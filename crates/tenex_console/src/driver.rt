@@ -1,5 +1,5 @@
 // A script, driven through a machine.
-ghost use Rattle.std.specs.Prelude.{◌≡◌, ◌≤◌, true, OnOk, OnErr, []};
+ghost use Rattle.std.specs.Prelude.{◌≡◌, ◌≢◌, ◌≤◌, true, OnOk, OnErr, []};
 ghost use Rattle.outside.specs.Faults.{Rose};
 ghost use Rattle.script_texts.specs.Taker.{GoesOn, IsCut, StaysOnward};
 ghost use Rattle.script_lang.specs.Lines.{Skips, NeedsRead};
@@ -75,6 +75,7 @@ pub fn drive<P: Pages, S: Source, D: Drum, K: Taker>(
     requires size { limit machine.old ≤ D.size drum.old }
     ensures read_later { S.fault_count script.old ≤ S.fault_count script.new }
     ensures read_cause { result ≡ Driven.ReadFault → Rose (S.fault_count script.old) (S.fault_count script.new) }
+    ensures unfaulted { result ≢ Driven.ReadFault → S.fault_count script.new ≡ S.fault_count script.old }
     ensures later { K.fault_count taker.old ≤ K.fault_count taker.new }
     ensures cause { result ≡ Driven.TakerFault → Rose (K.fault_count taker.old) (K.fault_count taker.new) }
     ensures onward { StaysOnward K.onward taker.old taker.new }

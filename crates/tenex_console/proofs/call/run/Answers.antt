@@ -60,7 +60,7 @@ returns-in-Ok-clause-caused g c =
     moved (λ o o' r r'. IsCaused c.status.result (faults g.S.Source.fault_count g.T.Sink.fault_count g.R.Sink.fault_count g.D.Drum.fault_count c.args.script.now c.drive-driven.new.script o o' r r' c.args.drum.now c.drive-driven.new.drum))
     c.new-writer.ensures.out (search rules) c.new-writer.ensures.rec (search rules)
     (caused_closed g.S.Source.fault_count g.T.Sink.fault_count g.R.Sink.fault_count g.D.Drum.fault_count c.args.script.now c.drive-driven.new.script c.args.drum.now c.drive-driven.new.drum w v u onward c.drive-driven.ensures.read_later c.drive-driven.ensures.drum.faults_later
-    c.drive-driven.result _ _ c.in-Some.last c.status.result (sym c.last.ensures ∙ c.in-Some.is) c.status.ensures c.drive-driven.ensures.read_cause c.drive-driven.ensures.drum_cause)
+    c.drive-driven.result _ _ c.in-Some.last c.status.result (sym c.last.ensures ∙ c.in-Some.is) c.status.ensures c.drive-driven.ensures.read_cause c.drive-driven.ensures.drum_cause c.drive-driven.ensures.unfaulted)
 
 pub returns-in-Err-clause-caused : goal.returns-in-Err-clause-caused
 returns-in-Err-clause-caused g c =

@@ -1,4 +1,4 @@
-use Rattle.std.proofs.Common.{◌≡◌, arith, subst, sym}
+use Rattle.std.proofs.Common.{◌≡◌, arith, refl, subst, sym}
 use Rattle.texts.specs.declared.last.Status.TheVariants.{Done, DrumFault, ReadFault}
 use Rattle.tenex_console.specs.Command.{IsAsked}
 use Rattle.tenex_console.specs.Headline.{IsTrueOf}
@@ -85,6 +85,7 @@ returns-in-Err-clause-complete g c steady =
       write = c.stop.ensures.write_cause;
       drum = returns-in-Err-clause-drum_cause g c;
       later = record { script = omega arith; out = c.stop.ensures.out_later; rec = c.stop.ensures.rec_later; drum = omega arith };
+      unfaulted = λ no_read no_write. refl;
     }) steady
 
 pub returns-in-Err-clause-complete_run : goal.returns-in-Err-clause-complete_run

@@ -9,6 +9,7 @@ use Rattle.tenex_console.proofs.driver.drive.Goals as goal
 pub loop-lines-init : goal.loop-lines-init
 loop-lines-init g c = record {
   read_later = omega arith;
+  unfaulted = refl;
   later = omega arith;
   onward = record { each = λ first h. h };
   untouched = refl;
@@ -28,6 +29,7 @@ loop-lines-preserved g c =
     let shown = so_far_shown i.so_far c.hand_on.ensures.skips c.in-Ok.ensures.ok in
     record {
       read_later = omega (arith, i.read_later, c.next.ensures.later);
+      unfaulted = c.in-One.ensures.unfaulted (λ is. absurd cc) ∙ i.unfaulted;
       later = omega (arith, i.later, c.hand_on.ensures.later, c.event.ensures.later);
       onward = record { each = λ first h. c.event.ensures.onward.each first (c.hand_on.ensures.onward.each first (i.onward.each first h)) };
       untouched = c.event.ensures.untouched ∙ i.untouched;

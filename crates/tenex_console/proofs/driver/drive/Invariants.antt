@@ -9,6 +9,7 @@ use Rattle.tenex_console.proofs.driver.drive.Given as goal
 abbrev pub invariant-loop-lines : goal.invariant-loop-lines
 invariant-loop-lines g l = record {
   read_later : g.S.Source.fault_count l.fn.script ≤ g.S.Source.fault_count l.script;
+  unfaulted : g.S.Source.fault_count l.script ≡ g.S.Source.fault_count l.fn.script;
   later : g.K.Taker.fault_count l.fn.taker ≤ g.K.Taker.fault_count l.taker;
   onward : StaysOnward g.K.Taker.onward l.fn.taker l.taker;
   untouched : l.drum ≡ l.fn.drum;

@@ -1,4 +1,4 @@
-use Rattle.std.proofs.Common.{ap, arith, length, subst}
+use Rattle.std.proofs.Common.{ap, arith, length, subst, ◌∙◌}
 use Rattle.script_texts.specs.Script.{HasNoFeed}
 use Rattle.script_lang.specs.Feeds.{StopsWithin}
 use Rattle.script_lang.proofs.Reading.{reads_filled}
@@ -11,5 +11,6 @@ loop-n-preserved g c =
     let needs : StopsWithin 0 c.args.room c.loop-n.self = record { plain = plain; far = omega arith; near = omega (arith, c.if-count-room.false, ap length c.bytes-held.ensures) } in
     record {
       later = omega (arith, i.later, c.fill.ensures.later);
+      unfaulted = c.in-Ok.ensures.unfaulted ∙ i.unfaulted;
       reads = reads_filled g.S.Source.left i.reads needs c.fill.new.self c.fill.new.s c.in-Ok.read c.in-Ok.ensures.bytes c.in-Ok.ensures.fits;
     }

@@ -1,4 +1,4 @@
-use Rattle.std.proofs.Common.{◌≡◌, ◌+◌, arith, length, take, length-take-le}
+use Rattle.std.proofs.Common.{◌≡◌, ◌+◌, arith, length, take, length-take-le, ◌∙◌}
 use Rattle.script_lang.specs.Feeds.{EndsWithin, GoesBeyond}
 use Rattle.script_lang.proofs.Held.{fed_inside}
 use Rattle.script_lang.proofs.Reading.{IsPlain, passed_more, plain_fed, plain_fed_beyond, plain_more}
@@ -34,6 +34,7 @@ loop-count-preserved g c =
     let long : length piece ≡ c.in-Ok.read = length-take-le c.in-Ok.read c.read.new.piece (omega (arith, c.in-Ok.ensures.bound, c.read.auto.piece)) in
     record {
       later = omega (arith, i.later, c.read.ensures.later);
+      unfaulted = c.in-Ok.ensures.unfaulted ∙ i.unfaulted;
       reads = passed_more g.S.Source.left i.reads c.loop-count-test.true (IsPlain (c.loop-count.count + c.in-Ok.read)) piece c.read.new.self c.in-Ok.ensures.bytes (omega (arith, long, c.in-Ok.ensures.bound))
           (λ gone is. plain_more gone piece c.loop-count.count c.in-Ok.read is c.in_default.ensures long);
       far = omega (arith, i.far);

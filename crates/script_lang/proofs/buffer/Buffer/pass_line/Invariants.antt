@@ -1,4 +1,4 @@
-use Rattle.std.proofs.Common.{◌+◌, ◌-◌, ◌≤◌, length}
+use Rattle.std.proofs.Common.{◌≡◌, ◌+◌, ◌-◌, ◌≤◌, length}
 use Rattle.script_lang.specs.Feeds.{Reads, StopsWithin}
 use Rattle.script_lang.proofs.Reading.{IsPlain}
 use Rattle.script_lang.proofs.buffer.Buffer.pass_line.Given as goal
@@ -6,6 +6,7 @@ use Rattle.script_lang.proofs.buffer.Buffer.pass_line.Given as goal
 abbrev pub invariant-loop-count : goal.invariant-loop-count
 invariant-loop-count g l = record {
   later : g.S.Source.fault_count l.fn.s ≤ g.S.Source.fault_count l.s;
+  unfaulted : g.S.Source.fault_count l.s ≡ g.S.Source.fault_count l.fn.s;
   reads : Reads g.S.Source.left (StopsWithin 0 l.room) l.fn.self l.fn.s l.s (IsPlain l.count);
   far : length l.fn.self ≤ l.count;
 }

@@ -10,6 +10,7 @@ use Rattle.script_lang.proofs.lines.Lines.advance.Goals as goal
 pub loop-event-init : goal.loop-event-init
 loop-event-init g c = record {
   later = omega arith;
+  unfaulted = refl;
   stage = refl;
   reads = reads_none g.S.Source.left (IsUndecided (given c.args.self.now)) (GivesFront c.args.self.now c.args.self.now []) (pending c.args.self.now) c.args.s.now (gives_nothing c.args.self.now);
   further = omega arith;
@@ -22,6 +23,7 @@ loop-event-preserved g c =
     let a = c.in-Blank.ensures.passes refl in
     record {
       later = omega (arith, i.later, c.line.ensures.later);
+      unfaulted = c.in-Blank.ensures.unfaulted (λ is. absurd cc) ∙ i.unfaulted;
       stage = c.line.ensures.stage ∙ i.stage;
       reads = reads_behind g.S.Source.left (GivesFront c.args.self.now c.line.new.self []) i.reads c.in-Blank.ensures.reads (λ xs gives. gives_both c.args.self.now c.loop-event.self c.line.new.self [] [] _ xs i.reads.is gives);
       further = omega (arith, i.further, a.further);
