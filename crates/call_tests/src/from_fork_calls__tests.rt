@@ -76,10 +76,7 @@ fn an_inferior_is_killed(rt: HostRuntime) -> Result<(), Fail> {
         (0o400000, Step::Ends(End::Refused(NO_INFERIOR))),
         (0o400001, Step::Ends(End::Refused(NO_INFERIOR))),
         (0o400003, Step::Ends(End::Refused(NO_HANDLE))),
-        (
-            0o400002,
-            Step::Ends(End::Done(ForkChange::Kill(INFERIOR), regs(0o104, 0o400002))),
-        ),
+        (0o400002, Step::Ends(done(ForkChange::Kill(INFERIOR)))),
     ] {
         assert_eq!(rt;
             kfork(&regs(0o103, handle), TOP, &tree),
@@ -95,7 +92,7 @@ fn an_inferior_is_killed(rt: HostRuntime) -> Result<(), Fail> {
 fn a_running_inferior_is_waited_for(rt: HostRuntime) -> Result<(), Fail> {
     let mut tree = forks(rt.alloc(), 1)?;
     let caller = regs(0o103, 0o400002);
-    let gone_on = End::Done(ForkChange::Nothing, regs(0o104, 0o400002));
+    let gone_on = done(ForkChange::Nothing);
     assert_eq!(rt; wfork(&caller, TOP, &tree), Step::Ends(gone_on));
     if let Some(body) = tree.body_mut(INFERIOR) {
         body.status = ForkStatus::Run;
@@ -104,7 +101,7 @@ fn a_running_inferior_is_waited_for(rt: HostRuntime) -> Result<(), Fail> {
         wfork(&caller, TOP, &tree),
         Step::Ends(End::Waits(WaitOn::Fork))
     );
-    let halted = End::Done(ForkChange::Halt(INFERIOR), regs(0o104, 0o400002));
+    let halted = done(ForkChange::Halt(INFERIOR));
     assert_eq!(rt; hfork(&caller, TOP, &tree), Step::Ends(halted));
     Ok(())
 }
@@ -128,4 +125,14 @@ fn status_words(rt: HostRuntime) -> Result<(), Fail> {
         assert_eq!(rt; status_word(&fork).value(), word);
     }
     Ok(())
+}
+
+// A call that is done, and returns.
+fn done(change: ForkChange) -> End<ForkChange> {
+    End::Done {
+        change,
+        regs: regs(0o104, 0o400002),
+        out: None,
+        post: None,
+    }
 }

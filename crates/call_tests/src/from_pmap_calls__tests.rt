@@ -136,7 +136,7 @@ fn pmap_maps_and_unmaps(rt: HostRuntime) -> Result<(), Fail> {
         ),
     ] {
         let turn = first(PMAP, &regs(0o103, one, two, three), TOP, &tree);
-        assert_eq!(rt; turn, Turn::Ends(End::Done(change, behind)), "{one} {two}");
+        assert_eq!(rt; turn, Turn::Ends(done(change, behind)), "{one} {two}");
     }
     Ok(())
 }
@@ -205,7 +205,7 @@ fn before() -> Regs
 
 // The call returns with this access.
 fn returns(change: MapChange, access: u64) -> Turn<MapChange, Stage> {
-    Turn::Ends(End::Done(change, regs(0o104, 0o400002000005, access, 0)))
+    Turn::Ends(done(change, regs(0o104, 0o400002000005, access, 0)))
 }
 
 // RMAP goes on for the page with this source.
@@ -301,4 +301,14 @@ fn an_entry_is_narrowed(rt: HostRuntime) -> Result<(), Fail> {
         refused(0o600017),
     );
     Ok(())
+}
+
+// A call that is done with these registers, and shows nothing.
+fn done(change: MapChange, regs: Regs) -> End<MapChange> {
+    End::Done {
+        change,
+        regs,
+        out: None,
+        post: None,
+    }
 }

@@ -36,7 +36,7 @@ store_end a f =
     returning (Store a.who at words) (record a.regs { ac = stored_low a.regs.ac at words })
 
 -- how CFORK goes on, told whether there is room
-abbrev pub made_where : ForkAsked → ℕ → Turn ForkChange
+abbrev pub made_where : ForkAsked → ℕ → Turn ⊥ ForkChange
 made_where a slot = adds (next_name a.tree a.who.tty) (map_wanted a) (λ room.
     if room then with_accumulators a (λ words. ends (making a slot words)) else ends (Failed NO_ROOM))
 
@@ -45,7 +45,7 @@ abbrev pub second_regs : Regs → ℕ → Regs
 second_regs regs slot = let told = with_ac regs 1 (FORK_SELF + slot) in record told { pc = skip_pc told }
 
 -- the whole turn of a first step
-abbrev pub whole : ForkAsked → Step → Turn ForkChange
+abbrev pub whole : ForkAsked → Step → Turn ⊥ ForkChange
 whole a (Ends e) = ends e
 whole a (Makes slot) = made_where a slot
 whole a (Sets f) = with_block a.who a.regs (address_named a.regs) Read (λ words. ends (set_end a f words))
@@ -78,7 +78,7 @@ IsChangeBelow forks who (Store f at words) = ⊥
 
 -- CFORK alone has two returns
 abbrev pub IsEndOf : ℕ → End ForkChange → Type 0
-IsEndOf number (Done change regs) = Unit {0}
+IsEndOf number (Done change regs out post) = Unit {0}
 IsEndOf number (Waits on) = Unit {0}
 IsEndOf number Halts = Unit {0}
 IsEndOf number (Refused code) = number ≢ CFORK

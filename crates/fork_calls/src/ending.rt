@@ -1,5 +1,5 @@
 // How a turn of a fork call ends.
-ghost use Rattle.std.specs.Prelude.{◌≡◌, true};
+ghost use Rattle.std.specs.Prelude.{◌≡◌, true, None};
 ghost use Rattle.plain_model.specs.declared.call.End.{End as AnEnd};
 ghost use Rattle.plain_model.specs.declared.call.ForkChange.{ForkChange as AForkChange};
 ghost use Rattle.plain_units.specs.declared.registers.Regs.{Regs as ARegs};
@@ -23,14 +23,19 @@ use plain_model::call::{End, ForkChange};
 use plain_units::Regs;
 
 /// A turn that is done answers its registers, whatever it has changed.
-pub fn returned(regs: Regs) -> Answer
+pub fn returned(who: ForkName, regs: Regs) -> Answer
     requires { IsRegs regs }
-    ensures answer { (change : AForkChange) → result ≡ answer_to (AnEnd.Done change regs) }
+    ensures answer { (change : AForkChange) → result ≡ answer_to who (AnEnd.Done change regs None None) }
     ensures core { IsDone result }
     ensures regs { HasRegs result }
 {
-    let end: End<ForkChange> = End::Done(ForkChange::Nothing, regs);
-    answer_of(end)
+    let end: End<ForkChange> = End::Done {
+        change: ForkChange::Nothing,
+        regs,
+        out: None,
+        post: None,
+    };
+    answer_of(who, end)
 }
 
 /// A call that stops before its end.
@@ -56,20 +61,20 @@ pub fn end<P: Pages>(
     requires fits { FitsEnd (IsChangeBelow tree.old.forks who) ending }
     requires holds { Holds P.means pages.old tree.old.forks }
     requires within { AreWithin tree.old.forks }
-    ensures told { (regs : ARegs) → Turned P.means pages.old pages.new tree.old tree.new result (whole (asked who regs tree.old) (AStep.Ends ending)) }
+    ensures told { (regs : ARegs) → Turned P.means who pages.old pages.new tree.old tree.new result (whole (asked who regs tree.old) (AStep.Ends ending)) }
     ensures core { P.means.flat ≡ true → IsDone result }
     ensures leaves { CallLeaves P.means pages.old pages.new tree.old tree.new who 0 }
     ensures regs { HasRegs result }
 {
     match ending {
-        End::Done(what, regs) => match change(who, what, tree, pages) {
-            Ok(()) => returned(regs),
+        End::Done { change: what, .. } => match change(who, what, tree, pages) {
+            Ok(()) => answer_of(who, ending),
             Err(need) => Answer::Need(need),
         },
-        End::Waits(_) => answer_of(ending),
-        End::Halts => answer_of(ending),
-        End::Refused(_) => answer_of(ending),
-        End::Failed(_) => answer_of(ending),
-        End::Trap(_) => answer_of(ending),
+        End::Waits(_) => answer_of(who, ending),
+        End::Halts => answer_of(who, ending),
+        End::Refused(_) => answer_of(who, ending),
+        End::Failed(_) => answer_of(who, ending),
+        End::Trap(_) => answer_of(who, ending),
     }
 }

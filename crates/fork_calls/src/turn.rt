@@ -1,7 +1,7 @@
 // One turn of a fork call.
 ghost use Rattle.std.specs.Prelude.{◌≡◌, ◌<◌, ◌^◌, IsSome, true};
 ghost use Rattle.std.specs.FinMap as map;
-ghost use Rattle.plain_model.specs.Calls.{end_of};
+ghost use Rattle.plain_model.specs.Calls.{no_files, turn_on};
 ghost use Rattle.plain_model.specs.ForkCalls.{fork_call};
 ghost use Rattle.plain_pages.specs.PlainPages.{NumberedPages};
 ghost use Rattle.call_turns.specs.Answers.{IsDone};
@@ -39,8 +39,8 @@ pub fn call<P: Pages>(
     requires holds { Holds P.means pages.old tree.old.forks }
     requires within { AreWithin tree.old.forks }
     requires serial { P.means.serial pages.old who.tty < 2 ^ 62 }
-    ensures told { Turned P.means pages.old pages.new tree.old tree.new result (fork_call number (asked who regs.now tree.old)) }
-    ensures returns { (p : NumberedPages) → IsEndOf number (end_of p (fork_call number (asked who regs.now tree.old))) }
+    ensures told { Turned P.means who pages.old pages.new tree.old tree.new result (fork_call number (asked who regs.now tree.old)) }
+    ensures returns { (p : NumberedPages) → IsEndOf number (turn_on no_files p (fork_call number (asked who regs.now tree.old))).end }
     ensures core { P.means.flat ≡ true → IsDone result }
     ensures leaves { CallLeaves P.means pages.old pages.new tree.old tree.new who 128 }
     ensures regs { HasRegs result }

@@ -32,14 +32,14 @@ use Rattle.plain_pages.specs.Room.{page_in, live}
 use Rattle.plain_pages.specs.References.{in_map, stored, slot_at, without_fork, drop_all_unnamed}
 use Rattle.machine_names.specs.Bounds.{IsOwner, IsForkName, IsTerminal}
 use Rattle.plain_pages.specs.NewMaps.{new_map, with_map}
-use Rattle.plain_model.specs.Forks.{ForkMap, fork_in, superior_of, with_fork, with_status}
+use Rattle.plain_model.specs.Forks.{with_regs, ForkMap, fork_in, superior_of, with_fork, with_status}
 use Rattle.plain_model.specs.Interrupts.{posted}
 use Rattle.plain_units.specs.Steps.{is_accumulator}
 use Rattle.plain_model.specs.Inferiors.{any_upward, is_within, is_inferior, has_inferior, leaf_below, last_up_to, last_below}
 use Rattle.plain_model.specs.Trees.{tree_of, next_name, with_made, changed, with_mark, with_body, unwaited, woken_in, waiters_woken, with_posted, end_told}
 use Rattle.plain_units.specs.Blocks.{next_address, stored_from}
-use Rattle.plain_model.specs.Calls.{with_error, fork_behind, made_by, parts_behind}
-use Rattle.plain_model.specs.ForkCalls.{ForkAsked, map_wanted, ForkParts, without, without_below, killed, with_halted, fork_changed, fork_changed_by, fork_turn, fork_end, fork_called}
+use Rattle.plain_model.specs.Calls.{with_error, fork_behind, parts_behind, posted_if}
+use Rattle.plain_model.specs.ForkCalls.{ForkAsked, map_wanted, ForkParts, without, without_below, killed, with_halted, fork_changed}
 use Rattle.plain_pages.specs.WholePages.{AreWhole}
 use Rattle.plain_laws.specs.Whole.{IsWhole}
 use Rattle.plain_units.proofs.Lookups.{looked_up}
@@ -48,6 +48,10 @@ use Rattle.plain_model.proofs.ForkMaps.{cases_name, get_put, get_put_other, get_
 use Rattle.plain_pages.proofs.Kept.{fork_kept, fork_maps, live_fork, fork_whole as fork_left_whole}
 use Rattle.plain_units.proofs.PageRuns.{AreSound, Keeps, kept_itself, kept_on, stored_kept}
 use Rattle.plain_model.proofs.ForkEnds.{FitsChange, FitsEnd, call_keeps}
+use Rattle.plain_model.specs.Families.{through, forks_part}
+use Rattle.plain_model.specs.Unit.{parts_of, with_parts}
+use Rattle.plain_model.proofs.Calling.{fork_came, fork_called}
+use Rattle.plain_model.proofs.FreeSlots.{free_tells, none_in_slot}
 use Rattle.plain_model.proofs.Posted.{IsSame, posted_same}
 
 -- a state with a fork changed that keeps its name, slot and superior
@@ -60,6 +64,9 @@ module _ (s : PlainState) (w : IsWhole s) where
     forks = λ k. same k ∙ w.forks k;
     own = λ k h is. owned k h (tells k) (sym (found k) ∙ is);
     old = λ k h. w.old k (sym (same k) ∙ h);
+    slots = λ k h is. let o = was k h is in let r = w.slots k o.0 o.1 in (omega (arith, o.2, r.0), omega (arith, o.2, r.1));
+    once = λ i k x y a b t e. let o = was i x a in let q = was k y b in w.once i k o.0 q.0 o.1 q.1 t (omega (arith, o.2, e, q.2));
+    homes = λ k h. w.homes k (sym (same k) ∙ h);
     terminals = w.terminals;
     tops = λ t j is. let top = w.tops t j is in top_of j.top top.0 top.1 top.2 top.3 (tells j.top);
   }
@@ -73,6 +80,14 @@ module _ (s : PlainState) (w : IsWhole s) where
           by : (b : Bool) → eq_by_cmp fork_cmp k name ≡ b → ((eq_by_cmp fork_cmp k name ≡ true) × (k ≡ name)) ⊎ (eq_by_cmp fork_cmp k name ≡ false)
           by true is = inl (is, fork_cmp_apart k name ((Equal-is (fork_cmp k name)).0 is))
           by false is = inr is
+
+      -- each fork stands in the slot of one that was there
+      was : (k : ForkName) (h : Fork) → map.get (map.insert s.forks name g) k ≡ Some h → (o : Fork) × (map.get s.forks k ≡ Some o) × (h.slot ≡ o.slot)
+      was k h is = at (tells k) (sym (found k) ∙ is)
+        where
+          at : ((eq_by_cmp fork_cmp k name ≡ true) × (k ≡ name)) ⊎ (eq_by_cmp fork_cmp k name ≡ false) → cond (eq_by_cmp fork_cmp k name) (Some g) (map.get s.forks k) ≡ Some h → (o : Fork) × (map.get s.forks k ≡ Some o) × (h.slot ≡ o.slot)
+          at (inl e) is = let here : g ≡ h = cc (e.0, is) in (f, ap (map.get s.forks) e.1 ∙ there, ap (λ (x : Fork). x.slot) (sym here) ∙ slot)
+          at (inr e) is = let got : map.get s.forks k ≡ Some h = cc (e, is) in (h, got, refl)
 
       same : (k : ForkName) → map.contains_key (map.insert s.forks name g) k ≡ map.contains_key s.forks k
       same k = ap is_some (found k) ∙ at (tells k)
@@ -105,10 +120,17 @@ module _ (s : PlainState) (w : IsWhole s) where
     forks = w.forks;
     own = w.own;
     old = w.old;
+    slots = w.slots;
+    once = w.once;
+    homes = λ f h. has f.tty.0 (eq_by_cmp nat_cmp f.tty.0 t) (map.get-insert nat_cmp_total s.jobs t k f.tty.0) (w.homes f h);
     terminals = w.terminals;
     tops = λ u i is. at u i (eq_by_cmp nat_cmp u t) (sym (map.get-insert nat_cmp_total s.jobs t k u) ∙ is);
   }
     where
+      has : (u : ℕ) (b : Bool) → map.get (map.insert s.jobs t k) u ≡ cond b (Some k) (map.get s.jobs u) → map.contains_key s.jobs u ≡ true → map.contains_key (map.insert s.jobs t k) u ≡ true
+      has u true is h = ap is_some is
+      has u false is h = ap is_some is ∙ h
+
       at : (u : ℕ) (i : PlainJob) (b : Bool) → cond b (Some k) (map.get s.jobs u) ≡ Some i → (f : Fork) × (map.get s.forks i.top ≡ Some f) × (f.slot ≡ 1) × (f.superior ≡ None)
       at u i true is =
           let here : k ≡ i = cc is in
@@ -124,6 +146,9 @@ module _ (s : PlainState) (w : IsWhole s) where
     forks = λ f. w.forks f ∙ sym (keys f);
     own = w.own;
     old = w.old;
+    slots = w.slots;
+    once = w.once;
+    homes = w.homes;
     terminals = w.terminals;
     tops = w.tops;
   }
@@ -135,10 +160,14 @@ module _ (s : PlainState) (w : IsWhole s) where
   pub keeps_whole : (q : NamedPages) → Keeps s.pages q → IsWhole (record s { pages = q })
   keeps_whole q k = pages_whole q k.sound.whole k.sound.room k.forks.files k.forks.keys
 
+posted_if_same : (f : Fork) (post : Option ℕ) → IsSame f (posted_if f post)
+posted_if_same f None = (refl, refl, refl)
+posted_if_same f (Some channel) = posted_same f channel
+
 -- a turn of a call leaves its fork's name, slot and superior
 pub behind_same : {C : Type 0} (f : Fork) (e : End C) → IsSame f (fork_behind f e)
 unfolding fork_behind
-behind_same f (Done change regs) = (refl, refl, refl)
+behind_same f (Done change regs out post) = posted_if_same (with_regs f regs) post
 behind_same f (Waits on) = (refl, refl, refl)
 behind_same f Halts = (refl, refl, refl)
 behind_same f (Refused code) = posted_same (with_error f code) ILLEGAL_INSTRUCTION
@@ -213,6 +242,9 @@ module _ (s : PlainState) (w : IsWhole s) (name : ForkName) where
         forks = keys q.maps maps;
         own = λ k f is. w.own k f (left k f is);
         old = λ k h. w.old k (has k h);
+        slots = λ k f is. w.slots k f (left k f is);
+        once = λ i k x y a b t e. w.once i k x y (left i x a) (left k y b) t e;
+        homes = λ k h. w.homes k (has k h);
         terminals = w.terminals;
         tops = top_of;
       }
@@ -272,43 +304,43 @@ last_tells forks who f is = up_to MOST_FORKS is
     up_to (suc n) e = either (option_and_then (leaf_below forks who) (fork_in forks who.tty (suc n))) (last_up_to forks who n) (leaf (fork_in forks who.tty (suc n))) (up_to n) e
 
 -- the state with other parts
-abbrev pub with_parts : PlainState → ForkParts name_cmp → PlainState
-with_parts s v = record s { forks = v.tree.forks; fork_serials = v.tree.serials; pages = v.pages }
+abbrev pub with_fork_parts : PlainState → ForkParts name_cmp → PlainState
+with_fork_parts s v = record s { forks = v.tree.forks; fork_serials = v.tree.serials; pages = v.pages }
 
-abbrev pub parts_of : PlainState → ForkParts name_cmp
-parts_of s = record { tree = tree_of s; pages = s.pages }
+abbrev pub fork_parts_of : PlainState → ForkParts name_cmp
+fork_parts_of s = record { tree = tree_of s; pages = s.pages }
 
 -- without a fork's inferiors
-below_whole : (n : ℕ) (f : ForkName) (s : PlainState) → IsWhole s → IsWhole (with_parts s (without_below n f (parts_of s)))
+below_whole : (n : ℕ) (f : ForkName) (s : PlainState) → IsWhole s → IsWhole (with_fork_parts s (without_below n f (fork_parts_of s)))
 unfolding without_below
 below_whole zero f s w = w
 below_whole (suc n) f s w = by (λ t whole. below_whole n f t whole) (last_below s.forks f) refl
   where
-    by : ((t : PlainState) → IsWhole t → IsWhole (with_parts t (without_below n f (parts_of t)))) → (o : Option Fork) → last_below s.forks f ≡ o → IsWhole (with_parts s (option_map_or (λ k. without_below n f (without (parts_of s) k.name)) o (parts_of s)))
+    by : ((t : PlainState) → IsWhole t → IsWhole (with_fork_parts t (without_below n f (fork_parts_of t)))) → (o : Option Fork) → last_below s.forks f ≡ o → IsWhole (with_fork_parts s (option_map_or (λ k. without_below n f (without (fork_parts_of s) k.name)) o (fork_parts_of s)))
     by rest None none = w
     by rest (Some k) is =
         let own = inferior_tells s.forks f k.name (last_tells s.forks f k is) in
-        rest (with_parts s (without (parts_of s) k.name)) (gone_whole s w k.name (below_no_top s w k.name own.0 own.1 own.2))
+        rest (with_fork_parts s (without (fork_parts_of s) k.name)) (gone_whole s w k.name (below_no_top s w k.name own.0 own.1 own.2))
 
 module _ (s : PlainState) (w : IsWhole s) where
   -- without a fork and its inferiors; who waits for a fork runs again
-  pub killed_whole : (f : ForkName) → IsNoTop s f → IsWhole (with_parts s (fork_changed (Kill f) (parts_of s)))
+  pub killed_whole : (f : ForkName) → IsNoTop s f → IsWhole (with_fork_parts s (fork_changed (Kill f) (fork_parts_of s)))
   unfolding fork_changed
   killed_whole f no_top =
-      let t = with_parts s (without_below MOST_FORKS f (parts_of s)) in
-      let u = with_parts s (killed (parts_of s) f) in
+      let t = with_fork_parts s (without_below MOST_FORKS f (fork_parts_of s)) in
+      let u = with_fork_parts s (killed (fork_parts_of s) f) in
       waiters_whole u (gone_whole t (below_whole MOST_FORKS f s w) f no_top) f.tty
 
-  pub halted_whole : (f : ForkName) → IsWhole (with_parts s (fork_changed (Halt f) (parts_of s)))
+  pub halted_whole : (f : ForkName) → IsWhole (with_fork_parts s (fork_changed (Halt f) (fork_parts_of s)))
   unfolding fork_changed
-  halted_whole f = looked_up (λ v. IsWhole (with_parts s v)) (with_halted (parts_of s)) (parts_of s) (map.get s.forks f)
+  halted_whole f = looked_up (λ v. IsWhole (with_fork_parts s v)) (with_halted (fork_parts_of s)) (fork_parts_of s) (map.get s.forks f)
       (λ g is. let h = with_status g Halted in told_whole (with_fork s h) (put s w f g is h (refl, refl, refl)) h) (λ none. w)
 
-  pub mark_whole : (f : ForkName) (on : Bool) → IsWhole (with_parts s (fork_changed (Freeze f on) (parts_of s)))
+  pub mark_whole : (f : ForkName) (on : Bool) → IsWhole (with_fork_parts s (fork_changed (Freeze f on) (fork_parts_of s)))
   unfolding fork_changed
   mark_whole f on = changed_if s w (with_mark on) (λ k. (refl, refl, refl)) (map.get s.forks f) (λ k is. ap (map.get s.forks) (w.own f k is) ∙ is)
 
-  pub body_whole : (f : ForkName) (body : Body) → IsWhole (with_parts s (fork_changed (Become f body) (parts_of s)))
+  pub body_whole : (f : ForkName) (body : Body) → IsWhole (with_fork_parts s (fork_changed (Become f body) (fork_parts_of s)))
   unfolding fork_changed
   body_whole f body = changed_if s w (with_body body) (λ k. (refl, refl, refl)) (map.get s.forks f) (λ k is. ap (map.get s.forks) (w.own f k is) ∙ is)
 
@@ -332,13 +364,28 @@ module _ (s : PlainState) (w : IsWhole s) where
   pub no_fork : (t : Tty) → map.contains_key s.forks (next_name (tree_of s) t) ≡ false
   no_fork t = w.forks (next_name (tree_of s) t) ∙ ap is_some (next_absent t)
 
+  abbrev pub Jobs : Type 0
+  Jobs = map.FinMap nat_cmp PlainJob
+
+  -- the top forks of jobs stay where a fork is made
+  pub kept_tops : (t : Tty) (f : Fork) (u : ℕ) (j : PlainJob) → map.get s.jobs u ≡ Some j → (x : Fork) × (map.get (map.insert s.forks (next_name (tree_of s) t) f) j.top ≡ Some x) × (x.slot ≡ 1) × (x.superior ≡ None)
+  kept_tops t f u j is =
+      let top = w.tops u j is in
+      (top.0, get_put_other s.forks (next_name (tree_of s) t) j.top f (λ e. gone j.top top.0 top.1 e) ∙ top.1, top.2, top.3)
+    where
+      gone : (k : ForkName) (h : Fork) → map.get s.forks k ≡ Some h → k ≡ next_name (tree_of s) t → ⊥
+      gone k h is e = let no : true ≡ false = sym (ap is_some is) ∙ ap (map.contains_key s.forks) e ∙ no_fork t in cc no
+
   -- a fork with the next name, and its map, leave the state whole
   module _ (t : Tty) (terminal : IsTerminal t) (f : Fork) (entries : NewMap) (q : NamedPages) (sound : AreSound q) (files : q.files ≡ s.pages.files)
-      (keys : (k : ForkName) → map.contains_key q.maps k ≡ map.contains_key (with_map s.pages (next_name (tree_of s) t) entries).maps k) where
+      (keys : (k : ForkName) → map.contains_key q.maps k ≡ map.contains_key (with_map s.pages (next_name (tree_of s) t) entries).maps k)
+      (jobs : Jobs) (tops : (u : ℕ) (j : PlainJob) → map.get jobs u ≡ Some j → (x : Fork) × (map.get (map.insert s.forks (next_name (tree_of s) t) f) j.top ≡ Some x) × (x.slot ≡ 1) × (x.superior ≡ None))
+      (have : (u : ℕ) → map.contains_key s.jobs u ≡ true → map.contains_key jobs u ≡ true) (home : map.contains_key jobs t.0 ≡ true)
+      (range : (1 ≤ f.slot) × (f.slot ≤ MOST_FORKS)) (empty : (k : ForkName) (h : Fork) → map.get s.forks k ≡ Some h → k.tty.0 ≡ t.0 → h.slot ≡ f.slot → ⊥) where
     name : ForkName
     name = next_name (tree_of s) t
 
-    made_at_whole : f.name ≡ name → IsWhole (record s { forks = map.insert s.forks name f; fork_serials = slice_set s.fork_serials t.0 (name.serial + 1); pages = q })
+    made_at_whole : f.name ≡ name → IsWhole (record s { forks = map.insert s.forks name f; fork_serials = slice_set s.fork_serials t.0 (name.serial + 1); pages = q; jobs = jobs })
     unfolding name
     made_at_whole named = record {
       pages = sound.whole;
@@ -353,18 +400,36 @@ module _ (s : PlainState) (w : IsWhole s) where
         | inl e ↦ subst (λ (n : ForkName). n.serial < slice_index (slice_set s.fork_serials t.0 (name.serial + 1)) n.tty.0) (sym e) (omega (arith, next_own))
         | inr ne ↦ below k (sym (ap is_some (get_put_other s.forks name k f ne)) ∙ h)
       ];
+      slots = λ k h is. elim (cases_name k name) [
+        | inl e ↦ let here : Some f ≡ Some h = sym (get_put s.forks name k f e) ∙ is in let same : f ≡ h = cc here in subst (λ (x : Fork). (1 ≤ x.slot) × (x.slot ≤ MOST_FORKS)) same range
+        | inr ne ↦ w.slots k h (sym (get_put_other s.forks name k f ne) ∙ is)
+      ];
+      once = λ i k x y a b u e. elim (cases_name i name) [
+        | inl is ↦ elim (cases_name k name) [
+          | inl si ↦ is ∙ sym si
+          | inr ne ↦ absurd (empty k y (sym (get_put_other s.forks name k f ne) ∙ b) (sym u ∙ ap (λ (n : ForkName). n.tty.0) is) (sym e ∙ slot_new i x is a))
+        ]
+        | inr ne ↦ elim (cases_name k name) [
+          | inl si ↦ absurd (empty i x (sym (get_put_other s.forks name i f ne) ∙ a) (u ∙ ap (λ (n : ForkName). n.tty.0) si) (e ∙ slot_new k y si b))
+          | inr en ↦ w.once i k x y (sym (get_put_other s.forks name i f ne) ∙ a) (sym (get_put_other s.forks name k f en) ∙ b) u e
+        ]
+      ];
+      homes = λ k h. elim (cases_name k name) [
+        | inl e ↦ ap (λ (n : ForkName). map.contains_key jobs n.tty.0) e ∙ home
+        | inr ne ↦ have k.tty.0 (w.homes k (sym (ap is_some (get_put_other s.forks name k f ne)) ∙ h))
+      ];
       terminals = length-set s.fork_serials t.0 (name.serial + 1) ∙ w.terminals;
-      tops = λ u j is. let top = w.tops u j is in (top.0, get_put_other s.forks name j.top f (λ e. gone j.top top.0 top.1 e) ∙ top.1, top.2, top.3);
+      tops = tops;
     }
       where
+        slot_new : (k : ForkName) (h : Fork) → k ≡ name → map.get (map.insert s.forks name f) k ≡ Some h → h.slot ≡ f.slot
+        slot_new k h e is = let here : Some f ≡ Some h = sym (get_put s.forks name k f e) ∙ is in let same : f ≡ h = cc here in ap (λ (x : Fork). x.slot) (sym same)
+
         alike : (k : ForkName) → map.contains_key (map.insert s.forks name f) k ≡ map.contains_key (with_map s.pages name entries).maps k
         alike k = elim (cases_name k name) [
           | inl e ↦ ap is_some (get_put s.forks name k f e) ∙ sym (ap is_some (get_put s.pages.maps name k (new_map entries) e))
           | inr ne ↦ ap is_some (get_put_other s.forks name k f ne) ∙ w.forks k ∙ sym (ap is_some (get_put_other s.pages.maps name k (new_map entries) ne))
         ]
-
-        gone : (k : ForkName) (h : Fork) → map.get s.forks k ≡ Some h → k ≡ name → ⊥
-        gone k h is e = let no : true ≡ false = sym (ap is_some is) ∙ ap (map.contains_key s.forks) e ∙ no_fork t in cc no
 
         next_own : slice_index (slice_set s.fork_serials t.0 (name.serial + 1)) t.0 ≡ name.serial + 1
         next_own = get_or-set_at s.fork_serials t.0 t.0 (name.serial + 1) 0 refl (omega (arith, terminal, w.terminals))
@@ -379,22 +444,25 @@ module _ (s : PlainState) (w : IsWhole s) where
                 omega (arith, here, before, w.old k h)
             by (inr e) = omega (arith, get_or-set_other s.fork_serials t.0 k.tty.0 (name.serial + 1) 0 e.1, w.old k h)
 
-    pub made_whole : f.name ≡ next_name (tree_of s) t → IsWhole (with_parts s (record { tree = with_made (tree_of s) f; pages = q }))
+    pub made_whole : f.name ≡ next_name (tree_of s) t → IsWhole (record (with_fork_parts s (record { tree = with_made (tree_of s) f; pages = q })) { jobs = jobs })
     unfolding name
-    made_whole named = subst (λ (n : ForkName). IsWhole (record s { forks = map.insert s.forks n f; fork_serials = slice_set s.fork_serials n.tty.0 (n.serial + 1); pages = q })) (sym named) (made_at_whole named)
+    made_whole named = subst (λ (n : ForkName). IsWhole (record s { forks = map.insert s.forks n f; fork_serials = slice_set s.fork_serials n.tty.0 (n.serial + 1); pages = q; jobs = jobs })) (sym named) (made_at_whole named)
 
   -- a change of a fork call leaves the state whole
-  module _ (who : ForkName) (regs : Regs) (terminal : IsTerminal who.tty) (q : NamedPages) where
+  module _ (who : ForkName) (regs : Regs) (terminal : IsTerminal who.tty) (lives : map.contains_key s.forks who ≡ true) (q : NamedPages) where
     abbrev caller : ForkAsked
     caller = record { who = who; regs = regs; tree = tree_of s }
 
     no_top : (f : ForkName) → is_inferior s.forks who f ≡ true → IsNoTop s f
     no_top f below = let own = inferior_tells s.forks who f below in below_no_top s w f own.0 own.1 own.2
 
-    change_whole : (change : ForkChange) → FitsChange caller s.pages (λ x y. Keeps x y) q change → IsWhole (with_parts s (fork_changed change (record (parts_of s) { pages = q })))
+    change_whole : (change : ForkChange) → FitsChange caller s.pages (λ x y. Keeps x y) q change → IsWhole (with_fork_parts s (fork_changed change (record (fork_parts_of s) { pages = q })))
     unfolding fork_changed
     change_whole Nothing k = keeps_whole s w q k
-    change_whole (Make f) made = made_whole who.tty terminal f (map_wanted caller) q made.pages.sound made.pages.forks.files made.pages.forks.keys made.name
+    change_whole (Make f) made =
+        let free = free_tells s.forks who.tty f.slot made.slot in
+        made_whole who.tty terminal f (map_wanted caller) q made.pages.sound made.pages.forks.files made.pages.forks.keys s.jobs (λ u j is. kept_tops who.tty f u j is) (λ u h. h) (w.homes who lives) (free.0, free.1)
+        (none_in_slot s.forks w.own w.once who.tty f.slot free.2) made.name
     change_whole (Kill f) fits = killed_whole (record s { pages = q }) (keeps_whole s w q fits.1) f (no_top f fits.0)
     change_whole (Freeze f on) fits = mark_whole (record s { pages = q }) (keeps_whole s w q fits.1) f on
     change_whole (Become f body) fits = body_whole (record s { pages = q }) (keeps_whole s w q fits.1) f body
@@ -404,7 +472,7 @@ module _ (s : PlainState) (w : IsWhole s) where
   -- a fork call leaves the state whole
   pub fork_called_whole : (name : ForkName) (f : Fork) → map.get s.forks name ≡ Some f → IsForkName name → (number : ℕ) → IsWhole (fork_called s f number)
   unfolding parts_behind
-  fork_called_whole name f there fits number = by (fork_end s f number) (call_keeps nat_list_cmp_total a own s.pages (sound s w) (next_absent f.name.tty) number)
+  fork_called_whole name f there fits number = by (fork_came s f number).end (call_keeps nat_list_cmp_total a own s.pages (sound s w) (next_absent f.name.tty) number)
     where
       a : ForkAsked
       a = record { who = f.name; regs = f.body.regs; tree = tree_of s }
@@ -415,11 +483,14 @@ module _ (s : PlainState) (w : IsWhole s) where
       own : IsOwner f.name.tty
       own = inl terminal
 
-      q : NamedPages
-      q = made_by (fork_turn s f number) s.pages
+      lives : map.contains_key s.forks f.name ≡ true
+      lives = ap (map.contains_key s.forks) (w.own name f there) ∙ ap is_some there
 
-      by : (e : End ForkChange) → FitsEnd a s.pages (λ x y. Keeps x y) q e → IsWhole (with_parts s (parts_behind (fork_changed_by (fork_turn s f number)) (parts_of s) e))
-      by (Done change regs) ok = change_whole f.name f.body.regs terminal q change ok
+      q : NamedPages
+      q = (fork_came s f number).pages
+
+      by : (e : End ForkChange) → FitsEnd a s.pages (λ x y. Keeps x y) q e → IsWhole (with_parts s (parts_behind (through forks_part fork_changed) (parts_of s) (record (parts_of s) { pages = q }) e))
+      by (Done change regs out post) ok = change_whole f.name f.body.regs terminal lives q change ok
       by (Waits on) ok = w
       by Halts ok = w
       by (Refused code) ok = w

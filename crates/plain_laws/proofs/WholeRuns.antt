@@ -1,6 +1,6 @@
 -- The plain state is whole wherever a run comes.
 use Rattle.std.proofs.Common.{◌≡◌, ℕ, ◌+◌, ◌%◌, ◌<◌, ◌≤◌, Bool, true, false, cond, List, [], ◌∷◌, length, Option, None, Some, inl, refl, sym, ◌∙◌, ap, subst, arith, All}
-use Rattle.std.specs.Prelude.{◌==◌, is_some, nat_lt, slice_set}
+use Rattle.std.specs.Prelude.{is_some, nat_lt}
 use Rattle.std.specs.Ordering.{eq_by_cmp, nat_cmp}
 use Rattle.std.specs.Cmp.{nat_cmp_total}
 use Rattle.std.specs.Cmp.Lexicographic.{nat_list_cmp_total}
@@ -25,14 +25,9 @@ use Rattle.plain_model.specs.declared.fork.TerminalMode.TheVariants.{Command, Pr
 use Rattle.script_texts.specs.declared.status.ForkStatus.{ForkStatus}
 use Rattle.script_texts.specs.declared.status.ForkStatus.TheVariants.{Run as Running, Wait, Halted, Forced}
 use Rattle.plain_model.specs.Interrupts.{posted}
-use Rattle.plain_model.specs.declared.call.TheConstants.{PBOUT}
-use Rattle.plain_model.specs.Unit.{Effect, in_command_mode, with_stopped, stopped, unit_ended, trapped, turned, caller_behind, fork_turned, called, advanced, posted_if, went, over, unit}
+use Rattle.plain_model.specs.Unit.{Effect, in_command_mode, with_stopped, stopped, unit_ended, trapped, called, went, over, unit, parts_of, put_with}
 use Rattle.plain_units.specs.Units.{unit_on}
-use Rattle.plain_model.specs.declared.call.End.{End}
-use Rattle.plain_model.specs.declared.call.MapChange.{MapChange}
-use Rattle.plain_model.specs.Calls.{end_of, fork_behind, parts_behind, lifted, is_among}
-use Rattle.plain_model.specs.MapCalls.{map_call, map_changed, pages_seen}
-use Rattle.plain_model.specs.ForkCalls.{fork_calls, fork_end, fork_called}
+use Rattle.plain_model.specs.Calls.{fork_behind, out_of, posted_if}
 use Rattle.plain_units.specs.Steps.{Planned, Ending, done, call, trap, need, stopped as unit_stopped, begun, pages_left}
 use Rattle.script_texts.specs.declared.event.Event.{Event}
 use Rattle.script_texts.specs.declared.event.Event.TheVariants.{Login, TypeIn, File, Words, Poke, Start, Run, Tick, Evict, Drum, Auto, Examine, Forks, Page, Trace}
@@ -51,8 +46,11 @@ use Rattle.plain_pages.proofs.Whole.{opening_whole, map_whole, live_whole}
 use Rattle.plain_pages.proofs.ReferencesMade.{has_room}
 use Rattle.plain_model.proofs.MapTurns.{turn_whole}
 use Rattle.plain_units.proofs.PageRuns.{AreSound, PlanKeeps, kept_itself, kept_on, reference_kept, run_kept, stored_kept}
-use Rattle.plain_laws.proofs.WholeForks.{job_whole, pages_whole, sound, keeps_whole, behind_same, put, told_whole, made_whole, next_absent, fork_called_whole}
+use Rattle.plain_laws.proofs.WholeForks.{kept_tops, job_whole, pages_whole, sound, keeps_whole, behind_same, put, told_whole, made_whole, next_absent, fork_called_whole}
 use Rattle.plain_model.proofs.Posted.{IsSame, posted_same}
+use Rattle.plain_model.proofs.Calling.{fork_came, fork_left, fork_called, fork_turned, map_came, map_pages, map_turned, print_came, print_turned, none_turned, caller_by, called_by, map_by, print_by}
+use Rattle.plain_units.specs.declared.channel.TheConstants.{ILLEGAL_INSTRUCTION}
+use Rattle.std.proofs.lemmas.Cmp.{eq_by_cmp_equiv}
 
 -- the opening state is whole
 pub whole_opening : (limit : ℕ) → IsWhole (opening limit)
@@ -64,6 +62,9 @@ whole_opening limit = record {
   forks = λ f. none f ∙ sym (no_map f);
   own = λ k f h. absurd (cc (sym (map.get-empty fork_cmp k) ∙ h));
   old = λ f h. absurd (cc (sym (none f) ∙ h));
+  slots = λ k f h. absurd (cc (sym (map.get-empty fork_cmp k) ∙ h));
+  once = λ j k f g h. absurd (cc (sym (map.get-empty fork_cmp j) ∙ h));
+  homes = λ f h. absurd (cc (sym (none f) ∙ h));
   terminals = first_terminals;
   tops = λ t j h. absurd (cc (sym (map.get-empty nat_cmp t) ∙ h));
 }
@@ -90,40 +91,50 @@ mode_whole s w t = looked_up IsWhole _ s (map.get s.jobs t.0) (λ j is. job_whol
 module _ (s : PlainState) (w : IsWhole s) (name : ForkName) (f : Fork) (there : map.get s.forks name ≡ Some f) where
   stopped_whole : (g : Fork) → IsSame f g → Leaves (stopped s g)
   stopped_whole g same =
-      let t = with_stopped s g in let m : IsWhole t = told_whole (with_fork s (counted g)) (put s w name f there (counted g) same) (counted g) in
+      let t = with_stopped s g in let m : IsWhole t = told_whole (with_fork s g) (put s w name f there g same) g in
       cond_both (is_some g.superior) _ _ Leaves (λ below. m) (λ top. mode_whole t m g.name.tty)
 
+  put_whole : (g : Fork) (status : ForkStatus) → IsSame f g → Leaves (put_with s g status)
+  put_whole g Running same = put s w name f there g same
+  put_whole g (Wait on) same = put s w name f there g same
+  put_whole g Halted same = stopped_whole g same
+  put_whole g (Forced channel) same = stopped_whole g same
+
   ended_whole_fork : (g : Fork) (status : ForkStatus) → IsSame f g → Leaves (unit_ended s g status)
-  ended_whole_fork g Running same = put s w name f there (counted g) same
-  ended_whole_fork g (Wait on) same = put s w name f there (counted g) same
-  ended_whole_fork g Halted same = stopped_whole g same
-  ended_whole_fork g (Forced channel) same = stopped_whole g same
+  ended_whole_fork g status same = put_whole (counted g) status same
 
   trapped_whole : (channel : ℕ) → Leaves (trapped s f channel)
   trapped_whole channel = ended_whole_fork (posted f channel) (posted f channel).body.status (posted_same f channel)
 
 module _ (s : PlainState) (w : IsWhole s) (name : ForkName) (f : Fork) (there : map.get s.forks name ≡ Some f) where
+  -- the fork that called, as it is put among the forks
+  called_with : (u : PlainState) → IsWhole u → (g : Fork) → map.get u.forks f.name ≡ Some g → (h : Fork) → IsSame g h → Leaves (unit_ended u h h.body.status)
+  called_with u whole g is h same = ended_whole_fork u whole f.name g is h h.body.status same
+
+  -- a call that prints changes nothing else
+  print_whole : (number : ℕ) → Leaves (print_turned s f number)
+  print_whole number = print_by Leaves s f number (λ g is. called_with s w g is (fork_behind g (print_came s f number).end) (behind_same g (print_came s f number).end)) w
+
   -- a call on maps changes pages alone
-  turned_whole : (e : End MapChange) → Leaves (turned (lifted pages_seen map_changed s f e))
-  turned_whole e =
-      let q = parts_behind map_changed s.pages e in
+  map_whole_turn : (number : ℕ) → Leaves (map_turned s f number)
+  map_whole_turn number =
+      let e = (map_came s f number).end in
       let stays = turn_whole s.pages w.pages e in
-      let whole = pages_whole s w q stays.whole (omega (arith, w.room, stays.room, stays.limit)) stays.files stays.keys in
-      ended_whole_fork (record s { pages = q }) whole name f there (fork_behind f e) (fork_behind f e).body.status (behind_same f e)
+      let whole = pages_whole s w (map_pages s f number) stays.whole (omega (arith, w.room, stays.room, stays.limit)) stays.files stays.keys in
+      map_by Leaves s f number (λ g is. called_with (record s { pages = map_pages s f number }) whole g is (fork_behind g e) (behind_same g e)) whole
 
   -- a fork call changes forks and pages
   fork_turned_whole : (number : ℕ) → IsForkName name → Leaves (fork_turned s f number)
   fork_turned_whole number fits =
-      let t = fork_called s f number in
+      let e = (fork_came s f number).end in
       let whole = fork_called_whole s w name f there fits number in
-      looked_up Leaves (caller_behind t (fork_end s f number)) _ (map.get t.forks f.name)
-      (λ g is. let h = fork_behind g (fork_end s f number) in ended_whole_fork t whole f.name g is h h.body.status (behind_same g (fork_end s f number))) (λ none. whole)
+      caller_by Leaves s f.name.tty (fork_left s f number) f.name (λ g. fork_behind g e) (out_of e) (λ g is. called_with (fork_called s f number) whole g is (fork_behind g e) (behind_same g e)) whole
+
+  none_whole : Leaves (none_turned s f)
+  none_whole = caller_by Leaves s f.name.tty (parts_of s) f.name (λ g. posted g ILLEGAL_INSTRUCTION) None (λ g is. called_with s w g is (posted g ILLEGAL_INSTRUCTION) (posted_same g ILLEGAL_INSTRUCTION)) w
 
   called_whole : (number : ℕ) → IsForkName name → Leaves (called s f number)
-  called_whole number fits =
-      cond_both (number == PBOUT) _ _ Leaves (λ prints. put s w name f there (counted (with_regs f (advanced f.body.regs))) (refl, refl, refl)) (λ other.
-      cond_both (is_among fork_calls number) _ _ Leaves (λ is. fork_turned_whole number fits) (λ none.
-      turned_whole (end_of s.pages (map_call number (record { who = f.name; regs = f.body.regs; forks = s.forks })))))
+  called_whole number fits = called_by Leaves s f number (print_whole number) (fork_turned_whole number fits) (map_whole_turn number) none_whole
 
 -- a unit that goes through leaves its fork's name and slot
 went_whole : (s : PlainState) (w : IsWhole s) (name : ForkName) (f : Fork) → map.get s.forks name ≡ Some f → (q : NamedPages) → IsWhole (record s { pages = q }) → (e : Ending) → Leaves (went s f q e)
@@ -155,38 +166,48 @@ module _ (s : PlainState) (w : IsWhole s) where
   changed_whole : (name : ForkName) (change : Fork → Fork) → ((f : Fork) → IsSame f (change f)) → IsWhole (change_fork s name change)
   changed_whole name change same = looked_up IsWhole _ s (map.get s.forks name) (λ f is. put s w name f is (change f) (same f)) (λ none. w)
 
-  with_job_whole : (t : Tty) (user : List ℕ) → IsTerminal t → HasRoom (with_map s.pages (next_fork s t) EmptyMap) t ≡ true → IsWhole (with_job s t user)
-  with_job_whole t user terminal room = record {
-    pages = m.pages;
-    room = m.room;
-    files = m.files;
-    forks = m.forks;
-    own = m.own;
-    old = m.old;
-    terminals = m.terminals;
-    tops = λ u i is. top_of i (eq_by_cmp nat_cmp u t.0) u (sym (map.get-insert nat_cmp_total s.jobs t.0 (new_job user f) u) ∙ is);
-  }
+  with_job_whole : (t : Tty) (user : List ℕ) → IsTerminal t → is_some (map.get s.jobs t.0) ≡ false → HasRoom (with_map s.pages (next_fork s t) EmptyMap) t ≡ true → IsWhole (with_job s t user)
+  with_job_whole t user terminal no_job room = made_whole s w t terminal (top_fork f) EmptyMap (with_map s.pages f EmptyMap) sound refl (λ k. refl) jobs tops have home (omega arith, omega arith) nobody refl
     where
       f : ForkName
       f = next_fork s t
 
+      jobs : map.FinMap nat_cmp PlainJob
+      jobs = map.insert s.jobs t.0 (new_job user f)
+
+      at : (u : ℕ) → map.get jobs u ≡ cond (eq_by_cmp nat_cmp u t.0) (Some (new_job user f)) (map.get s.jobs u)
+      at u = map.get-insert nat_cmp_total s.jobs t.0 (new_job user f) u
+
       sound : AreSound (with_map s.pages f EmptyMap)
       sound = record { whole = map_whole s.pages w.pages f (next_absent s w t) EmptyMap; room = has_room (with_map s.pages f EmptyMap) t room }
 
-      m : IsWhole (record (with_fork s (top_fork f)) { pages = with_map s.pages f EmptyMap; fork_serials = slice_set s.fork_serials t.0 (f.serial + 1) })
-      m = made_whole s w t terminal (top_fork f) EmptyMap (with_map s.pages f EmptyMap) sound refl (λ k. refl) refl
+      home : map.contains_key jobs t.0 ≡ true
+      home = ap is_some (at t.0) ∙ ap (λ b. is_some (cond b (Some (new_job user f)) (map.get s.jobs t.0))) (let e = eq_by_cmp_equiv nat_cmp_total in e.refl t.0)
 
-      top_of : (i : PlainJob) (b : Bool) (u : ℕ) → cond b (Some (new_job user f)) (map.get s.jobs u) ≡ Some i → (x : Fork) × (map.get (map.insert s.forks f (top_fork f)) i.top ≡ Some x) × (x.slot ≡ 1) × (x.superior ≡ None)
-      top_of i true u is =
-          let here : new_job user f ≡ i = cc is in
-          (top_fork f, ap (λ (j : PlainJob). map.get (map.insert s.forks f (top_fork f)) j.top) (sym here) ∙ get_put s.forks f f (top_fork f) refl, refl, refl)
-      top_of i false u is = m.tops u i is
+      have : (u : ℕ) → map.contains_key s.jobs u ≡ true → map.contains_key jobs u ≡ true
+      have u h = ap is_some (at u) ∙ by (eq_by_cmp nat_cmp u t.0)
+        where
+          by : (b : Bool) → is_some (cond b (Some (new_job user f)) (map.get s.jobs u)) ≡ true
+          by true = refl
+          by false = h
+
+      nobody : (k : ForkName) (h : Fork) → map.get s.forks k ≡ Some h → k.tty.0 ≡ t.0 → h.slot ≡ 1 → ⊥
+      nobody k h is here one = let no : true ≡ false = sym (w.homes k (ap is_some is)) ∙ ap (map.contains_key s.jobs) here ∙ no_job in cc no
+
+      tops : (u : ℕ) (i : PlainJob) → map.get jobs u ≡ Some i → (x : Fork) × (map.get (map.insert s.forks f (top_fork f)) i.top ≡ Some x) × (x.slot ≡ 1) × (x.superior ≡ None)
+      tops u i is = top_of i (eq_by_cmp nat_cmp u t.0) (sym (at u) ∙ is)
+        where
+          top_of : (i : PlainJob) (b : Bool) → cond b (Some (new_job user f)) (map.get s.jobs u) ≡ Some i → (x : Fork) × (map.get (map.insert s.forks f (top_fork f)) i.top ≡ Some x) × (x.slot ≡ 1) × (x.superior ≡ None)
+          top_of i true is =
+              let here : new_job user f ≡ i = cc is in
+              (top_fork f, ap (λ (j : PlainJob). map.get (map.insert s.forks f (top_fork f)) j.top) (sym here) ∙ get_put s.forks f f (top_fork f) refl, refl, refl)
+          top_of i false is = kept_tops s w t (top_fork f) u i is
 
   login_whole : (t : Tty) (user : List ℕ) → IsTerminal t → Leaves (login s t user)
   login_whole t user terminal =
       cond_both (is_some (map.get s.jobs t.0)) _ _ Leaves (λ busy. w) (λ free.
       cond_both (nat_lt LAST_SERIAL (next_fork s t).serial) _ _ Leaves (λ out. w) (λ few.
-      cond_both (HasRoom (with_map s.pages (next_fork s t) EmptyMap) t) _ _ Leaves (λ fits. with_job_whole t user terminal fits) (λ none. w)))
+      cond_both (HasRoom (with_map s.pages (next_fork s t) EmptyMap) t) _ _ Leaves (λ fits. with_job_whole t user terminal free fits) (λ none. w)))
 
   poked_whole : (t : Tty) → IsTerminal t → (at : Slot) (offset word : ℕ) (r : Referred name_cmp) → reference s.pages (in_map at) Write t ≡ r → Leaves (poked s t at offset word r)
   poked_whole t terminal at offset word (granted q) is =
@@ -225,8 +246,8 @@ module _ (s : PlainState) (w : IsWhole s) where
   outer_whole (Examine t serial address) fits = job_effect t _ (λ j is.
       looked_up Leaves (examined_in s t serial address) _ (map.get s.forks (record { tty = t; serial = serial })) (λ f there. looked_up Leaves _ _ (word_seen s f address) (λ word seen. w) (λ none. w)) (λ none. w))
   outer_whole (Forks t) fits = job_effect t _ (λ j is. w)
-  outer_whole Tick fits = record { pages = w.pages; room = w.room; files = w.files; forks = w.forks; own = w.own; old = w.old; terminals = w.terminals; tops = w.tops }
-  outer_whole (Trace on) fits = record { pages = w.pages; room = w.room; files = w.files; forks = w.forks; own = w.own; old = w.old; terminals = w.terminals; tops = w.tops }
+  outer_whole Tick fits = record { pages = w.pages; room = w.room; files = w.files; forks = w.forks; own = w.own; old = w.old; slots = w.slots; once = w.once; homes = w.homes; terminals = w.terminals; tops = w.tops }
+  outer_whole (Trace on) fits = record { pages = w.pages; room = w.room; files = w.files; forks = w.forks; own = w.own; old = w.old; slots = w.slots; once = w.once; homes = w.homes; terminals = w.terminals; tops = w.tops }
   outer_whole (TypeIn t text) fits = w
   outer_whole (File name) fits = w
   outer_whole (Words name page offset row) fits = w

@@ -14,40 +14,20 @@ use Rattle.machine_names.specs.declared.names.PageName.{PageName}
 use Rattle.plain_model.specs.declared.fork.Fork.{Fork}
 use Rattle.plain_pages.specs.PlainPages.{PlainPages, refiled}
 use Rattle.machine_names.specs.Orders.{file_page_cmp}
-use Rattle.plain_pages.specs.Room.{page_in, HasRoom}
-use Rattle.plain_pages.specs.References.{without_fork, stored, in_map, slot_at, page_at}
-use Rattle.plain_units.specs.Steps.{Ending, Planned, pages_left, done, stopped, trap, need, call, is_accumulator, begun}
-use Rattle.plain_pages.specs.NewMaps.{with_map}
+use Rattle.plain_pages.specs.Room.{page_in}
+use Rattle.plain_pages.specs.References.{without_fork, stored, in_map, slot_at}
+use Rattle.plain_units.specs.Steps.{is_accumulator}
 use Rattle.plain_model.specs.Inferiors.{last_below}
-use Rattle.plain_model.specs.Calls.{Turn, sees, finds, takes, adds, ends, entry_of, stepped, with_added, made_by, parts_behind}
-use Rattle.plain_units.specs.Blocks.{steps_on, next_address, stored_from}
+use Rattle.plain_model.specs.Calls.{Turn, Came, no_files, turn_on, parts_behind}
+use Rattle.plain_units.specs.Blocks.{next_address, stored_from}
 use Rattle.plain_model.specs.Trees.{waiters_woken}
-use Rattle.plain_model.specs.ForkCalls.{ForkParts, with_forks, without, without_below, killed, with_halted, fork_changed, fork_changed_by}
+use Rattle.plain_model.specs.ForkCalls.{ForkParts, with_forks, without, without_below, killed, with_halted, fork_changed}
 use Rattle.plain_pages.proofs.Kept.{drop_all_leaves}
 use Rattle.plain_pages.proofs.Refiled.{NameAlike, fork_refiled}
-use Rattle.plain_units.proofs.RefiledUnits.{LeavesFiles, left_leaves, run_leaves, still_alike, stored_leaves, stored_refiled}
-use Rattle.plain_model.proofs.Turns.{made_refiled}
+use Rattle.plain_units.proofs.RefiledUnits.{still_alike, stored_leaves, stored_refiled}
+use Rattle.plain_model.proofs.Turns.{came_leaves, came_refiled}
 
 module _ {K : Type 0} {file_cmp : K → K → Ordering} where
-  -- the turn makes no page of a file
-  pub made_leaves : {C : Type 0} (t : Turn C) (p : PlainPages file_cmp) → (made_by t p).files ≡ p.files
-  unfolding made_by
-  made_leaves (sees s next) p = made_leaves (next (entry_of p s)) p
-  made_leaves (finds s next) p = made_leaves (next (page_at p (in_map s))) p
-  made_leaves (takes f regs steps next) p = by (λ e q. made_leaves (next e) q) (steps_on f regs steps p) (run_leaves f steps (begun p regs.ac))
-    where
-      by : ((e : Ending) (q : PlainPages file_cmp) → (made_by (next e) q).files ≡ q.files) → (r : Planned file_cmp ⊥) → LeavesFiles p.files r → (stepped f r (λ q e. made_by (next e) q) (λ channel. p)).files ≡ p.files
-      by rest (done t e) leaves = rest e (pages_left f t e) ∙ left_leaves f t e ∙ leaves
-      by rest (stopped (trap channel)) leaves = refl
-      by rest (stopped (need none)) leaves = absurd none
-      by rest (call number) leaves = refl
-  made_leaves (adds f entries next) p = by (λ b q. made_leaves (next b) q) (HasRoom (with_map p f entries) f.tty)
-    where
-      by : ((b : Bool) (q : PlainPages file_cmp) → (made_by (next b) q).files ≡ q.files) → (b : Bool) → (made_by (next b) (with_added p f entries b)).files ≡ p.files
-      by rest true = rest true (with_map p f entries)
-      by rest false = rest false p
-  made_leaves (ends e) p = refl
-
   fork_leaves : (p : PlainPages file_cmp) (f : ForkName) → (without_fork p f).files ≡ p.files
   unfolding without_fork
   fork_leaves p f = ap (λ (q : PlainPages file_cmp). q.files) (drop_all_leaves (record p { maps = map.remove p.maps f }) (option_map_or (filter_map page_in) (map.get p.maps f) []))
@@ -147,23 +127,29 @@ module _ {K L : Type 0} {file_cmp : K → K → Ordering} (other_cmp : L → L �
   change_refiled (Store f at words) v alike = ap (λ (p : PlainPages other_cmp). record { tree = v.tree; pages = p }) (stored_from_refiled v.pages f at words)
 
   -- and so does a turn
-  pub fork_turn_refiled : (t : Turn ForkChange) (e : End ForkChange) (v : ForkParts file_cmp) → AreAlike v
-      → parts_behind (fork_changed_by t) (refiled_parts v) e ≡ refiled_parts (parts_behind (fork_changed_by t) v e)
+  pub fork_turn_refiled : (t : Turn ⊥ ForkChange) (v : ForkParts file_cmp) → AreAlike v
+      → parts_behind fork_changed (refiled_parts v) (record { tree = v.tree; pages = (turn_on no_files (refiled_parts v).pages t).pages }) (turn_on no_files (refiled_parts v).pages t).end
+      ≡ refiled_parts (parts_behind fork_changed v (record { tree = v.tree; pages = (turn_on no_files v.pages t).pages }) (turn_on no_files v.pages t).end)
   unfolding parts_behind
-  fork_turn_refiled t (Done change regs) v alike =
-      let made = record v { pages = made_by t v.pages } in
-      ap (λ (p : PlainPages other_cmp). fork_changed change (record { tree = v.tree; pages = p })) (made_refiled other_cmp files v.pages t alike)
-      ∙ change_refiled change made (still_alike other_cmp files v.pages made.pages alike (made_leaves t v.pages))
-  fork_turn_refiled t (Waits on) v alike = refl
-  fork_turn_refiled t Halts v alike = refl
-  fork_turn_refiled t (Refused code) v alike = refl
-  fork_turn_refiled t (Failed code) v alike = refl
-  fork_turn_refiled t (Trap channel) v alike = refl
+  fork_turn_refiled t v alike =
+      ap (λ (c : Came other_cmp ForkChange). parts_behind fork_changed (refiled_parts v) (record { tree = v.tree; pages = c.pages }) c.end) (came_refiled other_cmp files t v.pages alike)
+      ∙ by (turn_on no_files v.pages t).end
+    where
+      made : ForkParts file_cmp
+      made = record { tree = v.tree; pages = (turn_on no_files v.pages t).pages }
+
+      by : (e : End ForkChange) → parts_behind fork_changed (refiled_parts v) (refiled_parts made) e ≡ refiled_parts (parts_behind fork_changed v made e)
+      by (Done change regs out post) = change_refiled change made (still_alike other_cmp files v.pages made.pages alike (came_leaves t v.pages))
+      by (Waits on) = refl
+      by Halts = refl
+      by (Refused code) = refl
+      by (Failed code) = refl
+      by (Trap channel) = refl
 
 -- the pages of files stay
-pub fork_turn_files : {K : Type 0} {file_cmp : K → K → Ordering} (t : Turn ForkChange) (e : End ForkChange) (v : ForkParts file_cmp) → (parts_behind (fork_changed_by t) v e).pages.files ≡ v.pages.files
+pub fork_turn_files : {K : Type 0} {file_cmp : K → K → Ordering} (t : Turn ⊥ ForkChange) (e : End ForkChange) (v : ForkParts file_cmp) → (parts_behind fork_changed v (record { tree = v.tree; pages = (turn_on no_files v.pages t).pages }) e).pages.files ≡ v.pages.files
 unfolding parts_behind
-fork_turn_files t (Done change regs) v = changed_leaves change (record v { pages = made_by t v.pages }) ∙ made_leaves t v.pages
+fork_turn_files t (Done change regs out post) v = changed_leaves change (record { tree = v.tree; pages = (turn_on no_files v.pages t).pages }) ∙ came_leaves t v.pages
 fork_turn_files t (Waits on) v = refl
 fork_turn_files t Halts v = refl
 fork_turn_files t (Refused code) v = refl

@@ -6,7 +6,7 @@ use Rattle.pmap_calls.proofs.turn.end.Goals as goal
 pub returns-in-Ok-clause-told : goal.returns-in-Ok-clause-told
 returns-in-Ok-clause-told g c d f =
     let t = c.in-Ok.ensures.told d f in
-    (t.0, inl (record { answered = c.answer_of.ensures ∙ sym (ap answer_of c.in-Done.is); left = t.1 ∙ behind_done (g.P.Pages.means.plain c.args.pages.now d) c.args.end c.in-Done.what c.in-Done.field-1 c.in-Done.is }))
+    (t.0, inl (record { answered = c.answer_of.ensures ∙ sym (ap (answer_of c.args.who) c.in-Done.is); left = t.1 ∙ behind_done (g.P.Pages.means.plain c.args.pages.now d) c.args.end c.in-Done.what _ _ _ c.in-Done.is }))
 
 pub returns-in-Waits-clause-told : goal.returns-in-Waits-clause-told
 returns-in-Waits-clause-told g c d f =
