@@ -113,7 +113,7 @@ pub enum End<C> {
 }
 
 /// What a turn's reference comes to: the page is there, the access forbids it, or the drum is full.
-#[derive(Clone, Copy, Debug, PartialEq, Eq)]
+#[derive(Clone, Copy)]
 pub enum Touched {
     Granted,
     Denied,
