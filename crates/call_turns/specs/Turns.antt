@@ -45,14 +45,19 @@ IsAsk (Finds s) = s.page < SPACE_PAGES
 abbrev pub IsRegs : Regs → Type 0
 IsRegs regs = (regs.pc < 2 ^ 18) × (length regs.ac ≡ ACCUMULATORS)
 
+-- a character, if one is printed
+abbrev pub IsOut : Option ℕ → Type 0
+IsOut None = Unit {0}
+IsOut (Some code) = code < 128
+
 -- a channel, if one is posted
 abbrev pub IsPost : Option ℕ → Type 0
 IsPost None = Unit {0}
 IsPost (Some channel) = channel < 36
 
--- a change that is made is sound, and registers and a channel are within their limits
+-- a change that is made is sound, and registers, a character and a channel are within their limits
 abbrev pub FitsEnd : {C : Type 0} → (C → Type 0) → End C → Type 0
-FitsEnd sound (Done change regs out post) = sound change × IsRegs regs × IsPost post
+FitsEnd sound (Done change regs out post) = sound change × IsRegs regs × IsOut out × IsPost post
 FitsEnd sound (Waits on) = Unit {0}
 FitsEnd sound Halts = Unit {0}
 FitsEnd sound (Refused code) = Unit {0}

@@ -2,12 +2,10 @@
 ghost use Rattle.std.specs.Prelude.{◌≡◌, ◌<◌, ◌^◌, length};
 ghost use Rattle.machine_names.specs.declared.names.TheConstants.{ACCUMULATORS};
 ghost use Rattle.plain_model.specs.Calls.{behind_call, returning as returning_of, with_ac as with_ac_of};
-ghost use Rattle.call_turns.specs.Answers.{answer_of as answer_to, chars_of as chars_told};
+ghost use Rattle.call_turns.specs.Answers.{answer_of as answer_to};
 ghost use Rattle.call_turns.specs.Turns.{IsRegs};
 
-use crate::{Answer, Chars};
-use machine_names::ForkName;
-use machine_names::character::{CARRIAGE_RETURN, LINE_END, LINE_FEED};
+use crate::Answer;
 use plain_model::call::End;
 use plain_units::Regs;
 use word36::Word;
@@ -46,35 +44,9 @@ pub fn returning<C>(change: C, regs: Regs) -> End<C>
     }
 }
 
-// The characters that are printed of one: the end of a line prints as two.
-fn chars_of(out: Option<u8>) -> Chars
-    ensures { result ≡ chars_told out }
-{
-    match out {
-        Some(code) => {
-            if code == LINE_END {
-                Chars {
-                    count: 2,
-                    codes: [CARRIAGE_RETURN, LINE_FEED],
-                }
-            } else {
-                Chars {
-                    count: 1,
-                    codes: [code, 0],
-                }
-            }
-        }
-        None => Chars {
-            count: 0,
-            codes: [0; 2],
-        },
-    }
-}
-
-/// The answer of a turn of a fork that ends so. Whoever makes the call knows by its number how many returns it has, and so what a
-/// refusal leaves.
-pub fn answer_of<C: Copy>(who: ForkName, end: End<C>) -> Answer
-    ensures { result ≡ answer_to who end }
+/// The answer of a turn that ends so.
+pub fn answer_of<C: Copy>(end: End<C>) -> Answer
+    ensures { result ≡ answer_to end }
 {
     match end {
         End::Done {
@@ -82,18 +54,11 @@ pub fn answer_of<C: Copy>(who: ForkName, end: End<C>) -> Answer
             out,
             post,
             ..
-        } => Answer::After {
-            regs,
-            out: chars_of(out),
-            post: match post {
-                Some(channel) => Some((who, channel)),
-                None => None,
-            },
-        },
+        } => Answer::After { regs, out, post },
         End::Waits(on) => Answer::Wait(on),
         End::Halts => Answer::Halt,
         End::Refused(code) => Answer::Refused(code),
-        End::Failed(code) => Answer::Refused(code),
+        End::Failed(code) => Answer::Failed(code),
         End::Trap(channel) => Answer::Trap(channel),
     }
 }

@@ -3,7 +3,6 @@ use Rattle.std.proofs.Common.{◌≡◌, ℕ, Option, None, Some, Result, Ok, Er
 use Rattle.std.specs.Option.{option_map_or}
 use Rattle.plain_model.specs.declared.call.End.{End}
 use Rattle.plain_model.specs.declared.call.End.TheVariants.{Done, Waits, Halts, Refused, Failed, Trap}
-use Rattle.script_texts.specs.declared.status.WaitOn.{WaitOn}
 use Rattle.plain_model.specs.declared.call.MapChange.{MapChange}
 use Rattle.plain_model.specs.declared.call.MapChange.TheVariants.{Nothing, Unmap, Follow, Narrow}
 use Rattle.plain_units.specs.declared.registers.Regs.{Regs}
@@ -54,25 +53,15 @@ module _ (p : NumberedPages) where
   unfolding parts_behind
   behind_done e what regs out post is = sym (ap (parts_behind map_changed p p) is)
 
-  pub behind_waits : (e : End MapChange) (on : WaitOn) → e ≡ Waits on → p ≡ parts_behind map_changed p p e
+  -- a turn that is not done leaves the pages
+  pub behind_other : (e : End MapChange) → ((what : MapChange) (regs : Regs) (out post : Option ℕ) → e ≡ Done what regs out post → ⊥) → p ≡ parts_behind map_changed p p e
   unfolding parts_behind
-  behind_waits e on is = sym (ap (parts_behind map_changed p p) is)
-
-  pub behind_halts : (e : End MapChange) → e ≡ Halts → p ≡ parts_behind map_changed p p e
-  unfolding parts_behind
-  behind_halts e is = sym (ap (parts_behind map_changed p p) is)
-
-  pub behind_failed : (e : End MapChange) (code : ℕ) → e ≡ Failed code → p ≡ parts_behind map_changed p p e
-  unfolding parts_behind
-  behind_failed e code is = sym (ap (parts_behind map_changed p p) is)
-
-  pub behind_refused : (e : End MapChange) (code : ℕ) → e ≡ Refused code → p ≡ parts_behind map_changed p p e
-  unfolding parts_behind
-  behind_refused e code is = sym (ap (parts_behind map_changed p p) is)
-
-  pub behind_trap : (e : End MapChange) (channel : ℕ) → e ≡ Trap channel → p ≡ parts_behind map_changed p p e
-  unfolding parts_behind
-  behind_trap e channel is = sym (ap (parts_behind map_changed p p) is)
+  behind_other (Done what regs out post) other = absurd (other what regs out post refl)
+  behind_other (Waits on) other = refl
+  behind_other Halts other = refl
+  behind_other (Refused code) other = refl
+  behind_other (Failed code) other = refl
+  behind_other (Trap channel) other = refl
 
 -- a change is made as it is asked for
 pub made_so : {A : Type 0} (scene : Scene) (p q : NumberedPages) (r : Result A Need) (what as_is : MapChange) (whole : NumberedPages) → what ≡ as_is → whole ≡ map_changed what p → IsMade p q r (change_need scene p as_is) whole

@@ -2,7 +2,6 @@
 use Rattle.std.proofs.Common.{nat_cmp, ◌≡◌, ℕ, Ok, Err, refl, sym, ◌∙◌, ap, subst, inl, inr}
 use Rattle.plain_model.specs.declared.call.End.{End}
 use Rattle.plain_model.specs.declared.call.MapChange.{MapChange}
-use Rattle.machine_names.specs.declared.names.ForkName.{ForkName}
 use Rattle.call_turns.specs.declared.answer.Answer.{Answer}
 use Rattle.call_turns.specs.declared.answer.Answer.TheVariants.{Need as Needs}
 use Rattle.page_contracts.specs.declared.answers.Need.{Need}
@@ -22,7 +21,7 @@ use Rattle.pmap_calls.specs.declared.stage.Stage.{Stage}
 use Rattle.pmap_calls.specs.Stages.{later, most_asks, whole}
 use Rattle.pmap_calls.specs.Making.{ComesOut, EndNeeds, NoSteps, NoTouches}
 
-module _ (tree : PlainTree) (step : Step MapChange Stage) (scene : Scene) (p q : NumberedPages) (who : ForkName) (number : ℕ) (a : Asked) (is : whole tree step ≡ map_call number a) where
+module _ (tree : PlainTree) (step : Step MapChange Stage) (scene : Scene) (p q : NumberedPages) (number : ℕ) (a : Asked) (is : whole tree step ≡ map_call number a) where
   abbrev came : Came nat_cmp MapChange
   came = turn_on no_files p (whole tree step)
 
@@ -33,24 +32,24 @@ module _ (tree : PlainTree) (step : Step MapChange Stage) (scene : Scene) (p q :
   needs : (n : Need) → FirstNeeds (looks_need scene p (whole tree step)) (EndNeeds scene p came.end n) n → TurnNeeds NoSteps NoTouches EndNeeds scene p (map_call number a) n
   needs n h = subst (λ t. TurnNeeds NoSteps NoTouches EndNeeds scene p t n) is (turn_needs (later tree) scene p NoSteps NoTouches EndNeeds step most_asks n h)
 
-  went_so : (answer : Answer) (e : End MapChange) → e ≡ came.end → Went map_changed who p p q answer e → Went map_changed who p came.pages q answer came.end
+  went_so : (answer : Answer) (e : End MapChange) → e ≡ came.end → Went map_changed p p q answer e → Went map_changed p came.pages q answer came.end
   went_so answer e same w = record {
-    answered = w.answered ∙ ap (answer_of who) same;
+    answered = w.answered ∙ ap answer_of same;
     left = w.left ∙ ap (λ x. parts_behind map_changed p p x) same ∙ ap (λ x. parts_behind map_changed p x came.end) (sym makes_none);
   }
 
   -- its change is made, or needs something first
-  pub ends_so : (answer : Answer) (e : End MapChange) → DrivenTo scene p (whole tree step) (Ok e) → IsTurn (EndNeeds scene p e) map_changed who p p q answer e → ComesOut scene p q who answer (map_call number a)
+  pub ends_so : (answer : Answer) (e : End MapChange) → DrivenTo scene p (whole tree step) (Ok e) → IsTurn (EndNeeds scene p e) map_changed p p q answer e → ComesOut scene p q answer (map_call number a)
   ends_so answer e driven (inl w) =
       let t = told_is (looks_need scene p (whole tree step)) came.end e driven in
-      inl (subst (λ (x : Turn ⊥ MapChange). let c = turn_on no_files p x in Went map_changed who p c.pages q answer c.end) is (went_so answer e t.1 w))
+      inl (subst (λ (x : Turn ⊥ MapChange). let c = turn_on no_files p x in Went map_changed p c.pages q answer c.end) is (went_so answer e t.1 w))
   ends_so answer e driven (inr w) =
       let t = told_is (looks_need scene p (whole tree step)) came.end e driven in
       let last : EndNeeds scene p came.end w.need = subst (λ x. EndNeeds scene p x w.need) t.1 w.reason in
       inr (record { need = w.need; answered = w.answered; reason = needs w.need (subst (λ o. FirstNeeds o (EndNeeds scene p came.end w.need) w.need) (sym t.0) last); left = w.left })
 
   -- a look needs something first
-  pub waits_so : (n : Need) → DrivenTo scene p (whole tree step) (Err n) → ComesOut scene p p who (Needs n) (map_call number a)
+  pub waits_so : (n : Need) → DrivenTo scene p (whole tree step) (Err n) → ComesOut scene p p (Needs n) (map_call number a)
   waits_so n driven =
       let o = needed_is (looks_need scene p (whole tree step)) came.end n driven in
       inr (record { need = n; answered = refl; reason = needs n (subst (λ o. FirstNeeds o (EndNeeds scene p came.end n) n) (sym o) refl); left = refl })

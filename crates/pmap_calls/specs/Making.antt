@@ -51,21 +51,21 @@ abbrev pub Makes : {P A : Type 0} → PagesMeaning P → P → P → Result A Ne
 Makes means old new result needs changes =
     (d : DrumWords) → means.fits old d → means.fits new d × IsMade (means.plain old d) (means.plain new d) result (needs (means.scene old) (means.plain old d)) (changes (means.plain old d))
 
--- the end of a turn of a fork: its change is made, or needs something first
-abbrev pub Ends : {P : Type 0} → PagesMeaning P → ForkName → P → P → Answer → End MapChange → Type 0
-Ends means who old new answer e =
-    (d : DrumWords) → means.fits old d → means.fits new d × IsTurn (EndNeeds (means.scene old) (means.plain old d) e) map_changed who (means.plain old d) (means.plain old d) (means.plain new d) answer e
+-- the end of a turn: its change is made, or needs something first
+abbrev pub Ends : {P : Type 0} → PagesMeaning P → P → P → Answer → End MapChange → Type 0
+Ends means old new answer e =
+    (d : DrumWords) → means.fits old d → means.fits new d × IsTurn (EndNeeds (means.scene old) (means.plain old d) e) map_changed (means.plain old d) (means.plain old d) (means.plain new d) answer e
 
 -- a turn of a call on maps comes out over the plain pages as it does here
-abbrev pub ComesOut : Scene → NumberedPages → NumberedPages → ForkName → Answer → Turn ⊥ MapChange → Type 0
-ComesOut scene old new who answer t =
-    let c = turn_on no_files old t in IsTurn (TurnNeeds NoSteps NoTouches EndNeeds scene old t) map_changed who old c.pages new answer c.end
+abbrev pub ComesOut : Scene → NumberedPages → NumberedPages → Answer → Turn ⊥ MapChange → Type 0
+ComesOut scene old new answer t =
+    let c = turn_on no_files old t in IsTurn (TurnNeeds NoSteps NoTouches EndNeeds scene old t) map_changed old c.pages new answer c.end
 
--- a turn of a fork that makes a call on maps, over each drum that fits: it goes as the plain turn, or needs first what the first of its steps
+-- a turn of a call on maps, over each drum that fits: it goes as the plain turn, or needs first what the first of its steps
 -- needs that needs something
-abbrev pub Turns : {P : Type 0} → PagesMeaning P → ForkName → P → P → Answer → Turn ⊥ MapChange → Type 0
-Turns means who old new answer t =
-    (d : DrumWords) → means.fits old d → means.fits new d × ComesOut (means.scene old) (means.plain old d) (means.plain new d) who answer t
+abbrev pub Turns : {P : Type 0} → PagesMeaning P → P → P → Answer → Turn ⊥ MapChange → Type 0
+Turns means old new answer t =
+    (d : DrumWords) → means.fits old d → means.fits new d × ComesOut (means.scene old) (means.plain old d) (means.plain new d) answer t
 
 -- a change of entries makes no page and no fork
 pub record MakesNone {P : Type 0} (means : PagesMeaning P) (old new : P) : Type 0 where

@@ -59,23 +59,19 @@ fn change<P: Pages>(pages: &mut P, what: MapChange) -> Result<(), Need>
 }
 
 // Ends a turn: its change is made, if it has one.
-fn end<P: Pages>(who: ForkName, end: End<MapChange>, pages: &mut P) -> Answer
+fn end<P: Pages>(end: End<MapChange>, pages: &mut P) -> Answer
     requires { FitsEnd IsMapChange end }
-    ensures told { Ends P.means who pages.old pages.new result end }
+    ensures told { Ends P.means pages.old pages.new result end }
     ensures core { P.means.flat ≡ true → IsDone result }
     ensures fits { FitsAnswer result }
     ensures none { MakesNone P.means pages.old pages.new }
 {
-    match end {
-        End::Done { change: what, .. } => match change(pages, what) {
-            Ok(()) => answer_of(who, end),
+    match &end {
+        End::Done { change: what, .. } => match change(pages, *what) {
+            Ok(()) => answer_of(end),
             Err(need) => Answer::Need(need),
         },
-        End::Waits(_) => answer_of(who, end),
-        End::Halts => answer_of(who, end),
-        End::Refused(_) => answer_of(who, end),
-        End::Failed(_) => answer_of(who, end),
-        End::Trap(_) => answer_of(who, end),
+        _ => answer_of(end),
     }
 }
 
@@ -85,13 +81,13 @@ fn end<P: Pages>(who: ForkName, end: End<MapChange>, pages: &mut P) -> Answer
 /// instruction.
 pub fn call<P: Pages>(number: u32, regs: &Regs, who: ForkName, tree: &Tree, pages: &mut P) -> Answer
     requires { IsRegs regs.now }
-    ensures told { Turns P.means who pages.old pages.new result (map_call number (record { who = who; regs = regs.now; forks = tree.now.forks })) }
+    ensures told { Turns P.means pages.old pages.new result (map_call number (record { who = who; regs = regs.now; forks = tree.now.forks })) }
     ensures core { P.means.flat ≡ true → IsDone result }
     ensures fits { FitsAnswer result }
     ensures none { MakesNone P.means pages.old pages.new }
 {
     match driven(first(number, regs, who, tree), MOST_ASKS, tree, pages) {
-        Ok(ending) => end(who, ending, pages),
+        Ok(ending) => end(ending, pages),
         Err(need) => Answer::Need(need),
     }
 }
