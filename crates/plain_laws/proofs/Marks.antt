@@ -113,14 +113,14 @@ module _ (name : ForkName) where
 
   module _ (s : PlainState) (w : IsWhole s) (f : Fork) (there : map.get s.forks name ≡ Some f) (mark : f.frozen ≡ true) where
     marked : Marked s.forks
-    marked = record { own = w.own; mark = λ g is. let both : Some f ≡ Some g = sym there ∙ is in let same : f ≡ g = cc both in ap (λ (x : Fork). x.frozen) (sym same) ∙ mark }
+    marked = record { own = w.tree.slotted.own; mark = λ g is. let both : Some f ≡ Some g = sym there ∙ is in let same : f ≡ g = cc both in ap (λ (x : Fork). x.frozen) (sym same) ∙ mark }
 
     -- it has it still, or this change takes it
     abbrev Stays : ForkChange → ForkMap → Type 0
     Stays change m = Marked m ⊎ (change ≡ Freeze name false)
 
     held : (k : ForkName) (h : Fork) → map.get s.forks k ≡ Some h → map.get s.forks h.name ≡ Some h
-    held k h is = held_there s.forks w.own k h is
+    held k h is = held_there s.forks w.tree.slotted.own k h is
 
     frozen_stays : (k : ForkName) (on : Bool) → Stays (Freeze k on) (changed s.forks (with_mark on) (map.get s.forks k))
     frozen_stays k true = inl (by (map.get s.forks k))
@@ -133,7 +133,7 @@ module _ (name : ForkName) where
         by : (o : Option Fork) → map.get s.forks k ≡ o → Stays (Freeze k false) (changed s.forks (with_mark false) o)
         by None none = inl marked
         by (Some h) some = elim (cases_name name h.name) [
-          | inl e ↦ inr (ap (λ (x : ForkName). Freeze x false) (sym (w.own k h some) ∙ sym e))
+          | inl e ↦ inr (ap (λ (x : ForkName). Freeze x false) (sym (w.tree.slotted.own k h some) ∙ sym e))
           | inr ne ↦ inl (put_marked s.forks marked (with_mark false h) (λ e. absurd (ne (sym e))))
         ]
 

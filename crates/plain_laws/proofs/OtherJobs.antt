@@ -127,13 +127,13 @@ module _ (s : PlainState) (w : IsWhole s) (who : ForkName) (regs : Regs) (k : Fo
   Same v = PartsStay who.tty k other (map.get s.forks k) s.pages v
 
   as_it_was : Stays who.tty k other (map.get s.forks k) s.forks
-  as_it_was = record { own = w.own; stays = refl }
+  as_it_was = record { own = w.tree.slotted.own; stays = refl }
 
   in_job : (f : ForkName) → is_inferior s.forks who f ≡ true → f.tty.0 ≡ who.tty.0
-  in_job f below = inferior_job s.forks w.own who f below
+  in_job f below = inferior_job s.forks w.tree.slotted.own who f below
 
   held_job : (f : ForkName) → f.tty.0 ≡ who.tty.0 → (j : Fork) → map.get s.forks f ≡ Some j → j.name.tty.0 ≡ who.tty.0
-  held_job f here j is = ap (λ (x : ForkName). x.tty.0) (w.own f j is) ∙ here
+  held_job f here j is = ap (λ (x : ForkName). x.tty.0) (w.tree.slotted.own f j is) ∙ here
 
   module _ (q : NamedPages) where
     abbrev parts : ForkParts name_cmp

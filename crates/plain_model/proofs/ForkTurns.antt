@@ -4,8 +4,6 @@ use Rattle.std.specs.List.{filter_map}
 use Rattle.std.specs.Option.{option_map_or}
 use Rattle.std.specs.FinMap as map
 use Rattle.outside.specs.declared.TheConstants.{PAGE_WORDS}
-use Rattle.plain_model.specs.declared.call.End.{End}
-use Rattle.plain_model.specs.declared.call.End.TheVariants.{Done, Waits, Halts, Refused, Failed, Trap}
 use Rattle.plain_model.specs.declared.call.ForkChange.{ForkChange}
 use Rattle.plain_model.specs.declared.call.ForkChange.TheVariants.{Nothing, Make, Kill, Freeze, Become, Halt, Store}
 use Rattle.machine_names.specs.declared.names.TheConstants.{MOST_FORKS}
@@ -18,14 +16,12 @@ use Rattle.plain_pages.specs.Room.{page_in}
 use Rattle.plain_pages.specs.References.{without_fork, stored, in_map, slot_at}
 use Rattle.plain_units.specs.Steps.{is_accumulator}
 use Rattle.plain_model.specs.Inferiors.{last_below}
-use Rattle.plain_model.specs.Calls.{Turn, Came, no_files, turn_on, parts_behind}
 use Rattle.plain_units.specs.Blocks.{next_address, stored_from}
 use Rattle.plain_model.specs.Trees.{waiters_woken}
 use Rattle.plain_model.specs.ForkCalls.{ForkParts, with_forks, without, without_below, killed, with_halted, fork_changed}
 use Rattle.plain_pages.proofs.Kept.{drop_all_leaves}
 use Rattle.plain_pages.proofs.Refiled.{NameAlike, fork_refiled}
 use Rattle.plain_units.proofs.RefiledUnits.{still_alike, stored_leaves, stored_refiled}
-use Rattle.plain_model.proofs.Turns.{came_leaves, came_refiled}
 
 module _ {K : Type 0} {file_cmp : K → K → Ordering} where
   fork_leaves : (p : PlainPages file_cmp) (f : ForkName) → (without_fork p f).files ≡ p.files
@@ -125,33 +121,3 @@ module _ {K L : Type 0} {file_cmp : K → K → Ordering} (other_cmp : L → L �
       by None = refl
       by (Some g) = refl
   change_refiled (Store f at words) v alike = ap (λ (p : PlainPages other_cmp). record { tree = v.tree; pages = p }) (stored_from_refiled v.pages f at words)
-
-  -- and so does a turn
-  pub fork_turn_refiled : (t : Turn ⊥ ForkChange) (v : ForkParts file_cmp) → AreAlike v
-      → parts_behind fork_changed (refiled_parts v) (record { tree = v.tree; pages = (turn_on no_files (refiled_parts v).pages t).pages }) (turn_on no_files (refiled_parts v).pages t).end
-      ≡ refiled_parts (parts_behind fork_changed v (record { tree = v.tree; pages = (turn_on no_files v.pages t).pages }) (turn_on no_files v.pages t).end)
-  unfolding parts_behind
-  fork_turn_refiled t v alike =
-      ap (λ (c : Came other_cmp ForkChange). parts_behind fork_changed (refiled_parts v) (record { tree = v.tree; pages = c.pages }) c.end) (came_refiled other_cmp files t v.pages alike)
-      ∙ by (turn_on no_files v.pages t).end
-    where
-      made : ForkParts file_cmp
-      made = record { tree = v.tree; pages = (turn_on no_files v.pages t).pages }
-
-      by : (e : End ForkChange) → parts_behind fork_changed (refiled_parts v) (refiled_parts made) e ≡ refiled_parts (parts_behind fork_changed v made e)
-      by (Done change regs out post) = change_refiled change made (still_alike other_cmp files v.pages made.pages alike (came_leaves t v.pages))
-      by (Waits on) = refl
-      by Halts = refl
-      by (Refused code) = refl
-      by (Failed code) = refl
-      by (Trap channel) = refl
-
--- the pages of files stay
-pub fork_turn_files : {K : Type 0} {file_cmp : K → K → Ordering} (t : Turn ⊥ ForkChange) (e : End ForkChange) (v : ForkParts file_cmp) → (parts_behind fork_changed v (record { tree = v.tree; pages = (turn_on no_files v.pages t).pages }) e).pages.files ≡ v.pages.files
-unfolding parts_behind
-fork_turn_files t (Done change regs out post) v = changed_leaves change (record { tree = v.tree; pages = (turn_on no_files v.pages t).pages }) ∙ came_leaves t v.pages
-fork_turn_files t (Waits on) v = refl
-fork_turn_files t Halts v = refl
-fork_turn_files t (Refused code) v = refl
-fork_turn_files t (Failed code) v = refl
-fork_turn_files t (Trap channel) v = refl

@@ -9,4 +9,3 @@ pub mod Posted
 pub mod MapTurns
 pub mod ForkTurns
 pub mod RefiledCalls
-pub mod FreeSlots
