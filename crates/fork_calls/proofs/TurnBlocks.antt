@@ -84,10 +84,10 @@ abbrev pub StopsSo : Framed → ForkMap → Turn ⊥ ForkChange → Stop → Typ
 StopsSo p forks t (Trap channel) = (turn_on no_files p.pages t).end ≡ TrapEnd channel
 StopsSo p forks t (Need n) = TurnNeeds p forks t n
 
-module _ (who : ForkName) (tree : PlainTree) (p : Framed) (w : ForkParts nat_cmp) (result : Answer) where
+module _ (tree : PlainTree) (p : Framed) (w : ForkParts nat_cmp) (result : Answer) where
   -- it leaves all as it was, and answers why
-  pub turn_stops : (t : Turn ⊥ ForkChange) (e : Stop) → StopsSo p tree.forks t e → w ≡ parts tree p.pages → result ≡ stopped_by e → ComesOut p tree w who result t
-  turn_stops t (Trap channel) is same answered = inl (stops who (parts tree p.pages) w result t (TrapEnd channel) is (λ what regs out post h. cc h) answered same)
+  pub turn_stops : (t : Turn ⊥ ForkChange) (e : Stop) → StopsSo p tree.forks t e → w ≡ parts tree p.pages → result ≡ stopped_by e → ComesOut p tree w result t
+  turn_stops t (Trap channel) is same answered = inl (stops (parts tree p.pages) w result t (TrapEnd channel) is (λ what regs out post h. cc h) answered same)
   turn_stops t (Need n) is same answered = inr (record { need = n; answered = answered; reason = is; left = same })
 
 -- so does one whose block does
@@ -95,12 +95,12 @@ pub block_stops : (who : ForkName) (regs : Regs) (at : ℕ) (kind : Kind) (p : F
 block_stops who regs at kind p q forks next (Trap channel) took = took next
 block_stops who regs at kind p q forks next (Need n) took = took
 
-module _ (caller : ForkName) (v w : ForkParts nat_cmp) where
+module _ (v w : ForkParts nat_cmp) where
   pub block_goes : (result : Answer) (who : ForkName) (regs : Regs) (at : ℕ) (kind : Kind) (q : NumberedPages) (words : List ℕ) → GoesOn who regs at kind v.pages q words → (end : List ℕ → End ForkChange) (what : ForkChange) (after : Regs) → end words ≡ Done what after None None
-      → w ≡ fork_changed what (record v { pages = q }) → result ≡ answer_of caller (Done what after None None) → WentTo caller v w result (with_block who regs at kind (λ ws. ends (end ws)))
+      → w ≡ fork_changed what (record v { pages = q }) → result ≡ answer_of (Done what after None None) → WentTo v w result (with_block who regs at kind (λ ws. ends (end ws)))
   unfolding turn_on
   block_goes result who regs at kind q words on end what after is left answered =
-      goes caller v w result (with_block who regs at kind (λ ws. ends (end ws))) what after q (on.comes (λ ws. ends (end ws)) ∙ ap (λ (e : End ForkChange). record { end = e; pages = q }) is) left answered
+      goes v w result (with_block who regs at kind (λ ws. ends (end ws))) what after q (on.comes (λ ws. ends (end ws)) ∙ ap (λ (e : End ForkChange). record { end = e; pages = q }) is) left answered
 
 -- words that are stored
 pub words_stored : (tree : PlainTree) (q r : NumberedPages) (who : ForkName) (at : ℕ) (words : List ℕ) → r ≡ stored_from q who at words → (p : NumberedPages) → parts tree r ≡ fork_changed (Store who at words) (record (parts tree p) { pages = q })

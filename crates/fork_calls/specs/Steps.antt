@@ -1,9 +1,9 @@
 -- The first step of a fork call, and the whole turn that this comes to.
-use Rattle.std.specs.Prelude.{◌≡◌, ◌≢◌, ℕ, ◌+◌, Some, Ok, if◌then◌else◌, List}
+use Rattle.std.specs.Prelude.{◌≡◌, ℕ, ◌+◌, Some, Ok, if◌then◌else◌, List}
 use Rattle.std.specs.FinMap as map
-use Rattle.plain_model.specs.declared.call.TheConstants.{CFORK, FORK_SELF, NO_ROOM}
+use Rattle.plain_model.specs.declared.call.TheConstants.{FORK_SELF, NO_ROOM}
 use Rattle.plain_model.specs.declared.call.End.{End}
-use Rattle.plain_model.specs.declared.call.End.TheVariants.{Done, Waits, Halts, Refused, Failed, Trap}
+use Rattle.plain_model.specs.declared.call.End.TheVariants.{Failed}
 use Rattle.plain_model.specs.declared.call.ForkChange.{ForkChange}
 use Rattle.plain_model.specs.declared.call.ForkChange.TheVariants.{Nothing, Make, Kill, Freeze, Become, Halt, Store}
 use Rattle.machine_names.specs.declared.names.Kind.TheVariants.{Read, Write}
@@ -76,37 +76,9 @@ IsChangeBelow forks who (Become f body) = IsBodyOf forks f body
 IsChangeBelow forks who (Halt f) = IsBelow forks who f
 IsChangeBelow forks who (Store f at words) = ⊥
 
--- CFORK alone has two returns
-abbrev pub IsEndOf : ℕ → End ForkChange → Type 0
-IsEndOf number (Done change regs out post) = Unit {0}
-IsEndOf number (Waits on) = Unit {0}
-IsEndOf number Halts = Unit {0}
-IsEndOf number (Refused code) = number ≢ CFORK
-IsEndOf number (Failed code) = number ≡ CFORK
-IsEndOf number (Trap channel) = Unit {0}
-
 -- what holds of a first step: a fork is made in the free slot, while a serial is left for it; and words are those of an inferior
 abbrev pub FitsStep : ForkAsked → Step → Type 0
 FitsStep a (Ends e) = FitsEnd (IsChangeBelow a.tree.forks a.who) e
 FitsStep a (Makes slot) = slot_for a.tree a.who.tty ≡ Ok slot
 FitsStep a (Sets f) = Lives a.tree.forks f
 FitsStep a (Stores f) = Lives a.tree.forks f
-
--- a step of a call with one return, and of one with two
-abbrev pub HasOneReturn : Step → Type 0
-HasOneReturn (Ends (Failed code)) = ⊥
-HasOneReturn (Makes slot) = ⊥
-HasOneReturn step = Unit {0}
-
-abbrev pub HasTwoReturns : Step → Type 0
-HasTwoReturns (Ends (Refused code)) = ⊥
-HasTwoReturns (Sets f) = ⊥
-HasTwoReturns (Stores f) = ⊥
-HasTwoReturns step = Unit {0}
-
--- CFORK alone has two
-abbrev pub IsStepOf : ℕ → Step → Type 0
-IsStepOf number (Ends e) = IsEndOf number e
-IsStepOf number (Makes slot) = number ≡ CFORK
-IsStepOf number (Sets f) = number ≢ CFORK
-IsStepOf number (Stores f) = number ≢ CFORK

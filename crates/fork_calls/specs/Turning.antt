@@ -2,7 +2,6 @@
 use Rattle.std.specs.Prelude.{◌≡◌, Result, Ok, Err, ⊤}
 use Rattle.std.specs.Ordering.{nat_cmp}
 use Rattle.plain_model.specs.declared.call.ForkChange.{ForkChange}
-use Rattle.machine_names.specs.declared.names.ForkName.{ForkName}
 use Rattle.call_turns.specs.declared.answer.Answer.{Answer}
 use Rattle.call_turns.specs.declared.answer.Answer.TheVariants as answer
 use Rattle.page_contracts.specs.declared.answers.Need.{Need}
@@ -13,7 +12,7 @@ use Rattle.plain_model.specs.Trees.{PlainTree}
 use Rattle.plain_model.specs.Calls.{Turn, no_files, turn_on}
 use Rattle.plain_model.specs.ForkCalls.{ForkParts, fork_changed}
 use Rattle.call_turns.specs.Answers.{IsTurn}
-use Rattle.call_turns.specs.Turns.{IsRegs}
+use Rattle.call_turns.specs.Turns.{IsOut, IsRegs}
 use Rattle.ka10_unit.specs.declared.taken.Stop.{Stop}
 use Rattle.ka10_unit.specs.declared.taken.Stop.TheVariants as stop
 use Rattle.ka10_unit.specs.Gathers.{Framed, framed}
@@ -23,17 +22,17 @@ use Rattle.fork_calls.specs.Needing.{ChangeNeeds, TurnNeeds}
 abbrev pub parts : PlainTree → NumberedPages → ForkParts nat_cmp
 parts tree p = record { tree = tree; pages = p }
 
--- a turn of a fork comes out over the plain pages as it does here
-abbrev pub ComesOut : Framed → PlainTree → ForkParts nat_cmp → ForkName → Answer → Turn ⊥ ForkChange → Type 0
-ComesOut p tree new who result t =
-    let c = turn_on no_files p.pages t in IsTurn (TurnNeeds p tree.forks t) fork_changed who (parts tree p.pages) (parts tree c.pages) new result c.end
+-- a turn comes out over the plain pages as it does here
+abbrev pub ComesOut : Framed → PlainTree → ForkParts nat_cmp → Answer → Turn ⊥ ForkChange → Type 0
+ComesOut p tree new result t =
+    let c = turn_on no_files p.pages t in IsTurn (TurnNeeds p tree.forks t) fork_changed (parts tree p.pages) (parts tree c.pages) new result c.end
 
 -- A TURN OF A CALL, over each drum that fits: its answer is that of its end, and what it leaves is what that leaves; or it needs something
 -- first, and leaves all as it was
-abbrev pub Turned : {P : Type 0} → PagesMeaning P → ForkName → P → P → PlainTree → PlainTree → Answer → Turn ⊥ ForkChange → Type 0
-Turned means who old new tree tree' result t =
+abbrev pub Turned : {P : Type 0} → PagesMeaning P → P → P → PlainTree → PlainTree → Answer → Turn ⊥ ForkChange → Type 0
+Turned means old new tree tree' result t =
     (d : DrumWords) → means.fits old d
-    → means.fits new d × ComesOut (framed means old d) tree (parts tree' (means.plain new d)) who result t
+    → means.fits new d × ComesOut (framed means old d) tree (parts tree' (means.plain new d)) result t
 
 -- a change was made over each drum that fits, or it needs something first, and nothing was changed
 abbrev pub MadeOver : Framed → NumberedPages → PlainTree → PlainTree → Result ⊤ Need → ForkChange → Type 0
@@ -48,7 +47,7 @@ abbrev pub stopped_by : Stop → Answer
 stopped_by (stop.Trap channel) = answer.Trap channel
 stopped_by (stop.Need n) = answer.Need n
 
--- an answer with registers within their limits
+-- an answer with registers and a character within their limits
 abbrev pub HasRegs : Answer → Type 0
-HasRegs (answer.After regs out post) = IsRegs regs
+HasRegs (answer.After regs out post) = IsRegs regs × IsOut out
 HasRegs other = Unit {0}

@@ -23,9 +23,9 @@ use plain_model::call::{End, ForkChange};
 use plain_units::Regs;
 
 /// A turn that is done answers its registers, whatever it has changed.
-pub fn returned(who: ForkName, regs: Regs) -> Answer
+pub fn returned(regs: Regs) -> Answer
     requires { IsRegs regs }
-    ensures answer { (change : AForkChange) → result ≡ answer_to who (AnEnd.Done change regs None None) }
+    ensures answer { (change : AForkChange) → result ≡ answer_to (AnEnd.Done change regs None None) }
     ensures core { IsDone result }
     ensures regs { HasRegs result }
 {
@@ -35,7 +35,7 @@ pub fn returned(who: ForkName, regs: Regs) -> Answer
         out: None,
         post: None,
     };
-    answer_of(who, end)
+    answer_of(end)
 }
 
 /// A call that stops before its end.
@@ -61,20 +61,16 @@ pub fn end<P: Pages>(
     requires fits { FitsEnd (IsChangeBelow tree.old.forks who) ending }
     requires holds { Holds P.means pages.old tree.old.forks }
     requires within { AreWithin tree.old.forks }
-    ensures told { (regs : ARegs) → Turned P.means who pages.old pages.new tree.old tree.new result (whole (asked who regs tree.old) (AStep.Ends ending)) }
+    ensures told { (regs : ARegs) → Turned P.means pages.old pages.new tree.old tree.new result (whole (asked who regs tree.old) (AStep.Ends ending)) }
     ensures core { P.means.flat ≡ true → IsDone result }
     ensures leaves { CallLeaves P.means pages.old pages.new tree.old tree.new who 0 }
     ensures regs { HasRegs result }
 {
-    match ending {
-        End::Done { change: what, .. } => match change(who, what, tree, pages) {
-            Ok(()) => answer_of(who, ending),
+    match &ending {
+        End::Done { change: what, .. } => match change(who, *what, tree, pages) {
+            Ok(()) => answer_of(ending),
             Err(need) => Answer::Need(need),
         },
-        End::Waits(_) => answer_of(who, ending),
-        End::Halts => answer_of(who, ending),
-        End::Refused(_) => answer_of(who, ending),
-        End::Failed(_) => answer_of(who, ending),
-        End::Trap(_) => answer_of(who, ending),
+        _ => answer_of(ending),
     }
 }

@@ -144,14 +144,14 @@ pub fn make<P: Pages>(
     requires serves { Serves P.means pages.old who }
     requires holds { Holds P.means pages.old tree.old.forks }
     requires serial { P.means.serial pages.old who.tty < 2 ^ 62 }
-    ensures told { Turned P.means who pages.old pages.new tree.old tree.new result (whole (asked who regs.now tree.old) (AStep.Makes slot)) }
+    ensures told { Turned P.means pages.old pages.new tree.old tree.new result (whole (asked who regs.now tree.old) (AStep.Makes slot)) }
     ensures core { P.means.flat ≡ true → IsDone result }
     ensures leaves { CallLeaves P.means pages.old pages.new tree.old tree.new who 128 }
     ensures regs { HasRegs result }
 {
     tree.are_trees();
     match pages.room(1) {
-        Room::Full => return Answer::Refused(NO_ROOM),
+        Room::Full => return Answer::Failed(NO_ROOM),
         Room::NeedFrame => return Answer::Need(Need::Frame),
         Room::Enough => {}
     }
@@ -165,7 +165,7 @@ pub fn make<P: Pages>(
         Ok(words) => {
             grow(regs, words, who, tree);
             tree.are_trees();
-            returned(who, with_handle(regs, slot))
+            returned(with_handle(regs, slot))
         }
     }
 }

@@ -62,7 +62,7 @@ pub fn set_accumulators<P: Pages>(
     requires serves { Serves P.means pages.old who }
     requires holds { Holds P.means pages.old tree.old.forks }
     requires serial { P.means.serial pages.old who.tty < 2 ^ 62 }
-    ensures told { Turned P.means who pages.old pages.new tree.old tree.new result (whole (asked who regs.now tree.old) (AStep.Sets fork)) }
+    ensures told { Turned P.means pages.old pages.new tree.old tree.new result (whole (asked who regs.now tree.old) (AStep.Sets fork)) }
     ensures core { P.means.flat ≡ true → IsDone result }
     ensures leaves { CallLeaves P.means pages.old pages.new tree.old tree.new who 128 }
     ensures regs { HasRegs result }
@@ -74,7 +74,7 @@ pub fn set_accumulators<P: Pages>(
             let mut body = fork.body;
             body.regs.ac = words;
             set_body(fork.name, body, tree);
-            returned(who, behind(*regs))
+            returned(behind(*regs))
         }
     }
 }
@@ -92,7 +92,7 @@ pub fn store_accumulators<P: Pages>(
     requires serves { Serves P.means pages.old who }
     requires holds { Holds P.means pages.old tree.now.forks }
     requires serial { P.means.serial pages.old who.tty < 2 ^ 62 }
-    ensures told { Turned P.means who pages.old pages.new tree.now tree.now result (whole (asked who regs.now tree.now) (AStep.Stores fork)) }
+    ensures told { Turned P.means pages.old pages.new tree.now tree.now result (whole (asked who regs.now tree.now) (AStep.Stores fork)) }
     ensures core { P.means.flat ≡ true → IsDone result }
     ensures leaves { CallLeaves P.means pages.old pages.new tree.now tree.now who 128 }
     ensures regs { HasRegs result }
@@ -105,7 +105,7 @@ pub fn store_accumulators<P: Pages>(
             store_block(pages, who, at, &words);
             let mut told = *regs;
             told.ac = stored_low(regs.ac, at, &words);
-            returned(who, behind(told))
+            returned(behind(told))
         }
     }
 }

@@ -1,4 +1,4 @@
-use Rattle.std.proofs.Common.{ℕ, refl, ◌∙◌, ap, subst, inl}
+use Rattle.std.proofs.Common.{ℕ, None, refl, ◌∙◌, ap, subst, inl}
 use Rattle.std.specs.Prelude.{Err}
 use Rattle.plain_model.specs.declared.call.End.TheVariants.{Done}
 use Rattle.plain_model.specs.declared.call.ForkChange.TheVariants.{Become}
@@ -29,7 +29,7 @@ returns-in-Err-clause-told g c d fits =
     let q = means.plain c.block.new.pages d in
     let took = subst (λ (n : ℕ). TookBlock who regs n Read p q (Err c.in-Err.stop)) c.address_named.ensures.address t.1 in (
       t.0,
-      turn_stops who tree p (parts tree q) c.stopped.result (whole a (Sets c.args.fork)) c.in-Err.stop (block_stops who regs (address_named regs) Read p q tree.forks (λ words. ends (set_end a c.args.fork words)) c.in-Err.stop took)
+      turn_stops tree p (parts tree q) c.stopped.result (whole a (Sets c.args.fork)) c.in-Err.stop (block_stops who regs (address_named regs) Read p q tree.forks (λ words. ends (set_end a c.args.fork words)) c.in-Err.stop took)
           (ap (λ s. parts tree (means.plain s d)) c.in-Err.ensures.stopped) c.stopped.ensures.answer,
     )
 
@@ -44,9 +44,9 @@ returns-in-Ok-clause-told g c d fits =
     let words = c.in-Ok.words in
     let on = subst (λ (n : ℕ). GoesOn c.args.who c.args.regs.now n Read p q words) at t.1 in (
       t.0,
-      inl (block_goes c.args.who (parts c.args.tree.now p) (parts c.set_body.new.tree q) c.returned.result c.args.who c.args.regs.now (address_named c.args.regs.now) Read q words on (λ ws. set_end a c.args.fork ws) _ _ refl
+      inl (block_goes (parts c.args.tree.now p) (parts c.set_body.new.tree q) c.returned.result c.args.who c.args.regs.now (address_named c.args.regs.now) Read q words on (λ ws. set_end a c.args.fork ws) _ _ refl
           (c.set_body.ensures.told q)
-          (c.returned.ensures.answer (Become c.args.fork.name (with_accumulators_of c.args.fork.body words)) ∙ ap (λ (r : Regs). answer_of c.args.who (Done (Become c.args.fork.name (with_accumulators_of c.args.fork.body words)) r None None)) c.behind.ensures.behind)),
+          (c.returned.ensures.answer (Become c.args.fork.name (with_accumulators_of c.args.fork.body words)) ∙ ap (λ (r : Regs). answer_of (Done (Become c.args.fork.name (with_accumulators_of c.args.fork.body words)) r None None)) c.behind.ensures.behind)),
     )
 
 pub returns-in-Err-clause-leaves : goal.returns-in-Err-clause-leaves

@@ -1,4 +1,4 @@
-use Rattle.std.proofs.Common.{◌≡◌, ℕ, List, refl, ◌∙◌, ap, subst, inl}
+use Rattle.std.proofs.Common.{◌≡◌, ℕ, List, None, refl, ◌∙◌, ap, subst, inl}
 use Rattle.std.specs.Prelude.{Err}
 use Rattle.plain_model.specs.declared.call.End.TheVariants.{Done}
 use Rattle.plain_model.specs.declared.call.ForkChange.{ForkChange}
@@ -32,7 +32,7 @@ returns-in-Err-clause-told g c d fits =
     let q = means.plain c.block.new.pages d in
     let took = subst (λ (n : ℕ). TookBlock who regs n Write p q (Err c.in-Err.stop)) c.address_named-at.ensures.address t.1 in (
       t.0,
-      turn_stops who tree p (parts tree q) c.stopped.result (whole a (Stores c.args.fork)) c.in-Err.stop (block_stops who regs (address_named regs) Write p q tree.forks (λ old. ends (store_end a c.args.fork)) c.in-Err.stop took)
+      turn_stops tree p (parts tree q) c.stopped.result (whole a (Stores c.args.fork)) c.in-Err.stop (block_stops who regs (address_named regs) Write p q tree.forks (λ old. ends (store_end a c.args.fork)) c.in-Err.stop took)
           (ap (λ s. parts tree (means.plain s d)) c.in-Err.ensures.stopped) c.stopped.ensures.answer,
     )
 
@@ -52,9 +52,9 @@ returns-in-Ok-clause-told g c d fits =
     let change : ForkChange = Store c.args.who (address_named c.args.regs.now) stored in
     let low : c.stored_low-told.result ≡ stored_low c.args.regs.now.ac (address_named c.args.regs.now) stored = c.stored_low-told.ensures ∙ ap (λ (n : ℕ). stored_low c.args.regs.now.ac n stored) at in (
       c.store_block.ensures.fits d t.0,
-      inl (block_goes c.args.who (parts c.args.tree.now p) (parts c.args.tree.now (means.plain c.store_block.new.pages d)) c.returned.result c.args.who c.args.regs.now (address_named c.args.regs.now) Write q words on (λ old. store_end a c.args.fork) change _ refl
+      inl (block_goes (parts c.args.tree.now p) (parts c.args.tree.now (means.plain c.store_block.new.pages d)) c.returned.result c.args.who c.args.regs.now (address_named c.args.regs.now) Write q words on (λ old. store_end a c.args.fork) change _ refl
           (words_stored c.args.tree.now q (means.plain c.store_block.new.pages d) c.args.who (address_named c.args.regs.now) stored put p)
-          (c.returned.ensures.answer change ∙ ap (λ (r : Regs). answer_of c.args.who (Done change r None None)) (c.behind.ensures.behind ∙ ap (λ (ac : List ℕ). behind_call (record c.args.regs.now { ac = ac })) low))),
+          (c.returned.ensures.answer change ∙ ap (λ (r : Regs). answer_of (Done change r None None)) (c.behind.ensures.behind ∙ ap (λ (ac : List ℕ). behind_call (record c.args.regs.now { ac = ac })) low))),
     )
 
 pub returns-in-Err-clause-leaves : goal.returns-in-Err-clause-leaves
