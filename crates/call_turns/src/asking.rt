@@ -4,8 +4,7 @@ ghost use Rattle.machine_names.specs.declared.names.Access.{Access as AnAccess};
 ghost use Rattle.machine_names.specs.declared.names.TheConstants.{SPACE_PAGES};
 ghost use Rattle.page_contracts.specs.DrumWords.{DrumWords};
 ghost use Rattle.plain_model.specs.Calls.{entry_of};
-ghost use Rattle.plain_pages.specs.Maps.{entry_at};
-ghost use Rattle.call_turns.specs.Telling.{IsTold, page_within, told_of};
+ghost use Rattle.call_turns.specs.Telling.{ask_need, entry_need, page_told, told, told_of};
 ghost use Rattle.call_turns.specs.Turns.{IsAsk};
 
 use crate::{Ask, Reply};
@@ -19,7 +18,7 @@ const MOST_LINKS: u32 = 4;
 // The entry of a slot, Empty where its fork isn't there.
 fn entry_of<P: Pages>(pages: &P, slot: Slot) -> Result<MapEntry, Need>
     requires { slot.page < SPACE_PAGES }
-    ensures told { (d : DrumWords) → P.means.fits pages.now d → IsTold (P.means.scene pages.now) result (entry_of (P.means.plain pages.now d) slot) }
+    ensures told { (d : DrumWords) → P.means.fits pages.now d → result ≡ told (entry_need (P.means.scene pages.now) (P.means.plain pages.now d) slot) (entry_of (P.means.plain pages.now d) slot) }
     ensures page { (serial page : ℕ) (a : AnAccess) → result ≡ Ok (MapEntry.Follows serial page a) → page < SPACE_PAGES }
     ensures core { P.means.flat ≡ true → IsOk result }
 {
@@ -33,7 +32,7 @@ fn entry_of<P: Pages>(pages: &P, slot: Slot) -> Result<MapEntry, Need>
 // The page at the end of a slot's chain, where so many links are enough.
 fn page_within<P: Pages>(pages: &P, slot: Slot, links: u32) -> Result<Option<PageName>, Need>
     requires { slot.page < SPACE_PAGES }
-    ensures told { (d : DrumWords) → P.means.fits pages.now d → IsTold (P.means.scene pages.now) result (page_within links (entry_at (P.means.plain pages.now d).maps) slot) }
+    ensures told { (d : DrumWords) → P.means.fits pages.now d → result ≡ page_told links (P.means.scene pages.now) (P.means.plain pages.now d) slot }
     ensures core { P.means.flat ≡ true → IsOk result }
 {
     if links == 0 {
@@ -55,10 +54,10 @@ fn page_within<P: Pages>(pages: &P, slot: Slot, links: u32) -> Result<Option<Pag
     }
 }
 
-/// Asks the pages.
+/// Asks the pages, which tell what is so, or which map has to come into core first.
 pub fn ask<P: Pages>(what: Ask, pages: &P) -> Result<Reply, Need>
     requires { IsAsk what }
-    ensures told { (d : DrumWords) → P.means.fits pages.now d → IsTold (P.means.scene pages.now) result (told_of (P.means.plain pages.now d) what) }
+    ensures told { (d : DrumWords) → P.means.fits pages.now d → result ≡ told (ask_need (P.means.scene pages.now) (P.means.plain pages.now d) what) (told_of (P.means.plain pages.now d) what) }
     ensures core { P.means.flat ≡ true → IsOk result }
 {
     match what {

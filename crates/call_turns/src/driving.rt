@@ -1,8 +1,7 @@
 // A turn, driven to its end: all that it asks is asked, and nothing is changed.
 ghost use Rattle.std.specs.Prelude.{◌≡◌, true, IsOk, IfOk};
 ghost use Rattle.page_contracts.specs.DrumWords.{DrumWords};
-ghost use Rattle.plain_model.specs.Calls.{end_of};
-ghost use Rattle.call_turns.specs.Telling.{IsTold};
+ghost use Rattle.call_turns.specs.Needing.{DrivenTo};
 ghost use Rattle.call_turns.specs.Turns.{FitsTurn, FitsEnd, turn_of};
 ghost use Rattle.call_turns.specs.declared.turn.Reply.{Reply as AReply};
 ghost use Rattle.call_turns.specs.declared.turn.Turn.{Turn as ATurn};
@@ -31,8 +30,8 @@ pub trait Rest<C, V> {
         ensures fits { FitsTurn holds sound result };
 }
 
-/// Drives a turn to its end. A turn asks so many things at most: one that would ask more traps. A need comes only
-/// where what it asks for stands in no frame.
+/// Drives a turn to its end. A turn asks so many things at most: one that would ask more traps. A need comes exactly
+/// where one of its looks needs a map that is in no frame, and is that of the first.
 pub fn driven<C: Copy, V, S: Rest<C, V> + Copy, P: Pages>(
     turn: Turn<C, S>,
     most: u32,
@@ -41,7 +40,7 @@ pub fn driven<C: Copy, V, S: Rest<C, V> + Copy, P: Pages>(
 ) -> Result<End<C>, Need>
     requires turn { FitsTurn S.holds S.sound turn }
     ensures sound { IfOk result (FitsEnd S.sound) }
-    ensures told { (d : DrumWords) → P.means.fits pages.now d → IsTold (P.means.scene pages.now) result (end_of (P.means.plain pages.now d) (turn_of (S.later parts.now) turn most)) }
+    ensures told { (d : DrumWords) → P.means.fits pages.now d → DrivenTo (P.means.scene pages.now) (P.means.plain pages.now d) (turn_of (S.later parts.now) turn most) result }
     ensures core { P.means.flat ≡ true → IsOk result }
 {
     match turn {

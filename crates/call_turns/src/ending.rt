@@ -5,7 +5,7 @@ ghost use Rattle.plain_model.specs.Calls.{behind_call, returning as returning_of
 ghost use Rattle.call_turns.specs.Answers.{answer_of as answer_to};
 ghost use Rattle.call_turns.specs.Turns.{IsRegs};
 
-use crate::{Answer, Chars};
+use crate::Answer;
 use plain_model::call::End;
 use plain_units::Regs;
 use word36::Word;
@@ -36,26 +36,29 @@ pub fn returning<C>(change: C, regs: Regs) -> End<C>
     ensures end { result ≡ returning_of change regs }
     ensures fits { IsRegs regs → IsRegs (behind_call regs) }
 {
-    End::Done(change, behind(regs))
+    End::Done {
+        change,
+        regs: behind(regs),
+        out: None,
+        post: None,
+    }
 }
 
-/// The answer of a turn that ends so. Whoever makes the call knows by its number how many returns it has, and so what a refusal leaves.
+/// The answer of a turn that ends so.
 pub fn answer_of<C: Copy>(end: End<C>) -> Answer
     ensures { result ≡ answer_to end }
 {
     match end {
-        End::Done(_, regs) => Answer::After {
+        End::Done {
             regs,
-            out: Chars {
-                count: 0,
-                codes: [0; 2],
-            },
-            post: None,
-        },
+            out,
+            post,
+            ..
+        } => Answer::After { regs, out, post },
         End::Waits(on) => Answer::Wait(on),
         End::Halts => Answer::Halt,
         End::Refused(code) => Answer::Refused(code),
-        End::Failed(code) => Answer::Refused(code),
+        End::Failed(code) => Answer::Failed(code),
         End::Trap(channel) => Answer::Trap(channel),
     }
 }

@@ -9,7 +9,7 @@ mod driving;
 mod ending;
 mod turn;
 
-pub use answer::{Answer, Chars};
+pub use answer::Answer;
 pub use driving::{Rest, driven};
 pub use ending::{answer_of, behind, returning, with_ac};
 pub use turn::{Ask, Reply, Turn};

@@ -1,4 +1,3 @@
-pub mod Returning
 pub mod Counted
 pub mod Places
 pub mod Holdings

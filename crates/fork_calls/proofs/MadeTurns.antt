@@ -2,6 +2,7 @@
 use Rattle.std.proofs.Common.{◌≡◌, ℕ, ◌<◌, ◌^◌, Bool, true, false, cond, List, length, Option, Some, refl, sym, ◌∙◌, ap, subst, arith, inl, inr}
 use Rattle.std.specs.Prelude.{Err, IsSome, is_some, ◌==◌}
 use Rattle.std.specs.Option.{option_map}
+use Rattle.std.specs.Ordering.{nat_cmp}
 use Rattle.std.specs.FinMap as map
 use Rattle.word36.specs.Words.{right, bit}
 use Rattle.plain_model.specs.declared.call.TheConstants.{NO_ROOM}
@@ -19,7 +20,7 @@ use Rattle.plain_pages.specs.NewMaps.{with_map}
 use Rattle.plain_pages.specs.Room.{HasRoom}
 use Rattle.page_contracts.specs.Pages.{IsNewMap, Scene, TakesMap}
 use Rattle.plain_model.specs.Trees.{PlainTree, next_name, with_made}
-use Rattle.plain_model.specs.Calls.{Turn, end_of, ends, made_by, with_added}
+use Rattle.plain_model.specs.Calls.{Turn, Came, no_files, turn_on, ends, with_added}
 use Rattle.plain_model.specs.ForkCalls.{ForkAsked, fork_changed, made_fork, making, map_wanted, starts, with_accumulators}
 use Rattle.plain_model.proofs.ForkMaps.{cases_name, get_put, get_put_other}
 use Rattle.fork_tree.proofs.Slots.{some_of}
@@ -37,37 +38,30 @@ module _ (a : ForkAsked) (slot : ℕ) (p : NumberedPages) where
   abbrev mapped : NumberedPages
   mapped = with_map p (next_name a.tree a.who.tty) (map_wanted a)
 
-  abbrev rest : Turn ForkChange
+  abbrev rest : Turn ⊥ ForkChange
   rest = with_accumulators a (λ words. ends (making a slot words))
 
   -- there is no room for the map
-  pub made_full : HasRoom mapped a.who.tty ≡ false → end_of p (made_where a slot) ≡ Failed NO_ROOM
-  unfolding end_of
-  made_full none = ap (λ b. end_of (with_added p (next_name a.tree a.who.tty) (map_wanted a) b) (cond b rest (ends (Failed NO_ROOM)))) none
+  pub made_full : HasRoom mapped a.who.tty ≡ false → (turn_on no_files p (made_where a slot)).end ≡ Failed NO_ROOM
+  unfolding turn_on
+  made_full none = ap (λ b. (turn_on no_files (with_added p (next_name a.tree a.who.tty) (map_wanted a) b) (cond b rest (ends (Failed NO_ROOM)))).end) none
 
   module _ (room : HasRoom mapped a.who.tty ≡ true) where
-    made_end : end_of p (made_where a slot) ≡ end_of mapped rest
-    unfolding end_of
-    made_end = ap (λ b. end_of (with_added p (next_name a.tree a.who.tty) (map_wanted a) b) (cond b rest (ends (Failed NO_ROOM)))) room
-
-    made_pages : made_by (made_where a slot) p ≡ made_by rest mapped
-    unfolding made_by
-    made_pages = ap (λ b. made_by (cond b rest (ends (Failed NO_ROOM))) (with_added p (next_name a.tree a.who.tty) (map_wanted a) b)) room
+    made_comes : turn_on no_files p (made_where a slot) ≡ turn_on no_files mapped rest
+    unfolding turn_on
+    made_comes = ap (λ b. turn_on no_files (with_added p (next_name a.tree a.who.tty) (map_wanted a) b) (cond b rest (ends (Failed NO_ROOM)))) room
 
     -- the words trap, or need something first, with the map there
     pub made_stops : (before after : Scene) (r q : NumberedPages) (e : Stop) → r ≡ mapped → TakesMap before after (next_name a.tree a.who.tty) → TookAccumulators a (record { pages = r; scene = after }) q (Err e)
         → StopsSo (record { pages = p; scene = before }) a.tree.forks (made_where a slot) e
-    made_stops before after r q (Trap channel) same takes took = made_end ∙ ap (λ (x : NumberedPages). end_of x rest) (sym same) ∙ took (λ words. ends (making a slot words))
+    made_stops before after r q (Trap channel) same takes took = ap (λ (c : Came nat_cmp ForkChange). c.end) made_comes ∙ ap (λ (x : NumberedPages). (turn_on no_files x rest).end) (sym same) ∙ took (λ words. ends (making a slot words))
     made_stops before after r q (Need n) same takes took =
-        inr (after, takes, subst (λ (x : NumberedPages). TurnNeeds (record { pages = x; scene = after }) a.tree.forks rest n) same (took (λ words. ends (making a slot words))))
+        inr (inl (room, (after, takes, subst (λ (x : NumberedPages). TurnNeeds (record { pages = x; scene = after }) a.tree.forks rest n) same (took (λ words. ends (making a slot words))))))
 
     -- or the fork is made
-    pub made_goes : (r q : NumberedPages) (words : List ℕ) → r ≡ mapped → GoesOnWith a r q words → (end_of p (made_where a slot) ≡ making a slot words) × (made_by (made_where a slot) p ≡ q)
-    unfolding end_of made_by
-    made_goes r q words same on = (
-      made_end ∙ ap (λ (x : NumberedPages). end_of x rest) (sym same) ∙ on.ends (λ ws. ends (making a slot ws)),
-      made_pages ∙ ap (λ (x : NumberedPages). made_by rest x) (sym same) ∙ on.made (λ ws. ends (making a slot ws)),
-    )
+    pub made_goes : (r q : NumberedPages) (words : List ℕ) → r ≡ mapped → GoesOnWith a r q words → turn_on no_files p (made_where a slot) ≡ record { end = making a slot words; pages = q }
+    unfolding turn_on
+    made_goes r q words same on = made_comes ∙ ap (λ (x : NumberedPages). turn_on no_files x rest) (sym same) ∙ on.comes (λ ws. ends (making a slot ws))
 
 pub make_changes : (tree grown : PlainTree) (f : Fork) (p q : NumberedPages) → grown ≡ with_made tree f → parts grown q ≡ fork_changed (Make f) (record (parts tree p) { pages = q })
 unfolding fork_changed

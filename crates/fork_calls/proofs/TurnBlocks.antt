@@ -17,8 +17,8 @@ use Rattle.plain_units.specs.Deeds.{in_ac}
 use Rattle.plain_model.specs.Forks.{ForkMap}
 use Rattle.plain_units.specs.Steps.{Planned, put_into}
 use Rattle.call_turns.specs.declared.answer.Answer.{Answer}
-use Rattle.plain_model.specs.Calls.{Turn, end_of, ends, made_by, stepped, with_block}
-use Rattle.plain_model.specs.ForkCalls.{ForkAsked, ForkParts, address_named, fork_changed, fork_changed_by}
+use Rattle.plain_model.specs.Calls.{Turn, no_files, turn_on, ends, stepped, with_block}
+use Rattle.plain_model.specs.ForkCalls.{ForkAsked, ForkParts, address_named, fork_changed}
 use Rattle.plain_units.specs.Blocks.{stored_from}
 use Rattle.ka10_unit.specs.declared.taken.Taken.{Taken}
 use Rattle.ka10_unit.specs.declared.taken.Stop.{Stop}
@@ -28,8 +28,8 @@ use Rattle.ka10_unit.specs.Gathers.{Framed}
 use Rattle.ka10_unit.specs.Taking.{pages_so_far}
 use Rattle.call_turns.specs.Answers.{IsTurn, Went, answer_of}
 use Rattle.fork_calls.specs.Needing.{TurnNeeds}
-use Rattle.fork_calls.specs.Turning.{parts, stopped_by}
-use Rattle.fork_calls.proofs.Going.{goes, stops}
+use Rattle.fork_calls.specs.Turning.{parts, stopped_by, ComesOut}
+use Rattle.fork_calls.proofs.Going.{goes, stops, WentTo}
 use Rattle.fork_calls.specs.Blocks.{GoesOn, GoesOnWith, TookAccumulators, TookBlock}
 
 -- a unit as a plan of the plain machine
@@ -47,64 +47,60 @@ module _ (f : ForkName) (p : Framed) (regs : Regs) (at : ℕ) (kind : Kind) (t :
   left_there kept = ap (put_into f (pages_so_far p t)) kept
 
   pub took_goes : (words : List ℕ) (q : NumberedPages) → q ≡ pages_so_far p t → t.kept ≡ None → TakesBlock f p regs at kind t (Ok words) → GoesOn f regs at kind p.pages q words
-  unfolding end_of made_by
+  unfolding turn_on
   took_goes words q made kept took = record {
-    ends = λ next.
-        ap (λ (plan : PlainPlan). stepped f plan (λ r e. end_of r (next e.regs.ac)) TrapEnd) took.plain ∙ ap (λ (r : NumberedPages). end_of r (next words)) (left_there kept ∙ sym made);
-    made = λ next.
-        ap (λ (plan : PlainPlan). stepped f plan (λ r e. made_by (next e.regs.ac) r) (λ channel. p.pages)) took.plain ∙ ap (λ (r : NumberedPages). made_by (next words) r) (left_there kept ∙ sym made);
+    comes = λ next.
+        ap (λ (plan : PlainPlan). stepped f plan (λ r e. turn_on no_files r (next e.regs.ac)) (λ channel. record { end = TrapEnd channel; pages = p.pages })) took.plain ∙ ap (λ (r : NumberedPages). turn_on no_files r (next words)) (left_there kept ∙ sym made);
   }
 
   pub took_stops : (e : Stop) (q : NumberedPages) → TakesBlock f p regs at kind t (Err e) → TookBlock f regs at kind p q (Err e)
-  unfolding end_of
-  took_stops (Trap channel) q took = λ next. ap (λ (plan : PlainPlan). stepped f plan (λ r x. end_of r (next x.regs.ac)) TrapEnd) took.plain
+  unfolding turn_on
+  took_stops (Trap channel) q took = λ next. ap (λ (plan : PlainPlan). (stepped f plan (λ r x. turn_on no_files r (next x.regs.ac)) (λ channel. record { end = TrapEnd channel; pages = p.pages })).end) took.plain
   took_stops (Need n) q took = took.is
 
 -- the accumulators of a new fork, where they are read
 module _ (a : ForkAsked) (p : Framed) (q : NumberedPages) where
   -- the turn that reads them, where they are
-  abbrev read_if : (List ℕ → Turn ForkChange) → Bool → Turn ForkChange
+  abbrev read_if : (List ℕ → Turn ⊥ ForkChange) → Bool → Turn ⊥ ForkChange
   read_if next b = cond b (with_block a.who a.regs (address_named a.regs) Read next) (next (replicate 16 0))
 
   pub read_accumulators : (result : Result (List ℕ) Stop) → (bit (in_ac a.regs 1) 3 == 1) ≡ true → TookBlock a.who a.regs (address_named a.regs) Read p q result → TookAccumulators a p q result
   read_accumulators (Ok words) reads took = record {
-    ends = λ next. ap (λ b. end_of p.pages (read_if next b)) reads ∙ took.ends next;
-    made = λ next. ap (λ b. made_by (read_if next b) p.pages) reads ∙ took.made next;
+    comes = λ next. ap (λ b. turn_on no_files p.pages (read_if next b)) reads ∙ took.comes next;
   }
-  read_accumulators (Err (Trap channel)) reads took = λ next. ap (λ b. end_of p.pages (read_if next b)) reads ∙ took next
+  read_accumulators (Err (Trap channel)) reads took = λ next. ap (λ b. (turn_on no_files p.pages (read_if next b)).end) reads ∙ took next
   read_accumulators (Err (Need n)) reads took = λ next. subst (λ b. TurnNeeds p a.tree.forks (read_if next b) n) (sym reads) took
 
 -- and where they are 0
 pub zero_accumulators : (a : ForkAsked) (p : NumberedPages) → (bit (in_ac a.regs 1) 3 == 1) ≡ false → GoesOnWith a p p (replicate 16 0)
 zero_accumulators a p none = record {
-  ends = λ next. ap (λ b. end_of p (cond b (with_block a.who a.regs (address_named a.regs) Read next) (next (replicate 16 0)))) none;
-  made = λ next. ap (λ b. made_by (cond b (with_block a.who a.regs (address_named a.regs) Read next) (next (replicate 16 0))) p) none;
+  comes = λ next. ap (λ b. turn_on no_files p (cond b (with_block a.who a.regs (address_named a.regs) Read next) (next (replicate 16 0)))) none;
 }
 
 -- ---- how a turn goes that takes one block
 
 -- a turn stops so
-abbrev pub StopsSo : Framed → ForkMap → Turn ForkChange → Stop → Type 0
-StopsSo p forks t (Trap channel) = end_of p.pages t ≡ TrapEnd channel
+abbrev pub StopsSo : Framed → ForkMap → Turn ⊥ ForkChange → Stop → Type 0
+StopsSo p forks t (Trap channel) = (turn_on no_files p.pages t).end ≡ TrapEnd channel
 StopsSo p forks t (Need n) = TurnNeeds p forks t n
 
 module _ (tree : PlainTree) (p : Framed) (w : ForkParts nat_cmp) (result : Answer) where
   -- it leaves all as it was, and answers why
-  pub turn_stops : (t : Turn ForkChange) (e : Stop) → StopsSo p tree.forks t e → w ≡ parts tree p.pages → result ≡ stopped_by e → IsTurn (TurnNeeds p tree.forks t) (fork_changed_by t) (parts tree p.pages) w result (end_of p.pages t)
-  turn_stops t (Trap channel) is same answered = inl (stops (parts tree p.pages) w result t (TrapEnd channel) is (λ what regs h. cc h) answered same)
+  pub turn_stops : (t : Turn ⊥ ForkChange) (e : Stop) → StopsSo p tree.forks t e → w ≡ parts tree p.pages → result ≡ stopped_by e → ComesOut p tree w result t
+  turn_stops t (Trap channel) is same answered = inl (stops (parts tree p.pages) w result t (TrapEnd channel) is (λ what regs out post h. cc h) answered same)
   turn_stops t (Need n) is same answered = inr (record { need = n; answered = answered; reason = is; left = same })
 
 -- so does one whose block does
-pub block_stops : (who : ForkName) (regs : Regs) (at : ℕ) (kind : Kind) (p : Framed) (q : NumberedPages) (forks : ForkMap) (next : List ℕ → Turn ForkChange) (e : Stop) → TookBlock who regs at kind p q (Err e) → StopsSo p forks (with_block who regs at kind next) e
+pub block_stops : (who : ForkName) (regs : Regs) (at : ℕ) (kind : Kind) (p : Framed) (q : NumberedPages) (forks : ForkMap) (next : List ℕ → Turn ⊥ ForkChange) (e : Stop) → TookBlock who regs at kind p q (Err e) → StopsSo p forks (with_block who regs at kind next) e
 block_stops who regs at kind p q forks next (Trap channel) took = took next
 block_stops who regs at kind p q forks next (Need n) took = took
 
 module _ (v w : ForkParts nat_cmp) where
-  pub block_goes : (result : Answer) (who : ForkName) (regs : Regs) (at : ℕ) (kind : Kind) (q : NumberedPages) (words : List ℕ) → GoesOn who regs at kind v.pages q words → (end : List ℕ → End ForkChange) (what : ForkChange) (after : Regs) → end words ≡ Done what after
-      → w ≡ fork_changed what (record v { pages = q }) → result ≡ answer_of (Done what after) → Went (fork_changed_by (with_block who regs at kind (λ ws. ends (end ws)))) v w result (end_of v.pages (with_block who regs at kind (λ ws. ends (end ws))))
-  unfolding end_of made_by
+  pub block_goes : (result : Answer) (who : ForkName) (regs : Regs) (at : ℕ) (kind : Kind) (q : NumberedPages) (words : List ℕ) → GoesOn who regs at kind v.pages q words → (end : List ℕ → End ForkChange) (what : ForkChange) (after : Regs) → end words ≡ Done what after None None
+      → w ≡ fork_changed what (record v { pages = q }) → result ≡ answer_of (Done what after None None) → WentTo v w result (with_block who regs at kind (λ ws. ends (end ws)))
+  unfolding turn_on
   block_goes result who regs at kind q words on end what after is left answered =
-      goes v w result (with_block who regs at kind (λ ws. ends (end ws))) what after q (on.ends (λ ws. ends (end ws)) ∙ is) (on.made (λ ws. ends (end ws))) left answered
+      goes v w result (with_block who regs at kind (λ ws. ends (end ws))) what after q (on.comes (λ ws. ends (end ws)) ∙ ap (λ (e : End ForkChange). record { end = e; pages = q }) is) left answered
 
 -- words that are stored
 pub words_stored : (tree : PlainTree) (q r : NumberedPages) (who : ForkName) (at : ℕ) (words : List ℕ) → r ≡ stored_from q who at words → (p : NumberedPages) → parts tree r ≡ fork_changed (Store who at words) (record (parts tree p) { pages = q })

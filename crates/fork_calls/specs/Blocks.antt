@@ -6,7 +6,7 @@ use Rattle.machine_names.specs.declared.names.ForkName.{ForkName}
 use Rattle.machine_names.specs.declared.names.Kind.{Kind}
 use Rattle.plain_units.specs.declared.registers.Regs.{Regs}
 use Rattle.plain_pages.specs.PlainPages.{NumberedPages}
-use Rattle.plain_model.specs.Calls.{Turn, end_of, made_by, with_block}
+use Rattle.plain_model.specs.Calls.{Turn, no_files, turn_on, with_block}
 use Rattle.plain_model.specs.ForkCalls.{ForkAsked, with_accumulators}
 use Rattle.plain_units.specs.Steps.{stopped, need}
 use Rattle.ka10_unit.specs.declared.taken.Stop.{Stop}
@@ -17,21 +17,19 @@ use Rattle.fork_calls.specs.Needing.{TurnNeeds}
 
 -- a turn that takes a block goes on with these words, on the pages that its references leave, whatever it does then
 pub record GoesOn (who : ForkName) (regs : Regs) (at : ℕ) (kind : Kind) (p q : NumberedPages) (words : List ℕ) : Type 0 where
-  pub ends : (next : List ℕ → Turn ForkChange) → end_of p (with_block who regs at kind next) ≡ end_of q (next words)
-  pub made : (next : List ℕ → Turn ForkChange) → made_by (with_block who regs at kind next) p ≡ made_by (next words) q
+  pub comes : (next : List ℕ → Turn ⊥ ForkChange) → turn_on no_files p (with_block who regs at kind next) ≡ turn_on no_files q (next words)
 
 -- or it traps, or its references need something first
 abbrev pub TookBlock : ForkName → Regs → ℕ → Kind → Framed → NumberedPages → Result (List ℕ) Stop → Type 0
 TookBlock who regs at kind p q (Ok words) = GoesOn who regs at kind p.pages q words
-TookBlock who regs at kind p q (Err (Trap channel)) = (next : List ℕ → Turn ForkChange) → end_of p.pages (with_block who regs at kind next) ≡ TrapEnd channel
+TookBlock who regs at kind p q (Err (Trap channel)) = (next : List ℕ → Turn ⊥ ForkChange) → (turn_on no_files p.pages (with_block who regs at kind next)).end ≡ TrapEnd channel
 TookBlock who regs at kind p q (Err (Need n)) = block_over who p regs at kind ≡ stopped (need n)
 
 -- the same of the accumulators of a new fork
 pub record GoesOnWith (a : ForkAsked) (p q : NumberedPages) (words : List ℕ) : Type 0 where
-  pub ends : (next : List ℕ → Turn ForkChange) → end_of p (with_accumulators a next) ≡ end_of q (next words)
-  pub made : (next : List ℕ → Turn ForkChange) → made_by (with_accumulators a next) p ≡ made_by (next words) q
+  pub comes : (next : List ℕ → Turn ⊥ ForkChange) → turn_on no_files p (with_accumulators a next) ≡ turn_on no_files q (next words)
 
 abbrev pub TookAccumulators : ForkAsked → Framed → NumberedPages → Result (List ℕ) Stop → Type 0
 TookAccumulators a p q (Ok words) = GoesOnWith a p.pages q words
-TookAccumulators a p q (Err (Trap channel)) = (next : List ℕ → Turn ForkChange) → end_of p.pages (with_accumulators a next) ≡ TrapEnd channel
-TookAccumulators a p q (Err (Need n)) = (next : List ℕ → Turn ForkChange) → TurnNeeds p a.tree.forks (with_accumulators a next) n
+TookAccumulators a p q (Err (Trap channel)) = (next : List ℕ → Turn ⊥ ForkChange) → (turn_on no_files p.pages (with_accumulators a next)).end ≡ TrapEnd channel
+TookAccumulators a p q (Err (Need n)) = (next : List ℕ → Turn ⊥ ForkChange) → TurnNeeds p a.tree.forks (with_accumulators a next) n

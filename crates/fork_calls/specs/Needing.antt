@@ -8,13 +8,20 @@ use Rattle.page_contracts.specs.declared.answers.Need.{Need}
 use Rattle.page_contracts.specs.declared.answers.Need.TheVariants as need
 use Rattle.plain_pages.specs.declared.map.NewMap.{NewMap}
 use Rattle.machine_names.specs.declared.names.ForkName.{ForkName}
-use Rattle.plain_model.specs.Calls.{Turn, sees, finds, takes, adds, ends}
+use Rattle.plain_model.specs.Calls.{Turn}
+use Rattle.plain_model.specs.declared.call.Touched.{Touched}
+use Rattle.machine_names.specs.declared.names.Tty.{Tty}
+use Rattle.machine_names.specs.declared.names.Slot.{Slot}
+use Rattle.machine_names.specs.declared.names.Kind.{Kind}
+use Rattle.plain_units.specs.declared.registers.Regs.{Regs}
+use Rattle.plain_pages.specs.PlainPages.{NumberedPages}
 use Rattle.plain_model.specs.Forks.{ForkMap}
 use Rattle.plain_model.specs.Inferiors.{is_inferior}
 use Rattle.plain_pages.specs.NewMaps.{with_map}
 use Rattle.page_contracts.specs.Pages.{Scene, TakesMap}
 use Rattle.plain_pages.specs.Room.{HasRoom}
-use Rattle.plain_units.specs.Steps.{begun, stopped, need as needs}
+use Rattle.plain_units.specs.Steps.{Steps, Ending, begun, stopped, need as needs}
+use Rattle.call_turns.specs.Needing.{TurnNeeds as NeedsOf}
 use Rattle.ka10_unit.specs.Gathers.{Framed}
 use Rattle.ka10_unit.specs.Taking.{run_over}
 
@@ -42,19 +49,20 @@ ChangeNeeds scene forks (Kill name) n = IsKilledAway scene forks name n
 ChangeNeeds scene forks what n = ⊥
 
 abbrev pub EndNeeds : Scene → ForkMap → End ForkChange → Need → Type 0
-EndNeeds scene forks (Done what regs) n = ChangeNeeds scene forks what n
+EndNeeds scene forks (Done what regs out post) n = ChangeNeeds scene forks what n
 EndNeeds scene forks e n = ⊥
 
--- a new map for which there is room finds no frame
-pub record IsUnframed (p : Framed) (f : ForkName) (entries : NewMap) (n : Need) : Type 0 where
-  pub room : HasRoom (with_map p.pages f entries) f.tty ≡ true
-  pub frames : p.scene.free_frames ≡ 0
-  pub is : n ≡ need.Frame
+-- what the end of a turn needs on these pages
+abbrev pub ForkEndNeeds : ForkMap → Scene → NumberedPages → End ForkChange → Need → Type 0
+ForkEndNeeds forks scene p e n = EndNeeds scene forks e n
+
+-- what references need; behind its words no fork call needs anything
+abbrev pub WordsNeed : Scene → NumberedPages → ForkName → Regs → Steps → (Scene → NumberedPages → Ending → Type 0) → Need → Type 0
+WordsNeed scene p f regs steps later n = run_over f (record { pages = p; scene = scene }) steps (begun p regs.ac) ≡ stopped (needs n)
+
+abbrev pub NoTouches : Scene → NumberedPages → Tty → Slot → Kind → (Scene → NumberedPages → Touched → Type 0) → Need → Type 0
+NoTouches scene p owner s kind later n = ⊥
 
 -- WHAT A TURN NEEDS FIRST: a frame for a new map, what its references need, with the new map there, or the maps of forks that are killed
-abbrev pub TurnNeeds : Framed → ForkMap → Turn ForkChange → Need → Type 0
-TurnNeeds p forks (sees s next) n = ⊥
-TurnNeeds p forks (finds s next) n = ⊥
-TurnNeeds p forks (takes f regs steps next) n = run_over f p steps (begun p.pages regs.ac) ≡ stopped (needs n)
-TurnNeeds p forks (adds f entries next) n = IsUnframed p f entries n ⊎ ((scene : Scene) × TakesMap p.scene scene f × TurnNeeds (record { pages = with_map p.pages f entries; scene = scene }) forks (next true) n)
-TurnNeeds p forks (ends e) n = EndNeeds p.scene forks e n
+abbrev pub TurnNeeds : Framed → ForkMap → Turn ⊥ ForkChange → Need → Type 0
+TurnNeeds p forks t n = NeedsOf WordsNeed NoTouches (ForkEndNeeds forks) p.scene p.pages t n

@@ -1,9 +1,9 @@
 -- The first step of a fork call, and the whole turn that this comes to.
-use Rattle.std.specs.Prelude.{◌≡◌, ◌≢◌, ℕ, ◌+◌, Some, Ok, if◌then◌else◌, List}
+use Rattle.std.specs.Prelude.{◌≡◌, ℕ, ◌+◌, Some, Ok, if◌then◌else◌, List}
 use Rattle.std.specs.FinMap as map
-use Rattle.plain_model.specs.declared.call.TheConstants.{CFORK, FORK_SELF, NO_ROOM}
+use Rattle.plain_model.specs.declared.call.TheConstants.{FORK_SELF, NO_ROOM}
 use Rattle.plain_model.specs.declared.call.End.{End}
-use Rattle.plain_model.specs.declared.call.End.TheVariants.{Done, Waits, Halts, Refused, Failed, Trap}
+use Rattle.plain_model.specs.declared.call.End.TheVariants.{Failed}
 use Rattle.plain_model.specs.declared.call.ForkChange.{ForkChange}
 use Rattle.plain_model.specs.declared.call.ForkChange.TheVariants.{Nothing, Make, Kill, Freeze, Become, Halt, Store}
 use Rattle.machine_names.specs.declared.names.Kind.TheVariants.{Read, Write}
@@ -36,7 +36,7 @@ store_end a f =
     returning (Store a.who at words) (record a.regs { ac = stored_low a.regs.ac at words })
 
 -- how CFORK goes on, told whether there is room
-abbrev pub made_where : ForkAsked → ℕ → Turn ForkChange
+abbrev pub made_where : ForkAsked → ℕ → Turn ⊥ ForkChange
 made_where a slot = adds (next_name a.tree a.who.tty) (map_wanted a) (λ room.
     if room then with_accumulators a (λ words. ends (making a slot words)) else ends (Failed NO_ROOM))
 
@@ -45,7 +45,7 @@ abbrev pub second_regs : Regs → ℕ → Regs
 second_regs regs slot = let told = with_ac regs 1 (FORK_SELF + slot) in record told { pc = skip_pc told }
 
 -- the whole turn of a first step
-abbrev pub whole : ForkAsked → Step → Turn ForkChange
+abbrev pub whole : ForkAsked → Step → Turn ⊥ ForkChange
 whole a (Ends e) = ends e
 whole a (Makes slot) = made_where a slot
 whole a (Sets f) = with_block a.who a.regs (address_named a.regs) Read (λ words. ends (set_end a f words))
@@ -76,37 +76,9 @@ IsChangeBelow forks who (Become f body) = IsBodyOf forks f body
 IsChangeBelow forks who (Halt f) = IsBelow forks who f
 IsChangeBelow forks who (Store f at words) = ⊥
 
--- CFORK alone has two returns
-abbrev pub IsEndOf : ℕ → End ForkChange → Type 0
-IsEndOf number (Done change regs) = Unit {0}
-IsEndOf number (Waits on) = Unit {0}
-IsEndOf number Halts = Unit {0}
-IsEndOf number (Refused code) = number ≢ CFORK
-IsEndOf number (Failed code) = number ≡ CFORK
-IsEndOf number (Trap channel) = Unit {0}
-
 -- what holds of a first step: a fork is made in the free slot, while a serial is left for it; and words are those of an inferior
 abbrev pub FitsStep : ForkAsked → Step → Type 0
 FitsStep a (Ends e) = FitsEnd (IsChangeBelow a.tree.forks a.who) e
 FitsStep a (Makes slot) = slot_for a.tree a.who.tty ≡ Ok slot
 FitsStep a (Sets f) = Lives a.tree.forks f
 FitsStep a (Stores f) = Lives a.tree.forks f
-
--- a step of a call with one return, and of one with two
-abbrev pub HasOneReturn : Step → Type 0
-HasOneReturn (Ends (Failed code)) = ⊥
-HasOneReturn (Makes slot) = ⊥
-HasOneReturn step = Unit {0}
-
-abbrev pub HasTwoReturns : Step → Type 0
-HasTwoReturns (Ends (Refused code)) = ⊥
-HasTwoReturns (Sets f) = ⊥
-HasTwoReturns (Stores f) = ⊥
-HasTwoReturns step = Unit {0}
-
--- CFORK alone has two
-abbrev pub IsStepOf : ℕ → Step → Type 0
-IsStepOf number (Ends e) = IsEndOf number e
-IsStepOf number (Makes slot) = number ≡ CFORK
-IsStepOf number (Sets f) = number ≢ CFORK
-IsStepOf number (Stores f) = number ≢ CFORK

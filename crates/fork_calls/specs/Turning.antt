@@ -9,10 +9,10 @@ use Rattle.page_contracts.specs.DrumWords.{DrumWords}
 use Rattle.plain_pages.specs.PlainPages.{NumberedPages}
 use Rattle.page_contracts.specs.Pages.{PagesMeaning}
 use Rattle.plain_model.specs.Trees.{PlainTree}
-use Rattle.plain_model.specs.Calls.{Turn, end_of}
-use Rattle.plain_model.specs.ForkCalls.{ForkParts, fork_changed, fork_changed_by}
+use Rattle.plain_model.specs.Calls.{Turn, no_files, turn_on}
+use Rattle.plain_model.specs.ForkCalls.{ForkParts, fork_changed}
 use Rattle.call_turns.specs.Answers.{IsTurn}
-use Rattle.call_turns.specs.Turns.{IsRegs}
+use Rattle.call_turns.specs.Turns.{IsOut, IsRegs}
 use Rattle.ka10_unit.specs.declared.taken.Stop.{Stop}
 use Rattle.ka10_unit.specs.declared.taken.Stop.TheVariants as stop
 use Rattle.ka10_unit.specs.Gathers.{Framed, framed}
@@ -22,12 +22,17 @@ use Rattle.fork_calls.specs.Needing.{ChangeNeeds, TurnNeeds}
 abbrev pub parts : PlainTree → NumberedPages → ForkParts nat_cmp
 parts tree p = record { tree = tree; pages = p }
 
+-- a turn comes out over the plain pages as it does here
+abbrev pub ComesOut : Framed → PlainTree → ForkParts nat_cmp → Answer → Turn ⊥ ForkChange → Type 0
+ComesOut p tree new result t =
+    let c = turn_on no_files p.pages t in IsTurn (TurnNeeds p tree.forks t) fork_changed (parts tree p.pages) (parts tree c.pages) new result c.end
+
 -- A TURN OF A CALL, over each drum that fits: its answer is that of its end, and what it leaves is what that leaves; or it needs something
 -- first, and leaves all as it was
-abbrev pub Turned : {P : Type 0} → PagesMeaning P → P → P → PlainTree → PlainTree → Answer → Turn ForkChange → Type 0
+abbrev pub Turned : {P : Type 0} → PagesMeaning P → P → P → PlainTree → PlainTree → Answer → Turn ⊥ ForkChange → Type 0
 Turned means old new tree tree' result t =
     (d : DrumWords) → means.fits old d
-    → means.fits new d × IsTurn (TurnNeeds (framed means old d) tree.forks t) (fork_changed_by t) (parts tree (means.plain old d)) (parts tree' (means.plain new d)) result (end_of (means.plain old d) t)
+    → means.fits new d × ComesOut (framed means old d) tree (parts tree' (means.plain new d)) result t
 
 -- a change was made over each drum that fits, or it needs something first, and nothing was changed
 abbrev pub MadeOver : Framed → NumberedPages → PlainTree → PlainTree → Result ⊤ Need → ForkChange → Type 0
@@ -42,7 +47,7 @@ abbrev pub stopped_by : Stop → Answer
 stopped_by (stop.Trap channel) = answer.Trap channel
 stopped_by (stop.Need n) = answer.Need n
 
--- an answer with registers within their limits
+-- an answer with registers and a character within their limits
 abbrev pub HasRegs : Answer → Type 0
-HasRegs (answer.After regs out post) = IsRegs regs
+HasRegs (answer.After regs out post) = IsRegs regs × IsOut out
 HasRegs other = Unit {0}

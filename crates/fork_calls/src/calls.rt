@@ -6,7 +6,7 @@ ghost use Rattle.machine_names.specs.Bounds.{IsTerminal};
 ghost use Rattle.call_turns.specs.Turns.{IsRegs};
 ghost use Rattle.fork_calls.specs.Asking.{asked};
 ghost use Rattle.fork_calls.specs.Limits.{AreWithin, IsBody};
-ghost use Rattle.fork_calls.specs.Steps.{FitsStep, HasOneReturn, HasTwoReturns, whole};
+ghost use Rattle.fork_calls.specs.Steps.{FitsStep, whole};
 
 use crate::naming::{address_named, inferior_named, own_named};
 use crate::standing::{place_word, status_word};
@@ -25,7 +25,6 @@ pub fn cfork(who: ForkName, tree: &Tree) -> Step
     requires { IsTerminal who.tty }
     ensures turn { (regs : ARegs) → whole (asked who regs tree.now) result ≡ cfork_of (asked who regs tree.now) }
     ensures fits { (regs : ARegs) → FitsStep (asked who regs tree.now) result }
-    ensures returns { HasTwoReturns result }
 {
     match tree.slot_for(who.tty) {
         Ok(slot) => Step::Makes(slot),
@@ -39,7 +38,6 @@ pub fn kfork(regs: &Regs, who: ForkName, tree: &Tree) -> Step
     requires { IsRegs regs.now }
     ensures turn { whole (asked who regs.now tree.now) result ≡ kfork_of (asked who regs.now tree.now) }
     ensures fits { FitsStep (asked who regs.now tree.now) result }
-    ensures returns { HasOneReturn result }
 {
     match inferior_named(regs, who, tree) {
         Ok(fork) => Step::Ends(returning(ForkChange::Kill(fork.name), *regs)),
@@ -52,7 +50,6 @@ pub fn ffork(regs: &Regs, who: ForkName, tree: &Tree) -> Step
     requires { IsRegs regs.now }
     ensures turn { whole (asked who regs.now tree.now) result ≡ ffork_of (asked who regs.now tree.now) }
     ensures fits { FitsStep (asked who regs.now tree.now) result }
-    ensures returns { HasOneReturn result }
 {
     match inferior_named(regs, who, tree) {
         Ok(fork) => Step::Ends(returning(ForkChange::Freeze(fork.name, true), *regs)),
@@ -65,7 +62,6 @@ pub fn rfork(regs: &Regs, who: ForkName, tree: &Tree) -> Step
     requires { IsRegs regs.now }
     ensures turn { whole (asked who regs.now tree.now) result ≡ rfork_of (asked who regs.now tree.now) }
     ensures fits { FitsStep (asked who regs.now tree.now) result }
-    ensures returns { HasOneReturn result }
 {
     match inferior_named(regs, who, tree) {
         Ok(fork) => Step::Ends(returning(ForkChange::Freeze(fork.name, false), *regs)),
@@ -79,7 +75,6 @@ pub fn rfsts(regs: &Regs, who: ForkName, tree: &Tree) -> Step
     requires within { AreWithin tree.now.forks }
     ensures turn { whole (asked who regs.now tree.now) result ≡ rfsts_of (asked who regs.now tree.now) }
     ensures fits { FitsStep (asked who regs.now tree.now) result }
-    ensures returns { HasOneReturn result }
 {
     match own_named(regs, who, tree) {
         Ok(fork) => {
@@ -111,7 +106,6 @@ pub fn sfork(regs: &Regs, who: ForkName, tree: &Tree) -> Step
     requires { IsRegs regs.now }
     ensures turn { whole (asked who regs.now tree.now) result ≡ sfork_of (asked who regs.now tree.now) }
     ensures fits { FitsStep (asked who regs.now tree.now) result }
-    ensures returns { HasOneReturn result }
 {
     match inferior_named(regs, who, tree) {
         Ok(fork) => {
@@ -127,7 +121,6 @@ pub fn sfacs(regs: &Regs, who: ForkName, tree: &Tree) -> Step
     requires { IsRegs regs.now }
     ensures turn { whole (asked who regs.now tree.now) result ≡ sfacs_of (asked who regs.now tree.now) }
     ensures fits { FitsStep (asked who regs.now tree.now) result }
-    ensures returns { HasOneReturn result }
 {
     match inferior_named(regs, who, tree) {
         Ok(fork) => Step::Sets(fork),
@@ -140,7 +133,6 @@ pub fn rfacs(regs: &Regs, who: ForkName, tree: &Tree) -> Step
     requires { IsRegs regs.now }
     ensures turn { whole (asked who regs.now tree.now) result ≡ rfacs_of (asked who regs.now tree.now) }
     ensures fits { FitsStep (asked who regs.now tree.now) result }
-    ensures returns { HasOneReturn result }
 {
     match inferior_named(regs, who, tree) {
         Ok(fork) => Step::Stores(fork),
@@ -153,7 +145,6 @@ pub fn hfork(regs: &Regs, who: ForkName, tree: &Tree) -> Step
     requires { IsRegs regs.now }
     ensures turn { whole (asked who regs.now tree.now) result ≡ hfork_of (asked who regs.now tree.now) }
     ensures fits { FitsStep (asked who regs.now tree.now) result }
-    ensures returns { HasOneReturn result }
 {
     match inferior_named(regs, who, tree) {
         Ok(fork) => Step::Ends(returning(ForkChange::Halt(fork.name), *regs)),
@@ -178,7 +169,6 @@ pub fn wfork(regs: &Regs, who: ForkName, tree: &Tree) -> Step
     requires { IsRegs regs.now }
     ensures turn { whole (asked who regs.now tree.now) result ≡ wfork_of (asked who regs.now tree.now) }
     ensures fits { FitsStep (asked who regs.now tree.now) result }
-    ensures returns { HasOneReturn result }
 {
     match inferior_named(regs, who, tree) {
         Ok(fork) => {

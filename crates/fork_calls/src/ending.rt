@@ -1,5 +1,5 @@
 // How a turn of a fork call ends.
-ghost use Rattle.std.specs.Prelude.{◌≡◌, true};
+ghost use Rattle.std.specs.Prelude.{◌≡◌, true, None};
 ghost use Rattle.plain_model.specs.declared.call.End.{End as AnEnd};
 ghost use Rattle.plain_model.specs.declared.call.ForkChange.{ForkChange as AForkChange};
 ghost use Rattle.plain_units.specs.declared.registers.Regs.{Regs as ARegs};
@@ -25,11 +25,16 @@ use plain_units::Regs;
 /// A turn that is done answers its registers, whatever it has changed.
 pub fn returned(regs: Regs) -> Answer
     requires { IsRegs regs }
-    ensures answer { (change : AForkChange) → result ≡ answer_to (AnEnd.Done change regs) }
+    ensures answer { (change : AForkChange) → result ≡ answer_to (AnEnd.Done change regs None None) }
     ensures core { IsDone result }
     ensures regs { HasRegs result }
 {
-    let end: End<ForkChange> = End::Done(ForkChange::Nothing, regs);
+    let end: End<ForkChange> = End::Done {
+        change: ForkChange::Nothing,
+        regs,
+        out: None,
+        post: None,
+    };
     answer_of(end)
 }
 
@@ -61,15 +66,11 @@ pub fn end<P: Pages>(
     ensures leaves { CallLeaves P.means pages.old pages.new tree.old tree.new who 0 }
     ensures regs { HasRegs result }
 {
-    match ending {
-        End::Done(what, regs) => match change(who, what, tree, pages) {
-            Ok(()) => returned(regs),
+    match &ending {
+        End::Done { change: what, .. } => match change(who, *what, tree, pages) {
+            Ok(()) => answer_of(ending),
             Err(need) => Answer::Need(need),
         },
-        End::Waits(_) => answer_of(ending),
-        End::Halts => answer_of(ending),
-        End::Refused(_) => answer_of(ending),
-        End::Failed(_) => answer_of(ending),
-        End::Trap(_) => answer_of(ending),
+        _ => answer_of(ending),
     }
 }

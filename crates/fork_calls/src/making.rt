@@ -151,7 +151,7 @@ pub fn make<P: Pages>(
 {
     tree.are_trees();
     match pages.room(1) {
-        Room::Full => return Answer::Refused(NO_ROOM),
+        Room::Full => return Answer::Failed(NO_ROOM),
         Room::NeedFrame => return Answer::Need(Need::Frame),
         Room::Enough => {}
     }

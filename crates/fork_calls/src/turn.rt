@@ -1,15 +1,12 @@
 // One turn of a fork call.
 ghost use Rattle.std.specs.Prelude.{◌≡◌, ◌<◌, ◌^◌, IsSome, true};
 ghost use Rattle.std.specs.FinMap as map;
-ghost use Rattle.plain_model.specs.Calls.{end_of};
 ghost use Rattle.plain_model.specs.ForkCalls.{fork_call};
-ghost use Rattle.plain_pages.specs.PlainPages.{NumberedPages};
 ghost use Rattle.call_turns.specs.Answers.{IsDone};
 ghost use Rattle.call_turns.specs.Turns.{IsRegs};
 ghost use Rattle.fork_calls.specs.Asking.{asked};
 ghost use Rattle.fork_calls.specs.Holding.{CallLeaves, Holds};
 ghost use Rattle.fork_calls.specs.Limits.{AreWithin};
-ghost use Rattle.fork_calls.specs.Steps.{IsEndOf};
 ghost use Rattle.fork_calls.specs.Turning.{HasRegs, Turned};
 
 use crate::ending::end;
@@ -40,7 +37,6 @@ pub fn call<P: Pages>(
     requires within { AreWithin tree.old.forks }
     requires serial { P.means.serial pages.old who.tty < 2 ^ 62 }
     ensures told { Turned P.means pages.old pages.new tree.old tree.new result (fork_call number (asked who regs.now tree.old)) }
-    ensures returns { (p : NumberedPages) → IsEndOf number (end_of p (fork_call number (asked who regs.now tree.old))) }
     ensures core { P.means.flat ≡ true → IsDone result }
     ensures leaves { CallLeaves P.means pages.old pages.new tree.old tree.new who 128 }
     ensures regs { HasRegs result }

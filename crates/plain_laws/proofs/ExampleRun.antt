@@ -50,7 +50,7 @@ use Rattle.plain_laws.specs.Example.{first_terminal, first_fork, movei_word, pbo
 use Rattle.plain_model.specs.Trees.{unwaited, end_told}
 use Rattle.machine_names.proofs.OrderLemmas.{fork_cmp_total, page_cmp_total}
 use Rattle.plain_model.proofs.ForkMaps.{cases_name, get_put, get_put_other}
-use Rattle.plain_laws.proofs.Waiters.{none_told, halts_so}
+use Rattle.plain_laws.proofs.Waiters.{none_told, halts_so, prints_so}
 use Rattle.std.specs.Option.{option_map_or, option_and_then}
 use Rattle.std.specs.Cmp.Lexicographic.{nat_list_cmp_total}
 use Rattle.outside.specs.declared.TheConstants.{PAGE_WORDS}
@@ -300,7 +300,9 @@ moves = applied jobs_2 forks_2 _ (fetches jobs_2 forks_2 regs_0 0 movei_word (fo
 
 prints : apply (at pages_5 jobs_2 forks_3) (AUnit first_fork) ≡ record { state = at pages_5 jobs_2 forks_4; items = Char first_terminal 65 ∷ [] }
 unfolding run execute address address_within row_of row_among
-prints = applied jobs_2 forks_3 _ (fetches jobs_2 forks_3 regs_1 1 pbout_word (fork_set forks_2 first_fork (fork Run regs_1 1)) refl refl pbout_there ∙ ap (λ c. record { state = at pages_5 jobs_2 forks_4; items = printed first_terminal (shown_code (c % 128)) }) letter_there)
+prints = applied jobs_2 forks_3 _ (fetches jobs_2 forks_3 regs_1 1 pbout_word (fork_set forks_2 first_fork (fork Run regs_1 1)) refl refl pbout_there
+    ∙ prints_so (at pages_5 jobs_2 forks_3) (fork Run regs_1 1) (fork_set forks_2 first_fork (fork Run regs_1 1))
+    ∙ ap (λ c. record { state = at pages_5 jobs_2 forks_4; items = printed first_terminal (shown_code (c % 128)) ++ [] }) letter_there)
 
 -- the fork that halts is the only one, and waits for none
 the_only : (k : ForkName) (f : Fork) → map.get forks_5 k ≡ Some f → (f.name ≡ k) × (unwaited f ≡ f)

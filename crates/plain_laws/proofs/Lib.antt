@@ -1,3 +1,6 @@
+pub mod MapEnds
+pub mod Led
+pub mod GivenSerials
 pub mod Named
 pub mod WholeForks
 pub mod Waiters

@@ -22,11 +22,11 @@ use Rattle.plain_model.specs.Forks.{ForkMap, IsRunnable, fork_in, is_frozen, sup
 use Rattle.plain_model.specs.Interrupts.{posted}
 use Rattle.plain_model.specs.Inferiors.{last_below}
 use Rattle.plain_model.specs.Trees.{tree_of, next_name, changed, with_body, with_mark, unwaited, woken_in, waiters_woken, end_told}
-use Rattle.plain_model.specs.Calls.{made_by, parts_behind}
-use Rattle.plain_model.specs.ForkCalls.{ForkAsked, ForkParts, without, without_below, with_halted, fork_changed, fork_changed_by, fork_turn, fork_end, fork_called}
+use Rattle.plain_model.specs.Calls.{parts_behind}
+use Rattle.plain_model.specs.ForkCalls.{ForkAsked, ForkParts, without, without_below, with_halted, fork_changed}
 use Rattle.plain_laws.specs.ForkLaws.{Resumes, UnitResumes}
 use Rattle.plain_units.specs.Steps.{Planned, done, call, stopped as unit_stopped}
-use Rattle.plain_model.specs.Unit.{fork_turned, over, unit}
+use Rattle.plain_model.specs.Unit.{over, unit, parts_of}
 use Rattle.plain_units.specs.Units.{unit_on}
 use Rattle.plain_laws.specs.Whole.{IsWhole}
 use Rattle.plain_model.proofs.ForkMaps.{AreOwn, cases_name, get_put, get_put_other, get_gone, get_gone_other, held_there, slot_tells, superior_tells}
@@ -34,6 +34,8 @@ use Rattle.plain_model.proofs.ForkEnds.{FitsChange, FitsEnd, call_names}
 use Rattle.plain_laws.proofs.UnitForks.{KeptBy, fork_kept, over_kept}
 use Rattle.plain_model.proofs.Posted.{posted_mark}
 use Rattle.plain_laws.proofs.WholeForks.{no_fork}
+use Rattle.plain_model.specs.Families.{through, forks_part}
+use Rattle.plain_model.proofs.Calling.{fork_came, fork_called, fork_turned}
 
 -- whatever a fork with the mark is changed to, it has it
 abbrev KeepsMark : (Fork → Fork) → Type 0
@@ -111,14 +113,14 @@ module _ (name : ForkName) where
 
   module _ (s : PlainState) (w : IsWhole s) (f : Fork) (there : map.get s.forks name ≡ Some f) (mark : f.frozen ≡ true) where
     marked : Marked s.forks
-    marked = record { own = w.own; mark = λ g is. let both : Some f ≡ Some g = sym there ∙ is in let same : f ≡ g = cc both in ap (λ (x : Fork). x.frozen) (sym same) ∙ mark }
+    marked = record { own = w.tree.slotted.own; mark = λ g is. let both : Some f ≡ Some g = sym there ∙ is in let same : f ≡ g = cc both in ap (λ (x : Fork). x.frozen) (sym same) ∙ mark }
 
     -- it has it still, or this change takes it
     abbrev Stays : ForkChange → ForkMap → Type 0
     Stays change m = Marked m ⊎ (change ≡ Freeze name false)
 
     held : (k : ForkName) (h : Fork) → map.get s.forks k ≡ Some h → map.get s.forks h.name ≡ Some h
-    held k h is = held_there s.forks w.own k h is
+    held k h is = held_there s.forks w.tree.slotted.own k h is
 
     frozen_stays : (k : ForkName) (on : Bool) → Stays (Freeze k on) (changed s.forks (with_mark on) (map.get s.forks k))
     frozen_stays k true = inl (by (map.get s.forks k))
@@ -131,7 +133,7 @@ module _ (name : ForkName) where
         by : (o : Option Fork) → map.get s.forks k ≡ o → Stays (Freeze k false) (changed s.forks (with_mark false) o)
         by None none = inl marked
         by (Some h) some = elim (cases_name name h.name) [
-          | inl e ↦ inr (ap (λ (x : ForkName). Freeze x false) (sym (w.own k h some) ∙ sym e))
+          | inl e ↦ inr (ap (λ (x : ForkName). Freeze x false) (sym (w.tree.slotted.own k h some) ∙ sym e))
           | inr ne ↦ inl (put_marked s.forks marked (with_mark false h) (λ e. absurd (ne (sym e))))
         ]
 
@@ -164,16 +166,16 @@ module _ (name : ForkName) where
 
     call_stays : (caller : Fork) (number : ℕ) → Marked (fork_called s caller number).forks ⊎ Resumes s caller number name
     unfolding parts_behind
-    call_stays caller number = by (fork_end s caller number) refl (call_names (record { who = caller.name; regs = caller.body.regs; tree = tree_of s }) s.pages number)
+    call_stays caller number = by (fork_came s caller number).end refl (call_names (record { who = caller.name; regs = caller.body.regs; tree = tree_of s }) s.pages number)
       where
         q : NamedPages
-        q = made_by (fork_turn s caller number) s.pages
+        q = (fork_came s caller number).pages
 
-        by : (e : End ForkChange) → fork_end s caller number ≡ e → FitsEnd (record { who = caller.name; regs = caller.body.regs; tree = tree_of s }) s.pages (λ x y. Unit {0}) q e
-            → Marked (parts_behind (fork_changed_by (fork_turn s caller number)) (record { tree = tree_of s; pages = s.pages }) e).tree.forks ⊎ Resumes s caller number name
-        by (Done change regs) ends fits = elim (change_stays caller.name caller.body.regs s.pages q change fits) [
+        by : (e : End ForkChange) → (fork_came s caller number).end ≡ e → FitsEnd (record { who = caller.name; regs = caller.body.regs; tree = tree_of s }) s.pages (λ x y. Unit {0}) q e
+            → Marked (parts_behind (through forks_part fork_changed) (parts_of s) (record (parts_of s) { pages = q }) e).tree.forks ⊎ Resumes s caller number name
+        by (Done change regs out post) ends fits = elim (change_stays caller.name caller.body.regs s.pages q change fits) [
           | inl m ↦ inl m
-          | inr c ↦ inr (regs, ends ∙ ap (λ (x : ForkChange). Done x regs) c)
+          | inr c ↦ inr (regs, out, post, ends ∙ ap (λ (x : ForkChange). Done x regs out post) c)
         ]
         by (Waits on) ends fits = inl marked
         by Halts ends fits = inl marked
@@ -198,14 +200,14 @@ module _ (name : ForkName) where
     -- a unit of a fork leaves the mark, or its call takes it
     module _ (who : ForkName) (caller : Fork) (living : map.get s.forks who ≡ Some caller) where
       over_marks : (r : Planned name_cmp ⊥) → Marked (over s caller r).state.forks ⊎ ((number : ℕ) × (r ≡ call number) × Resumes s caller number name)
-      over_marks (done t e) = inl (over_kept Marked Good by_mark s marked caller (good_in s.forks marked who caller living) (done t e) (λ number is. absurd (cc is)))
-      over_marks (unit_stopped why) = inl (over_kept Marked Good by_mark s marked caller (good_in s.forks marked who caller living) (unit_stopped why) (λ number is. absurd (cc is)))
+      over_marks (done t e) = inl (over_kept Marked Good by_mark s marked caller (good_in s.forks marked who caller living) (λ g is. good_in s.forks marked caller.name g is) (done t e) (λ number is. absurd (cc is)))
+      over_marks (unit_stopped why) = inl (over_kept Marked Good by_mark s marked caller (good_in s.forks marked who caller living) (λ g is. good_in s.forks marked caller.name g is) (unit_stopped why) (λ number is. absurd (cc is)))
       over_marks (call number) = elim (call_stays caller number) [
         | inr resumes ↦ inr (number, refl, resumes)
         | inl u ↦
             let good = good_in s.forks marked who caller living in
-            let turns = fork_kept Marked Good by_mark s marked caller good number u (λ g is. good_in (fork_called s caller number).forks u caller.name g is) in
-            inl (over_kept Marked Good by_mark s marked caller good (call number) (λ n is.
+            let turns = fork_kept Marked Good by_mark s marked caller good (λ g is. good_in s.forks marked caller.name g is) number u (λ g is. good_in (fork_called s caller number).forks u caller.name g is) in
+            inl (over_kept Marked Good by_mark s marked caller good (λ g is. good_in s.forks marked caller.name g is) (call number) (λ n is.
             let same : number ≡ n = cc is in subst (λ m. Marked (fork_turned s caller m).state.forks) same turns))
       ]
 

@@ -1,6 +1,6 @@
 -- Each fork stands under its own name, which is within its limits; so are the entries that events may have.
 use Rattle.std.proofs.Common.{◌≡◌, ℕ, zero, suc, ◌+◌, ◌%◌, ◌≤◌, inl, inr, List, [], ◌∷◌, ◌++◌, length, Bool, true, false, cond, Option, None, Some, refl, sym, ◌∙◌, ap, subst, arith, All}
-use Rattle.std.specs.Prelude.{is_some, nat_lt, ◌==◌}
+use Rattle.std.specs.Prelude.{is_some, nat_lt}
 use Rattle.std.specs.List.{range_with_len}
 use Rattle.std.specs.Option.{option_map_or}
 use Rattle.std.specs.Ordering.{eq_by_cmp}
@@ -29,21 +29,18 @@ use Rattle.plain_model.specs.Forks.{ForkMap, fork_in, superior_of, top_fork, wit
 use Rattle.plain_model.specs.Interrupts.{posted, pended, listens, is_panic}
 use Rattle.plain_pages.specs.References.{Referred, granted, denied, full, in_map, reference, slot_at}
 use Rattle.plain_pages.specs.Room.{HasRoom}
-use Rattle.plain_model.specs.declared.call.TheConstants.{PBOUT}
 use Rattle.plain_units.specs.declared.channel.TheConstants.{ILLEGAL_INSTRUCTION, INFERIOR_ENDED}
-use Rattle.plain_model.specs.Unit.{Effect, in_command_mode, with_stopped, stopped, unit_ended, trapped, pbout, turned, caller_behind, fork_turned, called, advanced, posted_if, went, over, unit}
+use Rattle.plain_model.specs.Unit.{Effect, in_command_mode, with_stopped, stopped, unit_ended, trapped, called, went, over, unit, parts_of, with_parts, put_with}
 use Rattle.plain_units.specs.Units.{unit_on}
 use Rattle.plain_model.specs.declared.call.End.{End}
 use Rattle.plain_model.specs.declared.call.End.TheVariants.{Done, Waits, Halts, Refused, Failed, Trap}
-use Rattle.plain_model.specs.declared.call.MapChange.{MapChange}
 use Rattle.plain_model.specs.declared.call.ForkChange.{ForkChange}
 use Rattle.plain_model.specs.declared.call.ForkChange.TheVariants.{Nothing, Make, Kill, Freeze, Become, Halt, Store}
 use Rattle.plain_units.specs.declared.registers.Regs.{Regs}
-use Rattle.plain_model.specs.Calls.{end_of, made_by, with_error, fork_behind, parts_behind, lifted, is_among}
+use Rattle.plain_model.specs.Calls.{with_error, fork_behind, parts_behind, out_of, posted_if}
 use Rattle.plain_model.specs.Inferiors.{last_below}
 use Rattle.plain_model.specs.Trees.{tree_of, next_name, with_made, changed, with_mark, with_body, unwaited, woken_in, waiters_woken, with_posted, end_told}
-use Rattle.plain_model.specs.ForkCalls.{ForkAsked, ForkParts, without, without_below, killed, with_halted, fork_changed, fork_changed_by, fork_calls, fork_turn, fork_end, fork_called}
-use Rattle.plain_model.specs.MapCalls.{map_call, map_changed, pages_seen}
+use Rattle.plain_model.specs.ForkCalls.{ForkAsked, ForkParts, without, without_below, killed, with_halted, fork_changed}
 use Rattle.plain_units.specs.Steps.{Planned, Ending, done, call, trap, need, stopped as unit_stopped, pages_left}
 use Rattle.plain_pages.specs.declared.map.NewMap.TheVariants.{Empty as EmptyMap}
 use Rattle.plain_model.specs.Events.{at_job, next_fork, with_job, restarted, login, with_accumulator, poked, poked_at, poke, start, word_seen, examined_in, examine, show_forks, outer}
@@ -57,7 +54,9 @@ use Rattle.machine_names.proofs.OrderLemmas.{fork_cmp_total, fork_cmp_apart}
 use Rattle.plain_model.proofs.ForkMaps.{AreOwn, cases_name, get_gone, get_gone_other, slot_tells, superior_tells}
 use Rattle.plain_model.proofs.ForkEnds.{FitsChange, FitsEnd, call_names}
 use Rattle.plain_model.proofs.Posted.{posted_same}
-use Rattle.plain_laws.proofs.WholeForks.{with_parts, parts_of}
+use Rattle.plain_laws.proofs.WholeForks.{with_fork_parts, fork_parts_of}
+use Rattle.plain_model.specs.Families.{through, forks_part}
+use Rattle.plain_model.proofs.Calling.{fork_came, fork_left, fork_called, fork_turned, map_came, map_pages, map_turned, print_came, print_turned, none_turned, caller_by, called_by, map_by, print_by}
 
 -- each living fork stands under its own name, and each terminal's next serial is 1 or more
 record AreNamed (forks : ForkMap) (serials : List ℕ) : Type 0 where
@@ -85,9 +84,13 @@ posted_fits f channel fits =
     let dropped : Fork = cond (is_panic channel) (with_status f (Forced channel)) f in
     cond_both (listens f.body.psi channel) (pended f channel) dropped Fits (λ takes. fits) (λ misses. cond_both (is_panic channel) (with_status f (Forced channel)) f Fits (λ panics. fits) (λ drops. fits))
 
+posted_if_fits : (f : Fork) (post : Option ℕ) → IsForkName f.name → IsForkName (posted_if f post).name
+posted_if_fits f None fits = fits
+posted_if_fits f (Some channel) fits = posted_fits f channel fits
+
 behind_fits : {C : Type 0} (f : Fork) (e : End C) → IsForkName f.name → IsForkName (fork_behind f e).name
 unfolding fork_behind
-behind_fits f (Done change regs) fits = fits
+behind_fits f (Done change regs out post) fits = posted_if_fits (with_regs f regs) post fits
 behind_fits f (Waits on) fits = fits
 behind_fits f Halts fits = fits
 behind_fits f (Failed code) fits = fits
@@ -151,14 +154,14 @@ gone_named s n name = record { stands = λ k f is. n.stands k f (left k f is); b
       | inr ne ↦ sym (get_gone_other s.forks name k ne) ∙ is
     ]
 
-below_named : (k : ℕ) (f : ForkName) (s : PlainState) → IsNamed s → IsNamed (with_parts s (without_below k f (parts_of s)))
+below_named : (k : ℕ) (f : ForkName) (s : PlainState) → IsNamed s → IsNamed (with_fork_parts s (without_below k f (fork_parts_of s)))
 unfolding without_below
 below_named zero f s n = n
 below_named (suc k) f s n = by (λ t m. below_named k f t m) (last_below s.forks f)
   where
-    by : ((t : PlainState) → IsNamed t → IsNamed (with_parts t (without_below k f (parts_of t)))) → (o : Option Fork) → IsNamed (with_parts s (option_map_or (λ g. without_below k f (without (parts_of s) g.name)) o (parts_of s)))
+    by : ((t : PlainState) → IsNamed t → IsNamed (with_fork_parts t (without_below k f (fork_parts_of t)))) → (o : Option Fork) → IsNamed (with_fork_parts s (option_map_or (λ g. without_below k f (without (fork_parts_of s) g.name)) o (fork_parts_of s)))
     by rest None = n
-    by rest (Some g) = rest (with_parts s (without (parts_of s) g.name)) (let m = gone_named s n g.name in record { stands = m.stands; begun = m.begun; each = m.each })
+    by rest (Some g) = rest (with_fork_parts s (without (fork_parts_of s) g.name)) (let m = gone_named s n g.name in record { stands = m.stands; begun = m.begun; each = m.each })
 
 -- the next name of a terminal is one
 next_fits : (s : PlainState) → IsNamed s → (t : Tty) → IsTerminal t → nat_lt LAST_SERIAL (next_name (tree_of s) t).serial ≡ false → IsForkName (next_name (tree_of s) t)
@@ -166,7 +169,7 @@ next_fits s n t terminal few =
     (terminal, All-get_or (λ n. 1 ≤ n) s.fork_serials t.0 0 (omega (arith, n.each, terminal)) n.begun, ltb-false LAST_SERIAL (next_name (tree_of s) t).serial few)
 
 -- a fork more, of that name
-made_named : (s : PlainState) → IsNamed s → (t : Tty) → IsForkName (next_name (tree_of s) t) → (f : Fork) → f.name ≡ next_name (tree_of s) t → IsNamed (with_parts s (record { tree = with_made (tree_of s) f; pages = s.pages }))
+made_named : (s : PlainState) → IsNamed s → (t : Tty) → IsForkName (next_name (tree_of s) t) → (f : Fork) → f.name ≡ next_name (tree_of s) t → IsNamed (with_fork_parts s (record { tree = with_made (tree_of s) f; pages = s.pages }))
 made_named s n t fits f is =
     let next = f.name.serial + 1 in
     let made = put s n f (subst IsForkName (sym is) fits) in
@@ -181,11 +184,11 @@ module _ (s : PlainState) (n : IsNamed s) (who : ForkName) (regs : Regs) (p q : 
   caller = record { who = who; regs = regs; tree = tree_of s }
 
   abbrev Named : ForkParts name_cmp → Type 0
-  Named v = IsNamed (with_parts s v)
+  Named v = IsNamed (with_fork_parts s v)
 
   -- the parts before a change
   abbrev before : ForkParts name_cmp
-  before = record (parts_of s) { pages = q }
+  before = record (fork_parts_of s) { pages = q }
 
   -- a change of a fork call leaves names
   change_named : (change : ForkChange) → FitsChange caller p (λ x y. Unit {0}) q change → Named (fork_changed change before)
@@ -193,10 +196,10 @@ module _ (s : PlainState) (n : IsNamed s) (who : ForkName) (regs : Regs) (p q : 
   change_named Nothing fits = n
   change_named (Make f) made = let m = made_named s n who.tty (next_fits s n who.tty terminal made.serial) f made.name in record { stands = m.stands; begun = m.begun; each = m.each }
   change_named (Kill f) fits =
-      let t = with_parts s (without_below MOST_FORKS f before) in
+      let t = with_fork_parts s (without_below MOST_FORKS f before) in
       let m = below_named MOST_FORKS f (record s { pages = q }) n in
       let g = gone_named t m f in
-      waiters_named (with_parts s (killed before f)) (record { stands = g.stands; begun = g.begun; each = g.each }) f.tty
+      waiters_named (with_fork_parts s (killed before f)) (record { stands = g.stands; begun = g.begun; each = g.each }) f.tty
   change_named (Freeze f on) fits = changed_if s n (with_mark on) (λ k. refl) (map.get s.forks f) (λ k is. ap (map.get s.forks) (own s n f k is) ∙ is)
   change_named (Become f body) fits = changed_if s n (with_body body) (λ k. refl) (map.get s.forks f) (λ k is. ap (map.get s.forks) (own s n f k is) ∙ is)
   change_named (Halt f) fits = looked_up Named (with_halted before) before (map.get s.forks f)
@@ -206,14 +209,14 @@ module _ (s : PlainState) (n : IsNamed s) (who : ForkName) (regs : Regs) (p q : 
 -- a fork call leaves names
 fork_called_named : (s : PlainState) → IsNamed s → (f : Fork) → IsForkName f.name → (number : ℕ) → IsNamed (fork_called s f number)
 unfolding parts_behind
-fork_called_named s n f fits number = by (fork_end s f number) (call_names (record { who = f.name; regs = f.body.regs; tree = tree_of s }) s.pages number)
+fork_called_named s n f fits number = by (fork_came s f number).end (call_names (record { who = f.name; regs = f.body.regs; tree = tree_of s }) s.pages number)
   where
     q : NamedPages
-    q = made_by (fork_turn s f number) s.pages
+    q = (fork_came s f number).pages
 
     by : (e : End ForkChange) → FitsEnd (record { who = f.name; regs = f.body.regs; tree = tree_of s }) s.pages (λ x y. Unit {0}) q e
-        → IsNamed (with_parts s (parts_behind (fork_changed_by (fork_turn s f number)) (parts_of s) e))
-    by (Done change regs) ok = change_named s n f.name f.body.regs s.pages q fits.0 change ok
+        → IsNamed (with_parts s (parts_behind (through forks_part fork_changed) (parts_of s) (record (parts_of s) { pages = q }) e))
+    by (Done change regs out post) ok = change_named s n f.name f.body.regs s.pages q fits.0 change ok
     by (Waits on) ok = n
     by Halts ok = n
     by (Refused code) ok = n
@@ -223,14 +226,17 @@ fork_called_named s n f fits number = by (fork_end s f number) (call_names (reco
 module _ (s : PlainState) (n : IsNamed s) where
   -- a unit leaves its fork's name
   stopped_named : (f : Fork) → IsForkName f.name → Leaves (stopped s f)
-  stopped_named f fits = let t = with_stopped s f in let m : IsNamed t = told_named (with_fork s (counted f)) (put s n (counted f) fits) (counted f) in
+  stopped_named f fits = let t = with_stopped s f in let m : IsNamed t = told_named (with_fork s f) (put s n f fits) f in
       cond_both (is_some f.superior) _ _ Leaves (λ below. m) (λ top. mode_named t f.name.tty m)
 
+  put_with_named : (f : Fork) (status : ForkStatus) → IsForkName f.name → Leaves (put_with s f status)
+  put_with_named f Running fits = put s n f fits
+  put_with_named f (Wait on) fits = put s n f fits
+  put_with_named f Halted fits = stopped_named f fits
+  put_with_named f (Forced channel) fits = stopped_named f fits
+
   ended_named : (f : Fork) (status : ForkStatus) → IsForkName f.name → Leaves (unit_ended s f status)
-  ended_named f Running fits = put s n (counted f) fits
-  ended_named f (Wait on) fits = put s n (counted f) fits
-  ended_named f Halted fits = stopped_named f fits
-  ended_named f (Forced channel) fits = stopped_named f fits
+  ended_named f status fits = put_with_named (counted f) status fits
 
 -- a unit that goes through leaves its fork's name
 went_named : (s : PlainState) → IsNamed s → (f : Fork) (pages : NamedPages) (e : Ending) → IsForkName f.name → Leaves (went s f pages e)
@@ -247,25 +253,27 @@ module _ (s : PlainState) (n : IsNamed s) where
   trapped_named : (f : Fork) (channel : ℕ) → IsForkName f.name → Leaves (trapped s f channel)
   trapped_named f channel fits = ended_named s n (posted f channel) (posted f channel).body.status (posted_fits f channel fits)
 
-  pbout_named : (f : Fork) → IsForkName f.name → Leaves (pbout s f)
-  pbout_named f fits = put s n (counted (with_regs f (advanced f.body.regs))) fits
+  -- the fork that called is put among forks with names
+  with_caller : (u : PlainState) → IsNamed u → (name : ForkName) (g : Fork) → map.get u.forks name ≡ Some g → (h : Fork) → (IsForkName g.name → IsForkName h.name) → Leaves (unit_ended u h h.body.status)
+  with_caller u m name g is h same = ended_named u m h h.body.status (same (living_fits u m name g is))
 
-  turned_named : (f : Fork) (e : End MapChange) → IsForkName f.name → Leaves (turned (lifted pages_seen map_changed s f e))
-  turned_named f e fits = ended_named (record s { pages = parts_behind map_changed s.pages e }) n (fork_behind f e) (fork_behind f e).body.status (behind_fits f e fits)
+  print_named : (f : Fork) (number : ℕ) → Leaves (print_turned s f number)
+  print_named f number = let e = (print_came s f number).end in print_by Leaves s f number (λ g is. with_caller s n f.name g is (fork_behind g e) (behind_fits g e)) n
+
+  map_named : (f : Fork) (number : ℕ) → Leaves (map_turned s f number)
+  map_named f number = let e = (map_came s f number).end in map_by Leaves s f number (λ g is. with_caller (record s { pages = map_pages s f number }) n f.name g is (fork_behind g e) (behind_fits g e)) n
 
   fork_turned_named : (f : Fork) (number : ℕ) → IsForkName f.name → Leaves (fork_turned s f number)
   fork_turned_named f number fits =
-      let t = fork_called s f number in
-      let e = fork_end s f number in
+      let e = (fork_came s f number).end in
       let m = fork_called_named s n f fits number in
-      looked_up Leaves (caller_behind t e) _ (map.get t.forks f.name)
-      (λ g is. let h = fork_behind g e in ended_named t m h h.body.status (behind_fits g e (living_fits t m f.name g is))) (λ none. m)
+      caller_by Leaves s f.name.tty (fork_left s f number) f.name (λ g. fork_behind g e) (out_of e) (λ g is. with_caller (fork_called s f number) m f.name g is (fork_behind g e) (behind_fits g e)) m
+
+  no_call_named : (f : Fork) → Leaves (none_turned s f)
+  no_call_named f = caller_by Leaves s f.name.tty (parts_of s) f.name (λ g. posted g ILLEGAL_INSTRUCTION) None (λ g is. with_caller s n f.name g is (posted g ILLEGAL_INSTRUCTION) (posted_fits g ILLEGAL_INSTRUCTION)) n
 
   called_named : (f : Fork) (number : ℕ) → IsForkName f.name → Leaves (called s f number)
-  called_named f number fits =
-      cond_both (number == PBOUT) _ _ Leaves (λ prints. pbout_named f fits) (λ other.
-      cond_both (is_among fork_calls number) _ _ Leaves (λ is. fork_turned_named f number fits) (λ none.
-      turned_named f (end_of s.pages (map_call number (record { who = f.name; regs = f.body.regs; forks = s.forks }))) fits))
+  called_named f number fits = called_by Leaves s f number (print_named f number) (fork_turned_named f number fits) (map_named f number) (no_call_named f)
 
   over_named : (f : Fork) (r : Planned name_cmp ⊥) → IsForkName f.name → Leaves (over s f r)
   over_named f (done t e) fits = went_named s n f (pages_left f.name t e) e fits

@@ -6,8 +6,8 @@ use Rattle.std.specs.FinMap as map
 use Rattle.machine_names.specs.declared.names.Tty.{Tty}
 use Rattle.machine_names.specs.declared.names.ForkName.{ForkName}
 use Rattle.plain_units.specs.Steps.{begun}
-use Rattle.plain_model.specs.Calls.{end_of, made_by, parts_behind}
-use Rattle.plain_model.specs.ForkCalls.{ForkAsked, ForkParts, map_wanted, without, without_below, with_halted, fork_changed, fork_changed_by, fork_call, fork_called}
+use Rattle.plain_model.specs.Calls.{parts_behind, no_files, turn_on, Came}
+use Rattle.plain_model.specs.ForkCalls.{ForkAsked, ForkParts, map_wanted, without, without_below, with_halted, fork_changed, fork_call}
 use Rattle.plain_model.specs.declared.call.End.{End}
 use Rattle.plain_model.specs.declared.call.End.TheVariants.{Done, Waits, Halts, Refused, Failed, Trap}
 use Rattle.plain_model.specs.declared.call.ForkChange.{ForkChange}
@@ -31,6 +31,9 @@ use Rattle.plain_laws.proofs.WholeForks.{last_tells}
 use Rattle.plain_model.proofs.Posted.{posted_same}
 use Rattle.plain_model.proofs.ForkMaps.{AreOwn, cases_name, get_put, get_put_other, get_gone, get_gone_other, names_same, slot_tells, superior_tells}
 use Rattle.plain_laws.proofs.OtherMaps.{not_it, Elsewhere, run_other, words_other, gone_maps}
+use Rattle.plain_model.specs.Families.{Parts}
+use Rattle.plain_model.specs.Unit.{parts_of}
+use Rattle.plain_model.proofs.Calling.{fork_came, fork_left, fork_called, forks_behind}
 use Rattle.std.specs.Cmp.Lexicographic.{nat_list_cmp_total}
 
 -- whether a fork stands below another, they are of one job
@@ -124,13 +127,13 @@ module _ (s : PlainState) (w : IsWhole s) (who : ForkName) (regs : Regs) (k : Fo
   Same v = PartsStay who.tty k other (map.get s.forks k) s.pages v
 
   as_it_was : Stays who.tty k other (map.get s.forks k) s.forks
-  as_it_was = record { own = w.own; stays = refl }
+  as_it_was = record { own = w.tree.slotted.own; stays = refl }
 
   in_job : (f : ForkName) → is_inferior s.forks who f ≡ true → f.tty.0 ≡ who.tty.0
-  in_job f below = inferior_job s.forks w.own who f below
+  in_job f below = inferior_job s.forks w.tree.slotted.own who f below
 
   held_job : (f : ForkName) → f.tty.0 ≡ who.tty.0 → (j : Fork) → map.get s.forks f ≡ Some j → j.name.tty.0 ≡ who.tty.0
-  held_job f here j is = ap (λ (x : ForkName). x.tty.0) (w.own f j is) ∙ here
+  held_job f here j is = ap (λ (x : ForkName). x.tty.0) (w.tree.slotted.own f j is) ∙ here
 
   module _ (q : NamedPages) where
     abbrev parts : ForkParts name_cmp
@@ -162,16 +165,19 @@ module _ (s : PlainState) (w : IsWhole s) (who : ForkName) (regs : Regs) (k : Fo
             record { forks = told_stays who.tty k other (map.get s.forks k) (map.insert s.forks j.name g) (put_stays who.tty k other (map.get s.forks k) s.forks as_it_was g (here j refl)) g (here j refl); maps = fits.1 }
     change_same (Store f at words) fits = record { forks = as_it_was; maps = words_other who.tty k other nat_list_cmp_total f (ap (λ (x : ForkName). x.tty.0) fits.0) q at words ∙ fits.1 }
 
-  call_same : (number : ℕ) → Same (parts_behind (fork_changed_by (fork_call number caller)) (record { tree = tree_of s; pages = s.pages }) (end_of s.pages (fork_call number caller)))
+  abbrev came : ℕ → Came name_cmp ForkChange
+  came number = turn_on no_files s.pages (fork_call number caller)
+
+  call_same : (number : ℕ) → Same (parts_behind fork_changed (record { tree = tree_of s; pages = s.pages }) (record { tree = tree_of s; pages = (came number).pages }) (came number).end)
   unfolding parts_behind
-  call_same number = by (end_of s.pages (fork_call number caller)) (call_ends caller s.pages (Elsewhere who.tty k other) (leading s.pages) (λ room. leading (mapped caller s.pages)) number)
+  call_same number = by (came number).end (call_ends caller s.pages (Elsewhere who.tty k other) (leading s.pages) (λ room. leading (mapped caller s.pages)) number)
     where
       leading : (q : NamedPages) → Leads caller s.pages (Elsewhere who.tty k other) q
       leading q = record { itself = refl; runs = λ steps. run_other who.tty k other nat_list_cmp_total who refl q steps (begun q regs.ac) refl }
 
-      by : (e : End ForkChange) → FitsEnd caller s.pages (Elsewhere who.tty k other) (made_by (fork_call number caller) s.pages) e
-          → Same (parts_behind (fork_changed_by (fork_call number caller)) (record { tree = tree_of s; pages = s.pages }) e)
-      by (Done change r) fits = change_same (made_by (fork_call number caller) s.pages) change fits
+      by : (e : End ForkChange) → FitsEnd caller s.pages (Elsewhere who.tty k other) (came number).pages e
+          → Same (parts_behind fork_changed (record { tree = tree_of s; pages = s.pages }) (record { tree = tree_of s; pages = (came number).pages }) e)
+      by (Done change r out post) fits = change_same (came number).pages change fits
       by (Waits on) fits = record { forks = as_it_was; maps = refl }
       by Halts fits = record { forks = as_it_was; maps = refl }
       by (Refused code) fits = record { forks = as_it_was; maps = refl }
@@ -180,11 +186,21 @@ module _ (s : PlainState) (w : IsWhole s) (who : ForkName) (regs : Regs) (k : Fo
 
 -- a fork call leaves the forks and the maps of other jobs
 module _ (s : PlainState) (w : IsWhole s) (caller : Fork) (number : ℕ) (k : ForkName) (other : k.tty.0 ≡ caller.name.tty.0 → ⊥) where
-  pub forks_same : map.get (fork_called s caller number).forks k ≡ map.get s.forks k
-  forks_same = let same = call_same s w caller.name caller.body.regs k other number in same.forks.stays
+  abbrev left : ForkParts name_cmp
+  left = let c = came s w caller.name caller.body.regs k other number in parts_behind fork_changed (record { tree = tree_of s; pages = s.pages }) (record { tree = tree_of s; pages = c.pages }) c.end
+
+  -- the forks and the pages of the parts
+  left_so : fork_left s caller number ≡ record { tree = left.tree; pages = left.pages }
+  left_so = forks_behind (parts_of s) (fork_came s caller number).pages (fork_came s caller number).end
+
+  same : PartsStay caller.name.tty k other (map.get s.forks k) s.pages left
+  same = call_same s w caller.name caller.body.regs k other number
 
   pub call_stays : Stays caller.name.tty k other (map.get s.forks k) (fork_called s caller number).forks
-  call_stays = let same = call_same s w caller.name caller.body.regs k other number in same.forks
+  call_stays = subst (λ (v : Parts name_cmp). Stays caller.name.tty k other (map.get s.forks k) v.tree.forks) (sym left_so) same.forks
+
+  pub forks_same : map.get (fork_called s caller number).forks k ≡ map.get s.forks k
+  forks_same = call_stays.stays
 
   pub maps_same : map.get (fork_called s caller number).pages.maps k ≡ map.get s.pages.maps k
-  maps_same = let same = call_same s w caller.name caller.body.regs k other number in same.maps
+  maps_same = subst (λ (v : Parts name_cmp). map.get v.pages.maps k ≡ map.get s.pages.maps k) (sym left_so) same.maps

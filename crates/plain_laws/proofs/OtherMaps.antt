@@ -1,10 +1,9 @@
 -- What the references and stores of a job leave: the maps of other jobs.
-use Rattle.std.proofs.Common.{◌≡◌, ℕ, zero, suc, ◌%◌, Bool, true, false, cond, List, [], ◌∷◌, ◌++◌, All, length, Option, None, Some, refl, sym, ◌∙◌, ap, subst, Ordering}
-use Rattle.std.specs.Prelude.{is_some, nat_le, slice_set, find}
+use Rattle.std.proofs.Common.{◌≡◌, ℕ, zero, suc, Bool, true, false, cond, List, [], ◌∷◌, ◌++◌, All, Option, None, Some, refl, sym, ◌∙◌, ap, subst, Ordering}
+use Rattle.std.specs.Prelude.{is_some, slice_set, find}
 use Rattle.std.specs.List.{filter_map}
 use Rattle.std.specs.Option.{option_map_or, option_and_then, option_map}
 use Rattle.std.specs.FinMap as map
-use Rattle.std.proofs.lemmas.Bool.{cond_both}
 use Rattle.std.proofs.lemmas.List.Elements.{All-nil, All-cons, All-append, All-head, All-tail}
 use Rattle.machine_names.specs.declared.names.Tty.{Tty}
 use Rattle.machine_names.specs.declared.names.ForkName.{ForkName}
@@ -17,19 +16,17 @@ use Rattle.plain_pages.specs.declared.map.MapEntry.TheVariants.{Empty, Names, Fo
 use Rattle.plain_pages.specs.PlainPages.{PlainPages, Map, Maps}
 use Rattle.plain_pages.specs.Maps.{Entries, Link, Chain, chain, chain_within, entry_at, followed, full_access, permits, set_entry, single_link, behind, chain_from}
 use Rattle.plain_pages.specs.Room.{HasRoom, page_in}
-use Rattle.plain_pages.specs.References.{in_map, Making, blank, copy, along_chain, blanks, copies, copy_in, private_access, makings, make, make_all, next_page, Referred, granted, denied, full, reference, in_file, slot_at, stored, without_fork}
-use Rattle.plain_units.specs.declared.unit.Put.{Put}
-use Rattle.plain_units.specs.declared.unit.TheConstants.{MOST_REFERENCES}
-use Rattle.plain_units.specs.Steps.{Steps, refers, widens, keeps, ends, traps, calls, Planned, Progress, goes, is_accumulator, goes_on, asked_at, plain_asked, plainly, word_taken, referred, widened, run, put_into}
-use Rattle.plain_units.specs.Blocks.{next_address, stored_from}
+use Rattle.plain_pages.specs.References.{in_map, Making, blank, copy, along_chain, blanks, copies, copy_in, private_access, makings, make, make_all, next_page, granted, denied, reference, in_file, slot_at, stored, without_fork}
+use Rattle.plain_units.specs.Steps.{Steps, Progress, goes, plainly, run}
+use Rattle.plain_units.specs.Blocks.{stored_from}
 use Rattle.plain_pages.proofs.Settles.{copy_maps}
 use Rattle.plain_pages.proofs.ReferencesMade.{roomy, reference_makes, reference_denied}
 use Rattle.plain_pages.proofs.Kept.{drop_all_leaves}
 use Rattle.plain_units.proofs.PageRuns.{PlanLeaves, stored_maps}
+use Rattle.plain_laws.proofs.Led.{run_led, words_led}
 use Rattle.plain_model.proofs.Values.{found_holds}
 use Rattle.plain_model.proofs.ForkMaps.{get_put_other, get_gone_other}
 use Rattle.std.specs.Cmp.{IsTotalOrder}
-use Rattle.outside.specs.declared.TheConstants.{PAGE_WORDS}
 
 -- a slot of a job
 abbrev pub InJob : Tty → Slot → Type 0
@@ -140,42 +137,18 @@ module _ (t : Tty) (k : ForkName) (other : k.tty.0 ≡ t.0 → ⊥) where
 
     module _ (o : IsTotalOrder file_cmp) (f : ForkName) (here : f.tty.0 ≡ t.0) where
       module _ (p : PlainPages file_cmp) where
-        abbrev PlanStays : Planned file_cmp ⊥ → Type 0
-        PlanStays r = PlanLeaves (λ q. Elsewhere p q) f r
+        refers_on : (q r : PlainPages file_cmp) (a : ℕ) (kind : Kind) → Elsewhere p q → reference q (in_map (slot_at f a)) kind f.tty ≡ granted r → Elsewhere p r
+        refers_on q r a kind w is = reference_other o f.tty q r (slot_at f a) kind here is ∙ w
 
-        asked_other : (q : PlainPages file_cmp) → Elsewhere p q → (a : ℕ) (kind : Kind) (next : PlainPages file_cmp → Planned file_cmp ⊥) → ((r : PlainPages file_cmp) → Elsewhere p r → PlanStays (next r)) → PlanStays (goes_on (asked_at (plainly f) f q a kind) next)
-        asked_other q w a kind next leaves = cond_both (is_accumulator a) (goes q) (plainly f q (slot_at f a) kind) (λ x. PlanStays (goes_on x next)) (λ low. leaves q w) (λ high. by (reference q (in_map (slot_at f a)) kind f.tty) refl)
-          where
-            by : (r : Referred file_cmp) → reference q (in_map (slot_at f a)) kind f.tty ≡ r → PlanStays (goes_on (plain_asked r) next)
-            by (granted r) is = leaves r (reference_other o f.tty q r (slot_at f a) kind here is ∙ w)
-            by (denied kind) is = tt
-            by full is = tt
+        stores_on : (q : PlainPages file_cmp) (s : Slot) (offset word : ℕ) → Elsewhere p q → Elsewhere p (stored q (in_map s) offset word)
+        stores_on q s offset word w = ap (λ (m : Maps). map.get m k) (stored_maps q s offset word) ∙ w
 
-        put_other : (q : PlainPages file_cmp) → Elsewhere p q → (put : Option Put) → Elsewhere p (put_into f q put)
-        put_other q w None = w
-        put_other q w (Some put) = ap (λ (m : Maps). map.get m k) (stored_maps q (slot_at f put.at) (put.at % PAGE_WORDS) put.word) ∙ w
+        pub run_other : (steps : Steps) (u : Progress file_cmp) → Elsewhere p u.pages → PlanLeaves (λ q. Elsewhere p q) f (run (plainly f) f steps u)
+        run_other steps u w = run_led f (λ q. Elsewhere p q) refers_on stores_on steps u w
 
-        pub run_other : (steps : Steps) (u : Progress file_cmp) → Elsewhere p u.pages → PlanStays (run (plainly f) f steps u)
-        unfolding run
-        run_other (refers a kind next) u w =
-            cond_both (nat_le MOST_REFERENCES (length u.refs)) _ _ PlanStays (λ most. tt) (λ few. asked_other u.pages w a kind _ (λ q whole. run_other (next (word_taken f (referred u a kind q) a)) (referred u a kind q) whole))
-        run_other (widens a next) u w = asked_other u.pages w a Write _ (λ q whole. run_other next (widened u a q) whole)
-        run_other (keeps a word next) u w = run_other next (record u { kept = Some (record { at = a; word = word }) }) w
-        run_other (ends e) u w = put_other (put_into f u.pages u.kept) (put_other u.pages w u.kept) e.put
-        run_other (traps channel) u w = tt
-        run_other (calls number) u w = tt
-
-      -- and so do the words that are stored
-      pub words_other : (p : PlainPages file_cmp) (at : ℕ) (words : List ℕ) → Elsewhere p (stored_from p f at words)
-      words_other p at [] = refl
-      words_other p at (word ∷ words) = by (λ q. words_other q (next_address at) words) (is_accumulator at)
-        where
-          q : PlainPages file_cmp
-          q = stored p (in_map (slot_at f at)) (at % PAGE_WORDS) word
-
-          by : ((q : PlainPages file_cmp) → Elsewhere q (stored_from q f (next_address at) words)) → (b : Bool) → Elsewhere p (stored_from (cond b p q) f (next_address at) words)
-          by rest true = rest p
-          by rest false = rest q ∙ ap (λ (m : Maps). map.get m k) (stored_maps p (slot_at f at) (at % PAGE_WORDS) word)
+        -- and so do the words that are stored
+        pub words_other : (at : ℕ) (words : List ℕ) → Elsewhere p (stored_from p f at words)
+        words_other at words = words_led f (λ q. Elsewhere p q) refers_on stores_on p refl at words
 
     -- a fork of the job that goes
     pub gone_maps : (p : PlainPages file_cmp) (f : ForkName) → f.tty.0 ≡ t.0 → Elsewhere p (without_fork p f)

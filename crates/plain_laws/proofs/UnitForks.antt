@@ -1,9 +1,8 @@
 -- What a unit does to forks: it puts its own fork, and tells where that has ended; all else is done by a fork call.
 use Rattle.std.proofs.Common.{◌≡◌, ℕ, Option, None, Some, refl}
-use Rattle.std.specs.Prelude.{◌==◌, is_some}
+use Rattle.std.specs.Prelude.{is_some}
 use Rattle.std.specs.FinMap as map
 use Rattle.std.proofs.lemmas.Bool.{cond_both}
-use Rattle.plain_model.specs.declared.call.TheConstants.{PBOUT}
 use Rattle.plain_model.specs.declared.call.End.{End}
 use Rattle.plain_model.specs.declared.call.End.TheVariants.{Done, Waits, Halts, Refused, Failed, Trap}
 use Rattle.plain_units.specs.declared.channel.TheConstants.{ILLEGAL_INSTRUCTION}
@@ -18,16 +17,19 @@ use Rattle.plain_model.specs.Forks.{ForkMap, with_fork, with_regs, counted}
 use Rattle.plain_model.specs.Interrupts.{posted}
 use Rattle.plain_units.specs.Steps.{Planned, Ending, done, call, trap, need, stopped as unit_stopped}
 use Rattle.plain_model.specs.Trees.{end_told}
-use Rattle.plain_model.specs.Calls.{end_of, with_error, fork_behind, lifted, is_among}
-use Rattle.plain_model.specs.MapCalls.{map_call, map_changed, pages_seen}
-use Rattle.plain_model.specs.ForkCalls.{fork_calls, fork_end, fork_called}
-use Rattle.plain_model.specs.Unit.{Effect, in_command_mode, with_stopped, stopped, unit_ended, trapped, turned, caller_behind, fork_turned, called, advanced, posted_if, went, over}
+use Rattle.plain_model.specs.Calls.{with_error, fork_behind, out_of, posted_if}
+use Rattle.plain_model.specs.Unit.{Effect, in_command_mode, with_stopped, stopped, unit_ended, trapped, called, went, over, parts_of, put_with}
 use Rattle.plain_units.proofs.Lookups.{looked_up}
+use Rattle.plain_model.proofs.Calling.{fork_came, fork_left, fork_called, fork_turned, map_came, map_pages, map_turned, print_came, print_turned, none_turned, caller_by, called_by, map_by, print_by}
 use Rattle.plain_model.proofs.Posted.{SameMark, posted_mark}
+
+posted_if_mark : (f : Fork) (post : Option ℕ) → SameMark f (posted_if f post)
+posted_if_mark f None = (refl, refl)
+posted_if_mark f (Some channel) = posted_mark f channel
 
 behind_mark : {C : Type 0} (f : Fork) (e : End C) → SameMark f (fork_behind f e)
 unfolding fork_behind
-behind_mark f (Done change regs) = (refl, refl)
+behind_mark f (Done change regs out post) = posted_if_mark (with_regs f regs) post
 behind_mark f (Waits on) = (refl, refl)
 behind_mark f Halts = (refl, refl)
 behind_mark f (Refused code) = posted_mark (with_error f code) ILLEGAL_INSTRUCTION
@@ -48,22 +50,22 @@ module _ (Holds : ForkMap → Type 0) (Good : Fork → Type 0) (keeps : KeptBy H
   mode_kept : (u : PlainState) → Holds u.forks → (t : Tty) → Holds (in_command_mode u t).forks
   mode_kept u h t = looked_up (λ (v : PlainState). Holds v.forks) _ u (map.get u.jobs t.0) (λ j is. h) (λ none. h)
 
-  counted_kept : (u : PlainState) → Holds u.forks → (f : Fork) → Good f → Holds (with_fork u (counted f)).forks
-  counted_kept u h f good = keeps.put u.forks h (counted f) (keeps.same f (counted f) (refl, refl) good)
-
   stopped_kept : (u : PlainState) → Holds u.forks → (f : Fork) → Good f → Leaves (stopped u f)
   stopped_kept u h f good =
-      let m = with_fork u (counted f) in
-      let told = keeps.told m.forks (counted_kept u h f good) (counted f) (keeps.same f (counted f) (refl, refl) good) in
+      let m = with_fork u f in
+      let told = keeps.told m.forks (keeps.put u.forks h f good) f good in
       cond_both (is_some f.superior) _ _ Leaves (λ below. told) (λ top. mode_kept (with_stopped u f) told f.name.tty)
 
-  pub ended_kept : (u : PlainState) → Holds u.forks → (f : Fork) (status : ForkStatus) → Good f → Leaves (unit_ended u f status)
-  ended_kept u h f Running good = counted_kept u h f good
-  ended_kept u h f (Wait on) good = counted_kept u h f good
-  ended_kept u h f Halted good = stopped_kept u h f good
-  ended_kept u h f (Forced channel) good = stopped_kept u h f good
+  put_kept : (u : PlainState) → Holds u.forks → (f : Fork) (status : ForkStatus) → Good f → Leaves (put_with u f status)
+  put_kept u h f Running good = keeps.put u.forks h f good
+  put_kept u h f (Wait on) good = keeps.put u.forks h f good
+  put_kept u h f Halted good = stopped_kept u h f good
+  put_kept u h f (Forced channel) good = stopped_kept u h f good
 
-  module _ (s : PlainState) (h : Holds s.forks) (f : Fork) (good : Good f) where
+  pub ended_kept : (u : PlainState) → Holds u.forks → (f : Fork) (status : ForkStatus) → Good f → Leaves (unit_ended u f status)
+  ended_kept u h f status good = put_kept u h (counted f) status (keeps.same f (counted f) (refl, refl) good)
+
+  module _ (s : PlainState) (h : Holds s.forks) (f : Fork) (good : Good f) (good_in : (g : Fork) → map.get s.forks f.name ≡ Some g → Good g) where
     trapped_kept : (channel : ℕ) → Leaves (trapped s f channel)
     trapped_kept channel = ended_kept s h (posted f channel) (posted f channel).body.status (keeps.same f (posted f channel) (posted_mark f channel) good)
 
@@ -80,24 +82,27 @@ module _ (Holds : ForkMap → Type 0) (Good : Fork → Type 0) (keeps : KeptBy H
         by None = ended_kept (record s { pages = q }) h g g.body.status good_g
         by (Some channel) = ended_kept (record s { pages = q }) h (posted g channel) (posted g channel).body.status (keeps.same g (posted g channel) (posted_mark g channel) good_g)
 
-    map_kept : (number : ℕ) → Leaves (turned (lifted pages_seen map_changed s f (end_of s.pages (map_call number (record { who = f.name; regs = f.body.regs; forks = s.forks })))))
-    map_kept number =
-        let e = end_of s.pages (map_call number (record { who = f.name; regs = f.body.regs; forks = s.forks })) in
-        let g = fork_behind f e in
-        let c = lifted pages_seen map_changed s f e in
-        ended_kept c.state h g g.body.status (keeps.same f g (behind_mark f e) good)
+    -- the fork that called is put among forks of which this holds
+    with_caller : (u : PlainState) → Holds u.forks → (g : Fork) → Good g → (k : Fork) → SameMark g k → Leaves (unit_ended u k k.body.status)
+    with_caller u left g here k same = ended_kept u left k k.body.status (keeps.same g k same here)
+
+    print_kept : (number : ℕ) → Leaves (print_turned s f number)
+    print_kept number = print_by Leaves s f number (λ g is. with_caller s h g (good_in g is) (fork_behind g (print_came s f number).end) (behind_mark g (print_came s f number).end)) h
+
+    map_kept : (number : ℕ) → Leaves (map_turned s f number)
+    map_kept number = map_by Leaves s f number (λ g is. with_caller (record s { pages = map_pages s f number }) h g (good_in g is) (fork_behind g (map_came s f number).end) (behind_mark g (map_came s f number).end)) h
+
+    none_kept : Leaves (none_turned s f)
+    none_kept = caller_by Leaves s f.name.tty (parts_of s) f.name (λ g. posted g ILLEGAL_INSTRUCTION) None (λ g is. with_caller s h g (good_in g is) (posted g ILLEGAL_INSTRUCTION) (posted_mark g ILLEGAL_INSTRUCTION)) h
 
     -- the fork that called is put where the call leaves such forks, and it good
     pub fork_kept : (number : ℕ) → Holds (fork_called s f number).forks → ((g : Fork) → map.get (fork_called s f number).forks f.name ≡ Some g → Good g) → Leaves (fork_turned s f number)
     fork_kept number left good_still =
-        let t = fork_called s f number in
-        let e = fork_end s f number in
-        looked_up Leaves (caller_behind t e) _ (map.get t.forks f.name) (λ g is. let k = fork_behind g e in ended_kept t left k k.body.status (keeps.same g k (behind_mark g e) (good_still g is))) (λ none. left)
+        let e = (fork_came s f number).end in
+        caller_by Leaves s f.name.tty (fork_left s f number) f.name (λ g. fork_behind g e) (out_of e) (λ g is. with_caller (fork_called s f number) left g (good_still g is) (fork_behind g e) (behind_mark g e)) left
 
     called_kept : (number : ℕ) → Leaves (fork_turned s f number) → Leaves (called s f number)
-    called_kept number turns =
-        cond_both (number == PBOUT) _ _ Leaves (λ prints. counted_kept s h (with_regs f (advanced f.body.regs)) (keeps.same f (with_regs f (advanced f.body.regs)) (refl, refl) good)) (λ more.
-        cond_both (is_among fork_calls number) _ _ Leaves (λ is. turns) (λ none. map_kept number))
+    called_kept number turns = called_by Leaves s f number (print_kept number) turns (map_kept number) none_kept
 
     -- a unit keeps it, if the turn does of the call that the unit may be
     pub over_kept : (r : Planned name_cmp ⊥) → ((number : ℕ) → r ≡ call number → Leaves (fork_turned s f number)) → Leaves (over s f r)
@@ -111,8 +116,11 @@ stopped_pages : (u : PlainState) (f : Fork) → (stopped u f).state.pages ≡ u.
 stopped_pages u f = cond_both (is_some f.superior) _ _ (λ (e : Effect). e.state.pages ≡ u.pages) (λ below. refl)
     (λ top. looked_up (λ (v : PlainState). v.pages ≡ u.pages) _ (with_stopped u f) (map.get u.jobs f.name.tty.0) (λ j is. refl) (λ none. refl))
 
+put_pages : (u : PlainState) (f : Fork) (status : ForkStatus) → (put_with u f status).state.pages ≡ u.pages
+put_pages u f Running = refl
+put_pages u f (Wait on) = refl
+put_pages u f Halted = stopped_pages u f
+put_pages u f (Forced channel) = stopped_pages u f
+
 pub ended_pages : (u : PlainState) (f : Fork) (status : ForkStatus) → (unit_ended u f status).state.pages ≡ u.pages
-ended_pages u f Running = refl
-ended_pages u f (Wait on) = refl
-ended_pages u f Halted = stopped_pages u f
-ended_pages u f (Forced channel) = stopped_pages u f
+ended_pages u f status = put_pages u (counted f) status

@@ -1,20 +1,19 @@
 -- A fork that stops, where nobody waits for one; and the call by which a fork halts.
-use Rattle.std.proofs.Common.{◌≡◌, ℕ, List, [], ◌∷◌, Option, None, Some, refl, ◌∙◌, ap}
+use Rattle.std.proofs.Common.{◌≡◌, ℕ, ◌%◌, slice_index, List, [], ◌∷◌, Option, None, Some, refl, ◌∙◌, ap}
 use Rattle.std.specs.List.{range_with_len}
-use Rattle.std.specs.Option.{option_map_or, option_and_then}
+use Rattle.std.specs.Option.{option_map, option_and_then}
 use Rattle.std.specs.FinMap as map
-use Rattle.plain_model.specs.declared.call.TheConstants.{HALTF}
-use Rattle.plain_model.specs.declared.call.End.TheVariants.{Halts}
+use Rattle.plain_model.specs.declared.call.TheConstants.{HALTF, PBOUT}
 use Rattle.plain_units.specs.declared.channel.TheConstants.{INFERIOR_ENDED}
 use Rattle.machine_names.specs.declared.names.Tty.{Tty}
 use Rattle.machine_names.specs.declared.names.ForkName.{ForkName}
 use Rattle.plain_model.specs.declared.fork.Fork.{Fork}
 use Rattle.script_texts.specs.declared.status.ForkStatus.TheVariants.{Halted}
 use Rattle.plain_model.specs.State.{PlainState}
-use Rattle.plain_model.specs.Forks.{ForkMap, fork_in, with_regs, with_status}
+use Rattle.plain_model.specs.Forks.{ForkMap, fork_in, counted, with_regs, with_status}
 use Rattle.plain_model.specs.Trees.{changed, unwaited, woken_in, waiters_woken, with_posted, end_told}
-use Rattle.plain_model.specs.Calls.{behind_call, end_of, parts_behind, fork_behind}
-use Rattle.plain_model.specs.Unit.{stopped, caller_behind, called}
+use Rattle.plain_model.specs.Calls.{behind_call, parts_behind, fork_behind, turn_on}
+use Rattle.plain_model.specs.Unit.{parts_of, stopped, called, turned, caller_ended}
 use Rattle.plain_model.proofs.ForkMaps.{AreOwn, put_itself, slot_tells}
 
 -- no fork waits for one
@@ -45,6 +44,13 @@ module _ (forks : ForkMap) (own : AreOwn forks) (none : NoneWaits forks) where
       ∙ ap (λ (o : Option ℕ). with_posted forks INFERIOR_ENDED (option_and_then (fork_in forks f.name.tty) o)) top
 
 -- a fork that calls HALTF stops, behind the call
-pub halts_so : (s : PlainState) (f : Fork) → map.get s.forks f.name ≡ Some f → called s f HALTF ≡ stopped s (with_status (with_regs f (behind_call f.body.regs)) Halted)
-unfolding end_of parts_behind fork_behind
-halts_so s f there = ap (λ (o : Option Fork). option_map_or (caller_behind s Halts) o (record { state = s; items = [] })) there
+pub halts_so : (s : PlainState) (f : Fork) → map.get s.forks f.name ≡ Some f → called s f HALTF ≡ stopped s (counted (with_status (with_regs f (behind_call f.body.regs)) Halted))
+unfolding turn_on parts_behind fork_behind
+halts_so s f there = ap (λ (o : Option Fork). caller_ended s (option_map (λ g. with_status (with_regs g (behind_call g.body.regs)) Halted) o)) there
+
+-- and one that calls PBOUT prints, and goes on behind the call
+pub prints_so : (s : PlainState) (f : Fork) → map.get s.forks f.name ≡ Some f
+    → called s f PBOUT ≡ turned s f.name.tty (record { parts = parts_of s; caller = Some (with_regs f (behind_call f.body.regs)); out = Some (slice_index f.body.regs.ac 1 % 128) })
+unfolding turn_on parts_behind fork_behind
+prints_so s f there =
+    ap (λ (o : Option Fork). turned s f.name.tty (record { parts = parts_of s; caller = option_map (λ g. with_regs g (behind_call f.body.regs)) o; out = Some (slice_index f.body.regs.ac 1 % 128) })) there

@@ -1,21 +1,24 @@
 -- A whole state stays whole where forks are changed but for their names, slots and superiors, and where one is made or killed.
-use Rattle.std.proofs.Common.{◌≡◌, ◌≢◌, ℕ, zero, suc, ◌+◌, ◌%◌, ◌<◌, ◌≤◌, ◌&&◌, Bool, true, false, cond, not, List, [], ◌∷◌, Option, None, Some, ◌⊎◌, inl, inr, refl, sym, ◌∙◌, ap, subst, arith, length-set, get_or-set_other}
-use Rattle.std.specs.Prelude.{◌==◌, is_some, slice_set, slice_index}
+use Rattle.std.proofs.Common.{◌≡◌, ◌≢◌, ℕ, zero, suc, ◌+◌, ◌%◌, ◌<◌, ◌≤◌, ◌&&◌, Bool, true, false, cond, not, List, [], ◌∷◌, Option, None, Some, ◌⊎◌, inl, inr, refl, sym, ◌∙◌, ap, subst, arith, get_or-set_other}
+use Rattle.std.specs.Prelude.{◌==◌, IsSome, MatchOption, is_some, nat_lt, slice_index, slice_set}
 use Rattle.std.specs.List.{filter_map, range_with_len}
-use Rattle.std.specs.Option.{option_or, option_map_or, option_and_then}
+use Rattle.std.specs.Option.{option_map, option_or, option_map_or, option_and_then}
 use Rattle.std.specs.Ordering.{eq_by_cmp, nat_cmp}
 use Rattle.std.specs.Cmp.{Equal-is, nat_cmp_total}
 use Rattle.std.specs.Cmp.Lexicographic.{nat_list_cmp_total}
 use Rattle.std.specs.FinMap as map
 use Rattle.std.proofs.lemmas.Bool.{cond_both}
-use Rattle.std.proofs.lemmas.Bool.Decides.{eqb_tells}
+use Rattle.std.proofs.lemmas.Bool.Decides.{eqb_tells, nat_tests}
 use Rattle.std.proofs.lemmas.Grind.{get_or-set_at}
+use Rattle.word36.specs.Words.{bit}
 use Rattle.outside.specs.declared.TheConstants.{PAGE_WORDS}
-use Rattle.machine_names.specs.declared.names.TheConstants.{MOST_FORKS, TERMINALS}
+use Rattle.machine_names.specs.declared.names.TheConstants.{LAST_SERIAL, MOST_FORKS, TERMINALS}
 use Rattle.machine_names.specs.declared.names.Tty.{Tty}
 use Rattle.machine_names.specs.declared.names.ForkName.{ForkName}
 use Rattle.machine_names.specs.declared.names.PageName.{PageName}
 use Rattle.plain_pages.specs.declared.map.NewMap.{NewMap}
+use Rattle.plain_pages.specs.declared.map.NewMap.TheVariants.{Empty as EmptyMap, FollowAll}
+use Rattle.plain_units.specs.Deeds.{in_ac}
 use Rattle.plain_model.specs.declared.fork.Body.{Body}
 use Rattle.plain_units.specs.declared.registers.Regs.{Regs}
 use Rattle.plain_model.specs.declared.fork.Fork.{Fork}
@@ -32,23 +35,41 @@ use Rattle.plain_pages.specs.Room.{page_in, live}
 use Rattle.plain_pages.specs.References.{in_map, stored, slot_at, without_fork, drop_all_unnamed}
 use Rattle.machine_names.specs.Bounds.{IsOwner, IsForkName, IsTerminal}
 use Rattle.plain_pages.specs.NewMaps.{new_map, with_map}
-use Rattle.plain_model.specs.Forks.{ForkMap, fork_in, superior_of, with_fork, with_status}
+use Rattle.plain_model.specs.Forks.{with_regs, ForkMap, fork_in, superior_of, with_fork, with_status}
 use Rattle.plain_model.specs.Interrupts.{posted}
-use Rattle.plain_units.specs.Steps.{is_accumulator}
+use Rattle.plain_units.specs.Steps.{begun, is_accumulator}
 use Rattle.plain_model.specs.Inferiors.{any_upward, is_within, is_inferior, has_inferior, leaf_below, last_up_to, last_below}
-use Rattle.plain_model.specs.Trees.{tree_of, next_name, with_made, changed, with_mark, with_body, unwaited, woken_in, waiters_woken, with_posted, end_told}
+use Rattle.plain_model.specs.Trees.{tree_of, free_slot, next_name, next_serial, new_fork, with_made, changed, with_mark, with_body, unwaited, woken_in, waiters_woken, with_posted, end_told}
 use Rattle.plain_units.specs.Blocks.{next_address, stored_from}
-use Rattle.plain_model.specs.Calls.{with_error, fork_behind, made_by, parts_behind}
-use Rattle.plain_model.specs.ForkCalls.{ForkAsked, map_wanted, ForkParts, without, without_below, killed, with_halted, fork_changed, fork_changed_by, fork_turn, fork_end, fork_called}
+use Rattle.plain_model.specs.Calls.{with_error, fork_behind, no_files, parts_behind, posted_if, turn_on}
+use Rattle.plain_model.specs.ForkCalls.{ForkAsked, fork_call, map_wanted, ForkParts, without, without_below, killed, with_halted, fork_changed}
 use Rattle.plain_pages.specs.WholePages.{AreWhole}
-use Rattle.plain_laws.specs.Whole.{IsWhole}
+use Rattle.plain_laws.specs.Whole.{AreGiven, IsWhole}
+use Rattle.plain_laws.proofs.GivenSerials.{IsNewGiven, added_given, removed_given, run_given, words_given}
 use Rattle.plain_units.proofs.Lookups.{looked_up}
 use Rattle.machine_names.proofs.OrderLemmas.{fork_cmp_total, fork_cmp_apart}
-use Rattle.plain_model.proofs.ForkMaps.{cases_name, get_put, get_put_other, get_gone, get_gone_other, gone_itself, slot_tells, superior_tells}
+use Rattle.plain_model.proofs.ForkMaps.{cases_name, get_put, get_put_other, get_gone, get_gone_other, gone_itself, same_forks, slot_tells, superior_tells}
 use Rattle.plain_pages.proofs.Kept.{fork_kept, fork_maps, live_fork, fork_whole as fork_left_whole}
 use Rattle.plain_units.proofs.PageRuns.{AreSound, Keeps, kept_itself, kept_on, stored_kept}
-use Rattle.plain_model.proofs.ForkEnds.{FitsChange, FitsEnd, call_keeps}
+use Rattle.plain_model.proofs.ForkEnds.{FitsChange, FitsEnd, Leads, call_ends, call_keeps, mapped}
+use Rattle.plain_model.specs.Families.{through, forks_part}
+use Rattle.plain_model.specs.Unit.{parts_of, with_parts}
+use Rattle.plain_model.proofs.Calling.{fork_came, fork_called}
+use Rattle.fork_tree.specs.Inferiors.{HasNoInferior, IsLastBelow}
+use Rattle.fork_tree.specs.Trees.{IsTree}
+use Rattle.fork_tree.proofs.Kept.{changed_tree, killed_tree, made_tree, name_unused}
+use Rattle.fork_tree.proofs.Killing.{below_in, fewer_counted, last_is, none_counted}
+use Rattle.fork_tree.proofs.Leaves.{nobodys_superior}
+use Rattle.fork_tree.proofs.Slots.{empty_of, held_lives, in_found, some_of}
+use Rattle.fork_tree.proofs.Upward.{tally, tally_most}
 use Rattle.plain_model.proofs.Posted.{IsSame, posted_same}
+
+-- a fork that is put over one
+put_over : (m : ForkMap) (name : ForkName) (f g : Fork) → map.insert (map.insert m name f) name g ≡ map.insert m name g
+put_over m name f g = same_forks _ _ (λ q. elim (cases_name q name) [
+  | inl e ↦ get_put (map.insert m name f) name q g e ∙ sym (get_put m name q g e)
+  | inr ne ↦ get_put_other (map.insert m name f) name q g ne ∙ get_put_other m name q f ne ∙ sym (get_put_other m name q g ne)
+])
 
 -- a state with a fork changed that keeps its name, slot and superior
 module _ (s : PlainState) (w : IsWhole s) where
@@ -58,9 +79,12 @@ module _ (s : PlainState) (w : IsWhole s) where
     room = w.room;
     files = w.files;
     forks = λ k. same k ∙ w.forks k;
-    own = λ k h is. owned k h (tells k) (sym (found k) ∙ is);
-    old = λ k h. w.old k (sym (same k) ∙ h);
-    terminals = w.terminals;
+    tree =
+        let own = w.tree.slotted.own name f there in
+        subst (λ (n : ForkName). IsTree (record (tree_of s) { forks = map.insert s.forks n g })) own
+        (changed_tree (tree_of s) f g w.tree (held_lives s.forks w.tree.slotted name f there) (named ∙ sym own) slot superior);
+    given = w.given;
+    homes = λ k h. w.homes k (sym (same k) ∙ h);
     tops = λ t j is. let top = w.tops t j is in top_of j.top top.0 top.1 top.2 top.3 (tells j.top);
   }
     where
@@ -81,10 +105,6 @@ module _ (s : PlainState) (w : IsWhole s) where
           at (inl e) = ap (λ b. is_some (cond b (Some g) (map.get s.forks k))) e.0 ∙ sym (ap is_some (ap (map.get s.forks) e.1 ∙ there))
           at (inr e) = ap (λ b. is_some (cond b (Some g) (map.get s.forks k))) e
 
-      owned : (k : ForkName) (h : Fork) → ((eq_by_cmp fork_cmp k name ≡ true) × (k ≡ name)) ⊎ (eq_by_cmp fork_cmp k name ≡ false) → cond (eq_by_cmp fork_cmp k name) (Some g) (map.get s.forks k) ≡ Some h → h.name ≡ k
-      owned k h (inl e) is = let here : g ≡ h = cc (e.0, is) in ap (λ (x : Fork). x.name) (sym here) ∙ named ∙ sym e.1
-      owned k h (inr e) is = w.own k h (cc (e, is))
-
       top_of : (k : ForkName) (h : Fork) → map.get s.forks k ≡ Some h → h.slot ≡ 1 → h.superior ≡ None → ((eq_by_cmp fork_cmp k name ≡ true) × (k ≡ name)) ⊎ (eq_by_cmp fork_cmp k name ≡ false)
           → (x : Fork) × (map.get (map.insert s.forks name g) k ≡ Some x) × (x.slot ≡ 1) × (x.superior ≡ None)
       top_of k h is one none (inl e) =
@@ -103,12 +123,16 @@ module _ (s : PlainState) (w : IsWhole s) where
     room = w.room;
     files = w.files;
     forks = w.forks;
-    own = w.own;
-    old = w.old;
-    terminals = w.terminals;
+    tree = w.tree;
+    given = w.given;
+    homes = λ f h. has f.tty.0 (eq_by_cmp nat_cmp f.tty.0 t) (map.get-insert nat_cmp_total s.jobs t k f.tty.0) (w.homes f h);
     tops = λ u i is. at u i (eq_by_cmp nat_cmp u t) (sym (map.get-insert nat_cmp_total s.jobs t k u) ∙ is);
   }
     where
+      has : (u : ℕ) (b : Bool) → map.get (map.insert s.jobs t k) u ≡ cond b (Some k) (map.get s.jobs u) → map.contains_key s.jobs u ≡ true → map.contains_key (map.insert s.jobs t k) u ≡ true
+      has u true is h = ap is_some is
+      has u false is h = ap is_some is ∙ h
+
       at : (u : ℕ) (i : PlainJob) (b : Bool) → cond b (Some k) (map.get s.jobs u) ≡ Some i → (f : Fork) × (map.get s.forks i.top ≡ Some f) × (f.slot ≡ 1) × (f.superior ≡ None)
       at u i true is =
           let here : k ≡ i = cc is in
@@ -116,15 +140,15 @@ module _ (s : PlainState) (w : IsWhole s) where
           (f.0, ap (λ (x : PlainJob). map.get s.forks x.top) (sym here) ∙ ap (map.get s.forks) top ∙ f.1, f.2, f.3)
       at u i false is = w.tops u i is
 
-  pub pages_whole : (q : NamedPages) → AreWhole q → live q ≤ q.limit → q.files ≡ s.pages.files → ((f : ForkName) → map.contains_key q.maps f ≡ map.contains_key s.pages.maps f) → IsWhole (record s { pages = q })
-  pages_whole q whole room files keys = record {
+  pub pages_whole : (q : NamedPages) → AreWhole q → live q ≤ q.limit → q.files ≡ s.pages.files → ((f : ForkName) → map.contains_key q.maps f ≡ map.contains_key s.pages.maps f) → AreGiven (next_serial (tree_of s)) q.maps → IsWhole (record s { pages = q })
+  pages_whole q whole room files keys given = record {
     pages = whole;
     room = room;
     files = λ f h. w.files f (ap (λ (m : map.FinMap _ PageName). map.contains_key m f) (sym files) ∙ h);
     forks = λ f. w.forks f ∙ sym (keys f);
-    own = w.own;
-    old = w.old;
-    terminals = w.terminals;
+    tree = w.tree;
+    given = given;
+    homes = w.homes;
     tops = w.tops;
   }
 
@@ -132,13 +156,24 @@ module _ (s : PlainState) (w : IsWhole s) where
   sound = record { whole = w.pages; room = w.room }
 
   -- other pages that are sound, with the same files and forks
-  pub keeps_whole : (q : NamedPages) → Keeps s.pages q → IsWhole (record s { pages = q })
-  keeps_whole q k = pages_whole q k.sound.whole k.sound.room k.forks.files k.forks.keys
+  pub keeps_whole : (q : NamedPages) → Keeps s.pages q → AreGiven (next_serial (tree_of s)) q.maps → IsWhole (record s { pages = q })
+  keeps_whole q k given = pages_whole q k.sound.whole k.sound.room k.forks.files k.forks.keys given
+
+  -- a fork that lives has a serial that was given out
+  pub lived_given : (k : ForkName) → map.contains_key s.forks k ≡ true → k.serial < next_serial (tree_of s) k.tty
+  lived_given k lives =
+      let f = some_of (map.get s.forks k) lives in
+      let own = w.tree.slotted.own k f.0 f.1 in
+      subst (λ (n : ForkName). n.serial < next_serial (tree_of s) n.tty) own (w.tree.old f.0 (held_lives s.forks w.tree.slotted k f.0 f.1))
+
+posted_if_same : (f : Fork) (post : Option ℕ) → IsSame f (posted_if f post)
+posted_if_same f None = (refl, refl, refl)
+posted_if_same f (Some channel) = posted_same f channel
 
 -- a turn of a call leaves its fork's name, slot and superior
 pub behind_same : {C : Type 0} (f : Fork) (e : End C) → IsSame f (fork_behind f e)
 unfolding fork_behind
-behind_same f (Done change regs) = (refl, refl, refl)
+behind_same f (Done change regs out post) = posted_if_same (with_regs f regs) post
 behind_same f (Waits on) = (refl, refl, refl)
 behind_same f Halts = (refl, refl, refl)
 behind_same f (Refused code) = posted_same (with_error f code) ILLEGAL_INSTRUCTION
@@ -148,7 +183,7 @@ behind_same f (Trap channel) = posted_same f channel
 module _ (s : PlainState) (w : IsWhole s) where
   -- a fork put in place of one
   pub put : (name : ForkName) (f : Fork) → map.get s.forks name ≡ Some f → (g : Fork) → IsSame f g → IsWhole (with_fork s g)
-  put name f there g same = fork_whole s w name f g there (same.0 ∙ w.own name f there) same.1 same.2
+  put name f there g same = fork_whole s w name f g there (same.0 ∙ w.tree.slotted.own name f there) same.1 same.2
 
   -- a fork changed, if there is one
   pub changed_if : (change : Fork → Fork) → ((f : Fork) → IsSame f (change f)) → (o : Option Fork) → ((k : Fork) → o ≡ Some k → map.get s.forks k.name ≡ Some k) → IsWhole (record s { forks = changed s.forks change o })
@@ -160,7 +195,7 @@ woken_whole : (s : PlainState) → IsWhole s → (t : Tty) (slots : List ℕ) �
 woken_whole s w t [] = w
 woken_whole s w t (slot ∷ slots) =
     let forks = changed s.forks unwaited (fork_in s.forks t slot) in
-    woken_whole (record s { forks = forks }) (changed_if s w unwaited (λ f. (refl, refl, refl)) (fork_in s.forks t slot) (λ k is. let at = slot_tells s.forks w.own t slot k is in at.0)) t slots
+    woken_whole (record s { forks = forks }) (changed_if s w unwaited (λ f. (refl, refl, refl)) (fork_in s.forks t slot) (λ k is. let at = slot_tells s.forks w.tree.slotted.own t slot k is in at.0)) t slots
 
 module _ (s : PlainState) (w : IsWhole s) where
   pub waiters_whole : (t : Tty) → IsWhole (record s { forks = waiters_woken s.forks t })
@@ -168,7 +203,7 @@ module _ (s : PlainState) (w : IsWhole s) where
   waiters_whole t = woken_whole s w t (range_with_len 1 MOST_FORKS)
 
   posted_whole : (f : Fork) (channel : ℕ) → IsWhole (record s { forks = with_posted s.forks channel (superior_of s.forks f) })
-  posted_whole f channel = changed_if s w (λ k. posted k channel) (λ k. posted_same k channel) (superior_of s.forks f) (λ k is. let at = superior_tells s.forks w.own f k is in at.0)
+  posted_whole f channel = changed_if s w (λ k. posted k channel) (λ k. posted_same k channel) (superior_of s.forks f) (λ k is. let at = superior_tells s.forks w.tree.slotted.own f k is in at.0)
 
 -- a fork that ended is told of
 pub told_whole : (s : PlainState) → IsWhole s → (f : Fork) → IsWhole (record s { forks = end_told s.forks f })
@@ -179,16 +214,21 @@ abbrev pub IsNoTop : PlainState → ForkName → Type 0
 IsNoTop s name = (t : ℕ) (j : PlainJob) → map.get s.jobs t ≡ Some j → j.top ≡ name → ⊥
 
 module _ (s : PlainState) (w : IsWhole s) (name : ForkName) where
-  -- a fork that goes with its map leaves the state whole
-  pub gone_whole : IsNoTop s name → IsWhole (record s { forks = map.remove s.forks name; pages = without_fork s.pages name })
+  -- a fork that has no inferior, and goes with its map, leaves the state whole
+  pub gone_whole : HasNoInferior s.forks name → IsNoTop s name → IsWhole (record s { forks = map.remove s.forks name; pages = without_fork s.pages name })
   unfolding without_fork
-  gone_whole no_top = by (map.get s.pages.maps name) refl
+  gone_whole bare no_top = by (map.get s.pages.maps name) refl
     where
-      left : (k : ForkName) (f : Fork) → map.get (map.remove s.forks name) k ≡ Some f → map.get s.forks k ≡ Some f
-      left k f is = elim (cases_name k name) [
-        | inl e ↦ absurd (let no : None ≡ Some f = sym (get_gone s.forks name k e) ∙ is in cc no)
-        | inr ne ↦ sym (get_gone_other s.forks name k ne) ∙ is
-      ]
+      tree_left : IsTree (record (tree_of s) { forks = map.remove s.forks name })
+      tree_left = at (map.get s.forks name) refl
+        where
+          at : (o : Option Fork) → map.get s.forks name ≡ o → IsTree (record (tree_of s) { forks = map.remove s.forks name })
+          at None none = subst (λ (m : ForkMap). IsTree (record (tree_of s) { forks = m })) (sym (gone_itself s.forks name none)) w.tree
+          at (Some f) there =
+              let own = w.tree.slotted.own name f there in
+              let lives = held_lives s.forks w.tree.slotted name f there in
+              subst (λ (n : ForkName). IsTree (record (tree_of s) { forks = map.remove s.forks n })) own
+              (killed_tree (tree_of s) f w.tree lives (nobodys_superior (tree_of s) w.tree f lives (subst (HasNoInferior s.forks) (sym own) bare)))
 
       has : (k : ForkName) → map.contains_key (map.remove s.forks name) k ≡ true → map.contains_key s.forks k ≡ true
       has k h = elim (cases_name k name) [
@@ -211,9 +251,9 @@ module _ (s : PlainState) (w : IsWhole s) (name : ForkName) where
         room = room;
         files = λ f h. w.files f (ap (λ (m : map.FinMap _ PageName). map.contains_key m f) (sym files) ∙ h);
         forks = keys q.maps maps;
-        own = λ k f is. w.own k f (left k f is);
-        old = λ k h. w.old k (has k h);
-        terminals = w.terminals;
+        tree = tree_left;
+        given = subst (AreGiven (next_serial (tree_of s))) (sym maps) (removed_given (next_serial (tree_of s)) s.pages.maps name w.given);
+        homes = λ k h. w.homes k (has k h);
         tops = top_of;
       }
 
@@ -272,45 +312,54 @@ last_tells forks who f is = up_to MOST_FORKS is
     up_to (suc n) e = either (option_and_then (leaf_below forks who) (fork_in forks who.tty (suc n))) (last_up_to forks who n) (leaf (fork_in forks who.tty (suc n))) (up_to n) e
 
 -- the state with other parts
-abbrev pub with_parts : PlainState → ForkParts name_cmp → PlainState
-with_parts s v = record s { forks = v.tree.forks; fork_serials = v.tree.serials; pages = v.pages }
+abbrev pub with_fork_parts : PlainState → ForkParts name_cmp → PlainState
+with_fork_parts s v = record s { forks = v.tree.forks; fork_serials = v.tree.serials; pages = v.pages }
 
-abbrev pub parts_of : PlainState → ForkParts name_cmp
-parts_of s = record { tree = tree_of s; pages = s.pages }
+abbrev pub fork_parts_of : PlainState → ForkParts name_cmp
+fork_parts_of s = record { tree = tree_of s; pages = s.pages }
 
--- without a fork's inferiors
-below_whole : (n : ℕ) (f : ForkName) (s : PlainState) → IsWhole s → IsWhole (with_parts s (without_below n f (parts_of s)))
+-- without a fork's inferiors, of which there are so many at most
+record IsBare (f : ForkName) (s : PlainState) : Type 0 where
+  whole : IsWhole s
+  bare : HasNoInferior s.forks f
+
+below_whole : (n : ℕ) (f : ForkName) (s : PlainState) → IsWhole s → tally (below_in s.forks f) 1 MOST_FORKS ≤ n → IsBare f (with_fork_parts s (without_below n f (fork_parts_of s)))
 unfolding without_below
-below_whole zero f s w = w
-below_whole (suc n) f s w = by (λ t whole. below_whole n f t whole) (last_below s.forks f) refl
+below_whole zero f s w few = record { whole = w; bare = none_counted f (tree_of s) w.tree few }
+below_whole (suc n) f s w few = by (λ t whole fewer. below_whole n f t whole fewer) (last_below s.forks f) refl (last_is (tree_of s) w.tree f)
   where
-    by : ((t : PlainState) → IsWhole t → IsWhole (with_parts t (without_below n f (parts_of t)))) → (o : Option Fork) → last_below s.forks f ≡ o → IsWhole (with_parts s (option_map_or (λ k. without_below n f (without (parts_of s) k.name)) o (parts_of s)))
-    by rest None none = w
-    by rest (Some k) is =
+    by : ((t : PlainState) → IsWhole t → tally (below_in t.forks f) 1 MOST_FORKS ≤ n → IsBare f (with_fork_parts t (without_below n f (fork_parts_of t)))) → (o : Option Fork) → last_below s.forks f ≡ o
+        → MatchOption o (HasNoInferior s.forks f) (λ k. IsLastBelow s.forks f k.name) → IsBare f (with_fork_parts s (option_map_or (λ k. without_below n f (without (fork_parts_of s) k.name)) o (fork_parts_of s)))
+    by rest None none bare = record { whole = w; bare = bare }
+    by rest (Some k) is last =
         let own = inferior_tells s.forks f k.name (last_tells s.forks f k is) in
-        rest (with_parts s (without (parts_of s) k.name)) (gone_whole s w k.name (below_no_top s w k.name own.0 own.1 own.2))
+        let fewer = fewer_counted f (tree_of s) w.tree last.fork last.leaf in
+        let here : tally (below_in (map.remove s.forks k.name) f) 1 MOST_FORKS < tally (below_in s.forks f) 1 MOST_FORKS =
+        subst (λ (q : ForkName). tally (below_in (map.remove s.forks q) f) 1 MOST_FORKS < tally (below_in s.forks f) 1 MOST_FORKS) last.named fewer in
+        rest (with_fork_parts s (without (fork_parts_of s) k.name)) (gone_whole s w k.name (subst (HasNoInferior s.forks) last.named last.leaf.leaf) (below_no_top s w k.name own.0 own.1 own.2)) (omega (arith, few, here))
 
 module _ (s : PlainState) (w : IsWhole s) where
   -- without a fork and its inferiors; who waits for a fork runs again
-  pub killed_whole : (f : ForkName) → IsNoTop s f → IsWhole (with_parts s (fork_changed (Kill f) (parts_of s)))
+  pub killed_whole : (f : ForkName) → IsNoTop s f → IsWhole (with_fork_parts s (fork_changed (Kill f) (fork_parts_of s)))
   unfolding fork_changed
   killed_whole f no_top =
-      let t = with_parts s (without_below MOST_FORKS f (parts_of s)) in
-      let u = with_parts s (killed (parts_of s) f) in
-      waiters_whole u (gone_whole t (below_whole MOST_FORKS f s w) f no_top) f.tty
+      let t = with_fork_parts s (without_below MOST_FORKS f (fork_parts_of s)) in
+      let u = with_fork_parts s (killed (fork_parts_of s) f) in
+      let b = below_whole MOST_FORKS f s w (tally_most (below_in s.forks f) 1 MOST_FORKS) in
+      waiters_whole u (gone_whole t b.whole f b.bare no_top) f.tty
 
-  pub halted_whole : (f : ForkName) → IsWhole (with_parts s (fork_changed (Halt f) (parts_of s)))
+  pub halted_whole : (f : ForkName) → IsWhole (with_fork_parts s (fork_changed (Halt f) (fork_parts_of s)))
   unfolding fork_changed
-  halted_whole f = looked_up (λ v. IsWhole (with_parts s v)) (with_halted (parts_of s)) (parts_of s) (map.get s.forks f)
+  halted_whole f = looked_up (λ v. IsWhole (with_fork_parts s v)) (with_halted (fork_parts_of s)) (fork_parts_of s) (map.get s.forks f)
       (λ g is. let h = with_status g Halted in told_whole (with_fork s h) (put s w f g is h (refl, refl, refl)) h) (λ none. w)
 
-  pub mark_whole : (f : ForkName) (on : Bool) → IsWhole (with_parts s (fork_changed (Freeze f on) (parts_of s)))
+  pub mark_whole : (f : ForkName) (on : Bool) → IsWhole (with_fork_parts s (fork_changed (Freeze f on) (fork_parts_of s)))
   unfolding fork_changed
-  mark_whole f on = changed_if s w (with_mark on) (λ k. (refl, refl, refl)) (map.get s.forks f) (λ k is. ap (map.get s.forks) (w.own f k is) ∙ is)
+  mark_whole f on = changed_if s w (with_mark on) (λ k. (refl, refl, refl)) (map.get s.forks f) (λ k is. ap (map.get s.forks) (w.tree.slotted.own f k is) ∙ is)
 
-  pub body_whole : (f : ForkName) (body : Body) → IsWhole (with_parts s (fork_changed (Become f body) (parts_of s)))
+  pub body_whole : (f : ForkName) (body : Body) → IsWhole (with_fork_parts s (fork_changed (Become f body) (fork_parts_of s)))
   unfolding fork_changed
-  body_whole f body = changed_if s w (with_body body) (λ k. (refl, refl, refl)) (map.get s.forks f) (λ k is. ap (map.get s.forks) (w.own f k is) ∙ is)
+  body_whole f body = changed_if s w (with_body body) (λ k. (refl, refl, refl)) (map.get s.forks f) (λ k is. ap (map.get s.forks) (w.tree.slotted.own f k is) ∙ is)
 
 stored_from_kept : (p : NamedPages) → AreSound p → (f : ForkName) (at : ℕ) (words : List ℕ) → Keeps p (stored_from p f at words)
 stored_from_kept p w f at [] = kept_itself p w
@@ -322,106 +371,147 @@ stored_from_kept p w f at (word ∷ words) =
 
 module _ (s : PlainState) (w : IsWhole s) where
   -- no fork has the next name
-  pub next_absent : (t : Tty) → map.get s.pages.maps (next_name (tree_of s) t) ≡ None
-  next_absent t = by (map.get s.pages.maps (next_name (tree_of s) t)) refl
-    where
-      by : (o : Option Map) → map.get s.pages.maps (next_name (tree_of s) t) ≡ o → o ≡ None
-      by None is = refl
-      by (Some m) is = absurd (omega (arith, w.old (next_name (tree_of s) t) (w.forks (next_name (tree_of s) t) ∙ ap is_some is)))
-
   pub no_fork : (t : Tty) → map.contains_key s.forks (next_name (tree_of s) t) ≡ false
-  no_fork t = w.forks (next_name (tree_of s) t) ∙ ap is_some (next_absent t)
+  no_fork t = ap is_some (name_unused (tree_of s) t w.tree)
+
+  pub next_absent : (t : Tty) → map.get s.pages.maps (next_name (tree_of s) t) ≡ None
+  next_absent t = empty_of (map.get s.pages.maps (next_name (tree_of s) t)) (sym (w.forks (next_name (tree_of s) t)) ∙ no_fork t)
+
+  abbrev pub Jobs : Type 0
+  Jobs = map.FinMap nat_cmp PlainJob
+
+  -- the top forks of jobs stay where a fork is made
+  pub kept_tops : (t : Tty) (f : Fork) (u : ℕ) (j : PlainJob) → map.get s.jobs u ≡ Some j → (x : Fork) × (map.get (map.insert s.forks (next_name (tree_of s) t) f) j.top ≡ Some x) × (x.slot ≡ 1) × (x.superior ≡ None)
+  kept_tops t f u j is =
+      let top = w.tops u j is in
+      (top.0, get_put_other s.forks (next_name (tree_of s) t) j.top f (λ e. gone j.top top.0 top.1 e) ∙ top.1, top.2, top.3)
+    where
+      gone : (k : ForkName) (h : Fork) → map.get s.forks k ≡ Some h → k ≡ next_name (tree_of s) t → ⊥
+      gone k h is e = let no : true ≡ false = sym (ap is_some is) ∙ ap (map.contains_key s.forks) e ∙ no_fork t in cc no
 
   -- a fork with the next name, and its map, leave the state whole
   module _ (t : Tty) (terminal : IsTerminal t) (f : Fork) (entries : NewMap) (q : NamedPages) (sound : AreSound q) (files : q.files ≡ s.pages.files)
-      (keys : (k : ForkName) → map.contains_key q.maps k ≡ map.contains_key (with_map s.pages (next_name (tree_of s) t) entries).maps k) where
+      (keys : (k : ForkName) → map.contains_key q.maps k ≡ map.contains_key (with_map s.pages (next_name (tree_of s) t) entries).maps k)
+      (jobs : Jobs) (tops : (u : ℕ) (j : PlainJob) → map.get jobs u ≡ Some j → (x : Fork) × (map.get (map.insert s.forks (next_name (tree_of s) t) f) j.top ≡ Some x) × (x.slot ≡ 1) × (x.superior ≡ None))
+      (have : (u : ℕ) → map.contains_key s.jobs u ≡ true → map.contains_key jobs u ≡ true) (home : map.contains_key jobs t.0 ≡ true)
+      (given : AreGiven (next_serial (tree_of s)) q.maps) (few : next_serial (tree_of s) t ≤ LAST_SERIAL) (free : free_slot s.forks t ≡ Some f.slot) (over : MatchOption f.superior (fork_in s.forks t 1 ≡ None) (λ slot. IsSome (fork_in s.forks t slot))) where
     name : ForkName
     name = next_name (tree_of s) t
 
-    made_at_whole : f.name ≡ name → IsWhole (record s { forks = map.insert s.forks name f; fork_serials = slice_set s.fork_serials t.0 (name.serial + 1); pages = q })
+    made_at_whole : f.name ≡ name → IsWhole (record s { forks = map.insert s.forks name f; fork_serials = slice_set s.fork_serials t.0 (name.serial + 1); pages = q; jobs = jobs })
     unfolding name
     made_at_whole named = record {
       pages = sound.whole;
       room = sound.room;
       files = λ g h. w.files g (ap (λ (m : map.FinMap _ PageName). map.contains_key m g) (sym files) ∙ h);
       forks = λ k. alike k ∙ sym (keys k);
-      own = λ k h is. elim (cases_name k name) [
-        | inl e ↦ let here : Some f ≡ Some h = sym (get_put s.forks name k f e) ∙ is in let same : f ≡ h = cc here in ap (λ (x : Fork). x.name) (sym same) ∙ named ∙ sym e
-        | inr ne ↦ w.own k h (sym (get_put_other s.forks name k f ne) ∙ is)
+      tree = made_so named;
+      given = λ at serial page a is. let more = grown at.fork.tty in omega (arith, given at serial page a is, more);
+      homes = λ k h. elim (cases_name k name) [
+        | inl e ↦ ap (λ (n : ForkName). map.contains_key jobs n.tty.0) e ∙ home
+        | inr ne ↦ have k.tty.0 (w.homes k (sym (ap is_some (get_put_other s.forks name k f ne)) ∙ h))
       ];
-      old = λ k h. elim (cases_name k name) [
-        | inl e ↦ subst (λ (n : ForkName). n.serial < slice_index (slice_set s.fork_serials t.0 (name.serial + 1)) n.tty.0) (sym e) (omega (arith, next_own))
-        | inr ne ↦ below k (sym (ap is_some (get_put_other s.forks name k f ne)) ∙ h)
-      ];
-      terminals = length-set s.fork_serials t.0 (name.serial + 1) ∙ w.terminals;
-      tops = λ u j is. let top = w.tops u j is in (top.0, get_put_other s.forks name j.top f (λ e. gone j.top top.0 top.1 e) ∙ top.1, top.2, top.3);
+      tops = tops;
     }
       where
+        -- no serial is taken back
+        grown : (u : Tty) → next_serial (tree_of s) u ≤ slice_index (slice_set s.fork_serials t.0 (name.serial + 1)) u.0
+        grown u = by (eqb_tells u.0 t.0)
+          where
+            by : (((u.0 == t.0) ≡ true) × (u.0 ≡ t.0)) ⊎ (((u.0 == t.0) ≡ false) × (u.0 ≢ t.0)) → next_serial (tree_of s) u ≤ slice_index (slice_set s.fork_serials t.0 (name.serial + 1)) u.0
+            by (inl e) =
+                let here : slice_index (slice_set s.fork_serials t.0 (name.serial + 1)) u.0 ≡ name.serial + 1 = get_or-set_at s.fork_serials t.0 u.0 (name.serial + 1) 0 e.1 (omega (arith, terminal, w.tree.terminals)) in
+                let was : slice_index s.fork_serials u.0 ≡ name.serial = ap (slice_index s.fork_serials) e.1 in
+                omega (arith, here, was)
+            by (inr e) = omega (arith, get_or-set_other s.fork_serials t.0 u.0 (name.serial + 1) 0 e.1)
+
+        -- one that is new in the slot, and then as it is made
+        made_so : f.name ≡ name → IsTree (record { forks = map.insert s.forks name f; serials = slice_set s.fork_serials t.0 (name.serial + 1) })
+        made_so named =
+            let new = new_fork name f.slot f.superior in
+            let tree = made_tree (tree_of s) t f.superior f.slot w.tree terminal free few over in
+            subst (λ (m : ForkMap). IsTree (record { forks = m; serials = slice_set s.fork_serials t.0 (name.serial + 1) })) (put_over s.forks name new f)
+            (changed_tree (record { forks = map.insert s.forks name new; serials = slice_set s.fork_serials t.0 (name.serial + 1) }) new f tree (get_put s.forks name name new refl) named refl refl)
+
         alike : (k : ForkName) → map.contains_key (map.insert s.forks name f) k ≡ map.contains_key (with_map s.pages name entries).maps k
         alike k = elim (cases_name k name) [
           | inl e ↦ ap is_some (get_put s.forks name k f e) ∙ sym (ap is_some (get_put s.pages.maps name k (new_map entries) e))
           | inr ne ↦ ap is_some (get_put_other s.forks name k f ne) ∙ w.forks k ∙ sym (ap is_some (get_put_other s.pages.maps name k (new_map entries) ne))
         ]
 
-        gone : (k : ForkName) (h : Fork) → map.get s.forks k ≡ Some h → k ≡ name → ⊥
-        gone k h is e = let no : true ≡ false = sym (ap is_some is) ∙ ap (map.contains_key s.forks) e ∙ no_fork t in cc no
-
-        next_own : slice_index (slice_set s.fork_serials t.0 (name.serial + 1)) t.0 ≡ name.serial + 1
-        next_own = get_or-set_at s.fork_serials t.0 t.0 (name.serial + 1) 0 refl (omega (arith, terminal, w.terminals))
-
-        below : (k : ForkName) → map.contains_key s.forks k ≡ true → k.serial < slice_index (slice_set s.fork_serials t.0 (name.serial + 1)) k.tty.0
-        below k h = by (eqb_tells k.tty.0 t.0)
-          where
-            by : (((k.tty.0 == t.0) ≡ true) × (k.tty.0 ≡ t.0)) ⊎ (((k.tty.0 == t.0) ≡ false) × (k.tty.0 ≢ t.0)) → k.serial < slice_index (slice_set s.fork_serials t.0 (name.serial + 1)) k.tty.0
-            by (inl e) =
-                let here : slice_index (slice_set s.fork_serials t.0 (name.serial + 1)) k.tty.0 ≡ name.serial + 1 = ap (slice_index (slice_set s.fork_serials t.0 (name.serial + 1))) e.1 ∙ next_own in
-                let before : slice_index s.fork_serials k.tty.0 ≡ name.serial = ap (slice_index s.fork_serials) e.1 in
-                omega (arith, here, before, w.old k h)
-            by (inr e) = omega (arith, get_or-set_other s.fork_serials t.0 k.tty.0 (name.serial + 1) 0 e.1, w.old k h)
-
-    pub made_whole : f.name ≡ next_name (tree_of s) t → IsWhole (with_parts s (record { tree = with_made (tree_of s) f; pages = q }))
+    pub made_whole : f.name ≡ next_name (tree_of s) t → IsWhole (record (with_fork_parts s (record { tree = with_made (tree_of s) f; pages = q })) { jobs = jobs })
     unfolding name
-    made_whole named = subst (λ (n : ForkName). IsWhole (record s { forks = map.insert s.forks n f; fork_serials = slice_set s.fork_serials n.tty.0 (n.serial + 1); pages = q })) (sym named) (made_at_whole named)
+    made_whole named = subst (λ (n : ForkName). IsWhole (record s { forks = map.insert s.forks n f; fork_serials = slice_set s.fork_serials n.tty.0 (n.serial + 1); pages = q; jobs = jobs })) (sym named) (made_at_whole named)
 
   -- a change of a fork call leaves the state whole
-  module _ (who : ForkName) (regs : Regs) (terminal : IsTerminal who.tty) (q : NamedPages) where
+  module _ (who : ForkName) (regs : Regs) (terminal : IsTerminal who.tty) (lives : map.contains_key s.forks who ≡ true) (q : NamedPages) where
     abbrev caller : ForkAsked
     caller = record { who = who; regs = regs; tree = tree_of s }
 
     no_top : (f : ForkName) → is_inferior s.forks who f ≡ true → IsNoTop s f
     no_top f below = let own = inferior_tells s.forks who f below in below_no_top s w f own.0 own.1 own.2
 
-    change_whole : (change : ForkChange) → FitsChange caller s.pages (λ x y. Keeps x y) q change → IsWhole (with_parts s (fork_changed change (record (parts_of s) { pages = q })))
+    few_serials : nat_lt LAST_SERIAL (next_serial (tree_of s) who.tty) ≡ false → next_serial (tree_of s) who.tty ≤ LAST_SERIAL
+    few_serials h = grind (arith, nat_tests)
+
+    -- the caller, which is to be the superior, is in its slot
+    caller_over : MatchOption (option_map (λ (k : Fork). k.slot) (map.get s.forks who)) (fork_in s.forks who.tty 1 ≡ None) (λ slot. IsSome (fork_in s.forks who.tty slot))
+    caller_over =
+        let k = some_of (map.get s.forks who) lives in
+        let own = w.tree.slotted.own who k.0 k.1 in
+        subst (λ (o : Option Fork). MatchOption (option_map (λ (x : Fork). x.slot) o) (fork_in s.forks who.tty 1 ≡ None) (λ slot. IsSome (fork_in s.forks who.tty slot))) (sym k.1)
+        (subst (λ o. IsSome o) (sym (in_found s.forks w.tree.slotted who.tty k.0.slot k.0 (held_lives s.forks w.tree.slotted who k.0 k.1, ap (λ (n : ForkName). n.tty.0) own, refl))) refl)
+
+    change_whole : (change : ForkChange) → FitsChange caller s.pages (λ x y. Keeps x y) q change → FitsChange caller s.pages (λ x y. AreGiven (next_serial (tree_of s)) y.maps) q change
+        → IsWhole (with_fork_parts s (fork_changed change (record (fork_parts_of s) { pages = q })))
     unfolding fork_changed
-    change_whole Nothing k = keeps_whole s w q k
-    change_whole (Make f) made = made_whole who.tty terminal f (map_wanted caller) q made.pages.sound made.pages.forks.files made.pages.forks.keys made.name
-    change_whole (Kill f) fits = killed_whole (record s { pages = q }) (keeps_whole s w q fits.1) f (no_top f fits.0)
-    change_whole (Freeze f on) fits = mark_whole (record s { pages = q }) (keeps_whole s w q fits.1) f on
-    change_whole (Become f body) fits = body_whole (record s { pages = q }) (keeps_whole s w q fits.1) f body
-    change_whole (Halt f) fits = halted_whole (record s { pages = q }) (keeps_whole s w q fits.1) f
-    change_whole (Store f at words) fits = keeps_whole s w (stored_from q f at words) (kept_on s.pages q (stored_from q f at words) fits.1 (stored_from_kept q fits.1.sound f at words))
+    change_whole Nothing k given = keeps_whole s w q k given
+    change_whole (Make f) made given =
+        made_whole who.tty terminal f (map_wanted caller) q made.pages.sound made.pages.forks.files made.pages.forks.keys s.jobs (λ u j is. kept_tops who.tty f u j is) (λ u h. h) (w.homes who lives)
+        given.pages (few_serials made.serial) made.slot (subst (λ o. MatchOption o (fork_in s.forks who.tty 1 ≡ None) (λ slot. IsSome (fork_in s.forks who.tty slot))) (sym made.superior) caller_over) made.name
+    change_whole (Kill f) fits given = killed_whole (record s { pages = q }) (keeps_whole s w q fits.1 given.1) f (no_top f fits.0)
+    change_whole (Freeze f on) fits given = mark_whole (record s { pages = q }) (keeps_whole s w q fits.1 given.1) f on
+    change_whole (Become f body) fits given = body_whole (record s { pages = q }) (keeps_whole s w q fits.1 given.1) f body
+    change_whole (Halt f) fits given = halted_whole (record s { pages = q }) (keeps_whole s w q fits.1 given.1) f
+    change_whole (Store f at words) fits given =
+        keeps_whole s w (stored_from q f at words) (kept_on s.pages q (stored_from q f at words) fits.1 (stored_from_kept q fits.1.sound f at words)) (words_given (next_serial (tree_of s)) nat_list_cmp_total f q at words given.1)
+
+    -- the map of a fork that is made follows the caller, if it follows one
+    wanted_given : IsNewGiven (next_serial (tree_of s)) who.tty (map_wanted caller)
+    wanted_given = cond_both (bit (in_ac regs 1) 0 == 1) (FollowAll who) EmptyMap (IsNewGiven (next_serial (tree_of s)) who.tty) (λ follows. lived_given s w who lives) (λ none. tt)
+
+    -- what a turn makes follows nobody else
+    call_given : (number : ℕ) → (let c = turn_on no_files s.pages (fork_call number caller) in FitsEnd caller s.pages (λ x y. AreGiven (next_serial (tree_of s)) y.maps) c.pages c.end)
+    call_given number = call_ends caller s.pages (λ x y. AreGiven (next_serial (tree_of s)) y.maps) (leading s.pages w.given)
+        (λ room. leading (mapped caller s.pages) (added_given (next_serial (tree_of s)) s.pages.maps (next_name (tree_of s) who.tty) (map_wanted caller) w.given wanted_given)) number
+      where
+        leading : (p : NamedPages) → AreGiven (next_serial (tree_of s)) p.maps → Leads caller s.pages (λ x y. AreGiven (next_serial (tree_of s)) y.maps) p
+        leading p given = record { itself = given; runs = λ steps. run_given (next_serial (tree_of s)) nat_list_cmp_total who steps (begun p regs.ac) given }
 
   -- a fork call leaves the state whole
   pub fork_called_whole : (name : ForkName) (f : Fork) → map.get s.forks name ≡ Some f → IsForkName name → (number : ℕ) → IsWhole (fork_called s f number)
   unfolding parts_behind
-  fork_called_whole name f there fits number = by (fork_end s f number) (call_keeps nat_list_cmp_total a own s.pages (sound s w) (next_absent f.name.tty) number)
+  fork_called_whole name f there fits number = by (fork_came s f number).end (call_keeps nat_list_cmp_total a own s.pages (sound s w) (next_absent f.name.tty) number) (call_given f.name f.body.regs terminal lives q number)
     where
       a : ForkAsked
       a = record { who = f.name; regs = f.body.regs; tree = tree_of s }
 
       terminal : IsTerminal f.name.tty
-      terminal = subst (λ (n : ForkName). n.tty.0 < TERMINALS) (sym (w.own name f there)) fits.0
+      terminal = subst (λ (n : ForkName). n.tty.0 < TERMINALS) (sym (w.tree.slotted.own name f there)) fits.0
 
       own : IsOwner f.name.tty
       own = inl terminal
 
-      q : NamedPages
-      q = made_by (fork_turn s f number) s.pages
+      lives : map.contains_key s.forks f.name ≡ true
+      lives = ap (map.contains_key s.forks) (w.tree.slotted.own name f there) ∙ ap is_some there
 
-      by : (e : End ForkChange) → FitsEnd a s.pages (λ x y. Keeps x y) q e → IsWhole (with_parts s (parts_behind (fork_changed_by (fork_turn s f number)) (parts_of s) e))
-      by (Done change regs) ok = change_whole f.name f.body.regs terminal q change ok
-      by (Waits on) ok = w
-      by Halts ok = w
-      by (Refused code) ok = w
-      by (Failed code) ok = w
-      by (Trap channel) ok = w
+      q : NamedPages
+      q = (fork_came s f number).pages
+
+      by : (e : End ForkChange) → FitsEnd a s.pages (λ x y. Keeps x y) q e → FitsEnd a s.pages (λ x y. AreGiven (next_serial (tree_of s)) y.maps) q e → IsWhole (with_parts s (parts_behind (through forks_part fork_changed) (parts_of s) (record (parts_of s) { pages = q }) e))
+      by (Done change regs out post) ok given = change_whole f.name f.body.regs terminal lives q change ok given
+      by (Waits on) ok given = w
+      by Halts ok given = w
+      by (Refused code) ok given = w
+      by (Failed code) ok given = w
+      by (Trap channel) ok given = w

@@ -1,11 +1,14 @@
 -- The plain state is whole wherever a run comes.
-use Rattle.std.proofs.Common.{◌≡◌, ℕ, ◌+◌, ◌%◌, ◌<◌, ◌≤◌, Bool, true, false, cond, List, [], ◌∷◌, length, Option, None, Some, inl, refl, sym, ◌∙◌, ap, subst, arith, All}
-use Rattle.std.specs.Prelude.{◌==◌, is_some, nat_lt, slice_set}
+use Rattle.std.proofs.Common.{◌≡◌, ℕ, suc, ◌+◌, ◌%◌, ◌<◌, ◌≤◌, Bool, true, false, cond, List, [], ◌∷◌, Option, None, Some, inl, refl, sym, ◌∙◌, ap, subst, arith, All}
+use Rattle.std.specs.Option.{option_and_then}
+use Rattle.std.specs.Prelude.{is_none, is_some, nat_lt, slice_get, slice_index}
+use Rattle.std.specs.List.{find, range_with_len}
 use Rattle.std.specs.Ordering.{eq_by_cmp, nat_cmp}
 use Rattle.std.specs.Cmp.{nat_cmp_total}
 use Rattle.std.specs.Cmp.Lexicographic.{nat_list_cmp_total}
 use Rattle.std.specs.FinMap as map
 use Rattle.std.proofs.lemmas.Bool.{cond_both}
+use Rattle.std.proofs.lemmas.Bool.Decides.{nat_tests}
 use Rattle.std.proofs.lemmas.List.Elements.{All-head, All-tail}
 use Rattle.outside.specs.declared.TheConstants.{PAGE_WORDS}
 use Rattle.machine_names.specs.declared.names.TheConstants.{TERMINALS, ACCUMULATORS, LAST_SERIAL}
@@ -15,7 +18,7 @@ use Rattle.machine_names.specs.declared.names.ForkName.{ForkName}
 use Rattle.machine_names.specs.declared.names.Slot.{Slot}
 use Rattle.plain_model.specs.declared.fork.Fork.{Fork}
 use Rattle.plain_model.specs.State.{PlainState, PlainJob, opening}
-use Rattle.plain_pages.specs.PlainPages.{NamedPages, Map, opening_pages, first_serials}
+use Rattle.plain_pages.specs.PlainPages.{NamedPages, Map, opening_pages}
 use Rattle.machine_names.specs.Orders.{fork_cmp, page_cmp, name_cmp}
 use Rattle.plain_pages.specs.Room.{HasRoom, live}
 use Rattle.plain_pages.specs.References.{in_map, Referred, granted, denied, full, reference, stored, slot_at}
@@ -25,14 +28,9 @@ use Rattle.plain_model.specs.declared.fork.TerminalMode.TheVariants.{Command, Pr
 use Rattle.script_texts.specs.declared.status.ForkStatus.{ForkStatus}
 use Rattle.script_texts.specs.declared.status.ForkStatus.TheVariants.{Run as Running, Wait, Halted, Forced}
 use Rattle.plain_model.specs.Interrupts.{posted}
-use Rattle.plain_model.specs.declared.call.TheConstants.{PBOUT}
-use Rattle.plain_model.specs.Unit.{Effect, in_command_mode, with_stopped, stopped, unit_ended, trapped, turned, caller_behind, fork_turned, called, advanced, posted_if, went, over, unit}
+use Rattle.plain_model.specs.Unit.{Effect, in_command_mode, with_stopped, stopped, unit_ended, trapped, called, went, over, unit, parts_of, put_with}
 use Rattle.plain_units.specs.Units.{unit_on}
-use Rattle.plain_model.specs.declared.call.End.{End}
-use Rattle.plain_model.specs.declared.call.MapChange.{MapChange}
-use Rattle.plain_model.specs.Calls.{end_of, fork_behind, parts_behind, lifted, is_among}
-use Rattle.plain_model.specs.MapCalls.{map_call, map_changed, pages_seen}
-use Rattle.plain_model.specs.ForkCalls.{fork_calls, fork_end, fork_called}
+use Rattle.plain_model.specs.Calls.{fork_behind, out_of, parts_behind, posted_if}
 use Rattle.plain_units.specs.Steps.{Planned, Ending, done, call, trap, need, stopped as unit_stopped, begun, pages_left}
 use Rattle.script_texts.specs.declared.event.Event.{Event}
 use Rattle.script_texts.specs.declared.event.Event.TheVariants.{Login, TypeIn, File, Words, Poke, Start, Run, Tick, Evict, Drum, Auto, Examine, Forks, Page, Trace}
@@ -43,16 +41,30 @@ use Rattle.plain_pages.specs.declared.map.NewMap.TheVariants.{Empty as EmptyMap}
 use Rattle.plain_pages.specs.NewMaps.{with_map}
 use Rattle.plain_model.specs.Events.{at_job, new_job, next_fork, with_job, login, with_accumulator, poked, poked_at, poke, restarted, start, started, word_seen, examined_in, outer}
 use Rattle.script_texts.specs.Limits.{FitsEvent, FitsStep}
-use Rattle.plain_model.specs.Forks.{top_fork, with_fork, with_regs, counted, change_fork}
-use Rattle.plain_laws.specs.Whole.{IsWhole}
+use Rattle.plain_model.specs.Trees.{free_slot, is_free, next_serial, tree_of}
+use Rattle.plain_model.specs.declared.call.End.{End}
+use Rattle.plain_model.specs.declared.call.End.TheVariants.{Done, Waits, Halts, Refused, Failed, Trap}
+use Rattle.plain_model.specs.declared.call.MapChange.{MapChange}
+use Rattle.plain_model.specs.declared.call.MapChange.TheVariants.{Nothing, Unmap, Follow, Narrow}
+use Rattle.plain_model.specs.MapCalls.{Asked, map_changed}
+use Rattle.plain_pages.specs.declared.map.MapEntry.TheVariants.{Follows}
+use Rattle.fork_tree.proofs.Kept.{none_tree}
+use Rattle.fork_tree.proofs.Slots.{in_none}
+use Rattle.plain_model.specs.Forks.{ForkMap, fork_in, top_fork, with_fork, with_regs, counted, change_fork}
+use Rattle.plain_laws.specs.Whole.{AreGiven, IsWhole}
+use Rattle.plain_laws.proofs.GivenSerials.{IsGivenChange, added_given, change_given, poked_given, run_given}
+use Rattle.plain_laws.proofs.MapEnds.{ChangeIn, EndIn, map_call_in}
 use Rattle.plain_units.proofs.Lookups.{looked_up}
 use Rattle.plain_model.proofs.ForkMaps.{get_put}
 use Rattle.plain_pages.proofs.Whole.{opening_whole, map_whole, live_whole}
 use Rattle.plain_pages.proofs.ReferencesMade.{has_room}
 use Rattle.plain_model.proofs.MapTurns.{turn_whole}
-use Rattle.plain_units.proofs.PageRuns.{AreSound, PlanKeeps, kept_itself, kept_on, reference_kept, run_kept, stored_kept}
-use Rattle.plain_laws.proofs.WholeForks.{job_whole, pages_whole, sound, keeps_whole, behind_same, put, told_whole, made_whole, next_absent, fork_called_whole}
+use Rattle.plain_units.proofs.PageRuns.{AreSound, PlanKeeps, PlanLeaves, kept_itself, kept_on, reference_kept, run_kept, stored_kept}
+use Rattle.plain_laws.proofs.WholeForks.{lived_given, kept_tops, job_whole, pages_whole, sound, keeps_whole, behind_same, put, told_whole, made_whole, next_absent, fork_called_whole}
 use Rattle.plain_model.proofs.Posted.{IsSame, posted_same}
+use Rattle.plain_model.proofs.Calling.{fork_came, fork_left, fork_called, fork_turned, map_came, map_pages, map_turned, print_came, print_turned, none_turned, caller_by, called_by, map_by, print_by}
+use Rattle.plain_units.specs.declared.channel.TheConstants.{ILLEGAL_INSTRUCTION}
+use Rattle.std.proofs.lemmas.Cmp.{eq_by_cmp_equiv}
 
 -- the opening state is whole
 pub whole_opening : (limit : ℕ) → IsWhole (opening limit)
@@ -62,9 +74,9 @@ whole_opening limit = record {
   room = subst (λ n. n ≤ limit) (sym none_live) (omega arith);
   files = λ f h. absurd (cc (sym (ap is_some (map.get-empty _ f)) ∙ h));
   forks = λ f. none f ∙ sym (no_map f);
-  own = λ k f h. absurd (cc (sym (map.get-empty fork_cmp k) ∙ h));
-  old = λ f h. absurd (cc (sym (none f) ∙ h));
-  terminals = first_terminals;
+  tree = none_tree;
+  given = λ at serial page a is. (let no : None ≡ Some (Follows serial page a) = sym (ap (λ (o : Option Map). option_and_then (λ (m : Map). slice_get m at.page) o) (map.get-empty fork_cmp at.fork)) ∙ is in absurd (cc no));
+  homes = λ f h. absurd (cc (sym (none f) ∙ h));
   tops = λ t j h. absurd (cc (sym (map.get-empty nat_cmp t) ∙ h));
 }
   where
@@ -77,9 +89,6 @@ whole_opening limit = record {
     no_map : (f : ForkName) → map.contains_key (map.empty {X = Map} {R = fork_cmp}) f ≡ false
     no_map f = ap is_some (map.get-empty fork_cmp f)
 
-    first_terminals : length first_serials ≡ TERMINALS
-    first_terminals = (opening_whole name_cmp limit).owners
-
 -- what a step leaves is whole
 abbrev Leaves : Effect → Type 0
 Leaves e = IsWhole e.state
@@ -90,40 +99,70 @@ mode_whole s w t = looked_up IsWhole _ s (map.get s.jobs t.0) (λ j is. job_whol
 module _ (s : PlainState) (w : IsWhole s) (name : ForkName) (f : Fork) (there : map.get s.forks name ≡ Some f) where
   stopped_whole : (g : Fork) → IsSame f g → Leaves (stopped s g)
   stopped_whole g same =
-      let t = with_stopped s g in let m : IsWhole t = told_whole (with_fork s (counted g)) (put s w name f there (counted g) same) (counted g) in
+      let t = with_stopped s g in let m : IsWhole t = told_whole (with_fork s g) (put s w name f there g same) g in
       cond_both (is_some g.superior) _ _ Leaves (λ below. m) (λ top. mode_whole t m g.name.tty)
 
+  put_whole : (g : Fork) (status : ForkStatus) → IsSame f g → Leaves (put_with s g status)
+  put_whole g Running same = put s w name f there g same
+  put_whole g (Wait on) same = put s w name f there g same
+  put_whole g Halted same = stopped_whole g same
+  put_whole g (Forced channel) same = stopped_whole g same
+
   ended_whole_fork : (g : Fork) (status : ForkStatus) → IsSame f g → Leaves (unit_ended s g status)
-  ended_whole_fork g Running same = put s w name f there (counted g) same
-  ended_whole_fork g (Wait on) same = put s w name f there (counted g) same
-  ended_whole_fork g Halted same = stopped_whole g same
-  ended_whole_fork g (Forced channel) same = stopped_whole g same
+  ended_whole_fork g status same = put_whole (counted g) status same
 
   trapped_whole : (channel : ℕ) → Leaves (trapped s f channel)
   trapped_whole channel = ended_whole_fork (posted f channel) (posted f channel).body.status (posted_same f channel)
 
+-- a call on maps follows forks that live
+turn_given : (s : PlainState) → IsWhole s → (t : Tty) (e : End MapChange) → EndIn s.forks t e → AreGiven (next_serial (tree_of s)) (parts_behind map_changed s.pages s.pages e).maps
+unfolding parts_behind
+turn_given s w t (Done what regs out post) fits = change_given (next_serial (tree_of s)) s.pages w.pages w.given what (follows what fits)
+  where
+    follows : (what : MapChange) → ChangeIn s.forks t what → IsGivenChange (next_serial (tree_of s)) what
+    follows Nothing fits = tt
+    follows (Unmap at) fits = tt
+    follows (Follow at from a) fits =
+        let job : from.fork.tty.0 ≡ at.fork.tty.0 = fits.1.1 ∙ sym fits.0.1 in
+        omega (arith, lived_given s w from.fork fits.1.0, ap (slice_index s.fork_serials) job)
+    follows (Narrow at a) fits = tt
+turn_given s w t (Waits on) fits = w.given
+turn_given s w t Halts fits = w.given
+turn_given s w t (Refused code) fits = w.given
+turn_given s w t (Failed code) fits = w.given
+turn_given s w t (Trap channel) fits = w.given
+
 module _ (s : PlainState) (w : IsWhole s) (name : ForkName) (f : Fork) (there : map.get s.forks name ≡ Some f) where
+  -- the fork that called, as it is put among the forks
+  called_with : (u : PlainState) → IsWhole u → (g : Fork) → map.get u.forks f.name ≡ Some g → (h : Fork) → IsSame g h → Leaves (unit_ended u h h.body.status)
+  called_with u whole g is h same = ended_whole_fork u whole f.name g is h h.body.status same
+
+  -- a call that prints changes nothing else
+  print_whole : (number : ℕ) → Leaves (print_turned s f number)
+  print_whole number = print_by Leaves s f number (λ g is. called_with s w g is (fork_behind g (print_came s f number).end) (behind_same g (print_came s f number).end)) w
+
   -- a call on maps changes pages alone
-  turned_whole : (e : End MapChange) → Leaves (turned (lifted pages_seen map_changed s f e))
-  turned_whole e =
-      let q = parts_behind map_changed s.pages e in
+  map_whole_turn : (number : ℕ) → Leaves (map_turned s f number)
+  map_whole_turn number =
+      let e = (map_came s f number).end in
+      let asks : Asked = record { who = f.name; regs = f.body.regs; forks = s.forks } in
       let stays = turn_whole s.pages w.pages e in
-      let whole = pages_whole s w q stays.whole (omega (arith, w.room, stays.room, stays.limit)) stays.files stays.keys in
-      ended_whole_fork (record s { pages = q }) whole name f there (fork_behind f e) (fork_behind f e).body.status (behind_same f e)
+      let given = turn_given s w f.name.tty e (map_call_in asks w.tree.slotted.own s.pages number) in
+      let whole = pages_whole s w (map_pages s f number) stays.whole (omega (arith, w.room, stays.room, stays.limit)) stays.files stays.keys given in
+      map_by Leaves s f number (λ g is. called_with (record s { pages = map_pages s f number }) whole g is (fork_behind g e) (behind_same g e)) whole
 
   -- a fork call changes forks and pages
   fork_turned_whole : (number : ℕ) → IsForkName name → Leaves (fork_turned s f number)
   fork_turned_whole number fits =
-      let t = fork_called s f number in
+      let e = (fork_came s f number).end in
       let whole = fork_called_whole s w name f there fits number in
-      looked_up Leaves (caller_behind t (fork_end s f number)) _ (map.get t.forks f.name)
-      (λ g is. let h = fork_behind g (fork_end s f number) in ended_whole_fork t whole f.name g is h h.body.status (behind_same g (fork_end s f number))) (λ none. whole)
+      caller_by Leaves s f.name.tty (fork_left s f number) f.name (λ g. fork_behind g e) (out_of e) (λ g is. called_with (fork_called s f number) whole g is (fork_behind g e) (behind_same g e)) whole
+
+  none_whole : Leaves (none_turned s f)
+  none_whole = caller_by Leaves s f.name.tty (parts_of s) f.name (λ g. posted g ILLEGAL_INSTRUCTION) None (λ g is. called_with s w g is (posted g ILLEGAL_INSTRUCTION) (posted_same g ILLEGAL_INSTRUCTION)) w
 
   called_whole : (number : ℕ) → IsForkName name → Leaves (called s f number)
-  called_whole number fits =
-      cond_both (number == PBOUT) _ _ Leaves (λ prints. put s w name f there (counted (with_regs f (advanced f.body.regs))) (refl, refl, refl)) (λ other.
-      cond_both (is_among fork_calls number) _ _ Leaves (λ is. fork_turned_whole number fits) (λ none.
-      turned_whole (end_of s.pages (map_call number (record { who = f.name; regs = f.body.regs; forks = s.forks })))))
+  called_whole number fits = called_by Leaves s f number (print_whole number) (fork_turned_whole number fits) (map_whole_turn number) none_whole
 
 -- a unit that goes through leaves its fork's name and slot
 went_whole : (s : PlainState) (w : IsWhole s) (name : ForkName) (f : Fork) → map.get s.forks name ≡ Some f → (q : NamedPages) → IsWhole (record s { pages = q }) → (e : Ending) → Leaves (went s f q e)
@@ -136,12 +175,20 @@ went_whole s w name f there q whole e = by e.post
     by None = ended_whole_fork (record s { pages = q }) whole name f there g g.body.status (refl, refl, refl)
     by (Some channel) = ended_whole_fork (record s { pages = q }) whole name f there (posted g channel) (posted g channel).body.status (posted_same g channel)
 
+-- the first slot is free, where no fork is in it
+first_found : (p : ℕ → Bool) (from len : ℕ) → p from ≡ true → find p (range_with_len from (suc len)) ≡ Some from
+first_found p from len passes = ap (λ b. cond b (Some from) (find p (range_with_len (from + 1) len))) passes
+
+first_free : (forks : ForkMap) (t : Tty) → fork_in forks t 1 ≡ None → free_slot forks t ≡ Some 1
+unfolding free_slot
+first_free forks t none = first_found (is_free forks t) 1 29 (ap is_none none)
+
 module _ (s : PlainState) (w : IsWhole s) where
-  over_whole : (name : ForkName) (f : Fork) → map.get s.forks name ≡ Some f → IsForkName name → (r : Planned name_cmp ⊥) → PlanKeeps nat_list_cmp_total s.pages f.name r → Leaves (over s f r)
-  over_whole name f there fits (done t e) left = went_whole s w name f there (pages_left f.name t e) (keeps_whole s w (pages_left f.name t e) left) e
-  over_whole name f there fits (unit_stopped (trap channel)) left = trapped_whole s w name f there channel
-  over_whole name f there fits (unit_stopped (need none)) left = absurd none
-  over_whole name f there fits (call number) left = called_whole s w name f there number fits
+  over_whole : (name : ForkName) (f : Fork) → map.get s.forks name ≡ Some f → IsForkName name → (r : Planned name_cmp ⊥) → PlanKeeps nat_list_cmp_total s.pages f.name r → PlanLeaves (λ (q : NamedPages). AreGiven (next_serial (tree_of s)) q.maps) f.name r → Leaves (over s f r)
+  over_whole name f there fits (done t e) left given = went_whole s w name f there (pages_left f.name t e) (keeps_whole s w (pages_left f.name t e) left given) e
+  over_whole name f there fits (unit_stopped (trap channel)) left given = trapped_whole s w name f there channel
+  over_whole name f there fits (unit_stopped (need none)) left given = absurd none
+  over_whole name f there fits (call number) left given = called_whole s w name f there number fits
 
   unit_whole : (name : ForkName) → IsForkName name → Leaves (unit s name)
   unfolding unit
@@ -149,50 +196,64 @@ module _ (s : PlainState) (w : IsWhole s) where
     where
       runs : (f : Fork) → map.get s.forks name ≡ Some f → Leaves (over s f (unit_on f.name s.pages f.body.regs))
       runs f is =
-          let own : IsOwner f.name.tty = inl (subst (λ (n : ForkName). n.tty.0 < TERMINALS) (sym (w.own name f is)) fits.0) in
+          let own : IsOwner f.name.tty = inl (subst (λ (n : ForkName). n.tty.0 < TERMINALS) (sym (w.tree.slotted.own name f is)) fits.0) in
           over_whole name f is fits (unit_on f.name s.pages f.body.regs) (run_kept nat_list_cmp_total s.pages f.name own (instruction f.body.regs) (begun s.pages f.body.regs.ac) (kept_itself s.pages (sound s w)))
+          (run_given (next_serial (tree_of s)) nat_list_cmp_total f.name (instruction f.body.regs) (begun s.pages f.body.regs.ac) w.given)
 
   changed_whole : (name : ForkName) (change : Fork → Fork) → ((f : Fork) → IsSame f (change f)) → IsWhole (change_fork s name change)
   changed_whole name change same = looked_up IsWhole _ s (map.get s.forks name) (λ f is. put s w name f is (change f) (same f)) (λ none. w)
 
-  with_job_whole : (t : Tty) (user : List ℕ) → IsTerminal t → HasRoom (with_map s.pages (next_fork s t) EmptyMap) t ≡ true → IsWhole (with_job s t user)
-  with_job_whole t user terminal room = record {
-    pages = m.pages;
-    room = m.room;
-    files = m.files;
-    forks = m.forks;
-    own = m.own;
-    old = m.old;
-    terminals = m.terminals;
-    tops = λ u i is. top_of i (eq_by_cmp nat_cmp u t.0) u (sym (map.get-insert nat_cmp_total s.jobs t.0 (new_job user f) u) ∙ is);
-  }
+  with_job_whole : (t : Tty) (user : List ℕ) → IsTerminal t → is_some (map.get s.jobs t.0) ≡ false → nat_lt LAST_SERIAL (next_fork s t).serial ≡ false → HasRoom (with_map s.pages (next_fork s t) EmptyMap) t ≡ true → IsWhole (with_job s t user)
+  with_job_whole t user terminal no_job few room = made_whole s w t terminal (top_fork f) EmptyMap (with_map s.pages f EmptyMap) sound refl (λ k. refl) jobs tops have home (added_given (next_serial (tree_of s)) s.pages.maps f EmptyMap w.given tt) (few_serials few) (first_free s.forks t none_in) none_in refl
     where
       f : ForkName
       f = next_fork s t
 
+      jobs : map.FinMap nat_cmp PlainJob
+      jobs = map.insert s.jobs t.0 (new_job user f)
+
+      at : (u : ℕ) → map.get jobs u ≡ cond (eq_by_cmp nat_cmp u t.0) (Some (new_job user f)) (map.get s.jobs u)
+      at u = map.get-insert nat_cmp_total s.jobs t.0 (new_job user f) u
+
       sound : AreSound (with_map s.pages f EmptyMap)
       sound = record { whole = map_whole s.pages w.pages f (next_absent s w t) EmptyMap; room = has_room (with_map s.pages f EmptyMap) t room }
 
-      m : IsWhole (record (with_fork s (top_fork f)) { pages = with_map s.pages f EmptyMap; fork_serials = slice_set s.fork_serials t.0 (f.serial + 1) })
-      m = made_whole s w t terminal (top_fork f) EmptyMap (with_map s.pages f EmptyMap) sound refl (λ k. refl) refl
+      home : map.contains_key jobs t.0 ≡ true
+      home = ap is_some (at t.0) ∙ ap (λ b. is_some (cond b (Some (new_job user f)) (map.get s.jobs t.0))) (let e = eq_by_cmp_equiv nat_cmp_total in e.refl t.0)
 
-      top_of : (i : PlainJob) (b : Bool) (u : ℕ) → cond b (Some (new_job user f)) (map.get s.jobs u) ≡ Some i → (x : Fork) × (map.get (map.insert s.forks f (top_fork f)) i.top ≡ Some x) × (x.slot ≡ 1) × (x.superior ≡ None)
-      top_of i true u is =
-          let here : new_job user f ≡ i = cc is in
-          (top_fork f, ap (λ (j : PlainJob). map.get (map.insert s.forks f (top_fork f)) j.top) (sym here) ∙ get_put s.forks f f (top_fork f) refl, refl, refl)
-      top_of i false u is = m.tops u i is
+      have : (u : ℕ) → map.contains_key s.jobs u ≡ true → map.contains_key jobs u ≡ true
+      have u h = ap is_some (at u) ∙ by (eq_by_cmp nat_cmp u t.0)
+        where
+          by : (b : Bool) → is_some (cond b (Some (new_job user f)) (map.get s.jobs u)) ≡ true
+          by true = refl
+          by false = h
+
+      few_serials : nat_lt LAST_SERIAL (next_fork s t).serial ≡ false → (next_fork s t).serial ≤ LAST_SERIAL
+      few_serials h = grind (arith, nat_tests)
+
+      none_in : fork_in s.forks t 1 ≡ None
+      none_in = in_none s.forks w.tree.slotted t 1 (λ g at. let no : true ≡ false = sym (w.homes g.name (ap is_some at.0)) ∙ ap (map.contains_key s.jobs) at.1 ∙ no_job in cc no)
+
+      tops : (u : ℕ) (i : PlainJob) → map.get jobs u ≡ Some i → (x : Fork) × (map.get (map.insert s.forks f (top_fork f)) i.top ≡ Some x) × (x.slot ≡ 1) × (x.superior ≡ None)
+      tops u i is = top_of i (eq_by_cmp nat_cmp u t.0) (sym (at u) ∙ is)
+        where
+          top_of : (i : PlainJob) (b : Bool) → cond b (Some (new_job user f)) (map.get s.jobs u) ≡ Some i → (x : Fork) × (map.get (map.insert s.forks f (top_fork f)) i.top ≡ Some x) × (x.slot ≡ 1) × (x.superior ≡ None)
+          top_of i true is =
+              let here : new_job user f ≡ i = cc is in
+              (top_fork f, ap (λ (j : PlainJob). map.get (map.insert s.forks f (top_fork f)) j.top) (sym here) ∙ get_put s.forks f f (top_fork f) refl, refl, refl)
+          top_of i false is = kept_tops s w t (top_fork f) u i is
 
   login_whole : (t : Tty) (user : List ℕ) → IsTerminal t → Leaves (login s t user)
   login_whole t user terminal =
       cond_both (is_some (map.get s.jobs t.0)) _ _ Leaves (λ busy. w) (λ free.
       cond_both (nat_lt LAST_SERIAL (next_fork s t).serial) _ _ Leaves (λ out. w) (λ few.
-      cond_both (HasRoom (with_map s.pages (next_fork s t) EmptyMap) t) _ _ Leaves (λ fits. with_job_whole t user terminal fits) (λ none. w)))
+      cond_both (HasRoom (with_map s.pages (next_fork s t) EmptyMap) t) _ _ Leaves (λ fits. with_job_whole t user terminal free few fits) (λ none. w)))
 
   poked_whole : (t : Tty) → IsTerminal t → (at : Slot) (offset word : ℕ) (r : Referred name_cmp) → reference s.pages (in_map at) Write t ≡ r → Leaves (poked s t at offset word r)
   poked_whole t terminal at offset word (granted q) is =
       let k = reference_kept nat_list_cmp_total t (inl terminal) s.pages q at Write (sound s w) is in
       let r = stored q (in_map at) offset word in
-      keeps_whole s w r (kept_on s.pages q r k (stored_kept q at offset word nat_list_cmp_total k.sound))
+      keeps_whole s w r (kept_on s.pages q r k (stored_kept q at offset word nat_list_cmp_total k.sound)) (poked_given (next_serial (tree_of s)) nat_list_cmp_total t s.pages q at Write offset word w.given is)
   poked_whole t terminal at offset word (denied kind) is = w
   poked_whole t terminal at offset word full is = w
 
@@ -225,8 +286,8 @@ module _ (s : PlainState) (w : IsWhole s) where
   outer_whole (Examine t serial address) fits = job_effect t _ (λ j is.
       looked_up Leaves (examined_in s t serial address) _ (map.get s.forks (record { tty = t; serial = serial })) (λ f there. looked_up Leaves _ _ (word_seen s f address) (λ word seen. w) (λ none. w)) (λ none. w))
   outer_whole (Forks t) fits = job_effect t _ (λ j is. w)
-  outer_whole Tick fits = record { pages = w.pages; room = w.room; files = w.files; forks = w.forks; own = w.own; old = w.old; terminals = w.terminals; tops = w.tops }
-  outer_whole (Trace on) fits = record { pages = w.pages; room = w.room; files = w.files; forks = w.forks; own = w.own; old = w.old; terminals = w.terminals; tops = w.tops }
+  outer_whole Tick fits = record { pages = w.pages; room = w.room; files = w.files; forks = w.forks; tree = w.tree; given = w.given; homes = w.homes; tops = w.tops }
+  outer_whole (Trace on) fits = record { pages = w.pages; room = w.room; files = w.files; forks = w.forks; tree = w.tree; given = w.given; homes = w.homes; tops = w.tops }
   outer_whole (TypeIn t text) fits = w
   outer_whole (File name) fits = w
   outer_whole (Words name page offset row) fits = w

@@ -1,5 +1,5 @@
 -- What laws say of the fork calls.
-use Rattle.std.specs.Prelude.{◌≡◌, ℕ, ◌+◌, ◌-◌, ◌≤◌, false, None, Some, if◌then◌else◌, nat_lt}
+use Rattle.std.specs.Prelude.{◌≡◌, ℕ, ◌+◌, ◌-◌, ◌≤◌, false, Option, None, Some, if◌then◌else◌, nat_lt}
 use Rattle.std.specs.declared.cmp.Ordering.{Ordering}
 use Rattle.std.specs.FinMap as map
 use Rattle.plain_model.specs.declared.call.End.{End}
@@ -16,7 +16,8 @@ use Rattle.plain_model.specs.State.{PlainState}
 use Rattle.plain_pages.specs.Room.{live, uses}
 use Rattle.plain_pages.specs.WholePages.{AreWhole}
 use Rattle.plain_units.specs.Steps.{call}
-use Rattle.plain_model.specs.ForkCalls.{fork_end}
+use Rattle.plain_model.specs.Families.{came_of, forking}
+use Rattle.plain_model.specs.Unit.{parts_of}
 use Rattle.plain_units.specs.Units.{unit_on}
 
 -- the end of a turn that waits for a fork
@@ -35,7 +36,7 @@ pub record AreLeft {K : Type 0} {file_cmp : K → K → Ordering} (p q : PlainPa
 
 -- a fork call of a fork resumes another
 abbrev pub Resumes : PlainState → Fork → ℕ → ForkName → Type 0
-Resumes s caller number name = (regs : Regs) × (fork_end s caller number ≡ Done (Freeze name false) regs)
+Resumes s caller number name = (regs : Regs) × (out post : Option ℕ) × ((came_of forking (parts_of s) caller.name caller.body.regs number).end ≡ Done (Freeze name false) regs out post)
 
 -- a unit is such a call
 pub record UnitResumes (s : PlainState) (who name : ForkName) : Type 0 where

@@ -7,7 +7,7 @@ ghost use Rattle.plain_model.specs.declared.fork.Fork.{Fork as AFork};
 ghost use Rattle.plain_model.specs.declared.call.ForkChange.{ForkChange as AForkChange};
 ghost use Rattle.plain_pages.specs.PlainPages.{NumberedPages};
 ghost use Rattle.plain_model.specs.State.{PlainState};
-ghost use Rattle.plain_model.specs.Calls.{end_of, fork_behind, returning};
+ghost use Rattle.plain_model.specs.Calls.{fork_behind, no_files, returning, turn_on};
 ghost use Rattle.plain_model.specs.Forks.{IsRunnable};
 ghost use Rattle.plain_model.specs.ForkCalls.{ForkAsked, ForkParts, fork_call, fork_changed, has_ended, inferior_named};
 ghost use Rattle.plain_laws.specs.ForkLaws.{AreLeft, UnitResumes, waiting};
@@ -22,9 +22,9 @@ use plain_model::call::ForkChange;
 /// the call, which it makes again when it goes on.
 pub fn waiters_go_on_when_a_fork_has_ended()
     ensures ended { (p : NumberedPages) (a : ForkAsked) (f : AFork) → inferior_named a ≡ Ok f → has_ended f.body.status ≡ true
-        → end_of p (fork_call WFORK a) ≡ returning ForkChange.Nothing a.regs }
+        → (turn_on no_files p (fork_call WFORK a)).end ≡ returning ForkChange.Nothing a.regs }
     ensures waits { (p : NumberedPages) (a : ForkAsked) (f : AFork) → inferior_named a ≡ Ok f → has_ended f.body.status ≡ false
-        → end_of p (fork_call WFORK a) ≡ waiting }
+        → (turn_on no_files p (fork_call WFORK a)).end ≡ waiting }
     ensures stays { (f : AFork) → (fork_behind f waiting).body.regs ≡ f.body.regs }
 {}
 

@@ -1,6 +1,6 @@
 //! Laws of the plain machine: what its definitions say of pages, of forks and of runs, in the words of those who use
 //! them, and two scripts computed. To the layers above they are facts to cite; nothing that runs stands on them.
-//! Stands on `plain_model`, and on the definitions below it.
+//! Stands on `plain_model`, on `fork_tree` for the law of trees, and on the definitions below it.
 #![tactic(auto)]
 
 mod entries;

@@ -27,7 +27,7 @@ use Rattle.plain_units.specs.Steps.{Steps, Planned, done, stopped, call, begun}
 use Rattle.plain_units.specs.Deeds.{in_ac}
 use Rattle.plain_model.specs.Inferiors.{is_inferior}
 use Rattle.plain_model.specs.Trees.{next_name, next_serial, free_slot}
-use Rattle.plain_model.specs.Calls.{Turn, adds, ends, and_then, given, with_block, end_of, made_by}
+use Rattle.plain_model.specs.Calls.{Turn, adds, ends, and_then, given, with_block, no_files, turn_on}
 use Rattle.plain_units.specs.Blocks.{steps_on, block_steps}
 use Rattle.plain_model.specs.ForkCalls.{ForkAsked, address_named, fork_named, if_inferior, inferior_named, own_named, map_wanted, making, with_accumulators, making_in, cfork, of_inferior, rfsts, sfacs, rfacs, waits_for, wfork, fork_call}
 use Rattle.plain_units.proofs.PageRuns.{AreSound, Keeps, PlanLeaves, kept_itself, run_kept}
@@ -73,7 +73,7 @@ module _ {K : Type 0} {file_cmp : K → K → Ordering} (a : ForkAsked) (p : Pla
 
       -- so is that of a turn that is done
       abbrev pub FitsEnd : End ForkChange → Type 0
-      FitsEnd (Done change regs) = FitsChange change
+      FitsEnd (Done change regs out post) = FitsChange change
       FitsEnd (Waits on) = Unit {0}
       FitsEnd Halts = Unit {0}
       FitsEnd (Refused code) = Unit {0}
@@ -96,27 +96,27 @@ named_below a f is = by (fork_named a) is
 module _ {K : Type 0} {file_cmp : K → K → Ordering} (a : ForkAsked) (p : PlainPages file_cmp) (After : PlainPages file_cmp → PlainPages file_cmp → Type 0) (leads : Leads a p After p)
     (leads_on : HasRoom (mapped a p) a.who.tty ≡ true → Leads a p After (mapped a p)) where
   -- a turn ends so
-  abbrev Ends : Turn ForkChange → Type 0
-  Ends t = FitsEnd a p After (made_by t p) (end_of p t)
+  abbrev Ends : Turn ⊥ ForkChange → Type 0
+  Ends t = FitsEnd a p After (turn_on no_files p t).pages (turn_on no_files p t).end
 
   same : After p p
   same = leads.itself
 
-  given_ends : (r : Result Fork ℕ) (next : Fork → Turn ForkChange) → ((f : Fork) → r ≡ Ok f → Ends (next f)) → Ends (given r next)
-  unfolding end_of made_by
+  given_ends : (r : Result Fork ℕ) (next : Fork → Turn ⊥ ForkChange) → ((f : Fork) → r ≡ Ok f → Ends (next f)) → Ends (given r next)
+  unfolding turn_on
   given_ends (Err code) next goes = tt
   given_ends (Ok f) next goes = goes f refl
 
   -- of an inferior that is named
-  below_ends : (next : Fork → Turn ForkChange) → ((f : Fork) → IsBelow a f.name → Ends (next f)) → Ends (given (inferior_named a) next)
+  below_ends : (next : Fork → Turn ⊥ ForkChange) → ((f : Fork) → IsBelow a f.name → Ends (next f)) → Ends (given (inferior_named a) next)
   below_ends next goes = given_ends (inferior_named a) next (λ f is. goes f (named_below a f is))
 
-  block_ends : (at : ℕ) (kind : Kind) (next : List ℕ → Turn ForkChange) → ((q : PlainPages file_cmp) (words : List ℕ) → After p q → FitsEnd a p After (made_by (next words) q) (end_of q (next words))) → Ends (with_block a.who a.regs at kind next)
-  block_ends at kind next goes = takes_comes p (λ e q. FitsEnd a p After q e) (After p) a.who a.regs (block_steps ACCUMULATORS at kind [] a.regs) (λ e. next e.regs.ac) (leads.runs (block_steps ACCUMULATORS at kind [] a.regs)) (λ q e kept. goes q e.regs.ac kept) (λ channel. tt)
+  block_ends : (at : ℕ) (kind : Kind) (next : List ℕ → Turn ⊥ ForkChange) → ((q : PlainPages file_cmp) (words : List ℕ) → After p q → FitsEnd a p After (turn_on no_files q (next words)).pages (turn_on no_files q (next words)).end) → Ends (with_block a.who a.regs at kind next)
+  block_ends at kind next goes = takes_comes no_files p (λ e q. FitsEnd a p After q e) (After p) a.who a.regs (block_steps ACCUMULATORS at kind [] a.regs) (λ e. next e.regs.ac) (leads.runs (block_steps ACCUMULATORS at kind [] a.regs)) (λ q e kept. goes q e.regs.ac kept) (λ channel. tt)
 
   -- the end of a turn that is over
-  over : (q : PlainPages file_cmp) (e : End ForkChange) → FitsEnd a p After q e → FitsEnd a p After (made_by (ends e) q) (end_of q (ends e))
-  unfolding end_of made_by
+  over : (q : PlainPages file_cmp) (e : End ForkChange) → FitsEnd a p After q e → FitsEnd a p After (turn_on no_files q (ends e)).pages (turn_on no_files q (ends e)).end
+  unfolding turn_on
   over q e fits = fits
 
   simple : (change : Fork → ForkChange) → ((f : Fork) → IsBelow a f.name → FitsChange a p After p (change f)) → Ends (of_inferior a change)
@@ -128,12 +128,12 @@ module _ {K : Type 0} {file_cmp : K → K → Ordering} (a : ForkAsked) (p : Pla
   waits_end Halted = same
   waits_end (Forced channel) = same
 
-  abbrev added : ℕ → Bool → Turn ForkChange
+  abbrev added : ℕ → Bool → Turn ⊥ ForkChange
   added slot room = cond room (with_accumulators a (λ words. ends (making a slot words))) (ends (Failed NO_ROOM))
 
   -- a fork is made in a slot
   module _ (slot : ℕ) (free : free_slot a.tree.forks a.who.tty ≡ Some slot) (few : nat_lt LAST_SERIAL (next_serial a.tree a.who.tty) ≡ false) where
-    abbrev making_it : List ℕ → Turn ForkChange
+    abbrev making_it : List ℕ → Turn ⊥ ForkChange
     making_it words = ends (making a slot words)
 
     module _ (room : HasRoom (mapped a p) a.who.tty ≡ true) where
@@ -143,15 +143,15 @@ module _ {K : Type 0} {file_cmp : K → K → Ordering} (a : ForkAsked) (p : Pla
       made : (q : PlainPages file_cmp) (words : List ℕ) → After (mapped a p) q → FitsEnd a p After q (making a slot words)
       made q words kept = record { name = refl; serial = few; slot = free; superior = refl; room = room; pages = kept }
 
-      made_ends : FitsEnd a p After (made_by (with_accumulators a making_it) (mapped a p)) (end_of (mapped a p) (with_accumulators a making_it))
+      made_ends : FitsEnd a p After (turn_on no_files (mapped a p) (with_accumulators a making_it)).pages (turn_on no_files (mapped a p) (with_accumulators a making_it)).end
       made_ends = cond_both (bit (in_ac a.regs 1) 3 == 1) (with_block a.who a.regs (address_named a.regs) Read making_it) (making_it (replicate ACCUMULATORS 0))
-          (λ t. FitsEnd a p After (made_by t (mapped a p)) (end_of (mapped a p) t))
-          (λ reads. takes_comes (mapped a p) (λ e q. FitsEnd a p After q e) (After (mapped a p)) a.who a.regs (block_steps ACCUMULATORS (address_named a.regs) Read [] a.regs) (λ e. making_it e.regs.ac) (on.runs (block_steps ACCUMULATORS (address_named a.regs) Read [] a.regs))
+          (λ t. FitsEnd a p After (turn_on no_files (mapped a p) t).pages (turn_on no_files (mapped a p) t).end)
+          (λ reads. takes_comes no_files (mapped a p) (λ e q. FitsEnd a p After q e) (After (mapped a p)) a.who a.regs (block_steps ACCUMULATORS (address_named a.regs) Read [] a.regs) (λ e. making_it e.regs.ac) (on.runs (block_steps ACCUMULATORS (address_named a.regs) Read [] a.regs))
           (λ q e kept. over q (making a slot e.regs.ac) (made q e.regs.ac kept)) (λ channel. tt))
           (λ none. over (mapped a p) (making a slot (replicate ACCUMULATORS 0)) (made (mapped a p) (replicate ACCUMULATORS 0) on.itself))
 
     adding_ends : Ends (adds (next_name a.tree a.who.tty) (map_wanted a) (added slot))
-    adding_ends = adds_comes p (λ e q. FitsEnd a p After q e) (next_name a.tree a.who.tty) (map_wanted a) (added slot) (λ room. made_ends room) (λ none. over p (Failed NO_ROOM) tt)
+    adding_ends = adds_comes no_files p (λ e q. FitsEnd a p After q e) (next_name a.tree a.who.tty) (map_wanted a) (added slot) (λ room. made_ends room) (λ none. over p (Failed NO_ROOM) tt)
 
   making_ends : (slot : ℕ) → free_slot a.tree.forks a.who.tty ≡ Some slot → Ends (making_in a slot)
   making_ends slot free = cond_both (nat_lt LAST_SERIAL (next_serial a.tree a.who.tty)) (ends (Failed SERIALS_OUT)) (adds (next_name a.tree a.who.tty) (map_wanted a) (added slot)) Ends
@@ -195,7 +195,7 @@ module _ {K : Type 0} {file_cmp : K → K → Ordering} (o : IsTotalOrder file_c
   sound_on : HasRoom (mapped a p) a.who.tty ≡ true → AreSound (mapped a p)
   sound_on room = record { whole = map_whole p w.whole (next_name a.tree a.who.tty) absent (map_wanted a); room = has_room (mapped a p) a.who.tty room }
 
-  pub call_keeps : (number : ℕ) → FitsEnd a p (λ x y. Keeps x y) (made_by (fork_call number a) p) (end_of p (fork_call number a))
+  pub call_keeps : (number : ℕ) → FitsEnd a p (λ x y. Keeps x y) (turn_on no_files p (fork_call number a)).pages (turn_on no_files p (fork_call number a)).end
   call_keeps number = call_ends a p (λ x y. Keeps x y) (keeping p w) (λ room. keeping (mapped a p) (sound_on room)) number
 
 -- whatever the pages are, a change names whom it may
@@ -211,5 +211,5 @@ module _ {K : Type 0} {file_cmp : K → K → Ordering} (a : ForkAsked) (p : Pla
   leading : (q : PlainPages file_cmp) → Leads a p Anyhow q
   leading q = record { itself = tt; runs = λ steps. anyhow (steps_on a.who a.regs steps q) }
 
-  pub call_names : (number : ℕ) → FitsEnd a p Anyhow (made_by (fork_call number a) p) (end_of p (fork_call number a))
+  pub call_names : (number : ℕ) → FitsEnd a p Anyhow (turn_on no_files p (fork_call number a)).pages (turn_on no_files p (fork_call number a)).end
   call_names number = call_ends a p Anyhow (leading p) (λ room. leading (mapped a p)) number

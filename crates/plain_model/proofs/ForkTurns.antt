@@ -4,8 +4,6 @@ use Rattle.std.specs.List.{filter_map}
 use Rattle.std.specs.Option.{option_map_or}
 use Rattle.std.specs.FinMap as map
 use Rattle.outside.specs.declared.TheConstants.{PAGE_WORDS}
-use Rattle.plain_model.specs.declared.call.End.{End}
-use Rattle.plain_model.specs.declared.call.End.TheVariants.{Done, Waits, Halts, Refused, Failed, Trap}
 use Rattle.plain_model.specs.declared.call.ForkChange.{ForkChange}
 use Rattle.plain_model.specs.declared.call.ForkChange.TheVariants.{Nothing, Make, Kill, Freeze, Become, Halt, Store}
 use Rattle.machine_names.specs.declared.names.TheConstants.{MOST_FORKS}
@@ -14,40 +12,18 @@ use Rattle.machine_names.specs.declared.names.PageName.{PageName}
 use Rattle.plain_model.specs.declared.fork.Fork.{Fork}
 use Rattle.plain_pages.specs.PlainPages.{PlainPages, refiled}
 use Rattle.machine_names.specs.Orders.{file_page_cmp}
-use Rattle.plain_pages.specs.Room.{page_in, HasRoom}
-use Rattle.plain_pages.specs.References.{without_fork, stored, in_map, slot_at, page_at}
-use Rattle.plain_units.specs.Steps.{Ending, Planned, pages_left, done, stopped, trap, need, call, is_accumulator, begun}
-use Rattle.plain_pages.specs.NewMaps.{with_map}
+use Rattle.plain_pages.specs.Room.{page_in}
+use Rattle.plain_pages.specs.References.{without_fork, stored, in_map, slot_at}
+use Rattle.plain_units.specs.Steps.{is_accumulator}
 use Rattle.plain_model.specs.Inferiors.{last_below}
-use Rattle.plain_model.specs.Calls.{Turn, sees, finds, takes, adds, ends, entry_of, stepped, with_added, made_by, parts_behind}
-use Rattle.plain_units.specs.Blocks.{steps_on, next_address, stored_from}
+use Rattle.plain_units.specs.Blocks.{next_address, stored_from}
 use Rattle.plain_model.specs.Trees.{waiters_woken}
-use Rattle.plain_model.specs.ForkCalls.{ForkParts, with_forks, without, without_below, killed, with_halted, fork_changed, fork_changed_by}
+use Rattle.plain_model.specs.ForkCalls.{ForkParts, with_forks, without, without_below, killed, with_halted, fork_changed}
 use Rattle.plain_pages.proofs.Kept.{drop_all_leaves}
 use Rattle.plain_pages.proofs.Refiled.{NameAlike, fork_refiled}
-use Rattle.plain_units.proofs.RefiledUnits.{LeavesFiles, left_leaves, run_leaves, still_alike, stored_leaves, stored_refiled}
-use Rattle.plain_model.proofs.Turns.{made_refiled}
+use Rattle.plain_units.proofs.RefiledUnits.{still_alike, stored_leaves, stored_refiled}
 
 module _ {K : Type 0} {file_cmp : K → K → Ordering} where
-  -- the turn makes no page of a file
-  pub made_leaves : {C : Type 0} (t : Turn C) (p : PlainPages file_cmp) → (made_by t p).files ≡ p.files
-  unfolding made_by
-  made_leaves (sees s next) p = made_leaves (next (entry_of p s)) p
-  made_leaves (finds s next) p = made_leaves (next (page_at p (in_map s))) p
-  made_leaves (takes f regs steps next) p = by (λ e q. made_leaves (next e) q) (steps_on f regs steps p) (run_leaves f steps (begun p regs.ac))
-    where
-      by : ((e : Ending) (q : PlainPages file_cmp) → (made_by (next e) q).files ≡ q.files) → (r : Planned file_cmp ⊥) → LeavesFiles p.files r → (stepped f r (λ q e. made_by (next e) q) (λ channel. p)).files ≡ p.files
-      by rest (done t e) leaves = rest e (pages_left f t e) ∙ left_leaves f t e ∙ leaves
-      by rest (stopped (trap channel)) leaves = refl
-      by rest (stopped (need none)) leaves = absurd none
-      by rest (call number) leaves = refl
-  made_leaves (adds f entries next) p = by (λ b q. made_leaves (next b) q) (HasRoom (with_map p f entries) f.tty)
-    where
-      by : ((b : Bool) (q : PlainPages file_cmp) → (made_by (next b) q).files ≡ q.files) → (b : Bool) → (made_by (next b) (with_added p f entries b)).files ≡ p.files
-      by rest true = rest true (with_map p f entries)
-      by rest false = rest false p
-  made_leaves (ends e) p = refl
-
   fork_leaves : (p : PlainPages file_cmp) (f : ForkName) → (without_fork p f).files ≡ p.files
   unfolding without_fork
   fork_leaves p f = ap (λ (q : PlainPages file_cmp). q.files) (drop_all_leaves (record p { maps = map.remove p.maps f }) (option_map_or (filter_map page_in) (map.get p.maps f) []))
@@ -145,27 +121,3 @@ module _ {K L : Type 0} {file_cmp : K → K → Ordering} (other_cmp : L → L �
       by None = refl
       by (Some g) = refl
   change_refiled (Store f at words) v alike = ap (λ (p : PlainPages other_cmp). record { tree = v.tree; pages = p }) (stored_from_refiled v.pages f at words)
-
-  -- and so does a turn
-  pub fork_turn_refiled : (t : Turn ForkChange) (e : End ForkChange) (v : ForkParts file_cmp) → AreAlike v
-      → parts_behind (fork_changed_by t) (refiled_parts v) e ≡ refiled_parts (parts_behind (fork_changed_by t) v e)
-  unfolding parts_behind
-  fork_turn_refiled t (Done change regs) v alike =
-      let made = record v { pages = made_by t v.pages } in
-      ap (λ (p : PlainPages other_cmp). fork_changed change (record { tree = v.tree; pages = p })) (made_refiled other_cmp files v.pages t alike)
-      ∙ change_refiled change made (still_alike other_cmp files v.pages made.pages alike (made_leaves t v.pages))
-  fork_turn_refiled t (Waits on) v alike = refl
-  fork_turn_refiled t Halts v alike = refl
-  fork_turn_refiled t (Refused code) v alike = refl
-  fork_turn_refiled t (Failed code) v alike = refl
-  fork_turn_refiled t (Trap channel) v alike = refl
-
--- the pages of files stay
-pub fork_turn_files : {K : Type 0} {file_cmp : K → K → Ordering} (t : Turn ForkChange) (e : End ForkChange) (v : ForkParts file_cmp) → (parts_behind (fork_changed_by t) v e).pages.files ≡ v.pages.files
-unfolding parts_behind
-fork_turn_files t (Done change regs) v = changed_leaves change (record v { pages = made_by t v.pages }) ∙ made_leaves t v.pages
-fork_turn_files t (Waits on) v = refl
-fork_turn_files t Halts v = refl
-fork_turn_files t (Refused code) v = refl
-fork_turn_files t (Failed code) v = refl
-fork_turn_files t (Trap channel) v = refl

@@ -1,9 +1,11 @@
 pub mod Runs
 pub mod Values
 pub mod ForkMaps
+pub mod Calling
 pub mod Equations
 pub mod Turns
 pub mod ForkEnds
 pub mod Posted
 pub mod MapTurns
 pub mod ForkTurns
+pub mod RefiledCalls

@@ -65,9 +65,9 @@ module _ {K : Type 0} {file_cmp : K → K → Ordering} (p : PlainPages file_cmp
   change_whole (Narrow s a) = where_changed s (narrow a) (λ e n is. sym (narrow_page a e) ∙ is)
 
   -- a turn leaves whole pages whole
-  pub turn_whole : (e : End MapChange) → StaysWhole (parts_behind map_changed p e)
+  pub turn_whole : (e : End MapChange) → StaysWhole (parts_behind map_changed p p e)
   unfolding parts_behind
-  turn_whole (Done what regs) = change_whole what
+  turn_whole (Done what regs out post) = change_whole what
   turn_whole (Waits on) = as_it_was
   turn_whole Halts = as_it_was
   turn_whole (Refused code) = as_it_was
@@ -90,43 +90,17 @@ module _ {K : Type 0} {file_cmp : K → K → Ordering} (p : PlainPages file_cmp
       by None = refl
       by (Some n) = dropped n (uses q n == 0)
 
-  changed_leaves : (s : Slot) (change : MapEntry → MapEntry) → (with_changed p s change).files ≡ p.files
+  pub changed_leaves : (s : Slot) (change : MapEntry → MapEntry) → (with_changed p s change).files ≡ p.files
   changed_leaves s change = by (entry_at p.maps s)
     where
       by : (o : Option MapEntry) → (option_map_or (λ e. with_entry p s (change e)) o p).files ≡ p.files
       by None = refl
       by (Some e) = entry_leaves s (change e)
 
-  -- a turn leaves the pages of files
-  pub turn_files : (e : End MapChange) → (parts_behind map_changed p e).files ≡ p.files
-  unfolding parts_behind map_changed
-  turn_files (Done Nothing regs) = refl
-  turn_files (Done (Unmap s) regs) = changed_leaves s (λ e. Empty)
-  turn_files (Done (Follow s t a) regs) = changed_leaves s (λ e. Follows t.fork.serial t.page a)
-  turn_files (Done (Narrow s a) regs) = changed_leaves s (narrow a)
-  turn_files (Waits on) = refl
-  turn_files Halts = refl
-  turn_files (Refused code) = refl
-  turn_files (Failed code) = refl
-  turn_files (Trap channel) = refl
-
 module _ {K L : Type 0} {file_cmp : K → K → Ordering} (other_cmp : L → L → Ordering) (files : map.FinMap (file_page_cmp other_cmp) PageName) (p : PlainPages file_cmp) where
-  changed_refiled : NameAlike other_cmp p files → (s : Slot) (change : MapEntry → MapEntry) → with_changed (refiled other_cmp p files) s change ≡ refiled other_cmp (with_changed p s change) files
+  pub changed_refiled : NameAlike other_cmp p files → (s : Slot) (change : MapEntry → MapEntry) → with_changed (refiled other_cmp p files) s change ≡ refiled other_cmp (with_changed p s change) files
   changed_refiled alike s change = by (entry_at p.maps s)
     where
       by : (o : Option MapEntry) → option_map_or (λ e. with_entry (refiled other_cmp p files) s (change e)) o (refiled other_cmp p files) ≡ refiled other_cmp (option_map_or (λ e. with_entry p s (change e)) o p) files
       by None = refl
       by (Some e) = entry_refiled other_cmp files p s (change e) alike
-
-  -- a turn leaves the same
-  pub turn_refiled : NameAlike other_cmp p files → (e : End MapChange) → parts_behind map_changed (refiled other_cmp p files) e ≡ refiled other_cmp (parts_behind map_changed p e) files
-  unfolding parts_behind map_changed
-  turn_refiled alike (Done Nothing regs) = refl
-  turn_refiled alike (Done (Unmap s) regs) = changed_refiled alike s (λ e. Empty)
-  turn_refiled alike (Done (Follow s t a) regs) = changed_refiled alike s (λ e. Follows t.fork.serial t.page a)
-  turn_refiled alike (Done (Narrow s a) regs) = changed_refiled alike s (narrow a)
-  turn_refiled alike (Waits on) = refl
-  turn_refiled alike Halts = refl
-  turn_refiled alike (Refused code) = refl
-  turn_refiled alike (Failed code) = refl
-  turn_refiled alike (Trap channel) = refl

@@ -1,11 +1,15 @@
 -- Monitor calls: what a turn of one asks, how it ends, and what it leaves (JSYS Manual).
-use Rattle.std.specs.Prelude.{ℕ, List, [], ◌∷◌, Bool, false, ◌||◌, Option, Result, Ok, Err, if◌then◌else◌, ◌==◌, unwrap_or, slice_set}
+use Rattle.std.specs.Prelude.{ℕ, List, [], ◌∷◌, Bool, false, ◌||◌, Option, None, Some, Result, Ok, Err, if◌then◌else◌, ◌==◌, unwrap_or, slice_set}
+use Rattle.std.specs.Option.{option_map, option_map_or, option_and_then}
 use Rattle.std.specs.declared.cmp.Ordering.{Ordering}
 use Rattle.plain_model.specs.declared.call.End.{End}
 use Rattle.plain_model.specs.declared.call.End.TheVariants.{Done, Waits, Halts, Refused, Failed, Trap}
+use Rattle.plain_model.specs.declared.call.Touched.{Touched}
+use Rattle.plain_model.specs.declared.call.Touched.TheVariants.{Granted, Denied, Full}
 use Rattle.plain_units.specs.declared.channel.TheConstants.{ILLEGAL_INSTRUCTION}
 use Rattle.machine_names.specs.declared.names.TheConstants.{ACCUMULATORS}
 use Rattle.machine_names.specs.declared.names.ForkName.{ForkName}
+use Rattle.machine_names.specs.declared.names.Tty.{Tty}
 use Rattle.machine_names.specs.declared.names.PageName.{PageName}
 use Rattle.machine_names.specs.declared.names.Slot.{Slot}
 use Rattle.machine_names.specs.declared.names.Kind.{Kind}
@@ -16,10 +20,10 @@ use Rattle.plain_model.specs.declared.fork.Fork.{Fork}
 use Rattle.script_texts.specs.declared.status.ForkStatus.TheVariants.{Wait, Halted}
 use Rattle.plain_units.specs.declared.registers.Regs.{Regs}
 use Rattle.plain_pages.specs.PlainPages.{PlainPages}
-use Rattle.plain_model.specs.State.{PlainState}
+use Rattle.machine_names.specs.Orders.{FilePage}
 use Rattle.plain_pages.specs.Maps.{entry_at}
 use Rattle.plain_pages.specs.Room.{HasRoom}
-use Rattle.plain_pages.specs.References.{in_map, page_at}
+use Rattle.plain_pages.specs.References.{Spot, in_map, in_file, Referred, granted, denied, full, page_at, reference, word_at}
 use Rattle.plain_pages.specs.NewMaps.{with_map}
 use Rattle.plain_model.specs.Forks.{with_regs, with_status}
 use Rattle.plain_model.specs.Interrupts.{posted}
@@ -27,18 +31,41 @@ use Rattle.plain_units.specs.Steps.{Steps, Ending, Planned, done, call, trap, ne
 use Rattle.plain_units.specs.Deeds.{next_pc, skip_pc}
 use Rattle.plain_units.specs.Blocks.{block_steps, steps_on}
 
--- what is left of a turn, which makes changes of some kind: what it asks, it is told of the pages before it, with those
--- that it made
-pub data Turn (C : Type 0) : Type 0 where
+-- What is left of a turn that knows files by keys of its own, as by JFNs, and makes changes of some kind. What it asks, it is told of the
+-- pages before it, with those that it made, and of the names and the room for files before it.
+pub data Turn (F C : Type 0) : Type 0 where
   -- it looks at the entry of a slot, and goes on with that
-  sees : Slot → (MapEntry → Turn C) → Turn C
-  -- it looks for the page at the end of a slot's chain, and goes on with its name, if one is named there
-  finds : Slot → (Option PageName → Turn C) → Turn C
+  sees : Slot → (MapEntry → Turn F C) → Turn F C
+  -- it looks for the page of a file, or at the end of a slot's chain, and goes on with its name, if one is named there
+  finds : Spot F → (Option PageName → Turn F C) → Turn F C
+  -- it takes the word at an offset of a file's page, which is 0 where the page isn't there
+  reads : FilePage F → ℕ → (ℕ → Turn F C) → Turn F C
+  -- it refers to a page, and makes what a reference makes for an owner; it goes on, told whether that was granted
+  touches : Tty → Spot F → Kind → (Touched → Turn F C) → Turn F C
   -- it takes steps of a fork with these registers, which may make pages, and goes on with how they end; it traps where they trap
-  takes : ForkName → Regs → Steps → (Ending → Turn C) → Turn C
+  takes : ForkName → Regs → Steps → (Ending → Turn F C) → Turn F C
   -- it makes the map of a new fork, and goes on, told whether there was room for that
-  adds : ForkName → NewMap → (Bool → Turn C) → Turn C
-  ends : End C → Turn C
+  adds : ForkName → NewMap → (Bool → Turn F C) → Turn F C
+  -- it looks up the name of a file, and goes on, told whether there is one
+  looks : List ℕ → (Bool → Turn F C) → Turn F C
+  -- it is to make a file of a name, and goes on, told whether one more may be there
+  makes : List ℕ → (Bool → Turn F C) → Turn F C
+  ends : End C → Turn F C
+
+-- what a turn is told of files besides their pages: for which its keys stand, which names there are, and whether one more may be there
+pub record Sight (F K : Type 0) : Type 0 where
+  pub file_of : F → Option K
+  pub is_name : List ℕ → Bool
+  pub has_more : Bool
+
+-- a turn that knows no file
+abbrev pub no_files : {K : Type 0} → Sight ⊥ K
+no_files = record { file_of = λ none. None; is_name = λ name. false; has_more = false }
+
+-- how a turn comes out: its end, and the pages with those that it made until then
+pub record Came {K : Type 0} (file_cmp : K → K → Ordering) (C : Type 0) : Type 0 where
+  pub end : End C
+  pub pages : PlainPages file_cmp
 
 -- the program counter goes on by one, behind the call
 abbrev pub behind_call : Regs → Regs
@@ -50,11 +77,19 @@ with_ac regs ac word = record regs { ac = slice_set regs.ac ac word }
 
 -- the call is done, and returns with these registers
 abbrev pub returning : {C : Type 0} → C → Regs → End C
-returning change regs = Done change (behind_call regs)
+returning change regs = Done change (behind_call regs) None None
+
+-- the same, and a channel is posted to the fork that called
+abbrev pub returning_posted : {C : Type 0} → C → Regs → ℕ → End C
+returning_posted change regs channel = Done change (behind_call regs) None (Some channel)
+
+-- the same, and a character is printed
+abbrev pub returning_printed : {C : Type 0} → C → Regs → ℕ → End C
+returning_printed change regs code = Done change (behind_call regs) (Some code) None
 
 -- the call, which has two returns, is done, and returns by the second with these registers
 abbrev pub returning_second : {C : Type 0} → C → Regs → End C
-returning_second change regs = Done change (record regs { pc = skip_pc regs })
+returning_second change regs = Done change (record regs { pc = skip_pc regs }) None None
 
 -- what follows from what was named, or the code of an error
 abbrev pub and_then : {A B : Type 0} → Result A ℕ → (A → Result B ℕ) → Result B ℕ
@@ -62,23 +97,28 @@ and_then (Ok a) next = next a
 and_then (Err code) next = Err code
 
 -- goes on with what was named, or is refused
-abbrev pub given : {A C : Type 0} → Result A ℕ → (A → Turn C) → Turn C
+abbrev pub given : {A F C : Type 0} → Result A ℕ → (A → Turn F C) → Turn F C
 given (Ok a) next = next a
 given (Err code) next = ends (Refused code)
 
 -- the turn of a call by its number, among calls with theirs; a number that is none of these traps
-abbrev pub numbered : {A C : Type 0} → List (ℕ × (A → Turn C)) → ℕ → A → Turn C
+abbrev pub numbered : {A F C : Type 0} → List (ℕ × (A → Turn F C)) → ℕ → A → Turn F C
 numbered [] number a = ends (Trap ILLEGAL_INSTRUCTION)
 numbered (row ∷ rows) number a = if row.0 == number then row.1 a else numbered rows number a
 
 -- whether a number is one of those of these calls
-abbrev pub is_among : {A C : Type 0} → List (ℕ × (A → Turn C)) → ℕ → Bool
+abbrev pub is_among : {A F C : Type 0} → List (ℕ × (A → Turn F C)) → ℕ → Bool
 is_among [] number = false
 is_among (row ∷ rows) number = (row.0 == number) || is_among rows number
 
 -- a turn refers to sixteen words of a fork from an address on, and goes on with them
-abbrev pub with_block : {C : Type 0} → ForkName → Regs → ℕ → Kind → (List ℕ → Turn C) → Turn C
+abbrev pub with_block : {F C : Type 0} → ForkName → Regs → ℕ → Kind → (List ℕ → Turn F C) → Turn F C
 with_block f regs a kind next = takes f regs (block_steps ACCUMULATORS a kind [] regs) (λ e. next e.regs.ac)
+
+-- for which spot one of a turn stands, if it stands for one
+abbrev pub spot_of : {F K : Type 0} → Sight F K → Spot F → Option (Spot K)
+spot_of sight (in_map s) = Some (in_map s)
+spot_of sight (in_file f) = option_map (λ k. in_file (record { file = k; page = f.page })) (sight.file_of f.file)
 
 module _ {K : Type 0} {file_cmp : K → K → Ordering} where
   -- what comes of steps of a fork: they go on with the pages that they leave, or trap; a monitor call among them is none
@@ -96,21 +136,23 @@ module _ {K : Type 0} {file_cmp : K → K → Ordering} where
   abbrev pub entry_of : PlainPages file_cmp → Slot → MapEntry
   entry_of p s = unwrap_or (entry_at p.maps s) Empty
 
-  -- how a turn ends that is told of these pages
-  unfoldable pub end_of : {C : Type 0} → PlainPages file_cmp → Turn C → End C
-  end_of p (sees s next) = end_of p (next (entry_of p s))
-  end_of p (finds s next) = end_of p (next (page_at p (in_map s)))
-  end_of p (takes f regs steps next) = stepped f (steps_on f regs steps p) (λ q e. end_of q (next e)) Trap
-  end_of p (adds f entries next) = let room = HasRoom (with_map p f entries) f.tty in end_of (with_added p f entries room) (next room)
-  end_of p (ends e) = e
+  -- what comes of a reference: a turn goes on with the pages that it leaves, told what it came to
+  abbrev pub touched : {A : Type 0} → PlainPages file_cmp → Referred file_cmp → (PlainPages file_cmp → Touched → A) → A
+  touched p (granted q) next = next q Granted
+  touched p (denied kind) next = next p Denied
+  touched p full next = next p Full
 
-  -- the pages with those that a turn makes until its end
-  unfoldable pub made_by : {C : Type 0} → Turn C → PlainPages file_cmp → PlainPages file_cmp
-  made_by (sees s next) p = made_by (next (entry_of p s)) p
-  made_by (finds s next) p = made_by (next (page_at p (in_map s))) p
-  made_by (takes f regs steps next) p = stepped f (steps_on f regs steps p) (λ q e. made_by (next e) q) (λ channel. p)
-  made_by (adds f entries next) p = let room = HasRoom (with_map p f entries) f.tty in made_by (next room) (with_added p f entries room)
-  made_by (ends e) p = p
+  -- how a turn comes out that is told of these pages
+  unfoldable pub turn_on : {F C : Type 0} → Sight F K → PlainPages file_cmp → Turn F C → Came file_cmp C
+  turn_on sight p (sees s next) = turn_on sight p (next (entry_of p s))
+  turn_on sight p (finds at next) = turn_on sight p (next (option_and_then (page_at p) (spot_of sight at)))
+  turn_on sight p (reads f offset next) = turn_on sight p (next (option_map_or (λ at. word_at p at offset) (spot_of sight (in_file f)) 0))
+  turn_on sight p (touches owner at kind next) = touched p (option_map_or (λ s. reference p s kind owner) (spot_of sight at) (denied kind)) (λ q what. turn_on sight q (next what))
+  turn_on sight p (takes f regs steps next) = stepped f (steps_on f regs steps p) (λ q e. turn_on sight q (next e)) (λ channel. record { end = Trap channel; pages = p })
+  turn_on sight p (adds f entries next) = let room = HasRoom (with_map p f entries) f.tty in turn_on sight (with_added p f entries room) (next room)
+  turn_on sight p (looks name next) = turn_on sight p (next (sight.is_name name))
+  turn_on sight p (makes name next) = turn_on sight p (next sight.has_more)
+  turn_on sight p (ends e) = record { end = e; pages = p }
 
 -- the last error of a fork
 abbrev pub with_error : Fork → ℕ → Fork
@@ -120,35 +162,31 @@ with_error f code = record f { body = record f.body { error = code } }
 abbrev pub failed_regs : Regs → ℕ → Regs
 failed_regs regs code = behind_call (with_ac regs 1 code)
 
+-- a fork with a channel posted, if one is
+abbrev pub posted_if : Fork → Option ℕ → Fork
+posted_if f None = f
+posted_if f (Some channel) = posted f channel
+
 -- the fork that called, behind a turn but for its count of units: a refused call leaves its error, and traps where it has one return;
 -- who waits stays on the call
 unfoldable pub fork_behind : {C : Type 0} → Fork → End C → Fork
-fork_behind f (Done change regs) = with_regs f regs
+fork_behind f (Done change regs out post) = posted_if (with_regs f regs) post
 fork_behind f (Waits on) = with_status f (Wait on)
 fork_behind f Halts = with_status (with_regs f (behind_call f.body.regs)) Halted
 fork_behind f (Failed code) = with_error (with_regs f (failed_regs f.body.regs code)) code
 fork_behind f (Refused code) = posted (with_error f code) ILLEGAL_INSTRUCTION
 fork_behind f (Trap channel) = posted f channel
 
--- the parts of a state that a turn changes, behind it: nothing changes unless the turn is done
-unfoldable pub parts_behind : {C V : Type 0} → (C → V → V) → V → End C → V
-parts_behind changed v (Done change regs) = changed change v
-parts_behind changed v (Waits on) = v
-parts_behind changed v Halts = v
-parts_behind changed v (Refused code) = v
-parts_behind changed v (Failed code) = v
-parts_behind changed v (Trap channel) = v
+-- what a turn prints
+abbrev pub out_of : {C : Type 0} → End C → Option ℕ
+out_of (Done change regs out post) = out
+out_of e = None
 
--- the parts of a state that calls of one family change
-pub record Lens (V : Type 0) : Type 0 where
-  pub seen : PlainState → V
-  pub with_seen : PlainState → V → PlainState
-
--- what is behind a turn: the state but for the fork that called, and that fork but for its count of units
-pub record Called : Type 0 where
-  pub state : PlainState
-  pub fork : Fork
-
--- a turn that ends so, in the whole state
-abbrev pub lifted : {C V : Type 0} → Lens V → (C → V → V) → PlainState → Fork → End C → Called
-lifted lens changed s f e = record { state = lens.with_seen s (parts_behind changed (lens.seen s) e); fork = fork_behind f e }
+-- what a turn leaves of what its call changes: as it was, unless the turn is done, and else its change, on what it made
+unfoldable pub parts_behind : {C V : Type 0} → (C → V → V) → V → V → End C → V
+parts_behind changed old made (Done change regs out post) = changed change made
+parts_behind changed old made (Waits on) = old
+parts_behind changed old made Halts = old
+parts_behind changed old made (Refused code) = old
+parts_behind changed old made (Failed code) = old
+parts_behind changed old made (Trap channel) = old

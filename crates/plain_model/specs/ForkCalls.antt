@@ -22,17 +22,16 @@ use Rattle.script_texts.specs.declared.status.ForkStatus.{ForkStatus}
 use Rattle.script_texts.specs.declared.status.ForkStatus.TheVariants.{Run, Wait, Halted, Forced}
 use Rattle.script_texts.specs.declared.status.WaitOn.TheVariants as on
 use Rattle.plain_pages.specs.PlainPages.{PlainPages}
-use Rattle.plain_model.specs.State.{PlainState}
-use Rattle.machine_names.specs.Orders.{name_cmp, same_fork}
 use Rattle.plain_pages.specs.References.{without_fork}
 use Rattle.plain_model.specs.Forks.{ForkMap, first_regs, with_status}
+use Rattle.machine_names.specs.Orders.{same_fork}
 use Rattle.plain_units.specs.Steps.{is_accumulator}
 use Rattle.plain_units.specs.Deeds.{flags_half, in_ac, pc_word}
 use Rattle.plain_model.specs.Handles.{named}
 use Rattle.plain_model.specs.Inferiors.{is_inferior, last_below}
-use Rattle.plain_model.specs.Trees.{PlainTree, tree_of, next_serial, next_name, free_slot, new_fork, with_made, with_changed_of, with_body, with_mark, waiters_woken, end_told}
+use Rattle.plain_model.specs.Trees.{PlainTree, next_serial, next_name, free_slot, new_fork, with_made, with_changed_of, with_body, with_mark, waiters_woken, end_told}
 use Rattle.plain_model.specs.AccessWords.{bit_word}
-use Rattle.plain_model.specs.Calls.{Turn, adds, ends, with_ac, and_then, returning, returning_second, given, numbered, with_block, end_of, made_by, Lens, lifted}
+use Rattle.plain_model.specs.Calls.{Turn, adds, ends, with_ac, and_then, returning, returning_second, given, numbered, with_block}
 use Rattle.plain_units.specs.Blocks.{next_address, stored_from}
 
 -- who calls, with which registers, among which forks
@@ -87,35 +86,35 @@ abbrev pub making : ForkAsked → ℕ → List ℕ → End ForkChange
 making a slot words = returning_second (Make (made_fork a slot words)) (with_ac a.regs 1 (FORK_SELF + slot))
 
 -- bit 3 of accumulator 1 has its accumulators read, with the new fork there; else they are 0
-abbrev pub with_accumulators : ForkAsked → (List ℕ → Turn ForkChange) → Turn ForkChange
+abbrev pub with_accumulators : ForkAsked → (List ℕ → Turn ⊥ ForkChange) → Turn ⊥ ForkChange
 with_accumulators a next =
     if bit (in_ac a.regs 1) 3 == 1 then with_block a.who a.regs (address_named a.regs) Read next else next (replicate ACCUMULATORS 0)
 
 -- a fork is made in a slot, where a serial is left for it and the drum has room
-abbrev pub making_in : ForkAsked → ℕ → Turn ForkChange
+abbrev pub making_in : ForkAsked → ℕ → Turn ⊥ ForkChange
 making_in a slot =
     if nat_lt LAST_SERIAL (next_serial a.tree a.who.tty) then ends (Failed SERIALS_OUT)
     else adds (next_name a.tree a.who.tty) (map_wanted a) (λ room.
     if room then with_accumulators a (λ words. ends (making a slot words)) else ends (Failed NO_ROOM))
 
 -- CFORK: an inferior of the caller is made, in the least free slot
-abbrev pub cfork : ForkAsked → Turn ForkChange
+abbrev pub cfork : ForkAsked → Turn ⊥ ForkChange
 cfork a = option_map_or (making_in a) (free_slot a.tree.forks a.who.tty) (ends (Failed FORKS_FULL))
 
 -- a call that changes an inferior, and no more
-abbrev pub of_inferior : ForkAsked → (Fork → ForkChange) → Turn ForkChange
+abbrev pub of_inferior : ForkAsked → (Fork → ForkChange) → Turn ⊥ ForkChange
 of_inferior a change = given (inferior_named a) (λ f. ends (returning (change f) a.regs))
 
 -- KFORK: an inferior is killed, and all below it
-abbrev pub kfork : ForkAsked → Turn ForkChange
+abbrev pub kfork : ForkAsked → Turn ⊥ ForkChange
 kfork a = of_inferior a (λ f. Kill f.name)
 
 -- FFORK: an inferior gets the freeze mark
-abbrev pub ffork : ForkAsked → Turn ForkChange
+abbrev pub ffork : ForkAsked → Turn ⊥ ForkChange
 ffork a = of_inferior a (λ f. Freeze f.name true)
 
 -- RFORK: an inferior loses it
-abbrev pub rfork : ForkAsked → Turn ForkChange
+abbrev pub rfork : ForkAsked → Turn ⊥ ForkChange
 rfork a = of_inferior a (λ f. Freeze f.name false)
 
 -- the code of a status
@@ -141,7 +140,7 @@ unfoldable pub place_word : ForkAsked → Fork → ℕ
 place_word a f = if same_fork f.name a.who then pc_word a.regs else joined (flags_half f.body.regs.flags) f.body.regs.pc
 
 -- RFSTS: accumulators 1 and 2 become the status and the PC word of the caller or an inferior
-abbrev pub rfsts : ForkAsked → Turn ForkChange
+abbrev pub rfsts : ForkAsked → Turn ⊥ ForkChange
 rfsts a = given (own_named a) (λ f. ends (returning Nothing (with_ac (with_ac a.regs 1 (status_word f)) 2 (place_word a f))))
 
 -- a fork that is started at an address: it has no flags, and no pending channel, level or sleep
@@ -154,14 +153,14 @@ started_at address body = record body {
 }
 
 -- SFORK: an inferior is started at the address in accumulator 2
-abbrev pub sfork : ForkAsked → Turn ForkChange
+abbrev pub sfork : ForkAsked → Turn ⊥ ForkChange
 sfork a = of_inferior a (λ f. Become f.name (started_at (address_named a.regs) f.body))
 
 abbrev pub with_accumulators_of : Body → List ℕ → Body
 with_accumulators_of body words = record body { regs = record body.regs { ac = words } }
 
 -- SFACS: an inferior's accumulators become the sixteen words that accumulator 2 names
-abbrev pub sfacs : ForkAsked → Turn ForkChange
+abbrev pub sfacs : ForkAsked → Turn ⊥ ForkChange
 sfacs a = given (inferior_named a) (λ f. with_block a.who a.regs (address_named a.regs) Read (λ words.
     ends (returning (Become f.name (with_accumulators_of f.body words)) a.regs)))
 
@@ -171,12 +170,12 @@ stored_low ac a [] = ac
 stored_low ac a (w ∷ ws) = stored_low (if is_accumulator a then slice_set ac a w else ac) (next_address a) ws
 
 -- RFACS: an inferior's accumulators are stored at the sixteen words that accumulator 2 names
-abbrev pub rfacs : ForkAsked → Turn ForkChange
+abbrev pub rfacs : ForkAsked → Turn ⊥ ForkChange
 rfacs a = given (inferior_named a) (λ f. let at = address_named a.regs in let words = f.body.regs.ac in
     with_block a.who a.regs at Write (λ old. ends (returning (Store a.who at words) (record a.regs { ac = stored_low a.regs.ac at words }))))
 
 -- HFORK: an inferior is halted
-abbrev pub hfork : ForkAsked → Turn ForkChange
+abbrev pub hfork : ForkAsked → Turn ⊥ ForkChange
 hfork a = of_inferior a (λ f. Halt f.name)
 
 -- a fork has ended where it is halted or was forced
@@ -190,15 +189,15 @@ abbrev pub waits_for : Regs → ForkStatus → End ForkChange
 waits_for regs status = if has_ended status then returning Nothing regs else Waits on.Fork
 
 -- WFORK: the caller waits until an inferior is halted or forced
-abbrev pub wfork : ForkAsked → Turn ForkChange
+abbrev pub wfork : ForkAsked → Turn ⊥ ForkChange
 wfork a = given (inferior_named a) (λ f. ends (waits_for a.regs f.body.status))
 
 -- HALTF: the caller halts
-abbrev pub haltf : ForkAsked → Turn ForkChange
+abbrev pub haltf : ForkAsked → Turn ⊥ ForkChange
 haltf a = ends Halts
 
 -- the fork calls by their numbers
-abbrev pub fork_calls : List (ℕ × (ForkAsked → Turn ForkChange))
+abbrev pub fork_calls : List (ℕ × (ForkAsked → Turn ⊥ ForkChange))
 fork_calls =
     (CFORK, cfork)
     ∷ (KFORK, kfork)
@@ -214,7 +213,7 @@ fork_calls =
     ∷ []
 
 -- a turn of a fork call by its number
-abbrev pub fork_call : ℕ → ForkAsked → Turn ForkChange
+abbrev pub fork_call : ℕ → ForkAsked → Turn ⊥ ForkChange
 fork_call number a = numbered fork_calls number a
 
 -- the forks and the pages: what the fork calls change
@@ -253,26 +252,3 @@ module _ {K : Type 0} {file_cmp : K → K → Ordering} where
   fork_changed (Become f body) v = record v { tree = with_changed_of v.tree f (with_body body) }
   fork_changed (Halt f) v = option_map_or (with_halted v) (map.get v.tree.forks f) v
   fork_changed (Store f at words) v = record v { pages = stored_from v.pages f at words }
-
-  -- the same, with the pages that the turn has made
-  abbrev pub fork_changed_by : Turn ForkChange → ForkChange → ForkParts file_cmp → ForkParts file_cmp
-  fork_changed_by turn change v = fork_changed change (record v { pages = made_by turn v.pages })
-
--- the parts of a state that fork calls change
-abbrev pub forks_seen : Lens (ForkParts name_cmp)
-forks_seen = record {
-  seen = λ s. record { tree = tree_of s; pages = s.pages };
-  with_seen = λ s v. record s { forks = v.tree.forks; fork_serials = v.tree.serials; pages = v.pages };
-}
-
--- the turn of a fork call, over a state
-abbrev pub fork_turn : PlainState → Fork → ℕ → Turn ForkChange
-fork_turn s f number = fork_call number (record { who = f.name; regs = f.body.regs; tree = tree_of s })
-
--- how it ends
-abbrev pub fork_end : PlainState → Fork → ℕ → End ForkChange
-fork_end s f number = end_of s.pages (fork_turn s f number)
-
--- the state behind it, but for the fork that called
-abbrev pub fork_called : PlainState → Fork → ℕ → PlainState
-fork_called s f number = (lifted forks_seen (fork_changed_by (fork_turn s f number)) s f (fork_end s f number)).state

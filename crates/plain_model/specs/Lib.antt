@@ -11,3 +11,5 @@ pub mod AccessWords
 pub mod Calls
 pub mod MapCalls
 pub mod ForkCalls
+pub mod Families
+pub mod Moves

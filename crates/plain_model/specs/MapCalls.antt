@@ -18,15 +18,14 @@ use Rattle.plain_pages.specs.declared.map.MapEntry.{MapEntry}
 use Rattle.plain_pages.specs.declared.map.MapEntry.TheVariants as entry
 use Rattle.plain_model.specs.declared.fork.Fork.{Fork}
 use Rattle.plain_units.specs.declared.registers.Regs.{Regs}
-use Rattle.plain_pages.specs.PlainPages.{PlainPages, NamedPages}
-use Rattle.plain_model.specs.State.{PlainState}
+use Rattle.plain_pages.specs.PlainPages.{PlainPages}
 use Rattle.plain_pages.specs.Maps.{entry_at, narrow}
-use Rattle.plain_pages.specs.References.{with_entry}
+use Rattle.plain_pages.specs.References.{in_map, with_entry}
 use Rattle.plain_model.specs.Forks.{ForkMap}
 use Rattle.plain_units.specs.Deeds.{in_ac}
 use Rattle.plain_model.specs.Handles.{named}
 use Rattle.plain_model.specs.AccessWords.{access_in, access_told}
-use Rattle.plain_model.specs.Calls.{Turn, sees, finds, ends, behind_call, with_ac, and_then, returning, given, numbered, end_of, Lens, Called, lifted}
+use Rattle.plain_model.specs.Calls.{Turn, sees, finds, ends, behind_call, with_ac, and_then, returning, given, numbered}
 
 -- who calls, with which registers, among which forks
 pub record Asked : Type 0 where
@@ -66,8 +65,8 @@ abbrev pub tells_access : Regs → MapEntry → Option PageName → End MapChang
 tells_access regs e page = returning Nothing (with_ac regs 2 (access_told e page))
 
 -- RPACS: the access is told of the page that accumulator 1 names
-abbrev pub rpacs : Asked → Turn MapChange
-rpacs a = given (place_named a) (λ slot. sees slot (λ e. finds slot (λ page. ends (tells_access a.regs e page))))
+abbrev pub rpacs : Asked → Turn ⊥ MapChange
+rpacs a = given (place_named a) (λ slot. sees slot (λ e. finds (in_map slot) (λ page. ends (tells_access a.regs e page))))
 
 -- there is nothing to narrow in an empty entry
 abbrev pub narrows : Slot → Access → Regs → MapEntry → End MapChange
@@ -75,7 +74,7 @@ narrows slot access regs entry.Empty = Refused NO_PAGE
 narrows slot access regs e = returning (Narrow slot access) regs
 
 -- SPACS: the page that accumulator 1 names keeps of its access what accumulator 2 has too, and gets the copy mark with it
-abbrev pub spacs : Asked → Turn MapChange
+abbrev pub spacs : Asked → Turn ⊥ MapChange
 spacs a = given (slot_named a) (λ slot. sees slot (λ e. ends (narrows slot (access_in (in_ac a.regs 2)) a.regs e)))
 
 -- a handle and a page for a fork that lives, and else all ones
@@ -89,8 +88,8 @@ source_of forks slot (entry.Follows serial page a) = handle_of (map.get forks (r
 source_of forks slot e = ALL_ONES
 
 -- RMAP: accumulator 1 becomes what the page follows that it names, and the access of that page is told
-abbrev pub rmap : Asked → Turn MapChange
-rmap a = given (slot_named a) (λ slot. sees slot (λ e. finds slot (λ page. ends (tells_access (with_ac a.regs 1 (source_of a.forks slot e)) e page))))
+abbrev pub rmap : Asked → Turn ⊥ MapChange
+rmap a = given (slot_named a) (λ slot. sees slot (λ e. finds (in_map slot) (λ page. ends (tells_access (with_ac a.regs 1 (source_of a.forks slot e)) e page))))
 
 -- PMAP goes over pages where bit 0 of accumulator 3 is 1: as many as its right half says
 abbrev pub is_counted : Regs → Bool
@@ -129,13 +128,13 @@ unfoldable pub one_page : Asked → Result MapChange ℕ
 one_page a = if in_ac a.regs 1 == ALL_ONES then unmapped a else mapped a
 
 -- PMAP: one page is mapped or taken out; where it counts pages and none is left, nothing is asked or done
-abbrev pub pmap : Asked → Turn MapChange
+abbrev pub pmap : Asked → Turn ⊥ MapChange
 pmap a =
     if is_counted a.regs && (pages_left a.regs == 0) then ends (returning Nothing a.regs)
-    else given (one_page a) (λ change. ends (Done change (behind_page a.regs)))
+    else given (one_page a) (λ change. ends (Done change (behind_page a.regs) None None))
 
 -- the calls on maps by their numbers
-abbrev pub map_calls : List (ℕ × (Asked → Turn MapChange))
+abbrev pub map_calls : List (ℕ × (Asked → Turn ⊥ MapChange))
 map_calls =
     (PMAP, pmap)
     ∷ (RPACS, rpacs)
@@ -144,7 +143,7 @@ map_calls =
     ∷ []
 
 -- a turn of a call on maps by its number
-abbrev pub map_call : ℕ → Asked → Turn MapChange
+abbrev pub map_call : ℕ → Asked → Turn ⊥ MapChange
 map_call number a = numbered map_calls number a
 
 module _ {K : Type 0} {file_cmp : K → K → Ordering} where
@@ -158,11 +157,3 @@ module _ {K : Type 0} {file_cmp : K → K → Ordering} where
   map_changed (Unmap slot) p = with_changed p slot (λ e. entry.Empty)
   map_changed (Follow slot other access) p = with_changed p slot (λ e. entry.Follows other.fork.serial other.page access)
   map_changed (Narrow slot access) p = with_changed p slot (narrow access)
-
--- the calls on maps change pages
-abbrev pub pages_seen : Lens NamedPages
-pages_seen = record { seen = λ s. s.pages; with_seen = λ s p. record s { pages = p } }
-
--- a turn of a call on maps
-abbrev pub map_called : PlainState → Fork → ℕ → Called
-map_called s f number = lifted pages_seen map_changed s f (end_of s.pages (map_call number (record { who = f.name; regs = f.body.regs; forks = s.forks })))

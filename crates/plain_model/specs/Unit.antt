@@ -1,10 +1,9 @@
 -- One unit of a fork: an instruction, or a trap (PDP-10 handbook, "Instruction format").
-use Rattle.std.specs.Prelude.{ℕ, ◌+◌, ◌%◌, ◌^◌, List, [], ◌∷◌, ◌++◌, map, codes, decimal, is_some, Option, None, Some, if◌then◌else◌, ◌==◌, slice_index}
+use Rattle.std.specs.Prelude.{ℕ, ◌+◌, ◌%◌, ◌^◌, List, [], ◌∷◌, ◌++◌, map, codes, decimal, is_some, Option, None, Some, if◌then◌else◌, ◌==◌}
 use Rattle.std.specs.Option.{option_map_or}
 use Rattle.std.specs.FinMap as map_of
 use Rattle.machine_names.specs.declared.names.Tty.{Tty}
 use Rattle.machine_names.specs.declared.names.ForkName.{ForkName}
-use Rattle.plain_model.specs.declared.call.TheConstants.{PBOUT}
 use Rattle.machine_names.specs.declared.character.TheConstants.{LINE_END, CARRIAGE_RETURN, LINE_FEED, PROMPT}
 use Rattle.plain_model.specs.declared.fork.TerminalMode.TheVariants.{Command}
 use Rattle.script_texts.specs.declared.status.ForkStatus.{ForkStatus}
@@ -16,13 +15,10 @@ use Rattle.script_texts.specs.declared.event.Item.TheVariants.{Char}
 use Rattle.plain_model.specs.State.{PlainState}
 use Rattle.plain_pages.specs.PlainPages.{NamedPages}
 use Rattle.plain_units.specs.Steps.{Planned, Ending, done, call, trap, need, stopped as unit_stopped, pages_left}
-use Rattle.plain_model.specs.declared.call.End.{End}
-use Rattle.plain_model.specs.declared.call.ForkChange.{ForkChange}
-use Rattle.plain_model.specs.Calls.{Called, fork_behind, is_among}
-use Rattle.plain_model.specs.MapCalls.{map_called}
-use Rattle.plain_model.specs.ForkCalls.{fork_calls, fork_called, fork_end}
+use Rattle.plain_model.specs.Calls.{posted_if}
+use Rattle.plain_model.specs.Families.{Parts, Turned, call_turned}
 use Rattle.plain_model.specs.Forks.{with_fork, with_regs, counted}
-use Rattle.plain_model.specs.Trees.{end_told}
+use Rattle.plain_model.specs.Trees.{end_told, tree_of}
 use Rattle.plain_model.specs.Interrupts.{posted}
 use Rattle.machine_names.specs.Orders.{name_cmp}
 use Rattle.plain_units.specs.Units.{unit_on}
@@ -54,55 +50,54 @@ stop_text status = []
 abbrev pub in_command_mode : PlainState → Tty → PlainState
 in_command_mode s t = option_map_or (λ j. record s { jobs = map_of.insert s.jobs t.0 (record j { mode = Command }) }) (map_of.get s.jobs t.0) s
 
--- the forks with one that has stopped with a unit: who waits for it runs again, and its superior is told
+-- the forks with one that has stopped: who waits for it runs again, and its superior is told
 abbrev pub with_stopped : PlainState → Fork → PlainState
-with_stopped s f = let t = with_fork s (counted f) in record t { forks = end_told t.forks (counted f) }
+with_stopped s f = let t = with_fork s f in record t { forks = end_told t.forks f }
 
--- a fork has stopped with a unit: where it is a top fork it prints, and its terminal is in command mode
+-- a fork has stopped: where it is a top fork it prints, and its terminal is in command mode
 abbrev pub stopped : PlainState → Fork → Effect
 stopped s f = let t = with_stopped s f in
     if is_some f.superior then record { state = t; items = [] }
     else record { state = in_command_mode t f.name.tty; items = printed f.name.tty (stop_text f.body.status) }
 
+-- a fork is put among the forks with this status, which is its own
+abbrev pub put_with : PlainState → Fork → ForkStatus → Effect
+put_with s f Halted = stopped s f
+put_with s f (Forced channel) = stopped s f
+put_with s f status = record { state = with_fork s f; items = [] }
+
 -- a fork is behind a unit that leaves it in this status, which is its own
 abbrev pub unit_ended : PlainState → Fork → ForkStatus → Effect
-unit_ended s f Halted = stopped s f
-unit_ended s f (Forced channel) = stopped s f
-unit_ended s f status = record { state = with_fork s (counted f); items = [] }
+unit_ended s f status = put_with s (counted f) status
 
 -- a trap changes nothing, leaves the program counter on the instruction, and posts its channel
 abbrev pub trapped : PlainState → Fork → ℕ → Effect
 trapped s f channel = unit_ended s (posted f channel) (posted f channel).body.status
 
--- PBOUT (JSYS Manual): prints the low 7 bits of accumulator 1
-abbrev pub pbout : PlainState → Fork → Effect
-pbout s f = record {
-  state = with_fork s (counted (with_regs f (advanced f.body.regs)));
-  items = printed f.name.tty (shown_code (slice_index f.body.regs.ac 1 % 128));
-}
+-- the parts of the state that calls see and change, and the state with others
+abbrev pub parts_of : PlainState → Parts name_cmp
+parts_of s = record { tree = tree_of s; pages = s.pages }
 
--- a turn is over of a call that changes parts of the state
-abbrev pub turned : Called → Effect
-turned c = unit_ended c.state c.fork c.fork.body.status
+abbrev pub with_parts : PlainState → Parts name_cmp → PlainState
+with_parts s v = record s { forks = v.tree.forks; fork_serials = v.tree.serials; pages = v.pages }
 
--- the fork that called is behind a turn that ends so
-abbrev pub caller_behind : PlainState → End ForkChange → Fork → Effect
-caller_behind s e f = turned (record { state = s; fork = fork_behind f e })
+-- the characters that a turn prints
+abbrev pub turn_printed : Tty → Option ℕ → List Item
+turn_printed t None = []
+turn_printed t (Some code) = printed t (shown_code code)
 
--- a turn of a fork call; the fork that called is as the turn leaves it
-abbrev pub fork_turned : PlainState → Fork → ℕ → Effect
-fork_turned s f number = let t = fork_called s f number in
-    option_map_or (caller_behind t (fork_end s f number)) (map_of.get t.forks f.name) (record { state = t; items = [] })
+-- the fork that called is behind its unit
+abbrev pub caller_ended : PlainState → Option Fork → Effect
+caller_ended s None = record { state = s; items = [] }
+caller_ended s (Some f) = unit_ended s f f.body.status
+
+-- a turn of a call is over: what it prints, and then what is shown where its fork has stopped
+abbrev pub turned : PlainState → Tty → Turned name_cmp → Effect
+turned s t r = let e = caller_ended (with_parts s r.parts) r.caller in record e { items = turn_printed t r.out ++ e.items }
 
 -- a turn of a monitor call; a number that is no call traps as an illegal instruction
 abbrev pub called : PlainState → Fork → ℕ → Effect
-called s f number =
-    if number == PBOUT then pbout s f else (if is_among fork_calls number then fork_turned s f number else turned (map_called s f number))
-
--- a fork with a channel posted, if one is
-abbrev pub posted_if : Fork → Option ℕ → Fork
-posted_if f None = f
-posted_if f (Some channel) = posted f channel
+called s f number = turned s f.name.tty (call_turned (parts_of s) f.name f.body.regs number)
 
 -- a unit has gone through: its fork has the registers that it leaves, and then the channel that it posts
 abbrev pub went : PlainState → Fork → NamedPages → Ending → Effect

@@ -93,8 +93,13 @@ pub const NO_PAGE: u32 = 0o600017;
 /// How a turn of a monitor call ends.
 #[derive(Clone, Copy)]
 pub enum End<C> {
-    /// The call's change is made, and its fork has these registers.
-    Done(C, Regs),
+    /// The call's change is made, and its fork has these registers; a character may be printed, and a channel posted to that fork.
+    Done {
+        change: C,
+        regs: Regs,
+        out: Option<u8>,
+        post: Option<u8>,
+    },
     /// The fork waits, and makes the call again when it goes on.
     Waits(WaitOn),
     /// The fork halts, behind the call.
@@ -105,6 +110,14 @@ pub enum End<C> {
     Failed(u32),
     /// The unit traps, with a channel.
     Trap(u8),
+}
+
+/// What a turn's reference comes to: the page is there, the access forbids it, or the drum is full.
+#[derive(Clone, Copy)]
+pub enum Touched {
+    Granted,
+    Denied,
+    Full,
 }
 
 /// What a turn of a call on maps changes.

@@ -1,9 +1,8 @@
 -- A change as the pages make it, and as the plain call has it.
-use Rattle.std.proofs.Common.{◌≡◌, ℕ, Option, None, Some, refl, sym, ap}
+use Rattle.std.proofs.Common.{◌≡◌, ℕ, Option, None, Some, Result, Ok, Err, refl, sym, ◌∙◌, ap}
 use Rattle.std.specs.Option.{option_map_or}
 use Rattle.plain_model.specs.declared.call.End.{End}
 use Rattle.plain_model.specs.declared.call.End.TheVariants.{Done, Waits, Halts, Refused, Failed, Trap}
-use Rattle.script_texts.specs.declared.status.WaitOn.{WaitOn}
 use Rattle.plain_model.specs.declared.call.MapChange.{MapChange}
 use Rattle.plain_model.specs.declared.call.MapChange.TheVariants.{Nothing, Unmap, Follow, Narrow}
 use Rattle.plain_units.specs.declared.registers.Regs.{Regs}
@@ -20,6 +19,8 @@ use Rattle.page_contracts.specs.Pages.{Scene, seen_of, map_away_or}
 use Rattle.plain_pages.specs.NewEntries.{changed, entry_to}
 use Rattle.plain_model.specs.Calls.{parts_behind}
 use Rattle.plain_model.specs.MapCalls.{map_changed}
+use Rattle.page_contracts.specs.declared.answers.Need.{Need}
+use Rattle.pmap_calls.specs.Making.{IsMade, change_need}
 
 module _ (p : NumberedPages) where
   -- where no fork is there is no entry to be set
@@ -48,26 +49,22 @@ module _ (p : NumberedPages) where
   unfolding map_changed changed
   narrows what s a is = sym (ap (λ w. map_changed w p) is)
 
-  pub behind_done : (e : End MapChange) (what : MapChange) (regs : Regs) → e ≡ Done what regs → map_changed what p ≡ parts_behind map_changed p e
+  pub behind_done : (e : End MapChange) (what : MapChange) (regs : Regs) (out post : Option ℕ) → e ≡ Done what regs out post → map_changed what p ≡ parts_behind map_changed p p e
   unfolding parts_behind
-  behind_done e what regs is = sym (ap (parts_behind map_changed p) is)
+  behind_done e what regs out post is = sym (ap (parts_behind map_changed p p) is)
 
-  pub behind_waits : (e : End MapChange) (on : WaitOn) → e ≡ Waits on → p ≡ parts_behind map_changed p e
+  -- a turn that is not done leaves the pages
+  pub behind_other : (e : End MapChange) → ((what : MapChange) (regs : Regs) (out post : Option ℕ) → e ≡ Done what regs out post → ⊥) → p ≡ parts_behind map_changed p p e
   unfolding parts_behind
-  behind_waits e on is = sym (ap (parts_behind map_changed p) is)
+  behind_other (Done what regs out post) other = absurd (other what regs out post refl)
+  behind_other (Waits on) other = refl
+  behind_other Halts other = refl
+  behind_other (Refused code) other = refl
+  behind_other (Failed code) other = refl
+  behind_other (Trap channel) other = refl
 
-  pub behind_halts : (e : End MapChange) → e ≡ Halts → p ≡ parts_behind map_changed p e
-  unfolding parts_behind
-  behind_halts e is = sym (ap (parts_behind map_changed p) is)
-
-  pub behind_failed : (e : End MapChange) (code : ℕ) → e ≡ Failed code → p ≡ parts_behind map_changed p e
-  unfolding parts_behind
-  behind_failed e code is = sym (ap (parts_behind map_changed p) is)
-
-  pub behind_refused : (e : End MapChange) (code : ℕ) → e ≡ Refused code → p ≡ parts_behind map_changed p e
-  unfolding parts_behind
-  behind_refused e code is = sym (ap (parts_behind map_changed p) is)
-
-  pub behind_trap : (e : End MapChange) (channel : ℕ) → e ≡ Trap channel → p ≡ parts_behind map_changed p e
-  unfolding parts_behind
-  behind_trap e channel is = sym (ap (parts_behind map_changed p) is)
+-- a change is made as it is asked for
+pub made_so : {A : Type 0} (scene : Scene) (p q : NumberedPages) (r : Result A Need) (what as_is : MapChange) (whole : NumberedPages) → what ≡ as_is → whole ≡ map_changed what p → IsMade p q r (change_need scene p as_is) whole
+    → IsMade p q r (change_need scene p what) (map_changed what p)
+made_so scene p q (Ok done) what as_is whole is same made = made ∙ same
+made_so scene p q (Err n) what as_is whole is same made = (made.0, ap (change_need scene p) is ∙ made.1)

@@ -82,9 +82,9 @@ module _ (p : NumberedPages) (w : AreWhole p) (s : Slot) (there : HasEntry p s) 
   pub is_unmapped : entry_at (map_changed (Unmap s) p).maps s ≡ Some Empty
   is_unmapped = ap (λ (r : NumberedPages). entry_at r.maps s) unmap_is ∙ set_there Empty
 
-pub refused_pages : (p : NumberedPages) (code : ℕ) → parts_behind map_changed p (refusal code) ≡ p
+pub refused_pages : (p q : NumberedPages) (code : ℕ) → parts_behind map_changed p q (refusal code) ≡ p
 unfolding parts_behind
-refused_pages p code = refl
+refused_pages p q code = refl
 
 pub refused_fork : (f : Fork) (code : ℕ) → LeavesErrorAlone f code (fork_behind f (refusal code))
 unfolding fork_behind

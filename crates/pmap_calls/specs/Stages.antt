@@ -3,7 +3,6 @@ use Rattle.std.specs.Prelude.{◌<◌, ℕ}
 use Rattle.machine_names.specs.declared.names.TheConstants.{SPACE_PAGES}
 use Rattle.plain_model.specs.declared.call.MapChange.{MapChange}
 use Rattle.plain_model.specs.declared.call.MapChange.TheVariants.{Nothing, Unmap, Follow, Narrow as Narrowed}
-use Rattle.plain_units.specs.declared.registers.Regs.{Regs}
 use Rattle.plain_model.specs.Calls.{Turn, with_ac}
 use Rattle.plain_model.specs.MapCalls.{narrows, source_of, tells_access}
 use Rattle.plain_model.specs.Trees.{PlainTree}
@@ -27,7 +26,7 @@ abbrev pub most_asks : ℕ
 most_asks = 2
 
 -- the whole turn of a first step
-abbrev pub whole : PlainTree → Step MapChange Stage → Turn MapChange
+abbrev pub whole : PlainTree → Step MapChange Stage → Turn ⊥ MapChange
 whole tree step = turn_of (later tree) step most_asks
 
 abbrev pub IsStage : Stage → Type 0

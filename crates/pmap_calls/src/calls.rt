@@ -63,7 +63,12 @@ pub fn pmap(regs: &Regs, who: ForkName, tree: &Tree) -> Turn<MapChange, Stage>
         return Turn::Ends(returning(MapChange::Nothing, *regs));
     }
     match one_page(regs, who, tree) {
-        Ok(change) => Turn::Ends(End::Done(change, behind_page(*regs))),
+        Ok(change) => Turn::Ends(End::Done {
+            change,
+            regs: behind_page(*regs),
+            out: None,
+            post: None,
+        }),
         Err(code) => Turn::Ends(End::Refused(code)),
     }
 }

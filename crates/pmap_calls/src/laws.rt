@@ -37,7 +37,7 @@ pub fn mapped_pages_read_their_source()
 /// A call that is refused leaves the pages as they were, and of its fork its registers: the code of the error is
 /// its last error.
 pub fn refusals_leave_an_error_alone()
-    ensures pages { (p : NumberedPages) (code : ℕ) → parts_behind map_changed p (refusal code) ≡ p }
+    ensures pages { (p q : NumberedPages) (code : ℕ) → parts_behind map_changed p q (refusal code) ≡ p }
     ensures fork { (f : AFork) (code : ℕ) → LeavesErrorAlone f code (fork_behind f (refusal code)) }
 {}
 

@@ -1,6 +1,7 @@
 // The calls on maps by their numbers.
 ghost use Rattle.std.specs.Prelude.{◌≡◌};
-ghost use Rattle.plain_model.specs.MapCalls.{map_call};
+ghost use Rattle.plain_model.specs.Calls.{is_among};
+ghost use Rattle.plain_model.specs.MapCalls.{map_call, map_calls};
 ghost use Rattle.call_turns.specs.Turns.{IsRegs, FitsTurn};
 ghost use Rattle.pmap_calls.specs.Stages.{IsMapChange, IsStage, whole};
 
@@ -25,5 +26,15 @@ pub fn first(number: u32, regs: &Regs, who: ForkName, tree: &Tree) -> Turn<MapCh
         SPACS => spacs(regs, who, tree),
         RMAP => rmap(regs, who, tree),
         _ => Turn::Ends(End::Trap(ILLEGAL_INSTRUCTION)),
+    }
+}
+
+/// Whether a number is that of a call on maps.
+pub fn is_map_call(number: u32) -> bool
+    ensures { result ≡ is_among map_calls number }
+{
+    match number {
+        PMAP | RPACS | SPACS | RMAP => true,
+        _ => false,
     }
 }

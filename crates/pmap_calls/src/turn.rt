@@ -1,12 +1,12 @@
 // One turn of a call on maps.
 ghost use Rattle.std.specs.Prelude.{◌≡◌, ◌<◌, true, IsOk};
 ghost use Rattle.machine_names.specs.declared.names.TheConstants.{SPACE_PAGES};
-ghost use Rattle.plain_model.specs.Calls.{end_of};
 ghost use Rattle.plain_model.specs.MapCalls.{map_call, map_changed};
 ghost use Rattle.plain_pages.specs.NewEntries.{IsNewEntry, changed};
 ghost use Rattle.call_turns.specs.Answers.{FitsAnswer, IsDone};
+ghost use Rattle.call_turns.specs.Telling.{entry_need};
 ghost use Rattle.call_turns.specs.Turns.{IsRegs, FitsEnd};
-ghost use Rattle.pmap_calls.specs.Making.{Makes, MakesNone, Turns};
+ghost use Rattle.pmap_calls.specs.Making.{Ends, Makes, MakesNone, Turns, change_need};
 ghost use Rattle.pmap_calls.specs.Stages.{IsMapChange};
 
 use crate::table::first;
@@ -25,7 +25,7 @@ const MOST_ASKS: u32 = 2;
 fn set<P: Pages>(pages: &mut P, slot: Slot, new: NewEntry) -> Result<(), Need>
     requires page { slot.page < SPACE_PAGES }
     requires new { IsNewEntry new }
-    ensures told { Makes P.means pages.old pages.new result (λ p. changed p slot new) }
+    ensures told { Makes P.means pages.old pages.new result (λ scene p. entry_need scene p slot) (λ p. changed p slot new) }
     ensures core { P.means.flat ≡ true → IsOk result }
     ensures none { MakesNone P.means pages.old pages.new }
 {
@@ -42,7 +42,7 @@ fn set<P: Pages>(pages: &mut P, slot: Slot, new: NewEntry) -> Result<(), Need>
 // Makes a change.
 fn change<P: Pages>(pages: &mut P, what: MapChange) -> Result<(), Need>
     requires { IsMapChange what }
-    ensures told { Makes P.means pages.old pages.new result (map_changed what) }
+    ensures told { Makes P.means pages.old pages.new result (λ scene p. change_need scene p what) (map_changed what) }
     ensures core { P.means.flat ≡ true → IsOk result }
     ensures none { MakesNone P.means pages.old pages.new }
 {
@@ -61,31 +61,27 @@ fn change<P: Pages>(pages: &mut P, what: MapChange) -> Result<(), Need>
 // Ends a turn: its change is made, if it has one.
 fn end<P: Pages>(end: End<MapChange>, pages: &mut P) -> Answer
     requires { FitsEnd IsMapChange end }
-    ensures told { Turns P.means pages.old pages.new result (λ p. end) }
+    ensures told { Ends P.means pages.old pages.new result end }
     ensures core { P.means.flat ≡ true → IsDone result }
     ensures fits { FitsAnswer result }
     ensures none { MakesNone P.means pages.old pages.new }
 {
-    match end {
-        End::Done(what, _) => match change(pages, what) {
+    match &end {
+        End::Done { change: what, .. } => match change(pages, *what) {
             Ok(()) => answer_of(end),
             Err(need) => Answer::Need(need),
         },
-        End::Waits(_) => answer_of(end),
-        End::Halts => answer_of(end),
-        End::Refused(_) => answer_of(end),
-        End::Failed(_) => answer_of(end),
-        End::Trap(_) => answer_of(end),
+        _ => answer_of(end),
     }
 }
 
 /// One turn of a call on maps, by its number (JSYS Manual): its answer is that of the plain call, and so are the
-/// pages that it leaves. It asks first and changes then: it needs something first only where a map stands in no
-/// frame, and leaves all as it was. It makes no page. A number that is no call on maps traps as an illegal
+/// pages that it leaves. It asks first and changes then: what it needs first is the map that the first of its steps
+/// needs which is in no frame, and then it leaves all as it was. It makes no page. A number that is no call on maps traps as an illegal
 /// instruction.
 pub fn call<P: Pages>(number: u32, regs: &Regs, who: ForkName, tree: &Tree, pages: &mut P) -> Answer
     requires { IsRegs regs.now }
-    ensures told { Turns P.means pages.old pages.new result (λ p. end_of p (map_call number (record { who = who; regs = regs.now; forks = tree.now.forks }))) }
+    ensures told { Turns P.means pages.old pages.new result (map_call number (record { who = who; regs = regs.now; forks = tree.now.forks })) }
     ensures core { P.means.flat ≡ true → IsDone result }
     ensures fits { FitsAnswer result }
     ensures none { MakesNone P.means pages.old pages.new }

@@ -1,10 +1,28 @@
 use Rattle.std.proofs.Common.{◌∙◌, sym, ap}
-use Rattle.call_turns.specs.declared.turn.Reply.TheVariants.{Page}
-use Rattle.call_turns.specs.Telling.{told_of}
-use Rattle.call_turns.proofs.Looks.{page_found}
+use Rattle.call_turns.specs.Telling.{ask_need, told, told_of}
+use Rattle.call_turns.proofs.Looks.{entry_needed, entry_told, page_needed, page_told}
 use Rattle.call_turns.proofs.asking.ask.Goals as goal
+
+pub returns-in-Ok-clause-told : goal.returns-in-Ok-clause-told
+returns-in-Ok-clause-told g c d f =
+    let p = g.P.Pages.means.plain c.args.pages.now d in
+    let scene = g.P.Pages.means.scene c.args.pages.now in
+    entry_told p scene c.in-Sees.slot c.in-Ok.entry (c.in-Ok.ensures.told d f) ∙ sym (ap (λ x. told (ask_need scene p x) (told_of p x)) c.in-Sees.is)
+
+pub returns-in-Err-clause-told : goal.returns-in-Err-clause-told
+returns-in-Err-clause-told g c d f =
+    let p = g.P.Pages.means.plain c.args.pages.now d in
+    let scene = g.P.Pages.means.scene c.args.pages.now in
+    entry_needed p scene c.in-Sees.slot c.in-Err.need (c.in-Err.ensures.told d f) ∙ sym (ap (λ x. told (ask_need scene p x) (told_of p x)) c.in-Sees.is)
 
 pub returns-in-Ok-page_within-clause-told : goal.returns-in-Ok-page_within-clause-told
 returns-in-Ok-page_within-clause-told g c d f =
     let p = g.P.Pages.means.plain c.args.pages.now d in
-    ap Page (c.in-Ok-page_within.ensures.told d f ∙ page_found p c.in-Finds.slot) ∙ sym (ap (told_of p) c.in-Finds.is)
+    let scene = g.P.Pages.means.scene c.args.pages.now in
+    page_told p scene c.in-Finds.slot c.in-Ok-page_within.page (c.in-Ok-page_within.ensures.told d f) ∙ sym (ap (λ x. told (ask_need scene p x) (told_of p x)) c.in-Finds.is)
+
+pub returns-in-Err-page_within-clause-told : goal.returns-in-Err-page_within-clause-told
+returns-in-Err-page_within-clause-told g c d f =
+    let p = g.P.Pages.means.plain c.args.pages.now d in
+    let scene = g.P.Pages.means.scene c.args.pages.now in
+    page_needed p scene c.in-Finds.slot c.in-Err-page_within.need (c.in-Err-page_within.ensures.told d f) ∙ sym (ap (λ x. told (ask_need scene p x) (told_of p x)) c.in-Finds.is)

@@ -19,4 +19,4 @@ pub returns-in-Missing-clause-told : goal.returns-in-Missing-clause-told
 returns-in-Missing-clause-told g c d f = missing_entry (g.P.Pages.means.plain c.args.pages.now d) (g.P.Pages.means.scene c.args.pages.now) c.args.slot (c.in-Missing.ensures.told d f)
 
 pub returns-in-Absent-clause-told : goal.returns-in-Absent-clause-told
-returns-in-Absent-clause-told g c d f = (c.args.slot.fork, absent_map (g.P.Pages.means.plain c.args.pages.now d) (g.P.Pages.means.scene c.args.pages.now) c.args.slot c.in-Absent.home (c.in-Absent.ensures.told d f))
+returns-in-Absent-clause-told g c d f = absent_map (g.P.Pages.means.plain c.args.pages.now d) (g.P.Pages.means.scene c.args.pages.now) c.args.slot c.in-Absent.home (c.in-Absent.ensures.told d f)

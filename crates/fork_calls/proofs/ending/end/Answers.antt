@@ -1,4 +1,5 @@
-use Rattle.std.proofs.Common.{refl, inl}
+use Rattle.std.proofs.Common.{refl, inl, ◌∙◌, ap}
+use Rattle.call_turns.specs.Answers.{answer_of}
 use Rattle.fork_calls.specs.Turning.{parts}
 use Rattle.fork_calls.proofs.Going.{ends_done, ends_so}
 use Rattle.fork_calls.proofs.ending.end.Goals as goal
@@ -7,29 +8,9 @@ pub returns-in-Ok-clause-told : goal.returns-in-Ok-clause-told
 returns-in-Ok-clause-told g c regs d fits =
     let t = c.in-Ok.ensures.told d fits in
     let v = parts c.args.tree.now (g.P.Pages.means.plain c.args.pages.now d) in
-    (t.0, inl (ends_done v _ c.returned.result c.args.ending c.in-Done.what c.in-Done.regs c.in-Done.is t.1 (c.returned.ensures.answer c.in-Done.what)))
+    (t.0, inl (ends_done v _ c.answer_of.result c.args.ending c.in-Done.what _ _ _ c.in-Done.is t.1 (c.answer_of.ensures ∙ ap answer_of c.in-Done.is)))
 
-pub returns-in-Waits-clause-told : goal.returns-in-Waits-clause-told
-returns-in-Waits-clause-told g c regs d fits =
+pub returns-in_default-clause-told : goal.returns-in_default-clause-told
+returns-in_default-clause-told g c regs d fits =
     let v = parts c.args.tree.now (g.P.Pages.means.plain c.args.pages.now d) in
-    (fits, inl (ends_so v v c.answer_of.result c.args.ending (λ what after h. (let other = c.in-Waits.is in cc (other, h))) c.answer_of.ensures refl))
-
-pub returns-in-Halts-clause-told : goal.returns-in-Halts-clause-told
-returns-in-Halts-clause-told g c regs d fits =
-    let v = parts c.args.tree.now (g.P.Pages.means.plain c.args.pages.now d) in
-    (fits, inl (ends_so v v c.answer_of-in-Halts.result c.args.ending (λ what after h. (let other = c.in-Halts.is in cc (other, h))) c.answer_of-in-Halts.ensures refl))
-
-pub returns-in-Refused-clause-told : goal.returns-in-Refused-clause-told
-returns-in-Refused-clause-told g c regs d fits =
-    let v = parts c.args.tree.now (g.P.Pages.means.plain c.args.pages.now d) in
-    (fits, inl (ends_so v v c.answer_of-in-Refused.result c.args.ending (λ what after h. (let other = c.in-Refused.is in cc (other, h))) c.answer_of-in-Refused.ensures refl))
-
-pub returns-in-Failed-clause-told : goal.returns-in-Failed-clause-told
-returns-in-Failed-clause-told g c regs d fits =
-    let v = parts c.args.tree.now (g.P.Pages.means.plain c.args.pages.now d) in
-    (fits, inl (ends_so v v c.answer_of-in-Failed.result c.args.ending (λ what after h. (let other = c.in-Failed.is in cc (other, h))) c.answer_of-in-Failed.ensures refl))
-
-pub returns-in-Trap-clause-told : goal.returns-in-Trap-clause-told
-returns-in-Trap-clause-told g c regs d fits =
-    let v = parts c.args.tree.now (g.P.Pages.means.plain c.args.pages.now d) in
-    (fits, inl (ends_so v v c.answer_of-in-Trap.result c.args.ending (λ what after h. (let other = c.in-Trap.is in cc (other, h))) c.answer_of-in-Trap.ensures refl))
+    (fits, inl (ends_so v v c.answer_of-in_default.result c.args.ending c.in_default.not-Done c.answer_of-in_default.ensures refl))

@@ -76,7 +76,7 @@ returns-in-Full-clause-told g c d fits =
     let dead = unborn means pages tree c.are_trees.ensures c.requires.holds c.args.who.tty in
     let none : HasRoom (with_map p name (map_wanted a)) c.args.who.tty ≡ false =
     room_told means pages p (g.met.P.Pages.agrees pages d fits) (g.met.P.Pages.whole pages d fits) name (map_wanted a) dead ∙ no_room (means.count pages) (means.most pages) (means.scene pages).free_frames c.in-Full.ensures.answer in
-    (fits, inl (stops (parts tree p) (parts tree p) _ (made_where a c.args.slot) (Failed NO_ROOM) (made_full a c.args.slot p none) (λ what regs h. cc h) refl refl))
+    (fits, inl (stops (parts tree p) (parts tree p) _ (made_where a c.args.slot) (Failed NO_ROOM) (made_full a c.args.slot p none) (λ what regs out post h. cc h) refl refl))
 
 pub returns-in-NeedFrame-clause-told : goal.returns-in-NeedFrame-clause-told
 returns-in-NeedFrame-clause-told g c d fits =
@@ -138,8 +138,8 @@ returns-in-Ok-clause-told g c d fits =
     let f = made_fork a c.args.slot c.in-Ok.words in
     let change : ForkChange = Make f in (
       words.0,
-      inl (goes (parts tree p) (parts c.grow.new.tree q) c.returned.result (made_where a c.args.slot) change (second_regs c.args.regs.now c.args.slot) q made.0 made.1
-          (make_changes tree c.grow.new.tree f p q (c.grow.ensures.told c.args.slot c.requires.slot)) (c.returned.ensures.answer change ∙ ap (λ (r : Regs). answer_of (Done change r)) c.with_handle.ensures.regs)),
+      inl (goes (parts tree p) (parts c.grow.new.tree q) c.returned.result (made_where a c.args.slot) change (second_regs c.args.regs.now c.args.slot) q made
+          (make_changes tree c.grow.new.tree f p q (c.grow.ensures.told c.args.slot c.requires.slot)) (c.returned.ensures.answer change ∙ ap (λ (r : Regs). answer_of (Done change r None None)) c.with_handle.ensures.regs)),
     )
 
 pub returns-in-Full-clause-leaves : goal.returns-in-Full-clause-leaves

@@ -1,4 +1,4 @@
-use Rattle.std.proofs.Common.{ℕ, refl, ◌∙◌, ap, subst, inl}
+use Rattle.std.proofs.Common.{ℕ, None, refl, ◌∙◌, ap, subst, inl}
 use Rattle.std.specs.Prelude.{Err}
 use Rattle.plain_model.specs.declared.call.End.TheVariants.{Done}
 use Rattle.plain_model.specs.declared.call.ForkChange.TheVariants.{Become}
@@ -46,7 +46,7 @@ returns-in-Ok-clause-told g c d fits =
       t.0,
       inl (block_goes (parts c.args.tree.now p) (parts c.set_body.new.tree q) c.returned.result c.args.who c.args.regs.now (address_named c.args.regs.now) Read q words on (λ ws. set_end a c.args.fork ws) _ _ refl
           (c.set_body.ensures.told q)
-          (c.returned.ensures.answer (Become c.args.fork.name (with_accumulators_of c.args.fork.body words)) ∙ ap (λ (r : Regs). answer_of (Done (Become c.args.fork.name (with_accumulators_of c.args.fork.body words)) r)) c.behind.ensures.behind)),
+          (c.returned.ensures.answer (Become c.args.fork.name (with_accumulators_of c.args.fork.body words)) ∙ ap (λ (r : Regs). answer_of (Done (Become c.args.fork.name (with_accumulators_of c.args.fork.body words)) r None None)) c.behind.ensures.behind)),
     )
 
 pub returns-in-Err-clause-leaves : goal.returns-in-Err-clause-leaves

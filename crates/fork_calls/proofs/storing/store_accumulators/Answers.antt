@@ -1,4 +1,4 @@
-use Rattle.std.proofs.Common.{◌≡◌, ℕ, List, refl, ◌∙◌, ap, subst, inl}
+use Rattle.std.proofs.Common.{◌≡◌, ℕ, List, None, refl, ◌∙◌, ap, subst, inl}
 use Rattle.std.specs.Prelude.{Err}
 use Rattle.plain_model.specs.declared.call.End.TheVariants.{Done}
 use Rattle.plain_model.specs.declared.call.ForkChange.{ForkChange}
@@ -54,7 +54,7 @@ returns-in-Ok-clause-told g c d fits =
       c.store_block.ensures.fits d t.0,
       inl (block_goes (parts c.args.tree.now p) (parts c.args.tree.now (means.plain c.store_block.new.pages d)) c.returned.result c.args.who c.args.regs.now (address_named c.args.regs.now) Write q words on (λ old. store_end a c.args.fork) change _ refl
           (words_stored c.args.tree.now q (means.plain c.store_block.new.pages d) c.args.who (address_named c.args.regs.now) stored put p)
-          (c.returned.ensures.answer change ∙ ap (λ (r : Regs). answer_of (Done change r)) (c.behind.ensures.behind ∙ ap (λ (ac : List ℕ). behind_call (record c.args.regs.now { ac = ac })) low))),
+          (c.returned.ensures.answer change ∙ ap (λ (r : Regs). answer_of (Done change r None None)) (c.behind.ensures.behind ∙ ap (λ (ac : List ℕ). behind_call (record c.args.regs.now { ac = ac })) low))),
     )
 
 pub returns-in-Err-clause-leaves : goal.returns-in-Err-clause-leaves

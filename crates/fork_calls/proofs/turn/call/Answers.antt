@@ -1,12 +1,11 @@
 use Rattle.std.proofs.Common.{◌≡◌, sym, ◌∙◌, ap, subst, arith}
-use Rattle.plain_model.specs.Calls.{Turn, end_of}
+use Rattle.plain_model.specs.Calls.{Turn}
 use Rattle.plain_model.specs.declared.call.ForkChange.{ForkChange}
 use Rattle.plain_model.specs.ForkCalls.{fork_call}
 use Rattle.fork_calls.specs.Asking.{asked}
-use Rattle.fork_calls.specs.Steps.{IsEndOf, whole}
+use Rattle.fork_calls.specs.Steps.{whole}
 use Rattle.fork_calls.specs.declared.step.Step.TheVariants.{Ends}
 use Rattle.fork_calls.specs.Turning.{Turned}
-use Rattle.fork_calls.proofs.Returning.{step_returns}
 use Rattle.fork_calls.proofs.Holdings.{caller_serves, caller_terminal}
 use Rattle.fork_calls.proofs.turn.call.Goals as goal
 
@@ -26,27 +25,7 @@ pub returns-in-Ends-clause-told : goal.returns-in-Ends-clause-told
 returns-in-Ends-clause-told g c =
     let a = asked c.args.who c.args.regs.now c.args.tree.now in
     let turn : whole a (Ends c.in-Ends.ending) ≡ fork_call c.args.number a = ap (whole a) (sym c.in-Ends.is) ∙ c.first.ensures.turn in
-    subst (λ (t : Turn ForkChange). Turned g.P.Pages.means c.args.pages.now c.end.new.pages c.args.tree.now c.end.new.tree c.end.result t) turn (c.end.ensures.told c.args.regs.now)
-
-pub returns-in-Ends-clause-returns : goal.returns-in-Ends-clause-returns
-returns-in-Ends-clause-returns g c p =
-    let a = asked c.args.who c.args.regs.now c.args.tree.now in
-    subst (λ (t : Turn ForkChange). IsEndOf c.args.number (end_of p t)) c.first.ensures.turn (step_returns c.args.number a c.first.result c.first.ensures.returns p)
-
-pub returns-in-Makes-clause-returns : goal.returns-in-Makes-clause-returns
-returns-in-Makes-clause-returns g c p =
-    let a = asked c.args.who c.args.regs.now c.args.tree.now in
-    subst (λ (t : Turn ForkChange). IsEndOf c.args.number (end_of p t)) c.first.ensures.turn (step_returns c.args.number a c.first.result c.first.ensures.returns p)
-
-pub returns-in-Sets-clause-returns : goal.returns-in-Sets-clause-returns
-returns-in-Sets-clause-returns g c p =
-    let a = asked c.args.who c.args.regs.now c.args.tree.now in
-    subst (λ (t : Turn ForkChange). IsEndOf c.args.number (end_of p t)) c.first.ensures.turn (step_returns c.args.number a c.first.result c.first.ensures.returns p)
-
-pub returns-in-Stores-clause-returns : goal.returns-in-Stores-clause-returns
-returns-in-Stores-clause-returns g c p =
-    let a = asked c.args.who c.args.regs.now c.args.tree.now in
-    subst (λ (t : Turn ForkChange). IsEndOf c.args.number (end_of p t)) c.first.ensures.turn (step_returns c.args.number a c.first.result c.first.ensures.returns p)
+    subst (λ (t : Turn ⊥ ForkChange). Turned g.P.Pages.means c.args.pages.now c.end.new.pages c.args.tree.now c.end.new.tree c.end.result t) turn (c.end.ensures.told c.args.regs.now)
 
 -- no page was made, and so fewer than may be
 pub returns-in-Ends-clause-leaves : goal.returns-in-Ends-clause-leaves

@@ -1,5 +1,8 @@
 use Rattle.std.proofs.Common.{refl}
-use Rattle.call_turns.proofs.Looks.{absent_map}
+use Rattle.call_turns.proofs.Looks.{absent_map, needed_is}
+use Rattle.page_contracts.specs.declared.answers.Need.TheVariants as need
+use Rattle.plain_model.specs.Calls.{entry_of}
+use Rattle.call_turns.specs.Telling.{entry_need}
 use Rattle.pmap_calls.proofs.Changes.{missing_stays}
 use Rattle.pmap_calls.proofs.turn.set.Goals as goal
 
@@ -8,4 +11,6 @@ returns-in-Missing-clause-told g c d f = (f, missing_stays (g.P.Pages.means.plai
 
 pub returns-in-Absent-clause-told : goal.returns-in-Absent-clause-told
 returns-in-Absent-clause-told g c d f =
-    (f, (refl, (c.args.slot.fork, absent_map (g.P.Pages.means.plain c.args.pages.now d) (g.P.Pages.means.scene c.args.pages.now) c.args.slot c.in-Absent.home (c.in-Absent.ensures.told d f))))
+    let p = g.P.Pages.means.plain c.args.pages.now d in
+    let scene = g.P.Pages.means.scene c.args.pages.now in
+    (f, (refl, needed_is (entry_need scene p c.args.slot) (entry_of p c.args.slot) (need.Page c.in-Absent.home) (absent_map p scene c.args.slot c.in-Absent.home (c.in-Absent.ensures.told d f))))

@@ -1,0 +1,187 @@
+-- A turn of a call in the whole state, by its family: what it leaves with the fork that called, and that the calls on maps make no page.
+use Rattle.std.proofs.Common.{◌≡◌, ℕ, Option, None, Some, Result, Ok, Err, refl, sym, ◌∙◌, ap, subst, Ordering}
+use Rattle.std.specs.Prelude.{◌==◌, ◌&&◌}
+use Rattle.std.specs.Option.{option_map}
+use Rattle.std.specs.FinMap as map
+use Rattle.plain_model.specs.declared.call.TheConstants.{PBOUT, PMAP, RPACS, SPACS, RMAP}
+use Rattle.plain_units.specs.declared.channel.TheConstants.{ILLEGAL_INSTRUCTION}
+use Rattle.plain_model.specs.declared.call.End.{End}
+use Rattle.plain_model.specs.declared.call.End.TheVariants.{Done, Waits, Halts, Refused, Failed, Trap}
+use Rattle.plain_model.specs.declared.call.ForkChange.{ForkChange}
+use Rattle.plain_model.specs.declared.call.MapChange.{MapChange}
+use Rattle.plain_model.specs.declared.call.MapChange.TheVariants.{Nothing}
+use Rattle.machine_names.specs.declared.names.Tty.{Tty}
+use Rattle.machine_names.specs.declared.names.ForkName.{ForkName}
+use Rattle.plain_model.specs.declared.fork.Fork.{Fork}
+use Rattle.plain_units.specs.declared.registers.Regs.{Regs}
+use Rattle.plain_pages.specs.PlainPages.{PlainPages, NamedPages}
+use Rattle.plain_model.specs.State.{PlainState}
+use Rattle.machine_names.specs.Orders.{name_cmp}
+use Rattle.plain_model.specs.Interrupts.{posted}
+use Rattle.plain_pages.specs.References.{in_map}
+use Rattle.plain_units.specs.Deeds.{in_ac}
+use Rattle.plain_model.specs.AccessWords.{access_in}
+use Rattle.plain_model.specs.Calls.{Turn, sees, finds, ends, with_ac, no_files, Came, turn_on, given, numbered, returning, is_among, fork_behind, out_of, parts_behind}
+use Rattle.plain_model.specs.MapCalls.{Asked, is_counted, narrows, place_named, slot_named, source_of, tells_access, pages_left as left_to_do, one_page, behind_page, rpacs, spacs, rmap, pmap, map_call, map_calls, map_changed}
+use Rattle.plain_model.specs.ForkCalls.{fork_calls, fork_changed}
+use Rattle.plain_model.specs.Families.{Parts, through, behind, came_of, printing, forking, mapping, forks_part, no_part, pages_part, prints, print_changed, print_calls}
+use Rattle.plain_model.specs.Unit.{Effect, parts_of, with_parts, turned, called}
+use Rattle.std.proofs.lemmas.Bool.{cond_both}
+
+-- a turn of a fork call as it comes out, what it leaves but for the fork that called, and what it leaves
+abbrev pub fork_came : PlainState → Fork → ℕ → Came name_cmp ForkChange
+fork_came s f number = came_of forking (parts_of s) f.name f.body.regs number
+
+abbrev pub fork_left : PlainState → Fork → ℕ → Parts name_cmp
+fork_left s f number = let c = fork_came s f number in parts_behind (through forks_part fork_changed) (parts_of s) (record (parts_of s) { pages = c.pages }) c.end
+
+abbrev pub fork_called : PlainState → Fork → ℕ → PlainState
+fork_called s f number = with_parts s (fork_left s f number)
+
+abbrev pub fork_turned : PlainState → Fork → ℕ → Effect
+fork_turned s f number = turned s f.name.tty (behind (through forks_part fork_changed) (parts_of s) f.name (fork_came s f number))
+
+-- so of a call on maps
+abbrev pub map_came : PlainState → Fork → ℕ → Came name_cmp MapChange
+map_came s f number = came_of mapping (parts_of s) f.name f.body.regs number
+
+abbrev pub map_pages : PlainState → Fork → ℕ → NamedPages
+map_pages s f number = parts_behind map_changed s.pages s.pages (map_came s f number).end
+
+abbrev pub map_turned : PlainState → Fork → ℕ → Effect
+map_turned s f number = turned s f.name.tty (behind (through pages_part map_changed) (parts_of s) f.name (map_came s f number))
+
+-- and of a call that prints
+abbrev pub print_came : PlainState → Fork → ℕ → Came name_cmp (Unit {0})
+print_came s f number = came_of printing (parts_of s) f.name f.body.regs number
+
+abbrev pub print_turned : PlainState → Fork → ℕ → Effect
+print_turned s f number = turned s f.name.tty (behind (through no_part print_changed) (parts_of s) f.name (print_came s f number))
+
+-- a number that is no call
+abbrev pub none_turned : PlainState → Fork → Effect
+none_turned s f = turned s f.name.tty (record { parts = parts_of s; caller = option_map (λ g. posted g ILLEGAL_INSTRUCTION) (map.get s.forks f.name); out = None })
+
+module _ (Holds : Effect → Type 0) (s : PlainState) where
+  -- the fork that called is put among the forks that the turn leaves
+  pub caller_by : (t : Tty) (left : Parts name_cmp) (who : ForkName) (change : Fork → Fork) (out : Option ℕ)
+      → ((g : Fork) → map.get left.tree.forks who ≡ Some g → Holds (turned s t (record { parts = left; caller = Some (change g); out = out })))
+      → Holds (turned s t (record { parts = left; caller = None; out = out }))
+      → Holds (turned s t (record { parts = left; caller = option_map change (map.get left.tree.forks who); out = out }))
+  caller_by t left who change out some none = by (map.get left.tree.forks who) refl
+    where
+      by : (o : Option Fork) → map.get left.tree.forks who ≡ o → Holds (turned s t (record { parts = left; caller = option_map change o; out = out }))
+      by None is = none
+      by (Some g) is = some g is
+
+  -- a call is one of a family, or none
+  pub called_by : (f : Fork) (number : ℕ) → Holds (print_turned s f number) → Holds (fork_turned s f number) → Holds (map_turned s f number) → Holds (none_turned s f) → Holds (called s f number)
+  called_by f number prints forks maps none =
+      cond_both (is_among print_calls number) _ _ (λ r. Holds (turned s f.name.tty r)) (λ is. prints) (λ n1.
+      cond_both (is_among fork_calls number) _ _ (λ r. Holds (turned s f.name.tty r)) (λ is. forks) (λ n2.
+      cond_both (is_among map_calls number) _ _ (λ r. Holds (turned s f.name.tty r)) (λ is. maps) (λ n3. none)))
+
+module _ {K : Type 0} {file_cmp : K → K → Ordering} where
+  -- a change of pages alone
+  pub pages_behind : (v : Parts file_cmp) (q : PlainPages file_cmp) (e : End MapChange) → parts_behind (through pages_part map_changed) v (record v { pages = q }) e ≡ record v { pages = parts_behind map_changed v.pages q e }
+  unfolding parts_behind
+  pages_behind v q (Done change regs out post) = refl
+  pages_behind v q (Waits on) = refl
+  pages_behind v q Halts = refl
+  pages_behind v q (Refused code) = refl
+  pages_behind v q (Failed code) = refl
+  pages_behind v q (Trap channel) = refl
+
+  -- a change of forks and pages
+  pub forks_behind : (v : Parts file_cmp) (q : PlainPages file_cmp) (e : End ForkChange)
+      → parts_behind (through forks_part fork_changed) v (record v { pages = q }) e
+      ≡ (let part = parts_behind fork_changed (record { tree = v.tree; pages = v.pages }) (record { tree = v.tree; pages = q }) e in record { tree = part.tree; pages = part.pages })
+  unfolding parts_behind
+  forks_behind v q (Done change regs out post) = refl
+  forks_behind v q (Waits on) = refl
+  forks_behind v q Halts = refl
+  forks_behind v q (Refused code) = refl
+  forks_behind v q (Failed code) = refl
+  forks_behind v q (Trap channel) = refl
+
+  -- no change
+  pub nothing_behind : (v : Parts file_cmp) (e : End (Unit {0})) → parts_behind (through no_part print_changed) v v e ≡ v
+  unfolding parts_behind
+  nothing_behind v (Done change regs out post) = refl
+  nothing_behind v (Waits on) = refl
+  nothing_behind v Halts = refl
+  nothing_behind v (Refused code) = refl
+  nothing_behind v (Failed code) = refl
+  nothing_behind v (Trap channel) = refl
+
+  module _ (p : PlainPages file_cmp) where
+    -- a turn makes no page
+    abbrev MakesNone : {C : Type 0} → Turn ⊥ C → Type 0
+    MakesNone t = (turn_on no_files p t).pages ≡ p
+
+    given_none : {A C : Type 0} (r : Result A ℕ) (next : A → Turn ⊥ C) → ((x : A) → MakesNone (next x)) → MakesNone (given r next)
+    unfolding turn_on
+    given_none (Err code) next goes = refl
+    given_none (Ok x) next goes = goes x
+
+    rpacs_none : (a : Asked) → MakesNone (rpacs a)
+    unfolding turn_on
+    rpacs_none a = given_none (place_named a) (λ slot. sees slot (λ e. finds (in_map slot) (λ page. ends (tells_access a.regs e page)))) (λ s. refl)
+
+    spacs_none : (a : Asked) → MakesNone (spacs a)
+    unfolding turn_on
+    spacs_none a = given_none (slot_named a) (λ slot. sees slot (λ e. ends (narrows slot (access_in (in_ac a.regs 2)) a.regs e))) (λ s. refl)
+
+    rmap_none : (a : Asked) → MakesNone (rmap a)
+    unfolding turn_on
+    rmap_none a = given_none (slot_named a) (λ slot. sees slot (λ e. finds (in_map slot) (λ page. ends (tells_access (with_ac a.regs 1 (source_of a.forks slot e)) e page)))) (λ s. refl)
+
+    pmap_none : (a : Asked) → MakesNone (pmap a)
+    unfolding turn_on
+    pmap_none a = cond_both (is_counted a.regs && (left_to_do a.regs == 0)) (ends (returning Nothing a.regs)) (given (one_page a) (λ change. ends (Done change (behind_page a.regs) None None))) MakesNone
+        (λ none. refl) (λ some. given_none (one_page a) (λ change. ends (Done change (behind_page a.regs) None None)) (λ change. refl))
+
+    ends_none : {C : Type 0} (e : End C) → MakesNone (ends e)
+    unfolding turn_on
+    ends_none e = refl
+
+    -- no call on maps does
+    pub map_makes_none : (number : ℕ) (a : Asked) → MakesNone (map_call number a)
+    map_makes_none number a =
+        cond_both (PMAP == number) (pmap a) _ MakesNone (λ is. pmap_none a) (λ n1.
+        cond_both (RPACS == number) (rpacs a) _ MakesNone (λ is. rpacs_none a) (λ n2.
+        cond_both (SPACS == number) (spacs a) _ MakesNone (λ is. spacs_none a) (λ n3.
+        cond_both (RMAP == number) (rmap a) _ MakesNone (λ is. rmap_none a) (λ n4. ends_none (Trap ILLEGAL_INSTRUCTION)))))
+
+    -- nor one that prints
+    pub print_makes_none : (number : ℕ) (regs : Regs) → MakesNone (numbered print_calls number regs)
+    unfolding turn_on
+    print_makes_none number regs = cond_both (PBOUT == number) (prints regs) _ MakesNone (λ is. refl) (λ n. refl)
+
+module _ (Holds : Effect → Type 0) (s : PlainState) (f : Fork) (number : ℕ) where
+  -- a call on maps leaves other pages, and the fork that called
+  pub map_by : ((g : Fork) → map.get s.forks f.name ≡ Some g → Holds (turned s f.name.tty (record { parts = record (parts_of s) { pages = map_pages s f number }; caller = Some (fork_behind g (map_came s f number).end); out = out_of (map_came s f number).end })))
+      → Holds (turned s f.name.tty (record { parts = record (parts_of s) { pages = map_pages s f number }; caller = None; out = out_of (map_came s f number).end })) → Holds (map_turned s f number)
+  map_by some none = subst Left (sym same) (caller_by Holds s f.name.tty (record (parts_of s) { pages = map_pages s f number }) f.name (λ g. fork_behind g c.end) (out_of c.end) some none)
+    where
+      c : Came name_cmp MapChange
+      c = map_came s f number
+
+      Left : Parts name_cmp → Type 0
+      Left left = Holds (turned s f.name.tty (record { parts = left; caller = option_map (λ g. fork_behind g (map_came s f number).end) (map.get left.tree.forks f.name); out = out_of (map_came s f number).end }))
+
+      same : parts_behind (through pages_part map_changed) (parts_of s) (record (parts_of s) { pages = (map_came s f number).pages }) (map_came s f number).end ≡ record (parts_of s) { pages = map_pages s f number }
+      same = pages_behind (parts_of s) (map_came s f number).pages (map_came s f number).end
+          ∙ ap (λ (q : NamedPages). record (parts_of s) { pages = parts_behind map_changed s.pages q (map_came s f number).end }) (map_makes_none s.pages number (record { who = f.name; regs = f.body.regs; forks = s.forks }))
+
+  -- a call that prints leaves the fork that called
+  pub print_by : ((g : Fork) → map.get s.forks f.name ≡ Some g → Holds (turned s f.name.tty (record { parts = parts_of s; caller = Some (fork_behind g (print_came s f number).end); out = out_of (print_came s f number).end })))
+      → Holds (turned s f.name.tty (record { parts = parts_of s; caller = None; out = out_of (print_came s f number).end })) → Holds (print_turned s f number)
+  print_by some none = subst Left (sym same) (caller_by Holds s f.name.tty (parts_of s) f.name (λ g. fork_behind g (print_came s f number).end) (out_of (print_came s f number).end) some none)
+    where
+      Left : Parts name_cmp → Type 0
+      Left left = Holds (turned s f.name.tty (record { parts = left; caller = option_map (λ g. fork_behind g (print_came s f number).end) (map.get left.tree.forks f.name); out = out_of (print_came s f number).end }))
+
+      same : parts_behind (through no_part print_changed) (parts_of s) (record (parts_of s) { pages = (print_came s f number).pages }) (print_came s f number).end ≡ parts_of s
+      same = ap (λ (q : NamedPages). parts_behind (through no_part print_changed) (parts_of s) (record (parts_of s) { pages = q }) (print_came s f number).end) (print_makes_none s.pages number f.body.regs)
+          ∙ nothing_behind (parts_of s) (print_came s f number).end
