@@ -1,6 +1,6 @@
 -- Which page of a store a call on places uses, and what a touch needs first.
-use Rattle.std.proofs.Common.{◌≡◌, ℕ, ◌<◌, List, true, false, Bool, cond, Option, None, Some, refl, sym, ◌∙◌, ap, subst, arith}
-use Rattle.std.specs.Prelude.{nat_lt, slice_set, length, is_some}
+use Rattle.std.proofs.Common.{◌≡◌, ℕ, List, true, false, Bool, cond, Option, None, Some, refl, sym, ◌∙◌, ap, subst, arith}
+use Rattle.std.specs.Prelude.{nat_lt}
 use Rattle.std.specs.Option.{option_map, option_and_then}
 use Rattle.std.proofs.lemmas.Bool.Decides.{nat_tests}
 use Rattle.std.proofs.lemmas.List.{get_or-set_same}
@@ -12,7 +12,7 @@ use Rattle.page_contracts.specs.declared.answers.Found.{Found}
 use Rattle.page_contracts.specs.declared.answers.SpaceHandle.{SpaceHandle}
 use Rattle.page_contracts.specs.declared.answers.Touch.{Touch}
 use Rattle.page_contracts.specs.declared.answers.Touch.TheVariants.{Ready, Zero, Copy, NeedFrame, Full}
-use Rattle.page_contracts.specs.Pages.{Scene, StandsAt, TouchNeeds, UsesOne, absent_or, framed}
+use Rattle.page_contracts.specs.Pages.{StandsAt, TouchNeeds, absent_or, framed}
 use Rattle.page_contracts.specs.Stores.{StoreMeaning, HomePlace, free, away, here, IsMade, IsSound, IsUsed, away_at, away_home, is_here, place}
 use Rattle.flat_pages.specs.declared.chain_walk.Walk.{Walk}
 use Rattle.flat_pages.specs.declared.held_entry.EntryAt.{EntryAt}
