@@ -18,7 +18,8 @@ use Rattle.plain_pages.specs.Room.{uses}
 use Rattle.plain_pages.specs.References.{with_entry as entry_put}
 use Rattle.page_contracts.specs.Pages.{StaysInCore}
 use Rattle.machine_names.specs.Orders.{same_fork}
-use Rattle.page_contracts.specs.Stores.{StoreMeaning, FitsHomes}
+use Rattle.page_contracts.specs.Stores.{StoreMeaning, FitsHomes, traffic}
+use Rattle.page_contracts.proofs.Losing.{loses_none, loses_on}
 use Rattle.plain_pages.specs.WholePages.{AreWhole}
 use Rattle.plain_pages.proofs.Kept.{entry_kept, entry_maps, uses_entry, unnamed_gone}
 use Rattle.flat_pages.specs.declared.held_entry.EntryAt.{EntryAt}
@@ -116,6 +117,7 @@ module _ {S : Type 0} (store : StoreMeaning S) (k : ℕ) where
     living = refl;
     limit = refl;
     core = same_core _;
+    lost = loses_none (traffic store old) (traffic store old) refl refl refl refl;
   }
 
   -- one more
@@ -130,6 +132,7 @@ module _ {S : Type 0} (store : StoreMeaning S) (k : ℕ) where
     living = sets.living ∙ so_far.living;
     limit = sets.limit ∙ so_far.limit;
     core = core_on so_far.core sets.core;
+    lost = loses_on (traffic store old) (traffic store now) (traffic store new) so_far.lost sets.lost;
   }
     where
       maps : List HeldMap

@@ -12,7 +12,8 @@ use Rattle.machine_names.specs.declared.names.TheConstants.{SPACE_PAGES}
 use Rattle.plain_pages.specs.Maps.{set_entry}
 use Rattle.page_contracts.specs.DrumWords.{DrumWords}
 use Rattle.page_contracts.specs.Pages.{Scene, StaysInCore}
-use Rattle.page_contracts.specs.Stores.{StoreMeaning, IsSound, IsFreed, FitsHomes, free, content}
+use Rattle.page_contracts.specs.Stores.{StoreMeaning, IsSound, IsFreed, Loses, FitsHomes, free, content, away_at, away_home, traffic}
+use Rattle.page_contracts.proofs.Losing.{loses_freed}
 use Rattle.flat_pages.specs.declared.held_entry.EntryAt.{EntryAt}
 use Rattle.flat_pages.specs.declared.held_entry.HeldEntry.{HeldEntry}
 use Rattle.flat_pages.specs.declared.held_entry.HeldEntry.TheVariants.{Empty, Page, Follows}
@@ -20,7 +21,7 @@ use Rattle.flat_pages.specs.declared.held_entry.Link.{Link}
 use Rattle.flat_pages.specs.declared.map_tables.MapTables.{MapTables}
 use Rattle.flat_pages.specs.HeldMaps.{fork_at, held_entry, with_entry, name_at, entry_of, maps_held, points_at}
 use Rattle.flat_pages.specs.SlotTables.{Tables, share_of, AreTables}
-use Rattle.flat_pages.specs.SlotTouches.{away_at, away_home, scene_of, home_named, is_alone}
+use Rattle.flat_pages.specs.SlotTouches.{scene_of, home_named, is_alone}
 use Rattle.flat_pages.specs.SlotMeaning.{AreTold}
 use Rattle.flat_pages.specs.TableSteps.{tables_of, entry_kept, entry_left, home_freed}
 use Rattle.flat_pages.specs.SlotSteps.{SetsEntry}
@@ -55,8 +56,9 @@ module _ {S : Type 0} (store : StoreMeaning S) (old new : S) (sound_old : IsSoun
       → entry_of t'.names e ≡ entry_of t.names e
       → ((d : DrumWords) → FitsHomes t.places d → FitsHomes t'.places d)
       → StaysInCore (scene_of t (store.spare old)) (scene_of t' (store.spare new)) 0
+      → Loses (traffic store old) (traffic store new)
       → SetsEntry store old new tables tables' at e
-  sets_entry a a' there maps serials living limit names words others same fits core = record {
+  sets_entry a a' there maps serials living limit names words others same fits core lost = record {
     told = λ d s is fit. (
       fits d fit,
       told_set t t' a a' d (sized_of t.places d fit sound_old.pages) (sized_of t'.places d (fits d fit) sound_new.pages) names (words d) serials limit s (entry_of t.names q) (entry_of t.names e)
@@ -68,10 +70,11 @@ module _ {S : Type 0} (store : StoreMeaning S) (old new : S) (sound_old : IsSoun
     living = living;
     limit = limit;
     core = core;
+    lost = lost;
   }
 
   -- the same page is named, or none as before
-  module _ (a : AreTables t) (there : held_entry t.maps at ≡ Some q) (page : (l : Link) (b : Access) → e ≡ Follows l b → l.page < SPACE_PAGES) (lives : IsSome (fork_at t.maps at.map)) (homes : store.homes new ≡ store.homes old) (spare : store.spare new ≡ store.spare old) where
+  module _ (a : AreTables t) (there : held_entry t.maps at ≡ Some q) (page : (l : Link) (b : Access) → e ≡ Follows l b → l.page < SPACE_PAGES) (lives : IsSome (fork_at t.maps at.map)) (homes : store.homes new ≡ store.homes old) (spare : store.spare new ≡ store.spare old) (lost : Loses (traffic store old) (traffic store new)) where
     used : fork_at t.maps at.map ≡ None → e ≡ Empty
     used = lives_used (fork_at t.maps at.map) e lives
 
@@ -98,6 +101,7 @@ module _ {S : Type 0} (store : StoreMeaning S) (old new : S) (sound_old : IsSoun
           (ap (λ ns. entry_of ns e) names_are)
           (λ d fit. subst (λ ps. FitsHomes ps d) (sym places_are) fit)
           (subst (λ (x : Scene). StaysInCore (scene_of t (store.spare old)) x 0) (sym scenes) (same_core (scene_of t (store.spare old))))
+          lost
         where
           scenes : scene_of t' (store.spare new) ≡ scene_of t (store.spare old)
           scenes = λ i. scene_of (record t { places = places_are i; names = names_are i }) (spare i)
@@ -166,7 +170,8 @@ module _ {S : Type 0} (store : StoreMeaning S) (old new : S) (sound_old : IsSoun
               (λ c x ne held. ap (λ (y : Tables). entry_of y.names x) is ∙ others_still c x ne held)
               (ap (λ (y : Tables). entry_of y.names e) is ∙ entry_still t.names u.names h.0 e kept_name (none h.0))
               (λ d fit. subst (λ (x : Tables). FitsHomes x.places d) (sym is) (fits_set t.places d h.0 free fit))
-              (subst (λ (x : Tables). StaysInCore (scene_of t (store.spare old)) (scene_of x (store.spare new)) 0) (sym is) frames_still),
+              (subst (λ (x : Tables). StaysInCore (scene_of t (store.spare old)) (scene_of x (store.spare new)) 0) (sym is) frames_still)
+              (loses_freed store old new h.0 given_up),
         )
 
 -- an entry that names no page is not the only one to name it

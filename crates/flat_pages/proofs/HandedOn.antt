@@ -1,11 +1,11 @@
 -- What is asked of the store that the pages stand in, and what that leaves of the pages.
-use Rattle.std.proofs.Common.{◌≡◌, ℕ, ◌+◌, sym, ap, subst}
-use Rattle.page_contracts.specs.Stores.{StoreMeaning, StaysThere, Ends, Completes, FitsHomes}
+use Rattle.std.proofs.Common.{◌≡◌, ℕ, ◌+◌, refl, sym, ap, subst}
+use Rattle.page_contracts.specs.Stores.{StoreMeaning, IsUsed, StaysFramed, StaysThere, Ends, Completes, FitsHomes}
 use Rattle.page_contracts.specs.Pages.{StaysSame, StaysPut}
 use Rattle.page_contracts.specs.declared.answers.Need.{Need}
 use Rattle.page_contracts.specs.declared.store.Completed.{Completed}
 use Rattle.flat_pages.specs.SlotTables.{Tables, plain_of}
-use Rattle.flat_pages.specs.SlotTouches.{touch_of_place, scene_of}
+use Rattle.flat_pages.specs.SlotTouches.{home_named, touch_of_place, scene_of}
 use Rattle.flat_pages.specs.HeldMaps.{living_of}
 use Rattle.flat_pages.specs.Serials.{serial_of}
 use Rattle.flat_pages.specs.SlotMeaning.{slots_meaning, within, place_along}
@@ -13,10 +13,17 @@ use Rattle.flat_pages.specs.SlotMeaning.{slots_meaning, within, place_along}
 module _ {P S : Type 0} (store : StoreMeaning S) (part : P → S) where
   -- a store that ends a transfer ends it for the pages
   ends_within : (need : Need) (p q : P) → Ends store need (part p) (part q) → Ends (within store part) need p q
-  ends_within need p q e = record { transfer = e.transfer; oldest = e.oldest; told = e.told; moved = e.moved; homes = e.homes; spare = e.spare; untold = e.untold; holds = e.holds; members = e.members }
+  ends_within need p q e = record { transfer = e.transfer; oldest = e.oldest; told = e.told; moved = e.moved; homes = e.homes; spare = e.spare; untold = e.untold; holds = e.holds; members = e.members; came = e.came; went = e.went }
+
+  framed_within : (p q : P) → StaysFramed store (part p) (part q) → StaysFramed (within store part) p q
+  framed_within p q s = record { spare = s.spare; found = s.found; tenant = s.tenant; members = s.members }
+
+  -- a use of a page of the store is one for the pages
+  pub used_within : (home : ℕ) (p q : P) → IsUsed store home (part p) (part q) → IsUsed (within store part) home p q
+  used_within home p q u = record { framed = framed_within p q u.framed; rescued = record { queue = u.rescued.queue; untold = u.rescued.untold }; holds = u.holds; ages = u.ages }
 
   stays_within : (p q : P) → StaysThere store (part p) (part q) → StaysThere (within store part) p q
-  stays_within p q s = record { homes = s.homes; framed = record { spare = s.framed.spare; found = s.framed.found; tenant = s.framed.tenant; members = s.framed.members } }
+  stays_within p q s = record { homes = s.homes; framed = framed_within p q s.framed; ages = s.ages }
 
   pub completes_within : {D : Type 0} (faults reads writes pages : D → ℕ) (result : Completed) (p q : P) (drum drum' : D) → (part q ≡ part p → q ≡ p) → Completes store faults reads writes pages result (part p) (part q) drum drum' → Completes (within store part) faults reads writes pages result p q drum drum'
   completes_within faults reads writes pages result p q drum drum' back c = record {
@@ -27,6 +34,8 @@ module _ {P S : Type 0} (store : StoreMeaning S) (part : P → S) where
     later = c.later;
     read = c.read;
     wrote = c.wrote;
+    failed = λ is. (let s = c.failed is in record { there = stays_within p q s.there; queued = record { queue = s.queued.queue; untold = s.queued.untold }; holds = s.holds });
+    uncounted = c.uncounted;
     size = c.size;
   }
 
@@ -38,6 +47,8 @@ module _ {P S : Type 0} (store : StoreMeaning S) (part : P → S) where
       scene = λ i. scene_of (same i) (spare i);
       space = λ i. (slots_meaning store (λ (t : Tables). part p) (λ t. t)).space (same i);
       place = λ i. place_along (found i) (same i);
+      map_homes = refl;
+      page_homes = λ i. home_named (same i).names;
       lives = λ i. (slots_meaning store (λ (t : Tables). part p) (λ t. t)).lives (same i);
       forks = λ i. living_of (same i).maps;
       serials = λ i. serial_of (same i).serials;

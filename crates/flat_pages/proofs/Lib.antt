@@ -30,3 +30,4 @@ pub mod Opening
 pub mod Looking
 pub mod StoredRows
 pub mod Numbering
+pub mod Using

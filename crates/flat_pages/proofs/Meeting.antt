@@ -35,7 +35,8 @@ use Rattle.flat_pages.specs.declared.chain_walk.Use.{Use}
 use Rattle.flat_pages.specs.declared.chain_walk.Use.TheVariants as to
 use Rattle.flat_pages.specs.Walks.{slot_of, walk, use_of, lets_along, ready_home}
 use Rattle.flat_pages.specs.SlotTables.{Tables, plain_of, share_of, AreTables, AreSized}
-use Rattle.flat_pages.specs.SlotTouches.{walk_of, scene_of, away_home, away_at, has_room, is_alone, touch_copy, touch_made, touch_walked, touch_of_place, allows, copy_of}
+use Rattle.flat_pages.specs.SlotTouches.{walk_of, scene_of, has_room, is_alone, touch_copy, touch_made, touch_walked, touch_of_place, allows, copy_of}
+use Rattle.page_contracts.specs.Stores.{away_home, away_at}
 use Rattle.flat_pages.proofs.ForkMaps.{index_fork, index_is}
 use Rattle.flat_pages.proofs.Agreement.{entry_named, object_home, uses_home}
 use Rattle.flat_pages.proofs.Walked.{IsCopy, Meets, WalkIs, walked}

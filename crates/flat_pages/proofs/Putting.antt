@@ -23,7 +23,7 @@ use Rattle.machine_names.proofs.OrderLemmas.{page_cmp_total, page_cmp_apart, pag
 use Rattle.plain_pages.proofs.Counts.{Same, page_tells}
 use Rattle.flat_pages.specs.HeldMaps.{name_at}
 use Rattle.flat_pages.specs.SlotTables.{Tables, plain_of, AreTables, AreSized}
-use Rattle.flat_pages.specs.SlotTouches.{away_home, away_at}
+use Rattle.page_contracts.specs.Stores.{away_home, away_at}
 use Rattle.flat_pages.proofs.Agreement.{Housed, housed, object_home, object_gone}
 use Rattle.flat_pages.proofs.Meeting.{Reached, reached_page, home_name}
 use Rattle.flat_pages.proofs.Settling.{content_here, content_other}

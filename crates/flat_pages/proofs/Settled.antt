@@ -38,7 +38,8 @@ use Rattle.flat_pages.specs.declared.chain_walk.Walk.{Walk}
 use Rattle.flat_pages.specs.HeldMaps.{fork_at, index_of, held_entry, with_entry, name_at, points_at, living_of}
 use Rattle.flat_pages.specs.Walks.{slot_of, walk}
 use Rattle.flat_pages.specs.SlotTables.{Tables, plain_of, share_of, AreTables, AreSized}
-use Rattle.flat_pages.specs.SlotTouches.{walk_of, scene_of, away_home, away_at, home_named, has_room, is_alone, touch_copy, touch_made, touch_walked, touch_of_place, allows, copy_of}
+use Rattle.flat_pages.specs.SlotTouches.{walk_of, scene_of, home_named, has_room, is_alone, touch_copy, touch_made, touch_walked, touch_of_place, allows, copy_of}
+use Rattle.page_contracts.specs.Stores.{away_home, away_at}
 use Rattle.flat_pages.specs.Serials.{with_next}
 use Rattle.flat_pages.specs.TableSteps.{tables_of, next_name, home_taken, home_renamed}
 use Rattle.flat_pages.specs.SlotSteps.{TakesHome}

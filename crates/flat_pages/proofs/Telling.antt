@@ -1,22 +1,26 @@
 -- What is told of tables that agree.
-use Rattle.std.proofs.Common.{◌≡◌, ◌≢◌, inl, inr, ℕ, zero, suc, List, [], ◌∷◌, false, cond, Option, None, Some, refl, sym, ◌∙◌, ap, arith, is_some, nat_eq}
+use Rattle.std.proofs.Common.{◌≡◌, ◌≢◌, inl, inr, ℕ, zero, suc, List, [], ◌∷◌, true, false, cond, Option, None, Some, refl, sym, ◌∙◌, ap, arith, is_some, nat_eq}
 use Rattle.std.specs.Option.{option_map_or, option_and_then}
+use Rattle.std.specs.FinMap as fin
 use Rattle.std.proofs.lemmas.Bool.Decides.{eqb_tells}
 use Rattle.std.proofs.lemmas.List.Sums.{sum_by-cons}
 use Rattle.outside.specs.Drums.{IsPage, page_at as drum_page}
 use Rattle.machine_names.specs.declared.names.ForkName.{ForkName}
 use Rattle.machine_names.specs.declared.names.PageName.{PageName}
 use Rattle.plain_pages.specs.Room.{same_page}
-use Rattle.page_contracts.specs.Stores.{HomePlace, free, away, here, place, over_drum, content}
+use Rattle.page_contracts.specs.DrumWords.{DrumWords}
+use Rattle.page_contracts.specs.Stores.{HomePlace, free, away, here, place, is_taken, over_drum, content}
 use Rattle.plain_pages.proofs.Counts.{Same, page_tells}
 use Rattle.flat_pages.specs.declared.held_map.HeldMap.{HeldMap}
 use Rattle.flat_pages.specs.HeldMaps.{fork_at, name_at, one_later, living_of}
-use Rattle.flat_pages.specs.SlotTables.{Tables, AreTables}
-use Rattle.flat_pages.specs.SlotTouches.{away_home, away_at, home_named, scene_of}
+use Rattle.flat_pages.specs.SlotTables.{Tables, plain_of, AreTables, AreSized}
+use Rattle.flat_pages.specs.SlotTouches.{home_named, scene_of}
+use Rattle.page_contracts.specs.Stores.{away_home, away_at}
 use Rattle.flat_pages.specs.SlotMeaning.{AreTold}
 use Rattle.flat_pages.proofs.ForkMaps.{searched}
 use Rattle.flat_pages.proofs.LivingMaps.{lives_held}
-use Rattle.flat_pages.proofs.Agreement.{tables_whole, tables_live, object_home}
+use Rattle.flat_pages.proofs.Agreement.{Housed, housed, tables_whole, tables_live, object_home, object_gone}
+use Rattle.flat_pages.proofs.Touching.{home_is as home_found}
 use Rattle.flat_pages.proofs.Settling.{sized_of}
 
 -- the home that is a page's has its name
@@ -74,6 +78,31 @@ none_counted (m ∷ maps) f none zero e =
     itself n = elim (eqb_tells n n) [ inl t ↦ ap (λ b. cond b 1 0) t.0 | inr t ↦ absurd (t.1 refl) ]
 none_counted (m ∷ maps) f none (suc k) e = none_counted maps f (omega (arith, none, sum_by-cons (λ (x : HeldMap). cond (option_map_or (λ g. nat_eq g.tty.0 f.tty.0) x.fork false) 1 0) m maps)) k e
 
+-- only a page that is away has no words
+over_taken : (p : HomePlace) (words : List ℕ) → is_some (over_drum p words) ≡ is_taken p
+over_taken free words = refl
+over_taken away words = refl
+over_taken (here w) words = refl
+
+-- a page has a home exactly where it is there
+has_home : (t : Tables) → AreTables t → (d : DrumWords) → AreSized t.places d → (n : PageName) → is_some (home_named t.names n) ≡ fin.contains_key (plain_of t d).objects n
+unfolding content
+has_home t a d sized n = by (housed t.names n)
+  where
+    nowhere : ((h : ℕ) → name_at t.names h ≢ Some n) → (o : Option ℕ) → home_named t.names n ≡ o → is_some o ≡ false
+    nowhere none None is = refl
+    nowhere none (Some h) is = absurd (none h (named_home t.names n h is))
+
+    somewhere : (h : ℕ) → name_at t.names h ≡ Some n → (o : Option ℕ) → home_named t.names n ≡ o → is_some o ≡ true
+    somewhere h is None none = absurd (let z : None ≡ Some h = sym none ∙ home_found t.names h n is (λ k f. a.once k h n f is) in cc z)
+    somewhere h is (Some k) some = refl
+
+    by : Housed t.names n → is_some (home_named t.names n) ≡ fin.contains_key (plain_of t d).objects n
+    by (inl r) =
+        somewhere r.0 r.1 (home_named t.names n) refl
+        ∙ sym (ap is_some (object_home t a d sized r.0 n r.1) ∙ over_taken (place t.places r.0) (drum_page d r.0) ∙ a.is_taken r.0 ∙ ap is_some r.1)
+    by (inr none) = nowhere none (home_named t.names n) refl ∙ sym (ap is_some (object_gone t a d sized n none))
+
 pub tables_told : (t : Tables) → AreTables t → ((h : ℕ) (words : List ℕ) → place t.places h ≡ here words → IsPage words) → AreTold t
 unfolding content
 tables_told t a pages = record {
@@ -85,6 +114,9 @@ tables_told t a pages = record {
   away = λ n home frames e. let x = is_away t n home frames e in x.away;
   there = λ d n home frames fits e. let x = is_away t n home frames e in
       ap is_some (object_home t a d (sized_of t.places d fits pages) home n x.name ∙ ap (λ p. over_drum p (drum_page d home)) x.away);
+  taken = λ n home is. a.is_taken home ∙ ap is_some (named_home t.names n home is);
+  apart = λ n m home is it. (let z : Some n ≡ Some m = sym (named_home t.names n home is) ∙ named_home t.names m home it in cc z);
+  housed = λ d n fits. has_home t a d (sized_of t.places d fits pages) n;
   homes = omega (arith, a.homes);
   mapped = λ home e. cc e;
 }

@@ -14,14 +14,14 @@ use Rattle.page_contracts.specs.declared.answers.Seen.TheVariants.{Is, Missing}
 use Rattle.page_contracts.specs.DrumWords.{DrumWords}
 use Rattle.plain_pages.specs.Room.{live}
 use Rattle.plain_pages.specs.WholePages.{AreWhole}
-use Rattle.page_contracts.specs.Stores.{StoreMeaning, IsSound, CanLeave, AllStay, FitsHomes, HomePlace, away, place}
+use Rattle.page_contracts.specs.Stores.{StoreMeaning, IsSound, CanLeave, IsNext, AllStay, FitsHomes, HomePlace, away, away_of, is_taken, place}
 use Rattle.page_contracts.specs.Pages.{PagesMeaning, Agrees, AreHoused}
 use Rattle.flat_pages.specs.declared.held_entry.HeldEntry.{HeldEntry}
 use Rattle.flat_pages.specs.Serials.{serial_of}
 use Rattle.flat_pages.specs.HeldMaps.{index_of, held_entry, entry_of, living_of, maps_held}
 use Rattle.flat_pages.specs.Walks.{walk}
 use Rattle.flat_pages.specs.SlotTables.{Tables, plain_of}
-use Rattle.flat_pages.specs.SlotTouches.{scene_of, touch_of_place}
+use Rattle.flat_pages.specs.SlotTouches.{home_named, scene_of, touch_of_place}
 
 -- an entry as a look at it finds it; its map is always in memory
 abbrev pub seen_entry : Tables → Option HeldEntry → Seen
@@ -45,6 +45,7 @@ within store part = record {
   holds = λ p. store.holds (part p);
   tenant = λ p. store.tenant (part p);
   victim = λ p. store.victim (part p);
+  age = λ p. store.age (part p);
   found = λ p. store.found (part p);
   members = λ p. store.members (part p);
   flat = store.flat;
@@ -67,6 +68,8 @@ slots_meaning store part tables = record {
   flat = store.flat;
   space = λ p f. option_map (λ k. record { 0 = k }) (index_of (tables p).maps f);
   place = λ p. place_along (store.found (part p)) (tables p);
+  map_home = λ p f. None;
+  page_home = λ p. home_named (tables p).names;
   store = within store part;
 }
 
@@ -79,6 +82,9 @@ pub record AreTold (t : Tables) : Type 0 where
   pub alone : (f : ForkName) → living_of t.maps f.tty ≡ 0 → is_some (index_of t.maps f) ≡ false
   pub away : (n : PageName) (home : ℕ) (frames : ℕ) → (scene_of t frames).page_away n ≡ Some home → place t.places home ≡ away
   pub there : (d : DrumWords) (n : PageName) (home frames : ℕ) → FitsHomes t.places d → (scene_of t frames).page_away n ≡ Some home → map.contains_key (plain_of t d).objects n ≡ true
+  pub taken : (n : PageName) (home : ℕ) → home_named t.names n ≡ Some home → is_taken (place t.places home) ≡ true
+  pub apart : (n m : PageName) (home : ℕ) → home_named t.names n ≡ Some home → home_named t.names m ≡ Some home → n ≡ m
+  pub housed : (d : DrumWords) (n : PageName) → FitsHomes t.places d → is_some (home_named t.names n) ≡ map.contains_key (plain_of t d).objects n
   pub homes : length t.places ≤ t.limit
   pub mapped : (home : ℕ) → ◌≡◌ {A = Option ℕ} None (Some home) → ⊥
 
@@ -89,9 +95,14 @@ module _ {P S : Type 0} (store : StoreMeaning S) (part : P → S) where
   left : (p : P) (frame home : ℕ) → CanLeave store (part p) frame home → CanLeave (within store part) p frame home
   left p frame home c = record { there = c.there; still = c.still; unheld = c.unheld }
 
-  next_within : (p : P) (o : Option ℕ) → MatchOption o (AllStay store (part p)) (λ frame. (home : ℕ) × CanLeave store (part p) frame home) → MatchOption o (AllStay (within store part) p) (λ frame. (home : ℕ) × CanLeave (within store part) p frame home)
+  next_within : (p : P) (o : Option ℕ) → MatchOption o (AllStay store (part p)) (IsNext store (part p)) → MatchOption o (AllStay (within store part) p) (IsNext (within store part) p)
   next_within p None stay = λ frame home c. stay frame home (leaves p frame home c)
-  next_within p (Some frame) h = (h.0, left p frame h.0 h.1)
+  next_within p (Some frame) n = record {
+    home = n.home;
+    leaves = left p frame n.home n.leaves;
+    oldest = λ g other c. n.oldest g other (leaves p g other c);
+    least = λ g other c. n.least g other (leaves p g other c);
+  }
 
   -- what has a sound store is sound
   pub sound_within : (p : P) → IsSound store (part p) → IsSound (within store part) p
@@ -99,6 +110,7 @@ module _ {P S : Type 0} (store : StoreMeaning S) (part : P → S) where
     few = s.few;
     pages = s.pages;
     finds = s.finds;
+    apart = s.apart;
     comes = s.comes;
     goes = s.goes;
     once = s.once;
@@ -117,6 +129,10 @@ module _ {P S : Type 0} (store : StoreMeaning S) (part : P → S) where
       sound = sound_within p s;
       maps = λ f home is. absurd (told.mapped home is);
       pages = λ n home is. ap (λ places. place places home) same ∙ told.away n home (store.spare (part p)) is;
+      map_homes = λ f. refl;
+      page_homes = λ n. ap (λ (places : List HomePlace). away_of places (home_named (tables p).names n)) (sym same);
+      taken = λ n home is. ap (λ (places : List HomePlace). is_taken (place places home)) same ∙ told.taken n home is;
+      apart = told.apart;
       frames = refl;
       homes = subst (λ (places : List HomePlace). length places ≤ (tables p).limit) (sym same) told.homes;
       flat = refl;
@@ -129,6 +145,7 @@ module _ {P S : Type 0} (store : StoreMeaning S) (part : P → S) where
       number = told.number d fits;
       bound = refl;
       room = told.room d fits;
+      housed = λ n. told.housed d n fits;
       absent_pages = λ n home is. told.there d n home (store.spare (part p)) fits is;
       absent_maps = λ f home is. absurd (told.mapped home is);
     }

@@ -12,7 +12,7 @@ use Rattle.page_contracts.specs.declared.answers.Touch.{Touch}
 use Rattle.page_contracts.specs.declared.answers.Touch.TheVariants.{Ready, Zero, Copy, Denied, Full}
 use Rattle.plain_pages.specs.Room.{same_page}
 use Rattle.page_contracts.specs.Pages.{Scene, absent_or, framed}
-use Rattle.page_contracts.specs.Stores.{HomePlace, free, away, here, place}
+use Rattle.page_contracts.specs.Stores.{away_at}
 use Rattle.flat_pages.specs.declared.held_entry.EntryAt.{EntryAt}
 use Rattle.flat_pages.specs.declared.held_entry.HeldEntry.{HeldEntry}
 use Rattle.flat_pages.specs.declared.held_entry.HeldEntry.TheVariants.{Page}
@@ -21,15 +21,6 @@ use Rattle.flat_pages.specs.declared.chain_walk.Walk.{Walk}
 use Rattle.flat_pages.specs.HeldMaps.{held_entry, index_of, one_later}
 use Rattle.flat_pages.specs.Walks.{walk}
 use Rattle.flat_pages.specs.SlotTables.{Tables, share_of}
-
--- a home, where its page is in no frame
-abbrev pub away_home : HomePlace → ℕ → Option ℕ
-away_home free h = None
-away_home away h = Some h
-away_home (here words) h = None
-
-abbrev pub away_at : List HomePlace → ℕ → Option ℕ
-away_at places h = away_home (place places h) h
 
 -- the home of a page
 abbrev pub home_named : List (Option PageName) → PageName → Option ℕ

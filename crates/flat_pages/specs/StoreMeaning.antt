@@ -1,5 +1,6 @@
 -- What the clauses of stores say of one in memory.
-use Rattle.std.specs.Prelude.{◌≡◌, ℕ, ◌-◌, ◌^◌, ◌≤◌, List, [], length, Bool, true, false, if◌then◌else◌, None, Some, is_some, slice_set}
+use Rattle.std.specs.Prelude.{◌≡◌, ℕ, ◌-◌, ◌^◌, ◌≤◌, List, [], length, Bool, true, false, if◌then◌else◌, Option, None, Some, is_some, slice_set}
+use Rattle.std.specs.Option.{option_map_or}
 use Rattle.std.proofs.Common.{refl, sym, ◌∙◌, ap, subst}
 use Rattle.std.proofs.Math.ListN.{get_or-map}
 use Rattle.std.proofs.Math.Nat.{le_of_sub-eq-zero, not-suc-le-zero}
@@ -73,10 +74,18 @@ has_words stored false words e = absurd (true≢false (sym (ap is_taken e)))
 pub words_here : (pages : List StoredPage) (h : ℕ) (words : List ℕ) → place (places_of pages) h ≡ here words → (stored_at pages h).words ≡ words
 words_here pages h words e = has_words (stored_at pages h).words (stored_at pages h).taken words (sym (place_at pages h) ∙ e)
 
+-- a page is found at its home
+found_there : (b : Bool) (h : ℕ) (found : Found) → ◌≡◌ {A = Option Found} (if b then Some (record { 0 = h }) else None) (Some found) → h ≡ found.0
+found_there true h found e = ap (λ (o : Option Found). option_map_or (λ (f : Found). f.0) o 0) e
+found_there false h found e = absurd (true≢false (sym (ap is_some e)))
+
+apart_is : (pages : List StoredPage) (h k : ℕ) (found : Found) → found_at (places_of pages) h ≡ Some found → found_at (places_of pages) k ≡ Some found → h ≡ k
+apart_is pages h k found e f = found_there (is_taken (place (places_of pages) h)) h found e ∙ sym (found_there (is_taken (place (places_of pages) k)) k found f)
+
 none_counted : 0 ≤ 1
 none_counted = le_of_sub-eq-zero refl
 
--- nothing is away, nothing moves, nothing is held, and nobody's pages are too many
+-- nothing is away, nothing moves, nothing is held, nobody's pages are too many, and nothing has an age
 abbrev pub flat_meaning : StoreMeaning FlatStore
 flat_meaning = record {
   homes = λ s. places_of (pages_of s.pages);
@@ -86,6 +95,7 @@ flat_meaning = record {
   holds = λ s holder. [];
   tenant = λ s frame. None;
   victim = λ s. None;
+  age = λ s frame. 0;
   found = λ s. found_at (places_of (pages_of s.pages));
   members = λ s. 2 ^ 32 - 1;
   flat = true;
@@ -97,6 +107,7 @@ flat_sound s = record {
   few = few_places (pages_of s.pages) s.stored.few;
   pages = λ home words is. subst IsPage (words_here (pages_of s.pages) home words is) (s.stored.words home);
   finds = finds_is (pages_of s.pages);
+  apart = apart_is (pages_of s.pages);
   comes = λ home some. absurd (true≢false (sym some));
   goes = λ home some. absurd (true≢false (sym some));
   once = λ home. none_counted;

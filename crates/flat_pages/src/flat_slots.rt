@@ -71,7 +71,8 @@ impl<S: Store> FlatSlots<S> {
     ghost use Rattle.page_contracts.specs.Pages.{absent_or};
     ghost use Rattle.flat_pages.specs.declared.held_entry.EntryAt.{EntryAt as AnEntry};
     ghost use Rattle.flat_pages.specs.HeldMaps.{held_entry};
-    ghost use Rattle.flat_pages.specs.SlotTouches.{away_at, scene_of, has_room, is_alone, touch_copy, touch_made};
+    ghost use Rattle.flat_pages.specs.SlotTouches.{scene_of, has_room, is_alone, touch_copy, touch_made};
+    ghost use Rattle.page_contracts.specs.Stores.{away_at};
 
     // What a touch answers where a zero page has to be made, and so many pages in all.
     fn blank(&self, pages: u32) -> Touch
@@ -438,6 +439,11 @@ impl<S: Store> Pages for FlatSlots<S> {
     #[inline(always)]
     fn load(&self, space: SpaceHandle, found: Found, address: u32) -> Word {
         self.store.load(found, (address % WORDS) as u16)
+    }
+
+    #[inline(always)]
+    fn used(&mut self, space: SpaceHandle, found: Found) {
+        self.store.renew(found);
     }
 
     #[inline(always)]

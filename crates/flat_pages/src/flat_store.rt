@@ -63,6 +63,9 @@ impl Store for FlatStore {
     fn used(&mut self, home: Home) {}
 
     #[inline(always)]
+    fn renew(&mut self, found: Found) {}
+
+    #[inline(always)]
     fn find(&self, home: Home) -> Option<Found> {
         Some(Found(home.0))
     }

@@ -1,5 +1,5 @@
 -- What the calls on pages answer and leave: over the plain pages, and over what is in frames.
-use Rattle.std.specs.Prelude.{◌≡◌, ◌⊎◌, ℕ, ◌+◌, ◌<◌, ◌≤◌, List, [], ◌∷◌, length, Bool, true, false, nat_lt, nat_le, Option, None, Some, if◌then◌else◌, ◌==◌, slice_index}
+use Rattle.std.specs.Prelude.{◌≡◌, ◌⊎◌, ℕ, ◌+◌, ◌<◌, ◌≤◌, List, [], ◌∷◌, length, Bool, true, false, nat_lt, nat_le, Option, None, Some, if◌then◌else◌, ◌==◌, slice_index, is_some}
 use Rattle.std.specs.Option.{option_map, option_or, option_map_or, option_and_then}
 use Rattle.std.specs.declared.cmp.Ordering.{Ordering}
 use Rattle.std.specs.FinMap as map
@@ -22,6 +22,7 @@ use Rattle.page_contracts.specs.declared.answers.Touch.{Touch}
 use Rattle.page_contracts.specs.declared.answers.Touch.TheVariants.{Ready, Zero, Copy, Absent, NeedFrame, Denied, Full}
 use Rattle.page_contracts.specs.declared.answers.Peeked.{Peeked}
 use Rattle.page_contracts.specs.declared.answers.Peeked.TheVariants.{Is, Absent as Away, NoPage}
+use Rattle.page_contracts.specs.declared.answers.Need.TheVariants as need
 use Rattle.page_contracts.specs.declared.answers.Seen.{Seen}
 use Rattle.page_contracts.specs.declared.answers.Seen.TheVariants.{Is as Entry, Absent as MapAway, Missing}
 use Rattle.page_contracts.specs.declared.store.Room.{Room}
@@ -31,7 +32,7 @@ use Rattle.plain_pages.specs.PlainPages.{PlainPages, NumberedPages, page_serial}
 use Rattle.plain_pages.specs.Maps.{entry_at, maps_on_way}
 use Rattle.plain_pages.specs.Room.{live, uses}
 use Rattle.plain_pages.specs.References.{Spot, in_map, in_file, Making, blank, copy, Referred, granted, denied, full, reference, next_making, words_of, page_at}
-use Rattle.page_contracts.specs.Stores.{StoreMeaning, IsSound, away, place}
+use Rattle.page_contracts.specs.Stores.{StoreMeaning, IsSound, IsNeeded, Loses, Renews, away, away_of, is_here, is_taken, place, traffic}
 use Rattle.machine_names.specs.Bounds.{IsOwner}
 
 -- What is in frames: for each fork the home of its map and for each page its home, where that is in no
@@ -181,6 +182,20 @@ is_in_core (Absent home) = false
 is_in_core NeedFrame = false
 is_in_core t = true
 
+-- what is answered where something is needed first is so, over whatever drum: the page or the map is in no frame, or no frame is free
+abbrev pub TouchNeeds : {P : Type 0} → StoreMeaning P → P → Touch → Type 0
+TouchNeeds store p (Absent home) = IsNeeded store 1 p (need.Page home)
+TouchNeeds store p NeedFrame = IsNeeded store 1 p need.Frame
+TouchNeeds store p t = Unit {0}
+
+abbrev pub PeekNeeds : {P : Type 0} → StoreMeaning P → P → Peeked → Type 0
+PeekNeeds store p (Away home) = IsNeeded store 1 p (need.Page home)
+PeekNeeds store p seen = Unit {0}
+
+abbrev pub SeenNeeds : {P : Type 0} → StoreMeaning P → P → Seen → Type 0
+SeenNeeds store p (MapAway home) = IsNeeded store 1 p (need.Page home)
+SeenNeeds store p seen = Unit {0}
+
 -- what the map of a new fork may be: it may follow a fork that lives, of the same terminal
 abbrev pub IsNewMap : (ForkName → Bool) → ForkName → NewMap → Type 0
 IsNewMap lives f EmptyMap = Unit {0}
@@ -228,6 +243,9 @@ pub record PagesMeaning (P : Type 0) : Type 1 where
   pub space : P → ForkName → Option SpaceHandle
   -- where the page of a space is that a look found, under its number
   pub place : P → SpaceHandle → ℕ → Option Found
+  -- the home of a fork's map, where maps have homes, and of a page
+  pub map_home : P → ForkName → Option ℕ
+  pub page_home : P → PageName → Option ℕ
   -- the homes and frames in which the pages stand
   pub store : StoreMeaning P
 
@@ -248,20 +266,49 @@ pub record HasSpace {P : Type 0} (means : PagesMeaning P) (p : P) (space : Space
   pub fork : ForkName
   pub is : means.space p fork ≡ Some space
 
--- what a word put into a page leaves: what a touch finds, the handles and the places, and all numbers
+-- a place is that of a page that was found
+pub record HasFound {P : Type 0} (means : PagesMeaning P) (p : P) (space : SpaceHandle) (found : Found) : Type 0 where
+  pub page : ℕ
+  pub is : means.place p space page ≡ Some found
+
+-- the page of a place of a fork's space was found at a home
+pub record StandsAt {P : Type 0} (means : PagesMeaning P) (p : P) (at : Place) (home : ℕ) : Type 0 where
+  pub slot : Slot
+  pub is : at ≡ Fork slot
+  pub space : SpaceHandle
+  pub named : means.space p slot.fork ≡ Some space
+  pub found : Found
+  pub there : means.place p space slot.page ≡ Some found
+  pub here : means.store.found p home ≡ Some found
+
+-- the page of some home, in a frame, was used
+pub record UsesOne {P : Type 0} (means : PagesMeaning P) (old new : P) : Type 0 where
+  pub home : ℕ
+  pub here : is_here (place (means.store.homes new) home) ≡ true
+  pub renews : Renews home (means.store.tenant new) (means.store.age old) (means.store.age new)
+
+-- what is queued and held may have become less, and what that would have told is to be told
+abbrev pub MayLose : {P : Type 0} → PagesMeaning P → P → P → Type 0
+MayLose means old new = Loses (traffic means.store old) (traffic means.store new)
+
+-- what a word put into a page leaves: what a touch finds, the handles and the places, the homes, and all numbers
 pub record StaysPut {P : Type 0} (means : PagesMeaning P) (old new : P) : Type 0 where
   pub touched : means.touched new ≡ means.touched old
   pub scene : means.scene new ≡ means.scene old
   pub space : means.space new ≡ means.space old
   pub place : means.place new ≡ means.place old
+  pub map_homes : means.map_home new ≡ means.map_home old
+  pub page_homes : means.page_home new ≡ means.page_home old
   pub lives : means.lives new ≡ means.lives old
   pub forks : means.forks_of new ≡ means.forks_of old
   pub serials : means.serial new ≡ means.serial old
   pub most : means.most new ≡ means.most old
 
--- what a transfer leaves, and what is asked of frames: the handles, and all numbers
+-- what a transfer leaves, and what is asked of frames: the handles, the homes, and all numbers
 pub record StaysMapped {P : Type 0} (means : PagesMeaning P) (old new : P) : Type 0 where
   pub space : means.space new ≡ means.space old
+  pub map_homes : means.map_home new ≡ means.map_home old
+  pub page_homes : means.page_home new ≡ means.page_home old
   pub lives : means.lives new ≡ means.lives old
   pub forks : means.forks_of new ≡ means.forks_of old
   pub serials : means.serial new ≡ means.serial old
@@ -278,22 +325,28 @@ pub record StaysSame {P : Type 0} (means : PagesMeaning P) (old new : P) : Type 
   pub put : StaysPut means old new
   pub count : means.count new ≡ means.count old
 
--- the pages stand in a sound store, which has no more homes than pages may live: what is in no frame has a home that is away, and the free
--- frames are the store's
+-- the pages stand in a sound store, which has no more homes than pages may live: each page has a taken home, which is no other's; what is in
+-- no frame is exactly what has a home that is away, and the free frames are the store's
 pub record AreHoused {P : Type 0} (means : PagesMeaning P) (p : P) : Type 0 where
   pub sound : IsSound means.store p
   pub maps : (f : ForkName) (home : ℕ) → (means.scene p).map_away f ≡ Some home → place (means.store.homes p) home ≡ away
   pub pages : (n : PageName) (home : ℕ) → (means.scene p).page_away n ≡ Some home → place (means.store.homes p) home ≡ away
+  pub map_homes : (f : ForkName) → (means.scene p).map_away f ≡ away_of (means.store.homes p) (means.map_home p f)
+  pub page_homes : (n : PageName) → (means.scene p).page_away n ≡ away_of (means.store.homes p) (means.page_home p n)
+  pub taken : (n : PageName) (home : ℕ) → means.page_home p n ≡ Some home → is_taken (place (means.store.homes p) home) ≡ true
+  pub apart : (n m : PageName) (home : ℕ) → means.page_home p n ≡ Some home → means.page_home p m ≡ Some home → n ≡ m
   pub frames : (means.scene p).free_frames ≡ means.store.spare p
   pub homes : length (means.store.homes p) ≤ means.most p
   pub flat : means.store.flat ≡ means.flat
 
--- over each drum that fits, the plain pages have the numbers that are told without it, no more than may be; and what is in no frame is there
+-- over each drum that fits, the plain pages have the numbers that are told without it, no more than may be; what has a home is there, and so is
+-- what is in no frame
 pub record Agrees {P : Type 0} (means : PagesMeaning P) (p : P) (plain : NumberedPages) : Type 0 where
   pub living : (f : ForkName) → means.lives p f ≡ map.contains_key plain.maps f
   pub next : (t : Tty) → IsOwner t → means.serial p t ≡ page_serial plain t
   pub number : means.count p ≡ live plain
   pub bound : means.most p ≡ plain.limit
   pub room : live plain ≤ plain.limit
+  pub housed : (n : PageName) → is_some (means.page_home p n) ≡ map.contains_key plain.objects n
   pub absent_pages : (n : PageName) (home : ℕ) → (means.scene p).page_away n ≡ Some home → map.contains_key plain.objects n ≡ true
   pub absent_maps : (f : ForkName) (home : ℕ) → (means.scene p).map_away f ≡ Some home → map.contains_key plain.maps f ≡ true

@@ -1,7 +1,7 @@
 -- Pages under homes: where each page is, which transfers are queued, and what the words of a drum make of it.
-use Rattle.std.specs.Prelude.{◌≡◌, ◌↔◌, ℕ, ◌+◌, ◌<◌, ◌≤◌, List, [], ◌∷◌, ◌++◌, length, Contains, Bool, true, false, not, ◌||◌, ◌==◌, nat_lt, if◌then◌else◌, Option, None, Some, is_some, MatchOption, count_by, filter, slice_index, slice_index_or, slice_set}
+use Rattle.std.specs.Prelude.{◌≡◌, ◌≢◌, ◌⊎◌, ◌↔◌, ℕ, ◌+◌, ◌-◌, ◌^◌, ◌<◌, ◌≤◌, List, [], ◌∷◌, ◌++◌, length, Contains, Bool, true, false, not, ◌||◌, ◌&&◌, ◌==◌, nat_lt, if◌then◌else◌, Option, None, Some, is_some, IsSome, MatchOption, count_by, filter, slice_index, slice_index_or, slice_set}
 use Rattle.std.specs.List.{list_any}
-use Rattle.std.specs.Option.{option_map_or}
+use Rattle.std.specs.Option.{option_map_or, option_and_then}
 use Rattle.outside.specs.Faults.{Rose, CountsUp}
 use Rattle.outside.specs.Drums.{IsPage, page_at}
 use Rattle.machine_names.specs.declared.homes.Home.{Home}
@@ -9,6 +9,7 @@ use Rattle.machine_names.specs.declared.homes.TheConstants.{MOST_HOMES}
 use Rattle.page_contracts.specs.declared.answers.Need.{Need}
 use Rattle.page_contracts.specs.declared.answers.Need.TheVariants.{Page, Frame}
 use Rattle.page_contracts.specs.declared.answers.Found.{Found}
+use Rattle.page_contracts.specs.declared.store.TheConstants.{CONSOLE_HOLDER, MOST_HELD, MOST_HELD_FOR_CONSOLE}
 use Rattle.page_contracts.specs.declared.store.Completed.{Completed}
 use Rattle.page_contracts.specs.declared.store.Completed.TheVariants.{Done, Nothing, DrumFault}
 use Rattle.page_contracts.specs.declared.store.Room.{Room}
@@ -39,6 +40,19 @@ is_taken p = true
 abbrev pub is_here : HomePlace → Bool
 is_here (here words) = true
 is_here p = false
+
+-- a home, where its page is in no frame
+abbrev pub away_home : HomePlace → ℕ → Option ℕ
+away_home free home = None
+away_home away home = Some home
+away_home (here words) home = None
+
+abbrev pub away_at : List HomePlace → ℕ → Option ℕ
+away_at places home = away_home (place places home) home
+
+-- the home of what has one, where that is in no frame
+abbrev pub away_of : List HomePlace → Option ℕ → Option ℕ
+away_of places home = option_and_then (away_at places) home
 
 -- the word at an offset of a page, where it is in a frame
 abbrev pub word_in : HomePlace → ℕ → Option ℕ
@@ -126,6 +140,41 @@ abbrev pub noted_all : List Transfer → List Need → List Need
 noted_all [] needs = needs
 noted_all (t ∷ ts) needs = noted_all ts (noted (need_of t) needs)
 
+-- WHAT STANDS BESIDE THE PAGES: the transfers that are queued, the oldest first; what those would have told that were taken from the queue, as
+-- far as it is not told yet; the homes whose frames are held for each holder; and how many forks may have their pages in core together
+pub record Traffic : Type 0 where
+  pub queue : List Transfer
+  pub untold : List Need
+  pub holds : ℕ → List ℕ
+  pub members : ℕ
+
+-- Transfers were taken from the queue, and what each of them would have told is to be told; what was to be told still is, and nothing else is.
+-- Pages that were held may be held no more. Nothing was queued, and nothing more is held.
+pub record Loses (old new : Traffic) : Type 0 where
+  pub these : Transfer → Bool
+  pub queue : new.queue ≡ without these old.queue
+  pub untold : (need : Need) → list_any (same_need need) new.untold ≡ (list_any (same_need need) old.untold || list_any (λ t. these t && same_need need (need_of t)) old.queue)
+  pub given : ℕ → Bool
+  pub holds : (holder : ℕ) → new.holds holder ≡ filter (λ home. not (given home)) (old.holds holder)
+  pub members : new.members ≡ old.members
+
+-- the last number of a use, at which the numbers of uses stand still
+abbrev pub LAST_USE : ℕ
+LAST_USE = 2 ^ 64 - 1
+
+-- a home's page was used: its frame is the youngest of those with a page, until the numbers of uses end; and each other frame has its age
+pub record Renews (home : ℕ) (tenant : ℕ → Option ℕ) (old new : ℕ → ℕ) : Type 0 where
+  pub youngest : (frame other : ℕ) → tenant frame ≡ Some home → other ≢ frame → IsSome (tenant other) → (new other < new frame) ⊎ (new frame ≡ LAST_USE)
+  pub others : (frame : ℕ) → (tenant frame ≡ Some home → ⊥) → new frame ≡ old frame
+
+-- each frame has its age but that of a home's page
+abbrev pub KeepsAges : ℕ → (ℕ → Option ℕ) → (ℕ → ℕ) → (ℕ → ℕ) → Type 0
+KeepsAges home tenant old new = (frame : ℕ) → (tenant frame ≡ Some home → ⊥) → new frame ≡ old frame
+
+-- how many frames may be held for a holder
+abbrev pub most_held : ℕ → ℕ
+most_held holder = if holder == CONSOLE_HOLDER then MOST_HELD_FOR_CONSOLE else MOST_HELD
+
 -- how a need is met: the read of a home's page is queued already, or can be queued now, or a page has to leave its frame first
 pub data Meeting : Type 0 where
   joins : ℕ → Meeting
@@ -180,6 +229,8 @@ pub record StoreMeaning (S : Type 0) : Type 0 where
   pub tenant : S → ℕ → Option ℕ
   -- the frame whose page has to leave next
   pub victim : S → Option ℕ
+  -- the age of a frame: the number of its last use
+  pub age : S → ℕ → ℕ
   -- where the words of a home's page are
   pub found : S → ℕ → Option Found
   -- how many forks may have their pages in core together
@@ -188,6 +239,9 @@ pub record StoreMeaning (S : Type 0) : Type 0 where
   pub flat : Bool
 
 module _ {S : Type 0} (means : StoreMeaning S) where
+  abbrev pub traffic : S → Traffic
+  traffic s = record { queue = means.queue s; untold = means.untold s; holds = means.holds s; members = means.members s }
+
   -- a frame's page may leave it: no transfer moves it, and for nobody is it held
   pub record CanLeave (s : S) (frame home : ℕ) : Type 0 where
     pub there : means.tenant s frame ≡ Some home
@@ -198,18 +252,26 @@ module _ {S : Type 0} (means : StoreMeaning S) where
   abbrev pub AllStay : S → Type 0
   AllStay s = (frame home : ℕ) → CanLeave s frame home → ⊥
 
-  -- what holds of each store: pages are pages; a page is found exactly in a frame; what comes is away, and what goes or is held is in a
-  -- frame, one transfer a home; the next to leave may leave, and where none is next none may; and without frames nothing is away or moves
+  -- of the frames whose page may leave the one of least age, then least number
+  pub record IsNext (s : S) (frame : ℕ) : Type 0 where
+    pub home : ℕ
+    pub leaves : CanLeave s frame home
+    pub oldest : (g other : ℕ) → CanLeave s g other → means.age s frame ≤ means.age s g
+    pub least : (g other : ℕ) → CanLeave s g other → means.age s g ≡ means.age s frame → frame ≤ g
+
+  -- what holds of each store: pages are pages; a page is found exactly in a frame, and no two are found in one; what comes is away, and what goes or is held is in a
+  -- frame, one transfer a home; the next to leave is the oldest that may, and where none is next none may; and without frames nothing is away or moves
   pub record IsSound (s : S) : Type 0 where
     pub few : length (means.homes s) ≤ MOST_HOMES
     pub pages : (home : ℕ) (words : List ℕ) → place (means.homes s) home ≡ here words → IsPage words
     pub finds : (home : ℕ) → is_some (means.found s home) ≡ is_here (place (means.homes s) home)
+    pub apart : (home other : ℕ) (found : Found) → means.found s home ≡ Some found → means.found s other ≡ Some found → home ≡ other
     pub comes : (home : ℕ) → list_any (arrives home) (means.queue s) ≡ true → place (means.homes s) home ≡ away
     pub goes : (home : ℕ) → list_any (departs home) (means.queue s) ≡ true → is_here (place (means.homes s) home) ≡ true
     pub once : (home : ℕ) → count_by (moves home) (means.queue s) ≤ 1
     pub held : (holder home : ℕ) → Contains (means.holds s holder) home → is_here (place (means.homes s) home) ≡ true
     pub unmoved : (holder home : ℕ) → Contains (means.holds s holder) home → list_any (moves home) (means.queue s) ≡ false
-    pub next : MatchOption (means.victim s) (AllStay s) (λ frame. (home : ℕ) × CanLeave s frame home)
+    pub next : MatchOption (means.victim s) (AllStay s) (IsNext s)
     pub core : means.flat ≡ true → (home : ℕ) → is_taken (place (means.homes s) home) ≡ is_here (place (means.homes s) home)
     pub still : means.flat ≡ true → means.queue s ≡ []
     pub frames : means.flat ≡ true → means.spare s ≡ free_homes (means.homes s)
@@ -226,15 +288,22 @@ module _ {S : Type 0} (means : StoreMeaning S) where
     pub tenant : means.tenant new ≡ means.tenant old
     pub members : means.members new ≡ means.members old
 
-  -- nor does a word change
+  -- nor does a word change, and no page is used
   pub record StaysThere (old new : S) : Type 0 where
     pub homes : means.homes new ≡ means.homes old
     pub framed : StaysFramed old new
+    pub ages : means.age new ≡ means.age old
 
   -- transfers are as they were
   pub record StaysQueued (old new : S) : Type 0 where
     pub queue : means.queue new ≡ means.queue old
     pub untold : means.untold new ≡ means.untold old
+
+  -- nothing of what is in frames, queued or held has changed
+  pub record StaysStored (old new : S) : Type 0 where
+    pub there : StaysThere old new
+    pub queued : StaysQueued old new
+    pub holds : means.holds new ≡ means.holds old
 
   -- these transfers are taken from the queue, and are to be told
   pub record Cancels (these : Transfer → Bool) (old new : S) : Type 0 where
@@ -246,6 +315,7 @@ module _ {S : Type 0} (means : StoreMeaning S) where
     pub framed : StaysFramed old new
     pub rescued : Cancels (departs home) old new
     pub holds : means.holds new ≡ means.holds old
+    pub ages : Renews home (means.tenant new) (means.age old) (means.age new)
 
   -- a free home is taken, with a page that is in a frame
   pub record IsMade (home : ℕ) (page : HomePlace) (old new : S) : Type 0 where
@@ -256,6 +326,7 @@ module _ {S : Type 0} (means : StoreMeaning S) where
     pub queued : StaysQueued old new
     pub holds : means.holds new ≡ means.holds old
     pub members : means.members new ≡ means.members old
+    pub ages : Renews home (means.tenant new) (means.age old) (means.age new)
 
   -- the frame that a home's page has, if it has one
   abbrev pub frames_of : S → ℕ → ℕ
@@ -268,6 +339,7 @@ module _ {S : Type 0} (means : StoreMeaning S) where
     pub cancelled : Cancels (moves home) old new
     pub holds : means.holds new ≡ giving_up (means.holds old) home
     pub members : means.members new ≡ means.members old
+    pub ages : KeepsAges home (means.tenant old) (means.age old) (means.age new)
 
   -- the departure of a frame's page
   abbrev pub departure_of : S → Option ℕ → List Transfer
@@ -285,6 +357,11 @@ module _ {S : Type 0} (means : StoreMeaning S) where
   CanFetch s (Page home) = place (means.homes s) home.0 ≡ away
   CanFetch s Frame = Unit {0}
 
+  -- a need that there is: the page of a home that is in no frame; or more frames than are free, of which fewer than so many are
+  abbrev pub IsNeeded : ℕ → S → Need → Type 0
+  IsNeeded most s (Page home) = place (means.homes s) home.0 ≡ away
+  IsNeeded most s Frame = means.spare s < most
+
   -- what is read is queued, or what has to leave
   pub record IsFetched (need : Need) (old new : S) : Type 0 where
     pub homes : means.homes new ≡ means.homes old
@@ -294,8 +371,9 @@ module _ {S : Type 0} (means : StoreMeaning S) where
     pub holds : means.holds new ≡ means.holds old
     pub found : means.found new ≡ means.found old
     pub members : means.members new ≡ means.members old
+    pub ages : (frame : ℕ) → IsSome (means.tenant old frame) → means.age new frame ≡ means.age old frame
 
-  -- the oldest transfer has ended, and told this: its page alone has come into its frame or left it
+  -- the oldest transfer has ended, and told this: its page alone has come into its frame, which is a use of it, or left it
   pub record Ends (need : Need) (old new : S) : Type 0 where
     pub transfer : Transfer
     pub oldest : means.queue old ≡ transfer ∷ means.queue new
@@ -306,16 +384,20 @@ module _ {S : Type 0} (means : StoreMeaning S) where
     pub untold : means.untold new ≡ means.untold old
     pub holds : means.holds new ≡ means.holds old
     pub members : means.members new ≡ means.members old
+    pub came : is_arrival transfer ≡ true → Renews (home_of transfer) (means.tenant new) (means.age old) (means.age new)
+    pub went : is_arrival transfer ≡ false → KeepsAges (home_of transfer) (means.tenant old) (means.age old) (means.age new)
 
-  -- the oldest transfer ends, where one is queued, or the drum fails
+  -- the oldest transfer ends, where one is queued, and is counted; or the drum fails, which changes nothing but its count of faults
   pub record Completes {D : Type 0} (faults reads writes pages : D → ℕ) (result : Completed) (old new : S) (drum drum' : D) : Type 0 where
     pub nothing : (result ≡ Nothing) ↔ (means.queue old ≡ [])
     pub same : result ≡ Nothing → (new ≡ old) × (drum' ≡ drum)
     pub done : (need : Need) → result ≡ Done need → Ends need old new
     pub cause : result ≡ DrumFault → Rose (faults drum) (faults drum')
     pub later : faults drum ≤ faults drum'
-    pub read : (home : Home) → result ≡ Done (Page home) → CountsUp (reads drum) (reads drum')
-    pub wrote : result ≡ Done Frame → CountsUp (writes drum) (writes drum')
+    pub read : (home : Home) → result ≡ Done (Page home) → CountsUp (reads drum) (reads drum') × (writes drum' ≡ writes drum)
+    pub wrote : result ≡ Done Frame → CountsUp (writes drum) (writes drum') × (reads drum' ≡ reads drum)
+    pub failed : result ≡ DrumFault → StaysStored old new
+    pub uncounted : result ≡ DrumFault → (reads drum' ≡ reads drum) × (writes drum' ≡ writes drum)
     pub size : pages drum' ≡ pages drum
 
   -- a need is told that no transfer tells any more; none is left to tell where none is
@@ -334,11 +416,11 @@ module _ {S : Type 0} (means : StoreMeaning S) where
     pub untold : means.untold new ≡ means.untold old
     pub holds : means.holds new ≡ means.holds old
 
-  -- the page of a home can be held for a fork: it is in a frame, and no transfer moves it
+  -- the page of a home can be held for a fork, or for the console: it is in a frame, and no transfer moves it
   pub record CanKeep (s : S) (holder home : ℕ) : Type 0 where
     pub here : is_here (place (means.homes s) home) ≡ true
     pub still : list_any (moves home) (means.queue s) ≡ false
-    pub member : holder < means.members s
+    pub member : (holder < means.members s) ⊎ (holder ≡ CONSOLE_HOLDER)
 
   -- it is held for the fork, where there are frames
   pub record Keeps (holder home : ℕ) (old new : S) : Type 0 where

@@ -9,4 +9,6 @@ mod store;
 
 pub use answers::{Found, Need, Peeked, Seen, SpaceHandle, Touch};
 pub use pages::Pages;
-pub use store::{Completed, MOST_HELD, MOST_HOLDERS, Room, Store};
+pub use store::{
+    CONSOLE_HOLDER, Completed, MOST_HELD, MOST_HELD_FOR_CONSOLE, MOST_HOLDERS, Room, Store,
+};

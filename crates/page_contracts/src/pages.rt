@@ -1,5 +1,5 @@
 // The pages of all forks.
-ghost use Rattle.std.specs.Prelude.{◌≡◌, ◌⊎◌, ◌≢◌, ◌↔◌, ◌<◌, ◌≤◌, ◌+◌, ◌/◌, ◌%◌, ◌^◌, Bool, true, false, not, ◌||◌, ◌&&◌, None, Some, IsSome, IfSome, length};
+ghost use Rattle.std.specs.Prelude.{◌≡◌, ◌⊎◌, ◌≢◌, ◌↔◌, ◌<◌, ◌≤◌, ◌+◌, ◌/◌, ◌%◌, ◌^◌, ℕ, Bool, true, false, not, ◌||◌, ◌&&◌, None, Some, IsSome, IfSome, length};
 ghost use Rattle.machine_names.specs.declared.names.ForkName.{ForkName as AForkName};
 ghost use Rattle.machine_names.specs.declared.names.Tty.{Tty as ATty};
 ghost use Rattle.machine_names.specs.declared.names.TheConstants.{SPACE_PAGES, TERMINALS};
@@ -9,16 +9,14 @@ ghost use Rattle.plain_pages.specs.NewMaps.{with_map};
 ghost use Rattle.machine_names.specs.Bounds.{IsAddress};
 ghost use Rattle.page_contracts.specs.DrumWords.{DrumWords, Stands};
 ghost use Rattle.plain_pages.specs.References.{in_map, settled, slot_at, word_at, stored, page_at as named_at, without_fork};
-ghost use Rattle.page_contracts.specs.Stores.{IsFetched, CanFetch, Completes, Tells, Evicts, CanKeep, Keeps, LetsGo, awaited, meeting};
+ghost use Rattle.page_contracts.specs.Stores.{IsFetched, IsUsed, CanFetch, Completes, Tells, Evicts, CanKeep, Keeps, LetsGo, awaited, meeting, most_held};
 ghost use Rattle.plain_pages.specs.WholePages.{AreWhole};
-ghost use Rattle.page_contracts.specs.Pages.{PagesMeaning, Agrees, AreHoused, HasSpace, StaysInCore, TakesMap, TakesFrames, StaysPut, StaysMapped, StaysPlain, StaysSame, IsPlace, IsTouched, IsReady, CanChange, IsNewMap, FollowsPage, SettlesTo, spot_of, touch_of, peek_of, seen_of, map_away, counted, room_for, can_settle, frames_taken, is_in_core, is_seen, is_entry, is_seen_entry};
+ghost use Rattle.page_contracts.specs.Pages.{PagesMeaning, Agrees, AreHoused, HasFound, HasSpace, MayLose, PeekNeeds, SeenNeeds, StandsAt, TouchNeeds, UsesOne, StaysInCore, TakesMap, TakesFrames, StaysPut, StaysMapped, StaysPlain, StaysSame, IsPlace, IsTouched, IsReady, CanChange, IsNewMap, FollowsPage, SettlesTo, spot_of, touch_of, peek_of, seen_of, map_away, counted, room_for, can_settle, frames_taken, is_in_core, is_seen, is_entry, is_seen_entry};
 ghost use Rattle.machine_names.specs.Bounds.{IsOwner};
 ghost use Rattle.plain_pages.specs.NewEntries.{IsNewEntry, changed};
 ghost use Rattle.machine_names.specs.Orders.{same_fork};
 
-use crate::{
-    Completed, Found, MOST_HELD, MOST_HOLDERS, Need, Peeked, Room, Seen, SpaceHandle, Touch,
-};
+use crate::{Completed, Found, MOST_HOLDERS, Need, Peeked, Room, Seen, SpaceHandle, Touch};
 use machine_names::{ForkName, FrameId, Home, Kind, PageName, Place, Slot, Tty};
 use outside::Drum;
 use plain_pages::{NewEntry, NewMap};
@@ -39,6 +37,7 @@ pub trait Pages {
         ensures answer { result ≡ means.touched self.now at kind }
         ensures told { (d : DrumWords) (owner : ATty) → means.fits self.now d → IsOwner owner → result ≡ touch_of (means.plain self.now d) (means.scene self.now) (spot_of at) kind owner }
         ensures copies { (sole : Bool) → result ≡ Touch.Copy sole → kind ≡ Kind.Write }
+        ensures needs { TouchNeeds means.store self.now result }
         ensures core { means.flat ≡ true → is_in_core result ≡ true };
 
     /// The word at an offset of the page of a place, which a touch to read or to execute finds Ready.
@@ -54,6 +53,7 @@ pub trait Pages {
         requires place { IsPlace (means.lives self.now) at }
         requires offset { offset < PAGE_WORDS }
         ensures told { (d : DrumWords) → means.fits self.now d → result ≡ peek_of (means.plain self.now d) (means.scene self.now) (spot_of at) offset }
+        ensures needs { PeekNeeds means.store self.now result }
         ensures core { means.flat ≡ true → is_seen result ≡ true };
 
     /// The page of a place, whatever the access, with the number of its names in map entries and files, where
@@ -72,6 +72,7 @@ pub trait Pages {
         ensures lives { (e : AMapEntry) → result ≡ Seen.Is e → means.lives self.now slot.fork ≡ true }
         ensures near { is_seen_entry result ≡ true → means.lives self.now slot.fork ≡ true → (means.scene self.now).map_away slot.fork ≡ None }
         ensures follows { FollowsPage result }
+        ensures needs { SeenNeeds means.store self.now result }
         ensures core { means.flat ≡ true → is_seen_entry result ≡ true };
 
     /// Sets an entry that a look at it finds. A page that loses its last name is dropped.
@@ -81,12 +82,14 @@ pub trait Pages {
         requires new { IsNewEntry new }
         ensures told { (d : DrumWords) → means.fits self.old d → means.fits self.new d × (means.plain self.new d ≡ changed (means.plain self.old d) slot new) }
         ensures scene { StaysInCore (means.scene self.old) (means.scene self.new) 0 }
+        ensures loses { MayLose means self.old self.new }
         ensures lives { means.lives self.new ≡ means.lives self.old }
         ensures forks { means.forks_of self.new ≡ means.forks_of self.old }
         ensures serials { means.serial self.new ≡ means.serial self.old }
         ensures most { means.most self.new ≡ means.most self.old };
 
-    /// Makes the zero page or the copy that a touch announces, for an owner. One page is made, in a frame.
+    /// Makes the zero page or the copy that a touch announces, for an owner. One page is made, in a frame. A page that the
+    /// touch finds ready is used.
     fn settle(&mut self, at: Place, kind: Kind, owner: Tty)
         requires place { IsPlace (means.lives self.old) at }
         requires ready { can_settle (means.touched self.old at kind) ≡ true }
@@ -96,19 +99,24 @@ pub trait Pages {
         ensures settles { SettlesTo (means.touched self.old at kind) (means.touched self.new at kind) }
         ensures scene { TakesFrames (means.scene self.old) (means.scene self.new) (frames_taken (means.touched self.old at kind)) }
         ensures count { means.count self.new ≡ means.count self.old + frames_taken (means.touched self.old at kind) }
+        ensures loses { MayLose means self.old self.new }
+        ensures uses { UsesOne means self.old self.new }
+        ensures ready { (home : ℕ) → means.touched self.old at kind ≡ Touch.Ready → StandsAt means self.old at home → IsUsed means.store home self.old self.new }
         ensures lives { means.lives self.new ≡ means.lives self.old }
         ensures forks { means.forks_of self.new ≡ means.forks_of self.old }
         ensures serial { means.serial self.new owner ≤ means.serial self.old owner + 1 }
         ensures serials { (t : ATty) → t ≢ owner → means.serial self.new t ≡ means.serial self.old t }
         ensures most { means.most self.new ≡ means.most self.old };
 
-    /// Puts a word at an offset of the page of a place, which a touch to write finds Ready. Every touch
+    /// Puts a word at an offset of the page of a place, which a touch to write finds Ready, and which is used. Every touch
     /// answers as before.
     fn put(&mut self, at: Place, offset: u16, word: Word)
         requires place { IsPlace (means.lives self.old) at }
         requires offset { offset < PAGE_WORDS }
         requires ready { means.touched self.old at Kind.Write ≡ Touch.Ready }
         ensures told { (d : DrumWords) → means.fits self.old d → means.fits self.new d × (means.plain self.new d ≡ stored (means.plain self.old d) (spot_of at) offset word) }
+        ensures loses { MayLose means self.old self.new }
+        ensures uses { (home : ℕ) → StandsAt means self.old at home → IsUsed means.store home self.old self.new }
         ensures stays { StaysPut means self.old self.new };
 
     /// The handle of a fork's space.
@@ -140,7 +148,16 @@ pub trait Pages {
         ensures told { (d : DrumWords) (f : AForkName) → means.fits self.now d → means.space self.now f ≡ Some space
             → result ≡ word_at (means.plain self.now d) (in_map (slot_at f address)) (address % PAGE_WORDS) };
 
-    /// Puts a word at an address of a space, in a page that was found.
+    /// A use of a page that was found: it is the last to have to leave its frame, and where its departure is queued it is
+    /// taken from the queue.
+    fn used(&mut self, space: SpaceHandle, found: Found)
+        requires space { HasSpace means self.old space }
+        requires found { HasFound means self.old space found }
+        ensures same { StaysSame means self.old self.new }
+        ensures loses { MayLose means self.old self.new }
+        ensures uses { (home : ℕ) → means.store.found self.old home ≡ Some found → IsUsed means.store home self.old self.new };
+
+    /// Puts a word at an address of a space, in a page that was found, which is a use of it.
     fn store(&mut self, space: SpaceHandle, found: Found, address: u32, word: Word)
         requires space { HasSpace means self.old space }
         requires address { IsAddress address }
@@ -148,6 +165,8 @@ pub trait Pages {
         ensures told { (d : DrumWords) (f : AForkName) → means.fits self.old d → means.space self.old f ≡ Some space
             → means.fits self.new d × (means.plain self.new d ≡ stored (means.plain self.old d) (in_map (slot_at f address)) (address % PAGE_WORDS) word) }
         ensures fits { (d : DrumWords) → means.fits self.old d → means.fits self.new d }
+        ensures loses { MayLose means self.old self.new }
+        ensures uses { (home : ℕ) → means.store.found self.old home ≡ Some found → IsUsed means.store home self.old self.new }
         ensures stays { StaysPut means self.old self.new };
 
     /// Adds a fork with its map, which takes a frame at most, and one is free. The map is empty, or each entry of it
@@ -161,6 +180,7 @@ pub trait Pages {
         requires map { IsNewMap (means.lives self.old) fork map }
         ensures told { (d : DrumWords) → means.fits self.old d → means.fits self.new d × (means.plain self.new d ≡ with_map (means.plain self.old d) fork map) }
         ensures scene { TakesMap (means.scene self.old) (means.scene self.new) fork }
+        ensures loses { MayLose means self.old self.new }
         ensures lives { (f : AForkName) → means.lives self.new f ≡ (same_fork f fork || means.lives self.old f) }
         ensures forks { means.forks_of self.new fork.tty ≡ means.forks_of self.old fork.tty + 1 }
         ensures others { (t : ATty) → t ≢ fork.tty → means.forks_of self.new t ≡ means.forks_of self.old t }
@@ -173,6 +193,7 @@ pub trait Pages {
         requires seen { (means.scene self.old).map_away fork ≡ None }
         ensures told { (d : DrumWords) → means.fits self.old d → means.fits self.new d × (means.plain self.new d ≡ without_fork (means.plain self.old d) fork) }
         ensures scene { StaysInCore (means.scene self.old) (means.scene self.new) 0 }
+        ensures loses { MayLose means self.old self.new }
         ensures lives { (f : AForkName) → means.lives self.new f ≡ (not (same_fork f fork) && means.lives self.old f) }
         ensures forks { means.forks_of self.new fork.tty + 1 ≡ means.forks_of self.old fork.tty }
         ensures others { (t : ATty) → t ≢ fork.tty → means.forks_of self.new t ≡ means.forks_of self.old t }
@@ -190,6 +211,7 @@ pub trait Pages {
     /// Full exactly where so many pages more may not live, else NeedFrame exactly where fewer frames are free.
     fn room(&self, pages: u32) -> Room
         ensures answer { result ≡ room_for (means.count self.now) (means.most self.now) (means.scene self.now).free_frames pages }
+        ensures frames { result ≡ Room.NeedFrame → means.store.spare self.now < pages }
         ensures core { means.flat ≡ true → result ≢ Room.NeedFrame };
 
     /// Asks for a page that is in no frame, or for a frame, and answers what to wait for, as a store does.
@@ -200,11 +222,12 @@ pub trait Pages {
         ensures plain { StaysPlain means self.old self.new }
         ensures mapped { StaysMapped means self.old self.new };
 
-    /// Ends the oldest transfer, as a store does. No word of a page changes.
+    /// Ends the oldest transfer, as a store does. No word of a page changes; where the drum fails, nothing changes here.
     fn complete<D: Drum>(&mut self, drum: &mut D) -> Completed
         requires { means.most self.old ≤ D.size drum.old }
         ensures ends { Completes means.store D.fault_count D.read_count D.write_count D.size result self.old self.new drum.old drum.new }
         ensures mapped { StaysMapped means self.old self.new }
+        ensures failed { result ≡ Completed.DrumFault → StaysSame means self.old self.new }
         ensures told { (d : DrumWords) → Stands means.flat (D.held drum.old) d → means.fits self.old d → (result ≡ Completed.DrumFault → ⊥)
             → (e : DrumWords) × Stands means.flat (D.held drum.new) e × means.fits self.new e × (means.plain self.new e ≡ means.plain self.old d) };
 
@@ -218,19 +241,19 @@ pub trait Pages {
         ensures evicts { Evicts means.store frame.0 self.old self.new }
         ensures same { StaysSame means self.old self.new };
 
-    /// Holds the frame of a home's page for a fork, as a store does.
+    /// Holds the frame of a home's page for a fork, or for the console, as a store does.
     fn keep(&mut self, holder: u16, home: Home)
         requires can { CanKeep means.store self.old holder home.0 }
         requires holder { holder < MOST_HOLDERS }
-        requires few { length (means.store.holds self.old holder) < MOST_HELD }
+        requires few { length (means.store.holds self.old holder) < most_held holder }
         ensures keeps { Keeps means.store holder home.0 self.old self.new }
         ensures same { StaysSame means self.old self.new };
 
-    /// How many frames are held for a fork.
+    /// How many frames are held for a holder.
     fn held(&self, holder: u16) -> u32
         ensures { result ≡ length (means.store.holds self.now holder) };
 
-    /// Holds nothing for a fork any more.
+    /// Holds nothing for a holder any more.
     fn let_go(&mut self, holder: u16)
         ensures lets_go { LetsGo means.store holder self.old self.new }
         ensures same { StaysSame means self.old self.new };

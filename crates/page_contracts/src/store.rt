@@ -3,7 +3,7 @@ ghost use Rattle.std.specs.Prelude.{◌≡◌, ◌<◌, ◌≤◌, ◌↔◌, �
 ghost use Rattle.outside.specs.declared.TheConstants.{PAGE_WORDS};
 ghost use Rattle.page_contracts.specs.DrumWords.{DrumWords, Stands};
 ghost use Rattle.machine_names.specs.PageWords.{zero_words};
-ghost use Rattle.page_contracts.specs.Stores.{StoreMeaning, FitsHomes, IsSound, HasPage, IsUsed, IsMade, IsFreed, IsFetched, CanFetch, Completes, Tells, Evicts, CanKeep, Keeps, LetsGo, here, place, is_taken, is_here, word_in, with_word_in, free_homes, room_of, content, meeting, awaited};
+ghost use Rattle.page_contracts.specs.Stores.{StoreMeaning, FitsHomes, IsSound, HasPage, IsUsed, IsMade, IsFreed, IsFetched, CanFetch, Completes, Tells, Evicts, CanKeep, Keeps, LetsGo, most_held, here, place, is_taken, is_here, word_in, with_word_in, free_homes, room_of, content, meeting, awaited};
 
 use crate::{Found, Need};
 use machine_names::{FrameId, Home};
@@ -31,11 +31,17 @@ pub enum Completed {
     DrumFault,
 }
 
-/// The number that holders of frames are below.
-pub const MOST_HOLDERS: u16 = 63;
+/// The number that holders of frames are below: those of the forks, and then that of the console.
+pub const MOST_HOLDERS: u16 = 64;
+
+/// The holder of what an event of the console brings in.
+pub const CONSOLE_HOLDER: u16 = 63;
 
 /// How many frames may be held for one fork.
 pub const MOST_HELD: u32 = 128;
+
+/// How many frames may be held for an event of the console.
+pub const MOST_HELD_FOR_CONSOLE: u32 = 16;
 
 /// Pages of 512 words under homes (CACM paper, "The memory management"). The words of a page stand in a
 /// frame of core, or on the drum alone; of the latter a call without a drum says and changes nothing.
@@ -69,6 +75,12 @@ pub trait Store {
         requires { is_here (place (means.homes self.old) home.0) ≡ true }
         ensures homes { means.homes self.new ≡ means.homes self.old }
         ensures used { IsUsed means home.0 self.old self.new };
+
+    /// The same use of a page that was found.
+    fn renew(&mut self, found: Found)
+        requires { HasPage means self.old found }
+        ensures homes { means.homes self.new ≡ means.homes self.old }
+        ensures used { (home : ℕ) → means.found self.old home ≡ Some found → IsUsed means home self.old self.new };
 
     /// Where the words of a home's page are. None exactly where the page is in no frame.
     fn find(&self, home: Home) -> Option<Found>
@@ -117,7 +129,7 @@ pub trait Store {
         ensures fetched { IsFetched means need self.old self.new };
 
     /// Ends the oldest transfer. Nothing exactly where none is queued; DrumFault only where the drum's count of
-    /// faults rises. No word of a page changes.
+    /// faults rises, and then nothing changes here. No word of a page changes.
     fn complete<D: Drum>(&mut self, drum: &mut D) -> Completed
         requires { length (means.homes self.old) ≤ D.size drum.old }
         ensures ends { Completes means D.fault_count D.read_count D.write_count D.size result self.old self.new drum.old drum.new }
@@ -134,18 +146,18 @@ pub trait Store {
     fn evict(&mut self, frame: FrameId)
         ensures { Evicts means frame.0 self.old self.new };
 
-    /// Holds the frame of a home's page for a fork. It changes nothing where it is held for that fork already.
+    /// Holds the frame of a home's page for a fork, or for the console. It changes nothing where it is held for that holder already.
     fn keep(&mut self, holder: u16, home: Home)
         requires can { CanKeep means self.old holder home.0 }
         requires holder { holder < MOST_HOLDERS }
-        requires few { length (means.holds self.old holder) < MOST_HELD }
+        requires few { length (means.holds self.old holder) < most_held holder }
         ensures { Keeps means holder home.0 self.old self.new };
 
-    /// How many frames are held for a fork.
+    /// How many frames are held for a holder.
     fn held(&self, holder: u16) -> u32
         ensures { result ≡ length (means.holds self.now holder) };
 
-    /// Holds nothing for a fork any more.
+    /// Holds nothing for a holder any more.
     fn let_go(&mut self, holder: u16)
         ensures { LetsGo means holder self.old self.new };
 

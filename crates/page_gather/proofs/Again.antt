@@ -2,7 +2,6 @@
 use Rattle.std.proofs.Common.{◌≡◌, ◌≢◌, ℕ, zero, suc, Bool, true, false, cond, List, [], ◌∷◌, ◌++◌, Option, None, Some, ◌⊎◌, inl, inr, refl, sym, ◌∙◌, ap, subst}
 use Rattle.std.specs.Prelude.{find, is_some}
 use Rattle.std.specs.Option.{option_map, option_and_then}
-use Rattle.std.specs.Ordering.{nat_cmp}
 use Rattle.std.specs.Cmp.{nat_cmp_total}
 use Rattle.machine_names.specs.declared.names.Tty.{Tty}
 use Rattle.machine_names.specs.declared.names.PageName.{PageName}
@@ -13,7 +12,7 @@ use Rattle.machine_names.specs.declared.names.Kind.TheVariants.{Write}
 use Rattle.plain_pages.specs.declared.map.MapEntry.{MapEntry}
 use Rattle.plain_pages.specs.declared.map.MapEntry.TheVariants.{Empty, Names, Follows}
 use Rattle.plain_pages.specs.PlainPages.{NumberedPages}
-use Rattle.plain_pages.specs.Maps.{Entries, Link, Chain, followed, full_access, access_of, behind, chain_within, chain, entry_at, permits}
+use Rattle.plain_pages.specs.Maps.{Entries, Link, Chain, followed, access_of, behind, chain_within, chain, entry_at, permits}
 use Rattle.plain_pages.specs.Room.{HasRoom}
 use Rattle.plain_pages.specs.References.{in_map, Making, blank, copy, blanks, copies, copy_in, along_chain, private_access, makings, make, make_all, granted, denied, reference, page_at}
 use Rattle.machine_names.specs.Bounds.{IsOwner}

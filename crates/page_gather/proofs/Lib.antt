@@ -9,3 +9,4 @@ pub mod Judged
 pub mod Settling
 pub mod WordsSeen
 pub mod Again
+pub mod Needing

@@ -27,6 +27,8 @@ use Rattle.machine_names.specs.Bounds.{IsOwner}
 use Rattle.plain_pages.specs.WholePages.{AreWhole}
 use Rattle.plain_pages.proofs.Makings.{CanMake as CanBeMade, make_whole}
 use Rattle.plain_pages.proofs.Made.{is_blank}
+use Rattle.page_contracts.specs.Stores.{traffic}
+use Rattle.page_contracts.proofs.Losing.{loses_none, loses_on}
 use Rattle.page_contracts.proofs.Rooms.{live_blank, live_copy}
 use Rattle.plain_pages.proofs.Settles.{FirstOf, is_blank as first_blank, is_copy as first_copy, first_making, makings_settled, makings_can}
 use Rattle.plain_pages.proofs.ReferencesMade.{reference_makes, reference_stays, reference_denied, reference_settled, settled_makes, settled_stays, make_first, roomy}
@@ -271,6 +273,21 @@ module _ {P : Type 0} (means : PagesMeaning P) (owner : Tty) where
     maps_away = g.maps_away ∙ h.maps_away;
     pages_away = g.pages_away ∙ h.pages_away;
     framed = g.framed ∙ h.framed;
+    loses = loses_on _ _ _ h.loses g.loses;
+  }
+
+  -- and by none
+  pub grows_none : (n : ℕ) (p : P) → Grows means owner n p p
+  grows_none n p = record {
+    lives = refl;
+    forks = refl;
+    most = refl;
+    serial = omega arith;
+    serials = λ t ne. refl;
+    maps_away = refl;
+    pages_away = refl;
+    framed = refl;
+    loses = loses_none (traffic means.store p) (traffic means.store p) refl refl refl refl;
   }
 
   -- of pages that tell their numbers, as many frames are left as pages may be made

@@ -6,6 +6,7 @@ use Rattle.std.specs.FinMap as map
 use Rattle.machine_names.specs.declared.names.Tty.{Tty}
 use Rattle.machine_names.specs.declared.names.Slot.{Slot}
 use Rattle.machine_names.specs.declared.names.Kind.{Kind}
+use Rattle.machine_names.specs.declared.names.Kind.TheVariants.{Read, Write, Execute}
 use Rattle.machine_names.specs.declared.names.PageName.{PageName}
 use Rattle.page_contracts.specs.declared.answers.Need.TheVariants as need
 use Rattle.page_contracts.specs.declared.store.Room.{Room}
@@ -19,6 +20,7 @@ use Rattle.machine_names.specs.declared.names.ForkName.{ForkName}
 use Rattle.machine_names.specs.declared.names.Place.{Place}
 use Rattle.machine_names.specs.declared.names.Place.TheVariants.{Fork, File}
 use Rattle.page_contracts.specs.Pages.{Scene, IsPlace, map_away, page_away}
+use Rattle.page_contracts.specs.Stores.{StoreMeaning, IsNeeded}
 use Rattle.machine_names.specs.Bounds.{IsOwner}
 use Rattle.plain_pages.specs.WholePages.{AreWhole}
 use Rattle.page_gather.specs.declared.change.Change.{Change}
@@ -147,6 +149,17 @@ changes_of Nothing = 0
 changes_of (Zero c) = 1
 changes_of (Copy c sole) = 1
 changes_of (Both c d) = 2
+
+-- how many homes one reference takes at most
+abbrev pub most_made : Kind → ℕ
+most_made Read = 1
+most_made Write = 2
+most_made Execute = 1
+
+-- what an answer needs first is so, over whatever drum: a map or a page is in no frame, or fewer frames are free than so many
+abbrev pub AnswerNeeds : {P : Type 0} → StoreMeaning P → ℕ → P → Added → Type 0
+AnswerNeeds store most p (Need n) = IsNeeded store most p n
+AnswerNeeds store most p answer = Unit {0}
 
 -- whether two names, if there are, are those of one page
 abbrev pub are_same : Option PageName → Option PageName → Bool

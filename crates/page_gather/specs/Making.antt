@@ -5,7 +5,7 @@ use Rattle.page_contracts.specs.DrumWords.{DrumWords}
 use Rattle.plain_pages.specs.PlainPages.{NumberedPages}
 use Rattle.plain_pages.specs.Room.{live}
 use Rattle.plain_pages.specs.References.{granted}
-use Rattle.page_contracts.specs.Pages.{PagesMeaning, Scene}
+use Rattle.page_contracts.specs.Pages.{PagesMeaning, MayLose, Scene}
 use Rattle.page_gather.specs.declared.reference.PageReference.{PageReference}
 use Rattle.page_gather.specs.declared.change.Change.{Change}
 use Rattle.page_gather.specs.declared.walk.Walked.{Walked}
@@ -14,8 +14,8 @@ use Rattle.page_gather.specs.declared.judging.Judged.{Judged}
 use Rattle.page_gather.specs.Walks.{permits_walked}
 use Rattle.page_gather.specs.Gathering.{AreGathered, AreSound, GoesOn, HasWalked, IsNear, Judges, changes_with, homes_of, referred_to}
 
--- so many pages of an owner were made at most, each in a frame; no other page came into a frame or left it; and nothing else changed that is
--- told without a drum
+-- so many pages of an owner were made at most, each in a frame; no other page came into a frame or left it; transfers may have been taken from the
+-- queue; and nothing else changed that is told without a drum
 pub record Grows {P : Type 0} (means : PagesMeaning P) (owner : Tty) (pages : ℕ) (old new : P) : Type 0 where
   pub lives : means.lives new ≡ means.lives old
   pub forks : means.forks_of new ≡ means.forks_of old
@@ -25,6 +25,7 @@ pub record Grows {P : Type 0} (means : PagesMeaning P) (owner : Tty) (pages : �
   pub maps_away : (means.scene new).map_away ≡ (means.scene old).map_away
   pub pages_away : (means.scene new).page_away ≡ (means.scene old).page_away
   pub framed : means.count new + (means.scene new).free_frames ≡ means.count old + (means.scene old).free_frames
+  pub loses : MayLose means old new
 
 -- a reference goes through to these pages, what it refers to is in frames, and so many frames are free as it wants
 pub record CanMake (p : NumberedPages) (scene : Scene) (owner : Tty) (r : PageReference) (left : NumberedPages) : Type 0 where

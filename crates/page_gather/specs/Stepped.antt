@@ -7,6 +7,8 @@ use Rattle.page_gather.specs.declared.chains.Step.{Step}
 use Rattle.page_gather.specs.declared.chains.Step.TheVariants as step
 use Rattle.page_gather.specs.declared.chains.Way.{Way}
 use Rattle.page_gather.specs.declared.chains.Way.TheVariants as way
+use Rattle.page_contracts.specs.declared.answers.Need.TheVariants as need
+use Rattle.page_contracts.specs.Stores.{StoreMeaning, IsNeeded}
 use Rattle.page_gather.specs.Walks.{View, Ends, Goes}
 
 abbrev pub step_of : View → Step
@@ -44,3 +46,12 @@ is_met met = true
 abbrev pub is_found : Way → Bool
 is_found (way.Absent home) = false
 is_found found = true
+
+-- a map that is met in no frame is away, over whatever drum
+abbrev pub StepNeeds : {P : Type 0} → StoreMeaning P → P → Step → Type 0
+StepNeeds store p (step.Absent home) = IsNeeded store 1 p (need.Page home)
+StepNeeds store p met = Unit {0}
+
+abbrev pub WayNeeds : {P : Type 0} → StoreMeaning P → P → Way → Type 0
+WayNeeds store p (way.Absent home) = IsNeeded store 1 p (need.Page home)
+WayNeeds store p found = Unit {0}

@@ -10,7 +10,7 @@ ghost use Rattle.std.specs.Option.{option_map, option_map_or, option_or};
 ghost use Rattle.std.specs.Prelude.{if◌then◌else◌, Some, None, false};
 ghost use Rattle.page_gather.specs.Walks.{away_within, view, views_of, walk_within};
 ghost use Rattle.page_gather.specs.Changes.{AreChanged, are_in_space, change_of, is_in_space, same_slot, source_of as the_source_of, taken_names};
-ghost use Rattle.page_gather.specs.Stepped.{EndsAtPlace, IsOfLiving, is_found, is_met, step_met, step_of as the_step_of, way_found};
+ghost use Rattle.page_gather.specs.Stepped.{EndsAtPlace, IsOfLiving, StepNeeds, WayNeeds, is_found, is_met, step_met, step_of as the_step_of, way_found};
 
 use crate::change::{Change, FULL_ACCESS};
 use crate::walk::Walked;
@@ -139,6 +139,7 @@ fn step_at<P: Pages>(pages: &P, changes: &[Change], slot: Slot) -> Step
     ensures told { (d : DrumWords) (q : NumberedPages) (owner : ATty) (homes : ℕ) → P.means.fits pages.now d → AreChanged (P.means.plain pages.now d) q owner changes.now homes
         → result ≡ step_met ((P.means.scene pages.now).map_away slot.fork) (option_map view (entry_at q.maps slot)) }
     ensures lives { IsOfLiving (P.means.lives pages.now) slot.fork result }
+    ensures needs { StepNeeds P.means.store pages.now result }
     ensures core { P.means.flat ≡ true → is_met result ≡ true }
 {
     match pages.entry(slot) {
@@ -173,6 +174,7 @@ pub fn walk<P: Pages>(pages: &P, changes: &[Change], left: usize, slot: Slot) ->
     ensures told { (d : DrumWords) (q : NumberedPages) (owner : ATty) (homes : ℕ) → P.means.fits pages.now d → AreChanged (P.means.plain pages.now d) q owner changes.now homes
         → result ≡ way_found (away_within left (P.means.scene pages.now).map_away (views_of (entry_at q.maps)) slot) (walk_within left (views_of (entry_at q.maps)) slot) }
     ensures ends { EndsAtPlace (P.means.lives pages.now) result }
+    ensures needs { WayNeeds P.means.store pages.now result }
     ensures core { P.means.flat ≡ true → is_found result ≡ true }
 {
     if left == 0 {

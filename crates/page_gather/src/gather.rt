@@ -7,7 +7,7 @@ ghost use Rattle.machine_names.specs.Bounds.{IsOwner};
 ghost use Rattle.page_contracts.specs.Pages.{IsPlace, Scene, spot_of};
 ghost use Rattle.plain_pages.specs.References.{page_at, word_at};
 ghost use Rattle.page_gather.specs.Changes.{are_in_space};
-ghost use Rattle.page_gather.specs.Gathering.{Adds, ArePlaces, AreSound, Gathers, IsPlaceNear, PlaceAdds, are_same, changes_of, changes_with, is_needless, left_of};
+ghost use Rattle.page_gather.specs.Gathering.{Adds, AnswerNeeds, ArePlaces, AreSound, Gathers, IsPlaceNear, PlaceAdds, are_same, changes_of, changes_with, is_needless, left_of, most_made};
 ghost use Rattle.machine_names.specs.declared.names.Slot.{Slot as ASlot};
 ghost use Rattle.machine_names.specs.declared.names.TheConstants.{SPACE_PAGES};
 ghost use Rattle.page_gather.specs.Making.{Grows};
@@ -65,6 +65,7 @@ impl Gather {
         requires { IsOwner owner }
         ensures owner { result.owner ≡ owner }
         ensures none { result.references ≡ [] }
+        ensures unmade { result.homes ≡ 0 }
         ensures told { (p : NumberedPages) (scene : Scene) → AreSound p scene → Gathers p scene result }
     {
         Gather {
@@ -80,6 +81,7 @@ impl Gather {
         requires { IsOwner owner }
         ensures owner { self.new.owner ≡ owner }
         ensures none { self.new.references ≡ [] }
+        ensures unmade { self.new.homes ≡ 0 }
         ensures told { (p : NumberedPages) (scene : Scene) → AreSound p scene → Gathers p scene self.new }
     {
         self.owner = owner;
@@ -109,6 +111,8 @@ impl Gather {
         ensures owner { self.new.owner ≡ self.old.owner }
         ensures went { result ≡ Added.Went → self.new.references ≡ self.old.references ++ r ∷ [] }
         ensures stopped { result ≢ Added.Went → self.new ≡ self.old }
+        ensures made { self.new.homes ≤ self.old.homes + most_made r.kind }
+        ensures needs { AnswerNeeds P.means.store (self.old.homes + most_made r.kind) pages.now result }
         ensures core { P.means.flat ≡ true → is_needless result ≡ true }
         ensures told { (d : DrumWords) → P.means.fits pages.now d → Gathers (P.means.plain pages.now d) (P.means.scene pages.now) self.old
             → Adds (P.means.plain pages.now d) (P.means.scene pages.now) self.old self.new r result }
@@ -122,7 +126,7 @@ impl Gather {
 
     /// Adds one reference, to a page of a living fork's space, on the pages that the references added before leave.
     /// Need comes only of a map on the way or a page that is in no frame, or where the pages to be made so far find
-    /// no frame; Denied and Full exactly as it comes to there. Where the answer isn't Went, nothing is added. A
+    /// no frame, which are at most two for a write and one for another reference; Denied and Full exactly as it comes to there. Where the answer isn't Went, nothing is added. A
     /// reference that finds its page ready, while none before it makes one, costs a look at the page.
     pub fn add<P: Pages>(&mut self, pages: &P, at: Place, kind: Kind) -> Added
         requires place { IsPlace (P.means.lives pages.now) at }
@@ -130,6 +134,8 @@ impl Gather {
         ensures owner { self.new.owner ≡ self.old.owner }
         ensures went { result ≡ Added.Went → PlaceAdds self.old.references self.new.references at kind }
         ensures stopped { result ≢ Added.Went → self.new ≡ self.old }
+        ensures made { self.new.homes ≤ self.old.homes + most_made kind }
+        ensures needs { AnswerNeeds P.means.store (self.old.homes + most_made kind) pages.now result }
         ensures core { P.means.flat ≡ true → is_needless result ≡ true }
         ensures told { (d : DrumWords) → P.means.fits pages.now d → Gathers (P.means.plain pages.now d) (P.means.scene pages.now) self.old
             → (slot : ASlot) → at ≡ Place.Fork slot → Adds (P.means.plain pages.now d) (P.means.scene pages.now) self.old self.new (record { slot = slot; kind = kind }) result }

@@ -1,5 +1,5 @@
 // What a reference makes and what it is answered, from what a walk found.
-ghost use Rattle.std.specs.Prelude.{◌≡◌, ◌≤◌, ◌<◌, ◌+◌, ℕ, List, length, true, false, None, Some, is_some};
+ghost use Rattle.std.specs.Prelude.{◌≡◌, ◌≤◌, ◌<◌, ◌+◌, ℕ, List, length, true, false, None, Some, IfSome, is_some};
 ghost use Rattle.std.specs.Option.{option_map};
 ghost use Rattle.machine_names.specs.declared.names.Tty.{Tty as ATty};
 ghost use Rattle.machine_names.specs.declared.names.Slot.{Slot as ASlot};
@@ -13,7 +13,8 @@ ghost use Rattle.page_gather.specs.Walks.{copied_walked, permits_walked};
 ghost use Rattle.page_gather.specs.Changes.{are_in_space};
 ghost use Rattle.page_gather.specs.declared.reference.PageReference.{PageReference as APageReference};
 ghost use Rattle.page_gather.specs.Making.{JudgesOver, MakesAlong};
-ghost use Rattle.page_gather.specs.Gathering.{AreGathered, GoesOn, HasWalked, Judges, after_all, changes_of, changes_with, concluded, homes_of, is_needless, page_or};
+ghost use Rattle.page_contracts.specs.Stores.{IsNeeded};
+ghost use Rattle.page_gather.specs.Gathering.{AnswerNeeds, AreGathered, GoesOn, HasWalked, Judges, after_all, changes_of, changes_with, concluded, homes_of, is_needless, most_made, page_or};
 
 use crate::chains::{MOST_LINKS, Way, is_same, last_change, names_taken, source_of, walk};
 use crate::change::{Change, FULL_ACCESS};
@@ -98,6 +99,7 @@ fn makings_of<P: Pages>(pages: &P, changes: &[Change], r: PageReference, w: Walk
     ensures told { MakesAlong P.means pages.now changes.now r w result }
     ensures few { changes_of result ≤ 2 }
     ensures homes { homes_of result ≤ changes_of result }
+    ensures made { homes_of result ≤ most_made r.kind }
     ensures sources { are_in_space (changes_with changes.now result) ≡ true }
 {
     match w.copied(r.kind) {
@@ -124,6 +126,7 @@ fn page_away<P: Pages>(pages: &P, changes: &[Change], w: Walked) -> Option<Home>
     requires page { w.end.page < SPACE_PAGES }
     ensures told { (d : DrumWords) (q : NumberedPages) (owner : ATty) (homes : ℕ) (s : ASlot) → P.means.fits pages.now d → HasWalked (P.means.plain pages.now d) q (P.means.scene pages.now) owner changes.now homes s w
         → option_map (λ home. home.0) result ≡ the_page_away q (P.means.scene pages.now) (in_map s) }
+    ensures needs { IfSome result (λ home. IsNeeded P.means.store 1 pages.now (Need.Page home)) }
     ensures core { P.means.flat ≡ true → result ≡ None }
 {
     if w.empty {
@@ -184,6 +187,8 @@ fn judge_found<P: Pages>(
     requires homes { homes ≤ length changes.now }
     ensures few { changes_of result.makings ≤ 2 }
     ensures homes { result.homes ≤ homes + changes_of result.makings }
+    ensures made { result.homes ≤ homes + most_made r.kind }
+    ensures needs { AnswerNeeds P.means.store (homes + most_made r.kind) pages.now result.answer }
     ensures sources { are_in_space (changes_with changes.now result.makings) ≡ true }
     ensures core { P.means.flat ≡ true → is_needless result.answer ≡ true }
     ensures told { (d : DrumWords) (owner : ATty) (rs : List APageReference) → P.means.fits pages.now d → AreGathered (P.means.plain pages.now d) (P.means.scene pages.now) owner rs changes.now homes
@@ -223,6 +228,8 @@ pub fn judge<P: Pages>(pages: &P, changes: &[Change], homes: u32, r: PageReferen
     requires homes { homes ≤ length changes.now }
     ensures few { changes_of result.makings ≤ 2 }
     ensures homes { result.homes ≤ homes + changes_of result.makings }
+    ensures made { result.homes ≤ homes + most_made r.kind }
+    ensures needs { AnswerNeeds P.means.store (homes + most_made r.kind) pages.now result.answer }
     ensures sources { are_in_space (changes_with changes.now result.makings) ≡ true }
     ensures core { P.means.flat ≡ true → is_needless result.answer ≡ true }
     ensures told { JudgesOver P.means pages.now changes.now homes r result }

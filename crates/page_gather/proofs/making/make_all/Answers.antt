@@ -2,7 +2,7 @@ use Rattle.std.proofs.Common.{◌+◌, ◌*◌, get_or, ◌∙◌, ap, arith}
 use Rattle.machine_names.specs.declared.names.Kind.TheVariants.{Read}
 use Rattle.page_gather.specs.declared.reference.PageReference.{PageReference}
 use Rattle.page_gather.specs.Gathering.{AreSound}
-use Rattle.page_gather.proofs.Settling.{next_left, next_can, all_made, grows_more, still_framed}
+use Rattle.page_gather.proofs.Settling.{next_left, next_can, none_made, all_made, grows_more, grows_none, still_framed}
 use Rattle.page_gather.proofs.making.make_all.Goals as goal
 
 -- what is read behind the end of a list
@@ -13,6 +13,13 @@ pub make_one-requires-clause-place : goal.make_one-requires-clause-place
 make_one-requires-clause-place g c =
     let r = c.requires.places c.loop-r.r-index none c.loop-r-test.true in
     (ap (λ lives. lives (get_or c.args.references.now c.loop-r.r-index none).slot.fork) c.loop-r.invariant.grows.lives ∙ r.0, r.1)
+
+pub loop-r-init : goal.loop-r-init
+loop-r-init g c = record {
+  grows = grows_none g.P.Pages.means c.args.owner 0 c.args.pages.now;
+  fits = λ d fits. fits;
+  told = λ d fits went. none_made _ _ _ _ _ went;
+}
 
 pub loop-r-preserved : goal.loop-r-preserved
 loop-r-preserved g c = record {

@@ -2,6 +2,8 @@ use Rattle.std.proofs.Common.{◌≡◌, ◌+◌, refl, ◌∙◌, arith}
 use Rattle.plain_pages.specs.Room.{live}
 use Rattle.page_gather.specs.Gathering.{AreSound}
 use Rattle.page_gather.proofs.Settling.{not_stuck, ready_settled, copy_settled, zero_can, zero_once}
+use Rattle.page_gather.proofs.Settling.{grows_more, grows_none}
+use Rattle.page_gather.specs.Making.{Grows}
 use Rattle.page_gather.proofs.making.make_one.Goals as goal
 
 pub returns-in-Ready-clause-told : goal.returns-in-Ready-clause-told
@@ -35,3 +37,31 @@ returns-in-Denied-clause-told g c d left fits k = not_stuck _ _ c.args.owner c.r
 
 pub returns-in-Full-clause-told : goal.returns-in-Full-clause-told
 returns-in-Full-clause-told g c d left fits k = not_stuck _ _ c.args.owner c.requires.owner c.args.r left k _ (c.in-Full.ensures.told d c.args.owner fits c.requires.owner) refl
+
+pub returns-in-Absent-clause-grows : goal.returns-in-Absent-clause-grows
+returns-in-Absent-clause-grows g c = grows_none g.P.Pages.means c.args.owner 2 c.args.pages.now
+
+pub returns-in-NeedFrame-clause-grows : goal.returns-in-NeedFrame-clause-grows
+returns-in-NeedFrame-clause-grows g c = grows_none g.P.Pages.means c.args.owner 2 c.args.pages.now
+
+pub returns-in-Denied-clause-grows : goal.returns-in-Denied-clause-grows
+returns-in-Denied-clause-grows g c = grows_none g.P.Pages.means c.args.owner 2 c.args.pages.now
+
+pub returns-in-Full-clause-grows : goal.returns-in-Full-clause-grows
+returns-in-Full-clause-grows g c = grows_none g.P.Pages.means c.args.owner 2 c.args.pages.now
+
+pub returns-in-Zero-clause-grows : goal.returns-in-Zero-clause-grows
+returns-in-Zero-clause-grows g c =
+    let s = c.settle-in-Zero.ensures in
+    let first : Grows g.P.Pages.means c.args.owner 1 c.args.pages.now c.settle-in-Zero.new.self = record {
+      lives = s.lives;
+      forks = s.forks;
+      most = s.most;
+      serial = s.serial;
+      serials = s.serials;
+      maps_away = s.scene.maps;
+      pages_away = s.scene.pages;
+      framed = omega (arith, s.count, s.scene.frames);
+      loses = s.loses;
+    } in
+    grows_more g.P.Pages.means c.args.owner 1 1 2 c.args.pages.now c.settle-in-Zero.new.self c.make_rest.new.pages refl first c.make_rest.ensures.grows

@@ -1,5 +1,6 @@
 use Rattle.std.proofs.Common.{refl, ◌∙◌}
 use Rattle.page_gather.proofs.Settling.{not_stuck, ready_settled, copy_settled, zero_first}
+use Rattle.page_gather.proofs.Settling.{grows_none}
 use Rattle.page_gather.proofs.making.make_rest.Goals as goal
 
 pub returns-in-Ready-clause-told : goal.returns-in-Ready-clause-told
@@ -23,3 +24,18 @@ returns-in-Denied-clause-told g c d left fits k once = not_stuck _ _ c.args.owne
 
 pub returns-in-Full-clause-told : goal.returns-in-Full-clause-told
 returns-in-Full-clause-told g c d left fits k once = not_stuck _ _ c.args.owner c.requires.owner c.args.r left k _ (c.in-Full.ensures.told d c.args.owner fits c.requires.owner) refl
+
+pub returns-in-Absent-clause-grows : goal.returns-in-Absent-clause-grows
+returns-in-Absent-clause-grows g c = grows_none g.P.Pages.means c.args.owner 1 c.args.pages.now
+
+pub returns-in-NeedFrame-clause-grows : goal.returns-in-NeedFrame-clause-grows
+returns-in-NeedFrame-clause-grows g c = grows_none g.P.Pages.means c.args.owner 1 c.args.pages.now
+
+pub returns-in-Denied-clause-grows : goal.returns-in-Denied-clause-grows
+returns-in-Denied-clause-grows g c = grows_none g.P.Pages.means c.args.owner 1 c.args.pages.now
+
+pub returns-in-Full-clause-grows : goal.returns-in-Full-clause-grows
+returns-in-Full-clause-grows g c = grows_none g.P.Pages.means c.args.owner 1 c.args.pages.now
+
+pub returns-in-Zero-clause-grows : goal.returns-in-Zero-clause-grows
+returns-in-Zero-clause-grows g c = grows_none g.P.Pages.means c.args.owner 1 c.args.pages.now

@@ -65,3 +65,6 @@ returns-clause-serials g c =
     let now = c.args.self.now in
     let mid = c.empty_map.new.self in
     ap serial_of (ap (λ (t : Tables). t.serials) (c.end_fork.ensures []) ∙ c.empty_map.ensures.serials)
+
+pub returns-clause-loses : goal.returns-clause-loses
+returns-clause-loses g c = c.empty_map.ensures.lost

@@ -1,7 +1,7 @@
 use Rattle.std.proofs.Common.{List, sym, ap, subst, refl}
 use Rattle.page_contracts.specs.Stores.{HomePlace, FitsHomes}
 use Rattle.flat_pages.specs.SlotTables.{plain_of}
-use Rattle.flat_pages.specs.SlotTouches.{away_at}
+use Rattle.page_contracts.specs.Stores.{away_at}
 use Rattle.flat_pages.specs.TableSteps.{tables_of}
 use Rattle.flat_pages.specs.SlotTouches.{scene_with, touch_with}
 use Rattle.flat_pages.specs.SlotMeaning.{place_along}
@@ -21,6 +21,8 @@ returns-clause-same g c =
         scene = λ i. scene_with (absent i) t.names (there.framed.spare i);
         space = refl;
         place = λ i. place_along (there.framed.found i) t;
+        map_homes = refl;
+        page_homes = refl;
         lives = refl;
         forks = refl;
         serials = refl;

@@ -42,3 +42,10 @@ returns-in-None-clause-told g c d fits =
     let s = c.args.self.now in
     let t = tables_of (g.S.Store.means.homes s.store) s.tables in
     sym (peek_none t c.args.at (unreached t s.agree c.args.at c.requires.place c.in-None.ensures) d (g.S.Store.means.spare s.store) c.args.offset)
+
+pub returns-in-None-word-clause-needs : goal.returns-in-None-word-clause-needs
+returns-in-None-word-clause-needs g c =
+    let s = c.args.self.now in
+    let t = tables_of (g.S.Store.means.homes s.store) s.tables in
+    let r = reached t s.agree c.args.at c.in-Some.home c.requires.place c.in-Some.ensures in
+    word_away (place t.places c.in-Some.home.0) c.args.offset (sym c.in-None-word.ensures) (reached_taken t s.agree c.args.at c.in-Some.home r)

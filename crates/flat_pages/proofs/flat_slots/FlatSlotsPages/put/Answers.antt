@@ -2,7 +2,7 @@ use Rattle.std.proofs.Common.{◌∙◌, List, sym, ap, subst, refl}
 use Rattle.page_contracts.specs.Stores.{HomePlace, place, with_word_in, FitsHomes}
 use Rattle.machine_names.specs.declared.names.Kind.TheVariants.{Write}
 use Rattle.flat_pages.specs.SlotTables.{plain_of, AreTables}
-use Rattle.flat_pages.specs.SlotTouches.{away_at}
+use Rattle.page_contracts.specs.Stores.{away_at}
 use Rattle.flat_pages.specs.TableSteps.{tables_of}
 use Rattle.flat_pages.proofs.Settling.{sized_of}
 use Rattle.flat_pages.specs.SlotTouches.{scene_with, touch_with}
@@ -12,6 +12,8 @@ use Rattle.flat_pages.proofs.Telling.{tables_told}
 use Rattle.flat_pages.proofs.Meeting.{reached, reached_taken, ready_words}
 use Rattle.flat_pages.proofs.Putting.{replaced, put_away, put_tables, stored_at}
 use Rattle.flat_pages.specs.SlotTables.{AreSized}
+use Rattle.page_contracts.proofs.Losing.{loses_used}
+use Rattle.flat_pages.proofs.Using.{used_at}
 use Rattle.flat_pages.proofs.flat_slots.FlatSlotsPages.put.Goals as goal
 
 pub put-is_put-requires-clause-taken : goal.put-is_put-requires-clause-taken
@@ -56,8 +58,20 @@ returns-in-Some-clause-stays g c =
       scene = λ i. scene_with (absent i) t.names (framed.spare i);
       space = refl;
       place = λ i. place_along (framed.found i) t;
+      map_homes = refl;
+      page_homes = refl;
       lives = refl;
       forks = refl;
       serials = refl;
       most = refl;
     }
+
+pub returns-in-Some-clause-loses : goal.returns-in-Some-clause-loses
+returns-in-Some-clause-loses g c = loses_used g.S.Store.means c.args.self.now.store c.put-is_put.new.self c.in-Some.home.0 c.put-is_put.ensures.used
+
+pub returns-in-Some-clause-uses : goal.returns-in-Some-clause-uses
+returns-in-Some-clause-uses g c home stands =
+    let s = c.args.self.now in
+    let t = tables_of (g.S.Store.means.homes s.store) s.tables in
+    let r = reached t s.agree c.args.at c.in-Some.home c.requires.place c.in-Some.ensures in
+    used_at g.S.Store.means (λ p. p.store) (λ p. tables_of (g.S.Store.means.homes p.store) p.tables) s c.args.at home stands r.slot r.is r.walk r.walks _ (g.met.S.Store.sound s.store) c.in-Some.home r.home c.put-is_put.ensures.used

@@ -61,3 +61,12 @@ returns-in-Narrow-clause-lives g c = set_lives c.args.self.now.tables.maps.held.
 
 pub returns-in-Narrow-clause-forks : goal.returns-in-Narrow-clause-forks
 returns-in-Narrow-clause-forks g c = set_living c.args.self.now.tables.maps.held.items c.set_kept.new.self.tables.maps.held.items _ _ c.set_kept.ensures.maps
+
+pub returns-in-Empty-clause-loses : goal.returns-in-Empty-clause-loses
+returns-in-Empty-clause-loses g c = c.set_unnamed.ensures.lost
+
+pub returns-in-Follows-clause-loses : goal.returns-in-Follows-clause-loses
+returns-in-Follows-clause-loses g c = c.set_unnamed-in-Follows.ensures.lost
+
+pub returns-in-Narrow-clause-loses : goal.returns-in-Narrow-clause-loses
+returns-in-Narrow-clause-loses g c = c.set_kept.ensures.lost

@@ -3,12 +3,14 @@ use Rattle.machine_names.specs.declared.homes.Home.{Home}
 use Rattle.machine_names.specs.declared.names.Place.{Place}
 use Rattle.plain_pages.specs.References.{settled}
 use Rattle.page_contracts.specs.Pages.{spot_of}
-use Rattle.page_contracts.specs.Stores.{HomePlace, FitsHomes}
+use Rattle.machine_names.specs.PageWords.{zero_words}
+use Rattle.page_contracts.specs.declared.answers.Touch.TheVariants.{Ready, Copy}
+use Rattle.page_contracts.specs.Stores.{HomePlace, FitsHomes, here, place}
 use Rattle.plain_pages.specs.Maps.{full_access}
 use Rattle.flat_pages.specs.declared.held_entry.HeldEntry.TheVariants.{Page}
 use Rattle.flat_pages.specs.HeldMaps.{held_entry}
 use Rattle.flat_pages.specs.SlotTables.{plain_of, share_of}
-use Rattle.flat_pages.specs.SlotTouches.{is_alone}
+use Rattle.flat_pages.specs.SlotTouches.{is_alone, touch_of_place}
 use Rattle.flat_pages.specs.TableSteps.{tables_of}
 use Rattle.flat_pages.proofs.Meeting.{copy_held}
 use Rattle.flat_pages.proofs.Settling.{sized_of}
@@ -16,6 +18,8 @@ use Rattle.flat_pages.proofs.Settled.{announced, walk_found, can_copy, ready_awa
 use Rattle.flat_pages.proofs.EntrySetting.{names_none}
 use Rattle.flat_pages.proofs.Settled.{slot_lives, one_is, not_one}
 use Rattle.flat_pages.proofs.flat_slots.FlatSlotsPages.settle.Goals as goal
+use Rattle.page_contracts.proofs.Losing.{loses_made, loses_used}
+use Rattle.flat_pages.proofs.Using.{made_here, used_here, stands_nowhere, used_at}
 use Rattle.flat_pages.proofs.flat_slots.FlatSlotsPages.settle.Goals.{in_default-entry-via-in-Page+else-share-eq1, in_default-entry-via-in_default-entry}
 
 pub make_zero-requires-clause-empty : goal.make_zero-requires-clause-empty
@@ -369,3 +373,97 @@ returns-in_default-entry-clause-forks g c =
       | in_default-entry-via-in_default-entry v ↦ ap (is_alone s.tables.shares.items) c.entry.ensures ∙ names_none s.tables.shares.items c.entry.result (λ h b is. v.in_default-entry.not-Page h b is)
     ] in
     (copy_stored store s.store c.copy_new.new.self.store (g.met.S.Store.sound s.store) (g.met.S.Store.sound c.copy_new.new.self.store) s.tables c.copy_new.new.self.tables s.agree c.copy_new.new.self.agree c.args.at c.in-Fork.slot c.in-Fork.is c.args.kind w r c.args.owner c.requires.owner c.in-Some-home.home c.in-Some-copy_for.to (record full_access { x = w.executes }) c.in-Some-home.is (sym c.copy_for.ensures ∙ c.in-Some-copy_for.is) refl c.entry.result c.entry.ensures shared c.copy_new.ensures).forks
+
+pub returns-in_default-home-clause-loses : goal.returns-in_default-home-clause-loses
+returns-in_default-home-clause-loses g c =
+    let s = c.args.self.now in
+    let store = g.S.Store.means in
+    loses_made store s.store c.make_zero.new.self.store c.make_zero.ensures.home.0 (here zero_words) c.make_zero.ensures.made
+
+pub returns-in_default-home-clause-uses : goal.returns-in_default-home-clause-uses
+returns-in_default-home-clause-uses g c =
+    let s = c.args.self.now in
+    let store = g.S.Store.means in
+    record { home = c.make_zero.ensures.home.0; here = made_here store s.store c.make_zero.new.self.store c.make_zero.ensures.home.0 (here zero_words) c.make_zero.ensures.made refl; renews = c.make_zero.ensures.made.ages }
+
+pub returns-in_default-home-clause-ready : goal.returns-in_default-home-clause-ready
+returns-in_default-home-clause-ready g c home touched stands =
+    let s = c.args.self.now in
+    let store = g.S.Store.means in
+    absurd (stands_nowhere store (λ p. p.store) (λ p. tables_of (store.homes p.store) p.tables) s c.args.at home stands c.in-Fork.slot c.in-Fork.is c.in-Some.walk (sym c.walk.ensures ∙ c.in-Some.is) c.in_default-home.is)
+
+pub returns-in_default-copy_for-clause-loses : goal.returns-in_default-copy_for-clause-loses
+returns-in_default-copy_for-clause-loses g c =
+    let s = c.args.self.now in
+    let store = g.S.Store.means in
+    loses_used store s.store c.used.new.self c.in-Some-home.home.0 c.used.ensures.used
+
+pub returns-in_default-copy_for-clause-uses : goal.returns-in_default-copy_for-clause-uses
+returns-in_default-copy_for-clause-uses g c =
+    let s = c.args.self.now in
+    let store = g.S.Store.means in
+    let t = tables_of (store.homes s.store) s.tables in
+    let w = c.in-Some.walk in
+    let r = announced t (store.spare s.store) c.args.at c.in-Fork.slot c.args.kind w c.in-Fork.is c.requires.place (sym c.walk.ensures ∙ c.in-Some.is) c.requires.ready in
+    let stood = home_here t s.agree (store.spare s.store) c.in-Fork.slot c.args.kind w r c.in-Some-home.home c.in-Some-home.is (ready_away t s.agree (store.spare s.store) c.in-Fork.slot c.args.kind w r c.in-Some-home.home c.in-Some-home.is (sym c.copy_for.ensures ∙ c.in_default-copy_for.is)) in
+    record { home = c.in-Some-home.home.0; here = used_here store s.store c.used.new.self c.in-Some-home.home.0 c.used.ensures.homes stood; renews = c.used.ensures.used.ages }
+
+pub returns-in_default-copy_for-clause-ready : goal.returns-in_default-copy_for-clause-ready
+returns-in_default-copy_for-clause-ready g c home touched stands =
+    let s = c.args.self.now in
+    let store = g.S.Store.means in
+    used_at store (λ p. p.store) (λ p. tables_of (store.homes p.store) p.tables) s c.args.at home stands c.in-Fork.slot c.in-Fork.is c.in-Some.walk (sym c.walk.ensures ∙ c.in-Some.is) _ (g.met.S.Store.sound s.store) c.in-Some-home.home c.in-Some-home.is c.used.ensures.used
+
+pub returns-in-Page-clause-loses : goal.returns-in-Page-clause-loses
+returns-in-Page-clause-loses g c =
+    let s = c.args.self.now in
+    let store = g.S.Store.means in
+    loses_used store s.store c.copy_alone.new.self.store c.in-Some-home.home.0 c.copy_alone.ensures.used
+
+pub returns-in-Page-clause-uses : goal.returns-in-Page-clause-uses
+returns-in-Page-clause-uses g c =
+    let s = c.args.self.now in
+    let store = g.S.Store.means in
+    let t = tables_of (store.homes s.store) s.tables in
+    let w = c.in-Some.walk in
+    let r = announced t (store.spare s.store) c.args.at c.in-Fork.slot c.args.kind w c.in-Fork.is c.requires.place (sym c.walk.ensures ∙ c.in-Some.is) c.requires.ready in
+    let can = can_copy t s.agree (store.spare s.store) c.in-Fork.slot c.args.kind w r c.in-Some-home.home c.in-Some-copy_for.to c.in-Some-home.is (sym c.copy_for.ensures ∙ c.in-Some-copy_for.is) in
+    let stood = home_here t s.agree (store.spare s.store) c.in-Fork.slot c.args.kind w r c.in-Some-home.home c.in-Some-home.is can.away in
+    record { home = c.in-Some-home.home.0; here = used_here store s.store c.copy_alone.new.self.store c.in-Some-home.home.0 c.copy_alone.ensures.homes stood; renews = c.copy_alone.ensures.used.ages }
+
+pub returns-in-Page-clause-ready : goal.returns-in-Page-clause-ready
+returns-in-Page-clause-ready g c home touched stands =
+    let s = c.args.self.now in
+    let store = g.S.Store.means in
+    let t = tables_of (store.homes s.store) s.tables in
+    let w = c.in-Some.walk in
+    let r = announced t (store.spare s.store) c.args.at c.in-Fork.slot c.args.kind w c.in-Fork.is c.requires.place (sym c.walk.ensures ∙ c.in-Some.is) c.requires.ready in
+    let can = can_copy t s.agree (store.spare s.store) c.in-Fork.slot c.args.kind w r c.in-Some-home.home c.in-Some-copy_for.to c.in-Some-home.is (sym c.copy_for.ensures ∙ c.in-Some-copy_for.is) in
+    absurd (let no : Ready ≡ Copy (is_alone t.shares (held_entry t.maps c.in-Some-copy_for.to)) = sym touched ∙ ap (λ (x : Place). touch_of_place t (store.spare s.store) x c.args.kind) c.in-Fork.is ∙ can.is in cc no)
+
+pub returns-in_default-entry-clause-loses : goal.returns-in_default-entry-clause-loses
+returns-in_default-entry-clause-loses g c =
+    let s = c.args.self.now in
+    let store = g.S.Store.means in
+    loses_made store s.store c.copy_new.new.self.store c.copy_new.ensures.home.0 (place (store.homes s.store) c.in-Some-home.home.0) c.copy_new.ensures.made
+
+pub returns-in_default-entry-clause-uses : goal.returns-in_default-entry-clause-uses
+returns-in_default-entry-clause-uses g c =
+    let s = c.args.self.now in
+    let store = g.S.Store.means in
+    let t = tables_of (store.homes s.store) s.tables in
+    let w = c.in-Some.walk in
+    let r = announced t (store.spare s.store) c.args.at c.in-Fork.slot c.args.kind w c.in-Fork.is c.requires.place (sym c.walk.ensures ∙ c.in-Some.is) c.requires.ready in
+    let can = can_copy t s.agree (store.spare s.store) c.in-Fork.slot c.args.kind w r c.in-Some-home.home c.in-Some-copy_for.to c.in-Some-home.is (sym c.copy_for.ensures ∙ c.in-Some-copy_for.is) in
+    let stood = home_here t s.agree (store.spare s.store) c.in-Fork.slot c.args.kind w r c.in-Some-home.home c.in-Some-home.is can.away in
+    record { home = c.copy_new.ensures.home.0; here = made_here store s.store c.copy_new.new.self.store c.copy_new.ensures.home.0 (place t.places c.in-Some-home.home.0) c.copy_new.ensures.made stood; renews = c.copy_new.ensures.made.ages }
+
+pub returns-in_default-entry-clause-ready : goal.returns-in_default-entry-clause-ready
+returns-in_default-entry-clause-ready g c home touched stands =
+    let s = c.args.self.now in
+    let store = g.S.Store.means in
+    let t = tables_of (store.homes s.store) s.tables in
+    let w = c.in-Some.walk in
+    let r = announced t (store.spare s.store) c.args.at c.in-Fork.slot c.args.kind w c.in-Fork.is c.requires.place (sym c.walk.ensures ∙ c.in-Some.is) c.requires.ready in
+    let can = can_copy t s.agree (store.spare s.store) c.in-Fork.slot c.args.kind w r c.in-Some-home.home c.in-Some-copy_for.to c.in-Some-home.is (sym c.copy_for.ensures ∙ c.in-Some-copy_for.is) in
+    absurd (let no : Ready ≡ Copy (is_alone t.shares (held_entry t.maps c.in-Some-copy_for.to)) = sym touched ∙ ap (λ (x : Place). touch_of_place t (store.spare s.store) x c.args.kind) c.in-Fork.is ∙ can.is in cc no)

@@ -2,7 +2,7 @@ use Rattle.std.proofs.Common.{◌∙◌, List, sym, ap, subst, refl}
 use Rattle.machine_names.specs.declared.names.Place.TheVariants.{Fork}
 use Rattle.page_contracts.specs.Stores.{HomePlace, place, with_word_in, FitsHomes}
 use Rattle.flat_pages.specs.SlotTables.{plain_of, AreTables}
-use Rattle.flat_pages.specs.SlotTouches.{away_at}
+use Rattle.page_contracts.specs.Stores.{away_at}
 use Rattle.flat_pages.specs.TableSteps.{tables_of}
 use Rattle.flat_pages.proofs.Settling.{sized_of}
 use Rattle.std.proofs.Common.{◌/◌, ◌%◌}
@@ -13,6 +13,8 @@ use Rattle.flat_pages.proofs.Settling.{fits_set}
 use Rattle.flat_pages.proofs.Telling.{tables_told}
 use Rattle.flat_pages.proofs.Meeting.{space_fork, placed}
 use Rattle.flat_pages.proofs.Putting.{replaced, put_away, put_tables, stored_at}
+use Rattle.page_contracts.proofs.Losing.{loses_used}
+use Rattle.flat_pages.proofs.HandedOn.{used_within}
 use Rattle.flat_pages.proofs.flat_slots.FlatSlotsPages.store.Goals as goal
 
 pub invariant_of-self : goal.invariant_of-self
@@ -51,8 +53,21 @@ returns-clause-stays g c =
       scene = λ i. scene_with (absent i) t.names (used.framed.spare i);
       space = refl;
       place = λ i. place_along (used.framed.found i) t;
+      map_homes = refl;
+      page_homes = refl;
       lives = refl;
       forks = refl;
       serials = refl;
       most = refl;
     }
+
+pub returns-clause-loses : goal.returns-clause-loses
+returns-clause-loses g c =
+    let s = c.args.self.now in
+    let t = tables_of (g.S.Store.means.homes s.store) s.tables in
+    let f = c.requires.space.fork in
+    let x = placed t s.agree (g.S.Store.means.found s.store) (g.met.S.Store.sound s.store).finds c.args.space.0 (c.args.address / 512) f (space_fork s.tables.maps.held.items f c.args.space c.requires.space.is) c.args.found c.requires.place in
+    loses_used g.S.Store.means s.store c.store.new.self x.home.0 (c.store.ensures.used x.home.0 x.spots)
+
+pub returns-clause-uses : goal.returns-clause-uses
+returns-clause-uses g c home is = used_within g.S.Store.means (λ p. p.store) home c.args.self.now _ (c.store.ensures.used home is)

@@ -1,10 +1,14 @@
-use Rattle.std.proofs.Common.{◌∙◌, sym, ap, cond, is_some}
+use Rattle.std.proofs.Common.{refl, ◌∙◌, sym, ap, cond, is_some, subst}
 use Rattle.page_contracts.specs.declared.answers.Touch.TheVariants.{Denied}
 use Rattle.flat_pages.specs.HeldMaps.{index_of}
-use Rattle.flat_pages.specs.SlotTouches.{scene_of, away_at, touch_walked, touch_made, copy_of}
+use Rattle.flat_pages.specs.SlotTouches.{scene_of, touch_walked, touch_made, copy_of}
+use Rattle.page_contracts.specs.Stores.{away_at}
 use Rattle.flat_pages.specs.TableSteps.{tables_of}
 use Rattle.flat_pages.proofs.Meeting.{found_walk, home_taken_is, copy_held, place_lives, at_told}
 use Rattle.flat_pages.proofs.Settling.{sized_of}
+use Rattle.page_contracts.specs.Pages.{TouchNeeds}
+use Rattle.flat_pages.specs.SlotMeaning.{within}
+use Rattle.flat_pages.proofs.Using.{made_needs}
 use Rattle.flat_pages.proofs.flat_slots.FlatSlotsPages.touch.Goals as goal
 
 pub returns-in_default-walk-clause-told : goal.returns-in_default-walk-clause-told
@@ -52,3 +56,9 @@ returns-clause-told g c d owner fits own =
     ∙ ap (touch_walked (away_at t.places) t (scene_of t frames) c.args.kind) (sym c.in-Some.ensures)
     ∙ ap (λ b. cond b (touch_made (away_at t.places) t (scene_of t frames) w.home (copy_of c.args.kind w)) (Denied c.args.kind)) (sym c.permits.ensures ∙ c.if-not-permits.false)
     ∙ ap (touch_made (away_at t.places) t (scene_of t frames) w.home) (sym c.copy_for.ensures) ∙ sym c.made.ensures)
+
+pub returns-clause-needs : goal.returns-clause-needs
+returns-clause-needs g c =
+    let s = c.args.self.now in
+    let t = tables_of (g.S.Store.means.homes s.store) s.tables in
+    subst (TouchNeeds (within g.S.Store.means (λ p. p.store)) s) (sym c.made.ensures) (made_needs (within g.S.Store.means (λ p. p.store)) s t refl c.in-Some.walk.home c.copy_for.result)

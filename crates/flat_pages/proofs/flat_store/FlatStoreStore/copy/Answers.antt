@@ -38,4 +38,5 @@ returns c =
       queued = record { queue = refl; untold = refl };
       holds = refl;
       members = refl;
+      ages = record { youngest = λ frame other is. absurd (cc is); others = λ frame no. refl };
     }

@@ -30,4 +30,5 @@ returns c =
       cancelled = record { queue = refl; untold = refl };
       holds = refl;
       members = refl;
+      ages = λ frame no. refl;
     }

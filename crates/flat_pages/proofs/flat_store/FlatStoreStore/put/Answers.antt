@@ -33,4 +33,5 @@ returns-clause-used c =
       };
       rescued = record { queue = refl; untold = refl };
       holds = refl;
+      ages = record { youngest = λ frame other is. absurd (cc is); others = λ frame no. refl };
     }

@@ -43,4 +43,5 @@ returns-clause-used c home is_found =
       };
       rescued = record { queue = refl; untold = refl };
       holds = refl;
+      ages = record { youngest = λ frame other is. absurd (cc is); others = λ frame no. refl };
     }

@@ -1,0 +1,94 @@
+-- Which page of a store a call on places uses, and what a touch needs first.
+use Rattle.std.proofs.Common.{◌≡◌, ℕ, List, true, false, Bool, cond, Option, None, Some, refl, sym, ◌∙◌, ap, subst, arith}
+use Rattle.std.specs.Prelude.{nat_lt}
+use Rattle.std.specs.Option.{option_map, option_and_then}
+use Rattle.std.proofs.lemmas.Bool.Decides.{nat_tests}
+use Rattle.std.proofs.lemmas.List.{get_or-set_same}
+use Rattle.machine_names.specs.declared.homes.Home.{Home}
+use Rattle.machine_names.specs.declared.names.Place.{Place}
+use Rattle.machine_names.specs.declared.names.Place.TheVariants.{Fork}
+use Rattle.machine_names.specs.declared.names.Slot.{Slot}
+use Rattle.page_contracts.specs.declared.answers.Found.{Found}
+use Rattle.page_contracts.specs.declared.answers.SpaceHandle.{SpaceHandle}
+use Rattle.page_contracts.specs.declared.answers.Touch.{Touch}
+use Rattle.page_contracts.specs.declared.answers.Touch.TheVariants.{Ready, Zero, Copy, NeedFrame, Full}
+use Rattle.page_contracts.specs.Pages.{StandsAt, TouchNeeds, absent_or, framed}
+use Rattle.page_contracts.specs.Stores.{StoreMeaning, HomePlace, free, away, here, IsMade, IsSound, IsUsed, away_at, away_home, is_here, place}
+use Rattle.flat_pages.specs.declared.chain_walk.Walk.{Walk}
+use Rattle.flat_pages.specs.declared.held_entry.EntryAt.{EntryAt}
+use Rattle.flat_pages.specs.HeldMaps.{index_of, held_entry}
+use Rattle.flat_pages.specs.SlotMeaning.{place_along, slots_meaning, within}
+use Rattle.flat_pages.specs.SlotTables.{Tables}
+use Rattle.flat_pages.specs.Walks.{walk}
+use Rattle.flat_pages.specs.SlotTouches.{has_room, is_alone, scene_of, touch_copy, touch_made, walk_of}
+use Rattle.flat_pages.proofs.HandedOn.{used_within}
+
+-- where the page of a living fork's slot is found is told by the walk along its chain
+along_walk : (found : ℕ → Option Found) (t : Tables) (s : Slot) (space : SpaceHandle) → option_map (λ k. record { 0 = k }) (index_of t.maps s.fork) ≡ Some space
+    → place_along found t space s.page ≡ option_and_then (λ w. option_and_then (λ h. found h.0) w.home) (walk_of t.maps s)
+along_walk found t s space e = by (index_of t.maps s.fork) refl e
+  where
+    by : (o : Option ℕ) → index_of t.maps s.fork ≡ o → ◌≡◌ {A = Option SpaceHandle} (option_map (λ k. record { 0 = k }) o) (Some space)
+        → place_along found t space s.page ≡ option_and_then (λ w. option_and_then (λ h. found h.0) w.home) (walk_of t.maps s)
+    by None is k = absurd (cc k)
+    by (Some j) is k =
+        let same : ◌≡◌ {A = SpaceHandle} (record { 0 = j }) space = cc k in
+        ap (λ x. place_along found t x s.page) (sym same)
+        ∙ sym (ap (λ (o : Option ℕ). option_and_then (λ (w : Walk). option_and_then (λ h. found h.0) w.home) (option_and_then (λ i. walk t.maps (record { map = i; page = s.page })) o)) is)
+
+module _ {P S : Type 0} (store : StoreMeaning S) (part : P → S) (tables : P → Tables) (p : P) (at : Place) (home : ℕ) (stands : StandsAt (slots_meaning store part tables) p at home) (s : Slot) (is : at ≡ Fork s) (w : Walk) (walks : walk_of (tables p).maps s ≡ Some w) where
+  -- the page of a place that was found is at the end of its chain
+  found_by : option_and_then (λ h. store.found (part p) h.0) w.home ≡ Some stands.found
+  found_by =
+      let same : stands.slot ≡ s = (let z : Fork stands.slot ≡ Fork s = sym stands.is ∙ is in cc z) in
+      sym (ap (λ (o : Option Walk). option_and_then (λ v. option_and_then (λ h. store.found (part p) h.0) v.home) o) (ap (walk_of (tables p).maps) same ∙ walks))
+      ∙ sym (along_walk (store.found (part p)) (tables p) stands.slot stands.space stands.named) ∙ stands.there
+
+  pub stands_home : IsSound store (part p) → (h : Home) → w.home ≡ Some h → h.0 ≡ home
+  stands_home sound h is_home = sound.apart h.0 home stands.found (sym (ap (option_and_then (λ (x : Home). store.found (part p) x.0)) is_home) ∙ found_by) stands.here
+
+  pub stands_nowhere : w.home ≡ None → ⊥
+  stands_nowhere none = (let z : None ≡ Some stands.found = sym (ap (option_and_then (λ (x : Home). store.found (part p) x.0)) none) ∙ found_by in cc z)
+
+  -- so that page is used
+  pub used_at : (q : P) → IsSound store (part p) → (h : Home) → w.home ≡ Some h → IsUsed store h.0 (part p) (part q) → IsUsed (within store part) home p q
+  used_at q sound h is_home u = used_within store part home p q (subst (λ (k : ℕ). IsUsed store k (part p) (part q)) (stands_home sound h is_home) u)
+
+-- a page that was made, and one that was used where it stood, is in a frame
+module _ {S : Type 0} (store : StoreMeaning S) (old new : S) where
+  pub made_here : (home : ℕ) (page : HomePlace) → IsMade store home page old new → is_here page ≡ true → is_here (place (store.homes new) home) ≡ true
+  made_here home page m h = ap (λ (places : List HomePlace). is_here (place places home)) m.homes ∙ ap is_here (get_or-set_same (store.homes old) home page free m.below) ∙ h
+
+  pub used_here : (home : ℕ) → store.homes new ≡ store.homes old → is_here (place (store.homes old) home) ≡ true → is_here (place (store.homes new) home) ≡ true
+  used_here home same h = ap (λ (places : List HomePlace). is_here (place places home)) same ∙ h
+
+-- what a touch needs first is so
+module _ {P : Type 0} (m : StoreMeaning P) (p : P) (t : Tables) (same : m.homes p ≡ t.places) where
+  framed_needs : (x : Touch) → TouchNeeds m p x → TouchNeeds m p (framed (scene_of t (m.spare p)) x)
+  framed_needs x need = by (nat_lt 0 (m.spare p)) refl
+    where
+      by : (b : Bool) → nat_lt 0 (m.spare p) ≡ b → TouchNeeds m p (cond b x NeedFrame)
+      by true is = need
+      by false is = grind (arith, nat_tests, is)
+
+  absent_needs : (h : ℕ) (x : Touch) → TouchNeeds m p x → TouchNeeds m p (absent_or (away_at t.places h) x)
+  absent_needs h x need = by (place t.places h) refl
+    where
+      by : (q : HomePlace) → place t.places h ≡ q → TouchNeeds m p (absent_or (away_home q h) x)
+      by free is = need
+      by away is = ap (λ (places : List HomePlace). place places h) same ∙ is
+      by (here words) is = need
+
+  room_needs : (b : Bool) (x : Touch) → TouchNeeds m p x → TouchNeeds m p (cond b x Full)
+  room_needs true x need = need
+  room_needs false x need = tt
+
+  pub made_needs : (home : Option Home) (copy : Option EntryAt) → TouchNeeds m p (touch_made (away_at t.places) t (scene_of t (m.spare p)) home copy)
+  made_needs None None = room_needs (has_room t 1) (framed (scene_of t (m.spare p)) Zero) (framed_needs Zero tt)
+  made_needs None (Some e) = room_needs (has_room t 2) (framed (scene_of t (m.spare p)) Zero) (framed_needs Zero tt)
+  made_needs (Some h) None = absent_needs h.0 Ready tt
+  made_needs (Some h) (Some e) = by (is_alone t.shares (held_entry t.maps e))
+    where
+      by : (b : Bool) → TouchNeeds m p (touch_copy t (scene_of t (m.spare p)) (away_at t.places h.0) b)
+      by true = absent_needs h.0 (Copy true) tt
+      by false = room_needs (has_room t 1) (absent_or (away_at t.places h.0) (framed (scene_of t (m.spare p)) (Copy false))) (absent_needs h.0 (framed (scene_of t (m.spare p)) (Copy false)) (framed_needs (Copy false) tt))

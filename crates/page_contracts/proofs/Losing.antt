@@ -1,0 +1,229 @@
+-- What calls lose of what is queued and held, one after another.
+use Rattle.std.proofs.Common.{◌≡◌, ◌⊎◌, inl, inr, ℕ, List, [], ◌∷◌, ◌++◌, Bool, true, false, cond, not, ◌==◌, refl, sym, ◌∙◌, ap, arith, ◌≤◌}
+use Rattle.std.specs.Prelude.{◌||◌, ◌&&◌}
+use Rattle.std.specs.List.{filter, list_any}
+use Rattle.std.proofs.lemmas.Bool.Decides.{eqb_tells}
+use Rattle.machine_names.specs.declared.homes.Home.{Home}
+use Rattle.page_contracts.specs.declared.answers.Need.{Need}
+use Rattle.page_contracts.specs.declared.answers.Need.TheVariants.{Page, Frame}
+use Rattle.page_contracts.specs.Stores.{StoreMeaning, Transfer, arrival, departure, Traffic, Loses, Cancels, IsUsed, IsMade, IsFreed, arrives, departs, moves, need_of, noted, noted_all, same_need, traffic, without, CanFetch, IsNeeded}
+
+or_assoc : (a b c : Bool) → ((a || b) || c) ≡ (a || (b || c))
+or_assoc true b c = refl
+or_assoc false b c = refl
+
+or_none : (b : Bool) → b ≡ (b || false)
+or_none true = refl
+or_none false = refl
+
+or_true : (b : Bool) → (b || true) ≡ true
+or_true true = refl
+or_true false = refl
+
+or_swap : (a b c : Bool) → (a || (b || c)) ≡ (b || (a || c))
+or_swap true b c = sym (or_true b)
+or_swap false b c = refl
+
+or_either : (b c : Bool) → (b || c) ≡ true → (b ≡ true) ⊎ (c ≡ true)
+or_either true c h = inl refl
+or_either false c h = inr h
+
+-- what is so only where another is adds nothing to that
+or_implied : (b c : Bool) → (c ≡ true → b ≡ true) → b ≡ (b || c)
+or_implied b true h = h refl ∙ sym (or_true b)
+or_implied b false h = or_none b
+
+module _ {A : Type 0} where
+  -- what is left of what a test left
+  filter_on : (p q : A → Bool) (xs : List A) → filter (λ x. not (q x)) (filter (λ x. not (p x)) xs) ≡ filter (λ x. not (p x || q x)) xs
+  filter_on p q [] = refl
+  filter_on p q (x ∷ xs) = by (p x) (filter_on p q xs)
+    where
+      by : (a : Bool) → filter (λ y. not (q y)) (filter (λ y. not (p y)) xs) ≡ filter (λ y. not (p y || q y)) xs
+          → filter (λ y. not (q y)) (cond (not a) (x ∷ filter (λ y. not (p y)) xs) (filter (λ y. not (p y)) xs)) ≡ cond (not (a || q x)) (x ∷ filter (λ y. not (p y || q y)) xs) (filter (λ y. not (p y || q y)) xs)
+      by true rest = rest
+      by false rest = ap (λ ys. cond (not (q x)) (x ∷ ys) ys) rest
+
+  -- nothing is left out
+  filter_all : (xs : List A) → filter (λ x. not false) xs ≡ xs
+  filter_all [] = refl
+  filter_all (x ∷ xs) = ap (λ ys. x ∷ ys) (filter_all xs)
+
+  any_filter : (p f : A → Bool) (xs : List A) → list_any p (filter f xs) ≡ list_any (λ x. f x && p x) xs
+  any_filter p f [] = refl
+  any_filter p f (x ∷ xs) = by (f x) (any_filter p f xs)
+    where
+      by : (a : Bool) → list_any p (filter f xs) ≡ list_any (λ y. f y && p y) xs → list_any p (cond a (x ∷ filter f xs) (filter f xs)) ≡ ((a && p x) || list_any (λ y. f y && p y) xs)
+      by true rest = ap (λ b. p x || b) rest
+      by false rest = rest
+
+  any_none : (p : A → Bool) (xs : List A) → list_any (λ x. false && p x) xs ≡ false
+  any_none p [] = refl
+  any_none p (x ∷ xs) = any_none p xs
+
+  any_push : (p : A → Bool) (xs : List A) (y : A) → list_any p (xs ++ y ∷ []) ≡ (list_any p xs || p y)
+  any_push p [] y = sym (or_none (p y))
+  any_push p (x ∷ xs) y = ap (λ b. p x || b) (any_push p xs y) ∙ sym (or_assoc (p x) (list_any p xs) (p y))
+
+  -- what was taken first, or then, was taken
+  any_on : (a b m : A → Bool) (xs : List A) → (list_any (λ x. a x && m x) xs || list_any (λ x. b x && m x) (filter (λ x. not (a x)) xs)) ≡ list_any (λ x. (a x || b x) && m x) xs
+  any_on a b m [] = refl
+  any_on a b m (x ∷ xs) = by (a x) (any_on a b m xs)
+    where
+      by : (c : Bool) → (list_any (λ y. a y && m y) xs || list_any (λ y. b y && m y) (filter (λ y. not (a y)) xs)) ≡ list_any (λ y. (a y || b y) && m y) xs
+          → (((c && m x) || list_any (λ y. a y && m y) xs) || list_any (λ y. b y && m y) (cond (not c) (x ∷ filter (λ y. not (a y)) xs) (filter (λ y. not (a y)) xs))) ≡ (((c || b x) && m x) || list_any (λ y. (a y || b y) && m y) xs)
+      by true rest = or_assoc (m x) (list_any (λ y. a y && m y) xs) (list_any (λ y. b y && m y) (filter (λ y. not (a y)) xs)) ∙ ap (λ d. m x || d) rest
+      by false rest = or_swap (list_any (λ y. a y && m y) xs) (b x && m x) (list_any (λ y. b y && m y) (filter (λ y. not (a y)) xs)) ∙ ap (λ d. (b x && m x) || d) rest
+
+  -- what a test finds was taken, or is left
+  any_apart : (a m : A → Bool) (xs : List A) → list_any m xs ≡ true → (list_any m (filter (λ x. not (a x)) xs) ≡ true) ⊎ (list_any (λ x. a x && m x) xs ≡ true)
+  any_apart a m xs h = or_either (list_any m (filter (λ x. not (a x)) xs)) (list_any (λ x. a x && m x) xs) (by xs ∙ h)
+    where
+      at : (c : Bool) (x : A) (ys : List A) → (list_any m (filter (λ y. not (a y)) ys) || list_any (λ y. a y && m y) ys) ≡ list_any m ys
+          → (list_any m (cond (not c) (x ∷ filter (λ y. not (a y)) ys) (filter (λ y. not (a y)) ys)) || ((c && m x) || list_any (λ y. a y && m y) ys)) ≡ (m x || list_any m ys)
+      at true x ys rest = or_swap (list_any m (filter (λ y. not (a y)) ys)) (m x) (list_any (λ y. a y && m y) ys) ∙ ap (λ e. m x || e) rest
+      at false x ys rest = or_assoc (m x) (list_any m (filter (λ y. not (a y)) ys)) (list_any (λ y. a y && m y) ys) ∙ ap (λ e. m x || e) rest
+
+      by : (ys : List A) → (list_any m (filter (λ y. not (a y)) ys) || list_any (λ y. a y && m y) ys) ≡ list_any m ys
+      by [] = refl
+      by (y ∷ ys) = at (a y) y ys (by ys)
+
+-- needs that are the same are one
+same_is : (n m : Need) → same_need n m ≡ true → n ≡ m
+same_is (Page home) (Page other) h = by (eqb_tells home.0 other.0)
+  where
+    by : ((home.0 == other.0) ≡ true) × (home.0 ≡ other.0) ⊎ ((home.0 == other.0) ≡ false) × (home.0 ≡ other.0 → ⊥) → Page home ≡ Page other
+    by (inl t) = ap (λ (k : ℕ). Page (record { 0 = k })) t.1
+    by (inr t) = absurd (let z : true ≡ false = sym h ∙ t.0 in cc z)
+same_is Frame Frame h = refl
+same_is (Page home) Frame h = absurd (cc h)
+same_is Frame (Page home) h = absurd (cc h)
+
+any_noted : (need n : Need) (needs : List Need) → list_any (same_need need) (noted n needs) ≡ (list_any (same_need need) needs || same_need need n)
+any_noted need n needs = by (list_any (same_need n) needs) refl
+  where
+    by : (b : Bool) → list_any (same_need n) needs ≡ b → list_any (same_need need) (cond b needs (needs ++ n ∷ [])) ≡ (list_any (same_need need) needs || same_need need n)
+    by true is = or_implied (list_any (same_need need) needs) (same_need need n) (λ same. ap (λ (k : Need). list_any (same_need k) needs) (same_is need n same) ∙ is)
+    by false is = any_push (same_need need) needs n
+
+any_noted_all : (need : Need) (ts : List Transfer) (needs : List Need) → list_any (same_need need) (noted_all ts needs) ≡ (list_any (same_need need) needs || list_any (λ t. same_need need (need_of t)) ts)
+any_noted_all need [] needs = or_none (list_any (same_need need) needs)
+any_noted_all need (t ∷ ts) needs =
+    any_noted_all need ts (noted (need_of t) needs) ∙ ap (λ b. b || list_any (λ u. same_need need (need_of u)) ts) (any_noted need (need_of t) needs)
+    ∙ or_assoc (list_any (same_need need) needs) (same_need need (need_of t)) (list_any (λ u. same_need need (need_of u)) ts)
+
+-- nothing is lost
+pub loses_none : (t u : Traffic) → u.queue ≡ t.queue → u.untold ≡ t.untold → u.holds ≡ t.holds → u.members ≡ t.members → Loses t u
+loses_none t u queue untold holds members = record {
+  these = λ x. false;
+  queue = queue ∙ sym (filter_all t.queue);
+  untold = λ need. ap (list_any (same_need need)) untold ∙ or_none (list_any (same_need need) t.untold) ∙ ap (λ b. list_any (same_need need) t.untold || b) (sym (any_none (λ x. same_need need (need_of x)) t.queue));
+  given = λ home. false;
+  holds = λ holder. ap (λ (f : ℕ → List ℕ). f holder) holds ∙ sym (filter_all (t.holds holder));
+  members = members;
+}
+
+-- what is lost by one call and then by another is lost by both
+pub loses_on : (t u v : Traffic) → Loses t u → Loses u v → Loses t v
+loses_on t u v first then = record {
+  these = λ x. first.these x || then.these x;
+  queue = then.queue ∙ ap (without then.these) first.queue ∙ filter_on first.these then.these t.queue;
+  untold = λ need.
+      then.untold need
+      ∙ ap (λ b. b || list_any (λ x. then.these x && same_need need (need_of x)) u.queue) (first.untold need)
+      ∙ ap (λ (q : List Transfer). (list_any (same_need need) t.untold || list_any (λ x. first.these x && same_need need (need_of x)) t.queue) || list_any (λ x. then.these x && same_need need (need_of x)) q) first.queue
+      ∙ or_assoc (list_any (same_need need) t.untold) (list_any (λ x. first.these x && same_need need (need_of x)) t.queue) (list_any (λ x. then.these x && same_need need (need_of x)) (without first.these t.queue))
+      ∙ ap (λ b. list_any (same_need need) t.untold || b) (any_on first.these then.these (λ x. same_need need (need_of x)) t.queue);
+  given = λ home. first.given home || then.given home;
+  holds = λ holder. then.holds holder ∙ ap (filter (λ home. not (then.given home))) (first.holds holder) ∙ filter_on first.given then.given (t.holds holder);
+  members = then.members ∙ first.members;
+}
+
+-- each page that was on its way still is, or is to be told
+pub still_comes : (t u : Traffic) → Loses t u → (home : Home) → list_any (arrives home.0) t.queue ≡ true → (list_any (arrives home.0) u.queue ≡ true) ⊎ (list_any (same_need (Page home)) u.untold ≡ true)
+still_comes t u l home h = elim (any_apart l.these (arrives home.0) t.queue h) [
+  | inl left ↦ inl (ap (list_any (arrives home.0)) l.queue ∙ left)
+  | inr taken ↦ inr (l.untold (Page home) ∙ ap (λ b. list_any (same_need (Page home)) t.untold || b) (same_test t.queue ∙ taken) ∙ or_true (list_any (same_need (Page home)) t.untold))
+]
+  where
+    one : (x : Transfer) → same_need (Page home) (need_of x) ≡ arrives home.0 x
+    one (arrival other) = refl
+    one (departure other) = refl
+
+    same_test : (ts : List Transfer) → list_any (λ x. l.these x && same_need (Page home) (need_of x)) ts ≡ list_any (λ x. l.these x && arrives home.0 x) ts
+    same_test [] = refl
+    same_test (x ∷ xs) = (λ i. (l.these x && one x i) || same_test xs i)
+
+-- what was to be told still is
+pub still_told : (t u : Traffic) → Loses t u → (need : Need) → list_any (same_need need) t.untold ≡ true → list_any (same_need need) u.untold ≡ true
+still_told t u l need h = l.untold need ∙ ap (λ b. b || list_any (λ x. l.these x && same_need need (need_of x)) t.queue) h
+
+-- where nothing is queued and nothing to be told, nothing was queued
+pub none_lost : (t u : Traffic) → Loses t u → u.queue ≡ [] → u.untold ≡ [] → t.queue ≡ []
+none_lost t u l queue untold = by t.queue (sym l.queue ∙ queue) (λ need. sym (l.untold need) ∙ ap (list_any (same_need need)) untold)
+  where
+    both_none : (b c : Bool) → (b || c) ≡ false → c ≡ false
+    both_none true c h = absurd (cc h)
+    both_none false c h = h
+
+    itself : (need : Need) → same_need need need ≡ true
+    itself (Page home) = elim (eqb_tells home.0 home.0) [ inl k ↦ k.0 | inr k ↦ absurd (k.1 refl) ]
+    itself Frame = refl
+
+    at : (c : Bool) (x : Transfer) (xs : List Transfer) → cond (not c) (x ∷ without l.these xs) (without l.these xs) ≡ [] → ((c && same_need (need_of x) (need_of x)) || list_any (λ y. l.these y && same_need (need_of x) (need_of y)) xs) ≡ false → ⊥
+    at true x xs q n = (let z : true ≡ false = sym (ap (λ b. b || list_any (λ y. l.these y && same_need (need_of x) (need_of y)) xs) (itself (need_of x))) ∙ n in cc z)
+    at false x xs q n = cc q
+
+    by : (ts : List Transfer) → without l.these ts ≡ [] → ((need : Need) → (list_any (same_need need) t.untold || list_any (λ y. l.these y && same_need need (need_of y)) ts) ≡ false) → ts ≡ []
+    by [] q n = refl
+    by (x ∷ xs) q n = absurd (at (l.these x) x xs q (both_none (list_any (same_need (need_of x)) t.untold) (list_any (λ y. l.these y && same_need (need_of x) (need_of y)) (x ∷ xs)) (n (need_of x))))
+
+-- nothing more is held
+pub holds_less : (t u : Traffic) → Loses t u → (holder home : ℕ) → list_any (λ h. h == home) (u.holds holder) ≡ true → list_any (λ h. h == home) (t.holds holder) ≡ true
+holds_less t u l holder home h = within (t.holds holder) (sym (ap (list_any (λ k. k == home)) (l.holds holder)) ∙ h)
+  where
+    at : (c : Bool) (x : ℕ) (xs : List ℕ) → (list_any (λ k. k == home) (filter (λ k. not (l.given k)) xs) ≡ true → list_any (λ k. k == home) xs ≡ true)
+        → list_any (λ k. k == home) (cond (not c) (x ∷ filter (λ k. not (l.given k)) xs) (filter (λ k. not (l.given k)) xs)) ≡ true → ((x == home) || list_any (λ k. k == home) xs) ≡ true
+    at true x xs rest e = ap (λ b. (x == home) || b) (rest e) ∙ or_true (x == home)
+    at false x xs rest e = elim (or_either (x == home) (list_any (λ k. k == home) (filter (λ k. not (l.given k)) xs)) e) [
+      | inl own ↦ ap (λ b. b || list_any (λ k. k == home) xs) own
+      | inr other ↦ ap (λ b. (x == home) || b) (rest other) ∙ or_true (x == home)
+    ]
+
+    within : (xs : List ℕ) → list_any (λ k. k == home) (filter (λ k. not (l.given k)) xs) ≡ true → list_any (λ k. k == home) xs ≡ true
+    within [] e = e
+    within (x ∷ xs) e = at (l.given x) x xs (within xs) e
+
+module _ {S : Type 0} (means : StoreMeaning S) (old new : S) where
+  -- transfers that are taken from the queue, and pages that are held no more
+  loses_taken : (these : Transfer → Bool) → Cancels means these old new → (given : ℕ → Bool) → ((holder : ℕ) → means.holds new holder ≡ filter (λ home. not (given home)) (means.holds old holder)) → means.members new ≡ means.members old → Loses (traffic means old) (traffic means new)
+  loses_taken these c given holds members = record {
+    these = these;
+    queue = c.queue;
+    untold = λ need.
+        ap (list_any (same_need need)) c.untold ∙ any_noted_all need (filter these (means.queue old)) (means.untold old)
+        ∙ ap (λ b. list_any (same_need need) (means.untold old) || b) (any_filter (λ x. same_need need (need_of x)) these (means.queue old));
+    given = given;
+    holds = holds;
+    members = members;
+  }
+
+  -- a use, a making and a giving up lose so
+  pub loses_used : (home : ℕ) → IsUsed means home old new → Loses (traffic means old) (traffic means new)
+  loses_used home u = loses_taken (departs home) u.rescued (λ k. false) (λ holder. ap (λ (f : ℕ → List ℕ). f holder) u.holds ∙ sym (filter_all (means.holds old holder))) u.framed.members
+
+  pub loses_made : (home : ℕ) (page : _) → IsMade means home page old new → Loses (traffic means old) (traffic means new)
+  loses_made home page m = loses_none (traffic means old) (traffic means new) m.queued.queue m.queued.untold m.holds m.members
+
+  pub loses_freed : (home : ℕ) → IsFreed means home old new → Loses (traffic means old) (traffic means new)
+  loses_freed home f = loses_taken (moves home) f.cancelled (λ k. k == home) (λ holder. ap (λ (g : ℕ → List ℕ). g holder) f.holds) f.members
+
+-- what is needed can be asked for
+pub can_fetch : {S : Type 0} (means : StoreMeaning S) (most : ℕ) (s : S) (need : Need) → IsNeeded means most s need → CanFetch means s need
+can_fetch means most s (Page home) h = h
+can_fetch means most s Frame h = tt
+
+-- and is needed where more may be
+pub needed_more : {S : Type 0} (means : StoreMeaning S) (least most : ℕ) (s : S) (need : Need) → least ≤ most → IsNeeded means least s need → IsNeeded means most s need
+needed_more means least most s (Page home) more h = h
+needed_more means least most s Frame more h = omega (arith, h, more)
