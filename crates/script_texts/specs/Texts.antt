@@ -1,5 +1,5 @@
 -- The texts of a run: the canonical lines of events, the transcript of items, the record of entries.
-use Rattle.std.specs.Prelude.{ℕ, ◌+◌, List, [], ◌∷◌, ◌++◌, codes, decimal, take, Bool, true, false, ◌||◌, ◌&&◌, nat_lt, Option, None, Some, if◌then◌else◌, ◌==◌}
+use Rattle.std.specs.Prelude.{ℕ, ◌+◌, List, [], ◌∷◌, ◌++◌, codes, decimal, take, Bool, true, false, not, ◌||◌, ◌&&◌, nat_lt, Option, None, Some, if◌then◌else◌, ◌==◌}
 use Rattle.std.specs.List.{flat_map}
 use Rattle.word36.specs.Octal.{octal_padded}
 use Rattle.machine_names.specs.declared.names.ForkName.{ForkName}
@@ -63,28 +63,6 @@ line_of (Trace on) = codes "TRACE " ++ on_or_off on
 abbrev pub ended : List ℕ → List ℕ
 ended line = line ++ 10 ∷ []
 
--- the terminal whose line of characters is open
-abbrev pub Open : Type 0
-Open = Option ℕ
-
--- the end of the open line
-abbrev pub line_end : Open → List ℕ
-line_end None = []
-line_end (Some t) = 10 ∷ []
-
--- what stands before a character of a terminal, behind what is open
-abbrev pub line_start : Open → ℕ → List ℕ
-line_start None t = 84 ∷ (decimal t ++ 32 ∷ [])
-line_start (Some s) t = if s == t then [] else 10 ∷ 84 ∷ (decimal t ++ 32 ∷ [])
-
--- a line ends after a line feed
-abbrev pub char_end : ℕ → List ℕ
-char_end c = if c == 10 then 10 ∷ [] else []
-
--- the terminal whose line is open behind a character
-abbrev pub char_open : ℕ → ℕ → Open
-char_open t c = if c == 10 then None else Some t
-
 -- what a fork waits for
 abbrev pub wait_text : WaitOn → List ℕ
 wait_text Input = codes "INPUT"
@@ -136,28 +114,31 @@ shown_line (PageWord offset word) = codes "W " ++ (octal_padded 3 offset ++ fiel
 shown_line (UnitLine f address) = codes "U " ++ (name_text f ++ field (octal_padded 6 address))
 shown_line (Refusal cause) = cause_text cause
 
--- a line of its own, behind the end of the one that is open
-abbrev pub own_line : Open → Item → List ℕ
-own_line is_open i = line_end is_open ++ ended (shown_line i)
+-- a line of the transcript: characters of a terminal, or another item's text
+pub data TranscriptLine : Type 0 where
+  typed : ℕ → List ℕ → TranscriptLine
+  shown : List ℕ → TranscriptLine
 
--- one item's bytes behind what is open
-abbrev pub item_text : Open → Item → List ℕ
-item_text is_open (Char t c) = line_start is_open t.0 ++ (escaped c ++ char_end c)
-item_text is_open i = own_line is_open i
+-- a character of a terminal before these lines: it joins the terminal's own line where that comes next, but a line feed
+-- ends its line
+abbrev pub put_before : ℕ → ℕ → List TranscriptLine → List TranscriptLine
+put_before t c (typed s cs ∷ ls) = if (c == 10) || not (t == s) then typed t (c ∷ []) ∷ typed s cs ∷ ls else typed s (c ∷ cs) ∷ ls
+put_before t c ls = typed t (c ∷ []) ∷ ls
 
--- the terminal whose line is open behind an item
-abbrev pub item_open : Item → Open
-item_open (Char t c) = char_open t.0 c
-item_open i = None
+-- the lines of items: each longest run of one terminal's characters, and each other item
+abbrev pub lines_of : List Item → List TranscriptLine
+lines_of [] = []
+lines_of (Char t c ∷ is) = put_before t.0 c (lines_of is)
+lines_of (i ∷ is) = shown (shown_line i) ∷ lines_of is
 
--- the text of the items that come while a line may be open, with the last line closed
-abbrev pub text_after : Open → List Item → List ℕ
-text_after is_open [] = line_end is_open
-text_after is_open (i ∷ is) = item_text is_open i ++ text_after (item_open i) is
+-- a line's bytes: T, the terminal and the characters as typed; or the item's
+abbrev pub text_of : TranscriptLine → List ℕ
+text_of (typed t cs) = ended (codes "T" ++ (decimal t ++ 32 ∷ flat_map escaped cs))
+text_of (shown text) = ended text
 
 -- the transcript of a run's items
 abbrev pub transcript : List Item → List ℕ
-transcript is = text_after None is
+transcript is = flat_map text_of (lines_of is)
 
 -- equal turns: units of one fork, or idle entries
 abbrev pub same_turn : Step → Step → Bool

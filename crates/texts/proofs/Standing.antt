@@ -7,7 +7,8 @@ use Rattle.script_texts.specs.declared.event.Item.{Item}
 use Rattle.script_texts.specs.declared.event.Step.{Step}
 use Rattle.machine_names.specs.declared.names.ForkName.{ForkName}
 use Rattle.script_texts.specs.Taker.{GoesOn, IsCut, max_steps}
-use Rattle.script_texts.specs.Texts.{text_after, transcript, item_text, item_open, step_text, step_run, record_after, same_turn, run_line}
+use Rattle.texts.specs.OpenLine.{text_after, item_text, item_open}
+use Rattle.script_texts.specs.Texts.{transcript, step_text, step_run, record_after, same_turn, run_line}
 use Rattle.script_texts.specs.declared.event.Step.TheVariants.{Unit as UnitStep, Idle as IdleStep}
 use Rattle.script_texts.proofs.Takers.{cut_longer}
 use Rattle.std.specs.Prelude.{replicate}

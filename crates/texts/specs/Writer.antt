@@ -6,7 +6,8 @@ use Rattle.outside.specs.Told.{Stays}
 use Rattle.script_texts.specs.declared.event.Item.{Item}
 use Rattle.script_texts.specs.declared.event.Step.{Step}
 use Rattle.script_texts.specs.Taker.{StaysOnward}
-use Rattle.script_texts.specs.Texts.{text_after, transcript, record_after}
+use Rattle.script_texts.specs.Texts.{transcript, record_after}
+use Rattle.texts.specs.OpenLine.{text_after}
 use Rattle.texts.specs.Turns.{open_run, run_count}
 use Rattle.texts.specs.declared.writer.Writer.{Writer}
 use Rattle.texts.specs.Wrote.{Told, Wrote, WrotePartly}
