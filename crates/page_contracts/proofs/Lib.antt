@@ -1,4 +1,3 @@
 pub mod Touches
 pub mod Rooms
 pub mod Ways
-pub mod InCore

@@ -180,9 +180,6 @@ module _ (s : PlainState) (w : IsWhole s) (who : ForkName) (regs : Regs) (k : Fo
 
 -- a fork call leaves the forks and the maps of other jobs
 module _ (s : PlainState) (w : IsWhole s) (caller : Fork) (number : ℕ) (k : ForkName) (other : k.tty.0 ≡ caller.name.tty.0 → ⊥) where
-  pub forks_same : map.get (fork_called s caller number).forks k ≡ map.get s.forks k
-  forks_same = let same = call_same s w caller.name caller.body.regs k other number in same.forks.stays
-
   pub call_stays : Stays caller.name.tty k other (map.get s.forks k) (fork_called s caller number).forks
   call_stays = let same = call_same s w caller.name caller.body.regs k other number in same.forks
 

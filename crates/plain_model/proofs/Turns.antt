@@ -47,10 +47,6 @@ module _ {C K : Type 0} {file_cmp : K → K → Ordering} (p : PlainPages file_c
         by true is = some is
         by false is = none is
 
-  pub ends_comes : (e : End C) → Holds e p → Comes (ends e)
-  unfolding end_of made_by
-  ends_comes e h = h
-
 module _ {K L : Type 0} {file_cmp : K → K → Ordering} (other_cmp : L → L → Ordering) (files : map.FinMap (file_page_cmp other_cmp) PageName) where
   abbrev rekeyed : PlainPages file_cmp → PlainPages other_cmp
   rekeyed p = refiled other_cmp p files
