@@ -5,7 +5,8 @@ use Rattle.outside.specs.Drums.{IsPage}
 use Rattle.outside.specs.Told.{Grows, Stays}
 use Rattle.script_texts.specs.declared.event.Item.{Item}
 use Rattle.script_texts.specs.declared.event.Step.{Step}
-use Rattle.plain_model.specs.State.{PlainState}
+use Rattle.plain_model.specs.State.{PlainState, opening}
+use Rattle.plain_model.proofs.Runs.{legal_flat}
 use Rattle.page_contracts.specs.DrumWords.{DrumWords}
 use Rattle.machine_names.specs.PageWords.{zero_words}
 use Rattle.page_contracts.specs.Stores.{FitsHomes, free}
@@ -155,11 +156,10 @@ module _ {M S T R D : Type 0} {flat : Bool} {fits : M → DrumWords → Type 0} 
             let all : found.0 ≡ bytes = sym (found.2 ∙ (ap (λ rest. found.0 ++ rest) found.4.1 ∙ append-nil found.0)) in
             (subst (λ b. IsScript b ran.events) all found.4.0, found.3 ∙ ap Some found.4.1);
         follows = entries.follows;
-        legal = entries.legal;
-        idle = entries.idle refl;
+        legal = legal_flat true (opening sizes.drum) ran.events ran.entries entries.follows entries.legal;
         transcript_is = subst (λ items. Grows told.out told.out_after (transcript items)) entries.shown (grows_alone told.out told.out_after (transcript given.items) ends.out);
         record_is = ends.rec;
-        fits = record { fit = opened_fit sizes.drum ran.events ran.entries ran.fit entries.legal; few = omega (arith, ran.few); few_reads = few_reads; few_writes = few_writes };
+        fits = record { fit = opened_fit true sizes.drum ran.events ran.entries ran.fit entries.follows entries.legal; few = omega (arith, ran.few); few_reads = few_reads; few_writes = few_writes };
       }
 
   -- both texts were closed with their last lines

@@ -7,7 +7,7 @@ use Rattle.script_texts.specs.declared.event.Step.{Step}
 use Rattle.plain_model.specs.State.{opening}
 use Rattle.script_texts.specs.Entries.{FitsRecord}
 use Rattle.script_texts.specs.Follows.{Follows}
-use Rattle.plain_model.specs.Run.{IsLegal, AreLegal, items_of}
+use Rattle.plain_model.specs.Run.{AreLegal, items_of}
 use Rattle.script_texts.specs.Script.{IsScript}
 use Rattle.script_texts.specs.Texts.{transcript, record_after, record_text}
 use Rattle.command_words.specs.declared.sizes.Sizes.{Sizes}
@@ -35,8 +35,7 @@ pub record Headline (sizes : Sizes) (told : Observed) : Type 0 where
   pub entries : List Step
   pub spelled : (bytes : List ℕ) → told.script ≡ Some bytes → IsScript bytes events × (told.script_after ≡ Some [])
   pub follows : Follows events entries
-  pub legal : IsLegal true (opening sizes.drum) events entries
-  pub idle : AreLegal true (opening sizes.drum) entries
+  pub legal : AreLegal true (opening sizes.drum) entries
   pub transcript_is : Grows told.out told.out_after (transcript (items_of (opening sizes.drum) entries))
   pub record_is : Grows told.rec told.rec_after (record_text entries told.reads told.writes)
   pub fits : FitsRecord entries told.reads told.writes
