@@ -1,5 +1,5 @@
 -- The texts of a run: the canonical lines of events, the transcript of items, the record of entries.
-use Rattle.std.specs.Prelude.{ℕ, ◌+◌, List, [], ◌∷◌, ◌++◌, codes, decimal, take, Bool, true, false, not, ◌||◌, ◌&&◌, nat_lt, Option, None, Some, if◌then◌else◌, ◌==◌}
+use Rattle.std.specs.Prelude.{ℕ, ◌+◌, List, [], ◌∷◌, ◌++◌, codes, decimal, take, Bool, true, false, not, ◌||◌, ◌&&◌, nat_lt, if◌then◌else◌, ◌==◌}
 use Rattle.std.specs.List.{flat_map}
 use Rattle.word36.specs.Octal.{octal_padded}
 use Rattle.machine_names.specs.declared.names.ForkName.{ForkName}
@@ -146,45 +146,25 @@ same_turn (AUnit f) (AUnit g) = (f.tty.0 == g.tty.0) && (f.serial == g.serial)
 same_turn Idle Idle = true
 same_turn x y = false
 
--- the run of equal turns that is open, and how many they are
-abbrev pub OpenRun : Type 0
-OpenRun = Option (Step × ℕ)
+-- an entry before these runs of equal entries: a turn joins the run that comes next where it is of its turns
+abbrev pub put_entry : Step → List (Step × ℕ) → List (Step × ℕ)
+put_entry s [] = (s, 1) ∷ []
+put_entry s (r ∷ rs) = if same_turn s r.0 then (s, r.1 + 1) ∷ rs else (s, 1) ∷ r ∷ rs
 
--- the line of so many equal turns; an event is no turn
+-- entries as runs: each longest run of equal turns, and how many they are; and each event
+abbrev pub runs_of : List Step → List (Step × ℕ)
+runs_of [] = []
+runs_of (s ∷ ss) = put_entry s (runs_of ss)
+
+-- the line of so many equal turns, or of an event
 abbrev pub run_line : Step → ℕ → List ℕ
+run_line (Outer e) n = ended (line_of e)
 run_line (AUnit f) n = ended (codes "U " ++ (name_text f ++ field (decimal n)))
 run_line Idle n = ended (codes "I " ++ decimal n)
-run_line (Outer e) n = []
 
--- the line of the run that is open
-abbrev pub run_end : OpenRun → List ℕ
-run_end None = []
-run_end (Some r) = run_line r.0 r.1
-
--- one turn's bytes behind an open run
-abbrev pub turn_text : OpenRun → Step → List ℕ
-turn_text None s = []
-turn_text (Some r) s = if same_turn r.0 s then [] else run_line r.0 r.1
-
--- the run that is open behind a turn
-abbrev pub turn_run : OpenRun → Step → OpenRun
-turn_run None s = Some (s, 1)
-turn_run (Some r) s = if same_turn r.0 s then Some (s, r.1 + 1) else Some (s, 1)
-
--- one entry's bytes behind an open run
-abbrev pub step_text : OpenRun → Step → List ℕ
-step_text run (Outer e) = run_end run ++ ended (line_of e)
-step_text run s = turn_text run s
-
--- the run that is open behind an entry
-abbrev pub step_run : OpenRun → Step → OpenRun
-step_run run (Outer e) = None
-step_run run s = turn_run run s
-
--- the record of the steps that come while a run may be open, with the last run closed
-abbrev pub record_after : OpenRun → List Step → List ℕ
-record_after run [] = run_end run
-record_after run (s ∷ ss) = step_text run s ++ record_after (step_run run s) ss
+-- the lines of entries
+abbrev pub entries_text : List Step → List ℕ
+entries_text ss = flat_map (λ r. run_line r.0 r.1) (runs_of ss)
 
 -- the last line of a record: how often the drum was read and written
 abbrev pub counts_line : ℕ → ℕ → List ℕ
@@ -192,4 +172,4 @@ counts_line reads writes = ended (codes "E " ++ (decimal reads ++ field (decimal
 
 -- the record of a run's entries
 abbrev pub record_text : List Step → ℕ → ℕ → List ℕ
-record_text ss reads writes = record_after None ss ++ counts_line reads writes
+record_text ss reads writes = entries_text ss ++ counts_line reads writes

@@ -12,7 +12,7 @@ use Rattle.machine_names.specs.PageWords.{zero_words}
 use Rattle.page_contracts.specs.Stores.{FitsHomes, free}
 use Rattle.script_texts.specs.Taker.{GoesOn}
 use Rattle.script_texts.specs.Script.{IsScript}
-use Rattle.script_texts.specs.Texts.{transcript, record_after}
+use Rattle.script_texts.specs.Texts.{transcript, entries_text}
 use Rattle.plain_laws.proofs.Named.{opened_fit}
 use Rattle.flat_pages.proofs.StoredPlaces.{zeros_fit}
 use Rattle.command_words.specs.declared.sizes.Sizes.{Sizes}
@@ -139,7 +139,7 @@ module _ {M S T R D : Type 0} {flat : Bool} {fits : M → DrumWords → Type 0} 
       record {
         so_far = driven_to driven ran;
         transcript_is = ends.out;
-        record_is = grows_alone told.rec told.rec_after (record_after None ran.entries) ends.rec;
+        record_is = grows_alone told.rec told.rec_after (entries_text ran.entries) ends.rec;
       }
 
   headline : told.reads < 2 ^ 64 → told.writes < 2 ^ 64 → Drove WholeScript → Finishes out_taken rec_taken (Ended told.reads told.writes) v u → Headline sizes told
@@ -194,7 +194,7 @@ module _ {M S T R D : Type 0} {flat : Bool} {fits : M → DrumWords → Type 0} 
         driven = driven;
         so_far = driven_to driven ran;
         transcript_front = subst (λ l. WrotePartly told.out told.out_after (transcript given.items ++ closing end_line l)) (sym is) ends.out;
-        record_front = subst (λ l. WrotePartly told.rec told.rec_after (record_after None ran.entries ++ closing record_end l)) (sym is) ends.rec;
+        record_front = subst (λ l. WrotePartly told.rec told.rec_after (entries_text ran.entries ++ closing record_end l)) (sym is) ends.rec;
       }
 
   -- the writer failed before the end
@@ -204,7 +204,7 @@ module _ {M S T R D : Type 0} {flat : Bool} {fits : M → DrumWords → Type 0} 
       let given = ran.told words opens in
       let cut = keeps.each w (given.items ++ []) (ran.entries ++ []) (given.given.each w [] [] [] [] ran.few (start out_taken rec_taken w u line run)) in
       let items : transcript (given.items ++ []) ≡ transcript given.items ++ [] = ap transcript (append-nil given.items) ∙ sym (append-nil (transcript given.items)) in
-      let entries : record_after None (ran.entries ++ []) ≡ record_after None ran.entries ++ [] = ap (record_after None) (append-nil ran.entries) ∙ sym (append-nil (record_after None ran.entries)) in
+      let entries : entries_text (ran.entries ++ []) ≡ entries_text ran.entries ++ [] = ap entries_text (append-nil ran.entries) ∙ sym (append-nil (entries_text ran.entries)) in
       record {
         driven = TakerFault;
         so_far = driven_to TakerFault ran;

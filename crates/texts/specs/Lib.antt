@@ -3,3 +3,4 @@ pub mod Turns
 pub mod Wrote
 pub mod Writer
 pub mod OpenLine
+pub mod OpenRun
