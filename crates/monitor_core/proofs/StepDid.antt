@@ -13,7 +13,7 @@ use Rattle.page_contracts.specs.DrumWords.{DrumWords}
 use Rattle.monitor_core.specs.Outcome.{Gave}
 use Rattle.script_texts.specs.Taker.{GoesOn, IsCut}
 use Rattle.plain_model.specs.Run.{apply, state_after, items_of, AreLegal, IsLegalStep}
-use Rattle.script_texts.specs.Follows.{shape_of, single, IsTurn, AreTurns, FollowsOne, FollowsShape, Begins, BeginsShape, auto_after}
+use Rattle.script_texts.specs.Follows.{shape_of, single, IsTurn, AreTurns, AreOfShape, FollowsOne, Begins, auto_after}
 use Rattle.plain_model.specs.Unit.{Effect}
 use Rattle.plain_model.proofs.Equations.{apply_idle}
 use Rattle.script_texts.proofs.Takers.{onward_nil, AreTurns-append}
@@ -44,10 +44,10 @@ silent_items s (Forks t) h = absurd (cc h)
 
 -- the entry of an event that is one follows it
 follows_event : (e : Event) → shape_of e ≡ single → FollowsOne e (Outer e ∷ [])
-follows_event e is = subst (λ s. FollowsShape s e (Outer e ∷ [])) (sym is) refl
+follows_event e is = subst (λ s. AreOfShape (λ m n. m ≡ n) (Outer e ∷ []) s (Outer e ∷ [])) (sym is) refl
 
 begins_event : (e : Event) → shape_of e ≡ single → Begins e (Outer e ∷ [])
-begins_event e is = subst (λ s. BeginsShape s e (Outer e ∷ [])) (sym is) refl
+begins_event e is = subst (λ s. AreOfShape (λ m n. m ≤ n) (Outer e ∷ []) s (Outer e ∷ [])) (sym is) refl
 
 -- and leaves the AUTO mark
 single_mark : (mark : Bool) (e : Event) → shape_of e ≡ single → auto_after mark e ≡ mark

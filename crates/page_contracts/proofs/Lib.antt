@@ -1,5 +1,4 @@
 pub mod Touches
 pub mod Rooms
 pub mod Ways
-pub mod InCore
 pub mod Losing

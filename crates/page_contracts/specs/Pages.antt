@@ -42,12 +42,6 @@ pub record Scene : Type 0 where
   pub page_away : PageName → Option ℕ
   pub free_frames : ℕ
 
--- everything is in frames, and one is free
-pub record IsInCore (scene : Scene) : Type 0 where
-  pub maps : (f : ForkName) → scene.map_away f ≡ None
-  pub pages : (n : PageName) → scene.page_away n ≡ None
-  pub frame : 0 < scene.free_frames
-
 -- nothing has left its frame, and so many frames at most were taken
 pub record StaysInCore (old new : Scene) (taken : ℕ) : Type 0 where
   pub maps : (f : ForkName) → old.map_away f ≡ None → new.map_away f ≡ None

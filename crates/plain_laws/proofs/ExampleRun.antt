@@ -16,7 +16,7 @@ use Rattle.script_texts.specs.declared.status.ForkStatus.TheVariants.{Run, Halte
 use Rattle.plain_model.specs.declared.fork.TerminalMode.{TerminalMode}
 use Rattle.plain_model.specs.declared.fork.TerminalMode.TheVariants.{Command, Program}
 use Rattle.script_texts.specs.declared.event.Event.{Event}
-use Rattle.script_texts.specs.declared.event.Event.TheVariants.{Login, Poke, Start, Run as Turns}
+use Rattle.script_texts.specs.declared.event.Event.TheVariants.{Login, Poke, Start}
 use Rattle.script_texts.specs.declared.event.Item.TheVariants.{Char}
 use Rattle.script_texts.specs.declared.event.Step.{Step}
 use Rattle.script_texts.specs.declared.event.Step.TheVariants.{Outer, Unit as AUnit, Idle}
@@ -44,8 +44,8 @@ use Rattle.plain_units.specs.Steps.{Planned, goes, is_accumulator, seen, word_ta
 use Rattle.plain_units.specs.Addressing.{address, address_within, most_words}
 use Rattle.plain_units.specs.Deeds.{deed_of, taken_of}
 use Rattle.plain_units.specs.Instructions.{instruction, execute, takes, finishes, does}
-use Rattle.plain_model.specs.Run.{apply, items_of, AreLegal, IsLegal, IsLegalStep}
-use Rattle.script_texts.specs.Follows.{Follows, FollowsShape, single, shape_of, auto_after}
+use Rattle.plain_model.specs.Run.{apply, items_of, AreLegal, IsLegalStep}
+use Rattle.script_texts.specs.Follows.{Follows}
 use Rattle.plain_laws.specs.Example.{first_terminal, first_fork, movei_word, pbout_word, haltf_word, example_events, example_steps, example_items}
 use Rattle.plain_model.specs.Trees.{unwaited, end_told}
 use Rattle.machine_names.proofs.OrderLemmas.{fork_cmp_total, page_cmp_total}
@@ -393,61 +393,30 @@ only_halted f k false other there runs =
 none_runs : IsLegalStep true (at pages_5 jobs_3 forks_5) Idle
 none_runs on f r = only_halted f r.0 (eq_by_cmp fork_cmp f first_fork) refl r.1 r.2
 
-legal_6 : IsLegal true (at pages_5 jobs_2 forks_2) (Turns 5 ∷ []) rest_6
+legal_6 : AreLegal true (at pages_5 jobs_2 forks_2) rest_6
 unfolding apply
 legal_6 = (
-  rest_6,
-  [],
-  refl,
-  (refl, (tt, (tt, (tt, (tt, (tt, tt)))))),
-  (
-    (fork Run regs_0 0, fork_set forks_1 first_fork (fork Run regs_0 0), refl, refl),
-    subst (λ s. AreLegal true s rest_7) (sym (ap (λ (e : Effect). e.state) moves)) (
-      (fork Run regs_1 1, fork_set forks_2 first_fork (fork Run regs_1 1), refl, refl),
-      subst (λ s. AreLegal true s rest_8) (sym (ap (λ (e : Effect). e.state) prints)) (
-        (fork Run regs_2 2, fork_set forks_3 first_fork (fork Run regs_2 2), refl, refl),
-        subst (λ s. AreLegal true s rest_9) (sym (ap (λ (e : Effect). e.state) halts)) (none_runs, (none_runs, tt)),
-      ),
+  (fork Run regs_0 0, fork_set forks_1 first_fork (fork Run regs_0 0), refl, refl),
+  subst (λ s. AreLegal true s rest_7) (sym (ap (λ (e : Effect). e.state) moves)) (
+    (fork Run regs_1 1, fork_set forks_2 first_fork (fork Run regs_1 1), refl, refl),
+    subst (λ s. AreLegal true s rest_8) (sym (ap (λ (e : Effect). e.state) prints)) (
+      (fork Run regs_2 2, fork_set forks_3 first_fork (fork Run regs_2 2), refl, refl),
+      subst (λ s. AreLegal true s rest_9) (sym (ap (λ (e : Effect). e.state) halts)) (none_runs, (none_runs, tt)),
     ),
   ),
-  refl,
 )
 
--- the events from each place on
-abbrev events_6 : List Event
-events_6 = Turns 5 ∷ []
+-- an event's entry, before legal ones
+before : (s : PlainState) (e : Event) (d : Effect) (xs : List Step) → apply s (Outer e) ≡ d → AreLegal true d.state xs → AreLegal true s (Outer e ∷ xs)
+before s e d xs is legal = (tt, subst (λ (c : Effect). AreLegal true c.state xs) (sym is) legal)
 
-abbrev events_5 : List Event
-events_5 = Start first_terminal 64 ∷ events_6
-
-abbrev events_4 : List Event
-events_4 = Poke first_terminal 66 haltf_word ∷ events_5
-
-abbrev events_3 : List Event
-events_3 = Poke first_terminal 65 pbout_word ∷ events_4
-
-abbrev events_2 : List Event
-events_2 = Poke first_terminal 64 movei_word ∷ events_3
-
--- an event of one entry, before legal ones
-before : (s : PlainState) (e : Event) (d : Effect) (es : List Event) (xs : List Step) → shape_of e ≡ single → auto_after true e ≡ true → apply s (Outer e) ≡ d → IsLegal true d.state es xs
-    → IsLegal true s (e ∷ es) (Outer e ∷ xs)
-before s e d es xs one stays is legal = (
-  Outer e ∷ [],
-  xs,
-  refl,
-  subst (λ h. FollowsShape h e (Outer e ∷ [])) (sym one) refl,
-  (tt, tt),
-  subst (λ a. IsLegal a (apply s (Outer e)).state es xs) (sym stays) (subst (λ (c : Effect). IsLegal true c.state es xs) (sym is) legal),
-)
-
-pub example_legal : IsLegal true (opening 2048) example_events example_steps
+pub example_legal : AreLegal true (opening 2048) example_steps
 example_legal =
-    before (opening 2048) (Login first_terminal (codes "SMITH")) (record { state = at pages_1 jobs_1 forks_1; items = Char first_terminal 64 ∷ [] }) events_2 rest_2 refl refl logs_in (
-    before (at pages_1 jobs_1 forks_1) (Poke first_terminal 64 movei_word) (record { state = at pages_3 jobs_1 forks_1; items = [] }) events_3 rest_3 refl refl pokes_1 (
-    before (at pages_3 jobs_1 forks_1) (Poke first_terminal 65 pbout_word) (record { state = at pages_4 jobs_1 forks_1; items = [] }) events_4 rest_4 refl refl pokes_2 (
-    before (at pages_4 jobs_1 forks_1) (Poke first_terminal 66 haltf_word) (record { state = at pages_5 jobs_1 forks_1; items = [] }) events_5 rest_5 refl refl pokes_3 (
-    before (at pages_5 jobs_1 forks_1) (Start first_terminal 64) (record { state = at pages_5 jobs_2 forks_2; items = [] }) events_6 rest_6 refl refl starts legal_6
+    before (opening 2048) (Login first_terminal (codes "SMITH")) (record { state = at pages_1 jobs_1 forks_1; items = Char first_terminal 64 ∷ [] }) rest_2 logs_in (
+    before (at pages_1 jobs_1 forks_1) (Poke first_terminal 64 movei_word) (record { state = at pages_3 jobs_1 forks_1; items = [] }) rest_3 pokes_1 (
+    before (at pages_3 jobs_1 forks_1) (Poke first_terminal 65 pbout_word) (record { state = at pages_4 jobs_1 forks_1; items = [] }) rest_4 pokes_2 (
+    before (at pages_4 jobs_1 forks_1) (Poke first_terminal 66 haltf_word) (record { state = at pages_5 jobs_1 forks_1; items = [] }) rest_5 pokes_3 (
+    before (at pages_5 jobs_1 forks_1) (Start first_terminal 64) (record { state = at pages_5 jobs_2 forks_2; items = [] }) rest_6 starts legal_6
     )
     )
     )

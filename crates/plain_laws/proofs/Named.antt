@@ -47,7 +47,7 @@ use Rattle.plain_model.specs.Events.{at_job, next_fork, with_job, restarted, log
 use Rattle.plain_pages.specs.NewMaps.{with_map}
 use Rattle.machine_names.specs.Bounds.{IsForkName, IsTerminal}
 use Rattle.script_texts.specs.Limits.{FitsEvent, FitsStep}
-use Rattle.script_texts.specs.Follows.{Shape, silent, turns, single, shape_of, IsTurn, AreTurns, FollowsShape, auto_after}
+use Rattle.script_texts.specs.Follows.{Shape, silent, turns, single, shape_of, IsTurn, AreTurns, AreOfShape, Follows, auto_after}
 use Rattle.plain_model.specs.Run.{apply, state_after, IsLegalStep, AreLegal, IsLegal}
 use Rattle.plain_units.proofs.Lookups.{looked_up}
 use Rattle.machine_names.proofs.OrderLemmas.{fork_cmp_total, fork_cmp_apart}
@@ -364,18 +364,18 @@ turns_fit auto s (x ∷ xs) n are legal =
     let fits = turn_fits s n auto x are.0 legal.0 in
     All-cons FitsStep x xs fits (turns_fit auto (apply s x).state xs (step_named s n x fits) are.1 legal.1)
 
-event_fits : (auto : Bool) (s : PlainState) (e : Event) (shape : Shape) (xs : List Step) → IsNamed s → FitsEvent e → shape_of e ≡ shape → FollowsShape shape e xs → AreLegal auto s xs → All FitsStep xs
+event_fits : (auto : Bool) (s : PlainState) (e : Event) (shape : Shape) (xs : List Step) → IsNamed s → FitsEvent e → shape_of e ≡ shape → AreOfShape (λ m n. m ≡ n) (Outer e ∷ []) shape xs → AreLegal auto s xs → All FitsStep xs
 event_fits auto s e silent xs n fits is follows legal = All-same FitsStep xs [] follows (All-nil FitsStep)
 event_fits auto s e (turns count) xs n fits is follows legal = turns_fit auto s xs n follows.1 legal
 event_fits auto s e single xs n fits is follows legal = All-same FitsStep xs (Outer e ∷ []) follows (All-cons FitsStep (Outer e) [] (fits, is) (All-nil FitsStep))
 
-events_fit : (auto : Bool) (s : PlainState) (es : List Event) (xs : List Step) → IsNamed s → All FitsEvent es → IsLegal auto s es xs → All FitsStep xs
-events_fit auto s [] xs n fits legal = All-same FitsStep xs [] legal (All-nil FitsStep)
-events_fit auto s (e ∷ es) xs n fits legal =
-    let now = event_fits auto s e (shape_of e) legal.0 n (All-head FitsEvent e es fits) refl legal.3 legal.4 in
-    let later = events_fit (auto_after auto e) (state_after s legal.0) es legal.1 (steps_named s legal.0 n now) (All-tail FitsEvent e es fits) legal.5 in
-    All-same FitsStep xs (legal.0 ++ legal.1) legal.2 (All-append FitsStep legal.0 legal.1 now later)
+events_fit : (flat auto : Bool) (s : PlainState) (es : List Event) (xs : List Step) → IsNamed s → All FitsEvent es → (f : Follows es xs) → IsLegal flat auto s es xs f → All FitsStep xs
+events_fit flat auto s [] xs n fits f legal = All-same FitsStep xs [] f (All-nil FitsStep)
+events_fit flat auto s (e ∷ es) xs n fits f legal =
+    let now = event_fits (flat || auto) s e (shape_of e) f.0 n (All-head FitsEvent e es fits) refl f.3 legal.0 in
+    let later = events_fit flat (auto_after auto e) (state_after s f.0) es f.1 (steps_named s f.0 n now) (All-tail FitsEvent e es fits) f.4 legal.1 in
+    All-same FitsStep xs (f.0 ++ f.1) f.2 (All-append FitsStep f.0 f.1 now later)
 
 -- entries that events within their limits may have from the opening state on
-pub opened_fit : (limit : ℕ) (es : List Event) (xs : List Step) → All FitsEvent es → IsLegal true (opening limit) es xs → All FitsStep xs
-opened_fit limit es xs fits legal = events_fit true (opening limit) es xs (none_named limit) fits legal
+pub opened_fit : (flat : Bool) (limit : ℕ) (es : List Event) (xs : List Step) → All FitsEvent es → (f : Follows es xs) → IsLegal flat true (opening limit) es xs f → All FitsStep xs
+opened_fit flat limit es xs fits f legal = events_fit flat true (opening limit) es xs (none_named limit) fits f legal

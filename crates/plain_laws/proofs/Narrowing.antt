@@ -1,16 +1,15 @@
 -- An entry that is narrowed: chains lead where they led, and permit no more.
-use Rattle.std.proofs.Common.{◌≡◌, ◌≢◌, ℕ, zero, suc, Bool, true, false, cond, ◌&&◌, ◌||◌, List, [], ◌∷◌, Option, None, Some, inl, inr, refl, sym, ◌∙◌, ap, subst}
-use Rattle.std.specs.Prelude.{find}
+use Rattle.std.proofs.Common.{◌≡◌, ◌≢◌, ℕ, zero, suc, Bool, true, false, ◌&&◌, ◌||◌, List, [], ◌∷◌, Option, None, Some, inl, inr, refl, sym, ◌∙◌, ap, subst}
 use Rattle.std.specs.List.{list_all}
 use Rattle.std.specs.Option.{option_map, option_map_or, option_and_then}
 use Rattle.machine_names.specs.declared.names.Slot.{Slot}
 use Rattle.machine_names.specs.declared.names.Access.{Access}
 use Rattle.machine_names.specs.declared.names.Kind.{Kind}
-use Rattle.machine_names.specs.declared.names.Kind.TheVariants.{Read, Write, Execute}
+use Rattle.machine_names.specs.declared.names.Kind.TheVariants.{Read, Execute}
 use Rattle.plain_pages.specs.declared.map.MapEntry.{MapEntry}
 use Rattle.plain_pages.specs.declared.map.MapEntry.TheVariants.{Empty, Names, Follows}
-use Rattle.plain_pages.specs.Maps.{Entries, Link, Chain, followed, full_access, narrowed, narrow, behind, chain_from, chain_within, chain, permit_write, permits, may}
-use Rattle.plain_pages.proofs.Chains.{marked, slot_tells}
+use Rattle.plain_pages.specs.Maps.{Entries, Link, Chain, followed, full_access, narrowed, narrow, behind, chain_from, chain_within, chain, permits, may}
+use Rattle.plain_pages.proofs.Chains.{slot_tells}
 
 -- what one access permits the other does too, and a copy mark that the other has it has
 pub record IsNarrower (wide narrow : Access) : Type 0 where
@@ -119,25 +118,6 @@ narrower_reads c d h all = all_narrower (λ a. a.r) (λ a b n. n.r) c.links d.li
 
 pub narrower_executes : (c d : Chain) → ChainNarrower c d → permits Execute d ≡ true → permits Execute c ≡ true
 narrower_executes c d h all = all_narrower (λ a. a.x) (λ a b n. n.x) c.links d.links h.links all
-
--- a write that the narrower one permits without a copy, the wider permits without one
-writes_narrower : (ls ks : List Link) → LinksNarrower ls ks → find marked ks ≡ None → permit_write ks ≡ true → (find marked ls ≡ None) × (permit_write ls ≡ true)
-writes_narrower [] [] h none all = (refl, refl)
-writes_narrower [] (k ∷ ks) h none all = absurd h
-writes_narrower (l ∷ ls) [] h none all = absurd h
-writes_narrower (l ∷ ls) (k ∷ ks) h none all = by (λ m g. writes_narrower ls ks h.1 m g) k.access.c refl l.access.c refl none all
-  where
-    by : (find marked ks ≡ None → permit_write ks ≡ true → (find marked ls ≡ None) × (permit_write ls ≡ true)) → (b : Bool) → k.access.c ≡ b → (a : Bool) → l.access.c ≡ a → cond b (Some k) (find marked ks) ≡ None → cond b (list_all (λ (k : Link). k.access.r) ks) (k.access.w && permit_write ks) ≡ true
-        → (cond a (Some l) (find marked ls) ≡ None) × (cond a (list_all (λ (l : Link). l.access.r) ls) (l.access.w && permit_write ls) ≡ true)
-    by rest true is a at m g = absurd (cc m)
-    by rest false is true at m g = absurd (let z : false ≡ true = sym is ∙ h.0.c at in cc z)
-    by rest false is false at m g =
-        let w = both k.access.w (permit_write ks) g in
-        let r = rest m w.1 in
-        (r.0, ap (λ b. b && permit_write ls) (h.0.w w.0) ∙ r.1)
-
-pub narrower_writes : (c d : Chain) → ChainNarrower c d → find marked d.links ≡ None → permits Write d ≡ true → (find marked c.links ≡ None) × (permits Write c ≡ true)
-narrower_writes c d h none all = writes_narrower c.links d.links h.links none all
 
 -- where an entry is narrowed, no read and no fetch is permitted that was not
 module _ (old new : Entries) (m : Slot) (given : Access) (e : MapEntry) (was : old m ≡ Some e) (is : new m ≡ Some (narrow given e)) (others : (s : Slot) → s ≢ m → new s ≡ old s) where

@@ -199,8 +199,5 @@ module _ (s : PlainState) (w : IsWhole s) (caller : Fork) (number : ℕ) (k : Fo
   pub call_stays : Stays caller.name.tty k other (map.get s.forks k) (fork_called s caller number).forks
   call_stays = subst (λ (v : Parts name_cmp). Stays caller.name.tty k other (map.get s.forks k) v.tree.forks) (sym left_so) same.forks
 
-  pub forks_same : map.get (fork_called s caller number).forks k ≡ map.get s.forks k
-  forks_same = call_stays.stays
-
   pub maps_same : map.get (fork_called s caller number).pages.maps k ≡ map.get s.pages.maps k
   maps_same = subst (λ (v : Parts name_cmp). map.get v.pages.maps k ≡ map.get s.pages.maps k) (sym left_so) same.maps

@@ -1,28 +1,24 @@
 -- What the definitions say that do not open by themselves, one equation each.
-use Rattle.std.proofs.Common.{◌≡◌, ℕ, Bool, List, [], ◌++◌, None, Some, refl, ap}
+use Rattle.std.proofs.Common.{◌≡◌, ℕ, List, [], ◌++◌, Some, refl, ap}
 use Rattle.std.specs.Option.{option_map_or}
 use Rattle.std.specs.FinMap as map
 use Rattle.machine_names.specs.declared.names.Tty.{Tty}
 use Rattle.machine_names.specs.declared.names.ForkName.{ForkName}
 use Rattle.plain_model.specs.declared.fork.Fork.{Fork}
 use Rattle.script_texts.specs.declared.event.Event.{Event}
-use Rattle.script_texts.specs.declared.event.Event.TheVariants.{Login, Poke, Start, Tick, Examine, Forks, Trace}
+use Rattle.script_texts.specs.declared.event.Event.TheVariants.{Login, Poke, Start, Tick, Examine, Forks}
 use Rattle.script_texts.specs.declared.event.Step.TheVariants.{Outer, Unit as AUnit, Idle}
 use Rattle.plain_model.specs.State.{PlainState}
 use Rattle.plain_model.specs.Unit.{over, unit}
 use Rattle.plain_units.specs.Units.{unit_on}
-use Rattle.plain_model.specs.Events.{login, poke, start, tick, examine, show_forks, traced, outer}
+use Rattle.plain_model.specs.Events.{login, poke, start, tick, examine, show_forks, outer}
 use Rattle.plain_model.specs.Run.{apply, unit_line}
 
 module _ (s : PlainState) where
-  -- a unit of a fork that lives, and of one that does not
+  -- a unit of a fork that lives
   pub unit_some : (name : ForkName) (f : Fork) → map.get s.forks name ≡ Some f → unit s name ≡ over s f (unit_on f.name s.pages f.body.regs)
   unfolding unit
   unit_some name f h = ap (λ o. option_map_or (λ k. over s k (unit_on k.name s.pages k.body.regs)) o (record { state = s; items = [] })) h
-
-  pub unit_none : (name : ForkName) → map.get s.forks name ≡ None → unit s name ≡ record { state = s; items = [] }
-  unfolding unit
-  unit_none name h = ap (λ o. option_map_or (λ k. over s k (unit_on k.name s.pages k.body.regs)) o (record { state = s; items = [] })) h
 
   pub outer_login : (t : Tty) (user : List ℕ) → outer s (Login t user) ≡ login s t user
   unfolding outer
@@ -47,10 +43,6 @@ module _ (s : PlainState) where
   pub outer_forks : (t : Tty) → outer s (Forks t) ≡ show_forks s t
   unfolding outer
   outer_forks t = refl
-
-  pub outer_trace : (on : Bool) → outer s (Trace on) ≡ traced s on
-  unfolding outer
-  outer_trace on = refl
 
   pub apply_outer : (e : Event) → apply s (Outer e) ≡ outer s e
   unfolding apply

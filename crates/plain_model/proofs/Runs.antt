@@ -1,12 +1,11 @@
 -- Runs and takers go on.
-use Rattle.std.proofs.Common.{◌≡◌, List, [], ◌∷◌, ◌++◌, Bool, true, refl, sym, ◌∙◌, ap, subst, append_assoc}
-use Rattle.std.proofs.lemmas.List.{append-nil}
+use Rattle.std.proofs.Common.{◌≡◌, List, [], ◌∷◌, ◌++◌, Bool, true, ◌||◌, refl, sym, ◌∙◌, ap, subst, append_assoc}
 use Rattle.script_texts.specs.declared.event.Event.{Event}
 use Rattle.script_texts.specs.declared.event.Step.{Step}
-use Rattle.script_texts.specs.declared.event.Step.TheVariants.{Outer, Unit as AUnit, Idle}
 use Rattle.plain_model.specs.State.{PlainState}
 use Rattle.plain_model.specs.Run.{apply, state_after, items_of, AreLegal, IsLegal}
-use Rattle.script_texts.specs.Follows.{FollowsOne, auto_after, auto_behind}
+use Rattle.script_texts.specs.Follows.{Follows, FollowsOne, auto_after, auto_behind}
+use Rattle.script_texts.proofs.Takers.{Follows-push}
 
 pub state_after-append : (s : PlainState) (xs ys : List Step) → state_after s (xs ++ ys) ≡ state_after (state_after s xs) ys
 state_after-append s [] ys = refl
@@ -20,23 +19,14 @@ pub AreLegal-append : (auto : Bool) (s : PlainState) (xs ys : List Step) → Are
 AreLegal-append auto s [] ys a b = b
 AreLegal-append auto s (x ∷ xs) ys a b = (a.0, AreLegal-append auto (apply s x).state xs ys a.1 b)
 
-pub IsLegal-push : (auto : Bool) (s : PlainState) (es : List Event) (e : Event) (xs ys : List Step) → IsLegal auto s es xs → FollowsOne e ys → AreLegal (auto_behind auto es) (state_after s xs) ys
-    → IsLegal auto s (es ++ e ∷ []) (xs ++ ys)
-IsLegal-push auto s [] e xs ys l o a =
-    (ys, [], ap (λ z. z ++ ys) l ∙ sym (append-nil ys), o, subst (λ zs. AreLegal auto (state_after s zs) ys) l a, refl)
-IsLegal-push auto s (g ∷ es) e xs ys l o a =
-    let there : state_after s xs ≡ state_after (state_after s l.0) l.1 = ap (λ z. state_after s z) l.2 ∙ state_after-append s l.0 l.1 in (
-      l.0,
-      l.1 ++ ys,
-      ap (λ z. z ++ ys) l.2 ∙ append_assoc l.0 l.1 ys,
-      l.3,
-      l.4,
-      IsLegal-push (auto_after auto g) (state_after s l.0) es e l.1 ys l.5 o (subst (λ z. AreLegal (auto_behind (auto_after auto g) es) z ys) there a),
-    )
+pub IsLegal-push : (flat auto : Bool) (s : PlainState) (es : List Event) (e : Event) (xs ys : List Step) (f : Follows es xs) (o : FollowsOne e ys) → IsLegal flat auto s es xs f
+    → AreLegal (flat || auto_behind auto es) (state_after s xs) ys → IsLegal flat auto s (es ++ e ∷ []) (xs ++ ys) (Follows-push es e xs ys f o)
+IsLegal-push flat auto s [] e xs ys f o l a = (subst (λ zs. AreLegal (flat || auto) (state_after s zs) ys) f a, tt)
+IsLegal-push flat auto s (g ∷ es) e xs ys f o l a =
+    let there : state_after s xs ≡ state_after (state_after s f.0) f.1 = ap (λ z. state_after s z) f.2 ∙ state_after-append s f.0 f.1 in
+    (l.0, IsLegal-push flat (auto_after auto g) (state_after s f.0) es e f.1 ys f.4 o l.1 (subst (λ z. AreLegal (flat || auto_behind (auto_after auto g) es) z ys) there a))
 
--- entries that are legal where an idle one stands only where no fork can run are legal under either mark
-pub legal_anywhere : (auto : Bool) (s : PlainState) (xs : List Step) → AreLegal true s xs → AreLegal auto s xs
-legal_anywhere auto s [] h = tt
-legal_anywhere auto s (Outer e ∷ xs) h = (h.0, legal_anywhere auto (apply s (Outer e)).state xs h.1)
-legal_anywhere auto s (AUnit f ∷ xs) h = (h.0, legal_anywhere auto (apply s (AUnit f)).state xs h.1)
-legal_anywhere auto s (Idle ∷ xs) h = (λ on. h.0 refl, legal_anywhere auto (apply s Idle).state xs h.1)
+-- where all pages are in memory alone all entries are legal, whatever the AUTO mark
+pub legal_flat : (auto : Bool) (s : PlainState) (es : List Event) (xs : List Step) (f : Follows es xs) → IsLegal true auto s es xs f → AreLegal true s xs
+legal_flat auto s [] xs f l = subst (AreLegal true s) (sym f) tt
+legal_flat auto s (e ∷ es) xs f l = subst (AreLegal true s) (sym f.2) (AreLegal-append true s f.0 f.1 l.0 (legal_flat (auto_after auto e) (state_after s f.0) es f.1 f.4 l.1))

@@ -55,10 +55,6 @@ module _ {F C K : Type 0} {file_cmp : K → K → Ordering} (sight : Sight F K) 
         by true is = some is
         by false is = none is
 
-  pub ends_comes : (e : End C) → Holds e p → Comes (ends e)
-  unfolding turn_on
-  ends_comes e h = h
-
 module _ {K L : Type 0} {file_cmp : K → K → Ordering} (other_cmp : L → L → Ordering) (files : map.FinMap (file_page_cmp other_cmp) PageName) where
   -- the same outcome, with the pages of files under other keys
   abbrev pub refiled_came : {C : Type 0} → Came file_cmp C → Came other_cmp C

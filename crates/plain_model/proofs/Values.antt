@@ -28,11 +28,6 @@ found_holds P p (x ∷ xs) v all e = by (found_holds P p xs v (All-tail P x xs a
     by rest true found = let same : x ≡ v = cc found in subst P same (All-head P x xs all)
     by rest false found = rest found
 
--- no element passes
-pub found_none : {X : Type 0} (p : X → Bool) (xs : List X) → All (λ x. p x ≡ false) xs → find p xs ≡ None
-found_none p [] h = refl
-found_none p (x ∷ xs) h = ap (λ b. cond b (Some x) (find p xs)) (All-head (λ y. p y ≡ false) x xs h) ∙ found_none p xs (All-tail (λ y. p y ≡ false) x xs h)
-
 first : (a b : Bool) → T (a && b) → T a
 first true b p = tt
 first false b p = p

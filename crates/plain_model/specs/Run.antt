@@ -1,5 +1,5 @@
 -- Entries, the plain run over them, and which entries a script's events may have.
-use Rattle.std.specs.Prelude.{◌≡◌, ◌⊎◌, ℕ, List, [], ◌∷◌, ◌++◌, Bool, true, if◌then◌else◌}
+use Rattle.std.specs.Prelude.{◌≡◌, ◌⊎◌, ℕ, List, [], ◌∷◌, ◌++◌, Bool, true, ◌||◌, if◌then◌else◌}
 use Rattle.std.specs.Option.{option_map_or}
 use Rattle.std.specs.FinMap as map
 use Rattle.machine_names.specs.declared.names.Tty.{Tty}
@@ -14,7 +14,7 @@ use Rattle.plain_model.specs.State.{PlainState, opening}
 use Rattle.plain_model.specs.Forks.{IsRunnable}
 use Rattle.plain_model.specs.Unit.{Effect, unit}
 use Rattle.plain_model.specs.Events.{outer}
-use Rattle.script_texts.specs.Follows.{FollowsOne, auto_after}
+use Rattle.script_texts.specs.Follows.{Follows, auto_after}
 
 -- what is shown before a unit
 abbrev pub unit_line : PlainState → ForkName → List Item
@@ -56,8 +56,8 @@ abbrev pub AreLegal : Bool → PlainState → List Step → Type 0
 AreLegal auto s [] = Unit {0}
 AreLegal auto s (x ∷ xs) = IsLegalStep auto s x × AreLegal auto (apply s x).state xs
 
--- each event's entries are legal where they stand, under the AUTO mark that the events before it leave
-abbrev pub IsLegal : Bool → PlainState → List Event → List Step → Type 0
-IsLegal auto s [] steps = steps ≡ []
-IsLegal auto s (e ∷ es) steps =
-    (now : List Step) × (later : List Step) × (steps ≡ now ++ later) × FollowsOne e now × AreLegal auto s now × IsLegal (auto_after auto e) (state_after s now) es later
+-- Each event's entries are legal where they stand, under the AUTO mark that the events before it leave. Where all pages
+-- are in memory alone no fork waits for a transfer: an idle entry then stands only where no fork can run, whatever the mark.
+abbrev pub IsLegal : (flat auto : Bool) → PlainState → (events : List Event) (steps : List Step) → Follows events steps → Type 0
+IsLegal flat auto s [] steps follows = Unit {0}
+IsLegal flat auto s (e ∷ es) steps follows = AreLegal (flat || auto) s follows.0 × IsLegal flat (auto_after auto e) (state_after s follows.0) es follows.1 follows.4

@@ -74,9 +74,6 @@ module _ {K : Type 0} {file_cmp : K → K → Ordering} (o : IsTotalOrder file_c
       ap (λ (x : PlainPages file_cmp). reference x at kind owner) (settled_makes p owner at kind m rest h) ∙ reference_makes (make p owner m) owner at kind rest (makings_settled o p owner at kind m rest h) ∙ r.1
 
   module _ (own : IsOwner owner) where
-    pub settled_whole : (p : PlainPages file_cmp) (m : Making K) (rest : List (Making K)) → AreWhole p → makings p at kind ≡ Some (m ∷ rest) → AreWhole (settled p at kind owner)
-    settled_whole p m rest w h = subst (λ (x : PlainPages file_cmp). AreWhole x) (sym (settled_makes p owner at kind m rest h)) (make_whole o p w owner own m (makings_can o p owner at kind m rest h))
-
     made_whole : (ms : List (Making K)) (p q : PlainPages file_cmp) → AreWhole p → makings p at kind ≡ Some ms → make_all p owner ms ≡ granted q → AreWhole q
     unfolding make_all
     made_whole [] p q w h g = let same : p ≡ q = cc g in subst (λ (x : PlainPages file_cmp). AreWhole x) same w

@@ -12,7 +12,7 @@ AreTurns-append [] ys a b = b
 AreTurns-append (x ∷ xs) ys a b = (a.0, AreTurns-append xs ys a.1 b)
 
 -- one event more
-pub Follows-push : (es : List Event) (e : Event) (xs ys : List Step) → Follows es xs → FollowsOne e ys → Follows (es ++ e ∷ []) (xs ++ ys)
+abbrev pub Follows-push : (es : List Event) (e : Event) (xs ys : List Step) → Follows es xs → FollowsOne e ys → Follows (es ++ e ∷ []) (xs ++ ys)
 Follows-push [] e xs ys a b = (ys, [], ap (λ l. l ++ ys) a ∙ sym (append-nil ys), b, refl)
 Follows-push (f ∷ es) e xs ys a b =
     (a.0, a.1 ++ ys, ap (λ l. l ++ ys) a.2 ∙ append_assoc a.0 a.1 ys, a.3, Follows-push es e a.1 ys a.4 b)

@@ -30,35 +30,23 @@ abbrev pub AreTurns : List Step → Type 0
 AreTurns [] = Unit {0}
 AreTurns (x ∷ xs) = IsTurn x × AreTurns xs
 
--- the entries of an event of this shape
-abbrev pub FollowsShape : Shape → Event → List Step → Type 0
-FollowsShape silent e steps = steps ≡ []
-FollowsShape (turns n) e steps = (length steps ≡ n) × AreTurns steps
-FollowsShape single e steps = steps ≡ Outer e ∷ []
+-- entries of this shape: none, so many turns, or these
+abbrev pub AreOfShape : (IsCount : ℕ → ℕ → Type 0) → List Step → Shape → List Step → Type 0
+AreOfShape IsCount own silent steps = steps ≡ []
+AreOfShape IsCount own (turns n) steps = IsCount (length steps) n × AreTurns steps
+AreOfShape IsCount own single steps = steps ≡ own
 
 -- the entries of one event
 abbrev pub FollowsOne : Event → List Step → Type 0
-FollowsOne e steps = FollowsShape (shape_of e) e steps
-
--- entries with which those of an event of this shape may begin
-abbrev pub BeginsShape : Shape → Event → List Step → Type 0
-BeginsShape silent e steps = steps ≡ []
-BeginsShape (turns n) e steps = (length steps ≤ n) × AreTurns steps
-BeginsShape single e steps = steps ≡ Outer e ∷ []
+FollowsOne e steps = AreOfShape (λ m n. m ≡ n) (Outer e ∷ []) (shape_of e) steps
 
 -- entries with which one event's may begin
 abbrev pub Begins : Event → List Step → Type 0
-Begins e steps = BeginsShape (shape_of e) e steps
+Begins e steps = AreOfShape (λ m n. m ≤ n) (Outer e ∷ []) (shape_of e) steps
 
--- the entries of an event of this shape that was not finished: turns of a RUN, as many as were given, and else none
-abbrev pub UnfinishedShape : Shape → List Step → Type 0
-UnfinishedShape silent steps = steps ≡ []
-UnfinishedShape (turns n) steps = (length steps ≤ n) × AreTurns steps
-UnfinishedShape single steps = steps ≡ []
-
--- the entries of one event that was not finished
+-- the entries of one event that was not finished: turns of a RUN, as many as were given, and else none
 abbrev pub Unfinished : Event → List Step → Type 0
-Unfinished e steps = UnfinishedShape (shape_of e) steps
+Unfinished e steps = AreOfShape (λ m n. m ≤ n) [] (shape_of e) steps
 
 -- the entries are those of the events in order
 abbrev pub Follows : List Event → List Step → Type 0

@@ -1,5 +1,5 @@
 -- The texts of a run: the canonical lines of events, the transcript of items, the record of entries.
-use Rattle.std.specs.Prelude.{ℕ, ◌+◌, List, [], ◌∷◌, ◌++◌, codes, decimal, take, Bool, true, false, ◌||◌, ◌&&◌, nat_lt, Option, None, Some, if◌then◌else◌, ◌==◌}
+use Rattle.std.specs.Prelude.{ℕ, ◌+◌, List, [], ◌∷◌, ◌++◌, codes, decimal, take, Bool, true, false, not, ◌||◌, ◌&&◌, nat_lt, if◌then◌else◌, ◌==◌}
 use Rattle.std.specs.List.{flat_map}
 use Rattle.word36.specs.Octal.{octal_padded}
 use Rattle.machine_names.specs.declared.names.ForkName.{ForkName}
@@ -63,28 +63,6 @@ line_of (Trace on) = codes "TRACE " ++ on_or_off on
 abbrev pub ended : List ℕ → List ℕ
 ended line = line ++ 10 ∷ []
 
--- the terminal whose line of characters is open
-abbrev pub Open : Type 0
-Open = Option ℕ
-
--- the end of the open line
-abbrev pub line_end : Open → List ℕ
-line_end None = []
-line_end (Some t) = 10 ∷ []
-
--- what stands before a character of a terminal, behind what is open
-abbrev pub line_start : Open → ℕ → List ℕ
-line_start None t = 84 ∷ (decimal t ++ 32 ∷ [])
-line_start (Some s) t = if s == t then [] else 10 ∷ 84 ∷ (decimal t ++ 32 ∷ [])
-
--- a line ends after a line feed
-abbrev pub char_end : ℕ → List ℕ
-char_end c = if c == 10 then 10 ∷ [] else []
-
--- the terminal whose line is open behind a character
-abbrev pub char_open : ℕ → ℕ → Open
-char_open t c = if c == 10 then None else Some t
-
 -- what a fork waits for
 abbrev pub wait_text : WaitOn → List ℕ
 wait_text Input = codes "INPUT"
@@ -136,28 +114,31 @@ shown_line (PageWord offset word) = codes "W " ++ (octal_padded 3 offset ++ fiel
 shown_line (UnitLine f address) = codes "U " ++ (name_text f ++ field (octal_padded 6 address))
 shown_line (Refusal cause) = cause_text cause
 
--- a line of its own, behind the end of the one that is open
-abbrev pub own_line : Open → Item → List ℕ
-own_line is_open i = line_end is_open ++ ended (shown_line i)
+-- a line of the transcript: characters of a terminal, or another item's text
+pub data TranscriptLine : Type 0 where
+  typed : ℕ → List ℕ → TranscriptLine
+  shown : List ℕ → TranscriptLine
 
--- one item's bytes behind what is open
-abbrev pub item_text : Open → Item → List ℕ
-item_text is_open (Char t c) = line_start is_open t.0 ++ (escaped c ++ char_end c)
-item_text is_open i = own_line is_open i
+-- a character of a terminal before these lines: it joins the terminal's own line where that comes next, but a line feed
+-- ends its line
+abbrev pub put_before : ℕ → ℕ → List TranscriptLine → List TranscriptLine
+put_before t c (typed s cs ∷ ls) = if (c == 10) || not (t == s) then typed t (c ∷ []) ∷ typed s cs ∷ ls else typed s (c ∷ cs) ∷ ls
+put_before t c ls = typed t (c ∷ []) ∷ ls
 
--- the terminal whose line is open behind an item
-abbrev pub item_open : Item → Open
-item_open (Char t c) = char_open t.0 c
-item_open i = None
+-- the lines of items: each longest run of one terminal's characters, and each other item
+abbrev pub lines_of : List Item → List TranscriptLine
+lines_of [] = []
+lines_of (Char t c ∷ is) = put_before t.0 c (lines_of is)
+lines_of (i ∷ is) = shown (shown_line i) ∷ lines_of is
 
--- the text of the items that come while a line may be open, with the last line closed
-abbrev pub text_after : Open → List Item → List ℕ
-text_after is_open [] = line_end is_open
-text_after is_open (i ∷ is) = item_text is_open i ++ text_after (item_open i) is
+-- a line's bytes: T, the terminal and the characters as typed; or the item's
+abbrev pub text_of : TranscriptLine → List ℕ
+text_of (typed t cs) = ended (codes "T" ++ (decimal t ++ 32 ∷ flat_map escaped cs))
+text_of (shown text) = ended text
 
 -- the transcript of a run's items
 abbrev pub transcript : List Item → List ℕ
-transcript is = text_after None is
+transcript is = flat_map text_of (lines_of is)
 
 -- equal turns: units of one fork, or idle entries
 abbrev pub same_turn : Step → Step → Bool
@@ -165,45 +146,25 @@ same_turn (AUnit f) (AUnit g) = (f.tty.0 == g.tty.0) && (f.serial == g.serial)
 same_turn Idle Idle = true
 same_turn x y = false
 
--- the run of equal turns that is open, and how many they are
-abbrev pub OpenRun : Type 0
-OpenRun = Option (Step × ℕ)
+-- an entry before these runs of equal entries: a turn joins the run that comes next where it is of its turns
+abbrev pub put_entry : Step → List (Step × ℕ) → List (Step × ℕ)
+put_entry s [] = (s, 1) ∷ []
+put_entry s (r ∷ rs) = if same_turn s r.0 then (s, r.1 + 1) ∷ rs else (s, 1) ∷ r ∷ rs
 
--- the line of so many equal turns; an event is no turn
+-- entries as runs: each longest run of equal turns, and how many they are; and each event
+abbrev pub runs_of : List Step → List (Step × ℕ)
+runs_of [] = []
+runs_of (s ∷ ss) = put_entry s (runs_of ss)
+
+-- the line of so many equal turns, or of an event
 abbrev pub run_line : Step → ℕ → List ℕ
+run_line (Outer e) n = ended (line_of e)
 run_line (AUnit f) n = ended (codes "U " ++ (name_text f ++ field (decimal n)))
 run_line Idle n = ended (codes "I " ++ decimal n)
-run_line (Outer e) n = []
 
--- the line of the run that is open
-abbrev pub run_end : OpenRun → List ℕ
-run_end None = []
-run_end (Some r) = run_line r.0 r.1
-
--- one turn's bytes behind an open run
-abbrev pub turn_text : OpenRun → Step → List ℕ
-turn_text None s = []
-turn_text (Some r) s = if same_turn r.0 s then [] else run_line r.0 r.1
-
--- the run that is open behind a turn
-abbrev pub turn_run : OpenRun → Step → OpenRun
-turn_run None s = Some (s, 1)
-turn_run (Some r) s = if same_turn r.0 s then Some (s, r.1 + 1) else Some (s, 1)
-
--- one entry's bytes behind an open run
-abbrev pub step_text : OpenRun → Step → List ℕ
-step_text run (Outer e) = run_end run ++ ended (line_of e)
-step_text run s = turn_text run s
-
--- the run that is open behind an entry
-abbrev pub step_run : OpenRun → Step → OpenRun
-step_run run (Outer e) = None
-step_run run s = turn_run run s
-
--- the record of the steps that come while a run may be open, with the last run closed
-abbrev pub record_after : OpenRun → List Step → List ℕ
-record_after run [] = run_end run
-record_after run (s ∷ ss) = step_text run s ++ record_after (step_run run s) ss
+-- the lines of entries
+abbrev pub entries_text : List Step → List ℕ
+entries_text ss = flat_map (λ r. run_line r.0 r.1) (runs_of ss)
 
 -- the last line of a record: how often the drum was read and written
 abbrev pub counts_line : ℕ → ℕ → List ℕ
@@ -211,4 +172,4 @@ counts_line reads writes = ended (codes "E " ++ (decimal reads ++ field (decimal
 
 -- the record of a run's entries
 abbrev pub record_text : List Step → ℕ → ℕ → List ℕ
-record_text ss reads writes = record_after None ss ++ counts_line reads writes
+record_text ss reads writes = entries_text ss ++ counts_line reads writes

@@ -5,13 +5,14 @@ use Rattle.outside.specs.Drums.{IsPage}
 use Rattle.outside.specs.Told.{Grows, Stays}
 use Rattle.script_texts.specs.declared.event.Item.{Item}
 use Rattle.script_texts.specs.declared.event.Step.{Step}
-use Rattle.plain_model.specs.State.{PlainState}
+use Rattle.plain_model.specs.State.{PlainState, opening}
+use Rattle.plain_model.proofs.Runs.{legal_flat}
 use Rattle.page_contracts.specs.DrumWords.{DrumWords}
 use Rattle.machine_names.specs.PageWords.{zero_words}
 use Rattle.page_contracts.specs.Stores.{FitsHomes, free}
 use Rattle.script_texts.specs.Taker.{GoesOn}
 use Rattle.script_texts.specs.Script.{IsScript}
-use Rattle.script_texts.specs.Texts.{transcript, record_after}
+use Rattle.script_texts.specs.Texts.{transcript, entries_text}
 use Rattle.plain_laws.proofs.Named.{opened_fit}
 use Rattle.flat_pages.proofs.StoredPlaces.{zeros_fit}
 use Rattle.command_words.specs.declared.sizes.Sizes.{Sizes}
@@ -138,7 +139,7 @@ module _ {M S T R D : Type 0} {flat : Bool} {fits : M → DrumWords → Type 0} 
       record {
         so_far = driven_to driven ran;
         transcript_is = ends.out;
-        record_is = grows_alone told.rec told.rec_after (record_after None ran.entries) ends.rec;
+        record_is = grows_alone told.rec told.rec_after (entries_text ran.entries) ends.rec;
       }
 
   headline : told.reads < 2 ^ 64 → told.writes < 2 ^ 64 → Drove WholeScript → Finishes out_taken rec_taken (Ended told.reads told.writes) v u → Headline sizes told
@@ -155,11 +156,10 @@ module _ {M S T R D : Type 0} {flat : Bool} {fits : M → DrumWords → Type 0} 
             let all : found.0 ≡ bytes = sym (found.2 ∙ (ap (λ rest. found.0 ++ rest) found.4.1 ∙ append-nil found.0)) in
             (subst (λ b. IsScript b ran.events) all found.4.0, found.3 ∙ ap Some found.4.1);
         follows = entries.follows;
-        legal = entries.legal;
-        idle = entries.idle refl;
+        legal = legal_flat true (opening sizes.drum) ran.events ran.entries entries.follows entries.legal;
         transcript_is = subst (λ items. Grows told.out told.out_after (transcript items)) entries.shown (grows_alone told.out told.out_after (transcript given.items) ends.out);
         record_is = ends.rec;
-        fits = record { fit = opened_fit sizes.drum ran.events ran.entries ran.fit entries.legal; few = omega (arith, ran.few); few_reads = few_reads; few_writes = few_writes };
+        fits = record { fit = opened_fit true sizes.drum ran.events ran.entries ran.fit entries.follows entries.legal; few = omega (arith, ran.few); few_reads = few_reads; few_writes = few_writes };
       }
 
   -- both texts were closed with their last lines
@@ -194,7 +194,7 @@ module _ {M S T R D : Type 0} {flat : Bool} {fits : M → DrumWords → Type 0} 
         driven = driven;
         so_far = driven_to driven ran;
         transcript_front = subst (λ l. WrotePartly told.out told.out_after (transcript given.items ++ closing end_line l)) (sym is) ends.out;
-        record_front = subst (λ l. WrotePartly told.rec told.rec_after (record_after None ran.entries ++ closing record_end l)) (sym is) ends.rec;
+        record_front = subst (λ l. WrotePartly told.rec told.rec_after (entries_text ran.entries ++ closing record_end l)) (sym is) ends.rec;
       }
 
   -- the writer failed before the end
@@ -204,7 +204,7 @@ module _ {M S T R D : Type 0} {flat : Bool} {fits : M → DrumWords → Type 0} 
       let given = ran.told words opens in
       let cut = keeps.each w (given.items ++ []) (ran.entries ++ []) (given.given.each w [] [] [] [] ran.few (start out_taken rec_taken w u line run)) in
       let items : transcript (given.items ++ []) ≡ transcript given.items ++ [] = ap transcript (append-nil given.items) ∙ sym (append-nil (transcript given.items)) in
-      let entries : record_after None (ran.entries ++ []) ≡ record_after None ran.entries ++ [] = ap (record_after None) (append-nil ran.entries) ∙ sym (append-nil (record_after None ran.entries)) in
+      let entries : entries_text (ran.entries ++ []) ≡ entries_text ran.entries ++ [] = ap entries_text (append-nil ran.entries) ∙ sym (append-nil (entries_text ran.entries)) in
       record {
         driven = TakerFault;
         so_far = driven_to TakerFault ran;

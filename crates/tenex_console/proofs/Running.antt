@@ -1,5 +1,5 @@
 -- A run of a script goes on.
-use Rattle.std.proofs.Common.{◌≡◌, inl, inr, ℕ, ◌+◌, ◌*◌, ◌<◌, ◌≤◌, List, [], ◌∷◌, ◌++◌, length, All, Bool, true, false, Option, refl, sym, ◌∙◌, ap, subst, arith, append_assoc, length-append}
+use Rattle.std.proofs.Common.{◌≡◌, inl, inr, ℕ, ◌+◌, ◌*◌, ◌<◌, ◌≤◌, List, [], ◌∷◌, ◌++◌, length, All, Bool, true, ◌||◌, Option, refl, sym, ◌∙◌, ap, subst, arith, append_assoc, length-append}
 use Rattle.std.proofs.lemmas.List.{append-nil}
 use Rattle.std.proofs.lemmas.List.Elements.{All-append, All-cons, All-nil}
 use Rattle.script_texts.specs.declared.event.Event.{Event}
@@ -13,7 +13,7 @@ use Rattle.script_texts.specs.Script.{turns_of, turns_in, most_bytes, most_turns
 use Rattle.script_texts.specs.Taker.{GoesOn, IsCut, max_steps}
 use Rattle.page_contracts.specs.DrumWords.{DrumWords, Stands}
 use Rattle.monitor_core.specs.Outcome.{Went, Stopped, CutOff, judged_by}
-use Rattle.plain_model.proofs.Runs.{AreLegal-append, IsLegal-push, state_after-append, items_of-append, legal_anywhere}
+use Rattle.plain_model.proofs.Runs.{IsLegal-push, state_after-append, items_of-append}
 use Rattle.script_texts.proofs.Takers.{Follows-push, goes_on_nil, goes_on_append, cut_behind}
 use Rattle.script_lang.specs.Lines.{Advances, Skips, Takes, given, pending, turns_given}
 use Rattle.script_lang.specs.declared.lines.Lines.{Lines}
@@ -26,24 +26,13 @@ use Rattle.tenex_console.specs.Verdicts.{Found, Verdict}
 use Rattle.tenex_console.proofs.Found.{found_begun}
 use Rattle.tenex_console.proofs.Turns.{follows_few, begins_few, unfinished_few, turns_push, auto_push}
 
--- entries by the mark that they are judged by are legal under the AUTO mark
-judged_legal : (flat auto : Bool) (s : PlainState) (xs : List Step) → AreLegal (judged_by flat auto) s xs → AreLegal auto s xs
-judged_legal true auto s xs legal = legal_anywhere auto s xs legal
-judged_legal false auto s xs legal = legal
-
--- over flat pages an idle one of them stands only where no fork can run
-judged_idle : (flat auto : Bool) (s : PlainState) (xs : List Step) → AreLegal (judged_by flat auto) s xs → flat ≡ true → AreLegal true s xs
-judged_idle true auto s xs legal is = legal
-judged_idle false auto s xs legal is = absurd (cc is)
-
 module _ {M D S K : Type 0} (flat : Bool) (fits : M → DrumWords → Type 0) (plain : M → DrumWords → PlainState) (held : D → Option DrumWords) (left : S → Option (List ℕ)) (stands : K → K → List Item → List Step → Type 0) (limit : ℕ) (m0 : M) (drum0 : D) where
   -- over some words of the drum, what holds of the machine, of the entries so far and of the taker
-  pub record ToldSoFar (m : M) (drum : D) (out out' : K) (events : List Event) (entries : List Step) : Type 0 where
+  pub record ToldSoFar (m : M) (drum : D) (out out' : K) (events : List Event) (entries : List Step) (follows : Follows events entries) : Type 0 where
     pub words : DrumWords
     pub stood : Stands flat (held drum) words
     pub opened : StandsFor fits plain m words (state_after (opening limit) entries)
-    pub legal : IsLegal true (opening limit) events entries
-    pub idle : flat ≡ true → AreLegal true (opening limit) entries
+    pub legal : IsLegal flat true (opening limit) events entries follows
     pub given_is : GoesOn stands out out' (items_of (opening limit) entries) entries
 
   -- what holds after the lines of some events
@@ -59,7 +48,7 @@ module _ {M D S K : Type 0} (flat : Bool) (fits : M → DrumWords → Type 0) (p
     pub few_bytes : given lines ≤ most_bytes
     pub few : length entries ≤ turns_given lines + given lines
     pub done_few : done ≤ turns_given lines + 2 * given lines
-    pub told : (d : DrumWords) → OpensOver flat fits plain held limit m0 drum0 d → ToldSoFar m drum out out' events entries
+    pub told : (d : DrumWords) → OpensOver flat fits plain held limit m0 drum0 d → ToldSoFar m drum out out' events entries follows
 
 module _ {M D S K : Type 0} {flat : Bool} {fits : M → DrumWords → Type 0} {plain : M → DrumWords → PlainState} {held : D → Option DrumWords} {left : S → Option (List ℕ)} {stands : K → K → List Item → List Step → Type 0} {limit : ℕ} {m0 : M} {drum0 : D} where
   pub so_far_none : {lines : Lines} {script : S} {out : K} {auto : Bool} {done : ℕ} → turns_given lines ≡ 0 → given lines ≡ 0 → auto ≡ true → done ≡ 0 → SoFar flat fits plain held left stands limit m0 drum0 lines lines script script out out m0 drum0 auto done
@@ -75,7 +64,7 @@ module _ {M D S K : Type 0} {flat : Bool} {fits : M → DrumWords → Type 0} {p
     few_bytes = omega (arith, bytes);
     few = omega arith;
     done_few = omega (arith, none);
-    told = λ d opens. record { words = d; stood = opens.stood; opened = opens.opened; legal = refl; idle = λ is. tt; given_is = goes_on_nil stands out };
+    told = λ d opens. record { words = d; stood = opens.stood; opened = opens.opened; legal = tt; given_is = goes_on_nil stands out };
   }
 
   -- blank lines were passed over, and the taker handed on what it kept
@@ -101,7 +90,6 @@ module _ {M D S K : Type 0} {flat : Bool} {fits : M → DrumWords → Type 0} {p
           stood = so.stood;
           opened = so.opened;
           legal = so.legal;
-          idle = so.idle;
           given_is = subst (λ is. GoesOn stands a c is f.entries) (append-nil items) (subst (λ ss. GoesOn stands a c (items ++ []) ss) (append-nil f.entries) both);
         };
   }
@@ -124,18 +112,11 @@ module _ {M D S K : Type 0} {flat : Bool} {fits : M → DrumWords → Type 0} {p
     not_many ss few = omega (arith, f.few, few, length-append f.entries ss, far.more_turns, far.few, f.few_bytes)
 
     module _ (d : DrumWords) (opens : OpensOver flat fits plain held limit m0 drum0 d) where
-      abbrev so : ToldSoFar flat fits plain held left stands limit m0 drum0 m drum a b f.events f.entries
+      abbrev so : ToldSoFar flat fits plain held left stands limit m0 drum0 m drum a b f.events f.entries f.follows
       so = f.told d opens
 
-      legal_more : (ss : List Step) → AreLegal (judged_by flat auto) (plain m so.words) ss → AreLegal (auto_behind true f.events) here ss
-      legal_more ss legal =
-          let there : AreLegal (judged_by flat auto) here ss = subst (λ x. AreLegal (judged_by flat auto) x ss) so.opened.state legal in
-          subst (λ x. AreLegal x here ss) f.mark (judged_legal flat auto here ss there)
-
-      idle_more : (ss : List Step) → AreLegal (judged_by flat auto) (plain m so.words) ss → flat ≡ true → AreLegal true (opening limit) (f.entries ++ ss)
-      idle_more ss legal is =
-          let there : AreLegal (judged_by flat auto) here ss = subst (λ x. AreLegal (judged_by flat auto) x ss) so.opened.state legal in
-          AreLegal-append true (opening limit) f.entries ss (so.idle is) (judged_idle flat auto here ss there is)
+      legal_more : (ss : List Step) → AreLegal (judged_by flat auto) (plain m so.words) ss → AreLegal (flat || auto_behind true f.events) here ss
+      legal_more ss legal = subst (λ x. AreLegal (flat || x) here ss) f.mark (subst (λ x. AreLegal (judged_by flat auto) x ss) so.opened.state legal)
 
     pub so_far_more : {c : K} {m' : M} {drum' : D} {auto' : Bool} {done' : ℕ} → auto' ≡ auto_after auto e → Went flat fits plain held stands m m' drum drum' b c auto e done done' → SoFar flat fits plain held left stands limit m0 drum0 first l' s u a c m' drum' auto' done'
     so_far_more {c} next went =
@@ -167,8 +148,7 @@ module _ {M D S K : Type 0} {flat : Bool} {fits : M → DrumWords → Type 0} {p
                   fit = new.2;
                   state = gave.state ∙ ap (λ x. state_after x ss) old.opened.state ∙ sym (state_after-append (opening limit) f.entries ss);
                 };
-                legal = IsLegal-push true (opening limit) f.events e f.entries ss old.legal went.follows (legal_more d opens ss gave.legal);
-                idle = idle_more d opens ss gave.legal;
+                legal = IsLegal-push flat true (opening limit) f.events e f.entries ss f.follows went.follows old.legal (legal_more d opens ss gave.legal);
                 given_is = subst (λ is. GoesOn stands a c is (f.entries ++ ss)) (sym (items_of-append (opening limit) f.entries ss)) both;
               };
         }
@@ -196,7 +176,7 @@ module _ {M D S K : Type 0} {flat : Bool} {fits : M → DrumWords → Type 0} {p
               record {
                 items = items ++ (items_of here ss ++ gave.shown);
                 run = record {
-                  broken = record { breaks = broken_off Unfinished ss stopped.unfinished; legal = old.legal; last_legal = legal_more d opens ss gave.legal; idle = idle_more d opens ss gave.legal };
+                  broken = record { breaks = broken_off Unfinished ss stopped.unfinished; legal = old.legal; last_legal = legal_more d opens ss gave.legal };
                   later = gave.shown;
                   first = subst (λ x. ShownFirst x e gave.shown) there gave.first;
                   shown = sym (append_assoc items (items_of here ss) gave.shown) ∙ ap (λ is. is ++ gave.shown) (sym (items_of-append (opening limit) f.entries ss));
@@ -224,7 +204,7 @@ module _ {M D S K : Type 0} {flat : Bool} {fits : M → DrumWords → Type 0} {p
               record {
                 items = items ++ items_of here ss;
                 run = inr (record {
-                  broken = record { breaks = broken_off Begins ss off.begins; legal = old.legal; last_legal = legal_more d opens ss gave.legal; idle = idle_more d opens ss gave.legal };
+                  broken = record { breaks = broken_off Begins ss off.begins; legal = old.legal; last_legal = legal_more d opens ss gave.legal };
                   shown = sym (items_of-append (opening limit) f.entries ss);
                 });
                 given = cut_behind stands cut a b c items (items_of here ss) f.entries ss old.given_is given_now;
@@ -239,7 +219,7 @@ module _ {M D S K : Type 0} {flat : Bool} {fits : M → DrumWords → Type 0} {p
     few_entries = omega (arith, f.few, f.few_turns, f.few_bytes)
 
     entries_told : (d : DrumWords) → OpensOver flat fits plain held limit m0 drum0 d → AreEntries flat limit f.events f.entries (items_of (opening limit) f.entries)
-    entries_told d opens = record { follows = f.follows; legal = (f.told d opens).legal; idle = (f.told d opens).idle; shown = refl }
+    entries_told d opens = record { follows = f.follows; legal = (f.told d opens).legal; shown = refl }
 
     -- the driving ended between two events
     pub ran : {cut : K → K → List Item → List Step → Type 0} (driven : Driven) {script' : Option (List ℕ)} → ((es : List Event) (ss : List Step) → Follows es ss → FollowsTo driven es ss)

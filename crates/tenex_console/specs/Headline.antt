@@ -7,9 +7,9 @@ use Rattle.script_texts.specs.declared.event.Step.{Step}
 use Rattle.plain_model.specs.State.{opening}
 use Rattle.script_texts.specs.Entries.{FitsRecord}
 use Rattle.script_texts.specs.Follows.{Follows}
-use Rattle.plain_model.specs.Run.{IsLegal, AreLegal, items_of}
+use Rattle.plain_model.specs.Run.{AreLegal, items_of}
 use Rattle.script_texts.specs.Script.{IsScript}
-use Rattle.script_texts.specs.Texts.{transcript, record_after, record_text}
+use Rattle.script_texts.specs.Texts.{transcript, entries_text, record_text}
 use Rattle.command_words.specs.declared.sizes.Sizes.{Sizes}
 use Rattle.command_words.specs.Words.{IsRun}
 use Rattle.texts.specs.declared.last.Status.{Status}
@@ -35,8 +35,7 @@ pub record Headline (sizes : Sizes) (told : Observed) : Type 0 where
   pub entries : List Step
   pub spelled : (bytes : List ℕ) → told.script ≡ Some bytes → IsScript bytes events × (told.script_after ≡ Some [])
   pub follows : Follows events entries
-  pub legal : IsLegal true (opening sizes.drum) events entries
-  pub idle : AreLegal true (opening sizes.drum) entries
+  pub legal : AreLegal true (opening sizes.drum) entries
   pub transcript_is : Grows told.out told.out_after (transcript (items_of (opening sizes.drum) entries))
   pub record_is : Grows told.rec told.rec_after (record_text entries told.reads told.writes)
   pub fits : FitsRecord entries told.reads told.writes
@@ -57,7 +56,7 @@ pub record DrivenTo (driven : Driven) (sizes : Sizes) (told : Observed) : Type 0
 pub record Part (driven : Driven) (line : List ℕ) (sizes : Sizes) (told : Observed) : Type 0 where
   pub so_far : DrivenTo driven sizes told
   pub transcript_is : Grows told.out told.out_after (transcript so_far.items ++ line)
-  pub record_is : Grows told.rec told.rec_after (record_after None so_far.entries)
+  pub record_is : Grows told.rec told.rec_after (entries_text so_far.entries)
 
 -- the last line of a text, if there is one
 abbrev pub closing : (Last → List ℕ) → Option Last → List ℕ
@@ -79,7 +78,7 @@ pub record Fronts (sizes : Sizes) (told : Observed) : Type 0 where
   pub driven : Driven
   pub so_far : DrivenTo driven sizes told
   pub transcript_front : WrotePartly told.out told.out_after (transcript so_far.items ++ closing end_line (last_after driven told.reads told.writes))
-  pub record_front : WrotePartly told.rec told.rec_after (record_after None so_far.entries ++ closing record_end (last_after driven told.reads told.writes))
+  pub record_front : WrotePartly told.rec told.rec_after (entries_text so_far.entries ++ closing record_end (last_after driven told.reads told.writes))
 
 -- nothing was run, and the transcript is the line that tells why
 pub record Only (line : List ℕ) (told : Observed) : Type 0 where

@@ -5,7 +5,7 @@ use Rattle.script_texts.specs.declared.event.Step.{Step}
 use Rattle.plain_model.specs.State.{opening}
 use Rattle.script_texts.specs.Entries.{FitsRecord}
 use Rattle.script_texts.specs.Follows.{Follows}
-use Rattle.plain_model.specs.Run.{IsLegal, AreLegal, items_of}
+use Rattle.plain_model.specs.Run.{AreLegal, items_of}
 use Rattle.script_texts.specs.Script.{IsScript}
 use Rattle.script_texts.specs.Texts.{transcript, record_text}
 use Rattle.outside.specs.declared.memory_drum.SureDrum.{SureDrum}
@@ -22,8 +22,7 @@ pub record HeadlineInBytes {Z : Type 0} (words : List (String Z)) (script : List
   pub entries : List Step
   pub spelled : IsScript script events
   pub follows : Follows events entries
-  pub legal : IsLegal true (opening sizes.drum) events entries
-  pub idle : AreLegal true (opening sizes.drum) entries
+  pub legal : AreLegal true (opening sizes.drum) entries
   pub transcript_is : out'.bytes.items ≡ out.bytes.items ++ transcript (items_of (opening sizes.drum) entries)
   pub record_is : rec'.bytes.items ≡ rec.bytes.items ++ record_text entries (drum'.held.reads - drum.held.reads) (drum'.held.writes - drum.held.writes)
   pub fits : FitsRecord entries (drum'.held.reads - drum.held.reads) (drum'.held.writes - drum.held.writes)

@@ -1,6 +1,6 @@
 -- Which entries the events of a script may have, and what the plain machine shows over them, from the
 -- opening state on.
-use Rattle.std.specs.Prelude.{◌≡◌, ◌⊎◌, ℕ, List, [], ◌∷◌, ◌++◌, Bool, true}
+use Rattle.std.specs.Prelude.{◌≡◌, ◌⊎◌, ℕ, List, [], ◌∷◌, ◌++◌, Bool, true, ◌||◌}
 use Rattle.script_texts.specs.declared.event.Event.{Event}
 use Rattle.script_texts.specs.declared.event.Item.{Item}
 use Rattle.script_texts.specs.declared.event.Step.{Step}
@@ -27,20 +27,17 @@ FollowsTo DrumFault events entries = BreaksOff Unfinished events entries
 FollowsTo TakerFault events entries = Follows events entries ⊎ BreaksOff Begins events entries
 FollowsTo driven events entries = Follows events entries
 
--- Legal entries of these events with room for so many pages and forks, and their items. Where all pages are in
--- memory alone, an idle entry stands only where no fork can run, whatever the AUTO mark.
+-- legal entries of these events with room for so many pages and forks, and their items
 pub record AreEntries (flat : Bool) (limit : ℕ) (events : List Event) (entries : List Step) (items : List Item) : Type 0 where
   pub follows : Follows events entries
-  pub legal : IsLegal true (opening limit) events entries
-  pub idle : flat ≡ true → AreLegal true (opening limit) entries
+  pub legal : IsLegal flat true (opening limit) events entries follows
   pub shown : items ≡ items_of (opening limit) entries
 
 -- legal entries of these events, the last of which was broken off
 pub record AreBroken (flat : Bool) (limit : ℕ) (Part : Event → List Step → Type 0) (events : List Event) (entries : List Step) : Type 0 where
   pub breaks : BreaksOff Part events entries
-  pub legal : IsLegal true (opening limit) breaks.whole breaks.before
-  pub last_legal : AreLegal (auto_behind true breaks.whole) (state_after (opening limit) breaks.before) breaks.more
-  pub idle : flat ≡ true → AreLegal true (opening limit) entries
+  pub legal : IsLegal flat true (opening limit) breaks.whole breaks.before breaks.follows
+  pub last_legal : AreLegal (flat || auto_behind true breaks.whole) (state_after (opening limit) breaks.before) breaks.more
 
 -- legal entries of these events, the last of which has only begun, and their items
 pub record AreBegun (flat : Bool) (limit : ℕ) (events : List Event) (entries : List Step) (items : List Item) : Type 0 where

@@ -2,6 +2,7 @@ mod Writes
 mod Answered
 mod Standing
 mod InLines
+mod InRuns
 pub mod Starts
 mod RecordLines
 mod RecordApart

@@ -1,5 +1,5 @@
 -- What a writer stands for, as it takes items and steps.
-use Rattle.std.proofs.Common.{◌≡◌, ℕ, ◌+◌, ◌<◌, ◌≤◌, List, [], ◌∷◌, ◌++◌, length, Option, None, Some, Result, OnOk, OnErr, refl, sym, ap, subst, arith, append_assoc, length-append, zero, suc, true, cond, ◌∙◌, ◌==◌, ◌&&◌, rules, ◌-◌}
+use Rattle.std.proofs.Common.{◌≡◌, ℕ, ◌+◌, ◌<◌, ◌≤◌, List, [], ◌∷◌, ◌++◌, length, Option, Some, Result, OnOk, OnErr, refl, sym, ap, subst, arith, append_assoc, length-append, zero, suc, true, cond, ◌∙◌, ◌==◌, ◌&&◌, rules, ◌-◌}
 use Rattle.std.proofs.lemmas.List.{append-nil, length-replicate}
 use Rattle.outside.specs.Told.{Grows}
 use Rattle.outside.specs.declared.failure.Failed.{Failed}
@@ -7,7 +7,9 @@ use Rattle.script_texts.specs.declared.event.Item.{Item}
 use Rattle.script_texts.specs.declared.event.Step.{Step}
 use Rattle.machine_names.specs.declared.names.ForkName.{ForkName}
 use Rattle.script_texts.specs.Taker.{GoesOn, IsCut, max_steps}
-use Rattle.script_texts.specs.Texts.{text_after, transcript, item_text, item_open, step_text, step_run, record_after, same_turn, run_line}
+use Rattle.texts.specs.OpenLine.{text_after, item_text, item_open}
+use Rattle.texts.specs.OpenRun.{step_text, step_run, record_after}
+use Rattle.script_texts.specs.Texts.{transcript, entries_text, same_turn, run_line}
 use Rattle.script_texts.specs.declared.event.Step.TheVariants.{Unit as UnitStep, Idle as IdleStep}
 use Rattle.script_texts.proofs.Takers.{cut_longer}
 use Rattle.std.specs.Prelude.{replicate}
@@ -81,12 +83,12 @@ module _ {T R : Type 0} (out_taken : T → Option (List ℕ)) (rec_taken : R →
       (subst (λ o. Wrote (out_taken first.out.now) (out_taken o) (text_after old.line) (λ ks. transcript (is ++ ks))) (sym out) w))
 
   rec_stays : (first : Writer T R) (ss ts : List Step) → new.rec.now ≡ old.rec.now → new.run ≡ old.run → ss ≡ ts
-      → Wrote (rec_taken first.rec.now) (rec_taken old.rec.now) (record_after (open_run old.run)) (λ us. record_after None (ss ++ us))
-      → Wrote (rec_taken first.rec.now) (rec_taken new.rec.now) (record_after (open_run new.run)) (λ us. record_after None (ts ++ us))
+      → Wrote (rec_taken first.rec.now) (rec_taken old.rec.now) (record_after (open_run old.run)) (λ us. entries_text (ss ++ us))
+      → Wrote (rec_taken first.rec.now) (rec_taken new.rec.now) (record_after (open_run new.run)) (λ us. entries_text (ts ++ us))
   rec_stays first ss ts rec run e w =
-      subst (λ l. Wrote (rec_taken first.rec.now) (rec_taken new.rec.now) (record_after (open_run new.run)) (λ us. record_after None (l ++ us))) e
-      (subst (λ r. Wrote (rec_taken first.rec.now) (rec_taken new.rec.now) (record_after (open_run r)) (λ us. record_after None (ss ++ us))) (sym run)
-      (subst (λ r. Wrote (rec_taken first.rec.now) (rec_taken r) (record_after (open_run old.run)) (λ us. record_after None (ss ++ us))) (sym rec) w))
+      subst (λ l. Wrote (rec_taken first.rec.now) (rec_taken new.rec.now) (record_after (open_run new.run)) (λ us. entries_text (l ++ us))) e
+      (subst (λ r. Wrote (rec_taken first.rec.now) (rec_taken new.rec.now) (record_after (open_run r)) (λ us. entries_text (ss ++ us))) (sym run)
+      (subst (λ r. Wrote (rec_taken first.rec.now) (rec_taken r) (record_after (open_run old.run)) (λ us. entries_text (ss ++ us))) (sym rec) w))
 
   -- an item is written
   pub item_goes_on : (i : Item) → Grows (out_taken old.out.now) (out_taken new.out.now) (item_text old.line i) → new.line ≡ item_open i → new.rec.now ≡ old.rec.now → new.run ≡ old.run
@@ -107,8 +109,8 @@ module _ {T R : Type 0} (out_taken : T → Option (List ℕ)) (rec_taken : R →
     each = λ first is more ss rest few s. record {
       out = subst (λ l. WrotePartly (out_taken first.out.now) (out_taken new.out.now) (transcript l)) (sym (append_assoc is (i ∷ []) more))
           (wrote_partly _ _ _ _ _ (text_after (item_open i) more) i more (item_text old.line i) s.out partly refl);
-      rec = subst (λ r. WrotePartly (rec_taken first.rec.now) (rec_taken r) (record_after None (ss ++ [] ++ rest))) (sym rec)
-          (subst (λ l. WrotePartly (rec_taken first.rec.now) (rec_taken old.rec.now) (record_after None l)) (sym (append_assoc ss [] rest)) (wrote_cut _ _ _ _ rest s.rec));
+      rec = subst (λ r. WrotePartly (rec_taken first.rec.now) (rec_taken r) (entries_text (ss ++ [] ++ rest))) (sym rec)
+          (subst (λ l. WrotePartly (rec_taken first.rec.now) (rec_taken old.rec.now) (entries_text l)) (sym (append_assoc ss [] rest)) (wrote_cut _ _ _ _ rest s.rec));
     };
   }
 
@@ -121,8 +123,8 @@ module _ {T R : Type 0} (out_taken : T → Option (List ℕ)) (rec_taken : R →
         let small : run_count old.run < max_steps = omega (arith, few, st.count, length-append ss (s ∷ [])) in
         record {
           out = out_stays first is (is ++ []) out line (sym (append-nil is)) st.out;
-          rec = wrote_more _ _ _ _ _ (record_after (open_run new.run)) (λ ts. record_after None ((ss ++ s ∷ []) ++ ts)) s (step_text (open_run old.run) s) st.rec grows
-              (λ ts. ap (λ r. step_text (open_run old.run) s ++ record_after r ts) (sym (run small))) (λ ts. ap (record_after None) (append_assoc ss (s ∷ []) ts));
+          rec = wrote_more _ _ _ _ _ (record_after (open_run new.run)) (λ ts. entries_text ((ss ++ s ∷ []) ++ ts)) s (step_text (open_run old.run) s) st.rec grows
+              (λ ts. ap (λ r. step_text (open_run old.run) s ++ record_after r ts) (sym (run small))) (λ ts. ap entries_text (append_assoc ss (s ∷ []) ts));
           count = omega (arith, st.count, count, length-append ss (s ∷ []));
         };
   }
@@ -134,7 +136,7 @@ module _ {T R : Type 0} (out_taken : T → Option (List ℕ)) (rec_taken : R →
     each = λ first is more ss rest few st. record {
       out = subst (λ o. WrotePartly (out_taken first.out.now) (out_taken o) (transcript (is ++ [] ++ more))) (sym out)
           (subst (λ l. WrotePartly (out_taken first.out.now) (out_taken old.out.now) (transcript l)) (sym (append_assoc is [] more)) (wrote_cut _ _ _ _ more st.out));
-      rec = subst (λ l. WrotePartly (rec_taken first.rec.now) (rec_taken new.rec.now) (record_after None l)) (sym (append_assoc ss (s ∷ []) rest))
+      rec = subst (λ l. WrotePartly (rec_taken first.rec.now) (rec_taken new.rec.now) (entries_text l)) (sym (append_assoc ss (s ∷ []) rest))
           (wrote_partly _ _ _ _ _ (record_after (step_run (open_run old.run) s) rest) s rest (step_text (open_run old.run) s) st.rec partly refl);
     };
   }
@@ -152,8 +154,8 @@ module _ {T R : Type 0} (out_taken : T → Option (List ℕ)) (rec_taken : R →
         λ ts. ap (λ r. step_text (open_run old.run) s ++ record_after r (replicate m s ++ ts)) begun ∙ ap (λ l. step_text (open_run old.run) s ++ l) (counted_up s one m k ts ∙ ap (λ r. record_after r ts) (sym (run small))) in
         record {
           out = out_stays first is (is ++ []) out line (sym (append-nil is)) st.out;
-          rec = wrote_list _ _ _ _ _ (record_after (open_run new.run)) (λ ts. record_after None ((ss ++ replicate (suc m) s) ++ ts)) (replicate (suc m) s) (step_text (open_run old.run) s) st.rec grows
-              text (λ ts. ap (record_after None) (append_assoc ss (replicate (suc m) s) ts));
+          rec = wrote_list _ _ _ _ _ (record_after (open_run new.run)) (λ ts. entries_text ((ss ++ replicate (suc m) s) ++ ts)) (replicate (suc m) s) (step_text (open_run old.run) s) st.rec grows
+              text (λ ts. ap entries_text (append_assoc ss (replicate (suc m) s) ts));
           count = omega (arith, st.count, count, length-append ss (replicate (suc m) s), long);
         };
   }
@@ -175,7 +177,7 @@ module _ {T R : Type 0} (out_taken : T → Option (List ℕ)) (rec_taken : R →
   kept_standing keeps = record {
     each = λ first is ss st. record {
       out = subst (λ l. Wrote (out_taken first.out.now) (out_taken new.out.now) (text_after l) (λ js. transcript (is ++ js))) (sym keeps.line) (wrote_stays _ _ _ _ _ st.out keeps.out);
-      rec = subst (λ r. Wrote (rec_taken first.rec.now) (rec_taken new.rec.now) (record_after (open_run r)) (λ ts. record_after None (ss ++ ts))) (sym keeps.run) (wrote_stays _ _ _ _ _ st.rec keeps.rec);
+      rec = subst (λ r. Wrote (rec_taken first.rec.now) (rec_taken new.rec.now) (record_after (open_run r)) (λ ts. entries_text (ss ++ ts))) (sym keeps.run) (wrote_stays _ _ _ _ _ st.rec keeps.rec);
       count = subst (λ r. run_count r ≤ length ss) (sym keeps.run) st.count;
     };
   }
@@ -192,7 +194,7 @@ module _ {T R : Type 0} (out_taken : T → Option (List ℕ)) (rec_taken : R →
   kept_cut keeps = record {
     each = λ first is more ss rest few st. record {
       out = partly_stays _ _ _ _ (subst (λ l. WrotePartly (out_taken first.out.now) (out_taken old.out.now) (transcript l)) (sym (append_assoc is [] more)) (wrote_cut _ _ _ _ more st.out)) keeps.out;
-      rec = partly_stays _ _ _ _ (subst (λ l. WrotePartly (rec_taken first.rec.now) (rec_taken old.rec.now) (record_after None l)) (sym (append_assoc ss [] rest)) (wrote_cut _ _ _ _ rest st.rec)) keeps.rec;
+      rec = partly_stays _ _ _ _ (subst (λ l. WrotePartly (rec_taken first.rec.now) (rec_taken old.rec.now) (entries_text l)) (sym (append_assoc ss [] rest)) (wrote_cut _ _ _ _ rest st.rec)) keeps.rec;
     };
   }
 
@@ -209,7 +211,7 @@ module _ {T R : Type 0} (out_taken : T → Option (List ℕ)) (rec_taken : R →
     finishes out rec = record {
       each = λ first is ss st. record {
         out = out_ends first is st.out out;
-        rec = λ told h. subst (λ l. rec_taken new.rec.now ≡ Some (told ++ (record_after None l ++ record_end last))) (append-nil ss) (wrote_end _ _ _ _ _ (record_end last) st.rec rec told h);
+        rec = λ told h. subst (λ l. rec_taken new.rec.now ≡ Some (told ++ (entries_text l ++ record_end last))) (append-nil ss) (wrote_end _ _ _ _ _ (record_end last) st.rec rec told h);
       };
     }
 
@@ -225,7 +227,7 @@ module _ {T R : Type 0} (out_taken : T → Option (List ℕ)) (rec_taken : R →
     record_fails out rec = record {
       each = λ first is ss st. record {
         out = whole_partly _ _ _ (out_ends first is st.out out);
-        rec = subst (λ l. WrotePartly (rec_taken first.rec.now) (rec_taken new.rec.now) (record_after None l ++ record_end last)) (append-nil ss) (wrote_end_partly _ _ _ _ _ (record_end last) st.rec rec);
+        rec = subst (λ l. WrotePartly (rec_taken first.rec.now) (rec_taken new.rec.now) (entries_text l ++ record_end last)) (append-nil ss) (wrote_end_partly _ _ _ _ _ (record_end last) st.rec rec);
       };
     }
 
@@ -234,8 +236,8 @@ module _ {T R : Type 0} (out_taken : T → Option (List ℕ)) (rec_taken : R →
     transcript_fails out rec = record {
       each = λ first is ss st. record {
         out = subst (λ l. WrotePartly (out_taken first.out.now) (out_taken new.out.now) (transcript l ++ end_line last)) (append-nil is) (wrote_end_partly _ _ _ _ _ (end_line last) st.out out);
-        rec = cut_here _ _ _ _ (subst (λ r. WrotePartly (rec_taken first.rec.now) (rec_taken r) (record_after None ss)) (sym rec)
-            (subst (λ l. WrotePartly (rec_taken first.rec.now) (rec_taken old.rec.now) (record_after None l)) (append-nil ss) (wrote_cut _ _ _ _ [] st.rec)));
+        rec = cut_here _ _ _ _ (subst (λ r. WrotePartly (rec_taken first.rec.now) (rec_taken r) (entries_text ss)) (sym rec)
+            (subst (λ l. WrotePartly (rec_taken first.rec.now) (rec_taken old.rec.now) (entries_text l)) (append-nil ss) (wrote_cut _ _ _ _ [] st.rec)));
       };
     }
 

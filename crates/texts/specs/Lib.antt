@@ -2,4 +2,5 @@ pub mod Ends
 pub mod Turns
 pub mod Wrote
 pub mod Writer
-pub mod TranscriptLines
+pub mod OpenLine
+pub mod OpenRun

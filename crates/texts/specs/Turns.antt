@@ -2,7 +2,7 @@
 use Rattle.std.specs.Prelude.{ℕ, Option, None, Some}
 use Rattle.script_texts.specs.declared.event.Step.{Step}
 use Rattle.script_texts.specs.declared.event.Step.TheVariants.{Unit as AUnit, Idle as AnIdle}
-use Rattle.script_texts.specs.Texts.{OpenRun}
+use Rattle.texts.specs.OpenRun.{OpenRun}
 use Rattle.texts.specs.declared.turns.Turn.{Turn}
 use Rattle.texts.specs.declared.turns.Turn.TheVariants.{Unit as UnitOf, Idle}
 use Rattle.texts.specs.declared.turns.Turns.{Turns}

@@ -1,12 +1,14 @@
 -- What a writer stands for.
-use Rattle.std.specs.Prelude.{◌≡◌, ◌⊎◌, ℕ, ◌<◌, ◌≤◌, List, ◌++◌, length, None, Some, Result, OnOk, OnErr}
+use Rattle.std.specs.Prelude.{◌≡◌, ◌⊎◌, ℕ, ◌<◌, ◌≤◌, List, ◌++◌, length, Some, Result, OnOk, OnErr}
 use Rattle.outside.specs.Faults.{Rose}
 use Rattle.outside.specs.declared.failure.Failed.{Failed}
 use Rattle.outside.specs.Told.{Stays}
 use Rattle.script_texts.specs.declared.event.Item.{Item}
 use Rattle.script_texts.specs.declared.event.Step.{Step}
 use Rattle.script_texts.specs.Taker.{StaysOnward}
-use Rattle.script_texts.specs.Texts.{text_after, transcript, record_after}
+use Rattle.script_texts.specs.Texts.{transcript, entries_text}
+use Rattle.texts.specs.OpenLine.{text_after}
+use Rattle.texts.specs.OpenRun.{record_after}
 use Rattle.texts.specs.Turns.{open_run, run_count}
 use Rattle.texts.specs.declared.writer.Writer.{Writer}
 use Rattle.texts.specs.Wrote.{Told, Wrote, WrotePartly}
@@ -48,13 +50,13 @@ pub record Keeps {T R : Type 0} (so : Writer T R → Writer T R → List Item �
 -- since the first, its sinks took the texts of these lists, but for the line and the run that are open
 pub record Stands {T R : Type 0} (out_taken : T → Told) (rec_taken : R → Told) (first now : Writer T R) (is : List Item) (ss : List Step) : Type 0 where
   pub out : Wrote (out_taken first.out.now) (out_taken now.out.now) (text_after now.line) (λ js. transcript (is ++ js))
-  pub rec : Wrote (rec_taken first.rec.now) (rec_taken now.rec.now) (record_after (open_run now.run)) (λ ts. record_after None (ss ++ ts))
+  pub rec : Wrote (rec_taken first.rec.now) (rec_taken now.rec.now) (record_after (open_run now.run)) (λ ts. entries_text (ss ++ ts))
   pub count : run_count now.run ≤ length ss
 
 -- since the first, each sink took a front of the text of its list
 pub record IsCutWithin {T R : Type 0} (out_taken : T → Told) (rec_taken : R → Told) (first now : Writer T R) (is : List Item) (ss : List Step) : Type 0 where
   pub out : WrotePartly (out_taken first.out.now) (out_taken now.out.now) (transcript is)
-  pub rec : WrotePartly (rec_taken first.rec.now) (rec_taken now.rec.now) (record_after None ss)
+  pub rec : WrotePartly (rec_taken first.rec.now) (rec_taken now.rec.now) (entries_text ss)
 
 -- what its sinks took stays, and so do the line and the run that are open
 pub record KeepsWritten {T R : Type 0} (out_taken : T → Told) (rec_taken : R → Told) (old new : Writer T R) : Type 0 where
@@ -66,12 +68,12 @@ pub record KeepsWritten {T R : Type 0} (out_taken : T → Told) (rec_taken : R �
 -- since the first, its sinks took the texts of these lists, closed, with their last lines
 pub record IsFinished {T R : Type 0} (out_taken : T → Told) (rec_taken : R → Told) (last : Last) (first now : Writer T R) (is : List Item) (ss : List Step) : Type 0 where
   pub out : (told : List ℕ) → out_taken first.out.now ≡ Some told → out_taken now.out.now ≡ Some (told ++ (transcript is ++ end_line last))
-  pub rec : (told : List ℕ) → rec_taken first.rec.now ≡ Some told → rec_taken now.rec.now ≡ Some (told ++ (record_after None ss ++ record_end last))
+  pub rec : (told : List ℕ) → rec_taken first.rec.now ≡ Some told → rec_taken now.rec.now ≡ Some (told ++ (entries_text ss ++ record_end last))
 
 -- since the first, each sink took a front of its closed text
 pub record IsCutAtEnd {T R : Type 0} (out_taken : T → Told) (rec_taken : R → Told) (last : Last) (first now : Writer T R) (is : List Item) (ss : List Step) : Type 0 where
   pub out : WrotePartly (out_taken first.out.now) (out_taken now.out.now) (transcript is ++ end_line last)
-  pub rec : WrotePartly (rec_taken first.rec.now) (rec_taken now.rec.now) (record_after None ss ++ record_end last)
+  pub rec : WrotePartly (rec_taken first.rec.now) (rec_taken now.rec.now) (entries_text ss ++ record_end last)
 
 -- for each pair for which it stood it is finished now
 pub record Finishes {T R : Type 0} (out_taken : T → Told) (rec_taken : R → Told) (last : Last) (old new : Writer T R) : Type 0 where

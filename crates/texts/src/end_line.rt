@@ -1,7 +1,7 @@
 // The end of the transcript.
 ghost use Rattle.std.specs.Prelude.{◌≡◌, ◌≤◌, ◌++◌, length};
-ghost use Rattle.script_texts.specs.Texts.{line_end};
 ghost use Rattle.texts.specs.Ends.{closing_line, end_line};
+ghost use Rattle.texts.specs.OpenLine.{line_end};
 
 use crate::line::Line;
 use crate::{Last, Status};

@@ -1,8 +1,9 @@
 // The entries of the record.
 ghost use Rattle.std.specs.Prelude.{◌≡◌, ◌≤◌, ◌++◌, length};
 ghost use Rattle.script_texts.specs.Limits.{FitsEvent};
-ghost use Rattle.script_texts.specs.Texts.{counts_line, ended, line_of, run_end};
+ghost use Rattle.script_texts.specs.Texts.{counts_line, ended, line_of};
 ghost use Rattle.texts.specs.Ends.{record_end};
+ghost use Rattle.texts.specs.OpenRun.{run_end};
 ghost use Rattle.texts.specs.Turns.{open_run};
 
 use crate::Last;

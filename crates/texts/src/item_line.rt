@@ -3,7 +3,8 @@ ghost use Rattle.std.specs.Prelude.{◌≡◌, ◌≤◌, ◌+◌, ◌++◌, len
 ghost use Rattle.word36.specs.Octal.{octal_padded};
 ghost use Rattle.script_texts.specs.Limits.{FitsItem, FitsCause};
 ghost use Rattle.machine_names.specs.Bounds.{IsFileName};
-ghost use Rattle.script_texts.specs.Texts.{item_text, item_open, line_end, line_start, escaped, char_end, ended, field, fork_text, cause_text, wait_text, status_text, frozen_text, shown_line};
+ghost use Rattle.script_texts.specs.Texts.{escaped, ended, field, fork_text, cause_text, wait_text, status_text, frozen_text, shown_line};
+ghost use Rattle.texts.specs.OpenLine.{item_text, item_open, line_end, line_start, char_end};
 ghost use Rattle.script_texts.specs.declared.event.Item.TheVariants.{Examined as AnExamined, PageLine as APageLine, PageWord as APageWord, UnitLine as AUnitLine};
 
 use crate::line::{ADDRESS_DIGITS, LINE_ROOM, Line};

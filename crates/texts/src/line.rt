@@ -1,7 +1,8 @@
 // Lines of a text, each made whole before it is written.
 ghost use Rattle.std.specs.Prelude.{◌≡◌, ◌≤◌, ◌+◌, ◌++◌, [], length, decimal};
 ghost use Rattle.word36.specs.Octal.{octal_padded};
-ghost use Rattle.script_texts.specs.Texts.{line_end, name_text};
+ghost use Rattle.script_texts.specs.Texts.{name_text};
+ghost use Rattle.texts.specs.OpenLine.{line_end};
 
 use machine_names::ForkName;
 use script_lang::digits::{DECIMAL_DIGITS, decimal, octal_padded};

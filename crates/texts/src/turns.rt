@@ -1,6 +1,7 @@
 // Runs of equal turns: of units of one fork, or of idle entries.
 ghost use Rattle.std.specs.Prelude.{◌≡◌, ◌≤◌, length};
-ghost use Rattle.script_texts.specs.Texts.{same_turn, run_end, run_line};
+ghost use Rattle.script_texts.specs.Texts.{same_turn, run_line};
+ghost use Rattle.texts.specs.OpenRun.{run_end};
 ghost use Rattle.texts.specs.Turns.{step_of, open_run};
 
 use crate::line::{Line, RUN_ROOM};

@@ -29,7 +29,7 @@ impl<'a, T: Sink, R: Sink> Writer<'a, T, R> {
     ghost use Rattle.script_texts.specs.declared.event.Step.TheVariants.{Outer as AnOuter};
     ghost use Rattle.texts.specs.declared.last.Last.{Last as ALast};
     ghost use Rattle.script_texts.specs.Limits.{FitsEvent};
-    ghost use Rattle.script_texts.specs.Texts.{step_text, step_run, run_end};
+    ghost use Rattle.texts.specs.OpenRun.{step_text, step_run, run_end};
     ghost use Rattle.texts.specs.Writer.{IsOnward, IsHandedOn, HandsOn, Counts, Stands, IsCutWithin, IsCutAtEnd, Finishes, FailsAtEnd, Keeps, KeepsWritten};
 
     /// A writer that has written nothing, of the transcript to `out` and of the record to `rec`.

@@ -11,7 +11,7 @@ pub returns-clause-kept : goal.returns-clause-kept
 returns-clause-kept c = λ s step w fits. step_whole s w step fits
 
 pub returns-clause-whole : goal.returns-clause-whole
-returns-clause-whole c = λ limit events entries fits legal. steps_whole (opening limit) entries (whole_opening limit) (opened_fit limit events entries fits legal)
+returns-clause-whole c = λ flat limit events entries fits follows legal. steps_whole (opening limit) entries (whole_opening limit) (opened_fit flat limit events entries fits follows legal)
 
 pub returns-clause-counted : goal.returns-clause-counted
 returns-clause-counted c = λ s w. live_whole s.pages w.pages

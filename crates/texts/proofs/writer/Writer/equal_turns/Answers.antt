@@ -1,6 +1,7 @@
 use Rattle.std.proofs.Common.{◌≡◌, ◌+◌, ◌-◌, [], ◌∙◌, true, sym, subst, arith, ap, refl, Some}
 use Rattle.outside.specs.Told.{Grows}
-use Rattle.script_texts.specs.Texts.{same_turn, step_text, step_run}
+use Rattle.script_texts.specs.Texts.{same_turn}
+use Rattle.texts.specs.OpenRun.{step_text, step_run}
 use Rattle.texts.specs.Turns.{step_of, open_run, run_count}
 use Rattle.texts.proofs.Writes.{grows_none}
 use Rattle.texts.proofs.Standing.{turns_given, turn_counted, joins_text, joins_run, joins_step}
