@@ -3,10 +3,12 @@ use Rattle.std.proofs.Common.{◌≡◌, inl, inr, ℕ, ◌-◌, ◌<◌, ◌^�
 use Rattle.std.proofs.lemmas.List.{append-nil, get_or-replicate, length-replicate}
 use Rattle.outside.specs.Drums.{IsPage}
 use Rattle.outside.specs.Told.{Grows, Stays}
+use Rattle.script_texts.specs.declared.event.Event.{Event}
 use Rattle.script_texts.specs.declared.event.Item.{Item}
 use Rattle.script_texts.specs.declared.event.Step.{Step}
 use Rattle.plain_model.specs.State.{PlainState, opening}
-use Rattle.plain_model.proofs.Runs.{legal_flat}
+use Rattle.plain_model.specs.Run.{AreLegal}
+use Rattle.plain_model.proofs.Runs.{AreLegal-append, legal_flat}
 use Rattle.page_contracts.specs.DrumWords.{DrumWords}
 use Rattle.machine_names.specs.PageWords.{zero_words}
 use Rattle.page_contracts.specs.Stores.{FitsHomes, free}
@@ -30,7 +32,7 @@ use Rattle.texts.proofs.Starts.{stands_start}
 use Rattle.tenex_console.specs.declared.asked.Unbegun.{Unbegun}
 use Rattle.tenex_console.specs.declared.driver.Driven.{Driven}
 use Rattle.tenex_console.specs.declared.driver.Driven.TheVariants.{Done as WholeScript, Bad, Long, ReadFault as Unread, DrumFault as Unpaged, TakerFault}
-use Rattle.tenex_console.specs.Runs.{RunsTo}
+use Rattle.tenex_console.specs.Runs.{AreBroken, AreEntries, RunsTo, ShowsTo}
 use Rattle.tenex_console.specs.Driving.{Handed, IsBooted, OpensOver, RanTo}
 use Rattle.tenex_console.specs.Headline.{DrivenTo, Fronts, Headline, Part, Stops, closing, last_after, status_of}
 use Rattle.tenex_console.specs.Observed.{Observed, seen}
@@ -104,6 +106,35 @@ handed_whole stands cut out out' items entries Unread reads writes last is hande
 handed_whole stands cut out out' items entries Unpaged reads writes last is handed = handed
 handed_whole stands cut out out' items entries TakerFault reads writes last is handed = absurd (cc is)
 
+-- over pages in memory all entries of a run are legal, whatever the AUTO mark
+module _ {limit : ℕ} {events : List Event} {entries : List Step} where
+  broken_legal : {Part : Event → List Step → Type 0} → AreBroken true limit Part events entries → AreLegal true (opening limit) entries
+  broken_legal b =
+      subst (AreLegal true (opening limit)) (sym b.breaks.entries_are)
+      (AreLegal-append true (opening limit) b.breaks.before b.breaks.more (legal_flat true (opening limit) b.breaks.whole b.breaks.before b.breaks.follows b.legal) b.last_legal)
+
+  whole_legal : {items : List Item} → AreEntries true limit events entries items → AreLegal true (opening limit) entries
+  whole_legal r = legal_flat true (opening limit) events entries r.follows r.legal
+
+  run_legal : {items : List Item} (driven : Driven) → RunsTo true limit driven events entries items → AreLegal true (opening limit) entries
+  run_legal WholeScript r = whole_legal r
+  run_legal (Bad n) r = whole_legal r
+  run_legal Long r = whole_legal r
+  run_legal Unread r = whole_legal r
+  run_legal Unpaged r = broken_legal r.broken
+  run_legal TakerFault (inl r) = whole_legal r
+  run_legal TakerFault (inr r) = broken_legal r.broken
+
+  -- and this is what they show
+  run_shows : {items : List Item} (driven : Driven) → RunsTo true limit driven events entries items → ShowsTo driven limit events entries items
+  run_shows WholeScript r = r.shown
+  run_shows (Bad n) r = r.shown
+  run_shows Long r = r.shown
+  run_shows Unread r = r.shown
+  run_shows Unpaged r = (r.broken.breaks.whole, r.broken.breaks.last, r.later, r.broken.breaks.events_are, r.first, r.shown)
+  run_shows TakerFault (inl r) = r.shown
+  run_shows TakerFault (inr r) = r.shown
+
 -- A run that began from the opening state, seen through the writer: as it was new, after the driving, and at the end.
 module _ {M S T R D : Type 0} {flat : Bool} {fits : M → DrumWords → Type 0} {plain : M → DrumWords → PlainState} {held : D → Option DrumWords} {limit : ℕ} {m : M} {d : D} {words : DrumWords}
     (left : S → Option (List ℕ)) (out_taken : T → Option (List ℕ)) (rec_taken : R → Option (List ℕ)) (reads writes : D → ℕ) (s s' : S) (d' : D) (w v u : Writer T R)
@@ -114,6 +145,11 @@ module _ {M S T R D : Type 0} {flat : Bool} {fits : M → DrumWords → Type 0} 
   abbrev Drove : Driven → Type 0
   Drove driven = RanTo flat fits plain held limit m d (Stands out_taken rec_taken) (IsCutWithin out_taken rec_taken) driven w v (left s) (left s')
 
+  runs_flat : (driven : Driven) (ran : Drove driven) → RunsTo true sizes.drum driven ran.events ran.entries (ran.told words opens).items
+  runs_flat driven ran =
+      let given = ran.told words opens in
+      subst (λ f. RunsTo f sizes.drum driven ran.events ran.entries given.items) is_flat (subst (λ n. RunsTo flat n driven ran.events ran.entries given.items) (sym same) given.run)
+
   driven_to : (driven : Driven) → Drove driven → DrivenTo driven sizes told
   driven_to driven ran =
       let given = ran.told words opens in
@@ -122,7 +158,9 @@ module _ {M S T R D : Type 0} {flat : Bool} {fits : M → DrumWords → Type 0} 
         entries = ran.entries;
         items = given.items;
         found = ran.found;
-        run = subst (λ f. RunsTo f sizes.drum driven ran.events ran.entries given.items) is_flat (subst (λ n. RunsTo flat n driven ran.events ran.entries given.items) (sym same) given.run);
+        follows = ran.follows;
+        legal = run_legal driven (runs_flat driven ran);
+        shown = run_shows driven (runs_flat driven ran);
       }
 
   -- the writer stood for what it was given
@@ -143,11 +181,10 @@ module _ {M S T R D : Type 0} {flat : Bool} {fits : M → DrumWords → Type 0} 
       }
 
   headline : told.reads < 2 ^ 64 → told.writes < 2 ^ 64 → Drove WholeScript → Finishes out_taken rec_taken (Ended told.reads told.writes) v u → Headline sizes told
-  unfolding driven_to
   headline few_reads few_writes ran finishes =
       let given = ran.told words opens in
       let ends = finishes.each w given.items ran.entries (stood WholeScript (Ended told.reads told.writes) refl ran) in
-      let entries = (driven_to WholeScript ran).run in
+      let entries = runs_flat WholeScript ran in
       record {
         events = ran.events;
         entries = ran.entries;
@@ -156,7 +193,7 @@ module _ {M S T R D : Type 0} {flat : Bool} {fits : M → DrumWords → Type 0} 
             let all : found.0 ≡ bytes = sym (found.2 ∙ (ap (λ rest. found.0 ++ rest) found.4.1 ∙ append-nil found.0)) in
             (subst (λ b. IsScript b ran.events) all found.4.0, found.3 ∙ ap Some found.4.1);
         follows = entries.follows;
-        legal = legal_flat true (opening sizes.drum) ran.events ran.entries entries.follows entries.legal;
+        legal = whole_legal entries;
         transcript_is = subst (λ items. Grows told.out told.out_after (transcript items)) entries.shown (grows_alone told.out told.out_after (transcript given.items) ends.out);
         record_is = ends.rec;
         fits = record { fit = opened_fit true sizes.drum ran.events ran.entries ran.fit entries.follows entries.legal; few = omega (arith, ran.few); few_reads = few_reads; few_writes = few_writes };

@@ -25,7 +25,7 @@ use Rattle.tenex_console.specs.declared.asked.Unbegun.TheVariants.{Usage as Wron
 use Rattle.tenex_console.specs.Command.{IsUsage}
 use Rattle.tenex_console.specs.Verdicts.{Found, Verdict}
 use Rattle.tenex_console.specs.Observed.{Observed}
-use Rattle.tenex_console.specs.Runs.{RunsTo}
+use Rattle.tenex_console.specs.Runs.{FollowsTo, ShowsTo}
 
 -- The transcript is that of the plain machine over the entries that the record has: the script's events
 -- in order, each RUN n being n units of forks that can run, or idle entries while none can. No other entries
@@ -44,13 +44,15 @@ pub record Headline (sizes : Sizes) (told : Observed) : Type 0 where
 abbrev pub HasHeadline : {Z : Type 0} → List (String Z) → Observed → Type 0
 HasHeadline words told = (sizes : Sizes) × IsRun words sizes × Headline sizes told
 
--- The script was driven so far over all pages in memory: its events, their legal entries, and the items of these.
+-- The script was driven so far over all pages in memory: its events, their legal entries, and what was shown.
 pub record DrivenTo (driven : Driven) (sizes : Sizes) (told : Observed) : Type 0 where
   pub events : List Event
   pub entries : List Step
   pub items : List Item
   pub found : Found told.script told.script_after (Verdict driven events)
-  pub run : RunsTo true sizes.drum driven events entries items
+  pub follows : FollowsTo driven events entries
+  pub legal : AreLegal true (opening sizes.drum) entries
+  pub shown : ShowsTo driven sizes.drum events entries items
 
 -- the texts of the run so far, and the line that tells how it stopped behind the transcript
 pub record Part (driven : Driven) (line : List ℕ) (sizes : Sizes) (told : Observed) : Type 0 where

@@ -27,6 +27,14 @@ FollowsTo DrumFault events entries = BreaksOff Unfinished events entries
 FollowsTo TakerFault events entries = Follows events entries ⊎ BreaksOff Begins events entries
 FollowsTo driven events entries = Follows events entries
 
+-- What is shown over these entries where the driving ended like this: their items, and where the drum broke off the last
+-- event, the first items of what that shows.
+abbrev pub ShowsTo : Driven → ℕ → List Event → List Step → List Item → Type 0
+ShowsTo DrumFault limit events entries items =
+    (whole : List Event) × (last : Event) × (later : List Item) × (events ≡ whole ++ last ∷ []) × ShownFirst (state_after (opening limit) entries) last later
+    × (items ≡ items_of (opening limit) entries ++ later)
+ShowsTo driven limit events entries items = items ≡ items_of (opening limit) entries
+
 -- legal entries of these events with room for so many pages and forks, and their items
 pub record AreEntries (flat : Bool) (limit : ℕ) (events : List Event) (entries : List Step) (items : List Item) : Type 0 where
   pub follows : Follows events entries
