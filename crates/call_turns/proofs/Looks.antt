@@ -3,7 +3,7 @@ use Rattle.std.proofs.Common.{◌≡◌, ℕ, zero, suc, ◌-◌, ◌<◌, Optio
 use Rattle.std.specs.Prelude.{unwrap_or}
 use Rattle.std.specs.Option.{option_map, option_map_or, option_or, option_and_then}
 use Rattle.machine_names.specs.declared.names.Access.{Access}
-use Rattle.machine_names.specs.declared.homes.Home.{Home}
+use Rattle.page_homes.specs.declared.homes.Home.{Home}
 use Rattle.machine_names.specs.declared.names.PageName.{PageName}
 use Rattle.machine_names.specs.declared.names.Slot.{Slot}
 use Rattle.plain_pages.specs.declared.map.MapEntry.{MapEntry}

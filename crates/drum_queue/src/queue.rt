@@ -4,8 +4,8 @@ ghost use Rattle.drum_queue.specs.Transfers.{IsSingle, frame_of, transfer_of, wi
 
 use crate::Transfer;
 use frame_order::FrameOrder;
-use machine_names::{FrameId, Home};
 use outside::Memory;
+use page_homes::{FrameId, Home};
 use std::alloc::Global;
 use std::marker::Model;
 

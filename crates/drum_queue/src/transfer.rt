@@ -2,7 +2,7 @@
 ghost use Rattle.std.specs.Prelude.{◌≡◌};
 ghost use Rattle.drum_queue.specs.Transfers.{frame_of, is_write};
 
-use machine_names::{FrameId, Home};
+use page_homes::{FrameId, Home};
 
 /// What is to go between a frame and the drum: the page of a home is read into the frame, or
 /// written from it.

@@ -11,7 +11,7 @@ use Rattle.machine_names.specs.declared.names.ForkName.{ForkName}
 use Rattle.machine_names.specs.declared.names.PageName.{PageName}
 use Rattle.machine_names.specs.declared.names.Tty.{Tty}
 use Rattle.machine_names.specs.declared.names.TheConstants.{SPACE_PAGES, TERMINALS}
-use Rattle.machine_names.specs.declared.homes.TheConstants.{MOST_HOMES}
+use Rattle.page_homes.specs.declared.homes.TheConstants.{MOST_HOMES}
 use Rattle.page_contracts.specs.DrumWords.{DrumWords}
 use Rattle.machine_names.specs.Bounds.{IsOwner}
 use Rattle.plain_pages.specs.PlainPages.{is_console, opening_pages, first_serials}

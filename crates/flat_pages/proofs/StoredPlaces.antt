@@ -14,8 +14,8 @@ use Rattle.word36.specs.Words.{IsWord}
 use Rattle.outside.specs.Drums.{IsPage}
 use Rattle.outside.specs.declared.TheConstants.{PAGE_WORDS}
 use Rattle.machine_names.specs.PageWords.{zero_words}
-use Rattle.machine_names.specs.declared.homes.Home.{Home}
-use Rattle.machine_names.specs.declared.homes.TheConstants.{MOST_HOMES}
+use Rattle.page_homes.specs.declared.homes.Home.{Home}
+use Rattle.page_homes.specs.declared.homes.TheConstants.{MOST_HOMES}
 use Rattle.page_contracts.specs.declared.answers.Found.{Found}
 use Rattle.page_contracts.specs.Stores.{HomePlace, free, here, place, is_free, is_taken, is_here, with_word_in, free_homes, room_of}
 use Rattle.page_contracts.specs.declared.store.Room.TheVariants.{Enough, NeedFrame, Full}

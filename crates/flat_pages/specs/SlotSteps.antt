@@ -2,7 +2,7 @@
 use Rattle.std.specs.Prelude.{◌≡◌, Some}
 use Rattle.plain_pages.specs.Maps.{narrowed}
 use Rattle.machine_names.specs.declared.names.Access.{Access}
-use Rattle.machine_names.specs.declared.homes.Home.{Home}
+use Rattle.page_homes.specs.declared.homes.Home.{Home}
 use Rattle.machine_names.specs.declared.names.Tty.{Tty}
 use Rattle.page_contracts.specs.Stores.{StoreMeaning, HomePlace, IsMade, FitsHomes, Loses, traffic}
 use Rattle.machine_names.specs.declared.names.Slot.{Slot}

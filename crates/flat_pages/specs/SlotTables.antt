@@ -4,7 +4,7 @@ use Rattle.std.specs.FinMap as map
 use Rattle.outside.specs.declared.TheConstants.{PAGE_WORDS}
 use Rattle.machine_names.specs.declared.names.PageName.{PageName}
 use Rattle.machine_names.specs.declared.names.TheConstants.{TERMINALS}
-use Rattle.machine_names.specs.declared.homes.TheConstants.{MOST_HOMES}
+use Rattle.page_homes.specs.declared.homes.TheConstants.{MOST_HOMES}
 use Rattle.page_contracts.specs.DrumWords.{DrumWords}
 use Rattle.machine_names.specs.Orders.{page_cmp}
 use Rattle.plain_pages.specs.PlainPages.{NumberedPages}

@@ -7,7 +7,7 @@ use Rattle.std.proofs.Math.Nat.{le_of_sub-eq-zero, not-suc-le-zero}
 use Rattle.std.proofs.lemmas.Bool.{true≢false}
 use Rattle.std.proofs.lemmas.List.{length-map, map-set}
 use Rattle.outside.specs.Drums.{IsPage}
-use Rattle.machine_names.specs.declared.homes.TheConstants.{MOST_HOMES}
+use Rattle.page_homes.specs.declared.homes.TheConstants.{MOST_HOMES}
 use Rattle.page_contracts.specs.declared.answers.Found.{Found}
 use Rattle.page_contracts.specs.Stores.{StoreMeaning, IsSound, HomePlace, free, here, place, is_taken, is_here, free_homes}
 use Rattle.flat_pages.specs.declared.flat_store.FlatStore.{FlatStore}

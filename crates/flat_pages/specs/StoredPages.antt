@@ -2,8 +2,8 @@
 use Rattle.std.specs.Prelude.{◌≡◌, ℕ, ◌<◌, ◌≤◌, List, [], ◌∷◌, Bool, false, if◌then◌else◌, Option, None, Some, length, map, slice_index_or}
 use Rattle.std.specs.List.{range_with_len}
 use Rattle.outside.specs.Drums.{IsPage}
-use Rattle.machine_names.specs.declared.homes.Home.{Home}
-use Rattle.machine_names.specs.declared.homes.TheConstants.{MOST_HOMES}
+use Rattle.page_homes.specs.declared.homes.Home.{Home}
+use Rattle.page_homes.specs.declared.homes.TheConstants.{MOST_HOMES}
 use Rattle.page_contracts.specs.declared.answers.Found.{Found}
 use Rattle.machine_names.specs.PageWords.{zero_words}
 use Rattle.page_contracts.specs.Stores.{HomePlace, free, here, place, is_taken, free_homes}

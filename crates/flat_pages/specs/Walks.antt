@@ -2,7 +2,7 @@
 use Rattle.std.specs.Prelude.{ℕ, zero, suc, List, Bool, not, ◌&&◌, ◌||◌, Option, None, Some, if◌then◌else◌, is_none}
 use Rattle.std.specs.Option.{option_map, option_map_or, option_and_then}
 use Rattle.machine_names.specs.declared.names.Access.{Access}
-use Rattle.machine_names.specs.declared.homes.Home.{Home}
+use Rattle.page_homes.specs.declared.homes.Home.{Home}
 use Rattle.machine_names.specs.declared.names.Kind.{Kind}
 use Rattle.machine_names.specs.declared.names.Kind.TheVariants as kind
 use Rattle.machine_names.specs.declared.names.Slot.{Slot}

@@ -9,7 +9,8 @@ ghost use Rattle.flat_pages.specs.Walks.{next_at, walk_end, walk_behind, walk_wi
 use crate::held_entry::{EntryAt, HeldEntry, Link};
 use crate::held_map::entry_held;
 use crate::kept_maps::KeptMaps;
-use machine_names::{Access, ForkName, Home, Kind, SPACE_PAGES};
+use machine_names::{Access, ForkName, Kind, SPACE_PAGES};
+use page_homes::Home;
 
 /// How many entries a chain has at most.
 pub const CHAIN: u32 = 4;

@@ -8,13 +8,12 @@ use crate::held_entry::{EntryAt, HeldEntry, Link};
 use crate::held_map::free_map_of;
 use crate::map_tables::MapTables;
 use crate::page_serials::PageSerials;
-use machine_names::{
-    Access, ForkName, FrameId, Home, Kind, MOST_HOMES, PageName, Place, SPACE_PAGES, Slot, Tty,
-};
+use machine_names::{Access, ForkName, Kind, PageName, Place, SPACE_PAGES, Slot, Tty};
 use outside::{Drum, Memory, PAGE_WORDS};
 use page_contracts::{
     Completed, Found, Need, Pages, Peeked, Room, Seen, SpaceHandle, Store, Touch,
 };
+use page_homes::{FrameId, Home, MOST_HOMES};
 use plain_pages::{NewEntry, NewMap};
 use std::alloc::Global;
 use word36::Word;
@@ -65,7 +64,7 @@ impl<S: Store + Drop> FlatSlots<S> {
 
 impl<S: Store> FlatSlots<S> {
     ghost use Rattle.std.specs.Prelude.{◌≡◌, ◌≤◌, ◌+◌, true, Bool, ℕ, Some, None, IsSome, if◌then◌else◌};
-    ghost use Rattle.machine_names.specs.declared.homes.Home.{Home as AHome};
+    ghost use Rattle.page_homes.specs.declared.homes.Home.{Home as AHome};
     ghost use Rattle.page_contracts.specs.Pages.{framed};
     ghost use Rattle.page_contracts.specs.Stores.{place, is_taken};
     ghost use Rattle.page_contracts.specs.Pages.{absent_or};

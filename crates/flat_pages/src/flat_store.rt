@@ -3,9 +3,9 @@ ghost use Rattle.flat_pages.specs.StoredPages.{AreStored};
 ghost use Rattle.flat_pages.specs.StoredLists.{pages_of};
 
 use crate::stored_page::{StoredPages, all_homes, zero_page};
-use machine_names::{FrameId, Home, MOST_HOMES};
 use outside::{Drum, Memory};
 use page_contracts::{Completed, Found, Need, Room, Store};
+use page_homes::{FrameId, Home, MOST_HOMES};
 use std::alloc::Global;
 use word36::Word;
 

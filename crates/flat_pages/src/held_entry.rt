@@ -3,7 +3,8 @@ ghost use Rattle.std.specs.Prelude.{◌≡◌};
 ghost use Rattle.plain_pages.specs.Maps.{narrowed};
 ghost use Rattle.flat_pages.specs.SlotSteps.{narrow_held};
 
-use machine_names::{Access, Home};
+use machine_names::Access;
+use page_homes::Home;
 
 /// An entry of a fork's map: nothing; the page of a home; or an entry of a fork of the same job, that
 /// it follows.

@@ -8,7 +8,8 @@ use crate::chain_walk::{CHAIN, Use, home_of};
 use crate::held_entry::{EntryAt, HeldEntry};
 use crate::held_map::{HeldMap, MOST_MAPS, following, free_maps, map_of, set_held};
 use crate::look::{Look, NO_LOOK, look_of};
-use machine_names::{ForkName, Home, LAST_SERIAL, MOST_FORKS, SPACE_PAGES, TERMINALS};
+use machine_names::{ForkName, LAST_SERIAL, MOST_FORKS, SPACE_PAGES, TERMINALS};
+use page_homes::Home;
 use std::alloc::{AllocError, Global};
 
 /// The maps of forks. Beside each entry stands what a look goes by, and beside each map its fork's serial.

@@ -17,7 +17,8 @@ use crate::held_entry::{EntryAt, HeldEntry};
 use crate::held_map::entry_held;
 use crate::kept_maps::KeptMaps;
 use crate::page_serials::PageSerials;
-use machine_names::{Access, ForkName, Home, PageName, SPACE_PAGES, Slot, Tty};
+use machine_names::{Access, ForkName, PageName, SPACE_PAGES, Slot, Tty};
+use page_homes::Home;
 use plain_pages::MapEntry;
 use std::alloc::{AllocError, Global};
 

@@ -3,8 +3,8 @@ ghost use Rattle.std.specs.Prelude.{◌≡◌, false, length, replicate, IfOk};
 ghost use Rattle.machine_names.specs.PageWords.{zero_words};
 ghost use Rattle.flat_pages.specs.StoredPages.{homes_below};
 
-use machine_names::Home;
 use outside::PAGE_WORDS;
+use page_homes::Home;
 use std::alloc::{AllocError, Global};
 use word36::Word;
 

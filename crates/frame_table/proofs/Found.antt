@@ -8,7 +8,7 @@ use Rattle.std.proofs.lemmas.Bool.{cases_lt, false≢true}
 use Rattle.std.proofs.lemmas.List.{get_or_past}
 use Rattle.number_set.specs.Numbers.{AreAllThere, IsLeastAbsent, Numbers}
 use Rattle.tournament.specs.Keys.{AreAbsent, IsLeast, key_of}
-use Rattle.machine_names.specs.declared.homes.FrameId.{FrameId}
+use Rattle.page_homes.specs.declared.homes.FrameId.{FrameId}
 use Rattle.frame_table.specs.declared.tenant.Tenant.{Tenant}
 use Rattle.frame_table.specs.Core.{AreAllTaken, Core, IsLeastFree, IsVictim, age_of, can_go, can_leave, seat_of}
 use Rattle.frame_table.specs.Seats.{AreKept, leaving}

@@ -11,9 +11,9 @@ use Rattle.std.proofs.lemmas.List.Sums.{sum_by-set, sum_by-cons, count_by-le-len
 use Rattle.number_map.proofs.Keys.{get_put, get_put_other, get_gone, get_gone_other}
 use Rattle.number_set.proofs.Members as numbers
 use Rattle.number_set.specs.Numbers.{Numbers}
-use Rattle.machine_names.specs.declared.homes.Home.{Home}
-use Rattle.machine_names.specs.declared.homes.FrameId.{FrameId}
-use Rattle.machine_names.specs.declared.homes.TheConstants.{MOST_HOMES}
+use Rattle.page_homes.specs.declared.homes.Home.{Home}
+use Rattle.page_homes.specs.declared.homes.FrameId.{FrameId}
+use Rattle.page_homes.specs.declared.homes.TheConstants.{MOST_HOMES}
 use Rattle.machine_names.specs.PageWords.{zero_words}
 use Rattle.frame_table.specs.declared.tenant.Tenant.{Tenant}
 use Rattle.frame_table.specs.declared.tenant.TheConstants.{MOST_PINS}

@@ -1,6 +1,6 @@
 -- What is done to the frames over time.
 use Rattle.std.specs.Prelude.{◌≡◌, ℕ, ◌+◌, ◌-◌, ◌<◌, List, [], ◌∷◌, IsSome, Bool, true, false, ⊤}
-use Rattle.machine_names.specs.declared.homes.Home.{Home}
+use Rattle.page_homes.specs.declared.homes.Home.{Home}
 use Rattle.frame_table.specs.Core.{Core, IsAway, IsLeastFree, seat_of, holds_of, pins_of, is_held, used, with_page, with_tenant, with_words, without_page}
 
 -- one call: a frame gets the page of a home, is made free, held, released, pinned or unpinned, begins or ends a transfer, is used, or has its words changed

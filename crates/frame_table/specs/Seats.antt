@@ -4,8 +4,8 @@ use Rattle.std.specs.Ordering.{nat_cmp}
 use Rattle.std.specs.FinMap as map
 use Rattle.std.specs.FinSet as set
 use Rattle.number_set.specs.Numbers.{Numbers}
-use Rattle.machine_names.specs.declared.homes.Home.{Home}
-use Rattle.machine_names.specs.declared.homes.FrameId.{FrameId}
+use Rattle.page_homes.specs.declared.homes.Home.{Home}
+use Rattle.page_homes.specs.declared.homes.FrameId.{FrameId}
 use Rattle.frame_table.specs.declared.tenant.Tenant.{Tenant}
 use Rattle.frame_table.specs.Core.{Core, IsCore, can_go, home_in, seat_of}
 

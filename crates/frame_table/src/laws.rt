@@ -1,6 +1,6 @@
 // What follows from the definitions, in the words of their users. A law does nothing when it runs.
 ghost use Rattle.std.specs.Prelude.{◌≡◌, ℕ, ◌<◌, List, IsSome, false, length};
-ghost use Rattle.machine_names.specs.declared.homes.Home.{Home};
+ghost use Rattle.page_homes.specs.declared.homes.Home.{Home};
 ghost use Rattle.frame_table.specs.Ages.{OthersKeepAges, RenewsAge};
 ghost use Rattle.frame_table.specs.Core.{Core, IsCore, IsVictim, LAST_USE, home_in, is_held, seat_of, used, with_page, without_page};
 ghost use Rattle.frame_table.specs.Deeds.{Deed, IsHeldThrough, after, after_all};

@@ -3,7 +3,7 @@ ghost use Rattle.std.specs.Prelude.{◌≡◌};
 ghost use Rattle.frame_table.specs.Core.{is_kept, new_tenant};
 ghost use Rattle.frame_table.specs.Seats.{leaving_age};
 
-use machine_names::{FrameId, Home};
+use page_homes::{FrameId, Home};
 use std::marker::Model;
 
 /// How many pins a frame has at most.

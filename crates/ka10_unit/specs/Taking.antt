@@ -12,7 +12,7 @@ use Rattle.plain_units.specs.declared.unit.TheConstants.{MOST_REFERENCES}
 use Rattle.plain_pages.specs.PlainPages.{NumberedPages}
 use Rattle.plain_pages.specs.References.{in_map, makings, page_at, slot_at}
 use Rattle.plain_pages.specs.Room.{same_page}
-use Rattle.machine_names.specs.declared.homes.Home.{Home}
+use Rattle.page_homes.specs.declared.homes.Home.{Home}
 use Rattle.page_contracts.specs.declared.answers.Need.{Need}
 use Rattle.page_contracts.specs.declared.answers.Need.TheVariants.{Page}
 use Rattle.page_contracts.specs.Pages.{Scene}

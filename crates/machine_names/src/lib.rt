@@ -1,16 +1,14 @@
-//! The names of what the machine has, and its bounds: terminals, forks, pages, homes and frames, files, texts of
+//! The names of what the machine has, and its bounds: terminals, forks, pages, files, texts of
 //! fixed room, and the orders of names. To the layers above a name is a number or two, and a text is its bytes.
 //! Stands on `outside` for how many words a page has.
 #![tactic(auto)]
 
 mod bounds;
 pub mod character;
-mod homes;
 mod names;
 mod text;
 
 pub use bounds::bounds_hold;
-pub use homes::{FrameId, Home, MOST_HOMES};
 pub use names::{
     ACCUMULATORS, Access, FileNo, ForkName, Kind, LAST_SERIAL, MOST_FORKS, PageName, Place,
     SPACE_PAGES, Slot, TERMINALS, Tty,

@@ -4,8 +4,8 @@ use Rattle.std.specs.List.{list_any}
 use Rattle.std.specs.Option.{option_map_or, option_and_then}
 use Rattle.outside.specs.Faults.{Rose, CountsUp}
 use Rattle.outside.specs.Drums.{IsPage, page_at}
-use Rattle.machine_names.specs.declared.homes.Home.{Home}
-use Rattle.machine_names.specs.declared.homes.TheConstants.{MOST_HOMES}
+use Rattle.page_homes.specs.declared.homes.Home.{Home}
+use Rattle.page_homes.specs.declared.homes.TheConstants.{MOST_HOMES}
 use Rattle.page_contracts.specs.declared.answers.Need.{Need}
 use Rattle.page_contracts.specs.declared.answers.Need.TheVariants.{Page, Frame}
 use Rattle.page_contracts.specs.declared.answers.Found.{Found}

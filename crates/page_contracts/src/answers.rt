@@ -1,5 +1,6 @@
 // What is asked of pages, and what they answer.
-use machine_names::{Home, Kind};
+use machine_names::Kind;
+use page_homes::Home;
 use plain_pages::MapEntry;
 use word36::Word;
 

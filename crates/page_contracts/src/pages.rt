@@ -17,8 +17,9 @@ ghost use Rattle.plain_pages.specs.NewEntries.{IsNewEntry, changed};
 ghost use Rattle.machine_names.specs.Orders.{same_fork};
 
 use crate::{Completed, Found, MOST_HOLDERS, Need, Peeked, Room, Seen, SpaceHandle, Touch};
-use machine_names::{ForkName, FrameId, Home, Kind, PageName, Place, Slot, Tty};
+use machine_names::{ForkName, Kind, PageName, Place, Slot, Tty};
 use outside::Drum;
+use page_homes::{FrameId, Home};
 use plain_pages::{NewEntry, NewMap};
 use word36::Word;
 

@@ -6,8 +6,8 @@ ghost use Rattle.machine_names.specs.PageWords.{zero_words};
 ghost use Rattle.page_contracts.specs.Stores.{StoreMeaning, FitsHomes, IsSound, HasPage, IsUsed, IsMade, IsFreed, IsFetched, CanFetch, Completes, Tells, Evicts, CanKeep, Keeps, LetsGo, most_held, here, place, is_taken, is_here, word_in, with_word_in, free_homes, room_of, content, meeting, awaited};
 
 use crate::{Found, Need};
-use machine_names::{FrameId, Home};
 use outside::Drum;
+use page_homes::{FrameId, Home};
 use word36::Word;
 
 /// Whether so many pages more find homes and frames.

@@ -2,7 +2,7 @@
 use Rattle.std.proofs.Common.{◌≡◌, ◌≤◌, ◌<◌, ℕ, Option, None, Some, true, false, refl, arith}
 use Rattle.std.specs.Prelude.{IfSome}
 use Rattle.std.specs.Option.{option_map}
-use Rattle.machine_names.specs.declared.homes.Home.{Home}
+use Rattle.page_homes.specs.declared.homes.Home.{Home}
 use Rattle.machine_names.specs.declared.names.Kind.{Kind}
 use Rattle.machine_names.specs.declared.names.Kind.TheVariants.{Read, Write, Execute}
 use Rattle.machine_names.specs.declared.names.Slot.{Slot}

@@ -14,8 +14,9 @@ ghost use Rattle.page_gather.specs.Stepped.{EndsAtPlace, IsOfLiving, StepNeeds, 
 
 use crate::change::{Change, FULL_ACCESS};
 use crate::walk::Walked;
-use machine_names::{Access, ForkName, Home, PageName, Slot};
+use machine_names::{Access, ForkName, PageName, Slot};
 use page_contracts::{Pages, Seen};
+use page_homes::Home;
 use plain_pages::MapEntry;
 
 /// How many entries a chain has at most.

@@ -21,8 +21,9 @@ use crate::change::{Change, FULL_ACCESS};
 use crate::makings::Makings;
 use crate::reference::{Added, PageReference};
 use crate::walk::Walked;
-use machine_names::{Access, Home, PageName, Place, Slot};
+use machine_names::{Access, PageName, Place, Slot};
 use page_contracts::{Need, Pages, Peeked, Room};
+use page_homes::Home;
 
 // A zero page in a slot.
 fn zero_page(slot: Slot) -> Change

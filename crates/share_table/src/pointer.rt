@@ -4,7 +4,8 @@ ghost use Rattle.share_table.specs.declared.pointer.Pointer.{Pointer as APointer
 ghost use Rattle.share_table.specs.Pointers.{IsPointer, access_bits, fields, pointer_word};
 
 use crate::{MOST_SHARES, Share};
-use machine_names::{Access, Home, LAST_SERIAL, MOST_HOMES, SPACE_PAGES};
+use machine_names::{Access, LAST_SERIAL, SPACE_PAGES};
+use page_homes::{Home, MOST_HOMES};
 use word36::Word;
 
 /// An entry of a map: empty, a page at its home that has no other name, a page that is shared, or

@@ -4,8 +4,8 @@ ghost use Rattle.std.specs.Option.{option_map};
 ghost use Rattle.std.specs.FinMap as map;
 ghost use Rattle.share_table.specs.Shares.{AreCounted, joined, last_home, left, one_fewer, one_more, page_at, with_page};
 
-use machine_names::Home;
 use outside::Memory;
+use page_homes::Home;
 use slab::Slab;
 use std::alloc::Global;
 use std::marker::Model;

@@ -1,6 +1,7 @@
 // The entries of maps as words.
 use crate::same::{same, same_at};
-use machine_names::{Access, Home};
+use machine_names::Access;
+use page_homes::Home;
 use share_table::{Pointer, Share, decode, encode};
 use word36::Word;
 

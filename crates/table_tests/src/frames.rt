@@ -2,7 +2,7 @@
 use crate::made::made;
 use crate::same::same;
 use frame_table::{Frames, MOST_HOLDS, MOST_PINS};
-use machine_names::{FrameId, Home, MOST_HOMES};
+use page_homes::{FrameId, Home, MOST_HOMES};
 
 // A frame for the page of a home that is in none.
 fn assign(frames: &mut Frames, home: Home) -> Option<FrameId> {

@@ -1,7 +1,7 @@
 // Pages that more than one name.
 use crate::made::made;
 use crate::same::same;
-use machine_names::Home;
+use page_homes::Home;
 use share_table::{MOST_SHARES, Share, ShareTable};
 
 // A new share, while there is room for one.

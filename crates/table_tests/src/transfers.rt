@@ -2,7 +2,7 @@
 use crate::made::made;
 use crate::same::same;
 use drum_queue::{Queue, Transfer};
-use machine_names::{FrameId, Home};
+use page_homes::{FrameId, Home};
 
 #[test]
 fn transfers_come_and_go(rt: HostRuntime) {

@@ -1,6 +1,6 @@
 // The machine that the words of the command ask for.
 ghost use Rattle.std.specs.Prelude.{◌≡◌, ◌+◌, ◌*◌, ◌<◌, ◌≤◌, IfOk, IfErr};
-ghost use Rattle.machine_names.specs.declared.homes.TheConstants.{MOST_HOMES};
+ghost use Rattle.page_homes.specs.declared.homes.TheConstants.{MOST_HOMES};
 ghost use Rattle.command_words.specs.declared.sizes.Sizes.{Sizes as ASizes};
 ghost use Rattle.tenex_console.specs.Command.{IsAsked};
 ghost use Rattle.tenex_console.specs.Driving.{IsBooted};

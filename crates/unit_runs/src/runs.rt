@@ -1,6 +1,6 @@
 // Programs in the accumulators of a fork, whose pages are made as they come to be referred to.
 ghost use Rattle.std.specs.Prelude.{◌<◌, ◌≤◌, ◌^◌};
-ghost use Rattle.machine_names.specs.declared.homes.TheConstants.{MOST_HOMES};
+ghost use Rattle.page_homes.specs.declared.homes.TheConstants.{MOST_HOMES};
 ghost use Rattle.ka10_unit.specs.Gathers.{Serves};
 
 use crate::same::same_at;

@@ -1,5 +1,5 @@
 use Rattle.std.proofs.Common.{◌≡◌, ◌∙◌, ℕ, true, false, refl, sym, ap, subst, arith, List, []}
-use Rattle.machine_names.specs.declared.homes.Home.{Home}
+use Rattle.page_homes.specs.declared.homes.Home.{Home}
 use Rattle.page_contracts.specs.declared.answers.Need.{Need}
 use Rattle.page_contracts.specs.declared.answers.Need.TheVariants.{Page, Frame}
 use Rattle.page_contracts.specs.Stores.{HomePlace, away, place, is_taken, is_here, free_homes, CanFetch, IsFetched, awaited, meeting}

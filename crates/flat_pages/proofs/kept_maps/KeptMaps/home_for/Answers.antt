@@ -1,5 +1,5 @@
 use Rattle.std.proofs.Common.{◌≡◌, ◌≢◌, ◌<◌, ◌≤◌, ◌^◌, ◌∙◌, ℕ, List, [], true, false, Option, None, Some, ap, sym, arith, refl, rules}
-use Rattle.machine_names.specs.declared.homes.Home.{Home}
+use Rattle.page_homes.specs.declared.homes.Home.{Home}
 use Rattle.std.specs.Prelude.{slice_index_or}
 use Rattle.std.specs.Option.{option_and_then}
 use Rattle.std.proofs.lemmas.List.{get_or_read}
