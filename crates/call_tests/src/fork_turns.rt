@@ -17,11 +17,11 @@ fn a_full_job_is_refused_a_fork(rt: HostRuntime) -> Result<(), Fail> {
         let answer = job.fork_turn(CFORK, &regs(0o103, 0, 0, 0));
         done(&rt, slot, answer, &regs(0o105, handle, 0, 0));
     }
-    refused(
+    let answer = job.fork_turn(CFORK, &regs(0o103, 0, 0, 0));
+    same(
         &rt,
-        31,
-        job.fork_turn(CFORK, &regs(0o103, 0, 0, 0)),
-        FORKS_FULL,
+        matches!(answer, Some(Answer::Failed(FORKS_FULL))),
+        true,
     );
     same(&rt, FORKS_FULL, 0o600003);
     Ok(())

@@ -216,7 +216,7 @@ fn is_done(answer: Option<Answer>, want: &Regs) -> bool {
     match answer {
         Some(Answer::After { regs, out, post }) => {
             (regs.ac, regs.pc, regs.flags) == (want.ac, want.pc, want.flags)
-                && out.count == 0
+                && out.is_none()
                 && post.is_none()
         }
         _ => false,
