@@ -14,10 +14,10 @@ use Rattle.script_texts.specs.declared.status.ForkStatus.TheVariants.{Run, Halte
 use Rattle.machine_names.specs.declared.names.TheConstants.{MOST_FORKS}
 use Rattle.machine_names.specs.declared.names.ForkName.{ForkName}
 use Rattle.machine_names.specs.declared.names.Tty.{Tty}
-use Rattle.plain_model.specs.Calls.{Turn, end_of, made_by, parts_behind}
+use Rattle.plain_model.specs.Calls.{no_files, parts_behind, turn_on}
 use Rattle.plain_model.specs.Forks.{ForkMap, fork_in, superior_of, with_status}
 use Rattle.machine_names.specs.Orders.{same_fork}
-use Rattle.plain_model.specs.ForkCalls.{ForkAsked, ForkParts, fork_call, fork_changed, fork_changed_by, killed, with_halted}
+use Rattle.plain_model.specs.ForkCalls.{ForkAsked, ForkParts, fork_call, fork_changed, killed, with_halted}
 use Rattle.plain_model.specs.Inferiors.{is_inferior, without_branch}
 use Rattle.plain_model.specs.Interrupts.{posted}
 use Rattle.plain_pages.specs.PlainPages.{PlainPages}
@@ -154,15 +154,15 @@ module _ (f : Fork) (runs : f.body.status ≡ Run) (off : f.body.psi.on ≡ fals
       change_stands p q (Halt name) fits = halted_stands q name fits.0
       change_stands p q (Store name at words) fits = stands
 
-      end_stands : (turn : Turn ForkChange) (p : PlainPages file_cmp) (e : End ForkChange) → FitsEnd asked_so p (Anyhow asked_so p) (made_by turn p) e → StandsIn (parts_behind (fork_changed_by turn) (parts_so p) e).tree.forks
+      end_stands : (p q : PlainPages file_cmp) (e : End ForkChange) → FitsEnd asked_so p (Anyhow asked_so p) q e → StandsIn (parts_behind fork_changed (parts_so p) (parts_so q) e).tree.forks
       unfolding parts_behind
-      end_stands turn p (Done change regs) fits = change_stands p (made_by turn p) change fits
-      end_stands turn p (Waits on) fits = stands
-      end_stands turn p Halts fits = stands
-      end_stands turn p (Refused code) fits = stands
-      end_stands turn p (Failed code) fits = stands
-      end_stands turn p (Trap channel) fits = stands
+      end_stands p q (Done change regs out post) fits = change_stands p q change fits
+      end_stands p q (Waits on) fits = stands
+      end_stands p q Halts fits = stands
+      end_stands p q (Refused code) fits = stands
+      end_stands p q (Failed code) fits = stands
+      end_stands p q (Trap channel) fits = stands
 
       -- the fork that called is there, as it was
-      pub caller_stays : (p : PlainPages file_cmp) (number : ℕ) → map.get (parts_behind (fork_changed_by (fork_call number asked_so)) (parts_so p) (end_of p (fork_call number asked_so))).tree.forks f.name ≡ Some f
-      caller_stays p number = (end_stands (fork_call number asked_so) p (end_of p (fork_call number asked_so)) (call_names asked_so p number)).there
+      pub caller_stays : (p : PlainPages file_cmp) (number : ℕ) → (let c = turn_on no_files p (fork_call number asked_so) in map.get (parts_behind fork_changed (parts_so p) (parts_so c.pages) c.end).tree.forks f.name ≡ Some f)
+      caller_stays p number = let c = turn_on no_files p (fork_call number asked_so) in (end_stands p c.pages c.end (call_names asked_so p number)).there

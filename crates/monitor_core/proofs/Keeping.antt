@@ -1,5 +1,5 @@
 -- What a unit keeps of its fork.
-use Rattle.std.proofs.Common.{◌≡◌, ℕ, ◌+◌, ◌%◌, ◌<◌, ◌^◌, length, Bool, true, false, cond, ◌&&◌, ◌==◌, refl, sym, ◌∙◌, ap, subst, arith, is_some, length-set}
+use Rattle.std.proofs.Common.{◌≡◌, ℕ, ◌+◌, ◌%◌, ◌<◌, ◌^◌, length, Bool, true, false, cond, ◌&&◌, ◌==◌, None, Some, refl, sym, ◌∙◌, ap, subst, arith, is_some, length-set}
 use Rattle.std.specs.Int.{bit_at}
 use Rattle.std.proofs.lemmas.Bool.Decides.{nat_tests}
 use Rattle.plain_units.specs.declared.channel.TheConstants.{OVERFLOW, PUSHDOWN_OVERFLOW, ILLEGAL_INSTRUCTION}
@@ -9,11 +9,9 @@ use Rattle.call_turns.specs.declared.answer.Answer.TheVariants as answer
 use Rattle.plain_model.specs.declared.fork.Fork.{Fork}
 use Rattle.plain_units.specs.declared.registers.Regs.{Regs}
 use Rattle.script_texts.specs.declared.status.ForkStatus.TheVariants.{Forced as AForced, Halted as AHalted}
-use Rattle.plain_model.specs.Calls.{failed_regs, with_error}
+use Rattle.plain_model.specs.Calls.{behind_call, failed_regs, posted_if, with_error}
 use Rattle.plain_model.specs.Forks.{with_regs, with_status, counted}
 use Rattle.plain_model.specs.Interrupts.{posted, pended, is_panic}
-use Rattle.plain_model.specs.Unit.{advanced, posted_if}
-use Rattle.plain_model.specs.declared.call.TheConstants.{CFORK}
 use Rattle.fork_calls.specs.Turning.{HasRegs}
 use Rattle.ka10_unit.specs.declared.committed.Post.{Post}
 use Rattle.ka10_unit.specs.declared.committed.Post.TheVariants.{Nothing, Overflow, Pushdown}
@@ -64,11 +62,8 @@ module _ (f : Fork) (off : f.body.psi.on ≡ false) (regs : Regs) (pc : regs.pc 
   wrapped : (n : ℕ) → n % 2 ^ 18 < 2 ^ 18
   wrapped n = omega arith
 
-  -- it is behind a call that prints, or halts
-  pub printed_keeps : Kept f (counted (with_regs f (advanced regs))) 1
-  printed_keeps = record { name = refl; slot = refl; superior = refl; status = λ s. s; on = refl; pc = wrapped (regs.pc + 1); accumulators = accumulators; units = refl }
-
-  pub halted_keeps : Kept f (counted (with_status (with_regs f (advanced regs)) AHalted)) 1
+  -- it halts behind a call
+  pub halted_keeps : Kept f (counted (with_status (with_regs f (behind_call regs)) AHalted)) 1
   halted_keeps = record { name = refl; slot = refl; superior = refl; status = λ s c h. absurd (cc h); on = refl; pc = wrapped (regs.pc + 1); accumulators = accumulators; units = refl }
 
 -- it returns by the first of two returns
@@ -88,22 +83,17 @@ failed_keeps f code acs = record {
     low n = omega arith
 
 -- a fork behind a turn of a call with this answer
-pub answered_keeps : (number : ℕ) (f : Fork) → f.body.psi.on ≡ false → f.body.regs.pc < 2 ^ 18 → length f.body.regs.ac ≡ ACCUMULATORS → (a : Answer) → HasRegs a → Kept f (counted (answered number f a)) 1
-answered_keeps number f off pc acs (answer.After regs out post) fits = plain_keeps f off regs fits.0 fits.1
-answered_keeps number f off pc acs (answer.Refused code) fits = by (number == CFORK)
-  where
-    refused : Kept f (counted (posted (with_error f code) ILLEGAL_INSTRUCTION)) 1
-    refused =
-        let k = posted_keeps (with_error f code) off f.body.regs pc acs ILLEGAL_INSTRUCTION in
-        record { name = k.name; slot = k.slot; superior = k.superior; status = k.status; on = k.on; pc = k.pc; accumulators = k.accumulators; units = k.units }
-
-    by : (b : Bool) → Kept f (counted (cond b (with_error (with_regs f (failed_regs f.body.regs code)) code) (posted (with_error f code) ILLEGAL_INSTRUCTION))) 1
-    by true = failed_keeps f code acs
-    by false = refused
-answered_keeps number f off pc acs (answer.Trap channel) fits = posted_keeps f off f.body.regs pc acs channel
-answered_keeps number f off pc acs (answer.Wait on) fits = record { name = refl; slot = refl; superior = refl; status = λ s c h. absurd (cc h); on = refl; pc = pc; accumulators = acs; units = refl }
-answered_keeps number f off pc acs answer.Halt fits = halted_keeps f off f.body.regs pc acs
-answered_keeps number f off pc acs (answer.Need need) fits = plain_keeps f off f.body.regs pc acs
+pub answered_keeps : (f : Fork) → f.body.psi.on ≡ false → f.body.regs.pc < 2 ^ 18 → length f.body.regs.ac ≡ ACCUMULATORS → (a : Answer) → HasRegs a → Kept f (counted (answered f a)) 1
+answered_keeps f off pc acs (answer.After regs out None) fits = let in_regs = fits.0 in plain_keeps f off regs in_regs.0 in_regs.1
+answered_keeps f off pc acs (answer.After regs out (Some channel)) fits = let in_regs = fits.0 in posted_keeps f off regs in_regs.0 in_regs.1 channel
+answered_keeps f off pc acs (answer.Refused code) fits =
+    let k = posted_keeps (with_error f code) off f.body.regs pc acs ILLEGAL_INSTRUCTION in
+    record { name = k.name; slot = k.slot; superior = k.superior; status = k.status; on = k.on; pc = k.pc; accumulators = k.accumulators; units = k.units }
+answered_keeps f off pc acs (answer.Failed code) fits = failed_keeps f code acs
+answered_keeps f off pc acs (answer.Trap channel) fits = posted_keeps f off f.body.regs pc acs channel
+answered_keeps f off pc acs (answer.Wait on) fits = record { name = refl; slot = refl; superior = refl; status = λ s c h. absurd (cc h); on = refl; pc = pc; accumulators = acs; units = refl }
+answered_keeps f off pc acs answer.Halt fits = halted_keeps f off f.body.regs pc acs
+answered_keeps f off pc acs (answer.Need need) fits = plain_keeps f off f.body.regs pc acs
 
 -- a call that is still to be made leaves its fork
 pub none_keeps : (f : Fork) (regs : Regs) → regs.pc < 2 ^ 18 → length regs.ac ≡ ACCUMULATORS → Kept f (with_regs f regs) 0

@@ -1,5 +1,4 @@
 pub mod Gave
-pub mod ForkCalling
 mod Making
 mod Looks
 mod Writes

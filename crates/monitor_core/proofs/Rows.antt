@@ -1,17 +1,12 @@
 -- Units of a fork in a row, as entries of the plain machine.
-use Rattle.std.proofs.Common.{◌≡◌, ℕ, zero, suc, ◌+◌, ◌∷◌, ◌++◌, [], ◌==◌, true, None, Some, refl, sym, ◌∙◌, ap, subst, arith, replicate}
-use Rattle.std.proofs.lemmas.Bool.{cond_both}
+use Rattle.std.proofs.Common.{◌≡◌, ℕ, zero, suc, ◌+◌, ◌∷◌, ◌++◌, [], true, None, Some, refl, sym, ◌∙◌, ap, subst, arith, replicate}
 use Rattle.std.proofs.lemmas.List.{append-nil, replicate-append-replicate}
 use Rattle.std.specs.Ordering.{nat_cmp}
 use Rattle.std.specs.FinMap as fin
 use Rattle.script_texts.specs.declared.event.Step.TheVariants.{Unit as AUnit}
 use Rattle.plain_model.specs.declared.fork.Fork.{Fork}
 use Rattle.machine_names.specs.declared.names.TheConstants.{MOST_FORKS}
-use Rattle.plain_model.specs.ForkCalls.{fork_call, fork_calls}
 use Rattle.plain_model.specs.Forks.{counted, with_regs}
-use Rattle.plain_model.specs.MapCalls.{map_call}
-use Rattle.plain_model.specs.Calls.{end_of, is_among}
-use Rattle.plain_model.specs.declared.call.TheConstants.{PBOUT}
 use Rattle.plain_model.specs.Run.{AreLegal, apply, items_of, state_after}
 use Rattle.plain_pages.specs.PlainPages.{NumberedPages}
 use Rattle.plain_model.specs.State.{PlainState}
@@ -23,13 +18,12 @@ use Rattle.plain_model.specs.Trees.{PlainTree, tree_of}
 use Rattle.ka10_unit.specs.Once.{After, in_a_row}
 use Rattle.fork_tree.proofs.Kept.{changed_tree}
 use Rattle.fork_tree.proofs.Slots.{get_put}
-use Rattle.monitor_core.specs.ForkUnit.{Behind, RanUnits, behind, behind_unit, called_behind, left_so, put_back, ran_on}
-use Rattle.monitor_core.specs.Shown.{seen_of, shown_items}
-use Rattle.monitor_core.specs.declared.shown.Shown.TheVariants.{Nothing}
+use Rattle.monitor_core.specs.ForkUnit.{Behind, RanUnits, behind, behind_unit, left_so, put_back, ran_on}
+use Rattle.monitor_core.specs.Shown.{nothing, seen_of, shown_items}
 use Rattle.monitor_core.proofs.Frozen.{still_frozen}
 use Rattle.monitor_core.proofs.Maps.{insert_again, insert_twice}
 use Rattle.monitor_core.proofs.Silent.{row_more, silent_unit}
-use Rattle.monitor_core.proofs.Unfiled.{forked_unfiled, named, turn_unfiled, unit_unfiled}
+use Rattle.monitor_core.proofs.Unfiled.{call_unfiled, named, unit_unfiled}
 use Rattle.monitor_core.proofs.UnitEffect.{Runs, StopsQuietly, behind_state, effect_of, step_as, step_legal}
 
 -- one more of the same
@@ -38,24 +32,14 @@ one_more n x = let more : suc n ≡ n + 1 = omega arith in ap (λ k. replicate k
 
 -- what is behind a unit has no file
 module _ (tree : PlainTree) (f : Fork) (p : NumberedPages) (unfiled : p.files ≡ fin.empty) where
-  abbrev HasNoFile : Behind → Type 0
-  HasNoFile b = b.pages.files ≡ fin.empty
-
-  called_unfiled : (number : ℕ) → HasNoFile (called_behind tree f p number)
-  called_unfiled number =
-      let forks = fork_call number (record { who = f.name; regs = f.body.regs; tree = tree }) in
-      cond_both (number == PBOUT) _ _ HasNoFile (λ prints. unfiled) (λ other.
-      cond_both (is_among fork_calls number) _ _ HasNoFile (λ is. forked_unfiled p unfiled tree forks (end_of p forks)) (λ maps.
-      turn_unfiled p unfiled (end_of p (map_call number (record { who = f.name; regs = f.body.regs; forks = tree.forks })))))
-
-  behind_unfiled : HasNoFile (behind_unit tree f p)
+  behind_unfiled : (behind_unit tree f p).pages.files ≡ fin.empty
   behind_unfiled = by (unit_on f.name p f.body.regs) refl
     where
       by : (x : Planned nat_cmp ⊥) → unit_on f.name p f.body.regs ≡ x → (behind tree f p x).pages.files ≡ fin.empty
       by (done t e) is = unit_unfiled p unfiled f.name f.body.regs t e is
       by (stopped (trap channel)) is = unfiled
       by (stopped (need none)) is = absurd none
-      by (call number) is = called_unfiled number
+      by (call number) is = call_unfiled p unfiled tree f.name f.body.regs number
 
 module _ (s : PlainState) (f : Fork) (p : NumberedPages) (t : Runs s f p) where
   -- the state behind units in a row that post nothing
@@ -127,7 +111,7 @@ module _ (s : PlainState) (f : Fork) (p : NumberedPages) (t : Runs s f p) where
       let ran = ran_on f n a.regs in
       let left = put_back (tree_of s) ran in
       let went = counted (with_regs ran b.regs) in
-      let last = behind_row n a (left_so left went b.pages Nothing) d (silent_unit left ran a.pages b more.unit more.silent) (λ stops. absurd (cc stops)) in
+      let last = behind_row n a (left_so left went b.pages nothing) d (silent_unit left ran a.pages b more.unit more.silent) (λ stops. absurd (cc stops)) in
       let counts : f.body.units + n + 1 ≡ f.body.units + suc n = omega arith in
       record {
         state = last.state ∙ ap (λ forks. record s { pages = named b.pages; forks = forks }) (insert_twice fork_cmp_total fork_cmp_apart s.forks f.name ran went)

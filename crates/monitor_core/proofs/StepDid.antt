@@ -1,8 +1,9 @@
 -- Steps of a machine, given to a taker.
-use Rattle.std.proofs.Common.{◌≡◌, ℕ, zero, suc, ◌+◌, ◌≤◌, ◌∷◌, ◌++◌, List, [], Bool, true, refl, sym, ◌∙◌, ap, subst, arith, replicate, length-append}
+use Rattle.std.proofs.Common.{◌≡◌, ℕ, zero, suc, ◌+◌, ◌≤◌, ◌∷◌, ◌++◌, List, [], Bool, true, Option, None, Some, refl, sym, ◌∙◌, ap, subst, arith, replicate, length-append}
 use Rattle.std.specs.Prelude.{Result, Ok, Err, OnOk, OnErr}
 use Rattle.std.specs.Result.{IsErr}
 use Rattle.std.proofs.lemmas.List.{append-nil, length-replicate}
+use Rattle.machine_names.specs.declared.names.Tty.{Tty}
 use Rattle.script_texts.specs.declared.event.Event.{Event}
 use Rattle.script_texts.specs.declared.event.Event.TheVariants.{Run, Auto}
 use Rattle.script_texts.specs.declared.event.Item.{Item}
@@ -14,7 +15,7 @@ use Rattle.monitor_core.specs.Outcome.{Gave}
 use Rattle.script_texts.specs.Taker.{GoesOn, IsCut}
 use Rattle.plain_model.specs.Run.{apply, state_after, items_of, AreLegal, IsLegalStep}
 use Rattle.script_texts.specs.Follows.{shape_of, single, IsTurn, AreTurns, AreOfShape, FollowsOne, Begins, auto_after}
-use Rattle.plain_model.specs.Unit.{Effect}
+use Rattle.plain_model.specs.Unit.{Effect, turn_printed}
 use Rattle.plain_model.proofs.Equations.{apply_idle}
 use Rattle.script_texts.proofs.Takers.{onward_nil, AreTurns-append}
 use Rattle.monitor_core.proofs.Gave.{gave_none, gave_append, gave_cut}
@@ -22,7 +23,9 @@ use Rattle.monitor_core.specs.declared.machine.Machine.{Machine}
 use Rattle.monitor_core.specs.declared.system.System.{System}
 use Rattle.monitor_core.specs.declared.reply.Reply.{Reply}
 use Rattle.monitor_core.specs.declared.reply.Reply.TheVariants.{Nothing, One, Prints, Forks}
-use Rattle.monitor_core.specs.declared.shown.Shown.TheVariants.{Nothing as ShowsNothing, Code, LineEnd, Halted, Forced}
+use Rattle.monitor_core.specs.declared.shown.Stop.{Stop}
+use Rattle.monitor_core.specs.declared.shown.Stop.TheVariants.{GoesOn as Runs, Halted, Forced}
+use Rattle.monitor_core.specs.Shown.{none_shown, stop_items}
 use Rattle.monitor_core.specs.Acts.{Given, Cut, Acted, TookTurns}
 use Rattle.monitor_core.specs.Giving.{TookAll}
 use Rattle.monitor_core.specs.Machines.{plain, done, auto, is_live}
@@ -31,15 +34,18 @@ use Rattle.monitor_core.specs.Systems.{CanDo, Did, DidAll, FitsPages, state_of}
 use Rattle.monitor_core.proofs.Runnable.{is_legal}
 use Rattle.monitor_core.proofs.Systems.{within_later}
 
+-- what shows nothing has no item
+none_items : (t : Tty) (out : Option ℕ) (stop : Stop) → none_shown out stop ≡ true → turn_printed t out ++ stop_items t stop ≡ []
+none_items t None Runs h = refl
+none_items t None Halted h = absurd (cc h)
+none_items t None (Forced channel) h = absurd (cc h)
+none_items t (Some code) stop h = absurd (cc h)
+
 -- a reply that is silent has no item
 pub silent_items : (s : PlainState) (reply : Reply) → is_silent reply ≡ true → reply_items s reply ≡ []
 silent_items s Nothing h = refl
 silent_items s (One item) h = absurd (cc h)
-silent_items s (Prints t ShowsNothing) h = refl
-silent_items s (Prints t (Code code)) h = absurd (cc h)
-silent_items s (Prints t LineEnd) h = absurd (cc h)
-silent_items s (Prints t Halted) h = absurd (cc h)
-silent_items s (Prints t (Forced channel)) h = absurd (cc h)
+silent_items s (Prints t shown) h = none_items t shown.out shown.stop h
 silent_items s (Forks t) h = absurd (cc h)
 
 -- the entry of an event that is one follows it

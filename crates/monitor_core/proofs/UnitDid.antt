@@ -25,13 +25,14 @@ use Rattle.fork_calls.proofs.Places.{Keep, keep_itself, waiters_keep}
 use Rattle.monitor_core.specs.declared.job.Job.{Job}
 use Rattle.monitor_core.specs.declared.reply.Reply.TheVariants.{Prints}
 use Rattle.monitor_core.specs.declared.shown.Shown.{Shown}
-use Rattle.monitor_core.specs.declared.shown.Shown.TheVariants.{Nothing}
+use Rattle.monitor_core.specs.declared.shown.Stop.{Stop}
+use Rattle.monitor_core.specs.declared.shown.Stop.TheVariants.{GoesOn}
 use Rattle.monitor_core.specs.declared.system.System.{System}
 use Rattle.monitor_core.specs.declared.units.Units.{Units}
 use Rattle.monitor_core.specs.ForkUnit.{Behind, UnitsRan}
 use Rattle.monitor_core.specs.Jobs.{job_at, jobs_left, jobs_of}
 use Rattle.monitor_core.specs.Runners.{woken_where}
-use Rattle.monitor_core.specs.Shown.{FitsShown, is_stop, seen_of, shown_items}
+use Rattle.monitor_core.specs.Shown.{FitsShown, FitsStop, is_stop, seen_of, shown_items}
 use Rattle.monitor_core.specs.Sound.{AreSound}
 use Rattle.monitor_core.specs.Systems.{DidAll, FitsPages, IsWithin, state_of}
 use Rattle.monitor_core.specs.Writing.{most_makings}
@@ -65,9 +66,9 @@ tops_left jobs t true low = by (job_at jobs t) refl
     by None none = same_tops jobs jobs refl
     by (Some j) there = same_tops_set jobs t j (record j { mode = Command }) low there refl
 
-seen_fits : (b : Bool) (shown : Shown) → FitsShown shown → FitsShown (cond b Nothing shown)
-seen_fits true shown fits = tt
-seen_fits false shown fits = fits
+seen_fits : (b : Bool) (stop : Stop) → FitsStop stop → FitsStop (cond b GoesOn stop)
+seen_fits true stop fits = tt
+seen_fits false stop fits = fits
 
 -- the forks once who waits runs again: each in its place, within its limits
 woken_keeps : (forks : ForkMap) → AreOwn forks → (t : Tty) (stops : Bool) → Keep forks (woken_where forks t stops)
@@ -167,7 +168,7 @@ module _ {P : Type 0} {b : _} (m : System P b) (f : Fork) (trees : IsTree m.tree
         legal = λ d fits. (entries d fits).legal;
         state = λ d fits. state_is d fits ∙ sym (entries d fits).state;
         items = λ d fits. ap (shown_items f.name.tty) seen ∙ sym (entries d fits).items;
-        shown = (low, subst FitsShown (sym seen) (seen_fits (is_stop units.shown && not (f.slot == 1)) units.shown ran.shown));
+        shown = (low, subst FitsShown (sym seen) (let fits = ran.shown in (fits.0, seen_fits (is_stop units.shown && not (f.slot == 1)) units.shown.stop fits.1)));
         within = λ n w. record {
           ticks = omega (arith, clock, w.ticks);
           units = λ g there. few_units n w g (ap (λ (x : PlainTree). fin.get x.forks g.name) (sym tree_is) ∙ there);

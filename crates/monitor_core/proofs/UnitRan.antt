@@ -9,16 +9,16 @@ use Rattle.plain_model.specs.Forks.{with_regs, counted}
 use Rattle.plain_model.specs.Interrupts.{posted}
 use Rattle.plain_pages.specs.PlainPages.{NumberedPages}
 use Rattle.plain_units.specs.Steps.{call, stopped, trap}
-use Rattle.plain_model.specs.Unit.{posted_if}
+use Rattle.plain_model.specs.Calls.{posted_if}
 use Rattle.plain_units.specs.Units.{unit_on}
 use Rattle.plain_model.specs.Trees.{PlainTree}
 use Rattle.machine_names.proofs.OrderLemmas.{fork_cmp_total, fork_cmp_apart}
 use Rattle.plain_model.proofs.Posted.{posted_same}
 use Rattle.ka10_unit.specs.Once.{After, once, in_a_row}
 use Rattle.ka10_unit.specs.Bursts.{and_one_more}
+use Rattle.monitor_core.specs.Shown.{nothing}
 use Rattle.monitor_core.specs.ForkUnit.{Behind, RanUnits, RanUpTo, behind, behind_unit, called_behind, left_so, post_shown, put_back, ran_on}
 use Rattle.monitor_core.specs.declared.shown.Shown.{Shown}
-use Rattle.monitor_core.specs.declared.shown.Shown.TheVariants.{Nothing}
 use Rattle.monitor_core.proofs.Maps.{insert_twice}
 use Rattle.monitor_core.proofs.Silent.{once_as, row_more, silent_unit}
 
@@ -73,7 +73,7 @@ module _ (tree : PlainTree) (f : Fork) (p : NumberedPages) (n : ℕ) where
       (ap (behind (put_back tree (ran_on f n r.after.regs)) (ran_on f n r.after.regs) r.after.pages) on ∙ (λ i. called_behind (put_back tree (r.fork i)) (r.fork i) (r.pages i) number) ∙ is)
 
 -- units in a row alone
-pub row_ran : (tree : PlainTree) (f : Fork) (p : NumberedPages) (n : ℕ) (b : After nat_cmp) → 1 ≤ n → in_a_row f.name n p f.body.regs ≡ Some b → RanUnits tree f p n (left_so tree (ran_on f n b.regs) b.pages Nothing)
+pub row_ran : (tree : PlainTree) (f : Fork) (p : NumberedPages) (n : ℕ) (b : After nat_cmp) → 1 ≤ n → in_a_row f.name n p f.body.regs ≡ Some b → RanUnits tree f p n (left_so tree (ran_on f n b.regs) b.pages nothing)
 row_ran tree f p zero b some row = absurd (omega arith)
 row_ran tree f p (suc n) b some row =
     let more = row_more f.name n p f.body.regs b row in
@@ -86,6 +86,6 @@ row_ran tree f p (suc n) b some row =
       after = a;
       row = more.row;
       ends = silent_unit on (ran_on f n a.regs) a.pages b more.unit more.silent
-          ∙ put_twice tree (ran_on f n a.regs) (counted (with_regs (ran_on f n a.regs) b.regs)) b.pages Nothing refl
-          ∙ (λ i. left_so tree (record f { body = record f.body { regs = b.regs; units = counts i } }) b.pages Nothing);
+          ∙ put_twice tree (ran_on f n a.regs) (counted (with_regs (ran_on f n a.regs) b.regs)) b.pages nothing refl
+          ∙ (λ i. left_so tree (record f { body = record f.body { regs = b.regs; units = counts i } }) b.pages nothing);
     }

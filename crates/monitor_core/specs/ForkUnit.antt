@@ -1,14 +1,10 @@
 -- What a unit does to its own fork and its pages, and what it shows; and so many of them in a row.
-use Rattle.std.specs.Prelude.{◌≡◌, ◌≢◌, ◌⊎◌, ℕ, suc, ◌+◌, ◌≤◌, ◌<◌, ◌%◌, ◌^◌, length, Bool, false, Option, None, Some, IsSome, if◌then◌else◌, ◌==◌, slice_index}
-use Rattle.std.specs.Option.{unwrap_or}
+use Rattle.std.specs.Prelude.{◌≡◌, ◌⊎◌, ℕ, suc, ◌+◌, ◌≤◌, ◌<◌, ◌^◌, length, Bool, Option, None, Some, IsSome, if◌then◌else◌}
+use Rattle.std.specs.Option.{option_map, unwrap_or}
 use Rattle.std.specs.Ordering.{nat_cmp}
 use Rattle.std.specs.FinMap as map
 use Rattle.machine_names.specs.declared.names.TheConstants.{ACCUMULATORS}
 use Rattle.machine_names.specs.declared.names.ForkName.{ForkName}
-use Rattle.plain_model.specs.declared.call.TheConstants.{PBOUT, CFORK}
-use Rattle.plain_model.specs.declared.call.End.{End}
-use Rattle.plain_model.specs.declared.call.End.TheVariants as end
-use Rattle.plain_model.specs.declared.call.MapChange.{MapChange}
 use Rattle.plain_units.specs.declared.channel.TheConstants.{ILLEGAL_INSTRUCTION}
 use Rattle.call_turns.specs.declared.answer.Answer.{Answer}
 use Rattle.call_turns.specs.declared.answer.Answer.TheVariants as answer
@@ -17,11 +13,9 @@ use Rattle.plain_model.specs.declared.fork.Fork.{Fork}
 use Rattle.plain_units.specs.declared.registers.Regs.{Regs}
 use Rattle.script_texts.specs.declared.status.ForkStatus.TheVariants.{Wait as AWait, Halted as AHalted}
 use Rattle.plain_pages.specs.PlainPages.{NumberedPages}
-use Rattle.plain_model.specs.Calls.{end_of, failed_regs, fork_behind, is_among, parts_behind, with_error}
-use Rattle.plain_model.specs.ForkCalls.{fork_call, fork_calls, fork_changed_by}
-use Rattle.plain_model.specs.MapCalls.{map_call, map_changed}
+use Rattle.plain_model.specs.Calls.{behind_call, failed_regs, posted_if, with_error}
+use Rattle.plain_model.specs.Families.{Parts, Turned, call_turned}
 use Rattle.plain_units.specs.Steps.{Planned, done, call, trap, need, stopped as unit_stopped, pages_left}
-use Rattle.plain_model.specs.Unit.{advanced, posted_if}
 use Rattle.plain_units.specs.Units.{unit_on}
 use Rattle.plain_model.specs.Forks.{ForkMap, with_regs, with_status, counted}
 use Rattle.plain_model.specs.Interrupts.{posted, is_panic}
@@ -32,10 +26,10 @@ use Rattle.ka10_unit.specs.Once.{After, in_a_row}
 use Rattle.fork_tree.specs.Trees.{Lives}
 use Rattle.fork_calls.specs.Holding.{Holds, IsNew, MakesPages, TopsStay}
 use Rattle.monitor_core.specs.Limits.{FitsForced, IsBody}
-use Rattle.monitor_core.specs.Shown.{code_shown, FitsShown}
+use Rattle.monitor_core.specs.Shown.{FitsShown, nothing, shown_of, stands}
 use Rattle.monitor_core.specs.Writing.{Makes, most_makings}
 use Rattle.monitor_core.specs.declared.shown.Shown.{Shown}
-use Rattle.monitor_core.specs.declared.shown.Shown.TheVariants.{Nothing, Halted, Forced}
+use Rattle.monitor_core.specs.declared.shown.Stop.TheVariants.{GoesOn, Forced}
 use Rattle.monitor_core.specs.declared.unit.Row.{Row}
 use Rattle.monitor_core.specs.declared.unit.Last.{Last}
 use Rattle.monitor_core.specs.declared.unit.Last.TheVariants.{Shows, Calls}
@@ -53,8 +47,8 @@ fork_of name at body = record { name = name; slot = at.slot; superior = at.super
 
 -- what is shown of a channel that is posted to a fork which does not take it: a panic channel forces it
 abbrev pub post_shown : Option ℕ → Shown
-post_shown None = Nothing
-post_shown (Some channel) = if is_panic channel then Forced channel else Nothing
+post_shown None = nothing
+post_shown (Some channel) = stands (if is_panic channel then Forced channel else GoesOn)
 
 -- what is behind a unit: the forks of all jobs with its own, that fork, the pages, and what it shows. Who waits for it is not woken yet
 pub record Behind : Type 0 where
@@ -71,41 +65,14 @@ put_back tree f = record tree { forks = map.insert tree.forks f.name f }
 abbrev pub left_so : PlainTree → Fork → NumberedPages → Shown → Behind
 left_so tree f p shown = record { tree = put_back tree f; fork = f; pages = p; shown = shown }
 
--- what the end of a turn shows
-abbrev pub end_shown : {C : Type 0} → End C → Shown
-end_shown (end.Done change regs) = Nothing
-end_shown (end.Waits on) = Nothing
-end_shown end.Halts = Halted
-end_shown (end.Refused code) = post_shown (Some ILLEGAL_INSTRUCTION)
-end_shown (end.Failed code) = Nothing
-end_shown (end.Trap channel) = post_shown (Some channel)
+-- what is behind a turn of a call that prints this, which leaves these forks and pages and its fork so, but for its count
+abbrev pub turn_behind : PlainTree → NumberedPages → Option ℕ → Fork → Behind
+turn_behind tree p out g = left_so tree (counted g) p (shown_of out g.body.status)
 
--- what is behind a turn of a call on maps that ends so
-abbrev pub turned_behind : PlainTree → Fork → NumberedPages → End MapChange → Behind
-turned_behind tree f p e = left_so tree (counted (fork_behind f e)) (parts_behind map_changed p e) (end_shown e)
-
--- what is behind a turn of a fork call: the fork that called is as the change leaves it
-abbrev pub forked_behind : PlainTree → Fork → NumberedPages → ℕ → Behind
-forked_behind tree f p number =
-    let t = fork_call number (record { who = f.name; regs = f.body.regs; tree = tree }) in
-    let e = end_of p t in
-    let v = parts_behind (fork_changed_by t) (record { tree = tree; pages = p }) e in
-    left_so v.tree (counted (fork_behind (unwrap_or (map.get v.tree.forks f.name) f) e)) v.pages (end_shown e)
-
--- a number that is none of the calls which change no map
-abbrev pub IsMapCall : ℕ → Type 0
-IsMapCall number = (number ≢ PBOUT) × (is_among fork_calls number ≡ false)
-
--- what PBOUT shows
-abbrev pub printed_shown : Regs → Shown
-printed_shown regs = code_shown (slice_index regs.ac 1 % 128)
-
--- what is behind a turn of a monitor call
+-- what is behind a turn of a monitor call: the fork that called is as the change leaves it
 abbrev pub called_behind : PlainTree → Fork → NumberedPages → ℕ → Behind
 called_behind tree f p number =
-    if number == PBOUT then left_so tree (counted (with_regs f (advanced f.body.regs))) p (printed_shown f.body.regs)
-    else (if is_among fork_calls number then forked_behind tree f p number
-    else turned_behind tree f p (end_of p (map_call number (record { who = f.name; regs = f.body.regs; forks = tree.forks }))))
+    let r = call_turned (record { tree = tree; pages = p }) f.name f.body.regs number in turn_behind r.parts.tree r.parts.pages r.out (unwrap_or r.caller f)
 
 -- what is behind a unit of a fork that comes to this
 abbrev pub behind : PlainTree → Fork → NumberedPages → Planned nat_cmp ⊥ → Behind
@@ -193,22 +160,29 @@ pub record Ran {P : Type 0} (means : PagesMeaning P) (old new : P) (f g : Fork) 
   pub made : Makes means old new f.name.tty (makings_of row.last)
   pub fits : FitsLast row.last
 
--- the fork that called, behind a turn of this call with this answer but for its count of units; CFORK alone has two returns
-abbrev pub answered : ℕ → Fork → Answer → Fork
-answered number f (answer.After regs out post) = with_regs f regs
-answered number f (answer.Wait on) = with_status f (AWait on)
-answered number f answer.Halt = with_status (with_regs f (advanced f.body.regs)) AHalted
-answered number f (answer.Refused code) =
-    if number == CFORK then with_error (with_regs f (failed_regs f.body.regs code)) code else posted (with_error f code) ILLEGAL_INSTRUCTION
-answered number f (answer.Trap channel) = posted f channel
-answered number f (answer.Need wanted) = f
+-- the fork that called, behind a turn with this answer but for its count of units
+abbrev pub answered : Fork → Answer → Fork
+answered f (answer.After regs out post) = posted_if (with_regs f regs) post
+answered f (answer.Wait on) = with_status f (AWait on)
+answered f answer.Halt = with_status (with_regs f (behind_call f.body.regs)) AHalted
+answered f (answer.Refused code) = posted (with_error f code) ILLEGAL_INSTRUCTION
+answered f (answer.Failed code) = with_error (with_regs f (failed_regs f.body.regs code)) code
+answered f (answer.Trap channel) = posted f channel
+answered f (answer.Need wanted) = f
 
--- and what it shows
-abbrev pub answer_shown : ℕ → Answer → Shown
-answer_shown number answer.Halt = Halted
-answer_shown number (answer.Refused code) = if number == CFORK then Nothing else post_shown (Some ILLEGAL_INSTRUCTION)
-answer_shown number (answer.Trap channel) = post_shown (Some channel)
-answer_shown number other = Nothing
+-- and what it prints
+abbrev pub out_in : Answer → Option ℕ
+out_in (answer.After regs out post) = out
+out_in other = None
+
+-- what is behind a turn that leaves these forks and pages, with this answer
+abbrev pub answered_turn : Parts nat_cmp → ForkName → Answer → Turned nat_cmp
+answered_turn v who a = record { parts = v; caller = option_map (λ f. answered f a) (map.get v.tree.forks who); out = out_in a }
+
+-- a turn of a call went so, over each drum that fits
+abbrev pub Turns : {P : Type 0} → PagesMeaning P → P → P → PlainTree → PlainTree → ForkName → Regs → ℕ → Answer → Type 0
+Turns means old new tree tree' who regs number a = (d : DrumWords) → means.fits old d
+    → means.fits new d × (call_turned (record { tree = tree; pages = means.plain old d }) who regs number ≡ answered_turn (record { tree = tree'; pages = means.plain new d }) who a)
 
 -- a fork that lives stands where one stood that lived under its name, has run so many units more at most, and keeps its limits
 pub record CameOn (old : ForkMap) (count : ℕ) (f : Fork) : Type 0 where

@@ -1,186 +1,198 @@
 // Monitor calls by their numbers.
-ghost use Rattle.std.specs.Prelude.{◌≡◌, ◌<◌, ◌%◌, ◌^◌, IsSome, Some, false, length, true};
+ghost use Rattle.std.specs.Prelude.{◌≡◌, ◌<◌, ◌%◌, ◌^◌, IsSome, None, Some, false, length, slice_index, true};
+ghost use Rattle.std.specs.FinMap as map;
 ghost use Rattle.machine_names.specs.declared.names.TheConstants.{ACCUMULATORS};
 ghost use Rattle.plain_model.specs.declared.fork.Body.{Body as ABody};
 ghost use Rattle.plain_model.specs.declared.fork.Fork.{Fork as AFork};
 ghost use Rattle.script_texts.specs.declared.status.ForkStatus.{ForkStatus as AForkStatus};
+ghost use Rattle.plain_pages.specs.PlainPages.{NumberedPages};
 ghost use Rattle.plain_model.specs.Forks.{counted, fork_in, with_regs, with_status};
-ghost use Rattle.plain_model.specs.Unit.{advanced};
-ghost use Rattle.plain_model.specs.Calls.{failed_regs, is_among, with_error};
-ghost use Rattle.plain_model.specs.ForkCalls.{fork_calls};
-ghost use Rattle.call_turns.specs.Answers.{IsDone};
-ghost use Rattle.fork_calls.specs.Holding.{Holds};
+ghost use Rattle.plain_model.specs.Calls.{behind_call, failed_regs, is_among, no_files, numbered, posted_if, turn_on, with_error};
+ghost use Rattle.plain_model.specs.Families.{print_calls};
+ghost use Rattle.plain_model.specs.Trees.{with_body};
+ghost use Rattle.call_turns.specs.Answers.{IsDone, answer_of};
+ghost use Rattle.call_turns.specs.Turns.{IsRegs};
+ghost use Rattle.fork_calls.specs.Holding.{CallLeaves, Holds};
 ghost use Rattle.fork_calls.specs.Limits.{AreWithin};
 ghost use Rattle.fork_calls.specs.Turning.{HasRegs};
-ghost use Rattle.plain_model.specs.Trees.{with_body};
-ghost use Rattle.monitor_core.specs.Shown.{code_shown, FitsShown};
-ghost use Rattle.monitor_core.specs.ForkUnit.{Called, IsMapCall, Place as APlace, answer_shown, answered as answered_of, fork_of, printed_shown};
+ghost use Rattle.monitor_core.specs.Shown.{shown_of};
+ghost use Rattle.monitor_core.specs.ForkUnit.{Called, Place as APlace, Turns, answered as answered_of, fork_of, out_in};
 
 use crate::runner::Runner;
-use crate::shown::Shown;
-use crate::unit::posted;
-use call_turns::Answer;
+use crate::shown::{Shown, stop_of};
+use crate::unit::post_channel;
+use call_turns::{Answer, behind};
 use fork_calls::is_fork_call;
 use fork_tree::Tree;
-use machine_names::character::LINE_END;
+use machine_names::ForkName;
 use page_contracts::Pages;
 use plain_model::Body;
-use plain_model::call::{CFORK, PBOUT};
+use plain_model::call::PBOUT;
 use plain_units::Regs;
 use plain_units::channel::ILLEGAL_INSTRUCTION;
+use pmap_calls::is_map_call;
 use script_texts::ForkStatus;
 use word36::Word;
 
-// The program counter goes on by one, modulo 2^18.
-fn advance(regs: &mut Regs)
-    requires { regs.old.pc < 2 ^ 18 }
-    ensures { regs.new ≡ advanced regs.old }
+// Whether a number is that of a call that prints.
+fn is_print_call(number: u32) -> bool
+    ensures { result ≡ is_among print_calls number }
 {
-    regs.pc = (regs.pc + 1) % 0o1_000_000;
-}
-
-// What a terminal shows of the low 7 bits of a word.
-fn shown_code(word: Word) -> Shown
-    ensures code { result ≡ code_shown (word % 128) }
-    ensures fits { FitsShown result }
-{
-    let code = (word.value() % 128) as u8;
-    if code == LINE_END {
-        Shown::LineEnd
-    } else {
-        Shown::Code(code)
+    match number {
+        PBOUT => true,
+        _ => false,
     }
 }
 
-// PBOUT: the character in accumulator 1 is printed.
-fn printed(body: &mut Body) -> Shown
-    requires few { body.old.units < 2 ^ 63 }
-    requires pc { body.old.regs.pc < 2 ^ 18 }
-    requires accumulators { length body.old.regs.ac ≡ ACCUMULATORS }
-    ensures fork { (f : AFork) → with_body body.new f ≡ counted (with_regs (with_body body.old f) (advanced body.old.regs)) }
-    ensures shown { result ≡ printed_shown body.old.regs }
-    ensures fits { FitsShown result }
+// PBOUT prints the low 7 bits of accumulator 1.
+fn pbout(regs: &Regs) -> Answer
+    requires { IsRegs regs.now }
+    ensures told { result ≡ Answer.After (behind_call regs.now) (Some (slice_index regs.now.ac 1 % 128)) None }
+    ensures regs { HasRegs result }
 {
-    let shown = shown_code(body.regs.ac[1]);
-    advance(&mut body.regs);
-    body.units += 1;
-    shown
+    let code = (regs.ac[1].value() % 128) as u8;
+    Answer::After {
+        regs: behind(*regs),
+        out: Some(code),
+        post: None,
+    }
+}
+
+// A turn of a call that prints, by its number.
+fn print_call(number: u32, regs: &Regs) -> Answer
+    requires { IsRegs regs.now }
+    ensures told { (p : NumberedPages) → result ≡ answer_of (turn_on no_files p (numbered print_calls number regs.now)).end }
+    ensures done { IsDone result }
+    ensures regs { HasRegs result }
+{
+    if number == PBOUT {
+        return pbout(regs);
+    }
+    Answer::Trap(ILLEGAL_INSTRUCTION)
+}
+
+// A turn of a monitor call, by its number: of the first family of calls that has the number. A number that is no call traps.
+fn turn<P: Pages>(number: u32, regs: &Regs, who: ForkName, tree: &mut Tree, pages: &mut P) -> Answer
+    requires regs { IsRegs regs.now }
+    requires lives { IsSome (map.get tree.old.forks who) }
+    requires flat { P.means.flat ≡ true }
+    requires holds { Holds P.means pages.old tree.old.forks }
+    requires within { AreWithin tree.old.forks }
+    requires serial { P.means.serial pages.old who.tty < 2 ^ 62 }
+    ensures told { Turns P.means pages.old pages.new tree.old tree.new who regs.now number result }
+    ensures done { IsDone result }
+    ensures leaves { CallLeaves P.means pages.old pages.new tree.old tree.new who 128 }
+    ensures regs { HasRegs result }
+{
+    if is_print_call(number) {
+        return print_call(number, regs);
+    }
+    if is_fork_call(number) {
+        return fork_calls::call(number, regs, who, tree, pages);
+    }
+    if is_map_call(number) {
+        return pmap_calls::call(number, regs, who, tree, pages);
+    }
+    Answer::Trap(ILLEGAL_INSTRUCTION)
 }
 
 // The fork is halted, behind the call.
-fn halted(body: &mut Body) -> Shown
-    requires few { body.old.units < 2 ^ 63 }
-    requires pc { body.old.regs.pc < 2 ^ 18 }
+fn halt(body: &mut Body)
+    requires { body.old.regs.pc < 2 ^ 18 }
     ensures fork { (f : AFork) → with_body body.new f
-        ≡ counted (with_status (with_regs (with_body body.old f) (advanced body.old.regs)) AForkStatus.Halted) }
-    ensures shown { result ≡ Shown.Halted }
+        ≡ with_status (with_regs (with_body body.old f) (behind_call body.old.regs)) AForkStatus.Halted }
+    ensures units { body.new.units ≡ body.old.units }
 {
-    advance(&mut body.regs);
+    body.regs = behind(body.regs);
     body.status = ForkStatus::Halted;
-    body.units += 1;
-    Shown::Halted
 }
 
 // A call with two returns is refused: it returns by the first, with the code in accumulator 1.
-fn failed(body: &mut Body, code: u32)
-    requires few { body.old.units < 2 ^ 63 }
+fn fail(body: &mut Body, code: u32)
     requires pc { body.old.regs.pc < 2 ^ 18 }
     requires accumulators { length body.old.regs.ac ≡ ACCUMULATORS }
-    ensures { (f : AFork) → with_body body.new f
-        ≡ counted (with_error (with_regs (with_body body.old f) (failed_regs body.old.regs code)) code) }
+    ensures fork { (f : AFork) → with_body body.new f
+        ≡ with_error (with_regs (with_body body.old f) (failed_regs body.old.regs code)) code }
+    ensures units { body.new.units ≡ body.old.units }
 {
     body.regs.ac[1] = Word::wrapped(u64::from(code));
-    advance(&mut body.regs);
+    body.regs = behind(body.regs);
     body.error = code;
-    body.units += 1;
 }
 
-// A turn of a call is over that has answered so: one that is refused leaves its error, and traps where it has one return;
-// who waits stays on the call.
-fn answered(body: &mut Body, number: u32, answer: Answer) -> Shown
+// A channel is posted, if one is.
+fn post_if(body: &mut Body, channel: Option<u8>)
+    requires { body.old.psi.on ≡ false }
+    ensures fork { (f : AFork) → with_body body.new f ≡ posted_if (with_body body.old f) channel }
+    ensures units { body.new.units ≡ body.old.units }
+{
+    if let Some(channel) = channel {
+        post_channel(body, channel);
+    }
+}
+
+// A fork is as a turn of its call leaves it that has answered so, but for its count of units: one that is refused leaves its error, and
+// traps where it has one return; who waits stays on the call. What it prints.
+fn left(body: &mut Body, answer: Answer) -> Option<u8>
     requires off { body.old.psi.on ≡ false }
-    requires few { body.old.units < 2 ^ 63 }
     requires pc { body.old.regs.pc < 2 ^ 18 }
     requires accumulators { length body.old.regs.ac ≡ ACCUMULATORS }
-    requires regs { HasRegs answer }
     requires done { IsDone answer }
-    ensures fork { (f : AFork) → with_body body.new f ≡ counted (answered_of number (with_body body.old f) answer) }
-    ensures shown { result ≡ answer_shown number answer }
-    ensures fits { FitsShown result }
+    ensures fork { (f : AFork) → with_body body.new f ≡ answered_of (with_body body.old f) answer }
+    ensures units { body.new.units ≡ body.old.units }
+    ensures out { result ≡ out_in answer }
 {
     match answer {
-        Answer::After { regs, .. } => {
+        Answer::After { regs, out, post } => {
             body.regs = regs;
-            body.units += 1;
-            Shown::Nothing
+            post_if(body, post);
+            out
         }
         Answer::Wait(on) => {
             body.status = ForkStatus::Wait(on);
-            body.units += 1;
-            Shown::Nothing
+            None
         }
-        Answer::Halt => halted(body),
+        Answer::Halt => {
+            halt(body);
+            None
+        }
         Answer::Refused(code) => {
-            if number == CFORK {
-                failed(body, code);
-                Shown::Nothing
-            } else {
-                body.error = code;
-                posted(body, ILLEGAL_INSTRUCTION)
-            }
+            body.error = code;
+            post_channel(body, ILLEGAL_INSTRUCTION);
+            None
         }
-        Answer::Trap(channel) => posted(body, channel),
+        Answer::Failed(code) => {
+            fail(body, code);
+            None
+        }
+        Answer::Trap(channel) => {
+            post_channel(body, channel);
+            None
+        }
         // Flat pages are always in core.
         Answer::Need(_) => unreachable!(),
     }
 }
 
-// A turn of a fork call, by its number: the fork that called is then as the change leaves it.
-fn forked<P: Pages>(tree: &mut Tree, pages: &mut P, who: Runner, number: u32) -> Shown
-    requires there { IsSome (fork_in tree.old.forks who.fork.tty who.slot) }
-    requires named { (f : AFork) → fork_in tree.old.forks who.fork.tty who.slot ≡ Some f → f.name ≡ who.fork }
-    requires can { AreWithin tree.old.forks }
-    requires few { (f : AFork) → fork_in tree.old.forks who.fork.tty who.slot ≡ Some f → f.body.units < 2 ^ 63 }
-    requires flat { P.means.flat ≡ true }
-    requires holds { Holds P.means pages.old tree.old.forks }
-    requires serial { P.means.serial pages.old who.fork.tty < 2 ^ 62 }
-    requires fork_call { is_among fork_calls number ≡ true }
-    ensures { (at : APlace) (b : ABody) → fork_in tree.old.forks who.fork.tty who.slot ≡ Some (fork_of who.fork at b)
-        → Called P.means pages.old pages.new tree.old tree.new (fork_of who.fork at b) number result }
+// A turn of a call is over that has answered so.
+fn answered(body: &mut Body, answer: Answer) -> Shown
+    requires off { body.old.psi.on ≡ false }
+    requires few { body.old.units < 2 ^ 63 }
+    requires pc { body.old.regs.pc < 2 ^ 18 }
+    requires accumulators { length body.old.regs.ac ≡ ACCUMULATORS }
+    requires done { IsDone answer }
+    ensures fork { (f : AFork) → with_body body.new f ≡ counted (answered_of (with_body body.old f) answer) }
+    ensures shown { result ≡ shown_of (out_in answer) body.new.status }
 {
-    let Some(fork) = tree.fork_at(who.fork.tty, who.slot) else {
-        unreachable!();
-    };
-    let regs = fork.body.regs;
-    let answer = fork_calls::call(number, &regs, who.fork, tree, pages);
-    tree.are_trees();
-    match tree.body_mut(who.fork) {
-        Some(body) => answered(body, number, answer),
-        None => Shown::Nothing,
+    let out = left(body, answer);
+    body.units += 1;
+    Shown {
+        out,
+        stop: stop_of(body.status),
     }
 }
 
-// A turn of a call on maps, by its number. A number that is no call traps.
-fn mapped<P: Pages>(tree: &mut Tree, pages: &mut P, who: Runner, number: u32) -> Shown
-    requires there { IsSome (fork_in tree.old.forks who.fork.tty who.slot) }
-    requires named { (f : AFork) → fork_in tree.old.forks who.fork.tty who.slot ≡ Some f → f.name ≡ who.fork }
-    requires can { AreWithin tree.old.forks }
-    requires few { (f : AFork) → fork_in tree.old.forks who.fork.tty who.slot ≡ Some f → f.body.units < 2 ^ 63 }
-    requires flat { P.means.flat ≡ true }
-    requires holds { Holds P.means pages.old tree.old.forks }
-    requires map { IsMapCall number }
-    ensures { (at : APlace) (b : ABody) → fork_in tree.old.forks who.fork.tty who.slot ≡ Some (fork_of who.fork at b)
-        → Called P.means pages.old pages.new tree.old tree.new (fork_of who.fork at b) number result }
-{
-    let Some(fork) = tree.fork_at(who.fork.tty, who.slot) else {
-        unreachable!();
-    };
-    let regs = fork.body.regs;
-    let answer = pmap_calls::call(number, &regs, who.fork, tree, pages);
-    answered(tree.body_at(who.fork.tty, who.slot), number, answer)
-}
-
-/// A turn of a monitor call of a fork of a tree, by its number. A number that is no call traps.
+/// A turn of a monitor call of a fork of a tree, by its number: the fork that called is then as the change leaves it.
 pub fn called<P: Pages>(tree: &mut Tree, pages: &mut P, who: Runner, number: u32) -> Shown
     requires there { IsSome (fork_in tree.old.forks who.fork.tty who.slot) }
     requires named { (f : AFork) → fork_in tree.old.forks who.fork.tty who.slot ≡ Some f → f.name ≡ who.fork }
@@ -192,12 +204,14 @@ pub fn called<P: Pages>(tree: &mut Tree, pages: &mut P, who: Runner, number: u32
     ensures { (at : APlace) (b : ABody) → fork_in tree.old.forks who.fork.tty who.slot ≡ Some (fork_of who.fork at b)
         → Called P.means pages.old pages.new tree.old tree.new (fork_of who.fork at b) number result }
 {
+    let Some(fork) = tree.fork_at(who.fork.tty, who.slot) else {
+        unreachable!();
+    };
+    let regs = fork.body.regs;
+    let answer = turn(number, &regs, who.fork, tree, pages);
     tree.are_trees();
-    if number == PBOUT {
-        return printed(tree.body_at(who.fork.tty, who.slot));
+    match tree.body_mut(who.fork) {
+        Some(body) => answered(body, answer),
+        None => Shown::NOTHING,
     }
-    if is_fork_call(number) {
-        return forked(tree, pages, who, number);
-    }
-    mapped(tree, pages, who, number)
 }

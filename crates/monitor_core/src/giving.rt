@@ -1,13 +1,14 @@
 // What a unit shows, given to a taker.
 ghost use Rattle.std.specs.Prelude.{◌<◌, All};
 ghost use Rattle.machine_names.specs.Bounds.{IsTerminal};
-ghost use Rattle.plain_model.specs.Unit.{printed};
+ghost use Rattle.plain_model.specs.Unit.{printed, shown_code};
 ghost use Rattle.monitor_core.specs.Giving.{TookItems};
-ghost use Rattle.monitor_core.specs.Shown.{shown_items, FitsShown};
+ghost use Rattle.monitor_core.specs.Shown.{FitsShown, FitsStop, shown_items, stop_items};
 
-use crate::shown::Shown;
+use crate::shown::{Shown, Stop};
 use itoa::Buffer;
 use machine_names::Tty;
+use machine_names::character::LINE_END;
 use outside::Failed;
 use script_texts::{Item, Taker};
 
@@ -26,12 +27,38 @@ fn give_text<T: Taker>(out: &mut T, t: Tty, text: &[u8]) -> Result<(), Failed>
 // Gives what a top fork prints that is forced by a channel.
 fn give_forced<T: Taker>(out: &mut T, t: Tty, channel: u8) -> Result<(), Failed>
     requires terminal { IsTerminal t }
-    ensures { TookItems T.fault_count T.onward T.stands T.cut out.old out.new result (λ d. shown_items t (Shown.Forced channel)) }
+    ensures { TookItems T.fault_count T.onward T.stands T.cut out.old out.new result (λ d. stop_items t (Stop.Forced channel)) }
 {
     let mut digits = Buffer::new();
     give_text(out, t, b"\r\n?FORCED ")?;
     give_text(out, t, digits.format(channel).as_bytes())?;
     give_text(out, t, b"\r\n@")
+}
+
+// Gives a character that a terminal prints: the end of a line prints as two.
+fn give_code<T: Taker>(out: &mut T, t: Tty, code: u8) -> Result<(), Failed>
+    requires terminal { IsTerminal t }
+    requires code { code < 128 }
+    ensures { TookItems T.fault_count T.onward T.stands T.cut out.old out.new result (λ d. printed t (shown_code code)) }
+{
+    if code == LINE_END {
+        give_text(out, t, b"\r\n")
+    } else {
+        out.item(Item::Char(t, code))
+    }
+}
+
+// Gives what a top fork prints that stands so.
+fn give_stop<T: Taker>(out: &mut T, t: Tty, stop: Stop) -> Result<(), Failed>
+    requires terminal { IsTerminal t }
+    requires fits { FitsStop stop }
+    ensures { TookItems T.fault_count T.onward T.stands T.cut out.old out.new result (λ d. stop_items t stop) }
+{
+    match stop {
+        Stop::GoesOn => Ok(()),
+        Stop::Halted => give_text(out, t, b"\r\n@"),
+        Stop::Forced(channel) => give_forced(out, t, channel),
+    }
 }
 
 /// Gives the items of what a unit shows. A call of its own, as most units show nothing.
@@ -41,11 +68,11 @@ pub fn give_shown<T: Taker>(out: &mut T, t: Tty, shown: Shown) -> Result<(), Fai
     requires fits { FitsShown shown }
     ensures { TookItems T.fault_count T.onward T.stands T.cut out.old out.new result (λ d. shown_items t shown) }
 {
-    match shown {
-        Shown::Nothing => Ok(()),
-        Shown::Code(code) => out.item(Item::Char(t, code)),
-        Shown::LineEnd => give_text(out, t, b"\r\n"),
-        Shown::Halted => give_text(out, t, b"\r\n@"),
-        Shown::Forced(channel) => give_forced(out, t, channel),
+    match shown.out {
+        Some(code) => {
+            give_code(out, t, code)?;
+            give_stop(out, t, shown.stop)
+        }
+        None => give_stop(out, t, shown.stop),
     }
 }

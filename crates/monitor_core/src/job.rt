@@ -2,9 +2,9 @@
 ghost use Rattle.std.specs.Prelude.{◌≡◌, ◌<◌, IfOk, length};
 ghost use Rattle.machine_names.specs.Bounds.{IsTerminal};
 ghost use Rattle.monitor_core.specs.Jobs.{jobs_left, no_jobs};
-ghost use Rattle.monitor_core.specs.Shown.{is_stop as is_stop_of, seen_of};
+ghost use Rattle.monitor_core.specs.Shown.{is_stop, is_stopped, seen_of, seen_stop};
 
-use crate::shown::Shown;
+use crate::shown::{Shown, Stop};
 use machine_names::{DirName, ForkName, TERMINALS, Tty};
 use plain_model::TerminalMode;
 use std::alloc::{AllocError, Global};
@@ -32,25 +32,39 @@ impl Job {
     }
 }
 
-/// What a terminal shows of a unit of the fork in a slot of its job. Where the top fork stops, the monitor reads
-/// the terminal; any other fork stops without a word.
+// How a terminal shows that the fork in a slot of its job stands. Where the top fork stops, the monitor reads the terminal;
+// any other fork stops without a word.
+#[inline]
+fn seen_stop(jobs: &mut Vec<Option<Job>>, t: Tty, slot: u8, stop: Stop) -> Stop
+    requires terminal { IsTerminal t }
+    requires room { length jobs.old.items ≡ TERMINALS }
+    ensures stop { result ≡ seen_stop slot stop }
+    ensures jobs { jobs.new.items ≡ jobs_left jobs.old.items t.0 (is_stopped result) }
+{
+    if !stop.is_stop() {
+        return stop;
+    }
+    if slot != 1 {
+        return Stop::GoesOn;
+    }
+    if let Some(job) = &mut jobs[t.0 as usize] {
+        job.mode = TerminalMode::Command;
+    }
+    stop
+}
+
+/// What a terminal shows of a unit of the fork in a slot of its job.
 #[inline]
 pub fn seen(jobs: &mut Vec<Option<Job>>, t: Tty, slot: u8, shown: Shown) -> Shown
     requires terminal { IsTerminal t }
     requires room { length jobs.old.items ≡ TERMINALS }
     ensures shown { result ≡ seen_of slot shown }
-    ensures jobs { jobs.new.items ≡ jobs_left jobs.old.items t.0 (is_stop_of result) }
+    ensures jobs { jobs.new.items ≡ jobs_left jobs.old.items t.0 (is_stop result) }
 {
-    if !shown.is_stop() {
-        return shown;
+    Shown {
+        out: shown.out,
+        stop: seen_stop(jobs, t, slot, shown.stop),
     }
-    if slot != 1 {
-        return Shown::Nothing;
-    }
-    if let Some(job) = &mut jobs[t.0 as usize] {
-        job.mode = TerminalMode::Command;
-    }
-    shown
 }
 
 /// No job at any terminal.

@@ -23,6 +23,10 @@ impl Reply {
     pub fn is_silent(&self) -> bool
         ensures { result ≡ is_silent_of self.now }
     {
-        matches!(self, Reply::Nothing | Reply::Prints(_, Shown::Nothing))
+        match self {
+            Reply::Nothing => true,
+            Reply::Prints(_, shown) => shown.is_nothing(),
+            _ => false,
+        }
     }
 }

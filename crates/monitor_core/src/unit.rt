@@ -1,17 +1,17 @@
 // Units of one fork, as far as they concern its body and its pages.
-ghost use Rattle.std.specs.Prelude.{◌≡◌, ◌<◌, ◌+◌, ◌^◌, true, false, Some};
+ghost use Rattle.std.specs.Prelude.{◌≡◌, ◌<◌, ◌+◌, ◌^◌, if◌then◌else◌, true, false, Some};
 ghost use Rattle.plain_model.specs.declared.fork.Fork.{Fork as AFork};
 ghost use Rattle.plain_model.specs.Forks.{counted};
 ghost use Rattle.plain_model.specs.Interrupts.{posted, is_panic};
-ghost use Rattle.plain_model.specs.Unit.{posted_if};
+ghost use Rattle.plain_model.specs.Calls.{posted_if};
 ghost use Rattle.ka10_unit.specs.Commits.{channel_of};
 ghost use Rattle.ka10_unit.specs.Gathers.{Serves};
 ghost use Rattle.plain_model.specs.Trees.{with_body};
 ghost use Rattle.monitor_core.specs.Limits.{CanUnit};
-ghost use Rattle.monitor_core.specs.Shown.{FitsShown};
+ghost use Rattle.monitor_core.specs.Shown.{FitsShown, FitsStop};
 ghost use Rattle.monitor_core.specs.ForkUnit.{HasRoom, Place as APlace, Ran, RanOne, fork_of, post_shown, units_over};
 
-use crate::shown::Shown;
+use crate::shown::{Shown, Stop};
 use ka10_unit::{End, Outcome, Post, Taken, burst, slow_unit};
 use machine_names::ForkName;
 use page_contracts::Pages;
@@ -22,7 +22,7 @@ use plain_units::channel::{
 use script_texts::ForkStatus;
 
 /// The last of units in a row.
-#[derive(Clone, Copy, PartialEq, Eq)]
+#[derive(Clone, Copy)]
 pub enum Last {
     /// It is over, and shows this.
     Shows(Shown),
@@ -31,7 +31,7 @@ pub enum Last {
 }
 
 /// Units of a fork in a row: how many are over, and what the last is. Those before it show nothing.
-#[derive(Clone, Copy, PartialEq, Eq)]
+#[derive(Clone, Copy)]
 pub struct Row {
     pub count: u32,
     pub last: Last,
@@ -47,21 +47,42 @@ fn is_panic(channel: u8) -> bool
     }
 }
 
-/// A unit is over that posts a channel to its fork, which takes none: a panic channel forces the fork, and
-/// another is dropped.
-pub fn posted(body: &mut Body, channel: u8) -> Shown
+// How a channel leaves a fork that takes none: a panic channel forces it.
+fn stop_by(channel: u8) -> Stop
+    ensures stop { result ≡ (if is_panic channel then Stop.Forced channel else Stop.GoesOn) }
+    ensures fits { FitsStop result }
+{
+    if is_panic(channel) {
+        Stop::Forced(channel)
+    } else {
+        Stop::GoesOn
+    }
+}
+
+/// A channel is posted to a fork which takes none: a panic channel forces it, and another is dropped.
+pub fn post_channel(body: &mut Body, channel: u8)
+    requires { body.old.psi.on ≡ false }
+    ensures fork { (f : AFork) → with_body body.new f ≡ posted (with_body body.old f) channel }
+    ensures units { body.new.units ≡ body.old.units }
+{
+    if is_panic(channel) {
+        body.status = ForkStatus::Forced(channel);
+    }
+}
+
+// A unit is over that posts a channel to its fork, which takes none.
+fn posted(body: &mut Body, channel: u8) -> Shown
     requires off { body.old.psi.on ≡ false }
     requires few { body.old.units < 2 ^ 63 }
     ensures fork { (f : AFork) → with_body body.new f ≡ counted (posted (with_body body.old f) channel) }
     ensures shown { result ≡ post_shown (Some channel) }
     ensures fits { FitsShown result }
 {
+    post_channel(body, channel);
     body.units += 1;
-    if is_panic(channel) {
-        body.status = ForkStatus::Forced(channel);
-        Shown::Forced(channel)
-    } else {
-        Shown::Nothing
+    Shown {
+        out: None,
+        stop: stop_by(channel),
     }
 }
 
@@ -76,7 +97,7 @@ fn ended(body: &mut Body, post: Post) -> Shown
     match post {
         Post::Nothing => {
             body.units += 1;
-            Shown::Nothing
+            Shown::NOTHING
         }
         Post::Overflow => posted(body, OVERFLOW),
         Post::Pushdown => posted(body, PUSHDOWN_OVERFLOW),
@@ -154,7 +175,7 @@ pub fn run_units<P: Pages>(
     match burst.end {
         End::Most => Row {
             count: burst.units,
-            last: Last::Shows(Shown::Nothing),
+            last: Last::Shows(Shown::NOTHING),
         },
         End::Overflow => Row {
             count: burst.units + 1,

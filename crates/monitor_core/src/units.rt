@@ -20,7 +20,7 @@ use page_contracts::Pages;
 
 /// Units of a fork in a row: how many, at least one, and what the last of them shows. Those before it show
 /// nothing.
-#[derive(Clone, Copy, PartialEq, Eq)]
+#[derive(Clone, Copy)]
 pub struct Units {
     pub count: u32,
     pub shown: Shown,

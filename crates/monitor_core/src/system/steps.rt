@@ -43,7 +43,7 @@ impl<P: Pages> System<P> {
     {
         let units = units_of(&mut self.tree, &mut self.pages, &mut self.taken, who, most);
         self.tree.are_trees();
-        wake_where(&mut self.tree, who.fork.tty, units.shown.is_stop());
+        wake_where(&mut self.tree, who.fork.tty, units.shown.stop.is_stop());
         self.tree.are_trees();
         Units {
             count: units.count,

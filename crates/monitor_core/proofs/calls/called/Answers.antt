@@ -1,45 +1,133 @@
-use Rattle.std.proofs.Common.{◌≡◌, refl, sym, ◌∙◌, ap, subst, arith}
-use Rattle.plain_model.specs.Forks.{counted, with_regs}
-use Rattle.plain_model.specs.Unit.{advanced}
-use Rattle.fork_tree.specs.Changes.{body_in}
-use Rattle.fork_tree.proofs.Slots.{in_tells}
-use Rattle.monitor_core.specs.ForkUnit.{Kept, LeavesForks, called_behind, fork_of, left_so, printed_shown}
-use Rattle.monitor_core.proofs.Calling.{left_tree, lent_within}
-use Rattle.monitor_core.proofs.Keeping.{printed_keeps}
-use Rattle.monitor_core.proofs.Leaving.{leaves_one}
+use Rattle.std.proofs.Common.{◌≡◌, ◌<◌, ◌^◌, ℕ, None, Option, Some, refl, sym, ◌∙◌, ap, subst, arith}
+use Rattle.std.specs.Prelude.{IsSome}
+use Rattle.std.specs.Option.{option_map, unwrap_or}
+use Rattle.std.specs.Ordering.{nat_cmp}
+use Rattle.std.specs.FinMap as map
+use Rattle.plain_model.specs.declared.fork.Body.{Body}
+use Rattle.plain_model.specs.declared.fork.Fork.{Fork}
+use Rattle.machine_names.specs.declared.names.ForkName.{ForkName}
+use Rattle.script_texts.specs.declared.status.ForkStatus.{ForkStatus}
+use Rattle.script_texts.specs.declared.status.ForkStatus.TheVariants.{Run, Wait, Halted, Forced}
+use Rattle.plain_model.specs.Families.{Turned, call_turned}
+use Rattle.plain_model.specs.Forks.{counted, fork_in}
+use Rattle.page_contracts.specs.Pages.{PagesMeaning}
+use Rattle.plain_model.specs.Trees.{PlainTree, changed, with_body, with_changed_of}
+use Rattle.fork_tree.specs.Trees.{IsTree, Lives}
+use Rattle.fork_tree.proofs.Slots.{in_tells, some_of}
+use Rattle.fork_calls.specs.Holding.{CallLeaves}
+use Rattle.fork_calls.specs.Limits.{AreWithin, FitsForced, IsBody}
+use Rattle.monitor_core.specs.ForkUnit.{Behind, Kept, LeavesForks, answered, answered_turn, called_behind, fork_of, out_in, put_back, turn_behind}
+use Rattle.monitor_core.specs.Shown.{FitsShown, FitsStop, shown_of, stop_of}
+use Rattle.monitor_core.proofs.Calling.{out_fits}
+use Rattle.monitor_core.proofs.Keeping.{answered_keeps}
+use Rattle.monitor_core.proofs.Leaving.{after_keeps, caller_keeps, caller_within, turn_leaves}
 use Rattle.monitor_core.proofs.calls.called.Goals as goal
 
-pub printed-requires-clause-pc : goal.printed-requires-clause-pc
-printed-requires-clause-pc g c = (lent_within c.args.tree.now c.are_trees.ensures c.requires.can c.args.who.fork.tty c.args.who.slot _ c.requires.there c.body_at.ensures.body).pc
+-- the fork that called, behind its turn
+module _ {P : Type 0} {means : PagesMeaning P} {p q : P} {pages : ℕ} (old new : PlainTree) (who : ForkName) (left : CallLeaves means p q old new who pages)
+    (was : IsTree old) (is : IsTree new) (can : AreWithin old.forks) (slot : ℕ) (f : Fork) (at : fork_in old.forks who.tty slot ≡ Some f) (named : f.name ≡ who) where
+  lived : Lives old.forks f
+  lived = (in_tells old.forks was.slotted who.tty slot f at).0
 
-pub printed-requires-clause-accumulators : goal.printed-requires-clause-accumulators
-printed-requires-clause-accumulators g c = (lent_within c.args.tree.now c.are_trees.ensures c.requires.can c.args.who.fork.tty c.args.who.slot _ c.requires.there c.body_at.ensures.body).accumulators
+  there : (g : Fork) × (map.get new.forks f.name ≡ Some g)
+  there = let s = some_of (map.get new.forks who) (left.caller (subst IsSome (sym (ap (map.get old.forks) (sym named) ∙ lived)) refl)) in (s.0, ap (map.get new.forks) named ∙ s.1)
 
-pub returns-then-number-eq-PBOUT : goal.returns-then-number-eq-PBOUT
-returns-then-number-eq-PBOUT g c at b there =
-    let who = c.args.who.fork in
-    let tree = c.args.tree.now in
-    let f = fork_of who at b in
-    let after = fork_of who at c.printed.new.body in
-    let lives = (in_tells tree.forks c.are_trees.ensures.slotted who.tty c.args.who.slot f there).0 in
-    let fits = c.requires.can f lives in
-    let here : c.body_at.result.now ≡ b = c.body_at.ensures.body ∙ ap body_in there in
-    let fork : after ≡ counted (with_regs f (advanced f.body.regs)) = c.printed.ensures.fork f ∙ ap (λ x. counted (with_regs (fork_of who at x) (advanced x.regs))) here in
-    let shown : c.printed.result ≡ printed_shown f.body.regs = c.printed.ensures.shown ∙ ap (λ x. printed_shown x.regs) here in
-    let keeps : Kept f after 1 = subst (λ h. Kept f h 1) (sym fork) (printed_keeps f fits.off f.body.regs fits.pc fits.accumulators) in
-    let back = left_tree tree who.tty c.args.who.slot f c.printed.new.body there in
+  module _ (body : Body) (lent : Some body ≡ option_map (λ (k : Fork). k.body) (map.get new.forks who)) where
+    lent_is : body ≡ there.0.body
+    lent_is = let both : Some body ≡ Some there.0.body = lent ∙ ap (option_map (λ (k : Fork). k.body)) (ap (map.get new.forks) (sym named) ∙ there.1) in cc both
+
+    lent_within : IsBody body
+    lent_within = subst IsBody (sym lent_is) (caller_within old new was is left.kept f there.0 lived (can f lived) there.1)
+
+    lent_few : f.body.units < 2 ^ 63 → body.units < 2 ^ 63
+    lent_few few = omega (arith, few, ap (λ (b : Body). b.units) lent_is, (caller_keeps old new was is left.kept f there.0 lived (can f lived) there.1).units)
+
+-- how a fork stands that keeps its limits
+stop_fits : (status : ForkStatus) → FitsForced status → FitsStop (stop_of status)
+stop_fits Run fits = tt
+stop_fits (Wait on) fits = tt
+stop_fits Halted fits = tt
+stop_fits (Forced channel) fits = fits channel refl
+
+pub turn-answer-requires-clause-regs : goal.turn-answer-requires-clause-regs
+turn-answer-requires-clause-regs g c =
+    let f = c.in-Some.fork.now in
+    let lives = in_tells c.args.tree.now.forks c.fork_at.ensures.tree.slotted c.args.who.fork.tty c.args.who.slot f (sym c.in-Some.ensures.found) in
+    let fits = c.requires.can f lives.0 in
+    (fits.pc, fits.accumulators)
+
+pub turn-answer-requires-clause-lives : goal.turn-answer-requires-clause-lives
+turn-answer-requires-clause-lives g c =
+    let f = some_of _ c.requires.there in
+    let lives = in_tells c.args.tree.now.forks c.fork_at.ensures.tree.slotted c.args.who.fork.tty c.args.who.slot f.0 f.1 in
+    subst IsSome (sym (ap (map.get c.args.tree.now.forks) (sym (c.requires.named f.0 f.1)) ∙ lives.0)) refl
+
+pub answered-requires : goal.answered-requires
+answered-requires g c =
+    let old = c.args.tree.now in
+    let new = c.turn-answer.new.tree in
+    let was = c.fork_at.ensures.tree in
+    let left = c.turn-answer.ensures.leaves in
+    let f = some_of _ c.requires.there in
+    let named = c.requires.named f.0 f.1 in
+    let within = lent_within old new c.args.who.fork left was c.are_trees.ensures c.requires.can c.args.who.slot f.0 f.1 named _ c.in-Some-body_mut.ensures.body in
     record {
-      after = after;
+      off = within.off;
+      few = lent_few old new c.args.who.fork left was c.are_trees.ensures c.requires.can c.args.who.slot f.0 f.1 named _ c.in-Some-body_mut.ensures.body (c.requires.few f.0 f.1);
+      pc = within.pc;
+      accumulators = within.accumulators;
+      done = c.turn-answer.ensures.done;
+    }
+
+pub returns-in-None : goal.returns-in-None
+returns-in-None g c at b found =
+    let who = c.args.who.fork in
+    let old = c.args.tree.now in
+    let new = c.turn-answer.new.tree in
+    let stands = there old new who c.turn-answer.ensures.leaves c.fork_at.ensures.tree c.are_trees.ensures c.requires.can c.args.who.slot (fork_of who at b) found refl in
+    let no : None ≡ Some stands.0.body = c.in-None.ensures.body ∙ ap (option_map (λ (k : Fork). k.body)) stands.1 in
+    absurd (cc no)
+
+pub returns-in-Some-body_mut : goal.returns-in-Some-body_mut
+returns-in-Some-body_mut g c at b found =
+    let who = c.args.who.fork in
+    let number = c.args.number in
+    let f = fork_of who at b in
+    let old = c.args.tree.now in
+    let new = c.turn-answer.new.tree in
+    let answer = c.turn-answer.result in
+    let was = c.fork_at.ensures.tree in
+    let is = c.are_trees.ensures in
+    let left = c.turn-answer.ensures.leaves in
+    let body = c.answered.new.body in
+    let lent = c.in-Some-body_mut.ensures.body in
+    let lives : Lives old.forks f = lived old new who left was is c.requires.can c.args.who.slot f found refl in
+    let stands = there old new who left was is c.requires.can c.args.who.slot f found refl in
+    let k = stands.0 in
+    let fits = c.requires.can f lives in
+    let here = lent_is old new who left was is c.requires.can c.args.who.slot f found refl _ lent in
+    let within : IsBody k.body = caller_within old new was is left.kept f k lives fits stands.1 in
+    let seen : Some c.in-Some.fork.now ≡ Some f = c.in-Some.ensures.found ∙ found in
+    let same : c.in-Some.fork.now ≡ f = cc seen in
+    let fork : with_body body k ≡ counted (answered k answer) = c.answered.ensures.fork k ∙ ap (λ x. counted (answered (with_body x k) answer)) here in
+    let back : with_changed_of new who (with_body body) ≡ put_back new (with_body body k) = ap (λ o. record new { forks = changed new.forks (with_body body) o }) stands.1 in
+    let keeps : Kept k (with_body body k) 1 = subst (λ h. Kept k h 1) (sym fork) (answered_keeps k within.off within.pc within.accumulators answer c.turn-answer.ensures.regs) in
+    record {
+      after = with_body body k;
       told = λ d drum.
-          let p = g.P.Pages.means.plain c.args.pages.now d in (
-            drum,
-            ap (called_behind tree f p) c.if-number-eq-PBOUT.true
-                ∙ (λ i. left_so tree (sym fork i) p (sym shown i))
-                ∙ (λ i. record { tree = sym back i; fork = after; pages = p; shown = c.printed.result }),
-          );
-      keeps = keeps;
-      leaves = subst (λ x. LeavesForks g.P.Pages.means c.args.pages.now c.args.pages.now tree x f 1) (sym back)
-          (leaves_one tree c.are_trees.ensures f lives c.printed.new.body 1 keeps g.P.Pages.means c.args.pages.now c.args.pages.now c.requires.holds
-          (record { lives = refl; forks = refl; most = refl; own = omega arith; others = λ t ne. refl }));
-      fits = c.printed.ensures.fits;
+          let p = g.P.Pages.means.plain c.args.pages.now d in
+          let q = g.P.Pages.means.plain c.turn-answer.new.pages d in
+          let t = c.turn-answer.ensures.told d drum in
+          let turned : call_turned (record { tree = old; pages = p }) who f.body.regs number ≡ answered_turn (record { tree = new; pages = q }) who answer =
+          subst (λ (x : Fork). call_turned (record { tree = old; pages = p }) who x.body.regs number ≡ answered_turn (record { tree = new; pages = q }) who answer) same t.1 in
+          let behind_is : called_behind old f p number ≡ turn_behind new q (out_in answer) (answered k answer) =
+          ap (λ (r : Turned nat_cmp). turn_behind r.parts.tree r.parts.pages r.out (unwrap_or r.caller f)) turned
+          ∙ ap (λ (o : Option Fork). turn_behind new q (out_in answer) (unwrap_or (option_map (λ h. answered h answer) o) f)) stands.1 in
+          let left_is : turn_behind new q (out_in answer) (answered k answer) ≡ record { tree = put_back new (with_body body k); fork = with_body body k; pages = q; shown = shown_of (out_in answer) body.status } =
+          ap (λ (h : Fork). record { tree = put_back new h; fork = h; pages = q; shown = shown_of (out_in answer) h.body.status }) (sym fork) in
+          (t.0, behind_is ∙ left_is ∙ (λ i. record { tree = sym back i; fork = with_body body k; pages = q; shown = sym c.answered.ensures.shown i }));
+      keeps = after_keeps old new was is left.kept f k lives fits stands.1 body keeps;
+      leaves = subst (λ x. LeavesForks g.P.Pages.means c.args.pages.now c.turn-answer.new.pages old x f 1) (sym back)
+          (turn_leaves old new was is left.kept f k lives fits stands.1 body keeps g.P.Pages.means c.args.pages.now c.turn-answer.new.pages left);
+      fits = subst FitsShown (sym c.answered.ensures.shown) (out_fits answer c.turn-answer.ensures.regs, stop_fits body.status (keeps.status within.status));
     }

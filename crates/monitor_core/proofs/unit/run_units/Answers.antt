@@ -1,11 +1,11 @@
 use Rattle.std.proofs.Common.{◌+◌, None, Some, refl, sym, ◌∙◌, ap, subst, arith}
 use Rattle.plain_model.specs.Forks.{counted}
-use Rattle.plain_model.specs.Unit.{posted_if}
+use Rattle.plain_model.specs.Calls.{posted_if}
 use Rattle.plain_units.specs.declared.channel.TheConstants.{OVERFLOW, PUSHDOWN_OVERFLOW}
 use Rattle.ka10_unit.specs.Bursts.{AreCounted, Came}
 use Rattle.ka10_unit.specs.declared.committed.Post.TheVariants.{Overflow, Pushdown}
+use Rattle.monitor_core.specs.Shown.{nothing}
 use Rattle.monitor_core.specs.ForkUnit.{Kept, RanUnits, fork_of, left_so, ran_on, units_over}
-use Rattle.monitor_core.specs.declared.shown.Shown.TheVariants.{Nothing}
 use Rattle.monitor_core.proofs.Keeping.{ended_keeps, more_keeps, row_keeps}
 use Rattle.monitor_core.proofs.UnitRan.{post_behind, row_ran}
 use Rattle.monitor_core.proofs.UnitRows.{more_row}
@@ -24,12 +24,12 @@ returns-in-Most-clause-ran g c at =
           let q = g.P.Pages.means.plain c.burst-burst.new.pages d in
           let came = subst (λ e. Came e n f.name p f.body.regs q regs) c.in-Most.is (burst.told d f.name fits c.space-space.ensures) in (
             burst.fits d fits,
-            λ tree. subst (λ k. RanUnits tree f p n (left_so tree (ran_on f k regs) q Nothing)) (sym c.from.ensures)
+            λ tree. subst (λ k. RanUnits tree f p n (left_so tree (ran_on f k regs) q nothing)) (sym c.from.ensures)
                 (row_ran tree f p n (record { pages = q; regs = regs; post = None }) (omega (arith, counted, c.requires.some)) came),
           );
       keeps = subst (λ k. Kept f (ran_on f k regs) n) (sym c.from.ensures) (row_keeps f n regs burst.pc (burst.accumulators ∙ c.requires.can.fits.accumulators));
       made = record { lives = burst.stays.lives; forks = burst.stays.forks; most = burst.stays.most; own = omega (arith, ap (λ s. s f.name.tty) burst.stays.serials); others = λ t ne. ap (λ s. s t) burst.stays.serials };
-      fits = tt;
+      fits = (tt, tt);
     }
 
 pub returns-in-Overflow-clause-ran : goal.returns-in-Overflow-clause-ran
