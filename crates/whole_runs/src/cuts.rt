@@ -1,87 +1,60 @@
 // The first script, cut after each of its bytes, and with each of its reads failing.
 ghost use Rattle.std.specs.Prelude.{ℕ, List, Option, None};
 
-use crate::memory_run::{run_script, run_source};
+use crate::first;
+use crate::memory_run::{assert_ended_at, made, run_script, run_source};
+use crate::same::same;
 use outside::{Failed, Source};
-use std::alloc::{AllocError, Global};
-use std::fmt::Write;
-use std::test::Fail;
 use tenex_console::Status;
 
-const LINES: [&str; 6] = [
-    "LOGIN 0 SMITH\n",
-    "POKE 0 100 201040000101\n",
-    "POKE 0 101 104000000074\n",
-    "POKE 0 102 104000000170\n",
-    "START 0 100\n",
-    "RUN 5\n",
+// Of the whole lines within so many bytes, up to so many: what they print, and what it says of the next.
+const LINES: [(usize, usize, &[u8], &[u8]); 7] = [
+    (0, 14, b"", b"?LINE 1\n"),
+    (14, 38, b"T0 @\n", b"?LINE 2\n"),
+    (38, 62, b"T0 @\n", b"?LINE 3\n"),
+    (62, 86, b"T0 @\n", b"?LINE 4\n"),
+    (86, 98, b"T0 @\n", b"?LINE 5\n"),
+    (98, 104, b"T0 @\n", b"?LINE 6\n"),
+    (104, 105, first::TRANSCRIPT, b""),
 ];
 
-/// How many bytes the lines have.
-const LENGTH: usize = 104;
-
-// The first so many bytes of the script.
-fn front(alloc: Global, length: usize) -> Result<Vec<u8>, AllocError> {
-    let mut bytes = Vec::new(alloc);
-    for line in LINES {
-        for byte in line.as_bytes() {
-            if bytes.len() < length {
-                bytes.push(*byte)?;
-            }
-        }
-    }
-    Ok(bytes)
-}
-
-// Where the lines end.
-const ENDS: [usize; 6] = [14, 38, 62, 86, 98, 104];
-
-// How many lines end within so many bytes.
-fn whole_lines(bytes: usize) -> usize {
-    ENDS.iter().filter(|end| **end <= bytes).count()
-}
-
-// What so many of the lines print.
-fn transcript_of(lines: usize) -> &'static str {
-    match lines {
-        0 => "",
-        6 => "T0 @A\\015\\012\nT0 @\n",
-        _ => "T0 @\n",
+// The first bytes of the script, as many as are asked for.
+fn front(length: usize) -> &'static [u8] {
+    match first::SCRIPT.get(..length) {
+        Some(front) => front,
+        None => first::SCRIPT,
     }
 }
 
-// What so many of the lines record, but for the last line.
-fn record_of(alloc: Global, lines: usize) -> Result<String, AllocError> {
-    let mut text = String::new(alloc);
-    for line in LINES.iter().take(lines.min(5)) {
-        text.push_str(line)?;
+// What whole lines of so many bytes record, but for the last line: all but RUN as they are.
+fn record_of(length: usize) -> &'static [u8] {
+    match first::RECORD.strip_suffix(b"E 0 0\n") {
+        Some(record) if length == 104 => record,
+        _ => front(length),
     }
-    if lines == 6 {
-        text.push_str("U 0 1 3\nI 2\n")?;
-    }
-    Ok(text)
 }
 
 #[test]
-fn a_script_may_end_after_each_line_alone(rt: HostRuntime) -> Result<(), Fail> {
-    let alloc = rt.alloc();
-    assert_eq!(rt; front(alloc, 1000)?.len(), LENGTH);
-    for length in 0..LENGTH + 1 {
-        let lines = whole_lines(length);
-        let ran = run_script(alloc, &front(alloc, length)?)?;
-        let mut out = String::from_str(alloc, transcript_of(lines))?;
-        let mut rec = record_of(alloc, lines)?;
-        if length == 0 || ENDS.contains(&length) {
-            assert_eq!(rt; ran.status, Status::Done, "after {length} bytes");
-            rec.push_str("E 0 0\n")?;
-        } else {
-            assert_eq!(rt; ran.status, Status::Script, "after {length} bytes");
-            writeln!(out, "?LINE {}", lines.saturating_add(1))?;
+fn a_script_may_end_after_each_line_alone(rt: HostRuntime) {
+    same(&rt, first::SCRIPT.len(), 104);
+    for (end, next, out, bad) in LINES {
+        let rec = record_of(end);
+        for length in end..next {
+            let ran = made(&rt, run_script(rt.alloc(), front(length)));
+            if length == end {
+                assert_ended_at(
+                    &rt,
+                    length,
+                    &ran,
+                    Status::Done,
+                    (out, b""),
+                    (rec, b"E 0 0\n"),
+                );
+            } else {
+                assert_ended_at(&rt, length, &ran, Status::Script, (out, bad), (rec, b""));
+            }
         }
-        assert_eq!(rt; ran.out.bytes(), out.as_bytes());
-        assert_eq!(rt; ran.rec.bytes(), rec.as_bytes());
     }
-    Ok(())
 }
 
 // Gives its bytes one by one, until one read fails.
@@ -119,23 +92,21 @@ impl<'a> Source for FailingAt<'a> {
 }
 
 #[test]
-fn each_read_may_fail(rt: HostRuntime) -> Result<(), Fail> {
-    let alloc = rt.alloc();
-    let text = front(alloc, LENGTH)?;
-    for fails in 0..LENGTH + 1 {
-        let mut source = FailingAt {
-            bytes: &text,
-            at: 0,
-            fails,
-            faults: 0,
-        };
-        let ran = run_source(alloc, &mut source)?;
-        let lines = whole_lines(fails);
-        let mut out = String::from_str(alloc, transcript_of(lines))?;
-        out.push_str("?READ\n")?;
-        assert_eq!(rt; ran.status, Status::ReadFault, "behind {fails} bytes");
-        assert_eq!(rt; ran.out.bytes(), out.as_bytes());
-        assert_eq!(rt; ran.rec.bytes(), record_of(alloc, lines)?.as_bytes());
+fn each_read_may_fail(rt: HostRuntime) {
+    for (end, next, out, _) in LINES {
+        for fails in end..next {
+            let mut source = FailingAt {
+                bytes: first::SCRIPT,
+                at: 0,
+                fails,
+                faults: 0,
+            };
+            let ran = made(&rt, run_source(rt.alloc(), &mut source));
+            let texts = (
+                (out, b"?READ\n".as_slice()),
+                (record_of(end), b"".as_slice()),
+            );
+            assert_ended_at(&rt, fails, &ran, Status::ReadFault, texts.0, texts.1);
+        }
     }
-    Ok(())
 }

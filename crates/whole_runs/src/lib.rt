@@ -1,29 +1,21 @@
-//! Whole runs of the emulator in memory: scripts, and what they print and record, byte by byte.
-//! No layer stands above; to a reader each test is a script with its two texts.
+//! Whole runs of the emulator in memory: what a script prints and records, whole, cut off, or at failures.
+//! No layer stands above; scripts that run over real streams too stand in examples/, with their texts.
 //! Stands on tenex_console, and calls the laws of plain_laws.
 #![tactic(auto)]
 
 #[cfg(test)]
-mod calls_on_forks;
-#[cfg(test)]
 mod cuts;
-#[cfg(test)]
-mod examples;
 #[cfg(test)]
 mod failures;
 #[cfg(test)]
-mod fork_examples;
-#[cfg(test)]
-mod instructions;
+mod first;
 #[cfg(test)]
 mod laws;
 #[cfg(test)]
 mod limits;
 #[cfg(test)]
-mod machine;
-#[cfg(test)]
 mod memory_run;
 #[cfg(test)]
-mod scripts;
+mod same;
 #[cfg(test)]
-mod units;
+mod scripts;

@@ -1,9 +1,9 @@
 // Long lines, and scripts as long as a script may be.
 ghost use Rattle.std.specs.Prelude.{ℕ, List, Option, None};
 
-use crate::memory_run::{run_script, run_source};
-use outside::{Failed, Source};
-use std::test::Fail;
+use crate::memory_run::{assert_ended, made, run_script, run_source};
+use outside::{Failed, Memory, Source};
+use std::alloc::Global;
 use tenex_console::Status;
 
 // A line again and again, and something behind the last.
@@ -50,8 +50,7 @@ impl Source for Repeated {
 
 // 2,796,198 lines of 6 bytes and 4 lines of 7 bytes are 16,777,216 bytes.
 #[test]
-fn the_longest_script_is_run(rt: HostRuntime) -> Result<(), Fail> {
-    let alloc = rt.alloc();
+fn the_longest_script_is_run(rt: HostRuntime) {
     for (rest, status, out, rec) in [
         (
             b"RUN 01\nRUN 01\nRUN 01\nRUN 01\n".as_slice(),
@@ -72,18 +71,14 @@ fn the_longest_script_is_run(rt: HostRuntime) -> Result<(), Fail> {
             rest,
             at: 0,
         };
-        let ran = run_source(alloc, &mut script)?;
-        assert_eq!(rt; ran.status, status);
-        assert_eq!(rt; ran.out.bytes(), out);
-        assert_eq!(rt; ran.rec.bytes(), rec);
+        let ran = made(&rt, run_source(rt.alloc(), &mut script));
+        assert_ended(&rt, &ran, status, out, rec);
     }
-    Ok(())
 }
 
 // 2,097,152 comments of 8 bytes are 16,777,216 bytes.
 #[test]
-fn comments_count_for_the_length(rt: HostRuntime) -> Result<(), Fail> {
-    let alloc = rt.alloc();
+fn comments_count_for_the_length(rt: HostRuntime) {
     for (rest, status, out, rec) in [
         (
             b"".as_slice(),
@@ -100,18 +95,20 @@ fn comments_count_for_the_length(rt: HostRuntime) -> Result<(), Fail> {
             rest,
             at: 0,
         };
-        let ran = run_source(alloc, &mut script)?;
-        assert_eq!(rt; ran.status, status);
-        assert_eq!(rt; ran.out.bytes(), out);
-        assert_eq!(rt; ran.rec.bytes(), rec);
+        let ran = made(&rt, run_source(rt.alloc(), &mut script));
+        assert_ended(&rt, &ran, status, out, rec);
     }
-    Ok(())
 }
 
-// A script of one comment with so many bytes, and an event.
+// A comment with so many bytes, and an event.
+fn commented(alloc: Global, bytes: usize) -> Result<Vec<u8>, Memory> {
+    let mut script: Vec<u8> = vec![in alloc; b';'; bytes]?;
+    script.extend_from_slice(b"\nLOGIN 0 A\n")?;
+    Ok(script)
+}
+
 #[test]
-fn a_line_has_256_bytes_at_most(rt: HostRuntime) -> Result<(), Fail> {
-    let alloc = rt.alloc();
+fn a_line_has_256_bytes_at_most(rt: HostRuntime) {
     for (bytes, status, out, rec) in [
         (
             256,
@@ -121,12 +118,8 @@ fn a_line_has_256_bytes_at_most(rt: HostRuntime) -> Result<(), Fail> {
         ),
         (257, Status::Script, b"?LINE 1\n", b""),
     ] {
-        let mut script: Vec<u8> = vec![in alloc; b';'; bytes]?;
-        script.extend_from_slice(b"\nLOGIN 0 A\n")?;
-        let ran = run_script(alloc, &script)?;
-        assert_eq!(rt; ran.status, status);
-        assert_eq!(rt; ran.out.bytes(), out);
-        assert_eq!(rt; ran.rec.bytes(), rec);
+        let script = made(&rt, commented(rt.alloc(), bytes));
+        let ran = made(&rt, run_script(rt.alloc(), &script));
+        assert_ended(&rt, &ran, status, out, rec);
     }
-    Ok(())
 }

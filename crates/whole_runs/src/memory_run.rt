@@ -1,8 +1,8 @@
 // One run over objects in memory.
-use outside::{MemSink, MemSource, Memory, Source, SureDrum};
+use crate::same::{same, same_at};
+use outside::{Drum, MemSink, MemSource, Memory, Source, SureDrum};
 use std::alloc::{AllocError, Global};
 use std::process::Abort;
-use std::test::Fail;
 use tenex_console::{Status, tenex};
 
 /// How many bytes a text has at most here.
@@ -11,19 +11,39 @@ pub const ROOM: usize = 1 << 18;
 /// How many pages the drum has to have.
 pub const PAGES: u32 = 2048;
 
-/// How a run ended, and the sinks of its two texts.
+/// How a run ended, and the objects that it used.
 #[derive(Drop)]
 pub struct Ran {
     pub status: Status,
     pub out: MemSink,
     pub rec: MemSink,
+    pub drum: SureDrum,
+}
+
+/// What was made, for which there is memory in every test.
+pub(crate) fn made<T>(rt: &impl Abort, answer: Result<T, Memory>) -> T {
+    match answer {
+        Ok(made) => made,
+        Err(_) => panic!(rt; "no memory"),
+    }
 }
 
 fn words_of(alloc: Global, texts: &[&str]) -> Result<Vec<String>, AllocError> {
-    texts
-        .iter()
-        .map(|text| String::from_str(alloc, text))
-        .try_collect(alloc)
+    let mut words = Vec::new(alloc);
+    for text in texts {
+        words.push(String::from_str(alloc, text)?)?;
+    }
+    Ok(words)
+}
+
+/// A source that gives these bytes.
+pub(crate) fn source(alloc: Global, bytes: &[u8]) -> Result<MemSource, Memory> {
+    Ok(MemSource::new(Vec::from_slice(alloc, bytes)?, Vec::new(alloc)))
+}
+
+/// A sink with this room.
+pub(crate) fn sink(alloc: Global, room: usize) -> Result<MemSink, Memory> {
+    MemSink::new(alloc, room, Vec::new(alloc))
 }
 
 /// Runs a command over a source, two sinks and a drum of so many pages.
@@ -38,61 +58,84 @@ pub(crate) fn run_over<S: Source>(
     let words = words_of(alloc, texts)?;
     let mut drum = SureDrum::new(alloc, pages)?;
     let status = tenex(alloc, &words, script, &mut out, &mut rec, &mut drum);
-    Ok(Ran { status, out, rec })
+    Ok(Ran {
+        status,
+        out,
+        rec,
+        drum,
+    })
 }
 
 /// Runs a source that may fail.
 pub(crate) fn run_source<S: Source>(alloc: Global, script: &mut S) -> Result<Ran, Memory> {
-    let out = MemSink::new(alloc, ROOM, Vec::new(alloc))?;
-    let rec = MemSink::new(alloc, ROOM, Vec::new(alloc))?;
+    let out = sink(alloc, ROOM)?;
+    let rec = sink(alloc, ROOM)?;
     run_over(alloc, &["run"], script, out, rec, PAGES)
+}
+
+/// Runs a script by these words, over a drum of so many pages.
+pub(crate) fn run_words(
+    alloc: Global,
+    texts: &[&str],
+    script: &[u8],
+    pages: u32,
+) -> Result<Ran, Memory> {
+    let mut script = source(alloc, script)?;
+    let out = sink(alloc, ROOM)?;
+    let rec = sink(alloc, ROOM)?;
+    run_over(alloc, texts, &mut script, out, rec, pages)
 }
 
 /// Runs a script.
 pub(crate) fn run_script(alloc: Global, script: &[u8]) -> Result<Ran, Memory> {
-    let mut script = MemSource::new(Vec::from_slice(alloc, script)?, Vec::new(alloc));
-    run_source(alloc, &mut script)
+    run_words(alloc, &["run"], script, PAGES)
 }
 
-/// Runs a script to its end, which gives exactly these texts.
+/// A run ended with this status and exactly these texts.
+pub(crate) fn assert_ended(
+    rt: &impl Abort,
+    ran: &Ran,
+    status: Status,
+    transcript: &[u8],
+    record: &[u8],
+) {
+    same(rt, ran.status, status);
+    same(rt, ran.out.bytes(), transcript);
+    same(rt, ran.rec.bytes(), record);
+}
+
+/// The run of a row ended with this status and exactly these texts, each given as its front and the rest.
+pub(crate) fn assert_ended_at(
+    rt: &impl Abort,
+    row: usize,
+    ran: &Ran,
+    status: Status,
+    transcript: (&[u8], &[u8]),
+    record: (&[u8], &[u8]),
+) {
+    same_at(rt, row, ran.status, status);
+    same_at(
+        rt,
+        row,
+        ran.out.bytes().strip_prefix(transcript.0),
+        Some(transcript.1),
+    );
+    same_at(
+        rt,
+        row,
+        ran.rec.bytes().strip_prefix(record.0),
+        Some(record.1),
+    );
+}
+
+/// Runs a script to its end, which gives exactly these texts and never asks the drum.
 pub(crate) fn assert_runs<R: Abort + AllocGlobal>(
     rt: &R,
     script: &[u8],
     transcript: &[u8],
     record: &[u8],
-) -> Result<(), Fail> {
-    assert_ends(rt, script, Status::Done, transcript, record)
-}
-
-/// Runs a script to an end with this status and exactly these texts.
-pub(crate) fn assert_ends<R: Abort + AllocGlobal>(
-    rt: &R,
-    script: &[u8],
-    status: Status,
-    transcript: &[u8],
-    record: &[u8],
-) -> Result<(), Fail> {
-    let ran = run_script(rt.alloc(), script)?;
-    assert_eq!(rt; ran.status, status);
-    assert_eq!(rt; ran.out.bytes(), transcript);
-    assert_eq!(rt; ran.rec.bytes(), record);
-    Ok(())
-}
-
-/// Runs a script over a drum of 256 pages to its end, which gives exactly these texts.
-pub(crate) fn assert_runs_small<R: Abort + AllocGlobal>(
-    rt: &R,
-    script: &[u8],
-    transcript: &[u8],
-    record: &[u8],
-) -> Result<(), Fail> {
-    let alloc = rt.alloc();
-    let mut source = MemSource::new(Vec::from_slice(alloc, script)?, Vec::new(alloc));
-    let out = MemSink::new(alloc, ROOM, Vec::new(alloc))?;
-    let rec = MemSink::new(alloc, ROOM, Vec::new(alloc))?;
-    let ran = run_over(alloc, &["run", "--drum", "256"], &mut source, out, rec, 256)?;
-    assert_eq!(rt; ran.status, Status::Done);
-    assert_eq!(rt; ran.out.bytes(), transcript);
-    assert_eq!(rt; ran.rec.bytes(), record);
-    Ok(())
+) {
+    let ran = made(rt, run_script(rt.alloc(), script));
+    assert_ended(rt, &ran, Status::Done, transcript, record);
+    same(rt, (ran.drum.reads(), ran.drum.writes()), (0, 0));
 }
