@@ -16,12 +16,12 @@ grows='file_dir create, delete=create moves the names behind the new one'
 timed='number_set tournament number_map page_files jfn_table file_dir frame_order drum_queue frame_table share_table script_lang tty_lines exec_cmd'
 
 mkdir -p "$work/crates/leaf_speed/src"
-for crate in word36 outside machine_names script_texts $timed; do
+for crate in word36 outside machine_names script_texts plain_files plain_typing $timed; do
     mkdir "$work/crates/$crate"
     find "$top/crates/$crate" -mindepth 1 -maxdepth 1 ! -name out -exec cp -r -t "$work/crates/$crate" {} +
     grep "^$crate:" "$top/crates.txt" >>"$work/crates.txt"
 done
-echo "leaf_speed: outside machine_names $timed" >>"$work/crates.txt"
+echo "leaf_speed: outside machine_names plain_typing $timed" >>"$work/crates.txt"
 printf 'Handles allowed: none.\n' >"$work/HANDLES"
 
 cat >"$work/crates/leaf_speed/src/main.rt" <<'PROGRAM'
@@ -38,12 +38,13 @@ use number_set::NumberSet;
 use outside::Memory;
 use page_files::{Files, Lengths, place};
 use machine_names::{Access, DirName, FileName, FileNo, ForkName, FrameId, Home, TERMINALS, Tty};
+use plain_typing::CONTROL_C;
 use script_lang::big_from;
 use share_table::{Pointer, Share, ShareTable, decode, encode};
 use std::io;
 use std::time::CpuClock;
 use tournament::Tournament;
-use tty_lines::{CONTROL_C, Line};
+use tty_lines::Line;
 
 // How many nanoseconds the last round of turns takes at least.
 const LONG: u128 = 10_000_000;

@@ -4,10 +4,14 @@
 #![tactic(auto)]
 
 #[cfg(test)]
-mod from_fork_calls__tests;
+mod fork_turns;
 #[cfg(test)]
-mod from_fork_tree__tests;
+mod jobs;
 #[cfg(test)]
-mod from_pmap_calls__tests;
+mod laws;
+#[cfg(test)]
+mod map_turns;
 #[cfg(test)]
 mod same;
+#[cfg(test)]
+mod trees;

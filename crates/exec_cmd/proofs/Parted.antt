@@ -9,7 +9,7 @@ use Rattle.std.proofs.lemmas.List.{append-nil, take-append-drop, drop_all, get_o
 use Rattle.std.proofs.lemmas.List.Elements.{All-head, All-tail, All-weaker, All-from_get_or, filter-append}
 use Rattle.std.proofs.lemmas.List.Splits.{slice_split_none}
 use Rattle.std.proofs.lemmas.List.Sums.{fails_before_first, passes_at_first, prefix_len-le-length}
-use Rattle.exec_cmd.specs.Words.{is_space, is_word, words}
+use Rattle.plain_typing.specs.Words.{is_space, is_word, words}
 
 -- a list is split into one part at least
 record Begins (parts : List (List ℕ)) : Type 0 where

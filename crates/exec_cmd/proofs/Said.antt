@@ -3,12 +3,12 @@ use Rattle.std.proofs.Common.{◌≡◌, ◌≢◌, ℕ, List, [], ◌∷◌, ge
 use Rattle.std.specs.Prelude.{codes, if◌then◌else◌}
 use Rattle.std.specs.Str.{bytes_eq}
 use lib.Pointwise.{bytes_decides}
-use Rattle.script_lang.specs.Names.{file_named, raised}
-use Rattle.exec_cmd.specs.declared.command.Command.{Command}
-use Rattle.exec_cmd.specs.declared.command.Command.TheVariants.{Blank, Run, Start, Continue, Directory, Delete, Logout, Unknown}
-use Rattle.exec_cmd.specs.Commands.{alone, command_in, command_of, for_file, says, with_name}
+use Rattle.machine_names.specs.FileNames.{file_named, raised}
+use Rattle.plain_typing.specs.declared.command.Command.{Command}
+use Rattle.plain_typing.specs.declared.command.Command.TheVariants.{Blank, Run, Start, Continue, Directory, Delete, Logout, Unknown}
+use Rattle.plain_typing.specs.Commands.{alone, command_in, command_of, for_file, says, with_name}
 use Rattle.exec_cmd.specs.Grammar.{Commands}
-use Rattle.exec_cmd.specs.Words.{words}
+use Rattle.plain_typing.specs.Words.{words}
 
 -- words that differ in a character
 pub differ : (xs ys : List ℕ) (i : ℕ) → (get_or xs i 0 ≡ get_or ys i 0 → ⊥) → bytes_eq xs ys ≡ false

@@ -1,9 +1,9 @@
 -- Which lines are which commands.
 use Rattle.std.specs.Prelude.{◌≡◌, ℕ, List, [], ◌∷◌, codes, Some}
-use Rattle.script_lang.specs.Names.{file_named, raised}
-use Rattle.exec_cmd.specs.declared.command.Command.{Command}
-use Rattle.exec_cmd.specs.declared.command.Command.TheVariants.{Blank, Run, Start, Continue, Directory, Delete, Logout, Unknown}
-use Rattle.exec_cmd.specs.Words.{words}
+use Rattle.machine_names.specs.FileNames.{file_named, raised}
+use Rattle.plain_typing.specs.declared.command.Command.{Command}
+use Rattle.plain_typing.specs.declared.command.Command.TheVariants.{Blank, Run, Start, Continue, Directory, Delete, Logout, Unknown}
+use Rattle.plain_typing.specs.Words.{words}
 
 -- the only word of a line is this one
 abbrev pub IsAlone : List ℕ → List ℕ → Type 0

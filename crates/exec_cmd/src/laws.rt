@@ -1,9 +1,9 @@
 // What follows from the definitions, in the words of their users. A law does nothing when it runs.
 ghost use Rattle.std.specs.Prelude.{◌≡◌, ◌≢◌, ◌↔◌, ℕ, List, [], ◌∷◌, ◌++◌, All};
-ghost use Rattle.exec_cmd.specs.Commands.{command_of};
+ghost use Rattle.plain_typing.specs.Commands.{command_of};
 ghost use Rattle.exec_cmd.specs.Grammar.{Commands as AreCommands};
-ghost use Rattle.exec_cmd.specs.Words.{words};
-ghost use Rattle.exec_cmd.specs.declared.command.Command.{Command as ACommand};
+ghost use Rattle.plain_typing.specs.Words.{words};
+ghost use Rattle.plain_typing.specs.declared.command.Command.{Command as ACommand};
 
 /// A user's line is a command exactly where its words are those of the command, so that it is one
 /// command at most; and it is unknown exactly where it is no command.

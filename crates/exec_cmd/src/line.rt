@@ -1,10 +1,10 @@
 // A line as a command.
 ghost use Rattle.std.specs.Prelude.{◌≡◌};
-ghost use Rattle.exec_cmd.specs.Commands.{alone as command_alone, command_of, for_file, with_name as command_with_name};
+ghost use Rattle.plain_typing.specs.Commands.{alone as command_alone, command_of, for_file, with_name as command_with_name};
 
-use crate::command::Command;
 use crate::words::{first_word, says};
 use machine_names::{DirName, FileName};
+use plain_typing::Command;
 use script_lang::read_name;
 
 /// The command that a user's line is: `Blank` exactly where it has no word, and `Unknown` exactly where

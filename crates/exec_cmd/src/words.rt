@@ -1,8 +1,8 @@
 // The words of a line.
 ghost use Rattle.std.specs.Prelude.{◌≡◌, ◌≤◌, [], ◌∷◌, length, not, MatchOption};
 ghost use Rattle.std.specs.List.{position, position_or_len};
-ghost use Rattle.exec_cmd.specs.Commands.{says as says_in};
-ghost use Rattle.exec_cmd.specs.Words.{is_space, words};
+ghost use Rattle.plain_typing.specs.Commands.{says as says_in};
+ghost use Rattle.plain_typing.specs.Words.{is_space, words};
 
 /// The first word of a line, and what stands behind it. None exactly where the line has no word.
 pub(crate) fn first_word(line: &[u8]) -> Option<(&[u8], &[u8])>

@@ -5,7 +5,7 @@ use Rattle.std.specs.Bool.{then_some}
 use Rattle.std.proofs.lemmas.Bool.{cases_eq, cases_lt}
 use Rattle.std.specs.FinMap as map
 use Rattle.machine_names.specs.declared.names.FileNo.{FileNo}
-use Rattle.file_dir.specs.Files.{AreFiles, ComesAfter, ComesBefore, Files, IsInDirectory, IsNext}
+use Rattle.plain_files.specs.Directory.{AreFiles, ComesAfter, ComesBefore, Files, IsInDirectory, IsNext}
 use Rattle.file_dir.specs.Order.{IsBehind, IsOrder, file_at}
 use Rattle.file_dir.proofs.Texts.{before_itself, before_back, between, front_first}
 use Rattle.file_dir.proofs.Places.{IsSplit, named_at, one_value, there}

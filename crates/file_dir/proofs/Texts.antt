@@ -6,7 +6,7 @@ use Rattle.std.specs.declared.cmp.Ordering.TheVariants.{Less, Equal, Greater}
 use Rattle.std.proofs.lemmas.Cmp.{nat_cmp_total, nat_list_cmp_total, tied_itself}
 use Rattle.std.specs.FinMap.{nat_cmp-IsAntisymmetric, slice_cmp-IsAntisymmetric}
 use Rattle.machine_names.specs.Orders.{name_cmp}
-use Rattle.file_dir.specs.Files.{ComesBefore}
+use Rattle.plain_files.specs.Directory.{ComesBefore}
 
 pub before_itself : (a : List ℕ) → ComesBefore a a → ⊥
 before_itself a h = let tied : name_cmp a a ≡ Equal = tied_itself nat_list_cmp_total a in cc (tied, h)

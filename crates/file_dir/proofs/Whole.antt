@@ -8,7 +8,7 @@ use Rattle.std.proofs.lemmas.List.Kept.{AllPairs-cons}
 use Rattle.std.specs.FinMap as map
 use Rattle.number_map.proofs.Keys.{get_put, get_put_other, get_gone, get_gone_other}
 use Rattle.machine_names.specs.declared.names.FileNo.{FileNo}
-use Rattle.file_dir.specs.Files.{AreFiles, ComesAfter, ComesBefore, Creates, Files, IsAbsent, IsNext}
+use Rattle.plain_files.specs.Directory.{AreFiles, ComesAfter, ComesBefore, Creates, Files, IsAbsent, IsNext}
 use Rattle.file_dir.specs.Listing.{IsWhole, Lists, StandsBefore}
 use Rattle.file_dir.proofs.Places.{not_both, one_value}
 use Rattle.file_dir.proofs.Texts.{before_both, compared}

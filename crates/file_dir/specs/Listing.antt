@@ -3,7 +3,7 @@ use Rattle.std.specs.Prelude.{◌≡◌, ◌↔◌, List, [], ◌∷◌, Option,
 use Rattle.std.specs.List.{AllPairs, Contains}
 use Rattle.std.specs.FinMap as map
 use Rattle.machine_names.specs.declared.names.FileNo.{FileNo}
-use Rattle.file_dir.specs.Files.{ComesAfter, ComesBefore, Files, IsInDirectory, IsNext}
+use Rattle.plain_files.specs.Directory.{ComesAfter, ComesBefore, Files, IsInDirectory, IsNext}
 
 -- each of these files is the next one after the one before it, and none comes after the last
 abbrev pub Lists : Files → List ℕ → Option FileNo → List FileNo → Type 0

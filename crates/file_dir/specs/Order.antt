@@ -4,7 +4,7 @@ use Rattle.std.specs.Ordering.{is_lt}
 use Rattle.std.specs.FinMap as map
 use Rattle.machine_names.specs.declared.names.FileNo.{FileNo}
 use Rattle.machine_names.specs.Orders.{name_cmp}
-use Rattle.file_dir.specs.Files.{ComesBefore, Files}
+use Rattle.plain_files.specs.Directory.{ComesBefore, Files}
 
 -- the file at a place of a list of files
 abbrev pub file_at : List FileNo → ℕ → ℕ

@@ -2,14 +2,14 @@
 ghost use Rattle.std.specs.Prelude.{◌≡◌, ℕ, IfOk, IfSome, IsSome, MatchOption, MatchResult, Some};
 ghost use Rattle.std.specs.FinMap as map;
 ghost use Rattle.machine_names.specs.Bounds.{IsFileName};
-ghost use Rattle.file_dir.specs.Files.{AreFiles, ComesAfter, Creates, IsAbsent, IsNext};
+ghost use Rattle.plain_files.specs.Directory.{AreFiles, ComesAfter, Creates, IsAbsent, IsNext};
 
 use crate::order::{Names, count_before, place_behind, place_of};
 use crate::reading::joined;
 use machine_names::{DirName, FileName, FileNo};
 use number_map::NumberMap;
 use outside::Memory;
-use page_files::MOST_FILES;
+use plain_files::MOST_FILES;
 use std::alloc::Global;
 use std::marker::Model;
 
@@ -30,8 +30,8 @@ impl Model for Dir {
     ghost use Rattle.std.specs.Coded.{coded_list, coded_ℕ};
     ghost use Rattle.std.specs.FinMap as map;
     ghost use Rattle.std.specs.Vec.{vec_capacity};
-    ghost use Rattle.page_files.specs.declared.bytes.TheConstants.{MOST_FILES};
-    ghost use Rattle.file_dir.specs.Files.{AreFiles, Files};
+    ghost use Rattle.plain_files.specs.declared.bounds.TheConstants.{MOST_FILES};
+    ghost use Rattle.plain_files.specs.Directory.{AreFiles, Files};
     ghost use Rattle.file_dir.specs.Order.{IsOrder};
 
     ghost Value = { Files };

@@ -2,7 +2,7 @@
 ghost use Rattle.std.specs.Prelude.{◌≡◌, ◌≢◌, ◌↔◌, ℕ, List, None, Some};
 ghost use Rattle.std.specs.FinMap as map;
 ghost use Rattle.machine_names.specs.declared.names.FileNo.{FileNo as AFileNo};
-ghost use Rattle.file_dir.specs.Files.{AreFiles, Creates, Files, IsAbsent};
+ghost use Rattle.plain_files.specs.Directory.{AreFiles, Creates, Files, IsAbsent};
 ghost use Rattle.file_dir.specs.Listing.{IsWhole, Lists};
 
 /// What was created is found under its name, alone, and every other file stays. What was deleted

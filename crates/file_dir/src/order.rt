@@ -6,7 +6,7 @@ ghost use Rattle.file_dir.specs.Order.{IsBehind, IsOrder, file_at, precedes};
 
 use machine_names::{FileName, FileNo};
 use number_map::NumberMap;
-use page_files::MOST_FILES;
+use plain_files::MOST_FILES;
 
 /// The full name of each file, by number.
 pub(crate) type Names = NumberMap<FileName, MOST_FILES>;

@@ -2,7 +2,7 @@
 ghost use Rattle.std.specs.Prelude.{◌≡◌, ◌<◌, [], length, IfSome, MatchOption};
 ghost use Rattle.machine_names.specs.Bounds.{IsFileName};
 ghost use Rattle.std.specs.List.{flat_map};
-ghost use Rattle.script_lang.specs.Names.{file_named};
+ghost use Rattle.machine_names.specs.FileNames.{file_named};
 
 use arrayvec::ArrayVec;
 use machine_names::{DirName, FileName};

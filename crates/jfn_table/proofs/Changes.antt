@@ -7,10 +7,11 @@ use Rattle.std.specs.Ordering.{nat_cmp}
 use Rattle.std.specs.FinMap as map
 use Rattle.number_map.proofs.Keys.{get_put, get_put_other, get_gone, get_gone_other, same}
 use Rattle.number_map.proofs.Full.{IsWithin, len_most}
-use Rattle.machine_names.specs.declared.file.Jfn.{Jfn}
-use Rattle.page_files.specs.declared.bytes.TheConstants.{MOST_FILES}
-use Rattle.jfn_table.specs.declared.jfns.TheConstants.{MOST_JFNS}
-use Rattle.jfn_table.specs.JobFiles.{AreJfns, CountNames, FitsJfn, Held, NamesNowhere, names_in, taken}
+use Rattle.plain_files.specs.declared.jfn.Jfn.{Jfn}
+use Rattle.plain_files.specs.declared.bounds.TheConstants.{MOST_FILES}
+use Rattle.plain_files.specs.declared.bounds.TheConstants.{MOST_JFNS}
+use Rattle.jfn_table.specs.Counts.{CountNames}
+use Rattle.plain_files.specs.JobFiles.{AreJfns, FitsJfn, Held, NamesNowhere, names_in, taken}
 use Rattle.jfn_table.proofs.Entries.{passing_put, passing_gone, passing_replaced, passing_most}
 
 -- whether a JFN names a file

@@ -1,3 +1,2 @@
-pub mod JobFiles
-pub mod Jobs
 pub mod Lending
+pub mod Counts

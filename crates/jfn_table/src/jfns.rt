@@ -2,18 +2,15 @@
 ghost use Rattle.std.specs.Prelude.{◌≡◌, ℕ, ◌<◌, ◌≤◌, IfOk, IfSome, IsSome, MatchResult};
 ghost use Rattle.std.specs.Option.{IsSomeAnd};
 ghost use Rattle.std.specs.FinMap as map;
-ghost use Rattle.page_files.specs.Bytes.{IsByteSize, most_bytes};
-ghost use Rattle.jfn_table.specs.JobFiles.{AreJfns, CanSeek, FitsJfn, TakesLeast, moved, names_in, opened};
+ghost use Rattle.plain_files.specs.Bytes.{IsByteSize, most_bytes};
+ghost use Rattle.plain_files.specs.JobFiles.{AreJfns, CanSeek, FitsJfn, TakesLeast, moved, names_in, opened};
 
-use machine_names::{FileNo, Jfn, Mode};
+use machine_names::FileNo;
 use number_map::NumberMap;
 use outside::Memory;
-use page_files::{LARGEST_BYTE, MOST_FILES};
+use plain_files::{Jfn, LARGEST_BYTE, MOST_FILES, MOST_JFNS, Mode};
 use std::alloc::Global;
 use std::marker::Model;
-
-/// How many JFNs a job may hold. They are numbered from 1.
-pub const MOST_JFNS: usize = 20;
 
 // The first number of a JFN.
 const FIRST_JFN: usize = 1;
@@ -37,8 +34,9 @@ pub struct Jfns {
 impl Model for Jfns {
     ghost use Rattle.std.specs.Coded.{coded_ℕ};
     ghost use Rattle.std.specs.FinMap as map;
-    ghost use Rattle.machine_names.specs.contracts.file.Jfn.{the_row};
-    ghost use Rattle.jfn_table.specs.JobFiles.{AreJfns, CountNames, Held};
+    ghost use Rattle.plain_files.specs.contracts.jfn.Jfn.{the_row};
+    ghost use Rattle.jfn_table.specs.Counts.{CountNames};
+    ghost use Rattle.plain_files.specs.JobFiles.{AreJfns, Held};
 
     ghost Value = { Held };
 

@@ -1,13 +1,13 @@
 // The JFNs of all jobs.
 ghost use Rattle.std.specs.Prelude.{◌≡◌, ◌<◌, IfOk};
 ghost use Rattle.std.specs.Borrow.{sem};
-ghost use Rattle.jfn_table.specs.Jobs.{jfns_of, names_in_all, no_jfns};
+ghost use Rattle.plain_files.specs.Jobs.{jfns_of, names_in_all, no_jfns};
 ghost use Rattle.jfn_table.specs.Lending.{LendsJfns};
 
 use crate::Jfns;
 use machine_names::{FileNo, TERMINALS, Tty};
 use outside::Memory;
-use page_files::MOST_FILES;
+use plain_files::MOST_FILES;
 use std::alloc::Global;
 use std::marker::Model;
 
@@ -22,7 +22,7 @@ impl Model for JobJfns {
     ghost use Rattle.std.specs.Coded.{coded_list};
     ghost use Rattle.machine_names.specs.declared.names.TheConstants.{TERMINALS};
     ghost use Rattle.jfn_table.specs.contracts.jfns.Jfns.{the_row as jfns_row};
-    ghost use Rattle.jfn_table.specs.JobFiles.{Held};
+    ghost use Rattle.plain_files.specs.JobFiles.{Held};
 
     ghost Value = { List Held };
 

@@ -1,8 +1,8 @@
 // What follows from the definitions, in the words of their users. A law does nothing when it runs.
 ghost use Rattle.std.specs.Prelude.{◌≡◌, ◌≢◌, ◌↔◌, ◌+◌, ℕ, Some, None};
 ghost use Rattle.std.specs.FinMap as map;
-ghost use Rattle.machine_names.specs.declared.file.Jfn.{Jfn as AJfn};
-ghost use Rattle.jfn_table.specs.JobFiles.{AreJfns, Held, NamesNowhere, names_in, taken};
+ghost use Rattle.plain_files.specs.declared.jfn.Jfn.{Jfn as AJfn};
+ghost use Rattle.plain_files.specs.JobFiles.{AreJfns, Held, NamesNowhere, names_in, taken};
 
 /// A JFN that is taken for a file names it once more, and no other file; one that is released names
 /// it no longer.

@@ -1,5 +1,5 @@
 pub mod FixedText
 pub mod Orders
-pub mod Files
 pub mod PageWords
 pub mod Bounds
+pub mod FileNames

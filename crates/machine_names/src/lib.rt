@@ -5,13 +5,11 @@
 
 mod bounds;
 pub mod character;
-mod file;
 mod homes;
 mod names;
 mod text;
 
 pub use bounds::bounds_hold;
-pub use file::{Jfn, Mode};
 pub use homes::{FrameId, Home, MOST_HOMES};
 pub use names::{
     ACCUMULATORS, Access, FileNo, ForkName, Kind, LAST_SERIAL, MOST_FORKS, PageName, Place,

@@ -4,22 +4,20 @@
 #![tactic(auto)]
 
 #[cfg(test)]
-mod from_ka10_alu__arithmetic_tests;
+mod arithmetic;
 #[cfg(test)]
-mod from_ka10_alu__booleans;
+mod booleans;
 #[cfg(test)]
-mod from_ka10_alu__conditions;
+mod byte_pointers;
 #[cfg(test)]
-mod from_ka10_alu__halves;
+mod conditions;
 #[cfg(test)]
-mod from_ka10_alu__shifts_tests;
+mod halves;
 #[cfg(test)]
-mod from_ka10_alu__tests;
+mod masked_bits;
 #[cfg(test)]
-mod from_ka10_bytes__bytes;
-#[cfg(test)]
-mod from_ka10_bytes__pointers;
-#[cfg(test)]
-mod from_ka10_table__rows;
+mod rows;
 #[cfg(test)]
 mod same;
+#[cfg(test)]
+mod shifts;

@@ -4,7 +4,8 @@ use Rattle.std.specs.Prelude.{replicate}
 use Rattle.std.proofs.lemmas.List.{get_or-map, map-set}
 use Rattle.std.proofs.lemmas.List.Elements.{All-replicate, All-set}
 use Rattle.page_files.specs.declared.lengths.FileLength.{FileLength}
-use Rattle.page_files.specs.Sizes.{FitsFile, file_at, new_file, plain_file, plain_files}
+use Rattle.page_files.specs.Sizes.{plain_file, plain_files}
+use Rattle.plain_files.specs.Sizes.{FitsFile, file_at, new_file}
 
 pub got : (fs : List FileLength) (i : ℕ) (d : FileLength) → i < length fs → file_at (plain_files fs) i ≡ plain_file (get_or fs i d)
 unfolding plain_files

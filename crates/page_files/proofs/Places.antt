@@ -3,8 +3,8 @@ use Rattle.std.proofs.Common.{◌≡◌, ℕ, ◌+◌, ◌-◌, ◌*◌, ◌/◌
 use Rattle.std.proofs.Math.Nat.{le-div_iff_mul-le, mul-div-le, mul-le-mul_left, mod-lt}
 use Rattle.std.proofs.lemmas.Nat.{div-mul-add, mod-mul-add, div-add-mod'}
 use Rattle.std.proofs.lemmas.Bool.{cases_lt}
-use Rattle.page_files.specs.declared.bytes.TheConstants.{LARGEST_BYTE}
-use Rattle.page_files.specs.Bytes.{IsByteSize, IsNextPlace, bytes_per_word}
+use Rattle.plain_files.specs.declared.bounds.TheConstants.{LARGEST_BYTE}
+use Rattle.plain_files.specs.Bytes.{IsByteSize, IsNextPlace, bytes_per_word}
 
 module _ (size at k q r : ℕ) (h : IsByteSize size) (fits : size * k ≤ LARGEST_BYTE) (is : at ≡ q * k + r) (below : r < k) where
   -- the quotient and the remainder of the next number

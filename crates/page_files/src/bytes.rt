@@ -1,17 +1,9 @@
-// How many files and pages there are, and where the bytes of a file stand.
+// Where the bytes of a file stand.
 ghost use Rattle.std.specs.Prelude.{◌≡◌, ◌<◌, ◌≤◌, ◌/◌};
-ghost use Rattle.page_files.specs.Bytes.{IsByteSize, most_bytes as room_for, page_of_byte, offset_of_byte, pointer_to_byte};
+ghost use Rattle.plain_files.specs.Bytes.{IsByteSize, most_bytes as room_for, page_of_byte, offset_of_byte, pointer_to_byte};
 
+use plain_files::{FILE_PAGES, LARGEST_BYTE};
 use word36::Word;
-
-/// How many files there may be. They are numbered from 0.
-pub const MOST_FILES: usize = 512;
-
-/// How many pages a file may have. They are numbered from 0.
-pub const FILE_PAGES: usize = 512;
-
-/// How many bits a byte has at most: those of a word.
-pub const LARGEST_BYTE: u8 = 36;
 
 // How many words a page has.
 const PAGE_WORDS: u64 = outside::PAGE_WORDS as u64;

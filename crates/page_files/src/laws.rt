@@ -2,7 +2,7 @@
 ghost use Rattle.std.specs.Prelude.{◌≡◌, ◌≢◌, ℕ};
 ghost use Rattle.std.specs.FinMap as map;
 ghost use Rattle.machine_names.specs.Orders.{FilePage};
-ghost use Rattle.page_files.specs.Bytes.{IsByteSize, IsNextPlace};
+ghost use Rattle.plain_files.specs.Bytes.{IsByteSize, IsNextPlace};
 ghost use Rattle.page_files.specs.Pages.{OthersStay, PagesOf};
 
 /// Each byte of a file stands next to the one before it: to its right in the same word, or leftmost

@@ -1,11 +1,11 @@
 // The lengths of files.
 ghost use Rattle.std.specs.Prelude.{◌≡◌, ◌<◌, ◌≤◌, IfOk, replicate, slice_set};
-ghost use Rattle.page_files.specs.Bytes.{IsByteSize, most_bytes as room_for};
-ghost use Rattle.page_files.specs.Sizes.{FitsFile, file_at, new_file};
+ghost use Rattle.plain_files.specs.Bytes.{IsByteSize, most_bytes as room_for};
+ghost use Rattle.plain_files.specs.Sizes.{FitsFile, file_at, new_file};
 
-use crate::{LARGEST_BYTE, MOST_FILES};
 use machine_names::FileNo;
 use outside::Memory;
+use plain_files::{LARGEST_BYTE, MOST_FILES};
 use std::alloc::Global;
 use std::marker::Model;
 
@@ -24,9 +24,10 @@ pub struct Lengths {
 
 impl Model for Lengths {
     ghost use Rattle.std.specs.Prelude.{◌≡◌, List, All, vec_len};
-    ghost use Rattle.machine_names.specs.Files.{PlainFile};
-    ghost use Rattle.page_files.specs.declared.bytes.TheConstants.{MOST_FILES};
-    ghost use Rattle.page_files.specs.Sizes.{FitsFile, plain_files};
+    ghost use Rattle.plain_files.specs.Sizes.{PlainFile};
+    ghost use Rattle.plain_files.specs.declared.bounds.TheConstants.{MOST_FILES};
+    ghost use Rattle.page_files.specs.Sizes.{plain_files};
+    ghost use Rattle.plain_files.specs.Sizes.{FitsFile};
 
     ghost Value = { List PlainFile };
 

@@ -8,7 +8,7 @@ mod files;
 mod laws;
 mod lengths;
 
-pub use bytes::{FILE_PAGES, LARGEST_BYTE, MOST_FILES, most_bytes, place};
+pub use bytes::{most_bytes, place};
 pub use files::Files;
 pub use laws::{bytes_follow_each_other, others_keep_their_pages};
 pub use lengths::Lengths;

@@ -4,11 +4,11 @@ use Rattle.std.specs.Ordering.{nat_cmp}
 use Rattle.std.specs.FinMap as map
 use Rattle.machine_names.specs.declared.names.ForkName.{ForkName}
 use Rattle.plain_model.specs.declared.fork.Fork.{Fork}
-use Rattle.machine_names.specs.declared.file.Mode.{Mode}
+use Rattle.plain_files.specs.declared.jfn.Mode.{Mode}
 use Rattle.plain_model.specs.declared.fork.TerminalMode.{TerminalMode}
 use Rattle.machine_names.specs.Orders.{fork_cmp, name_cmp}
 use Rattle.plain_pages.specs.PlainPages.{NamedPages, first_serials, opening_pages}
-use Rattle.machine_names.specs.Files.{PlainFile}
+use Rattle.plain_files.specs.Sizes.{PlainFile}
 
 -- what a JFN stands for: the name of a file, how it is open, the position and its byte size
 pub record OpenFile : Type 0 where

@@ -9,7 +9,7 @@ use Rattle.std.proofs.lemmas.List.Elements.{All-from_get_or}
 use Rattle.std.proofs.lemmas.List.Sums.{split_at_first, fails_before_first, passes_at_first, AllPass-from_list_all, list_all-from_AllPass}
 use Rattle.machine_names.specs.Bounds.{IsDirName, IsFileName, is_name_code}
 use Rattle.script_lang.specs.Fields.{AreParts}
-use Rattle.script_lang.specs.Names.{are_parts, before, behind, directory_before, extension_behind, file_named, full_name, is_cut_name, is_dir_name, is_file_name, raised, stands_in}
+use Rattle.machine_names.specs.FileNames.{are_parts, before, behind, directory_before, extension_behind, file_named, full_name, is_cut_name, is_dir_name, is_file_name, raised, stands_in}
 use Rattle.script_lang.proofs.Fronts.{name_lacks}
 use Rattle.script_lang.proofs.Splits.{IsNot, one_split}
 

@@ -9,7 +9,7 @@ use Rattle.script_texts.specs.declared.event.Event.{Event}
 use Rattle.script_texts.specs.declared.event.Event.TheVariants.{Login, File, Words, Poke, Start as Starts, Run, Tick, Evict, Forks}
 use Rattle.machine_names.specs.Bounds.{IsDirName, IsFileName, is_name_code}
 use Rattle.script_texts.specs.Limits.{FitsRow}
-use Rattle.script_lang.specs.Names.{is_file_name}
+use Rattle.machine_names.specs.FileNames.{is_file_name}
 use Rattle.script_lang.specs.Generator.{big_events, drawn, first_number, generated_file, next_number, one_word, pokes, program_words, terminal}
 use Rattle.script_lang.specs.Stages.{Moves, behind_code, evicting, filing, loading, rest_of}
 use Rattle.script_lang.specs.declared.stages.Loading.TheVariants.{Code, Address, Turns, Stride, Start}

@@ -5,6 +5,5 @@ pub mod Grammar
 pub mod Feeds
 pub mod Lines
 pub mod Canonical
-pub mod Names
 pub mod Generator
 pub mod Stages

@@ -1,7 +1,7 @@
 // The files that texts name.
 ghost use Rattle.std.specs.Prelude.{◌≡◌, ◌+◌, ◌<◌, ◌++◌, ◌↔◌, ℕ, List, length, MatchOption, Some, true};
 ghost use Rattle.machine_names.specs.Bounds.{IsFileName};
-ghost use Rattle.script_lang.specs.Names.{directory_before, extension_behind, file_named, full_name as full_name_of, has_directory as opens, has_point as is_pointed, is_file_name, raised};
+ghost use Rattle.machine_names.specs.FileNames.{directory_before, extension_behind, file_named, full_name as full_name_of, has_directory as opens, has_point as is_pointed, is_file_name, raised};
 
 use crate::names::{MOST_FILE, file_name};
 use arrayvec::ArrayVec;

@@ -4,28 +4,34 @@
 #![tactic(auto)]
 
 #[cfg(test)]
-mod from_drum_queue__tests;
+mod commands;
 #[cfg(test)]
-mod from_exec_cmd__tests;
+mod directory;
 #[cfg(test)]
-mod from_file_dir__tests;
+mod entries;
 #[cfg(test)]
-mod from_frame_order__tests;
+mod files;
 #[cfg(test)]
-mod from_frame_table__tests;
+mod frames;
 #[cfg(test)]
-mod from_jfn_table__tests;
+mod jfns;
 #[cfg(test)]
-mod from_number_map__number_map;
+mod keys;
 #[cfg(test)]
-mod from_number_set__tests;
+mod laws;
 #[cfg(test)]
-mod from_page_files__tests;
+mod made;
 #[cfg(test)]
-mod from_share_table__tests;
+mod numbers;
 #[cfg(test)]
-mod from_tournament__tests;
-#[cfg(test)]
-mod from_tty_lines__tests;
+mod orders;
 #[cfg(test)]
 mod same;
+#[cfg(test)]
+mod shares;
+#[cfg(test)]
+mod transfers;
+#[cfg(test)]
+mod typing;
+#[cfg(test)]
+mod values;

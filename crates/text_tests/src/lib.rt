@@ -4,22 +4,30 @@
 #![tactic(auto)]
 
 #[cfg(test)]
-mod from_command_words__tests;
+mod canonical;
 #[cfg(test)]
-mod from_machine_names__tests;
+mod drums;
 #[cfg(test)]
-mod from_outside__tests;
+mod events;
 #[cfg(test)]
-mod from_script_lang__big_tests;
+mod file_names;
 #[cfg(test)]
-mod from_script_lang__canonical_tests;
+mod fixed_texts;
 #[cfg(test)]
-mod from_script_lang__named_tests;
+mod generated;
 #[cfg(test)]
-mod from_script_lang__tests;
+mod laws;
 #[cfg(test)]
-mod from_tenex_console__tests;
+mod lines;
 #[cfg(test)]
-mod from_texts__tests;
+mod pieces;
+#[cfg(test)]
+mod runs;
 #[cfg(test)]
 mod same;
+#[cfg(test)]
+mod sizes;
+#[cfg(test)]
+mod streams;
+#[cfg(test)]
+mod writing;

@@ -8,8 +8,8 @@ use Rattle.std.specs.Cmp.{nat_cmp_total}
 use Rattle.std.specs.FinMap as map
 use Rattle.machine_names.specs.declared.names.ForkName.{ForkName}
 use Rattle.number_map.proofs.Keys.{get_gone, get_gone_other, get_put, get_put_other, same}
-use Rattle.tty_lines.specs.declared.typing.TheConstants.{ASSIGNABLE_CODES}
-use Rattle.tty_lines.specs.Lines.{Codes, AreAssigned, IsAssignable, IsLine, assigned_to, without_codes_of}
+use Rattle.plain_typing.specs.declared.typed.TheConstants.{ASSIGNABLE_CODES}
+use Rattle.plain_typing.specs.Lines.{Codes, AreAssigned, IsAssignable, IsLine, assigned_to, without_codes_of}
 
 turned : {A : Type 0} (b : _) (x y : A) → cond (not b) x y ≡ cond b y x
 turned true x y = refl

@@ -6,12 +6,12 @@ use Rattle.std.specs.FinMap as map
 use Rattle.std.proofs.lemmas.List.{take-append-le, take_all}
 use Rattle.std.proofs.lemmas.Bool.{ltb-true, ltb-false}
 use Rattle.machine_names.specs.declared.names.ForkName.{ForkName}
-use Rattle.tty_lines.specs.declared.typing.Typed.{Typed}
-use Rattle.tty_lines.specs.declared.typing.Typed.TheVariants.{Stored, Dropped, Posts, ControlC}
-use Rattle.tty_lines.specs.declared.typing.TheConstants.{CONTROL_C, MOST_STORED}
-use Rattle.tty_lines.specs.Characters.{read_as}
-use Rattle.tty_lines.specs.Lines.{InputLine}
-use Rattle.tty_lines.specs.Typing.{fate_of, is_input, left_by, posted_or_stored, typed_all}
+use Rattle.plain_typing.specs.declared.typed.Typed.{Typed}
+use Rattle.plain_typing.specs.declared.typed.Typed.TheVariants.{Stored, Dropped, Posts, ControlC}
+use Rattle.plain_typing.specs.declared.typed.TheConstants.{CONTROL_C, MOST_STORED}
+use Rattle.plain_typing.specs.Characters.{read_as}
+use Rattle.plain_typing.specs.Lines.{InputLine}
+use Rattle.plain_typing.specs.Typing.{fate_of, is_input, left_by, posted_or_stored, typed_all}
 
 -- the line has of these what goes to the program, up to the most that it stores
 abbrev IsInOrder : List ℕ → Type 0

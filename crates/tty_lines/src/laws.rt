@@ -1,10 +1,10 @@
 // What follows from the definitions, in the words of their users. A law does nothing when it runs.
 ghost use Rattle.std.specs.Prelude.{◌≡◌, ℕ, ◌<◌, ◌≤◌, List, ◌++◌, length, map, take, slice_get};
 ghost use Rattle.std.specs.List.{filter};
-ghost use Rattle.tty_lines.specs.Characters.{read_as};
-ghost use Rattle.tty_lines.specs.Lines.{InputLine};
-ghost use Rattle.tty_lines.specs.Typing.{fate_of, is_input, left_by, typed_all};
-ghost use Rattle.tty_lines.specs.declared.typing.TheConstants.{MOST_STORED};
+ghost use Rattle.plain_typing.specs.Characters.{read_as};
+ghost use Rattle.plain_typing.specs.Lines.{InputLine};
+ghost use Rattle.plain_typing.specs.Typing.{fate_of, is_input, left_by, typed_all};
+ghost use Rattle.plain_typing.specs.declared.typed.TheConstants.{MOST_STORED};
 
 /// What is typed changes nothing of what was stored before it: the oldest character stays the
 /// oldest.

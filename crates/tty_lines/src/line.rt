@@ -1,15 +1,16 @@
 // The line of a job's terminal.
 ghost use Rattle.std.specs.Prelude.{◌≡◌, ◌<◌, ◌↔◌, [], drop, slice_get, IsTrue, IfOk, IfSome};
 ghost use Rattle.std.specs.FinMap as map;
-ghost use Rattle.tty_lines.specs.Characters.{read_as as is_read_as};
-ghost use Rattle.tty_lines.specs.Lines.{AreAssigned, IsAssignable, IsLine, assigned_to, new_line, without_codes_of};
-ghost use Rattle.tty_lines.specs.Typing.{fate_of, left_by};
+ghost use Rattle.plain_typing.specs.Characters.{read_as as is_read_as};
+ghost use Rattle.plain_typing.specs.Lines.{AreAssigned, IsAssignable, IsLine, assigned_to, new_line, without_codes_of};
+ghost use Rattle.plain_typing.specs.Typing.{fate_of, left_by};
 
-use crate::typing::{ASSIGNABLE_CODES, CONTROL_C, MOST_STORED, Typed, read_as};
+use crate::read_as;
 use circular_buffer::HeapCircularBuffer;
 use machine_names::ForkName;
 use number_map::NumberMap;
 use outside::Memory;
+use plain_typing::{ASSIGNABLE_CODES, CONTROL_C, MOST_STORED, Typed};
 use std::alloc::Global;
 use std::marker::Model;
 
@@ -26,8 +27,8 @@ pub struct Line {
 
 impl Model for Line {
     ghost use Rattle.std.specs.Prelude.{◌≡◌};
-    ghost use Rattle.tty_lines.specs.declared.typing.TheConstants.{MOST_STORED};
-    ghost use Rattle.tty_lines.specs.Lines.{InputLine, IsLine, line_code};
+    ghost use Rattle.plain_typing.specs.declared.typed.TheConstants.{MOST_STORED};
+    ghost use Rattle.plain_typing.specs.Lines.{InputLine, IsLine, line_code};
 
     ghost Value = { InputLine };
 

@@ -4,9 +4,23 @@
 #![tactic(auto)]
 
 #[cfg(test)]
+mod acts;
+#[cfg(test)]
+mod addresses;
+#[cfg(test)]
 mod bursts;
 #[cfg(test)]
+mod byte_steps;
+#[cfg(test)]
+mod commits;
+#[cfg(test)]
+mod operands;
+#[cfg(test)]
+mod page_steps;
+#[cfg(test)]
 mod runs;
+#[cfg(test)]
+mod same;
 #[cfg(test)]
 mod spaces;
 #[cfg(test)]

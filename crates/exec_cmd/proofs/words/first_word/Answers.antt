@@ -2,7 +2,7 @@ use Rattle.std.proofs.Common.{◌∙◌, ◌-◌, List, ℕ, ◌∷◌, length, 
 use Rattle.std.specs.Prelude.{not}
 use Rattle.std.specs.List.{position_or_len}
 use Rattle.std.proofs.lemmas.List.{take_rest}
-use Rattle.exec_cmd.specs.Words.{is_space, words}
+use Rattle.plain_typing.specs.Words.{is_space, words}
 use Rattle.exec_cmd.proofs.Parted.{first-word, found, not_found, words-blank}
 use Rattle.exec_cmd.proofs.words.first_word.Goals as goal
 

@@ -3,7 +3,7 @@ use Rattle.std.specs.Char.{to_ascii_uppercase}
 use Rattle.std.proofs.Math.ListN.{get_or-map}
 use Rattle.std.proofs.lemmas.List.{ext_get_or, length-map}
 use lib.Pointwise.{bytes_decides}
-use Rattle.script_lang.specs.Names.{raised}
+use Rattle.machine_names.specs.FileNames.{raised}
 use Rattle.exec_cmd.proofs.Said.{differ}
 use Rattle.exec_cmd.proofs.words.says.Goals as goal
 

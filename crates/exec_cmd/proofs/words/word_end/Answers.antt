@@ -2,7 +2,7 @@ use Rattle.std.proofs.Common.{◌∙◌, ap, arith, length}
 use Rattle.std.proofs.lemmas.List.Sums.{prefix_len-le-length}
 use Rattle.std.specs.Prelude.{not}
 use Rattle.std.specs.Option.{unwrap_or}
-use Rattle.exec_cmd.specs.Words.{is_space}
+use Rattle.plain_typing.specs.Words.{is_space}
 use Rattle.exec_cmd.proofs.Parted.{found_or}
 use Rattle.exec_cmd.proofs.words.word_end.Goals as goal
 

@@ -1,7 +1,7 @@
 use Rattle.std.proofs.Common.{◌≡◌, ℕ, List, Option, None, Some, sym}
 use Rattle.std.specs.Prelude.{IfSome}
 use Rattle.machine_names.specs.Bounds.{IsFileName}
-use Rattle.script_lang.specs.Names.{file_named}
+use Rattle.machine_names.specs.FileNames.{file_named}
 use Rattle.script_lang.proofs.FullNames.{what_is_named}
 use Rattle.file_dir.proofs.reading.read_name.Goals as goal
 

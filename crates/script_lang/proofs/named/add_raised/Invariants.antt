@@ -1,5 +1,5 @@
 use Rattle.std.proofs.Common.{◌≡◌, ◌++◌, take}
-use Rattle.script_lang.specs.Names.{raised}
+use Rattle.machine_names.specs.FileNames.{raised}
 use Rattle.script_lang.proofs.named.add_raised.Given as goal
 
 abbrev pub invariant-loop-c : goal.invariant-loop-c

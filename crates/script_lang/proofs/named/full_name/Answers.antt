@@ -1,7 +1,7 @@
 use Rattle.std.proofs.Common.{◌∙◌, sym, ap, length, arith, length-append, append_assoc, ◌++◌}
 use Rattle.std.proofs.lemmas.List.{length-map}
 use Rattle.std.specs.Char.{to_ascii_uppercase}
-use Rattle.script_lang.specs.Names.{directory_before, extension_behind, raised}
+use Rattle.machine_names.specs.FileNames.{directory_before, extension_behind, raised}
 use Rattle.script_lang.proofs.FullNames.{full_name-parts, length-full_name}
 use Rattle.script_lang.proofs.named.full_name.Goals as goal
 

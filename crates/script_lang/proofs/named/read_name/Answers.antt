@@ -1,7 +1,7 @@
 use Rattle.std.proofs.Common.{◌≡◌, ◌∙◌, sym, ap, subst, Some, None, Option, List, ℕ}
 use Rattle.std.specs.Prelude.{MatchOption}
 use Rattle.machine_names.specs.Bounds.{IsFileName}
-use Rattle.script_lang.specs.Names.{file_named, full_name}
+use Rattle.machine_names.specs.FileNames.{file_named, full_name}
 use Rattle.script_lang.proofs.FullNames.{long_named, none_named, one_named}
 use Rattle.script_lang.proofs.named.read_name.Goals as goal
 

@@ -1,5 +1,5 @@
 use Rattle.std.proofs.Common.{◌∙◌, sym, ap, arith}
-use Rattle.tty_lines.specs.Lines.{assigned_to, without_codes_of}
+use Rattle.plain_typing.specs.Lines.{assigned_to, without_codes_of}
 use Rattle.tty_lines.proofs.Assigned.{forgets, keeps, below_all, none_beyond, unassigned_others}
 use Rattle.tty_lines.proofs.line.forget_codes.Goals as goal
 use Rattle.tty_lines.proofs.line.forget_codes.Goals.{then-is_assigned_to, else-is_assigned_to}

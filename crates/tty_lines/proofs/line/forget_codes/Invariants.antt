@@ -1,4 +1,4 @@
-use Rattle.tty_lines.specs.Lines.{without_codes_of}
+use Rattle.plain_typing.specs.Lines.{without_codes_of}
 use Rattle.tty_lines.proofs.Assigned.{AreBelow}
 use Rattle.tty_lines.proofs.line.forget_codes.Given as goal
 

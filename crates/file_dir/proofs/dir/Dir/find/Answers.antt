@@ -5,7 +5,7 @@ use Rattle.std.specs.Bool.{then_some}
 use Rattle.std.specs.Cmp.Lexicographic.{pointwise}
 use Rattle.std.specs.FinMap as map
 use Rattle.machine_names.specs.declared.names.FileNo.{FileNo}
-use Rattle.file_dir.specs.Files.{IsAbsent}
+use Rattle.plain_files.specs.Directory.{IsAbsent}
 use Rattle.file_dir.specs.Order.{file_at}
 use Rattle.file_dir.proofs.Places.{absent_end, found_or_absent, no_file, split_on}
 use Rattle.file_dir.proofs.dir.Dir.find.Goals as goal

@@ -5,7 +5,7 @@ use Rattle.std.proofs.lemmas.Slice.Eq.{starts_is}
 use Rattle.std.specs.Bool.{then_some}
 use Rattle.std.specs.FinMap as map
 use Rattle.machine_names.specs.declared.names.FileNo.{FileNo}
-use Rattle.file_dir.specs.Files.{ComesAfter, IsNext}
+use Rattle.plain_files.specs.Directory.{ComesAfter, IsNext}
 use Rattle.file_dir.specs.Order.{IsBehind, file_at}
 use Rattle.file_dir.proofs.Places.{no_file, split_on}
 use Rattle.file_dir.proofs.Listing.{front_of, listed, none_after, none_so_long}

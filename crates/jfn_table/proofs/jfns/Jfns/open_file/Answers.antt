@@ -1,6 +1,6 @@
 use Rattle.std.proofs.Common.{◌≡◌, Some, sym, ◌∙◌, refl, arith}
 use Rattle.std.specs.FinMap as map
-use Rattle.machine_names.specs.declared.file.Jfn.{Jfn}
+use Rattle.plain_files.specs.declared.jfn.Jfn.{Jfn}
 use Rattle.jfn_table.proofs.Changes.{counts_replaced, held_number, jfns_put}
 use Rattle.jfn_table.proofs.jfns.Jfns.open_file.Goals as goal
 

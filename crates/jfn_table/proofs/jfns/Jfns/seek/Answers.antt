@@ -2,8 +2,8 @@ use Rattle.std.proofs.Common.{◌≡◌, Some, sym, ◌∙◌, refl, subst}
 use Rattle.std.specs.Option.{IsSomeAnd}
 use Rattle.std.specs.Prelude.{IsSome, ◌≤◌}
 use Rattle.std.specs.FinMap as map
-use Rattle.machine_names.specs.declared.file.Jfn.{Jfn}
-use Rattle.page_files.specs.Bytes.{most_bytes}
+use Rattle.plain_files.specs.declared.jfn.Jfn.{Jfn}
+use Rattle.plain_files.specs.Bytes.{most_bytes}
 use Rattle.jfn_table.proofs.Changes.{counts_replaced, held_number, jfns_put}
 use Rattle.jfn_table.proofs.jfns.Jfns.seek.Goals as goal
 

@@ -2,8 +2,8 @@ use Rattle.std.proofs.Common.{◌+◌, ◌<◌, sym, ◌∙◌, refl, ap, subst,
 use Rattle.std.specs.FinMap as map
 use Rattle.number_map.specs.Numbers.{AreTaken, IsLeastFree}
 use Rattle.number_map.proofs.Full.{len_full, len_free}
-use Rattle.jfn_table.specs.declared.jfns.TheConstants.{MOST_JFNS}
-use Rattle.jfn_table.specs.JobFiles.{taken}
+use Rattle.plain_files.specs.declared.bounds.TheConstants.{MOST_JFNS}
+use Rattle.plain_files.specs.JobFiles.{taken}
 use Rattle.jfn_table.proofs.Changes.{count_at, counts_put, jfns_put, names_most, within}
 use Rattle.jfn_table.proofs.jfns.Jfns.take.Goals as goal
 

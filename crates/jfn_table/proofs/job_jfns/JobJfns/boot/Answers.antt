@@ -1,8 +1,8 @@
 use Rattle.std.proofs.Common.{◌≡◌, ◌∙◌, replicate, ap, arith}
 use Rattle.std.specs.FinMap as map
 use Rattle.machine_names.specs.declared.names.TheConstants.{TERMINALS}
-use Rattle.jfn_table.specs.JobFiles.{Held}
-use Rattle.jfn_table.specs.Jobs.{no_jfns}
+use Rattle.plain_files.specs.JobFiles.{Held}
+use Rattle.plain_files.specs.Jobs.{no_jfns}
 use Rattle.jfn_table.proofs.job_jfns.JobJfns.boot.Goals as goal
 
 pub returns : goal.returns

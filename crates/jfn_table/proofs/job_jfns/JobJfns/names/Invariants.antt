@@ -1,5 +1,5 @@
 use Rattle.std.proofs.Common.{◌≡◌, ◌≤◌, ◌*◌, take, sum_by}
-use Rattle.jfn_table.specs.JobFiles.{names_in}
+use Rattle.plain_files.specs.JobFiles.{names_in}
 use Rattle.jfn_table.proofs.job_jfns.JobJfns.names.Given as goal
 
 abbrev pub invariant-loop-jfns : goal.invariant-loop-jfns

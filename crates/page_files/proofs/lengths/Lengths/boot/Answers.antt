@@ -1,7 +1,8 @@
 use Rattle.std.proofs.Common.{◌∙◌, ap, sym, subst, lit≤, All}
-use Rattle.page_files.specs.declared.bytes.TheConstants.{LARGEST_BYTE, MOST_FILES}
+use Rattle.plain_files.specs.declared.bounds.TheConstants.{LARGEST_BYTE, MOST_FILES}
 use Rattle.page_files.specs.declared.lengths.FileLength.{FileLength}
-use Rattle.page_files.specs.Sizes.{FitsFile, plain_files}
+use Rattle.page_files.specs.Sizes.{plain_files}
+use Rattle.plain_files.specs.Sizes.{FitsFile}
 use Rattle.page_files.proofs.Entries.{alike, alike_fit}
 use Rattle.page_files.proofs.lengths.Lengths.boot.Goals as goal
 

@@ -1,5 +1,5 @@
 use Rattle.std.proofs.Common.{◌∙◌, set, ap}
-use Rattle.machine_names.specs.Files.{PlainFile}
+use Rattle.plain_files.specs.Sizes.{PlainFile}
 use Rattle.page_files.proofs.Entries.{put, put_fits}
 use Rattle.page_files.proofs.lengths.Lengths.set_length.Goals as goal
 

@@ -1,5 +1,5 @@
 use Rattle.std.proofs.Common.{◌∙◌, sym, ap, arith}
-use Rattle.page_files.specs.Sizes.{file_at}
+use Rattle.plain_files.specs.Sizes.{file_at}
 use Rattle.page_files.proofs.Entries.{got}
 use Rattle.page_files.proofs.lengths.Lengths.size.Goals as goal
 

@@ -1,0 +1,5 @@
+pub mod Bytes
+pub mod Sizes
+pub mod Directory
+pub mod JobFiles
+pub mod Jobs

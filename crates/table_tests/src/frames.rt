@@ -1,0 +1,153 @@
+// Frames of core: who takes them, who holds them, and which goes next.
+use crate::made::made;
+use crate::same::same;
+use frame_table::{Frames, MOST_HOLDS, MOST_PINS};
+use machine_names::{FrameId, Home, MOST_HOMES};
+
+// A frame for the page of a home that is in none.
+fn assign(frames: &mut Frames, home: Home) -> Option<FrameId> {
+    if home.0 >= MOST_HOMES || frames.frame_of(home).is_some() {
+        return None;
+    }
+    frames.assign(home)
+}
+
+// Makes a frame free, where it isn't held.
+fn free(frames: &mut Frames, f: FrameId) {
+    if f.0 < frames.len() && !frames.is_held(f) {
+        frames.free(f);
+    }
+}
+
+// The home whose page a frame holds.
+fn home_of(frames: &Frames, f: FrameId) -> Option<Home> {
+    if f.0 < frames.len() {
+        frames.home_of(f)
+    } else {
+        None
+    }
+}
+
+// Pins a frame that is taken, where one pin more is allowed.
+fn pin(frames: &mut Frames, f: FrameId) {
+    if f.0 < frames.len() && frames.home_of(f).is_some() && frames.pins(f) < MOST_PINS {
+        frames.pin(f);
+    }
+}
+
+// Takes one pin away, where there is one.
+fn unpin(frames: &mut Frames, f: FrameId) {
+    if f.0 < frames.len() && frames.pins(f) > 0 {
+        frames.unpin(f);
+    }
+}
+
+// A transfer of a frame begins or ends.
+fn set_transfer(frames: &mut Frames, f: FrameId, on: bool) {
+    if f.0 < frames.len() {
+        frames.set_transfer(f, on);
+    }
+}
+
+// A use of a frame.
+fn touch_age(frames: &mut Frames, f: FrameId) {
+    if f.0 < frames.len() {
+        frames.touch_age(f);
+    }
+}
+
+// Who would go next, and how many holds there are, while a frame that is taken is held.
+fn seen_while_held(frames: &mut Frames, f: FrameId) -> Option<(Option<FrameId>, u32)> {
+    let taken = f.0 < frames.len() && frames.home_of(f).is_some();
+    if !taken || frames.holds(f) == MOST_HOLDS {
+        return None;
+    }
+    let hold = frames.hold(f);
+    let seen = (frames.victim(), frames.holds(f));
+    frames.release(hold);
+    Some(seen)
+}
+
+#[test]
+fn frames_are_taken_and_free(rt: HostRuntime) {
+    let mut frames = made(&rt, Frames::boot(rt.alloc(), 3));
+    same(
+        &rt,
+        (frames.len(), frames.free_frames(), frames.victim()),
+        (3, 3, None),
+    );
+    same(&rt, assign(&mut frames, Home(70)), Some(FrameId(0)));
+    same(&rt, assign(&mut frames, Home(50)), Some(FrameId(1)));
+    same(&rt, assign(&mut frames, Home(60)), Some(FrameId(2)));
+    same(
+        &rt,
+        (assign(&mut frames, Home(40)), frames.free_frames()),
+        (None, 0),
+    );
+    same(
+        &rt,
+        (frames.frame_of(Home(50)), frames.frame_of(Home(40))),
+        (Some(FrameId(1)), None),
+    );
+    same(&rt, home_of(&frames, FrameId(2)), Some(Home(60)));
+    free(&mut frames, FrameId(1));
+    free(&mut frames, FrameId(0));
+    same(
+        &rt,
+        (frames.free_frames(), frames.frame_of(Home(50))),
+        (2, None),
+    );
+    same(&rt, home_of(&frames, FrameId(1)), None);
+    free(&mut frames, FrameId(1));
+    same(&rt, frames.free_frames(), 2);
+    same(&rt, assign(&mut frames, Home(40)), Some(FrameId(0)));
+    same(&rt, assign(&mut frames, Home(50)), Some(FrameId(1)));
+    same(&rt, frames.victim(), Some(FrameId(2)));
+}
+
+#[test]
+fn the_oldest_use_goes_first(rt: HostRuntime) {
+    let mut frames = made(&rt, Frames::boot(rt.alloc(), 4));
+    for home in [Home(9), Home(8), Home(7)] {
+        let _ = assign(&mut frames, home);
+    }
+    same(&rt, frames.victim(), Some(FrameId(0)));
+    touch_age(&mut frames, FrameId(0));
+    same(&rt, frames.victim(), Some(FrameId(1)));
+    set_transfer(&mut frames, FrameId(1), true);
+    same(&rt, frames.victim(), Some(FrameId(2)));
+    pin(&mut frames, FrameId(2));
+    pin(&mut frames, FrameId(2));
+    same(&rt, frames.victim(), Some(FrameId(0)));
+    free(&mut frames, FrameId(2));
+    same(&rt, home_of(&frames, FrameId(2)), Some(Home(7)));
+    same(
+        &rt,
+        seen_while_held(&mut frames, FrameId(0)),
+        Some((None, 1)),
+    );
+    same(&rt, seen_while_held(&mut frames, FrameId(3)), None);
+    same(&rt, frames.victim(), Some(FrameId(0)));
+    unpin(&mut frames, FrameId(2));
+    same(&rt, frames.victim(), Some(FrameId(0)));
+    unpin(&mut frames, FrameId(2));
+    same(&rt, frames.victim(), Some(FrameId(2)));
+    set_transfer(&mut frames, FrameId(1), false);
+    touch_age(&mut frames, FrameId(3));
+    same(&rt, frames.victim(), Some(FrameId(1)));
+}
+
+#[test]
+fn words_are_read_and_changed(rt: HostRuntime) {
+    let mut frames = made(&rt, Frames::boot(rt.alloc(), 2));
+    frames.assign(Home(3));
+    let hold = frames.hold(FrameId(0));
+    frames.words_mut(&hold)[511] = 0o777777;
+    same(
+        &rt,
+        (frames.word(FrameId(0), 511), frames.word(FrameId(0), 0)),
+        (0o777777, 0),
+    );
+    same(&rt, frames.words(&hold)[511], 0o777777);
+    frames.release(hold);
+}

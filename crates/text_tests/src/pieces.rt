@@ -1,0 +1,283 @@
+// Scripts in pieces of one byte, of a few and of all.
+ghost use Rattle.std.specs.Prelude.{ℕ, List, Option, None};
+
+use crate::same::same_for;
+use outside::{Failed, MemSource, Source};
+use script_lang::{Lines, MOST_BYTES, Next};
+use std::process::Abort;
+use std::test::Fail;
+
+// Gives its bytes in pieces, each of so many at most, and counts its reads. The read of this number
+// fails; 0 is none.
+#[derive(Drop)]
+struct Pieces<'a> {
+    rest: &'a [u8],
+    most: usize,
+    fails: u64,
+    reads: u64,
+}
+
+impl<'a> Pieces<'a> {
+    fn new(rest: &'a [u8], most: usize, fails: u64) -> Self {
+        Pieces {
+            rest,
+            most,
+            fails,
+            reads: 0,
+        }
+    }
+}
+
+impl<'a> Source for Pieces<'a> {
+    ghost fault_count = { λ s. s.reads };
+
+    ghost left = { λ _. None };
+
+    fn faults(&self) -> u64 {
+        self.reads
+    }
+
+    fn read(&mut self, piece: &mut [u8]) -> Result<usize, Failed> {
+        self.reads = self.reads.saturating_add(1);
+        if self.reads == self.fails {
+            return Err(Failed);
+        }
+        let count = self.most.min(self.rest.len()).min(piece.len());
+        let (front, rest) = self.rest.split_at(count);
+        piece[..count].copy_from_slice(front);
+        self.rest = rest;
+        Ok(count)
+    }
+}
+
+// Gives a line for ever.
+#[derive(Drop)]
+struct Endless {
+    line: &'static [u8],
+    at: usize,
+}
+
+impl Source for Endless {
+    ghost fault_count = { λ _. 0 };
+
+    ghost left = { λ _. None };
+
+    fn faults(&self) -> u64 {
+        0
+    }
+
+    fn read(&mut self, piece: &mut [u8]) -> Result<usize, Failed> {
+        for place in piece.iter_mut() {
+            match self.line.get(self.at) {
+                Some(byte) => {
+                    *place = *byte;
+                    self.at += 1;
+                }
+                None => {
+                    *place = b'\n';
+                    self.at = 0;
+                }
+            }
+        }
+        Ok(piece.len())
+    }
+}
+
+// How many events a script gives before its last answer, and that answer.
+fn ends<S: Source>(source: &mut S) -> (u64, Next) {
+    let mut lines = Lines::new();
+    let mut events = 0;
+    for _line in 0..MOST_BYTES {
+        match lines.next(source) {
+            Next::One(_) => events += 1,
+            last => return (events, last),
+        }
+    }
+    (events, Next::End)
+}
+
+// Both are the same last answer.
+fn is_last(got: Next, want: Next) -> bool {
+    match (got, want) {
+        (Next::End, Next::End) => true,
+        (Next::Bad(line), Next::Bad(number)) => line == number,
+        (Next::ReadFault, Next::ReadFault) => true,
+        (Next::Long, Next::Long) => true,
+        _ => false,
+    }
+}
+
+// A script gives so many events, and then this last answer.
+fn ends_so<S: Source>(rt: &impl Abort, script: &[u8], source: &mut S, want: (u64, Next)) {
+    let (events, last) = ends(source);
+    same_for(rt, script, events, want.0);
+    same_for(rt, script, is_last(last, want.1), true);
+}
+
+const LONG_LINE: [u8; 9000] = [b'A'; 9000];
+
+// A line of 257 bytes, and its line feed.
+fn ended_line() -> [u8; 258] {
+    let mut bytes = [b'\n'; 258];
+    bytes[..257].copy_from_slice(&LONG_LINE[..257]);
+    bytes
+}
+
+#[test]
+fn ends_the_same_in_all_pieces(rt: HostRuntime) -> Result<(), Fail> {
+    let alloc = rt.alloc();
+    let mut full = [b';'; 263];
+    full[256..].copy_from_slice(b"\nRUN 5\n");
+    let mut longer = [b';'; 264];
+    longer[257..].copy_from_slice(b"\nRUN 5\n");
+    for (bytes, want) in [
+        (b"".as_slice(), (0, Next::End)),
+        (b"RUN 5\nLOGIN 0 A\nRUN 6\n", (3, Next::End)),
+        (
+            b"TICK\nEVICT 0\nDRUM 1\nAUTO ON\nFORKS 3\nEXAMINE 1 2 3\nSTART 4 5\nPOKE 6 7 7\n",
+            (8, Next::End),
+        ),
+        (b"RUN 5\nRUN 6", (1, Next::Bad(2))),
+        (b"RUN 5\nRUN 0\nRUN 6\n", (1, Next::Bad(2))),
+        (b"RUN 5\n\n;RUN 0\nRUN 6\n;\n", (2, Next::End)),
+        (b"RUN 5\n;RUN 0\nRUN 0\n", (1, Next::Bad(3))),
+        (b"RUN 5\n;", (1, Next::Bad(2))),
+        (b"\n", (0, Next::End)),
+        (b"\n\nRUN 5\n\n", (1, Next::End)),
+        (b"TICK\nTYPE 0 A\n", (1, Next::Bad(2))),
+        (b"FILE <A>B.C\n", (0, Next::Bad(1))),
+        (&full, (1, Next::End)),
+        (&longer, (0, Next::Bad(1))),
+        (&LONG_LINE, (0, Next::Bad(1))),
+    ] {
+        for most in [1, 5, 9000] {
+            ends_so(&rt, bytes, &mut Pieces::new(bytes, most, 0), want);
+        }
+        let mut source = MemSource::new(bytes.to_vec(alloc)?, Vec::new(alloc));
+        ends_so(&rt, bytes, &mut source, want);
+    }
+    Ok(())
+}
+
+// Its bytes stand behind the lines: 6, 9, 14 and 19.
+const BAD_FOURTH: &[u8] = b"RUN 5\n;A\nTICK\nTOCK\n";
+
+#[test]
+fn a_failed_read_is_told_behind_what_was_known(rt: HostRuntime) {
+    for (most, fails, want) in [
+        (1, 1, (0, Next::ReadFault)),
+        (1, 6, (0, Next::ReadFault)),
+        (1, 7, (1, Next::ReadFault)),
+        (1, 9, (1, Next::ReadFault)),
+        (1, 10, (1, Next::ReadFault)),
+        (1, 14, (1, Next::ReadFault)),
+        (1, 15, (2, Next::ReadFault)),
+        (1, 19, (2, Next::ReadFault)),
+        (1, 20, (2, Next::Bad(4))),
+        (7, 1, (0, Next::ReadFault)),
+        (7, 2, (1, Next::ReadFault)),
+        (7, 3, (2, Next::ReadFault)),
+        (7, 4, (2, Next::Bad(4))),
+        (9, 2, (1, Next::ReadFault)),
+        (9, 3, (2, Next::ReadFault)),
+        (19, 1, (0, Next::ReadFault)),
+        (19, 2, (2, Next::Bad(4))),
+    ] {
+        ends_so(
+            &rt,
+            BAD_FOURTH,
+            &mut Pieces::new(BAD_FOURTH, most, fails),
+            want,
+        );
+    }
+}
+
+#[test]
+fn a_failed_read_is_told_at_the_end(rt: HostRuntime) {
+    for (bytes, want) in [
+        (b"".as_slice(), (0, Next::ReadFault)),
+        (b";A\n\n", (0, Next::ReadFault)),
+        (b"RUN 5\nTICK", (1, Next::ReadFault)),
+        (b"RUN 5\nTICK\n", (2, Next::ReadFault)),
+        (b"RUN 5\nTOCK\n", (1, Next::Bad(2))),
+    ] {
+        let fails = if bytes.is_empty() { 1 } else { 2 };
+        ends_so(&rt, bytes, &mut Pieces::new(bytes, 100, fails), want);
+    }
+}
+
+#[test]
+fn a_failed_read_is_told_within_a_long_line(rt: HostRuntime) {
+    let ended = ended_line();
+    for (bytes, fails, want) in [
+        (LONG_LINE.as_slice(), 1, (0, Next::ReadFault)),
+        (&LONG_LINE, 4, (0, Next::ReadFault)),
+        (&LONG_LINE, 90, (0, Next::ReadFault)),
+        (&LONG_LINE, 91, (0, Next::ReadFault)),
+        (&LONG_LINE, 92, (0, Next::Bad(1))),
+        (&ended, 3, (0, Next::ReadFault)),
+        (&ended, 4, (0, Next::Bad(1))),
+    ] {
+        ends_so(&rt, bytes, &mut Pieces::new(bytes, 100, fails), want);
+    }
+}
+
+// Whether `next` has read each time where `needs_read` said so, and no other time.
+fn reads_where_needed(bytes: &[u8], most: usize) -> bool {
+    let mut source = Pieces::new(bytes, most, 0);
+    let mut lines = Lines::new();
+    for _line in 0..MOST_BYTES {
+        let reads = source.reads;
+        let needs = lines.needs_read();
+        if source.reads != reads {
+            return false;
+        }
+        let next = lines.next(&mut source);
+        if needs != (source.reads > reads) {
+            return false;
+        }
+        if !matches!(next, Next::One(_)) {
+            return true;
+        }
+    }
+    false
+}
+
+#[test]
+fn reads_only_where_it_is_needed(rt: HostRuntime) {
+    let ended = ended_line();
+    for bytes in [
+        b"".as_slice(),
+        b"\n;\n\n",
+        b"RUN 5\nTICK\n\n;A\nTICK\n",
+        b"TICK\nTOCK\nTICK\n",
+        b"TICK\n;\nTICK",
+        &LONG_LINE,
+        &ended,
+    ] {
+        for most in [1, 3, 5, 11, 9000] {
+            same_for(&rt, bytes, reads_where_needed(bytes, most), true);
+        }
+    }
+}
+
+const COMMENT: [u8; 255] = [b';'; 255];
+
+#[test]
+fn stops_at_the_limits(rt: HostRuntime) {
+    let mut pokes = Endless {
+        line: b"POKE 0 100 350002000000",
+        at: 0,
+    };
+    ends_so(&rt, pokes.line, &mut pokes, (699_050, Next::Long));
+    let mut runs = Endless {
+        line: b"RUN 1000000",
+        at: 0,
+    };
+    ends_so(&rt, runs.line, &mut runs, (1_099_511, Next::Bad(1_099_512)));
+    let mut comments = Endless {
+        line: &COMMENT,
+        at: 0,
+    };
+    ends_so(&rt, comments.line, &mut comments, (0, Next::Long));
+}

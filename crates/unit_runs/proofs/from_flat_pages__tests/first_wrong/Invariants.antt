@@ -1,6 +1,0 @@
-use Rattle.std.proofs.Common.{◌≤◌, ◌+◌, ◌*◌}
-use Rattle.machine_names.specs.declared.names.Tty.{Tty}
-use Rattle.flat_pages.proofs.tests.first_wrong.Given as goal
-
-abbrev pub invariant-loop-number : goal.invariant-loop-number
-invariant-loop-number g l = g.P.Pages.means.serial l.pages (record { 0 = 255 }) ≤ 1 + 2 * l.number
