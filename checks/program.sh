@@ -65,16 +65,22 @@ bytes_of() {
 [ -x "$program" ] || exit 1
 
 examples=0
-for script in "$top"/examples/*.script; do
+for script in "$top"/examples/*.script "$top"/examples/instructions/*.script; do
     name=${script%.script}
     words=run
     [ ! -e "$name.words" ] || words=$(cat "$name.words")
     fresh
     # shellcheck disable=SC2086 # the words of a command are separate arguments
-    ends "examples/${name##*/}" 0 "$(bytes_of "$name.transcript")" "$(bytes_of "$name.record")" $words <"$script"
+    ends "${name#"$top"/}" 0 "$(bytes_of "$name.transcript")" "$(bytes_of "$name.record")" $words <"$script"
     examples=$((examples + 1))
 done
 [ "$examples" -ge 2 ] || fail "there are only $examples examples"
+
+# The fewest frames change neither text.
+fresh
+bytes=$top/examples/instructions/byte_units
+ends "a byte loaded among 160 frames" 0 "$(bytes_of "$bytes.transcript")" "$(bytes_of "$bytes.record")" \
+    run --frames 160 <"$bytes.script"
 
 fresh
 ends "the first script" 0 'T0 @A\\015\\012\nT0 @\n' 'LOGIN 0 SMITH\nPOKE 0 100 201040000101\nPOKE 0 101 104000000074\nPOKE 0 102 104000000170\nSTART 0 100\nU 0 1 3\nI 2\nE 0 0\n' run <"$top/examples/first.script"
@@ -85,39 +91,8 @@ echo 'of an earlier run' >"$work/at/tenex.record"
 ends "a record of an earlier run" 0 '' 'E 0 0\n' run </dev/null
 
 fresh
-printf 'LOGIN 0 A\nPOKE 0 100 0\nSTART 0 100\nRUN 2\nFORKS 0\n' >"$work/script"
-ends "a forced fork" 0 'T0 @\\015\\012\nT0 ?FORCED 15\\015\\012\nT0 @\nF 0 1 0 FORCED 15 PC 000100\n' 'LOGIN 0 A\nPOKE 0 100 0\nSTART 0 100\nU 0 1 1\nI 1\nFORKS 0\nE 0 0\n' run <"$work/script"
-fresh
 printf 'LOGIN 0 A\nLOGIN 0 A\nSTART 3 100\nFORKS 0\n' >"$work/script"
 ends "refused events" 0 'T0 @\n?BUSY 0\n?NO JOB 3\nF 0 1 0 HALT PC 000000\n' 'LOGIN 0 A\nLOGIN 0 A\nSTART 3 100\nFORKS 0\nE 0 0\n' run <"$work/script"
-
-fresh
-printf '%b' 'LOGIN 0 A\nPOKE 0 100 210040000200\nPOKE 0 101 265100000102\nPOKE 0 102 230040000201\nPOKE 0 103 265140000104\nPOKE 0 200 400000000000\nPOKE 0 201 0\nSTART 0 100\nRUN 4\nEXAMINE 0 1 1\nEXAMINE 0 1 2\nEXAMINE 0 1 3\n' >"$work/script"
-ends 'flags in the word of a program counter' 0 'T0 @\nX 0 1 000001 400000000000\nX 0 1 000002 510000000102\nX 0 1 000003 510040000104\n' 'LOGIN 0 A\nPOKE 0 100 210040000200\nPOKE 0 101 265100000102\nPOKE 0 102 230040000201\nPOKE 0 103 265140000104\nPOKE 0 200 400000000000\nPOKE 0 201 0\nSTART 0 100\nU 0 1 4\nEXAMINE 0 1 1\nEXAMINE 0 1 2\nEXAMINE 0 1 3\nE 0 0\n' run <"$work/script"
-
-fresh
-printf '%b' 'LOGIN 0 A\nPOKE 0 100 200040000200\nPOKE 0 101 270040000200\nPOKE 0 102 265100000103\nPOKE 0 103 200140000201\nPOKE 0 104 253140000100\nPOKE 0 105 200200000202\nPOKE 0 106 261200000200\nPOKE 0 200 777777777777\nPOKE 0 201 777776777777\nPOKE 0 202 777777000277\nSTART 0 100\nRUN 7\nEXAMINE 0 1 1\nEXAMINE 0 1 2\nEXAMINE 0 1 3\nEXAMINE 0 1 4\nEXAMINE 0 1 300\nFORKS 0\n' >"$work/script"
-ends 'a stack that runs over' 0 'T0 @\\015\\012\nT0 ?FORCED 9\\015\\012\nT0 @\nX 0 1 000001 777777777776\nX 0 1 000002 310000000103\nX 0 1 000003 000000000000\nX 0 1 000004 000000000300\nX 0 1 000300 777777777777\nF 0 1 0 FORCED 9 PC 000107\n' 'LOGIN 0 A\nPOKE 0 100 200040000200\nPOKE 0 101 270040000200\nPOKE 0 102 265100000103\nPOKE 0 103 200140000201\nPOKE 0 104 253140000100\nPOKE 0 105 200200000202\nPOKE 0 106 261200000200\nPOKE 0 200 777777777777\nPOKE 0 201 777776777777\nPOKE 0 202 777777000277\nSTART 0 100\nU 0 1 7\nEXAMINE 0 1 1\nEXAMINE 0 1 2\nEXAMINE 0 1 3\nEXAMINE 0 1 4\nEXAMINE 0 1 300\nFORKS 0\nE 0 0\n' run <"$work/script"
-
-fresh
-printf '%b' 'LOGIN 0 A\nPOKE 0 100 134100000120\nPOKE 0 120 10700000777\nPOKE 0 1000 404000000000\nSTART 0 100\nRUN 1\nEVICT 0\nEVICT 159\nDRUM 200\nRUN 1\nEXAMINE 0 1 2\nEXAMINE 0 1 120\nFORKS 0\n' >"$work/script"
-ends 'a byte loaded in two units' 0 'T0 @\nX 0 1 000002 000000000101\nX 0 1 000120 350700001000\nF 0 1 0 RUN PC 000101\n' 'LOGIN 0 A\nPOKE 0 100 134100000120\nPOKE 0 120 10700000777\nPOKE 0 1000 404000000000\nSTART 0 100\nU 0 1 2\nEXAMINE 0 1 2\nEXAMINE 0 1 120\nFORKS 0\nE 0 0\n' run --frames 160 <"$work/script"
-
-fresh
-printf '%b' 'LOGIN 0 A\nPOKE 0 1 1000001001\nPOKE 0 1000 5\nPOKE 0 100 251040002130\nSTART 0 100\nRUN 100\nPOKE 0 1144 6\nTICK\nRUN 500\nEXAMINE 0 1 1\nEXAMINE 0 1 1001\nEXAMINE 0 1 1143\nEXAMINE 0 1 1144\nEXAMINE 0 1 2130\nEXAMINE 0 1 2131\nFORKS 0\n' >"$work/script"
-ends 'a block moved word by word' 0 'T0 @\nX 0 1 000001 002130002131\nX 0 1 001001 000000000005\nX 0 1 001143 000000000005\nX 0 1 001144 000000000006\nX 0 1 002130 000000000006\nX 0 1 002131 000000000000\nF 0 1 0 RUN PC 000101\n' 'LOGIN 0 A\nPOKE 0 1 1000001001\nPOKE 0 1000 5\nPOKE 0 100 251040002130\nSTART 0 100\nU 0 1 100\nPOKE 0 1144 6\nTICK\nU 0 1 500\nEXAMINE 0 1 1\nEXAMINE 0 1 1001\nEXAMINE 0 1 1143\nEXAMINE 0 1 1144\nEXAMINE 0 1 2130\nEXAMINE 0 1 2131\nFORKS 0\nE 0 0\n' run <"$work/script"
-
-fresh
-printf '%b' 'LOGIN 0 A\nPOKE 0 100 254020000100\nSTART 0 100\nRUN 2\nFORKS 0\n' >"$work/script"
-ends 'a jump through itself' 0 'T0 @\\015\\012\nT0 ?FORCED 15\\015\\012\nT0 @\nF 0 1 0 FORCED 15 PC 000100\n' 'LOGIN 0 A\nPOKE 0 100 254020000100\nSTART 0 100\nU 0 1 1\nI 1\nFORKS 0\nE 0 0\n' run <"$work/script"
-
-fresh
-printf '%b' 'LOGIN 0 A\nPOKE 0 100 256000000100\nSTART 0 100\nRUN 2\nFORKS 0\n' >"$work/script"
-ends 'XCT of itself' 0 'T0 @\\015\\012\nT0 ?FORCED 15\\015\\012\nT0 @\nF 0 1 0 FORCED 15 PC 000100\n' 'LOGIN 0 A\nPOKE 0 100 256000000100\nSTART 0 100\nU 0 1 1\nI 1\nFORKS 0\nE 0 0\n' run <"$work/script"
-
-fresh
-printf '%b' 'LOGIN 0 A\nPOKE 0 100 001000000200\nPOKE 0 41 254000000300\nSTART 0 100\nRUN 1\nEXAMINE 0 1 40\nFORKS 0\n' >"$work/script"
-ends 'a local call' 0 'T0 @\nX 0 1 000040 001000000200\nF 0 1 0 RUN PC 000300\n' 'LOGIN 0 A\nPOKE 0 100 1000000200\nPOKE 0 41 254000000300\nSTART 0 100\nU 0 1 1\nEXAMINE 0 1 40\nFORKS 0\nE 0 0\n' run <"$work/script"
 
 # Each opcode once, with an address whose word jumps on, a stack, and halting for the monitor call: the 157
 # illegal ones trap, and no other.
