@@ -116,7 +116,8 @@ module _ {limit : ℕ} {events : List Event} {entries : List Step} where
   whole_legal : {items : List Item} → AreEntries true limit events entries items → AreLegal true (opening limit) entries
   whole_legal r = legal_flat true (opening limit) events entries r.follows r.legal
 
-  run_legal : {items : List Item} (driven : Driven) → RunsTo true limit driven events entries items → AreLegal true (opening limit) entries
+module _ (limit : ℕ) (events : List Event) (entries : List Step) (items : List Item) where
+  run_legal : (driven : Driven) → RunsTo true limit driven events entries items → AreLegal true (opening limit) entries
   run_legal WholeScript r = whole_legal r
   run_legal (Bad n) r = whole_legal r
   run_legal Long r = whole_legal r
@@ -126,7 +127,7 @@ module _ {limit : ℕ} {events : List Event} {entries : List Step} where
   run_legal TakerFault (inr r) = broken_legal r.broken
 
   -- and this is what they show
-  run_shows : {items : List Item} (driven : Driven) → RunsTo true limit driven events entries items → ShowsTo driven limit events entries items
+  run_shows : (driven : Driven) → RunsTo true limit driven events entries items → ShowsTo driven limit events entries items
   run_shows WholeScript r = r.shown
   run_shows (Bad n) r = r.shown
   run_shows Long r = r.shown
@@ -159,8 +160,8 @@ module _ {M S T R D : Type 0} {flat : Bool} {fits : M → DrumWords → Type 0} 
         items = given.items;
         found = ran.found;
         follows = ran.follows;
-        legal = run_legal driven (runs_flat driven ran);
-        shown = run_shows driven (runs_flat driven ran);
+        legal = run_legal sizes.drum ran.events ran.entries given.items driven (runs_flat driven ran);
+        shown = run_shows sizes.drum ran.events ran.entries given.items driven (runs_flat driven ran);
       }
 
   -- the writer stood for what it was given
