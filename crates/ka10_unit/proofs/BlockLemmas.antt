@@ -30,6 +30,7 @@ use Rattle.ka10_unit.specs.Glide.{glide, is_ready}
 use Rattle.ka10_unit.specs.InPlace.{Finish, InPlace, IsOwnRow, deed_in, ended}
 use Rattle.ka10_unit.specs.Spots.{Stored, StoredIf}
 use Rattle.ka10_unit.proofs.Finishing.{few, if_ended, is_low, is_high, never_slow}
+use Rattle.ka10_unit.proofs.Lost.{lost_none}
 use Rattle.ka10_unit.proofs.Placing.{length_with, stays_put}
 
 -- two places are set in either order
@@ -84,6 +85,7 @@ module _ {P : Type 0} (means : PagesMeaning P) (space : SpaceHandle) (regs after
     told = λ d f fits is. if_ended told.post q _ is_q (λ n less. block_own f (means.plain s d) n (omega arith) regs after ac m to _ told below moved left refl refl (ap (λ (x : ℕ). before x m) (sym is_to)) (eqb-true to ac own));
     fits = λ d fits. fits;
     stays = stays_put means s;
+    loses = lost_none means s;
     pc = left.pc;
     accumulators = kept;
   })
@@ -92,6 +94,7 @@ module _ {P : Type 0} (means : PagesMeaning P) (space : SpaceHandle) (regs after
     told = λ d f fits is. if_ended told.post q _ is_q (ends other put d f fits is (cases_lt to ACCUMULATORS));
     fits = put.fits;
     stays = put.stays;
+    loses = put.loses;
     pc = rw put.pc left.pc;
     accumulators = put.accumulators ∙ kept;
   }

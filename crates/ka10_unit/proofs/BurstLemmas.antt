@@ -17,6 +17,7 @@ use Rattle.ka10_unit.specs.Fetches.{CanExecute, FetchedUnit, IsThere}
 use Rattle.ka10_unit.specs.Bursts.{InRow, SoFar, and_one_more}
 use Rattle.ka10_unit.proofs.Placing.{stays_put}
 use Rattle.ka10_unit.proofs.Finishing.{if_more}
+use Rattle.ka10_unit.proofs.Lost.{lost_none, lost_on}
 use Rattle.ka10_unit.proofs.Fetching.{has_none}
 
 module _ (f : ForkName) (p : NumberedPages) (regs : Regs) where
@@ -41,6 +42,8 @@ module _ {P : Type 0} (means : PagesMeaning P) (space : SpaceHandle) where
     scene = h.scene ∙ g.scene;
     space = h.space ∙ g.space;
     place = h.place ∙ g.place;
+    map_homes = h.map_homes ∙ g.map_homes;
+    page_homes = h.page_homes ∙ g.page_homes;
     lives = h.lives ∙ g.lives;
     forks = h.forks ∙ g.forks;
     serials = h.serials ∙ g.serials;
@@ -61,6 +64,7 @@ module _ {P : Type 0} (means : PagesMeaning P) (space : SpaceHandle) where
     there = λ at has. has_none page at none has;
     fits = λ d fits. fits;
     stays = stays_put means s;
+    loses = lost_none means s;
     pc = pc;
     accumulators = refl;
   }
@@ -79,6 +83,7 @@ module _ {P : Type 0} (means : PagesMeaning P) (space : SpaceHandle) where
       there = there;
       fits = λ d fits. i.fits d (before.fits d fits);
       stays = stays_on old s t before.stays i.stays;
+      loses = lost_on means old s t before.loses i.loses;
       pc = i.pc;
       accumulators = i.accumulators ∙ before.accumulators;
     }
@@ -90,6 +95,7 @@ module _ {P : Type 0} (means : PagesMeaning P) (space : SpaceHandle) where
         told = λ d f fits is. one_more f (means.plain old d) regs n _ _ (before.told d f fits is) (one quick.Overflow i d f fits is).1;
         fits = λ d fits. i.fits d (before.fits d fits);
         stays = stays_on old s t before.stays i.stays;
+        loses = lost_on means old s t before.loses i.loses;
         pc = i.pc;
         accumulators = i.accumulators ∙ before.accumulators;
       }
@@ -100,12 +106,13 @@ module _ {P : Type 0} (means : PagesMeaning P) (space : SpaceHandle) where
         told = λ d f fits is. one_more f (means.plain old d) regs n _ _ (before.told d f fits is) (one quick.Pushdown i d f fits is).1;
         fits = λ d fits. i.fits d (before.fits d fits);
         stays = stays_on old s t before.stays i.stays;
+        loses = lost_on means old s t before.loses i.loses;
         pc = i.pc;
         accumulators = i.accumulators ∙ before.accumulators;
       }
 
       pub ends_slow : InPlace means space (FetchedUnit r first page) s t r after quick.Slow → InRow means space most old t regs after (record { units = n; end = end.Slow })
-      ends_slow i = let same = i.slow refl in rw (same.0, same.1) (record { count = less; told = before.told; fits = before.fits; stays = before.stays; pc = before.pc; accumulators = before.accumulators })
+      ends_slow i = let same = i.slow refl in rw (same.0, same.1) (record { count = less; told = before.told; fits = before.fits; stays = before.stays; loses = before.loses; pc = before.pc; accumulators = before.accumulators })
 
   pub ends_most : (old s : P) (regs r : Regs) (page : FetchPage) (most n : ℕ) → n ≡ most → SoFar means space old s regs r page n → InRow means space most old s regs r (record { units = most; end = end.Most })
   ends_most old s regs r page most n is before = record {
@@ -113,6 +120,7 @@ module _ {P : Type 0} (means : PagesMeaning P) (space : SpaceHandle) where
     told = λ d f fits h. subst (λ (k : ℕ). in_a_row f k (means.plain old d) regs ≡ Some (record { pages = means.plain s d; regs = r; post = None })) is (before.told d f fits h);
     fits = before.fits;
     stays = before.stays;
+    loses = before.loses;
     pc = before.pc;
     accumulators = before.accumulators;
   }

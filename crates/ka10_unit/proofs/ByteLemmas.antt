@@ -60,7 +60,7 @@ module _ {P : Type 0} (means : PagesMeaning P) (space : SpaceHandle) (regs : Reg
 
   -- the second part begins as the first has left the registers, but for its mark
   pub begun_in_place : (second : Bool) (most : ℕ) (left : Steps) (post : Post) → q ≡ ended post → InPlace means space (Rest most (begun second regs) left) s t (begun second regs) after q → InPlace means space (Rest most regs left) s t regs after q
-  begun_in_place true most left post is i = record { slow = λ h. never_slow post (sym is ∙ h); told = i.told; fits = i.fits; stays = i.stays; pc = i.pc; accumulators = i.accumulators }
+  begun_in_place true most left post is i = record { slow = λ h. never_slow post (sym is ∙ h); told = i.told; fits = i.fits; stays = i.stays; loses = i.loses; pc = i.pc; accumulators = i.accumulators }
   begun_in_place false most left post is i = i
 
   -- the byte's word is taken behind the pointer

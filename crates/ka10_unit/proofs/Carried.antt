@@ -21,6 +21,8 @@ use Rattle.page_gather.specs.Gathering.{IsNear}
 use Rattle.page_gather.proofs.Settling.{near_scene}
 use Rattle.ka10_unit.specs.Carrying.{Grows, StaysAway}
 use Rattle.ka10_unit.specs.Gathers.{Framed, Serves}
+use Rattle.page_contracts.specs.Pages.{MayLose}
+use Rattle.ka10_unit.proofs.Lost.{lost_none, lost_on}
 use Rattle.ka10_unit.specs.Taking.{CanPut, IsOpenAt}
 
 -- a page that is in a frame, and of which nothing more is to be made, is found ready
@@ -92,17 +94,18 @@ module _ {P : Type 0} (means : PagesMeaning P) (owner : Tty) where
     most = h.most ∙ g.most;
     serial = omega (arith, g.serial, h.serial);
     serials = λ t ne. h.serials t ne ∙ g.serials t ne;
+    loses = lost_on means old mid new g.loses h.loses;
   }
 
   pub grows_within : (n m : ℕ) (old new : P) → n ≤ m → Grows means owner n old new → Grows means owner m old new
-  grows_within n m old new l g = record { lives = g.lives; forks = g.forks; most = g.most; serial = omega (arith, l, g.serial); serials = g.serials }
+  grows_within n m old new l g = record { lives = g.lives; forks = g.forks; most = g.most; serial = omega (arith, l, g.serial); serials = g.serials; loses = g.loses }
 
   pub grows_none : (old : P) → Grows means owner 0 old old
-  grows_none old = record { lives = refl; forks = refl; most = refl; serial = omega arith; serials = λ t ne. refl }
+  grows_none old = record { lives = refl; forks = refl; most = refl; serial = omega arith; serials = λ t ne. refl; loses = lost_none means old }
 
   -- a word stored makes no page
-  pub grows_stored : (old new : P) → StaysPut means old new → Grows means owner 0 old new
-  grows_stored old new s = record { lives = s.lives; forks = s.forks; most = s.most; serial = omega (arith, same); serials = λ t ne. ap (λ (serial : Tty → ℕ). serial t) s.serials }
+  pub grows_stored : (old new : P) → StaysPut means old new → MayLose means old new → Grows means owner 0 old new
+  grows_stored old new s lost = record { lives = s.lives; forks = s.forks; most = s.most; serial = omega (arith, same); serials = λ t ne. ap (λ (serial : Tty → ℕ). serial t) s.serials; loses = lost }
     where
       same : means.serial new owner ≡ means.serial old owner
       same = ap (λ (serial : Tty → ℕ). serial owner) s.serials

@@ -22,3 +22,4 @@ pub mod InARow
 pub mod ByteLemmas
 pub mod BlockLemmas
 pub mod TakenBlocks
+pub mod Lost

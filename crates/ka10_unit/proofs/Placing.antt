@@ -31,6 +31,7 @@ use Rattle.ka10_unit.specs.Once.{After}
 use Rattle.ka10_unit.specs.InPlace.{Does, IsOwnRow, deed_in, taken_in, IfDone, InPlace, Finish, Addressee, is_addressed, is_deed, behind_address, ended}
 use Rattle.ka10_unit.specs.Spots.{Stored, StoredIf}
 use Rattle.ka10_unit.specs.Stores.{IsNowhere, GoesTo, IsOperand}
+use Rattle.ka10_unit.proofs.Lost.{lost_none}
 use Rattle.ka10_unit.proofs.Finishing.{if_ended, never_slow, for_all, ends_bare, ends_low, ends_high, takes_none, takes_some, no_word}
 
 -- no accumulator more or less
@@ -41,21 +42,21 @@ length_with ac i (Some w) = length-set ac i w
 module _ {P : Type 0} (means : PagesMeaning P) where
   -- pages that stay as they are
   pub stays_put : (s : P) → StaysPut means s s
-  stays_put s = record { touched = refl; scene = refl; space = refl; place = refl; lives = refl; forks = refl; serials = refl; most = refl }
+  stays_put s = record { touched = refl; scene = refl; space = refl; place = refl; map_homes = refl; page_homes = refl; lives = refl; forks = refl; serials = refl; most = refl }
 
   module _ (space : SpaceHandle) where
     -- what isn't done here
     pub slow_in_place : (does : Does) (s : P) (regs : Regs) → regs.pc < 2 ^ 18 → InPlace means space does s s regs regs quick.Slow
-    slow_in_place does s regs pc = record { slow = λ h. (refl, refl); told = λ d f fits is. tt; fits = λ d fits. fits; stays = stays_put s; pc = pc; accumulators = refl }
+    slow_in_place does s regs pc = record { slow = λ h. (refl, refl); told = λ d f fits is. tt; fits = λ d fits. fits; stays = stays_put s; loses = lost_none means s; pc = pc; accumulators = refl }
 
     -- what is done in place of one thing is done of what that comes to
     pub in_place_more : (does more : Does) (s t : P) (regs after : Regs) (q : Quick) → InPlace means space does s t regs after q
         → ((d : DrumWords) (f : ForkName) → means.fits s d → means.space s f ≡ Some space → IfDone q (λ post. does f (means.plain s d) (record { pages = means.plain t d; regs = after; post = post }) → more f (means.plain s d) (record { pages = means.plain t d; regs = after; post = post })))
         → InPlace means space more s t regs after q
-    in_place_more does more s t regs after quick.Done i g = record { slow = i.slow; told = λ d f fits is. g d f fits is (i.told d f fits is); fits = i.fits; stays = i.stays; pc = i.pc; accumulators = i.accumulators }
-    in_place_more does more s t regs after quick.Overflow i g = record { slow = i.slow; told = λ d f fits is. g d f fits is (i.told d f fits is); fits = i.fits; stays = i.stays; pc = i.pc; accumulators = i.accumulators }
-    in_place_more does more s t regs after quick.Pushdown i g = record { slow = i.slow; told = λ d f fits is. g d f fits is (i.told d f fits is); fits = i.fits; stays = i.stays; pc = i.pc; accumulators = i.accumulators }
-    in_place_more does more s t regs after quick.Slow i g = record { slow = i.slow; told = λ d f fits is. tt; fits = i.fits; stays = i.stays; pc = i.pc; accumulators = i.accumulators }
+    in_place_more does more s t regs after quick.Done i g = record { slow = i.slow; told = λ d f fits is. g d f fits is (i.told d f fits is); fits = i.fits; stays = i.stays; loses = i.loses; pc = i.pc; accumulators = i.accumulators }
+    in_place_more does more s t regs after quick.Overflow i g = record { slow = i.slow; told = λ d f fits is. g d f fits is (i.told d f fits is); fits = i.fits; stays = i.stays; loses = i.loses; pc = i.pc; accumulators = i.accumulators }
+    in_place_more does more s t regs after quick.Pushdown i g = record { slow = i.slow; told = λ d f fits is. g d f fits is (i.told d f fits is); fits = i.fits; stays = i.stays; loses = i.loses; pc = i.pc; accumulators = i.accumulators }
+    in_place_more does more s t regs after quick.Slow i g = record { slow = i.slow; told = λ d f fits is. tt; fits = i.fits; stays = i.stays; loses = i.loses; pc = i.pc; accumulators = i.accumulators }
 
     module _ (regs after : Regs) (ac : ℕ) (deed : Deed) (told : Committed) (left : Leaves deed ac regs after told) (q : Quick) (is_q : q ≡ ended told.post) where
       kept : length after.ac ≡ length regs.ac
@@ -68,6 +69,7 @@ module _ {P : Type 0} (means : PagesMeaning P) where
         told = λ d f fits is. if_ended told.post q _ is_q (λ n less. ends_bare f (means.plain s d) regs.ac n regs after ac deed told left h);
         fits = λ d fits. fits;
         stays = stays_put s;
+        loses = lost_none means s;
         pc = left.pc;
         accumulators = kept;
       }
@@ -89,6 +91,7 @@ module _ {P : Type 0} (means : PagesMeaning P) where
           told = λ d f fits is. if_ended told.post q _ is_q (ends word has put d f fits is (cases_lt to ACCUMULATORS));
           fits = put.fits;
           stays = put.stays;
+          loses = put.loses;
           pc = rw put.pc left.pc;
           accumulators = put.accumulators ∙ kept;
         }

@@ -7,7 +7,7 @@ use Rattle.plain_units.specs.declared.registers.Regs.{Regs}
 use Rattle.page_contracts.specs.declared.answers.SpaceHandle.{SpaceHandle}
 use Rattle.machine_names.specs.declared.names.ForkName.{ForkName}
 use Rattle.page_contracts.specs.DrumWords.{DrumWords}
-use Rattle.page_contracts.specs.Pages.{PagesMeaning, StaysPut}
+use Rattle.page_contracts.specs.Pages.{PagesMeaning, MayLose, StaysPut}
 use Rattle.plain_pages.specs.PlainPages.{NumberedPages}
 use Rattle.ka10_unit.specs.declared.ending.Burst.{Burst}
 use Rattle.ka10_unit.specs.declared.ending.End.{End}
@@ -39,6 +39,7 @@ pub record InRow {P : Type 0} (means : PagesMeaning P) (space : SpaceHandle) (mo
   pub told : (d : DrumWords) (f : ForkName) → means.fits old d → means.space old f ≡ Some space → Came result.end result.units f (means.plain old d) regs (means.plain new d) after
   pub fits : (d : DrumWords) → means.fits old d → means.fits new d
   pub stays : StaysPut means old new
+  pub loses : MayLose means old new
   pub pc : after.pc < 2 ^ 18
   pub accumulators : length after.ac ≡ length regs.ac
 
@@ -49,5 +50,6 @@ pub record SoFar {P : Type 0} (means : PagesMeaning P) (space : SpaceHandle) (ol
   pub there : IsThere means space new page
   pub fits : (d : DrumWords) → means.fits old d → means.fits new d
   pub stays : StaysPut means old new
+  pub loses : MayLose means old new
   pub pc : after.pc < 2 ^ 18
   pub accumulators : length after.ac ≡ length regs.ac

@@ -6,7 +6,8 @@ use Rattle.machine_names.specs.declared.names.ForkName.{ForkName}
 use Rattle.plain_units.specs.declared.registers.Regs.{Regs}
 use Rattle.page_contracts.specs.DrumWords.{DrumWords}
 use Rattle.plain_pages.specs.PlainPages.{NumberedPages}
-use Rattle.page_contracts.specs.Pages.{PagesMeaning, Scene}
+use Rattle.page_contracts.specs.Pages.{PagesMeaning, MayLose, Scene}
+use Rattle.page_contracts.specs.Stores.{StoreMeaning, IsNeeded}
 use Rattle.plain_units.specs.Steps.{Ending, Progress, done, stopped, trap, need, call}
 use Rattle.plain_units.specs.Units.{unit_on}
 use Rattle.ka10_unit.specs.declared.slow.Outcome.{Outcome}
@@ -15,20 +16,21 @@ use Rattle.ka10_unit.specs.Once.{once}
 use Rattle.ka10_unit.specs.Commits.{channel_of}
 use Rattle.ka10_unit.specs.Gathers.{framed}
 use Rattle.ka10_unit.specs.Planning.{unit_over}
-use Rattle.ka10_unit.specs.Taking.{Plan}
+use Rattle.ka10_unit.specs.Taking.{Plan, most_frames}
 
 -- what was in a frame is in one still, and what was in none has not come into one
 pub record StaysAway (old new : Scene) : Type 0 where
   pub maps : new.map_away ≡ old.map_away
   pub pages : new.page_away ≡ old.page_away
 
--- so many pages of an owner were made at most, and nothing else changed that is told without a drum
+-- so many pages of an owner were made at most, transfers may have been taken from the queue, and nothing else changed that is told without a drum
 pub record Grows {P : Type 0} (means : PagesMeaning P) (owner : Tty) (pages : ℕ) (old new : P) : Type 0 where
   pub lives : means.lives new ≡ means.lives old
   pub forks : means.forks_of new ≡ means.forks_of old
   pub most : means.most new ≡ means.most old
   pub serial : means.serial new owner ≤ means.serial old owner + pages
   pub serials : (t : Tty) → t ≢ owner → means.serial new t ≡ means.serial old t
+  pub loses : MayLose means old new
 
 -- what a unit came to on plain pages, which it left as others; nothing is said where it needs something first
 abbrev pub CameTo : ForkName → NumberedPages → Regs → NumberedPages → Regs → Outcome → Type 0
@@ -54,6 +56,11 @@ abbrev pub IsOver : Outcome → Type 0
 IsOver (outcome.Need n) = ⊥
 IsOver other = Unit {0}
 
+-- what a unit needs first is so, over whatever drum
+abbrev pub OutcomeNeeds : {P : Type 0} → StoreMeaning P → P → Outcome → Type 0
+OutcomeNeeds store p (outcome.Need n) = IsNeeded store most_frames p n
+OutcomeNeeds store p other = Unit {0}
+
 -- the number of a monitor call is an address
 abbrev pub IsNumbered : Outcome → Type 0
 IsNumbered (outcome.Call number) = number < 2 ^ 18
@@ -65,6 +72,7 @@ pub record Slowly {P : Type 0} (means : PagesMeaning P) (f : ForkName) (old new 
   pub over : (d : DrumWords) → means.fits old d → CameOut (unit_over f (framed means old d) regs) result
   pub stopped : Keeps old new regs after result
   pub core : means.flat ≡ true → IsOver result
+  pub needs : OutcomeNeeds means.store new result
   pub grows : Grows means f.tty 128 old new
   pub pc : after.pc < 2 ^ 18
   pub number : IsNumbered result

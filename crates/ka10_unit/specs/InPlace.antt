@@ -12,7 +12,7 @@ use Rattle.machine_names.specs.declared.names.ForkName.{ForkName}
 use Rattle.plain_units.specs.Deeds.{Deed, deed_of, in_ac, taken_by}
 use Rattle.plain_units.specs.Instructions.{does, does_pointer, finishes, is_executive}
 use Rattle.page_contracts.specs.DrumWords.{DrumWords}
-use Rattle.page_contracts.specs.Pages.{PagesMeaning, StaysPut}
+use Rattle.page_contracts.specs.Pages.{PagesMeaning, MayLose, StaysPut}
 use Rattle.plain_pages.specs.PlainPages.{NumberedPages}
 use Rattle.plain_units.specs.Steps.{Steps}
 use Rattle.ka10_unit.specs.declared.ending.Quick.{Quick}
@@ -47,6 +47,7 @@ pub record InPlace {P : Type 0} (means : PagesMeaning P) (space : SpaceHandle) (
   pub told : (d : DrumWords) (f : ForkName) → means.fits old d → means.space old f ≡ Some space → IfDone result (λ post. does f (means.plain old d) (record { pages = means.plain new d; regs = after; post = post }))
   pub fits : (d : DrumWords) → means.fits old d → means.fits new d
   pub stays : StaysPut means old new
+  pub loses : MayLose means old new
   pub pc : after.pc < 2 ^ 18
   pub accumulators : length after.ac ≡ length regs.ac
 

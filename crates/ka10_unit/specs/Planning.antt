@@ -8,6 +8,7 @@ use Rattle.machine_names.specs.declared.names.ForkName.{ForkName}
 use Rattle.machine_names.specs.declared.names.Kind.TheVariants.{Execute, Write}
 use Rattle.plain_units.specs.declared.registers.Regs.{Regs}
 use Rattle.page_contracts.specs.Pages.{PagesMeaning}
+use Rattle.page_contracts.specs.Stores.{StoreMeaning, IsNeeded}
 use Rattle.plain_units.specs.Steps.{Steps, Ending as End, refers, keeps, calls, trap, need, done, stopped, call, begun}
 use Rattle.plain_units.specs.Addressing.{opcode, ac_field, address, address_within}
 use Rattle.plain_units.specs.Deeds.{Deed, before}
@@ -26,7 +27,7 @@ use Rattle.ka10_unit.specs.declared.taken.Stop.{Stop}
 use Rattle.ka10_unit.specs.declared.taken.Stop.TheVariants as stop
 use Rattle.ka10_unit.specs.Commits.{Leaves, channel_of, store_at}
 use Rattle.ka10_unit.specs.Gathers.{Framed, IsOf}
-use Rattle.ka10_unit.specs.Taking.{CanPut, IsOpen, IsPlain, IsPutBelow, IsTrap, Plan, Stands, progress, run_over, so_far, stop_of}
+use Rattle.ka10_unit.specs.Taking.{CanPut, IsOpen, IsPlain, IsPutBelow, IsTrap, Plan, Stands, most_frames, progress, run_over, so_far, stop_of}
 
 -- an effective address, with so many words at most, and with any
 abbrev pub reached_within : ℕ → List ℕ → ℕ → (Address → Steps) → Steps
@@ -142,6 +143,11 @@ pub record Plans (f : ForkName) (p : Framed) (regs : Regs) (t : Taken) (result :
 abbrev pub NeedsNothing : Planned → Type 0
 NeedsNothing (planned.Need n) = ⊥
 NeedsNothing plan = Unit {0}
+
+-- what a plan needs first is so, over whatever drum
+abbrev pub PlanNeeds : {P : Type 0} → StoreMeaning P → P → Planned → Type 0
+PlanNeeds store p (planned.Need n) = IsNeeded store most_frames p n
+PlanNeeds store p plan = Unit {0}
 
 -- an end is of the machine: its registers, and the address of its last word
 pub record IsEnding (x : Ending) : Type 0 where

@@ -9,7 +9,7 @@ use Rattle.page_contracts.specs.declared.answers.SpaceHandle.{SpaceHandle}
 use Rattle.plain_units.specs.declared.registers.Regs.{Regs}
 use Rattle.plain_units.specs.Addressing.{indexed, is_indirect, last_taken}
 use Rattle.page_contracts.specs.DrumWords.{DrumWords}
-use Rattle.page_contracts.specs.Pages.{PagesMeaning, StaysPut, IsTouched}
+use Rattle.page_contracts.specs.Pages.{PagesMeaning, MayLose, StaysPut, IsTouched}
 use Rattle.plain_pages.specs.References.{in_map, slot_at, stored}
 use Rattle.plain_pages.specs.PlainPages.{NumberedPages}
 use Rattle.ka10_unit.specs.declared.addressing.Address.{Address}
@@ -49,6 +49,7 @@ module _ {P : Type 0} (means : PagesMeaning P) (space : SpaceHandle) (at : ℕ) 
     pub told : (d : DrumWords) (f : ForkName) → ACCUMULATORS ≤ at → means.fits old d → means.space old f ≡ Some space → means.plain new d ≡ stored (means.plain old d) (in_map (slot_at f at)) (at % PAGE_WORDS) word
     pub fits : (d : DrumWords) → means.fits old d → means.fits new d
     pub stays : StaysPut means old new
+    pub loses : MayLose means old new
     pub pc : after.pc ≡ regs.pc
     pub accumulators : length after.ac ≡ length regs.ac
 

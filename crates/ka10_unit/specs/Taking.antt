@@ -1,5 +1,5 @@
 -- How far a unit has come, and what a part of it that was done says of the whole.
-use Rattle.std.specs.Prelude.{◌≡◌, ◌⊎◌, ℕ, ◌%◌, ◌≤◌, ◌<◌, ◌==◌, ◌&&◌, Bool, true, false, List, [], length, Option, None, Some, Result, Ok, Err, ⊤, is_some}
+use Rattle.std.specs.Prelude.{◌≡◌, ◌⊎◌, ℕ, ◌*◌, ◌%◌, ◌≤◌, ◌<◌, ◌==◌, ◌&&◌, Bool, true, false, List, [], length, Option, None, Some, Result, Ok, Err, ⊤, is_some}
 use Rattle.std.specs.Option.{option_map_or}
 use Rattle.std.specs.Ordering.{nat_cmp}
 use Rattle.outside.specs.declared.TheConstants.{PAGE_WORDS}
@@ -16,6 +16,7 @@ use Rattle.page_homes.specs.declared.homes.Home.{Home}
 use Rattle.page_contracts.specs.declared.answers.Need.{Need}
 use Rattle.page_contracts.specs.declared.answers.Need.TheVariants.{Page}
 use Rattle.page_contracts.specs.Pages.{Scene}
+use Rattle.page_contracts.specs.Stores.{StoreMeaning, IsNeeded}
 use Rattle.plain_units.specs.Steps.{Steps, Stop as Stopped, widens, trap, need, Asked, goes, stops, Progress, Planned, stopped, done, call, is_accumulator, asked_at, run}
 use Rattle.ka10_unit.specs.declared.taken.Taken.{Taken}
 use Rattle.ka10_unit.specs.declared.taken.Stop.{Stop}
@@ -40,6 +41,15 @@ stop_of (stop.Need n) = need n
 abbrev pub IsTrap : Stop → Type 0
 IsTrap (stop.Trap channel) = Unit {0}
 IsTrap (stop.Need n) = ⊥
+
+-- fewer frames than so many are free where a unit needs one: it makes two pages at each of 16 references, and two at the last once more, to write
+abbrev pub most_frames : ℕ
+most_frames = 34
+
+-- what a stop needs first is so, over whatever drum: a map or a page is in no frame, or fewer frames are free than so many
+abbrev pub StopNeeds : {P : Type 0} → StoreMeaning P → ℕ → P → Stop → Type 0
+StopNeeds store most p (stop.Trap channel) = Unit {0}
+StopNeeds store most p (stop.Need n) = IsNeeded store most p n
 
 -- the pages that the references so far leave
 abbrev pub pages_so_far : Framed → Taken → NumberedPages
@@ -72,11 +82,12 @@ pub record Stands (f : ForkName) (p : Framed) (t : Taken) : Type 0 where
   pub gathers : Gathers p.pages p.scene t.gather
   pub kept : CanPut f (so_far p t) t.kept
 
--- the references taken are of the fork, and so many at most
+-- the references taken are of the fork, so many at most, and make two pages each at most
 pub record IsOpen (f : ForkName) (t : Taken) : Type 0 where
   pub own : IsOf f t.gather
   pub gathered : length t.gather.references ≤ length t.refs.items
   pub references : length t.refs.items ≤ MOST_REFERENCES
+  pub made : t.gather.homes ≤ 2 * length t.refs.items
 
 -- the word of a kept put is at an address
 abbrev pub IsPutBelow : ℕ → Option Put → Type 0

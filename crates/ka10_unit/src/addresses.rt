@@ -4,7 +4,7 @@ ghost use Rattle.plain_units.specs.Addressing.{index_field, indexed, is_indirect
 ghost use Rattle.page_contracts.specs.DrumWords.{DrumWords};
 ghost use Rattle.ka10_unit.specs.Gathers.{Serves, framed};
 ghost use Rattle.ka10_unit.specs.Planning.{reached};
-ghost use Rattle.ka10_unit.specs.Taking.{Follows, IsOpen, IsPutBelow, IsTrap, Stands};
+ghost use Rattle.ka10_unit.specs.Taking.{Follows, IsOpen, IsPutBelow, IsTrap, StopNeeds, Stands, most_frames};
 
 use crate::taken::{Stop, Taken, refer};
 use machine_names::{ForkName, Kind};
@@ -71,6 +71,7 @@ pub fn address_of<P: Pages>(
     ensures kept { taken.new.kept ≡ taken.old.kept }
     ensures below { IfOk result (λ e. e.at < 2 ^ 18) }
     ensures core { P.means.flat ≡ true → IfErr result IsTrap }
+    ensures needs { IfErr result (StopNeeds P.means.store most_frames pages.now) }
     ensures told { (d : DrumWords) → P.means.fits pages.now d → Stands fork (framed P.means pages.now d) taken.old
         → Follows fork (framed P.means pages.now d) regs.now.ac taken.old taken.new (reached regs.now.ac first) result }
 {

@@ -1,7 +1,7 @@
 // Carrying out a unit that was planned: its pages are made, and its words stored.
 ghost use Rattle.std.specs.Prelude.{◌≡◌, ◌<◌, ◌^◌};
 ghost use Rattle.page_contracts.specs.DrumWords.{DrumWords};
-ghost use Rattle.page_contracts.specs.Pages.{StaysPut};
+ghost use Rattle.page_contracts.specs.Pages.{MayLose, StaysPut};
 ghost use Rattle.plain_units.specs.Steps.{put_into};
 ghost use Rattle.ka10_unit.specs.Carrying.{Grows, StaysAway};
 ghost use Rattle.ka10_unit.specs.Gathers.{IsOf, Serves, framed};
@@ -24,6 +24,7 @@ pub fn store<P: Pages>(pages: &mut P, fork: ForkName, put: Option<Put>)
         → P.means.plain pages.new d ≡ put_into fork (P.means.plain pages.old d) put }
     ensures fits { (d : DrumWords) → P.means.fits pages.old d → P.means.fits pages.new d }
     ensures stays { StaysPut P.means pages.old pages.new }
+    ensures loses { MayLose P.means pages.old pages.new }
 {
     let Some(put) = put else {
         return;

@@ -9,8 +9,8 @@ ghost use Rattle.machine_names.specs.declared.names.ForkName.{ForkName as AForkN
 ghost use Rattle.plain_units.specs.Steps.{refers};
 ghost use Rattle.ka10_unit.specs.declared.taken.Taken.{Taken as ATaken};
 ghost use Rattle.ka10_unit.specs.Gathers.{Serves, framed};
-ghost use Rattle.ka10_unit.specs.Planning.{Concludes, IsPlan, IsStep, NeedsNothing, Plans, StepsOn, as_step, calls_local, does_at, is_illegal as is_illegal_word, stopped_by};
-ghost use Rattle.ka10_unit.specs.Taking.{IsOpen, IsPutBelow, IsTrap, Stands};
+ghost use Rattle.ka10_unit.specs.Planning.{Concludes, IsPlan, IsStep, NeedsNothing, PlanNeeds, Plans, StepsOn, as_step, calls_local, does_at, is_illegal as is_illegal_word, stopped_by};
+ghost use Rattle.ka10_unit.specs.Taking.{IsOpen, IsPutBelow, IsTrap, StopNeeds, Stands, most_frames};
 
 use crate::addresses::{Address, address_of};
 use crate::dispatch::is_executive;
@@ -101,6 +101,7 @@ fn go_on<P: Pages>(
     requires kept { IsPutBelow (2 ^ 18) taken.old.kept }
     ensures bounds { IsStep fork result taken.new }
     ensures core { P.means.flat ≡ true → IfErr result IsTrap }
+    ensures needs { IfErr result (StopNeeds P.means.store most_frames pages.now) }
     ensures told { (d : DrumWords) → P.means.fits pages.now d → Stands fork (framed P.means pages.now d) taken.old
         → StepsOn fork (framed P.means pages.now d) regs.now.ac taken.old taken.new (λ next. refers at Kind.Execute (next is_local)) result }
 {
@@ -125,6 +126,7 @@ fn call_local<P: Pages>(
     requires kept { IsPutBelow (2 ^ 18) taken.old.kept }
     ensures bounds { IsStep fork result taken.new }
     ensures core { P.means.flat ≡ true → IfErr result IsTrap }
+    ensures needs { IfErr result (StopNeeds P.means.store most_frames pages.now) }
     ensures told { (d : DrumWords) → P.means.fits pages.now d → Stands fork (framed P.means pages.now d) taken.old
         → StepsOn fork (framed P.means pages.now d) regs.now.ac taken.old taken.new (calls_local word e) result }
 {
@@ -182,6 +184,7 @@ fn do_at<P: Pages>(
     requires kept { IsPutBelow (2 ^ 18) taken.old.kept }
     ensures bounds { IsStep fork result taken.new }
     ensures core { P.means.flat ≡ true → IfErr result IsTrap }
+    ensures needs { IfErr result (StopNeeds P.means.store most_frames pages.now) }
     ensures told { (d : DrumWords) → P.means.fits pages.now d → Stands fork (framed P.means pages.now d) taken.old
         → StepsOn fork (framed P.means pages.now d) regs.now.ac taken.old taken.new (does_at row.family row is_local regs.now word address.now) result }
 {
@@ -212,6 +215,7 @@ fn do_word<P: Pages>(
     requires kept { IsPutBelow (2 ^ 18) taken.old.kept }
     ensures bounds { IsStep fork result taken.new }
     ensures core { P.means.flat ≡ true → IfErr result IsTrap }
+    ensures needs { IfErr result (StopNeeds P.means.store most_frames pages.now) }
     ensures told { (d : DrumWords) → P.means.fits pages.now d → Stands fork (framed P.means pages.now d) taken.old
         → StepsOn fork (framed P.means pages.now d) regs.now.ac taken.old taken.new (executes (row_of (opcode word)).family (row_of (opcode word)) is_local regs.now word) result }
 {
@@ -253,6 +257,7 @@ fn follow<P: Pages>(
     requires kept { IsPutBelow (2 ^ 18) taken.old.kept }
     ensures bounds { IsPlan fork result taken.new }
     ensures core { P.means.flat ≡ true → NeedsNothing result }
+    ensures needs { PlanNeeds P.means.store pages.now result }
     ensures told { (d : DrumWords) → P.means.fits pages.now d → Stands fork (framed P.means pages.now d) taken.old
         → Concludes fork (framed P.means pages.now d) regs.now.ac taken.old taken.new (executed left is_local regs.now word) result }
 {
@@ -283,6 +288,7 @@ pub fn plan<P: Pages>(taken: &mut Taken, regs: &Regs, pages: &P, fork: ForkName)
     requires pc { regs.now.pc < 2 ^ 18 }
     ensures bounds { IsPlan fork result taken.new }
     ensures core { P.means.flat ≡ true → NeedsNothing result }
+    ensures needs { PlanNeeds P.means.store pages.now result }
     ensures told { (d : DrumWords) → P.means.fits pages.now d → Plans fork (framed P.means pages.now d) regs.now taken.new result }
 {
     taken.restart(fork);

@@ -5,7 +5,7 @@ ghost use Rattle.machine_names.specs.Bounds.{IsAddress};
 ghost use Rattle.page_contracts.specs.DrumWords.{DrumWords};
 ghost use Rattle.ka10_unit.specs.Gathers.{IsOf, Serves, framed};
 ghost use Rattle.ka10_unit.specs.Planning.{Ends, LeavesEnd};
-ghost use Rattle.ka10_unit.specs.Taking.{IsOpen, IsPutBelow, IsTrap, Stands};
+ghost use Rattle.ka10_unit.specs.Taking.{IsOpen, IsPutBelow, IsTrap, Stands, StopNeeds, most_frames};
 
 use crate::addresses::address_of;
 use crate::bytes::{
@@ -35,6 +35,7 @@ fn load_byte<P: Pages>(
     requires is_open { IsOpen fork taken.old }
     requires kept { IsPutBelow (2 ^ 18) taken.old.kept }
     ensures leaves { LeavesEnd P.means fork taken.old taken.new result }
+    ensures needs { IfErr result (StopNeeds P.means.store most_frames pages.now) }
     ensures told { (d : DrumWords) → P.means.fits pages.now d → Stands fork (framed P.means pages.now d) taken.old
         → Ends fork (framed P.means pages.now d) regs.now.ac taken.old taken.new (loads_byte regs.now ac pointer) result }
 {
@@ -69,6 +70,7 @@ fn deposit_byte<P: Pages>(
     requires is_open { IsOpen fork taken.old }
     requires kept { IsPutBelow (2 ^ 18) taken.old.kept }
     ensures leaves { LeavesEnd P.means fork taken.old taken.new result }
+    ensures needs { IfErr result (StopNeeds P.means.store most_frames pages.now) }
     ensures told { (d : DrumWords) → P.means.fits pages.now d → Stands fork (framed P.means pages.now d) taken.old
         → Ends fork (framed P.means pages.now d) regs.now.ac taken.old taken.new (deposits_byte regs.now ac pointer) result }
 {
@@ -107,6 +109,7 @@ pub fn byte_instruction<P: Pages>(
     requires is_open { IsOpen fork taken.old }
     requires kept { IsPutBelow (2 ^ 18) taken.old.kept }
     ensures leaves { LeavesEnd P.means fork taken.old taken.new result }
+    ensures needs { IfErr result (StopNeeds P.means.store most_frames pages.now) }
     ensures told { (d : DrumWords) → P.means.fits pages.now d → Stands fork (framed P.means pages.now d) taken.old
         → Ends fork (framed P.means pages.now d) regs.now.ac taken.old taken.new (does_pointer code regs.now ac e) result }
 {

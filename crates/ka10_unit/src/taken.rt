@@ -13,7 +13,7 @@ ghost use Rattle.plain_units.specs.Steps.{denied_channel, is_accumulator, refers
 ghost use Rattle.machine_names.specs.declared.names.PageName.{PageName as APageName};
 ghost use Rattle.page_gather.specs.Gathering.{AreSound, Gathers, IsNear, left_of};
 ghost use Rattle.ka10_unit.specs.Gathers.{IsOf, Serves, framed};
-ghost use Rattle.ka10_unit.specs.Taking.{AsksAt, CanPut, CanWrite, Follows, HasPage, IsOpen, IsPutBelow, IsTrap, Stands, StaysOpen, progress, so_far, stands_at, widened_by};
+ghost use Rattle.ka10_unit.specs.Taking.{AsksAt, CanPut, CanWrite, Follows, HasPage, IsOpen, IsPutBelow, IsTrap, Stands, StaysOpen, StopNeeds, most_frames, progress, so_far, stands_at, widened_by};
 
 use arrayvec::ArrayVec;
 use machine_names::{ACCUMULATORS, ForkName, Kind, Place, Slot, Tty};
@@ -53,6 +53,7 @@ impl Taken {
     /// Nothing is taken.
     pub fn new() -> Taken
         ensures gather { result.gather.references ≡ [] }
+        ensures unmade { result.gather.homes ≡ 0 }
         ensures refs { result.refs.items ≡ [] }
         ensures kept { result.kept ≡ None }
     {
@@ -68,6 +69,7 @@ impl Taken {
         requires { fork.tty.0 < TERMINALS }
         ensures own { IsOf fork self.new.gather }
         ensures gather { self.new.gather.references ≡ [] }
+        ensures unmade { self.new.gather.homes ≡ 0 }
         ensures refs { self.new.refs.items ≡ [] }
         ensures kept { self.new.kept ≡ None }
         ensures told { (p : NumberedPages) (scene : Scene) → AreSound p scene → Gathers p scene self.new.gather }
@@ -116,6 +118,8 @@ fn ask<P: Pages>(
     ensures room { length gather.new.references ≤ length gather.old.references + 1 }
     ensures stopped { OnErr result (gather.new ≡ gather.old) }
     ensures core { P.means.flat ≡ true → IfErr result IsTrap }
+    ensures made { gather.new.homes ≤ gather.old.homes + 2 }
+    ensures needs { IfErr result (StopNeeds P.means.store (gather.old.homes + 2) pages.now) }
     ensures told { (d : DrumWords) → P.means.fits pages.now d → Gathers (P.means.plain pages.now d) (P.means.scene pages.now) gather.old
         → AsksAt fork (framed P.means pages.now d) gather.old gather.new at kind result }
 {
@@ -236,6 +240,7 @@ pub fn refer_next<P: Pages>(
     ensures writes { (d : DrumWords) → P.means.fits pages.now d → Stands fork (framed P.means pages.now d) taken.old → kind ≡ Kind.Write
         → CanWrite fork (framed P.means pages.now d) taken.new at result }
     ensures core { P.means.flat ≡ true → IfErr result IsTrap }
+    ensures needs { IfErr result (StopNeeds P.means.store most_frames pages.now) }
     ensures still { (d : DrumWords) → P.means.fits pages.now d → Stands fork (framed P.means pages.now d) taken.old
         → StaysOpen fork (so_far (framed P.means pages.now d) taken.old) (so_far (framed P.means pages.now d) taken.new) }
 {
@@ -266,6 +271,7 @@ pub fn refer<P: Pages>(
     ensures is_open { IsOpen fork taken.new }
     ensures kept { taken.new.kept ≡ taken.old.kept }
     ensures core { P.means.flat ≡ true → IfErr result IsTrap }
+    ensures needs { IfErr result (StopNeeds P.means.store most_frames pages.now) }
     ensures told { (d : DrumWords) → P.means.fits pages.now d → Stands fork (framed P.means pages.now d) taken.old
         → Follows fork (framed P.means pages.now d) regs.now.ac taken.old taken.new (refers at kind) result }
     ensures writes { (d : DrumWords) → P.means.fits pages.now d → Stands fork (framed P.means pages.now d) taken.old → kind ≡ Kind.Write
@@ -304,6 +310,7 @@ pub fn widen<P: Pages>(
     ensures own { IsOf fork taken.new.gather }
     ensures kept { taken.new.kept ≡ taken.old.kept }
     ensures core { P.means.flat ≡ true → IfErr result IsTrap }
+    ensures needs { IfErr result (StopNeeds P.means.store most_frames pages.now) }
     ensures told { (d : DrumWords) → P.means.fits pages.now d → Stands fork (framed P.means pages.now d) taken.old
         → Follows fork (framed P.means pages.now d) regs.now.ac taken.old taken.new (widened_by at) result }
     ensures writes { (d : DrumWords) → P.means.fits pages.now d → Stands fork (framed P.means pages.now d) taken.old

@@ -4,12 +4,12 @@ ghost use Rattle.plain_units.specs.Blocks.{next_address};
 ghost use Rattle.plain_units.specs.Blocks.{stored_from};
 ghost use Rattle.machine_names.specs.Bounds.{IsAddress};
 ghost use Rattle.page_contracts.specs.DrumWords.{DrumWords};
-ghost use Rattle.page_contracts.specs.Pages.{StaysPut};
+ghost use Rattle.page_contracts.specs.Pages.{MayLose, StaysPut};
 ghost use Rattle.machine_names.specs.declared.names.TheConstants.{ACCUMULATORS};
 ghost use Rattle.ka10_unit.specs.Blocks.{AreOpenAt, IsStoredAt, TakesBlock, stored_word};
 ghost use Rattle.ka10_unit.specs.Carrying.{Grows};
 ghost use Rattle.ka10_unit.specs.Gathers.{IsOf, Serves, framed};
-ghost use Rattle.ka10_unit.specs.Taking.{IsTrap, Stands, pages_so_far, so_far};
+ghost use Rattle.ka10_unit.specs.Taking.{IsTrap, StopNeeds, Stands, pages_so_far, so_far, most_frames};
 
 use crate::carry::{carry, store};
 use crate::taken::{Stop, Taken, refer_next};
@@ -45,6 +45,7 @@ pub fn refer_block<P: Pages>(
     ensures own { IsOf fork taken.new.gather }
     ensures kept { taken.new.kept ≡ None }
     ensures core { P.means.flat ≡ true → IfErr result IsTrap }
+    ensures needs { IfErr result (StopNeeds P.means.store most_frames pages.now) }
     ensures told { (d : DrumWords) → P.means.fits pages.now d → TakesBlock fork (framed P.means pages.now d) regs.now at kind taken.new result }
 {
     taken.restart(fork);
@@ -84,6 +85,7 @@ fn store_at<P: Pages>(pages: &mut P, fork: ForkName, at: u32, word: Word)
         → P.means.plain pages.new d ≡ stored_word fork (P.means.plain pages.old d) at word }
     ensures fits { (d : DrumWords) → P.means.fits pages.old d → P.means.fits pages.new d }
     ensures stays { StaysPut P.means pages.old pages.new }
+    ensures loses { MayLose P.means pages.old pages.new }
 {
     if at >= ACCUMULATORS {
         store(pages, fork, Some(Put { at, word }));
@@ -99,6 +101,7 @@ pub fn store_block<P: Pages>(pages: &mut P, fork: ForkName, at: u32, words: &[Wo
         → P.means.plain pages.new d ≡ stored_from (P.means.plain pages.old d) fork at words.now }
     ensures fits { (d : DrumWords) → P.means.fits pages.old d → P.means.fits pages.new d }
     ensures stays { StaysPut P.means pages.old pages.new }
+    ensures loses { MayLose P.means pages.old pages.new }
 {
     let mut next = at;
     for i in 0..WORDS {

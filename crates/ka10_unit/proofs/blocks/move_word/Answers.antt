@@ -4,6 +4,7 @@ use Rattle.plain_units.specs.Deeds.{Deed}
 use Rattle.ka10_unit.specs.InPlace.{Finish, InPlace}
 use Rattle.ka10_unit.proofs.BlockLemmas.{blt, blt_row, blt_deed}
 use Rattle.ka10_unit.proofs.Placing.{deed_in_place}
+use Rattle.ka10_unit.proofs.Placing.{slow_in_place}
 use Rattle.ka10_unit.proofs.blocks.move_word.Goals as goal
 
 pub returns-in-Some : goal.returns-in-Some
@@ -15,3 +16,6 @@ returns-in-Some g c =
     (subst (λ (d : Deed). InPlace g.P.Pages.means c.args.space (Finish regs ac d) c.args.pages.now c.store_word.new.pages regs c.store_word.new.regs c.store_word.result) (sym (blt_deed regs ac c.args.it.e c.args.it.last m))
     c.store_word.ensures)
     (Some c.left.result) (sym (ap Some (c.left.ensures.value ∙ ap (λ (a : ℕ). left a) c.word_in-a.ensures))) c.in-Some.ensures.told
+
+pub returns-in-None : goal.returns-in-None
+returns-in-None g c = slow_in_place g.P.Pages.means c.args.space _ c.args.pages.now c.args.regs.now c.requires.pc

@@ -6,6 +6,7 @@ use Rattle.ka10_unit.specs.ByteRests.{begun, deposited_word}
 use Rattle.ka10_unit.specs.Commits.{Leaves}
 use Rattle.ka10_unit.proofs.Placing.{finish_at_in_place}
 use Rattle.ka10_unit.proofs.ByteLemmas.{behind_word, begun_in_place, takes_begun}
+use Rattle.ka10_unit.proofs.Placing.{slow_in_place}
 use Rattle.ka10_unit.proofs.byte_units.deposit_word.Goals as goal
 
 pub returns-in-Some : goal.returns-in-Some
@@ -19,3 +20,6 @@ returns-in-Some g c =
     (finish_at_in_place g.P.Pages.means c.args.space regs c.commit_deposit-told.new.regs c.args.it.ac (byte_deposited regs c.args.it.ac p c.args.at w) c.commit_deposit-told.result left c.ended.result c.ended.ensures
     c.args.pages.now c.store.new.pages c.store.new.regs c.args.at refl c.in-Some.ensures.write c.store.ensures)
     (λ d f fits is. takes_begun c.args.second f (g.P.Pages.means.plain c.args.pages.now d) c.args.regs.now c.args.at w (record { ready = c.in-Some.ensures.read d f fits is; is = c.load-w.ensures.told d f fits is })))
+
+pub returns-in-None : goal.returns-in-None
+returns-in-None g c = slow_in_place g.P.Pages.means c.args.space _ c.args.pages.now c.args.regs.now c.requires.pc

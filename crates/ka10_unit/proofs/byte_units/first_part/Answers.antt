@@ -3,6 +3,7 @@ use Rattle.ka10_unit.specs.declared.bytes.ByteStep.TheVariants.{FirstPart}
 use Rattle.ka10_unit.specs.Bytes.{first_part, steps_of}
 use Rattle.ka10_unit.proofs.Placing.{finish_at_in_place}
 use Rattle.ka10_unit.proofs.ByteLemmas.{behind_word}
+use Rattle.ka10_unit.proofs.Placing.{slow_in_place}
 use Rattle.ka10_unit.proofs.byte_units.first_part.Goals as goal
 
 pub returns-in-Some : goal.returns-in-Some
@@ -13,3 +14,6 @@ returns-in-Some g c =
     (finish_at_in_place g.P.Pages.means c.args.space regs c.commit_first_part-told.new.regs c.args.it.ac (first_part regs c.args.it.e p) c.commit_first_part-told.result c.commit_first_part-told.ensures c.ended.result c.ended.ensures
     c.args.pages.now c.store.new.pages c.store.new.regs c.args.it.e refl c.in-Some.ensures.write c.store.ensures)
     (λ d f fits is. record { ready = c.in-Some.ensures.read d f fits is; is = c.load-p.ensures.told d f fits is })
+
+pub returns-in-None : goal.returns-in-None
+returns-in-None g c = slow_in_place g.P.Pages.means c.args.space _ c.args.pages.now c.args.regs.now c.requires.pc

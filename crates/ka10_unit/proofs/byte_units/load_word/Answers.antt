@@ -6,6 +6,7 @@ use Rattle.ka10_unit.specs.ByteRests.{begun, loaded_byte}
 use Rattle.ka10_unit.specs.Commits.{Leaves}
 use Rattle.ka10_unit.proofs.Placing.{finish_in_place}
 use Rattle.ka10_unit.proofs.ByteLemmas.{behind_word, begun_in_place, takes_begun}
+use Rattle.ka10_unit.proofs.Placing.{slow_in_place}
 use Rattle.ka10_unit.proofs.byte_units.load_word.Goals as goal
 
 pub returns-in-Some : goal.returns-in-Some
@@ -18,3 +19,6 @@ returns-in-Some g c =
     (behind_word g.P.Pages.means c.args.space regs c.args.pages.now c.args.pages.now c.commit_load-told.new.regs c.ended.result 15 14 c.args.at w (λ x. finishes regs c.args.it.ac (byte_loaded regs p x)) (lit< tt) (lit≤ tt)
     (finish_in_place g.P.Pages.means c.args.space regs c.commit_load-told.new.regs c.args.it.ac (byte_loaded regs p w) c.commit_load-told.result left c.ended.result c.ended.ensures c.args.pages.now tt)
     (λ d f fits is. takes_begun c.args.second f (g.P.Pages.means.plain c.args.pages.now d) c.args.regs.now c.args.at w (c.in-Some.ensures.told d f fits is)))
+
+pub returns-in-None : goal.returns-in-None
+returns-in-None g c = slow_in_place g.P.Pages.means c.args.space _ c.args.pages.now c.args.regs.now c.requires.pc

@@ -1,10 +1,12 @@
-use Rattle.std.proofs.Common.{◌≡◌, ◌∙◌, ap}
+use Rattle.std.proofs.Common.{◌≡◌, ◌∙◌, ap, subst}
 use Rattle.plain_pages.specs.PlainPages.{NumberedPages}
 use Rattle.plain_units.specs.Steps.{put_into}
-use Rattle.ka10_unit.specs.Carrying.{StaysAway}
+use Rattle.ka10_unit.specs.Carrying.{Grows, StaysAway}
 use Rattle.ka10_unit.specs.Gathers.{Framed, framed}
 use Rattle.ka10_unit.specs.Taking.{so_far}
-use Rattle.ka10_unit.proofs.Carried.{away_on, away_same, put_framed, put_still}
+use Rattle.ka10_unit.proofs.Carried.{away_on, away_same, grows_more, grows_stored, put_framed, put_still}
+use Rattle.machine_names.specs.declared.names.Tty.{Tty}
+use Rattle.page_gather.specs.Making.{Grows as Made}
 use Rattle.ka10_unit.proofs.carry.carry.Goals as goal
 
 pub returns-clause-told : goal.returns-clause-told
@@ -26,3 +28,12 @@ pub returns-clause-away : goal.returns-clause-away
 returns-clause-away g c =
     let made = c.make.ensures.grows in
     away_on _ _ _ (record { maps = made.maps_away; pages = made.pages_away }) (away_on _ _ _ (away_same _ _ c.store.ensures.stays.scene) (away_same _ _ c.store-2.ensures.stays.scene))
+
+pub returns-clause-grows : goal.returns-clause-grows
+returns-clause-grows g c =
+    let means = g.P.Pages.means in
+    let owner = c.args.fork.tty in
+    let made = subst (λ (o : Tty). Made means o 128 c.args.pages.now c.make.new.pages) c.requires.own.owner c.make.ensures.grows in
+    let first : Grows means c.args.fork.tty 128 c.args.pages.now c.make.new.pages = record { lives = made.lives; forks = made.forks; most = made.most; serial = made.serial; serials = made.serials; loses = made.loses } in
+    let second = grows_more means owner 128 0 c.args.pages.now c.make.new.pages c.store.new.pages first (grows_stored means owner c.make.new.pages c.store.new.pages c.store.ensures.stays c.store.ensures.loses) in
+    grows_more means owner 128 0 c.args.pages.now c.store.new.pages c.store-2.new.pages second (grows_stored means owner c.store.new.pages c.store-2.new.pages c.store-2.ensures.stays c.store-2.ensures.loses)

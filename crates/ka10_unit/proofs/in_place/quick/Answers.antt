@@ -4,6 +4,7 @@ use Rattle.ka10_unit.specs.Fetches.{FetchedUnit}
 use Rattle.ka10_unit.proofs.Finishing.{for_all}
 use Rattle.ka10_unit.proofs.Placing.{in_place_more}
 use Rattle.ka10_unit.proofs.Fetching.{there_still, unit_fetched}
+use Rattle.ka10_unit.proofs.Placing.{slow_in_place}
 use Rattle.ka10_unit.proofs.in_place.quick.Goals as goal
 
 pub returns-in-Some-effective_address-clause-there : goal.returns-in-Some-effective_address-clause-there
@@ -22,3 +23,9 @@ returns-in-Some-effective_address-clause-unit g c =
     let told = c.in-Some.ensures.told d f fits is can in
     unit_fetched f (g.P.Pages.means.plain c.args.pages.now d) regs word c.opcode.result c.ac_field.result e last _ c.fetch.new.kept told.0 told.1 c.opcode.ensures.value c.ac_field.ensures.value
     (c.in-Some-effective_address.ensures.told d f 1 fits is (lit≤ tt)) rest))
+
+pub returns-in-None-clause-unit : goal.returns-in-None-clause-unit
+returns-in-None-clause-unit g c = slow_in_place g.P.Pages.means c.args.space _ c.args.pages.now c.args.regs.now c.requires.pc
+
+pub returns-in-None-effective_address-clause-unit : goal.returns-in-None-effective_address-clause-unit
+returns-in-None-effective_address-clause-unit g c = slow_in_place g.P.Pages.means c.args.space _ c.args.pages.now c.args.regs.now c.requires.pc

@@ -1,5 +1,6 @@
 use Rattle.std.proofs.Common.{◌<◌, arith}
 use Rattle.ka10_unit.proofs.Stepping.{out_of_words, word_stops, word_calls, word_ends, word_goes}
+use Rattle.ka10_unit.proofs.Lost.{stop_plan}
 use Rattle.ka10_unit.proofs.plans.+follow.Goals as goal
 
 pub returns-then-left-eq0-clause-told : goal.returns-then-left-eq0-clause-told
@@ -25,3 +26,9 @@ returns-in-Ok-Goes-clause-told g t c d fits stands =
     let more : 0 < c.args.left = omega arith in
     let here = rw c.in-Ok-Goes.field-0-is at (c.in-Ok-Goes.ensures.told d fits stands) in
     word_goes _ _ c.args.regs.now _ _ c.args.left c.args.word c.args.is_local more _ c.in-Ok-Goes.next _ here (c.follow.ensures.told d fits here.stands)
+
+pub returns-then-left-eq0-clause-needs : goal.returns-then-left-eq0-clause-needs
+returns-then-left-eq0-clause-needs g t c = rw c.stopped.ensures.plan tt
+
+pub returns-in-Err-clause-needs : goal.returns-in-Err-clause-needs
+returns-in-Err-clause-needs g t c = rw c.stopped-in-Err.ensures.plan (stop_plan g.P.Pages.means.store c.args.pages.now c.in-Err.stop c.in-Err.ensures.needs)

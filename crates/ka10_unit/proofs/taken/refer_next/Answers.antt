@@ -1,5 +1,6 @@
-use Rattle.std.proofs.Common.{refl}
+use Rattle.std.proofs.Common.{refl, arith}
 use Rattle.ka10_unit.proofs.Referring.{refer_stops, refer_goes, stands_still}
+use Rattle.ka10_unit.proofs.Lost.{stop_more}
 use Rattle.ka10_unit.proofs.taken.refer_next.Goals as goal
 
 pub returns-in-Err-clause-told : goal.returns-in-Err-clause-told
@@ -15,3 +16,6 @@ returns-in-Ok-clause-told g c d fits stands =
 
 pub returns-in-Ok-clause-still : goal.returns-in-Ok-clause-still
 returns-in-Ok-clause-still g c d fits stands = (c.in-Ok.ensures.told d fits stands.gathers).still
+
+pub returns-in-Err-clause-needs : goal.returns-in-Err-clause-needs
+returns-in-Err-clause-needs g c = stop_more g.P.Pages.means.store c.args.pages.now _ _ c.in-Err.stop (omega (arith, c.requires.is_open.made, c.requires.is_open.references)) c.in-Err.ensures.needs

@@ -3,6 +3,7 @@ use Rattle.plain_units.specs.Deeds.{in_ac}
 use Rattle.ka10_unit.specs.InPlace.{deed_in}
 use Rattle.ka10_unit.specs.Targets.{Target, place_of}
 use Rattle.ka10_unit.proofs.Placing.{deed_in_place, deed_to, finish_at_in_place}
+use Rattle.ka10_unit.proofs.Placing.{slow_in_place}
 use Rattle.ka10_unit.proofs.ways.replace.Goals as goal
 
 pub returns-in-Some : goal.returns-in-Some
@@ -14,3 +15,6 @@ returns-in-Some g c =
     c.args.pages.now c.store.new.pages c.store.new.regs c.args.it.e
     (deed_to i c.args.regs.now c.args.it.ac c.args.it.e c.args.it.last m c.args.it.e (ap (λ (t : Target). place_of t (in_ac c.args.regs.now c.args.it.ac) c.args.it.e) c.requires.to)) c.in-Some.ensures.write c.store.ensures)
     (Some c.args.it.e) c.requires.taken (λ d f fits is. record { ready = c.in-Some.ensures.read d f fits is; is = c.load-m.ensures.told d f fits is })
+
+pub returns-in-None : goal.returns-in-None
+returns-in-None g c = slow_in_place g.P.Pages.means c.args.space _ c.args.pages.now c.args.regs.now c.requires.pc

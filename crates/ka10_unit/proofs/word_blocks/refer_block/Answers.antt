@@ -17,7 +17,7 @@ pub loop-i-init : goal.loop-i-init
 loop-i-init g c =
     let t = c.restart.new.self in
     record {
-      is_open = record { own = c.restart.ensures.own; gathered = rw (c.restart.ensures.gather, c.restart.ensures.refs) (omega arith); references = rw c.restart.ensures.refs (omega arith) };
+      is_open = record { own = c.restart.ensures.own; gathered = rw (c.restart.ensures.gather, c.restart.ensures.refs) (omega arith); references = rw c.restart.ensures.refs (omega arith); made = rw c.restart.ensures.unmade (omega arith) };
       kept = c.restart.ensures.kept;
       count = rw c.restart.ensures.refs (omega arith);
       long = refl;

@@ -8,6 +8,7 @@ use Rattle.ka10_unit.specs.Blocks.{AreOpenAt, IsStoredAt, address_behind, stored
 use Rattle.ka10_unit.specs.Gathers.{Framed, framed}
 use Rattle.ka10_unit.proofs.Carried.{serves_still}
 use Rattle.ka10_unit.proofs.TakenBlocks.{behind_low, first_address, one_behind, opens_stored, stored_on, stays_on}
+use Rattle.ka10_unit.proofs.Lost.{lost_none, lost_on}
 use Rattle.ka10_unit.proofs.word_blocks.store_block.Goals as goal
 
 pub store_at-requires-clause-serves : goal.store_at-requires-clause-serves
@@ -19,7 +20,8 @@ store_at-requires-clause-address g c = rw c.loop-i.invariant.next (behind_low c.
 pub loop-i-init : goal.loop-i-init
 loop-i-init g c = record {
   next = first_address c.args.at c.requires.address;
-  stays = record { touched = refl; scene = refl; space = refl; place = refl; lives = refl; forks = refl; serials = refl; most = refl };
+  stays = record { touched = refl; scene = refl; space = refl; place = refl; map_homes = refl; page_homes = refl; lives = refl; forks = refl; serials = refl; most = refl };
+  loses = lost_none g.P.Pages.means c.args.pages.now;
   fits = λ d fits. fits;
   open_at = λ d fits all. all;
   so_far = λ d fits all. ap (λ (a : ℕ). stored_from (g.P.Pages.means.plain c.args.pages.now d) c.args.fork a c.args.words.now) (sym (first_address c.args.at c.requires.address));
@@ -39,6 +41,7 @@ loop-i-preserved g c =
     record {
       next = c.next_address-next.ensures ∙ ap next_address before.next ∙ one_behind c.args.at i;
       stays = stays_on means c.args.pages.now c.loop-i.pages c.store_at.new.pages before.stays c.store_at.ensures.stays;
+      loses = lost_on means c.args.pages.now c.loop-i.pages c.store_at.new.pages before.loses c.store_at.ensures.loses;
       fits = λ d fits. c.store_at.ensures.fits d (before.fits d fits);
       open_at = λ d fits all. λ k less high.
           subst (λ (q : Framed). IsOpenAt f q (address_behind c.args.at k)) (sym (λ i. record { pages = told d fits all i; scene = c.store_at.ensures.stays.scene i }))
