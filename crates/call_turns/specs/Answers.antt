@@ -1,10 +1,11 @@
 -- What a turn answers, and what it leaves of the parts that its call sees.
-use Rattle.std.specs.Prelude.{◌≡◌, ◌⊎◌, ◌<◌}
+use Rattle.std.specs.Prelude.{◌≡◌, ◌⊎◌, ◌<◌, ℕ}
 use Rattle.plain_model.specs.declared.call.End.{End}
 use Rattle.plain_model.specs.declared.call.End.TheVariants as end
 use Rattle.call_turns.specs.declared.answer.Answer.{Answer}
 use Rattle.call_turns.specs.declared.answer.Answer.TheVariants.{After, Wait, Halt, Refused, Failed, Trap, Need as Needs}
 use Rattle.page_contracts.specs.declared.answers.Need.{Need}
+use Rattle.page_contracts.specs.Stores.{StoreMeaning, IsNeeded}
 use Rattle.plain_model.specs.Calls.{parts_behind}
 use Rattle.call_turns.specs.Turns.{IsOut, IsPost, IsRegs}
 
@@ -37,6 +38,11 @@ IsTurn IsReason changed old made new answer e = Went changed old made new answer
 abbrev pub IsDone : Answer → Type 0
 IsDone (Needs need) = ⊥
 IsDone answer = Unit {0}
+
+-- what an answer needs first is so, over whatever drum: a page is in no frame, or fewer frames than so many are free
+abbrev pub AnswerNeeds : {P : Type 0} → StoreMeaning P → ℕ → P → Answer → Type 0
+AnswerNeeds store most p (Needs need) = IsNeeded store most p need
+AnswerNeeds store most p answer = Unit {0}
 
 -- the limits of an answer of a turn that ends
 abbrev pub FitsAnswer : Answer → Type 0

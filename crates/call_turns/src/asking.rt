@@ -1,8 +1,9 @@
 // What a turn asks, asked of pages of which some may be in no frame.
-ghost use Rattle.std.specs.Prelude.{◌≡◌, ◌<◌, ℕ, true, IsOk};
+ghost use Rattle.std.specs.Prelude.{◌≡◌, ◌<◌, ℕ, true, IfErr, IsOk};
 ghost use Rattle.machine_names.specs.declared.names.Access.{Access as AnAccess};
 ghost use Rattle.machine_names.specs.declared.names.TheConstants.{SPACE_PAGES};
 ghost use Rattle.page_contracts.specs.DrumWords.{DrumWords};
+ghost use Rattle.page_contracts.specs.Stores.{IsNeeded};
 ghost use Rattle.plain_model.specs.Calls.{entry_of};
 ghost use Rattle.call_turns.specs.Telling.{ask_need, entry_need, page_told, told, told_of};
 ghost use Rattle.call_turns.specs.Turns.{IsAsk};
@@ -20,6 +21,7 @@ fn entry_of<P: Pages>(pages: &P, slot: Slot) -> Result<MapEntry, Need>
     requires { slot.page < SPACE_PAGES }
     ensures told { (d : DrumWords) → P.means.fits pages.now d → result ≡ told (entry_need (P.means.scene pages.now) (P.means.plain pages.now d) slot) (entry_of (P.means.plain pages.now d) slot) }
     ensures page { (serial page : ℕ) (a : AnAccess) → result ≡ Ok (MapEntry.Follows serial page a) → page < SPACE_PAGES }
+    ensures needs { IfErr result (IsNeeded P.means.store 1 pages.now) }
     ensures core { P.means.flat ≡ true → IsOk result }
 {
     match pages.entry(slot) {
@@ -33,6 +35,7 @@ fn entry_of<P: Pages>(pages: &P, slot: Slot) -> Result<MapEntry, Need>
 fn page_within<P: Pages>(pages: &P, slot: Slot, links: u32) -> Result<Option<PageName>, Need>
     requires { slot.page < SPACE_PAGES }
     ensures told { (d : DrumWords) → P.means.fits pages.now d → result ≡ page_told links (P.means.scene pages.now) (P.means.plain pages.now d) slot }
+    ensures needs { IfErr result (IsNeeded P.means.store 1 pages.now) }
     ensures core { P.means.flat ≡ true → IsOk result }
 {
     if links == 0 {
@@ -58,6 +61,7 @@ fn page_within<P: Pages>(pages: &P, slot: Slot, links: u32) -> Result<Option<Pag
 pub fn ask<P: Pages>(what: Ask, pages: &P) -> Result<Reply, Need>
     requires { IsAsk what }
     ensures told { (d : DrumWords) → P.means.fits pages.now d → result ≡ told (ask_need (P.means.scene pages.now) (P.means.plain pages.now d) what) (told_of (P.means.plain pages.now d) what) }
+    ensures needs { IfErr result (IsNeeded P.means.store 1 pages.now) }
     ensures core { P.means.flat ≡ true → IsOk result }
 {
     match what {

@@ -1,6 +1,7 @@
 // A turn, driven to its end: all that it asks is asked, and nothing is changed.
-ghost use Rattle.std.specs.Prelude.{◌≡◌, true, IsOk, IfOk};
+ghost use Rattle.std.specs.Prelude.{◌≡◌, true, IfErr, IsOk, IfOk};
 ghost use Rattle.page_contracts.specs.DrumWords.{DrumWords};
+ghost use Rattle.page_contracts.specs.Stores.{IsNeeded};
 ghost use Rattle.call_turns.specs.Needing.{DrivenTo};
 ghost use Rattle.call_turns.specs.Turns.{FitsTurn, FitsEnd, turn_of};
 ghost use Rattle.call_turns.specs.declared.turn.Reply.{Reply as AReply};
@@ -41,6 +42,7 @@ pub fn driven<C: Copy, V, S: Rest<C, V> + Copy, P: Pages>(
     requires turn { FitsTurn S.holds S.sound turn }
     ensures sound { IfOk result (FitsEnd S.sound) }
     ensures told { (d : DrumWords) → P.means.fits pages.now d → DrivenTo (P.means.scene pages.now) (P.means.plain pages.now d) (turn_of (S.later parts.now) turn most) result }
+    ensures needs { IfErr result (IsNeeded P.means.store 1 pages.now) }
     ensures core { P.means.flat ≡ true → IsOk result }
 {
     match turn {

@@ -15,9 +15,12 @@ use Rattle.page_contracts.specs.declared.answers.Seen.TheVariants.{Is, Missing}
 use Rattle.plain_pages.specs.PlainPages.{NumberedPages}
 use Rattle.plain_pages.specs.Maps.{entry_at}
 use Rattle.plain_pages.specs.References.{with_entry}
-use Rattle.page_contracts.specs.Pages.{Scene, seen_of, map_away_or}
+use Rattle.page_contracts.specs.Pages.{PagesMeaning, MayLose, Scene, seen_of, map_away_or}
+use Rattle.page_contracts.specs.Stores.{StoreMeaning, traffic}
+use Rattle.page_contracts.proofs.Losing.{loses_none}
 use Rattle.plain_pages.specs.NewEntries.{changed, entry_to}
 use Rattle.plain_model.specs.Calls.{parts_behind}
+use Rattle.call_turns.specs.Answers.{AnswerNeeds, answer_of}
 use Rattle.plain_model.specs.MapCalls.{map_changed}
 use Rattle.page_contracts.specs.declared.answers.Need.{Need}
 use Rattle.pmap_calls.specs.Making.{IsMade, change_need}
@@ -68,3 +71,16 @@ pub made_so : {A : Type 0} (scene : Scene) (p q : NumberedPages) (r : Result A N
     → IsMade p q r (change_need scene p what) (map_changed what p)
 made_so scene p q (Ok done) what as_is whole is same made = made ∙ same
 made_so scene p q (Err n) what as_is whole is same made = (made.0, ap (change_need scene p) is ∙ made.1)
+
+-- pages that stay lose nothing
+pub lost_none : {P : Type 0} (means : PagesMeaning P) (s : P) → MayLose means s s
+lost_none means s = loses_none (traffic means.store s) (traffic means.store s) refl refl refl refl
+
+-- an end needs nothing
+pub end_needs : {P : Type 0} (store : StoreMeaning P) (most : ℕ) (s : P) (e : End MapChange) → AnswerNeeds store most s (answer_of e)
+end_needs store most s (Done what regs out post) = tt
+end_needs store most s (Waits on) = tt
+end_needs store most s Halts = tt
+end_needs store most s (Refused code) = tt
+end_needs store most s (Failed code) = tt
+end_needs store most s (Trap channel) = tt

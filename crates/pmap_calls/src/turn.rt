@@ -1,9 +1,11 @@
 // One turn of a call on maps.
-ghost use Rattle.std.specs.Prelude.{◌≡◌, ◌<◌, true, IsOk};
+ghost use Rattle.std.specs.Prelude.{◌≡◌, ◌<◌, true, IfErr, IsOk};
 ghost use Rattle.machine_names.specs.declared.names.TheConstants.{SPACE_PAGES};
+ghost use Rattle.page_contracts.specs.Pages.{MayLose};
+ghost use Rattle.page_contracts.specs.Stores.{IsNeeded};
 ghost use Rattle.plain_model.specs.MapCalls.{map_call, map_changed};
 ghost use Rattle.plain_pages.specs.NewEntries.{IsNewEntry, changed};
-ghost use Rattle.call_turns.specs.Answers.{FitsAnswer, IsDone};
+ghost use Rattle.call_turns.specs.Answers.{AnswerNeeds, FitsAnswer, IsDone};
 ghost use Rattle.call_turns.specs.Telling.{entry_need};
 ghost use Rattle.call_turns.specs.Turns.{IsRegs, FitsEnd};
 ghost use Rattle.pmap_calls.specs.Making.{Ends, Makes, MakesNone, Turns, change_need};
@@ -26,7 +28,9 @@ fn set<P: Pages>(pages: &mut P, slot: Slot, new: NewEntry) -> Result<(), Need>
     requires page { slot.page < SPACE_PAGES }
     requires new { IsNewEntry new }
     ensures told { Makes P.means pages.old pages.new result (λ scene p. entry_need scene p slot) (λ p. changed p slot new) }
+    ensures needs { IfErr result (IsNeeded P.means.store 1 pages.new) }
     ensures core { P.means.flat ≡ true → IsOk result }
+    ensures loses { MayLose P.means pages.old pages.new }
     ensures none { MakesNone P.means pages.old pages.new }
 {
     match pages.entry(slot) {
@@ -43,7 +47,9 @@ fn set<P: Pages>(pages: &mut P, slot: Slot, new: NewEntry) -> Result<(), Need>
 fn change<P: Pages>(pages: &mut P, what: MapChange) -> Result<(), Need>
     requires { IsMapChange what }
     ensures told { Makes P.means pages.old pages.new result (λ scene p. change_need scene p what) (map_changed what) }
+    ensures needs { IfErr result (IsNeeded P.means.store 1 pages.new) }
     ensures core { P.means.flat ≡ true → IsOk result }
+    ensures loses { MayLose P.means pages.old pages.new }
     ensures none { MakesNone P.means pages.old pages.new }
 {
     match what {
@@ -62,8 +68,10 @@ fn change<P: Pages>(pages: &mut P, what: MapChange) -> Result<(), Need>
 fn end<P: Pages>(end: End<MapChange>, pages: &mut P) -> Answer
     requires { FitsEnd IsMapChange end }
     ensures told { Ends P.means pages.old pages.new result end }
+    ensures needs { AnswerNeeds P.means.store 1 pages.new result }
     ensures core { P.means.flat ≡ true → IsDone result }
     ensures fits { FitsAnswer result }
+    ensures loses { MayLose P.means pages.old pages.new }
     ensures none { MakesNone P.means pages.old pages.new }
 {
     match &end {
@@ -82,8 +90,10 @@ fn end<P: Pages>(end: End<MapChange>, pages: &mut P) -> Answer
 pub fn call<P: Pages>(number: u32, regs: &Regs, who: ForkName, tree: &Tree, pages: &mut P) -> Answer
     requires { IsRegs regs.now }
     ensures told { Turns P.means pages.old pages.new result (map_call number (record { who = who; regs = regs.now; forks = tree.now.forks })) }
+    ensures needs { AnswerNeeds P.means.store 1 pages.new result }
     ensures core { P.means.flat ≡ true → IsDone result }
     ensures fits { FitsAnswer result }
+    ensures loses { MayLose P.means pages.old pages.new }
     ensures none { MakesNone P.means pages.old pages.new }
 {
     match driven(first(number, regs, who, tree), MOST_ASKS, tree, pages) {

@@ -1,3 +1,4 @@
+use Rattle.pmap_calls.proofs.Changes.{lost_none}
 use Rattle.pmap_calls.proofs.Turning.{ends_so, waits_so}
 use Rattle.pmap_calls.proofs.turn.call.Goals as goal
 
@@ -9,3 +10,6 @@ returns-in-Ok-clause-told g c d f =
 pub returns-in-Err-clause-told : goal.returns-in-Err-clause-told
 returns-in-Err-clause-told g c d f =
     (f, waits_so c.args.tree.now c.first.result (g.P.Pages.means.scene c.args.pages.now) (g.P.Pages.means.plain c.args.pages.now d) (g.P.Pages.means.plain c.args.pages.now d) c.args.number (record { who = c.args.who; regs = c.args.regs.now; forks = c.args.tree.now.forks }) c.first.ensures.turn c.in-Err.need (c.in-Err.ensures.told d f))
+
+pub returns-in-Err-clause-loses : goal.returns-in-Err-clause-loses
+returns-in-Err-clause-loses g c = lost_none g.P.Pages.means c.args.pages.now

@@ -1,5 +1,5 @@
 use Rattle.plain_model.specs.declared.call.MapChange.TheVariants.{Unmap, Follow, Narrow}
-use Rattle.pmap_calls.proofs.Changes.{nothing_changed, made_so, unmaps, follows, narrows}
+use Rattle.pmap_calls.proofs.Changes.{lost_none, nothing_changed, made_so, unmaps, follows, narrows}
 use Rattle.pmap_calls.proofs.turn.change.Goals as goal
 
 pub returns-in-Nothing-clause-told : goal.returns-in-Nothing-clause-told
@@ -22,3 +22,6 @@ returns-in-Narrow-clause-told g c d f =
     let p = g.P.Pages.means.plain c.args.pages.now d in
     let t = c.set-in-Narrow.ensures.told d f in
     (t.0, made_so (g.P.Pages.means.scene c.args.pages.now) p (g.P.Pages.means.plain c.set-in-Narrow.new.pages d) c.set-in-Narrow.result c.args.what (Narrow c.in-Narrow.slot c.in-Narrow.access) _ c.in-Narrow.is (narrows p c.args.what c.in-Narrow.slot c.in-Narrow.access c.in-Narrow.is) t.1)
+
+pub returns-in-Nothing-clause-loses : goal.returns-in-Nothing-clause-loses
+returns-in-Nothing-clause-loses g c = lost_none g.P.Pages.means c.args.pages.now
