@@ -46,7 +46,7 @@ returns-then-is_map_call-clause-leaves g c =
     let who = c.args.who in
     let none = c.call-then-is_map_call.ensures.none in
     grown_leaves g.P.Pages.means who c.args.tree.now 128 c.args.pages.now c.call-then-is_map_call.new.pages
-    (record { lives = none.lives; forks = none.forks; most = none.most; serial = omega (arith, ap (λ s. s who.tty) none.serials); serials = λ t ne. ap (λ s. s t) none.serials }) c.requires.holds
+    (record { lives = none.lives; forks = none.forks; most = none.most; serial = omega (arith, ap (λ s. s who.tty) none.serials); serials = λ t ne. ap (λ s. s t) none.serials; loses = c.call-then-is_map_call.ensures.loses }) c.requires.holds
 
 pub returns-then-is_map_call-clause-regs : goal.returns-then-is_map_call-clause-regs
 returns-then-is_map_call-clause-regs g c = has_regs c.call-then-is_map_call.result c.call-then-is_map_call.ensures.fits
