@@ -67,4 +67,4 @@ returns-in-Ok-clause-leaves g c =
     let old = c.args.pages.now in
     let mid = c.block.new.pages in
     let new = c.store_block.new.pages in
-    grown_leaves means who c.args.tree.now 128 old new (grows_more means who.tty 128 0 old mid new c.in-Ok.ensures.grows (grows_stored means who.tty mid new c.store_block.ensures.stays)) c.requires.holds
+    grown_leaves means who c.args.tree.now 128 old new (grows_more means who.tty 128 0 old mid new c.in-Ok.ensures.grows (grows_stored means who.tty mid new c.store_block.ensures.stays c.store_block.ensures.loses)) c.requires.holds
