@@ -12,3 +12,4 @@ pub mod TurnBlocks
 pub mod Grown
 pub mod Added
 pub mod MadeTurns
+pub mod Needed

@@ -8,7 +8,7 @@ use Rattle.machine_names.specs.declared.names.TheConstants.{MOST_FORKS}
 use Rattle.plain_model.specs.declared.fork.Fork.{Fork}
 use Rattle.plain_model.specs.Forks.{ForkMap, forks_by_slot}
 use Rattle.machine_names.specs.Bounds.{IsTerminal}
-use Rattle.page_contracts.specs.Pages.{PagesMeaning}
+use Rattle.page_contracts.specs.Pages.{PagesMeaning, MayLose}
 use Rattle.plain_model.specs.Trees.{PlainTree, next_name}
 use Rattle.fork_tree.specs.Trees.{Lives}
 use Rattle.fork_calls.specs.Limits.{IsBody}
@@ -58,10 +58,12 @@ pub record MakesPages {P : Type 0} (means : PagesMeaning P) (owner : Tty) (pages
   pub serial : means.serial new owner ≤ means.serial old owner + pages
   pub serials : (t : Tty) → t ≢ owner → means.serial new t ≡ means.serial old t
 
--- what a call of a fork leaves of pages and forks, with so many pages made at most: they go together, each fork lived or is made, and that fork and the top forks live on
+-- what a call of a fork leaves of pages and forks, with so many pages made at most: they go together, each fork lived or is made, and that fork and the top forks live
+-- on; and what is queued and held may have become less
 pub record CallLeaves {P : Type 0} (means : PagesMeaning P) (old new : P) (tree tree' : PlainTree) (who : ForkName) (pages : ℕ) : Type 0 where
   pub holds : Holds means new tree'.forks
   pub kept : ComeOrNew tree tree'.forks
   pub caller : IsSome (map.get tree.forks who) → IsSome (map.get tree'.forks who)
   pub tops : TopsStay tree.forks tree'.forks
   pub made : MakesPages means who.tty pages old new
+  pub loses : MayLose means old new

@@ -18,12 +18,15 @@ use Rattle.plain_pages.specs.PlainPages.{NumberedPages}
 use Rattle.plain_model.specs.Forks.{ForkMap}
 use Rattle.plain_model.specs.Inferiors.{is_inferior}
 use Rattle.plain_pages.specs.NewMaps.{with_map}
-use Rattle.page_contracts.specs.Pages.{Scene, TakesMap}
+use Rattle.page_contracts.specs.Pages.{PagesMeaning, Scene, StaysInCore, TakesMap}
+use Rattle.page_contracts.specs.Stores.{IsNeeded}
 use Rattle.plain_pages.specs.Room.{HasRoom}
 use Rattle.plain_units.specs.Steps.{Steps, Ending, begun, stopped, need as needs}
+use Rattle.call_turns.specs.declared.answer.Answer.{Answer}
+use Rattle.call_turns.specs.declared.answer.Answer.TheVariants as answer
 use Rattle.call_turns.specs.Needing.{TurnNeeds as NeedsOf}
 use Rattle.ka10_unit.specs.Gathers.{Framed}
-use Rattle.ka10_unit.specs.Taking.{run_over}
+use Rattle.ka10_unit.specs.Taking.{most_frames, run_over}
 
 -- a fork goes with one that is killed: it is that one, or below it
 abbrev pub GoesWith : ForkMap → ForkName → ForkName → Type 0
@@ -66,3 +69,16 @@ NoTouches scene p owner s kind later n = ⊥
 -- WHAT A TURN NEEDS FIRST: a frame for a new map, what its references need, with the new map there, or the maps of forks that are killed
 abbrev pub TurnNeeds : Framed → ForkMap → Turn ⊥ ForkChange → Need → Type 0
 TurnNeeds p forks t n = NeedsOf WordsNeed NoTouches (ForkEndNeeds forks) p.scene p.pages t n
+
+-- what the words of a new fork need is so on the pages with its map there, which took a frame at most and is there no more
+pub record IsNeededBetween {P : Type 0} (means : PagesMeaning P) (old new : P) (n : Need) : Type 0 where
+  pub mid : P
+  pub fork : ForkName
+  pub added : TakesMap (means.scene old) (means.scene mid) fork
+  pub needed : IsNeeded means.store most_frames mid n
+  pub dropped : StaysInCore (means.scene mid) (means.scene new) 0
+
+-- what a call needs first is so, over whatever drum: on the pages that it leaves, or with the map of a new fork there
+abbrev pub CallNeeds : {P : Type 0} → PagesMeaning P → P → P → Answer → Type 0
+CallNeeds means old new (answer.Need n) = IsNeeded means.store most_frames new n ⊎ IsNeededBetween means old new n
+CallNeeds means old new result = Unit {0}

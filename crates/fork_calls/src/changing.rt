@@ -1,6 +1,7 @@
 // Changes that a fork call makes once it has ended, with no word of a page.
-ghost use Rattle.std.specs.Prelude.{◌≡◌, IsOk, IsSome, true};
+ghost use Rattle.std.specs.Prelude.{◌≡◌, IfErr, IsOk, IsSome, true};
 ghost use Rattle.std.specs.FinMap as map;
+ghost use Rattle.page_contracts.specs.Stores.{IsNeeded};
 ghost use Rattle.plain_model.specs.ForkCalls.{fork_changed};
 ghost use Rattle.plain_model.specs.declared.call.ForkChange.{ForkChange as AForkChange};
 ghost use Rattle.plain_pages.specs.PlainPages.{NumberedPages};
@@ -83,6 +84,7 @@ pub fn change<P: Pages>(
     requires holds { Holds P.means pages.old tree.old.forks }
     requires within { AreWithin tree.old.forks }
     ensures told { ChangesIf P.means pages.old pages.new tree.old tree.new result what }
+    ensures needs { IfErr result (IsNeeded P.means.store 1 pages.new) }
     ensures core { P.means.flat ≡ true → IsOk result }
     ensures leaves { CallLeaves P.means pages.old pages.new tree.old tree.new who 0 }
 {

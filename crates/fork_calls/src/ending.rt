@@ -3,7 +3,7 @@ ghost use Rattle.std.specs.Prelude.{◌≡◌, true, None};
 ghost use Rattle.plain_model.specs.declared.call.End.{End as AnEnd};
 ghost use Rattle.plain_model.specs.declared.call.ForkChange.{ForkChange as AForkChange};
 ghost use Rattle.plain_units.specs.declared.registers.Regs.{Regs as ARegs};
-ghost use Rattle.call_turns.specs.Answers.{IsDone, answer_of as answer_to};
+ghost use Rattle.call_turns.specs.Answers.{AnswerNeeds, IsDone, answer_of as answer_to};
 ghost use Rattle.call_turns.specs.Turns.{IsRegs, FitsEnd};
 ghost use Rattle.fork_calls.specs.Holding.{CallLeaves, Holds};
 ghost use Rattle.fork_calls.specs.Limits.{AreWithin};
@@ -62,6 +62,7 @@ pub fn end<P: Pages>(
     requires holds { Holds P.means pages.old tree.old.forks }
     requires within { AreWithin tree.old.forks }
     ensures told { (regs : ARegs) → Turned P.means pages.old pages.new tree.old tree.new result (whole (asked who regs tree.old) (AStep.Ends ending)) }
+    ensures needs { AnswerNeeds P.means.store 1 pages.new result }
     ensures core { P.means.flat ≡ true → IsDone result }
     ensures leaves { CallLeaves P.means pages.old pages.new tree.old tree.new who 0 }
     ensures regs { HasRegs result }

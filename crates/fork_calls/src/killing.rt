@@ -7,6 +7,8 @@ ghost use Rattle.machine_names.specs.declared.names.TheConstants.{MOST_FORKS};
 ghost use Rattle.machine_names.specs.declared.names.ForkName.{ForkName as AForkName};
 ghost use Rattle.machine_names.specs.declared.names.Tty.{Tty as ATty};
 ghost use Rattle.page_contracts.specs.DrumWords.{DrumWords};
+ghost use Rattle.page_contracts.specs.Pages.{MayLose};
+ghost use Rattle.page_contracts.specs.Stores.{IsNeeded};
 ghost use Rattle.plain_pages.specs.References.{without_fork};
 ghost use Rattle.fork_tree.specs.Inferiors.{HasNoInferior};
 ghost use Rattle.fork_calls.specs.Asking.{IsBelow};
@@ -23,6 +25,7 @@ fn ask_map<P: Pages>(name: ForkName, pages: &P) -> Result<(), Need>
     requires lives { P.means.lives pages.now name ≡ true }
     ensures there { IsOk result → (P.means.scene pages.now).map_away name ≡ None }
     ensures told { (d : DrumWords) → P.means.fits pages.now d → IfErr result (IsMapAway (P.means.scene pages.now) name) }
+    ensures needs { IfErr result (IsNeeded P.means.store 1 pages.now) }
     ensures core { P.means.flat ≡ true → IsOk result }
 {
     match pages.entry(Slot {
@@ -41,6 +44,7 @@ fn ask_maps<P: Pages>(name: ForkName, tree: &Tree, pages: &P) -> Result<(), Need
     requires holds { Holds P.means pages.now tree.now.forks }
     ensures there { IsOk result → AreMapsHere (P.means.scene pages.now) tree.now.forks name }
     ensures told { (d : DrumWords) → P.means.fits pages.now d → IfErr result (ChangeNeeds (P.means.scene pages.now) tree.now.forks (AForkChange.Kill name)) }
+    ensures needs { IfErr result (IsNeeded P.means.store 1 pages.now) }
     ensures core { P.means.flat ≡ true → IsOk result }
 {
     tree.are_trees();
@@ -66,6 +70,7 @@ fn kill_below<P: Pages>(who: ForkName, tree: &mut Tree, pages: &mut P)
     ensures kept { ComeFrom tree.old.forks tree.new.forks }
     ensures tops { TopsStay tree.old.forks tree.new.forks }
     ensures made { (t : ATty) → MakesPages P.means t 0 pages.old pages.new }
+    ensures loses { MayLose P.means pages.old pages.new }
     ensures older { (q : AForkName) → q.serial ≤ who.serial → map.get tree.new.forks q ≡ map.get tree.old.forks q }
     ensures bare { HasNoInferior tree.new.forks who }
 {
@@ -91,6 +96,7 @@ fn kill_bare<P: Pages>(name: ForkName, tree: &mut Tree, pages: &mut P)
     ensures holds { Holds P.means pages.new tree.new.forks }
     ensures kept { ComeFrom tree.old.forks tree.new.forks }
     ensures made { (t : ATty) → MakesPages P.means t 0 pages.old pages.new }
+    ensures loses { MayLose P.means pages.old pages.new }
     ensures maps { (f : AForkName) → (P.means.scene pages.old).map_away f ≡ None → (P.means.scene pages.new).map_away f ≡ None }
 {
     tree.are_trees();
@@ -101,6 +107,7 @@ fn kill_bare<P: Pages>(name: ForkName, tree: &mut Tree, pages: &mut P)
 
 /// Kills an inferior of a fork, and all below it, with their maps; who waits for a fork of the job runs again. Err: one of
 /// the maps is in no frame, and nothing was changed.
+#[tactic(auto, using(crate::proofs::CallLeaving::none_leaves))]
 pub fn kill<P: Pages>(
     who: ForkName,
     name: ForkName,
@@ -110,6 +117,7 @@ pub fn kill<P: Pages>(
     requires below { IsBelow tree.old.forks who name }
     requires holds { Holds P.means pages.old tree.old.forks }
     ensures told { ChangesIf P.means pages.old pages.new tree.old tree.new result (AForkChange.Kill name) }
+    ensures needs { IfErr result (IsNeeded P.means.store 1 pages.new) }
     ensures core { P.means.flat ≡ true → IsOk result }
     ensures leaves { CallLeaves P.means pages.old pages.new tree.old tree.new who 0 }
 {

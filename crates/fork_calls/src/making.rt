@@ -10,11 +10,12 @@ ghost use Rattle.call_turns.specs.Turns.{IsRegs};
 ghost use Rattle.ka10_unit.specs.Carrying.{Grows};
 ghost use Rattle.call_turns.specs.Answers.{IsDone};
 ghost use Rattle.ka10_unit.specs.Gathers.{Serves, framed};
-ghost use Rattle.ka10_unit.specs.Taking.{IsTrap};
+ghost use Rattle.ka10_unit.specs.Taking.{IsTrap, StopNeeds, most_frames};
 ghost use Rattle.fork_tree.specs.Making.{slot_for};
 ghost use Rattle.fork_calls.specs.Asking.{asked};
 ghost use Rattle.fork_calls.specs.Blocks.{TookAccumulators};
 ghost use Rattle.fork_calls.specs.Holding.{CallLeaves, Holds};
+ghost use Rattle.fork_calls.specs.Needing.{CallNeeds};
 ghost use Rattle.fork_calls.specs.Steps.{begun, second_regs, whole};
 ghost use Rattle.fork_calls.specs.Turning.{HasRegs, Turned};
 ghost use Rattle.fork_calls.specs.declared.step.Step.{Step as AStep};
@@ -63,6 +64,7 @@ fn accumulators<P: Pages>(regs: &Regs, who: ForkName, pages: &mut P) -> Result<[
     ensures told { (d : DrumWords) (tree : PlainTree) → P.means.fits pages.old d
         → P.means.fits pages.new d × TookAccumulators (asked who regs.now tree) (framed P.means pages.old d) (P.means.plain pages.new d) result }
     ensures core { P.means.flat ≡ true → IfErr result IsTrap }
+    ensures needs { IfErr result (StopNeeds P.means.store most_frames pages.new) }
     ensures stopped { OnErr result (pages.new ≡ pages.old) }
     ensures grows { Grows P.means who.tty 128 pages.old pages.new }
 {
@@ -145,6 +147,7 @@ pub fn make<P: Pages>(
     requires holds { Holds P.means pages.old tree.old.forks }
     requires serial { P.means.serial pages.old who.tty < 2 ^ 62 }
     ensures told { Turned P.means pages.old pages.new tree.old tree.new result (whole (asked who regs.now tree.old) (AStep.Makes slot)) }
+    ensures needs { CallNeeds P.means pages.old pages.new result }
     ensures core { P.means.flat ≡ true → IsDone result }
     ensures leaves { CallLeaves P.means pages.old pages.new tree.old tree.new who 128 }
     ensures regs { HasRegs result }

@@ -4,8 +4,9 @@ ghost use Rattle.plain_model.specs.ForkCalls.{stored_low as stored_low_of};
 ghost use Rattle.plain_units.specs.Steps.{is_accumulator};
 ghost use Rattle.machine_names.specs.Bounds.{IsAddress};
 ghost use Rattle.call_turns.specs.Turns.{IsRegs};
-ghost use Rattle.call_turns.specs.Answers.{IsDone};
+ghost use Rattle.call_turns.specs.Answers.{AnswerNeeds, IsDone};
 ghost use Rattle.ka10_unit.specs.Gathers.{Serves};
+ghost use Rattle.ka10_unit.specs.Taking.{most_frames};
 ghost use Rattle.fork_tree.specs.Trees.{Lives};
 ghost use Rattle.fork_calls.specs.Asking.{asked};
 ghost use Rattle.fork_calls.specs.Holding.{CallLeaves, Holds};
@@ -63,6 +64,7 @@ pub fn set_accumulators<P: Pages>(
     requires holds { Holds P.means pages.old tree.old.forks }
     requires serial { P.means.serial pages.old who.tty < 2 ^ 62 }
     ensures told { Turned P.means pages.old pages.new tree.old tree.new result (whole (asked who regs.now tree.old) (AStep.Sets fork)) }
+    ensures needs { AnswerNeeds P.means.store most_frames pages.new result }
     ensures core { P.means.flat ≡ true → IsDone result }
     ensures leaves { CallLeaves P.means pages.old pages.new tree.old tree.new who 128 }
     ensures regs { HasRegs result }
@@ -93,6 +95,7 @@ pub fn store_accumulators<P: Pages>(
     requires holds { Holds P.means pages.old tree.now.forks }
     requires serial { P.means.serial pages.old who.tty < 2 ^ 62 }
     ensures told { Turned P.means pages.old pages.new tree.now tree.now result (whole (asked who regs.now tree.now) (AStep.Stores fork)) }
+    ensures needs { AnswerNeeds P.means.store most_frames pages.new result }
     ensures core { P.means.flat ≡ true → IsDone result }
     ensures leaves { CallLeaves P.means pages.old pages.new tree.now tree.now who 128 }
     ensures regs { HasRegs result }

@@ -7,6 +7,7 @@ ghost use Rattle.call_turns.specs.Turns.{IsRegs};
 ghost use Rattle.fork_calls.specs.Asking.{asked};
 ghost use Rattle.fork_calls.specs.Holding.{CallLeaves, Holds};
 ghost use Rattle.fork_calls.specs.Limits.{AreWithin};
+ghost use Rattle.fork_calls.specs.Needing.{CallNeeds};
 ghost use Rattle.fork_calls.specs.Turning.{HasRegs, Turned};
 
 use crate::ending::end;
@@ -37,6 +38,7 @@ pub fn call<P: Pages>(
     requires within { AreWithin tree.old.forks }
     requires serial { P.means.serial pages.old who.tty < 2 ^ 62 }
     ensures told { Turned P.means pages.old pages.new tree.old tree.new result (fork_call number (asked who regs.now tree.old)) }
+    ensures needs { CallNeeds P.means pages.old pages.new result }
     ensures core { P.means.flat ≡ true → IsDone result }
     ensures leaves { CallLeaves P.means pages.old pages.new tree.old tree.new who 128 }
     ensures regs { HasRegs result }

@@ -1,7 +1,8 @@
-use Rattle.std.proofs.Common.{refl, inl, ◌∙◌, ap}
-use Rattle.call_turns.specs.Answers.{answer_of}
+use Rattle.std.proofs.Common.{refl, inl, sym, ◌∙◌, ap, subst}
+use Rattle.call_turns.specs.Answers.{AnswerNeeds, answer_of}
 use Rattle.fork_calls.specs.Turning.{parts}
 use Rattle.fork_calls.proofs.Going.{ends_done, ends_so}
+use Rattle.fork_calls.proofs.Needed.{end_needs}
 use Rattle.fork_calls.proofs.ending.end.Goals as goal
 
 pub returns-in-Ok-clause-told : goal.returns-in-Ok-clause-told
@@ -14,3 +15,13 @@ pub returns-in_default-clause-told : goal.returns-in_default-clause-told
 returns-in_default-clause-told g c regs d fits =
     let v = parts c.args.tree.now (g.P.Pages.means.plain c.args.pages.now d) in
     (fits, inl (ends_so v v c.answer_of-in_default.result c.args.ending c.in_default.not-Done c.answer_of-in_default.ensures refl))
+
+pub returns-in-Ok-clause-needs : goal.returns-in-Ok-clause-needs
+returns-in-Ok-clause-needs g c =
+    let s = c.change.new.pages in
+    subst (AnswerNeeds g.P.Pages.means.store 1 s) (sym c.answer_of.ensures) (end_needs g.P.Pages.means.store 1 s c.args.ending)
+
+pub returns-in_default-clause-needs : goal.returns-in_default-clause-needs
+returns-in_default-clause-needs g c =
+    let s = c.args.pages.now in
+    subst (AnswerNeeds g.P.Pages.means.store 1 s) (sym c.answer_of-in_default.ensures) (end_needs g.P.Pages.means.store 1 s c.args.ending)

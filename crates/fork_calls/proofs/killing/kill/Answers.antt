@@ -8,6 +8,7 @@ use Rattle.plain_model.specs.Trees.{PlainTree}
 use Rattle.std.specs.FinMap as map
 use Rattle.fork_tree.proofs.Slots.{held_lives}
 use Rattle.fork_tree.proofs.Leaves.{inferior_lives}
+use Rattle.ka10_unit.proofs.Lost.{lost_on}
 use Rattle.fork_calls.specs.Holding.{TopsStay}
 use Rattle.fork_calls.specs.Turning.{parts}
 use Rattle.fork_calls.proofs.Branch.{below_younger, kill_changes, made_on}
@@ -65,4 +66,5 @@ returns-clause-leaves g c =
           ∙ ap is_some (get_gone_other first name who apart ∙ c.kill_below.ensures.older who (omega (arith, low))) ∙ lives;
       tops = tops_on tree.forks first last c.kill_below.ensures.tops (tops_on first mid last bare (same_tops mid last keep.same));
       made = made_on means who.tty 0 0 c.args.pages.now c.kill_below.new.pages c.kill_bare.new.pages (c.kill_below.ensures.made who.tty) (c.kill_bare.ensures.made who.tty);
+      loses = lost_on means c.args.pages.now c.kill_below.new.pages c.kill_bare.new.pages c.kill_below.ensures.loses c.kill_bare.ensures.loses;
     }

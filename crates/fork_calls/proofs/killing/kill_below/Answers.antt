@@ -12,6 +12,7 @@ use Rattle.plain_model.proofs.ForkMaps.{get_gone_other}
 use Rattle.fork_tree.specs.Inferiors.{HasNoInferior}
 use Rattle.fork_tree.proofs.Killing.{below_in, fewer_counted, last_once, none_counted}
 use Rattle.fork_tree.proofs.Upward.{tally, tally_most}
+use Rattle.ka10_unit.proofs.Lost.{lost_none, lost_on}
 use Rattle.fork_calls.specs.Holding.{TopsStay}
 use Rattle.fork_calls.specs.Needing.{AreMapsHere, GoesWith}
 use Rattle.fork_calls.specs.Turning.{parts}
@@ -28,6 +29,7 @@ loop-round-init g c = record {
   kept = came_itself c.args.tree.now.forks;
   tops = λ name top. top;
   made = λ t. none_made g.P.Pages.means c.args.pages.now c.args.pages.now t refl refl;
+  loses = lost_none g.P.Pages.means c.args.pages.now;
   older = λ q low. refl;
   few = tally_most (below_in c.args.tree.now.forks c.args.who) 1 30;
   told = λ d fits. (fits, refl);
@@ -74,6 +76,7 @@ loop-round-preserved g c =
           let low = below_low tree is who name (ap (is_inferior tree.forks who) (sym k.named) ∙ k.leaf.below) in
           tops_on c.args.tree.now.forks tree.forks c.kill_bare.new.tree.forks before.tops (subst (TopsStay tree.forks) (sym gone) (gone_tops tree.forks name low));
       made = λ t. made_on means t 0 0 c.args.pages.now c.loop-round.pages c.kill_bare.new.pages (before.made t) (c.kill_bare.ensures.made t);
+      loses = lost_on means c.args.pages.now c.loop-round.pages c.kill_bare.new.pages before.loses c.kill_bare.ensures.loses;
       older = λ q low.
           let apart : q ≡ name → ⊥ = λ same. omega (arith, low, younger, ap (λ (n : ForkName). n.serial) (same ∙ sym k.named)) in
           ap (λ (m : ForkMap). map.get m q) gone ∙ get_gone_other tree.forks name q apart ∙ before.older q low;

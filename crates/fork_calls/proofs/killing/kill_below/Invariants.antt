@@ -3,6 +3,7 @@ use Rattle.std.specs.FinMap as map
 use Rattle.machine_names.specs.declared.names.ForkName.{ForkName}
 use Rattle.machine_names.specs.declared.names.Tty.{Tty}
 use Rattle.page_contracts.specs.DrumWords.{DrumWords}
+use Rattle.page_contracts.specs.Pages.{MayLose}
 use Rattle.plain_model.specs.ForkCalls.{without_below}
 use Rattle.fork_tree.proofs.Killing.{below_in}
 use Rattle.fork_tree.proofs.Upward.{tally}
@@ -18,6 +19,7 @@ invariant-loop-round g l = record {
   kept : ComeFrom l.fn.tree.forks l.tree.forks;
   tops : TopsStay l.fn.tree.forks l.tree.forks;
   made : (t : Tty) → MakesPages g.P.Pages.means t 0 l.fn.pages l.pages;
+  loses : MayLose g.P.Pages.means l.fn.pages l.pages;
   older : (q : ForkName) → q.serial ≤ l.who.serial → map.get l.tree.forks q ≡ map.get l.fn.tree.forks q;
   few : tally (below_in l.tree.forks l.who) 1 30 ≤ 30 - l._round;
   told : (d : DrumWords) → g.P.Pages.means.fits l.fn.pages d

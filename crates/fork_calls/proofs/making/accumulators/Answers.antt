@@ -1,9 +1,9 @@
-use Rattle.std.proofs.Common.{ℕ, arith, refl, sym, ◌∙◌, subst}
+use Rattle.std.proofs.Common.{ℕ, sym, ◌∙◌, subst}
 use Rattle.machine_names.specs.declared.names.Kind.TheVariants.{Read}
 use Rattle.ka10_unit.specs.Gathers.{framed}
-use Rattle.ka10_unit.proofs.Lost.{lost_none}
 use Rattle.fork_calls.specs.Asking.{asked}
 use Rattle.fork_calls.specs.Blocks.{TookBlock}
+use Rattle.fork_calls.proofs.CallLeaving.{none_grown}
 use Rattle.fork_calls.proofs.TurnBlocks.{read_accumulators}
 use Rattle.fork_calls.proofs.making.accumulators.Goals as goal
 
@@ -15,4 +15,4 @@ returns-then-asks-clause-told g c d tree fits =
     (t.0, read_accumulators (asked c.args.who c.args.regs.now tree) p q c.block.result (sym c.asks.ensures ∙ c.if-asks.true) (subst (λ (a : ℕ). TookBlock c.args.who c.args.regs.now a Read p q c.block.result) c.address_named.ensures.address t.1))
 
 pub returns-else-asks-clause-grows : goal.returns-else-asks-clause-grows
-returns-else-asks-clause-grows g c = record { lives = refl; forks = refl; most = refl; serial = omega arith; serials = λ t ne. refl; loses = lost_none g.P.Pages.means c.args.pages.now }
+returns-else-asks-clause-grows g c = none_grown g.P.Pages.means c.args.who.tty c.args.pages.now

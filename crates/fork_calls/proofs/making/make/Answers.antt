@@ -15,26 +15,30 @@ use Rattle.plain_pages.specs.NewMaps.{with_map}
 use Rattle.plain_pages.specs.Room.{HasRoom}
 use Rattle.plain_pages.specs.References.{without_fork}
 use Rattle.page_contracts.specs.declared.answers.Need.TheVariants.{Frame}
-use Rattle.page_contracts.specs.Pages.{IsNewMap, PagesMeaning, TakesMap}
+use Rattle.page_contracts.proofs.Losing.{needed_more}
+use Rattle.page_contracts.specs.Pages.{IsNewMap, MayLose, PagesMeaning, TakesMap}
 use Rattle.plain_model.specs.Trees.{PlainTree, next_name}
 use Rattle.plain_model.specs.ForkCalls.{made_fork, map_wanted}
 use Rattle.call_turns.specs.Answers.{answer_of}
 use Rattle.ka10_unit.specs.Carrying.{Grows}
 use Rattle.ka10_unit.specs.Gathers.{framed}
-use Rattle.ka10_unit.proofs.Carried.{grows_none, grows_within}
+use Rattle.ka10_unit.specs.Taking.{most_frames}
+use Rattle.ka10_unit.proofs.Lost.{lost_on}
 use Rattle.fork_tree.specs.Trees.{AreSlotted, IsTree}
 use Rattle.fork_tree.proofs.Kept.{name_unused}
 use Rattle.fork_calls.specs.Asking.{asked}
 use Rattle.fork_calls.specs.Holding.{ComeOrNew, Holds, MakesPages, TopsStay}
+use Rattle.fork_calls.specs.Needing.{CallNeeds}
 use Rattle.fork_calls.specs.Steps.{made_where, second_regs}
 use Rattle.fork_calls.specs.Turning.{parts}
 use Rattle.fork_calls.proofs.Added.{added_dropped, added_holds, back_holds, enough_room, few_forks, no_frame, no_room, not_there, room_told}
 use Rattle.fork_calls.proofs.Branch.{made_on, none_made}
-use Rattle.fork_calls.proofs.CallLeaving.{grown_leaves}
+use Rattle.fork_calls.proofs.CallLeaving.{grown_leaves, none_grown}
 use Rattle.fork_calls.proofs.Going.{goes, stops}
 use Rattle.fork_calls.proofs.Grown.{slot_told}
 use Rattle.fork_calls.proofs.Holdings.{grown_made, holds_still}
 use Rattle.fork_calls.proofs.MadeTurns.{still_there, made_come, made_full, made_goes, made_new, made_stops, make_changes, wanted_new}
+use Rattle.fork_calls.proofs.Needed.{between_needs, call_needs, done_needs}
 use Rattle.fork_calls.proofs.Places.{came_itself}
 use Rattle.fork_calls.proofs.Tops.{made_tops}
 use Rattle.fork_calls.proofs.TurnBlocks.{turn_stops}
@@ -147,7 +151,14 @@ returns-in-Full-clause-leaves g c =
     let means = g.P.Pages.means in
     let who = c.args.who in
     let pages = c.args.pages.now in
-    grown_leaves means who c.args.tree.now 128 pages pages (grows_within means who.tty 0 128 pages pages (omega arith) (grows_none means who.tty pages)) c.requires.holds
+    grown_leaves means who c.args.tree.now 128 pages pages (none_grown means who.tty pages) c.requires.holds
+
+pub returns-in-NeedFrame-clause-leaves : goal.returns-in-NeedFrame-clause-leaves
+returns-in-NeedFrame-clause-leaves g c =
+    let means = g.P.Pages.means in
+    let who = c.args.who in
+    let pages = c.args.pages.now in
+    grown_leaves means who c.args.tree.now 128 pages pages (none_grown means who.tty pages) c.requires.holds
 
 pub returns-in-Err-clause-leaves : goal.returns-in-Err-clause-leaves
 returns-in-Err-clause-leaves g c =
@@ -170,6 +181,7 @@ returns-in-Err-clause-leaves g c =
       caller = λ lives. lives;
       tops = λ n top. top;
       made = made_on means t 128 0 old grown new (words_made means t old mapped grown add.serials add.most c.in-Err.ensures.grows) (none_made means grown new t drop.serials drop.most);
+      loses = lost_on means old grown new (subst (MayLose means old) (sym same) add.loses) drop.loses;
     }
 
 pub returns-in-Ok-clause-leaves : goal.returns-in-Ok-clause-leaves
@@ -198,4 +210,24 @@ returns-in-Ok-clause-leaves g c =
       caller = λ lives. ap (λ (m : ForkMap). map.contains_key m who) made ∙ still_there tree.forks f who lives;
       tops = subst (TopsStay tree.forks) (sym made) (made_tops tree.forks f unused);
       made = words_made means who.tty old mapped new add.serials add.most grows;
+      loses = lost_on means old mapped new add.loses grows.loses;
     }
+
+pub returns-in-NeedFrame-clause-needs : goal.returns-in-NeedFrame-clause-needs
+returns-in-NeedFrame-clause-needs g c = inl (needed_more g.P.Pages.means.store 1 most_frames c.args.pages.now Frame (omega arith) (c.in-NeedFrame.ensures.frames refl))
+
+pub returns-in-Err-clause-needs : goal.returns-in-Err-clause-needs
+returns-in-Err-clause-needs g c =
+    let means = g.P.Pages.means in
+    let old = c.args.pages.now in
+    let mid = c.accumulators.new.pages in
+    let new = c.drop_fork.new.self in
+    let name = c.next_name-name.result in
+    let added : TakesMap (means.scene old) (means.scene mid) name = subst (λ s. TakesMap (means.scene old) (means.scene s) name) (sym c.in-Err.ensures.stopped) c.add_fork.ensures.scene in
+    subst (CallNeeds means old new) (sym c.stopped.ensures.answer) (between_needs means old new mid name added c.drop_fork.ensures.scene c.in-Err.stop c.in-Err.ensures.needs)
+
+pub returns-in-Ok-clause-needs : goal.returns-in-Ok-clause-needs
+returns-in-Ok-clause-needs g c =
+    let means = g.P.Pages.means in
+    let new = c.accumulators.new.pages in
+    call_needs means c.args.pages.now new 1 c.returned.result (omega arith) (done_needs means.store 1 new c.returned.result c.returned.ensures.core)

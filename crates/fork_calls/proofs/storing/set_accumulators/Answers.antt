@@ -1,4 +1,4 @@
-use Rattle.std.proofs.Common.{ℕ, None, refl, ◌∙◌, ap, subst, inl}
+use Rattle.std.proofs.Common.{ℕ, None, refl, sym, ◌∙◌, ap, subst, inl}
 use Rattle.std.specs.Prelude.{Err}
 use Rattle.plain_model.specs.declared.call.End.TheVariants.{Done}
 use Rattle.plain_model.specs.declared.call.ForkChange.TheVariants.{Become}
@@ -6,14 +6,16 @@ use Rattle.machine_names.specs.declared.names.Kind.TheVariants.{Read}
 use Rattle.plain_model.specs.Calls.{ends}
 use Rattle.plain_units.specs.declared.registers.Regs.{Regs}
 use Rattle.plain_model.specs.ForkCalls.{address_named, with_accumulators_of}
-use Rattle.call_turns.specs.Answers.{answer_of}
+use Rattle.call_turns.specs.Answers.{AnswerNeeds, answer_of}
 use Rattle.ka10_unit.specs.Gathers.{framed}
+use Rattle.ka10_unit.specs.Taking.{most_frames}
 use Rattle.fork_calls.specs.Asking.{asked}
 use Rattle.fork_calls.specs.Blocks.{GoesOn, TookBlock}
 use Rattle.fork_calls.specs.Steps.{set_end, whole}
 use Rattle.fork_calls.specs.Turning.{parts}
 use Rattle.fork_calls.specs.declared.step.Step.TheVariants.{Sets}
 use Rattle.fork_calls.proofs.CallLeaving.{grown_leaves, places_leave}
+use Rattle.fork_calls.proofs.Needed.{done_needs, stop_needs}
 use Rattle.fork_calls.proofs.TurnBlocks.{block_goes, block_stops, turn_stops}
 use Rattle.fork_calls.proofs.storing.set_accumulators.Goals as goal
 
@@ -56,3 +58,12 @@ pub returns-in-Ok-clause-leaves : goal.returns-in-Ok-clause-leaves
 returns-in-Ok-clause-leaves g c =
     places_leave g.P.Pages.means c.args.who c.args.tree.now 128 c.args.pages.now c.block.new.pages c.in-Ok.ensures.grows c.requires.holds
     c.set_body.new.tree c.are_trees.ensures.slotted c.set_body.ensures.trees.slotted c.set_body.ensures.same c.set_body.ensures.kept
+
+pub returns-in-Err-clause-needs : goal.returns-in-Err-clause-needs
+returns-in-Err-clause-needs g c =
+    let store = g.P.Pages.means.store in
+    let s = c.block.new.pages in
+    subst (AnswerNeeds store most_frames s) (sym c.stopped.ensures.answer) (stop_needs store most_frames s c.in-Err.stop c.in-Err.ensures.needs)
+
+pub returns-in-Ok-clause-needs : goal.returns-in-Ok-clause-needs
+returns-in-Ok-clause-needs g c = done_needs g.P.Pages.means.store most_frames c.block.new.pages c.returned.result c.returned.ensures.core

@@ -1,4 +1,4 @@
-use Rattle.std.proofs.Common.{◌≡◌, ℕ, List, None, refl, ◌∙◌, ap, subst, inl}
+use Rattle.std.proofs.Common.{◌≡◌, ℕ, List, None, refl, sym, ◌∙◌, ap, subst, inl}
 use Rattle.std.specs.Prelude.{Err}
 use Rattle.plain_model.specs.declared.call.End.TheVariants.{Done}
 use Rattle.plain_model.specs.declared.call.ForkChange.{ForkChange}
@@ -8,15 +8,17 @@ use Rattle.plain_model.specs.Calls.{behind_call, ends}
 use Rattle.plain_units.specs.declared.registers.Regs.{Regs}
 use Rattle.plain_model.specs.ForkCalls.{address_named, stored_low}
 use Rattle.plain_units.specs.Blocks.{stored_from}
-use Rattle.call_turns.specs.Answers.{answer_of}
+use Rattle.call_turns.specs.Answers.{AnswerNeeds, answer_of}
 use Rattle.ka10_unit.proofs.Carried.{grows_more, grows_stored}
 use Rattle.ka10_unit.specs.Gathers.{framed}
+use Rattle.ka10_unit.specs.Taking.{most_frames}
 use Rattle.fork_calls.specs.Asking.{asked}
 use Rattle.fork_calls.specs.Blocks.{GoesOn, TookBlock}
 use Rattle.fork_calls.specs.Steps.{store_end, whole}
 use Rattle.fork_calls.specs.Turning.{parts}
 use Rattle.fork_calls.specs.declared.step.Step.TheVariants.{Stores}
 use Rattle.fork_calls.proofs.CallLeaving.{grown_leaves}
+use Rattle.fork_calls.proofs.Needed.{done_needs, stop_needs}
 use Rattle.fork_calls.proofs.TurnBlocks.{block_goes, block_stops, turn_stops, words_stored}
 use Rattle.fork_calls.proofs.storing.store_accumulators.Goals as goal
 
@@ -68,3 +70,12 @@ returns-in-Ok-clause-leaves g c =
     let mid = c.block.new.pages in
     let new = c.store_block.new.pages in
     grown_leaves means who c.args.tree.now 128 old new (grows_more means who.tty 128 0 old mid new c.in-Ok.ensures.grows (grows_stored means who.tty mid new c.store_block.ensures.stays c.store_block.ensures.loses)) c.requires.holds
+
+pub returns-in-Err-clause-needs : goal.returns-in-Err-clause-needs
+returns-in-Err-clause-needs g c =
+    let store = g.P.Pages.means.store in
+    let s = c.block.new.pages in
+    subst (AnswerNeeds store most_frames s) (sym c.stopped.ensures.answer) (stop_needs store most_frames s c.in-Err.stop c.in-Err.ensures.needs)
+
+pub returns-in-Ok-clause-needs : goal.returns-in-Ok-clause-needs
+returns-in-Ok-clause-needs g c = done_needs g.P.Pages.means.store most_frames c.store_block.new.pages c.returned.result c.returned.ensures.core

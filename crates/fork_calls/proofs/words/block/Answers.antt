@@ -1,14 +1,10 @@
-use Rattle.std.proofs.Common.{arith, refl}
 use Rattle.ka10_unit.specs.Gathers.{framed}
-use Rattle.ka10_unit.proofs.Lost.{lost_none}
+use Rattle.fork_calls.proofs.CallLeaving.{none_grown}
 use Rattle.fork_calls.proofs.TurnBlocks.{took_goes, took_stops}
 use Rattle.fork_calls.proofs.words.block.Goals as goal
 
 pub returns-in-Err-clause-told : goal.returns-in-Err-clause-told
 returns-in-Err-clause-told g c d fits = (fits, took_stops c.args.who (framed g.P.Pages.means c.args.pages.now d) c.args.regs.now c.args.at c.args.kind c.refer_block.new.taken c.in-Err.stop (g.P.Pages.means.plain c.args.pages.now d) (c.in-Err.ensures.told d fits))
-
-pub returns-in-Err-clause-grows : goal.returns-in-Err-clause-grows
-returns-in-Err-clause-grows g c = record { lives = refl; forks = refl; most = refl; serial = omega arith; serials = λ t ne. refl; loses = lost_none g.P.Pages.means c.args.pages.now }
 
 pub returns-in-Ok-clause-opens : goal.returns-in-Ok-clause-opens
 returns-in-Ok-clause-opens g c d words fits is kind =
@@ -21,3 +17,6 @@ returns-in-Ok-clause-told g c d fits =
       c.make_block.ensures.fits d fits,
       took_goes c.args.who (framed g.P.Pages.means c.args.pages.now d) c.args.regs.now c.args.at c.args.kind c.refer_block.new.taken c.in-Ok.words _ (c.make_block.ensures.told d fits took.stands) c.in-Ok.ensures.kept took,
     )
+
+pub returns-in-Err-clause-grows : goal.returns-in-Err-clause-grows
+returns-in-Err-clause-grows g c = none_grown g.P.Pages.means c.args.who.tty c.args.pages.now
