@@ -1,5 +1,5 @@
 -- What one event of a machine did, over what its drum tells.
-use Rattle.std.specs.Prelude.{◌≡◌, ℕ, ◌+◌, List, ◌++◌, length, Bool, ◌||◌, Option}
+use Rattle.std.specs.Prelude.{◌≡◌, ℕ, ◌+◌, ◌≤◌, List, ◌++◌, length, Bool, ◌||◌, Option}
 use Rattle.script_texts.specs.declared.event.Event.{Event}
 use Rattle.script_texts.specs.declared.event.Item.{Item}
 use Rattle.script_texts.specs.declared.event.Step.{Step}
@@ -31,6 +31,13 @@ pub record GaveSoFar {T : Type 0} (stands : T → T → List Item → List Step 
   pub legal : AreLegal auto old steps
   pub first : ShownFirst (state_after old steps) event shown
   pub given : GoesOn stands out out' (items_of old steps ++ shown) steps
+
+-- the size of a drum stays, and none of its counts has fallen
+pub record DrumStays {D : Type 0} (faults reads writes size : D → ℕ) (old new : D) : Type 0 where
+  pub faults_later : faults old ≤ faults new
+  pub reads_later : reads old ≤ reads new
+  pub writes_later : writes old ≤ writes new
+  pub same_size : size new ≡ size old
 
 -- A machine and its drum before and after: which words of a drum fit the machine, and the plain state
 -- that it then stands for.

@@ -4,4 +4,5 @@ mod Found
 mod Running
 mod Closing
 mod Causes
+mod Drums
 mod Statuses

@@ -1,5 +1,5 @@
 -- How far a script was driven, and what the taker was given.
-use Rattle.std.specs.Prelude.{◌≡◌, ℕ, ◌<◌, ◌≤◌, List, length, replicate, All, Bool, true, Option}
+use Rattle.std.specs.Prelude.{◌≡◌, ℕ, ◌<◌, List, length, replicate, All, Bool, true, Option}
 use Rattle.script_texts.specs.declared.event.Event.{Event}
 use Rattle.script_texts.specs.declared.event.Item.{Item}
 use Rattle.script_texts.specs.declared.event.Step.{Step}
@@ -68,10 +68,3 @@ abbrev pub Drove : {P S D K : Type 0} {b : _} → (D → Option DrumWords) → (
     → Machine P b → D → (script script' : S) → (out out' : K) → Driven → Type 0
 Drove {b = b} held left stands cut m drum script script' out out' driven =
     RanTo b.means.flat Fits plain held (limit m) m drum stands cut driven out out' (left script) (left script')
-
--- the size of a drum stays, and none of its counts has fallen
-pub record DrumStays {D : Type 0} (faults reads writes size : D → ℕ) (old new : D) : Type 0 where
-  pub faults_later : faults old ≤ faults new
-  pub reads_later : reads old ≤ reads new
-  pub writes_later : writes old ≤ writes new
-  pub same_size : size new ≡ size old

@@ -4,7 +4,8 @@ ghost use Rattle.outside.specs.Faults.{Rose};
 ghost use Rattle.script_texts.specs.Taker.{GoesOn, IsCut, StaysOnward};
 ghost use Rattle.script_lang.specs.Lines.{Skips, NeedsRead};
 ghost use Rattle.monitor_core.specs.Machines.{limit};
-ghost use Rattle.tenex_console.specs.Driving.{Drove, DrumStays, IsNew};
+ghost use Rattle.monitor_core.specs.Outcome.{DrumStays};
+ghost use Rattle.tenex_console.specs.Driving.{Drove, IsNew};
 ghost use Rattle.tenex_console.specs.Headline.{last_after};
 ghost use Rattle.tenex_console.specs.Statuses.{status_after};
 

@@ -3,7 +3,7 @@ ghost use Rattle.std.specs.Prelude.{◌≡◌, ◌<◌, ◌^◌, ◌≤◌, ◌�
 ghost use Rattle.outside.specs.Faults.{Rose};
 ghost use Rattle.script_texts.specs.Taker.{StaysOnward};
 ghost use Rattle.script_texts.specs.Limits.{FitsEvent, IsBuilt};
-ghost use Rattle.monitor_core.specs.Outcome.{Went, Stopped, CutOff};
+ghost use Rattle.monitor_core.specs.Outcome.{DrumStays, Went, Stopped, CutOff};
 ghost use Rattle.script_texts.specs.Follows.{auto_after};
 ghost use Rattle.monitor_core.specs.Machines.{Fits, plain, limit, done, auto, is_live as live_of};
 ghost use Rattle.monitor_core.specs.Acts.{Acted};
@@ -36,8 +36,8 @@ impl<P: Pages> Machine<P> {
     /// One event (CACM paper, "The executive"). Went, where its steps were given: a taker that stood for
     /// some items and steps stands for these with the event's behind them. TakerFault, only where the
     /// taker's count of faults rose: it is cut within the steps done so far and the one at hand.
-    /// DrumFault, only where the drum's count rose. After a fault the machine is no longer live. Over
-    /// pages in memory alone the drum is not asked.
+    /// DrumFault, only where the drum's count rose. After a fault the machine is no longer live. The drum's
+    /// size stays, and no count of it falls; over pages in memory alone it is not asked.
     pub fn event<D: Drum, T: Taker>(&mut self, e: Event, drum: &mut D, out: &mut T) -> Ended
         requires live { live_of self.old ≡ true }
         requires drum { limit self.old ≤ D.size drum.old }
@@ -49,7 +49,8 @@ impl<P: Pages> Machine<P> {
         ensures onward { StaysOnward T.onward out.old out.new }
 
         ensures drum_cause { result ≡ Ended.DrumFault → Rose (D.fault_count drum.old) (D.fault_count drum.new) }
-        ensures untouched { drum.new ≡ drum.old }
+        ensures drum { DrumStays D.fault_count D.read_count D.write_count D.size drum.old drum.new }
+        ensures untouched { P.means.flat ≡ true → drum.new ≡ drum.old }
 
         ensures went { result ≡ Ended.Went → Went P.means.flat Fits plain D.held T.stands self.old self.new drum.old drum.new out.old out.new (auto self.old) e (done self.old) (done self.new) }
         ensures stopped { result ≡ Ended.DrumFault → Stopped P.means.flat Fits plain D.held T.stands self.old drum.old out.old out.new (auto self.old) e }

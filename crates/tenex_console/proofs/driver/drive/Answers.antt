@@ -2,6 +2,7 @@ use Rattle.std.proofs.Common.{refl, ◌∙◌, arith}
 use Rattle.script_lang.specs.Lines.{given, pending}
 use Rattle.script_lang.proofs.Undecided.{undecided_earlier}
 use Rattle.tenex_console.specs.declared.driver.Driven.TheVariants.{Done, Bad, Long, ReadFault}
+use Rattle.tenex_console.proofs.Drums.{drum_on, drum_still}
 use Rattle.tenex_console.proofs.Found.{found_done, found_bad, found_long, found_unread}
 use Rattle.tenex_console.proofs.Running.{few_in, ran, ran_cut, ran_stopped, ran_unshown, so_far_more, so_far_none, so_far_shown}
 use Rattle.tenex_console.proofs.driver.drive.Goals as goal
@@ -12,7 +13,8 @@ loop-lines-init g c = record {
   unfaulted = refl;
   later = omega arith;
   onward = record { each = λ first h. h };
-  untouched = refl;
+  drum = drum_still g.D.Drum.fault_count g.D.Drum.read_count g.D.Drum.write_count g.D.Drum.size c.args.drum.now;
+  untouched = λ flat. refl;
   most = refl;
   live = c.requires.new.live;
   is_open = c.new-lines.ensures.open;
@@ -32,7 +34,8 @@ loop-lines-preserved g c =
       unfaulted = c.in-One.ensures.unfaulted (λ is. absurd cc) ∙ i.unfaulted;
       later = omega (arith, i.later, c.hand_on.ensures.later, c.event.ensures.later);
       onward = record { each = λ first h. c.event.ensures.onward.each first (c.hand_on.ensures.onward.each first (i.onward.each first h)) };
-      untouched = c.event.ensures.untouched ∙ i.untouched;
+      drum = drum_on g.D.Drum.fault_count g.D.Drum.read_count g.D.Drum.write_count g.D.Drum.size i.drum c.event.ensures.drum;
+      untouched = λ flat. c.event.ensures.untouched flat ∙ i.untouched flat;
       most = c.event.ensures.limit ∙ i.most;
       live = c.in-Went.ensures.live.1 refl;
       is_open = c.in-One.ensures.open e refl;
@@ -90,3 +93,24 @@ pub returns-in-ReadFault-clause-handed : goal.returns-in-ReadFault-clause-handed
 returns-in-ReadFault-clause-handed g c is =
     let reads = c.in-ReadFault.ensures.reads in
     c.in-Ok.ensures.handed (undecided_earlier (given c.hand_on.new.lines) (pending c.hand_on.new.lines) reads.bytes reads.is)
+
+-- an event may ask the drum, over pages that are not in memory alone
+pub event-requires-clause-drum : goal.event-requires-clause-drum
+event-requires-clause-drum g c =
+    let i = c.loop-lines.invariant in
+    omega (arith, c.requires.size, i.most, i.drum.same_size)
+
+pub returns-in-DrumFault-clause-drum : goal.returns-in-DrumFault-clause-drum
+returns-in-DrumFault-clause-drum g c = drum_on g.D.Drum.fault_count g.D.Drum.read_count g.D.Drum.write_count g.D.Drum.size c.loop-lines.invariant.drum c.event.ensures.drum
+
+pub returns-in-DrumFault-clause-drum_cause : goal.returns-in-DrumFault-clause-drum_cause
+returns-in-DrumFault-clause-drum_cause g c is = omega (arith, c.loop-lines.invariant.drum.faults_later, c.in-DrumFault.ensures.drum_cause refl)
+
+pub returns-in-DrumFault-clause-untouched : goal.returns-in-DrumFault-clause-untouched
+returns-in-DrumFault-clause-untouched g c flat = c.event.ensures.untouched flat ∙ c.loop-lines.invariant.untouched flat
+
+pub returns-in-TakerFault-clause-drum : goal.returns-in-TakerFault-clause-drum
+returns-in-TakerFault-clause-drum g c = drum_on g.D.Drum.fault_count g.D.Drum.read_count g.D.Drum.write_count g.D.Drum.size c.loop-lines.invariant.drum c.event.ensures.drum
+
+pub returns-in-TakerFault-clause-untouched : goal.returns-in-TakerFault-clause-untouched
+returns-in-TakerFault-clause-untouched g c flat = c.event.ensures.untouched flat ∙ c.loop-lines.invariant.untouched flat

@@ -3,6 +3,7 @@ use Rattle.script_texts.specs.Script.{most_bytes}
 use Rattle.script_texts.specs.Taker.{StaysOnward}
 use Rattle.script_lang.specs.Lines.{IsOpen, given, lines_given, pending}
 use Rattle.monitor_core.specs.Machines.{Fits, auto, done, is_live, limit, plain}
+use Rattle.monitor_core.specs.Outcome.{DrumStays}
 use Rattle.tenex_console.proofs.Running.{SoFar}
 use Rattle.tenex_console.proofs.driver.drive.Given as goal
 
@@ -12,7 +13,8 @@ invariant-loop-lines g l = record {
   unfaulted : g.S.Source.fault_count l.script ≡ g.S.Source.fault_count l.fn.script;
   later : g.K.Taker.fault_count l.fn.taker ≤ g.K.Taker.fault_count l.taker;
   onward : StaysOnward g.K.Taker.onward l.fn.taker l.taker;
-  untouched : l.drum ≡ l.fn.drum;
+  drum : DrumStays g.D.Drum.fault_count g.D.Drum.read_count g.D.Drum.write_count g.D.Drum.size l.fn.drum l.drum;
+  untouched : g.P.Pages.means.flat ≡ true → l.drum ≡ l.fn.drum;
   most : limit l.machine ≡ limit l.fn.machine;
   live : is_live l.machine ≡ true;
   is_open : IsOpen l.lines;
