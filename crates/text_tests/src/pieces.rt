@@ -15,6 +15,7 @@ struct Pieces<'a> {
     most: usize,
     fails: u64,
     reads: u64,
+    faults: u64,
 }
 
 impl<'a> Pieces<'a> {
@@ -24,22 +25,24 @@ impl<'a> Pieces<'a> {
             most,
             fails,
             reads: 0,
+            faults: 0,
         }
     }
 }
 
 impl<'a> Source for Pieces<'a> {
-    ghost fault_count = { λ s. s.reads };
+    ghost fault_count = { λ s. s.faults };
 
     ghost left = { λ _. None };
 
     fn faults(&self) -> u64 {
-        self.reads
+        self.faults
     }
 
     fn read(&mut self, piece: &mut [u8]) -> Result<usize, Failed> {
         self.reads = self.reads.saturating_add(1);
         if self.reads == self.fails {
+            self.faults = self.faults.saturating_add(1);
             return Err(Failed);
         }
         let count = self.most.min(self.rest.len()).min(piece.len());
