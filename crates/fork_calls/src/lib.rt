@@ -16,5 +16,6 @@ mod table;
 mod turn;
 mod words;
 
+pub use naming::own_named;
 pub use table::is_fork_call;
 pub use turn::call;

@@ -18,13 +18,14 @@ use Rattle.page_contracts.specs.declared.answers.Need.{Need}
 use Rattle.machine_names.specs.declared.names.Tty.{Tty}
 use Rattle.plain_units.specs.declared.registers.Regs.{Regs}
 use Rattle.plain_pages.specs.PlainPages.{NumberedPages}
-use Rattle.plain_model.specs.Calls.{Came, fork_behind, is_among, no_files, numbered, out_of, parts_behind, turn_on}
-use Rattle.plain_model.specs.Families.{Parts, Turned, asks_forks, asks_maps, behind, call_turned, forks_part, no_part, pages_part, print_calls, print_changed, through}
+use Rattle.plain_model.specs.Calls.{Came, Turn, fork_behind, is_among, no_files, numbered, out_of, parts_behind, turn_on}
+use Rattle.plain_model.specs.Families.{Parts, Turned, asks_forks, asks_maps, behind, call_turned, forks_part, no_part, pages_part, print_calls, own_changed, through}
+use Rattle.plain_model.specs.FileCalls.{file_call, file_calls}
 use Rattle.plain_model.specs.ForkCalls.{ForkParts, fork_call, fork_calls, fork_changed}
 use Rattle.plain_model.specs.MapCalls.{map_call, map_calls, map_changed}
 use Rattle.plain_model.specs.Forks.{fork_in}
 use Rattle.plain_model.specs.Trees.{PlainTree, changed, with_body}
-use Rattle.plain_model.proofs.Calling.{forks_behind, nothing_behind, pages_behind, print_makes_none}
+use Rattle.plain_model.proofs.Calling.{MakesNone, file_makes_none, forks_behind, nothing_behind, pages_behind, print_makes_none}
 use Rattle.call_turns.specs.Answers.{FitsAnswer, IsDone, IsTurn, Went, answer_of}
 use Rattle.call_turns.specs.Turns.{IsOut}
 use Rattle.fork_tree.specs.Changes.{body_in, with_body_at}
@@ -111,12 +112,17 @@ module _ (v : Parts nat_cmp) (who : ForkName) where
 
   -- a turn of a call, by its family
   module _ (regs : Regs) (number : ℕ) where
+    -- one that changes the fork that called alone
+    own_behind : (t : Turn ⊥ (Unit {0})) → MakesNone v.pages t → (a : Answer) → a ≡ answer_of (turn_on no_files v.pages t).end → behind (through no_part own_changed) v who (turn_on no_files v.pages t) ≡ answered_turn v who a
+    own_behind t makes a is =
+        came_behind (through no_part own_changed) (turn_on no_files v.pages t) v a is
+        (sym (ap (λ (q : NumberedPages). parts_behind (through no_part own_changed) v (record v { pages = q }) (turn_on no_files v.pages t).end) makes
+        ∙ nothing_behind v (turn_on no_files v.pages t).end))
+
     pub print_went : is_among print_calls number ≡ true → (a : Answer) → a ≡ answer_of (turn_on no_files v.pages (numbered print_calls number regs)).end → call_turned v who regs number ≡ answered_turn v who a
     print_went prints a is =
         on_true (is_among print_calls number) _ _ prints
-        ∙ came_behind (through no_part print_changed) (turn_on no_files v.pages (numbered print_calls number regs)) v a is
-        (sym (ap (λ (q : NumberedPages). parts_behind (through no_part print_changed) v (record v { pages = q }) (turn_on no_files v.pages (numbered print_calls number regs)).end) (print_makes_none v.pages number regs)
-        ∙ nothing_behind v (turn_on no_files v.pages (numbered print_calls number regs)).end))
+        ∙ own_behind (numbered print_calls number regs) (print_makes_none v.pages number regs) a is
 
     module _ (other : is_among print_calls number ≡ false) where
       pub forks_went : is_among fork_calls number ≡ true → (tree : PlainTree) (q : NumberedPages) (a : Answer)
@@ -141,9 +147,19 @@ module _ (v : Parts nat_cmp) (who : ForkName) where
             (ap (λ (r : NumberedPages). record v { pages = r }) w.left
             ∙ sym (pages_behind v (turn_on no_files v.pages (map_call number (asks_maps v who regs))).pages (turn_on no_files v.pages (map_call number (asks_maps v who regs))).end))
 
-        -- a number that is no call
-        pub none_went : is_among map_calls number ≡ false → call_turned v who regs number ≡ answered_turn v who (answer.Trap ILLEGAL_INSTRUCTION)
-        none_went unmapped =
-            on_false (is_among print_calls number) _ _ other
-            ∙ on_false (is_among fork_calls number) _ _ unforked
-            ∙ on_false (is_among map_calls number) _ _ unmapped
+        module _ (unmapped : is_among map_calls number ≡ false) where
+          pub files_went : is_among file_calls number ≡ true → (a : Answer) → a ≡ answer_of (turn_on no_files v.pages (file_call number (asks_forks v who regs))).end → call_turned v who regs number ≡ answered_turn v who a
+          files_went files a is =
+              on_false (is_among print_calls number) _ _ other
+              ∙ on_false (is_among fork_calls number) _ _ unforked
+              ∙ on_false (is_among map_calls number) _ _ unmapped
+              ∙ on_true (is_among file_calls number) _ _ files
+              ∙ own_behind (file_call number (asks_forks v who regs)) (file_makes_none v.pages number (asks_forks v who regs)) a is
+
+          -- a number that is no call
+          pub none_went : is_among file_calls number ≡ false → call_turned v who regs number ≡ answered_turn v who (answer.Trap ILLEGAL_INSTRUCTION)
+          none_went unfiled =
+              on_false (is_among print_calls number) _ _ other
+              ∙ on_false (is_among fork_calls number) _ _ unforked
+              ∙ on_false (is_among map_calls number) _ _ unmapped
+              ∙ on_false (is_among file_calls number) _ _ unfiled

@@ -18,8 +18,9 @@ use Rattle.plain_model.specs.declared.fork.TerminalMode.TheVariants.{Command}
 use Rattle.machine_names.specs.declared.names.TheConstants.{MOST_FORKS}
 use Rattle.machine_names.specs.declared.names.ForkName.{ForkName}
 use Rattle.machine_names.specs.declared.names.Tty.{Tty}
-use Rattle.plain_model.specs.Calls.{Came, fork_behind, is_among, no_files, numbered, parts_behind, posted_if, turn_on, with_error}
-use Rattle.plain_model.specs.Families.{Parts, Turned, asks_forks, asks_maps, behind as family_behind, call_turned, forks_part, no_part, pages_part, print_calls, print_changed, through}
+use Rattle.plain_model.specs.Calls.{Came, Turn, fork_behind, is_among, no_files, numbered, parts_behind, posted_if, turn_on, with_error}
+use Rattle.plain_model.specs.Families.{Parts, Turned, asks_forks, asks_maps, behind as family_behind, call_turned, forks_part, no_part, pages_part, print_calls, own_changed, through}
+use Rattle.plain_model.specs.FileCalls.{file_call, file_calls}
 use Rattle.plain_model.specs.ForkCalls.{fork_call, fork_calls, fork_changed}
 use Rattle.plain_model.specs.Forks.{ForkMap, counted, is_frozen, superior_of, with_regs}
 use Rattle.plain_model.specs.Interrupts.{is_panic, posted}
@@ -31,7 +32,7 @@ use Rattle.plain_model.specs.State.{PlainJob, PlainState}
 use Rattle.plain_units.specs.Steps.{Planned, call, done, need, pages_left, stopped as unit_stopped, trap}
 use Rattle.plain_model.specs.Unit.{Effect, called, in_command_mode, over, printed, put_with, stop_text, stopped, turn_printed, turned, unit, unit_ended, went}
 use Rattle.plain_units.specs.Units.{unit_on}
-use Rattle.plain_model.proofs.Calling.{forks_behind, nothing_behind, pages_behind, print_makes_none}
+use Rattle.plain_model.proofs.Calling.{MakesNone, file_makes_none, forks_behind, nothing_behind, pages_behind, print_makes_none}
 use Rattle.plain_model.proofs.Equations.{apply_unit, unit_some}
 use Rattle.plain_model.proofs.ForkMaps.{AreOwn, put_itself, superior_tells}
 use Rattle.plain_model.proofs.Posted.{posted_same}
@@ -240,11 +241,11 @@ module _ (s : PlainState) (f : Fork) (p : NumberedPages) (t : Runs s f p) where
       turn_stays f came.end,
     )
 
-    print_caller : HasCaller (family_behind (through no_part print_changed) asked_of f.name (turn_on no_files p (numbered print_calls number f.body.regs)))
-    print_caller =
-        let c = turn_on no_files p (numbered print_calls number f.body.regs) in
-        family_caller (through no_part print_changed) c asked_of
-        (ap (λ (q : NumberedPages). parts_behind (through no_part print_changed) asked_of (record asked_of { pages = q }) c.end) (print_makes_none p number f.body.regs) ∙ nothing_behind asked_of c.end) t.fork
+    own_caller : (u : Turn ⊥ (Unit {0})) → MakesNone p u → HasCaller (family_behind (through no_part own_changed) asked_of f.name (turn_on no_files p u))
+    own_caller u makes =
+        let c = turn_on no_files p u in
+        family_caller (through no_part own_changed) c asked_of
+        (ap (λ (q : NumberedPages). parts_behind (through no_part own_changed) asked_of (record asked_of { pages = q }) c.end) makes ∙ nothing_behind asked_of c.end) t.fork
 
     fork_caller : HasCaller (family_behind (through forks_part fork_changed) asked_of f.name (turn_on no_files p (fork_call number (asks_forks asked_of f.name f.body.regs))))
     fork_caller =
@@ -258,10 +259,11 @@ module _ (s : PlainState) (f : Fork) (p : NumberedPages) (t : Runs s f p) where
 
     caller_there : HasCaller gone
     caller_there =
-        cond_both (is_among print_calls number) _ _ HasCaller (λ is. print_caller) (λ n1.
+        cond_both (is_among print_calls number) _ _ HasCaller (λ is. own_caller (numbered print_calls number f.body.regs) (print_makes_none p number f.body.regs)) (λ n1.
         cond_both (is_among fork_calls number) _ _ HasCaller (λ is. fork_caller) (λ n2.
         cond_both (is_among map_calls number) _ _ HasCaller (λ is. map_caller) (λ n3.
-        (posted f ILLEGAL_INSTRUCTION, ap (option_map (λ g. posted g ILLEGAL_INSTRUCTION)) t.fork, posted_stays f f ILLEGAL_INSTRUCTION (refl, refl)))))
+        cond_both (is_among file_calls number) _ _ HasCaller (λ is. own_caller (file_call number (asks_forks asked_of f.name f.body.regs)) (file_makes_none p number (asks_forks asked_of f.name f.body.regs))) (λ n4.
+        (posted f ILLEGAL_INSTRUCTION, ap (option_map (λ g. posted g ILLEGAL_INSTRUCTION)) t.fork, posted_stays f f ILLEGAL_INSTRUCTION (refl, refl))))))
 
     called_as : Comes (called s f number) (called_behind (tree_of s) f p number)
     called_as quiet =

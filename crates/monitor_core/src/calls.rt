@@ -22,6 +22,7 @@ use crate::runner::Runner;
 use crate::shown::{Shown, stop_of};
 use crate::unit::post_channel;
 use call_turns::{Answer, behind};
+use file_calls::is_file_call;
 use fork_calls::is_fork_call;
 use fork_tree::Tree;
 use machine_names::ForkName;
@@ -92,6 +93,9 @@ fn turn<P: Pages>(number: u32, regs: &Regs, who: ForkName, tree: &mut Tree, page
     }
     if is_map_call(number) {
         return pmap_calls::call(number, regs, who, tree, pages);
+    }
+    if is_file_call(number) {
+        return file_calls::call(number, regs, who, tree);
     }
     Answer::Trap(ILLEGAL_INSTRUCTION)
 }

@@ -37,7 +37,7 @@ use Rattle.plain_model.specs.declared.call.End.TheVariants.{Done, Waits, Halts, 
 use Rattle.plain_model.specs.declared.call.ForkChange.{ForkChange}
 use Rattle.plain_model.specs.declared.call.ForkChange.TheVariants.{Nothing, Make, Kill, Freeze, Become, Halt, Store}
 use Rattle.plain_units.specs.declared.registers.Regs.{Regs}
-use Rattle.plain_model.specs.Calls.{with_error, fork_behind, parts_behind, out_of, posted_if}
+use Rattle.plain_model.specs.Calls.{Turn, with_error, fork_behind, parts_behind, out_of, posted_if}
 use Rattle.plain_model.specs.Inferiors.{last_below}
 use Rattle.plain_model.specs.Trees.{tree_of, next_name, with_made, changed, with_mark, with_body, unwaited, woken_in, waiters_woken, with_posted, end_told}
 use Rattle.plain_model.specs.ForkCalls.{ForkAsked, ForkParts, without, without_below, killed, with_halted, fork_changed}
@@ -56,7 +56,7 @@ use Rattle.plain_model.proofs.ForkEnds.{FitsChange, FitsEnd, call_names}
 use Rattle.plain_model.proofs.Posted.{posted_same}
 use Rattle.plain_laws.proofs.WholeForks.{with_fork_parts, fork_parts_of}
 use Rattle.plain_model.specs.Families.{through, forks_part}
-use Rattle.plain_model.proofs.Calling.{fork_came, fork_left, fork_called, fork_turned, map_came, map_pages, map_turned, print_came, print_turned, none_turned, caller_by, called_by, map_by, print_by}
+use Rattle.plain_model.proofs.Calling.{fork_came, fork_left, fork_called, fork_turned, map_came, map_pages, map_turned, own_came, own_turned, none_turned, MakesNone, caller_by, called_by, map_by, own_by}
 
 -- each living fork stands under its own name, and each terminal's next serial is 1 or more
 record AreNamed (forks : ForkMap) (serials : List ℕ) : Type 0 where
@@ -257,8 +257,8 @@ module _ (s : PlainState) (n : IsNamed s) where
   with_caller : (u : PlainState) → IsNamed u → (name : ForkName) (g : Fork) → map.get u.forks name ≡ Some g → (h : Fork) → (IsForkName g.name → IsForkName h.name) → Leaves (unit_ended u h h.body.status)
   with_caller u m name g is h same = ended_named u m h h.body.status (same (living_fits u m name g is))
 
-  print_named : (f : Fork) (number : ℕ) → Leaves (print_turned s f number)
-  print_named f number = let e = (print_came s f number).end in print_by Leaves s f number (λ g is. with_caller s n f.name g is (fork_behind g e) (behind_fits g e)) n
+  own_turn_named : (f : Fork) (t : Turn ⊥ (Unit {0})) → MakesNone s.pages t → Leaves (own_turned s f t)
+  own_turn_named f t makes = let e = (own_came s t).end in own_by Leaves s f t makes (λ g is. with_caller s n f.name g is (fork_behind g e) (behind_fits g e)) n
 
   map_named : (f : Fork) (number : ℕ) → Leaves (map_turned s f number)
   map_named f number = let e = (map_came s f number).end in map_by Leaves s f number (λ g is. with_caller (record s { pages = map_pages s f number }) n f.name g is (fork_behind g e) (behind_fits g e)) n
@@ -273,7 +273,7 @@ module _ (s : PlainState) (n : IsNamed s) where
   no_call_named f = caller_by Leaves s f.name.tty (parts_of s) f.name (λ g. posted g ILLEGAL_INSTRUCTION) None (λ g is. with_caller s n f.name g is (posted g ILLEGAL_INSTRUCTION) (posted_fits g ILLEGAL_INSTRUCTION)) n
 
   called_named : (f : Fork) (number : ℕ) → IsForkName f.name → Leaves (called s f number)
-  called_named f number fits = called_by Leaves s f number (print_named f number) (fork_turned_named f number fits) (map_named f number) (no_call_named f)
+  called_named f number fits = called_by Leaves s f number (own_turn_named f) (fork_turned_named f number fits) (map_named f number) (no_call_named f)
 
   over_named : (f : Fork) (r : Planned name_cmp ⊥) → IsForkName f.name → Leaves (over s f r)
   over_named f (done t e) fits = went_named s n f (pages_left f.name t e) e fits

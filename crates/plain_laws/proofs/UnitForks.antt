@@ -17,10 +17,10 @@ use Rattle.plain_model.specs.Forks.{ForkMap, with_fork, with_regs, counted}
 use Rattle.plain_model.specs.Interrupts.{posted}
 use Rattle.plain_units.specs.Steps.{Planned, Ending, done, call, trap, need, stopped as unit_stopped}
 use Rattle.plain_model.specs.Trees.{end_told}
-use Rattle.plain_model.specs.Calls.{with_error, fork_behind, out_of, posted_if}
+use Rattle.plain_model.specs.Calls.{Turn, with_error, fork_behind, out_of, posted_if}
 use Rattle.plain_model.specs.Unit.{Effect, in_command_mode, with_stopped, stopped, unit_ended, trapped, called, went, over, parts_of, put_with}
 use Rattle.plain_units.proofs.Lookups.{looked_up}
-use Rattle.plain_model.proofs.Calling.{fork_came, fork_left, fork_called, fork_turned, map_came, map_pages, map_turned, print_came, print_turned, none_turned, caller_by, called_by, map_by, print_by}
+use Rattle.plain_model.proofs.Calling.{fork_came, fork_left, fork_called, fork_turned, map_came, map_pages, map_turned, own_came, own_turned, none_turned, MakesNone, caller_by, called_by, map_by, own_by}
 use Rattle.plain_model.proofs.Posted.{SameMark, posted_mark}
 
 posted_if_mark : (f : Fork) (post : Option ℕ) → SameMark f (posted_if f post)
@@ -86,8 +86,8 @@ module _ (Holds : ForkMap → Type 0) (Good : Fork → Type 0) (keeps : KeptBy H
     with_caller : (u : PlainState) → Holds u.forks → (g : Fork) → Good g → (k : Fork) → SameMark g k → Leaves (unit_ended u k k.body.status)
     with_caller u left g here k same = ended_kept u left k k.body.status (keeps.same g k same here)
 
-    print_kept : (number : ℕ) → Leaves (print_turned s f number)
-    print_kept number = print_by Leaves s f number (λ g is. with_caller s h g (good_in g is) (fork_behind g (print_came s f number).end) (behind_mark g (print_came s f number).end)) h
+    own_kept : (t : Turn ⊥ (Unit {0})) → MakesNone s.pages t → Leaves (own_turned s f t)
+    own_kept t makes = own_by Leaves s f t makes (λ g is. with_caller s h g (good_in g is) (fork_behind g (own_came s t).end) (behind_mark g (own_came s t).end)) h
 
     map_kept : (number : ℕ) → Leaves (map_turned s f number)
     map_kept number = map_by Leaves s f number (λ g is. with_caller (record s { pages = map_pages s f number }) h g (good_in g is) (fork_behind g (map_came s f number).end) (behind_mark g (map_came s f number).end)) h
@@ -102,7 +102,7 @@ module _ (Holds : ForkMap → Type 0) (Good : Fork → Type 0) (keeps : KeptBy H
         caller_by Leaves s f.name.tty (fork_left s f number) f.name (λ g. fork_behind g e) (out_of e) (λ g is. with_caller (fork_called s f number) left g (good_still g is) (fork_behind g e) (behind_mark g e)) left
 
     called_kept : (number : ℕ) → Leaves (fork_turned s f number) → Leaves (called s f number)
-    called_kept number turns = called_by Leaves s f number (print_kept number) turns (map_kept number) none_kept
+    called_kept number turns = called_by Leaves s f number own_kept turns (map_kept number) none_kept
 
     -- a unit keeps it, if the turn does of the call that the unit may be
     pub over_kept : (r : Planned name_cmp ⊥) → ((number : ℕ) → r ≡ call number → Leaves (fork_turned s f number)) → Leaves (over s f r)

@@ -27,7 +27,7 @@ use Rattle.plain_model.specs.Forks.{ForkMap, with_regs}
 use Rattle.plain_model.specs.Interrupts.{posted}
 use Rattle.plain_units.specs.Instructions.{instruction}
 use Rattle.plain_units.specs.Steps.{Planned, Ending, done, call, trap, need, stopped as unit_stopped, begun, pages_left}
-use Rattle.plain_model.specs.Calls.{fork_behind, parts_behind, out_of, posted_if}
+use Rattle.plain_model.specs.Calls.{Turn, fork_behind, parts_behind, out_of, posted_if}
 use Rattle.plain_model.specs.MapCalls.{with_changed, map_changed}
 use Rattle.plain_model.specs.Unit.{Effect, unit_ended, called, went, over, unit, parts_of}
 use Rattle.plain_units.specs.Units.{unit_on}
@@ -38,7 +38,7 @@ use Rattle.plain_units.proofs.PageRuns.{PlanLeaves}
 use Rattle.plain_laws.proofs.UnitForks.{KeptBy, ended_pages, fork_kept, over_kept}
 use Rattle.plain_laws.proofs.OtherMaps.{InJob, Elsewhere, set_other, run_other}
 use Rattle.plain_laws.proofs.OtherJobs.{Stays, put_stays, told_stays, maps_same, call_stays}
-use Rattle.plain_model.proofs.Calling.{fork_came, fork_left, fork_called, fork_turned, map_came, map_pages, map_turned, print_came, print_turned, none_turned, caller_by, called_by, map_by, print_by}
+use Rattle.plain_model.proofs.Calling.{fork_came, fork_left, fork_called, fork_turned, map_came, map_pages, map_turned, own_came, own_turned, none_turned, MakesNone, caller_by, called_by, map_by, own_by}
 use Rattle.plain_units.specs.declared.channel.TheConstants.{ILLEGAL_INSTRUCTION}
 
 -- what a change of a slot leaves of a map of another job
@@ -125,14 +125,14 @@ module _ (s : PlainState) (w : IsWhole s) (name : ForkName) (f : Fork) (there : 
       let here = maps_same s w f number k other in
       caller_by MapsLeft s f.name.tty (fork_left s f number) f.name (λ g. fork_behind g e) (out_of e) (λ g is. let h = fork_behind g e in ended_maps (fork_called s f number) here h h.body.status) here
 
-  print_maps : (number : ℕ) → MapsLeft (print_turned s f number)
-  print_maps number = print_by MapsLeft s f number (λ g is. let h = fork_behind g (print_came s f number).end in ended_maps s refl h h.body.status) refl
+  own_maps : (t : Turn ⊥ (Unit {0})) → MakesNone s.pages t → MapsLeft (own_turned s f t)
+  own_maps t makes = own_by MapsLeft s f t makes (λ g is. let h = fork_behind g (own_came s t).end in ended_maps s refl h h.body.status) refl
 
   none_maps : MapsLeft (none_turned s f)
   none_maps = caller_by MapsLeft s f.name.tty (parts_of s) f.name (λ g. posted g ILLEGAL_INSTRUCTION) None (λ g is. let h = posted g ILLEGAL_INSTRUCTION in ended_maps s refl h h.body.status) refl
 
   called_maps : (number : ℕ) → MapsLeft (called s f number)
-  called_maps number = called_by MapsLeft s f number (print_maps number) (fork_maps number) (map_maps number) none_maps
+  called_maps number = called_by MapsLeft s f number own_maps (fork_maps number) (map_maps number) none_maps
 
   maps_left : (r : Planned name_cmp ⊥) → PlanLeaves (λ q. Elsewhere f.name.tty k other s.pages q) f.name r → MapsLeft (over s f r)
   maps_left (done t e) left = went_maps (pages_left f.name t e) e left

@@ -30,7 +30,7 @@ use Rattle.script_texts.specs.declared.status.ForkStatus.TheVariants.{Run as Run
 use Rattle.plain_model.specs.Interrupts.{posted}
 use Rattle.plain_model.specs.Unit.{Effect, in_command_mode, with_stopped, stopped, unit_ended, trapped, called, went, over, unit, parts_of, put_with}
 use Rattle.plain_units.specs.Units.{unit_on}
-use Rattle.plain_model.specs.Calls.{fork_behind, out_of, parts_behind, posted_if}
+use Rattle.plain_model.specs.Calls.{Turn, fork_behind, out_of, parts_behind, posted_if}
 use Rattle.plain_units.specs.Steps.{Planned, Ending, done, call, trap, need, stopped as unit_stopped, begun, pages_left}
 use Rattle.script_texts.specs.declared.event.Event.{Event}
 use Rattle.script_texts.specs.declared.event.Event.TheVariants.{Login, TypeIn, File, Words, Poke, Start, Run, Tick, Evict, Drum, Auto, Examine, Forks, Page, Trace}
@@ -62,7 +62,7 @@ use Rattle.plain_model.proofs.MapTurns.{turn_whole}
 use Rattle.plain_units.proofs.PageRuns.{AreSound, PlanKeeps, PlanLeaves, kept_itself, kept_on, reference_kept, run_kept, stored_kept}
 use Rattle.plain_laws.proofs.WholeForks.{lived_given, kept_tops, job_whole, pages_whole, sound, keeps_whole, behind_same, put, told_whole, made_whole, next_absent, fork_called_whole}
 use Rattle.plain_model.proofs.Posted.{IsSame, posted_same}
-use Rattle.plain_model.proofs.Calling.{fork_came, fork_left, fork_called, fork_turned, map_came, map_pages, map_turned, print_came, print_turned, none_turned, caller_by, called_by, map_by, print_by}
+use Rattle.plain_model.proofs.Calling.{fork_came, fork_left, fork_called, fork_turned, map_came, map_pages, map_turned, own_came, own_turned, none_turned, MakesNone, caller_by, called_by, map_by, own_by}
 use Rattle.plain_units.specs.declared.channel.TheConstants.{ILLEGAL_INSTRUCTION}
 use Rattle.std.proofs.lemmas.Cmp.{eq_by_cmp_equiv}
 
@@ -137,9 +137,9 @@ module _ (s : PlainState) (w : IsWhole s) (name : ForkName) (f : Fork) (there : 
   called_with : (u : PlainState) → IsWhole u → (g : Fork) → map.get u.forks f.name ≡ Some g → (h : Fork) → IsSame g h → Leaves (unit_ended u h h.body.status)
   called_with u whole g is h same = ended_whole_fork u whole f.name g is h h.body.status same
 
-  -- a call that prints changes nothing else
-  print_whole : (number : ℕ) → Leaves (print_turned s f number)
-  print_whole number = print_by Leaves s f number (λ g is. called_with s w g is (fork_behind g (print_came s f number).end) (behind_same g (print_came s f number).end)) w
+  -- a call may change nothing else
+  own_whole : (t : Turn ⊥ (Unit {0})) → MakesNone s.pages t → Leaves (own_turned s f t)
+  own_whole t makes = own_by Leaves s f t makes (λ g is. called_with s w g is (fork_behind g (own_came s t).end) (behind_same g (own_came s t).end)) w
 
   -- a call on maps changes pages alone
   map_whole_turn : (number : ℕ) → Leaves (map_turned s f number)
@@ -162,7 +162,7 @@ module _ (s : PlainState) (w : IsWhole s) (name : ForkName) (f : Fork) (there : 
   none_whole = caller_by Leaves s f.name.tty (parts_of s) f.name (λ g. posted g ILLEGAL_INSTRUCTION) None (λ g is. called_with s w g is (posted g ILLEGAL_INSTRUCTION) (posted_same g ILLEGAL_INSTRUCTION)) w
 
   called_whole : (number : ℕ) → IsForkName name → Leaves (called s f number)
-  called_whole number fits = called_by Leaves s f number (print_whole number) (fork_turned_whole number fits) (map_whole_turn number) none_whole
+  called_whole number fits = called_by Leaves s f number own_whole (fork_turned_whole number fits) (map_whole_turn number) none_whole
 
 -- a unit that goes through leaves its fork's name and slot
 went_whole : (s : PlainState) (w : IsWhole s) (name : ForkName) (f : Fork) → map.get s.forks name ≡ Some f → (q : NamedPages) → IsWhole (record s { pages = q }) → (e : Ending) → Leaves (went s f q e)

@@ -3,7 +3,7 @@ use Rattle.std.proofs.Common.{◌≡◌, ℕ, Option, None, Some, Result, Ok, Er
 use Rattle.std.specs.Prelude.{◌==◌, ◌&&◌}
 use Rattle.std.specs.Option.{option_map}
 use Rattle.std.specs.FinMap as map
-use Rattle.plain_model.specs.declared.call.TheConstants.{PBOUT, PMAP, RPACS, SPACS, RMAP}
+use Rattle.plain_model.specs.declared.call.TheConstants.{GETER, PBOUT, PMAP, RPACS, SPACS, RMAP}
 use Rattle.plain_units.specs.declared.channel.TheConstants.{ILLEGAL_INSTRUCTION}
 use Rattle.plain_model.specs.declared.call.End.{End}
 use Rattle.plain_model.specs.declared.call.End.TheVariants.{Done, Waits, Halts, Refused, Failed, Trap}
@@ -23,8 +23,9 @@ use Rattle.plain_units.specs.Deeds.{in_ac}
 use Rattle.plain_model.specs.AccessWords.{access_in}
 use Rattle.plain_model.specs.Calls.{Turn, sees, finds, ends, with_ac, no_files, Came, turn_on, given, numbered, returning, is_among, fork_behind, out_of, parts_behind}
 use Rattle.plain_model.specs.MapCalls.{Asked, is_counted, narrows, place_named, slot_named, source_of, tells_access, pages_left as left_to_do, one_page, behind_page, rpacs, spacs, rmap, pmap, map_call, map_calls, map_changed}
-use Rattle.plain_model.specs.ForkCalls.{fork_calls, fork_changed}
-use Rattle.plain_model.specs.Families.{Parts, through, behind, came_of, printing, forking, mapping, forks_part, no_part, pages_part, prints, print_changed, print_calls}
+use Rattle.plain_model.specs.FileCalls.{file_call, file_calls, geter}
+use Rattle.plain_model.specs.ForkCalls.{ForkAsked, own_named, fork_calls, fork_changed}
+use Rattle.plain_model.specs.Families.{Parts, through, behind, came_of, forking, mapping, asks_forks, forks_part, no_part, pages_part, prints, own_changed, print_calls}
 use Rattle.plain_model.specs.Unit.{Effect, parts_of, with_parts, turned, called}
 use Rattle.std.proofs.lemmas.Bool.{cond_both}
 
@@ -51,12 +52,12 @@ map_pages s f number = parts_behind map_changed s.pages s.pages (map_came s f nu
 abbrev pub map_turned : PlainState → Fork → ℕ → Effect
 map_turned s f number = turned s f.name.tty (behind (through pages_part map_changed) (parts_of s) f.name (map_came s f number))
 
--- and of a call that prints
-abbrev pub print_came : PlainState → Fork → ℕ → Came name_cmp (Unit {0})
-print_came s f number = came_of printing (parts_of s) f.name f.body.regs number
+-- and of a turn that changes the fork that called alone
+abbrev pub own_came : PlainState → Turn ⊥ (Unit {0}) → Came name_cmp (Unit {0})
+own_came s t = turn_on no_files s.pages t
 
-abbrev pub print_turned : PlainState → Fork → ℕ → Effect
-print_turned s f number = turned s f.name.tty (behind (through no_part print_changed) (parts_of s) f.name (print_came s f number))
+abbrev pub own_turned : PlainState → Fork → Turn ⊥ (Unit {0}) → Effect
+own_turned s f t = turned s f.name.tty (behind (through no_part own_changed) (parts_of s) f.name (own_came s t))
 
 -- a number that is no call
 abbrev pub none_turned : PlainState → Fork → Effect
@@ -73,13 +74,6 @@ module _ (Holds : Effect → Type 0) (s : PlainState) where
       by : (o : Option Fork) → map.get left.tree.forks who ≡ o → Holds (turned s t (record { parts = left; caller = option_map change o; out = out }))
       by None is = none
       by (Some g) is = some g is
-
-  -- a call is one of a family, or none
-  pub called_by : (f : Fork) (number : ℕ) → Holds (print_turned s f number) → Holds (fork_turned s f number) → Holds (map_turned s f number) → Holds (none_turned s f) → Holds (called s f number)
-  called_by f number prints forks maps none =
-      cond_both (is_among print_calls number) _ _ (λ r. Holds (turned s f.name.tty r)) (λ is. prints) (λ n1.
-      cond_both (is_among fork_calls number) _ _ (λ r. Holds (turned s f.name.tty r)) (λ is. forks) (λ n2.
-      cond_both (is_among map_calls number) _ _ (λ r. Holds (turned s f.name.tty r)) (λ is. maps) (λ n3. none)))
 
 module _ {K : Type 0} {file_cmp : K → K → Ordering} where
   -- a change of pages alone
@@ -105,7 +99,7 @@ module _ {K : Type 0} {file_cmp : K → K → Ordering} where
   forks_behind v q (Trap channel) = refl
 
   -- no change
-  pub nothing_behind : (v : Parts file_cmp) (e : End (Unit {0})) → parts_behind (through no_part print_changed) v v e ≡ v
+  pub nothing_behind : (v : Parts file_cmp) (e : End (Unit {0})) → parts_behind (through no_part own_changed) v v e ≡ v
   unfolding parts_behind
   nothing_behind v (Done change regs out post) = refl
   nothing_behind v (Waits on) = refl
@@ -116,7 +110,7 @@ module _ {K : Type 0} {file_cmp : K → K → Ordering} where
 
   module _ (p : PlainPages file_cmp) where
     -- a turn makes no page
-    abbrev MakesNone : {C : Type 0} → Turn ⊥ C → Type 0
+    abbrev pub MakesNone : {C : Type 0} → Turn ⊥ C → Type 0
     MakesNone t = (turn_on no_files p t).pages ≡ p
 
     given_none : {A C : Type 0} (r : Result A ℕ) (next : A → Turn ⊥ C) → ((x : A) → MakesNone (next x)) → MakesNone (given r next)
@@ -158,6 +152,33 @@ module _ {K : Type 0} {file_cmp : K → K → Ordering} where
     unfolding turn_on
     print_makes_none number regs = cond_both (PBOUT == number) (prints regs) _ MakesNone (λ is. refl) (λ n. refl)
 
+    -- nor one on files
+    pub file_makes_none : (number : ℕ) (a : ForkAsked) → MakesNone (file_call number a)
+    unfolding turn_on
+    file_makes_none number a = cond_both (GETER == number) (geter a) _ MakesNone (λ is. given_none (own_named a) (λ g. ends (returning tt (with_ac a.regs 2 g.body.error))) (λ g. refl)) (λ n. refl)
+
+module _ (Holds : Effect → Type 0) (s : PlainState) (f : Fork) where
+  -- a call is one of a family, or none; each turn that changes the fork that called alone is looked at in one way
+  pub called_by : (number : ℕ) → ((t : Turn ⊥ (Unit {0})) → MakesNone s.pages t → Holds (own_turned s f t)) → Holds (fork_turned s f number) → Holds (map_turned s f number) → Holds (none_turned s f) → Holds (called s f number)
+  called_by number own forks maps none =
+      cond_both (is_among print_calls number) _ _ (λ r. Holds (turned s f.name.tty r)) (λ is. own (numbered print_calls number f.body.regs) (print_makes_none s.pages number f.body.regs)) (λ n1.
+      cond_both (is_among fork_calls number) _ _ (λ r. Holds (turned s f.name.tty r)) (λ is. forks) (λ n2.
+      cond_both (is_among map_calls number) _ _ (λ r. Holds (turned s f.name.tty r)) (λ is. maps) (λ n3.
+      cond_both (is_among file_calls number) _ _ (λ r. Holds (turned s f.name.tty r)) (λ is. own (file_call number (asks_forks (parts_of s) f.name f.body.regs)) (file_makes_none s.pages number (asks_forks (parts_of s) f.name f.body.regs))) (λ n4. none))))
+
+  -- such a turn leaves the fork that called
+  pub own_by : (t : Turn ⊥ (Unit {0})) → MakesNone s.pages t
+      → ((g : Fork) → map.get s.forks f.name ≡ Some g → Holds (turned s f.name.tty (record { parts = parts_of s; caller = Some (fork_behind g (own_came s t).end); out = out_of (own_came s t).end })))
+      → Holds (turned s f.name.tty (record { parts = parts_of s; caller = None; out = out_of (own_came s t).end })) → Holds (own_turned s f t)
+  own_by t makes some none = subst Left (sym same) (caller_by Holds s f.name.tty (parts_of s) f.name (λ g. fork_behind g (own_came s t).end) (out_of (own_came s t).end) some none)
+    where
+      Left : Parts name_cmp → Type 0
+      Left left = Holds (turned s f.name.tty (record { parts = left; caller = option_map (λ g. fork_behind g (own_came s t).end) (map.get left.tree.forks f.name); out = out_of (own_came s t).end }))
+
+      same : parts_behind (through no_part own_changed) (parts_of s) (record (parts_of s) { pages = (own_came s t).pages }) (own_came s t).end ≡ parts_of s
+      same = ap (λ (q : NamedPages). parts_behind (through no_part own_changed) (parts_of s) (record (parts_of s) { pages = q }) (own_came s t).end) makes
+          ∙ nothing_behind (parts_of s) (own_came s t).end
+
 module _ (Holds : Effect → Type 0) (s : PlainState) (f : Fork) (number : ℕ) where
   -- a call on maps leaves other pages, and the fork that called
   pub map_by : ((g : Fork) → map.get s.forks f.name ≡ Some g → Holds (turned s f.name.tty (record { parts = record (parts_of s) { pages = map_pages s f number }; caller = Some (fork_behind g (map_came s f number).end); out = out_of (map_came s f number).end })))
@@ -173,15 +194,3 @@ module _ (Holds : Effect → Type 0) (s : PlainState) (f : Fork) (number : ℕ) 
       same : parts_behind (through pages_part map_changed) (parts_of s) (record (parts_of s) { pages = (map_came s f number).pages }) (map_came s f number).end ≡ record (parts_of s) { pages = map_pages s f number }
       same = pages_behind (parts_of s) (map_came s f number).pages (map_came s f number).end
           ∙ ap (λ (q : NamedPages). record (parts_of s) { pages = parts_behind map_changed s.pages q (map_came s f number).end }) (map_makes_none s.pages number (record { who = f.name; regs = f.body.regs; forks = s.forks }))
-
-  -- a call that prints leaves the fork that called
-  pub print_by : ((g : Fork) → map.get s.forks f.name ≡ Some g → Holds (turned s f.name.tty (record { parts = parts_of s; caller = Some (fork_behind g (print_came s f number).end); out = out_of (print_came s f number).end })))
-      → Holds (turned s f.name.tty (record { parts = parts_of s; caller = None; out = out_of (print_came s f number).end })) → Holds (print_turned s f number)
-  print_by some none = subst Left (sym same) (caller_by Holds s f.name.tty (parts_of s) f.name (λ g. fork_behind g (print_came s f number).end) (out_of (print_came s f number).end) some none)
-    where
-      Left : Parts name_cmp → Type 0
-      Left left = Holds (turned s f.name.tty (record { parts = left; caller = option_map (λ g. fork_behind g (print_came s f number).end) (map.get left.tree.forks f.name); out = out_of (print_came s f number).end }))
-
-      same : parts_behind (through no_part print_changed) (parts_of s) (record (parts_of s) { pages = (print_came s f number).pages }) (print_came s f number).end ≡ parts_of s
-      same = ap (λ (q : NamedPages). parts_behind (through no_part print_changed) (parts_of s) (record (parts_of s) { pages = q }) (print_came s f number).end) (print_makes_none s.pages number f.body.regs)
-          ∙ nothing_behind (parts_of s) (print_came s f number).end

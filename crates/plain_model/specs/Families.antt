@@ -15,6 +15,7 @@ use Rattle.plain_model.specs.Interrupts.{posted}
 use Rattle.plain_model.specs.Trees.{PlainTree}
 use Rattle.plain_model.specs.Calls.{Turn, ends, Sight, no_files, Came, turn_on, numbered, is_among, fork_behind, parts_behind, out_of, returning_printed}
 use Rattle.plain_model.specs.MapCalls.{Asked, map_calls, map_changed}
+use Rattle.plain_model.specs.FileCalls.{file_calls}
 use Rattle.plain_model.specs.ForkCalls.{ForkAsked, ForkParts, fork_calls, fork_changed}
 
 -- PBOUT prints the low 7 bits of accumulator 1
@@ -27,9 +28,9 @@ print_calls =
     (PBOUT, prints)
     ∷ []
 
--- they change nothing
-abbrev pub print_changed : Unit {0} → Unit {0} → Unit {0}
-print_changed change nothing = nothing
+-- a call that changes the fork that called alone
+abbrev pub own_changed : Unit {0} → Unit {0} → Unit {0}
+own_changed change nothing = nothing
 
 -- a part of some parts: how it is seen, and the parts with another in its place
 pub record Lens (W V : Type 0) : Type 0 where
@@ -92,9 +93,9 @@ module _ {K : Type 0} {file_cmp : K → K → Ordering} where
   abbrev pub no_part : Lens (Parts file_cmp) (Unit {0})
   no_part = record { seen = λ v. tt; with_seen = λ v nothing. v }
 
-  -- the calls that print change nothing
+  -- the calls that print change the fork that called alone
   abbrev pub printing : Family file_cmp ⊥ Regs (Unit {0}) (Unit {0})
-  printing = record { calls = print_calls; asked = λ v who regs. regs; sight = λ v who. no_files; lens = no_part; changed = print_changed }
+  printing = record { calls = print_calls; asked = λ v who regs. regs; sight = λ v who. no_files; lens = no_part; changed = own_changed }
 
   -- the part that the fork calls change
   abbrev pub forks_part : Lens (Parts file_cmp) (ForkParts file_cmp)
@@ -120,9 +121,13 @@ module _ {K : Type 0} {file_cmp : K → K → Ordering} where
   abbrev pub mapping : Family file_cmp ⊥ Asked MapChange (PlainPages file_cmp)
   mapping = record { calls = map_calls; asked = asks_maps; sight = λ v who. no_files; lens = pages_part; changed = map_changed }
 
+  -- and so do those on files
+  abbrev pub filing : Family file_cmp ⊥ ForkAsked (Unit {0}) (Unit {0})
+  filing = record { calls = file_calls; asked = asks_forks; sight = λ v who. no_files; lens = no_part; changed = own_changed }
+
   -- all families
   abbrev pub families : List (Offer file_cmp)
-  families = offered printing ∷ offered forking ∷ offered mapping ∷ []
+  families = offered printing ∷ offered forking ∷ offered mapping ∷ offered filing ∷ []
 
   -- a turn of a monitor call
   abbrev pub call_turned : Parts file_cmp → ForkName → Regs → ℕ → Turned file_cmp

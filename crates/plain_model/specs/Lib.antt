@@ -11,5 +11,6 @@ pub mod AccessWords
 pub mod Calls
 pub mod MapCalls
 pub mod ForkCalls
+pub mod FileCalls
 pub mod Families
 pub mod Moves

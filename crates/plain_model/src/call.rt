@@ -6,6 +6,9 @@ use plain_units::Regs;
 use script_texts::WaitOn;
 use word36::Word;
 
+/// Tells the last error of a fork.
+pub const GETER: u32 = 0o12;
+
 /// Maps a page of one place into another, or takes one out of a map.
 pub const PMAP: u32 = 0o56;
 

@@ -6,7 +6,7 @@ use Rattle.machine_names.specs.declared.names.ForkName.{ForkName}
 use Rattle.ka10_unit.proofs.Carried.{grows_none, grows_within}
 use Rattle.fork_calls.specs.Holding.{CallLeaves, Holds}
 use Rattle.fork_calls.proofs.CallLeaving.{grown_leaves}
-use Rattle.monitor_core.proofs.Calling.{forks_went, has_regs, maps_went, none_went, print_went, turn_went}
+use Rattle.monitor_core.proofs.Calling.{files_went, forks_went, has_regs, maps_went, none_went, print_went, turn_went}
 use Rattle.monitor_core.proofs.calls.turn.Goals as goal
 
 -- nothing was changed
@@ -51,10 +51,24 @@ returns-then-is_map_call-clause-leaves g c =
 pub returns-then-is_map_call-clause-regs : goal.returns-then-is_map_call-clause-regs
 returns-then-is_map_call-clause-regs g c = has_regs c.call-then-is_map_call.result c.call-then-is_map_call.ensures.fits
 
+pub returns-then-is_file_call-clause-told : goal.returns-then-is_file_call-clause-told
+returns-then-is_file_call-clause-told g c d fits =
+    let p = g.P.Pages.means.plain c.args.pages.now d in (
+      fits,
+      files_went (record { tree = c.args.tree.now; pages = p }) c.args.who c.args.regs.now c.args.number (sym c.is_print_call.ensures ∙ c.if-is_print_call.false) (sym c.is_fork_call.ensures ∙ c.if-is_fork_call.false) (sym c.is_map_call.ensures ∙ c.if-is_map_call.false) (sym c.is_file_call.ensures ∙ c.if-is_file_call.true)
+          c.call-then-is_file_call.result (c.call-then-is_file_call.ensures.told p),
+    )
+
+pub returns-then-is_file_call-clause-leaves : goal.returns-then-is_file_call-clause-leaves
+returns-then-is_file_call-clause-leaves g c = nothing_left g.P.Pages.means c.args.who c.args.tree.now c.args.pages.now c.requires.holds
+
+pub returns-then-is_file_call-clause-regs : goal.returns-then-is_file_call-clause-regs
+returns-then-is_file_call-clause-regs g c = has_regs c.call-then-is_file_call.result c.call-then-is_file_call.ensures.fits
+
 pub returns-clause-told : goal.returns-clause-told
 returns-clause-told g c d fits =
     let p = g.P.Pages.means.plain c.args.pages.now d in
-    (fits, none_went (record { tree = c.args.tree.now; pages = p }) c.args.who c.args.regs.now c.args.number (sym c.is_print_call.ensures ∙ c.if-is_print_call.false) (sym c.is_fork_call.ensures ∙ c.if-is_fork_call.false) (sym c.is_map_call.ensures ∙ c.if-is_map_call.false))
+    (fits, none_went (record { tree = c.args.tree.now; pages = p }) c.args.who c.args.regs.now c.args.number (sym c.is_print_call.ensures ∙ c.if-is_print_call.false) (sym c.is_fork_call.ensures ∙ c.if-is_fork_call.false) (sym c.is_map_call.ensures ∙ c.if-is_map_call.false) (sym c.is_file_call.ensures ∙ c.if-is_file_call.false))
 
 pub returns-clause-leaves : goal.returns-clause-leaves
 returns-clause-leaves g c = nothing_left g.P.Pages.means c.args.who c.args.tree.now c.args.pages.now c.requires.holds

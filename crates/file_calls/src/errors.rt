@@ -1,0 +1,27 @@
+// GETER, which tells the last error of a fork.
+ghost use Rattle.std.specs.Prelude.{◌≡◌};
+ghost use Rattle.plain_model.specs.FileCalls.{geter as geter_of};
+ghost use Rattle.call_turns.specs.Turns.{IsRegs};
+ghost use Rattle.fork_calls.specs.Asking.{asked};
+ghost use Rattle.file_calls.specs.Answering.{Answers};
+
+use call_turns::{Answer, answer_of, returning, with_ac};
+use fork_calls::own_named;
+use fork_tree::Tree;
+use machine_names::ForkName;
+use plain_units::Regs;
+use word36::Word;
+
+/// GETER: accumulator 2 becomes the last error of the caller or an inferior. NO_HANDLE, NO_INFERIOR.
+pub fn geter(regs: &Regs, who: ForkName, tree: &Tree) -> Answer
+    requires { IsRegs regs.now }
+    ensures { Answers (geter_of (asked who regs.now tree.now)) result }
+{
+    match own_named(regs, who, tree) {
+        Ok(fork) => {
+            let error = Word::wrapped(u64::from(fork.body.error));
+            answer_of(returning((), with_ac(*regs, 2, error)))
+        }
+        Err(code) => Answer::Refused(code),
+    }
+}
