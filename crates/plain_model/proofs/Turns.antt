@@ -1,5 +1,10 @@
 -- What the turn of a call comes to, by its first step; and that it does not depend on what files are known by.
-use Rattle.std.proofs.Common.{◌≡◌, ℕ, Bool, true, false, refl, ◌∙◌, ap, Ordering}
+use Rattle.std.proofs.Common.{◌≡◌, ℕ, Bool, true, false, cond, List, Option, None, Some, refl, sym, ◌∙◌, ap, subst, arith, Ordering}
+use Rattle.std.specs.Prelude.{◌&&◌, slice_index}
+use Rattle.std.specs.Option.{option_map, option_map_or, option_and_then}
+use Rattle.std.specs.Ordering.{is_eq, eq_by_cmp, nat_cmp, ordering_then}
+use Rattle.std.specs.Cmp.{IsTotalOrder}
+use Rattle.std.specs.declared.cmp.Ordering.TheVariants.{Less, Equal, Greater}
 use Rattle.std.specs.FinMap as map
 use Rattle.plain_model.specs.declared.call.End.{End}
 use Rattle.plain_model.specs.declared.call.End.TheVariants.{Trap}
@@ -9,9 +14,12 @@ use Rattle.machine_names.specs.declared.names.PageName.{PageName}
 use Rattle.plain_pages.specs.declared.map.NewMap.{NewMap}
 use Rattle.plain_units.specs.declared.registers.Regs.{Regs}
 use Rattle.plain_pages.specs.PlainPages.{PlainPages, refiled}
-use Rattle.machine_names.specs.Orders.{file_page_cmp}
+use Rattle.machine_names.specs.Orders.{FilePage, file_page_cmp}
+use Rattle.machine_names.specs.PageWords.{zero_words}
+use Rattle.machine_names.specs.declared.names.Kind.TheVariants.{Read, Write, Execute}
+use Rattle.machine_names.proofs.OrderLemmas.{file_page_total}
 use Rattle.plain_pages.specs.Room.{HasRoom}
-use Rattle.plain_pages.specs.References.{Referred, granted, denied, full, in_map, in_file, page_at, reference}
+use Rattle.plain_pages.specs.References.{Spot, Referred, granted, denied, full, blank, in_map, in_file, in_its_file, make, make_all, makings, next_page, page_at, reference, word_at, words_of}
 use Rattle.plain_pages.specs.NewMaps.{with_map}
 use Rattle.plain_units.specs.Steps.{Steps, Ending, Planned, done, call, trap, need, stopped, begun, pages_left}
 use Rattle.plain_model.specs.declared.call.Touched.{Touched}
@@ -19,9 +27,11 @@ use Rattle.plain_model.specs.declared.call.Touched.TheVariants.{Granted, Denied,
 use Rattle.machine_names.specs.declared.names.Tty.{Tty}
 use Rattle.machine_names.specs.declared.names.Slot.{Slot}
 use Rattle.machine_names.specs.declared.names.Kind.{Kind}
-use Rattle.plain_model.specs.Calls.{Turn, sees, finds, reads, touches, takes, adds, looks, makes, ends, Sight, no_files, Came, entry_of, stepped, touched, with_added, turn_on}
+use Rattle.plain_model.specs.Calls.{Turn, sees, finds, reads, touches, takes, adds, looks, makes, ends, Sight, no_files, Came, entry_of, spot_of, stepped, touched, with_added, turn_on}
 use Rattle.plain_units.specs.Blocks.{steps_on}
 use Rattle.plain_units.proofs.PageRuns.{PlanLeaves}
+use Rattle.plain_pages.proofs.Counts.{total_insert}
+use Rattle.plain_pages.proofs.Whole.{tally}
 use Rattle.plain_pages.proofs.Refiled.{NameAlike, reference_leaves, reference_refiled, refiled_result, room_refiled}
 use Rattle.plain_units.proofs.RefiledUnits.{LeavesFiles, left_leaves, left_refiled, refiled_plan, run_leaves, run_refiled, still_alike}
 
@@ -60,70 +70,247 @@ module _ {K L : Type 0} {file_cmp : K → K → Ordering} (other_cmp : L → L �
   abbrev pub refiled_came : {C : Type 0} → Came file_cmp C → Came other_cmp C
   refiled_came c = record { end = c.end; pages = refiled other_cmp c.pages files }
 
--- a turn comes out the same, whatever files are known by
-abbrev pub ComesSame : {C K L : Type 0} (file_cmp : K → K → Ordering) (other_cmp : L → L → Ordering) → map.FinMap (file_page_cmp other_cmp) PageName → Turn ⊥ C → Type 0
-ComesSame file_cmp other_cmp files t =
-    (q : PlainPages file_cmp) → NameAlike other_cmp q files → turn_on no_files (refiled other_cmp q files) t ≡ refiled_came other_cmp files (turn_on no_files q t)
+-- a key of a turn stands for a file under both kinds of keys, and that has the same pages, or under neither
+abbrev pub StandAlike : {K L : Type 0} {file_cmp : K → K → Ordering} (other_cmp : L → L → Ordering) → PlainPages file_cmp → map.FinMap (file_page_cmp other_cmp) PageName → Option K → Option L → Type 0
+StandAlike other_cmp p files None None = Unit {0}
+StandAlike other_cmp p files (Some k) (Some l) = (page : ℕ) → map.get files (record { file = l; page = page }) ≡ map.get p.files (record { file = k; page = page })
+StandAlike other_cmp p files k l = ⊥
 
-module _ {K L : Type 0} {file_cmp : K → K → Ordering} (other_cmp : L → L → Ordering) (files : map.FinMap (file_page_cmp other_cmp) PageName) where
+-- whether two keys of a turn stand for one file
+abbrev pub stand_together : {K : Type 0} → (K → K → Ordering) → Option K → Option K → Bool
+stand_together file_cmp (Some k) (Some l) = eq_by_cmp file_cmp k l
+stand_together file_cmp k l = false
+
+-- the order of two pairs ties where both of theirs do
+tied_both : (a b : Ordering) → is_eq (ordering_then a b) ≡ (is_eq a && is_eq b)
+tied_both Less b = refl
+tied_both Equal b = refl
+tied_both Greater b = refl
+
+module _ {F K L : Type 0} (file_cmp : K → K → Ordering) (other_cmp : L → L → Ordering) where
+  -- two sights tell the same of which keys stand together, which names there are and what room there is; and where a turn knows a
+  -- file, both kinds of keys are in order
+  pub record TellAlike (one : Sight F K) (other : Sight F L) : Type 0 where
+    pub together : (f g : F) → stand_together other_cmp (other.file_of f) (other.file_of g) ≡ stand_together file_cmp (one.file_of f) (one.file_of g)
+    pub names : (name : List ℕ) → other.is_name name ≡ one.is_name name
+    pub more : other.has_more ≡ one.has_more
+    pub total : F → IsTotalOrder file_cmp
+    pub other_total : F → IsTotalOrder other_cmp
+
+module _ {F K L : Type 0} {file_cmp : K → K → Ordering} (other_cmp : L → L → Ordering) (one : Sight F K) (other : Sight F L) (like : TellAlike file_cmp other_cmp one other) where
+  -- the pages of files under other keys are the same, for whatever a turn knows
+  pub record AreAlike (p : PlainPages file_cmp) (files : map.FinMap (file_page_cmp other_cmp) PageName) : Type 0 where
+    pub names : NameAlike other_cmp p files
+    pub stand : (f : F) → StandAlike other_cmp p files (one.file_of f) (other.file_of f)
+
+  module _ (p : PlainPages file_cmp) (files : map.FinMap (file_page_cmp other_cmp) PageName) (alike : AreAlike p files) where
+    abbrev rekeyed : PlainPages other_cmp
+    rekeyed = refiled other_cmp p files
+
+    -- pages with the same files
+    still : (q : PlainPages file_cmp) → q.files ≡ p.files → AreAlike q files
+    still q same = record {
+      names = still_alike other_cmp files p q alike.names same;
+      stand = λ f. subst (λ (x : map.FinMap (file_page_cmp file_cmp) PageName). StandAlike other_cmp (record q { files = x }) files (one.file_of f) (other.file_of f)) (sym same) (alike.stand f);
+    }
+
+    -- the page of a spot
+    found_same : (at : Spot F) → option_and_then (page_at rekeyed) (spot_of other at) ≡ option_and_then (page_at p) (spot_of one at)
+    unfolding page_at
+    found_same (in_map s) = refl
+    found_same (in_file f) = by (one.file_of f.file) (other.file_of f.file) (alike.stand f.file)
+      where
+        by : (a : Option K) (b : Option L) → StandAlike other_cmp p files a b
+            → option_and_then (page_at rekeyed) (option_map (λ l. in_file (record { file = l; page = f.page })) b) ≡ option_and_then (page_at p) (option_map (λ k. in_file (record { file = k; page = f.page })) a)
+        by None None h = refl
+        by (Some k) (Some l) h = h f.page
+        by None (Some l) h = absurd h
+        by (Some k) None h = absurd h
+
+    -- and the word at an offset of it
+    word_same : (f : FilePage F) (offset : ℕ) → option_map_or (λ at. word_at rekeyed at offset) (spot_of other (in_file f)) 0 ≡ option_map_or (λ at. word_at p at offset) (spot_of one (in_file f)) 0
+    unfolding page_at
+    word_same f offset = by (one.file_of f.file) (other.file_of f.file) (alike.stand f.file)
+      where
+        by : (a : Option K) (b : Option L) → StandAlike other_cmp p files a b
+            → option_map_or (λ at. word_at rekeyed at offset) (option_map (λ l. in_file (record { file = l; page = f.page })) b) 0
+            ≡ option_map_or (λ at. word_at p at offset) (option_map (λ k. in_file (record { file = k; page = f.page })) a) 0
+        by None None h = refl
+        by (Some k) (Some l) h = ap (λ n. slice_index (option_map_or (words_of p) n zero_words) offset) (h f.page)
+        by None (Some l) h = absurd h
+        by (Some k) None h = absurd h
+
   module _ {C : Type 0} where
-    -- steps come to the same, and so does what goes on with them
-    stepped_refiled : (f : ForkName) (regs : Regs) (steps : Steps) (p : PlainPages file_cmp) → NameAlike other_cmp p files → (next : Ending → Turn ⊥ C) → ((e : Ending) → ComesSame file_cmp other_cmp files (next e))
-        → stepped f (steps_on f regs steps (refiled other_cmp p files)) (λ q e. turn_on no_files q (next e)) (λ channel. record { end = Trap channel; pages = refiled other_cmp p files })
-        ≡ refiled_came other_cmp files (stepped f (steps_on f regs steps p) (λ q e. turn_on no_files q (next e)) (λ channel. record { end = Trap channel; pages = p }))
-    stepped_refiled f regs steps p alike next same =
-        ap (λ r. stepped f r (λ q e. turn_on no_files q (next e)) (λ channel. record { end = Trap channel; pages = refiled other_cmp p files })) (run_refiled other_cmp files f steps (begun p regs.ac) alike)
-        ∙ by (steps_on f regs steps p) (run_leaves f steps (begun p regs.ac))
-      where
-        by : (r : Planned file_cmp ⊥) → LeavesFiles p.files r
-            → stepped f (refiled_plan other_cmp files r) (λ q e. turn_on no_files q (next e)) (λ channel. record { end = Trap channel; pages = refiled other_cmp p files })
-            ≡ refiled_came other_cmp files (stepped f r (λ q e. turn_on no_files q (next e)) (λ channel. record { end = Trap channel; pages = p }))
-        by (done t e) leaves =
-            ap (λ q. turn_on no_files q (next e)) (left_refiled other_cmp files f t e)
-            ∙ same e (pages_left f t e) (still_alike other_cmp files p (pages_left f t e) alike (left_leaves f t e ∙ leaves))
-        by (stopped (trap channel)) leaves = refl
-        by (stopped (need none)) leaves = absurd none
-        by (call number) leaves = refl
+    -- one outcome is the other with the pages of files under other keys, which are the same still
+    abbrev pub Agree : Came file_cmp C → Came other_cmp C → Type 0
+    Agree c d = (d ≡ refiled_came other_cmp d.pages.files c) × AreAlike c.pages d.pages.files
 
-    -- a reference comes to the same
-    touched_refiled : (owner : Tty) (s : Slot) (kind : Kind) (p : PlainPages file_cmp) → NameAlike other_cmp p files → (next : Touched → Turn ⊥ C) → ((what : Touched) → ComesSame file_cmp other_cmp files (next what))
-        → touched (refiled other_cmp p files) (reference (refiled other_cmp p files) (in_map s) kind owner) (λ q what. turn_on no_files q (next what))
-        ≡ refiled_came other_cmp files (touched p (reference p (in_map s) kind owner) (λ q what. turn_on no_files q (next what)))
-    touched_refiled owner s kind p alike next same =
-        ap (λ r. touched (refiled other_cmp p files) r (λ q what. turn_on no_files q (next what))) (reference_refiled other_cmp files owner p s kind alike)
-        ∙ by (reference p (in_map s) kind owner) refl
-      where
-        by : (r : Referred file_cmp) → reference p (in_map s) kind owner ≡ r
-            → touched (refiled other_cmp p files) (refiled_result other_cmp r files) (λ q what. turn_on no_files q (next what)) ≡ refiled_came other_cmp files (touched p r (λ q what. turn_on no_files q (next what)))
-        by (granted q) is = same Granted q (still_alike other_cmp files p q alike (reference_leaves owner p q s kind is))
-        by (denied k) is = same Denied p alike
-        by full is = same Full p alike
+    -- wherever files are the same a turn comes out the same
+    abbrev pub ComesSame : Turn F C → Type 0
+    ComesSame t = (p : PlainPages file_cmp) (files : map.FinMap (file_page_cmp other_cmp) PageName) → AreAlike p files → Agree (turn_on one p t) (turn_on other (refiled other_cmp p files) t)
 
-    -- the map of a new fork has the same room
-    added_refiled : (f : ForkName) (entries : NewMap) (p : PlainPages file_cmp) → NameAlike other_cmp p files → (next : Bool → Turn ⊥ C) → ((b : Bool) → ComesSame file_cmp other_cmp files (next b))
-        → turn_on no_files (with_added (refiled other_cmp p files) f entries (HasRoom (with_map (refiled other_cmp p files) f entries) f.tty)) (next (HasRoom (with_map (refiled other_cmp p files) f entries) f.tty))
-        ≡ refiled_came other_cmp files (turn_on no_files (with_added p f entries (HasRoom (with_map p f entries) f.tty)) (next (HasRoom (with_map p f entries) f.tty)))
-    added_refiled f entries p alike next same =
-        ap (λ b. turn_on no_files (with_added (refiled other_cmp p files) f entries b) (next b)) (room_refiled other_cmp (with_map p f entries) files alike f.tty) ∙ by (HasRoom (with_map p f entries) f.tty)
-      where
-        by : (b : Bool) → turn_on no_files (with_added (refiled other_cmp p files) f entries b) (next b) ≡ refiled_came other_cmp files (turn_on no_files (with_added p f entries b) (next b))
-        by true = same true (with_map p f entries) alike
-        by false = same false p alike
+    module _ (p : PlainPages file_cmp) (files : map.FinMap (file_page_cmp other_cmp) PageName) (alike : AreAlike p files) where
+      -- what a reference comes to, and a turn that goes on with that
+      module _ (next : Touched → Turn F C) (rest : (what : Touched) → ComesSame (next what)) where
+        abbrev goes_on : Referred file_cmp → Came file_cmp C
+        goes_on r = touched p r (λ q what. turn_on one q (next what))
 
-    -- a turn that knows no file comes out the same, whatever files are known by
-    pub came_refiled : (t : Turn ⊥ C) → ComesSame file_cmp other_cmp files t
-    unfolding turn_on page_at
-    came_refiled (sees s next) p alike = came_refiled (next (entry_of p s)) p alike
-    came_refiled (finds (in_map s) next) p alike = came_refiled (next (page_at p (in_map s))) p alike
-    came_refiled (finds (in_file f) next) p alike = absurd f.file
-    came_refiled (reads f offset next) p alike = absurd f.file
-    came_refiled (touches owner (in_map s) kind next) p alike = touched_refiled owner s kind p alike next (λ what. came_refiled (next what))
-    came_refiled (touches owner (in_file f) kind next) p alike = absurd f.file
-    came_refiled (takes f regs steps next) p alike = stepped_refiled f regs steps p alike next (λ e. came_refiled (next e))
-    came_refiled (adds f entries next) p alike = added_refiled f entries p alike next (λ b. came_refiled (next b))
-    came_refiled (looks name next) p alike = came_refiled (next false) p alike
-    came_refiled (makes name next) p alike = came_refiled (next false) p alike
-    came_refiled (ends e) p alike = refl
+        abbrev other_goes_on : Referred other_cmp → Came other_cmp C
+        other_goes_on r = touched (refiled other_cmp p files) r (λ q what. turn_on other q (next what))
+
+        touched_same : (owner : Tty) (s : Slot) (kind : Kind) → Agree (goes_on (reference p (in_map s) kind owner)) (other_goes_on (reference (refiled other_cmp p files) (in_map s) kind owner))
+        touched_same owner s kind = subst (λ r. Agree (goes_on (reference p (in_map s) kind owner)) (other_goes_on r)) (sym (reference_refiled other_cmp files owner p s kind alike.names)) (by (reference p (in_map s) kind owner) refl)
+          where
+            by : (r : Referred file_cmp) → reference p (in_map s) kind owner ≡ r → Agree (goes_on r) (other_goes_on (refiled_result other_cmp r files))
+            by (granted q) is = rest Granted q files (still p files alike q (reference_leaves owner p q s kind is))
+            by (denied k) is = rest Denied p files alike
+            by full is = rest Full p files alike
+
+        -- a page of a file that is referred to
+        module _ (owner : Tty) (f : FilePage F) (k : K) (l : L) (one_is : one.file_of f.file ≡ Some k) (other_is : other.file_of f.file ≡ Some l) where
+          abbrev here : FilePage K
+          here = record { file = k; page = f.page }
+
+          abbrev there : FilePage L
+          there = record { file = l; page = f.page }
+
+          abbrev made : PlainPages file_cmp
+          made = make p owner (blank (in_file here))
+
+          abbrev made_files : map.FinMap (file_page_cmp other_cmp) PageName
+          made_files = map.insert files there (next_page p owner)
+
+          stands : StandAlike other_cmp p files (Some k) (Some l)
+          stands = subst (StandAlike other_cmp p files (Some k)) other_is (subst (λ a. StandAlike other_cmp p files a (other.file_of f.file)) one_is (alike.stand f.file))
+
+          -- it is made in both
+          made_alike : map.get p.files here ≡ None → AreAlike made made_files
+          unfolding make
+          made_alike none = record { names = names; stand = λ g. by g (one.file_of g) (other.file_of g) refl refl (alike.stand g) }
+            where
+              o : IsTotalOrder (file_page_cmp file_cmp)
+              o = file_page_total (like.total f.file)
+
+              other_o : IsTotalOrder (file_page_cmp other_cmp)
+              other_o = file_page_total (like.other_total f.file)
+
+              n : PageName
+              n = next_page p owner
+
+              names : NameAlike other_cmp made made_files
+              names x = omega (
+                arith,
+                alike.names x,
+                total_insert o (tally x) p.files here n,
+                total_insert other_o (tally x) files there n,
+                ap (λ (d : Option PageName). option_map_or (tally x) d 0) none,
+                ap (λ (d : Option PageName). option_map_or (tally x) d 0) (stands f.page ∙ none),
+              )
+
+              tied : (g : F) (a : K) (b : L) → one.file_of g ≡ Some a → other.file_of g ≡ Some b → (page : ℕ)
+                  → eq_by_cmp (file_page_cmp other_cmp) (record { file = b; page = page }) there ≡ eq_by_cmp (file_page_cmp file_cmp) (record { file = a; page = page }) here
+              tied g a b x y page =
+                  tied_both (other_cmp b l) (nat_cmp page f.page)
+                  ∙ ap (λ e. e && is_eq (nat_cmp page f.page))
+                  (ap (λ (b : Option L). stand_together other_cmp b (Some l)) (sym y) ∙ ap (stand_together other_cmp (other.file_of g)) (sym other_is) ∙ like.together g f.file
+                  ∙ ap (stand_together file_cmp (one.file_of g)) one_is ∙ ap (λ (b : Option K). stand_together file_cmp b (Some k)) x)
+                  ∙ sym (tied_both (file_cmp a k) (nat_cmp page f.page))
+
+              by : (g : F) (a : Option K) (b : Option L) → one.file_of g ≡ a → other.file_of g ≡ b → StandAlike other_cmp p files a b → StandAlike other_cmp made made_files a b
+              by g None None x y h = tt
+              by g (Some a) (Some b) x y h = λ page.
+                  map.get-insert other_o files there n (record { file = b; page = page })
+                  ∙ ap (λ e. cond e (Some n) (map.get files (record { file = b; page = page }))) (tied g a b x y page)
+                  ∙ ap (cond (eq_by_cmp (file_page_cmp file_cmp) (record { file = a; page = page }) here) (Some n)) (h page)
+                  ∙ sym (map.get-insert o p.files here n (record { file = a; page = page }))
+              by g None (Some b) x y h = absurd h
+              by g (Some a) None x y h = absurd h
+
+          -- where there is no page a write makes one, and any other reference is denied
+          none_there : (kind : Kind) → map.get p.files here ≡ None
+              → Agree (goes_on (option_map_or (make_all p owner) (in_its_file kind here None) (denied kind))) (other_goes_on (option_map_or (make_all (refiled other_cmp p files) owner) (in_its_file kind there None) (denied kind)))
+          unfolding make make_all
+          none_there Read none = rest Denied p files alike
+          none_there Execute none = rest Denied p files alike
+          none_there Write none =
+              subst (λ b. Agree (goes_on (cond (HasRoom made owner) (granted made) full)) (other_goes_on (cond b (granted (refiled other_cmp made made_files)) full)))
+              (sym (room_refiled other_cmp made made_files (made_alike none).names owner)) (by (HasRoom made owner))
+            where
+              by : (b : Bool) → Agree (goes_on (cond b (granted made) full)) (other_goes_on (cond b (granted (refiled other_cmp made made_files)) full))
+              by true = rest Granted made made_files (made_alike none)
+              by false = rest Full p files alike
+
+          page_same : (kind : Kind) → Agree (goes_on (reference p (in_file here) kind owner)) (other_goes_on (reference (refiled other_cmp p files) (in_file there) kind owner))
+          unfolding reference makings make_all
+          page_same kind = subst (λ m. Agree (goes_on (option_map_or (make_all p owner) (in_its_file kind here (map.get p.files here)) (denied kind))) (other_goes_on (option_map_or (make_all (refiled other_cmp p files) owner) (in_its_file kind there m) (denied kind))))
+              (sym (stands f.page)) (by (map.get p.files here) refl)
+            where
+              by : (n : Option PageName) → map.get p.files here ≡ n → Agree (goes_on (option_map_or (make_all p owner) (in_its_file kind here n) (denied kind))) (other_goes_on (option_map_or (make_all (refiled other_cmp p files) owner) (in_its_file kind there n) (denied kind)))
+              by None is = none_there kind is
+              by (Some n) is = rest Granted p files alike
+
+        filed_same : (owner : Tty) (f : FilePage F) (kind : Kind)
+            → Agree (goes_on (option_map_or (λ s. reference p s kind owner) (spot_of one (in_file f)) (denied kind))) (other_goes_on (option_map_or (λ s. reference (refiled other_cmp p files) s kind owner) (spot_of other (in_file f)) (denied kind)))
+        filed_same owner f kind = by (one.file_of f.file) (other.file_of f.file) refl refl (alike.stand f.file)
+          where
+            by : (a : Option K) (b : Option L) → one.file_of f.file ≡ a → other.file_of f.file ≡ b → StandAlike other_cmp p files a b
+                → Agree (goes_on (option_map_or (λ s. reference p s kind owner) (option_map (λ k. in_file (record { file = k; page = f.page })) a) (denied kind)))
+                (other_goes_on (option_map_or (λ s. reference (refiled other_cmp p files) s kind owner) (option_map (λ l. in_file (record { file = l; page = f.page })) b) (denied kind)))
+            by None None x y h = rest Denied p files alike
+            by (Some k) (Some l) x y h = page_same owner f k l x y kind
+            by None (Some l) x y h = absurd h
+            by (Some k) None x y h = absurd h
+
+      -- steps come to the same
+      stepped_same : (f : ForkName) (regs : Regs) (steps : Steps) (next : Ending → Turn F C) → ((e : Ending) → ComesSame (next e))
+          → Agree (stepped f (steps_on f regs steps p) (λ q e. turn_on one q (next e)) (λ channel. record { end = Trap channel; pages = p }))
+          (stepped f (steps_on f regs steps (refiled other_cmp p files)) (λ q e. turn_on other q (next e)) (λ channel. record { end = Trap channel; pages = (refiled other_cmp p files) }))
+      stepped_same f regs steps next rest = subst (λ r. Agree (goes (steps_on f regs steps p)) (other_goes r)) (sym (run_refiled other_cmp files f steps (begun p regs.ac) alike.names)) (by (steps_on f regs steps p) (run_leaves f steps (begun p regs.ac)))
+        where
+          goes : Planned file_cmp ⊥ → Came file_cmp C
+          goes r = stepped f r (λ q e. turn_on one q (next e)) (λ channel. record { end = Trap channel; pages = p })
+
+          other_goes : Planned other_cmp ⊥ → Came other_cmp C
+          other_goes r = stepped f r (λ q e. turn_on other q (next e)) (λ channel. record { end = Trap channel; pages = (refiled other_cmp p files) })
+
+          by : (r : Planned file_cmp ⊥) → LeavesFiles p.files r → Agree (goes r) (other_goes (refiled_plan other_cmp files r))
+          by (done t e) leaves = subst (λ q. Agree (turn_on one (pages_left f t e) (next e)) (turn_on other q (next e))) (sym (left_refiled other_cmp files f t e))
+              (rest e (pages_left f t e) files (still p files alike (pages_left f t e) (left_leaves f t e ∙ leaves)))
+          by (stopped (trap channel)) leaves = (refl, alike)
+          by (stopped (need none)) leaves = absurd none
+          by (call number) leaves = (refl, alike)
+
+      -- the map of a new fork has the same room
+      added_same : (f : ForkName) (entries : NewMap) (next : Bool → Turn F C) → ((b : Bool) → ComesSame (next b))
+          → Agree (turn_on one (with_added p f entries (HasRoom (with_map p f entries) f.tty)) (next (HasRoom (with_map p f entries) f.tty)))
+          (turn_on other (with_added (refiled other_cmp p files) f entries (HasRoom (with_map (refiled other_cmp p files) f entries) f.tty)) (next (HasRoom (with_map (refiled other_cmp p files) f entries) f.tty)))
+      added_same f entries next rest =
+          subst (λ b. Agree (turn_on one (with_added p f entries (HasRoom (with_map p f entries) f.tty)) (next (HasRoom (with_map p f entries) f.tty))) (turn_on other (with_added (refiled other_cmp p files) f entries b) (next b)))
+          (sym (room_refiled other_cmp (with_map p f entries) files alike.names f.tty)) (by (HasRoom (with_map p f entries) f.tty))
+        where
+          by : (b : Bool) → Agree (turn_on one (with_added p f entries b) (next b)) (turn_on other (with_added (refiled other_cmp p files) f entries b) (next b))
+          by true = rest true (with_map p f entries) files (still p files alike (with_map p f entries) refl)
+          by false = rest false p files alike
+
+    -- A TURN COMES OUT THE SAME, whatever files are known by: one induction for all calls
+    pub came_same : (t : Turn F C) → ComesSame t
+    unfolding turn_on
+    came_same (sees s next) p files alike = came_same (next (entry_of p s)) p files alike
+    came_same (finds at next) p files alike =
+        subst (λ n. Agree (turn_on one p (next (option_and_then (page_at p) (spot_of one at)))) (turn_on other (refiled other_cmp p files) (next n))) (sym (found_same p files alike at))
+        (came_same (next (option_and_then (page_at p) (spot_of one at))) p files alike)
+    came_same (reads f offset next) p files alike =
+        let w = option_map_or (λ at. word_at p at offset) (spot_of one (in_file f)) 0 in
+        subst (λ x. Agree (turn_on one p (next w)) (turn_on other (refiled other_cmp p files) (next x))) (sym (word_same p files alike f offset)) (came_same (next w) p files alike)
+    came_same (touches owner (in_map s) kind next) p files alike = touched_same p files alike next (λ what. came_same (next what)) owner s kind
+    came_same (touches owner (in_file f) kind next) p files alike = filed_same p files alike next (λ what. came_same (next what)) owner f kind
+    came_same (takes f regs steps next) p files alike = stepped_same p files alike f regs steps next (λ e. came_same (next e))
+    came_same (adds f entries next) p files alike = added_same p files alike f entries next (λ b. came_same (next b))
+    came_same (looks name next) p files alike =
+        subst (λ b. Agree (turn_on one p (next (one.is_name name))) (turn_on other (refiled other_cmp p files) (next b))) (sym (like.names name)) (came_same (next (one.is_name name)) p files alike)
+    came_same (makes name next) p files alike =
+        subst (λ b. Agree (turn_on one p (next one.has_more)) (turn_on other (refiled other_cmp p files) (next b))) (sym like.more) (came_same (next one.has_more) p files alike)
+    came_same (ends e) p files alike = (refl, alike)
 
 -- a turn that knows no file leaves the pages of files
 abbrev pub LeavesFilesAlone : {C K : Type 0} (file_cmp : K → K → Ordering) → Turn ⊥ C → Type 0
@@ -158,3 +345,13 @@ module _ {C K : Type 0} {file_cmp : K → K → Ordering} where
   came_leaves (looks name next) p = came_leaves (next false) p
   came_leaves (makes name next) p = came_leaves (next false) p
   came_leaves (ends e) p = refl
+
+-- and so it comes out the same, whatever files are known by
+no_files_alike : {K L : Type 0} (file_cmp : K → K → Ordering) (other_cmp : L → L → Ordering) → TellAlike file_cmp other_cmp no_files no_files
+no_files_alike file_cmp other_cmp = record { together = λ f g. absurd f; names = λ name. refl; more = refl; total = λ f. absurd f; other_total = λ f. absurd f }
+
+module _ {C K L : Type 0} {file_cmp : K → K → Ordering} (other_cmp : L → L → Ordering) (files : map.FinMap (file_page_cmp other_cmp) PageName) where
+  pub came_refiled : (t : Turn ⊥ C) (p : PlainPages file_cmp) → NameAlike other_cmp p files → turn_on no_files (refiled other_cmp p files) t ≡ refiled_came other_cmp files (turn_on no_files p t)
+  came_refiled t p alike =
+      (came_same other_cmp no_files no_files (no_files_alike file_cmp other_cmp) t p files (record { names = alike; stand = λ f. absurd f })).0
+      ∙ ap (λ (fs : map.FinMap (file_page_cmp other_cmp) PageName). refiled_came other_cmp fs (turn_on no_files p t)) (came_leaves t (refiled other_cmp p files))
