@@ -18,3 +18,4 @@ pub mod OtherMaps
 pub mod OtherJobs
 pub mod UnitForks
 pub mod UnitJobs
+pub mod Moving

@@ -1,4 +1,5 @@
 pub mod Whole
+pub mod MoveLaws
 pub mod Laws
 pub mod Example
 pub mod ForkLaws

@@ -1,5 +1,6 @@
 // What the definitions of the fork calls say, in the words of those who use them. A law does nothing when it runs.
-ghost use Rattle.std.specs.Prelude.{◌≡◌, ◌⊎◌, ℕ, true, false, Ok, Some};
+ghost use Rattle.std.specs.Prelude.{◌≡◌, ◌⊎◌, ◌&&◌, ℕ, true, false, not, Ok, Some};
+ghost use Rattle.std.specs.List.{list_any};
 ghost use Rattle.std.specs.FinMap as map;
 ghost use Rattle.plain_model.specs.declared.call.TheConstants.{WFORK};
 ghost use Rattle.machine_names.specs.declared.names.ForkName.{ForkName as AForkName};
@@ -13,6 +14,8 @@ ghost use Rattle.plain_model.specs.ForkCalls.{ForkAsked, ForkParts, fork_call, f
 ghost use Rattle.plain_laws.specs.ForkLaws.{AreLeft, UnitResumes, waiting};
 ghost use Rattle.plain_model.specs.Unit.{unit};
 ghost use Rattle.plain_pages.specs.WholePages.{AreWhole};
+ghost use Rattle.plain_model.specs.Moves.{moves, runs_in};
+ghost use Rattle.plain_laws.specs.MoveLaws.{starts_it, stops_it};
 ghost use Rattle.plain_laws.specs.Whole.{IsWhole};
 ghost use Rattle.std.specs.Ordering.{nat_cmp};
 
@@ -48,4 +51,11 @@ pub fn units_leave_other_jobs()
         → map.get (unit s who).state.forks name ≡ map.get s.forks name }
     ensures maps { (s : PlainState) (who name : AForkName) → IsWhole s → (name.tty.0 ≡ who.tty.0 → ⊥)
         → map.get (unit s who).state.pages.maps name ≡ map.get s.pages.maps name }
+{}
+
+/// The moves of an act are all that it changes of who can run: a fork starts exactly where it can run afterwards and could
+/// not before, and stops exactly where it could and can't any more, or is gone.
+pub fn moves_are_who_can_run()
+    ensures starts { (before after : PlainState) (f : AForkName) → IsWhole after → list_any (starts_it f) (moves before.forks after.forks) ≡ (runs_in after.forks f && not (runs_in before.forks f)) }
+    ensures stops { (before after : PlainState) (f : AForkName) → IsWhole before → list_any (stops_it f) (moves before.forks after.forks) ≡ (runs_in before.forks f && not (runs_in after.forks f)) }
 {}

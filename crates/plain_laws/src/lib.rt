@@ -11,8 +11,8 @@ mod laws;
 pub use entries::{entries_fit, runs_are_whole};
 pub use example::{empty_script, first_script};
 pub use fork_laws::{
-    frozen_forks_run_when_resumed, killed_forks_take_their_pages, units_leave_other_jobs,
-    waiters_go_on_when_a_fork_has_ended,
+    frozen_forks_run_when_resumed, killed_forks_take_their_pages, moves_are_who_can_run,
+    units_leave_other_jobs, waiters_go_on_when_a_fork_has_ended,
 };
 pub use laws::{
     access_is_that_of_all_entries, chains_are_short, copies_are_made_once,
