@@ -19,7 +19,7 @@ use Rattle.plain_pages.specs.References.{with_entry as entry_put}
 use Rattle.page_contracts.specs.Pages.{StaysInCore}
 use Rattle.machine_names.specs.Orders.{same_fork}
 use Rattle.page_contracts.specs.Stores.{StoreMeaning, FitsHomes, traffic}
-use Rattle.page_contracts.proofs.Losing.{loses_none, loses_on}
+use Rattle.page_contracts.proofs.Losing.{keeps_frames, loses_nothing, loses_on, none_on}
 use Rattle.plain_pages.specs.WholePages.{AreWhole}
 use Rattle.plain_pages.proofs.Kept.{entry_kept, entry_maps, uses_entry, unnamed_gone}
 use Rattle.flat_pages.specs.declared.held_entry.EntryAt.{EntryAt}
@@ -117,7 +117,8 @@ module _ {S : Type 0} (store : StoreMeaning S) (k : ℕ) where
     living = refl;
     limit = refl;
     core = same_core _;
-    lost = loses_none (traffic store old) (traffic store old) refl refl refl refl;
+    lost = loses_nothing (traffic store old);
+    used = keeps_frames (traffic store old);
   }
 
   -- one more
@@ -133,6 +134,7 @@ module _ {S : Type 0} (store : StoreMeaning S) (k : ℕ) where
     limit = sets.limit ∙ so_far.limit;
     core = core_on so_far.core sets.core;
     lost = loses_on (traffic store old) (traffic store now) (traffic store new) so_far.lost sets.lost;
+    used = none_on (traffic store old) (traffic store now) (traffic store new) so_far.used sets.used;
   }
     where
       maps : List HeldMap

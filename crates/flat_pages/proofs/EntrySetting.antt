@@ -12,8 +12,8 @@ use Rattle.machine_names.specs.declared.names.TheConstants.{SPACE_PAGES}
 use Rattle.plain_pages.specs.Maps.{set_entry}
 use Rattle.page_contracts.specs.DrumWords.{DrumWords}
 use Rattle.page_contracts.specs.Pages.{Scene, StaysInCore}
-use Rattle.page_contracts.specs.Stores.{StoreMeaning, IsSound, IsFreed, Loses, FitsHomes, free, content, away_at, away_home, traffic}
-use Rattle.page_contracts.proofs.Losing.{loses_freed}
+use Rattle.page_contracts.specs.Stores.{StoreMeaning, IsSound, IsFreed, Loses, RenewsNone, FitsHomes, free, content, away_at, away_home, traffic}
+use Rattle.page_contracts.proofs.Losing.{freed_none, keeps_frames, loses_freed, loses_nothing}
 use Rattle.flat_pages.specs.declared.held_entry.EntryAt.{EntryAt}
 use Rattle.flat_pages.specs.declared.held_entry.HeldEntry.{HeldEntry}
 use Rattle.flat_pages.specs.declared.held_entry.HeldEntry.TheVariants.{Empty, Page, Follows}
@@ -57,8 +57,9 @@ module _ {S : Type 0} (store : StoreMeaning S) (old new : S) (sound_old : IsSoun
       → ((d : DrumWords) → FitsHomes t.places d → FitsHomes t'.places d)
       → StaysInCore (scene_of t (store.spare old)) (scene_of t' (store.spare new)) 0
       → Loses (traffic store old) (traffic store new)
+      → RenewsNone (traffic store old) (traffic store new)
       → SetsEntry store old new tables tables' at e
-  sets_entry a a' there maps serials living limit names words others same fits core lost = record {
+  sets_entry a a' there maps serials living limit names words others same fits core lost used = record {
     told = λ d s is fit. (
       fits d fit,
       told_set t t' a a' d (sized_of t.places d fit sound_old.pages) (sized_of t'.places d (fits d fit) sound_new.pages) names (words d) serials limit s (entry_of t.names q) (entry_of t.names e)
@@ -71,10 +72,11 @@ module _ {S : Type 0} (store : StoreMeaning S) (old new : S) (sound_old : IsSoun
     limit = limit;
     core = core;
     lost = lost;
+    used = used;
   }
 
   -- the same page is named, or none as before
-  module _ (a : AreTables t) (there : held_entry t.maps at ≡ Some q) (page : (l : Link) (b : Access) → e ≡ Follows l b → l.page < SPACE_PAGES) (lives : IsSome (fork_at t.maps at.map)) (homes : store.homes new ≡ store.homes old) (spare : store.spare new ≡ store.spare old) (lost : Loses (traffic store old) (traffic store new)) where
+  module _ (a : AreTables t) (there : held_entry t.maps at ≡ Some q) (page : (l : Link) (b : Access) → e ≡ Follows l b → l.page < SPACE_PAGES) (lives : IsSome (fork_at t.maps at.map)) (same_store : new ≡ old) where
     used : fork_at t.maps at.map ≡ None → e ≡ Empty
     used = lives_used (fork_at t.maps at.map) e lives
 
@@ -101,10 +103,11 @@ module _ {S : Type 0} (store : StoreMeaning S) (old new : S) (sound_old : IsSoun
           (ap (λ ns. entry_of ns e) names_are)
           (λ d fit. subst (λ ps. FitsHomes ps d) (sym places_are) fit)
           (subst (λ (x : Scene). StaysInCore (scene_of t (store.spare old)) x 0) (sym scenes) (same_core (scene_of t (store.spare old))))
-          lost
+          (subst (λ (x : S). Loses (traffic store old) (traffic store x)) (sym same_store) (loses_nothing (traffic store old)))
+          (subst (λ (x : S). RenewsNone (traffic store old) (traffic store x)) (sym same_store) (keeps_frames (traffic store old)))
         where
           scenes : scene_of t' (store.spare new) ≡ scene_of t (store.spare old)
-          scenes = λ i. scene_of (record t { places = places_are i; names = names_are i }) (spare i)
+          scenes = λ i. scene_of (record t { places = places_are i; names = names_are i }) (store.spare (same_store i))
 
     pub kept_step : ((k : ℕ) → points_at k e ≡ points_at k q) → t' ≡ entry_kept t at e → AreTables t' × AreTold t' × SetsEntry store old new tables tables' at e
     kept_step same is =
@@ -171,7 +174,7 @@ module _ {S : Type 0} (store : StoreMeaning S) (old new : S) (sound_old : IsSoun
               (ap (λ (y : Tables). entry_of y.names e) is ∙ entry_still t.names u.names h.0 e kept_name (none h.0))
               (λ d fit. subst (λ (x : Tables). FitsHomes x.places d) (sym is) (fits_set t.places d h.0 free fit))
               (subst (λ (x : Tables). StaysInCore (scene_of t (store.spare old)) (scene_of x (store.spare new)) 0) (sym is) frames_still)
-              (loses_freed store old new h.0 given_up),
+              (loses_freed store old new h.0 given_up) (freed_none store old new h.0 given_up),
         )
 
 -- an entry that names no page is not the only one to name it

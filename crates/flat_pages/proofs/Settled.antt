@@ -84,11 +84,21 @@ slot_lives maps at s is = by (fork_at maps at.map) is
     by None k = absurd (cc k)
     by (Some f) k = refl
 
+-- a fork lives on where an entry is set
+pub still_lives : (maps maps' : List HeldMap) (at : EntryAt) (e : HeldEntry) → maps' ≡ with_entry maps at e → (f : ForkName) → is_some (index_of maps f) ≡ true → is_some (index_of maps' f) ≡ true
+still_lives maps maps' at e is f lives = ap (λ (by : ForkName → Bool). by f) (set_lives maps maps' at e is) ∙ lives
+
 pub one_is : (n : ℕ) → n ≡ 1 → (n == 1) ≡ true
 one_is n e = grind (arith, nat_tests, e)
 
 pub not_one : (n : ℕ) → n ≢ 1 → (n == 1) ≡ false
 not_one n ne = elim (eqb_tells n 1) [ inl t ↦ absurd (ne t.1) | inr t ↦ t.0 ]
+
+-- the chain of a slot ends at the page of a home
+pub record EndsAt (maps : List HeldMap) (s : Slot) (h : Home) : Type 0 where
+  pub walk : Walk
+  pub is : walk_of maps s ≡ Some walk
+  pub home : walk.home ≡ Some h
 
 -- a slot whose touch announces what is to be made
 pub record Announced (t : Tables) (frames : ℕ) (s : Slot) (kind : Kind) (w : Walk) : Type 0 where
@@ -221,6 +231,12 @@ module _ (t : Tables) (a : AreTables t) (frames : ℕ) (s : Slot) (kind : Kind) 
   starts_in to x =
       ap (option_and_then (λ k. walk (with_entry t.maps to x) (record { map = k; page = s.page }))) (index_same (with_entry t.maps to x) t.maps (set_forks t.maps (with_entry t.maps to x) to x refl) s.fork ∙ stand.index)
 
+  zero_walk : (u : Tables) (h : Home) → w.home ≡ None → u.maps ≡ with_entry t.maps w.end (Page h full_access) → walk_of u.maps s ≡ Some (record w { home = Some h })
+  zero_walk u h none maps = ap (λ (ms : List HeldMap). walk_of ms s) maps ∙ starts_in w.end (Page h full_access) ∙ walk_filled t.maps w.end h full_access Empty (walk_found.meets.empty none) refl refl start w starts refl
+
+  pub zero_ends : (u : Tables) (h : Home) → w.home ≡ None → u.maps ≡ with_entry t.maps w.end (Page h full_access) → EndsAt u.maps s h
+  zero_ends u h none maps = record { walk = record w { home = Some h }; is = zero_walk u h none maps; home = refl }
+
   -- once a zero page stands at the chain's end
   zero_settles : (u : Tables) (h : Home) (frames' : ℕ) → w.home ≡ None → u.maps ≡ with_entry t.maps w.end (Page h full_access) → away_at u.places h.0 ≡ None → (has_room t 2 ≡ true → has_room u 1 ≡ true) → SettlesTo touch (touch_of_place u frames' (Fork s) kind)
   zero_settles u h frames' none maps there room = subst (λ (x : Touch). SettlesTo x (touch_of_place u frames' (Fork s) kind)) (sym (zero_touch none)) (subst (λ (x : Touch). SettlesTo Zero x) (sym new) (after (copy_of kind w) (λ m e. zero_room none m e)))
@@ -237,8 +253,7 @@ module _ (t : Tables) (a : AreTables t) (frames : ℕ) (s : Slot) (kind : Kind) 
 
       new : touch_of_place u frames' (Fork s) kind ≡ touch_made (away_at u.places) u (scene_of u frames') (Some h) (copy_of kind w)
       new =
-          ap (touch_walked (away_at u.places) u (scene_of u frames') kind)
-          (ap (λ (ms : List HeldMap). walk_of ms s) maps ∙ starts_in w.end (Page h full_access) ∙ walk_filled t.maps w.end h full_access Empty (walk_found.meets.empty none) refl refl start w starts refl)
+          ap (touch_walked (away_at u.places) u (scene_of u frames') kind) (zero_walk u h none maps)
           ∙ (λ i. cond (allows_same kind i) (touch_made (away_at u.places) u (scene_of u frames') (Some h) (copy_same kind i)) (Denied kind))
           ∙ ap (λ b. cond b (touch_made (away_at u.places) u (scene_of u frames') (Some h) (copy_of kind w)) (Denied kind)) permitted
 
@@ -274,13 +289,23 @@ module _ (t : Tables) (a : AreTables t) (frames : ℕ) (s : Slot) (kind : Kind) 
   pub alone_home : (h : Home) (m : EntryAt) (g : Home) (b : Access) → w.home ≡ Some h → copy_of kind w ≡ Some m → held_entry t.maps m ≡ Some (Page g b) → g ≡ h
   alone_home h m g b home some there = (let z : Some g ≡ Some h = sym (marked_home t.maps m g b there start w starts (copy_marked m some)) ∙ home in cc z)
 
+  copy_walk : (h : Home) (m : EntryAt) (b : Access) (q : HeldEntry) → copy_of kind w ≡ Some m → held_entry t.maps m ≡ Some q → b.c ≡ false → b.w ≡ true → Copies h (walk (with_entry t.maps m (Page h b)) start)
+  copy_walk h m b q some there plain writable =
+      let k = only_write kind m some in
+      let writes : w.writes ≡ true = ap (λ (x : Kind). allows x w) (sym k.0) ∙ permitted in
+      walk_copied t.maps m h b q there plain writable start w starts k.1 writes
+
+  pub copy_ends : (u : Tables) (h : Home) (m : EntryAt) (b : Access) (q : HeldEntry) → copy_of kind w ≡ Some m → held_entry t.maps m ≡ Some q → b.c ≡ false → b.w ≡ true → u.maps ≡ with_entry t.maps m (Page h b) → EndsAt u.maps s h
+  copy_ends u h m b q some there plain writable maps =
+      let c = copy_walk h m b q some there plain writable in
+      record { walk = c.walk; is = ap (λ (ms : List HeldMap). walk_of ms s) maps ∙ starts_in m (Page h b) ∙ c.is; home = c.home }
+
   -- once a copy stands where the mark was
   copy_ready : (u : Tables) (h : Home) (m : EntryAt) (b : Access) (q : HeldEntry) (frames' : ℕ) → copy_of kind w ≡ Some m → held_entry t.maps m ≡ Some q → b.c ≡ false → b.w ≡ true → u.maps ≡ with_entry t.maps m (Page h b) → away_at u.places h.0 ≡ None
       → touch_of_place u frames' (Fork s) kind ≡ Ready
   copy_ready u h m b q frames' some there plain writable maps in_core =
       let k = only_write kind m some in
-      let writes : w.writes ≡ true = ap (λ (x : Kind). allows x w) (sym k.0) ∙ permitted in
-      let c : Copies h (walk (with_entry t.maps m (Page h b)) start) = walk_copied t.maps m h b q there plain writable start w starts k.1 writes in
+      let c = copy_walk h m b q some there plain writable in
       ap (λ (x : Kind). touch_of_place u frames' (Fork s) x) k.0
       ∙ ap (touch_walked (away_at u.places) u (scene_of u frames') Write) (ap (λ (ms : List HeldMap). walk_of ms s) maps ∙ starts_in m (Page h b) ∙ c.is)
       ∙ (λ i. cond (c.writes i) (touch_made (away_at u.places) u (scene_of u frames') (c.home i) (c.copy i)) (Denied Write))

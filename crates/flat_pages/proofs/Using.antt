@@ -1,5 +1,5 @@
 -- Which page of a store a call on places uses, and what a touch needs first.
-use Rattle.std.proofs.Common.{◌≡◌, ℕ, List, true, false, Bool, cond, Option, None, Some, refl, sym, ◌∙◌, ap, subst, arith}
+use Rattle.std.proofs.Common.{◌≡◌, ℕ, List, true, false, Bool, cond, Option, None, Some, is_some, refl, sym, ◌∙◌, ap, subst, arith}
 use Rattle.std.specs.Prelude.{nat_lt}
 use Rattle.std.specs.Option.{option_map, option_and_then}
 use Rattle.std.proofs.lemmas.Bool.Decides.{nat_tests}
@@ -12,8 +12,8 @@ use Rattle.page_contracts.specs.declared.answers.Found.{Found}
 use Rattle.page_contracts.specs.declared.answers.SpaceHandle.{SpaceHandle}
 use Rattle.page_contracts.specs.declared.answers.Touch.{Touch}
 use Rattle.page_contracts.specs.declared.answers.Touch.TheVariants.{Ready, Zero, Copy, NeedFrame, Full}
-use Rattle.page_contracts.specs.Pages.{StandsAt, TouchNeeds, absent_or, framed}
-use Rattle.page_contracts.specs.Stores.{StoreMeaning, HomePlace, free, away, here, IsMade, IsSound, IsUsed, away_at, away_home, is_here, place}
+use Rattle.page_contracts.specs.Pages.{PagesMeaning, StandsAt, TouchNeeds, UsesOne, absent_or, framed}
+use Rattle.page_contracts.specs.Stores.{StoreMeaning, HomePlace, free, away, here, IsMade, IsSound, IsUsed, Renews, away_at, away_home, is_here, place}
 use Rattle.flat_pages.specs.declared.chain_walk.Walk.{Walk}
 use Rattle.flat_pages.specs.declared.held_entry.EntryAt.{EntryAt}
 use Rattle.flat_pages.specs.HeldMaps.{index_of, held_entry}
@@ -22,6 +22,7 @@ use Rattle.flat_pages.specs.SlotTables.{Tables}
 use Rattle.flat_pages.specs.Walks.{walk}
 use Rattle.flat_pages.specs.SlotTouches.{has_room, is_alone, scene_of, touch_copy, touch_made, walk_of}
 use Rattle.flat_pages.proofs.HandedOn.{used_within}
+use Rattle.flat_pages.proofs.Settled.{EndsAt}
 
 -- where the page of a living fork's slot is found is told by the walk along its chain
 along_walk : (found : ℕ → Option Found) (t : Tables) (s : Slot) (space : SpaceHandle) → option_map (λ k. record { 0 = k }) (index_of t.maps s.fork) ≡ Some space
@@ -53,6 +54,37 @@ module _ {P S : Type 0} (store : StoreMeaning S) (part : P → S) (tables : P �
   -- so that page is used
   pub used_at : (q : P) → IsSound store (part p) → (h : Home) → w.home ≡ Some h → IsUsed store h.0 (part p) (part q) → IsUsed (within store part) home p q
   used_at q sound h is_home u = used_within store part home p q (subst (λ (k : ℕ). IsUsed store k (part p) (part q)) (stands_home sound h is_home) u)
+
+-- the page at the end of the chain of a place is found there, and so it is that page which was used or made
+module _ {P S : Type 0} (store : StoreMeaning S) (part : P → S) (tables : P → Tables) (p q : P) (at : Place) (s : Slot) (is : at ≡ Fork s) (lives : is_some (index_of (tables q).maps s.fork) ≡ true) (h : Home) (ends : EndsAt (tables q).maps s h) (sound : IsSound store (part q)) (there : is_here (place (store.homes (part q)) h.0) ≡ true) where
+  abbrev means : PagesMeaning P
+  means = slots_meaning store part tables
+
+  space_of : (o : Option ℕ) → is_some o ≡ true → (space : SpaceHandle) × (option_map (λ k. record { 0 = k }) o ≡ Some space)
+  space_of None e = absurd (cc e)
+  space_of (Some k) e = (record { 0 = k }, refl)
+
+  found_of : (o : Option Found) → is_some o ≡ true → (found : Found) × (o ≡ Some found)
+  found_of None e = absurd (cc e)
+  found_of (Some found) e = (found, refl)
+
+  stands_there : StandsAt means q at h.0
+  stands_there =
+      let space = space_of (index_of (tables q).maps s.fork) lives in
+      let found = found_of (store.found (part q) h.0) (sound.finds h.0 ∙ there) in
+      record {
+        slot = s;
+        is = is;
+        space = space.0;
+        named = space.1;
+        found = found.0;
+        there = along_walk (store.found (part q)) (tables q) s space.0 space.1
+            ∙ ap (option_and_then (λ (w : Walk). option_and_then (λ (x : Home). store.found (part q) x.0) w.home)) ends.is ∙ ap (option_and_then (λ (x : Home). store.found (part q) x.0)) ends.home ∙ found.1;
+        here = found.1;
+      }
+
+  pub uses_there : Renews h.0 (store.tenant (part q)) (store.age (part p)) (store.age (part q)) → UsesOne means at p q
+  uses_there renews = record { home = h.0; stands = stands_there; here = there; renews = renews }
 
 -- a page that was made, and one that was used where it stood, is in a frame
 module _ {S : Type 0} (store : StoreMeaning S) (old new : S) where

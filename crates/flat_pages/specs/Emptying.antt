@@ -8,7 +8,7 @@ use Rattle.plain_pages.specs.PlainPages.{NumberedPages}
 use Rattle.plain_pages.specs.Room.{uses}
 use Rattle.page_contracts.specs.Pages.{StaysInCore}
 use Rattle.machine_names.specs.Orders.{same_fork}
-use Rattle.page_contracts.specs.Stores.{StoreMeaning, FitsHomes, Loses, traffic}
+use Rattle.page_contracts.specs.Stores.{StoreMeaning, FitsHomes, Loses, RenewsNone, traffic}
 use Rattle.flat_pages.specs.declared.held_entry.HeldEntry.TheVariants.{Empty}
 use Rattle.flat_pages.specs.declared.map_tables.MapTables.{MapTables}
 use Rattle.flat_pages.specs.HeldMaps.{fork_at, held_entry}
@@ -38,3 +38,4 @@ pub record EmptiesMap {S : Type 0} (store : StoreMeaning S) (old new : S) (table
   pub limit : tables'.limit ≡ tables.limit
   pub core : StaysInCore (scene_of (tables_of (store.homes old) tables) (store.spare old)) (scene_of (tables_of (store.homes new) tables') (store.spare new)) 0
   pub lost : Loses (traffic store old) (traffic store new)
+  pub used : RenewsNone (traffic store old) (traffic store new)

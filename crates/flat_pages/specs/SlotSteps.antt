@@ -4,7 +4,7 @@ use Rattle.plain_pages.specs.Maps.{narrowed}
 use Rattle.machine_names.specs.declared.names.Access.{Access}
 use Rattle.page_homes.specs.declared.homes.Home.{Home}
 use Rattle.machine_names.specs.declared.names.Tty.{Tty}
-use Rattle.page_contracts.specs.Stores.{StoreMeaning, HomePlace, IsMade, FitsHomes, Loses, traffic}
+use Rattle.page_contracts.specs.Stores.{StoreMeaning, HomePlace, IsMade, FitsHomes, Loses, RenewsNone, traffic}
 use Rattle.machine_names.specs.declared.names.Slot.{Slot}
 use Rattle.page_contracts.specs.DrumWords.{DrumWords}
 use Rattle.plain_pages.specs.References.{with_entry as entry_put}
@@ -35,6 +35,7 @@ pub record SetsEntry {S : Type 0} (store : StoreMeaning S) (old new : S) (tables
   pub limit : tables'.limit ≡ tables.limit
   pub core : StaysInCore (scene_of (tables_of (store.homes old) tables) (store.spare old)) (scene_of (tables_of (store.homes new) tables') (store.spare new)) 0
   pub lost : Loses (traffic store old) (traffic store new)
+  pub used : RenewsNone (traffic store old) (traffic store new)
 
 -- an entry of which no more is permitted than is given
 abbrev pub narrow_held : Access → HeldEntry → HeldEntry

@@ -4,7 +4,7 @@ use Rattle.machine_names.specs.declared.names.Kind.{Kind}
 use Rattle.machine_names.specs.declared.names.Kind.TheVariants.{Read, Write, Execute}
 use Rattle.page_contracts.specs.Pages.{PagesMeaning, MayLose}
 use Rattle.page_contracts.specs.Stores.{StoreMeaning, traffic}
-use Rattle.page_contracts.proofs.Losing.{loses_none, loses_on, needed_more}
+use Rattle.page_contracts.proofs.Losing.{loses_nothing, loses_on, needed_more}
 use Rattle.page_gather.specs.Gathering.{most_made}
 use Rattle.ka10_unit.specs.declared.taken.Stop.{Stop}
 use Rattle.ka10_unit.specs.declared.taken.Stop.TheVariants as stop
@@ -13,7 +13,7 @@ use Rattle.ka10_unit.specs.Taking.{StopNeeds, most_frames}
 
 module _ {P : Type 0} (means : PagesMeaning P) where
   pub lost_none : (s : P) → MayLose means s s
-  lost_none s = loses_none (traffic means.store s) (traffic means.store s) refl refl refl refl
+  lost_none s = loses_nothing (traffic means.store s)
 
   pub lost_on : (r s t : P) → MayLose means r s → MayLose means s t → MayLose means r t
   lost_on r s t = loses_on (traffic means.store r) (traffic means.store s) (traffic means.store t)

@@ -1,12 +1,14 @@
 -- What calls lose of what is queued and held, one after another.
-use Rattle.std.proofs.Common.{◌≡◌, ◌⊎◌, inl, inr, ℕ, List, [], ◌∷◌, ◌++◌, Bool, true, false, cond, not, ◌==◌, refl, sym, ◌∙◌, ap, arith, ◌≤◌}
+use Rattle.std.proofs.Common.{◌≡◌, ◌⊎◌, inl, inr, ℕ, List, [], ◌∷◌, ◌++◌, Bool, true, false, cond, not, ◌==◌, refl, sym, ◌∙◌, ap, subst, arith, ◌≤◌}
 use Rattle.std.specs.Prelude.{◌||◌, ◌&&◌}
 use Rattle.std.specs.List.{filter, list_any}
+use Rattle.std.specs.Prelude.{Option, None, Some, IsSome, is_some, ◌<◌, ◌≢◌}
+use Rattle.std.specs.Option.{option_map_or}
 use Rattle.std.proofs.lemmas.Bool.Decides.{eqb_tells}
 use Rattle.page_homes.specs.declared.homes.Home.{Home}
 use Rattle.page_contracts.specs.declared.answers.Need.{Need}
 use Rattle.page_contracts.specs.declared.answers.Need.TheVariants.{Page, Frame}
-use Rattle.page_contracts.specs.Stores.{StoreMeaning, Transfer, arrival, departure, Traffic, Loses, Cancels, IsUsed, IsMade, IsFreed, arrives, departs, moves, need_of, noted, noted_all, same_need, traffic, without, CanFetch, IsNeeded}
+use Rattle.page_contracts.specs.Stores.{StoreMeaning, Transfer, arrival, departure, Traffic, Loses, Cancels, IsUsed, IsMade, IsFreed, arrives, departs, moves, need_of, noted, noted_all, same_need, traffic, without, CanFetch, IsNeeded, HomePlace, KeepsFrame, LAST_USE, Renews, RenewsNone, RenewsSome, tenant_left}
 
 or_assoc : (a b c : Bool) → ((a || b) || c) ≡ (a || (b || c))
 or_assoc true b c = refl
@@ -112,16 +114,104 @@ any_noted_all need (t ∷ ts) needs =
     any_noted_all need ts (noted (need_of t) needs) ∙ ap (λ b. b || list_any (λ u. same_need need (need_of u)) ts) (any_noted need (need_of t) needs)
     ∙ or_assoc (list_any (same_need need) needs) (same_need need (need_of t)) (list_any (λ u. same_need need (need_of u)) ts)
 
+-- what was used or given up by one call and then by another was so by both
+pub renews_on : (t u v : Traffic) → RenewsSome t u → RenewsSome u v → RenewsSome t v
+renews_on t u v first then = record {
+  renewed = λ frame. first.renewed frame || then.renewed frame;
+  others = λ frame not there. (let last = second frame (split frame not) there in before frame (split frame not) there last);
+  younger = λ frame other is not here there. by frame other (first.renewed frame) (then.renewed frame) refl refl is (split other not) here there;
+}
+  where
+    neither : (b c : Bool) → (b || c) ≡ false → (b ≡ false) × (c ≡ false)
+    neither true c h = absurd (cc h)
+    neither false c h = (refl, h)
+
+    split : (frame : ℕ) → (first.renewed frame || then.renewed frame) ≡ false → (first.renewed frame ≡ false) × (then.renewed frame ≡ false)
+    split frame not = neither (first.renewed frame) (then.renewed frame) not
+
+    second : (frame : ℕ) → (first.renewed frame ≡ false) × (then.renewed frame ≡ false) → IsSome (v.tenant frame) → KeepsFrame u v frame
+    second frame not there = then.others frame not.1 there
+
+    stood : (frame : ℕ) → KeepsFrame u v frame → IsSome (v.tenant frame) → IsSome (u.tenant frame)
+    stood frame k there = subst IsSome k.tenant there
+
+    before : (frame : ℕ) → (first.renewed frame ≡ false) × (then.renewed frame ≡ false) → IsSome (v.tenant frame) → KeepsFrame u v frame → KeepsFrame t v frame
+    before frame not there k = (let j = first.others frame not.0 (stood frame k there) in record { tenant = k.tenant ∙ j.tenant; age = k.age ∙ j.age })
+
+    by : (frame other : ℕ) (b c : Bool) → first.renewed frame ≡ b → then.renewed frame ≡ c → (first.renewed frame || then.renewed frame) ≡ true → (first.renewed other ≡ false) × (then.renewed other ≡ false)
+        → IsSome (v.tenant frame) → IsSome (v.tenant other) → (v.age other < v.age frame) ⊎ (v.age frame ≡ LAST_USE)
+    by frame other b true first_is then_is is not here there = then.younger frame other then_is not.1 here there
+    by frame other false false first_is then_is is not here there = absurd (let z : false ≡ true = (λ i. sym first_is i || sym then_is i) ∙ is in cc z)
+    by frame other true false first_is then_is is not here there =
+        let k = then.others frame then_is here in
+        let j = second other not there in
+        elim (first.younger frame other first_is not.0 (stood frame k here) (stood other j there)) [
+          | inl less ↦ inl (omega (arith, less, k.age, j.age))
+          | inr last ↦ inr (k.age ∙ last)
+        ]
+
+-- where no page was used none was
+pub renews_none : (t u : Traffic) → RenewsNone t u → RenewsSome t u
+renews_none t u none = record {
+  renewed = λ frame. false;
+  others = λ frame not there. none frame there;
+  younger = λ frame other is not here there. absurd (cc is);
+}
+
+-- nor was any by two calls of which neither used one
+pub none_on : (t u v : Traffic) → RenewsNone t u → RenewsNone u v → RenewsNone t v
+none_on t u v first then frame there = (let k = then frame there in let j = first frame (subst IsSome k.tenant there) in record { tenant = k.tenant ∙ j.tenant; age = k.age ∙ j.age })
+
+-- a home's page was used, and each other frame has its page
+pub renews_home : (t u : Traffic) (home : ℕ) → ((frame : ℕ) → (u.tenant frame ≡ Some home → ⊥) → u.tenant frame ≡ t.tenant frame) → Renews home u.tenant t.age u.age → RenewsSome t u
+renews_home t u home tenants ages = record {
+  renewed = λ frame. has (u.tenant frame);
+  others = λ frame not there. (let other = unlike frame not in record { tenant = tenants frame other; age = ages.others frame other });
+  younger = λ frame other is not here there. ages.youngest frame other (like (u.tenant frame) is) (λ same. (let z : true ≡ false = sym is ∙ ap (λ f. has (u.tenant f)) (sym same) ∙ not in cc z)) there;
+}
+  where
+    has : Option ℕ → Bool
+    has o = option_map_or (λ h. h == home) o false
+
+    like : (o : Option ℕ) → option_map_or (λ h. h == home) o false ≡ true → o ≡ Some home
+    like None is = absurd (cc is)
+    like (Some h) is = elim (eqb_tells h home) [ inl k ↦ ap Some k.1 | inr k ↦ absurd (let z : true ≡ false = sym is ∙ k.0 in cc z) ]
+
+    itself : option_map_or (λ h. h == home) (Some home) false ≡ true
+    itself = elim (eqb_tells home home) [ inl k ↦ k.0 | inr k ↦ absurd (k.1 refl) ]
+
+    unlike : (frame : ℕ) → has (u.tenant frame) ≡ false → u.tenant frame ≡ Some home → ⊥
+    unlike frame not is = (let z : true ≡ false = sym itself ∙ ap (λ o. option_map_or (λ h. h == home) o false) (sym is) ∙ not in cc z)
+
+-- a home was given up
+pub renews_left : (t u : Traffic) (home : ℕ) → ((frame : ℕ) → u.tenant frame ≡ tenant_left home (t.tenant frame)) → ((frame : ℕ) → (t.tenant frame ≡ Some home → ⊥) → u.age frame ≡ t.age frame) → RenewsNone t u
+renews_left t u home tenants ages frame there = (let k = by (t.tenant frame) (subst IsSome (tenants frame) there) in record { tenant = tenants frame ∙ k.0; age = ages frame k.1 })
+  where
+    by : (o : Option ℕ) → IsSome (tenant_left home o) → (tenant_left home o ≡ o) × (o ≡ Some home → ⊥)
+    by None there = absurd (cc there)
+    by (Some h) there = elim (eqb_tells h home) [
+      | inl k ↦ absurd (let z : IsSome {T = ℕ} None = subst (λ b. IsSome (cond b None (Some h))) k.0 there in cc z)
+      | inr k ↦ (ap (λ b. cond b None (Some h)) k.0, λ is. k.1 (ap (λ (o : Option ℕ). option_map_or (λ x. x) o 0) is))
+    ]
+
 -- nothing is lost
-pub loses_none : (t u : Traffic) → u.queue ≡ t.queue → u.untold ≡ t.untold → u.holds ≡ t.holds → u.members ≡ t.members → Loses t u
-loses_none t u queue untold holds members = record {
+pub loses_none : (t u : Traffic) → u.queue ≡ t.queue → u.untold ≡ t.untold → u.holds ≡ t.holds → u.members ≡ t.members → RenewsSome t u → Loses t u
+loses_none t u queue untold holds members ages = record {
   these = λ x. false;
   queue = queue ∙ sym (filter_all t.queue);
   untold = λ need. ap (list_any (same_need need)) untold ∙ or_none (list_any (same_need need) t.untold) ∙ ap (λ b. list_any (same_need need) t.untold || b) (sym (any_none (λ x. same_need need (need_of x)) t.queue));
   given = λ home. false;
   holds = λ holder. ap (λ (f : ℕ → List ℕ). f holder) holds ∙ sym (filter_all (t.holds holder));
   members = members;
+  ages = ages;
 }
+
+-- nothing changed
+pub keeps_frames : (t : Traffic) → RenewsNone t t
+keeps_frames t frame there = record { tenant = refl; age = refl }
+
+pub loses_nothing : (t : Traffic) → Loses t t
+loses_nothing t = loses_none t t refl refl refl refl (renews_none t t (keeps_frames t))
 
 -- what is lost by one call and then by another is lost by both
 pub loses_on : (t u v : Traffic) → Loses t u → Loses u v → Loses t v
@@ -137,6 +227,7 @@ loses_on t u v first then = record {
   given = λ home. first.given home || then.given home;
   holds = λ holder. then.holds holder ∙ ap (filter (λ home. not (then.given home))) (first.holds holder) ∙ filter_on first.given then.given (t.holds holder);
   members = then.members ∙ first.members;
+  ages = renews_on t u v first.ages then.ages;
 }
 
 -- each page that was on its way still is, or is to be told
@@ -196,8 +287,8 @@ holds_less t u l holder home h = within (t.holds holder) (sym (ap (list_any (λ 
 
 module _ {S : Type 0} (means : StoreMeaning S) (old new : S) where
   -- transfers that are taken from the queue, and pages that are held no more
-  loses_taken : (these : Transfer → Bool) → Cancels means these old new → (given : ℕ → Bool) → ((holder : ℕ) → means.holds new holder ≡ filter (λ home. not (given home)) (means.holds old holder)) → means.members new ≡ means.members old → Loses (traffic means old) (traffic means new)
-  loses_taken these c given holds members = record {
+  loses_taken : (these : Transfer → Bool) → Cancels means these old new → (given : ℕ → Bool) → ((holder : ℕ) → means.holds new holder ≡ filter (λ home. not (given home)) (means.holds old holder)) → means.members new ≡ means.members old → RenewsSome (traffic means old) (traffic means new) → Loses (traffic means old) (traffic means new)
+  loses_taken these c given holds members ages = record {
     these = these;
     queue = c.queue;
     untold = λ need.
@@ -206,17 +297,29 @@ module _ {S : Type 0} (means : StoreMeaning S) (old new : S) where
     given = given;
     holds = holds;
     members = members;
+    ages = ages;
   }
+
+  abbrev t : Traffic
+  t = traffic means old
+
+  abbrev u : Traffic
+  u = traffic means new
 
   -- a use, a making and a giving up lose so
   pub loses_used : (home : ℕ) → IsUsed means home old new → Loses (traffic means old) (traffic means new)
-  loses_used home u = loses_taken (departs home) u.rescued (λ k. false) (λ holder. ap (λ (f : ℕ → List ℕ). f holder) u.holds ∙ sym (filter_all (means.holds old holder))) u.framed.members
+  loses_used home k =
+      loses_taken (departs home) k.rescued (λ h. false) (λ holder. ap (λ (f : ℕ → List ℕ). f holder) k.holds ∙ sym (filter_all (means.holds old holder))) k.framed.members
+      (renews_home t u home (λ frame other. ap (λ (f : ℕ → Option ℕ). f frame) k.framed.tenant) k.ages)
 
-  pub loses_made : (home : ℕ) (page : _) → IsMade means home page old new → Loses (traffic means old) (traffic means new)
-  loses_made home page m = loses_none (traffic means old) (traffic means new) m.queued.queue m.queued.untold m.holds m.members
+  pub loses_made : (home : ℕ) (page : HomePlace) → IsMade means home page old new → Loses (traffic means old) (traffic means new)
+  loses_made home page m = loses_none t u m.queued.queue m.queued.untold m.holds m.members (renews_home t u home m.tenants m.ages)
+
+  pub freed_none : (home : ℕ) → IsFreed means home old new → RenewsNone (traffic means old) (traffic means new)
+  freed_none home f = renews_left t u home f.tenants f.ages
 
   pub loses_freed : (home : ℕ) → IsFreed means home old new → Loses (traffic means old) (traffic means new)
-  loses_freed home f = loses_taken (moves home) f.cancelled (λ k. k == home) (λ holder. ap (λ (g : ℕ → List ℕ). g holder) f.holds) f.members
+  loses_freed home f = loses_taken (moves home) f.cancelled (λ k. k == home) (λ holder. ap (λ (g : ℕ → List ℕ). g holder) f.holds) f.members (renews_none t u (freed_none home f))
 
 -- what is needed can be asked for
 pub can_fetch : {S : Type 0} (means : StoreMeaning S) (most : ℕ) (s : S) (need : Need) → IsNeeded means most s need → CanFetch means s need

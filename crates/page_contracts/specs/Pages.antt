@@ -1,5 +1,5 @@
 -- What the calls on pages answer and leave: over the plain pages, and over what is in frames.
-use Rattle.std.specs.Prelude.{◌≡◌, ◌⊎◌, ℕ, ◌+◌, ◌<◌, ◌≤◌, List, [], ◌∷◌, length, Bool, true, false, nat_lt, nat_le, Option, None, Some, if◌then◌else◌, ◌==◌, slice_index, is_some}
+use Rattle.std.specs.Prelude.{◌≡◌, ◌⊎◌, ℕ, ◌+◌, ◌<◌, ◌≤◌, List, [], ◌∷◌, length, Bool, true, false, nat_lt, nat_le, Option, None, Some, if◌then◌else◌, ◌==◌, slice_index, is_some, MatchOption}
 use Rattle.std.specs.Option.{option_map, option_or, option_map_or, option_and_then}
 use Rattle.std.specs.declared.cmp.Ordering.{Ordering}
 use Rattle.std.specs.FinMap as map
@@ -32,7 +32,7 @@ use Rattle.plain_pages.specs.PlainPages.{PlainPages, NumberedPages, page_serial}
 use Rattle.plain_pages.specs.Maps.{entry_at, maps_on_way}
 use Rattle.plain_pages.specs.Room.{live, uses}
 use Rattle.plain_pages.specs.References.{Spot, in_map, in_file, Making, blank, copy, Referred, granted, denied, full, reference, next_making, words_of, page_at}
-use Rattle.page_contracts.specs.Stores.{StoreMeaning, IsSound, IsNeeded, Loses, Renews, away, away_of, is_here, is_taken, place, traffic}
+use Rattle.page_contracts.specs.Stores.{StoreMeaning, IsSound, IsNeeded, Loses, Renews, RenewsNone, away, away_of, is_here, is_taken, place, traffic}
 use Rattle.machine_names.specs.Bounds.{IsOwner}
 
 -- What is in frames: for each fork the home of its map and for each page its home, where that is in no
@@ -275,13 +275,22 @@ pub record StandsAt {P : Type 0} (means : PagesMeaning P) (p : P) (at : Place) (
   pub there : means.place p space slot.page ≡ Some found
   pub here : means.store.found p home ≡ Some found
 
--- the page of some home, in a frame, was used
-pub record UsesOne {P : Type 0} (means : PagesMeaning P) (old new : P) : Type 0 where
+-- the page of a place, which is in a frame, was used or made
+pub record UsesOne {P : Type 0} (means : PagesMeaning P) (at : Place) (old new : P) : Type 0 where
   pub home : ℕ
+  pub stands : StandsAt means new at home
   pub here : is_here (place (means.store.homes new) home) ≡ true
   pub renews : Renews home (means.store.tenant new) (means.store.age old) (means.store.age new)
 
--- what is queued and held may have become less, and what that would have told is to be told
+-- no page was used or came into a frame
+abbrev pub UsesNone : {P : Type 0} → PagesMeaning P → P → P → Type 0
+UsesNone means old new = RenewsNone (traffic means.store old) (traffic means.store new)
+
+-- none but the map of a fork, where that has a home
+abbrev pub UsesMap : {P : Type 0} → PagesMeaning P → ForkName → P → P → Type 0
+UsesMap means fork old new = MatchOption (means.map_home new fork) (UsesNone means old new) (λ home. Renews home (means.store.tenant new) (means.store.age old) (means.store.age new))
+
+-- what is queued and held may have become less, and what that would have told is to be told; and only what was used is younger than it was
 abbrev pub MayLose : {P : Type 0} → PagesMeaning P → P → P → Type 0
 MayLose means old new = Loses (traffic means.store old) (traffic means.store new)
 

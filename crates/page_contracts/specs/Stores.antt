@@ -140,24 +140,6 @@ abbrev pub noted_all : List Transfer → List Need → List Need
 noted_all [] needs = needs
 noted_all (t ∷ ts) needs = noted_all ts (noted (need_of t) needs)
 
--- WHAT STANDS BESIDE THE PAGES: the transfers that are queued, the oldest first; what those would have told that were taken from the queue, as
--- far as it is not told yet; the homes whose frames are held for each holder; and how many forks may have their pages in core together
-pub record Traffic : Type 0 where
-  pub queue : List Transfer
-  pub untold : List Need
-  pub holds : ℕ → List ℕ
-  pub members : ℕ
-
--- Transfers were taken from the queue, and what each of them would have told is to be told; what was to be told still is, and nothing else is.
--- Pages that were held may be held no more. Nothing was queued, and nothing more is held.
-pub record Loses (old new : Traffic) : Type 0 where
-  pub these : Transfer → Bool
-  pub queue : new.queue ≡ without these old.queue
-  pub untold : (need : Need) → list_any (same_need need) new.untold ≡ (list_any (same_need need) old.untold || list_any (λ t. these t && same_need need (need_of t)) old.queue)
-  pub given : ℕ → Bool
-  pub holds : (holder : ℕ) → new.holds holder ≡ filter (λ home. not (given home)) (old.holds holder)
-  pub members : new.members ≡ old.members
-
 -- the last number of a use, at which the numbers of uses stand still
 abbrev pub LAST_USE : ℕ
 LAST_USE = 2 ^ 64 - 1
@@ -170,6 +152,49 @@ pub record Renews (home : ℕ) (tenant : ℕ → Option ℕ) (old new : ℕ → 
 -- each frame has its age but that of a home's page
 abbrev pub KeepsAges : ℕ → (ℕ → Option ℕ) → (ℕ → ℕ) → (ℕ → ℕ) → Type 0
 KeepsAges home tenant old new = (frame : ℕ) → (tenant frame ≡ Some home → ⊥) → new frame ≡ old frame
+
+-- the home that a frame is given to, once a home is given up
+abbrev pub tenant_left : ℕ → Option ℕ → Option ℕ
+tenant_left home None = None
+tenant_left home (Some other) = if other == home then None else Some other
+
+-- WHAT STANDS BESIDE THE PAGES: the transfers that are queued, the oldest first; what those would have told that were taken from the queue, as
+-- far as it is not told yet; the homes whose frames are held for each holder; how many forks may have their pages in core together; and of each
+-- frame the home that it is given to, and its age
+pub record Traffic : Type 0 where
+  pub queue : List Transfer
+  pub untold : List Need
+  pub holds : ℕ → List ℕ
+  pub members : ℕ
+  pub tenant : ℕ → Option ℕ
+  pub age : ℕ → ℕ
+
+-- a frame has the page that it had, and its age
+pub record KeepsFrame (old new : Traffic) (frame : ℕ) : Type 0 where
+  pub tenant : new.tenant frame ≡ old.tenant frame
+  pub age : new.age frame ≡ old.age frame
+
+-- no page was used or came into a frame: each frame that has a page had it, and has its age
+abbrev pub RenewsNone : Traffic → Traffic → Type 0
+RenewsNone old new = (frame : ℕ) → IsSome (new.tenant frame) → KeepsFrame old new frame
+
+-- Pages were used or made, and pages may have been given up. Each frame with a page that was not used had that page, and has its age; and it is older than each
+-- whose page was, until the numbers of uses end.
+pub record RenewsSome (old new : Traffic) : Type 0 where
+  pub renewed : ℕ → Bool
+  pub others : (frame : ℕ) → renewed frame ≡ false → IsSome (new.tenant frame) → KeepsFrame old new frame
+  pub younger : (frame other : ℕ) → renewed frame ≡ true → renewed other ≡ false → IsSome (new.tenant frame) → IsSome (new.tenant other) → (new.age other < new.age frame) ⊎ (new.age frame ≡ LAST_USE)
+
+-- Transfers were taken from the queue, and what each of them would have told is to be told; what was to be told still is, and nothing else is.
+-- Pages that were held may be held no more. Nothing was queued, and nothing more is held. Only what was used is younger than it was.
+pub record Loses (old new : Traffic) : Type 0 where
+  pub these : Transfer → Bool
+  pub queue : new.queue ≡ without these old.queue
+  pub untold : (need : Need) → list_any (same_need need) new.untold ≡ (list_any (same_need need) old.untold || list_any (λ t. these t && same_need need (need_of t)) old.queue)
+  pub given : ℕ → Bool
+  pub holds : (holder : ℕ) → new.holds holder ≡ filter (λ home. not (given home)) (old.holds holder)
+  pub members : new.members ≡ old.members
+  pub ages : RenewsSome old new
 
 -- how many frames may be held for a holder
 abbrev pub most_held : ℕ → ℕ
@@ -240,7 +265,7 @@ pub record StoreMeaning (S : Type 0) : Type 0 where
 
 module _ {S : Type 0} (means : StoreMeaning S) where
   abbrev pub traffic : S → Traffic
-  traffic s = record { queue = means.queue s; untold = means.untold s; holds = means.holds s; members = means.members s }
+  traffic s = record { queue = means.queue s; untold = means.untold s; holds = means.holds s; members = means.members s; tenant = means.tenant s; age = means.age s }
 
   -- a frame's page may leave it: no transfer moves it, and for nobody is it held
   pub record CanLeave (s : S) (frame home : ℕ) : Type 0 where
@@ -326,6 +351,7 @@ module _ {S : Type 0} (means : StoreMeaning S) where
     pub queued : StaysQueued old new
     pub holds : means.holds new ≡ means.holds old
     pub members : means.members new ≡ means.members old
+    pub tenants : (frame : ℕ) → (means.tenant new frame ≡ Some home → ⊥) → means.tenant new frame ≡ means.tenant old frame
     pub ages : Renews home (means.tenant new) (means.age old) (means.age new)
 
   -- the frame that a home's page has, if it has one
@@ -339,6 +365,7 @@ module _ {S : Type 0} (means : StoreMeaning S) where
     pub cancelled : Cancels (moves home) old new
     pub holds : means.holds new ≡ giving_up (means.holds old) home
     pub members : means.members new ≡ means.members old
+    pub tenants : (frame : ℕ) → means.tenant new frame ≡ tenant_left home (means.tenant old frame)
     pub ages : KeepsAges home (means.tenant old) (means.age old) (means.age new)
 
   -- the departure of a frame's page

@@ -11,7 +11,7 @@ ghost use Rattle.page_contracts.specs.DrumWords.{DrumWords, Stands};
 ghost use Rattle.plain_pages.specs.References.{in_map, settled, slot_at, word_at, stored, page_at as named_at, without_fork};
 ghost use Rattle.page_contracts.specs.Stores.{IsFetched, IsUsed, CanFetch, Completes, Tells, Evicts, CanKeep, Keeps, LetsGo, awaited, meeting, most_held};
 ghost use Rattle.plain_pages.specs.WholePages.{AreWhole};
-ghost use Rattle.page_contracts.specs.Pages.{PagesMeaning, Agrees, AreHoused, HasFound, HasSpace, MayLose, PeekNeeds, SeenNeeds, StandsAt, TouchNeeds, UsesOne, StaysInCore, TakesMap, TakesFrames, StaysPut, StaysMapped, StaysPlain, StaysSame, IsPlace, IsTouched, IsReady, CanChange, IsNewMap, FollowsPage, SettlesTo, spot_of, touch_of, peek_of, seen_of, map_away, counted, room_for, can_settle, frames_taken, is_in_core, is_seen, is_entry, is_seen_entry};
+ghost use Rattle.page_contracts.specs.Pages.{PagesMeaning, Agrees, AreHoused, HasFound, HasSpace, MayLose, PeekNeeds, SeenNeeds, StandsAt, TouchNeeds, UsesMap, UsesNone, UsesOne, StaysInCore, TakesMap, TakesFrames, StaysPut, StaysMapped, StaysPlain, StaysSame, IsPlace, IsTouched, IsReady, CanChange, IsNewMap, FollowsPage, SettlesTo, spot_of, touch_of, peek_of, seen_of, map_away, counted, room_for, can_settle, frames_taken, is_in_core, is_seen, is_entry, is_seen_entry};
 ghost use Rattle.machine_names.specs.Bounds.{IsOwner};
 ghost use Rattle.plain_pages.specs.NewEntries.{IsNewEntry, changed};
 ghost use Rattle.machine_names.specs.Orders.{same_fork};
@@ -84,6 +84,7 @@ pub trait Pages {
         ensures told { (d : DrumWords) → means.fits self.old d → means.fits self.new d × (means.plain self.new d ≡ changed (means.plain self.old d) slot new) }
         ensures scene { StaysInCore (means.scene self.old) (means.scene self.new) 0 }
         ensures loses { MayLose means self.old self.new }
+        ensures uses { UsesNone means self.old self.new }
         ensures lives { means.lives self.new ≡ means.lives self.old }
         ensures forks { means.forks_of self.new ≡ means.forks_of self.old }
         ensures serials { means.serial self.new ≡ means.serial self.old }
@@ -101,7 +102,7 @@ pub trait Pages {
         ensures scene { TakesFrames (means.scene self.old) (means.scene self.new) (frames_taken (means.touched self.old at kind)) }
         ensures count { means.count self.new ≡ means.count self.old + frames_taken (means.touched self.old at kind) }
         ensures loses { MayLose means self.old self.new }
-        ensures uses { UsesOne means self.old self.new }
+        ensures uses { UsesOne means at self.old self.new }
         ensures ready { (home : ℕ) → means.touched self.old at kind ≡ Touch.Ready → StandsAt means self.old at home → IsUsed means.store home self.old self.new }
         ensures lives { means.lives self.new ≡ means.lives self.old }
         ensures forks { means.forks_of self.new ≡ means.forks_of self.old }
@@ -182,6 +183,7 @@ pub trait Pages {
         ensures told { (d : DrumWords) → means.fits self.old d → means.fits self.new d × (means.plain self.new d ≡ with_map (means.plain self.old d) fork map) }
         ensures scene { TakesMap (means.scene self.old) (means.scene self.new) fork }
         ensures loses { MayLose means self.old self.new }
+        ensures uses { UsesMap means fork self.old self.new }
         ensures lives { (f : AForkName) → means.lives self.new f ≡ (same_fork f fork || means.lives self.old f) }
         ensures forks { means.forks_of self.new fork.tty ≡ means.forks_of self.old fork.tty + 1 }
         ensures others { (t : ATty) → t ≢ fork.tty → means.forks_of self.new t ≡ means.forks_of self.old t }
@@ -195,6 +197,7 @@ pub trait Pages {
         ensures told { (d : DrumWords) → means.fits self.old d → means.fits self.new d × (means.plain self.new d ≡ without_fork (means.plain self.old d) fork) }
         ensures scene { StaysInCore (means.scene self.old) (means.scene self.new) 0 }
         ensures loses { MayLose means self.old self.new }
+        ensures uses { UsesNone means self.old self.new }
         ensures lives { (f : AForkName) → means.lives self.new f ≡ (not (same_fork f fork) && means.lives self.old f) }
         ensures forks { means.forks_of self.new fork.tty + 1 ≡ means.forks_of self.old fork.tty }
         ensures others { (t : ATty) → t ≢ fork.tty → means.forks_of self.new t ≡ means.forks_of self.old t }

@@ -28,7 +28,7 @@ use Rattle.plain_pages.specs.WholePages.{AreWhole}
 use Rattle.plain_pages.proofs.Makings.{CanMake as CanBeMade, make_whole}
 use Rattle.plain_pages.proofs.Made.{is_blank}
 use Rattle.page_contracts.specs.Stores.{traffic}
-use Rattle.page_contracts.proofs.Losing.{loses_none, loses_on}
+use Rattle.page_contracts.proofs.Losing.{loses_nothing, loses_on}
 use Rattle.page_contracts.proofs.Rooms.{live_blank, live_copy}
 use Rattle.plain_pages.proofs.Settles.{FirstOf, is_blank as first_blank, is_copy as first_copy, first_making, makings_settled, makings_can}
 use Rattle.plain_pages.proofs.ReferencesMade.{reference_makes, reference_stays, reference_denied, reference_settled, settled_makes, settled_stays, make_first, roomy}
@@ -287,7 +287,7 @@ module _ {P : Type 0} (means : PagesMeaning P) (owner : Tty) where
     maps_away = refl;
     pages_away = refl;
     framed = refl;
-    loses = loses_none (traffic means.store p) (traffic means.store p) refl refl refl refl;
+    loses = loses_nothing (traffic means.store p);
   }
 
   -- of pages that tell their numbers, as many frames are left as pages may be made

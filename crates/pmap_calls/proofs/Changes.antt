@@ -17,7 +17,7 @@ use Rattle.plain_pages.specs.Maps.{entry_at}
 use Rattle.plain_pages.specs.References.{with_entry}
 use Rattle.page_contracts.specs.Pages.{PagesMeaning, MayLose, Scene, seen_of, map_away_or}
 use Rattle.page_contracts.specs.Stores.{StoreMeaning, traffic}
-use Rattle.page_contracts.proofs.Losing.{loses_none}
+use Rattle.page_contracts.proofs.Losing.{loses_nothing}
 use Rattle.plain_pages.specs.NewEntries.{changed, entry_to}
 use Rattle.plain_model.specs.Calls.{parts_behind}
 use Rattle.call_turns.specs.Answers.{AnswerNeeds, answer_of}
@@ -74,7 +74,7 @@ made_so scene p q (Err n) what as_is whole is same made = (made.0, ap (change_ne
 
 -- pages that stay lose nothing
 pub lost_none : {P : Type 0} (means : PagesMeaning P) (s : P) → MayLose means s s
-lost_none means s = loses_none (traffic means.store s) (traffic means.store s) refl refl refl refl
+lost_none means s = loses_nothing (traffic means.store s)
 
 -- an end needs nothing
 pub end_needs : {P : Type 0} (store : StoreMeaning P) (most : ℕ) (s : P) (e : End MapChange) → AnswerNeeds store most s (answer_of e)

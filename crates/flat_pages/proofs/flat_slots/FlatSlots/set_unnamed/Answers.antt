@@ -5,8 +5,6 @@ use Rattle.flat_pages.specs.declared.held_entry.HeldEntry.TheVariants.{Page}
 use Rattle.flat_pages.proofs.Making.{alone_share, stays_shared}
 use Rattle.flat_pages.proofs.EntrySetting.{left_step, freed_step, names_none}
 use Rattle.flat_pages.proofs.flat_slots.FlatSlots.set_unnamed.Goals.{in-Page+else-is_alone, in_default}
-use Rattle.page_contracts.specs.Stores.{traffic}
-use Rattle.page_contracts.proofs.Losing.{loses_none}
 use Rattle.flat_pages.proofs.flat_slots.FlatSlots.set_unnamed.Goals as goal
 
 pub returns-then-is_alone : goal.returns-then-is_alone
@@ -28,7 +26,7 @@ invariant_of-self g c =
       | in-Page+else-is_alone w ↦ ap (is_alone t.shares) (sym c.entry.ensures) ∙ sym w.is_alone.ensures ∙ w.if-is_alone.false
       | in_default w ↦ names_none t.shares c.entry.result (λ h b is. w.in_default.not-Page h b is)
     ] in
-    let step = left_step g.S.Store.means store store sound sound c.args.self.now.tables c.leave_page.new.self c.args.at c.entry.result c.args.new c.args.self.now.agree c.entry.ensures c.requires.page c.requires.lives refl refl (loses_none (traffic g.S.Store.means store) (traffic g.S.Store.means store) refl refl refl refl) c.requires.none
+    let step = left_step g.S.Store.means store store sound sound c.args.self.now.tables c.leave_page.new.self c.args.at c.entry.result c.args.new c.args.self.now.agree c.entry.ensures c.requires.page c.requires.lives refl c.requires.none
     (stays_shared t c.entry.result shared) (c.leave_page.ensures _) in
     record { agree = step.0; told = step.1 }
 
@@ -41,6 +39,6 @@ returns g c =
       | in-Page+else-is_alone w ↦ ap (is_alone t.shares) (sym c.entry.ensures) ∙ sym w.is_alone.ensures ∙ w.if-is_alone.false
       | in_default w ↦ names_none t.shares c.entry.result (λ h b is. w.in_default.not-Page h b is)
     ] in
-    let step = left_step g.S.Store.means store store sound sound c.args.self.now.tables c.leave_page.new.self c.args.at c.entry.result c.args.new c.args.self.now.agree c.entry.ensures c.requires.page c.requires.lives refl refl (loses_none (traffic g.S.Store.means store) (traffic g.S.Store.means store) refl refl refl refl) c.requires.none
+    let step = left_step g.S.Store.means store store sound sound c.args.self.now.tables c.leave_page.new.self c.args.at c.entry.result c.args.new c.args.self.now.agree c.entry.ensures c.requires.page c.requires.lives refl c.requires.none
     (stays_shared t c.entry.result shared) (c.leave_page.ensures _) in
     step.2

@@ -6,7 +6,7 @@ use Rattle.flat_pages.specs.TableSteps.{tables_of}
 use Rattle.flat_pages.proofs.Beginning.{agrees_begun, told_begun, scene_begun, who_lives, own_lives, others_live, serials_begun, old_new, old_empty, followers_new, followers_follow}
 use Rattle.flat_pages.proofs.Telling.{tables_told}
 use Rattle.page_contracts.specs.Stores.{traffic}
-use Rattle.page_contracts.proofs.Losing.{loses_none}
+use Rattle.page_contracts.proofs.Losing.{keeps_frames, loses_nothing}
 use Rattle.flat_pages.proofs.flat_slots.FlatSlotsPages.add_fork.Goals as goal
 
 pub invariant_of-self : goal.invariant_of-self
@@ -110,7 +110,13 @@ returns-in-FollowAll-clause-serials g c =
     serials_begun t s.agree n.result c.args.fork n.ensures.fork n.ensures.from n.ensures.below c.requires.terminal c.requires.absent c.requires.room (followers c.in-FollowAll.other.serial c.near_map-near.result) (followers_new c.in-FollowAll.other.serial c.near_map-near.result) _ (c.add_follower.ensures (g.S.Store.means.homes s.store))
 
 pub returns-in-Empty-clause-loses : goal.returns-in-Empty-clause-loses
-returns-in-Empty-clause-loses g c = loses_none (traffic g.S.Store.means c.args.self.now.store) (traffic g.S.Store.means c.args.self.now.store) refl refl refl refl
+returns-in-Empty-clause-loses g c = loses_nothing (traffic g.S.Store.means c.args.self.now.store)
+
+pub returns-in-Empty-clause-uses : goal.returns-in-Empty-clause-uses
+returns-in-Empty-clause-uses g c = keeps_frames (traffic g.S.Store.means c.args.self.now.store)
 
 pub returns-in-FollowAll-clause-loses : goal.returns-in-FollowAll-clause-loses
-returns-in-FollowAll-clause-loses g c = loses_none (traffic g.S.Store.means c.args.self.now.store) (traffic g.S.Store.means c.args.self.now.store) refl refl refl refl
+returns-in-FollowAll-clause-loses g c = loses_nothing (traffic g.S.Store.means c.args.self.now.store)
+
+pub returns-in-FollowAll-clause-uses : goal.returns-in-FollowAll-clause-uses
+returns-in-FollowAll-clause-uses g c = keeps_frames (traffic g.S.Store.means c.args.self.now.store)

@@ -68,3 +68,6 @@ returns-clause-serials g c =
 
 pub returns-clause-loses : goal.returns-clause-loses
 returns-clause-loses g c = c.empty_map.ensures.lost
+
+pub returns-clause-uses : goal.returns-clause-uses
+returns-clause-uses g c = c.empty_map.ensures.used

@@ -70,3 +70,12 @@ returns-in-Follows-clause-loses g c = c.set_unnamed-in-Follows.ensures.lost
 
 pub returns-in-Narrow-clause-loses : goal.returns-in-Narrow-clause-loses
 returns-in-Narrow-clause-loses g c = c.set_kept.ensures.lost
+
+pub returns-in-Empty-clause-uses : goal.returns-in-Empty-clause-uses
+returns-in-Empty-clause-uses g c = c.set_unnamed.ensures.used
+
+pub returns-in-Follows-clause-uses : goal.returns-in-Follows-clause-uses
+returns-in-Follows-clause-uses g c = c.set_unnamed-in-Follows.ensures.used
+
+pub returns-in-Narrow-clause-uses : goal.returns-in-Narrow-clause-uses
+returns-in-Narrow-clause-uses g c = c.set_kept.ensures.used

@@ -8,18 +8,18 @@ use Rattle.page_contracts.specs.declared.answers.Touch.TheVariants.{Ready, Copy}
 use Rattle.page_contracts.specs.Stores.{HomePlace, FitsHomes, here, place}
 use Rattle.plain_pages.specs.Maps.{full_access}
 use Rattle.flat_pages.specs.declared.held_entry.HeldEntry.TheVariants.{Page}
-use Rattle.flat_pages.specs.HeldMaps.{held_entry}
-use Rattle.flat_pages.specs.SlotTables.{plain_of, share_of}
+use Rattle.flat_pages.specs.HeldMaps.{held_entry, with_entry}
+use Rattle.flat_pages.specs.SlotTables.{Tables, plain_of, share_of}
 use Rattle.flat_pages.specs.SlotTouches.{is_alone, touch_of_place}
 use Rattle.flat_pages.specs.TableSteps.{tables_of}
 use Rattle.flat_pages.proofs.Meeting.{copy_held}
 use Rattle.flat_pages.proofs.Settling.{sized_of}
-use Rattle.flat_pages.proofs.Settled.{announced, walk_found, can_copy, ready_away, home_here, copy_lives, stays_told, alone_home, zero_stored, copy_stored, alone_stored}
+use Rattle.flat_pages.proofs.Settled.{announced, walk_found, can_copy, ready_away, home_here, copy_lives, stays_told, alone_home, zero_stored, copy_stored, alone_stored, EndsAt, zero_ends, copy_ends, still_lives}
 use Rattle.flat_pages.proofs.EntrySetting.{names_none}
 use Rattle.flat_pages.proofs.Settled.{slot_lives, one_is, not_one}
 use Rattle.flat_pages.proofs.flat_slots.FlatSlotsPages.settle.Goals as goal
 use Rattle.page_contracts.proofs.Losing.{loses_made, loses_used}
-use Rattle.flat_pages.proofs.Using.{made_here, used_here, stands_nowhere, used_at}
+use Rattle.flat_pages.proofs.Using.{made_here, used_here, stands_nowhere, used_at, uses_there}
 use Rattle.flat_pages.proofs.flat_slots.FlatSlotsPages.settle.Goals.{in_default-entry-via-in-Page+else-share-eq1, in_default-entry-via-in_default-entry}
 
 pub make_zero-requires-clause-empty : goal.make_zero-requires-clause-empty
@@ -384,7 +384,16 @@ pub returns-in_default-home-clause-uses : goal.returns-in_default-home-clause-us
 returns-in_default-home-clause-uses g c =
     let s = c.args.self.now in
     let store = g.S.Store.means in
-    record { home = c.make_zero.ensures.home.0; here = made_here store s.store c.make_zero.new.self.store c.make_zero.ensures.home.0 (here zero_words) c.make_zero.ensures.made refl; renews = c.make_zero.ensures.made.ages }
+    let t = tables_of (store.homes s.store) s.tables in
+    let new = c.make_zero.new.self in
+    let made = c.make_zero.ensures in
+    let w = c.in-Some.walk in
+    let r = announced t (store.spare s.store) c.args.at c.in-Fork.slot c.args.kind w c.in-Fork.is c.requires.place (sym c.walk.ensures ∙ c.in-Some.is) c.requires.ready in
+    let u = tables_of (store.homes new.store) new.tables in
+    let maps : u.maps ≡ with_entry t.maps w.end (Page made.home full_access) = ap (λ (x : Tables). x.maps) made.taken in
+    let ends = zero_ends t s.agree (store.spare s.store) c.in-Fork.slot c.args.kind w r u made.home c.in_default-home.is maps in
+    let lives = still_lives t.maps u.maps w.end (Page made.home full_access) maps c.in-Fork.slot.fork r.lives in
+    uses_there store (λ p. p.store) (λ p. tables_of (store.homes p.store) p.tables) s new c.args.at c.in-Fork.slot c.in-Fork.is lives made.home ends (g.met.S.Store.sound new.store) (made_here store s.store new.store made.home.0 (here zero_words) made.made refl) made.made.ages
 
 pub returns-in_default-home-clause-ready : goal.returns-in_default-home-clause-ready
 returns-in_default-home-clause-ready g c home touched stands =
@@ -406,7 +415,8 @@ returns-in_default-copy_for-clause-uses g c =
     let w = c.in-Some.walk in
     let r = announced t (store.spare s.store) c.args.at c.in-Fork.slot c.args.kind w c.in-Fork.is c.requires.place (sym c.walk.ensures ∙ c.in-Some.is) c.requires.ready in
     let stood = home_here t s.agree (store.spare s.store) c.in-Fork.slot c.args.kind w r c.in-Some-home.home c.in-Some-home.is (ready_away t s.agree (store.spare s.store) c.in-Fork.slot c.args.kind w r c.in-Some-home.home c.in-Some-home.is (sym c.copy_for.ensures ∙ c.in_default-copy_for.is)) in
-    record { home = c.in-Some-home.home.0; here = used_here store s.store c.used.new.self c.in-Some-home.home.0 c.used.ensures.homes stood; renews = c.used.ensures.used.ages }
+    let ends : EndsAt t.maps c.in-Fork.slot c.in-Some-home.home = record { walk = w; is = r.walks; home = c.in-Some-home.is } in
+    uses_there store (λ p. p.store) (λ p. tables_of (store.homes p.store) p.tables) s _ c.args.at c.in-Fork.slot c.in-Fork.is r.lives c.in-Some-home.home ends (g.met.S.Store.sound c.used.new.self) (used_here store s.store c.used.new.self c.in-Some-home.home.0 c.used.ensures.homes stood) c.used.ensures.used.ages
 
 pub returns-in_default-copy_for-clause-ready : goal.returns-in_default-copy_for-clause-ready
 returns-in_default-copy_for-clause-ready g c home touched stands =
@@ -429,7 +439,15 @@ returns-in-Page-clause-uses g c =
     let r = announced t (store.spare s.store) c.args.at c.in-Fork.slot c.args.kind w c.in-Fork.is c.requires.place (sym c.walk.ensures ∙ c.in-Some.is) c.requires.ready in
     let can = can_copy t s.agree (store.spare s.store) c.in-Fork.slot c.args.kind w r c.in-Some-home.home c.in-Some-copy_for.to c.in-Some-home.is (sym c.copy_for.ensures ∙ c.in-Some-copy_for.is) in
     let stood = home_here t s.agree (store.spare s.store) c.in-Fork.slot c.args.kind w r c.in-Some-home.home c.in-Some-home.is can.away in
-    record { home = c.in-Some-home.home.0; here = used_here store s.store c.copy_alone.new.self.store c.in-Some-home.home.0 c.copy_alone.ensures.homes stood; renews = c.copy_alone.ensures.used.ages }
+    let new = c.copy_alone.new.self in
+    let u = tables_of (store.homes new.store) new.tables in
+    let to = c.in-Some-copy_for.to in
+    let access = record full_access { x = w.executes } in
+    let home = c.in-Some-home.home in
+    let maps : u.maps ≡ with_entry t.maps to (Page home access) = ap (λ (x : Tables). x.maps) c.copy_alone.ensures.tables in
+    let ends = copy_ends t s.agree (store.spare s.store) c.in-Fork.slot c.args.kind w r u home to access c.entry.result (sym c.copy_for.ensures ∙ c.in-Some-copy_for.is) c.entry.ensures refl refl maps in
+    let lives = still_lives t.maps u.maps to (Page home access) maps c.in-Fork.slot.fork r.lives in
+    uses_there store (λ p. p.store) (λ p. tables_of (store.homes p.store) p.tables) s new c.args.at c.in-Fork.slot c.in-Fork.is lives home ends (g.met.S.Store.sound new.store) (used_here store s.store new.store home.0 c.copy_alone.ensures.homes stood) c.copy_alone.ensures.used.ages
 
 pub returns-in-Page-clause-ready : goal.returns-in-Page-clause-ready
 returns-in-Page-clause-ready g c home touched stands =
@@ -456,7 +474,15 @@ returns-in_default-entry-clause-uses g c =
     let r = announced t (store.spare s.store) c.args.at c.in-Fork.slot c.args.kind w c.in-Fork.is c.requires.place (sym c.walk.ensures ∙ c.in-Some.is) c.requires.ready in
     let can = can_copy t s.agree (store.spare s.store) c.in-Fork.slot c.args.kind w r c.in-Some-home.home c.in-Some-copy_for.to c.in-Some-home.is (sym c.copy_for.ensures ∙ c.in-Some-copy_for.is) in
     let stood = home_here t s.agree (store.spare s.store) c.in-Fork.slot c.args.kind w r c.in-Some-home.home c.in-Some-home.is can.away in
-    record { home = c.copy_new.ensures.home.0; here = made_here store s.store c.copy_new.new.self.store c.copy_new.ensures.home.0 (place t.places c.in-Some-home.home.0) c.copy_new.ensures.made stood; renews = c.copy_new.ensures.made.ages }
+    let new = c.copy_new.new.self in
+    let made = c.copy_new.ensures in
+    let u = tables_of (store.homes new.store) new.tables in
+    let to = c.in-Some-copy_for.to in
+    let access = record full_access { x = w.executes } in
+    let maps : u.maps ≡ with_entry t.maps to (Page made.home access) = ap (λ (x : Tables). x.maps) made.taken in
+    let ends = copy_ends t s.agree (store.spare s.store) c.in-Fork.slot c.args.kind w r u made.home to access c.entry.result (sym c.copy_for.ensures ∙ c.in-Some-copy_for.is) c.entry.ensures refl refl maps in
+    let lives = still_lives t.maps u.maps to (Page made.home access) maps c.in-Fork.slot.fork r.lives in
+    uses_there store (λ p. p.store) (λ p. tables_of (store.homes p.store) p.tables) s new c.args.at c.in-Fork.slot c.in-Fork.is lives made.home ends (g.met.S.Store.sound new.store) (made_here store s.store new.store made.home.0 (place t.places c.in-Some-home.home.0) made.made stood) made.made.ages
 
 pub returns-in_default-entry-clause-ready : goal.returns-in_default-entry-clause-ready
 returns-in_default-entry-clause-ready g c home touched stands =

@@ -38,5 +38,6 @@ returns c =
       queued = record { queue = refl; untold = refl };
       holds = refl;
       members = refl;
+      tenants = λ frame no. refl;
       ages = record { youngest = λ frame other is. absurd (cc is); others = λ frame no. refl };
     }

@@ -30,5 +30,6 @@ returns c =
       cancelled = record { queue = refl; untold = refl };
       holds = refl;
       members = refl;
+      tenants = λ frame. refl;
       ages = λ frame no. refl;
     }
