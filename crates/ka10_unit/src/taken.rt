@@ -16,15 +16,11 @@ ghost use Rattle.ka10_unit.specs.Gathers.{IsOf, Serves, framed};
 ghost use Rattle.ka10_unit.specs.Taking.{AsksAt, CanPut, CanWrite, Follows, HasPage, IsOpen, IsPutBelow, IsTrap, Stands, StaysOpen, StopNeeds, most_frames, progress, so_far, stands_at, widened_by};
 
 use arrayvec::ArrayVec;
-use machine_names::{ACCUMULATORS, ForkName, Kind, Place, Slot, Tty};
-use outside::PAGE_WORDS;
+use machine_names::{ACCUMULATORS, ForkName, Kind, PAGE_ADDRESSES, Place, Slot, Tty};
 use page_contracts::{Need, Pages};
 use page_gather::{Added, Gather};
 use plain_units::{MOST_REFERENCES, Put, Reference, Regs, channel};
 use word36::Word;
-
-// How many words a page has, as addresses count them.
-const WORDS: u32 = PAGE_WORDS as u32;
 
 /// Why a unit stops before its end.
 #[derive(Clone, Copy)]
@@ -98,7 +94,7 @@ pub fn page_of_address(fork: ForkName, at: u32) -> Place
 {
     Place::Fork(Slot {
         fork,
-        page: (at / WORDS) as u16,
+        page: (at / PAGE_ADDRESSES) as u16,
     })
 }
 
@@ -142,7 +138,11 @@ fn held_word<P: Pages>(gather: &Gather, pages: &P, fork: ForkName, at: u32) -> W
         → IsNear (left_of (P.means.plain pages.now d) gather.now) (P.means.scene pages.now) (slot_at fork at)
         → result ≡ word_at_spot (left_of (P.means.plain pages.now d) gather.now) (in_map (slot_at fork at)) (at % PAGE_WORDS) }
 {
-    gather.word(pages, page_of_address(fork, at), (at % WORDS) as u16)
+    gather.word(
+        pages,
+        page_of_address(fork, at),
+        (at % PAGE_ADDRESSES) as u16,
+    )
 }
 
 /// Whether a word that the unit has stored at an address stands at another: at the same place of
@@ -155,10 +155,10 @@ fn is_stored_at<P: Pages>(gather: &Gather, pages: &P, fork: ForkName, stored: u3
         → IsNear (left_of (P.means.plain pages.now d) gather.now) (P.means.scene pages.now) (slot_at fork at) → IsNear (left_of (P.means.plain pages.now d) gather.now) (P.means.scene pages.now) (slot_at fork stored)
         → page_at (left_of (P.means.plain pages.now d) gather.now) (in_map (slot_at fork at)) ≡ Some n → result ≡ stands_at fork (left_of (P.means.plain pages.now d) gather.now) stored at n }
 {
-    if stored % WORDS != at % WORDS {
+    if stored % PAGE_ADDRESSES != at % PAGE_ADDRESSES {
         return false;
     }
-    if stored / WORDS == at / WORDS {
+    if stored / PAGE_ADDRESSES == at / PAGE_ADDRESSES {
         return true;
     }
     gather.same(
