@@ -14,7 +14,7 @@ use Rattle.plain_units.specs.Addressing.{opcode, ac_field, address, address_with
 use Rattle.plain_units.specs.Deeds.{Deed, before}
 use Rattle.plain_units.specs.Instructions.{does, does_pointer, instruction, is_executive, local_word, LOCAL_CALL, LOCAL_HANDLER}
 use Rattle.plain_units.specs.Units.{unit_on}
-use Rattle.ka10_unit.specs.declared.addresses.Address.{Address}
+use Rattle.ka10_unit.specs.declared.word_fields.Address.{Address}
 use Rattle.ka10_unit.specs.declared.committed.Committed.{Committed}
 use Rattle.ka10_unit.specs.declared.operands.Destination.{Destination}
 use Rattle.ka10_unit.specs.declared.ends.Ending.{Ending}
@@ -31,10 +31,10 @@ use Rattle.ka10_unit.specs.Taking.{CanPut, IsOpen, IsPlain, IsPutBelow, IsTrap, 
 
 -- an effective address, with so many words at most, and with any
 abbrev pub reached_within : ℕ → List ℕ → ℕ → (Address → Steps) → Steps
-reached_within n ac w next = address_within n ac w (λ e last. next (record { at = e; last = last }))
+reached_within n ac w next = address_within n ac w (λ e last. next (record { e = e; last = last }))
 
 abbrev pub reached : List ℕ → ℕ → (Address → Steps) → Steps
-reached ac w next = address ac w (λ e last. next (record { at = e; last = last }))
+reached ac w next = address ac w (λ e last. next (record { e = e; last = last }))
 
 -- the same unit is left behind a part that was done as behind the whole
 pub record Leads {A : Type 0} (f : ForkName) (p : Framed) (ac : List ℕ) (old new : Taken) (whole left : (A → Steps) → Steps) : Type 0 where
@@ -81,11 +81,11 @@ calls_local w e next = refers LOCAL_CALL Write (λ v. keeps LOCAL_CALL (local_wo
 
 -- what an instruction does with its address
 abbrev pub does_at : Family → TableRow → Bool → Regs → ℕ → Address → (Bool → ℕ → Steps) → Steps
-does_at family.Monitor row is_local regs w a next = calls a.at
-does_at family.Xct row is_local regs w a next = refers a.at Execute (next is_local)
-does_at family.Local row is_local regs w a next = calls_local w a.at next
-does_at family.ByteOp row is_local regs w a next = does_pointer row.code regs (ac_field w) a.at
-does_at f row is_local regs w a next = does row (opcode w) regs (ac_field w) a.at a.last
+does_at family.Monitor row is_local regs w a next = calls a.e
+does_at family.Xct row is_local regs w a next = refers a.e Execute (next is_local)
+does_at family.Local row is_local regs w a next = calls_local w a.e next
+does_at family.ByteOp row is_local regs w a next = does_pointer row.code regs (ac_field w) a.e
+does_at f row is_local regs w a next = does row (opcode w) regs (ac_field w) a.e a.last
 
 -- what one word of a unit comes to
 abbrev pub stepped : Framed → List ℕ → Taken → Result Step Stop → (Bool → ℕ → Plan) → Plan

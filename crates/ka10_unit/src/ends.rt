@@ -11,11 +11,11 @@ ghost use Rattle.ka10_unit.specs.Gathers.{IsOf, Serves, framed};
 ghost use Rattle.ka10_unit.specs.Planning.{Ends, IsDone, IsEnding, LeavesEnd, end_of};
 ghost use Rattle.ka10_unit.specs.Taking.{Follows, IsOpen, IsPutBelow, IsTrap, StopNeeds, Stands, most_frames};
 
-use crate::addresses::Address;
 use crate::commit::commit_row;
 use crate::committed::{Committed, Post};
 use crate::operands::{Destination, destination_of, operand_address};
 use crate::taken::{Stop, Taken, refer, widen};
+use crate::word_fields::Address;
 use ka10_table::TableRow;
 use machine_names::{ACCUMULATORS, ForkName, Kind};
 use page_contracts::Pages;
@@ -147,24 +147,24 @@ pub fn ordinary<P: Pages>(
     row: TableRow,
     op: u16,
     ac: u8,
-    e: &Address,
+    address: &Address,
 ) -> Result<Ending, Stop>
     requires serves { Serves P.means pages.now fork }
     requires line { IsInLine op row }
     requires ac { ac < 16 }
-    requires e { e.now.at < 2 ^ 18 }
+    requires address { IsAddress address.now.e }
     requires pc { regs.now.pc < 2 ^ 18 }
     requires is_open { IsOpen fork taken.old }
     requires kept { IsPutBelow (2 ^ 18) taken.old.kept }
     ensures leaves { LeavesEnd P.means fork taken.old taken.new result }
     ensures needs { IfErr result (StopNeeds P.means.store most_frames pages.now) }
     ensures told { (d : DrumWords) → P.means.fits pages.now d → Stands fork (framed P.means pages.now d) taken.old
-        → Ends fork (framed P.means pages.now d) regs.now.ac taken.old taken.new (does row op regs.now ac e.now.at e.now.last) result }
+        → Ends fork (framed P.means pages.now d) regs.now.ac taken.old taken.new (does row op regs.now ac address.now.e address.now.last) result }
 {
-    let at = operand_address(row, regs, ac, e.at);
-    let m = operand(taken, regs, pages, fork, at, e.at)?;
-    let to = destination_of(row, regs, ac, e.at);
+    let at = operand_address(row, regs, ac, address.e);
+    let m = operand(taken, regs, pages, fork, at, address.e)?;
+    let to = destination_of(row, regs, ac, address.e);
     let mut after = *regs;
-    let told = commit_row(row, op, &mut after, ac, e.at, e.last, m);
+    let told = commit_row(row, op, &mut after, ac, address.e, address.last, m);
     finish(taken, regs, pages, fork, after, ac, to, told)
 }

@@ -40,7 +40,7 @@ fn load_byte<P: Pages>(
         → Ends fork (framed P.means pages.now d) regs.now.ac taken.old taken.new (loads_byte regs.now ac pointer) result }
 {
     let address = address_of(taken, regs, pages, fork, pointer)?;
-    let word = refer(taken, regs, pages, fork, address.at, Kind::Read)?;
+    let word = refer(taken, regs, pages, fork, address.e, Kind::Read)?;
     let mut after = *regs;
     let told = commit_load(&mut after, ac, pointer, word);
     finish(
@@ -75,10 +75,10 @@ fn deposit_byte<P: Pages>(
         → Ends fork (framed P.means pages.now d) regs.now.ac taken.old taken.new (deposits_byte regs.now ac pointer) result }
 {
     let address = address_of(taken, regs, pages, fork, pointer)?;
-    let word = refer(taken, regs, pages, fork, address.at, Kind::Read)?;
+    let word = refer(taken, regs, pages, fork, address.e, Kind::Read)?;
     let mut after = *regs;
-    let told = commit_deposit(&mut after, ac, pointer, address.at, word);
-    let to = Destination::Back(address.at);
+    let told = commit_deposit(&mut after, ac, pointer, address.e, word);
+    let to = Destination::Back(address.e);
     finish(taken, regs, pages, fork, after, ac, to, told)
 }
 
