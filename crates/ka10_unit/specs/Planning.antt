@@ -17,6 +17,7 @@ use Rattle.plain_units.specs.Units.{unit_on}
 use Rattle.ka10_unit.specs.declared.word_fields.Address.{Address}
 use Rattle.ka10_unit.specs.declared.committed.Committed.{Committed}
 use Rattle.ka10_unit.specs.declared.operands.Destination.{Destination}
+use Rattle.ka10_unit.specs.declared.operands.Destination.TheVariants as destination
 use Rattle.ka10_unit.specs.declared.ends.Ending.{Ending}
 use Rattle.ka10_unit.specs.declared.plans.Step.{Step}
 use Rattle.ka10_unit.specs.declared.plans.Step.TheVariants as step
@@ -27,7 +28,7 @@ use Rattle.ka10_unit.specs.declared.taken.Stop.{Stop}
 use Rattle.ka10_unit.specs.declared.taken.Stop.TheVariants as stop
 use Rattle.ka10_unit.specs.Commits.{Leaves, channel_of, store_at}
 use Rattle.ka10_unit.specs.Gathers.{Framed, IsOf}
-use Rattle.ka10_unit.specs.Taking.{CanPut, IsOpen, IsPlain, IsPutBelow, IsTrap, Plan, Stands, most_frames, progress, run_over, so_far, stop_of}
+use Rattle.ka10_unit.specs.Taking.{CanPut, HasSpare, IsOpen, IsPlain, IsPutBelow, IsTrap, Plan, Stands, most_frames, progress, run_over, so_far, stop_of}
 
 -- an effective address, with so many words at most, and with any
 abbrev pub reached_within : ℕ → List ℕ → ℕ → (Address → Steps) → Steps
@@ -67,6 +68,13 @@ pub record IsDone (d : Deed) (n : ℕ) (old new : Regs) (to : Destination) (told
   pub leaves : Leaves d n old new told
   pub store : store_at to told.stored ≡ d.store
   pub block : (at w : ℕ) → d.store ≡ before at w → (d.next ≡ None) × ((a : ℕ) × (d.ac ≡ Some a))
+
+-- a word goes back to where one was read
+abbrev pub GoesBack : Destination → Type 0
+GoesBack destination.Nowhere = ⊥
+GoesBack (destination.Back at) = Unit {0}
+GoesBack (destination.Into at) = ⊥
+GoesBack (destination.Before at) = ⊥
 
 -- a word that is illegal before its address is taken: no instruction, a monitor call behind a local call, and JRST of the executive
 abbrev pub is_illegal : Family → Bool → ℕ → Bool
@@ -158,9 +166,9 @@ pub record IsEnding (x : Ending) : Type 0 where
 abbrev pub IsEnd : ForkName → Ending → Taken → Type 0
 IsEnd f x t = IsEnding x × IsPutBelow (2 ^ 18) t.kept × IsOf f t.gather
 
--- a step that goes on leaves a unit that is open
+-- a step that goes on leaves a unit that is open, behind its fetch
 abbrev pub IsStep : ForkName → Result Step Stop → Taken → Type 0
-IsStep f (Ok (step.Goes n)) t = IsOpen f t × IsPutBelow (2 ^ 18) t.kept
+IsStep f (Ok (step.Goes n)) t = IsOpen f t × IsPutBelow (2 ^ 18) t.kept × HasSpare 1 t
 IsStep f (Ok (step.Ends x)) t = IsEnd f x t
 IsStep f (Ok (step.Calls n)) t = n < 2 ^ 18
 IsStep f (Err e) t = Unit {0}

@@ -4,7 +4,7 @@ ghost use Rattle.machine_names.specs.Bounds.{IsAddress};
 ghost use Rattle.page_contracts.specs.DrumWords.{DrumWords};
 ghost use Rattle.ka10_unit.specs.Gathers.{Serves, framed};
 ghost use Rattle.ka10_unit.specs.Planning.{reached};
-ghost use Rattle.ka10_unit.specs.Taking.{Follows, IsOpen, IsPutBelow, IsTrap, StopNeeds, Stands, most_frames};
+ghost use Rattle.ka10_unit.specs.Taking.{Follows, IsOpen, IsPutBelow, IsTrap, Spares, StopNeeds, Stands, most_frames};
 
 use crate::taken::{Stop, Taken, refer};
 use crate::word_fields::{Address, MOST_WORDS, is_indirect, step_of};
@@ -26,6 +26,7 @@ pub fn address_of<P: Pages>(
     requires kept { IsPutBelow (2 ^ 18) taken.old.kept }
     ensures is_open { IsOpen fork taken.new }
     ensures kept { taken.new.kept ≡ taken.old.kept }
+    ensures spare { IfOk result (λ a. Spares 0 taken.old taken.new) }
     ensures below { IfOk result (λ a. IsAddress a.e) }
     ensures core { P.means.flat ≡ true → IfErr result IsTrap }
     ensures needs { IfErr result (StopNeeds P.means.store most_frames pages.now) }

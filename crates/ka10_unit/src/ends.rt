@@ -1,5 +1,5 @@
 // The end of a unit: the operand of its instruction, and the word that it stores.
-ghost use Rattle.std.specs.Prelude.{◌≡◌, ◌<◌, ◌^◌, ℕ, IfErr, IfOk, IfSome, None, true};
+ghost use Rattle.std.specs.Prelude.{◌≡◌, ◌<◌, ◌^◌, ℕ, IfErr, IfOk, IfSome, IsSome, None, true};
 ghost use Rattle.plain_units.specs.declared.registers.Regs.{Regs as ARegs};
 ghost use Rattle.plain_units.specs.Deeds.{Deed};
 ghost use Rattle.plain_units.specs.Instructions.{does, finishes, storing, takes};
@@ -8,8 +8,8 @@ ghost use Rattle.machine_names.specs.Bounds.{IsAddress};
 ghost use Rattle.page_contracts.specs.DrumWords.{DrumWords};
 ghost use Rattle.ka10_unit.specs.Commits.{LiesBelow, channel_of};
 ghost use Rattle.ka10_unit.specs.Gathers.{IsOf, Serves, framed};
-ghost use Rattle.ka10_unit.specs.Planning.{Ends, IsDone, IsEnding, LeavesEnd, end_of};
-ghost use Rattle.ka10_unit.specs.Taking.{Follows, IsOpen, IsPutBelow, IsTrap, StopNeeds, Stands, most_frames};
+ghost use Rattle.ka10_unit.specs.Planning.{Ends, GoesBack, IsDone, IsEnding, LeavesEnd, end_of};
+ghost use Rattle.ka10_unit.specs.Taking.{Follows, HasSpare, IsOpen, IsPutBelow, IsTrap, Spares, StopNeeds, Stands, most_frames};
 
 use crate::commit::commit_row;
 use crate::committed::{Committed, Post};
@@ -46,6 +46,7 @@ pub fn operand<P: Pages>(
     requires kept { IsPutBelow (2 ^ 18) taken.old.kept }
     ensures is_open { IsOpen fork taken.new }
     ensures kept { taken.new.kept ≡ taken.old.kept }
+    ensures read { IsSome at → IfOk result (λ m. Spares 1 taken.old taken.new) }
     ensures core { P.means.flat ≡ true → IfErr result IsTrap }
     ensures needs { IfErr result (StopNeeds P.means.store most_frames pages.now) }
     ensures told { (d : DrumWords) → P.means.fits pages.now d → Stands fork (framed P.means pages.now d) taken.old
@@ -107,6 +108,7 @@ pub fn finish<P: Pages>(
     requires to { LiesBelow (2 ^ 18) to }
     requires ac { ac < 16 }
     requires pc { after.pc < 2 ^ 18 }
+    requires spare { GoesBack to → HasSpare 2 taken.old }
     requires is_open { IsOpen fork taken.old }
     requires kept { IsPutBelow (2 ^ 18) taken.old.kept }
     ensures leaves { LeavesEnd P.means fork taken.old taken.new result }
@@ -154,6 +156,7 @@ pub fn ordinary<P: Pages>(
     requires ac { ac < 16 }
     requires address { IsAddress address.now.e }
     requires pc { regs.now.pc < 2 ^ 18 }
+    requires fetched { HasSpare 1 taken.old }
     requires is_open { IsOpen fork taken.old }
     requires kept { IsPutBelow (2 ^ 18) taken.old.kept }
     ensures leaves { LeavesEnd P.means fork taken.old taken.new result }

@@ -10,7 +10,7 @@ ghost use Rattle.plain_units.specs.Steps.{refers};
 ghost use Rattle.ka10_unit.specs.declared.taken.Taken.{Taken as ATaken};
 ghost use Rattle.ka10_unit.specs.Gathers.{Serves, framed};
 ghost use Rattle.ka10_unit.specs.Planning.{Concludes, IsPlan, IsStep, NeedsNothing, PlanNeeds, Plans, StepsOn, as_step, calls_local, does_at, is_illegal as is_illegal_word, stopped_by};
-ghost use Rattle.ka10_unit.specs.Taking.{IsOpen, IsPutBelow, IsTrap, StopNeeds, Stands, most_frames};
+ghost use Rattle.ka10_unit.specs.Taking.{HasSpare, IsOpen, IsPutBelow, IsTrap, StopNeeds, Stands, most_frames};
 
 use crate::addresses::address_of;
 use crate::ends::{Ending, ordinary};
@@ -78,6 +78,7 @@ fn go_on<P: Pages>(
 ) -> Result<Step, Stop>
     requires serves { Serves P.means pages.now fork }
     requires address { IsAddress at }
+    requires fetched { HasSpare 1 taken.old }
     requires is_open { IsOpen fork taken.old }
     requires kept { IsPutBelow (2 ^ 18) taken.old.kept }
     ensures bounds { IsStep fork result taken.new }
@@ -103,6 +104,7 @@ fn call_local<P: Pages>(
 ) -> Result<Step, Stop>
     requires serves { Serves P.means pages.now fork }
     requires e { IsAddress e }
+    requires fetched { HasSpare 1 taken.old }
     requires is_open { IsOpen fork taken.old }
     requires kept { IsPutBelow (2 ^ 18) taken.old.kept }
     ensures bounds { IsStep fork result taken.new }
@@ -161,6 +163,7 @@ fn do_at<P: Pages>(
     requires line { IsInLine (word_fields.opcode word) row }
     requires pc { regs.now.pc < 2 ^ 18 }
     requires address { IsAddress address.now.e }
+    requires fetched { HasSpare 1 taken.old }
     requires is_open { IsOpen fork taken.old }
     requires kept { IsPutBelow (2 ^ 18) taken.old.kept }
     ensures bounds { IsStep fork result taken.new }
@@ -192,6 +195,7 @@ fn do_word<P: Pages>(
 ) -> Result<Step, Stop>
     requires serves { Serves P.means pages.now fork }
     requires pc { regs.now.pc < 2 ^ 18 }
+    requires fetched { HasSpare 1 taken.old }
     requires is_open { IsOpen fork taken.old }
     requires kept { IsPutBelow (2 ^ 18) taken.old.kept }
     ensures bounds { IsStep fork result taken.new }
@@ -234,6 +238,7 @@ fn follow<P: Pages>(
 ) -> Planned
     requires serves { Serves P.means pages.now fork }
     requires pc { regs.now.pc < 2 ^ 18 }
+    requires fetched { HasSpare 1 taken.old }
     requires is_open { IsOpen fork taken.old }
     requires kept { IsPutBelow (2 ^ 18) taken.old.kept }
     ensures bounds { IsPlan fork result taken.new }

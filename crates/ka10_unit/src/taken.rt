@@ -1,5 +1,5 @@
 // What a unit has taken so far.
-ghost use Rattle.std.specs.Prelude.{◌≡◌, ◌≢◌, ◌+◌, ◌-◌, ◌/◌, ◌%◌, ◌≤◌, ◌<◌, ◌^◌, ◌==◌, ◌&&◌, List, [], ◌∷◌, ◌++◌, ℕ, length, true, false, None, Some, Option, nat_lt, OnErr, IfErr, slice_index, slice_set, is_some};
+ghost use Rattle.std.specs.Prelude.{◌≡◌, ◌≢◌, ◌+◌, ◌-◌, ◌/◌, ◌%◌, ◌≤◌, ◌<◌, ◌^◌, ◌==◌, ◌&&◌, List, [], ◌∷◌, ◌++◌, ℕ, length, true, false, None, Some, Option, nat_lt, OnErr, IfErr, IfOk, slice_index, slice_set, is_some};
 ghost use Rattle.std.specs.Option.{option_map_or};
 ghost use Rattle.outside.specs.declared.TheConstants.{PAGE_WORDS};
 ghost use Rattle.machine_names.specs.declared.names.TheConstants.{ACCUMULATORS, TERMINALS};
@@ -11,9 +11,9 @@ ghost use Rattle.plain_pages.specs.References.{in_map, page_at, slot_at, word_at
 ghost use Rattle.plain_pages.specs.Room.{same_page};
 ghost use Rattle.plain_units.specs.Steps.{denied_channel, is_accumulator, refers, widens, word_taken, seen};
 ghost use Rattle.machine_names.specs.declared.names.PageName.{PageName as APageName};
-ghost use Rattle.page_gather.specs.Gathering.{AreSound, Gathers, IsNear, left_of};
+ghost use Rattle.page_gather.specs.Gathering.{AreSound, Gathers, IsNear, left_of, most_made};
 ghost use Rattle.ka10_unit.specs.Gathers.{IsOf, Serves, framed};
-ghost use Rattle.ka10_unit.specs.Taking.{AsksAt, CanPut, CanWrite, Follows, HasPage, IsOpen, IsPutBelow, IsTrap, Stands, StaysOpen, StopNeeds, most_frames, progress, so_far, stands_at, widened_by};
+ghost use Rattle.ka10_unit.specs.Taking.{AsksAt, CanPut, CanWrite, Follows, HasPage, HasSpare, IsOpen, IsPutBelow, IsTrap, Spares, Stands, StaysOpen, StopNeeds, most_frames, progress, so_far, spared, stands_at, widened_by};
 
 use arrayvec::ArrayVec;
 use machine_names::{ACCUMULATORS, ForkName, Kind, PAGE_ADDRESSES, Place, Slot, Tty};
@@ -114,8 +114,8 @@ fn ask<P: Pages>(
     ensures room { length gather.new.references ≤ length gather.old.references + 1 }
     ensures stopped { OnErr result (gather.new ≡ gather.old) }
     ensures core { P.means.flat ≡ true → IfErr result IsTrap }
-    ensures made { gather.new.homes ≤ gather.old.homes + 2 }
-    ensures needs { IfErr result (StopNeeds P.means.store (gather.old.homes + 2) pages.now) }
+    ensures made { gather.new.homes ≤ gather.old.homes + most_made kind }
+    ensures needs { IfErr result (StopNeeds P.means.store (gather.old.homes + most_made kind) pages.now) }
     ensures told { (d : DrumWords) → P.means.fits pages.now d → Gathers (P.means.plain pages.now d) (P.means.scene pages.now) gather.old
         → AsksAt fork (framed P.means pages.now d) gather.old gather.new at kind result }
 {
@@ -235,6 +235,7 @@ pub fn refer_next<P: Pages>(
     ensures is_open { IsOpen fork taken.new }
     ensures kept { taken.new.kept ≡ taken.old.kept }
     ensures count { length taken.new.refs.items ≤ length taken.old.refs.items + 1 }
+    ensures spare { IfOk result (λ w. Spares (spared kind) taken.old taken.new) }
     ensures told { (d : DrumWords) → P.means.fits pages.now d → Stands fork (framed P.means pages.now d) taken.old
         → Follows fork (framed P.means pages.now d) regs.now.ac taken.old taken.new (refers at kind) result }
     ensures writes { (d : DrumWords) → P.means.fits pages.now d → Stands fork (framed P.means pages.now d) taken.old → kind ≡ Kind.Write
@@ -270,6 +271,7 @@ pub fn refer<P: Pages>(
     requires kept { IsPutBelow (2 ^ 18) taken.old.kept }
     ensures is_open { IsOpen fork taken.new }
     ensures kept { taken.new.kept ≡ taken.old.kept }
+    ensures spare { IfOk result (λ w. Spares (spared kind) taken.old taken.new) }
     ensures core { P.means.flat ≡ true → IfErr result IsTrap }
     ensures needs { IfErr result (StopNeeds P.means.store most_frames pages.now) }
     ensures told { (d : DrumWords) → P.means.fits pages.now d → Stands fork (framed P.means pages.now d) taken.old
@@ -296,7 +298,8 @@ fn replace_last(refs: &mut ArrayVec<Reference, 16>, at: u32)
     }
 }
 
-/// Asks for the last reference again, to write.
+/// Asks for the last reference again, to write. It was made to read, behind the fetch, so that both
+/// together make four pages at most.
 pub fn widen<P: Pages>(
     taken: &mut Taken,
     regs: &Regs,
@@ -307,6 +310,7 @@ pub fn widen<P: Pages>(
     requires serves { Serves P.means pages.now fork }
     requires address { IsAddress at }
     requires is_open { IsOpen fork taken.old }
+    requires spare { HasSpare 2 taken.old }
     ensures own { IsOf fork taken.new.gather }
     ensures kept { taken.new.kept ≡ taken.old.kept }
     ensures core { P.means.flat ≡ true → IfErr result IsTrap }

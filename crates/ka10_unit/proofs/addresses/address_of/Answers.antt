@@ -1,4 +1,4 @@
-use Rattle.std.proofs.Common.{◌≡◌, true, false, rules, ◌∙◌, ap, refl}
+use Rattle.std.proofs.Common.{◌≡◌, true, false, rules, ◌∙◌, ap, refl, arith}
 use Rattle.std.proofs.lemmas.Result.{err_from_is_err_and}
 use Rattle.plain_units.specs.Addressing.{is_indirect}
 use Rattle.ka10_unit.proofs.Leading.{leads_none, leads_on, leads_stop, leads_done, leads_out}
@@ -19,6 +19,7 @@ returns-in_err-word-clause-told g c d fits stands =
 pub loop-left-preserved : goal.loop-left-preserved
 loop-left-preserved g c = record {
   is_open = c.in_ok-word.ensures.is_open;
+  spare = omega (arith, c.in_ok-word.ensures.spare, c.loop-left.invariant.spare);
   kept = c.in_ok-word.ensures.kept ∙ c.loop-left.invariant.kept;
   told = λ d fits stands.
       let ind : is_indirect c.loop-left.word ≡ true = search rules in
@@ -30,4 +31,4 @@ pub returns-clause-told : goal.returns-clause-told
 returns-clause-told g c d fits stands = leads_out _ _ _ _ c.loop-left.taken _ c.loop-left.left c.loop-left.word c.loop-left-test.false (c.loop-left.invariant.told d fits stands)
 
 pub loop-left-init : goal.loop-left-init
-loop-left-init g c = record { is_open = c.requires.is_open; kept = refl; told = λ d fits stands. leads_none _ _ _ _ _ stands }
+loop-left-init g c = record { is_open = c.requires.is_open; spare = omega arith; kept = refl; told = λ d fits stands. leads_none _ _ _ _ _ stands }
