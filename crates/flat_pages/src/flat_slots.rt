@@ -8,8 +8,10 @@ use crate::held_entry::{EntryAt, HeldEntry, Link};
 use crate::held_map::free_map_of;
 use crate::map_tables::MapTables;
 use crate::page_serials::PageSerials;
-use machine_names::{Access, ForkName, Kind, PageName, Place, SPACE_PAGES, Slot, Tty};
-use outside::{Drum, Memory, PAGE_WORDS};
+use machine_names::{
+    Access, ForkName, Kind, PAGE_ADDRESSES, PageName, Place, SPACE_PAGES, Slot, Tty,
+};
+use outside::{Drum, Memory};
 use page_contracts::{
     Completed, Found, Need, Pages, Peeked, Room, Seen, SpaceHandle, Store, Touch,
 };
@@ -28,9 +30,6 @@ pub struct FlatSlots<S: Store> {
     ghost agree: { AreTables (tables_of (S.means.homes store) tables) },
     ghost told: { AreTold (tables_of (S.means.homes store) tables) },
 }
-
-// How many words a page has, as addresses count them.
-const WORDS: u32 = PAGE_WORDS as u32;
 
 impl<S: Store + Drop> FlatSlots<S> {
     ghost use Rattle.std.specs.Prelude.{◌≡◌, ◌≤◌, true, false, IfOk, replicate};
@@ -437,7 +436,7 @@ impl<S: Store> Pages for FlatSlots<S> {
 
     #[inline(always)]
     fn load(&self, space: SpaceHandle, found: Found, address: u32) -> Word {
-        self.store.load(found, (address % WORDS) as u16)
+        self.store.load(found, (address % PAGE_ADDRESSES) as u16)
     }
 
     #[inline(always)]
@@ -447,7 +446,8 @@ impl<S: Store> Pages for FlatSlots<S> {
 
     #[inline(always)]
     fn store(&mut self, space: SpaceHandle, found: Found, address: u32, word: Word) {
-        self.store.store(found, (address % WORDS) as u16, word);
+        self.store
+            .store(found, (address % PAGE_ADDRESSES) as u16, word);
     }
 
     fn add_fork(&mut self, fork: ForkName, map: NewMap) {

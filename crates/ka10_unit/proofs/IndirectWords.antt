@@ -6,9 +6,10 @@ use Rattle.page_contracts.specs.Pages.{PagesMeaning}
 use Rattle.plain_pages.specs.PlainPages.{NumberedPages, PlainPages}
 use Rattle.plain_units.specs.Steps.{Steps}
 use Rattle.plain_units.specs.Addressing.{address, address_within, indexed, is_indirect, last_taken, most_words}
-use Rattle.ka10_unit.specs.declared.addressing.Address.{Address}
+use Rattle.ka10_unit.specs.declared.word_fields.Address.{Address}
 use Rattle.ka10_unit.specs.Glide.{glide, word_of, Takes, Addressed}
-use Rattle.ka10_unit.specs.Spots.{IsLed, IsReached, addressed}
+use Rattle.ka10_unit.specs.Addresses.{addressed}
+use Rattle.ka10_unit.specs.Spots.{IsLed, IsReached}
 use Rattle.ka10_unit.proofs.Finishing.{few}
 
 module _ {K : Type 0} {file_cmp : K → K → Ordering} (f : ForkName) (p : PlainPages file_cmp) (ac : List ℕ) (before : ℕ) where

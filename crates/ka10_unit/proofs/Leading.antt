@@ -5,12 +5,13 @@ use Rattle.plain_units.specs.declared.channel.TheConstants.{ILLEGAL_INSTRUCTION}
 use Rattle.machine_names.specs.declared.names.ForkName.{ForkName}
 use Rattle.machine_names.specs.declared.names.Kind.TheVariants.{Read}
 use Rattle.plain_units.specs.Steps.{refers, run}
-use Rattle.plain_units.specs.Addressing.{address, address_within, indexed, is_indirect, last_taken}
-use Rattle.ka10_unit.specs.declared.addresses.Address.{Address}
+use Rattle.plain_units.specs.Addressing.{address, address_within, indexed, is_indirect}
+use Rattle.ka10_unit.specs.declared.word_fields.Address.{Address}
 use Rattle.ka10_unit.specs.declared.taken.Taken.{Taken}
 use Rattle.ka10_unit.specs.declared.taken.Stop.{Stop}
 use Rattle.ka10_unit.specs.declared.taken.Stop.TheVariants.{Trap}
 use Rattle.ka10_unit.specs.Gathers.{Framed}
+use Rattle.ka10_unit.specs.Addresses.{addressed}
 use Rattle.ka10_unit.specs.Taking.{Follows, Stands}
 use Rattle.ka10_unit.specs.Planning.{Leads, reached, reached_within}
 
@@ -39,11 +40,11 @@ module _ (f : ForkName) (p : Framed) (ac : List ℕ) where
         record { stands = here.stands; runs = λ next. before.runs next ∙ rw (one_more 17 i less, ind) (here.runs (λ x. reached_within (17 - (i + 1)) ac x next)) }
 
     -- the address is there
-    pub leads_done : (e : Address) → i < 17 → is_indirect w ≡ false → e.at ≡ indexed ac w → e.last ≡ last_taken ac w → Leads f p ac old mid (reached ac first) (reached_within (17 - i) ac w)
+    pub leads_done : (e : Address) → i < 17 → is_indirect w ≡ false → e ≡ addressed ac w → Leads f p ac old mid (reached ac first) (reached_within (17 - i) ac w)
         → Follows f p ac old mid (reached ac first) (Ok e)
     unfolding address_within
-    leads_done e less direct at last before =
-        record { stands = before.stands; runs = λ next. before.runs next ∙ rw (one_more 17 i less, direct, ← at, ← last) refl }
+    leads_done e less direct is before =
+        record { stands = before.stands; runs = λ next. before.runs next ∙ rw (one_more 17 i less, direct, is) refl }
 
     -- there were too many words
     pub leads_out : 17 ≤ i → Leads f p ac old mid (reached ac first) (reached_within (17 - i) ac w) → Follows {A = Address} f p ac old mid (reached ac first) (Err (Trap ILLEGAL_INSTRUCTION))

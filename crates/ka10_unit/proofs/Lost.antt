@@ -18,11 +18,11 @@ module _ {P : Type 0} (means : PagesMeaning P) where
   pub lost_on : (r s t : P) → MayLose means r s → MayLose means s t → MayLose means r t
   lost_on r s t = loses_on (traffic means.store r) (traffic means.store s) (traffic means.store t)
 
--- a reference makes two pages at most
-pub few_made : (kind : Kind) → most_made kind ≤ 2
-few_made Read = omega arith
-few_made Write = omega arith
-few_made Execute = omega arith
+-- a reference is worth one page or two
+pub few_made : (kind : Kind) → (1 ≤ most_made kind) × (most_made kind ≤ 2)
+few_made Read = (omega arith, omega arith)
+few_made Write = (omega arith, omega arith)
+few_made Execute = (omega arith, omega arith)
 
 module _ {P : Type 0} (store : StoreMeaning P) (p : P) where
   pub stop_more : (least most : ℕ) (x : Stop) → least ≤ most → StopNeeds store least p x → StopNeeds store most p x

@@ -12,7 +12,7 @@ use Rattle.plain_units.specs.declared.registers.Regs.{Regs}
 use Rattle.plain_units.specs.Steps.{Steps, refers, keeps, stopped, traps, calls, run, begun}
 use Rattle.plain_units.specs.Addressing.{opcode, ac_field}
 use Rattle.plain_units.specs.Instructions.{execute, executes, does, instruction, local_word, LOCAL_CALL, LOCAL_HANDLER}
-use Rattle.ka10_unit.specs.declared.addresses.Address.{Address}
+use Rattle.ka10_unit.specs.declared.word_fields.Address.{Address}
 use Rattle.ka10_unit.specs.declared.ends.Ending.{Ending}
 use Rattle.ka10_unit.specs.declared.plans.Next.{Next}
 use Rattle.ka10_unit.specs.declared.plans.Step.{Step}
@@ -65,7 +65,7 @@ executes_is Test row is_local regs w next = refl
 
 -- most instructions take one word at most, and store one at most
 pub does_ordinary : (family : Family) → (family ≡ Monitor → ⊥) → (family ≡ Xct → ⊥) → (family ≡ Local → ⊥) → (family ≡ ByteOp → ⊥) → (row : TableRow) (is_local : Bool) (regs : Regs) (w : ℕ) (a : Address) (next : Bool → ℕ → Steps)
-    → does_at family row is_local regs w a next ≡ does row (opcode w) regs (ac_field w) a.at a.last
+    → does_at family row is_local regs w a next ≡ does row (opcode w) regs (ac_field w) a.e a.last
 does_ordinary Monitor m x l b row is_local regs w a next = absurd (m refl)
 does_ordinary Xct m x l b row is_local regs w a next = absurd (x refl)
 does_ordinary Local m x l b row is_local regs w a next = absurd (l refl)

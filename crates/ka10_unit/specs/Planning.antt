@@ -14,9 +14,10 @@ use Rattle.plain_units.specs.Addressing.{opcode, ac_field, address, address_with
 use Rattle.plain_units.specs.Deeds.{Deed, before}
 use Rattle.plain_units.specs.Instructions.{does, does_pointer, instruction, is_executive, local_word, LOCAL_CALL, LOCAL_HANDLER}
 use Rattle.plain_units.specs.Units.{unit_on}
-use Rattle.ka10_unit.specs.declared.addresses.Address.{Address}
+use Rattle.ka10_unit.specs.declared.word_fields.Address.{Address}
 use Rattle.ka10_unit.specs.declared.committed.Committed.{Committed}
 use Rattle.ka10_unit.specs.declared.operands.Destination.{Destination}
+use Rattle.ka10_unit.specs.declared.operands.Destination.TheVariants as destination
 use Rattle.ka10_unit.specs.declared.ends.Ending.{Ending}
 use Rattle.ka10_unit.specs.declared.plans.Step.{Step}
 use Rattle.ka10_unit.specs.declared.plans.Step.TheVariants as step
@@ -27,14 +28,14 @@ use Rattle.ka10_unit.specs.declared.taken.Stop.{Stop}
 use Rattle.ka10_unit.specs.declared.taken.Stop.TheVariants as stop
 use Rattle.ka10_unit.specs.Commits.{Leaves, channel_of, store_at}
 use Rattle.ka10_unit.specs.Gathers.{Framed, IsOf}
-use Rattle.ka10_unit.specs.Taking.{CanPut, IsOpen, IsPlain, IsPutBelow, IsTrap, Plan, Stands, most_frames, progress, run_over, so_far, stop_of}
+use Rattle.ka10_unit.specs.Taking.{CanPut, HasSpare, IsOpen, IsPlain, IsPutBelow, IsTrap, Plan, Stands, most_frames, progress, run_over, so_far, stop_of}
 
 -- an effective address, with so many words at most, and with any
 abbrev pub reached_within : ℕ → List ℕ → ℕ → (Address → Steps) → Steps
-reached_within n ac w next = address_within n ac w (λ e last. next (record { at = e; last = last }))
+reached_within n ac w next = address_within n ac w (λ e last. next (record { e = e; last = last }))
 
 abbrev pub reached : List ℕ → ℕ → (Address → Steps) → Steps
-reached ac w next = address ac w (λ e last. next (record { at = e; last = last }))
+reached ac w next = address ac w (λ e last. next (record { e = e; last = last }))
 
 -- the same unit is left behind a part that was done as behind the whole
 pub record Leads {A : Type 0} (f : ForkName) (p : Framed) (ac : List ℕ) (old new : Taken) (whole left : (A → Steps) → Steps) : Type 0 where
@@ -68,6 +69,13 @@ pub record IsDone (d : Deed) (n : ℕ) (old new : Regs) (to : Destination) (told
   pub store : store_at to told.stored ≡ d.store
   pub block : (at w : ℕ) → d.store ≡ before at w → (d.next ≡ None) × ((a : ℕ) × (d.ac ≡ Some a))
 
+-- a word goes back to where one was read
+abbrev pub GoesBack : Destination → Type 0
+GoesBack destination.Nowhere = ⊥
+GoesBack (destination.Back at) = Unit {0}
+GoesBack (destination.Into at) = ⊥
+GoesBack (destination.Before at) = ⊥
+
 -- a word that is illegal before its address is taken: no instruction, a monitor call behind a local call, and JRST of the executive
 abbrev pub is_illegal : Family → Bool → ℕ → Bool
 is_illegal family.Illegal is_local ac = true
@@ -81,11 +89,11 @@ calls_local w e next = refers LOCAL_CALL Write (λ v. keeps LOCAL_CALL (local_wo
 
 -- what an instruction does with its address
 abbrev pub does_at : Family → TableRow → Bool → Regs → ℕ → Address → (Bool → ℕ → Steps) → Steps
-does_at family.Monitor row is_local regs w a next = calls a.at
-does_at family.Xct row is_local regs w a next = refers a.at Execute (next is_local)
-does_at family.Local row is_local regs w a next = calls_local w a.at next
-does_at family.ByteOp row is_local regs w a next = does_pointer row.code regs (ac_field w) a.at
-does_at f row is_local regs w a next = does row (opcode w) regs (ac_field w) a.at a.last
+does_at family.Monitor row is_local regs w a next = calls a.e
+does_at family.Xct row is_local regs w a next = refers a.e Execute (next is_local)
+does_at family.Local row is_local regs w a next = calls_local w a.e next
+does_at family.ByteOp row is_local regs w a next = does_pointer row.code regs (ac_field w) a.e
+does_at f row is_local regs w a next = does row (opcode w) regs (ac_field w) a.e a.last
 
 -- what one word of a unit comes to
 abbrev pub stepped : Framed → List ℕ → Taken → Result Step Stop → (Bool → ℕ → Plan) → Plan
@@ -158,9 +166,9 @@ pub record IsEnding (x : Ending) : Type 0 where
 abbrev pub IsEnd : ForkName → Ending → Taken → Type 0
 IsEnd f x t = IsEnding x × IsPutBelow (2 ^ 18) t.kept × IsOf f t.gather
 
--- a step that goes on leaves a unit that is open
+-- a step that goes on leaves a unit that is open, behind its fetch
 abbrev pub IsStep : ForkName → Result Step Stop → Taken → Type 0
-IsStep f (Ok (step.Goes n)) t = IsOpen f t × IsPutBelow (2 ^ 18) t.kept
+IsStep f (Ok (step.Goes n)) t = IsOpen f t × IsPutBelow (2 ^ 18) t.kept × HasSpare 1 t
 IsStep f (Ok (step.Ends x)) t = IsEnd f x t
 IsStep f (Ok (step.Calls n)) t = n < 2 ^ 18
 IsStep f (Err e) t = Unit {0}

@@ -7,19 +7,15 @@ use Rattle.machine_names.specs.declared.names.Kind.{Kind}
 use Rattle.machine_names.specs.declared.names.Kind.TheVariants.{Read}
 use Rattle.page_contracts.specs.declared.answers.SpaceHandle.{SpaceHandle}
 use Rattle.plain_units.specs.declared.registers.Regs.{Regs}
-use Rattle.plain_units.specs.Addressing.{indexed, is_indirect, last_taken}
+use Rattle.plain_units.specs.Addressing.{indexed, is_indirect}
 use Rattle.page_contracts.specs.DrumWords.{DrumWords}
 use Rattle.page_contracts.specs.Pages.{PagesMeaning, MayLose, StaysPut, IsTouched}
 use Rattle.plain_pages.specs.References.{in_map, slot_at, stored}
 use Rattle.plain_pages.specs.PlainPages.{NumberedPages}
-use Rattle.ka10_unit.specs.declared.addressing.Address.{Address}
+use Rattle.ka10_unit.specs.declared.word_fields.Address.{Address}
 use Rattle.ka10_unit.specs.declared.spots.Spot.{Spot}
 use Rattle.ka10_unit.specs.declared.spots.Spot.TheVariants.{Accumulator, Page}
 use Rattle.ka10_unit.specs.Glide.{Addressed, word_of}
-
--- the address that a word names which isn't indirect
-abbrev pub addressed : List ℕ → ℕ → Address
-addressed ac word = record { e = indexed ac word; last = last_taken ac word }
 
 -- fewer indirect words than these lead from a word to an address
 abbrev pub LeadsTo : {P : Type 0} → PagesMeaning P → P → SpaceHandle → List ℕ → ℕ → ℕ → Option Address → Type 0

@@ -1,5 +1,5 @@
 -- How far a unit has come, and what a part of it that was done says of the whole.
-use Rattle.std.specs.Prelude.{◌≡◌, ◌⊎◌, ℕ, ◌*◌, ◌%◌, ◌≤◌, ◌<◌, ◌==◌, ◌&&◌, Bool, true, false, List, [], length, Option, None, Some, Result, Ok, Err, ⊤, is_some}
+use Rattle.std.specs.Prelude.{◌≡◌, ◌⊎◌, ℕ, ◌+◌, ◌-◌, ◌*◌, ◌%◌, ◌≤◌, ◌<◌, ◌==◌, ◌&&◌, Bool, true, false, List, [], length, Option, None, Some, Result, Ok, Err, ⊤, is_some}
 use Rattle.std.specs.Option.{option_map_or}
 use Rattle.std.specs.Ordering.{nat_cmp}
 use Rattle.outside.specs.declared.TheConstants.{PAGE_WORDS}
@@ -21,7 +21,7 @@ use Rattle.plain_units.specs.Steps.{Steps, Stop as Stopped, widens, trap, need, 
 use Rattle.ka10_unit.specs.declared.taken.Taken.{Taken}
 use Rattle.ka10_unit.specs.declared.taken.Stop.{Stop}
 use Rattle.ka10_unit.specs.declared.taken.Stop.TheVariants as stop
-use Rattle.page_gather.specs.Gathering.{Gathering, Gathers, IsNear, left_of}
+use Rattle.page_gather.specs.Gathering.{Gathering, Gathers, IsNear, left_of, most_made}
 use Rattle.ka10_unit.specs.Gathers.{Framed, IsOf, asks}
 
 -- a unit as a plan, which may need something first
@@ -42,9 +42,9 @@ abbrev pub IsTrap : Stop → Type 0
 IsTrap (stop.Trap channel) = Unit {0}
 IsTrap (stop.Need n) = ⊥
 
--- fewer frames than so many are free where a unit needs one: it makes two pages at each of 16 references, and two at the last once more, to write
+-- fewer frames than so many are free where a unit needs one: it makes two pages at most at each of 16 references
 abbrev pub most_frames : ℕ
-most_frames = 34
+most_frames = 32
 
 -- what a stop needs first is so, over whatever drum: a map or a page is in no frame, or fewer frames are free than so many
 abbrev pub StopNeeds : {P : Type 0} → StoreMeaning P → ℕ → P → Stop → Type 0
@@ -88,6 +88,18 @@ pub record IsOpen (f : ForkName) (t : Taken) : Type 0 where
   pub gathered : length t.gather.references ≤ length t.refs.items
   pub references : length t.refs.items ≤ MOST_REFERENCES
   pub made : t.gather.homes ≤ 2 * length t.refs.items
+
+-- the references so far make so many pages fewer than two each
+abbrev pub HasSpare : ℕ → Taken → Type 0
+HasSpare n t = t.gather.homes + n ≤ 2 * length t.refs.items
+
+-- those behind make so many pages fewer than two each
+abbrev pub Spares : ℕ → Taken → Taken → Type 0
+Spares n old new = new.gather.homes + n + 2 * length old.refs.items ≤ old.gather.homes + 2 * length new.refs.items
+
+-- by how many a reference makes fewer than two
+abbrev pub spared : Kind → ℕ
+spared kind = 2 - most_made kind
 
 -- the word of a kept put is at an address
 abbrev pub IsPutBelow : ℕ → Option Put → Type 0

@@ -8,13 +8,9 @@ ghost use Rattle.ka10_unit.specs.Gathers.{IsOf, Serves, framed};
 ghost use Rattle.ka10_unit.specs.Taking.{CanPut, IsPutBelow, Stands, pages_so_far, so_far};
 
 use crate::taken::{Taken, page_of_address};
-use machine_names::{ForkName, Kind};
-use outside::PAGE_WORDS;
+use machine_names::{ForkName, Kind, PAGE_ADDRESSES};
 use page_contracts::{Pages, Touch};
 use plain_units::Put;
-
-// How many words a page has, as addresses count them.
-const WORDS: u32 = PAGE_WORDS as u32;
 
 /// Stores a word, if there is one, in a page that is in a frame and that a write finds made.
 pub fn store<P: Pages>(pages: &mut P, fork: ForkName, put: Option<Put>)
@@ -31,7 +27,7 @@ pub fn store<P: Pages>(pages: &mut P, fork: ForkName, put: Option<Put>)
     };
     let at = page_of_address(fork, put.at);
     if let Touch::Ready = pages.touch(at, Kind::Write) {
-        pages.put(at, (put.at % WORDS) as u16, put.word);
+        pages.put(at, (put.at % PAGE_ADDRESSES) as u16, put.word);
     }
 }
 

@@ -1,6 +1,5 @@
 // Instructions in place, by their opcodes.
 ghost use Rattle.std.specs.Prelude.{◌≡◌, ◌<◌, ◌^◌};
-ghost use Rattle.plain_units.specs.Instructions as instructions;
 ghost use Rattle.machine_names.specs.Bounds.{IsAddress};
 ghost use Rattle.page_contracts.specs.Pages.{HasSpace};
 ghost use Rattle.ka10_unit.specs.InPlace.{Addressee, InPlace};
@@ -17,6 +16,7 @@ use crate::instructions::{
 use crate::registers::word_in;
 use crate::stacks::pushed;
 use crate::ways::{bare, read, replace, transfer, write};
+use crate::word_fields::is_executive;
 use ka10_table::{Family, OpMode, TableRow, row};
 use page_contracts::{Pages, SpaceHandle};
 use plain_units::Regs;
@@ -240,14 +240,4 @@ fn carry_other<P: Pages>(
         Act::Camg => read(Compare { code: 15 }, it, regs, pages, space, e),
         _ => Quick::Slow,
     }
-}
-
-/// Whether JRST with this accumulator, which has bit 4 or bit 10 (octal), is an instruction of the
-/// executive.
-#[inline(always)]
-pub fn is_executive(ac: u8) -> bool
-    requires { ac < 16 }
-    ensures { result ≡ instructions.is_executive ac }
-{
-    ac >= 4
 }

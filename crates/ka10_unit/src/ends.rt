@@ -1,5 +1,5 @@
 // The end of a unit: the operand of its instruction, and the word that it stores.
-ghost use Rattle.std.specs.Prelude.{◌≡◌, ◌<◌, ◌^◌, ℕ, IfErr, IfOk, IfSome, None, true};
+ghost use Rattle.std.specs.Prelude.{◌≡◌, ◌<◌, ◌^◌, ℕ, IfErr, IfOk, IfSome, IsSome, None, true};
 ghost use Rattle.plain_units.specs.declared.registers.Regs.{Regs as ARegs};
 ghost use Rattle.plain_units.specs.Deeds.{Deed};
 ghost use Rattle.plain_units.specs.Instructions.{does, finishes, storing, takes};
@@ -8,14 +8,14 @@ ghost use Rattle.machine_names.specs.Bounds.{IsAddress};
 ghost use Rattle.page_contracts.specs.DrumWords.{DrumWords};
 ghost use Rattle.ka10_unit.specs.Commits.{LiesBelow, channel_of};
 ghost use Rattle.ka10_unit.specs.Gathers.{IsOf, Serves, framed};
-ghost use Rattle.ka10_unit.specs.Planning.{Ends, IsDone, IsEnding, LeavesEnd, end_of};
-ghost use Rattle.ka10_unit.specs.Taking.{Follows, IsOpen, IsPutBelow, IsTrap, StopNeeds, Stands, most_frames};
+ghost use Rattle.ka10_unit.specs.Planning.{Ends, GoesBack, IsDone, IsEnding, LeavesEnd, end_of};
+ghost use Rattle.ka10_unit.specs.Taking.{Follows, HasSpare, IsOpen, IsPutBelow, IsTrap, Spares, StopNeeds, Stands, most_frames};
 
-use crate::addresses::Address;
 use crate::commit::commit_row;
 use crate::committed::{Committed, Post};
 use crate::operands::{Destination, destination_of, operand_address};
 use crate::taken::{Stop, Taken, refer, widen};
+use crate::word_fields::Address;
 use ka10_table::TableRow;
 use machine_names::{ACCUMULATORS, ForkName, Kind};
 use page_contracts::Pages;
@@ -46,6 +46,7 @@ pub fn operand<P: Pages>(
     requires kept { IsPutBelow (2 ^ 18) taken.old.kept }
     ensures is_open { IsOpen fork taken.new }
     ensures kept { taken.new.kept ≡ taken.old.kept }
+    ensures read { IsSome at → IfOk result (λ m. Spares 1 taken.old taken.new) }
     ensures core { P.means.flat ≡ true → IfErr result IsTrap }
     ensures needs { IfErr result (StopNeeds P.means.store most_frames pages.now) }
     ensures told { (d : DrumWords) → P.means.fits pages.now d → Stands fork (framed P.means pages.now d) taken.old
@@ -107,6 +108,7 @@ pub fn finish<P: Pages>(
     requires to { LiesBelow (2 ^ 18) to }
     requires ac { ac < 16 }
     requires pc { after.pc < 2 ^ 18 }
+    requires spare { GoesBack to → HasSpare 2 taken.old }
     requires is_open { IsOpen fork taken.old }
     requires kept { IsPutBelow (2 ^ 18) taken.old.kept }
     ensures leaves { LeavesEnd P.means fork taken.old taken.new result }
@@ -147,24 +149,25 @@ pub fn ordinary<P: Pages>(
     row: TableRow,
     op: u16,
     ac: u8,
-    e: &Address,
+    address: &Address,
 ) -> Result<Ending, Stop>
     requires serves { Serves P.means pages.now fork }
     requires line { IsInLine op row }
     requires ac { ac < 16 }
-    requires e { e.now.at < 2 ^ 18 }
+    requires address { IsAddress address.now.e }
     requires pc { regs.now.pc < 2 ^ 18 }
+    requires fetched { HasSpare 1 taken.old }
     requires is_open { IsOpen fork taken.old }
     requires kept { IsPutBelow (2 ^ 18) taken.old.kept }
     ensures leaves { LeavesEnd P.means fork taken.old taken.new result }
     ensures needs { IfErr result (StopNeeds P.means.store most_frames pages.now) }
     ensures told { (d : DrumWords) → P.means.fits pages.now d → Stands fork (framed P.means pages.now d) taken.old
-        → Ends fork (framed P.means pages.now d) regs.now.ac taken.old taken.new (does row op regs.now ac e.now.at e.now.last) result }
+        → Ends fork (framed P.means pages.now d) regs.now.ac taken.old taken.new (does row op regs.now ac address.now.e address.now.last) result }
 {
-    let at = operand_address(row, regs, ac, e.at);
-    let m = operand(taken, regs, pages, fork, at, e.at)?;
-    let to = destination_of(row, regs, ac, e.at);
+    let at = operand_address(row, regs, ac, address.e);
+    let m = operand(taken, regs, pages, fork, at, address.e)?;
+    let to = destination_of(row, regs, ac, address.e);
     let mut after = *regs;
-    let told = commit_row(row, op, &mut after, ac, e.at, e.last, m);
+    let told = commit_row(row, op, &mut after, ac, address.e, address.last, m);
     finish(taken, regs, pages, fork, after, ac, to, told)
 }

@@ -12,14 +12,10 @@ ghost use Rattle.ka10_unit.specs.Spots.{IsReached};
 
 use crate::fetch_page::FetchPage;
 use crate::spots::page_of;
-use machine_names::{ACCUMULATORS, Kind};
-use outside::PAGE_WORDS;
+use machine_names::{ACCUMULATORS, Kind, PAGE_ADDRESSES};
 use page_contracts::{Found, Pages, SpaceHandle};
 use plain_units::Regs;
 use word36::Word;
-
-// How many words a page has, as addresses count them.
-const WORDS: u32 = PAGE_WORDS as u32;
 
 /// The word at the program counter, where its fetch goes through as the pages are. Its page is kept
 /// for the fetches behind.
@@ -100,11 +96,11 @@ fn fetch_page(page: u16, found: Found) -> FetchPage
     requires { page < SPACE_PAGES }
     ensures { IsPage page found result }
 {
-    let first = page as u32 * WORDS;
+    let first = page as u32 * PAGE_ADDRESSES;
     let from = first.max(ACCUMULATORS);
     FetchPage {
         from,
-        length: first + WORDS - from,
+        length: first + PAGE_ADDRESSES - from,
         found,
     }
 }

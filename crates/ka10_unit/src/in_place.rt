@@ -4,11 +4,12 @@ ghost use Rattle.page_contracts.specs.Pages.{HasSpace};
 ghost use Rattle.ka10_unit.specs.InPlace.{InPlace};
 ghost use Rattle.ka10_unit.specs.Fetches.{FetchedUnit, IsThere};
 
-use crate::addressing::{ac_field, effective_address, opcode};
+use crate::addressing::effective_address;
 use crate::dispatch::carry;
 use crate::ending::Quick;
 use crate::fetch_page::FetchPage;
 use crate::fetches::fetch;
+use crate::word_fields::{ac_field, opcode};
 use page_contracts::{Pages, SpaceHandle};
 use plain_units::Regs;
 

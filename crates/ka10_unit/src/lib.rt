@@ -37,10 +37,11 @@ mod stacks;
 mod taken;
 mod ways;
 mod word_blocks;
+mod word_fields;
 mod words;
 
 pub use acts::{Act, act_at};
-pub use addresses::{Address, address_of};
+pub use addresses::address_of;
 pub use bursts::burst;
 pub use bytes::{
     ByteStep, byte_step, commit_deposit, commit_first_part, commit_increment, commit_load,
@@ -73,4 +74,5 @@ pub use slow::{Outcome, slow_unit};
 pub use stacks::{commit_popj, commit_push_or_pop, commit_pushj, pushed};
 pub use taken::{Stop, Taken};
 pub use word_blocks::{make_block, refer_block, store_block};
+pub use word_fields::Address;
 pub use words::{commit_blt, commit_boolean, commit_exch, commit_half, commit_test};

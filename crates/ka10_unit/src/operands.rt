@@ -1,8 +1,9 @@
 // Which word an instruction takes, and where it stores one.
-ghost use Rattle.std.specs.Prelude.{◌≡◌, ℕ, ◌^◌, ◌<◌, IfSome, Option};
+ghost use Rattle.std.specs.Prelude.{◌≡◌, ℕ, ◌^◌, ◌<◌, IfSome, IsSome, Option};
 ghost use Rattle.word36.specs.Arithmetic.{Outcome};
 ghost use Rattle.plain_units.specs.Deeds.{by_mode, deed_of, moved_from, moves, moves_half, of_second_eight, operand_of, operated, taken_of};
 ghost use Rattle.ka10_unit.specs.Commits.{LiesBelow, store_at, stored_word};
+ghost use Rattle.ka10_unit.specs.Planning.{GoesBack};
 
 use crate::registers::word_in;
 use crate::stacks::pushed;
@@ -88,11 +89,12 @@ fn address_behind_eight(code: u8, e: u32) -> Option<u32>
 
 /// Where the instruction of a row stores a word, if it stores one: whether it does is told once it
 /// is committed, since a division that isn't done stores none.
-#[tactic(auto, unfolding(plain_units::specs::Deeds::deed_of))]
+#[tactic(auto, unfolding(plain_units::specs::Deeds::deed_of, plain_units::specs::Deeds::taken_of))]
 pub fn destination_of(row: TableRow, regs: &Regs, ac: u8, e: u32) -> Destination
     requires ac { ac < 16 }
     requires e { e < 2 ^ 18 }
     ensures value { (op last m : ℕ) → store_at result (stored_word (deed_of row op regs.now ac e last m).store) ≡ (deed_of row op regs.now ac e last m).store }
+    ensures back { GoesBack result → IsSome (taken_of row regs.now ac e) }
     ensures below { LiesBelow (2 ^ 18) result }
 {
     match row.family {
@@ -121,6 +123,7 @@ fn result_destination(mode: OpMode, e: u32) -> Destination
     ensures operations { (regs : Regs) (ac : ℕ) (given : Option Outcome) → store_at result (stored_word (operated mode regs ac e given).store) ≡ (operated mode regs ac e given).store }
     ensures booleans { (regs : Regs) (ac word : ℕ) → store_at result (stored_word (by_mode mode regs ac e word).store) ≡ (by_mode mode regs ac e word).store }
     ensures halves { (op : ℕ) (regs : Regs) (ac a m : ℕ) → store_at result (stored_word (moves_half mode op regs ac a e m).store) ≡ (moves_half mode op regs ac a e m).store }
+    ensures back { GoesBack result → IsSome (operand_of mode e) }
     ensures below { (limit : ℕ) → e < limit → LiesBelow limit result }
 {
     match mode {
@@ -133,6 +136,7 @@ fn result_destination(mode: OpMode, e: u32) -> Destination
 #[inline(always)]
 fn move_destination(mode: OpMode, e: u32) -> Destination
     ensures value { (op : ℕ) (regs : Regs) (ac a a1 m : ℕ) → store_at result (stored_word (moves mode op regs ac a a1 e m).store) ≡ (moves mode op regs ac a a1 e m).store }
+    ensures back { GoesBack result → IsSome (moved_from mode e) }
     ensures below { (limit : ℕ) → e < limit → LiesBelow limit result }
 {
     match mode {

@@ -1,7 +1,7 @@
 // A unit planned: any word whatever, on pages that it leaves as they are.
 ghost use Rattle.std.specs.Prelude.{◌≡◌, ◌<◌, ◌^◌, IfErr, true};
 ghost use Rattle.ka10_table.specs.Rows.{IsInLine, row_of};
-ghost use Rattle.plain_units.specs.Addressing.{ac_field, opcode};
+ghost use Rattle.plain_units.specs.Addressing as word_fields;
 ghost use Rattle.plain_units.specs.Instructions.{execute as executed, executes, local_word};
 ghost use Rattle.machine_names.specs.Bounds.{IsAddress};
 ghost use Rattle.page_contracts.specs.DrumWords.{DrumWords};
@@ -10,13 +10,13 @@ ghost use Rattle.plain_units.specs.Steps.{refers};
 ghost use Rattle.ka10_unit.specs.declared.taken.Taken.{Taken as ATaken};
 ghost use Rattle.ka10_unit.specs.Gathers.{Serves, framed};
 ghost use Rattle.ka10_unit.specs.Planning.{Concludes, IsPlan, IsStep, NeedsNothing, PlanNeeds, Plans, StepsOn, as_step, calls_local, does_at, is_illegal as is_illegal_word, stopped_by};
-ghost use Rattle.ka10_unit.specs.Taking.{IsOpen, IsPutBelow, IsTrap, StopNeeds, Stands, most_frames};
+ghost use Rattle.ka10_unit.specs.Taking.{HasSpare, IsOpen, IsPutBelow, IsTrap, StopNeeds, Stands, most_frames};
 
-use crate::addresses::{Address, address_of};
-use crate::dispatch::is_executive;
+use crate::addresses::address_of;
 use crate::ends::{Ending, ordinary};
 use crate::pointed::byte_instruction;
 use crate::taken::{Stop, Taken, refer};
+use crate::word_fields::{Address, MOST_WORDS, ac_field, is_executive, opcode};
 use ka10_table::{Family, TableRow, row};
 use machine_names::{ForkName, Kind};
 use page_contracts::{Need, Pages};
@@ -27,9 +27,6 @@ use word36::Word;
 const LOCAL_CALL: u32 = 0o40;
 
 const LOCAL_HANDLER: u32 = 0o41;
-
-// How many words a unit executes at most: more than it may refer to.
-const MOST_WORDS: u32 = 17;
 
 /// Another word to be executed, behind a local call or not.
 #[derive(Clone, Copy, PartialEq, Eq)]
@@ -62,22 +59,6 @@ pub enum Planned {
     Call(u32),
 }
 
-/// The opcode of a word, bits 0 to 8.
-fn opcode_of(word: Word) -> u16
-    ensures value { result ≡ opcode word }
-    ensures below { result < 512 }
-{
-    (word.left() >> 9) as u16
-}
-
-/// AC of a word, bits 9 to 12.
-fn accumulator_of(word: Word) -> u8
-    ensures value { result ≡ ac_field word }
-    ensures below { result < 16 }
-{
-    (word.left() >> 5 & 0o17) as u8
-}
-
 /// The word that a local call stores: the opcode and AC of its own, with the address E.
 fn stored_call(word: Word, e: u32) -> Word
     requires { IsAddress e }
@@ -97,6 +78,7 @@ fn go_on<P: Pages>(
 ) -> Result<Step, Stop>
     requires serves { Serves P.means pages.now fork }
     requires address { IsAddress at }
+    requires fetched { HasSpare 1 taken.old }
     requires is_open { IsOpen fork taken.old }
     requires kept { IsPutBelow (2 ^ 18) taken.old.kept }
     ensures bounds { IsStep fork result taken.new }
@@ -122,6 +104,7 @@ fn call_local<P: Pages>(
 ) -> Result<Step, Stop>
     requires serves { Serves P.means pages.now fork }
     requires e { IsAddress e }
+    requires fetched { HasSpare 1 taken.old }
     requires is_open { IsOpen fork taken.old }
     requires kept { IsPutBelow (2 ^ 18) taken.old.kept }
     ensures bounds { IsStep fork result taken.new }
@@ -177,9 +160,10 @@ fn do_at<P: Pages>(
     address: &Address,
 ) -> Result<Step, Stop>
     requires serves { Serves P.means pages.now fork }
-    requires line { IsInLine (opcode word) row }
+    requires line { IsInLine (word_fields.opcode word) row }
     requires pc { regs.now.pc < 2 ^ 18 }
-    requires address { address.now.at < 2 ^ 18 }
+    requires address { IsAddress address.now.e }
+    requires fetched { HasSpare 1 taken.old }
     requires is_open { IsOpen fork taken.old }
     requires kept { IsPutBelow (2 ^ 18) taken.old.kept }
     ensures bounds { IsStep fork result taken.new }
@@ -188,15 +172,15 @@ fn do_at<P: Pages>(
     ensures told { (d : DrumWords) → P.means.fits pages.now d → Stands fork (framed P.means pages.now d) taken.old
         → StepsOn fork (framed P.means pages.now d) regs.now.ac taken.old taken.new (does_at row.family row is_local regs.now word address.now) result }
 {
-    let ac = accumulator_of(word);
+    let ac = ac_field(word);
     match row.family {
-        Family::Monitor => Ok(Step::Calls(address.at)),
-        Family::Xct => go_on(taken, regs, pages, fork, address.at, is_local),
-        Family::Local => call_local(taken, regs, pages, fork, word, address.at),
+        Family::Monitor => Ok(Step::Calls(address.e)),
+        Family::Xct => go_on(taken, regs, pages, fork, address.e, is_local),
+        Family::Local => call_local(taken, regs, pages, fork, word, address.e),
         Family::ByteOp => ended(byte_instruction(
-            taken, regs, pages, fork, row.code, ac, address.at,
+            taken, regs, pages, fork, row.code, ac, address.e,
         )),
-        _ => ended(ordinary(taken, regs, pages, fork, row, opcode_of(word), ac, address)),
+        _ => ended(ordinary(taken, regs, pages, fork, row, opcode(word), ac, address)),
     }
 }
 
@@ -211,16 +195,17 @@ fn do_word<P: Pages>(
 ) -> Result<Step, Stop>
     requires serves { Serves P.means pages.now fork }
     requires pc { regs.now.pc < 2 ^ 18 }
+    requires fetched { HasSpare 1 taken.old }
     requires is_open { IsOpen fork taken.old }
     requires kept { IsPutBelow (2 ^ 18) taken.old.kept }
     ensures bounds { IsStep fork result taken.new }
     ensures core { P.means.flat ≡ true → IfErr result IsTrap }
     ensures needs { IfErr result (StopNeeds P.means.store most_frames pages.now) }
     ensures told { (d : DrumWords) → P.means.fits pages.now d → Stands fork (framed P.means pages.now d) taken.old
-        → StepsOn fork (framed P.means pages.now d) regs.now.ac taken.old taken.new (executes (row_of (opcode word)).family (row_of (opcode word)) is_local regs.now word) result }
+        → StepsOn fork (framed P.means pages.now d) regs.now.ac taken.old taken.new (executes (row_of (word_fields.opcode word)).family (row_of (word_fields.opcode word)) is_local regs.now word) result }
 {
-    let row = row(opcode_of(word));
-    if is_illegal(row.family, is_local, accumulator_of(word)) {
+    let row = row(opcode(word));
+    if is_illegal(row.family, is_local, ac_field(word)) {
         return Err(Stop::ILLEGAL);
     }
     match address_of(taken, regs, pages, fork, word) {
@@ -253,6 +238,7 @@ fn follow<P: Pages>(
 ) -> Planned
     requires serves { Serves P.means pages.now fork }
     requires pc { regs.now.pc < 2 ^ 18 }
+    requires fetched { HasSpare 1 taken.old }
     requires is_open { IsOpen fork taken.old }
     requires kept { IsPutBelow (2 ^ 18) taken.old.kept }
     ensures bounds { IsPlan fork result taken.new }

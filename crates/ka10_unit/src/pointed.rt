@@ -5,7 +5,7 @@ ghost use Rattle.machine_names.specs.Bounds.{IsAddress};
 ghost use Rattle.page_contracts.specs.DrumWords.{DrumWords};
 ghost use Rattle.ka10_unit.specs.Gathers.{IsOf, Serves, framed};
 ghost use Rattle.ka10_unit.specs.Planning.{Ends, LeavesEnd};
-ghost use Rattle.ka10_unit.specs.Taking.{IsOpen, IsPutBelow, IsTrap, Stands, StopNeeds, most_frames};
+ghost use Rattle.ka10_unit.specs.Taking.{HasSpare, IsOpen, IsPutBelow, IsTrap, Stands, StopNeeds, most_frames};
 
 use crate::addresses::address_of;
 use crate::bytes::{
@@ -40,7 +40,7 @@ fn load_byte<P: Pages>(
         → Ends fork (framed P.means pages.now d) regs.now.ac taken.old taken.new (loads_byte regs.now ac pointer) result }
 {
     let address = address_of(taken, regs, pages, fork, pointer)?;
-    let word = refer(taken, regs, pages, fork, address.at, Kind::Read)?;
+    let word = refer(taken, regs, pages, fork, address.e, Kind::Read)?;
     let mut after = *regs;
     let told = commit_load(&mut after, ac, pointer, word);
     finish(
@@ -67,6 +67,7 @@ fn deposit_byte<P: Pages>(
     requires serves { Serves P.means pages.now fork }
     requires ac { ac < 16 }
     requires pc { regs.now.pc < 2 ^ 18 }
+    requires fetched { HasSpare 1 taken.old }
     requires is_open { IsOpen fork taken.old }
     requires kept { IsPutBelow (2 ^ 18) taken.old.kept }
     ensures leaves { LeavesEnd P.means fork taken.old taken.new result }
@@ -75,10 +76,10 @@ fn deposit_byte<P: Pages>(
         → Ends fork (framed P.means pages.now d) regs.now.ac taken.old taken.new (deposits_byte regs.now ac pointer) result }
 {
     let address = address_of(taken, regs, pages, fork, pointer)?;
-    let word = refer(taken, regs, pages, fork, address.at, Kind::Read)?;
+    let word = refer(taken, regs, pages, fork, address.e, Kind::Read)?;
     let mut after = *regs;
-    let told = commit_deposit(&mut after, ac, pointer, address.at, word);
-    let to = Destination::Back(address.at);
+    let told = commit_deposit(&mut after, ac, pointer, address.e, word);
+    let to = Destination::Back(address.e);
     finish(taken, regs, pages, fork, after, ac, to, told)
 }
 
@@ -106,6 +107,7 @@ pub fn byte_instruction<P: Pages>(
     requires ac { ac < 16 }
     requires e { IsAddress e }
     requires pc { regs.now.pc < 2 ^ 18 }
+    requires fetched { HasSpare 1 taken.old }
     requires is_open { IsOpen fork taken.old }
     requires kept { IsPutBelow (2 ^ 18) taken.old.kept }
     ensures leaves { LeavesEnd P.means fork taken.old taken.new result }

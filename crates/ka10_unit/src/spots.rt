@@ -8,8 +8,7 @@ ghost use Rattle.page_contracts.specs.Pages.{HasSpace, CanChange};
 ghost use Rattle.ka10_unit.specs.Glide.{Takes, is_ready, word_of};
 ghost use Rattle.ka10_unit.specs.Spots.{IsReached, IsSpot, StoredIf};
 
-use machine_names::{ACCUMULATORS, Kind};
-use outside::PAGE_WORDS;
+use machine_names::{ACCUMULATORS, Kind, PAGE_ADDRESSES};
 use page_contracts::{Found, Pages, SpaceHandle};
 use plain_units::Regs;
 use word36::Word;
@@ -29,7 +28,7 @@ pub fn page_of(at: u32) -> u16
     ensures page { result ≡ at / PAGE_WORDS }
     ensures below { result < 512 }
 {
-    (at / PAGE_WORDS as u32) as u16
+    (at / PAGE_ADDRESSES) as u16
 }
 
 /// The word at an address, where a reference to it goes through as the pages are.

@@ -1,5 +1,5 @@
 // What a unit has taken so far.
-ghost use Rattle.std.specs.Prelude.{◌≡◌, ◌≢◌, ◌+◌, ◌-◌, ◌/◌, ◌%◌, ◌≤◌, ◌<◌, ◌^◌, ◌==◌, ◌&&◌, List, [], ◌∷◌, ◌++◌, ℕ, length, true, false, None, Some, Option, nat_lt, OnErr, IfErr, slice_index, slice_set, is_some};
+ghost use Rattle.std.specs.Prelude.{◌≡◌, ◌≢◌, ◌+◌, ◌-◌, ◌/◌, ◌%◌, ◌≤◌, ◌<◌, ◌^◌, ◌==◌, ◌&&◌, List, [], ◌∷◌, ◌++◌, ℕ, length, true, false, None, Some, Option, nat_lt, OnErr, IfErr, IfOk, slice_index, slice_set, is_some};
 ghost use Rattle.std.specs.Option.{option_map_or};
 ghost use Rattle.outside.specs.declared.TheConstants.{PAGE_WORDS};
 ghost use Rattle.machine_names.specs.declared.names.TheConstants.{ACCUMULATORS, TERMINALS};
@@ -11,20 +11,16 @@ ghost use Rattle.plain_pages.specs.References.{in_map, page_at, slot_at, word_at
 ghost use Rattle.plain_pages.specs.Room.{same_page};
 ghost use Rattle.plain_units.specs.Steps.{denied_channel, is_accumulator, refers, widens, word_taken, seen};
 ghost use Rattle.machine_names.specs.declared.names.PageName.{PageName as APageName};
-ghost use Rattle.page_gather.specs.Gathering.{AreSound, Gathers, IsNear, left_of};
+ghost use Rattle.page_gather.specs.Gathering.{AreSound, Gathers, IsNear, left_of, most_made};
 ghost use Rattle.ka10_unit.specs.Gathers.{IsOf, Serves, framed};
-ghost use Rattle.ka10_unit.specs.Taking.{AsksAt, CanPut, CanWrite, Follows, HasPage, IsOpen, IsPutBelow, IsTrap, Stands, StaysOpen, StopNeeds, most_frames, progress, so_far, stands_at, widened_by};
+ghost use Rattle.ka10_unit.specs.Taking.{AsksAt, CanPut, CanWrite, Follows, HasPage, HasSpare, IsOpen, IsPutBelow, IsTrap, Spares, Stands, StaysOpen, StopNeeds, most_frames, progress, so_far, spared, stands_at, widened_by};
 
 use arrayvec::ArrayVec;
-use machine_names::{ACCUMULATORS, ForkName, Kind, Place, Slot, Tty};
-use outside::PAGE_WORDS;
+use machine_names::{ACCUMULATORS, ForkName, Kind, PAGE_ADDRESSES, Place, Slot, Tty};
 use page_contracts::{Need, Pages};
 use page_gather::{Added, Gather};
 use plain_units::{MOST_REFERENCES, Put, Reference, Regs, channel};
 use word36::Word;
-
-// How many words a page has, as addresses count them.
-const WORDS: u32 = PAGE_WORDS as u32;
 
 /// Why a unit stops before its end.
 #[derive(Clone, Copy)]
@@ -98,7 +94,7 @@ pub fn page_of_address(fork: ForkName, at: u32) -> Place
 {
     Place::Fork(Slot {
         fork,
-        page: (at / WORDS) as u16,
+        page: (at / PAGE_ADDRESSES) as u16,
     })
 }
 
@@ -118,8 +114,8 @@ fn ask<P: Pages>(
     ensures room { length gather.new.references ≤ length gather.old.references + 1 }
     ensures stopped { OnErr result (gather.new ≡ gather.old) }
     ensures core { P.means.flat ≡ true → IfErr result IsTrap }
-    ensures made { gather.new.homes ≤ gather.old.homes + 2 }
-    ensures needs { IfErr result (StopNeeds P.means.store (gather.old.homes + 2) pages.now) }
+    ensures made { gather.new.homes ≤ gather.old.homes + most_made kind }
+    ensures needs { IfErr result (StopNeeds P.means.store (gather.old.homes + most_made kind) pages.now) }
     ensures told { (d : DrumWords) → P.means.fits pages.now d → Gathers (P.means.plain pages.now d) (P.means.scene pages.now) gather.old
         → AsksAt fork (framed P.means pages.now d) gather.old gather.new at kind result }
 {
@@ -142,7 +138,11 @@ fn held_word<P: Pages>(gather: &Gather, pages: &P, fork: ForkName, at: u32) -> W
         → IsNear (left_of (P.means.plain pages.now d) gather.now) (P.means.scene pages.now) (slot_at fork at)
         → result ≡ word_at_spot (left_of (P.means.plain pages.now d) gather.now) (in_map (slot_at fork at)) (at % PAGE_WORDS) }
 {
-    gather.word(pages, page_of_address(fork, at), (at % WORDS) as u16)
+    gather.word(
+        pages,
+        page_of_address(fork, at),
+        (at % PAGE_ADDRESSES) as u16,
+    )
 }
 
 /// Whether a word that the unit has stored at an address stands at another: at the same place of
@@ -155,10 +155,10 @@ fn is_stored_at<P: Pages>(gather: &Gather, pages: &P, fork: ForkName, stored: u3
         → IsNear (left_of (P.means.plain pages.now d) gather.now) (P.means.scene pages.now) (slot_at fork at) → IsNear (left_of (P.means.plain pages.now d) gather.now) (P.means.scene pages.now) (slot_at fork stored)
         → page_at (left_of (P.means.plain pages.now d) gather.now) (in_map (slot_at fork at)) ≡ Some n → result ≡ stands_at fork (left_of (P.means.plain pages.now d) gather.now) stored at n }
 {
-    if stored % WORDS != at % WORDS {
+    if stored % PAGE_ADDRESSES != at % PAGE_ADDRESSES {
         return false;
     }
-    if stored / WORDS == at / WORDS {
+    if stored / PAGE_ADDRESSES == at / PAGE_ADDRESSES {
         return true;
     }
     gather.same(
@@ -235,6 +235,7 @@ pub fn refer_next<P: Pages>(
     ensures is_open { IsOpen fork taken.new }
     ensures kept { taken.new.kept ≡ taken.old.kept }
     ensures count { length taken.new.refs.items ≤ length taken.old.refs.items + 1 }
+    ensures spare { IfOk result (λ w. Spares (spared kind) taken.old taken.new) }
     ensures told { (d : DrumWords) → P.means.fits pages.now d → Stands fork (framed P.means pages.now d) taken.old
         → Follows fork (framed P.means pages.now d) regs.now.ac taken.old taken.new (refers at kind) result }
     ensures writes { (d : DrumWords) → P.means.fits pages.now d → Stands fork (framed P.means pages.now d) taken.old → kind ≡ Kind.Write
@@ -270,6 +271,7 @@ pub fn refer<P: Pages>(
     requires kept { IsPutBelow (2 ^ 18) taken.old.kept }
     ensures is_open { IsOpen fork taken.new }
     ensures kept { taken.new.kept ≡ taken.old.kept }
+    ensures spare { IfOk result (λ w. Spares (spared kind) taken.old taken.new) }
     ensures core { P.means.flat ≡ true → IfErr result IsTrap }
     ensures needs { IfErr result (StopNeeds P.means.store most_frames pages.now) }
     ensures told { (d : DrumWords) → P.means.fits pages.now d → Stands fork (framed P.means pages.now d) taken.old
@@ -296,7 +298,8 @@ fn replace_last(refs: &mut ArrayVec<Reference, 16>, at: u32)
     }
 }
 
-/// Asks for the last reference again, to write.
+/// Asks for the last reference again, to write. It was made to read, behind the fetch, so that both
+/// together make four pages at most.
 pub fn widen<P: Pages>(
     taken: &mut Taken,
     regs: &Regs,
@@ -307,6 +310,7 @@ pub fn widen<P: Pages>(
     requires serves { Serves P.means pages.now fork }
     requires address { IsAddress at }
     requires is_open { IsOpen fork taken.old }
+    requires spare { HasSpare 2 taken.old }
     ensures own { IsOf fork taken.new.gather }
     ensures kept { taken.new.kept ≡ taken.old.kept }
     ensures core { P.means.flat ≡ true → IfErr result IsTrap }

@@ -1,4 +1,5 @@
 // The names of what the machine has, and its bounds.
+use outside::PAGE_WORDS;
 
 /// How many terminals there are. Terminals are numbered from 0.
 pub const TERMINALS: u8 = 16;
@@ -11,6 +12,9 @@ pub const LAST_SERIAL: u32 = 262143;
 
 /// How many pages a fork's space has.
 pub const SPACE_PAGES: usize = 512;
+
+/// How many addresses a page has: one for each of its words.
+pub const PAGE_ADDRESSES: u32 = PAGE_WORDS as u32;
 
 /// How many accumulators a fork has. Addresses below this are the accumulators.
 pub const ACCUMULATORS: u32 = 16;

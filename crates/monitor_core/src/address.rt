@@ -4,10 +4,7 @@ ghost use Rattle.outside.specs.declared.TheConstants.{PAGE_WORDS};
 ghost use Rattle.machine_names.specs.Bounds.{IsAddress};
 ghost use Rattle.plain_pages.specs.References.{slot_at as slot_of};
 
-use machine_names::{ForkName, SPACE_PAGES, Slot};
-
-/// How many words a page has.
-const WORDS: u32 = outside::PAGE_WORDS as u32;
+use machine_names::{ForkName, PAGE_ADDRESSES, SPACE_PAGES, Slot};
 
 /// The slot of an address.
 #[inline]
@@ -18,7 +15,7 @@ pub fn slot_at(fork: ForkName, address: u32) -> Slot
 {
     Slot {
         fork,
-        page: (address / WORDS) as u16,
+        page: (address / PAGE_ADDRESSES) as u16,
     }
 }
 
@@ -28,5 +25,5 @@ pub fn offset_in_page(address: u32) -> u16
     ensures offset { result ≡ address % PAGE_WORDS }
     ensures within { result < PAGE_WORDS }
 {
-    (address % WORDS) as u16
+    (address % PAGE_ADDRESSES) as u16
 }

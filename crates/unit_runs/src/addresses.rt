@@ -48,7 +48,7 @@ fn steps_of_addresses(rt: HostRuntime) {
         flags: Flags::CLEAR,
     };
     regs.ac[5] = Word::wrapped(0o000123000002);
-    for &(word, at, last, indirect) in &[
+    for &(word, e, last, indirect) in &[
         (0o200000001000, 0o1000, 0o200000001000, None),
         (0o200005001000, 0o1002, 0o000123000002, None),
         (0o200005777777, 0o000001, 0o000123000002, None),
@@ -59,7 +59,7 @@ fn steps_of_addresses(rt: HostRuntime) {
             rt.panic("no memory")
         };
         let last = Word::wrapped(last);
-        same_at(&rt, word, address, Some(Address { at, last }));
+        same_at(&rt, word, address, Some(Address { e, last }));
         same_at(&rt, word, first, indirect);
     }
 }

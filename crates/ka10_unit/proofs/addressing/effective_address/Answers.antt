@@ -6,4 +6,4 @@ use Rattle.ka10_unit.proofs.addressing.effective_address.Goals as goal
 pub returns-clause-told : goal.returns-clause-told
 returns-clause-told g c d f before fits is few =
     let direct : is_indirect c.args.word ≡ false = search rules in
-    directly f _ _ before _ c.args.word _ _ c.requires.some direct (ap (λ a. a.e) c.index-2.ensures.address) (ap (λ a. a.last) c.index-2.ensures.address)
+    directly f _ _ before _ c.args.word _ _ c.requires.some direct (ap (λ a. a.e) c.step_of-2.ensures.address) (ap (λ a. a.last) c.step_of-2.ensures.address)

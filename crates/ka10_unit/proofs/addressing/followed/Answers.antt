@@ -16,15 +16,15 @@ loop-words-preserved g c = λ d f fits is.
     let ind : is_indirect c.loop-words.word ≡ true = search rules in
     let taken = c.in-Some.ensures.told d f fits is in
     let so_far = c.loop-words.invariant d f fits is in (
-      λ before few. leads_on f _ _ before _ c.loop-words.word c.loop-words.words c.index.result.e _ (omega arith) ind (ap (λ a. a.e) c.index.ensures.address) taken (so_far.0 before few),
-      λ led. led_on g.P.Pages.means _ f _ _ _ c.loop-words.words c.loop-words.word _ c.index.result c.loop-words-test.true ind c.index.ensures.address taken (so_far.1 led),
+      λ before few. leads_on f _ _ before _ c.loop-words.word c.loop-words.words c.step_of.result.e _ (omega arith) ind (ap (λ a. a.e) c.step_of.ensures.address) taken (so_far.0 before few),
+      λ led. led_on g.P.Pages.means _ f _ _ _ c.loop-words.words c.loop-words.word _ c.step_of.result c.loop-words-test.true ind c.step_of.ensures.address taken (so_far.1 led),
     )
 
 pub returns-in-None-clause-led : goal.returns-in-None-clause-led
 returns-in-None-clause-led g c d f fits is led =
     let ind : is_indirect c.loop-words.word ≡ true = search rules in
     let here = (c.loop-words.invariant d f fits is).1 led in
-    let some : IsSome c.take.result = c.take.ensures.reached f is (led_reached g.P.Pages.means _ f _ _ _ c.loop-words.words c.loop-words.word c.index.result c.loop-words-test.true ind c.index.ensures.address here) in
+    let some : IsSome c.take.result = c.take.ensures.reached f is (led_reached g.P.Pages.means _ f _ _ _ c.loop-words.words c.loop-words.word c.step_of.result c.loop-words-test.true ind c.step_of.ensures.address here) in
     subst IsSome c.in-None.is some
 
 pub returns-clause-led : goal.returns-clause-led

@@ -4,8 +4,6 @@ use Rattle.plain_pages.specs.References.{slot_at}
 use Rattle.plain_units.specs.Steps.{is_accumulator}
 use Rattle.ka10_unit.specs.Gathers.{framed}
 use Rattle.ka10_unit.proofs.Adding.{asks_went, asks_need, asks_denied, asks_full}
-use Rattle.page_contracts.proofs.Losing.{needed_more}
-use Rattle.ka10_unit.proofs.Lost.{few_made}
 use Rattle.ka10_unit.proofs.taken.ask.Goals as goal
 
 pub returns-in-Went-clause-told : goal.returns-in-Went-clause-told
@@ -30,18 +28,3 @@ returns-in-Full-clause-told g c d fits gathers =
     let high : is_accumulator c.args.at ≡ false = grind (arith, nat_tests) in
     asks_full c.args.fork (inl c.requires.serves.terminal) (framed g.P.Pages.means c.args.pages.now d) _ _ c.requires.own.owner c.args.at c.args.kind high gathers _ (c.in-Full.ensures.told d fits gathers (slot_at c.args.fork c.args.at) c.page_of_address.ensures)
     (c.in-Full.ensures.stopped (λ no. cc no)) refl
-
-pub returns-in-Went-clause-made : goal.returns-in-Went-clause-made
-returns-in-Went-clause-made g c = omega (arith, c.in-Went.ensures.made, few_made c.args.kind)
-
-pub returns-in-Need-clause-made : goal.returns-in-Need-clause-made
-returns-in-Need-clause-made g c = omega (arith, c.in-Need.ensures.made, few_made c.args.kind)
-
-pub returns-in-Denied-clause-made : goal.returns-in-Denied-clause-made
-returns-in-Denied-clause-made g c = omega (arith, c.in-Denied.ensures.made, few_made c.args.kind)
-
-pub returns-in-Full-clause-made : goal.returns-in-Full-clause-made
-returns-in-Full-clause-made g c = omega (arith, c.in-Full.ensures.made, few_made c.args.kind)
-
-pub returns-in-Need-clause-needs : goal.returns-in-Need-clause-needs
-returns-in-Need-clause-needs g c = needed_more g.P.Pages.means.store _ _ c.args.pages.now c.in-Need.need (let few = few_made c.args.kind in omega (arith, few)) c.in-Need.ensures.needs

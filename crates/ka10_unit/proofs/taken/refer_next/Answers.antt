@@ -1,6 +1,6 @@
-use Rattle.std.proofs.Common.{refl, arith}
+use Rattle.std.proofs.Common.{◌≡◌, ◌+◌, length, refl, ap, ◌∙◌, arith, length-append}
 use Rattle.ka10_unit.proofs.Referring.{refer_stops, refer_goes, stands_still}
-use Rattle.ka10_unit.proofs.Lost.{stop_more}
+use Rattle.ka10_unit.proofs.Lost.{few_made, stop_more}
 use Rattle.ka10_unit.proofs.taken.refer_next.Goals as goal
 
 pub returns-in-Err-clause-told : goal.returns-in-Err-clause-told
@@ -18,4 +18,10 @@ pub returns-in-Ok-clause-still : goal.returns-in-Ok-clause-still
 returns-in-Ok-clause-still g c d fits stands = (c.in-Ok.ensures.told d fits stands.gathers).still
 
 pub returns-in-Err-clause-needs : goal.returns-in-Err-clause-needs
-returns-in-Err-clause-needs g c = stop_more g.P.Pages.means.store c.args.pages.now _ _ c.in-Err.stop (omega (arith, c.requires.is_open.made, c.requires.is_open.references)) c.in-Err.ensures.needs
+returns-in-Err-clause-needs g c = stop_more g.P.Pages.means.store c.args.pages.now _ _ c.in-Err.stop (let few = few_made c.args.kind in omega (arith, few.1, c.requires.is_open.made, c.requires.room)) c.in-Err.ensures.needs
+
+pub returns-in-Ok-clause-spare : goal.returns-in-Ok-clause-spare
+returns-in-Ok-clause-spare g c =
+    let few = few_made c.args.kind in
+    let longer : length c.push.new.self.items ≡ length c.args.taken.now.refs.items + 1 = ap length c.push.ensures.items ∙ length-append c.args.taken.now.refs.items _ in
+    omega (arith, few.0, few.1, longer, c.in-Ok.ensures.made)
