@@ -17,7 +17,7 @@ use Rattle.page_contracts.specs.DrumWords.{DrumWords}
 use Rattle.page_contracts.specs.Pages.{PagesMeaning}
 use Rattle.plain_pages.specs.References.{in_map, slot_at, stored}
 use Rattle.plain_units.specs.Steps.{is_accumulator}
-use Rattle.plain_units.specs.Deeds.{Deed, before, behind_ac, deed_of, in_ac, moves_block}
+use Rattle.plain_units.specs.Deeds.{Deed, before, behind_ac, deed_of, in_ac, moves_block, operands}
 use Rattle.plain_units.specs.Instructions.{finishes, with_word}
 use Rattle.ka10_unit.specs.declared.committed.Committed.{Committed}
 use Rattle.ka10_unit.specs.declared.ending.Quick.{Quick}
@@ -63,10 +63,10 @@ module _ (f : ForkName) (p : NumberedPages) (n : ℕ) (less : n < MOST_REFERENCE
       let high : is_accumulator to ≡ false = is_high to h in
       rw (stores, few n less, ready, high, left.regs, left.post) refl
 
-module _ {P : Type 0} (means : PagesMeaning P) (space : SpaceHandle) (regs after end : Regs) (ac e m : ℕ) (told : Committed) (below : ac < 16) (left : Leaves (moves_block regs ac (in_ac regs ac) e m) ac regs after told) (q : Quick) (is_q : q ≡ ended told.post) (to : ℕ) (is_to : to ≡ right (in_ac regs ac))
+module _ {P : Type 0} (means : PagesMeaning P) (space : SpaceHandle) (regs after end : Regs) (ac e last m : ℕ) (told : Committed) (below : ac < 16) (left : Leaves (moves_block (operands regs ac e last m)) ac regs after told) (q : Quick) (is_q : q ≡ ended told.post) (to : ℕ) (is_to : to ≡ right (in_ac regs ac))
     (s t : P) (ready : (d : DrumWords) (f : ForkName) → means.fits s d → means.space s f ≡ Some space → is_ready f (means.plain s d) to Write ≡ true) where
   abbrev moved : Deed
-  moved = moves_block regs ac (in_ac regs ac) e m
+  moved = moves_block (operands regs ac e last m)
 
   ends : (to == ac) ≡ false → Stored means space to m s t after end → (d : DrumWords) (f : ForkName) → means.fits s d → means.space s f ≡ Some space → (to < ACCUMULATORS) ⊎ (ACCUMULATORS ≤ to)
       → Finish regs ac moved f (means.plain s d) (record { pages = means.plain t d; regs = end; post = channel_of told.post })
@@ -110,6 +110,6 @@ pub blt_row : IsOwnRow blt
 unfolding row_of row_among
 blt_row = refl
 
-pub blt_deed : (regs : Regs) (ac e last m : ℕ) → deed_in blt regs ac e last m ≡ moves_block regs ac (in_ac regs ac) e m
+pub blt_deed : (regs : Regs) (ac e last m : ℕ) → deed_in blt regs ac e last m ≡ moves_block (operands regs ac e last m)
 unfolding deed_of
 blt_deed regs ac e last m = refl

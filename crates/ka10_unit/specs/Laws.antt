@@ -3,41 +3,40 @@ use Rattle.std.specs.Prelude.{◌≡◌, ◌≢◌, ◌⊎◌, ℕ, zero, suc, �
 use Rattle.word36.specs.Words.{left, right, joined, is_negative}
 use Rattle.ka10_table.specs.declared.families.Family.TheVariants.{Exch, Blt, PushPop, Popj}
 use Rattle.ka10_table.specs.declared.families.OpMode.TheVariants.{Basic}
-use Rattle.plain_units.specs.declared.registers.Regs.{Regs}
 use Rattle.plain_units.specs.Addressing.{is_indirect, indexed}
-use Rattle.plain_units.specs.Deeds.{back, into, before, next_pc, pc_word, up, halves_up, exchanges, moves_block, calls_by_push, pushes_or_pops, returns_by_pop, calls_by_word, taken_by}
+use Rattle.plain_units.specs.Deeds.{Operands, back, into, before, next_pc, pc_word, up, halves_up, exchanges, moves_block, calls_by_push, pushes_or_pops, returns_by_pop, calls_by_word, taken_by}
 
 -- EXCH: the accumulator gets the word at E, which gets the accumulator's
-pub record ChangePlaces (regs : Regs) (ac a e m : ℕ) : Type 0 where
-  pub taken : taken_by Exch Basic 0 a e ≡ Some e
-  pub accumulator : (exchanges regs a e m).ac ≡ Some m
-  pub memory : (exchanges regs a e m).store ≡ back e a
+pub record ChangePlaces (o : Operands) : Type 0 where
+  pub taken : taken_by Exch Basic 0 o.a o.e ≡ Some o.e
+  pub accumulator : (exchanges o).ac ≡ Some o.m
+  pub memory : (exchanges o).store ≡ back o.e o.a
 
 -- POP behind PUSH: it takes the word from where PUSH stored it, and leaves the list pointer as it was
-pub record ComesBack (pushed popped : Regs) (a e m to : ℕ) : Type 0 where
+pub record ComesBack (pushed popped : Operands) : Type 0 where
   pub pointer : ℕ
-  pub grows : (pushes_or_pops 0 pushed a e m).ac ≡ Some pointer
-  pub stores : (pushes_or_pops 0 pushed a e m).store ≡ into (right pointer) m
-  pub takes : taken_by PushPop Basic 1 pointer to ≡ Some (right pointer)
-  pub shrinks : (pushes_or_pops 1 popped pointer to m).ac ≡ Some a
-  pub gives : (pushes_or_pops 1 popped pointer to m).store ≡ into to m
+  pub grows : (pushes_or_pops 0 pushed).ac ≡ Some pointer
+  pub stores : (pushes_or_pops 0 pushed).store ≡ into (right pointer) pushed.m
+  pub takes : taken_by PushPop Basic 1 pointer popped.e ≡ Some (right pointer)
+  pub shrinks : (pushes_or_pops 1 (record popped { a = pointer; m = pushed.m })).ac ≡ Some pushed.a
+  pub gives : (pushes_or_pops 1 (record popped { a = pointer; m = pushed.m })).store ≡ into popped.e pushed.m
 
 -- POPJ behind PUSHJ: it goes on behind the PUSHJ, and leaves the list pointer as it was
-pub record ReturnsByPop (calling returning : Regs) (a e : ℕ) : Type 0 where
+pub record ReturnsByPop (calling returning : Operands) : Type 0 where
   pub pointer : ℕ
-  pub goes : (calls_by_push calling a e).pc ≡ e
-  pub grows : (calls_by_push calling a e).ac ≡ Some pointer
-  pub stores : (calls_by_push calling a e).store ≡ into (right pointer) (pc_word calling)
-  pub takes : taken_by Popj Basic 0 pointer e ≡ Some (right pointer)
-  pub comes : (returns_by_pop returning pointer (pc_word calling)).pc ≡ next_pc calling
-  pub shrinks : (returns_by_pop returning pointer (pc_word calling)).ac ≡ Some a
+  pub goes : (calls_by_push calling).pc ≡ calling.e
+  pub grows : (calls_by_push calling).ac ≡ Some pointer
+  pub stores : (calls_by_push calling).store ≡ into (right pointer) (pc_word calling.regs)
+  pub takes : taken_by Popj Basic 0 pointer returning.e ≡ Some (right pointer)
+  pub comes : (returns_by_pop (record returning { a = pointer; m = pc_word calling.regs })).pc ≡ next_pc calling.regs
+  pub shrinks : (returns_by_pop (record returning { a = pointer; m = pc_word calling.regs })).ac ≡ Some calling.a
 
 -- the word that JSR stores at E is neither indirect nor indexed, and an indirect jump through it goes on behind the JSR
-pub record ReturnsByWord (calling : Regs) (ac : List ℕ) (e : ℕ) : Type 0 where
-  pub goes : (calls_by_word 0 calling e).pc ≡ (e + 1) % 2 ^ 18
-  pub stores : (calls_by_word 0 calling e).store ≡ into e (pc_word calling)
-  pub direct : is_indirect (pc_word calling) ≡ false
-  pub comes : indexed ac (pc_word calling) ≡ next_pc calling
+pub record ReturnsByWord (calling : Operands) (ac : List ℕ) : Type 0 where
+  pub goes : (calls_by_word 0 calling).pc ≡ (calling.e + 1) % 2 ^ 18
+  pub stores : (calls_by_word 0 calling).store ≡ into calling.e (pc_word calling.regs)
+  pub direct : is_indirect (pc_word calling.regs) ≡ false
+  pub comes : indexed ac (pc_word calling.regs) ≡ next_pc calling.regs
 
 -- a word to both halves of which 1 was added so many times
 unfoldable pub ups : ℕ → ℕ → ℕ
@@ -69,12 +68,12 @@ moved zero t = t
 moved (suc n) t = moved_one (moved n t)
 
 -- a unit of BLT is one of these: it takes, stores and counts so, and is done again while it stores below E
-pub record MovesOne (regs : Regs) (ac a e m : ℕ) : Type 0 where
-  pub takes : taken_by Blt Basic 0 a e ≡ Some (left a)
-  pub stores : (moves_block regs ac a e m).store ≡ before (right a) m
-  pub counts : right a ≢ ac → (moves_block regs ac a e m).ac ≡ Some (halves_up a)
-  pub again : right a < e → (moves_block regs ac a e m).pc ≡ regs.pc
-  pub over : e ≤ right a → (moves_block regs ac a e m).pc ≡ next_pc regs
+pub record MovesOne (o : Operands) : Type 0 where
+  pub takes : taken_by Blt Basic 0 o.a o.e ≡ Some (left o.a)
+  pub stores : (moves_block o).store ≡ before (right o.a) o.m
+  pub counts : right o.a ≢ o.ac → (moves_block o).ac ≡ Some (halves_up o.a)
+  pub again : right o.a < o.e → (moves_block o).pc ≡ o.regs.pc
+  pub over : o.e ≤ right o.a → (moves_block o).pc ≡ next_pc o.regs
 
 -- so many units of it copy as many words, where no word copied is one of those stored before
 pub record CopiesBlock (n from to : ℕ) (words : ℕ → ℕ) : Type 0 where

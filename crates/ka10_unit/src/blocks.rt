@@ -1,15 +1,16 @@
 // Block transfers in place, a word a unit.
 ghost use Rattle.std.specs.Prelude.{◌≡◌, ◌<◌, ◌^◌, ◌==◌, Some, None, if◌then◌else◌};
 ghost use Rattle.word36.specs.Words.{right};
-ghost use Rattle.plain_units.specs.Deeds.{in_ac, moves_block};
+ghost use Rattle.plain_units.specs.Deeds.{in_ac, moves_block, operands};
 ghost use Rattle.page_contracts.specs.Pages.{HasSpace};
 ghost use Rattle.ka10_unit.specs.InPlace.{Addressee, Finish, InPlace};
 
 use crate::ending::{Quick, ended};
 use crate::instruction::Instruction;
+use crate::instructions::Commit;
 use crate::registers::word_in;
 use crate::spots::{spot_to_write, store, take};
-use crate::words::commit_blt;
+use crate::words::Blt;
 use machine_names::Kind;
 use page_contracts::{Pages, SpaceHandle};
 use plain_units::Regs;
@@ -36,12 +37,12 @@ fn store_word<P: Pages>(
     requires space { HasSpace P.means pages.old space }
     requires to { to ≡ right (in_ac regs.old it.ac) }
     requires pc { regs.old.pc < 2 ^ 18 }
-    ensures { InPlace P.means space (Finish regs.old it.ac (moves_block regs.old it.ac (in_ac regs.old it.ac) it.e m)) pages.old pages.new regs.old regs.new result }
+    ensures { InPlace P.means space (Finish regs.old it.ac (moves_block (operands regs.old it.ac it.e it.last m))) pages.old pages.new regs.old regs.new result }
 {
     match spot_to_write(pages, space, to) {
         None => Quick::Slow,
         Some(spot) => {
-            let told = commit_blt(regs, it.ac, it.e, m);
+            let told = Blt.commit(regs, it.ac, it.e, it.last, m);
             store(regs, pages, space, spot, to, unless_counted(to, it.ac, m));
             ended(told.post)
         }

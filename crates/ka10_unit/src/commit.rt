@@ -4,15 +4,14 @@ ghost use Rattle.ka10_table.specs.Rows.{IsInLine};
 ghost use Rattle.ka10_unit.specs.Commits.{Commits};
 
 use crate::committed::Committed;
-use crate::conditions::{commit_compare, commit_count, commit_jump_or_skip};
-use crate::jumps::{
-    commit_aobj, commit_jfcl, commit_jffo, commit_jrst, commit_jsa_or_jra, commit_jsr_or_jsp,
-};
-use crate::moves::commit_move;
-use crate::operations::{commit_operation, commit_shift};
+use crate::conditions::{AddOne, Compare, JumpSkip, SubOne};
+use crate::instructions::Commit;
+use crate::jumps::{Aobj, Jfcl, Jffo, Jrst, JsaJra, JsrJsp};
+use crate::moves::Move;
+use crate::operations::{Operation, Shift};
 use crate::registers::next;
-use crate::stacks::{commit_popj, commit_push_or_pop, commit_pushj};
-use crate::words::{commit_blt, commit_boolean, commit_exch, commit_half, commit_test};
+use crate::stacks::{Popj, PushPop, Pushj};
+use crate::words::{Blt, Boolean, Exch, Half, Test};
 use ka10_table::{Family, TableRow};
 use plain_units::Regs;
 use word36::Word;
@@ -36,30 +35,31 @@ pub fn commit_row(
     requires e { e < 2 ^ 18 }
     ensures { Commits row op ac e last m regs.old regs.new result }
 {
+    let code = row.code;
     match row.family {
-        Family::Move => commit_move(row.mode, op, regs, ac, e, m),
+        Family::Move => Move { op, row }.commit(regs, ac, e, last, m),
         Family::Imul | Family::Mul | Family::Idiv | Family::Div | Family::AddSub => {
-            commit_operation(row.mode, op, regs, ac, e, m)
+            Operation { op, row }.commit(regs, ac, e, last, m)
         }
-        Family::Shift | Family::DoubleShift => commit_shift(op, regs, ac, e),
-        Family::Jffo => commit_jffo(regs, ac, e),
-        Family::Exch => commit_exch(regs, ac, e, m),
-        Family::Blt => commit_blt(regs, ac, e, m),
-        Family::Aobj => commit_aobj(row.code, regs, ac, e),
-        Family::Jrst => commit_jrst(regs, ac, e, last),
-        Family::Jfcl => commit_jfcl(regs, ac, e),
-        Family::Pushj => commit_pushj(regs, ac, e),
-        Family::PushPop => commit_push_or_pop(row.code, regs, ac, e, m),
-        Family::Popj => commit_popj(regs, ac, m),
-        Family::JsrJsp => commit_jsr_or_jsp(row.code, regs, ac, e),
-        Family::JsaJra => commit_jsa_or_jra(row.code, regs, ac, e, m),
-        Family::Compare => commit_compare(row.code, regs, ac, m),
-        Family::JumpSkip => commit_jump_or_skip(row.code, regs, ac, e, m),
-        Family::AddOne => commit_count(Word::wrapped(1), row.code, regs, ac, e, m),
-        Family::SubOne => commit_count(Word::wrapped(Word::MASK), row.code, regs, ac, e, m),
-        Family::Boolean => commit_boolean(row.mode, op, regs, ac, e, m),
-        Family::Half => commit_half(row.mode, op, regs, ac, e, m),
-        Family::Test => commit_test(op, regs, ac, m),
+        Family::Shift | Family::DoubleShift => Shift { op, row }.commit(regs, ac, e, last, m),
+        Family::Jffo => Jffo.commit(regs, ac, e, last, m),
+        Family::Exch => Exch.commit(regs, ac, e, last, m),
+        Family::Blt => Blt.commit(regs, ac, e, last, m),
+        Family::Aobj => Aobj { code }.commit(regs, ac, e, last, m),
+        Family::Jrst => Jrst.commit(regs, ac, e, last, m),
+        Family::Jfcl => Jfcl.commit(regs, ac, e, last, m),
+        Family::Pushj => Pushj.commit(regs, ac, e, last, m),
+        Family::PushPop => PushPop { code }.commit(regs, ac, e, last, m),
+        Family::Popj => Popj.commit(regs, ac, e, last, m),
+        Family::JsrJsp => JsrJsp { code }.commit(regs, ac, e, last, m),
+        Family::JsaJra => JsaJra { code }.commit(regs, ac, e, last, m),
+        Family::Compare => Compare { code }.commit(regs, ac, e, last, m),
+        Family::JumpSkip => JumpSkip { code }.commit(regs, ac, e, last, m),
+        Family::AddOne => AddOne { code }.commit(regs, ac, e, last, m),
+        Family::SubOne => SubOne { code }.commit(regs, ac, e, last, m),
+        Family::Boolean => Boolean { op, row }.commit(regs, ac, e, last, m),
+        Family::Half => Half { op, row }.commit(regs, ac, e, last, m),
+        Family::Test => Test { op, row }.commit(regs, ac, e, last, m),
         Family::Illegal | Family::Local | Family::Monitor | Family::ByteOp | Family::Xct => {
             regs.pc = next(regs);
             Committed::NOTHING

@@ -1,55 +1,71 @@
 // Jumps and skips on conditions.
-ghost use Rattle.std.specs.Prelude.{◌≡◌, ◌^◌, ◌<◌};
-ghost use Rattle.word36.specs.Arithmetic.{added};
-ghost use Rattle.plain_units.specs.Deeds.{compares, counted_word, in_ac, jumps_or_skips, steps_by};
+ghost use Rattle.std.specs.Prelude.{◌+◌, ◌^◌, ◌<◌};
+ghost use Rattle.ka10_table.specs.declared.families.Family.TheVariants as family;
+ghost use Rattle.ka10_table.specs.declared.families.OpMode.TheVariants.{Basic};
+ghost use Rattle.plain_units.specs.Deeds.{counts, in_ac};
+ghost use Rattle.ka10_unit.specs.Acts.{one};
 ghost use Rattle.ka10_unit.specs.Commits.{Leaves};
 
 use crate::committed::{Committed, Post};
+use crate::instructions::Commit;
 use crate::registers::{give_own, jump_if, set, skip_if, word_in};
 use ka10_alu::{add, holds};
 use plain_units::Regs;
 use word36::Word;
 
 /// CAI and CAM (300 to 317), codes 0 to 7 and 10 to 17: AC is compared with the operand.
-#[inline(always)]
-pub fn commit_compare(code: u8, regs: &mut Regs, ac: u8, m: Word) -> Committed
-    requires pc { regs.old.pc < 2 ^ 18 }
-    requires ac { ac < 16 }
-    ensures { Leaves (compares code regs.old (in_ac regs.old ac) m) ac regs.old regs.new result }
-{
-    let difference = word_in(regs, ac).signed() - m.signed();
-    regs.pc = skip_if(holds(code % 8, difference), regs);
-    Committed::NOTHING
+#[derive(Clone, Copy)]
+pub struct Compare {
+    pub code: u8,
 }
 
-/// JUMP and SKIP (320 to 337), codes 0 to 7 and 10 to 17.
-#[inline(always)]
-pub fn commit_jump_or_skip(code: u8, regs: &mut Regs, ac: u8, e: u32, m: Word) -> Committed
-    requires code { code < 16 }
-    requires pc { regs.old.pc < 2 ^ 18 }
-    requires ac { ac < 16 }
-    requires e { e < 2 ^ 18 }
-    ensures { Leaves (jumps_or_skips code regs.old ac (in_ac regs.old ac) e m) ac regs.old regs.new result }
-{
-    if code < 8 {
-        regs.pc = jump_if(holds(code, word_in(regs, ac).signed()), regs, e);
-        Committed::NOTHING
-    } else {
-        regs.pc = skip_if(holds(code - 8, m.signed()), regs);
-        give_own(regs, ac, m);
+impl Commit for Compare {
+    ghost instruction = { λ i. one (0o300 + i.code) family.Compare Basic i.code };
+
+    ghost is_valid = { λ i. Unit {0} };
+
+    #[inline(always)]
+    #[tactic(auto, unfolding(plain_units::specs::Deeds::deed_of))]
+    fn commit(self, regs: &mut Regs, ac: u8, e: u32, last: Word, m: Word) -> Committed {
+        let difference = word_in(regs, ac).signed() - m.signed();
+        regs.pc = skip_if(holds(self.code % 8, difference), regs);
         Committed::NOTHING
     }
 }
 
-/// AOJ and AOS (340 to 357) with 1, SOJ and SOS (360 to 377) with 777777777777, codes 0 to 7 and
-/// 10 to 17: that word is added to AC or to the operand, with the flags of ADD.
+/// JUMP and SKIP (320 to 337), codes 0 to 7 and 10 to 17.
+#[derive(Clone, Copy)]
+pub struct JumpSkip {
+    pub code: u8,
+}
+
+impl Commit for JumpSkip {
+    ghost instruction = { λ i. one (0o320 + i.code) family.JumpSkip Basic i.code };
+
+    ghost is_valid = { λ i. i.code < 16 };
+
+    #[inline(always)]
+    #[tactic(auto, unfolding(plain_units::specs::Deeds::deed_of))]
+    fn commit(self, regs: &mut Regs, ac: u8, e: u32, last: Word, m: Word) -> Committed {
+        if self.code < 8 {
+            regs.pc = jump_if(holds(self.code, word_in(regs, ac).signed()), regs, e);
+            Committed::NOTHING
+        } else {
+            regs.pc = skip_if(holds(self.code - 8, m.signed()), regs);
+            give_own(regs, ac, m);
+            Committed::NOTHING
+        }
+    }
+}
+
+/// A word is added to AC or to the operand, with the flags of ADD.
 #[inline(always)]
-pub fn commit_count(by: Word, code: u8, regs: &mut Regs, ac: u8, e: u32, m: Word) -> Committed
+fn commit_count(by: Word, code: u8, regs: &mut Regs, ac: u8, e: u32, m: Word) -> Committed
     requires code { code < 16 }
     requires pc { regs.old.pc < 2 ^ 18 }
     requires ac { ac < 16 }
     requires e { e < 2 ^ 18 }
-    ensures { Leaves (steps_by (added (counted_word code (in_ac regs.old ac) m) by) code regs.old ac e) ac regs.old regs.new result }
+    ensures { Leaves (counts by code regs.old ac (in_ac regs.old ac) e m) ac regs.old regs.new result }
 {
     if code < 8 {
         let out = add(word_in(regs, ac), by);
@@ -69,5 +85,41 @@ pub fn commit_count(by: Word, code: u8, regs: &mut Regs, ac: u8, e: u32, m: Word
             stored: Some(out.word),
             post: Post::overflow(out.flags.overflow),
         }
+    }
+}
+
+/// AOJ and AOS (340 to 357), codes 0 to 7 and 10 to 17: 1 is added.
+#[derive(Clone, Copy)]
+pub struct AddOne {
+    pub code: u8,
+}
+
+impl Commit for AddOne {
+    ghost instruction = { λ i. one (0o340 + i.code) family.AddOne Basic i.code };
+
+    ghost is_valid = { λ i. i.code < 16 };
+
+    #[inline(always)]
+    #[tactic(auto, unfolding(plain_units::specs::Deeds::deed_of))]
+    fn commit(self, regs: &mut Regs, ac: u8, e: u32, last: Word, m: Word) -> Committed {
+        commit_count(Word::wrapped(1), self.code, regs, ac, e, m)
+    }
+}
+
+/// SOJ and SOS (360 to 377), codes 0 to 7 and 10 to 17: 777777777777 is added.
+#[derive(Clone, Copy)]
+pub struct SubOne {
+    pub code: u8,
+}
+
+impl Commit for SubOne {
+    ghost instruction = { λ i. one (0o360 + i.code) family.SubOne Basic i.code };
+
+    ghost is_valid = { λ i. i.code < 16 };
+
+    #[inline(always)]
+    #[tactic(auto, unfolding(plain_units::specs::Deeds::deed_of))]
+    fn commit(self, regs: &mut Regs, ac: u8, e: u32, last: Word, m: Word) -> Committed {
+        commit_count(Word::wrapped(Word::MASK), self.code, regs, ac, e, m)
     }
 }

@@ -7,16 +7,17 @@ ghost use Rattle.ka10_unit.specs.InPlace.{Addressee, InPlace};
 use crate::acts::{Act, act_at};
 use crate::blocks::move_word;
 use crate::byte_units::byte;
+use crate::conditions::{AddOne, Compare, JumpSkip, SubOne};
 use crate::ending::Quick;
 use crate::instruction::Instruction;
-use crate::instructions::{
-    AddOne, Aobj, Boolean, Compare, Exch, Half, Jfcl, Jffo, Jrst, JsaJra, JsrJsp, JumpSkip, Move,
-    Operation, Popj, PushPop, Pushj, Shift, SubOne, Test,
-};
+use crate::jumps::{Aobj, Jfcl, Jffo, Jrst, JsaJra, JsrJsp};
+use crate::moves::Move;
+use crate::operations::{Operation, Shift};
 use crate::registers::word_in;
-use crate::stacks::pushed;
+use crate::stacks::{Popj, PushPop, Pushj, pushed};
 use crate::ways::{bare, read, replace, transfer, write};
 use crate::word_fields::is_executive;
+use crate::words::{Boolean, Exch, Half, Test};
 use ka10_table::{Family, OpMode, TableRow, row};
 use page_contracts::{Pages, SpaceHandle};
 use plain_units::Regs;

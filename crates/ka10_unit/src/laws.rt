@@ -7,27 +7,27 @@ ghost use Rattle.machine_names.specs.declared.names.ForkName.{ForkName as AForkN
 ghost use Rattle.plain_units.specs.Steps.{Progress, Steps, plainly, run};
 ghost use Rattle.ka10_unit.specs.Gathers.{Framed};
 ghost use Rattle.ka10_unit.specs.Taking.{IsPlain, NeedsAway, run_over};
-ghost use Rattle.plain_units.specs.declared.registers.Regs.{Regs as ARegs};
+ghost use Rattle.plain_units.specs.Deeds.{Operands};
 ghost use Rattle.ka10_unit.specs.Laws.{ChangePlaces, ComesBack, CopiesBlock, GoesOver, MovesOne, ReturnsByPop, ReturnsByWord};
 
 /// EXCH: the accumulator and the word at E change places.
 pub fn exchanged_words_change_places()
-    ensures { (regs : ARegs) (ac a e m : ℕ) → ChangePlaces regs ac a e m }
+    ensures { (o : Operands) → ChangePlaces o }
 {}
 
 /// What PUSH put onto a list POP takes from there, and the list's pointer is as it was.
 pub fn pushed_words_come_back()
-    ensures { (pushed popped : ARegs) (a e m to : ℕ) → IsWord a → ComesBack pushed popped a e m to }
+    ensures { (pushed popped : Operands) → IsWord pushed.a → ComesBack pushed popped }
 {}
 
 /// POPJ goes on behind the PUSHJ by which it was reached, and the list's pointer is as it was.
 pub fn pushed_calls_return()
-    ensures { (calling returning : ARegs) (a e : ℕ) → IsWord a → ReturnsByPop calling returning a e }
+    ensures { (calling returning : Operands) → IsWord calling.a → ReturnsByPop calling returning }
 {}
 
 /// A jump through the word that JSR stored goes on behind the JSR.
 pub fn stored_calls_return()
-    ensures { (calling : ARegs) (ac : List ℕ) (e : ℕ) → ReturnsByWord calling ac e }
+    ensures { (calling : Operands) (ac : List ℕ) → ReturnsByWord calling ac }
 {}
 
 /// AOBJN goes over the words of a vector, one after another, and ends behind the last.
@@ -37,7 +37,7 @@ pub fn vectors_are_gone_over()
 
 /// BLT moves one word a unit.
 pub fn blocks_move_by_words()
-    ensures { (regs : ARegs) (ac a e m : ℕ) → MovesOne regs ac a e m }
+    ensures { (o : Operands) → MovesOne o }
 {}
 
 /// As many units of BLT copy as many words, where source and destination do not overlap.

@@ -49,30 +49,25 @@ pub use bytes::{
 };
 pub use commit::commit_row;
 pub use committed::{Committed, Post};
-pub use conditions::{commit_compare, commit_count, commit_jump_or_skip};
+pub use conditions::{AddOne, Compare, JumpSkip, SubOne};
 pub use ending::{Burst, End, Quick};
 pub use ends::Ending;
 pub use fetch_page::FetchPage;
 pub use in_place::quick;
-pub use instructions::{
-    AddOne, Aobj, Blt, Boolean, Commit, Compare, Exch, Half, Jfcl, Jffo, Jrst, JsaJra, JsrJsp,
-    JumpSkip, Move, Operation, Popj, PushPop, Pushj, Shift, SubOne, Test,
-};
-pub use jumps::{
-    commit_aobj, commit_jfcl, commit_jffo, commit_jrst, commit_jsa_or_jra, commit_jsr_or_jsp,
-};
+pub use instructions::Commit;
+pub use jumps::{Aobj, Jfcl, Jffo, Jrst, JsaJra, JsrJsp};
 pub use laws::{
     blocks_are_copied, blocks_move_by_words, exchanged_words_change_places, pushed_calls_return,
     pushed_words_come_back, stored_calls_return, units_are_plain_or_wait, vectors_are_gone_over,
 };
-pub use moves::commit_move;
+pub use moves::Move;
 pub use operands::{Destination, destination_of, operand_address};
-pub use operations::{commit_operation, commit_shift};
+pub use operations::{Operation, Shift};
 pub use plans::{Planned, plan};
 pub use program_words::{flags_of, half_of_flags, pc_word};
 pub use slow::{Outcome, slow_unit};
-pub use stacks::{commit_popj, commit_push_or_pop, commit_pushj, pushed};
+pub use stacks::{Popj, PushPop, Pushj, pushed};
 pub use taken::{Stop, Taken};
 pub use word_blocks::{make_block, refer_block, store_block};
 pub use word_fields::Address;
-pub use words::{commit_blt, commit_boolean, commit_exch, commit_half, commit_test};
+pub use words::{Blt, Boolean, Exch, Half, Test};

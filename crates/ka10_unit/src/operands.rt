@@ -1,7 +1,7 @@
 // Which word an instruction takes, and where it stores one.
 ghost use Rattle.std.specs.Prelude.{◌≡◌, ℕ, ◌^◌, ◌<◌, IfSome, IsSome, Option};
 ghost use Rattle.word36.specs.Arithmetic.{Outcome};
-ghost use Rattle.plain_units.specs.Deeds.{by_mode, deed_of, moved_from, moves, moves_half, of_second_eight, operand_of, operated, taken_of};
+ghost use Rattle.plain_units.specs.Deeds.{by_mode, deed_of, moved_from, moves, moves_half, of_second_eight, operand_of, operands, operated, taken_of};
 ghost use Rattle.ka10_unit.specs.Commits.{LiesBelow, store_at, stored_word};
 ghost use Rattle.ka10_unit.specs.Planning.{GoesBack};
 
@@ -122,7 +122,7 @@ pub fn destination_of(row: TableRow, regs: &Regs, ac: u8, e: u32) -> Destination
 fn result_destination(mode: OpMode, e: u32) -> Destination
     ensures operations { (regs : Regs) (ac : ℕ) (given : Option Outcome) → store_at result (stored_word (operated mode regs ac e given).store) ≡ (operated mode regs ac e given).store }
     ensures booleans { (regs : Regs) (ac word : ℕ) → store_at result (stored_word (by_mode mode regs ac e word).store) ≡ (by_mode mode regs ac e word).store }
-    ensures halves { (op : ℕ) (regs : Regs) (ac a m : ℕ) → store_at result (stored_word (moves_half mode op regs ac a e m).store) ≡ (moves_half mode op regs ac a e m).store }
+    ensures halves { (op : ℕ) (regs : Regs) (ac last m : ℕ) → store_at result (stored_word (moves_half mode op (operands regs ac e last m)).store) ≡ (moves_half mode op (operands regs ac e last m)).store }
     ensures back { GoesBack result → IsSome (operand_of mode e) }
     ensures below { (limit : ℕ) → e < limit → LiesBelow limit result }
 {
@@ -135,7 +135,7 @@ fn result_destination(mode: OpMode, e: u32) -> Destination
 /// Where a move's result goes by its mode.
 #[inline(always)]
 fn move_destination(mode: OpMode, e: u32) -> Destination
-    ensures value { (op : ℕ) (regs : Regs) (ac a a1 m : ℕ) → store_at result (stored_word (moves mode op regs ac a a1 e m).store) ≡ (moves mode op regs ac a a1 e m).store }
+    ensures value { (op : ℕ) (regs : Regs) (ac last m : ℕ) → store_at result (stored_word (moves mode op (operands regs ac e last m)).store) ≡ (moves mode op (operands regs ac e last m)).store }
     ensures back { GoesBack result → IsSome (moved_from mode e) }
     ensures below { (limit : ℕ) → e < limit → LiesBelow limit result }
 {

@@ -2,13 +2,15 @@
 ghost use Rattle.std.specs.Prelude.{◌≡◌, ℕ, ◌^◌, ◌<◌, Some, None};
 ghost use Rattle.word36.specs.Arithmetic.{IsArithmetic, arithmetic};
 ghost use Rattle.word36.specs.Shifts.{IsShift};
-ghost use Rattle.plain_units.specs.Deeds.{behind_ac, in_ac, operated, shifts};
+ghost use Rattle.plain_units.specs.Deeds.{behind_ac, in_ac, operated};
+ghost use Rattle.ka10_unit.specs.Acts.{IsOperation, IsShiftOfWords};
 ghost use Rattle.ka10_unit.specs.Commits.{Leaves, outcome_of};
 
 use crate::committed::{Committed, Post};
+use crate::instructions::Commit;
 use crate::registers::{behind, give, give_next, next, set, stored_in, word_in};
 use ka10_alu::{Out, arith, shift};
-use ka10_table::OpMode;
+use ka10_table::{OpMode, TableRow};
 use plain_units::Regs;
 use word36::Word;
 
@@ -44,8 +46,7 @@ pub fn commit_undone(regs: &mut Regs) -> Committed
     }
 }
 
-/// IMUL, MUL, IDIV and DIV (220 to 237), ADD and SUB (270 to 277), of the accumulator and the
-/// operand, in one of their modes.
+/// An operation on the accumulator and the operand, in one of its modes.
 #[inline(always)]
 pub fn commit_operation(
     mode: OpMode,
@@ -66,16 +67,42 @@ pub fn commit_operation(
     }
 }
 
+/// IMUL, MUL, IDIV and DIV (220 to 237), ADD and SUB (270 to 277).
+#[derive(Clone, Copy)]
+pub struct Operation {
+    pub op: u16,
+    pub row: TableRow,
+}
+
+impl Commit for Operation {
+    ghost instruction = { λ i. record { op = i.op; row = i.row } };
+
+    ghost is_valid = { λ i. (IsOperation i.row.family) × (IsArithmetic i.op) };
+
+    #[inline(always)]
+    #[tactic(auto, unfolding(plain_units::specs::Deeds::deed_of))]
+    fn commit(self, regs: &mut Regs, ac: u8, e: u32, last: Word, m: Word) -> Committed {
+        commit_operation(self.row.mode, self.op, regs, ac, e, m)
+    }
+}
+
 /// ASH, ROT and LSH (240 to 242), ASHC, ROTC and LSHC (244 to 246), of the accumulator and the one
 /// behind it by the effective address.
-#[inline(always)]
-pub fn commit_shift(op: u16, regs: &mut Regs, ac: u8, e: u32) -> Committed
-    requires op { IsShift op }
-    requires pc { regs.old.pc < 2 ^ 18 }
-    requires ac { ac < 16 }
-    requires e { e < 2 ^ 18 }
-    ensures { Leaves (shifts op regs.old ac (in_ac regs.old ac) (in_ac regs.old (behind_ac ac)) e) ac regs.old regs.new result }
-{
-    let out = shift(op, word_in(regs, ac), word_in(regs, behind(ac)), e);
-    commit_out(OpMode::Basic, regs, ac, e, out)
+#[derive(Clone, Copy)]
+pub struct Shift {
+    pub op: u16,
+    pub row: TableRow,
+}
+
+impl Commit for Shift {
+    ghost instruction = { λ i. record { op = i.op; row = i.row } };
+
+    ghost is_valid = { λ i. (IsShiftOfWords i.row.family) × (IsShift i.op) };
+
+    #[inline(always)]
+    #[tactic(auto, unfolding(plain_units::specs::Deeds::deed_of))]
+    fn commit(self, regs: &mut Regs, ac: u8, e: u32, last: Word, m: Word) -> Committed {
+        let out = shift(self.op, word_in(regs, ac), word_in(regs, behind(ac)), e);
+        commit_out(OpMode::Basic, regs, ac, e, out)
+    }
 }

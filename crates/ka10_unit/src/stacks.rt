@@ -1,10 +1,13 @@
 // Pushdown lists, which an accumulator names: its left half counts, its right half is an address.
-ghost use Rattle.std.specs.Prelude.{◌≡◌, ◌-◌, ◌^◌, ◌<◌};
+ghost use Rattle.std.specs.Prelude.{◌≡◌, ◌+◌, ◌<◌};
 ghost use Rattle.word36.specs.Words as words;
-ghost use Rattle.plain_units.specs.Deeds.{calls_by_push, down, in_ac, pushdown_post, pushes_or_pops, returns_by_pop, up};
-ghost use Rattle.ka10_unit.specs.Commits.{Leaves, channel_of};
+ghost use Rattle.ka10_table.specs.declared.families.Family.TheVariants as family;
+ghost use Rattle.ka10_table.specs.declared.families.OpMode.TheVariants.{Basic};
+ghost use Rattle.plain_units.specs.Deeds.{down, in_ac, up};
+ghost use Rattle.ka10_unit.specs.Acts.{one};
 
 use crate::committed::{Committed, Post};
+use crate::instructions::Commit;
 use crate::program_words::pc_word;
 use crate::registers::{next, word_in};
 use plain_units::Regs;
@@ -47,61 +50,81 @@ pub fn pushed(regs: &Regs, ac: u8) -> Word
 }
 
 /// PUSHJ (260): the PC word is stored at the right half of what AC becomes.
-#[inline(always)]
-pub fn commit_pushj(regs: &mut Regs, ac: u8, e: u32) -> Committed
-    requires pc { regs.old.pc < 2 ^ 18 }
-    requires ac { ac < 16 }
-    requires e { e < 2 ^ 18 }
-    ensures { Leaves (calls_by_push regs.old (in_ac regs.old ac) e) ac regs.old regs.new result }
-{
-    let word = pc_word(regs);
-    let top = pushed(regs, ac);
-    regs.ac[ac as usize] = top;
-    regs.flags.bis = false;
-    regs.pc = e;
-    Committed {
-        stored: Some(word),
-        post: Post::pushdown(0, top),
+#[derive(Clone, Copy)]
+pub struct Pushj;
+
+impl Commit for Pushj {
+    ghost instruction = { λ i. one 0o260 family.Pushj Basic 0 };
+
+    ghost is_valid = { λ i. Unit {0} };
+
+    #[inline(always)]
+    #[tactic(auto, unfolding(plain_units::specs::Deeds::deed_of))]
+    fn commit(self, regs: &mut Regs, ac: u8, e: u32, last: Word, m: Word) -> Committed {
+        let word = pc_word(regs);
+        let top = pushed(regs, ac);
+        regs.ac[ac as usize] = top;
+        regs.flags.bis = false;
+        regs.pc = e;
+        Committed {
+            stored: Some(word),
+            post: Post::pushdown(0, top),
+        }
     }
 }
 
 /// PUSH and POP (261 and 262), codes 0 and 1. PUSH stores the operand at the right half of what AC
 /// becomes, POP at the effective address.
-#[inline(always)]
-pub fn commit_push_or_pop(code: u8, regs: &mut Regs, ac: u8, e: u32, m: Word) -> Committed
-    requires pc { regs.old.pc < 2 ^ 18 }
-    requires ac { ac < 16 }
-    ensures { Leaves (pushes_or_pops code regs.old (in_ac regs.old ac) e m) ac regs.old regs.new result }
-{
-    regs.pc = next(regs);
-    if code == 0 {
-        let top = pushed(regs, ac);
-        regs.ac[ac as usize] = top;
-        Committed {
-            stored: Some(m),
-            post: Post::pushdown(0, top),
-        }
-    } else {
-        let top = down(word_in(regs, ac));
-        regs.ac[ac as usize] = top;
-        Committed {
-            stored: Some(m),
-            post: Post::pushdown(Word::HALF_MASK, top),
+#[derive(Clone, Copy)]
+pub struct PushPop {
+    pub code: u8,
+}
+
+impl Commit for PushPop {
+    ghost instruction = { λ i. one (0o261 + i.code) family.PushPop Basic i.code };
+
+    ghost is_valid = { λ i. Unit {0} };
+
+    #[inline(always)]
+    #[tactic(auto, unfolding(plain_units::specs::Deeds::deed_of))]
+    fn commit(self, regs: &mut Regs, ac: u8, e: u32, last: Word, m: Word) -> Committed {
+        regs.pc = next(regs);
+        if self.code == 0 {
+            let top = pushed(regs, ac);
+            regs.ac[ac as usize] = top;
+            Committed {
+                stored: Some(m),
+                post: Post::pushdown(0, top),
+            }
+        } else {
+            let top = down(word_in(regs, ac));
+            regs.ac[ac as usize] = top;
+            Committed {
+                stored: Some(m),
+                post: Post::pushdown(Word::HALF_MASK, top),
+            }
         }
     }
 }
 
 /// POPJ (263): the operand is the word at the right half of AC.
-#[inline(always)]
-pub fn commit_popj(regs: &mut Regs, ac: u8, m: Word) -> Committed
-    requires ac { ac < 16 }
-    ensures { Leaves (returns_by_pop regs.old (in_ac regs.old ac) m) ac regs.old regs.new result }
-{
-    let top = down(word_in(regs, ac));
-    regs.ac[ac as usize] = top;
-    regs.pc = m.right();
-    Committed {
-        stored: None,
-        post: Post::pushdown(Word::HALF_MASK, top),
+#[derive(Clone, Copy)]
+pub struct Popj;
+
+impl Commit for Popj {
+    ghost instruction = { λ i. one 0o263 family.Popj Basic 0 };
+
+    ghost is_valid = { λ i. Unit {0} };
+
+    #[inline(always)]
+    #[tactic(auto, unfolding(plain_units::specs::Deeds::deed_of))]
+    fn commit(self, regs: &mut Regs, ac: u8, e: u32, last: Word, m: Word) -> Committed {
+        let top = down(word_in(regs, ac));
+        regs.ac[ac as usize] = top;
+        regs.pc = m.right();
+        Committed {
+            stored: None,
+            post: Post::pushdown(Word::HALF_MASK, top),
+        }
     }
 }

@@ -1,73 +1,106 @@
 // Boolean functions, halfwords, tests, exchanges and blocks.
-ghost use Rattle.std.specs.Prelude.{◌≡◌, ◌^◌, ◌<◌};
-ghost use Rattle.word36.specs.Boolean.{IsBoolean, boolean_of};
+ghost use Rattle.std.specs.Prelude.{◌≡◌};
+ghost use Rattle.word36.specs.Boolean.{IsBoolean};
 ghost use Rattle.word36.specs.Halves.{IsHalfwordMove};
 ghost use Rattle.word36.specs.Tests.{IsTest};
-ghost use Rattle.plain_units.specs.Deeds.{by_mode, exchanges, halves_up, in_ac, moves_block, moves_half, tests};
-ghost use Rattle.ka10_unit.specs.Commits.{Leaves};
+ghost use Rattle.ka10_table.specs.declared.families.Family.TheVariants as family;
+ghost use Rattle.ka10_table.specs.declared.families.OpMode.TheVariants.{Basic};
+ghost use Rattle.plain_units.specs.Deeds.{halves_up};
+ghost use Rattle.ka10_unit.specs.Acts.{one};
 
 use crate::committed::Committed;
+use crate::instructions::Commit;
 use crate::registers::{commit_result, next, skip_if, word_in};
 use ka10_alu::{boolean, half, mask, test};
-use ka10_table::OpMode;
+use ka10_table::{OpMode, TableRow};
 use plain_units::Regs;
 use word36::Word;
 
-/// SETZ to SETO (400 to 477) in one of their modes.
-#[inline(always)]
-pub fn commit_boolean(mode: OpMode, op: u16, regs: &mut Regs, ac: u8, e: u32, m: Word) -> Committed
-    requires op { IsBoolean op }
-    requires pc { regs.old.pc < 2 ^ 18 }
-    requires ac { ac < 16 }
-    ensures { Leaves (by_mode mode regs.old ac e (boolean_of op (in_ac regs.old ac) m)) ac regs.old regs.new result }
-{
-    let word = boolean(op, word_in(regs, ac), m);
-    commit_result(mode, regs, ac, e, word)
+/// SETZ to SETO (400 to 477).
+#[derive(Clone, Copy)]
+pub struct Boolean {
+    pub op: u16,
+    pub row: TableRow,
 }
 
-/// HLL to HLRE (500 to 577) in one of their modes.
-#[inline(always)]
-pub fn commit_half(mode: OpMode, op: u16, regs: &mut Regs, ac: u8, e: u32, m: Word) -> Committed
-    requires op { IsHalfwordMove op }
-    requires pc { regs.old.pc < 2 ^ 18 }
-    requires ac { ac < 16 }
-    ensures { Leaves (moves_half mode op regs.old ac (in_ac regs.old ac) e m) ac regs.old regs.new result }
-{
-    let a = word_in(regs, ac);
-    match mode {
-        OpMode::Memory => commit_result(OpMode::Memory, regs, ac, e, half(op, a, m)),
-        OpMode::Own => commit_result(OpMode::Own, regs, ac, e, half(op, m, m)),
-        OpMode::Basic => commit_result(OpMode::Basic, regs, ac, e, half(op, m, a)),
-        OpMode::Immediate => commit_result(OpMode::Immediate, regs, ac, e, half(op, m, a)),
-        OpMode::Both => commit_result(OpMode::Both, regs, ac, e, half(op, m, a)),
+impl Commit for Boolean {
+    ghost instruction = { λ i. record { op = i.op; row = i.row } };
+
+    ghost is_valid = { λ i. (i.row.family ≡ family.Boolean) × (IsBoolean i.op) };
+
+    #[inline(always)]
+    #[tactic(auto, unfolding(plain_units::specs::Deeds::deed_of))]
+    fn commit(self, regs: &mut Regs, ac: u8, e: u32, last: Word, m: Word) -> Committed {
+        let word = boolean(self.op, word_in(regs, ac), m);
+        commit_result(self.row.mode, regs, ac, e, word)
+    }
+}
+
+/// HLL to HLRE (500 to 577).
+#[derive(Clone, Copy)]
+pub struct Half {
+    pub op: u16,
+    pub row: TableRow,
+}
+
+impl Commit for Half {
+    ghost instruction = { λ i. record { op = i.op; row = i.row } };
+
+    ghost is_valid = { λ i. (i.row.family ≡ family.Half) × (IsHalfwordMove i.op) };
+
+    #[inline(always)]
+    #[tactic(auto, unfolding(plain_units::specs::Deeds::deed_of))]
+    fn commit(self, regs: &mut Regs, ac: u8, e: u32, last: Word, m: Word) -> Committed {
+        let a = word_in(regs, ac);
+        match self.row.mode {
+            OpMode::Memory => commit_result(OpMode::Memory, regs, ac, e, half(self.op, a, m)),
+            OpMode::Own => commit_result(OpMode::Own, regs, ac, e, half(self.op, m, m)),
+            OpMode::Basic => commit_result(OpMode::Basic, regs, ac, e, half(self.op, m, a)),
+            OpMode::Immediate => commit_result(OpMode::Immediate, regs, ac, e, half(self.op, m, a)),
+            OpMode::Both => commit_result(OpMode::Both, regs, ac, e, half(self.op, m, a)),
+        }
     }
 }
 
 /// TRN to TSON (600 to 677).
-#[inline(always)]
-pub fn commit_test(op: u16, regs: &mut Regs, ac: u8, m: Word) -> Committed
-    requires op { IsTest op }
-    requires pc { regs.old.pc < 2 ^ 18 }
-    requires ac { ac < 16 }
-    ensures { Leaves (tests op regs.old (in_ac regs.old ac) m) ac regs.old regs.new result }
-{
-    let (word, skips) = test(op, word_in(regs, ac), mask(op, m));
-    regs.pc = skip_if(skips, regs);
-    regs.ac[ac as usize] = word;
-    Committed::NOTHING
+#[derive(Clone, Copy)]
+pub struct Test {
+    pub op: u16,
+    pub row: TableRow,
+}
+
+impl Commit for Test {
+    ghost instruction = { λ i. record { op = i.op; row = i.row } };
+
+    ghost is_valid = { λ i. (i.row.family ≡ family.Test) × (IsTest i.op) };
+
+    #[inline(always)]
+    #[tactic(auto, unfolding(plain_units::specs::Deeds::deed_of))]
+    fn commit(self, regs: &mut Regs, ac: u8, e: u32, last: Word, m: Word) -> Committed {
+        let (word, skips) = test(self.op, word_in(regs, ac), mask(self.op, m));
+        regs.pc = skip_if(skips, regs);
+        regs.ac[ac as usize] = word;
+        Committed::NOTHING
+    }
 }
 
 /// EXCH (250).
-#[inline(always)]
-pub fn commit_exch(regs: &mut Regs, ac: u8, e: u32, m: Word) -> Committed
-    requires pc { regs.old.pc < 2 ^ 18 }
-    requires ac { ac < 16 }
-    ensures { Leaves (exchanges regs.old (in_ac regs.old ac) e m) ac regs.old regs.new result }
-{
-    let word = word_in(regs, ac);
-    regs.pc = next(regs);
-    regs.ac[ac as usize] = m;
-    Committed::storing(word)
+#[derive(Clone, Copy)]
+pub struct Exch;
+
+impl Commit for Exch {
+    ghost instruction = { λ i. one 0o250 family.Exch Basic 0 };
+
+    ghost is_valid = { λ i. Unit {0} };
+
+    #[inline(always)]
+    #[tactic(auto, unfolding(plain_units::specs::Deeds::deed_of))]
+    fn commit(self, regs: &mut Regs, ac: u8, e: u32, last: Word, m: Word) -> Committed {
+        let word = word_in(regs, ac);
+        regs.pc = next(regs);
+        regs.ac[ac as usize] = m;
+        Committed::storing(word)
+    }
 }
 
 /// A word with one more in each half, each half by itself.
@@ -83,18 +116,24 @@ fn halves_up(w: Word) -> Word
 
 /// BLT (251), one word of its block: the operand, which stood at the left half of AC, is stored at
 /// the right half before AC is counted up.
-#[inline(always)]
-pub fn commit_blt(regs: &mut Regs, ac: u8, e: u32, m: Word) -> Committed
-    requires pc { regs.old.pc < 2 ^ 18 }
-    requires ac { ac < 16 }
-    ensures { Leaves (moves_block regs.old ac (in_ac regs.old ac) e m) ac regs.old regs.new result }
-{
-    let a = word_in(regs, ac);
-    let to = a.right();
-    let counted = if to == ac as u32 { m } else { a };
-    regs.ac[ac as usize] = halves_up(counted);
-    if e <= to {
-        regs.pc = next(regs);
+#[derive(Clone, Copy)]
+pub struct Blt;
+
+impl Commit for Blt {
+    ghost instruction = { λ i. one 0o251 family.Blt Basic 0 };
+
+    ghost is_valid = { λ i. Unit {0} };
+
+    #[inline(always)]
+    #[tactic(auto, unfolding(plain_units::specs::Deeds::deed_of))]
+    fn commit(self, regs: &mut Regs, ac: u8, e: u32, last: Word, m: Word) -> Committed {
+        let a = word_in(regs, ac);
+        let to = a.right();
+        let counted = if to == ac as u32 { m } else { a };
+        regs.ac[ac as usize] = halves_up(counted);
+        if e <= to {
+            regs.pc = next(regs);
+        }
+        Committed::storing(m)
     }
-    Committed::storing(m)
 }

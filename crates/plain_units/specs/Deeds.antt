@@ -9,7 +9,7 @@ use Rattle.word36.specs.Boolean.{boolean_of}
 use Rattle.word36.specs.Halves.{half_of}
 use Rattle.word36.specs.Tests.{mask_of, tested, test_skips, condition_holds}
 use Rattle.ka10_table.specs.declared.families.Family.{Family}
-use Rattle.ka10_table.specs.declared.families.Family.TheVariants.{Move, Imul, Mul, Idiv, Div, Shift, Jffo, DoubleShift, Exch, Blt, Aobj, Jrst, Jfcl, Pushj, PushPop, Popj, JsrJsp, JsaJra, AddSub, Compare, JumpSkip, AddOne, SubOne, Boolean, Half, Test}
+use Rattle.ka10_table.specs.declared.families.Family.TheVariants.{Illegal, Local, Monitor, ByteOp, Move, Imul, Mul, Idiv, Div, Shift, Jffo, DoubleShift, Exch, Blt, Aobj, Jrst, Jfcl, Xct, Pushj, PushPop, Popj, JsrJsp, JsaJra, AddSub, Compare, JumpSkip, AddOne, SubOne, Boolean, Half, Test}
 use Rattle.ka10_table.specs.declared.families.OpMode.{OpMode}
 use Rattle.ka10_table.specs.declared.families.OpMode.TheVariants.{Basic, Immediate, Memory, Own}
 use Rattle.ka10_table.specs.declared.families.TableRow.{TableRow}
@@ -33,6 +33,28 @@ pub record Deed : Type 0 where
   pub pc : ℕ
   pub store : Store
   pub post : Option ℕ
+
+-- the word of an accumulator, and the accumulator behind one
+abbrev pub in_ac : Regs → ℕ → ℕ
+in_ac regs ac = slice_index regs.ac ac
+
+abbrev pub behind_ac : ℕ → ℕ
+behind_ac ac = (ac + 1) % 16
+
+-- what an instruction works on: the registers, accumulator AC, its word and that of the one behind it, the effective
+-- address, the last word taken for that, and the operand
+pub record Operands : Type 0 where
+  pub regs : Regs
+  pub ac : ℕ
+  pub a : ℕ
+  pub a1 : ℕ
+  pub e : ℕ
+  pub last : ℕ
+  pub m : ℕ
+
+-- the same, with the words of the accumulators as the registers have them
+abbrev pub operands : Regs → ℕ → ℕ → ℕ → ℕ → Operands
+operands regs ac e last m = record { regs = regs; ac = ac; a = in_ac regs ac; a1 = in_ac regs (behind_ac ac); e = e; last = last; m = m }
 
 -- the address of the next instruction, and of that behind it
 abbrev pub next_pc : Regs → ℕ
@@ -116,26 +138,30 @@ abbrev pub operated : OpMode → Regs → ℕ → ℕ → Option Outcome → Dee
 operated mode regs ac e (Some o) = record (by_mode mode regs ac e o.word) { next = to_next mode o.low; flags = set_with regs.flags o.flags; post = overflow_post o.flags.overflow }
 operated mode regs ac e None = record (nothing_done regs) { flags = set_with regs.flags not_divided; post = overflow_post true }
 
+-- an operation on the accumulator and the operand
+abbrev pub computes : OpMode → ℕ → Operands → Deed
+computes mode op o = operated mode o.regs o.ac o.e (arithmetic op o.a o.a1 o.m)
+
 -- 200 to 217: MOVE, MOVS, MOVN, MOVM; in mode M the accumulator is the source, and E is only written
-abbrev pub moves : OpMode → ℕ → Regs → ℕ → ℕ → ℕ → ℕ → ℕ → Deed
-moves Memory op regs ac a a1 e m = into_e (arithmetic op a a1 a)
+abbrev pub moves : OpMode → ℕ → Operands → Deed
+moves Memory op o = into_e (arithmetic op o.a o.a1 o.a)
   where
     into_e : Option Outcome → Deed
-    into_e (Some o) = record (nothing_done regs) { flags = set_with regs.flags o.flags; store = into e o.word; post = overflow_post o.flags.overflow }
-    into_e None = nothing_done regs
-moves mode op regs ac a a1 e m = operated mode regs ac e (arithmetic op a a1 m)
+    into_e (Some x) = record (nothing_done o.regs) { flags = set_with o.regs.flags x.flags; store = into o.e x.word; post = overflow_post x.flags.overflow }
+    into_e None = nothing_done o.regs
+moves mode op o = computes mode op o
 
 -- 240 to 242, 244 to 246: ASH, ROT, LSH and ASHC, ROTC, LSHC
-abbrev pub shifts : ℕ → Regs → ℕ → ℕ → ℕ → ℕ → Deed
-shifts op regs ac a a1 e = operated Basic regs ac e (Some (shifted op a a1 e))
+abbrev pub shifts : ℕ → Operands → Deed
+shifts op o = operated Basic o.regs o.ac o.e (Some (shifted op o.a o.a1 o.e))
 
 -- 243: JFFO jumps where there is a one, and counts the zeros before it
-abbrev pub finds_first_one : Regs → ℕ → ℕ → Deed
-finds_first_one regs a e = record (nothing_done regs) { next = Some (first_one a); pc = if a == 0 then next_pc regs else e }
+abbrev pub finds_first_one : Operands → Deed
+finds_first_one o = record (nothing_done o.regs) { next = Some (first_one o.a); pc = if o.a == 0 then next_pc o.regs else o.e }
 
 -- 250: EXCH
-abbrev pub exchanges : Regs → ℕ → ℕ → ℕ → Deed
-exchanges regs a e m = record (nothing_done regs) { ac = Some m; store = back e a }
+abbrev pub exchanges : Operands → Deed
+exchanges o = record (nothing_done o.regs) { ac = Some o.m; store = back o.e o.a }
 
 -- both halves of a word one higher, each by itself
 abbrev pub halves_up : ℕ → ℕ
@@ -143,11 +169,11 @@ halves_up w = joined ((left w + 1) % 2 ^ 18) ((right w + 1) % 2 ^ 18)
 
 -- 251: BLT moves one word from the left half's address to the right half's, and then counts AC up as it stands; it
 -- goes on with itself until the address just stored is E or greater
-abbrev pub moves_block : Regs → ℕ → ℕ → ℕ → ℕ → Deed
-moves_block regs ac a e m = record (nothing_done regs) {
-  ac = Some (halves_up (if right a == ac then m else a));
-  pc = if nat_le e (right a) then next_pc regs else regs.pc;
-  store = before (right a) m;
+abbrev pub moves_block : Operands → Deed
+moves_block o = record (nothing_done o.regs) {
+  ac = Some (halves_up (if right o.a == o.ac then o.m else o.a));
+  pc = if nat_le o.e (right o.a) then next_pc o.regs else o.regs.pc;
+  store = before (right o.a) o.m;
 }
 
 -- one in each half, added as one number
@@ -161,24 +187,27 @@ abbrev pub down : ℕ → ℕ
 down w = (w + 2 ^ 36 - both_ones) % 2 ^ 36
 
 -- 252, 253: AOBJP, AOBJN jump where the result isn't negative, is negative
-abbrev pub adds_to_both : ℕ → Regs → ℕ → ℕ → Deed
-adds_to_both code regs a e = record (nothing_done regs) { ac = Some (up a); pc = if is_negative (up a) then (if code == 0 then next_pc regs else e) else (if code == 0 then e else next_pc regs) }
+abbrev pub adds_to_both : ℕ → Operands → Deed
+adds_to_both code o = record (nothing_done o.regs) {
+  ac = Some (up o.a);
+  pc = if is_negative (up o.a) then (if code == 0 then next_pc o.regs else o.e) else (if code == 0 then o.e else next_pc o.regs);
+}
 
 -- 254: JRST jumps; with bit 2 of AC the flags become those of the last word taken for the address
-abbrev pub jumps : Regs → ℕ → ℕ → ℕ → Deed
-jumps regs ac e last = record (nothing_done regs) { flags = if ac / 2 % 2 == 1 then half_flags (left last) else regs.flags; pc = e }
+abbrev pub jumps : Operands → Deed
+jumps o = record (nothing_done o.regs) { flags = if o.ac / 2 % 2 == 1 then half_flags (left o.last) else o.regs.flags; pc = o.e }
 
 -- 255: JFCL jumps where a flag that AC names is set, and clears those named: overflow 10, carry 0 4, carry 1 2, floating overflow 1 (octal)
-abbrev pub jumps_on_flags : Regs → ℕ → ℕ → Deed
-jumps_on_flags regs ac e =
-    let f = regs.flags in
-    let o = bit_at ac 3 == 1 in
-    let c0 = bit_at ac 2 == 1 in
-    let c1 = bit_at ac 1 == 1 in
-    let fov = bit_at ac 0 == 1 in
-    record (nothing_done regs) {
-      flags = record f { overflow = if o then false else f.overflow; carry0 = if c0 then false else f.carry0; carry1 = if c1 then false else f.carry1; fov = if fov then false else f.fov };
-      pc = if (o && f.overflow) || (c0 && f.carry0) || (c1 && f.carry1) || (fov && f.fov) then e else next_pc regs;
+abbrev pub jumps_on_flags : Operands → Deed
+jumps_on_flags o =
+    let f = o.regs.flags in
+    let v = bit_at o.ac 3 == 1 in
+    let c0 = bit_at o.ac 2 == 1 in
+    let c1 = bit_at o.ac 1 == 1 in
+    let fov = bit_at o.ac 0 == 1 in
+    record (nothing_done o.regs) {
+      flags = record f { overflow = if v then false else f.overflow; carry0 = if c0 then false else f.carry0; carry1 = if c1 then false else f.carry1; fov = if fov then false else f.fov };
+      pc = if (v && f.overflow) || (c0 && f.carry0) || (c1 && f.carry1) || (fov && f.fov) then o.e else next_pc o.regs;
     }
 
 -- a left half that comes to this posts that a pushdown list ran over, or under
@@ -186,61 +215,71 @@ abbrev pub pushdown_post : ℕ → ℕ → Option ℕ
 pushdown_post limit w = if left w == limit then Some PUSHDOWN_OVERFLOW else None
 
 -- 260: PUSHJ
-abbrev pub calls_by_push : Regs → ℕ → ℕ → Deed
-calls_by_push regs a e = record (nothing_done regs) { ac = Some (up a); flags = without_bis regs.flags; pc = e; store = into (right (up a)) (pc_word regs); post = pushdown_post 0 (up a) }
+abbrev pub calls_by_push : Operands → Deed
+calls_by_push o = record (nothing_done o.regs) { ac = Some (up o.a); flags = without_bis o.regs.flags; pc = o.e; store = into (right (up o.a)) (pc_word o.regs); post = pushdown_post 0 (up o.a) }
 
 -- 261, 262: PUSH, POP
-abbrev pub pushes_or_pops : ℕ → Regs → ℕ → ℕ → ℕ → Deed
-pushes_or_pops code regs a e m =
-    if code == 0 then record (nothing_done regs) { ac = Some (up a); store = into (right (up a)) m; post = pushdown_post 0 (up a) }
-    else record (nothing_done regs) { ac = Some (down a); store = into e m; post = pushdown_post (2 ^ 18 - 1) (down a) }
+abbrev pub pushes_or_pops : ℕ → Operands → Deed
+pushes_or_pops code o =
+    if code == 0 then record (nothing_done o.regs) { ac = Some (up o.a); store = into (right (up o.a)) o.m; post = pushdown_post 0 (up o.a) }
+    else record (nothing_done o.regs) { ac = Some (down o.a); store = into o.e o.m; post = pushdown_post (2 ^ 18 - 1) (down o.a) }
 
 -- 263: POPJ
-abbrev pub returns_by_pop : Regs → ℕ → ℕ → Deed
-returns_by_pop regs a m = record (nothing_done regs) { ac = Some (down a); pc = right m; post = pushdown_post (2 ^ 18 - 1) (down a) }
+abbrev pub returns_by_pop : Operands → Deed
+returns_by_pop o = record (nothing_done o.regs) { ac = Some (down o.a); pc = right o.m; post = pushdown_post (2 ^ 18 - 1) (down o.a) }
 
 -- 264, 265: JSR, JSP
-abbrev pub calls_by_word : ℕ → Regs → ℕ → Deed
-calls_by_word code regs e =
-    if code == 0 then record (nothing_done regs) { flags = without_bis regs.flags; pc = (e + 1) % 2 ^ 18; store = into e (pc_word regs) }
-    else record (nothing_done regs) { ac = Some (pc_word regs); flags = without_bis regs.flags; pc = e }
+abbrev pub calls_by_word : ℕ → Operands → Deed
+calls_by_word code o =
+    if code == 0 then record (nothing_done o.regs) { flags = without_bis o.regs.flags; pc = (o.e + 1) % 2 ^ 18; store = into o.e (pc_word o.regs) }
+    else record (nothing_done o.regs) { ac = Some (pc_word o.regs); flags = without_bis o.regs.flags; pc = o.e }
 
 -- 266, 267: JSA, JRA
-abbrev pub calls_by_accumulator : ℕ → Regs → ℕ → ℕ → ℕ → Deed
-calls_by_accumulator code regs a e m =
-    if code == 0 then record (nothing_done regs) { ac = Some (joined e (next_pc regs)); pc = (e + 1) % 2 ^ 18; store = into e a }
-    else record (nothing_done regs) { ac = Some m; pc = e }
+abbrev pub calls_by_accumulator : ℕ → Operands → Deed
+calls_by_accumulator code o =
+    if code == 0 then record (nothing_done o.regs) { ac = Some (joined o.e (next_pc o.regs)); pc = (o.e + 1) % 2 ^ 18; store = into o.e o.a }
+    else record (nothing_done o.regs) { ac = Some o.m; pc = o.e }
 
 -- 300 to 317: CAI, CAM compare the accumulator with the operand
-abbrev pub compares : ℕ → Regs → ℕ → ℕ → Deed
-compares code regs a m = record (nothing_done regs) { pc = if condition_holds (code % 8) (signed a -ℤ signed m) then skip_pc regs else next_pc regs }
-
--- 320 to 377: JUMP, AOJ, SOJ jump by the accumulator, SKIP, AOS, SOS skip by the word at E, with a number added to it first
-abbrev pub steps_by : Outcome → ℕ → Regs → ℕ → ℕ → Deed
-steps_by o code regs ac e = record (if nat_lt code 8 then jumped else skipped) { flags = set_with regs.flags o.flags; post = overflow_post o.flags.overflow }
-  where
-    jumped : Deed
-    jumped = record (nothing_done regs) { ac = Some o.word; pc = if condition_holds code (signed o.word) then e else next_pc regs }
-
-    skipped : Deed
-    skipped = record (nothing_done regs) { ac = unless_zero ac o.word; pc = if condition_holds (code - 8) (signed o.word) then skip_pc regs else next_pc regs; store = back e o.word }
+abbrev pub compares : ℕ → Operands → Deed
+compares code o = record (nothing_done o.regs) { pc = if condition_holds (code % 8) (signed o.a -ℤ signed o.m) then skip_pc o.regs else next_pc o.regs }
 
 -- 320 to 337: JUMP, SKIP
-abbrev pub jumps_or_skips : ℕ → Regs → ℕ → ℕ → ℕ → ℕ → Deed
-jumps_or_skips code regs ac a e m =
-    if nat_lt code 8 then record (nothing_done regs) { pc = if condition_holds code (signed a) then e else next_pc regs }
-    else record (nothing_done regs) { ac = unless_zero ac m; pc = if condition_holds (code - 8) (signed m) then skip_pc regs else next_pc regs }
+abbrev pub jumps_or_skips : ℕ → Operands → Deed
+jumps_or_skips code o =
+    if nat_lt code 8 then record (nothing_done o.regs) { pc = if condition_holds code (signed o.a) then o.e else next_pc o.regs }
+    else record (nothing_done o.regs) { ac = unless_zero o.ac o.m; pc = if condition_holds (code - 8) (signed o.m) then skip_pc o.regs else next_pc o.regs }
+
+-- 340 to 377: AOJ, SOJ jump by the accumulator, AOS, SOS skip by the word at E, with a number added to it first
+abbrev pub counts : ℕ → ℕ → Regs → ℕ → ℕ → ℕ → ℕ → Deed
+counts n code regs ac a e m = if nat_lt code 8 then jumped (added a n) else skipped (added m n)
+  where
+    jumped : Outcome → Deed
+    jumped o = record (nothing_done regs) { ac = Some o.word; flags = set_with regs.flags o.flags; pc = if condition_holds code (signed o.word) then e else next_pc regs; post = overflow_post o.flags.overflow }
+
+    skipped : Outcome → Deed
+    skipped o = record (nothing_done regs) {
+      ac = unless_zero ac o.word;
+      flags = set_with regs.flags o.flags;
+      pc = if condition_holds (code - 8) (signed o.word) then skip_pc regs else next_pc regs;
+      store = back e o.word;
+      post = overflow_post o.flags.overflow;
+    }
+
+-- 400 to 477: SETZ to SETO
+abbrev pub combines : OpMode → ℕ → Operands → Deed
+combines mode op o = by_mode mode o.regs o.ac o.e (boolean_of op o.a o.m)
 
 -- 500 to 577: halfwords; in mode M the accumulator's half goes to the word at E, in mode S the word's half into itself
-abbrev pub moves_half : OpMode → ℕ → Regs → ℕ → ℕ → ℕ → ℕ → Deed
-moves_half Memory op regs ac a e m = by_mode Memory regs ac e (half_of op a m)
-moves_half Own op regs ac a e m = by_mode Own regs ac e (half_of op m m)
-moves_half mode op regs ac a e m = by_mode mode regs ac e (half_of op m a)
+abbrev pub moves_half : OpMode → ℕ → Operands → Deed
+moves_half Memory op o = by_mode Memory o.regs o.ac o.e (half_of op o.a o.m)
+moves_half Own op o = by_mode Own o.regs o.ac o.e (half_of op o.m o.m)
+moves_half mode op o = by_mode mode o.regs o.ac o.e (half_of op o.m o.a)
 
 -- 600 to 677: tests; the skip looks at the old word
-abbrev pub tests : ℕ → Regs → ℕ → ℕ → Deed
-tests op regs a m = let mask = mask_of op m in
-    record (nothing_done regs) { ac = Some (tested op a mask); pc = if test_skips op a mask then skip_pc regs else next_pc regs }
+abbrev pub tests : ℕ → Operands → Deed
+tests op o = let mask = mask_of op o.m in
+    record (nothing_done o.regs) { ac = Some (tested op o.a mask); pc = if test_skips op o.a mask then skip_pc o.regs else next_pc o.regs }
 
 -- in mode I the operand is 0,,E, and no word is taken
 abbrev pub operand_of : OpMode → ℕ → Option ℕ
@@ -256,17 +295,31 @@ moved_from mode e = operand_of mode e
 abbrev pub of_second_eight : ℕ → ℕ → Option ℕ
 of_second_eight code e = if nat_lt code 8 then None else Some e
 
--- which word an instruction takes, with this word in its accumulator; none where its operand is 0,,E
+-- which word an instruction takes, with this word in its accumulator; none where its operand is 0,,E; the first
+-- five have steps of their own (`executes`)
 abbrev pub taken_by : Family → OpMode → ℕ → ℕ → ℕ → Option ℕ
+taken_by Illegal mode code a e = None
+taken_by Local mode code a e = None
+taken_by Monitor mode code a e = None
+taken_by ByteOp mode code a e = None
+taken_by Xct mode code a e = None
 taken_by Move mode code a e = moved_from mode e
 taken_by Imul mode code a e = operand_of mode e
 taken_by Mul mode code a e = operand_of mode e
 taken_by Idiv mode code a e = operand_of mode e
 taken_by Div mode code a e = operand_of mode e
+taken_by Shift mode code a e = None
+taken_by Jffo mode code a e = None
+taken_by DoubleShift mode code a e = None
 taken_by Exch mode code a e = Some e
 taken_by Blt mode code a e = Some (left a)
+taken_by Aobj mode code a e = None
+taken_by Jrst mode code a e = None
+taken_by Jfcl mode code a e = None
+taken_by Pushj mode code a e = None
 taken_by PushPop mode code a e = if code == 0 then Some e else Some (right a)
 taken_by Popj mode code a e = Some (right a)
+taken_by JsrJsp mode code a e = None
 taken_by JsaJra mode code a e = if code == 0 then None else Some (left a)
 taken_by AddSub mode code a e = operand_of mode e
 taken_by Compare mode code a e = of_second_eight code e
@@ -276,48 +329,40 @@ taken_by SubOne mode code a e = of_second_eight code e
 taken_by Boolean mode code a e = operand_of mode e
 taken_by Half mode code a e = operand_of mode e
 taken_by Test mode code a e = of_second_eight (code % 16) e
-taken_by family mode code a e = None
 
--- the word that is counted up or down: the accumulator's for a jump, the operand's for a skip
-abbrev pub counted_word : ℕ → ℕ → ℕ → ℕ
-counted_word code a m = if nat_lt code 8 then a else m
-
--- what an instruction does with accumulator AC, with its address, the last word taken for that, and its operand
-abbrev pub done_by : Family → OpMode → ℕ → ℕ → Regs → ℕ → ℕ → ℕ → ℕ → ℕ → ℕ → Deed
-done_by Move mode code op regs ac a a1 e last m = moves mode op regs ac a a1 e m
-done_by Imul mode code op regs ac a a1 e last m = operated mode regs ac e (arithmetic op a a1 m)
-done_by Mul mode code op regs ac a a1 e last m = operated mode regs ac e (arithmetic op a a1 m)
-done_by Idiv mode code op regs ac a a1 e last m = operated mode regs ac e (arithmetic op a a1 m)
-done_by Div mode code op regs ac a a1 e last m = operated mode regs ac e (arithmetic op a a1 m)
-done_by Shift mode code op regs ac a a1 e last m = shifts op regs ac a a1 e
-done_by Jffo mode code op regs ac a a1 e last m = finds_first_one regs a e
-done_by DoubleShift mode code op regs ac a a1 e last m = shifts op regs ac a a1 e
-done_by Exch mode code op regs ac a a1 e last m = exchanges regs a e m
-done_by Blt mode code op regs ac a a1 e last m = moves_block regs ac a e m
-done_by Aobj mode code op regs ac a a1 e last m = adds_to_both code regs a e
-done_by Jrst mode code op regs ac a a1 e last m = jumps regs ac e last
-done_by Jfcl mode code op regs ac a a1 e last m = jumps_on_flags regs ac e
-done_by Pushj mode code op regs ac a a1 e last m = calls_by_push regs a e
-done_by PushPop mode code op regs ac a a1 e last m = pushes_or_pops code regs a e m
-done_by Popj mode code op regs ac a a1 e last m = returns_by_pop regs a m
-done_by JsrJsp mode code op regs ac a a1 e last m = calls_by_word code regs e
-done_by JsaJra mode code op regs ac a a1 e last m = calls_by_accumulator code regs a e m
-done_by AddSub mode code op regs ac a a1 e last m = operated mode regs ac e (arithmetic op a a1 m)
-done_by Compare mode code op regs ac a a1 e last m = compares code regs a m
-done_by JumpSkip mode code op regs ac a a1 e last m = jumps_or_skips code regs ac a e m
-done_by AddOne mode code op regs ac a a1 e last m = steps_by (added (counted_word code a m) 1) code regs ac e
-done_by SubOne mode code op regs ac a a1 e last m = steps_by (added (counted_word code a m) (2 ^ 36 - 1)) code regs ac e
-done_by Boolean mode code op regs ac a a1 e last m = by_mode mode regs ac e (boolean_of op a m)
-done_by Half mode code op regs ac a a1 e last m = moves_half mode op regs ac a e m
-done_by Test mode code op regs ac a a1 e last m = tests op regs a m
-done_by family mode code op regs ac a a1 e last m = nothing_done regs
-
--- the word of an accumulator, and that of the one behind it
-abbrev pub in_ac : Regs → ℕ → ℕ
-in_ac regs ac = slice_index regs.ac ac
-
-abbrev pub behind_ac : ℕ → ℕ
-behind_ac ac = (ac + 1) % 16
+-- what an instruction does; nothing is done here by the first five, which have steps of their own (`executes`)
+abbrev pub done_by : Family → OpMode → ℕ → ℕ → Operands → Deed
+done_by Illegal mode code op o = nothing_done o.regs
+done_by Local mode code op o = nothing_done o.regs
+done_by Monitor mode code op o = nothing_done o.regs
+done_by ByteOp mode code op o = nothing_done o.regs
+done_by Xct mode code op o = nothing_done o.regs
+done_by Move mode code op o = moves mode op o
+done_by Imul mode code op o = computes mode op o
+done_by Mul mode code op o = computes mode op o
+done_by Idiv mode code op o = computes mode op o
+done_by Div mode code op o = computes mode op o
+done_by Shift mode code op o = shifts op o
+done_by Jffo mode code op o = finds_first_one o
+done_by DoubleShift mode code op o = shifts op o
+done_by Exch mode code op o = exchanges o
+done_by Blt mode code op o = moves_block o
+done_by Aobj mode code op o = adds_to_both code o
+done_by Jrst mode code op o = jumps o
+done_by Jfcl mode code op o = jumps_on_flags o
+done_by Pushj mode code op o = calls_by_push o
+done_by PushPop mode code op o = pushes_or_pops code o
+done_by Popj mode code op o = returns_by_pop o
+done_by JsrJsp mode code op o = calls_by_word code o
+done_by JsaJra mode code op o = calls_by_accumulator code o
+done_by AddSub mode code op o = computes mode op o
+done_by Compare mode code op o = compares code o
+done_by JumpSkip mode code op o = jumps_or_skips code o
+done_by AddOne mode code op o = counts 1 code o.regs o.ac o.a o.e o.m
+done_by SubOne mode code op o = counts (2 ^ 36 - 1) code o.regs o.ac o.a o.e o.m
+done_by Boolean mode code op o = combines mode op o
+done_by Half mode code op o = moves_half mode op o
+done_by Test mode code op o = tests op o
 
 -- the address of the word that the instruction of a row takes, if it takes one
 unfoldable pub taken_of : TableRow → Regs → ℕ → ℕ → Option ℕ
@@ -325,4 +370,4 @@ taken_of row regs ac e = taken_by row.family row.mode row.code (in_ac regs ac) e
 
 -- what the instruction of an opcode, with its row, does
 unfoldable pub deed_of : TableRow → ℕ → Regs → ℕ → ℕ → ℕ → ℕ → Deed
-deed_of row op regs ac e last m = done_by row.family row.mode row.code op regs ac (in_ac regs ac) (in_ac regs (behind_ac ac)) e last m
+deed_of row op regs ac e last m = done_by row.family row.mode row.code op (operands regs ac e last m)

@@ -4,4 +4,4 @@ use Rattle.ka10_unit.proofs.InARow.{down_up}
 use Rattle.ka10_unit.proofs.laws.pushed_words_come_back.Goals as goal
 
 pub returns : goal.returns
-returns c pushed popped a e m to word = record { pointer = up a; grows = refl; stores = refl; takes = refl; shrinks = ap Some (down_up a word); gives = refl }
+returns c pushed popped word = record { pointer = up pushed.a; grows = refl; stores = refl; takes = refl; shrinks = ap Some (down_up pushed.a word); gives = refl }

@@ -2,7 +2,7 @@ use Rattle.std.proofs.Common.{◌≡◌, ℕ, IsSome, inl, inr, subst, sym}
 use Rattle.word36.specs.Arithmetic.{arithmetic}
 use Rattle.word36.specs.Boolean.{boolean_of}
 use Rattle.ka10_table.specs.declared.families.Family.{Family}
-use Rattle.plain_units.specs.Deeds.{behind_ac, deed_of, done_by, in_ac, operand_of, taken_by, taken_of}
+use Rattle.plain_units.specs.Deeds.{Operands, behind_ac, deed_of, done_by, in_ac, operand_of, operands, taken_by, taken_of}
 use Rattle.ka10_unit.specs.Commits.{store_at, stored_word}
 use Rattle.ka10_unit.proofs.operands.destination_of.Goals as goal
 
@@ -10,25 +10,24 @@ pub returns-in-Imul-clause-value : goal.returns-in-Imul-clause-value
 unfolding deed_of
 returns-in-Imul-clause-value c = λ op last m.
     let regs = c.args.regs.now in
-    let a : ℕ = in_ac regs c.args.ac in
-    let a1 : ℕ = in_ac regs (behind_ac c.args.ac) in
+    let o : Operands = operands regs c.args.ac c.args.e last m in
     let at = c.result_destination in
     let P : Family → Type 0 = λ f.
-    store_at at.result (stored_word (done_by f c.args.row.mode c.args.row.code op regs c.args.ac a a1 c.args.e last m).store)
-    ≡ (done_by f c.args.row.mode c.args.row.code op regs c.args.ac a a1 c.args.e last m).store in
+    store_at at.result (stored_word (done_by f c.args.row.mode c.args.row.code op o).store)
+    ≡ (done_by f c.args.row.mode c.args.row.code op o).store in
     elim c.in-Imul.is [
-      | inl h ↦ subst P (sym h) (at.ensures.operations regs c.args.ac (arithmetic op a a1 m))
+      | inl h ↦ subst P (sym h) (at.ensures.operations regs c.args.ac (arithmetic op o.a o.a1 m))
       | inr x ↦ elim x [
-        | inl h ↦ subst P (sym h) (at.ensures.operations regs c.args.ac (arithmetic op a a1 m))
+        | inl h ↦ subst P (sym h) (at.ensures.operations regs c.args.ac (arithmetic op o.a o.a1 m))
         | inr x ↦ elim x [
-          | inl h ↦ subst P (sym h) (at.ensures.operations regs c.args.ac (arithmetic op a a1 m))
+          | inl h ↦ subst P (sym h) (at.ensures.operations regs c.args.ac (arithmetic op o.a o.a1 m))
           | inr x ↦ elim x [
-            | inl h ↦ subst P (sym h) (at.ensures.operations regs c.args.ac (arithmetic op a a1 m))
+            | inl h ↦ subst P (sym h) (at.ensures.operations regs c.args.ac (arithmetic op o.a o.a1 m))
             | inr x ↦ elim x [
-              | inl h ↦ subst P (sym h) (at.ensures.operations regs c.args.ac (arithmetic op a a1 m))
+              | inl h ↦ subst P (sym h) (at.ensures.operations regs c.args.ac (arithmetic op o.a o.a1 m))
               | inr x ↦ elim x [
-                | inl h ↦ subst P (sym h) (at.ensures.booleans regs c.args.ac (boolean_of op a m))
-                | inr h ↦ subst P (sym h) (at.ensures.halves op regs c.args.ac a m)
+                | inl h ↦ subst P (sym h) (at.ensures.booleans regs c.args.ac (boolean_of op o.a m))
+                | inr h ↦ subst P (sym h) (at.ensures.halves op regs c.args.ac last m)
               ]
             ]
           ]
