@@ -24,16 +24,16 @@ use Rattle.page_contracts.specs.Pages.{TakesMap}
 use Rattle.plain_pages.specs.PlainPages.{Map, Maps}
 use Rattle.machine_names.proofs.OrderLemmas.{fork_cmp_total, fork_cmp_apart}
 use Rattle.flat_pages.specs.declared.held_entry.HeldEntry.{HeldEntry}
-use Rattle.flat_pages.specs.declared.held_entry.HeldEntry.TheVariants.{Empty, Follows}
+use Rattle.flat_pages.specs.declared.held_entry.HeldEntry.TheVariants.{Empty, Page, Follows}
 use Rattle.flat_pages.specs.declared.held_entry.Link.{Link}
 use Rattle.flat_pages.specs.declared.held_map.HeldMap.{HeldMap}
-use Rattle.flat_pages.specs.HeldMaps.{map_at, fork_at, index_of, first_map, entry_of, entries_of, maps_held, entries_total, points_at, living_in, living_of, followers, AreHeld}
+use Rattle.flat_pages.specs.HeldMaps.{map_at, fork_at, held_entry, index_of, first_map, entry_of, entries_of, maps_held, entries_total, points_at, living_in, living_of, followers, AreHeld}
 use Rattle.flat_pages.specs.SlotTables.{Tables, plain_of, AreTables}
 use Rattle.flat_pages.specs.Serials.{serial_of}
 use Rattle.flat_pages.specs.SlotTouches.{scene_of}
 use Rattle.flat_pages.specs.TableSteps.{fork_begun}
-use Rattle.flat_pages.proofs.ForkMaps.{SameFork, fork_tells, Once, searched, index_is, index_none}
-use Rattle.flat_pages.proofs.HeldEntries.{sum_zero}
+use Rattle.flat_pages.proofs.ForkMaps.{SameFork, fork_tells, Once, searched, index_fork, index_is, index_none}
+use Rattle.flat_pages.proofs.HeldEntries.{points_self, sum_zero}
 use Rattle.flat_pages.proofs.LivingMaps.{inserted, get_living, get_gone}
 
 -- ---- the entries of a new map
@@ -303,6 +303,16 @@ module _ (t : Tables) (a : AreTables t) (k : ℕ) (f : ForkName) (unlived : fork
 
     pub serials_begun : serial_of after.serials ≡ serial_of t.serials
     serials_begun = ap (λ (x : Tables). serial_of x.serials) is
+
+    map_begun : map_at after.maps k ≡ record { fork = Some f; entries = entries }
+    map_begun = ap (λ (x : Tables). map_at x.maps k) is ∙ get_or-set_same t.maps k (record { fork = Some f; entries = entries }) (record { fork = None; entries = [] }) within
+
+    -- its map has that number, and names no page
+    pub index_begun : (j : ℕ) → index_of after.maps f ≡ Some j → j ≡ k
+    index_begun j e = agrees_begun.held.once j k f (index_fork after.maps f j e) (ap (λ (m : HeldMap). m.fork) map_begun)
+
+    pub unnamed_begun : (page home : ℕ) (access : Access) → held_entry after.maps (record { map = k; page = page }) ≡ Some (Page (record { 0 = home }) access) → ⊥
+    unnamed_begun page home access e = omega (arith, new.none home page (Page (record { 0 = home }) access) (sym (ap (λ (m : HeldMap). slice_get m.entries page) map_begun) ∙ e), points_self (record { 0 = home }) access)
 
   pub old_new : AreNew (map_at t.maps k).entries
   old_new = unused_new t.maps a.held k within unlived

@@ -28,11 +28,11 @@ use Rattle.flat_pages.specs.declared.held_entry.HeldEntry.TheVariants.{Empty}
 use Rattle.flat_pages.specs.declared.held_map.HeldMap.{HeldMap}
 use Rattle.flat_pages.specs.declared.map_tables.MapTables.{MapTables}
 use Rattle.flat_pages.specs.HeldMaps.{AreHeld, fork_at, held_entry, map_at, with_entry, entry_of}
-use Rattle.flat_pages.specs.SlotTables.{plain_of, AreTables}
+use Rattle.flat_pages.specs.SlotTables.{Tables, plain_of, AreTables}
 use Rattle.flat_pages.specs.SlotMeaning.{AreTold}
-use Rattle.flat_pages.specs.SlotSteps.{SetsEntry}
+use Rattle.flat_pages.specs.SlotSteps.{HomeStays, NamesHome, SetsEntry}
 use Rattle.flat_pages.specs.TableSteps.{tables_of}
-use Rattle.flat_pages.specs.Emptying.{AreFewer, EmptiesMap}
+use Rattle.flat_pages.specs.Emptying.{AreFewer, EmptiesMap, MapNames}
 use Rattle.flat_pages.proofs.ForkMaps.{fork_within}
 use Rattle.flat_pages.proofs.HeldEntries.{entry_same, entry_other, fork_set, maps_length}
 use Rattle.flat_pages.proofs.LivingMaps.{inserted, entry_held}
@@ -116,6 +116,9 @@ module _ {S : Type 0} (store : StoreMeaning S) (k : ℕ) where
     serials = refl;
     living = refl;
     limit = refl;
+    rest = λ page l. refl;
+    homes = λ home. inl (refl, refl);
+    frames = λ none. refl;
     core = same_core _;
     lost = loses_nothing (traffic store old);
     used = keeps_frames (traffic store old);
@@ -132,6 +135,10 @@ module _ {S : Type 0} (store : StoreMeaning S) (k : ℕ) where
     serials = sets.serials ∙ so_far.serials;
     living = sets.living ∙ so_far.living;
     limit = sets.limit ∙ so_far.limit;
+    rest = λ j l. ap (λ (ms : List HeldMap). held_entry ms (record { map = k; page = j })) sets.maps
+        ∙ entry_other maps at Empty (record { map = k; page = j }) (λ e. (let same : j ≡ page = ap (λ (x : EntryAt). x.page) e in absurd (omega (arith, same, l)))) ∙ so_far.rest j (omega (arith, l));
+    homes = λ home. homes_more home (so_far.homes home) (sets.homes home);
+    frames = λ none. sets.frames (λ home named. none home (named_first home named)) ∙ so_far.frames none;
     core = core_on so_far.core sets.core;
     lost = loses_on (traffic store old) (traffic store now) (traffic store new) so_far.lost sets.lost;
     used = none_on (traffic store old) (traffic store now) (traffic store new) so_far.used sets.used;
@@ -151,6 +158,23 @@ module _ {S : Type 0} (store : StoreMeaning S) (k : ℕ) where
         | inl same ↦ ap (λ p. held_entry (with_entry maps at Empty) (record { map = k; page = p })) same ∙ entry_same maps at Empty there.0 there.1
         | inr ne ↦ entry_other maps at Empty (record { map = k; page = j }) (λ e. ne (ap (λ (x : EntryAt). x.page) e)) ∙ so_far.entries j (omega (arith, l, ne))
       ]
+
+      named_first : (home : ℕ) → NamesHome maps at home → MapNames tables.maps.held.items k home
+      named_first home named = record { page = page; there = record { access = named.access; is = sym (so_far.rest page (omega arith)) ∙ named.is } }
+
+      first : Tables
+      first = tables_of (store.homes old) tables
+
+      mid : Tables
+      mid = tables_of (store.homes now) then_tables
+
+      last : Tables
+      last = tables_of (store.homes new) tables'
+
+      homes_more : (home : ℕ) → HomeStays first mid home (MapNames tables.maps.held.items k home) → HomeStays mid last home (NamesHome maps at home) → HomeStays first last home (MapNames tables.maps.held.items k home)
+      homes_more home (inl before) (inl now) = inl (now.0 ∙ before.0, now.1 ∙ before.1)
+      homes_more home (inr before) (inl now) = inr (now.0 ∙ before.0, now.1 ∙ before.1, before.2)
+      homes_more home before (inr now) = inr (now.0, now.1, named_first home now.2)
 
       told_more : (d : DrumWords) (f : ForkName) → fork_at tables.maps.held.items k ≡ Some f → FitsHomes (store.homes old) d → FitsHomes (store.homes new) d × AreFewer (plain_of (tables_of (store.homes old) tables) d) (plain_of (tables_of (store.homes new) tables') d) f
       told_more d f is fits =

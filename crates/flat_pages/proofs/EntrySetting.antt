@@ -1,8 +1,9 @@
 -- An entry that is set: what the pages are then, and what is in frames.
-use Rattle.std.proofs.Common.{◌≡◌, ◌≢◌, ℕ, ◌<◌, List, false, Option, None, Some, refl, sym, ◌∙◌, ap, subst, arith}
-use Rattle.std.specs.Prelude.{IsSome}
+use Rattle.std.proofs.Common.{◌≡◌, ◌≢◌, inl, inr, ℕ, ◌<◌, List, false, Option, None, Some, refl, sym, ◌∙◌, ap, subst, arith, length}
+use Rattle.std.specs.Prelude.{IsSome, slice_set}
 use Rattle.std.specs.Option.{option_map, option_and_then}
-use Rattle.std.proofs.lemmas.List.{get_or-set_other}
+use Rattle.std.proofs.lemmas.Bool.{cases_eq, cases_lt}
+use Rattle.std.proofs.lemmas.List.{get_or-set_other, get_or-set_same, get_or_past, length-set}
 use Rattle.machine_names.specs.declared.names.ForkName.{ForkName}
 use Rattle.machine_names.specs.declared.names.PageName.{PageName}
 use Rattle.page_homes.specs.declared.homes.Home.{Home}
@@ -12,7 +13,7 @@ use Rattle.machine_names.specs.declared.names.TheConstants.{SPACE_PAGES}
 use Rattle.plain_pages.specs.Maps.{set_entry}
 use Rattle.page_contracts.specs.DrumWords.{DrumWords}
 use Rattle.page_contracts.specs.Pages.{Scene, StaysInCore}
-use Rattle.page_contracts.specs.Stores.{StoreMeaning, IsSound, IsFreed, Loses, RenewsNone, FitsHomes, free, content, away_at, away_home, traffic}
+use Rattle.page_contracts.specs.Stores.{StoreMeaning, IsSound, IsFreed, Loses, RenewsNone, FitsHomes, HomePlace, free, place, content, away_at, away_home, traffic}
 use Rattle.page_contracts.proofs.Losing.{freed_none, keeps_frames, loses_freed, loses_nothing}
 use Rattle.flat_pages.specs.declared.held_entry.EntryAt.{EntryAt}
 use Rattle.flat_pages.specs.declared.held_entry.HeldEntry.{HeldEntry}
@@ -24,7 +25,7 @@ use Rattle.flat_pages.specs.SlotTables.{Tables, share_of, AreTables}
 use Rattle.flat_pages.specs.SlotTouches.{scene_of, home_named, is_alone}
 use Rattle.flat_pages.specs.SlotMeaning.{AreTold}
 use Rattle.flat_pages.specs.TableSteps.{tables_of, entry_kept, entry_left, home_freed}
-use Rattle.flat_pages.specs.SlotSteps.{SetsEntry}
+use Rattle.flat_pages.specs.SlotSteps.{HomeStays, NamesHome, SetsEntry}
 use Rattle.flat_pages.proofs.HeldEntries.{points_self}
 use Rattle.flat_pages.proofs.LivingMaps.{entry_held}
 use Rattle.flat_pages.proofs.Settling.{sized_of, content_other, fits_set}
@@ -37,6 +38,13 @@ use Rattle.flat_pages.proofs.Touching.{home_is}
 pub lives_used : (o : Option ForkName) (e : HeldEntry) → IsSome o → o ≡ None → e ≡ Empty
 lives_used None e some none = absurd (cc some)
 lives_used (Some f) e some none = absurd (cc none)
+
+-- a home that is given up is free
+free_set : (places : List HomePlace) (k : ℕ) → place (slice_set places k free) k ≡ free
+free_set places k = elim (cases_lt k (length places)) [
+  | inl below ↦ get_or-set_same places k free free below
+  | inr over ↦ get_or_past (slice_set places k free) k free (omega (arith, over, length-set places k free))
+]
 
 pub same_core : (scene : Scene) → StaysInCore scene scene 0
 same_core scene = record { maps = λ f h. h; pages = λ n h. h; frames = omega arith }
@@ -55,11 +63,13 @@ module _ {S : Type 0} (store : StoreMeaning S) (old new : S) (sound_old : IsSoun
       → ((b : EntryAt) (x : HeldEntry) → b ≢ at → held_entry t.maps b ≡ Some x → entry_of t'.names x ≡ entry_of t.names x)
       → entry_of t'.names e ≡ entry_of t.names e
       → ((d : DrumWords) → FitsHomes t.places d → FitsHomes t'.places d)
+      → ((home : ℕ) → HomeStays t t' home (NamesHome t.maps at home))
+      → (((home : ℕ) → NamesHome t.maps at home → ⊥) → store.spare new ≡ store.spare old)
       → StaysInCore (scene_of t (store.spare old)) (scene_of t' (store.spare new)) 0
       → Loses (traffic store old) (traffic store new)
       → RenewsNone (traffic store old) (traffic store new)
       → SetsEntry store old new tables tables' at e
-  sets_entry a a' there maps serials living limit names words others same fits core lost used = record {
+  sets_entry a a' there maps serials living limit names words others same fits homes frames core lost used = record {
     told = λ d s is fit. (
       fits d fit,
       told_set t t' a a' d (sized_of t.places d fit sound_old.pages) (sized_of t'.places d (fits d fit) sound_new.pages) names (words d) serials limit s (entry_of t.names q) (entry_of t.names e)
@@ -70,6 +80,8 @@ module _ {S : Type 0} (store : StoreMeaning S) (old new : S) (sound_old : IsSoun
     serials = serials;
     living = living;
     limit = limit;
+    homes = homes;
+    frames = frames;
     core = core;
     lost = lost;
     used = used;
@@ -102,6 +114,8 @@ module _ {S : Type 0} (store : StoreMeaning S) (old new : S) (sound_old : IsSoun
           (λ b x ne h. ap (λ ns. entry_of ns x) names_are)
           (ap (λ ns. entry_of ns e) names_are)
           (λ d fit. subst (λ ps. FitsHomes ps d) (sym places_are) fit)
+          (λ home. inl (ap (λ ps. place ps home) places_are, ap (λ ns. name_at ns home) names_are))
+          (λ none. ap store.spare same_store)
           (subst (λ (x : Scene). StaysInCore (scene_of t (store.spare old)) x 0) (sym scenes) (same_core (scene_of t (store.spare old))))
           (subst (λ (x : S). Loses (traffic store old) (traffic store x)) (sym same_store) (loses_nothing (traffic store old)))
           (subst (λ (x : S). RenewsNone (traffic store old) (traffic store x)) (sym same_store) (keeps_frames (traffic store old)))
@@ -162,6 +176,20 @@ module _ {S : Type 0} (store : StoreMeaning S) (old new : S) (sound_old : IsSoun
             ∙ ap (λ p. away_home p k) (get_or-set_other t.places h.0 k free free (not_h k n named))
             ∙ sym (ap (option_and_then (away_at t.places)) home) ∙ away
 
+    -- and this home alone goes
+    stays_or_goes : (k : ℕ) → HomeStays t u k (NamesHome t.maps at k)
+    stays_or_goes k = elim (cases_eq k h.0) [
+      | inl same ↦ inr (
+        ap (place u.places) same ∙ gone,
+        ap (name_at u.names) same ∙ name_gone t a at q e there page used_here none h b q_is one,
+        record { access = b; is = there ∙ ap Some q_is ∙ ap (λ (n : ℕ). Some (Page (record { 0 = n }) b)) (sym same) },
+      )
+      | inr ne ↦ inl (get_or-set_other t.places h.0 k free free ne, kept_name k ne)
+    ]
+      where
+        gone : place u.places h.0 ≡ free
+        gone = free_set t.places h.0
+
     pub freed_step : AreTables t' × AreTold t' × SetsEntry store old new tables tables' at e
     freed_step =
         let a' : AreTables t' = subst AreTables (sym is) agrees in (
@@ -173,6 +201,8 @@ module _ {S : Type 0} (store : StoreMeaning S) (old new : S) (sound_old : IsSoun
               (λ c x ne held. ap (λ (y : Tables). entry_of y.names x) is ∙ others_still c x ne held)
               (ap (λ (y : Tables). entry_of y.names e) is ∙ entry_still t.names u.names h.0 e kept_name (none h.0))
               (λ d fit. subst (λ (x : Tables). FitsHomes x.places d) (sym is) (fits_set t.places d h.0 free fit))
+              (λ k. subst (λ (x : Tables). HomeStays t x k (NamesHome t.maps at k)) (sym is) (stays_or_goes k))
+              (λ none. absurd (none h.0 (record { access = b; is = there ∙ ap Some q_is })))
               (subst (λ (x : Tables). StaysInCore (scene_of t (store.spare old)) (scene_of x (store.spare new)) 0) (sym is) frames_still)
               (loses_freed store old new h.0 given_up) (freed_none store old new h.0 given_up),
         )

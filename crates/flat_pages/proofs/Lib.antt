@@ -31,3 +31,4 @@ pub mod Looking
 pub mod StoredRows
 pub mod Numbering
 pub mod Using
+pub mod MapHomes

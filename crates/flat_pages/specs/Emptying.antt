@@ -1,5 +1,5 @@
 -- A map whose entries are emptied one after another, and a fork that ends so.
-use Rattle.std.specs.Prelude.{◌≡◌, ℕ, ◌<◌, true, false, None, Some, length, nat_lt, if◌then◌else◌}
+use Rattle.std.specs.Prelude.{◌≡◌, ℕ, ◌<◌, ◌≤◌, List, true, false, None, Some, length, nat_lt, if◌then◌else◌}
 use Rattle.std.specs.FinMap as map
 use Rattle.machine_names.specs.declared.names.ForkName.{ForkName}
 use Rattle.machine_names.specs.declared.names.PageName.{PageName}
@@ -10,11 +10,13 @@ use Rattle.page_contracts.specs.Pages.{StaysInCore}
 use Rattle.machine_names.specs.Orders.{same_fork}
 use Rattle.page_contracts.specs.Stores.{StoreMeaning, FitsHomes, Loses, RenewsNone, traffic}
 use Rattle.flat_pages.specs.declared.held_entry.HeldEntry.TheVariants.{Empty}
+use Rattle.flat_pages.specs.declared.held_map.HeldMap.{HeldMap}
 use Rattle.flat_pages.specs.declared.map_tables.MapTables.{MapTables}
 use Rattle.flat_pages.specs.HeldMaps.{fork_at, held_entry}
 use Rattle.flat_pages.specs.SlotTables.{plain_of}
 use Rattle.flat_pages.specs.SlotTouches.{scene_of}
 use Rattle.flat_pages.specs.TableSteps.{tables_of}
+use Rattle.flat_pages.specs.SlotSteps.{HomeStays, NamesHome}
 
 -- pages of which one fork's map alone names fewer: those that are still named are there with their words
 pub record AreFewer (p q : NumberedPages) (f : ForkName) : Type 0 where
@@ -26,6 +28,11 @@ pub record AreFewer (p q : NumberedPages) (f : ForkName) : Type 0 where
   pub console_serial : q.console_serial ≡ p.console_serial
   pub limit : q.limit ≡ p.limit
 
+-- a map names the page of a home
+pub record MapNames (maps : List HeldMap) (k home : ℕ) : Type 0 where
+  pub page : ℕ
+  pub there : NamesHome maps (record { map = k; page = page }) home
+
 -- the first entries of the map with a number were emptied: what no entry names any more was given up, and nothing has left its frame
 pub record EmptiesMap {S : Type 0} (store : StoreMeaning S) (old new : S) (tables tables' : MapTables) (k pages : ℕ) : Type 0 where
   pub told : (d : DrumWords) (f : ForkName) → fork_at tables.maps.held.items k ≡ Some f → FitsHomes (store.homes old) d
@@ -36,6 +43,9 @@ pub record EmptiesMap {S : Type 0} (store : StoreMeaning S) (old new : S) (table
   pub serials : tables'.serials ≡ tables.serials
   pub living : tables'.living ≡ tables.living
   pub limit : tables'.limit ≡ tables.limit
+  pub rest : (page : ℕ) → pages ≤ page → held_entry tables'.maps.held.items (record { map = k; page = page }) ≡ held_entry tables.maps.held.items (record { map = k; page = page })
+  pub homes : (home : ℕ) → HomeStays (tables_of (store.homes old) tables) (tables_of (store.homes new) tables') home (MapNames tables.maps.held.items k home)
+  pub frames : ((home : ℕ) → MapNames tables.maps.held.items k home → ⊥) → store.spare new ≡ store.spare old
   pub core : StaysInCore (scene_of (tables_of (store.homes old) tables) (store.spare old)) (scene_of (tables_of (store.homes new) tables') (store.spare new)) 0
   pub lost : Loses (traffic store old) (traffic store new)
   pub used : RenewsNone (traffic store old) (traffic store new)

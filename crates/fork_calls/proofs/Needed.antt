@@ -1,19 +1,20 @@
 -- What a call needs first is so, over whatever drum.
-use Rattle.std.proofs.Common.{◌≤◌, ℕ, inl, inr}
+use Rattle.std.proofs.Common.{◌≡◌, ◌≤◌, ◌+◌, ℕ, inl, inr, None, Some, sym, ◌∙◌, ap, arith}
 use Rattle.plain_model.specs.declared.call.End.{End}
 use Rattle.plain_model.specs.declared.call.End.TheVariants.{Done, Waits, Halts, Refused, Failed, Trap as TrapEnd}
 use Rattle.plain_model.specs.declared.call.ForkChange.{ForkChange}
 use Rattle.machine_names.specs.declared.names.ForkName.{ForkName}
-use Rattle.page_contracts.specs.Pages.{PagesMeaning, StaysInCore, TakesMap}
-use Rattle.page_contracts.specs.Stores.{StoreMeaning}
+use Rattle.page_contracts.specs.Pages.{AreHoused, DropsMap, IsOfMap, NamesPage, PagesMeaning}
+use Rattle.page_contracts.specs.Stores.{StoreMeaning, away, away_home, away_of, place}
+use Rattle.machine_names.specs.declared.names.PageName.{PageName}
+use Rattle.page_contracts.specs.declared.answers.Need.TheVariants as need
 use Rattle.page_contracts.proofs.Losing.{needed_more}
 use Rattle.call_turns.specs.declared.answer.Answer.{Answer}
 use Rattle.call_turns.specs.declared.answer.Answer.TheVariants as answer
 use Rattle.call_turns.specs.Answers.{AnswerNeeds, IsDone, answer_of}
 use Rattle.ka10_unit.specs.declared.taken.Stop.{Stop}
 use Rattle.ka10_unit.specs.declared.taken.Stop.TheVariants as stop
-use Rattle.ka10_unit.specs.Taking.{StopNeeds, most_frames}
-use Rattle.fork_calls.specs.Needing.{CallNeeds}
+use Rattle.ka10_unit.specs.Taking.{StopNeeds}
 use Rattle.fork_calls.specs.Turning.{stopped_by}
 
 module _ {P : Type 0} (store : StoreMeaning P) (most : ℕ) (p : P) where
@@ -36,13 +37,24 @@ module _ {P : Type 0} (store : StoreMeaning P) (most : ℕ) (p : P) where
   stop_needs (stop.Trap channel) h = tt
   stop_needs (stop.Need n) h = h
 
-module _ {P : Type 0} (means : PagesMeaning P) (old new : P) where
-  -- what is so on the pages that are left
-  pub call_needs : (most : ℕ) (a : Answer) → most ≤ most_frames → AnswerNeeds means.store most new a → CallNeeds means old new a
-  call_needs most (answer.Need n) few h = inl (needed_more means.store most most_frames new n few h)
-  call_needs most a few h = tt
+  -- and what is needed is so where more may be
+  pub answer_more : (more : ℕ) (a : Answer) → most ≤ more → AnswerNeeds store most p a → AnswerNeeds store more p a
+  answer_more more (answer.Need n) less h = needed_more store most more p n less h
+  answer_more more a less h = tt
 
-  -- or with a map there that is dropped
-  pub between_needs : (mid : P) (fork : ForkName) → TakesMap (means.scene old) (means.scene mid) fork → StaysInCore (means.scene mid) (means.scene new) 0 → (s : Stop) → StopNeeds means.store most_frames mid s → CallNeeds means old new (stopped_by s)
-  between_needs mid fork added dropped (stop.Trap channel) h = tt
-  between_needs mid fork added dropped (stop.Need n) h = inr (record { mid = mid; fork = fork; added = added; needed = h; dropped = dropped })
+-- What is needed with a map there is so once that is dropped, which named no page and was in a frame.
+module _ {P : Type 0} (means : PagesMeaning P) (most : ℕ) (mid new : P) (fork : ForkName) (housed : AreHoused means mid) (housed' : AreHoused means new) (names : (n : PageName) → NamesPage means mid fork n → ⊥) (here : (means.scene mid).map_away fork ≡ None) (drops : DropsMap means fork mid new) where
+  still_away : (home : ℕ) → place (means.store.homes mid) home ≡ away → place (means.store.homes new) home ≡ away
+  still_away home h = elim (drops.homes home) [
+    | inl same ↦ same ∙ h
+    | inr gone ↦ absurd (by gone.1)
+  ]
+    where
+      by : IsOfMap means mid fork home → ⊥
+      by (inl own) = (let z : None ≡ Some home = sym here ∙ housed.map_homes fork ∙ ap (away_of (means.store.homes mid)) own ∙ ap (λ p. away_home p home) h in cc z)
+      by (inr named) = names named.0 named.2
+
+  pub dropped_needs : (s : Stop) → StopNeeds means.store most mid s → AnswerNeeds means.store (most + 1) new (stopped_by s)
+  dropped_needs (stop.Trap channel) h = tt
+  dropped_needs (stop.Need (need.Page home)) h = still_away home.0 h
+  dropped_needs (stop.Need need.Frame) h = omega (arith, h, drops.frames names, housed.frames, housed'.frames)

@@ -1,5 +1,5 @@
 -- What a turn of a fork call needs first of pages of which some are in no frame.
-use Rattle.std.specs.Prelude.{◌≡◌, ◌⊎◌, true, None, Some}
+use Rattle.std.specs.Prelude.{◌≡◌, ◌⊎◌, ℕ, ◌+◌, true, None, Some}
 use Rattle.plain_model.specs.declared.call.End.{End}
 use Rattle.plain_model.specs.declared.call.End.TheVariants.{Done}
 use Rattle.plain_model.specs.declared.call.ForkChange.{ForkChange}
@@ -18,12 +18,9 @@ use Rattle.plain_pages.specs.PlainPages.{NumberedPages}
 use Rattle.plain_model.specs.Forks.{ForkMap}
 use Rattle.plain_model.specs.Inferiors.{is_inferior}
 use Rattle.plain_pages.specs.NewMaps.{with_map}
-use Rattle.page_contracts.specs.Pages.{PagesMeaning, Scene, StaysInCore, TakesMap}
-use Rattle.page_contracts.specs.Stores.{IsNeeded}
+use Rattle.page_contracts.specs.Pages.{Scene}
 use Rattle.plain_pages.specs.Room.{HasRoom}
 use Rattle.plain_units.specs.Steps.{Steps, Ending, begun, stopped, need as needs}
-use Rattle.call_turns.specs.declared.answer.Answer.{Answer}
-use Rattle.call_turns.specs.declared.answer.Answer.TheVariants as answer
 use Rattle.call_turns.specs.Needing.{TurnNeeds as NeedsOf}
 use Rattle.ka10_unit.specs.Gathers.{Framed}
 use Rattle.ka10_unit.specs.Taking.{most_frames, run_over}
@@ -70,15 +67,6 @@ NoTouches scene p owner s kind later n = ⊥
 abbrev pub TurnNeeds : Framed → ForkMap → Turn ⊥ ForkChange → Need → Type 0
 TurnNeeds p forks t n = NeedsOf WordsNeed NoTouches (ForkEndNeeds forks) p.scene p.pages t n
 
--- what the words of a new fork need is so on the pages with its map there, which took a frame at most and is there no more
-pub record IsNeededBetween {P : Type 0} (means : PagesMeaning P) (old new : P) (n : Need) : Type 0 where
-  pub mid : P
-  pub fork : ForkName
-  pub added : TakesMap (means.scene old) (means.scene mid) fork
-  pub needed : IsNeeded means.store most_frames mid n
-  pub dropped : StaysInCore (means.scene mid) (means.scene new) 0
-
--- what a call needs first is so, over whatever drum: on the pages that it leaves, or with the map of a new fork there
-abbrev pub CallNeeds : {P : Type 0} → PagesMeaning P → P → P → Answer → Type 0
-CallNeeds means old new (answer.Need n) = IsNeeded means.store most_frames new n ⊎ IsNeededBetween means old new n
-CallNeeds means old new result = Unit {0}
+-- how many frames a call may want: those of its references, and one for the map of a new fork
+abbrev pub call_frames : ℕ
+call_frames = most_frames + 1

@@ -51,7 +51,6 @@ pub fn stopped(stop: Stop) -> Answer
 }
 
 /// Ends a turn that asked for no word: its change is made, if it has one, or needs something first.
-#[tactic(auto, using(crate::proofs::CallLeaving::none_leaves))]
 pub fn end<P: Pages>(
     ending: End<ForkChange>,
     who: ForkName,

@@ -107,7 +107,6 @@ fn kill_bare<P: Pages>(name: ForkName, tree: &mut Tree, pages: &mut P)
 
 /// Kills an inferior of a fork, and all below it, with their maps; who waits for a fork of the job runs again. Err: one of
 /// the maps is in no frame, and nothing was changed.
-#[tactic(auto, using(crate::proofs::CallLeaving::none_leaves))]
 pub fn kill<P: Pages>(
     who: ForkName,
     name: ForkName,

@@ -8,14 +8,15 @@ ghost use Rattle.plain_model.specs.Forks.{first_regs};
 ghost use Rattle.plain_model.specs.Trees.{PlainTree, with_changed_of, with_made};
 ghost use Rattle.call_turns.specs.Turns.{IsRegs};
 ghost use Rattle.ka10_unit.specs.Carrying.{Grows};
-ghost use Rattle.call_turns.specs.Answers.{IsDone};
+ghost use Rattle.page_contracts.specs.declared.answers.Need.{Need as ANeed};
+ghost use Rattle.call_turns.specs.Answers.{AnswerNeeds, IsDone};
 ghost use Rattle.ka10_unit.specs.Gathers.{Serves, framed};
 ghost use Rattle.ka10_unit.specs.Taking.{IsTrap, StopNeeds, most_frames};
 ghost use Rattle.fork_tree.specs.Making.{slot_for};
 ghost use Rattle.fork_calls.specs.Asking.{asked};
 ghost use Rattle.fork_calls.specs.Blocks.{TookAccumulators};
-ghost use Rattle.fork_calls.specs.Holding.{CallLeaves, Holds};
-ghost use Rattle.fork_calls.specs.Needing.{CallNeeds};
+ghost use Rattle.fork_calls.specs.Holding.{CallLeaves, Holds, MakesPages};
+ghost use Rattle.fork_calls.specs.Needing.{call_frames};
 ghost use Rattle.fork_calls.specs.Steps.{begun, second_regs, whole};
 ghost use Rattle.fork_calls.specs.Turning.{HasRegs, Turned};
 ghost use Rattle.fork_calls.specs.declared.step.Step.{Step as AStep};
@@ -147,8 +148,9 @@ pub fn make<P: Pages>(
     requires holds { Holds P.means pages.old tree.old.forks }
     requires serial { P.means.serial pages.old who.tty < 2 ^ 62 }
     ensures told { Turned P.means pages.old pages.new tree.old tree.new result (whole (asked who regs.now tree.old) (AStep.Makes slot)) }
-    ensures needs { CallNeeds P.means pages.old pages.new result }
+    ensures needs { AnswerNeeds P.means.store call_frames pages.new result }
     ensures core { P.means.flat ≡ true → IsDone result }
+    ensures unmade { (n : ANeed) → result ≡ Answer.Need n → MakesPages P.means who.tty 0 pages.old pages.new }
     ensures leaves { CallLeaves P.means pages.old pages.new tree.old tree.new who 128 }
     ensures regs { HasRegs result }
 {

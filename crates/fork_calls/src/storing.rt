@@ -4,12 +4,13 @@ ghost use Rattle.plain_model.specs.ForkCalls.{stored_low as stored_low_of};
 ghost use Rattle.plain_units.specs.Steps.{is_accumulator};
 ghost use Rattle.machine_names.specs.Bounds.{IsAddress};
 ghost use Rattle.call_turns.specs.Turns.{IsRegs};
+ghost use Rattle.page_contracts.specs.declared.answers.Need.{Need as ANeed};
 ghost use Rattle.call_turns.specs.Answers.{AnswerNeeds, IsDone};
 ghost use Rattle.ka10_unit.specs.Gathers.{Serves};
 ghost use Rattle.ka10_unit.specs.Taking.{most_frames};
 ghost use Rattle.fork_tree.specs.Trees.{Lives};
 ghost use Rattle.fork_calls.specs.Asking.{asked};
-ghost use Rattle.fork_calls.specs.Holding.{CallLeaves, Holds};
+ghost use Rattle.fork_calls.specs.Holding.{CallLeaves, Holds, MakesPages};
 ghost use Rattle.fork_calls.specs.Steps.{whole};
 ghost use Rattle.fork_calls.specs.Turning.{HasRegs, Turned};
 ghost use Rattle.fork_calls.specs.declared.step.Step.{Step as AStep};
@@ -66,6 +67,7 @@ pub fn set_accumulators<P: Pages>(
     ensures told { Turned P.means pages.old pages.new tree.old tree.new result (whole (asked who regs.now tree.old) (AStep.Sets fork)) }
     ensures needs { AnswerNeeds P.means.store most_frames pages.new result }
     ensures core { P.means.flat ≡ true → IsDone result }
+    ensures unmade { (n : ANeed) → result ≡ Answer.Need n → MakesPages P.means who.tty 0 pages.old pages.new }
     ensures leaves { CallLeaves P.means pages.old pages.new tree.old tree.new who 128 }
     ensures regs { HasRegs result }
 {
@@ -97,6 +99,7 @@ pub fn store_accumulators<P: Pages>(
     ensures told { Turned P.means pages.old pages.new tree.now tree.now result (whole (asked who regs.now tree.now) (AStep.Stores fork)) }
     ensures needs { AnswerNeeds P.means.store most_frames pages.new result }
     ensures core { P.means.flat ≡ true → IsDone result }
+    ensures unmade { (n : ANeed) → result ≡ Answer.Need n → MakesPages P.means who.tty 0 pages.old pages.new }
     ensures leaves { CallLeaves P.means pages.old pages.new tree.now tree.now who 128 }
     ensures regs { HasRegs result }
 {

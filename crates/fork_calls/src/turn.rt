@@ -2,12 +2,13 @@
 ghost use Rattle.std.specs.Prelude.{◌≡◌, ◌<◌, ◌^◌, IsSome, true};
 ghost use Rattle.std.specs.FinMap as map;
 ghost use Rattle.plain_model.specs.ForkCalls.{fork_call};
-ghost use Rattle.call_turns.specs.Answers.{IsDone};
+ghost use Rattle.page_contracts.specs.declared.answers.Need.{Need as ANeed};
+ghost use Rattle.call_turns.specs.Answers.{AnswerNeeds, IsDone};
 ghost use Rattle.call_turns.specs.Turns.{IsRegs};
 ghost use Rattle.fork_calls.specs.Asking.{asked};
-ghost use Rattle.fork_calls.specs.Holding.{CallLeaves, Holds};
+ghost use Rattle.fork_calls.specs.Holding.{CallLeaves, Holds, MakesPages};
 ghost use Rattle.fork_calls.specs.Limits.{AreWithin};
-ghost use Rattle.fork_calls.specs.Needing.{CallNeeds};
+ghost use Rattle.fork_calls.specs.Needing.{call_frames};
 ghost use Rattle.fork_calls.specs.Turning.{HasRegs, Turned};
 
 use crate::ending::end;
@@ -38,8 +39,9 @@ pub fn call<P: Pages>(
     requires within { AreWithin tree.old.forks }
     requires serial { P.means.serial pages.old who.tty < 2 ^ 62 }
     ensures told { Turned P.means pages.old pages.new tree.old tree.new result (fork_call number (asked who regs.now tree.old)) }
-    ensures needs { CallNeeds P.means pages.old pages.new result }
+    ensures needs { AnswerNeeds P.means.store call_frames pages.new result }
     ensures core { P.means.flat ≡ true → IsDone result }
+    ensures unmade { (n : ANeed) → result ≡ Answer.Need n → MakesPages P.means who.tty 0 pages.old pages.new }
     ensures leaves { CallLeaves P.means pages.old pages.new tree.old tree.new who 128 }
     ensures regs { HasRegs result }
 {

@@ -1,5 +1,5 @@
 -- What the calls on pages answer and leave: over the plain pages, and over what is in frames.
-use Rattle.std.specs.Prelude.{◌≡◌, ◌⊎◌, ℕ, ◌+◌, ◌<◌, ◌≤◌, List, [], ◌∷◌, length, Bool, true, false, nat_lt, nat_le, Option, None, Some, if◌then◌else◌, ◌==◌, slice_index, is_some, MatchOption}
+use Rattle.std.specs.Prelude.{◌≡◌, ◌≢◌, ◌⊎◌, ℕ, ◌+◌, ◌<◌, ◌≤◌, List, [], ◌∷◌, length, Bool, true, false, nat_lt, nat_le, Option, None, Some, if◌then◌else◌, ◌==◌, slice_index, is_some, MatchOption}
 use Rattle.std.specs.Option.{option_map, option_or, option_map_or, option_and_then}
 use Rattle.std.specs.declared.cmp.Ordering.{Ordering}
 use Rattle.std.specs.FinMap as map
@@ -8,6 +8,7 @@ use Rattle.machine_names.specs.declared.names.ForkName.{ForkName}
 use Rattle.machine_names.specs.declared.names.PageName.{PageName}
 use Rattle.machine_names.specs.declared.names.Place.{Place}
 use Rattle.machine_names.specs.declared.names.Place.TheVariants.{Fork, File}
+use Rattle.machine_names.specs.declared.names.Access.{Access}
 use Rattle.machine_names.specs.declared.names.Kind.{Kind}
 use Rattle.machine_names.specs.declared.names.Kind.TheVariants.{Read, Write}
 use Rattle.machine_names.specs.declared.names.TheConstants.{SPACE_PAGES}
@@ -32,7 +33,7 @@ use Rattle.plain_pages.specs.PlainPages.{PlainPages, NumberedPages, page_serial}
 use Rattle.plain_pages.specs.Maps.{entry_at, maps_on_way}
 use Rattle.plain_pages.specs.Room.{live, uses}
 use Rattle.plain_pages.specs.References.{Spot, in_map, in_file, Making, blank, copy, Referred, granted, denied, full, reference, next_making, words_of, page_at}
-use Rattle.page_contracts.specs.Stores.{StoreMeaning, IsSound, IsNeeded, Loses, Renews, RenewsNone, away, away_of, is_here, is_taken, place, traffic}
+use Rattle.page_contracts.specs.Stores.{StoreMeaning, IsSound, IsNeeded, Loses, Renews, RenewsNone, away, free, away_of, is_here, is_taken, place, traffic}
 use Rattle.machine_names.specs.Bounds.{IsOwner}
 
 -- What is in frames: for each fork the home of its map and for each page its home, where that is in no
@@ -293,6 +294,32 @@ UsesMap means fork old new = MatchOption (means.map_home new fork) (UsesNone mea
 -- what is queued and held may have become less, and what that would have told is to be told; and only what was used is younger than it was
 abbrev pub MayLose : {P : Type 0} → PagesMeaning P → P → P → Type 0
 MayLose means old new = Loses (traffic means.store old) (traffic means.store new)
+
+-- the map of a fork names a page
+pub record NamesPage {P : Type 0} (means : PagesMeaning P) (p : P) (fork : ForkName) (n : PageName) : Type 0 where
+  pub page : ℕ
+  pub access : Access
+  pub is : means.seen p (record { fork = fork; page = page }) ≡ Entry (Names n access)
+
+-- a home is that of the map, or of a page that it names
+abbrev pub IsOfMap : {P : Type 0} → PagesMeaning P → P → ForkName → ℕ → Type 0
+IsOfMap means p fork home = (means.map_home p fork ≡ Some home) ⊎ ((n : PageName) × (means.page_home p n ≡ Some home) × NamesPage means p fork n)
+
+-- a map was added, which names no page: each home but that of the map has what it had, and what had a home has it
+pub record AddsMap {P : Type 0} (means : PagesMeaning P) (fork : ForkName) (old new : P) : Type 0 where
+  pub homes : (home : ℕ) → (means.map_home new fork ≡ Some home → ⊥) → place (means.store.homes new) home ≡ place (means.store.homes old) home
+  pub pages : means.page_home new ≡ means.page_home old
+  pub maps : (f : ForkName) → f ≢ fork → means.map_home new f ≡ means.map_home old f
+  pub names : (n : PageName) → NamesPage means new fork n → ⊥
+
+-- a map went: each home has what it had, or was given up and is that of the map or of a page that it named; so each page has its home, or went; each other map
+-- has its home, and is in a frame where it was; and where the map named no page, no frame is free now but its own
+pub record DropsMap {P : Type 0} (means : PagesMeaning P) (fork : ForkName) (old new : P) : Type 0 where
+  pub homes : (home : ℕ) → (place (means.store.homes new) home ≡ place (means.store.homes old) home) ⊎ ((place (means.store.homes new) home ≡ free) × IsOfMap means old fork home)
+  pub pages : (n : PageName) → (means.page_home new n ≡ means.page_home old n) ⊎ ((means.page_home new n ≡ None) × NamesPage means old fork n)
+  pub maps : (f : ForkName) → f ≢ fork → means.map_home new f ≡ means.map_home old f
+  pub away : (f : ForkName) → f ≢ fork → (means.scene new).map_away f ≡ (means.scene old).map_away f
+  pub frames : ((n : PageName) → NamesPage means old fork n → ⊥) → (means.scene new).free_frames ≤ (means.scene old).free_frames + 1
 
 -- what a word put into a page leaves: what a touch finds, the handles and the places, the homes, and all numbers
 pub record StaysPut {P : Type 0} (means : PagesMeaning P) (old new : P) : Type 0 where

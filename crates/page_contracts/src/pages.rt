@@ -11,7 +11,7 @@ ghost use Rattle.page_contracts.specs.DrumWords.{DrumWords, Stands};
 ghost use Rattle.plain_pages.specs.References.{in_map, settled, slot_at, word_at, stored, page_at as named_at, without_fork};
 ghost use Rattle.page_contracts.specs.Stores.{IsFetched, IsUsed, CanFetch, Completes, Tells, Evicts, CanKeep, Keeps, LetsGo, awaited, meeting, most_held};
 ghost use Rattle.plain_pages.specs.WholePages.{AreWhole};
-ghost use Rattle.page_contracts.specs.Pages.{PagesMeaning, Agrees, AreHoused, HasFound, HasSpace, MayLose, PeekNeeds, SeenNeeds, StandsAt, TouchNeeds, UsesMap, UsesNone, UsesOne, StaysInCore, TakesMap, TakesFrames, StaysPut, StaysMapped, StaysPlain, StaysSame, IsPlace, IsTouched, IsReady, CanChange, IsNewMap, FollowsPage, SettlesTo, spot_of, touch_of, peek_of, seen_of, map_away, counted, room_for, can_settle, frames_taken, is_in_core, is_seen, is_entry, is_seen_entry};
+ghost use Rattle.page_contracts.specs.Pages.{PagesMeaning, AddsMap, Agrees, AreHoused, DropsMap, HasFound, HasSpace, MayLose, PeekNeeds, SeenNeeds, StandsAt, TouchNeeds, UsesMap, UsesNone, UsesOne, StaysInCore, TakesMap, TakesFrames, StaysPut, StaysMapped, StaysPlain, StaysSame, IsPlace, IsTouched, IsReady, CanChange, IsNewMap, FollowsPage, SettlesTo, spot_of, touch_of, peek_of, seen_of, map_away, counted, room_for, can_settle, frames_taken, is_in_core, is_seen, is_entry, is_seen_entry};
 ghost use Rattle.machine_names.specs.Bounds.{IsOwner};
 ghost use Rattle.plain_pages.specs.NewEntries.{IsNewEntry, changed};
 ghost use Rattle.machine_names.specs.Orders.{same_fork};
@@ -184,6 +184,7 @@ pub trait Pages {
         ensures scene { TakesMap (means.scene self.old) (means.scene self.new) fork }
         ensures loses { MayLose means self.old self.new }
         ensures uses { UsesMap means fork self.old self.new }
+        ensures adds { AddsMap means fork self.old self.new }
         ensures lives { (f : AForkName) → means.lives self.new f ≡ (same_fork f fork || means.lives self.old f) }
         ensures forks { means.forks_of self.new fork.tty ≡ means.forks_of self.old fork.tty + 1 }
         ensures others { (t : ATty) → t ≢ fork.tty → means.forks_of self.new t ≡ means.forks_of self.old t }
@@ -198,6 +199,7 @@ pub trait Pages {
         ensures scene { StaysInCore (means.scene self.old) (means.scene self.new) 0 }
         ensures loses { MayLose means self.old self.new }
         ensures uses { UsesNone means self.old self.new }
+        ensures drops { DropsMap means fork self.old self.new }
         ensures lives { (f : AForkName) → means.lives self.new f ≡ (not (same_fork f fork) && means.lives self.old f) }
         ensures forks { means.forks_of self.new fork.tty + 1 ≡ means.forks_of self.old fork.tty }
         ensures others { (t : ATty) → t ≢ fork.tty → means.forks_of self.new t ≡ means.forks_of self.old t }

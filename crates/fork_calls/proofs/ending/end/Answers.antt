@@ -1,6 +1,7 @@
 use Rattle.std.proofs.Common.{refl, inl, sym, ◌∙◌, ap, subst}
 use Rattle.call_turns.specs.Answers.{AnswerNeeds, answer_of}
 use Rattle.fork_calls.specs.Turning.{parts}
+use Rattle.fork_calls.proofs.CallLeaving.{none_leaves}
 use Rattle.fork_calls.proofs.Going.{ends_done, ends_so}
 use Rattle.fork_calls.proofs.Needed.{end_needs}
 use Rattle.fork_calls.proofs.ending.end.Goals as goal
@@ -25,3 +26,6 @@ pub returns-in_default-clause-needs : goal.returns-in_default-clause-needs
 returns-in_default-clause-needs g c =
     let s = c.args.pages.now in
     subst (AnswerNeeds g.P.Pages.means.store 1 s) (sym c.answer_of-in_default.ensures) (end_needs g.P.Pages.means.store 1 s c.args.ending)
+
+pub returns-in_default-clause-leaves : goal.returns-in_default-clause-leaves
+returns-in_default-clause-leaves g c = none_leaves g.P.Pages.means c.args.who c.args.tree.now c.args.pages.now c.requires.holds

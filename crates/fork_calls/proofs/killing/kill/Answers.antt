@@ -12,6 +12,7 @@ use Rattle.ka10_unit.proofs.Lost.{lost_on}
 use Rattle.fork_calls.specs.Holding.{TopsStay}
 use Rattle.fork_calls.specs.Turning.{parts}
 use Rattle.fork_calls.proofs.Branch.{below_younger, kill_changes, made_on}
+use Rattle.fork_calls.proofs.CallLeaving.{none_leaves}
 use Rattle.fork_calls.proofs.Holdings.{holds_same}
 use Rattle.fork_calls.proofs.Places.{Keep, come_on, still_living, waiters_keep}
 use Rattle.fork_calls.proofs.Tops.{below_low, gone_tops, same_tops, tops_on}
@@ -68,3 +69,6 @@ returns-clause-leaves g c =
       made = made_on means who.tty 0 0 c.args.pages.now c.kill_below.new.pages c.kill_bare.new.pages (c.kill_below.ensures.made who.tty) (c.kill_bare.ensures.made who.tty);
       loses = lost_on means c.args.pages.now c.kill_below.new.pages c.kill_bare.new.pages c.kill_below.ensures.loses c.kill_bare.ensures.loses;
     }
+
+pub returns-in_err-ask_maps-clause-leaves : goal.returns-in_err-ask_maps-clause-leaves
+returns-in_err-ask_maps-clause-leaves g c = none_leaves g.P.Pages.means c.args.who c.args.tree.now c.args.pages.now c.requires.holds

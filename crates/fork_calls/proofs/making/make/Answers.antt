@@ -6,6 +6,7 @@ use Rattle.plain_model.specs.declared.call.End.TheVariants.{Done, Failed}
 use Rattle.plain_model.specs.declared.call.ForkChange.{ForkChange}
 use Rattle.plain_model.specs.declared.call.ForkChange.TheVariants.{Make}
 use Rattle.machine_names.specs.declared.names.ForkName.{ForkName}
+use Rattle.machine_names.specs.declared.names.PageName.{PageName}
 use Rattle.machine_names.specs.declared.names.Tty.{Tty}
 use Rattle.plain_pages.specs.declared.map.NewMap.{NewMap}
 use Rattle.plain_units.specs.declared.registers.Regs.{Regs}
@@ -16,10 +17,10 @@ use Rattle.plain_pages.specs.Room.{HasRoom}
 use Rattle.plain_pages.specs.References.{without_fork}
 use Rattle.page_contracts.specs.declared.answers.Need.TheVariants.{Frame}
 use Rattle.page_contracts.proofs.Losing.{needed_more}
-use Rattle.page_contracts.specs.Pages.{IsNewMap, MayLose, PagesMeaning, TakesMap}
+use Rattle.page_contracts.specs.Pages.{IsNewMap, MayLose, NamesPage, PagesMeaning, TakesMap}
 use Rattle.plain_model.specs.Trees.{PlainTree, next_name}
 use Rattle.plain_model.specs.ForkCalls.{made_fork, map_wanted}
-use Rattle.call_turns.specs.Answers.{answer_of}
+use Rattle.call_turns.specs.Answers.{AnswerNeeds, IsDone, answer_of}
 use Rattle.ka10_unit.specs.Carrying.{Grows}
 use Rattle.ka10_unit.specs.Gathers.{framed}
 use Rattle.ka10_unit.specs.Taking.{most_frames}
@@ -28,7 +29,7 @@ use Rattle.fork_tree.specs.Trees.{AreSlotted, IsTree}
 use Rattle.fork_tree.proofs.Kept.{name_unused}
 use Rattle.fork_calls.specs.Asking.{asked}
 use Rattle.fork_calls.specs.Holding.{ComeOrNew, Holds, MakesPages, TopsStay}
-use Rattle.fork_calls.specs.Needing.{CallNeeds}
+use Rattle.fork_calls.specs.Needing.{call_frames}
 use Rattle.fork_calls.specs.Steps.{made_where, second_regs}
 use Rattle.fork_calls.specs.Turning.{parts}
 use Rattle.fork_calls.proofs.Added.{added_dropped, added_holds, back_holds, enough_room, few_forks, no_frame, no_room, not_there, room_told}
@@ -38,7 +39,7 @@ use Rattle.fork_calls.proofs.Going.{goes, stops}
 use Rattle.fork_calls.proofs.Grown.{slot_told}
 use Rattle.fork_calls.proofs.Holdings.{grown_made, holds_still}
 use Rattle.fork_calls.proofs.MadeTurns.{still_there, made_come, made_full, made_goes, made_new, made_stops, make_changes, wanted_new}
-use Rattle.fork_calls.proofs.Needed.{between_needs, call_needs, done_needs}
+use Rattle.fork_calls.proofs.Needed.{done_needs, dropped_needs}
 use Rattle.fork_calls.proofs.Places.{came_itself}
 use Rattle.fork_calls.proofs.Tops.{made_tops}
 use Rattle.fork_calls.proofs.TurnBlocks.{turn_stops}
@@ -214,20 +215,33 @@ returns-in-Ok-clause-leaves g c =
     }
 
 pub returns-in-NeedFrame-clause-needs : goal.returns-in-NeedFrame-clause-needs
-returns-in-NeedFrame-clause-needs g c = inl (needed_more g.P.Pages.means.store 1 most_frames c.args.pages.now Frame (omega arith) (c.in-NeedFrame.ensures.frames refl))
+returns-in-NeedFrame-clause-needs g c = needed_more g.P.Pages.means.store 1 call_frames c.args.pages.now Frame (omega arith) (c.in-NeedFrame.ensures.frames refl)
 
 pub returns-in-Err-clause-needs : goal.returns-in-Err-clause-needs
 returns-in-Err-clause-needs g c =
     let means = g.P.Pages.means in
-    let old = c.args.pages.now in
     let mid = c.accumulators.new.pages in
     let new = c.drop_fork.new.self in
     let name = c.next_name-name.result in
-    let added : TakesMap (means.scene old) (means.scene mid) name = subst (λ s. TakesMap (means.scene old) (means.scene s) name) (sym c.in-Err.ensures.stopped) c.add_fork.ensures.scene in
-    subst (CallNeeds means old new) (sym c.stopped.ensures.answer) (between_needs means old new mid name added c.drop_fork.ensures.scene c.in-Err.stop c.in-Err.ensures.needs)
+    let same = c.in-Err.ensures.stopped in
+    let names : (n : PageName) → NamesPage means mid name n → ⊥ = subst (λ s. (n : PageName) → NamesPage means s name n → ⊥) (sym same) c.add_fork.ensures.adds.names in
+    let here : (means.scene mid).map_away name ≡ None = ap (λ s. (means.scene s).map_away name) same ∙ c.add_fork.ensures.scene.own in
+    subst (AnswerNeeds means.store call_frames new) (sym c.stopped.ensures.answer)
+    (dropped_needs means most_frames mid new name (g.met.P.Pages.housed mid) (g.met.P.Pages.housed new) names here c.drop_fork.ensures.drops c.in-Err.stop c.in-Err.ensures.needs)
 
 pub returns-in-Ok-clause-needs : goal.returns-in-Ok-clause-needs
-returns-in-Ok-clause-needs g c =
+returns-in-Ok-clause-needs g c = done_needs g.P.Pages.means.store call_frames c.accumulators.new.pages c.returned.result c.returned.ensures.core
+
+pub returns-in-NeedFrame-clause-unmade : goal.returns-in-NeedFrame-clause-unmade
+returns-in-NeedFrame-clause-unmade g c n is = none_made g.P.Pages.means c.args.pages.now c.args.pages.now c.args.who.tty refl refl
+
+pub returns-in-Err-clause-unmade : goal.returns-in-Err-clause-unmade
+returns-in-Err-clause-unmade g c n is =
     let means = g.P.Pages.means in
-    let new = c.accumulators.new.pages in
-    call_needs means c.args.pages.now new 1 c.returned.result (omega arith) (done_needs means.store 1 new c.returned.result c.returned.ensures.core)
+    let same = c.in-Err.ensures.stopped in
+    let add = c.add_fork.ensures in
+    let drop = c.drop_fork.ensures in
+    none_made means c.args.pages.now c.drop_fork.new.self c.args.who.tty (drop.serials ∙ ap (λ s. means.serial s) same ∙ add.serials) (drop.most ∙ ap (λ s. means.most s) same ∙ add.most)
+
+pub returns-in-Ok-clause-unmade : goal.returns-in-Ok-clause-unmade
+returns-in-Ok-clause-unmade g c n is = absurd (subst IsDone is c.returned.ensures.core)

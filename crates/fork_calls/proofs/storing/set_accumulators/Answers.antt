@@ -6,7 +6,7 @@ use Rattle.machine_names.specs.declared.names.Kind.TheVariants.{Read}
 use Rattle.plain_model.specs.Calls.{ends}
 use Rattle.plain_units.specs.declared.registers.Regs.{Regs}
 use Rattle.plain_model.specs.ForkCalls.{address_named, with_accumulators_of}
-use Rattle.call_turns.specs.Answers.{AnswerNeeds, answer_of}
+use Rattle.call_turns.specs.Answers.{AnswerNeeds, IsDone, answer_of}
 use Rattle.ka10_unit.specs.Gathers.{framed}
 use Rattle.ka10_unit.specs.Taking.{most_frames}
 use Rattle.fork_calls.specs.Asking.{asked}
@@ -14,6 +14,7 @@ use Rattle.fork_calls.specs.Blocks.{GoesOn, TookBlock}
 use Rattle.fork_calls.specs.Steps.{set_end, whole}
 use Rattle.fork_calls.specs.Turning.{parts}
 use Rattle.fork_calls.specs.declared.step.Step.TheVariants.{Sets}
+use Rattle.fork_calls.proofs.Branch.{none_made}
 use Rattle.fork_calls.proofs.CallLeaving.{grown_leaves, places_leave}
 use Rattle.fork_calls.proofs.Needed.{done_needs, stop_needs}
 use Rattle.fork_calls.proofs.TurnBlocks.{block_goes, block_stops, turn_stops}
@@ -67,3 +68,11 @@ returns-in-Err-clause-needs g c =
 
 pub returns-in-Ok-clause-needs : goal.returns-in-Ok-clause-needs
 returns-in-Ok-clause-needs g c = done_needs g.P.Pages.means.store most_frames c.block.new.pages c.returned.result c.returned.ensures.core
+
+pub returns-in-Err-clause-unmade : goal.returns-in-Err-clause-unmade
+returns-in-Err-clause-unmade g c n is =
+    let means = g.P.Pages.means in
+    none_made means c.args.pages.now c.block.new.pages c.args.who.tty (ap (λ s. means.serial s) c.in-Err.ensures.stopped) (ap (λ s. means.most s) c.in-Err.ensures.stopped)
+
+pub returns-in-Ok-clause-unmade : goal.returns-in-Ok-clause-unmade
+returns-in-Ok-clause-unmade g c n is = absurd (subst IsDone is c.returned.ensures.core)

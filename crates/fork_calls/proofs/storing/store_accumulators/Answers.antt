@@ -8,7 +8,7 @@ use Rattle.plain_model.specs.Calls.{behind_call, ends}
 use Rattle.plain_units.specs.declared.registers.Regs.{Regs}
 use Rattle.plain_model.specs.ForkCalls.{address_named, stored_low}
 use Rattle.plain_units.specs.Blocks.{stored_from}
-use Rattle.call_turns.specs.Answers.{AnswerNeeds, answer_of}
+use Rattle.call_turns.specs.Answers.{AnswerNeeds, IsDone, answer_of}
 use Rattle.ka10_unit.proofs.Carried.{grows_more, grows_stored}
 use Rattle.ka10_unit.specs.Gathers.{framed}
 use Rattle.ka10_unit.specs.Taking.{most_frames}
@@ -17,6 +17,7 @@ use Rattle.fork_calls.specs.Blocks.{GoesOn, TookBlock}
 use Rattle.fork_calls.specs.Steps.{store_end, whole}
 use Rattle.fork_calls.specs.Turning.{parts}
 use Rattle.fork_calls.specs.declared.step.Step.TheVariants.{Stores}
+use Rattle.fork_calls.proofs.Branch.{none_made}
 use Rattle.fork_calls.proofs.CallLeaving.{grown_leaves}
 use Rattle.fork_calls.proofs.Needed.{done_needs, stop_needs}
 use Rattle.fork_calls.proofs.TurnBlocks.{block_goes, block_stops, turn_stops, words_stored}
@@ -79,3 +80,11 @@ returns-in-Err-clause-needs g c =
 
 pub returns-in-Ok-clause-needs : goal.returns-in-Ok-clause-needs
 returns-in-Ok-clause-needs g c = done_needs g.P.Pages.means.store most_frames c.store_block.new.pages c.returned.result c.returned.ensures.core
+
+pub returns-in-Err-clause-unmade : goal.returns-in-Err-clause-unmade
+returns-in-Err-clause-unmade g c n is =
+    let means = g.P.Pages.means in
+    none_made means c.args.pages.now c.block.new.pages c.args.who.tty (ap (λ s. means.serial s) c.in-Err.ensures.stopped) (ap (λ s. means.most s) c.in-Err.ensures.stopped)
+
+pub returns-in-Ok-clause-unmade : goal.returns-in-Ok-clause-unmade
+returns-in-Ok-clause-unmade g c n is = absurd (subst IsDone is c.returned.ensures.core)

@@ -4,11 +4,12 @@ use Rattle.plain_model.specs.declared.call.ForkChange.{ForkChange}
 use Rattle.plain_model.specs.ForkCalls.{fork_call}
 use Rattle.ka10_unit.specs.Taking.{most_frames}
 use Rattle.fork_calls.specs.Asking.{asked}
+use Rattle.fork_calls.specs.Needing.{call_frames}
 use Rattle.fork_calls.specs.Steps.{whole}
 use Rattle.fork_calls.specs.declared.step.Step.TheVariants.{Ends}
 use Rattle.fork_calls.specs.Turning.{Turned}
 use Rattle.fork_calls.proofs.Holdings.{caller_serves, caller_terminal}
-use Rattle.fork_calls.proofs.Needed.{call_needs}
+use Rattle.fork_calls.proofs.Needed.{answer_more}
 use Rattle.fork_calls.proofs.turn.call.Goals as goal
 
 pub first-requires-clause-terminal : goal.first-requires-clause-terminal
@@ -44,10 +45,13 @@ returns-in-Ends-clause-leaves g c =
     }
 
 pub returns-in-Ends-clause-needs : goal.returns-in-Ends-clause-needs
-returns-in-Ends-clause-needs g c = call_needs g.P.Pages.means c.args.pages.now c.end.new.pages 1 c.end.result (omega arith) c.end.ensures.needs
+returns-in-Ends-clause-needs g c = answer_more g.P.Pages.means.store 1 c.end.new.pages call_frames c.end.result (omega arith) c.end.ensures.needs
 
 pub returns-in-Sets-clause-needs : goal.returns-in-Sets-clause-needs
-returns-in-Sets-clause-needs g c = call_needs g.P.Pages.means c.args.pages.now c.set_accumulators.new.pages most_frames c.set_accumulators.result (omega arith) c.set_accumulators.ensures.needs
+returns-in-Sets-clause-needs g c = answer_more g.P.Pages.means.store most_frames c.set_accumulators.new.pages call_frames c.set_accumulators.result (omega arith) c.set_accumulators.ensures.needs
 
 pub returns-in-Stores-clause-needs : goal.returns-in-Stores-clause-needs
-returns-in-Stores-clause-needs g c = call_needs g.P.Pages.means c.args.pages.now c.store_accumulators.new.pages most_frames c.store_accumulators.result (omega arith) c.store_accumulators.ensures.needs
+returns-in-Stores-clause-needs g c = answer_more g.P.Pages.means.store most_frames c.store_accumulators.new.pages call_frames c.store_accumulators.result (omega arith) c.store_accumulators.ensures.needs
+
+pub returns-in-Ends-clause-unmade : goal.returns-in-Ends-clause-unmade
+returns-in-Ends-clause-unmade g c n is = c.end.ensures.leaves.made

@@ -1,9 +1,10 @@
 use Rattle.std.proofs.Common.{◌∙◌, sym, ap, refl}
 use Rattle.plain_pages.specs.NewMaps.{with_map}
 use Rattle.flat_pages.specs.HeldMaps.{map_at, followers}
-use Rattle.flat_pages.specs.SlotTables.{plain_of}
+use Rattle.flat_pages.specs.SlotTables.{Tables, plain_of}
 use Rattle.flat_pages.specs.TableSteps.{tables_of}
-use Rattle.flat_pages.proofs.Beginning.{agrees_begun, told_begun, scene_begun, who_lives, own_lives, others_live, serials_begun, old_new, old_empty, followers_new, followers_follow}
+use Rattle.flat_pages.proofs.Beginning.{agrees_begun, told_begun, scene_begun, who_lives, own_lives, others_live, serials_begun, old_new, old_empty, followers_new, followers_follow, index_begun, unnamed_begun}
+use Rattle.flat_pages.proofs.MapHomes.{adds_map}
 use Rattle.flat_pages.proofs.Telling.{tables_told}
 use Rattle.page_contracts.specs.Stores.{traffic}
 use Rattle.page_contracts.proofs.Losing.{keeps_frames, loses_nothing}
@@ -120,3 +121,27 @@ returns-in-FollowAll-clause-loses g c = loses_nothing (traffic g.S.Store.means c
 
 pub returns-in-FollowAll-clause-uses : goal.returns-in-FollowAll-clause-uses
 returns-in-FollowAll-clause-uses g c = keeps_frames (traffic g.S.Store.means c.args.self.now.store)
+
+pub returns-in-Empty-clause-adds : goal.returns-in-Empty-clause-adds
+returns-in-Empty-clause-adds g c =
+    let s = c.args.self.now in
+    let t = tables_of (g.S.Store.means.homes s.store) s.tables in
+    let n = c.free_map_of-number in
+    let is = c.add_empty.ensures (g.S.Store.means.homes s.store) in
+    let entries = (map_at s.tables.maps.held.items n.result).entries in
+    let new = old_new t s.agree n.result c.args.fork n.ensures.fork n.ensures.from n.ensures.below c.requires.terminal c.requires.absent c.requires.room in
+    adds_map g.S.Store.means (λ p. p.store) (λ p. tables_of (g.S.Store.means.homes p.store) p.tables) s _ c.args.fork refl (ap (λ (x : Tables). x.names) is) n.result
+    (index_begun t s.agree n.result c.args.fork n.ensures.fork n.ensures.from n.ensures.below c.requires.terminal c.requires.absent c.requires.room entries new _ is)
+    (unnamed_begun t s.agree n.result c.args.fork n.ensures.fork n.ensures.from n.ensures.below c.requires.terminal c.requires.absent c.requires.room entries new _ is)
+
+pub returns-in-FollowAll-clause-adds : goal.returns-in-FollowAll-clause-adds
+returns-in-FollowAll-clause-adds g c =
+    let s = c.args.self.now in
+    let t = tables_of (g.S.Store.means.homes s.store) s.tables in
+    let n = c.free_map_of-number in
+    let is = c.add_follower.ensures (g.S.Store.means.homes s.store) in
+    let entries = followers c.in-FollowAll.other.serial c.near_map-near.result in
+    let new = followers_new c.in-FollowAll.other.serial c.near_map-near.result in
+    adds_map g.S.Store.means (λ p. p.store) (λ p. tables_of (g.S.Store.means.homes p.store) p.tables) s _ c.args.fork refl (ap (λ (x : Tables). x.names) is) n.result
+    (index_begun t s.agree n.result c.args.fork n.ensures.fork n.ensures.from n.ensures.below c.requires.terminal c.requires.absent c.requires.room entries new _ is)
+    (unnamed_begun t s.agree n.result c.args.fork n.ensures.fork n.ensures.from n.ensures.below c.requires.terminal c.requires.absent c.requires.room entries new _ is)

@@ -1,6 +1,10 @@
-use Rattle.std.proofs.Common.{[], sym, ◌∙◌, ap}
+use Rattle.std.proofs.Common.{[], refl, sym, ◌∙◌, ap, subst}
 use Rattle.flat_pages.specs.Serials.{serial_of}
 use Rattle.flat_pages.specs.SlotTables.{Tables}
+use Rattle.flat_pages.specs.TableSteps.{tables_of}
+use Rattle.flat_pages.specs.SlotSteps.{HomeStays}
+use Rattle.flat_pages.specs.Emptying.{MapNames}
+use Rattle.flat_pages.proofs.MapHomes.{drops_map}
 use Rattle.flat_pages.proofs.SlotSetting.{fork_some}
 use Rattle.flat_pages.proofs.ForkEnds.{map_below, some_living, fork_drops, fork_core, fork_lives, fork_own, fork_other, ended_agrees, ended_told}
 use Rattle.flat_pages.proofs.flat_slots.FlatSlotsPages.drop_fork.Goals as goal
@@ -71,3 +75,17 @@ returns-clause-loses g c = c.empty_map.ensures.lost
 
 pub returns-clause-uses : goal.returns-clause-uses
 returns-clause-uses g c = c.empty_map.ensures.used
+
+pub returns-clause-drops : goal.returns-clause-drops
+returns-clause-drops g c =
+    let store = g.S.Store.means in
+    let now = c.args.self.now in
+    let mid = c.empty_map.new.self in
+    let empties = c.empty_map.ensures in
+    let k = c.in-Some.map in
+    let t = tables_of (store.homes now.store) now.tables in
+    let index = sym c.map_of.ensures ∙ c.in-Some.is in
+    let ended = c.end_fork.ensures (store.homes mid.store) in
+    let agree = ended_agrees store now.store mid.store now.tables mid.tables k c.args.fork index empties mid.agree c.end_fork.new.self c.end_fork.ensures in
+    drops_map store (λ p. p.store) (λ p. tables_of (store.homes p.store) p.tables) now _ c.args.fork now.agree agree k index refl refl
+    (λ home. subst (λ (x : Tables). HomeStays t x home (MapNames t.maps k home)) (sym ended) (empties.homes home)) empties.frames
