@@ -42,7 +42,7 @@ pub fn block<P: Pages>(
     match refer_block(&mut taken, regs, pages, who, at, kind) {
         Err(stop) => Err(stop),
         Ok(words) => {
-            make_block(&taken, pages, who);
+            make_block(&taken, pages);
             Ok(words)
         }
     }

@@ -19,11 +19,12 @@ use Rattle.plain_units.specs.Steps.{put_into}
 use Rattle.plain_pages.proofs.ReferencesMade.{reference_stays}
 use Rattle.page_gather.specs.Gathering.{IsNear}
 use Rattle.page_gather.proofs.Settling.{near_scene}
+use Rattle.ka10_unit.specs.declared.taken.Taken.{Taken}
 use Rattle.ka10_unit.specs.Carrying.{Grows, StaysAway}
 use Rattle.ka10_unit.specs.Gathers.{Framed, Serves}
 use Rattle.page_contracts.specs.Pages.{MayLose}
 use Rattle.ka10_unit.proofs.Lost.{lost_none, lost_on}
-use Rattle.ka10_unit.specs.Taking.{CanPut, IsOpenAt}
+use Rattle.ka10_unit.specs.Taking.{CanPut, IsOpenAt, Stands}
 
 -- a page that is in a frame, and of which nothing more is to be made, is found ready
 pub ready_here : (p : NumberedPages) (scene : Scene) (s : Slot) (kind : Kind) (owner : Tty) → IsNear p scene s → makings p (in_map s) kind ≡ Some [] → touch_of p scene (in_map s) kind owner ≡ Ready
@@ -33,6 +34,10 @@ ready_here p scene s kind owner near none =
     ∙ ap (touched_by p scene (in_map s) kind) (reference_stays p owner (in_map s) kind none)
     ∙ ap (λ (o : Option ℕ). absent_or o (announced p scene (next_making p (in_map s) kind))) near.page
     ∙ ap (λ (x : Option (List (Making ℕ))). announced p scene (option_and_then (λ ms. slice_get ms 0) x)) none
+
+-- what a unit of a fork has taken is what that of its taken fork has
+pub own_stands : (f : ForkName) (p : Framed) (t : Taken) → Stands f p t → Stands t.fork p t
+own_stands f p t s = subst (λ (g : ForkName). Stands g p t) (sym s.fork) s
 
 -- ---- words stored
 

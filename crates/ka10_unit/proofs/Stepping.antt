@@ -1,6 +1,7 @@
 -- The words of a unit, one behind the other.
-use Rattle.std.proofs.Common.{◌≡◌, ℕ, suc, ◌-◌, ◌<◌, Bool, true, false, cond, List, [], None, Some, refl, ◌∙◌, arith}
+use Rattle.std.proofs.Common.{◌≡◌, ℕ, suc, ◌-◌, ◌<◌, Bool, true, false, cond, List, [], None, Some, refl, sym, ◌∙◌, ap, arith}
 use Rattle.std.specs.Prelude.{Result, Ok, Err}
+use Rattle.std.specs.Ordering.{nat_cmp}
 use Rattle.ka10_table.specs.declared.families.Family.{Family}
 use Rattle.ka10_table.specs.declared.families.Family.TheVariants.{Illegal, Local, Monitor, ByteOp, Move, Imul, Mul, Idiv, Div, Shift, Jffo, DoubleShift, Exch, Blt, Aobj, Jrst, Jfcl, Xct, Pushj, PushPop, Popj, JsrJsp, JsaJra, AddSub, Compare, JumpSkip, AddOne, SubOne, Boolean, Half, Test}
 use Rattle.ka10_table.specs.declared.families.TableRow.{TableRow}
@@ -9,7 +10,7 @@ use Rattle.plain_units.specs.declared.channel.TheConstants.{ILLEGAL_INSTRUCTION}
 use Rattle.machine_names.specs.declared.names.ForkName.{ForkName}
 use Rattle.machine_names.specs.declared.names.Kind.TheVariants.{Execute, Write}
 use Rattle.plain_units.specs.declared.registers.Regs.{Regs}
-use Rattle.plain_units.specs.Steps.{Steps, refers, keeps, stopped, traps, calls, run, begun}
+use Rattle.plain_units.specs.Steps.{Progress, Steps, refers, keeps, stopped, traps, calls, run, begun}
 use Rattle.plain_units.specs.Addressing.{opcode, ac_field}
 use Rattle.plain_units.specs.Instructions.{execute, executes, does, instruction, local_word, LOCAL_CALL, LOCAL_HANDLER}
 use Rattle.ka10_unit.specs.declared.word_fields.Address.{Address}
@@ -24,7 +25,7 @@ use Rattle.ka10_unit.specs.declared.taken.Stop.{Stop}
 use Rattle.ka10_unit.specs.declared.taken.Stop.TheVariants.{Trap, Need}
 use Rattle.page_gather.specs.Gathering.{Gathers, after_all}
 use Rattle.ka10_unit.specs.Gathers.{Framed}
-use Rattle.ka10_unit.specs.Taking.{CanWrite, Follows, Stands, progress, so_far, stop_of}
+use Rattle.ka10_unit.specs.Taking.{CanWrite, Follows, Stands, progress, run_over, so_far, stop_of}
 use Rattle.ka10_unit.specs.Planning.{CanDo, Concludes, Ends, Plans, StepsOn, as_step, calls_local, does_at, is_illegal, planned_as, reached, stopped_by, unit_over}
 use Rattle.ka10_unit.proofs.Plainly.{plain_of}
 
@@ -124,6 +125,10 @@ module _ (f : ForkName) (p : Framed) (ac : List ℕ) where
   steps_ended t new left (Ok x) h = record { stands = h.stands; put = h.put; runs = λ next. h.runs }
   steps_ended t new left (Err e) h = record { stands = h.stands; put = tt; runs = λ next. h.runs }
 
+  pub steps_ordinary : (t new : Taken) (row : TableRow) (is_local : Bool) (regs : Regs) (w : ℕ) (a : Address) (result : Result Step Stop) → (row.family ≡ Monitor → ⊥) → (row.family ≡ Xct → ⊥) → (row.family ≡ Local → ⊥) → (row.family ≡ ByteOp → ⊥)
+      → StepsOn f p ac t new (λ next. does row (opcode w) regs (ac_field w) a.e a.last) result → StepsOn f p ac t new (does_at row.family row is_local regs w a) result
+  steps_ordinary t new row is_local regs w a result m x l b h = record { stands = h.stands; put = h.put; runs = λ next. rw (does_ordinary row.family m x l b row is_local regs w a next) (h.runs next) }
+
   pub steps_on : (t new : Taken) (at w : ℕ) (is_local : Bool) → Follows f p ac t new (refers at Execute) (Ok w) → StepsOn f p ac t new (λ next. refers at Execute (next is_local)) (Ok (step.Goes (record { is_local = is_local; word = w })))
   steps_on t new at w is_local h = record { stands = h.stands; put = tt; runs = λ next. h.runs (next is_local) }
 
@@ -132,13 +137,19 @@ module _ (f : ForkName) (p : Framed) (ac : List ℕ) where
   steps_call t n s = record { stands = s; put = tt; runs = λ next. refl }
 
   -- the word of a local call is kept
-  pub local_stands : (t : Taken) (w v : ℕ) → Stands f p t → CanWrite {A = ℕ} f p t LOCAL_CALL (Ok v) → Stands f p (record t { kept = Some (record { at = LOCAL_CALL; word = w }) })
-  local_stands t w v s may = record { gathers = s.gathers; kept = may refl }
+  pub local_stands : (t kept : Taken) (v w : ℕ) → kept.fork ≡ t.fork → kept.gather ≡ t.gather → kept.kept ≡ Some (record { at = LOCAL_CALL; word = w }) → Stands f p t → CanWrite {A = ℕ} f p t LOCAL_CALL (Ok v) → Stands f p kept
+  local_stands t kept v w same gather put s may = record { fork = same ∙ s.fork; gathers = rw gather s.gathers; kept = rw (put, gather) (may refl) }
 
-  pub local_goes : (t mid new : Taken) (w e v : ℕ) (result : Result Step Stop) → Follows f p ac t mid (refers LOCAL_CALL Write) (Ok v)
-      → StepsOn f p ac (record mid { kept = Some (record { at = LOCAL_CALL; word = local_word w e }) }) new (λ next. refers LOCAL_HANDLER Execute (next true)) result → StepsOn f p ac t new (calls_local w e) result
+  pub local_goes : (t mid kept new : Taken) (w e v stored : ℕ) (result : Result Step Stop) → kept.gather ≡ mid.gather → kept.refs.items ≡ mid.refs.items → kept.kept ≡ Some (record { at = LOCAL_CALL; word = stored }) → stored ≡ local_word w e
+      → Follows f p ac t mid (refers LOCAL_CALL Write) (Ok v) → StepsOn f p ac kept new (λ next. refers LOCAL_HANDLER Execute (next true)) result → StepsOn f p ac t new (calls_local w e) result
   unfolding run
-  local_goes t mid new w e v result h k = record { stands = k.stands; put = k.put; runs = λ next. h.runs (λ x. keeps LOCAL_CALL (local_word w e) (refers LOCAL_HANDLER Execute (next true))) ∙ k.runs next }
+  local_goes t mid kept new w e v stored result gather refs put is h k =
+      let now : progress p ac kept ≡ record (progress p ac mid) { kept = Some (record { at = LOCAL_CALL; word = local_word w e }) } = rw (gather, refs, put, is) refl in
+      record {
+        stands = k.stands;
+        put = k.put;
+        runs = λ next. h.runs (λ x. keeps LOCAL_CALL (local_word w e) (refers LOCAL_HANDLER Execute (next true))) ∙ ap (λ (y : Progress nat_cmp). run_over f p (refers LOCAL_HANDLER Execute (next true)) y) (sym now) ∙ k.runs next;
+      }
 
   module _ (regs : Regs) (w : ℕ) (is_local : Bool) (row : TableRow) where
     -- an illegal word
@@ -179,8 +190,8 @@ module _ (f : ForkName) (p : Framed) (regs : Regs) where
   -- ---- the fetch
 
   -- nothing is taken
-  pub none_stands : (t : Taken) → Gathers p.pages p.scene t.gather → t.kept ≡ None → Stands f p t
-  none_stands t gathers kept = record { gathers = gathers; kept = rw kept tt }
+  pub none_stands : (t : Taken) → t.fork ≡ f → Gathers p.pages p.scene t.gather → t.kept ≡ None → Stands f p t
+  none_stands t fork gathers kept = record { fork = fork; gathers = gathers; kept = rw kept tt }
 
   none_begun : (t : Taken) → t.gather.references ≡ [] → t.refs.items ≡ [] → t.kept ≡ None → progress p regs.ac t ≡ begun p.pages regs.ac
   unfolding after_all

@@ -1,5 +1,6 @@
 -- Pages as a unit of a fork finds them, and the references that it gathers.
-use Rattle.std.specs.Prelude.{◌≡◌, ◌<◌, true}
+use Rattle.std.specs.Prelude.{◌≡◌, ℕ, ◌<◌, max, length, Option, None, Some, true}
+use Rattle.std.specs.Coded.{Unit-prop, le_prop}
 use Rattle.std.specs.List.{All}
 use Rattle.plain_units.specs.declared.channel.TheConstants.{DRUM_FULL}
 use Rattle.page_contracts.specs.declared.answers.Need.{Need}
@@ -7,6 +8,7 @@ use Rattle.machine_names.specs.declared.names.ForkName.{ForkName}
 use Rattle.machine_names.specs.declared.names.Kind.{Kind}
 use Rattle.machine_names.specs.declared.names.Slot.{Slot}
 use Rattle.machine_names.specs.declared.names.TheConstants.{SPACE_PAGES, TERMINALS}
+use Rattle.plain_units.specs.declared.unit.Put.{Put}
 use Rattle.page_contracts.specs.DrumWords.{DrumWords}
 use Rattle.plain_pages.specs.PlainPages.{NumberedPages}
 use Rattle.plain_units.specs.Steps.{Asked, denied_channel, goes, need, stops, trap}
@@ -34,6 +36,19 @@ framed means s d = record { pages = means.plain s d; scene = means.scene s }
 pub record IsOf (f : ForkName) (g : Gathering) : Type 0 where
   pub owner : g.owner ≡ f.tty
   pub references : All (λ r. (r.slot.fork ≡ f) × (r.slot.page < SPACE_PAGES)) g.references
+
+-- how many pages are referred to, or made, whichever is more
+abbrev pub weight : Gathering → ℕ
+weight g = max g.homes (length g.references)
+
+-- the word of a kept put is at an address
+abbrev pub IsPutBelow : ℕ → Option Put → Type 0
+IsPutBelow limit None = Unit {0}
+IsPutBelow limit (Some put) = put.at < limit
+
+pub put_below_prop : (limit : ℕ) (kept : Option Put) → IsProp (IsPutBelow limit kept)
+put_below_prop limit None = Unit-prop
+put_below_prop limit (Some put) = le_prop
 
 -- a unit goes on with these pages, or stops, as a reference that is added is answered
 abbrev pub asked_by : Added → NumberedPages → Asked Need NumberedPages

@@ -1,5 +1,5 @@
 -- The parts of a unit, as the calls do them that plan it.
-use Rattle.std.specs.Prelude.{◌≡◌, ℕ, ◌<◌, ◌^◌, Bool, true, false, None, Some, List, length, Result, Ok, Err, IfErr, IfOk}
+use Rattle.std.specs.Prelude.{◌≡◌, ℕ, ◌<◌, ◌^◌, Bool, true, false, None, Some, List, length, Result, Ok, Err, IfOk}
 use Rattle.ka10_table.specs.declared.families.Family.{Family}
 use Rattle.ka10_table.specs.declared.families.Family.TheVariants as family
 use Rattle.ka10_table.specs.declared.families.TableRow.{TableRow}
@@ -7,6 +7,7 @@ use Rattle.machine_names.specs.declared.names.TheConstants.{ACCUMULATORS}
 use Rattle.machine_names.specs.declared.names.ForkName.{ForkName}
 use Rattle.machine_names.specs.declared.names.Kind.TheVariants.{Execute, Write}
 use Rattle.plain_units.specs.declared.registers.Regs.{Regs}
+use Rattle.page_contracts.specs.DrumWords.{DrumWords}
 use Rattle.page_contracts.specs.Pages.{PagesMeaning}
 use Rattle.page_contracts.specs.Stores.{StoreMeaning, IsNeeded}
 use Rattle.plain_units.specs.Steps.{Steps, Ending as End, refers, keeps, calls, trap, need, done, stopped, call, begun}
@@ -27,8 +28,8 @@ use Rattle.ka10_unit.specs.declared.taken.Taken.{Taken}
 use Rattle.ka10_unit.specs.declared.taken.Stop.{Stop}
 use Rattle.ka10_unit.specs.declared.taken.Stop.TheVariants as stop
 use Rattle.ka10_unit.specs.Commits.{Leaves, channel_of, store_at}
-use Rattle.ka10_unit.specs.Gathers.{Framed, IsOf}
-use Rattle.ka10_unit.specs.Taking.{CanPut, HasSpare, IsOpen, IsPlain, IsPutBelow, IsTrap, Plan, Stands, most_frames, progress, run_over, so_far, stop_of}
+use Rattle.ka10_unit.specs.Gathers.{Framed, IsPutBelow, framed}
+use Rattle.ka10_unit.specs.Taking.{CanPut, HasSpare, IsPlain, Plan, Stands, most_frames, progress, run_over, so_far, stop_of}
 
 -- an effective address, with so many words at most, and with any
 abbrev pub reached_within : ℕ → List ℕ → ℕ → (Address → Steps) → Steps
@@ -61,6 +62,10 @@ pub record Ends (f : ForkName) (p : Framed) (ac : List ℕ) (old new : Taken) (l
   pub stands : Stands f p new
   pub put : CanEnd f (so_far p new) result
   pub runs : run_over f p left (progress p ac old) ≡ ended p ac new result
+
+-- the same over pages, and whatever drum
+abbrev pub DoesEnd : {P : Type 0} → PagesMeaning P → P → List ℕ → Taken → Taken → Steps → Result Ending Stop → Type 0
+DoesEnd means p ac old new left result = (d : DrumWords) (f : ForkName) → means.fits p d → Stands f (framed means p d) old → Ends f (framed means p d) ac old new left result
 
 -- a deed is done on the registers before it, and its word goes to a destination; a word that is stored before the accumulators are
 -- written comes with a word for its own accumulator, and none for the next
@@ -112,6 +117,10 @@ pub record StepsOn (f : ForkName) (p : Framed) (ac : List ℕ) (old new : Taken)
   pub put : CanStep f (so_far p new) result
   pub runs : (next : Bool → ℕ → Steps) → run_over f p (left next) (progress p ac old) ≡ stepped p ac new result (λ l v. run_over f p (next l v) (progress p ac new))
 
+-- the same over pages, and whatever drum
+abbrev pub DoesStep : {P : Type 0} → PagesMeaning P → P → List ℕ → Taken → Taken → ((Bool → ℕ → Steps) → Steps) → Result Step Stop → Type 0
+DoesStep means p ac old new left result = (d : DrumWords) (f : ForkName) → means.fits p d → Stands f (framed means p d) old → StepsOn f (framed means p d) ac old new left result
+
 -- a plan that stops before its end
 abbrev pub stopped_by : Stop → Planned
 stopped_by (stop.Trap channel) = planned.Trap channel
@@ -135,6 +144,10 @@ pub record Concludes (f : ForkName) (p : Framed) (ac : List ℕ) (old new : Take
   pub stands : Stands f p new
   pub put : CanDo f (so_far p new) result
   pub runs : run_over f p left (progress p ac old) ≡ planned_as p ac new result
+
+-- the same over pages, and whatever drum
+abbrev pub DoesRest : {P : Type 0} → PagesMeaning P → P → List ℕ → Taken → Taken → Steps → Planned → Type 0
+DoesRest means p ac old new left result = (d : DrumWords) (f : ForkName) → means.fits p d → Stands f (framed means p d) old → Concludes f (framed means p d) ac old new left result
 
 -- the unit of an instruction over pages of which some are in no frame
 abbrev pub unit_over : ForkName → Framed → Regs → Plan
@@ -163,29 +176,24 @@ pub record IsEnding (x : Ending) : Type 0 where
   pub accumulators : length x.regs.ac ≡ ACCUMULATORS
   pub put : IsPutBelow (2 ^ 18) x.put
 
-abbrev pub IsEnd : ForkName → Ending → Taken → Type 0
-IsEnd f x t = IsEnding x × IsPutBelow (2 ^ 18) t.kept × IsOf f t.gather
+-- what a word of a unit comes to: it goes on behind its fetch, or it ends, or calls
+abbrev pub IsStep : Result Step Stop → Taken → Type 0
+IsStep (Ok (step.Goes n)) t = HasSpare 1 t
+IsStep (Ok (step.Ends x)) t = IsEnding x
+IsStep (Ok (step.Calls n)) t = n < 2 ^ 18
+IsStep (Err e) t = Unit {0}
 
--- a step that goes on leaves a unit that is open, behind its fetch
-abbrev pub IsStep : ForkName → Result Step Stop → Taken → Type 0
-IsStep f (Ok (step.Goes n)) t = IsOpen f t × IsPutBelow (2 ^ 18) t.kept × HasSpare 1 t
-IsStep f (Ok (step.Ends x)) t = IsEnd f x t
-IsStep f (Ok (step.Calls n)) t = n < 2 ^ 18
-IsStep f (Err e) t = Unit {0}
+abbrev pub IsPlan : Planned → Type 0
+IsPlan (planned.Do x) = IsEnding x
+IsPlan (planned.Need n) = Unit {0}
+IsPlan (planned.Trap channel) = Unit {0}
+IsPlan (planned.Call number) = number < 2 ^ 18
 
-abbrev pub IsPlan : ForkName → Planned → Taken → Type 0
-IsPlan f (planned.Do x) t = IsEnd f x t
-IsPlan f (planned.Need n) t = Unit {0}
-IsPlan f (planned.Trap channel) t = Unit {0}
-IsPlan f (planned.Call number) t = number < 2 ^ 18
-
--- what a call that ends a unit leaves: references of its fork alone, and the word that was kept; its end is of the machine, and over pages
--- in memory it needs nothing first
-pub record LeavesEnd {P : Type 0} (means : PagesMeaning P) (f : ForkName) (old new : Taken) (result : Result Ending Stop) : Type 0 where
-  pub own : IsOf f new.gather
+-- what a call that ends a unit leaves: the same unit, and the word that was kept; its end is of the machine
+pub record LeavesEnd (old new : Taken) (result : Result Ending Stop) : Type 0 where
+  pub fork : new.fork ≡ old.fork
   pub kept : new.kept ≡ old.kept
   pub end : IfOk result (λ x. IsEnding x)
-  pub core : means.flat ≡ true → IfErr result IsTrap
 
 -- a call that ended a unit is a step that ends it
 abbrev pub as_step : Result Ending Stop → Result Step Stop

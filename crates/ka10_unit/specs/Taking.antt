@@ -1,5 +1,5 @@
 -- How far a unit has come, and what a part of it that was done says of the whole.
-use Rattle.std.specs.Prelude.{◌≡◌, ◌⊎◌, ℕ, ◌+◌, ◌-◌, ◌*◌, ◌%◌, ◌≤◌, ◌<◌, ◌==◌, ◌&&◌, Bool, true, false, List, [], length, Option, None, Some, Result, Ok, Err, ⊤, is_some}
+use Rattle.std.specs.Prelude.{◌≡◌, ◌⊎◌, ℕ, ◌+◌, ◌-◌, ◌*◌, ◌%◌, ◌≤◌, ◌==◌, ◌&&◌, Bool, true, false, List, [], length, Option, None, Some, Result, Ok, Err, ⊤, is_some}
 use Rattle.std.specs.Option.{option_map_or}
 use Rattle.std.specs.Ordering.{nat_cmp}
 use Rattle.outside.specs.declared.TheConstants.{PAGE_WORDS}
@@ -8,21 +8,21 @@ use Rattle.machine_names.specs.declared.names.PageName.{PageName}
 use Rattle.machine_names.specs.declared.names.Kind.{Kind}
 use Rattle.machine_names.specs.declared.names.Kind.TheVariants.{Write}
 use Rattle.plain_units.specs.declared.unit.Put.{Put}
-use Rattle.plain_units.specs.declared.unit.TheConstants.{MOST_REFERENCES}
 use Rattle.plain_pages.specs.PlainPages.{NumberedPages}
 use Rattle.plain_pages.specs.References.{in_map, makings, page_at, slot_at}
 use Rattle.plain_pages.specs.Room.{same_page}
 use Rattle.page_homes.specs.declared.homes.Home.{Home}
 use Rattle.page_contracts.specs.declared.answers.Need.{Need}
 use Rattle.page_contracts.specs.declared.answers.Need.TheVariants.{Page}
-use Rattle.page_contracts.specs.Pages.{Scene}
+use Rattle.page_contracts.specs.DrumWords.{DrumWords}
+use Rattle.page_contracts.specs.Pages.{PagesMeaning, Scene}
 use Rattle.page_contracts.specs.Stores.{StoreMeaning, IsNeeded}
 use Rattle.plain_units.specs.Steps.{Steps, Stop as Stopped, widens, trap, need, Asked, goes, stops, Progress, Planned, stopped, done, call, is_accumulator, asked_at, run}
 use Rattle.ka10_unit.specs.declared.taken.Taken.{Taken}
 use Rattle.ka10_unit.specs.declared.taken.Stop.{Stop}
 use Rattle.ka10_unit.specs.declared.taken.Stop.TheVariants as stop
 use Rattle.page_gather.specs.Gathering.{Gathering, Gathers, IsNear, left_of, most_made}
-use Rattle.ka10_unit.specs.Gathers.{Framed, IsOf, asks}
+use Rattle.ka10_unit.specs.Gathers.{Framed, asks, framed, weight}
 
 -- a unit as a plan, which may need something first
 abbrev pub Plan : Type 0
@@ -51,6 +51,10 @@ abbrev pub StopNeeds : {P : Type 0} → StoreMeaning P → ℕ → P → Stop �
 StopNeeds store most p (stop.Trap channel) = Unit {0}
 StopNeeds store most p (stop.Need n) = IsNeeded store most p n
 
+-- what a unit that stops needs first is so, and it needs nothing over pages in memory
+abbrev pub StopsFor : {P : Type 0} → PagesMeaning P → P → Stop → Type 0
+StopsFor means p stop = (means.flat ≡ true → IsTrap stop) × StopNeeds means.store most_frames p stop
+
 -- the pages that the references so far leave
 abbrev pub pages_so_far : Framed → Taken → NumberedPages
 pages_so_far p t = left_of p.pages t.gather
@@ -77,34 +81,23 @@ abbrev pub CanPut : ForkName → Framed → Option Put → Type 0
 CanPut f p None = Unit {0}
 CanPut f p (Some put) = IsOpenAt f p put.at
 
--- each reference goes through, and the word that is kept can be stored
+-- what a unit of a fork has taken: each reference goes through, and the word that is kept can be stored
 pub record Stands (f : ForkName) (p : Framed) (t : Taken) : Type 0 where
+  pub fork : t.fork ≡ f
   pub gathers : Gathers p.pages p.scene t.gather
   pub kept : CanPut f (so_far p t) t.kept
 
--- the references taken are of the fork, so many at most, and make two pages each at most
-pub record IsOpen (f : ForkName) (t : Taken) : Type 0 where
-  pub own : IsOf f t.gather
-  pub gathered : length t.gather.references ≤ length t.refs.items
-  pub references : length t.refs.items ≤ MOST_REFERENCES
-  pub made : t.gather.homes ≤ 2 * length t.refs.items
-
--- the references so far make so many pages fewer than two each
+-- the references so far come to so many pages fewer than two each
 abbrev pub HasSpare : ℕ → Taken → Type 0
-HasSpare n t = t.gather.homes + n ≤ 2 * length t.refs.items
+HasSpare n t = weight t.gather + n ≤ 2 * length t.refs.items
 
--- those behind make so many pages fewer than two each
+-- those behind come to so many pages fewer than two each
 abbrev pub Spares : ℕ → Taken → Taken → Type 0
-Spares n old new = new.gather.homes + n + 2 * length old.refs.items ≤ old.gather.homes + 2 * length new.refs.items
+Spares n old new = weight new.gather + n + 2 * length old.refs.items ≤ weight old.gather + 2 * length new.refs.items
 
 -- by how many a reference makes fewer than two
 abbrev pub spared : Kind → ℕ
 spared kind = 2 - most_made kind
-
--- the word of a kept put is at an address
-abbrev pub IsPutBelow : ℕ → Option Put → Type 0
-IsPutBelow limit None = Unit {0}
-IsPutBelow limit (Some put) = put.at < limit
 
 -- what a page that was asked for comes to
 abbrev pub asked_as : Result ⊤ Stop → NumberedPages → Asked Need NumberedPages
@@ -137,6 +130,10 @@ went_on (Err e) next = stopped (stop_of e)
 pub record Follows {A : Type 0} (f : ForkName) (p : Framed) (ac : List ℕ) (old new : Taken) (part : (A → Steps) → Steps) (result : Result A Stop) : Type 0 where
   pub stands : Stands f p new
   pub runs : (next : A → Steps) → run_over f p (part next) (progress p ac old) ≡ went_on result (λ x. run_over f p (next x) (progress p ac new))
+
+-- the same over pages, and whatever drum
+abbrev pub Does : {P A : Type 0} → PagesMeaning P → P → List ℕ → Taken → Taken → ((A → Steps) → Steps) → Result A Stop → Type 0
+Does means p ac old new part result = (d : DrumWords) (f : ForkName) → means.fits p d → Stands f (framed means p d) old → Follows f (framed means p d) ac old new part result
 
 -- what comes behind a part that gives nothing
 abbrev pub widened_by : ℕ → (⊤ → Steps) → Steps

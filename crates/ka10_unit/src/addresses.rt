@@ -1,14 +1,14 @@
 // Effective addresses of a unit that is planned.
-ghost use Rattle.std.specs.Prelude.{◌≡◌, ◌<◌, ◌^◌, ◌-◌, ℕ, IfErr, IfOk, true};
+ghost use Rattle.std.specs.Prelude.{◌≡◌, IfErr, IfOk};
 ghost use Rattle.machine_names.specs.Bounds.{IsAddress};
-ghost use Rattle.page_contracts.specs.DrumWords.{DrumWords};
-ghost use Rattle.ka10_unit.specs.Gathers.{Serves, framed};
+ghost use Rattle.ka10_unit.specs.Gathers.{Serves};
 ghost use Rattle.ka10_unit.specs.Planning.{reached};
-ghost use Rattle.ka10_unit.specs.Taking.{Follows, IsOpen, IsPutBelow, IsTrap, Spares, StopNeeds, Stands, most_frames};
+ghost use Rattle.ka10_unit.specs.Taking.{Does, Spares, StopsFor};
 
-use crate::taken::{Stop, Taken, refer};
+use crate::references::refer;
+use crate::taken::{Stop, Taken};
 use crate::word_fields::{Address, MOST_WORDS, is_indirect, step_of};
-use machine_names::{ForkName, Kind};
+use machine_names::Kind;
 use page_contracts::Pages;
 use plain_units::Regs;
 use word36::Word;
@@ -18,20 +18,15 @@ pub fn address_of<P: Pages>(
     taken: &mut Taken,
     regs: &Regs,
     pages: &P,
-    fork: ForkName,
     first: Word,
 ) -> Result<Address, Stop>
-    requires serves { Serves P.means pages.now fork }
-    requires is_open { IsOpen fork taken.old }
-    requires kept { IsPutBelow (2 ^ 18) taken.old.kept }
-    ensures is_open { IsOpen fork taken.new }
+    requires serves { Serves P.means pages.now taken.old.fork }
+    ensures fork { taken.new.fork ≡ taken.old.fork }
     ensures kept { taken.new.kept ≡ taken.old.kept }
     ensures spare { IfOk result (λ a. Spares 0 taken.old taken.new) }
     ensures below { IfOk result (λ a. IsAddress a.e) }
-    ensures core { P.means.flat ≡ true → IfErr result IsTrap }
-    ensures needs { IfErr result (StopNeeds P.means.store most_frames pages.now) }
-    ensures told { (d : DrumWords) → P.means.fits pages.now d → Stands fork (framed P.means pages.now d) taken.old
-        → Follows fork (framed P.means pages.now d) regs.now.ac taken.old taken.new (reached regs.now.ac first) result }
+    ensures needs { IfErr result (StopsFor P.means pages.now) }
+    ensures told { Does P.means pages.now regs.now.ac taken.old taken.new (reached regs.now.ac first) result }
 {
     let mut word = first;
     for left in 0..MOST_WORDS {
@@ -39,7 +34,7 @@ pub fn address_of<P: Pages>(
         if !is_indirect(word) {
             return Ok(step);
         }
-        word = refer(taken, regs, pages, fork, step.e, Kind::Read)?;
+        word = refer(taken, regs, pages, step.e, Kind::Read)?;
     }
     Err(Stop::ILLEGAL)
 }

@@ -4,20 +4,22 @@ ghost use Rattle.plain_units.specs.declared.registers.Regs.{Regs as ARegs};
 ghost use Rattle.plain_units.specs.Deeds.{Deed};
 ghost use Rattle.plain_units.specs.Instructions.{does, finishes, storing, takes};
 ghost use Rattle.ka10_table.specs.Rows.{IsInLine};
+ghost use Rattle.machine_names.specs.declared.names.ForkName.{ForkName as AForkName};
 ghost use Rattle.machine_names.specs.Bounds.{IsAddress};
 ghost use Rattle.page_contracts.specs.DrumWords.{DrumWords};
 ghost use Rattle.ka10_unit.specs.Commits.{LiesBelow, channel_of};
-ghost use Rattle.ka10_unit.specs.Gathers.{IsOf, Serves, framed};
-ghost use Rattle.ka10_unit.specs.Planning.{Ends, GoesBack, IsDone, IsEnding, LeavesEnd, end_of};
-ghost use Rattle.ka10_unit.specs.Taking.{Follows, HasSpare, IsOpen, IsPutBelow, IsTrap, Spares, StopNeeds, Stands, most_frames};
+ghost use Rattle.ka10_unit.specs.Gathers.{Serves, framed};
+ghost use Rattle.ka10_unit.specs.Planning.{DoesEnd, Ends, GoesBack, IsDone, IsEnding, LeavesEnd, end_of};
+ghost use Rattle.ka10_unit.specs.Taking.{Does, HasSpare, Spares, Stands, StopsFor};
 
 use crate::commit::commit_row;
 use crate::committed::{Committed, Post};
 use crate::operands::{Destination, destination_of, operand_address};
-use crate::taken::{Stop, Taken, refer, widen};
+use crate::references::{refer, widen};
+use crate::taken::{Stop, Taken};
 use crate::word_fields::Address;
 use ka10_table::TableRow;
-use machine_names::{ACCUMULATORS, ForkName, Kind};
+use machine_names::{ACCUMULATORS, Kind};
 use page_contracts::Pages;
 use plain_units::{Put, Regs};
 use word36::Word;
@@ -35,26 +37,21 @@ pub fn operand<P: Pages>(
     taken: &mut Taken,
     regs: &Regs,
     pages: &P,
-    fork: ForkName,
     at: Option<u32>,
     e: u32,
 ) -> Result<Word, Stop>
-    requires serves { Serves P.means pages.now fork }
+    requires serves { Serves P.means pages.now taken.old.fork }
     requires at { IfSome at (λ a. IsAddress a) }
     requires e { IsAddress e }
-    requires is_open { IsOpen fork taken.old }
-    requires kept { IsPutBelow (2 ^ 18) taken.old.kept }
-    ensures is_open { IsOpen fork taken.new }
+    ensures fork { taken.new.fork ≡ taken.old.fork }
     ensures kept { taken.new.kept ≡ taken.old.kept }
     ensures read { IsSome at → IfOk result (λ m. Spares 1 taken.old taken.new) }
-    ensures core { P.means.flat ≡ true → IfErr result IsTrap }
-    ensures needs { IfErr result (StopNeeds P.means.store most_frames pages.now) }
-    ensures told { (d : DrumWords) → P.means.fits pages.now d → Stands fork (framed P.means pages.now d) taken.old
-        → Follows fork (framed P.means pages.now d) regs.now.ac taken.old taken.new (takes at e) result }
+    ensures needs { IfErr result (StopsFor P.means pages.now) }
+    ensures told { Does P.means pages.now regs.now.ac taken.old taken.new (takes at e) result }
 {
     match at {
         None => Ok(Word::join(0, e)),
-        Some(at) => refer(taken, regs, pages, fork, at, Kind::Read),
+        Some(at) => refer(taken, regs, pages, at, Kind::Read),
     }
 }
 
@@ -98,23 +95,20 @@ pub fn finish<P: Pages>(
     taken: &mut Taken,
     regs: &Regs,
     pages: &P,
-    fork: ForkName,
     after: Regs,
     ac: u8,
     to: Destination,
     told: Committed,
 ) -> Result<Ending, Stop>
-    requires serves { Serves P.means pages.now fork }
+    requires serves { Serves P.means pages.now taken.old.fork }
     requires to { LiesBelow (2 ^ 18) to }
     requires ac { ac < 16 }
     requires pc { after.pc < 2 ^ 18 }
     requires spare { GoesBack to → HasSpare 2 taken.old }
-    requires is_open { IsOpen fork taken.old }
-    requires kept { IsPutBelow (2 ^ 18) taken.old.kept }
-    ensures leaves { LeavesEnd P.means fork taken.old taken.new result }
-    ensures needs { IfErr result (StopNeeds P.means.store most_frames pages.now) }
-    ensures told { (d : DrumWords) (deed : Deed) (old : ARegs) → P.means.fits pages.now d → Stands fork (framed P.means pages.now d) taken.old → IsDone deed ac old after to told
-        → Ends fork (framed P.means pages.now d) regs.now.ac taken.old taken.new (finishes old ac deed) result }
+    ensures leaves { LeavesEnd taken.old taken.new result }
+    ensures needs { IfErr result (StopsFor P.means pages.now) }
+    ensures told { (d : DrumWords) (f : AForkName) (deed : Deed) (old : ARegs) → P.means.fits pages.now d → Stands f (framed P.means pages.now d) taken.old → IsDone deed ac old after to told
+        → Ends f (framed P.means pages.now d) regs.now.ac taken.old taken.new (finishes old ac deed) result }
 {
     let Some(word) = told.stored else {
         return Ok(end_with(after, told.post));
@@ -122,15 +116,15 @@ pub fn finish<P: Pages>(
     match to {
         Destination::Nowhere => Ok(end_with(after, told.post)),
         Destination::Back(at) => {
-            widen(taken, regs, pages, fork, at)?;
+            widen(taken, regs, pages, at)?;
             Ok(end_storing(after, at, word, told.post))
         }
         Destination::Into(at) => {
-            refer(taken, regs, pages, fork, at, Kind::Write)?;
+            refer(taken, regs, pages, at, Kind::Write)?;
             Ok(end_storing(after, at, word, told.post))
         }
         Destination::Before(at) => {
-            refer(taken, regs, pages, fork, at, Kind::Write)?;
+            refer(taken, regs, pages, at, Kind::Write)?;
             if at == u32::from(ac) {
                 return Ok(end_with(after, told.post));
             }
@@ -145,29 +139,25 @@ pub fn ordinary<P: Pages>(
     taken: &mut Taken,
     regs: &Regs,
     pages: &P,
-    fork: ForkName,
     row: TableRow,
     op: u16,
     ac: u8,
     address: &Address,
 ) -> Result<Ending, Stop>
-    requires serves { Serves P.means pages.now fork }
+    requires serves { Serves P.means pages.now taken.old.fork }
     requires line { IsInLine op row }
     requires ac { ac < 16 }
     requires address { IsAddress address.now.e }
     requires pc { regs.now.pc < 2 ^ 18 }
     requires fetched { HasSpare 1 taken.old }
-    requires is_open { IsOpen fork taken.old }
-    requires kept { IsPutBelow (2 ^ 18) taken.old.kept }
-    ensures leaves { LeavesEnd P.means fork taken.old taken.new result }
-    ensures needs { IfErr result (StopNeeds P.means.store most_frames pages.now) }
-    ensures told { (d : DrumWords) → P.means.fits pages.now d → Stands fork (framed P.means pages.now d) taken.old
-        → Ends fork (framed P.means pages.now d) regs.now.ac taken.old taken.new (does row op regs.now ac address.now.e address.now.last) result }
+    ensures leaves { LeavesEnd taken.old taken.new result }
+    ensures needs { IfErr result (StopsFor P.means pages.now) }
+    ensures told { DoesEnd P.means pages.now regs.now.ac taken.old taken.new (does row op regs.now ac address.now.e address.now.last) result }
 {
     let at = operand_address(row, regs, ac, address.e);
-    let m = operand(taken, regs, pages, fork, at, address.e)?;
+    let m = operand(taken, regs, pages, at, address.e)?;
     let to = destination_of(row, regs, ac, address.e);
     let mut after = *regs;
     let told = commit_row(row, op, &mut after, ac, address.e, address.last, m);
-    finish(taken, regs, pages, fork, after, ac, to, told)
+    finish(taken, regs, pages, after, ac, to, told)
 }

@@ -30,6 +30,7 @@ mod operations;
 mod plans;
 mod pointed;
 mod program_words;
+mod references;
 mod registers;
 mod slow;
 mod spots;

@@ -5,17 +5,16 @@ ghost use Rattle.plain_units.specs.Addressing as word_fields;
 ghost use Rattle.plain_units.specs.Instructions.{execute as executed, executes, local_word};
 ghost use Rattle.machine_names.specs.Bounds.{IsAddress};
 ghost use Rattle.page_contracts.specs.DrumWords.{DrumWords};
-ghost use Rattle.machine_names.specs.declared.names.ForkName.{ForkName as AForkName};
 ghost use Rattle.plain_units.specs.Steps.{refers};
-ghost use Rattle.ka10_unit.specs.declared.taken.Taken.{Taken as ATaken};
 ghost use Rattle.ka10_unit.specs.Gathers.{Serves, framed};
-ghost use Rattle.ka10_unit.specs.Planning.{Concludes, IsPlan, IsStep, NeedsNothing, PlanNeeds, Plans, StepsOn, as_step, calls_local, does_at, is_illegal as is_illegal_word, stopped_by};
-ghost use Rattle.ka10_unit.specs.Taking.{HasSpare, IsOpen, IsPutBelow, IsTrap, StopNeeds, Stands, most_frames};
+ghost use Rattle.ka10_unit.specs.Planning.{DoesRest, DoesStep, IsPlan, IsStep, NeedsNothing, PlanNeeds, Plans, as_step, calls_local, does_at, is_illegal as is_illegal_word, stopped_by};
+ghost use Rattle.ka10_unit.specs.Taking.{HasSpare, IsTrap, StopsFor};
 
 use crate::addresses::address_of;
 use crate::ends::{Ending, ordinary};
 use crate::pointed::byte_instruction;
-use crate::taken::{Stop, Taken, refer};
+use crate::references::refer;
+use crate::taken::{Stop, Taken};
 use crate::word_fields::{Address, MOST_WORDS, ac_field, is_executive, opcode};
 use ka10_table::{Family, TableRow, row};
 use machine_names::{ForkName, Kind};
@@ -72,22 +71,18 @@ fn go_on<P: Pages>(
     taken: &mut Taken,
     regs: &Regs,
     pages: &P,
-    fork: ForkName,
     at: u32,
     is_local: bool,
 ) -> Result<Step, Stop>
-    requires serves { Serves P.means pages.now fork }
+    requires serves { Serves P.means pages.now taken.old.fork }
     requires address { IsAddress at }
     requires fetched { HasSpare 1 taken.old }
-    requires is_open { IsOpen fork taken.old }
-    requires kept { IsPutBelow (2 ^ 18) taken.old.kept }
-    ensures bounds { IsStep fork result taken.new }
-    ensures core { P.means.flat ≡ true → IfErr result IsTrap }
-    ensures needs { IfErr result (StopNeeds P.means.store most_frames pages.now) }
-    ensures told { (d : DrumWords) → P.means.fits pages.now d → Stands fork (framed P.means pages.now d) taken.old
-        → StepsOn fork (framed P.means pages.now d) regs.now.ac taken.old taken.new (λ next. refers at Kind.Execute (next is_local)) result }
+    ensures fork { taken.new.fork ≡ taken.old.fork }
+    ensures bounds { IsStep result taken.new }
+    ensures needs { IfErr result (StopsFor P.means pages.now) }
+    ensures told { DoesStep P.means pages.now regs.now.ac taken.old taken.new (λ next. refers at Kind.Execute (next is_local)) result }
 {
-    match refer(taken, regs, pages, fork, at, Kind::Execute) {
+    match refer(taken, regs, pages, at, Kind::Execute) {
         Err(stop) => Err(stop),
         Ok(word) => Ok(Step::Goes(Next { is_local, word })),
     }
@@ -98,29 +93,25 @@ fn call_local<P: Pages>(
     taken: &mut Taken,
     regs: &Regs,
     pages: &P,
-    fork: ForkName,
     word: Word,
     e: u32,
 ) -> Result<Step, Stop>
-    requires serves { Serves P.means pages.now fork }
+    requires serves { Serves P.means pages.now taken.old.fork }
     requires e { IsAddress e }
     requires fetched { HasSpare 1 taken.old }
-    requires is_open { IsOpen fork taken.old }
-    requires kept { IsPutBelow (2 ^ 18) taken.old.kept }
-    ensures bounds { IsStep fork result taken.new }
-    ensures core { P.means.flat ≡ true → IfErr result IsTrap }
-    ensures needs { IfErr result (StopNeeds P.means.store most_frames pages.now) }
-    ensures told { (d : DrumWords) → P.means.fits pages.now d → Stands fork (framed P.means pages.now d) taken.old
-        → StepsOn fork (framed P.means pages.now d) regs.now.ac taken.old taken.new (calls_local word e) result }
+    ensures fork { taken.new.fork ≡ taken.old.fork }
+    ensures bounds { IsStep result taken.new }
+    ensures needs { IfErr result (StopsFor P.means pages.now) }
+    ensures told { DoesStep P.means pages.now regs.now.ac taken.old taken.new (calls_local word e) result }
 {
-    match refer(taken, regs, pages, fork, LOCAL_CALL, Kind::Write) {
+    match refer(taken, regs, pages, LOCAL_CALL, Kind::Write) {
         Err(stop) => Err(stop),
         Ok(_) => {
             taken.kept = Some(Put {
                 at: LOCAL_CALL,
                 word: stored_call(word, e),
             });
-            go_on(taken, regs, pages, fork, LOCAL_HANDLER, true)
+            go_on(taken, regs, pages, LOCAL_HANDLER, true)
         }
     }
 }
@@ -153,34 +144,28 @@ fn do_at<P: Pages>(
     taken: &mut Taken,
     regs: &Regs,
     pages: &P,
-    fork: ForkName,
     row: TableRow,
     word: Word,
     is_local: bool,
     address: &Address,
 ) -> Result<Step, Stop>
-    requires serves { Serves P.means pages.now fork }
+    requires serves { Serves P.means pages.now taken.old.fork }
     requires line { IsInLine (word_fields.opcode word) row }
     requires pc { regs.now.pc < 2 ^ 18 }
     requires address { IsAddress address.now.e }
     requires fetched { HasSpare 1 taken.old }
-    requires is_open { IsOpen fork taken.old }
-    requires kept { IsPutBelow (2 ^ 18) taken.old.kept }
-    ensures bounds { IsStep fork result taken.new }
-    ensures core { P.means.flat ≡ true → IfErr result IsTrap }
-    ensures needs { IfErr result (StopNeeds P.means.store most_frames pages.now) }
-    ensures told { (d : DrumWords) → P.means.fits pages.now d → Stands fork (framed P.means pages.now d) taken.old
-        → StepsOn fork (framed P.means pages.now d) regs.now.ac taken.old taken.new (does_at row.family row is_local regs.now word address.now) result }
+    ensures fork { taken.new.fork ≡ taken.old.fork }
+    ensures bounds { IsStep result taken.new }
+    ensures needs { IfErr result (StopsFor P.means pages.now) }
+    ensures told { DoesStep P.means pages.now regs.now.ac taken.old taken.new (does_at row.family row is_local regs.now word address.now) result }
 {
     let ac = ac_field(word);
     match row.family {
         Family::Monitor => Ok(Step::Calls(address.e)),
-        Family::Xct => go_on(taken, regs, pages, fork, address.e, is_local),
-        Family::Local => call_local(taken, regs, pages, fork, word, address.e),
-        Family::ByteOp => ended(byte_instruction(
-            taken, regs, pages, fork, row.code, ac, address.e,
-        )),
-        _ => ended(ordinary(taken, regs, pages, fork, row, opcode(word), ac, address)),
+        Family::Xct => go_on(taken, regs, pages, address.e, is_local),
+        Family::Local => call_local(taken, regs, pages, word, address.e),
+        Family::ByteOp => ended(byte_instruction(taken, regs, pages, row.code, ac, address.e)),
+        _ => ended(ordinary(taken, regs, pages, row, opcode(word), ac, address)),
     }
 }
 
@@ -189,35 +174,31 @@ fn do_word<P: Pages>(
     taken: &mut Taken,
     regs: &Regs,
     pages: &P,
-    fork: ForkName,
     word: Word,
     is_local: bool,
 ) -> Result<Step, Stop>
-    requires serves { Serves P.means pages.now fork }
+    requires serves { Serves P.means pages.now taken.old.fork }
     requires pc { regs.now.pc < 2 ^ 18 }
     requires fetched { HasSpare 1 taken.old }
-    requires is_open { IsOpen fork taken.old }
-    requires kept { IsPutBelow (2 ^ 18) taken.old.kept }
-    ensures bounds { IsStep fork result taken.new }
-    ensures core { P.means.flat ≡ true → IfErr result IsTrap }
-    ensures needs { IfErr result (StopNeeds P.means.store most_frames pages.now) }
-    ensures told { (d : DrumWords) → P.means.fits pages.now d → Stands fork (framed P.means pages.now d) taken.old
-        → StepsOn fork (framed P.means pages.now d) regs.now.ac taken.old taken.new (executes (row_of (word_fields.opcode word)).family (row_of (word_fields.opcode word)) is_local regs.now word) result }
+    ensures fork { taken.new.fork ≡ taken.old.fork }
+    ensures bounds { IsStep result taken.new }
+    ensures needs { IfErr result (StopsFor P.means pages.now) }
+    ensures told { DoesStep P.means pages.now regs.now.ac taken.old taken.new (executes (row_of (word_fields.opcode word)).family (row_of (word_fields.opcode word)) is_local regs.now word) result }
 {
     let row = row(opcode(word));
     if is_illegal(row.family, is_local, ac_field(word)) {
         return Err(Stop::ILLEGAL);
     }
-    match address_of(taken, regs, pages, fork, word) {
+    match address_of(taken, regs, pages, word) {
         Err(stop) => Err(stop),
-        Ok(address) => do_at(taken, regs, pages, fork, row, word, is_local, &address),
+        Ok(address) => do_at(taken, regs, pages, row, word, is_local, &address),
     }
 }
 
 /// What a unit comes to that stops before its end.
 fn stopped(stop: Stop) -> Planned
     ensures plan { result ≡ stopped_by stop }
-    ensures bounds { (f : AForkName) (t : ATaken) → IsPlan f result t }
+    ensures bounds { IsPlan result }
     ensures core { IsTrap stop → NeedsNothing result }
 {
     match stop {
@@ -232,37 +213,26 @@ fn follow<P: Pages>(
     taken: &mut Taken,
     regs: &Regs,
     pages: &P,
-    fork: ForkName,
     word: Word,
     is_local: bool,
 ) -> Planned
-    requires serves { Serves P.means pages.now fork }
+    requires serves { Serves P.means pages.now taken.old.fork }
     requires pc { regs.now.pc < 2 ^ 18 }
     requires fetched { HasSpare 1 taken.old }
-    requires is_open { IsOpen fork taken.old }
-    requires kept { IsPutBelow (2 ^ 18) taken.old.kept }
-    ensures bounds { IsPlan fork result taken.new }
+    ensures fork { taken.new.fork ≡ taken.old.fork }
+    ensures bounds { IsPlan result }
     ensures core { P.means.flat ≡ true → NeedsNothing result }
     ensures needs { PlanNeeds P.means.store pages.now result }
-    ensures told { (d : DrumWords) → P.means.fits pages.now d → Stands fork (framed P.means pages.now d) taken.old
-        → Concludes fork (framed P.means pages.now d) regs.now.ac taken.old taken.new (executed left is_local regs.now word) result }
+    ensures told { DoesRest P.means pages.now regs.now.ac taken.old taken.new (executed left is_local regs.now word) result }
 {
     if left == 0 {
         return stopped(Stop::ILLEGAL);
     }
-    match do_word(taken, regs, pages, fork, word, is_local) {
+    match do_word(taken, regs, pages, word, is_local) {
         Err(stop) => stopped(stop),
         Ok(Step::Calls(number)) => Planned::Call(number),
         Ok(Step::Ends(ending)) => Planned::Do(ending),
-        Ok(Step::Goes(next)) => follow(
-            left - 1,
-            taken,
-            regs,
-            pages,
-            fork,
-            next.word,
-            next.is_local,
-        ),
+        Ok(Step::Goes(next)) => follow(left - 1, taken, regs, pages, next.word, next.is_local),
     }
 }
 
@@ -272,14 +242,15 @@ fn follow<P: Pages>(
 pub fn plan<P: Pages>(taken: &mut Taken, regs: &Regs, pages: &P, fork: ForkName) -> Planned
     requires serves { Serves P.means pages.now fork }
     requires pc { regs.now.pc < 2 ^ 18 }
-    ensures bounds { IsPlan fork result taken.new }
+    ensures fork { taken.new.fork ≡ fork }
+    ensures bounds { IsPlan result }
     ensures core { P.means.flat ≡ true → NeedsNothing result }
     ensures needs { PlanNeeds P.means.store pages.now result }
     ensures told { (d : DrumWords) → P.means.fits pages.now d → Plans fork (framed P.means pages.now d) regs.now taken.new result }
 {
     taken.restart(fork);
-    match refer(taken, regs, pages, fork, regs.pc, Kind::Execute) {
+    match refer(taken, regs, pages, regs.pc, Kind::Execute) {
         Err(stop) => stopped(stop),
-        Ok(word) => follow(MOST_WORDS, taken, regs, pages, fork, word, false),
+        Ok(word) => follow(MOST_WORDS, taken, regs, pages, word, false),
     }
 }

@@ -2,10 +2,9 @@
 ghost use Rattle.std.specs.Prelude.{◌≡◌, ◌<◌, ◌^◌, IfErr, IfOk, true};
 ghost use Rattle.plain_units.specs.Instructions.{deposits_byte, does_pointer, first_part_done, loads_byte};
 ghost use Rattle.machine_names.specs.Bounds.{IsAddress};
-ghost use Rattle.page_contracts.specs.DrumWords.{DrumWords};
-ghost use Rattle.ka10_unit.specs.Gathers.{IsOf, Serves, framed};
-ghost use Rattle.ka10_unit.specs.Planning.{Ends, LeavesEnd};
-ghost use Rattle.ka10_unit.specs.Taking.{HasSpare, IsOpen, IsPutBelow, IsTrap, Stands, StopNeeds, most_frames};
+ghost use Rattle.ka10_unit.specs.Gathers.{Serves};
+ghost use Rattle.ka10_unit.specs.Planning.{DoesEnd, LeavesEnd};
+ghost use Rattle.ka10_unit.specs.Taking.{HasSpare, StopsFor};
 
 use crate::addresses::address_of;
 use crate::bytes::{
@@ -14,8 +13,9 @@ use crate::bytes::{
 };
 use crate::ends::{Ending, finish};
 use crate::operands::Destination;
-use crate::taken::{Stop, Taken, refer};
-use machine_names::{ForkName, Kind};
+use crate::references::refer;
+use crate::taken::{Stop, Taken};
+use machine_names::Kind;
 use page_contracts::Pages;
 use plain_units::Regs;
 use word36::Word;
@@ -25,34 +25,21 @@ fn load_byte<P: Pages>(
     taken: &mut Taken,
     regs: &Regs,
     pages: &P,
-    fork: ForkName,
     ac: u8,
     pointer: Word,
 ) -> Result<Ending, Stop>
-    requires serves { Serves P.means pages.now fork }
+    requires serves { Serves P.means pages.now taken.old.fork }
     requires ac { ac < 16 }
     requires pc { regs.now.pc < 2 ^ 18 }
-    requires is_open { IsOpen fork taken.old }
-    requires kept { IsPutBelow (2 ^ 18) taken.old.kept }
-    ensures leaves { LeavesEnd P.means fork taken.old taken.new result }
-    ensures needs { IfErr result (StopNeeds P.means.store most_frames pages.now) }
-    ensures told { (d : DrumWords) → P.means.fits pages.now d → Stands fork (framed P.means pages.now d) taken.old
-        → Ends fork (framed P.means pages.now d) regs.now.ac taken.old taken.new (loads_byte regs.now ac pointer) result }
+    ensures leaves { LeavesEnd taken.old taken.new result }
+    ensures needs { IfErr result (StopsFor P.means pages.now) }
+    ensures told { DoesEnd P.means pages.now regs.now.ac taken.old taken.new (loads_byte regs.now ac pointer) result }
 {
-    let address = address_of(taken, regs, pages, fork, pointer)?;
-    let word = refer(taken, regs, pages, fork, address.e, Kind::Read)?;
+    let address = address_of(taken, regs, pages, pointer)?;
+    let word = refer(taken, regs, pages, address.e, Kind::Read)?;
     let mut after = *regs;
     let told = commit_load(&mut after, ac, pointer, word);
-    finish(
-        taken,
-        regs,
-        pages,
-        fork,
-        after,
-        ac,
-        Destination::Nowhere,
-        told,
-    )
+    finish(taken, regs, pages, after, ac, Destination::Nowhere, told)
 }
 
 /// The low bits of AC go into the word that a pointer names.
@@ -60,27 +47,23 @@ fn deposit_byte<P: Pages>(
     taken: &mut Taken,
     regs: &Regs,
     pages: &P,
-    fork: ForkName,
     ac: u8,
     pointer: Word,
 ) -> Result<Ending, Stop>
-    requires serves { Serves P.means pages.now fork }
+    requires serves { Serves P.means pages.now taken.old.fork }
     requires ac { ac < 16 }
     requires pc { regs.now.pc < 2 ^ 18 }
     requires fetched { HasSpare 1 taken.old }
-    requires is_open { IsOpen fork taken.old }
-    requires kept { IsPutBelow (2 ^ 18) taken.old.kept }
-    ensures leaves { LeavesEnd P.means fork taken.old taken.new result }
-    ensures needs { IfErr result (StopNeeds P.means.store most_frames pages.now) }
-    ensures told { (d : DrumWords) → P.means.fits pages.now d → Stands fork (framed P.means pages.now d) taken.old
-        → Ends fork (framed P.means pages.now d) regs.now.ac taken.old taken.new (deposits_byte regs.now ac pointer) result }
+    ensures leaves { LeavesEnd taken.old taken.new result }
+    ensures needs { IfErr result (StopsFor P.means pages.now) }
+    ensures told { DoesEnd P.means pages.now regs.now.ac taken.old taken.new (deposits_byte regs.now ac pointer) result }
 {
-    let address = address_of(taken, regs, pages, fork, pointer)?;
-    let word = refer(taken, regs, pages, fork, address.e, Kind::Read)?;
+    let address = address_of(taken, regs, pages, pointer)?;
+    let word = refer(taken, regs, pages, address.e, Kind::Read)?;
     let mut after = *regs;
     let told = commit_deposit(&mut after, ac, pointer, address.e, word);
     let to = Destination::Back(address.e);
-    finish(taken, regs, pages, fork, after, ac, to, told)
+    finish(taken, regs, pages, after, ac, to, told)
 }
 
 /// The registers with which the second part of ILDB or IDPB begins.
@@ -97,63 +80,41 @@ pub fn byte_instruction<P: Pages>(
     taken: &mut Taken,
     regs: &Regs,
     pages: &P,
-    fork: ForkName,
     code: u8,
     ac: u8,
     e: u32,
 ) -> Result<Ending, Stop>
-    requires serves { Serves P.means pages.now fork }
+    requires serves { Serves P.means pages.now taken.old.fork }
     requires code { code < 5 }
     requires ac { ac < 16 }
     requires e { IsAddress e }
     requires pc { regs.now.pc < 2 ^ 18 }
     requires fetched { HasSpare 1 taken.old }
-    requires is_open { IsOpen fork taken.old }
-    requires kept { IsPutBelow (2 ^ 18) taken.old.kept }
-    ensures leaves { LeavesEnd P.means fork taken.old taken.new result }
-    ensures needs { IfErr result (StopNeeds P.means.store most_frames pages.now) }
-    ensures told { (d : DrumWords) → P.means.fits pages.now d → Stands fork (framed P.means pages.now d) taken.old
-        → Ends fork (framed P.means pages.now d) regs.now.ac taken.old taken.new (does_pointer code regs.now ac e) result }
+    ensures leaves { LeavesEnd taken.old taken.new result }
+    ensures needs { IfErr result (StopsFor P.means pages.now) }
+    ensures told { DoesEnd P.means pages.now regs.now.ac taken.old taken.new (does_pointer code regs.now ac e) result }
 {
-    let pointer = refer(taken, regs, pages, fork, e, Kind::Read)?;
+    let pointer = refer(taken, regs, pages, e, Kind::Read)?;
     match byte_step(code, regs) {
         ByteStep::Increment => {
             let mut after = *regs;
             let told = commit_increment(&mut after, ac, e, pointer);
-            finish(
-                taken,
-                regs,
-                pages,
-                fork,
-                after,
-                ac,
-                Destination::Back(e),
-                told,
-            )
+            finish(taken, regs, pages, after, ac, Destination::Back(e), told)
         }
         ByteStep::FirstPart => {
             let mut after = *regs;
             let told = commit_first_part(&mut after, ac, e, pointer);
-            finish(
-                taken,
-                regs,
-                pages,
-                fork,
-                after,
-                ac,
-                Destination::Back(e),
-                told,
-            )
+            finish(taken, regs, pages, after, ac, Destination::Back(e), told)
         }
-        ByteStep::Load => load_byte(taken, regs, pages, fork, ac, pointer),
-        ByteStep::Deposit => deposit_byte(taken, regs, pages, fork, ac, pointer),
+        ByteStep::Load => load_byte(taken, regs, pages, ac, pointer),
+        ByteStep::Deposit => deposit_byte(taken, regs, pages, ac, pointer),
         ByteStep::LoadSecond => {
             let second = second_part(regs);
-            load_byte(taken, &second, pages, fork, ac, pointer)
+            load_byte(taken, &second, pages, ac, pointer)
         }
         ByteStep::DepositSecond => {
             let second = second_part(regs);
-            deposit_byte(taken, &second, pages, fork, ac, pointer)
+            deposit_byte(taken, &second, pages, ac, pointer)
         }
     }
 }

@@ -50,7 +50,7 @@ pub fn slow_unit<P: Pages>(
         Planned::Trap(channel) => Outcome::Trap(channel),
         Planned::Call(number) => Outcome::Call(number),
         Planned::Do(ending) => {
-            carry(taken, ending.put, pages, fork);
+            carry(taken, ending.put, pages);
             *regs = ending.regs;
             Outcome::Done(ending.post)
         }

@@ -2,17 +2,19 @@
 ghost use Rattle.std.specs.Prelude.{◌≡◌, ◌<◌, ◌^◌, ℕ, IfErr, None, true};
 ghost use Rattle.plain_units.specs.Blocks.{next_address};
 ghost use Rattle.plain_units.specs.Blocks.{stored_from};
+ghost use Rattle.machine_names.specs.declared.names.ForkName.{ForkName as AForkName};
 ghost use Rattle.machine_names.specs.Bounds.{IsAddress};
 ghost use Rattle.page_contracts.specs.DrumWords.{DrumWords};
 ghost use Rattle.page_contracts.specs.Pages.{MayLose, StaysPut};
 ghost use Rattle.machine_names.specs.declared.names.TheConstants.{ACCUMULATORS};
 ghost use Rattle.ka10_unit.specs.Blocks.{AreOpenAt, IsStoredAt, TakesBlock, stored_word};
 ghost use Rattle.ka10_unit.specs.Carrying.{Grows};
-ghost use Rattle.ka10_unit.specs.Gathers.{IsOf, Serves, framed};
-ghost use Rattle.ka10_unit.specs.Taking.{IsTrap, StopNeeds, Stands, pages_so_far, so_far, most_frames};
+ghost use Rattle.ka10_unit.specs.Gathers.{Serves, framed};
+ghost use Rattle.ka10_unit.specs.Taking.{IsTrap, StopNeeds, Stands, most_frames, pages_so_far, so_far};
 
 use crate::carry::{carry, store};
-use crate::taken::{Stop, Taken, refer_next};
+use crate::references::refer_next;
+use crate::taken::{Stop, Taken};
 use machine_names::{ACCUMULATORS, ForkName, Kind};
 use page_contracts::Pages;
 use plain_units::{Put, Regs};
@@ -42,7 +44,7 @@ pub fn refer_block<P: Pages>(
 ) -> Result<[Word; 16], Stop>
     requires serves { Serves P.means pages.now fork }
     requires address { IsAddress at }
-    ensures own { IsOf fork taken.new.gather }
+    ensures fork { taken.new.fork ≡ fork }
     ensures kept { taken.new.kept ≡ None }
     ensures core { P.means.flat ≡ true → IfErr result IsTrap }
     ensures needs { IfErr result (StopNeeds P.means.store most_frames pages.now) }
@@ -52,7 +54,7 @@ pub fn refer_block<P: Pages>(
     let mut words = [Word::ZERO; WORDS];
     let mut next = at;
     for i in 0..WORDS {
-        match refer_next(taken, regs, pages, fork, next, kind) {
+        match refer_next(taken, regs, pages, next, kind) {
             Err(stop) => return Err(stop),
             Ok(word) => words[i] = word,
         }
@@ -62,19 +64,18 @@ pub fn refer_block<P: Pages>(
 }
 
 /// Makes the pages of a block that was referred to, in order.
-pub fn make_block<P: Pages>(taken: &Taken, pages: &mut P, fork: ForkName)
-    requires serves { Serves P.means pages.old fork }
-    requires own { IsOf fork taken.now.gather }
+pub fn make_block<P: Pages>(taken: &Taken, pages: &mut P)
+    requires serves { Serves P.means pages.old taken.now.fork }
     requires kept { taken.now.kept ≡ None }
-    requires serial { P.means.serial pages.old fork.tty < 2 ^ 62 }
-    ensures told { (d : DrumWords) → P.means.fits pages.old d → Stands fork (framed P.means pages.old d) taken.now
+    requires serial { P.means.serial pages.old taken.now.fork.tty < 2 ^ 62 }
+    ensures told { (d : DrumWords) (f : AForkName) → P.means.fits pages.old d → Stands f (framed P.means pages.old d) taken.now
         → P.means.plain pages.new d ≡ pages_so_far (framed P.means pages.old d) taken.now }
-    ensures opens { (d : DrumWords) (at n : ℕ) → P.means.fits pages.old d → Stands fork (framed P.means pages.old d) taken.now
-        → AreOpenAt fork (so_far (framed P.means pages.old d) taken.now) at n → AreOpenAt fork (framed P.means pages.new d) at n }
+    ensures opens { (d : DrumWords) (f : AForkName) (at n : ℕ) → P.means.fits pages.old d → Stands f (framed P.means pages.old d) taken.now
+        → AreOpenAt f (so_far (framed P.means pages.old d) taken.now) at n → AreOpenAt f (framed P.means pages.new d) at n }
     ensures fits { (d : DrumWords) → P.means.fits pages.old d → P.means.fits pages.new d }
-    ensures grows { Grows P.means fork.tty 128 pages.old pages.new }
+    ensures grows { Grows P.means taken.now.fork.tty 128 pages.old pages.new }
 {
-    carry(taken, None, pages, fork);
+    carry(taken, None, pages);
 }
 
 // Stores a word at an address of a fork's pages; none at that of an accumulator.

@@ -18,7 +18,7 @@ fn reached<P: Pages>(pages: &P, regs: &Regs, word: Word) -> (Option<Address>, Op
 {
     let mut taken = Taken::new();
     taken.restart(TOP);
-    let address = address_of(&mut taken, regs, pages, TOP, word);
+    let address = address_of(&mut taken, regs, pages, word);
     let first = match taken.refs.as_slice().first() {
         Some(reference) => Some(reference.address),
         None => None,

@@ -12,7 +12,7 @@ use Rattle.ka10_unit.proofs.carry.carry.Goals as goal
 pub returns-clause-told : goal.returns-clause-told
 returns-clause-told g c d fits stands can =
     let means = g.P.Pages.means in
-    let f = c.args.fork in
+    let f = c.args.taken.now.fork in
     let kept = c.args.taken.now.kept in
     let q : Framed = so_far (framed means c.args.pages.now d) c.args.taken.now in
     let made : means.plain c.make.new.pages d ≡ q.pages = c.make.ensures.told d fits stands.gathers in
@@ -32,8 +32,8 @@ returns-clause-away g c =
 pub returns-clause-grows : goal.returns-clause-grows
 returns-clause-grows g c =
     let means = g.P.Pages.means in
-    let owner = c.args.fork.tty in
-    let made = subst (λ (o : Tty). Made means o 128 c.args.pages.now c.make.new.pages) c.requires.own.owner c.make.ensures.grows in
-    let first : Grows means c.args.fork.tty 128 c.args.pages.now c.make.new.pages = record { lives = made.lives; forks = made.forks; most = made.most; serial = made.serial; serials = made.serials; loses = made.loses } in
+    let owner = c.args.taken.now.fork.tty in
+    let made = subst (λ (o : Tty). Made means o 128 c.args.pages.now c.make.new.pages) c.args.taken.now.own.owner c.make.ensures.grows in
+    let first : Grows means c.args.taken.now.fork.tty 128 c.args.pages.now c.make.new.pages = record { lives = made.lives; forks = made.forks; most = made.most; serial = made.serial; serials = made.serials; loses = made.loses } in
     let second = grows_more means owner 128 0 c.args.pages.now c.make.new.pages c.store.new.pages first (grows_stored means owner c.make.new.pages c.store.new.pages c.store.ensures.stays c.store.ensures.loses) in
     grows_more means owner 128 0 c.args.pages.now c.store.new.pages c.store-2.new.pages second (grows_stored means owner c.store.new.pages c.store-2.new.pages c.store-2.ensures.stays c.store-2.ensures.loses)

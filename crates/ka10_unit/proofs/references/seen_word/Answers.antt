@@ -4,7 +4,7 @@ use Rattle.plain_pages.specs.References.{slot_at}
 use Rattle.page_gather.specs.Gathering.{left_of}
 use Rattle.ka10_unit.specs.Taking.{stands_at}
 use Rattle.ka10_unit.proofs.Seeing.{word_named}
-use Rattle.ka10_unit.proofs.taken.seen_word.Goals as goal
+use Rattle.ka10_unit.proofs.references.seen_word.Goals as goal
 
 pub returns-in-None : goal.returns-in-None
 returns-in-None g c = record {

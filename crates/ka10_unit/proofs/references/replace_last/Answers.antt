@@ -3,7 +3,7 @@ use Rattle.std.specs.Option.{option_to_list}
 use Rattle.arrayvec.specs.ArrayVec.{ArrayVec}
 use Rattle.plain_units.specs.declared.unit.Reference.{Reference}
 use Rattle.ka10_unit.proofs.Referring.{last_replaced, none_replaced}
-use Rattle.ka10_unit.proofs.taken.replace_last.Goals as goal
+use Rattle.ka10_unit.proofs.references.replace_last.Goals as goal
 
 pub returns-in-Some : goal.returns-in-Some
 returns-in-Some c = last_replaced c.args.refs.now.items c.pop.new.self.items _ c.in-Some.field-0 _ (c.pop.ensures.items ∙ ap (λ (o : Option Reference). c.pop.new.self.items ++ option_to_list o) c.in-Some.is) c.push.ensures.items

@@ -7,7 +7,7 @@ use Rattle.plain_pages.specs.References.{page_at, slot_at}
 use Rattle.page_gather.specs.Gathering.{are_same, left_of}
 use Rattle.ka10_unit.proofs.Adding.{near_place}
 use Rattle.ka10_unit.proofs.Seeing.{stands_same}
-use Rattle.ka10_unit.proofs.taken.is_stored_at.Goals as goal
+use Rattle.ka10_unit.proofs.references.is_stored_at.Goals as goal
 
 pub returns : goal.returns
 returns g c = record {

@@ -4,7 +4,7 @@ use Rattle.plain_pages.specs.References.{slot_at}
 use Rattle.plain_units.specs.Steps.{is_accumulator}
 use Rattle.ka10_unit.specs.Gathers.{framed}
 use Rattle.ka10_unit.proofs.Adding.{asks_went, asks_need, asks_denied, asks_full}
-use Rattle.ka10_unit.proofs.taken.ask.Goals as goal
+use Rattle.ka10_unit.proofs.references.ask.Goals as goal
 
 pub returns-in-Went-clause-told : goal.returns-in-Went-clause-told
 returns-in-Went-clause-told g c d fits gathers =

@@ -6,7 +6,7 @@ use Rattle.plain_pages.specs.PlainPages.{NumberedPages}
 use Rattle.plain_pages.specs.References.{slot_at, word_at}
 use Rattle.page_gather.specs.Gathering.{left_of}
 use Rattle.ka10_unit.proofs.Adding.{near_place}
-use Rattle.ka10_unit.proofs.taken.held_word.Goals as goal
+use Rattle.ka10_unit.proofs.references.held_word.Goals as goal
 
 pub returns : goal.returns
 returns g c = record {
