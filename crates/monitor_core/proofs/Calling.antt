@@ -34,7 +34,7 @@ use Rattle.fork_tree.proofs.Kept.{changed_tree}
 use Rattle.fork_tree.proofs.Slots.{get_put, in_found, in_tells, some_of}
 use Rattle.fork_calls.specs.Limits.{AreWithin, IsBody}
 use Rattle.fork_calls.specs.Turning.{HasRegs, parts}
-use Rattle.monitor_core.specs.ForkUnit.{answered, answered_turn, out_in, put_back}
+use Rattle.monitor_core.specs.ForkUnit.{TurnedSo, answered, answered_turn, out_in, put_back}
 
 -- what holds of the body of the fork in a slot
 pub body_has : (P : Body → Type 0) (o : Option Fork) (b : Body) → IsSome o → b ≡ body_in o → ((f : Fork) → o ≡ Some f → P f.body) → P b
@@ -79,10 +79,50 @@ out_fits (answer.Failed code) fits = tt
 out_fits (answer.Trap channel) fits = tt
 out_fits (answer.Need need) fits = tt
 
--- a turn that needs nothing first went to its end
-pub turn_went : {C V : Type 0} {IsReason : Need → Type 0} {changed : C → V → V} {old made new : V} {a : Answer} {e : End C} → IsDone a → IsTurn IsReason changed old made new a e → Went changed old made new a e
-turn_went done (inl went) = went
-turn_went done (inr waits) = absurd (subst IsDone waits.answered done)
+-- an answer of an end is done
+answer_done : {C : Type 0} (e : End C) → IsDone (answer_of e)
+answer_done (Done what regs out post) = tt
+answer_done (Waits on) = tt
+answer_done Halts = tt
+answer_done (Refused code) = tt
+answer_done (Failed code) = tt
+answer_done (Trap channel) = tt
+
+-- an answer that is no need is done
+pub done_else : (a : Answer) → ((n : Need) → a ≡ answer.Need n → ⊥) → IsDone a
+done_else (answer.After regs out post) none = tt
+done_else (answer.Wait on) none = tt
+done_else answer.Halt none = tt
+done_else (answer.Refused code) none = tt
+done_else (answer.Failed code) none = tt
+done_else (answer.Trap channel) none = tt
+done_else (answer.Need n) none = absurd (none n refl)
+
+module _ (old new : Parts nat_cmp) (who : ForkName) (regs : Regs) (number : ℕ) where
+  -- a turn that is done left what its call leaves
+  pub done_so : (a : Answer) → IsDone a → call_turned old who regs number ≡ answered_turn new who a → TurnedSo old new who regs number a
+  done_so (answer.After rs out post) done is = is
+  done_so (answer.Wait on) done is = is
+  done_so answer.Halt done is = is
+  done_so (answer.Refused code) done is = is
+  done_so (answer.Failed code) done is = is
+  done_so (answer.Trap channel) done is = is
+  done_so (answer.Need n) done is = absurd done
+
+  pub so_done : (a : Answer) → IsDone a → TurnedSo old new who regs number a → call_turned old who regs number ≡ answered_turn new who a
+  so_done (answer.After rs out post) done is = is
+  so_done (answer.Wait on) done is = is
+  so_done answer.Halt done is = is
+  so_done (answer.Refused code) done is = is
+  so_done (answer.Failed code) done is = is
+  so_done (answer.Trap channel) done is = is
+  so_done (answer.Need n) done is = absurd done
+
+-- a turn went to its end, or needs something first, and left its family's part as it was
+pub turned_so : {C V : Type 0} {IsReason : Need → Type 0} {changed : C → V → V} {made : V} {e : End C} (whole : V → Parts nat_cmp) (old new : V) (who : ForkName) (regs : Regs) (number : ℕ) (a : Answer) → IsTurn IsReason changed old made new a e
+    → (Went changed old made new a e → call_turned (whole old) who regs number ≡ answered_turn (whole new) who a) → TurnedSo (whole old) (whole new) who regs number a
+turned_so whole old new who regs number a (inl went) is = done_so (whole old) (whole new) who regs number a (subst IsDone (sym went.answered) (answer_done _)) (is went)
+turned_so whole old new who regs number a (inr waits) is = subst (TurnedSo (whole old) (whole new) who regs number) (sym waits.answered) (ap whole waits.left)
 
 module _ (v : Parts nat_cmp) (who : ForkName) where
   -- the answer of a turn that ends so leaves its fork as the end does, and prints what that prints

@@ -20,7 +20,7 @@ use Rattle.monitor_core.specs.Writing.{Makes, most_makings}
 use Rattle.monitor_core.proofs.Keeping.{kept_body, more_keeps}
 use Rattle.monitor_core.proofs.Sounds.{lives_now}
 
-came_less : (forks : ForkMap) (f : Fork) (n : ℕ) → CameFrom forks f → CameOn forks n f
+pub came_less : (forks : ForkMap) (f : Fork) (n : ℕ) → CameFrom forks f → CameOn forks n f
 came_less forks f n c = record { before = c.before; lived = c.lived; name = c.name; slot = c.slot; units = omega (arith, c.units); within = c.within }
 
 came_more : (forks : ForkMap) (g h : Fork) (n : ℕ) → CameFrom forks g → Kept g h n → CameOn forks n h

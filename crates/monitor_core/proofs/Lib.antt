@@ -13,6 +13,7 @@ mod UnitRan
 mod UnitRows
 mod Keeping
 mod Leaving
+mod Stopping
 mod Calling
 mod Changing
 mod Sounds

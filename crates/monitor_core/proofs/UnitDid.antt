@@ -13,6 +13,9 @@ use Rattle.script_texts.specs.declared.event.Step.TheVariants.{Unit as AUnit}
 use Rattle.machine_names.specs.declared.names.ForkName.{ForkName}
 use Rattle.plain_model.specs.Forks.{ForkMap, is_frozen}
 use Rattle.page_contracts.specs.DrumWords.{DrumWords}
+use Rattle.page_contracts.specs.declared.answers.Need.{Need}
+use Rattle.page_contracts.specs.Stores.{IsNeeded}
+use Rattle.fork_calls.specs.Needing.{call_frames}
 use Rattle.plain_model.specs.State.{PlainJob}
 use Rattle.plain_model.specs.Trees.{PlainTree, next_name}
 use Rattle.plain_model.proofs.ForkMaps.{AreOwn}
@@ -29,12 +32,12 @@ use Rattle.monitor_core.specs.declared.shown.Stop.{Stop}
 use Rattle.monitor_core.specs.declared.shown.Stop.TheVariants.{GoesOn}
 use Rattle.monitor_core.specs.declared.system.System.{System}
 use Rattle.monitor_core.specs.declared.units.Units.{Units}
-use Rattle.monitor_core.specs.ForkUnit.{Behind, UnitsRan}
+use Rattle.monitor_core.specs.ForkUnit.{Behind, LeavesForks, UnitWaits, UnitsRan}
 use Rattle.monitor_core.specs.Jobs.{job_at, jobs_left, jobs_of}
 use Rattle.monitor_core.specs.Runners.{woken_where}
 use Rattle.monitor_core.specs.Shown.{FitsShown, FitsStop, is_stop, seen_of, shown_items}
 use Rattle.monitor_core.specs.Sound.{AreSound}
-use Rattle.monitor_core.specs.Systems.{DidAll, FitsPages, IsWithin, state_of}
+use Rattle.monitor_core.specs.Systems.{DidAll, FitsPages, IsWithin, Waits, state_of}
 use Rattle.monitor_core.specs.Writing.{most_makings}
 use Rattle.monitor_core.proofs.Lookups.{job_found, job_missing, jobs_set}
 use Rattle.monitor_core.proofs.Rows.{Entries, units_as}
@@ -83,28 +86,28 @@ module _ {P : Type 0} {b : _} (m : System P b) (f : Fork) (trees : IsTree m.tree
   within_jobs = omega (arith, m.sound.job_room, low)
 
   -- behind units of a fork, and once who waits runs again
-  module _ (q : P) (left tree' : PlainTree) (units : Units) (ran : UnitsRan b.means m.pages q m.tree left f units) (left_trees : IsTree left) (woken : tree' ≡ record left { forks = woken_where left.forks f.name.tty (is_stop units.shown) }) where
+  module _ (q : P) (left tree' : PlainTree) (count : ℕ) (stops : Bool) (leaves : LeavesForks b.means m.pages q m.tree left f count) (left_trees : IsTree left) (woken : tree' ≡ record left { forks = woken_where left.forks f.name.tty stops }) where
     left_within : AreWithin left.forks
-    left_within g there = elim (ran.leaves.kept g there) [
+    left_within g there = elim (leaves.kept g there) [
       | inl came ↦ came.within (m.sound.each_fork came.before came.lived)
       | inr new ↦ new.within
     ]
 
     keeps : Keep left.forks tree'.forks
-    keeps = subst (λ (x : PlainTree). Keep left.forks x.forks) (sym woken) (woken_keeps left.forks left_trees.slotted.own f.name.tty (is_stop units.shown))
+    keeps = subst (λ (x : PlainTree). Keep left.forks x.forks) (sym woken) (woken_keeps left.forks left_trees.slotted.own f.name.tty stops)
 
     -- a fork of a job has no more units
-    few_units : (entries : ℕ) → IsWithin m entries → (g : Fork) → Lives tree'.forks g → g.body.units ≤ entries + units.count
+    few_units : (entries : ℕ) → IsWithin m entries → (g : Fork) → Lives tree'.forks g → g.body.units ≤ entries + count
     few_units entries w g there =
         let k = keeps.come g there in
-        elim (ran.leaves.kept k.before k.lived) [
+        elim (leaves.kept k.before k.lived) [
           | inl came ↦ omega (arith, k.units, came.units, w.units came.before came.lived)
           | inr new ↦ omega (arith, k.units, new.units)
         ]
 
     -- nor has a terminal that has none now
     none_before : (t : ℕ) → ((g : Fork) → Lives m.tree.forks g → g.name.tty.0 ≡ t → ⊥) → (g : Fork) → Lives left.forks g → g.name.tty.0 ≡ t → ⊥
-    none_before t none g there at = elim (ran.leaves.kept g there) [
+    none_before t none g there at = elim (leaves.kept g there) [
       | inl came ↦ none came.before came.lived (ap (λ (n : ForkName). n.tty.0) (sym came.name) ∙ at)
       | inr new ↦ made new (some_of g.superior new.below)
     ]
@@ -112,7 +115,7 @@ module _ {P : Type 0} {b : _} (m : System P b) (f : Fork) (trees : IsTree m.tree
         made : IsNew m.tree g → (slot : ℕ) × (g.superior ≡ Some slot) → ⊥
         made new over =
             let o = left_trees.superiors g over.0 there over.1 in
-            elim (ran.leaves.kept o.0 o.1.0) [
+            elim (leaves.kept o.0 o.1.0) [
               | inl came ↦ none came.before came.lived (ap (λ (n : ForkName). n.tty.0) (sym came.name) ∙ o.1.1 ∙ at)
               | inr also ↦
                   let job : o.0.name.tty ≡ g.name.tty = λ i. record { 0 = o.1.1 i } in
@@ -126,7 +129,7 @@ module _ {P : Type 0} {b : _} (m : System P b) (f : Fork) (trees : IsTree m.tree
         let tops = tops_left m.jobs.items f.name.tty.0 (is_stop shown) within_jobs in
         subst (AreSound b.means q tree') (sym jobs) (record {
           flat = m.sound.flat;
-          holds = holds_same b.means q left.forks tree'.forks left_trees.slotted now.slotted keeps.same ran.leaves.holds;
+          holds = holds_same b.means q left.forks tree'.forks left_trees.slotted now.slotted keeps.same leaves.holds;
           job_room = tops.room ∙ m.sound.job_room;
           each_fork = λ g there. let k = keeps.come g there in k.within (left_within k.before k.lived);
           each_job = λ t k e.
@@ -135,13 +138,14 @@ module _ {P : Type 0} {b : _} (m : System P b) (f : Fork) (trees : IsTree m.tree
               record {
                 terminal = ap (λ n. n.tty.0) j.2 ∙ job.terminal;
                 low = job.low;
-                top = keeps.same k.top ∙ ran.leaves.tops k.top (ap (λ n. option_map (λ f. f.slot) (fin.get m.tree.forks n)) j.2 ∙ job.top);
+                top = keeps.same k.top ∙ leaves.tops k.top (ap (λ n. option_map (λ f. f.slot) (fin.get m.tree.forks n)) j.2 ∙ job.top);
               };
           nobody = λ t g e there at.
               let k = keeps.come g there in
               none_before t (λ h lived. m.sound.nobody t h (tops.none t e) lived) k.before k.lived (ap (λ (n : ForkName). n.tty.0) (sym k.name) ∙ at);
         })
 
+  module _ (q : P) (left tree' : PlainTree) (units : Units) (ran : UnitsRan b.means m.pages q m.tree left f units) (left_trees : IsTree left) (woken : tree' ≡ record left { forks = woken_where left.forks f.name.tty (is_stop units.shown) }) where
     module _ (m' : System P b) (pages_are : m'.pages ≡ q) (tree_is : m'.tree ≡ tree') (shown : Shown) (runs : f.body.status ≡ Run) (thawed : is_frozen MOST_FORKS m.tree.forks (Some f) ≡ false)
         (seen : shown ≡ seen_of f.slot units.shown) (jobs : m'.jobs.items ≡ jobs_left m.jobs.items f.name.tty.0 (is_stop shown)) (clock : m'.clock ≡ m.clock) (some : 1 ≤ units.count) where
       module _ (d : DrumWords) (fits : FitsPages m d) where
@@ -152,7 +156,7 @@ module _ {P : Type 0} {b : _} (m : System P b) (f : Fork) (trees : IsTree m.tree
         can_run = record { trees = trees; fork = lives; pages = refl; unfiled = fits.unfiled; quiet = refl; off = (m.sound.each_fork f lives).off; runs = runs; thawed = thawed }
 
         entries : Entries (state_of m d) f (b.means.plain m.pages d) can_run units.count last
-        entries = units_as (state_of m d) f (b.means.plain m.pages d) can_run units.count last (ran.told d fits.pages).1 (λ stops. record { own = left_trees.slotted.own; within = left_within })
+        entries = units_as (state_of m d) f (b.means.plain m.pages d) can_run units.count last (ran.told d fits.pages).1 (λ stops. record { own = left_trees.slotted.own; within = left_within q left tree' units.count (is_stop units.shown) ran.leaves left_trees woken })
 
         state_is : state_of m' d ≡ behind_state (state_of m d) f last
         state_is =
@@ -171,7 +175,7 @@ module _ {P : Type 0} {b : _} (m : System P b) (f : Fork) (trees : IsTree m.tree
         shown = (low, subst FitsShown (sym seen) (let fits = ran.shown in (fits.0, seen_fits (is_stop units.shown && not (f.slot == 1)) units.shown.stop fits.1)));
         within = λ n w. record {
           ticks = omega (arith, clock, w.ticks);
-          units = λ g there. few_units n w g (ap (λ (x : PlainTree). fin.get x.forks g.name) (sym tree_is) ∙ there);
+          units = λ g there. few_units q left tree' units.count (is_stop units.shown) ran.leaves left_trees woken n w g (ap (λ (x : PlainTree). fin.get x.forks g.name) (sym tree_is) ∙ there);
           serials = λ u. subst (λ (x : P). b.means.serial x u ≤ most_makings * (n + units.count) + 1) (sym pages_are) (serials_left n w u);
         };
         most = ap b.means.most pages_are ∙ ran.leaves.made.most;
@@ -182,3 +186,32 @@ module _ {P : Type 0} {b : _} (m : System P b) (f : Fork) (trees : IsTree m.tree
             | inl same ↦ let is : u ≡ f.name.tty = λ i. record { 0 = same i } in omega (arith, ap (b.means.serial q) is, ran.leaves.made.serial, w.serials f.name.tty, some)
             | inr ne ↦ omega (arith, ran.leaves.made.serials u (λ h. ne (ap (λ x. x.0) h)), w.serials u)
           ]
+
+  -- where the first unit needs something first
+  module _ (q : P) (left : PlainTree) (n : Need) (waits : UnitWaits b.means m.pages q m.tree left f n) (left_trees : IsTree left) where
+    pub waits_sound : AreSound b.means q left m.jobs.items
+    waits_sound = units_sound q left left 0 false waits.leaves left_trees refl left_trees m.jobs.items (record { out = None; stop = GoesOn }) refl
+
+    pub waits_still : (m' : System P b) → m'.pages ≡ q → m'.tree ≡ left → m'.jobs ≡ m.jobs → m'.clock ≡ m.clock → Waits m m' n
+    waits_still m' pages_are tree_is jobs_are clock = record {
+      each = λ d fits.
+          let t = waits.told d fits.pages in
+          let same : b.means.plain m'.pages d ≡ b.means.plain m.pages d = ap (λ (x : P). b.means.plain x d) pages_are ∙ t.2 in
+          let tree_same = tree_is ∙ t.1 in (
+            record { pages = subst (λ (x : P). b.means.fits x d) (sym pages_are) t.0; unfiled = ap (λ x. x.files) same ∙ fits.unfiled },
+            λ i. record (state_of m' d) { pages = named (same i); jobs = jobs_of (jobs_are i).items; forks = (tree_same i).forks; fork_serials = (tree_same i).serials; clock = clock i },
+          );
+      within = λ entries w. record {
+        ticks = omega (arith, clock, w.ticks);
+        units = λ g there. omega (arith, few_units q left left 0 false waits.leaves left_trees refl entries w g (ap (λ (x : PlainTree). fin.get x.forks g.name) (sym tree_is) ∙ there));
+        serials = λ u. subst (λ (x : P). b.means.serial x u ≤ most_makings * entries + 1) (sym pages_are) (serials_still entries w u);
+      };
+      most = ap b.means.most pages_are ∙ waits.unmade.most;
+      needed = subst (λ (x : P). IsNeeded b.means.store call_frames x n) (sym pages_are) waits.needed;
+    }
+      where
+        serials_still : (entries : ℕ) → IsWithin m entries → (u : Tty) → b.means.serial q u ≤ most_makings * entries + 1
+        serials_still entries w u = elim (cases_eq u.0 f.name.tty.0) [
+          | inl same ↦ let is : u ≡ f.name.tty = λ i. record { 0 = same i } in omega (arith, ap (b.means.serial q) is, waits.unmade.serial, w.serials f.name.tty)
+          | inr ne ↦ omega (arith, waits.unmade.serials u (λ h. ne (ap (λ x. x.0) h)), w.serials u)
+        ]

@@ -66,9 +66,9 @@ module _ (tree : PlainTree) (f : Fork) (p : NumberedPages) (n : ℕ) where
           ∙ put_twice tree (ran_on f n a.regs) last b.pages (post_shown b.post) (ended_name (ran_on f n b.regs) b.post))
 
   -- it is a monitor call
-  pub call_behind : (g : Fork) (q : NumberedPages) (number : ℕ) (last : Behind) → RanUpTo f p n g q number → called_behind (put_back tree g) g q number ≡ last → RanUnits tree f p (n + 1) last
-  call_behind g q number last r is =
-      let on : unit_on f.name r.after.pages r.after.regs ≡ call number = ap (λ x. unit_on f.name x r.after.regs) r.pages ∙ ap (λ x. unit_on f.name q x) (ap (λ (h : Fork). h.body.regs) r.fork) ∙ r.calls in
+  pub call_behind : (g : Fork) (q : NumberedPages) (number : ℕ) (last : Behind) → RanUpTo f p n g q → unit_on f.name q g.body.regs ≡ call number → called_behind (put_back tree g) g q number ≡ last → RanUnits tree f p (n + 1) last
+  call_behind g q number last r calls is =
+      let on : unit_on f.name r.after.pages r.after.regs ≡ call number = ap (λ x. unit_on f.name x r.after.regs) r.pages ∙ ap (λ x. unit_on f.name q x) (ap (λ (h : Fork). h.body.regs) r.fork) ∙ calls in
       one_behind r.after last r.row
       (ap (behind (put_back tree (ran_on f n r.after.regs)) (ran_on f n r.after.regs) r.after.pages) on ∙ (λ i. called_behind (put_back tree (r.fork i)) (r.fork i) (r.pages i) number) ∙ is)
 

@@ -1,5 +1,5 @@
 -- What a unit does to its own fork and its pages, and what it shows; and so many of them in a row.
-use Rattle.std.specs.Prelude.{◌≡◌, ◌⊎◌, ℕ, suc, ◌+◌, ◌≤◌, ◌<◌, ◌^◌, length, Bool, Option, None, Some, IsSome, if◌then◌else◌}
+use Rattle.std.specs.Prelude.{◌≡◌, ◌⊎◌, true, ℕ, suc, ◌+◌, ◌≤◌, ◌<◌, ◌^◌, length, Bool, Option, None, Some, IsSome, if◌then◌else◌}
 use Rattle.std.specs.Option.{option_map, unwrap_or}
 use Rattle.std.specs.Ordering.{nat_cmp}
 use Rattle.std.specs.FinMap as map
@@ -21,10 +21,14 @@ use Rattle.plain_model.specs.Forks.{ForkMap, with_regs, with_status, counted}
 use Rattle.plain_model.specs.Interrupts.{posted, is_panic}
 use Rattle.page_contracts.specs.DrumWords.{DrumWords}
 use Rattle.page_contracts.specs.Pages.{PagesMeaning}
+use Rattle.page_contracts.specs.Stores.{StoreMeaning, IsNeeded}
+use Rattle.ka10_unit.specs.Taking.{most_frames}
 use Rattle.plain_model.specs.Trees.{PlainTree}
 use Rattle.ka10_unit.specs.Once.{After, in_a_row}
 use Rattle.fork_tree.specs.Trees.{Lives}
-use Rattle.fork_calls.specs.Holding.{Holds, IsNew, MakesPages, TopsStay}
+use Rattle.page_contracts.specs.declared.answers.Need.{Need}
+use Rattle.fork_calls.specs.Holding.{CallLeaves, Holds, IsNew, MakesPages, TopsStay}
+use Rattle.fork_calls.specs.Needing.{call_frames}
 use Rattle.monitor_core.specs.Limits.{FitsForced, IsBody}
 use Rattle.monitor_core.specs.Shown.{FitsShown, nothing, shown_of, stands}
 use Rattle.monitor_core.specs.Writing.{Makes, most_makings}
@@ -32,7 +36,7 @@ use Rattle.monitor_core.specs.declared.shown.Shown.{Shown}
 use Rattle.monitor_core.specs.declared.shown.Stop.TheVariants.{GoesOn, Forced}
 use Rattle.monitor_core.specs.declared.unit.Row.{Row}
 use Rattle.monitor_core.specs.declared.unit.Last.{Last}
-use Rattle.monitor_core.specs.declared.unit.Last.TheVariants.{Shows, Calls}
+use Rattle.monitor_core.specs.declared.unit.Last.TheVariants.{Shows, Calls, Needs}
 use Rattle.monitor_core.specs.declared.units.Units.{Units}
 
 -- where a fork stands among those of its job
@@ -97,43 +101,58 @@ pub record RanUnits (tree : PlainTree) (f : Fork) (p : NumberedPages) (count : �
   pub row : in_a_row f.name before p f.body.regs ≡ Some after
   pub ends : behind_unit (put_back tree (ran_on f before after.regs)) (ran_on f before after.regs) after.pages ≡ last
 
--- so many units in a row that post nothing and show nothing, and then a monitor call, which is still to be made
-pub record RanUpTo (f : Fork) (p : NumberedPages) (count : ℕ) (g : Fork) (q : NumberedPages) (number : ℕ) : Type 0 where
+-- so many units in a row that post nothing and show nothing
+pub record RanUpTo (f : Fork) (p : NumberedPages) (count : ℕ) (g : Fork) (q : NumberedPages) : Type 0 where
   pub after : After nat_cmp
   pub row : in_a_row f.name count p f.body.regs ≡ Some after
   pub fork : ran_on f count after.regs ≡ g
   pub pages : after.pages ≡ q
-  pub calls : unit_on f.name q g.body.regs ≡ call number
 
--- units in a row, by their last
+-- units in a row, by their last; behind the others a monitor call is still to be made, and a unit that needs something first is not begun
 abbrev pub IsRow : Fork → NumberedPages → ℕ → Fork → NumberedPages → Last → Type 0
 IsRow f p count g q (Shows shown) = (tree : PlainTree) → RanUnits tree f p count (left_so tree g q shown)
-IsRow f p count g q (Calls number) = RanUpTo f p count g q number
+IsRow f p count g q (Calls number) = RanUpTo f p count g q × (unit_on f.name q g.body.regs ≡ call number)
+IsRow f p count g q (Needs n) = RanUpTo f p count g q
 
--- one unit, which is over or is a call that is still to be made
+-- one unit, which is over, or is a call that is still to be made, or needs something first
 abbrev pub IsOne : Fork → NumberedPages → Fork → NumberedPages → Last → Type 0
 IsOne f p g q (Shows shown) = (tree : PlainTree) → behind_unit tree f p ≡ left_so tree g q shown
 IsOne f p g q (Calls number) = (f ≡ g) × (p ≡ q) × (unit_on f.name q g.body.regs ≡ call number)
+IsOne f p g q (Needs n) = (f ≡ g) × (p ≡ q)
 
--- how many units a last one is: a call that is still to be made is none
+-- how many units a last one is: one that is still to be made is none
 abbrev pub units_over : Last → ℕ
 units_over (Shows shown) = 1
 units_over (Calls number) = 0
+units_over (Needs n) = 0
 
 -- how many pages it makes at most
 abbrev pub makings_of : Last → ℕ
 makings_of (Shows shown) = most_makings
 makings_of (Calls number) = 0
+makings_of (Needs n) = 0
 
 -- the limits of what is shown
 abbrev pub FitsLast : Last → Type 0
 FitsLast (Shows shown) = FitsShown shown
 FitsLast (Calls number) = Unit {0}
+FitsLast (Needs n) = Unit {0}
+
+-- what it needs first is so, over whatever drum
+abbrev pub LastNeeds : {P : Type 0} → StoreMeaning P → P → Last → Type 0
+LastNeeds store p (Needs n) = IsNeeded store most_frames p n
+LastNeeds store p last = Unit {0}
+
+-- it needs nothing first
+abbrev pub IsMet : Last → Type 0
+IsMet (Needs n) = ⊥
+IsMet last = Unit {0}
 
 -- there is a unit, and room for it
 abbrev pub HasRoom : ℕ → ℕ → Last → Type 0
 HasRoom most count (Shows shown) = (1 ≤ count) × (count ≤ most)
 HasRoom most count (Calls number) = count < most
+HasRoom most count (Needs n) = count < most
 
 -- what so many units keep of a fork, and its limits
 pub record Kept (f g : Fork) (count : ℕ) : Type 0 where
@@ -146,12 +165,14 @@ pub record Kept (f g : Fork) (count : ℕ) : Type 0 where
   pub accumulators : length g.body.regs.ac ≡ ACCUMULATORS
   pub units : g.body.units ≡ f.body.units + count
 
--- one unit of a fork ran, over each drum that fits, or is a call
+-- one unit of a fork ran, over each drum that fits, or is a call, or needs something first
 pub record RanOne {P : Type 0} (means : PagesMeaning P) (old new : P) (f g : Fork) (last : Last) : Type 0 where
   pub told : (d : DrumWords) → means.fits old d → means.fits new d × IsOne f (means.plain old d) g (means.plain new d) last
   pub keeps : Kept f g (units_over last)
   pub made : Makes means old new f.name.tty (makings_of last)
   pub fits : FitsLast last
+  pub needs : LastNeeds means.store new last
+  pub core : means.flat ≡ true → IsMet last
 
 -- units of a fork ran in a row, over each drum that fits
 pub record Ran {P : Type 0} (means : PagesMeaning P) (old new : P) (f g : Fork) (row : Row) : Type 0 where
@@ -159,6 +180,8 @@ pub record Ran {P : Type 0} (means : PagesMeaning P) (old new : P) (f g : Fork) 
   pub keeps : Kept f g row.count
   pub made : Makes means old new f.name.tty (makings_of row.last)
   pub fits : FitsLast row.last
+  pub needs : LastNeeds means.store new row.last
+  pub core : means.flat ≡ true → IsMet row.last
 
 -- the fork that called, behind a turn with this answer but for its count of units
 abbrev pub answered : Fork → Answer → Fork
@@ -179,10 +202,15 @@ out_in other = None
 abbrev pub answered_turn : Parts nat_cmp → ForkName → Answer → Turned nat_cmp
 answered_turn v who a = record { parts = v; caller = option_map (λ f. answered f a) (map.get v.tree.forks who); out = out_in a }
 
+-- a turn of a call that has answered so left these parts; one that needs something first left all as it was
+abbrev pub TurnedSo : Parts nat_cmp → Parts nat_cmp → ForkName → Regs → ℕ → Answer → Type 0
+TurnedSo old new who regs number (answer.Need n) = new ≡ old
+TurnedSo old new who regs number a = call_turned old who regs number ≡ answered_turn new who a
+
 -- a turn of a call went so, over each drum that fits
 abbrev pub Turns : {P : Type 0} → PagesMeaning P → P → P → PlainTree → PlainTree → ForkName → Regs → ℕ → Answer → Type 0
 Turns means old new tree tree' who regs number a = (d : DrumWords) → means.fits old d
-    → means.fits new d × (call_turned (record { tree = tree; pages = means.plain old d }) who regs number ≡ answered_turn (record { tree = tree'; pages = means.plain new d }) who a)
+    → means.fits new d × TurnedSo (record { tree = tree; pages = means.plain old d }) (record { tree = tree'; pages = means.plain new d }) who regs number a
 
 -- a fork that lives stands where one stood that lived under its name, has run so many units more at most, and keeps its limits
 pub record CameOn (old : ForkMap) (count : ℕ) (f : Fork) : Type 0 where
@@ -213,6 +241,24 @@ pub record Called {P : Type 0} (means : PagesMeaning P) (old new : P) (tree tree
   pub keeps : Kept f after 1
   pub leaves : LeavesForks means old new tree tree' f 1
   pub fits : FitsShown shown
+
+-- over each drum that fits, forks and pages are as they were
+abbrev pub StaysPlainly : {P : Type 0} → PagesMeaning P → P → P → PlainTree → PlainTree → Type 0
+StaysPlainly means old new tree tree' = (d : DrumWords) → means.fits old d → means.fits new d × (tree' ≡ tree) × (means.plain new d ≡ means.plain old d)
+
+-- a call was not made, since it needs this first, whatever the drum holds
+pub record CallWaits {P : Type 0} (means : PagesMeaning P) (old new : P) (tree tree' : PlainTree) (who : ForkName) (n : Need) : Type 0 where
+  pub told : StaysPlainly means old new tree tree'
+  pub left : CallLeaves means old new tree tree' who most_makings
+  pub unmade : MakesPages means who.tty 0 old new
+  pub needed : IsNeeded means.store call_frames new n
+
+-- no unit was done, since the first needs this, whatever the drum holds
+pub record UnitWaits {P : Type 0} (means : PagesMeaning P) (old new : P) (tree tree' : PlainTree) (f : Fork) (n : Need) : Type 0 where
+  pub told : StaysPlainly means old new tree tree'
+  pub leaves : LeavesForks means old new tree tree' f 0
+  pub unmade : MakesPages means f.name.tty 0 old new
+  pub needed : IsNeeded means.store call_frames new n
 
 -- units of a fork of a tree ran in a row, over each drum that fits: so many, and the last showed this
 pub record UnitsRan {P : Type 0} (means : PagesMeaning P) (old new : P) (tree tree' : PlainTree) (f : Fork) (units : Units) : Type 0 where

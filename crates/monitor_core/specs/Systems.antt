@@ -11,6 +11,9 @@ use Rattle.plain_model.specs.State.{PlainState}
 use Rattle.plain_pages.specs.PlainPages.{refiled}
 use Rattle.script_texts.specs.Limits.{FitsStep, IsBuilt}
 use Rattle.page_contracts.specs.DrumWords.{DrumWords}
+use Rattle.page_contracts.specs.declared.answers.Need.{Need}
+use Rattle.page_contracts.specs.Stores.{IsNeeded}
+use Rattle.fork_calls.specs.Needing.{call_frames}
 use Rattle.plain_model.specs.Run.{apply, state_after, items_of, AreLegal}
 use Rattle.fork_tree.specs.Trees.{CanRun, Lives}
 use Rattle.monitor_core.specs.declared.reply.Reply.{Reply}
@@ -66,3 +69,10 @@ pub record DidAll {P : Type 0} {b : _} (old new : System P b) (step : Step) (cou
   pub shown : FitsReply reply
   pub within : (entries : ℕ) → IsWithin old entries → IsWithin new (entries + count)
   pub most : b.means.most new.pages ≡ b.means.most old.pages
+
+-- nothing is done, since this is needed first, whatever the drum holds: over each drum that fits, the system stands for the state for which it stood
+pub record Waits {P : Type 0} {b : _} (old new : System P b) (n : Need) : Type 0 where
+  pub each : (d : DrumWords) → FitsPages old d → FitsPages new d × (state_of new d ≡ state_of old d)
+  pub within : (entries : ℕ) → IsWithin old entries → IsWithin new entries
+  pub most : b.means.most new.pages ≡ b.means.most old.pages
+  pub needed : IsNeeded b.means.store call_frames new.pages n

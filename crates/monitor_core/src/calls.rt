@@ -1,5 +1,5 @@
 // Monitor calls by their numbers.
-ghost use Rattle.std.specs.Prelude.{◌≡◌, ◌<◌, ◌%◌, ◌^◌, IsSome, None, Some, false, length, slice_index, true};
+ghost use Rattle.std.specs.Prelude.{◌≡◌, ◌<◌, ◌%◌, ◌^◌, IfErr, IfOk, IsOk, IsSome, None, Some, false, length, slice_index, true};
 ghost use Rattle.std.specs.FinMap as map;
 ghost use Rattle.machine_names.specs.declared.names.TheConstants.{ACCUMULATORS};
 ghost use Rattle.plain_model.specs.declared.fork.Body.{Body as ABody};
@@ -10,13 +10,15 @@ ghost use Rattle.plain_model.specs.Forks.{counted, fork_in, with_regs, with_stat
 ghost use Rattle.plain_model.specs.Calls.{behind_call, failed_regs, is_among, no_files, numbered, posted_if, turn_on, with_error};
 ghost use Rattle.plain_model.specs.Families.{print_calls};
 ghost use Rattle.plain_model.specs.Trees.{with_body};
-ghost use Rattle.call_turns.specs.Answers.{IsDone, answer_of};
+ghost use Rattle.page_contracts.specs.declared.answers.Need.{Need as ANeed};
+ghost use Rattle.call_turns.specs.Answers.{AnswerNeeds, IsDone, answer_of};
 ghost use Rattle.call_turns.specs.Turns.{IsRegs};
-ghost use Rattle.fork_calls.specs.Holding.{CallLeaves, Holds};
+ghost use Rattle.fork_calls.specs.Holding.{CallLeaves, Holds, MakesPages};
+ghost use Rattle.fork_calls.specs.Needing.{call_frames};
 ghost use Rattle.fork_calls.specs.Limits.{AreWithin};
 ghost use Rattle.fork_calls.specs.Turning.{HasRegs};
 ghost use Rattle.monitor_core.specs.Shown.{shown_of};
-ghost use Rattle.monitor_core.specs.ForkUnit.{Called, Place as APlace, Turns, answered as answered_of, fork_of, out_in};
+ghost use Rattle.monitor_core.specs.ForkUnit.{CallWaits, Called, Place as APlace, Turns, answered as answered_of, fork_of, out_in};
 
 use crate::runner::Runner;
 use crate::shown::{Shown, stop_of};
@@ -26,7 +28,7 @@ use file_calls::is_file_call;
 use fork_calls::is_fork_call;
 use fork_tree::Tree;
 use machine_names::ForkName;
-use page_contracts::Pages;
+use page_contracts::{Need, Pages};
 use plain_model::Body;
 use plain_model::call::PBOUT;
 use plain_units::Regs;
@@ -72,16 +74,18 @@ fn print_call(number: u32, regs: &Regs) -> Answer
     Answer::Trap(ILLEGAL_INSTRUCTION)
 }
 
-// A turn of a monitor call, by its number: of the first family of calls that has the number. A number that is no call traps.
+// A turn of a monitor call, by its number: of the first family of calls that has the number. A number that is no call traps. One that
+// needs something first leaves all as it was.
 fn turn<P: Pages>(number: u32, regs: &Regs, who: ForkName, tree: &mut Tree, pages: &mut P) -> Answer
     requires regs { IsRegs regs.now }
     requires lives { IsSome (map.get tree.old.forks who) }
-    requires flat { P.means.flat ≡ true }
     requires holds { Holds P.means pages.old tree.old.forks }
     requires within { AreWithin tree.old.forks }
     requires serial { P.means.serial pages.old who.tty < 2 ^ 62 }
     ensures told { Turns P.means pages.old pages.new tree.old tree.new who regs.now number result }
-    ensures done { IsDone result }
+    ensures needs { AnswerNeeds P.means.store call_frames pages.new result }
+    ensures core { P.means.flat ≡ true → IsDone result }
+    ensures unmade { (n : ANeed) → result ≡ Answer.Need n → MakesPages P.means who.tty 0 pages.old pages.new }
     ensures leaves { CallLeaves P.means pages.old pages.new tree.old tree.new who 128 }
     ensures regs { HasRegs result }
 {
@@ -173,7 +177,6 @@ fn left(body: &mut Body, answer: Answer) -> Option<u8>
             post_channel(body, channel);
             None
         }
-        // Flat pages are always in core.
         Answer::Need(_) => unreachable!(),
     }
 }
@@ -196,26 +199,36 @@ fn answered(body: &mut Body, answer: Answer) -> Shown
     }
 }
 
-/// A turn of a monitor call of a fork of a tree, by its number: the fork that called is then as the change leaves it.
-pub fn called<P: Pages>(tree: &mut Tree, pages: &mut P, who: Runner, number: u32) -> Shown
+/// A turn of a monitor call of a fork of a tree, by its number: the fork that called is then as the change leaves it. Err: it needs
+/// this first, and nothing was changed.
+pub fn called<P: Pages>(
+    tree: &mut Tree,
+    pages: &mut P,
+    who: Runner,
+    number: u32,
+) -> Result<Shown, Need>
     requires there { IsSome (fork_in tree.old.forks who.fork.tty who.slot) }
     requires named { (f : AFork) → fork_in tree.old.forks who.fork.tty who.slot ≡ Some f → f.name ≡ who.fork }
     requires can { AreWithin tree.old.forks }
     requires few { (f : AFork) → fork_in tree.old.forks who.fork.tty who.slot ≡ Some f → f.body.units < 2 ^ 63 }
-    requires flat { P.means.flat ≡ true }
     requires holds { Holds P.means pages.old tree.old.forks }
     requires serial { P.means.serial pages.old who.fork.tty < 2 ^ 62 }
-    ensures { (at : APlace) (b : ABody) → fork_in tree.old.forks who.fork.tty who.slot ≡ Some (fork_of who.fork at b)
-        → Called P.means pages.old pages.new tree.old tree.new (fork_of who.fork at b) number result }
+    ensures called { (at : APlace) (b : ABody) → fork_in tree.old.forks who.fork.tty who.slot ≡ Some (fork_of who.fork at b)
+        → IfOk result (Called P.means pages.old pages.new tree.old tree.new (fork_of who.fork at b) number) }
+    ensures needs { IfErr result (CallWaits P.means pages.old pages.new tree.old tree.new who.fork) }
+    ensures core { P.means.flat ≡ true → IsOk result }
 {
     let Some(fork) = tree.fork_at(who.fork.tty, who.slot) else {
         unreachable!();
     };
     let regs = fork.body.regs;
     let answer = turn(number, &regs, who.fork, tree, pages);
+    if let Answer::Need(need) = answer {
+        return Err(need);
+    }
     tree.are_trees();
     match tree.body_mut(who.fork) {
-        Some(body) => answered(body, answer),
-        None => Shown::NOTHING,
+        Some(body) => Ok(answered(body, answer)),
+        None => Ok(Shown::NOTHING),
     }
 }

@@ -14,7 +14,7 @@ ghost use Rattle.monitor_core.specs.ForkUnit.{HasRoom, Place as APlace, Ran, Ran
 use crate::shown::{Shown, Stop};
 use ka10_unit::{End, Outcome, Post, Taken, burst, slow_unit};
 use machine_names::ForkName;
-use page_contracts::Pages;
+use page_contracts::{Need, Pages};
 use plain_model::Body;
 use plain_units::channel::{
     DENIED_EXECUTE, DRUM_FULL, ILLEGAL_INSTRUCTION, OVERFLOW, PUSHDOWN_OVERFLOW,
@@ -28,6 +28,8 @@ pub enum Last {
     Shows(Shown),
     /// It is a monitor call, of this number, which is still to be made.
     Calls(u32),
+    /// It needs this first, and nothing of it is done.
+    Needs(Need),
 }
 
 /// Units of a fork in a row: how many are over, and what the last is. Those before it show nothing.
@@ -108,15 +110,13 @@ fn ended(body: &mut Body, post: Post) -> Shown
 fn one_unit<P: Pages>(body: &mut Body, fork: ForkName, pages: &mut P, taken: &mut Taken) -> Last
     requires can { CanUnit body.old }
     requires few { body.old.units < 2 ^ 63 }
-    requires flat { P.means.flat ≡ true }
     requires serves { Serves P.means pages.old fork }
     requires serial { P.means.serial pages.old fork.tty < 2 ^ 61 }
     ensures { (at : APlace) → RanOne P.means pages.old pages.new (fork_of fork at body.old) (fork_of fork at body.new) result }
 {
     match slow_unit(taken, &mut body.regs, pages, fork) {
         Outcome::Done(post) => Last::Shows(ended(body, post)),
-        // Flat pages are always in core.
-        Outcome::Need(_) => unreachable!(),
+        Outcome::Need(need) => Last::Needs(need),
         Outcome::Trap(channel) => Last::Shows(posted(body, channel)),
         Outcome::Call(number) => Last::Calls(number),
     }
@@ -132,7 +132,6 @@ fn one_more<P: Pages>(
 ) -> Row
     requires can { CanUnit body.old }
     requires few { body.old.units < 2 ^ 63 }
-    requires flat { P.means.flat ≡ true }
     requires serves { Serves P.means pages.old fork }
     requires serial { P.means.serial pages.old fork.tty < 2 ^ 61 }
     requires room { before + 1 < 2 ^ 32 }
@@ -142,7 +141,7 @@ fn one_more<P: Pages>(
     let last = one_unit(body, fork, pages, taken);
     let over = match last {
         Last::Shows(_) => 1,
-        Last::Calls(_) => 0,
+        Last::Calls(_) | Last::Needs(_) => 0,
     };
     Row {
         count: before + over,
@@ -151,7 +150,7 @@ fn one_more<P: Pages>(
 }
 
 /// Units of a fork in a row, as many as this at most: as many as go in place and post nothing, and the one behind
-/// them, where there is room for it. A monitor call is left to be made.
+/// them, where there is room for it. A monitor call is left to be made, and so is a unit that needs something first.
 #[inline]
 pub fn run_units<P: Pages>(
     body: &mut Body,
@@ -162,7 +161,6 @@ pub fn run_units<P: Pages>(
 ) -> Row
     requires can { CanUnit body.old }
     requires few { body.old.units < 2 ^ 62 }
-    requires flat { P.means.flat ≡ true }
     requires serves { Serves P.means pages.old fork }
     requires serial { P.means.serial pages.old fork.tty < 2 ^ 61 }
     requires some { 0 < most }

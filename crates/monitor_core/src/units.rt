@@ -1,5 +1,5 @@
 // Units of a fork of a tree.
-ghost use Rattle.std.specs.Prelude.{◌≡◌, ◌<◌, ◌≤◌, ◌^◌, IsSome, Some, true};
+ghost use Rattle.std.specs.Prelude.{◌≡◌, ◌<◌, ◌≤◌, ◌^◌, ◌==◌, Err, IfErr, IfOk, IsOk, IsSome, Ok, Some, if◌then◌else◌, true};
 ghost use Rattle.plain_model.specs.declared.fork.Body.{Body as ABody};
 ghost use Rattle.plain_model.specs.declared.fork.Fork.{Fork as AFork};
 ghost use Rattle.plain_model.specs.Forks.{fork_in};
@@ -8,7 +8,8 @@ ghost use Rattle.fork_tree.specs.Trees.{IsTree};
 ghost use Rattle.fork_calls.specs.Holding.{Holds};
 ghost use Rattle.fork_calls.specs.Limits.{AreWithin};
 ghost use Rattle.monitor_core.specs.Limits.{CanUnit};
-ghost use Rattle.monitor_core.specs.ForkUnit.{Place as APlace, UnitsRan, fork_of};
+ghost use Rattle.monitor_core.specs.ForkUnit.{Place as APlace, UnitWaits, UnitsRan, fork_of};
+ghost use Rattle.monitor_core.specs.Shown.{nothing};
 
 use crate::calls::called;
 use crate::runner::Runner;
@@ -16,7 +17,7 @@ use crate::shown::Shown;
 use crate::unit::{Last, run_units};
 use fork_tree::Tree;
 use ka10_unit::Taken;
-use page_contracts::Pages;
+use page_contracts::{Need, Pages};
 
 /// Units of a fork in a row: how many, at least one, and what the last of them shows. Those before it show
 /// nothing.
@@ -26,8 +27,22 @@ pub struct Units {
     pub shown: Shown,
 }
 
+// A unit needs this first, behind so many that are done: these alone, if there are any.
+fn done_before(count: u32, need: Need) -> Result<Units, Need>
+    ensures { result ≡ (if count == 0 then Err need else Ok (record { count = count; shown = nothing })) }
+{
+    if count == 0 {
+        return Err(need);
+    }
+    Ok(Units {
+        count,
+        shown: Shown::NOTHING,
+    })
+}
+
 /// Units of a fork of a tree in a row, at least one and so many at most. A monitor call is made once the fork is
-/// back among the others, since it looks at all.
+/// back among the others, since it looks at all. Err: the first unit needs this first, and nothing was changed; a later one that
+/// needs something first is left for the next row.
 #[inline]
 pub fn units_of<P: Pages>(
     tree: &mut Tree,
@@ -35,32 +50,38 @@ pub fn units_of<P: Pages>(
     taken: &mut Taken,
     who: Runner,
     most: u32,
-) -> Units
+) -> Result<Units, Need>
     requires tree { IsTree tree.old }
     requires there { IsSome (fork_in tree.old.forks who.fork.tty who.slot) }
     requires can { (f : AFork) → fork_in tree.old.forks who.fork.tty who.slot ≡ Some f → (f.name ≡ who.fork) × CanUnit f.body }
     requires few { (f : AFork) → fork_in tree.old.forks who.fork.tty who.slot ≡ Some f → f.body.units < 2 ^ 62 }
-    requires flat { P.means.flat ≡ true }
     requires serves { Serves P.means pages.old who.fork }
     requires holds { Holds P.means pages.old tree.old.forks }
     requires within { AreWithin tree.old.forks }
     requires serial { P.means.serial pages.old who.fork.tty < 2 ^ 61 }
     requires some { 0 < most }
     ensures ran { (at : APlace) (b : ABody) → fork_in tree.old.forks who.fork.tty who.slot ≡ Some (fork_of who.fork at b)
-        → UnitsRan P.means pages.old pages.new tree.old tree.new (fork_of who.fork at b) result }
-    ensures some { 1 ≤ result.count }
-    ensures few { result.count ≤ most }
+        → IfOk result (UnitsRan P.means pages.old pages.new tree.old tree.new (fork_of who.fork at b)) }
+    ensures waits { (at : APlace) (b : ABody) → fork_in tree.old.forks who.fork.tty who.slot ≡ Some (fork_of who.fork at b)
+        → IfErr result (UnitWaits P.means pages.old pages.new tree.old tree.new (fork_of who.fork at b)) }
+    ensures core { P.means.flat ≡ true → IsOk result }
+    ensures some { IfOk result (λ units. 1 ≤ units.count) }
+    ensures few { IfOk result (λ units. units.count ≤ most) }
 {
     let body = tree.body_at(who.fork.tty, who.slot);
     let row = run_units(body, who.fork, pages, taken, most);
     match row.last {
-        Last::Shows(shown) => Units {
+        Last::Shows(shown) => Ok(Units {
             count: row.count,
             shown,
+        }),
+        Last::Calls(number) => match called(tree, pages, who, number) {
+            Ok(shown) => Ok(Units {
+                count: row.count + 1,
+                shown,
+            }),
+            Err(need) => done_before(row.count, need),
         },
-        Last::Calls(number) => Units {
-            count: row.count + 1,
-            shown: called(tree, pages, who, number),
-        },
+        Last::Needs(need) => done_before(row.count, need),
     }
 }

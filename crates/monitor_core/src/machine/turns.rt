@@ -36,7 +36,11 @@ impl<P: Pages> Machine<P> {
         requires few { done self.old < 2 ^ 52 }
         ensures { TookTurns T.fault_count T.onward T.stands T.cut self.old self.new out.old out.new result most }
     {
-        let units = self.system.units(who, most);
+        let units = match self.system.units(who, most) {
+            Ok(units) => units,
+            // Pages in memory alone need nothing first.
+            Err(_) => unreachable!(),
+        };
         self.terminal = who.fork.tty;
         self.slot = who.slot;
         self.done += u64::from(units.count);

@@ -1,12 +1,12 @@
 // Steps: an event that is one, and units of a fork.
-ghost use Rattle.std.specs.Prelude.{◌≡◌, ◌<◌, ◌≤◌, ◌^◌, ◌+◌};
+ghost use Rattle.std.specs.Prelude.{◌≡◌, ◌<◌, ◌≤◌, ◌^◌, ◌+◌, IfErr, IfOk, IsOk, true};
 ghost use Rattle.script_texts.specs.Limits.{FitsStep, IsBuilt};
 ghost use Rattle.script_texts.specs.declared.event.Event.{Event as AnEvent};
 ghost use Rattle.script_texts.specs.declared.event.Step.{Step as AStep};
 ghost use Rattle.monitor_core.specs.declared.reply.Reply.{Reply as AReply};
 ghost use Rattle.monitor_core.specs.Replies.{reply_of};
 ghost use Rattle.monitor_core.specs.Runners.{IsRunner, woken_where};
-ghost use Rattle.monitor_core.specs.Systems.{CanDo, Did, DidAll, IsWithin};
+ghost use Rattle.monitor_core.specs.Systems.{CanDo, Did, DidAll, IsWithin, Waits};
 
 use crate::job::seen;
 use crate::job_event::JobEvent;
@@ -16,7 +16,7 @@ use crate::system::System;
 use crate::units::{Units, units_of};
 use fork_tree::Tree;
 use machine_names::Tty;
-use page_contracts::Pages;
+use page_contracts::{Need, Pages};
 use script_texts::{Event, Item, Refusal};
 
 // Who waits for a fork of a job runs again, where one has stopped.
@@ -31,23 +31,30 @@ fn wake_where(tree: &mut Tree, t: Tty, stops: bool)
 
 impl<P: Pages> System<P> {
     /// Units of a fork that can run, in a row, at least one and so many at most; and what the last shows at its
-    /// terminal. Where it stops, who waits for a fork of its job runs again.
+    /// terminal. Where it stops, who waits for a fork of its job runs again. Err: the first needs this first, and nothing is done.
     #[inline]
-    pub fn units(&mut self, who: Runner, most: u32) -> Units
+    pub fn units(&mut self, who: Runner, most: u32) -> Result<Units, Need>
         requires can { IsRunner self.old.tree who }
         requires few { IsWithin self.old (2 ^ 52) }
         requires some { 0 < most }
-        ensures did { DidAll self.old self.new (AStep.Unit who.fork) result.count (AReply.Prints who.fork.tty result.shown) }
-        ensures some { 1 ≤ result.count }
-        ensures few { result.count ≤ most }
+        ensures did { IfOk result (λ units. DidAll self.old self.new (AStep.Unit who.fork) units.count (AReply.Prints who.fork.tty units.shown)) }
+        ensures waits { IfErr result (Waits self.old self.new) }
+        ensures core { P.means.flat ≡ true → IsOk result }
+        ensures some { IfOk result (λ units. 1 ≤ units.count) }
+        ensures few { IfOk result (λ units. units.count ≤ most) }
     {
-        let units = units_of(&mut self.tree, &mut self.pages, &mut self.taken, who, most);
+        let ran = units_of(&mut self.tree, &mut self.pages, &mut self.taken, who, most);
         self.tree.are_trees();
-        wake_where(&mut self.tree, who.fork.tty, units.shown.stop.is_stop());
-        self.tree.are_trees();
-        Units {
-            count: units.count,
-            shown: seen(&mut self.jobs, who.fork.tty, who.slot, units.shown),
+        match ran {
+            Err(need) => Err(need),
+            Ok(units) => {
+                wake_where(&mut self.tree, who.fork.tty, units.shown.stop.is_stop());
+                self.tree.are_trees();
+                Ok(Units {
+                    count: units.count,
+                    shown: seen(&mut self.jobs, who.fork.tty, who.slot, units.shown),
+                })
+            }
         }
     }
 

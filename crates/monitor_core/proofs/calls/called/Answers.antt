@@ -8,17 +8,19 @@ use Rattle.plain_model.specs.declared.fork.Fork.{Fork}
 use Rattle.machine_names.specs.declared.names.ForkName.{ForkName}
 use Rattle.script_texts.specs.declared.status.ForkStatus.{ForkStatus}
 use Rattle.script_texts.specs.declared.status.ForkStatus.TheVariants.{Run, Wait, Halted, Forced}
-use Rattle.plain_model.specs.Families.{Turned, call_turned}
+use Rattle.plain_model.specs.Families.{Parts, Turned, call_turned}
 use Rattle.plain_model.specs.Forks.{counted, fork_in}
 use Rattle.page_contracts.specs.Pages.{PagesMeaning}
 use Rattle.plain_model.specs.Trees.{PlainTree, changed, with_body, with_changed_of}
 use Rattle.fork_tree.specs.Trees.{IsTree, Lives}
 use Rattle.fork_tree.proofs.Slots.{in_tells, some_of}
+use Rattle.call_turns.specs.Answers.{AnswerNeeds, IsDone}
+use Rattle.fork_calls.specs.Needing.{call_frames}
 use Rattle.fork_calls.specs.Holding.{CallLeaves}
 use Rattle.fork_calls.specs.Limits.{AreWithin, FitsForced, IsBody}
-use Rattle.monitor_core.specs.ForkUnit.{Behind, Kept, LeavesForks, answered, answered_turn, called_behind, fork_of, out_in, put_back, turn_behind}
+use Rattle.monitor_core.specs.ForkUnit.{Behind, Kept, LeavesForks, TurnedSo, answered, answered_turn, called_behind, fork_of, out_in, put_back, turn_behind}
 use Rattle.monitor_core.specs.Shown.{FitsShown, FitsStop, shown_of, stop_of}
-use Rattle.monitor_core.proofs.Calling.{out_fits}
+use Rattle.monitor_core.proofs.Calling.{done_else, out_fits, so_done}
 use Rattle.monitor_core.proofs.Keeping.{answered_keeps}
 use Rattle.monitor_core.proofs.Leaving.{after_keeps, caller_keeps, caller_within, turn_leaves}
 use Rattle.monitor_core.proofs.calls.called.Goals as goal
@@ -76,11 +78,11 @@ answered-requires g c =
       few = lent_few old new c.args.who.fork left was c.are_trees.ensures c.requires.can c.args.who.slot f.0 f.1 named _ c.in-Some-body_mut.ensures.body (c.requires.few f.0 f.1);
       pc = within.pc;
       accumulators = within.accumulators;
-      done = c.turn-answer.ensures.done;
+      done = done_else c.turn-answer.result (λ n is. c.in_default-answer.not-Need n is);
     }
 
-pub returns-in-None : goal.returns-in-None
-returns-in-None g c at b found =
+pub returns-in-None-clause-called : goal.returns-in-None-clause-called
+returns-in-None-clause-called g c at b found =
     let who = c.args.who.fork in
     let old = c.args.tree.now in
     let new = c.turn-answer.new.tree in
@@ -88,8 +90,8 @@ returns-in-None g c at b found =
     let no : None ≡ Some stands.0.body = c.in-None.ensures.body ∙ ap (option_map (λ (k : Fork). k.body)) stands.1 in
     absurd (cc no)
 
-pub returns-in-Some-body_mut : goal.returns-in-Some-body_mut
-returns-in-Some-body_mut g c at b found =
+pub returns-in-Some-body_mut-clause-called : goal.returns-in-Some-body_mut-clause-called
+returns-in-Some-body_mut-clause-called g c at b found =
     let who = c.args.who.fork in
     let number = c.args.number in
     let f = fork_of who at b in
@@ -119,7 +121,8 @@ returns-in-Some-body_mut g c at b found =
           let q = g.P.Pages.means.plain c.turn-answer.new.pages d in
           let t = c.turn-answer.ensures.told d drum in
           let turned : call_turned (record { tree = old; pages = p }) who f.body.regs number ≡ answered_turn (record { tree = new; pages = q }) who answer =
-          subst (λ (x : Fork). call_turned (record { tree = old; pages = p }) who x.body.regs number ≡ answered_turn (record { tree = new; pages = q }) who answer) same t.1 in
+          subst (λ (x : Fork). call_turned (record { tree = old; pages = p }) who x.body.regs number ≡ answered_turn (record { tree = new; pages = q }) who answer) same
+          (so_done (record { tree = old; pages = p }) (record { tree = new; pages = q }) who c.in-Some.fork.now.body.regs number answer (done_else answer (λ n is. c.in_default-answer.not-Need n is)) t.1) in
           let behind_is : called_behind old f p number ≡ turn_behind new q (out_in answer) (answered k answer) =
           ap (λ (r : Turned nat_cmp). turn_behind r.parts.tree r.parts.pages r.out (unwrap_or r.caller f)) turned
           ∙ ap (λ (o : Option Fork). turn_behind new q (out_in answer) (unwrap_or (option_map (λ h. answered h answer) o) f)) stands.1 in
@@ -131,3 +134,24 @@ returns-in-Some-body_mut g c at b found =
           (turn_leaves old new was is left.kept f k lives fits stands.1 body keeps g.P.Pages.means c.args.pages.now c.turn-answer.new.pages left);
       fits = subst FitsShown (sym c.answered.ensures.shown) (out_fits answer c.turn-answer.ensures.regs, stop_fits body.status (keeps.status within.status));
     }
+
+pub returns-in-Need-clause-needs : goal.returns-in-Need-clause-needs
+returns-in-Need-clause-needs g c =
+    let means = g.P.Pages.means in
+    let who = c.args.who.fork in
+    let turn = c.turn-answer.ensures in
+    let n = c.in-Need.need in
+    record {
+      told = λ d drum.
+          let t = turn.told d drum in
+          let p = means.plain c.args.pages.now d in
+          let q = means.plain c.turn-answer.new.pages d in
+          let same = subst (TurnedSo (record { tree = c.args.tree.now; pages = p }) (record { tree = c.turn-answer.new.tree; pages = q }) who c.in-Some.fork.now.body.regs c.args.number) c.in-Need.is t.1 in
+          (t.0, ap (λ (v : Parts nat_cmp). v.tree) same, ap (λ (v : Parts nat_cmp). v.pages) same);
+      left = turn.leaves;
+      unmade = turn.unmade n c.in-Need.is;
+      needed = subst (AnswerNeeds means.store call_frames c.turn-answer.new.pages) c.in-Need.is turn.needs;
+    }
+
+pub returns-in-Need-clause-core : goal.returns-in-Need-clause-core
+returns-in-Need-clause-core g c flat = absurd (subst IsDone c.in-Need.is (c.turn-answer.ensures.core flat))

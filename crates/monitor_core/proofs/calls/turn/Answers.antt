@@ -1,12 +1,18 @@
-use Rattle.std.proofs.Common.{◌≡◌, ◌∙◌, sym, ap, arith}
-use Rattle.fork_calls.specs.Turning.{HasRegs}
+use Rattle.std.proofs.Common.{◌≡◌, ◌∙◌, refl, sym, ap, arith}
+use Rattle.std.specs.Ordering.{nat_cmp}
+use Rattle.plain_pages.specs.PlainPages.{NumberedPages}
+use Rattle.plain_model.specs.ForkCalls.{ForkParts}
+use Rattle.fork_calls.specs.Turning.{HasRegs, parts}
 use Rattle.plain_model.specs.Trees.{PlainTree}
 use Rattle.page_contracts.specs.Pages.{PagesMeaning}
 use Rattle.machine_names.specs.declared.names.ForkName.{ForkName}
 use Rattle.ka10_unit.proofs.Carried.{grows_none, grows_within}
 use Rattle.fork_calls.specs.Holding.{CallLeaves, Holds}
+use Rattle.fork_calls.specs.Needing.{call_frames}
+use Rattle.fork_calls.proofs.Branch.{none_made}
 use Rattle.fork_calls.proofs.CallLeaving.{grown_leaves}
-use Rattle.monitor_core.proofs.Calling.{files_went, forks_went, has_regs, maps_went, none_went, print_went, turn_went}
+use Rattle.fork_calls.proofs.Needed.{answer_more, done_needs}
+use Rattle.monitor_core.proofs.Calling.{done_so, files_went, forks_went, has_regs, maps_went, none_went, print_went, turned_so}
 use Rattle.monitor_core.proofs.calls.turn.Goals as goal
 
 -- nothing was changed
@@ -16,7 +22,7 @@ nothing_left means who tree p holds = grown_leaves means who tree 128 p p (grows
 pub returns-then-is_print_call-clause-told : goal.returns-then-is_print_call-clause-told
 returns-then-is_print_call-clause-told g c d fits =
     let p = g.P.Pages.means.plain c.args.pages.now d in
-    (fits, print_went (record { tree = c.args.tree.now; pages = p }) c.args.who c.args.regs.now c.args.number (sym c.is_print_call.ensures ∙ c.if-is_print_call.true) c.print_call.result (c.print_call.ensures.told p))
+    (fits, done_so _ _ c.args.who c.args.regs.now c.args.number c.print_call.result c.print_call.ensures.done (print_went (record { tree = c.args.tree.now; pages = p }) c.args.who c.args.regs.now c.args.number (sym c.is_print_call.ensures ∙ c.if-is_print_call.true) c.print_call.result (c.print_call.ensures.told p)))
 
 pub returns-then-is_print_call-clause-leaves : goal.returns-then-is_print_call-clause-leaves
 returns-then-is_print_call-clause-leaves g c = nothing_left g.P.Pages.means c.args.who c.args.tree.now c.args.pages.now c.requires.holds
@@ -27,8 +33,8 @@ returns-then-is_fork_call-clause-told g c d fits =
     let q = g.P.Pages.means.plain c.call.new.pages d in
     let t = c.call.ensures.told d fits in (
       t.0,
-      forks_went (record { tree = c.args.tree.now; pages = p }) c.args.who c.args.regs.now c.args.number (sym c.is_print_call.ensures ∙ c.if-is_print_call.false) (sym c.is_fork_call.ensures ∙ c.if-is_fork_call.true)
-          c.call.new.tree q c.call.result (turn_went (c.call.ensures.core c.requires.flat) t.1),
+      turned_so (λ (x : ForkParts nat_cmp). record { tree = x.tree; pages = x.pages }) (parts c.args.tree.now p) (parts c.call.new.tree q) c.args.who c.args.regs.now c.args.number c.call.result t.1
+          (λ went. forks_went (record { tree = c.args.tree.now; pages = p }) c.args.who c.args.regs.now c.args.number (sym c.is_print_call.ensures ∙ c.if-is_print_call.false) (sym c.is_fork_call.ensures ∙ c.if-is_fork_call.true) c.call.new.tree q c.call.result went),
     )
 
 pub returns-then-is_map_call-clause-told : goal.returns-then-is_map_call-clause-told
@@ -37,8 +43,8 @@ returns-then-is_map_call-clause-told g c d fits =
     let q = g.P.Pages.means.plain c.call-then-is_map_call.new.pages d in
     let t = c.call-then-is_map_call.ensures.told d fits in (
       t.0,
-      maps_went (record { tree = c.args.tree.now; pages = p }) c.args.who c.args.regs.now c.args.number (sym c.is_print_call.ensures ∙ c.if-is_print_call.false) (sym c.is_fork_call.ensures ∙ c.if-is_fork_call.false) (sym c.is_map_call.ensures ∙ c.if-is_map_call.true)
-          q c.call-then-is_map_call.result (turn_went (c.call-then-is_map_call.ensures.core c.requires.flat) t.1),
+      turned_so (λ (x : NumberedPages). record { tree = c.args.tree.now; pages = x }) p q c.args.who c.args.regs.now c.args.number c.call-then-is_map_call.result t.1
+          (λ went. maps_went (record { tree = c.args.tree.now; pages = p }) c.args.who c.args.regs.now c.args.number (sym c.is_print_call.ensures ∙ c.if-is_print_call.false) (sym c.is_fork_call.ensures ∙ c.if-is_fork_call.false) (sym c.is_map_call.ensures ∙ c.if-is_map_call.true) q c.call-then-is_map_call.result went),
     )
 
 pub returns-then-is_map_call-clause-leaves : goal.returns-then-is_map_call-clause-leaves
@@ -53,10 +59,11 @@ returns-then-is_map_call-clause-regs g c = has_regs c.call-then-is_map_call.resu
 
 pub returns-then-is_file_call-clause-told : goal.returns-then-is_file_call-clause-told
 returns-then-is_file_call-clause-told g c d fits =
-    let p = g.P.Pages.means.plain c.args.pages.now d in (
+    let p = g.P.Pages.means.plain c.args.pages.now d in
+    let a = c.call-then-is_file_call in (
       fits,
-      files_went (record { tree = c.args.tree.now; pages = p }) c.args.who c.args.regs.now c.args.number (sym c.is_print_call.ensures ∙ c.if-is_print_call.false) (sym c.is_fork_call.ensures ∙ c.if-is_fork_call.false) (sym c.is_map_call.ensures ∙ c.if-is_map_call.false) (sym c.is_file_call.ensures ∙ c.if-is_file_call.true)
-          c.call-then-is_file_call.result (c.call-then-is_file_call.ensures.told p),
+      done_so _ _ c.args.who c.args.regs.now c.args.number a.result a.ensures.done
+          (files_went (record { tree = c.args.tree.now; pages = p }) c.args.who c.args.regs.now c.args.number (sym c.is_print_call.ensures ∙ c.if-is_print_call.false) (sym c.is_fork_call.ensures ∙ c.if-is_fork_call.false) (sym c.is_map_call.ensures ∙ c.if-is_map_call.false) (sym c.is_file_call.ensures ∙ c.if-is_file_call.true) a.result (a.ensures.told p)),
     )
 
 pub returns-then-is_file_call-clause-leaves : goal.returns-then-is_file_call-clause-leaves
@@ -72,3 +79,21 @@ returns-clause-told g c d fits =
 
 pub returns-clause-leaves : goal.returns-clause-leaves
 returns-clause-leaves g c = nothing_left g.P.Pages.means c.args.who c.args.tree.now c.args.pages.now c.requires.holds
+
+pub returns-then-is_print_call-clause-needs : goal.returns-then-is_print_call-clause-needs
+returns-then-is_print_call-clause-needs g c = done_needs g.P.Pages.means.store call_frames c.args.pages.now c.print_call.result c.print_call.ensures.done
+
+pub returns-then-is_print_call-clause-unmade : goal.returns-then-is_print_call-clause-unmade
+returns-then-is_print_call-clause-unmade g c n is = none_made g.P.Pages.means c.args.pages.now c.args.pages.now c.args.who.tty refl refl
+
+pub returns-then-is_map_call-clause-needs : goal.returns-then-is_map_call-clause-needs
+returns-then-is_map_call-clause-needs g c = answer_more g.P.Pages.means.store 1 c.call-then-is_map_call.new.pages call_frames c.call-then-is_map_call.result (omega arith) c.call-then-is_map_call.ensures.needs
+
+pub returns-then-is_map_call-clause-unmade : goal.returns-then-is_map_call-clause-unmade
+returns-then-is_map_call-clause-unmade g c n is = (let none = c.call-then-is_map_call.ensures.none in none_made g.P.Pages.means c.args.pages.now c.call-then-is_map_call.new.pages c.args.who.tty none.serials none.most)
+
+pub returns-then-is_file_call-clause-needs : goal.returns-then-is_file_call-clause-needs
+returns-then-is_file_call-clause-needs g c = done_needs g.P.Pages.means.store call_frames c.args.pages.now c.call-then-is_file_call.result c.call-then-is_file_call.ensures.done
+
+pub returns-then-is_file_call-clause-unmade : goal.returns-then-is_file_call-clause-unmade
+returns-then-is_file_call-clause-unmade g c n is = none_made g.P.Pages.means c.args.pages.now c.args.pages.now c.args.who.tty refl refl

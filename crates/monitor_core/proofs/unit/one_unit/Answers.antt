@@ -22,6 +22,8 @@ returns-in-Done g c at =
       keeps = subst (λ h. Kept f h 1) (sym left) (ended_keeps f c.requires.can.fits.off regs slow.pc (slow.accumulators ∙ c.requires.can.fits.accumulators) c.in-Done.post);
       made = record { lives = slow.grows.lives; forks = slow.grows.forks; most = slow.grows.most; own = slow.grows.serial; others = slow.grows.serials };
       fits = ended.fits;
+      needs = tt;
+      core = λ flat. tt;
     }
 
 pub returns-in-Trap : goal.returns-in-Trap
@@ -40,6 +42,8 @@ returns-in-Trap g c at =
       keeps = subst (λ h. Kept f h 1) (sym left) (posted_keeps f c.requires.can.fits.off regs slow.pc (slow.accumulators ∙ c.requires.can.fits.accumulators) c.in-Trap.channel);
       made = record { lives = slow.grows.lives; forks = slow.grows.forks; most = slow.grows.most; own = slow.grows.serial; others = slow.grows.serials };
       fits = posted.fits;
+      needs = tt;
+      core = λ flat. tt;
     }
 
 pub returns-in-Call : goal.returns-in-Call
@@ -62,4 +66,25 @@ returns-in-Call g c at =
         others = slow.grows.serials;
       };
       fits = tt;
+      needs = tt;
+      core = λ flat. tt;
+    }
+
+pub returns-in-Need : goal.returns-in-Need
+returns-in-Need g c at =
+    let f = fork_of c.args.fork at c.args.body.now in
+    let slow = c.in-Need.ensures in
+    record {
+      told = λ d fits. ((slow.told d fits).0, ((λ i. fork_of c.args.fork at (record c.args.body.now { regs = sym slow.stopped.0 i })), sym (ap (λ x. g.P.Pages.means.plain x d) slow.stopped.1)));
+      keeps = none_keeps f c.slow_unit.new.regs slow.pc (slow.accumulators ∙ c.requires.can.fits.accumulators);
+      made = record {
+        lives = slow.grows.lives;
+        forks = slow.grows.forks;
+        most = slow.grows.most;
+        own = omega (arith, ap (λ x. g.P.Pages.means.serial x c.args.fork.tty) slow.stopped.1);
+        others = slow.grows.serials;
+      };
+      fits = tt;
+      needs = slow.needs;
+      core = slow.core;
     }

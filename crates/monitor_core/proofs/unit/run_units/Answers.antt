@@ -30,6 +30,8 @@ returns-in-Most-clause-ran g c at =
       keeps = subst (λ k. Kept f (ran_on f k regs) n) (sym c.from.ensures) (row_keeps f n regs burst.pc (burst.accumulators ∙ c.requires.can.fits.accumulators));
       made = record { lives = burst.stays.lives; forks = burst.stays.forks; most = burst.stays.most; own = omega (arith, ap (λ s. s f.name.tty) burst.stays.serials); others = λ t ne. ap (λ s. s t) burst.stays.serials };
       fits = (tt, tt);
+      needs = tt;
+      core = λ flat. tt;
     }
 
 pub returns-in-Overflow-clause-ran : goal.returns-in-Overflow-clause-ran
@@ -53,6 +55,8 @@ returns-in-Overflow-clause-ran g c at =
       keeps = more_keeps f (ran_on f n regs) _ n 1 row (subst (λ h. Kept (ran_on f n regs) h 1) fork (ended_keeps (ran_on f n regs) c.requires.can.fits.off regs burst.pc row.accumulators Overflow));
       made = record { lives = burst.stays.lives; forks = burst.stays.forks; most = burst.stays.most; own = omega (arith, ap (λ s. s f.name.tty) burst.stays.serials); others = λ t ne. ap (λ s. s t) burst.stays.serials };
       fits = ended.fits;
+      needs = tt;
+      core = λ flat. tt;
     }
 
 pub returns-in-Pushdown-clause-ran : goal.returns-in-Pushdown-clause-ran
@@ -76,6 +80,8 @@ returns-in-Pushdown-clause-ran g c at =
       keeps = more_keeps f (ran_on f n regs) _ n 1 row (subst (λ h. Kept (ran_on f n regs) h 1) fork (ended_keeps (ran_on f n regs) c.requires.can.fits.off regs burst.pc row.accumulators Pushdown));
       made = record { lives = burst.stays.lives; forks = burst.stays.forks; most = burst.stays.most; own = omega (arith, ap (λ s. s f.name.tty) burst.stays.serials); others = λ t ne. ap (λ s. s t) burst.stays.serials };
       fits = ended.fits;
+      needs = tt;
+      core = λ flat. tt;
     }
 
 pub returns-in-Slow-clause-ran : goal.returns-in-Slow-clause-ran
@@ -106,4 +112,6 @@ returns-in-Slow-clause-ran g c at =
         others = λ t ne. one.made.others t ne ∙ ap (λ s. s t) burst.stays.serials;
       };
       fits = one.fits;
+      needs = one.needs;
+      core = one.core;
     }

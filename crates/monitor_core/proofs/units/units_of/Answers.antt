@@ -15,10 +15,11 @@ use Rattle.fork_calls.specs.Limits.{AreWithin}
 use Rattle.fork_calls.proofs.Holdings.{holds_still}
 use Rattle.monitor_core.specs.Limits.{CanUnit}
 use Rattle.monitor_core.specs.Writing.{Makes}
-use Rattle.monitor_core.specs.ForkUnit.{FitsLast, HasRoom, IsRow, Kept, LeavesForks, Place, Ran, RanUnits, called_behind, fork_of, makings_of, put_back}
+use Rattle.monitor_core.specs.ForkUnit.{CallWaits, FitsLast, HasRoom, IsMet, IsRow, LastNeeds, Kept, LeavesForks, Place, Ran, RanUnits, called_behind, fork_of, makings_of, put_back}
 use Rattle.monitor_core.proofs.Calling.{body_has, left_tree, still_in}
 use Rattle.monitor_core.proofs.Keeping.{more_keeps}
 use Rattle.monitor_core.proofs.Leaving.{leaves_one, leaves_then, left_came, left_holds}
+use Rattle.monitor_core.proofs.Stopping.{StopsBehind, before_few, before_some, call_stops, stops_ran, stops_waits, unit_stops}
 use Rattle.monitor_core.proofs.UnitRan.{call_behind}
 use Rattle.monitor_core.proofs.units.units_of.Goals as goal
 
@@ -117,8 +118,8 @@ returns-in-Shows-clause-ran g c at b there =
       shown = subst FitsLast c.in-Shows.is ran.fits;
     }
 
-pub returns-in-Calls-clause-ran : goal.returns-in-Calls-clause-ran
-returns-in-Calls-clause-ran g c at b there =
+pub returns-in-Ok-clause-ran : goal.returns-in-Ok-clause-ran
+returns-in-Ok-clause-ran g c at b there =
     let who = c.args.who.fork in
     let tree = c.args.tree.now in
     let f = fork_of who at b in
@@ -130,7 +131,7 @@ returns-in-Calls-clause-ran g c at b there =
     let is = c.requires.tree in
     let lives = lived tree is who.tty c.args.who.slot f there body row.count ran.keeps in
     let left = left_tree tree who.tty c.args.who.slot f body there in
-    let called = c.called.ensures at body (still_in tree is who.tty c.args.who.slot f body there) in
+    let called = c.in-Ok.ensures.called at body (still_in tree is who.tty c.args.who.slot f body there) in
     record {
       after = called.after;
       told = λ d drum.
@@ -138,10 +139,119 @@ returns-in-Calls-clause-ran g c at b there =
           let q = g.P.Pages.means.plain c.run_units-row.new.pages d in
           let t = ran.told d drum in
           let made = called.told d t.0 in
-          (made.0, call_behind tree f p row.count mid q c.in-Calls.number _ (subst (IsRow f p row.count mid q) c.in-Calls.is t.1) (ap (λ (x : PlainTree). called_behind x mid q c.in-Calls.number) (sym left) ∙ made.1));
+          let row_is = subst (IsRow f p row.count mid q) c.in-Calls.is t.1 in
+          (made.0, call_behind tree f p row.count mid q c.in-Calls.number _ row_is.0 row_is.1 (ap (λ (x : PlainTree). called_behind x mid q c.in-Calls.number) (sym left) ∙ made.1));
       keeps = more_keeps f mid called.after row.count 1 ran.keeps called.keeps;
       leaves = leaves_then tree is f lives body row.count ran.keeps g.P.Pages.means c.args.pages.now c.run_units-row.new.pages c.called.new.pages c.called.new.tree 1
           (subst (λ l. Makes g.P.Pages.means c.args.pages.now c.run_units-row.new.pages who.tty (makings_of l)) c.in-Calls.is ran.made)
           (subst (λ x. LeavesForks g.P.Pages.means c.run_units-row.new.pages c.called.new.pages x c.called.new.tree mid 1) left called.leaves);
       shown = called.fits;
     }
+
+pub returns-in-Err-clause-ran : goal.returns-in-Err-clause-ran
+returns-in-Err-clause-ran g c at b there =
+    let who = c.args.who.fork in
+    let tree = c.args.tree.now in
+    let f = fork_of who at b in
+    let body = c.run_units-row.new.body in
+    let mid = fork_of who at body in
+    let row = c.run_units-row.result in
+    let here : c.body_at-body.result.now ≡ b = c.body_at-body.ensures.body ∙ ap body_in there in
+    let ran = subst (λ x. Ran g.P.Pages.means c.args.pages.now c.run_units-row.new.pages (fork_of who at x) mid row) here (c.run_units-row.ensures.ran at) in
+    let is = c.requires.tree in
+    let lives = lived tree is who.tty c.args.who.slot f there body row.count ran.keeps in
+    let left = left_tree tree who.tty c.args.who.slot f body there in
+    let means = g.P.Pages.means in
+    let old = c.args.pages.now in
+    let now = c.run_units-row.new.pages in
+    let made = subst (λ l. Makes means old now who.tty (makings_of l)) c.in-Calls.is ran.made in
+    let waits = subst (λ x. CallWaits means now c.called.new.pages x c.called.new.tree who c.in-Err.need) left c.in-Err.ensures.needs in
+    let stops = call_stops tree is f lives body row.count ran.keeps means old now made c.requires.holds c.called.new.pages c.called.new.tree c.in-Err.need (λ d fits. (let t = ran.told d fits in (t.0, (subst (IsRow f (means.plain old d) row.count mid (means.plain now d)) c.in-Calls.is t.1).0))) waits in
+    stops_ran means old c.called.new.pages tree c.called.new.tree f mid c.in-Err.need lives row.count c.done_before.result c.done_before.ensures stops
+
+pub returns-in-Err-clause-waits : goal.returns-in-Err-clause-waits
+returns-in-Err-clause-waits g c at b there =
+    let who = c.args.who.fork in
+    let tree = c.args.tree.now in
+    let f = fork_of who at b in
+    let body = c.run_units-row.new.body in
+    let mid = fork_of who at body in
+    let row = c.run_units-row.result in
+    let here : c.body_at-body.result.now ≡ b = c.body_at-body.ensures.body ∙ ap body_in there in
+    let ran = subst (λ x. Ran g.P.Pages.means c.args.pages.now c.run_units-row.new.pages (fork_of who at x) mid row) here (c.run_units-row.ensures.ran at) in
+    let is = c.requires.tree in
+    let lives = lived tree is who.tty c.args.who.slot f there body row.count ran.keeps in
+    let left = left_tree tree who.tty c.args.who.slot f body there in
+    let means = g.P.Pages.means in
+    let old = c.args.pages.now in
+    let now = c.run_units-row.new.pages in
+    let made = subst (λ l. Makes means old now who.tty (makings_of l)) c.in-Calls.is ran.made in
+    let waits = subst (λ x. CallWaits means now c.called.new.pages x c.called.new.tree who c.in-Err.need) left c.in-Err.ensures.needs in
+    let stops = call_stops tree is f lives body row.count ran.keeps means old now made c.requires.holds c.called.new.pages c.called.new.tree c.in-Err.need (λ d fits. (let t = ran.told d fits in (t.0, (subst (IsRow f (means.plain old d) row.count mid (means.plain now d)) c.in-Calls.is t.1).0))) waits in
+    stops_waits means old c.called.new.pages tree c.called.new.tree f mid c.in-Err.need lives row.count c.done_before.result c.done_before.ensures stops
+
+pub returns-in-Needs-clause-ran : goal.returns-in-Needs-clause-ran
+returns-in-Needs-clause-ran g c at b there =
+    let who = c.args.who.fork in
+    let tree = c.args.tree.now in
+    let f = fork_of who at b in
+    let body = c.run_units-row.new.body in
+    let mid = fork_of who at body in
+    let row = c.run_units-row.result in
+    let here : c.body_at-body.result.now ≡ b = c.body_at-body.ensures.body ∙ ap body_in there in
+    let ran = subst (λ x. Ran g.P.Pages.means c.args.pages.now c.run_units-row.new.pages (fork_of who at x) mid row) here (c.run_units-row.ensures.ran at) in
+    let is = c.requires.tree in
+    let lives = lived tree is who.tty c.args.who.slot f there body row.count ran.keeps in
+    let left = left_tree tree who.tty c.args.who.slot f body there in
+    let means = g.P.Pages.means in
+    let old = c.args.pages.now in
+    let now = c.run_units-row.new.pages in
+    let n = c.in-Needs.need in
+    let made = subst (λ l. Makes means old now who.tty (makings_of l)) c.in-Needs.is ran.made in
+    let stops = subst (λ x. StopsBehind means old now tree x f mid row.count n) (sym left)
+    (unit_stops tree is f lives body row.count ran.keeps means old now made c.requires.holds n (λ d fits. (let t = ran.told d fits in (t.0, subst (IsRow f (means.plain old d) row.count mid (means.plain now d)) c.in-Needs.is t.1))) (subst (LastNeeds means.store now) c.in-Needs.is ran.needs)) in
+    stops_ran means old now tree _ f mid n lives row.count c.done_before-in-Needs.result c.done_before-in-Needs.ensures stops
+
+pub returns-in-Needs-clause-waits : goal.returns-in-Needs-clause-waits
+returns-in-Needs-clause-waits g c at b there =
+    let who = c.args.who.fork in
+    let tree = c.args.tree.now in
+    let f = fork_of who at b in
+    let body = c.run_units-row.new.body in
+    let mid = fork_of who at body in
+    let row = c.run_units-row.result in
+    let here : c.body_at-body.result.now ≡ b = c.body_at-body.ensures.body ∙ ap body_in there in
+    let ran = subst (λ x. Ran g.P.Pages.means c.args.pages.now c.run_units-row.new.pages (fork_of who at x) mid row) here (c.run_units-row.ensures.ran at) in
+    let is = c.requires.tree in
+    let lives = lived tree is who.tty c.args.who.slot f there body row.count ran.keeps in
+    let left = left_tree tree who.tty c.args.who.slot f body there in
+    let means = g.P.Pages.means in
+    let old = c.args.pages.now in
+    let now = c.run_units-row.new.pages in
+    let n = c.in-Needs.need in
+    let made = subst (λ l. Makes means old now who.tty (makings_of l)) c.in-Needs.is ran.made in
+    let stops = subst (λ x. StopsBehind means old now tree x f mid row.count n) (sym left)
+    (unit_stops tree is f lives body row.count ran.keeps means old now made c.requires.holds n (λ d fits. (let t = ran.told d fits in (t.0, subst (IsRow f (means.plain old d) row.count mid (means.plain now d)) c.in-Needs.is t.1))) (subst (LastNeeds means.store now) c.in-Needs.is ran.needs)) in
+    stops_waits means old now tree _ f mid n lives row.count c.done_before-in-Needs.result c.done_before-in-Needs.ensures stops
+
+pub returns-in-Err-clause-core : goal.returns-in-Err-clause-core
+returns-in-Err-clause-core g c flat = (let no = c.in-Err.ensures.core flat in absurd (cc no))
+
+pub returns-in-Err-clause-some : goal.returns-in-Err-clause-some
+returns-in-Err-clause-some g c = before_some c.run_units-row.result.count c.in-Err.need c.done_before.result c.done_before.ensures
+
+pub returns-in-Err-clause-few : goal.returns-in-Err-clause-few
+returns-in-Err-clause-few g c =
+    let room = subst (HasRoom c.args.most c.run_units-row.result.count) c.in-Calls.is c.run_units-row.ensures.room in
+    before_few c.run_units-row.result.count c.args.most c.in-Err.need c.done_before.result (omega (arith, room)) c.done_before.ensures
+
+pub returns-in-Needs-clause-core : goal.returns-in-Needs-clause-core
+returns-in-Needs-clause-core g c flat = (let f = some_of _ c.requires.there in absurd (subst IsMet c.in-Needs.is ((c.run_units-row.ensures.ran (place_of f.0)).core flat)))
+
+pub returns-in-Needs-clause-some : goal.returns-in-Needs-clause-some
+returns-in-Needs-clause-some g c = before_some c.run_units-row.result.count c.in-Needs.need c.done_before-in-Needs.result c.done_before-in-Needs.ensures
+
+pub returns-in-Needs-clause-few : goal.returns-in-Needs-clause-few
+returns-in-Needs-clause-few g c =
+    let room = subst (HasRoom c.args.most c.run_units-row.result.count) c.in-Needs.is c.run_units-row.ensures.room in
+    before_few c.run_units-row.result.count c.args.most c.in-Needs.need c.done_before-in-Needs.result (omega (arith, room)) c.done_before-in-Needs.ensures

@@ -10,7 +10,7 @@ use Rattle.monitor_core.proofs.machine.Machine.units.Goals as goal
 pub invariant_of-self : goal.invariant_of-self
 invariant_of-self g c = record {
   turn = runner_slot c.args.self.now.system.tree c.args.who c.requires.can;
-  within = subst (λ n. IsWithin c.units-units.new.self (c.args.self.now.done + n)) (sym c.from.ensures) (c.units-units.ensures.did.within c.args.self.now.done c.args.self.now.within);
+  within = subst (λ n. IsWithin c.units.new.self (c.args.self.now.done + n)) (sym c.from.ensures) (c.in-Ok.ensures.did.within c.args.self.now.done c.args.self.now.within);
 }
 
 pub give_all-requires-clause-fits : goal.give_all-requires-clause-fits
@@ -18,13 +18,16 @@ give_all-requires-clause-fits g c = runner_fits c.args.self.now.system.tree c.ar
 
 pub returns-in_err-give_all : goal.returns-in_err-give_all
 returns-in_err-give_all g c =
-    turns_cut g.T.Taker.fault_count g.T.Taker.onward g.T.Taker.stands g.T.Taker.cut c.args.self.now _ c.args.out.now c.give_all.new.out (AUnit c.args.who.fork) tt c.units-units.result.count c.args.most c.units-units.ensures.some c.units-units.ensures.few (Prints c.args.who.fork.tty c.units-units.result.shown) c.units-units.ensures.did
+    turns_cut g.T.Taker.fault_count g.T.Taker.onward g.T.Taker.stands g.T.Taker.cut c.args.self.now _ c.args.out.now c.give_all.new.out (AUnit c.args.who.fork) tt c.in-Ok.units.count c.args.most c.in-Ok.ensures.some c.in-Ok.ensures.few (Prints c.args.who.fork.tty c.in-Ok.units.shown) c.in-Ok.ensures.did
     (ap (λ n. c.args.self.now.done + n) c.from.ensures) refl refl _ c.from_residual.result c.from_residual.ensures.0 c.in_err-give_all.ensures
 
 pub returns : goal.returns
 returns g c =
-    turns_given g.T.Taker.fault_count g.T.Taker.onward g.T.Taker.stands g.T.Taker.cut c.args.self.now _ c.args.out.now c.give_all.new.out (AUnit c.args.who.fork) tt c.units-units.result.count c.args.most c.units-units.ensures.some c.units-units.ensures.few (Prints c.args.who.fork.tty c.units-units.result.shown) c.units-units.ensures.did
+    turns_given g.T.Taker.fault_count g.T.Taker.onward g.T.Taker.stands g.T.Taker.cut c.args.self.now _ c.args.out.now c.give_all.new.out (AUnit c.args.who.fork) tt c.in-Ok.units.count c.args.most c.in-Ok.ensures.some c.in-Ok.ensures.few (Prints c.args.who.fork.tty c.in-Ok.units.shown) c.in-Ok.ensures.did
     (ap (λ n. c.args.self.now.done + n) c.from.ensures) refl refl _ c.in_ok-give_all.ensures
 
-pub units-units-requires-clause-few : goal.units-units-requires-clause-few
-units-units-requires-clause-few g c = within_later c.args.self.now.system c.args.self.now.done _ c.args.self.now.within (omega (arith, c.requires.few))
+pub units-requires-clause-few : goal.units-requires-clause-few
+units-requires-clause-few g c = within_later c.args.self.now.system c.args.self.now.done _ c.args.self.now.within (omega (arith, c.requires.few))
+
+pub unreachable-requires : goal.unreachable-requires
+unreachable-requires g c = (let no = c.in-Err.ensures.core c.args.self.now.system.sound.flat in absurd (cc no))

@@ -5,27 +5,27 @@ use Rattle.monitor_core.specs.Runners.{woken_where}
 use Rattle.monitor_core.specs.Shown.{is_stop, seen_of}
 use Rattle.monitor_core.proofs.Running.{place_of, runner, runner_lives, runner_only, runner_runs, runner_there}
 use Rattle.monitor_core.proofs.Systems.{holds_fork}
-use Rattle.monitor_core.proofs.UnitDid.{did_units, units_sound}
+use Rattle.monitor_core.proofs.UnitDid.{did_units, units_sound, waits_sound, waits_still}
 use Rattle.monitor_core.proofs.system.System.units.Goals as goal
 
-pub units_of-units-requires-clause-there : goal.units_of-units-requires-clause-there
-units_of-units-requires-clause-there g c = subst IsSome (sym (runner_there c.args.self.now.tree c.args.who c.requires.can)) refl
+pub units_of-ran-requires-clause-there : goal.units_of-ran-requires-clause-there
+units_of-ran-requires-clause-there g c = subst IsSome (sym (runner_there c.args.self.now.tree c.args.who c.requires.can)) refl
 
-pub units_of-units-requires-clause-can : goal.units_of-units-requires-clause-can
-units_of-units-requires-clause-can g c f found =
+pub units_of-ran-requires-clause-can : goal.units_of-ran-requires-clause-can
+units_of-ran-requires-clause-can g c f found =
     let tree = c.args.self.now.tree in
     let is = runner_only tree c.args.who c.requires.can f found in
     let fits = c.args.self.now.sound.each_fork (runner tree c.args.who c.requires.can) (runner_lives tree c.args.who c.requires.can) in
     (ap (λ (k : Fork). k.name) (sym is), subst (λ (k : Fork). CanUnit k.body) is (record { runs = (runner_runs tree c.args.who c.requires.can).0; fits = fits }))
 
-pub units_of-units-requires-clause-few : goal.units_of-units-requires-clause-few
-units_of-units-requires-clause-few g c f found =
+pub units_of-ran-requires-clause-few : goal.units_of-ran-requires-clause-few
+units_of-ran-requires-clause-few g c f found =
     let tree = c.args.self.now.tree in
     let is = ap (λ (k : Fork). k.body.units) (runner_only tree c.args.who c.requires.can f found) in
     omega (arith, is, c.requires.few.units (runner tree c.args.who c.requires.can) (runner_lives tree c.args.who c.requires.can))
 
-pub units_of-units-requires-clause-serves : goal.units_of-units-requires-clause-serves
-units_of-units-requires-clause-serves g c =
+pub units_of-ran-requires-clause-serves : goal.units_of-ran-requires-clause-serves
+units_of-ran-requires-clause-serves g c =
     let m = c.args.self.now in
     let held = holds_fork m c.requires.can.trees (runner m.tree c.args.who c.requires.can) (runner_lives m.tree c.args.who c.requires.can) in
     record { lives = held.lives; terminal = held.terminal }
@@ -36,23 +36,42 @@ invariant_of-self g c =
     let who = c.args.who in
     let r = c.requires.can in
     let f = runner m.tree who r in
-    let ran = c.units_of-units.ensures.ran (place_of r.fork) r.fork.body (runner_there m.tree who r) in
-    let left = c.units_of-units.new.tree in
-    let woken : c.wake_where.new.tree ≡ record left { forks = woken_where left.forks who.fork.tty (is_stop c.units_of-units.result.shown) } =
-    ◌∙◌ {b = record left { forks = woken_where left.forks who.fork.tty c.is_stop.result }} c.wake_where.ensures (ap (λ b. record left { forks = woken_where left.forks who.fork.tty b }) c.is_stop.ensures) in
-    record { sound = units_sound m f r.trees (runner_lives m.tree who r) c.units_of-units.new.pages left c.wake_where.new.tree c.units_of-units.result ran c.are_trees.ensures woken c.are_trees-2.ensures c.seen.new.jobs.items c.seen.result c.seen.ensures.jobs }
+    let waits = c.in-Err.ensures.waits (place_of r.fork) r.fork.body (runner_there m.tree who r) in
+    record { sound = waits_sound m f r.trees (runner_lives m.tree who r) c.units_of-ran.new.pages c.units_of-ran.new.tree c.in-Err.need waits c.are_trees.ensures }
 
-pub returns-clause-did : goal.returns-clause-did
-returns-clause-did g c =
+pub returns-in-Err-clause-waits : goal.returns-in-Err-clause-waits
+returns-in-Err-clause-waits g c =
     let m = c.args.self.now in
     let who = c.args.who in
     let r = c.requires.can in
     let f = runner m.tree who r in
-    let units = c.units_of-units.result in
-    let ran = c.units_of-units.ensures.ran (place_of r.fork) r.fork.body (runner_there m.tree who r) in
+    let waits = c.in-Err.ensures.waits (place_of r.fork) r.fork.body (runner_there m.tree who r) in
+    waits_still m f r.trees (runner_lives m.tree who r) c.units_of-ran.new.pages c.units_of-ran.new.tree c.in-Err.need waits c.are_trees.ensures _ refl refl refl refl
+
+pub invariant_of-self-in-Ok : goal.invariant_of-self-in-Ok
+invariant_of-self-in-Ok g c =
+    let m = c.args.self.now in
+    let who = c.args.who in
+    let r = c.requires.can in
+    let f = runner m.tree who r in
+    let units = c.in-Ok.units in
+    let ran = c.in-Ok.ensures.ran (place_of r.fork) r.fork.body (runner_there m.tree who r) in
+    let left = c.units_of-ran.new.tree in
+    let woken : c.wake_where.new.tree ≡ record left { forks = woken_where left.forks who.fork.tty (is_stop units.shown) } =
+    ◌∙◌ {b = record left { forks = woken_where left.forks who.fork.tty c.is_stop.result }} c.wake_where.ensures (ap (λ b. record left { forks = woken_where left.forks who.fork.tty b }) c.is_stop.ensures) in
+    record { sound = units_sound m f r.trees (runner_lives m.tree who r) c.units_of-ran.new.pages left c.wake_where.new.tree units.count (is_stop units.shown) ran.leaves c.are_trees.ensures woken c.are_trees-in-Ok.ensures c.seen.new.jobs.items c.seen.result c.seen.ensures.jobs }
+
+pub returns-in-Ok-clause-did : goal.returns-in-Ok-clause-did
+returns-in-Ok-clause-did g c =
+    let m = c.args.self.now in
+    let who = c.args.who in
+    let r = c.requires.can in
+    let f = runner m.tree who r in
+    let units = c.in-Ok.units in
+    let ran = c.in-Ok.ensures.ran (place_of r.fork) r.fork.body (runner_there m.tree who r) in
     let seen : c.seen.result ≡ seen_of r.fork.slot units.shown = c.seen.ensures.shown ∙ ap (λ n. seen_of n units.shown) (sym r.there.2) in
-    let left = c.units_of-units.new.tree in
-    let woken : c.wake_where.new.tree ≡ record left { forks = woken_where left.forks who.fork.tty (is_stop c.units_of-units.result.shown) } =
+    let left = c.units_of-ran.new.tree in
+    let woken : c.wake_where.new.tree ≡ record left { forks = woken_where left.forks who.fork.tty (is_stop units.shown) } =
     ◌∙◌ {b = record left { forks = woken_where left.forks who.fork.tty c.is_stop.result }} c.wake_where.ensures (ap (λ b. record left { forks = woken_where left.forks who.fork.tty b }) c.is_stop.ensures) in
     let can = runner_runs m.tree who r in
-    did_units m f r.trees (runner_lives m.tree who r) c.units_of-units.new.pages left c.wake_where.new.tree units ran c.are_trees.ensures woken _ refl refl c.seen.result can.0 can.1 seen c.seen.ensures.jobs refl c.units_of-units.ensures.some
+    did_units m f r.trees (runner_lives m.tree who r) c.units_of-ran.new.pages left c.wake_where.new.tree units ran c.are_trees.ensures woken _ refl refl c.seen.result can.0 can.1 seen c.seen.ensures.jobs refl c.in-Ok.ensures.some

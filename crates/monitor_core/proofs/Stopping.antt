@@ -1,0 +1,157 @@
+-- Units in a row behind which one needs something first.
+use Rattle.std.proofs.Common.{◌≡◌, ◌⊎◌, ℕ, ◌+◌, ◌≤◌, cond, ◌==◌, None, refl, sym, ◌∙◌, ap, subst, arith, inl, inr}
+use Rattle.std.specs.Prelude.{Result, Ok, Err, IfOk, IfErr, IsSome}
+use Rattle.std.specs.Ordering.{nat_cmp}
+use Rattle.std.proofs.lemmas.Bool.Decides.{eqb_tells}
+use Rattle.plain_model.specs.declared.fork.Body.{Body}
+use Rattle.plain_model.specs.declared.fork.Fork.{Fork}
+use Rattle.machine_names.specs.declared.names.ForkName.{ForkName}
+use Rattle.page_contracts.specs.declared.answers.Need.{Need}
+use Rattle.page_contracts.specs.DrumWords.{DrumWords}
+use Rattle.page_contracts.specs.Pages.{PagesMeaning}
+use Rattle.page_contracts.specs.Stores.{IsNeeded}
+use Rattle.page_contracts.proofs.Losing.{needed_more}
+use Rattle.plain_pages.specs.PlainPages.{NumberedPages}
+use Rattle.plain_model.specs.Trees.{PlainTree, with_body}
+use Rattle.plain_model.proofs.ForkMaps.{put_itself}
+use Rattle.ka10_unit.specs.Once.{After, in_a_row}
+use Rattle.ka10_unit.specs.Taking.{most_frames}
+use Rattle.fork_tree.specs.Trees.{IsTree, Lives}
+use Rattle.fork_calls.specs.Holding.{CallLeaves, Holds, MakesPages}
+use Rattle.fork_calls.specs.Needing.{call_frames}
+use Rattle.fork_calls.proofs.Branch.{made_on}
+use Rattle.monitor_core.specs.declared.units.Units.{Units}
+use Rattle.monitor_core.specs.ForkUnit.{CallWaits, Kept, LeavesForks, RanUnits, RanUpTo, UnitWaits, UnitsRan, left_so, put_back, ran_on}
+use Rattle.monitor_core.specs.Shown.{nothing}
+use Rattle.monitor_core.specs.Writing.{Makes, most_makings}
+use Rattle.monitor_core.proofs.Leaving.{came_less, leaves_one, leaves_then}
+use Rattle.monitor_core.proofs.UnitRan.{row_ran}
+
+-- those that are done before it alone, if there are any
+abbrev before : ℕ → Need → Result Units Need
+before count n = cond (count == 0) (Err n) (Ok (record { count = count; shown = nothing }))
+
+by_count : (count : ℕ) (n : Need) (r : Result Units Need) → r ≡ before count n → ((count ≡ 0) × (r ≡ Err n)) ⊎ ((1 ≤ count) × (r ≡ Ok (record { count = count; shown = nothing })))
+by_count count n r is = elim (eqb_tells count 0) [
+  | inl none ↦ inl (none.1, is ∙ ap (λ b. cond b (Err n) (Ok (record { count = count; shown = nothing }))) none.0)
+  | inr some ↦ inr (omega (arith, some.1), is ∙ ap (λ b. cond b (Err n) (Ok (record { count = count; shown = nothing }))) some.0)
+]
+
+-- no unit changes nothing
+pub up_to_none : (f g : Fork) (p q : NumberedPages) → RanUpTo f p 0 g q → (g ≡ f) × (q ≡ p)
+unfolding in_a_row
+up_to_none f g p q r =
+    let same : ◌≡◌ {A = After nat_cmp} (record { pages = p; regs = f.body.regs; post = None }) r.after = cc r.row in
+    let none : f.body.units + 0 ≡ f.body.units = omega arith in (
+      sym r.fork ∙ ap (λ (a : After nat_cmp). ran_on f 0 a.regs) (sym same) ∙ ap (λ n. record f { body = record f.body { units = n } }) none,
+      sym r.pages ∙ ap (λ (a : After nat_cmp). a.pages) (sym same),
+    )
+
+-- some units are a row that shows nothing
+pub up_to_some : (tree : PlainTree) (f g : Fork) (p q : NumberedPages) (n : ℕ) → 1 ≤ n → RanUpTo f p n g q → RanUnits tree f p n (left_so tree g q nothing)
+up_to_some tree f g p q n some r = subst (RanUnits tree f p n) (λ i. left_so tree (r.fork i) (r.pages i) nothing) (row_ran tree f p n r.after some r.row)
+
+-- so many units of a fork were done, and the next needs this first
+pub record StopsBehind {P : Type 0} (means : PagesMeaning P) (old new : P) (tree tree' : PlainTree) (f g : Fork) (count : ℕ) (n : Need) : Type 0 where
+  pub told : (d : DrumWords) → means.fits old d → means.fits new d × (tree' ≡ put_back tree g) × RanUpTo f (means.plain old d) count g (means.plain new d)
+  pub keeps : Kept f g count
+  pub leaves : LeavesForks means old new tree tree' f count
+  pub unmade : MakesPages means f.name.tty 0 old new
+  pub needed : IsNeeded means.store call_frames new n
+
+module _ {P : Type 0} (means : PagesMeaning P) (old new : P) (tree tree' : PlainTree) (f g : Fork) (n : Need) (lives : Lives tree.forks f) where
+  none_done : StopsBehind means old new tree tree' f g 0 n → UnitWaits means old new tree tree' f n
+  none_done s = record {
+    told = λ d fits.
+        let t = s.told d fits in
+        let same = up_to_none f g (means.plain old d) (means.plain new d) t.2 in (
+          t.0,
+          t.1 ∙ ap (put_back tree) same.0 ∙ ap (λ m. record tree { forks = m }) (put_itself tree.forks f.name f lives),
+          same.1,
+        );
+    leaves = s.leaves;
+    unmade = s.unmade;
+    needed = s.needed;
+  }
+
+  some_done : (count : ℕ) → 1 ≤ count → StopsBehind means old new tree tree' f g count n → UnitsRan means old new tree tree' f (record { count = count; shown = nothing })
+  some_done count some s = record {
+    after = g;
+    told = λ d fits.
+        let t = s.told d fits in (
+          t.0,
+          subst (λ x. RanUnits tree f (means.plain old d) count (record { tree = x; fork = g; pages = means.plain new d; shown = nothing })) (sym t.1)
+              (up_to_some tree f g (means.plain old d) (means.plain new d) count some t.2),
+        );
+    keeps = s.keeps;
+    leaves = s.leaves;
+    shown = (tt, tt);
+  }
+
+  pub stops_ran : (count : ℕ) (r : Result Units Need) → r ≡ before count n → StopsBehind means old new tree tree' f g count n → IfOk r (UnitsRan means old new tree tree' f)
+  stops_ran count r is s = elim (by_count count n r is) [
+    | inl none ↦ subst (λ x. IfOk x (UnitsRan means old new tree tree' f)) (sym none.1) tt
+    | inr some ↦ subst (λ x. IfOk x (UnitsRan means old new tree tree' f)) (sym some.1) (some_done count some.0 s)
+  ]
+
+  pub stops_waits : (count : ℕ) (r : Result Units Need) → r ≡ before count n → StopsBehind means old new tree tree' f g count n → IfErr r (UnitWaits means old new tree tree' f)
+  stops_waits count r is s = elim (by_count count n r is) [
+    | inl none ↦ subst (λ x. IfErr x (UnitWaits means old new tree tree' f)) (sym none.1) (none_done (subst (λ k. StopsBehind means old new tree tree' f g k n) none.0 s))
+    | inr some ↦ subst (λ x. IfErr x (UnitWaits means old new tree tree' f)) (sym some.1) tt
+  ]
+
+-- how many they are
+pub before_some : (count : ℕ) (n : Need) (r : Result Units Need) → r ≡ before count n → IfOk r (λ units. 1 ≤ units.count)
+before_some count n r is = elim (by_count count n r is) [
+  | inl none ↦ subst (λ x. IfOk x (λ (units : Units). 1 ≤ units.count)) (sym none.1) tt
+  | inr some ↦ subst (λ x. IfOk x (λ (units : Units). 1 ≤ units.count)) (sym some.1) some.0
+]
+
+pub before_few : (count most : ℕ) (n : Need) (r : Result Units Need) → count ≤ most → r ≡ before count n → IfOk r (λ units. units.count ≤ most)
+before_few count most n r few is = elim (by_count count n r is) [
+  | inl none ↦ subst (λ x. IfOk x (λ (units : Units). units.count ≤ most)) (sym none.1) tt
+  | inr some ↦ subst (λ x. IfOk x (λ (units : Units). units.count ≤ most)) (sym some.1) few
+]
+
+-- none that made no page
+made_none : {P : Type 0} {means : PagesMeaning P} {p q : P} {t : _} → Makes means p q t 0 → MakesPages means t 0 p q
+made_none m = record { most = m.most; serial = m.own; serials = m.others }
+
+made_less : {P : Type 0} {means : PagesMeaning P} {p q : P} {t : _} → Makes means p q t 0 → Makes means p q t most_makings
+made_less m = record { lives = m.lives; forks = m.forks; most = m.most; own = omega (arith, m.own); others = m.others }
+
+-- one fork has another body, behind so many units that made no page
+module _ (tree : PlainTree) (is : IsTree tree) (f : Fork) (lives : Lives tree.forks f) (body : Body) (count : ℕ) (keeps : Kept f (with_body body f) count) {P : Type 0} (means : PagesMeaning P) (old mid : P) (made : Makes means old mid f.name.tty 0) (holds : Holds means old tree.forks) where
+  abbrev g : Fork
+  g = with_body body f
+
+  -- and a unit needs something first
+  pub unit_stops : (n : Need) → ((d : DrumWords) → means.fits old d → means.fits mid d × RanUpTo f (means.plain old d) count g (means.plain mid d)) → IsNeeded means.store most_frames mid n → StopsBehind means old mid tree (put_back tree g) f g count n
+  unit_stops n told needed = record {
+    told = λ d fits. (let t = told d fits in (t.0, refl, t.1));
+    keeps = keeps;
+    leaves = leaves_one tree is f lives body count keeps means old mid holds (made_less made);
+    unmade = made_none made;
+    needed = needed_more means.store most_frames call_frames mid n (omega arith) needed;
+  }
+
+  -- or a call does
+  pub call_stops : (new : P) (tree' : PlainTree) (n : Need) → ((d : DrumWords) → means.fits old d → means.fits mid d × RanUpTo f (means.plain old d) count g (means.plain mid d)) → CallWaits means mid new (put_back tree g) tree' f.name n → StopsBehind means old new tree tree' f g count n
+  call_stops new tree' n told waits = record {
+    told = λ d fits.
+        let t = told d fits in
+        let w = waits.told d t.0 in
+        (w.0, w.1, subst (RanUpTo f (means.plain old d) count g) (sym w.2) t.1);
+    keeps = keeps;
+    leaves = subst (LeavesForks means old new tree tree' f) none
+        (leaves_then tree is f lives body count keeps means old mid new tree' 0 made
+        (record { holds = waits.left.holds; kept = λ x e. elim (waits.left.kept x e) [ inl came ↦ inl (came_less (put_back tree g).forks x 0 came) | inr new ↦ inr new ]; caller = there; tops = waits.left.tops; made = waits.left.made }));
+    unmade = made_on means f.name.tty 0 0 old mid new (made_none made) waits.unmade;
+    needed = waits.needed;
+  }
+    where
+      none : count + 0 ≡ count
+      none = omega arith
+
+      there : IsSome (Rattle.std.specs.FinMap.get tree'.forks g.name)
+      there = waits.left.caller (leaves_one tree is f lives body count keeps means old mid holds (made_less made)).caller
