@@ -54,10 +54,9 @@ module _ (jobs : List (Option Job)) (none : jobs ≡ no_jobs TERMINALS) where
   none_there : {A : Type 0} (t : ℕ) (j : Job) → job_at jobs t ≡ Some j → A
   none_there t j e = absurd (let f : None ≡ Some j = sym (no_job t) ∙ e in cc f)
 
-  pub sound_boot : {P : Type 0} (means : PagesMeaning P) (p : P) (tree : PlainTree) → tree ≡ no_forks → means.flat ≡ true → MOST_FORKS ≤ means.most_forks → ((t : Tty) → means.forks_of p t ≡ 0) → ((f : ForkName) → means.lives p f ≡ false) → AreSound means p tree jobs
+  pub sound_boot : {P : Type 0} (means : PagesMeaning P) (p : P) (tree : PlainTree) → tree ≡ no_forks → MOST_FORKS ≤ means.most_forks → ((t : Tty) → means.forks_of p t ≡ 0) → ((f : ForkName) → means.lives p f ≡ false) → AreSound means p tree jobs
   unfolding no_jobs
-  sound_boot means p tree empty flat roomy forks lives = record {
-    flat = flat;
+  sound_boot means p tree empty roomy forks lives = record {
     holds = subst (λ (x : PlainTree). Holds means p x.forks) (sym empty) (record {
       living = λ name. lives name ∙ sym (ap is_some (fin.get-empty fork_cmp name));
       counts = λ t terminal. forks t ∙ sym (none_listed (fork_in no_forks.forks t) (λ slot. in_none no_forks.forks none_tree.slotted t slot (λ f at. nobody no_forks f refl at.0)) 1 MOST_FORKS);

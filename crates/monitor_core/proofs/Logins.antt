@@ -112,7 +112,6 @@ module _ {P : Type 0} (means : PagesMeaning P) (p : P) (tree : PlainTree) (jobs 
       let found : (u : ℕ) (i : Job) → u ≡ t.0 → job_at (set jobs t.0 (Some k)) u ≡ Some i → k ≡ i = λ u i same e. let f : Some k ≡ Some i = sym here ∙ ap (job_at (set jobs t.0 (Some k))) (sym same) ∙ e in cc f in
       let there : (u : ℕ) → u ≡ t.0 → job_at (set jobs t.0 (Some k)) u ≡ None → ⊥ = λ u same e. let f : Some k ≡ None = sym here ∙ ap (job_at (set jobs t.0 (Some k))) (sym same) ∙ e in cc f in
       record {
-        flat = s.flat;
         holds = added_holds means p q name alive own others tree.forks (top_fork name) refl (name_unused tree t trees) trees.slotted now.slotted s.holds;
         job_room = length-set jobs t.0 (Some k) ∙ s.job_room;
         each_fork = λ f e. elim (lives_now tree.forks name (top_fork name) f e) [

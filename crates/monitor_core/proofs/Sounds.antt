@@ -80,7 +80,6 @@ module _ {P : Type 0} (means : PagesMeaning P) (p q : P) (tree : PlainTree) (job
   -- the forks stay
   pub sound_same : AreSound means q tree jobs'
   sound_same = record {
-    flat = s.flat;
     holds = holds_still means p q tree.forks lives_same forks_same s.holds;
     job_room = tops.room ∙ s.job_room;
     each_fork = s.each_fork;
@@ -105,7 +104,6 @@ module _ {P : Type 0} (means : PagesMeaning P) (p q : P) (tree : PlainTree) (job
 
       pub sound_changed : AreSound means q (record tree { forks = forks' }) jobs'
       sound_changed = let still = sound_same in record {
-        flat = s.flat;
         holds = holds_same means q tree.forks forks' trees.slotted (changed_tree tree k g trees lives name slot superior).slotted places still.holds;
         job_room = still.job_room;
         each_fork = λ f e. elim (lives_now tree.forks k.name g f e) [

@@ -128,7 +128,6 @@ module _ {P : Type 0} {b : _} (m : System P b) (f : Fork) (trees : IsTree m.tree
     units_sound now jobs' shown jobs =
         let tops = tops_left m.jobs.items f.name.tty.0 (is_stop shown) within_jobs in
         subst (AreSound b.means q tree') (sym jobs) (record {
-          flat = m.sound.flat;
           holds = holds_same b.means q left.forks tree'.forks left_trees.slotted now.slotted keeps.same leaves.holds;
           job_room = tops.room ∙ m.sound.job_room;
           each_fork = λ g there. let k = keeps.come g there in k.within (left_within k.before k.lived);

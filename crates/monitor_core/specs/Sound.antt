@@ -1,5 +1,5 @@
 -- What is always true of a system's tables, over any drum.
-use Rattle.std.specs.Prelude.{◌≡◌, ℕ, ◌<◌, List, length, true, Option, None, Some}
+use Rattle.std.specs.Prelude.{◌≡◌, ℕ, ◌<◌, List, length, Option, None, Some}
 use Rattle.std.specs.Option.{option_map}
 use Rattle.std.specs.FinMap as map
 use Rattle.machine_names.specs.declared.names.TheConstants.{TERMINALS}
@@ -18,10 +18,9 @@ pub record IsJob (tree : PlainTree) (t : ℕ) (j : Job) : Type 0 where
   pub low : t < TERMINALS
   pub top : option_map (λ f. f.slot) (map.get tree.forks j.top) ≡ Some 1
 
--- The pages, in memory alone, have the forks of the tree; each fork is within its limits; each job's top fork lives; and a terminal
+-- The pages have the forks of the tree; each fork is within its limits; each job's top fork lives; and a terminal
 -- without a job has no fork.
 pub record AreSound {P : Type 0} (means : PagesMeaning P) (p : P) (tree : PlainTree) (jobs : List (Option Job)) : Type 0 where
-  pub flat : means.flat ≡ true
   pub holds : Holds means p tree.forks
   pub job_room : length jobs ≡ TERMINALS
   pub each_fork : AreWithin tree.forks

@@ -1,4 +1,5 @@
 // The machine, over any pages.
+ghost use Rattle.std.specs.Prelude.{◌≡◌, true};
 ghost use Rattle.monitor_core.specs.Runners.{IsSlot};
 ghost use Rattle.monitor_core.specs.Systems.{IsWithin};
 
@@ -33,6 +34,8 @@ pub struct Machine<P: Pages> {
     live: bool,
     /// A run completes transfers by itself.
     auto: bool,
+    // Nobody waits for a page yet: the pages stand in memory.
+    ghost flat: { P.means.flat ≡ true },
     ghost within: { IsWithin system done },
     ghost turn: { IsSlot terminal slot },
 }

@@ -1,5 +1,5 @@
 // The events of a terminal's job.
-ghost use Rattle.std.specs.Prelude.{◌≡◌, ◌<◌, ◌^◌, ◌+◌};
+ghost use Rattle.std.specs.Prelude.{◌≡◌, ◌<◌, ◌^◌, ◌+◌, true};
 ghost use Rattle.machine_names.specs.Bounds.{IsTerminal};
 ghost use Rattle.script_texts.specs.declared.event.Step.{Step as AStep};
 ghost use Rattle.monitor_core.specs.JobEvents.{event_at, FitsJobEvent};
@@ -20,6 +20,7 @@ impl<P: Pages> System<P> {
     pub(crate) fn at_job(&mut self, t: Tty, e: JobEvent) -> Result<Reply, Refusal>
         requires terminal { IsTerminal t }
         requires fits { FitsJobEvent e }
+        requires flat { P.means.flat ≡ true }
         requires few { IsWithin self.old (2 ^ 52) }
         ensures { Did self.old self.new (AStep.Outer (event_at t e)) (reply_of result) }
     {

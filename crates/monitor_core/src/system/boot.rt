@@ -1,5 +1,5 @@
 // A system with nothing in it.
-ghost use Rattle.std.specs.Prelude.{◌≡◌, ◌≤◌, true, IfOk};
+ghost use Rattle.std.specs.Prelude.{◌≡◌, ◌≤◌, IfOk};
 ghost use Rattle.machine_names.specs.declared.names.TheConstants.{MOST_FORKS};
 ghost use Rattle.machine_names.specs.declared.names.Tty.{Tty as ATty};
 ghost use Rattle.fork_tree.specs.Trees.{no_forks};
@@ -17,7 +17,6 @@ use std::alloc::Global;
 impl<P: Pages + Drop> System<P> {
     /// No job, over pages without a fork. Memory, where none was found.
     pub fn boot(alloc: Global, pages: P) -> Result<System<P>, Memory>
-        requires flat { P.means.flat ≡ true }
         requires roomy { MOST_FORKS ≤ P.means.most_forks }
         requires none { (t : ATty) → P.means.forks_of pages t ≡ 0 }
         ensures pages { IfOk result (λ m. m.pages ≡ pages) }

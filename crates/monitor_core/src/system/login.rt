@@ -1,5 +1,5 @@
 // LOGIN: a job is made.
-ghost use Rattle.std.specs.Prelude.{◌≡◌, ◌<◌, None, Ok};
+ghost use Rattle.std.specs.Prelude.{◌≡◌, ◌<◌, None, Ok, true};
 ghost use Rattle.machine_names.specs.Bounds.{IsTerminal};
 ghost use Rattle.script_texts.specs.declared.event.Event.{Event as AnEvent};
 ghost use Rattle.script_texts.specs.declared.event.Step.{Step as AStep};
@@ -44,6 +44,7 @@ impl<P: Pages> System<P> {
         requires terminal { IsTerminal t }
         requires free { job_at self.old.jobs.items t.0 ≡ None }
         requires unused { room_for self.old.tree t ≡ Ok tt }
+        requires flat { P.means.flat ≡ true }
         ensures { Did self.old self.new (AStep.Outer (AnEvent.Login t user)) (reply_of result) }
     {
         self.tree.are_trees();
@@ -58,7 +59,8 @@ impl<P: Pages> System<P> {
     /// LOGIN: a user gets a job. Busy, where the terminal has one; SerialsOut, where its serials are used up;
     /// Full, where the drum is.
     pub(crate) fn login(&mut self, t: Tty, user: DirName) -> Result<Reply, Refusal>
-        requires { IsTerminal t }
+        requires terminal { IsTerminal t }
+        requires flat { P.means.flat ≡ true }
         ensures { Did self.old self.new (AStep.Outer (AnEvent.Login t user)) (reply_of result) }
     {
         if self.jobs[t.0 as usize].is_some() {

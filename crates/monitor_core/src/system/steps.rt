@@ -67,10 +67,12 @@ impl<P: Pages> System<P> {
         Reply::Nothing
     }
 
-    // An event that is one step, or why it is refused.
+    // An event that is one step, or why it is refused. It may need a page first, for which nobody waits yet: so it asks for
+    // pages in memory.
     fn outer(&mut self, e: &Event) -> Result<Reply, Refusal>
         requires fits { FitsStep (AStep.Outer e.now) }
         requires built { IsBuilt e.now }
+        requires flat { P.means.flat ≡ true }
         requires few { IsWithin self.old (2 ^ 52) }
         ensures { Did self.old self.new (AStep.Outer e.now) (reply_of result) }
     {
@@ -95,6 +97,7 @@ impl<P: Pages> System<P> {
     /// Does an event that is one step.
     pub fn apply(&mut self, e: &Event) -> Reply
         requires can { CanDo self.old (AStep.Outer e.now) }
+        requires flat { P.means.flat ≡ true }
         requires few { IsWithin self.old (2 ^ 52) }
         ensures { Did self.old self.new (AStep.Outer e.now) result }
     {

@@ -4,6 +4,7 @@ use Rattle.monitor_core.proofs.machine.Machine.boot.Goals as goal
 
 pub invariant_of-result : goal.invariant_of-result
 invariant_of-result g c = record {
+  flat = c.requires.flat;
   within = within_boot c.in_ok-system.system c.in_ok-system.ensures.jobs c.in_ok-system.ensures.tree c.in_ok-system.ensures.clock (λ t. omega (arith, ap (λ p. g.P.Pages.means.serial p t) c.in_ok-system.ensures.pages, c.requires.serials t));
   turn = record { terminal = omega arith; first = omega arith; last = omega arith };
 }

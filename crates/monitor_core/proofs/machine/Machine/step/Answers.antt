@@ -7,7 +7,7 @@ pub apply-reply-requires-clause-few : goal.apply-reply-requires-clause-few
 apply-reply-requires-clause-few g c = within_later c.args.self.now.system c.args.self.now.done _ c.args.self.now.within (omega (arith, c.requires.few))
 
 pub invariant_of-self : goal.invariant_of-self
-invariant_of-self g c = record { turn = c.args.self.now.turn; within = c.apply-reply.ensures.within c.args.self.now.done c.args.self.now.within }
+invariant_of-self g c = record { flat = c.args.self.now.flat; turn = c.args.self.now.turn; within = c.apply-reply.ensures.within c.args.self.now.done c.args.self.now.within }
 
 pub give_all-requires-clause-fits : goal.give_all-requires-clause-fits
 give_all-requires-clause-fits g c = c.requires.can.0

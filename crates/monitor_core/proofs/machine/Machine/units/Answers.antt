@@ -9,6 +9,7 @@ use Rattle.monitor_core.proofs.machine.Machine.units.Goals as goal
 
 pub invariant_of-self : goal.invariant_of-self
 invariant_of-self g c = record {
+  flat = c.args.self.now.flat;
   turn = runner_slot c.args.self.now.system.tree c.args.who c.requires.can;
   within = subst (λ n. IsWithin c.units.new.self (c.args.self.now.done + n)) (sym c.from.ensures) (c.in-Ok.ensures.did.within c.args.self.now.done c.args.self.now.within);
 }
@@ -30,4 +31,4 @@ pub units-requires-clause-few : goal.units-requires-clause-few
 units-requires-clause-few g c = within_later c.args.self.now.system c.args.self.now.done _ c.args.self.now.within (omega (arith, c.requires.few))
 
 pub unreachable-requires : goal.unreachable-requires
-unreachable-requires g c = (let no = c.in-Err.ensures.core c.args.self.now.system.sound.flat in absurd (cc no))
+unreachable-requires g c = (let no = c.in-Err.ensures.core c.args.self.now.flat in absurd (cc no))

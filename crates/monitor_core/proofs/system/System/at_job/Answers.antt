@@ -22,7 +22,7 @@ returns-in_default g c =
     (entry_read c.args.self.now.jobs.items c.args.t.0 c.index_mut.result.now c.args.self.now.sound.job_room c.requires.terminal c.index_mut.ensures.value ∙ c.in_default.is)
 
 pub poke-requires-clause-fork : goal.poke-requires-clause-fork
-poke-requires-clause-fork g c = holds_top c.args.self.now c.are_trees.ensures c.args.t.0 c.in-Some.job (job_read c.args.self.now.jobs.items c.args.t.0 _ c.in-Some.job c.args.self.now.sound.job_room c.requires.terminal c.index_mut.ensures.value c.in-Some.is)
+poke-requires-clause-fork g c = holds_top c.args.self.now c.requires.flat c.are_trees.ensures c.args.t.0 c.in-Some.job (job_read c.args.self.now.jobs.items c.args.t.0 _ c.in-Some.job c.args.self.now.sound.job_room c.requires.terminal c.index_mut.ensures.value c.in-Some.is)
 
 pub poke-requires-clause-accumulators : goal.poke-requires-clause-accumulators
 poke-requires-clause-accumulators g c f e = (c.args.self.now.sound.each_fork f (held_lives c.args.self.now.tree.forks c.are_trees.ensures.slotted c.in-Some.job.top f e)).accumulators
@@ -68,7 +68,7 @@ returns-in-Start g c =
 pub examined-requires-clause-each : goal.examined-requires-clause-each
 examined-requires-clause-each g c f e =
     let lives = held_lives c.args.self.now.tree.forks c.are_trees.ensures.slotted _ f e in
-    (holds_fork c.args.self.now c.are_trees.ensures f lives, (c.args.self.now.sound.each_fork f lives).accumulators)
+    (holds_fork c.args.self.now c.requires.flat c.are_trees.ensures f lives, (c.args.self.now.sound.each_fork f lives).accumulators)
 
 pub returns-in_ok-item-in-Examine : goal.returns-in_ok-item-in-Examine
 returns-in_ok-item-in-Examine g c =

@@ -1,10 +1,9 @@
-use Rattle.std.proofs.Common.{◌≡◌, IsSome, refl, sym, ◌∙◌, ap, subst, arith}
+use Rattle.std.proofs.Common.{◌≡◌, IsSome, is_some, refl, sym, ◌∙◌, ap, subst, arith}
 use Rattle.plain_model.specs.declared.fork.Fork.{Fork}
 use Rattle.monitor_core.specs.Limits.{CanUnit}
 use Rattle.monitor_core.specs.Runners.{woken_where}
 use Rattle.monitor_core.specs.Shown.{is_stop, seen_of}
 use Rattle.monitor_core.proofs.Running.{place_of, runner, runner_lives, runner_only, runner_runs, runner_there}
-use Rattle.monitor_core.proofs.Systems.{holds_fork}
 use Rattle.monitor_core.proofs.UnitDid.{did_units, units_sound, waits_sound, waits_still}
 use Rattle.monitor_core.proofs.system.System.units.Goals as goal
 
@@ -27,8 +26,9 @@ units_of-ran-requires-clause-few g c f found =
 pub units_of-ran-requires-clause-serves : goal.units_of-ran-requires-clause-serves
 units_of-ran-requires-clause-serves g c =
     let m = c.args.self.now in
-    let held = holds_fork m c.requires.can.trees (runner m.tree c.args.who c.requires.can) (runner_lives m.tree c.args.who c.requires.can) in
-    record { lives = held.lives; terminal = held.terminal }
+    let f = runner m.tree c.args.who c.requires.can in
+    let lives = runner_lives m.tree c.args.who c.requires.can in
+    record { lives = m.sound.holds.living f.name ∙ ap is_some lives; terminal = (c.requires.can.trees.slotted.named f lives).0 }
 
 pub invariant_of-self : goal.invariant_of-self
 invariant_of-self g c =
