@@ -1,13 +1,11 @@
 -- A fork's body, lent out of a tree; and a turn of a call, by its family and its answer.
-use Rattle.std.proofs.Common.{◌≡◌, ℕ, Bool, true, false, cond, Option, None, Some, refl, sym, ◌∙◌, ap, subst, inl, inr}
+use Rattle.std.proofs.Common.{◌≡◌, ℕ, Bool, true, false, cond, Option, Some, refl, sym, ◌∙◌, ap, subst, inl, inr}
 use Rattle.std.specs.Prelude.{IsSome}
 use Rattle.std.specs.Option.{option_map}
 use Rattle.std.specs.Ordering.{nat_cmp}
 use Rattle.std.specs.FinMap as map
 use Rattle.plain_model.specs.declared.call.End.{End}
 use Rattle.plain_model.specs.declared.call.End.TheVariants.{Done, Waits, Halts, Refused, Failed, Trap}
-use Rattle.plain_model.specs.declared.call.ForkChange.{ForkChange}
-use Rattle.plain_model.specs.declared.call.MapChange.{MapChange}
 use Rattle.plain_units.specs.declared.channel.TheConstants.{ILLEGAL_INSTRUCTION}
 use Rattle.call_turns.specs.declared.answer.Answer.{Answer}
 use Rattle.call_turns.specs.declared.answer.Answer.TheVariants as answer
@@ -19,7 +17,7 @@ use Rattle.machine_names.specs.declared.names.Tty.{Tty}
 use Rattle.plain_units.specs.declared.registers.Regs.{Regs}
 use Rattle.plain_pages.specs.PlainPages.{NumberedPages}
 use Rattle.plain_model.specs.Calls.{Came, fork_behind, is_among, no_files, numbered, out_of, parts_behind, turn_on}
-use Rattle.plain_model.specs.Families.{Parts, Turned, asks_forks, asks_maps, behind, call_turned, forks_part, no_part, pages_part, print_calls, print_changed, through}
+use Rattle.plain_model.specs.Families.{Parts, Turned, behind, call_turned, print_calls, print_changed, asks, forks_changed, pages_changed}
 use Rattle.plain_model.specs.ForkCalls.{ForkParts, fork_call, fork_calls, fork_changed}
 use Rattle.plain_model.specs.MapCalls.{map_call, map_calls, map_changed}
 use Rattle.plain_model.specs.Forks.{fork_in}
@@ -114,32 +112,32 @@ module _ (v : Parts nat_cmp) (who : ForkName) where
     pub print_went : is_among print_calls number ≡ true → (a : Answer) → a ≡ answer_of (turn_on no_files v.pages (numbered print_calls number regs)).end → call_turned v who regs number ≡ answered_turn v who a
     print_went prints a is =
         on_true (is_among print_calls number) _ _ prints
-        ∙ came_behind (through no_part print_changed) (turn_on no_files v.pages (numbered print_calls number regs)) v a is
-        (sym (ap (λ (q : NumberedPages). parts_behind (through no_part print_changed) v (record v { pages = q }) (turn_on no_files v.pages (numbered print_calls number regs)).end) (print_makes_none v.pages number regs)
+        ∙ came_behind print_changed (turn_on no_files v.pages (numbered print_calls number regs)) v a is
+        (sym (ap (λ (q : NumberedPages). parts_behind print_changed v (record v { pages = q }) (turn_on no_files v.pages (numbered print_calls number regs)).end) (print_makes_none v.pages number regs)
         ∙ nothing_behind v (turn_on no_files v.pages (numbered print_calls number regs)).end))
 
     module _ (other : is_among print_calls number ≡ false) where
       pub forks_went : is_among fork_calls number ≡ true → (tree : PlainTree) (q : NumberedPages) (a : Answer)
-          → (let c = turn_on no_files v.pages (fork_call number (asks_forks v who regs)) in Went fork_changed (parts v.tree v.pages) (parts v.tree c.pages) (parts tree q) a c.end)
+          → (let c = turn_on no_files v.pages (fork_call number (asks v who regs)) in Went fork_changed (parts v.tree v.pages) (parts v.tree c.pages) (parts tree q) a c.end)
           → call_turned v who regs number ≡ answered_turn (record { tree = tree; pages = q }) who a
       forks_went forks tree q a w =
           on_false (is_among print_calls number) _ _ other
           ∙ on_true (is_among fork_calls number) _ _ forks
-          ∙ came_behind (through forks_part fork_changed) (turn_on no_files v.pages (fork_call number (asks_forks v who regs))) (record { tree = tree; pages = q }) a w.answered
+          ∙ came_behind forks_changed (turn_on no_files v.pages (fork_call number (asks v who regs))) (record { tree = tree; pages = q }) a w.answered
           (ap (λ (part : ForkParts nat_cmp). record { tree = part.tree; pages = part.pages }) w.left
-          ∙ sym (forks_behind v (turn_on no_files v.pages (fork_call number (asks_forks v who regs))).pages (turn_on no_files v.pages (fork_call number (asks_forks v who regs))).end))
+          ∙ sym (forks_behind v (turn_on no_files v.pages (fork_call number (asks v who regs))).pages (turn_on no_files v.pages (fork_call number (asks v who regs))).end))
 
       module _ (unforked : is_among fork_calls number ≡ false) where
         pub maps_went : is_among map_calls number ≡ true → (q : NumberedPages) (a : Answer)
-            → (let c = turn_on no_files v.pages (map_call number (asks_maps v who regs)) in Went map_changed v.pages c.pages q a c.end)
+            → (let c = turn_on no_files v.pages (map_call number (asks v who regs)) in Went map_changed v.pages c.pages q a c.end)
             → call_turned v who regs number ≡ answered_turn (record v { pages = q }) who a
         maps_went maps q a w =
             on_false (is_among print_calls number) _ _ other
             ∙ on_false (is_among fork_calls number) _ _ unforked
             ∙ on_true (is_among map_calls number) _ _ maps
-            ∙ came_behind (through pages_part map_changed) (turn_on no_files v.pages (map_call number (asks_maps v who regs))) (record v { pages = q }) a w.answered
+            ∙ came_behind pages_changed (turn_on no_files v.pages (map_call number (asks v who regs))) (record v { pages = q }) a w.answered
             (ap (λ (r : NumberedPages). record v { pages = r }) w.left
-            ∙ sym (pages_behind v (turn_on no_files v.pages (map_call number (asks_maps v who regs))).pages (turn_on no_files v.pages (map_call number (asks_maps v who regs))).end))
+            ∙ sym (pages_behind v (turn_on no_files v.pages (map_call number (asks v who regs))).pages (turn_on no_files v.pages (map_call number (asks v who regs))).end))
 
         -- a number that is no call
         pub none_went : is_among map_calls number ≡ false → call_turned v who regs number ≡ answered_turn v who (answer.Trap ILLEGAL_INSTRUCTION)

@@ -21,10 +21,11 @@ use Rattle.plain_model.specs.Interrupts.{posted}
 use Rattle.plain_pages.specs.References.{in_map}
 use Rattle.plain_units.specs.Deeds.{in_ac}
 use Rattle.plain_model.specs.AccessWords.{access_in}
-use Rattle.plain_model.specs.Calls.{Turn, sees, finds, ends, with_ac, no_files, Came, turn_on, given, numbered, returning, is_among, fork_behind, out_of, parts_behind}
-use Rattle.plain_model.specs.MapCalls.{Asked, is_counted, narrows, place_named, slot_named, source_of, tells_access, pages_left as left_to_do, one_page, behind_page, rpacs, spacs, rmap, pmap, map_call, map_calls, map_changed}
+use Rattle.plain_model.specs.Calls.{Turn, sees, finds, ends, with_ac, no_files, Came, turn_on, given, numbered, returning, is_among, fork_behind, out_of, parts_behind, Asked}
+use Rattle.plain_model.specs.MapCalls.{is_counted, narrows, place_named, slot_named, source_of, tells_access, pages_left as left_to_do, one_page, behind_page, rpacs, spacs, rmap, pmap, map_call, map_calls, map_changed}
 use Rattle.plain_model.specs.ForkCalls.{fork_calls, fork_changed}
-use Rattle.plain_model.specs.Families.{Parts, through, behind, came_of, printing, forking, mapping, forks_part, no_part, pages_part, prints, print_changed, print_calls}
+use Rattle.plain_model.specs.Families.{Parts, behind, came_of, printing, forking, mapping, prints, print_changed, print_calls, forks_changed, pages_changed}
+use Rattle.plain_model.specs.Trees.{tree_of}
 use Rattle.plain_model.specs.Unit.{Effect, parts_of, with_parts, turned, called}
 use Rattle.std.proofs.lemmas.Bool.{cond_both}
 
@@ -33,13 +34,13 @@ abbrev pub fork_came : PlainState → Fork → ℕ → Came name_cmp ForkChange
 fork_came s f number = came_of forking (parts_of s) f.name f.body.regs number
 
 abbrev pub fork_left : PlainState → Fork → ℕ → Parts name_cmp
-fork_left s f number = let c = fork_came s f number in parts_behind (through forks_part fork_changed) (parts_of s) (record (parts_of s) { pages = c.pages }) c.end
+fork_left s f number = let c = fork_came s f number in parts_behind forks_changed (parts_of s) (record (parts_of s) { pages = c.pages }) c.end
 
 abbrev pub fork_called : PlainState → Fork → ℕ → PlainState
 fork_called s f number = with_parts s (fork_left s f number)
 
 abbrev pub fork_turned : PlainState → Fork → ℕ → Effect
-fork_turned s f number = turned s f.name.tty (behind (through forks_part fork_changed) (parts_of s) f.name (fork_came s f number))
+fork_turned s f number = turned s f.name.tty (behind forks_changed (parts_of s) f.name (fork_came s f number))
 
 -- so of a call on maps
 abbrev pub map_came : PlainState → Fork → ℕ → Came name_cmp MapChange
@@ -49,14 +50,14 @@ abbrev pub map_pages : PlainState → Fork → ℕ → NamedPages
 map_pages s f number = parts_behind map_changed s.pages s.pages (map_came s f number).end
 
 abbrev pub map_turned : PlainState → Fork → ℕ → Effect
-map_turned s f number = turned s f.name.tty (behind (through pages_part map_changed) (parts_of s) f.name (map_came s f number))
+map_turned s f number = turned s f.name.tty (behind pages_changed (parts_of s) f.name (map_came s f number))
 
 -- and of a call that prints
 abbrev pub print_came : PlainState → Fork → ℕ → Came name_cmp (Unit {0})
 print_came s f number = came_of printing (parts_of s) f.name f.body.regs number
 
 abbrev pub print_turned : PlainState → Fork → ℕ → Effect
-print_turned s f number = turned s f.name.tty (behind (through no_part print_changed) (parts_of s) f.name (print_came s f number))
+print_turned s f number = turned s f.name.tty (behind print_changed (parts_of s) f.name (print_came s f number))
 
 -- a number that is no call
 abbrev pub none_turned : PlainState → Fork → Effect
@@ -83,7 +84,7 @@ module _ (Holds : Effect → Type 0) (s : PlainState) where
 
 module _ {K : Type 0} {file_cmp : K → K → Ordering} where
   -- a change of pages alone
-  pub pages_behind : (v : Parts file_cmp) (q : PlainPages file_cmp) (e : End MapChange) → parts_behind (through pages_part map_changed) v (record v { pages = q }) e ≡ record v { pages = parts_behind map_changed v.pages q e }
+  pub pages_behind : (v : Parts file_cmp) (q : PlainPages file_cmp) (e : End MapChange) → parts_behind pages_changed v (record v { pages = q }) e ≡ record v { pages = parts_behind map_changed v.pages q e }
   unfolding parts_behind
   pages_behind v q (Done change regs out post) = refl
   pages_behind v q (Waits on) = refl
@@ -94,7 +95,7 @@ module _ {K : Type 0} {file_cmp : K → K → Ordering} where
 
   -- a change of forks and pages
   pub forks_behind : (v : Parts file_cmp) (q : PlainPages file_cmp) (e : End ForkChange)
-      → parts_behind (through forks_part fork_changed) v (record v { pages = q }) e
+      → parts_behind forks_changed v (record v { pages = q }) e
       ≡ (let part = parts_behind fork_changed (record { tree = v.tree; pages = v.pages }) (record { tree = v.tree; pages = q }) e in record { tree = part.tree; pages = part.pages })
   unfolding parts_behind
   forks_behind v q (Done change regs out post) = refl
@@ -105,7 +106,7 @@ module _ {K : Type 0} {file_cmp : K → K → Ordering} where
   forks_behind v q (Trap channel) = refl
 
   -- no change
-  pub nothing_behind : (v : Parts file_cmp) (e : End (Unit {0})) → parts_behind (through no_part print_changed) v v e ≡ v
+  pub nothing_behind : (v : Parts file_cmp) (e : End (Unit {0})) → parts_behind print_changed v v e ≡ v
   unfolding parts_behind
   nothing_behind v (Done change regs out post) = refl
   nothing_behind v (Waits on) = refl
@@ -134,7 +135,7 @@ module _ {K : Type 0} {file_cmp : K → K → Ordering} where
 
     rmap_none : (a : Asked) → MakesNone (rmap a)
     unfolding turn_on
-    rmap_none a = given_none (slot_named a) (λ slot. sees slot (λ e. finds (in_map slot) (λ page. ends (tells_access (with_ac a.regs 1 (source_of a.forks slot e)) e page)))) (λ s. refl)
+    rmap_none a = given_none (slot_named a) (λ slot. sees slot (λ e. finds (in_map slot) (λ page. ends (tells_access (with_ac a.regs 1 (source_of a.tree.forks slot e)) e page)))) (λ s. refl)
 
     pmap_none : (a : Asked) → MakesNone (pmap a)
     unfolding turn_on
@@ -170,9 +171,9 @@ module _ (Holds : Effect → Type 0) (s : PlainState) (f : Fork) (number : ℕ) 
       Left : Parts name_cmp → Type 0
       Left left = Holds (turned s f.name.tty (record { parts = left; caller = option_map (λ g. fork_behind g (map_came s f number).end) (map.get left.tree.forks f.name); out = out_of (map_came s f number).end }))
 
-      same : parts_behind (through pages_part map_changed) (parts_of s) (record (parts_of s) { pages = (map_came s f number).pages }) (map_came s f number).end ≡ record (parts_of s) { pages = map_pages s f number }
+      same : parts_behind pages_changed (parts_of s) (record (parts_of s) { pages = (map_came s f number).pages }) (map_came s f number).end ≡ record (parts_of s) { pages = map_pages s f number }
       same = pages_behind (parts_of s) (map_came s f number).pages (map_came s f number).end
-          ∙ ap (λ (q : NamedPages). record (parts_of s) { pages = parts_behind map_changed s.pages q (map_came s f number).end }) (map_makes_none s.pages number (record { who = f.name; regs = f.body.regs; forks = s.forks }))
+          ∙ ap (λ (q : NamedPages). record (parts_of s) { pages = parts_behind map_changed s.pages q (map_came s f number).end }) (map_makes_none s.pages number (record { who = f.name; regs = f.body.regs; tree = tree_of s }))
 
   -- a call that prints leaves the fork that called
   pub print_by : ((g : Fork) → map.get s.forks f.name ≡ Some g → Holds (turned s f.name.tty (record { parts = parts_of s; caller = Some (fork_behind g (print_came s f number).end); out = out_of (print_came s f number).end })))
@@ -182,6 +183,6 @@ module _ (Holds : Effect → Type 0) (s : PlainState) (f : Fork) (number : ℕ) 
       Left : Parts name_cmp → Type 0
       Left left = Holds (turned s f.name.tty (record { parts = left; caller = option_map (λ g. fork_behind g (print_came s f number).end) (map.get left.tree.forks f.name); out = out_of (print_came s f number).end }))
 
-      same : parts_behind (through no_part print_changed) (parts_of s) (record (parts_of s) { pages = (print_came s f number).pages }) (print_came s f number).end ≡ parts_of s
-      same = ap (λ (q : NamedPages). parts_behind (through no_part print_changed) (parts_of s) (record (parts_of s) { pages = q }) (print_came s f number).end) (print_makes_none s.pages number f.body.regs)
+      same : parts_behind print_changed (parts_of s) (record (parts_of s) { pages = (print_came s f number).pages }) (print_came s f number).end ≡ parts_of s
+      same = ap (λ (q : NamedPages). parts_behind print_changed (parts_of s) (record (parts_of s) { pages = q }) (print_came s f number).end) (print_makes_none s.pages number f.body.regs)
           ∙ nothing_behind (parts_of s) (print_came s f number).end
