@@ -11,7 +11,7 @@ use Rattle.plain_model.specs.declared.fork.Fork.{Fork}
 use Rattle.plain_pages.specs.PlainPages.{NumberedPages}
 use Rattle.plain_model.specs.Forks.{ForkMap, superior_of}
 use Rattle.plain_model.specs.Interrupts.{pended, posted}
-use Rattle.plain_model.specs.Trees.{PlainTree, changed, waiters_woken, with_changed_of, with_posted, end_told}
+use Rattle.plain_model.specs.Trees.{PlainTree, changed, waiters_woken, with_changed_of, end_told}
 use Rattle.plain_model.specs.ForkCalls.{fork_changed, with_halted}
 use Rattle.plain_model.proofs.ForkMaps.{AreOwn, put_itself, superior_tells}
 use Rattle.fork_tree.specs.Trees.{Lives}
@@ -35,7 +35,7 @@ halted_mild f = record {
 }
 
 -- nobody is told of an end in a map whose forks take no channel
-pub none_posted : (forks : ForkMap) → AreOwn forks → ((f : Fork) → Lives forks f → f.body.psi.on ≡ false) → (f : Fork) → with_posted forks INFERIOR_ENDED (superior_of forks f) ≡ forks
+pub none_posted : (forks : ForkMap) → AreOwn forks → ((f : Fork) → Lives forks f → f.body.psi.on ≡ false) → (f : Fork) → changed forks (λ k. posted k INFERIOR_ENDED) (superior_of forks f) ≡ forks
 none_posted forks own off f = by (superior_of forks f) refl
   where
     by : (o : Option Fork) → superior_of forks f ≡ o → changed forks (λ k. posted k INFERIOR_ENDED) o ≡ forks

@@ -20,8 +20,8 @@ use Rattle.plain_pages.specs.NewMaps.{with_map}
 use Rattle.plain_pages.specs.Room.{HasRoom}
 use Rattle.page_contracts.specs.Pages.{IsNewMap, Scene, TakesMap}
 use Rattle.plain_model.specs.Trees.{PlainTree, next_name, with_made}
-use Rattle.plain_model.specs.Calls.{Turn, Came, no_files, turn_on, ends, with_added}
-use Rattle.plain_model.specs.ForkCalls.{ForkAsked, fork_changed, made_fork, making, map_wanted, starts, with_accumulators}
+use Rattle.plain_model.specs.Calls.{Turn, Came, no_files, turn_on, ends, with_added, Asked}
+use Rattle.plain_model.specs.ForkCalls.{fork_changed, made_fork, making, map_wanted, starts, with_accumulators}
 use Rattle.plain_model.proofs.ForkMaps.{cases_name, get_put, get_put_other}
 use Rattle.fork_tree.proofs.Slots.{some_of}
 use Rattle.ka10_unit.specs.declared.taken.Stop.{Stop}
@@ -34,7 +34,7 @@ use Rattle.fork_calls.specs.Turning.{parts}
 use Rattle.fork_calls.proofs.Places.{came_itself}
 use Rattle.fork_calls.proofs.TurnBlocks.{StopsSo}
 
-module _ (a : ForkAsked) (slot : ℕ) (p : NumberedPages) where
+module _ (a : Asked) (slot : ℕ) (p : NumberedPages) where
   abbrev mapped : NumberedPages
   mapped = with_map p (next_name a.tree a.who.tty) (map_wanted a)
 
@@ -68,7 +68,7 @@ unfolding fork_changed
 make_changes tree grown f p q is = ap (λ (t : PlainTree). parts t q) is
 
 -- the map that is wanted follows the caller, which lives
-pub wanted_new : (a : ForkAsked) (lives : ForkName → Bool) (name : ForkName) → lives a.who ≡ true → name.tty ≡ a.who.tty → IsNewMap lives name (map_wanted a)
+pub wanted_new : (a : Asked) (lives : ForkName → Bool) (name : ForkName) → lives a.who ≡ true → name.tty ≡ a.who.tty → IsNewMap lives name (map_wanted a)
 wanted_new a lives name there tty = by (bit (in_ac a.regs 1) 0 == 1)
   where
     by : (b : Bool) → IsNewMap lives name (cond b (FollowAll a.who) EmptyMap)
@@ -76,7 +76,7 @@ wanted_new a lives name there tty = by (bit (in_ac a.regs 1) 0 == 1)
     by false = tt
 
 -- the fork that is made is new, below the caller, and within its limits
-pub made_new : (a : ForkAsked) (slot : ℕ) (words : List ℕ) → IsSome (map.get a.tree.forks a.who) → length words ≡ 16 → IsNew a.tree (made_fork a slot words)
+pub made_new : (a : Asked) (slot : ℕ) (words : List ℕ) → IsSome (map.get a.tree.forks a.who) → length words ≡ 16 → IsNew a.tree (made_fork a slot words)
 unfolding psi_at_rest
 made_new a slot words lives long = record {
   name = refl;

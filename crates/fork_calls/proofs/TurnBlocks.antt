@@ -17,8 +17,8 @@ use Rattle.plain_units.specs.Deeds.{in_ac}
 use Rattle.plain_model.specs.Forks.{ForkMap}
 use Rattle.plain_units.specs.Steps.{Planned, put_into}
 use Rattle.call_turns.specs.declared.answer.Answer.{Answer}
-use Rattle.plain_model.specs.Calls.{Turn, no_files, turn_on, ends, stepped, with_block}
-use Rattle.plain_model.specs.ForkCalls.{ForkAsked, ForkParts, address_named, fork_changed}
+use Rattle.plain_model.specs.Calls.{Turn, no_files, turn_on, ends, stepped, with_block, Asked}
+use Rattle.plain_model.specs.ForkCalls.{ForkParts, address_named, fork_changed}
 use Rattle.plain_units.specs.Blocks.{stored_from}
 use Rattle.ka10_unit.specs.declared.taken.Taken.{Taken}
 use Rattle.ka10_unit.specs.declared.taken.Stop.{Stop}
@@ -26,7 +26,7 @@ use Rattle.ka10_unit.specs.declared.taken.Stop.TheVariants.{Trap, Need}
 use Rattle.ka10_unit.specs.Blocks.{TakesBlock}
 use Rattle.ka10_unit.specs.Gathers.{Framed}
 use Rattle.ka10_unit.specs.Taking.{pages_so_far}
-use Rattle.call_turns.specs.Answers.{IsTurn, Went, answer_of}
+use Rattle.call_turns.specs.Answers.{answer_of}
 use Rattle.fork_calls.specs.Needing.{TurnNeeds}
 use Rattle.fork_calls.specs.Turning.{parts, stopped_by, ComesOut}
 use Rattle.fork_calls.proofs.Going.{goes, stops, WentTo}
@@ -59,7 +59,7 @@ module _ (f : ForkName) (p : Framed) (regs : Regs) (at : ℕ) (kind : Kind) (t :
   took_stops (Need n) q took = took.is
 
 -- the accumulators of a new fork, where they are read
-module _ (a : ForkAsked) (p : Framed) (q : NumberedPages) where
+module _ (a : Asked) (p : Framed) (q : NumberedPages) where
   -- the turn that reads them, where they are
   abbrev read_if : (List ℕ → Turn ⊥ ForkChange) → Bool → Turn ⊥ ForkChange
   read_if next b = cond b (with_block a.who a.regs (address_named a.regs) Read next) (next (replicate 16 0))
@@ -72,7 +72,7 @@ module _ (a : ForkAsked) (p : Framed) (q : NumberedPages) where
   read_accumulators (Err (Need n)) reads took = λ next. subst (λ b. TurnNeeds p a.tree.forks (read_if next b) n) (sym reads) took
 
 -- and where they are 0
-pub zero_accumulators : (a : ForkAsked) (p : NumberedPages) → (bit (in_ac a.regs 1) 3 == 1) ≡ false → GoesOnWith a p p (replicate 16 0)
+pub zero_accumulators : (a : Asked) (p : NumberedPages) → (bit (in_ac a.regs 1) 3 == 1) ≡ false → GoesOnWith a p p (replicate 16 0)
 zero_accumulators a p none = record {
   comes = λ next. ap (λ b. turn_on no_files p (cond b (with_block a.who a.regs (address_named a.regs) Read next) (next (replicate 16 0)))) none;
 }

@@ -6,8 +6,8 @@ use Rattle.machine_names.specs.declared.names.ForkName.{ForkName}
 use Rattle.machine_names.specs.declared.names.Kind.{Kind}
 use Rattle.plain_units.specs.declared.registers.Regs.{Regs}
 use Rattle.plain_pages.specs.PlainPages.{NumberedPages}
-use Rattle.plain_model.specs.Calls.{Turn, no_files, turn_on, with_block}
-use Rattle.plain_model.specs.ForkCalls.{ForkAsked, with_accumulators}
+use Rattle.plain_model.specs.Calls.{Turn, no_files, turn_on, with_block, Asked}
+use Rattle.plain_model.specs.ForkCalls.{with_accumulators}
 use Rattle.plain_units.specs.Steps.{stopped, need}
 use Rattle.ka10_unit.specs.declared.taken.Stop.{Stop}
 use Rattle.ka10_unit.specs.declared.taken.Stop.TheVariants.{Trap, Need}
@@ -26,10 +26,10 @@ TookBlock who regs at kind p q (Err (Trap channel)) = (next : List ℕ → Turn 
 TookBlock who regs at kind p q (Err (Need n)) = block_over who p regs at kind ≡ stopped (need n)
 
 -- the same of the accumulators of a new fork
-pub record GoesOnWith (a : ForkAsked) (p q : NumberedPages) (words : List ℕ) : Type 0 where
+pub record GoesOnWith (a : Asked) (p q : NumberedPages) (words : List ℕ) : Type 0 where
   pub comes : (next : List ℕ → Turn ⊥ ForkChange) → turn_on no_files p (with_accumulators a next) ≡ turn_on no_files q (next words)
 
-abbrev pub TookAccumulators : ForkAsked → Framed → NumberedPages → Result (List ℕ) Stop → Type 0
+abbrev pub TookAccumulators : Asked → Framed → NumberedPages → Result (List ℕ) Stop → Type 0
 TookAccumulators a p q (Ok words) = GoesOnWith a p.pages q words
 TookAccumulators a p q (Err (Trap channel)) = (next : List ℕ → Turn ⊥ ForkChange) → (turn_on no_files p.pages (with_accumulators a next)).end ≡ TrapEnd channel
 TookAccumulators a p q (Err (Need n)) = (next : List ℕ → Turn ⊥ ForkChange) → TurnNeeds p a.tree.forks (with_accumulators a next) n

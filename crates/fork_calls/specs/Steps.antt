@@ -15,8 +15,8 @@ use Rattle.plain_units.specs.Deeds.{skip_pc}
 use Rattle.script_texts.specs.declared.status.ForkStatus.TheVariants.{Halted}
 use Rattle.plain_model.specs.Forks.{ForkMap, with_status}
 use Rattle.plain_model.specs.Trees.{next_name}
-use Rattle.plain_model.specs.Calls.{Turn, adds, ends, returning, with_ac, with_block}
-use Rattle.plain_model.specs.ForkCalls.{ForkAsked, address_named, made_body, map_wanted, making, stored_low, with_accumulators, with_accumulators_of}
+use Rattle.plain_model.specs.Calls.{Turn, adds, ends, returning, with_ac, with_block, Asked}
+use Rattle.plain_model.specs.ForkCalls.{address_named, made_body, map_wanted, making, stored_low, with_accumulators, with_accumulators_of}
 use Rattle.fork_tree.specs.Making.{slot_for}
 use Rattle.fork_tree.specs.Trees.{Lives}
 use Rattle.call_turns.specs.Turns.{FitsEnd}
@@ -26,17 +26,17 @@ use Rattle.fork_calls.specs.Asking.{IsBelow}
 use Rattle.fork_calls.specs.Limits.{IsBody}
 
 -- how SFACS ends, told the words
-abbrev pub set_end : ForkAsked → Fork → List ℕ → End ForkChange
+abbrev pub set_end : Asked → Fork → List ℕ → End ForkChange
 set_end a f words = returning (Become f.name (with_accumulators_of f.body words)) a.regs
 
 -- how RFACS ends
-abbrev pub store_end : ForkAsked → Fork → End ForkChange
+abbrev pub store_end : Asked → Fork → End ForkChange
 store_end a f =
     let at = address_named a.regs in let words = f.body.regs.ac in
     returning (Store a.who at words) (record a.regs { ac = stored_low a.regs.ac at words })
 
 -- how CFORK goes on, told whether there is room
-abbrev pub made_where : ForkAsked → ℕ → Turn ⊥ ForkChange
+abbrev pub made_where : Asked → ℕ → Turn ⊥ ForkChange
 made_where a slot = adds (next_name a.tree a.who.tty) (map_wanted a) (λ room.
     if room then with_accumulators a (λ words. ends (making a slot words)) else ends (Failed NO_ROOM))
 
@@ -45,7 +45,7 @@ abbrev pub second_regs : Regs → ℕ → Regs
 second_regs regs slot = let told = with_ac regs 1 (FORK_SELF + slot) in record told { pc = skip_pc told }
 
 -- the whole turn of a first step
-abbrev pub whole : ForkAsked → Step → Turn ⊥ ForkChange
+abbrev pub whole : Asked → Step → Turn ⊥ ForkChange
 whole a (Ends e) = ends e
 whole a (Makes slot) = made_where a slot
 whole a (Sets f) = with_block a.who a.regs (address_named a.regs) Read (λ words. ends (set_end a f words))
@@ -77,7 +77,7 @@ IsChangeBelow forks who (Halt f) = IsBelow forks who f
 IsChangeBelow forks who (Store f at words) = ⊥
 
 -- what holds of a first step: a fork is made in the free slot, while a serial is left for it; and words are those of an inferior
-abbrev pub FitsStep : ForkAsked → Step → Type 0
+abbrev pub FitsStep : Asked → Step → Type 0
 FitsStep a (Ends e) = FitsEnd (IsChangeBelow a.tree.forks a.who) e
 FitsStep a (Makes slot) = slot_for a.tree a.who.tty ≡ Ok slot
 FitsStep a (Sets f) = Lives a.tree.forks f

@@ -1,7 +1,8 @@
-// The first step of each fork call, by its definition.
-ghost use Rattle.std.specs.Prelude.{◌≡◌, ◌<◌, ◌^◌};
+// The first step of each fork call, by its definition; or the code of the error with which the call is refused.
+ghost use Rattle.std.specs.Prelude.{◌≡◌, ◌<◌, ◌^◌, IfOk, true, false};
 ghost use Rattle.plain_units.specs.declared.registers.Regs.{Regs as ARegs};
-ghost use Rattle.plain_model.specs.ForkCalls.{cfork as cfork_of, ffork as ffork_of, hfork as hfork_of, kfork as kfork_of, rfacs as rfacs_of, rfork as rfork_of, rfsts as rfsts_of, sfacs as sfacs_of, sfork as sfork_of, started_at as started_at_of, wfork as wfork_of, has_ended as has_ended_of};
+ghost use Rattle.plain_model.specs.Calls.{given};
+ghost use Rattle.plain_model.specs.ForkCalls.{cfork as cfork_of, of_inferior, rfacs as rfacs_of, rfsts as rfsts_of, sfacs as sfacs_of, sfork as sfork_of, started_at as started_at_of, wfork as wfork_of, has_ended as has_ended_of};
 ghost use Rattle.machine_names.specs.Bounds.{IsTerminal};
 ghost use Rattle.call_turns.specs.Turns.{IsRegs};
 ghost use Rattle.fork_calls.specs.Asking.{asked};
@@ -34,56 +35,46 @@ pub fn cfork(who: ForkName, tree: &Tree) -> Step
 }
 
 /// KFORK: kills an inferior, and all below it. NO_HANDLE, NO_INFERIOR.
-pub fn kfork(regs: &Regs, who: ForkName, tree: &Tree) -> Step
+pub fn kfork(regs: &Regs, who: ForkName, tree: &Tree) -> Result<Step, u32>
     requires { IsRegs regs.now }
-    ensures turn { whole (asked who regs.now tree.now) result ≡ kfork_of (asked who regs.now tree.now) }
-    ensures fits { FitsStep (asked who regs.now tree.now) result }
+    ensures turn { given result (whole (asked who regs.now tree.now)) ≡ of_inferior (λ f. ForkChange.Kill f.name) (asked who regs.now tree.now) }
+    ensures fits { IfOk result (FitsStep (asked who regs.now tree.now)) }
 {
-    match inferior_named(regs, who, tree) {
-        Ok(fork) => Step::Ends(returning(ForkChange::Kill(fork.name), *regs)),
-        Err(code) => Step::Ends(End::Refused(code)),
-    }
+    let fork = inferior_named(regs, who, tree)?;
+    Ok(Step::Ends(returning(ForkChange::Kill(fork.name), *regs)))
 }
 
 /// FFORK: freezes an inferior. NO_HANDLE, NO_INFERIOR.
-pub fn ffork(regs: &Regs, who: ForkName, tree: &Tree) -> Step
+pub fn ffork(regs: &Regs, who: ForkName, tree: &Tree) -> Result<Step, u32>
     requires { IsRegs regs.now }
-    ensures turn { whole (asked who regs.now tree.now) result ≡ ffork_of (asked who regs.now tree.now) }
-    ensures fits { FitsStep (asked who regs.now tree.now) result }
+    ensures turn { given result (whole (asked who regs.now tree.now)) ≡ of_inferior (λ f. ForkChange.Freeze f.name true) (asked who regs.now tree.now) }
+    ensures fits { IfOk result (FitsStep (asked who regs.now tree.now)) }
 {
-    match inferior_named(regs, who, tree) {
-        Ok(fork) => Step::Ends(returning(ForkChange::Freeze(fork.name, true), *regs)),
-        Err(code) => Step::Ends(End::Refused(code)),
-    }
+    let fork = inferior_named(regs, who, tree)?;
+    Ok(Step::Ends(returning(ForkChange::Freeze(fork.name, true), *regs)))
 }
 
 /// RFORK: resumes an inferior. NO_HANDLE, NO_INFERIOR.
-pub fn rfork(regs: &Regs, who: ForkName, tree: &Tree) -> Step
+pub fn rfork(regs: &Regs, who: ForkName, tree: &Tree) -> Result<Step, u32>
     requires { IsRegs regs.now }
-    ensures turn { whole (asked who regs.now tree.now) result ≡ rfork_of (asked who regs.now tree.now) }
-    ensures fits { FitsStep (asked who regs.now tree.now) result }
+    ensures turn { given result (whole (asked who regs.now tree.now)) ≡ of_inferior (λ f. ForkChange.Freeze f.name false) (asked who regs.now tree.now) }
+    ensures fits { IfOk result (FitsStep (asked who regs.now tree.now)) }
 {
-    match inferior_named(regs, who, tree) {
-        Ok(fork) => Step::Ends(returning(ForkChange::Freeze(fork.name, false), *regs)),
-        Err(code) => Step::Ends(End::Refused(code)),
-    }
+    let fork = inferior_named(regs, who, tree)?;
+    Ok(Step::Ends(returning(ForkChange::Freeze(fork.name, false), *regs)))
 }
 
 /// RFSTS: tells how the caller or an inferior stands in accumulators 1 and 2. NO_HANDLE, NO_INFERIOR.
-pub fn rfsts(regs: &Regs, who: ForkName, tree: &Tree) -> Step
+pub fn rfsts(regs: &Regs, who: ForkName, tree: &Tree) -> Result<Step, u32>
     requires regs { IsRegs regs.now }
     requires within { AreWithin tree.now.forks }
-    ensures turn { whole (asked who regs.now tree.now) result ≡ rfsts_of (asked who regs.now tree.now) }
-    ensures fits { FitsStep (asked who regs.now tree.now) result }
+    ensures turn { given result (whole (asked who regs.now tree.now)) ≡ rfsts_of (asked who regs.now tree.now) }
+    ensures fits { IfOk result (FitsStep (asked who regs.now tree.now)) }
 {
-    match own_named(regs, who, tree) {
-        Ok(fork) => {
-            let told = with_ac(*regs, 1, status_word(&fork));
-            let told = with_ac(told, 2, place_word(regs, who, tree, &fork));
-            Step::Ends(returning(ForkChange::Nothing, told))
-        }
-        Err(code) => Step::Ends(End::Refused(code)),
-    }
+    let fork = own_named(regs, who, tree)?;
+    let told = with_ac(*regs, 1, status_word(&fork));
+    let told = with_ac(told, 2, place_word(regs, who, tree, &fork));
+    Ok(Step::Ends(returning(ForkChange::Nothing, told)))
 }
 
 // A fork that is started at an address: it has no flags, and no pending channel, level or sleep.
@@ -102,54 +93,44 @@ fn started_at(address: u32, mut body: Body) -> Body
 }
 
 /// SFORK: starts an inferior at the address in accumulator 2. NO_HANDLE, NO_INFERIOR.
-pub fn sfork(regs: &Regs, who: ForkName, tree: &Tree) -> Step
+pub fn sfork(regs: &Regs, who: ForkName, tree: &Tree) -> Result<Step, u32>
     requires { IsRegs regs.now }
-    ensures turn { whole (asked who regs.now tree.now) result ≡ sfork_of (asked who regs.now tree.now) }
-    ensures fits { FitsStep (asked who regs.now tree.now) result }
+    ensures turn { given result (whole (asked who regs.now tree.now)) ≡ sfork_of (asked who regs.now tree.now) }
+    ensures fits { IfOk result (FitsStep (asked who regs.now tree.now)) }
 {
-    match inferior_named(regs, who, tree) {
-        Ok(fork) => {
-            let body = started_at(address_named(regs), fork.body);
-            Step::Ends(returning(ForkChange::Become(fork.name, body), *regs))
-        }
-        Err(code) => Step::Ends(End::Refused(code)),
-    }
+    let fork = inferior_named(regs, who, tree)?;
+    let body = started_at(address_named(regs), fork.body);
+    Ok(Step::Ends(returning(ForkChange::Become(fork.name, body), *regs)))
 }
 
 /// SFACS: sets the accumulators of an inferior. NO_HANDLE, NO_INFERIOR.
-pub fn sfacs(regs: &Regs, who: ForkName, tree: &Tree) -> Step
+pub fn sfacs(regs: &Regs, who: ForkName, tree: &Tree) -> Result<Step, u32>
     requires { IsRegs regs.now }
-    ensures turn { whole (asked who regs.now tree.now) result ≡ sfacs_of (asked who regs.now tree.now) }
-    ensures fits { FitsStep (asked who regs.now tree.now) result }
+    ensures turn { given result (whole (asked who regs.now tree.now)) ≡ sfacs_of (asked who regs.now tree.now) }
+    ensures fits { IfOk result (FitsStep (asked who regs.now tree.now)) }
 {
-    match inferior_named(regs, who, tree) {
-        Ok(fork) => Step::Sets(fork),
-        Err(code) => Step::Ends(End::Refused(code)),
-    }
+    let fork = inferior_named(regs, who, tree)?;
+    Ok(Step::Sets(fork))
 }
 
 /// RFACS: stores the accumulators of an inferior. NO_HANDLE, NO_INFERIOR.
-pub fn rfacs(regs: &Regs, who: ForkName, tree: &Tree) -> Step
+pub fn rfacs(regs: &Regs, who: ForkName, tree: &Tree) -> Result<Step, u32>
     requires { IsRegs regs.now }
-    ensures turn { whole (asked who regs.now tree.now) result ≡ rfacs_of (asked who regs.now tree.now) }
-    ensures fits { FitsStep (asked who regs.now tree.now) result }
+    ensures turn { given result (whole (asked who regs.now tree.now)) ≡ rfacs_of (asked who regs.now tree.now) }
+    ensures fits { IfOk result (FitsStep (asked who regs.now tree.now)) }
 {
-    match inferior_named(regs, who, tree) {
-        Ok(fork) => Step::Stores(fork),
-        Err(code) => Step::Ends(End::Refused(code)),
-    }
+    let fork = inferior_named(regs, who, tree)?;
+    Ok(Step::Stores(fork))
 }
 
 /// HFORK: halts an inferior. NO_HANDLE, NO_INFERIOR.
-pub fn hfork(regs: &Regs, who: ForkName, tree: &Tree) -> Step
+pub fn hfork(regs: &Regs, who: ForkName, tree: &Tree) -> Result<Step, u32>
     requires { IsRegs regs.now }
-    ensures turn { whole (asked who regs.now tree.now) result ≡ hfork_of (asked who regs.now tree.now) }
-    ensures fits { FitsStep (asked who regs.now tree.now) result }
+    ensures turn { given result (whole (asked who regs.now tree.now)) ≡ of_inferior (λ f. ForkChange.Halt f.name) (asked who regs.now tree.now) }
+    ensures fits { IfOk result (FitsStep (asked who regs.now tree.now)) }
 {
-    match inferior_named(regs, who, tree) {
-        Ok(fork) => Step::Ends(returning(ForkChange::Halt(fork.name), *regs)),
-        Err(code) => Step::Ends(End::Refused(code)),
-    }
+    let fork = inferior_named(regs, who, tree)?;
+    Ok(Step::Ends(returning(ForkChange::Halt(fork.name), *regs)))
 }
 
 // Whether a fork has ended: it is halted, or was forced.
@@ -165,19 +146,15 @@ fn has_ended(status: ForkStatus) -> bool
 }
 
 /// WFORK: waits until an inferior is halted or forced. NO_HANDLE, NO_INFERIOR.
-pub fn wfork(regs: &Regs, who: ForkName, tree: &Tree) -> Step
+pub fn wfork(regs: &Regs, who: ForkName, tree: &Tree) -> Result<Step, u32>
     requires { IsRegs regs.now }
-    ensures turn { whole (asked who regs.now tree.now) result ≡ wfork_of (asked who regs.now tree.now) }
-    ensures fits { FitsStep (asked who regs.now tree.now) result }
+    ensures turn { given result (whole (asked who regs.now tree.now)) ≡ wfork_of (asked who regs.now tree.now) }
+    ensures fits { IfOk result (FitsStep (asked who regs.now tree.now)) }
 {
-    match inferior_named(regs, who, tree) {
-        Ok(fork) => {
-            if has_ended(fork.body.status) {
-                Step::Ends(returning(ForkChange::Nothing, *regs))
-            } else {
-                Step::Ends(End::Waits(WaitOn::Fork))
-            }
-        }
-        Err(code) => Step::Ends(End::Refused(code)),
+    let fork = inferior_named(regs, who, tree)?;
+    if has_ended(fork.body.status) {
+        Ok(Step::Ends(returning(ForkChange::Nothing, *regs)))
+    } else {
+        Ok(Step::Ends(End::Waits(WaitOn::Fork)))
     }
 }

@@ -1,6 +1,6 @@
 // The fork calls by their numbers.
-ghost use Rattle.std.specs.Prelude.{◌≡◌};
-ghost use Rattle.plain_model.specs.Calls.{is_among};
+ghost use Rattle.std.specs.Prelude.{◌≡◌, IfOk};
+ghost use Rattle.plain_model.specs.Calls.{Asked, given as given_of, is_among};
 ghost use Rattle.plain_model.specs.ForkCalls.{fork_call, fork_calls};
 ghost use Rattle.machine_names.specs.Bounds.{IsTerminal};
 ghost use Rattle.call_turns.specs.Turns.{IsRegs};
@@ -18,6 +18,17 @@ use plain_model::call::{
 use plain_units::Regs;
 use plain_units::channel::ILLEGAL_INSTRUCTION;
 
+// A first step, or the end of a call that is refused with the code of an error.
+fn given(step: Result<Step, u32>) -> Step
+    ensures turn { (a : Asked) → whole a result ≡ given_of step (whole a) }
+    ensures fits { (a : Asked) → IfOk step (FitsStep a) → FitsStep a result }
+{
+    match step {
+        Ok(step) => step,
+        Err(code) => Step::Ends(End::Refused(code)),
+    }
+}
+
 /// The first step of a call by its number. A number that is none of them traps as an illegal instruction.
 pub fn first(number: u32, regs: &Regs, who: ForkName, tree: &Tree) -> Step
     requires regs { IsRegs regs.now }
@@ -28,15 +39,15 @@ pub fn first(number: u32, regs: &Regs, who: ForkName, tree: &Tree) -> Step
 {
     match number {
         CFORK => cfork(who, tree),
-        KFORK => kfork(regs, who, tree),
-        FFORK => ffork(regs, who, tree),
-        RFORK => rfork(regs, who, tree),
-        RFSTS => rfsts(regs, who, tree),
-        SFORK => sfork(regs, who, tree),
-        SFACS => sfacs(regs, who, tree),
-        RFACS => rfacs(regs, who, tree),
-        HFORK => hfork(regs, who, tree),
-        WFORK => wfork(regs, who, tree),
+        KFORK => given(kfork(regs, who, tree)),
+        FFORK => given(ffork(regs, who, tree)),
+        RFORK => given(rfork(regs, who, tree)),
+        RFSTS => given(rfsts(regs, who, tree)),
+        SFORK => given(sfork(regs, who, tree)),
+        SFACS => given(sfacs(regs, who, tree)),
+        RFACS => given(rfacs(regs, who, tree)),
+        HFORK => given(hfork(regs, who, tree)),
+        WFORK => given(wfork(regs, who, tree)),
         HALTF => Step::Ends(End::Halts),
         _ => Step::Ends(End::Trap(ILLEGAL_INSTRUCTION)),
     }

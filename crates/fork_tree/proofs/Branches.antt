@@ -4,15 +4,15 @@ use Rattle.std.specs.Prelude.{MatchBool, not}
 use Rattle.std.specs.Option.{option_and_then}
 use Rattle.std.specs.FinMap as map
 use Rattle.std.proofs.lemmas.Bool.{cases_Bool}
-use Rattle.plain_model.specs.Forks.{ForkMap, fork_in, superior_of}
+use Rattle.plain_model.specs.Forks.{ForkMap, fork_in, superior_of, any_upward}
 use Rattle.machine_names.specs.Orders.{same_fork}
 use Rattle.machine_names.proofs.OrderLemmas.{fork_cmp_apart}
 use Rattle.machine_names.specs.declared.names.ForkName.{ForkName}
 use Rattle.machine_names.specs.declared.names.TheConstants.{MOST_FORKS}
 use Rattle.plain_model.specs.declared.fork.Fork.{Fork}
-use Rattle.plain_model.specs.Inferiors.{is_inferior, without_branch, any_upward}
+use Rattle.plain_model.specs.Inferiors.{is_inferior}
 use Rattle.plain_model.specs.Trees.{PlainTree}
-use Rattle.fork_tree.specs.Inferiors.{HasNoInferior}
+use Rattle.fork_tree.specs.Inferiors.{HasNoInferior, without_branch}
 use Rattle.fork_tree.specs.Trees.{IsTree, Lives}
 use Rattle.fork_tree.proofs.Kept.{IsNobodysSuperior, killed_tree}
 use Rattle.fork_tree.proofs.Leaves.{inferior_is, inferior_none}

@@ -9,10 +9,10 @@ use Rattle.plain_model.specs.Forks.{ForkMap, fork_in}
 use Rattle.machine_names.specs.declared.names.ForkName.{ForkName}
 use Rattle.machine_names.specs.declared.names.TheConstants.{MOST_FORKS}
 use Rattle.plain_model.specs.declared.fork.Fork.{Fork}
-use Rattle.plain_model.specs.Inferiors.{is_under, has_inferior, is_inferior, leaf_below, last_up_to, last_below, without_branch}
+use Rattle.plain_model.specs.Inferiors.{is_under, has_inferior, is_inferior, leaf_below, last_up_to, last_below}
 use Rattle.plain_model.specs.Trees.{PlainTree}
 use Rattle.plain_model.specs.ForkCalls.{ForkParts, without, without_below, killed}
-use Rattle.fork_tree.specs.Inferiors.{HasNoInferior, IsLastBelow, IsLeafBelow}
+use Rattle.fork_tree.specs.Inferiors.{HasNoInferior, IsLastBelow, IsLeafBelow, without_branch}
 use Rattle.fork_tree.specs.Trees.{IsIn, IsTree, Lives}
 use Rattle.fork_tree.proofs.Branches.{branch_without_leaf, inferior_stays, last_of_branch}
 use Rattle.fork_tree.proofs.Kept.{IsNobodysSuperior, killed_tree}

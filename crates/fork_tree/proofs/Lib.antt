@@ -4,6 +4,7 @@ pub mod Tables
 pub mod TableChanges
 pub mod Kept
 pub mod Upward
+pub mod CanRun
 pub mod Leaves
 pub mod Rounds
 pub mod Listed

@@ -8,8 +8,10 @@ use Rattle.machine_names.specs.declared.names.TheConstants.{TERMINALS, MOST_FORK
 use Rattle.plain_model.specs.declared.fork.Fork.{Fork}
 use Rattle.machine_names.specs.Bounds.{IsTerminal}
 use Rattle.plain_model.specs.Trees.{PlainTree}
-use Rattle.fork_tree.specs.Trees.{CanRun, IsTree, Lives}
+use Rattle.fork_tree.specs.Trees.{IsTree, Lives}
+use Rattle.plain_model.specs.Forks.{IsRunnable}
 use Rattle.fork_tree.specs.Turns.{IsFirstIn, IsNext, NoneRunsAmong, NoneRunsIn, place_at, steps_to}
+use Rattle.fork_tree.proofs.CanRun.{runs_as}
 use Rattle.fork_tree.proofs.Slots.{held_lives}
 
 -- to a place behind one, and to one before it or to it
@@ -66,7 +68,7 @@ module _ (tree : PlainTree) (is : IsTree tree) (t : Tty) (slot : ℕ) (terminal 
   abbrev Before : Type 0
   Before = NoneRunsAmong tree.forks 0 t.0
 
-  none_behind : Behind → After → (g : Fork) → Lives tree.forks g → CanRun tree.forks g.name → from < place_at g.name.tty g.slot → ⊥
+  none_behind : Behind → After → (g : Fork) → Lives tree.forks g → IsRunnable tree.forks g.name → from < place_at g.name.tty g.slot → ⊥
   none_behind behind after g lives runs more = by (order g.name.tty.0 t.0)
     where
       by : (g.name.tty.0 < t.0) ⊎ ((g.name.tty.0 ≡ t.0) ⊎ (t.0 < g.name.tty.0)) → ⊥
@@ -74,7 +76,7 @@ module _ (tree : PlainTree) (is : IsTree tree) (t : Tty) (slot : ℕ) (terminal 
       by (inr (inl same)) = behind g lives runs same (omega (arith, same, more, first, is.slotted.first g lives)) (omega (arith, is.slotted.last g lives))
       by (inr (inr later)) = after g lives runs (omega (arith, later)) (is.slotted.named g lives).0
 
-  pub next_behind : (f : Fork) → Lives tree.forks f → CanRun tree.forks f.name → f.name.tty.0 ≡ t.0 → slot + 1 ≤ f.slot → NoneRunsIn tree.forks t (slot + 1) f.slot → IsNext tree.forks from f
+  pub next_behind : (f : Fork) → Lives tree.forks f → IsRunnable tree.forks f.name → f.name.tty.0 ≡ t.0 → slot + 1 ≤ f.slot → NoneRunsIn tree.forks t (slot + 1) f.slot → IsNext tree.forks from f
   next_behind f lives runs job low none = record {
     lives = lives;
     runs = runs;
@@ -83,14 +85,14 @@ module _ (tree : PlainTree) (is : IsTree tree) (t : Tty) (slot : ℕ) (terminal 
         (λ more less. between g there can more less (order g.name.tty.0 t.0));
   }
     where
-      between : (g : Fork) → Lives tree.forks g → CanRun tree.forks g.name → from < place_at g.name.tty g.slot → place_at g.name.tty g.slot < place_at f.name.tty f.slot
+      between : (g : Fork) → Lives tree.forks g → IsRunnable tree.forks g.name → from < place_at g.name.tty g.slot → place_at g.name.tty g.slot < place_at f.name.tty f.slot
           → (g.name.tty.0 < t.0) ⊎ ((g.name.tty.0 ≡ t.0) ⊎ (t.0 < g.name.tty.0)) → ⊥
       between g there can more less (inl before) = absurd (omega (arith, before, more, first, last, is.slotted.last g there))
       between g there can more less (inr (inl same)) =
           none g there can same (omega (arith, same, more, first, is.slotted.first g there)) (omega (arith, same, less, job, is.slotted.first g there))
       between g there can more less (inr (inr after)) = absurd (omega (arith, after, less, job, is.slotted.last f lives, is.slotted.first g there))
 
-  pub next_after : (f : Fork) → Lives tree.forks f → CanRun tree.forks f.name → t.0 + 1 ≤ f.name.tty.0 → Behind → NoneRunsAmong tree.forks (t.0 + 1) f.name.tty.0 → NoneRunsIn tree.forks f.name.tty 1 f.slot
+  pub next_after : (f : Fork) → Lives tree.forks f → IsRunnable tree.forks f.name → t.0 + 1 ≤ f.name.tty.0 → Behind → NoneRunsAmong tree.forks (t.0 + 1) f.name.tty.0 → NoneRunsIn tree.forks f.name.tty 1 f.slot
       → IsNext tree.forks from f
   next_after f lives runs later behind jobs slots = record {
     lives = lives;
@@ -100,7 +102,7 @@ module _ (tree : PlainTree) (is : IsTree tree) (t : Tty) (slot : ℕ) (terminal 
         (λ more less. between g there can more less (order g.name.tty.0 t.0) (order g.name.tty.0 f.name.tty.0));
   }
     where
-      between : (g : Fork) → Lives tree.forks g → CanRun tree.forks g.name → from < place_at g.name.tty g.slot → place_at g.name.tty g.slot < place_at f.name.tty f.slot
+      between : (g : Fork) → Lives tree.forks g → IsRunnable tree.forks g.name → from < place_at g.name.tty g.slot → place_at g.name.tty g.slot < place_at f.name.tty f.slot
           → (g.name.tty.0 < t.0) ⊎ ((g.name.tty.0 ≡ t.0) ⊎ (t.0 < g.name.tty.0)) → (g.name.tty.0 < f.name.tty.0) ⊎ ((g.name.tty.0 ≡ f.name.tty.0) ⊎ (f.name.tty.0 < g.name.tty.0)) → ⊥
       between g there can more less (inl before) other = absurd (omega (arith, before, more, first, last, is.slotted.last g there))
       between g there can more less (inr (inl same)) other = behind g there can same (omega (arith, same, more, first, is.slotted.first g there)) (omega (arith, is.slotted.last g there))
@@ -108,7 +110,7 @@ module _ (tree : PlainTree) (is : IsTree tree) (t : Tty) (slot : ℕ) (terminal 
       between g there can more less (inr (inr after)) (inr (inl same)) = slots g there can same (is.slotted.first g there) (omega (arith, same, less, is.slotted.first g there))
       between g there can more less (inr (inr after)) (inr (inr far)) = absurd (omega (arith, far, less, is.slotted.last f lives, is.slotted.first g there))
 
-  pub next_before : (f : Fork) → Lives tree.forks f → CanRun tree.forks f.name → f.name.tty.0 < t.0 → Behind → After → NoneRunsAmong tree.forks 0 f.name.tty.0 → NoneRunsIn tree.forks f.name.tty 1 f.slot
+  pub next_before : (f : Fork) → Lives tree.forks f → IsRunnable tree.forks f.name → f.name.tty.0 < t.0 → Behind → After → NoneRunsAmong tree.forks 0 f.name.tty.0 → NoneRunsIn tree.forks f.name.tty 1 f.slot
       → IsNext tree.forks from f
   next_before f lives runs earlier behind after jobs slots = record {
     lives = lives;
@@ -118,13 +120,13 @@ module _ (tree : PlainTree) (is : IsTree tree) (t : Tty) (slot : ℕ) (terminal 
         (none_behind behind after g there can) (λ less. ahead g there can less (order g.name.tty.0 f.name.tty.0));
   }
     where
-      ahead : (g : Fork) → Lives tree.forks g → CanRun tree.forks g.name → place_at g.name.tty g.slot < place_at f.name.tty f.slot
+      ahead : (g : Fork) → Lives tree.forks g → IsRunnable tree.forks g.name → place_at g.name.tty g.slot < place_at f.name.tty f.slot
           → (g.name.tty.0 < f.name.tty.0) ⊎ ((g.name.tty.0 ≡ f.name.tty.0) ⊎ (f.name.tty.0 < g.name.tty.0)) → ⊥
       ahead g there can less (inl before) = jobs g there can (omega arith) before
       ahead g there can less (inr (inl same)) = slots g there can same (is.slotted.first g there) (omega (arith, same, less, is.slotted.first g there))
       ahead g there can less (inr (inr far)) = absurd (omega (arith, far, less, is.slotted.last f lives, is.slotted.first g there))
 
-  pub next_upto : (f : Fork) → Lives tree.forks f → CanRun tree.forks f.name → f.name.tty.0 ≡ t.0 → f.slot < slot + 1 → Behind → After → Before → NoneRunsIn tree.forks t 1 f.slot → IsNext tree.forks from f
+  pub next_upto : (f : Fork) → Lives tree.forks f → IsRunnable tree.forks f.name → f.name.tty.0 ≡ t.0 → f.slot < slot + 1 → Behind → After → Before → NoneRunsIn tree.forks t 1 f.slot → IsNext tree.forks from f
   next_upto f lives runs job upto behind after before slots = record {
     lives = lives;
     runs = runs;
@@ -133,23 +135,23 @@ module _ (tree : PlainTree) (is : IsTree tree) (t : Tty) (slot : ℕ) (terminal 
         (none_behind behind after g there can) (λ less. ahead g there can less (order g.name.tty.0 t.0));
   }
     where
-      ahead : (g : Fork) → Lives tree.forks g → CanRun tree.forks g.name → place_at g.name.tty g.slot < place_at f.name.tty f.slot → (g.name.tty.0 < t.0) ⊎ ((g.name.tty.0 ≡ t.0) ⊎ (t.0 < g.name.tty.0)) → ⊥
+      ahead : (g : Fork) → Lives tree.forks g → IsRunnable tree.forks g.name → place_at g.name.tty g.slot < place_at f.name.tty f.slot → (g.name.tty.0 < t.0) ⊎ ((g.name.tty.0 ≡ t.0) ⊎ (t.0 < g.name.tty.0)) → ⊥
       ahead g there can less (inl earlier) = before g there can (omega arith) earlier
       ahead g there can less (inr (inl same)) = slots g there can same (is.slotted.first g there) (omega (arith, same, less, job, is.slotted.first g there))
       ahead g there can less (inr (inr far)) = absurd (omega (arith, far, less, job, is.slotted.last f lives, is.slotted.first g there))
 
-  pub none_runs : Behind → After → Before → NoneRunsIn tree.forks t 1 (slot + 1) → (name : ForkName) → CanRun tree.forks name → ⊥
+  pub none_runs : Behind → After → Before → NoneRunsIn tree.forks t 1 (slot + 1) → (name : ForkName) → IsRunnable tree.forks name → ⊥
   none_runs behind after before upto name runs =
-      let f = runs.0 in
-      by f (held_lives tree.forks is.slotted name f runs.1) (subst (CanRun tree.forks) (sym (is.slotted.own name f runs.1)) runs) (order f.name.tty.0 t.0) (cases_lt slot f.slot)
+      let r = runs_as tree.forks name runs in let f = r.0 in
+      by f (held_lives tree.forks is.slotted name f r.1) (subst (IsRunnable tree.forks) (sym (is.slotted.own name f r.1)) runs) (order f.name.tty.0 t.0) (cases_lt slot f.slot)
     where
-      by : (f : Fork) → Lives tree.forks f → CanRun tree.forks f.name → (f.name.tty.0 < t.0) ⊎ ((f.name.tty.0 ≡ t.0) ⊎ (t.0 < f.name.tty.0)) → (slot < f.slot) ⊎ (f.slot ≤ slot) → ⊥
+      by : (f : Fork) → Lives tree.forks f → IsRunnable tree.forks f.name → (f.name.tty.0 < t.0) ⊎ ((f.name.tty.0 ≡ t.0) ⊎ (t.0 < f.name.tty.0)) → (slot < f.slot) ⊎ (f.slot ≤ slot) → ⊥
       by f lives can (inl less) other = before f lives can (omega arith) less
       by f lives can (inr (inl same)) (inl more) = behind f lives can same (omega (arith, more)) (omega (arith, is.slotted.last f lives))
       by f lives can (inr (inl same)) (inr most) = upto f lives can same (is.slotted.first f lives) (omega (arith, most))
       by f lives can (inr (inr later)) other = after f lives can (omega (arith, later)) (is.slotted.named f lives).0
 
   -- what is found last
-  pub next_last : Behind → After → Before → (o : Option Fork) → IsFirstIn tree.forks t 1 (slot + 1) o → MatchOption o ((name : ForkName) → CanRun tree.forks name → ⊥) (IsNext tree.forks from)
+  pub next_last : Behind → After → Before → (o : Option Fork) → IsFirstIn tree.forks t 1 (slot + 1) o → MatchOption o ((name : ForkName) → IsRunnable tree.forks name → ⊥) (IsNext tree.forks from)
   next_last behind after before None none = none_runs behind after before none
   next_last behind after before (Some f) r = next_upto f r.0 r.1 r.2 r.4 behind after before r.5

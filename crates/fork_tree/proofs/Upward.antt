@@ -4,11 +4,10 @@ use Rattle.std.specs.Prelude.{nat_le}
 use Rattle.std.specs.Option.{option_and_then, option_map_or}
 use Rattle.std.proofs.lemmas.Bool.{cases_Bool, cases_lt}
 use Rattle.std.proofs.lemmas.Bool.Decides.{nat_tests}
-use Rattle.plain_model.specs.Forks.{ForkMap, fork_in, is_frozen, superior_of}
+use Rattle.plain_model.specs.Forks.{ForkMap, fork_in, superior_of, any_upward}
 use Rattle.machine_names.specs.declared.names.Tty.{Tty}
 use Rattle.machine_names.specs.declared.names.TheConstants.{MOST_FORKS}
 use Rattle.plain_model.specs.declared.fork.Fork.{Fork}
-use Rattle.plain_model.specs.Inferiors.{any_upward}
 use Rattle.plain_model.specs.Trees.{PlainTree}
 use Rattle.fork_tree.specs.Trees.{IsAncestor, IsIn, IsTree, Lives, above}
 use Rattle.fork_tree.proofs.Slots.{in_found, in_tells}
@@ -259,9 +258,3 @@ module _ (tree : PlainTree) (is : IsTree tree) where
             let s = superior_lives f h lives is_some in
             let r = rest h s.0 found in
             (r.0, r.1 ∙ s.1, omega (arith, r.2, s.2))
-
--- the look for the freeze mark is such a look
-pub frozen_any : (n : ℕ) (forks : ForkMap) (o : Option Fork) → is_frozen n forks o ≡ any_upward (λ k. k.frozen) n forks o
-frozen_any zero forks o = refl
-frozen_any (suc n) forks None = refl
-frozen_any (suc n) forks (Some f) = ap (λ b. f.frozen || b) (frozen_any n forks (superior_of forks f))

@@ -1,9 +1,10 @@
 -- Who stands below whom, in other words.
-use Rattle.std.specs.Prelude.{◌≡◌, ℕ, ◌≤◌, true, false, Option, None, Some}
+use Rattle.std.specs.Prelude.{◌≡◌, ℕ, ◌≤◌, true, false, not, ◌||◌, Option, None, Some}
 use Rattle.std.specs.FinMap as map
 use Rattle.machine_names.specs.declared.names.ForkName.{ForkName}
 use Rattle.plain_model.specs.declared.fork.Fork.{Fork}
 use Rattle.plain_model.specs.Forks.{ForkMap}
+use Rattle.machine_names.specs.Orders.{same_fork}
 use Rattle.plain_model.specs.Inferiors.{is_inferior}
 use Rattle.fork_tree.specs.Trees.{IsAncestor, IsIn, Lives}
 
@@ -14,6 +15,10 @@ pub record IsInferior (forks : ForkMap) (who name : ForkName) : Type 0 where
   pub over : Fork
   pub named : over.name ≡ who
   pub ancestor : IsAncestor forks over fork
+
+-- the forks that are left where one and all its inferiors are killed
+unfoldable pub without_branch : ForkMap → ForkName → ForkMap
+without_branch forks who = map.retain_keys forks (λ name. not (same_fork name who || is_inferior forks who name))
 
 -- nobody is an inferior of this fork
 abbrev pub HasNoInferior : ForkMap → ForkName → Type 0

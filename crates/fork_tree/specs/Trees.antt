@@ -1,5 +1,5 @@
 -- The forks of all jobs: each job's are a tree (CACM paper, "Forks").
-use Rattle.std.specs.Prelude.{◌≡◌, ◌↔◌, ℕ, suc, zero, ◌+◌, ◌<◌, ◌≤◌, false, List, length, Option, Some, None, refl}
+use Rattle.std.specs.Prelude.{◌≡◌, ◌↔◌, ℕ, suc, zero, ◌+◌, ◌<◌, ◌≤◌, List, length, Option, Some, None, refl}
 use Rattle.std.specs.Option.{option_and_then}
 use Rattle.std.specs.Coded.{Coded, code_by, coded×, coded_list, coded_ℕ}
 use Rattle.std.specs.FinMap as map
@@ -7,10 +7,9 @@ use Rattle.machine_names.specs.declared.names.Tty.{Tty}
 use Rattle.machine_names.specs.declared.names.ForkName.{ForkName}
 use Rattle.machine_names.specs.declared.names.TheConstants.{TERMINALS, MOST_FORKS, LAST_SERIAL}
 use Rattle.plain_model.specs.declared.fork.Fork.{Fork}
-use Rattle.script_texts.specs.declared.status.ForkStatus.TheVariants.{Run}
 use Rattle.machine_names.specs.contracts.names.ForkName.{the_row as name_row}
 use Rattle.plain_model.specs.contracts.fork.Fork.{the_row as fork_row}
-use Rattle.plain_model.specs.Forks.{ForkMap, superior_of, is_frozen}
+use Rattle.plain_model.specs.Forks.{ForkMap, superior_of}
 use Rattle.machine_names.specs.Bounds.{IsForkName}
 use Rattle.plain_model.specs.Trees.{PlainTree, next_serial}
 use Rattle.plain_pages.specs.PlainPages.{first_serials}
@@ -54,10 +53,6 @@ above (suc n) forks f = option_and_then (above n forks) (superior_of forks f)
 -- a fork is an ancestor of another: its superior, that one's superior, and so on
 abbrev pub IsAncestor : ForkMap → Fork → Fork → Type 0
 IsAncestor forks g f = (n : ℕ) × (above (suc n) forks f ≡ Some g)
-
--- a fork can run: it lives, its status is Run, and neither it nor an ancestor is frozen
-abbrev pub CanRun : ForkMap → ForkName → Type 0
-CanRun forks name = (f : Fork) × (map.get forks name ≡ Some f) × (f.body.status ≡ Run) × (is_frozen MOST_FORKS forks (Some f) ≡ false)
 
 -- a tree is stored as its two parts
 abbrev pub tree_code : Coded PlainTree

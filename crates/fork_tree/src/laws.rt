@@ -7,18 +7,19 @@ ghost use Rattle.machine_names.specs.declared.names.Tty.{Tty as ATty};
 ghost use Rattle.machine_names.specs.declared.names.TheConstants.{MOST_FORKS};
 ghost use Rattle.plain_model.specs.Forks.{ForkMap, IsRunnable, fork_in, forks_by_slot, is_frozen};
 ghost use Rattle.machine_names.specs.Orders.{same_fork};
-ghost use Rattle.plain_model.specs.State.{PlainState, opening};
+ghost use Rattle.plain_model.specs.State.{opening};
 ghost use Rattle.std.specs.Option.{option_map};
 ghost use Rattle.std.specs.Ordering.{nat_cmp};
-ghost use Rattle.plain_model.specs.Inferiors.{is_inferior, last_below, without_branch};
-ghost use Rattle.fork_tree.specs.Inferiors.{HasNoInferior, IsInferior, IsLastBelow, IsLeafBelow};
+ghost use Rattle.plain_model.specs.Inferiors.{is_inferior, last_below};
+ghost use Rattle.fork_tree.specs.Inferiors.{HasNoInferior, IsInferior, IsLastBelow, IsLeafBelow, without_branch};
 ghost use Rattle.plain_model.specs.Trees.{new_fork, PlainTree, tree_of, unwaited, waiters_woken};
 ghost use Rattle.plain_model.specs.ForkCalls.{ForkParts, killed};
 ghost use Rattle.fork_tree.specs.Making.{Makes, room_for};
-ghost use Rattle.fork_tree.specs.Trees.{CanRun, IsAncestor, IsTree, Lives, above};
+ghost use Rattle.fork_tree.specs.Trees.{IsAncestor, IsTree, Lives, above};
 ghost use Rattle.fork_tree.specs.Turns.{IsPlace, steps_to};
 
 use crate::NoFork;
+use script_texts::ForkStatus;
 
 /// The forks of the opening state are trees.
 pub fn trees_from_the_opening()
@@ -55,12 +56,12 @@ pub fn inferiors_have_it_above()
     ensures { (tree : PlainTree) (who name : AForkName) → IsTree tree → (is_inferior tree.forks who name ≡ true) ↔ IsInferior tree.forks who name }
 {}
 
-/// A fork is frozen exactly where it or an ancestor is marked; and a fork can run exactly where the plain
-/// machine may run it.
+/// A fork is frozen exactly where it or an ancestor is marked; and a fork can run exactly where it lives, its status
+/// is Run, and it is not frozen.
 pub fn forks_are_frozen_from_above()
     ensures frozen { (tree : PlainTree) (f : AFork) → IsTree tree → Lives tree.forks f
         → (is_frozen MOST_FORKS tree.forks (Some f) ≡ false) ↔ ((f.frozen ≡ false) × ((g : AFork) → IsAncestor tree.forks g f → g.frozen ≡ false)) }
-    ensures runs { (s : PlainState) (name : AForkName) → IsRunnable s name ↔ CanRun s.forks name }
+    ensures runs { (forks : ForkMap) (name : AForkName) → IsRunnable forks name ↔ ((f : AFork) × (map.get forks name ≡ Some f) × (f.body.status ≡ ForkStatus.Run) × (is_frozen MOST_FORKS forks (Some f) ≡ false)) }
 {}
 
 /// Who kills a fork's inferiors that have none themselves, one after another, and then the fork, kills the fork

@@ -1,11 +1,10 @@
 // Which forks can run.
-ghost use Rattle.std.specs.Prelude.{◌≡◌, ◌↔◌, ◌≤◌, ◌<◌, IsTrue, MatchOption, Some, None, true, false};
+ghost use Rattle.std.specs.Prelude.{◌≡◌, ◌↔◌, ◌≤◌, IsTrue, MatchOption, Some, None, true, false};
 ghost use Rattle.std.specs.Option.{option_copied};
-ghost use Rattle.plain_model.specs.declared.fork.Fork.{Fork as AFork};
 ghost use Rattle.machine_names.specs.declared.names.ForkName.{ForkName as AForkName};
-ghost use Rattle.plain_model.specs.Forks.{is_frozen};
+ghost use Rattle.plain_model.specs.Forks.{IsRunnable, can_run, is_frozen};
 ghost use Rattle.machine_names.specs.Bounds.{IsTerminal};
-ghost use Rattle.fork_tree.specs.Trees.{CanRun, IsTree, Lives};
+ghost use Rattle.fork_tree.specs.Trees.{IsTree};
 ghost use Rattle.fork_tree.specs.Turns.{IsFirstAmong, IsFirstIn, IsNext, RunsIn, place_at};
 
 use crate::tree::Tree;
@@ -33,8 +32,7 @@ impl Tree {
 
     // Whether a fork can run.
     fn can_run(&self, fork: &Fork) -> bool
-        requires { Lives self.now.forks fork.now }
-        ensures { IsTrue result ↔ CanRun self.now.forks fork.now.name }
+        ensures { result ≡ can_run self.now.forks fork.now }
     {
         match fork.body.status {
             ForkStatus::Run => !self.is_frozen(fork),
@@ -45,7 +43,7 @@ impl Tree {
     /// Whether the fork of a name can run: it lives, its status is Run, and neither it nor an ancestor is marked frozen. As many steps as it has
     /// superiors.
     pub fn runnable(&self, name: ForkName) -> bool
-        ensures { IsTrue result ↔ CanRun self.now.forks name }
+        ensures { IsTrue result ↔ IsRunnable self.now.forks name }
     {
         match self.fork(name) {
             Some(fork) => self.can_run(fork),
@@ -99,7 +97,7 @@ impl Tree {
         requires terminal { IsTerminal tty }
         requires first { 1 ≤ slot }
         requires last { slot ≤ MOST_FORKS }
-        ensures { MatchOption (option_copied result) ((name : AForkName) → CanRun self.now.forks name → ⊥) (IsNext self.now.forks (place_at tty slot)) }
+        ensures { MatchOption (option_copied result) ((name : AForkName) → IsRunnable self.now.forks name → ⊥) (IsNext self.now.forks (place_at tty slot)) }
     {
         if let Some(fork) = self.runnable_in(tty, slot + 1, MOST_FORKS + 1) {
             return Some(fork);

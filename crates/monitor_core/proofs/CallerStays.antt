@@ -14,11 +14,12 @@ use Rattle.script_texts.specs.declared.status.ForkStatus.TheVariants.{Run, Halte
 use Rattle.machine_names.specs.declared.names.TheConstants.{MOST_FORKS}
 use Rattle.machine_names.specs.declared.names.ForkName.{ForkName}
 use Rattle.machine_names.specs.declared.names.Tty.{Tty}
-use Rattle.plain_model.specs.Calls.{no_files, parts_behind, turn_on}
+use Rattle.plain_model.specs.Calls.{no_files, parts_behind, turn_on, Asked}
 use Rattle.plain_model.specs.Forks.{ForkMap, fork_in, superior_of, with_status}
 use Rattle.machine_names.specs.Orders.{same_fork}
-use Rattle.plain_model.specs.ForkCalls.{ForkAsked, ForkParts, fork_call, fork_changed, killed, with_halted}
-use Rattle.plain_model.specs.Inferiors.{is_inferior, without_branch}
+use Rattle.plain_model.specs.ForkCalls.{ForkParts, fork_call, fork_changed, killed, with_halted}
+use Rattle.plain_model.specs.Inferiors.{is_inferior}
+use Rattle.fork_tree.specs.Inferiors.{without_branch}
 use Rattle.plain_model.specs.Interrupts.{posted}
 use Rattle.plain_pages.specs.PlainPages.{PlainPages}
 use Rattle.plain_model.specs.Trees.{PlainTree, changed, end_told, unwaited, waiters_woken, with_body, with_mark, without_wait, woken_in}
@@ -112,7 +113,7 @@ module _ (f : Fork) (runs : f.body.status ≡ Run) (off : f.body.psi.on ≡ fals
         owned q g e true gone = absurd (let no : None ≡ Some g = sym gone ∙ e in cc no)
         owned q g e false left = is.slotted.own q g (sym left ∙ e)
 
-    abbrev asked_so : ForkAsked
+    abbrev asked_so : Asked
     asked_so = record { who = f.name; regs = f.body.regs; tree = tree }
 
     of_inferior_stands : (name : ForkName) (change : Fork → Fork) → ((k : Fork) → (change k).name ≡ k.name) → is_inferior tree.forks f.name name ≡ true → StandsIn (changed tree.forks change (map.get tree.forks name))

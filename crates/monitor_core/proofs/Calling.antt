@@ -1,13 +1,11 @@
 -- A fork's body, lent out of a tree; and a turn of a call, by its family and its answer.
-use Rattle.std.proofs.Common.{◌≡◌, ℕ, Bool, true, false, cond, Option, None, Some, refl, sym, ◌∙◌, ap, subst, inl, inr}
+use Rattle.std.proofs.Common.{◌≡◌, ℕ, Bool, true, false, cond, Option, Some, refl, sym, ◌∙◌, ap, subst, inl, inr}
 use Rattle.std.specs.Prelude.{IsSome}
 use Rattle.std.specs.Option.{option_map}
 use Rattle.std.specs.Ordering.{nat_cmp}
 use Rattle.std.specs.FinMap as map
 use Rattle.plain_model.specs.declared.call.End.{End}
 use Rattle.plain_model.specs.declared.call.End.TheVariants.{Done, Waits, Halts, Refused, Failed, Trap}
-use Rattle.plain_model.specs.declared.call.ForkChange.{ForkChange}
-use Rattle.plain_model.specs.declared.call.MapChange.{MapChange}
 use Rattle.plain_units.specs.declared.channel.TheConstants.{ILLEGAL_INSTRUCTION}
 use Rattle.call_turns.specs.declared.answer.Answer.{Answer}
 use Rattle.call_turns.specs.declared.answer.Answer.TheVariants as answer
@@ -19,7 +17,7 @@ use Rattle.machine_names.specs.declared.names.Tty.{Tty}
 use Rattle.plain_units.specs.declared.registers.Regs.{Regs}
 use Rattle.plain_pages.specs.PlainPages.{NumberedPages}
 use Rattle.plain_model.specs.Calls.{Came, Turn, fork_behind, is_among, no_files, numbered, out_of, parts_behind, turn_on}
-use Rattle.plain_model.specs.Families.{Parts, Turned, asks_forks, asks_maps, behind, call_turned, forks_part, no_part, pages_part, print_calls, own_changed, through}
+use Rattle.plain_model.specs.Families.{Parts, Turned, behind, call_turned, print_calls, own_changed, asks, forks_changed, pages_changed}
 use Rattle.plain_model.specs.FileCalls.{file_call, file_calls}
 use Rattle.plain_model.specs.ForkCalls.{ForkParts, fork_call, fork_calls, fork_changed}
 use Rattle.plain_model.specs.MapCalls.{map_call, map_calls, map_changed}
@@ -153,10 +151,10 @@ module _ (v : Parts nat_cmp) (who : ForkName) where
   -- a turn of a call, by its family
   module _ (regs : Regs) (number : ℕ) where
     -- one that changes the fork that called alone
-    own_behind : (t : Turn ⊥ (Unit {0})) → MakesNone v.pages t → (a : Answer) → a ≡ answer_of (turn_on no_files v.pages t).end → behind (through no_part own_changed) v who (turn_on no_files v.pages t) ≡ answered_turn v who a
+    own_behind : (t : Turn ⊥ (Unit {0})) → MakesNone v.pages t → (a : Answer) → a ≡ answer_of (turn_on no_files v.pages t).end → behind own_changed v who (turn_on no_files v.pages t) ≡ answered_turn v who a
     own_behind t makes a is =
-        came_behind (through no_part own_changed) (turn_on no_files v.pages t) v a is
-        (sym (ap (λ (q : NumberedPages). parts_behind (through no_part own_changed) v (record v { pages = q }) (turn_on no_files v.pages t).end) makes
+        came_behind own_changed (turn_on no_files v.pages t) v a is
+        (sym (ap (λ (q : NumberedPages). parts_behind own_changed v (record v { pages = q }) (turn_on no_files v.pages t).end) makes
         ∙ nothing_behind v (turn_on no_files v.pages t).end))
 
     pub print_went : is_among print_calls number ≡ true → (a : Answer) → a ≡ answer_of (turn_on no_files v.pages (numbered print_calls number regs)).end → call_turned v who regs number ≡ answered_turn v who a
@@ -166,35 +164,35 @@ module _ (v : Parts nat_cmp) (who : ForkName) where
 
     module _ (other : is_among print_calls number ≡ false) where
       pub forks_went : is_among fork_calls number ≡ true → (tree : PlainTree) (q : NumberedPages) (a : Answer)
-          → (let c = turn_on no_files v.pages (fork_call number (asks_forks v who regs)) in Went fork_changed (parts v.tree v.pages) (parts v.tree c.pages) (parts tree q) a c.end)
+          → (let c = turn_on no_files v.pages (fork_call number (asks v who regs)) in Went fork_changed (parts v.tree v.pages) (parts v.tree c.pages) (parts tree q) a c.end)
           → call_turned v who regs number ≡ answered_turn (record { tree = tree; pages = q }) who a
       forks_went forks tree q a w =
           on_false (is_among print_calls number) _ _ other
           ∙ on_true (is_among fork_calls number) _ _ forks
-          ∙ came_behind (through forks_part fork_changed) (turn_on no_files v.pages (fork_call number (asks_forks v who regs))) (record { tree = tree; pages = q }) a w.answered
+          ∙ came_behind forks_changed (turn_on no_files v.pages (fork_call number (asks v who regs))) (record { tree = tree; pages = q }) a w.answered
           (ap (λ (part : ForkParts nat_cmp). record { tree = part.tree; pages = part.pages }) w.left
-          ∙ sym (forks_behind v (turn_on no_files v.pages (fork_call number (asks_forks v who regs))).pages (turn_on no_files v.pages (fork_call number (asks_forks v who regs))).end))
+          ∙ sym (forks_behind v (turn_on no_files v.pages (fork_call number (asks v who regs))).pages (turn_on no_files v.pages (fork_call number (asks v who regs))).end))
 
       module _ (unforked : is_among fork_calls number ≡ false) where
         pub maps_went : is_among map_calls number ≡ true → (q : NumberedPages) (a : Answer)
-            → (let c = turn_on no_files v.pages (map_call number (asks_maps v who regs)) in Went map_changed v.pages c.pages q a c.end)
+            → (let c = turn_on no_files v.pages (map_call number (asks v who regs)) in Went map_changed v.pages c.pages q a c.end)
             → call_turned v who regs number ≡ answered_turn (record v { pages = q }) who a
         maps_went maps q a w =
             on_false (is_among print_calls number) _ _ other
             ∙ on_false (is_among fork_calls number) _ _ unforked
             ∙ on_true (is_among map_calls number) _ _ maps
-            ∙ came_behind (through pages_part map_changed) (turn_on no_files v.pages (map_call number (asks_maps v who regs))) (record v { pages = q }) a w.answered
+            ∙ came_behind pages_changed (turn_on no_files v.pages (map_call number (asks v who regs))) (record v { pages = q }) a w.answered
             (ap (λ (r : NumberedPages). record v { pages = r }) w.left
-            ∙ sym (pages_behind v (turn_on no_files v.pages (map_call number (asks_maps v who regs))).pages (turn_on no_files v.pages (map_call number (asks_maps v who regs))).end))
+            ∙ sym (pages_behind v (turn_on no_files v.pages (map_call number (asks v who regs))).pages (turn_on no_files v.pages (map_call number (asks v who regs))).end))
 
         module _ (unmapped : is_among map_calls number ≡ false) where
-          pub files_went : is_among file_calls number ≡ true → (a : Answer) → a ≡ answer_of (turn_on no_files v.pages (file_call number (asks_forks v who regs))).end → call_turned v who regs number ≡ answered_turn v who a
+          pub files_went : is_among file_calls number ≡ true → (a : Answer) → a ≡ answer_of (turn_on no_files v.pages (file_call number (asks v who regs))).end → call_turned v who regs number ≡ answered_turn v who a
           files_went files a is =
               on_false (is_among print_calls number) _ _ other
               ∙ on_false (is_among fork_calls number) _ _ unforked
               ∙ on_false (is_among map_calls number) _ _ unmapped
               ∙ on_true (is_among file_calls number) _ _ files
-              ∙ own_behind (file_call number (asks_forks v who regs)) (file_makes_none v.pages number (asks_forks v who regs)) a is
+              ∙ own_behind (file_call number (asks v who regs)) (file_makes_none v.pages number (asks v who regs)) a is
 
           -- a number that is no call
           pub none_went : is_among file_calls number ≡ false → call_turned v who regs number ≡ answered_turn v who (answer.Trap ILLEGAL_INSTRUCTION)

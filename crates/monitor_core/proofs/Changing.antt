@@ -7,19 +7,19 @@ use Rattle.machine_names.specs.declared.names.ForkName.{ForkName}
 use Rattle.plain_model.specs.declared.fork.Body.{Body}
 use Rattle.plain_model.specs.declared.fork.Fork.{Fork}
 use Rattle.script_texts.specs.declared.status.ForkStatus.TheVariants.{Run}
-use Rattle.plain_model.specs.Events.{restarted, with_accumulator}
+use Rattle.plain_model.specs.Events.{restarted}
+use Rattle.monitor_core.specs.Writing.{with_accumulator}
 use Rattle.plain_model.specs.Forks.{ForkMap}
 use Rattle.machine_names.proofs.OrderLemmas.{fork_cmp_total, fork_cmp_apart}
-use Rattle.plain_model.specs.Trees.{changed, with_body, with_mark, PlainTree}
+use Rattle.plain_model.specs.Trees.{changed, with_body, with_mark, PlainTree, with_changed_of}
 use Rattle.fork_tree.specs.Changes.{with_body_of, with_mark_of}
 use Rattle.fork_tree.specs.Trees.{IsTree}
 use Rattle.fork_tree.proofs.Slots.{get_put, some_of}
-use Rattle.monitor_core.specs.Runners.{with_change}
 use Rattle.monitor_core.proofs.Maps.{insert_twice}
 
 -- the word is put where the fork lives
 pub poked_tree : (tree : PlainTree) (name : ForkName) (address word : ℕ) (b : Body) → Some b ≡ option_map (λ f. f.body) (map.get tree.forks name)
-    → with_body_of tree name (record b { regs = record b.regs { ac = slice_set b.regs.ac address word } }) ≡ with_change tree name (with_accumulator address word)
+    → with_body_of tree name (record b { regs = record b.regs { ac = slice_set b.regs.ac address word } }) ≡ with_changed_of tree name (with_accumulator address word)
 poked_tree tree name address word b = by (map.get tree.forks name)
   where
     by : (o : Option Fork) → Some b ≡ option_map (λ f. f.body) o
@@ -28,7 +28,7 @@ poked_tree tree name address word b = by (map.get tree.forks name)
     by (Some k) e = let is : b ≡ k.body = cc e in λ i. record tree { forks = map.insert tree.forks k.name (record k { body = record (is i) { regs = record (is i).regs { ac = slice_set (is i).regs.ac address word } } }) }
 
 -- and nothing is put where none does
-pub unchanged_tree : (tree : PlainTree) (name : ForkName) (change : Fork → Fork) → None ≡ option_map (λ f. f.body) (map.get tree.forks name) → tree ≡ with_change tree name change
+pub unchanged_tree : (tree : PlainTree) (name : ForkName) (change : Fork → Fork) → None ≡ option_map (λ f. f.body) (map.get tree.forks name) → tree ≡ with_changed_of tree name change
 unchanged_tree tree name change = by (map.get tree.forks name)
   where
     by : (o : Option Fork) → None ≡ option_map (λ f. f.body) o → tree ≡ record tree { forks = changed tree.forks change o }
@@ -54,7 +54,7 @@ module _ (tree : PlainTree) (is : IsTree tree) (name : ForkName) (lives : IsSome
 
   -- it runs at the address, with no mark
   pub started_tree : (address : ℕ) (b : Body) → Some b ≡ option_map (λ f. f.body) (map.get (with_mark_of tree name false).forks name)
-      → with_body_of (with_mark_of tree name false) name (record b { status = Run; regs = record b.regs { pc = address } }) ≡ with_change tree name (restarted address)
+      → with_body_of (with_mark_of tree name false) name (record b { status = Run; regs = record b.regs { pc = address } }) ≡ with_changed_of tree name (restarted address)
   started_tree address b e =
       let one : Some b ≡ Some top.0.body = e ∙ ap (option_map (λ f. f.body)) there in
       let same : b ≡ top.0.body = cc one in

@@ -17,9 +17,9 @@ use Rattle.machine_names.specs.Bounds.{IsTerminal}
 use Rattle.plain_pages.specs.Room.{live, HasRoom}
 use Rattle.plain_model.specs.Forks.{top_fork}
 use Rattle.plain_model.specs.Unit.{Effect}
-use Rattle.plain_model.specs.Trees.{PlainTree, next_name}
+use Rattle.plain_model.specs.Trees.{PlainTree, next_name, tree_of}
 use Rattle.page_contracts.specs.Pages.{Agrees}
-use Rattle.plain_model.specs.Events.{refused, with_job, new_job, next_fork, outer}
+use Rattle.plain_model.specs.Events.{refused, with_job, new_job, outer}
 use Rattle.plain_pages.specs.NewMaps.{with_map}
 use Rattle.plain_model.proofs.Equations.{apply_outer, outer_login, outer_tick}
 use Rattle.plain_pages.proofs.Refiled.{live_refiled}
@@ -71,7 +71,7 @@ module _ {P : Type 0} {b : _} (m : System P b) (t : Tty) (user : List ℕ) where
       cond has (refused old (Busy t)) (cond out (refused old (SerialsOut t)) (cond room (record { state = with_job old t user; items = Char t PROMPT ∷ [] }) (refused old (Full t))))
 
   abbrev room : DrumWords → Bool
-  room d = HasRoom (with_map (state_of m d).pages (next_fork (state_of m d) t) EmptyMap) t
+  room d = HasRoom (with_map (state_of m d).pages (next_name (tree_of (state_of m d)) t) EmptyMap) t
 
   asks : (d : DrumWords) → outer (state_of m d) (Login t user) ≡ asked d (is_some (fin.get (state_of m d).jobs t.0)) (nat_lt LAST_SERIAL (slice_index m.tree.serials t.0)) (room d)
   asks d = outer_login (state_of m d) t user
@@ -92,11 +92,11 @@ module _ {P : Type 0} {b : _} (m : System P b) (t : Tty) (user : List ℕ) where
     pub serials_are_out : (d : DrumWords) → LAST_SERIAL < slice_index m.tree.serials t.0 → outer (state_of m d) (Login t user) ≡ refused (state_of m d) (SerialsOut t)
     serials_are_out d used = not_busy d ∙ ap (λ o. asked d false o (room d)) (over LAST_SERIAL (slice_index m.tree.serials t.0) used)
 
-    module _ (d : DrumWords) (f : FitsPages m d) (a : Agrees b.means m.pages (b.means.plain m.pages d)) (dead : b.means.lives m.pages (next_fork (state_of m d) t) ≡ false) (unused : slice_index m.tree.serials t.0 ≤ LAST_SERIAL) where
+    module _ (d : DrumWords) (f : FitsPages m d) (a : Agrees b.means m.pages (b.means.plain m.pages d)) (dead : b.means.lives m.pages (next_name (tree_of (state_of m d)) t) ≡ false) (unused : slice_index m.tree.serials t.0 ≤ LAST_SERIAL) where
       room_is : room d ≡ nat_le (b.means.count m.pages + 1) (b.means.most m.pages)
       room_is =
           let p = b.means.plain m.pages d in
-          let name = next_fork (state_of m d) t in
+          let name = next_name (tree_of (state_of m d)) t in
           let none : fin.get p.maps name ≡ None = missing (fin.get p.maps name) (sym (a.living name) ∙ dead) in
           let counted : live (named p) ≡ b.means.count m.pages = live_refiled name_cmp p fin.empty (alike p f.unfiled) ∙ sym a.number in
           has_room (with_map (named p) name EmptyMap) t (b.means.count m.pages + 1) (b.means.most m.pages) (live_map (named p) name none ∙ ap (λ n. n + 1) counted) (sym a.bound)

@@ -28,9 +28,9 @@ use Rattle.machine_names.specs.Bounds.{IsTerminal}
 use Rattle.plain_model.specs.Run.{apply}
 use Rattle.plain_pages.specs.References.{Referred, granted, denied, full, in_map, reference, stored, words_of, page_at, slot_at}
 use Rattle.plain_model.specs.Forks.{change_fork, fork_line, forks_by_slot}
-use Rattle.plain_model.specs.Trees.{PlainTree}
+use Rattle.plain_model.specs.Trees.{PlainTree, with_changed_of}
 use Rattle.plain_model.specs.Unit.{Effect}
-use Rattle.plain_model.specs.Events.{refused, poked, with_accumulator, restarted, word_seen, outer}
+use Rattle.plain_model.specs.Events.{refused, poked, restarted, word_seen, outer}
 use Rattle.plain_model.proofs.Equations.{apply_outer, outer_poke, outer_start, outer_examine, outer_forks}
 use Rattle.plain_pages.proofs.Refiled.{refiled_result, reference_leaves}
 use Rattle.machine_names.specs.Orders.{name_cmp}
@@ -46,9 +46,8 @@ use Rattle.monitor_core.specs.JobEvents.{event_at}
 use Rattle.monitor_core.specs.Jobs.{jobs_of, job_at, plain_job}
 use Rattle.monitor_core.specs.Looking.{word_in, examined_in, item_of}
 use Rattle.monitor_core.specs.Replies.{reply_items, FitsReply}
-use Rattle.monitor_core.specs.Runners.{with_change}
 use Rattle.monitor_core.specs.Systems.{state_of, FitsPages, IsWithin, Did}
-use Rattle.monitor_core.specs.Writing.{write_of, left_by, most_makings, IsWritten, Makes, Writes}
+use Rattle.monitor_core.specs.Writing.{write_of, left_by, most_makings, IsWritten, Makes, Writes, with_accumulator}
 use Rattle.monitor_core.proofs.Looks.{below, not_below}
 use Rattle.monitor_core.proofs.Lookups.{job_found, job_missing, jobs_set}
 use Rattle.monitor_core.proofs.Sounds.{split_at}
@@ -183,7 +182,7 @@ module _ {P : Type 0} {b : _} (m m' : System P b) (is_tree : IsTree m.tree) (t :
 
   module _ (jobs : m'.jobs.items ≡ m.jobs.items) where
     -- a word was put into an accumulator
-    poked_low : (address word : ℕ) (d : DrumWords) → address < ACCUMULATORS → m'.tree ≡ with_change m.tree j.top (with_accumulator address word) → m'.pages ≡ m.pages
+    poked_low : (address word : ℕ) (d : DrumWords) → address < ACCUMULATORS → m'.tree ≡ with_changed_of m.tree j.top (with_accumulator address word) → m'.pages ≡ m.pages
         → ◌≡◌ {A = Effect} (outer (state_of m d) (event_at t (ToPoke address word))) (record { state = state_of m' d; items = [] })
     poked_low address word d low is same =
         let old = state_of m d in
@@ -218,7 +217,7 @@ module _ {P : Type 0} {b : _} (m m' : System P b) (is_tree : IsTree m.tree) (t :
         reply_of_poke (Err cause) = refl
 
     pub did_poke : (address word : ℕ) (result : Result (Unit {0}) Cause) (reply : Reply) → e ≡ ToPoke address word → poke_reply result ≡ reply → IfErr result FitsCause
-        → (address < ACCUMULATORS → (result ≡ Ok tt) × (m'.tree ≡ with_change m.tree j.top (with_accumulator address word)) × (m'.pages ≡ m.pages))
+        → (address < ACCUMULATORS → (result ≡ Ok tt) × (m'.tree ≡ with_changed_of m.tree j.top (with_accumulator address word)) × (m'.pages ≡ m.pages))
         → (ACCUMULATORS ≤ address → (m'.tree ≡ m.tree) × Writes b.means m.pages m'.pages (slot_at j.top address) (address % PAGE_WORDS) word result)
         → Makes b.means m.pages m'.pages j.top.tty 2 → Did m m' (Outer (event_at t e)) reply
     did_poke address word result reply is shows fits low high made =
@@ -257,7 +256,7 @@ module _ {P : Type 0} {b : _} (m m' : System P b) (is_tree : IsTree m.tree) (t :
         reply_fits (Err cause) h = h
 
   -- the top fork was started
-  pub did_start : (k : Job) (address : ℕ) → m'.jobs.items ≡ set m.jobs.items t.0 (Some k) → e ≡ ToStart address → k.user ≡ j.user → k.mode ≡ Program → k.top ≡ j.top → m'.tree ≡ with_change m.tree j.top (restarted address) → m'.pages ≡ m.pages → Did m m' (Outer (event_at t e)) Nothing
+  pub did_start : (k : Job) (address : ℕ) → m'.jobs.items ≡ set m.jobs.items t.0 (Some k) → e ≡ ToStart address → k.user ≡ j.user → k.mode ≡ Program → k.top ≡ j.top → m'.tree ≡ with_changed_of m.tree j.top (restarted address) → m'.pages ≡ m.pages → Did m m' (Outer (event_at t e)) Nothing
   did_start k address set_to is user mode top changes same = subst (λ x. Did m m' (Outer (event_at t x)) Nothing) (sym is) (record {
     each = λ d f.
         let old = state_of m d in

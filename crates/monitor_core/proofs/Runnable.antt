@@ -10,9 +10,11 @@ use Rattle.script_texts.specs.Limits.{FitsStep}
 use Rattle.machine_names.specs.Bounds.{IsForkName}
 use Rattle.plain_model.specs.Run.{IsLegalStep}
 use Rattle.plain_model.specs.Trees.{PlainTree}
-use Rattle.fork_tree.specs.Trees.{CanRun, IsTree, Lives}
+use Rattle.fork_tree.specs.Trees.{IsTree, Lives}
+use Rattle.plain_model.specs.Forks.{IsRunnable}
 use Rattle.fork_tree.specs.Turns.{IsNext, place_at, steps_to}
 use Rattle.fork_tree.proofs.Slots.{held_lives}
+use Rattle.fork_tree.proofs.CanRun.{runs_as}
 use Rattle.monitor_core.specs.declared.runner.Runner.{Runner}
 use Rattle.monitor_core.specs.declared.system.System.{System}
 use Rattle.monitor_core.specs.Runners.{IsRunner, IsSlot}
@@ -55,12 +57,12 @@ module _ (tree : PlainTree) (who : Runner) (r : IsRunner tree who) (f : Fork) (n
   own_place : place_at who.fork.tty who.slot ≡ place_at r.fork.name.tty r.fork.slot
   own_place = omega (arith, r.there.1, r.there.2)
 
-  pub alone : f.slot ≡ who.slot → f.name.tty.0 ≡ who.fork.tty.0 → (name : ForkName) → CanRun tree.forks name → name ≡ who.fork
+  pub alone : f.slot ≡ who.slot → f.name.tty.0 ≡ who.fork.tty.0 → (name : ForkName) → IsRunnable tree.forks name → name ≡ who.fork
   alone slot job name runs =
-      let g = runs.0 in
-      let lives = held_lives tree.forks r.trees.slotted name g runs.1 in
-      let own = r.trees.slotted.own name g runs.1 in
-      let first = next.first g lives (subst (CanRun tree.forks) (sym own) runs) in
+      let k = runs_as tree.forks name runs in let g = k.0 in
+      let lives = held_lives tree.forks r.trees.slotted name g k.1 in
+      let own = r.trees.slotted.own name g k.1 in
+      let first = next.first g lives (subst (IsRunnable tree.forks) (sym own) runs) in
       let here : place_at f.name.tty f.slot ≡ place_at who.fork.tty who.slot = omega (arith, slot, job) in
       let same : place_at r.fork.name.tty r.fork.slot ≡ place_at g.name.tty g.slot = at_last (place_at who.fork.tty who.slot) (place_at f.name.tty f.slot) (place_at g.name.tty g.slot) (place_at r.fork.name.tty r.fork.slot) here own_place (placed g lives) (placed r.fork r.there.0) first in
       sym own ∙ same_place tree r.trees r.fork g r.there.0 lives same ∙ r.named
@@ -69,7 +71,7 @@ module _ (tree : PlainTree) (who : Runner) (r : IsRunner tree who) (f : Fork) (n
       at_last from a b c here own few_b few_c h = omega (arith, here, own, few_b, few_c, h)
 
   -- and the only one that can is next behind itself
-  pub only : ((name : ForkName) → CanRun tree.forks name → name ≡ who.fork) → (f.slot ≡ who.slot) × (f.name.tty.0 ≡ who.fork.tty.0)
+  pub only : ((name : ForkName) → IsRunnable tree.forks name → name ≡ who.fork) → (f.slot ≡ who.slot) × (f.name.tty.0 ≡ who.fork.tty.0)
   only all =
       let name : f.name ≡ who.fork = all f.name next.runs in
       let both : Some f ≡ Some r.fork = sym next.lives ∙ ap (map.get tree.forks) (name ∙ sym r.named) ∙ r.there.0 in

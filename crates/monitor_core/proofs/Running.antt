@@ -6,6 +6,7 @@ use Rattle.machine_names.specs.declared.names.TheConstants.{MOST_FORKS}
 use Rattle.plain_model.specs.Forks.{fork_in, is_frozen}
 use Rattle.plain_model.specs.Trees.{PlainTree}
 use Rattle.fork_tree.specs.Trees.{Lives}
+use Rattle.fork_tree.proofs.CanRun.{can_runs, runs_named}
 use Rattle.fork_tree.proofs.Slots.{in_found}
 use Rattle.monitor_core.specs.declared.runner.Runner.{Runner}
 use Rattle.monitor_core.specs.ForkUnit.{Place, fork_of}
@@ -36,6 +37,4 @@ module _ (tree : PlainTree) (who : Runner) (r : IsRunner tree who) where
   -- it runs, and is not frozen
   pub runner_runs : (runner.body.status ≡ Run) × (is_frozen MOST_FORKS tree.forks (Some runner) ≡ false)
   runner_runs =
-      let both : Some r.runs.0 ≡ Some runner = sym r.runs.1 ∙ runner_lives in
-      let is : r.runs.0 ≡ runner = cc both in
-      (ap (λ (k : Fork). k.body.status) (sym is) ∙ r.runs.2, ap (λ k. is_frozen MOST_FORKS tree.forks (Some k)) (sym is) ∙ r.runs.3)
+      can_runs tree.forks runner (runs_named tree.forks runner runner_lives r.runs)

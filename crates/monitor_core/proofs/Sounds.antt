@@ -10,7 +10,7 @@ use Rattle.machine_names.specs.declared.names.ForkName.{ForkName}
 use Rattle.plain_model.specs.declared.fork.Fork.{Fork}
 use Rattle.plain_model.specs.Forks.{ForkMap}
 use Rattle.page_contracts.specs.Pages.{PagesMeaning}
-use Rattle.plain_model.specs.Trees.{changed, PlainTree}
+use Rattle.plain_model.specs.Trees.{changed, PlainTree, with_changed_of}
 use Rattle.fork_tree.specs.Trees.{IsTree, Lives}
 use Rattle.fork_tree.proofs.Kept.{changed_tree}
 use Rattle.fork_tree.proofs.Slots.{cases_name, get_put, get_put_other, held_lives}
@@ -19,7 +19,6 @@ use Rattle.fork_calls.proofs.Holdings.{holds_same, holds_still}
 use Rattle.monitor_core.specs.declared.job.Job.{Job}
 use Rattle.monitor_core.specs.Jobs.{job_at}
 use Rattle.monitor_core.specs.Limits.{IsBody}
-use Rattle.monitor_core.specs.Runners.{with_change}
 use Rattle.monitor_core.specs.Sound.{AreSound}
 
 -- what stands in a list stands there whatever is beyond it
@@ -119,7 +118,7 @@ module _ {P : Type 0} (means : PagesMeaning P) (p q : P) (tree : PlainTree) (job
 
     -- a fork of a name is changed, if it lives
     pub sound_change : (n : ForkName) (change : Fork → Fork) → ((f : Fork) → (change f).name ≡ f.name) → ((f : Fork) → (change f).slot ≡ f.slot) → ((f : Fork) → (change f).superior ≡ f.superior) → ((f : Fork) → IsBody f.body → IsBody (change f).body)
-        → AreSound means q (with_change tree n change) jobs'
+        → AreSound means q (with_changed_of tree n change) jobs'
     sound_change n change name slot superior body = by (map.get tree.forks n) refl
       where
         by : (o : Option Fork) → map.get tree.forks n ≡ o → AreSound means q (record tree { forks = changed tree.forks change o }) jobs'

@@ -6,9 +6,10 @@ use Rattle.machine_names.specs.declared.names.ForkName.{ForkName}
 use Rattle.plain_model.specs.declared.fork.Fork.{Fork}
 use Rattle.plain_model.specs.Forks.{change_fork, with_fork}
 use Rattle.plain_model.specs.State.{PlainState}
-use Rattle.plain_model.specs.Trees.{changed, PlainTree}
+use Rattle.plain_model.specs.Trees.{changed, PlainTree, with_changed_of}
 use Rattle.machine_names.specs.declared.names.TheConstants.{ACCUMULATORS}
-use Rattle.plain_model.specs.Events.{restarted, with_accumulator}
+use Rattle.plain_model.specs.Events.{restarted}
+use Rattle.monitor_core.specs.Writing.{with_accumulator}
 use Rattle.fork_tree.specs.Trees.{IsTree, Lives}
 use Rattle.fork_tree.proofs.Slots.{held_lives}
 use Rattle.monitor_core.specs.declared.job.Job.{Job}
@@ -17,7 +18,6 @@ use Rattle.monitor_core.specs.Holding.{Holds}
 use Rattle.monitor_core.specs.Jobs.{job_at}
 use Rattle.monitor_core.specs.Systems.{IsWithin}
 use Rattle.monitor_core.specs.Limits.{IsBody}
-use Rattle.monitor_core.specs.Runners.{with_change}
 use Rattle.monitor_core.specs.Sound.{AreSound}
 use Rattle.monitor_core.proofs.Sounds.{lives_now, same_tops, sound_change, sound_same, split_at}
 
@@ -83,7 +83,7 @@ restarted_body f address low b = record { status = λ c h. absurd (cc h); off = 
 
 -- a system with a word put at an address of a fork is sound
 pub sound_poked : {P : Type 0} {b : _} (m : System P b) → IsTree m.tree → (q : P) (tree : PlainTree) (jobs : List (Option Job)) (name : ForkName) (address word : ℕ) → b.means.lives q ≡ b.means.lives m.pages → b.means.forks_of q ≡ b.means.forks_of m.pages → jobs ≡ m.jobs.items
-    → (address < ACCUMULATORS → tree ≡ with_change m.tree name (with_accumulator address word)) → (ACCUMULATORS ≤ address → tree ≡ m.tree) → AreSound b.means q tree jobs
+    → (address < ACCUMULATORS → tree ≡ with_changed_of m.tree name (with_accumulator address word)) → (ACCUMULATORS ≤ address → tree ≡ m.tree) → AreSound b.means q tree jobs
 sound_poked {b = b} m is q tree jobs name address word lives forks same low high =
     let tops = same_tops m.jobs.items jobs same in
     elim (split_at address ACCUMULATORS) [

@@ -6,8 +6,6 @@ use Rattle.std.specs.Option.{option_map, option_map_or, unwrap_or}
 use Rattle.std.specs.FinMap as fin
 use Rattle.plain_model.specs.declared.call.End.{End}
 use Rattle.plain_model.specs.declared.call.End.TheVariants as end
-use Rattle.plain_model.specs.declared.call.ForkChange.{ForkChange}
-use Rattle.plain_model.specs.declared.call.MapChange.{MapChange}
 use Rattle.plain_units.specs.declared.channel.TheConstants.{ILLEGAL_INSTRUCTION, INFERIOR_ENDED}
 use Rattle.script_texts.specs.declared.event.Item.TheVariants.{UnitLine}
 use Rattle.script_texts.specs.declared.event.Step.TheVariants.{Unit as AUnit}
@@ -19,26 +17,27 @@ use Rattle.machine_names.specs.declared.names.TheConstants.{MOST_FORKS}
 use Rattle.machine_names.specs.declared.names.ForkName.{ForkName}
 use Rattle.machine_names.specs.declared.names.Tty.{Tty}
 use Rattle.plain_model.specs.Calls.{Came, Turn, fork_behind, is_among, no_files, numbered, parts_behind, posted_if, turn_on, with_error}
-use Rattle.plain_model.specs.Families.{Parts, Turned, asks_forks, asks_maps, behind as family_behind, call_turned, forks_part, no_part, pages_part, print_calls, own_changed, through}
+use Rattle.plain_model.specs.Families.{Parts, Turned, behind as family_behind, call_turned, print_calls, own_changed, asks, forks_changed, pages_changed}
 use Rattle.plain_model.specs.FileCalls.{file_call, file_calls}
-use Rattle.plain_model.specs.ForkCalls.{fork_call, fork_calls, fork_changed}
+use Rattle.plain_model.specs.ForkCalls.{fork_call, fork_calls}
 use Rattle.plain_model.specs.Forks.{ForkMap, counted, is_frozen, superior_of, with_regs}
 use Rattle.plain_model.specs.Interrupts.{is_panic, posted}
-use Rattle.plain_model.specs.MapCalls.{map_call, map_calls, map_changed}
+use Rattle.plain_model.specs.MapCalls.{map_call, map_calls}
 use Rattle.machine_names.specs.Orders.{name_cmp}
 use Rattle.plain_model.specs.Run.{IsLegalStep, apply, unit_line}
 use Rattle.plain_pages.specs.PlainPages.{NumberedPages}
 use Rattle.plain_model.specs.State.{PlainJob, PlainState}
 use Rattle.plain_units.specs.Steps.{Planned, call, done, need, pages_left, stopped as unit_stopped, trap}
-use Rattle.plain_model.specs.Unit.{Effect, called, in_command_mode, over, printed, put_with, stop_text, stopped, turn_printed, turned, unit, unit_ended, went}
+use Rattle.plain_model.specs.Unit.{Effect, called, in_command_mode, over, printed, stop_text, stopped, turn_printed, turned, unit, unit_ended, went}
 use Rattle.plain_units.specs.Units.{unit_on}
 use Rattle.plain_model.proofs.Calling.{MakesNone, file_makes_none, forks_behind, nothing_behind, pages_behind, print_makes_none}
 use Rattle.plain_model.proofs.Equations.{apply_unit, unit_some}
 use Rattle.plain_model.proofs.ForkMaps.{AreOwn, put_itself, superior_tells}
 use Rattle.plain_model.proofs.Posted.{posted_same}
 use Rattle.plain_units.proofs.RefiledUnits.{left_refiled, refiled_plan}
-use Rattle.plain_model.specs.Trees.{end_told, tree_of, waiters_woken, with_posted}
+use Rattle.plain_model.specs.Trees.{end_told, tree_of, waiters_woken, changed}
 use Rattle.fork_tree.specs.Trees.{IsTree}
+use Rattle.fork_tree.proofs.CanRun.{named_runs, runs_can}
 use Rattle.fork_calls.specs.Limits.{AreWithin}
 use Rattle.fork_calls.proofs.Places.{Keep, waiters_keep}
 use Rattle.monitor_core.specs.declared.shown.Shown.{Shown}
@@ -49,7 +48,7 @@ use Rattle.monitor_core.specs.Runners.{woken_where}
 use Rattle.monitor_core.specs.Shown.{is_stop, is_stopped, nothing, seen_of, seen_stop, shown_items, stands, stop_items, stop_of}
 use Rattle.monitor_core.proofs.CallerStays.{caller_stays}
 use Rattle.monitor_core.proofs.Keeping.{dropped_off, posted_off}
-use Rattle.monitor_core.proofs.Unfiled.{call_named, named, named_turned, unit_named}
+use Rattle.monitor_core.proofs.Unfiled.{call_named, named, unit_named}
 
 -- the jobs once the monitor reads a terminal, if it does
 abbrev pub jobs_seen : fin.FinMap nat_cmp PlainJob → Tty → Bool → fin.FinMap nat_cmp PlainJob
@@ -76,7 +75,7 @@ told_is forks quiet g = by (superior_of woken g) refl
     keep : Keep forks (waiters_woken forks g.name.tty)
     keep = waiters_keep forks quiet.own g.name.tty
 
-    by : (o : Option Fork) → superior_of (waiters_woken forks g.name.tty) g ≡ o → with_posted (waiters_woken forks g.name.tty) INFERIOR_ENDED o ≡ waiters_woken forks g.name.tty
+    by : (o : Option Fork) → superior_of (waiters_woken forks g.name.tty) g ≡ o → changed (waiters_woken forks g.name.tty) (λ k. posted k INFERIOR_ENDED) o ≡ waiters_woken forks g.name.tty
     by None none = refl
     by (Some k) there =
         let at = superior_tells woken keep.own g k there in
@@ -133,7 +132,7 @@ module _ (s : PlainState) (f : Fork) where
   ended_as : is_some f.superior ≡ not (f.slot == 1) → (g : Fork) → g.name ≡ f.name → g.superior ≡ f.superior → (is_stopped (stop_of g.body.status) ≡ true → AreQuiet (forks_with g)) → unit_ended s g g.body.status ≡ stands_as g (stop_of g.body.status)
   ended_as top g name superior quiet = by g.body.status refl quiet
     where
-      by : (status : ForkStatus) → g.body.status ≡ status → (is_stopped (stop_of status) ≡ true → AreQuiet (forks_with g)) → put_with s (counted g) status ≡ stands_as g (stop_of status)
+      by : (status : ForkStatus) → g.body.status ≡ status → (is_stopped (stop_of status) ≡ true → AreQuiet (forks_with g)) → unit_ended s g status ≡ stands_as g (stop_of status)
       by Run is quiet = refl
       by (Wait on) is quiet = refl
       by AHalted is quiet = stops_as g Halted name superior top refl (quiet refl) (ap (λ x. printed f.name.tty (stop_text x)) (sym is))
@@ -241,28 +240,28 @@ module _ (s : PlainState) (f : Fork) (p : NumberedPages) (t : Runs s f p) where
       turn_stays f came.end,
     )
 
-    own_caller : (u : Turn ⊥ (Unit {0})) → MakesNone p u → HasCaller (family_behind (through no_part own_changed) asked_of f.name (turn_on no_files p u))
+    own_caller : (u : Turn ⊥ (Unit {0})) → MakesNone p u → HasCaller (family_behind own_changed asked_of f.name (turn_on no_files p u))
     own_caller u makes =
         let c = turn_on no_files p u in
-        family_caller (through no_part own_changed) c asked_of
-        (ap (λ (q : NumberedPages). parts_behind (through no_part own_changed) asked_of (record asked_of { pages = q }) c.end) makes ∙ nothing_behind asked_of c.end) t.fork
+        family_caller own_changed c asked_of
+        (ap (λ (q : NumberedPages). parts_behind own_changed asked_of (record asked_of { pages = q }) c.end) makes ∙ nothing_behind asked_of c.end) t.fork
 
-    fork_caller : HasCaller (family_behind (through forks_part fork_changed) asked_of f.name (turn_on no_files p (fork_call number (asks_forks asked_of f.name f.body.regs))))
+    fork_caller : HasCaller (family_behind forks_changed asked_of f.name (turn_on no_files p (fork_call number (asks asked_of f.name f.body.regs))))
     fork_caller =
-        let c = turn_on no_files p (fork_call number (asks_forks asked_of f.name f.body.regs)) in
-        family_caller (through forks_part fork_changed) c _ (forks_behind asked_of c.pages c.end) (caller_stays f t.runs t.off (tree_of s) t.trees t.fork p number)
+        let c = turn_on no_files p (fork_call number (asks asked_of f.name f.body.regs)) in
+        family_caller forks_changed c _ (forks_behind asked_of c.pages c.end) (caller_stays f t.runs t.off (tree_of s) t.trees t.fork p number)
 
-    map_caller : HasCaller (family_behind (through pages_part map_changed) asked_of f.name (turn_on no_files p (map_call number (asks_maps asked_of f.name f.body.regs))))
+    map_caller : HasCaller (family_behind pages_changed asked_of f.name (turn_on no_files p (map_call number (asks asked_of f.name f.body.regs))))
     map_caller =
-        let c = turn_on no_files p (map_call number (asks_maps asked_of f.name f.body.regs)) in
-        family_caller (through pages_part map_changed) c _ (pages_behind asked_of c.pages c.end) t.fork
+        let c = turn_on no_files p (map_call number (asks asked_of f.name f.body.regs)) in
+        family_caller pages_changed c _ (pages_behind asked_of c.pages c.end) t.fork
 
     caller_there : HasCaller gone
     caller_there =
         cond_both (is_among print_calls number) _ _ HasCaller (λ is. own_caller (numbered print_calls number f.body.regs) (print_makes_none p number f.body.regs)) (λ n1.
         cond_both (is_among fork_calls number) _ _ HasCaller (λ is. fork_caller) (λ n2.
         cond_both (is_among map_calls number) _ _ HasCaller (λ is. map_caller) (λ n3.
-        cond_both (is_among file_calls number) _ _ HasCaller (λ is. own_caller (file_call number (asks_forks asked_of f.name f.body.regs)) (file_makes_none p number (asks_forks asked_of f.name f.body.regs))) (λ n4.
+        cond_both (is_among file_calls number) _ _ HasCaller (λ is. own_caller (file_call number (asks asked_of f.name f.body.regs)) (file_makes_none p number (asks asked_of f.name f.body.regs))) (λ n4.
         (posted f ILLEGAL_INSTRUCTION, ap (option_map (λ g. posted g ILLEGAL_INSTRUCTION)) t.fork, posted_stays f f ILLEGAL_INSTRUCTION (refl, refl))))))
 
     called_as : Comes (called s f number) (called_behind (tree_of s) f p number)
@@ -302,4 +301,4 @@ module _ (s : PlainState) (f : Fork) (p : NumberedPages) (t : Runs s f p) where
 
   -- which is legal
   pub step_legal : (auto : Bool) → IsLegalStep auto s (AUnit f.name)
-  step_legal auto = (f, t.fork, t.runs, t.thawed)
+  step_legal auto = named_runs s.forks f.name f t.fork (runs_can s.forks f (t.runs, t.thawed))

@@ -15,7 +15,8 @@ use Rattle.page_contracts.specs.declared.answers.Need.{Need}
 use Rattle.page_contracts.specs.Stores.{IsNeeded}
 use Rattle.fork_calls.specs.Needing.{call_frames}
 use Rattle.plain_model.specs.Run.{apply, state_after, items_of, AreLegal}
-use Rattle.fork_tree.specs.Trees.{CanRun, Lives}
+use Rattle.fork_tree.specs.Trees.{Lives}
+use Rattle.plain_model.specs.Forks.{IsRunnable}
 use Rattle.monitor_core.specs.declared.reply.Reply.{Reply}
 use Rattle.monitor_core.specs.declared.system.System.{System}
 use Rattle.monitor_core.specs.Jobs.{jobs_of}
@@ -48,8 +49,8 @@ pub record IsWithin {P : Type 0} {b : _} (m : System P b) (entries : ℕ) : Type
 -- what a step asks: an event that is built and is one entry, within its limits; a fork that can run; or that none can
 abbrev pub CanDo : {P : Type 0} {b : _} → System P b → Step → Type 0
 CanDo m (Outer e) = FitsStep (Outer e) × IsBuilt e
-CanDo m (AUnit f) = CanRun m.tree.forks f
-CanDo m Idle = (f : ForkName) → CanRun m.tree.forks f → ⊥
+CanDo m (AUnit f) = IsRunnable m.tree.forks f
+CanDo m Idle = (f : ForkName) → IsRunnable m.tree.forks f → ⊥
 
 -- a step is done: over each drum that fits, the system stands for the state that the step leaves, and the reply is what it shows
 pub record Did {P : Type 0} {b : _} (old new : System P b) (step : Step) (reply : Reply) : Type 0 where

@@ -6,10 +6,17 @@ use Rattle.machine_names.specs.declared.names.Slot.{Slot}
 use Rattle.machine_names.specs.declared.names.Kind.TheVariants.{Write}
 use Rattle.script_texts.specs.declared.event.Refusal.{Refusal}
 use Rattle.script_texts.specs.declared.event.Refusal.TheVariants.{Denied, Full}
+use Rattle.plain_model.specs.declared.fork.Fork.{Fork}
+use Rattle.plain_model.specs.Calls.{with_ac}
+use Rattle.plain_model.specs.Forks.{with_regs}
 use Rattle.plain_pages.specs.PlainPages.{NumberedPages}
 use Rattle.plain_pages.specs.References.{Referred, granted, denied, full, in_map, reference, stored}
 use Rattle.page_contracts.specs.DrumWords.{DrumWords}
 use Rattle.page_contracts.specs.Pages.{PagesMeaning}
+
+-- a fork with a word in an accumulator
+abbrev pub with_accumulator : ℕ → ℕ → Fork → Fork
+with_accumulator at word f = with_regs f (with_ac f.body.regs at word)
 
 -- a reference to write, as an event of a terminal has it: the pages that it leaves, or the refusal
 abbrev pub write_of : Tty → Referred nat_cmp → Result NumberedPages Refusal

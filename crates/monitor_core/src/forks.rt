@@ -3,18 +3,18 @@ ghost use Rattle.std.specs.Prelude.{◌≡◌, ◌<◌, ◌≤◌, ◌%◌, ◌^
 ghost use Rattle.std.specs.FinMap as map;
 ghost use Rattle.outside.specs.declared.TheConstants.{PAGE_WORDS};
 ghost use Rattle.plain_model.specs.declared.fork.Fork.{Fork as AFork};
-ghost use Rattle.plain_model.specs.Events.{restarted, with_accumulator};
+ghost use Rattle.plain_model.specs.Events.{restarted};
 ghost use Rattle.plain_model.specs.Forks.{fork_line, superior_of};
 ghost use Rattle.script_texts.specs.Limits.{FitsCause, FitsItem};
 ghost use Rattle.machine_names.specs.Bounds.{IsAddress, IsTerminal};
 ghost use Rattle.page_contracts.specs.DrumWords.{DrumWords};
 ghost use Rattle.plain_pages.specs.References.{slot_at as slot_of};
 ghost use Rattle.std.specs.Option.{option_map_or};
-ghost use Rattle.fork_tree.specs.Trees.{IsTree, Lives};
+ghost use Rattle.fork_tree.specs.Trees.{IsTree};
 ghost use Rattle.monitor_core.specs.Holding.{Holds};
 ghost use Rattle.monitor_core.specs.Looking.{examined_in, item_of};
-ghost use Rattle.monitor_core.specs.Runners.{with_change};
-ghost use Rattle.monitor_core.specs.Writing.{Makes, Writes};
+ghost use Rattle.plain_model.specs.Trees.{with_changed_of};
+ghost use Rattle.monitor_core.specs.Writing.{Makes, Writes, with_accumulator};
 
 use crate::address::{offset_in_page, slot_at};
 use crate::looking::seen_word;
@@ -40,7 +40,7 @@ pub fn poke<P: Pages>(
     requires serial { P.means.serial pages.old fork.tty < 2 ^ 61 }
     requires address { IsAddress address }
     ensures low { address < ACCUMULATORS
-        → (result ≡ Ok tt) × (tree.new ≡ with_change tree.old fork (with_accumulator address word)) × (pages.new ≡ pages.old) }
+        → (result ≡ Ok tt) × (tree.new ≡ with_changed_of tree.old fork (with_accumulator address word)) × (pages.new ≡ pages.old) }
     ensures high { ACCUMULATORS ≤ address
         → (tree.new ≡ tree.old) × Writes P.means pages.old pages.new (slot_of fork address) (address % PAGE_WORDS) word result }
     ensures made { Makes P.means pages.old pages.new fork.tty 2 }
@@ -60,7 +60,7 @@ pub fn poke<P: Pages>(
 pub fn start(tree: &mut Tree, fork: ForkName, address: u32)
     requires tree { IsTree tree.old }
     requires lives { IsSome (map.get tree.old.forks fork) }
-    ensures { tree.new ≡ with_change tree.old fork (restarted address) }
+    ensures { tree.new ≡ with_changed_of tree.old fork (restarted address) }
 {
     tree.freeze(fork, false);
     if let Some(body) = tree.body_mut(fork) {

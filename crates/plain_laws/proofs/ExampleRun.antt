@@ -51,6 +51,7 @@ use Rattle.plain_model.specs.Trees.{unwaited, end_told}
 use Rattle.machine_names.proofs.OrderLemmas.{fork_cmp_total, page_cmp_total}
 use Rattle.plain_model.proofs.ForkMaps.{cases_name, get_put, get_put_other}
 use Rattle.plain_laws.proofs.Waiters.{none_told, halts_so, prints_so}
+use Rattle.fork_tree.proofs.CanRun.{named_runs, runs_as}
 use Rattle.std.specs.Option.{option_map_or, option_and_then}
 use Rattle.std.specs.Cmp.Lexicographic.{nat_list_cmp_total}
 use Rattle.outside.specs.declared.TheConstants.{PAGE_WORDS}
@@ -391,16 +392,16 @@ only_halted f k false other there runs =
     cc (none, there)
 
 none_runs : IsLegalStep true (at pages_5 jobs_3 forks_5) Idle
-none_runs on f r = only_halted f r.0 (eq_by_cmp fork_cmp f first_fork) refl r.1 r.2
+none_runs on f runs = let r = runs_as forks_5 f runs in only_halted f r.0 (eq_by_cmp fork_cmp f first_fork) refl r.1 r.2
 
 legal_6 : AreLegal true (at pages_5 jobs_2 forks_2) rest_6
 unfolding apply
 legal_6 = (
-  (fork Run regs_0 0, fork_set forks_1 first_fork (fork Run regs_0 0), refl, refl),
+  named_runs forks_2 first_fork (fork Run regs_0 0) (fork_set forks_1 first_fork (fork Run regs_0 0)) refl,
   subst (λ s. AreLegal true s rest_7) (sym (ap (λ (e : Effect). e.state) moves)) (
-    (fork Run regs_1 1, fork_set forks_2 first_fork (fork Run regs_1 1), refl, refl),
+    named_runs forks_3 first_fork (fork Run regs_1 1) (fork_set forks_2 first_fork (fork Run regs_1 1)) refl,
     subst (λ s. AreLegal true s rest_8) (sym (ap (λ (e : Effect). e.state) prints)) (
-      (fork Run regs_2 2, fork_set forks_3 first_fork (fork Run regs_2 2), refl, refl),
+      named_runs forks_4 first_fork (fork Run regs_2 2) (fork_set forks_3 first_fork (fork Run regs_2 2)) refl,
       subst (λ s. AreLegal true s rest_9) (sym (ap (λ (e : Effect). e.state) halts)) (none_runs, (none_runs, tt)),
     ),
   ),

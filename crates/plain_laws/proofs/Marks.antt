@@ -22,8 +22,8 @@ use Rattle.plain_model.specs.Forks.{ForkMap, IsRunnable, fork_in, is_frozen, sup
 use Rattle.plain_model.specs.Interrupts.{posted}
 use Rattle.plain_model.specs.Inferiors.{last_below}
 use Rattle.plain_model.specs.Trees.{tree_of, next_name, changed, with_body, with_mark, unwaited, woken_in, waiters_woken, end_told}
-use Rattle.plain_model.specs.Calls.{parts_behind}
-use Rattle.plain_model.specs.ForkCalls.{ForkAsked, ForkParts, without, without_below, with_halted, fork_changed}
+use Rattle.plain_model.specs.Calls.{parts_behind, Asked}
+use Rattle.plain_model.specs.ForkCalls.{ForkParts, without, without_below, with_halted, fork_changed}
 use Rattle.plain_laws.specs.ForkLaws.{Resumes, UnitResumes}
 use Rattle.plain_units.specs.Steps.{Planned, done, call, stopped as unit_stopped}
 use Rattle.plain_model.specs.Unit.{over, unit, parts_of}
@@ -34,7 +34,8 @@ use Rattle.plain_model.proofs.ForkEnds.{FitsChange, FitsEnd, call_names}
 use Rattle.plain_laws.proofs.UnitForks.{KeptBy, fork_kept, over_kept}
 use Rattle.plain_model.proofs.Posted.{posted_mark}
 use Rattle.plain_laws.proofs.WholeForks.{no_fork}
-use Rattle.plain_model.specs.Families.{through, forks_part}
+use Rattle.fork_tree.proofs.CanRun.{runs_as}
+use Rattle.plain_model.specs.Families.{forks_changed}
 use Rattle.plain_model.proofs.Calling.{fork_came, fork_called, fork_turned}
 
 -- whatever a fork with the mark is changed to, it has it
@@ -42,12 +43,13 @@ abbrev KeepsMark : (Fork → Fork) → Type 0
 KeepsMark change = (f : Fork) → ((change f).name ≡ f.name) × ((change f).frozen ≡ f.frozen)
 
 -- a fork with the mark does not run
-pub frozen_waits : (s : PlainState) (name : ForkName) (f : Fork) → map.get s.forks name ≡ Some f → f.frozen ≡ true → IsRunnable s name → ⊥
+pub frozen_waits : (s : PlainState) (name : ForkName) (f : Fork) → map.get s.forks name ≡ Some f → f.frozen ≡ true → IsRunnable s.forks name → ⊥
 frozen_waits s name f there mark runs =
-    let both : Some f ≡ Some runs.0 = sym there ∙ runs.1 in
-    let same : f ≡ runs.0 = cc both in
-    let on : (runs.0).frozen ≡ true = ap (λ (g : Fork). g.frozen) (sym same) ∙ mark in
-    let no : true ≡ false = sym (ap (λ b. b || is_frozen 29 s.forks (superior_of s.forks runs.0)) on) ∙ runs.3 in
+    let r = runs_as s.forks name runs in
+    let both : Some f ≡ Some r.0 = sym there ∙ r.1 in
+    let same : f ≡ r.0 = cc both in
+    let on : (r.0).frozen ≡ true = ap (λ (g : Fork). g.frozen) (sym same) ∙ mark in
+    let no : true ≡ false = sym (ap (λ b. b || is_frozen 29 s.forks (superior_of s.forks r.0)) on) ∙ r.3 in
     cc no
 
 module _ (name : ForkName) where
@@ -141,7 +143,7 @@ module _ (name : ForkName) where
     not_next t e = let no : true ≡ false = sym (ap is_some there) ∙ ap (map.contains_key s.forks) (sym e) ∙ no_fork s w t in cc no
 
     module _ (who : ForkName) (regs : Regs) (p q : NamedPages) where
-      abbrev caller_asked : ForkAsked
+      abbrev caller_asked : Asked
       caller_asked = record { who = who; regs = regs; tree = tree_of s }
 
       abbrev parts : ForkParts name_cmp
@@ -172,7 +174,7 @@ module _ (name : ForkName) where
         q = (fork_came s caller number).pages
 
         by : (e : End ForkChange) → (fork_came s caller number).end ≡ e → FitsEnd (record { who = caller.name; regs = caller.body.regs; tree = tree_of s }) s.pages (λ x y. Unit {0}) q e
-            → Marked (parts_behind (through forks_part fork_changed) (parts_of s) (record (parts_of s) { pages = q }) e).tree.forks ⊎ Resumes s caller number name
+            → Marked (parts_behind forks_changed (parts_of s) (record (parts_of s) { pages = q }) e).tree.forks ⊎ Resumes s caller number name
         by (Done change regs out post) ends fits = elim (change_stays caller.name caller.body.regs s.pages q change fits) [
           | inl m ↦ inl m
           | inr c ↦ inr (regs, out, post, ends ∙ ap (λ (x : ForkChange). Done x regs out post) c)

@@ -30,20 +30,20 @@ use Rattle.plain_model.specs.Interrupts.{posted, pended, listens, is_panic}
 use Rattle.plain_pages.specs.References.{Referred, granted, denied, full, in_map, reference, slot_at}
 use Rattle.plain_pages.specs.Room.{HasRoom}
 use Rattle.plain_units.specs.declared.channel.TheConstants.{ILLEGAL_INSTRUCTION, INFERIOR_ENDED}
-use Rattle.plain_model.specs.Unit.{Effect, in_command_mode, with_stopped, stopped, unit_ended, trapped, called, went, over, unit, parts_of, with_parts, put_with}
+use Rattle.plain_model.specs.Unit.{Effect, in_command_mode, with_stopped, stopped, unit_ended, trapped, called, went, over, unit, parts_of, with_parts}
 use Rattle.plain_units.specs.Units.{unit_on}
 use Rattle.plain_model.specs.declared.call.End.{End}
 use Rattle.plain_model.specs.declared.call.End.TheVariants.{Done, Waits, Halts, Refused, Failed, Trap}
 use Rattle.plain_model.specs.declared.call.ForkChange.{ForkChange}
 use Rattle.plain_model.specs.declared.call.ForkChange.TheVariants.{Nothing, Make, Kill, Freeze, Become, Halt, Store}
 use Rattle.plain_units.specs.declared.registers.Regs.{Regs}
-use Rattle.plain_model.specs.Calls.{Turn, with_error, fork_behind, parts_behind, out_of, posted_if}
+use Rattle.plain_model.specs.Calls.{Turn, with_error, fork_behind, parts_behind, out_of, posted_if, Asked, with_ac}
 use Rattle.plain_model.specs.Inferiors.{last_below}
-use Rattle.plain_model.specs.Trees.{tree_of, next_name, with_made, changed, with_mark, with_body, unwaited, woken_in, waiters_woken, with_posted, end_told}
-use Rattle.plain_model.specs.ForkCalls.{ForkAsked, ForkParts, without, without_below, killed, with_halted, fork_changed}
+use Rattle.plain_model.specs.Trees.{tree_of, next_serial, next_name, with_made, changed, with_mark, with_body, unwaited, woken_in, waiters_woken, end_told}
+use Rattle.plain_model.specs.ForkCalls.{ForkParts, without, without_below, killed, with_halted, fork_changed}
 use Rattle.plain_units.specs.Steps.{Planned, Ending, done, call, trap, need, stopped as unit_stopped, pages_left}
 use Rattle.plain_pages.specs.declared.map.NewMap.TheVariants.{Empty as EmptyMap}
-use Rattle.plain_model.specs.Events.{at_job, next_fork, with_job, restarted, login, with_accumulator, poked, poked_at, poke, start, word_seen, examined_in, examine, show_forks, outer}
+use Rattle.plain_model.specs.Events.{at_job, with_job, restarted, login, poked, poked_at, poke, start, word_seen, examined_in, examine, show_forks, outer}
 use Rattle.plain_pages.specs.NewMaps.{with_map}
 use Rattle.machine_names.specs.Bounds.{IsForkName, IsTerminal}
 use Rattle.script_texts.specs.Limits.{FitsEvent, FitsStep}
@@ -55,7 +55,8 @@ use Rattle.plain_model.proofs.ForkMaps.{AreOwn, cases_name, get_gone, get_gone_o
 use Rattle.plain_model.proofs.ForkEnds.{FitsChange, FitsEnd, call_names}
 use Rattle.plain_model.proofs.Posted.{posted_same}
 use Rattle.plain_laws.proofs.WholeForks.{with_fork_parts, fork_parts_of}
-use Rattle.plain_model.specs.Families.{through, forks_part}
+use Rattle.fork_tree.proofs.CanRun.{runs_as}
+use Rattle.plain_model.specs.Families.{forks_changed}
 use Rattle.plain_model.proofs.Calling.{fork_came, fork_left, fork_called, fork_turned, map_came, map_pages, map_turned, own_came, own_turned, none_turned, MakesNone, caller_by, called_by, map_by, own_by}
 
 -- each living fork stands under its own name, and each terminal's next serial is 1 or more
@@ -137,7 +138,7 @@ module _ (s : PlainState) (n : IsNamed s) where
   unfolding waiters_woken
   waiters_named t = woken_named s n t (range_with_len 1 MOST_FORKS)
 
-  told_posted : (f : Fork) (channel : ℕ) → IsNamed (record s { forks = with_posted s.forks channel (superior_of s.forks f) })
+  told_posted : (f : Fork) (channel : ℕ) → IsNamed (record s { forks = changed s.forks (λ k. posted k channel) (superior_of s.forks f) })
   told_posted f channel = changed_if s n (λ k. posted k channel) (λ k. posted_name k channel) (superior_of s.forks f) (λ k is. let at = superior_tells s.forks (own s n) f k is in at.0)
 
 -- a fork that ended is told of
@@ -180,7 +181,7 @@ made_named s n t fits f is =
     }
 
 module _ (s : PlainState) (n : IsNamed s) (who : ForkName) (regs : Regs) (p q : NamedPages) (terminal : IsTerminal who.tty) where
-  abbrev caller : ForkAsked
+  abbrev caller : Asked
   caller = record { who = who; regs = regs; tree = tree_of s }
 
   abbrev Named : ForkParts name_cmp → Type 0
@@ -215,7 +216,7 @@ fork_called_named s n f fits number = by (fork_came s f number).end (call_names 
     q = (fork_came s f number).pages
 
     by : (e : End ForkChange) → FitsEnd (record { who = f.name; regs = f.body.regs; tree = tree_of s }) s.pages (λ x y. Unit {0}) q e
-        → IsNamed (with_parts s (parts_behind (through forks_part fork_changed) (parts_of s) (record (parts_of s) { pages = q }) e))
+        → IsNamed (with_parts s (parts_behind forks_changed (parts_of s) (record (parts_of s) { pages = q }) e))
     by (Done change regs out post) ok = change_named s n f.name f.body.regs s.pages q fits.0 change ok
     by (Waits on) ok = n
     by Halts ok = n
@@ -229,14 +230,11 @@ module _ (s : PlainState) (n : IsNamed s) where
   stopped_named f fits = let t = with_stopped s f in let m : IsNamed t = told_named (with_fork s f) (put s n f fits) f in
       cond_both (is_some f.superior) _ _ Leaves (λ below. m) (λ top. mode_named t f.name.tty m)
 
-  put_with_named : (f : Fork) (status : ForkStatus) → IsForkName f.name → Leaves (put_with s f status)
-  put_with_named f Running fits = put s n f fits
-  put_with_named f (Wait on) fits = put s n f fits
-  put_with_named f Halted fits = stopped_named f fits
-  put_with_named f (Forced channel) fits = stopped_named f fits
-
   ended_named : (f : Fork) (status : ForkStatus) → IsForkName f.name → Leaves (unit_ended s f status)
-  ended_named f status fits = put_with_named (counted f) status fits
+  ended_named f Running fits = put s n (counted f) fits
+  ended_named f (Wait on) fits = put s n (counted f) fits
+  ended_named f Halted fits = stopped_named (counted f) fits
+  ended_named f (Forced channel) fits = stopped_named (counted f) fits
 
 -- a unit that goes through leaves its fork's name
 went_named : (s : PlainState) → IsNamed s → (f : Fork) (pages : NamedPages) (e : Ending) → IsForkName f.name → Leaves (went s f pages e)
@@ -287,14 +285,14 @@ module _ (s : PlainState) (n : IsNamed s) where
 
   -- an event makes a fork under a terminal's next serial, and else leaves the names
 
-  with_job_named : (t : Tty) (user : List ℕ) → IsForkName (next_fork s t) → IsNamed (with_job s t user)
-  with_job_named t user fits = let m = made_named s n t fits (top_fork (next_fork s t)) refl in record { stands = m.stands; begun = m.begun; each = m.each }
+  with_job_named : (t : Tty) (user : List ℕ) → IsForkName (next_name (tree_of s) t) → IsNamed (with_job s t user)
+  with_job_named t user fits = let m = made_named s n t fits (top_fork (next_name (tree_of s) t)) refl in record { stands = m.stands; begun = m.begun; each = m.each }
 
   login_named : (t : Tty) (user : List ℕ) → IsTerminal t → Leaves (login s t user)
   login_named t user terminal =
       cond_both (is_some (map.get s.jobs t.0)) _ _ Leaves (λ busy. n) (λ free.
-      cond_both (nat_lt LAST_SERIAL (next_fork s t).serial) _ _ Leaves (λ out. n) (λ few.
-      cond_both (HasRoom (with_map s.pages (next_fork s t) EmptyMap) t) _ _ Leaves (λ fits. with_job_named t user (next_fits s n t terminal few)) (λ full. n)))
+      cond_both (nat_lt LAST_SERIAL (next_serial (tree_of s) t)) _ _ Leaves (λ out. n) (λ few.
+      cond_both (HasRoom (with_map s.pages (next_name (tree_of s) t) EmptyMap) t) _ _ Leaves (λ fits. with_job_named t user (next_fits s n t terminal few)) (λ full. n)))
 
   -- a change of a fork that leaves its name
   changed_named : (k : ForkName) (change : Fork → Fork) → ((f : Fork) → (change f).name ≡ f.name) → IsNamed (change_fork s k change)
@@ -312,7 +310,7 @@ module _ (s : PlainState) (n : IsNamed s) where
   poke_named : (t : Tty) (address word : ℕ) → Leaves (poke s t address word)
   poke_named t address word = job_named t (poked_at s t address word) (λ j.
       let slot = slot_at j.top address in
-      cond_both (nat_lt address ACCUMULATORS) _ _ Leaves (λ below. changed_named j.top (with_accumulator address word) (λ f. refl)) (λ above. poked_named t slot (address % PAGE_WORDS) word (reference s.pages (in_map slot) Write t)))
+      cond_both (nat_lt address ACCUMULATORS) _ _ Leaves (λ below. changed_named j.top (λ f. with_regs f (with_ac f.body.regs address word)) (λ f. refl)) (λ above. poked_named t slot (address % PAGE_WORDS) word (reference s.pages (in_map slot) Write t)))
 
   start_named : (t : Tty) (address : ℕ) → Leaves (start s t address)
   start_named t address = job_named t _ (λ j. let m = changed_named j.top (restarted address) (λ f. refl) in record { stands = m.stands; begun = m.begun; each = m.each })
@@ -351,7 +349,7 @@ module _ (s : PlainState) (n : IsNamed s) where
   -- a turn is of a fork that lives, or idle
   turn_fits : (auto : Bool) (x : Step) → IsTurn x → IsLegalStep auto s x → FitsStep x
   turn_fits auto (Outer e) turn legal = absurd turn
-  turn_fits auto (AUnit k) turn legal = let own = n.stands k legal.0 legal.1 in own.1
+  turn_fits auto (AUnit k) turn legal = let r = runs_as s.forks k legal in let own = n.stands k r.0 r.1 in own.1
   turn_fits auto Idle turn legal = tt
 
 steps_named : (s : PlainState) (xs : List Step) → IsNamed s → All FitsStep xs → IsNamed (state_after s xs)

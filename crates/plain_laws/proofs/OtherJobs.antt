@@ -6,8 +6,8 @@ use Rattle.std.specs.FinMap as map
 use Rattle.machine_names.specs.declared.names.Tty.{Tty}
 use Rattle.machine_names.specs.declared.names.ForkName.{ForkName}
 use Rattle.plain_units.specs.Steps.{begun}
-use Rattle.plain_model.specs.Calls.{parts_behind, no_files, turn_on, Came}
-use Rattle.plain_model.specs.ForkCalls.{ForkAsked, ForkParts, map_wanted, without, without_below, with_halted, fork_changed, fork_call}
+use Rattle.plain_model.specs.Calls.{parts_behind, no_files, turn_on, Came, Asked}
+use Rattle.plain_model.specs.ForkCalls.{ForkParts, map_wanted, without, without_below, with_halted, fork_changed, fork_call}
 use Rattle.plain_model.specs.declared.call.End.{End}
 use Rattle.plain_model.specs.declared.call.End.TheVariants.{Done, Waits, Halts, Refused, Failed, Trap}
 use Rattle.plain_model.specs.declared.call.ForkChange.{ForkChange}
@@ -120,7 +120,7 @@ module _ (t : Tty) (k : ForkName) (other : k.tty.0 ≡ t.0 → ⊥) (there : Opt
           rest (without v j.name) (record { forks = gone_stays v.tree.forks w.forks j.name at; maps = gone_maps t k other v.pages j.name at ∙ w.maps })
 
 module _ (s : PlainState) (w : IsWhole s) (who : ForkName) (regs : Regs) (k : ForkName) (other : k.tty.0 ≡ who.tty.0 → ⊥) where
-  abbrev caller : ForkAsked
+  abbrev caller : Asked
   caller = record { who = who; regs = regs; tree = tree_of s }
 
   abbrev Same : ForkParts name_cmp → Type 0

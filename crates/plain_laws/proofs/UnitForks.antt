@@ -18,7 +18,7 @@ use Rattle.plain_model.specs.Interrupts.{posted}
 use Rattle.plain_units.specs.Steps.{Planned, Ending, done, call, trap, need, stopped as unit_stopped}
 use Rattle.plain_model.specs.Trees.{end_told}
 use Rattle.plain_model.specs.Calls.{Turn, with_error, fork_behind, out_of, posted_if}
-use Rattle.plain_model.specs.Unit.{Effect, in_command_mode, with_stopped, stopped, unit_ended, trapped, called, went, over, parts_of, put_with}
+use Rattle.plain_model.specs.Unit.{Effect, in_command_mode, with_stopped, stopped, unit_ended, trapped, called, went, over, parts_of}
 use Rattle.plain_units.proofs.Lookups.{looked_up}
 use Rattle.plain_model.proofs.Calling.{fork_came, fork_left, fork_called, fork_turned, map_came, map_pages, map_turned, own_came, own_turned, none_turned, MakesNone, caller_by, called_by, map_by, own_by}
 use Rattle.plain_model.proofs.Posted.{SameMark, posted_mark}
@@ -56,14 +56,14 @@ module _ (Holds : ForkMap → Type 0) (Good : Fork → Type 0) (keeps : KeptBy H
       let told = keeps.told m.forks (keeps.put u.forks h f good) f good in
       cond_both (is_some f.superior) _ _ Leaves (λ below. told) (λ top. mode_kept (with_stopped u f) told f.name.tty)
 
-  put_kept : (u : PlainState) → Holds u.forks → (f : Fork) (status : ForkStatus) → Good f → Leaves (put_with u f status)
-  put_kept u h f Running good = keeps.put u.forks h f good
-  put_kept u h f (Wait on) good = keeps.put u.forks h f good
-  put_kept u h f Halted good = stopped_kept u h f good
-  put_kept u h f (Forced channel) good = stopped_kept u h f good
+  counted_good : (f : Fork) → Good f → Good (counted f)
+  counted_good f good = keeps.same f (counted f) (refl, refl) good
 
   pub ended_kept : (u : PlainState) → Holds u.forks → (f : Fork) (status : ForkStatus) → Good f → Leaves (unit_ended u f status)
-  ended_kept u h f status good = put_kept u h (counted f) status (keeps.same f (counted f) (refl, refl) good)
+  ended_kept u h f Running good = keeps.put u.forks h (counted f) (counted_good f good)
+  ended_kept u h f (Wait on) good = keeps.put u.forks h (counted f) (counted_good f good)
+  ended_kept u h f Halted good = stopped_kept u h (counted f) (counted_good f good)
+  ended_kept u h f (Forced channel) good = stopped_kept u h (counted f) (counted_good f good)
 
   module _ (s : PlainState) (h : Holds s.forks) (f : Fork) (good : Good f) (good_in : (g : Fork) → map.get s.forks f.name ≡ Some g → Good g) where
     trapped_kept : (channel : ℕ) → Leaves (trapped s f channel)
@@ -116,11 +116,8 @@ stopped_pages : (u : PlainState) (f : Fork) → (stopped u f).state.pages ≡ u.
 stopped_pages u f = cond_both (is_some f.superior) _ _ (λ (e : Effect). e.state.pages ≡ u.pages) (λ below. refl)
     (λ top. looked_up (λ (v : PlainState). v.pages ≡ u.pages) _ (with_stopped u f) (map.get u.jobs f.name.tty.0) (λ j is. refl) (λ none. refl))
 
-put_pages : (u : PlainState) (f : Fork) (status : ForkStatus) → (put_with u f status).state.pages ≡ u.pages
-put_pages u f Running = refl
-put_pages u f (Wait on) = refl
-put_pages u f Halted = stopped_pages u f
-put_pages u f (Forced channel) = stopped_pages u f
-
 pub ended_pages : (u : PlainState) (f : Fork) (status : ForkStatus) → (unit_ended u f status).state.pages ≡ u.pages
-ended_pages u f status = put_pages u (counted f) status
+ended_pages u f Running = refl
+ended_pages u f (Wait on) = refl
+ended_pages u f Halted = stopped_pages u (counted f)
+ended_pages u f (Forced channel) = stopped_pages u (counted f)

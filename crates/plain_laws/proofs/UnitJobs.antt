@@ -29,6 +29,7 @@ use Rattle.plain_units.specs.Instructions.{instruction}
 use Rattle.plain_units.specs.Steps.{Planned, Ending, done, call, trap, need, stopped as unit_stopped, begun, pages_left}
 use Rattle.plain_model.specs.Calls.{Turn, fork_behind, parts_behind, out_of, posted_if}
 use Rattle.plain_model.specs.MapCalls.{with_changed, map_changed}
+use Rattle.plain_model.specs.Trees.{tree_of}
 use Rattle.plain_model.specs.Unit.{Effect, unit_ended, called, went, over, unit, parts_of}
 use Rattle.plain_units.specs.Units.{unit_on}
 use Rattle.plain_laws.specs.Whole.{IsWhole}
@@ -116,7 +117,7 @@ module _ (s : PlainState) (w : IsWhole s) (name : ForkName) (f : Fork) (there : 
   map_maps : (number : ℕ) → MapsLeft (map_turned s f number)
   map_maps number =
       let e = (map_came s f number).end in
-      let here = turn_other f.name.tty k other s.pages s.forks e (map_call_in (record { who = f.name; regs = f.body.regs; forks = s.forks }) w.tree.slotted.own s.pages number) in
+      let here = turn_other f.name.tty k other s.pages s.forks e (map_call_in (record { who = f.name; regs = f.body.regs; tree = tree_of s }) w.tree.slotted.own s.pages number) in
       map_by MapsLeft s f number (λ g is. let h = fork_behind g e in ended_maps (record s { pages = map_pages s f number }) here h h.body.status) here
 
   fork_maps : (number : ℕ) → MapsLeft (fork_turned s f number)

@@ -11,9 +11,10 @@ use Rattle.plain_model.specs.declared.fork.Fork.{Fork}
 use Rattle.script_texts.specs.declared.status.ForkStatus.TheVariants.{Halted}
 use Rattle.plain_model.specs.State.{PlainState}
 use Rattle.plain_model.specs.Forks.{ForkMap, fork_in, counted, with_regs, with_status}
-use Rattle.plain_model.specs.Trees.{changed, unwaited, woken_in, waiters_woken, with_posted, end_told}
+use Rattle.plain_model.specs.Trees.{changed, unwaited, woken_in, waiters_woken, end_told}
 use Rattle.plain_model.specs.Calls.{behind_call, parts_behind, fork_behind, turn_on}
 use Rattle.plain_model.specs.Unit.{parts_of, stopped, called, turned, caller_ended}
+use Rattle.plain_model.specs.Interrupts.{posted}
 use Rattle.plain_model.proofs.ForkMaps.{AreOwn, put_itself, slot_tells}
 
 -- no fork waits for one
@@ -40,8 +41,8 @@ module _ (forks : ForkMap) (own : AreOwn forks) (none : NoneWaits forks) where
   -- and of the end of a top fork nobody is told
   pub none_told : (f : Fork) → f.superior ≡ None → end_told forks f ≡ forks
   none_told f top =
-      ap (λ woken. with_posted woken INFERIOR_ENDED (option_and_then (fork_in woken f.name.tty) f.superior)) (none_woken f.name.tty)
-      ∙ ap (λ (o : Option ℕ). with_posted forks INFERIOR_ENDED (option_and_then (fork_in forks f.name.tty) o)) top
+      ap (λ woken. changed woken (λ k. posted k INFERIOR_ENDED) (option_and_then (fork_in woken f.name.tty) f.superior)) (none_woken f.name.tty)
+      ∙ ap (λ (o : Option ℕ). changed forks (λ k. posted k INFERIOR_ENDED) (option_and_then (fork_in forks f.name.tty) o)) top
 
 -- a fork that calls HALTF stops, behind the call
 pub halts_so : (s : PlainState) (f : Fork) → map.get s.forks f.name ≡ Some f → called s f HALTF ≡ stopped s (counted (with_status (with_regs f (behind_call f.body.regs)) Halted))

@@ -35,14 +35,14 @@ use Rattle.plain_pages.specs.Room.{page_in, live}
 use Rattle.plain_pages.specs.References.{in_map, stored, slot_at, without_fork, drop_all_unnamed}
 use Rattle.machine_names.specs.Bounds.{IsOwner, IsForkName, IsTerminal}
 use Rattle.plain_pages.specs.NewMaps.{new_map, with_map}
-use Rattle.plain_model.specs.Forks.{with_regs, ForkMap, fork_in, superior_of, with_fork, with_status}
+use Rattle.plain_model.specs.Forks.{with_regs, ForkMap, fork_in, superior_of, with_fork, with_status, any_upward}
 use Rattle.plain_model.specs.Interrupts.{posted}
 use Rattle.plain_units.specs.Steps.{begun, is_accumulator}
-use Rattle.plain_model.specs.Inferiors.{any_upward, is_within, is_inferior, has_inferior, leaf_below, last_up_to, last_below}
-use Rattle.plain_model.specs.Trees.{tree_of, free_slot, next_name, next_serial, new_fork, with_made, changed, with_mark, with_body, unwaited, woken_in, waiters_woken, with_posted, end_told}
+use Rattle.plain_model.specs.Inferiors.{is_within, is_inferior, has_inferior, leaf_below, last_up_to, last_below}
+use Rattle.plain_model.specs.Trees.{tree_of, free_slot, next_name, next_serial, new_fork, with_made, changed, with_mark, with_body, unwaited, woken_in, waiters_woken, end_told}
 use Rattle.plain_units.specs.Blocks.{next_address, stored_from}
-use Rattle.plain_model.specs.Calls.{with_error, fork_behind, no_files, parts_behind, posted_if, turn_on}
-use Rattle.plain_model.specs.ForkCalls.{ForkAsked, fork_call, map_wanted, ForkParts, without, without_below, killed, with_halted, fork_changed}
+use Rattle.plain_model.specs.Calls.{with_error, fork_behind, no_files, parts_behind, posted_if, turn_on, Asked}
+use Rattle.plain_model.specs.ForkCalls.{fork_call, map_wanted, ForkParts, without, without_below, killed, with_halted, fork_changed}
 use Rattle.plain_pages.specs.WholePages.{AreWhole}
 use Rattle.plain_laws.specs.Whole.{AreGiven, IsWhole}
 use Rattle.plain_laws.proofs.GivenSerials.{IsNewGiven, added_given, removed_given, run_given, words_given}
@@ -52,7 +52,7 @@ use Rattle.plain_model.proofs.ForkMaps.{cases_name, get_put, get_put_other, get_
 use Rattle.plain_pages.proofs.Kept.{fork_kept, fork_maps, live_fork, fork_whole as fork_left_whole}
 use Rattle.plain_units.proofs.PageRuns.{AreSound, Keeps, kept_itself, kept_on, stored_kept}
 use Rattle.plain_model.proofs.ForkEnds.{FitsChange, FitsEnd, Leads, call_ends, call_keeps, mapped}
-use Rattle.plain_model.specs.Families.{through, forks_part}
+use Rattle.plain_model.specs.Families.{forks_changed}
 use Rattle.plain_model.specs.Unit.{parts_of, with_parts}
 use Rattle.plain_model.proofs.Calling.{fork_came, fork_called}
 use Rattle.fork_tree.specs.Inferiors.{HasNoInferior, IsLastBelow}
@@ -202,7 +202,7 @@ module _ (s : PlainState) (w : IsWhole s) where
   unfolding waiters_woken
   waiters_whole t = woken_whole s w t (range_with_len 1 MOST_FORKS)
 
-  posted_whole : (f : Fork) (channel : ℕ) → IsWhole (record s { forks = with_posted s.forks channel (superior_of s.forks f) })
+  posted_whole : (f : Fork) (channel : ℕ) → IsWhole (record s { forks = changed s.forks (λ k. posted k channel) (superior_of s.forks f) })
   posted_whole f channel = changed_if s w (λ k. posted k channel) (λ k. posted_same k channel) (superior_of s.forks f) (λ k is. let at = superior_tells s.forks w.tree.slotted.own f k is in at.0)
 
 -- a fork that ended is told of
@@ -445,7 +445,7 @@ module _ (s : PlainState) (w : IsWhole s) where
 
   -- a change of a fork call leaves the state whole
   module _ (who : ForkName) (regs : Regs) (terminal : IsTerminal who.tty) (lives : map.contains_key s.forks who ≡ true) (q : NamedPages) where
-    abbrev caller : ForkAsked
+    abbrev caller : Asked
     caller = record { who = who; regs = regs; tree = tree_of s }
 
     no_top : (f : ForkName) → is_inferior s.forks who f ≡ true → IsNoTop s f
@@ -493,7 +493,7 @@ module _ (s : PlainState) (w : IsWhole s) where
   unfolding parts_behind
   fork_called_whole name f there fits number = by (fork_came s f number).end (call_keeps nat_list_cmp_total a own s.pages (sound s w) (next_absent f.name.tty) number) (call_given f.name f.body.regs terminal lives q number)
     where
-      a : ForkAsked
+      a : Asked
       a = record { who = f.name; regs = f.body.regs; tree = tree_of s }
 
       terminal : IsTerminal f.name.tty
@@ -508,7 +508,7 @@ module _ (s : PlainState) (w : IsWhole s) where
       q : NamedPages
       q = (fork_came s f number).pages
 
-      by : (e : End ForkChange) → FitsEnd a s.pages (λ x y. Keeps x y) q e → FitsEnd a s.pages (λ x y. AreGiven (next_serial (tree_of s)) y.maps) q e → IsWhole (with_parts s (parts_behind (through forks_part fork_changed) (parts_of s) (record (parts_of s) { pages = q }) e))
+      by : (e : End ForkChange) → FitsEnd a s.pages (λ x y. Keeps x y) q e → FitsEnd a s.pages (λ x y. AreGiven (next_serial (tree_of s)) y.maps) q e → IsWhole (with_parts s (parts_behind forks_changed (parts_of s) (record (parts_of s) { pages = q }) e))
       by (Done change regs out post) ok given = change_whole f.name f.body.regs terminal lives q change ok given
       by (Waits on) ok given = w
       by Halts ok given = w

@@ -28,9 +28,9 @@ use Rattle.plain_model.specs.declared.fork.TerminalMode.TheVariants.{Command, Pr
 use Rattle.script_texts.specs.declared.status.ForkStatus.{ForkStatus}
 use Rattle.script_texts.specs.declared.status.ForkStatus.TheVariants.{Run as Running, Wait, Halted, Forced}
 use Rattle.plain_model.specs.Interrupts.{posted}
-use Rattle.plain_model.specs.Unit.{Effect, in_command_mode, with_stopped, stopped, unit_ended, trapped, called, went, over, unit, parts_of, put_with}
+use Rattle.plain_model.specs.Unit.{Effect, in_command_mode, with_stopped, stopped, unit_ended, trapped, called, went, over, unit, parts_of}
 use Rattle.plain_units.specs.Units.{unit_on}
-use Rattle.plain_model.specs.Calls.{Turn, fork_behind, out_of, parts_behind, posted_if}
+use Rattle.plain_model.specs.Calls.{Turn, fork_behind, out_of, parts_behind, posted_if, Asked, with_ac}
 use Rattle.plain_units.specs.Steps.{Planned, Ending, done, call, trap, need, stopped as unit_stopped, begun, pages_left}
 use Rattle.script_texts.specs.declared.event.Event.{Event}
 use Rattle.script_texts.specs.declared.event.Event.TheVariants.{Login, TypeIn, File, Words, Poke, Start, Run, Tick, Evict, Drum, Auto, Examine, Forks, Page, Trace}
@@ -39,14 +39,14 @@ use Rattle.script_texts.specs.declared.event.Step.TheVariants.{Outer, Unit as AU
 use Rattle.plain_model.specs.Run.{apply, state_after}
 use Rattle.plain_pages.specs.declared.map.NewMap.TheVariants.{Empty as EmptyMap}
 use Rattle.plain_pages.specs.NewMaps.{with_map}
-use Rattle.plain_model.specs.Events.{at_job, new_job, next_fork, with_job, login, with_accumulator, poked, poked_at, poke, restarted, start, started, word_seen, examined_in, outer}
+use Rattle.plain_model.specs.Events.{at_job, new_job, with_job, login, poked, poked_at, poke, restarted, start, started, word_seen, examined_in, outer}
 use Rattle.script_texts.specs.Limits.{FitsEvent, FitsStep}
-use Rattle.plain_model.specs.Trees.{free_slot, is_free, next_serial, tree_of}
+use Rattle.plain_model.specs.Trees.{free_slot, is_free, next_serial, tree_of, next_name}
 use Rattle.plain_model.specs.declared.call.End.{End}
 use Rattle.plain_model.specs.declared.call.End.TheVariants.{Done, Waits, Halts, Refused, Failed, Trap}
 use Rattle.plain_model.specs.declared.call.MapChange.{MapChange}
 use Rattle.plain_model.specs.declared.call.MapChange.TheVariants.{Nothing, Unmap, Follow, Narrow}
-use Rattle.plain_model.specs.MapCalls.{Asked, map_changed}
+use Rattle.plain_model.specs.MapCalls.{map_changed}
 use Rattle.plain_pages.specs.declared.map.MapEntry.TheVariants.{Follows}
 use Rattle.fork_tree.proofs.Kept.{none_tree}
 use Rattle.fork_tree.proofs.Slots.{in_none}
@@ -102,14 +102,11 @@ module _ (s : PlainState) (w : IsWhole s) (name : ForkName) (f : Fork) (there : 
       let t = with_stopped s g in let m : IsWhole t = told_whole (with_fork s g) (put s w name f there g same) g in
       cond_both (is_some g.superior) _ _ Leaves (λ below. m) (λ top. mode_whole t m g.name.tty)
 
-  put_whole : (g : Fork) (status : ForkStatus) → IsSame f g → Leaves (put_with s g status)
-  put_whole g Running same = put s w name f there g same
-  put_whole g (Wait on) same = put s w name f there g same
-  put_whole g Halted same = stopped_whole g same
-  put_whole g (Forced channel) same = stopped_whole g same
-
   ended_whole_fork : (g : Fork) (status : ForkStatus) → IsSame f g → Leaves (unit_ended s g status)
-  ended_whole_fork g status same = put_whole (counted g) status same
+  ended_whole_fork g Running same = put s w name f there (counted g) same
+  ended_whole_fork g (Wait on) same = put s w name f there (counted g) same
+  ended_whole_fork g Halted same = stopped_whole (counted g) same
+  ended_whole_fork g (Forced channel) same = stopped_whole (counted g) same
 
   trapped_whole : (channel : ℕ) → Leaves (trapped s f channel)
   trapped_whole channel = ended_whole_fork (posted f channel) (posted f channel).body.status (posted_same f channel)
@@ -145,7 +142,7 @@ module _ (s : PlainState) (w : IsWhole s) (name : ForkName) (f : Fork) (there : 
   map_whole_turn : (number : ℕ) → Leaves (map_turned s f number)
   map_whole_turn number =
       let e = (map_came s f number).end in
-      let asks : Asked = record { who = f.name; regs = f.body.regs; forks = s.forks } in
+      let asks : Asked = record { who = f.name; regs = f.body.regs; tree = tree_of s } in
       let stays = turn_whole s.pages w.pages e in
       let given = turn_given s w f.name.tty e (map_call_in asks w.tree.slotted.own s.pages number) in
       let whole = pages_whole s w (map_pages s f number) stays.whole (omega (arith, w.room, stays.room, stays.limit)) stays.files stays.keys given in
@@ -203,11 +200,11 @@ module _ (s : PlainState) (w : IsWhole s) where
   changed_whole : (name : ForkName) (change : Fork → Fork) → ((f : Fork) → IsSame f (change f)) → IsWhole (change_fork s name change)
   changed_whole name change same = looked_up IsWhole _ s (map.get s.forks name) (λ f is. put s w name f is (change f) (same f)) (λ none. w)
 
-  with_job_whole : (t : Tty) (user : List ℕ) → IsTerminal t → is_some (map.get s.jobs t.0) ≡ false → nat_lt LAST_SERIAL (next_fork s t).serial ≡ false → HasRoom (with_map s.pages (next_fork s t) EmptyMap) t ≡ true → IsWhole (with_job s t user)
+  with_job_whole : (t : Tty) (user : List ℕ) → IsTerminal t → is_some (map.get s.jobs t.0) ≡ false → nat_lt LAST_SERIAL (next_serial (tree_of s) t) ≡ false → HasRoom (with_map s.pages (next_name (tree_of s) t) EmptyMap) t ≡ true → IsWhole (with_job s t user)
   with_job_whole t user terminal no_job few room = made_whole s w t terminal (top_fork f) EmptyMap (with_map s.pages f EmptyMap) sound refl (λ k. refl) jobs tops have home (added_given (next_serial (tree_of s)) s.pages.maps f EmptyMap w.given tt) (few_serials few) (first_free s.forks t none_in) none_in refl
     where
       f : ForkName
-      f = next_fork s t
+      f = next_name (tree_of s) t
 
       jobs : map.FinMap nat_cmp PlainJob
       jobs = map.insert s.jobs t.0 (new_job user f)
@@ -228,7 +225,7 @@ module _ (s : PlainState) (w : IsWhole s) where
           by true = refl
           by false = h
 
-      few_serials : nat_lt LAST_SERIAL (next_fork s t).serial ≡ false → (next_fork s t).serial ≤ LAST_SERIAL
+      few_serials : nat_lt LAST_SERIAL (next_serial (tree_of s) t) ≡ false → next_serial (tree_of s) t ≤ LAST_SERIAL
       few_serials h = grind (arith, nat_tests)
 
       none_in : fork_in s.forks t 1 ≡ None
@@ -246,8 +243,8 @@ module _ (s : PlainState) (w : IsWhole s) where
   login_whole : (t : Tty) (user : List ℕ) → IsTerminal t → Leaves (login s t user)
   login_whole t user terminal =
       cond_both (is_some (map.get s.jobs t.0)) _ _ Leaves (λ busy. w) (λ free.
-      cond_both (nat_lt LAST_SERIAL (next_fork s t).serial) _ _ Leaves (λ out. w) (λ few.
-      cond_both (HasRoom (with_map s.pages (next_fork s t) EmptyMap) t) _ _ Leaves (λ fits. with_job_whole t user terminal free few fits) (λ none. w)))
+      cond_both (nat_lt LAST_SERIAL (next_serial (tree_of s) t)) _ _ Leaves (λ out. w) (λ few.
+      cond_both (HasRoom (with_map s.pages (next_name (tree_of s) t) EmptyMap) t) _ _ Leaves (λ fits. with_job_whole t user terminal free few fits) (λ none. w)))
 
   poked_whole : (t : Tty) → IsTerminal t → (at : Slot) (offset word : ℕ) (r : Referred name_cmp) → reference s.pages (in_map at) Write t ≡ r → Leaves (poked s t at offset word r)
   poked_whole t terminal at offset word (granted q) is =
@@ -263,7 +260,7 @@ module _ (s : PlainState) (w : IsWhole s) where
   poke_whole : (t : Tty) (address word : ℕ) → IsTerminal t → Leaves (poke s t address word)
   poke_whole t address word terminal = job_effect t (poked_at s t address word) (λ j is.
       let at = slot_at j.top address in
-      cond_both (nat_lt address ACCUMULATORS) _ _ Leaves (λ low. changed_whole j.top (with_accumulator address word) (λ f. (refl, refl, refl))) (λ high. poked_whole t terminal at (address % PAGE_WORDS) word (reference s.pages (in_map at) Write t) refl))
+      cond_both (nat_lt address ACCUMULATORS) _ _ Leaves (λ low. changed_whole j.top (λ f. with_regs f (with_ac f.body.regs address word)) (λ f. (refl, refl, refl))) (λ high. poked_whole t terminal at (address % PAGE_WORDS) word (reference s.pages (in_map at) Write t) refl))
 
   start_whole : (t : Tty) (address : ℕ) → Leaves (start s t address)
   start_whole t address = job_effect t _ does

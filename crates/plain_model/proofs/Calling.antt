@@ -21,11 +21,12 @@ use Rattle.plain_model.specs.Interrupts.{posted}
 use Rattle.plain_pages.specs.References.{in_map}
 use Rattle.plain_units.specs.Deeds.{in_ac}
 use Rattle.plain_model.specs.AccessWords.{access_in}
-use Rattle.plain_model.specs.Calls.{Turn, sees, finds, ends, with_ac, no_files, Came, turn_on, given, numbered, returning, is_among, fork_behind, out_of, parts_behind}
-use Rattle.plain_model.specs.MapCalls.{Asked, is_counted, narrows, place_named, slot_named, source_of, tells_access, pages_left as left_to_do, one_page, behind_page, rpacs, spacs, rmap, pmap, map_call, map_calls, map_changed}
+use Rattle.plain_model.specs.Calls.{Turn, sees, finds, ends, with_ac, no_files, Came, turn_on, given, numbered, returning, is_among, fork_behind, out_of, parts_behind, Asked}
+use Rattle.plain_model.specs.MapCalls.{is_counted, narrows, place_named, slot_named, source_of, tells_access, pages_left as left_to_do, one_page, behind_page, rpacs, spacs, rmap, pmap, map_call, map_calls, map_changed}
 use Rattle.plain_model.specs.FileCalls.{file_call, file_calls, geter}
-use Rattle.plain_model.specs.ForkCalls.{ForkAsked, own_named, fork_calls, fork_changed}
-use Rattle.plain_model.specs.Families.{Parts, through, behind, came_of, forking, mapping, asks_forks, forks_part, no_part, pages_part, prints, own_changed, print_calls}
+use Rattle.plain_model.specs.ForkCalls.{own_named, fork_calls, fork_changed}
+use Rattle.plain_model.specs.Families.{Parts, behind, asks, came_of, forking, mapping, prints, own_changed, print_calls, forks_changed, pages_changed}
+use Rattle.plain_model.specs.Trees.{tree_of}
 use Rattle.plain_model.specs.Unit.{Effect, parts_of, with_parts, turned, called}
 use Rattle.std.proofs.lemmas.Bool.{cond_both}
 
@@ -34,13 +35,13 @@ abbrev pub fork_came : PlainState → Fork → ℕ → Came name_cmp ForkChange
 fork_came s f number = came_of forking (parts_of s) f.name f.body.regs number
 
 abbrev pub fork_left : PlainState → Fork → ℕ → Parts name_cmp
-fork_left s f number = let c = fork_came s f number in parts_behind (through forks_part fork_changed) (parts_of s) (record (parts_of s) { pages = c.pages }) c.end
+fork_left s f number = let c = fork_came s f number in parts_behind forks_changed (parts_of s) (record (parts_of s) { pages = c.pages }) c.end
 
 abbrev pub fork_called : PlainState → Fork → ℕ → PlainState
 fork_called s f number = with_parts s (fork_left s f number)
 
 abbrev pub fork_turned : PlainState → Fork → ℕ → Effect
-fork_turned s f number = turned s f.name.tty (behind (through forks_part fork_changed) (parts_of s) f.name (fork_came s f number))
+fork_turned s f number = turned s f.name.tty (behind forks_changed (parts_of s) f.name (fork_came s f number))
 
 -- so of a call on maps
 abbrev pub map_came : PlainState → Fork → ℕ → Came name_cmp MapChange
@@ -50,14 +51,14 @@ abbrev pub map_pages : PlainState → Fork → ℕ → NamedPages
 map_pages s f number = parts_behind map_changed s.pages s.pages (map_came s f number).end
 
 abbrev pub map_turned : PlainState → Fork → ℕ → Effect
-map_turned s f number = turned s f.name.tty (behind (through pages_part map_changed) (parts_of s) f.name (map_came s f number))
+map_turned s f number = turned s f.name.tty (behind pages_changed (parts_of s) f.name (map_came s f number))
 
 -- and of a turn that changes the fork that called alone
 abbrev pub own_came : PlainState → Turn ⊥ (Unit {0}) → Came name_cmp (Unit {0})
 own_came s t = turn_on no_files s.pages t
 
 abbrev pub own_turned : PlainState → Fork → Turn ⊥ (Unit {0}) → Effect
-own_turned s f t = turned s f.name.tty (behind (through no_part own_changed) (parts_of s) f.name (own_came s t))
+own_turned s f t = turned s f.name.tty (behind own_changed (parts_of s) f.name (own_came s t))
 
 -- a number that is no call
 abbrev pub none_turned : PlainState → Fork → Effect
@@ -77,7 +78,7 @@ module _ (Holds : Effect → Type 0) (s : PlainState) where
 
 module _ {K : Type 0} {file_cmp : K → K → Ordering} where
   -- a change of pages alone
-  pub pages_behind : (v : Parts file_cmp) (q : PlainPages file_cmp) (e : End MapChange) → parts_behind (through pages_part map_changed) v (record v { pages = q }) e ≡ record v { pages = parts_behind map_changed v.pages q e }
+  pub pages_behind : (v : Parts file_cmp) (q : PlainPages file_cmp) (e : End MapChange) → parts_behind pages_changed v (record v { pages = q }) e ≡ record v { pages = parts_behind map_changed v.pages q e }
   unfolding parts_behind
   pages_behind v q (Done change regs out post) = refl
   pages_behind v q (Waits on) = refl
@@ -88,7 +89,7 @@ module _ {K : Type 0} {file_cmp : K → K → Ordering} where
 
   -- a change of forks and pages
   pub forks_behind : (v : Parts file_cmp) (q : PlainPages file_cmp) (e : End ForkChange)
-      → parts_behind (through forks_part fork_changed) v (record v { pages = q }) e
+      → parts_behind forks_changed v (record v { pages = q }) e
       ≡ (let part = parts_behind fork_changed (record { tree = v.tree; pages = v.pages }) (record { tree = v.tree; pages = q }) e in record { tree = part.tree; pages = part.pages })
   unfolding parts_behind
   forks_behind v q (Done change regs out post) = refl
@@ -99,7 +100,7 @@ module _ {K : Type 0} {file_cmp : K → K → Ordering} where
   forks_behind v q (Trap channel) = refl
 
   -- no change
-  pub nothing_behind : (v : Parts file_cmp) (e : End (Unit {0})) → parts_behind (through no_part own_changed) v v e ≡ v
+  pub nothing_behind : (v : Parts file_cmp) (e : End (Unit {0})) → parts_behind own_changed v v e ≡ v
   unfolding parts_behind
   nothing_behind v (Done change regs out post) = refl
   nothing_behind v (Waits on) = refl
@@ -128,7 +129,7 @@ module _ {K : Type 0} {file_cmp : K → K → Ordering} where
 
     rmap_none : (a : Asked) → MakesNone (rmap a)
     unfolding turn_on
-    rmap_none a = given_none (slot_named a) (λ slot. sees slot (λ e. finds (in_map slot) (λ page. ends (tells_access (with_ac a.regs 1 (source_of a.forks slot e)) e page)))) (λ s. refl)
+    rmap_none a = given_none (slot_named a) (λ slot. sees slot (λ e. finds (in_map slot) (λ page. ends (tells_access (with_ac a.regs 1 (source_of a.tree.forks slot e)) e page)))) (λ s. refl)
 
     pmap_none : (a : Asked) → MakesNone (pmap a)
     unfolding turn_on
@@ -153,7 +154,7 @@ module _ {K : Type 0} {file_cmp : K → K → Ordering} where
     print_makes_none number regs = cond_both (PBOUT == number) (prints regs) _ MakesNone (λ is. refl) (λ n. refl)
 
     -- nor one on files
-    pub file_makes_none : (number : ℕ) (a : ForkAsked) → MakesNone (file_call number a)
+    pub file_makes_none : (number : ℕ) (a : Asked) → MakesNone (file_call number a)
     unfolding turn_on
     file_makes_none number a = cond_both (GETER == number) (geter a) _ MakesNone (λ is. given_none (own_named a) (λ g. ends (returning tt (with_ac a.regs 2 g.body.error))) (λ g. refl)) (λ n. refl)
 
@@ -164,7 +165,7 @@ module _ (Holds : Effect → Type 0) (s : PlainState) (f : Fork) where
       cond_both (is_among print_calls number) _ _ (λ r. Holds (turned s f.name.tty r)) (λ is. own (numbered print_calls number f.body.regs) (print_makes_none s.pages number f.body.regs)) (λ n1.
       cond_both (is_among fork_calls number) _ _ (λ r. Holds (turned s f.name.tty r)) (λ is. forks) (λ n2.
       cond_both (is_among map_calls number) _ _ (λ r. Holds (turned s f.name.tty r)) (λ is. maps) (λ n3.
-      cond_both (is_among file_calls number) _ _ (λ r. Holds (turned s f.name.tty r)) (λ is. own (file_call number (asks_forks (parts_of s) f.name f.body.regs)) (file_makes_none s.pages number (asks_forks (parts_of s) f.name f.body.regs))) (λ n4. none))))
+      cond_both (is_among file_calls number) _ _ (λ r. Holds (turned s f.name.tty r)) (λ is. own (file_call number (asks (parts_of s) f.name f.body.regs)) (file_makes_none s.pages number (asks (parts_of s) f.name f.body.regs))) (λ n4. none))))
 
   -- such a turn leaves the fork that called
   pub own_by : (t : Turn ⊥ (Unit {0})) → MakesNone s.pages t
@@ -175,8 +176,8 @@ module _ (Holds : Effect → Type 0) (s : PlainState) (f : Fork) where
       Left : Parts name_cmp → Type 0
       Left left = Holds (turned s f.name.tty (record { parts = left; caller = option_map (λ g. fork_behind g (own_came s t).end) (map.get left.tree.forks f.name); out = out_of (own_came s t).end }))
 
-      same : parts_behind (through no_part own_changed) (parts_of s) (record (parts_of s) { pages = (own_came s t).pages }) (own_came s t).end ≡ parts_of s
-      same = ap (λ (q : NamedPages). parts_behind (through no_part own_changed) (parts_of s) (record (parts_of s) { pages = q }) (own_came s t).end) makes
+      same : parts_behind own_changed (parts_of s) (record (parts_of s) { pages = (own_came s t).pages }) (own_came s t).end ≡ parts_of s
+      same = ap (λ (q : NamedPages). parts_behind own_changed (parts_of s) (record (parts_of s) { pages = q }) (own_came s t).end) makes
           ∙ nothing_behind (parts_of s) (own_came s t).end
 
 module _ (Holds : Effect → Type 0) (s : PlainState) (f : Fork) (number : ℕ) where
@@ -191,6 +192,6 @@ module _ (Holds : Effect → Type 0) (s : PlainState) (f : Fork) (number : ℕ) 
       Left : Parts name_cmp → Type 0
       Left left = Holds (turned s f.name.tty (record { parts = left; caller = option_map (λ g. fork_behind g (map_came s f number).end) (map.get left.tree.forks f.name); out = out_of (map_came s f number).end }))
 
-      same : parts_behind (through pages_part map_changed) (parts_of s) (record (parts_of s) { pages = (map_came s f number).pages }) (map_came s f number).end ≡ record (parts_of s) { pages = map_pages s f number }
+      same : parts_behind pages_changed (parts_of s) (record (parts_of s) { pages = (map_came s f number).pages }) (map_came s f number).end ≡ record (parts_of s) { pages = map_pages s f number }
       same = pages_behind (parts_of s) (map_came s f number).pages (map_came s f number).end
-          ∙ ap (λ (q : NamedPages). record (parts_of s) { pages = parts_behind map_changed s.pages q (map_came s f number).end }) (map_makes_none s.pages number (record { who = f.name; regs = f.body.regs; forks = s.forks }))
+          ∙ ap (λ (q : NamedPages). record (parts_of s) { pages = parts_behind map_changed s.pages q (map_came s f number).end }) (map_makes_none s.pages number (record { who = f.name; regs = f.body.regs; tree = tree_of s }))

@@ -27,9 +27,9 @@ use Rattle.plain_units.specs.Steps.{Steps, Planned, done, stopped, call, begun}
 use Rattle.plain_units.specs.Deeds.{in_ac}
 use Rattle.plain_model.specs.Inferiors.{is_inferior}
 use Rattle.plain_model.specs.Trees.{next_name, next_serial, free_slot}
-use Rattle.plain_model.specs.Calls.{Turn, adds, ends, and_then, given, with_block, no_files, turn_on}
+use Rattle.plain_model.specs.Calls.{Turn, adds, ends, and_then, given, with_block, no_files, turn_on, Asked}
 use Rattle.plain_units.specs.Blocks.{steps_on, block_steps}
-use Rattle.plain_model.specs.ForkCalls.{ForkAsked, address_named, fork_named, if_inferior, inferior_named, own_named, map_wanted, making, with_accumulators, making_in, cfork, of_inferior, rfsts, sfacs, rfacs, waits_for, wfork, fork_call}
+use Rattle.plain_model.specs.ForkCalls.{address_named, fork_named, if_inferior, inferior_named, own_named, map_wanted, making, with_accumulators, making_in, cfork, of_inferior, rfsts, sfacs, rfacs, waits_for, wfork, fork_call}
 use Rattle.plain_units.proofs.PageRuns.{AreSound, Keeps, PlanLeaves, kept_itself, run_kept}
 use Rattle.plain_units.proofs.Lookups.{looked_up}
 use Rattle.plain_pages.proofs.Whole.{map_whole}
@@ -37,10 +37,10 @@ use Rattle.plain_pages.proofs.ReferencesMade.{has_room}
 use Rattle.plain_model.proofs.Turns.{takes_comes, adds_comes}
 
 -- a fork that is an inferior of the caller
-abbrev pub IsBelow : ForkAsked → ForkName → Type 0
+abbrev pub IsBelow : Asked → ForkName → Type 0
 IsBelow a name = is_inferior a.tree.forks a.who name ≡ true
 
-module _ {K : Type 0} {file_cmp : K → K → Ordering} (a : ForkAsked) (p : PlainPages file_cmp) where
+module _ {K : Type 0} {file_cmp : K → K → Ordering} (a : Asked) (p : PlainPages file_cmp) where
   -- the pages with the map of the fork that CFORK would make
   abbrev pub mapped : PlainPages file_cmp
   mapped = with_map p (next_name a.tree a.who.tty) (map_wanted a)
@@ -81,7 +81,7 @@ module _ {K : Type 0} {file_cmp : K → K → Ordering} (a : ForkAsked) (p : Pla
       FitsEnd (Trap channel) = Unit {0}
 
 -- an inferior that was named is one
-pub named_below : (a : ForkAsked) (f : Fork) → inferior_named a ≡ Ok f → IsBelow a f.name
+pub named_below : (a : Asked) (f : Fork) → inferior_named a ≡ Ok f → IsBelow a f.name
 unfolding inferior_named
 named_below a f is = by (fork_named a) is
   where
@@ -93,7 +93,7 @@ named_below a f is = by (fork_named a) is
     by (Err code) e = absurd (cc e)
     by (Ok k) e = if_so k (is_inferior a.tree.forks a.who k.name) refl e
 
-module _ {K : Type 0} {file_cmp : K → K → Ordering} (a : ForkAsked) (p : PlainPages file_cmp) (After : PlainPages file_cmp → PlainPages file_cmp → Type 0) (leads : Leads a p After p)
+module _ {K : Type 0} {file_cmp : K → K → Ordering} (a : Asked) (p : PlainPages file_cmp) (After : PlainPages file_cmp → PlainPages file_cmp → Type 0) (leads : Leads a p After p)
     (leads_on : HasRoom (mapped a p) a.who.tty ≡ true → Leads a p After (mapped a p)) where
   -- a turn ends so
   abbrev Ends : Turn ⊥ ForkChange → Type 0
@@ -119,7 +119,7 @@ module _ {K : Type 0} {file_cmp : K → K → Ordering} (a : ForkAsked) (p : Pla
   unfolding turn_on
   over q e fits = fits
 
-  simple : (change : Fork → ForkChange) → ((f : Fork) → IsBelow a f.name → FitsChange a p After p (change f)) → Ends (of_inferior a change)
+  simple : (change : Fork → ForkChange) → ((f : Fork) → IsBelow a f.name → FitsChange a p After p (change f)) → Ends (of_inferior change a)
   simple change fits = below_ends _ (λ f below. over p _ (fits f below))
 
   waits_end : (status : ForkStatus) → FitsEnd a p After p (waits_for a.regs status)
@@ -188,7 +188,7 @@ module _ {K : Type 0} {file_cmp : K → K → Ordering} (a : ForkAsked) (p : Pla
       cond_both (HALTF == number) _ _ Ends (λ is. over p Halts tt) (λ n11. over p (Trap ILLEGAL_INSTRUCTION) tt)))))))))))
 
 -- over sound pages the steps of a turn keep them so
-module _ {K : Type 0} {file_cmp : K → K → Ordering} (o : IsTotalOrder file_cmp) (a : ForkAsked) (own : IsOwner a.who.tty) (p : PlainPages file_cmp) (w : AreSound p) (absent : map.get p.maps (next_name a.tree a.who.tty) ≡ None) where
+module _ {K : Type 0} {file_cmp : K → K → Ordering} (o : IsTotalOrder file_cmp) (a : Asked) (own : IsOwner a.who.tty) (p : PlainPages file_cmp) (w : AreSound p) (absent : map.get p.maps (next_name a.tree a.who.tty) ≡ None) where
   keeping : (q : PlainPages file_cmp) → AreSound q → Leads a p (λ x y. Keeps x y) q
   keeping q sound = record { itself = kept_itself q sound; runs = λ steps. run_kept o q a.who own steps (begun q a.regs.ac) (kept_itself q sound) }
 
@@ -199,7 +199,7 @@ module _ {K : Type 0} {file_cmp : K → K → Ordering} (o : IsTotalOrder file_c
   call_keeps number = call_ends a p (λ x y. Keeps x y) (keeping p w) (λ room. keeping (mapped a p) (sound_on room)) number
 
 -- whatever the pages are, a change names whom it may
-module _ {K : Type 0} {file_cmp : K → K → Ordering} (a : ForkAsked) (p : PlainPages file_cmp) where
+module _ {K : Type 0} {file_cmp : K → K → Ordering} (a : Asked) (p : PlainPages file_cmp) where
   abbrev pub Anyhow : PlainPages file_cmp → PlainPages file_cmp → Type 0
   Anyhow x y = Unit {0}
 

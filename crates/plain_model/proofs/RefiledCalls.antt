@@ -16,8 +16,8 @@ use Rattle.plain_pages.specs.Maps.{narrow}
 use Rattle.plain_model.specs.Calls.{Turn, no_files, turn_on, Came, numbered, is_among, fork_behind, out_of, parts_behind}
 use Rattle.plain_model.specs.MapCalls.{map_calls, map_changed}
 use Rattle.plain_model.specs.FileCalls.{file_calls}
-use Rattle.plain_model.specs.ForkCalls.{ForkParts, fork_calls, fork_changed}
-use Rattle.plain_model.specs.Families.{Parts, Turned, through, behind, call_turned, asks_forks, asks_maps, forks_part, no_part, pages_part, print_calls, own_changed}
+use Rattle.plain_model.specs.ForkCalls.{ForkParts, fork_calls}
+use Rattle.plain_model.specs.Families.{Parts, Turned, behind, call_turned, print_calls, own_changed, asks, forks_changed, pages_changed}
 use Rattle.plain_pages.proofs.Refiled.{NameAlike}
 use Rattle.plain_units.proofs.RefiledUnits.{still_alike}
 use Rattle.plain_model.proofs.Turns.{came_leaves, came_refiled}
@@ -58,10 +58,10 @@ module _ {K : Type 0} {file_cmp : K → K → Ordering} where
   -- a turn leaves the pages of files
   pub call_files : (v : Parts file_cmp) (who : ForkName) (regs : Regs) (number : ℕ) → (call_turned v who regs number).parts.pages.files ≡ v.pages.files
   call_files v who regs number =
-      either (is_among print_calls number) _ _ v.pages (behind_files (through no_part own_changed) (λ c u. refl) v who (numbered print_calls number regs))
-      (either (is_among fork_calls number) _ _ v.pages (behind_files (through forks_part fork_changed) (λ c u. fork_leaves c (record { tree = u.tree; pages = u.pages })) v who (numbered fork_calls number (asks_forks v who regs)))
-      (either (is_among map_calls number) _ _ v.pages (behind_files (through pages_part map_changed) (λ c u. map_files c u.pages) v who (numbered map_calls number (asks_maps v who regs)))
-      (either (is_among file_calls number) _ _ v.pages (behind_files (through no_part own_changed) (λ c u. refl) v who (numbered file_calls number (asks_forks v who regs))) refl)))
+      either (is_among print_calls number) _ _ v.pages (behind_files own_changed (λ c u. refl) v who (numbered print_calls number regs))
+      (either (is_among fork_calls number) _ _ v.pages (behind_files forks_changed (λ c u. fork_leaves c (record { tree = u.tree; pages = u.pages })) v who (numbered fork_calls number (asks v who regs)))
+      (either (is_among map_calls number) _ _ v.pages (behind_files pages_changed (λ c u. map_files c u.pages) v who (numbered map_calls number (asks v who regs)))
+      (either (is_among file_calls number) _ _ v.pages (behind_files own_changed (λ c u. refl) v who (numbered file_calls number (asks v who regs))) refl)))
 
 module _ {K L : Type 0} {file_cmp : K → K → Ordering} (other_cmp : L → L → Ordering) (files : map.FinMap (file_page_cmp other_cmp) PageName) where
   -- the same parts, with the pages of files under other keys
@@ -106,9 +106,9 @@ module _ {K L : Type 0} {file_cmp : K → K → Ordering} (other_cmp : L → L �
   -- a turn of a call leaves the same
   pub call_refiled : (v : Parts file_cmp) → NameAlike other_cmp v.pages files → (who : ForkName) (regs : Regs) (number : ℕ) → call_turned (refiled_all v) who regs number ≡ refiled_turned (call_turned v who regs number)
   call_refiled v alike who regs number =
-      both (is_among print_calls number) _ _ _ _ (behind_refiled (through no_part own_changed) (through no_part own_changed) (λ c u same. refl) v alike who (numbered print_calls number regs))
-      (both (is_among fork_calls number) _ _ _ _ (behind_refiled (through forks_part fork_changed) (through forks_part fork_changed)
-      (λ c u same. ap (λ (part : ForkParts other_cmp). record { tree = part.tree; pages = part.pages }) (change_refiled other_cmp files c (record { tree = u.tree; pages = u.pages }) same)) v alike who (numbered fork_calls number (asks_forks v who regs)))
-      (both (is_among map_calls number) _ _ _ _ (behind_refiled (through pages_part map_changed) (through pages_part map_changed)
-      (λ c u same. ap (λ (p : PlainPages other_cmp). record { tree = u.tree; pages = p }) (map_refiled c u.pages same)) v alike who (numbered map_calls number (asks_maps v who regs)))
-      (both (is_among file_calls number) _ _ _ _ (behind_refiled (through no_part own_changed) (through no_part own_changed) (λ c u same. refl) v alike who (numbered file_calls number (asks_forks v who regs))) refl)))
+      both (is_among print_calls number) _ _ _ _ (behind_refiled own_changed own_changed (λ c u same. refl) v alike who (numbered print_calls number regs))
+      (both (is_among fork_calls number) _ _ _ _ (behind_refiled forks_changed forks_changed
+      (λ c u same. ap (λ (part : ForkParts other_cmp). record { tree = part.tree; pages = part.pages }) (change_refiled other_cmp files c (record { tree = u.tree; pages = u.pages }) same)) v alike who (numbered fork_calls number (asks v who regs)))
+      (both (is_among map_calls number) _ _ _ _ (behind_refiled pages_changed pages_changed
+      (λ c u same. ap (λ (p : PlainPages other_cmp). record { tree = u.tree; pages = p }) (map_refiled c u.pages same)) v alike who (numbered map_calls number (asks v who regs)))
+      (both (is_among file_calls number) _ _ _ _ (behind_refiled own_changed own_changed (λ c u same. refl) v alike who (numbered file_calls number (asks v who regs))) refl)))

@@ -1,5 +1,6 @@
 -- Monitor calls: what a turn of one asks, how it ends, and what it leaves (JSYS Manual).
-use Rattle.std.specs.Prelude.{ℕ, List, [], ◌∷◌, Bool, false, ◌||◌, Option, None, Some, Result, Ok, Err, if◌then◌else◌, ◌==◌, unwrap_or, slice_set}
+use Rattle.std.specs.Prelude.{ℕ, List, [], ◌∷◌, Bool, false, Option, None, Some, Result, Ok, Err, if◌then◌else◌, ◌==◌, unwrap_or, slice_set}
+use Rattle.std.specs.List.{list_any}
 use Rattle.std.specs.Option.{option_map, option_map_or, option_and_then}
 use Rattle.std.specs.declared.cmp.Ordering.{Ordering}
 use Rattle.plain_model.specs.declared.call.End.{End}
@@ -27,8 +28,9 @@ use Rattle.plain_pages.specs.References.{Spot, in_map, in_file, Referred, grante
 use Rattle.plain_pages.specs.NewMaps.{with_map}
 use Rattle.plain_model.specs.Forks.{with_regs, with_status}
 use Rattle.plain_model.specs.Interrupts.{posted}
+use Rattle.plain_model.specs.Trees.{PlainTree}
 use Rattle.plain_units.specs.Steps.{Steps, Ending, Planned, done, call, trap, need, stopped as unit_stopped, pages_left}
-use Rattle.plain_units.specs.Deeds.{next_pc, skip_pc}
+use Rattle.plain_units.specs.Deeds.{next_pc}
 use Rattle.plain_units.specs.Blocks.{block_steps, steps_on}
 
 -- What is left of a turn that knows files by keys of its own, as by JFNs, and makes changes of some kind. What it asks, it is told of the
@@ -67,6 +69,12 @@ pub record Came {K : Type 0} (file_cmp : K → K → Ordering) (C : Type 0) : Ty
   pub end : End C
   pub pages : PlainPages file_cmp
 
+-- who calls, with which registers, among which forks
+pub record Asked : Type 0 where
+  pub who : ForkName
+  pub regs : Regs
+  pub tree : PlainTree
+
 -- the program counter goes on by one, behind the call
 abbrev pub behind_call : Regs → Regs
 behind_call regs = record regs { pc = next_pc regs }
@@ -78,18 +86,6 @@ with_ac regs ac word = record regs { ac = slice_set regs.ac ac word }
 -- the call is done, and returns with these registers
 abbrev pub returning : {C : Type 0} → C → Regs → End C
 returning change regs = Done change (behind_call regs) None None
-
--- the same, and a channel is posted to the fork that called
-abbrev pub returning_posted : {C : Type 0} → C → Regs → ℕ → End C
-returning_posted change regs channel = Done change (behind_call regs) None (Some channel)
-
--- the same, and a character is printed
-abbrev pub returning_printed : {C : Type 0} → C → Regs → ℕ → End C
-returning_printed change regs code = Done change (behind_call regs) (Some code) None
-
--- the call, which has two returns, is done, and returns by the second with these registers
-abbrev pub returning_second : {C : Type 0} → C → Regs → End C
-returning_second change regs = Done change (record regs { pc = skip_pc regs }) None None
 
 -- what follows from what was named, or the code of an error
 abbrev pub and_then : {A B : Type 0} → Result A ℕ → (A → Result B ℕ) → Result B ℕ
@@ -108,8 +104,7 @@ numbered (row ∷ rows) number a = if row.0 == number then row.1 a else numbered
 
 -- whether a number is one of those of these calls
 abbrev pub is_among : {A F C : Type 0} → List (ℕ × (A → Turn F C)) → ℕ → Bool
-is_among [] number = false
-is_among (row ∷ rows) number = (row.0 == number) || is_among rows number
+is_among rows number = list_any (λ row. row.0 == number) rows
 
 -- a turn refers to sixteen words of a fork from an address on, and goes on with them
 abbrev pub with_block : {F C : Type 0} → ForkName → Regs → ℕ → Kind → (List ℕ → Turn F C) → Turn F C
@@ -164,8 +159,7 @@ failed_regs regs code = behind_call (with_ac regs 1 code)
 
 -- a fork with a channel posted, if one is
 abbrev pub posted_if : Fork → Option ℕ → Fork
-posted_if f None = f
-posted_if f (Some channel) = posted f channel
+posted_if f post = option_map_or (posted f) post f
 
 -- the fork that called, behind a turn but for its count of units: a refused call leaves its error, and traps where it has one return;
 -- who waits stays on the call
@@ -185,8 +179,4 @@ out_of e = None
 -- what a turn leaves of what its call changes: as it was, unless the turn is done, and else its change, on what it made
 unfoldable pub parts_behind : {C V : Type 0} → (C → V → V) → V → V → End C → V
 parts_behind changed old made (Done change regs out post) = changed change made
-parts_behind changed old made (Waits on) = old
-parts_behind changed old made Halts = old
-parts_behind changed old made (Refused code) = old
-parts_behind changed old made (Failed code) = old
-parts_behind changed old made (Trap channel) = old
+parts_behind changed old made e = old

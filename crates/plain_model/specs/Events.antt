@@ -1,5 +1,5 @@
 -- The events of a script that are one step of the plain machine.
-use Rattle.std.specs.Prelude.{ℕ, ◌+◌, ◌%◌, List, [], ◌∷◌, map, Bool, false, nat_lt, Option, None, Some, if◌then◌else◌, slice_index, slice_set, is_some}
+use Rattle.std.specs.Prelude.{ℕ, ◌+◌, ◌%◌, List, [], ◌∷◌, map, Bool, false, nat_lt, Option, None, Some, if◌then◌else◌, slice_index, is_some}
 use Rattle.std.specs.Option.{option_map, option_map_or}
 use Rattle.std.specs.FinMap as map
 use Rattle.outside.specs.declared.TheConstants.{PAGE_WORDS}
@@ -22,8 +22,10 @@ use Rattle.plain_model.specs.State.{PlainState, PlainJob}
 use Rattle.machine_names.specs.Orders.{name_cmp}
 use Rattle.plain_pages.specs.Room.{HasRoom}
 use Rattle.plain_pages.specs.References.{Referred, granted, denied, full, in_map, reference, stored, words_of, page_at, slot_at}
-use Rattle.plain_model.specs.Forks.{top_fork, with_fork, change_fork, with_regs, forks_by_slot, fork_line}
-use Rattle.plain_model.specs.Unit.{Effect}
+use Rattle.plain_model.specs.Forks.{top_fork, change_fork, with_regs, forks_by_slot, fork_line}
+use Rattle.plain_model.specs.Trees.{tree_of, next_serial, next_name, with_made}
+use Rattle.plain_model.specs.Calls.{with_ac}
+use Rattle.plain_model.specs.Unit.{Effect, with_parts}
 use Rattle.plain_pages.specs.NewMaps.{with_map}
 
 -- an event that is refused changes nothing, and says why
@@ -38,29 +40,20 @@ at_job s t act = option_map_or act (map.get s.jobs t.0) (refused s (NoJob t))
 abbrev pub new_job : List ℕ → ForkName → PlainJob
 new_job user top = record { user = user; top = top; mode = Command; line = []; start = None; jfns = map.empty; input = []; codes = map.empty }
 
--- the name of the next fork of a terminal
-abbrev pub next_fork : PlainState → Tty → ForkName
-next_fork s t = record { tty = t; serial = slice_index s.fork_serials t.0 }
-
--- a job with its top fork
+-- a job with its top fork, which is made
 abbrev pub with_job : PlainState → Tty → List ℕ → PlainState
-with_job s t user = let f = next_fork s t in record (with_fork s (top_fork f)) {
-  pages = with_map s.pages f EmptyMap;
-  jobs = map.insert s.jobs t.0 (new_job user f);
-  fork_serials = slice_set s.fork_serials t.0 (f.serial + 1);
-}
+with_job s t user =
+    let f = next_name (tree_of s) t in
+    let made = with_parts s (record { tree = with_made (tree_of s) (top_fork f); pages = with_map s.pages f EmptyMap }) in
+    record made { jobs = map.insert s.jobs t.0 (new_job user f) }
 
 -- LOGIN: refused where the terminal has a job, where its serials are used up, and where the drum is full
 abbrev pub login : PlainState → Tty → List ℕ → Effect
 login s t user =
     if is_some (map.get s.jobs t.0) then refused s (Busy t)
-    else (if nat_lt LAST_SERIAL (next_fork s t).serial then refused s (SerialsOut t)
-    else (if HasRoom (with_map s.pages (next_fork s t) EmptyMap) t then record { state = with_job s t user; items = Char t PROMPT ∷ [] }
+    else (if nat_lt LAST_SERIAL (next_serial (tree_of s) t) then refused s (SerialsOut t)
+    else (if HasRoom (with_map s.pages (next_name (tree_of s) t) EmptyMap) t then record { state = with_job s t user; items = Char t PROMPT ∷ [] }
     else refused s (Full t)))
-
--- a fork with a word in an accumulator
-abbrev pub with_accumulator : ℕ → ℕ → Fork → Fork
-with_accumulator at word f = with_regs f (record f.body.regs { ac = slice_set f.body.regs.ac at word })
 
 -- a word put into a slot's page, where a write is granted
 abbrev pub poked : PlainState → Tty → Slot → ℕ → ℕ → Referred name_cmp → Effect
@@ -71,7 +64,7 @@ poked s t slot offset word full = refused s (Full t)
 -- a word put at an address of a job's top fork
 abbrev pub poked_at : PlainState → Tty → ℕ → ℕ → PlainJob → Effect
 poked_at s t address word j =
-    if nat_lt address ACCUMULATORS then record { state = change_fork s j.top (with_accumulator address word); items = [] }
+    if nat_lt address ACCUMULATORS then record { state = change_fork s j.top (λ f. with_regs f (with_ac f.body.regs address word)); items = [] }
     else (let slot = slot_at j.top address in poked s t slot (address % PAGE_WORDS) word (reference s.pages (in_map slot) Write t))
 
 -- POKE: a write of the top fork, by its access; low addresses are its accumulators
@@ -96,13 +89,9 @@ word_seen s f address =
     if nat_lt address ACCUMULATORS then Some (slice_index f.body.regs.ac address)
     else option_map (λ n. slice_index (words_of s.pages n) (address % PAGE_WORDS)) (page_at s.pages (in_map (slot_at f.name address)))
 
--- a word of a fork as it is shown
-abbrev pub examined : PlainState → Tty → ℕ → ℕ → ℕ → Effect
-examined s t serial address word = record { state = s; items = Examined t serial address word ∷ [] }
-
 -- the word at an address of a fork is shown; it is refused where no page is there
 abbrev pub examined_in : PlainState → Tty → ℕ → ℕ → Fork → Effect
-examined_in s t serial address f = option_map_or (examined s t serial address) (word_seen s f address) (refused s (NoPage t))
+examined_in s t serial address f = option_map_or (λ word. record { state = s; items = Examined t serial address word ∷ [] }) (word_seen s f address) (refused s (NoPage t))
 
 -- EXAMINE: the word at an address of one of the job's forks; nothing is made
 abbrev pub examine : PlainState → Tty → ℕ → ℕ → Effect

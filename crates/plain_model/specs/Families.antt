@@ -1,10 +1,11 @@
 -- The families of monitor calls, and a turn of any call by its number.
-use Rattle.std.specs.Prelude.{ℕ, ◌%◌, List, [], ◌∷◌, Bool, if◌then◌else◌, Option, None, slice_index}
+use Rattle.std.specs.Prelude.{ℕ, ◌%◌, List, [], ◌∷◌, Bool, if◌then◌else◌, Option, None, Some, slice_index}
 use Rattle.std.specs.Option.{option_map}
 use Rattle.std.specs.declared.cmp.Ordering.{Ordering}
 use Rattle.std.specs.FinMap as map
 use Rattle.plain_model.specs.declared.call.TheConstants.{PBOUT}
 use Rattle.plain_units.specs.declared.channel.TheConstants.{ILLEGAL_INSTRUCTION}
+use Rattle.plain_model.specs.declared.call.End.TheVariants.{Done}
 use Rattle.plain_model.specs.declared.call.MapChange.{MapChange}
 use Rattle.plain_model.specs.declared.call.ForkChange.{ForkChange}
 use Rattle.machine_names.specs.declared.names.ForkName.{ForkName}
@@ -13,33 +14,18 @@ use Rattle.plain_units.specs.declared.registers.Regs.{Regs}
 use Rattle.plain_pages.specs.PlainPages.{PlainPages}
 use Rattle.plain_model.specs.Interrupts.{posted}
 use Rattle.plain_model.specs.Trees.{PlainTree}
-use Rattle.plain_model.specs.Calls.{Turn, ends, Sight, no_files, Came, turn_on, numbered, is_among, fork_behind, parts_behind, out_of, returning_printed}
-use Rattle.plain_model.specs.MapCalls.{Asked, map_calls, map_changed}
+use Rattle.plain_model.specs.Calls.{Asked, Turn, ends, Sight, no_files, Came, turn_on, numbered, is_among, fork_behind, parts_behind, out_of, behind_call}
+use Rattle.plain_model.specs.MapCalls.{map_calls, map_changed}
 use Rattle.plain_model.specs.FileCalls.{file_calls}
-use Rattle.plain_model.specs.ForkCalls.{ForkAsked, ForkParts, fork_calls, fork_changed}
+use Rattle.plain_model.specs.ForkCalls.{fork_calls, fork_changed}
 
 -- PBOUT prints the low 7 bits of accumulator 1
 abbrev pub prints : Regs → Turn ⊥ (Unit {0})
-prints regs = ends (returning_printed tt regs (slice_index regs.ac 1 % 128))
+prints regs = ends (Done tt (behind_call regs) (Some (slice_index regs.ac 1 % 128)) None)
 
 -- the calls that print by their numbers
 abbrev pub print_calls : List (ℕ × (Regs → Turn ⊥ (Unit {0})))
-print_calls =
-    (PBOUT, prints)
-    ∷ []
-
--- a call that changes the fork that called alone
-abbrev pub own_changed : Unit {0} → Unit {0} → Unit {0}
-own_changed change nothing = nothing
-
--- a part of some parts: how it is seen, and the parts with another in its place
-pub record Lens (W V : Type 0) : Type 0 where
-  pub seen : W → V
-  pub with_seen : W → V → W
-
--- a change of a part, in all parts
-abbrev pub through : {C V W : Type 0} → Lens W V → (C → V → V) → C → W → W
-through lens changed change w = lens.with_seen w (changed change (lens.seen w))
+print_calls = (PBOUT, prints) ∷ []
 
 -- what monitor calls see and change, whatever files are known by: the forks and the pages
 pub record Parts {K : Type 0} (file_cmp : K → K → Ordering) : Type 0 where
@@ -47,13 +33,12 @@ pub record Parts {K : Type 0} (file_cmp : K → K → Ordering) : Type 0 where
   pub pages : PlainPages file_cmp
 
 -- A family of calls: the calls by their numbers, what they are asked with, what they are told of files, and what their changes
--- leave of the part that they change.
-pub record Family {K : Type 0} (file_cmp : K → K → Ordering) (F A C V : Type 0) : Type 0 where
+-- leave of the parts.
+pub record Family {K : Type 0} (file_cmp : K → K → Ordering) (F A C : Type 0) : Type 0 where
   pub calls : List (ℕ × (A → Turn F C))
   pub asked : Parts file_cmp → ForkName → Regs → A
   pub sight : Parts file_cmp → ForkName → Sight F K
-  pub lens : Lens (Parts file_cmp) V
-  pub changed : C → V → V
+  pub changed : C → Parts file_cmp → Parts file_cmp
 
 -- what is behind a turn: the parts, the fork that called as it is to be put among them but for its count of units, and what is printed
 pub record Turned {K : Type 0} (file_cmp : K → K → Ordering) : Type 0 where
@@ -74,14 +59,14 @@ module _ {K : Type 0} {file_cmp : K → K → Ordering} where
       record { parts = left; caller = option_map (λ f. fork_behind f came.end) (map.get left.tree.forks who); out = out_of came.end }
 
   -- the turn of a call of a family by its number, as it comes out
-  abbrev pub came_of : {F A C V : Type 0} → Family file_cmp F A C V → Parts file_cmp → ForkName → Regs → ℕ → Came file_cmp C
+  abbrev pub came_of : {F A C : Type 0} → Family file_cmp F A C → Parts file_cmp → ForkName → Regs → ℕ → Came file_cmp C
   came_of family v who regs number = turn_on (family.sight v who) v.pages (numbered family.calls number (family.asked v who regs))
 
   -- a family, offered
-  abbrev pub offered : {F A C V : Type 0} → Family file_cmp F A C V → Offer file_cmp
+  abbrev pub offered : {F A C : Type 0} → Family file_cmp F A C → Offer file_cmp
   offered family = record {
     has = is_among family.calls;
-    turned = λ v who regs number. behind (through family.lens family.changed) v who (came_of family v who regs number);
+    turned = λ v who regs number. behind family.changed v who (came_of family v who regs number);
   }
 
   -- a turn of the first of some families that has the number; a number that none has traps
@@ -89,41 +74,37 @@ module _ {K : Type 0} {file_cmp : K → K → Ordering} where
   first_turned [] v who regs number = record { parts = v; caller = option_map (λ f. posted f ILLEGAL_INSTRUCTION) (map.get v.tree.forks who); out = None }
   first_turned (o ∷ os) v who regs number = if o.has number then o.turned v who regs number else first_turned os v who regs number
 
-  -- no part
-  abbrev pub no_part : Lens (Parts file_cmp) (Unit {0})
-  no_part = record { seen = λ v. tt; with_seen = λ v nothing. v }
+  -- a call that changes the fork that called alone
+  abbrev pub own_changed : Unit {0} → Parts file_cmp → Parts file_cmp
+  own_changed change v = v
 
-  -- the calls that print change the fork that called alone
-  abbrev pub printing : Family file_cmp ⊥ Regs (Unit {0}) (Unit {0})
-  printing = record { calls = print_calls; asked = λ v who regs. regs; sight = λ v who. no_files; lens = no_part; changed = own_changed }
+  -- the calls that print
+  abbrev pub printing : Family file_cmp ⊥ Regs (Unit {0})
+  printing = record { calls = print_calls; asked = λ v who regs. regs; sight = λ v who. no_files; changed = own_changed }
 
-  -- the part that the fork calls change
-  abbrev pub forks_part : Lens (Parts file_cmp) (ForkParts file_cmp)
-  forks_part = record { seen = λ v. record { tree = v.tree; pages = v.pages }; with_seen = λ v part. record v { tree = part.tree; pages = part.pages } }
+  -- what calls on forks and on maps are asked with
+  abbrev pub asks : Parts file_cmp → ForkName → Regs → Asked
+  asks v who regs = record { who = who; regs = regs; tree = v.tree }
 
-  -- what a fork call is asked with
-  abbrev pub asks_forks : Parts file_cmp → ForkName → Regs → ForkAsked
-  asks_forks v who regs = record { who = who; regs = regs; tree = v.tree }
+  -- a fork call changes forks and pages
+  abbrev pub forks_changed : ForkChange → Parts file_cmp → Parts file_cmp
+  forks_changed change v = let part = fork_changed change (record { tree = v.tree; pages = v.pages }) in record v { tree = part.tree; pages = part.pages }
 
-  -- the fork calls change forks and pages
-  abbrev pub forking : Family file_cmp ⊥ ForkAsked ForkChange (ForkParts file_cmp)
-  forking = record { calls = fork_calls; asked = asks_forks; sight = λ v who. no_files; lens = forks_part; changed = fork_changed }
+  -- the fork calls
+  abbrev pub forking : Family file_cmp ⊥ Asked ForkChange
+  forking = record { calls = fork_calls; asked = asks; sight = λ v who. no_files; changed = forks_changed }
 
-  -- the part that the calls on maps change
-  abbrev pub pages_part : Lens (Parts file_cmp) (PlainPages file_cmp)
-  pages_part = record { seen = λ v. v.pages; with_seen = λ v pages. record v { pages = pages } }
+  -- a call on maps changes pages
+  abbrev pub pages_changed : MapChange → Parts file_cmp → Parts file_cmp
+  pages_changed change v = record v { pages = map_changed change v.pages }
 
-  -- what a call on maps is asked with
-  abbrev pub asks_maps : Parts file_cmp → ForkName → Regs → Asked
-  asks_maps v who regs = record { who = who; regs = regs; forks = v.tree.forks }
+  -- the calls on maps
+  abbrev pub mapping : Family file_cmp ⊥ Asked MapChange
+  mapping = record { calls = map_calls; asked = asks; sight = λ v who. no_files; changed = pages_changed }
 
-  -- the calls on maps change pages
-  abbrev pub mapping : Family file_cmp ⊥ Asked MapChange (PlainPages file_cmp)
-  mapping = record { calls = map_calls; asked = asks_maps; sight = λ v who. no_files; lens = pages_part; changed = map_changed }
-
-  -- and so do those on files
-  abbrev pub filing : Family file_cmp ⊥ ForkAsked (Unit {0}) (Unit {0})
-  filing = record { calls = file_calls; asked = asks_forks; sight = λ v who. no_files; lens = no_part; changed = own_changed }
+  -- the calls on files
+  abbrev pub filing : Family file_cmp ⊥ Asked (Unit {0})
+  filing = record { calls = file_calls; asked = asks; sight = λ v who. no_files; changed = own_changed }
 
   -- all families
   abbrev pub families : List (Offer file_cmp)

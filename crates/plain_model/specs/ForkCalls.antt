@@ -7,7 +7,7 @@ use Rattle.word36.specs.Words.{right, joined, bit}
 use Rattle.word36.specs.Flags.{no_flags}
 use Rattle.plain_model.specs.declared.call.TheConstants.{CFORK, KFORK, FFORK, RFORK, RFSTS, SFORK, SFACS, RFACS, HFORK, WFORK, HALTF, FORK_SELF, NO_HANDLE, NO_INFERIOR, FORKS_FULL, SERIALS_OUT, NO_ROOM}
 use Rattle.plain_model.specs.declared.call.End.{End}
-use Rattle.plain_model.specs.declared.call.End.TheVariants.{Waits, Halts, Failed}
+use Rattle.plain_model.specs.declared.call.End.TheVariants.{Done, Waits, Halts, Failed}
 use Rattle.plain_model.specs.declared.call.ForkChange.{ForkChange}
 use Rattle.plain_model.specs.declared.call.ForkChange.TheVariants.{Nothing, Make, Kill, Freeze, Become, Halt, Store}
 use Rattle.machine_names.specs.declared.names.TheConstants.{ACCUMULATORS, LAST_SERIAL, MOST_FORKS}
@@ -26,34 +26,28 @@ use Rattle.plain_pages.specs.References.{without_fork}
 use Rattle.plain_model.specs.Forks.{ForkMap, first_regs, with_status}
 use Rattle.machine_names.specs.Orders.{same_fork}
 use Rattle.plain_units.specs.Steps.{is_accumulator}
-use Rattle.plain_units.specs.Deeds.{flags_half, in_ac, pc_word}
+use Rattle.plain_units.specs.Deeds.{flags_half, in_ac, pc_word, skip_pc}
 use Rattle.plain_model.specs.Handles.{named}
 use Rattle.plain_model.specs.Inferiors.{is_inferior, last_below}
 use Rattle.plain_model.specs.Trees.{PlainTree, next_serial, next_name, free_slot, new_fork, with_made, with_changed_of, with_body, with_mark, waiters_woken, end_told}
 use Rattle.plain_model.specs.AccessWords.{bit_word}
-use Rattle.plain_model.specs.Calls.{Turn, adds, ends, with_ac, and_then, returning, returning_second, given, numbered, with_block}
+use Rattle.plain_model.specs.Calls.{Asked, Turn, adds, ends, with_ac, and_then, returning, given, numbered, with_block}
 use Rattle.plain_units.specs.Blocks.{next_address, stored_from}
 
--- who calls, with which registers, among which forks
-pub record ForkAsked : Type 0 where
-  pub who : ForkName
-  pub regs : Regs
-  pub tree : PlainTree
-
 -- the fork that the handle in accumulator 1 names
-abbrev pub fork_named : ForkAsked → Result Fork ℕ
+abbrev pub fork_named : Asked → Result Fork ℕ
 fork_named a = option_map_or Ok (named a.tree.forks a.who (right (in_ac a.regs 1))) (Err NO_HANDLE)
 
 -- a fork where it is an inferior of the caller
-abbrev pub if_inferior : ForkAsked → Fork → Result Fork ℕ
+abbrev pub if_inferior : Asked → Fork → Result Fork ℕ
 if_inferior a f = if is_inferior a.tree.forks a.who f.name then Ok f else Err NO_INFERIOR
 
 -- the inferior that accumulator 1 names
-unfoldable pub inferior_named : ForkAsked → Result Fork ℕ
+unfoldable pub inferior_named : Asked → Result Fork ℕ
 inferior_named a = and_then (fork_named a) (if_inferior a)
 
 -- the same, where it may be the caller too
-unfoldable pub own_named : ForkAsked → Result Fork ℕ
+unfoldable pub own_named : Asked → Result Fork ℕ
 own_named a = and_then (fork_named a) (λ f. if same_fork f.name a.who then Ok f else if_inferior a f)
 
 -- the address in accumulator 2
@@ -61,7 +55,7 @@ abbrev pub address_named : Regs → ℕ
 address_named regs = right (in_ac regs 2)
 
 -- bit 0 of accumulator 1 has the new fork's pages follow the caller's
-abbrev pub map_wanted : ForkAsked → NewMap
+abbrev pub map_wanted : Asked → NewMap
 map_wanted a = if bit (in_ac a.regs 1) 0 == 1 then FollowAll a.who else EmptyMap
 
 -- bit 4 has it started, at the right half of accumulator 1
@@ -76,46 +70,34 @@ made_body regs words body = record body {
 }
 
 -- the new fork, in a slot under the caller
-abbrev pub made_fork : ForkAsked → ℕ → List ℕ → Fork
+abbrev pub made_fork : Asked → ℕ → List ℕ → Fork
 made_fork a slot words =
     let f = new_fork (next_name a.tree a.who.tty) slot (option_map (λ k. k.slot) (map.get a.tree.forks a.who)) in
     record f { body = made_body a.regs words f.body }
 
--- it is made, and accumulator 1 becomes its handle
-abbrev pub making : ForkAsked → ℕ → List ℕ → End ForkChange
-making a slot words = returning_second (Make (made_fork a slot words)) (with_ac a.regs 1 (FORK_SELF + slot))
+-- it is made, accumulator 1 becomes its handle, and the call returns by its second return
+abbrev pub making : Asked → ℕ → List ℕ → End ForkChange
+making a slot words = let told = with_ac a.regs 1 (FORK_SELF + slot) in Done (Make (made_fork a slot words)) (record told { pc = skip_pc told }) None None
 
 -- bit 3 of accumulator 1 has its accumulators read, with the new fork there; else they are 0
-abbrev pub with_accumulators : ForkAsked → (List ℕ → Turn ⊥ ForkChange) → Turn ⊥ ForkChange
+abbrev pub with_accumulators : Asked → (List ℕ → Turn ⊥ ForkChange) → Turn ⊥ ForkChange
 with_accumulators a next =
     if bit (in_ac a.regs 1) 3 == 1 then with_block a.who a.regs (address_named a.regs) Read next else next (replicate ACCUMULATORS 0)
 
 -- a fork is made in a slot, where a serial is left for it and the drum has room
-abbrev pub making_in : ForkAsked → ℕ → Turn ⊥ ForkChange
+abbrev pub making_in : Asked → ℕ → Turn ⊥ ForkChange
 making_in a slot =
     if nat_lt LAST_SERIAL (next_serial a.tree a.who.tty) then ends (Failed SERIALS_OUT)
     else adds (next_name a.tree a.who.tty) (map_wanted a) (λ room.
     if room then with_accumulators a (λ words. ends (making a slot words)) else ends (Failed NO_ROOM))
 
 -- CFORK: an inferior of the caller is made, in the least free slot
-abbrev pub cfork : ForkAsked → Turn ⊥ ForkChange
+abbrev pub cfork : Asked → Turn ⊥ ForkChange
 cfork a = option_map_or (making_in a) (free_slot a.tree.forks a.who.tty) (ends (Failed FORKS_FULL))
 
 -- a call that changes an inferior, and no more
-abbrev pub of_inferior : ForkAsked → (Fork → ForkChange) → Turn ⊥ ForkChange
-of_inferior a change = given (inferior_named a) (λ f. ends (returning (change f) a.regs))
-
--- KFORK: an inferior is killed, and all below it
-abbrev pub kfork : ForkAsked → Turn ⊥ ForkChange
-kfork a = of_inferior a (λ f. Kill f.name)
-
--- FFORK: an inferior gets the freeze mark
-abbrev pub ffork : ForkAsked → Turn ⊥ ForkChange
-ffork a = of_inferior a (λ f. Freeze f.name true)
-
--- RFORK: an inferior loses it
-abbrev pub rfork : ForkAsked → Turn ⊥ ForkChange
-rfork a = of_inferior a (λ f. Freeze f.name false)
+abbrev pub of_inferior : (Fork → ForkChange) → Asked → Turn ⊥ ForkChange
+of_inferior change a = given (inferior_named a) (λ f. ends (returning (change f) a.regs))
 
 -- the code of a status
 abbrev pub status_code : ForkStatus → ℕ
@@ -136,11 +118,11 @@ unfoldable pub status_word : Fork → ℕ
 status_word f = bit_word f.frozen 0 + joined (status_code f.body.status) (status_channel f.body.status)
 
 -- the PC word of a fork: its flags, and the address of its next instruction, which is behind the call where it is the caller
-unfoldable pub place_word : ForkAsked → Fork → ℕ
+unfoldable pub place_word : Asked → Fork → ℕ
 place_word a f = if same_fork f.name a.who then pc_word a.regs else joined (flags_half f.body.regs.flags) f.body.regs.pc
 
 -- RFSTS: accumulators 1 and 2 become the status and the PC word of the caller or an inferior
-abbrev pub rfsts : ForkAsked → Turn ⊥ ForkChange
+abbrev pub rfsts : Asked → Turn ⊥ ForkChange
 rfsts a = given (own_named a) (λ f. ends (returning Nothing (with_ac (with_ac a.regs 1 (status_word f)) 2 (place_word a f))))
 
 -- a fork that is started at an address: it has no flags, and no pending channel, level or sleep
@@ -153,14 +135,14 @@ started_at address body = record body {
 }
 
 -- SFORK: an inferior is started at the address in accumulator 2
-abbrev pub sfork : ForkAsked → Turn ⊥ ForkChange
-sfork a = of_inferior a (λ f. Become f.name (started_at (address_named a.regs) f.body))
+abbrev pub sfork : Asked → Turn ⊥ ForkChange
+sfork a = of_inferior (λ f. Become f.name (started_at (address_named a.regs) f.body)) a
 
 abbrev pub with_accumulators_of : Body → List ℕ → Body
 with_accumulators_of body words = record body { regs = record body.regs { ac = words } }
 
 -- SFACS: an inferior's accumulators become the sixteen words that accumulator 2 names
-abbrev pub sfacs : ForkAsked → Turn ⊥ ForkChange
+abbrev pub sfacs : Asked → Turn ⊥ ForkChange
 sfacs a = given (inferior_named a) (λ f. with_block a.who a.regs (address_named a.regs) Read (λ words.
     ends (returning (Become f.name (with_accumulators_of f.body words)) a.regs)))
 
@@ -170,13 +152,9 @@ stored_low ac a [] = ac
 stored_low ac a (w ∷ ws) = stored_low (if is_accumulator a then slice_set ac a w else ac) (next_address a) ws
 
 -- RFACS: an inferior's accumulators are stored at the sixteen words that accumulator 2 names
-abbrev pub rfacs : ForkAsked → Turn ⊥ ForkChange
+abbrev pub rfacs : Asked → Turn ⊥ ForkChange
 rfacs a = given (inferior_named a) (λ f. let at = address_named a.regs in let words = f.body.regs.ac in
     with_block a.who a.regs at Write (λ old. ends (returning (Store a.who at words) (record a.regs { ac = stored_low a.regs.ac at words }))))
-
--- HFORK: an inferior is halted
-abbrev pub hfork : ForkAsked → Turn ⊥ ForkChange
-hfork a = of_inferior a (λ f. Halt f.name)
 
 -- a fork has ended where it is halted or was forced
 abbrev pub has_ended : ForkStatus → Bool
@@ -189,31 +167,28 @@ abbrev pub waits_for : Regs → ForkStatus → End ForkChange
 waits_for regs status = if has_ended status then returning Nothing regs else Waits on.Fork
 
 -- WFORK: the caller waits until an inferior is halted or forced
-abbrev pub wfork : ForkAsked → Turn ⊥ ForkChange
+abbrev pub wfork : Asked → Turn ⊥ ForkChange
 wfork a = given (inferior_named a) (λ f. ends (waits_for a.regs f.body.status))
 
--- HALTF: the caller halts
-abbrev pub haltf : ForkAsked → Turn ⊥ ForkChange
-haltf a = ends Halts
-
--- the fork calls by their numbers
-abbrev pub fork_calls : List (ℕ × (ForkAsked → Turn ⊥ ForkChange))
+-- The fork calls by their numbers. KFORK kills an inferior, and all below it; FFORK gives it the freeze mark, and RFORK takes
+-- it away; HFORK halts it; and at HALTF the caller halts.
+abbrev pub fork_calls : List (ℕ × (Asked → Turn ⊥ ForkChange))
 fork_calls =
     (CFORK, cfork)
-    ∷ (KFORK, kfork)
-    ∷ (FFORK, ffork)
-    ∷ (RFORK, rfork)
+    ∷ (KFORK, of_inferior (λ f. Kill f.name))
+    ∷ (FFORK, of_inferior (λ f. Freeze f.name true))
+    ∷ (RFORK, of_inferior (λ f. Freeze f.name false))
     ∷ (RFSTS, rfsts)
     ∷ (SFORK, sfork)
     ∷ (SFACS, sfacs)
     ∷ (RFACS, rfacs)
-    ∷ (HFORK, hfork)
+    ∷ (HFORK, of_inferior (λ f. Halt f.name))
     ∷ (WFORK, wfork)
-    ∷ (HALTF, haltf)
+    ∷ (HALTF, λ a. ends Halts)
     ∷ []
 
 -- a turn of a fork call by its number
-abbrev pub fork_call : ℕ → ForkAsked → Turn ⊥ ForkChange
+abbrev pub fork_call : ℕ → Asked → Turn ⊥ ForkChange
 fork_call number a = numbered fork_calls number a
 
 -- the forks and the pages: what the fork calls change

@@ -1,5 +1,5 @@
 -- Forks: which can run, and how they begin and end (CACM paper, "Forks").
-use Rattle.std.specs.Prelude.{◌≡◌, ℕ, zero, suc, ◌+◌, List, Bool, false, ◌||◌, ◌&&◌, Option, None, Some, ◌==◌, find, replicate}
+use Rattle.std.specs.Prelude.{◌≡◌, ℕ, zero, suc, ◌+◌, List, Bool, true, false, not, ◌||◌, ◌&&◌, Option, None, Some, ◌==◌, find, replicate}
 use Rattle.std.specs.List.{filter_map, range_with_len}
 use Rattle.std.specs.Option.{option_map_or, option_and_then}
 use Rattle.std.specs.FinMap as map
@@ -27,15 +27,28 @@ fork_in forks t slot = find (λ f. (f.name.tty.0 == t.0) && (f.slot == slot)) (m
 abbrev pub superior_of : ForkMap → Fork → Option Fork
 superior_of forks f = option_and_then (fork_in forks f.name.tty) f.superior
 
--- a fork is frozen where it or an ancestor has the freeze mark; so many ancestors are looked at
-abbrev pub is_frozen : ℕ → ForkMap → Option Fork → Bool
-is_frozen zero forks f = false
-is_frozen (suc n) forks None = false
-is_frozen (suc n) forks (Some f) = f.frozen || is_frozen n forks (superior_of forks f)
+-- whether a fork or an ancestor of it passes a test; so many forks are looked at
+abbrev pub any_upward : (Fork → Bool) → ℕ → ForkMap → Option Fork → Bool
+any_upward p zero forks f = false
+any_upward p (suc n) forks None = false
+any_upward p (suc n) forks (Some f) = p f || any_upward p n forks (superior_of forks f)
 
--- a fork that can run: it lives, its status is Run, and neither it nor an ancestor is frozen
-abbrev pub IsRunnable : PlainState → ForkName → Type 0
-IsRunnable s f = (k : Fork) × (map.get s.forks f ≡ Some k) × (k.body.status ≡ Run) × (is_frozen MOST_FORKS s.forks (Some k) ≡ false)
+-- a fork is frozen where it or an ancestor has the freeze mark
+abbrev pub is_frozen : ℕ → ForkMap → Option Fork → Bool
+is_frozen n forks f = any_upward (λ k. k.frozen) n forks f
+
+-- whether a status is Run
+abbrev pub is_run : ForkStatus → Bool
+is_run Run = true
+is_run status = false
+
+-- whether a fork can run: its status is Run, and neither it nor an ancestor is frozen
+abbrev pub can_run : ForkMap → Fork → Bool
+can_run forks f = is_run f.body.status && not (is_frozen MOST_FORKS forks (Some f))
+
+-- a fork of this name lives, and can run
+abbrev pub IsRunnable : ForkMap → ForkName → Type 0
+IsRunnable forks name = option_map_or (can_run forks) (map.get forks name) false ≡ true
 
 -- a job's forks by slot
 abbrev pub forks_by_slot : ForkMap → Tty → List Fork

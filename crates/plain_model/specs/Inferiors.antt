@@ -1,19 +1,13 @@
 -- Who stands below whom among the forks of a job, and in which order they go where a fork is killed.
-use Rattle.std.specs.Prelude.{ℕ, suc, zero, Bool, false, not, ◌||◌, ◌&&◌, nat_eq, find, is_some, Option, Some, None, if◌then◌else◌}
+use Rattle.std.specs.Prelude.{ℕ, suc, zero, Bool, false, not, ◌&&◌, nat_eq, find, is_some, Option, Some, None, if◌then◌else◌}
 use Rattle.std.specs.List.{range_with_len}
 use Rattle.std.specs.Option.{option_eq, option_or, option_map_or, option_and_then}
 use Rattle.std.specs.FinMap as map
 use Rattle.machine_names.specs.declared.names.ForkName.{ForkName}
 use Rattle.machine_names.specs.declared.names.TheConstants.{MOST_FORKS}
 use Rattle.plain_model.specs.declared.fork.Fork.{Fork}
-use Rattle.plain_model.specs.Forks.{ForkMap, fork_in, superior_of}
+use Rattle.plain_model.specs.Forks.{ForkMap, any_upward, fork_in, superior_of}
 use Rattle.machine_names.specs.Orders.{same_fork}
-
--- whether a fork or an ancestor of it passes a test; so many forks are looked at
-abbrev pub any_upward : (Fork → Bool) → ℕ → ForkMap → Option Fork → Bool
-any_upward p zero forks f = false
-any_upward p (suc n) forks None = false
-any_upward p (suc n) forks (Some f) = p f || any_upward p n forks (superior_of forks f)
 
 -- whether a fork is one of a name or stands below it; so many forks are looked at
 abbrev pub is_within : ℕ → ForkMap → ForkName → Option Fork → Bool
@@ -22,10 +16,6 @@ is_within n forks who f = any_upward (λ k. same_fork k.name who) n forks f
 -- whether a fork is an inferior of another: it lives, and the other is its superior, that one's superior, and so on
 unfoldable pub is_inferior : ForkMap → ForkName → ForkName → Bool
 is_inferior forks who name = option_map_or (λ f. is_within MOST_FORKS forks who (superior_of forks f)) (map.get forks name) false
-
--- the forks that are left where one and all its inferiors are killed
-unfoldable pub without_branch : ForkMap → ForkName → ForkMap
-without_branch forks who = map.retain_keys forks (λ name. not (same_fork name who || is_inferior forks who name))
 
 -- whether the fork in a slot of a fork's job has that fork as its superior
 abbrev pub is_under : ForkMap → Fork → ℕ → Bool

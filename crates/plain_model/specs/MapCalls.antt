@@ -1,6 +1,6 @@
 -- The calls on maps (JSYS Manual): PMAP, RPACS, SPACS, RMAP.
-use Rattle.std.specs.Prelude.{ℕ, ◌+◌, ◌-◌, ◌%◌, ◌^◌, List, [], ◌∷◌, Bool, ◌&&◌, nat_lt, ◌==◌, if◌then◌else◌, Option, None, Some, Result, Ok, Err}
-use Rattle.std.specs.Option.{option_map, option_map_or}
+use Rattle.std.specs.Prelude.{ℕ, ◌+◌, ◌-◌, ◌%◌, ◌^◌, List, [], ◌∷◌, Bool, ◌&&◌, nat_lt, ◌==◌, if◌then◌else◌, Option, None, Result, Ok, Err}
+use Rattle.std.specs.Option.{option_map_or}
 use Rattle.std.specs.declared.cmp.Ordering.{Ordering}
 use Rattle.std.specs.FinMap as map
 use Rattle.word36.specs.Words.{left, right, joined, bit}
@@ -16,7 +16,6 @@ use Rattle.machine_names.specs.declared.names.Slot.{Slot}
 use Rattle.machine_names.specs.declared.names.Access.{Access}
 use Rattle.plain_pages.specs.declared.map.MapEntry.{MapEntry}
 use Rattle.plain_pages.specs.declared.map.MapEntry.TheVariants as entry
-use Rattle.plain_model.specs.declared.fork.Fork.{Fork}
 use Rattle.plain_units.specs.declared.registers.Regs.{Regs}
 use Rattle.plain_pages.specs.PlainPages.{PlainPages}
 use Rattle.plain_pages.specs.Maps.{entry_at, narrow}
@@ -25,13 +24,7 @@ use Rattle.plain_model.specs.Forks.{ForkMap}
 use Rattle.plain_units.specs.Deeds.{in_ac}
 use Rattle.plain_model.specs.Handles.{named}
 use Rattle.plain_model.specs.AccessWords.{access_in, access_told}
-use Rattle.plain_model.specs.Calls.{Turn, sees, finds, ends, behind_call, with_ac, and_then, returning, given, numbered}
-
--- who calls, with which registers, among which forks
-pub record Asked : Type 0 where
-  pub who : ForkName
-  pub regs : Regs
-  pub forks : ForkMap
+use Rattle.plain_model.specs.Calls.{Asked, Turn, sees, finds, ends, behind_call, with_ac, and_then, returning, given, numbered}
 
 -- a word of all ones: it names no page
 abbrev pub ALL_ONES : ℕ
@@ -41,13 +34,9 @@ ALL_ONES = 2 ^ 36 - 1
 abbrev pub on_page : {A : Type 0} → ℕ → Result A ℕ → Result A ℕ
 on_page word r = if nat_lt (right word) SPACE_PAGES then r else Err BAD_PAGE
 
-abbrev pub page_of : Option ForkName → ℕ → Result Slot ℕ
-page_of None page = Err NO_HANDLE
-page_of (Some name) page = Ok (record { fork = name; page = page })
-
 -- the page that a word names for a caller, by a handle in its left half
 unfoldable pub slot_of : ForkMap → ForkName → ℕ → Result Slot ℕ
-slot_of forks who word = page_of (option_map (λ f. f.name) (named forks who (left word))) (right word)
+slot_of forks who word = option_map_or (λ f. Ok (record { fork = f.name; page = right word })) (named forks who (left word)) (Err NO_HANDLE)
 
 -- the same by a handle or a JFN, of which none is held
 unfoldable pub place_of : ForkMap → ForkName → ℕ → Result Slot ℕ
@@ -55,10 +44,10 @@ place_of forks who word = if nat_lt (left word) FORK_SELF then Err NO_JFN else s
 
 -- the page of a fork or file that accumulator 1 names, and the page of a fork that it names
 abbrev pub place_named : Asked → Result Slot ℕ
-place_named a = on_page (in_ac a.regs 1) (place_of a.forks a.who (in_ac a.regs 1))
+place_named a = on_page (in_ac a.regs 1) (place_of a.tree.forks a.who (in_ac a.regs 1))
 
 abbrev pub slot_named : Asked → Result Slot ℕ
-slot_named a = on_page (in_ac a.regs 1) (slot_of a.forks a.who (in_ac a.regs 1))
+slot_named a = on_page (in_ac a.regs 1) (slot_of a.tree.forks a.who (in_ac a.regs 1))
 
 -- accumulator 2 becomes the access of a page, and the call is done
 abbrev pub tells_access : Regs → MapEntry → Option PageName → End MapChange
@@ -77,19 +66,14 @@ narrows slot access regs e = returning (Narrow slot access) regs
 abbrev pub spacs : Asked → Turn ⊥ MapChange
 spacs a = given (slot_named a) (λ slot. sees slot (λ e. ends (narrows slot (access_in (in_ac a.regs 2)) a.regs e)))
 
--- a handle and a page for a fork that lives, and else all ones
-abbrev pub handle_of : Option Fork → ℕ → ℕ
-handle_of None page = ALL_ONES
-handle_of (Some f) page = joined (FORK_SELF + f.slot) page
-
--- the handle and the page that the entry of a slot follows
+-- the handle and the page that the entry of a slot follows, where that fork lives, and else all ones
 abbrev pub source_of : ForkMap → Slot → MapEntry → ℕ
-source_of forks slot (entry.Follows serial page a) = handle_of (map.get forks (record { tty = slot.fork.tty; serial = serial })) page
+source_of forks slot (entry.Follows serial page a) = option_map_or (λ f. joined (FORK_SELF + f.slot) page) (map.get forks (record { tty = slot.fork.tty; serial = serial })) ALL_ONES
 source_of forks slot e = ALL_ONES
 
 -- RMAP: accumulator 1 becomes what the page follows that it names, and the access of that page is told
 abbrev pub rmap : Asked → Turn ⊥ MapChange
-rmap a = given (slot_named a) (λ slot. sees slot (λ e. finds (in_map slot) (λ page. ends (tells_access (with_ac a.regs 1 (source_of a.forks slot e)) e page))))
+rmap a = given (slot_named a) (λ slot. sees slot (λ e. finds (in_map slot) (λ page. ends (tells_access (with_ac a.regs 1 (source_of a.tree.forks slot e)) e page))))
 
 -- PMAP goes over pages where bit 0 of accumulator 3 is 1: as many as its right half says
 abbrev pub is_counted : Regs → Bool
@@ -116,12 +100,12 @@ behind_page regs = if is_counted regs then behind_last (on_next_page regs) else 
 
 -- the page that accumulator 2 names is taken out of its map
 abbrev pub unmapped : Asked → Result MapChange ℕ
-unmapped a = on_page (in_ac a.regs 2) (and_then (place_of a.forks a.who (in_ac a.regs 2)) (λ to. Ok (Unmap to)))
+unmapped a = on_page (in_ac a.regs 2) (and_then (place_of a.tree.forks a.who (in_ac a.regs 2)) (λ to. Ok (Unmap to)))
 
 -- it follows the page that accumulator 1 names, with the access in accumulator 3
 abbrev pub mapped : Asked → Result MapChange ℕ
 mapped a = on_page (in_ac a.regs 1) (on_page (in_ac a.regs 2)
-    (and_then (place_of a.forks a.who (in_ac a.regs 1)) (λ from. and_then (place_of a.forks a.who (in_ac a.regs 2)) (λ to. Ok (Follow to from (access_in (in_ac a.regs 3)))))))
+    (and_then (place_of a.tree.forks a.who (in_ac a.regs 1)) (λ from. and_then (place_of a.tree.forks a.who (in_ac a.regs 2)) (λ to. Ok (Follow to from (access_in (in_ac a.regs 3)))))))
 
 -- what PMAP does with one page: a source of all ones takes the destination out of its map
 unfoldable pub one_page : Asked → Result MapChange ℕ
@@ -135,12 +119,7 @@ pmap a =
 
 -- the calls on maps by their numbers
 abbrev pub map_calls : List (ℕ × (Asked → Turn ⊥ MapChange))
-map_calls =
-    (PMAP, pmap)
-    ∷ (RPACS, rpacs)
-    ∷ (SPACS, spacs)
-    ∷ (RMAP, rmap)
-    ∷ []
+map_calls = (PMAP, pmap) ∷ (RPACS, rpacs) ∷ (SPACS, spacs) ∷ (RMAP, rmap) ∷ []
 
 -- a turn of a call on maps by its number
 abbrev pub map_call : ℕ → Asked → Turn ⊥ MapChange

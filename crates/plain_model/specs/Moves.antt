@@ -1,33 +1,25 @@
 -- Which forks a step lets run, and which it stops, in order.
-use Rattle.std.specs.Prelude.{List, ◌++◌, map, filter, Bool, true, false, not, ◌&&◌, Some}
+use Rattle.std.specs.Prelude.{List, ◌++◌, map, filter, Bool, true, false, not, ◌&&◌}
 use Rattle.std.specs.List.{flat_map, range_with_len}
 use Rattle.std.specs.Option.{option_map_or}
 use Rattle.std.specs.FinMap as map_of
-use Rattle.machine_names.specs.declared.names.TheConstants.{TERMINALS, MOST_FORKS}
+use Rattle.machine_names.specs.declared.names.TheConstants.{TERMINALS}
 use Rattle.machine_names.specs.declared.names.ForkName.{ForkName}
-use Rattle.plain_model.specs.declared.fork.Fork.{Fork}
 use Rattle.script_texts.specs.declared.status.ForkStatus.{ForkStatus}
-use Rattle.script_texts.specs.declared.status.ForkStatus.TheVariants.{Run, Wait}
+use Rattle.script_texts.specs.declared.status.ForkStatus.TheVariants.{Wait}
 use Rattle.script_texts.specs.declared.status.WaitOn.TheVariants as on
-use Rattle.plain_model.specs.Forks.{ForkMap, forks_by_slot, is_frozen}
+use Rattle.plain_model.specs.Forks.{ForkMap, can_run, forks_by_slot}
 
 -- a fork stops being able to run, or becomes able to
 pub data Move : Type 0 where
   Stops : ForkName → Move
   Starts : ForkName → Move
 
-abbrev pub is_run : ForkStatus → Bool
-is_run Run = true
-is_run status = false
-
 abbrev pub waits_for_one : ForkStatus → Bool
 waits_for_one (Wait on.Fork) = true
 waits_for_one status = false
 
--- whether a fork among these can run, and whether one of that name can
-abbrev pub can_run : ForkMap → Fork → Bool
-can_run forks f = is_run f.body.status && not (is_frozen MOST_FORKS forks (Some f))
-
+-- whether the fork of a name lives and can run
 abbrev pub runs_in : ForkMap → ForkName → Bool
 runs_in forks name = option_map_or (can_run forks) (map_of.get forks name) false
 

@@ -48,8 +48,8 @@ ShownFirst s e items =
 -- a unit is of a fork that can run there; an idle entry under AUTO ON stands where none can
 abbrev pub IsLegalStep : Bool → PlainState → Step → Type 0
 IsLegalStep auto s (Outer e) = Unit {0}
-IsLegalStep auto s (AUnit f) = IsRunnable s f
-IsLegalStep auto s Idle = auto ≡ true → (f : ForkName) → IsRunnable s f → ⊥
+IsLegalStep auto s (AUnit f) = IsRunnable s.forks f
+IsLegalStep auto s Idle = auto ≡ true → (f : ForkName) → IsRunnable s.forks f → ⊥
 
 -- each entry is legal where it stands
 abbrev pub AreLegal : Bool → PlainState → List Step → Type 0

@@ -80,10 +80,6 @@ woken_in forks t (slot ∷ slots) = woken_in (changed forks unwaited (fork_in fo
 unfoldable pub waiters_woken : ForkMap → Tty → ForkMap
 waiters_woken forks t = woken_in forks t (range_with_len 1 MOST_FORKS)
 
--- a channel posted to a fork, where there is one
-abbrev pub with_posted : ForkMap → ℕ → Option Fork → ForkMap
-with_posted forks channel f = changed forks (λ k. posted k channel) f
-
 -- a fork has halted or was forced: who waits for a fork of its job runs again, and then its superior is told by a channel
 abbrev pub end_told : ForkMap → Fork → ForkMap
-end_told forks f = let woken = waiters_woken forks f.name.tty in with_posted woken INFERIOR_ENDED (superior_of woken f)
+end_told forks f = let woken = waiters_woken forks f.name.tty in changed woken (λ k. posted k INFERIOR_ENDED) (superior_of woken f)

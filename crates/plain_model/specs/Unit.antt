@@ -1,5 +1,5 @@
 -- One unit of a fork: an instruction, or a trap (PDP-10 handbook, "Instruction format").
-use Rattle.std.specs.Prelude.{ℕ, ◌+◌, ◌%◌, ◌^◌, List, [], ◌∷◌, ◌++◌, map, codes, decimal, is_some, Option, None, Some, if◌then◌else◌, ◌==◌}
+use Rattle.std.specs.Prelude.{ℕ, List, [], ◌∷◌, ◌++◌, map, codes, decimal, is_some, Option, if◌then◌else◌, ◌==◌}
 use Rattle.std.specs.Option.{option_map_or}
 use Rattle.std.specs.FinMap as map_of
 use Rattle.machine_names.specs.declared.names.Tty.{Tty}
@@ -8,7 +8,6 @@ use Rattle.machine_names.specs.declared.character.TheConstants.{LINE_END, CARRIA
 use Rattle.plain_model.specs.declared.fork.TerminalMode.TheVariants.{Command}
 use Rattle.script_texts.specs.declared.status.ForkStatus.{ForkStatus}
 use Rattle.script_texts.specs.declared.status.ForkStatus.TheVariants.{Halted, Forced}
-use Rattle.plain_units.specs.declared.registers.Regs.{Regs}
 use Rattle.plain_model.specs.declared.fork.Fork.{Fork}
 use Rattle.script_texts.specs.declared.event.Item.{Item}
 use Rattle.script_texts.specs.declared.event.Item.TheVariants.{Char}
@@ -27,10 +26,6 @@ use Rattle.plain_units.specs.Units.{unit_on}
 pub record Effect : Type 0 where
   pub state : PlainState
   pub items : List Item
-
--- the program counter goes on by one, modulo 2^18
-abbrev pub advanced : Regs → Regs
-advanced regs = record regs { pc = (regs.pc + 1) % 2 ^ 18 }
 
 -- characters that a terminal prints
 abbrev pub printed : Tty → List ℕ → List Item
@@ -60,15 +55,11 @@ stopped s f = let t = with_stopped s f in
     if is_some f.superior then record { state = t; items = [] }
     else record { state = in_command_mode t f.name.tty; items = printed f.name.tty (stop_text f.body.status) }
 
--- a fork is put among the forks with this status, which is its own
-abbrev pub put_with : PlainState → Fork → ForkStatus → Effect
-put_with s f Halted = stopped s f
-put_with s f (Forced channel) = stopped s f
-put_with s f status = record { state = with_fork s f; items = [] }
-
 -- a fork is behind a unit that leaves it in this status, which is its own
 abbrev pub unit_ended : PlainState → Fork → ForkStatus → Effect
-unit_ended s f status = put_with s (counted f) status
+unit_ended s f Halted = stopped s (counted f)
+unit_ended s f (Forced channel) = stopped s (counted f)
+unit_ended s f status = record { state = with_fork s (counted f); items = [] }
 
 -- a trap changes nothing, leaves the program counter on the instruction, and posts its channel
 abbrev pub trapped : PlainState → Fork → ℕ → Effect
@@ -83,13 +74,11 @@ with_parts s v = record s { forks = v.tree.forks; fork_serials = v.tree.serials;
 
 -- the characters that a turn prints
 abbrev pub turn_printed : Tty → Option ℕ → List Item
-turn_printed t None = []
-turn_printed t (Some code) = printed t (shown_code code)
+turn_printed t out = option_map_or (λ code. printed t (shown_code code)) out []
 
 -- the fork that called is behind its unit
 abbrev pub caller_ended : PlainState → Option Fork → Effect
-caller_ended s None = record { state = s; items = [] }
-caller_ended s (Some f) = unit_ended s f f.body.status
+caller_ended s caller = option_map_or (λ f. unit_ended s f f.body.status) caller (record { state = s; items = [] })
 
 -- a turn of a call is over: what it prints, and then what is shown where its fork has stopped
 abbrev pub turned : PlainState → Tty → Turned name_cmp → Effect

@@ -7,8 +7,8 @@ use Rattle.call_turns.specs.declared.answer.Answer.TheVariants.{Need as Needs}
 use Rattle.page_contracts.specs.declared.answers.Need.{Need}
 use Rattle.plain_pages.specs.PlainPages.{NumberedPages}
 use Rattle.page_contracts.specs.Pages.{Scene}
-use Rattle.plain_model.specs.Calls.{Turn, Came, no_files, turn_on, parts_behind}
-use Rattle.plain_model.specs.MapCalls.{Asked, map_call, map_changed}
+use Rattle.plain_model.specs.Calls.{Turn, Came, no_files, turn_on, parts_behind, Asked}
+use Rattle.plain_model.specs.MapCalls.{map_call, map_changed}
 use Rattle.plain_model.specs.Trees.{PlainTree}
 use Rattle.plain_model.proofs.Calling.{map_makes_none}
 use Rattle.call_turns.specs.declared.turn.Turn.{Turn as Step}

@@ -17,7 +17,7 @@ use plain_units::Regs;
 /// RPACS: tells the access of a page in accumulator 2. BAD_PAGE, NO_HANDLE, NO_JFN.
 pub fn rpacs(regs: &Regs, who: ForkName, tree: &Tree) -> Turn<MapChange, Stage>
     requires { IsRegs regs.now }
-    ensures turn { whole tree.now result ≡ rpacs_of (record { who = who; regs = regs.now; forks = tree.now.forks }) }
+    ensures turn { whole tree.now result ≡ rpacs_of (record { who = who; regs = regs.now; tree = tree.now }) }
     ensures fits { FitsTurn IsStage IsMapChange result }
 {
     match place_named(tree, who, regs.ac[1]) {
@@ -29,7 +29,7 @@ pub fn rpacs(regs: &Regs, who: ForkName, tree: &Tree) -> Turn<MapChange, Stage>
 /// SPACS: narrows the access of a page. BAD_PAGE, NO_HANDLE, NO_PAGE.
 pub fn spacs(regs: &Regs, who: ForkName, tree: &Tree) -> Turn<MapChange, Stage>
     requires { IsRegs regs.now }
-    ensures turn { whole tree.now result ≡ spacs_of (record { who = who; regs = regs.now; forks = tree.now.forks }) }
+    ensures turn { whole tree.now result ≡ spacs_of (record { who = who; regs = regs.now; tree = tree.now }) }
     ensures fits { FitsTurn IsStage IsMapChange result }
 {
     match slot_named(tree, who, regs.ac[1]) {
@@ -44,7 +44,7 @@ pub fn spacs(regs: &Regs, who: ForkName, tree: &Tree) -> Turn<MapChange, Stage>
 /// RMAP: tells what a page follows in accumulator 1, and its access in accumulator 2. BAD_PAGE, NO_HANDLE.
 pub fn rmap(regs: &Regs, who: ForkName, tree: &Tree) -> Turn<MapChange, Stage>
     requires { IsRegs regs.now }
-    ensures turn { whole tree.now result ≡ rmap_of (record { who = who; regs = regs.now; forks = tree.now.forks }) }
+    ensures turn { whole tree.now result ≡ rmap_of (record { who = who; regs = regs.now; tree = tree.now }) }
     ensures fits { FitsTurn IsStage IsMapChange result }
 {
     match slot_named(tree, who, regs.ac[1]) {
@@ -56,7 +56,7 @@ pub fn rmap(regs: &Regs, who: ForkName, tree: &Tree) -> Turn<MapChange, Stage>
 /// PMAP: maps a page, or takes one out of its map. BAD_PAGE, NO_HANDLE, NO_JFN.
 pub fn pmap(regs: &Regs, who: ForkName, tree: &Tree) -> Turn<MapChange, Stage>
     requires { IsRegs regs.now }
-    ensures turn { whole tree.now result ≡ pmap_of (record { who = who; regs = regs.now; forks = tree.now.forks }) }
+    ensures turn { whole tree.now result ≡ pmap_of (record { who = who; regs = regs.now; tree = tree.now }) }
     ensures fits { FitsTurn IsStage IsMapChange result }
 {
     if is_counted(regs) && pages_left(regs) == 0 {

@@ -78,7 +78,7 @@ pub fn behind_page(regs: Regs) -> Regs
 // The page that accumulator 2 names, taken out of its map.
 fn unmapped(regs: &Regs, who: ForkName, tree: &Tree) -> Result<MapChange, u32>
     requires { IsRegs regs.now }
-    ensures change { result ≡ unmapped_of (record { who = who; regs = regs.now; forks = tree.now.forks }) }
+    ensures change { result ≡ unmapped_of (record { who = who; regs = regs.now; tree = tree.now }) }
     ensures sound { IfOk result IsMapChange }
 {
     match place_named(tree, who, regs.ac[2]) {
@@ -90,7 +90,7 @@ fn unmapped(regs: &Regs, who: ForkName, tree: &Tree) -> Result<MapChange, u32>
 // The page that accumulator 2 names, which follows the one that accumulator 1 names.
 fn mapped(regs: &Regs, who: ForkName, tree: &Tree) -> Result<MapChange, u32>
     requires { IsRegs regs.now }
-    ensures change { result ≡ mapped_of (record { who = who; regs = regs.now; forks = tree.now.forks }) }
+    ensures change { result ≡ mapped_of (record { who = who; regs = regs.now; tree = tree.now }) }
     ensures sound { IfOk result IsMapChange }
 {
     if !names_page(regs.ac[1]) {
@@ -112,7 +112,7 @@ fn mapped(regs: &Regs, who: ForkName, tree: &Tree) -> Result<MapChange, u32>
 #[tactic(auto, unfolding(plain_model::specs::MapCalls::one_page))]
 pub fn one_page(regs: &Regs, who: ForkName, tree: &Tree) -> Result<MapChange, u32>
     requires { IsRegs regs.now }
-    ensures change { result ≡ one_page_of (record { who = who; regs = regs.now; forks = tree.now.forks }) }
+    ensures change { result ≡ one_page_of (record { who = who; regs = regs.now; tree = tree.now }) }
     ensures sound { IfOk result IsMapChange }
 {
     if regs.ac[1].value() == NO_SOURCE {

@@ -17,7 +17,7 @@ use plain_units::channel::ILLEGAL_INSTRUCTION;
 /// The first step of a call by its number. A number that is none of them traps as an illegal instruction.
 pub fn first(number: u32, regs: &Regs, who: ForkName, tree: &Tree) -> Turn<MapChange, Stage>
     requires { IsRegs regs.now }
-    ensures turn { whole tree.now result ≡ map_call number (record { who = who; regs = regs.now; forks = tree.now.forks }) }
+    ensures turn { whole tree.now result ≡ map_call number (record { who = who; regs = regs.now; tree = tree.now }) }
     ensures fits { FitsTurn IsStage IsMapChange result }
 {
     match number {

@@ -89,7 +89,7 @@ fn end<P: Pages>(end: End<MapChange>, pages: &mut P) -> Answer
 /// instruction.
 pub fn call<P: Pages>(number: u32, regs: &Regs, who: ForkName, tree: &Tree, pages: &mut P) -> Answer
     requires { IsRegs regs.now }
-    ensures told { Turns P.means pages.old pages.new result (map_call number (record { who = who; regs = regs.now; forks = tree.now.forks })) }
+    ensures told { Turns P.means pages.old pages.new result (map_call number (record { who = who; regs = regs.now; tree = tree.now })) }
     ensures needs { AnswerNeeds P.means.store 1 pages.new result }
     ensures core { P.means.flat ≡ true → IsDone result }
     ensures fits { FitsAnswer result }

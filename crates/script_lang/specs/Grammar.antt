@@ -1,5 +1,5 @@
 -- Lines that spell no event, and the kinds of events that keywords tell apart.
-use Rattle.std.specs.Prelude.{ℕ, List}
+use Rattle.std.specs.Prelude.{ℕ, List, ◌++◌, Option, MatchOption}
 use Rattle.script_texts.specs.declared.event.Event.{Event}
 use Rattle.script_texts.specs.declared.event.Event.TheVariants.{Login, TypeIn, File, Words, Poke, Start, Run, Tick, Evict, Drum, Auto, Examine, Forks, Page, Trace}
 use Rattle.script_texts.specs.Script.{Spells}
@@ -7,6 +7,10 @@ use Rattle.script_texts.specs.Script.{Spells}
 -- a line spells no event
 abbrev pub SpellsNone : List ℕ → Type 0
 SpellsNone line = (event : Event) → Spells line event → ⊥
+
+-- what stands behind a keyword was read: the line spells this event, or spells none
+abbrev pub IsRead : List ℕ → List ℕ → Option Event → Type 0
+IsRead keyword rest result = MatchOption result (SpellsNone (keyword ++ rest)) (Spells (keyword ++ rest))
 
 -- a line spells no event of a kind
 abbrev pub SpellsNoneOf : (Event → Type 0) → List ℕ → Type 0

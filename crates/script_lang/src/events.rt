@@ -1,7 +1,6 @@
 // The events of lines, read from what stands behind their keywords.
-ghost use Rattle.std.specs.Prelude.{◌++◌, MatchOption, codes};
-ghost use Rattle.script_texts.specs.Script.{Spells};
-ghost use Rattle.script_lang.specs.Grammar.{SpellsNone};
+ghost use Rattle.std.specs.Prelude.{codes};
+ghost use Rattle.script_lang.specs.Grammar.{IsRead};
 
 use crate::fields::{
     address, address_field, cut, head, page, page_field, read_decimal, serial_field, switch, tty,
@@ -24,7 +23,7 @@ const MOST_BEHIND_TYPE: usize = 251;
 
 /// A terminal, and a user.
 pub(crate) fn login(rest: &[u8]) -> Option<Event>
-    ensures { MatchOption result (SpellsNone (codes "LOGIN " ++ rest.now)) (Spells (codes "LOGIN " ++ rest.now)) }
+    ensures { IsRead (codes "LOGIN ") rest.now result }
 {
     let (tty, user) = tty_field(rest)?;
     Some(Event::Login(tty, dir_name(user)?))
@@ -32,7 +31,7 @@ pub(crate) fn login(rest: &[u8]) -> Option<Event>
 
 /// A terminal, and 1 to 100 characters.
 pub(crate) fn type_in(rest: &[u8]) -> Option<Event>
-    ensures { MatchOption result (SpellsNone (codes "TYPE " ++ rest.now)) (Spells (codes "TYPE " ++ rest.now)) }
+    ensures { IsRead (codes "TYPE ") rest.now result }
 {
     if rest.len() > MOST_BEHIND_TYPE {
         return None;
@@ -47,14 +46,14 @@ pub(crate) fn type_in(rest: &[u8]) -> Option<Event>
 
 /// A file's name.
 pub(crate) fn file(rest: &[u8]) -> Option<Event>
-    ensures { MatchOption result (SpellsNone (codes "FILE " ++ rest.now)) (Spells (codes "FILE " ++ rest.now)) }
+    ensures { IsRead (codes "FILE ") rest.now result }
 {
     Some(Event::File(file_name(rest)?))
 }
 
 /// A file's name, a page, an offset in it, and 1 to 8 words that lie within the page from there on.
 pub(crate) fn words(rest: &[u8]) -> Option<Event>
-    ensures { MatchOption result (SpellsNone (codes "WORDS " ++ rest.now)) (Spells (codes "WORDS " ++ rest.now)) }
+    ensures { IsRead (codes "WORDS ") rest.now result }
 {
     let (front, rest) = cut(rest, b' ')?;
     let name = file_name(front)?;
@@ -70,7 +69,7 @@ pub(crate) fn words(rest: &[u8]) -> Option<Event>
 
 /// A terminal, an address and a word.
 pub(crate) fn poke(rest: &[u8]) -> Option<Event>
-    ensures { MatchOption result (SpellsNone (codes "POKE " ++ rest.now)) (Spells (codes "POKE " ++ rest.now)) }
+    ensures { IsRead (codes "POKE ") rest.now result }
 {
     let (tty, rest) = tty_field(rest)?;
     let (address, field) = address_field(rest)?;
@@ -79,7 +78,7 @@ pub(crate) fn poke(rest: &[u8]) -> Option<Event>
 
 /// A terminal and an address.
 pub(crate) fn start(rest: &[u8]) -> Option<Event>
-    ensures { MatchOption result (SpellsNone (codes "START " ++ rest.now)) (Spells (codes "START " ++ rest.now)) }
+    ensures { IsRead (codes "START ") rest.now result }
 {
     let (tty, field) = tty_field(rest)?;
     Some(Event::Start(tty, address(field)?))
@@ -87,7 +86,7 @@ pub(crate) fn start(rest: &[u8]) -> Option<Event>
 
 /// How many units are run: 1 to 1,000,000.
 pub(crate) fn run(rest: &[u8]) -> Option<Event>
-    ensures { MatchOption result (SpellsNone (codes "RUN " ++ rest.now)) (Spells (codes "RUN " ++ rest.now)) }
+    ensures { IsRead (codes "RUN ") rest.now result }
 {
     let n = read_decimal(rest, COUNT_DIGITS)?;
     if n == 0 || n > MOST_UNITS {
@@ -98,28 +97,28 @@ pub(crate) fn run(rest: &[u8]) -> Option<Event>
 
 /// The number of a frame.
 pub(crate) fn evict(rest: &[u8]) -> Option<Event>
-    ensures { MatchOption result (SpellsNone (codes "EVICT " ++ rest.now)) (Spells (codes "EVICT " ++ rest.now)) }
+    ensures { IsRead (codes "EVICT ") rest.now result }
 {
     Some(Event::Evict(read_decimal(rest, COUNT_DIGITS)?))
 }
 
 /// How many transfers are completed.
 pub(crate) fn drum(rest: &[u8]) -> Option<Event>
-    ensures { MatchOption result (SpellsNone (codes "DRUM " ++ rest.now)) (Spells (codes "DRUM " ++ rest.now)) }
+    ensures { IsRead (codes "DRUM ") rest.now result }
 {
     Some(Event::Drum(read_decimal(rest, COUNT_DIGITS)?))
 }
 
 /// ON or OFF.
 pub(crate) fn auto(rest: &[u8]) -> Option<Event>
-    ensures { MatchOption result (SpellsNone (codes "AUTO " ++ rest.now)) (Spells (codes "AUTO " ++ rest.now)) }
+    ensures { IsRead (codes "AUTO ") rest.now result }
 {
     Some(Event::Auto(switch(rest)?))
 }
 
 /// A terminal, a fork's serial and an address.
 pub(crate) fn examine(rest: &[u8]) -> Option<Event>
-    ensures { MatchOption result (SpellsNone (codes "EXAMINE " ++ rest.now)) (Spells (codes "EXAMINE " ++ rest.now)) }
+    ensures { IsRead (codes "EXAMINE ") rest.now result }
 {
     let (tty, rest) = tty_field(rest)?;
     let (serial, field) = serial_field(rest)?;
@@ -128,14 +127,14 @@ pub(crate) fn examine(rest: &[u8]) -> Option<Event>
 
 /// A terminal.
 pub(crate) fn forks(rest: &[u8]) -> Option<Event>
-    ensures { MatchOption result (SpellsNone (codes "FORKS " ++ rest.now)) (Spells (codes "FORKS " ++ rest.now)) }
+    ensures { IsRead (codes "FORKS ") rest.now result }
 {
     Some(Event::Forks(tty(rest)?))
 }
 
 /// A file's name and a page.
 pub(crate) fn show_page(rest: &[u8]) -> Option<Event>
-    ensures { MatchOption result (SpellsNone (codes "PAGE " ++ rest.now)) (Spells (codes "PAGE " ++ rest.now)) }
+    ensures { IsRead (codes "PAGE ") rest.now result }
 {
     let (front, field) = cut(rest, b' ')?;
     Some(Event::Page(file_name(front)?, page(field)?))
@@ -143,7 +142,7 @@ pub(crate) fn show_page(rest: &[u8]) -> Option<Event>
 
 /// ON or OFF.
 pub(crate) fn trace(rest: &[u8]) -> Option<Event>
-    ensures { MatchOption result (SpellsNone (codes "TRACE " ++ rest.now)) (Spells (codes "TRACE " ++ rest.now)) }
+    ensures { IsRead (codes "TRACE ") rest.now result }
 {
     Some(Event::Trace(switch(rest)?))
 }

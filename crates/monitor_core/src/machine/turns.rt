@@ -1,9 +1,9 @@
 // The steps of a machine, given to a taker: one, some turns of a run, and so many of them.
-ghost use Rattle.std.specs.Prelude.{◌≡◌, ◌<◌, ◌^◌, ◌+◌, ◌≤◌};
+ghost use Rattle.std.specs.Prelude.{◌<◌, ◌^◌, ◌≤◌};
 ghost use Rattle.script_texts.specs.declared.event.Event.{Event as AnEvent};
 ghost use Rattle.script_texts.specs.declared.event.Step.{Step as AStep};
 ghost use Rattle.machine_names.specs.declared.names.ForkName.{ForkName as AForkName};
-ghost use Rattle.fork_tree.specs.Trees.{CanRun};
+ghost use Rattle.plain_model.specs.Forks.{IsRunnable};
 ghost use Rattle.monitor_core.specs.Runners.{IsRunner};
 ghost use Rattle.monitor_core.specs.Systems.{CanDo};
 ghost use Rattle.monitor_core.specs.Machines.{done};
@@ -52,7 +52,7 @@ impl<P: Pages> Machine<P> {
 
     // Idle entries, where no fork can run.
     fn idle<T: Taker>(&mut self, count: u32, out: &mut T) -> Result<u32, Failed>
-        requires none { (f : AForkName) → CanRun self.old.system.tree.forks f → ⊥ }
+        requires none { (f : AForkName) → IsRunnable self.old.system.tree.forks f → ⊥ }
         requires some { 1 ≤ count }
         requires few { done self.old < 2 ^ 52 }
         ensures { TookTurns T.fault_count T.onward T.stands T.cut self.old self.new out.old out.new result count }

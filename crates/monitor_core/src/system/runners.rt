@@ -1,7 +1,7 @@
 // Which forks can run.
 ghost use Rattle.std.specs.Prelude.{◌≡◌, ◌↔◌, IsTrue, MatchOption};
 ghost use Rattle.machine_names.specs.declared.names.ForkName.{ForkName as AForkName};
-ghost use Rattle.fork_tree.specs.Trees.{CanRun};
+ghost use Rattle.plain_model.specs.Forks.{IsRunnable};
 ghost use Rattle.monitor_core.specs.Runners.{IsRunner, IsSlot};
 
 use crate::runner::Runner;
@@ -15,7 +15,7 @@ impl<P: Pages> System<P> {
     #[inline]
     pub fn next(&self, t: Tty, slot: u8) -> Option<Runner>
         requires { IsSlot t slot }
-        ensures { MatchOption result ((f : AForkName) → CanRun self.now.tree.forks f → ⊥) (IsRunner self.now.tree) }
+        ensures { MatchOption result ((f : AForkName) → IsRunnable self.now.tree.forks f → ⊥) (IsRunner self.now.tree) }
     {
         self.tree.are_trees();
         match self.tree.next_runnable(t, slot) {
@@ -31,7 +31,7 @@ impl<P: Pages> System<P> {
     #[inline]
     pub fn is_alone(&self, who: Runner) -> bool
         requires { IsRunner self.now.tree who }
-        ensures { IsTrue result ↔ ((f : AForkName) → CanRun self.now.tree.forks f → f ≡ who.fork) }
+        ensures { IsTrue result ↔ ((f : AForkName) → IsRunnable self.now.tree.forks f → f ≡ who.fork) }
     {
         match self.tree.next_runnable(who.fork.tty, who.slot) {
             Some(next) => next.slot == who.slot && next.name.tty.0 == who.fork.tty.0,

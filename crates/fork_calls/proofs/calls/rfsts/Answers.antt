@@ -1,4 +1,4 @@
 use Rattle.fork_calls.proofs.calls.rfsts.Goals as goal
 
 pub place_word-requires-clause-fork : goal.place_word-requires-clause-fork
-place_word-requires-clause-fork c = (c.requires.within c.in-Ok.fork c.in-Ok.ensures.lives).pc
+place_word-requires-clause-fork c = (c.requires.within c.in_ok-fork.fork c.in_ok-fork.ensures.lives).pc

@@ -1,12 +1,12 @@
 use Rattle.std.proofs.Common.{◌≡◌, ◌∙◌, ap, sym, refl, Bool, true, false, ◌||◌, Some, inl, inr}
 use Rattle.std.proofs.lemmas.Bool.{cases_Bool}
-use Rattle.plain_model.specs.Forks.{is_frozen, superior_of}
+use Rattle.plain_model.specs.Forks.{is_frozen, superior_of, any_upward}
 use Rattle.machine_names.specs.declared.names.TheConstants.{MOST_FORKS}
 use Rattle.plain_model.specs.declared.fork.Fork.{Fork}
-use Rattle.plain_model.specs.Inferiors.{any_upward}
 use Rattle.plain_model.specs.Trees.{PlainTree}
 use Rattle.fork_tree.specs.Trees.{IsTree, Lives}
-use Rattle.fork_tree.proofs.Upward.{ancestor_any, any_ancestor, any_whole, frozen_any, or_true}
+use Rattle.fork_tree.proofs.Upward.{ancestor_any, any_ancestor, any_whole, or_true}
+use Rattle.fork_tree.proofs.CanRun.{named_runs, runs_as, runs_can}
 use Rattle.fork_tree.proofs.laws.forks_are_frozen_from_above.Goals as goal
 
 abbrev marked : Fork → Bool
@@ -14,7 +14,7 @@ marked f = f.frozen
 
 -- a fork is frozen by its mark, or from above
 frozen_is : (tree : PlainTree) (f : Fork) → IsTree tree → Lives tree.forks f → is_frozen MOST_FORKS tree.forks (Some f) ≡ (f.frozen || any_upward marked MOST_FORKS tree.forks (superior_of tree.forks f))
-frozen_is tree f is lives = frozen_any MOST_FORKS tree.forks (Some f) ∙ ap (λ b. f.frozen || b) (any_whole tree is marked f lives)
+frozen_is tree f is lives = ap (λ b. f.frozen || b) (any_whole tree is marked f lives)
 
 false_first : (b c : Bool) → (b || c) ≡ false → b ≡ false
 false_first true c h = h
@@ -47,3 +47,6 @@ returns-clause-frozen c = λ tree f is lives.
                 absurd (cc (frozen, free))
           ]),
     )
+
+pub returns-clause-runs : goal.returns-clause-runs
+returns-clause-runs c = λ forks name. (runs_as forks name, λ h. named_runs forks name h.0 h.1 (runs_can forks h.0 (h.2, h.3)))

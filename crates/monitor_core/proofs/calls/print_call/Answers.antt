@@ -1,21 +1,19 @@
-use Rattle.std.proofs.Common.{◌≡◌, ◌≢◌, ◌%◌, ◌==◌, ℕ, cond, sym, ◌∙◌, ap}
+use Rattle.std.proofs.Common.{◌≡◌, ◌%◌, ℕ, cond, sym, ◌∙◌, ap, None, Some}
 use Rattle.std.specs.Prelude.{slice_index}
-use Rattle.std.specs.Ordering.{nat_cmp}
 use Rattle.std.proofs.lemmas.Bool.{ne_eqb}
-use Rattle.plain_model.specs.declared.call.End.{End}
-use Rattle.plain_model.specs.declared.call.End.TheVariants.{Trap}
+use Rattle.plain_model.specs.declared.call.End.TheVariants.{Done, Trap}
 use Rattle.plain_model.specs.declared.call.TheConstants.{PBOUT}
 use Rattle.plain_units.specs.declared.channel.TheConstants.{ILLEGAL_INSTRUCTION}
 use Rattle.plain_units.specs.declared.registers.Regs.{Regs}
 use Rattle.plain_pages.specs.PlainPages.{NumberedPages}
-use Rattle.plain_model.specs.Calls.{ends, no_files, numbered, returning_printed, turn_on}
+use Rattle.plain_model.specs.Calls.{behind_call, ends, no_files, numbered, turn_on}
 use Rattle.plain_model.specs.Families.{print_calls, prints}
 use Rattle.call_turns.specs.Answers.{answer_of}
 use Rattle.monitor_core.proofs.calls.print_call.Goals as goal
 
 -- how a turn of a call that prints ends
 module _ (number : ℕ) (regs : Regs) (p : NumberedPages) where
-  printed : number ≡ PBOUT → (turn_on no_files p (numbered print_calls number regs)).end ≡ returning_printed tt regs (slice_index regs.ac 1 % 128)
+  printed : number ≡ PBOUT → (turn_on no_files p (numbered print_calls number regs)).end ≡ Done tt (behind_call regs) (Some (slice_index regs.ac 1 % 128)) None
   unfolding turn_on
   printed is = ap (λ n. (turn_on no_files p (numbered print_calls n regs)).end) is
 

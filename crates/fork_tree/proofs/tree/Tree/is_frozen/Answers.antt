@@ -1,26 +1,25 @@
 use Rattle.std.proofs.Common.{◌≡◌, ◌∙◌, ◌-◌, ◌+◌, ◌||◌, sym, ap, arith, Some}
 use Rattle.std.specs.Option.{option_copied}
-use Rattle.plain_model.specs.Forks.{superior_of}
+use Rattle.plain_model.specs.Forks.{superior_of, any_upward}
 use Rattle.plain_model.specs.declared.fork.Fork.{Fork}
-use Rattle.plain_model.specs.Inferiors.{any_upward}
-use Rattle.fork_tree.proofs.Upward.{frozen_any, look_none, look_over, look_some}
+use Rattle.fork_tree.proofs.Upward.{look_none, look_over, look_some}
 use Rattle.fork_tree.proofs.tree.Tree.is_frozen.Goals as goal
 
 pub returns-in_default : goal.returns-in_default
 returns-in_default c =
     let m = c.args.self.now.forks in
     let n = 30 - c.loop-ancestor._ancestor in
-    sym (frozen_any 30 m (Some c.args.fork.now) ∙ (c.loop-ancestor.invariant
-    ∙ (ap (λ o. any_upward (λ k. k.frozen) n m (option_copied o)) c.in_default.is ∙ look_none (λ k. k.frozen) m n)))
+    sym (c.loop-ancestor.invariant
+    ∙ (ap (λ o. any_upward (λ k. k.frozen) n m (option_copied o)) c.in_default.is ∙ look_none (λ k. k.frozen) m n))
 
 pub returns-then-fork : goal.returns-then-fork
 returns-then-fork c =
     let m = c.args.self.now.forks in
     let n = 30 - c.loop-ancestor._ancestor in
     let f = c.in-Some.fork.now in
-    sym (frozen_any 30 m (Some c.args.fork.now) ∙ (c.loop-ancestor.invariant
+    sym (c.loop-ancestor.invariant
     ∙ (ap (λ o. any_upward (λ k. k.frozen) n m (option_copied o)) c.in-Some.is
-    ∙ (look_some (λ k. k.frozen) m n f (omega arith) ∙ ap (λ b. b || any_upward (λ k. k.frozen) (n - 1) m (superior_of m f)) c.if-fork.true))))
+    ∙ (look_some (λ k. k.frozen) m n f (omega arith) ∙ ap (λ b. b || any_upward (λ k. k.frozen) (n - 1) m (superior_of m f)) c.if-fork.true)))
 
 pub loop-ancestor-preserved : goal.loop-ancestor-preserved
 loop-ancestor-preserved c =
@@ -39,4 +38,4 @@ pub returns : goal.returns
 returns c =
     let m = c.args.self.now.forks in
     let n = 30 - c.loop-ancestor._ancestor in
-    sym (frozen_any 30 m (Some c.args.fork.now) ∙ (c.loop-ancestor.invariant ∙ look_over (λ k. k.frozen) m n (option_copied c.loop-ancestor.next) (omega arith)))
+    sym (c.loop-ancestor.invariant ∙ look_over (λ k. k.frozen) m n (option_copied c.loop-ancestor.next) (omega arith))
