@@ -16,7 +16,7 @@ use Rattle.fork_tree.specs.Trees.{IsTree, Lives}
 use Rattle.fork_tree.proofs.Slots.{in_tells, some_of}
 use Rattle.fork_calls.specs.Holding.{CallLeaves}
 use Rattle.fork_calls.specs.Limits.{AreWithin, FitsForced, IsBody}
-use Rattle.monitor_core.specs.ForkUnit.{Behind, Kept, LeavesForks, answered, answered_turn, called_behind, fork_of, out_in, put_back, turn_behind}
+use Rattle.monitor_core.specs.ForkUnit.{Kept, LeavesForks, answered, answered_turn, called_behind, fork_of, out_in, put_back, turn_behind}
 use Rattle.monitor_core.specs.Shown.{FitsShown, FitsStop, shown_of, stop_of}
 use Rattle.monitor_core.proofs.Calling.{out_fits}
 use Rattle.monitor_core.proofs.Keeping.{answered_keeps}
