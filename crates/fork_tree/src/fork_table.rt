@@ -6,7 +6,7 @@ ghost use Rattle.std.specs.FinMap as map;
 ghost use Rattle.plain_model.specs.declared.fork.Fork.{Fork as AFork};
 ghost use Rattle.plain_model.specs.Forks.{fork_in};
 ghost use Rattle.machine_names.specs.Bounds.{IsForkName, IsTerminal};
-ghost use Rattle.plain_model.specs.Trees.{changed, with_body, with_mark, free_slot as free_slot_of};
+ghost use Rattle.plain_model.specs.Trees.{changed, with_mark, free_slot as free_slot_of};
 ghost use Rattle.fork_tree.specs.Changes.{body_in};
 ghost use Rattle.fork_tree.specs.Lending.{LendsIn, LendsPlace};
 ghost use Rattle.fork_tree.specs.Places.{IsPlaceOf, name_index, place_in};

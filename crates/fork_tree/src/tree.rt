@@ -1,5 +1,5 @@
 // The tree of forks.
-ghost use Rattle.std.specs.Prelude.{◌≡◌, ◌≤◌, ◌<◌, None, Some, IsSome, IfOk, length};
+ghost use Rattle.std.specs.Prelude.{◌≡◌, None, Some, IsSome, IfOk};
 ghost use Rattle.std.specs.Option.{option_copied, option_copied_mut, option_map};
 ghost use Rattle.std.specs.Borrow.{sem};
 ghost use Rattle.std.specs.FinMap as map;

@@ -1,5 +1,5 @@
 // A job.
-ghost use Rattle.std.specs.Prelude.{◌≡◌, ◌<◌, IfOk, length};
+ghost use Rattle.std.specs.Prelude.{◌≡◌, IfOk, length};
 ghost use Rattle.machine_names.specs.Bounds.{IsTerminal};
 ghost use Rattle.monitor_core.specs.Jobs.{jobs_left, no_jobs};
 ghost use Rattle.monitor_core.specs.Shown.{is_stop, is_stopped, seen_of, seen_stop};

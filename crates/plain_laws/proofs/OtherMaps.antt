@@ -17,7 +17,7 @@ use Rattle.plain_pages.specs.PlainPages.{PlainPages, Map, Maps}
 use Rattle.plain_pages.specs.Maps.{Entries, Link, Chain, chain, chain_within, entry_at, followed, full_access, permits, set_entry, single_link, behind, chain_from}
 use Rattle.plain_pages.specs.Room.{HasRoom, page_in}
 use Rattle.plain_pages.specs.References.{in_map, Making, blank, copy, along_chain, blanks, copies, copy_in, private_access, makings, make, make_all, next_page, granted, denied, reference, in_file, slot_at, stored, without_fork}
-use Rattle.plain_units.specs.Steps.{Steps, Progress, goes, plainly, run}
+use Rattle.plain_units.specs.Steps.{Steps, Progress, plainly, run}
 use Rattle.plain_units.specs.Blocks.{stored_from}
 use Rattle.plain_pages.proofs.Settles.{copy_maps}
 use Rattle.plain_pages.proofs.ReferencesMade.{roomy, reference_makes, reference_denied}

@@ -33,7 +33,7 @@ any_upward p zero forks f = false
 any_upward p (suc n) forks None = false
 any_upward p (suc n) forks (Some f) = p f || any_upward p n forks (superior_of forks f)
 
--- a fork is frozen where it or an ancestor has the freeze mark
+-- a fork is frozen where it or an ancestor has the freeze mark; so many forks are looked at
 abbrev pub is_frozen : ℕ → ForkMap → Option Fork → Bool
 is_frozen n forks f = any_upward (λ k. k.frozen) n forks f
 
@@ -46,9 +46,12 @@ is_run status = false
 abbrev pub can_run : ForkMap → Fork → Bool
 can_run forks f = is_run f.body.status && not (is_frozen MOST_FORKS forks (Some f))
 
--- a fork of this name lives, and can run
+-- whether the fork of a name lives and can run
+abbrev pub runs_in : ForkMap → ForkName → Bool
+runs_in forks name = option_map_or (can_run forks) (map.get forks name) false
+
 abbrev pub IsRunnable : ForkMap → ForkName → Type 0
-IsRunnable forks name = option_map_or (can_run forks) (map.get forks name) false ≡ true
+IsRunnable forks name = runs_in forks name ≡ true
 
 -- a job's forks by slot
 abbrev pub forks_by_slot : ForkMap → Tty → List Fork

@@ -8,7 +8,7 @@ use Rattle.machine_names.specs.declared.names.ForkName.{ForkName}
 use Rattle.script_texts.specs.declared.status.ForkStatus.{ForkStatus}
 use Rattle.script_texts.specs.declared.status.ForkStatus.TheVariants.{Wait}
 use Rattle.script_texts.specs.declared.status.WaitOn.TheVariants as on
-use Rattle.plain_model.specs.Forks.{ForkMap, can_run, forks_by_slot}
+use Rattle.plain_model.specs.Forks.{ForkMap, forks_by_slot, runs_in}
 
 -- a fork stops being able to run, or becomes able to
 pub data Move : Type 0 where
@@ -18,10 +18,6 @@ pub data Move : Type 0 where
 abbrev pub waits_for_one : ForkStatus → Bool
 waits_for_one (Wait on.Fork) = true
 waits_for_one status = false
-
--- whether the fork of a name lives and can run
-abbrev pub runs_in : ForkMap → ForkName → Bool
-runs_in forks name = option_map_or (can_run forks) (map_of.get forks name) false
 
 -- whether a fork of that name waits for one
 abbrev pub waits_in : ForkMap → ForkName → Bool
