@@ -1,7 +1,7 @@
 -- What is asked of the store that the pages stand in, and what that leaves of the pages.
 use Rattle.std.proofs.Common.{◌≡◌, ℕ, ◌+◌, refl, sym, ap, subst}
 use Rattle.page_contracts.specs.Stores.{StoreMeaning, IsUsed, StaysFramed, StaysThere, Ends, Completes, FitsHomes}
-use Rattle.page_contracts.specs.Pages.{StaysSame, StaysPut}
+use Rattle.page_contracts.specs.Pages.{MayLose, OnlyUses, StaysSame, StaysPut}
 use Rattle.page_contracts.specs.declared.answers.Need.{Need}
 use Rattle.page_contracts.specs.declared.store.Completed.{Completed}
 use Rattle.flat_pages.specs.SlotTables.{Tables, plain_of}
@@ -60,4 +60,14 @@ module _ {P S : Type 0} (store : StoreMeaning S) (part : P → S) where
       plain = λ d fits. (subst (λ (t : Tables). FitsHomes t.places d) (sym same) fits, ap (λ (t : Tables). plain_of t d) same);
       put = stays_put;
       count = λ i. (same i).taken + (same i).living;
+    }
+
+    -- a use of a page changes nothing of them
+    pub only_uses : MayLose (slots_meaning store part tables) p q → OnlyUses (slots_meaning store part tables) p q
+    only_uses loses = record {
+      fits = λ d. (λ fits. subst (λ (t : Tables). FitsHomes t.places d) (sym same) fits, λ fits. subst (λ (t : Tables). FitsHomes t.places d) same fits);
+      plain = λ i d. plain_of (same i) d;
+      put = stays_put;
+      count = λ i. (same i).taken + (same i).living;
+      loses = loses;
     }

@@ -435,13 +435,8 @@ impl<S: Store> Pages for FlatSlots<S> {
     }
 
     #[inline(always)]
-    fn load(&self, space: SpaceHandle, found: Found, address: u32) -> Word {
+    fn load(&mut self, space: SpaceHandle, found: Found, address: u32) -> Word {
         self.store.load(found, (address % PAGE_ADDRESSES) as u16)
-    }
-
-    #[inline(always)]
-    fn used(&mut self, space: SpaceHandle, found: Found) {
-        self.store.renew(found);
     }
 
     #[inline(always)]

@@ -63,15 +63,12 @@ impl Store for FlatStore {
     fn used(&mut self, home: Home) {}
 
     #[inline(always)]
-    fn renew(&mut self, found: Found) {}
-
-    #[inline(always)]
     fn find(&self, home: Home) -> Option<Found> {
         Some(Found(home.0))
     }
 
     #[inline(always)]
-    fn load(&self, found: Found, at: u16) -> Word {
+    fn load(&mut self, found: Found, at: u16) -> Word {
         self.pages.word(found.0, at)
     }
 

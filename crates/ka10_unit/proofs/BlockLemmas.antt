@@ -31,7 +31,8 @@ use Rattle.ka10_unit.specs.InPlace.{Finish, InPlace, IsOwnRow, deed_in, ended}
 use Rattle.ka10_unit.specs.Spots.{Stored, StoredIf}
 use Rattle.ka10_unit.proofs.Finishing.{few, if_ended, is_low, is_high, never_slow}
 use Rattle.ka10_unit.proofs.Lost.{lost_none}
-use Rattle.ka10_unit.proofs.Placing.{length_with, stays_put}
+use Rattle.ka10_unit.proofs.Placing.{length_with}
+use Rattle.ka10_unit.proofs.Used.{stays_put}
 
 -- two places are set in either order
 set_other : (xs : List ℕ) (i j a b : ℕ) → i ≢ j → slice_set (slice_set xs i a) j b ≡ slice_set (slice_set xs j b) i a

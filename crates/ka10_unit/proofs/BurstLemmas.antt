@@ -1,10 +1,10 @@
 -- Bursts, unit by unit.
-use Rattle.std.proofs.Common.{◌≡◌, ℕ, ◌+◌, ◌<◌, ◌^◌, Option, Some, None, refl, ◌∙◌, ap, subst, add-one}
+use Rattle.std.proofs.Common.{◌≡◌, ℕ, ◌+◌, ◌<◌, ◌^◌, Some, None, refl, sym, ◌∙◌, ap, subst, add-one}
 use Rattle.std.specs.Ordering.{nat_cmp}
 use Rattle.plain_units.specs.declared.registers.Regs.{Regs}
 use Rattle.page_contracts.specs.declared.answers.SpaceHandle.{SpaceHandle}
 use Rattle.machine_names.specs.declared.names.ForkName.{ForkName}
-use Rattle.page_contracts.specs.Pages.{PagesMeaning, HasSpace, StaysPut}
+use Rattle.page_contracts.specs.Pages.{PagesMeaning}
 use Rattle.page_contracts.specs.DrumWords.{DrumWords}
 use Rattle.plain_pages.specs.PlainPages.{NumberedPages}
 use Rattle.ka10_unit.specs.declared.ending.Quick.{Quick}
@@ -15,7 +15,7 @@ use Rattle.ka10_unit.specs.declared.fetch_page.FetchPage.{FetchPage}
 use Rattle.ka10_unit.specs.InPlace.{IfDone, InPlace}
 use Rattle.ka10_unit.specs.Fetches.{CanExecute, FetchedUnit, IsThere}
 use Rattle.ka10_unit.specs.Bursts.{InRow, SoFar, and_one_more}
-use Rattle.ka10_unit.proofs.Placing.{stays_put}
+use Rattle.ka10_unit.proofs.Used.{of_fork, plain_is, stays_on, stays_put}
 use Rattle.ka10_unit.proofs.Finishing.{if_more}
 use Rattle.ka10_unit.proofs.Lost.{lost_none, lost_on}
 use Rattle.ka10_unit.proofs.Fetching.{has_none}
@@ -36,27 +36,6 @@ module _ (f : ForkName) (p : NumberedPages) (regs : Regs) where
   one_more n a b h one = rw (h, one) refl
 
 module _ {P : Type 0} (means : PagesMeaning P) (space : SpaceHandle) where
-  stays_on : (r s t : P) → StaysPut means r s → StaysPut means s t → StaysPut means r t
-  stays_on r s t g h = record {
-    touched = h.touched ∙ g.touched;
-    scene = h.scene ∙ g.scene;
-    space = h.space ∙ g.space;
-    place = h.place ∙ g.place;
-    map_homes = h.map_homes ∙ g.map_homes;
-    page_homes = h.page_homes ∙ g.page_homes;
-    lives = h.lives ∙ g.lives;
-    forks = h.forks ∙ g.forks;
-    serials = h.serials ∙ g.serials;
-    most = h.most ∙ g.most;
-  }
-
-  of_fork : (s t : P) (f : ForkName) → StaysPut means s t → means.space s f ≡ Some space → means.space t f ≡ Some space
-  of_fork s t f stays is = ap (λ (g : ForkName → Option SpaceHandle). g f) stays.space ∙ is
-
-  -- a handle that is there stays there
-  pub space_stays : (s t : P) → HasSpace means s space → StaysPut means s t → HasSpace means t space
-  space_stays s t h stays = record { fork = h.fork; is = of_fork s t h.fork stays h.is }
-
   pub so_far_none : (s : P) (regs : Regs) (page : FetchPage) → page.length ≡ 0 → regs.pc < 2 ^ 18 → SoFar means space s s regs regs page 0
   so_far_none s regs page none pc = record {
     told = λ d f fits is. row_none f (means.plain s d) regs;
@@ -74,7 +53,7 @@ module _ {P : Type 0} (means : PagesMeaning P) (space : SpaceHandle) where
       -- the unit behind those before
       one : (d : DrumWords) (f : ForkName) → means.fits old d → means.space old f ≡ Some space
           → IfDone q (λ post. CanExecute f (means.plain t d) page × (once f (means.plain s d) r ≡ Some (record { pages = means.plain t d; regs = after; post = post })))
-      one d f fits is = if_more q _ _ (λ post u. u (before.fetches d f fits is)) (i.told d f (before.fits d fits) (of_fork old s f before.stays is))
+      one d f fits is = if_more q _ _ (λ post u. u (before.fetches d f fits is)) (i.told d f (before.fits d fits) (of_fork means space old s f before.stays is))
 
     pub so_far_more : InPlace means space (FetchedUnit r first page) s t r after quick.Done → IsThere means space t page → SoFar means space old t regs after page (n + 1)
     so_far_more i there = record {
@@ -82,7 +61,7 @@ module _ {P : Type 0} (means : PagesMeaning P) (space : SpaceHandle) where
       fetches = λ d f fits is. (one quick.Done i d f fits is).0;
       there = there;
       fits = λ d fits. i.fits d (before.fits d fits);
-      stays = stays_on old s t before.stays i.stays;
+      stays = stays_on means old s t before.stays i.stays;
       loses = lost_on means old s t before.loses i.loses;
       pc = i.pc;
       accumulators = i.accumulators ∙ before.accumulators;
@@ -94,7 +73,7 @@ module _ {P : Type 0} (means : PagesMeaning P) (space : SpaceHandle) where
         count = less;
         told = λ d f fits is. one_more f (means.plain old d) regs n _ _ (before.told d f fits is) (one quick.Overflow i d f fits is).1;
         fits = λ d fits. i.fits d (before.fits d fits);
-        stays = stays_on old s t before.stays i.stays;
+        stays = stays_on means old s t before.stays i.stays;
         loses = lost_on means old s t before.loses i.loses;
         pc = i.pc;
         accumulators = i.accumulators ∙ before.accumulators;
@@ -105,14 +84,24 @@ module _ {P : Type 0} (means : PagesMeaning P) (space : SpaceHandle) where
         count = less;
         told = λ d f fits is. one_more f (means.plain old d) regs n _ _ (before.told d f fits is) (one quick.Pushdown i d f fits is).1;
         fits = λ d fits. i.fits d (before.fits d fits);
-        stays = stays_on old s t before.stays i.stays;
+        stays = stays_on means old s t before.stays i.stays;
         loses = lost_on means old s t before.loses i.loses;
         pc = i.pc;
         accumulators = i.accumulators ∙ before.accumulators;
       }
 
       pub ends_slow : InPlace means space (FetchedUnit r first page) s t r after quick.Slow → InRow means space most old t regs after (record { units = n; end = end.Slow })
-      ends_slow i = let same = i.slow refl in rw (same.0, same.1) (record { count = less; told = before.told; fits = before.fits; stays = before.stays; loses = before.loses; pc = before.pc; accumulators = before.accumulators })
+      ends_slow i =
+          let same = i.slow refl in
+          rw same.0 (record {
+            count = less;
+            told = λ d f fits is. before.told d f fits is ∙ ap (λ (p : NumberedPages). Some (record { pages = p; regs = r; post = None })) (sym (plain_is means space s t same.1 d));
+            fits = λ d fits. i.fits d (before.fits d fits);
+            stays = stays_on means old s t before.stays i.stays;
+            loses = lost_on means old s t before.loses i.loses;
+            pc = before.pc;
+            accumulators = before.accumulators;
+          })
 
   pub ends_most : (old s : P) (regs r : Regs) (page : FetchPage) (most n : ℕ) → n ≡ most → SoFar means space old s regs r page n → InRow means space most old s regs r (record { units = most; end = end.Most })
   ends_most old s regs r page most n is before = record {

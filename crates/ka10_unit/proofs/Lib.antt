@@ -3,6 +3,7 @@ mod Acting
 pub mod Gliding
 pub mod Storing
 pub mod Finishing
+pub mod Used
 pub mod Placing
 pub mod IndirectWords
 pub mod Units

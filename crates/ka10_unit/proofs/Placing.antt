@@ -16,7 +16,7 @@ use Rattle.plain_units.specs.declared.registers.Regs.{Regs}
 use Rattle.page_contracts.specs.declared.answers.SpaceHandle.{SpaceHandle}
 use Rattle.plain_pages.specs.PlainPages.{NumberedPages}
 use Rattle.page_contracts.specs.DrumWords.{DrumWords}
-use Rattle.page_contracts.specs.Pages.{PagesMeaning, StaysPut}
+use Rattle.page_contracts.specs.Pages.{PagesMeaning, OnlyUses}
 use Rattle.plain_units.specs.Deeds.{Deed, in_ac, taken_of}
 use Rattle.plain_units.specs.Instructions.{does, finishes, with_word}
 use Rattle.ka10_unit.specs.declared.committed.Committed.{Committed}
@@ -31,7 +31,8 @@ use Rattle.ka10_unit.specs.Once.{After}
 use Rattle.ka10_unit.specs.InPlace.{Does, IsOwnRow, deed_in, taken_in, IfDone, InPlace, Finish, Addressee, is_addressed, is_deed, behind_address, ended}
 use Rattle.ka10_unit.specs.Spots.{Stored, StoredIf}
 use Rattle.ka10_unit.specs.Stores.{IsNowhere, GoesTo, IsOperand}
-use Rattle.ka10_unit.proofs.Lost.{lost_none}
+use Rattle.ka10_unit.proofs.Lost.{lost_none, lost_on}
+use Rattle.ka10_unit.proofs.Used.{holds_still, of_fork, plain_is, stays_on, stays_put, uses_none, uses_on}
 use Rattle.ka10_unit.proofs.Finishing.{if_ended, never_slow, for_all, ends_bare, ends_low, ends_high, takes_none, takes_some, no_word}
 
 -- no accumulator more or less
@@ -40,14 +41,25 @@ length_with ac i None = refl
 length_with ac i (Some w) = length-set ac i w
 
 module _ {P : Type 0} (means : PagesMeaning P) where
-  -- pages that stay as they are
-  pub stays_put : (s : P) → StaysPut means s s
-  stays_put s = record { touched = refl; scene = refl; space = refl; place = refl; map_homes = refl; page_homes = refl; lives = refl; forks = refl; serials = refl; most = refl }
-
   module _ (space : SpaceHandle) where
     -- what isn't done here
+    pub used_in_place : (does : Does) (s t : P) (regs : Regs) → OnlyUses means s t → regs.pc < 2 ^ 18 → InPlace means space does s t regs regs quick.Slow
+    used_in_place does s t regs u pc = record { slow = λ h. (refl, u); told = λ d f fits is. tt; fits = λ d fits. (u.fits d).0 fits; stays = u.put; loses = u.loses; pc = pc; accumulators = refl }
+
     pub slow_in_place : (does : Does) (s : P) (regs : Regs) → regs.pc < 2 ^ 18 → InPlace means space does s s regs regs quick.Slow
-    slow_in_place does s regs pc = record { slow = λ h. (refl, refl); told = λ d f fits is. tt; fits = λ d fits. fits; stays = stays_put s; loses = lost_none means s; pc = pc; accumulators = refl }
+    slow_in_place does s regs pc = used_in_place does s s regs (uses_none means s) pc
+
+    -- what is done behind uses of pages is done from the pages before them
+    pub in_place_behind : (does : Does) (r s t : P) (regs after : Regs) (q : Quick) → OnlyUses means r s → InPlace means space does s t regs after q → InPlace means space does r t regs after q
+    in_place_behind does r s t regs after q u i = record {
+      slow = λ h. (let k = i.slow h in (k.0, uses_on means r s t u k.1));
+      told = λ d f fits is. subst (λ (p : NumberedPages). IfDone q (λ post. does f p (record { pages = means.plain t d; regs = after; post = post }))) (plain_is means space r s u d) (i.told d f ((u.fits d).0 fits) (of_fork means space r s f u.put is));
+      fits = λ d fits. i.fits d ((u.fits d).0 fits);
+      stays = stays_on means r s t u.put i.stays;
+      loses = lost_on means r s t u.loses i.loses;
+      pc = i.pc;
+      accumulators = i.accumulators;
+    }
 
     -- what is done in place of one thing is done of what that comes to
     pub in_place_more : (does more : Does) (s t : P) (regs after : Regs) (q : Quick) → InPlace means space does s t regs after q
@@ -68,7 +80,7 @@ module _ {P : Type 0} (means : PagesMeaning P) where
         slow = λ e. never_slow told.post (sym is_q ∙ e);
         told = λ d f fits is. if_ended told.post q _ is_q (λ n less. ends_bare f (means.plain s d) regs.ac n regs after ac deed told left h);
         fits = λ d fits. fits;
-        stays = stays_put s;
+        stays = stays_put means s;
         loses = lost_none means s;
         pc = left.pc;
         accumulators = kept;
@@ -98,6 +110,12 @@ module _ {P : Type 0} (means : PagesMeaning P) where
 
         pub finish_at_in_place : StoredIf means space to told.stored s t after end → InPlace means space (Finish regs ac deed) s t regs end q
         finish_at_in_place put = by_word told.stored refl put
+
+      -- the same behind a use of a page
+      pub finish_behind : (r s t : P) (end : Regs) (to : ℕ) → GoesTo to deed.store → ((d : DrumWords) (f : ForkName) → means.fits r d → means.space r f ≡ Some space → is_ready f (means.plain r d) to Write ≡ true)
+          → OnlyUses means r s → StoredIf means space to told.stored s t after end → InPlace means space (Finish regs ac deed) r t regs end q
+      finish_behind r s t end to at ready u put =
+          in_place_behind (Finish regs ac deed) r s t regs end q u (finish_at_in_place s t end to at (holds_still means space r s u (λ f p. is_ready f p to Write ≡ true) ready) put)
 
 -- an instruction that does a deed has an address, and takes a word at most
 deed_addressed : (family : Family) (row : TableRow) (op : ℕ) (regs : Regs) (ac e last : ℕ) → is_deed family ac ≡ true → (is_addressed family ac ≡ true) × (behind_address family row op regs ac e last ≡ does row op regs ac e last)

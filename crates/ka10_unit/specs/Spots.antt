@@ -5,7 +5,9 @@ use Rattle.machine_names.specs.declared.names.TheConstants.{ACCUMULATORS}
 use Rattle.machine_names.specs.declared.names.ForkName.{ForkName}
 use Rattle.machine_names.specs.declared.names.Kind.{Kind}
 use Rattle.machine_names.specs.declared.names.Kind.TheVariants.{Read}
+use Rattle.page_contracts.specs.declared.answers.Found.{Found}
 use Rattle.page_contracts.specs.declared.answers.SpaceHandle.{SpaceHandle}
+use Rattle.page_contracts.specs.Stores.{IsUsed}
 use Rattle.plain_units.specs.declared.registers.Regs.{Regs}
 use Rattle.plain_units.specs.Addressing.{indexed, is_indirect}
 use Rattle.page_contracts.specs.DrumWords.{DrumWords}
@@ -37,7 +39,11 @@ module _ {P : Type 0} (means : PagesMeaning P) (space : SpaceHandle) (at : ℕ) 
   IsSpot p Accumulator = at < ACCUMULATORS
   IsSpot p (Page found) = (ACCUMULATORS ≤ at) × (means.place p space (at / PAGE_WORDS) ≡ Some found)
 
-  -- the word at an address is this one now, and nothing else has changed
+  -- its page was used, unless it is an accumulator
+  abbrev pub UsesPage : P → P → Type 0
+  UsesPage old new = (found : Found) (home : ℕ) → ACCUMULATORS ≤ at → means.place old space (at / PAGE_WORDS) ≡ Some found → means.store.found old home ≡ Some found → IsUsed means.store home old new
+
+  -- the word at an address is this one now, which is a use of its page, and nothing else has changed
   pub record Stored (word : ℕ) (old new : P) (regs after : Regs) : Type 0 where
     -- in an accumulator, or else in a page
     pub low : at < ACCUMULATORS → (new ≡ old) × (after ≡ record regs { ac = slice_set regs.ac at word })
@@ -46,6 +52,7 @@ module _ {P : Type 0} (means : PagesMeaning P) (space : SpaceHandle) (at : ℕ) 
     pub fits : (d : DrumWords) → means.fits old d → means.fits new d
     pub stays : StaysPut means old new
     pub loses : MayLose means old new
+    pub uses : UsesPage old new
     pub pc : after.pc ≡ regs.pc
     pub accumulators : length after.ac ≡ length regs.ac
 

@@ -4,7 +4,7 @@ ghost use Rattle.std.specs.Option.{option_map};
 ghost use Rattle.machine_names.specs.declared.names.ForkName.{ForkName as AForkName};
 ghost use Rattle.machine_names.specs.Bounds.{IsAddress};
 ghost use Rattle.page_contracts.specs.DrumWords.{DrumWords};
-ghost use Rattle.page_contracts.specs.Pages.{HasSpace};
+ghost use Rattle.page_contracts.specs.Pages.{HasSpace, OnlyUses};
 ghost use Rattle.ka10_unit.specs.Addresses.{addressed};
 ghost use Rattle.ka10_unit.specs.Spots.{IsLed, LeadsTo};
 
@@ -15,20 +15,21 @@ use page_contracts::{Pages, SpaceHandle};
 use plain_units::Regs;
 use word36::Word;
 
-/// The word to which a word leads by fewer indirect words than these, where each is reached as the pages are: the
-/// first that isn't indirect.
+/// The word to which a word leads by fewer indirect words than these, where each is reached as the pages are, which
+/// is a use of its page: the first that isn't indirect.
 #[inline(never)]
 fn followed<P: Pages>(
     regs: &Regs,
-    pages: &P,
+    pages: &mut P,
     space: SpaceHandle,
     first: Word,
     most: u32,
 ) -> Option<Word>
-    requires space { HasSpace P.means pages.now space }
+    requires space { HasSpace P.means pages.old space }
     requires most { most < 16 }
-    ensures told { LeadsTo P.means pages.now space regs.now.ac most first (option_map (addressed regs.now.ac) result) }
-    ensures led { (d : DrumWords) (f : AForkName) → P.means.fits pages.now d → P.means.space pages.now f ≡ Some space → IsLed P.means pages.now f (P.means.plain pages.now d) regs.now.ac most first → IsSome result }
+    ensures told { LeadsTo P.means pages.old space regs.now.ac most first (option_map (addressed regs.now.ac) result) }
+    ensures led { (d : DrumWords) (f : AForkName) → P.means.fits pages.old d → P.means.space pages.old f ≡ Some space → IsLed P.means pages.old f (P.means.plain pages.old d) regs.now.ac most first → IsSome result }
+    ensures only { OnlyUses P.means pages.old pages.new }
 {
     let mut word = first;
     for words in 0..most {
@@ -43,21 +44,23 @@ fn followed<P: Pages>(
     None
 }
 
-/// The effective address of a word, by fewer indirect words than these, where each is reached as the pages are.
+/// The effective address of a word, by fewer indirect words than these, where each is reached as the pages are,
+/// which is a use of its page.
 #[inline(always)]
 pub fn effective_address<P: Pages>(
     regs: &Regs,
-    pages: &P,
+    pages: &mut P,
     space: SpaceHandle,
     word: Word,
     most: u32,
 ) -> Option<Address>
-    requires space { HasSpace P.means pages.now space }
+    requires space { HasSpace P.means pages.old space }
     requires some { 0 < most }
     requires most { most < 16 }
     ensures below { IfSome result (λ address. IsAddress address.e) }
-    ensures told { LeadsTo P.means pages.now space regs.now.ac most word result }
-    ensures led { (d : DrumWords) (f : AForkName) → P.means.fits pages.now d → P.means.space pages.now f ≡ Some space → IsLed P.means pages.now f (P.means.plain pages.now d) regs.now.ac most word → IsSome result }
+    ensures told { LeadsTo P.means pages.old space regs.now.ac most word result }
+    ensures led { (d : DrumWords) (f : AForkName) → P.means.fits pages.old d → P.means.space pages.old f ≡ Some space → IsLed P.means pages.old f (P.means.plain pages.old d) regs.now.ac most word → IsSome result }
+    ensures only { OnlyUses P.means pages.old pages.new }
 {
     if is_indirect(word) {
         return match followed(regs, pages, space, word, most) {

@@ -7,7 +7,7 @@ ghost use Rattle.machine_names.specs.declared.names.ForkName.{ForkName as AForkN
 ghost use Rattle.plain_units.specs.Instructions.{does_pointer};
 ghost use Rattle.machine_names.specs.Bounds.{IsAddress};
 ghost use Rattle.page_contracts.specs.DrumWords.{DrumWords};
-ghost use Rattle.page_contracts.specs.Pages.{HasSpace};
+ghost use Rattle.page_contracts.specs.Pages.{HasSpace, OnlyUses};
 ghost use Rattle.ka10_unit.specs.ByteRests.{PointsTo, begun, byte_rest, deposited_word, depositing, loaded_byte, loading};
 ghost use Rattle.ka10_unit.specs.InPlace.{Addressee, InPlace, Rest};
 
@@ -85,15 +85,15 @@ fn load_word<P: Pages>(
     second: bool,
     it: Instruction,
     regs: &mut Regs,
-    pages: &P,
+    pages: &mut P,
     space: SpaceHandle,
     p: Word,
     at: u32,
 ) -> Quick
-    requires space { HasSpace P.means pages.now space }
+    requires space { HasSpace P.means pages.old space }
     requires address { IsAddress at }
     requires pc { regs.old.pc < 2 ^ 18 }
-    ensures { InPlace P.means space (Rest 14 regs.old (loaded_byte (begun second regs.old) it.ac p at)) pages.now pages.now regs.old regs.new result }
+    ensures { InPlace P.means space (Rest 14 regs.old (loaded_byte (begun second regs.old) it.ac p at)) pages.old pages.new regs.old regs.new result }
 {
     match take(regs, pages, space, at, Kind::Read) {
         None => Quick::Slow,
@@ -142,11 +142,12 @@ struct Pointed {
 
 /// The pointer at E, and the address of its byte's word.
 #[inline(always)]
-fn follow<P: Pages>(regs: &Regs, pages: &P, space: SpaceHandle, e: u32) -> Option<Pointed>
-    requires space { HasSpace P.means pages.now space }
+fn follow<P: Pages>(regs: &Regs, pages: &mut P, space: SpaceHandle, e: u32) -> Option<Pointed>
+    requires space { HasSpace P.means pages.old space }
     requires e { IsAddress e }
     ensures below { IfSome result (λ to. IsAddress to.at) }
-    ensures told { (d : DrumWords) (f : AForkName) → P.means.fits pages.now d → P.means.space pages.now f ≡ Some space → IfSome result (λ to. PointsTo f (P.means.plain pages.now d) regs.now.ac e to.p to.at) }
+    ensures told { (d : DrumWords) (f : AForkName) → P.means.fits pages.old d → P.means.space pages.old f ≡ Some space → IfSome result (λ to. PointsTo f (P.means.plain pages.old d) regs.now.ac e to.p to.at) }
+    ensures only { OnlyUses P.means pages.old pages.new }
 {
     match take(regs, pages, space, e, Kind::Read) {
         None => None,
@@ -163,12 +164,12 @@ fn load_byte<P: Pages>(
     second: bool,
     it: Instruction,
     regs: &mut Regs,
-    pages: &P,
+    pages: &mut P,
     space: SpaceHandle,
 ) -> Quick
-    requires space { HasSpace P.means pages.now space }
+    requires space { HasSpace P.means pages.old space }
     requires pc { regs.old.pc < 2 ^ 18 }
-    ensures { InPlace P.means space (Rest 13 regs.old (byte_rest (loading second) regs.old it.ac it.e)) pages.now pages.now regs.old regs.new result }
+    ensures { InPlace P.means space (Rest 13 regs.old (byte_rest (loading second) regs.old it.ac it.e)) pages.old pages.new regs.old regs.new result }
 {
     match follow(regs, pages, space, it.e) {
         None => Quick::Slow,

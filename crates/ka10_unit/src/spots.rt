@@ -4,9 +4,9 @@ ghost use Rattle.outside.specs.declared.TheConstants.{PAGE_WORDS};
 ghost use Rattle.machine_names.specs.declared.names.ForkName.{ForkName as AForkName};
 ghost use Rattle.machine_names.specs.Bounds.{IsAddress};
 ghost use Rattle.page_contracts.specs.DrumWords.{DrumWords};
-ghost use Rattle.page_contracts.specs.Pages.{HasSpace, CanChange};
+ghost use Rattle.page_contracts.specs.Pages.{HasSpace, CanChange, OnlyUses};
 ghost use Rattle.ka10_unit.specs.Glide.{Takes, is_ready, word_of};
-ghost use Rattle.ka10_unit.specs.Spots.{IsReached, IsSpot, StoredIf};
+ghost use Rattle.ka10_unit.specs.Spots.{IsReached, IsSpot, StoredIf, UsesPage};
 
 use machine_names::{ACCUMULATORS, Kind, PAGE_ADDRESSES};
 use page_contracts::{Found, Pages, SpaceHandle};
@@ -31,19 +31,21 @@ pub fn page_of(at: u32) -> u16
     (at / PAGE_ADDRESSES) as u16
 }
 
-/// The word at an address, where a reference to it goes through as the pages are.
+/// The word at an address, where a reference to it goes through as the pages are, which is a use of its page.
 #[inline(always)]
 pub fn take<P: Pages>(
     regs: &Regs,
-    pages: &P,
+    pages: &mut P,
     space: SpaceHandle,
     at: u32,
     kind: Kind,
 ) -> Option<Word>
-    requires space { HasSpace P.means pages.now space }
+    requires space { HasSpace P.means pages.old space }
     requires address { IsAddress at }
-    ensures reached { (f : AForkName) → P.means.space pages.now f ≡ Some space → IsReached P.means pages.now f at kind → IsSome result }
-    ensures told { (d : DrumWords) (f : AForkName) → P.means.fits pages.now d → P.means.space pages.now f ≡ Some space → IfSome result (λ word. Takes f (P.means.plain pages.now d) regs.now.ac at kind word) }
+    ensures reached { (f : AForkName) → P.means.space pages.old f ≡ Some space → IsReached P.means pages.old f at kind → IsSome result }
+    ensures told { (d : DrumWords) (f : AForkName) → P.means.fits pages.old d → P.means.space pages.old f ≡ Some space → IfSome result (λ word. Takes f (P.means.plain pages.old d) regs.now.ac at kind word) }
+    ensures only { OnlyUses P.means pages.old pages.new }
+    ensures uses { IfSome result (λ word. UsesPage P.means space at pages.old pages.new) }
 {
     if at < ACCUMULATORS {
         return Some(regs.ac[at as usize]);
@@ -91,13 +93,15 @@ pub fn spot_to_change<P: Pages>(pages: &P, space: SpaceHandle, at: u32) -> Optio
     }
 }
 
-/// The word at an address whose spot was found.
+/// The word at an address whose spot was found, which is a use of its page.
 #[inline(always)]
-pub fn load<P: Pages>(regs: &Regs, pages: &P, space: SpaceHandle, spot: Spot, at: u32) -> Word
-    requires space { HasSpace P.means pages.now space }
+pub fn load<P: Pages>(regs: &Regs, pages: &mut P, space: SpaceHandle, spot: Spot, at: u32) -> Word
+    requires space { HasSpace P.means pages.old space }
     requires address { IsAddress at }
-    requires spot { IsSpot P.means space at pages.now spot }
-    ensures told { (d : DrumWords) (f : AForkName) → P.means.fits pages.now d → P.means.space pages.now f ≡ Some space → result ≡ word_of f (P.means.plain pages.now d) regs.now.ac at }
+    requires spot { IsSpot P.means space at pages.old spot }
+    ensures told { (d : DrumWords) (f : AForkName) → P.means.fits pages.old d → P.means.space pages.old f ≡ Some space → result ≡ word_of f (P.means.plain pages.old d) regs.now.ac at }
+    ensures only { OnlyUses P.means pages.old pages.new }
+    ensures uses { UsesPage P.means space at pages.old pages.new }
 {
     match spot {
         Spot::Accumulator => regs.ac[at as usize],

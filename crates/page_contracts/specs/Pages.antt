@@ -1,5 +1,5 @@
 -- What the calls on pages answer and leave: over the plain pages, and over what is in frames.
-use Rattle.std.specs.Prelude.{◌≡◌, ◌≢◌, ◌⊎◌, ℕ, ◌+◌, ◌<◌, ◌≤◌, List, [], ◌∷◌, length, Bool, true, false, nat_lt, nat_le, Option, None, Some, if◌then◌else◌, ◌==◌, slice_index, is_some, MatchOption}
+use Rattle.std.specs.Prelude.{◌≡◌, ◌≢◌, ◌⊎◌, ◌↔◌, ℕ, ◌+◌, ◌<◌, ◌≤◌, List, [], ◌∷◌, length, Bool, true, false, nat_lt, nat_le, Option, None, Some, if◌then◌else◌, ◌==◌, slice_index, is_some, MatchOption}
 use Rattle.std.specs.Option.{option_map, option_or, option_map_or, option_and_then}
 use Rattle.std.specs.declared.cmp.Ordering.{Ordering}
 use Rattle.std.specs.FinMap as map
@@ -261,11 +261,6 @@ pub record HasSpace {P : Type 0} (means : PagesMeaning P) (p : P) (space : Space
   pub fork : ForkName
   pub is : means.space p fork ≡ Some space
 
--- a place is that of a page that was found
-pub record HasFound {P : Type 0} (means : PagesMeaning P) (p : P) (space : SpaceHandle) (found : Found) : Type 0 where
-  pub page : ℕ
-  pub is : means.place p space page ≡ Some found
-
 -- the page of a place of a fork's space was found at a home
 pub record StandsAt {P : Type 0} (means : PagesMeaning P) (p : P) (at : Place) (home : ℕ) : Type 0 where
   pub slot : Slot
@@ -354,6 +349,15 @@ pub record StaysSame {P : Type 0} (means : PagesMeaning P) (old new : P) : Type 
   pub plain : StaysPlain means old new
   pub put : StaysPut means old new
   pub count : means.count new ≡ means.count old
+
+-- pages were used, and no more: over the words of each drum they are as they were, and what a touch finds stays; what is queued and held may
+-- have become less
+pub record OnlyUses {P : Type 0} (means : PagesMeaning P) (old new : P) : Type 0 where
+  pub fits : (d : DrumWords) → means.fits old d ↔ means.fits new d
+  pub plain : means.plain new ≡ means.plain old
+  pub put : StaysPut means old new
+  pub count : means.count new ≡ means.count old
+  pub loses : MayLose means old new
 
 -- the pages stand in a sound store, which has no more homes than pages may live: each page has a taken home, which is no other's; what is in
 -- no frame is exactly what has a home that is away, and the free frames are the store's

@@ -11,7 +11,7 @@ ghost use Rattle.page_contracts.specs.DrumWords.{DrumWords, Stands};
 ghost use Rattle.plain_pages.specs.References.{in_map, settled, slot_at, word_at, stored, page_at as named_at, without_fork};
 ghost use Rattle.page_contracts.specs.Stores.{IsFetched, IsUsed, CanFetch, Completes, Tells, Evicts, CanKeep, Keeps, LetsGo, awaited, meeting, most_held};
 ghost use Rattle.plain_pages.specs.WholePages.{AreWhole};
-ghost use Rattle.page_contracts.specs.Pages.{PagesMeaning, AddsMap, Agrees, AreHoused, DropsMap, HasFound, HasSpace, MayLose, PeekNeeds, SeenNeeds, StandsAt, TouchNeeds, UsesMap, UsesNone, UsesOne, StaysInCore, TakesMap, TakesFrames, StaysPut, StaysMapped, StaysPlain, StaysSame, IsPlace, IsTouched, IsReady, CanChange, IsNewMap, FollowsPage, SettlesTo, spot_of, touch_of, peek_of, seen_of, map_away, counted, room_for, can_settle, frames_taken, is_in_core, is_seen, is_entry, is_seen_entry};
+ghost use Rattle.page_contracts.specs.Pages.{PagesMeaning, AddsMap, Agrees, AreHoused, DropsMap, HasSpace, MayLose, OnlyUses, PeekNeeds, SeenNeeds, StandsAt, TouchNeeds, UsesMap, UsesNone, UsesOne, StaysInCore, TakesMap, TakesFrames, StaysPut, StaysMapped, StaysPlain, StaysSame, IsPlace, IsTouched, IsReady, CanChange, IsNewMap, FollowsPage, SettlesTo, spot_of, touch_of, peek_of, seen_of, map_away, counted, room_for, can_settle, frames_taken, is_in_core, is_seen, is_entry, is_seen_entry};
 ghost use Rattle.machine_names.specs.Bounds.{IsOwner};
 ghost use Rattle.plain_pages.specs.NewEntries.{IsNewEntry, changed};
 ghost use Rattle.machine_names.specs.Orders.{same_fork};
@@ -142,21 +142,15 @@ pub trait Pages {
         ensures ready { (f : AForkName) → means.space self.now f ≡ Some space → IsSome result ↔ CanChange (IsTouched means self.now f page) }
         ensures told { (d : DrumWords) (f : AForkName) → means.fits self.now d → means.space self.now f ≡ Some space → IsSome result → CanChange (IsReady means self.now d f page) };
 
-    /// The word at an address of a space, in a page that was found.
-    fn load(&self, space: SpaceHandle, found: Found, address: u32) -> Word
-        requires space { HasSpace means self.now space }
-        requires address { IsAddress address }
-        requires place { means.place self.now space (address / PAGE_WORDS) ≡ Some found }
-        ensures told { (d : DrumWords) (f : AForkName) → means.fits self.now d → means.space self.now f ≡ Some space
-            → result ≡ word_at (means.plain self.now d) (in_map (slot_at f address)) (address % PAGE_WORDS) };
-
-    /// A use of a page that was found: it is the last to have to leave its frame, and where its departure is queued it is
-    /// taken from the queue.
-    fn used(&mut self, space: SpaceHandle, found: Found)
+    /// The word at an address of a space, in a page that was found, which is a use of it: the page is the last to have to
+    /// leave its frame, and where its departure is queued it is taken from the queue.
+    fn load(&mut self, space: SpaceHandle, found: Found, address: u32) -> Word
         requires space { HasSpace means self.old space }
-        requires found { HasFound means self.old space found }
-        ensures same { StaysSame means self.old self.new }
-        ensures loses { MayLose means self.old self.new }
+        requires address { IsAddress address }
+        requires place { means.place self.old space (address / PAGE_WORDS) ≡ Some found }
+        ensures told { (d : DrumWords) (f : AForkName) → means.fits self.old d → means.space self.old f ≡ Some space
+            → result ≡ word_at (means.plain self.old d) (in_map (slot_at f address)) (address % PAGE_WORDS) }
+        ensures only { OnlyUses means self.old self.new }
         ensures uses { (home : ℕ) → means.store.found self.old home ≡ Some found → IsUsed means.store home self.old self.new };
 
     /// Puts a word at an address of a space, in a page that was found, which is a use of it.

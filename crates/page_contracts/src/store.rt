@@ -76,22 +76,18 @@ pub trait Store {
         ensures homes { means.homes self.new ≡ means.homes self.old }
         ensures used { IsUsed means home.0 self.old self.new };
 
-    /// The same use of a page that was found.
-    fn renew(&mut self, found: Found)
-        requires { HasPage means self.old found }
-        ensures homes { means.homes self.new ≡ means.homes self.old }
-        ensures used { (home : ℕ) → means.found self.old home ≡ Some found → IsUsed means home self.old self.new };
-
     /// Where the words of a home's page are. None exactly where the page is in no frame.
     fn find(&self, home: Home) -> Option<Found>
         requires { is_taken (place (means.homes self.now) home.0) ≡ true }
         ensures { result ≡ means.found self.now home.0 };
 
-    /// The word at an offset of a page that was found.
-    fn load(&self, found: Found, at: u16) -> Word
-        requires found { HasPage means self.now found }
+    /// The word at an offset of a page that was found, which is a use of it, as `used` is.
+    fn load(&mut self, found: Found, at: u16) -> Word
+        requires found { HasPage means self.old found }
         requires at { at < PAGE_WORDS }
-        ensures { (home : ℕ) → means.found self.now home ≡ Some found → word_in (place (means.homes self.now) home) at ≡ Some result };
+        ensures word { (home : ℕ) → means.found self.old home ≡ Some found → word_in (place (means.homes self.old) home) at ≡ Some result }
+        ensures homes { means.homes self.new ≡ means.homes self.old }
+        ensures used { (home : ℕ) → means.found self.old home ≡ Some found → IsUsed means home self.old self.new };
 
     /// Puts a word at an offset of a page that was found, as `put` does.
     fn store(&mut self, found: Found, at: u16, word: Word)

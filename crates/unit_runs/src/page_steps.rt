@@ -125,9 +125,10 @@ fn read<P: Pages>(pages: &P, at: Place) -> Came
 }
 
 // The word that a look finds, if it finds one.
-fn look<P: Pages>(pages: &P, slot: Slot, kind: Kind) -> Came
-    requires lives { P.means.lives pages.now slot.fork ≡ true }
+fn look<P: Pages>(pages: &mut P, slot: Slot, kind: Kind) -> Came
+    requires lives { P.means.lives pages.old slot.fork ≡ true }
     requires page { slot.page < SPACE_PAGES }
+    ensures { P.means.serial pages.new ≡ P.means.serial pages.old }
 {
     let space = pages.space(slot.fork);
     match pages.find(space, slot.page, kind) {

@@ -3,8 +3,9 @@ use Rattle.word36.specs.Words.{left}
 use Rattle.plain_units.specs.Deeds.{Deed}
 use Rattle.ka10_unit.specs.InPlace.{Finish, InPlace}
 use Rattle.ka10_unit.proofs.BlockLemmas.{blt, blt_row, blt_deed}
-use Rattle.ka10_unit.proofs.Placing.{deed_in_place}
-use Rattle.ka10_unit.proofs.Placing.{slow_in_place}
+use Rattle.ka10_unit.proofs.Placing.{deed_in_place, in_place_behind}
+use Rattle.ka10_unit.proofs.Placing.{used_in_place}
+use Rattle.ka10_unit.proofs.Used.{space_stays}
 use Rattle.ka10_unit.proofs.blocks.move_word.Goals as goal
 
 pub returns-in-Some : goal.returns-in-Some
@@ -14,8 +15,11 @@ returns-in-Some g c =
     let m = c.in-Some.m in
     deed_in_place g.P.Pages.means c.args.space blt ac c.args.it.e c.args.it.last m regs blt_row refl c.args.pages.now c.store_word.new.pages c.store_word.new.regs c.store_word.result
     (subst (λ (d : Deed). InPlace g.P.Pages.means c.args.space (Finish regs ac d) c.args.pages.now c.store_word.new.pages regs c.store_word.new.regs c.store_word.result) (sym (blt_deed regs ac c.args.it.e c.args.it.last m))
-    c.store_word.ensures)
+    (in_place_behind g.P.Pages.means c.args.space _ c.args.pages.now c.take.new.pages c.store_word.new.pages regs c.store_word.new.regs c.store_word.result c.take.ensures.only c.store_word.ensures))
     (Some c.left.result) (sym (ap Some (c.left.ensures.value ∙ ap (λ (a : ℕ). left a) c.word_in-a.ensures))) c.in-Some.ensures.told
 
 pub returns-in-None : goal.returns-in-None
-returns-in-None g c = slow_in_place g.P.Pages.means c.args.space _ c.args.pages.now c.args.regs.now c.requires.pc
+returns-in-None g c = used_in_place g.P.Pages.means c.args.space _ c.args.pages.now c.take.new.pages c.args.regs.now c.take.ensures.only c.requires.pc
+
+pub store_word-requires-clause-space : goal.store_word-requires-clause-space
+store_word-requires-clause-space g c = space_stays g.P.Pages.means c.args.space c.args.pages.now c.take.new.pages c.requires.space c.take.ensures.only.put

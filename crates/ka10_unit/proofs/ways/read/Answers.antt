@@ -1,6 +1,6 @@
 use Rattle.std.proofs.Common.{Some}
 use Rattle.ka10_unit.proofs.Placing.{deed_in_place, deed_nowhere}
-use Rattle.ka10_unit.proofs.Placing.{slow_in_place}
+use Rattle.ka10_unit.proofs.Placing.{in_place_behind, used_in_place}
 use Rattle.ka10_unit.proofs.ways.read.Goals as goal
 
 pub finish-requires-clause-nowhere : goal.finish-requires-clause-nowhere
@@ -8,8 +8,9 @@ finish-requires-clause-nowhere g c = deed_nowhere (g.C.Commit.instruction c.args
 
 pub returns-in-Some : goal.returns-in-Some
 returns-in-Some g c =
-    deed_in_place g.P.Pages.means c.args.space (g.C.Commit.instruction c.args.c) c.args.it.ac c.args.it.e c.args.it.last c.in-Some.m c.args.regs.now c.requires.row c.requires.deed c.args.pages.now c.args.pages.now c.finish.new.regs c.finish.result c.finish.ensures
+    deed_in_place g.P.Pages.means c.args.space (g.C.Commit.instruction c.args.c) c.args.it.ac c.args.it.e c.args.it.last c.in-Some.m c.args.regs.now c.requires.row c.requires.deed c.args.pages.now c.take.new.pages c.finish.new.regs c.finish.result
+    (in_place_behind g.P.Pages.means c.args.space _ c.args.pages.now c.take.new.pages c.take.new.pages c.args.regs.now c.finish.new.regs c.finish.result c.take.ensures.only c.finish.ensures)
     (Some c.args.from) c.requires.taken c.in-Some.ensures.told
 
 pub returns-in-None : goal.returns-in-None
-returns-in-None g c = slow_in_place g.P.Pages.means c.args.space _ c.args.pages.now c.args.regs.now c.requires.pc
+returns-in-None g c = used_in_place g.P.Pages.means c.args.space _ c.args.pages.now c.take.new.pages c.args.regs.now c.take.ensures.only c.requires.pc
