@@ -19,13 +19,13 @@ use Rattle.plain_pages.specs.References.{in_map, slot_at, stored}
 use Rattle.plain_units.specs.Steps.{is_accumulator}
 use Rattle.plain_units.specs.Deeds.{Deed, before, behind_ac, deed_of, in_ac, moves_block, operands}
 use Rattle.plain_units.specs.Instructions.{finishes, with_word}
-use Rattle.ka10_unit.specs.declared.committed.Committed.{Committed}
+use Rattle.ka10_unit.specs.declared.done.Done.{Done}
 use Rattle.ka10_unit.specs.declared.ending.Quick.{Quick}
 use Rattle.ka10_unit.specs.Acts.{Instruction, one}
 use Rattle.ka10_table.specs.declared.families.Family.TheVariants as family
 use Rattle.ka10_table.specs.declared.families.OpMode.TheVariants.{Basic}
 use Rattle.ka10_table.specs.Rows.{row_of, row_among}
-use Rattle.ka10_unit.specs.Commits.{Leaves, channel_of}
+use Rattle.ka10_unit.specs.Done.{Leaves, channel_of}
 use Rattle.ka10_unit.specs.Glide.{glide, is_ready}
 use Rattle.ka10_unit.specs.InPlace.{Finish, InPlace, IsOwnRow, deed_in, ended}
 use Rattle.ka10_unit.specs.Spots.{Stored, StoredIf}
@@ -42,7 +42,7 @@ set_other (x ∷ xs) zero (suc j) a b ne = refl
 set_other (x ∷ xs) (suc i) zero a b ne = refl
 set_other (x ∷ xs) (suc i) (suc j) a b ne = ap (λ ys. x ∷ ys) (set_other xs i j a b (λ is. ne (ap suc is)))
 
-module _ (f : ForkName) (p : NumberedPages) (n : ℕ) (less : n < MOST_REFERENCES) (regs after : Regs) (ac m to x : ℕ) (told : Committed) (below : ac < 16) (deed : Deed) (left : Leaves deed ac regs after told) (counts : deed.ac ≡ Some x) (alone : deed.next ≡ None) (stores : deed.store ≡ before to m) where
+module _ (f : ForkName) (p : NumberedPages) (n : ℕ) (less : n < MOST_REFERENCES) (regs after : Regs) (ac m to x : ℕ) (told : Done) (below : ac < 16) (deed : Deed) (left : Leaves deed ac regs after told) (counts : deed.ac ≡ Some x) (alone : deed.next ≡ None) (stores : deed.store ≡ before to m) where
   -- the word goes where AC is counted up
   block_own : to ≡ ac → glide f p regs.ac n (finishes regs ac deed) ≡ Some (record { pages = p; regs = after; post = channel_of told.post })
   unfolding finishes glide
@@ -64,7 +64,7 @@ module _ (f : ForkName) (p : NumberedPages) (n : ℕ) (less : n < MOST_REFERENCE
       let high : is_accumulator to ≡ false = is_high to h in
       rw (stores, few n less, ready, high, left.regs, left.post) refl
 
-module _ {P : Type 0} (means : PagesMeaning P) (space : SpaceHandle) (regs after end : Regs) (ac e last m : ℕ) (told : Committed) (below : ac < 16) (left : Leaves (moves_block (operands regs ac e last m)) ac regs after told) (q : Quick) (is_q : q ≡ ended told.post) (to : ℕ) (is_to : to ≡ right (in_ac regs ac))
+module _ {P : Type 0} (means : PagesMeaning P) (space : SpaceHandle) (regs after end : Regs) (ac e last m : ℕ) (told : Done) (below : ac < 16) (left : Leaves (moves_block (operands regs ac e last m)) ac regs after told) (q : Quick) (is_q : q ≡ ended told.post) (to : ℕ) (is_to : to ≡ right (in_ac regs ac))
     (s t : P) (ready : (d : DrumWords) (f : ForkName) → means.fits s d → means.space s f ≡ Some space → is_ready f (means.plain s d) to Write ≡ true) where
   abbrev moved : Deed
   moved = moves_block (operands regs ac e last m)

@@ -9,7 +9,7 @@ use Rattle.page_contracts.specs.DrumWords.{DrumWords}
 use Rattle.plain_pages.specs.PlainPages.{NumberedPages}
 use Rattle.ka10_unit.specs.declared.ending.Quick.{Quick}
 use Rattle.ka10_unit.specs.declared.ending.Quick.TheVariants as quick
-use Rattle.ka10_unit.specs.declared.ending.End.TheVariants as end
+use Rattle.ka10_unit.specs.declared.ending.BurstEnd.TheVariants as end
 use Rattle.ka10_unit.specs.Once.{After, once, in_a_row}
 use Rattle.ka10_unit.specs.declared.fetch_page.FetchPage.{FetchPage}
 use Rattle.ka10_unit.specs.InPlace.{IfDone, InPlace}

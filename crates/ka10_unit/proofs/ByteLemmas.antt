@@ -17,7 +17,7 @@ use Rattle.page_contracts.specs.Pages.{PagesMeaning}
 use Rattle.plain_units.specs.Steps.{Steps, refers}
 use Rattle.plain_units.specs.Addressing.{address}
 use Rattle.plain_units.specs.Instructions.{does_byte, does_pointer}
-use Rattle.ka10_unit.specs.declared.committed.Post.{Post}
+use Rattle.ka10_unit.specs.declared.done.Post.{Post}
 use Rattle.ka10_unit.specs.declared.ending.Quick.{Quick}
 use Rattle.ka10_unit.specs.declared.bytes.ByteStep.{ByteStep}
 use Rattle.ka10_unit.specs.Bytes.{steps_of}

@@ -18,12 +18,12 @@ use Rattle.plain_units.specs.Steps.{Steps, is_accumulator}
 use Rattle.plain_units.specs.Deeds.{Deed, Store, nowhere, back, into, before}
 use Rattle.plain_units.specs.Instructions.{finishes, finishes_by, takes}
 use Rattle.page_contracts.proofs.Touches.{ready_touch}
-use Rattle.ka10_unit.specs.declared.committed.Post.{Post}
-use Rattle.ka10_unit.specs.declared.committed.Post.TheVariants as post
-use Rattle.ka10_unit.specs.declared.committed.Committed.{Committed}
+use Rattle.ka10_unit.specs.declared.done.Post.{Post}
+use Rattle.ka10_unit.specs.declared.done.Post.TheVariants as post
+use Rattle.ka10_unit.specs.declared.done.Done.{Done}
 use Rattle.ka10_unit.specs.declared.ending.Quick.{Quick}
 use Rattle.ka10_unit.specs.declared.ending.Quick.TheVariants as quick
-use Rattle.ka10_unit.specs.Commits.{Leaves, channel_of, store_at, stored_word}
+use Rattle.ka10_unit.specs.Done.{Leaves, channel_of, store_at, stored_word}
 use Rattle.ka10_unit.specs.declared.operands.Destination.TheVariants as destination
 use Rattle.ka10_unit.specs.Glide.{makes_none, is_ready, glide, Takes}
 use Rattle.ka10_unit.specs.InPlace.{IfDone, ended}
@@ -97,7 +97,7 @@ module _ {K : Type 0} {file_cmp : K → K → Ordering} (f : ForkName) (p : Plai
   unfolding takes glide
   takes_some n e a m from next less some t = rw (some, few n less, t.ready, ← t.is) refl
 
-  module _ (n : ℕ) (regs after : Regs) (ac' : ℕ) (deed : Deed) (told : Committed) (left : Leaves deed ac' regs after told) where
+  module _ (n : ℕ) (regs after : Regs) (ac' : ℕ) (deed : Deed) (told : Done) (left : Leaves deed ac' regs after told) where
     -- a deed that stores no word ends the unit
     pub ends_bare : IsNowhere deed.store → glide f p ac n (finishes regs ac' deed) ≡ Some (record { pages = p; regs = after; post = channel_of told.post })
     unfolding finishes glide

@@ -4,7 +4,7 @@ use Rattle.std.specs.Prelude.{option_map}
 use Rattle.word36.specs.Arithmetic.{Outcome}
 use Rattle.ka10_alu.specs.declared.out.Out.{Out}
 use Rattle.ka10_alu.specs.Outs.{out_of}
-use Rattle.ka10_unit.specs.Commits.{outcome_of}
+use Rattle.ka10_unit.specs.Done.{outcome_of}
 
 -- what an operation gave is its outcome
 pub outcome_given : (x : Option Outcome) (out : Out) → Some out ≡ option_map out_of x → Some (outcome_of out) ≡ x

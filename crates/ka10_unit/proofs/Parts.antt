@@ -8,13 +8,13 @@ use Rattle.plain_units.specs.Steps.{Steps, refers}
 use Rattle.plain_units.specs.Deeds.{Deed, nowhere, back, taken_of, deed_of}
 use Rattle.plain_units.specs.Instructions.{does, does_byte, does_pointer, finishes, takes}
 use Rattle.ka10_table.specs.declared.families.TableRow.{TableRow}
-use Rattle.ka10_unit.specs.declared.committed.Committed.{Committed}
+use Rattle.ka10_unit.specs.declared.done.Done.{Done}
 use Rattle.ka10_unit.specs.declared.operands.Destination.{Destination}
 use Rattle.ka10_unit.specs.declared.operands.Destination.TheVariants.{Nowhere, Back}
 use Rattle.ka10_unit.specs.declared.ends.Ending.{Ending}
 use Rattle.ka10_unit.specs.declared.taken.Taken.{Taken}
 use Rattle.ka10_unit.specs.declared.taken.Stop.{Stop}
-use Rattle.ka10_unit.specs.Commits.{Leaves, stored_word, store_at}
+use Rattle.ka10_unit.specs.Done.{Leaves, stored_word, store_at}
 use Rattle.ka10_unit.specs.Gathers.{Framed}
 use Rattle.ka10_unit.specs.Taking.{Follows}
 use Rattle.ka10_unit.specs.Planning.{Ends, IsDone}
@@ -48,14 +48,14 @@ module _ (f : ForkName) (p : Framed) (ac : List ℕ) where
   does_ends t mid new row op n e last m regs at result is h k = rw (← is) (then_ends t mid new (takes at e) (λ m. finishes regs n (deed_of row op regs n e last m)) m result h k)
 
 -- a deed that stores nothing, and one whose word goes back
-pub done_nowhere : (d : Deed) (n : ℕ) (old new : Regs) (told : Committed) → Leaves d n old new told → d.store ≡ nowhere → IsDone d n old new Nowhere told
+pub done_nowhere : (d : Deed) (n : ℕ) (old new : Regs) (told : Done) → Leaves d n old new told → d.store ≡ nowhere → IsDone d n old new Nowhere told
 done_nowhere d n old new told h is = record {
   leaves = h;
   store = ap (λ (o : Option ℕ). store_at Nowhere o) (h.stored ∙ ap stored_word is) ∙ sym is;
   block = λ at w b. absurd (cc (sym is ∙ b));
 }
 
-pub done_back : (d : Deed) (n at w : ℕ) (old new : Regs) (told : Committed) → Leaves d n old new told → d.store ≡ back at w → IsDone d n old new (Back at) told
+pub done_back : (d : Deed) (n at w : ℕ) (old new : Regs) (told : Done) → Leaves d n old new told → d.store ≡ back at w → IsDone d n old new (Back at) told
 done_back d n at w old new told h is = record {
   leaves = h;
   store = ap (λ (o : Option ℕ). store_at (Back at) o) (h.stored ∙ ap stored_word is) ∙ sym is;
@@ -63,7 +63,7 @@ done_back d n at w old new told h is = record {
 }
 
 -- the instruction of a row
-pub done_row : (row : TableRow) (op n e last m : ℕ) (old new : Regs) (to : Destination) (told : Committed) → Leaves (deed_of row op old n e last m) n old new told
+pub done_row : (row : TableRow) (op n e last m : ℕ) (old new : Regs) (to : Destination) (told : Done) → Leaves (deed_of row op old n e last m) n old new told
     → store_at to (stored_word (deed_of row op old n e last m).store) ≡ (deed_of row op old n e last m).store → IsDone (deed_of row op old n e last m) n old new to told
 done_row row op n e last m old new to told h is = record {
   leaves = h;

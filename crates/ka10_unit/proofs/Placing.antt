@@ -19,10 +19,10 @@ use Rattle.page_contracts.specs.DrumWords.{DrumWords}
 use Rattle.page_contracts.specs.Pages.{PagesMeaning, OnlyUses}
 use Rattle.plain_units.specs.Deeds.{Deed, in_ac, taken_of}
 use Rattle.plain_units.specs.Instructions.{does, finishes, with_word}
-use Rattle.ka10_unit.specs.declared.committed.Committed.{Committed}
+use Rattle.ka10_unit.specs.declared.done.Done.{Done}
 use Rattle.ka10_unit.specs.declared.ending.Quick.{Quick}
 use Rattle.ka10_unit.specs.declared.ending.Quick.TheVariants as quick
-use Rattle.ka10_unit.specs.Commits.{Leaves, channel_of}
+use Rattle.ka10_unit.specs.Done.{Leaves, channel_of}
 use Rattle.ka10_unit.specs.Acts.{Instruction}
 use Rattle.ka10_unit.specs.Glide.{is_ready, glide}
 use Rattle.ka10_unit.specs.Targets.{unstored, target_of, place_of}
@@ -70,7 +70,7 @@ module _ {P : Type 0} (means : PagesMeaning P) where
     in_place_more does more s t regs after quick.Pushdown i g = record { slow = i.slow; told = λ d f fits is. g d f fits is (i.told d f fits is); fits = i.fits; stays = i.stays; loses = i.loses; pc = i.pc; accumulators = i.accumulators }
     in_place_more does more s t regs after quick.Slow i g = record { slow = i.slow; told = λ d f fits is. tt; fits = i.fits; stays = i.stays; loses = i.loses; pc = i.pc; accumulators = i.accumulators }
 
-    module _ (regs after : Regs) (ac : ℕ) (deed : Deed) (told : Committed) (left : Leaves deed ac regs after told) (q : Quick) (is_q : q ≡ ended told.post) where
+    module _ (regs after : Regs) (ac : ℕ) (deed : Deed) (told : Done) (left : Leaves deed ac regs after told) (q : Quick) (is_q : q ≡ ended told.post) where
       kept : length after.ac ≡ length regs.ac
       kept = ap (λ (r : Regs). length r.ac) left.regs ∙ (length_with (with_word regs.ac ac deed.ac) _ deed.next ∙ length_with regs.ac ac deed.ac)
 

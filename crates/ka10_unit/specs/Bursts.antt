@@ -10,8 +10,8 @@ use Rattle.page_contracts.specs.DrumWords.{DrumWords}
 use Rattle.page_contracts.specs.Pages.{PagesMeaning, MayLose, StaysPut}
 use Rattle.plain_pages.specs.PlainPages.{NumberedPages}
 use Rattle.ka10_unit.specs.declared.ending.Burst.{Burst}
-use Rattle.ka10_unit.specs.declared.ending.End.{End}
-use Rattle.ka10_unit.specs.declared.ending.End.TheVariants as end
+use Rattle.ka10_unit.specs.declared.ending.BurstEnd.{BurstEnd}
+use Rattle.ka10_unit.specs.declared.ending.BurstEnd.TheVariants as end
 use Rattle.ka10_unit.specs.declared.fetch_page.FetchPage.{FetchPage}
 use Rattle.ka10_unit.specs.Once.{After, once, in_a_row}
 use Rattle.ka10_unit.specs.Fetches.{CanExecute, IsThere}
@@ -21,14 +21,14 @@ abbrev pub and_one_more : ForkName → ℕ → NumberedPages → Regs → Option
 and_one_more f n p regs = option_and_then (λ a. once f a.pages a.regs) (in_a_row f n p regs)
 
 -- what a burst of so many units leaves, by its end: the last unit may post
-abbrev pub Came : End → ℕ → ForkName → NumberedPages → Regs → NumberedPages → Regs → Type 0
+abbrev pub Came : BurstEnd → ℕ → ForkName → NumberedPages → Regs → NumberedPages → Regs → Type 0
 Came end.Most n f p regs q after = in_a_row f n p regs ≡ Some (record { pages = q; regs = after; post = None })
 Came end.Slow n f p regs q after = in_a_row f n p regs ≡ Some (record { pages = q; regs = after; post = None })
 Came end.Overflow n f p regs q after = and_one_more f n p regs ≡ Some (record { pages = q; regs = after; post = Some OVERFLOW })
 Came end.Pushdown n f p regs q after = and_one_more f n p regs ≡ Some (record { pages = q; regs = after; post = Some PUSHDOWN_OVERFLOW })
 
 -- how many units are done: as many as were asked for, or fewer
-abbrev pub AreCounted : End → ℕ → ℕ → Type 0
+abbrev pub AreCounted : BurstEnd → ℕ → ℕ → Type 0
 AreCounted end.Most n most = n ≡ most
 AreCounted end n most = n < most
 

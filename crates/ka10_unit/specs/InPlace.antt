@@ -17,8 +17,8 @@ use Rattle.plain_pages.specs.PlainPages.{NumberedPages}
 use Rattle.plain_units.specs.Steps.{Steps}
 use Rattle.ka10_unit.specs.declared.ending.Quick.{Quick}
 use Rattle.ka10_unit.specs.declared.ending.Quick.TheVariants as quick
-use Rattle.ka10_unit.specs.declared.committed.Post.{Post}
-use Rattle.ka10_unit.specs.declared.committed.Post.TheVariants as post
+use Rattle.ka10_unit.specs.declared.done.Post.{Post}
+use Rattle.ka10_unit.specs.declared.done.Post.TheVariants as post
 use Rattle.ka10_unit.specs.Acts.{Instruction}
 use Rattle.ka10_unit.specs.Glide.{glide}
 use Rattle.ka10_unit.specs.Once.{After}

@@ -16,7 +16,7 @@ use Rattle.plain_units.specs.Deeds.{Deed, before}
 use Rattle.plain_units.specs.Instructions.{does, does_pointer, instruction, is_executive, local_word, LOCAL_CALL, LOCAL_HANDLER}
 use Rattle.plain_units.specs.Units.{unit_on}
 use Rattle.ka10_unit.specs.declared.word_fields.Address.{Address}
-use Rattle.ka10_unit.specs.declared.committed.Committed.{Committed}
+use Rattle.ka10_unit.specs.declared.done.Done.{Done}
 use Rattle.ka10_unit.specs.declared.operands.Destination.{Destination}
 use Rattle.ka10_unit.specs.declared.operands.Destination.TheVariants as destination
 use Rattle.ka10_unit.specs.declared.ends.Ending.{Ending}
@@ -27,7 +27,7 @@ use Rattle.ka10_unit.specs.declared.plans.Planned.TheVariants as planned
 use Rattle.ka10_unit.specs.declared.taken.Taken.{Taken}
 use Rattle.ka10_unit.specs.declared.taken.Stop.{Stop}
 use Rattle.ka10_unit.specs.declared.taken.Stop.TheVariants as stop
-use Rattle.ka10_unit.specs.Commits.{Leaves, channel_of, store_at}
+use Rattle.ka10_unit.specs.Done.{Leaves, channel_of, store_at}
 use Rattle.ka10_unit.specs.Gathers.{Framed, IsPutBelow, framed}
 use Rattle.ka10_unit.specs.Taking.{CanPut, HasSpare, IsPlain, Plan, Stands, most_frames, progress, run_over, so_far, stop_of}
 
@@ -69,7 +69,7 @@ DoesEnd means p ac old new left result = (d : DrumWords) (f : ForkName) → mean
 
 -- a deed is done on the registers before it, and its word goes to a destination; a word that is stored before the accumulators are
 -- written comes with a word for its own accumulator, and none for the next
-pub record IsDone (d : Deed) (n : ℕ) (old new : Regs) (to : Destination) (told : Committed) : Type 0 where
+pub record IsDone (d : Deed) (n : ℕ) (old new : Regs) (to : Destination) (told : Done) : Type 0 where
   pub leaves : Leaves d n old new told
   pub store : store_at to told.stored ≡ d.store
   pub block : (at w : ℕ) → d.store ≡ before at w → (d.next ≡ None) × ((a : ℕ) × (d.ac ≡ Some a))

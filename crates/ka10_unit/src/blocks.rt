@@ -6,8 +6,8 @@ ghost use Rattle.page_contracts.specs.Pages.{HasSpace};
 ghost use Rattle.ka10_unit.specs.InPlace.{Addressee, Finish, InPlace};
 
 use crate::ending::{Quick, ended};
+use crate::has_deed::HasDeed;
 use crate::instruction::Instruction;
-use crate::instructions::Commit;
 use crate::registers::word_in;
 use crate::spots::{spot_to_write, store, take};
 use crate::words::Blt;
@@ -42,7 +42,7 @@ fn store_word<P: Pages>(
     match spot_to_write(pages, space, to) {
         None => Quick::Slow,
         Some(spot) => {
-            let told = Blt.commit(regs, it.ac, it.e, it.last, m);
+            let told = Blt.do_deed(regs, it.ac, it.e, it.last, m);
             store(regs, pages, space, spot, to, unless_counted(to, it.ac, m));
             ended(told.post)
         }

@@ -3,7 +3,7 @@ ghost use Rattle.std.specs.Prelude.{◌≡◌, ◌<◌, ◌^◌};
 ghost use Rattle.page_contracts.specs.Pages.{HasSpace};
 ghost use Rattle.ka10_unit.specs.Bursts.{InRow};
 
-use crate::ending::{Burst, End, Quick};
+use crate::ending::{Burst, BurstEnd, Quick};
 use crate::fetch_page::FetchPage;
 use crate::in_place::quick;
 use page_contracts::{Pages, SpaceHandle};
@@ -25,25 +25,25 @@ pub fn burst<P: Pages>(regs: &mut Regs, pages: &mut P, space: SpaceHandle, most:
             Quick::Overflow => {
                 return Burst {
                     units,
-                    end: End::Overflow,
+                    end: BurstEnd::Overflow,
                 };
             }
             Quick::Pushdown => {
                 return Burst {
                     units,
-                    end: End::Pushdown,
+                    end: BurstEnd::Pushdown,
                 };
             }
             Quick::Slow => {
                 return Burst {
                     units,
-                    end: End::Slow,
+                    end: BurstEnd::Slow,
                 };
             }
         }
     }
     Burst {
         units: most,
-        end: End::Most,
+        end: BurstEnd::Most,
     }
 }

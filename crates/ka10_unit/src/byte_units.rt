@@ -13,8 +13,7 @@ ghost use Rattle.ka10_unit.specs.InPlace.{Addressee, InPlace, Rest};
 
 use crate::addressing::effective_address;
 use crate::bytes::{
-    ByteStep, byte_step, commit_deposit, commit_first_part, commit_increment, commit_load,
-    forget_first_part,
+    ByteStep, byte_step, do_deposit, do_first_part, do_increment, do_load, forget_first_part,
 };
 use crate::ending::{Quick, ended};
 use crate::instruction::Instruction;
@@ -38,7 +37,7 @@ fn increment<P: Pages>(it: Instruction, regs: &mut Regs, pages: &mut P, space: S
         None => Quick::Slow,
         Some(spot) => {
             let p = load(regs, pages, space, spot, it.e);
-            let told = commit_increment(regs, it.ac, it.e, p);
+            let told = do_increment(regs, it.ac, it.e, p);
             store(regs, pages, space, spot, it.e, told.stored);
             ended(told.post)
         }
@@ -62,7 +61,7 @@ fn first_part<P: Pages>(
         None => Quick::Slow,
         Some(spot) => {
             let p = load(regs, pages, space, spot, it.e);
-            let told = commit_first_part(regs, it.ac, it.e, p);
+            let told = do_first_part(regs, it.ac, it.e, p);
             store(regs, pages, space, spot, it.e, told.stored);
             ended(told.post)
         }
@@ -99,7 +98,7 @@ fn load_word<P: Pages>(
         None => Quick::Slow,
         Some(w) => {
             begin(second, regs);
-            let told = commit_load(regs, it.ac, p, w);
+            let told = do_load(regs, it.ac, p, w);
             ended(told.post)
         }
     }
@@ -126,7 +125,7 @@ fn deposit_word<P: Pages>(
         Some(spot) => {
             let w = load(regs, pages, space, spot, at);
             begin(second, regs);
-            let told = commit_deposit(regs, it.ac, p, at, w);
+            let told = do_deposit(regs, it.ac, p, at, w);
             store(regs, pages, space, spot, at, told.stored);
             ended(told.post)
         }

@@ -2,9 +2,9 @@
 ghost use Rattle.std.specs.Prelude.{◌≡◌, ℕ, ◌^◌, ◌<◌};
 ghost use Rattle.plain_units.specs.Instructions.{does_byte, first_part_done};
 ghost use Rattle.ka10_unit.specs.Bytes.{byte_deposited, byte_loaded, first_part, pointer_stepped, steps_of};
-ghost use Rattle.ka10_unit.specs.Commits.{Leaves};
+ghost use Rattle.ka10_unit.specs.Done.{Leaves};
 
-use crate::committed::Committed;
+use crate::done::Done;
 use crate::registers::{next, word_in};
 use ka10_bytes::{deposit, increment, load};
 use plain_units::Regs;
@@ -55,23 +55,23 @@ pub fn byte_step(code: u8, regs: &Regs) -> ByteStep
 
 /// The pointer incremented, which goes back to where it was taken.
 #[inline(always)]
-pub fn commit_increment(regs: &mut Regs, ac: u8, e: u32, p: Word) -> Committed
+pub fn do_increment(regs: &mut Regs, ac: u8, e: u32, p: Word) -> Done
     requires { regs.old.pc < 2 ^ 18 }
     ensures { Leaves (pointer_stepped regs.old e p) ac regs.old regs.new result }
 {
     regs.pc = next(regs);
-    Committed::storing(increment(p))
+    Done::storing(increment(p))
 }
 
 /// The first part of ILDB and IDPB: the pointer incremented goes back, the flag tells that it was,
 /// and the program counter stays.
 #[inline(always)]
-pub fn commit_first_part(regs: &mut Regs, ac: u8, e: u32, p: Word) -> Committed
+pub fn do_first_part(regs: &mut Regs, ac: u8, e: u32, p: Word) -> Done
     requires { regs.old.pc < 2 ^ 18 }
     ensures { Leaves (first_part regs.old e p) ac regs.old regs.new result }
 {
     regs.flags.bis = true;
-    Committed::storing(increment(p))
+    Done::storing(increment(p))
 }
 
 /// The flag of the first part is cleared, with which the second part begins.
@@ -84,23 +84,23 @@ pub fn forget_first_part(regs: &mut Regs)
 
 /// The byte that a pointer names in a word goes to AC.
 #[inline(always)]
-pub fn commit_load(regs: &mut Regs, ac: u8, p: Word, w: Word) -> Committed
+pub fn do_load(regs: &mut Regs, ac: u8, p: Word, w: Word) -> Done
     requires pc { regs.old.pc < 2 ^ 18 }
     requires ac { ac < 16 }
     ensures { Leaves (byte_loaded regs.old p w) ac regs.old regs.new result }
 {
     regs.pc = next(regs);
     regs.ac[ac as usize] = load(p, w);
-    Committed::NOTHING
+    Done::NOTHING
 }
 
 /// The low bits of AC go to where a pointer names a byte of a word, which stands at `e`.
 #[inline(always)]
-pub fn commit_deposit(regs: &mut Regs, ac: u8, p: Word, e: u32, w: Word) -> Committed
+pub fn do_deposit(regs: &mut Regs, ac: u8, p: Word, e: u32, w: Word) -> Done
     requires pc { regs.old.pc < 2 ^ 18 }
     requires ac { ac < 16 }
     ensures { Leaves (byte_deposited regs.old ac p e w) ac regs.old regs.new result }
 {
     regs.pc = next(regs);
-    Committed::storing(deposit(p, w, word_in(regs, ac)))
+    Done::storing(deposit(p, w, word_in(regs, ac)))
 }

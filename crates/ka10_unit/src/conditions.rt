@@ -4,10 +4,10 @@ ghost use Rattle.ka10_table.specs.declared.families.Family.TheVariants as family
 ghost use Rattle.ka10_table.specs.declared.families.OpMode.TheVariants.{Basic};
 ghost use Rattle.plain_units.specs.Deeds.{counts, in_ac};
 ghost use Rattle.ka10_unit.specs.Acts.{one};
-ghost use Rattle.ka10_unit.specs.Commits.{Leaves};
+ghost use Rattle.ka10_unit.specs.Done.{Leaves};
 
-use crate::committed::{Committed, Post};
-use crate::instructions::Commit;
+use crate::done::{Done, Post};
+use crate::has_deed::HasDeed;
 use crate::registers::{give_own, jump_if, set, skip_if, word_in};
 use ka10_alu::{add, holds};
 use plain_units::Regs;
@@ -19,17 +19,17 @@ pub struct Compare {
     pub code: u8,
 }
 
-impl Commit for Compare {
+impl HasDeed for Compare {
     ghost instruction = { λ i. one (0o300 + i.code) family.Compare Basic i.code };
 
     ghost is_valid = { λ i. Unit {0} };
 
     #[inline(always)]
     #[tactic(auto, unfolding(plain_units::specs::Deeds::deed_of))]
-    fn commit(self, regs: &mut Regs, ac: u8, e: u32, last: Word, m: Word) -> Committed {
+    fn do_deed(self, regs: &mut Regs, ac: u8, e: u32, last: Word, m: Word) -> Done {
         let difference = word_in(regs, ac).signed() - m.signed();
         regs.pc = skip_if(holds(self.code % 8, difference), regs);
-        Committed::NOTHING
+        Done::NOTHING
     }
 }
 
@@ -39,28 +39,28 @@ pub struct JumpSkip {
     pub code: u8,
 }
 
-impl Commit for JumpSkip {
+impl HasDeed for JumpSkip {
     ghost instruction = { λ i. one (0o320 + i.code) family.JumpSkip Basic i.code };
 
     ghost is_valid = { λ i. i.code < 16 };
 
     #[inline(always)]
     #[tactic(auto, unfolding(plain_units::specs::Deeds::deed_of))]
-    fn commit(self, regs: &mut Regs, ac: u8, e: u32, last: Word, m: Word) -> Committed {
+    fn do_deed(self, regs: &mut Regs, ac: u8, e: u32, last: Word, m: Word) -> Done {
         if self.code < 8 {
             regs.pc = jump_if(holds(self.code, word_in(regs, ac).signed()), regs, e);
-            Committed::NOTHING
+            Done::NOTHING
         } else {
             regs.pc = skip_if(holds(self.code - 8, m.signed()), regs);
             give_own(regs, ac, m);
-            Committed::NOTHING
+            Done::NOTHING
         }
     }
 }
 
 /// A word is added to AC or to the operand, with the flags of ADD.
 #[inline(always)]
-fn commit_count(by: Word, code: u8, regs: &mut Regs, ac: u8, e: u32, m: Word) -> Committed
+fn do_count(by: Word, code: u8, regs: &mut Regs, ac: u8, e: u32, m: Word) -> Done
     requires code { code < 16 }
     requires pc { regs.old.pc < 2 ^ 18 }
     requires ac { ac < 16 }
@@ -72,7 +72,7 @@ fn commit_count(by: Word, code: u8, regs: &mut Regs, ac: u8, e: u32, m: Word) ->
         regs.pc = jump_if(holds(code, out.word.signed()), regs, e);
         set(regs, out.flags);
         regs.ac[ac as usize] = out.word;
-        Committed {
+        Done {
             stored: None,
             post: Post::overflow(out.flags.overflow),
         }
@@ -81,7 +81,7 @@ fn commit_count(by: Word, code: u8, regs: &mut Regs, ac: u8, e: u32, m: Word) ->
         regs.pc = skip_if(holds(code - 8, out.word.signed()), regs);
         set(regs, out.flags);
         give_own(regs, ac, out.word);
-        Committed {
+        Done {
             stored: Some(out.word),
             post: Post::overflow(out.flags.overflow),
         }
@@ -94,15 +94,15 @@ pub struct AddOne {
     pub code: u8,
 }
 
-impl Commit for AddOne {
+impl HasDeed for AddOne {
     ghost instruction = { λ i. one (0o340 + i.code) family.AddOne Basic i.code };
 
     ghost is_valid = { λ i. i.code < 16 };
 
     #[inline(always)]
     #[tactic(auto, unfolding(plain_units::specs::Deeds::deed_of))]
-    fn commit(self, regs: &mut Regs, ac: u8, e: u32, last: Word, m: Word) -> Committed {
-        commit_count(Word::wrapped(1), self.code, regs, ac, e, m)
+    fn do_deed(self, regs: &mut Regs, ac: u8, e: u32, last: Word, m: Word) -> Done {
+        do_count(Word::wrapped(1), self.code, regs, ac, e, m)
     }
 }
 
@@ -112,14 +112,14 @@ pub struct SubOne {
     pub code: u8,
 }
 
-impl Commit for SubOne {
+impl HasDeed for SubOne {
     ghost instruction = { λ i. one (0o360 + i.code) family.SubOne Basic i.code };
 
     ghost is_valid = { λ i. i.code < 16 };
 
     #[inline(always)]
     #[tactic(auto, unfolding(plain_units::specs::Deeds::deed_of))]
-    fn commit(self, regs: &mut Regs, ac: u8, e: u32, last: Word, m: Word) -> Committed {
-        commit_count(Word::wrapped(Word::MASK), self.code, regs, ac, e, m)
+    fn do_deed(self, regs: &mut Regs, ac: u8, e: u32, last: Word, m: Word) -> Done {
+        do_count(Word::wrapped(Word::MASK), self.code, regs, ac, e, m)
     }
 }

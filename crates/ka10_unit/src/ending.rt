@@ -2,7 +2,7 @@
 ghost use Rattle.std.specs.Prelude.{◌≡◌};
 ghost use Rattle.ka10_unit.specs.InPlace.{ended};
 
-use crate::committed::Post;
+use crate::done::Post;
 
 /// What a try at a unit in place comes to.
 #[derive(Clone, Copy, PartialEq, Eq)]
@@ -32,7 +32,7 @@ pub fn ended(post: Post) -> Quick
 
 /// Why a burst ended.
 #[derive(Clone, Copy, PartialEq, Eq)]
-pub enum End {
+pub enum BurstEnd {
     /// As many units were done as were asked for, and none posted.
     Most,
     /// One more unit was done, which posts that an arithmetic result was no signed word, or that a
@@ -49,5 +49,5 @@ pub enum End {
 pub struct Burst {
     /// How many units were done that posted nothing.
     pub units: u32,
-    pub end: End,
+    pub end: BurstEnd,
 }

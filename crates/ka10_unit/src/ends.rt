@@ -7,15 +7,15 @@ ghost use Rattle.ka10_table.specs.Rows.{IsInLine};
 ghost use Rattle.machine_names.specs.declared.names.ForkName.{ForkName as AForkName};
 ghost use Rattle.machine_names.specs.Bounds.{IsAddress};
 ghost use Rattle.page_contracts.specs.DrumWords.{DrumWords};
-ghost use Rattle.ka10_unit.specs.Commits.{LiesBelow, channel_of};
+ghost use Rattle.ka10_unit.specs.Done.{LiesBelow, channel_of};
 ghost use Rattle.ka10_unit.specs.Gathers.{Serves, framed};
 ghost use Rattle.ka10_unit.specs.Planning.{DoesEnd, Ends, GoesBack, IsDone, IsEnding, LeavesEnd, end_of};
 ghost use Rattle.ka10_unit.specs.Taking.{Does, HasSpare, Spares, Stands, StopsFor};
 
-use crate::commit::commit_row;
-use crate::committed::{Committed, Post};
+use crate::done::{Done, Post};
 use crate::operands::{Destination, destination_of, operand_address};
 use crate::references::{refer, widen};
+use crate::rows::do_row;
 use crate::taken::{Stop, Taken};
 use crate::word_fields::Address;
 use ka10_table::TableRow;
@@ -89,7 +89,7 @@ fn end_storing(regs: Regs, at: u32, word: Word, post: Post) -> Ending
     }
 }
 
-/// What is left of a unit once its instruction is committed on its registers: the word that it
+/// What is left of a unit once its deed is done on its registers: the word that it
 /// stores is asked for.
 pub fn finish<P: Pages>(
     taken: &mut Taken,
@@ -98,7 +98,7 @@ pub fn finish<P: Pages>(
     after: Regs,
     ac: u8,
     to: Destination,
-    told: Committed,
+    told: Done,
 ) -> Result<Ending, Stop>
     requires serves { Serves P.means pages.now taken.old.fork }
     requires to { LiesBelow (2 ^ 18) to }
@@ -134,7 +134,7 @@ pub fn finish<P: Pages>(
 }
 
 /// The instruction of a row, with its opcode and its effective address: it takes its operand, is
-/// committed on a copy of the registers, and its word is asked for.
+/// done on a copy of the registers, and its word is asked for.
 pub fn ordinary<P: Pages>(
     taken: &mut Taken,
     regs: &Regs,
@@ -158,6 +158,6 @@ pub fn ordinary<P: Pages>(
     let m = operand(taken, regs, pages, at, address.e)?;
     let to = destination_of(row, regs, ac, address.e);
     let mut after = *regs;
-    let told = commit_row(row, op, &mut after, ac, address.e, address.last, m);
+    let told = do_row(row, op, &mut after, ac, address.e, address.last, m);
     finish(taken, regs, pages, after, ac, to, told)
 }

@@ -5,8 +5,8 @@ ghost use Rattle.ka10_table.specs.declared.families.Family.TheVariants as family
 ghost use Rattle.ka10_table.specs.declared.families.OpMode.TheVariants.{Basic};
 ghost use Rattle.ka10_unit.specs.Acts.{one};
 
-use crate::committed::Committed;
-use crate::instructions::Commit;
+use crate::done::Done;
+use crate::has_deed::HasDeed;
 use crate::program_words::{flags_of, pc_word};
 use crate::registers::{behind, jump_if, next, word_in};
 use crate::stacks::{is_negative, up};
@@ -20,19 +20,19 @@ use word36::opcodes::JFFO;
 #[derive(Clone, Copy)]
 pub struct Jffo;
 
-impl Commit for Jffo {
+impl HasDeed for Jffo {
     ghost instruction = { λ i. one 0o243 family.Jffo Basic 0 };
 
     ghost is_valid = { λ i. Unit {0} };
 
     #[inline(always)]
     #[tactic(auto, unfolding(plain_units::specs::Deeds::deed_of))]
-    fn commit(self, regs: &mut Regs, ac: u8, e: u32, last: Word, m: Word) -> Committed {
+    fn do_deed(self, regs: &mut Regs, ac: u8, e: u32, last: Word, m: Word) -> Done {
         let a = word_in(regs, ac);
         let after = behind(ac);
         regs.pc = jump_if(a.value() != 0, regs, e);
         regs.ac[after as usize] = zeros_before(a);
-        Committed::NOTHING
+        Done::NOTHING
     }
 }
 
@@ -52,18 +52,18 @@ pub struct Aobj {
     pub code: u8,
 }
 
-impl Commit for Aobj {
+impl HasDeed for Aobj {
     ghost instruction = { λ i. one (0o252 + i.code) family.Aobj Basic i.code };
 
     ghost is_valid = { λ i. Unit {0} };
 
     #[inline(always)]
     #[tactic(auto, unfolding(plain_units::specs::Deeds::deed_of))]
-    fn commit(self, regs: &mut Regs, ac: u8, e: u32, last: Word, m: Word) -> Committed {
+    fn do_deed(self, regs: &mut Regs, ac: u8, e: u32, last: Word, m: Word) -> Done {
         let word = up(word_in(regs, ac));
         regs.pc = jump_if(is_negative(word) == (self.code != 0), regs, e);
         regs.ac[ac as usize] = word;
-        Committed::NOTHING
+        Done::NOTHING
     }
 }
 
@@ -71,19 +71,19 @@ impl Commit for Aobj {
 #[derive(Clone, Copy)]
 pub struct Jrst;
 
-impl Commit for Jrst {
+impl HasDeed for Jrst {
     ghost instruction = { λ i. one 0o254 family.Jrst Basic 0 };
 
     ghost is_valid = { λ i. Unit {0} };
 
     #[inline(always)]
     #[tactic(auto, unfolding(plain_units::specs::Deeds::deed_of))]
-    fn commit(self, regs: &mut Regs, ac: u8, e: u32, last: Word, m: Word) -> Committed {
+    fn do_deed(self, regs: &mut Regs, ac: u8, e: u32, last: Word, m: Word) -> Done {
         regs.pc = e;
         if ac / 2 % 2 == 1 {
             regs.flags = flags_of(last.left());
         }
-        Committed::NOTHING
+        Done::NOTHING
     }
 }
 
@@ -91,14 +91,14 @@ impl Commit for Jrst {
 #[derive(Clone, Copy)]
 pub struct Jfcl;
 
-impl Commit for Jfcl {
+impl HasDeed for Jfcl {
     ghost instruction = { λ i. one 0o255 family.Jfcl Basic 0 };
 
     ghost is_valid = { λ i. Unit {0} };
 
     #[inline(always)]
     #[tactic(auto, unfolding(plain_units::specs::Deeds::deed_of))]
-    fn commit(self, regs: &mut Regs, ac: u8, e: u32, last: Word, m: Word) -> Committed {
+    fn do_deed(self, regs: &mut Regs, ac: u8, e: u32, last: Word, m: Word) -> Done {
         let flags = regs.flags;
         let overflow = ac >> 3 & 1 == 1;
         let carry0 = ac >> 2 & 1 == 1;
@@ -113,7 +113,7 @@ impl Commit for Jfcl {
         regs.flags.carry0 = cleared(carry0, flags.carry0);
         regs.flags.carry1 = cleared(carry1, flags.carry1);
         regs.flags.fov = cleared(fov, flags.fov);
-        Committed::NOTHING
+        Done::NOTHING
     }
 }
 
@@ -131,23 +131,23 @@ pub struct JsrJsp {
     pub code: u8,
 }
 
-impl Commit for JsrJsp {
+impl HasDeed for JsrJsp {
     ghost instruction = { λ i. one (0o264 + i.code) family.JsrJsp Basic i.code };
 
     ghost is_valid = { λ i. Unit {0} };
 
     #[inline(always)]
     #[tactic(auto, unfolding(plain_units::specs::Deeds::deed_of))]
-    fn commit(self, regs: &mut Regs, ac: u8, e: u32, last: Word, m: Word) -> Committed {
+    fn do_deed(self, regs: &mut Regs, ac: u8, e: u32, last: Word, m: Word) -> Done {
         let word = pc_word(regs);
         regs.flags.bis = false;
         if self.code == 0 {
             regs.pc = behind_address(e);
-            Committed::storing(word)
+            Done::storing(word)
         } else {
             regs.ac[ac as usize] = word;
             regs.pc = e;
-            Committed::NOTHING
+            Done::NOTHING
         }
     }
 }
@@ -158,23 +158,23 @@ pub struct JsaJra {
     pub code: u8,
 }
 
-impl Commit for JsaJra {
+impl HasDeed for JsaJra {
     ghost instruction = { λ i. one (0o266 + i.code) family.JsaJra Basic i.code };
 
     ghost is_valid = { λ i. Unit {0} };
 
     #[inline(always)]
     #[tactic(auto, unfolding(plain_units::specs::Deeds::deed_of))]
-    fn commit(self, regs: &mut Regs, ac: u8, e: u32, last: Word, m: Word) -> Committed {
+    fn do_deed(self, regs: &mut Regs, ac: u8, e: u32, last: Word, m: Word) -> Done {
         if self.code == 0 {
             let word = word_in(regs, ac);
             regs.ac[ac as usize] = Word::join(e, next(regs));
             regs.pc = behind_address(e);
-            Committed::storing(word)
+            Done::storing(word)
         } else {
             regs.ac[ac as usize] = m;
             regs.pc = e;
-            Committed::NOTHING
+            Done::NOTHING
         }
     }
 }

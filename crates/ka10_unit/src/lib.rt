@@ -11,17 +11,16 @@ mod bursts;
 mod byte_units;
 mod bytes;
 mod carry;
-mod commit;
-mod committed;
 mod conditions;
 mod dispatch;
+mod done;
 mod ending;
 mod ends;
 mod fetch_page;
 mod fetches;
+mod has_deed;
 mod in_place;
 mod instruction;
-mod instructions;
 mod jumps;
 mod laws;
 mod moves;
@@ -32,6 +31,7 @@ mod pointed;
 mod program_words;
 mod references;
 mod registers;
+mod rows;
 mod slow;
 mod spots;
 mod stacks;
@@ -45,17 +45,15 @@ pub use acts::{Act, act_at};
 pub use addresses::address_of;
 pub use bursts::burst;
 pub use bytes::{
-    ByteStep, byte_step, commit_deposit, commit_first_part, commit_increment, commit_load,
-    forget_first_part,
+    ByteStep, byte_step, do_deposit, do_first_part, do_increment, do_load, forget_first_part,
 };
-pub use commit::commit_row;
-pub use committed::{Committed, Post};
 pub use conditions::{AddOne, Compare, JumpSkip, SubOne};
-pub use ending::{Burst, End, Quick};
+pub use done::{Done, Post};
+pub use ending::{Burst, BurstEnd, Quick};
 pub use ends::Ending;
 pub use fetch_page::FetchPage;
+pub use has_deed::HasDeed;
 pub use in_place::quick;
-pub use instructions::Commit;
 pub use jumps::{Aobj, Jfcl, Jffo, Jrst, JsaJra, JsrJsp};
 pub use laws::{
     blocks_are_copied, blocks_move_by_words, exchanged_words_change_places, pushed_calls_return,
@@ -66,6 +64,7 @@ pub use operands::{Destination, destination_of, operand_address};
 pub use operations::{Operation, Shift};
 pub use plans::{Planned, plan};
 pub use program_words::{flags_of, half_of_flags, pc_word};
+pub use rows::do_row;
 pub use slow::{Outcome, slow_unit};
 pub use stacks::{Popj, PushPop, Pushj, pushed};
 pub use taken::{Stop, Taken};

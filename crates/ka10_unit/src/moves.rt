@@ -3,9 +3,9 @@ ghost use Rattle.std.specs.Prelude.{◌≡◌};
 ghost use Rattle.word36.specs.Arithmetic.{IsArithmetic};
 ghost use Rattle.ka10_table.specs.declared.families.Family.TheVariants as family;
 
-use crate::committed::{Committed, Post};
-use crate::instructions::Commit;
-use crate::operations::commit_operation;
+use crate::done::{Done, Post};
+use crate::has_deed::HasDeed;
+use crate::operations::do_operation;
 use crate::registers::{behind, next, set, word_in};
 use ka10_alu::arith;
 use ka10_table::{OpMode, TableRow};
@@ -20,14 +20,14 @@ pub struct Move {
     pub row: TableRow,
 }
 
-impl Commit for Move {
+impl HasDeed for Move {
     ghost instruction = { λ i. record { op = i.op; row = i.row } };
 
     ghost is_valid = { λ i. (i.row.family ≡ family.Move) × (IsArithmetic i.op) };
 
     #[inline(always)]
     #[tactic(auto, unfolding(plain_units::specs::Deeds::deed_of))]
-    fn commit(self, regs: &mut Regs, ac: u8, e: u32, last: Word, m: Word) -> Committed {
+    fn do_deed(self, regs: &mut Regs, ac: u8, e: u32, last: Word, m: Word) -> Done {
         match self.row.mode {
             OpMode::Memory => {
                 let a = word_in(regs, ac);
@@ -35,18 +35,18 @@ impl Commit for Move {
                 match arith(self.op, a, word_in(regs, behind(ac)), a) {
                     Some(out) => {
                         set(regs, out.flags);
-                        Committed {
+                        Done {
                             stored: Some(out.word),
                             post: Post::overflow(out.flags.overflow),
                         }
                     }
-                    None => Committed::NOTHING,
+                    None => Done::NOTHING,
                 }
             },
-            OpMode::Basic => commit_operation(OpMode::Basic, self.op, regs, ac, e, m),
-            OpMode::Immediate => commit_operation(OpMode::Immediate, self.op, regs, ac, e, m),
-            OpMode::Both => commit_operation(OpMode::Both, self.op, regs, ac, e, m),
-            OpMode::Own => commit_operation(OpMode::Own, self.op, regs, ac, e, m),
+            OpMode::Basic => do_operation(OpMode::Basic, self.op, regs, ac, e, m),
+            OpMode::Immediate => do_operation(OpMode::Immediate, self.op, regs, ac, e, m),
+            OpMode::Both => do_operation(OpMode::Both, self.op, regs, ac, e, m),
+            OpMode::Own => do_operation(OpMode::Own, self.op, regs, ac, e, m),
         }
     }
 }

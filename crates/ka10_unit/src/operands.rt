@@ -2,7 +2,7 @@
 ghost use Rattle.std.specs.Prelude.{◌≡◌, ℕ, ◌^◌, ◌<◌, IfSome, IsSome, Option};
 ghost use Rattle.word36.specs.Arithmetic.{Outcome};
 ghost use Rattle.plain_units.specs.Deeds.{by_mode, deed_of, moved_from, moves, moves_half, of_second_eight, operand_of, operands, operated, taken_of};
-ghost use Rattle.ka10_unit.specs.Commits.{LiesBelow, store_at, stored_word};
+ghost use Rattle.ka10_unit.specs.Done.{LiesBelow, store_at, stored_word};
 ghost use Rattle.ka10_unit.specs.Planning.{GoesBack};
 
 use crate::registers::word_in;
@@ -88,7 +88,7 @@ fn address_behind_eight(code: u8, e: u32) -> Option<u32>
 }
 
 /// Where the instruction of a row stores a word, if it stores one: whether it does is told once it
-/// is committed, since a division that isn't done stores none.
+/// is done, since a division that isn't done stores none.
 #[tactic(auto, unfolding(plain_units::specs::Deeds::deed_of, plain_units::specs::Deeds::taken_of))]
 pub fn destination_of(row: TableRow, regs: &Regs, ac: u8, e: u32) -> Destination
     requires ac { ac < 16 }

@@ -4,10 +4,10 @@ ghost use Rattle.word36.specs.Arithmetic.{IsArithmetic, arithmetic};
 ghost use Rattle.word36.specs.Shifts.{IsShift};
 ghost use Rattle.plain_units.specs.Deeds.{behind_ac, in_ac, operated};
 ghost use Rattle.ka10_unit.specs.Acts.{IsOperation, IsShiftOfWords};
-ghost use Rattle.ka10_unit.specs.Commits.{Leaves, outcome_of};
+ghost use Rattle.ka10_unit.specs.Done.{Leaves, outcome_of};
 
-use crate::committed::{Committed, Post};
-use crate::instructions::Commit;
+use crate::done::{Done, Post};
+use crate::has_deed::HasDeed;
 use crate::registers::{behind, give, give_next, next, set, stored_in, word_in};
 use ka10_alu::{Out, arith, shift};
 use ka10_table::{OpMode, TableRow};
@@ -16,7 +16,7 @@ use word36::Word;
 
 /// What an operation gave, in its mode.
 #[inline(always)]
-pub fn commit_out(mode: OpMode, regs: &mut Regs, ac: u8, e: u32, out: Out) -> Committed
+fn leave_out(mode: OpMode, regs: &mut Regs, ac: u8, e: u32, out: Out) -> Done
     requires pc { regs.old.pc < 2 ^ 18 }
     requires ac { ac < 16 }
     ensures { Leaves (operated mode regs.old ac e (Some (outcome_of out))) ac regs.old regs.new result }
@@ -25,7 +25,7 @@ pub fn commit_out(mode: OpMode, regs: &mut Regs, ac: u8, e: u32, out: Out) -> Co
     set(regs, out.flags);
     give(mode, regs, ac, out.word);
     give_next(mode, regs, ac, out.low);
-    Committed {
+    Done {
         stored: stored_in(mode, out.word),
         post: Post::overflow(out.flags.overflow),
     }
@@ -33,14 +33,14 @@ pub fn commit_out(mode: OpMode, regs: &mut Regs, ac: u8, e: u32, out: Out) -> Co
 
 /// A division that isn't done sets flags alone.
 #[inline(always)]
-pub fn commit_undone(regs: &mut Regs) -> Committed
+fn leave_undone(regs: &mut Regs) -> Done
     requires { regs.old.pc < 2 ^ 18 }
     ensures { (mode : OpMode) (ac e : ℕ) → Leaves (operated mode regs.old ac e None) ac regs.old regs.new result }
 {
     regs.pc = next(regs);
     regs.flags.overflow = true;
     regs.flags.nodiv = true;
-    Committed {
+    Done {
         stored: None,
         post: Post::Overflow,
     }
@@ -48,22 +48,15 @@ pub fn commit_undone(regs: &mut Regs) -> Committed
 
 /// An operation on the accumulator and the operand, in one of its modes.
 #[inline(always)]
-pub fn commit_operation(
-    mode: OpMode,
-    op: u16,
-    regs: &mut Regs,
-    ac: u8,
-    e: u32,
-    m: Word,
-) -> Committed
+pub fn do_operation(mode: OpMode, op: u16, regs: &mut Regs, ac: u8, e: u32, m: Word) -> Done
     requires op { IsArithmetic op }
     requires pc { regs.old.pc < 2 ^ 18 }
     requires ac { ac < 16 }
     ensures { Leaves (operated mode regs.old ac e (arithmetic op (in_ac regs.old ac) (in_ac regs.old (behind_ac ac)) m)) ac regs.old regs.new result }
 {
     match arith(op, word_in(regs, ac), word_in(regs, behind(ac)), m) {
-        Some(out) => commit_out(mode, regs, ac, e, out),
-        None => commit_undone(regs),
+        Some(out) => leave_out(mode, regs, ac, e, out),
+        None => leave_undone(regs),
     }
 }
 
@@ -74,15 +67,15 @@ pub struct Operation {
     pub row: TableRow,
 }
 
-impl Commit for Operation {
+impl HasDeed for Operation {
     ghost instruction = { λ i. record { op = i.op; row = i.row } };
 
     ghost is_valid = { λ i. (IsOperation i.row.family) × (IsArithmetic i.op) };
 
     #[inline(always)]
     #[tactic(auto, unfolding(plain_units::specs::Deeds::deed_of))]
-    fn commit(self, regs: &mut Regs, ac: u8, e: u32, last: Word, m: Word) -> Committed {
-        commit_operation(self.row.mode, self.op, regs, ac, e, m)
+    fn do_deed(self, regs: &mut Regs, ac: u8, e: u32, last: Word, m: Word) -> Done {
+        do_operation(self.row.mode, self.op, regs, ac, e, m)
     }
 }
 
@@ -94,15 +87,15 @@ pub struct Shift {
     pub row: TableRow,
 }
 
-impl Commit for Shift {
+impl HasDeed for Shift {
     ghost instruction = { λ i. record { op = i.op; row = i.row } };
 
     ghost is_valid = { λ i. (IsShiftOfWords i.row.family) × (IsShift i.op) };
 
     #[inline(always)]
     #[tactic(auto, unfolding(plain_units::specs::Deeds::deed_of))]
-    fn commit(self, regs: &mut Regs, ac: u8, e: u32, last: Word, m: Word) -> Committed {
+    fn do_deed(self, regs: &mut Regs, ac: u8, e: u32, last: Word, m: Word) -> Done {
         let out = shift(self.op, word_in(regs, ac), word_in(regs, behind(ac)), e);
-        commit_out(OpMode::Basic, regs, ac, e, out)
+        leave_out(OpMode::Basic, regs, ac, e, out)
     }
 }

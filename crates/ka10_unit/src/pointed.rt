@@ -8,8 +8,7 @@ ghost use Rattle.ka10_unit.specs.Taking.{HasSpare, StopsFor};
 
 use crate::addresses::address_of;
 use crate::bytes::{
-    ByteStep, byte_step, commit_deposit, commit_first_part, commit_increment, commit_load,
-    forget_first_part,
+    ByteStep, byte_step, do_deposit, do_first_part, do_increment, do_load, forget_first_part,
 };
 use crate::ends::{Ending, finish};
 use crate::operands::Destination;
@@ -38,7 +37,7 @@ fn load_byte<P: Pages>(
     let address = address_of(taken, regs, pages, pointer)?;
     let word = refer(taken, regs, pages, address.e, Kind::Read)?;
     let mut after = *regs;
-    let told = commit_load(&mut after, ac, pointer, word);
+    let told = do_load(&mut after, ac, pointer, word);
     finish(taken, regs, pages, after, ac, Destination::Nowhere, told)
 }
 
@@ -61,7 +60,7 @@ fn deposit_byte<P: Pages>(
     let address = address_of(taken, regs, pages, pointer)?;
     let word = refer(taken, regs, pages, address.e, Kind::Read)?;
     let mut after = *regs;
-    let told = commit_deposit(&mut after, ac, pointer, address.e, word);
+    let told = do_deposit(&mut after, ac, pointer, address.e, word);
     let to = Destination::Back(address.e);
     finish(taken, regs, pages, after, ac, to, told)
 }
@@ -98,12 +97,12 @@ pub fn byte_instruction<P: Pages>(
     match byte_step(code, regs) {
         ByteStep::Increment => {
             let mut after = *regs;
-            let told = commit_increment(&mut after, ac, e, pointer);
+            let told = do_increment(&mut after, ac, e, pointer);
             finish(taken, regs, pages, after, ac, Destination::Back(e), told)
         }
         ByteStep::FirstPart => {
             let mut after = *regs;
-            let told = commit_first_part(&mut after, ac, e, pointer);
+            let told = do_first_part(&mut after, ac, e, pointer);
             finish(taken, regs, pages, after, ac, Destination::Back(e), told)
         }
         ByteStep::Load => load_byte(taken, regs, pages, ac, pointer),

@@ -1,10 +1,10 @@
-// The steps of commits: the program counter, flags, accumulators.
+// The steps of deeds: the program counter, flags, accumulators.
 ghost use Rattle.std.specs.Prelude.{◌≡◌, ℕ, ◌+◌, ◌%◌, ◌^◌, ◌<◌, if◌then◌else◌};
 ghost use Rattle.plain_units.specs.Deeds.{behind_ac, by_mode, in_ac, next_pc, set_with, skip_pc, to_ac, to_e, to_next, unless_zero};
 ghost use Rattle.plain_units.specs.Instructions.{with_deed, with_word};
-ghost use Rattle.ka10_unit.specs.Commits.{Leaves, stored_word};
+ghost use Rattle.ka10_unit.specs.Done.{Leaves, stored_word};
 
-use crate::committed::{Committed, Post};
+use crate::done::{Done, Post};
 use ka10_table::OpMode;
 use plain_units::Regs;
 use word36::{Flags, Word};
@@ -134,14 +134,14 @@ pub fn stored_in(mode: OpMode, word: Word) -> Option<Word>
 
 /// A result in its mode, with the next instruction.
 #[inline(always)]
-pub fn commit_result(mode: OpMode, regs: &mut Regs, ac: u8, e: u32, word: Word) -> Committed
+pub fn leave_result(mode: OpMode, regs: &mut Regs, ac: u8, e: u32, word: Word) -> Done
     requires pc { regs.old.pc < 2 ^ 18 }
     requires ac { ac < 16 }
     ensures { Leaves (by_mode mode regs.old ac e word) ac regs.old regs.new result }
 {
     regs.pc = next(regs);
     give(mode, regs, ac, word);
-    Committed {
+    Done {
         stored: stored_in(mode, word),
         post: Post::Nothing,
     }

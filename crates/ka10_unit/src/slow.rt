@@ -5,7 +5,7 @@ ghost use Rattle.ka10_unit.specs.Carrying.{Slowly};
 ghost use Rattle.ka10_unit.specs.Gathers.{Serves};
 
 use crate::carry::carry;
-use crate::committed::Post;
+use crate::done::Post;
 use crate::plans::{Planned, plan};
 use crate::taken::Taken;
 use machine_names::ForkName;

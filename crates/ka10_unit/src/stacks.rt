@@ -6,8 +6,8 @@ ghost use Rattle.ka10_table.specs.declared.families.OpMode.TheVariants.{Basic};
 ghost use Rattle.plain_units.specs.Deeds.{down, in_ac, up};
 ghost use Rattle.ka10_unit.specs.Acts.{one};
 
-use crate::committed::{Committed, Post};
-use crate::instructions::Commit;
+use crate::done::{Done, Post};
+use crate::has_deed::HasDeed;
 use crate::program_words::pc_word;
 use crate::registers::{next, word_in};
 use plain_units::Regs;
@@ -53,20 +53,20 @@ pub fn pushed(regs: &Regs, ac: u8) -> Word
 #[derive(Clone, Copy)]
 pub struct Pushj;
 
-impl Commit for Pushj {
+impl HasDeed for Pushj {
     ghost instruction = { λ i. one 0o260 family.Pushj Basic 0 };
 
     ghost is_valid = { λ i. Unit {0} };
 
     #[inline(always)]
     #[tactic(auto, unfolding(plain_units::specs::Deeds::deed_of))]
-    fn commit(self, regs: &mut Regs, ac: u8, e: u32, last: Word, m: Word) -> Committed {
+    fn do_deed(self, regs: &mut Regs, ac: u8, e: u32, last: Word, m: Word) -> Done {
         let word = pc_word(regs);
         let top = pushed(regs, ac);
         regs.ac[ac as usize] = top;
         regs.flags.bis = false;
         regs.pc = e;
-        Committed {
+        Done {
             stored: Some(word),
             post: Post::pushdown(0, top),
         }
@@ -80,26 +80,26 @@ pub struct PushPop {
     pub code: u8,
 }
 
-impl Commit for PushPop {
+impl HasDeed for PushPop {
     ghost instruction = { λ i. one (0o261 + i.code) family.PushPop Basic i.code };
 
     ghost is_valid = { λ i. Unit {0} };
 
     #[inline(always)]
     #[tactic(auto, unfolding(plain_units::specs::Deeds::deed_of))]
-    fn commit(self, regs: &mut Regs, ac: u8, e: u32, last: Word, m: Word) -> Committed {
+    fn do_deed(self, regs: &mut Regs, ac: u8, e: u32, last: Word, m: Word) -> Done {
         regs.pc = next(regs);
         if self.code == 0 {
             let top = pushed(regs, ac);
             regs.ac[ac as usize] = top;
-            Committed {
+            Done {
                 stored: Some(m),
                 post: Post::pushdown(0, top),
             }
         } else {
             let top = down(word_in(regs, ac));
             regs.ac[ac as usize] = top;
-            Committed {
+            Done {
                 stored: Some(m),
                 post: Post::pushdown(Word::HALF_MASK, top),
             }
@@ -111,18 +111,18 @@ impl Commit for PushPop {
 #[derive(Clone, Copy)]
 pub struct Popj;
 
-impl Commit for Popj {
+impl HasDeed for Popj {
     ghost instruction = { λ i. one 0o263 family.Popj Basic 0 };
 
     ghost is_valid = { λ i. Unit {0} };
 
     #[inline(always)]
     #[tactic(auto, unfolding(plain_units::specs::Deeds::deed_of))]
-    fn commit(self, regs: &mut Regs, ac: u8, e: u32, last: Word, m: Word) -> Committed {
+    fn do_deed(self, regs: &mut Regs, ac: u8, e: u32, last: Word, m: Word) -> Done {
         let top = down(word_in(regs, ac));
         regs.ac[ac as usize] = top;
         regs.pc = m.right();
-        Committed {
+        Done {
             stored: None,
             post: Post::pushdown(Word::HALF_MASK, top),
         }

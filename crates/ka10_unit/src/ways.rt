@@ -8,8 +8,8 @@ ghost use Rattle.ka10_unit.specs.Stores.{GoesTo, IsNowhere};
 ghost use Rattle.ka10_unit.specs.Targets.{unstored, operand, place_of, target_of};
 
 use crate::ending::{Quick, ended};
+use crate::has_deed::HasDeed;
 use crate::instruction::Instruction;
-use crate::instructions::Commit;
 use crate::spots::{load, spot_to_change, spot_to_write, store, take};
 use machine_names::Kind;
 use page_contracts::{Pages, SpaceHandle};
@@ -18,27 +18,27 @@ use word36::Word;
 
 /// A deed that stores no word.
 #[inline(always)]
-fn finish<C: Commit, P: Pages>(
-    c: C,
+fn finish<D: HasDeed, P: Pages>(
+    deed: D,
     it: Instruction,
     regs: &mut Regs,
     pages: &P,
     space: SpaceHandle,
     m: Word,
 ) -> Quick
-    requires valid { C.is_valid c }
-    requires nowhere { IsNowhere (deed_in (C.instruction c) regs.old it.ac it.e it.last m).store }
+    requires valid { D.is_valid deed }
+    requires nowhere { IsNowhere (deed_in (D.instruction deed) regs.old it.ac it.e it.last m).store }
     requires pc { regs.old.pc < 2 ^ 18 }
-    ensures { InPlace P.means space (Finish regs.old it.ac (deed_in (C.instruction c) regs.old it.ac it.e it.last m)) pages.now pages.now regs.old regs.new result }
+    ensures { InPlace P.means space (Finish regs.old it.ac (deed_in (D.instruction deed) regs.old it.ac it.e it.last m)) pages.now pages.now regs.old regs.new result }
 {
-    let told = c.commit(regs, it.ac, it.e, it.last, m);
+    let told = deed.do_deed(regs, it.ac, it.e, it.last, m);
     ended(told.post)
 }
 
 /// A deed that stores at an address, if it stores.
 #[inline(always)]
-fn finish_at<C: Commit, P: Pages>(
-    c: C,
+fn finish_at<D: HasDeed, P: Pages>(
+    deed: D,
     it: Instruction,
     regs: &mut Regs,
     pages: &mut P,
@@ -46,17 +46,17 @@ fn finish_at<C: Commit, P: Pages>(
     m: Word,
     to: u32,
 ) -> Quick
-    requires valid { C.is_valid c }
+    requires valid { D.is_valid deed }
     requires space { HasSpace P.means pages.old space }
-    requires to { GoesTo to (deed_in (C.instruction c) regs.old it.ac it.e it.last m).store }
+    requires to { GoesTo to (deed_in (D.instruction deed) regs.old it.ac it.e it.last m).store }
     requires address { IsAddress to }
     requires pc { regs.old.pc < 2 ^ 18 }
-    ensures { InPlace P.means space (Finish regs.old it.ac (deed_in (C.instruction c) regs.old it.ac it.e it.last m)) pages.old pages.new regs.old regs.new result }
+    ensures { InPlace P.means space (Finish regs.old it.ac (deed_in (D.instruction deed) regs.old it.ac it.e it.last m)) pages.old pages.new regs.old regs.new result }
 {
     match spot_to_write(pages, space, to) {
         None => Quick::Slow,
         Some(spot) => {
-            let told = c.commit(regs, it.ac, it.e, it.last, m);
+            let told = deed.do_deed(regs, it.ac, it.e, it.last, m);
             store(regs, pages, space, spot, to, told.stored);
             ended(told.post)
         }
@@ -65,78 +65,78 @@ fn finish_at<C: Commit, P: Pages>(
 
 /// The operand is 0,,E, and no word is stored.
 #[inline(always)]
-pub fn bare<C: Commit, P: Pages>(
-    c: C,
+pub fn bare<D: HasDeed, P: Pages>(
+    deed: D,
     it: Instruction,
     regs: &mut Regs,
     pages: &mut P,
     space: SpaceHandle,
 ) -> Quick
-    requires valid { C.is_valid c }
-    requires row { IsOwnRow (C.instruction c) }
-    requires deed { is_deed (C.instruction c).row.family it.ac ≡ true }
+    requires valid { D.is_valid deed }
+    requires row { IsOwnRow (D.instruction deed) }
+    requires deed { is_deed (D.instruction deed).row.family it.ac ≡ true }
     requires space { HasSpace P.means pages.old space }
-    requires taken { taken_in (C.instruction c) regs.old it.ac it.e ≡ None }
-    requires nowhere { target_of (C.instruction c).row ≡ unstored }
+    requires taken { taken_in (D.instruction deed) regs.old it.ac it.e ≡ None }
+    requires nowhere { target_of (D.instruction deed).row ≡ unstored }
     requires pc { regs.old.pc < 2 ^ 18 }
-    ensures { InPlace P.means space (Addressee (C.instruction c).op regs.old it.ac it.e it.last) pages.old pages.new regs.old regs.new result }
+    ensures { InPlace P.means space (Addressee (D.instruction deed).op regs.old it.ac it.e it.last) pages.old pages.new regs.old regs.new result }
 {
-    finish(c, it, regs, pages, space, Word::join(0, it.e))
+    finish(deed, it, regs, pages, space, Word::join(0, it.e))
 }
 
 /// The word at an address is taken, and none is stored.
 #[inline(always)]
-pub fn read<C: Commit, P: Pages>(
-    c: C,
+pub fn read<D: HasDeed, P: Pages>(
+    deed: D,
     it: Instruction,
     regs: &mut Regs,
     pages: &mut P,
     space: SpaceHandle,
     from: u32,
 ) -> Quick
-    requires valid { C.is_valid c }
-    requires row { IsOwnRow (C.instruction c) }
-    requires deed { is_deed (C.instruction c).row.family it.ac ≡ true }
+    requires valid { D.is_valid deed }
+    requires row { IsOwnRow (D.instruction deed) }
+    requires deed { is_deed (D.instruction deed).row.family it.ac ≡ true }
     requires space { HasSpace P.means pages.old space }
-    requires taken { taken_in (C.instruction c) regs.old it.ac it.e ≡ Some from }
-    requires nowhere { target_of (C.instruction c).row ≡ unstored }
+    requires taken { taken_in (D.instruction deed) regs.old it.ac it.e ≡ Some from }
+    requires nowhere { target_of (D.instruction deed).row ≡ unstored }
     requires from { IsAddress from }
     requires pc { regs.old.pc < 2 ^ 18 }
-    ensures { InPlace P.means space (Addressee (C.instruction c).op regs.old it.ac it.e it.last) pages.old pages.new regs.old regs.new result }
+    ensures { InPlace P.means space (Addressee (D.instruction deed).op regs.old it.ac it.e it.last) pages.old pages.new regs.old regs.new result }
 {
     match take(regs, pages, space, from, Kind::Read) {
         None => Quick::Slow,
-        Some(m) => finish(c, it, regs, pages, space, m),
+        Some(m) => finish(deed, it, regs, pages, space, m),
     }
 }
 
 /// The operand is 0,,E, and a word is stored at an address.
 #[inline(always)]
-pub fn write<C: Commit, P: Pages>(
-    c: C,
+pub fn write<D: HasDeed, P: Pages>(
+    deed: D,
     it: Instruction,
     regs: &mut Regs,
     pages: &mut P,
     space: SpaceHandle,
     to: u32,
 ) -> Quick
-    requires valid { C.is_valid c }
-    requires row { IsOwnRow (C.instruction c) }
-    requires deed { is_deed (C.instruction c).row.family it.ac ≡ true }
+    requires valid { D.is_valid deed }
+    requires row { IsOwnRow (D.instruction deed) }
+    requires deed { is_deed (D.instruction deed).row.family it.ac ≡ true }
     requires space { HasSpace P.means pages.old space }
-    requires taken { taken_in (C.instruction c) regs.old it.ac it.e ≡ None }
-    requires to { place_of (target_of (C.instruction c).row) (in_ac regs.old it.ac) it.e ≡ Some to }
+    requires taken { taken_in (D.instruction deed) regs.old it.ac it.e ≡ None }
+    requires to { place_of (target_of (D.instruction deed).row) (in_ac regs.old it.ac) it.e ≡ Some to }
     requires address { IsAddress to }
     requires pc { regs.old.pc < 2 ^ 18 }
-    ensures { InPlace P.means space (Addressee (C.instruction c).op regs.old it.ac it.e it.last) pages.old pages.new regs.old regs.new result }
+    ensures { InPlace P.means space (Addressee (D.instruction deed).op regs.old it.ac it.e it.last) pages.old pages.new regs.old regs.new result }
 {
-    finish_at(c, it, regs, pages, space, Word::join(0, it.e), to)
+    finish_at(deed, it, regs, pages, space, Word::join(0, it.e), to)
 }
 
 /// The word at an address is taken, and one is stored at another.
 #[inline(always)]
-pub fn transfer<C: Commit, P: Pages>(
-    c: C,
+pub fn transfer<D: HasDeed, P: Pages>(
+    deed: D,
     it: Instruction,
     regs: &mut Regs,
     pages: &mut P,
@@ -144,46 +144,46 @@ pub fn transfer<C: Commit, P: Pages>(
     from: u32,
     to: u32,
 ) -> Quick
-    requires valid { C.is_valid c }
-    requires row { IsOwnRow (C.instruction c) }
-    requires deed { is_deed (C.instruction c).row.family it.ac ≡ true }
+    requires valid { D.is_valid deed }
+    requires row { IsOwnRow (D.instruction deed) }
+    requires deed { is_deed (D.instruction deed).row.family it.ac ≡ true }
     requires space { HasSpace P.means pages.old space }
-    requires taken { taken_in (C.instruction c) regs.old it.ac it.e ≡ Some from }
-    requires to { place_of (target_of (C.instruction c).row) (in_ac regs.old it.ac) it.e ≡ Some to }
+    requires taken { taken_in (D.instruction deed) regs.old it.ac it.e ≡ Some from }
+    requires to { place_of (target_of (D.instruction deed).row) (in_ac regs.old it.ac) it.e ≡ Some to }
     requires from { IsAddress from }
     requires address { IsAddress to }
     requires pc { regs.old.pc < 2 ^ 18 }
-    ensures { InPlace P.means space (Addressee (C.instruction c).op regs.old it.ac it.e it.last) pages.old pages.new regs.old regs.new result }
+    ensures { InPlace P.means space (Addressee (D.instruction deed).op regs.old it.ac it.e it.last) pages.old pages.new regs.old regs.new result }
 {
     match take(regs, pages, space, from, Kind::Read) {
         None => Quick::Slow,
-        Some(m) => finish_at(c, it, regs, pages, space, m, to),
+        Some(m) => finish_at(deed, it, regs, pages, space, m, to),
     }
 }
 
 /// The word at E is taken, and one is stored there, if the operation is done.
 #[inline(always)]
-pub fn replace<C: Commit, P: Pages>(
-    c: C,
+pub fn replace<D: HasDeed, P: Pages>(
+    deed: D,
     it: Instruction,
     regs: &mut Regs,
     pages: &mut P,
     space: SpaceHandle,
 ) -> Quick
-    requires valid { C.is_valid c }
-    requires row { IsOwnRow (C.instruction c) }
-    requires deed { is_deed (C.instruction c).row.family it.ac ≡ true }
+    requires valid { D.is_valid deed }
+    requires row { IsOwnRow (D.instruction deed) }
+    requires deed { is_deed (D.instruction deed).row.family it.ac ≡ true }
     requires space { HasSpace P.means pages.old space }
-    requires taken { taken_in (C.instruction c) regs.old it.ac it.e ≡ Some it.e }
-    requires to { target_of (C.instruction c).row ≡ operand }
+    requires taken { taken_in (D.instruction deed) regs.old it.ac it.e ≡ Some it.e }
+    requires to { target_of (D.instruction deed).row ≡ operand }
     requires pc { regs.old.pc < 2 ^ 18 }
-    ensures { InPlace P.means space (Addressee (C.instruction c).op regs.old it.ac it.e it.last) pages.old pages.new regs.old regs.new result }
+    ensures { InPlace P.means space (Addressee (D.instruction deed).op regs.old it.ac it.e it.last) pages.old pages.new regs.old regs.new result }
 {
     match spot_to_change(pages, space, it.e) {
         None => Quick::Slow,
         Some(spot) => {
             let m = load(regs, pages, space, spot, it.e);
-            let told = c.commit(regs, it.ac, it.e, it.last, m);
+            let told = deed.do_deed(regs, it.ac, it.e, it.last, m);
             store(regs, pages, space, spot, it.e, told.stored);
             ended(told.post)
         }

@@ -8,9 +8,9 @@ ghost use Rattle.ka10_table.specs.declared.families.OpMode.TheVariants.{Basic};
 ghost use Rattle.plain_units.specs.Deeds.{halves_up};
 ghost use Rattle.ka10_unit.specs.Acts.{one};
 
-use crate::committed::Committed;
-use crate::instructions::Commit;
-use crate::registers::{commit_result, next, skip_if, word_in};
+use crate::done::Done;
+use crate::has_deed::HasDeed;
+use crate::registers::{leave_result, next, skip_if, word_in};
 use ka10_alu::{boolean, half, mask, test};
 use ka10_table::{OpMode, TableRow};
 use plain_units::Regs;
@@ -23,16 +23,16 @@ pub struct Boolean {
     pub row: TableRow,
 }
 
-impl Commit for Boolean {
+impl HasDeed for Boolean {
     ghost instruction = { λ i. record { op = i.op; row = i.row } };
 
     ghost is_valid = { λ i. (i.row.family ≡ family.Boolean) × (IsBoolean i.op) };
 
     #[inline(always)]
     #[tactic(auto, unfolding(plain_units::specs::Deeds::deed_of))]
-    fn commit(self, regs: &mut Regs, ac: u8, e: u32, last: Word, m: Word) -> Committed {
+    fn do_deed(self, regs: &mut Regs, ac: u8, e: u32, last: Word, m: Word) -> Done {
         let word = boolean(self.op, word_in(regs, ac), m);
-        commit_result(self.row.mode, regs, ac, e, word)
+        leave_result(self.row.mode, regs, ac, e, word)
     }
 }
 
@@ -43,21 +43,21 @@ pub struct Half {
     pub row: TableRow,
 }
 
-impl Commit for Half {
+impl HasDeed for Half {
     ghost instruction = { λ i. record { op = i.op; row = i.row } };
 
     ghost is_valid = { λ i. (i.row.family ≡ family.Half) × (IsHalfwordMove i.op) };
 
     #[inline(always)]
     #[tactic(auto, unfolding(plain_units::specs::Deeds::deed_of))]
-    fn commit(self, regs: &mut Regs, ac: u8, e: u32, last: Word, m: Word) -> Committed {
+    fn do_deed(self, regs: &mut Regs, ac: u8, e: u32, last: Word, m: Word) -> Done {
         let a = word_in(regs, ac);
         match self.row.mode {
-            OpMode::Memory => commit_result(OpMode::Memory, regs, ac, e, half(self.op, a, m)),
-            OpMode::Own => commit_result(OpMode::Own, regs, ac, e, half(self.op, m, m)),
-            OpMode::Basic => commit_result(OpMode::Basic, regs, ac, e, half(self.op, m, a)),
-            OpMode::Immediate => commit_result(OpMode::Immediate, regs, ac, e, half(self.op, m, a)),
-            OpMode::Both => commit_result(OpMode::Both, regs, ac, e, half(self.op, m, a)),
+            OpMode::Memory => leave_result(OpMode::Memory, regs, ac, e, half(self.op, a, m)),
+            OpMode::Own => leave_result(OpMode::Own, regs, ac, e, half(self.op, m, m)),
+            OpMode::Basic => leave_result(OpMode::Basic, regs, ac, e, half(self.op, m, a)),
+            OpMode::Immediate => leave_result(OpMode::Immediate, regs, ac, e, half(self.op, m, a)),
+            OpMode::Both => leave_result(OpMode::Both, regs, ac, e, half(self.op, m, a)),
         }
     }
 }
@@ -69,18 +69,18 @@ pub struct Test {
     pub row: TableRow,
 }
 
-impl Commit for Test {
+impl HasDeed for Test {
     ghost instruction = { λ i. record { op = i.op; row = i.row } };
 
     ghost is_valid = { λ i. (i.row.family ≡ family.Test) × (IsTest i.op) };
 
     #[inline(always)]
     #[tactic(auto, unfolding(plain_units::specs::Deeds::deed_of))]
-    fn commit(self, regs: &mut Regs, ac: u8, e: u32, last: Word, m: Word) -> Committed {
+    fn do_deed(self, regs: &mut Regs, ac: u8, e: u32, last: Word, m: Word) -> Done {
         let (word, skips) = test(self.op, word_in(regs, ac), mask(self.op, m));
         regs.pc = skip_if(skips, regs);
         regs.ac[ac as usize] = word;
-        Committed::NOTHING
+        Done::NOTHING
     }
 }
 
@@ -88,18 +88,18 @@ impl Commit for Test {
 #[derive(Clone, Copy)]
 pub struct Exch;
 
-impl Commit for Exch {
+impl HasDeed for Exch {
     ghost instruction = { λ i. one 0o250 family.Exch Basic 0 };
 
     ghost is_valid = { λ i. Unit {0} };
 
     #[inline(always)]
     #[tactic(auto, unfolding(plain_units::specs::Deeds::deed_of))]
-    fn commit(self, regs: &mut Regs, ac: u8, e: u32, last: Word, m: Word) -> Committed {
+    fn do_deed(self, regs: &mut Regs, ac: u8, e: u32, last: Word, m: Word) -> Done {
         let word = word_in(regs, ac);
         regs.pc = next(regs);
         regs.ac[ac as usize] = m;
-        Committed::storing(word)
+        Done::storing(word)
     }
 }
 
@@ -119,14 +119,14 @@ fn halves_up(w: Word) -> Word
 #[derive(Clone, Copy)]
 pub struct Blt;
 
-impl Commit for Blt {
+impl HasDeed for Blt {
     ghost instruction = { λ i. one 0o251 family.Blt Basic 0 };
 
     ghost is_valid = { λ i. Unit {0} };
 
     #[inline(always)]
     #[tactic(auto, unfolding(plain_units::specs::Deeds::deed_of))]
-    fn commit(self, regs: &mut Regs, ac: u8, e: u32, last: Word, m: Word) -> Committed {
+    fn do_deed(self, regs: &mut Regs, ac: u8, e: u32, last: Word, m: Word) -> Done {
         let a = word_in(regs, ac);
         let to = a.right();
         let counted = if to == ac as u32 { m } else { a };
@@ -134,6 +134,6 @@ impl Commit for Blt {
         if e <= to {
             regs.pc = next(regs);
         }
-        Committed::storing(m)
+        Done::storing(m)
     }
 }

@@ -4,7 +4,7 @@ ghost use Rattle.plain_model.specs.declared.fork.Fork.{Fork as AFork};
 ghost use Rattle.plain_model.specs.Forks.{counted};
 ghost use Rattle.plain_model.specs.Interrupts.{posted, is_panic};
 ghost use Rattle.plain_model.specs.Calls.{posted_if};
-ghost use Rattle.ka10_unit.specs.Commits.{channel_of};
+ghost use Rattle.ka10_unit.specs.Done.{channel_of};
 ghost use Rattle.ka10_unit.specs.Gathers.{Serves};
 ghost use Rattle.plain_model.specs.Trees.{with_body};
 ghost use Rattle.monitor_core.specs.Limits.{CanUnit};
@@ -12,7 +12,7 @@ ghost use Rattle.monitor_core.specs.Shown.{FitsShown, FitsStop};
 ghost use Rattle.monitor_core.specs.ForkUnit.{HasRoom, Place as APlace, Ran, RanOne, fork_of, post_shown, units_over};
 
 use crate::shown::{Shown, Stop};
-use ka10_unit::{End, Outcome, Post, Taken, burst, slow_unit};
+use ka10_unit::{BurstEnd, Outcome, Post, Taken, burst, slow_unit};
 use machine_names::ForkName;
 use page_contracts::{Need, Pages};
 use plain_model::Body;
@@ -171,18 +171,18 @@ pub fn run_units<P: Pages>(
     let burst = burst(&mut body.regs, pages, space, most);
     body.units += u64::from(burst.units);
     match burst.end {
-        End::Most => Row {
+        BurstEnd::Most => Row {
             count: burst.units,
             last: Last::Shows(Shown::NOTHING),
         },
-        End::Overflow => Row {
+        BurstEnd::Overflow => Row {
             count: burst.units + 1,
             last: Last::Shows(ended(body, Post::Overflow)),
         },
-        End::Pushdown => Row {
+        BurstEnd::Pushdown => Row {
             count: burst.units + 1,
             last: Last::Shows(ended(body, Post::Pushdown)),
         },
-        End::Slow => one_more(body, fork, pages, taken, burst.units),
+        BurstEnd::Slow => one_more(body, fork, pages, taken, burst.units),
     }
 }

@@ -7,7 +7,7 @@ use crate::same::same_at;
 use crate::spaces::{first_page, space_of};
 use crate::top::{TOP, add_top};
 use flat_pages::{FlatSlots, FlatStore};
-use ka10_unit::{Burst, End, burst};
+use ka10_unit::{Burst, BurstEnd, burst};
 use machine_names::{Kind, Tty};
 use outside::Memory;
 use page_contracts::{Pages, SpaceHandle};
@@ -52,7 +52,7 @@ fn run<P: Pages>(pages: &mut P, program: &[(u32, u64)], is_chained: bool) -> (Bu
 
 /// A program and what it comes to: how many units post nothing, how the burst ends, the program
 /// counter then, and an accumulator with its word.
-type Row<'a> = (&'a [(u32, u64)], u32, End, u32, usize, u64);
+type Row<'a> = (&'a [(u32, u64)], u32, BurstEnd, u32, usize, u64);
 
 // What the program comes to, over new pages.
 fn left(alloc: Global, program: &[(u32, u64)], is_chained: bool) -> Result<(Burst, Regs), Memory> {
@@ -84,7 +84,7 @@ const PROGRAMS: [Row<'static>; 13] = [
             (0o103, 0o200100000200),
         ],
         4,
-        End::Slow,
+        BurstEnd::Slow,
         0o104,
         2,
         0o10,
@@ -97,7 +97,7 @@ const PROGRAMS: [Row<'static>; 13] = [
             (0o200, 0o472031542576),
         ],
         2,
-        End::Slow,
+        BurstEnd::Slow,
         0o101,
         2,
         0o116,
@@ -112,7 +112,7 @@ const PROGRAMS: [Row<'static>; 13] = [
             (0o202, 0o000000000033),
         ],
         5,
-        End::Slow,
+        BurstEnd::Slow,
         0o103,
         2,
         0o33,
@@ -126,7 +126,7 @@ const PROGRAMS: [Row<'static>; 13] = [
             (0o110, 0o777770000400),
         ],
         3,
-        End::Slow,
+        BurstEnd::Slow,
         0o102,
         1,
         0o777770000400,
@@ -135,7 +135,7 @@ const PROGRAMS: [Row<'static>; 13] = [
     (
         &[(0o100, 0o201140000003), (0o101, 0o367140000101)],
         4,
-        End::Slow,
+        BurstEnd::Slow,
         0o102,
         3,
         0,
@@ -148,7 +148,7 @@ const PROGRAMS: [Row<'static>; 13] = [
             (0o110, 0o377777777777),
         ],
         1,
-        End::Overflow,
+        BurstEnd::Overflow,
         0o102,
         1,
         0o400000000000,
@@ -161,7 +161,7 @@ const PROGRAMS: [Row<'static>; 13] = [
             (0o110, 0o777777000400),
         ],
         1,
-        End::Pushdown,
+        BurstEnd::Pushdown,
         0o102,
         1,
         0o000000000401,
@@ -174,15 +174,15 @@ const PROGRAMS: [Row<'static>; 13] = [
             (0o201, 0o000000000007),
         ],
         1,
-        End::Slow,
+        BurstEnd::Slow,
         0o101,
         1,
         7,
     ),
     // JSYS 74, a monitor call
-    (&[(0o100, 0o104000000074)], 0, End::Slow, 0o100, 1, 0),
+    (&[(0o100, 0o104000000074)], 0, BurstEnd::Slow, 0o100, 1, 0),
     // MOVE 1,5000, in a page that isn't made
-    (&[(0o100, 0o200040005000)], 0, End::Slow, 0o100, 1, 0),
+    (&[(0o100, 0o200040005000)], 0, BurstEnd::Slow, 0o100, 1, 0),
     // MOVE 1,110; JRST 1, where a JRST 102 stands then
     (
         &[
@@ -191,15 +191,15 @@ const PROGRAMS: [Row<'static>; 13] = [
             (0o110, 0o254000000102),
         ],
         3,
-        End::Slow,
+        BurstEnd::Slow,
         0o102,
         1,
         0o254000000102,
     ),
     // JRST 1100, to the same place of a page that isn't made
-    (&[(0o100, 0o254000001100)], 1, End::Slow, 0o1100, 1, 0),
+    (&[(0o100, 0o254000001100)], 1, BurstEnd::Slow, 0o1100, 1, 0),
     // JRST 100
-    (&[(0o100, 0o254000000100)], 100, End::Most, 0o100, 1, 0),
+    (&[(0o100, 0o254000000100)], 100, BurstEnd::Most, 0o100, 1, 0),
 ];
 
 #[test]

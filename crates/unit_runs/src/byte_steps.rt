@@ -3,8 +3,8 @@ ghost use Rattle.std.specs.Prelude.{◌<◌, ◌^◌};
 
 use crate::same::same_at;
 use ka10_unit::{
-    ByteStep, byte_step, commit_deposit, commit_first_part, commit_increment, commit_load,
-    flags_of, forget_first_part, half_of_flags,
+    ByteStep, byte_step, do_deposit, do_first_part, do_increment, do_load, flags_of,
+    forget_first_part, half_of_flags,
 };
 use plain_units::Regs;
 use word36::Word;
@@ -57,7 +57,7 @@ fn pointers(rt: HostRuntime) {
     let pointer = Word::wrapped(0o010700001000);
     let next = Some(Word::wrapped(0o350700001001));
     let mut regs = registers(5, NONE);
-    let told = commit_increment(&mut regs, 3, 0o2000, pointer);
+    let told = do_increment(&mut regs, 3, 0o2000, pointer);
     same_at(&rt, "incremented", told.stored, next);
     same_at(&rt, "incremented", standing(&regs), (0o101, NONE));
 }
@@ -67,7 +67,7 @@ fn first_parts(rt: HostRuntime) {
     let pointer = Word::wrapped(0o010700001000);
     let next = Some(Word::wrapped(0o350700001001));
     let mut regs = registers(5, NONE);
-    let told = commit_first_part(&mut regs, 3, 0o2000, pointer);
+    let told = do_first_part(&mut regs, 3, 0o2000, pointer);
     same_at(&rt, "first part", told.stored, next);
     same_at(&rt, "first part", standing(&regs), (0o100, FIRST));
     forget_first_part(&mut regs);
@@ -79,7 +79,7 @@ fn bytes_of_words(rt: HostRuntime) {
     let pointer = Word::wrapped(0o260700001000);
     let word = Word::wrapped(NAME);
     let mut regs = registers(0o102, FIRST);
-    let told = commit_deposit(&mut regs, 3, pointer, 0o1000, word);
+    let told = do_deposit(&mut regs, 3, pointer, 0o1000, word);
     same_at(
         &rt,
         "deposited",
@@ -92,7 +92,7 @@ fn bytes_of_words(rt: HostRuntime) {
         (regs.ac[3].value(), regs.pc),
         (0o102, 0o101),
     );
-    let told = commit_load(&mut regs, 3, pointer, word);
+    let told = do_load(&mut regs, 3, pointer, word);
     same_at(&rt, "loaded", told.stored, None);
     same_at(&rt, "loaded", (regs.ac[3].value(), regs.pc), (0o101, 0o102));
     same_at(&rt, "flags", half_of_flags(regs.flags), FIRST);

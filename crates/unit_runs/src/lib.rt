@@ -12,7 +12,7 @@ mod bursts;
 #[cfg(test)]
 mod byte_steps;
 #[cfg(test)]
-mod commits;
+mod deeds;
 #[cfg(test)]
 mod operands;
 #[cfg(test)]

@@ -3,7 +3,7 @@ use Rattle.plain_units.specs.declared.registers.Regs.{Regs}
 use Rattle.plain_units.specs.Instructions.{finishes}
 use Rattle.ka10_unit.specs.Bytes.{byte_deposited}
 use Rattle.ka10_unit.specs.ByteRests.{begun, deposited_word}
-use Rattle.ka10_unit.specs.Commits.{Leaves}
+use Rattle.ka10_unit.specs.Done.{Leaves}
 use Rattle.ka10_unit.proofs.Placing.{finish_behind}
 use Rattle.ka10_unit.proofs.ByteLemmas.{behind_word, begun_in_place, takes_begun}
 use Rattle.ka10_unit.proofs.Placing.{slow_in_place}
@@ -15,10 +15,10 @@ returns-in-Some g c =
     let regs = begun c.args.second c.args.regs.now in
     let p = c.args.p in
     let w = c.load-w.result in
-    let left : Leaves (byte_deposited regs c.args.it.ac p c.args.at w) c.args.it.ac regs c.commit_deposit-told.new.regs c.commit_deposit-told.result = subst (λ (r : Regs). Leaves (byte_deposited r c.args.it.ac p c.args.at w) c.args.it.ac r c.commit_deposit-told.new.regs c.commit_deposit-told.result) c.begin.ensures c.commit_deposit-told.ensures in
-    begun_in_place g.P.Pages.means c.args.space c.args.regs.now c.args.pages.now c.store.new.pages c.store.new.regs c.ended.result c.args.second 14 (deposited_word regs c.args.it.ac p c.args.at) c.commit_deposit-told.result.post c.ended.ensures
+    let left : Leaves (byte_deposited regs c.args.it.ac p c.args.at w) c.args.it.ac regs c.do_deposit-told.new.regs c.do_deposit-told.result = subst (λ (r : Regs). Leaves (byte_deposited r c.args.it.ac p c.args.at w) c.args.it.ac r c.do_deposit-told.new.regs c.do_deposit-told.result) c.begin.ensures c.do_deposit-told.ensures in
+    begun_in_place g.P.Pages.means c.args.space c.args.regs.now c.args.pages.now c.store.new.pages c.store.new.regs c.ended.result c.args.second 14 (deposited_word regs c.args.it.ac p c.args.at) c.do_deposit-told.result.post c.ended.ensures
     (behind_word g.P.Pages.means c.args.space regs c.args.pages.now c.store.new.pages c.store.new.regs c.ended.result 15 14 c.args.at w (λ x. finishes regs c.args.it.ac (byte_deposited regs c.args.it.ac p c.args.at x)) (lit< tt) (lit≤ tt)
-    (finish_behind g.P.Pages.means c.args.space regs c.commit_deposit-told.new.regs c.args.it.ac (byte_deposited regs c.args.it.ac p c.args.at w) c.commit_deposit-told.result left c.ended.result c.ended.ensures
+    (finish_behind g.P.Pages.means c.args.space regs c.do_deposit-told.new.regs c.args.it.ac (byte_deposited regs c.args.it.ac p c.args.at w) c.do_deposit-told.result left c.ended.result c.ended.ensures
     c.args.pages.now c.load-w.new.pages c.store.new.pages c.store.new.regs c.args.at refl c.in-Some.ensures.write c.load-w.ensures.only c.store.ensures)
     (λ d f fits is. takes_begun c.args.second f (g.P.Pages.means.plain c.args.pages.now d) c.args.regs.now c.args.at w (record { ready = c.in-Some.ensures.read d f fits is; is = c.load-w.ensures.told d f fits is })))
 

@@ -12,7 +12,7 @@ returns-in-Some g c =
     let regs = c.args.regs.now in
     let p = c.load-p.result in
     behind_word g.P.Pages.means c.args.space regs c.args.pages.now c.store.new.pages c.store.new.regs c.ended.result 15 13 c.args.it.e p (λ x. steps_of FirstPart regs c.args.it.ac c.args.it.e x) (lit< tt) (lit≤ tt)
-    (finish_behind g.P.Pages.means c.args.space regs c.commit_first_part-told.new.regs c.args.it.ac (first_part regs c.args.it.e p) c.commit_first_part-told.result c.commit_first_part-told.ensures c.ended.result c.ended.ensures
+    (finish_behind g.P.Pages.means c.args.space regs c.do_first_part-told.new.regs c.args.it.ac (first_part regs c.args.it.e p) c.do_first_part-told.result c.do_first_part-told.ensures c.ended.result c.ended.ensures
     c.args.pages.now c.load-p.new.pages c.store.new.pages c.store.new.regs c.args.it.e refl c.in-Some.ensures.write c.load-p.ensures.only c.store.ensures)
     (λ d f fits is. record { ready = c.in-Some.ensures.read d f fits is; is = c.load-p.ensures.told d f fits is })
 

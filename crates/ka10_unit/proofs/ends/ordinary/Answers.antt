@@ -12,7 +12,7 @@ pub returns-clause-told : goal.returns-clause-told
 returns-clause-told g c d f fits stands =
     let before = c.in_ok-m.ensures.told d f fits stands in
     does_ends _ _ _ _ _ _ c.args.row c.args.op c.args.ac c.args.address.now.e c.args.address.now.last c.in_ok-m.m c.args.regs.now _ _ c.operand_address-at.ensures.value before
-    (c.finish.ensures.told d f _ c.args.regs.now fits before.stands (done_row c.args.row c.args.op c.args.ac c.args.address.now.e c.args.address.now.last c.in_ok-m.m c.args.regs.now _ _ _ c.commit_row-told.ensures (c.destination_of-to.ensures.value c.args.op c.args.address.now.last c.in_ok-m.m)))
+    (c.finish.ensures.told d f _ c.args.regs.now fits before.stands (done_row c.args.row c.args.op c.args.ac c.args.address.now.e c.args.address.now.last c.in_ok-m.m c.args.regs.now _ _ _ c.do_row-told.ensures (c.destination_of-to.ensures.value c.args.op c.args.address.now.last c.in_ok-m.m)))
 
 pub finish-requires-clause-spare : goal.finish-requires-clause-spare
 finish-requires-clause-spare g c = λ back.

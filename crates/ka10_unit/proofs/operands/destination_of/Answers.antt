@@ -3,7 +3,7 @@ use Rattle.word36.specs.Arithmetic.{arithmetic}
 use Rattle.word36.specs.Boolean.{boolean_of}
 use Rattle.ka10_table.specs.declared.families.Family.{Family}
 use Rattle.plain_units.specs.Deeds.{Operands, behind_ac, deed_of, done_by, in_ac, operand_of, operands, taken_by, taken_of}
-use Rattle.ka10_unit.specs.Commits.{store_at, stored_word}
+use Rattle.ka10_unit.specs.Done.{store_at, stored_word}
 use Rattle.ka10_unit.proofs.operands.destination_of.Goals as goal
 
 pub returns-in-Imul-clause-value : goal.returns-in-Imul-clause-value

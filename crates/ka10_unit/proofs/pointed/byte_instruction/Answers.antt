@@ -12,7 +12,7 @@ pub returns-in-Increment-clause-told : goal.returns-in-Increment-clause-told
 returns-in-Increment-clause-told g c d f fits stands =
     let first = c.in_ok-pointer.ensures.told d f fits stands in
     let step = rw c.in-Increment.is at (c.byte_step.ensures c.args.ac c.args.e c.in_ok-pointer.pointer) in
-    pointer_ends _ _ _ _ _ _ c.args.code c.args.ac c.args.e _ c.args.regs.now _ _ first step (c.finish.ensures.told d f _ c.args.regs.now fits first.stands (done_back _ c.args.ac c.args.e _ c.args.regs.now _ _ c.commit_increment-told.ensures refl))
+    pointer_ends _ _ _ _ _ _ c.args.code c.args.ac c.args.e _ c.args.regs.now _ _ first step (c.finish.ensures.told d f _ c.args.regs.now fits first.stands (done_back _ c.args.ac c.args.e _ c.args.regs.now _ _ c.do_increment-told.ensures refl))
 
 pub returns-in-Load-clause-told : goal.returns-in-Load-clause-told
 returns-in-Load-clause-told g c d f fits stands =
@@ -24,7 +24,7 @@ pub returns-in-FirstPart-clause-told : goal.returns-in-FirstPart-clause-told
 returns-in-FirstPart-clause-told g c d f fits stands =
     let first = c.in_ok-pointer.ensures.told d f fits stands in
     let step = rw c.in-FirstPart.is at (c.byte_step.ensures c.args.ac c.args.e c.in_ok-pointer.pointer) in
-    pointer_ends _ _ _ _ _ _ c.args.code c.args.ac c.args.e _ c.args.regs.now _ _ first step (c.finish-in-FirstPart.ensures.told d f _ c.args.regs.now fits first.stands (done_back _ c.args.ac c.args.e _ c.args.regs.now _ _ c.commit_first_part-told.ensures refl))
+    pointer_ends _ _ _ _ _ _ c.args.code c.args.ac c.args.e _ c.args.regs.now _ _ first step (c.finish-in-FirstPart.ensures.told d f _ c.args.regs.now fits first.stands (done_back _ c.args.ac c.args.e _ c.args.regs.now _ _ c.do_first_part-told.ensures refl))
 
 pub returns-in-Deposit-clause-told : goal.returns-in-Deposit-clause-told
 returns-in-Deposit-clause-told g c d f fits stands =

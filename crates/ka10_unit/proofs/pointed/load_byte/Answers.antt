@@ -26,4 +26,4 @@ returns-clause-told g c d f fits stands =
     let second = c.in_ok-word.ensures.told d f fits first.stands in
     then_ends _ _ _ _ c.address_of.new.taken _ (reached c.args.regs.now.ac c.args.pointer) (λ a. refers a.e Read (λ w. finishes c.args.regs.now c.args.ac (byte_loaded c.args.regs.now c.args.pointer w))) _ _ first
     (then_ends _ _ _ c.address_of.new.taken _ _ (refers c.in_ok-address.address.e Read) (λ w. finishes c.args.regs.now c.args.ac (byte_loaded c.args.regs.now c.args.pointer w)) _ _ second
-    (c.finish.ensures.told d f _ c.args.regs.now fits second.stands (done_nowhere _ c.args.ac c.args.regs.now _ _ c.commit_load-told.ensures refl)))
+    (c.finish.ensures.told d f _ c.args.regs.now fits second.stands (done_nowhere _ c.args.ac c.args.regs.now _ _ c.do_load-told.ensures refl)))

@@ -4,5 +4,5 @@ use Rattle.ka10_unit.proofs.ways.finish.Goals as goal
 
 pub returns : goal.returns
 returns g c =
-    finish_in_place g.P.Pages.means c.args.space c.args.regs.now c.commit-told.new.regs c.args.it.ac (deed_in (g.C.Commit.instruction c.args.c) c.args.regs.now c.args.it.ac c.args.it.e c.args.it.last c.args.m)
-    c.commit-told.result c.commit-told.ensures c.ended.result c.ended.ensures c.args.pages.now c.requires.nowhere
+    finish_in_place g.P.Pages.means c.args.space c.args.regs.now c.do_deed-told.new.regs c.args.it.ac (deed_in (g.D.HasDeed.instruction c.args.deed) c.args.regs.now c.args.it.ac c.args.it.e c.args.it.last c.args.m)
+    c.do_deed-told.result c.do_deed-told.ensures c.ended.result c.ended.ensures c.args.pages.now c.requires.nowhere

@@ -15,10 +15,10 @@ store-requires-clause-spot g c = spot_still g.P.Pages.means c.args.space c.args.
 
 pub returns-in-Some : goal.returns-in-Some
 returns-in-Some g c =
-    let i = g.C.Commit.instruction c.args.c in
+    let i = g.D.HasDeed.instruction c.args.deed in
     let m = c.load-m.result in
     deed_in_place g.P.Pages.means c.args.space i c.args.it.ac c.args.it.e c.args.it.last m c.args.regs.now c.requires.row c.requires.deed c.args.pages.now c.store.new.pages c.store.new.regs c.ended.result
-    (finish_behind g.P.Pages.means c.args.space c.args.regs.now c.commit-told.new.regs c.args.it.ac (deed_in i c.args.regs.now c.args.it.ac c.args.it.e c.args.it.last m) c.commit-told.result c.commit-told.ensures c.ended.result c.ended.ensures
+    (finish_behind g.P.Pages.means c.args.space c.args.regs.now c.do_deed-told.new.regs c.args.it.ac (deed_in i c.args.regs.now c.args.it.ac c.args.it.e c.args.it.last m) c.do_deed-told.result c.do_deed-told.ensures c.ended.result c.ended.ensures
     c.args.pages.now c.load-m.new.pages c.store.new.pages c.store.new.regs c.args.it.e
     (deed_to i c.args.regs.now c.args.it.ac c.args.it.e c.args.it.last m c.args.it.e (ap (λ (t : Target). place_of t (in_ac c.args.regs.now c.args.it.ac) c.args.it.e) c.requires.to)) c.in-Some.ensures.write c.load-m.ensures.only c.store.ensures)
     (Some c.args.it.e) c.requires.taken (λ d f fits is. record { ready = c.in-Some.ensures.read d f fits is; is = c.load-m.ensures.told d f fits is })

@@ -3,7 +3,7 @@ use Rattle.plain_model.specs.Forks.{counted}
 use Rattle.plain_model.specs.Calls.{posted_if}
 use Rattle.plain_units.specs.declared.channel.TheConstants.{OVERFLOW, PUSHDOWN_OVERFLOW}
 use Rattle.ka10_unit.specs.Bursts.{AreCounted, Came}
-use Rattle.ka10_unit.specs.declared.committed.Post.TheVariants.{Overflow, Pushdown}
+use Rattle.ka10_unit.specs.declared.done.Post.TheVariants.{Overflow, Pushdown}
 use Rattle.monitor_core.specs.Shown.{nothing}
 use Rattle.monitor_core.specs.ForkUnit.{Kept, RanUnits, fork_of, left_so, ran_on, units_over}
 use Rattle.monitor_core.proofs.Keeping.{ended_keeps, more_keeps, row_keeps}

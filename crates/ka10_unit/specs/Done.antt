@@ -1,4 +1,4 @@
--- What an instruction leaves that is committed: the registers, the word that it stores, and its post.
+-- What a deed that is done leaves: the registers, the word that it stores, and its post.
 use Rattle.std.specs.Prelude.{◌≡◌, ℕ, ◌<◌, ◌^◌, Option, None, Some}
 use Rattle.word36.specs.Arithmetic.{Outcome}
 use Rattle.ka10_alu.specs.declared.out.Out.{Out}
@@ -7,9 +7,9 @@ use Rattle.plain_units.specs.declared.channel.TheConstants.{OVERFLOW, PUSHDOWN_O
 use Rattle.plain_units.specs.declared.registers.Regs.{Regs}
 use Rattle.plain_units.specs.Deeds.{Deed, Store, nowhere, back, into, before, deed_of}
 use Rattle.plain_units.specs.Instructions.{with_deed}
-use Rattle.ka10_unit.specs.declared.committed.Committed.{Committed}
-use Rattle.ka10_unit.specs.declared.committed.Post.{Post}
-use Rattle.ka10_unit.specs.declared.committed.Post.TheVariants as post
+use Rattle.ka10_unit.specs.declared.done.Done.{Done}
+use Rattle.ka10_unit.specs.declared.done.Post.{Post}
+use Rattle.ka10_unit.specs.declared.done.Post.TheVariants as post
 use Rattle.ka10_unit.specs.declared.operands.Destination.{Destination}
 use Rattle.ka10_unit.specs.declared.operands.Destination.TheVariants as destination
 
@@ -42,15 +42,15 @@ channel_of post.Overflow = Some OVERFLOW
 channel_of post.Pushdown = Some PUSHDOWN_OVERFLOW
 
 -- a deed is done on the registers, and the word that it stores and its post are told
-pub record Leaves (d : Deed) (ac : ℕ) (old new : Regs) (told : Committed) : Type 0 where
+pub record Leaves (d : Deed) (ac : ℕ) (old new : Regs) (told : Done) : Type 0 where
   pub regs : new ≡ with_deed old ac d
   pub stored : told.stored ≡ stored_word d.store
   pub post : channel_of told.post ≡ d.post
   pub pc : new.pc < 2 ^ 18
 
 -- the same of the instruction of a row, with its opcode
-abbrev pub Commits : TableRow → ℕ → ℕ → ℕ → ℕ → ℕ → Regs → Regs → Committed → Type 0
-Commits row op ac e last m old new told = Leaves (deed_of row op old ac e last m) ac old new told
+abbrev pub DoesRow : TableRow → ℕ → ℕ → ℕ → ℕ → ℕ → Regs → Regs → Done → Type 0
+DoesRow row op ac e last m old new told = Leaves (deed_of row op old ac e last m) ac old new told
 
 -- the outcome of an operation that gave this
 abbrev pub outcome_of : Out → Outcome

@@ -1,6 +1,6 @@
-// What is told of an instruction that was committed.
+// What is told of a deed that is done.
 ghost use Rattle.std.specs.Prelude.{◌≡◌, Some};
-ghost use Rattle.ka10_unit.specs.Commits.{channel_of};
+ghost use Rattle.ka10_unit.specs.Done.{channel_of};
 ghost use Rattle.plain_units.specs.Deeds.{overflow_post, pushdown_post};
 
 use word36::Word;
@@ -15,9 +15,9 @@ pub enum Post {
     Pushdown,
 }
 
-/// What an instruction tells that was committed.
+/// What a deed that is done tells besides the registers.
 #[derive(Clone, Copy, PartialEq, Eq)]
-pub struct Committed {
+pub struct Done {
     /// The word that the instruction stores. None exactly where it stores none.
     pub stored: Option<Word>,
     /// The channel that it posts.
@@ -50,20 +50,20 @@ impl Post {
     }
 }
 
-impl Committed {
+impl Done {
     /// Nothing is stored or posted.
-    pub(crate) const NOTHING: Committed = Committed {
+    pub(crate) const NOTHING: Done = Done {
         stored: None,
         post: Post::Nothing,
     };
 
     /// A word is stored, and nothing posted.
     #[inline(always)]
-    pub(crate) fn storing(word: Word) -> Committed
+    pub(crate) fn storing(word: Word) -> Done
         ensures stored { result.stored ≡ Some word }
         ensures post { result.post ≡ Post.Nothing }
     {
-        Committed {
+        Done {
             stored: Some(word),
             post: Post::Nothing,
         }

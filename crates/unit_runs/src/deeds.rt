@@ -4,7 +4,7 @@ ghost use Rattle.std.specs.Prelude.{◌<◌, ◌^◌};
 
 use crate::same::same_at;
 use ka10_table::row;
-use ka10_unit::{Committed, Post, commit_row, flags_of, half_of_flags};
+use ka10_unit::{Done, Post, do_row, flags_of, half_of_flags};
 use plain_units::Regs;
 use std::process::Abort;
 use word36::Word;
@@ -37,7 +37,7 @@ fn registers(a: u64, a1: u64) -> Regs
     }
 }
 
-fn stored(told: Committed) -> Option<u64> {
+fn stored(told: Done) -> Option<u64> {
     match told.stored {
         Some(word) => Some(word.value()),
         None => None,
@@ -51,7 +51,7 @@ fn operate(rt: &impl Abort, rows: &[(u16, u64, u64, u64, u64, u64, Option<u64>, 
         assert!(rt; op < 512);
         let mut regs = registers(a, a1);
         let m = Word::wrapped(m);
-        let told = commit_row(row(op), op, &mut regs, AC, 0o1000, Word::ZERO, m);
+        let told = do_row(row(op), op, &mut regs, AC, 0o1000, Word::ZERO, m);
         same_at(rt, ("AC", op), regs.ac[3].value(), ac);
         same_at(rt, ("AC plus 1", op), regs.ac[4].value(), next);
         same_at(rt, ("stored", op), stored(told), word);
@@ -67,7 +67,7 @@ fn shift(rt: &impl Abort, rows: &[(u16, u64, u64, u32, u64, u64, u32, u32)]) {
     for &(op, a, a1, e, ac, next, pc, flags) in rows {
         assert!(rt; op < 512 && e < 1 << 18);
         let mut regs = registers(a, a1);
-        let told = commit_row(row(op), op, &mut regs, AC, e, Word::ZERO, Word::ZERO);
+        let told = do_row(row(op), op, &mut regs, AC, e, Word::ZERO, Word::ZERO);
         same_at(rt, ("AC", op), regs.ac[3].value(), ac);
         same_at(rt, ("AC plus 1", op), regs.ac[4].value(), next);
         same_at(rt, ("PC", op), regs.pc, pc);
@@ -89,7 +89,7 @@ fn jump(rt: &impl Abort, rows: &[(u16, u64, u64, u64, Option<u64>, u32, u32)]) {
         assert!(rt; op < 512);
         let mut regs = registers(a, 6);
         let m = Word::wrapped(m);
-        let told = commit_row(row(op), op, &mut regs, AC, 0o1000, Word::ZERO, m);
+        let told = do_row(row(op), op, &mut regs, AC, 0o1000, Word::ZERO, m);
         same_at(rt, ("AC", op), regs.ac[3].value(), ac);
         same_at(rt, ("stored", op), stored(told), word);
         same_at(rt, ("PC", op), regs.pc, pc);
@@ -110,7 +110,7 @@ fn stack(rt: &impl Abort, rows: &[(u16, u64, u64, u64, Option<u64>, u32, Post)])
         assert!(rt; op < 512);
         let mut regs = registers(a, 6);
         let m = Word::wrapped(m);
-        let told = commit_row(row(op), op, &mut regs, AC, 0o1000, Word::ZERO, m);
+        let told = do_row(row(op), op, &mut regs, AC, 0o1000, Word::ZERO, m);
         same_at(rt, ("AC", op), regs.ac[3].value(), ac);
         same_at(rt, ("stored", op), stored(told), word);
         same_at(rt, ("PC", op), regs.pc, pc);
@@ -126,7 +126,7 @@ fn change_flags(rt: &impl Abort, rows: &[(u16, u8, u32, u64, u32, u32)]) {
         let mut regs = registers(0, 0);
         regs.flags = flags_of(before);
         let last = Word::wrapped(last);
-        commit_row(row(op), op, &mut regs, ac, 0o1000, last, Word::ZERO);
+        do_row(row(op), op, &mut regs, ac, 0o1000, last, Word::ZERO);
         same_at(rt, ("PC", op), regs.pc, pc);
         same_at(rt, ("flags", op), half_of_flags(regs.flags), after);
     }
@@ -314,7 +314,7 @@ fn accumulator_0_in_mode_s(rt: HostRuntime) {
         let mut regs = registers(0, 0);
         regs.ac[0] = Word::wrapped(5);
         let m = Word::wrapped(m);
-        let told = commit_row(row(op), op, &mut regs, 0, 0o1000, Word::ZERO, m);
+        let told = do_row(row(op), op, &mut regs, 0, 0o1000, Word::ZERO, m);
         same_at(&rt, ("AC", op), regs.ac[0].value(), 5);
         same_at(&rt, ("stored", op), stored(told), word);
     }
@@ -324,7 +324,7 @@ fn accumulator_0_in_mode_s(rt: HostRuntime) {
 fn the_accumulator_behind_the_last_is_the_first(rt: HostRuntime) {
     let mut regs = registers(0, 0);
     regs.ac[15] = Word::wrapped(7);
-    commit_row(
+    do_row(
         row(0o230),
         0o230,
         &mut regs,
