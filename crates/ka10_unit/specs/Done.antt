@@ -55,3 +55,10 @@ DoesRow row op ac e last m old new told = Leaves (deed_of row op old ac e last m
 -- the outcome of an operation that gave this
 abbrev pub outcome_of : Out → Outcome
 outcome_of out = record { word = out.word; low = out.low; flags = out.flags }
+
+-- a word goes back to where one was read
+abbrev pub GoesBack : Destination → Type 0
+GoesBack destination.Nowhere = ⊥
+GoesBack (destination.Back at) = Unit {0}
+GoesBack (destination.Into at) = ⊥
+GoesBack (destination.Before at) = ⊥

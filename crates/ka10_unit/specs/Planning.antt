@@ -18,7 +18,6 @@ use Rattle.plain_units.specs.Units.{unit_on}
 use Rattle.ka10_unit.specs.declared.word_fields.Address.{Address}
 use Rattle.ka10_unit.specs.declared.done.Done.{Done}
 use Rattle.ka10_unit.specs.declared.operands.Destination.{Destination}
-use Rattle.ka10_unit.specs.declared.operands.Destination.TheVariants as destination
 use Rattle.ka10_unit.specs.declared.ends.Ending.{Ending}
 use Rattle.ka10_unit.specs.declared.plans.Step.{Step}
 use Rattle.ka10_unit.specs.declared.plans.Step.TheVariants as step
@@ -73,13 +72,6 @@ pub record IsDone (d : Deed) (n : ℕ) (old new : Regs) (to : Destination) (told
   pub leaves : Leaves d n old new told
   pub store : store_at to told.stored ≡ d.store
   pub block : (at w : ℕ) → d.store ≡ before at w → (d.next ≡ None) × ((a : ℕ) × (d.ac ≡ Some a))
-
--- a word goes back to where one was read
-abbrev pub GoesBack : Destination → Type 0
-GoesBack destination.Nowhere = ⊥
-GoesBack (destination.Back at) = Unit {0}
-GoesBack (destination.Into at) = ⊥
-GoesBack (destination.Before at) = ⊥
 
 -- a word that is illegal before its address is taken: no instruction, a monitor call behind a local call, and JRST of the executive
 abbrev pub is_illegal : Family → Bool → ℕ → Bool

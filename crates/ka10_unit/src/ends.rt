@@ -7,9 +7,9 @@ ghost use Rattle.ka10_table.specs.Rows.{IsInLine};
 ghost use Rattle.machine_names.specs.declared.names.ForkName.{ForkName as AForkName};
 ghost use Rattle.machine_names.specs.Bounds.{IsAddress};
 ghost use Rattle.page_contracts.specs.DrumWords.{DrumWords};
-ghost use Rattle.ka10_unit.specs.Done.{LiesBelow, channel_of};
+ghost use Rattle.ka10_unit.specs.Done.{GoesBack, LiesBelow, channel_of};
 ghost use Rattle.ka10_unit.specs.Gathers.{Serves, framed};
-ghost use Rattle.ka10_unit.specs.Planning.{DoesEnd, Ends, GoesBack, IsDone, IsEnding, LeavesEnd, end_of};
+ghost use Rattle.ka10_unit.specs.Planning.{DoesEnd, Ends, IsDone, IsEnding, LeavesEnd, end_of};
 ghost use Rattle.ka10_unit.specs.Taking.{Does, HasSpare, Spares, Stands, StopsFor};
 
 use crate::done::{Done, Post};

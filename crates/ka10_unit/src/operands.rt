@@ -2,8 +2,7 @@
 ghost use Rattle.std.specs.Prelude.{◌≡◌, ℕ, ◌^◌, ◌<◌, IfSome, IsSome, Option};
 ghost use Rattle.word36.specs.Arithmetic.{Outcome};
 ghost use Rattle.plain_units.specs.Deeds.{by_mode, deed_of, moved_from, moves, moves_half, of_second_eight, operand_of, operands, operated, taken_of};
-ghost use Rattle.ka10_unit.specs.Done.{LiesBelow, store_at, stored_word};
-ghost use Rattle.ka10_unit.specs.Planning.{GoesBack};
+ghost use Rattle.ka10_unit.specs.Done.{GoesBack, LiesBelow, store_at, stored_word};
 
 use crate::registers::word_in;
 use crate::stacks::pushed;
