@@ -7,7 +7,7 @@ ghost use Rattle.fork_calls.specs.Asking.{asked};
 
 use crate::naming::same_fork;
 use fork_tree::Tree;
-use ka10_unit::{half_of_flags, pc_word};
+use ka10_deeds::{half_of_flags, pc_word};
 use machine_names::ForkName;
 use plain_model::Fork;
 use plain_units::Regs;

@@ -23,7 +23,7 @@ use Rattle.ka10_unit.specs.declared.taken.Taken.{Taken}
 use Rattle.ka10_unit.specs.Carrying.{Grows, StaysAway}
 use Rattle.ka10_unit.specs.Gathers.{Framed, Serves}
 use Rattle.page_contracts.specs.Pages.{MayLose}
-use Rattle.ka10_unit.proofs.Lost.{lost_none, lost_on}
+use Rattle.ka10_in_place.proofs.Stored.{lost_none, lost_on, makings_stored}
 use Rattle.ka10_unit.specs.Taking.{CanPut, IsOpenAt, Stands}
 
 -- a page that is in a frame, and of which nothing more is to be made, is found ready
@@ -41,16 +41,7 @@ own_stands f p t s = subst (λ (g : ForkName). Stands g p t) (sym s.fork) s
 
 -- ---- words stored
 
--- a word that is stored changes no entry
-pub makings_stored : (q : NumberedPages) (at other : Spot ℕ) (offset word : ℕ) (kind : Kind) → makings (stored q at offset word) other kind ≡ makings q other kind
-unfolding makings
-makings_stored q at other offset word kind = by (page_at q at)
-  where
-    by : (n : Option PageName) → makings (option_map_or (λ m. record q { objects = map.insert q.objects m (slice_set (words_of q m) offset word) }) n q) other kind ≡ makings q other kind
-    by None = refl
-    by (Some n) = refl
-
--- nor does it take a page from its frame
+-- a word that is stored takes no page from its frame
 near_stored : (q : NumberedPages) (scene : Scene) (at : Spot ℕ) (offset word : ℕ) (s : Slot) → IsNear q scene s → IsNear (stored q at offset word) scene s
 unfolding page_at
 near_stored q scene at offset word s near = by (page_at q at)

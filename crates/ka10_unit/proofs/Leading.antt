@@ -6,12 +6,12 @@ use Rattle.machine_names.specs.declared.names.ForkName.{ForkName}
 use Rattle.machine_names.specs.declared.names.Kind.TheVariants.{Read}
 use Rattle.plain_units.specs.Steps.{refers, run}
 use Rattle.plain_units.specs.Addressing.{address, address_within, indexed, is_indirect}
-use Rattle.ka10_unit.specs.declared.word_fields.Address.{Address}
+use Rattle.ka10_deeds.specs.declared.word_fields.Address.{Address}
 use Rattle.ka10_unit.specs.declared.taken.Taken.{Taken}
 use Rattle.ka10_unit.specs.declared.taken.Stop.{Stop}
 use Rattle.ka10_unit.specs.declared.taken.Stop.TheVariants.{Trap}
 use Rattle.ka10_unit.specs.Gathers.{Framed}
-use Rattle.ka10_unit.specs.Addresses.{addressed}
+use Rattle.ka10_deeds.specs.Addresses.{addressed}
 use Rattle.ka10_unit.specs.Taking.{Follows, Stands}
 use Rattle.ka10_unit.specs.Planning.{Leads, reached, reached_within}
 

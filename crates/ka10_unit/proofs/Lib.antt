@@ -1,14 +1,3 @@
-mod Outcomes
-mod Acting
-pub mod Gliding
-pub mod Storing
-pub mod Finishing
-pub mod Used
-pub mod Placing
-pub mod IndirectWords
-pub mod Units
-pub mod Fetching
-pub mod BurstLemmas
 pub mod Plainly
 pub mod Adding
 pub mod Referring
@@ -20,7 +9,5 @@ pub mod Parts
 pub mod Stepping
 pub mod Carried
 pub mod InARow
-pub mod ByteLemmas
-pub mod BlockLemmas
 pub mod TakenBlocks
 pub mod Lost

@@ -11,13 +11,6 @@ use Rattle.ka10_unit.specs.declared.taken.Stop.TheVariants as stop
 use Rattle.ka10_unit.specs.Planning.{PlanNeeds, stopped_by}
 use Rattle.ka10_unit.specs.Taking.{StopNeeds, most_frames}
 
-module _ {P : Type 0} (means : PagesMeaning P) where
-  pub lost_none : (s : P) → MayLose means s s
-  lost_none s = loses_nothing (traffic means.store s)
-
-  pub lost_on : (r s t : P) → MayLose means r s → MayLose means s t → MayLose means r t
-  lost_on r s t = loses_on (traffic means.store r) (traffic means.store s) (traffic means.store t)
-
 -- a reference is worth one page or two
 pub few_made : (kind : Kind) → (1 ≤ most_made kind) × (most_made kind ≤ 2)
 few_made Read = (omega arith, omega arith)

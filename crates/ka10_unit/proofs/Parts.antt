@@ -8,13 +8,13 @@ use Rattle.plain_units.specs.Steps.{Steps, refers}
 use Rattle.plain_units.specs.Deeds.{Deed, nowhere, back, taken_of, deed_of}
 use Rattle.plain_units.specs.Instructions.{does, does_byte, does_pointer, finishes, takes}
 use Rattle.ka10_table.specs.declared.families.TableRow.{TableRow}
-use Rattle.ka10_unit.specs.declared.done.Done.{Done}
-use Rattle.ka10_unit.specs.declared.operands.Destination.{Destination}
-use Rattle.ka10_unit.specs.declared.operands.Destination.TheVariants.{Nowhere, Back}
+use Rattle.ka10_deeds.specs.declared.done.Done.{Done}
+use Rattle.ka10_deeds.specs.declared.operands.Destination.{Destination}
+use Rattle.ka10_deeds.specs.declared.operands.Destination.TheVariants.{Nowhere, Back}
 use Rattle.ka10_unit.specs.declared.ends.Ending.{Ending}
 use Rattle.ka10_unit.specs.declared.taken.Taken.{Taken}
 use Rattle.ka10_unit.specs.declared.taken.Stop.{Stop}
-use Rattle.ka10_unit.specs.Done.{Leaves, stored_word, store_at}
+use Rattle.ka10_deeds.specs.Done.{Leaves, stored_word, store_at}
 use Rattle.ka10_unit.specs.Gathers.{Framed}
 use Rattle.ka10_unit.specs.Taking.{Follows}
 use Rattle.ka10_unit.specs.Planning.{Ends, IsDone}

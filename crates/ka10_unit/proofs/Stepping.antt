@@ -13,7 +13,7 @@ use Rattle.plain_units.specs.declared.registers.Regs.{Regs}
 use Rattle.plain_units.specs.Steps.{Progress, Steps, refers, keeps, stopped, traps, calls, run, begun}
 use Rattle.plain_units.specs.Addressing.{opcode, ac_field}
 use Rattle.plain_units.specs.Instructions.{execute, executes, does, instruction, local_word, LOCAL_CALL, LOCAL_HANDLER}
-use Rattle.ka10_unit.specs.declared.word_fields.Address.{Address}
+use Rattle.ka10_deeds.specs.declared.word_fields.Address.{Address}
 use Rattle.ka10_unit.specs.declared.ends.Ending.{Ending}
 use Rattle.ka10_unit.specs.declared.plans.Next.{Next}
 use Rattle.ka10_unit.specs.declared.plans.Step.{Step}

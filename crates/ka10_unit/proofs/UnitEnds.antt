@@ -10,12 +10,12 @@ use Rattle.plain_units.specs.declared.unit.Put.{Put}
 use Rattle.plain_units.specs.Steps.{Ending as End, refers, ends, done, run, is_accumulator}
 use Rattle.plain_units.specs.Deeds.{Deed, Store, nowhere, back, into, before}
 use Rattle.plain_units.specs.Instructions.{takes, with_deed, storing, storing_first, finishes}
-use Rattle.ka10_unit.specs.declared.done.Post.{Post}
-use Rattle.ka10_unit.specs.declared.operands.Destination.{Destination}
+use Rattle.ka10_deeds.specs.declared.done.Post.{Post}
+use Rattle.ka10_deeds.specs.declared.operands.Destination.{Destination}
 use Rattle.ka10_unit.specs.declared.ends.Ending.{Ending}
 use Rattle.ka10_unit.specs.declared.taken.Taken.{Taken}
 use Rattle.ka10_unit.specs.declared.taken.Stop.{Stop}
-use Rattle.ka10_unit.specs.Done.{channel_of, store_at}
+use Rattle.ka10_deeds.specs.Done.{channel_of, store_at}
 use Rattle.ka10_unit.specs.Gathers.{Framed}
 use Rattle.ka10_unit.specs.Taking.{CanPut, CanWrite, Follows, IsOpenAt, Stands, progress, so_far, widened_by}
 use Rattle.ka10_unit.specs.Planning.{Ends, end_of}

@@ -15,9 +15,9 @@ use Rattle.plain_units.specs.Addressing.{opcode, ac_field, address, address_with
 use Rattle.plain_units.specs.Deeds.{Deed, before}
 use Rattle.plain_units.specs.Instructions.{does, does_pointer, instruction, is_executive, local_word, LOCAL_CALL, LOCAL_HANDLER}
 use Rattle.plain_units.specs.Units.{unit_on}
-use Rattle.ka10_unit.specs.declared.word_fields.Address.{Address}
-use Rattle.ka10_unit.specs.declared.done.Done.{Done}
-use Rattle.ka10_unit.specs.declared.operands.Destination.{Destination}
+use Rattle.ka10_deeds.specs.declared.word_fields.Address.{Address}
+use Rattle.ka10_deeds.specs.declared.done.Done.{Done}
+use Rattle.ka10_deeds.specs.declared.operands.Destination.{Destination}
 use Rattle.ka10_unit.specs.declared.ends.Ending.{Ending}
 use Rattle.ka10_unit.specs.declared.plans.Step.{Step}
 use Rattle.ka10_unit.specs.declared.plans.Step.TheVariants as step
@@ -26,7 +26,7 @@ use Rattle.ka10_unit.specs.declared.plans.Planned.TheVariants as planned
 use Rattle.ka10_unit.specs.declared.taken.Taken.{Taken}
 use Rattle.ka10_unit.specs.declared.taken.Stop.{Stop}
 use Rattle.ka10_unit.specs.declared.taken.Stop.TheVariants as stop
-use Rattle.ka10_unit.specs.Done.{Leaves, channel_of, store_at}
+use Rattle.ka10_deeds.specs.Done.{Leaves, channel_of, store_at}
 use Rattle.ka10_unit.specs.Gathers.{Framed, IsPutBelow, framed}
 use Rattle.ka10_unit.specs.Taking.{CanPut, HasSpare, IsPlain, Plan, Stands, most_frames, progress, run_over, so_far, stop_of}
 

@@ -7,7 +7,7 @@ ghost use Rattle.ka10_unit.specs.Taking.{Does, Spares, StopsFor};
 
 use crate::references::refer;
 use crate::taken::{Stop, Taken};
-use crate::word_fields::{Address, MOST_WORDS, is_indirect, step_of};
+use ka10_deeds::{Address, MOST_WORDS, is_indirect, step_of};
 use machine_names::Kind;
 use page_contracts::Pages;
 use plain_units::Regs;

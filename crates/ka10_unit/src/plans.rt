@@ -15,7 +15,7 @@ use crate::ends::{Ending, ordinary};
 use crate::pointed::byte_instruction;
 use crate::references::refer;
 use crate::taken::{Stop, Taken};
-use crate::word_fields::{Address, MOST_WORDS, ac_field, is_executive, opcode};
+use ka10_deeds::{Address, MOST_WORDS, ac_field, is_executive, opcode};
 use ka10_table::{Family, TableRow, row};
 use machine_names::{ForkName, Kind};
 use page_contracts::{Need, Pages};

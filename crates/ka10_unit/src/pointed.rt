@@ -7,13 +7,13 @@ ghost use Rattle.ka10_unit.specs.Planning.{DoesEnd, LeavesEnd};
 ghost use Rattle.ka10_unit.specs.Taking.{HasSpare, StopsFor};
 
 use crate::addresses::address_of;
-use crate::bytes::{
-    ByteStep, byte_step, do_deposit, do_first_part, do_increment, do_load, forget_first_part,
-};
 use crate::ends::{Ending, finish};
-use crate::operands::Destination;
 use crate::references::refer;
 use crate::taken::{Stop, Taken};
+use ka10_deeds::{
+    ByteStep, Destination, byte_step, do_deposit, do_first_part, do_increment, do_load,
+    forget_first_part,
+};
 use machine_names::Kind;
 use page_contracts::Pages;
 use plain_units::Regs;

@@ -5,9 +5,9 @@ ghost use Rattle.ka10_unit.specs.Carrying.{Slowly};
 ghost use Rattle.ka10_unit.specs.Gathers.{Serves};
 
 use crate::carry::carry;
-use crate::done::Post;
 use crate::plans::{Planned, plan};
 use crate::taken::Taken;
+use ka10_deeds::Post;
 use machine_names::ForkName;
 use page_contracts::{Need, Pages};
 use plain_units::Regs;

@@ -13,9 +13,9 @@ use Rattle.plain_model.specs.Calls.{behind_call, failed_regs, posted_if, with_er
 use Rattle.plain_model.specs.Forks.{with_regs, with_status, counted}
 use Rattle.plain_model.specs.Interrupts.{posted, pended, is_panic}
 use Rattle.fork_calls.specs.Turning.{HasRegs}
-use Rattle.ka10_unit.specs.declared.done.Post.{Post}
-use Rattle.ka10_unit.specs.declared.done.Post.TheVariants.{Nothing, Overflow, Pushdown}
-use Rattle.ka10_unit.specs.Done.{channel_of}
+use Rattle.ka10_deeds.specs.declared.done.Post.{Post}
+use Rattle.ka10_deeds.specs.declared.done.Post.TheVariants.{Nothing, Overflow, Pushdown}
+use Rattle.ka10_deeds.specs.Done.{channel_of}
 use Rattle.monitor_core.specs.ForkUnit.{Kept, answered, ran_on}
 use Rattle.monitor_core.specs.Limits.{FitsForced, IsBody}
 

@@ -15,7 +15,7 @@ use Rattle.plain_units.specs.Units.{unit_on}
 use Rattle.machine_names.proofs.OrderLemmas.{fork_cmp_total, fork_cmp_apart}
 use Rattle.plain_model.proofs.Runs.{AreLegal-append, items_of-append, state_after-append}
 use Rattle.plain_model.specs.Trees.{PlainTree, tree_of}
-use Rattle.ka10_unit.specs.Once.{After, in_a_row}
+use Rattle.ka10_in_place.specs.Once.{After, in_a_row}
 use Rattle.fork_tree.proofs.Kept.{changed_tree}
 use Rattle.fork_tree.proofs.Slots.{get_put}
 use Rattle.monitor_core.specs.ForkUnit.{Behind, RanUnits, behind, behind_unit, left_so, put_back, ran_on}

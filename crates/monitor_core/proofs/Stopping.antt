@@ -14,7 +14,7 @@ use Rattle.page_contracts.proofs.Losing.{needed_more}
 use Rattle.plain_pages.specs.PlainPages.{NumberedPages}
 use Rattle.plain_model.specs.Trees.{PlainTree, with_body}
 use Rattle.plain_model.proofs.ForkMaps.{put_itself}
-use Rattle.ka10_unit.specs.Once.{After, in_a_row}
+use Rattle.ka10_in_place.specs.Once.{After, in_a_row}
 use Rattle.ka10_unit.specs.Taking.{most_frames}
 use Rattle.fork_tree.specs.Trees.{IsTree, Lives}
 use Rattle.fork_calls.specs.Holding.{CallLeaves, Holds, MakesPages}

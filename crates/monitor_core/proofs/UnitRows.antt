@@ -3,7 +3,7 @@ use Rattle.std.proofs.Common.{◌≡◌, ℕ, ◌+◌, sym, ◌∙◌, ap, subst
 use Rattle.std.specs.Ordering.{nat_cmp}
 use Rattle.plain_model.specs.declared.fork.Fork.{Fork}
 use Rattle.plain_pages.specs.PlainPages.{NumberedPages}
-use Rattle.ka10_unit.specs.Once.{After, in_a_row}
+use Rattle.ka10_in_place.specs.Once.{After, in_a_row}
 use Rattle.monitor_core.specs.ForkUnit.{IsOne, IsRow, RanUnits, RanUpTo, left_so, put_back, ran_on, units_over}
 use Rattle.monitor_core.specs.declared.unit.Last.{Last}
 use Rattle.monitor_core.specs.declared.unit.Last.TheVariants.{Shows, Calls, Needs}

@@ -24,7 +24,7 @@ use Rattle.page_contracts.specs.Pages.{PagesMeaning}
 use Rattle.page_contracts.specs.Stores.{StoreMeaning, IsNeeded}
 use Rattle.ka10_unit.specs.Taking.{most_frames}
 use Rattle.plain_model.specs.Trees.{PlainTree}
-use Rattle.ka10_unit.specs.Once.{After, in_a_row}
+use Rattle.ka10_in_place.specs.Once.{After, in_a_row}
 use Rattle.fork_tree.specs.Trees.{Lives}
 use Rattle.page_contracts.specs.declared.answers.Need.{Need}
 use Rattle.fork_calls.specs.Holding.{CallLeaves, Holds, IsNew, MakesPages, TopsStay}

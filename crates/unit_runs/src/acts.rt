@@ -1,6 +1,6 @@
 // What is done for opcodes.
 use crate::same::{same, same_at};
-use ka10_unit::{Act, act_at};
+use ka10_deeds::{Act, act_at};
 
 #[test]
 fn acts_of_the_handbook(rt: HostRuntime) {

@@ -7,7 +7,7 @@ use crate::same::same_at;
 use crate::spaces::{first_page, space_of};
 use crate::top::{TOP, add_top};
 use flat_pages::{FlatSlots, FlatStore};
-use ka10_unit::{Burst, BurstEnd, burst};
+use ka10_in_place::{Burst, BurstEnd, burst};
 use machine_names::{Kind, Tty};
 use outside::Memory;
 use page_contracts::{Pages, SpaceHandle};

@@ -2,7 +2,7 @@
 ghost use Rattle.std.specs.Prelude.{◌<◌, ◌^◌};
 
 use crate::same::same_at;
-use ka10_unit::{
+use ka10_deeds::{
     ByteStep, byte_step, do_deposit, do_first_part, do_increment, do_load, flags_of,
     forget_first_part, half_of_flags,
 };

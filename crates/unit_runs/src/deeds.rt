@@ -3,8 +3,8 @@
 ghost use Rattle.std.specs.Prelude.{◌<◌, ◌^◌};
 
 use crate::same::same_at;
+use ka10_deeds::{Done, Post, do_row, flags_of, half_of_flags};
 use ka10_table::row;
-use ka10_unit::{Done, Post, do_row, flags_of, half_of_flags};
 use plain_units::Regs;
 use std::process::Abort;
 use word36::Word;

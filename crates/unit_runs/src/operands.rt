@@ -1,7 +1,7 @@
 // Which word an instruction takes, and where it stores one.
 use crate::same::same_at;
+use ka10_deeds::{Destination, destination_of, operand_address};
 use ka10_table::row;
-use ka10_unit::{Destination, destination_of, operand_address};
 use plain_units::Regs;
 use word36::{Flags, Word};
 

@@ -2,7 +2,7 @@ use Rattle.std.proofs.Common.{◌≡◌, ◌≢◌, Some, None, refl, arith, tru
 use Rattle.std.proofs.lemmas.Result.{err_from_is_err_and}
 use Rattle.std.proofs.lemmas.Bool.Decides.{nat_tests}
 use Rattle.plain_units.specs.Steps.{is_accumulator}
-use Rattle.ka10_unit.specs.declared.operands.Destination.TheVariants.{Nowhere, Back, Into, Before}
+use Rattle.ka10_deeds.specs.declared.operands.Destination.TheVariants.{Nowhere, Back, Into, Before}
 use Rattle.ka10_unit.proofs.UnitEnds.{goes_to, end_is, end_bare, ends_nowhere, ends_back, stops_back, ends_into, stops_into, ends_before, ends_overwritten, stops_before}
 use Rattle.ka10_unit.proofs.ends.finish.Goals as goal
 

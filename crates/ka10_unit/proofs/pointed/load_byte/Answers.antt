@@ -3,7 +3,7 @@ use Rattle.std.proofs.lemmas.Result.{err_from_is_err_and}
 use Rattle.machine_names.specs.declared.names.Kind.TheVariants.{Read}
 use Rattle.plain_units.specs.Steps.{refers}
 use Rattle.plain_units.specs.Instructions.{finishes}
-use Rattle.ka10_unit.specs.Bytes.{byte_loaded}
+use Rattle.ka10_deeds.specs.Bytes.{byte_loaded}
 use Rattle.ka10_unit.specs.Planning.{reached}
 use Rattle.ka10_unit.proofs.Parts.{then_stops, then_ends, done_nowhere}
 use Rattle.ka10_unit.proofs.pointed.load_byte.Goals as goal

@@ -1,5 +1,5 @@
 use Rattle.std.proofs.Common.{arith, sym, ◌∙◌, ap, subst}
-use Rattle.ka10_unit.specs.Done.{channel_of}
+use Rattle.ka10_deeds.specs.Done.{channel_of}
 use Rattle.plain_units.specs.Units.{unit_on}
 use Rattle.monitor_core.specs.ForkUnit.{Kept, fork_of, left_so}
 use Rattle.monitor_core.proofs.Keeping.{ended_keeps, posted_keeps, none_keeps}

@@ -2,8 +2,8 @@ use Rattle.std.proofs.Common.{◌+◌, None, Some, refl, sym, ◌∙◌, ap, sub
 use Rattle.plain_model.specs.Forks.{counted}
 use Rattle.plain_model.specs.Calls.{posted_if}
 use Rattle.plain_units.specs.declared.channel.TheConstants.{OVERFLOW, PUSHDOWN_OVERFLOW}
-use Rattle.ka10_unit.specs.Bursts.{AreCounted, Came}
-use Rattle.ka10_unit.specs.declared.done.Post.TheVariants.{Overflow, Pushdown}
+use Rattle.ka10_in_place.specs.Bursts.{AreCounted, Came}
+use Rattle.ka10_deeds.specs.declared.done.Post.TheVariants.{Overflow, Pushdown}
 use Rattle.monitor_core.specs.Shown.{nothing}
 use Rattle.monitor_core.specs.ForkUnit.{Kept, RanUnits, fork_of, left_so, ran_on, units_over}
 use Rattle.monitor_core.proofs.Keeping.{ended_keeps, more_keeps, row_keeps}

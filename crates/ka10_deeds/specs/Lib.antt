@@ -1,0 +1,4 @@
+pub mod Done
+pub mod Acts
+pub mod Bytes
+pub mod Addresses

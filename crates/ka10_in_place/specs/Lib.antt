@@ -1,0 +1,9 @@
+pub mod Once
+pub mod Glide
+pub mod Spots
+pub mod Stores
+pub mod Targets
+pub mod InPlace
+pub mod Fetches
+pub mod Bursts
+pub mod ByteRests

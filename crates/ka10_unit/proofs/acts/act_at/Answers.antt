@@ -1,5 +1,0 @@
-use Rattle.ka10_unit.proofs.Acting.{act_is}
-use Rattle.ka10_unit.proofs.acts.act_at.Goals as goal
-
-pub returns : goal.returns
-returns c = act_is c.args.op _ c.requires
