@@ -10,8 +10,8 @@ use Rattle.machine_names.specs.declared.names.Tty.{Tty}
 use Rattle.machine_names.specs.declared.names.ForkName.{ForkName}
 use Rattle.machine_names.specs.Orders.{same_fork}
 use Rattle.plain_model.specs.declared.fork.Fork.{Fork}
-use Rattle.plain_model.specs.Forks.{ForkMap, can_run, fork_in, forks_by_slot}
-use Rattle.plain_model.specs.Moves.{Move, Stops, Starts, lets_run, moves, names_of, runs_in, stopped_of, waits_in}
+use Rattle.plain_model.specs.Forks.{ForkMap, can_run, fork_in, forks_by_slot, runs_in}
+use Rattle.plain_model.specs.Moves.{Move, Stops, Starts, lets_run, moves, names_of, stopped_of, waits_in}
 use Rattle.fork_tree.specs.Trees.{AreSlotted}
 use Rattle.fork_tree.proofs.Slots.{in_found, names_same, same_itself}
 use Rattle.plain_laws.specs.MoveLaws.{starts_it, stops_it}
