@@ -1,5 +1,5 @@
 -- Steps of a system, as steps of the plain machine.
-use Rattle.std.proofs.Common.{◌≡◌, true, ℕ, ◌<◌, ◌≤◌, ◌^◌, is_some, List, Option, None, Some, refl, sym, ◌∙◌, ap, subst, arith, inl, inr, length-set}
+use Rattle.std.proofs.Common.{◌≡◌, ℕ, ◌<◌, ◌≤◌, ◌^◌, is_some, List, Option, None, Some, refl, sym, ◌∙◌, ap, subst, arith, inl, inr, length-set}
 use Rattle.std.specs.Option.{option_map, option_map_or}
 use Rattle.std.specs.FinMap as map
 use Rattle.machine_names.specs.declared.names.ForkName.{ForkName}
@@ -40,15 +40,15 @@ module _ {P : Type 0} {b : _} where
   top_fork_of m t j at = mapped_some (λ f. f.slot) (map.get m.tree.forks j.top) 1 (m.sound.each_job t j at).top
 
   -- and is held by the pages
-  pub holds_top : (m : System P b) → b.means.flat ≡ true → IsTree m.tree → (t : ℕ) (j : Job) → job_at m.jobs.items t ≡ Some j → Holds b.means m.pages j.top
-  holds_top m flat is t j at =
+  pub holds_top : (m : System P b) → IsTree m.tree → (t : ℕ) (j : Job) → job_at m.jobs.items t ≡ Some j → Holds b.means m.pages j.top
+  holds_top m is t j at =
       let job = m.sound.each_job t j at in
       let k = top_fork_of m t j at in
-      record { flat = flat; lives = m.sound.holds.living j.top ∙ ap is_some k.1; terminal = omega (arith, job.terminal, job.low) }
+      record { lives = m.sound.holds.living j.top ∙ ap is_some k.1; terminal = omega (arith, job.terminal, job.low) }
 
   -- a fork that lives is held by the pages
-  pub holds_fork : (m : System P b) → b.means.flat ≡ true → IsTree m.tree → (f : Fork) → Lives m.tree.forks f → Holds b.means m.pages f.name
-  holds_fork m flat is f lives = record { flat = flat; lives = m.sound.holds.living f.name ∙ ap is_some lives; terminal = (is.slotted.named f lives).0 }
+  pub holds_fork : (m : System P b) → IsTree m.tree → (f : Fork) → Lives m.tree.forks f → Holds b.means m.pages f.name
+  holds_fork m is f lives = record { lives = m.sound.holds.living f.name ∙ ap is_some lives; terminal = (is.slotted.named f lives).0 }
 
   -- the units of the forks where one of them is another
   pub units_changed : (m : System P b) (entries later : ℕ) (name : ForkName) (g : Fork) → IsWithin m entries → entries ≤ later → g.body.units ≤ later → (f : Fork) → Lives (map.insert m.tree.forks name g) f → f.body.units ≤ later

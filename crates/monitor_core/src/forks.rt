@@ -1,5 +1,5 @@
 // Forks of a tree: what is put into one, and what is shown of one.
-ghost use Rattle.std.specs.Prelude.{◌≡◌, ◌<◌, ◌≤◌, ◌%◌, ◌^◌, IfErr, IsSome, Ok, Some, length};
+ghost use Rattle.std.specs.Prelude.{◌≡◌, ◌<◌, ◌≤◌, ◌%◌, ◌^◌, IfErr, IfOk, IsOk, IsSome, true, Ok, Some, length};
 ghost use Rattle.std.specs.FinMap as map;
 ghost use Rattle.outside.specs.declared.TheConstants.{PAGE_WORDS};
 ghost use Rattle.plain_model.specs.declared.fork.Fork.{Fork as AFork};
@@ -8,6 +8,7 @@ ghost use Rattle.plain_model.specs.Forks.{fork_line, superior_of};
 ghost use Rattle.script_texts.specs.Limits.{FitsCause, FitsItem};
 ghost use Rattle.machine_names.specs.Bounds.{IsAddress, IsTerminal};
 ghost use Rattle.page_contracts.specs.DrumWords.{DrumWords};
+ghost use Rattle.page_contracts.specs.Stores.{IsNeeded};
 ghost use Rattle.plain_pages.specs.References.{slot_at as slot_of};
 ghost use Rattle.std.specs.Option.{option_map_or};
 ghost use Rattle.fork_tree.specs.Trees.{IsTree};
@@ -21,7 +22,7 @@ use crate::looking::seen_word;
 use crate::writing::write_word;
 use fork_tree::Tree;
 use machine_names::{ACCUMULATORS, ForkName, Tty};
-use page_contracts::Pages;
+use page_contracts::{Need, Pages};
 use plain_model::Fork;
 use script_texts::{ForkLine, ForkStatus, Item, Refusal};
 use word36::Word;
@@ -35,6 +36,7 @@ pub fn poke<P: Pages>(
     address: u32,
     word: Word,
 ) -> Result<(), Refusal>
+    requires flat { P.means.flat ≡ true }
     requires fork { Holds P.means pages.old fork }
     requires accumulators { (f : AFork) → map.get tree.old.forks fork ≡ Some f → length f.body.regs.ac ≡ ACCUMULATORS }
     requires serial { P.means.serial pages.old fork.tty < 2 ^ 61 }
@@ -70,26 +72,29 @@ pub fn start(tree: &mut Tree, fork: ForkName, address: u32)
 }
 
 /// The word at an address of a terminal's fork with this serial, whatever its access, as it is shown. NoFork, where
-/// none lives; NoPage, where no page is there.
+/// none lives; NoPage, where no page is there. Err: a map on the way or the page is in no frame.
 pub fn examined<P: Pages>(
     tree: &Tree,
     pages: &P,
     t: Tty,
     serial: u32,
     address: u32,
-) -> Result<Item, Refusal>
+) -> Result<Result<Item, Refusal>, Need>
     requires each { (f : AFork) → map.get tree.now.forks (record { tty = t; serial = serial }) ≡ Some f
         → Holds P.means pages.now f.name × (length f.body.regs.ac ≡ ACCUMULATORS) }
     requires address { IsAddress address }
-    ensures told { (d : DrumWords) → P.means.fits pages.now d → result ≡ examined_in (P.means.plain pages.now d) tree.now.forks t serial address }
-    ensures fits { IsTerminal t → serial < 1000000 → FitsItem (item_of result) }
+    ensures told { (d : DrumWords) → P.means.fits pages.now d → IfOk result (λ seen. seen ≡ examined_in (P.means.plain pages.now d) tree.now.forks t serial address) }
+    ensures fits { IsTerminal t → serial < 1000000 → IfOk result (λ seen. FitsItem (item_of seen)) }
+    ensures needs { IfErr result (IsNeeded P.means.store 1 pages.now) }
+    ensures core { P.means.flat ≡ true → IsOk result }
 {
     let Some(fork) = tree.fork(ForkName { tty: t, serial }) else {
-        return Err(Refusal::NoFork(t));
+        return Ok(Err(Refusal::NoFork(t)));
     };
     match seen_word(pages, fork, address) {
-        Some(word) => Ok(Item::Examined(t, serial, address, word)),
-        None => Err(Refusal::NoPage(t)),
+        Ok(Some(word)) => Ok(Ok(Item::Examined(t, serial, address, word))),
+        Ok(None) => Ok(Err(Refusal::NoPage(t))),
+        Err(need) => Err(need),
     }
 }
 

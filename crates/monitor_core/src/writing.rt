@@ -13,6 +13,7 @@ use word36::Word;
 
 // Makes what a write to a slot wants: a zero page, a private copy, or the one and then the other.
 fn readied<P: Pages>(pages: &mut P, slot: Slot) -> Result<(), Refusal>
+    requires flat { P.means.flat ≡ true }
     requires fork { Holds P.means pages.old slot.fork }
     requires page { slot.page < SPACE_PAGES }
     requires serial { P.means.serial pages.old slot.fork.tty < 2 ^ 61 }
@@ -53,6 +54,7 @@ pub fn write_word<P: Pages>(
     offset: u16,
     word: Word,
 ) -> Result<(), Refusal>
+    requires flat { P.means.flat ≡ true }
     requires fork { Holds P.means pages.old slot.fork }
     requires page { slot.page < SPACE_PAGES }
     requires offset { offset < PAGE_WORDS }

@@ -39,8 +39,11 @@ impl<P: Pages> System<P> {
                 Ok(Reply::Nothing)
             }
             JobEvent::Examine(serial, address) => {
-                let item = examined(&self.tree, &self.pages, t, serial, address)?;
-                Ok(Reply::One(item))
+                match examined(&self.tree, &self.pages, t, serial, address) {
+                    Ok(seen) => Ok(Reply::One(seen?)),
+                    // Pages in memory alone need nothing first.
+                    Err(_) => unreachable!(),
+                }
             }
             JobEvent::Forks => Ok(Reply::Forks(t)),
         }

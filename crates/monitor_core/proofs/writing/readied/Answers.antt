@@ -24,7 +24,7 @@ returns-in-Copy-touch-clause-told g c d f =
 
 pub returns-in_default : goal.returns-in_default
 returns-in_default g c =
-    let core : is_in_core c.touch-in-Zero.result ≡ true = c.touch-in-Zero.ensures.core c.requires.fork.flat in
+    let core : is_in_core c.touch-in-Zero.result ≡ true = c.touch-in-Zero.ensures.core c.requires.flat in
     let ready : c.touch-in-Zero.result ≡ Ready = settles_ready (g.P.Pages.means.touched c.args.pages.now _ _) c.touch-in-Zero.result (sym c.in-Zero.ensures.answer) (subst (SettlesTo _) (sym c.touch-in-Zero.ensures.answer) c.settle.ensures.settles) c.in_default.not-Copy core in
     record {
       told = λ d f.

@@ -22,7 +22,7 @@ returns-in_default g c =
     (entry_read c.args.self.now.jobs.items c.args.t.0 c.index_mut.result.now c.args.self.now.sound.job_room c.requires.terminal c.index_mut.ensures.value ∙ c.in_default.is)
 
 pub poke-requires-clause-fork : goal.poke-requires-clause-fork
-poke-requires-clause-fork g c = holds_top c.args.self.now c.requires.flat c.are_trees.ensures c.args.t.0 c.in-Some.job (job_read c.args.self.now.jobs.items c.args.t.0 _ c.in-Some.job c.args.self.now.sound.job_room c.requires.terminal c.index_mut.ensures.value c.in-Some.is)
+poke-requires-clause-fork g c = holds_top c.args.self.now c.are_trees.ensures c.args.t.0 c.in-Some.job (job_read c.args.self.now.jobs.items c.args.t.0 _ c.in-Some.job c.args.self.now.sound.job_room c.requires.terminal c.index_mut.ensures.value c.in-Some.is)
 
 pub poke-requires-clause-accumulators : goal.poke-requires-clause-accumulators
 poke-requires-clause-accumulators g c f e = (c.args.self.now.sound.each_fork f (held_lives c.args.self.now.tree.forks c.are_trees.ensures.slotted c.in-Some.job.top f e)).accumulators
@@ -68,18 +68,18 @@ returns-in-Start g c =
 pub examined-requires-clause-each : goal.examined-requires-clause-each
 examined-requires-clause-each g c f e =
     let lives = held_lives c.args.self.now.tree.forks c.are_trees.ensures.slotted _ f e in
-    (holds_fork c.args.self.now c.requires.flat c.are_trees.ensures f lives, (c.args.self.now.sound.each_fork f lives).accumulators)
+    (holds_fork c.args.self.now c.are_trees.ensures f lives, (c.args.self.now.sound.each_fork f lives).accumulators)
 
-pub returns-in_ok-item-in-Examine : goal.returns-in_ok-item-in-Examine
-returns-in_ok-item-in-Examine g c =
-    did_examine c.args.self.now _ refl refl (put_back c.args.self.now.jobs.items c.args.t.0 c.index_mut.result.now (Some c.in-Some.job) c.index_mut.ensures.value c.in-Some.is) refl c.args.t c.args.e c.in-Some.job (job_read c.args.self.now.jobs.items c.args.t.0 _ c.in-Some.job c.args.self.now.sound.job_room c.requires.terminal c.index_mut.ensures.value c.in-Some.is) c.in-Examine.serial c.in-Examine.address c.examined.result _ c.in-Examine.is
-    (ap (λ r. One (item_of r)) c.in_ok-item-in-Examine.was) (c.examined.ensures.fits c.requires.terminal (subst FitsJobEvent c.in-Examine.is c.requires.fits).0) c.examined.ensures.told
+pub returns-in_ok-seen-in-Ok : goal.returns-in_ok-seen-in-Ok
+returns-in_ok-seen-in-Ok g c =
+    did_examine c.args.self.now _ refl refl (put_back c.args.self.now.jobs.items c.args.t.0 c.index_mut.result.now (Some c.in-Some.job) c.index_mut.ensures.value c.in-Some.is) refl c.args.t c.args.e c.in-Some.job (job_read c.args.self.now.jobs.items c.args.t.0 _ c.in-Some.job c.args.self.now.sound.job_room c.requires.terminal c.index_mut.ensures.value c.in-Some.is) c.in-Examine.serial c.in-Examine.address c.in-Ok.seen _ c.in-Examine.is
+    (ap (λ r. One (item_of r)) c.in_ok-seen-in-Ok.was) (c.in-Ok.ensures.fits c.requires.terminal (subst FitsJobEvent c.in-Examine.is c.requires.fits).0) c.in-Ok.ensures.told
 
-pub returns-in_err-item-in-Examine : goal.returns-in_err-item-in-Examine
-returns-in_err-item-in-Examine g c =
-    did_examine c.args.self.now _ refl refl (put_back c.args.self.now.jobs.items c.args.t.0 c.index_mut.result.now (Some c.in-Some.job) c.index_mut.ensures.value c.in-Some.is) refl c.args.t c.args.e c.in-Some.job (job_read c.args.self.now.jobs.items c.args.t.0 _ c.in-Some.job c.args.self.now.sound.job_room c.requires.terminal c.index_mut.ensures.value c.in-Some.is) c.in-Examine.serial c.in-Examine.address c.examined.result _ c.in-Examine.is
-    (ap (λ r. One (item_of r)) c.in_err-item-in-Examine.was ∙ ap reply_of (sym (errs c.from_residual-in_err-item-in-Examine.result _ c.from_residual-in_err-item-in-Examine.ensures.1)))
-    (c.examined.ensures.fits c.requires.terminal (subst FitsJobEvent c.in-Examine.is c.requires.fits).0) c.examined.ensures.told
+pub returns-in_err-seen-in-Ok : goal.returns-in_err-seen-in-Ok
+returns-in_err-seen-in-Ok g c =
+    did_examine c.args.self.now _ refl refl (put_back c.args.self.now.jobs.items c.args.t.0 c.index_mut.result.now (Some c.in-Some.job) c.index_mut.ensures.value c.in-Some.is) refl c.args.t c.args.e c.in-Some.job (job_read c.args.self.now.jobs.items c.args.t.0 _ c.in-Some.job c.args.self.now.sound.job_room c.requires.terminal c.index_mut.ensures.value c.in-Some.is) c.in-Examine.serial c.in-Examine.address c.in-Ok.seen _ c.in-Examine.is
+    (ap (λ r. One (item_of r)) c.in_err-seen-in-Ok.was ∙ ap reply_of (sym (errs c.from_residual-in_err-seen-in-Ok.result _ c.from_residual-in_err-seen-in-Ok.ensures.1)))
+    (c.in-Ok.ensures.fits c.requires.terminal (subst FitsJobEvent c.in-Examine.is c.requires.fits).0) c.in-Ok.ensures.told
 
 pub returns-in-Forks : goal.returns-in-Forks
 returns-in-Forks g c =
