@@ -12,7 +12,7 @@ use Rattle.page_contracts.specs.DrumWords.{DrumWords}
 use Rattle.page_contracts.specs.Pages.{PagesMeaning, HasSpace, OnlyUses, StaysPut, fork_place}
 use Rattle.page_contracts.specs.Stores.{IsUsed}
 use Rattle.plain_pages.specs.PlainPages.{NumberedPages}
-use Rattle.ka10_in_place.specs.declared.addressing.Address.{Address}
+use Rattle.ka10_deeds.specs.declared.word_fields.Address.{Address}
 use Rattle.ka10_in_place.specs.declared.spots.Spot.{Spot}
 use Rattle.ka10_in_place.specs.declared.spots.Spot.TheVariants.{Accumulator, Page}
 use Rattle.ka10_in_place.specs.Glide.{Addressed}
