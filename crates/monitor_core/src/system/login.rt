@@ -1,19 +1,19 @@
 // LOGIN: a job is made.
-ghost use Rattle.std.specs.Prelude.{◌≡◌, ◌<◌, None, Ok, true};
+ghost use Rattle.std.specs.Prelude.{◌≡◌, ◌<◌, IfErr, IfOk, IsOk, None, Ok, true};
 ghost use Rattle.machine_names.specs.Bounds.{IsTerminal};
 ghost use Rattle.script_texts.specs.declared.event.Event.{Event as AnEvent};
 ghost use Rattle.script_texts.specs.declared.event.Step.{Step as AStep};
 ghost use Rattle.fork_tree.specs.Making.{room_for};
 ghost use Rattle.monitor_core.specs.Jobs.{job_at};
 ghost use Rattle.monitor_core.specs.Replies.{reply_of};
-ghost use Rattle.monitor_core.specs.Systems.{Did};
+ghost use Rattle.monitor_core.specs.Systems.{Did, Waits};
 
 use crate::job::Job;
 use crate::reply::Reply;
 use crate::system::System;
 use fork_tree::NoFork;
 use machine_names::{DirName, ForkName, Tty, character};
-use page_contracts::{Pages, Room};
+use page_contracts::{Need, Pages, Room};
 use plain_pages::NewMap;
 use script_texts::{Item, Refusal};
 
@@ -39,20 +39,20 @@ impl<P: Pages> System<P> {
         }
     }
 
-    // Makes a job where the drum has room for its fork. Full, where it has none.
-    fn add_where_room(&mut self, t: Tty, user: DirName) -> Result<Reply, Refusal>
+    // Makes a job where the drum has room for its fork. Full, where it has none. Err: its map finds no frame, and nothing is done.
+    fn add_where_room(&mut self, t: Tty, user: DirName) -> Result<Result<Reply, Refusal>, Need>
         requires terminal { IsTerminal t }
         requires free { job_at self.old.jobs.items t.0 ≡ None }
         requires unused { room_for self.old.tree t ≡ Ok tt }
-        requires flat { P.means.flat ≡ true }
-        ensures { Did self.old self.new (AStep.Outer (AnEvent.Login t user)) (reply_of result) }
+        ensures did { IfOk result (λ done. Did self.old self.new (AStep.Outer (AnEvent.Login t user)) (reply_of done)) }
+        ensures waits { IfErr result (Waits self.old self.new) }
+        ensures core { P.means.flat ≡ true → IsOk result }
     {
         self.tree.are_trees();
         match self.pages.room(1) {
-            Room::Enough => Ok(self.add_job(t, user)),
-            Room::Full => Err(Refusal::Full(t)),
-            // Flat pages have no frames.
-            Room::NeedFrame => unreachable!(),
+            Room::Enough => Ok(Ok(self.add_job(t, user))),
+            Room::Full => Ok(Err(Refusal::Full(t))),
+            Room::NeedFrame => Err(Need::Frame),
         }
     }
 
@@ -68,7 +68,11 @@ impl<P: Pages> System<P> {
         }
         self.tree.are_trees();
         match self.tree.can_make(t) {
-            Ok(()) => self.add_where_room(t, user),
+            Ok(()) => match self.add_where_room(t, user) {
+                Ok(done) => done,
+                // Pages in memory alone need nothing first.
+                Err(_) => unreachable!(),
+            },
             Err(NoFork::SerialsOut) => Err(Refusal::SerialsOut(t)),
             // Where no job is, no slot is in use.
             Err(NoFork::ForksFull) => unreachable!(),
