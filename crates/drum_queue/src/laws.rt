@@ -1,5 +1,5 @@
 // What follows from the definitions, in the words of their users. A law does nothing when it runs.
-ghost use Rattle.std.specs.Prelude.{◌≡◌, List, [], ◌++◌};
+ghost use Rattle.std.specs.Prelude.{List, [], ◌++◌};
 ghost use Rattle.drum_queue.specs.History.{AreAmong, Deed, begun, ended, left};
 
 /// Whatever is done to a queue that is empty at first, a transfer begins before it ends, and those

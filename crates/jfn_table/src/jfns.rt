@@ -1,9 +1,8 @@
 // The JFNs of one job.
-ghost use Rattle.std.specs.Prelude.{◌≡◌, ℕ, ◌<◌, ◌≤◌, IfOk, IfSome, IsSome, MatchResult};
-ghost use Rattle.std.specs.Option.{IsSomeAnd};
+ghost use Rattle.std.specs.Prelude.{◌≡◌, ◌<◌, ◌≤◌, IfOk, IfSome, IsSome, MatchResult};
 ghost use Rattle.std.specs.FinMap as map;
-ghost use Rattle.plain_files.specs.Bytes.{IsByteSize, most_bytes};
-ghost use Rattle.plain_files.specs.JobFiles.{AreJfns, CanSeek, FitsJfn, TakesLeast, moved, names_in, opened};
+ghost use Rattle.plain_files.specs.Bytes.{IsByteSize};
+ghost use Rattle.plain_files.specs.JobFiles.{AreJfns, CanSeek, TakesLeast, moved, names_in, opened};
 
 use machine_names::FileNo;
 use number_map::NumberMap;

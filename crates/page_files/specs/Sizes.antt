@@ -1,5 +1,5 @@
 -- The lengths of files as they are kept.
-use Rattle.std.specs.Prelude.{ℕ, List, map}
+use Rattle.std.specs.Prelude.{List, map}
 use Rattle.plain_files.specs.Sizes.{PlainFile}
 use Rattle.page_files.specs.declared.lengths.FileLength.{FileLength}
 

@@ -1,5 +1,5 @@
 // What follows from the definitions, in the words of their users. A law does nothing when it runs.
-ghost use Rattle.std.specs.Prelude.{◌≡◌, ◌≢◌, ℕ};
+ghost use Rattle.std.specs.Prelude.{ℕ};
 ghost use Rattle.std.specs.FinMap as map;
 ghost use Rattle.machine_names.specs.Orders.{FilePage};
 ghost use Rattle.plain_files.specs.Bytes.{IsByteSize, IsNextPlace};

@@ -1,5 +1,5 @@
 // A tree of keys, the lesser of each two above them (Knuth, volume 3, section 5.2.3).
-ghost use Rattle.std.specs.Prelude.{◌≡◌, ℕ, ◌*◌, ◌+◌, ◌<◌, None, IfOk, MatchOption, length, replicate, slice_index_or, slice_set, if◌then◌else◌};
+ghost use Rattle.std.specs.Prelude.{◌≡◌, ℕ, ◌*◌, ◌+◌, ◌<◌, None, IfOk, MatchOption, length, replicate, slice_index_or, slice_set};
 ghost use Rattle.tournament.specs.Keys.{AreAbsent, IsLeast, goes_first, lesser};
 
 use outside::Memory;
