@@ -31,7 +31,7 @@ use Rattle.page_contracts.specs.declared.store.Room.TheVariants.{Enough, NeedFra
 use Rattle.page_contracts.specs.DrumWords.{DrumWords}
 use Rattle.plain_pages.specs.PlainPages.{PlainPages, NumberedPages, page_serial}
 use Rattle.plain_pages.specs.Maps.{entry_at, maps_on_way}
-use Rattle.plain_pages.specs.Room.{live, uses}
+use Rattle.plain_pages.specs.Room.{FitsLimit, live, uses}
 use Rattle.plain_pages.specs.References.{Spot, in_map, in_file, Making, blank, copy, Referred, granted, denied, full, reference, next_making, words_of, page_at}
 use Rattle.page_contracts.specs.Stores.{StoreMeaning, IsSound, IsNeeded, Loses, Renews, RenewsNone, away, free, away_of, is_here, is_taken, place, traffic}
 use Rattle.machine_names.specs.Bounds.{IsOwner}
@@ -380,7 +380,7 @@ pub record Agrees {P : Type 0} (means : PagesMeaning P) (p : P) (plain : Numbere
   pub next : (t : Tty) → IsOwner t → means.serial p t ≡ page_serial plain t
   pub number : means.count p ≡ live plain
   pub bound : means.most p ≡ plain.limit
-  pub room : live plain ≤ plain.limit
+  pub room : FitsLimit plain
   pub housed : (n : PageName) → is_some (means.page_home p n) ≡ map.contains_key plain.objects n
   pub absent_pages : (n : PageName) (home : ℕ) → (means.scene p).page_away n ≡ Some home → map.contains_key plain.objects n ≡ true
   pub absent_maps : (f : ForkName) (home : ℕ) → (means.scene p).map_away f ≡ Some home → map.contains_key plain.maps f ≡ true

@@ -10,7 +10,7 @@ use Rattle.plain_pages.specs.declared.map.MapEntry.TheVariants.{Names}
 use Rattle.machine_names.specs.declared.names.TheConstants.{SPACE_PAGES}
 use Rattle.plain_pages.specs.PlainPages.{NumberedPages, page_serial}
 use Rattle.plain_pages.specs.Maps.{entry_at}
-use Rattle.plain_pages.specs.Room.{same_page, uses, live}
+use Rattle.plain_pages.specs.Room.{FitsLimit, live, same_page, uses}
 use Rattle.plain_pages.specs.References.{in_map, words_of, words_at}
 use Rattle.machine_names.specs.PageWords.{zero_words}
 use Rattle.machine_names.specs.Orders.{same_fork}
@@ -56,7 +56,7 @@ pub record AreChanged (p q : NumberedPages) (owner : Tty) (cs : List Change) (ho
   pub there : (s : Slot) → is_some (entry_at q.maps s) ≡ is_some (entry_at p.maps s)
   pub count : live q ≡ live p + homes
   pub limit : q.limit ≡ p.limit
-  pub room : live q ≤ q.limit
+  pub room : FitsLimit q
   pub whole : AreWhole q
   pub names : (x : PageName) → map.contains_key p.objects x ≡ true → uses q x + taken_names x cs ≡ uses p x
   pub later : page_serial p owner ≤ page_serial q owner

@@ -14,7 +14,7 @@ use Rattle.page_contracts.specs.declared.store.Room.TheVariants as room
 use Rattle.machine_names.specs.declared.names.TheConstants.{SPACE_PAGES}
 use Rattle.plain_pages.specs.PlainPages.{NumberedPages}
 use Rattle.plain_pages.specs.Maps.{Chain, entry_at, chain}
-use Rattle.plain_pages.specs.Room.{live, same_page}
+use Rattle.plain_pages.specs.Room.{FitsLimit, live, same_page}
 use Rattle.plain_pages.specs.References.{Referred, granted, denied, full, in_map, reference}
 use Rattle.machine_names.specs.declared.names.ForkName.{ForkName}
 use Rattle.machine_names.specs.declared.names.Place.{Place}
@@ -86,7 +86,7 @@ AreSourcesNear p scene cs = (s t : Slot) (c : Change) → change_of cs s ≡ Som
 -- whole pages with room, of which those in no frame are some
 pub record AreSound (p : NumberedPages) (scene : Scene) : Type 0 where
   pub whole : AreWhole p
-  pub room : live p ≤ p.limit
+  pub room : FitsLimit p
   pub away : (n : PageName) (home : ℕ) → scene.page_away n ≡ Some home → map.contains_key p.objects n ≡ true
 
 -- how many pages and forks there may be until no frame is free

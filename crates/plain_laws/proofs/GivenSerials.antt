@@ -19,7 +19,7 @@ use Rattle.plain_pages.specs.PlainPages.{PlainPages, Map, Maps}
 use Rattle.plain_pages.specs.Maps.{entry_at, full_access, narrow, set_entry}
 use Rattle.plain_pages.specs.NewMaps.{empty_map, following_map, new_map}
 use Rattle.plain_pages.specs.Room.{HasRoom, page_in}
-use Rattle.plain_pages.specs.References.{Making, blank, copy, in_map, in_file, makings, make, make_all, next_page, granted, denied, reference, slot_at, stored, with_entry, without_fork}
+use Rattle.plain_pages.specs.References.{Making, blank, copy, in_map, in_file, makings, make, make_all, next_page, granted, denied, reference, slot_at, stored, with_entry, without_fork, with_changed}
 use Rattle.plain_pages.specs.WholePages.{AreWhole}
 use Rattle.plain_pages.proofs.Kept.{drop_all_leaves, entry_maps}
 use Rattle.plain_pages.proofs.Settles.{copy_maps}
@@ -29,7 +29,7 @@ use Rattle.plain_units.specs.Blocks.{stored_from}
 use Rattle.plain_units.specs.Steps.{Progress, Steps, plainly, run}
 use Rattle.plain_model.specs.declared.call.MapChange.{MapChange}
 use Rattle.plain_model.specs.declared.call.MapChange.TheVariants.{Nothing, Unmap, Follow, Narrow}
-use Rattle.plain_model.specs.MapCalls.{map_changed, with_changed}
+use Rattle.plain_model.specs.MapCalls.{map_changed}
 use Rattle.plain_model.proofs.ForkMaps.{cases_name, get_put, get_put_other, get_gone, get_gone_other}
 use Rattle.plain_laws.specs.Whole.{AreGiven}
 use Rattle.plain_laws.proofs.Led.{run_led, words_led}

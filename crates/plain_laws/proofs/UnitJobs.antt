@@ -22,13 +22,13 @@ use Rattle.plain_pages.specs.PlainPages.{NamedPages}
 use Rattle.machine_names.specs.Orders.{name_cmp}
 use Rattle.plain_pages.specs.Maps.{entry_at, set_entry, narrow}
 use Rattle.plain_pages.specs.Room.{page_in, uses}
-use Rattle.plain_pages.specs.References.{drop_unnamed, with_entry}
+use Rattle.plain_pages.specs.References.{drop_unnamed, with_entry, with_changed}
 use Rattle.plain_model.specs.Forks.{ForkMap, with_regs}
 use Rattle.plain_model.specs.Interrupts.{posted}
 use Rattle.plain_units.specs.Instructions.{instruction}
 use Rattle.plain_units.specs.Steps.{Planned, Ending, done, call, trap, need, stopped as unit_stopped, begun, pages_left}
 use Rattle.plain_model.specs.Calls.{Turn, fork_behind, parts_behind, out_of, posted_if}
-use Rattle.plain_model.specs.MapCalls.{with_changed, map_changed}
+use Rattle.plain_model.specs.MapCalls.{map_changed}
 use Rattle.plain_model.specs.Trees.{tree_of}
 use Rattle.plain_model.specs.Unit.{Effect, unit_ended, called, went, over, unit, parts_of}
 use Rattle.plain_units.specs.Units.{unit_on}

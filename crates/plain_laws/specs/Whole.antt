@@ -11,7 +11,7 @@ use Rattle.plain_pages.specs.Maps.{entry_at}
 use Rattle.plain_model.specs.declared.fork.Fork.{Fork}
 use Rattle.plain_model.specs.State.{PlainState, PlainJob}
 use Rattle.machine_names.specs.Orders.{FilePage}
-use Rattle.plain_pages.specs.Room.{live}
+use Rattle.plain_pages.specs.Room.{FitsLimit, live}
 use Rattle.plain_pages.specs.WholePages.{AreWhole}
 use Rattle.plain_model.specs.Trees.{next_serial, tree_of}
 use Rattle.fork_tree.specs.Trees.{IsTree}
@@ -25,7 +25,7 @@ AreGiven next maps = (at : Slot) (serial page : ℕ) (a : Access) → entry_at m
 -- lives and is older; who is followed was once made; a terminal with forks has a job; and the top fork of a job is in slot 1, and has no superior
 pub record IsWhole (s : PlainState) : Type 0 where
   pub pages : AreWhole s.pages
-  pub room : live s.pages ≤ s.pages.limit
+  pub room : FitsLimit s.pages
   pub files : (f : FilePage (List ℕ)) → map.contains_key s.pages.files f ≡ true → map.contains_key s.files f.file ≡ true
   pub forks : (f : ForkName) → map.contains_key s.forks f ≡ map.contains_key s.pages.maps f
   pub tree : IsTree (tree_of s)

@@ -17,10 +17,10 @@ use Rattle.plain_pages.specs.PlainPages.{PlainPages, Maps, refiled}
 use Rattle.machine_names.specs.Orders.{file_page_cmp}
 use Rattle.plain_pages.specs.Maps.{entry_at, set_entry, narrow}
 use Rattle.plain_pages.specs.Room.{page_in, uses, live}
-use Rattle.plain_pages.specs.References.{drop_unnamed, with_entry}
+use Rattle.plain_pages.specs.References.{drop_unnamed, with_entry, with_changed}
 use Rattle.plain_pages.specs.WholePages.{AreWhole}
 use Rattle.plain_model.specs.Calls.{parts_behind}
-use Rattle.plain_model.specs.MapCalls.{with_changed, map_changed}
+use Rattle.plain_model.specs.MapCalls.{map_changed}
 use Rattle.plain_pages.proofs.Chains.{keys_set}
 use Rattle.plain_pages.proofs.Kept.{old_there, entry_kept, entry_maps, entry_whole, live_entry, narrow_page}
 use Rattle.plain_pages.proofs.Refiled.{NameAlike, entry_refiled}

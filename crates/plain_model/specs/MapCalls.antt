@@ -19,7 +19,7 @@ use Rattle.plain_pages.specs.declared.map.MapEntry.TheVariants as entry
 use Rattle.plain_units.specs.declared.registers.Regs.{Regs}
 use Rattle.plain_pages.specs.PlainPages.{PlainPages}
 use Rattle.plain_pages.specs.Maps.{entry_at, narrow}
-use Rattle.plain_pages.specs.References.{in_map, with_entry}
+use Rattle.plain_pages.specs.References.{in_map, with_changed}
 use Rattle.plain_model.specs.Forks.{ForkMap}
 use Rattle.plain_units.specs.Deeds.{in_ac}
 use Rattle.plain_model.specs.Handles.{named}
@@ -126,10 +126,6 @@ abbrev pub map_call : ℕ → Asked → Turn ⊥ MapChange
 map_call number a = numbered map_calls number a
 
 module _ {K : Type 0} {file_cmp : K → K → Ordering} where
-  -- the pages with another entry in a slot, where there is one
-  abbrev pub with_changed : PlainPages file_cmp → Slot → (MapEntry → MapEntry) → PlainPages file_cmp
-  with_changed p slot change = option_map_or (λ e. with_entry p slot (change e)) (entry_at p.maps slot) p
-
   -- what a change of a call on maps leaves
   unfoldable pub map_changed : MapChange → PlainPages file_cmp → PlainPages file_cmp
   map_changed Nothing p = p

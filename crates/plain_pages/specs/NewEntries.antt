@@ -9,8 +9,8 @@ use Rattle.machine_names.specs.declared.names.Slot.{Slot}
 use Rattle.plain_pages.specs.declared.map.NewEntry.{NewEntry}
 use Rattle.plain_pages.specs.declared.map.NewEntry.TheVariants.{Empty as SetEmpty, FilePage as SetFilePage, Follows as SetFollows, Narrow as SetNarrow}
 use Rattle.plain_pages.specs.PlainPages.{NumberedPages}
-use Rattle.plain_pages.specs.Maps.{entry_at, narrow}
-use Rattle.plain_pages.specs.References.{with_entry}
+use Rattle.plain_pages.specs.Maps.{narrow}
+use Rattle.plain_pages.specs.References.{with_changed}
 
 -- what an entry becomes that is set anew
 abbrev pub entry_to : NumberedPages → NewEntry → MapEntry → MapEntry
@@ -21,7 +21,7 @@ entry_to p (SetNarrow a) e = narrow a e
 
 -- the pages with an entry set anew, where there is one
 unfoldable pub changed : NumberedPages → Slot → NewEntry → NumberedPages
-changed p s new = option_map_or (λ e. with_entry p s (entry_to p new e)) (entry_at p.maps s) p
+changed p s new = with_changed p s (entry_to p new)
 
 -- what an entry may be set to: it may follow a page of a space; pages of files aren't built
 abbrev pub IsNewEntry : NewEntry → Type 0

@@ -111,6 +111,10 @@ module _ {K : Type 0} {file_cmp : K → K → Ordering} where
   unfoldable pub with_entry : PlainPages file_cmp → Slot → MapEntry → PlainPages file_cmp
   with_entry p s e = let q = record p { maps = set_entry p.maps s e } in option_map_or (drop_unnamed q) (option_and_then page_in (entry_at p.maps s)) q
 
+  -- the pages with the entry of a slot changed, where there is one
+  abbrev pub with_changed : PlainPages file_cmp → Slot → (MapEntry → MapEntry) → PlainPages file_cmp
+  with_changed p s change = option_map_or (λ e. with_entry p s (change e)) (entry_at p.maps s) p
+
   -- of these pages those are dropped that nothing names
   abbrev pub drop_all_unnamed : PlainPages file_cmp → List PageName → PlainPages file_cmp
   drop_all_unnamed p [] = p

@@ -1,5 +1,5 @@
 -- Room: how many pages and forks there may be.
-use Rattle.std.specs.Prelude.{ℕ, ◌+◌, List, [], ◌∷◌, ◌++◌, Bool, ◌&&◌, ◌==◌, nat_le, if◌then◌else◌, Option, None, Some}
+use Rattle.std.specs.Prelude.{ℕ, ◌+◌, ◌≤◌, List, [], ◌∷◌, ◌++◌, Bool, ◌&&◌, ◌==◌, nat_le, if◌then◌else◌, Option, None, Some}
 use Rattle.std.specs.List.{count_by, flat_map, filter_map, list_any}
 use Rattle.std.specs.declared.cmp.Ordering.{Ordering}
 use Rattle.std.specs.FinMap as map
@@ -34,6 +34,10 @@ module _ {K : Type 0} {file_cmp : K → K → Ordering} where
   -- the different pages that are named, and the forks that live
   unfoldable pub live : PlainPages file_cmp → ℕ
   live p = different (names p) + map.len p.maps
+
+  -- there are not more of them than there may be
+  abbrev pub FitsLimit : PlainPages file_cmp → Type 0
+  FitsLimit p = live p ≤ p.limit
 
   -- whether the pages after a making have room for what its owner made
   unfoldable pub HasRoom : PlainPages file_cmp → Tty → Bool
