@@ -1,5 +1,5 @@
 // What the words ask for.
-ghost use Rattle.std.specs.Prelude.{◌≡◌, false, ℕ, List, map, string_bytes, IfOk, MatchOption};
+ghost use Rattle.std.specs.Prelude.{◌≡◌, false, List, map, string_bytes, IfOk, MatchOption};
 ghost use Rattle.clap.specs.Words.{FailsBy, fault_of, found_of, matches_of, rows_of, rule_of};
 ghost use Rattle.command_words.specs.Parser.{AsksForSizes, is_run_of, rule_named, run_app};
 ghost use Rattle.command_words.specs.Words.{IsRun, IsRunOf, Text};

@@ -1,5 +1,4 @@
 // GETER, which tells the last error of a fork.
-ghost use Rattle.std.specs.Prelude.{◌≡◌};
 ghost use Rattle.plain_model.specs.FileCalls.{geter as geter_of};
 ghost use Rattle.call_turns.specs.Turns.{IsRegs};
 ghost use Rattle.fork_calls.specs.Asking.{asked};

@@ -1,28 +1,23 @@
 -- The homes that a map which is added, and one that goes, leaves to all others.
-use Rattle.std.proofs.Common.{◌≡◌, ◌≢◌, ◌⊎◌, inl, inr, ℕ, ◌+◌, ◌≤◌, List, Option, None, Some, refl, sym, ◌∙◌, ap, subst, arith}
-use Rattle.std.specs.Prelude.{slice_get}
-use Rattle.std.specs.Option.{option_map, option_and_then, unwrap_or}
+use Rattle.std.proofs.Common.{◌≡◌, ◌⊎◌, inl, inr, ℕ, List, Option, None, Some, refl, sym, ◌∙◌, ap, arith}
+use Rattle.std.specs.Option.{option_and_then, unwrap_or}
 use Rattle.machine_names.specs.declared.names.Access.{Access}
 use Rattle.machine_names.specs.declared.names.ForkName.{ForkName}
 use Rattle.machine_names.specs.declared.names.PageName.{PageName}
 use Rattle.page_homes.specs.declared.homes.Home.{Home}
-use Rattle.plain_pages.specs.declared.map.MapEntry.{MapEntry}
 use Rattle.plain_pages.specs.declared.map.MapEntry.TheVariants.{Names}
-use Rattle.page_contracts.specs.declared.answers.Seen.{Seen}
 use Rattle.page_contracts.specs.declared.answers.Seen.TheVariants.{Is}
 use Rattle.page_contracts.specs.Pages.{AddsMap, DropsMap, NamesPage, PagesMeaning}
 use Rattle.page_contracts.specs.Stores.{StoreMeaning, free, place}
 use Rattle.flat_pages.specs.declared.held_entry.HeldEntry.{HeldEntry}
 use Rattle.flat_pages.specs.declared.held_entry.HeldEntry.TheVariants.{Empty, Page, Follows}
-use Rattle.flat_pages.specs.HeldMaps.{entry_of, fork_at, held_entry, index_of, map_at, name_at, name_of, nobody}
+use Rattle.flat_pages.specs.HeldMaps.{entry_of, held_entry, index_of, name_at, nobody}
 use Rattle.flat_pages.specs.Emptying.{MapNames}
-use Rattle.flat_pages.specs.SlotSteps.{HomeStays, NamesHome}
+use Rattle.flat_pages.specs.SlotSteps.{HomeStays}
 use Rattle.flat_pages.specs.SlotMeaning.{seen_entry, seen_in, slots_meaning}
 use Rattle.flat_pages.specs.SlotTables.{Tables, AreTables}
 use Rattle.flat_pages.specs.SlotTouches.{home_named}
 use Rattle.flat_pages.proofs.Agreement.{entry_named}
-use Rattle.flat_pages.proofs.ForkMaps.{index_fork}
-use Rattle.flat_pages.proofs.HeldEntries.{points_self}
 use Rattle.flat_pages.proofs.Telling.{named_home}
 use Rattle.flat_pages.proofs.Touching.{home_is}
 

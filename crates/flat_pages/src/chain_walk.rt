@@ -1,7 +1,6 @@
 // Walks along the chains of maps in memory.
-ghost use Rattle.std.specs.Prelude.{◌≡◌, ◌<◌, ◌≤◌, None, Some, IsSome, length};
+ghost use Rattle.std.specs.Prelude.{◌≡◌, ◌<◌, None, Some, IsSome, length};
 ghost use Rattle.std.specs.Option.{option_and_then};
-ghost use Rattle.plain_pages.specs.Maps.{full_access};
 ghost use Rattle.flat_pages.specs.HeldMaps.{AreHeld, fork_at, index_of};
 ghost use Rattle.flat_pages.specs.SlotTouches.{allows, copy_of};
 ghost use Rattle.flat_pages.specs.Walks.{next_at, walk_end, walk_behind, walk_within, use_of, lets, ready_home};

@@ -62,7 +62,7 @@ impl<S: Store + Drop> FlatSlots<S> {
 }
 
 impl<S: Store> FlatSlots<S> {
-    ghost use Rattle.std.specs.Prelude.{◌≡◌, ◌≤◌, ◌+◌, true, Bool, ℕ, Some, None, IsSome, if◌then◌else◌};
+    ghost use Rattle.std.specs.Prelude.{◌≡◌, ◌≤◌, ◌+◌, true, ℕ, Some, None, IsSome, if◌then◌else◌};
     ghost use Rattle.page_homes.specs.declared.homes.Home.{Home as AHome};
     ghost use Rattle.page_contracts.specs.Pages.{framed};
     ghost use Rattle.page_contracts.specs.Stores.{place, is_taken};
@@ -214,12 +214,10 @@ impl<S: Store> FlatSlots<S> {
     ghost use Rattle.machine_names.specs.declared.names.Slot.{Slot as ASlot};
     ghost use Rattle.flat_pages.specs.HeldMaps.{index_of};
     ghost use Rattle.flat_pages.specs.SlotTouches.{is_alone, walk_of};
-    ghost use Rattle.flat_pages.specs.TableSteps.{entry_kept, entry_left, home_freed};
+    ghost use Rattle.flat_pages.specs.TableSteps.{home_freed};
     ghost use Rattle.flat_pages.specs.SlotSteps.{SetsEntry};
     ghost use Rattle.flat_pages.specs.Emptying.{EmptiesMap};
-    ghost use Rattle.flat_pages.specs.Walks.{slot_of};
     ghost use Rattle.flat_pages.specs.Walks.{ready_home, walk};
-    ghost use Rattle.flat_pages.specs.declared.held_entry.HeldEntry.{HeldEntry as AHeldEntry};
 
     // An entry becomes one of no page, in the place of one that alone named the page of a home.
     fn drop_page(&mut self, at: EntryAt, home: Home, old: Access, new: HeldEntry)

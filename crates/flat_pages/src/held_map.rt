@@ -1,5 +1,5 @@
 // The maps of forks as they stand in memory.
-ghost use Rattle.std.specs.Prelude.{◌≡◌, ◌+◌, ◌<◌, ◌≤◌, None, Some, IfOk, MatchOption, ℕ, length, replicate};
+ghost use Rattle.std.specs.Prelude.{◌≡◌, ◌+◌, ◌<◌, ◌≤◌, None, Some, IfOk, length, replicate};
 ghost use Rattle.flat_pages.specs.HeldMaps.{AreHeld, no_page, free_map, map_at, fork_at, first_map, held_entry, with_entry, index_of, living_of, followers};
 
 use crate::chain_walk::FULL_ACCESS;

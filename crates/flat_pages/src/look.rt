@@ -1,6 +1,6 @@
 // What is kept beside an entry, so that few steps tell whether its page may be used.
 ghost use Rattle.std.specs.Prelude.{◌≡◌, ◌<◌};
-ghost use Rattle.flat_pages.specs.Looks.{uses_of, no_uses, no_look, look_of, use_number};
+ghost use Rattle.flat_pages.specs.Looks.{uses_of, look_of, use_number};
 
 use crate::chain_walk::Use;
 use crate::held_entry::HeldEntry;

@@ -1,6 +1,5 @@
 // The tables beside a store: the maps of forks, the names of pages, and how often each is named.
 ghost use Rattle.std.specs.Prelude.{◌≡◌, ◌<◌, ◌≤◌, ◌+◌, ◌^◌, false, is_some, None, Some, IsSome, IfOk, List, length, replicate, slice_set};
-ghost use Rattle.std.specs.Option.{option_map};
 ghost use Rattle.machine_names.specs.Bounds.{IsOwner};
 ghost use Rattle.page_contracts.specs.Stores.{HomePlace, free};
 ghost use Rattle.machine_names.specs.declared.names.TheConstants.{TERMINALS, MOST_FORKS};

@@ -1,5 +1,5 @@
 // The next page serial of each owner.
-ghost use Rattle.std.specs.Prelude.{◌≡◌, ◌<◌, ◌^◌, length};
+ghost use Rattle.std.specs.Prelude.{◌≡◌, ◌<◌, ◌^◌};
 ghost use Rattle.machine_names.specs.Bounds.{IsOwner};
 ghost use Rattle.plain_pages.specs.PlainPages.{first_serials};
 ghost use Rattle.flat_pages.specs.Serials.{serial_of, with_next};

@@ -6,7 +6,6 @@ use Rattle.plain_model.specs.declared.call.ForkChange.{ForkChange}
 use Rattle.plain_model.specs.declared.call.ForkChange.TheVariants.{Kill}
 use Rattle.page_contracts.specs.declared.answers.Need.{Need}
 use Rattle.page_contracts.specs.declared.answers.Need.TheVariants as need
-use Rattle.plain_pages.specs.declared.map.NewMap.{NewMap}
 use Rattle.machine_names.specs.declared.names.ForkName.{ForkName}
 use Rattle.plain_model.specs.Calls.{Turn}
 use Rattle.plain_model.specs.declared.call.Touched.{Touched}
@@ -17,9 +16,7 @@ use Rattle.plain_units.specs.declared.registers.Regs.{Regs}
 use Rattle.plain_pages.specs.PlainPages.{NumberedPages}
 use Rattle.plain_model.specs.Forks.{ForkMap}
 use Rattle.plain_model.specs.Inferiors.{is_inferior}
-use Rattle.plain_pages.specs.NewMaps.{with_map}
 use Rattle.page_contracts.specs.Pages.{Scene}
-use Rattle.plain_pages.specs.Room.{HasRoom}
 use Rattle.plain_units.specs.Steps.{Steps, Ending, begun, stopped, need as needs}
 use Rattle.call_turns.specs.Needing.{TurnNeeds as NeedsOf}
 use Rattle.ka10_unit.specs.Gathers.{Framed}

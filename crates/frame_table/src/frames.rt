@@ -1,5 +1,5 @@
 // The frames of core.
-ghost use Rattle.std.specs.Prelude.{◌≡◌, ◌+◌, ◌-◌, ◌<◌, ◌≤◌, Some, None, IsSome, IfOk, IfSome, ℕ, MatchOption, true, false, is_none, count_by, length, replicate, slice_index};
+ghost use Rattle.std.specs.Prelude.{◌≡◌, ◌+◌, ◌-◌, ◌<◌, ◌≤◌, Some, None, IsSome, IfOk, IfSome, ℕ, MatchOption, false, is_none, count_by, length, replicate, slice_index};
 ghost use Rattle.std.specs.Borrow.{Array, Lends, sem, u64 as number};
 ghost use Rattle.machine_names.specs.PageWords.{zero_words};
 ghost use Rattle.frame_table.specs.Core.{AreAllTaken, IsAway, IsCore, IsLeastFree, IsVictim, age_of, can_leave, holds_of, home_in, is_held, is_moving, pins_of, seat_of, used, with_page, with_tenant, with_words, without_page, words_of};

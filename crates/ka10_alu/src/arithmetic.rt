@@ -1,7 +1,7 @@
 // Moves, sums, products and quotients.
-ghost use Rattle.std.specs.Prelude.{◌≡◌, ◌↔◌, ℕ, ◌+◌, ◌-◌, ◌*◌, ◌/◌, ◌%◌, ◌^◌, ◌<◌, ◌≤◌, ℤ, ◌*ℤ◌, unsigned_abs, int_div, int_rem, Some, IsSome, IfSome, option_map, MatchOption, true};
+ghost use Rattle.std.specs.Prelude.{◌≡◌, ◌↔◌, ◌+◌, ◌*◌, ◌/◌, ◌%◌, ◌^◌, ◌<◌, ◌≤◌, ℤ, ◌*ℤ◌, unsigned_abs, int_div, int_rem, Some, IsSome, IfSome, option_map, MatchOption, true};
 ghost use Rattle.word36.specs.Words.{signed, word_of};
-ghost use Rattle.word36.specs.Arithmetic.{HasSecondWord, IsArithmetic, added, arithmetic, divided, is_signed_word, long, magnitude, moved, multiplied, multiplied_short, negated, overflow_if, subtracted, sum_of, swapped};
+ghost use Rattle.word36.specs.Arithmetic.{HasSecondWord, IsArithmetic, added, arithmetic, divided, is_signed_word, long, magnitude, moved, multiplied, multiplied_short, negated, subtracted, sum_of, swapped};
 ghost use Rattle.ka10_alu.specs.Outs.{out_of};
 
 use crate::out::Out;

@@ -1,5 +1,5 @@
 // Shifts and rotations of one word and of two together.
-ghost use Rattle.std.specs.Prelude.{◌≡◌, ◌↔◌, ℕ, ◌+◌, ◌-◌, ◌*◌, ◌/◌, ◌%◌, ◌^◌, ◌<◌, ◌≤◌, Bool, true, false, IsSome};
+ghost use Rattle.std.specs.Prelude.{◌≡◌, ◌↔◌, ◌+◌, ◌-◌, ◌*◌, ◌/◌, ◌%◌, ◌^◌, ◌<◌, ◌≤◌, false, IsSome};
 ghost use Rattle.std.specs.Int.Count.{count_leading_zeros};
 ghost use Rattle.word36.specs.Arithmetic.{HasSecondWord, in_two_words};
 ghost use Rattle.word36.specs.Shifts.{IsShift, ash_both, ash_left, ash_one, ash_overflows, ash_right, double, double_signed, first_one, is_right, logical, places, rotated, rotated_left, shifted, split, split_signed};

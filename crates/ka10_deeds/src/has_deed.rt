@@ -1,5 +1,5 @@
 // Instructions whose row is known where they are compiled, a type a family.
-ghost use Rattle.std.specs.Prelude.{ℕ, ◌^◌, ◌<◌};
+ghost use Rattle.std.specs.Prelude.{◌^◌, ◌<◌};
 ghost use Rattle.ka10_deeds.specs.Done.{DoesRow};
 
 use crate::done::Done;

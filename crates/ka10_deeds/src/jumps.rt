@@ -1,5 +1,5 @@
 // Jumps, calls and returns.
-ghost use Rattle.std.specs.Prelude.{◌≡◌, ◌+◌, ◌%◌, ◌^◌, ◌<◌, Bool, false, if◌then◌else◌};
+ghost use Rattle.std.specs.Prelude.{◌≡◌, ◌+◌, ◌%◌, ◌^◌, ◌<◌, false, if◌then◌else◌};
 ghost use Rattle.word36.specs.Shifts.{first_one};
 ghost use Rattle.ka10_table.specs.declared.families.Family.TheVariants as family;
 ghost use Rattle.ka10_table.specs.declared.families.OpMode.TheVariants.{Basic};

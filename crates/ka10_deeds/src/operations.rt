@@ -1,5 +1,5 @@
 // Operations in modes: sums, products, quotients, shifts.
-ghost use Rattle.std.specs.Prelude.{◌≡◌, ℕ, ◌^◌, ◌<◌, Some, None};
+ghost use Rattle.std.specs.Prelude.{ℕ, ◌^◌, ◌<◌, Some, None};
 ghost use Rattle.word36.specs.Arithmetic.{IsArithmetic, arithmetic};
 ghost use Rattle.word36.specs.Shifts.{IsShift};
 ghost use Rattle.plain_units.specs.Deeds.{behind_ac, in_ac, operated};

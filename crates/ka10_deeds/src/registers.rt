@@ -1,7 +1,7 @@
 // The steps of deeds: the program counter, flags, accumulators.
-ghost use Rattle.std.specs.Prelude.{◌≡◌, ℕ, ◌+◌, ◌%◌, ◌^◌, ◌<◌, if◌then◌else◌};
+ghost use Rattle.std.specs.Prelude.{◌≡◌, ℕ, ◌+◌, ◌^◌, ◌<◌, if◌then◌else◌};
 ghost use Rattle.plain_units.specs.Deeds.{behind_ac, by_mode, in_ac, next_pc, set_with, skip_pc, to_ac, to_e, to_next, unless_zero};
-ghost use Rattle.plain_units.specs.Instructions.{with_deed, with_word};
+ghost use Rattle.plain_units.specs.Instructions.{with_word};
 ghost use Rattle.ka10_deeds.specs.Done.{Leaves, stored_word};
 
 use crate::done::{Done, Post};

@@ -1,5 +1,5 @@
 // The instruction of any row.
-ghost use Rattle.std.specs.Prelude.{◌≡◌, ℕ, ◌^◌, ◌<◌};
+ghost use Rattle.std.specs.Prelude.{◌^◌, ◌<◌};
 ghost use Rattle.ka10_table.specs.Rows.{IsInLine};
 ghost use Rattle.ka10_deeds.specs.Done.{DoesRow};
 

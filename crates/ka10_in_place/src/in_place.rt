@@ -1,5 +1,5 @@
 // A unit in place.
-ghost use Rattle.std.specs.Prelude.{◌≡◌, ◌<◌, ◌^◌};
+ghost use Rattle.std.specs.Prelude.{◌<◌, ◌^◌};
 ghost use Rattle.page_contracts.specs.Pages.{HasSpace};
 ghost use Rattle.ka10_in_place.specs.InPlace.{InPlace};
 ghost use Rattle.ka10_in_place.specs.Fetches.{FetchedUnit, IsThere};

@@ -1,5 +1,5 @@
 // An instruction whose address is known.
-ghost use Rattle.std.specs.Prelude.{◌<◌, ◌^◌};
+ghost use Rattle.std.specs.Prelude.{◌<◌};
 ghost use Rattle.machine_names.specs.Bounds.{IsAddress};
 
 use word36::Word;

@@ -1,5 +1,5 @@
 // How an instruction is done in place behind its effective address, by the words that it refers to.
-ghost use Rattle.std.specs.Prelude.{◌≡◌, ℕ, ◌^◌, ◌<◌, Some, None, true};
+ghost use Rattle.std.specs.Prelude.{◌≡◌, ◌^◌, ◌<◌, Some, None, true};
 ghost use Rattle.plain_units.specs.Deeds.{in_ac};
 ghost use Rattle.machine_names.specs.Bounds.{IsAddress};
 ghost use Rattle.page_contracts.specs.Pages.{HasSpace};

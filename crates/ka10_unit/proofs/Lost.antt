@@ -1,10 +1,9 @@
 -- What units lose of what is queued and held, and what they need first.
-use Rattle.std.proofs.Common.{◌≤◌, ℕ, refl, arith}
+use Rattle.std.proofs.Common.{◌≤◌, ℕ, arith}
 use Rattle.machine_names.specs.declared.names.Kind.{Kind}
 use Rattle.machine_names.specs.declared.names.Kind.TheVariants.{Read, Write, Execute}
-use Rattle.page_contracts.specs.Pages.{PagesMeaning, MayLose}
-use Rattle.page_contracts.specs.Stores.{StoreMeaning, traffic}
-use Rattle.page_contracts.proofs.Losing.{loses_nothing, loses_on, needed_more}
+use Rattle.page_contracts.specs.Stores.{StoreMeaning}
+use Rattle.page_contracts.proofs.Losing.{needed_more}
 use Rattle.page_gather.specs.Gathering.{most_made}
 use Rattle.ka10_unit.specs.declared.taken.Stop.{Stop}
 use Rattle.ka10_unit.specs.declared.taken.Stop.TheVariants as stop

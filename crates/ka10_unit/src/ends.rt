@@ -1,5 +1,5 @@
 // The end of a unit: the operand of its instruction, and the word that it stores.
-ghost use Rattle.std.specs.Prelude.{◌≡◌, ◌<◌, ◌^◌, ℕ, IfErr, IfOk, IfSome, IsSome, None, true};
+ghost use Rattle.std.specs.Prelude.{◌≡◌, ◌<◌, ◌^◌, IfErr, IfOk, IfSome, IsSome, None};
 ghost use Rattle.plain_units.specs.declared.registers.Regs.{Regs as ARegs};
 ghost use Rattle.plain_units.specs.Deeds.{Deed};
 ghost use Rattle.plain_units.specs.Instructions.{does, finishes, storing, takes};

@@ -1,6 +1,6 @@
 // What follows from the definitions of instructions, in the words of their users. A law does nothing
 // when it runs.
-ghost use Rattle.std.specs.Prelude.{◌≡◌, ◌⊎◌, ℕ, ◌+◌, ◌*◌, ◌<◌, ◌≤◌, ◌^◌, List};
+ghost use Rattle.std.specs.Prelude.{◌⊎◌, ℕ, ◌+◌, ◌<◌, ◌≤◌, ◌^◌, List};
 ghost use Rattle.std.specs.Ordering.{nat_cmp};
 ghost use Rattle.word36.specs.Words.{IsWord};
 ghost use Rattle.machine_names.specs.declared.names.ForkName.{ForkName as AForkName};

@@ -1,5 +1,5 @@
 // Byte instructions: the pointer, and the word whose byte it names.
-ghost use Rattle.std.specs.Prelude.{◌≡◌, ◌<◌, ◌^◌, IfErr, IfOk, true};
+ghost use Rattle.std.specs.Prelude.{◌≡◌, ◌<◌, ◌^◌, IfErr};
 ghost use Rattle.plain_units.specs.Instructions.{deposits_byte, does_pointer, first_part_done, loads_byte};
 ghost use Rattle.machine_names.specs.Bounds.{IsAddress};
 ghost use Rattle.ka10_unit.specs.Gathers.{Serves};

@@ -1,5 +1,5 @@
 // One unit by its plan.
-ghost use Rattle.std.specs.Prelude.{◌≡◌, ◌<◌, ◌+◌, ◌^◌, length};
+ghost use Rattle.std.specs.Prelude.{◌≡◌, ◌<◌, ◌^◌, length};
 ghost use Rattle.machine_names.specs.declared.names.TheConstants.{ACCUMULATORS};
 ghost use Rattle.ka10_unit.specs.Carrying.{Slowly};
 ghost use Rattle.ka10_unit.specs.Gathers.{Serves};

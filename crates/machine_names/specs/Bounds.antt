@@ -1,5 +1,5 @@
 -- What is a terminal, an owner of pages, the name of a fork, of a user or of a file, and an address.
-use Rattle.std.specs.Prelude.{◌≡◌, ℕ, ◌+◌, ◌<◌, ◌≤◌, ◌^◌, List, ◌∷◌, ◌++◌, length, All, Bool, true, ◌||◌, ◌&&◌, nat_le, ◌==◌, ◌⊎◌}
+use Rattle.std.specs.Prelude.{◌≡◌, ℕ, ◌<◌, ◌≤◌, ◌^◌, List, ◌∷◌, ◌++◌, length, All, Bool, true, ◌||◌, ◌&&◌, nat_le, ◌==◌, ◌⊎◌}
 use Rattle.machine_names.specs.declared.names.TheConstants.{TERMINALS, LAST_SERIAL}
 use Rattle.machine_names.specs.declared.names.Tty.{Tty}
 use Rattle.machine_names.specs.declared.names.ForkName.{ForkName}

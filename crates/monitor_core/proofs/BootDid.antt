@@ -1,5 +1,5 @@
 -- A system with nothing in it.
-use Rattle.std.proofs.Common.{◌≤◌, ◌≡◌, ℕ, zero, suc, ◌+◌, List, length, get_or, true, false, Option, None, Some, refl, sym, ◌∙◌, ap, subst, arith, replicate, is_some}
+use Rattle.std.proofs.Common.{◌≤◌, ◌≡◌, ℕ, zero, suc, ◌+◌, List, length, get_or, false, Option, None, Some, refl, sym, ◌∙◌, ap, subst, arith, replicate, is_some}
 use Rattle.std.specs.List.{cons_option, filter_map, range_with_len}
 use Rattle.std.proofs.lemmas.List.{length-replicate}
 use Rattle.std.specs.declared.cmp.Ordering.{Ordering}

@@ -5,7 +5,6 @@ use Rattle.std.specs.Ordering.{nat_cmp}
 use Rattle.std.proofs.lemmas.Bool.Decides.{eqb_tells}
 use Rattle.plain_model.specs.declared.fork.Body.{Body}
 use Rattle.plain_model.specs.declared.fork.Fork.{Fork}
-use Rattle.machine_names.specs.declared.names.ForkName.{ForkName}
 use Rattle.page_contracts.specs.declared.answers.Need.{Need}
 use Rattle.page_contracts.specs.DrumWords.{DrumWords}
 use Rattle.page_contracts.specs.Pages.{PagesMeaning}
@@ -17,7 +16,7 @@ use Rattle.plain_model.proofs.ForkMaps.{put_itself}
 use Rattle.ka10_in_place.specs.Once.{After, in_a_row}
 use Rattle.ka10_unit.specs.Taking.{most_frames}
 use Rattle.fork_tree.specs.Trees.{IsTree, Lives}
-use Rattle.fork_calls.specs.Holding.{CallLeaves, Holds, MakesPages}
+use Rattle.fork_calls.specs.Holding.{Holds, MakesPages}
 use Rattle.fork_calls.specs.Needing.{call_frames}
 use Rattle.fork_calls.proofs.Branch.{made_on}
 use Rattle.monitor_core.specs.declared.units.Units.{Units}

@@ -1,5 +1,5 @@
 // A set of numbers as a tree of words.
-ghost use Rattle.std.specs.Prelude.{◌≡◌, ◌<◌, ◌≤◌, true, false, IfOk, MatchOption};
+ghost use Rattle.std.specs.Prelude.{◌≡◌, ◌<◌, ◌≤◌, IfOk, MatchOption};
 ghost use Rattle.std.specs.FinSet as set;
 ghost use Rattle.number_set.specs.Numbers.{AreAllThere, IsLeastAbsent};
 ghost use Rattle.number_set.specs.Words.{IsFirstClear};

@@ -1,5 +1,4 @@
 // Arithmetic on the edge words, with values worked out by hand.
-ghost use Rattle.std.specs.Prelude.{◌≡◌, ℕ, ◌<◌, ◌≤◌};
 ghost use Rattle.word36.specs.Arithmetic.{IsArithmetic};
 
 use crate::same::same_at;

@@ -1,5 +1,4 @@
 // Shifts of the edge words, with values worked out by hand.
-ghost use Rattle.std.specs.Prelude.{◌≡◌, ℕ, ◌+◌, ◌^◌, ◌<◌, ◌≤◌};
 ghost use Rattle.word36.specs.Shifts.{IsShift};
 
 use crate::same::same_at;

@@ -1,6 +1,6 @@
 -- What calls lose of what is queued and held, one after another.
 use Rattle.std.proofs.Common.{◌≡◌, ◌⊎◌, inl, inr, ℕ, List, [], ◌∷◌, ◌++◌, Bool, true, false, cond, not, ◌==◌, refl, sym, ◌∙◌, ap, subst, arith, ◌≤◌}
-use Rattle.std.specs.Prelude.{◌||◌, ◌&&◌, ◌<◌, ◌≢◌, Option, None, Some, IsSome, is_some}
+use Rattle.std.specs.Prelude.{◌||◌, ◌&&◌, ◌<◌, Option, None, Some, IsSome}
 use Rattle.std.specs.List.{filter, list_any}
 use Rattle.std.specs.Option.{option_map_or}
 use Rattle.std.proofs.lemmas.Bool.Decides.{eqb_tells}

@@ -1,5 +1,5 @@
 // Pages under homes.
-ghost use Rattle.std.specs.Prelude.{◌≡◌, ◌<◌, ◌≤◌, ◌↔◌, ◌∷◌, ◌++◌, [], ℕ, true, false, Some, length, map, IfSome, IfNone, slice_set};
+ghost use Rattle.std.specs.Prelude.{◌≡◌, ◌<◌, ◌≤◌, ℕ, true, Some, length, map, slice_set};
 ghost use Rattle.outside.specs.declared.TheConstants.{PAGE_WORDS};
 ghost use Rattle.page_contracts.specs.DrumWords.{DrumWords, Stands};
 ghost use Rattle.machine_names.specs.PageWords.{zero_words};

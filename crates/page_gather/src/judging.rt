@@ -1,5 +1,5 @@
 // What a reference makes and what it is answered, from what a walk found.
-ghost use Rattle.std.specs.Prelude.{◌≡◌, ◌≤◌, ◌<◌, ◌+◌, ℕ, List, length, true, false, None, Some, IfSome, is_some};
+ghost use Rattle.std.specs.Prelude.{◌≡◌, ◌≤◌, ◌<◌, ◌+◌, ℕ, List, length, true, false, None, Some, IfSome};
 ghost use Rattle.std.specs.Option.{option_map};
 ghost use Rattle.machine_names.specs.declared.names.Tty.{Tty as ATty};
 ghost use Rattle.machine_names.specs.declared.names.Slot.{Slot as ASlot};
@@ -8,13 +8,12 @@ ghost use Rattle.page_contracts.specs.DrumWords.{DrumWords};
 ghost use Rattle.plain_pages.specs.PlainPages.{NumberedPages};
 ghost use Rattle.plain_pages.specs.References.{in_map, page_at};
 ghost use Rattle.page_contracts.specs.Pages.{page_away as the_page_away};
-ghost use Rattle.page_gather.specs.declared.change.Change.{Change as AChange};
-ghost use Rattle.page_gather.specs.Walks.{copied_walked, permits_walked};
+ghost use Rattle.page_gather.specs.Walks.{copied_walked};
 ghost use Rattle.page_gather.specs.Changes.{are_in_space};
 ghost use Rattle.page_gather.specs.declared.reference.PageReference.{PageReference as APageReference};
 ghost use Rattle.page_gather.specs.Making.{JudgesOver, MakesAlong};
 ghost use Rattle.page_contracts.specs.Stores.{IsNeeded};
-ghost use Rattle.page_gather.specs.Gathering.{AnswerNeeds, AreGathered, GoesOn, HasWalked, Judges, after_all, changes_of, changes_with, concluded, homes_of, is_needless, most_made, page_or};
+ghost use Rattle.page_gather.specs.Gathering.{AnswerNeeds, AreGathered, HasWalked, Judges, after_all, changes_of, changes_with, concluded, homes_of, is_needless, most_made, page_or};
 
 use crate::chains::{MOST_LINKS, Way, is_same, last_change, names_taken, source_of, walk};
 use crate::change::{Change, FULL_ACCESS};

@@ -1,5 +1,5 @@
 -- What holds of the plain state wherever a run comes: its pages and its trees of forks are whole.
-use Rattle.std.specs.Prelude.{◌≡◌, ℕ, ◌<◌, ◌≤◌, List, true, None, Some}
+use Rattle.std.specs.Prelude.{◌≡◌, ℕ, ◌<◌, List, true, None, Some}
 use Rattle.std.specs.FinMap as map
 use Rattle.machine_names.specs.declared.names.Access.{Access}
 use Rattle.machine_names.specs.declared.names.ForkName.{ForkName}
@@ -11,7 +11,7 @@ use Rattle.plain_pages.specs.Maps.{entry_at}
 use Rattle.plain_model.specs.declared.fork.Fork.{Fork}
 use Rattle.plain_model.specs.State.{PlainState, PlainJob}
 use Rattle.machine_names.specs.Orders.{FilePage}
-use Rattle.plain_pages.specs.Room.{FitsLimit, live}
+use Rattle.plain_pages.specs.Room.{FitsLimit}
 use Rattle.plain_pages.specs.WholePages.{AreWhole}
 use Rattle.plain_model.specs.Trees.{next_serial, tree_of}
 use Rattle.fork_tree.specs.Trees.{IsTree}

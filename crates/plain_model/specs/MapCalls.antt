@@ -18,7 +18,7 @@ use Rattle.plain_pages.specs.declared.map.MapEntry.{MapEntry}
 use Rattle.plain_pages.specs.declared.map.MapEntry.TheVariants as entry
 use Rattle.plain_units.specs.declared.registers.Regs.{Regs}
 use Rattle.plain_pages.specs.PlainPages.{PlainPages}
-use Rattle.plain_pages.specs.Maps.{entry_at, narrow}
+use Rattle.plain_pages.specs.Maps.{narrow}
 use Rattle.plain_pages.specs.References.{in_map, with_changed}
 use Rattle.plain_model.specs.Forks.{ForkMap}
 use Rattle.plain_units.specs.Deeds.{in_ac}

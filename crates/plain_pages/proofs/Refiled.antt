@@ -15,7 +15,7 @@ use Rattle.plain_pages.specs.PlainPages.{PlainPages, refiled}
 use Rattle.machine_names.specs.Orders.{file_page_cmp}
 use Rattle.plain_pages.specs.Maps.{Link, Chain, chain, entry_at, set_entry, permits}
 use Rattle.plain_pages.specs.Room.{names, page_in, uses, live, HasRoom}
-use Rattle.plain_pages.specs.References.{Spot, in_map, in_file, Making, blank, copy, blanks, copy_in, copies, along_chain, private_access, makings, make, make_all, new_page, drop_unnamed, drop_copied, drop_all_unnamed, names_in, with_entry, without_fork, words_at, page_at, Referred, granted, denied, full, reference}
+use Rattle.plain_pages.specs.References.{in_map, in_file, Making, blank, copy, blanks, copy_in, copies, along_chain, makings, make, make_all, new_page, drop_unnamed, drop_copied, drop_all_unnamed, names_in, with_entry, without_fork, words_at, page_at, Referred, granted, denied, full, reference}
 use Rattle.plain_pages.proofs.Counts.{has_count, different_same}
 use Rattle.plain_pages.proofs.Whole.{map_uses, tally, uses_are}
 

@@ -1,5 +1,5 @@
 // The bytes of a script that were read and not yet given.
-ghost use Rattle.std.specs.Prelude.{◌≡◌, ◌<◌, ◌≤◌, ◌⊎◌, ◌≢◌, ℕ, [], length, drop, IfOk, MatchOption, OnOk, OnErr};
+ghost use Rattle.std.specs.Prelude.{◌≡◌, ◌<◌, ◌≤◌, ◌⊎◌, ◌≢◌, ℕ, length, drop, IfOk, MatchOption, OnOk, OnErr};
 ghost use Rattle.outside.specs.Faults.{Rose};
 ghost use Rattle.outside.specs.Told.{EndsOnly, Stays};
 ghost use Rattle.script_texts.specs.Script.{HasNoFeed, most_bytes};

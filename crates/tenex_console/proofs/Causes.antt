@@ -1,5 +1,5 @@
 -- Where faults come from, and what the sinks have handed on, behind a writer that was to be closed.
-use Rattle.std.proofs.Common.{◌≡◌, ◌⊎◌, inl, inr, ℕ, ◌+◌, ◌≤◌, ◌<◌, Option, None, Some, ap, refl, sym, ◌∙◌, arith}
+use Rattle.std.proofs.Common.{◌≡◌, ◌⊎◌, inl, inr, ℕ, ◌≤◌, Some, ap, refl, sym, ◌∙◌, arith}
 use Rattle.outside.specs.Faults.{Rose}
 use Rattle.texts.specs.declared.writer.Writer.{Writer}
 use Rattle.texts.specs.declared.last.Last.{Last}

@@ -1,5 +1,5 @@
 // Scripts in pieces of one byte, of a few and of all.
-ghost use Rattle.std.specs.Prelude.{ℕ, List, Option, None};
+ghost use Rattle.std.specs.Prelude.{None};
 
 use crate::same::same_for;
 use outside::{Failed, MemSource, Source};

@@ -1,5 +1,5 @@
 // A taker that writes both texts.
-ghost use Rattle.std.specs.Prelude.{◌≡◌, ◌≤◌, ◌<◌, None, Some, [], ◌∷◌, replicate, OnOk, OnErr};
+ghost use Rattle.std.specs.Prelude.{◌≡◌, ◌≤◌, None, Some, [], ◌∷◌, replicate, OnOk, OnErr};
 ghost use Rattle.outside.specs.Faults.{CountsUp, Rose};
 ghost use Rattle.script_texts.specs.Taker.{GoesOn, IsCut, StaysOnward};
 ghost use Rattle.texts.specs.Turns.{step_of, open_run};

@@ -1,6 +1,6 @@
 // Programs in place, over pages in memory alone, by themselves and at the end of chains: each is begun at 100
 // and runs up to an illegal word, unless it ends before.
-ghost use Rattle.std.specs.Prelude.{◌≡◌, ◌<◌, ◌≤◌, ◌+◌, ◌^◌, true, false};
+ghost use Rattle.std.specs.Prelude.{◌≡◌, ◌<◌, true, false};
 ghost use Rattle.page_contracts.specs.Pages.{HasSpace};
 
 use crate::same::same_at;

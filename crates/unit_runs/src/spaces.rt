@@ -1,5 +1,5 @@
 // The space of a fork whose programs are run: its pages, each by itself or at the end of a chain of four entries.
-ghost use Rattle.std.specs.Prelude.{◌≡◌, ◌<◌, ◌≤◌, ◌+◌, true};
+ghost use Rattle.std.specs.Prelude.{◌≡◌, ◌<◌, ◌+◌, true};
 ghost use Rattle.page_contracts.specs.Pages.{HasSpace};
 
 use crate::top::TOP;

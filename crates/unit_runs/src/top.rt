@@ -1,5 +1,5 @@
 // The fork whose programs are run.
-ghost use Rattle.std.specs.Prelude.{◌≡◌, ◌<◌, ◌≤◌, true, false};
+ghost use Rattle.std.specs.Prelude.{◌≡◌, ◌<◌, true, false};
 
 use machine_names::{ForkName, Tty};
 use page_contracts::{Pages, Room};

@@ -1,5 +1,5 @@
 // The first script, cut after each of its bytes, and with each of its reads failing.
-ghost use Rattle.std.specs.Prelude.{ℕ, List, Option, None};
+ghost use Rattle.std.specs.Prelude.{None};
 
 use crate::first;
 use crate::memory_run::{assert_ended_at, made, run_script, run_source};

@@ -1,5 +1,5 @@
 // Long lines, and scripts as long as a script may be.
-ghost use Rattle.std.specs.Prelude.{ℕ, List, Option, None};
+ghost use Rattle.std.specs.Prelude.{Option, None};
 
 use crate::memory_run::{assert_ended, made, run_script, run_source};
 use outside::{Failed, Memory, Source};

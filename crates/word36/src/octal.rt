@@ -1,5 +1,5 @@
 // Numbers and words as texts of octal digits.
-ghost use Rattle.std.specs.Prelude.{◌≡◌, ℕ, ◌+◌, ◌*◌, ◌/◌, ◌%◌, ◌^◌, ◌<◌, ◌≤◌, length, MatchOption};
+ghost use Rattle.std.specs.Prelude.{◌≡◌, ℕ, ◌+◌, ◌*◌, ◌%◌, ◌<◌, ◌≤◌, length, MatchOption};
 ghost use Rattle.word36.specs.Words.{IsWord};
 ghost use Rattle.word36.specs.Octal.{octal_padded, octal_value, IsOctalNumber};
 

@@ -1,5 +1,5 @@
 // A word of the machine.
-ghost use Rattle.std.specs.Prelude.{◌≡◌, ℕ, ◌+◌, ◌*◌, ◌/◌, ◌%◌, ◌^◌, ◌<◌, ◌≤◌, MatchOption, unsigned_abs};
+ghost use Rattle.std.specs.Prelude.{◌≡◌, ℕ, ◌%◌, ◌^◌, ◌<◌, ◌≤◌, MatchOption, unsigned_abs};
 ghost use Rattle.word36.specs.Words.{left, right, joined, signed, word_of};
 
 use std::marker::Model;

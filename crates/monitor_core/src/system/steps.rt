@@ -1,5 +1,5 @@
 // Steps: an event that is one, and units of a fork.
-ghost use Rattle.std.specs.Prelude.{◌≡◌, ◌<◌, ◌≤◌, ◌^◌, ◌+◌, IfErr, IfOk, IsOk, true};
+ghost use Rattle.std.specs.Prelude.{◌≡◌, ◌<◌, ◌≤◌, ◌^◌, IfErr, IfOk, IsOk, true};
 ghost use Rattle.script_texts.specs.Limits.{FitsStep, IsBuilt};
 ghost use Rattle.script_texts.specs.declared.event.Event.{Event as AnEvent};
 ghost use Rattle.script_texts.specs.declared.event.Step.{Step as AStep};

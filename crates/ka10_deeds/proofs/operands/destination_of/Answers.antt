@@ -1,8 +1,8 @@
-use Rattle.std.proofs.Common.{◌≡◌, ℕ, IsSome, inl, inr, subst, sym}
+use Rattle.std.proofs.Common.{◌≡◌, IsSome, inl, inr, subst, sym}
 use Rattle.word36.specs.Arithmetic.{arithmetic}
 use Rattle.word36.specs.Boolean.{boolean_of}
 use Rattle.ka10_table.specs.declared.families.Family.{Family}
-use Rattle.plain_units.specs.Deeds.{Operands, behind_ac, deed_of, done_by, in_ac, operand_of, operands, taken_by, taken_of}
+use Rattle.plain_units.specs.Deeds.{Operands, deed_of, done_by, in_ac, operand_of, operands, taken_by, taken_of}
 use Rattle.ka10_deeds.specs.Done.{store_at, stored_word}
 use Rattle.ka10_deeds.proofs.operands.destination_of.Goals as goal
 

@@ -18,7 +18,7 @@ use Rattle.call_turns.specs.Answers.{AnswerNeeds, IsDone}
 use Rattle.fork_calls.specs.Needing.{call_frames}
 use Rattle.fork_calls.specs.Holding.{CallLeaves}
 use Rattle.fork_calls.specs.Limits.{AreWithin, FitsForced, IsBody}
-use Rattle.monitor_core.specs.ForkUnit.{Behind, Kept, LeavesForks, TurnedSo, answered, answered_turn, called_behind, fork_of, out_in, put_back, turn_behind}
+use Rattle.monitor_core.specs.ForkUnit.{Kept, LeavesForks, TurnedSo, answered, answered_turn, called_behind, fork_of, out_in, put_back, turn_behind}
 use Rattle.monitor_core.specs.Shown.{FitsShown, FitsStop, shown_of, stop_of}
 use Rattle.monitor_core.proofs.Calling.{done_else, out_fits, so_done}
 use Rattle.monitor_core.proofs.Keeping.{answered_keeps}

@@ -1,8 +1,8 @@
-use Rattle.std.proofs.Common.{◌≡◌, ◌∙◌, refl, sym, ap, arith}
+use Rattle.std.proofs.Common.{◌∙◌, refl, sym, ap, arith}
 use Rattle.std.specs.Ordering.{nat_cmp}
 use Rattle.plain_pages.specs.PlainPages.{NumberedPages}
 use Rattle.plain_model.specs.ForkCalls.{ForkParts}
-use Rattle.fork_calls.specs.Turning.{HasRegs, parts}
+use Rattle.fork_calls.specs.Turning.{parts}
 use Rattle.plain_model.specs.Trees.{PlainTree}
 use Rattle.page_contracts.specs.Pages.{PagesMeaning}
 use Rattle.machine_names.specs.declared.names.ForkName.{ForkName}

@@ -1,5 +1,4 @@
 use Rattle.std.proofs.Common.{◌≤◌, ◌+◌, ◌*◌}
-use Rattle.machine_names.specs.declared.names.Tty.{Tty}
 use Rattle.unit_runs.proofs.page_steps.first_wrong.Given as goal
 
 abbrev pub invariant-loop-number : goal.invariant-loop-number
