@@ -50,6 +50,7 @@ can_run forks f = is_run f.body.status && not (is_frozen MOST_FORKS forks (Some 
 abbrev pub runs_in : ForkMap → ForkName → Bool
 runs_in forks name = option_map_or (can_run forks) (map.get forks name) false
 
+-- the same, as what holds
 abbrev pub IsRunnable : ForkMap → ForkName → Type 0
 IsRunnable forks name = runs_in forks name ≡ true
 
