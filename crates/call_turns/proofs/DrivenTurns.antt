@@ -17,20 +17,20 @@ use Rattle.plain_units.specs.declared.registers.Regs.{Regs}
 use Rattle.plain_units.specs.Steps.{Steps, Ending}
 use Rattle.call_turns.specs.declared.turn.Ask.{Ask}
 use Rattle.call_turns.specs.declared.turn.Ask.TheVariants.{Sees, Finds}
-use Rattle.call_turns.specs.declared.turn.Reply.{Reply}
+use Rattle.call_turns.specs.declared.turn.Told.{Told}
 use Rattle.call_turns.specs.declared.turn.Turn.{Turn as Step}
 use Rattle.call_turns.specs.declared.turn.Turn.TheVariants.{Ends, Asks}
 use Rattle.call_turns.specs.Turns.{asking, turn_of}
 use Rattle.call_turns.specs.Telling.{told, told_of, ask_need, entry_need, way_need, looks_need}
 use Rattle.call_turns.specs.Needing.{FirstNeeds, TurnNeeds}
 
-module _ {C S : Type 0} (later : S → Reply → Step C S) (scene : Scene) (p : NumberedPages) where
+module _ {C S : Type 0} (later : S → Told → Step C S) (scene : Scene) (p : NumberedPages) where
   -- what comes of a turn of looks
   abbrev outcome : Turn ⊥ C → Result (End C) Need
   outcome t = told (looks_need scene p t) (turn_on no_files p t).end
 
   -- what is asked is told as it is, unless it needs something first
-  asked : (what : Ask) (next : Reply → Turn ⊥ C) → outcome (asking what next) ≡ told (option_or (ask_need scene p what) (looks_need scene p (next (told_of p what)))) (turn_on no_files p (next (told_of p what))).end
+  asked : (what : Ask) (next : Told → Turn ⊥ C) → outcome (asking what next) ≡ told (option_or (ask_need scene p what) (looks_need scene p (next (told_of p what)))) (turn_on no_files p (next (told_of p what))).end
   unfolding turn_on looks_need
   asked (Sees s) next = refl
   asked (Finds s) next = refl
@@ -49,7 +49,7 @@ module _ {C S : Type 0} (later : S → Reply → Step C S) (scene : Scene) (p : 
   spent t (suc n) what rest is z = absurd (omega (arith, z))
 
   -- what is asked needs nothing, and so the turn goes on
-  pub goes_on : (t next : Step C S) (most : ℕ) (what : Ask) (rest : S) (reply : Reply) → t ≡ Asks what rest → 0 < most → Ok reply ≡ told (ask_need scene p what) (told_of p what) → next ≡ later rest reply
+  pub goes_on : (t next : Step C S) (most : ℕ) (what : Ask) (rest : S) (reply : Told) → t ≡ Asks what rest → 0 < most → Ok reply ≡ told (ask_need scene p what) (told_of p what) → next ≡ later rest reply
       → outcome (turn_of later next (most - 1)) ≡ outcome (turn_of later t most)
   goes_on t next zero what rest reply is h e n = absurd (omega (arith, h))
   goes_on t next (suc m) what rest reply is h e n =
@@ -82,7 +82,7 @@ module _ {C S : Type 0} (later : S → Reply → Step C S) (scene : Scene) (p : 
     Looked t n = FirstNeeds (looks_need scene p t) (EndNeeds scene p (turn_on no_files p t).end n) n
 
     -- a look
-    look_needs : (what : Ask) (next : Reply → Turn ⊥ C) (n : Need) → (Looked (next (told_of p what)) n → Needs (next (told_of p what)) n) → Looked (asking what next) n → Needs (asking what next) n
+    look_needs : (what : Ask) (next : Told → Turn ⊥ C) (n : Need) → (Looked (next (told_of p what)) n → Needs (next (told_of p what)) n) → Looked (asking what next) n → Needs (asking what next) n
     unfolding turn_on looks_need
     look_needs (Sees s) next n rest h = by (entry_need scene p s) h
       where

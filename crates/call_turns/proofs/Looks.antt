@@ -18,7 +18,7 @@ use Rattle.page_contracts.specs.Pages.{Scene, seen_of, map_away_or}
 use Rattle.plain_model.specs.Calls.{entry_of}
 use Rattle.plain_pages.proofs.Chains.{chain_here}
 use Rattle.call_turns.specs.Telling.{entry_need, need_behind, page_within, told, way_need}
-use Rattle.call_turns.specs.declared.turn.Reply.TheVariants.{Entry, Page}
+use Rattle.call_turns.specs.declared.turn.Told.TheVariants.{Entry, Page}
 
 -- what was told is so, and nothing was needed; and what was needed
 pub told_is : {A : Type 0} (o : Option Need) (v x : A) → Ok x ≡ told o v → (o ≡ None) × (x ≡ v)

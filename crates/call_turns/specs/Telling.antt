@@ -14,8 +14,8 @@ use Rattle.page_contracts.specs.Pages.{Scene}
 use Rattle.plain_model.specs.Calls.{Turn, sees, finds, looks, makes, entry_of}
 use Rattle.call_turns.specs.declared.turn.Ask.{Ask}
 use Rattle.call_turns.specs.declared.turn.Ask.TheVariants.{Sees, Finds}
-use Rattle.call_turns.specs.declared.turn.Reply.{Reply}
-use Rattle.call_turns.specs.declared.turn.Reply.TheVariants.{Entry, Page}
+use Rattle.call_turns.specs.declared.turn.Told.{Told}
+use Rattle.call_turns.specs.declared.turn.Told.TheVariants.{Entry, Page}
 
 -- what is so is told, unless something is needed first
 abbrev pub told : {A : Type 0} → Option Need → A → Result A Need
@@ -45,7 +45,7 @@ abbrev pub page_told : ℕ → Scene → NumberedPages → Slot → Result (Opti
 page_told n scene p s = told (way_need n scene p s) (page_within n (entry_at p.maps) s)
 
 -- what is so of what is asked
-abbrev pub told_of : NumberedPages → Ask → Reply
+abbrev pub told_of : NumberedPages → Ask → Told
 told_of p (Sees s) = Entry (entry_of p s)
 told_of p (Finds s) = Page (page_at p (in_map s))
 

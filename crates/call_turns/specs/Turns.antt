@@ -12,26 +12,26 @@ use Rattle.plain_pages.specs.References.{in_map}
 use Rattle.plain_model.specs.Calls.{Turn, sees, finds, ends}
 use Rattle.call_turns.specs.declared.turn.Ask.{Ask}
 use Rattle.call_turns.specs.declared.turn.Ask.TheVariants.{Sees, Finds}
-use Rattle.call_turns.specs.declared.turn.Reply.{Reply}
-use Rattle.call_turns.specs.declared.turn.Reply.TheVariants.{Entry, Page}
+use Rattle.call_turns.specs.declared.turn.Told.{Told}
+use Rattle.call_turns.specs.declared.turn.Told.TheVariants.{Entry, Page}
 use Rattle.call_turns.specs.declared.turn.Turn.{Turn as Step}
 use Rattle.call_turns.specs.declared.turn.Turn.TheVariants.{Ends, Asks}
 
-abbrev pub entry_in : Reply → MapEntry
+abbrev pub entry_in : Told → MapEntry
 entry_in (Entry e) = e
 entry_in (Page n) = Empty
 
-abbrev pub page_in : Reply → Option PageName
+abbrev pub page_in : Told → Option PageName
 page_in (Entry e) = None
 page_in (Page n) = n
 
 -- asks, and goes on with what is told
-abbrev pub asking : {C : Type 0} → Ask → (Reply → Turn ⊥ C) → Turn ⊥ C
+abbrev pub asking : {C : Type 0} → Ask → (Told → Turn ⊥ C) → Turn ⊥ C
 asking (Sees s) next = sees s (λ e. next (Entry e))
 asking (Finds s) next = finds (in_map s) (λ n. next (Page n))
 
 -- the whole turn, where what is left is done after each reply, and where more than so many asks trap
-abbrev pub turn_of : {C S : Type 0} → (S → Reply → Step C S) → Step C S → ℕ → Turn ⊥ C
+abbrev pub turn_of : {C S : Type 0} → (S → Told → Step C S) → Step C S → ℕ → Turn ⊥ C
 turn_of later (Ends e) n = ends e
 turn_of later (Asks what rest) zero = ends (Trap ILLEGAL_INSTRUCTION)
 turn_of later (Asks what rest) (suc n) = asking what (λ r. turn_of later (later rest r) n)

@@ -8,7 +8,7 @@ ghost use Rattle.plain_model.specs.Calls.{entry_of};
 ghost use Rattle.call_turns.specs.Telling.{ask_need, entry_need, page_told, told, told_of};
 ghost use Rattle.call_turns.specs.Turns.{IsAsk};
 
-use crate::{Ask, Reply};
+use crate::{Ask, Told};
 use machine_names::{ForkName, PageName, Slot};
 use page_contracts::{Need, Pages, Seen};
 use plain_pages::MapEntry;
@@ -58,7 +58,7 @@ fn page_within<P: Pages>(pages: &P, slot: Slot, links: u32) -> Result<Option<Pag
 }
 
 /// Asks the pages, which tell what is so, or which map has to come into core first.
-pub fn ask<P: Pages>(what: Ask, pages: &P) -> Result<Reply, Need>
+pub fn ask<P: Pages>(what: Ask, pages: &P) -> Result<Told, Need>
     requires { IsAsk what }
     ensures told { (d : DrumWords) → P.means.fits pages.now d → result ≡ told (ask_need (P.means.scene pages.now) (P.means.plain pages.now d) what) (told_of (P.means.plain pages.now d) what) }
     ensures needs { IfErr result (IsNeeded P.means.store 1 pages.now) }
@@ -66,11 +66,11 @@ pub fn ask<P: Pages>(what: Ask, pages: &P) -> Result<Reply, Need>
 {
     match what {
         Ask::Sees(slot) => match entry_of(pages, slot) {
-            Ok(entry) => Ok(Reply::Entry(entry)),
+            Ok(entry) => Ok(Told::Entry(entry)),
             Err(need) => Err(need),
         },
         Ask::Finds(slot) => match page_within(pages, slot, MOST_LINKS) {
-            Ok(page) => Ok(Reply::Page(page)),
+            Ok(page) => Ok(Told::Page(page)),
             Err(need) => Err(need),
         },
     }

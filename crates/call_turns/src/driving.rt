@@ -4,11 +4,11 @@ ghost use Rattle.page_contracts.specs.DrumWords.{DrumWords};
 ghost use Rattle.page_contracts.specs.Stores.{IsNeeded};
 ghost use Rattle.call_turns.specs.Needing.{DrivenTo};
 ghost use Rattle.call_turns.specs.Turns.{FitsTurn, FitsEnd, turn_of};
-ghost use Rattle.call_turns.specs.declared.turn.Reply.{Reply as AReply};
+ghost use Rattle.call_turns.specs.declared.turn.Told.{Told as ATold};
 ghost use Rattle.call_turns.specs.declared.turn.Turn.{Turn as ATurn};
 
 use crate::asking::ask;
-use crate::{Reply, Turn};
+use crate::{Told, Turn};
 use page_contracts::{Need, Pages};
 use plain_model::call::End;
 use plain_units::channel::ILLEGAL_INSTRUCTION;
@@ -16,7 +16,7 @@ use plain_units::channel::ILLEGAL_INSTRUCTION;
 /// What is left of a call's turn, over the parts of the machine that its crate sees.
 pub trait Rest<C, V> {
     /// What it does with what it is told.
-    ghost later: { V → Self → AReply → ATurn C Self };
+    ghost later: { V → Self → ATold → ATurn C Self };
 
     /// What holds of it.
     ghost holds: { Self → Type 0 };
@@ -25,7 +25,7 @@ pub trait Rest<C, V> {
     ghost sound: { C → Type 0 };
 
     /// Goes on with what it is told.
-    fn later(self, parts: &V, reply: Reply) -> Turn<C, Self>
+    fn later(self, parts: &V, reply: Told) -> Turn<C, Self>
         requires { holds self }
         ensures later { result ≡ later parts.now self reply }
         ensures fits { FitsTurn holds sound result };

@@ -12,4 +12,4 @@ mod turn;
 pub use answer::Answer;
 pub use driving::{Rest, driven};
 pub use ending::{answer_of, behind, returning, with_ac};
-pub use turn::{Ask, Reply, Turn};
+pub use turn::{Ask, Told, Turn};

@@ -17,19 +17,19 @@ pub enum Ask {
 
 /// What a turn is told.
 #[derive(Clone, Copy)]
-pub enum Reply {
+pub enum Told {
     Entry(MapEntry),
     Page(Option<PageName>),
 }
 
-impl Reply {
+impl Told {
     /// The entry that was seen; Empty where a page was asked for.
     pub fn entry(self) -> MapEntry
         ensures { result ≡ entry_in self }
     {
         match self {
-            Reply::Entry(entry) => entry,
-            Reply::Page(_) => MapEntry::Empty,
+            Told::Entry(entry) => entry,
+            Told::Page(_) => MapEntry::Empty,
         }
     }
 
@@ -38,8 +38,8 @@ impl Reply {
         ensures { result ≡ page_in self }
     {
         match self {
-            Reply::Page(page) => page,
-            Reply::Entry(_) => None,
+            Told::Page(page) => page,
+            Told::Entry(_) => None,
         }
     }
 }

@@ -20,8 +20,8 @@ use Rattle.plain_model.specs.ForkCalls.{address_named, made_body, map_wanted, ma
 use Rattle.fork_tree.specs.Making.{slot_for}
 use Rattle.fork_tree.specs.Trees.{Lives}
 use Rattle.call_turns.specs.Turns.{FitsEnd}
-use Rattle.fork_calls.specs.declared.step.Step.{Step}
-use Rattle.fork_calls.specs.declared.step.Step.TheVariants.{Ends, Makes, Sets, Stores}
+use Rattle.fork_calls.specs.declared.step.FirstStep.{FirstStep}
+use Rattle.fork_calls.specs.declared.step.FirstStep.TheVariants.{Ends, Makes, Sets, Stores}
 use Rattle.fork_calls.specs.Asking.{IsBelow}
 use Rattle.fork_calls.specs.Limits.{IsBody}
 
@@ -45,7 +45,7 @@ abbrev pub second_regs : Regs → ℕ → Regs
 second_regs regs slot = let told = with_ac regs 1 (FORK_SELF + slot) in record told { pc = skip_pc told }
 
 -- the whole turn of a first step
-abbrev pub whole : Asked → Step → Turn ⊥ ForkChange
+abbrev pub whole : Asked → FirstStep → Turn ⊥ ForkChange
 whole a (Ends e) = ends e
 whole a (Makes slot) = made_where a slot
 whole a (Sets f) = with_block a.who a.regs (address_named a.regs) Read (λ words. ends (set_end a f words))
@@ -77,7 +77,7 @@ IsChangeBelow forks who (Halt f) = IsBelow forks who f
 IsChangeBelow forks who (Store f at words) = ⊥
 
 -- what holds of a first step: a fork is made in the free slot, while a serial is left for it; and words are those of an inferior
-abbrev pub FitsStep : Asked → Step → Type 0
+abbrev pub FitsStep : Asked → FirstStep → Type 0
 FitsStep a (Ends e) = FitsEnd (IsChangeBelow a.tree.forks a.who) e
 FitsStep a (Makes slot) = slot_for a.tree a.who.tty ≡ Ok slot
 FitsStep a (Sets f) = Lives a.tree.forks f

@@ -11,7 +11,7 @@ ghost use Rattle.fork_calls.specs.Steps.{FitsStep, whole};
 
 use crate::naming::{address_named, inferior_named, own_named};
 use crate::standing::{place_word, status_word};
-use crate::step::Step;
+use crate::step::FirstStep;
 use call_turns::{returning, with_ac};
 use fork_tree::{NoFork, Tree};
 use machine_names::ForkName;
@@ -22,50 +22,50 @@ use script_texts::{ForkStatus, WaitOn};
 use word36::Flags;
 
 /// CFORK: makes an inferior. FORKS_FULL, SERIALS_OUT, NO_ROOM.
-pub fn cfork(who: ForkName, tree: &Tree) -> Step
+pub fn cfork(who: ForkName, tree: &Tree) -> FirstStep
     requires { IsTerminal who.tty }
     ensures turn { (regs : ARegs) → whole (asked who regs tree.now) result ≡ cfork_of (asked who regs tree.now) }
     ensures fits { (regs : ARegs) → FitsStep (asked who regs tree.now) result }
 {
     match tree.slot_for(who.tty) {
-        Ok(slot) => Step::Makes(slot),
-        Err(NoFork::ForksFull) => Step::Ends(End::Failed(FORKS_FULL)),
-        Err(NoFork::SerialsOut) => Step::Ends(End::Failed(SERIALS_OUT)),
+        Ok(slot) => FirstStep::Makes(slot),
+        Err(NoFork::ForksFull) => FirstStep::Ends(End::Failed(FORKS_FULL)),
+        Err(NoFork::SerialsOut) => FirstStep::Ends(End::Failed(SERIALS_OUT)),
     }
 }
 
 /// KFORK: kills an inferior, and all below it. NO_HANDLE, NO_INFERIOR.
-pub fn kfork(regs: &Regs, who: ForkName, tree: &Tree) -> Result<Step, u32>
+pub fn kfork(regs: &Regs, who: ForkName, tree: &Tree) -> Result<FirstStep, u32>
     requires { IsRegs regs.now }
     ensures turn { given result (whole (asked who regs.now tree.now)) ≡ of_inferior (λ f. ForkChange.Kill f.name) (asked who regs.now tree.now) }
     ensures fits { IfOk result (FitsStep (asked who regs.now tree.now)) }
 {
     let fork = inferior_named(regs, who, tree)?;
-    Ok(Step::Ends(returning(ForkChange::Kill(fork.name), *regs)))
+    Ok(FirstStep::Ends(returning(ForkChange::Kill(fork.name), *regs)))
 }
 
 /// FFORK: freezes an inferior. NO_HANDLE, NO_INFERIOR.
-pub fn ffork(regs: &Regs, who: ForkName, tree: &Tree) -> Result<Step, u32>
+pub fn ffork(regs: &Regs, who: ForkName, tree: &Tree) -> Result<FirstStep, u32>
     requires { IsRegs regs.now }
     ensures turn { given result (whole (asked who regs.now tree.now)) ≡ of_inferior (λ f. ForkChange.Freeze f.name true) (asked who regs.now tree.now) }
     ensures fits { IfOk result (FitsStep (asked who regs.now tree.now)) }
 {
     let fork = inferior_named(regs, who, tree)?;
-    Ok(Step::Ends(returning(ForkChange::Freeze(fork.name, true), *regs)))
+    Ok(FirstStep::Ends(returning(ForkChange::Freeze(fork.name, true), *regs)))
 }
 
 /// RFORK: resumes an inferior. NO_HANDLE, NO_INFERIOR.
-pub fn rfork(regs: &Regs, who: ForkName, tree: &Tree) -> Result<Step, u32>
+pub fn rfork(regs: &Regs, who: ForkName, tree: &Tree) -> Result<FirstStep, u32>
     requires { IsRegs regs.now }
     ensures turn { given result (whole (asked who regs.now tree.now)) ≡ of_inferior (λ f. ForkChange.Freeze f.name false) (asked who regs.now tree.now) }
     ensures fits { IfOk result (FitsStep (asked who regs.now tree.now)) }
 {
     let fork = inferior_named(regs, who, tree)?;
-    Ok(Step::Ends(returning(ForkChange::Freeze(fork.name, false), *regs)))
+    Ok(FirstStep::Ends(returning(ForkChange::Freeze(fork.name, false), *regs)))
 }
 
 /// RFSTS: tells how the caller or an inferior stands in accumulators 1 and 2. NO_HANDLE, NO_INFERIOR.
-pub fn rfsts(regs: &Regs, who: ForkName, tree: &Tree) -> Result<Step, u32>
+pub fn rfsts(regs: &Regs, who: ForkName, tree: &Tree) -> Result<FirstStep, u32>
     requires regs { IsRegs regs.now }
     requires within { AreWithin tree.now.forks }
     ensures turn { given result (whole (asked who regs.now tree.now)) ≡ rfsts_of (asked who regs.now tree.now) }
@@ -74,7 +74,7 @@ pub fn rfsts(regs: &Regs, who: ForkName, tree: &Tree) -> Result<Step, u32>
     let fork = own_named(regs, who, tree)?;
     let told = with_ac(*regs, 1, status_word(&fork));
     let told = with_ac(told, 2, place_word(regs, who, tree, &fork));
-    Ok(Step::Ends(returning(ForkChange::Nothing, told)))
+    Ok(FirstStep::Ends(returning(ForkChange::Nothing, told)))
 }
 
 // A fork that is started at an address: it has no flags, and no pending channel, level or sleep.
@@ -93,44 +93,44 @@ fn started_at(address: u32, mut body: Body) -> Body
 }
 
 /// SFORK: starts an inferior at the address in accumulator 2. NO_HANDLE, NO_INFERIOR.
-pub fn sfork(regs: &Regs, who: ForkName, tree: &Tree) -> Result<Step, u32>
+pub fn sfork(regs: &Regs, who: ForkName, tree: &Tree) -> Result<FirstStep, u32>
     requires { IsRegs regs.now }
     ensures turn { given result (whole (asked who regs.now tree.now)) ≡ sfork_of (asked who regs.now tree.now) }
     ensures fits { IfOk result (FitsStep (asked who regs.now tree.now)) }
 {
     let fork = inferior_named(regs, who, tree)?;
     let body = started_at(address_named(regs), fork.body);
-    Ok(Step::Ends(returning(ForkChange::Become(fork.name, body), *regs)))
+    Ok(FirstStep::Ends(returning(ForkChange::Become(fork.name, body), *regs)))
 }
 
 /// SFACS: sets the accumulators of an inferior. NO_HANDLE, NO_INFERIOR.
-pub fn sfacs(regs: &Regs, who: ForkName, tree: &Tree) -> Result<Step, u32>
+pub fn sfacs(regs: &Regs, who: ForkName, tree: &Tree) -> Result<FirstStep, u32>
     requires { IsRegs regs.now }
     ensures turn { given result (whole (asked who regs.now tree.now)) ≡ sfacs_of (asked who regs.now tree.now) }
     ensures fits { IfOk result (FitsStep (asked who regs.now tree.now)) }
 {
     let fork = inferior_named(regs, who, tree)?;
-    Ok(Step::Sets(fork))
+    Ok(FirstStep::Sets(fork))
 }
 
 /// RFACS: stores the accumulators of an inferior. NO_HANDLE, NO_INFERIOR.
-pub fn rfacs(regs: &Regs, who: ForkName, tree: &Tree) -> Result<Step, u32>
+pub fn rfacs(regs: &Regs, who: ForkName, tree: &Tree) -> Result<FirstStep, u32>
     requires { IsRegs regs.now }
     ensures turn { given result (whole (asked who regs.now tree.now)) ≡ rfacs_of (asked who regs.now tree.now) }
     ensures fits { IfOk result (FitsStep (asked who regs.now tree.now)) }
 {
     let fork = inferior_named(regs, who, tree)?;
-    Ok(Step::Stores(fork))
+    Ok(FirstStep::Stores(fork))
 }
 
 /// HFORK: halts an inferior. NO_HANDLE, NO_INFERIOR.
-pub fn hfork(regs: &Regs, who: ForkName, tree: &Tree) -> Result<Step, u32>
+pub fn hfork(regs: &Regs, who: ForkName, tree: &Tree) -> Result<FirstStep, u32>
     requires { IsRegs regs.now }
     ensures turn { given result (whole (asked who regs.now tree.now)) ≡ of_inferior (λ f. ForkChange.Halt f.name) (asked who regs.now tree.now) }
     ensures fits { IfOk result (FitsStep (asked who regs.now tree.now)) }
 {
     let fork = inferior_named(regs, who, tree)?;
-    Ok(Step::Ends(returning(ForkChange::Halt(fork.name), *regs)))
+    Ok(FirstStep::Ends(returning(ForkChange::Halt(fork.name), *regs)))
 }
 
 // Whether a fork has ended: it is halted, or was forced.
@@ -146,15 +146,15 @@ fn has_ended(status: ForkStatus) -> bool
 }
 
 /// WFORK: waits until an inferior is halted or forced. NO_HANDLE, NO_INFERIOR.
-pub fn wfork(regs: &Regs, who: ForkName, tree: &Tree) -> Result<Step, u32>
+pub fn wfork(regs: &Regs, who: ForkName, tree: &Tree) -> Result<FirstStep, u32>
     requires { IsRegs regs.now }
     ensures turn { given result (whole (asked who regs.now tree.now)) ≡ wfork_of (asked who regs.now tree.now) }
     ensures fits { IfOk result (FitsStep (asked who regs.now tree.now)) }
 {
     let fork = inferior_named(regs, who, tree)?;
     if has_ended(fork.body.status) {
-        Ok(Step::Ends(returning(ForkChange::Nothing, *regs)))
+        Ok(FirstStep::Ends(returning(ForkChange::Nothing, *regs)))
     } else {
-        Ok(Step::Ends(End::Waits(WaitOn::Fork)))
+        Ok(FirstStep::Ends(End::Waits(WaitOn::Fork)))
     }
 }

@@ -11,7 +11,7 @@ ghost use Rattle.fork_calls.specs.Asking.{asked};
 ghost use Rattle.fork_calls.specs.Steps.{IsChangeBelow, whole};
 ghost use Rattle.fork_calls.specs.Turning.{HasRegs, Turned, stopped_by};
 ghost use Rattle.ka10_unit.specs.Taking.{IsTrap};
-ghost use Rattle.fork_calls.specs.declared.step.Step.{Step as AStep};
+ghost use Rattle.fork_calls.specs.declared.step.FirstStep.{FirstStep as AFirstStep};
 
 use crate::changing::change;
 use call_turns::{Answer, answer_of};
@@ -60,7 +60,7 @@ pub fn end<P: Pages>(
     requires fits { FitsEnd (IsChangeBelow tree.old.forks who) ending }
     requires holds { Holds P.means pages.old tree.old.forks }
     requires within { AreWithin tree.old.forks }
-    ensures told { (regs : ARegs) → Turned P.means pages.old pages.new tree.old tree.new result (whole (asked who regs tree.old) (AStep.Ends ending)) }
+    ensures told { (regs : ARegs) → Turned P.means pages.old pages.new tree.old tree.new result (whole (asked who regs tree.old) (AFirstStep.Ends ending)) }
     ensures needs { AnswerNeeds P.means.store 1 pages.new result }
     ensures core { P.means.flat ≡ true → IsDone result }
     ensures leaves { CallLeaves P.means pages.old pages.new tree.old tree.new who 0 }

@@ -19,7 +19,7 @@ ghost use Rattle.fork_calls.specs.Holding.{CallLeaves, Holds, MakesPages};
 ghost use Rattle.fork_calls.specs.Needing.{call_frames};
 ghost use Rattle.fork_calls.specs.Steps.{begun, second_regs, whole};
 ghost use Rattle.fork_calls.specs.Turning.{HasRegs, Turned};
-ghost use Rattle.fork_calls.specs.declared.step.Step.{Step as AStep};
+ghost use Rattle.fork_calls.specs.declared.step.FirstStep.{FirstStep as AFirstStep};
 
 use crate::ending::{returned, stopped};
 use crate::naming::address_named;
@@ -147,7 +147,7 @@ pub fn make<P: Pages>(
     requires serves { Serves P.means pages.old who }
     requires holds { Holds P.means pages.old tree.old.forks }
     requires serial { P.means.serial pages.old who.tty < 2 ^ 62 }
-    ensures told { Turned P.means pages.old pages.new tree.old tree.new result (whole (asked who regs.now tree.old) (AStep.Makes slot)) }
+    ensures told { Turned P.means pages.old pages.new tree.old tree.new result (whole (asked who regs.now tree.old) (AFirstStep.Makes slot)) }
     ensures needs { AnswerNeeds P.means.store call_frames pages.new result }
     ensures core { P.means.flat ≡ true → IsDone result }
     ensures unmade { (n : ANeed) → result ≡ Answer.Need n → MakesPages P.means who.tty 0 pages.old pages.new }

@@ -4,7 +4,7 @@ use plain_model::call::{End, ForkChange};
 
 /// What a call does once it is known whom it is about.
 #[derive(Clone, Copy)]
-pub enum Step {
+pub enum FirstStep {
     Ends(End<ForkChange>),
     /// CFORK makes a fork in this slot, where there is room for its map.
     Makes(u8),

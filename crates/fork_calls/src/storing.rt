@@ -13,7 +13,7 @@ ghost use Rattle.fork_calls.specs.Asking.{asked};
 ghost use Rattle.fork_calls.specs.Holding.{CallLeaves, Holds, MakesPages};
 ghost use Rattle.fork_calls.specs.Steps.{whole};
 ghost use Rattle.fork_calls.specs.Turning.{HasRegs, Turned};
-ghost use Rattle.fork_calls.specs.declared.step.Step.{Step as AStep};
+ghost use Rattle.fork_calls.specs.declared.step.FirstStep.{FirstStep as AFirstStep};
 
 use crate::changing::set_body;
 use crate::ending::{returned, stopped};
@@ -64,7 +64,7 @@ pub fn set_accumulators<P: Pages>(
     requires serves { Serves P.means pages.old who }
     requires holds { Holds P.means pages.old tree.old.forks }
     requires serial { P.means.serial pages.old who.tty < 2 ^ 62 }
-    ensures told { Turned P.means pages.old pages.new tree.old tree.new result (whole (asked who regs.now tree.old) (AStep.Sets fork)) }
+    ensures told { Turned P.means pages.old pages.new tree.old tree.new result (whole (asked who regs.now tree.old) (AFirstStep.Sets fork)) }
     ensures needs { AnswerNeeds P.means.store most_frames pages.new result }
     ensures core { P.means.flat ≡ true → IsDone result }
     ensures unmade { (n : ANeed) → result ≡ Answer.Need n → MakesPages P.means who.tty 0 pages.old pages.new }
@@ -96,7 +96,7 @@ pub fn store_accumulators<P: Pages>(
     requires serves { Serves P.means pages.old who }
     requires holds { Holds P.means pages.old tree.now.forks }
     requires serial { P.means.serial pages.old who.tty < 2 ^ 62 }
-    ensures told { Turned P.means pages.old pages.new tree.now tree.now result (whole (asked who regs.now tree.now) (AStep.Stores fork)) }
+    ensures told { Turned P.means pages.old pages.new tree.now tree.now result (whole (asked who regs.now tree.now) (AFirstStep.Stores fork)) }
     ensures needs { AnswerNeeds P.means.store most_frames pages.new result }
     ensures core { P.means.flat ≡ true → IsDone result }
     ensures unmade { (n : ANeed) → result ≡ Answer.Need n → MakesPages P.means who.tty 0 pages.old pages.new }

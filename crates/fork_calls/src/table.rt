@@ -9,7 +9,7 @@ ghost use Rattle.fork_calls.specs.Limits.{AreWithin};
 ghost use Rattle.fork_calls.specs.Steps.{FitsStep, whole};
 
 use crate::calls::{cfork, ffork, hfork, kfork, rfacs, rfork, rfsts, sfacs, sfork, wfork};
-use crate::step::Step;
+use crate::step::FirstStep;
 use fork_tree::Tree;
 use machine_names::ForkName;
 use plain_model::call::{
@@ -19,18 +19,18 @@ use plain_units::Regs;
 use plain_units::channel::ILLEGAL_INSTRUCTION;
 
 // A first step, or the end of a call that is refused with the code of an error.
-fn given(step: Result<Step, u32>) -> Step
+fn given(step: Result<FirstStep, u32>) -> FirstStep
     ensures turn { (a : Asked) → whole a result ≡ given_of step (whole a) }
     ensures fits { (a : Asked) → IfOk step (FitsStep a) → FitsStep a result }
 {
     match step {
         Ok(step) => step,
-        Err(code) => Step::Ends(End::Refused(code)),
+        Err(code) => FirstStep::Ends(End::Refused(code)),
     }
 }
 
 /// The first step of a call by its number. A number that is none of them traps as an illegal instruction.
-pub fn first(number: u32, regs: &Regs, who: ForkName, tree: &Tree) -> Step
+pub fn first(number: u32, regs: &Regs, who: ForkName, tree: &Tree) -> FirstStep
     requires regs { IsRegs regs.now }
     requires terminal { IsTerminal who.tty }
     requires within { AreWithin tree.now.forks }
@@ -48,8 +48,8 @@ pub fn first(number: u32, regs: &Regs, who: ForkName, tree: &Tree) -> Step
         RFACS => given(rfacs(regs, who, tree)),
         HFORK => given(hfork(regs, who, tree)),
         WFORK => given(wfork(regs, who, tree)),
-        HALTF => Step::Ends(End::Halts),
-        _ => Step::Ends(End::Trap(ILLEGAL_INSTRUCTION)),
+        HALTF => FirstStep::Ends(End::Halts),
+        _ => FirstStep::Ends(End::Trap(ILLEGAL_INSTRUCTION)),
     }
 }
 

@@ -13,7 +13,7 @@ ghost use Rattle.fork_calls.specs.Turning.{HasRegs, Turned};
 
 use crate::ending::end;
 use crate::making::make;
-use crate::step::Step;
+use crate::step::FirstStep;
 use crate::storing::{set_accumulators, store_accumulators};
 use crate::table::first;
 use call_turns::Answer;
@@ -47,9 +47,9 @@ pub fn call<P: Pages>(
 {
     tree.are_trees();
     match first(number, regs, who, tree) {
-        Step::Ends(ending) => end(ending, who, tree, pages),
-        Step::Makes(slot) => make(slot, regs, who, tree, pages),
-        Step::Sets(fork) => set_accumulators(fork, regs, who, tree, pages),
-        Step::Stores(fork) => store_accumulators(fork, regs, who, tree, pages),
+        FirstStep::Ends(ending) => end(ending, who, tree, pages),
+        FirstStep::Makes(slot) => make(slot, regs, who, tree, pages),
+        FirstStep::Sets(fork) => set_accumulators(fork, regs, who, tree, pages),
+        FirstStep::Stores(fork) => store_accumulators(fork, regs, who, tree, pages),
     }
 }

@@ -16,8 +16,8 @@ use Rattle.plain_units.specs.Instructions.{execute, executes, does, instruction,
 use Rattle.ka10_deeds.specs.declared.word_fields.Address.{Address}
 use Rattle.ka10_unit.specs.declared.ends.Ending.{Ending}
 use Rattle.ka10_unit.specs.declared.plans.Next.{Next}
-use Rattle.ka10_unit.specs.declared.plans.Step.{Step}
-use Rattle.ka10_unit.specs.declared.plans.Step.TheVariants as step
+use Rattle.ka10_unit.specs.declared.plans.WordStep.{WordStep}
+use Rattle.ka10_unit.specs.declared.plans.WordStep.TheVariants as step
 use Rattle.ka10_unit.specs.declared.plans.Planned.{Planned}
 use Rattle.ka10_unit.specs.declared.plans.Planned.TheVariants as planned
 use Rattle.ka10_unit.specs.declared.taken.Taken.{Taken}
@@ -117,7 +117,7 @@ module _ (f : ForkName) (p : Framed) (ac : List ℕ) where
   pub steps_stop : {A : Type 0} (t new : Taken) (part : (A → Steps) → Steps) (rest : (Bool → ℕ → Steps) → A → Steps) (stop : Stop) → Follows f p ac t new part (Err stop) → StepsOn f p ac t new (λ next. part (rest next)) (Err stop)
   steps_stop t new part rest stop h = record { stands = h.stands; put = tt; runs = λ next. h.runs (rest next) }
 
-  pub steps_at : {A : Type 0} (t mid new : Taken) (part : (A → Steps) → Steps) (rest : (Bool → ℕ → Steps) → A → Steps) (x : A) (result : Result Step Stop) → Follows f p ac t mid part (Ok x) → StepsOn f p ac mid new (λ next. rest next x) result
+  pub steps_at : {A : Type 0} (t mid new : Taken) (part : (A → Steps) → Steps) (rest : (Bool → ℕ → Steps) → A → Steps) (x : A) (result : Result WordStep Stop) → Follows f p ac t mid part (Ok x) → StepsOn f p ac mid new (λ next. rest next x) result
       → StepsOn f p ac t new (λ next. part (rest next)) result
   steps_at t mid new part rest x result h k = record { stands = k.stands; put = k.put; runs = λ next. h.runs (rest next) ∙ k.runs next }
 
@@ -125,7 +125,7 @@ module _ (f : ForkName) (p : Framed) (ac : List ℕ) where
   steps_ended t new left (Ok x) h = record { stands = h.stands; put = h.put; runs = λ next. h.runs }
   steps_ended t new left (Err e) h = record { stands = h.stands; put = tt; runs = λ next. h.runs }
 
-  pub steps_ordinary : (t new : Taken) (row : TableRow) (is_local : Bool) (regs : Regs) (w : ℕ) (a : Address) (result : Result Step Stop) → (row.family ≡ Monitor → ⊥) → (row.family ≡ Xct → ⊥) → (row.family ≡ Local → ⊥) → (row.family ≡ ByteOp → ⊥)
+  pub steps_ordinary : (t new : Taken) (row : TableRow) (is_local : Bool) (regs : Regs) (w : ℕ) (a : Address) (result : Result WordStep Stop) → (row.family ≡ Monitor → ⊥) → (row.family ≡ Xct → ⊥) → (row.family ≡ Local → ⊥) → (row.family ≡ ByteOp → ⊥)
       → StepsOn f p ac t new (λ next. does row (opcode w) regs (ac_field w) a.e a.last) result → StepsOn f p ac t new (does_at row.family row is_local regs w a) result
   steps_ordinary t new row is_local regs w a result m x l b h = record { stands = h.stands; put = h.put; runs = λ next. rw (does_ordinary row.family m x l b row is_local regs w a next) (h.runs next) }
 
@@ -140,7 +140,7 @@ module _ (f : ForkName) (p : Framed) (ac : List ℕ) where
   pub local_stands : (t kept : Taken) (v w : ℕ) → kept.fork ≡ t.fork → kept.gather ≡ t.gather → kept.kept ≡ Some (record { at = LOCAL_CALL; word = w }) → Stands f p t → CanWrite {A = ℕ} f p t LOCAL_CALL (Ok v) → Stands f p kept
   local_stands t kept v w same gather put s may = record { fork = same ∙ s.fork; gathers = rw gather s.gathers; kept = rw (put, gather) (may refl) }
 
-  pub local_goes : (t mid kept new : Taken) (w e v stored : ℕ) (result : Result Step Stop) → kept.gather ≡ mid.gather → kept.refs.items ≡ mid.refs.items → kept.kept ≡ Some (record { at = LOCAL_CALL; word = stored }) → stored ≡ local_word w e
+  pub local_goes : (t mid kept new : Taken) (w e v stored : ℕ) (result : Result WordStep Stop) → kept.gather ≡ mid.gather → kept.refs.items ≡ mid.refs.items → kept.kept ≡ Some (record { at = LOCAL_CALL; word = stored }) → stored ≡ local_word w e
       → Follows f p ac t mid (refers LOCAL_CALL Write) (Ok v) → StepsOn f p ac kept new (λ next. refers LOCAL_HANDLER Execute (next true)) result → StepsOn f p ac t new (calls_local w e) result
   unfolding run
   local_goes t mid kept new w e v stored result gather refs put is h k =
@@ -158,7 +158,7 @@ module _ (f : ForkName) (p : Framed) (ac : List ℕ) where
     refuses t s is = record { stands = s; put = tt; runs = λ next. rw (executes_is row.family row is_local regs w next, is) refl }
 
     -- a word that takes its address
-    pub takes_address : (t new : Taken) (result : Result Step Stop) → is_illegal row.family is_local (ac_field w) ≡ false → StepsOn f p ac t new (λ next. reached regs.ac w (λ a. does_at row.family row is_local regs w a next)) result
+    pub takes_address : (t new : Taken) (result : Result WordStep Stop) → is_illegal row.family is_local (ac_field w) ≡ false → StepsOn f p ac t new (λ next. reached regs.ac w (λ a. does_at row.family row is_local regs w a next)) result
         → StepsOn f p ac t new (executes row.family row is_local regs w) result
     takes_address t new result is h = record { stands = h.stands; put = h.put; runs = λ next. rw (executes_is row.family row is_local regs w next, is) (h.runs next) }
 

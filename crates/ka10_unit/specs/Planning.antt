@@ -19,8 +19,8 @@ use Rattle.ka10_deeds.specs.declared.word_fields.Address.{Address}
 use Rattle.ka10_deeds.specs.declared.done.Done.{Done}
 use Rattle.ka10_deeds.specs.declared.operands.Destination.{Destination}
 use Rattle.ka10_unit.specs.declared.ends.Ending.{Ending}
-use Rattle.ka10_unit.specs.declared.plans.Step.{Step}
-use Rattle.ka10_unit.specs.declared.plans.Step.TheVariants as step
+use Rattle.ka10_unit.specs.declared.plans.WordStep.{WordStep}
+use Rattle.ka10_unit.specs.declared.plans.WordStep.TheVariants as step
 use Rattle.ka10_unit.specs.declared.plans.Planned.{Planned}
 use Rattle.ka10_unit.specs.declared.plans.Planned.TheVariants as planned
 use Rattle.ka10_unit.specs.declared.taken.Taken.{Taken}
@@ -93,24 +93,24 @@ does_at family.ByteOp row is_local regs w a next = does_pointer row.code regs (a
 does_at f row is_local regs w a next = does row (opcode w) regs (ac_field w) a.e a.last
 
 -- what one word of a unit comes to
-abbrev pub stepped : Framed → List ℕ → Taken → Result Step Stop → (Bool → ℕ → Plan) → Plan
+abbrev pub stepped : Framed → List ℕ → Taken → Result WordStep Stop → (Bool → ℕ → Plan) → Plan
 stepped p ac t (Ok (step.Goes n)) next = next n.is_local n.word
 stepped p ac t (Ok (step.Ends x)) next = done (progress p ac t) (end_of x)
 stepped p ac t (Ok (step.Calls n)) next = call n
 stepped p ac t (Err e) next = stopped (stop_of e)
 
-abbrev pub CanStep : ForkName → Framed → Result Step Stop → Type 0
+abbrev pub CanStep : ForkName → Framed → Result WordStep Stop → Type 0
 CanStep f p (Ok (step.Ends x)) = CanPut f p x.put
 CanStep f p result = Unit {0}
 
 -- a call that does one word of a unit: it ends the unit, or goes on with the word of an XCT or a local call
-pub record StepsOn (f : ForkName) (p : Framed) (ac : List ℕ) (old new : Taken) (left : (Bool → ℕ → Steps) → Steps) (result : Result Step Stop) : Type 0 where
+pub record StepsOn (f : ForkName) (p : Framed) (ac : List ℕ) (old new : Taken) (left : (Bool → ℕ → Steps) → Steps) (result : Result WordStep Stop) : Type 0 where
   pub stands : Stands f p new
   pub put : CanStep f (so_far p new) result
   pub runs : (next : Bool → ℕ → Steps) → run_over f p (left next) (progress p ac old) ≡ stepped p ac new result (λ l v. run_over f p (next l v) (progress p ac new))
 
 -- the same over pages, and whatever drum
-abbrev pub DoesStep : {P : Type 0} → PagesMeaning P → P → List ℕ → Taken → Taken → ((Bool → ℕ → Steps) → Steps) → Result Step Stop → Type 0
+abbrev pub DoesStep : {P : Type 0} → PagesMeaning P → P → List ℕ → Taken → Taken → ((Bool → ℕ → Steps) → Steps) → Result WordStep Stop → Type 0
 DoesStep means p ac old new left result = (d : DrumWords) (f : ForkName) → means.fits p d → Stands f (framed means p d) old → StepsOn f (framed means p d) ac old new left result
 
 -- a plan that stops before its end
@@ -169,7 +169,7 @@ pub record IsEnding (x : Ending) : Type 0 where
   pub put : IsPutBelow (2 ^ 18) x.put
 
 -- what a word of a unit comes to: it goes on behind its fetch, or it ends, or calls
-abbrev pub IsStep : Result Step Stop → Taken → Type 0
+abbrev pub IsStep : Result WordStep Stop → Taken → Type 0
 IsStep (Ok (step.Goes n)) t = HasSpare 1 t
 IsStep (Ok (step.Ends x)) t = IsEnding x
 IsStep (Ok (step.Calls n)) t = n < 2 ^ 18
@@ -188,6 +188,6 @@ pub record LeavesEnd (old new : Taken) (result : Result Ending Stop) : Type 0 wh
   pub end : IfOk result (λ x. IsEnding x)
 
 -- a call that ended a unit is a step that ends it
-abbrev pub as_step : Result Ending Stop → Result Step Stop
+abbrev pub as_step : Result Ending Stop → Result WordStep Stop
 as_step (Ok x) = Ok (step.Ends x)
 as_step (Err e) = Err e

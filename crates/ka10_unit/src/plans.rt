@@ -36,7 +36,7 @@ pub struct Next {
 
 /// What one word of a unit comes to.
 #[derive(Clone, Copy)]
-pub enum Step {
+pub enum WordStep {
     Goes(Next),
     Ends(Ending),
     /// A monitor call, of this number.
@@ -73,7 +73,7 @@ fn go_on<P: Pages>(
     pages: &P,
     at: u32,
     is_local: bool,
-) -> Result<Step, Stop>
+) -> Result<WordStep, Stop>
     requires serves { Serves P.means pages.now taken.old.fork }
     requires address { IsAddress at }
     requires fetched { HasSpare 1 taken.old }
@@ -84,7 +84,7 @@ fn go_on<P: Pages>(
 {
     match refer(taken, regs, pages, at, Kind::Execute) {
         Err(stop) => Err(stop),
-        Ok(word) => Ok(Step::Goes(Next { is_local, word })),
+        Ok(word) => Ok(WordStep::Goes(Next { is_local, word })),
     }
 }
 
@@ -95,7 +95,7 @@ fn call_local<P: Pages>(
     pages: &P,
     word: Word,
     e: u32,
-) -> Result<Step, Stop>
+) -> Result<WordStep, Stop>
     requires serves { Serves P.means pages.now taken.old.fork }
     requires e { IsAddress e }
     requires fetched { HasSpare 1 taken.old }
@@ -130,12 +130,12 @@ fn is_illegal(family: Family, is_local: bool, ac: u8) -> bool
 }
 
 /// How a unit ended, as a step.
-fn ended(end: Result<Ending, Stop>) -> Result<Step, Stop>
+fn ended(end: Result<Ending, Stop>) -> Result<WordStep, Stop>
     ensures { result ≡ as_step end }
 {
     match end {
         Err(stop) => Err(stop),
-        Ok(ending) => Ok(Step::Ends(ending)),
+        Ok(ending) => Ok(WordStep::Ends(ending)),
     }
 }
 
@@ -148,7 +148,7 @@ fn do_at<P: Pages>(
     word: Word,
     is_local: bool,
     address: &Address,
-) -> Result<Step, Stop>
+) -> Result<WordStep, Stop>
     requires serves { Serves P.means pages.now taken.old.fork }
     requires line { IsInLine (word_fields.opcode word) row }
     requires pc { regs.now.pc < 2 ^ 18 }
@@ -161,7 +161,7 @@ fn do_at<P: Pages>(
 {
     let ac = ac_field(word);
     match row.family {
-        Family::Monitor => Ok(Step::Calls(address.e)),
+        Family::Monitor => Ok(WordStep::Calls(address.e)),
         Family::Xct => go_on(taken, regs, pages, address.e, is_local),
         Family::Local => call_local(taken, regs, pages, word, address.e),
         Family::ByteOp => ended(byte_instruction(taken, regs, pages, row.code, ac, address.e)),
@@ -176,7 +176,7 @@ fn do_word<P: Pages>(
     pages: &P,
     word: Word,
     is_local: bool,
-) -> Result<Step, Stop>
+) -> Result<WordStep, Stop>
     requires serves { Serves P.means pages.now taken.old.fork }
     requires pc { regs.now.pc < 2 ^ 18 }
     requires fetched { HasSpare 1 taken.old }
@@ -230,9 +230,9 @@ fn follow<P: Pages>(
     }
     match do_word(taken, regs, pages, word, is_local) {
         Err(stop) => stopped(stop),
-        Ok(Step::Calls(number)) => Planned::Call(number),
-        Ok(Step::Ends(ending)) => Planned::Do(ending),
-        Ok(Step::Goes(next)) => follow(left - 1, taken, regs, pages, next.word, next.is_local),
+        Ok(WordStep::Calls(number)) => Planned::Call(number),
+        Ok(WordStep::Ends(ending)) => Planned::Do(ending),
+        Ok(WordStep::Goes(next)) => follow(left - 1, taken, regs, pages, next.word, next.is_local),
     }
 }
 

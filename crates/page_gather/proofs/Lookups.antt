@@ -14,8 +14,8 @@ use Rattle.plain_pages.specs.Maps.{entry_at, followed}
 use Rattle.page_contracts.specs.Pages.{Scene, seen_of, map_away_or}
 use Rattle.page_gather.specs.declared.change.Change.{Change}
 use Rattle.page_gather.specs.declared.walk.Walked.{Walked}
-use Rattle.page_gather.specs.declared.chains.Step.{Step}
-use Rattle.page_gather.specs.declared.chains.Step.TheVariants as step
+use Rattle.page_gather.specs.declared.chains.ChainStep.{ChainStep}
+use Rattle.page_gather.specs.declared.chains.ChainStep.TheVariants as step
 use Rattle.page_gather.specs.declared.chains.Way.{Way}
 use Rattle.page_gather.specs.declared.chains.Way.TheVariants as way
 use Rattle.page_gather.specs.Walks.{View, Ends, Goes, Views, view, last_walked, behind_walked, walked_from, walk_within, away_from, away_within}
@@ -61,7 +61,7 @@ is_there None h = absurd (cc h)
 is_there (Some x) h = (x, refl)
 
 module _ (p q : NumberedPages) (owner : Tty) (cs : List Change) (homes : ℕ) (h : AreChanged p q owner cs homes) (scene : Scene) (s : Slot) where
-  abbrev Met : Step
+  abbrev Met : ChainStep
   Met = step_met (scene.map_away s.fork) (option_map view (entry_at q.maps s))
 
   pub met_missing : seen.Missing ≡ seen_of p scene s → step.Missing ≡ Met
@@ -100,7 +100,7 @@ behind_way s a (way.Absent home) = way.Absent home
 behind_way s a way.Nowhere = way.Nowhere
 behind_way s a (way.Found w) = way.Found (behind_walked s a w)
 
-abbrev pub way_by : Step → Slot → (Slot → Way) → Way
+abbrev pub way_by : ChainStep → Slot → (Slot → Way) → Way
 way_by step.Missing s next = way.Nowhere
 way_by (step.Absent home) s next = way.Absent home
 way_by (step.Ends empty a) s next = way.Found (last_walked s empty a)
@@ -137,7 +137,7 @@ module _ (away : ForkName → Option ℕ) (views : Views) where
       by (Some home) (Some (Goes serial page a)) = refl
 
   -- by what is met at the first entry
-  pub walk_by : (n : ℕ) (s : Slot) (met : Step) → 0 < n → met ≡ step_met (away s.fork) (views s) → way_by met s (way_within (n - 1)) ≡ way_within n s
+  pub walk_by : (n : ℕ) (s : Slot) (met : ChainStep) → 0 < n → met ≡ step_met (away s.fork) (views s) → way_by met s (way_within (n - 1)) ≡ way_within n s
   walk_by n s met some is = ap (λ x. way_by x s (way_within (n - 1))) is ∙ sym (walk_step n s some)
 
   -- and by what was found onward

@@ -24,7 +24,7 @@ pub const MOST_LINKS: usize = 4;
 
 /// What a chain meets at a slot.
 #[derive(Clone, Copy, PartialEq, Eq)]
-pub enum Step {
+pub enum ChainStep {
     /// No such fork lives.
     Missing,
     /// This home, of the map, is in no frame.
@@ -118,24 +118,24 @@ pub fn names_taken(changes: &[Change], page: PageName) -> u32
 }
 
 // What a chain meets at an entry.
-fn step_of(entry: MapEntry) -> Step
+fn step_of(entry: MapEntry) -> ChainStep
     ensures { result ≡ the_step_of (view entry) }
 {
     match entry {
-        MapEntry::Empty => Step::Ends {
+        MapEntry::Empty => ChainStep::Ends {
             empty: true,
             access: FULL_ACCESS,
         },
-        MapEntry::Names(_, access) => Step::Ends {
+        MapEntry::Names(_, access) => ChainStep::Ends {
             empty: false,
             access,
         },
-        MapEntry::Follows(serial, page, access) => Step::Goes(serial, page, access),
+        MapEntry::Follows(serial, page, access) => ChainStep::Goes(serial, page, access),
     }
 }
 
 // What a chain meets at a slot after the changes.
-fn step_at<P: Pages>(pages: &P, changes: &[Change], slot: Slot) -> Step
+fn step_at<P: Pages>(pages: &P, changes: &[Change], slot: Slot) -> ChainStep
     requires { slot.page < SPACE_PAGES }
     ensures told { (d : DrumWords) (q : NumberedPages) (owner : ATty) (homes : ℕ) → P.means.fits pages.now d → AreChanged (P.means.plain pages.now d) q owner changes.now homes
         → result ≡ step_met ((P.means.scene pages.now).map_away slot.fork) (option_map view (entry_at q.maps slot)) }
@@ -144,11 +144,11 @@ fn step_at<P: Pages>(pages: &P, changes: &[Change], slot: Slot) -> Step
     ensures core { P.means.flat ≡ true → is_met result ≡ true }
 {
     match pages.entry(slot) {
-        Seen::Missing => Step::Missing,
-        Seen::Absent(home) => Step::Absent(home),
+        Seen::Missing => ChainStep::Missing,
+        Seen::Absent(home) => ChainStep::Absent(home),
         Seen::Is(entry) => match last_change(changes, slot) {
             None => step_of(entry),
-            Some(change) => Step::Ends {
+            Some(change) => ChainStep::Ends {
                 empty: false,
                 access: change.access,
             },
@@ -182,10 +182,10 @@ pub fn walk<P: Pages>(pages: &P, changes: &[Change], left: usize, slot: Slot) ->
         return Way::Nowhere;
     }
     match step_at(pages, changes, slot) {
-        Step::Missing => Way::Nowhere,
-        Step::Absent(home) => Way::Absent(home),
-        Step::Ends { empty, access } => Way::Found(Walked::last(slot, empty, access)),
-        Step::Goes(serial, page, access) => match walk(
+        ChainStep::Missing => Way::Nowhere,
+        ChainStep::Absent(home) => Way::Absent(home),
+        ChainStep::Ends { empty, access } => Way::Found(Walked::last(slot, empty, access)),
+        ChainStep::Goes(serial, page, access) => match walk(
             pages,
             changes,
             left - 1,

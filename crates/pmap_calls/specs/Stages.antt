@@ -7,7 +7,7 @@ use Rattle.plain_model.specs.Calls.{Turn, with_ac}
 use Rattle.plain_model.specs.MapCalls.{narrows, source_of, tells_access}
 use Rattle.plain_model.specs.Trees.{PlainTree}
 use Rattle.call_turns.specs.declared.turn.Ask.TheVariants.{Finds}
-use Rattle.call_turns.specs.declared.turn.Reply.{Reply}
+use Rattle.call_turns.specs.declared.turn.Told.{Told}
 use Rattle.call_turns.specs.declared.turn.Turn.{Turn as Step}
 use Rattle.call_turns.specs.declared.turn.Turn.TheVariants.{Ends, Asks}
 use Rattle.call_turns.specs.Turns.{IsRegs, entry_in, page_in, turn_of}
@@ -15,7 +15,7 @@ use Rattle.pmap_calls.specs.declared.stage.Stage.{Stage}
 use Rattle.pmap_calls.specs.declared.stage.Stage.TheVariants.{Access, Source, Page, Narrow}
 
 -- what is done with what is told
-abbrev pub later : PlainTree → Stage → Reply → Step MapChange Stage
+abbrev pub later : PlainTree → Stage → Told → Step MapChange Stage
 later tree (Access slot regs) reply = Asks (Finds slot) (Page (entry_in reply) regs)
 later tree (Source slot regs) reply = Asks (Finds slot) (Page (entry_in reply) (with_ac regs 1 (source_of tree.forks slot (entry_in reply))))
 later tree (Page e regs) reply = Ends (tells_access regs e (page_in reply))

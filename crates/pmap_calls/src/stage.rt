@@ -6,7 +6,7 @@ ghost use Rattle.call_turns.specs.Turns.{IsRegs, FitsEnd};
 ghost use Rattle.pmap_calls.specs.Stages.{IsMapChange};
 
 use crate::access::access_told;
-use call_turns::{Ask, Reply, Rest, Turn, returning, with_ac};
+use call_turns::{Ask, Rest, Told, Turn, returning, with_ac};
 use fork_tree::Tree;
 use machine_names::{Access, ForkName, PageName, Slot};
 use plain_model::call::{End, FORK_SELF, MapChange, NO_PAGE};
@@ -82,7 +82,7 @@ impl Rest<MapChange, Tree> for Stage {
 
     ghost sound = { IsMapChange };
 
-    fn later(self, tree: &Tree, reply: Reply) -> Turn<MapChange, Stage> {
+    fn later(self, tree: &Tree, reply: Told) -> Turn<MapChange, Stage> {
         match self {
             Stage::Access(slot, regs) => Turn::Asks(
                 Ask::Finds(slot),

@@ -6,7 +6,7 @@ use Rattle.script_texts.specs.declared.event.Event.TheVariants.{Login, Words, Ru
 use Rattle.script_lang.specs.Generator.{drawn, evictions, fills, generated_file, logins, next_number, number_after, one_word, pokes, program_words, programs, shown, terminal}
 use Rattle.script_lang.specs.Stages.{behind_code, closing, evicting, loading, rest_of}
 use Rattle.script_lang.specs.declared.stages.Loading.TheVariants.{Code}
-use Rattle.script_lang.specs.declared.stages.Stage.TheVariants as at
+use Rattle.script_lang.specs.declared.stages.ScriptStage.TheVariants as at
 
 -- the first of several, and none
 module _ (t n : ℕ) (m : ℕ) (more : n ≡ suc m) where

@@ -13,7 +13,7 @@ use Rattle.machine_names.specs.FileNames.{is_file_name}
 use Rattle.script_lang.specs.Generator.{big_events, drawn, first_number, generated_file, next_number, one_word, pokes, program_words, terminal}
 use Rattle.script_lang.specs.Stages.{Moves, behind_code, evicting, filing, loading, rest_of}
 use Rattle.script_lang.specs.declared.stages.Loading.TheVariants.{Code, Address, Turns, Stride, Start}
-use Rattle.script_lang.specs.declared.stages.Stage.TheVariants as at
+use Rattle.script_lang.specs.declared.stages.ScriptStage.TheVariants as at
 use Rattle.script_lang.proofs.FullNames.{named_is}
 use Rattle.script_lang.proofs.Generated.{begun, evicting-first, evicting-none, fills-first, fills-none, loading-none, logins-first, logins-none, shown-first, shown-none}
 

@@ -5,8 +5,8 @@ use Rattle.script_texts.specs.declared.event.Event.TheVariants.{File, Poke, Star
 use Rattle.script_texts.specs.Limits.{FitsEvent}
 use Rattle.script_lang.specs.declared.stages.Loading.{Loading}
 use Rattle.script_lang.specs.declared.stages.Loading.TheVariants.{Code, Address, Turns, Stride, Start}
-use Rattle.script_lang.specs.declared.stages.Stage.{Stage}
-use Rattle.script_lang.specs.declared.stages.Stage.TheVariants.{Login, MakeFile, Fill, Load, Evict, Run, Tick, Show, Over}
+use Rattle.script_lang.specs.declared.stages.ScriptStage.{ScriptStage}
+use Rattle.script_lang.specs.declared.stages.ScriptStage.TheVariants.{Login, MakeFile, Fill, Load, Evict, Run, Tick, Show, Over}
 use Rattle.script_lang.specs.Generator.{evictions, fills, generated_file, logins, next_number, number_after, pokes, program_words, programs, shown, stride_drawn, terminal, turns_drawn}
 
 -- the last lines
@@ -44,7 +44,7 @@ rest_of_program t Address x = behind_code t (7 - t) x
 rest_of_program t (Code k) x = pokes t (0o100 + k) (drop k program_words) ++ behind_code t (7 - t) x
 
 -- what is left at a stage where this is the last number
-unfoldable pub rest_of : Stage → ℕ → List Event
+unfoldable pub rest_of : ScriptStage → ℕ → List Event
 rest_of (Login t) x = logins t (8 - t) ++ filing x
 rest_of MakeFile x = filing x
 rest_of (Fill p) x = fills p (64 - p) ++ loading 0 8 x
@@ -61,7 +61,7 @@ IsLoading (Code k) = k < 6
 IsLoading part = Unit {0}
 
 -- the stages that there are
-abbrev pub IsStage : Stage → Type 0
+abbrev pub IsStage : ScriptStage → Type 0
 IsStage (Login t) = t < 8
 IsStage (Fill p) = p < 64
 IsStage (Load t part) = (t < 8) × IsLoading part
@@ -71,7 +71,7 @@ IsStage (Show t) = t < 8
 IsStage stage = Unit {0}
 
 -- at a stage an event comes, and what is left behind it is what is left at another stage
-pub record Moves (stage : Stage) (x : ℕ) (event : Event) (next : Stage) (y : ℕ) : Type 0 where
+pub record Moves (stage : ScriptStage) (x : ℕ) (event : Event) (next : ScriptStage) (y : ℕ) : Type 0 where
   pub comes : rest_of stage x ≡ event ∷ rest_of next y
   pub there : IsStage next
   pub fits : FitsEvent event

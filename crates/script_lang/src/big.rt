@@ -3,10 +3,10 @@ ghost use Rattle.std.specs.Prelude.{◌≡◌, ◌+◌, ◌<◌, ℕ, [], drop, 
 ghost use Rattle.script_texts.specs.Limits.{FitsEvent};
 ghost use Rattle.script_lang.specs.Generator.{big_events, generated_file, one_word, terminal};
 ghost use Rattle.script_lang.specs.Stages.{IsStage, Moves, rest_of};
-ghost use Rattle.script_lang.specs.declared.stages.Stage.TheVariants.{Login as AtLogin, MakeFile as AtFile, Fill as AtFill, Load as AtLoad, Evict as AtEvict, Run as AtRun, Show as AtShow};
+ghost use Rattle.script_lang.specs.declared.stages.ScriptStage.TheVariants.{Login as AtLogin, MakeFile as AtFile, Fill as AtFill, Load as AtLoad, Evict as AtEvict, Run as AtRun, Show as AtShow};
 
 use crate::draws::Draws;
-use crate::stages::{Loading, Stage};
+use crate::stages::{Loading, ScriptStage};
 use machine_names::{DirName, FileName, Tty};
 use script_texts::{Event, WordRow};
 use std::marker::Model;
@@ -45,7 +45,7 @@ const PROGRAM: [u64; 6] = [
 #[derive(Drop)]
 pub struct Big {
     draws: Draws,
-    stage: Stage,
+    stage: ScriptStage,
 }
 
 impl Model for Big {
@@ -66,7 +66,7 @@ pub fn big_from(seed: u32) -> Big
 {
     Big {
         draws: Draws::new(seed),
-        stage: Stage::Login(0),
+        stage: ScriptStage::Login(0),
     }
 }
 
@@ -84,53 +84,53 @@ impl Big {
 }
 
 // The event of a stage, and the stage behind it. None exactly where all is over.
-fn advance(stage: Stage, draws: &mut Draws) -> Option<(Event, Stage)>
+fn advance(stage: ScriptStage, draws: &mut Draws) -> Option<(Event, ScriptStage)>
     requires { IsStage stage }
     ensures { MatchOption result ((rest_of stage draws.old.last ≡ []) × (draws.new.last ≡ draws.old.last)) (λ p. Moves stage draws.old.last p.0 p.1 draws.new.last) }
 {
     match stage {
-        Stage::Login(t) => Some(login(t)),
-        Stage::MakeFile => Some(make_file()),
-        Stage::Fill(page) => Some(fill(page)),
-        Stage::Load(t, part) => Some(load(t, part, draws)),
-        Stage::Evict(n) => Some(evict(n, draws)),
-        Stage::Run(n) => Some(run(n)),
-        Stage::Tick => Some((Event::Tick, Stage::Show(0))),
-        Stage::Show(t) => Some(show(t)),
-        Stage::Over => None,
+        ScriptStage::Login(t) => Some(login(t)),
+        ScriptStage::MakeFile => Some(make_file()),
+        ScriptStage::Fill(page) => Some(fill(page)),
+        ScriptStage::Load(t, part) => Some(load(t, part, draws)),
+        ScriptStage::Evict(n) => Some(evict(n, draws)),
+        ScriptStage::Run(n) => Some(run(n)),
+        ScriptStage::Tick => Some((Event::Tick, ScriptStage::Show(0))),
+        ScriptStage::Show(t) => Some(show(t)),
+        ScriptStage::Over => None,
     }
 }
 
 // A user logs in.
-fn login(t: u8) -> (Event, Stage)
+fn login(t: u8) -> (Event, ScriptStage)
     requires { t < 8 }
     ensures { (x : ℕ) → Moves (AtLogin t) x result.0 result.1 x }
 {
     let event = Event::Login(Tty(t), DirName::new(b"U"));
     if t == LAST_TERMINAL {
-        (event, Stage::MakeFile)
+        (event, ScriptStage::MakeFile)
     } else {
-        (event, Stage::Login(t + 1))
+        (event, ScriptStage::Login(t + 1))
     }
 }
 
 // The file is made.
-fn make_file() -> (Event, Stage)
+fn make_file() -> (Event, ScriptStage)
     ensures { (x : ℕ) → Moves AtFile x result.0 result.1 x }
 {
-    (Event::File(file_name()), Stage::Fill(0))
+    (Event::File(file_name()), ScriptStage::Fill(0))
 }
 
 // A page of the file gets its word.
-fn fill(page: u8) -> (Event, Stage)
+fn fill(page: u8) -> (Event, ScriptStage)
     requires { page < 64 }
     ensures { (x : ℕ) → Moves (AtFill page) x result.0 result.1 x }
 {
     let event = filling(page);
     if page == LAST_PAGE {
-        (event, Stage::Load(0, Loading::Code(0)))
+        (event, ScriptStage::Load(0, Loading::Code(0)))
     } else {
-        (event, Stage::Fill(page + 1))
+        (event, ScriptStage::Fill(page + 1))
     }
 }
 
@@ -152,27 +152,27 @@ fn file_name() -> FileName
 }
 
 // A part of a terminal's program.
-fn load(t: u8, part: Loading, draws: &mut Draws) -> (Event, Stage)
+fn load(t: u8, part: Loading, draws: &mut Draws) -> (Event, ScriptStage)
     requires { IsStage (AtLoad t part) }
     ensures { Moves (AtLoad t part) draws.old.last result.0 result.1 draws.new.last }
 {
     match part {
         Loading::Code(k) => code(t, k),
-        Loading::Address => (poke(t, 2, 0o20), Stage::Load(t, Loading::Turns)),
+        Loading::Address => (poke(t, 2, 0o20), ScriptStage::Load(t, Loading::Turns)),
         Loading::Turns => (
             poke(t, 3, 300 + draws.draw(100)),
-            Stage::Load(t, Loading::Stride),
+            ScriptStage::Load(t, Loading::Stride),
         ),
         Loading::Stride => (
             poke(t, 4, 2048 * (2 * draws.draw(32) + 1)),
-            Stage::Load(t, Loading::Start),
+            ScriptStage::Load(t, Loading::Start),
         ),
         Loading::Start => start(t),
     }
 }
 
 // A word of a terminal's program.
-fn code(t: u8, k: u8) -> (Event, Stage)
+fn code(t: u8, k: u8) -> (Event, ScriptStage)
     requires terminal { t < 8 }
     requires word { k < 6 }
     ensures { (x : ℕ) → Moves (AtLoad t (Loading.Code k)) x result.0 result.1 x }
@@ -180,9 +180,9 @@ fn code(t: u8, k: u8) -> (Event, Stage)
     let word = Word::wrapped(PROGRAM[usize::from(k)]);
     let event = Event::Poke(Tty(t), PROGRAM_START + u32::from(k), word);
     if k == 5 {
-        (event, Stage::Load(t, Loading::Address))
+        (event, ScriptStage::Load(t, Loading::Address))
     } else {
-        (event, Stage::Load(t, Loading::Code(k + 1)))
+        (event, ScriptStage::Load(t, Loading::Code(k + 1)))
     }
 }
 
@@ -194,46 +194,49 @@ fn poke(t: u8, accumulator: u32, n: u32) -> Event
 }
 
 // A terminal's program is started.
-fn start(t: u8) -> (Event, Stage)
+fn start(t: u8) -> (Event, ScriptStage)
     requires { t < 8 }
     ensures { (x : ℕ) → Moves (AtLoad t Loading.Start) x result.0 result.1 x }
 {
     let event = Event::Start(Tty(t), PROGRAM_START);
     if t == LAST_TERMINAL {
-        (event, Stage::Evict(0))
+        (event, ScriptStage::Evict(0))
     } else {
-        (event, Stage::Load(t + 1, Loading::Code(0)))
+        (event, ScriptStage::Load(t + 1, Loading::Code(0)))
     }
 }
 
 // A frame is evicted.
-fn evict(n: u8, draws: &mut Draws) -> (Event, Stage)
+fn evict(n: u8, draws: &mut Draws) -> (Event, ScriptStage)
     requires { n < 40 }
     ensures { Moves (AtEvict n) draws.old.last result.0 result.1 draws.new.last }
 {
-    (Event::Evict(draws.draw(EVICTED_FRAMES)), Stage::Run(n))
+    (
+        Event::Evict(draws.draw(EVICTED_FRAMES)),
+        ScriptStage::Run(n),
+    )
 }
 
 // Units are run.
-fn run(n: u8) -> (Event, Stage)
+fn run(n: u8) -> (Event, ScriptStage)
     requires { n < 40 }
     ensures { (x : ℕ) → Moves (AtRun n) x result.0 result.1 x }
 {
     if n == LAST_EVICTION {
-        (Event::Run(UNITS), Stage::Tick)
+        (Event::Run(UNITS), ScriptStage::Tick)
     } else {
-        (Event::Run(UNITS), Stage::Evict(n + 1))
+        (Event::Run(UNITS), ScriptStage::Evict(n + 1))
     }
 }
 
 // A terminal's forks are shown.
-fn show(t: u8) -> (Event, Stage)
+fn show(t: u8) -> (Event, ScriptStage)
     requires { t < 8 }
     ensures { (x : ℕ) → Moves (AtShow t) x result.0 result.1 x }
 {
     if t == LAST_TERMINAL {
-        (Event::Forks(Tty(t)), Stage::Over)
+        (Event::Forks(Tty(t)), ScriptStage::Over)
     } else {
-        (Event::Forks(Tty(t)), Stage::Show(t + 1))
+        (Event::Forks(Tty(t)), ScriptStage::Show(t + 1))
     }
 }

@@ -31,7 +31,7 @@ pub enum Next {
 
 // Whether more may be asked for.
 #[derive(Clone, Copy)]
-enum Stage {
+enum Reading {
     Open,
     Ended,
 }
@@ -56,7 +56,7 @@ enum Line {
 pub struct Lines {
     buffer: Buffer,
     reached: Reached,
-    stage: Stage,
+    stage: Reading,
 }
 
 impl Lines {
@@ -73,7 +73,7 @@ impl Lines {
         Lines {
             buffer: Buffer::EMPTY,
             reached: Reached::start(),
-            stage: Stage::Open,
+            stage: Reading::Open,
         }
     }
 
@@ -129,7 +129,7 @@ impl Lines {
     {
         let next = self.advance(s);
         if !matches!(next, Next::One(_)) {
-            self.stage = Stage::Ended;
+            self.stage = Reading::Ended;
         }
         next
     }

@@ -16,7 +16,7 @@ pub(crate) enum Loading {
 
 /// What comes next of a generated script.
 #[derive(Clone, Copy, PartialEq, Eq)]
-pub(crate) enum Stage {
+pub(crate) enum ScriptStage {
     /// The user of this terminal logs in.
     Login(u8),
     MakeFile,

@@ -17,8 +17,8 @@ use Rattle.texts.specs.declared.last.Last.{Last}
 use Rattle.texts.specs.declared.writer.Writer.{Writer}
 use Rattle.texts.specs.Ends.{end_line, record_end}
 use Rattle.texts.specs.Turns.{open_run, run_count, step_of}
-use Rattle.texts.specs.declared.turns.Turn.{Turn}
-use Rattle.texts.specs.declared.turns.Turn.TheVariants.{Unit as UnitOf, Idle as IdleTurn}
+use Rattle.texts.specs.declared.turns.RunEntry.{RunEntry}
+use Rattle.texts.specs.declared.turns.RunEntry.TheVariants.{Unit as UnitOf, Idle as IdleTurn}
 use Rattle.texts.specs.Wrote.{Wrote, WrotePartly, GrowsPartly}
 use Rattle.texts.specs.Writer.{Stands, IsCutWithin, IsCutAtEnd, Keeps, KeepsWritten, Finishes, FailsAtEnd}
 use Rattle.texts.proofs.Writes.{wrote_more, wrote_list, wrote_partly, wrote_cut, wrote_end, wrote_end_partly, cut_here, whole_partly, partly_stays, wrote_stays}
@@ -38,24 +38,24 @@ unit_counted f c ts =
 pub idle_counted : Counted IdleStep
 idle_counted c ts = refl
 
-pub turn_counted : (t : Turn) → Counted (step_of t)
+pub turn_counted : (t : RunEntry) → Counted (step_of t)
 turn_counted (UnitOf f) = unit_counted f
 turn_counted IdleTurn = idle_counted
 
 -- a turn of the run that is open goes on with it
-pub joins_text : (t u : Turn) (c : ℕ) → same_turn (step_of t) (step_of u) ≡ true → step_text (Some (step_of t, c)) (step_of u) ≡ []
+pub joins_text : (t u : RunEntry) (c : ℕ) → same_turn (step_of t) (step_of u) ≡ true → step_text (Some (step_of t, c)) (step_of u) ≡ []
 joins_text (UnitOf f) (UnitOf h) c e = ap (λ b. cond b [] (run_line (UnitStep f) c)) e
 joins_text (UnitOf f) IdleTurn c e = absurd (cc e)
 joins_text IdleTurn (UnitOf h) c e = absurd (cc e)
 joins_text IdleTurn IdleTurn c e = refl
 
-pub joins_run : (t u : Turn) (c : ℕ) → same_turn (step_of t) (step_of u) ≡ true → step_run (Some (step_of t, c)) (step_of u) ≡ Some (step_of u, c + 1)
+pub joins_run : (t u : RunEntry) (c : ℕ) → same_turn (step_of t) (step_of u) ≡ true → step_run (Some (step_of t, c)) (step_of u) ≡ Some (step_of u, c + 1)
 joins_run (UnitOf f) (UnitOf h) c e = ap (λ b. cond b (Some (UnitStep h, c + 1)) (Some (UnitStep h, 1))) e
 joins_run (UnitOf f) IdleTurn c e = absurd (cc e)
 joins_run IdleTurn (UnitOf h) c e = absurd (cc e)
 joins_run IdleTurn IdleTurn c e = refl
 
-pub joins_step : (t u : Turn) → same_turn (step_of t) (step_of u) ≡ true → step_of t ≡ step_of u
+pub joins_step : (t u : RunEntry) → same_turn (step_of t) (step_of u) ≡ true → step_of t ≡ step_of u
 joins_step (UnitOf f) (UnitOf h) e = grind (arith, rules, e)
 joins_step (UnitOf f) IdleTurn e = absurd (cc e)
 joins_step IdleTurn (UnitOf h) e = absurd (cc e)

@@ -3,12 +3,12 @@ use Rattle.std.specs.Prelude.{ℕ, Option, None, Some}
 use Rattle.script_texts.specs.declared.event.Step.{Step}
 use Rattle.script_texts.specs.declared.event.Step.TheVariants.{Unit as AUnit, Idle as AnIdle}
 use Rattle.texts.specs.OpenRun.{OpenRun}
-use Rattle.texts.specs.declared.turns.Turn.{Turn}
-use Rattle.texts.specs.declared.turns.Turn.TheVariants.{Unit as UnitOf, Idle}
+use Rattle.texts.specs.declared.turns.RunEntry.{RunEntry}
+use Rattle.texts.specs.declared.turns.RunEntry.TheVariants.{Unit as UnitOf, Idle}
 use Rattle.texts.specs.declared.turns.Turns.{Turns}
 
 -- the step that a turn is
-abbrev pub step_of : Turn → Step
+abbrev pub step_of : RunEntry → Step
 step_of (UnitOf f) = AUnit f
 step_of Idle = AnIdle
 

@@ -9,7 +9,7 @@ use machine_names::ForkName;
 
 /// An entry of a RUN line: one unit of a fork, or an idle entry.
 #[derive(Clone, Copy, PartialEq, Eq)]
-pub enum Turn {
+pub enum RunEntry {
     Unit(ForkName),
     Idle,
 }
@@ -17,20 +17,20 @@ pub enum Turn {
 /// A run of equal turns, and how many they are.
 #[derive(Clone, Copy, PartialEq, Eq)]
 pub struct Turns {
-    pub turn: Turn,
+    pub turn: RunEntry,
     pub count: u64,
 }
 
 /// Whether two turns belong to one run.
 #[inline]
-pub fn is_same_turn(x: Turn, y: Turn) -> bool
+pub fn is_same_turn(x: RunEntry, y: RunEntry) -> bool
     ensures { result ≡ same_turn (step_of x) (step_of y) }
 {
     match (x, y) {
-        (Turn::Unit(f), Turn::Unit(g)) => f.tty.0 == g.tty.0 && f.serial == g.serial,
-        (Turn::Idle, Turn::Idle) => true,
-        (Turn::Unit(_), Turn::Idle) => false,
-        (Turn::Idle, Turn::Unit(_)) => false,
+        (RunEntry::Unit(f), RunEntry::Unit(g)) => f.tty.0 == g.tty.0 && f.serial == g.serial,
+        (RunEntry::Idle, RunEntry::Idle) => true,
+        (RunEntry::Unit(_), RunEntry::Idle) => false,
+        (RunEntry::Idle, RunEntry::Unit(_)) => false,
     }
 }
 
@@ -46,18 +46,18 @@ pub fn run_line(run: Option<Turns>) -> Line
 }
 
 // The line of so many equal turns.
-fn turns_line(turn: Turn, count: u64) -> Line
+fn turns_line(turn: RunEntry, count: u64) -> Line
     ensures bytes { result ≡ run_line (step_of turn) count }
     ensures short { length result ≤ RUN_ROOM }
 {
     let mut line = Line::new();
     match turn {
-        Turn::Unit(f) => {
+        RunEntry::Unit(f) => {
             line.push(b"U ");
             line.push_name(f);
             line.push(b" ");
         }
-        Turn::Idle => line.push(b"I "),
+        RunEntry::Idle => line.push(b"I "),
     }
     line.push_decimal(count);
     line.push(b"\n");

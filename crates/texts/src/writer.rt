@@ -9,7 +9,7 @@ use crate::end_line::end_line;
 use crate::entry::{entry_line, record_end};
 use crate::item_line::{item_line, open_line};
 use crate::put::put;
-use crate::turns::{Turn, Turns, is_same_turn, run_line};
+use crate::turns::{RunEntry, Turns, is_same_turn, run_line};
 use outside::{Failed, Sink};
 use script_texts::{Event, Item, Step, Taker};
 
@@ -97,7 +97,7 @@ impl<'a, T: Sink, R: Sink> Writer<'a, T, R> {
 
     // Takes so many equal turns: they go on with the run that is open, or begin one.
     #[inline]
-    fn equal_turns(&mut self, turn: Turn, n: u64) -> Result<(), Failed>
+    fn equal_turns(&mut self, turn: RunEntry, n: u64) -> Result<(), Failed>
         requires some { 1 ≤ n }
         ensures counts { Counts T.fault_count R.fault_count result self.old self.new }
         ensures ok { OnOk result (GoesOn (Stands T.taken R.taken) self.old self.new [] (replicate n (step_of turn))) }
@@ -121,7 +121,7 @@ impl<'a, T: Sink, R: Sink> Writer<'a, T, R> {
 
     // Takes so many equal turns that aren't of the run that is open.
     #[inline(never)]
-    fn begin_run(&mut self, turn: Turn, n: u64) -> Result<(), Failed>
+    fn begin_run(&mut self, turn: RunEntry, n: u64) -> Result<(), Failed>
         requires some { 1 ≤ n }
         requires text { step_text (open_run self.old.run) (step_of turn) ≡ run_end (open_run self.old.run) }
         requires run { step_run (open_run self.old.run) (step_of turn) ≡ Some (step_of turn, 1) }
@@ -191,16 +191,16 @@ impl<'a, T: Sink, R: Sink> Taker for Writer<'a, T, R> {
     #[inline(always)]
     fn step(&mut self, s: Step) -> Result<(), Failed> {
         match s {
-            Step::Unit(f) => self.equal_turns(Turn::Unit(f), 1),
-            Step::Idle => self.equal_turns(Turn::Idle, 1),
+            Step::Unit(f) => self.equal_turns(RunEntry::Unit(f), 1),
+            Step::Idle => self.equal_turns(RunEntry::Idle, 1),
             Step::Outer(e) => self.event(e),
         }
     }
 
     fn turns(&mut self, s: Step, n: u64) -> Result<(), Failed> {
         match s {
-            Step::Unit(f) => self.equal_turns(Turn::Unit(f), n),
-            Step::Idle => self.equal_turns(Turn::Idle, n),
+            Step::Unit(f) => self.equal_turns(RunEntry::Unit(f), n),
+            Step::Idle => self.equal_turns(RunEntry::Idle, n),
             Step::Outer(_) => unreachable!(),
         }
     }

@@ -16,7 +16,7 @@ use Rattle.fork_calls.specs.Asking.{asked}
 use Rattle.fork_calls.specs.Blocks.{GoesOn, TookBlock}
 use Rattle.fork_calls.specs.Steps.{store_end, whole}
 use Rattle.fork_calls.specs.Turning.{parts}
-use Rattle.fork_calls.specs.declared.step.Step.TheVariants.{Stores}
+use Rattle.fork_calls.specs.declared.step.FirstStep.TheVariants.{Stores}
 use Rattle.fork_calls.proofs.Branch.{none_made}
 use Rattle.fork_calls.proofs.CallLeaving.{grown_leaves}
 use Rattle.fork_calls.proofs.Needed.{done_needs, stop_needs}

@@ -6,7 +6,7 @@ use Rattle.ka10_unit.specs.Taking.{most_frames}
 use Rattle.fork_calls.specs.Asking.{asked}
 use Rattle.fork_calls.specs.Needing.{call_frames}
 use Rattle.fork_calls.specs.Steps.{whole}
-use Rattle.fork_calls.specs.declared.step.Step.TheVariants.{Ends}
+use Rattle.fork_calls.specs.declared.step.FirstStep.TheVariants.{Ends}
 use Rattle.fork_calls.specs.Turning.{Turned}
 use Rattle.fork_calls.proofs.Holdings.{caller_serves, caller_terminal}
 use Rattle.fork_calls.proofs.Needed.{answer_more}

@@ -1,6 +1,6 @@
 use Rattle.std.proofs.Common.{◌∙◌, ap}
 use Rattle.script_lang.specs.Stages.{rest_of}
-use Rattle.script_lang.specs.declared.stages.Stage.TheVariants as at
+use Rattle.script_lang.specs.declared.stages.ScriptStage.TheVariants as at
 use Rattle.script_lang.proofs.Moves.{opens}
 use Rattle.script_lang.proofs.big.big_from.Goals as goal
 
