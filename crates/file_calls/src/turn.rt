@@ -30,8 +30,8 @@ pub fn call(number: u32, regs: &Regs, who: ForkName, tree: &Tree) -> Answer
     requires { IsRegs regs.now }
     ensures { Answers (file_call number (asked who regs.now tree.now)) result }
 {
-    match number {
-        GETER => geter(regs, who, tree),
-        _ => Answer::Trap(ILLEGAL_INSTRUCTION),
+    if number == GETER {
+        return geter(regs, who, tree);
     }
+    Answer::Trap(ILLEGAL_INSTRUCTION)
 }

@@ -6,7 +6,7 @@ use Rattle.script_lang.specs.Feeds.{IsLeft}
 use Rattle.script_lang.specs.declared.lines.Lines.{Lines}
 use Rattle.script_lang.specs.declared.lines.Next.{Next}
 use Rattle.script_lang.specs.declared.lines.Next.TheVariants.{ReadFault}
-use Rattle.script_lang.specs.declared.lines.ScriptStage.TheVariants.{Open}
+use Rattle.script_lang.specs.declared.lines.Reading.TheVariants.{Open}
 use Rattle.script_lang.specs.declared.reached.TheConstants.{MOST_LINE}
 use Rattle.script_lang.specs.declared.lines.Line.{Line}
 use Rattle.script_lang.specs.declared.lines.Line.TheVariants.{One, Blank, Bad, Long, End, Fault}
