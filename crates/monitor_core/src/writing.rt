@@ -1,5 +1,5 @@
 // A word that is written through a fork's map.
-ghost use Rattle.std.specs.Prelude.{◌≡◌, ◌<◌, ◌^◌, IfErr, OnOk};
+ghost use Rattle.std.specs.Prelude.{true, ◌≡◌, ◌<◌, ◌^◌, IfErr, OnOk};
 ghost use Rattle.outside.specs.declared.TheConstants.{PAGE_WORDS};
 ghost use Rattle.script_texts.specs.Limits.{FitsCause};
 ghost use Rattle.page_contracts.specs.DrumWords.{DrumWords};
