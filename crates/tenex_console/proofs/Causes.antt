@@ -1,5 +1,5 @@
 -- Where faults come from, and what the sinks have handed on, behind a writer that was to be closed.
-use Rattle.std.proofs.Common.{◌≡◌, ◌⊎◌, inl, inr, ℕ, ◌≤◌, Some, ap, refl, sym, ◌∙◌, arith}
+use Rattle.std.proofs.Common.{◌≡◌, ◌⊎◌, inl, inr, ℕ, ◌≤◌, None, Some, ap, refl, sym, ◌∙◌, arith}
 use Rattle.outside.specs.Faults.{Rose}
 use Rattle.texts.specs.declared.writer.Writer.{Writer}
 use Rattle.texts.specs.declared.last.Last.{Last}
@@ -42,6 +42,15 @@ written Unread reads writes last there is = absurd (cc is)
 written Unpaged reads writes last there is = absurd (cc is)
 written TakerFault reads writes last there is = absurd (cc there)
 
+-- where no last line is left, a write had failed
+given_up : {X : Type 0} (driven : Driven) (reads writes : ℕ) → last_after driven reads writes ≡ None → (driven ≡ TakerFault → X) → X
+given_up WholeScript reads writes none cause = absurd (cc none)
+given_up (Bad n) reads writes none cause = absurd (cc none)
+given_up Long reads writes none cause = absurd (cc none)
+given_up Unread reads writes none cause = absurd (cc none)
+given_up Unpaged reads writes none cause = absurd (cc none)
+given_up TakerFault reads writes none cause = cause refl
+
 module _ {S T R D : Type 0} (of_script : S → ℕ) (of_out : T → ℕ) (of_rec : R → ℕ) (of_drum : D → ℕ) (script script' : S) (drum drum' : D) (w v u : Writer T R)
     (onward : IsOnward of_out of_rec w u) (script_later : of_script script ≤ of_script script') (drum_later : of_drum drum ≤ of_drum drum') where
   later : NoneFell (faults of_script of_out of_rec of_drum script script' w.out.now u.out.now w.rec.now u.rec.now drum drum')
@@ -58,6 +67,17 @@ module _ {S T R D : Type 0} (of_script : S → ℕ) (of_out : T → ℕ) (of_rec
     drum = λ s. unpaged driven paged (sym is ∙ s);
     later = later;
     unfaulted = λ no_read no_write. sure (λ u. no_read (is ∙ ap status_after u));
+  }
+
+  -- the writing was given up, since a write had failed
+  pub caused_given_up : (driven : Driven) (reads writes : ℕ) → last_after driven reads writes ≡ None → w.faults ≡ 0 → (driven ≡ TakerFault → Rose w.faults v.faults) → v.faults ≤ u.faults
+      → IsCaused WriteFault (faults of_script of_out of_rec of_drum script script' w.out.now u.out.now w.rec.now u.rec.now drum drum')
+  caused_given_up driven reads writes none zero cause more = record {
+    read = λ s. absurd (cc s);
+    write = λ s. onward.cause (let rose = given_up driven reads writes none cause in omega (arith, zero, rose, more));
+    drum = λ s. absurd (cc s);
+    later = later;
+    unfaulted = λ no_read no_write. absurd (no_write refl);
   }
 
   -- they could not be closed

@@ -5,7 +5,7 @@ use Rattle.texts.specs.declared.last.Status.TheVariants.{WriteFault}
 use Rattle.tenex_console.specs.Observed.{HandedOn, IsCaused, faults, seen}
 use Rattle.tenex_console.specs.Statuses.{Ran}
 use Rattle.tenex_console.proofs.Closing.{closed, cut_short, last_told, moved, opens_booted, unclosed}
-use Rattle.tenex_console.proofs.Causes.{caused_closed, caused_unclosed, handed_closed, handed_unclosed}
+use Rattle.tenex_console.proofs.Causes.{caused_closed, caused_given_up, caused_unclosed, handed_closed, handed_unclosed}
 use Rattle.tenex_console.proofs.Statuses.{judged_by}
 use Rattle.tenex_console.proofs.call.run.Goals as goal
 
@@ -91,3 +91,14 @@ returns-in-Err-clause-handed g c =
     moved (λ o o' r r'. HandedOn g.T.Sink.handed_on g.R.Sink.handed_on g.T.Sink.fault_count g.R.Sink.fault_count o o' r r' WriteFault)
     c.new-writer.ensures.out (search rules) c.new-writer.ensures.rec (search rules)
     (handed_unclosed g.T.Sink.handed_on g.R.Sink.handed_on g.T.Sink.fault_count g.R.Sink.fault_count w v u onward c.close.ensures.tried)
+
+pub returns-in_default-clause-caused : goal.returns-in_default-clause-caused
+returns-in_default-clause-caused g c =
+    let w = c.new-writer.result in
+    let v = c.drive-driven.new.taker in
+    let u = c.give_up.new.self in
+    let onward = c.give_up.ensures.onward.each w (c.drive-driven.ensures.onward.each w (onward_start g.T.Sink.fault_count g.R.Sink.fault_count w)) in
+    moved (λ o o' r r'. IsCaused WriteFault (faults g.S.Source.fault_count g.T.Sink.fault_count g.R.Sink.fault_count g.D.Drum.fault_count c.args.script.now c.drive-driven.new.script o o' r r' c.args.drum.now c.drive-driven.new.drum))
+    c.new-writer.ensures.out (search rules) c.new-writer.ensures.rec (search rules)
+    (caused_given_up g.S.Source.fault_count g.T.Sink.fault_count g.R.Sink.fault_count g.D.Drum.fault_count c.args.script.now c.drive-driven.new.script c.args.drum.now c.drive-driven.new.drum w v u onward c.drive-driven.ensures.read_later c.drive-driven.ensures.drum.faults_later
+    c.drive-driven.result _ _ (sym c.last.ensures ∙ c.in_default.is) c.new-writer.ensures.faults c.drive-driven.ensures.cause c.give_up.ensures.later)
