@@ -1,16 +1,19 @@
 -- What the definitions say that do not open by themselves, one equation each.
 use Rattle.std.proofs.Common.{◌≡◌, ℕ, List, [], ◌++◌, Some, refl, ap}
+use Rattle.std.specs.Prelude.{take}
 use Rattle.std.specs.Option.{option_map_or}
 use Rattle.std.specs.FinMap as map
 use Rattle.machine_names.specs.declared.names.Tty.{Tty}
 use Rattle.machine_names.specs.declared.names.ForkName.{ForkName}
 use Rattle.plain_model.specs.declared.fork.Fork.{Fork}
 use Rattle.script_texts.specs.declared.event.Event.{Event}
-use Rattle.script_texts.specs.declared.event.Event.TheVariants.{Login, Poke, Start, Tick, Examine, Forks}
+use Rattle.script_texts.specs.declared.event.Event.TheVariants.{Login, File, Words, Poke, Start, Tick, Examine, Forks, Page}
 use Rattle.script_texts.specs.declared.event.Step.TheVariants.{Outer, Unit as AUnit, Idle}
 use Rattle.plain_model.specs.State.{PlainState}
 use Rattle.plain_model.specs.Unit.{over, unit}
 use Rattle.plain_units.specs.Units.{unit_on}
+use Rattle.script_texts.specs.declared.event.WordRow.{WordRow}
+use Rattle.plain_model.specs.FileEvents.{make_file, write_words, show_page}
 use Rattle.plain_model.specs.Events.{login, poke, start, tick, examine, show_forks, outer}
 use Rattle.plain_model.specs.Run.{apply, unit_line}
 
@@ -23,6 +26,18 @@ module _ (s : PlainState) where
   pub outer_login : (t : Tty) (user : List ℕ) → outer s (Login t user) ≡ login s t user
   unfolding outer
   outer_login t user = refl
+
+  pub outer_file : (name : List ℕ) → outer s (File name) ≡ make_file s name
+  unfolding outer
+  outer_file name = refl
+
+  pub outer_words : (name : List ℕ) (page offset : ℕ) (row : WordRow) → outer s (Words name page offset row) ≡ write_words s name page offset (take row.count row.words)
+  unfolding outer
+  outer_words name page offset row = refl
+
+  pub outer_page : (name : List ℕ) (page : ℕ) → outer s (Page name page) ≡ show_page s name page
+  unfolding outer
+  outer_page name page = refl
 
   pub outer_poke : (t : Tty) (address word : ℕ) → outer s (Poke t address word) ≡ poke s t address word
   unfolding outer

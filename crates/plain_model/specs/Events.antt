@@ -1,5 +1,5 @@
 -- The events of a script that are one step of the plain machine.
-use Rattle.std.specs.Prelude.{ℕ, ◌+◌, ◌%◌, List, [], ◌∷◌, map, Bool, false, nat_lt, Option, None, Some, if◌then◌else◌, slice_index, is_some}
+use Rattle.std.specs.Prelude.{ℕ, ◌+◌, ◌%◌, List, [], ◌∷◌, map, Bool, false, nat_lt, Option, None, Some, if◌then◌else◌, slice_index, take, is_some}
 use Rattle.std.specs.Option.{option_map, option_map_or}
 use Rattle.std.specs.FinMap as map
 use Rattle.outside.specs.declared.TheConstants.{PAGE_WORDS}
@@ -14,9 +14,8 @@ use Rattle.plain_model.specs.declared.fork.TerminalMode.TheVariants.{Command, Pr
 use Rattle.script_texts.specs.declared.status.ForkStatus.TheVariants.{Run as Running}
 use Rattle.plain_model.specs.declared.fork.Fork.{Fork}
 use Rattle.script_texts.specs.declared.event.Event.{Event}
-use Rattle.script_texts.specs.declared.event.Event.TheVariants.{Login, Poke, Start, Tick, Examine, Forks, Trace}
-use Rattle.script_texts.specs.declared.event.Item.TheVariants.{Char, ForkLine, Examined, Refusal}
-use Rattle.script_texts.specs.declared.event.Refusal.{Refusal as Cause}
+use Rattle.script_texts.specs.declared.event.Event.TheVariants.{Login, File, Words, Poke, Start, Tick, Examine, Forks, Page, Trace}
+use Rattle.script_texts.specs.declared.event.Item.TheVariants.{Char, ForkLine, Examined}
 use Rattle.script_texts.specs.declared.event.Refusal.TheVariants.{Busy, NoJob, SerialsOut, Full, Denied, NoFork, NoPage}
 use Rattle.plain_model.specs.State.{PlainState, PlainJob}
 use Rattle.machine_names.specs.Orders.{name_cmp}
@@ -25,12 +24,9 @@ use Rattle.plain_pages.specs.References.{Referred, granted, denied, full, in_map
 use Rattle.plain_model.specs.Forks.{top_fork, change_fork, with_regs, forks_by_slot, fork_line}
 use Rattle.plain_model.specs.Trees.{tree_of, next_serial, next_name, with_made}
 use Rattle.plain_model.specs.Calls.{with_ac}
-use Rattle.plain_model.specs.Unit.{Effect, with_parts}
+use Rattle.plain_model.specs.Unit.{Effect, refused, with_parts}
+use Rattle.plain_model.specs.FileEvents.{make_file, write_words, show_page}
 use Rattle.plain_pages.specs.NewMaps.{with_map}
-
--- an event that is refused changes nothing, and says why
-abbrev pub refused : PlainState → Cause → Effect
-refused s cause = record { state = s; items = Refusal cause ∷ [] }
 
 -- an event of a terminal's job; it is refused where the terminal has none
 abbrev pub at_job : PlainState → Tty → (PlainJob → Effect) → Effect
@@ -112,10 +108,13 @@ traced s on = record { state = record s { trace = on }; items = [] }
 -- an event as one step; those that are not built change nothing
 unfoldable pub outer : PlainState → Event → Effect
 outer s (Login t user) = login s t user
+outer s (File name) = make_file s name
+outer s (Words name page offset row) = write_words s name page offset (take row.count row.words)
 outer s (Poke t address word) = poke s t address word
 outer s (Start t address) = start s t address
 outer s Tick = tick s
 outer s (Examine t serial address) = examine s t serial address
 outer s (Forks t) = show_forks s t
+outer s (Page name page) = show_page s name page
 outer s (Trace on) = traced s on
 outer s e = record { state = s; items = [] }

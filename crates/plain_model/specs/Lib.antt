@@ -4,6 +4,7 @@ pub mod Interrupts
 pub mod Inferiors
 pub mod Trees
 pub mod Unit
+pub mod FileEvents
 pub mod Events
 pub mod Run
 pub mod Handles

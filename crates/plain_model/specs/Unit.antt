@@ -10,7 +10,8 @@ use Rattle.script_texts.specs.declared.status.ForkStatus.{ForkStatus}
 use Rattle.script_texts.specs.declared.status.ForkStatus.TheVariants.{Halted, Forced}
 use Rattle.plain_model.specs.declared.fork.Fork.{Fork}
 use Rattle.script_texts.specs.declared.event.Item.{Item}
-use Rattle.script_texts.specs.declared.event.Item.TheVariants.{Char}
+use Rattle.script_texts.specs.declared.event.Item.TheVariants.{Char, Refusal}
+use Rattle.script_texts.specs.declared.event.Refusal.{Refusal as Cause}
 use Rattle.plain_model.specs.State.{PlainState}
 use Rattle.plain_pages.specs.PlainPages.{NamedPages}
 use Rattle.plain_units.specs.Steps.{Planned, Ending, done, call, trap, need, stopped as unit_stopped, pages_left}
@@ -26,6 +27,10 @@ use Rattle.plain_units.specs.Units.{unit_on}
 pub record Effect : Type 0 where
   pub state : PlainState
   pub items : List Item
+
+-- an event that is refused changes nothing, and says why
+abbrev pub refused : PlainState → Cause → Effect
+refused s cause = record { state = s; items = Refusal cause ∷ [] }
 
 -- characters that a terminal prints
 abbrev pub printed : Tty → List ℕ → List Item

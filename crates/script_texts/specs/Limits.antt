@@ -48,9 +48,6 @@ FitsEvent (Trace on) = Unit {0}
 -- the events that the machine acts on
 abbrev pub IsBuilt : Event → Type 0
 IsBuilt (TypeIn t text) = ⊥
-IsBuilt (File name) = ⊥
-IsBuilt (Words name page offset row) = ⊥
-IsBuilt (Page name page) = ⊥
 IsBuilt (Trace on) = ⊥
 IsBuilt e = Unit {0}
 

@@ -55,6 +55,8 @@ impl Event {
     {
         match self {
             Event::Login(..)
+            | Event::File(_)
+            | Event::Words(..)
             | Event::Poke(..)
             | Event::Start(..)
             | Event::Run(_)
@@ -63,12 +65,9 @@ impl Event {
             | Event::Drum(_)
             | Event::Auto(_)
             | Event::Examine(..)
-            | Event::Forks(_) => true,
-            Event::TypeIn(..)
-            | Event::File(_)
-            | Event::Words(..)
-            | Event::Page(..)
-            | Event::Trace(_) => false,
+            | Event::Forks(_)
+            | Event::Page(..) => true,
+            Event::TypeIn(..) | Event::Trace(_) => false,
         }
     }
 }
