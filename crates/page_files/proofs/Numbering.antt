@@ -9,7 +9,7 @@ use Rattle.std.specs.FinMap as map
 use Rattle.std.specs.FinMap.{IsAntisymmetric, find}
 use Rattle.machine_names.specs.Orders.{FilePage, file_page_cmp}
 use Rattle.machine_names.proofs.OrderLemmas.{file_page_total, pairs_tied}
-use Rattle.plain_files.specs.declared.bounds.TheConstants.{FILE_PAGES}
+use Rattle.machine_names.specs.declared.names.TheConstants.{FILE_PAGES}
 use Rattle.page_files.specs.Pages.{PagesOf, OthersStay, file_page, by_file}
 
 pub page_total : IsTotalOrder (file_page_cmp nat_cmp)
