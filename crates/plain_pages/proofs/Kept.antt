@@ -1,6 +1,6 @@
 -- What an entry that is set anew, and a fork that ends, leave: the pages that are still named, with their words.
 use Rattle.std.proofs.Common.{◌≡◌, ℕ, zero, suc, ◌+◌, ◌-◌, ◌<◌, ◌≤◌, Bool, true, false, cond, ◌&&◌, ◌||◌, List, [], ◌∷◌, length, Option, None, Some, inl, inr, refl, sym, ◌∙◌, ap, subst, arith, Ordering}
-use Rattle.std.specs.Prelude.{◌==◌, nat_lt, is_some, slice_get, slice_index, slice_set}
+use Rattle.std.specs.Prelude.{◌==◌, nat_lt, is_some, slice_get, slice_index, slice_set, IsSome}
 use Rattle.std.specs.List.{sum_by, filter_map}
 use Rattle.std.specs.Option.{option_map_or, option_and_then}
 use Rattle.std.specs.Ordering.{eq_by_cmp, is_eq}
@@ -20,14 +20,14 @@ use Rattle.plain_pages.specs.declared.map.MapEntry.TheVariants.{Empty, Names, Fo
 use Rattle.plain_pages.specs.declared.map.NewEntry.{NewEntry}
 use Rattle.plain_pages.specs.declared.map.NewEntry.TheVariants.{Empty as SetEmpty, FilePage as SetFilePage, Follows as SetFollows, Narrow as SetNarrow}
 use Rattle.plain_pages.specs.PlainPages.{PlainPages, NumberedPages, Map, Maps, page_serial}
-use Rattle.machine_names.specs.Orders.{fork_cmp}
+use Rattle.machine_names.specs.Orders.{FilePage, fork_cmp, file_page_cmp}
 use Rattle.plain_pages.specs.Maps.{entry_at, set_entry, narrow}
 use Rattle.plain_pages.specs.Room.{same_page, page_in, uses, live}
 use Rattle.plain_pages.specs.References.{drop_unnamed, drop_all_unnamed, with_entry, without_fork}
 use Rattle.plain_pages.specs.NewEntries.{IsNewEntry, entry_to, changed}
 use Rattle.plain_pages.specs.WholePages.{AreWhole}
 use Rattle.machine_names.proofs.OrderLemmas.{page_tied, page_cmp_total, page_cmp_apart, fork_cmp_total, fork_cmp_apart}
-use Rattle.plain_pages.proofs.Counts.{has, has_count, count_filtered, weight, total_insert, Same, page_tells, same_itself}
+use Rattle.plain_pages.proofs.Counts.{has, has_count, count_filtered, weight, total_insert, value_counted, Same, page_tells, same_itself}
 use Rattle.plain_pages.proofs.Chains.{entry_map, len_set}
 use Rattle.plain_pages.proofs.Whole.{map_uses, tally, uses_are, live_whole}
 use Rattle.plain_pages.proofs.Makings.{names_set, uses_objects}
@@ -379,13 +379,19 @@ module _ {K : Type 0} {file_cmp : K → K → Ordering} where
         same : (j k : ℕ) → j ≡ k → nat_lt 0 k ≡ false → nat_lt 0 j ≡ false
         same j k is g = grind (arith, nat_tests)
 
+-- a page that a file names is there
+pub file_there : {K : Type 0} {file_cmp : K → K → Ordering} (p : PlainPages file_cmp) → AreWhole p → (f : FilePage K) (n : PageName) → map.get p.files f ≡ Some n → map.contains_key p.objects n ≡ true
+file_there {file_cmp = file_cmp} p w f n h =
+    let one : tally n n ≡ 1 = ap (λ b. cond b 1 0) (same_itself n) in
+    w.named n ∙ at_least 1 (uses p n) refl (omega (arith, uses_are p n, one, value_counted (file_page_cmp file_cmp) (tally n) p.files f n h))
+
 -- a narrowing changes what is permitted, and not the page
 pub narrow_page : (a : Access) (e : MapEntry) → page_in (narrow a e) ≡ page_in e
 narrow_page a Empty = refl
 narrow_page a (Names n b) = refl
 narrow_page a (Follows serial page b) = refl
 
-module _ (p : NumberedPages) (w : AreWhole p) (s : Slot) (new : NewEntry) (is_new : IsNewEntry new) where
+module _ (p : NumberedPages) (w : AreWhole p) (s : Slot) (new : NewEntry) (is_new : IsNewEntry (map.get p.files) new) where
   pub changed_is : (e : MapEntry) → entry_at p.maps s ≡ Some e → changed p s new ≡ with_entry p s (entry_to p new e)
   unfolding changed
   changed_is e h = ap (λ (o : Option MapEntry). option_map_or (λ e. with_entry p s (entry_to p new e)) o p) h
@@ -398,9 +404,13 @@ module _ (p : NumberedPages) (w : AreWhole p) (s : Slot) (new : NewEntry) (is_ne
   pub set_there : (e : MapEntry) → entry_at p.maps s ≡ Some e → (n : PageName) → page_in (entry_to p new e) ≡ Some n → map.contains_key p.objects n ≡ true
   set_there e h n is = by new is_new is
     where
-      by : (new : NewEntry) → IsNewEntry new → page_in (entry_to p new e) ≡ Some n → map.contains_key p.objects n ≡ true
+      filed : (o : Option PageName) (f : FilePage ℕ) (a : Access) → map.get p.files f ≡ o → IsSome o → page_in (option_map_or (λ m. Names m a) o e) ≡ Some n → map.contains_key p.objects n ≡ true
+      filed None f a h there g = absurd (cc there)
+      filed (Some m) f a h there g = (let same : m ≡ n = cc g in file_there p w f n (h ∙ ap Some same))
+
+      by : (new : NewEntry) → IsNewEntry (map.get p.files) new → page_in (entry_to p new e) ≡ Some n → map.contains_key p.objects n ≡ true
       by SetEmpty i g = absurd (cc g)
-      by (SetFilePage f page a) i g = absurd i
+      by (SetFilePage f page a) i g = filed (map.get p.files (record { file = f.0; page = page })) (record { file = f.0; page = page }) a refl i.1 g
       by (SetFollows serial page a) i g = absurd (cc g)
       by (SetNarrow a) i g = old_there p w s e Empty h n (sym (narrow_page a e) ∙ g)
 

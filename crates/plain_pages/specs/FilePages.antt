@@ -11,14 +11,14 @@ use Rattle.plain_pages.specs.PlainPages.{PlainPages}
 use Rattle.plain_pages.specs.References.{in_map, page_at, drop_unnamed, drop_all_unnamed}
 
 module _ {K : Type 0} {file_cmp : K → K → Ordering} where
-  -- the pages of files with a page at one, or without one there
-  abbrev pub files_with : map.FinMap (file_page_cmp file_cmp) PageName → FilePage K → Option PageName → map.FinMap (file_page_cmp file_cmp) PageName
-  files_with files f (Some n) = map.insert files f n
-  files_with files f None = map.remove files f
+  -- what files name with a page at one of theirs, or without one there
+  abbrev pub files_with : PlainPages file_cmp → FilePage K → Option PageName → map.FinMap (file_page_cmp file_cmp) PageName
+  files_with p f (Some n) = map.insert p.files f n
+  files_with p f None = map.remove p.files f
 
   -- the pages with a page named, or none, at a page of a file; a page that loses its last name there is dropped
   unfoldable pub with_file : PlainPages file_cmp → FilePage K → Option PageName → PlainPages file_cmp
-  with_file p f new = let q = record p { files = files_with p.files f new } in option_map_or (drop_unnamed q) (map.get p.files f) q
+  with_file p f new = let q = record p { files = files_with p f new } in option_map_or (drop_unnamed q) (map.get p.files f) q
 
   -- the pages with the page of a slot at a page of a file
   abbrev pub filed_from : PlainPages file_cmp → FilePage K → Slot → PlainPages file_cmp
