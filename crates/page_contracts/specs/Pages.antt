@@ -12,7 +12,7 @@ use Rattle.machine_names.specs.declared.names.Place.TheVariants.{Fork, File}
 use Rattle.machine_names.specs.declared.names.Access.{Access}
 use Rattle.machine_names.specs.declared.names.Kind.{Kind}
 use Rattle.machine_names.specs.declared.names.Kind.TheVariants.{Read, Write}
-use Rattle.machine_names.specs.declared.names.TheConstants.{SPACE_PAGES}
+use Rattle.machine_names.specs.declared.names.TheConstants.{SPACE_PAGES, MOST_FILES, FILE_PAGES}
 use Rattle.plain_pages.specs.declared.map.MapEntry.{MapEntry}
 use Rattle.plain_pages.specs.declared.map.MapEntry.TheVariants.{Names, Follows}
 use Rattle.page_contracts.specs.declared.answers.SpaceHandle.{SpaceHandle}
@@ -416,7 +416,7 @@ pub record OnlyUses {P : Type 0} (means : PagesMeaning P) (old new : P) : Type 0
   pub loses : MayLose means old new
 
 -- the pages stand in a sound store, which has no more homes than pages may live: each page has a taken home, which is no other's, and each
--- that a file names has one; what is in no frame is exactly what has a home that is away, and the free frames are the store's
+-- that a file names at one of its pages has one; what is in no frame is exactly what has a home that is away, and the free frames are the store's
 pub record AreHoused {P : Type 0} (means : PagesMeaning P) (p : P) : Type 0 where
   pub sound : IsSound means.store p
   pub maps : (f : ForkName) (home : ℕ) → (means.scene p).map_away f ≡ Some home → place (means.store.homes p) home ≡ away
@@ -424,7 +424,7 @@ pub record AreHoused {P : Type 0} (means : PagesMeaning P) (p : P) : Type 0 wher
   pub map_homes : (f : ForkName) → (means.scene p).map_away f ≡ away_of (means.store.homes p) (means.map_home p f)
   pub page_homes : (n : PageName) → (means.scene p).page_away n ≡ away_of (means.store.homes p) (means.page_home p n)
   pub taken : (n : PageName) (home : ℕ) → means.page_home p n ≡ Some home → is_taken (place (means.store.homes p) home) ≡ true
-  pub filed : (f : FilePage ℕ) (n : PageName) → means.filed p f ≡ Some n → IsSome (means.page_home p n)
+  pub filed : (f : FilePage ℕ) (n : PageName) → means.filed p f ≡ Some n → (f.file < MOST_FILES) × (f.page < FILE_PAGES) × IsSome (means.page_home p n)
   pub apart : (n m : PageName) (home : ℕ) → means.page_home p n ≡ Some home → means.page_home p m ≡ Some home → n ≡ m
   pub frames : (means.scene p).free_frames ≡ means.store.spare p
   pub homes : length (means.store.homes p) ≤ means.most p
