@@ -11,8 +11,9 @@ use Rattle.machine_names.specs.declared.names.Place.TheVariants.{Fork, File}
 use Rattle.machine_names.specs.declared.names.Slot.{Slot}
 use Rattle.page_contracts.specs.declared.answers.Touch.{Touch}
 use Rattle.page_contracts.specs.declared.answers.Touch.TheVariants.{Ready, Zero, Copy, Denied, Full}
+use Rattle.machine_names.specs.Orders.{file_page}
 use Rattle.plain_pages.specs.Room.{same_page}
-use Rattle.page_contracts.specs.Pages.{Scene, absent_or, file_page, framed}
+use Rattle.page_contracts.specs.Pages.{Scene, absent_or, framed}
 use Rattle.page_contracts.specs.Stores.{away_at}
 use Rattle.flat_pages.specs.declared.held_entry.EntryAt.{EntryAt}
 use Rattle.flat_pages.specs.declared.held_entry.HeldEntry.{HeldEntry}
@@ -83,10 +84,15 @@ touch_filed absent t scene kind (Some h) = touch_made absent t scene (Some h) No
 touch_filed absent t scene Write None = touch_made absent t scene None None
 touch_filed absent t scene kind None = Denied kind
 
+-- the home of the page of a place, at the end of its chain or in its file
+abbrev pub home_at : Tables → Place → Option Home
+home_at t (Fork s) = option_and_then (λ w. w.home) (walk_of t.maps s)
+home_at t (File f page) = map.get t.files (file_page f.0 page)
+
 -- what a touch of a place answers
 abbrev pub touch_with : (ℕ → Option ℕ) → Tables → Scene → Place → Kind → Touch
 touch_with absent t scene (Fork s) kind = touch_walked absent t scene kind (walk_of t.maps s)
-touch_with absent t scene (File f page) kind = touch_filed absent t scene kind (map.get t.files (file_page f page))
+touch_with absent t scene (File f page) kind = touch_filed absent t scene kind (map.get t.files (file_page f.0 page))
 
 abbrev pub touch_of_place : Tables → ℕ → Place → Kind → Touch
 touch_of_place t frames = touch_with (away_at t.places) t (scene_of t frames)

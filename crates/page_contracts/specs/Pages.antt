@@ -4,7 +4,6 @@ use Rattle.std.specs.Option.{option_map, option_or, option_map_or, option_and_th
 use Rattle.std.specs.declared.cmp.Ordering.{Ordering}
 use Rattle.std.specs.FinMap as map
 use Rattle.machine_names.specs.declared.names.Tty.{Tty}
-use Rattle.machine_names.specs.declared.names.FileNo.{FileNo}
 use Rattle.machine_names.specs.declared.names.ForkName.{ForkName}
 use Rattle.machine_names.specs.declared.names.PageName.{PageName}
 use Rattle.machine_names.specs.declared.names.Place.{Place}
@@ -36,7 +35,7 @@ use Rattle.plain_pages.specs.Room.{FitsLimit, live, uses}
 use Rattle.plain_pages.specs.References.{Spot, in_map, in_file, Making, blank, copy, Referred, granted, denied, full, reference, next_making, words_of, page_at}
 use Rattle.page_contracts.specs.Stores.{StoreMeaning, IsSound, IsNeeded, Loses, Renews, RenewsNone, away, free, away_of, is_here, is_taken, place, traffic}
 use Rattle.machine_names.specs.Bounds.{IsOwner, IsFilePage}
-use Rattle.machine_names.specs.Orders.{FilePage}
+use Rattle.machine_names.specs.Orders.{FilePage, file_page}
 
 -- What is in frames: for each fork the home of its map and for each page its home, where that is in no
 -- frame; and how many frames are free.
@@ -134,14 +133,10 @@ module _ {K : Type 0} {file_cmp : K → K → Ordering} where
 abbrev pub room_for : ℕ → ℕ → ℕ → ℕ → Room
 room_for live limit frames pages = if nat_le (live + pages) limit then (if nat_le pages frames then Enough else NoFrame) else NoRoom
 
--- a page of a file by numbers
-abbrev pub file_page : FileNo → ℕ → FilePage ℕ
-file_page f page = record { file = f.0; page = page }
-
 -- the spot of a place
 abbrev pub spot_of : Place → Spot ℕ
 spot_of (Fork s) = in_map s
-spot_of (File f page) = in_file (file_page f page)
+spot_of (File f page) = in_file (file_page f.0 page)
 
 -- a page of a fork's space as a place
 abbrev pub fork_place : ForkName → ℕ → Place
@@ -291,7 +286,7 @@ pub record StandsInFile {P : Type 0} (means : PagesMeaning P) (p : P) (f : FileP
 -- the page of a place stands at a home
 abbrev pub StandsAt : {P : Type 0} → PagesMeaning P → P → Place → ℕ → Type 0
 StandsAt means p (Fork s) home = StandsInSpace means p s home
-StandsAt means p (File f page) home = StandsInFile means p (file_page f page) home
+StandsAt means p (File f page) home = StandsInFile means p (file_page f.0 page) home
 
 -- the page of a place, which is in a frame, was used or made
 pub record UsesOne {P : Type 0} (means : PagesMeaning P) (at : Place) (old new : P) : Type 0 where
@@ -325,7 +320,7 @@ IsOfMap means p fork home = (means.map_home p fork ≡ Some home) ⊎ ((n : Page
 -- a file names a page
 pub record FileNames {P : Type 0} (means : PagesMeaning P) (p : P) (file : ℕ) (n : PageName) : Type 0 where
   pub page : ℕ
-  pub is : means.filed p (record { file = file; page = page }) ≡ Some n
+  pub is : means.filed p (file_page file page) ≡ Some n
 
 -- a home is that of a page that a file names
 abbrev pub IsOfFile : {P : Type 0} → PagesMeaning P → P → ℕ → ℕ → Type 0
@@ -338,7 +333,7 @@ pub record FilesOne {P : Type 0} (means : PagesMeaning P) (f : FilePage ℕ) (na
 
 -- what files name once the page is made that a touch announces: what they named, and a zero page where a file had none
 abbrev pub FilesMade : {P : Type 0} → PagesMeaning P → Place → Touch → P → P → Type 0
-FilesMade means (File f page) Zero old new = FilesOne means (file_page f page) true old new
+FilesMade means (File f page) Zero old new = FilesOne means (file_page f.0 page) true old new
 FilesMade means at t old new = means.filed new ≡ means.filed old
 
 -- a map was added, which names no page: each home but that of the map has what it had, and what had a home has it
@@ -367,7 +362,7 @@ pub record DropsFile {P : Type 0} (means : PagesMeaning P) (file : ℕ) (old new
   pub maps : means.map_home new ≡ means.map_home old
   pub away : (means.scene new).map_away ≡ (means.scene old).map_away
   pub frames : ((n : PageName) → FileNames means old file n → ⊥) → (means.scene new).free_frames ≤ (means.scene old).free_frames
-  pub gone : (page : ℕ) → means.filed new (record { file = file; page = page }) ≡ None
+  pub gone : (page : ℕ) → means.filed new (file_page file page) ≡ None
   pub filed : (f : FilePage ℕ) → f.file ≢ file → means.filed new f ≡ means.filed old f
 
 -- what a word put into a page leaves: what a touch finds, the handles and the places, what files name, the homes, and all numbers

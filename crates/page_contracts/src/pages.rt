@@ -11,10 +11,10 @@ ghost use Rattle.page_contracts.specs.DrumWords.{DrumWords, Stands};
 ghost use Rattle.plain_pages.specs.References.{in_map, settled, slot_at, word_at, stored, page_at as named_at, without_fork};
 ghost use Rattle.page_contracts.specs.Stores.{IsFetched, IsUsed, CanFetch, Completes, Tells, Evicts, CanKeep, Keeps, LetsGo, awaited, meeting, most_held};
 ghost use Rattle.plain_pages.specs.WholePages.{AreWhole};
-ghost use Rattle.page_contracts.specs.Pages.{PagesMeaning, AddsMap, Agrees, AreHoused, DropsFile, DropsMap, FilesMade, FilesOne, HasSpace, MayLose, OnlyUses, PeekNeeds, SeenNeeds, StandsAt, TouchNeeds, UsesMap, UsesNone, UsesOne, StaysInCore, TakesMap, TakesFrames, StaysPut, StaysMapped, StaysPlain, StaysSame, IsPlace, IsTouched, IsReady, CanChange, IsNewMap, FollowsPage, SettlesTo, file_page, spot_of, touch_of, peek_of, seen_of, map_away, counted, room_for, can_settle, frames_taken, is_in_core, is_seen, is_entry, is_seen_entry};
+ghost use Rattle.page_contracts.specs.Pages.{PagesMeaning, AddsMap, Agrees, AreHoused, DropsFile, DropsMap, FilesMade, FilesOne, HasSpace, MayLose, OnlyUses, PeekNeeds, SeenNeeds, StandsAt, TouchNeeds, UsesMap, UsesNone, UsesOne, StaysInCore, TakesMap, TakesFrames, StaysPut, StaysMapped, StaysPlain, StaysSame, IsPlace, IsTouched, IsReady, CanChange, IsNewMap, FollowsPage, SettlesTo, spot_of, touch_of, peek_of, seen_of, map_away, counted, room_for, can_settle, frames_taken, is_in_core, is_seen, is_entry, is_seen_entry};
 ghost use Rattle.plain_pages.specs.NewEntries.{IsNewEntry, changed};
 ghost use Rattle.plain_pages.specs.FilePages.{filed_by, without_file};
-ghost use Rattle.machine_names.specs.Orders.{same_fork};
+ghost use Rattle.machine_names.specs.Orders.{file_page, same_fork};
 
 use crate::{Completed, Found, MOST_HOLDERS, Need, Peeked, Room, Seen, SpaceHandle, Touch};
 use machine_names::{FileNo, ForkName, Kind, PageName, Place, Slot, Tty};
@@ -205,7 +205,7 @@ pub trait Pages {
     /// The page that a file names at one of its pages; it may be in no frame. None exactly where the file has no such page.
     fn page_of(&self, file: FileNo, page: u16) -> Option<PageName>
         requires { IsFilePage file page }
-        ensures { result ≡ means.filed self.now (file_page file page) };
+        ensures { result ≡ means.filed self.now (file_page file.0 page) };
 
     /// Sets a page of a file: to the page at the end of a slot's chain, which a touch to read finds Ready, or to none. A page
     /// that loses its last name is dropped.
@@ -213,9 +213,9 @@ pub trait Pages {
         requires page { IsFilePage file page }
         requires place { IfSome from (λ s. IsPlace (means.lives self.old) (Place.Fork s)) }
         requires ready { IfSome from (λ s. means.touched self.old (Place.Fork s) Kind.Read ≡ Touch.Ready) }
-        ensures told { (d : DrumWords) → means.fits self.old d → means.fits self.new d × (means.plain self.new d ≡ filed_by (means.plain self.old d) (file_page file page) from) }
+        ensures told { (d : DrumWords) → means.fits self.old d → means.fits self.new d × (means.plain self.new d ≡ filed_by (means.plain self.old d) (file_page file.0 page) from) }
         ensures scene { StaysInCore (means.scene self.old) (means.scene self.new) 0 }
-        ensures filed { FilesOne means (file_page file page) (is_some from) self.old self.new }
+        ensures filed { FilesOne means (file_page file.0 page) (is_some from) self.old self.new }
         ensures loses { MayLose means self.old self.new }
         ensures uses { UsesNone means self.old self.new }
         ensures lives { means.lives self.new ≡ means.lives self.old }
