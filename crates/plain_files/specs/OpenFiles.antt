@@ -40,7 +40,7 @@ abbrev pub is_free : OpenFiles → ℕ → Bool
 is_free m n = not (map.contains_key m n)
 
 -- the least number that is free, if the job may hold one more JFN
-abbrev pub free_jfn : OpenFiles → Option ℕ
+unfoldable pub free_jfn : OpenFiles → Option ℕ
 free_jfn m = find (is_free m) (range_with_len 1 MOST_JFNS)
 
 -- a JFN stands for the file of a name

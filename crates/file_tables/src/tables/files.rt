@@ -8,7 +8,7 @@ ghost use Rattle.plain_files.specs.declared.bounds.TheConstants.{MOST_FILES as M
 ghost use Rattle.plain_files.specs.Directory.{Creates};
 ghost use Rattle.plain_files.specs.NamedFiles.{name_of, number_of};
 ghost use Rattle.plain_files.specs.Sizes.{FitsFile, new_file};
-ghost use Rattle.file_tables.specs.Tables.{IsThere, OpenStay, StayFiles, file_of, files_of, times_of};
+ghost use Rattle.file_tables.specs.Tables.{IsThere, OpenStay, file_of, files_of, times_of};
 
 use crate::FileTables;
 use machine_names::{FileName, FileNo};

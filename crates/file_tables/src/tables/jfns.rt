@@ -7,7 +7,7 @@ ghost use Rattle.plain_files.specs.Bytes.{IsByteSize, most_bytes};
 ghost use Rattle.plain_files.specs.Jobs.{jfns_of};
 ghost use Rattle.plain_files.specs.NamedFiles.{IsHeld, name_of, open_file};
 ghost use Rattle.plain_files.specs.OpenFiles.{free_jfn, moved_file, opened_file, taken_file, times_open_in_all};
-ghost use Rattle.file_tables.specs.Tables.{CanMove, Changes, Holds, IsThere, FilesStay, file_by, jfns_at, open_of, times_of};
+ghost use Rattle.file_tables.specs.Tables.{CanMove, Changes, Holds, IsThere, FilesStay, jfns_at, open_of, times_of};
 
 use crate::FileTables;
 use machine_names::{FileNo, Tty};
