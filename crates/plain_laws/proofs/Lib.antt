@@ -1,9 +1,13 @@
+pub mod FilesKept
 pub mod MapEnds
 pub mod Led
 pub mod GivenSerials
 pub mod Named
 pub mod WholeForks
 pub mod Waiters
+pub mod Stored
+pub mod Rows
+pub mod WordsWritten
 pub mod WholeRuns
 pub mod ExampleTexts
 pub mod ExampleRun
