@@ -1,7 +1,7 @@
 -- Copies: when a reference makes one, where it stands, and what it holds; and what a word that is put changes.
-use Rattle.std.proofs.Common.{◌≡◌, ◌≢◌, ℕ, Bool, true, false, cond, List, [], ◌∷◌, ◌++◌, Option, None, Some, inl, inr, refl, sym, ◌∙◌, ap, subst, Ordering}
-use Rattle.std.specs.Prelude.{find, is_some, slice_set, if◌then◌else◌}
-use Rattle.std.specs.Option.{option_map_or, option_and_then, unwrap_or}
+use Rattle.std.proofs.Common.{◌≡◌, ◌≢◌, Bool, true, false, List, [], ◌∷◌, ◌++◌, Option, None, Some, refl, sym, ◌∙◌, ap, subst, Ordering}
+use Rattle.std.specs.Prelude.{find, is_some, if◌then◌else◌}
+use Rattle.std.specs.Option.{option_map_or, option_and_then}
 use Rattle.std.specs.Cmp.{IsTotalOrder}
 use Rattle.std.specs.FinMap as map
 use Rattle.machine_names.specs.declared.names.Tty.{Tty}
@@ -13,13 +13,11 @@ use Rattle.plain_pages.specs.declared.map.MapEntry.TheVariants.{Empty}
 use Rattle.plain_pages.specs.PlainPages.{PlainPages}
 use Rattle.plain_pages.specs.Maps.{Link, Chain, chain, entry_at, full_access, permits, may}
 use Rattle.plain_pages.specs.Room.{HasRoom}
-use Rattle.plain_pages.specs.References.{in_map, Making, blank, copy, blanks, copy_in, copies, along_chain, private_access, makings, make, make_all, granted, denied, reference, next_page, words_of, words_at, page_at, with_word, stored}
+use Rattle.plain_pages.specs.References.{in_map, Making, blank, copy, blanks, copy_in, copies, along_chain, private_access, makings, make, make_all, granted, denied, reference, next_page, words_of, words_at}
 use Rattle.machine_names.specs.PageWords.{zero_words}
 use Rattle.machine_names.specs.Bounds.{IsOwner}
 use Rattle.plain_pages.specs.WholePages.{AreWhole}
 use Rattle.plain_laws.specs.Laws.{ReadsOn, HasCopy}
-use Rattle.machine_names.proofs.OrderLemmas.{page_tied, page_cmp_total}
-use Rattle.plain_pages.proofs.Counts.{page_tells, same_itself}
 use Rattle.plain_pages.proofs.Chains.{marked}
 use Rattle.plain_pages.proofs.Makings.{CanMake}
 use Rattle.plain_pages.proofs.Made.{IsMade, is_blank, is_copy, not_later}

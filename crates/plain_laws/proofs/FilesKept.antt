@@ -1,5 +1,5 @@
 -- Files, pages of files and JFNs that come, change or go leave files whole.
-use Rattle.std.proofs.Common.{◌≡◌, ◌≢◌, ℕ, ◌+◌, ◌-◌, ◌<◌, ◌≤◌, Bool, true, false, cond, List, Option, None, Some, ◌⊎◌, inl, inr, refl, sym, ◌∙◌, ap, subst, arith}
+use Rattle.std.proofs.Common.{◌≡◌, ◌≢◌, ℕ, ◌+◌, ◌-◌, ◌<◌, ◌≤◌, Bool, true, false, cond, List, None, Some, ◌⊎◌, inl, inr, refl, sym, ◌∙◌, ap, subst, arith}
 use Rattle.std.specs.Prelude.{is_some}
 use Rattle.std.specs.Ordering.{nat_cmp}
 use Rattle.std.specs.Cmp.{IsTotalOrder, nat_cmp_total}
@@ -15,7 +15,7 @@ use Rattle.machine_names.proofs.OrderLemmas.{name_cmp_apart, file_page_apart, fi
 use Rattle.plain_files.specs.declared.bounds.TheConstants.{FILE_PAGES, MOST_FILES, MOST_JFNS}
 use Rattle.plain_files.specs.Sizes.{PlainFile, FitsFile}
 use Rattle.plain_model.specs.State.{OpenFile, PlainJob}
-use Rattle.plain_laws.specs.WholeFiles.{Files, FilePages, Jfns, Jobs, AreNamedFiles, AreFilePages, FitsOpen, AreOpen, AreFilesWhole}
+use Rattle.plain_laws.specs.WholeFiles.{Files, FilePages, Jfns, Jobs, FitsOpen, AreOpen, AreFilesWhole}
 
 -- a value of a map in which one was put is that one, or was there
 module _ {K V : Type 0} {R : K → K → Ordering} (o : IsTotalOrder R) (apart : IsAntisymmetric R) (m : map.FinMap R V) (k : K) where

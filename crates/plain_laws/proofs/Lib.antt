@@ -22,4 +22,7 @@ pub mod OtherMaps
 pub mod OtherJobs
 pub mod UnitForks
 pub mod UnitJobs
+pub mod RowsPut
+pub mod FilesMade
+pub mod Shown
 pub mod Moving

@@ -1,18 +1,17 @@
 -- A row of words that is put into a page: what it leaves, and what stands there then.
-use Rattle.std.proofs.Common.{◌≡◌, ◌≢◌, ℕ, zero, suc, ◌+◌, ◌-◌, ◌<◌, ◌≤◌, true, false, cond, List, [], ◌∷◌, length, Option, None, Some, ◌⊎◌, inl, inr, refl, sym, ◌∙◌, ap, arith, Ordering, length-set, get_or-set_other}
+use Rattle.std.proofs.Common.{◌≡◌, ◌≢◌, ℕ, zero, suc, ◌+◌, ◌<◌, ◌≤◌, cond, List, [], ◌∷◌, length, Option, Some, ◌⊎◌, inl, inr, refl, sym, ◌∙◌, ap, arith, Ordering, length-set, get_or-set_other}
 use Rattle.std.specs.Prelude.{slice_index, slice_set}
-use Rattle.std.specs.Option.{option_map_or, option_and_then, unwrap_or}
+use Rattle.std.specs.Option.{option_map_or, unwrap_or}
 use Rattle.std.specs.Cmp.{IsTotalOrder}
 use Rattle.std.specs.FinMap as map
 use Rattle.std.proofs.lemmas.Grind.{get_or-set_at}
 use Rattle.machine_names.specs.declared.names.PageName.{PageName}
-use Rattle.machine_names.specs.Orders.{page_cmp}
 use Rattle.machine_names.specs.PageWords.{zero_words}
 use Rattle.machine_names.proofs.OrderLemmas.{page_cmp_total, page_tied}
 use Rattle.plain_pages.specs.PlainPages.{PlainPages}
 use Rattle.plain_pages.specs.Room.{live, names}
-use Rattle.plain_pages.specs.References.{Spot, page_at, words_of, words_at, with_word, stored}
-use Rattle.plain_pages.proofs.Counts.{page_tells, same_itself}
+use Rattle.plain_pages.specs.References.{Spot, page_at, words_of, with_word, stored}
+use Rattle.plain_pages.proofs.Counts.{same_itself}
 use Rattle.plain_units.proofs.Lookups.{looked_up}
 use Rattle.plain_units.proofs.PageRuns.{AreSound, Keeps, kept_itself, kept_on, stored_kept, stored_maps, stored_files}
 use Rattle.plain_model.specs.FileEvents.{stored_row}
@@ -86,4 +85,4 @@ module _ {K : Type 0} {file_cmp : K → K → Ordering} (spot : Spot K) where
     where
       first : words_of (stored p spot offset x) n ≡ slice_set (words_of p n) offset x
       first = ap (λ (o : Option PageName). words_of (option_map_or (with_word p offset x) o p) n) is
-              ∙ ap (λ (o : Option (List ℕ)). unwrap_or o zero_words) (map.get-insert page_cmp_total p.objects n (slice_set (words_of p n) offset x) n ∙ ap (λ b. cond b (Some (slice_set (words_of p n) offset x)) (map.get p.objects n)) (page_tied n n ∙ same_itself n))
+          ∙ ap (λ (o : Option (List ℕ)). unwrap_or o zero_words) (map.get-insert page_cmp_total p.objects n (slice_set (words_of p n) offset x) n ∙ ap (λ b. cond b (Some (slice_set (words_of p n) offset x)) (map.get p.objects n)) (page_tied n n ∙ same_itself n))

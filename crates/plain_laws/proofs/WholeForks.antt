@@ -15,7 +15,6 @@ use Rattle.outside.specs.declared.TheConstants.{PAGE_WORDS}
 use Rattle.machine_names.specs.declared.names.TheConstants.{LAST_SERIAL, MOST_FORKS, TERMINALS}
 use Rattle.machine_names.specs.declared.names.Tty.{Tty}
 use Rattle.machine_names.specs.declared.names.ForkName.{ForkName}
-use Rattle.machine_names.specs.declared.names.PageName.{PageName}
 use Rattle.plain_pages.specs.declared.map.NewMap.{NewMap}
 use Rattle.plain_pages.specs.declared.map.NewMap.TheVariants.{Empty as EmptyMap, FollowAll}
 use Rattle.plain_units.specs.Deeds.{in_ac}

@@ -286,7 +286,7 @@ module _ (s : PlainState) (w : IsWhole s) where
   file_whole name named =
       cond_both (is_some (map.get s.files name)) _ _ Leaves (λ there. w) (λ absent.
       cond_both (nat_lt (map.len s.files) MOST_FILES) _ _ Leaves (λ room.
-        filed_whole s w s.pages (map.insert s.files name new_file) w.pages w.room (file_put s.files s.pages.files s.jobs w.files name new_file named new_fits (inr (below room))) (λ f. refl) w.given) (λ none. w))
+      filed_whole s w s.pages (map.insert s.files name new_file) w.pages w.room (file_put s.files s.pages.files s.jobs w.files name new_file named new_fits (inr (below room))) (λ f. refl) w.given) (λ none. w))
     where
       below : nat_lt (map.len s.files) MOST_FILES ≡ true → map.len s.files < MOST_FILES
       below h = grind (arith, nat_tests)

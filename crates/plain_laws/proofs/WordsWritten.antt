@@ -1,5 +1,5 @@
 -- What a WORDS comes to, and that it leaves the plain state whole.
-use Rattle.std.proofs.Common.{◌≡◌, ℕ, zero, suc, ◌+◌, ◌-◌, ◌*◌, ◌/◌, ◌<◌, ◌≤◌, Bool, true, false, cond, List, [], length, Option, None, Some, inl, inr, refl, sym, ◌∙◌, ap, subst, arith}
+use Rattle.std.proofs.Common.{◌≡◌, ℕ, suc, ◌+◌, ◌-◌, ◌*◌, ◌/◌, ◌<◌, ◌≤◌, Bool, true, false, cond, List, [], length, Option, None, Some, inl, inr, refl, sym, ◌∙◌, ap, subst, arith}
 use Rattle.std.specs.Prelude.{is_some, nat_le, nat_lt, ◌==◌, take}
 use Rattle.std.specs.Option.{option_map_or}
 use Rattle.std.specs.Cmp.Lexicographic.{nat_list_cmp_total}
@@ -19,8 +19,8 @@ use Rattle.plain_files.specs.declared.bounds.TheConstants.{FILE_PAGES, LARGEST_B
 use Rattle.plain_files.specs.Bytes.{IsByteSize, bytes_per_word, most_bytes}
 use Rattle.plain_files.specs.Sizes.{PlainFile, FitsFile, new_file, words_touched, length_in, reaching}
 use Rattle.plain_pages.specs.PlainPages.{NamedPages, Maps}
-use Rattle.plain_pages.specs.Room.{HasRoom, live, uses}
-use Rattle.plain_pages.specs.References.{in_file, blank, Referred, granted, denied, full, make, next_page, reference}
+use Rattle.plain_pages.specs.Room.{HasRoom, live}
+use Rattle.plain_pages.specs.References.{in_file, blank, Referred, granted, full, make, next_page, reference}
 use Rattle.plain_pages.specs.WholePages.{AreWhole}
 use Rattle.plain_pages.proofs.FileWrites.{filled, filled_maps, filled_files, written_there, written_absent}
 use Rattle.plain_pages.proofs.Makings.{make_whole}

@@ -1,13 +1,15 @@
 -- What laws say of the events that make files, write into them and show them.
-use Rattle.std.specs.Prelude.{◌≡◌, ◌≢◌, ◌⊎◌, ℕ, ◌+◌, ◌<◌, ◌≤◌, List, length, Option, None, Some, IsSome, is_some, if◌then◌else◌, slice_index}
+use Rattle.std.specs.Prelude.{◌≡◌, ◌≢◌, ◌⊎◌, ℕ, ◌+◌, ◌*◌, ◌<◌, ◌≤◌, List, length, None, Some, IsSome, is_some, if◌then◌else◌, slice_index}
 use Rattle.std.specs.FinMap as map
 use Rattle.machine_names.specs.declared.names.PageName.{PageName}
 use Rattle.machine_names.specs.Orders.{FilePage}
 use Rattle.script_texts.specs.declared.event.WordRow.{WordRow}
 use Rattle.script_texts.specs.declared.event.Event.TheVariants.{File, Words, Page}
-use Rattle.plain_files.specs.Sizes.{PlainFile}
+use Rattle.outside.specs.declared.TheConstants.{PAGE_WORDS}
+use Rattle.plain_files.specs.declared.bounds.TheConstants.{LARGEST_BYTE}
+use Rattle.plain_files.specs.Sizes.{PlainFile, length_in}
 use Rattle.plain_pages.specs.Room.{live}
-use Rattle.plain_pages.specs.References.{Spot, page_at, word_at}
+use Rattle.plain_pages.specs.References.{page_at, word_at}
 use Rattle.plain_model.specs.State.{PlainState}
 use Rattle.plain_model.specs.Unit.{Effect}
 use Rattle.plain_model.specs.FileEvents.{page_named}
@@ -43,9 +45,15 @@ pub record PutsRow (old new : PlainState) (name : List ℕ) (page offset : ℕ) 
   pub maps : new.pages.maps ≡ old.pages.maps
   pub pages : (other : FilePage (List ℕ)) → other ≢ record { file = name; page = page } → map.get new.pages.files other ≡ map.get old.pages.files other
 
--- besides, the file of that name alone is another, and all else but pages is as it was; a page that was not there is one more that lives
+-- besides, its file has words as bytes now, and reaches behind the row, and is no shorter than it was; no other file changes,
+-- nor anything else but pages; a page that was not there is one more that lives
 pub record WritesRow (old new : PlainState) (name : List ℕ) (page offset : ℕ) (words : List ℕ) : Type 0 where
   pub row : PutsRow old new name page offset words
+  pub file : PlainFile
+  pub named : map.get new.files name ≡ Some file
+  pub size : file.size ≡ LARGEST_BYTE
+  pub reaches : page * PAGE_WORDS + offset + length words ≤ file.length
+  pub longer : (was : PlainFile) → map.get old.files name ≡ Some was → length_in LARGEST_BYTE was ≤ file.length
   pub others : (other : List ℕ) → other ≢ name → map.get new.files other ≡ map.get old.files other
   pub rest : new ≡ record old { pages = new.pages; files = new.files }
   pub live : live new.pages ≡ live old.pages + (if is_some (page_at old.pages (page_named name page)) then 0 else 1)

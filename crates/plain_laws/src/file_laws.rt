@@ -3,6 +3,7 @@ ghost use Rattle.std.specs.Prelude.{◌≡◌, ◌≢◌, ◌⊎◌, ◌↔◌, 
 ghost use Rattle.std.specs.List.{Contains};
 ghost use Rattle.std.specs.FinMap as map;
 ghost use Rattle.script_texts.specs.declared.event.WordRow.{WordRow as AWordRow};
+ghost use Rattle.plain_files.specs.declared.bounds.TheConstants.{MOST_FILES};
 ghost use Rattle.plain_model.specs.State.{PlainState};
 ghost use Rattle.plain_model.specs.Unit.{refused};
 ghost use Rattle.plain_model.specs.FileEvents.{page_named};
@@ -12,8 +13,7 @@ ghost use Rattle.script_texts.specs.Limits.{FitsRow};
 ghost use Rattle.plain_laws.specs.Whole.{IsWhole};
 ghost use Rattle.plain_laws.specs.FileLaws.{HasPage, IsNewFile, ChangesFile, WritesRow, file_word, made_file, words_put, page_shown};
 
-use plain_files::MOST_FILES;
-use script_texts::event::{Item, Refusal};
+use script_texts::{Item, Refusal};
 
 /// FILE is refused exactly where a file has the name and where there are as many files as there may be, and then
 /// changes nothing; else it makes a file without a byte and without a page, and changes nothing else.
