@@ -3,3 +3,5 @@ pub mod Rekeyed
 pub mod Names
 pub mod Opened
 pub mod FirstFree
+pub mod Kept
+pub mod Times
