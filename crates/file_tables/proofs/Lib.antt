@@ -5,3 +5,5 @@ pub mod Opened
 pub mod FirstFree
 pub mod Kept
 pub mod Times
+pub mod Files
+pub mod Jobs

@@ -53,7 +53,7 @@ module _ (m : Files) (a : AreNumbers m) (f : ℕ) (name : List ℕ) (is : map.ge
   unfolding times_open
   times_gone held n jfn held_is there rest =
       passing_gone (is_for name) (open_named m held) n (open_file m jfn) (open_get m held n ∙ ap (option_map (open_file m)) held_is)
-      ∙ ((λ i. times_open (open_gone m held n (~ i)) name + cond (alike_for jfn there i) 1 0)
+      ∙ ((λ i. times_open (sym (open_gone m held n) i) name + cond (alike_for jfn there i) 1 0)
       ∙ (ap (λ k. k + cond (jfn.file.0 == f) 1 0) rest ∙ sym (names_gone held n jfn f held_is)))
 
   times_below : (n : ℕ) (held : Held) → ((k : ℕ) → n ≤ k → map.get held k ≡ None) → ((k : ℕ) (jfn : Jfn) → map.get held k ≡ Some jfn → map.contains_key m jfn.file.0 ≡ true)
