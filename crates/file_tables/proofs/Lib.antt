@@ -7,3 +7,4 @@ pub mod Kept
 pub mod Times
 pub mod Files
 pub mod Jobs
+pub mod Pages
