@@ -8,3 +8,4 @@ pub mod Times
 pub mod Files
 pub mod Jobs
 pub mod Pages
+pub mod Counts
