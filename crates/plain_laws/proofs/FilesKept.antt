@@ -12,9 +12,11 @@ use Rattle.machine_names.specs.Bounds.{IsFileName}
 use Rattle.machine_names.specs.Orders.{FilePage, name_cmp, file_page_cmp}
 use Rattle.machine_names.proofs.Keys.{cases_key, get_put, get_put_other, get_gone, get_gone_other}
 use Rattle.machine_names.proofs.OrderLemmas.{name_cmp_apart, file_page_apart, file_page_total}
-use Rattle.plain_files.specs.declared.bounds.TheConstants.{FILE_PAGES, MOST_FILES, MOST_JFNS}
+use Rattle.machine_names.specs.declared.names.TheConstants.{FILE_PAGES, MOST_FILES}
+use Rattle.plain_files.specs.declared.bounds.TheConstants.{MOST_JFNS}
 use Rattle.plain_files.specs.Sizes.{PlainFile, FitsFile}
-use Rattle.plain_model.specs.State.{OpenFile, PlainJob}
+use Rattle.plain_files.specs.OpenFiles.{OpenFile}
+use Rattle.plain_model.specs.State.{PlainJob}
 use Rattle.plain_laws.specs.WholeFiles.{Files, FilePages, Jfns, Jobs, FitsOpen, AreOpen, AreFilesWhole}
 
 -- a value of a map in which one was put is that one, or was there

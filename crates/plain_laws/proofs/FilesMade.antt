@@ -7,7 +7,7 @@ use Rattle.std.proofs.lemmas.Bool.Decides.{nat_tests}
 use Rattle.machine_names.specs.declared.names.PageName.{PageName}
 use Rattle.machine_names.proofs.Keys.{get_put, get_put_other}
 use Rattle.machine_names.proofs.OrderLemmas.{name_cmp_apart}
-use Rattle.plain_files.specs.declared.bounds.TheConstants.{MOST_FILES}
+use Rattle.machine_names.specs.declared.names.TheConstants.{MOST_FILES}
 use Rattle.plain_files.specs.Sizes.{new_file}
 use Rattle.script_texts.specs.declared.event.Refusal.TheVariants.{Exists, FilesFull}
 use Rattle.plain_model.specs.State.{PlainState}

@@ -43,7 +43,7 @@ use Rattle.plain_model.specs.Trees.{tree_of, next_serial, next_name, with_made, 
 use Rattle.plain_model.specs.ForkCalls.{ForkParts, without, without_below, killed, with_halted, fork_changed}
 use Rattle.plain_units.specs.Steps.{Planned, Ending, done, call, trap, need, stopped as unit_stopped, pages_left}
 use Rattle.plain_pages.specs.declared.map.NewMap.TheVariants.{Empty as EmptyMap}
-use Rattle.plain_files.specs.declared.bounds.TheConstants.{MOST_FILES}
+use Rattle.machine_names.specs.declared.names.TheConstants.{MOST_FILES}
 use Rattle.plain_files.specs.Sizes.{PlainFile}
 use Rattle.plain_model.specs.FileEvents.{console, page_named, written}
 use Rattle.plain_model.specs.Events.{at_job, with_job, restarted, login, poked, poked_at, poke, start, word_seen, examined_in, examine, show_forks, outer}

@@ -39,7 +39,7 @@ use Rattle.script_texts.specs.declared.event.Step.TheVariants.{Outer, Unit as AU
 use Rattle.plain_model.specs.Run.{apply, state_after}
 use Rattle.plain_pages.specs.declared.map.NewMap.TheVariants.{Empty as EmptyMap}
 use Rattle.plain_pages.specs.NewMaps.{with_map}
-use Rattle.plain_files.specs.declared.bounds.TheConstants.{MOST_FILES}
+use Rattle.machine_names.specs.declared.names.TheConstants.{MOST_FILES}
 use Rattle.plain_files.specs.Sizes.{new_file}
 use Rattle.plain_model.specs.FileEvents.{make_file, page_named}
 use Rattle.plain_model.specs.Events.{at_job, new_job, with_job, login, poked, poked_at, poke, restarted, start, started, word_seen, examined_in, outer}

@@ -15,7 +15,8 @@ use Rattle.machine_names.specs.Bounds.{IsFileName}
 use Rattle.machine_names.specs.PageWords.{zero_words}
 use Rattle.machine_names.specs.Orders.{FilePage, name_cmp}
 use Rattle.machine_names.proofs.OrderLemmas.{page_cmp_total}
-use Rattle.plain_files.specs.declared.bounds.TheConstants.{FILE_PAGES, LARGEST_BYTE}
+use Rattle.machine_names.specs.declared.names.TheConstants.{FILE_PAGES}
+use Rattle.plain_files.specs.declared.bounds.TheConstants.{LARGEST_BYTE}
 use Rattle.plain_files.specs.Bytes.{IsByteSize, bytes_per_word, most_bytes}
 use Rattle.plain_files.specs.Sizes.{PlainFile, FitsFile, new_file, words_touched, length_in, reaching}
 use Rattle.plain_pages.specs.PlainPages.{NamedPages, Maps}

@@ -5,10 +5,12 @@ use Rattle.std.specs.FinMap as map
 use Rattle.machine_names.specs.declared.names.PageName.{PageName}
 use Rattle.machine_names.specs.Bounds.{IsFileName}
 use Rattle.machine_names.specs.Orders.{FilePage, name_cmp, file_page_cmp}
-use Rattle.plain_files.specs.declared.bounds.TheConstants.{FILE_PAGES, MOST_FILES, MOST_JFNS}
+use Rattle.machine_names.specs.declared.names.TheConstants.{FILE_PAGES, MOST_FILES}
+use Rattle.plain_files.specs.declared.bounds.TheConstants.{MOST_JFNS}
 use Rattle.plain_files.specs.Bytes.{IsByteSize, most_bytes}
 use Rattle.plain_files.specs.Sizes.{PlainFile, FitsFile}
-use Rattle.plain_model.specs.State.{OpenFile, PlainJob}
+use Rattle.plain_files.specs.OpenFiles.{OpenFile}
+use Rattle.plain_model.specs.State.{PlainJob}
 
 -- the files by name
 abbrev pub Files : Type 0

@@ -3,7 +3,7 @@ ghost use Rattle.std.specs.Prelude.{◌≡◌, ◌≢◌, ◌⊎◌, ◌↔◌, 
 ghost use Rattle.std.specs.List.{Contains};
 ghost use Rattle.std.specs.FinMap as map;
 ghost use Rattle.script_texts.specs.declared.event.WordRow.{WordRow as AWordRow};
-ghost use Rattle.plain_files.specs.declared.bounds.TheConstants.{MOST_FILES};
+ghost use Rattle.machine_names.specs.declared.names.TheConstants.{MOST_FILES};
 ghost use Rattle.plain_model.specs.State.{PlainState};
 ghost use Rattle.plain_model.specs.Unit.{refused};
 ghost use Rattle.plain_model.specs.FileEvents.{page_named};
