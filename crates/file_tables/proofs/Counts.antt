@@ -99,8 +99,13 @@ module _ (name : List ℕ) where
         by (inr ne) at = (u, k, inl ne, subst (λ o. IsSomeAnd o (λ (j : OpenFile). j.file ≡ name)) (there_other u k ne) names)
         by (inl e) (inl gone) =
             absurd (subst (λ o. IsSomeAnd o (λ (j : OpenFile). j.file ≡ name)) (there_same u k e ∙ get_gone (open_at jobs t) n k gone) names)
-        by (inl e) (inr ne) = (u, k, inr ne, subst (λ o. IsSomeAnd o (λ (j : OpenFile). j.file ≡ name))
-            (there_same u k e ∙ (get_gone_other (open_at jobs t) n k ne ∙ ap (λ x. map.get (open_at jobs x) k) (sym e))) names)
+        by (inl e) (inr ne) = (
+          u,
+          k,
+          inr ne,
+          subst (λ o. IsSomeAnd o (λ (j : OpenFile). j.file ≡ name))
+              (there_same u k e ∙ (get_gone_other (open_at jobs t) n k ne ∙ ap (λ x. map.get (open_at jobs x) k) (sym e))) names,
+        )
 
     without : IsNamedBesides jobs t n name → IsNamed others name
     without (u, k, apart, names) = (u, k, by (cases_eq u t) apart)
@@ -112,6 +117,7 @@ module _ (name : List ℕ) where
             (sym (there_same u k e ∙ (get_gone_other (open_at jobs t) n k ne ∙ ap (λ x. map.get (open_at jobs x) k) (sym e)))) names
 
     pub named_besides : (1 < times_open_in_all jobs name) ↔ IsNamedBesides jobs t n name
-    named_besides =
-        (λ more. besides (some_job others (omega (arith, more, one_more))),
-        λ other. let there = without other in omega (arith, one_more, in_job others there.0 there.1 there.2))
+    named_besides = (
+      λ more. besides (some_job others (omega (arith, more, one_more))),
+      λ other. let there = without other in omega (arith, one_more, in_job others there.0 there.1 there.2),
+    )
