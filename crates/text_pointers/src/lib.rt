@@ -5,6 +5,7 @@
 
 mod reader;
 mod text;
+mod words;
 
 pub use reader::Reader;
 pub use text::{PointedText, Text, text_at};

@@ -67,7 +67,7 @@ fn read_bytes<P: Pages>(
 {
     let mut pointer = first;
     let mut text = Text::new();
-    for _ in 0..MOST_BYTES {
+    for count in 0..MOST_BYTES {
         match reader.word(regs, pages, pointer.right()) {
             Err(stop) => return Err(stop),
             Ok(word) => {
