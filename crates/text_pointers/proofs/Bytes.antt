@@ -1,5 +1,5 @@
 -- The bytes of a text, one behind the other.
-use Rattle.std.proofs.Common.{◌≡◌, ℕ, suc, ◌+◌, ◌-◌, ◌<◌, ◌≤◌, true, false, List, [], ◌∷◌, ◌++◌, Option, None, Some, refl, sym, ◌∙◌, ap, arith}
+use Rattle.std.proofs.Common.{◌≡◌, ℕ, suc, ◌+◌, ◌-◌, ◌<◌, ◌≤◌, false, List, [], ◌∷◌, ◌++◌, None, Some, refl, sym, ◌∙◌, ap, arith}
 use Rattle.std.specs.Prelude.{Result, Ok, Err, ◌==◌}
 use Rattle.arrayvec.specs.ArrayVec.{ArrayVec}
 use Rattle.word36.specs.Words.{right}
@@ -18,7 +18,7 @@ one_more : (n i : ℕ) → i < n → n - i ≡ suc (n - (i + 1))
 one_more n i h = omega arith
 
 -- the first of some bytes
-byte_first : (n : ℕ) (regs : Regs) (pointer : ℕ) (text : List ℕ) → bytes_from (suc n) regs pointer text ≡ words (word_steps regs (right pointer)) (λ w. byte_read (loaded pointer w) text (bytes_from n regs (incremented pointer)))
+pub byte_first : (n : ℕ) (regs : Regs) (pointer : ℕ) (text : List ℕ) → bytes_from (suc n) regs pointer text ≡ words (word_steps regs (right pointer)) (λ w. byte_read (loaded pointer w) text (bytes_from n regs (incremented pointer)))
 unfolding bytes_from
 byte_first n regs pointer text = refl
 

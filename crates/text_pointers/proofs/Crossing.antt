@@ -1,12 +1,12 @@
 -- As many words as bytes are read cross one end of a page at most: their pages are two.
-use Rattle.std.proofs.Common.{◌≡◌, ◌≢◌, ℕ, ◌+◌, ◌-◌, ◌*◌, ◌/◌, ◌%◌, ◌^◌, ◌<◌, ◌≤◌, Bool, true, false, cond, Option, None, Some, refl, sym, ◌∙◌, ap, subst, arith, ◌⊎◌, inl, inr}
+use Rattle.std.proofs.Common.{◌≡◌, ℕ, ◌+◌, ◌-◌, ◌/◌, ◌%◌, ◌^◌, ◌<◌, ◌≤◌, Bool, true, false, cond, Option, None, Some, refl, sym, ◌∙◌, ap, subst, arith, ◌⊎◌, inl, inr}
 use Rattle.std.specs.Prelude.{Ok, nat_le}
 use Rattle.std.proofs.lemmas.Bool.{cases_lt}
 use Rattle.word36.specs.Words.{right}
 use Rattle.word36.specs.Bytes.{in_next_word, incremented, position, size, with_position}
 use Rattle.ka10_unit.specs.Gathers.{weight}
 use Rattle.text_pointers.specs.declared.reader.Reader.{Reader}
-use Rattle.text_pointers.specs.Reading.{IsNext, IsSame, MayRefer, RefersOnce}
+use Rattle.text_pointers.specs.Reading.{MayRefer, RefersOnce}
 
 -- the last page so many ends of pages behind that of an address, of which so many words are passed
 pub record IsPageBehind (first k w n : ℕ) : Type 0 where

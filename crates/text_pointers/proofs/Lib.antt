@@ -5,3 +5,4 @@ pub mod Crossing
 pub mod Bytes
 pub mod Turns
 pub mod TextReads
+pub mod InOrder

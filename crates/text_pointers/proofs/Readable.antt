@@ -1,6 +1,6 @@
 -- A page that can be read: it is asked for again, and comes to the same pages.
 use Rattle.std.proofs.Common.{◌≡◌, ℕ, ◌+◌, ◌≤◌, Bool, true, false, cond, List, [], ◌∷◌, Option, None, Some, refl, sym, ◌∙◌, ap, subst, arith}
-use Rattle.std.specs.Prelude.{⊤, Result, Ok, Err, nat_le}
+use Rattle.std.specs.Prelude.{⊤, Ok, Err, nat_le}
 use Rattle.std.proofs.lemmas.Bool.Decides.{nat_tests}
 use Rattle.std.specs.Ordering.{nat_cmp}
 use Rattle.machine_names.specs.declared.names.ForkName.{ForkName}
@@ -21,7 +21,7 @@ use Rattle.plain_units.specs.Steps.{denied_channel, goes, stops, trap}
 use Rattle.page_gather.specs.declared.reference.PageReference.{PageReference}
 use Rattle.page_gather.specs.declared.reference.Added.{Added}
 use Rattle.page_gather.specs.declared.reference.Added.TheVariants.{Went, Need, Denied, Full}
-use Rattle.page_gather.specs.Gathering.{Adds, Gathering, Gathers, IsNear, answered, came_to, left_by, left_of, most_framed, page_or, referred_to}
+use Rattle.page_gather.specs.Gathering.{Adds, Gathering, Gathers, answered, came_to, left_by, left_of, most_framed, page_or, referred_to}
 use Rattle.page_gather.proofs.Again.{reference_leaves}
 use Rattle.page_gather.proofs.Answering.{answered_goes}
 use Rattle.ka10_unit.specs.declared.taken.Stop.{Stop}

@@ -8,9 +8,9 @@ use Rattle.machine_names.specs.declared.names.ForkName.{ForkName}
 use Rattle.plain_units.specs.declared.registers.Regs.{Regs}
 use Rattle.plain_pages.specs.PlainPages.{NumberedPages}
 use Rattle.page_contracts.specs.declared.answers.Need.{Need}
-use Rattle.plain_units.specs.Steps.{Progress, begun, put_into, run}
+use Rattle.plain_units.specs.Steps.{Progress, begun, run}
 use Rattle.plain_model.specs.PointedTexts.{address_steps, bytes_from, ends_with, full_pointer, pointing_to, text_at}
-use Rattle.page_gather.specs.Gathering.{after_all, left_of}
+use Rattle.page_gather.specs.Gathering.{after_all}
 use Rattle.ka10_deeds.specs.declared.word_fields.Address.{Address}
 use Rattle.ka10_unit.specs.declared.taken.Taken.{Taken}
 use Rattle.ka10_unit.specs.declared.taken.Stop.{Stop}
@@ -19,7 +19,7 @@ use Rattle.ka10_unit.specs.Planning.{reached}
 use Rattle.ka10_unit.specs.Taking.{Follows, Plan, progress, run_over}
 use Rattle.text_pointers.specs.declared.reader.Reader.{Reader}
 use Rattle.text_pointers.specs.declared.text.PointedText.{PointedText}
-use Rattle.text_pointers.specs.Outcomes.{Outcome, goes_on, read_over, reads, stops}
+use Rattle.text_pointers.specs.Outcomes.{Outcome, goes_on, read_over, reads}
 use Rattle.text_pointers.specs.Reading.{ReadsBytes, ReadsText, Stands, ended, pages_so_far}
 use Rattle.text_pointers.proofs.Plainly.{plain_of}
 

@@ -1,18 +1,15 @@
 -- A turn of a call that reads a text: it goes on with the text, on the pages that this leaves, whatever it does then; or it traps.
-use Rattle.std.proofs.Common.{◌≡◌, ℕ, List, Option, refl, sym, ◌∙◌, ap, subst}
+use Rattle.std.proofs.Common.{◌≡◌, ℕ, List, Option, refl, subst}
 use Rattle.std.specs.Prelude.{Ok, Err, slice_index}
 use Rattle.std.specs.Ordering.{nat_cmp}
-use Rattle.plain_model.specs.declared.call.End.{End}
 use Rattle.plain_model.specs.declared.call.End.TheVariants.{Trap as TrapEnd}
 use Rattle.machine_names.specs.declared.names.ForkName.{ForkName}
-use Rattle.plain_units.specs.declared.channel.TheConstants.{ILLEGAL_INSTRUCTION}
 use Rattle.plain_units.specs.declared.registers.Regs.{Regs}
 use Rattle.plain_pages.specs.PlainPages.{NumberedPages}
 use Rattle.plain_units.specs.Blocks.{steps_on}
-use Rattle.plain_units.specs.Steps.{Planned, begun, call, done, need, pages_left, plainly, run, stopped, trap}
+use Rattle.plain_units.specs.Steps.{Planned, call, done, need, pages_left, stopped, trap}
 use Rattle.plain_model.specs.Calls.{Came, Sight, Turn, stepped, turn_on}
 use Rattle.plain_model.specs.PointedTexts.{Reading, read, text_at, with_reading, with_text, words}
-use Rattle.ka10_unit.specs.declared.taken.Stop.{Stop}
 use Rattle.ka10_unit.specs.declared.taken.Stop.TheVariants.{Trap}
 use Rattle.ka10_unit.specs.Gathers.{Framed}
 use Rattle.text_pointers.specs.declared.text.PointedText.{PointedText}

@@ -3,9 +3,11 @@
 //! Stands on `ka10_unit` for the pointer's address, on `ka10_bytes` for its bytes, and on `page_gather` for the references.
 #![tactic(auto)]
 
+mod laws;
 mod reader;
 mod text;
 mod words;
 
+pub use laws::texts_are_read_in_order;
 pub use reader::Reader;
 pub use text::{PointedText, Text, text_at};

@@ -73,7 +73,10 @@ impl Reader {
         let page = (at / PAGE_ADDRESSES) as u16;
         match self.refer(pages, page) {
             Err(stop) => Err(stop),
-            Ok(()) => Ok(self.gather.word(pages, self.place(page), (at % PAGE_ADDRESSES) as u16)),
+            Ok(()) => Ok(
+                self.gather
+                    .word(pages, self.place(page), (at % PAGE_ADDRESSES) as u16),
+            ),
         }
     }
 
@@ -81,7 +84,7 @@ impl Reader {
     pub fn make<P: Pages>(&self, pages: &mut P)
         requires serves { Serves P.means pages.old self.now.fork }
         requires serial { P.means.serial pages.old self.now.fork.tty < 2 ^ 62 }
-        ensures told { (d : DrumWords) → P.means.fits pages.old d → Stands self.now.fork (framed P.means pages.old d) self.now
+        ensures told { (d : DrumWords) (f : AForkName) → P.means.fits pages.old d → Stands f (framed P.means pages.old d) self.now
             → P.means.plain pages.new d ≡ left_of (P.means.plain pages.old d) self.now.gather }
         ensures fits { (d : DrumWords) → P.means.fits pages.old d → P.means.fits pages.new d }
         ensures grows { Grows P.means self.now.fork.tty 128 pages.old pages.new }

@@ -1,11 +1,10 @@
-use Rattle.std.proofs.Common.{◌≡◌, ◌+◌, ◌++◌, ◌∷◌, [], ℕ, length, false, refl, sym, subst, ◌∙◌, ap, arith, rules, length-append}
-use Rattle.std.specs.Prelude.{Ok, ◌==◌}
+use Rattle.std.proofs.Common.{◌≡◌, ◌+◌, ◌++◌, ◌∷◌, [], ℕ, length, false, refl, ◌∙◌, ap, arith, rules, length-append}
+use Rattle.std.specs.Prelude.{◌==◌}
 use Rattle.word36.specs.Words.{right}
 use Rattle.word36.specs.Bytes.{incremented, loaded}
 use Rattle.ka10_unit.specs.Gathers.{framed}
-use Rattle.text_pointers.specs.Reading.{MayRefer}
 use Rattle.text_pointers.proofs.WordReads.{read_by}
-use Rattle.text_pointers.proofs.Crossing.{IsBehind, address_goes, goes_behind, may_refer, none_behind}
+use Rattle.text_pointers.proofs.Crossing.{address_goes, goes_behind, may_refer, none_behind}
 use Rattle.text_pointers.proofs.Bytes.{all_read, byte_ends, byte_goes, none_read, word_stops}
 use Rattle.text_pointers.proofs.text.read_bytes.Goals as goal
 
@@ -47,7 +46,7 @@ loop-count-preserved g c = record {
       rw c.increment-pointer.ensures (goes_behind (right c.args.first) c.loop-count.count (right c.loop-count.pointer) (right (incremented c.loop-count.pointer)) c.loop-count.reader c.word.new.self c.in-Ok.word c.loop-count.invariant.behind
       (rw c.right.ensures.value at c.in-Ok.ensures.once) (address_goes c.loop-count.pointer));
   long = (
-    let longer : length c.push.new.self.items ≡ length c.loop-count.text.items + 1 = ap length c.push.ensures.items ∙ length-append c.loop-count.text.items _ in omega (arith, longer, c.loop-count.invariant.long));
+      let longer : length c.push.new.self.items ≡ length c.loop-count.text.items + 1 = ap length c.push.ensures.items ∙ length-append c.loop-count.text.items _ in omega (arith, longer, c.loop-count.invariant.long));
   told = λ d fits stands.
       let p = framed g.P.Pages.means c.args.pages.now d in
       let f = c.args.reader.now.fork in
