@@ -1,5 +1,5 @@
 -- A text that stands somewhere is read in order.
-use Rattle.std.proofs.Common.{◌≡◌, ◌≢◌, ℕ, suc, ◌+◌, ◌-◌, ◌*◌, ◌/◌, ◌%◌, ◌^◌, ◌<◌, Bool, true, false, cond, List, [], ◌∷◌, ◌++◌, length, Some, refl, sym, ◌∙◌, ap, arith, append_assoc, append-nil}
+use Rattle.std.proofs.Common.{◌≡◌, ◌≢◌, ℕ, suc, ◌+◌, ◌-◌, ◌/◌, ◌%◌, ◌^◌, ◌<◌, Bool, true, false, cond, List, [], ◌∷◌, ◌++◌, length, Some, refl, sym, ◌∙◌, ap, arith, append_assoc, append-nil}
 use Rattle.std.specs.Prelude.{◌==◌, nat_le}
 use Rattle.std.proofs.lemmas.Bool.Decides.{nat_tests}
 use Rattle.word36.specs.Words.{right}
@@ -9,9 +9,9 @@ use Rattle.plain_units.specs.declared.registers.Regs.{Regs}
 use Rattle.plain_pages.specs.PlainPages.{NumberedPages}
 use Rattle.plain_units.specs.Addressing.{address, address_within, index_field, is_indirect}
 use Rattle.plain_units.specs.Steps.{plainly, run}
-use Rattle.plain_model.specs.PointedTexts.{address_steps, byte_read, bytes_from, ends_with, full_pointer, pointing_to, text_at, word_steps, words}
+use Rattle.plain_model.specs.PointedTexts.{address_steps, byte_read, bytes_from, full_pointer, pointing_to, words}
 use Rattle.text_pointers.specs.Outcomes.{leaves, read_on, reads}
-use Rattle.text_pointers.specs.Laws.{IsDirect, IsReady, ReadsInOrder, StandsFrom, word_in}
+use Rattle.text_pointers.specs.Laws.{IsReady, ReadsInOrder, StandsFrom, word_in}
 use Rattle.text_pointers.proofs.Bytes.{byte_first}
 use Rattle.text_pointers.proofs.WordReads.{word_goes}
 

@@ -17,7 +17,7 @@ use Rattle.ka10_unit.specs.Gathers.{Framed, asks}
 use Rattle.ka10_unit.specs.Taking.{asked_as, stop_of}
 use Rattle.ka10_unit.proofs.Seeing.{word_named}
 use Rattle.text_pointers.specs.declared.reader.Reader.{Reader}
-use Rattle.text_pointers.specs.Outcomes.{read_over, reads, stops}
+use Rattle.text_pointers.specs.Outcomes.{reads, stops}
 use Rattle.text_pointers.specs.Reading.{ReadsPage, ReadsWord, Stands, pages_so_far}
 
 module _ {N : Type 0} (ask : NumberedPages → Slot → Kind → Asked N NumberedPages) (f : ForkName) (regs : Regs) (at : ℕ) (q : NumberedPages) (rest : ℕ → Reading) where
