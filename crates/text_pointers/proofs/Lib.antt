@@ -6,3 +6,4 @@ pub mod Bytes
 pub mod Turns
 pub mod TextReads
 pub mod InOrder
+pub mod Needs
