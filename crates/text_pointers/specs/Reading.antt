@@ -34,7 +34,7 @@ pub record IsReadable (f : ForkName) (p : Framed) (q : NumberedPages) (page : �
   pub there : is_some (page_at q (in_map (in_space f page))) ≡ true
   pub near : IsNear q p.scene (in_space f page)
 
--- so is the page of the byte before, if there is one
+-- so is that of the last byte that stands in one
 abbrev pub HasPage : ForkName → Framed → NumberedPages → Option ℕ → Type 0
 HasPage f p q None = Unit {0}
 HasPage f p q (Some page) = IsReadable f p q page
@@ -60,7 +60,7 @@ pub record IsSame (old new : Reader) : Type 0 where
   pub page : new.page ≡ old.page
   pub weight_is : weight new.gather ≤ weight old.gather
 
--- one page more was, another than that of the byte before
+-- one page more was, another than that of the last byte
 pub record IsNext (old new : Reader) (page : ℕ) : Type 0 where
   pub page_is : new.page ≡ Some page
   pub other : old.page ≢ Some page

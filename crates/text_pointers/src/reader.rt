@@ -11,7 +11,7 @@ use page_gather::Gather;
 pub struct Reader {
     pub fork: ForkName,
     pub gather: Gather,
-    /// The page of the byte before, if it is known.
+    /// The page of the last byte that stands in one.
     pub page: Option<u16>,
     ghost own: { IsOf fork gather },
 }

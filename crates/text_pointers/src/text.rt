@@ -25,7 +25,7 @@ pub type Text = ArrayVec<Word, MOST_BYTES>;
 /// What was read at a pointer.
 #[derive(Drop)]
 pub struct PointedText {
-    /// The bytes before the first that is 0. None: that isn't among as many as are read at most.
+    /// The bytes before the first that is 0. None: none of the first 40 is.
     pub text: Option<Text>,
     /// What was referred to; the pages that this makes are to be made before it is used up.
     pub reader: Reader,
@@ -84,7 +84,7 @@ fn read_bytes<P: Pages>(
 }
 
 /// Reads the text at a byte pointer in the space of a fork (JSYS Manual, "String pointers"): up to the first byte that is
-/// 0, which is among the first 40 or there is none. The pointer is incremented before each byte, and its address is taken
+/// 0, or none where that isn't among the first 40. The pointer is incremented before each byte, and its address is taken
 /// once, behind the first increment. Err: a reference of the address or of a byte whose page, or a map on the way, is in no
 /// frame; that is denied; or for which a page has to be made while the drum is full, or no frame is free; or an address
 /// behind more than 16 indirect words. No page is made before `Reader::make`.

@@ -29,7 +29,7 @@ impl Reader {
         })
     }
 
-    // Refers to a page, to read it, where the byte before stands in another.
+    // Refers to a page, to read it, unless the last byte stands in it too.
     fn refer<P: Pages>(&mut self, pages: &P, page: u16) -> Result<(), Stop>
         requires serves { Serves P.means pages.now self.old.fork }
         requires page { page < SPACE_PAGES }
