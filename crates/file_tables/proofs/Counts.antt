@@ -12,7 +12,7 @@ use Rattle.std.specs.FinMap.{nat_cmp-IsAntisymmetric}
 use Rattle.number_map.proofs.Keys.{get_gone, get_gone_other}
 use Rattle.plain_files.specs.OpenFiles.{IsNamed, IsNamedBesides, Names, OpenFile, OpenFiles, is_for, open_at, times_open, times_open_in_all}
 use Rattle.jfn_table.proofs.Entries.{passing_gone}
-use Rattle.file_tables.proofs.Keys.{same_key, ties}
+use Rattle.machine_names.proofs.Keys.{same_key, ties}
 use Rattle.file_tables.proofs.Names.{name_apart, name_total}
 use Rattle.file_tables.proofs.Rekeyed.{Each, each_there, one_or_none}
 

@@ -9,7 +9,7 @@ use Rattle.std.specs.Cmp.{IsTotalOrder, eq_by_cmp_equiv}
 use Rattle.std.specs.FinMap as map
 use Rattle.std.specs.FinMap.{IsAntisymmetric, find, is_sorted}
 use Rattle.std.specs.FinMap.Entries.{below_all}
-use Rattle.file_tables.proofs.Keys.{ties_itself, same_key}
+use Rattle.machine_names.proofs.Keys.{ties_itself, same_key}
 
 -- each element has this
 abbrev pub Each : {A : Type 0} → (A → Type 0) → List A → Type 0
