@@ -1,5 +1,6 @@
 // Files and JFNs by the names of files.
 ghost use Rattle.std.specs.Prelude.{◌<◌};
+ghost use Rattle.file_tables.specs.Tables.{IsThere};
 
 use crate::made::made;
 use crate::same::same_at;
@@ -59,7 +60,9 @@ fn is_named(tables: &FileTables, name: FileName) -> bool {
 }
 
 // Takes a file away, where no JFN names it.
-fn delete(tables: &mut FileTables, f: FileNo) -> Option<u32> {
+fn delete(tables: &mut FileTables, f: FileNo) -> Option<u32>
+    requires { IsThere tables.old f.0 }
+{
     if tables.names(f) > 0 {
         return None;
     }
@@ -69,7 +72,8 @@ fn delete(tables: &mut FileTables, f: FileNo) -> Option<u32> {
 
 // Takes a JFN for a file, where the job at a terminal has one that is free.
 fn take(tables: &mut FileTables, t: Tty, f: FileNo) -> Option<u32>
-    requires { t.0 < TERMINALS }
+    requires terminal { t.0 < TERMINALS }
+    requires there { IsThere tables.old f.0 }
 {
     match tables.free_jfn(t) {
         Some(_) => Some(tables.take(t, f)),
