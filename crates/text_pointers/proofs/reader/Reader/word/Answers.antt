@@ -36,5 +36,5 @@ returns-in-Ok-clause-told g c d fits stands =
     let q = pages_so_far p c.refer.new.self in
     let there : c.place.result ≡ place.Fork (slot_at f c.args.at) = c.place.ensures ∙ ap (λ (k : ForkName). place.Fork (record { fork = k; page = c.args.at / PAGE_WORDS })) c.in-Ok.ensures.fork in
     let near = near_place q p.scene c.place.result (slot_at f c.args.at) there (page.readable _ refl).near in
-    let word : c.word.result ≡ word_at q (in_map (slot_at f c.args.at)) (c.args.at % PAGE_WORDS) = c.word.ensures.told d fits (page.stands _ refl).gathers near ∙ ap (λ (x : Place). word_at q (spot_of x) (c.args.at % PAGE_WORDS)) there in
+    let word : c.word.result ≡ word_at q (in_map (slot_at f c.args.at)) (c.args.at % PAGE_WORDS) = ◌∙◌ {b = word_at q (spot_of c.place.result) (c.args.at % PAGE_WORDS)} (c.word.ensures.told d fits (page.stands _ refl).gathers near) (ap (λ (x : Place). word_at q (spot_of x) (c.args.at % PAGE_WORDS)) there) in
     of_page f p c.args.regs.now c.args.self.now c.args.at _ high _ _ word page
