@@ -31,7 +31,8 @@ use Rattle.flat_pages.proofs.LivingMaps.{entry_held}
 use Rattle.flat_pages.proofs.Settling.{sized_of, content_other, fits_set}
 use Rattle.flat_pages.proofs.Told.{maps_set, none_else, none_filed, entry_still}
 use Rattle.flat_pages.proofs.FiledHomes.{files_still}
-use Rattle.flat_pages.proofs.Leaving.{kept_tables, left_tables, freed_tables, name_kept, name_gone, named_of, told_set}
+use Rattle.flat_pages.proofs.Leaving.{kept_tables, left_tables, freed_tables, name_kept, named_of, told_set}
+use Rattle.flat_pages.proofs.GivenUp.{gone_not, freed_stays, freed_core}
 use Rattle.flat_pages.proofs.Telling.{named_home, tables_told}
 use Rattle.flat_pages.proofs.Touching.{home_is}
 
@@ -39,13 +40,6 @@ use Rattle.flat_pages.proofs.Touching.{home_is}
 pub lives_used : (o : Option ForkName) (e : HeldEntry) → IsSome o → o ≡ None → e ≡ Empty
 lives_used None e some none = absurd (cc some)
 lives_used (Some f) e some none = absurd (cc none)
-
--- a home that is given up is free
-free_set : (places : List HomePlace) (k : ℕ) → place (slice_set places k free) k ≡ free
-free_set places k = elim (cases_lt k (length places)) [
-  | inl below ↦ get_or-set_same places k free free below
-  | inr over ↦ get_or_past (slice_set places k free) k free (omega (arith, over, length-set places k free))
-]
 
 pub same_core : (scene : Scene) → StaysInCore scene scene 0
 same_core scene = record { maps = λ f h. h; pages = λ n h. h; frames = omega arith }
@@ -157,59 +151,23 @@ module _ {S : Type 0} (store : StoreMeaning S) (old new : S) (sound_old : IsSoun
     agrees : AreTables u
     agrees = freed_tables t a at q e there page used_here none h b q_is one
 
-    kept_name : (k : ℕ) → k ≢ h.0 → name_at u.names k ≡ name_at t.names k
-    kept_name = name_kept t a at q e there page used_here none h b q_is one
-
-    old_name : (k : ℕ) (n : PageName) → name_at u.names k ≡ Some n → name_at t.names k ≡ Some n
-    old_name = named_of t a at q e there page used_here none h b q_is one
-
-    not_h : (k : ℕ) (n : PageName) → name_at u.names k ≡ Some n → k ≢ h.0
-    not_h k n named same = (let z : None ≡ Some n = sym (name_gone t a at q e there page used_here none h b q_is one) ∙ ap (name_at u.names) (sym same) ∙ named in cc z)
-
     others_still : (c : EntryAt) (x : HeldEntry) → c ≢ at → held_entry t.maps c ≡ Some x → entry_of u.names x ≡ entry_of t.names x
-    others_still c x ne held = entry_still t.names u.names h.0 x kept_name (none_else t a at c q x h.0 there (one ∙ sym (ap (points_at h.0) q_is ∙ points_self h b)) ne held)
-
-    frames_still : StaysInCore (scene_of t (store.spare old)) (scene_of u (store.spare new)) 0
-    frames_still = record { maps = λ f e. e; pages = λ n away. by n away (home_named u.names n) refl; frames = omega (arith, given_up.spare) }
-      where
-        by : (n : PageName) → option_and_then (away_at t.places) (home_named t.names n) ≡ None → (o : Option ℕ) → home_named u.names n ≡ o → option_and_then (away_at u.places) (home_named u.names n) ≡ None
-        by n away None is = ap (option_and_then (away_at u.places)) is
-        by n away (Some k) is =
-            let named = named_home u.names n k is in
-            let before = old_name k n named in
-            let home : home_named t.names n ≡ Some k = home_is t.names k n before (λ j f. a.once j k n f before) in
-            ap (option_and_then (away_at u.places)) is
-            ∙ ap (λ p. away_home p k) (get_or-set_other t.places h.0 k free free (not_h k n named))
-            ∙ sym (ap (option_and_then (away_at t.places)) home) ∙ away
-
-    -- and this home alone goes
-    stays_or_goes : (k : ℕ) → HomeStays t u k (NamesHome t.maps at k)
-    stays_or_goes k = elim (cases_eq k h.0) [
-      | inl same ↦ inr (
-        ap (place u.places) same ∙ gone,
-        ap (name_at u.names) same ∙ name_gone t a at q e there page used_here none h b q_is one,
-        record { access = b; is = there ∙ ap Some q_is ∙ ap (λ (n : ℕ). Some (Page (record { 0 = n }) b)) (sym same) },
-      )
-      | inr ne ↦ inl (get_or-set_other t.places h.0 k free free ne, kept_name k ne)
-    ]
-      where
-        gone : place u.places h.0 ≡ free
-        gone = free_set t.places h.0
+    others_still c x ne held = entry_still t.names u.names h.0 x (name_kept t a h one) (none_else t a at c q x h.0 there (one ∙ sym (ap (points_at h.0) q_is ∙ points_self h b)) ne held)
 
     pub freed_step : AreTables t' × AreTold t' × SetsEntry store old new tables tables' at e
     freed_step =
         let a' : AreTables t' = subst AreTables (sym is) agrees in (
           a',
           tables_told t' a' sound_new.pages,
-          sets_entry a a' there (ap (λ (x : Tables). x.maps) is) (ap (λ (x : Tables). x.files) is) (ap (λ (x : Tables). files_held x.names x.files) is ∙ files_still t.names u.names t.files h.0 (none_filed t a at q h.0 there (one ∙ sym (ap (points_at h.0) q_is ∙ points_self h b))) kept_name) (ap (λ (x : Tables). x.serials) is) (ap (λ (x : Tables). x.living) is) (ap (λ (x : Tables). x.limit) is)
-              (λ k n f. old_name k n (ap (λ (x : Tables). name_at x.names k) (sym is) ∙ f))
-              (λ d k n f. ap (λ (x : Tables). content x.places d k) is ∙ content_other t.places d h.0 k free (not_h k n (ap (λ (x : Tables). name_at x.names k) (sym is) ∙ f)))
+          sets_entry a a' there (ap (λ (x : Tables). x.maps) is) (ap (λ (x : Tables). x.files) is) (ap (λ (x : Tables). files_held x.names x.files) is ∙ files_still t.names u.names t.files h.0 (none_filed t a at q h.0 there (one ∙ sym (ap (points_at h.0) q_is ∙ points_self h b))) (name_kept t a h one)) (ap (λ (x : Tables). x.serials) is) (ap (λ (x : Tables). x.living) is) (ap (λ (x : Tables). x.limit) is)
+              (λ k n f. named_of t a h one k n (ap (λ (x : Tables). name_at x.names k) (sym is) ∙ f))
+              (λ d k n f. ap (λ (x : Tables). content x.places d k) is ∙ content_other t.places d h.0 k free (gone_not t a h one k n (ap (λ (x : Tables). name_at x.names k) (sym is) ∙ f)))
               (λ c x ne held. ap (λ (y : Tables). entry_of y.names x) is ∙ others_still c x ne held)
-              (ap (λ (y : Tables). entry_of y.names e) is ∙ entry_still t.names u.names h.0 e kept_name (none h.0))
+              (ap (λ (y : Tables). entry_of y.names e) is ∙ entry_still t.names u.names h.0 e (name_kept t a h one) (none h.0))
               (λ d fit. subst (λ (x : Tables). FitsHomes x.places d) (sym is) (fits_set t.places d h.0 free fit))
-              (λ k. subst (λ (x : Tables). HomeStays t x k (NamesHome t.maps at k)) (sym is) (stays_or_goes k))
+              (λ k. subst (λ (x : Tables). HomeStays t x k (NamesHome t.maps at k)) (sym is) (freed_stays t a h one (NamesHome t.maps at) (record { access = b; is = there ∙ ap Some q_is }) k))
               (λ none. absurd (none h.0 (record { access = b; is = there ∙ ap Some q_is })))
-              (subst (λ (x : Tables). StaysInCore (scene_of t (store.spare old)) (scene_of x (store.spare new)) 0) (sym is) frames_still)
+              (subst (λ (x : Tables). StaysInCore (scene_of t (store.spare old)) (scene_of x (store.spare new)) 0) (sym is) (freed_core store old new t a h one given_up))
               (loses_freed store old new h.0 given_up) (freed_none store old new h.0 given_up),
         )
 

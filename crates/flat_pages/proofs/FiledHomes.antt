@@ -2,19 +2,21 @@
 use Rattle.std.proofs.Common.{◌≡◌, ◌≢◌, inl, inr, ℕ, zero, suc, ◌+◌, ◌*◌, ◌<◌, ◌≤◌, Bool, true, false, cond, ◌&&◌, List, [], ◌∷◌, map as each, length, Option, None, Some, refl, sym, ◌∙◌, ap, subst, arith, T, is_lt, Ordering}
 use Rattle.std.specs.Prelude.{nat_eq, slice_index_or}
 use Rattle.std.specs.List.{sum_by}
-use Rattle.std.specs.Option.{option_map}
+use Rattle.std.specs.Option.{option_map, option_map_or}
 use Rattle.std.specs.Ordering.{nat_cmp, eq_by_cmp, is_eq}
-use Rattle.std.specs.Cmp.{IsTotalOrder, nat_cmp_total}
+use Rattle.std.specs.Cmp.{IsTotalOrder, Equal-is, nat_cmp_total}
 use Rattle.std.specs.FinMap as fin
+use Rattle.std.proofs.lemmas.Cmp.{tied_itself}
 use Rattle.std.proofs.lemmas.List.Sums.{sum_by-cons}
 use Rattle.std.proofs.lemmas.Bool.{cases_eq}
 use Rattle.std.proofs.lemmas.Bool.Decides.{eqb_tells}
 use Rattle.machine_names.specs.declared.names.PageName.{PageName}
+use Rattle.machine_names.specs.declared.names.TheConstants.{MOST_FILES, FILE_PAGES}
 use Rattle.machine_names.specs.Orders.{FilePage, file_page_cmp}
 use Rattle.machine_names.proofs.OrderLemmas.{file_page_total, file_page_apart}
 use Rattle.page_files.specs.Pages.{PagesOf}
 use Rattle.page_homes.specs.declared.homes.Home.{Home}
-use Rattle.plain_pages.proofs.Counts.{value_counted}
+use Rattle.plain_pages.proofs.Counts.{total_insert, total_without, value_counted}
 use Rattle.flat_pages.specs.HeldMaps.{name_at, name_of}
 use Rattle.flat_pages.specs.SlotTables.{files_held, is_at, filed_total}
 
@@ -128,3 +130,54 @@ module _ (names : List (Option PageName)) (files : PagesOf Home) (f : FilePage �
 -- no file has a page
 pub none_filed : (names : List (Option PageName)) → files_held names fin.empty ≡ fin.empty
 none_filed names = fin.same_map filed_order filed_apart (files_held names fin.empty) fin.empty (λ f. get_filed names fin.empty f ∙ ap (option_map (name_of names)) (fin.get-empty R f) ∙ sym (fin.get-empty R f))
+
+-- a page of a file more, and one less
+pub filed_more : (files : PagesOf Home) (f : FilePage ℕ) (h : Home) (k : ℕ) → fin.get files f ≡ None → filed_total k (fin.insert files f h) ≡ filed_total k files + is_at k h
+filed_more files f h k none =
+    let before : option_map_or (is_at k) (fin.get files f) 0 ≡ 0 = ap (λ (o : Option Home). option_map_or (is_at k) o 0) none in
+    omega (arith, total_insert filed_order (is_at k) files f h, before)
+
+pub filed_less : (files : PagesOf Home) (f : FilePage ℕ) (h : Home) (k : ℕ) → fin.get files f ≡ Some h → filed_total k (fin.remove files f) + is_at k h ≡ filed_total k files
+filed_less files f h k there = total_without filed_order filed_apart (is_at k) files f h there
+
+-- a page of a file more is within its bounds, if it is
+pub filed_within : (files : PagesOf Home) (f : FilePage ℕ) (h : Home) → (f.file < MOST_FILES) × (f.page < FILE_PAGES) → ((g : FilePage ℕ) (k : Home) → fin.get files g ≡ Some k → (g.file < MOST_FILES) × (g.page < FILE_PAGES))
+    → (g : FilePage ℕ) (k : Home) → fin.get (fin.insert files f h) g ≡ Some k → (g.file < MOST_FILES) × (g.page < FILE_PAGES)
+filed_within files f h bounds within g k is = by (eq_by_cmp R g f) refl (sym (fin.get-insert filed_order files f h g) ∙ is)
+  where
+    by : (b : Bool) → eq_by_cmp R g f ≡ b → cond b (Some h) (fin.get files g) ≡ Some k → (g.file < MOST_FILES) × (g.page < FILE_PAGES)
+    by true tied e = (let same : g ≡ f = filed_apart g f ((Equal-is (R g f)).0 tied) in (omega (arith, ap (λ (x : FilePage ℕ). x.file) same, bounds.0), omega (arith, ap (λ (x : FilePage ℕ). x.page) same, bounds.1)))
+    by false tied e = within g k e
+
+-- and so is a page less
+pub filed_without : (files : PagesOf Home) (f : FilePage ℕ) → ((g : FilePage ℕ) (k : Home) → fin.get files g ≡ Some k → (g.file < MOST_FILES) × (g.page < FILE_PAGES)) → (g : FilePage ℕ) (k : Home) → fin.get (fin.remove files f) g ≡ Some k → (g.file < MOST_FILES) × (g.page < FILE_PAGES)
+filed_without files f within g k is = by (eq_by_cmp R g f) (sym (fin.get-remove filed_order files f g) ∙ is)
+  where
+    by : (b : Bool) → cond b None (fin.get files g) ≡ Some k → (g.file < MOST_FILES) × (g.page < FILE_PAGES)
+    by true e = absurd (cc e)
+    by false e = within g k e
+
+-- what files name with a home at one of their pages, or with none
+abbrev pub homes_with : PagesOf Home → FilePage ℕ → Option Home → PagesOf Home
+homes_with files f (Some h) = fin.insert files f h
+homes_with files f None = fin.remove files f
+
+pub with_here : (files : PagesOf Home) (f : FilePage ℕ) (o : Option Home) → fin.get (homes_with files f o) f ≡ o
+with_here files f None = fin.get-remove filed_order files f f ∙ ap (λ r. cond (is_eq r) None (fin.get files f)) (tied_itself filed_order f)
+with_here files f (Some h) = fin.get-insert filed_order files f h f ∙ ap (λ r. cond (is_eq r) (Some h) (fin.get files f)) (tied_itself filed_order f)
+
+pub with_elsewhere : (files : PagesOf Home) (f g : FilePage ℕ) (o : Option Home) → g ≢ f → fin.get (homes_with files f o) g ≡ fin.get files g
+with_elsewhere files f g o ne = by (eq_by_cmp R g f) refl o
+  where
+    by : (b : Bool) → eq_by_cmp R g f ≡ b → (o : Option Home) → fin.get (homes_with files f o) g ≡ fin.get files g
+    by true tied o = absurd (ne (filed_apart g f ((Equal-is (R g f)).0 tied)))
+    by false tied None = fin.get-remove filed_order files f g ∙ ap (λ b. cond b None (fin.get files g)) tied
+    by false tied (Some h) = fin.get-insert filed_order files f h g ∙ ap (λ b. cond b (Some h) (fin.get files g)) tied
+
+-- a page that isn't there is taken out as it is
+pub without_none : (files : PagesOf Home) (f : FilePage ℕ) → fin.get files f ≡ None → files ≡ fin.remove files f
+without_none files f none = fin.same_map filed_order filed_apart files (fin.remove files f) (λ g. sym (fin.get-remove filed_order files f g ∙ by g (eq_by_cmp R g f) refl))
+  where
+    by : (g : FilePage ℕ) (b : Bool) → eq_by_cmp R g f ≡ b → cond b None (fin.get files g) ≡ fin.get files g
+    by g true tied = sym (ap (fin.get files) (filed_apart g f ((Equal-is (R g f)).0 tied)) ∙ none)
+    by g false tied = refl

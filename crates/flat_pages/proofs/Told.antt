@@ -34,7 +34,7 @@ use Rattle.flat_pages.proofs.HeldEntries.{held_within, map_set_same, map_set_oth
 use Rattle.flat_pages.proofs.LivingMaps.{get_living, maps_changed}
 use Rattle.flat_pages.proofs.Agreement.{Housed, housed, uses_home, uses_none, object_home, object_gone, tables_whole}
 
-map_same : {A B : Type 0} (f g : A → B) (xs : List A) → ((i : ℕ) (x : A) → slice_get xs i ≡ Some x → f x ≡ g x) → map f xs ≡ map g xs
+pub map_same : {A B : Type 0} (f g : A → B) (xs : List A) → ((i : ℕ) (x : A) → slice_get xs i ≡ Some x → f x ≡ g x) → map f xs ≡ map g xs
 map_same f g [] same = refl
 map_same f g (x ∷ xs) same = let rest = map_same f g xs (λ i. same (suc i)) in let first = same zero x refl in λ i. first i ∷ rest i
 

@@ -50,7 +50,7 @@ pub record SetsFile {S : Type 0} (store : StoreMeaning S) (old new : S) (tables 
   pub here : map.get tables'.files f ≡ home
   pub others : (g : FilePage ℕ) → g ≢ f → map.get tables'.files g ≡ map.get tables.files g
   pub filed : (g : FilePage ℕ) → g ≢ f → filed_in (tables_of (store.homes new) tables') g ≡ filed_in (tables_of (store.homes old) tables) g
-  pub maps : tables'.maps ≡ tables.maps
+  pub maps : tables'.maps.held.items ≡ tables.maps.held.items
   pub serials : tables'.serials ≡ tables.serials
   pub living : tables'.living ≡ tables.living
   pub limit : tables'.limit ≡ tables.limit
@@ -81,7 +81,7 @@ pub record EmptiesFile {S : Type 0} (store : StoreMeaning S) (old new : S) (tabl
   pub gone : (page : ℕ) → page < pages → map.get tables'.files (file_page file page) ≡ None
   pub rest : (page : ℕ) → pages ≤ page → map.get tables'.files (file_page file page) ≡ map.get tables.files (file_page file page)
   pub filed : (f : FilePage ℕ) → f.file ≢ file → filed_in (tables_of (store.homes new) tables') f ≡ filed_in (tables_of (store.homes old) tables) f
-  pub maps : tables'.maps ≡ tables.maps
+  pub maps : tables'.maps.held.items ≡ tables.maps.held.items
   pub serials : tables'.serials ≡ tables.serials
   pub living : tables'.living ≡ tables.living
   pub limit : tables'.limit ≡ tables.limit

@@ -3,10 +3,8 @@ use Rattle.std.proofs.Common.{◌≡◌, ℕ, zero, suc, ◌+◌, ◌-◌, ◌<�
 use Rattle.std.specs.Prelude.{◌==◌, nat_lt, is_some, slice_get, slice_index, slice_set, IsSome}
 use Rattle.std.specs.List.{sum_by, filter_map}
 use Rattle.std.specs.Option.{option_map_or, option_and_then}
-use Rattle.std.specs.Ordering.{eq_by_cmp, is_eq}
-use Rattle.std.specs.Cmp.{Equal-is}
+use Rattle.std.specs.Ordering.{eq_by_cmp}
 use Rattle.std.specs.FinMap as map
-use Rattle.std.proofs.lemmas.Cmp.{tied_itself}
 use Rattle.std.proofs.lemmas.List.{length-set}
 use Rattle.std.proofs.lemmas.Bool.Decides.{nat_tests}
 use Rattle.outside.specs.declared.TheConstants.{PAGE_WORDS}
@@ -27,7 +25,7 @@ use Rattle.plain_pages.specs.References.{drop_unnamed, drop_all_unnamed, with_en
 use Rattle.plain_pages.specs.NewEntries.{IsNewEntry, entry_to, changed}
 use Rattle.plain_pages.specs.WholePages.{AreWhole}
 use Rattle.machine_names.proofs.OrderLemmas.{page_tied, page_cmp_total, page_cmp_apart, fork_cmp_total, fork_cmp_apart}
-use Rattle.plain_pages.proofs.Counts.{has, has_count, count_filtered, weight, total_insert, value_counted, Same, page_tells, same_itself}
+use Rattle.plain_pages.proofs.Counts.{has, has_count, count_filtered, weight, total_without, value_counted, Same, page_tells, same_itself}
 use Rattle.plain_pages.proofs.Chains.{entry_map, len_set}
 use Rattle.plain_pages.proofs.Whole.{map_uses, tally, uses_are, live_whole}
 use Rattle.plain_pages.proofs.Makings.{names_set, uses_objects}
@@ -38,19 +36,9 @@ same_pages p q objects maps files page_serials console_serial limit =
     let same = map.same_map page_cmp_total page_cmp_apart p.objects q.objects objects in
     λ i. record { objects = same i; maps = maps i; files = files i; page_serials = page_serials i; console_serial = console_serial i; limit = limit i }
 
--- a sum over the values of a map, without one of them
+-- a sum over the maps of forks, without one of them
 pub total_remove : {X : Type 0} (w : X → ℕ) (m : map.FinMap fork_cmp X) (f : ForkName) (v : X) → map.get m f ≡ Some v → sum_by w (map.values (map.remove m f)) + w v ≡ sum_by w (map.values m)
-total_remove {X} w m f v there =
-    let none : option_map_or w (map.get (map.remove m f) f) 0 ≡ 0 = ap (λ (o : Option X). option_map_or w o 0) (map.get-remove fork_cmp_total m f f ∙ ap (λ r. cond (is_eq r) None (map.get m f)) (tied_itself fork_cmp_total f)) in
-    let back : sum_by w (map.values (map.insert (map.remove m f) f v)) ≡ sum_by w (map.values m) = ap (λ (n : map.FinMap fork_cmp X). sum_by w (map.values n)) (map.same_map fork_cmp_total fork_cmp_apart (map.insert (map.remove m f) f v) m each) in
-    omega (arith, total_insert fork_cmp_total w (map.remove m f) f v, none, back)
-  where
-    each : (g : ForkName) → map.get (map.insert (map.remove m f) f v) g ≡ map.get m g
-    each g = map.get-insert fork_cmp_total (map.remove m f) f v g ∙ by (eq_by_cmp fork_cmp g f) refl
-      where
-        by : (b : Bool) → eq_by_cmp fork_cmp g f ≡ b → cond b (Some v) (map.get (map.remove m f) g) ≡ map.get m g
-        by true is = let same : g ≡ f = fork_cmp_apart g f ((Equal-is (fork_cmp g f)).0 is) in sym (ap (map.get m) same ∙ there)
-        by false is = map.get-remove fork_cmp_total m f g ∙ ap (λ b. cond b None (map.get m g)) is
+total_remove = total_without fork_cmp_total fork_cmp_apart
 
 module _ {K : Type 0} {file_cmp : K → K → Ordering} where
   -- the pages of one that the other still names, each with its words, and the other parts but the maps and what files name
