@@ -62,7 +62,7 @@ fewer_on p q r f k l = record {
     by n true is = k.objects n ∙ ap (λ b. cond b (fin.get p.objects n) None) (l.named n is)
     by n false is = refl
 
-less_used : (j k : ℕ) → j ≤ k → nat_lt 0 j ≡ true → nat_lt 0 k ≡ true
+pub less_used : (j k : ℕ) → j ≤ k → nat_lt 0 j ≡ true → nat_lt 0 k ≡ true
 less_used j k le h = grind (arith, nat_tests)
 
 -- an entry of the fork's map that is emptied
@@ -102,7 +102,7 @@ page_there maps held k page lives l =
     let f = some_is (fork_at maps k) lives in
     some_entry (map_at maps k).entries page (omega (arith, l, held.pages k (fork_within maps k f.0 f.1)))
 
-core_on : {a b c : _} → StaysInCore a b 0 → StaysInCore b c 0 → StaysInCore a c 0
+pub core_on : {a b c : _} → StaysInCore a b 0 → StaysInCore b c 0 → StaysInCore a c 0
 core_on k l = record { maps = λ f h. l.maps f (k.maps f h); pages = λ n h. l.pages n (k.pages n h); frames = omega (arith, k.frames, l.frames) }
 
 module _ {S : Type 0} (store : StoreMeaning S) (k : ℕ) where

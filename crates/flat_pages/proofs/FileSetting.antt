@@ -106,16 +106,16 @@ module _ (t : Tables) (a : AreTables t) (h : Home) (named : is_some (name_at t.n
       few = a.few;
     }
 
--- a page keeps another name than that of a file
-module _ (t : Tables) (a : AreTables t) (f : FilePage ℕ) (h : Home) (there : fin.get t.files f ≡ Some h) (stays : share_of t.shares h.0 ≢ 1) where
+-- a page that a file names keeps another name
+module _ (t : Tables) (a : AreTables t) (f : FilePage ℕ) (h : Home) (there : fin.get t.files f ≡ Some h) where
   pub filed_share : 1 ≤ share_of t.shares h.0
   filed_share = omega (arith, filed_some t.files f h there, a.shares h.0)
 
   parted : (k : ℕ) → share_of (slice_set t.shares h.0 (share_of t.shares h.0 - 1)) k + is_at k h ≡ share_of t.shares k
   parted = parted_is t.shares h filed_share
 
-  pub file_left_tables : AreTables (file_left t f h)
-  file_left_tables = record {
+  pub file_left_tables : share_of t.shares h.0 ≢ 1 → AreTables (file_left t f h)
+  file_left_tables stays = record {
     held = a.held;
     homes = a.homes;
     named = a.named;
@@ -141,7 +141,7 @@ module _ (t : Tables) (a : AreTables t) (f : FilePage ℕ) (h : Home) (there : f
       ]
 
 -- maps whose entries stand for what they stood for
-maps_alike : (names names' : List (Option PageName)) (maps : List HeldMap) → ((b : EntryAt) (x : HeldEntry) → held_entry maps b ≡ Some x → entry_of names' x ≡ entry_of names x) → maps_held names' maps ≡ maps_held names maps
+pub maps_alike : (names names' : List (Option PageName)) (maps : List HeldMap) → ((b : EntryAt) (x : HeldEntry) → held_entry maps b ≡ Some x → entry_of names' x ≡ entry_of names x) → maps_held names' maps ≡ maps_held names maps
 unfolding maps_held
 maps_alike names names' [] same = refl
 maps_alike names names' (m ∷ maps) same =

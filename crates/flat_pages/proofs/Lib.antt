@@ -25,6 +25,7 @@ pub mod Putting
 pub mod EntrySetting
 pub mod FileSetting
 pub mod EmptyMaps
+pub mod FileEnds
 pub mod Ending
 pub mod ForkEnds
 pub mod SlotSetting
@@ -36,4 +37,5 @@ pub mod Looking
 pub mod StoredRows
 pub mod Numbering
 pub mod Using
+pub mod FileSettles
 pub mod MapHomes

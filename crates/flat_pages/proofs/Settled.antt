@@ -358,7 +358,7 @@ module _ (t : Tables) (a : AreTables t) (frames : ℕ) (s : Slot) (kind : Kind) 
           (list ∙ λ i. Some (blanks_some t a frames d sized owner own start s start_slot kind c w walk_found.is walk_found.meets yes old home i ++ k.list i)))
 
 -- a free home's page is named by no entry
-unused : (t : Tables) → AreTables t → (h : ℕ) → place t.places h ≡ free → share_of t.shares h ≡ 0
+pub unused : (t : Tables) → AreTables t → (h : ℕ) → place t.places h ≡ free → share_of t.shares h ≡ 0
 unused t a h is = none_shared (share_of t.shares h) (sym (a.shared h) ∙ sym (a.is_taken h) ∙ ap is_taken is)
 
 unused_by : (t : Tables) → AreTables t → (h : ℕ) → place t.places h ≡ free → (at : EntryAt) (q : HeldEntry) → held_entry t.maps at ≡ Some q → share_of t.shares h ≡ points_at h q
@@ -370,7 +370,7 @@ renamed_files : (t : Tables) (a : AreTables t) (owner : Tty) (home : ℕ) (at : 
 renamed_files t a owner home at q there alone =
     files_still t.names (slice_set t.names home (Some (next_name t.serials owner))) t.files home (none_filed t a at q home there alone) (λ k ne. get_or-set_other t.names home k (Some (next_name t.serials owner)) None ne)
 
-abbrev ArePages : Tables → Type 0
+abbrev pub ArePages : Tables → Type 0
 ArePages t = (h : ℕ) (words : List ℕ) → place t.places h ≡ here words → IsPage words
 
 -- a home is taken for a page

@@ -43,6 +43,11 @@ SettlesFiled store old new tables tables' f owner None = FilesHome store old new
 abbrev pub IsFiled : PagesOf Home → FilePage ℕ → ℕ → Type 0
 IsFiled files f home = map.get files f ≡ Some (record { 0 = home })
 
+-- some file does
+pub record HasHome (files : PagesOf Home) (home : Home) : Type 0 where
+  pub at : FilePage ℕ
+  pub there : map.get files at ≡ Some home
+
 -- a page of a file was set, to that of a home or to none: what nothing names any more was given up, and nothing has left its frame
 pub record SetsFile {S : Type 0} (store : StoreMeaning S) (old new : S) (tables tables' : MapTables) (f : FilePage ℕ) (home : Option Home) : Type 0 where
   pub told : (d : DrumWords) → FitsHomes (store.homes old) d
