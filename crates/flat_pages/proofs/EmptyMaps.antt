@@ -62,7 +62,7 @@ fewer_on p q r f k l = record {
     by n true is = k.objects n ∙ ap (λ b. cond b (fin.get p.objects n) None) (l.named n is)
     by n false is = refl
 
-less_used : (j k : ℕ) → j ≤ k → nat_lt 0 j ≡ true → nat_lt 0 k ≡ true
+pub less_used : (j k : ℕ) → j ≤ k → nat_lt 0 j ≡ true → nat_lt 0 k ≡ true
 less_used j k le h = grind (arith, nat_tests)
 
 -- an entry of the fork's map that is emptied
@@ -102,7 +102,7 @@ page_there maps held k page lives l =
     let f = some_is (fork_at maps k) lives in
     some_entry (map_at maps k).entries page (omega (arith, l, held.pages k (fork_within maps k f.0 f.1)))
 
-core_on : {a b c : _} → StaysInCore a b 0 → StaysInCore b c 0 → StaysInCore a c 0
+pub core_on : {a b c : _} → StaysInCore a b 0 → StaysInCore b c 0 → StaysInCore a c 0
 core_on k l = record { maps = λ f h. l.maps f (k.maps f h); pages = λ n h. l.pages n (k.pages n h); frames = omega (arith, k.frames, l.frames) }
 
 module _ {S : Type 0} (store : StoreMeaning S) (k : ℕ) where
@@ -113,6 +113,8 @@ module _ {S : Type 0} (store : StoreMeaning S) (k : ℕ) where
     many = refl;
     forks = λ j. refl;
     entries = λ page l. absurd (omega (arith, l));
+    files = refl;
+    filed = refl;
     serials = refl;
     living = refl;
     limit = refl;
@@ -132,6 +134,8 @@ module _ {S : Type 0} (store : StoreMeaning S) (k : ℕ) where
     many = ap length sets.maps ∙ maps_length maps at Empty ∙ so_far.many;
     forks = λ j. ap (λ (ms : List HeldMap). fork_at ms j) sets.maps ∙ fork_set maps at Empty j ∙ so_far.forks j;
     entries = λ j l. ap (λ (ms : List HeldMap). held_entry ms (record { map = k; page = j })) sets.maps ∙ each j l;
+    files = sets.files ∙ so_far.files;
+    filed = sets.filed ∙ so_far.filed;
     serials = sets.serials ∙ so_far.serials;
     living = sets.living ∙ so_far.living;
     limit = sets.limit ∙ so_far.limit;

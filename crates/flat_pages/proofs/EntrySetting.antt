@@ -21,7 +21,7 @@ use Rattle.flat_pages.specs.declared.held_entry.HeldEntry.TheVariants.{Empty, Pa
 use Rattle.flat_pages.specs.declared.held_entry.Link.{Link}
 use Rattle.flat_pages.specs.declared.map_tables.MapTables.{MapTables}
 use Rattle.flat_pages.specs.HeldMaps.{fork_at, held_entry, with_entry, name_at, entry_of, maps_held, points_at}
-use Rattle.flat_pages.specs.SlotTables.{Tables, share_of, AreTables}
+use Rattle.flat_pages.specs.SlotTables.{Tables, files_held, share_of, AreTables}
 use Rattle.flat_pages.specs.SlotTouches.{scene_of, home_named, is_alone}
 use Rattle.flat_pages.specs.SlotMeaning.{AreTold}
 use Rattle.flat_pages.specs.TableSteps.{tables_of, entry_kept, entry_left, home_freed}
@@ -29,8 +29,10 @@ use Rattle.flat_pages.specs.SlotSteps.{HomeStays, NamesHome, SetsEntry}
 use Rattle.flat_pages.proofs.HeldEntries.{points_self}
 use Rattle.flat_pages.proofs.LivingMaps.{entry_held}
 use Rattle.flat_pages.proofs.Settling.{sized_of, content_other, fits_set}
-use Rattle.flat_pages.proofs.Told.{maps_set, none_else, entry_still}
-use Rattle.flat_pages.proofs.Leaving.{kept_tables, left_tables, freed_tables, name_kept, name_gone, named_of, told_set}
+use Rattle.flat_pages.proofs.Told.{maps_set, none_else, none_filed, entry_still}
+use Rattle.flat_pages.proofs.FiledHomes.{files_still}
+use Rattle.flat_pages.proofs.Leaving.{kept_tables, left_tables, freed_tables, name_kept, named_of, told_set}
+use Rattle.flat_pages.proofs.GivenUp.{gone_not, freed_stays, freed_core}
 use Rattle.flat_pages.proofs.Telling.{named_home, tables_told}
 use Rattle.flat_pages.proofs.Touching.{home_is}
 
@@ -38,13 +40,6 @@ use Rattle.flat_pages.proofs.Touching.{home_is}
 pub lives_used : (o : Option ForkName) (e : HeldEntry) → IsSome o → o ≡ None → e ≡ Empty
 lives_used None e some none = absurd (cc some)
 lives_used (Some f) e some none = absurd (cc none)
-
--- a home that is given up is free
-free_set : (places : List HomePlace) (k : ℕ) → place (slice_set places k free) k ≡ free
-free_set places k = elim (cases_lt k (length places)) [
-  | inl below ↦ get_or-set_same places k free free below
-  | inr over ↦ get_or_past (slice_set places k free) k free (omega (arith, over, length-set places k free))
-]
 
 pub same_core : (scene : Scene) → StaysInCore scene scene 0
 same_core scene = record { maps = λ f h. h; pages = λ n h. h; frames = omega arith }
@@ -57,7 +52,7 @@ module _ {S : Type 0} (store : StoreMeaning S) (old new : S) (sound_old : IsSoun
   t' = tables_of (store.homes new) tables'
 
   -- what names and words are left are those that were
-  pub sets_entry : AreTables t → AreTables t' → held_entry t.maps at ≡ Some q → t'.maps ≡ with_entry t.maps at e → t'.serials ≡ t.serials → t'.living ≡ t.living → t'.limit ≡ t.limit
+  pub sets_entry : AreTables t → AreTables t' → held_entry t.maps at ≡ Some q → t'.maps ≡ with_entry t.maps at e → t'.files ≡ t.files → files_held t'.names t'.files ≡ files_held t.names t.files → t'.serials ≡ t.serials → t'.living ≡ t.living → t'.limit ≡ t.limit
       → ((k : ℕ) (n : PageName) → name_at t'.names k ≡ Some n → name_at t.names k ≡ Some n)
       → ((d : DrumWords) (k : ℕ) (n : PageName) → name_at t'.names k ≡ Some n → content t'.places d k ≡ content t.places d k)
       → ((b : EntryAt) (x : HeldEntry) → b ≢ at → held_entry t.maps b ≡ Some x → entry_of t'.names x ≡ entry_of t.names x)
@@ -69,14 +64,16 @@ module _ {S : Type 0} (store : StoreMeaning S) (old new : S) (sound_old : IsSoun
       → Loses (traffic store old) (traffic store new)
       → RenewsNone (traffic store old) (traffic store new)
       → SetsEntry store old new tables tables' at e
-  sets_entry a a' there maps serials living limit names words others same fits homes frames core lost used = record {
+  sets_entry a a' there maps files filed serials living limit names words others same fits homes frames core lost used = record {
     told = λ d s is fit. (
       fits d fit,
       told_set t t' a a' d (sized_of t.places d fit sound_old.pages) (sized_of t'.places d (fits d fit) sound_new.pages) names (words d) serials limit s (entry_of t.names q) (entry_of t.names e)
           (entry_held t.names t.maps a.held.once at s is ∙ ap (option_map (entry_of t.names)) there)
-          (ap (maps_held t'.names) maps ∙ maps_set t.names t'.names t.maps a.held at q e s is there others ∙ ap (λ (y : MapEntry). set_entry (maps_held t.names t.maps) s y) same),
+          (ap (maps_held t'.names) maps ∙ maps_set t.names t'.names t.maps a.held at q e s is there others ∙ ap (λ (y : MapEntry). set_entry (maps_held t.names t.maps) s y) same) filed,
     );
     maps = maps;
+    files = files;
+    filed = filed;
     serials = serials;
     living = living;
     limit = limit;
@@ -93,7 +90,7 @@ module _ {S : Type 0} (store : StoreMeaning S) (old new : S) (sound_old : IsSoun
     used = lives_used (fork_at t.maps at.map) e lives
 
     -- names and places stay, and the maps and the counts are others
-    module _ (u : Tables) (is : t' ≡ u) (a' : AreTables u) (maps : u.maps ≡ with_entry t.maps at e) (serials : u.serials ≡ t.serials) (living : u.living ≡ t.living) (limit : u.limit ≡ t.limit) (names : u.names ≡ t.names) (places : u.places ≡ t.places) where
+    module _ (u : Tables) (is : t' ≡ u) (a' : AreTables u) (maps : u.maps ≡ with_entry t.maps at e) (files : u.files ≡ t.files) (serials : u.serials ≡ t.serials) (living : u.living ≡ t.living) (limit : u.limit ≡ t.limit) (names : u.names ≡ t.names) (places : u.places ≡ t.places) where
       pub same_names_agree : AreTables t'
       same_names_agree = subst AreTables (sym is) a'
 
@@ -103,12 +100,15 @@ module _ {S : Type 0} (store : StoreMeaning S) (old new : S) (sound_old : IsSoun
       names_are : t'.names ≡ t.names
       names_are = ap (λ (x : Tables). x.names) is ∙ names
 
+      files_are : t'.files ≡ t.files
+      files_are = ap (λ (x : Tables). x.files) is ∙ files
+
       places_are : t'.places ≡ t.places
       places_are = ap (λ (x : Tables). x.places) is ∙ places
 
       pub same_names_set : SetsEntry store old new tables tables' at e
       same_names_set =
-          sets_entry a same_names_agree there (ap (λ (x : Tables). x.maps) is ∙ maps) (ap (λ (x : Tables). x.serials) is ∙ serials) (ap (λ (x : Tables). x.living) is ∙ living) (ap (λ (x : Tables). x.limit) is ∙ limit)
+          sets_entry a same_names_agree there (ap (λ (x : Tables). x.maps) is ∙ maps) files_are (λ i. files_held (names_are i) (files_are i)) (ap (λ (x : Tables). x.serials) is ∙ serials) (ap (λ (x : Tables). x.living) is ∙ living) (ap (λ (x : Tables). x.limit) is ∙ limit)
           (λ k n h. ap (λ ns. name_at ns k) (sym names_are) ∙ h)
           (λ d k n h. ap (λ ps. content ps d k) places_are)
           (λ b x ne h. ap (λ ns. entry_of ns x) names_are)
@@ -126,17 +126,17 @@ module _ {S : Type 0} (store : StoreMeaning S) (old new : S) (sound_old : IsSoun
     pub kept_step : ((k : ℕ) → points_at k e ≡ points_at k q) → t' ≡ entry_kept t at e → AreTables t' × AreTold t' × SetsEntry store old new tables tables' at e
     kept_step same is =
         let a' = kept_tables t a at q e there page used same in (
-          same_names_agree (entry_kept t at e) is a' refl refl refl refl refl refl,
-          same_names_told (entry_kept t at e) is a' refl refl refl refl refl refl,
-          same_names_set (entry_kept t at e) is a' refl refl refl refl refl refl,
+          same_names_agree (entry_kept t at e) is a' refl refl refl refl refl refl refl,
+          same_names_told (entry_kept t at e) is a' refl refl refl refl refl refl refl,
+          same_names_set (entry_kept t at e) is a' refl refl refl refl refl refl refl,
         )
 
     pub left_step : ((k : ℕ) → points_at k e ≡ 0) → ((k : ℕ) → points_at k q ≡ 1 → share_of t.shares k ≢ 1) → t' ≡ entry_left t at e → AreTables t' × AreTold t' × SetsEntry store old new tables tables' at e
     left_step none stays is =
         let a' = left_tables t a at q e there page used none stays in (
-          same_names_agree (entry_left t at e) is a' refl refl refl refl refl refl,
-          same_names_told (entry_left t at e) is a' refl refl refl refl refl refl,
-          same_names_set (entry_left t at e) is a' refl refl refl refl refl refl,
+          same_names_agree (entry_left t at e) is a' refl refl refl refl refl refl refl,
+          same_names_told (entry_left t at e) is a' refl refl refl refl refl refl refl,
+          same_names_set (entry_left t at e) is a' refl refl refl refl refl refl refl,
         )
 
   -- the page that the entry alone named is given up
@@ -151,59 +151,23 @@ module _ {S : Type 0} (store : StoreMeaning S) (old new : S) (sound_old : IsSoun
     agrees : AreTables u
     agrees = freed_tables t a at q e there page used_here none h b q_is one
 
-    kept_name : (k : ℕ) → k ≢ h.0 → name_at u.names k ≡ name_at t.names k
-    kept_name = name_kept t a at q e there page used_here none h b q_is one
-
-    old_name : (k : ℕ) (n : PageName) → name_at u.names k ≡ Some n → name_at t.names k ≡ Some n
-    old_name = named_of t a at q e there page used_here none h b q_is one
-
-    not_h : (k : ℕ) (n : PageName) → name_at u.names k ≡ Some n → k ≢ h.0
-    not_h k n named same = (let z : None ≡ Some n = sym (name_gone t a at q e there page used_here none h b q_is one) ∙ ap (name_at u.names) (sym same) ∙ named in cc z)
-
     others_still : (c : EntryAt) (x : HeldEntry) → c ≢ at → held_entry t.maps c ≡ Some x → entry_of u.names x ≡ entry_of t.names x
-    others_still c x ne held = entry_still t.names u.names h.0 x kept_name (none_else t a at c q x h.0 there (one ∙ sym (ap (points_at h.0) q_is ∙ points_self h b)) ne held)
-
-    frames_still : StaysInCore (scene_of t (store.spare old)) (scene_of u (store.spare new)) 0
-    frames_still = record { maps = λ f e. e; pages = λ n away. by n away (home_named u.names n) refl; frames = omega (arith, given_up.spare) }
-      where
-        by : (n : PageName) → option_and_then (away_at t.places) (home_named t.names n) ≡ None → (o : Option ℕ) → home_named u.names n ≡ o → option_and_then (away_at u.places) (home_named u.names n) ≡ None
-        by n away None is = ap (option_and_then (away_at u.places)) is
-        by n away (Some k) is =
-            let named = named_home u.names n k is in
-            let before = old_name k n named in
-            let home : home_named t.names n ≡ Some k = home_is t.names k n before (λ j f. a.once j k n f before) in
-            ap (option_and_then (away_at u.places)) is
-            ∙ ap (λ p. away_home p k) (get_or-set_other t.places h.0 k free free (not_h k n named))
-            ∙ sym (ap (option_and_then (away_at t.places)) home) ∙ away
-
-    -- and this home alone goes
-    stays_or_goes : (k : ℕ) → HomeStays t u k (NamesHome t.maps at k)
-    stays_or_goes k = elim (cases_eq k h.0) [
-      | inl same ↦ inr (
-        ap (place u.places) same ∙ gone,
-        ap (name_at u.names) same ∙ name_gone t a at q e there page used_here none h b q_is one,
-        record { access = b; is = there ∙ ap Some q_is ∙ ap (λ (n : ℕ). Some (Page (record { 0 = n }) b)) (sym same) },
-      )
-      | inr ne ↦ inl (get_or-set_other t.places h.0 k free free ne, kept_name k ne)
-    ]
-      where
-        gone : place u.places h.0 ≡ free
-        gone = free_set t.places h.0
+    others_still c x ne held = entry_still t.names u.names h.0 x (name_kept t a h one) (none_else t a at c q x h.0 there (one ∙ sym (ap (points_at h.0) q_is ∙ points_self h b)) ne held)
 
     pub freed_step : AreTables t' × AreTold t' × SetsEntry store old new tables tables' at e
     freed_step =
         let a' : AreTables t' = subst AreTables (sym is) agrees in (
           a',
           tables_told t' a' sound_new.pages,
-          sets_entry a a' there (ap (λ (x : Tables). x.maps) is) (ap (λ (x : Tables). x.serials) is) (ap (λ (x : Tables). x.living) is) (ap (λ (x : Tables). x.limit) is)
-              (λ k n f. old_name k n (ap (λ (x : Tables). name_at x.names k) (sym is) ∙ f))
-              (λ d k n f. ap (λ (x : Tables). content x.places d k) is ∙ content_other t.places d h.0 k free (not_h k n (ap (λ (x : Tables). name_at x.names k) (sym is) ∙ f)))
+          sets_entry a a' there (ap (λ (x : Tables). x.maps) is) (ap (λ (x : Tables). x.files) is) (ap (λ (x : Tables). files_held x.names x.files) is ∙ files_still t.names u.names t.files h.0 (none_filed t a at q h.0 there (one ∙ sym (ap (points_at h.0) q_is ∙ points_self h b))) (name_kept t a h one)) (ap (λ (x : Tables). x.serials) is) (ap (λ (x : Tables). x.living) is) (ap (λ (x : Tables). x.limit) is)
+              (λ k n f. named_of t a h one k n (ap (λ (x : Tables). name_at x.names k) (sym is) ∙ f))
+              (λ d k n f. ap (λ (x : Tables). content x.places d k) is ∙ content_other t.places d h.0 k free (gone_not t a h one k n (ap (λ (x : Tables). name_at x.names k) (sym is) ∙ f)))
               (λ c x ne held. ap (λ (y : Tables). entry_of y.names x) is ∙ others_still c x ne held)
-              (ap (λ (y : Tables). entry_of y.names e) is ∙ entry_still t.names u.names h.0 e kept_name (none h.0))
+              (ap (λ (y : Tables). entry_of y.names e) is ∙ entry_still t.names u.names h.0 e (name_kept t a h one) (none h.0))
               (λ d fit. subst (λ (x : Tables). FitsHomes x.places d) (sym is) (fits_set t.places d h.0 free fit))
-              (λ k. subst (λ (x : Tables). HomeStays t x k (NamesHome t.maps at k)) (sym is) (stays_or_goes k))
+              (λ k. subst (λ (x : Tables). HomeStays t x k (NamesHome t.maps at k)) (sym is) (freed_stays t a h one (NamesHome t.maps at) (record { access = b; is = there ∙ ap Some q_is }) k))
               (λ none. absurd (none h.0 (record { access = b; is = there ∙ ap Some q_is })))
-              (subst (λ (x : Tables). StaysInCore (scene_of t (store.spare old)) (scene_of x (store.spare new)) 0) (sym is) frames_still)
+              (subst (λ (x : Tables). StaysInCore (scene_of t (store.spare old)) (scene_of x (store.spare new)) 0) (sym is) (freed_core store old new t a h one given_up))
               (loses_freed store old new h.0 given_up) (freed_none store old new h.0 given_up),
         )
 

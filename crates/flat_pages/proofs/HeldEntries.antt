@@ -102,6 +102,24 @@ module _ (maps : List HeldMap) (at : EntryAt) (e : HeldEntry) where
       let is : w (slice_index_or es at.page Empty) ≡ w old = ap w (get_or_from_slice_get es at.page old Empty h) in
       omega (arith, sum_by-set (λ (m : HeldMap). sum_by w m.entries) maps at.map (entry_set (map_at maps at.map) at.page e) (record { fork = None; entries = [] }) l, here, is)
 
+-- an entry that is set twice
+pub entry_twice : (maps : List HeldMap) (at : EntryAt) (e x : HeldEntry) → with_entry (with_entry maps at e) at x ≡ with_entry maps at x
+entry_twice maps at e x = elim (cases_lt at.map (length maps)) [
+  | inl l ↦ ap (λ (m : HeldMap). slice_set (with_entry maps at e) at.map (entry_set m at.page x)) (map_set_same maps at e l) ∙ ap (λ es. slice_set (with_entry maps at e) at.map (record (map_at maps at.map) { entries = es })) (set_twice (map_at maps at.map).entries at.page e x)
+      ∙ set_twice maps at.map (entry_set (map_at maps at.map) at.page e) (entry_set (map_at maps at.map) at.page x)
+  | inr past ↦ set_past (with_entry maps at e) at.map _ (omega (arith, past, maps_length maps at e)) ∙ set_past maps at.map _ past ∙ sym (set_past maps at.map _ past)
+]
+  where
+    set_twice : {A : Type 0} (xs : List A) (i : ℕ) (y z : A) → slice_set (slice_set xs i y) i z ≡ slice_set xs i z
+    set_twice [] i y z = refl
+    set_twice (w ∷ xs) zero y z = refl
+    set_twice (w ∷ xs) (suc i) y z = ap (λ ys. w ∷ ys) (set_twice xs i y z)
+
+    set_past : {A : Type 0} (xs : List A) (i : ℕ) (y : A) → length xs ≤ i → slice_set xs i y ≡ xs
+    set_past [] i y l = refl
+    set_past (w ∷ xs) zero y l = absurd (omega (arith, l))
+    set_past (w ∷ xs) (suc i) y l = ap (λ ys. w ∷ ys) (set_past xs i y (omega (arith, l)))
+
 -- an entry's number is no more than the sum, where an empty entry counts nothing
 pub total_le : (w : HeldEntry → ℕ) (maps : List HeldMap) (at : EntryAt) (e : HeldEntry) → w Empty ≡ 0 → held_entry maps at ≡ Some e → w e ≤ entries_total w maps
 total_le w maps at e none h = omega (arith, total_with maps at Empty w e h, none)

@@ -9,7 +9,9 @@ use Rattle.machine_names.specs.declared.names.Access.{Access}
 use Rattle.page_homes.specs.declared.homes.Home.{Home}
 use Rattle.machine_names.specs.declared.names.PageName.{PageName}
 use Rattle.machine_names.specs.declared.names.Tty.{Tty}
-use Rattle.machine_names.specs.declared.names.TheConstants.{SPACE_PAGES}
+use Rattle.std.specs.FinMap as fin
+use Rattle.machine_names.specs.Orders.{FilePage}
+use Rattle.machine_names.specs.declared.names.TheConstants.{SPACE_PAGES, MOST_FILES, FILE_PAGES}
 use Rattle.machine_names.specs.Bounds.{IsOwner}
 use Rattle.page_contracts.specs.Stores.{HomePlace, free, away, here, place, is_free, is_taken, free_homes}
 use Rattle.flat_pages.specs.declared.held_entry.EntryAt.{EntryAt}
@@ -19,8 +21,9 @@ use Rattle.flat_pages.specs.declared.held_entry.Link.{Link}
 use Rattle.flat_pages.specs.declared.held_map.HeldMap.{HeldMap}
 use Rattle.flat_pages.specs.Serials.{serial_of, with_next}
 use Rattle.flat_pages.specs.HeldMaps.{map_at, fork_at, held_entry, with_entry, entry_set, name_at, points_at, entries_total, living_in, AreHeld}
-use Rattle.flat_pages.specs.SlotTables.{Tables, share_of, AreTables}
-use Rattle.flat_pages.specs.TableSteps.{next_name, left_shares, home_taken, home_renamed}
+use Rattle.flat_pages.specs.SlotTables.{Tables, share_of, filed_total, AreTables}
+use Rattle.flat_pages.specs.TableSteps.{next_name, left_shares, home_filed, home_taken, home_renamed}
+use Rattle.flat_pages.proofs.FiledHomes.{at_itself, at_other, filed_more, filed_within}
 use Rattle.flat_pages.proofs.HeldEntries.{at_tells, held_within, fork_set, maps_length, entries_length, entry_same, entry_other, total_with, total_le, points_self, points_here, points_other}
 use Rattle.flat_pages.proofs.NextSerials.{next_own, next_later, next_length}
 
@@ -136,6 +139,38 @@ module _ (t : Tables) (a : AreTables t) (owner : Tty) (own : IsOwner owner) (hom
   counted_names : count_by is_some names' + cond (is_some (name_at t.names home)) 1 0 ≡ count_by is_some t.names + 1
   counted_names = sum_by-set (λ (o : Option PageName). cond (is_some o) 1 0) t.names home (Some (next_name t.serials owner)) None (omega (arith, below, a.named))
 
+  -- a free home has a page now
+  module _ (page : HomePlace) (was_free : place t.places home ≡ free) (is_page : is_taken page ≡ true) where
+    no_name : is_some (name_at t.names home) ≡ false
+    no_name = sym (a.is_taken home) ∙ ap is_taken was_free
+
+    no_share : share_of t.shares home ≡ 0
+    no_share = none_shared (share_of t.shares home) (sym (a.shared home) ∙ no_name)
+
+    homes_below : home < length t.places
+    homes_below = omega (arith, below, a.homes)
+
+    taken_at : (k : ℕ) → is_taken (place (slice_set t.places home page) k) ≡ is_some (name_at names' k)
+    taken_at k = elim (cases_eq k home) [
+      | inl e ↦ ap (λ j. is_taken (place (slice_set t.places home page) j)) e ∙ ap is_taken (get_or-set_same t.places home page free homes_below) ∙ is_page ∙ sym (ap (λ j. is_some (name_at names' j)) e ∙ ap is_some name_here)
+      | inr ne ↦ ap is_taken (get_or-set_other t.places home k page free ne) ∙ a.is_taken k ∙ sym (ap is_some (name_other k ne))
+    ]
+
+    freed : t.taken + 1 + free_homes (slice_set t.places home page) ≡ t.limit
+    freed =
+        let s = sum_by-set (λ (p : HomePlace). cond (is_free p) 1 0) t.places home page free homes_below in
+        let old : ◌≡◌ {A = ℕ} (cond (is_free (place t.places home)) 1 0) 1 = ap (λ p. cond (is_free p) 1 0) was_free in
+        let now : ◌≡◌ {A = ℕ} (cond (is_free page) 1 0) 0 = not_free page is_page in
+        omega (arith, s, old, now, a.free)
+      where
+        not_free : (p : HomePlace) → is_taken p ≡ true → ◌≡◌ {A = ℕ} (cond (is_free p) 1 0) 0
+        not_free free e = absurd (cc e)
+        not_free away e = refl
+        not_free (here words) e = refl
+
+    named_more : count_by is_some names' ≡ t.taken + 1
+    named_more = let none : ◌≡◌ {A = ℕ} (cond (is_some (name_at t.names home)) 1 0) 0 = ap (λ c. cond c 1 0) no_name in omega (arith, a.taken, counted_names, none)
+
   -- a free home is taken; the page that the entry named keeps another name
   module _ (at : EntryAt) (q : HeldEntry) (page : HomePlace) (b : Access) (there : held_entry t.maps at ≡ Some q) (lives : fork_at t.maps at.map ≢ None) (was_free : place t.places home ≡ free) (is_page : is_taken page ≡ true)
       (stays : (k : ℕ) → points_at k q ≡ 1 → share_of t.shares k ≢ 1) (room : t.taken + t.living + 1 ≤ t.limit) where
@@ -144,12 +179,6 @@ module _ (t : Tables) (a : AreTables t) (owner : Tty) (own : IsOwner owner) (hom
 
     abbrev t' : Tables
     t' = home_taken t at h page b owner
-
-    no_name : is_some (name_at t.names home) ≡ false
-    no_name = sym (a.is_taken home) ∙ ap is_taken was_free
-
-    no_share : share_of t.shares home ≡ 0
-    no_share = none_shared (share_of t.shares home) (sym (a.shared home) ∙ no_name)
 
     le : (k : ℕ) → points_at k q ≤ share_of t.shares k
     le k = omega (arith, a.shares k, total_le (points_at k) t.maps at q refl there)
@@ -166,12 +195,12 @@ module _ (t : Tables) (a : AreTables t) (owner : Tty) (own : IsOwner owner) (hom
     share_other : (k : ℕ) → k ≢ home → share_of t'.shares k ≡ share_of (left_shares t.shares (held_entry t.maps at)) k
     share_other k ne = get_or-set_other (left_shares t.shares (held_entry t.maps at)) home k 1 0 ne
 
-    shares_are : (k : ℕ) → share_of t'.shares k ≡ entries_total (points_at k) t'.maps
+    shares_are : (k : ℕ) → share_of t'.shares k ≡ entries_total (points_at k) t'.maps + filed_total k t.files
     shares_are k = elim (cases_eq k home) [
       | inl e ↦
           let w = total_with t.maps at (Page h b) (points_at home) q there in
-          let one : entries_total (points_at home) t'.maps ≡ 1 = omega (arith, w, le home, no_share, points_self h b, a.shares home) in
-          ap (share_of t'.shares) e ∙ share_here ∙ sym one ∙ ap (λ j. entries_total (points_at j) t'.maps) (sym e)
+          let one : entries_total (points_at home) t'.maps + filed_total home t.files ≡ 1 = omega (arith, w, le home, no_share page was_free is_page, points_self h b, a.shares home) in
+          ap (share_of t'.shares) e ∙ share_here ∙ sym one ∙ ap (λ j. entries_total (points_at j) t'.maps + filed_total j t.files) (sym e)
       | inr ne ↦ omega (arith, share_other k ne, left k, a.shares k, total_with t.maps at (Page h b) (points_at k) q there, points_other k h b (λ s. ne (sym s)))
     ]
 
@@ -189,46 +218,73 @@ module _ (t : Tables) (a : AreTables t) (owner : Tty) (own : IsOwner owner) (hom
           ∙ sym (ap (nat_lt 0) (share_other k ne))
     ]
 
-    homes_below : home < length t.places
-    homes_below = omega (arith, below, a.homes)
+    pub taken_tables : AreTables t'
+    taken_tables = record {
+      held = held_set t.maps a.held at q (Page h b) there (λ l c e. absurd (cc e)) (λ e. absurd (lives e));
+      homes = length-set t.places home page ∙ a.homes;
+      named = length-set t.names home (Some (next_name t.serials owner)) ∙ a.named;
+      counted = length-set (left_shares t.shares (held_entry t.maps at)) home 1 ∙ left_length t.shares (held_entry t.maps at) ∙ a.counted;
+      shares = shares_are;
+      filed = a.filed;
+      shared = shared;
+      is_taken = taken_at page was_free is_page;
+      once = renamed_once;
+      old = renamed_old;
+      owners = next_length t.serials owner ∙ a.owners;
+      taken = sym (named_more page was_free is_page);
+      free = freed page was_free is_page;
+      living = a.living ∙ sym (living_set t.maps a.held at q (Page h b) there (λ l c e. absurd (cc e)) (λ e. absurd (lives e)));
+      room = omega (arith, room);
+      few = a.few;
+    }
 
-    taken_at : (k : ℕ) → is_taken (place t'.places k) ≡ is_some (name_at t'.names k)
-    taken_at k = elim (cases_eq k home) [
-      | inl e ↦ ap (λ j. is_taken (place t'.places j)) e ∙ ap is_taken (get_or-set_same t.places home page free homes_below) ∙ is_page ∙ sym (ap (λ j. is_some (name_at t'.names j)) e ∙ ap is_some name_here)
-      | inr ne ↦ ap is_taken (get_or-set_other t.places home k page free ne) ∙ a.is_taken k ∙ sym (ap is_some (name_other k ne))
+  -- a free home is taken for a page that a file names
+  module _ (f : FilePage ℕ) (page : HomePlace) (bounds : (f.file < MOST_FILES) × (f.page < FILE_PAGES)) (none : fin.get t.files f ≡ None) (was_free : place t.places home ≡ free) (is_page : is_taken page ≡ true) (room : t.taken + t.living + 1 ≤ t.limit) where
+    abbrev own_home : Home
+    own_home = record { 0 = home }
+
+    abbrev u : Tables
+    u = home_filed t f own_home page owner
+
+    one_share : share_of u.shares home ≡ 1
+    one_share = get_or-set_same t.shares home 1 0 (omega (arith, below, a.counted))
+
+    same_share : (k : ℕ) → k ≢ home → share_of u.shares k ≡ share_of t.shares k
+    same_share k ne = get_or-set_other t.shares home k 1 0 ne
+
+    filed_shares : (k : ℕ) → share_of u.shares k ≡ entries_total (points_at k) t.maps + filed_total k u.files
+    filed_shares k = elim (cases_eq k home) [
+      | inl e ↦
+          let all : entries_total (points_at home) t.maps + filed_total home u.files ≡ 1 = omega (arith, a.shares home, no_share page was_free is_page, filed_more t.files f own_home home none, at_itself own_home) in
+          ap (share_of u.shares) e ∙ one_share ∙ sym all ∙ ap (λ j. entries_total (points_at j) t.maps + filed_total j u.files) (sym e)
+      | inr ne ↦ omega (arith, same_share k ne, a.shares k, filed_more t.files f own_home k none, at_other k own_home (λ e. ne (sym e)))
     ]
 
-    freed : t.taken + 1 + free_homes t'.places ≡ t.limit
-    freed =
-        let s = sum_by-set (λ (p : HomePlace). cond (is_free p) 1 0) t.places home page free homes_below in
-        let old : ◌≡◌ {A = ℕ} (cond (is_free (place t.places home)) 1 0) 1 = ap (λ p. cond (is_free p) 1 0) was_free in
-        let now : ◌≡◌ {A = ℕ} (cond (is_free page) 1 0) 0 = not_free page is_page in
-        omega (arith, s, old, now, a.free)
-      where
-        not_free : (p : HomePlace) → is_taken p ≡ true → ◌≡◌ {A = ℕ} (cond (is_free p) 1 0) 0
-        not_free free e = absurd (cc e)
-        not_free away e = refl
-        not_free (here words) e = refl
+    filed_shared : (k : ℕ) → is_some (name_at u.names k) ≡ nat_lt 0 (share_of u.shares k)
+    filed_shared k = elim (cases_eq k home) [
+      | inl e ↦ ap (λ j. is_some (name_at u.names j)) e ∙ ap is_some name_here ∙ sym (ap (λ j. nat_lt 0 (share_of u.shares j)) e ∙ ap (nat_lt 0) one_share)
+      | inr ne ↦ ap is_some (name_other k ne) ∙ a.shared k ∙ sym (ap (nat_lt 0) (same_share k ne))
+    ]
 
-    pub taken_tables : AreTables t'
-    taken_tables =
-        let none : ◌≡◌ {A = ℕ} (cond (is_some (name_at t.names home)) 1 0) 0 = ap (λ c. cond c 1 0) no_name in record {
-          held = held_set t.maps a.held at q (Page h b) there (λ l c e. absurd (cc e)) (λ e. absurd (lives e));
-          homes = length-set t.places home page ∙ a.homes;
-          named = length-set t.names home (Some (next_name t.serials owner)) ∙ a.named;
-          counted = length-set (left_shares t.shares (held_entry t.maps at)) home 1 ∙ left_length t.shares (held_entry t.maps at) ∙ a.counted;
-          shares = shares_are;
-          shared = shared;
-          is_taken = taken_at;
-          once = renamed_once;
-          old = renamed_old;
-          owners = next_length t.serials owner ∙ a.owners;
-          taken = omega (arith, a.taken, counted_names, none);
-          free = freed;
-          living = a.living ∙ sym (living_set t.maps a.held at q (Page h b) there (λ l c e. absurd (cc e)) (λ e. absurd (lives e)));
-          room = omega (arith, room);
-          few = a.few;
-        }
+    pub filed_tables : AreTables u
+    filed_tables = record {
+      held = a.held;
+      homes = length-set t.places home page ∙ a.homes;
+      named = length-set t.names home (Some (next_name t.serials owner)) ∙ a.named;
+      counted = length-set t.shares home 1 ∙ a.counted;
+      shares = filed_shares;
+      filed = filed_within t.files f own_home bounds a.filed;
+      shared = filed_shared;
+      is_taken = taken_at page was_free is_page;
+      once = renamed_once;
+      old = renamed_old;
+      owners = next_length t.serials owner ∙ a.owners;
+      taken = sym (named_more page was_free is_page);
+      free = freed page was_free is_page;
+      living = a.living;
+      room = omega (arith, room);
+      few = a.few;
+    }
 
   -- the home of the page that an entry alone names gets a new name
   module _ (at : EntryAt) (b c : Access) (there : held_entry t.maps at ≡ Some (Page (record { 0 = home }) c)) (lives : fork_at t.maps at.map ≢ None) (one : share_of t.shares home ≡ 1) where
@@ -252,6 +308,7 @@ module _ (t : Tables) (a : AreTables t) (owner : Tty) (own : IsOwner owner) (hom
           named = length-set t.names home (Some (next_name t.serials owner)) ∙ a.named;
           counted = a.counted;
           shares = λ k. omega (arith, a.shares k, total_with t.maps at (Page g b) (points_at k) (Page g c) there);
+          filed = a.filed;
           shared = λ k. named_still k ∙ a.shared k;
           is_taken = λ k. a.is_taken k ∙ sym (named_still k);
           once = renamed_once;

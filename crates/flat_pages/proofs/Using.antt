@@ -1,10 +1,12 @@
 -- Which page of a store a call on places uses, and what a touch needs first.
 use Rattle.std.proofs.Common.{◌≡◌, ℕ, List, true, false, Bool, cond, Option, None, Some, is_some, refl, sym, ◌∙◌, ap, subst, arith}
-use Rattle.std.specs.Prelude.{nat_lt}
+use Rattle.std.specs.Prelude.{nat_le, nat_lt, ◌+◌, ◌≤◌}
 use Rattle.std.specs.Option.{option_map, option_and_then}
 use Rattle.std.proofs.lemmas.Bool.Decides.{nat_tests}
 use Rattle.std.proofs.lemmas.List.{get_or-set_same}
 use Rattle.page_homes.specs.declared.homes.Home.{Home}
+use Rattle.machine_names.specs.declared.names.Kind.{Kind}
+use Rattle.machine_names.specs.declared.names.Kind.TheVariants.{Read, Write, Execute}
 use Rattle.machine_names.specs.declared.names.Place.{Place}
 use Rattle.machine_names.specs.declared.names.Place.TheVariants.{Fork}
 use Rattle.machine_names.specs.declared.names.Slot.{Slot}
@@ -12,15 +14,15 @@ use Rattle.page_contracts.specs.declared.answers.Found.{Found}
 use Rattle.page_contracts.specs.declared.answers.SpaceHandle.{SpaceHandle}
 use Rattle.page_contracts.specs.declared.answers.Touch.{Touch}
 use Rattle.page_contracts.specs.declared.answers.Touch.TheVariants.{Ready, Zero, Copy, NeedFrame, Full}
-use Rattle.page_contracts.specs.Pages.{PagesMeaning, StandsAt, TouchNeeds, UsesOne, absent_or, framed}
-use Rattle.page_contracts.specs.Stores.{StoreMeaning, HomePlace, free, away, here, IsMade, IsSound, IsUsed, Renews, away_at, away_home, is_here, place}
+use Rattle.page_contracts.specs.Pages.{PagesMeaning, StandsAt, StandsInSpace, TouchNeeds, UsesOne, absent_or, framed, is_in_core}
+use Rattle.page_contracts.specs.Stores.{StoreMeaning, HomePlace, free, away, here, IsMade, IsSound, IsUsed, Renews, away_at, away_home, free_homes, is_here, is_taken, place}
 use Rattle.flat_pages.specs.declared.chain_walk.Walk.{Walk}
 use Rattle.flat_pages.specs.declared.held_entry.EntryAt.{EntryAt}
 use Rattle.flat_pages.specs.HeldMaps.{index_of, held_entry}
 use Rattle.flat_pages.specs.SlotMeaning.{place_along, slots_meaning, within}
-use Rattle.flat_pages.specs.SlotTables.{Tables}
+use Rattle.flat_pages.specs.SlotTables.{Tables, AreTables}
 use Rattle.flat_pages.specs.Walks.{walk}
-use Rattle.flat_pages.specs.SlotTouches.{has_room, is_alone, scene_of, touch_copy, touch_made, walk_of}
+use Rattle.flat_pages.specs.SlotTouches.{has_room, is_alone, scene_of, touch_copy, touch_filed, touch_made, walk_of}
 use Rattle.flat_pages.proofs.HandedOn.{used_within}
 use Rattle.flat_pages.proofs.Settled.{EndsAt}
 
@@ -38,18 +40,20 @@ along_walk found t s space e = by (index_of t.maps s.fork) refl e
         ∙ sym (ap (λ (o : Option ℕ). option_and_then (λ (w : Walk). option_and_then (λ h. found h.0) w.home) (option_and_then (λ i. walk t.maps (record { map = i; page = s.page })) o)) is)
 
 module _ {P S : Type 0} (store : StoreMeaning S) (part : P → S) (tables : P → Tables) (p : P) (at : Place) (home : ℕ) (stands : StandsAt (slots_meaning store part tables) p at home) (s : Slot) (is : at ≡ Fork s) (w : Walk) (walks : walk_of (tables p).maps s ≡ Some w) where
+  in_space : StandsInSpace (slots_meaning store part tables) p s home
+  in_space = subst (λ (x : Place). StandsAt (slots_meaning store part tables) p x home) is stands
+
   -- the page of a place that was found is at the end of its chain
-  found_by : option_and_then (λ h. store.found (part p) h.0) w.home ≡ Some stands.found
+  found_by : option_and_then (λ h. store.found (part p) h.0) w.home ≡ Some in_space.found
   found_by =
-      let same : stands.slot ≡ s = (let z : Fork stands.slot ≡ Fork s = sym stands.is ∙ is in cc z) in
-      sym (ap (λ (o : Option Walk). option_and_then (λ v. option_and_then (λ h. store.found (part p) h.0) v.home) o) (ap (walk_of (tables p).maps) same ∙ walks))
-      ∙ sym (along_walk (store.found (part p)) (tables p) stands.slot stands.space stands.named) ∙ stands.there
+      sym (ap (λ (o : Option Walk). option_and_then (λ v. option_and_then (λ h. store.found (part p) h.0) v.home) o) walks)
+      ∙ sym (along_walk (store.found (part p)) (tables p) s in_space.space in_space.named) ∙ in_space.there
 
   pub stands_home : IsSound store (part p) → (h : Home) → w.home ≡ Some h → h.0 ≡ home
-  stands_home sound h is_home = sound.apart h.0 home stands.found (sym (ap (option_and_then (λ (x : Home). store.found (part p) x.0)) is_home) ∙ found_by) stands.here
+  stands_home sound h is_home = sound.apart h.0 home in_space.found (sym (ap (option_and_then (λ (x : Home). store.found (part p) x.0)) is_home) ∙ found_by) in_space.here
 
   pub stands_nowhere : w.home ≡ None → ⊥
-  stands_nowhere none = (let z : None ≡ Some stands.found = sym (ap (option_and_then (λ (x : Home). store.found (part p) x.0)) none) ∙ found_by in cc z)
+  stands_nowhere none = (let z : None ≡ Some in_space.found = sym (ap (option_and_then (λ (x : Home). store.found (part p) x.0)) none) ∙ found_by in cc z)
 
   -- so that page is used
   pub used_at : (q : P) → IsSound store (part p) → (h : Home) → w.home ≡ Some h → IsUsed store h.0 (part p) (part q) → IsUsed (within store part) home p q
@@ -68,13 +72,11 @@ module _ {P S : Type 0} (store : StoreMeaning S) (part : P → S) (tables : P �
   found_of None e = absurd (cc e)
   found_of (Some found) e = (found, refl)
 
-  stands_there : StandsAt means q at h.0
-  stands_there =
+  stands_slot : StandsInSpace means q s h.0
+  stands_slot =
       let space = space_of (index_of (tables q).maps s.fork) lives in
       let found = found_of (store.found (part q) h.0) (sound.finds h.0 ∙ there) in
       record {
-        slot = s;
-        is = is;
         space = space.0;
         named = space.1;
         found = found.0;
@@ -82,6 +84,9 @@ module _ {P S : Type 0} (store : StoreMeaning S) (part : P → S) (tables : P �
             ∙ ap (option_and_then (λ (w : Walk). option_and_then (λ (x : Home). store.found (part q) x.0) w.home)) ends.is ∙ ap (option_and_then (λ (x : Home). store.found (part q) x.0)) ends.home ∙ found.1;
         here = found.1;
       }
+
+  stands_there : StandsAt means q at h.0
+  stands_there = subst (λ (x : Place). StandsAt means q x h.0) (sym is) stands_slot
 
   pub uses_there : Renews h.0 (store.tenant (part q)) (store.age (part p)) (store.age (part q)) → UsesOne means at p q
   uses_there renews = record { home = h.0; stands = stands_there; here = there; renews = renews }
@@ -124,3 +129,47 @@ module _ {P : Type 0} (m : StoreMeaning P) (p : P) (t : Tables) (same : m.homes 
       by : (b : Bool) → TouchNeeds m p (touch_copy t (scene_of t (m.spare p)) (away_at t.places h.0) b)
       by true = absent_needs h.0 (Copy true) tt
       by false = room_needs (has_room t 1) (absent_or (away_at t.places h.0) (framed (scene_of t (m.spare p)) (Copy false))) (absent_needs h.0 (framed (scene_of t (m.spare p)) (Copy false)) (framed_needs (Copy false) tt))
+
+  pub filed_needs : (kind : Kind) (home : Option Home) → TouchNeeds m p (touch_filed (away_at t.places) t (scene_of t (m.spare p)) kind home)
+  filed_needs kind (Some h) = made_needs (Some h) None
+  filed_needs Write None = made_needs None None
+  filed_needs Read None = tt
+  filed_needs Execute None = tt
+
+-- nothing is in no frame where nothing ever is
+module _ {P : Type 0} (m : StoreMeaning P) (p : P) (sound : IsSound m p) (flat : m.flat ≡ true) (t : Tables) (a : AreTables t) (same : m.homes p ≡ t.places) where
+  some_free : (n : ℕ) → 1 ≤ n → has_room t n ≡ true → nat_lt 0 (m.spare p) ≡ true
+  some_free n some room =
+      let frames : m.spare p ≡ free_homes t.places = sound.frames flat ∙ ap free_homes same in
+      above (m.spare p) (omega (arith, frames, a.free, fits (t.taken + t.living + n) t.limit room, some))
+    where
+      fits : (j k : ℕ) → nat_le j k ≡ true → j ≤ k
+      fits j k e = grind (arith, nat_tests, e)
+
+      above : (k : ℕ) → 1 ≤ k → nat_lt 0 k ≡ true
+      above k l = grind (arith, nat_tests)
+
+  framed_core : (n : ℕ) (x : Touch) → 1 ≤ n → is_in_core x ≡ true → is_in_core (cond (has_room t n) (framed (scene_of t (m.spare p)) x) Full) ≡ true
+  framed_core n x some core = by (has_room t n) refl
+    where
+      by : (b : Bool) → has_room t n ≡ b → is_in_core (cond b (framed (scene_of t (m.spare p)) x) Full) ≡ true
+      by true room = ap (λ b. is_in_core (cond b x NeedFrame)) (some_free n some room) ∙ core
+      by false room = refl
+
+  near_is : (h : ℕ) → is_taken (place t.places h) ≡ true → away_at t.places h ≡ None
+  near_is h taken = by (place t.places h) (sym (ap (λ (ps : List HomePlace). is_here (place ps h)) (sym same) ∙ sym (sound.core flat h) ∙ ap (λ (ps : List HomePlace). is_taken (place ps h)) same ∙ taken))
+    where
+      by : (q : HomePlace) → true ≡ is_here q → away_home q h ≡ None
+      by free e = refl
+      by away e = absurd (cc e)
+      by (here words) e = refl
+
+  pub made_core : (home : Option Home) (copy : Option EntryAt) → ((h : Home) → home ≡ Some h → is_taken (place t.places h.0) ≡ true) → is_in_core (touch_made (away_at t.places) t (scene_of t (m.spare p)) home copy) ≡ true
+  made_core None None taken = framed_core 1 Zero (omega arith) refl
+  made_core None (Some e) taken = framed_core 2 Zero (omega arith) refl
+  made_core (Some h) None taken = ap (λ o. is_in_core (absent_or o Ready)) (near_is h.0 (taken h refl))
+  made_core (Some h) (Some e) taken = ap (λ o. is_in_core (touch_copy t (scene_of t (m.spare p)) o (is_alone t.shares (held_entry t.maps e)))) (near_is h.0 (taken h refl)) ∙ by (is_alone t.shares (held_entry t.maps e))
+    where
+      by : (b : Bool) → is_in_core (touch_copy t (scene_of t (m.spare p)) None b) ≡ true
+      by true = refl
+      by false = framed_core 1 (Copy false) (omega arith) refl

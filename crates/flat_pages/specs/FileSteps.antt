@@ -43,6 +43,11 @@ SettlesFiled store old new tables tables' f owner None = FilesHome store old new
 abbrev pub IsFiled : PagesOf Home → FilePage ℕ → ℕ → Type 0
 IsFiled files f home = map.get files f ≡ Some (record { 0 = home })
 
+-- some file does
+pub record HasHome (files : PagesOf Home) (home : Home) : Type 0 where
+  pub at : FilePage ℕ
+  pub there : map.get files at ≡ Some home
+
 -- a page of a file was set, to that of a home or to none: what nothing names any more was given up, and nothing has left its frame
 pub record SetsFile {S : Type 0} (store : StoreMeaning S) (old new : S) (tables tables' : MapTables) (f : FilePage ℕ) (home : Option Home) : Type 0 where
   pub told : (d : DrumWords) → FitsHomes (store.homes old) d
@@ -50,7 +55,7 @@ pub record SetsFile {S : Type 0} (store : StoreMeaning S) (old new : S) (tables 
   pub here : map.get tables'.files f ≡ home
   pub others : (g : FilePage ℕ) → g ≢ f → map.get tables'.files g ≡ map.get tables.files g
   pub filed : (g : FilePage ℕ) → g ≢ f → filed_in (tables_of (store.homes new) tables') g ≡ filed_in (tables_of (store.homes old) tables) g
-  pub maps : tables'.maps ≡ tables.maps
+  pub maps : tables'.maps.held.items ≡ tables.maps.held.items
   pub serials : tables'.serials ≡ tables.serials
   pub living : tables'.living ≡ tables.living
   pub limit : tables'.limit ≡ tables.limit
@@ -81,7 +86,7 @@ pub record EmptiesFile {S : Type 0} (store : StoreMeaning S) (old new : S) (tabl
   pub gone : (page : ℕ) → page < pages → map.get tables'.files (file_page file page) ≡ None
   pub rest : (page : ℕ) → pages ≤ page → map.get tables'.files (file_page file page) ≡ map.get tables.files (file_page file page)
   pub filed : (f : FilePage ℕ) → f.file ≢ file → filed_in (tables_of (store.homes new) tables') f ≡ filed_in (tables_of (store.homes old) tables) f
-  pub maps : tables'.maps ≡ tables.maps
+  pub maps : tables'.maps.held.items ≡ tables.maps.held.items
   pub serials : tables'.serials ≡ tables.serials
   pub living : tables'.living ≡ tables.living
   pub limit : tables'.limit ≡ tables.limit

@@ -255,8 +255,8 @@ impl<S: Store> FlatSlots<S> {
     ghost use Rattle.machine_names.specs.declared.names.TheConstants.{MOST_FILES};
     ghost use Rattle.machine_names.specs.Orders.{file_page};
     ghost use Rattle.flat_pages.specs.HeldMaps.{name_at};
-    ghost use Rattle.flat_pages.specs.SlotTables.{filed_total, share_of};
-    ghost use Rattle.flat_pages.specs.FileSteps.{EmptiesFile, SetsFile};
+    ghost use Rattle.flat_pages.specs.SlotTables.{share_of};
+    ghost use Rattle.flat_pages.specs.FileSteps.{EmptiesFile, HasHome, SetsFile};
     ghost use Rattle.machine_names.specs.declared.names.Access.{Access as AnAccess};
     ghost use Rattle.page_contracts.specs.Stores.{IsFreed};
     ghost use Rattle.flat_pages.specs.declared.held_entry.HeldEntry.TheVariants as entry;
@@ -317,7 +317,7 @@ impl<S: Store> FlatSlots<S> {
     fn set_filed(&mut self, at: EntryAt, home: Home, access: Access)
         requires there { IsSome (held_entry self.old.tables.maps.held.items at) }
         requires lives { IsSome (fork_at self.old.tables.maps.held.items at.map) }
-        requires filed { 0 < filed_total home.0 self.old.tables.files }
+        requires filed { HasHome self.old.tables.files home }
         ensures { SetsEntry S.means self.old.store self.new.store self.old.tables self.new.tables at (entry.Page home access) }
     {
         self.set_unnamed(at, HeldEntry::Empty);

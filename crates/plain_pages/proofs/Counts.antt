@@ -4,8 +4,9 @@ use Rattle.std.specs.Prelude.{◌==◌, nat_lt}
 use Rattle.std.specs.List.{list_any, count_by, sum_by, filter_map, flat_map, cons_option}
 use Rattle.std.specs.Option.{option_map_or}
 use Rattle.std.specs.Ordering.{is_eq, eq_by_cmp}
-use Rattle.std.specs.Cmp.{IsTotalOrder}
+use Rattle.std.specs.Cmp.{IsTotalOrder, Equal-is}
 use Rattle.std.specs.FinMap as map
+use Rattle.std.proofs.lemmas.Cmp.{tied_itself}
 use Rattle.std.proofs.lemmas.List.Sums.{sum_by-cons, sum_by-append}
 use Rattle.std.proofs.lemmas.Bool.Decides.{eqb_tells, nat_tests}
 use Rattle.machine_names.specs.declared.names.PageName.{PageName}
@@ -204,6 +205,20 @@ module _ {K X : Type 0} {R : K → K → Ordering} (o : IsTotalOrder R) (w : X �
 
   pub total_insert : (m : map.FinMap R X) (k : K) (v : X) → sum_by w (map.values (map.insert m k v)) + option_map_or w (map.get m k) 0 ≡ sum_by w (map.values m) + w v
   total_insert m k v = ap (λ es. total es + at (map.get m k)) (map.entries-insert o m k v) ∙ ap (λ x. total (map.put R k v (map.entries m)) + at x) (map.get-entries m k) ∙ total_put k v (map.entries m) (map.entries_sorted m)
+
+-- a sum over the values of a map, without one of them
+pub total_without : {K X : Type 0} {R : K → K → Ordering} → IsTotalOrder R → map.IsAntisymmetric R → (w : X → ℕ) (m : map.FinMap R X) (k : K) (v : X) → map.get m k ≡ Some v → sum_by w (map.values (map.remove m k)) + w v ≡ sum_by w (map.values m)
+total_without {K} {X} {R} o same w m k v there =
+    let none : option_map_or w (map.get (map.remove m k) k) 0 ≡ 0 = ap (λ (p : Option X). option_map_or w p 0) (map.get-remove o m k k ∙ ap (λ r. cond (is_eq r) None (map.get m k)) (tied_itself o k)) in
+    let back : sum_by w (map.values (map.insert (map.remove m k) k v)) ≡ sum_by w (map.values m) = ap (λ (n : map.FinMap R X). sum_by w (map.values n)) (map.same_map o same (map.insert (map.remove m k) k v) m each) in
+    omega (arith, total_insert o w (map.remove m k) k v, none, back)
+  where
+    each : (j : K) → map.get (map.insert (map.remove m k) k v) j ≡ map.get m j
+    each j = map.get-insert o (map.remove m k) k v j ∙ by (eq_by_cmp R j k) refl
+      where
+        by : (b : Bool) → eq_by_cmp R j k ≡ b → cond b (Some v) (map.get (map.remove m k) j) ≡ map.get m j
+        by true is = let tied : j ≡ k = same j k ((Equal-is (R j k)).0 is) in sym (ap (map.get m) tied ∙ there)
+        by false is = map.get-remove o m k j ∙ ap (λ b. cond b None (map.get m j)) is
 
 -- a sum over the values of a map, over those at the keys that pass a test and the others
 module _ {K X : Type 0} (R : K → K → Ordering) (w : X → ℕ) where

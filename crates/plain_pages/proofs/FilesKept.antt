@@ -1,6 +1,6 @@
 -- What a change of a file's pages leaves: the pages that are still named, with their words.
-use Rattle.std.proofs.Common.{◌≡◌, ◌≢◌, ℕ, zero, suc, ◌+◌, ◌≤◌, Bool, true, false, cond, not, ◌||◌, List, [], ◌∷◌, length, Option, None, Some, inl, inr, refl, sym, ◌∙◌, ap, subst, arith, Ordering}
-use Rattle.std.specs.Prelude.{◌==◌, nat_lt, is_some}
+use Rattle.std.proofs.Common.{◌≡◌, ◌≢◌, ℕ, zero, suc, ◌+◌, ◌≤◌, Bool, true, false, cond, ◌||◌, List, [], ◌∷◌, Option, None, Some, inl, inr, refl, sym, ◌∙◌, ap, subst, arith, Ordering}
+use Rattle.std.specs.Prelude.{nat_lt}
 use Rattle.std.specs.List.{sum_by, count_by}
 use Rattle.std.specs.Option.{option_map_or}
 use Rattle.std.specs.Ordering.{eq_by_cmp}
@@ -8,20 +8,18 @@ use Rattle.std.specs.Cmp.{IsTotalOrder, Equal-is}
 use Rattle.std.specs.FinMap as map
 use Rattle.std.proofs.lemmas.Cmp.{tied_itself}
 use Rattle.std.proofs.lemmas.Bool.Decides.{nat_tests}
-use Rattle.machine_names.specs.declared.names.ForkName.{ForkName}
 use Rattle.machine_names.specs.declared.names.PageName.{PageName}
-use Rattle.machine_names.specs.declared.names.TheConstants.{SPACE_PAGES}
 use Rattle.machine_names.specs.Orders.{FilePage, file_page_cmp}
-use Rattle.plain_pages.specs.PlainPages.{PlainPages, Map, Maps}
+use Rattle.plain_pages.specs.PlainPages.{PlainPages, Maps}
 use Rattle.plain_pages.specs.Room.{same_page, uses, live}
 use Rattle.plain_pages.specs.References.{drop_unnamed, drop_all_unnamed}
 use Rattle.plain_pages.specs.FilePages.{files_with, with_file, other_files, names_of_file, without_file}
 use Rattle.plain_pages.specs.WholePages.{AreWhole}
 use Rattle.machine_names.proofs.OrderLemmas.{file_page_total, file_page_apart}
-use Rattle.plain_pages.proofs.Counts.{has, has_count, total_insert, values_split, page_tells, same_itself}
-use Rattle.plain_pages.proofs.Whole.{map_uses, tally, uses_are, live_whole}
+use Rattle.plain_pages.proofs.Counts.{has, has_count, total_insert, total_without, values_split, page_tells}
+use Rattle.plain_pages.proofs.Whole.{tally, uses_are, live_whole}
 use Rattle.plain_pages.proofs.Makings.{uses_objects}
-use Rattle.plain_pages.proofs.Kept.{AreStill, still_same, still_on, still_by, still_whole, drop_all_leaves, drop_all_len, file_there, named_some}
+use Rattle.plain_pages.proofs.Kept.{AreStill, still_same, still_on, still_by, still_whole, drop_all_leaves, drop_all_len}
 
 fewer : (j k : ℕ) → j ≤ k → nat_lt 0 k ≡ false → nat_lt 0 j ≡ false
 fewer j k le g = grind (arith, nat_tests)
@@ -90,9 +88,6 @@ module _ {K : Type 0} {file_cmp : K → K → Ordering} (o : IsTotalOrder file_c
   names_with p f (Some n) x = total_insert (file_page_total o) (tally x) p.files f n
   names_with p f None x = by (map.get p.files f) refl
     where
-      none : map.get (map.remove p.files f) f ≡ None
-      none = set_here p f None
-
       by : (old : Option PageName) → map.get p.files f ≡ old → sum_by (tally x) (map.values (map.remove p.files f)) + named_by x old ≡ sum_by (tally x) (map.values p.files) + 0
       by None is = ap (λ (m : Files). sum_by (tally x) (map.values m) + 0) (same_files (map.remove p.files f) p.files each)
         where
@@ -102,17 +97,7 @@ module _ {K : Type 0} {file_cmp : K → K → Ordering} (o : IsTotalOrder file_c
               at : (b : Bool) → eq_by_cmp (file_page_cmp file_cmp) g f ≡ b → cond b None (map.get p.files g) ≡ map.get p.files g
               at true e = sym (ap (map.get p.files) ((files_apart g f true e).0 refl) ∙ is)
               at false e = refl
-      by (Some v) is =
-          let zero : named_by x (map.get (map.remove p.files f) f) ≡ 0 = ap (named_by x) none in
-          let back : sum_by (tally x) (map.values (map.insert (map.remove p.files f) f v)) ≡ sum_by (tally x) (map.values p.files) = ap (λ (m : Files). sum_by (tally x) (map.values m)) (same_files (map.insert (map.remove p.files f) f v) p.files each) in
-          omega (arith, total_insert (file_page_total o) (tally x) (map.remove p.files f) f v, zero, back)
-        where
-          each : (g : FilePage K) → map.get (map.insert (map.remove p.files f) f v) g ≡ map.get p.files g
-          each g = map.get-insert (file_page_total o) (map.remove p.files f) f v g ∙ at (eq_by_cmp (file_page_cmp file_cmp) g f) refl
-            where
-              at : (b : Bool) → eq_by_cmp (file_page_cmp file_cmp) g f ≡ b → cond b (Some v) (map.get (map.remove p.files f) g) ≡ map.get p.files g
-              at true e = sym (ap (map.get p.files) ((files_apart g f true e).0 refl) ∙ is)
-              at false e = map.get-remove (file_page_total o) p.files f g ∙ ap (λ b. cond b None (map.get p.files g)) e
+      by (Some v) is = omega (arith, total_without (file_page_total o) (file_page_apart same) (tally x) p.files f v is)
 
   module _ (p : PlainPages file_cmp) (f : FilePage K) (n : Option PageName) where
     abbrev set : PlainPages file_cmp

@@ -4,7 +4,6 @@ use Rattle.std.specs.Prelude.{◌==◌, nat_lt, is_some, slice_get, slice_index,
 use Rattle.std.specs.List.{sum_by, filter_map}
 use Rattle.std.specs.Option.{option_map_or, option_and_then}
 use Rattle.std.specs.Ordering.{eq_by_cmp, is_eq}
-use Rattle.std.specs.Cmp.{Equal-is}
 use Rattle.std.specs.FinMap as map
 use Rattle.std.proofs.lemmas.Cmp.{tied_itself}
 use Rattle.std.proofs.lemmas.List.{length-set}
@@ -27,8 +26,8 @@ use Rattle.plain_pages.specs.References.{drop_unnamed, drop_all_unnamed, with_en
 use Rattle.plain_pages.specs.NewEntries.{IsNewEntry, entry_to, changed}
 use Rattle.plain_pages.specs.WholePages.{AreWhole}
 use Rattle.machine_names.proofs.OrderLemmas.{page_tied, page_cmp_total, page_cmp_apart, fork_cmp_total, fork_cmp_apart}
-use Rattle.plain_pages.proofs.Counts.{has, has_count, count_filtered, weight, total_insert, value_counted, Same, page_tells, same_itself}
-use Rattle.plain_pages.proofs.Chains.{entry_map, len_set}
+use Rattle.plain_pages.proofs.Counts.{has, has_count, count_filtered, weight, total_without, value_counted, Same, page_tells, same_itself}
+use Rattle.plain_pages.proofs.Chains.{entry_map, entry_set, len_set}
 use Rattle.plain_pages.proofs.Whole.{map_uses, tally, uses_are, live_whole}
 use Rattle.plain_pages.proofs.Makings.{names_set, uses_objects}
 
@@ -38,19 +37,9 @@ same_pages p q objects maps files page_serials console_serial limit =
     let same = map.same_map page_cmp_total page_cmp_apart p.objects q.objects objects in
     λ i. record { objects = same i; maps = maps i; files = files i; page_serials = page_serials i; console_serial = console_serial i; limit = limit i }
 
--- a sum over the values of a map, without one of them
+-- a sum over the maps of forks, without one of them
 pub total_remove : {X : Type 0} (w : X → ℕ) (m : map.FinMap fork_cmp X) (f : ForkName) (v : X) → map.get m f ≡ Some v → sum_by w (map.values (map.remove m f)) + w v ≡ sum_by w (map.values m)
-total_remove {X} w m f v there =
-    let none : option_map_or w (map.get (map.remove m f) f) 0 ≡ 0 = ap (λ (o : Option X). option_map_or w o 0) (map.get-remove fork_cmp_total m f f ∙ ap (λ r. cond (is_eq r) None (map.get m f)) (tied_itself fork_cmp_total f)) in
-    let back : sum_by w (map.values (map.insert (map.remove m f) f v)) ≡ sum_by w (map.values m) = ap (λ (n : map.FinMap fork_cmp X). sum_by w (map.values n)) (map.same_map fork_cmp_total fork_cmp_apart (map.insert (map.remove m f) f v) m each) in
-    omega (arith, total_insert fork_cmp_total w (map.remove m f) f v, none, back)
-  where
-    each : (g : ForkName) → map.get (map.insert (map.remove m f) f v) g ≡ map.get m g
-    each g = map.get-insert fork_cmp_total (map.remove m f) f v g ∙ by (eq_by_cmp fork_cmp g f) refl
-      where
-        by : (b : Bool) → eq_by_cmp fork_cmp g f ≡ b → cond b (Some v) (map.get (map.remove m f) g) ≡ map.get m g
-        by true is = let same : g ≡ f = fork_cmp_apart g f ((Equal-is (fork_cmp g f)).0 is) in sym (ap (map.get m) same ∙ there)
-        by false is = map.get-remove fork_cmp_total m f g ∙ ap (λ b. cond b None (map.get m g)) is
+total_remove = total_without fork_cmp_total fork_cmp_apart
 
 module _ {K : Type 0} {file_cmp : K → K → Ordering} where
   -- the pages of one that the other still names, each with its words, and the other parts but the maps and what files name
@@ -409,6 +398,57 @@ module _ {K : Type 0} {file_cmp : K → K → Ordering} where
       where
         same : (j k : ℕ) → j ≡ k → nat_lt 0 k ≡ false → nat_lt 0 j ≡ false
         same j k is g = grind (arith, nat_tests)
+
+-- an entry that is set again
+set_twice : {A : Type 0} (xs : List A) (i : ℕ) (x y : A) → slice_set (slice_set xs i x) i y ≡ slice_set xs i y
+set_twice [] i x y = refl
+set_twice (z ∷ xs) zero x y = refl
+set_twice (z ∷ xs) (suc i) x y = ap (λ ys. z ∷ ys) (set_twice xs i x y)
+
+set_again : (maps : Maps) (s : Slot) (y e : MapEntry) → set_entry (set_entry maps s y) s e ≡ set_entry maps s e
+set_again maps s y e = by (map.get maps s.fork) refl
+  where
+    at : Option Map → Maps → Maps
+    at o ms = option_map_or (λ m. map.insert ms s.fork (slice_set m s.page e)) o ms
+
+    by : (o : Option Map) → map.get maps s.fork ≡ o → set_entry (option_map_or (λ m. map.insert maps s.fork (slice_set m s.page y)) o maps) s e ≡ at o maps
+    by None is = ap (λ o. at o maps) is
+    by (Some m) is =
+        let mid : Maps = map.insert maps s.fork (slice_set m s.page y) in
+        let here : map.get mid s.fork ≡ Some (slice_set m s.page y) = map.get-insert fork_cmp_total maps s.fork (slice_set m s.page y) s.fork ∙ ap (λ r. cond (is_eq r) (Some (slice_set m s.page y)) (map.get maps s.fork)) (tied_itself fork_cmp_total s.fork) in
+        ap (λ o. at o mid) here ∙ ap (map.insert mid s.fork) (set_twice m s.page y e)
+        ∙ map.same_map fork_cmp_total fork_cmp_apart (map.insert mid s.fork (slice_set m s.page e)) (map.insert maps s.fork (slice_set m s.page e)) (λ f.
+          map.get-insert fork_cmp_total mid s.fork (slice_set m s.page e) f ∙ each f (eq_by_cmp fork_cmp f s.fork) refl ∙ sym (map.get-insert fork_cmp_total maps s.fork (slice_set m s.page e) f))
+      where
+        each : (f : ForkName) (b : Bool) → eq_by_cmp fork_cmp f s.fork ≡ b → cond b (Some (slice_set m s.page e)) (map.get (map.insert maps s.fork (slice_set m s.page y)) f) ≡ cond b (Some (slice_set m s.page e)) (map.get maps f)
+        each f true tied = refl
+        each f false tied = map.get-insert fork_cmp_total maps s.fork (slice_set m s.page y) f ∙ ap (λ b. cond b (Some (slice_set m s.page y)) (map.get maps f)) tied
+
+-- the same of the pages, where the page that is named then is still there
+module _ {K : Type 0} {file_cmp : K → K → Ordering} (p : PlainPages file_cmp) (w : AreWhole p) (s : Slot) (x y e : MapEntry) (h : entry_at p.maps s ≡ Some x) (none : page_in y ≡ None) (still_named : (n : PageName) → page_in e ≡ Some n → nat_lt 0 (uses (with_entry p s y) n) ≡ true) where
+  abbrev mid : PlainPages file_cmp
+  mid = with_entry p s y
+
+  mid_whole : AreWhole mid
+  mid_whole = entry_whole p w s x y h (λ n is. absurd (let z : None ≡ Some n = sym none ∙ is in cc z))
+
+  mid_entry : entry_at mid.maps s ≡ Some y
+  mid_entry = ap (λ (m : Maps). entry_at m s) (entry_maps p w s x y h) ∙ entry_set p.maps s x y h
+
+  mid_named : (n : PageName) → nat_lt 0 (uses (with_entry mid s e) n) ≡ true → nat_lt 0 (uses mid n) ≡ true
+  mid_named n named = by (page_in e) refl
+    where
+      by : (o : Option PageName) → page_in e ≡ o → nat_lt 0 (uses mid n) ≡ true
+      by None is = let no : weight (same_page n) page_in e ≡ 0 = ap (λ (o : Option PageName). option_map_or (tally n) o 0) is in at_least (uses (with_entry mid s e) n) (uses mid n) named (omega (arith, uses_entry mid mid_whole s y e mid_entry n, no))
+      by (Some m) is = elim (page_tells n m) [
+        | inl t ↦ ap (λ k. nat_lt 0 (uses mid k)) t.1 ∙ still_named m is
+        | inr t ↦ let no : weight (same_page n) page_in e ≡ 0 = ap (λ (o : Option PageName). option_map_or (tally n) o 0) is ∙ ap (λ b. cond b 1 0) t.0 in at_least (uses (with_entry mid s e) n) (uses mid n) named (omega (arith, uses_entry mid mid_whole s y e mid_entry n, no))
+      ]
+
+  pub entry_again : with_entry mid s e ≡ with_entry p s e
+  entry_again =
+      kept_same p (with_entry mid s e) (with_entry p s e) (kept_on p mid (with_entry mid s e) (entry_kept p w s x y h) (entry_kept mid mid_whole s y e mid_entry) mid_named) (entry_kept p w s x e h)
+      (entry_maps mid mid_whole s y e mid_entry ∙ ap (λ (m : Maps). set_entry m s e) (entry_maps p w s x y h) ∙ set_again p.maps s y e ∙ sym (entry_maps p w s x e h))
 
 -- a page that a file names is there
 pub file_there : {K : Type 0} {file_cmp : K → K → Ordering} (p : PlainPages file_cmp) → AreWhole p → (f : FilePage K) (n : PageName) → map.get p.files f ≡ Some n → map.contains_key p.objects n ≡ true

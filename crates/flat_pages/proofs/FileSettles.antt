@@ -1,0 +1,200 @@
+-- A page of a file that is settled: what its touch answered, and what it answers then.
+use Rattle.std.proofs.Common.{◌≡◌, ◌≢◌, inl, inr, ℕ, ◌+◌, ◌<◌, ◌≤◌, List, [], ◌∷◌, Bool, true, false, cond, Option, None, Some, length, refl, sym, ◌∙◌, ap, subst, arith, is_some}
+use Rattle.std.specs.Prelude.{nat_lt, nat_le, slice_set}
+use Rattle.std.specs.Option.{option_map, option_and_then, unwrap_or}
+use Rattle.std.specs.Cmp.{nat_cmp_total}
+use Rattle.std.specs.FinMap as fin
+use Rattle.std.proofs.lemmas.Bool.Decides.{nat_tests}
+use Rattle.std.proofs.lemmas.List.{get_or-set_same, get_or-set_other}
+use Rattle.machine_names.specs.declared.names.FileNo.{FileNo}
+use Rattle.machine_names.specs.declared.names.PageName.{PageName}
+use Rattle.machine_names.specs.declared.names.Place.{Place}
+use Rattle.machine_names.specs.declared.names.Place.TheVariants.{File}
+use Rattle.machine_names.specs.declared.names.Kind.{Kind}
+use Rattle.machine_names.specs.declared.names.Kind.TheVariants.{Read, Write, Execute}
+use Rattle.machine_names.specs.declared.names.Tty.{Tty}
+use Rattle.machine_names.specs.Bounds.{IsOwner}
+use Rattle.machine_names.specs.Orders.{FilePage, file_page}
+use Rattle.machine_names.specs.PageWords.{zero_words}
+use Rattle.page_homes.specs.declared.homes.Home.{Home}
+use Rattle.page_contracts.specs.declared.answers.Touch.{Touch}
+use Rattle.page_contracts.specs.declared.answers.Touch.TheVariants.{Ready, Zero, NeedFrame, Denied, Full}
+use Rattle.page_contracts.specs.DrumWords.{DrumWords}
+use Rattle.page_contracts.specs.Pages.{FilesMade, FilesOne, Scene, PagesMeaning, SettlesTo, StandsAt, StandsInFile, TakesFrames, UsesOne, MayLose, absent_or, framed, can_settle, frames_taken}
+use Rattle.page_contracts.specs.Stores.{StoreMeaning, IsMade, IsSound, IsUsed, HomePlace, FitsHomes, free, here, place, is_here, away_at, away_home, content, traffic}
+use Rattle.page_contracts.proofs.Losing.{loses_made, loses_used}
+use Rattle.plain_pages.specs.PlainPages.{NumberedPages}
+use Rattle.plain_pages.specs.References.{in_file, blank, make, next_page, settled, Making}
+use Rattle.plain_pages.proofs.Made.{is_filed}
+use Rattle.plain_pages.proofs.ReferencesMade.{settled_makes, settled_stays}
+use Rattle.flat_pages.specs.declared.map_tables.MapTables.{MapTables}
+use Rattle.flat_pages.specs.HeldMaps.{name_at, name_of, nobody, maps_held}
+use Rattle.flat_pages.specs.Serials.{with_next}
+use Rattle.flat_pages.specs.SlotTables.{Tables, plain_of, files_held, filed_total, share_of, AreTables, AreSized}
+use Rattle.flat_pages.specs.SlotTouches.{home_named, scene_of, has_room, touch_filed, touch_of_place}
+use Rattle.flat_pages.specs.SlotMeaning.{filed_in, slots_meaning, within}
+use Rattle.flat_pages.specs.TableSteps.{tables_of, next_name, home_filed}
+use Rattle.flat_pages.specs.FileSteps.{FilesHome, SettlesFiled, UsesFiled}
+use Rattle.flat_pages.proofs.Agreement.{filed_named, tables_whole}
+use Rattle.flat_pages.proofs.FiledHomes.{files_still, get_filed, held_insert, with_here, with_elsewhere}
+use Rattle.flat_pages.proofs.FileSetting.{maps_alike}
+use Rattle.flat_pages.proofs.FileTouches.{makes_in}
+use Rattle.flat_pages.proofs.HandedOn.{used_within}
+use Rattle.flat_pages.proofs.HeldEntries.{total_le}
+use Rattle.flat_pages.proofs.Settled.{ArePages, takes_frames, unused}
+use Rattle.flat_pages.proofs.Settling.{content_other, content_set, fits_set, sized_of, terminals_next, console_next}
+use Rattle.flat_pages.proofs.Telling.{named_home}
+use Rattle.flat_pages.proofs.Told.{entry_still, told_made}
+use Rattle.flat_pages.proofs.Touching.{home_is}
+use Rattle.flat_pages.proofs.Using.{made_here, used_here}
+
+-- what is told of the tables once a page of a file is settled
+pub record SettlesInFile (t u : Tables) (frames frames' : ℕ) (file : FileNo) (page : ℕ) (kind : Kind) (owner : Tty) : Type 0 where
+  pub told : (d : DrumWords) → FitsHomes t.places d → FitsHomes u.places d × (plain_of u d ≡ settled (plain_of t d) (in_file (file_page file.0 page)) kind owner)
+  pub settles : SettlesTo (touch_of_place t frames (File file page) kind) (touch_of_place u frames' (File file page) kind)
+  pub scene : TakesFrames (scene_of t frames) (scene_of u frames') (frames_taken (touch_of_place t frames (File file page) kind))
+  pub count : u.taken + u.living ≡ t.taken + t.living + frames_taken (touch_of_place t frames (File file page) kind)
+
+module _ (t : Tables) (a : AreTables t) (pages : ArePages t) (frames : ℕ) (file : FileNo) (page : ℕ) (kind : Kind) (ready : can_settle (touch_of_place t frames (File file page) kind) ≡ true) where
+  abbrev f : FilePage ℕ
+  f = file_page file.0 page
+
+  abbrev touch : Touch
+  touch = touch_of_place t frames (File file page) kind
+
+  by_home : (o : Option Home) → fin.get t.files f ≡ o → touch ≡ touch_filed (away_at t.places) t (scene_of t frames) kind o
+  by_home o is = ap (touch_filed (away_at t.places) t (scene_of t frames) kind) is
+
+  -- the page is there, in a frame
+  module _ (h : Home) (there : fin.get t.files f ≡ Some h) where
+    pub near : away_at t.places h.0 ≡ None
+    near = by (away_at t.places h.0) (sym (ap can_settle (by_home (Some h) there)) ∙ ready)
+      where
+        by : (o : Option ℕ) → can_settle (absent_or o Ready) ≡ true → o ≡ None
+        by None k = refl
+        by (Some x) k = absurd (cc k)
+
+    pub is_ready : touch ≡ Ready
+    is_ready = by_home (Some h) there ∙ ap (λ o. absent_or o Ready) near
+
+    makes_none : (d : DrumWords) (sized : AreSized t.places d) (owner : Tty) (own : IsOwner owner) → plain_of t d ≡ settled (plain_of t d) (in_file f) kind owner
+    makes_none d sized owner own =
+        sym (settled_stays (plain_of t d) owner (in_file f) kind (makes_in t a frames d sized owner own f kind (Some (name_of t.names h)) (get_filed t.names t.files f ∙ ap (option_map (name_of t.names)) there)))
+
+    pub used_settles : (frames' : ℕ) → frames' ≡ frames → (owner : Tty) → IsOwner owner → SettlesInFile t t frames frames' file page kind owner
+    used_settles frames' same owner own = subst (λ n. SettlesInFile t t frames n file page kind owner) (sym same) (record {
+      told = λ d fits. (fits, makes_none d (sized_of t.places d fits pages) owner own);
+      settles = subst (λ (x : Touch). SettlesTo x touch) (sym is_ready) is_ready;
+      scene = subst (λ (x : Touch). TakesFrames (scene_of t frames) (scene_of t frames) (frames_taken x)) (sym is_ready) (record { maps = refl; pages = refl; frames = omega arith });
+      count = subst (λ (x : Touch). t.taken + t.living ≡ t.taken + t.living + frames_taken x) (sym is_ready) (omega arith);
+    })
+
+  -- it has to be made
+  module _ (none : fin.get t.files f ≡ None) where
+    writes : kind ≡ Write
+    writes = by kind (sym (ap can_settle (by_home None none)) ∙ ready)
+      where
+        by : (k : Kind) → can_settle (touch_filed (away_at t.places) t (scene_of t frames) k None) ≡ true → k ≡ Write
+        by Write e = refl
+        by Read e = absurd (cc e)
+        by Execute e = absurd (cc e)
+
+    zero_made : touch ≡ cond (has_room t 1) (framed (scene_of t frames) Zero) Full
+    zero_made = by_home None none ∙ ap (λ k. touch_filed (away_at t.places) t (scene_of t frames) k None) writes
+
+    pub is_zero : touch ≡ Zero
+    is_zero = zero_made ∙ by (has_room t 1) (nat_lt 0 frames) (sym (ap can_settle zero_made) ∙ ready)
+      where
+        by : (room some : Bool) → can_settle (cond room (cond some Zero NeedFrame) Full) ≡ true → cond room (cond some Zero NeedFrame) Full ≡ Zero
+        by true true k = refl
+        by true false k = absurd (cc k)
+        by false some k = absurd (cc k)
+
+    both : (room some : Bool) → can_settle (cond room (cond some Zero NeedFrame) Full) ≡ true → (room ≡ true) × (some ≡ true)
+    both true true k = (refl, refl)
+    both true false k = absurd (cc k)
+    both false some k = absurd (cc k)
+
+    -- for which there is room, and a frame
+    pub zero_room : has_room t 1 ≡ true
+    zero_room = (both (has_room t 1) (nat_lt 0 frames) (sym (ap can_settle zero_made) ∙ ready)).0
+
+    pub zero_frame : 0 < frames
+    zero_frame = let some = (both (has_room t 1) (nat_lt 0 frames) (sym (ap can_settle zero_made) ∙ ready)).1 in grind (arith, nat_tests, some)
+
+    module _ (h : Home) (below : h.0 < t.limit) (was_free : place t.places h.0 ≡ free) (owner : Tty) (own : IsOwner owner) (frames' : ℕ) (taken : frames' + 1 ≡ frames) where
+      abbrev u : Tables
+      u = home_filed t f h (here zero_words) owner
+
+      within_places : h.0 < length t.places
+      within_places = omega (arith, below, a.homes)
+
+      name_here : name_at u.names h.0 ≡ Some (next_name t.serials owner)
+      name_here = get_or-set_same t.names h.0 (Some (next_name t.serials owner)) None (omega (arith, below, a.named))
+
+      name_other : (k : ℕ) → k ≢ h.0 → name_at u.names k ≡ name_at t.names k
+      name_other k ne = get_or-set_other t.names h.0 k (Some (next_name t.serials owner)) None ne
+
+      no_name : share_of t.shares h.0 ≡ 0
+      no_name = unused t a h.0 was_free
+
+      is_next : name_of u.names h ≡ next_name t.serials owner
+      is_next = ap (λ (o : Option PageName). unwrap_or o nobody) name_here
+
+      files_are : files_held u.names u.files ≡ fin.insert (files_held t.names t.files) f (next_name t.serials owner)
+      files_are = held_insert u.names t.files f h ∙ (λ i. fin.insert (files_still t.names u.names t.files h.0 (omega (arith, no_name, a.shares h.0)) name_other i) f (is_next i))
+
+      maps_are : maps_held u.names t.maps ≡ maps_held t.names t.maps
+      maps_are = maps_alike t.names u.names t.maps (λ b x held. entry_still t.names u.names h.0 x name_other (omega (arith, no_name, a.shares h.0, total_le (Rattle.flat_pages.specs.HeldMaps.points_at h.0) t.maps b x refl held)))
+
+      near_now : away_at u.places h.0 ≡ None
+      near_now = ap (λ p. away_home p h.0) (get_or-set_same t.places h.0 (here zero_words) free within_places)
+
+      made_maps : (d : DrumWords) → (make (plain_of t d) owner (blank (in_file f))).maps ≡ maps_held t.names t.maps
+      unfolding make
+      made_maps d = refl
+
+      made_files : (d : DrumWords) → (make (plain_of t d) owner (blank (in_file f))).files ≡ fin.insert (files_held t.names t.files) f (next_page (plain_of t d) owner)
+      unfolding make
+      made_files d = refl
+
+      made_terminals : (d : DrumWords) → (with_next t.serials owner).terminals ≡ (make (plain_of t d) owner (blank (in_file f))).page_serials
+      unfolding make
+      made_terminals d = terminals_next t.serials owner
+
+      made_console : (d : DrumWords) → (with_next t.serials owner).console ≡ (make (plain_of t d) owner (blank (in_file f))).console_serial
+      unfolding make
+      made_console d = console_next t.serials owner
+
+      told_zero : AreTables u → ArePages u → (d : DrumWords) → FitsHomes t.places d → plain_of u d ≡ settled (plain_of t d) (in_file f) kind owner
+      told_zero a' pages' d fits =
+          let sized = sized_of t.places d fits pages in
+          let sized' = sized_of u.places d (fits_set t.places d h.0 (here zero_words) fits) pages' in
+          let p : NumberedPages = plain_of t d in
+          let no_page : fin.get p.files f ≡ None = get_filed t.names t.files f ∙ ap (option_map (name_of t.names)) none in
+          let m : Making ℕ = blank (in_file f) in
+          told_made t u a a' d sized sized' owner h.0 (make p owner m) zero_words (is_filed nat_cmp_total p (tables_whole t a d sized) owner own f no_page)
+          (maps_are ∙ sym (made_maps d)) (files_are ∙ sym (made_files d)) (made_terminals d) (made_console d) refl name_here name_other
+          (content_set t.places d h.0 zero_words within_places) (λ k ne. content_other t.places d h.0 k (here zero_words) ne)
+          ∙ sym (settled_makes p owner (in_file f) kind m [] (ap (λ k. Rattle.plain_pages.specs.References.makings p (in_file f) k) writes ∙ makes_in t a frames d sized owner own f Write None no_page))
+
+      now_ready : touch_of_place u frames' (File file page) kind ≡ Ready
+      now_ready = ap (touch_filed (away_at u.places) u (scene_of u frames') kind) (with_here t.files f (Some h)) ∙ ap (λ o. absent_or o Ready) near_now
+
+      pub zero_settles : AreTables u → ArePages u → SettlesInFile t u frames frames' file page kind owner
+      zero_settles a' pages' = record {
+        told = λ d fits. (fits_set t.places d h.0 (here zero_words) fits, told_zero a' pages' d fits);
+        settles = subst (λ (x : Touch). SettlesTo x (touch_of_place u frames' (File file page) kind)) (sym is_zero) (inl now_ready);
+        scene = subst (λ (x : Touch). TakesFrames (scene_of t frames) (scene_of u frames') (frames_taken x)) (sym is_zero)
+            (takes_frames t u a a' h.0 name_other (λ k ne. get_or-set_other t.places h.0 k (here zero_words) free ne) (ap (λ p. away_home p h.0) was_free) near_now frames frames' 1 taken);
+        count = subst (λ (x : Touch). u.taken + u.living ≡ t.taken + t.living + frames_taken x) (sym is_zero) (omega arith);
+      }
+
+      pub zero_filed : (is_some (filed_in u f) ≡ true) × ((g : FilePage ℕ) → g ≢ f → filed_in u g ≡ filed_in t g)
+      zero_filed = (
+        ap is_some (get_filed u.names u.files f ∙ ap (option_map (name_of u.names)) (with_here t.files f (Some h))),
+        λ g ne. ap (λ m. fin.get m g) files_are ∙ (let w = with_other (files_held t.names t.files) g ne in w),
+      )
+        where
+          with_other : (m : fin.FinMap _ PageName) (g : FilePage ℕ) → g ≢ f → fin.get (fin.insert m f (next_name t.serials owner)) g ≡ fin.get m g
+          with_other m g ne = ?
