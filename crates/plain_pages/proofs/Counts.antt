@@ -239,8 +239,8 @@ module _ {K X : Type 0} (R : K → K → Ordering) (w : X → ℕ) where
     retained p =
         let rises = map.Entries.is_sorted-where_key R p (map.entries m) (map.entries_sorted m) in
         ap map.entries (map.same_map o same (map.retain_keys m p) (map.from_sorted (map.Entries.where_key R p (map.entries m))) (λ q.
-          map.get-retain_keys m p q (alike q) ∙ ap (λ v. cond (p q) v None) (map.get-entries m q)
-          ∙ sym (map.Entries.find-where_key R p q (alike q) (map.entries m)) ∙ sym (map.get-from_sorted R (map.Entries.where_key R p (map.entries m)) q rises)))
+        map.get-retain_keys m p q (alike q) ∙ ap (λ v. cond (p q) v None) (map.get-entries m q)
+        ∙ sym (map.Entries.find-where_key R p q (alike q) (map.entries m)) ∙ sym (map.get-from_sorted R (map.Entries.where_key R p (map.entries m)) q rises)))
         ∙ map.entries-from_sorted R (map.Entries.where_key R p (map.entries m)) rises
       where
         alike : (q x : K) → R q x ≡ Equal → p x ≡ p q

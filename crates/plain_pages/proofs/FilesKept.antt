@@ -159,7 +159,7 @@ module _ {K : Type 0} {file_cmp : K → K → Ordering} (o : IsTotalOrder file_c
       let v = filed_whole p f None w none in
       still_same p (with_file (with_file p f None) f (Some n)) (with_file p f (Some n))
       (still_on p (with_file p f None) (with_file (with_file p f None) f (Some n)) (filed_still p f None w) (filed_still (with_file p f None) f (Some n) v)
-        (old_named (with_file p f None) f (Some n) v (λ m e. (let is : n ≡ m = cc e in v.named m ∙ ap (λ (x : PageName). nat_lt 0 (uses (with_file p f None) x)) (sym is) ∙ named))))
+      (old_named (with_file p f None) f (Some n) v (λ m e. (let is : n ≡ m = cc e in v.named m ∙ ap (λ (x : PageName). nat_lt 0 (uses (with_file p f None) x)) (sym is) ∙ named))))
       (filed_still p f (Some n) w)
       (filed_maps (with_file p f None) f (Some n) ∙ filed_maps p f None ∙ sym (filed_maps p f (Some n)))
       (filed_files (with_file p f None) f (Some n) ∙ same_files (map.insert (with_file p f None).files f n) (map.insert p.files f n) each ∙ sym (filed_files p f (Some n)))

@@ -418,7 +418,7 @@ set_again maps s y e = by (map.get maps s.fork) refl
         let here : map.get mid s.fork ≡ Some (slice_set m s.page y) = map.get-insert fork_cmp_total maps s.fork (slice_set m s.page y) s.fork ∙ ap (λ r. cond (is_eq r) (Some (slice_set m s.page y)) (map.get maps s.fork)) (tied_itself fork_cmp_total s.fork) in
         ap (λ o. at o mid) here ∙ ap (map.insert mid s.fork) (set_twice m s.page y e)
         ∙ map.same_map fork_cmp_total fork_cmp_apart (map.insert mid s.fork (slice_set m s.page e)) (map.insert maps s.fork (slice_set m s.page e)) (λ f.
-          map.get-insert fork_cmp_total mid s.fork (slice_set m s.page e) f ∙ each f (eq_by_cmp fork_cmp f s.fork) refl ∙ sym (map.get-insert fork_cmp_total maps s.fork (slice_set m s.page e) f))
+        map.get-insert fork_cmp_total mid s.fork (slice_set m s.page e) f ∙ each f (eq_by_cmp fork_cmp f s.fork) refl ∙ sym (map.get-insert fork_cmp_total maps s.fork (slice_set m s.page e) f))
       where
         each : (f : ForkName) (b : Bool) → eq_by_cmp fork_cmp f s.fork ≡ b → cond b (Some (slice_set m s.page e)) (map.get (map.insert maps s.fork (slice_set m s.page y)) f) ≡ cond b (Some (slice_set m s.page e)) (map.get maps f)
         each f true tied = refl
