@@ -4,6 +4,7 @@ use Rattle.std.specs.Prelude.{IsSome, is_some, slice_set}
 use Rattle.std.specs.Option.{IsSomeAnd, option_map}
 use Rattle.std.proofs.lemmas.Bool.{cases_eq}
 use Rattle.std.proofs.lemmas.List.Sums.{sum_by-set}
+use Rattle.std.specs.Ordering.{nat_cmp}
 use Rattle.std.specs.FinMap as map
 use Rattle.number_map.proofs.Keys.{get_gone, get_gone_other, get_put, get_put_other}
 use Rattle.machine_names.specs.declared.names.TheConstants.{TERMINALS}
@@ -18,7 +19,8 @@ use Rattle.plain_files.specs.NamedFiles.{AreTables, IsHeld, jobs_named, open_fil
 use Rattle.plain_files.specs.OpenFiles.{OpenFile, OpenFiles, free_jfn, open_at}
 use Rattle.file_tables.proofs.FirstFree.{free_there}
 use Rattle.file_tables.proofs.Kept.{tables_held}
-use Rattle.file_tables.proofs.Opened.{job_set, none_held, open_get, open_gone, open_job, open_put}
+use Rattle.file_tables.proofs.Opened.{job_set, none_held, open_get, open_gone, open_job, open_none, open_put}
+use Rattle.file_tables.proofs.Names.{not_both}
 
 module _ (m : Files) (files : List PlainFile) (jobs : List Held) (is : AreTables m files jobs) (t : ℕ) (low : t < TERMINALS) (held : Held) (own : held ≡ jfns_of jobs t) where
   own_held : (k : ℕ) (jfn : Jfn) → map.get held k ≡ Some jfn → IsHeld m k jfn
@@ -101,3 +103,10 @@ module _ (m : Files) (files : List PlainFile) (jobs : List Held) (is : AreTables
   -- the tables where nothing was changed
   pub tables_stay : AreTables m files (slice_set jobs t held)
   tables_stay = tables_held m files jobs is t held low own_held
+
+  -- the tables where the job holds no JFN, and the JFNs of all jobs then
+  pub tables_cleared : AreTables m files (slice_set jobs t map.empty)
+  tables_cleared = tables_held m files jobs is t map.empty low (λ k jfn there. absurd (not_both (map.get map.empty k) jfn (map.get-empty nat_cmp k) there))
+
+  pub jobs_cleared : jobs_named m (slice_set jobs t map.empty) ≡ slice_set (jobs_named m jobs) t map.empty
+  jobs_cleared = job_set m jobs t map.empty ∙ ap (slice_set (jobs_named m jobs) t) (open_none m)

@@ -137,6 +137,18 @@ impl Jfns {
         }
     }
 
+    /// Gives back every JFN that the job holds.
+    pub fn release_all(&mut self)
+        ensures { self.new ≡ map.empty }
+    {
+        let _held = &self.held;
+        for n in 0..PLACES as u32 {
+            if self.get(n).is_some() {
+                self.release(n);
+            }
+        }
+    }
+
     /// How many of the job's JFNs name a file. The number is kept, and no JFN is looked at.
     pub fn names(&self, f: FileNo) -> u32
         requires { f.0 < MOST_FILES }

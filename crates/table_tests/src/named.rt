@@ -39,6 +39,7 @@ enum Deed {
     Make(&'static [u8]),
     At(&'static [u8], OfFile),
     Free(u8),
+    Leave(u8),
     Jfn(u8, u32, OfJfn),
 }
 
@@ -132,6 +133,10 @@ fn done(tables: &mut FileTables, deed: Deed) -> Option<u32> {
         Deed::Make(text) => make(tables, text),
         Deed::At(text, deed) => of_file(tables, text, deed),
         Deed::Free(t) => tables.free_jfn(Tty(t % TERMINALS)),
+        Deed::Leave(t) => {
+            tables.release_all(Tty(t % TERMINALS));
+            Some(0)
+        }
         Deed::Jfn(t, n, deed) => of_jfn(tables, Tty(t % TERMINALS), n, deed),
     }
 }
@@ -139,7 +144,7 @@ fn done(tables: &mut FileTables, deed: Deed) -> Option<u32> {
 #[test]
 fn files_and_jfns_come_and_go(rt: HostRuntime) {
     let mut tables = made(&rt, FileTables::boot(rt.alloc()));
-    let rows: [(Deed, Option<u32>); 43] = [
+    let rows: [(Deed, Option<u32>); 51] = [
         (Deed::At(b"A", OfFile::Number), None),
         (Deed::Make(b"A"), Some(0)),
         (Deed::Make(b"<SMITH>A."), None),
@@ -183,6 +188,14 @@ fn files_and_jfns_come_and_go(rt: HostRuntime) {
         (Deed::At(b"C", OfFile::Length), Some(1000)),
         (Deed::Make(b"A.B.C"), None),
         (Deed::At(b"B", OfFile::Take(0)), None),
+        (Deed::At(b"C", OfFile::Take(0)), Some(1)),
+        (Deed::At(b"C", OfFile::Take(4)), Some(1)),
+        (Deed::At(b"C", OfFile::Times), Some(3)),
+        (Deed::Leave(0), Some(0)),
+        (Deed::At(b"C", OfFile::Times), Some(1)),
+        (Deed::Jfn(0, 2, OfJfn::File), None),
+        (Deed::Jfn(4, 1, OfJfn::File), Some(2)),
+        (Deed::Free(0), Some(1)),
     ];
     for (row, (deed, answer)) in rows.into_iter().enumerate() {
         same_at(&rt, row as u64, done(&mut tables, deed), answer);

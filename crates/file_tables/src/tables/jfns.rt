@@ -25,8 +25,8 @@ impl FileTables {
         self.jobs.of(t).get(n)
     }
 
-    /// The least number from 1 on that no JFN of the job at a terminal has. None exactly where the
-    /// job holds 20.
+    /// The least number from 1 on that no JFN of the job at a terminal has. None where each up to 20
+    /// is that of a JFN.
     pub fn free_jfn(&self, t: Tty) -> Option<u32>
         requires { IsTerminal t }
         ensures { result ≡ free_jfn (jfns_at self.now t.0) }
@@ -89,6 +89,15 @@ impl FileTables {
             (λ jfn. times_of self.old jfn.file.0 ≡ times_of self.new jfn.file.0 + 1) }
     {
         self.jobs.of_mut(t).release(n);
+    }
+
+    /// Gives back every JFN that the job at a terminal holds.
+    pub fn release_all(&mut self, t: Tty)
+        requires { IsTerminal t }
+        ensures released { Changes self.old self.new t.0 map.empty }
+        ensures files { FilesStay self.old self.new }
+    {
+        self.jobs.of_mut(t).release_all();
     }
 
     /// How many JFNs of all jobs name a file, which is there. Each job keeps its number, and no JFN
