@@ -2,6 +2,7 @@
 use Rattle.std.proofs.Common.{◌≡◌, ℕ, List, true, false, Bool, cond, Option, None, Some, is_some, refl, sym, ◌∙◌, ap, subst, arith}
 use Rattle.std.specs.Prelude.{nat_le, nat_lt, ◌+◌, ◌≤◌}
 use Rattle.std.specs.Option.{option_map, option_and_then}
+use Rattle.std.specs.FinMap as fin
 use Rattle.std.proofs.lemmas.Bool.Decides.{nat_tests}
 use Rattle.std.proofs.lemmas.List.{get_or-set_same}
 use Rattle.page_homes.specs.declared.homes.Home.{Home}
@@ -14,13 +15,13 @@ use Rattle.page_contracts.specs.declared.answers.Found.{Found}
 use Rattle.page_contracts.specs.declared.answers.SpaceHandle.{SpaceHandle}
 use Rattle.page_contracts.specs.declared.answers.Touch.{Touch}
 use Rattle.page_contracts.specs.declared.answers.Touch.TheVariants.{Ready, Zero, Copy, NeedFrame, Full}
-use Rattle.page_contracts.specs.Pages.{PagesMeaning, StandsAt, StandsInSpace, TouchNeeds, UsesOne, absent_or, framed, is_in_core}
+use Rattle.page_contracts.specs.Pages.{FilesMade, PagesMeaning, StandsAt, StandsInSpace, TouchNeeds, UsesOne, absent_or, framed, is_in_core}
 use Rattle.page_contracts.specs.Stores.{StoreMeaning, HomePlace, free, away, here, IsMade, IsSound, IsUsed, Renews, away_at, away_home, free_homes, is_here, is_taken, place}
 use Rattle.flat_pages.specs.declared.chain_walk.Walk.{Walk}
 use Rattle.flat_pages.specs.declared.held_entry.EntryAt.{EntryAt}
 use Rattle.flat_pages.specs.HeldMaps.{index_of, held_entry}
 use Rattle.flat_pages.specs.SlotMeaning.{place_along, slots_meaning, within}
-use Rattle.flat_pages.specs.SlotTables.{Tables, AreTables}
+use Rattle.flat_pages.specs.SlotTables.{Tables, files_held, AreTables}
 use Rattle.flat_pages.specs.Walks.{walk}
 use Rattle.flat_pages.specs.SlotTouches.{has_room, is_alone, scene_of, touch_copy, touch_filed, touch_made, walk_of}
 use Rattle.flat_pages.proofs.HandedOn.{used_within}
@@ -90,6 +91,11 @@ module _ {P S : Type 0} (store : StoreMeaning S) (part : P → S) (tables : P �
 
   pub uses_there : Renews h.0 (store.tenant (part q)) (store.age (part p)) (store.age (part q)) → UsesOne means at p q
   uses_there renews = record { home = h.0; stands = stands_there; here = there; renews = renews }
+
+-- a place of a fork's space leaves what files name
+module _ {P S : Type 0} (store : StoreMeaning S) (part : P → S) (tables : P → Tables) (p q : P) where
+  pub fork_filed : (at : Place) (s : Slot) → at ≡ Fork s → (x : Touch) → files_held (tables q).names (tables q).files ≡ files_held (tables p).names (tables p).files → FilesMade (slots_meaning store part tables) at x p q
+  fork_filed at s is x same = subst (λ (y : Place). FilesMade (slots_meaning store part tables) y x p q) (sym is) (ap fin.get same)
 
 -- a page that was made, and one that was used where it stood, is in a frame
 module _ {S : Type 0} (store : StoreMeaning S) (old new : S) where
