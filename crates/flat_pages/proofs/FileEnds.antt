@@ -187,6 +187,24 @@ fewer_without p q file w fewer gone =
         other_number : (m n : ℕ) → m ≢ n → eq_by_cmp nat_cmp m n ≡ false
         other_number m n ne = grind (arith, nat_tests, ne)
 
+-- all pages of a file went
+module _ {S : Type 0} (store : StoreMeaning S) (file : ℕ) (old new : S) (tables tables' : MapTables) (a : AreTables (tables_of (store.homes old) tables)) where
+  pub emptied_all : EmptiesFile store old new tables tables' file FILE_PAGES → (page : ℕ) → fin.get tables'.files (file_page file page) ≡ None
+  emptied_all k page = elim (cases_lt page FILE_PAGES) [
+    | inl l ↦ k.gone page l
+    | inr past ↦ k.rest page past ∙ beyond page past (fin.get tables.files (file_page file page)) refl
+  ]
+    where
+      beyond : (page : ℕ) → FILE_PAGES ≤ page → (o : Option Home) → fin.get tables.files (file_page file page) ≡ o → o ≡ None
+      beyond page past None is = refl
+      beyond page past (Some h) is = absurd (let b = a.filed (file_page file page) h is in omega (arith, b.1, past))
+
+  pub told_dropped : AreTold (tables_of (store.homes old) tables) → (k : EmptiesFile store old new tables tables' file FILE_PAGES) → (d : DrumWords) → FitsHomes (store.homes old) d
+      → FitsHomes (store.homes new) d × (plain_of (tables_of (store.homes new) tables') d ≡ without_file (plain_of (tables_of (store.homes old) tables) d) file)
+  told_dropped told k d fits = (let r = k.told d fits in
+    (r.0, fewer_without (plain_of (tables_of (store.homes old) tables) d) (plain_of (tables_of (store.homes new) tables') d) file (told.whole d fits) r.1
+      (λ page. get_filed tables'.names.items tables'.files (file_page file page) ∙ ap (option_map (name_of tables'.names.items)) (emptied_all k page))))
+
 -- a home that files name keeps the name of its page, where files name what they named
 name_still : (names names' : List (Option PageName)) (files : PagesOf Home) (at : FilePage ℕ) (h : Home) → fin.get files at ≡ Some h → files_held names' files ≡ files_held names files → name_of names' h ≡ name_of names h
 name_still names names' files at h there same =
@@ -271,7 +289,7 @@ module _ {S : Type 0} (store : StoreMeaning S) (old now new : S) (tables then_ta
     | inr given ↦ absurd (let z : None ≡ Some name = sym given.1 ∙ named in cc z)
   ]
 
-  pub told_filed : (d : DrumWords) → FitsHomes u.places d → FitsHomes after.places d × (plain_of after d ≡ with_file (plain_of u d) f (Some (name_of u.names h)))
+  told_filed : (d : DrumWords) → FitsHomes u.places d → FitsHomes after.places d × (plain_of after d ≡ with_file (plain_of u d) f (Some (name_of u.names h)))
   told_filed d fits =
       let first = dropped.told d fits in
       let second = sets.told d first.0 in
@@ -286,5 +304,24 @@ module _ {S : Type 0} (store : StoreMeaning S) (old now new : S) (tables then_ta
             ∙ ap (λ n. with_file p f (Some n)) (sym was_name),
       )
 
-  pub core_filed : StaysInCore (scene_of u (store.spare old)) (scene_of after (store.spare new)) 0
-  core_filed = core_on dropped.core sets.core
+  homes_filed : (k : ℕ) → HomeStays u between k (IsFiled u.files f k) → HomeStays between after k (IsFiled between.files f k) → HomeStays u after k (IsFiled u.files f k)
+  homes_filed k (inl before) (inl now) = inl (now.0 ∙ before.0, now.1 ∙ before.1)
+  homes_filed k (inr before) (inl now) = inr (now.0 ∙ before.0, now.1 ∙ before.1, before.2)
+  homes_filed k before (inr now) = absurd (let z : None ≡ Some (record { 0 = k }) = sym dropped.here ∙ now.2 in cc z)
+
+  pub files_on : SetsFile store old new tables tables' f (Some h)
+  files_on = record {
+    told = told_filed;
+    here = sets.here;
+    others = λ g ne. sets.others g ne ∙ dropped.others g ne;
+    filed = λ g ne. sets.filed g ne ∙ dropped.filed g ne;
+    maps = sets.maps ∙ dropped.maps;
+    serials = sets.serials ∙ dropped.serials;
+    living = sets.living ∙ dropped.living;
+    limit = sets.limit ∙ dropped.limit;
+    homes = λ k. homes_filed k (dropped.homes k) (sets.homes k);
+    frames = λ none. sets.frames dropped.here ∙ dropped.frames none;
+    core = core_on dropped.core sets.core;
+    lost = loses_on (traffic store old) (traffic store now) (traffic store new) dropped.lost sets.lost;
+    used = none_on (traffic store old) (traffic store now) (traffic store new) dropped.used sets.used;
+  }

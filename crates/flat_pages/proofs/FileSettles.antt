@@ -7,21 +7,22 @@ use Rattle.std.specs.FinMap as fin
 use Rattle.std.proofs.lemmas.Bool.Decides.{nat_tests}
 use Rattle.std.proofs.lemmas.List.{get_or-set_same, get_or-set_other}
 use Rattle.machine_names.specs.declared.names.FileNo.{FileNo}
+use Rattle.machine_names.specs.declared.names.ForkName.{ForkName}
 use Rattle.machine_names.specs.declared.names.PageName.{PageName}
 use Rattle.machine_names.specs.declared.names.Place.{Place}
 use Rattle.machine_names.specs.declared.names.Place.TheVariants.{File}
 use Rattle.machine_names.specs.declared.names.Kind.{Kind}
 use Rattle.machine_names.specs.declared.names.Kind.TheVariants.{Read, Write, Execute}
 use Rattle.machine_names.specs.declared.names.Tty.{Tty}
-use Rattle.machine_names.specs.Bounds.{IsOwner}
+use Rattle.machine_names.specs.Bounds.{IsFilePage, IsOwner}
 use Rattle.machine_names.specs.Orders.{FilePage, file_page}
 use Rattle.machine_names.specs.PageWords.{zero_words}
 use Rattle.page_homes.specs.declared.homes.Home.{Home}
 use Rattle.page_contracts.specs.declared.answers.Touch.{Touch}
-use Rattle.page_contracts.specs.declared.answers.Touch.TheVariants.{Ready, Zero, NeedFrame, Denied, Full}
+use Rattle.page_contracts.specs.declared.answers.Touch.TheVariants.{Ready, Zero, Copy, Absent, NeedFrame, Denied, Full}
 use Rattle.page_contracts.specs.DrumWords.{DrumWords}
-use Rattle.page_contracts.specs.Pages.{FilesMade, FilesOne, Scene, PagesMeaning, SettlesTo, StandsAt, StandsInFile, TakesFrames, UsesOne, MayLose, absent_or, framed, can_settle, frames_taken}
-use Rattle.page_contracts.specs.Stores.{StoreMeaning, IsMade, IsSound, IsUsed, HomePlace, FitsHomes, free, here, place, is_here, away_at, away_home, content, traffic}
+use Rattle.page_contracts.specs.Pages.{FilesMade, FilesOne, Scene, PagesMeaning, SettlesTo, StandsAt, StandsInFile, TakesFrames, UsesOne, MayLose, spot_of, IsPlace, absent_or, framed, can_settle, frames_taken}
+use Rattle.page_contracts.specs.Stores.{StoreMeaning, IsMade, IsSound, IsUsed, Loses, Renews, HomePlace, FitsHomes, free, here, place, is_here, away_at, away_home, content, traffic}
 use Rattle.page_contracts.proofs.Losing.{loses_made, loses_used}
 use Rattle.plain_pages.specs.PlainPages.{NumberedPages}
 use Rattle.plain_pages.specs.References.{in_file, blank, make, next_page, settled, Making}
@@ -29,7 +30,7 @@ use Rattle.plain_pages.proofs.Made.{is_filed}
 use Rattle.plain_pages.proofs.ReferencesMade.{settled_makes, settled_stays}
 use Rattle.flat_pages.specs.declared.map_tables.MapTables.{MapTables}
 use Rattle.flat_pages.specs.HeldMaps.{name_at, name_of, nobody, maps_held}
-use Rattle.flat_pages.specs.Serials.{with_next}
+use Rattle.flat_pages.specs.Serials.{serial_of, with_next}
 use Rattle.flat_pages.specs.SlotTables.{Tables, plain_of, files_held, filed_total, share_of, AreTables, AreSized}
 use Rattle.flat_pages.specs.SlotTouches.{home_named, scene_of, has_room, touch_filed, touch_of_place}
 use Rattle.flat_pages.specs.SlotMeaning.{filed_in, slots_meaning, within}
@@ -46,6 +47,8 @@ use Rattle.flat_pages.proofs.Settling.{content_other, content_set, fits_set, siz
 use Rattle.flat_pages.proofs.Telling.{named_home}
 use Rattle.flat_pages.proofs.Told.{entry_still, told_made}
 use Rattle.flat_pages.proofs.Touching.{home_is}
+use Rattle.flat_pages.proofs.NextSerials.{next_own, next_other}
+use Rattle.flat_pages.proofs.Rooming.{here_when}
 use Rattle.flat_pages.proofs.Using.{made_here, used_here}
 
 -- what is told of the tables once a page of a file is settled
@@ -193,8 +196,151 @@ module _ (t : Tables) (a : AreTables t) (pages : ArePages t) (frames : ℕ) (fil
       pub zero_filed : (is_some (filed_in u f) ≡ true) × ((g : FilePage ℕ) → g ≢ f → filed_in u g ≡ filed_in t g)
       zero_filed = (
         ap is_some (get_filed u.names u.files f ∙ ap (option_map (name_of u.names)) (with_here t.files f (Some h))),
-        λ g ne. ap (λ m. fin.get m g) files_are ∙ (let w = with_other (files_held t.names t.files) g ne in w),
+        λ g ne. get_filed u.names u.files g ∙ ap (option_map (name_of u.names)) (with_elsewhere t.files f g (Some h) ne) ∙ sym (get_filed u.names t.files g) ∙ ap (λ m. fin.get m g) names_still,
       )
         where
-          with_other : (m : fin.FinMap _ PageName) (g : FilePage ℕ) → g ≢ f → fin.get (fin.insert m f (next_name t.serials owner)) g ≡ fin.get m g
-          with_other m g ne = ?
+          names_still : files_held u.names t.files ≡ files_held t.names t.files
+          names_still = files_still t.names u.names t.files h.0 (omega (arith, no_name, a.shares h.0)) name_other
+
+-- the page that a file names, and its home
+pub filed_stands : (t : Tables) → AreTables t → (f : FilePage ℕ) (h : Home) → fin.get t.files f ≡ Some h → (n : PageName) × (filed_in t f ≡ Some n) × (home_named t.names n ≡ Some h.0)
+filed_stands t a f h there =
+    let n = filed_named t a f h there in
+    (n.0, get_filed t.names t.files f ∙ ap (option_map (name_of t.names)) there ∙ ap (λ (o : Option PageName). Some (unwrap_or o nobody)) n.1, home_is t.names h.0 n.0 n.1 (λ k e. a.once k h.0 n.0 e n.1))
+
+-- what a file's page names once it is settled
+abbrev FiledThen : Tables → Tables → FilePage ℕ → Touch → Type 0
+FiledThen t u f Zero = (is_some (filed_in u f) ≡ true) × ((g : FilePage ℕ) → g ≢ f → filed_in u g ≡ filed_in t g)
+FiledThen t u f touch = filed_in u ≡ filed_in t
+
+-- over a store
+pub record FileSettled {S : Type 0} (store : StoreMeaning S) (old new : S) (tables tables' : MapTables) (file : FileNo) (page : ℕ) (kind : Kind) (owner : Tty) : Type 0 where
+  pub settles : SettlesInFile (tables_of (store.homes old) tables) (tables_of (store.homes new) tables') (store.spare old) (store.spare new) file page kind owner
+  pub loses : Loses (traffic store old) (traffic store new)
+  pub home : Home
+  pub named : fin.get tables'.files (file_page file.0 page) ≡ Some home
+  pub here : is_here (place (store.homes new) home.0) ≡ true
+  pub renews : Renews home.0 (store.tenant new) (store.age old) (store.age new)
+  pub filed : FiledThen (tables_of (store.homes old) tables) (tables_of (store.homes new) tables') (file_page file.0 page) (touch_of_place (tables_of (store.homes old) tables) (store.spare old) (File file page) kind)
+  pub used : touch_of_place (tables_of (store.homes old) tables) (store.spare old) (File file page) kind ≡ Ready → IsUsed store home.0 old new × (fin.get tables.files (file_page file.0 page) ≡ Some home)
+  pub maps : tables'.maps.held.items ≡ tables.maps.held.items
+  pub limit : tables'.limit ≡ tables.limit
+  pub own : serial_of tables'.serials owner ≤ serial_of tables.serials owner + 1
+  pub serials : (t : Tty) → t ≢ owner → serial_of tables'.serials t ≡ serial_of tables.serials t
+
+module _ {S : Type 0} (store : StoreMeaning S) (old new : S) (sound : IsSound store old) (sound' : IsSound store new) (tables tables' : MapTables) (a : AreTables (tables_of (store.homes old) tables)) (a' : AreTables (tables_of (store.homes new) tables'))
+    (file : FileNo) (page : ℕ) (kind : Kind) (owner : Tty) (own : IsOwner owner) (ready : can_settle (touch_of_place (tables_of (store.homes old) tables) (store.spare old) (File file page) kind) ≡ true) where
+  abbrev v : Tables
+  v = tables_of (store.homes old) tables
+
+  abbrev v' : Tables
+  v' = tables_of (store.homes new) tables'
+
+  by_use : (h : Home) → fin.get tables.files (file_page file.0 page) ≡ Some h → UsesFiled store old new tables tables' h → FileSettled store old new tables tables' file page kind owner
+  by_use h there k =
+      let same : v' ≡ v = λ i. tables_of (k.homes i) (k.same i) in
+      let is = is_ready v a sound.pages (store.spare old) file page kind ready h there in record {
+        settles = subst (λ (x : Tables). SettlesInFile v x (store.spare old) (store.spare new) file page kind owner) (sym same) (used_settles v a sound.pages (store.spare old) file page kind ready h there (store.spare new) k.used.framed.spare owner own);
+        loses = loses_used store old new h.0 k.used;
+        home = h;
+        named = ap (λ (x : MapTables). fin.get x.files (file_page file.0 page)) k.same ∙ there;
+        here = used_here store old new h.0 k.homes (here_when v.places h.0 (a.is_taken h.0 ∙ ap is_some (filed_named v a (file_page file.0 page) h there).1) (near v a sound.pages (store.spare old) file page kind ready h there));
+        renews = k.used.ages;
+        filed = subst (FiledThen v v' (file_page file.0 page)) (sym is) (ap filed_in same);
+        used = λ r. (k.used, there);
+        maps = ap (λ (x : MapTables). x.maps.held.items) k.same;
+        limit = ap (λ (x : MapTables). x.limit) k.same;
+        own = omega (arith, ap (λ (x : MapTables). serial_of x.serials owner) k.same);
+        serials = λ t ne. ap (λ (x : MapTables). serial_of x.serials t) k.same;
+      }
+
+  by_making : fin.get tables.files (file_page file.0 page) ≡ None → FilesHome store old new tables tables' (file_page file.0 page) owner → FileSettled store old new tables tables' file page kind owner
+  by_making none k =
+      let is = is_zero v a sound.pages (store.spare old) file page kind ready none in
+      let below : k.home.0 < v.limit = omega (arith, k.made.below, a.homes) in record {
+        settles = subst (λ (x : Tables). SettlesInFile v x (store.spare old) (store.spare new) file page kind owner) (sym k.taken)
+            (zero_settles v a sound.pages (store.spare old) file page kind ready none k.home below k.made.was_free owner own (store.spare new) k.made.spare (subst AreTables k.taken a') (subst ArePages k.taken sound'.pages));
+        loses = loses_made store old new k.home.0 (here zero_words) k.made;
+        home = k.home;
+        named = ap (λ (x : Tables). fin.get x.files (file_page file.0 page)) k.taken ∙ with_here tables.files (file_page file.0 page) (Some k.home);
+        here = made_here store old new k.home.0 (here zero_words) k.made refl;
+        renews = k.made.ages;
+        filed = subst (FiledThen v v' (file_page file.0 page)) (sym is) (subst (λ (x : Tables). FiledThen v x (file_page file.0 page) Zero) (sym k.taken)
+            (zero_filed v a sound.pages (store.spare old) file page kind ready none k.home below k.made.was_free owner own (store.spare new) k.made.spare));
+        used = λ r. absurd (let z : Zero ≡ Ready = sym is ∙ r in cc z);
+        maps = ap (λ (x : Tables). x.maps) k.taken;
+        limit = ap (λ (x : Tables). x.limit) k.taken;
+        own = omega (arith, ap (λ (x : Tables). serial_of x.serials owner) k.taken, next_own tables.serials owner own a.owners);
+        serials = λ t ne. ap (λ (x : Tables). serial_of x.serials t) k.taken ∙ next_other tables.serials owner t (λ e. ne (λ i. record { 0 = e i }));
+      }
+
+  pub file_settled : SettlesFiled store old new tables tables' (file_page file.0 page) owner (fin.get tables.files (file_page file.0 page)) → FileSettled store old new tables tables' file page kind owner
+  file_settled = by (fin.get tables.files (file_page file.0 page)) refl
+    where
+      by : (o : Option Home) → fin.get tables.files (file_page file.0 page) ≡ o → SettlesFiled store old new tables tables' (file_page file.0 page) owner o → FileSettled store old new tables tables' file page kind owner
+      by None is k = by_making is k
+      by (Some h) is k = by_use h is k
+
+-- what is told of pages once the page of a place is settled
+pub record AtPlace {P : Type 0} (means : PagesMeaning P) (at : Place) (kind : Kind) (owner : Tty) (p q : P) : Type 0 where
+  pub told : (d : DrumWords) → means.fits p d → means.fits q d × (means.plain q d ≡ settled (means.plain p d) (spot_of at) kind owner)
+  pub settles : SettlesTo (means.touched p at kind) (means.touched q at kind)
+  pub scene : TakesFrames (means.scene p) (means.scene q) (frames_taken (means.touched p at kind))
+  pub count : means.count q ≡ means.count p + frames_taken (means.touched p at kind)
+  pub loses : MayLose means p q
+  pub uses : UsesOne means at p q
+  pub filed : FilesMade means at (means.touched p at kind) p q
+  pub ready : (home : ℕ) → means.touched p at kind ≡ Ready → StandsAt means p at home → IsUsed means.store home p q
+
+module _ {P S : Type 0} (store : StoreMeaning S) (part : P → S) (mt : P → MapTables) (p q : P) (a : AreTables (tables_of (store.homes (part p)) (mt p))) (a' : AreTables (tables_of (store.homes (part q)) (mt q))) (file : FileNo) (page : ℕ) (kind : Kind) (owner : Tty) where
+  abbrev means : PagesMeaning P
+  means = slots_meaning store part (λ x. tables_of (store.homes (part x)) (mt x))
+
+  abbrev w : Tables
+  w = tables_of (store.homes (part p)) (mt p)
+
+  abbrev w' : Tables
+  w' = tables_of (store.homes (part q)) (mt q)
+
+  stands_home : (h : Home) → fin.get (mt p).files (file_page file.0 page) ≡ Some h → (home : ℕ) → StandsInFile means p (file_page file.0 page) home → h.0 ≡ home
+  stands_home h there home stands =
+      let n = filed_stands w a (file_page file.0 page) h there in
+      let same : n.0 ≡ stands.name = (let z : Some n.0 ≡ Some stands.name = sym n.1 ∙ stands.named in cc z) in
+      let z : Some h.0 ≡ Some home = sym n.2 ∙ ap (home_named w.names) same ∙ stands.there in
+      cc z
+
+  filed_made : (x : Touch) → FiledThen w w' (file_page file.0 page) x → FilesMade means (File file page) x p q
+  filed_made Zero k = record { set = k.0; others = k.1 }
+  filed_made Ready k = k
+  filed_made (Copy sole) k = k
+  filed_made (Absent home) k = k
+  filed_made NeedFrame k = k
+  filed_made (Denied other) k = k
+  filed_made Full k = k
+
+  place_settled : FileSettled store (part p) (part q) (mt p) (mt q) file page kind owner → AtPlace means (File file page) kind owner p q
+  place_settled k = record {
+    told = k.settles.told;
+    settles = k.settles.settles;
+    scene = k.settles.scene;
+    count = k.settles.count;
+    loses = k.loses;
+    uses = (let n = filed_stands w' a' (file_page file.0 page) k.home k.named in record {
+      home = k.home.0;
+      stands = record { name = n.0; named = n.1; there = n.2 };
+      here = k.here;
+      renews = k.renews;
+    });
+    filed = filed_made (touch_of_place w (store.spare (part p)) (File file page) kind) k.filed;
+    ready = λ home r stands. (let u = k.used r in used_within store part home p q (subst (λ (n : ℕ). IsUsed store n (part p) (part q)) (stands_home k.home u.1 home stands) u.0));
+  }
+
+  pub settled_at : (at : Place) → at ≡ File file page → FileSettled store (part p) (part q) (mt p) (mt q) file page kind owner → AtPlace means at kind owner p q
+  settled_at at is k = subst (λ (x : Place). AtPlace means x kind owner p q) (sym is) (place_settled k)
+
+-- what is asked of a page of a file that is to be settled
+pub ready_at : (t : Tables) (frames : ℕ) (at : Place) (file : FileNo) (page : ℕ) (kind : Kind) → at ≡ File file page → can_settle (touch_of_place t frames at kind) ≡ true → can_settle (touch_of_place t frames (File file page) kind) ≡ true
+ready_at t frames at file page kind is ready = sym (ap (λ (x : Place). can_settle (touch_of_place t frames x kind)) is) ∙ ready
+
+pub file_bounds : (lives : ForkName → Bool) (at : Place) (file : FileNo) (page : ℕ) → at ≡ File file page → IsPlace lives at → IsFilePage file page
+file_bounds lives at file page is h = subst (IsPlace lives) is h

@@ -1,23 +1,27 @@
 -- The homes that a map which is added, and one that goes, leaves to all others.
-use Rattle.std.proofs.Common.{◌≡◌, ◌⊎◌, inl, inr, ℕ, List, Option, None, Some, refl, sym, ◌∙◌, ap, arith}
-use Rattle.std.specs.Option.{option_and_then, unwrap_or}
+use Rattle.std.proofs.Common.{◌≡◌, ◌≢◌, ◌⊎◌, inl, inr, ℕ, List, Option, None, Some, refl, sym, ◌∙◌, ap, arith}
+use Rattle.std.specs.Option.{option_map, option_and_then, unwrap_or}
+use Rattle.std.specs.FinMap as fin
+use Rattle.machine_names.specs.Orders.{FilePage, file_page}
+use Rattle.flat_pages.specs.FileSteps.{FileHas}
+use Rattle.flat_pages.proofs.FiledHomes.{get_filed}
 use Rattle.machine_names.specs.declared.names.Access.{Access}
 use Rattle.machine_names.specs.declared.names.ForkName.{ForkName}
 use Rattle.machine_names.specs.declared.names.PageName.{PageName}
 use Rattle.page_homes.specs.declared.homes.Home.{Home}
 use Rattle.plain_pages.specs.declared.map.MapEntry.TheVariants.{Names}
 use Rattle.page_contracts.specs.declared.answers.Seen.TheVariants.{Is}
-use Rattle.page_contracts.specs.Pages.{AddsMap, DropsMap, NamesPage, PagesMeaning}
+use Rattle.page_contracts.specs.Pages.{AddsMap, DropsFile, DropsMap, FileNames, IsOfFile, IsOfMap, NamesPage, PagesMeaning}
 use Rattle.page_contracts.specs.Stores.{StoreMeaning, free, place}
 use Rattle.flat_pages.specs.declared.held_entry.HeldEntry.{HeldEntry}
 use Rattle.flat_pages.specs.declared.held_entry.HeldEntry.TheVariants.{Empty, Page, Follows}
-use Rattle.flat_pages.specs.HeldMaps.{entry_of, held_entry, index_of, name_at, nobody}
+use Rattle.flat_pages.specs.HeldMaps.{entry_of, held_entry, index_of, name_at, name_of, nobody}
 use Rattle.flat_pages.specs.Emptying.{MapNames}
 use Rattle.flat_pages.specs.SlotSteps.{HomeStays}
 use Rattle.flat_pages.specs.SlotMeaning.{filed_in, seen_entry, seen_in, slots_meaning}
 use Rattle.flat_pages.specs.SlotTables.{Tables, AreTables}
 use Rattle.flat_pages.specs.SlotTouches.{home_named}
-use Rattle.flat_pages.proofs.Agreement.{entry_named}
+use Rattle.flat_pages.proofs.Agreement.{entry_named, filed_named}
 use Rattle.flat_pages.proofs.Telling.{named_home}
 use Rattle.flat_pages.proofs.Touching.{home_is}
 
@@ -73,6 +77,37 @@ module _ {P S : Type 0} (store : StoreMeaning S) (part : P → S) (tables : P �
         none h.page s.named.home.0 s.named.access (ap (λ j. held_entry u.maps (record { map = j; page = h.page })) (sym (own s.map s.index)) ∙ s.held ∙ ap Some s.named.is));
   }
 
+  -- homes were given up, each of a page that was named so
+  module _ (a : AreTables t) (a' : AreTables u) (named : ℕ → Type 0) (names : PageName → Type 0) (lift : (home : ℕ) (n : PageName) → name_at t.names home ≡ Some n → named home → names n) (stays : (home : ℕ) → HomeStays t u home (named home)) where
+    pub housed : (home : ℕ) (n : PageName) → name_at t.names home ≡ Some n → home_named t.names n ≡ Some home
+    housed home n is = home_is t.names home n is (λ j e. a.once j home n e is)
+
+    gone : (n : PageName) (home : ℕ) → home_named t.names n ≡ Some home → home_named u.names n ≡ None → HomeStays t u home (named home) → names n
+    gone n home was none (inl same) = absurd (
+        let is : name_at u.names home ≡ Some n = same.1 ∙ named_home t.names n home was in
+        let z : None ≡ Some home = sym none ∙ home_is u.names home n is (λ j e. a'.once j home n e is) in
+        cc z
+        )
+    gone n home was none (inr given) = lift home n (named_home t.names n home was) given.2
+
+    still : (n : PageName) (home : ℕ) → home_named u.names n ≡ Some home → HomeStays t u home (named home) → home_named t.names n ≡ Some home
+    still n home is (inl same) = housed home n (sym same.1 ∙ named_home u.names n home is)
+    still n home is (inr given) = absurd (let z : None ≡ Some n = sym given.1 ∙ named_home u.names n home is in cc z)
+
+    at_both : (n : PageName) (o p : Option ℕ) → home_named t.names n ≡ o → home_named u.names n ≡ p → (home_named u.names n ≡ home_named t.names n) ⊎ ((home_named u.names n ≡ None) × names n)
+    at_both n o (Some home) was is = inl (is ∙ sym (still n home is (stays home)))
+    at_both n None None was is = inl (is ∙ sym was)
+    at_both n (Some home) None was is = inr (is, gone n home was is (stays home))
+
+    pub page_stays : (n : PageName) → (home_named u.names n ≡ home_named t.names n) ⊎ ((home_named u.names n ≡ None) × names n)
+    page_stays n = at_both n (home_named t.names n) (home_named u.names n) refl refl
+
+    pub home_stays : store.homes (part old) ≡ t.places → store.homes (part new) ≡ u.places → (home : ℕ) → (place (store.homes (part new)) home ≡ place (store.homes (part old)) home) ⊎ ((place (store.homes (part new)) home ≡ free) × named home)
+    home_stays old_homes new_homes home = elim (stays home) [
+      | inl same ↦ inl (ap (λ ps. place ps home) new_homes ∙ same.0 ∙ sym (ap (λ ps. place ps home) old_homes))
+      | inr given ↦ inr (ap (λ ps. place ps home) new_homes ∙ given.0, given.2)
+    ]
+
   -- a map went
   module _ (a : AreTables t) (a' : AreTables u) (k : ℕ) (index : index_of t.maps f ≡ Some k) (old_homes : store.homes (part old) ≡ t.places) (new_homes : store.homes (part new) ≡ u.places)
       (stays : (home : ℕ) → HomeStays t u home (MapNames t.maps k home)) (frames : ((home : ℕ) → MapNames t.maps k home → ⊥) → store.spare (part new) ≡ store.spare (part old)) (filed : filed_in u ≡ filed_in t) where
@@ -88,36 +123,48 @@ module _ {P S : Type 0} (store : StoreMeaning S) (part : P → S) (tables : P �
     its_name : (home : ℕ) → MapNames t.maps k home → (n : PageName) × (name_at t.names home ≡ Some n)
     its_name home m = entry_named t a (record { map = k; page = m.page }) (record { 0 = home }) m.there.access m.there.is
 
-    housed : (home : ℕ) (n : PageName) → name_at t.names home ≡ Some n → home_named t.names n ≡ Some home
-    housed home n named = home_is t.names home n named (λ j e. a.once j home n e named)
-
-    gone : (n : PageName) (home : ℕ) → home_named t.names n ≡ Some home → home_named u.names n ≡ None → HomeStays t u home (MapNames t.maps k home) → NamesPage means old f n
-    gone n home was none (inl same) = absurd (
-        let named : name_at u.names home ≡ Some n = same.1 ∙ named_home t.names n home was in
-        let z : None ≡ Some home = sym none ∙ home_is u.names home n named (λ j e. a'.once j home n e named) in
-        cc z
-        )
-    gone n home was none (inr given) = named_page home n (named_home t.names n home was) given.2
-
-    still : (n : PageName) (home : ℕ) → home_named u.names n ≡ Some home → HomeStays t u home (MapNames t.maps k home) → home_named t.names n ≡ Some home
-    still n home is (inl same) = housed home n (sym same.1 ∙ named_home u.names n home is)
-    still n home is (inr given) = absurd (let z : None ≡ Some n = sym given.1 ∙ named_home u.names n home is in cc z)
-
-    page_stays : (n : PageName) (o p : Option ℕ) → home_named t.names n ≡ o → home_named u.names n ≡ p → (home_named u.names n ≡ home_named t.names n) ⊎ ((home_named u.names n ≡ None) × NamesPage means old f n)
-    page_stays n o (Some home) was is = inl (is ∙ sym (still n home is (stays home)))
-    page_stays n None None was is = inl (is ∙ sym was)
-    page_stays n (Some home) None was is = inr (is, gone n home was is (stays home))
-
-    home_stays : (home : ℕ) → HomeStays t u home (MapNames t.maps k home) → (place (store.homes (part new)) home ≡ place (store.homes (part old)) home) ⊎ ((place (store.homes (part new)) home ≡ free) × ((◌≡◌ {A = Option ℕ} None (Some home)) ⊎ ((n : PageName) × (home_named t.names n ≡ Some home) × NamesPage means old f n)))
-    home_stays home (inl same) = inl (ap (λ ps. place ps home) new_homes ∙ same.0 ∙ sym (ap (λ ps. place ps home) old_homes))
-    home_stays home (inr given) = (let n = its_name home given.2 in inr (ap (λ ps. place ps home) new_homes ∙ given.0, inr (n.0, housed home n.0 n.1, named_page home n.0 n.1 given.2)))
+    of_map : (home : ℕ) → (place (store.homes (part new)) home ≡ place (store.homes (part old)) home) ⊎ ((place (store.homes (part new)) home ≡ free) × IsOfMap means old f home)
+    of_map home = elim (home_stays a a' (MapNames t.maps k) (NamesPage means old f) named_page stays old_homes new_homes home) [
+      | inl same ↦ inl same
+      | inr given ↦ (let n = its_name home given.1 in inr (given.0, inr (n.0, housed a a' (MapNames t.maps k) (NamesPage means old f) named_page stays home n.0 n.1, named_page home n.0 n.1 given.1)))
+    ]
 
     pub drops_map : DropsMap means f old new
     drops_map = record {
-      homes = λ home. home_stays home (stays home);
-      pages = λ n. page_stays n (home_named t.names n) (home_named u.names n) refl refl;
+      homes = of_map;
+      pages = page_stays a a' (MapNames t.maps k) (NamesPage means old f) named_page stays;
       maps = λ g ne. refl;
       away = λ g ne. refl;
       filed = filed;
       frames = λ none. (let same = frames (λ home m. (let n = its_name home m in none n.0 (named_page home n.0 n.1 m))) in omega (arith, same));
+    }
+
+  -- the pages of a file went
+  module _ (a : AreTables t) (a' : AreTables u) (file : ℕ) (old_homes : store.homes (part old) ≡ t.places) (new_homes : store.homes (part new) ≡ u.places) (stays : (home : ℕ) → HomeStays t u home (FileHas t.files file home))
+      (frames : ((home : ℕ) → FileHas t.files file home → ⊥) → store.spare (part new) ≡ store.spare (part old)) (gone_all : (page : ℕ) → fin.get u.files (file_page file page) ≡ None) (filed : (g : FilePage ℕ) → g.file ≢ file → filed_in u g ≡ filed_in t g) where
+    -- a page whose home the file names is named by it
+    filed_page : (home : ℕ) (n : PageName) → name_at t.names home ≡ Some n → FileHas t.files file home → FileNames means old file n
+    filed_page home n named m = record {
+      page = m.page;
+      is = get_filed t.names t.files (file_page file m.page) ∙ ap (option_map (name_of t.names)) m.there ∙ ap (λ (o : Option PageName). Some (unwrap_or o nobody)) named;
+    }
+
+    file_name : (home : ℕ) → FileHas t.files file home → (n : PageName) × (name_at t.names home ≡ Some n)
+    file_name home m = filed_named t a (file_page file m.page) (record { 0 = home }) m.there
+
+    of_file : (home : ℕ) → (place (store.homes (part new)) home ≡ place (store.homes (part old)) home) ⊎ ((place (store.homes (part new)) home ≡ free) × IsOfFile means old file home)
+    of_file home = elim (home_stays a a' (FileHas t.files file) (FileNames means old file) filed_page stays old_homes new_homes home) [
+      | inl same ↦ inl same
+      | inr given ↦ (let n = file_name home given.1 in inr (given.0, (n.0, housed a a' (FileHas t.files file) (FileNames means old file) filed_page stays home n.0 n.1, filed_page home n.0 n.1 given.1)))
+    ]
+
+    pub drops_file : DropsFile means file old new
+    drops_file = record {
+      homes = of_file;
+      pages = page_stays a a' (FileHas t.files file) (FileNames means old file) filed_page stays;
+      maps = refl;
+      away = refl;
+      frames = λ none. (let same = frames (λ home m. (let n = file_name home m in none n.0 (filed_page home n.0 n.1 m))) in omega (arith, same));
+      gone = λ page. get_filed u.names u.files (file_page file page) ∙ ap (option_map (name_of u.names)) (gone_all page);
+      filed = filed;
     }

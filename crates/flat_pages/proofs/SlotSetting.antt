@@ -9,6 +9,12 @@ use Rattle.machine_names.specs.declared.names.Tty.{Tty}
 use Rattle.machine_names.specs.declared.names.Access.{Access}
 use Rattle.machine_names.specs.declared.names.Slot.{Slot}
 use Rattle.plain_pages.specs.declared.map.MapEntry.{MapEntry}
+use Rattle.plain_pages.specs.declared.map.MapEntry.TheVariants as map_entry
+use Rattle.std.specs.FinMap as fin
+use Rattle.machine_names.specs.declared.names.FileNo.{FileNo}
+use Rattle.machine_names.specs.Orders.{file_page}
+use Rattle.page_homes.specs.declared.homes.Home.{Home}
+use Rattle.flat_pages.proofs.FiledHomes.{get_filed}
 use Rattle.plain_pages.specs.declared.map.NewEntry.{NewEntry}
 use Rattle.plain_pages.specs.declared.map.NewEntry.TheVariants as new_entry
 use Rattle.page_contracts.specs.DrumWords.{DrumWords}
@@ -24,7 +30,7 @@ use Rattle.flat_pages.specs.declared.held_entry.HeldEntry.TheVariants.{Empty, Pa
 use Rattle.flat_pages.specs.declared.held_entry.Link.{Link}
 use Rattle.flat_pages.specs.declared.held_map.HeldMap.{HeldMap}
 use Rattle.flat_pages.specs.declared.map_tables.MapTables.{MapTables}
-use Rattle.flat_pages.specs.HeldMaps.{AreHeld, fork_at, held_entry, with_entry, index_of, is_map_of, one_later, living_of, entry_of}
+use Rattle.flat_pages.specs.HeldMaps.{AreHeld, fork_at, held_entry, with_entry, index_of, is_map_of, one_later, living_of, entry_of, name_of}
 use Rattle.flat_pages.specs.Walks.{slot_of}
 use Rattle.flat_pages.specs.SlotTables.{Tables, plain_of}
 use Rattle.flat_pages.specs.SlotMeaning.{seen_in, seen_entry}
@@ -124,6 +130,10 @@ module _ {S : Type 0} (store : StoreMeaning S) (old new : S) (tables tables' : M
 
   pub told_follows : (l : Link) (a : Access) → SetsEntry store old new tables tables' at (Follows l a) → (q : HeldEntry) → held_entry t.maps at ≡ Some q → Changes (new_entry.Follows l.serial l.page a)
   told_follows l a sets q there = told_changed (Follows l a) sets q there (new_entry.Follows l.serial l.page a) (λ d. refl)
+
+  pub told_page : (f : FileNo) (page : ℕ) (a : Access) (h : Home) → fin.get t.files (file_page f.0 page) ≡ Some h → SetsEntry store old new tables tables' at (Page h a) → (q : HeldEntry) → held_entry t.maps at ≡ Some q → Changes (new_entry.FilePage f page a)
+  told_page f page a h filed sets q there = told_changed (Page h a) sets q there (new_entry.FilePage f page a) (λ d.
+    sym (ap (λ (o : Option PageName). option_map_or (λ n. map_entry.Names n a) o (entry_of t.names q)) (get_filed t.names t.files (file_page f.0 page) ∙ ap (option_map (name_of t.names)) filed)))
 
   pub told_narrow : (a : Access) (q : HeldEntry) → SetsEntry store old new tables tables' at (narrow_held a q) → held_entry t.maps at ≡ Some q → Changes (new_entry.Narrow a)
   told_narrow a q sets there = told_changed (narrow_held a q) sets q there (new_entry.Narrow a) (λ d. narrowed_entry t.names a q)

@@ -1,28 +1,34 @@
 -- Which page of a store a call on places uses, and what a touch needs first.
 use Rattle.std.proofs.Common.{◌≡◌, ℕ, List, true, false, Bool, cond, Option, None, Some, is_some, refl, sym, ◌∙◌, ap, subst, arith}
 use Rattle.std.specs.Prelude.{nat_le, nat_lt, ◌+◌, ◌≤◌}
-use Rattle.std.specs.Option.{option_map, option_and_then}
+use Rattle.std.specs.Option.{option_map, option_and_then, unwrap_or}
+use Rattle.std.specs.FinMap as fin
 use Rattle.std.proofs.lemmas.Bool.Decides.{nat_tests}
 use Rattle.std.proofs.lemmas.List.{get_or-set_same}
 use Rattle.page_homes.specs.declared.homes.Home.{Home}
 use Rattle.machine_names.specs.declared.names.Kind.{Kind}
 use Rattle.machine_names.specs.declared.names.Kind.TheVariants.{Read, Write, Execute}
 use Rattle.machine_names.specs.declared.names.Place.{Place}
-use Rattle.machine_names.specs.declared.names.Place.TheVariants.{Fork}
+use Rattle.machine_names.specs.declared.names.Place.TheVariants.{Fork, File}
 use Rattle.machine_names.specs.declared.names.Slot.{Slot}
 use Rattle.page_contracts.specs.declared.answers.Found.{Found}
 use Rattle.page_contracts.specs.declared.answers.SpaceHandle.{SpaceHandle}
 use Rattle.page_contracts.specs.declared.answers.Touch.{Touch}
 use Rattle.page_contracts.specs.declared.answers.Touch.TheVariants.{Ready, Zero, Copy, NeedFrame, Full}
-use Rattle.page_contracts.specs.Pages.{PagesMeaning, StandsAt, StandsInSpace, TouchNeeds, UsesOne, absent_or, framed, is_in_core}
+use Rattle.page_contracts.specs.Pages.{FilesMade, PagesMeaning, StandsAt, StandsInSpace, TouchNeeds, UsesOne, absent_or, framed, is_in_core}
 use Rattle.page_contracts.specs.Stores.{StoreMeaning, HomePlace, free, away, here, IsMade, IsSound, IsUsed, Renews, away_at, away_home, free_homes, is_here, is_taken, place}
 use Rattle.flat_pages.specs.declared.chain_walk.Walk.{Walk}
 use Rattle.flat_pages.specs.declared.held_entry.EntryAt.{EntryAt}
-use Rattle.flat_pages.specs.HeldMaps.{index_of, held_entry}
-use Rattle.flat_pages.specs.SlotMeaning.{place_along, slots_meaning, within}
-use Rattle.flat_pages.specs.SlotTables.{Tables, AreTables}
+use Rattle.flat_pages.specs.HeldMaps.{index_of, held_entry, name_of, nobody}
+use Rattle.flat_pages.specs.SlotMeaning.{filed_in, place_along, slots_meaning, within}
+use Rattle.flat_pages.specs.SlotTables.{Tables, files_held, AreTables}
 use Rattle.flat_pages.specs.Walks.{walk}
-use Rattle.flat_pages.specs.SlotTouches.{has_room, is_alone, scene_of, touch_copy, touch_filed, touch_made, walk_of}
+use Rattle.flat_pages.specs.SlotTouches.{has_room, is_alone, scene_of, touch_copy, home_at, home_named, touch_filed, touch_made, walk_of}
+use Rattle.machine_names.specs.Orders.{file_page}
+use Rattle.machine_names.specs.declared.names.PageName.{PageName}
+use Rattle.flat_pages.proofs.Agreement.{filed_named}
+use Rattle.flat_pages.proofs.FiledHomes.{get_filed}
+use Rattle.flat_pages.proofs.Touching.{home_is}
 use Rattle.flat_pages.proofs.HandedOn.{used_within}
 use Rattle.flat_pages.proofs.Settled.{EndsAt}
 
@@ -59,6 +65,21 @@ module _ {P S : Type 0} (store : StoreMeaning S) (part : P → S) (tables : P �
   pub used_at : (q : P) → IsSound store (part p) → (h : Home) → w.home ≡ Some h → IsUsed store h.0 (part p) (part q) → IsUsed (within store part) home p q
   used_at q sound h is_home u = used_within store part home p q (subst (λ (k : ℕ). IsUsed store k (part p) (part q)) (stands_home sound h is_home) u)
 
+-- the page of a place is that of its home, and so that is used
+module _ {P S : Type 0} (store : StoreMeaning S) (part : P → S) (tables : P → Tables) (p : P) (a : AreTables (tables p)) where
+  pub place_used : (at : Place) (home : ℕ) (h : Home) → StandsAt (slots_meaning store part tables) p at home → home_at (tables p) at ≡ Some h → (q : P) → IsSound store (part p) → IsUsed store h.0 (part p) (part q) → IsUsed (within store part) home p q
+  place_used (Fork s) home h stands is q sound u = by (walk_of (tables p).maps s) refl is
+    where
+      by : (o : Option Walk) → walk_of (tables p).maps s ≡ o → option_and_then (λ w. w.home) o ≡ Some h → IsUsed (within store part) home p q
+      by None e k = absurd (cc k)
+      by (Some w) e k = used_at store part tables p (Fork s) home stands s refl w e q sound h k u
+  place_used (File f page) home h stands is q sound u =
+      let n = filed_named (tables p) a (file_page f.0 page) h is in
+      let named : filed_in (tables p) (file_page f.0 page) ≡ Some n.0 = get_filed (tables p).names (tables p).files (file_page f.0 page) ∙ ap (option_map (name_of (tables p).names)) is ∙ ap (λ (o : Option PageName). Some (unwrap_or o nobody)) n.1 in
+      let same : n.0 ≡ stands.name = (let z : Some n.0 ≡ Some stands.name = sym named ∙ stands.named in cc z) in
+      let at : h.0 ≡ home = (let z : Some h.0 ≡ Some home = sym (home_is (tables p).names h.0 n.0 n.1 (λ k e. a.once k h.0 n.0 e n.1)) ∙ ap (home_named (tables p).names) same ∙ stands.there in cc z) in
+      used_within store part home p q (subst (λ (k : ℕ). IsUsed store k (part p) (part q)) at u)
+
 -- the page at the end of the chain of a place is found there, and so it is that page which was used or made
 module _ {P S : Type 0} (store : StoreMeaning S) (part : P → S) (tables : P → Tables) (p q : P) (at : Place) (s : Slot) (is : at ≡ Fork s) (lives : is_some (index_of (tables q).maps s.fork) ≡ true) (h : Home) (ends : EndsAt (tables q).maps s h) (sound : IsSound store (part q)) (there : is_here (place (store.homes (part q)) h.0) ≡ true) where
   abbrev means : PagesMeaning P
@@ -90,6 +111,11 @@ module _ {P S : Type 0} (store : StoreMeaning S) (part : P → S) (tables : P �
 
   pub uses_there : Renews h.0 (store.tenant (part q)) (store.age (part p)) (store.age (part q)) → UsesOne means at p q
   uses_there renews = record { home = h.0; stands = stands_there; here = there; renews = renews }
+
+-- a place of a fork's space leaves what files name
+module _ {P S : Type 0} (store : StoreMeaning S) (part : P → S) (tables : P → Tables) (p q : P) where
+  pub fork_filed : (at : Place) (s : Slot) → at ≡ Fork s → (x : Touch) → files_held (tables q).names (tables q).files ≡ files_held (tables p).names (tables p).files → FilesMade (slots_meaning store part tables) at x p q
+  fork_filed at s is x same = subst (λ (y : Place). FilesMade (slots_meaning store part tables) y x p q) (sym is) (ap fin.get same)
 
 -- a page that was made, and one that was used where it stood, is in a frame
 module _ {S : Type 0} (store : StoreMeaning S) (old new : S) where

@@ -1,5 +1,5 @@
 -- What steps on pages of files do to a store and to the tables beside it.
-use Rattle.std.specs.Prelude.{◌≡◌, ◌≢◌, ◌⊎◌, ℕ, ◌<◌, ◌≤◌, true, None, Some, Option, nat_lt, if◌then◌else◌}
+use Rattle.std.specs.Prelude.{◌≡◌, ◌≢◌, ◌⊎◌, ℕ, ◌<◌, ◌≤◌, List, true, None, Some, Option, nat_lt, if◌then◌else◌}
 use Rattle.std.specs.FinMap as map
 use Rattle.machine_names.specs.Orders.{FilePage, file_page}
 use Rattle.machine_names.specs.PageWords.{zero_words}
@@ -14,12 +14,14 @@ use Rattle.plain_pages.specs.PlainPages.{NumberedPages}
 use Rattle.plain_pages.specs.FilePages.{with_file}
 use Rattle.plain_pages.specs.Room.{uses}
 use Rattle.std.specs.Option.{option_map}
+use Rattle.flat_pages.specs.declared.held_entry.EntryAt.{EntryAt}
+use Rattle.flat_pages.specs.declared.held_map.HeldMap.{HeldMap}
 use Rattle.flat_pages.specs.declared.map_tables.MapTables.{MapTables}
 use Rattle.flat_pages.specs.HeldMaps.{name_of}
 use Rattle.flat_pages.specs.SlotTables.{plain_of}
 use Rattle.flat_pages.specs.SlotMeaning.{filed_in}
 use Rattle.flat_pages.specs.SlotTouches.{scene_of}
-use Rattle.flat_pages.specs.SlotSteps.{HomeStays}
+use Rattle.flat_pages.specs.SlotSteps.{HomeStays, NamesHome}
 use Rattle.flat_pages.specs.TableSteps.{tables_of, home_filed}
 
 -- a free home was taken, for a new page of an owner that a file names now
@@ -47,6 +49,11 @@ IsFiled files f home = map.get files f ≡ Some (record { 0 = home })
 pub record HasHome (files : PagesOf Home) (home : Home) : Type 0 where
   pub at : FilePage ℕ
   pub there : map.get files at ≡ Some home
+
+-- some entry names the page of a home
+pub record IsNamed (maps : List HeldMap) (home : ℕ) : Type 0 where
+  pub at : EntryAt
+  pub there : NamesHome maps at home
 
 -- a page of a file was set, to that of a home or to none: what nothing names any more was given up, and nothing has left its frame
 pub record SetsFile {S : Type 0} (store : StoreMeaning S) (old new : S) (tables tables' : MapTables) (f : FilePage ℕ) (home : Option Home) : Type 0 where

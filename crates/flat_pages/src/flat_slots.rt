@@ -256,7 +256,7 @@ impl<S: Store> FlatSlots<S> {
     ghost use Rattle.machine_names.specs.Orders.{file_page};
     ghost use Rattle.flat_pages.specs.HeldMaps.{name_at};
     ghost use Rattle.flat_pages.specs.SlotTables.{share_of};
-    ghost use Rattle.flat_pages.specs.FileSteps.{EmptiesFile, HasHome, SetsFile};
+    ghost use Rattle.flat_pages.specs.FileSteps.{EmptiesFile, HasHome, IsNamed, SetsFile};
     ghost use Rattle.machine_names.specs.declared.names.Access.{Access as AnAccess};
     ghost use Rattle.page_contracts.specs.Stores.{IsFreed};
     ghost use Rattle.flat_pages.specs.declared.held_entry.HeldEntry.TheVariants as entry;
@@ -368,6 +368,16 @@ impl<S: Store> FlatSlots<S> {
         ensures { SetsFile S.means self.old.store self.new.store self.old.tables self.new.tables (file_page file.0 page) (Some home) }
     {
         self.tables.join_file(file, page, home);
+    }
+
+    // A file names a page that an entry names too, in the place of what it named.
+    fn refile(&mut self, file: FileNo, page: u16, home: Home)
+        requires page { IsFilePage file page }
+        requires entry { IsNamed self.old.tables.maps.held.items home.0 }
+        ensures { SetsFile S.means self.old.store self.new.store self.old.tables self.new.tables (file_page file.0 page) (Some home) }
+    {
+        self.unfile(file, page);
+        self.join_file(file, page, home);
     }
 
     // A file names no page any more at its first pages. Pages that lose their last name are given up.
@@ -489,9 +499,10 @@ impl<S: Store> Pages for FlatSlots<S> {
         match new {
             NewEntry::Empty => self.set_unnamed(at, HeldEntry::Empty),
             NewEntry::FilePage(file, page, access) => {
-                if let Some(home) = self.tables.filed(file, page) {
-                    self.set_filed(at, home, access);
-                }
+                let Some(home) = self.tables.filed(file, page) else {
+                    unreachable!()
+                };
+                self.set_filed(at, home, access);
             }
             NewEntry::Follows(serial, page, access) => {
                 let fork = ForkName {
@@ -600,14 +611,14 @@ impl<S: Store> Pages for FlatSlots<S> {
     }
 
     fn set_file(&mut self, file: FileNo, page: u16, from: Option<Slot>) {
-        let home = match from {
-            Some(slot) => self.home_of(Place::Fork(slot)),
-            None => None,
+        let Some(slot) = from else {
+            self.unfile(file, page);
+            return;
         };
-        self.unfile(file, page);
-        if let Some(home) = home {
-            self.join_file(file, page, home);
-        }
+        let Some(home) = self.home_of(Place::Fork(slot)) else {
+            unreachable!()
+        };
+        self.refile(file, page, home);
     }
 
     fn drop_file(&mut self, file: FileNo) {

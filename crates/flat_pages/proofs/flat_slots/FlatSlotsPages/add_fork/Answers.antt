@@ -130,7 +130,7 @@ returns-in-Empty-clause-adds g c =
     let is = c.add_empty.ensures (g.S.Store.means.homes s.store) in
     let entries = (map_at s.tables.maps.held.items n.result).entries in
     let new = old_new t s.agree n.result c.args.fork n.ensures.fork n.ensures.from n.ensures.below c.requires.terminal c.requires.absent c.requires.room in
-    adds_map g.S.Store.means (λ p. p.store) (λ p. tables_of (g.S.Store.means.homes p.store) p.tables) s _ c.args.fork refl (ap (λ (x : Tables). x.names) is) n.result
+    adds_map g.S.Store.means (λ p. p.store) (λ p. tables_of (g.S.Store.means.homes p.store) p.tables) s _ c.args.fork refl (ap (λ (x : Tables). x.names) is) (ap (λ (x : Tables). x.files) is) n.result
     (index_begun t s.agree n.result c.args.fork n.ensures.fork n.ensures.from n.ensures.below c.requires.terminal c.requires.absent c.requires.room entries new _ is)
     (unnamed_begun t s.agree n.result c.args.fork n.ensures.fork n.ensures.from n.ensures.below c.requires.terminal c.requires.absent c.requires.room entries new _ is)
 
@@ -142,6 +142,6 @@ returns-in-FollowAll-clause-adds g c =
     let is = c.add_follower.ensures (g.S.Store.means.homes s.store) in
     let entries = followers c.in-FollowAll.other.serial c.near_map-near.result in
     let new = followers_new c.in-FollowAll.other.serial c.near_map-near.result in
-    adds_map g.S.Store.means (λ p. p.store) (λ p. tables_of (g.S.Store.means.homes p.store) p.tables) s _ c.args.fork refl (ap (λ (x : Tables). x.names) is) n.result
+    adds_map g.S.Store.means (λ p. p.store) (λ p. tables_of (g.S.Store.means.homes p.store) p.tables) s _ c.args.fork refl (ap (λ (x : Tables). x.names) is) (ap (λ (x : Tables). x.files) is) n.result
     (index_begun t s.agree n.result c.args.fork n.ensures.fork n.ensures.from n.ensures.below c.requires.terminal c.requires.absent c.requires.room entries new _ is)
     (unnamed_begun t s.agree n.result c.args.fork n.ensures.fork n.ensures.from n.ensures.below c.requires.terminal c.requires.absent c.requires.room entries new _ is)

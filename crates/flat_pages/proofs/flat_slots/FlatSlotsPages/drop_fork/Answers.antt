@@ -1,6 +1,7 @@
 use Rattle.std.proofs.Common.{[], refl, sym, ◌∙◌, ap, subst}
 use Rattle.flat_pages.specs.Serials.{serial_of}
-use Rattle.flat_pages.specs.SlotTables.{Tables}
+use Rattle.std.specs.FinMap as fin
+use Rattle.flat_pages.specs.SlotTables.{Tables, files_held}
 use Rattle.flat_pages.specs.TableSteps.{tables_of}
 use Rattle.flat_pages.specs.SlotSteps.{HomeStays}
 use Rattle.flat_pages.specs.Emptying.{MapNames}
@@ -89,3 +90,4 @@ returns-clause-drops g c =
     let agree = ended_agrees store now.store mid.store now.tables mid.tables k c.args.fork index empties mid.agree c.end_fork.new.self c.end_fork.ensures in
     drops_map store (λ p. p.store) (λ p. tables_of (store.homes p.store) p.tables) now _ c.args.fork now.agree agree k index refl refl
     (λ home. subst (λ (x : Tables). HomeStays t x home (MapNames t.maps k home)) (sym ended) (empties.homes home)) empties.frames
+    (ap (λ (x : Tables). fin.get (files_held x.names x.files)) ended ∙ ap fin.get empties.filed)

@@ -2,7 +2,7 @@ use Rattle.std.proofs.Common.{◌∙◌, Some, sym, ap}
 use Rattle.flat_pages.specs.SlotTables.{plain_of}
 use Rattle.flat_pages.specs.TableSteps.{tables_of}
 use Rattle.flat_pages.proofs.Settling.{sized_of}
-use Rattle.flat_pages.proofs.Meeting.{reached, unreached, reached_counted, unreached_page}
+use Rattle.flat_pages.proofs.Meeting.{reached, unreached, reached_counted}
 use Rattle.page_contracts.specs.Pages.{counted}
 use Rattle.flat_pages.proofs.flat_slots.FlatSlotsPages.page_at.Goals as goal
 
@@ -18,4 +18,4 @@ returns-in-None g c =
     let s = c.args.self.now in
     let t = tables_of (g.S.Store.means.homes s.store) s.tables in
     let u = unreached t s.agree c.args.at c.requires.place c.in-None.ensures in
-    record { told = λ d fits passes. sym (ap (counted (plain_of t d)) (unreached_page t c.args.at u d (g.S.Store.means.spare s.store))) }
+    record { told = λ d fits passes. sym (ap (counted (plain_of t d)) (u.none d)) }

@@ -13,7 +13,7 @@ use Rattle.flat_pages.proofs.Meeting.{reached, reached_taken, ready_words}
 use Rattle.flat_pages.proofs.Putting.{replaced, put_away, put_tables, stored_at}
 use Rattle.flat_pages.specs.SlotTables.{AreSized}
 use Rattle.page_contracts.proofs.Losing.{loses_used}
-use Rattle.flat_pages.proofs.Using.{used_at}
+use Rattle.flat_pages.proofs.Using.{place_used}
 use Rattle.flat_pages.proofs.flat_slots.FlatSlotsPages.put.Goals as goal
 
 pub put-is_put-requires-clause-taken : goal.put-is_put-requires-clause-taken
@@ -58,6 +58,7 @@ returns-in-Some-clause-stays g c =
       scene = λ i. scene_with (absent i) t.names (framed.spare i);
       space = refl;
       place = λ i. place_along (framed.found i) t;
+      filed = refl;
       map_homes = refl;
       page_homes = refl;
       lives = refl;
@@ -72,6 +73,4 @@ returns-in-Some-clause-loses g c = loses_used g.S.Store.means c.args.self.now.st
 pub returns-in-Some-clause-uses : goal.returns-in-Some-clause-uses
 returns-in-Some-clause-uses g c home stands =
     let s = c.args.self.now in
-    let t = tables_of (g.S.Store.means.homes s.store) s.tables in
-    let r = reached t s.agree c.args.at c.in-Some.home c.requires.place c.in-Some.ensures in
-    used_at g.S.Store.means (λ p. p.store) (λ p. tables_of (g.S.Store.means.homes p.store) p.tables) s c.args.at home stands r.slot r.is r.walk r.walks _ (g.met.S.Store.sound s.store) c.in-Some.home r.home c.put-is_put.ensures.used
+    place_used g.S.Store.means (λ p. p.store) (λ p. tables_of (g.S.Store.means.homes p.store) p.tables) s s.agree c.args.at home c.in-Some.home stands (sym c.in-Some.ensures) _ (g.met.S.Store.sound s.store) c.put-is_put.ensures.used

@@ -1,9 +1,10 @@
 use Rattle.std.proofs.Common.{Some, sym, ◌∙◌, ap, subst}
+use Rattle.std.specs.FinMap as fin
 use Rattle.plain_pages.specs.declared.map.NewEntry.{NewEntry}
 use Rattle.flat_pages.specs.declared.held_entry.HeldEntry.{HeldEntry}
 use Rattle.flat_pages.specs.SlotSteps.{SetsEntry}
 use Rattle.flat_pages.specs.TableSteps.{tables_of}
-use Rattle.flat_pages.proofs.SlotSetting.{Changes, fork_some, seen_there, narrowed_page, set_lives, set_living, told_empty, told_follows, told_narrow}
+use Rattle.flat_pages.proofs.SlotSetting.{Changes, fork_some, seen_there, narrowed_page, set_lives, set_living, told_empty, told_follows, told_narrow, told_page}
 use Rattle.flat_pages.proofs.flat_slots.FlatSlotsPages.set_entry.Goals as goal
 
 pub set_unnamed-requires-clause-lives : goal.set_unnamed-requires-clause-lives
@@ -79,3 +80,12 @@ returns-in-Follows-clause-uses g c = c.set_unnamed-in-Follows.ensures.used
 
 pub returns-in-Narrow-clause-uses : goal.returns-in-Narrow-clause-uses
 returns-in-Narrow-clause-uses g c = c.set_kept.ensures.used
+
+pub returns-in-Empty-clause-filed : goal.returns-in-Empty-clause-filed
+returns-in-Empty-clause-filed g c = ap fin.get c.set_unnamed.ensures.filed
+
+pub returns-in-Follows-clause-filed : goal.returns-in-Follows-clause-filed
+returns-in-Follows-clause-filed g c = ap fin.get c.set_unnamed-in-Follows.ensures.filed
+
+pub returns-in-Narrow-clause-filed : goal.returns-in-Narrow-clause-filed
+returns-in-Narrow-clause-filed g c = ap fin.get c.set_kept.ensures.filed

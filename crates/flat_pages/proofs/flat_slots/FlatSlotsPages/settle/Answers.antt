@@ -1,4 +1,4 @@
-use Rattle.std.proofs.Common.{◌≡◌, ◌∙◌, true, false, Some, sym, ap, subst, List, refl}
+use Rattle.std.proofs.Common.{◌≡◌, ◌∙◌, true, false, is_some, Some, sym, ap, subst, List, refl}
 use Rattle.page_homes.specs.declared.homes.Home.{Home}
 use Rattle.machine_names.specs.declared.names.Place.{Place}
 use Rattle.plain_pages.specs.References.{settled}
@@ -8,10 +8,14 @@ use Rattle.page_contracts.specs.declared.answers.Touch.TheVariants.{Ready, Copy}
 use Rattle.page_contracts.specs.Stores.{HomePlace, FitsHomes, here, place}
 use Rattle.plain_pages.specs.Maps.{full_access}
 use Rattle.flat_pages.specs.declared.held_entry.HeldEntry.TheVariants.{Page}
-use Rattle.flat_pages.specs.HeldMaps.{held_entry, with_entry}
+use Rattle.flat_pages.specs.HeldMaps.{held_entry, index_of, living_of, with_entry}
 use Rattle.flat_pages.specs.SlotTables.{Tables, plain_of, share_of}
 use Rattle.flat_pages.specs.SlotTouches.{is_alone, touch_of_place}
 use Rattle.flat_pages.specs.TableSteps.{tables_of}
+use Rattle.machine_names.specs.Orders.{file_page}
+use Rattle.flat_pages.proofs.Agreement.{filed_named}
+use Rattle.flat_pages.proofs.FileSettles.{file_bounds, file_settled, near, ready_at, settled_at, zero_frame, zero_room}
+use Rattle.flat_pages.proofs.Rooming.{here_when}
 use Rattle.flat_pages.proofs.Meeting.{copy_held}
 use Rattle.flat_pages.proofs.Settling.{sized_of}
 use Rattle.flat_pages.proofs.Settled.{announced, walk_found, can_copy, ready_away, home_here, copy_lives, stays_told, alone_home, zero_stored, copy_stored, alone_stored, EndsAt, zero_ends, copy_ends, still_lives}
@@ -19,7 +23,7 @@ use Rattle.flat_pages.proofs.EntrySetting.{names_none}
 use Rattle.flat_pages.proofs.Settled.{slot_lives, one_is, not_one}
 use Rattle.flat_pages.proofs.flat_slots.FlatSlotsPages.settle.Goals as goal
 use Rattle.page_contracts.proofs.Losing.{loses_made, loses_used}
-use Rattle.flat_pages.proofs.Using.{made_here, used_here, stands_nowhere, used_at, uses_there}
+use Rattle.flat_pages.proofs.Using.{fork_filed, made_here, used_here, stands_nowhere, used_at, uses_there}
 use Rattle.flat_pages.proofs.flat_slots.FlatSlotsPages.settle.Goals.{in_default-entry-via-in-Page+else-share-eq1, in_default-entry-via-in_default-entry}
 
 pub make_zero-requires-clause-empty : goal.make_zero-requires-clause-empty
@@ -493,3 +497,90 @@ returns-in_default-entry-clause-ready g c home touched stands =
     let r = announced t (store.spare s.store) c.args.at c.in-Fork.slot c.args.kind w c.in-Fork.is c.requires.place (sym c.walk.ensures ∙ c.in-Some.is) c.requires.ready in
     let can = can_copy t s.agree (store.spare s.store) c.in-Fork.slot c.args.kind w r c.in-Some-home.home c.in-Some-copy_for.to c.in-Some-home.is (sym c.copy_for.ensures ∙ c.in-Some-copy_for.is) in
     absurd (let no : Ready ≡ Copy (is_alone t.shares (held_entry t.maps c.in-Some-copy_for.to)) = sym touched ∙ ap (λ (x : Place). touch_of_place t (store.spare s.store) x c.args.kind) c.in-Fork.is ∙ can.is in cc no)
+
+pub settle_filed-requires-clause-page : goal.settle_filed-requires-clause-page
+settle_filed-requires-clause-page g c = file_bounds _ c.args.at c.in-File.file c.in-File.page c.in-File.is c.requires.place
+
+pub settle_filed-requires-clause-here : goal.settle_filed-requires-clause-here
+settle_filed-requires-clause-here g c h there =
+    let s = c.args.self.now in
+    let store = g.S.Store.means in
+    let t = tables_of (store.homes s.store) s.tables in
+    let at = ready_at t (store.spare s.store) c.args.at c.in-File.file c.in-File.page c.args.kind c.in-File.is c.requires.ready in
+    here_when t.places h.0 (s.agree.is_taken h.0 ∙ ap is_some (filed_named t s.agree (file_page c.in-File.file.0 c.in-File.page) h there).1) (near t s.agree (g.met.S.Store.sound s.store).pages (store.spare s.store) c.in-File.file c.in-File.page c.args.kind at h there)
+
+pub settle_filed-requires-clause-room : goal.settle_filed-requires-clause-room
+settle_filed-requires-clause-room g c none =
+    let s = c.args.self.now in
+    let store = g.S.Store.means in
+    let t = tables_of (store.homes s.store) s.tables in
+    let at = ready_at t (store.spare s.store) c.args.at c.in-File.file c.in-File.page c.args.kind c.in-File.is c.requires.ready in
+    zero_room t s.agree (g.met.S.Store.sound s.store).pages (store.spare s.store) c.in-File.file c.in-File.page c.args.kind at none
+
+pub settle_filed-requires-clause-frame : goal.settle_filed-requires-clause-frame
+settle_filed-requires-clause-frame g c none =
+    let s = c.args.self.now in
+    let store = g.S.Store.means in
+    let t = tables_of (store.homes s.store) s.tables in
+    let at = ready_at t (store.spare s.store) c.args.at c.in-File.file c.in-File.page c.args.kind c.in-File.is c.requires.ready in
+    zero_frame t s.agree (g.met.S.Store.sound s.store).pages (store.spare s.store) c.in-File.file c.in-File.page c.args.kind at none
+
+pub returns-in-File : goal.returns-in-File
+returns-in-File g c =
+    let s = c.args.self.now in
+    let store = g.S.Store.means in
+    let new = c.settle_filed.new.self in
+    let at = ready_at (tables_of (store.homes s.store) s.tables) (store.spare s.store) c.args.at c.in-File.file c.in-File.page c.args.kind c.in-File.is c.requires.ready in
+    let done = file_settled store s.store new.store (g.met.S.Store.sound s.store) (g.met.S.Store.sound new.store) s.tables new.tables s.agree new.agree c.in-File.file c.in-File.page c.args.kind c.args.owner c.requires.owner at c.settle_filed.ensures in
+    let k = settled_at store (λ p. p.store) (λ p. p.tables) s new s.agree new.agree c.in-File.file c.in-File.page c.args.kind c.args.owner c.args.at c.in-File.is done in record {
+      told = k.told;
+      settles = k.settles;
+      scene = k.scene;
+      count = k.count;
+      loses = k.loses;
+      uses = k.uses;
+      filed = k.filed;
+      ready = k.ready;
+      lives = λ i f. is_some (index_of (done.maps i) f);
+      forks = ap living_of done.maps;
+      serial = done.own;
+      serials = done.serials;
+      most = done.limit;
+    }
+
+pub returns-in_default-home-clause-filed : goal.returns-in_default-home-clause-filed
+returns-in_default-home-clause-filed g c =
+    let s = c.args.self.now in
+    let store = g.S.Store.means in
+    let t = tables_of (store.homes s.store) s.tables in
+    let w = c.in-Some.walk in
+    let r = announced t (store.spare s.store) c.args.at c.in-Fork.slot c.args.kind w c.in-Fork.is c.requires.place (sym c.walk.ensures ∙ c.in-Some.is) c.requires.ready in
+    fork_filed g.S.Store.means (λ p. p.store) (λ p. tables_of (g.S.Store.means.homes p.store) p.tables) c.args.self.now c.make_zero.new.self c.args.at c.in-Fork.slot c.in-Fork.is _ (zero_stored store s.store c.make_zero.new.self.store (g.met.S.Store.sound s.store) (g.met.S.Store.sound c.make_zero.new.self.store) s.tables c.make_zero.new.self.tables s.agree c.make_zero.new.self.agree c.args.at c.in-Fork.slot c.in-Fork.is c.args.kind w r c.args.owner c.requires.owner c.in_default-home.is c.make_zero.ensures).filed
+
+pub returns-in-Page-clause-filed : goal.returns-in-Page-clause-filed
+returns-in-Page-clause-filed g c =
+    let s = c.args.self.now in
+    let store = g.S.Store.means in
+    let t = tables_of (store.homes s.store) s.tables in
+    let w = c.in-Some.walk in
+    let r = announced t (store.spare s.store) c.args.at c.in-Fork.slot c.args.kind w c.in-Fork.is c.requires.place (sym c.walk.ensures ∙ c.in-Some.is) c.requires.ready in
+    let home_is : Page c.in-Page.field-0 c.in-Page.old ≡ Page c.in-Some-home.home c.in-Page.old = ap (λ (x : Home). Page x c.in-Page.old) (alone_home t s.agree (store.spare s.store) c.in-Fork.slot c.args.kind w r c.in-Some-home.home c.in-Some-copy_for.to c.in-Page.field-0 c.in-Page.old c.in-Some-home.is (sym c.copy_for.ensures ∙ c.in-Some-copy_for.is) (c.entry.ensures ∙ ap Some c.in-Page.is)) in
+    let there : held_entry s.tables.maps.held.items c.in-Some-copy_for.to ≡ Some (Page c.in-Some-home.home c.in-Page.old) = c.entry.ensures ∙ ap Some c.in-Page.is ∙ ap Some home_is in
+    let alone : is_alone s.tables.shares.items (held_entry s.tables.maps.held.items c.in-Some-copy_for.to) ≡ true = ap (is_alone s.tables.shares.items) there ∙ one_is (share_of s.tables.shares.items c.in-Some-home.home.0) (sym c.share.ensures ∙ c.if-share-eq1.true) in
+    fork_filed g.S.Store.means (λ p. p.store) (λ p. tables_of (g.S.Store.means.homes p.store) p.tables) c.args.self.now c.copy_alone.new.self c.args.at c.in-Fork.slot c.in-Fork.is _ (alone_stored store s.store c.copy_alone.new.self.store (g.met.S.Store.sound s.store) (g.met.S.Store.sound c.copy_alone.new.self.store) s.tables c.copy_alone.new.self.tables s.agree c.copy_alone.new.self.agree c.args.at c.in-Fork.slot c.in-Fork.is c.args.kind w r c.args.owner c.requires.owner c.in-Some-home.home c.in-Some-copy_for.to (record full_access { x = w.executes }) c.in-Some-home.is (sym c.copy_for.ensures ∙ c.in-Some-copy_for.is) refl c.in-Page.old there alone c.copy_alone.ensures.tables c.copy_alone.ensures.used).filed
+
+pub returns-in_default-entry-clause-filed : goal.returns-in_default-entry-clause-filed
+returns-in_default-entry-clause-filed g c =
+    let s = c.args.self.now in
+    let store = g.S.Store.means in
+    let t = tables_of (store.homes s.store) s.tables in
+    let w = c.in-Some.walk in
+    let r = announced t (store.spare s.store) c.args.at c.in-Fork.slot c.args.kind w c.in-Fork.is c.requires.place (sym c.walk.ensures ∙ c.in-Some.is) c.requires.ready in
+    let shared : is_alone s.tables.shares.items (held_entry s.tables.maps.held.items c.in-Some-copy_for.to) ≡ false = elim c.in_default-entry.branch [
+      | in_default-entry-via-in-Page+else-share-eq1 v ↦
+          ap (is_alone s.tables.shares.items) (c.entry.ensures ∙ ap Some v.in-Page.is)
+          ∙ ap (λ (x : Home). is_alone s.tables.shares.items (Some (Page x v.in-Page.old))) (alone_home t s.agree (store.spare s.store) c.in-Fork.slot c.args.kind w r c.in-Some-home.home c.in-Some-copy_for.to v.in-Page.field-0 v.in-Page.old c.in-Some-home.is (sym c.copy_for.ensures ∙ c.in-Some-copy_for.is) (c.entry.ensures ∙ ap Some v.in-Page.is))
+          ∙ not_one (share_of s.tables.shares.items c.in-Some-home.home.0) (λ one. v.if-share-eq1.false (v.share.ensures ∙ one))
+      | in_default-entry-via-in_default-entry v ↦ ap (is_alone s.tables.shares.items) c.entry.ensures ∙ names_none s.tables.shares.items c.entry.result (λ h b is. v.in_default-entry.not-Page h b is)
+    ] in
+    fork_filed g.S.Store.means (λ p. p.store) (λ p. tables_of (g.S.Store.means.homes p.store) p.tables) c.args.self.now c.copy_new.new.self c.args.at c.in-Fork.slot c.in-Fork.is _ (copy_stored store s.store c.copy_new.new.self.store (g.met.S.Store.sound s.store) (g.met.S.Store.sound c.copy_new.new.self.store) s.tables c.copy_new.new.self.tables s.agree c.copy_new.new.self.agree c.args.at c.in-Fork.slot c.in-Fork.is c.args.kind w r c.args.owner c.requires.owner c.in-Some-home.home c.in-Some-copy_for.to (record full_access { x = w.executes }) c.in-Some-home.is (sym c.copy_for.ensures ∙ c.in-Some-copy_for.is) refl c.entry.result c.entry.ensures shared c.copy_new.ensures).filed

@@ -53,6 +53,7 @@ returns-clause-stays g c =
       scene = λ i. scene_with (absent i) t.names (used.framed.spare i);
       space = refl;
       place = λ i. place_along (used.framed.found i) t;
+      filed = refl;
       map_homes = refl;
       page_homes = refl;
       lives = refl;
