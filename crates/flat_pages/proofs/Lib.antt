@@ -20,6 +20,7 @@ pub mod Leaving
 pub mod GivenUp
 pub mod Meeting
 pub mod Beginning
+pub mod FilePlaces
 pub mod Seeing
 pub mod Putting
 pub mod EntrySetting

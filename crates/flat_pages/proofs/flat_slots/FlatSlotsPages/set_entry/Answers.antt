@@ -1,4 +1,12 @@
-use Rattle.std.proofs.Common.{Some, sym, ◌∙◌, ap, subst}
+use Rattle.std.proofs.Common.{Option, None, Some, sym, ◌∙◌, ap, subst}
+use Rattle.std.specs.Prelude.{IsSome}
+use Rattle.std.specs.Option.{option_map}
+use Rattle.machine_names.specs.declared.names.PageName.{PageName}
+use Rattle.machine_names.specs.Orders.{file_page}
+use Rattle.plain_pages.specs.NewEntries.{IsNewEntry}
+use Rattle.flat_pages.specs.HeldMaps.{name_of}
+use Rattle.flat_pages.specs.SlotMeaning.{filed_in}
+use Rattle.flat_pages.proofs.FiledHomes.{get_filed}
 use Rattle.std.specs.FinMap as fin
 use Rattle.plain_pages.specs.declared.map.NewEntry.{NewEntry}
 use Rattle.flat_pages.specs.declared.held_entry.HeldEntry.{HeldEntry}
@@ -89,3 +97,32 @@ returns-in-Follows-clause-filed g c = ap fin.get c.set_unnamed-in-Follows.ensure
 
 pub returns-in-Narrow-clause-filed : goal.returns-in-Narrow-clause-filed
 returns-in-Narrow-clause-filed g c = ap fin.get c.set_kept.ensures.filed
+
+pub unreachable-requires : goal.unreachable-requires
+unreachable-requires g c =
+    let m = c.args.self.now.tables in
+    let new = subst (IsNewEntry (filed_in (tables_of (g.S.Store.means.homes c.args.self.now.store) m))) c.in-FilePage.is c.requires.new in
+    let none = get_filed m.names.items m.files (file_page c.in-FilePage.file.0 c.in-FilePage.page) ∙ ap (option_map (name_of m.names.items)) (sym c.filed.ensures ∙ c.in_default-filed.is) in
+    (let z : IsSome {T = PageName} None = subst (λ (o : Option PageName). IsSome o) none new.1 in cc z)
+
+pub set_filed-requires-clause-lives : goal.set_filed-requires-clause-lives
+set_filed-requires-clause-lives g c = fork_some c.args.self.now.tables.maps.held.items c.args.slot.fork c.in-Some.map (sym c.map_of.ensures ∙ c.in-Some.is)
+
+pub returns-in-Some-filed-clause-told : goal.returns-in-Some-filed-clause-told
+returns-in-Some-filed-clause-told g c =
+    let now = c.args.self.now in
+    let new = c.set_filed.new.self in
+    let index = sym c.map_of.ensures ∙ c.in-Some.is in
+    let seen = seen_there (tables_of (g.S.Store.means.homes now.store) now.tables) c.args.slot c.in-Some.map index c.requires.seen in
+    let told = told_page g.S.Store.means now.store new.store now.tables new.tables c.args.slot c.in-Some.map index now.agree.held c.in-FilePage.file c.in-FilePage.page c.in-FilePage.access c.in-Some-filed.home
+    (sym c.filed.ensures ∙ c.in-Some-filed.is) c.set_filed.ensures seen.0 seen.1 in
+    subst (λ (x : NewEntry). Changes g.S.Store.means now.store new.store now.tables new.tables c.args.slot c.in-Some.map index now.agree.held x) (sym c.in-FilePage.is) told
+
+pub returns-in-Some-filed-clause-lives : goal.returns-in-Some-filed-clause-lives
+returns-in-Some-filed-clause-lives g c = set_lives c.args.self.now.tables.maps.held.items c.set_filed.new.self.tables.maps.held.items _ _ c.set_filed.ensures.maps
+
+pub returns-in-Some-filed-clause-forks : goal.returns-in-Some-filed-clause-forks
+returns-in-Some-filed-clause-forks g c = set_living c.args.self.now.tables.maps.held.items c.set_filed.new.self.tables.maps.held.items _ _ c.set_filed.ensures.maps
+
+pub returns-in-Some-filed-clause-filed : goal.returns-in-Some-filed-clause-filed
+returns-in-Some-filed-clause-filed g c = ap fin.get c.set_filed.ensures.filed
