@@ -267,6 +267,7 @@ module _ {P : Type 0} (means : PagesMeaning P) (owner : Tty) where
   grows_more n m k old mid new is h g = record {
     lives = g.lives ∙ h.lives;
     forks = g.forks ∙ h.forks;
+    filed = g.filed ∙ h.filed;
     most = g.most ∙ h.most;
     serial = omega (arith, is, g.serial, h.serial);
     serials = λ t ne. g.serials t ne ∙ h.serials t ne;
@@ -281,6 +282,7 @@ module _ {P : Type 0} (means : PagesMeaning P) (owner : Tty) where
   grows_none n p = record {
     lives = refl;
     forks = refl;
+    filed = refl;
     most = refl;
     serial = omega arith;
     serials = λ t ne. refl;

@@ -19,6 +19,7 @@ use Rattle.page_gather.specs.Gathering.{AreGathered, AreSound, GoesOn, HasWalked
 pub record Grows {P : Type 0} (means : PagesMeaning P) (owner : Tty) (pages : ℕ) (old new : P) : Type 0 where
   pub lives : means.lives new ≡ means.lives old
   pub forks : means.forks_of new ≡ means.forks_of old
+  pub filed : means.filed new ≡ means.filed old
   pub most : means.most new ≡ means.most old
   pub serial : means.serial new owner ≤ means.serial old owner + pages
   pub serials : (t : Tty) → t ≢ owner → means.serial new t ≡ means.serial old t

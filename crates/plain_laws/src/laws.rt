@@ -14,6 +14,9 @@ ghost use Rattle.plain_pages.specs.Maps.{Entries, Link, Chain, access_of, chain,
 ghost use Rattle.plain_pages.specs.References.{in_map, granted, denied, page_at, reference, stored, without_fork, words_at};
 ghost use Rattle.plain_pages.specs.Room.{live, uses};
 ghost use Rattle.machine_names.specs.Bounds.{IsOwner};
+ghost use Rattle.std.specs.declared.option.Option.{Option as AnOption};
+ghost use Rattle.machine_names.specs.Orders.{FilePage};
+ghost use Rattle.plain_pages.specs.FilePages.{with_file, without_file};
 ghost use Rattle.plain_pages.specs.NewEntries.{IsNewEntry, changed};
 ghost use Rattle.plain_pages.specs.WholePages.{AreWhole};
 ghost use Rattle.plain_laws.specs.Laws.{HasCopy, ReadsOn};
@@ -74,8 +77,9 @@ pub fn references_change_no_word()
         → words_at (stored p (in_map at) offset word) (in_map s) ≡ words_at p (in_map s) }
 {}
 
-/// An entry that is set anew and a fork that ends leave whole pages whole, and no more than there were. A page
-/// that keeps a name keeps its words, and one that loses its last name is gone.
+/// An entry that is set anew, a fork that ends, a page of a file that is set to a page that is there or to none, and a
+/// file whose pages are dropped leave whole pages whole, and no more than there were. A page that keeps a name keeps
+/// its words, and one that loses its last name is gone.
 pub fn pages_go_with_their_last_name()
     ensures entry { (p : NumberedPages) (s : ASlot) (new : ANewEntry) → AreWhole p → IsNewEntry (map.get p.files) new → AreWhole (changed p s new) × (live (changed p s new) ≤ live p) }
     ensures entry_words { (p : NumberedPages) (s : ASlot) (new : ANewEntry) (n : APageName) → AreWhole p → IsNewEntry (map.get p.files) new → 0 < uses (changed p s new) n
@@ -83,6 +87,12 @@ pub fn pages_go_with_their_last_name()
     ensures fork { (p : NumberedPages) (f : AForkName) (m : Map) → AreWhole p → map.get p.maps f ≡ Some m → AreWhole (without_fork p f) × (live (without_fork p f) + 1 ≤ live p) }
     ensures fork_words { (p : NumberedPages) (f : AForkName) (m : Map) (n : APageName) → AreWhole p → map.get p.maps f ≡ Some m → 0 < uses (without_fork p f) n
         → map.get (without_fork p f).objects n ≡ map.get p.objects n }
+    ensures file { (p : NumberedPages) (f : FilePage ℕ) (new : AnOption APageName) → AreWhole p → ((n : APageName) → new ≡ Some n → map.contains_key p.objects n ≡ true)
+        → AreWhole (with_file p f new) × (live (with_file p f new) ≤ live p) }
+    ensures file_words { (p : NumberedPages) (f : FilePage ℕ) (new : AnOption APageName) (n : APageName) → AreWhole p → 0 < uses (with_file p f new) n
+        → map.get (with_file p f new).objects n ≡ map.get p.objects n }
+    ensures dropped { (p : NumberedPages) (file : ℕ) → AreWhole p → AreWhole (without_file p file) × (live (without_file p file) ≤ live p) }
+    ensures dropped_words { (p : NumberedPages) (file : ℕ) (n : APageName) → AreWhole p → 0 < uses (without_file p file) n → map.get (without_file p file).objects n ≡ map.get p.objects n }
     ensures gone { (p : NumberedPages) (n : APageName) → AreWhole p → uses p n ≡ 0 → map.get p.objects n ≡ None }
 {}
 

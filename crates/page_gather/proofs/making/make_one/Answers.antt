@@ -56,6 +56,7 @@ returns-in-Zero-clause-grows g c =
     let first : Grows g.P.Pages.means c.args.owner 1 c.args.pages.now c.settle-in-Zero.new.self = record {
       lives = s.lives;
       forks = s.forks;
+      filed = s.filed;
       most = s.most;
       serial = s.serial;
       serials = s.serials;

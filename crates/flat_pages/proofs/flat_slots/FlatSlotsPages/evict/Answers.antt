@@ -21,6 +21,7 @@ returns-clause-same g c =
         scene = λ i. scene_with (absent i) t.names (there.framed.spare i);
         space = refl;
         place = λ i. place_along (there.framed.found i) t;
+        filed = refl;
         map_homes = refl;
         page_homes = refl;
         lives = refl;
