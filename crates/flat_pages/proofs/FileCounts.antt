@@ -102,7 +102,7 @@ sum_most w n (x ∷ xs) most = times (length xs) n (w x) (sum_by w xs) (sum_by w
 filed_most : (t : Tables) → AreTables t → (k : ℕ) → filed_total k t.files ≤ MOST_FILES * FILE_PAGES
 filed_most t a k =
     let within : (i : ℕ) (e : FilePage ℕ × Home) → slice_get (fin.entries t.files) i ≡ Some e → InRange e.0 × (0 ≤ number e.0) = λ i e is.
-      (let v = some_is (fin.get t.files e.0) (fin.contains_key-keys t.files e.0 ∙ member_there (fin.entries t.files) i e is) in let r = a.filed e.0 v.0 v.1 in ((r.0, r.1), omega arith)) in
+    (let v = some_is (fin.get t.files e.0) (fin.contains_key-keys t.files e.0 ∙ member_there (fin.entries t.files) i e is) in let r = a.filed e.0 v.0 v.1 in ((r.0, r.1), omega arith)) in
     omega (arith, few_from (fin.entries t.files) 0 (fin.entries_sorted t.files) within (omega arith), values_most (fin.entries t.files))
   where
     values_most : (es : List (FilePage ℕ × Home)) → sum_by (is_at k) (each (λ e. e.1) es) ≤ length es

@@ -113,12 +113,12 @@ module _ {S : Type 0} (store : StoreMeaning S) (file : ℕ) where
       → SetsFile store now new then_tables tables' (file_page file page) None → EmptiesFile store old new tables tables' file (page + 1)
   empties_more old now new tables then_tables tables' page told so_far sets = record {
     told = λ d fits.
-      (let before = so_far.told d fits in
-      let step = sets.told d before.0 in
-      let p : NumberedPages = plain_of (tables_of (store.homes now) then_tables) d in (
-        step.0,
-        fewer_on _ p _ file before.1 (subst (λ (q : NumberedPages). AreFewerFiled p q file) (sym step.1) (fewer_filed p (told.whole d before.0) file page)),
-      ));
+        (let before = so_far.told d fits in
+        let step = sets.told d before.0 in
+        let p : NumberedPages = plain_of (tables_of (store.homes now) then_tables) d in (
+          step.0,
+          fewer_on _ p _ file before.1 (subst (λ (q : NumberedPages). AreFewerFiled p q file) (sym step.1) (fewer_filed p (told.whole d before.0) file page)),
+        ));
     gone = λ j l. elim (cases_eq j page) [
       | inl same ↦ ap (λ k. fin.get tables'.files (file_page file k)) same ∙ sets.here
       | inr ne ↦ sets.others (file_page file j) (λ e. ne (ap (λ (x : FilePage ℕ). x.page) e)) ∙ so_far.gone j (omega (arith, l, ne))
@@ -201,9 +201,11 @@ module _ {S : Type 0} (store : StoreMeaning S) (file : ℕ) (old new : S) (table
 
   pub told_dropped : AreTold (tables_of (store.homes old) tables) → (k : EmptiesFile store old new tables tables' file FILE_PAGES) → (d : DrumWords) → FitsHomes (store.homes old) d
       → FitsHomes (store.homes new) d × (plain_of (tables_of (store.homes new) tables') d ≡ without_file (plain_of (tables_of (store.homes old) tables) d) file)
-  told_dropped told k d fits = (let r = k.told d fits in
-    (r.0, fewer_without (plain_of (tables_of (store.homes old) tables) d) (plain_of (tables_of (store.homes new) tables') d) file (told.whole d fits) r.1
-      (λ page. get_filed tables'.names.items tables'.files (file_page file page) ∙ ap (option_map (name_of tables'.names.items)) (emptied_all k page))))
+  told_dropped told k d fits = (let r = k.told d fits in (
+    r.0,
+    fewer_without (plain_of (tables_of (store.homes old) tables) d) (plain_of (tables_of (store.homes new) tables') d) file (told.whole d fits) r.1
+        (λ page. get_filed tables'.names.items tables'.files (file_page file page) ∙ ap (option_map (name_of tables'.names.items)) (emptied_all k page)),
+  ))
 
 -- a home that files name keeps the name of its page, where files name what they named
 name_still : (names names' : List (Option PageName)) (files : PagesOf Home) (at : FilePage ℕ) (h : Home) → fin.get files at ≡ Some h → files_held names' files ≡ files_held names files → name_of names' h ≡ name_of names h

@@ -177,11 +177,11 @@ module _ {S : Type 0} (store : StoreMeaning S) (old new : S) (sound_old : IsSoun
     told = λ d fit. (
       fits d fit,
       (let w = tables_whole t a d (sized_of t.places d fit sound_old.pages) in
-        still_same (plain_of t d) (plain_of t' d) (with_file (plain_of t d) f (option_map (name_of t.names) o))
-        (pages_still t t' a a' d (sized_of t.places d fit sound_old.pages) (sized_of t'.places d (fits d fit) sound_new.pages) names (words d) serials limit)
-        (filed_still nat_cmp_total fin.nat_cmp-IsAntisymmetric (plain_of t d) f (option_map (name_of t.names) o) w)
-        (ap (maps_held t'.names) maps ∙ maps_alike t.names t'.names t.maps entries ∙ sym (filed_maps nat_cmp_total fin.nat_cmp-IsAntisymmetric (plain_of t d) f (option_map (name_of t.names) o)))
-        (alike ∙ ap (files_held t.names) files ∙ held_with o d ∙ sym (filed_files nat_cmp_total fin.nat_cmp-IsAntisymmetric (plain_of t d) f (option_map (name_of t.names) o)))),
+          still_same (plain_of t d) (plain_of t' d) (with_file (plain_of t d) f (option_map (name_of t.names) o))
+          (pages_still t t' a a' d (sized_of t.places d fit sound_old.pages) (sized_of t'.places d (fits d fit) sound_new.pages) names (words d) serials limit)
+          (filed_still nat_cmp_total fin.nat_cmp-IsAntisymmetric (plain_of t d) f (option_map (name_of t.names) o) w)
+          (ap (maps_held t'.names) maps ∙ maps_alike t.names t'.names t.maps entries ∙ sym (filed_maps nat_cmp_total fin.nat_cmp-IsAntisymmetric (plain_of t d) f (option_map (name_of t.names) o)))
+          (alike ∙ ap (files_held t.names) files ∙ held_with o d ∙ sym (filed_files nat_cmp_total fin.nat_cmp-IsAntisymmetric (plain_of t d) f (option_map (name_of t.names) o)))),
     );
     here = ap (λ m. fin.get m f) files ∙ with_here t.files f o;
     others = λ g ne. ap (λ m. fin.get m g) files ∙ with_elsewhere t.files f g o ne;

@@ -113,7 +113,7 @@ files_still names names' files home none others = files_alike names names' files
 module _ (names : List (Option PageName)) (files : PagesOf Home) (f : FilePage ℕ) where
   pub held_insert : (h : Home) → files_held names (fin.insert files f h) ≡ fin.insert (files_held names files) f (name_of names h)
   held_insert h = fin.same_map filed_order filed_apart (files_held names (fin.insert files f h)) (fin.insert (files_held names files) f (name_of names h)) (λ g.
-    get_filed names (fin.insert files f h) g ∙ ap (option_map (name_of names)) (fin.get-insert filed_order files f h g) ∙ by g (eq_by_cmp R g f) ∙ sym (fin.get-insert filed_order (files_held names files) f (name_of names h) g))
+      get_filed names (fin.insert files f h) g ∙ ap (option_map (name_of names)) (fin.get-insert filed_order files f h g) ∙ by g (eq_by_cmp R g f) ∙ sym (fin.get-insert filed_order (files_held names files) f (name_of names h) g))
     where
       by : (g : FilePage ℕ) (b : Bool) → option_map (name_of names) (cond b (Some h) (fin.get files g)) ≡ cond b (Some (name_of names h)) (fin.get (files_held names files) g)
       by g true = refl
@@ -121,7 +121,7 @@ module _ (names : List (Option PageName)) (files : PagesOf Home) (f : FilePage �
 
   pub held_remove : files_held names (fin.remove files f) ≡ fin.remove (files_held names files) f
   held_remove = fin.same_map filed_order filed_apart (files_held names (fin.remove files f)) (fin.remove (files_held names files) f) (λ g.
-    get_filed names (fin.remove files f) g ∙ ap (option_map (name_of names)) (fin.get-remove filed_order files f g) ∙ by g (eq_by_cmp R g f) ∙ sym (fin.get-remove filed_order (files_held names files) f g))
+      get_filed names (fin.remove files f) g ∙ ap (option_map (name_of names)) (fin.get-remove filed_order files f g) ∙ by g (eq_by_cmp R g f) ∙ sym (fin.get-remove filed_order (files_held names files) f g))
     where
       by : (g : FilePage ℕ) (b : Bool) → option_map (name_of names) (cond b None (fin.get files g)) ≡ cond b None (fin.get (files_held names files) g)
       by g true = refl

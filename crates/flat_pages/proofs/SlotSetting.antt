@@ -133,7 +133,7 @@ module _ {S : Type 0} (store : StoreMeaning S) (old new : S) (tables tables' : M
 
   pub told_page : (f : FileNo) (page : ℕ) (a : Access) (h : Home) → fin.get t.files (file_page f.0 page) ≡ Some h → SetsEntry store old new tables tables' at (Page h a) → (q : HeldEntry) → held_entry t.maps at ≡ Some q → Changes (new_entry.FilePage f page a)
   told_page f page a h filed sets q there = told_changed (Page h a) sets q there (new_entry.FilePage f page a) (λ d.
-    sym (ap (λ (o : Option PageName). option_map_or (λ n. map_entry.Names n a) o (entry_of t.names q)) (get_filed t.names t.files (file_page f.0 page) ∙ ap (option_map (name_of t.names)) filed)))
+      sym (ap (λ (o : Option PageName). option_map_or (λ n. map_entry.Names n a) o (entry_of t.names q)) (get_filed t.names t.files (file_page f.0 page) ∙ ap (option_map (name_of t.names)) filed)))
 
   pub told_narrow : (a : Access) (q : HeldEntry) → SetsEntry store old new tables tables' at (narrow_held a q) → held_entry t.maps at ≡ Some q → Changes (new_entry.Narrow a)
   told_narrow a q sets there = told_changed (narrow_held a q) sets q there (new_entry.Narrow a) (λ d. narrowed_entry t.names a q)

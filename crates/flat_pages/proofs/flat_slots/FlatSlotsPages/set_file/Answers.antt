@@ -56,7 +56,7 @@ returns g c =
     let r = reached t s.agree (Fork c.in-Some.slot) c.in-Some-home_of.home place (sym c.in-Some-home_of.is ∙ c.home_of.ensures) in
     let k = c.refile.ensures in record {
       told = λ d fits. (let x = k.told d fits in
-        (x.0, x.1 ∙ sym (ap (λ (o : Option Slot). filed_by (plain_of t d) (file_page c.args.file.0 c.args.page) o) c.in-Some.is ∙ ap (λ (o : Option PageName). with_file (plain_of t d) (file_page c.args.file.0 c.args.page) o) (r.page d))));
+          (x.0, x.1 ∙ sym (ap (λ (o : Option Slot). filed_by (plain_of t d) (file_page c.args.file.0 c.args.page) o) c.in-Some.is ∙ ap (λ (o : Option PageName). with_file (plain_of t d) (file_page c.args.file.0 c.args.page) o) (r.page d))));
       scene = k.core;
       filed = files_one store (λ p. p.store) (λ p. p.tables) s new (file_page c.args.file.0 c.args.page) (Some c.in-Some-home_of.home) k _ (sym (ap is_some c.in-Some.is));
       loses = k.lost;
