@@ -1,5 +1,5 @@
 // The files that there are.
-ghost use Rattle.std.specs.Prelude.{◌≡◌, ℕ, IfOk, IfSome, IsSome, MatchOption, MatchResult, Some};
+ghost use Rattle.std.specs.Prelude.{◌≡◌, ◌<◌, ◌↔◌, ℕ, IfOk, IfSome, IsSome, IsTrue, MatchOption, MatchResult, Some};
 ghost use Rattle.std.specs.FinMap as map;
 ghost use Rattle.machine_names.specs.Bounds.{IsFileName};
 ghost use Rattle.plain_files.specs.Directory.{AreFiles, ComesAfter, Creates, IsAbsent, IsNext};
@@ -74,6 +74,13 @@ impl Dir {
         let place = count_before(&self.order, &self.names, name.as_slice());
         let f = *self.order.get(place)?;
         (self.name_of(f).as_slice() == name.as_slice()).then_some(f)
+    }
+
+    /// Whether there may be one more file.
+    pub fn has_room(&self) -> bool
+        ensures { IsTrue result ↔ (map.len self.now < MOST_FILES) }
+    {
+        self.order.len() < MOST_FILES
     }
 
     /// Makes a file of this name, which isn't there, under the least number that is free. FilesFull

@@ -1,6 +1,7 @@
 // The JFNs of one job.
-ghost use Rattle.std.specs.Prelude.{◌≡◌, ◌<◌, ◌≤◌, IfOk, IfSome, IsSome, MatchResult};
+ghost use Rattle.std.specs.Prelude.{◌≡◌, ◌+◌, ◌<◌, ◌≤◌, IfOk, IfSome, IsSome, MatchOption, MatchResult};
 ghost use Rattle.std.specs.FinMap as map;
+ghost use Rattle.number_map.specs.Numbers.{AreTaken, IsLeastFree};
 ghost use Rattle.plain_files.specs.Bytes.{IsByteSize};
 ghost use Rattle.plain_files.specs.JobFiles.{AreJfns, CanSeek, TakesLeast, moved, names_in, opened};
 
@@ -63,6 +64,15 @@ impl Jfns {
         ensures jfns { AreJfns self.now }
     {
         self.held.get(n as usize)
+    }
+
+    /// The least number from 1 on that no JFN has. None exactly where the job holds as many JFNs as
+    /// it may.
+    pub fn first_free(&self) -> Option<u32>
+        ensures { MatchOption result (AreTaken self.now 1 (1 + MOST_JFNS))
+            (λ n. (n ≤ MOST_JFNS) × IsLeastFree self.now 1 n) }
+    {
+        Some(self.held.first_free(FIRST_JFN)? as u32)
     }
 
     /// Gives a file the least number that is free; the file isn't open by it. JfnsFull exactly

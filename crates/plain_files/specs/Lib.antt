@@ -3,3 +3,5 @@ pub mod Sizes
 pub mod Directory
 pub mod JobFiles
 pub mod Jobs
+pub mod OpenFiles
+pub mod NamedFiles

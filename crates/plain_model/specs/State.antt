@@ -4,18 +4,11 @@ use Rattle.std.specs.Ordering.{nat_cmp}
 use Rattle.std.specs.FinMap as map
 use Rattle.machine_names.specs.declared.names.ForkName.{ForkName}
 use Rattle.plain_model.specs.declared.fork.Fork.{Fork}
-use Rattle.plain_files.specs.declared.jfn.Mode.{Mode}
 use Rattle.plain_model.specs.declared.fork.TerminalMode.{TerminalMode}
 use Rattle.machine_names.specs.Orders.{fork_cmp, name_cmp}
 use Rattle.plain_pages.specs.PlainPages.{NamedPages, first_serials, opening_pages}
 use Rattle.plain_files.specs.Sizes.{PlainFile}
-
--- what a JFN stands for: the name of a file, how it is open, the position and its byte size
-pub record OpenFile : Type 0 where
-  pub file : List ℕ
-  pub mode : Option Mode
-  pub at : ℕ
-  pub size : ℕ
+use Rattle.plain_files.specs.OpenFiles.{OpenFiles}
 
 -- a job: its user, its top fork, who reads its terminal, the command line, the start address of its
 -- last RUN command, its JFNs, the characters stored, and the channels of the codes that are assigned
@@ -25,7 +18,7 @@ pub record PlainJob : Type 0 where
   pub mode : TerminalMode
   pub line : List ℕ
   pub start : Option ℕ
-  pub jfns : map.FinMap nat_cmp OpenFile
+  pub jfns : OpenFiles
   pub input : List ℕ
   pub codes : map.FinMap nat_cmp (ForkName × ℕ)
 
