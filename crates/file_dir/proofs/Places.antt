@@ -14,7 +14,7 @@ use Rattle.std.specs.FinMap as map
 use Rattle.number_map.proofs.Keys.{get_put, get_put_other, get_gone, get_gone_other}
 use Rattle.machine_names.specs.declared.names.FileNo.{FileNo}
 use Rattle.machine_names.specs.Bounds.{IsFileName}
-use Rattle.plain_files.specs.declared.bounds.TheConstants.{MOST_FILES}
+use Rattle.machine_names.specs.declared.names.TheConstants.{MOST_FILES}
 use Rattle.plain_files.specs.Directory.{AreFiles, ComesBefore, Files, IsAbsent}
 use Rattle.file_dir.specs.Order.{IsOrder, file_at, is_before, precedes}
 use Rattle.file_dir.proofs.Texts.{before_itself, before_both, before_is, is_before_true, not_before, compared}

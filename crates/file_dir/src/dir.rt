@@ -6,10 +6,9 @@ ghost use Rattle.plain_files.specs.Directory.{AreFiles, ComesAfter, Creates, IsA
 
 use crate::order::{Names, count_before, place_behind, place_of};
 use crate::reading::joined;
-use machine_names::{DirName, FileName, FileNo};
+use machine_names::{DirName, FileName, FileNo, MOST_FILES};
 use number_map::NumberMap;
 use outside::Memory;
-use plain_files::MOST_FILES;
 use std::alloc::Global;
 use std::marker::Model;
 
@@ -30,7 +29,7 @@ impl Model for Dir {
     ghost use Rattle.std.specs.Coded.{coded_list, coded_ℕ};
     ghost use Rattle.std.specs.FinMap as map;
     ghost use Rattle.std.specs.Vec.{vec_capacity};
-    ghost use Rattle.plain_files.specs.declared.bounds.TheConstants.{MOST_FILES};
+    ghost use Rattle.machine_names.specs.declared.names.TheConstants.{MOST_FILES};
     ghost use Rattle.plain_files.specs.Directory.{AreFiles, Files};
     ghost use Rattle.file_dir.specs.Order.{IsOrder};
 

@@ -4,9 +4,8 @@ ghost use Rattle.std.specs.List.Sorted.{IsPartitionPoint};
 ghost use Rattle.std.specs.FinMap as map;
 ghost use Rattle.file_dir.specs.Order.{IsBehind, IsOrder, file_at, precedes};
 
-use machine_names::{FileName, FileNo};
+use machine_names::{FileName, FileNo, MOST_FILES};
 use number_map::NumberMap;
-use plain_files::MOST_FILES;
 
 /// The full name of each file, by number.
 pub(crate) type Names = NumberMap<FileName, MOST_FILES>;

@@ -13,7 +13,7 @@ use Rattle.flat_pages.specs.declared.held_entry.HeldEntry.TheVariants.{Empty}
 use Rattle.flat_pages.specs.declared.held_map.HeldMap.{HeldMap}
 use Rattle.flat_pages.specs.declared.map_tables.MapTables.{MapTables}
 use Rattle.flat_pages.specs.HeldMaps.{fork_at, held_entry}
-use Rattle.flat_pages.specs.SlotTables.{plain_of}
+use Rattle.flat_pages.specs.SlotTables.{plain_of, files_held}
 use Rattle.flat_pages.specs.SlotTouches.{scene_of}
 use Rattle.flat_pages.specs.TableSteps.{tables_of}
 use Rattle.flat_pages.specs.SlotSteps.{HomeStays, NamesHome}
@@ -40,6 +40,8 @@ pub record EmptiesMap {S : Type 0} (store : StoreMeaning S) (old new : S) (table
   pub many : length tables'.maps.held.items ≡ length tables.maps.held.items
   pub forks : (j : ℕ) → fork_at tables'.maps.held.items j ≡ fork_at tables.maps.held.items j
   pub entries : (page : ℕ) → page < pages → held_entry tables'.maps.held.items (record { map = k; page = page }) ≡ Some Empty
+  pub files : tables'.files ≡ tables.files
+  pub filed : files_held tables'.names.items tables'.files ≡ files_held tables.names.items tables.files
   pub serials : tables'.serials ≡ tables.serials
   pub living : tables'.living ≡ tables.living
   pub limit : tables'.limit ≡ tables.limit

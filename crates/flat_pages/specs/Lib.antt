@@ -12,3 +12,4 @@ pub mod TableSteps
 pub mod SlotSteps
 pub mod SlotMeaning
 pub mod Emptying
+pub mod FileSteps

@@ -1,12 +1,13 @@
 -- What the clauses of pages say of maps in memory over a store.
-use Rattle.std.specs.Prelude.{◌≡◌, ℕ, ◌+◌, ◌≤◌, List, length, true, false, Option, None, Some, is_some, MatchOption}
+use Rattle.std.specs.Prelude.{◌≡◌, ℕ, ◌+◌, ◌<◌, ◌≤◌, List, length, true, false, Option, None, Some, is_some, IsSome, MatchOption}
 use Rattle.std.specs.Option.{option_map, option_and_then}
 use Rattle.std.specs.FinMap as map
 use Rattle.std.proofs.Common.{refl, sym, ◌∙◌, ap, subst}
 use Rattle.machine_names.specs.declared.names.ForkName.{ForkName}
 use Rattle.machine_names.specs.declared.names.PageName.{PageName}
 use Rattle.machine_names.specs.declared.names.Slot.{Slot}
-use Rattle.machine_names.specs.declared.names.TheConstants.{MOST_FORKS}
+use Rattle.machine_names.specs.declared.names.TheConstants.{MOST_FORKS, MOST_FILES, FILE_PAGES}
+use Rattle.machine_names.specs.Orders.{FilePage}
 use Rattle.page_contracts.specs.declared.answers.Found.{Found}
 use Rattle.page_contracts.specs.declared.answers.SpaceHandle.{SpaceHandle}
 use Rattle.page_contracts.specs.declared.answers.Seen.{Seen}
@@ -20,7 +21,7 @@ use Rattle.flat_pages.specs.declared.held_entry.HeldEntry.{HeldEntry}
 use Rattle.flat_pages.specs.Serials.{serial_of}
 use Rattle.flat_pages.specs.HeldMaps.{index_of, held_entry, entry_of, living_of, maps_held}
 use Rattle.flat_pages.specs.Walks.{walk}
-use Rattle.flat_pages.specs.SlotTables.{Tables, plain_of}
+use Rattle.flat_pages.specs.SlotTables.{Tables, plain_of, files_held}
 use Rattle.flat_pages.specs.SlotTouches.{home_named, scene_of, touch_of_place}
 
 -- an entry as a look at it finds it; its map is always in memory
@@ -34,6 +35,10 @@ seen_in t s = seen_entry t (option_and_then (λ k. held_entry t.maps (record { m
 -- where the page at the end of a chain is, if it is in a frame
 abbrev pub place_along : (ℕ → Option Found) → Tables → SpaceHandle → ℕ → Option Found
 place_along found t space page = option_and_then (λ w. option_and_then (λ h. found h.0) w.home) (walk t.maps (record { map = space.0; page = page }))
+
+-- what files name
+abbrev pub filed_in : Tables → FilePage ℕ → Option PageName
+filed_in t = map.get (files_held t.names t.files)
 
 -- a store's meaning, for what has a store
 abbrev pub within : {P S : Type 0} → StoreMeaning S → (P → S) → StoreMeaning P
@@ -59,6 +64,7 @@ slots_meaning store part tables = record {
   scene = λ p. scene_of (tables p) (store.spare (part p));
   touched = λ p. touch_of_place (tables p) (store.spare (part p));
   seen = λ p. seen_in (tables p);
+  filed = λ p. filed_in (tables p);
   lives = λ p f. is_some (index_of (tables p).maps f);
   forks_of = λ p. living_of (tables p).maps;
   serial = λ p. serial_of (tables p).serials;
@@ -83,6 +89,7 @@ pub record AreTold (t : Tables) : Type 0 where
   pub away : (n : PageName) (home : ℕ) (frames : ℕ) → (scene_of t frames).page_away n ≡ Some home → place t.places home ≡ away
   pub there : (d : DrumWords) (n : PageName) (home frames : ℕ) → FitsHomes t.places d → (scene_of t frames).page_away n ≡ Some home → map.contains_key (plain_of t d).objects n ≡ true
   pub taken : (n : PageName) (home : ℕ) → home_named t.names n ≡ Some home → is_taken (place t.places home) ≡ true
+  pub filed : (f : FilePage ℕ) (n : PageName) → filed_in t f ≡ Some n → (f.file < MOST_FILES) × (f.page < FILE_PAGES) × IsSome (home_named t.names n)
   pub apart : (n m : PageName) (home : ℕ) → home_named t.names n ≡ Some home → home_named t.names m ≡ Some home → n ≡ m
   pub housed : (d : DrumWords) (n : PageName) → FitsHomes t.places d → is_some (home_named t.names n) ≡ map.contains_key (plain_of t d).objects n
   pub homes : length t.places ≤ t.limit
@@ -132,6 +139,7 @@ module _ {P S : Type 0} (store : StoreMeaning S) (part : P → S) where
       map_homes = λ f. refl;
       page_homes = λ n. ap (λ (places : List HomePlace). away_of places (home_named (tables p).names n)) (sym same);
       taken = λ n home is. ap (λ (places : List HomePlace). is_taken (place places home)) same ∙ told.taken n home is;
+      filed = told.filed;
       apart = told.apart;
       frames = refl;
       homes = subst (λ (places : List HomePlace). length places ≤ (tables p).limit) (sym same) told.homes;
@@ -141,6 +149,7 @@ module _ {P S : Type 0} (store : StoreMeaning S) (part : P → S) where
     pub slots_agree : (d : DrumWords) → FitsHomes (tables p).places d → Agrees (slots_meaning store part tables) p (plain_of (tables p) d)
     slots_agree d fits = record {
       living = told.lives;
+      filed = refl;
       next = λ t owner. refl;
       number = told.number d fits;
       bound = refl;

@@ -16,7 +16,7 @@ use Rattle.flat_pages.specs.declared.held_entry.HeldEntry.{HeldEntry}
 use Rattle.flat_pages.specs.declared.held_entry.HeldEntry.TheVariants.{Empty, Page, Follows}
 use Rattle.flat_pages.specs.HeldMaps.{held_entry, name_at, with_entry, entry_of}
 use Rattle.flat_pages.specs.Walks.{slot_of}
-use Rattle.flat_pages.specs.SlotTables.{Tables, plain_of}
+use Rattle.flat_pages.specs.SlotTables.{Tables, plain_of, files_held}
 use Rattle.flat_pages.specs.SlotTouches.{scene_of}
 use Rattle.flat_pages.specs.TableSteps.{tables_of, home_taken}
 
@@ -40,6 +40,8 @@ pub record SetsEntry {S : Type 0} (store : StoreMeaning S) (old new : S) (tables
   pub told : (d : DrumWords) (s : Slot) → slot_of tables.maps.held.items at ≡ Some s → FitsHomes (store.homes old) d
       → FitsHomes (store.homes new) d × (plain_of (tables_of (store.homes new) tables') d ≡ entry_put (plain_of (tables_of (store.homes old) tables) d) s (entry_of tables.names.items e))
   pub maps : tables'.maps.held.items ≡ with_entry tables.maps.held.items at e
+  pub files : tables'.files ≡ tables.files
+  pub filed : files_held tables'.names.items tables'.files ≡ files_held tables.names.items tables.files
   pub serials : tables'.serials ≡ tables.serials
   pub living : tables'.living ≡ tables.living
   pub limit : tables'.limit ≡ tables.limit

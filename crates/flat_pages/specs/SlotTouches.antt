@@ -1,6 +1,7 @@
 -- What references find of maps in memory over a store, and what is in frames.
 use Rattle.std.specs.Prelude.{ℕ, ◌+◌, List, [], ◌∷◌, Bool, true, false, Option, None, Some, if◌then◌else◌, ◌==◌, nat_le}
 use Rattle.std.specs.Option.{option_map_or, option_and_then}
+use Rattle.std.specs.FinMap as map
 use Rattle.machine_names.specs.declared.names.PageName.{PageName}
 use Rattle.page_homes.specs.declared.homes.Home.{Home}
 use Rattle.machine_names.specs.declared.names.Kind.{Kind}
@@ -10,6 +11,7 @@ use Rattle.machine_names.specs.declared.names.Place.TheVariants.{Fork, File}
 use Rattle.machine_names.specs.declared.names.Slot.{Slot}
 use Rattle.page_contracts.specs.declared.answers.Touch.{Touch}
 use Rattle.page_contracts.specs.declared.answers.Touch.TheVariants.{Ready, Zero, Copy, Denied, Full}
+use Rattle.machine_names.specs.Orders.{file_page}
 use Rattle.plain_pages.specs.Room.{same_page}
 use Rattle.page_contracts.specs.Pages.{Scene, absent_or, framed}
 use Rattle.page_contracts.specs.Stores.{away_at}
@@ -76,10 +78,21 @@ touch_walked absent t scene kind (Some w) = if allows kind w then touch_made abs
 abbrev pub walk_of : List HeldMap → Slot → Option Walk
 walk_of maps s = option_and_then (λ k. walk maps (record { map = k; page = s.page })) (index_of maps s.fork)
 
--- what a touch of a place answers; there are no file places
+-- what a reference finds of a page of a file, or of none: a write may make one
+abbrev pub touch_filed : (ℕ → Option ℕ) → Tables → Scene → Kind → Option Home → Touch
+touch_filed absent t scene kind (Some h) = touch_made absent t scene (Some h) None
+touch_filed absent t scene Write None = touch_made absent t scene None None
+touch_filed absent t scene kind None = Denied kind
+
+-- the home of the page of a place, at the end of its chain or in its file
+abbrev pub home_at : Tables → Place → Option Home
+home_at t (Fork s) = option_and_then (λ w. w.home) (walk_of t.maps s)
+home_at t (File f page) = map.get t.files (file_page f.0 page)
+
+-- what a touch of a place answers
 abbrev pub touch_with : (ℕ → Option ℕ) → Tables → Scene → Place → Kind → Touch
 touch_with absent t scene (Fork s) kind = touch_walked absent t scene kind (walk_of t.maps s)
-touch_with absent t scene (File f page) kind = Denied kind
+touch_with absent t scene (File f page) kind = touch_filed absent t scene kind (map.get t.files (file_page f.0 page))
 
 abbrev pub touch_of_place : Tables → ℕ → Place → Kind → Touch
 touch_of_place t frames = touch_with (away_at t.places) t (scene_of t frames)

@@ -1,10 +1,12 @@
 -- What each kind of step does to the tables.
 use Rattle.std.specs.Prelude.{ℕ, ◌+◌, ◌-◌, List, Option, None, Some, slice_set}
+use Rattle.std.specs.FinMap as map
 use Rattle.machine_names.specs.declared.names.Access.{Access}
 use Rattle.page_homes.specs.declared.homes.Home.{Home}
 use Rattle.machine_names.specs.declared.names.ForkName.{ForkName}
 use Rattle.machine_names.specs.declared.names.PageName.{PageName}
 use Rattle.machine_names.specs.declared.names.Tty.{Tty}
+use Rattle.machine_names.specs.Orders.{FilePage}
 use Rattle.page_contracts.specs.Stores.{HomePlace, free}
 use Rattle.flat_pages.specs.declared.held_entry.EntryAt.{EntryAt}
 use Rattle.flat_pages.specs.declared.held_entry.HeldEntry.{HeldEntry}
@@ -17,7 +19,7 @@ use Rattle.flat_pages.specs.SlotTables.{Tables, share_of}
 
 -- the tables beside a store
 abbrev pub tables_of : List HomePlace → MapTables → Tables
-tables_of places m = record { places = places; names = m.names.items; shares = m.shares.items; maps = m.maps.held.items; serials = m.serials; taken = m.taken; living = m.living; limit = m.limit }
+tables_of places m = record { places = places; names = m.names.items; shares = m.shares.items; maps = m.maps.held.items; files = m.files; serials = m.serials; taken = m.taken; living = m.living; limit = m.limit }
 
 -- the name of an owner's next page
 abbrev pub next_name : PageSerials → Tty → PageName
@@ -62,6 +64,43 @@ home_freed t at home e = record t {
   names = slice_set t.names home.0 None;
   shares = slice_set t.shares home.0 0;
   maps = with_entry t.maps at e;
+  taken = t.taken - 1;
+}
+
+-- a home is taken, for a new page of an owner that a file names, which had none there
+abbrev pub home_filed : Tables → FilePage ℕ → Home → HomePlace → Tty → Tables
+home_filed t f home page owner = record t {
+  places = slice_set t.places home.0 page;
+  names = slice_set t.names home.0 (Some (next_name t.serials owner));
+  shares = slice_set t.shares home.0 1;
+  files = map.insert t.files f home;
+  serials = with_next t.serials owner;
+  taken = t.taken + 1;
+}
+
+-- the page of a home is named once more
+abbrev pub joined_shares : List ℕ → Home → List ℕ
+joined_shares shares h = slice_set shares h.0 (share_of shares h.0 + 1)
+
+-- an empty entry names the page of a home, which has another name
+abbrev pub entry_joined : Tables → EntryAt → Home → Access → Tables
+entry_joined t at h a = record t { shares = joined_shares t.shares h; maps = with_entry t.maps at (Page h a) }
+
+-- a file names the page of a home, which has another name; it had none there
+abbrev pub file_joined : Tables → FilePage ℕ → Home → Tables
+file_joined t f h = record t { shares = joined_shares t.shares h; files = map.insert t.files f h }
+
+-- a file names the page of a home no more, which keeps another name
+abbrev pub file_left : Tables → FilePage ℕ → Home → Tables
+file_left t f h = record t { shares = slice_set t.shares h.0 (share_of t.shares h.0 - 1); files = map.remove t.files f }
+
+-- and the page's home is given up, where it has none
+abbrev pub file_freed : Tables → FilePage ℕ → Home → Tables
+file_freed t f h = record t {
+  places = slice_set t.places h.0 free;
+  names = slice_set t.names h.0 None;
+  shares = slice_set t.shares h.0 0;
+  files = map.remove t.files f;
   taken = t.taken - 1;
 }
 

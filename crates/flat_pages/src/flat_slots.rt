@@ -9,7 +9,8 @@ use crate::held_map::free_map_of;
 use crate::map_tables::MapTables;
 use crate::page_serials::PageSerials;
 use machine_names::{
-    Access, ForkName, Kind, PAGE_ADDRESSES, PageName, Place, SPACE_PAGES, Slot, Tty,
+    Access, FILE_PAGES, FileNo, ForkName, Kind, PAGE_ADDRESSES, PageName, Place, SPACE_PAGES, Slot,
+    Tty,
 };
 use outside::{Drum, Memory};
 use page_contracts::{
@@ -20,8 +21,8 @@ use plain_pages::{NewEntry, NewMap};
 use std::alloc::Global;
 use word36::Word;
 
-/// The pages of forks, whose maps are in memory, over a store: an entry may follow another, a page may be
-/// copied when it is first written, and a page that nothing names is given up. Pages of files aren't built.
+/// The pages of forks and of files, whose maps are in memory, over a store: an entry may follow another, a page
+/// may be copied when it is first written, and a page that nothing names is given up.
 /// Nothing is allocated after the boot.
 #[derive(Drop)]
 pub struct FlatSlots<S: Store> {
@@ -69,7 +70,7 @@ impl<S: Store> FlatSlots<S> {
     ghost use Rattle.page_contracts.specs.Pages.{absent_or};
     ghost use Rattle.flat_pages.specs.declared.held_entry.EntryAt.{EntryAt as AnEntry};
     ghost use Rattle.flat_pages.specs.HeldMaps.{held_entry};
-    ghost use Rattle.flat_pages.specs.SlotTouches.{scene_of, has_room, is_alone, touch_copy, touch_made};
+    ghost use Rattle.flat_pages.specs.SlotTouches.{scene_of, has_room, is_alone, touch_copy, touch_filed, touch_made};
     ghost use Rattle.page_contracts.specs.Stores.{away_at};
 
     // What a touch answers where a zero page has to be made, and so many pages in all.
@@ -139,12 +140,25 @@ impl<S: Store> FlatSlots<S> {
             Some(at) => self.copied(home, at),
         }
     }
+
+    // What a touch answers of a page of a file, or of none.
+    fn touch_filed(&self, home: Option<Home>, kind: Kind) -> Touch
+        requires { (h : AHome) → home ≡ Some h → is_taken (place (S.means.homes self.now.store) h.0) ≡ true }
+        ensures { result ≡ touch_filed (away_at (S.means.homes self.now.store)) (tables_of (S.means.homes self.now.store) self.now.tables) (scene_of (tables_of (S.means.homes self.now.store) self.now.tables) (S.means.spare self.now.store)) kind home }
+    {
+        match (home, kind) {
+            (None, Kind::Read | Kind::Execute) => Touch::Denied(kind),
+            (home, _) => self.made(home, None),
+        }
+    }
 }
 
 impl<S: Store> FlatSlots<S> {
-    ghost use Rattle.std.specs.Prelude.{◌≡◌, ◌<◌, ◌^◌, IsSome, Some, true, false, ℕ};
+    ghost use Rattle.std.specs.Prelude.{◌≡◌, ◌<◌, ◌^◌, IsSome, Some, None, true, false, ℕ};
+    ghost use Rattle.std.specs.FinMap as map;
     ghost use Rattle.plain_pages.specs.Maps.{full_access};
-    ghost use Rattle.machine_names.specs.Bounds.{IsOwner};
+    ghost use Rattle.machine_names.specs.Bounds.{IsFilePage, IsOwner};
+    ghost use Rattle.machine_names.specs.Orders.{file_page};
     ghost use Rattle.machine_names.specs.PageWords.{zero_words};
     ghost use Rattle.page_contracts.specs.Stores.{IsUsed, here, is_here, place};
     ghost use Rattle.flat_pages.specs.declared.held_entry.HeldEntry.TheVariants as entry;
@@ -152,7 +166,9 @@ impl<S: Store> FlatSlots<S> {
     ghost use Rattle.flat_pages.specs.HeldMaps.{fork_at, held_entry};
     ghost use Rattle.flat_pages.specs.SlotTouches.{has_room, is_alone};
     ghost use Rattle.flat_pages.specs.TableSteps.{home_renamed};
+    ghost use Rattle.page_homes.specs.declared.homes.Home.{Home as AHome};
     ghost use Rattle.flat_pages.specs.SlotSteps.{TakesHome};
+    ghost use Rattle.flat_pages.specs.FileSteps.{FilesHome, SettlesFiled};
 
     // A zero page in a home of its own, for an empty entry.
     fn make_zero(&mut self, at: EntryAt, owner: Tty)
@@ -166,6 +182,20 @@ impl<S: Store> FlatSlots<S> {
     {
         let home = self.store.make();
         self.tables.take_home(at, home, FULL_ACCESS, owner);
+    }
+
+    // A zero page in a home of its own, for a file that has no such page.
+    fn make_filed(&mut self, file: FileNo, page: u16, owner: Tty)
+        requires page { IsFilePage file page }
+        requires none { map.get self.old.tables.files (file_page file.0 page) ≡ None }
+        requires owner { IsOwner owner }
+        requires serial { serial_of self.old.tables.serials owner < 2 ^ 63 }
+        requires room { has_room (tables_of (S.means.homes self.old.store) self.old.tables) 1 ≡ true }
+        requires frame { 0 < S.means.spare self.old.store }
+        ensures { FilesHome S.means self.old.store self.new.store self.old.tables self.new.tables (file_page file.0 page) owner }
+    {
+        let home = self.store.make();
+        self.tables.file_home(file, page, home, owner);
     }
 
     // A copy in a home of its own, of a page that keeps another name.
@@ -182,6 +212,22 @@ impl<S: Store> FlatSlots<S> {
     {
         let home = self.store.copy(from);
         self.tables.take_home(at, home, access, owner);
+    }
+
+    // The zero page that a touch of a page of a file announces is made, and a page that is there is used.
+    fn settle_filed(&mut self, file: FileNo, page: u16, owner: Tty)
+        requires page { IsFilePage file page }
+        requires here { (h : AHome) → map.get self.old.tables.files (file_page file.0 page) ≡ Some h → is_here (place (S.means.homes self.old.store) h.0) ≡ true }
+        requires owner { IsOwner owner }
+        requires serial { serial_of self.old.tables.serials owner < 2 ^ 63 }
+        requires room { map.get self.old.tables.files (file_page file.0 page) ≡ None → has_room (tables_of (S.means.homes self.old.store) self.old.tables) 1 ≡ true }
+        requires frame { map.get self.old.tables.files (file_page file.0 page) ≡ None → 0 < S.means.spare self.old.store }
+        ensures { SettlesFiled S.means self.old.store self.new.store self.old.tables self.new.tables (file_page file.0 page) owner (map.get self.old.tables.files (file_page file.0 page)) }
+    {
+        match self.tables.filed(file, page) {
+            Some(home) => self.store.used(home),
+            None => self.make_filed(file, page, owner),
+        }
     }
 
     // A copy of a page that has no other name takes its home.
@@ -204,6 +250,13 @@ impl<S: Store> FlatSlots<S> {
 impl<S: Store> FlatSlots<S> {
     ghost use Rattle.std.specs.Prelude.{◌≡◌, ◌<◌, ℕ, IsSome, Some, None, true, false};
     ghost use Rattle.std.specs.Option.{option_and_then};
+    ghost use Rattle.std.specs.FinMap as map;
+    ghost use Rattle.machine_names.specs.Bounds.{IsFilePage};
+    ghost use Rattle.machine_names.specs.declared.names.TheConstants.{MOST_FILES};
+    ghost use Rattle.machine_names.specs.Orders.{file_page};
+    ghost use Rattle.flat_pages.specs.HeldMaps.{name_at};
+    ghost use Rattle.flat_pages.specs.SlotTables.{filed_total, share_of};
+    ghost use Rattle.flat_pages.specs.FileSteps.{EmptiesFile, SetsFile};
     ghost use Rattle.machine_names.specs.declared.names.Access.{Access as AnAccess};
     ghost use Rattle.page_contracts.specs.Stores.{IsFreed};
     ghost use Rattle.flat_pages.specs.declared.held_entry.HeldEntry.TheVariants as entry;
@@ -211,9 +264,8 @@ impl<S: Store> FlatSlots<S> {
     ghost use Rattle.flat_pages.specs.HeldMaps.{fork_at, held_entry, points_at};
     ghost use Rattle.std.specs.Prelude.{is_some};
     ghost use Rattle.page_contracts.specs.Pages.{IsPlace};
-    ghost use Rattle.machine_names.specs.declared.names.Slot.{Slot as ASlot};
     ghost use Rattle.flat_pages.specs.HeldMaps.{index_of};
-    ghost use Rattle.flat_pages.specs.SlotTouches.{is_alone, walk_of};
+    ghost use Rattle.flat_pages.specs.SlotTouches.{home_at, is_alone};
     ghost use Rattle.flat_pages.specs.TableSteps.{home_freed};
     ghost use Rattle.flat_pages.specs.SlotSteps.{SetsEntry};
     ghost use Rattle.flat_pages.specs.Emptying.{EmptiesMap};
@@ -261,17 +313,84 @@ impl<S: Store> FlatSlots<S> {
         self.tables.keep_page(at, new);
     }
 
-    // The home of the page at the end of the chain of a place.
+    // An entry becomes one of a page that a file names.
+    fn set_filed(&mut self, at: EntryAt, home: Home, access: Access)
+        requires there { IsSome (held_entry self.old.tables.maps.held.items at) }
+        requires lives { IsSome (fork_at self.old.tables.maps.held.items at.map) }
+        requires filed { 0 < filed_total home.0 self.old.tables.files }
+        ensures { SetsEntry S.means self.old.store self.new.store self.old.tables self.new.tables at (entry.Page home access) }
+    {
+        self.set_unnamed(at, HeldEntry::Empty);
+        self.join_entry(at, home, access);
+    }
+
+    // An empty entry becomes one of a page that has another name.
+    fn join_entry(&mut self, at: EntryAt, home: Home, access: Access)
+        requires there { held_entry self.old.tables.maps.held.items at ≡ Some entry.Empty }
+        requires lives { IsSome (fork_at self.old.tables.maps.held.items at.map) }
+        requires named { is_some (name_at self.old.tables.names.items home.0) ≡ true }
+        ensures { SetsEntry S.means self.old.store self.new.store self.old.tables self.new.tables at (entry.Page home access) }
+    {
+        self.tables.join_entry(at, home, access);
+    }
+
+    // A file names no page any more at one of its pages. A page that loses its last name is given up.
+    fn unfile(&mut self, file: FileNo, page: u16)
+        requires { IsFilePage file page }
+        ensures { SetsFile S.means self.old.store self.new.store self.old.tables self.new.tables (file_page file.0 page) None }
+    {
+        let Some(home) = self.tables.filed(file, page) else {
+            return;
+        };
+        if self.tables.share(home) == 1 {
+            self.free_filed(file, page, home);
+            return;
+        }
+        self.tables.leave_file(file, page, home);
+    }
+
+    // The same where the file alone names the page.
+    fn free_filed(&mut self, file: FileNo, page: u16, home: Home)
+        requires page { IsFilePage file page }
+        requires there { map.get self.old.tables.files (file_page file.0 page) ≡ Some home }
+        requires alone { share_of self.old.tables.shares.items home.0 ≡ 1 }
+        ensures { SetsFile S.means self.old.store self.new.store self.old.tables self.new.tables (file_page file.0 page) None }
+    {
+        self.store.free(home);
+        self.tables.free_file(file, page, home);
+    }
+
+    // A file names a page that has another name, where it named none.
+    fn join_file(&mut self, file: FileNo, page: u16, home: Home)
+        requires page { IsFilePage file page }
+        requires none { map.get self.old.tables.files (file_page file.0 page) ≡ None }
+        requires named { is_some (name_at self.old.tables.names.items home.0) ≡ true }
+        ensures { SetsFile S.means self.old.store self.new.store self.old.tables self.new.tables (file_page file.0 page) (Some home) }
+    {
+        self.tables.join_file(file, page, home);
+    }
+
+    // A file names no page any more at its first pages. Pages that lose their last name are given up.
+    fn unfile_all(&mut self, file: FileNo)
+        requires { file.0 < MOST_FILES }
+        ensures { EmptiesFile S.means self.old.store self.new.store self.old.tables self.new.tables file.0 FILE_PAGES }
+    {
+        for page in 0..FILE_PAGES as u16 {
+            self.unfile(file, page);
+        }
+    }
+
+    // The home of the page at the end of the chain of a place, or of that of a file.
     fn home_of(&self, at: Place) -> Option<Home>
         requires { IsPlace (λ f. is_some (index_of self.now.tables.maps.held.items f)) at }
-        ensures { (s : ASlot) → at ≡ Place.Fork s → result ≡ option_and_then (λ w. w.home) (walk_of self.now.tables.maps.held.items s) }
+        ensures { result ≡ home_at (tables_of (S.means.homes self.now.store) self.now.tables) at }
     {
-        let Place::Fork(slot) = at else {
-            return None;
-        };
-        match self.tables.walk(slot) {
-            Some(walk) => walk.home,
-            None => None,
+        match at {
+            Place::Fork(slot) => match self.tables.walk(slot) {
+                Some(walk) => walk.home,
+                None => None,
+            },
+            Place::File(file, page) => self.tables.filed(file, page),
         }
     }
 
@@ -307,8 +426,11 @@ impl<S: Store> Pages for FlatSlots<S> {
     ghost means = { slots_meaning S.means (λ s. s.store) (λ s. tables_of (S.means.homes s.store) s.tables) };
 
     fn touch(&self, at: Place, kind: Kind) -> Touch {
-        let Place::Fork(slot) = at else {
-            return Touch::Denied(kind);
+        let slot = match at {
+            Place::Fork(slot) => slot,
+            Place::File(file, page) => {
+                return self.touch_filed(self.tables.filed(file, page), kind);
+            }
         };
         let Some(walk) = self.tables.walk(slot) else {
             return Touch::Denied(kind);
@@ -366,7 +488,11 @@ impl<S: Store> Pages for FlatSlots<S> {
         };
         match new {
             NewEntry::Empty => self.set_unnamed(at, HeldEntry::Empty),
-            NewEntry::FilePage(_, _, _) => {}
+            NewEntry::FilePage(file, page, access) => {
+                if let Some(home) = self.tables.filed(file, page) {
+                    self.set_filed(at, home, access);
+                }
+            }
             NewEntry::Follows(serial, page, access) => {
                 let fork = ForkName {
                     tty: slot.fork.tty,
@@ -383,8 +509,12 @@ impl<S: Store> Pages for FlatSlots<S> {
     }
 
     fn settle(&mut self, at: Place, kind: Kind, owner: Tty) {
-        let Place::Fork(slot) = at else {
-            return;
+        let slot = match at {
+            Place::Fork(slot) => slot,
+            Place::File(file, page) => {
+                self.settle_filed(file, page, owner);
+                return;
+            }
         };
         let Some(walk) = self.tables.walk(slot) else {
             return;
@@ -460,6 +590,28 @@ impl<S: Store> Pages for FlatSlots<S> {
         };
         self.empty_map(map);
         self.tables.end_fork(map);
+    }
+
+    fn page_of(&self, file: FileNo, page: u16) -> Option<PageName> {
+        match self.tables.filed(file, page) {
+            Some(home) => Some(self.tables.name(home)),
+            None => None,
+        }
+    }
+
+    fn set_file(&mut self, file: FileNo, page: u16, from: Option<Slot>) {
+        let home = match from {
+            Some(slot) => self.home_of(Place::Fork(slot)),
+            None => None,
+        };
+        self.unfile(file, page);
+        if let Some(home) = home {
+            self.join_file(file, page, home);
+        }
+    }
+
+    fn drop_file(&mut self, file: FileNo) {
+        self.unfile_all(file);
     }
 
     fn live(&self) -> u32 {

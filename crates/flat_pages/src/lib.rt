@@ -4,6 +4,7 @@
 #![tactic(auto)]
 
 mod chain_walk;
+mod file_tables;
 mod flat_slots;
 mod flat_store;
 mod held_entry;

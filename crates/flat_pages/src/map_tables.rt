@@ -1,5 +1,6 @@
-// The tables beside a store: the maps of forks, the names of pages, and how often each is named.
+// The tables beside a store: the maps of forks, the pages of files, the names of pages, and how often each is named.
 ghost use Rattle.std.specs.Prelude.{◌≡◌, ◌<◌, ◌≤◌, ◌+◌, ◌^◌, false, is_some, None, Some, IsSome, IfOk, List, length, replicate, slice_set};
+ghost use Rattle.std.specs.FinMap as map;
 ghost use Rattle.machine_names.specs.Bounds.{IsOwner};
 ghost use Rattle.page_contracts.specs.Stores.{HomePlace, free};
 ghost use Rattle.machine_names.specs.declared.names.TheConstants.{TERMINALS, MOST_FORKS};
@@ -17,17 +18,20 @@ use crate::held_map::entry_held;
 use crate::kept_maps::KeptMaps;
 use crate::page_serials::PageSerials;
 use machine_names::{Access, ForkName, PageName, SPACE_PAGES, Slot, Tty};
+use outside::Memory;
+use page_files::Files;
 use page_homes::Home;
 use plain_pages::MapEntry;
 use std::alloc::{AllocError, Global};
 
-/// For each home the name of its page, where it has one, and how many entries name it; the maps of forks; the
-/// next page serials; how many homes are taken, and how many forks live, and how many of both there may be.
+/// For each home the name of its page, where it has one, and how many entries and files name it; the maps of
+/// forks; the homes of the pages of files; the next page serials; how many homes are taken, and how many forks live, and how many of both there may be.
 #[derive(Drop)]
 pub struct MapTables {
     pub names: Vec<Option<PageName>>,
     pub shares: Vec<u32>,
     pub maps: KeptMaps,
+    pub files: Files<Home>,
     pub serials: PageSerials,
     pub taken: u32,
     pub living: u32,
@@ -54,10 +58,11 @@ fn no_shares(alloc: Global, number: u32) -> Result<Vec<u32>, AllocError>
 
 impl MapTables {
     /// No fork and no page, and room for so many of both. Err: no memory.
-    pub fn boot(alloc: Global, limit: u32) -> Result<MapTables, AllocError>
+    pub fn boot(alloc: Global, limit: u32) -> Result<MapTables, Memory>
         ensures names { IfOk result (λ m. m.names.items ≡ replicate limit None) }
         ensures shares { IfOk result (λ m. m.shares.items ≡ replicate limit 0) }
         ensures maps { IfOk result (λ m. m.maps.held.items ≡ replicate MOST_MAPS free_map) }
+        ensures files { IfOk result (λ m. m.files ≡ map.empty) }
         ensures terminals { IfOk result (λ m. m.serials.terminals ≡ first_serials) }
         ensures console { IfOk result (λ m. m.serials.console ≡ 1) }
         ensures numbers { IfOk result (λ m. (m.taken ≡ 0) × (m.living ≡ 0) × (m.limit ≡ limit)) }
@@ -65,10 +70,12 @@ impl MapTables {
         let names = no_names(alloc, limit)?;
         let shares = no_shares(alloc, limit)?;
         let maps = KeptMaps::boot(alloc)?;
+        let files = Files::boot(alloc)?;
         Ok(MapTables {
             names,
             shares,
             maps,
+            files,
             serials: PageSerials::first(),
             taken: 0,
             living: 0,
@@ -138,7 +145,7 @@ impl MapTables {
         self.names[home.0 as usize].unwrap_or(nobody)
     }
 
-    /// How many entries name the page of a home.
+    /// How many entries and files name the page of a home.
     pub fn share(&self, home: Home) -> u32
         ensures { result ≡ share_of self.now.shares.items home.0 }
     {
@@ -148,7 +155,7 @@ impl MapTables {
         self.shares[home.0 as usize]
     }
 
-    /// Whether an entry is the only one that names its page.
+    /// Whether an entry is the only name of its page.
     pub fn is_alone(&self, at: EntryAt) -> bool
         requires { IsSome (held_entry self.now.maps.held.items at) }
         ensures { result ≡ is_alone self.now.shares.items (held_entry self.now.maps.held.items at) }
@@ -172,8 +179,8 @@ impl MapTables {
         }
     }
 
-    // A home gets the name of an owner's next page.
-    fn rename(&mut self, home: Home, owner: Tty)
+    /// A home gets the name of an owner's next page.
+    pub fn rename(&mut self, home: Home, owner: Tty)
         requires home { home.0 < length self.old.names.items }
         requires owner { IsOwner owner }
         requires serial { serial_of self.old.serials owner < 2 ^ 63 }
@@ -186,8 +193,8 @@ impl MapTables {
         self.names[home.0 as usize] = Some(PageName { tty: owner, serial });
     }
 
-    // Sets an entry.
-    fn set(&mut self, at: EntryAt, entry: HeldEntry)
+    /// Sets an entry.
+    pub fn set(&mut self, at: EntryAt, entry: HeldEntry)
         requires { IsSome (held_entry self.old.maps.held.items at) }
         ensures maps { self.new.maps.held.items ≡ with_entry self.old.maps.held.items at entry }
         ensures rest { self.new ≡ record self.old { maps = self.new.maps } }

@@ -8,7 +8,7 @@ use Rattle.std.specs.FinMap as map
 use Rattle.number_map.proofs.Keys.{get_put, get_put_other, get_gone, get_gone_other, same}
 use Rattle.number_map.proofs.Full.{IsWithin, len_most}
 use Rattle.plain_files.specs.declared.jfn.Jfn.{Jfn}
-use Rattle.plain_files.specs.declared.bounds.TheConstants.{MOST_FILES}
+use Rattle.machine_names.specs.declared.names.TheConstants.{MOST_FILES}
 use Rattle.plain_files.specs.declared.bounds.TheConstants.{MOST_JFNS}
 use Rattle.jfn_table.specs.Counts.{CountNames}
 use Rattle.plain_files.specs.JobFiles.{AreJfns, FitsJfn, Held, NamesNowhere, names_in, taken}

@@ -1,6 +1,6 @@
 -- How many JFNs of a job name each file, as it is kept.
 use Rattle.std.specs.Prelude.{◌≡◌, ℕ, ◌<◌, List, length, slice_index}
-use Rattle.plain_files.specs.declared.bounds.TheConstants.{MOST_FILES}
+use Rattle.machine_names.specs.declared.names.TheConstants.{MOST_FILES}
 use Rattle.plain_files.specs.JobFiles.{Held, names_in}
 
 -- for each file there is how many JFNs name it

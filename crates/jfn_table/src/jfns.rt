@@ -5,10 +5,10 @@ ghost use Rattle.number_map.specs.Numbers.{AreTaken, IsLeastFree};
 ghost use Rattle.plain_files.specs.Bytes.{IsByteSize};
 ghost use Rattle.plain_files.specs.JobFiles.{AreJfns, CanSeek, TakesLeast, moved, names_in, opened};
 
-use machine_names::FileNo;
+use machine_names::{FileNo, MOST_FILES};
 use number_map::NumberMap;
 use outside::Memory;
-use plain_files::{Jfn, LARGEST_BYTE, MOST_FILES, MOST_JFNS, Mode};
+use plain_files::{Jfn, LARGEST_BYTE, MOST_JFNS, Mode};
 use std::alloc::Global;
 use std::marker::Model;
 

@@ -5,9 +5,8 @@ ghost use Rattle.plain_files.specs.Jobs.{jfns_of, names_in_all, no_jfns};
 ghost use Rattle.jfn_table.specs.Lending.{LendsJfns};
 
 use crate::Jfns;
-use machine_names::{FileNo, TERMINALS, Tty};
+use machine_names::{FileNo, MOST_FILES, TERMINALS, Tty};
 use outside::Memory;
-use plain_files::MOST_FILES;
 use std::alloc::Global;
 use std::marker::Model;
 

@@ -52,3 +52,9 @@ page_tied p q = pairs_tied p.tty.0 q.tty.0 p.serial q.serial
 
 pub file_page_total : {K : Type 0} {file_cmp : K → K → Ordering} → IsTotalOrder file_cmp → IsTotalOrder (file_page_cmp file_cmp)
 file_page_total o = then_total (on_total (λ f. f.file) o) (on_total (λ f. f.page) nat_cmp_total)
+
+pub file_page_apart : {K : Type 0} {file_cmp : K → K → Ordering} → IsAntisymmetric file_cmp → IsAntisymmetric (file_page_cmp file_cmp)
+file_page_apart {file_cmp = file_cmp} same f g e =
+    let file = same f.file g.file (tied_first (file_cmp f.file g.file) (nat_cmp f.page g.page) e) in
+    let page = nat_cmp-IsAntisymmetric f.page g.page (tied_second (file_cmp f.file g.file) (nat_cmp f.page g.page) e) in
+    λ i. record { file = file i; page = page i }

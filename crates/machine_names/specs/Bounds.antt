@@ -1,8 +1,9 @@
 -- What is a terminal, an owner of pages, the name of a fork, of a user or of a file, and an address.
 use Rattle.std.specs.Prelude.{◌≡◌, ℕ, ◌<◌, ◌≤◌, ◌^◌, List, ◌∷◌, ◌++◌, length, All, Bool, true, ◌||◌, ◌&&◌, nat_le, ◌==◌, ◌⊎◌}
-use Rattle.machine_names.specs.declared.names.TheConstants.{TERMINALS, LAST_SERIAL}
+use Rattle.machine_names.specs.declared.names.TheConstants.{TERMINALS, LAST_SERIAL, MOST_FILES, FILE_PAGES}
 use Rattle.machine_names.specs.declared.names.Tty.{Tty}
 use Rattle.machine_names.specs.declared.names.ForkName.{ForkName}
+use Rattle.machine_names.specs.declared.names.FileNo.{FileNo}
 
 abbrev pub IsTerminal : Tty → Type 0
 IsTerminal t = t.0 < TERMINALS
@@ -37,6 +38,10 @@ IsAddress a = a < 2 ^ 18
 -- a fork's name
 abbrev pub IsForkName : ForkName → Type 0
 IsForkName f = IsTerminal f.tty × (1 ≤ f.serial) × (f.serial ≤ LAST_SERIAL)
+
+-- a page of a file, by the file's number
+abbrev pub IsFilePage : FileNo → ℕ → Type 0
+IsFilePage f page = (f.0 < MOST_FILES) × (page < FILE_PAGES)
 
 -- an owner of pages: a terminal, or the console
 abbrev pub IsOwner : Tty → Type 0

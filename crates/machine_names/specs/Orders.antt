@@ -22,6 +22,10 @@ pub record FilePage (K : Type 0) : Type 0 where
   pub file : K
   pub page : ℕ
 
+-- a page of a file by its two numbers
+abbrev pub file_page : ℕ → ℕ → FilePage ℕ
+file_page f n = record { file = f; page = n }
+
 -- by file, then by page
 abbrev pub file_page_cmp : {K : Type 0} → (K → K → Ordering) → FilePage K → FilePage K → Ordering
 file_page_cmp file_cmp = then_cmp (on (λ f. f.file) file_cmp) (on (λ f. f.page) nat_cmp)

@@ -10,7 +10,7 @@ mod text;
 
 pub use bounds::bounds_hold;
 pub use names::{
-    ACCUMULATORS, Access, FileNo, ForkName, Kind, LAST_SERIAL, MOST_FORKS, PAGE_ADDRESSES,
-    PageName, Place, SPACE_PAGES, Slot, TERMINALS, Tty,
+    ACCUMULATORS, Access, FILE_PAGES, FileNo, ForkName, Kind, LAST_SERIAL, MOST_FILES, MOST_FORKS,
+    PAGE_ADDRESSES, PageName, Place, SPACE_PAGES, Slot, TERMINALS, Tty,
 };
 pub use text::{DirName, FileName, Text, TypedText};

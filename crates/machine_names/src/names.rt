@@ -13,6 +13,12 @@ pub const LAST_SERIAL: u32 = 262143;
 /// How many pages a fork's space has.
 pub const SPACE_PAGES: usize = 512;
 
+/// How many files there may be. They are numbered from 0.
+pub const MOST_FILES: usize = 512;
+
+/// How many pages a file may have. They are numbered from 0.
+pub const FILE_PAGES: usize = 512;
+
 /// How many addresses a page has: one for each of its words.
 pub const PAGE_ADDRESSES: u32 = PAGE_WORDS as u32;
 
@@ -42,7 +48,7 @@ pub struct PageName {
     pub serial: u64,
 }
 
-/// A file's number, below 512.
+/// A file's number, below `MOST_FILES`.
 #[derive(Clone, Copy, PartialEq, Eq)]
 pub struct FileNo(pub u16);
 

@@ -1,5 +1,5 @@
 -- What the calls on pages answer and leave: over the plain pages, and over what is in frames.
-use Rattle.std.specs.Prelude.{◌≡◌, ◌≢◌, ◌⊎◌, ◌↔◌, ℕ, ◌+◌, ◌<◌, ◌≤◌, List, [], ◌∷◌, length, Bool, true, false, nat_lt, nat_le, Option, None, Some, if◌then◌else◌, ◌==◌, slice_index, is_some, MatchOption}
+use Rattle.std.specs.Prelude.{◌≡◌, ◌≢◌, ◌⊎◌, ◌↔◌, ℕ, ◌+◌, ◌<◌, ◌≤◌, List, [], ◌∷◌, length, Bool, true, false, nat_lt, nat_le, Option, None, Some, if◌then◌else◌, ◌==◌, slice_index, is_some, IsSome, MatchOption}
 use Rattle.std.specs.Option.{option_map, option_or, option_map_or, option_and_then}
 use Rattle.std.specs.declared.cmp.Ordering.{Ordering}
 use Rattle.std.specs.FinMap as map
@@ -11,7 +11,7 @@ use Rattle.machine_names.specs.declared.names.Place.TheVariants.{Fork, File}
 use Rattle.machine_names.specs.declared.names.Access.{Access}
 use Rattle.machine_names.specs.declared.names.Kind.{Kind}
 use Rattle.machine_names.specs.declared.names.Kind.TheVariants.{Read, Write}
-use Rattle.machine_names.specs.declared.names.TheConstants.{SPACE_PAGES}
+use Rattle.machine_names.specs.declared.names.TheConstants.{SPACE_PAGES, MOST_FILES, FILE_PAGES}
 use Rattle.plain_pages.specs.declared.map.MapEntry.{MapEntry}
 use Rattle.plain_pages.specs.declared.map.MapEntry.TheVariants.{Names, Follows}
 use Rattle.page_contracts.specs.declared.answers.SpaceHandle.{SpaceHandle}
@@ -34,7 +34,8 @@ use Rattle.plain_pages.specs.Maps.{entry_at, maps_on_way}
 use Rattle.plain_pages.specs.Room.{FitsLimit, live, uses}
 use Rattle.plain_pages.specs.References.{Spot, in_map, in_file, Making, blank, copy, Referred, granted, denied, full, reference, next_making, words_of, page_at}
 use Rattle.page_contracts.specs.Stores.{StoreMeaning, IsSound, IsNeeded, Loses, Renews, RenewsNone, away, free, away_of, is_here, is_taken, place, traffic}
-use Rattle.machine_names.specs.Bounds.{IsOwner}
+use Rattle.machine_names.specs.Bounds.{IsOwner, IsFilePage}
+use Rattle.machine_names.specs.Orders.{FilePage, file_page}
 
 -- What is in frames: for each fork the home of its map and for each page its home, where that is in no
 -- frame; and how many frames are free.
@@ -135,16 +136,21 @@ room_for live limit frames pages = if nat_le (live + pages) limit then (if nat_l
 -- the spot of a place
 abbrev pub spot_of : Place → Spot ℕ
 spot_of (Fork s) = in_map s
-spot_of (File f page) = in_file (record { file = f.0; page = page })
+spot_of (File f page) = in_file (file_page f.0 page)
 
 -- a page of a fork's space as a place
 abbrev pub fork_place : ForkName → ℕ → Place
 fork_place f page = Fork (record { fork = f; page = page })
 
--- a place that is there: a page of a living fork; those of files aren't built
+-- a place that is there: a page of a living fork, or of a file
 abbrev pub IsPlace : (ForkName → Bool) → Place → Type 0
 IsPlace lives (Fork s) = (lives s.fork ≡ true) × (s.page < SPACE_PAGES)
-IsPlace lives (File f page) = ⊥
+IsPlace lives (File f page) = IsFilePage f page
+
+-- a place of a fork's space that is there
+abbrev pub IsForkPlace : (ForkName → Bool) → Place → Type 0
+IsForkPlace lives (Fork s) = IsPlace lives (Fork s)
+IsForkPlace lives (File f page) = ⊥
 
 -- a look that finds what it wants in frames
 abbrev pub is_seen : Peeked → Bool
@@ -222,6 +228,8 @@ pub record PagesMeaning (P : Type 0) : Type 1 where
   -- what a touch answers, and a look at an entry
   pub touched : P → Place → Kind → Touch
   pub seen : P → Slot → Seen
+  -- what files name
+  pub filed : P → FilePage ℕ → Option PageName
   -- which forks live, and how many of a terminal
   pub lives : P → ForkName → Bool
   pub forks_of : P → Tty → ℕ
@@ -261,15 +269,24 @@ pub record HasSpace {P : Type 0} (means : PagesMeaning P) (p : P) (space : Space
   pub fork : ForkName
   pub is : means.space p fork ≡ Some space
 
--- the page of a place of a fork's space was found at a home
-pub record StandsAt {P : Type 0} (means : PagesMeaning P) (p : P) (at : Place) (home : ℕ) : Type 0 where
-  pub slot : Slot
-  pub is : at ≡ Fork slot
+-- the page of a slot was found at a home
+pub record StandsInSpace {P : Type 0} (means : PagesMeaning P) (p : P) (slot : Slot) (home : ℕ) : Type 0 where
   pub space : SpaceHandle
   pub named : means.space p slot.fork ≡ Some space
   pub found : Found
   pub there : means.place p space slot.page ≡ Some found
   pub here : means.store.found p home ≡ Some found
+
+-- the page that a file names has a home
+pub record StandsInFile {P : Type 0} (means : PagesMeaning P) (p : P) (f : FilePage ℕ) (home : ℕ) : Type 0 where
+  pub name : PageName
+  pub named : means.filed p f ≡ Some name
+  pub there : means.page_home p name ≡ Some home
+
+-- the page of a place stands at a home
+abbrev pub StandsAt : {P : Type 0} → PagesMeaning P → P → Place → ℕ → Type 0
+StandsAt means p (Fork s) home = StandsInSpace means p s home
+StandsAt means p (File f page) home = StandsInFile means p (file_page f.0 page) home
 
 -- the page of a place, which is in a frame, was used or made
 pub record UsesOne {P : Type 0} (means : PagesMeaning P) (at : Place) (old new : P) : Type 0 where
@@ -300,12 +317,32 @@ pub record NamesPage {P : Type 0} (means : PagesMeaning P) (p : P) (fork : ForkN
 abbrev pub IsOfMap : {P : Type 0} → PagesMeaning P → P → ForkName → ℕ → Type 0
 IsOfMap means p fork home = (means.map_home p fork ≡ Some home) ⊎ ((n : PageName) × (means.page_home p n ≡ Some home) × NamesPage means p fork n)
 
+-- a file names a page
+pub record FileNames {P : Type 0} (means : PagesMeaning P) (p : P) (file : ℕ) (n : PageName) : Type 0 where
+  pub page : ℕ
+  pub is : means.filed p (file_page file page) ≡ Some n
+
+-- a home is that of a page that a file names
+abbrev pub IsOfFile : {P : Type 0} → PagesMeaning P → P → ℕ → ℕ → Type 0
+IsOfFile means p file home = (n : PageName) × (means.page_home p n ≡ Some home) × FileNames means p file n
+
+-- one page of a file was set: each other page of a file names what it named
+pub record FilesOne {P : Type 0} (means : PagesMeaning P) (f : FilePage ℕ) (named : Bool) (old new : P) : Type 0 where
+  pub set : is_some (means.filed new f) ≡ named
+  pub others : (g : FilePage ℕ) → g ≢ f → means.filed new g ≡ means.filed old g
+
+-- what files name once the page is made that a touch announces: what they named, and a zero page where a file had none
+abbrev pub FilesMade : {P : Type 0} → PagesMeaning P → Place → Touch → P → P → Type 0
+FilesMade means (File f page) Zero old new = FilesOne means (file_page f.0 page) true old new
+FilesMade means at t old new = means.filed new ≡ means.filed old
+
 -- a map was added, which names no page: each home but that of the map has what it had, and what had a home has it
 pub record AddsMap {P : Type 0} (means : PagesMeaning P) (fork : ForkName) (old new : P) : Type 0 where
   pub homes : (home : ℕ) → (means.map_home new fork ≡ Some home → ⊥) → place (means.store.homes new) home ≡ place (means.store.homes old) home
   pub pages : means.page_home new ≡ means.page_home old
   pub maps : (f : ForkName) → f ≢ fork → means.map_home new f ≡ means.map_home old f
   pub names : (n : PageName) → NamesPage means new fork n → ⊥
+  pub filed : means.filed new ≡ means.filed old
 
 -- a map went: each home has what it had, or was given up and is that of the map or of a page that it named; so each page has its home, or went; each other map
 -- has its home, and is in a frame where it was; and where the map named no page, no frame is free now but its own
@@ -315,13 +352,26 @@ pub record DropsMap {P : Type 0} (means : PagesMeaning P) (fork : ForkName) (old
   pub maps : (f : ForkName) → f ≢ fork → means.map_home new f ≡ means.map_home old f
   pub away : (f : ForkName) → f ≢ fork → (means.scene new).map_away f ≡ (means.scene old).map_away f
   pub frames : ((n : PageName) → NamesPage means old fork n → ⊥) → (means.scene new).free_frames ≤ (means.scene old).free_frames + 1
+  pub filed : means.filed new ≡ means.filed old
 
--- what a word put into a page leaves: what a touch finds, the handles and the places, the homes, and all numbers
+-- a file's pages went: each home has what it had, or was given up and is that of a page that the file named; so each page has its home, or went; each
+-- map has its home, and is in a frame where it was; where the file named no page, no frame is free now that was not; and only this file names none
+pub record DropsFile {P : Type 0} (means : PagesMeaning P) (file : ℕ) (old new : P) : Type 0 where
+  pub homes : (home : ℕ) → (place (means.store.homes new) home ≡ place (means.store.homes old) home) ⊎ ((place (means.store.homes new) home ≡ free) × IsOfFile means old file home)
+  pub pages : (n : PageName) → (means.page_home new n ≡ means.page_home old n) ⊎ ((means.page_home new n ≡ None) × FileNames means old file n)
+  pub maps : means.map_home new ≡ means.map_home old
+  pub away : (means.scene new).map_away ≡ (means.scene old).map_away
+  pub frames : ((n : PageName) → FileNames means old file n → ⊥) → (means.scene new).free_frames ≤ (means.scene old).free_frames
+  pub gone : (page : ℕ) → means.filed new (file_page file page) ≡ None
+  pub filed : (f : FilePage ℕ) → f.file ≢ file → means.filed new f ≡ means.filed old f
+
+-- what a word put into a page leaves: what a touch finds, the handles and the places, what files name, the homes, and all numbers
 pub record StaysPut {P : Type 0} (means : PagesMeaning P) (old new : P) : Type 0 where
   pub touched : means.touched new ≡ means.touched old
   pub scene : means.scene new ≡ means.scene old
   pub space : means.space new ≡ means.space old
   pub place : means.place new ≡ means.place old
+  pub filed : means.filed new ≡ means.filed old
   pub map_homes : means.map_home new ≡ means.map_home old
   pub page_homes : means.page_home new ≡ means.page_home old
   pub lives : means.lives new ≡ means.lives old
@@ -329,9 +379,10 @@ pub record StaysPut {P : Type 0} (means : PagesMeaning P) (old new : P) : Type 0
   pub serials : means.serial new ≡ means.serial old
   pub most : means.most new ≡ means.most old
 
--- what a transfer leaves, and what is asked of frames: the handles, the homes, and all numbers
+-- what a transfer leaves, and what is asked of frames: the handles, what files name, the homes, and all numbers
 pub record StaysMapped {P : Type 0} (means : PagesMeaning P) (old new : P) : Type 0 where
   pub space : means.space new ≡ means.space old
+  pub filed : means.filed new ≡ means.filed old
   pub map_homes : means.map_home new ≡ means.map_home old
   pub page_homes : means.page_home new ≡ means.page_home old
   pub lives : means.lives new ≡ means.lives old
@@ -359,8 +410,8 @@ pub record OnlyUses {P : Type 0} (means : PagesMeaning P) (old new : P) : Type 0
   pub count : means.count new ≡ means.count old
   pub loses : MayLose means old new
 
--- the pages stand in a sound store, which has no more homes than pages may live: each page has a taken home, which is no other's; what is in
--- no frame is exactly what has a home that is away, and the free frames are the store's
+-- the pages stand in a sound store, which has no more homes than pages may live: each page has a taken home, which is no other's, and each
+-- that a file names at one of its pages has one; what is in no frame is exactly what has a home that is away, and the free frames are the store's
 pub record AreHoused {P : Type 0} (means : PagesMeaning P) (p : P) : Type 0 where
   pub sound : IsSound means.store p
   pub maps : (f : ForkName) (home : ℕ) → (means.scene p).map_away f ≡ Some home → place (means.store.homes p) home ≡ away
@@ -368,15 +419,17 @@ pub record AreHoused {P : Type 0} (means : PagesMeaning P) (p : P) : Type 0 wher
   pub map_homes : (f : ForkName) → (means.scene p).map_away f ≡ away_of (means.store.homes p) (means.map_home p f)
   pub page_homes : (n : PageName) → (means.scene p).page_away n ≡ away_of (means.store.homes p) (means.page_home p n)
   pub taken : (n : PageName) (home : ℕ) → means.page_home p n ≡ Some home → is_taken (place (means.store.homes p) home) ≡ true
+  pub filed : (f : FilePage ℕ) (n : PageName) → means.filed p f ≡ Some n → (f.file < MOST_FILES) × (f.page < FILE_PAGES) × IsSome (means.page_home p n)
   pub apart : (n m : PageName) (home : ℕ) → means.page_home p n ≡ Some home → means.page_home p m ≡ Some home → n ≡ m
   pub frames : (means.scene p).free_frames ≡ means.store.spare p
   pub homes : length (means.store.homes p) ≤ means.most p
   pub flat : means.store.flat ≡ means.flat
 
--- over each drum that fits, the plain pages have the numbers that are told without it, no more than may be; what has a home is there, and so is
--- what is in no frame
+-- over each drum that fits, the plain pages have the numbers that are told without it, no more than may be, and files name what is told; what
+-- has a home is there, and so is what is in no frame
 pub record Agrees {P : Type 0} (means : PagesMeaning P) (p : P) (plain : NumberedPages) : Type 0 where
   pub living : (f : ForkName) → means.lives p f ≡ map.contains_key plain.maps f
+  pub filed : means.filed p ≡ map.get plain.files
   pub next : (t : Tty) → IsOwner t → means.serial p t ≡ page_serial plain t
   pub number : means.count p ≡ live plain
   pub bound : means.most p ≡ plain.limit

@@ -1,36 +1,36 @@
 // The pages of all forks.
-ghost use Rattle.std.specs.Prelude.{◌≡◌, ◌⊎◌, ◌≢◌, ◌↔◌, ◌<◌, ◌≤◌, ◌+◌, ◌/◌, ◌%◌, ◌^◌, ℕ, Bool, true, false, not, ◌||◌, ◌&&◌, None, Some, IsSome, IfSome, length};
+ghost use Rattle.std.specs.Prelude.{◌≡◌, ◌⊎◌, ◌≢◌, ◌↔◌, ◌<◌, ◌≤◌, ◌+◌, ◌/◌, ◌%◌, ◌^◌, ℕ, Bool, true, false, not, ◌||◌, ◌&&◌, None, Some, IsSome, IfSome, is_some, length};
 ghost use Rattle.machine_names.specs.declared.names.ForkName.{ForkName as AForkName};
 ghost use Rattle.machine_names.specs.declared.names.Tty.{Tty as ATty};
-ghost use Rattle.machine_names.specs.declared.names.TheConstants.{SPACE_PAGES, TERMINALS};
+ghost use Rattle.machine_names.specs.declared.names.TheConstants.{MOST_FILES, SPACE_PAGES, TERMINALS};
 ghost use Rattle.plain_pages.specs.declared.map.MapEntry.{MapEntry as AMapEntry};
 ghost use Rattle.outside.specs.declared.TheConstants.{PAGE_WORDS};
 ghost use Rattle.plain_pages.specs.NewMaps.{with_map};
-ghost use Rattle.machine_names.specs.Bounds.{IsAddress};
+ghost use Rattle.machine_names.specs.Bounds.{IsAddress, IsFilePage, IsOwner};
 ghost use Rattle.page_contracts.specs.DrumWords.{DrumWords, Stands};
 ghost use Rattle.plain_pages.specs.References.{in_map, settled, slot_at, word_at, stored, page_at as named_at, without_fork};
 ghost use Rattle.page_contracts.specs.Stores.{IsFetched, IsUsed, CanFetch, Completes, Tells, Evicts, CanKeep, Keeps, LetsGo, awaited, meeting, most_held};
 ghost use Rattle.plain_pages.specs.WholePages.{AreWhole};
-ghost use Rattle.page_contracts.specs.Pages.{PagesMeaning, AddsMap, Agrees, AreHoused, DropsMap, HasSpace, MayLose, OnlyUses, PeekNeeds, SeenNeeds, StandsAt, TouchNeeds, UsesMap, UsesNone, UsesOne, StaysInCore, TakesMap, TakesFrames, StaysPut, StaysMapped, StaysPlain, StaysSame, IsPlace, IsTouched, IsReady, CanChange, IsNewMap, FollowsPage, SettlesTo, spot_of, touch_of, peek_of, seen_of, map_away, counted, room_for, can_settle, frames_taken, is_in_core, is_seen, is_entry, is_seen_entry};
-ghost use Rattle.machine_names.specs.Bounds.{IsOwner};
+ghost use Rattle.page_contracts.specs.Pages.{PagesMeaning, AddsMap, Agrees, AreHoused, DropsFile, DropsMap, FilesMade, FilesOne, HasSpace, MayLose, OnlyUses, PeekNeeds, SeenNeeds, StandsAt, TouchNeeds, UsesMap, UsesNone, UsesOne, StaysInCore, TakesMap, TakesFrames, StaysPut, StaysMapped, StaysPlain, StaysSame, IsPlace, IsTouched, IsReady, CanChange, IsNewMap, FollowsPage, SettlesTo, spot_of, touch_of, peek_of, seen_of, map_away, counted, room_for, can_settle, frames_taken, is_in_core, is_seen, is_entry, is_seen_entry};
 ghost use Rattle.plain_pages.specs.NewEntries.{IsNewEntry, changed};
-ghost use Rattle.machine_names.specs.Orders.{same_fork};
+ghost use Rattle.plain_pages.specs.FilePages.{filed_by, without_file};
+ghost use Rattle.machine_names.specs.Orders.{file_page, same_fork};
 
 use crate::{Completed, Found, MOST_HOLDERS, Need, Peeked, Room, Seen, SpaceHandle, Touch};
-use machine_names::{ForkName, Kind, PageName, Place, Slot, Tty};
+use machine_names::{FileNo, ForkName, Kind, PageName, Place, Slot, Tty};
 use outside::Drum;
 use page_homes::{FrameId, Home};
 use plain_pages::{NewEntry, NewMap};
 use word36::Word;
 
-/// Pages under the maps of forks (CACM paper, "The memory management"). What they hold is told over
+/// Pages under the maps of forks and in files (CACM paper, "The memory management"). What they hold is told over
 /// the words of a drum, since a page that is in no frame has its words there alone.
 pub trait Pages {
     /// What the clauses below say of these pages.
     ghost means: { PagesMeaning Self };
 
     /// What a reference of this kind finds, in this order: a map on the way that is in no frame;
-    /// Denied, where the map forbids it; Full, where a page has to be made and there is no room; the
+    /// Denied, where the map forbids it, or where a file has no such page to read; Full, where a page has to be made and there is no room; the
     /// page, in no frame; a page to be made with no frame for it; a page to be made; and else Ready.
     /// It is the same whoever is to own the page. Only a write has a page copied.
     fn touch(&self, at: Place, kind: Kind) -> Touch
@@ -76,13 +76,14 @@ pub trait Pages {
         ensures needs { SeenNeeds means.store self.now result }
         ensures core { means.flat ≡ true → is_seen_entry result ≡ true };
 
-    /// Sets an entry that a look at it finds. A page that loses its last name is dropped.
+    /// Sets an entry that a look at it finds. It may be set to a page that a file has, which may be in no frame. A page that loses its last name is dropped.
     fn set_entry(&mut self, slot: Slot, new: NewEntry)
         requires page { slot.page < SPACE_PAGES }
         requires seen { is_entry (means.seen self.old slot) ≡ true }
-        requires new { IsNewEntry new }
+        requires new { IsNewEntry (means.filed self.old) new }
         ensures told { (d : DrumWords) → means.fits self.old d → means.fits self.new d × (means.plain self.new d ≡ changed (means.plain self.old d) slot new) }
         ensures scene { StaysInCore (means.scene self.old) (means.scene self.new) 0 }
+        ensures filed { means.filed self.new ≡ means.filed self.old }
         ensures loses { MayLose means self.old self.new }
         ensures uses { UsesNone means self.old self.new }
         ensures lives { means.lives self.new ≡ means.lives self.old }
@@ -103,6 +104,7 @@ pub trait Pages {
         ensures count { means.count self.new ≡ means.count self.old + frames_taken (means.touched self.old at kind) }
         ensures loses { MayLose means self.old self.new }
         ensures uses { UsesOne means at self.old self.new }
+        ensures filed { FilesMade means at (means.touched self.old at kind) self.old self.new }
         ensures ready { (home : ℕ) → means.touched self.old at kind ≡ Touch.Ready → StandsAt means self.old at home → IsUsed means.store home self.old self.new }
         ensures lives { means.lives self.new ≡ means.lives self.old }
         ensures forks { means.forks_of self.new ≡ means.forks_of self.old }
@@ -197,6 +199,40 @@ pub trait Pages {
         ensures lives { (f : AForkName) → means.lives self.new f ≡ (not (same_fork f fork) && means.lives self.old f) }
         ensures forks { means.forks_of self.new fork.tty + 1 ≡ means.forks_of self.old fork.tty }
         ensures others { (t : ATty) → t ≢ fork.tty → means.forks_of self.new t ≡ means.forks_of self.old t }
+        ensures serials { means.serial self.new ≡ means.serial self.old }
+        ensures most { means.most self.new ≡ means.most self.old };
+
+    /// The page that a file names at one of its pages; it may be in no frame. None exactly where the file has no such page.
+    fn page_of(&self, file: FileNo, page: u16) -> Option<PageName>
+        requires { IsFilePage file page }
+        ensures { result ≡ means.filed self.now (file_page file.0 page) };
+
+    /// Sets a page of a file: to the page at the end of a slot's chain, which a touch to read finds Ready, or to none. A page
+    /// that loses its last name is dropped.
+    fn set_file(&mut self, file: FileNo, page: u16, from: Option<Slot>)
+        requires page { IsFilePage file page }
+        requires place { IfSome from (λ s. IsPlace (means.lives self.old) (Place.Fork s)) }
+        requires ready { IfSome from (λ s. means.touched self.old (Place.Fork s) Kind.Read ≡ Touch.Ready) }
+        ensures told { (d : DrumWords) → means.fits self.old d → means.fits self.new d × (means.plain self.new d ≡ filed_by (means.plain self.old d) (file_page file.0 page) from) }
+        ensures scene { StaysInCore (means.scene self.old) (means.scene self.new) 0 }
+        ensures filed { FilesOne means (file_page file.0 page) (is_some from) self.old self.new }
+        ensures loses { MayLose means self.old self.new }
+        ensures uses { UsesNone means self.old self.new }
+        ensures lives { means.lives self.new ≡ means.lives self.old }
+        ensures forks { means.forks_of self.new ≡ means.forks_of self.old }
+        ensures serials { means.serial self.new ≡ means.serial self.old }
+        ensures most { means.most self.new ≡ means.most self.old };
+
+    /// Drops all pages of a file. Those that lose their last name are dropped.
+    fn drop_file(&mut self, file: FileNo)
+        requires { file.0 < MOST_FILES }
+        ensures told { (d : DrumWords) → means.fits self.old d → means.fits self.new d × (means.plain self.new d ≡ without_file (means.plain self.old d) file.0) }
+        ensures scene { StaysInCore (means.scene self.old) (means.scene self.new) 0 }
+        ensures loses { MayLose means self.old self.new }
+        ensures uses { UsesNone means self.old self.new }
+        ensures drops { DropsFile means file.0 self.old self.new }
+        ensures lives { means.lives self.new ≡ means.lives self.old }
+        ensures forks { means.forks_of self.new ≡ means.forks_of self.old }
         ensures serials { means.serial self.new ≡ means.serial self.old }
         ensures most { means.most self.new ≡ means.most self.old };
 

@@ -7,10 +7,10 @@ use Rattle.std.proofs.lemmas.Cmp.{nat_cmp_total}
 use Rattle.std.proofs.lemmas.Bool.{cases_Bool, cases_lt}
 use Rattle.std.specs.FinMap as map
 use Rattle.std.specs.FinMap.{IsAntisymmetric, find}
-use Rattle.machine_names.specs.Orders.{FilePage, file_page_cmp}
+use Rattle.machine_names.specs.Orders.{FilePage, file_page, file_page_cmp}
 use Rattle.machine_names.proofs.OrderLemmas.{file_page_total, pairs_tied}
-use Rattle.plain_files.specs.declared.bounds.TheConstants.{FILE_PAGES}
-use Rattle.page_files.specs.Pages.{PagesOf, OthersStay, file_page, by_file}
+use Rattle.machine_names.specs.declared.names.TheConstants.{FILE_PAGES}
+use Rattle.page_files.specs.Pages.{PagesOf, OthersStay, by_file}
 
 pub page_total : IsTotalOrder (file_page_cmp nat_cmp)
 page_total = file_page_total nat_cmp_total

@@ -3,15 +3,12 @@ use Rattle.std.specs.Prelude.{◌≡◌, ◌≢◌, refl, ℕ, ◌/◌, ◌%◌,
 use Rattle.std.specs.Ordering.{nat_cmp}
 use Rattle.std.specs.Coded.{Coded, code_by, coded×, coded_ℕ}
 use Rattle.std.specs.FinMap as map
-use Rattle.machine_names.specs.Orders.{FilePage, file_page_cmp}
-use Rattle.plain_files.specs.declared.bounds.TheConstants.{FILE_PAGES}
+use Rattle.machine_names.specs.Orders.{FilePage, file_page, file_page_cmp}
+use Rattle.machine_names.specs.declared.names.TheConstants.{FILE_PAGES}
 
 -- what stands at each page of each file
 abbrev pub PagesOf : Type 0 → Type 0
 PagesOf K = map.FinMap (file_page_cmp nat_cmp) K
-
-abbrev pub file_page : ℕ → ℕ → FilePage ℕ
-file_page f n = record { file = f; page = n }
 
 -- a page of a file is stored as its two numbers
 abbrev pub page_code : Coded (FilePage ℕ)

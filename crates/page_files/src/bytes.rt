@@ -2,7 +2,8 @@
 ghost use Rattle.std.specs.Prelude.{◌≡◌, ◌<◌, ◌≤◌, ◌/◌};
 ghost use Rattle.plain_files.specs.Bytes.{IsByteSize, most_bytes as room_for, page_of_byte, offset_of_byte, pointer_to_byte};
 
-use plain_files::{FILE_PAGES, LARGEST_BYTE};
+use machine_names::FILE_PAGES;
+use plain_files::LARGEST_BYTE;
 use word36::Word;
 
 // How many words a page has.

@@ -1,12 +1,11 @@
 // The pages of files.
 ghost use Rattle.std.specs.Prelude.{◌≡◌, ◌<◌, ◌/◌, ◌%◌, IfOk};
 ghost use Rattle.std.specs.FinMap as map;
-ghost use Rattle.page_files.specs.Pages.{file_page};
+ghost use Rattle.machine_names.specs.Orders.{file_page};
 
-use machine_names::FileNo;
+use machine_names::{FILE_PAGES, FileNo, MOST_FILES};
 use number_map::NumberMap;
 use outside::Memory;
-use plain_files::{FILE_PAGES, MOST_FILES};
 use std::alloc::Global;
 use std::marker::Model;
 

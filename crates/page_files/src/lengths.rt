@@ -3,9 +3,9 @@ ghost use Rattle.std.specs.Prelude.{◌≡◌, ◌<◌, ◌≤◌, IfOk, replica
 ghost use Rattle.plain_files.specs.Bytes.{IsByteSize, most_bytes as room_for};
 ghost use Rattle.plain_files.specs.Sizes.{FitsFile, file_at, new_file};
 
-use machine_names::FileNo;
+use machine_names::{FileNo, MOST_FILES};
 use outside::Memory;
-use plain_files::{LARGEST_BYTE, MOST_FILES};
+use plain_files::LARGEST_BYTE;
 use std::alloc::Global;
 use std::marker::Model;
 

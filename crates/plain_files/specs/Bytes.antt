@@ -1,7 +1,8 @@
 -- Where the bytes of a file stand.
 use Rattle.std.specs.Prelude.{◌≡◌, ℕ, ◌+◌, ◌-◌, ◌*◌, ◌/◌, ◌%◌, ◌^◌, ◌≤◌, ◌⊎◌}
 use Rattle.outside.specs.declared.TheConstants.{PAGE_WORDS}
-use Rattle.plain_files.specs.declared.bounds.TheConstants.{FILE_PAGES, LARGEST_BYTE}
+use Rattle.machine_names.specs.declared.names.TheConstants.{FILE_PAGES}
+use Rattle.plain_files.specs.declared.bounds.TheConstants.{LARGEST_BYTE}
 
 -- a byte has 1 to 36 bits
 abbrev pub IsByteSize : ℕ → Type 0

@@ -7,7 +7,7 @@ use Rattle.number_map.specs.Numbers.{IsLeastFree}
 use Rattle.machine_names.specs.declared.names.FileNo.{FileNo}
 use Rattle.machine_names.specs.Bounds.{IsFileName}
 use Rattle.machine_names.specs.Orders.{name_cmp}
-use Rattle.plain_files.specs.declared.bounds.TheConstants.{MOST_FILES}
+use Rattle.machine_names.specs.declared.names.TheConstants.{MOST_FILES}
 
 -- the full name of each file, by its number
 abbrev pub Files : Type 0

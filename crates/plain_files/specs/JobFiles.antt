@@ -4,11 +4,11 @@ use Rattle.std.specs.Option.{IsSomeAnd}
 use Rattle.std.specs.Ordering.{nat_cmp}
 use Rattle.std.specs.FinMap as map
 use Rattle.number_map.specs.Numbers.{IsLeastFree}
+use Rattle.machine_names.specs.declared.names.TheConstants.{MOST_FILES}
 use Rattle.plain_files.specs.declared.jfn.Jfn.{Jfn}
 use Rattle.plain_files.specs.declared.jfn.Mode.{Mode}
-use Rattle.plain_files.specs.declared.bounds.TheConstants.{LARGEST_BYTE, MOST_FILES}
+use Rattle.plain_files.specs.declared.bounds.TheConstants.{LARGEST_BYTE, MOST_JFNS}
 use Rattle.plain_files.specs.Bytes.{IsByteSize, most_bytes}
-use Rattle.plain_files.specs.declared.bounds.TheConstants.{MOST_JFNS}
 
 -- the JFNs that a job holds, each under its number
 abbrev pub Held : Type 0

@@ -6,5 +6,5 @@
 mod bounds;
 mod jfn;
 
-pub use bounds::{FILE_PAGES, LARGEST_BYTE, MOST_FILES, MOST_JFNS};
+pub use bounds::{LARGEST_BYTE, MOST_JFNS};
 pub use jfn::{Jfn, Mode};

@@ -1,9 +1,9 @@
 -- How often pages are named, and how many different pages a list has.
-use Rattle.std.proofs.Common.{◌≡◌, ◌≢◌, ℕ, ◌+◌, Bool, true, false, cond, ◌&&◌, ◌||◌, List, [], ◌∷◌, map, length, Option, None, Some, ◌⊎◌, inl, inr, refl, sym, ◌∙◌, ap, subst, arith, Ordering, Less, Equal, Greater, is_lt, T}
+use Rattle.std.proofs.Common.{◌≡◌, ◌≢◌, ℕ, ◌+◌, ◌≤◌, Bool, true, false, cond, not, ◌&&◌, ◌||◌, List, [], ◌∷◌, map as each, length, Option, None, Some, ◌⊎◌, inl, inr, refl, sym, ◌∙◌, ap, subst, arith, Ordering, Less, Equal, Greater, is_lt, T}
 use Rattle.std.specs.Prelude.{◌==◌, nat_lt}
 use Rattle.std.specs.List.{list_any, count_by, sum_by, filter_map, flat_map, cons_option}
 use Rattle.std.specs.Option.{option_map_or}
-use Rattle.std.specs.Ordering.{is_eq}
+use Rattle.std.specs.Ordering.{is_eq, eq_by_cmp}
 use Rattle.std.specs.Cmp.{IsTotalOrder}
 use Rattle.std.specs.FinMap as map
 use Rattle.std.proofs.lemmas.List.Sums.{sum_by-cons, sum_by-append}
@@ -175,7 +175,7 @@ both_second false b h = absurd h
 -- a sum over the values of a map, with a value set
 module _ {K X : Type 0} {R : K → K → Ordering} (o : IsTotalOrder R) (w : X → ℕ) where
   abbrev total : List (K × X) → ℕ
-  total es = sum_by w (map (λ e. e.1) es)
+  total es = sum_by w (each (λ e. e.1) es)
 
   abbrev at : Option X → ℕ
   at x = option_map_or w x 0
@@ -197,10 +197,54 @@ module _ {K X : Type 0} {R : K → K → Ordering} (o : IsTotalOrder R) (w : X �
         | Less ↦ λ p.
             let below : T (map.Entries.below_all R k es) = below_less k e.0 es p (both_first _ _ h) in
             let none : at (map.find R k es) ≡ 0 = ap at (not_below k es below) in
-            omega (arith, sum_by-cons w v (map (λ (f : K × X). f.1) (e ∷ es)), none)
-        | Equal ↦ λ p. omega (arith, sum_by-cons w v (map (λ (f : K × X). f.1) es), sum_by-cons w e.1 (map (λ (f : K × X). f.1) es))
-        | Greater ↦ λ p. omega (arith, sum_by-cons w e.1 (map (λ (f : K × X). f.1) (map.put R k v es)), sum_by-cons w e.1 (map (λ (f : K × X). f.1) es), total_put k v es (both_second _ _ h))
+            omega (arith, sum_by-cons w v (each (λ (f : K × X). f.1) (e ∷ es)), none)
+        | Equal ↦ λ p. omega (arith, sum_by-cons w v (each (λ (f : K × X). f.1) es), sum_by-cons w e.1 (each (λ (f : K × X). f.1) es))
+        | Greater ↦ λ p. omega (arith, sum_by-cons w e.1 (each (λ (f : K × X). f.1) (map.put R k v es)), sum_by-cons w e.1 (each (λ (f : K × X). f.1) es), total_put k v es (both_second _ _ h))
       ] refl
 
   pub total_insert : (m : map.FinMap R X) (k : K) (v : X) → sum_by w (map.values (map.insert m k v)) + option_map_or w (map.get m k) 0 ≡ sum_by w (map.values m) + w v
   total_insert m k v = ap (λ es. total es + at (map.get m k)) (map.entries-insert o m k v) ∙ ap (λ x. total (map.put R k v (map.entries m)) + at x) (map.get-entries m k) ∙ total_put k v (map.entries m) (map.entries_sorted m)
+
+-- a sum over the values of a map, over those at the keys that pass a test and the others
+module _ {K X : Type 0} (R : K → K → Ordering) (w : X → ℕ) where
+  abbrev kept : (K → Bool) → List (K × X) → ℕ
+  kept p es = sum_by w (each (λ e. e.1) (map.Entries.where_key R p es))
+
+  split : (p : K → Bool) (es : List (K × X)) → kept (λ k. not (p k)) es + kept p es ≡ sum_by w (each (λ e. e.1) es)
+  split p [] = refl
+  split p (e ∷ es) = by (p e.0) (split p es)
+    where
+      by : (b : Bool) → kept (λ k. not (p k)) es + kept p es ≡ sum_by w (each (λ e. e.1) es)
+          → sum_by w (each (λ e. e.1) (cond (not b) (e ∷ map.Entries.where_key R (λ k. not (p k)) es) (map.Entries.where_key R (λ k. not (p k)) es))) + sum_by w (each (λ e. e.1) (cond b (e ∷ map.Entries.where_key R p es) (map.Entries.where_key R p es))) ≡ sum_by w (each (λ e. e.1) (e ∷ es))
+      by true r = omega (arith, r, sum_by-cons w e.1 (each (λ (f : K × X). f.1) es), sum_by-cons w e.1 (each (λ (f : K × X). f.1) (map.Entries.where_key R p es)))
+      by false r = omega (arith, r, sum_by-cons w e.1 (each (λ (f : K × X). f.1) es), sum_by-cons w e.1 (each (λ (f : K × X). f.1) (map.Entries.where_key R (λ k. not (p k)) es)))
+
+  module _ (o : IsTotalOrder R) (same : map.IsAntisymmetric R) (m : map.FinMap R X) where
+    retained : (p : K → Bool) → map.entries (map.retain_keys m p) ≡ map.Entries.where_key R p (map.entries m)
+    retained p =
+        let rises = map.Entries.is_sorted-where_key R p (map.entries m) (map.entries_sorted m) in
+        ap map.entries (map.same_map o same (map.retain_keys m p) (map.from_sorted (map.Entries.where_key R p (map.entries m))) (λ q.
+          map.get-retain_keys m p q (alike q) ∙ ap (λ v. cond (p q) v None) (map.get-entries m q)
+          ∙ sym (map.Entries.find-where_key R p q (alike q) (map.entries m)) ∙ sym (map.get-from_sorted R (map.Entries.where_key R p (map.entries m)) q rises)))
+        ∙ map.entries-from_sorted R (map.Entries.where_key R p (map.entries m)) rises
+      where
+        alike : (q x : K) → R q x ≡ Equal → p x ≡ p q
+        alike q x tied = ap p (sym (same q x tied))
+
+    pub values_split : (p : K → Bool) → sum_by w (map.values (map.retain_keys m (λ k. not (p k)))) + sum_by w (map.values (map.retain_keys m p)) ≡ sum_by w (map.values m)
+    values_split p =
+        let others = ap (λ (es : List (K × X)). sum_by w (each (λ e. e.1) es)) (retained (λ k. not (p k))) in
+        let these = ap (λ (es : List (K × X)). sum_by w (each (λ e. e.1) es)) (retained p) in
+        omega (arith, others, these, split p (map.entries m))
+
+  counted : (k : K) (v : X) (es : List (K × X)) → map.find R k es ≡ Some v → w v ≤ sum_by w (each (λ e. e.1) es)
+  counted k v [] h = absurd (cc h)
+  counted k v (e ∷ es) h = by (counted k v es) (eq_by_cmp R k e.0) h
+    where
+      by : (map.find R k es ≡ Some v → w v ≤ sum_by w (each (λ e. e.1) es)) → (b : Bool) → cond b (Some e.1) (map.find R k es) ≡ Some v → w v ≤ sum_by w (each (λ e. e.1) (e ∷ es))
+      by rest true g = (let same : e.1 ≡ v = cc g in let is : w e.1 ≡ w v = ap w same in omega (arith, is, sum_by-cons w e.1 (each (λ (f : K × X). f.1) es)))
+      by rest false g = omega (arith, rest g, sum_by-cons w e.1 (each (λ (f : K × X). f.1) es))
+
+  -- a value that a map has is counted
+  pub value_counted : (m : map.FinMap R X) (k : K) (v : X) → map.get m k ≡ Some v → w v ≤ sum_by w (map.values m)
+  value_counted m k v h = counted k v (map.entries m) (sym (map.get-entries m k) ∙ h)

@@ -1,6 +1,6 @@
 -- What an entry that is set anew, and a fork that ends, leave: the pages that are still named, with their words.
 use Rattle.std.proofs.Common.{◌≡◌, ℕ, zero, suc, ◌+◌, ◌-◌, ◌<◌, ◌≤◌, Bool, true, false, cond, ◌&&◌, ◌||◌, List, [], ◌∷◌, length, Option, None, Some, inl, inr, refl, sym, ◌∙◌, ap, subst, arith, Ordering}
-use Rattle.std.specs.Prelude.{◌==◌, nat_lt, is_some, slice_get, slice_index, slice_set}
+use Rattle.std.specs.Prelude.{◌==◌, nat_lt, is_some, slice_get, slice_index, slice_set, IsSome}
 use Rattle.std.specs.List.{sum_by, filter_map}
 use Rattle.std.specs.Option.{option_map_or, option_and_then}
 use Rattle.std.specs.Ordering.{eq_by_cmp, is_eq}
@@ -20,14 +20,14 @@ use Rattle.plain_pages.specs.declared.map.MapEntry.TheVariants.{Empty, Names, Fo
 use Rattle.plain_pages.specs.declared.map.NewEntry.{NewEntry}
 use Rattle.plain_pages.specs.declared.map.NewEntry.TheVariants.{Empty as SetEmpty, FilePage as SetFilePage, Follows as SetFollows, Narrow as SetNarrow}
 use Rattle.plain_pages.specs.PlainPages.{PlainPages, NumberedPages, Map, Maps, page_serial}
-use Rattle.machine_names.specs.Orders.{fork_cmp}
+use Rattle.machine_names.specs.Orders.{FilePage, fork_cmp, file_page_cmp}
 use Rattle.plain_pages.specs.Maps.{entry_at, set_entry, narrow}
 use Rattle.plain_pages.specs.Room.{same_page, page_in, uses, live}
 use Rattle.plain_pages.specs.References.{drop_unnamed, drop_all_unnamed, with_entry, without_fork}
 use Rattle.plain_pages.specs.NewEntries.{IsNewEntry, entry_to, changed}
 use Rattle.plain_pages.specs.WholePages.{AreWhole}
 use Rattle.machine_names.proofs.OrderLemmas.{page_tied, page_cmp_total, page_cmp_apart, fork_cmp_total, fork_cmp_apart}
-use Rattle.plain_pages.proofs.Counts.{has, has_count, count_filtered, weight, total_insert, Same, page_tells, same_itself}
+use Rattle.plain_pages.proofs.Counts.{has, has_count, count_filtered, weight, total_insert, value_counted, Same, page_tells, same_itself}
 use Rattle.plain_pages.proofs.Chains.{entry_map, len_set}
 use Rattle.plain_pages.proofs.Whole.{map_uses, tally, uses_are, live_whole}
 use Rattle.plain_pages.proofs.Makings.{names_set, uses_objects}
@@ -53,6 +53,13 @@ total_remove {X} w m f v there =
         by false is = map.get-remove fork_cmp_total m f g ∙ ap (λ b. cond b None (map.get m g)) is
 
 module _ {K : Type 0} {file_cmp : K → K → Ordering} where
+  -- the pages of one that the other still names, each with its words, and the other parts but the maps and what files name
+  pub record AreStill (p q : PlainPages file_cmp) : Type 0 where
+    pub objects : (n : PageName) → map.get q.objects n ≡ cond (nat_lt 0 (uses q n)) (map.get p.objects n) None
+    pub page_serials : q.page_serials ≡ p.page_serials
+    pub console_serial : q.console_serial ≡ p.console_serial
+    pub limit : q.limit ≡ p.limit
+
   -- the pages of one that the other still names, each with its words, and the other parts but the maps
   pub record AreKept (p q : PlainPages file_cmp) : Type 0 where
     pub objects : (n : PageName) → map.get q.objects n ≡ cond (nat_lt 0 (uses q n)) (map.get p.objects n) None
@@ -61,21 +68,26 @@ module _ {K : Type 0} {file_cmp : K → K → Ordering} where
     pub console_serial : q.console_serial ≡ p.console_serial
     pub limit : q.limit ≡ p.limit
 
-  -- they are known by their maps
-  pub kept_same : (p q r : PlainPages file_cmp) → AreKept p q → AreKept p r → q.maps ≡ r.maps → q ≡ r
-  kept_same p q r k l maps = same_pages q r each maps (k.files ∙ sym l.files) (k.page_serials ∙ sym l.page_serials) (k.console_serial ∙ sym l.console_serial) (k.limit ∙ sym l.limit)
+  pub still : (p q : PlainPages file_cmp) → AreKept p q → AreStill p q
+  still p q k = record { objects = k.objects; page_serials = k.page_serials; console_serial = k.console_serial; limit = k.limit }
+
+  -- they are known by their maps and by what files name
+  pub still_same : (p q r : PlainPages file_cmp) → AreStill p q → AreStill p r → q.maps ≡ r.maps → q.files ≡ r.files → q ≡ r
+  still_same p q r k l maps files = same_pages q r each maps files (k.page_serials ∙ sym l.page_serials) (k.console_serial ∙ sym l.console_serial) (k.limit ∙ sym l.limit)
     where
       alike : (n : PageName) → uses q n ≡ uses r n
-      alike n = uses_are q n ∙ (λ i. sum_by (map_uses n) (map.values (maps i)) + sum_by (tally n) (map.values ((k.files ∙ sym l.files) i))) ∙ sym (uses_are r n)
+      alike n = uses_are q n ∙ (λ i. sum_by (map_uses n) (map.values (maps i)) + sum_by (tally n) (map.values (files i))) ∙ sym (uses_are r n)
 
       each : (n : PageName) → map.get q.objects n ≡ map.get r.objects n
       each n = k.objects n ∙ ap (λ k. cond (nat_lt 0 k) (map.get p.objects n) None) (alike n) ∙ sym (l.objects n)
 
+  pub kept_same : (p q r : PlainPages file_cmp) → AreKept p q → AreKept p r → q.maps ≡ r.maps → q ≡ r
+  kept_same p q r k l maps = still_same p q r (still p q k) (still p r l) maps (k.files ∙ sym l.files)
+
   -- what is kept of what was kept
-  pub kept_on : (p q r : PlainPages file_cmp) → AreKept p q → AreKept q r → ((n : PageName) → nat_lt 0 (uses r n) ≡ true → nat_lt 0 (uses q n) ≡ true) → AreKept p r
-  kept_on p q r k l old = record {
+  pub still_on : (p q r : PlainPages file_cmp) → AreStill p q → AreStill q r → ((n : PageName) → nat_lt 0 (uses r n) ≡ true → nat_lt 0 (uses q n) ≡ true) → AreStill p r
+  still_on p q r k l old = record {
     objects = λ n. l.objects n ∙ by n (nat_lt 0 (uses r n)) refl;
-    files = l.files ∙ k.files;
     page_serials = l.page_serials ∙ k.page_serials;
     console_serial = l.console_serial ∙ k.console_serial;
     limit = l.limit ∙ k.limit;
@@ -85,9 +97,14 @@ module _ {K : Type 0} {file_cmp : K → K → Ordering} where
       by n true is = k.objects n ∙ ap (λ b. cond b (map.get p.objects n) None) (old n is)
       by n false is = refl
 
+  pub kept_on : (p q r : PlainPages file_cmp) → AreKept p q → AreKept q r → ((n : PageName) → nat_lt 0 (uses r n) ≡ true → nat_lt 0 (uses q n) ≡ true) → AreKept p r
+  kept_on p q r k l old =
+      let s = still_on p q r (still p q k) (still q r l) old in
+      record { objects = s.objects; files = l.files ∙ k.files; page_serials = s.page_serials; console_serial = s.console_serial; limit = s.limit }
+
   -- they are whole, where each map has its entries and none names a page that was not named
-  pub kept_whole : (p q : PlainPages file_cmp) → AreWhole p → AreKept p q → ((f : ForkName) (m : Map) → map.get q.maps f ≡ Some m → length m ≡ SPACE_PAGES) → ((n : PageName) → nat_lt 0 (uses q n) ≡ true → nat_lt 0 (uses p n) ≡ true) → AreWhole q
-  kept_whole p q w k entries old = record { named = named; words = λ n ws h. there n ws (nat_lt 0 (uses q n)) (sym (k.objects n) ∙ h); entries = entries; old = λ n h. serial n (nat_lt 0 (uses q n)) refl h; owners = ap length k.page_serials ∙ w.owners }
+  pub still_whole : (p q : PlainPages file_cmp) → AreWhole p → AreStill p q → ((f : ForkName) (m : Map) → map.get q.maps f ≡ Some m → length m ≡ SPACE_PAGES) → ((n : PageName) → nat_lt 0 (uses q n) ≡ true → nat_lt 0 (uses p n) ≡ true) → AreWhole q
+  still_whole p q w k entries old = record { named = named; words = λ n ws h. there n ws (nat_lt 0 (uses q n)) (sym (k.objects n) ∙ h); entries = entries; old = λ n h. serial n (nat_lt 0 (uses q n)) refl h; owners = ap length k.page_serials ∙ w.owners }
     where
       named : (n : PageName) → map.contains_key q.objects n ≡ nat_lt 0 (uses q n)
       named n = ap is_some (k.objects n) ∙ by (nat_lt 0 (uses q n)) refl
@@ -106,6 +123,9 @@ module _ {K : Type 0} {file_cmp : K → K → Ordering} where
           let same : page_serial q n.tty ≡ page_serial p n.tty = λ i. cond (n.tty.0 == 255) (k.console_serial i) (slice_index (k.page_serials i) n.tty.0) in
           omega (arith, before, same)
       serial n false is h = absurd (let z : true ≡ false = sym h ∙ named n ∙ is in cc z)
+
+  pub kept_whole : (p q : PlainPages file_cmp) → AreWhole p → AreKept p q → ((f : ForkName) (m : Map) → map.get q.maps f ≡ Some m → length m ≡ SPACE_PAGES) → ((n : PageName) → nat_lt 0 (uses q n) ≡ true → nat_lt 0 (uses p n) ≡ true) → AreWhole q
+  kept_whole p q w k = still_whole p q w (still p q k)
 
 or_zero : (k : ℕ) → (k == 0) ≡ true → nat_lt 0 k ≡ false
 or_zero k h = grind (arith, nat_tests)
@@ -198,13 +218,12 @@ module _ {K : Type 0} {file_cmp : K → K → Ordering} where
       both false true false = refl
       both false false c = refl
 
-  -- of pages whose maps changed those are kept that are still named, where what is dropped are pages that lost a name
-  kept_by : (p q : PlainPages file_cmp) (ns : List PageName) → AreWhole p → q ≡ record p { maps = q.maps } → ((n : PageName) → has n ns ≡ false → nat_lt 0 (uses q n) ≡ false → nat_lt 0 (uses p n) ≡ false) → AreKept p (drop_all_unnamed q ns)
-  kept_by p q ns w same lost =
+  -- of pages whose maps or files changed those are kept that are still named, where what is dropped are pages that lost a name
+  pub still_by : (p q : PlainPages file_cmp) (ns : List PageName) → AreWhole p → q ≡ record p { maps = q.maps; files = q.files } → ((n : PageName) → has n ns ≡ false → nat_lt 0 (uses q n) ≡ false → nat_lt 0 (uses p n) ≡ false) → AreStill p (drop_all_unnamed q ns)
+  still_by p q ns w same lost =
       let leaves = drop_all_leaves q ns in
       record {
         objects = λ n. drop_all_objects q ns n ∙ by n (has n ns) (uses q n == 0) refl refl ∙ ap (λ k. cond (nat_lt 0 k) (map.get p.objects n) None) (sym (ap (λ (r : PlainPages file_cmp). uses r n) leaves ∙ uses_objects q (drop_all_unnamed q ns).objects n));
-        files = ap (λ (r : PlainPages file_cmp). r.files) (leaves) ∙ ap (λ (r : PlainPages file_cmp). r.files) same;
         page_serials = ap (λ (r : PlainPages file_cmp). r.page_serials) leaves ∙ ap (λ (r : PlainPages file_cmp). r.page_serials) same;
         console_serial = ap (λ (r : PlainPages file_cmp). r.console_serial) leaves ∙ ap (λ (r : PlainPages file_cmp). r.console_serial) same;
         limit = ap (λ (r : PlainPages file_cmp). r.limit) leaves ∙ ap (λ (r : PlainPages file_cmp). r.limit) same;
@@ -218,6 +237,18 @@ module _ {K : Type 0} {file_cmp : K → K → Ordering} where
       by n true false is some = words n ∙ ap (λ b. cond b (map.get p.objects n) None) (sym (or_some (uses q n) some))
       by n false true is none = words n ∙ unnamed_gone p w n (lost n is (or_zero (uses q n) none)) ∙ ap (λ b. cond b (map.get p.objects n) None) (sym (or_zero (uses q n) none))
       by n false false is some = words n ∙ ap (λ b. cond b (map.get p.objects n) None) (sym (or_some (uses q n) some))
+
+  kept_by : (p q : PlainPages file_cmp) (ns : List PageName) → AreWhole p → q ≡ record p { maps = q.maps } → ((n : PageName) → has n ns ≡ false → nat_lt 0 (uses q n) ≡ false → nat_lt 0 (uses p n) ≡ false) → AreKept p (drop_all_unnamed q ns)
+  kept_by p q ns w same lost =
+      let files = ap (λ (r : PlainPages file_cmp). r.files) same in
+      let k = still_by p q ns w (same ∙ λ i. record p { maps = q.maps; files = sym files i }) lost in
+      record {
+        objects = k.objects;
+        files = ap (λ (r : PlainPages file_cmp). r.files) (drop_all_leaves q ns) ∙ files;
+        page_serials = k.page_serials;
+        console_serial = k.console_serial;
+        limit = k.limit;
+      }
 
   module _ (p : PlainPages file_cmp) (w : AreWhole p) (s : Slot) (e y : MapEntry) (h : entry_at p.maps s ≡ Some e) where
     abbrev set : PlainPages file_cmp
@@ -379,13 +410,19 @@ module _ {K : Type 0} {file_cmp : K → K → Ordering} where
         same : (j k : ℕ) → j ≡ k → nat_lt 0 k ≡ false → nat_lt 0 j ≡ false
         same j k is g = grind (arith, nat_tests)
 
+-- a page that a file names is there
+pub file_there : {K : Type 0} {file_cmp : K → K → Ordering} (p : PlainPages file_cmp) → AreWhole p → (f : FilePage K) (n : PageName) → map.get p.files f ≡ Some n → map.contains_key p.objects n ≡ true
+file_there {file_cmp = file_cmp} p w f n h =
+    let one : tally n n ≡ 1 = ap (λ b. cond b 1 0) (same_itself n) in
+    w.named n ∙ at_least 1 (uses p n) refl (omega (arith, uses_are p n, one, value_counted (file_page_cmp file_cmp) (tally n) p.files f n h))
+
 -- a narrowing changes what is permitted, and not the page
 pub narrow_page : (a : Access) (e : MapEntry) → page_in (narrow a e) ≡ page_in e
 narrow_page a Empty = refl
 narrow_page a (Names n b) = refl
 narrow_page a (Follows serial page b) = refl
 
-module _ (p : NumberedPages) (w : AreWhole p) (s : Slot) (new : NewEntry) (is_new : IsNewEntry new) where
+module _ (p : NumberedPages) (w : AreWhole p) (s : Slot) (new : NewEntry) (is_new : IsNewEntry (map.get p.files) new) where
   pub changed_is : (e : MapEntry) → entry_at p.maps s ≡ Some e → changed p s new ≡ with_entry p s (entry_to p new e)
   unfolding changed
   changed_is e h = ap (λ (o : Option MapEntry). option_map_or (λ e. with_entry p s (entry_to p new e)) o p) h
@@ -398,9 +435,13 @@ module _ (p : NumberedPages) (w : AreWhole p) (s : Slot) (new : NewEntry) (is_ne
   pub set_there : (e : MapEntry) → entry_at p.maps s ≡ Some e → (n : PageName) → page_in (entry_to p new e) ≡ Some n → map.contains_key p.objects n ≡ true
   set_there e h n is = by new is_new is
     where
-      by : (new : NewEntry) → IsNewEntry new → page_in (entry_to p new e) ≡ Some n → map.contains_key p.objects n ≡ true
+      filed : (o : Option PageName) (f : FilePage ℕ) (a : Access) → map.get p.files f ≡ o → IsSome o → page_in (option_map_or (λ m. Names m a) o e) ≡ Some n → map.contains_key p.objects n ≡ true
+      filed None f a h there g = absurd (cc there)
+      filed (Some m) f a h there g = (let same : m ≡ n = cc g in file_there p w f n (h ∙ ap Some same))
+
+      by : (new : NewEntry) → IsNewEntry (map.get p.files) new → page_in (entry_to p new e) ≡ Some n → map.contains_key p.objects n ≡ true
       by SetEmpty i g = absurd (cc g)
-      by (SetFilePage f page a) i g = absurd i
+      by (SetFilePage f page a) i g = filed (map.get p.files (record { file = f.0; page = page })) (record { file = f.0; page = page }) a refl i.1 g
       by (SetFollows serial page a) i g = absurd (cc g)
       by (SetNarrow a) i g = old_there p w s e Empty h n (sym (narrow_page a e) ∙ g)
 

@@ -5,6 +5,7 @@ pub mod Makings
 pub mod Settles
 pub mod ReferencesMade
 pub mod Kept
+pub mod FilesKept
 pub mod Refiled
 pub mod ChainEquations
 pub mod Ends

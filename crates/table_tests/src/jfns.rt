@@ -7,8 +7,8 @@ ghost use Rattle.plain_files.specs.Jobs.{jfns_of};
 use crate::made::made;
 use crate::same::same;
 use jfn_table::{Jfns, JfnsFull, JobJfns};
-use machine_names::{FileNo, TERMINALS, Tty};
-use plain_files::{MOST_FILES, Mode};
+use machine_names::{FileNo, MOST_FILES, TERMINALS, Tty};
+use plain_files::Mode;
 
 const READ: Mode = Mode { r: true, w: false };
 

@@ -3,7 +3,7 @@ use Rattle.std.specs.FinMap as map
 use Rattle.number_map.specs.Numbers.{AreTaken, IsLeastFree}
 use Rattle.number_map.proofs.Full.{IsWithin, len_full, len_free}
 use Rattle.machine_names.specs.declared.names.FileNo.{FileNo}
-use Rattle.plain_files.specs.declared.bounds.TheConstants.{MOST_FILES}
+use Rattle.machine_names.specs.declared.names.TheConstants.{MOST_FILES}
 use Rattle.plain_files.specs.Directory.{AreFiles, Files, IsAbsent}
 use Rattle.file_dir.proofs.Places.{files_put, order_put, split_on}
 use Rattle.file_dir.proofs.dir.Dir.create.Goals as goal

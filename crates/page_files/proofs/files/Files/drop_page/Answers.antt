@@ -1,6 +1,7 @@
 use Rattle.std.proofs.Common.{◌∙◌, ap}
 use Rattle.std.specs.FinMap as map
-use Rattle.page_files.specs.Pages.{by_file, file_page}
+use Rattle.machine_names.specs.Orders.{file_page}
+use Rattle.page_files.specs.Pages.{by_file}
 use Rattle.page_files.proofs.Numbering.{got, gone_by_file}
 use Rattle.page_files.proofs.files.Files.drop_page.Goals as goal
 

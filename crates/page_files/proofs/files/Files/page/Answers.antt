@@ -1,6 +1,6 @@
 use Rattle.std.proofs.Common.{◌∙◌, ap}
 use Rattle.std.specs.FinMap as map
-use Rattle.page_files.specs.Pages.{file_page}
+use Rattle.machine_names.specs.Orders.{file_page}
 use Rattle.page_files.proofs.Numbering.{got}
 use Rattle.page_files.proofs.files.Files.page.Goals as goal
 

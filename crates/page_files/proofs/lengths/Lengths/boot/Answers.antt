@@ -1,5 +1,6 @@
 use Rattle.std.proofs.Common.{◌∙◌, ap, sym, subst, lit≤, All}
-use Rattle.plain_files.specs.declared.bounds.TheConstants.{LARGEST_BYTE, MOST_FILES}
+use Rattle.machine_names.specs.declared.names.TheConstants.{MOST_FILES}
+use Rattle.plain_files.specs.declared.bounds.TheConstants.{LARGEST_BYTE}
 use Rattle.page_files.specs.declared.lengths.FileLength.{FileLength}
 use Rattle.page_files.specs.Sizes.{plain_files}
 use Rattle.plain_files.specs.Sizes.{FitsFile}
