@@ -7,7 +7,7 @@ mod Maps
 mod MapFrom
 mod Lookups
 mod Rooms
-mod Unfiled
+mod Filed
 mod Silent
 mod UnitRan
 mod UnitRows

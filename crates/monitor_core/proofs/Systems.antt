@@ -15,11 +15,16 @@ use Rattle.fork_tree.proofs.Slots.{held_lives}
 use Rattle.monitor_core.specs.declared.job.Job.{Job}
 use Rattle.monitor_core.specs.declared.system.System.{System}
 use Rattle.monitor_core.specs.Holding.{Holds}
-use Rattle.monitor_core.specs.Jobs.{job_at}
-use Rattle.monitor_core.specs.Systems.{IsWithin}
+use Rattle.page_contracts.specs.DrumWords.{DrumWords}
+use Rattle.plain_files.specs.OpenFiles.{OpenFiles}
+use Rattle.plain_files.specs.NamedFiles.{AreFiled}
+use Rattle.file_tables.specs.declared.tables.FileTables.{FileTables}
+use Rattle.file_tables.specs.Tables.{files_of, open_of}
+use Rattle.monitor_core.specs.Jobs.{AreUnheld, job_at, jobs_of}
+use Rattle.monitor_core.specs.Systems.{FitsPages, IsWithin, named, state_of}
 use Rattle.monitor_core.specs.Limits.{IsBody}
 use Rattle.monitor_core.specs.Sound.{AreSound}
-use Rattle.monitor_core.proofs.Sounds.{lives_now, same_tops, sound_change, sound_same, split_at}
+use Rattle.monitor_core.proofs.Sounds.{SameTops, lives_now, same_tops, sound_change, sound_same, split_at}
 
 -- what a map of one value gives
 pub mapped_some : {X Y : Type 0} (f : X → Y) (o : Option X) (y : Y) → option_map f o ≡ Some y → (x : X) × (o ≡ Some x) × (f x ≡ y)
@@ -33,6 +38,33 @@ change_is s name change same = by (map.get s.forks name)
     by : (o : Option Fork) → option_map_or (λ f. with_fork s (change f)) o s ≡ record s { forks = changed s.forks change o }
     by None = refl
     by (Some f) = λ i. record s { forks = map.insert s.forks (same f i) (change f) }
+
+-- no JFN is held where no job is, nor where none was
+pub unheld_still : (open : List OpenFiles) (jobs jobs' : List (Option Job)) → AreUnheld open jobs → SameTops jobs jobs' → AreUnheld open jobs'
+unheld_still open jobs jobs' none tops t gone = none t (tops.none t gone)
+
+module _ {P : Type 0} {b : _} (m m' : System P b) (files : m'.files ≡ m.files) where
+  -- the drum fits where the pages of files are those that they were
+  pub fits_left : (d : DrumWords) → b.means.fits m'.pages d → (b.means.plain m'.pages d).files ≡ (b.means.plain m.pages d).files → FitsPages m d → FitsPages m' d
+  fits_left d fits same f = record {
+    pages = fits;
+    filed = subst (λ (t : FileTables). AreFiled t.dir (b.means.plain m'.pages d).files) (sym files) (subst (AreFiled m.files.dir) (sym same) f.filed);
+  }
+
+  module _ (same : m'.pages ≡ m.pages) where
+    pub fits_still : (d : DrumWords) → FitsPages m d → FitsPages m' d
+    fits_still d f = fits_left d (subst (λ p. b.means.fits p d) (sym same) f.pages) (ap (λ p. (b.means.plain p d).files) same) f
+
+    -- a state of the same pages and files
+    pub state_left : (tree : m'.tree ≡ m.tree) (jobs : m'.jobs.items ≡ m.jobs.items) (clock : m'.clock ≡ m.clock) (d : DrumWords) → state_of m' d ≡ state_of m d
+    state_left tree jobs clock d = λ i. record (state_of m d) {
+      pages = named (files i).dir (b.means.plain (same i) d);
+      files = files_of (files i);
+      jobs = jobs_of (open_of (files i)) (jobs i);
+      forks = (tree i).forks;
+      fork_serials = (tree i).serials;
+      clock = clock i;
+    }
 
 module _ {P : Type 0} {b : _} where
   -- the top fork of a job lives
