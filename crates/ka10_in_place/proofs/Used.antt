@@ -22,7 +22,7 @@ use Rattle.ka10_in_place.proofs.Stored.{lost_none, lost_on}
 module _ {P : Type 0} (means : PagesMeaning P) where
   -- pages that stay as they are
   pub stays_put : (s : P) → StaysPut means s s
-  stays_put s = record { touched = refl; scene = refl; space = refl; place = refl; map_homes = refl; page_homes = refl; lives = refl; forks = refl; serials = refl; most = refl }
+  stays_put s = record { touched = refl; scene = refl; space = refl; place = refl; filed = refl; map_homes = refl; page_homes = refl; lives = refl; forks = refl; serials = refl; most = refl }
 
   pub stays_on : (r s t : P) → StaysPut means r s → StaysPut means s t → StaysPut means r t
   stays_on r s t g h = record {
@@ -30,6 +30,7 @@ module _ {P : Type 0} (means : PagesMeaning P) where
     scene = h.scene ∙ g.scene;
     space = h.space ∙ g.space;
     place = h.place ∙ g.place;
+    filed = h.filed ∙ g.filed;
     map_homes = h.map_homes ∙ g.map_homes;
     page_homes = h.page_homes ∙ g.page_homes;
     lives = h.lives ∙ g.lives;

@@ -4,7 +4,7 @@ ghost use Rattle.outside.specs.declared.TheConstants.{PAGE_WORDS};
 ghost use Rattle.page_contracts.specs.DrumWords.{DrumWords};
 ghost use Rattle.plain_pages.specs.PlainPages.{NumberedPages};
 ghost use Rattle.machine_names.specs.Bounds.{IsOwner};
-ghost use Rattle.page_contracts.specs.Pages.{IsPlace, Scene, spot_of};
+ghost use Rattle.page_contracts.specs.Pages.{IsForkPlace, Scene, spot_of};
 ghost use Rattle.plain_pages.specs.References.{page_at, word_at};
 ghost use Rattle.page_gather.specs.Changes.{are_in_space};
 ghost use Rattle.page_gather.specs.Gathering.{Adds, AnswerNeeds, ArePlaces, AreSound, Gathers, IsPlaceNear, PlaceAdds, are_same, changes_of, changes_with, is_needless, left_of, most_made};
@@ -49,7 +49,7 @@ impl Model for Gather {
 
 // The slot of a place in a fork's space.
 fn slot_of<P: Pages>(pages: &P, at: Place) -> Slot
-    requires { IsPlace (P.means.lives pages.now) at }
+    requires { IsForkPlace (P.means.lives pages.now) at }
     ensures is { Place.Fork result ≡ at }
     ensures page { result.page < SPACE_PAGES }
 {
@@ -129,7 +129,7 @@ impl Gather {
     /// no frame, which are at most two for a write and one for another reference; Denied and Full exactly as it comes to there. Where the answer isn't Went, nothing is added. A
     /// reference that finds its page ready, while none before it makes one, costs a look at the page.
     pub fn add<P: Pages>(&mut self, pages: &P, at: Place, kind: Kind) -> Added
-        requires place { IsPlace (P.means.lives pages.now) at }
+        requires place { IsForkPlace (P.means.lives pages.now) at }
         requires room { length self.old.references < MOST_GATHERED }
         ensures owner { self.new.owner ≡ self.old.owner }
         ensures went { result ≡ Added.Went → PlaceAdds self.old.references self.new.references at kind }
@@ -155,8 +155,8 @@ impl Gather {
 
     /// Whether both places, which are in frames, name one page after the references.
     pub fn same<P: Pages>(&self, pages: &P, a: Place, b: Place) -> bool
-        requires place { IsPlace (P.means.lives pages.now) a }
-        requires other { IsPlace (P.means.lives pages.now) b }
+        requires place { IsForkPlace (P.means.lives pages.now) a }
+        requires other { IsForkPlace (P.means.lives pages.now) b }
         ensures told { (d : DrumWords) → P.means.fits pages.now d → Gathers (P.means.plain pages.now d) (P.means.scene pages.now) self.now → IsPlaceNear (left_of (P.means.plain pages.now d) self.now) (P.means.scene pages.now) a → IsPlaceNear (left_of (P.means.plain pages.now d) self.now) (P.means.scene pages.now) b
             → result ≡ are_same (page_at (left_of (P.means.plain pages.now d) self.now) (spot_of a)) (page_at (left_of (P.means.plain pages.now d) self.now) (spot_of b)) }
     {
@@ -171,7 +171,7 @@ impl Gather {
     /// The word at an offset of a place that is in frames, after the references. A copy that they make has the words
     /// of its page already, also where it ends a chain that was too long before.
     pub fn word<P: Pages>(&self, pages: &P, at: Place, offset: u16) -> Word
-        requires place { IsPlace (P.means.lives pages.now) at }
+        requires place { IsForkPlace (P.means.lives pages.now) at }
         requires offset { offset < PAGE_WORDS }
         ensures told { (d : DrumWords) → P.means.fits pages.now d → Gathers (P.means.plain pages.now d) (P.means.scene pages.now) self.now → IsPlaceNear (left_of (P.means.plain pages.now d) self.now) (P.means.scene pages.now) at
             → result ≡ word_at (left_of (P.means.plain pages.now d) self.now) (spot_of at) offset }
