@@ -3,3 +3,9 @@ pub mod Rekeyed
 pub mod Names
 pub mod Opened
 pub mod FirstFree
+pub mod Kept
+pub mod Times
+pub mod Files
+pub mod Jobs
+pub mod Pages
+pub mod Counts

@@ -1,7 +1,7 @@
 -- What is kept for the numbers of files, by the names of the files.
-use Rattle.std.proofs.Common.{◌≡◌, ◌≢◌, ◌↔◌, ℕ, ◌+◌, ◌<◌, ◌≤◌, zero, suc, Bool, true, false, cond, List, Option, Some, None, refl, sym, ◌∙◌, ap, subst, arith, ◌⊎◌, inl, inr}
+use Rattle.std.proofs.Common.{◌≡◌, ◌≢◌, ◌↔◌, ℕ, ◌+◌, ◌<◌, ◌≤◌, zero, suc, Bool, true, false, cond, List, [], Option, Some, None, refl, sym, ◌∙◌, ap, subst, arith, ◌⊎◌, inl, inr}
 use Rattle.std.specs.Prelude.{is_some}
-use Rattle.std.specs.Option.{option_map}
+use Rattle.std.specs.Option.{option_map, unwrap_or}
 use Rattle.std.specs.Ordering.{eq_by_cmp, nat_cmp}
 use Rattle.std.specs.Cmp.{IsTotalOrder, nat_cmp_total}
 use Rattle.std.specs.Cmp.Lexicographic.{nat_list_cmp_total}
@@ -32,6 +32,14 @@ one_value o x y a b = cc (a, b)
 
 pub not_both : {A : Type 0} (o : Option A) (x : A) → o ≡ None → o ≡ Some x → ⊥
 not_both o x none some = absurd (cc (none, some))
+
+-- the name of a file that is there
+pub named : (m : Files) (f : ℕ) → map.contains_key m f ≡ true → map.get m f ≡ Some (name_of m f)
+named m f there = by (map.get m f) refl
+  where
+    by : (o : Option (List ℕ)) → map.get m f ≡ o → map.get m f ≡ Some (name_of m f)
+    by None is = absurd (let not_there : false ≡ true = sym (ap is_some is) ∙ there in cc not_there)
+    by (Some name) is = is ∙ ap (λ x. Some x) (sym (ap (λ o. unwrap_or o []) is))
 
 module _ (m : Files) (a : AreNumbers m) where
   -- a name and a number stand for each other
