@@ -56,7 +56,7 @@ use Rattle.monitor_core.specs.Writing.{write_of, left_by, poke_refusal, refused_
 use Rattle.monitor_core.proofs.Looks.{below, not_below}
 use Rattle.monitor_core.proofs.Lookups.{job_found, job_missing, jobs_set}
 use Rattle.monitor_core.proofs.Sounds.{split_at}
-use Rattle.monitor_core.proofs.Systems.{change_is, fits_left, fits_still, state_left, units_change}
+use Rattle.monitor_core.proofs.Systems.{change_is, fits_left, fits_still, serials_made, state_left, units_change}
 use Rattle.monitor_core.proofs.Filed.{NamedFiles, keyed, reference_keyed}
 use Rattle.monitor_core.proofs.NamedPages.{alike_named, named_left}
 
@@ -164,7 +164,7 @@ poked_by filed s t at offset word p ready q full (Err barred) refers store stays
     let is : ByDrum ≡ barred = cc refers in λ i. record { state = record s { pages = keyed filed (sym stays i) }; items = Refusal (poke_refusal t (is i)) ∷ [] }
 
 -- no write through a map changes the pages of files
-was_granted : (r : Referred nat_cmp) (q : NumberedPages) → write_of r ≡ Ok q → r ≡ granted q
+pub was_granted : (r : Referred nat_cmp) (q : NumberedPages) → write_of r ≡ Ok q → r ≡ granted q
 was_granted (granted g) q h = let is : g ≡ q = cc h in ap granted is
 was_granted (denied kind) q h = absurd (cc h)
 was_granted full q h = absurd (cc h)
@@ -183,13 +183,6 @@ module _ {P : Type 0} {b : _} (m m' : System P b) (is_tree : IsTree m.tree) (t :
   -- a job's top fork is of its terminal
   owner : j.top.tty ≡ t
   owner = λ i. record { 0 = (m.sound.each_job t.0 j at).terminal i }
-
-  -- the pages that were made for the top fork's terminal, as counts
-  made_serials : (entries : ℕ) → IsWithin m entries → Makes b.means m.pages m'.pages j.top.tty 2 → (u : Tty) → b.means.serial m'.pages u ≤ most_makings * (entries + 1) + 1
-  made_serials entries w made u = elim (cases_eq u.0 j.top.tty.0) [
-    | inl same ↦ let is : u ≡ j.top.tty = λ i. record { 0 = same i } in omega (arith, ap (b.means.serial m'.pages) is, made.own, w.serials j.top.tty)
-    | inr ne ↦ omega (arith, made.others u (λ h. ne (ap (λ x. x.0) h)), w.serials u)
-  ]
 
   module _ (jobs : m'.jobs.items ≡ m.jobs.items) where
     -- a word was put into an accumulator
@@ -263,7 +256,7 @@ module _ {P : Type 0} {b : _} (m m' : System P b) (is_tree : IsTree m.tree) (t :
               | inl small ↦ units_change m entries (entries + 1) j.top (with_accumulator address word) is_tree (λ k. refl) w (omega arith) f (ap (λ (x : PlainTree). fin.get x.forks f.name) (sym (low small).1) ∙ lives)
               | inr above ↦ omega (arith, w.units f (ap (λ (x : PlainTree). fin.get x.forks f.name) (sym (high above).0) ∙ lives))
             ];
-            serials = made_serials entries w made;
+            serials = serials_made m m' entries j.top.tty w made;
           };
           most = made.most;
         }))

@@ -8,6 +8,9 @@ mod MapFrom
 mod Lookups
 mod Rooms
 mod Filed
+mod NamedPages
+mod FileReferences
+mod FileDid
 mod Silent
 mod UnitRan
 mod UnitRows

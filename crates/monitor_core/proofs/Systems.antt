@@ -1,5 +1,5 @@
 -- Steps of a system, as steps of the plain machine.
-use Rattle.std.proofs.Common.{◌≡◌, ℕ, ◌<◌, ◌≤◌, ◌^◌, is_some, List, Option, None, Some, refl, sym, ◌∙◌, ap, subst, arith, inl, inr, length-set}
+use Rattle.std.proofs.Common.{◌≡◌, ℕ, ◌+◌, ◌*◌, ◌<◌, ◌≤◌, ◌^◌, is_some, List, Option, None, Some, refl, sym, ◌∙◌, ap, subst, arith, inl, inr, length-set}
 use Rattle.std.specs.Option.{option_map, option_map_or}
 use Rattle.std.specs.FinMap as map
 use Rattle.machine_names.specs.declared.names.ForkName.{ForkName}
@@ -9,7 +9,9 @@ use Rattle.plain_model.specs.State.{PlainState}
 use Rattle.plain_model.specs.Trees.{changed, PlainTree, with_changed_of}
 use Rattle.machine_names.specs.declared.names.TheConstants.{ACCUMULATORS}
 use Rattle.plain_model.specs.Events.{restarted}
-use Rattle.monitor_core.specs.Writing.{with_accumulator}
+use Rattle.machine_names.specs.declared.names.Tty.{Tty}
+use Rattle.std.proofs.lemmas.Bool.{cases_eq}
+use Rattle.monitor_core.specs.Writing.{Makes, most_makings, with_accumulator}
 use Rattle.fork_tree.specs.Trees.{IsTree, Lives}
 use Rattle.fork_tree.proofs.Slots.{held_lives}
 use Rattle.monitor_core.specs.declared.job.Job.{Job}
@@ -97,6 +99,13 @@ module _ {P : Type 0} {b : _} where
       by : (o : Option Fork) → map.get m.tree.forks n ≡ o → Lives (changed m.tree.forks change o) f → f.body.units ≤ later
       by None e lives = omega (arith, more, w.units f lives)
       by (Some k) e lives = units_changed m entries later k.name (change k) w more (omega (arith, same k, w.units k (held_lives m.tree.forks is.slotted n k e), more)) f lives
+
+  -- pages were made for an owner in an entry
+  pub serials_made : (m m' : System P b) (entries : ℕ) (owner : Tty) → IsWithin m entries → Makes b.means m.pages m'.pages owner 2 → (u : Tty) → b.means.serial m'.pages u ≤ most_makings * (entries + 1) + 1
+  serials_made m m' entries owner w made u = elim (cases_eq u.0 owner.0) [
+    | inl same ↦ let is : u ≡ owner = λ i. record { 0 = same i } in omega (arith, ap (b.means.serial m'.pages) is, made.own, w.serials owner)
+    | inr ne ↦ omega (arith, made.others u (λ h. ne (ap (λ x. x.0) h)), w.serials u)
+  ]
 
   -- nothing is counted but an entry
   pub within_later : (m : System P b) (entries later : ℕ) → IsWithin m entries → entries ≤ later → IsWithin m later

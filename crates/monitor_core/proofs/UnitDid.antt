@@ -33,7 +33,7 @@ use Rattle.monitor_core.specs.declared.shown.Stop.TheVariants.{GoesOn}
 use Rattle.monitor_core.specs.declared.system.System.{System}
 use Rattle.monitor_core.specs.declared.units.Units.{Units}
 use Rattle.monitor_core.specs.ForkUnit.{Behind, LeavesForks, UnitWaits, UnitsRan}
-use Rattle.monitor_core.specs.Jobs.{job_at, jobs_left, jobs_of}
+use Rattle.monitor_core.specs.Jobs.{AreUnheld, job_at, jobs_left, jobs_of}
 use Rattle.monitor_core.specs.Runners.{woken_where}
 use Rattle.monitor_core.specs.Shown.{FitsShown, FitsStop, is_stop, seen_of, shown_items}
 use Rattle.monitor_core.specs.Sound.{AreSound}
@@ -47,7 +47,7 @@ use Rattle.monitor_core.proofs.Rows.{Entries, units_as}
 use Rattle.monitor_core.proofs.Sounds.{SameTops, same_tops, same_tops_set}
 use Rattle.monitor_core.proofs.Filed.{NamedFiles}
 use Rattle.monitor_core.proofs.NamedPages.{alike_named, named_left}
-use Rattle.monitor_core.proofs.Systems.{fits_left}
+use Rattle.monitor_core.proofs.Systems.{fits_left, unheld_still}
 use Rattle.monitor_core.proofs.UnitEffect.{Runs, behind_state, jobs_seen}
 
 -- the jobs of which one gives its terminal to the monitor, as the plain state has them
@@ -90,6 +90,10 @@ module _ {P : Type 0} {b : _} (m : System P b) (f : Fork) (trees : IsTree m.tree
 
   within_jobs : f.name.tty.0 < length m.jobs.items
   within_jobs = omega (arith, m.sound.job_room, low)
+
+  -- no JFN is held where no job is, whoever reads the terminal
+  pub unheld_left : {jobs' : List (Option Job)} (shown : Shown) → jobs' ≡ jobs_left m.jobs.items f.name.tty.0 (is_stop shown) → AreUnheld (open_of m.files) jobs'
+  unheld_left shown jobs = subst (AreUnheld (open_of m.files)) (sym jobs) (unheld_still (open_of m.files) m.jobs.items (jobs_left m.jobs.items f.name.tty.0 (is_stop shown)) m.unheld (tops_left m.jobs.items f.name.tty.0 (is_stop shown) within_jobs))
 
   -- behind units of a fork, and once who waits runs again
   module _ (q : P) (left tree' : PlainTree) (count : ℕ) (stops : Bool) (leaves : LeavesForks b.means m.pages q m.tree left f count) (left_trees : IsTree left) (woken : tree' ≡ record left { forks = woken_where left.forks f.name.tty stops }) where

@@ -4,7 +4,7 @@ use Rattle.monitor_core.specs.Limits.{CanUnit}
 use Rattle.monitor_core.specs.Runners.{woken_where}
 use Rattle.monitor_core.specs.Shown.{is_stop, seen_of}
 use Rattle.monitor_core.proofs.Running.{place_of, runner, runner_lives, runner_only, runner_runs, runner_there}
-use Rattle.monitor_core.proofs.UnitDid.{did_units, units_sound, waits_sound, waits_still}
+use Rattle.monitor_core.proofs.UnitDid.{did_units, unheld_left, units_sound, waits_sound, waits_still}
 use Rattle.monitor_core.proofs.system.System.units.Goals as goal
 
 pub units_of-ran-requires-clause-there : goal.units_of-ran-requires-clause-there
