@@ -4,7 +4,7 @@ use Rattle.std.specs.Prelude.{is_some, length, slice_set}
 use Rattle.std.specs.FinMap as map
 use Rattle.number_map.proofs.Keys.{get_gone_other, get_put_other}
 use Rattle.plain_files.specs.declared.jfn.Jfn.{Jfn}
-use Rattle.plain_files.specs.declared.bounds.TheConstants.{MOST_FILES}
+use Rattle.machine_names.specs.declared.names.TheConstants.{MOST_FILES}
 use Rattle.plain_files.specs.Sizes.{PlainFile, file_at, new_file}
 use Rattle.plain_files.specs.Directory.{Files, IsAbsent}
 use Rattle.plain_files.specs.JobFiles.{Held}

@@ -8,9 +8,8 @@ use Rattle.std.proofs.lemmas.List.{length-set, length-replicate, get_or_past}
 use Rattle.std.proofs.lemmas.List.Sums.{sum_by-cons}
 use Rattle.std.specs.FinMap as map
 use Rattle.number_map.proofs.Keys.{get_gone, get_gone_other, get_put, get_put_other}
-use Rattle.machine_names.specs.declared.names.TheConstants.{TERMINALS}
+use Rattle.machine_names.specs.declared.names.TheConstants.{MOST_FILES, TERMINALS}
 use Rattle.plain_files.specs.declared.jfn.Jfn.{Jfn}
-use Rattle.plain_files.specs.declared.bounds.TheConstants.{MOST_FILES}
 use Rattle.plain_files.specs.Sizes.{FitsFile, PlainFile, file_at, new_file}
 use Rattle.plain_files.specs.Directory.{Files, IsAbsent}
 use Rattle.plain_files.specs.JobFiles.{Held, names_in}

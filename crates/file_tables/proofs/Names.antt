@@ -11,7 +11,7 @@ use Rattle.std.specs.FinMap.{IsAntisymmetric, nat_cmp-IsAntisymmetric, slice_cmp
 use Rattle.number_map.proofs.Keys.{same, tied, untied, get_gone as number_gone, get_gone_other as number_gone_other, get_put as number_put, get_put_other as number_put_other}
 use Rattle.number_map.proofs.Places.{put_back}
 use Rattle.machine_names.specs.Orders.{name_cmp}
-use Rattle.plain_files.specs.declared.bounds.TheConstants.{MOST_FILES}
+use Rattle.machine_names.specs.declared.names.TheConstants.{MOST_FILES}
 use Rattle.plain_files.specs.Directory.{Creates, Files, IsAbsent}
 use Rattle.plain_files.specs.NamedFiles.{AreNumbers, by_name, name_of, number_of}
 use Rattle.file_tables.proofs.Keys.{cases_key, get_put, get_put_other, get_gone, get_gone_other, parts, same_key, ties}

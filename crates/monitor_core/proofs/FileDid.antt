@@ -8,14 +8,14 @@ use Rattle.std.proofs.lemmas.Bool.Decides.{nat_tests}
 use Rattle.outside.specs.declared.TheConstants.{PAGE_WORDS}
 use Rattle.machine_names.specs.Bounds.{IsFileName}
 use Rattle.machine_names.specs.declared.names.PageName.{PageName}
-use Rattle.machine_names.specs.declared.names.TheConstants.{SPACE_PAGES}
+use Rattle.machine_names.specs.declared.names.TheConstants.{MOST_FILES}
 use Rattle.machine_names.specs.declared.names.Kind.TheVariants.{Write}
 use Rattle.machine_names.specs.Orders.{file_page, name_cmp}
 use Rattle.page_contracts.specs.DrumWords.{DrumWords}
 use Rattle.page_contracts.specs.Pages.{Agrees}
 use Rattle.plain_pages.specs.PlainPages.{NumberedPages}
 use Rattle.plain_pages.specs.References.{Referred, denied, full, granted, in_file, page_at, reference, words_of}
-use Rattle.plain_files.specs.declared.bounds.TheConstants.{LARGEST_BYTE, MOST_FILES}
+use Rattle.plain_files.specs.declared.bounds.TheConstants.{LARGEST_BYTE}
 use Rattle.plain_files.specs.Directory.{Creates}
 use Rattle.plain_files.specs.NamedFiles.{AreFiled, name_of, page_named, pages_named}
 use Rattle.plain_files.specs.Sizes.{PlainFile, new_file, reaching}

@@ -25,7 +25,7 @@ pub struct Lengths {
 impl Model for Lengths {
     ghost use Rattle.std.specs.Prelude.{◌≡◌, List, All, vec_len};
     ghost use Rattle.plain_files.specs.Sizes.{PlainFile};
-    ghost use Rattle.plain_files.specs.declared.bounds.TheConstants.{MOST_FILES};
+    ghost use Rattle.machine_names.specs.declared.names.TheConstants.{MOST_FILES};
     ghost use Rattle.page_files.specs.Sizes.{plain_files};
     ghost use Rattle.plain_files.specs.Sizes.{FitsFile};
 

@@ -4,7 +4,7 @@ ghost use Rattle.std.specs.Option.{IsSomeAnd, option_map};
 ghost use Rattle.std.specs.FinMap as map;
 ghost use Rattle.machine_names.specs.Bounds.{IsFileName};
 ghost use Rattle.plain_files.specs.Bytes.{IsByteSize, most_bytes};
-ghost use Rattle.plain_files.specs.declared.bounds.TheConstants.{MOST_FILES as MOST};
+ghost use Rattle.machine_names.specs.declared.names.TheConstants.{MOST_FILES as MOST};
 ghost use Rattle.plain_files.specs.Directory.{Creates};
 ghost use Rattle.plain_files.specs.NamedFiles.{name_of, number_of};
 ghost use Rattle.plain_files.specs.Sizes.{FitsFile, new_file};

@@ -1,6 +1,6 @@
 use Rattle.std.proofs.Common.{◌≡◌, ◌∙◌, sym, ap, refl, replicate, map as each}
 use Rattle.std.specs.FinMap as map
-use Rattle.plain_files.specs.declared.bounds.TheConstants.{MOST_FILES}
+use Rattle.machine_names.specs.declared.names.TheConstants.{MOST_FILES}
 use Rattle.plain_files.specs.Sizes.{PlainFile, file_at, new_file}
 use Rattle.plain_files.specs.Directory.{Files}
 use Rattle.plain_files.specs.JobFiles.{Held}
