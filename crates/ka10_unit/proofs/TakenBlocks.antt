@@ -120,6 +120,7 @@ stays_on means old mid new g h = record {
   scene = h.scene ∙ g.scene;
   space = h.space ∙ g.space;
   place = h.place ∙ g.place;
+  filed = h.filed ∙ g.filed;
   map_homes = h.map_homes ∙ g.map_homes;
   page_homes = h.page_homes ∙ g.page_homes;
   lives = h.lives ∙ g.lives;
