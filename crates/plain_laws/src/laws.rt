@@ -77,8 +77,8 @@ pub fn references_change_no_word()
 /// An entry that is set anew and a fork that ends leave whole pages whole, and no more than there were. A page
 /// that keeps a name keeps its words, and one that loses its last name is gone.
 pub fn pages_go_with_their_last_name()
-    ensures entry { (p : NumberedPages) (s : ASlot) (new : ANewEntry) → AreWhole p → IsNewEntry new → AreWhole (changed p s new) × (live (changed p s new) ≤ live p) }
-    ensures entry_words { (p : NumberedPages) (s : ASlot) (new : ANewEntry) (n : APageName) → AreWhole p → IsNewEntry new → 0 < uses (changed p s new) n
+    ensures entry { (p : NumberedPages) (s : ASlot) (new : ANewEntry) → AreWhole p → IsNewEntry (map.get p.files) new → AreWhole (changed p s new) × (live (changed p s new) ≤ live p) }
+    ensures entry_words { (p : NumberedPages) (s : ASlot) (new : ANewEntry) (n : APageName) → AreWhole p → IsNewEntry (map.get p.files) new → 0 < uses (changed p s new) n
         → map.get (changed p s new).objects n ≡ map.get p.objects n }
     ensures fork { (p : NumberedPages) (f : AForkName) (m : Map) → AreWhole p → map.get p.maps f ≡ Some m → AreWhole (without_fork p f) × (live (without_fork p f) + 1 ≤ live p) }
     ensures fork_words { (p : NumberedPages) (f : AForkName) (m : Map) (n : APageName) → AreWhole p → map.get p.maps f ≡ Some m → 0 < uses (without_fork p f) n

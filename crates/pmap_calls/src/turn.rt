@@ -26,7 +26,7 @@ const MOST_ASKS: u32 = 2;
 // Sets an entry, whose map has to be in core.
 fn set<P: Pages>(pages: &mut P, slot: Slot, new: NewEntry) -> Result<(), Need>
     requires page { slot.page < SPACE_PAGES }
-    requires new { IsNewEntry new }
+    requires new { IsNewEntry (P.means.filed pages.old) new }
     ensures told { Makes P.means pages.old pages.new result (λ scene p. entry_need scene p slot) (λ p. changed p slot new) }
     ensures needs { IfErr result (IsNeeded P.means.store 1 pages.new) }
     ensures core { P.means.flat ≡ true → IsOk result }

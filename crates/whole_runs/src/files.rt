@@ -43,10 +43,10 @@ fn each_line_shows_its_own(rt: HostRuntime) {
     same_at(&rt, 0, shown.as_slice(), wanted.as_slice());
 }
 
-// Puts a number in decimal behind a text.
-fn push_decimal(text: &mut Vec<u8>, number: u32) -> Result<(), AllocError> {
-    for place in [100, 10, 1] {
-        text.push(b'0' + (number / place % 10) as u8)?;
+// Puts a number with three digits of this base behind a text.
+fn push_digits(text: &mut Vec<u8>, number: u32, base: u32) -> Result<(), AllocError> {
+    for place in [base * base, base, 1] {
+        text.push(b'0' + (number / place % base) as u8)?;
     }
     Ok(())
 }
@@ -56,7 +56,7 @@ fn many_files(alloc: Global, count: u32, rest: &[u8]) -> Result<Vec<u8>, Memory>
     let mut script = Vec::new(alloc);
     for n in 0..count {
         script.extend_from_slice(b"FILE <A>F")?;
-        push_decimal(&mut script, n)?;
+        push_digits(&mut script, n, 10)?;
         script.extend_from_slice(b".\n")?;
     }
     script.extend_from_slice(rest)?;
@@ -79,14 +79,12 @@ fn there_are_512_files_at_most(rt: HostRuntime) {
     }
 }
 
-// A file of so many pages, by page and then in the order of the lines, and then these lines.
+// A file of so many pages and one of none, and then these lines.
 fn many_pages(alloc: Global, count: u32, rest: &[u8]) -> Result<Vec<u8>, Memory> {
     let mut script = Vec::from_slice(alloc, b"FILE <A>BIG.\nFILE <A>SMALL.\n")?;
     for page in 0..count {
         script.extend_from_slice(b"WORDS <A>BIG. ")?;
-        for place in [64, 8, 1] {
-            script.push(b'0' + (page / place % 8) as u8)?;
-        }
+        push_digits(&mut script, page, 8)?;
         script.extend_from_slice(b" 0 1\n")?;
     }
     script.extend_from_slice(rest)?;
