@@ -1,6 +1,6 @@
 -- What a change of one file makes of the files by name, and of the JFNs.
-use Rattle.std.proofs.Common.{◌≡◌, ◌≢◌, ℕ, ◌+◌, ◌<◌, ◌≤◌, true, false, List, set, get_or, Option, Some, None, refl, sym, ◌∙◌, ap, subst, arith, get_or-set_same, get_or-set_other}
-use Rattle.std.specs.Prelude.{is_some, length, slice_set}
+use Rattle.std.proofs.Common.{◌≡◌, ◌≢◌, ℕ, ◌<◌, true, false, List, Some, None, sym, ◌∙◌, ap, arith, get_or-set_same, get_or-set_other}
+use Rattle.std.specs.Prelude.{is_some, slice_set}
 use Rattle.std.specs.FinMap as map
 use Rattle.number_map.proofs.Keys.{get_gone_other, get_put_other}
 use Rattle.plain_files.specs.declared.jfn.Jfn.{Jfn}
@@ -8,7 +8,7 @@ use Rattle.machine_names.specs.declared.names.TheConstants.{MOST_FILES}
 use Rattle.plain_files.specs.Sizes.{PlainFile, file_at, new_file}
 use Rattle.plain_files.specs.Directory.{Files, IsAbsent}
 use Rattle.plain_files.specs.JobFiles.{Held}
-use Rattle.plain_files.specs.Jobs.{jfns_of, names_in_all}
+use Rattle.plain_files.specs.Jobs.{names_in_all}
 use Rattle.plain_files.specs.NamedFiles.{AreTables, files_named, jobs_named}
 use Rattle.file_tables.proofs.Kept.{nobody_holds}
 use Rattle.file_tables.proofs.Names.{by_name_gone, by_name_put, by_name_set}

@@ -1,8 +1,7 @@
 -- What a change of one JFN of a job makes of the JFNs of all.
-use Rattle.std.proofs.Common.{◌≡◌, ◌≢◌, ℕ, ◌+◌, ◌-◌, ◌<◌, ◌≤◌, true, false, List, Option, Some, None, refl, sym, ◌∙◌, ap, subst, arith, ◌⊎◌, inl, inr}
-use Rattle.std.specs.Prelude.{IsSome, is_some, length, slice_set}
+use Rattle.std.proofs.Common.{◌≡◌, ◌≢◌, ℕ, ◌+◌, ◌<◌, ◌≤◌, true, false, List, Option, Some, None, refl, sym, ◌∙◌, ap, subst, arith, ◌⊎◌, inl, inr}
+use Rattle.std.specs.Prelude.{IsSome, is_some, slice_set}
 use Rattle.std.specs.Option.{IsSomeAnd, option_map}
-use Rattle.std.specs.List.{sum_by}
 use Rattle.std.proofs.lemmas.Bool.{cases_eq}
 use Rattle.std.proofs.lemmas.List.Sums.{sum_by-set}
 use Rattle.std.specs.FinMap as map
@@ -19,7 +18,7 @@ use Rattle.plain_files.specs.NamedFiles.{AreTables, IsHeld, jobs_named, open_fil
 use Rattle.plain_files.specs.OpenFiles.{OpenFile, OpenFiles, free_jfn, open_at}
 use Rattle.file_tables.proofs.FirstFree.{free_there}
 use Rattle.file_tables.proofs.Kept.{tables_held}
-use Rattle.file_tables.proofs.Opened.{job_jfn, job_set, none_held, open_get, open_gone, open_job, open_put}
+use Rattle.file_tables.proofs.Opened.{job_set, none_held, open_get, open_gone, open_job, open_put}
 
 module _ (m : Files) (files : List PlainFile) (jobs : List Held) (is : AreTables m files jobs) (t : ℕ) (low : t < TERMINALS) (held : Held) (own : held ≡ jfns_of jobs t) where
   own_held : (k : ℕ) (jfn : Jfn) → map.get held k ≡ Some jfn → IsHeld m k jfn

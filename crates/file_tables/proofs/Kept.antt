@@ -1,15 +1,15 @@
 -- What a change leaves of what holds of the tables together.
-use Rattle.std.proofs.Common.{◌≡◌, ◌≢◌, ℕ, zero, suc, ◌+◌, ◌<◌, ◌≤◌, true, false, List, [], ◌∷◌, set, get_or, Option, Some, None, refl, sym, ◌∙◌, ap, subst, arith, lit≤, get_or-set_same, get_or-set_other, ◌⊎◌, inl, inr}
+use Rattle.std.proofs.Common.{◌≡◌, ◌≢◌, ℕ, zero, suc, ◌<◌, ◌≤◌, true, List, [], ◌∷◌, set, get_or, Some, None, refl, sym, ◌∙◌, ap, subst, arith, lit≤, get_or-set_same, get_or-set_other, ◌⊎◌, inl, inr}
 use Rattle.std.specs.Prelude.{is_some, length, replicate, slice_set}
-use Rattle.std.specs.List.{sum_by}
 use Rattle.std.specs.Ordering.{nat_cmp}
 use Rattle.std.proofs.lemmas.Bool.{cases_eq, cases_lt}
 use Rattle.std.proofs.lemmas.List.{length-set, length-replicate, get_or_past}
 use Rattle.std.proofs.lemmas.List.Sums.{sum_by-cons}
 use Rattle.std.specs.FinMap as map
-use Rattle.number_map.proofs.Keys.{get_gone, get_gone_other, get_put, get_put_other}
-use Rattle.machine_names.specs.declared.names.TheConstants.{MOST_FILES, TERMINALS}
+use Rattle.number_map.proofs.Keys.{get_gone_other, get_put, get_put_other}
+use Rattle.machine_names.specs.declared.names.TheConstants.{TERMINALS}
 use Rattle.plain_files.specs.declared.jfn.Jfn.{Jfn}
+use Rattle.machine_names.specs.declared.names.TheConstants.{MOST_FILES}
 use Rattle.plain_files.specs.Sizes.{FitsFile, PlainFile, file_at, new_file}
 use Rattle.plain_files.specs.Directory.{Files, IsAbsent}
 use Rattle.plain_files.specs.JobFiles.{Held, names_in}

@@ -1,18 +1,18 @@
 -- What is kept for the numbers of files, by the names of the files.
-use Rattle.std.proofs.Common.{◌≡◌, ◌≢◌, ◌↔◌, ℕ, ◌+◌, ◌<◌, ◌≤◌, zero, suc, Bool, true, false, cond, List, [], Option, Some, None, refl, sym, ◌∙◌, ap, subst, arith, ◌⊎◌, inl, inr}
+use Rattle.std.proofs.Common.{◌≡◌, ◌≢◌, ◌↔◌, ℕ, ◌+◌, ◌<◌, ◌≤◌, zero, suc, true, false, cond, List, [], Option, Some, None, refl, sym, ◌∙◌, ap, arith, ◌⊎◌, inl, inr}
 use Rattle.std.specs.Prelude.{is_some}
 use Rattle.std.specs.Option.{option_map, unwrap_or}
 use Rattle.std.specs.Ordering.{eq_by_cmp, nat_cmp}
 use Rattle.std.specs.Cmp.{IsTotalOrder, nat_cmp_total}
 use Rattle.std.specs.Cmp.Lexicographic.{nat_list_cmp_total}
-use Rattle.std.proofs.lemmas.Bool.{cases_eq, cases_lt}
+use Rattle.std.proofs.lemmas.Bool.{cases_eq}
 use Rattle.std.specs.FinMap as map
 use Rattle.std.specs.FinMap.{IsAntisymmetric, nat_cmp-IsAntisymmetric, slice_cmp-IsAntisymmetric}
 use Rattle.number_map.proofs.Keys.{same, tied, untied, get_gone as number_gone, get_gone_other as number_gone_other, get_put as number_put, get_put_other as number_put_other}
 use Rattle.number_map.proofs.Places.{put_back}
 use Rattle.machine_names.specs.Orders.{name_cmp}
 use Rattle.machine_names.specs.declared.names.TheConstants.{MOST_FILES}
-use Rattle.plain_files.specs.Directory.{Creates, Files, IsAbsent}
+use Rattle.plain_files.specs.Directory.{Files, IsAbsent}
 use Rattle.plain_files.specs.NamedFiles.{AreNumbers, by_name, name_of, number_of}
 use Rattle.file_tables.proofs.Keys.{cases_key, get_put, get_put_other, get_gone, get_gone_other, parts, same_key, ties}
 use Rattle.file_tables.proofs.Rekeyed.{Each, each_there, one_or_none, rekeyed_at, rekeyed_none, weaker}

@@ -1,10 +1,10 @@
 -- Pages of files by the names of the files.
-use Rattle.std.proofs.Common.{◌≡◌, ◌≢◌, ℕ, ◌==◌, ◌&&◌, Bool, true, false, cond, List, Option, Some, None, refl, sym, ◌∙◌, ap, subst, arith, rules, ◌⊎◌, inl, inr}
+use Rattle.std.proofs.Common.{◌≡◌, ◌≢◌, ℕ, true, false, List, Option, Some, None, refl, sym, ◌∙◌, ap, ◌⊎◌, inl, inr}
 use Rattle.std.specs.Prelude.{is_some}
 use Rattle.std.specs.Option.{option_map}
 use Rattle.std.specs.declared.cmp.Ordering.{Ordering}
 use Rattle.std.specs.declared.cmp.Ordering.TheVariants.{Less, Equal, Greater}
-use Rattle.std.specs.Ordering.{eq_by_cmp, is_eq, nat_cmp, ordering_then}
+use Rattle.std.specs.Ordering.{eq_by_cmp, nat_cmp, ordering_then}
 use Rattle.std.specs.Cmp.{IsTotalOrder, nat_cmp_total}
 use Rattle.std.specs.FinMap as map
 use Rattle.std.specs.FinMap.{IsAntisymmetric, nat_cmp-IsAntisymmetric}
@@ -12,9 +12,9 @@ use Rattle.machine_names.specs.Orders.{FilePage, file_page_cmp, name_cmp}
 use Rattle.machine_names.proofs.OrderLemmas.{file_page_total}
 use Rattle.plain_files.specs.Directory.{Files, IsAbsent}
 use Rattle.plain_files.specs.NamedFiles.{AreFiled, AreNumbers, name_of, page_named, pages_named}
-use Rattle.file_tables.proofs.Keys.{cases_key, get_gone, get_gone_other, get_put, get_put_other, parts, same_key, ties}
-use Rattle.file_tables.proofs.Names.{cases_file, name_apart, name_total, named, not_both, one_value}
-use Rattle.file_tables.proofs.Rekeyed.{Each, each_there, rekeyed_at, rekeyed_none, weaker}
+use Rattle.file_tables.proofs.Keys.{cases_key, get_gone, get_gone_other, get_put, get_put_other, parts, ties}
+use Rattle.file_tables.proofs.Names.{cases_file, name_apart, name_total, named, one_value}
+use Rattle.file_tables.proofs.Rekeyed.{each_there, rekeyed_at, rekeyed_none, weaker}
 
 both_equal : (r s : Ordering) → ordering_then r s ≡ Equal → (r ≡ Equal) × (s ≡ Equal)
 both_equal Less s e = absurd (cc e)
@@ -39,7 +39,7 @@ name_pages = file_page_total name_total
 pub numbers_apart : IsAntisymmetric (file_page_cmp nat_cmp)
 numbers_apart = page_apart nat_cmp-IsAntisymmetric
 
-pub names_apart : IsAntisymmetric (file_page_cmp name_cmp)
+names_apart : IsAntisymmetric (file_page_cmp name_cmp)
 names_apart = page_apart name_apart
 
 module _ (m : Files) (a : AreNumbers m) where

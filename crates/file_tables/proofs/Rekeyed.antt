@@ -1,5 +1,5 @@
 -- A finite map whose entries are put under other keys.
-use Rattle.std.proofs.Common.{◌≡◌, Bool, true, false, cond, List, [], ◌∷◌, map as each, Option, Some, None, refl, sym, ◌∙◌, ap, subst, ◌⊎◌, inl, inr}
+use Rattle.std.proofs.Common.{◌≡◌, Bool, true, false, cond, List, [], ◌∷◌, map as each, Some, None, refl, sym, ◌∙◌, ap, ◌⊎◌, inl, inr}
 use Rattle.std.specs.Option.{option_map}
 use Rattle.std.specs.Prelude.{T, ◌&&◌}
 use Rattle.std.specs.declared.cmp.Ordering.{Ordering}

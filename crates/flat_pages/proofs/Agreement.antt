@@ -4,6 +4,7 @@ use Rattle.std.specs.Prelude.{slice_index_or, nat_lt, count_by}
 use Rattle.std.specs.List.{sum_by}
 use Rattle.std.specs.Option.{option_map, option_map_or, unwrap_or}
 use Rattle.std.specs.FinMap as fin
+use Rattle.std.specs.Ordering.{nat_cmp}
 use Rattle.std.proofs.lemmas.Bool.Decides.{nat_tests}
 use Rattle.std.proofs.lemmas.List.Sums.{sum_by-cons}
 use Rattle.std.proofs.lemmas.List.{length-map}
@@ -16,7 +17,7 @@ use Rattle.machine_names.specs.declared.names.TheConstants.{SPACE_PAGES}
 use Rattle.plain_pages.specs.declared.map.MapEntry.{MapEntry}
 use Rattle.plain_pages.specs.declared.map.MapEntry.TheVariants as entry
 use Rattle.page_contracts.specs.DrumWords.{DrumWords}
-use Rattle.machine_names.specs.Orders.{FilePage, page_cmp, fork_cmp}
+use Rattle.machine_names.specs.Orders.{page_cmp, fork_cmp, file_page_cmp}
 use Rattle.plain_pages.specs.PlainPages.{Map, NumberedPages, page_serial}
 use Rattle.plain_pages.specs.Room.{same_page, page_in, uses, live}
 use Rattle.page_contracts.specs.Stores.{HomePlace, free, away, here, place, is_taken, over_drum, content}
@@ -28,10 +29,9 @@ use Rattle.flat_pages.specs.declared.held_entry.EntryAt.{EntryAt}
 use Rattle.flat_pages.specs.declared.held_entry.HeldEntry.{HeldEntry}
 use Rattle.flat_pages.specs.declared.held_entry.HeldEntry.TheVariants.{Empty, Page, Follows}
 use Rattle.flat_pages.specs.declared.held_map.HeldMap.{HeldMap}
-use Rattle.flat_pages.specs.HeldMaps.{map_at, fork_at, held_entry, name_at, name_of, nobody, entry_of, entries_of, maps_from, maps_held, entries_total, points_at, living_in}
-use Rattle.flat_pages.specs.SlotTables.{Objects, with_object, objects_from, objects_of, Tables, plain_of, share_of, is_at, filed_total, AreTables, AreSized}
+use Rattle.flat_pages.specs.HeldMaps.{map_at, fork_at, held_entry, name_at, nobody, entry_of, entries_of, maps_from, maps_held, entries_total, points_at, living_in}
+use Rattle.flat_pages.specs.SlotTables.{Objects, with_object, objects_from, objects_of, Tables, plain_of, share_of, AreTables, AreSized}
 use Rattle.flat_pages.proofs.HeldEntries.{total_le, total_same, total_none, sum_zero, points_self, points_here, points_other}
-use Rattle.flat_pages.proofs.FiledHomes.{at_here, at_other, filed_some, sums_same, values_filed}
 use Rattle.flat_pages.proofs.ForkMaps.{Once, searched, index_none, fork_within}
 use Rattle.flat_pages.proofs.LivingMaps.{get_from, get_living, get_gone}
 
@@ -206,48 +206,18 @@ module _ (t : Tables) (a : AreTables t) where
       some_is None e = absurd (cc e)
       some_is (Some n) e = (n, refl)
 
-  -- so has the home of a page that a file names
-  filed_home : (h : Home) → 1 ≤ filed_total h.0 t.files → (n : PageName) × (name_at t.names h.0 ≡ Some n)
-  filed_home h one =
-      let some : 0 < share_of t.shares h.0 = omega (arith, one, a.shares h.0) in
-      some_is (name_at t.names h.0) (a.shared h.0 ∙ positive (share_of t.shares h.0) some)
-    where
-      positive : (k : ℕ) → 0 < k → nat_lt 0 k ≡ true
-      positive k l = grind (arith, nat_tests)
-
-      some_is : (o : Option PageName) → is_some o ≡ true → (n : PageName) × (o ≡ Some n)
-      some_is None e = absurd (cc e)
-      some_is (Some n) e = (n, refl)
-
-  pub filed_named : (f : FilePage ℕ) (h : Home) → fin.get t.files f ≡ Some h → (n : PageName) × (name_at t.names h.0 ≡ Some n)
-  filed_named f h is = filed_home h (filed_some t.files f h is)
-
   module _ (d : DrumWords) (sized : AreSized t.places d) where
     abbrev p : NumberedPages
     p = plain_of t d
 
-    -- the number of a page's names is a sum over all entries and pages of files
-    uses_total : (x : PageName) → uses p x ≡ entries_total (λ e. weight (same_page x) page_in (entry_of t.names e)) t.maps + sum_by (λ h. tally x (name_of t.names h)) (fin.values t.files)
-    uses_total x = uses_are p x ∙ omega (arith, values_held t.names (weight (same_page x) page_in) refl t.maps a.held.once a.held.unused, values_filed t.names t.files (tally x))
+    -- the number of a page's names is a sum over all entries
+    uses_total : (x : PageName) → uses p x ≡ entries_total (λ e. weight (same_page x) page_in (entry_of t.names e)) t.maps
+    uses_total x = uses_are p x ∙ omega (arith, values_held t.names (weight (same_page x) page_in) refl t.maps a.held.once a.held.unused, no_values (file_page_cmp nat_cmp) (tally x))
 
     -- that of the page of a home is its count
     pub uses_home : (h : ℕ) (x : PageName) → name_at t.names h ≡ Some x → uses p x ≡ share_of t.shares h
-    uses_home h x is = omega (
-      arith,
-      uses_total x,
-      total_same (λ e. weight (same_page x) page_in (entry_of t.names e)) (points_at h) t.maps each,
-      sums_same (λ k. tally x (name_of t.names k)) (is_at h) (fin.values t.files) filed,
-      a.shares h,
-    )
+    uses_home h x is = uses_total x ∙ total_same (λ e. weight (same_page x) page_in (entry_of t.names e)) (points_at h) t.maps each ∙ sym (a.shares h)
       where
-        filed : (k : Home) → 1 ≤ filed_total k.0 t.files → tally x (name_of t.names k) ≡ is_at h k
-        filed k some = let n = filed_home k some in
-            ap (λ (o : Option PageName). cond (same_page x (unwrap_or o nobody)) 1 0) n.1 ∙ by n.0 n.1 (page_tells x n.0)
-          where
-            by : (n : PageName) → name_at t.names k.0 ≡ Some n → Same x n → cond (same_page x n) 1 0 ≡ is_at h k
-            by n named (inl s) = ap (λ c. cond c 1 0) s.0 ∙ sym (at_here h k (a.once k.0 h x (named ∙ ap Some (sym s.1)) is))
-            by n named (inr s) = ap (λ c. cond c 1 0) s.0 ∙ sym (at_other h k (λ e. s.1 (let z : Some x ≡ Some n = sym is ∙ ap (name_at t.names) (sym e) ∙ named in cc z)))
-
         each : (at : EntryAt) (e : HeldEntry) → held_entry t.maps at ≡ Some e → weight (same_page x) page_in (entry_of t.names e) ≡ points_at h e
         each at Empty k = refl
         each at (Follows l b) k = refl
@@ -260,26 +230,8 @@ module _ (t : Tables) (a : AreTables t) where
 
     -- a page that has no home has no name
     pub uses_none : (x : PageName) → ((h : ℕ) → name_at t.names h ≢ Some x) → uses p x ≡ 0
-    uses_none x none = omega (
-      arith,
-      uses_total x,
-      total_same (λ e. weight (same_page x) page_in (entry_of t.names e)) (λ e. 0) t.maps each,
-      total_none t.maps,
-      sums_same (λ k. tally x (name_of t.names k)) (λ k. 0) (fin.values t.files) filed,
-      sum_by_zero (fin.values t.files),
-    )
+    uses_none x none = uses_total x ∙ total_same (λ e. weight (same_page x) page_in (entry_of t.names e)) (λ e. 0) t.maps each ∙ total_none t.maps
       where
-        sum_by_zero : (xs : List Home) → sum_by (λ k. 0) xs ≡ 0
-        sum_by_zero [] = refl
-        sum_by_zero (y ∷ ys) = omega (arith, sum_by_zero ys, sum_by-cons (λ (k : Home). 0) y ys)
-
-        filed : (k : Home) → 1 ≤ filed_total k.0 t.files → tally x (name_of t.names k) ≡ 0
-        filed k some = let n = filed_home k some in ap (λ (o : Option PageName). cond (same_page x (unwrap_or o nobody)) 1 0) n.1 ∙ by n.0 n.1 (page_tells x n.0)
-          where
-            by : (n : PageName) → name_at t.names k.0 ≡ Some n → Same x n → ◌≡◌ {A = ℕ} (cond (same_page x n) 1 0) 0
-            by n named (inl s) = absurd (none k.0 (named ∙ ap Some (sym s.1)))
-            by n named (inr s) = ap (λ c. cond c 1 0) s.0
-
         each : (at : EntryAt) (e : HeldEntry) → held_entry t.maps at ≡ Some e → weight (same_page x) page_in (entry_of t.names e) ≡ 0
         each at Empty k = refl
         each at (Follows l b) k = refl

@@ -113,8 +113,6 @@ module _ {S : Type 0} (store : StoreMeaning S) (k : ℕ) where
     many = refl;
     forks = λ j. refl;
     entries = λ page l. absurd (omega (arith, l));
-    files = refl;
-    filed = refl;
     serials = refl;
     living = refl;
     limit = refl;
@@ -134,8 +132,6 @@ module _ {S : Type 0} (store : StoreMeaning S) (k : ℕ) where
     many = ap length sets.maps ∙ maps_length maps at Empty ∙ so_far.many;
     forks = λ j. ap (λ (ms : List HeldMap). fork_at ms j) sets.maps ∙ fork_set maps at Empty j ∙ so_far.forks j;
     entries = λ j l. ap (λ (ms : List HeldMap). held_entry ms (record { map = k; page = j })) sets.maps ∙ each j l;
-    files = sets.files ∙ so_far.files;
-    filed = sets.filed ∙ so_far.filed;
     serials = sets.serials ∙ so_far.serials;
     living = sets.living ∙ so_far.living;
     limit = sets.limit ∙ so_far.limit;

@@ -21,7 +21,7 @@ use Rattle.flat_pages.specs.declared.held_entry.HeldEntry.TheVariants.{Empty, Pa
 use Rattle.flat_pages.specs.declared.held_entry.Link.{Link}
 use Rattle.flat_pages.specs.declared.map_tables.MapTables.{MapTables}
 use Rattle.flat_pages.specs.HeldMaps.{fork_at, held_entry, with_entry, name_at, entry_of, maps_held, points_at}
-use Rattle.flat_pages.specs.SlotTables.{Tables, files_held, share_of, AreTables}
+use Rattle.flat_pages.specs.SlotTables.{Tables, share_of, AreTables}
 use Rattle.flat_pages.specs.SlotTouches.{scene_of, home_named, is_alone}
 use Rattle.flat_pages.specs.SlotMeaning.{AreTold}
 use Rattle.flat_pages.specs.TableSteps.{tables_of, entry_kept, entry_left, home_freed}
@@ -29,8 +29,7 @@ use Rattle.flat_pages.specs.SlotSteps.{HomeStays, NamesHome, SetsEntry}
 use Rattle.flat_pages.proofs.HeldEntries.{points_self}
 use Rattle.flat_pages.proofs.LivingMaps.{entry_held}
 use Rattle.flat_pages.proofs.Settling.{sized_of, content_other, fits_set}
-use Rattle.flat_pages.proofs.Told.{maps_set, none_else, none_filed, entry_still}
-use Rattle.flat_pages.proofs.FiledHomes.{files_still}
+use Rattle.flat_pages.proofs.Told.{maps_set, none_else, entry_still}
 use Rattle.flat_pages.proofs.Leaving.{kept_tables, left_tables, freed_tables, name_kept, name_gone, named_of, told_set}
 use Rattle.flat_pages.proofs.Telling.{named_home, tables_told}
 use Rattle.flat_pages.proofs.Touching.{home_is}
@@ -58,7 +57,7 @@ module _ {S : Type 0} (store : StoreMeaning S) (old new : S) (sound_old : IsSoun
   t' = tables_of (store.homes new) tables'
 
   -- what names and words are left are those that were
-  pub sets_entry : AreTables t → AreTables t' → held_entry t.maps at ≡ Some q → t'.maps ≡ with_entry t.maps at e → t'.files ≡ t.files → files_held t'.names t'.files ≡ files_held t.names t.files → t'.serials ≡ t.serials → t'.living ≡ t.living → t'.limit ≡ t.limit
+  pub sets_entry : AreTables t → AreTables t' → held_entry t.maps at ≡ Some q → t'.maps ≡ with_entry t.maps at e → t'.serials ≡ t.serials → t'.living ≡ t.living → t'.limit ≡ t.limit
       → ((k : ℕ) (n : PageName) → name_at t'.names k ≡ Some n → name_at t.names k ≡ Some n)
       → ((d : DrumWords) (k : ℕ) (n : PageName) → name_at t'.names k ≡ Some n → content t'.places d k ≡ content t.places d k)
       → ((b : EntryAt) (x : HeldEntry) → b ≢ at → held_entry t.maps b ≡ Some x → entry_of t'.names x ≡ entry_of t.names x)
@@ -70,16 +69,14 @@ module _ {S : Type 0} (store : StoreMeaning S) (old new : S) (sound_old : IsSoun
       → Loses (traffic store old) (traffic store new)
       → RenewsNone (traffic store old) (traffic store new)
       → SetsEntry store old new tables tables' at e
-  sets_entry a a' there maps files filed serials living limit names words others same fits homes frames core lost used = record {
+  sets_entry a a' there maps serials living limit names words others same fits homes frames core lost used = record {
     told = λ d s is fit. (
       fits d fit,
       told_set t t' a a' d (sized_of t.places d fit sound_old.pages) (sized_of t'.places d (fits d fit) sound_new.pages) names (words d) serials limit s (entry_of t.names q) (entry_of t.names e)
           (entry_held t.names t.maps a.held.once at s is ∙ ap (option_map (entry_of t.names)) there)
-          (ap (maps_held t'.names) maps ∙ maps_set t.names t'.names t.maps a.held at q e s is there others ∙ ap (λ (y : MapEntry). set_entry (maps_held t.names t.maps) s y) same) filed,
+          (ap (maps_held t'.names) maps ∙ maps_set t.names t'.names t.maps a.held at q e s is there others ∙ ap (λ (y : MapEntry). set_entry (maps_held t.names t.maps) s y) same),
     );
     maps = maps;
-    files = files;
-    filed = filed;
     serials = serials;
     living = living;
     limit = limit;
@@ -96,7 +93,7 @@ module _ {S : Type 0} (store : StoreMeaning S) (old new : S) (sound_old : IsSoun
     used = lives_used (fork_at t.maps at.map) e lives
 
     -- names and places stay, and the maps and the counts are others
-    module _ (u : Tables) (is : t' ≡ u) (a' : AreTables u) (maps : u.maps ≡ with_entry t.maps at e) (files : u.files ≡ t.files) (serials : u.serials ≡ t.serials) (living : u.living ≡ t.living) (limit : u.limit ≡ t.limit) (names : u.names ≡ t.names) (places : u.places ≡ t.places) where
+    module _ (u : Tables) (is : t' ≡ u) (a' : AreTables u) (maps : u.maps ≡ with_entry t.maps at e) (serials : u.serials ≡ t.serials) (living : u.living ≡ t.living) (limit : u.limit ≡ t.limit) (names : u.names ≡ t.names) (places : u.places ≡ t.places) where
       pub same_names_agree : AreTables t'
       same_names_agree = subst AreTables (sym is) a'
 
@@ -106,15 +103,12 @@ module _ {S : Type 0} (store : StoreMeaning S) (old new : S) (sound_old : IsSoun
       names_are : t'.names ≡ t.names
       names_are = ap (λ (x : Tables). x.names) is ∙ names
 
-      files_are : t'.files ≡ t.files
-      files_are = ap (λ (x : Tables). x.files) is ∙ files
-
       places_are : t'.places ≡ t.places
       places_are = ap (λ (x : Tables). x.places) is ∙ places
 
       pub same_names_set : SetsEntry store old new tables tables' at e
       same_names_set =
-          sets_entry a same_names_agree there (ap (λ (x : Tables). x.maps) is ∙ maps) files_are (λ i. files_held (names_are i) (files_are i)) (ap (λ (x : Tables). x.serials) is ∙ serials) (ap (λ (x : Tables). x.living) is ∙ living) (ap (λ (x : Tables). x.limit) is ∙ limit)
+          sets_entry a same_names_agree there (ap (λ (x : Tables). x.maps) is ∙ maps) (ap (λ (x : Tables). x.serials) is ∙ serials) (ap (λ (x : Tables). x.living) is ∙ living) (ap (λ (x : Tables). x.limit) is ∙ limit)
           (λ k n h. ap (λ ns. name_at ns k) (sym names_are) ∙ h)
           (λ d k n h. ap (λ ps. content ps d k) places_are)
           (λ b x ne h. ap (λ ns. entry_of ns x) names_are)
@@ -132,17 +126,17 @@ module _ {S : Type 0} (store : StoreMeaning S) (old new : S) (sound_old : IsSoun
     pub kept_step : ((k : ℕ) → points_at k e ≡ points_at k q) → t' ≡ entry_kept t at e → AreTables t' × AreTold t' × SetsEntry store old new tables tables' at e
     kept_step same is =
         let a' = kept_tables t a at q e there page used same in (
-          same_names_agree (entry_kept t at e) is a' refl refl refl refl refl refl refl,
-          same_names_told (entry_kept t at e) is a' refl refl refl refl refl refl refl,
-          same_names_set (entry_kept t at e) is a' refl refl refl refl refl refl refl,
+          same_names_agree (entry_kept t at e) is a' refl refl refl refl refl refl,
+          same_names_told (entry_kept t at e) is a' refl refl refl refl refl refl,
+          same_names_set (entry_kept t at e) is a' refl refl refl refl refl refl,
         )
 
     pub left_step : ((k : ℕ) → points_at k e ≡ 0) → ((k : ℕ) → points_at k q ≡ 1 → share_of t.shares k ≢ 1) → t' ≡ entry_left t at e → AreTables t' × AreTold t' × SetsEntry store old new tables tables' at e
     left_step none stays is =
         let a' = left_tables t a at q e there page used none stays in (
-          same_names_agree (entry_left t at e) is a' refl refl refl refl refl refl refl,
-          same_names_told (entry_left t at e) is a' refl refl refl refl refl refl refl,
-          same_names_set (entry_left t at e) is a' refl refl refl refl refl refl refl,
+          same_names_agree (entry_left t at e) is a' refl refl refl refl refl refl,
+          same_names_told (entry_left t at e) is a' refl refl refl refl refl refl,
+          same_names_set (entry_left t at e) is a' refl refl refl refl refl refl,
         )
 
   -- the page that the entry alone named is given up
@@ -201,7 +195,7 @@ module _ {S : Type 0} (store : StoreMeaning S) (old new : S) (sound_old : IsSoun
         let a' : AreTables t' = subst AreTables (sym is) agrees in (
           a',
           tables_told t' a' sound_new.pages,
-          sets_entry a a' there (ap (λ (x : Tables). x.maps) is) (ap (λ (x : Tables). x.files) is) (ap (λ (x : Tables). files_held x.names x.files) is ∙ files_still t.names u.names t.files h.0 (none_filed t a at q h.0 there (one ∙ sym (ap (points_at h.0) q_is ∙ points_self h b))) kept_name) (ap (λ (x : Tables). x.serials) is) (ap (λ (x : Tables). x.living) is) (ap (λ (x : Tables). x.limit) is)
+          sets_entry a a' there (ap (λ (x : Tables). x.maps) is) (ap (λ (x : Tables). x.serials) is) (ap (λ (x : Tables). x.living) is) (ap (λ (x : Tables). x.limit) is)
               (λ k n f. old_name k n (ap (λ (x : Tables). name_at x.names k) (sym is) ∙ f))
               (λ d k n f. ap (λ (x : Tables). content x.places d k) is ∙ content_other t.places d h.0 k free (not_h k n (ap (λ (x : Tables). name_at x.names k) (sym is) ∙ f)))
               (λ c x ne held. ap (λ (y : Tables). entry_of y.names x) is ∙ others_still c x ne held)

@@ -8,7 +8,7 @@ use Rattle.flat_pages.specs.SlotTables.{Tables, plain_of}
 use Rattle.flat_pages.specs.SlotTouches.{home_named, touch_of_place, scene_of}
 use Rattle.flat_pages.specs.HeldMaps.{living_of}
 use Rattle.flat_pages.specs.Serials.{serial_of}
-use Rattle.flat_pages.specs.SlotMeaning.{filed_in, slots_meaning, within, place_along}
+use Rattle.flat_pages.specs.SlotMeaning.{slots_meaning, within, place_along}
 
 module _ {P S : Type 0} (store : StoreMeaning S) (part : P → S) where
   -- a store that ends a transfer ends it for the pages
@@ -47,7 +47,6 @@ module _ {P S : Type 0} (store : StoreMeaning S) (part : P → S) where
       scene = λ i. scene_of (same i) (spare i);
       space = λ i. (slots_meaning store (λ (t : Tables). part p) (λ t. t)).space (same i);
       place = λ i. place_along (found i) (same i);
-      filed = λ i. filed_in (same i);
       map_homes = refl;
       page_homes = λ i. home_named (same i).names;
       lives = λ i. (slots_meaning store (λ (t : Tables). part p) (λ t. t)).lives (same i);

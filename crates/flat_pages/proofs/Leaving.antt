@@ -16,13 +16,13 @@ use Rattle.plain_pages.specs.Maps.{entry_at, set_entry}
 use Rattle.plain_pages.specs.Room.{uses}
 use Rattle.plain_pages.specs.References.{with_entry as entry_put}
 use Rattle.page_contracts.specs.Stores.{HomePlace, free, away, here, place, is_free, is_taken, free_homes, content}
-use Rattle.plain_pages.proofs.Kept.{AreStill, still, still_same, entry_kept as put_kept, entry_maps}
+use Rattle.plain_pages.proofs.Kept.{AreKept, kept_same, entry_kept as put_kept, entry_maps}
 use Rattle.flat_pages.specs.declared.held_entry.EntryAt.{EntryAt}
 use Rattle.flat_pages.specs.declared.held_entry.HeldEntry.{HeldEntry}
 use Rattle.flat_pages.specs.declared.held_entry.HeldEntry.TheVariants.{Empty, Page, Follows}
 use Rattle.flat_pages.specs.declared.held_entry.Link.{Link}
 use Rattle.flat_pages.specs.HeldMaps.{fork_at, held_entry, name_at, maps_held, points_at, entries_total}
-use Rattle.flat_pages.specs.SlotTables.{Tables, plain_of, files_held, share_of, filed_total, AreTables, AreSized}
+use Rattle.flat_pages.specs.SlotTables.{Tables, plain_of, share_of, AreTables, AreSized}
 use Rattle.flat_pages.specs.TableSteps.{left_shares, entry_kept, entry_left, home_freed}
 use Rattle.flat_pages.proofs.HeldEntries.{total_with, total_le, points_self, points_other}
 use Rattle.flat_pages.proofs.Agreement.{Housed, housed, uses_home, uses_none, object_home, object_gone, tables_whole}
@@ -40,7 +40,6 @@ module _ (t : Tables) (a : AreTables t) (at : EntryAt) (q e : HeldEntry) (there 
     named = a.named;
     counted = a.counted;
     shares = λ k. omega (arith, a.shares k, total_with t.maps at e (points_at k) q there, same k);
-    filed = a.filed;
     shared = a.shared;
     is_taken = a.is_taken;
     once = a.once;
@@ -62,7 +61,6 @@ module _ (t : Tables) (a : AreTables t) (at : EntryAt) (q e : HeldEntry) (there 
       named = a.named;
       counted = left_length t.shares (held_entry t.maps at) ∙ a.counted;
       shares = λ k. omega (arith, left k, a.shares k, total_with t.maps at e (points_at k) q there, none k);
-      filed = a.filed;
       shared = λ k. a.shared k ∙ positive_same (share_of t.shares k) (share_of (left_shares t.shares (held_entry t.maps at)) k) (back k) (λ z. omega (arith, left k, z));
       is_taken = a.is_taken;
       once = a.once;
@@ -121,12 +119,12 @@ module _ (t : Tables) (a : AreTables t) (at : EntryAt) (q e : HeldEntry) (there 
       points_k : (k : ℕ) → k ≢ h.0 → points_at k q ≡ 0
       points_k k ne = ap (points_at k) is ∙ points_other k h b (λ s. ne (sym s))
 
-      shares_are : (k : ℕ) → share_of t'.shares k ≡ entries_total (points_at k) t'.maps + filed_total k t.files
+      shares_are : (k : ℕ) → share_of t'.shares k ≡ entries_total (points_at k) t'.maps
       shares_are k = elim (cases_eq k h.0) [
         | inl s ↦
             let w = total_with t.maps at e (points_at h.0) q there in
-            let zero_left : entries_total (points_at h.0) t'.maps + filed_total h.0 t.files ≡ 0 = omega (arith, w, le h.0, one, points_h, none h.0, a.shares h.0) in
-            ap (share_of t'.shares) s ∙ share_gone ∙ sym zero_left ∙ ap (λ j. entries_total (points_at j) t'.maps + filed_total j t.files) (sym s)
+            let zero_left : entries_total (points_at h.0) t'.maps ≡ 0 = omega (arith, w, one, points_h, none h.0, a.shares h.0) in
+            ap (share_of t'.shares) s ∙ share_gone ∙ sym zero_left ∙ ap (λ j. entries_total (points_at j) t'.maps) (sym s)
         | inr ne ↦ omega (arith, share_kept k ne, a.shares k, total_with t.maps at e (points_at k) q there, points_k k ne, none k)
       ]
 
@@ -175,7 +173,6 @@ module _ (t : Tables) (a : AreTables t) (at : EntryAt) (q e : HeldEntry) (there 
         named = length-set t.names h.0 None ∙ a.named;
         counted = length-set t.shares h.0 0 ∙ a.counted;
         shares = shares_are;
-        filed = a.filed;
         shared = shared;
         is_taken = taken_at;
         once = λ j k n f g. a.once j k n (named_of j n f) (named_of k n g);
@@ -191,8 +188,8 @@ module _ (t : Tables) (a : AreTables t) (at : EntryAt) (q e : HeldEntry) (there 
 -- where names and words go, and none come, the pages are kept that are still named
 module _ (t t' : Tables) (a : AreTables t) (a' : AreTables t') (d : DrumWords) (sized : AreSized t.places d) (sized' : AreSized t'.places d) (names : (k : ℕ) (n : PageName) → name_at t'.names k ≡ Some n → name_at t.names k ≡ Some n)
     (words : (k : ℕ) (n : PageName) → name_at t'.names k ≡ Some n → content t'.places d k ≡ content t.places d k) (serials : t'.serials ≡ t.serials) (limit : t'.limit ≡ t.limit) where
-  pub pages_still : AreStill (plain_of t d) (plain_of t' d)
-  pages_still = record { objects = λ n. by n (housed t'.names n); page_serials = ap (λ s. s.terminals) serials; console_serial = ap (λ s. s.console) serials; limit = limit }
+  pub pages_kept : AreKept (plain_of t d) (plain_of t' d)
+  pages_kept = record { objects = λ n. by n (housed t'.names n); files = refl; page_serials = ap (λ s. s.terminals) serials; console_serial = ap (λ s. s.console) serials; limit = limit }
     where
       by : (n : PageName) → Housed t'.names n → fin.get (plain_of t' d).objects n ≡ cond (nat_lt 0 (uses (plain_of t' d) n)) (fin.get (plain_of t d).objects n) None
       by n (inl r) =
@@ -201,8 +198,6 @@ module _ (t t' : Tables) (a : AreTables t) (a' : AreTables t') (d : DrumWords) (
       by n (inr none) = object_gone t' a' d sized' n none ∙ sym (ap (λ b. cond b (fin.get (plain_of t d).objects n) None) (ap (nat_lt 0) (uses_none t' a' d sized' n none)))
 
   -- an entry was set
-  pub told_set : (s : Slot) (x y : MapEntry) → entry_at (plain_of t d).maps s ≡ Some x → maps_held t'.names t'.maps ≡ set_entry (maps_held t.names t.maps) s y → files_held t'.names t'.files ≡ files_held t.names t.files → plain_of t' d ≡ entry_put (plain_of t d) s y
-  told_set s x y there maps files =
-      let k = put_kept (plain_of t d) (tables_whole t a d sized) s x y there in
-      still_same (plain_of t d) (plain_of t' d) (entry_put (plain_of t d) s y) pages_still (still (plain_of t d) (entry_put (plain_of t d) s y) k)
-      (maps ∙ sym (entry_maps (plain_of t d) (tables_whole t a d sized) s x y there)) (files ∙ sym k.files)
+  pub told_set : (s : Slot) (x y : MapEntry) → entry_at (plain_of t d).maps s ≡ Some x → maps_held t'.names t'.maps ≡ set_entry (maps_held t.names t.maps) s y → plain_of t' d ≡ entry_put (plain_of t d) s y
+  told_set s x y there maps =
+      kept_same (plain_of t d) (plain_of t' d) (entry_put (plain_of t d) s y) pages_kept (put_kept (plain_of t d) (tables_whole t a d sized) s x y there) (maps ∙ sym (entry_maps (plain_of t d) (tables_whole t a d sized) s x y there))

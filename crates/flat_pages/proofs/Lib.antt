@@ -3,7 +3,6 @@ pub mod StoredPlaces
 pub mod ForkMaps
 pub mod WalkSteps
 pub mod LivingMaps
-pub mod FiledHomes
 pub mod Agreement
 pub mod Walked
 pub mod Touching

@@ -14,7 +14,7 @@ use Rattle.flat_pages.specs.declared.held_entry.HeldEntry.TheVariants.{Empty, Pa
 use Rattle.flat_pages.specs.HeldMaps.{entry_of, held_entry, index_of, name_at, nobody}
 use Rattle.flat_pages.specs.Emptying.{MapNames}
 use Rattle.flat_pages.specs.SlotSteps.{HomeStays}
-use Rattle.flat_pages.specs.SlotMeaning.{filed_in, seen_entry, seen_in, slots_meaning}
+use Rattle.flat_pages.specs.SlotMeaning.{seen_entry, seen_in, slots_meaning}
 use Rattle.flat_pages.specs.SlotTables.{Tables, AreTables}
 use Rattle.flat_pages.specs.SlotTouches.{home_named}
 use Rattle.flat_pages.proofs.Agreement.{entry_named}
@@ -62,20 +62,19 @@ module _ {P S : Type 0} (store : StoreMeaning S) (part : P → S) (tables : P �
   u = tables new
 
   -- a map of which no entry names a page was added
-  pub adds_map : store.homes (part new) ≡ store.homes (part old) → u.names ≡ t.names → u.files ≡ t.files → (k : ℕ) → ((j : ℕ) → index_of u.maps f ≡ Some j → j ≡ k)
+  pub adds_map : store.homes (part new) ≡ store.homes (part old) → u.names ≡ t.names → (k : ℕ) → ((j : ℕ) → index_of u.maps f ≡ Some j → j ≡ k)
       → ((page home : ℕ) (a : Access) → held_entry u.maps (record { map = k; page = page }) ≡ Some (Page (record { 0 = home }) a) → ⊥) → AddsMap means f old new
-  adds_map homes names files k own none = record {
+  adds_map homes names k own none = record {
     homes = λ home ne. ap (λ ps. place ps home) homes;
     pages = ap home_named names;
     maps = λ g ne. refl;
-    filed = λ i. filed_in (record t { names = names i; files = files i });
     names = λ n h. (let s = seen_names u f h.page n h.access h.is in
         none h.page s.named.home.0 s.named.access (ap (λ j. held_entry u.maps (record { map = j; page = h.page })) (sym (own s.map s.index)) ∙ s.held ∙ ap Some s.named.is));
   }
 
   -- a map went
   module _ (a : AreTables t) (a' : AreTables u) (k : ℕ) (index : index_of t.maps f ≡ Some k) (old_homes : store.homes (part old) ≡ t.places) (new_homes : store.homes (part new) ≡ u.places)
-      (stays : (home : ℕ) → HomeStays t u home (MapNames t.maps k home)) (frames : ((home : ℕ) → MapNames t.maps k home → ⊥) → store.spare (part new) ≡ store.spare (part old)) (filed : filed_in u ≡ filed_in t) where
+      (stays : (home : ℕ) → HomeStays t u home (MapNames t.maps k home)) (frames : ((home : ℕ) → MapNames t.maps k home → ⊥) → store.spare (part new) ≡ store.spare (part old)) where
     -- a page whose home the map names is named by it
     named_page : (home : ℕ) (n : PageName) → name_at t.names home ≡ Some n → MapNames t.maps k home → NamesPage means old f n
     named_page home n named m = record {
@@ -118,6 +117,5 @@ module _ {P S : Type 0} (store : StoreMeaning S) (part : P → S) (tables : P �
       pages = λ n. page_stays n (home_named t.names n) (home_named u.names n) refl refl;
       maps = λ g ne. refl;
       away = λ g ne. refl;
-      filed = filed;
       frames = λ none. (let same = frames (λ home m. (let n = its_name home m in none n.0 (named_page home n.0 n.1 m))) in omega (arith, same));
     }

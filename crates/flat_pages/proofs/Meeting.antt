@@ -7,9 +7,6 @@ use Rattle.machine_names.specs.declared.names.Kind.{Kind}
 use Rattle.machine_names.specs.declared.names.Kind.TheVariants.{Read, Write, Execute}
 use Rattle.machine_names.specs.declared.names.ForkName.{ForkName}
 use Rattle.machine_names.specs.declared.names.PageName.{PageName}
-use Rattle.std.specs.FinMap as fin
-use Rattle.machine_names.specs.declared.names.FileNo.{FileNo}
-use Rattle.machine_names.specs.Orders.{file_page}
 use Rattle.machine_names.specs.declared.names.Place.{Place}
 use Rattle.machine_names.specs.declared.names.Place.TheVariants.{Fork, File}
 use Rattle.machine_names.specs.declared.names.Slot.{Slot}
@@ -23,7 +20,7 @@ use Rattle.page_contracts.specs.declared.answers.SpaceHandle.{SpaceHandle}
 use Rattle.page_contracts.specs.declared.answers.Touch.{Touch}
 use Rattle.page_contracts.specs.declared.answers.Touch.TheVariants.{Ready, Zero, Copy, NeedFrame, Denied, Full}
 use Rattle.page_contracts.specs.declared.answers.Peeked.TheVariants.{Is, Absent, NoPage}
-use Rattle.plain_pages.specs.References.{in_map, in_file, page_at, words_of, words_at, word_at}
+use Rattle.plain_pages.specs.References.{in_map, page_at, words_of, words_at, word_at}
 use Rattle.machine_names.specs.PageWords.{zero_words}
 use Rattle.page_contracts.specs.Pages.{Scene, IsPlace, touch_of, spot_of, peek_of, away_or, map_away, counted, absent_or, framed}
 use Rattle.machine_names.specs.Bounds.{IsOwner}
@@ -38,11 +35,10 @@ use Rattle.flat_pages.specs.declared.chain_walk.Use.{Use}
 use Rattle.flat_pages.specs.declared.chain_walk.Use.TheVariants as to
 use Rattle.flat_pages.specs.Walks.{slot_of, walk, use_of, lets_along, ready_home}
 use Rattle.flat_pages.specs.SlotTables.{Tables, plain_of, share_of, AreTables, AreSized}
-use Rattle.flat_pages.specs.SlotTouches.{walk_of, scene_of, has_room, is_alone, touch_copy, touch_made, touch_filed, touch_walked, touch_of_place, home_at, allows, copy_of}
+use Rattle.flat_pages.specs.SlotTouches.{walk_of, scene_of, has_room, is_alone, touch_copy, touch_made, touch_walked, touch_of_place, allows, copy_of}
 use Rattle.page_contracts.specs.Stores.{away_home, away_at}
 use Rattle.flat_pages.proofs.ForkMaps.{index_fork, index_is}
-use Rattle.flat_pages.proofs.Agreement.{entry_named, filed_named, object_home, uses_home}
-use Rattle.flat_pages.proofs.FiledHomes.{get_filed}
+use Rattle.flat_pages.proofs.Agreement.{entry_named, object_home, uses_home}
 use Rattle.flat_pages.proofs.Walked.{IsCopy, Meets, WalkIs, walked}
 use Rattle.flat_pages.proofs.Touching.{touch_told, home_is, none_away}
 use Rattle.flat_pages.proofs.Settling.{content_here}
@@ -155,58 +151,41 @@ pub at_told : (t : Tables) → AreTables t → (frames : ℕ) (d : DrumWords) �
     → touch_of (plain_of t d) (scene_of t frames) (spot_of at) kind owner ≡ touch_walked (away_at t.places) t (scene_of t frames) kind (walk_of t.maps s)
 at_told t a frames d sized owner own at s is kind lives = ap (λ (x : Place). touch_of (plain_of t d) (scene_of t frames) (spot_of x) kind owner) is ∙ place_told t a frames d sized owner own s kind lives
 
--- the page of a place, by its home
+-- the page at the end of a place's chain, by its home
 pub record Reached (t : Tables) (at : Place) (h : Home) : Type 0 where
-  pub home : home_at t at ≡ Some h
-  pub name : PageName
-  pub named : name_at t.names h.0 ≡ Some name
-  pub page : (d : DrumWords) → page_at (plain_of t d) (spot_of at) ≡ Some (name_of t.names h)
-  pub passes : (d : DrumWords) (frames : ℕ) → map_away (plain_of t d) (scene_of t frames) (spot_of at) ≡ None
+  pub slot : Slot
+  pub is : at ≡ Fork slot
+  pub lives : is_some (index_of t.maps slot.fork) ≡ true
+  pub walk : Walk
+  pub walks : walk_of t.maps slot ≡ Some walk
+  pub found : Found t slot walk
+  pub home : walk.home ≡ Some h
 
 -- a place of which no page is named
 pub record Unreached (t : Tables) (at : Place) : Type 0 where
-  pub none : (d : DrumWords) → page_at (plain_of t d) (spot_of at) ≡ None
-  pub passes : (d : DrumWords) (frames : ℕ) → map_away (plain_of t d) (scene_of t frames) (spot_of at) ≡ None
+  pub slot : Slot
+  pub is : at ≡ Fork slot
+  pub lives : is_some (index_of t.maps slot.fork) ≡ true
+  pub none : (d : DrumWords) → page_at (plain_of t d) (in_map slot) ≡ None
 
--- the maps on the way from a slot are in memory
-slot_passes : (t : Tables) (s : Slot) (d : DrumWords) (frames : ℕ) → map_away (plain_of t d) (scene_of t frames) (in_map s) ≡ None
-slot_passes t s d frames = none_away (scene_of t frames) (maps_on_way (entry_at (maps_held t.names t.maps)) s) (λ f. refl)
+abbrev pub HomeIs : Tables → Place → Option Home → Type 0
+HomeIs t at o = (s : Slot) → at ≡ Fork s → o ≡ option_and_then (λ w. w.home) (walk_of t.maps s)
 
--- the page that a file names
-filed_page : (t : Tables) (f : FileNo) (page : ℕ) (d : DrumWords) → page_at (plain_of t d) (in_file (file_page f.0 page)) ≡ option_map (name_of t.names) (fin.get t.files (file_page f.0 page))
-unfolding page_at
-filed_page t f page d = get_filed t.names t.files (file_page f.0 page)
-
-pub reached_slot : (t : Tables) → AreTables t → (s : Slot) (w : Walk) (h : Home) → walk_of t.maps s ≡ Some w → Found t s w → w.home ≡ Some h → Reached t (Fork s) h
-reached_slot t a s w h walks found is = (let n = home_name t a s w found h is in record {
-  home = ap (option_and_then (λ (v : Walk). v.home)) walks ∙ is;
-  name = n.0;
-  named = n.1;
-  page = λ d. page_is t a s w found d ∙ ap (option_map (name_of t.names)) is;
-  passes = slot_passes t s;
-})
-
-pub reached : (t : Tables) → AreTables t → (at : Place) (h : Home) → IsPlace (λ f. is_some (index_of t.maps f)) at → Some h ≡ home_at t at → Reached t at h
-reached t a (File f page) h there is = (let n = filed_named t a (file_page f.0 page) h (sym is) in record {
-  home = sym is;
-  name = n.0;
-  named = n.1;
-  page = λ d. filed_page t f page d ∙ ap (option_map (name_of t.names)) (sym is);
-  passes = λ d frames. refl;
-})
-reached t a (Fork s) h there is = by (walk_of t.maps s) refl is
+pub reached : (t : Tables) → AreTables t → (at : Place) (h : Home) → IsPlace (λ f. is_some (index_of t.maps f)) at → HomeIs t at (Some h) → Reached t at h
+reached t a (File f page) h there is = absurd there
+reached t a (Fork s) h there is = by (walk_of t.maps s) refl (is s refl)
   where
     by : (o : Option Walk) → walk_of t.maps s ≡ o → Some h ≡ option_and_then (λ w. w.home) o → Reached t (Fork s) h
     by None e k = absurd (cc k)
-    by (Some w) e k = reached_slot t a s w h e (found_walk t a s w there.0 e) (sym k)
+    by (Some w) e k = record { slot = s; is = refl; lives = there.0; walk = w; walks = e; found = found_walk t a s w there.0 e; home = sym k }
 
-pub unreached : (t : Tables) → AreTables t → (at : Place) → IsPlace (λ f. is_some (index_of t.maps f)) at → None ≡ home_at t at → Unreached t at
-unreached t a (File f page) there is = record { none = λ d. filed_page t f page d ∙ ap (option_map (name_of t.names)) (sym is); passes = λ d frames. refl }
-unreached t a (Fork s) there is = by (walk_of t.maps s) refl is
+pub unreached : (t : Tables) → AreTables t → (at : Place) → IsPlace (λ f. is_some (index_of t.maps f)) at → HomeIs t at None → Unreached t at
+unreached t a (File f page) there is = absurd there
+unreached t a (Fork s) there is = by (walk_of t.maps s) refl (is s refl)
   where
     by : (o : Option Walk) → walk_of t.maps s ≡ o → None ≡ option_and_then (λ w. w.home) o → Unreached t (Fork s)
-    by None e k = record { none = λ d. no_page_at t a s d there.0 e; passes = slot_passes t s }
-    by (Some w) e k = record { none = λ d. page_is t a s w (found_walk t a s w there.0 e) d ∙ ap (option_map (name_of t.names)) (sym k); passes = slot_passes t s }
+    by None e k = record { slot = s; is = refl; lives = there.0; none = λ d. no_page_at t a s d there.0 e }
+    by (Some w) e k = record { slot = s; is = refl; lives = there.0; none = λ d. page_is t a s w (found_walk t a s w there.0 e) d ∙ ap (option_map (name_of t.names)) (sym k) }
 
 -- what a word is read of
 pub word_here : (p : HomePlace) (at x : ℕ) → word_in p at ≡ Some x → (words : List ℕ) × (p ≡ here words) × (x ≡ slice_index words at)
@@ -221,49 +200,61 @@ word_away (here words) at e taken = absurd (cc e)
 
 module _ (t : Tables) (a : AreTables t) (at : Place) (h : Home) (r : Reached t at h) where
   pub reached_taken : is_taken (place t.places h.0) ≡ true
-  reached_taken = a.is_taken h.0 ∙ ap is_some r.named
+  reached_taken = home_taken_is t a r.slot r.walk r.found h r.home
 
   pub reached_words : (d : DrumWords) → AreSized t.places d → (words : List ℕ) → content t.places d h.0 ≡ Some words → words_at (plain_of t d) (spot_of at) ≡ words
-  reached_words d sized words held =
-      ap (λ (o : Option PageName). option_map_or (words_of (plain_of t d)) o zero_words) (r.page d)
-      ∙ ap (λ (o : Option PageName). words_of (plain_of t d) (unwrap_or o (record { tty = record { 0 = 0 }; serial = 0 }))) r.named
-      ∙ ap (λ (o : Option (List ℕ)). unwrap_or o zero_words) (object_home t a d sized h.0 r.name r.named ∙ held)
+  reached_words d sized words held = ap (λ (x : Place). words_at (plain_of t d) (spot_of x)) r.is ∙ words_are t a r.slot r.walk r.found d sized h words r.home held
 
   pub reached_word : (d : DrumWords) → AreSized t.places d → (words : List ℕ) (offset : ℕ) → place t.places h.0 ≡ here words → word_at (plain_of t d) (spot_of at) offset ≡ slice_index words offset
   reached_word d sized words offset is = ap (λ ws. slice_index ws offset) (reached_words d sized words (content_here t.places d h.0 words is))
 
+  pub reached_page : (d : DrumWords) → page_at (plain_of t d) (spot_of at) ≡ Some (name_of t.names h)
+  reached_page d = ap (λ (x : Place). page_at (plain_of t d) (spot_of x)) r.is ∙ page_is t a r.slot r.walk r.found d ∙ ap (option_map (name_of t.names)) r.home
+
+  reached_name : (n : PageName) × (name_at t.names h.0 ≡ Some n)
+  reached_name = home_name t a r.slot r.walk r.found h r.home
+
   pub reached_away : (frames : ℕ) → (scene_of t frames).page_away (name_of t.names h) ≡ away_at t.places h.0
   reached_away frames =
-      let n : (x : PageName) × (name_at t.names h.0 ≡ Some x) = (r.name, r.named) in
+      let n = reached_name in
       ap (λ (o : Option PageName). (scene_of t frames).page_away (unwrap_or o (record { tty = record { 0 = 0 }; serial = 0 }))) n.1
       ∙ ap (option_and_then (away_at t.places)) (home_is t.names h.0 n.0 n.1 (λ k e. a.once k h.0 n.0 e n.1))
 
   pub reached_counted : (d : DrumWords) → AreSized t.places d → counted (plain_of t d) (page_at (plain_of t d) (spot_of at)) ≡ Some (name_of t.names h, share_of t.shares h.0)
   reached_counted d sized =
-      let n : (x : PageName) × (name_at t.names h.0 ≡ Some x) = (r.name, r.named) in
+      let n = reached_name in
       let named : name_of t.names h ≡ n.0 = ap (λ (o : Option PageName). unwrap_or o (record { tty = record { 0 = 0 }; serial = 0 })) n.1 in
-      ap (counted (plain_of t d)) (r.page d)
+      ap (counted (plain_of t d)) (reached_page d)
       ∙ ap (λ k. Some (name_of t.names h, k)) (ap (uses (plain_of t d)) named ∙ uses_home t a d sized h.0 n.0 n.1)
+
+  passes_maps : (d : DrumWords) (frames : ℕ) → map_away (plain_of t d) (scene_of t frames) (spot_of at) ≡ None
+  passes_maps d frames = ap (λ (x : Place). map_away (plain_of t d) (scene_of t frames) (spot_of x)) r.is ∙ none_away (scene_of t frames) (maps_on_way (entry_at (maps_held t.names t.maps)) r.slot) (λ f. refl)
 
   pub peek_here : (d : DrumWords) → AreSized t.places d → (frames offset : ℕ) (words : List ℕ) → place t.places h.0 ≡ here words → peek_of (plain_of t d) (scene_of t frames) (spot_of at) offset ≡ Is (slice_index words offset)
   unfolding peek_of
   peek_here d sized frames offset words is =
-      (λ i. away_or (r.passes d frames i) (away_or (option_and_then (scene_of t frames).page_away (r.page d i)) (option_map_or (λ n. Is (slice_index (words_of (plain_of t d) n) offset)) (r.page d i) NoPage)))
+      (λ i. away_or (passes_maps d frames i) (away_or (option_and_then (scene_of t frames).page_away (reached_page d i)) (option_map_or (λ n. Is (slice_index (words_of (plain_of t d) n) offset)) (reached_page d i) NoPage)))
       ∙ (λ i. away_or (reached_away frames i) (Is (slice_index (words_of (plain_of t d) (name_of t.names h)) offset)))
       ∙ (λ i. away_or (away_home (is i) h.0) (Is (slice_index (words_of (plain_of t d) (name_of t.names h)) offset)))
-      ∙ ap (λ ws. Is (slice_index ws offset)) (sym (ap (λ (o : Option PageName). option_map_or (words_of (plain_of t d)) o zero_words) (r.page d)) ∙ reached_words d sized words (content_here t.places d h.0 words is))
+      ∙ ap (λ ws. Is (slice_index ws offset)) (sym (ap (λ (o : Option PageName). option_map_or (words_of (plain_of t d)) o zero_words) (reached_page d)) ∙ reached_words d sized words (content_here t.places d h.0 words is))
 
   pub peek_away : (d : DrumWords) (frames offset : ℕ) → place t.places h.0 ≡ away → peek_of (plain_of t d) (scene_of t frames) (spot_of at) offset ≡ Absent h
   unfolding peek_of
   peek_away d frames offset is =
-      (λ i. away_or (r.passes d frames i) (away_or (option_and_then (scene_of t frames).page_away (r.page d i)) (option_map_or (λ n. Is (slice_index (words_of (plain_of t d) n) offset)) (r.page d i) NoPage)))
+      (λ i. away_or (passes_maps d frames i) (away_or (option_and_then (scene_of t frames).page_away (reached_page d i)) (option_map_or (λ n. Is (slice_index (words_of (plain_of t d) n) offset)) (reached_page d i) NoPage)))
       ∙ (λ i. away_or (reached_away frames i) (Is (slice_index (words_of (plain_of t d) (name_of t.names h)) offset)))
       ∙ (λ i. away_or (away_home (is i) h.0) (Is (slice_index (words_of (plain_of t d) (name_of t.names h)) offset)))
 
 module _ (t : Tables) (at : Place) (u : Unreached t at) (d : DrumWords) (frames : ℕ) where
+  pub unreached_page : page_at (plain_of t d) (spot_of at) ≡ None
+  unreached_page = ap (λ (x : Place). page_at (plain_of t d) (spot_of x)) u.is ∙ u.none d
+
+  passes : map_away (plain_of t d) (scene_of t frames) (spot_of at) ≡ None
+  passes = ap (λ (x : Place). map_away (plain_of t d) (scene_of t frames) (spot_of x)) u.is ∙ none_away (scene_of t frames) (maps_on_way (entry_at (maps_held t.names t.maps)) u.slot) (λ f. refl)
+
   pub peek_none : (offset : ℕ) → peek_of (plain_of t d) (scene_of t frames) (spot_of at) offset ≡ NoPage
   unfolding peek_of
-  peek_none offset = λ i. away_or (u.passes d frames i) (away_or (option_and_then (scene_of t frames).page_away (u.none d i)) (option_map_or (λ n. Is (slice_index (words_of (plain_of t d) n) offset)) (u.none d i) NoPage))
+  peek_none offset = λ i. away_or (passes i) (away_or (option_and_then (scene_of t frames).page_away (unreached_page i)) (option_map_or (λ n. Is (slice_index (words_of (plain_of t d) n) offset)) (unreached_page i) NoPage))
 
 -- a reference that finds its page ready, by its walk
 abbrev pub IsReadyBy : (ℕ → Option ℕ) → Use → Walk → Type 0
@@ -463,26 +454,17 @@ is_words free e = absurd (cc e)
 is_words away e = absurd (cc e)
 is_words (here words) e = (words, refl)
 
--- a place that a touch finds ready has its page in a frame
-pub ready_near : (t : Tables) (frames : ℕ) (kind : Kind) (at : Place) (h : Home) → home_at t at ≡ Some h → touch_of_place t frames at kind ≡ Ready → away_at t.places h.0 ≡ None
-ready_near t frames kind (Fork s) h home ready = by (walk_of t.maps s) home ready
-  where
-    by : (o : Option Walk) → option_and_then (λ w. w.home) o ≡ Some h → touch_walked (away_at t.places) t (scene_of t frames) kind o ≡ Ready → away_at t.places h.0 ≡ None
-    by None is k = absurd (cc is)
-    by (Some w) is k =
-        let b = ready_from (away_at t.places) t (scene_of t frames) kind w k in
-        let l = home_let (away_at t.places) t (scene_of t frames) (lets_along (use_of kind) w) w.home b.0 b.1 in
-        let same : b.0 ≡ h = (let z : Some b.0 ≡ Some h = sym l.1 ∙ is in cc z) in
-        ap (λ (x : Home). away_at t.places x.0) (sym same) ∙ b.2
-ready_near t frames kind (File f page) h home ready =
-    let m = made_ready (away_at t.places) t (scene_of t frames) (Some h) None (sym (ap (touch_filed (away_at t.places) t (scene_of t frames) kind) home) ∙ ready) in
-    let same : m.0 ≡ h = (let z : Some h ≡ Some m.0 = m.1 in cc z) in
-    ap (λ (x : Home). away_at t.places x.0) (sym same) ∙ m.3
-
 -- the page of a place that a touch finds ready is in a frame
 module _ (t : Tables) (a : AreTables t) (at : Place) (h : Home) (r : Reached t at h) (frames : ℕ) (kind : Kind) (ready : touch_of_place t frames at kind ≡ Ready) where
+  ready_walk : touch_walked (away_at t.places) t (scene_of t frames) kind (Some r.walk) ≡ Ready
+  ready_walk = ap (touch_walked (away_at t.places) t (scene_of t frames) kind) (sym r.walks) ∙ sym (ap (λ (x : Place). touch_of_place t frames x kind) r.is) ∙ ready
+
   pub ready_words : (words : List ℕ) × (place t.places h.0 ≡ here words)
-  ready_words = is_words (place t.places h.0) (here_when t.places h.0 (reached_taken t a at h r) (ready_near t frames kind at h r.home ready))
+  ready_words =
+      let b = ready_from (away_at t.places) t (scene_of t frames) kind r.walk ready_walk in
+      let l = home_let (away_at t.places) t (scene_of t frames) (lets_along (use_of kind) r.walk) r.walk.home b.0 b.1 in
+      let same : b.0 ≡ h = (let z : Some b.0 ≡ Some h = sym l.1 ∙ r.home in cc z) in
+      is_words (place t.places h.0) (here_when t.places h.0 (reached_taken t a at h r) (ap (λ (x : Home). away_at t.places x.0) (sym same) ∙ b.2))
 
 -- the page of a place that was found
 pub record Placed (t : Tables) (found : ℕ → Option AFound) (spot : AFound) (s : Slot) : Type 0 where
@@ -503,7 +485,7 @@ placed t a found finds k page f is spot e = by (walk t.maps (record { map = k; p
         record {
           home = h;
           spots = g;
-          reached = reached_slot t a (record { fork = f; page = page }) w h (walk_at t a found finds k page f is ∙ r) (found_at t a found finds k page f is w r) is_home;
+          reached = record { slot = record { fork = f; page = page }; is = refl; lives = lives_at t a found finds k page f is; walk = w; walks = walk_at t a found finds k page f is ∙ r; found = found_at t a found finds k page f is w r; home = is_home };
           words = x.0;
           holds = x.1;
         }

@@ -23,10 +23,7 @@ use Rattle.flat_pages.specs.declared.held_map.TheConstants.{MOST_MAPS}
 use Rattle.flat_pages.specs.declared.page_serials.PageSerials.{PageSerials}
 use Rattle.flat_pages.specs.Serials.{serial_of}
 use Rattle.flat_pages.specs.HeldMaps.{no_page, free_map, map_at, fork_at, index_of, maps_from, maps_held, entries_total, points_at, living_of, AreHeld}
-use Rattle.flat_pages.specs.SlotTables.{Tables, is_at, objects_from, objects_of, plain_of, AreTables}
-use Rattle.machine_names.specs.Orders.{file_page_cmp}
-use Rattle.plain_pages.proofs.Whole.{no_values}
-use Rattle.flat_pages.proofs.FiledHomes.{none_filed}
+use Rattle.flat_pages.specs.SlotTables.{Tables, objects_from, objects_of, plain_of, AreTables}
 use Rattle.flat_pages.proofs.ForkMaps.{index_none}
 
 -- reading what is the same everywhere
@@ -97,14 +94,14 @@ no_maps names = maps_none names MOST_MAPS
 
 module _ (limit : ℕ) (serials : PageSerials) (terminals : serials.terminals ≡ first_serials) (console : serials.console ≡ 1) where
   abbrev pub opened : Tables
-  opened = record { places = replicate limit free; names = replicate limit None; shares = replicate limit 0; maps = free_maps; files = fin.empty; serials = serials; taken = 0; living = 0; limit = limit }
+  opened = record { places = replicate limit free; names = replicate limit None; shares = replicate limit 0; maps = free_maps; serials = serials; taken = 0; living = 0; limit = limit }
 
   pub opened_plain : (d : DrumWords) → plain_of opened d ≡ opening_pages nat_cmp limit
   unfolding opening_pages
   opened_plain d = λ i. record {
     objects = no_objects (content opened.places d) limit i;
     maps = no_maps opened.names i;
-    files = none_filed opened.names i;
+    files = fin.empty;
     page_serials = terminals i;
     console_serial = console i;
     limit = limit;
@@ -120,8 +117,7 @@ module _ (limit : ℕ) (serials : PageSerials) (terminals : serials.terminals �
     homes = length-replicate limit free;
     named = length-replicate limit None;
     counted = length-replicate limit 0;
-    shares = λ h. omega (arith, all_at {A = ℕ} limit h 0, total_free (points_at h) refl MOST_MAPS, no_values (file_page_cmp nat_cmp) (is_at h));
-    filed = λ f h is. absurd (let z : None ≡ Some h = sym (fin.get-empty (file_page_cmp nat_cmp) f) ∙ is in cc z);
+    shares = λ h. all_at limit h 0 ∙ sym (total_free (points_at h) refl MOST_MAPS);
     shared = λ h. ap is_some (all_at limit h None) ∙ sym (ap (nat_lt 0) (all_at limit h 0));
     is_taken = λ h. ap is_taken (all_at limit h free) ∙ sym (ap is_some (all_at limit h None));
     once = λ h k n a b. absurd (let z : None ≡ Some n = sym (all_at limit h None) ∙ a in cc z);

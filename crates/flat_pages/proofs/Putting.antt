@@ -25,7 +25,7 @@ use Rattle.flat_pages.specs.HeldMaps.{name_at}
 use Rattle.flat_pages.specs.SlotTables.{Tables, plain_of, AreTables, AreSized}
 use Rattle.page_contracts.specs.Stores.{away_home, away_at}
 use Rattle.flat_pages.proofs.Agreement.{Housed, housed, object_home, object_gone}
-use Rattle.flat_pages.proofs.Meeting.{Reached}
+use Rattle.flat_pages.proofs.Meeting.{Reached, reached_page, home_name}
 use Rattle.flat_pages.proofs.Settling.{content_here, content_other}
 
 -- the tables with the homes elsewhere
@@ -40,7 +40,6 @@ replaced_tables t a places len taken frees = record {
   named = a.named;
   counted = a.counted;
   shares = a.shares;
-  filed = a.filed;
   shared = a.shared;
   is_taken = λ k. taken k ∙ a.is_taken k;
   once = a.once;
@@ -143,7 +142,7 @@ module _ (t : Tables) (a : AreTables t) (h : ℕ) (words : List ℕ) (is : place
 pub stored_at : (t : Tables) → (a : AreTables t) → (at : Place) (h : Home) → (r : Reached t at h) → (words : List ℕ) → (is : place t.places h.0 ≡ here words) → (offset word : ℕ) (d : DrumWords) → AreSized t.places d → AreSized (slice_set t.places h.0 (with_word_in (place t.places h.0) offset word)) d
     → plain_of (replaced t (slice_set t.places h.0 (with_word_in (place t.places h.0) offset word))) d ≡ stored (plain_of t d) (spot_of at) offset word
 stored_at t a at h r words is offset word d sized sized' =
-    let n : (x : PageName) × (name_at t.names h.0 ≡ Some x) = (r.name, r.named) in
+    let n = home_name t a r.slot r.walk r.found h r.home in
     told_put t a h.0 words is offset word d sized sized' n.0 n.1
     ∙ ap (λ (o : Option PageName). with_word (plain_of t d) offset word (unwrap_or o (record { tty = record { 0 = 0 }; serial = 0 }))) (sym n.1)
-    ∙ sym (ap (λ (o : Option PageName). option_map_or (with_word (plain_of t d) offset word) o (plain_of t d)) (r.page d))
+    ∙ sym (ap (λ (o : Option PageName). option_map_or (with_word (plain_of t d) offset word) o (plain_of t d)) (reached_page t a at h r d))

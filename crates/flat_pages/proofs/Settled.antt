@@ -37,7 +37,7 @@ use Rattle.flat_pages.specs.declared.map_tables.MapTables.{MapTables}
 use Rattle.flat_pages.specs.declared.chain_walk.Walk.{Walk}
 use Rattle.flat_pages.specs.HeldMaps.{fork_at, index_of, held_entry, with_entry, name_at, points_at, living_of}
 use Rattle.flat_pages.specs.Walks.{slot_of, walk}
-use Rattle.flat_pages.specs.SlotTables.{Tables, plain_of, files_held, share_of, AreTables, AreSized}
+use Rattle.flat_pages.specs.SlotTables.{Tables, plain_of, share_of, AreTables, AreSized}
 use Rattle.flat_pages.specs.SlotTouches.{walk_of, scene_of, home_named, has_room, is_alone, touch_copy, touch_made, touch_walked, touch_of_place, allows, copy_of}
 use Rattle.page_contracts.specs.Stores.{away_home, away_at}
 use Rattle.flat_pages.specs.Serials.{with_next}
@@ -48,8 +48,6 @@ use Rattle.flat_pages.proofs.Walked.{IsCopy}
 use Rattle.flat_pages.proofs.Taking.{none_shared}
 use Rattle.flat_pages.proofs.Touching.{home_is, allowed_is, listed, blanks_none, blanks_some, copies_none, copied}
 use Rattle.flat_pages.proofs.Settling.{sized_of, fits_set, content_here, content_set, content_other, told_blank, told_copy}
-use Rattle.flat_pages.proofs.FiledHomes.{files_still}
-use Rattle.flat_pages.proofs.Told.{none_filed}
 use Rattle.flat_pages.proofs.Telling.{named_home}
 use Rattle.flat_pages.proofs.Rooming.{here_when}
 use Rattle.flat_pages.proofs.Making.{alone_share, home_under}
@@ -116,7 +114,6 @@ pub record Settles (t u : Tables) (frames frames' : ℕ) (at : Place) (kind : Ki
   pub count : u.taken + u.living ≡ t.taken + t.living + frames_taken (touch_of_place t frames at kind)
   pub lives : ◌≡◌ {A = ForkName → Bool} (λ f. is_some (index_of u.maps f)) (λ f. is_some (index_of t.maps f))
   pub forks : living_of u.maps ≡ living_of t.maps
-  pub filed : files_held u.names u.files ≡ files_held t.names t.files
 
 -- what a copy's touch may answer
 abbrev copying : Option ℕ → Bool → Bool → Bool → Touch
@@ -337,22 +334,22 @@ module _ (t : Tables) (a : AreTables t) (frames : ℕ) (s : Slot) (kind : Kind) 
 
     module _ (u : Tables) (a' : AreTables u) (sized' : AreSized u.places d) (h : Home) (below : h.0 < t.limit) where
       -- a zero page
-      zero_told : w.home ≡ None → share_of t.shares h.0 ≡ 0 → u.names ≡ slice_set t.names h.0 (Some (next_name t.serials owner)) → u.maps ≡ with_entry t.maps w.end (Page h full_access) → u.files ≡ t.files → u.serials ≡ with_next t.serials owner → u.limit ≡ t.limit
+      zero_told : w.home ≡ None → share_of t.shares h.0 ≡ 0 → u.names ≡ slice_set t.names h.0 (Some (next_name t.serials owner)) → u.maps ≡ with_entry t.maps w.end (Page h full_access) → u.serials ≡ with_next t.serials owner → u.limit ≡ t.limit
           → content u.places d h.0 ≡ Some zero_words → ((k : ℕ) → k ≢ h.0 → content u.places d k ≡ content t.places d k) → plain_of u d ≡ settled p (in_map s) kind owner
-      zero_told none alone names maps files serials limit held kept =
-          told_blank t a d sized owner own h.0 below w.end c.end Empty full_access walk_found.meets.end (walk_found.meets.empty none) alone zero_words u a' sized' names maps files serials limit held kept refl refl refl
+      zero_told none alone names maps serials limit held kept =
+          told_blank t a d sized owner own h.0 below w.end c.end Empty full_access walk_found.meets.end (walk_found.meets.empty none) alone zero_words u a' sized' names maps serials limit held kept refl refl refl
           ∙ sym (settled_makes p owner (in_map s) kind (blank (in_map c.end)) (copies kind c)
           (list ∙ λ i. Some (blanks_none t a frames d sized owner own start s start_slot kind c w walk_found.is walk_found.meets yes none i ++ copies kind c)))
 
       -- a copy
       copy_told : (old : Home) (m : EntryAt) (b : Access) (q : HeldEntry) (words : List ℕ) → w.home ≡ Some old → copy_of kind w ≡ Some m → held_entry t.maps m ≡ Some q → b ≡ record full_access { x = w.executes } → share_of t.shares h.0 ≡ points_at h.0 q
-          → place t.places old.0 ≡ here words → u.names ≡ slice_set t.names h.0 (Some (next_name t.serials owner)) → u.maps ≡ with_entry t.maps m (Page h b) → u.files ≡ t.files → u.serials ≡ with_next t.serials owner → u.limit ≡ t.limit
+          → place t.places old.0 ≡ here words → u.names ≡ slice_set t.names h.0 (Some (next_name t.serials owner)) → u.maps ≡ with_entry t.maps m (Page h b) → u.serials ≡ with_next t.serials owner → u.limit ≡ t.limit
           → content u.places d h.0 ≡ Some words → ((k : ℕ) → k ≢ h.0 → content u.places d k ≡ content t.places d k) → plain_of u d ≡ settled p (in_map s) kind owner
-      copy_told old m b q words home some there access alone old_words names maps files serials limit held kept =
+      copy_told old m b q words home some there access alone old_words names maps serials limit held kept =
           let k = copied t a frames d sized owner own start s start_slot kind c w walk_found.is walk_found.meets yes m some in
           let from = mark_there p s c k.link walk_found.is k.first in
           let same : words ≡ words_at p (in_map k.link.slot) = sym (words_are t a s w walk_found d sized old words home (content_here t.places d old.0 words old_words)) ∙ sym (ap (λ (o : Option PageName). option_map_or (words_of p) o zero_words) from.2) in
-          told_copy t a d sized owner own h.0 below m k.link.slot q b k.there there alone words u a' sized' names maps files serials limit held kept same
+          told_copy t a d sized owner own h.0 below m k.link.slot q b k.there there alone words u a' sized' names maps serials limit held kept same
           ∙ ap (λ (x : Access). make p owner (copy k.link.slot x)) (access ∙ ap (λ x. record full_access { x = x }) (sym walk_found.meets.executes))
           ∙ sym (settled_makes p owner (in_map s) kind (copy k.link.slot (private_access c)) []
           (list ∙ λ i. Some (blanks_some t a frames d sized owner own start s start_slot kind c w walk_found.is walk_found.meets yes old home i ++ k.list i)))
@@ -363,12 +360,6 @@ unused t a h is = none_shared (share_of t.shares h) (sym (a.shared h) ∙ sym (a
 
 unused_by : (t : Tables) → AreTables t → (h : ℕ) → place t.places h ≡ free → (at : EntryAt) (q : HeldEntry) → held_entry t.maps at ≡ Some q → share_of t.shares h ≡ points_at h q
 unused_by t a h is at q there = omega (arith, unused t a h is, a.shares h, total_le (points_at h) t.maps at q refl there)
-
--- a home with a new name that no file names leaves what files name
-renamed_files : (t : Tables) (a : AreTables t) (owner : Tty) (home : ℕ) (at : EntryAt) (q : HeldEntry) → held_entry t.maps at ≡ Some q → share_of t.shares home ≡ points_at home q
-    → files_held (slice_set t.names home (Some (next_name t.serials owner))) t.files ≡ files_held t.names t.files
-renamed_files t a owner home at q there alone =
-    files_still t.names (slice_set t.names home (Some (next_name t.serials owner))) t.files home (none_filed t a at q home there alone) (λ k ne. get_or-set_other t.names home k (Some (next_name t.serials owner)) None ne)
 
 abbrev ArePages : Tables → Type 0
 ArePages t = (h : ℕ) (words : List ℕ) → place t.places h ≡ here words → IsPage words
@@ -409,7 +400,7 @@ module _ (t : Tables) (a : AreTables t) (pages : ArePages t) (frames : ℕ) (s :
       record {
         told = λ d fits. (
           fits_set t.places d h.0 (here zero_words) fits,
-          zero_told t a frames s kind w r d (sized_of t.places d fits pages) owner own v a' (sized_of v.places d (fits_set t.places d h.0 (here zero_words) fits) pages') h below none (unused t a h.0 was_free) refl refl refl refl refl
+          zero_told t a frames s kind w r d (sized_of t.places d fits pages) owner own v a' (sized_of v.places d (fits_set t.places d h.0 (here zero_words) fits) pages') h below none (unused t a h.0 was_free) refl refl refl refl
               (content_there w.end zero_words full_access d) (content_kept w.end zero_words full_access d),
         );
         settles = zero_settles t a frames s kind w r v h frames' none refl (placed_here w.end zero_words full_access) (λ two. grind (arith, nat_tests, two));
@@ -417,7 +408,6 @@ module _ (t : Tables) (a : AreTables t) (pages : ArePages t) (frames : ℕ) (s :
         count = subst (λ (x : Touch). v.taken + v.living ≡ t.taken + t.living + frames_taken x) (sym is) (omega arith);
         lives = set_lives t.maps v.maps w.end (Page h full_access) refl;
         forks = set_living t.maps v.maps w.end (Page h full_access) refl;
-        filed = renamed_files t a owner h.0 w.end Empty end (unused t a h.0 was_free);
       }
 
   pub copy_settled : (old : Home) (m : EntryAt) (b : Access) (q : HeldEntry) (words : List ℕ) → w.home ≡ Some old → copy_of kind w ≡ Some m → held_entry t.maps m ≡ Some q → b ≡ record full_access { x = w.executes } → is_alone t.shares (held_entry t.maps m) ≡ false
@@ -429,14 +419,13 @@ module _ (t : Tables) (a : AreTables t) (pages : ArePages t) (frames : ℕ) (s :
         told = λ d fits. (
           fits_set t.places d h.0 (here words) fits,
           copy_told t a frames s kind w r d (sized_of t.places d fits pages) owner own v a' (sized_of v.places d (fits_set t.places d h.0 (here words) fits) pages') h below old m b q words home some there access (unused_by t a h.0 was_free m q there)
-              old_words refl refl refl refl refl (content_there m words b d) (content_kept m words b d),
+              old_words refl refl refl refl (content_there m words b d) (content_kept m words b d),
         );
         settles = subst (λ (x : Touch). SettlesTo x (touch_of_place v frames' (Fork s) kind)) (sym is) (copy_ready t a frames s kind w r v h m b q frames' some there (ap (λ (x : Access). x.c) access) (ap (λ (x : Access). x.w) access) refl (placed_here m words b));
         scene = subst (λ (x : Touch). TakesFrames (scene_of t frames) (scene_of v frames') (frames_taken x)) (sym is) (taken_scene m words b a');
         count = subst (λ (x : Touch). v.taken + v.living ≡ t.taken + t.living + frames_taken x) (sym is) (omega arith);
         lives = set_lives t.maps v.maps m (Page h b) refl;
         forks = set_living t.maps v.maps m (Page h b) refl;
-        filed = renamed_files t a owner h.0 m q there (unused_by t a h.0 was_free m q there);
       }
 
 -- the home of a page that one entry alone names becomes that of its copy
@@ -454,7 +443,7 @@ module _ (t : Tables) (a : AreTables t) (pages : ArePages t) (frames : ℕ) (s :
         told = λ d fits. (
           fits,
           copy_told t a frames s kind w r d (sized_of t.places d fits pages) owner own v a' (sized_of t.places d fits pages) h (home_under t a h.0 (ap is_taken old_words)) h m b (Page h old) words home some there access (one ∙ sym (points_self h old))
-              old_words refl refl refl refl refl (content_here t.places d h.0 words old_words) (λ k ne. refl),
+              old_words refl refl refl refl (content_here t.places d h.0 words old_words) (λ k ne. refl),
         );
         settles = subst (λ (x : Touch). SettlesTo x (touch_of_place v frames (Fork s) kind)) (sym is) (copy_ready t a frames s kind w r v h m b (Page h old) frames some there (ap (λ (x : Access). x.c) access) (ap (λ (x : Access). x.w) access) refl in_core);
         scene = subst (λ (x : Touch). TakesFrames (scene_of t frames) (scene_of v frames) (frames_taken x)) (sym is)
@@ -462,7 +451,6 @@ module _ (t : Tables) (a : AreTables t) (pages : ArePages t) (frames : ℕ) (s :
         count = subst (λ (x : Touch). v.taken + v.living ≡ t.taken + t.living + frames_taken x) (sym is) (omega arith);
         lives = set_lives t.maps v.maps m (Page h b) refl;
         forks = set_living t.maps v.maps m (Page h b) refl;
-        filed = renamed_files t a owner h.0 m (Page h old) there (one ∙ sym (points_self h old));
       }
 
 -- what a slot's touch announces

@@ -23,7 +23,7 @@ use Rattle.machine_names.specs.PageWords.{zero_words}
 use Rattle.machine_names.specs.Bounds.{IsOwner}
 use Rattle.page_contracts.specs.Stores.{HomePlace, free, away, here, place, is_taken, over_drum, content, FitsHomes}
 use Rattle.plain_pages.specs.WholePages.{AreWhole}
-use Rattle.plain_pages.proofs.Made.{has_new, is_blank, is_copy}
+use Rattle.plain_pages.proofs.Made.{is_blank, is_copy}
 use Rattle.plain_pages.proofs.Settles.{copy_maps, copy_files}
 use Rattle.flat_pages.specs.declared.held_entry.EntryAt.{EntryAt}
 use Rattle.flat_pages.specs.declared.held_entry.HeldEntry.{HeldEntry}
@@ -32,12 +32,11 @@ use Rattle.flat_pages.specs.declared.page_serials.PageSerials.{PageSerials}
 use Rattle.flat_pages.specs.Serials.{serial_of, with_next}
 use Rattle.flat_pages.specs.HeldMaps.{held_entry, with_entry, name_at, entry_of, maps_held, points_at}
 use Rattle.flat_pages.specs.Walks.{slot_of}
-use Rattle.flat_pages.specs.SlotTables.{Tables, plain_of, files_held, share_of, AreTables, AreSized}
+use Rattle.flat_pages.specs.SlotTables.{Tables, plain_of, share_of, AreTables, AreSized}
 use Rattle.flat_pages.specs.TableSteps.{next_name}
 use Rattle.flat_pages.proofs.LivingMaps.{entry_held}
 use Rattle.flat_pages.proofs.Agreement.{tables_whole}
-use Rattle.flat_pages.proofs.Told.{maps_set, none_else, none_filed, entry_still, told_made}
-use Rattle.flat_pages.proofs.FiledHomes.{files_still}
+use Rattle.flat_pages.proofs.Told.{maps_set, none_else, entry_still, told_made}
 
 -- the words of a page that is in a frame
 pub content_here : (places : List HomePlace) (d : DrumWords) (h : ℕ) (words : List ℕ) → place places h ≡ here words → content places d h ≡ Some words
@@ -170,13 +169,10 @@ module _ (t : Tables) (a : AreTables t) (d : DrumWords) (sized : AreSized t.plac
     entry_is = entry_held t.names t.maps a.held.once at s is ∙ ap (option_map (entry_of t.names)) there
 
     -- a home is taken for a page with the words of a making
-    module _ (words : List ℕ) (t' : Tables) (a' : AreTables t') (sized' : AreSized t'.places d) (names : t'.names ≡ names') (maps : t'.maps ≡ with_entry t.maps at (Page h b)) (files : t'.files ≡ t.files) (serials : t'.serials ≡ with_next t.serials owner) (limit : t'.limit ≡ t.limit)
+    module _ (words : List ℕ) (t' : Tables) (a' : AreTables t') (sized' : AreSized t'.places d) (names : t'.names ≡ names') (maps : t'.maps ≡ with_entry t.maps at (Page h b)) (serials : t'.serials ≡ with_next t.serials owner) (limit : t'.limit ≡ t.limit)
         (held : content t'.places d home ≡ Some words) (kept : (k : ℕ) → k ≢ home → content t'.places d k ≡ content t.places d k) where
       maps_are : maps_held t'.names t'.maps ≡ set_entry p.maps s (entry.Names (next_page p owner) b)
       maps_are = (λ i. maps_held (names i) (maps i)) ∙ maps_named
-
-      files_are : files_held t'.names t'.files ≡ p.files
-      files_are = (λ i. files_held (names i) (files i)) ∙ files_still t.names names' t.files home (none_filed t a at q home there alone) name_other
 
       named_here : name_at t'.names home ≡ Some (next_page p owner)
       named_here = ap (λ ns. name_at ns home) names ∙ name_here
@@ -193,12 +189,12 @@ module _ (t : Tables) (a : AreTables t) (d : DrumWords) (sized : AreSized t.plac
       pub told_blank : q ≡ Empty → b ≡ full_access → words ≡ zero_words → plain_of t' d ≡ make p owner (blank (in_map s))
       told_blank empty access zeros =
           let can : entry_at p.maps s ≡ Some entry.Empty = entry_is ∙ ap (λ x. Some (entry_of t.names x)) empty in
-          told_made t t' a a' d sized sized' owner home (make p owner (blank (in_map s))) zero_words (has_new p (make p owner (blank (in_map s))) owner s full_access zero_words entry.Empty (is_blank nat_cmp_total p whole owner own s can))
-          (maps_are ∙ ap (λ x. set_entry p.maps s (entry.Names (next_page p owner) x)) access ∙ sym (blank_maps p owner s)) (files_are ∙ sym (blank_files p owner s))
+          told_made t t' a a' d sized sized' owner home (make p owner (blank (in_map s))) s full_access zero_words entry.Empty (is_blank nat_cmp_total p whole owner own s can)
+          (maps_are ∙ ap (λ x. set_entry p.maps s (entry.Names (next_page p owner) x)) access ∙ sym (blank_maps p owner s)) (blank_files p owner s)
           (terminals_are ∙ sym (blank_terminals p owner s)) (console_is ∙ sym (blank_console p owner s)) limit named_here named_other (held ∙ ap Some zeros) kept
 
       pub told_copy : words ≡ words_at p (in_map s) → plain_of t' d ≡ make p owner (copy s b)
       told_copy same =
-          told_made t t' a a' d sized sized' owner home (make p owner (copy s b)) (words_at p (in_map s)) (has_new p (make p owner (copy s b)) owner s b (words_at p (in_map s)) (entry_of t.names q) (is_copy nat_cmp_total p whole owner own s b (entry_of t.names q) entry_is))
-          (maps_are ∙ sym (copy_maps nat_cmp_total p owner s b)) (files_are ∙ sym (copy_files nat_cmp_total p owner s b))
+          told_made t t' a a' d sized sized' owner home (make p owner (copy s b)) s b (words_at p (in_map s)) (entry_of t.names q) (is_copy nat_cmp_total p whole owner own s b (entry_of t.names q) entry_is)
+          (maps_are ∙ sym (copy_maps nat_cmp_total p owner s b)) (copy_files nat_cmp_total p owner s b)
           (terminals_are ∙ sym (copy_terminals p owner s b)) (console_is ∙ sym (copy_console p owner s b)) limit named_here named_other (held ∙ ap Some same) kept

@@ -19,7 +19,7 @@ use Rattle.flat_pages.specs.declared.held_entry.Link.{Link}
 use Rattle.flat_pages.specs.declared.held_map.HeldMap.{HeldMap}
 use Rattle.flat_pages.specs.Serials.{serial_of, with_next}
 use Rattle.flat_pages.specs.HeldMaps.{map_at, fork_at, held_entry, with_entry, entry_set, name_at, points_at, entries_total, living_in, AreHeld}
-use Rattle.flat_pages.specs.SlotTables.{Tables, share_of, filed_total, AreTables}
+use Rattle.flat_pages.specs.SlotTables.{Tables, share_of, AreTables}
 use Rattle.flat_pages.specs.TableSteps.{next_name, left_shares, home_taken, home_renamed}
 use Rattle.flat_pages.proofs.HeldEntries.{at_tells, held_within, fork_set, maps_length, entries_length, entry_same, entry_other, total_with, total_le, points_self, points_here, points_other}
 use Rattle.flat_pages.proofs.NextSerials.{next_own, next_later, next_length}
@@ -166,12 +166,12 @@ module _ (t : Tables) (a : AreTables t) (owner : Tty) (own : IsOwner owner) (hom
     share_other : (k : ℕ) → k ≢ home → share_of t'.shares k ≡ share_of (left_shares t.shares (held_entry t.maps at)) k
     share_other k ne = get_or-set_other (left_shares t.shares (held_entry t.maps at)) home k 1 0 ne
 
-    shares_are : (k : ℕ) → share_of t'.shares k ≡ entries_total (points_at k) t'.maps + filed_total k t.files
+    shares_are : (k : ℕ) → share_of t'.shares k ≡ entries_total (points_at k) t'.maps
     shares_are k = elim (cases_eq k home) [
       | inl e ↦
           let w = total_with t.maps at (Page h b) (points_at home) q there in
-          let one : entries_total (points_at home) t'.maps + filed_total home t.files ≡ 1 = omega (arith, w, le home, no_share, points_self h b, a.shares home) in
-          ap (share_of t'.shares) e ∙ share_here ∙ sym one ∙ ap (λ j. entries_total (points_at j) t'.maps + filed_total j t.files) (sym e)
+          let one : entries_total (points_at home) t'.maps ≡ 1 = omega (arith, w, le home, no_share, points_self h b, a.shares home) in
+          ap (share_of t'.shares) e ∙ share_here ∙ sym one ∙ ap (λ j. entries_total (points_at j) t'.maps) (sym e)
       | inr ne ↦ omega (arith, share_other k ne, left k, a.shares k, total_with t.maps at (Page h b) (points_at k) q there, points_other k h b (λ s. ne (sym s)))
     ]
 
@@ -218,7 +218,6 @@ module _ (t : Tables) (a : AreTables t) (owner : Tty) (own : IsOwner owner) (hom
           named = length-set t.names home (Some (next_name t.serials owner)) ∙ a.named;
           counted = length-set (left_shares t.shares (held_entry t.maps at)) home 1 ∙ left_length t.shares (held_entry t.maps at) ∙ a.counted;
           shares = shares_are;
-          filed = a.filed;
           shared = shared;
           is_taken = taken_at;
           once = renamed_once;
@@ -253,7 +252,6 @@ module _ (t : Tables) (a : AreTables t) (owner : Tty) (own : IsOwner owner) (hom
           named = length-set t.names home (Some (next_name t.serials owner)) ∙ a.named;
           counted = a.counted;
           shares = λ k. omega (arith, a.shares k, total_with t.maps at (Page g b) (points_at k) (Page g c) there);
-          filed = a.filed;
           shared = λ k. named_still k ∙ a.shared k;
           is_taken = λ k. a.is_taken k ∙ sym (named_still k);
           once = renamed_once;

@@ -1,30 +1,25 @@
 -- What is told of tables that agree.
-use Rattle.std.proofs.Common.{◌≡◌, ◌≢◌, inl, inr, ℕ, zero, suc, List, [], ◌∷◌, true, false, cond, Option, None, Some, refl, sym, ◌∙◌, ap, subst, arith, is_some, nat_eq}
-use Rattle.std.specs.Option.{option_map, option_map_or, option_and_then, unwrap_or}
-use Rattle.std.specs.Prelude.{◌<◌, IsSome}
+use Rattle.std.proofs.Common.{◌≡◌, ◌≢◌, inl, inr, ℕ, zero, suc, List, [], ◌∷◌, true, false, cond, Option, None, Some, refl, sym, ◌∙◌, ap, arith, is_some, nat_eq}
+use Rattle.std.specs.Option.{option_map_or, option_and_then}
 use Rattle.std.specs.FinMap as fin
 use Rattle.std.proofs.lemmas.Bool.Decides.{eqb_tells}
 use Rattle.std.proofs.lemmas.List.Sums.{sum_by-cons}
 use Rattle.outside.specs.Drums.{IsPage, page_at as drum_page}
 use Rattle.machine_names.specs.declared.names.ForkName.{ForkName}
 use Rattle.machine_names.specs.declared.names.PageName.{PageName}
-use Rattle.machine_names.specs.declared.names.TheConstants.{MOST_FILES, FILE_PAGES}
-use Rattle.machine_names.specs.Orders.{FilePage}
-use Rattle.page_homes.specs.declared.homes.Home.{Home}
 use Rattle.plain_pages.specs.Room.{same_page}
 use Rattle.page_contracts.specs.DrumWords.{DrumWords}
 use Rattle.page_contracts.specs.Stores.{HomePlace, free, away, here, place, is_taken, over_drum, content}
 use Rattle.plain_pages.proofs.Counts.{Same, page_tells}
 use Rattle.flat_pages.specs.declared.held_map.HeldMap.{HeldMap}
-use Rattle.flat_pages.specs.HeldMaps.{fork_at, name_at, name_of, nobody, one_later, living_of}
+use Rattle.flat_pages.specs.HeldMaps.{fork_at, name_at, one_later, living_of}
 use Rattle.flat_pages.specs.SlotTables.{Tables, plain_of, AreTables, AreSized}
 use Rattle.flat_pages.specs.SlotTouches.{home_named, scene_of}
 use Rattle.page_contracts.specs.Stores.{away_home, away_at}
-use Rattle.flat_pages.specs.SlotMeaning.{AreTold, filed_in}
-use Rattle.flat_pages.proofs.FiledHomes.{get_filed}
+use Rattle.flat_pages.specs.SlotMeaning.{AreTold}
 use Rattle.flat_pages.proofs.ForkMaps.{searched}
 use Rattle.flat_pages.proofs.LivingMaps.{lives_held}
-use Rattle.flat_pages.proofs.Agreement.{Housed, housed, filed_named, tables_whole, tables_live, object_home, object_gone}
+use Rattle.flat_pages.proofs.Agreement.{Housed, housed, tables_whole, tables_live, object_home, object_gone}
 use Rattle.flat_pages.proofs.Touching.{home_is as home_found}
 use Rattle.flat_pages.proofs.Settling.{sized_of}
 
@@ -108,18 +103,6 @@ has_home t a d sized n = by (housed t.names n)
         ∙ sym (ap is_some (object_home t a d sized r.0 n r.1) ∙ over_taken (place t.places r.0) (drum_page d r.0) ∙ a.is_taken r.0 ∙ ap is_some r.1)
     by (inr none) = nowhere none (home_named t.names n) refl ∙ sym (ap is_some (object_gone t a d sized n none))
 
--- what files name is within its bounds, and has homes
-filed_homes : (t : Tables) → AreTables t → (f : FilePage ℕ) (n : PageName) → filed_in t f ≡ Some n → (f.file < MOST_FILES) × (f.page < FILE_PAGES) × IsSome (home_named t.names n)
-filed_homes t a f n is = by (fin.get t.files f) refl (sym (get_filed t.names t.files f) ∙ is)
-  where
-    by : (o : Option Home) → fin.get t.files f ≡ o → option_map (name_of t.names) o ≡ Some n → (f.file < MOST_FILES) × (f.page < FILE_PAGES) × IsSome (home_named t.names n)
-    by None filed k = absurd (cc k)
-    by (Some h) filed k =
-        let named = filed_named t a f h filed in
-        let same : named.0 ≡ n = (let z : Some named.0 ≡ Some n = ap (λ (o : Option PageName). Some (unwrap_or o nobody)) (sym named.1) ∙ k in cc z) in
-        let bounds = a.filed f h filed in
-        (bounds.0, bounds.1, subst IsSome (sym (home_found t.names h.0 n (named.1 ∙ ap Some same) (λ j e. a.once j h.0 n e (named.1 ∙ ap Some same)))) refl)
-
 pub tables_told : (t : Tables) → AreTables t → ((h : ℕ) (words : List ℕ) → place t.places h ≡ here words → IsPage words) → AreTold t
 unfolding content
 tables_told t a pages = record {
@@ -132,7 +115,6 @@ tables_told t a pages = record {
   there = λ d n home frames fits e. let x = is_away t n home frames e in
       ap is_some (object_home t a d (sized_of t.places d fits pages) home n x.name ∙ ap (λ p. over_drum p (drum_page d home)) x.away);
   taken = λ n home is. a.is_taken home ∙ ap is_some (named_home t.names n home is);
-  filed = filed_homes t a;
   apart = λ n m home is it. (let z : Some n ≡ Some m = sym (named_home t.names n home is) ∙ named_home t.names m home it in cc z);
   housed = λ d n fits. has_home t a d (sized_of t.places d fits pages) n;
   homes = omega (arith, a.homes);

@@ -21,7 +21,7 @@ use Rattle.machine_names.specs.PageWords.{zero_words}
 use Rattle.plain_pages.specs.References.{next_page, words_of}
 use Rattle.page_contracts.specs.Stores.{content}
 use Rattle.plain_pages.proofs.Kept.{same_pages}
-use Rattle.plain_pages.proofs.Made.{HasNew}
+use Rattle.plain_pages.proofs.Made.{IsMade}
 use Rattle.plain_pages.proofs.Whole.{map_uses, tally, uses_are}
 use Rattle.flat_pages.specs.declared.held_entry.EntryAt.{EntryAt}
 use Rattle.flat_pages.specs.declared.held_entry.HeldEntry.{HeldEntry}
@@ -29,7 +29,7 @@ use Rattle.flat_pages.specs.declared.held_entry.HeldEntry.TheVariants.{Empty, Pa
 use Rattle.flat_pages.specs.declared.held_map.HeldMap.{HeldMap}
 use Rattle.flat_pages.specs.HeldMaps.{map_at, fork_at, held_entry, with_entry, name_at, entry_of, entries_of, maps_held, points_at, AreHeld}
 use Rattle.flat_pages.specs.Walks.{slot_of}
-use Rattle.flat_pages.specs.SlotTables.{Tables, plain_of, share_of, filed_total, AreTables, AreSized}
+use Rattle.flat_pages.specs.SlotTables.{Tables, plain_of, share_of, AreTables, AreSized}
 use Rattle.flat_pages.proofs.HeldEntries.{held_within, map_set_same, map_set_other, fork_set, entry_other, total_with, total_le, points_here}
 use Rattle.flat_pages.proofs.LivingMaps.{get_living, maps_changed}
 use Rattle.flat_pages.proofs.Agreement.{Housed, housed, uses_home, uses_none, object_home, object_gone, tables_whole}
@@ -85,10 +85,6 @@ none_else t a at b q x home there alone ne here =
     let l = total_le (points_at home) (with_entry t.maps at Empty) b x refl (entry_other t.maps at Empty b ne ∙ here) in
     omega (arith, w, l, alone, a.shares home)
 
--- no file names the page of a home that an entry has alone, or none
-pub none_filed : (t : Tables) → AreTables t → (at : EntryAt) (q : HeldEntry) (home : ℕ) → held_entry t.maps at ≡ Some q → share_of t.shares home ≡ points_at home q → filed_total home t.files ≡ 0
-none_filed t a at q home there alone = omega (arith, total_le (points_at home) t.maps at q refl there, alone, a.shares home)
-
 -- an entry stands for what it stood for, where its home keeps its name
 pub entry_still : (names names' : List (Option PageName)) (home : ℕ) (x : HeldEntry) → ((k : ℕ) → k ≢ home → name_at names' k ≡ name_at names k) → points_at home x ≡ 0 → entry_of names' x ≡ entry_of names x
 entry_still names names' home Empty same none = refl
@@ -104,13 +100,16 @@ module _ (t t' : Tables) (a : AreTables t) (a' : AreTables t') (d : DrumWords) (
   abbrev p' : NumberedPages
   p' = plain_of t' d
 
-  module _ (q : NumberedPages) (words : List ℕ) (made : HasNew p q owner words) (maps : p'.maps ≡ q.maps) (files : p'.files ≡ q.files)
+  module _ (q : NumberedPages) (s : Slot) (b : Access) (words : List ℕ) (e : MapEntry) (made : IsMade p q owner s b words e) (maps : p'.maps ≡ q.maps) (files : q.files ≡ fin.empty)
       (terminals : p'.page_serials ≡ q.page_serials) (console : p'.console_serial ≡ q.console_serial) (limit : p'.limit ≡ p.limit)
       (name : name_at t'.names home ≡ Some (next_page p owner)) (others : (k : ℕ) → k ≢ home → name_at t'.names k ≡ name_at t.names k)
       (held : content t'.places d home ≡ Some words) (kept : (k : ℕ) → k ≢ home → content t'.places d k ≡ content t.places d k) where
     uses_same : (x : PageName) → uses p' x ≡ uses q x
     uses_same x =
-        uses_are p' x ∙ (λ i. sum_by (map_uses x) (fin.values (maps i)) + sum_by (tally x) (fin.values (files i))) ∙ sym (uses_are q x)
+        uses_are p' x ∙ (λ i. sum_by (map_uses x) (fin.values (maps i)) + sum_by (tally x) (fin.values (files_is i))) ∙ sym (uses_are q x)
+      where
+        files_is : p'.files ≡ q.files
+        files_is = sym files
 
     there : (x : PageName) → fin.contains_key q.objects x ≡ nat_lt 0 (uses p' x)
     there x = made.whole.named x ∙ ap (nat_lt 0) (sym (uses_same x))
@@ -148,4 +147,4 @@ module _ (t t' : Tables) (a : AreTables t) (a' : AreTables t') (d : DrumWords) (
 
     -- the plain pages are those with the page made
     pub told_made : p' ≡ q
-    told_made = same_pages p' q objects_same maps files terminals console (limit ∙ sym made.limit)
+    told_made = same_pages p' q objects_same maps (sym files) terminals console (limit ∙ sym made.limit)

@@ -12,7 +12,7 @@ use Rattle.page_contracts.specs.declared.answers.Found.{Found}
 use Rattle.page_contracts.specs.declared.answers.SpaceHandle.{SpaceHandle}
 use Rattle.page_contracts.specs.declared.answers.Touch.{Touch}
 use Rattle.page_contracts.specs.declared.answers.Touch.TheVariants.{Ready, Zero, Copy, NeedFrame, Full}
-use Rattle.page_contracts.specs.Pages.{PagesMeaning, StandsAt, StandsInSpace, TouchNeeds, UsesOne, absent_or, framed}
+use Rattle.page_contracts.specs.Pages.{PagesMeaning, StandsAt, TouchNeeds, UsesOne, absent_or, framed}
 use Rattle.page_contracts.specs.Stores.{StoreMeaning, HomePlace, free, away, here, IsMade, IsSound, IsUsed, Renews, away_at, away_home, is_here, place}
 use Rattle.flat_pages.specs.declared.chain_walk.Walk.{Walk}
 use Rattle.flat_pages.specs.declared.held_entry.EntryAt.{EntryAt}
@@ -38,20 +38,18 @@ along_walk found t s space e = by (index_of t.maps s.fork) refl e
         ∙ sym (ap (λ (o : Option ℕ). option_and_then (λ (w : Walk). option_and_then (λ h. found h.0) w.home) (option_and_then (λ i. walk t.maps (record { map = i; page = s.page })) o)) is)
 
 module _ {P S : Type 0} (store : StoreMeaning S) (part : P → S) (tables : P → Tables) (p : P) (at : Place) (home : ℕ) (stands : StandsAt (slots_meaning store part tables) p at home) (s : Slot) (is : at ≡ Fork s) (w : Walk) (walks : walk_of (tables p).maps s ≡ Some w) where
-  in_space : StandsInSpace (slots_meaning store part tables) p s home
-  in_space = subst (λ (x : Place). StandsAt (slots_meaning store part tables) p x home) is stands
-
   -- the page of a place that was found is at the end of its chain
-  found_by : option_and_then (λ h. store.found (part p) h.0) w.home ≡ Some in_space.found
+  found_by : option_and_then (λ h. store.found (part p) h.0) w.home ≡ Some stands.found
   found_by =
-      sym (ap (λ (o : Option Walk). option_and_then (λ v. option_and_then (λ h. store.found (part p) h.0) v.home) o) walks)
-      ∙ sym (along_walk (store.found (part p)) (tables p) s in_space.space in_space.named) ∙ in_space.there
+      let same : stands.slot ≡ s = (let z : Fork stands.slot ≡ Fork s = sym stands.is ∙ is in cc z) in
+      sym (ap (λ (o : Option Walk). option_and_then (λ v. option_and_then (λ h. store.found (part p) h.0) v.home) o) (ap (walk_of (tables p).maps) same ∙ walks))
+      ∙ sym (along_walk (store.found (part p)) (tables p) stands.slot stands.space stands.named) ∙ stands.there
 
   pub stands_home : IsSound store (part p) → (h : Home) → w.home ≡ Some h → h.0 ≡ home
-  stands_home sound h is_home = sound.apart h.0 home in_space.found (sym (ap (option_and_then (λ (x : Home). store.found (part p) x.0)) is_home) ∙ found_by) in_space.here
+  stands_home sound h is_home = sound.apart h.0 home stands.found (sym (ap (option_and_then (λ (x : Home). store.found (part p) x.0)) is_home) ∙ found_by) stands.here
 
   pub stands_nowhere : w.home ≡ None → ⊥
-  stands_nowhere none = (let z : None ≡ Some in_space.found = sym (ap (option_and_then (λ (x : Home). store.found (part p) x.0)) none) ∙ found_by in cc z)
+  stands_nowhere none = (let z : None ≡ Some stands.found = sym (ap (option_and_then (λ (x : Home). store.found (part p) x.0)) none) ∙ found_by in cc z)
 
   -- so that page is used
   pub used_at : (q : P) → IsSound store (part p) → (h : Home) → w.home ≡ Some h → IsUsed store h.0 (part p) (part q) → IsUsed (within store part) home p q
@@ -70,11 +68,13 @@ module _ {P S : Type 0} (store : StoreMeaning S) (part : P → S) (tables : P �
   found_of None e = absurd (cc e)
   found_of (Some found) e = (found, refl)
 
-  stands_slot : StandsInSpace means q s h.0
-  stands_slot =
+  stands_there : StandsAt means q at h.0
+  stands_there =
       let space = space_of (index_of (tables q).maps s.fork) lives in
       let found = found_of (store.found (part q) h.0) (sound.finds h.0 ∙ there) in
       record {
+        slot = s;
+        is = is;
         space = space.0;
         named = space.1;
         found = found.0;
@@ -82,9 +82,6 @@ module _ {P S : Type 0} (store : StoreMeaning S) (part : P → S) (tables : P �
             ∙ ap (option_and_then (λ (w : Walk). option_and_then (λ (x : Home). store.found (part q) x.0) w.home)) ends.is ∙ ap (option_and_then (λ (x : Home). store.found (part q) x.0)) ends.home ∙ found.1;
         here = found.1;
       }
-
-  stands_there : StandsAt means q at h.0
-  stands_there = subst (λ (x : Place). StandsAt means q x h.0) (sym is) stands_slot
 
   pub uses_there : Renews h.0 (store.tenant (part q)) (store.age (part p)) (store.age (part q)) → UsesOne means at p q
   uses_there renews = record { home = h.0; stands = stands_there; here = there; renews = renews }

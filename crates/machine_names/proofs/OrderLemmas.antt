@@ -5,10 +5,10 @@ use Rattle.std.specs.declared.cmp.Ordering.TheVariants.{Less, Equal, Greater}
 use Rattle.std.specs.Ordering.{is_eq, eq_by_cmp, nat_cmp, ordering_then}
 use Rattle.std.proofs.lemmas.Cmp.{nat_cmp_total, on_total, then_total}
 use Rattle.std.specs.Cmp.{IsTotalOrder, nat_cmp_total}
-use Rattle.std.specs.FinMap.{IsAntisymmetric, nat_cmp-IsAntisymmetric}
+use Rattle.std.specs.FinMap.{IsAntisymmetric, nat_cmp-IsAntisymmetric, slice_cmp-IsAntisymmetric}
 use Rattle.machine_names.specs.declared.names.ForkName.{ForkName}
 use Rattle.machine_names.specs.declared.names.PageName.{PageName}
-use Rattle.machine_names.specs.Orders.{fork_cmp, page_cmp, same_fork, file_page_cmp}
+use Rattle.machine_names.specs.Orders.{name_cmp, fork_cmp, page_cmp, same_fork, file_page_cmp}
 use Rattle.std.specs.Prelude.{◌==◌}
 
 pub fork_cmp_total : IsTotalOrder fork_cmp
@@ -53,8 +53,11 @@ page_tied p q = pairs_tied p.tty.0 q.tty.0 p.serial q.serial
 pub file_page_total : {K : Type 0} {file_cmp : K → K → Ordering} → IsTotalOrder file_cmp → IsTotalOrder (file_page_cmp file_cmp)
 file_page_total o = then_total (on_total (λ f. f.file) o) (on_total (λ f. f.page) nat_cmp_total)
 
+pub name_cmp_apart : IsAntisymmetric name_cmp
+name_cmp_apart = slice_cmp-IsAntisymmetric nat_cmp-IsAntisymmetric
+
 pub file_page_apart : {K : Type 0} {file_cmp : K → K → Ordering} → IsAntisymmetric file_cmp → IsAntisymmetric (file_page_cmp file_cmp)
-file_page_apart {file_cmp = file_cmp} same f g e =
-    let file = same f.file g.file (tied_first (file_cmp f.file g.file) (nat_cmp f.page g.page) e) in
+file_page_apart {file_cmp = file_cmp} apart f g e =
+    let file = apart f.file g.file (tied_first (file_cmp f.file g.file) (nat_cmp f.page g.page) e) in
     let page = nat_cmp-IsAntisymmetric f.page g.page (tied_second (file_cmp f.file g.file) (nat_cmp f.page g.page) e) in
     λ i. record { file = file i; page = page i }

@@ -3,9 +3,10 @@ use Rattle.std.specs.Prelude.{◌≡◌, ℕ, ◌<◌, ◌≤◌, true, List, []
 use Rattle.std.specs.Option.{unwrap_or}
 use Rattle.std.specs.Ordering.{nat_cmp}
 use Rattle.std.specs.FinMap as map
-use Rattle.machine_names.specs.declared.names.TheConstants.{MOST_FILES, TERMINALS}
+use Rattle.machine_names.specs.declared.names.TheConstants.{TERMINALS}
 use Rattle.machine_names.specs.Orders.{FilePage, file_page_cmp, name_cmp}
 use Rattle.plain_files.specs.declared.jfn.Jfn.{Jfn}
+use Rattle.machine_names.specs.declared.names.TheConstants.{MOST_FILES}
 use Rattle.plain_files.specs.declared.bounds.TheConstants.{MOST_JFNS}
 use Rattle.plain_files.specs.Sizes.{PlainFile, FitsFile, file_at}
 use Rattle.plain_files.specs.Directory.{Files}

@@ -1,7 +1,7 @@
 -- Copies: when a reference makes one, where it stands, and what it holds; and what a word that is put changes.
-use Rattle.std.proofs.Common.{◌≡◌, ◌≢◌, ℕ, Bool, true, false, cond, List, [], ◌∷◌, ◌++◌, Option, None, Some, inl, inr, refl, sym, ◌∙◌, ap, subst, Ordering}
-use Rattle.std.specs.Prelude.{find, is_some, slice_set, if◌then◌else◌}
-use Rattle.std.specs.Option.{option_map_or, option_and_then, unwrap_or}
+use Rattle.std.proofs.Common.{◌≡◌, ◌≢◌, Bool, true, false, List, [], ◌∷◌, ◌++◌, Option, None, Some, refl, sym, ◌∙◌, ap, subst, Ordering}
+use Rattle.std.specs.Prelude.{find, is_some, if◌then◌else◌}
+use Rattle.std.specs.Option.{option_map_or, option_and_then}
 use Rattle.std.specs.Cmp.{IsTotalOrder}
 use Rattle.std.specs.FinMap as map
 use Rattle.machine_names.specs.declared.names.Tty.{Tty}
@@ -13,13 +13,11 @@ use Rattle.plain_pages.specs.declared.map.MapEntry.TheVariants.{Empty}
 use Rattle.plain_pages.specs.PlainPages.{PlainPages}
 use Rattle.plain_pages.specs.Maps.{Link, Chain, chain, entry_at, full_access, permits, may}
 use Rattle.plain_pages.specs.Room.{HasRoom}
-use Rattle.plain_pages.specs.References.{in_map, Making, blank, copy, blanks, copy_in, copies, along_chain, private_access, makings, make, make_all, granted, denied, reference, next_page, words_of, words_at, page_at, with_word, stored}
+use Rattle.plain_pages.specs.References.{in_map, Making, blank, copy, blanks, copy_in, copies, along_chain, private_access, makings, make, make_all, granted, denied, reference, next_page, words_of, words_at}
 use Rattle.machine_names.specs.PageWords.{zero_words}
 use Rattle.machine_names.specs.Bounds.{IsOwner}
 use Rattle.plain_pages.specs.WholePages.{AreWhole}
 use Rattle.plain_laws.specs.Laws.{ReadsOn, HasCopy}
-use Rattle.machine_names.proofs.OrderLemmas.{page_tied, page_cmp_total}
-use Rattle.plain_pages.proofs.Counts.{page_tells, same_itself}
 use Rattle.plain_pages.proofs.Chains.{marked}
 use Rattle.plain_pages.proofs.Makings.{CanMake}
 use Rattle.plain_pages.proofs.Made.{IsMade, is_blank, is_copy, not_later}
@@ -166,46 +164,3 @@ module _ {K : Type 0} {file_cmp : K → K → Ordering} (o : IsTotalOrder file_c
 
           after : HasCopy p q s c l
           after = subst (λ (y : PlainPages file_cmp). HasCopy p y s c l) (one_making z q the_copy went) (last_copy p z w r s c l h f made.others (makings_can o z owner (in_map s) Write the_copy [] rest))
-
-module _ {K : Type 0} {file_cmp : K → K → Ordering} (p : PlainPages file_cmp) (at : Slot) (offset word : ℕ) where
-  -- a word that is put changes no entry
-  pub stored_maps : (stored p (in_map at) offset word).maps ≡ p.maps
-  stored_maps = by (page_at p (in_map at))
-    where
-      by : (n : Option PageName) → (option_map_or (with_word p offset word) n p).maps ≡ p.maps
-      by None = refl
-      by (Some n) = refl
-
-  pub stored_page : (s : Slot) → page_at (stored p (in_map at) offset word) (in_map s) ≡ page_at p (in_map s)
-  unfolding page_at
-  stored_page s = ap (λ maps. option_and_then (λ (c : Chain). c.page) (chain (entry_at maps) s)) stored_maps
-
-  -- nor a word of another page
-  pub stored_words : (n : PageName) → ((m : PageName) → page_at p (in_map at) ≡ Some m → n ≢ m) → words_of (stored p (in_map at) offset word) n ≡ words_of p n
-  stored_words n other = by (page_at p (in_map at)) refl
-    where
-      by : (m : Option PageName) → page_at p (in_map at) ≡ m → words_of (option_map_or (with_word p offset word) m p) n ≡ words_of p n
-      by None is = refl
-      by (Some m) is = elim (page_tells n m) [
-        | inl e ↦ absurd (other m is e.1)
-        | inr e ↦ ap (λ (o : Option (List ℕ)). unwrap_or o zero_words) (map.get-insert page_cmp_total p.objects m (slice_set (words_of p m) offset word) n ∙ ap (λ b. cond b (Some (slice_set (words_of p m) offset word)) (map.get p.objects n)) (page_tied n m ∙ e.0))
-      ]
-
-  -- whoever has its page reads it
-  pub stored_read : (s : Slot) (m : PageName) → page_at p (in_map at) ≡ Some m → page_at p (in_map s) ≡ Some m → words_at (stored p (in_map at) offset word) (in_map s) ≡ slice_set (words_at p (in_map s)) offset word
-  stored_read s m is there = ap (λ (n : Option PageName). option_map_or (words_of q) n zero_words) (stored_page s ∙ there) ∙ by ∙ ap (λ (n : Option PageName). slice_set (option_map_or (words_of p) n zero_words) offset word) (sym there)
-    where
-      q : PlainPages file_cmp
-      q = stored p (in_map at) offset word
-
-      by : words_of q m ≡ slice_set (words_of p m) offset word
-      by = ap (λ (n : Option PageName). words_of (option_map_or (with_word p offset word) n p) m) is
-          ∙ ap (λ (o : Option (List ℕ)). unwrap_or o zero_words) (map.get-insert page_cmp_total p.objects m (slice_set (words_of p m) offset word) m ∙ ap (λ b. cond b (Some (slice_set (words_of p m) offset word)) (map.get p.objects m)) (page_tied m m ∙ same_itself m))
-
-  -- and nobody else reads another word
-  pub stored_other : (s : Slot) → page_at p (in_map s) ≢ page_at p (in_map at) → words_at (stored p (in_map at) offset word) (in_map s) ≡ words_at p (in_map s)
-  stored_other s apart = ap (λ (n : Option PageName). option_map_or (words_of (stored p (in_map at) offset word)) n zero_words) (stored_page s) ∙ by (page_at p (in_map s)) refl
-    where
-      by : (n : Option PageName) → page_at p (in_map s) ≡ n → option_map_or (words_of (stored p (in_map at) offset word)) n zero_words ≡ option_map_or (words_of p) n zero_words
-      by None is = refl
-      by (Some n) is = stored_words n (λ m there same. apart (is ∙ ap Some same ∙ sym there))

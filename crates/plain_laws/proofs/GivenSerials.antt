@@ -120,7 +120,7 @@ module _ (next : Tty → ℕ) where
     Holds p = AreGiven next p.maps
 
     stored_given : (p : PlainPages file_cmp) (s : Slot) (offset word : ℕ) → Holds p → Holds (stored p (in_map s) offset word)
-    stored_given p s offset word given = subst (AreGiven next) (sym (stored_maps p s offset word)) given
+    stored_given p s offset word given = subst (AreGiven next) (sym (stored_maps p (in_map s) offset word)) given
 
     names_given : (p : PlainPages file_cmp) (s : Slot) (owner : Tty) (access : Access) → Holds p → AreGiven next (set_entry p.maps s (Names (next_page p owner) access))
     names_given p s owner access given = set_given p.maps s (Names (next_page p owner) access) given (λ serial page a is. absurd (cc is))

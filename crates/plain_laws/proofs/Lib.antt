@@ -1,9 +1,13 @@
+pub mod FilesKept
 pub mod MapEnds
 pub mod Led
 pub mod GivenSerials
 pub mod Named
 pub mod WholeForks
 pub mod Waiters
+pub mod Stored
+pub mod Rows
+pub mod WordsWritten
 pub mod WholeRuns
 pub mod ExampleTexts
 pub mod ExampleRun
@@ -18,4 +22,7 @@ pub mod OtherMaps
 pub mod OtherJobs
 pub mod UnitForks
 pub mod UnitJobs
+pub mod RowsPut
+pub mod FilesMade
+pub mod Shown
 pub mod Moving

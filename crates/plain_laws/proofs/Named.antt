@@ -1,6 +1,6 @@
 -- Each fork stands under its own name, which is within its limits; so are the entries that events may have.
 use Rattle.std.proofs.Common.{◌≡◌, ℕ, zero, suc, ◌+◌, ◌%◌, ◌≤◌, inl, inr, List, [], ◌∷◌, ◌++◌, length, Bool, true, false, cond, Option, None, Some, refl, sym, ◌∙◌, ap, subst, arith, All}
-use Rattle.std.specs.Prelude.{is_some, nat_lt, ◌||◌}
+use Rattle.std.specs.Prelude.{is_some, nat_lt, take, ◌||◌}
 use Rattle.std.specs.List.{range_with_len}
 use Rattle.std.specs.Option.{option_map_or}
 use Rattle.std.specs.Ordering.{eq_by_cmp}
@@ -27,7 +27,7 @@ use Rattle.plain_pages.specs.PlainPages.{NamedPages, first_serials}
 use Rattle.machine_names.specs.Orders.{fork_cmp, name_cmp}
 use Rattle.plain_model.specs.Forks.{ForkMap, fork_in, superior_of, top_fork, with_fork, change_fork, with_status, with_regs, counted}
 use Rattle.plain_model.specs.Interrupts.{posted, pended, listens, is_panic}
-use Rattle.plain_pages.specs.References.{Referred, granted, denied, full, in_map, reference, slot_at}
+use Rattle.plain_pages.specs.References.{Referred, granted, denied, full, in_map, page_at, reference, slot_at}
 use Rattle.plain_pages.specs.Room.{HasRoom}
 use Rattle.plain_units.specs.declared.channel.TheConstants.{ILLEGAL_INSTRUCTION, INFERIOR_ENDED}
 use Rattle.plain_model.specs.Unit.{Effect, in_command_mode, with_stopped, stopped, unit_ended, trapped, called, went, over, unit, parts_of, with_parts}
@@ -43,6 +43,9 @@ use Rattle.plain_model.specs.Trees.{tree_of, next_serial, next_name, with_made, 
 use Rattle.plain_model.specs.ForkCalls.{ForkParts, without, without_below, killed, with_halted, fork_changed}
 use Rattle.plain_units.specs.Steps.{Planned, Ending, done, call, trap, need, stopped as unit_stopped, pages_left}
 use Rattle.plain_pages.specs.declared.map.NewMap.TheVariants.{Empty as EmptyMap}
+use Rattle.machine_names.specs.declared.names.TheConstants.{MOST_FILES}
+use Rattle.plain_files.specs.Sizes.{PlainFile}
+use Rattle.plain_model.specs.FileEvents.{console, page_named, written}
 use Rattle.plain_model.specs.Events.{at_job, with_job, restarted, login, poked, poked_at, poke, start, word_seen, examined_in, examine, show_forks, outer}
 use Rattle.plain_pages.specs.NewMaps.{with_map}
 use Rattle.machine_names.specs.Bounds.{IsForkName, IsTerminal}
@@ -322,6 +325,11 @@ module _ (s : PlainState) (n : IsNamed s) where
   forks_named : (t : Tty) → Leaves (show_forks s t)
   forks_named t = job_named t _ (λ j. n)
 
+  words_named : (name : List ℕ) (page offset : ℕ) (words : List ℕ) (f : PlainFile) (r : Referred name_cmp) → Leaves (written s name page offset words f r)
+  words_named name page offset words f (granted p) = n
+  words_named name page offset words f (denied kind) = n
+  words_named name page offset words f full = n
+
   outer_named : (e : Event) → FitsEvent e → Leaves (outer s e)
   unfolding outer
   outer_named (Login t user) fits = login_named t user fits.0
@@ -331,13 +339,15 @@ module _ (s : PlainState) (n : IsNamed s) where
   outer_named (Forks t) fits = forks_named t
   outer_named Tick fits = n
   outer_named (TypeIn t text) fits = n
-  outer_named (File name) fits = n
-  outer_named (Words name page offset row) fits = n
+  outer_named (File name) fits = cond_both (is_some (map.get s.files name)) _ _ Leaves (λ there. n) (λ absent. cond_both (nat_lt (map.len s.files) MOST_FILES) _ _ Leaves (λ room. n) (λ full. n))
+  outer_named (Words name page offset row) fits =
+      let words = take row.count row.words in
+      looked_up Leaves _ _ (map.get s.files name) (λ f there. words_named name page offset words f (reference s.pages (page_named name page) Write console)) (λ none. n)
   outer_named (Run times) fits = n
   outer_named (Evict frame) fits = n
   outer_named (Drum transfers) fits = n
   outer_named (Auto on) fits = n
-  outer_named (Page name page) fits = n
+  outer_named (Page name page) fits = looked_up Leaves _ _ (map.get s.files name) (λ f there. looked_up Leaves _ _ (page_at s.pages (page_named name page)) (λ x is. n) (λ none. n)) (λ none. n)
   outer_named (Trace on) fits = n
 
   step_named : (x : Step) → FitsStep x → Leaves (apply s x)

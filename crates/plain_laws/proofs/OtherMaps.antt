@@ -141,7 +141,7 @@ module _ (t : Tty) (k : ForkName) (other : k.tty.0 ≡ t.0 → ⊥) where
         refers_on q r a kind w is = reference_other o f.tty q r (slot_at f a) kind here is ∙ w
 
         stores_on : (q : PlainPages file_cmp) (s : Slot) (offset word : ℕ) → Elsewhere p q → Elsewhere p (stored q (in_map s) offset word)
-        stores_on q s offset word w = ap (λ (m : Maps). map.get m k) (stored_maps q s offset word) ∙ w
+        stores_on q s offset word w = ap (λ (m : Maps). map.get m k) (stored_maps q (in_map s) offset word) ∙ w
 
         pub run_other : (steps : Steps) (u : Progress file_cmp) → Elsewhere p u.pages → PlanLeaves (λ q. Elsewhere p q) f (run (plainly f) f steps u)
         run_other steps u w = run_led f (λ q. Elsewhere p q) refers_on stores_on steps u w

@@ -15,7 +15,6 @@ use Rattle.outside.specs.declared.TheConstants.{PAGE_WORDS}
 use Rattle.machine_names.specs.declared.names.TheConstants.{LAST_SERIAL, MOST_FORKS, TERMINALS}
 use Rattle.machine_names.specs.declared.names.Tty.{Tty}
 use Rattle.machine_names.specs.declared.names.ForkName.{ForkName}
-use Rattle.machine_names.specs.declared.names.PageName.{PageName}
 use Rattle.plain_pages.specs.declared.map.NewMap.{NewMap}
 use Rattle.plain_pages.specs.declared.map.NewMap.TheVariants.{Empty as EmptyMap, FollowAll}
 use Rattle.plain_units.specs.Deeds.{in_ac}
@@ -44,6 +43,8 @@ use Rattle.plain_units.specs.Blocks.{next_address, stored_from}
 use Rattle.plain_model.specs.Calls.{with_error, fork_behind, no_files, parts_behind, posted_if, turn_on, Asked}
 use Rattle.plain_model.specs.ForkCalls.{fork_call, map_wanted, ForkParts, without, without_below, killed, with_halted, fork_changed}
 use Rattle.plain_pages.specs.WholePages.{AreWhole}
+use Rattle.plain_laws.specs.WholeFiles.{Files, FilePages, Jobs, AreOpen, AreFilesWhole}
+use Rattle.plain_laws.proofs.FilesKept.{job_put}
 use Rattle.plain_laws.specs.Whole.{AreGiven, IsWhole}
 use Rattle.plain_laws.proofs.GivenSerials.{IsNewGiven, added_given, removed_given, run_given, words_given}
 use Rattle.plain_units.proofs.Lookups.{looked_up}
@@ -116,12 +117,12 @@ module _ (s : PlainState) (w : IsWhole s) where
   pub fork_whole : (name : ForkName) (f g : Fork) → map.get s.forks name ≡ Some f → g.name ≡ name → g.slot ≡ f.slot → g.superior ≡ f.superior → IsWhole (with_fork s g)
   fork_whole name f g there named slot superior = subst (λ k. IsWhole (record s { forks = map.insert s.forks k g })) (sym named) (fork_at_whole name f g there named slot superior)
 
-  -- a job changed that keeps its top fork
-  pub job_whole : (t : ℕ) (j k : PlainJob) → map.get s.jobs t ≡ Some j → k.top ≡ j.top → IsWhole (record s { jobs = map.insert s.jobs t k })
-  job_whole t j k there top = record {
+  -- a job changed that keeps its top fork, and whose JFNs fit
+  pub job_whole : (t : ℕ) (j k : PlainJob) → map.get s.jobs t ≡ Some j → k.top ≡ j.top → AreOpen s.files k.jfns → IsWhole (record s { jobs = map.insert s.jobs t k })
+  job_whole t j k there top fit = record {
     pages = w.pages;
     room = w.room;
-    files = w.files;
+    files = job_put s.files s.pages.files s.jobs w.files t k fit;
     forks = w.forks;
     tree = w.tree;
     given = w.given;
@@ -140,17 +141,21 @@ module _ (s : PlainState) (w : IsWhole s) where
           (f.0, ap (λ (x : PlainJob). map.get s.forks x.top) (sym here) ∙ ap (map.get s.forks) top ∙ f.1, f.2, f.3)
       at u i false is = w.tops u i is
 
-  pub pages_whole : (q : NamedPages) → AreWhole q → live q ≤ q.limit → q.files ≡ s.pages.files → ((f : ForkName) → map.contains_key q.maps f ≡ map.contains_key s.pages.maps f) → AreGiven (next_serial (tree_of s)) q.maps → IsWhole (record s { pages = q })
-  pages_whole q whole room files keys given = record {
+  -- other pages and other files, with the forks of these
+  pub filed_whole : (q : NamedPages) (files : Files) → AreWhole q → live q ≤ q.limit → AreFilesWhole files q.files s.jobs → ((f : ForkName) → map.contains_key q.maps f ≡ map.contains_key s.pages.maps f) → AreGiven (next_serial (tree_of s)) q.maps → IsWhole (record s { pages = q; files = files })
+  filed_whole q files whole room filed keys given = record {
     pages = whole;
     room = room;
-    files = λ f h. w.files f (ap (λ (m : map.FinMap _ PageName). map.contains_key m f) (sym files) ∙ h);
+    files = filed;
     forks = λ f. w.forks f ∙ sym (keys f);
     tree = w.tree;
     given = given;
     homes = w.homes;
     tops = w.tops;
   }
+
+  pub pages_whole : (q : NamedPages) → AreWhole q → live q ≤ q.limit → q.files ≡ s.pages.files → ((f : ForkName) → map.contains_key q.maps f ≡ map.contains_key s.pages.maps f) → AreGiven (next_serial (tree_of s)) q.maps → IsWhole (record s { pages = q })
+  pages_whole q whole room files keys given = filed_whole q s.files whole room (subst (λ (m : FilePages). AreFilesWhole s.files m s.jobs) (sym files) w.files) keys given
 
   pub sound : AreSound s.pages
   sound = record { whole = w.pages; room = w.room }
@@ -249,7 +254,7 @@ module _ (s : PlainState) (w : IsWhole s) (name : ForkName) where
       with_pages q whole room files maps = record {
         pages = whole;
         room = room;
-        files = λ f h. w.files f (ap (λ (m : map.FinMap _ PageName). map.contains_key m f) (sym files) ∙ h);
+        files = subst (λ (m : FilePages). AreFilesWhole s.files m s.jobs) (sym files) w.files;
         forks = keys q.maps maps;
         tree = tree_left;
         given = subst (AreGiven (next_serial (tree_of s))) (sym maps) (removed_given (next_serial (tree_of s)) s.pages.maps name w.given);
@@ -367,7 +372,7 @@ stored_from_kept p w f at (word ∷ words) =
     let slot = slot_at f at in
     let q = stored p (in_map slot) (at % PAGE_WORDS) word in
     cond_both (is_accumulator at) p q (λ x. Keeps p (stored_from x f (next_address at) words)) (λ low. stored_from_kept p w f (next_address at) words)
-    (λ high. let k = stored_kept p slot (at % PAGE_WORDS) word nat_list_cmp_total w in kept_on p q (stored_from q f (next_address at) words) k (stored_from_kept q k.sound f (next_address at) words))
+    (λ high. let k = stored_kept p (in_map slot) (at % PAGE_WORDS) word nat_list_cmp_total w in kept_on p q (stored_from q f (next_address at) words) k (stored_from_kept q k.sound f (next_address at) words))
 
 module _ (s : PlainState) (w : IsWhole s) where
   -- no fork has the next name
@@ -376,9 +381,6 @@ module _ (s : PlainState) (w : IsWhole s) where
 
   pub next_absent : (t : Tty) → map.get s.pages.maps (next_name (tree_of s) t) ≡ None
   next_absent t = empty_of (map.get s.pages.maps (next_name (tree_of s) t)) (sym (w.forks (next_name (tree_of s) t)) ∙ no_fork t)
-
-  abbrev pub Jobs : Type 0
-  Jobs = map.FinMap nat_cmp PlainJob
 
   -- the top forks of jobs stay where a fork is made
   pub kept_tops : (t : Tty) (f : Fork) (u : ℕ) (j : PlainJob) → map.get s.jobs u ≡ Some j → (x : Fork) × (map.get (map.insert s.forks (next_name (tree_of s) t) f) j.top ≡ Some x) × (x.slot ≡ 1) × (x.superior ≡ None)
@@ -392,7 +394,7 @@ module _ (s : PlainState) (w : IsWhole s) where
   -- a fork with the next name, and its map, leave the state whole
   module _ (t : Tty) (terminal : IsTerminal t) (f : Fork) (entries : NewMap) (q : NamedPages) (sound : AreSound q) (files : q.files ≡ s.pages.files)
       (keys : (k : ForkName) → map.contains_key q.maps k ≡ map.contains_key (with_map s.pages (next_name (tree_of s) t) entries).maps k)
-      (jobs : Jobs) (tops : (u : ℕ) (j : PlainJob) → map.get jobs u ≡ Some j → (x : Fork) × (map.get (map.insert s.forks (next_name (tree_of s) t) f) j.top ≡ Some x) × (x.slot ≡ 1) × (x.superior ≡ None))
+      (jobs : Jobs) (filed : AreFilesWhole s.files s.pages.files jobs) (tops : (u : ℕ) (j : PlainJob) → map.get jobs u ≡ Some j → (x : Fork) × (map.get (map.insert s.forks (next_name (tree_of s) t) f) j.top ≡ Some x) × (x.slot ≡ 1) × (x.superior ≡ None))
       (have : (u : ℕ) → map.contains_key s.jobs u ≡ true → map.contains_key jobs u ≡ true) (home : map.contains_key jobs t.0 ≡ true)
       (given : AreGiven (next_serial (tree_of s)) q.maps) (few : next_serial (tree_of s) t ≤ LAST_SERIAL) (free : free_slot s.forks t ≡ Some f.slot) (over : MatchOption f.superior (fork_in s.forks t 1 ≡ None) (λ slot. IsSome (fork_in s.forks t slot))) where
     name : ForkName
@@ -403,7 +405,7 @@ module _ (s : PlainState) (w : IsWhole s) where
     made_at_whole named = record {
       pages = sound.whole;
       room = sound.room;
-      files = λ g h. w.files g (ap (λ (m : map.FinMap _ PageName). map.contains_key m g) (sym files) ∙ h);
+      files = subst (λ (m : FilePages). AreFilesWhole s.files m jobs) (sym files) filed;
       forks = λ k. alike k ∙ sym (keys k);
       tree = made_so named;
       given = λ at serial page a is. let more = grown at.fork.tty in omega (arith, given at serial page a is, more);
@@ -467,7 +469,7 @@ module _ (s : PlainState) (w : IsWhole s) where
     unfolding fork_changed
     change_whole Nothing k given = keeps_whole s w q k given
     change_whole (Make f) made given =
-        made_whole who.tty terminal f (map_wanted caller) q made.pages.sound made.pages.forks.files made.pages.forks.keys s.jobs (λ u j is. kept_tops who.tty f u j is) (λ u h. h) (w.homes who lives)
+        made_whole who.tty terminal f (map_wanted caller) q made.pages.sound made.pages.forks.files made.pages.forks.keys s.jobs w.files (λ u j is. kept_tops who.tty f u j is) (λ u h. h) (w.homes who lives)
         given.pages (few_serials made.serial) made.slot (subst (λ o. MatchOption o (fork_in s.forks who.tty 1 ≡ None) (λ slot. IsSome (fork_in s.forks who.tty slot))) (sym made.superior) caller_over) made.name
     change_whole (Kill f) fits given = killed_whole (record s { pages = q }) (keeps_whole s w q fits.1 given.1) f (no_top f fits.0)
     change_whole (Freeze f on) fits given = mark_whole (record s { pages = q }) (keeps_whole s w q fits.1 given.1) f on

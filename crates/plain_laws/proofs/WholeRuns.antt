@@ -1,7 +1,7 @@
 -- The plain state is whole wherever a run comes.
-use Rattle.std.proofs.Common.{◌≡◌, ℕ, suc, ◌+◌, ◌%◌, ◌<◌, ◌≤◌, Bool, true, false, cond, List, [], ◌∷◌, Option, None, Some, inl, refl, sym, ◌∙◌, ap, subst, arith, All}
+use Rattle.std.proofs.Common.{◌≡◌, ℕ, suc, ◌+◌, ◌%◌, ◌<◌, ◌≤◌, Bool, true, false, cond, List, [], ◌∷◌, Option, None, Some, inl, inr, refl, sym, ◌∙◌, ap, subst, arith, All}
 use Rattle.std.specs.Option.{option_and_then}
-use Rattle.std.specs.Prelude.{is_none, is_some, nat_lt, slice_get, slice_index}
+use Rattle.std.specs.Prelude.{is_none, is_some, nat_lt, slice_get, slice_index, take}
 use Rattle.std.specs.List.{find, range_with_len}
 use Rattle.std.specs.Ordering.{eq_by_cmp, nat_cmp}
 use Rattle.std.specs.Cmp.{nat_cmp_total}
@@ -21,8 +21,8 @@ use Rattle.plain_model.specs.State.{PlainState, PlainJob, opening}
 use Rattle.plain_pages.specs.PlainPages.{NamedPages, Map, opening_pages}
 use Rattle.machine_names.specs.Orders.{fork_cmp, page_cmp, name_cmp}
 use Rattle.plain_pages.specs.Room.{HasRoom, live}
-use Rattle.plain_pages.specs.References.{in_map, Referred, granted, denied, full, reference, stored, slot_at}
-use Rattle.machine_names.specs.Bounds.{IsOwner, IsForkName, IsTerminal}
+use Rattle.plain_pages.specs.References.{in_map, Referred, granted, denied, full, page_at, reference, stored, slot_at}
+use Rattle.machine_names.specs.Bounds.{IsFileName, IsOwner, IsForkName, IsTerminal}
 use Rattle.machine_names.specs.declared.names.Kind.TheVariants.{Write}
 use Rattle.plain_model.specs.declared.fork.TerminalMode.TheVariants.{Command, Program}
 use Rattle.script_texts.specs.declared.status.ForkStatus.{ForkStatus}
@@ -39,6 +39,9 @@ use Rattle.script_texts.specs.declared.event.Step.TheVariants.{Outer, Unit as AU
 use Rattle.plain_model.specs.Run.{apply, state_after}
 use Rattle.plain_pages.specs.declared.map.NewMap.TheVariants.{Empty as EmptyMap}
 use Rattle.plain_pages.specs.NewMaps.{with_map}
+use Rattle.machine_names.specs.declared.names.TheConstants.{MOST_FILES}
+use Rattle.plain_files.specs.Sizes.{new_file}
+use Rattle.plain_model.specs.FileEvents.{make_file, page_named}
 use Rattle.plain_model.specs.Events.{at_job, new_job, with_job, login, poked, poked_at, poke, restarted, start, started, word_seen, examined_in, outer}
 use Rattle.script_texts.specs.Limits.{FitsEvent, FitsStep}
 use Rattle.plain_model.specs.Trees.{free_slot, is_free, next_serial, tree_of, next_name}
@@ -52,6 +55,8 @@ use Rattle.fork_tree.proofs.Kept.{none_tree}
 use Rattle.fork_tree.proofs.Slots.{in_none}
 use Rattle.plain_model.specs.Forks.{ForkMap, fork_in, top_fork, with_fork, with_regs, counted, change_fork}
 use Rattle.plain_laws.specs.Whole.{AreGiven, IsWhole}
+use Rattle.plain_laws.proofs.FilesKept.{file_put, job_put, no_files_whole, none_open}
+use Rattle.plain_laws.proofs.WordsWritten.{new_fits, row_within, words_whole}
 use Rattle.plain_laws.proofs.GivenSerials.{IsGivenChange, added_given, change_given, poked_given, run_given}
 use Rattle.plain_laws.proofs.MapEnds.{ChangeIn, EndIn, map_call_in}
 use Rattle.plain_units.proofs.Lookups.{looked_up}
@@ -60,7 +65,7 @@ use Rattle.plain_pages.proofs.Whole.{opening_whole, map_whole, live_whole}
 use Rattle.plain_pages.proofs.ReferencesMade.{has_room}
 use Rattle.plain_model.proofs.MapTurns.{turn_whole}
 use Rattle.plain_units.proofs.PageRuns.{AreSound, PlanKeeps, PlanLeaves, kept_itself, kept_on, reference_kept, run_kept, stored_kept}
-use Rattle.plain_laws.proofs.WholeForks.{lived_given, kept_tops, job_whole, pages_whole, sound, keeps_whole, behind_same, put, told_whole, made_whole, next_absent, fork_called_whole}
+use Rattle.plain_laws.proofs.WholeForks.{lived_given, kept_tops, job_whole, filed_whole, pages_whole, sound, keeps_whole, behind_same, put, told_whole, made_whole, next_absent, fork_called_whole}
 use Rattle.plain_model.proofs.Posted.{IsSame, posted_same}
 use Rattle.plain_model.proofs.Calling.{fork_came, fork_left, fork_called, fork_turned, map_came, map_pages, map_turned, own_came, own_turned, none_turned, MakesNone, caller_by, called_by, map_by, own_by}
 use Rattle.plain_units.specs.declared.channel.TheConstants.{ILLEGAL_INSTRUCTION}
@@ -72,7 +77,7 @@ unfolding opening opening_pages
 whole_opening limit = record {
   pages = opening_whole name_cmp limit;
   room = subst (λ n. n ≤ limit) (sym none_live) (omega arith);
-  files = λ f h. absurd (cc (sym (ap is_some (map.get-empty _ f)) ∙ h));
+  files = no_files_whole;
   forks = λ f. none f ∙ sym (no_map f);
   tree = none_tree;
   given = λ at serial page a is. (let no : None ≡ Some (Follows serial page a) = sym (ap (λ (o : Option Map). option_and_then (λ (m : Map). slice_get m at.page) o) (map.get-empty fork_cmp at.fork)) ∙ is in absurd (cc no));
@@ -94,7 +99,7 @@ abbrev Leaves : Effect → Type 0
 Leaves e = IsWhole e.state
 
 mode_whole : (s : PlainState) → IsWhole s → (t : Tty) → IsWhole (in_command_mode s t)
-mode_whole s w t = looked_up IsWhole _ s (map.get s.jobs t.0) (λ j is. job_whole s w t.0 j (record j { mode = Command }) is refl) (λ none. w)
+mode_whole s w t = looked_up IsWhole _ s (map.get s.jobs t.0) (λ j is. job_whole s w t.0 j (record j { mode = Command }) is refl (w.files.jfns t.0 j is)) (λ none. w)
 
 module _ (s : PlainState) (w : IsWhole s) (name : ForkName) (f : Fork) (there : map.get s.forks name ≡ Some f) where
   stopped_whole : (g : Fork) → IsSame f g → Leaves (stopped s g)
@@ -201,7 +206,7 @@ module _ (s : PlainState) (w : IsWhole s) where
   changed_whole name change same = looked_up IsWhole _ s (map.get s.forks name) (λ f is. put s w name f is (change f) (same f)) (λ none. w)
 
   with_job_whole : (t : Tty) (user : List ℕ) → IsTerminal t → is_some (map.get s.jobs t.0) ≡ false → nat_lt LAST_SERIAL (next_serial (tree_of s) t) ≡ false → HasRoom (with_map s.pages (next_name (tree_of s) t) EmptyMap) t ≡ true → IsWhole (with_job s t user)
-  with_job_whole t user terminal no_job few room = made_whole s w t terminal (top_fork f) EmptyMap (with_map s.pages f EmptyMap) sound refl (λ k. refl) jobs tops have home (added_given (next_serial (tree_of s)) s.pages.maps f EmptyMap w.given tt) (few_serials few) (first_free s.forks t none_in) none_in refl
+  with_job_whole t user terminal no_job few room = made_whole s w t terminal (top_fork f) EmptyMap (with_map s.pages f EmptyMap) sound refl (λ k. refl) jobs (job_put s.files s.pages.files s.jobs w.files t.0 (new_job user f) (none_open s.files)) tops have home (added_given (next_serial (tree_of s)) s.pages.maps f EmptyMap w.given tt) (few_serials few) (first_free s.forks t none_in) none_in refl
     where
       f : ForkName
       f = next_name (tree_of s) t
@@ -250,7 +255,7 @@ module _ (s : PlainState) (w : IsWhole s) where
   poked_whole t terminal at offset word (granted q) is =
       let k = reference_kept nat_list_cmp_total t (inl terminal) s.pages q at Write (sound s w) is in
       let r = stored q (in_map at) offset word in
-      keeps_whole s w r (kept_on s.pages q r k (stored_kept q at offset word nat_list_cmp_total k.sound)) (poked_given (next_serial (tree_of s)) nat_list_cmp_total t s.pages q at Write offset word w.given is)
+      keeps_whole s w r (kept_on s.pages q r k (stored_kept q (in_map at) offset word nat_list_cmp_total k.sound)) (poked_given (next_serial (tree_of s)) nat_list_cmp_total t s.pages q at Write offset word w.given is)
   poked_whole t terminal at offset word (denied kind) is = w
   poked_whole t terminal at offset word full is = w
 
@@ -272,8 +277,19 @@ module _ (s : PlainState) (w : IsWhole s) where
       does j is =
           let c = change_fork s j.top (restarted address) in
           let same = jobs_stay j in
-          let m = job_whole c (changed_whole j.top (restarted address) (λ f. (refl, refl, refl))) t.0 j (record j { mode = Program }) (ap (λ x. map.get x t.0) same ∙ is) refl in
+          let there : map.get c.jobs t.0 ≡ Some j = ap (λ x. map.get x t.0) same ∙ is in
+          let whole = changed_whole j.top (restarted address) (λ f. (refl, refl, refl)) in
+          let m = job_whole c whole t.0 j (record j { mode = Program }) there refl (whole.files.jfns t.0 j there) in
           subst (λ x. IsWhole (record c { jobs = map.insert x t.0 (record j { mode = Program }) })) same m
+
+  file_whole : (name : List ℕ) → IsFileName name → Leaves (make_file s name)
+  file_whole name named =
+      cond_both (is_some (map.get s.files name)) _ _ Leaves (λ there. w) (λ absent.
+      cond_both (nat_lt (map.len s.files) MOST_FILES) _ _ Leaves (λ room.
+      filed_whole s w s.pages (map.insert s.files name new_file) w.pages w.room (file_put s.files s.pages.files s.jobs w.files name new_file named new_fits (inr (below room))) (λ f. refl) w.given) (λ none. w))
+    where
+      below : nat_lt (map.len s.files) MOST_FILES ≡ true → map.len s.files < MOST_FILES
+      below h = grind (arith, nat_tests)
 
   outer_whole : (e : Event) → FitsEvent e → Leaves (outer s e)
   unfolding outer
@@ -286,13 +302,13 @@ module _ (s : PlainState) (w : IsWhole s) where
   outer_whole Tick fits = record { pages = w.pages; room = w.room; files = w.files; forks = w.forks; tree = w.tree; given = w.given; homes = w.homes; tops = w.tops }
   outer_whole (Trace on) fits = record { pages = w.pages; room = w.room; files = w.files; forks = w.forks; tree = w.tree; given = w.given; homes = w.homes; tops = w.tops }
   outer_whole (TypeIn t text) fits = w
-  outer_whole (File name) fits = w
-  outer_whole (Words name page offset row) fits = w
+  outer_whole (File name) fits = file_whole name fits
+  outer_whole (Words name page offset row) fits = words_whole s name page offset (take row.count row.words) w fits.0 fits.1 (row_within offset row fits.2)
   outer_whole (Run n) fits = w
   outer_whole (Evict n) fits = w
   outer_whole (Drum n) fits = w
   outer_whole (Auto on) fits = w
-  outer_whole (Page name page) fits = w
+  outer_whole (Page name page) fits = looked_up Leaves _ _ (map.get s.files name) (λ f there. looked_up Leaves _ _ (page_at s.pages (page_named name page)) (λ n is. w) (λ none. w)) (λ none. w)
 
   -- an entry within its limits leaves a whole state whole
   pub step_whole : (x : Step) → FitsStep x → IsWhole (apply s x).state

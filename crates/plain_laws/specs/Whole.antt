@@ -1,5 +1,5 @@
--- What holds of the plain state wherever a run comes: its pages and its trees of forks are whole.
-use Rattle.std.specs.Prelude.{◌≡◌, ℕ, ◌<◌, List, true, None, Some}
+-- What holds of the plain state wherever a run comes: its pages, its files and its trees of forks are whole.
+use Rattle.std.specs.Prelude.{◌≡◌, ℕ, ◌<◌, true, None, Some}
 use Rattle.std.specs.FinMap as map
 use Rattle.machine_names.specs.declared.names.Access.{Access}
 use Rattle.machine_names.specs.declared.names.ForkName.{ForkName}
@@ -10,23 +10,23 @@ use Rattle.plain_pages.specs.PlainPages.{Maps}
 use Rattle.plain_pages.specs.Maps.{entry_at}
 use Rattle.plain_model.specs.declared.fork.Fork.{Fork}
 use Rattle.plain_model.specs.State.{PlainState, PlainJob}
-use Rattle.machine_names.specs.Orders.{FilePage}
 use Rattle.plain_pages.specs.Room.{FitsLimit}
 use Rattle.plain_pages.specs.WholePages.{AreWhole}
 use Rattle.plain_model.specs.Trees.{next_serial, tree_of}
 use Rattle.fork_tree.specs.Trees.{IsTree}
+use Rattle.plain_laws.specs.WholeFiles.{AreFilesWhole}
 
 -- each serial that an entry follows, of its own terminal, is below that terminal's next one: it was given out
 abbrev pub AreGiven : (Tty → ℕ) → Maps → Type 0
 AreGiven next maps = (at : Slot) (serial page : ℕ) (a : Access) → entry_at maps at ≡ Some (Follows serial page a) → serial < next at.fork.tty
 
--- besides, they have room; only a file that is there has pages; the forks that live are those with a map; each job's are a tree: each under
+-- besides, they have room; the files and the JFNs are whole; the forks that live are those with a map; each job's are a tree: each under
 -- its own name, whose serial its terminal's next one is above, in a slot, 1 to 30, in which no other fork of its job is, below a superior that
 -- lives and is older; who is followed was once made; a terminal with forks has a job; and the top fork of a job is in slot 1, and has no superior
 pub record IsWhole (s : PlainState) : Type 0 where
   pub pages : AreWhole s.pages
   pub room : FitsLimit s.pages
-  pub files : (f : FilePage (List ℕ)) → map.contains_key s.pages.files f ≡ true → map.contains_key s.files f.file ≡ true
+  pub files : AreFilesWhole s.files s.pages.files s.jobs
   pub forks : (f : ForkName) → map.contains_key s.forks f ≡ map.contains_key s.pages.maps f
   pub tree : IsTree (tree_of s)
   pub given : AreGiven (next_serial (tree_of s)) s.pages.maps

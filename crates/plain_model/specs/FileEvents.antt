@@ -10,8 +10,8 @@ use Rattle.machine_names.specs.declared.names.Kind.TheVariants.{Write}
 use Rattle.script_texts.specs.declared.event.Item.{Item}
 use Rattle.script_texts.specs.declared.event.Item.TheVariants.{PageLine, PageWord}
 use Rattle.script_texts.specs.declared.event.Refusal.TheVariants.{Exists, FilesFull, NoFile, FileFull, NoFilePage}
-use Rattle.plain_files.specs.declared.bounds.TheConstants.{LARGEST_BYTE}
 use Rattle.machine_names.specs.declared.names.TheConstants.{MOST_FILES}
+use Rattle.plain_files.specs.declared.bounds.TheConstants.{LARGEST_BYTE}
 use Rattle.plain_files.specs.Sizes.{PlainFile, new_file, reaching}
 use Rattle.plain_pages.specs.PlainPages.{PlainPages}
 use Rattle.plain_pages.specs.References.{Spot, in_file, Referred, granted, denied, full, reference, stored, words_of, page_at}

@@ -4,6 +4,7 @@ pub mod Chains
 pub mod Makings
 pub mod Settles
 pub mod ReferencesMade
+pub mod FileWrites
 pub mod Kept
 pub mod FilesKept
 pub mod Refiled

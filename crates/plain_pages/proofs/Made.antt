@@ -11,10 +11,10 @@ use Rattle.machine_names.specs.declared.names.Access.{Access}
 use Rattle.plain_pages.specs.declared.map.MapEntry.{MapEntry}
 use Rattle.plain_pages.specs.declared.map.MapEntry.TheVariants.{Empty, Names}
 use Rattle.plain_pages.specs.PlainPages.{PlainPages, Maps, page_serial}
-use Rattle.machine_names.specs.Orders.{FilePage, page_cmp}
+use Rattle.machine_names.specs.Orders.{page_cmp}
 use Rattle.plain_pages.specs.Maps.{entry_at, full_access}
 use Rattle.plain_pages.specs.Room.{same_page, page_in, uses}
-use Rattle.plain_pages.specs.References.{in_map, in_file, blank, copy, make, name_page, next_page, new_page, drop_copied, words_at, words_of, page_at}
+use Rattle.plain_pages.specs.References.{in_map, blank, copy, make, name_page, next_page, new_page, drop_copied, words_at, words_of, page_at}
 use Rattle.machine_names.specs.PageWords.{zero_words}
 use Rattle.machine_names.specs.Bounds.{IsOwner}
 use Rattle.plain_pages.specs.WholePages.{AreWhole}
@@ -35,16 +35,6 @@ pub record IsMade {K : Type 0} {file_cmp : K → K → Ordering} (p q : PlainPag
   pub later : page_serial p owner < page_serial q owner
   pub held : words_of q (next_page p owner) ≡ words
   pub kept : (x : PageName) → map.contains_key p.objects x ≡ true → map.contains_key q.objects x ≡ true → map.get q.objects x ≡ map.get p.objects x
-
--- the pages with one more of an owner, which has these words, and the words of those that are still there
-pub record HasNew {K : Type 0} {file_cmp : K → K → Ordering} (p q : PlainPages file_cmp) (owner : Tty) (words : List ℕ) : Type 0 where
-  pub whole : AreWhole q
-  pub limit : q.limit ≡ p.limit
-  pub held : words_of q (next_page p owner) ≡ words
-  pub kept : (x : PageName) → map.contains_key p.objects x ≡ true → map.contains_key q.objects x ≡ true → map.get q.objects x ≡ map.get p.objects x
-
-pub has_new : {K : Type 0} {file_cmp : K → K → Ordering} (p q : PlainPages file_cmp) (owner : Tty) (s : Slot) (a : Access) (words : List ℕ) (e : MapEntry) → IsMade p q owner s a words e → HasNew p q owner words
-has_new p q owner s a words e made = record { whole = made.whole; limit = made.limit; held = made.held; kept = made.kept }
 
 module _ {K : Type 0} {file_cmp : K → K → Ordering} (o : IsTotalOrder file_cmp) (p : PlainPages file_cmp) (w : AreWhole p) (owner : Tty) (own : IsOwner owner) where
   abbrev new : PageName
@@ -134,16 +124,6 @@ module _ {K : Type 0} {file_cmp : K → K → Ordering} (o : IsTotalOrder file_c
     where
       lost_by : (x : PageName) → lost o p (in_map s) x ≡ weight (same_page x) page_in Empty
       lost_by x = ap (λ (d : Option MapEntry). option_map_or (weight (same_page x) page_in) d 0) h
-
-  -- a zero page in a file
-  pub is_filed : (f : FilePage K) → map.get p.files f ≡ None → HasNew p (make p owner (blank (in_file f))) owner zero_words
-  unfolding make
-  is_filed f h = record {
-    whole = make_whole o p w owner own (blank (in_file f)) h;
-    limit = refl;
-    held = ap (λ (y : Option (List ℕ)). unwrap_or y zero_words) (found_new zero_words);
-    kept = λ x there still. found_old zero_words x (not_next x there);
-  }
 
   -- a copy in place of what an entry had
   pub is_copy : (s : Slot) (a : Access) (e : MapEntry) → entry_at p.maps s ≡ Some e → IsMade p (make p owner (copy s a)) owner s a (words_at p (in_map s)) e

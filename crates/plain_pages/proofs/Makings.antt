@@ -19,7 +19,7 @@ use Rattle.machine_names.specs.declared.names.Access.{Access}
 use Rattle.plain_pages.specs.declared.map.MapEntry.{MapEntry}
 use Rattle.plain_pages.specs.declared.map.MapEntry.TheVariants.{Empty, Names, Follows}
 use Rattle.plain_pages.specs.PlainPages.{PlainPages, Map, Maps, page_serial, is_console}
-use Rattle.machine_names.specs.Orders.{fork_cmp, page_cmp}
+use Rattle.machine_names.specs.Orders.{FilePage, fork_cmp, page_cmp}
 use Rattle.plain_pages.specs.Maps.{Entries, Chain, entry_at, set_entry, followed, behind, chain_from, chain_within, chain, full_access}
 use Rattle.plain_pages.specs.Room.{same_page, page_in, names, uses}
 use Rattle.plain_pages.specs.References.{Spot, in_map, in_file, Making, blank, copy, name_page, next_page, new_page, drop_unnamed, drop_copied, make, page_at, words_at, words_of}
@@ -54,6 +54,9 @@ none_used k h = grind (arith, nat_tests)
 
 pub some_used : (k : ℕ) → (k == 0) ≡ false → nat_lt 0 k ≡ true
 some_used k h = grind (arith, nat_tests)
+
+at_least : (k : ℕ) → 1 ≤ k → nat_lt 0 k ≡ true
+at_least k h = grind (arith, nat_tests)
 
 -- a test of an object that was put in
 put_there : (b c : Bool) (w : List ℕ) (o : Option (List ℕ)) → b ≡ c → is_some (cond b (Some w) o) ≡ (c || is_some o)
@@ -256,14 +259,25 @@ module _ {K : Type 0} {file_cmp : K → K → Ordering} (o : IsTotalOrder file_c
   entry_there t page a h =
       let one : tally page page ≡ 1 = ap (λ b. cond b 1 0) (same_itself page) in
       w.named page ∙ at_least (uses p page) (omega (arith, uses_are p page, one, names_set p.maps t (Names page a) Empty page h))
-    where
-      at_least : (k : ℕ) → 1 ≤ k → nat_lt 0 k ≡ true
-      at_least k h = grind (arith, nat_tests)
 
   -- the page at the end of a slot's chain is there
   pub page_there : (s : Slot) (page : PageName) → page_at p (in_map s) ≡ Some page → map.contains_key p.objects page ≡ true
   unfolding page_at chain
   page_there s page h = let t = chain_page 4 (entry_at p.maps) s page h in entry_there t.0 page t.1 t.2
+
+  -- a page that a file names is there
+  file_there : (f : FilePage K) (page : PageName) → map.get p.files f ≡ Some page → map.contains_key p.objects page ≡ true
+  file_there f page h =
+      let other : PageName = record page { serial = page.serial + 1 } in
+      let one : lost o p (in_file f) page ≡ 1 = ap (λ (n : Option PageName). option_map_or (tally page) n 0) h ∙ ap (λ b. cond b 1 0) (same_itself page) in
+      let not_other : tally page other ≡ 0 = at_zero page other (λ same. omega (arith, ap (λ (n : PageName). n.serial) same)) in
+      w.named page ∙ at_least (uses p page) (omega (arith, uses_named o p (in_file f) other full_access page tt, one, not_other))
+
+  -- so is whatever page a spot names
+  pub spot_there : (at : Spot K) (page : PageName) → page_at p at ≡ Some page → map.contains_key p.objects page ≡ true
+  unfolding page_at
+  spot_there (in_map s) page h = page_there s page h
+  spot_there (in_file f) page h = file_there f page h
 
   pub words_fit : (n : PageName) (ws : Option (List ℕ)) → map.get p.objects n ≡ ws → length (unwrap_or ws zero_words) ≡ PAGE_WORDS
   words_fit n None h = zero_fits

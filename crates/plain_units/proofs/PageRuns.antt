@@ -19,7 +19,7 @@ use Rattle.plain_pages.specs.PlainPages.{PlainPages, Maps}
 use Rattle.machine_names.specs.Orders.{page_cmp}
 use Rattle.plain_pages.specs.Maps.{Chain, full_access}
 use Rattle.plain_pages.specs.Room.{HasRoom, same_page, live, names}
-use Rattle.plain_pages.specs.References.{in_map, in_file, Making, blank, copy, makings, make, make_all, next_page, Referred, granted, denied, full, reference, page_at, words_of, with_word, stored, slot_at}
+use Rattle.plain_pages.specs.References.{Spot, in_map, in_file, Making, blank, copy, makings, make, make_all, next_page, Referred, granted, denied, full, reference, page_at, words_of, with_word, stored, slot_at}
 use Rattle.machine_names.specs.Bounds.{IsOwner}
 use Rattle.plain_units.specs.Steps.{Steps, refers, widens, keeps, ends, traps, calls, Planned, Progress, goes, done, call, stopped, is_accumulator, goes_on, asked_at, plain_asked, plainly, word_taken, referred, widened, run, put_into, pages_left}
 use Rattle.plain_pages.specs.WholePages.{AreWhole}
@@ -27,7 +27,7 @@ use Rattle.plain_units.proofs.Lookups.{looked_up}
 use Rattle.machine_names.proofs.OrderLemmas.{page_cmp_total, page_tied}
 use Rattle.plain_pages.proofs.Counts.{Same, page_tells}
 use Rattle.plain_pages.proofs.Chains.{keys_set}
-use Rattle.plain_pages.proofs.Makings.{CanMake, page_there, words_fit, uses_objects}
+use Rattle.plain_pages.proofs.Makings.{CanMake, spot_there, words_fit, uses_objects}
 use Rattle.plain_pages.proofs.Settles.{copy_maps, copy_files, FirstOf, is_blank, is_copy, first_making, makings_settled, makings_can}
 use Rattle.plain_pages.proofs.ReferencesMade.{roomy, reference_makes, reference_denied, reference_whole, reference_room}
 
@@ -57,9 +57,9 @@ module _ {K : Type 0} {file_cmp : K → K → Ordering} where
   kept_on p q r a b = record { sound = b.sound; forks = forks_on p q r a.forks b.forks }
 
 -- a word more in a page that is there leaves whole pages whole
-module _ {K : Type 0} {file_cmp : K → K → Ordering} (o : IsTotalOrder file_cmp) (p : PlainPages file_cmp) (w : AreWhole p) (s : Slot) (offset word : ℕ) where
-  pub stored_whole : AreWhole (stored p (in_map s) offset word)
-  stored_whole = looked_up AreWhole _ p (page_at p (in_map s)) (λ n is. written n (page_there o p w s n is)) (λ none. w)
+module _ {K : Type 0} {file_cmp : K → K → Ordering} (o : IsTotalOrder file_cmp) (p : PlainPages file_cmp) (w : AreWhole p) (spot : Spot K) (offset word : ℕ) where
+  pub stored_whole : AreWhole (stored p spot offset word)
+  stored_whole = looked_up AreWhole _ p (page_at p spot) (λ n is. written n (spot_there o p w spot n is)) (λ none. w)
     where
       written : (n : PageName) → map.contains_key p.objects n ≡ true → AreWhole (with_word p offset word n)
       written n there = record { named = λ x. same x ∙ w.named x ∙ ap (nat_lt 0) (sym (uses_objects p rest x)); words = fits; entries = w.entries; old = λ x h. w.old x (sym (same x) ∙ h); owners = w.owners }
@@ -85,20 +85,20 @@ module _ {K : Type 0} {file_cmp : K → K → Ordering} (o : IsTotalOrder file_c
               at (inr e) k = w.words x ws (cc (e.0, k))
 
 -- and it leaves the room, the files and the forks
-module _ {K : Type 0} {file_cmp : K → K → Ordering} (p : PlainPages file_cmp) (s : Slot) (offset word : ℕ) where
-  pub stored_room : live p ≤ p.limit → live (stored p (in_map s) offset word) ≤ (stored p (in_map s) offset word).limit
+module _ {K : Type 0} {file_cmp : K → K → Ordering} (p : PlainPages file_cmp) (spot : Spot K) (offset word : ℕ) where
+  pub stored_room : live p ≤ p.limit → live (stored p spot offset word) ≤ (stored p spot offset word).limit
   unfolding live names
-  stored_room h = looked_up (λ (q : PlainPages file_cmp). live q ≤ q.limit) _ p (page_at p (in_map s)) (λ n is. h) (λ none. h)
+  stored_room h = looked_up (λ (q : PlainPages file_cmp). live q ≤ q.limit) _ p (page_at p spot) (λ n is. h) (λ none. h)
 
-  pub stored_maps : (stored p (in_map s) offset word).maps ≡ p.maps
-  stored_maps = looked_up (λ (q : PlainPages file_cmp). q.maps ≡ p.maps) _ p (page_at p (in_map s)) (λ n is. refl) (λ none. refl)
+  pub stored_maps : (stored p spot offset word).maps ≡ p.maps
+  stored_maps = looked_up (λ (q : PlainPages file_cmp). q.maps ≡ p.maps) _ p (page_at p spot) (λ n is. refl) (λ none. refl)
 
-  stored_files : (stored p (in_map s) offset word).files ≡ p.files
-  stored_files = looked_up (λ (q : PlainPages file_cmp). q.files ≡ p.files) _ p (page_at p (in_map s)) (λ n is. refl) (λ none. refl)
+  pub stored_files : (stored p spot offset word).files ≡ p.files
+  stored_files = looked_up (λ (q : PlainPages file_cmp). q.files ≡ p.files) _ p (page_at p spot) (λ n is. refl) (λ none. refl)
 
-  pub stored_kept : IsTotalOrder file_cmp → AreSound p → Keeps p (stored p (in_map s) offset word)
+  pub stored_kept : IsTotalOrder file_cmp → AreSound p → Keeps p (stored p spot offset word)
   stored_kept o w = record {
-    sound = record { whole = stored_whole o p w.whole s offset word; room = stored_room w.room };
+    sound = record { whole = stored_whole o p w.whole spot offset word; room = stored_room w.room };
     forks = record { files = stored_files; keys = λ f. ap (λ (m : Maps). map.contains_key m f) stored_maps };
   }
 
@@ -177,8 +177,8 @@ module _ {K : Type 0} {file_cmp : K → K → Ordering} (o : IsTotalOrder file_c
     put_kept : (q : PlainPages file_cmp) → Keeps p q → (put : Option Put) → Keeps p (put_into f q put)
     put_kept q w None = w
     put_kept q w (Some put) =
-        let at = slot_at f put.at in
-        kept_on p q (stored q (in_map at) (put.at % PAGE_WORDS) put.word) w (stored_kept q at (put.at % PAGE_WORDS) put.word o w.sound)
+        let at : Spot K = in_map (slot_at f put.at) in
+        kept_on p q (stored q at (put.at % PAGE_WORDS) put.word) w (stored_kept q at (put.at % PAGE_WORDS) put.word o w.sound)
 
     pub run_kept : (steps : Steps) (t : Progress file_cmp) → Keeps p t.pages → PlanKeeps (run (plainly f) f steps t)
     unfolding run

@@ -1,4 +1,4 @@
-use Rattle.std.proofs.Common.{◌≡◌, ◌≢◌, ◌∙◌, sym, ap, subst, refl, ◌⊎◌, inl, inr, ℕ, List, Some, None}
+use Rattle.std.proofs.Common.{◌≡◌, ◌∙◌, ap, refl, ℕ, List, None}
 use Rattle.std.specs.FinMap as map
 use Rattle.plain_files.specs.Directory.{Creates, Files}
 use Rattle.plain_files.specs.NamedFiles.{AreNumbers, by_name, number_of}

@@ -1,9 +1,7 @@
-use Rattle.std.proofs.Common.{◌≡◌, ◌∙◌, sym, ap, ℕ, List, Some}
+use Rattle.std.proofs.Common.{◌≡◌, ◌∙◌, sym, ap}
 use Rattle.std.specs.Prelude.{is_some}
 use Rattle.std.specs.FinMap as map
-use Rattle.machine_names.specs.Orders.{FilePage}
-use Rattle.plain_files.specs.Directory.{Files}
-use Rattle.plain_files.specs.NamedFiles.{name_of, page_named, pages_named}
+use Rattle.plain_files.specs.NamedFiles.{name_of, pages_named}
 use Rattle.file_tables.proofs.Names.{absent_by_name, named, one_value}
 use Rattle.file_tables.proofs.Pages.{page_at, page_gone, page_none, page_put}
 use Rattle.file_tables.proofs.laws.pages_follow_the_names.Goals as goal

@@ -1,10 +1,6 @@
-use Rattle.std.proofs.Common.{◌≡◌, ◌∙◌, sym, ap, refl, replicate, map as each}
-use Rattle.std.specs.FinMap as map
-use Rattle.machine_names.specs.declared.names.TheConstants.{MOST_FILES}
-use Rattle.plain_files.specs.Sizes.{PlainFile, file_at, new_file}
+use Rattle.std.proofs.Common.{◌∙◌, ap}
+use Rattle.plain_files.specs.Sizes.{file_at}
 use Rattle.plain_files.specs.Directory.{Files}
-use Rattle.plain_files.specs.JobFiles.{Held}
-use Rattle.plain_files.specs.Jobs.{no_jfns}
 use Rattle.plain_files.specs.NamedFiles.{files_named, jobs_named}
 use Rattle.file_tables.proofs.Kept.{first_tables, no_open_jobs}
 use Rattle.file_tables.proofs.Names.{by_no_name}

@@ -1,9 +1,8 @@
-use Rattle.std.proofs.Common.{◌≡◌, ◌<◌, ◌∙◌, ℕ, List, ap, subst, sym, arith}
-use Rattle.std.specs.Prelude.{slice_set}
+use Rattle.std.proofs.Common.{◌∙◌, ap, arith}
 use Rattle.std.specs.FinMap as map
-use Rattle.plain_files.specs.Directory.{Creates, Files, IsAbsent}
-use Rattle.plain_files.specs.NamedFiles.{AreTables, files_named, jobs_named}
-use Rattle.plain_files.specs.Sizes.{PlainFile, file_at, new_file}
+use Rattle.plain_files.specs.Directory.{Creates, Files}
+use Rattle.plain_files.specs.NamedFiles.{files_named, jobs_named}
+use Rattle.plain_files.specs.Sizes.{file_at}
 use Rattle.file_tables.proofs.Files.{made_files, made_jobs}
 use Rattle.file_tables.proofs.Kept.{tables_made}
 use Rattle.file_tables.proofs.Names.{absent_by_name, by_name_len}

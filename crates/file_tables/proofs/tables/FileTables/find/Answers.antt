@@ -1,4 +1,4 @@
-use Rattle.std.proofs.Common.{◌≡◌, ◌∙◌, sym, ap, true, List, [], ℕ, Option, None, Some}
+use Rattle.std.proofs.Common.{◌≡◌, sym, ap, true, List, [], ℕ, Option, None, Some}
 use Rattle.std.specs.Prelude.{is_some}
 use Rattle.std.specs.Option.{MatchOption, option_map, unwrap_or}
 use Rattle.std.specs.FinMap as map

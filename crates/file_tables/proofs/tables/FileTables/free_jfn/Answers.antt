@@ -1,11 +1,11 @@
-use Rattle.std.proofs.Common.{◌≡◌, ◌+◌, ◌≤◌, ◌∙◌, sym, ap, subst, ℕ, Option, None, Some}
+use Rattle.std.proofs.Common.{◌≡◌, ◌+◌, ◌≤◌, ◌∙◌, sym, ap, ℕ, Option, None, Some}
 use Rattle.std.specs.Option.{MatchOption}
 use Rattle.number_map.specs.Numbers.{AreTaken, IsLeastFree}
 use Rattle.plain_files.specs.declared.bounds.TheConstants.{MOST_JFNS}
 use Rattle.plain_files.specs.Directory.{Files}
 use Rattle.plain_files.specs.JobFiles.{Held}
 use Rattle.plain_files.specs.NamedFiles.{open_named}
-use Rattle.plain_files.specs.OpenFiles.{OpenFiles, free_jfn}
+use Rattle.plain_files.specs.OpenFiles.{free_jfn}
 use Rattle.file_tables.proofs.FirstFree.{all_taken, least_free}
 use Rattle.file_tables.proofs.Opened.{least_open, open_job, taken_open}
 use Rattle.file_tables.proofs.tables.FileTables.free_jfn.Goals as goal

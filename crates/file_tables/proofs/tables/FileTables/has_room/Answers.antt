@@ -1,4 +1,4 @@
-use Rattle.std.proofs.Common.{◌∙◌, sym, arith}
+use Rattle.std.proofs.Common.{arith}
 use Rattle.plain_files.specs.Sizes.{file_at}
 use Rattle.file_tables.proofs.Names.{by_name_len}
 use Rattle.file_tables.proofs.tables.FileTables.has_room.Goals as goal

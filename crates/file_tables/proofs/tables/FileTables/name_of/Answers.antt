@@ -1,4 +1,3 @@
-use Rattle.std.proofs.Common.{◌∙◌, sym}
 use Rattle.file_tables.proofs.Names.{by_name_at}
 use Rattle.file_tables.proofs.tables.FileTables.name_of.Goals as goal
 

@@ -1,8 +1,7 @@
-use Rattle.std.proofs.Common.{◌≡◌, ◌∙◌, ap, subst, sym, arith, ℕ, Some}
+use Rattle.std.proofs.Common.{◌≡◌, ◌∙◌, ap, subst, sym, arith}
 use Rattle.std.specs.Prelude.{IfSome, is_some, slice_set}
 use Rattle.std.specs.Option.{IsSomeAnd, option_map}
 use Rattle.std.specs.FinMap as map
-use Rattle.plain_files.specs.declared.jfn.Jfn.{Jfn}
 use Rattle.plain_files.specs.JobFiles.{Held, opened}
 use Rattle.plain_files.specs.NamedFiles.{jobs_named, open_file}
 use Rattle.plain_files.specs.OpenFiles.{OpenFile, open_at, opened_file}

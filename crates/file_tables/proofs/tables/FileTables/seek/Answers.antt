@@ -1,4 +1,4 @@
-use Rattle.std.proofs.Common.{◌≡◌, ◌≤◌, ◌∙◌, ap, subst, sym, ℕ, Some}
+use Rattle.std.proofs.Common.{◌≡◌, ◌≤◌, ◌∙◌, ap, subst, sym, ℕ}
 use Rattle.std.specs.Prelude.{IfSome, IsSome, slice_set}
 use Rattle.std.specs.Option.{IsSomeAnd, option_map}
 use Rattle.std.specs.FinMap as map

@@ -1,5 +1,5 @@
-use Rattle.std.proofs.Common.{◌≡◌, ◌+◌, ◌<◌, ◌≤◌, ◌∙◌, true, false, ap, subst, sym, refl, arith, lit≤, ℕ, List, Option, None, Some, Result, Ok, Err}
-use Rattle.std.specs.Prelude.{IsSome, is_some, slice_set}
+use Rattle.std.proofs.Common.{◌≡◌, ◌+◌, ◌<◌, ◌∙◌, true, ap, subst, sym, arith, lit≤, ℕ, List, Some, Result, Ok, Err}
+use Rattle.std.specs.Prelude.{slice_set}
 use Rattle.std.specs.Result.{MatchResult}
 use Rattle.std.specs.FinMap as map
 use Rattle.machine_names.specs.declared.names.TheConstants.{TERMINALS}

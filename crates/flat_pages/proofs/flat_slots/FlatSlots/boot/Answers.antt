@@ -12,7 +12,7 @@ pub invariant_of-result : goal.invariant_of-result
 invariant_of-result g c =
     let m = c.in_ok-tables.tables in
     let e = c.in_ok-tables.ensures in
-    let same : tables_of (g.S.Store.means.homes c.args.store) m ≡ opened c.args.pages m.serials e.terminals e.console = λ i. record { places = c.requires.homes i; names = e.names i; shares = e.shares i; maps = e.maps i; files = e.files i; serials = m.serials; taken = e.numbers.0 i; living = e.numbers.1 i; limit = e.numbers.2 i } in
+    let same : tables_of (g.S.Store.means.homes c.args.store) m ≡ opened c.args.pages m.serials e.terminals e.console = λ i. record { places = c.requires.homes i; names = e.names i; shares = e.shares i; maps = e.maps i; serials = m.serials; taken = e.numbers.0 i; living = e.numbers.1 i; limit = e.numbers.2 i } in
     let agree = subst AreTables (sym same) (opened_tables c.args.pages m.serials e.terminals e.console c.requires.pages) in
     record { agree = agree; told = tables_told _ agree (g.met.S.Store.sound c.args.store).pages }
 
@@ -20,7 +20,7 @@ pub returns-clause-plain : goal.returns-clause-plain
 returns-clause-plain g c d =
     let m = c.in_ok-tables.tables in
     let e = c.in_ok-tables.ensures in
-    let same : tables_of (g.S.Store.means.homes c.args.store) m ≡ opened c.args.pages m.serials e.terminals e.console = λ i. record { places = c.requires.homes i; names = e.names i; shares = e.shares i; maps = e.maps i; files = e.files i; serials = m.serials; taken = e.numbers.0 i; living = e.numbers.1 i; limit = e.numbers.2 i } in
+    let same : tables_of (g.S.Store.means.homes c.args.store) m ≡ opened c.args.pages m.serials e.terminals e.console = λ i. record { places = c.requires.homes i; names = e.names i; shares = e.shares i; maps = e.maps i; serials = m.serials; taken = e.numbers.0 i; living = e.numbers.1 i; limit = e.numbers.2 i } in
     ap (λ (t : Tables). plain_of t d) same ∙ opened_plain c.args.pages m.serials e.terminals e.console d
 
 pub returns-clause-fits : goal.returns-clause-fits
