@@ -73,7 +73,7 @@ module _ {P : Type 0} {b : _} (m : System P b) (name : List ℕ) where
       let s = state_of m d in
       outer_page s name page ∙ ap (λ (o : Option PlainFile). option_map_or (λ f. shown_by s page (page_at s.pages (spot_named name page))) o (refused s (NoFile name))) none
     where
-      abbrev shown_by : PlainState → ℕ → Option PageName → Effect
+      shown_by : PlainState → ℕ → Option PageName → Effect
       shown_by s page o = option_map_or (λ n. record { state = s; items = PageLine name page ∷ words_shown 0 (words_of s.pages n) }) o (refused s (NoFilePage name))
 
   -- an empty file is made
@@ -120,7 +120,7 @@ module _ {P : Type 0} {b : _} (m : System P b) (f page : ℕ) (there : IsThere m
       let s = state_of m d in
       outer_page s name page ∙ ap (λ (o : Option PlainFile). option_map_or (λ x. shown_by s (page_at s.pages (spot_named name page))) o (refused s (NoFile name))) found
     where
-      abbrev shown_by : PlainState → Option PageName → Effect
+      shown_by : PlainState → Option PageName → Effect
       shown_by s o = option_map_or (λ n. record { state = s; items = PageLine name page ∷ words_shown 0 (words_of s.pages n) }) o (refused s (NoFilePage name))
 
   pub page_is_none : (d : DrumWords) → FitsPages m d → page_at (b.means.plain m.pages d) (in_file (file_page f page)) ≡ None → outer (state_of m d) (Page name page) ≡ refused (state_of m d) (NoFilePage name)

@@ -3,7 +3,7 @@ use Rattle.std.proofs.Common.{◌≡◌, ◌≢◌, ◌⊎◌, ℕ, ◌+◌, Boo
 use Rattle.std.specs.Prelude.{is_some}
 use Rattle.std.specs.Ordering.{eq_by_cmp, is_eq, nat_cmp}
 use Rattle.std.specs.Cmp.{IsTotalOrder}
-use Rattle.std.specs.Option.{option_map_or}
+use Rattle.std.specs.Option.{option_map_or, unwrap_or}
 use Rattle.std.specs.List.{sum_by}
 use Rattle.std.proofs.lemmas.Bool.{cases_eq}
 use Rattle.std.proofs.lemmas.List.Sums.{sum_by-cons}
@@ -12,7 +12,7 @@ use Rattle.machine_names.specs.declared.names.PageName.{PageName}
 use Rattle.machine_names.specs.Orders.{FilePage, file_page_cmp, name_cmp}
 use Rattle.plain_pages.specs.PlainPages.{NumberedPages, refiled}
 use Rattle.plain_pages.proofs.Counts.{both_first, both_second, ordered_less, total_insert}
-use Rattle.plain_pages.proofs.Whole.{no_values, tally}
+use Rattle.plain_pages.proofs.Whole.{no_values, none_of, tally}
 use Rattle.plain_pages.proofs.Refiled.{NameAlike}
 use Rattle.plain_files.specs.Directory.{Files}
 use Rattle.plain_files.specs.NamedFiles.{AreFiled, AreNumbers, name_of, page_named, pages_named}
@@ -23,39 +23,40 @@ use Rattle.monitor_core.specs.Systems.{named}
 use Rattle.monitor_core.proofs.Filed.{keyed}
 
 -- a map whose entries are put under other keys, which are as far apart, has the same values
-module _ {K L V : Type 0} {R : K → K → Ordering} {S : L → L → Ordering} (s : IsTotalOrder S) (key : K → L) (w : V → ℕ) where
-  abbrev rekeyed : List (K × V) → List (L × V)
-  rekeyed es = each (λ (e : K × V). (key e.0, e.1)) es
+abbrev rekeyed : {K L V : Type 0} → (K → L) → List (K × V) → List (L × V)
+rekeyed {K} {L} {V} key es = each {B = L × V} (λ (e : K × V). (key e.0, e.1)) es
 
-  abbrev AreApart : List (K × V) → Type 0
-  AreApart [] = Unit {0}
-  AreApart (e ∷ es) = Each (λ x. eq_by_cmp S (key e.0) (key x.0) ≡ false) es × AreApart es
+abbrev AreApart : {K L V : Type 0} → (L → L → Ordering) → (K → L) → List (K × V) → Type 0
+AreApart S key [] = Unit {0}
+AreApart S key (e ∷ es) = Each (λ x. eq_by_cmp S (key e.0) (key x.0) ≡ false) es × AreApart S key es
 
-  none_there : (q : L) (es : List (K × V)) → Each (λ x. eq_by_cmp S q (key x.0) ≡ false) es → fin.find S q (rekeyed es) ≡ None
+module _ {K L V : Type 0} {S : L → L → Ordering} (s : IsTotalOrder S) (key : K → L) (w : V → ℕ) where
+
+  none_there : (q : L) (es : List (K × V)) → Each (λ x. eq_by_cmp S q (key x.0) ≡ false) es → fin.find S q (rekeyed key es) ≡ None
   none_there q [] apart = refl
-  none_there q (e ∷ es) apart = ap (λ b. cond b (Some e.1) (fin.find S q (rekeyed es))) apart.0 ∙ none_there q es apart.1
+  none_there q (e ∷ es) apart = ap (λ b. cond b (Some e.1) (fin.find S q (rekeyed key es))) apart.0 ∙ none_there q es apart.1
 
-  sums : (es : List (K × V)) → AreApart es → sum_by w (fin.values (fin.from_entries {R = S} (rekeyed es))) ≡ sum_by w (each (λ e. e.1) es)
+  sums : (es : List (K × V)) → AreApart S key es → sum_by w (fin.values (fin.from_entries {R = S} (rekeyed key es))) ≡ sum_by w (each (λ e. e.1) es)
   sums [] apart = no_values S w
   sums (e ∷ es) apart =
-      let rest = fin.from_entries {R = S} (rekeyed es) in
-      let none : option_map_or w (fin.get rest (key e.0)) 0 ≡ 0 = ap (λ o. option_map_or w o 0) (fin.get-from_entries s (rekeyed es) (key e.0) ∙ none_there (key e.0) es apart.0) in
+      let rest = fin.from_entries {R = S} (rekeyed key es) in
+      let none : option_map_or w (fin.get rest (key e.0)) 0 ≡ 0 = ap (λ o. option_map_or w o 0) (fin.get-from_entries s (rekeyed key es) (key e.0) ∙ none_there (key e.0) es apart.0) in
       omega (arith, total_insert s w rest (key e.0) e.1, none, sums es apart.1, sum_by-cons w e.1 (each (λ (x : K × V). x.1) es))
 
-  module _ (P : K × V → Type 0) (parts : (e x : K × V) → P e → P x → eq_by_cmp R e.0 x.0 ≡ false → eq_by_cmp S (key e.0) (key x.0) ≡ false) where
-    behind : (e : K × V) → P e → (es : List (K × V)) → T (fin.Entries.below_all R e.0 es) → Each P es → Each (λ x. eq_by_cmp S (key e.0) (key x.0) ≡ false) es
-    behind e held [] below all = tt
-    behind e held (x ∷ es) below all = (
-      parts e x held all.0 (ap is_eq (ordered_less (R e.0 x.0) (both_first (is_lt (R e.0 x.0)) (fin.Entries.below_all R e.0 es) below))),
-      behind e held es (both_second (is_lt (R e.0 x.0)) (fin.Entries.below_all R e.0 es) below) all.1,
-    )
+module _ {K L V : Type 0} (R : K → K → Ordering) (S : L → L → Ordering) (key : K → L) (P : K × V → Type 0) (parts : (e x : K × V) → P e → P x → eq_by_cmp R e.0 x.0 ≡ false → eq_by_cmp S (key e.0) (key x.0) ≡ false) where
+  behind : (e : K × V) → P e → (es : List (K × V)) → T (fin.Entries.below_all R e.0 es) → Each P es → Each (λ x. eq_by_cmp S (key e.0) (key x.0) ≡ false) es
+  behind e held [] below all = tt
+  behind e held (x ∷ es) below all = (
+    parts e x held all.0 (ap is_eq (ordered_less (R e.0 x.0) (both_first (is_lt (R e.0 x.0)) (fin.Entries.below_all R e.0 es) below))),
+    behind e held es (both_second (is_lt (R e.0 x.0)) (fin.Entries.below_all R e.0 es) below) all.1,
+  )
 
-    are_apart : (es : List (K × V)) → T (fin.is_sorted R es) → Each P es → AreApart es
-    are_apart [] sorted all = tt
-    are_apart (e ∷ es) sorted all = (
-      behind e all.0 es (both_first (fin.Entries.below_all R e.0 es) (fin.is_sorted R es) sorted) all.1,
-      are_apart es (both_second (fin.Entries.below_all R e.0 es) (fin.is_sorted R es) sorted) all.1,
-    )
+  are_apart : (es : List (K × V)) → T (fin.is_sorted R es) → Each P es → AreApart S key es
+  are_apart [] sorted all = tt
+  are_apart (e ∷ es) sorted all = (
+    behind e all.0 es (both_first (fin.Entries.below_all R e.0 es) (fin.is_sorted R es) sorted) all.1,
+    are_apart es (both_second (fin.Entries.below_all R e.0 es) (fin.is_sorted R es) sorted) all.1,
+  )
 
 module _ (m : Files) where
   -- each page is named as often by the files' names as by their numbers
@@ -65,7 +66,7 @@ module _ (m : Files) where
       let there : Each (λ (e : FilePage ℕ × PageName). fin.contains_key m e.0.file ≡ true) (fin.entries p.files) =
       weaker (λ e. fin.get p.files e.0 ≡ Some e.1) (λ e. fin.contains_key m e.0.file ≡ true) (fin.entries p.files) (λ e held. filed e.0 (ap is_some held)) (each_there number_pages numbers_apart p.files) in
       sums name_pages (page_named m) (tally n) (fin.entries p.files)
-      (are_apart name_pages (page_named m) (tally n) (λ e. fin.contains_key m e.0.file ≡ true)
+      (are_apart (file_page_cmp nat_cmp) (file_page_cmp name_cmp) (page_named m) (λ e. fin.contains_key m e.0.file ≡ true)
       (λ e x held also apart. alike_pages m numbers e.0 x.0 held also ∙ apart)
       (fin.entries p.files) (fin.entries_sorted p.files) there)
 
@@ -75,7 +76,7 @@ module _ (m : Files) where
 
   pub none_named : pages_named {V = PageName} m fin.empty ≡ fin.empty
   unfolding pages_named
-  none_named = refl
+  none_named = ap (λ es. fin.from_entries {R = file_page_cmp name_cmp} (rekeyed (page_named m) es)) (none_of (fin.entries {X = PageName} {R = file_page_cmp nat_cmp} fin.empty) (sym (fin.len-entries {X = PageName} {R = file_page_cmp nat_cmp} fin.empty) ∙ fin.len-empty (file_page_cmp nat_cmp) PageName))
 
   -- a file that is made has no page, and changes no name of a page
   module _ (f : ℕ) (name : List ℕ) (free : fin.get m f ≡ None) where
@@ -89,10 +90,13 @@ module _ (m : Files) where
     filed_made pages filed at held = ap is_some (still_there at.file (filed at held)) ∙ filed at held
 
     same_names : (es : List (FilePage ℕ × PageName)) → Each (λ e. fin.contains_key m e.0.file ≡ true) es
-        → each (λ (e : FilePage ℕ × PageName). (page_named (fin.insert m f name) e.0, e.1)) es ≡ each (λ (e : FilePage ℕ × PageName). (page_named m e.0, e.1)) es
+        → rekeyed (page_named (fin.insert m f name)) es ≡ rekeyed (page_named m) es
     same_names [] all = refl
     same_names (e ∷ es) all =
-        λ i. (record { file = Rattle.std.specs.Option.unwrap_or (still_there e.0.file all.0 i) []; page = e.0.page }, e.1) ∷ same_names es all.1 i
+        ap (λ (o : Option (List ℕ)). renamed_first o e (rekeyed (page_named (fin.insert m f name)) es)) (still_there e.0.file all.0) ∙ ap (λ (l : List (FilePage (List ℕ) × PageName)). (page_named m e.0, e.1) ∷ l) (same_names es all.1)
+      where
+        renamed_first : Option (List ℕ) → FilePage ℕ × PageName → List (FilePage (List ℕ) × PageName) → List (FilePage (List ℕ) × PageName)
+        renamed_first o e l = (record { file = unwrap_or o []; page = e.0.page }, e.1) ∷ l
 
     pub named_made : (pages : fin.FinMap (file_page_cmp nat_cmp) PageName) → AreFiled m pages → pages_named (fin.insert m f name) pages ≡ pages_named m pages
     unfolding pages_named
