@@ -12,7 +12,7 @@ use Rattle.std.specs.FinMap.{nat_cmp-IsAntisymmetric}
 use Rattle.number_map.proofs.Keys.{get_gone, get_gone_other}
 use Rattle.plain_files.specs.OpenFiles.{IsNamed, IsNamedBesides, Names, OpenFile, OpenFiles, is_for, open_at, times_open, times_open_in_all}
 use Rattle.jfn_table.proofs.Entries.{passing_gone}
-use Rattle.file_tables.proofs.Keys.{same_key, ties}
+use Rattle.machine_names.proofs.Keys.{same_key, ties}
 use Rattle.file_tables.proofs.Names.{name_apart, name_total}
 use Rattle.file_tables.proofs.Rekeyed.{Each, each_there, one_or_none}
 
@@ -99,8 +99,13 @@ module _ (name : List ℕ) where
         by (inr ne) at = (u, k, inl ne, subst (λ o. IsSomeAnd o (λ (j : OpenFile). j.file ≡ name)) (there_other u k ne) names)
         by (inl e) (inl gone) =
             absurd (subst (λ o. IsSomeAnd o (λ (j : OpenFile). j.file ≡ name)) (there_same u k e ∙ get_gone (open_at jobs t) n k gone) names)
-        by (inl e) (inr ne) = (u, k, inr ne, subst (λ o. IsSomeAnd o (λ (j : OpenFile). j.file ≡ name))
-            (there_same u k e ∙ (get_gone_other (open_at jobs t) n k ne ∙ ap (λ x. map.get (open_at jobs x) k) (sym e))) names)
+        by (inl e) (inr ne) = (
+          u,
+          k,
+          inr ne,
+          subst (λ o. IsSomeAnd o (λ (j : OpenFile). j.file ≡ name))
+              (there_same u k e ∙ (get_gone_other (open_at jobs t) n k ne ∙ ap (λ x. map.get (open_at jobs x) k) (sym e))) names,
+        )
 
     without : IsNamedBesides jobs t n name → IsNamed others name
     without (u, k, apart, names) = (u, k, by (cases_eq u t) apart)
@@ -112,6 +117,7 @@ module _ (name : List ℕ) where
             (sym (there_same u k e ∙ (get_gone_other (open_at jobs t) n k ne ∙ ap (λ x. map.get (open_at jobs x) k) (sym e)))) names
 
     pub named_besides : (1 < times_open_in_all jobs name) ↔ IsNamedBesides jobs t n name
-    named_besides =
-        (λ more. besides (some_job others (omega (arith, more, one_more))),
-        λ other. let there = without other in omega (arith, one_more, in_job others there.0 there.1 there.2))
+    named_besides = (
+      λ more. besides (some_job others (omega (arith, more, one_more))),
+      λ other. let there = without other in omega (arith, one_more, in_job others there.0 there.1 there.2),
+    )

@@ -1,4 +1,3 @@
-pub mod Keys
 pub mod Rekeyed
 pub mod Names
 pub mod Opened

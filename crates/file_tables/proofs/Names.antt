@@ -14,7 +14,7 @@ use Rattle.machine_names.specs.Orders.{name_cmp}
 use Rattle.machine_names.specs.declared.names.TheConstants.{MOST_FILES}
 use Rattle.plain_files.specs.Directory.{Files, IsAbsent}
 use Rattle.plain_files.specs.NamedFiles.{AreNumbers, by_name, name_of, number_of}
-use Rattle.file_tables.proofs.Keys.{cases_key, get_put, get_put_other, get_gone, get_gone_other, parts, same_key, ties}
+use Rattle.machine_names.proofs.Keys.{cases_key, get_put, get_put_other, get_gone, get_gone_other, parts, same_key, ties}
 use Rattle.file_tables.proofs.Rekeyed.{Each, each_there, one_or_none, rekeyed_at, rekeyed_none, weaker}
 
 pub name_total : IsTotalOrder name_cmp

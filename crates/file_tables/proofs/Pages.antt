@@ -12,7 +12,7 @@ use Rattle.machine_names.specs.Orders.{FilePage, file_page_cmp, name_cmp}
 use Rattle.machine_names.proofs.OrderLemmas.{file_page_total}
 use Rattle.plain_files.specs.Directory.{Files, IsAbsent}
 use Rattle.plain_files.specs.NamedFiles.{AreFiled, AreNumbers, name_of, page_named, pages_named}
-use Rattle.file_tables.proofs.Keys.{cases_key, get_gone, get_gone_other, get_put, get_put_other, parts, ties}
+use Rattle.machine_names.proofs.Keys.{cases_key, get_gone, get_gone_other, get_put, get_put_other, parts, ties}
 use Rattle.file_tables.proofs.Names.{cases_file, name_apart, name_total, named, one_value}
 use Rattle.file_tables.proofs.Rekeyed.{each_there, rekeyed_at, rekeyed_none, weaker}
 

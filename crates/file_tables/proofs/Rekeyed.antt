@@ -9,7 +9,7 @@ use Rattle.std.specs.Cmp.{IsTotalOrder, eq_by_cmp_equiv}
 use Rattle.std.specs.FinMap as map
 use Rattle.std.specs.FinMap.{IsAntisymmetric, find, is_sorted}
 use Rattle.std.specs.FinMap.Entries.{below_all}
-use Rattle.file_tables.proofs.Keys.{ties_itself, same_key}
+use Rattle.machine_names.proofs.Keys.{ties_itself, same_key}
 
 -- each element has this
 abbrev pub Each : {A : Type 0} → (A → Type 0) → List A → Type 0
@@ -56,18 +56,20 @@ less_parts Greater h = refl
 module _ {K X : Type 0} {R : K → K → Ordering} (o : IsTotalOrder R) (apart : IsAntisymmetric R) where
   behind : (k : K) (es : List (K × X)) → T (below_all R k es) → Each (λ e. eq_by_cmp R e.0 k ≡ false) es
   behind k [] h = tt
-  behind k (e ∷ es) h =
-      ((eq_by_cmp_equiv o).symm e.0 k ∙ less_parts (R k e.0) (first_of (is_lt (R k e.0)) (below_all R k es) h),
-      behind k es (second_of (is_lt (R k e.0)) (below_all R k es) h))
+  behind k (e ∷ es) h = (
+    (eq_by_cmp_equiv o).symm e.0 k ∙ less_parts (R k e.0) (first_of (is_lt (R k e.0)) (below_all R k es) h),
+    behind k es (second_of (is_lt (R k e.0)) (below_all R k es) h),
+  )
 
   each_found : (es : List (K × X)) → T (is_sorted R es) → Each (λ e. find R e.0 es ≡ Some e.1) es
   each_found [] h = tt
-  each_found (e ∷ es) h =
-      (ap (λ b. cond b (Some e.1) (find R e.0 es)) (ties_itself o apart e.0),
-      weaker (λ x. (eq_by_cmp R x.0 e.0 ≡ false) × (find R x.0 es ≡ Some x.1)) (λ x. find R x.0 (e ∷ es) ≡ Some x.1) es
-      (λ x both. ap (λ b. cond b (Some e.1) (find R x.0 es)) both.0 ∙ both.1)
-      (both_each (λ x. eq_by_cmp R x.0 e.0 ≡ false) (λ x. find R x.0 es ≡ Some x.1) es
-      (behind e.0 es (first_of (below_all R e.0 es) (is_sorted R es) h)) (each_found es (second_of (below_all R e.0 es) (is_sorted R es) h))))
+  each_found (e ∷ es) h = (
+    ap (λ b. cond b (Some e.1) (find R e.0 es)) (ties_itself o apart e.0),
+    weaker (λ x. (eq_by_cmp R x.0 e.0 ≡ false) × (find R x.0 es ≡ Some x.1)) (λ x. find R x.0 (e ∷ es) ≡ Some x.1) es
+        (λ x both. ap (λ b. cond b (Some e.1) (find R x.0 es)) both.0 ∙ both.1)
+        (both_each (λ x. eq_by_cmp R x.0 e.0 ≡ false) (λ x. find R x.0 es ≡ Some x.1) es
+        (behind e.0 es (first_of (below_all R e.0 es) (is_sorted R es) h)) (each_found es (second_of (below_all R e.0 es) (is_sorted R es) h))),
+  )
 
   -- each entry of a map is what the map has under its key
   pub each_there : (m : map.FinMap R X) → Each (λ e. map.get m e.0 ≡ Some e.1) (map.entries m)

@@ -16,7 +16,7 @@ use Rattle.plain_files.specs.NamedFiles.{AreNumbers, IsHeld, jobs_named, name_of
 use Rattle.plain_files.specs.OpenFiles.{OpenFile, is_for, times_open, times_open_in_all}
 use Rattle.jfn_table.proofs.Changes.{names_gone, names_none}
 use Rattle.jfn_table.proofs.Entries.{passing_gone, passing_most}
-use Rattle.file_tables.proofs.Keys.{parts, ties}
+use Rattle.machine_names.proofs.Keys.{parts, ties}
 use Rattle.file_tables.proofs.Names.{name_apart, name_total, named, one_value}
 use Rattle.file_tables.proofs.Opened.{open_get, open_gone, open_none}
 

@@ -51,9 +51,10 @@ times_of m f = names_in_all m.jobs f
 abbrev pub Changes : FileTables → FileTables → ℕ → OpenFiles → Type 0
 Changes old new t jfns = open_of new ≡ slice_set (open_of old) t jfns
 
--- the JFNs of all jobs are what they were
-abbrev pub OpenStay : FileTables → FileTables → Type 0
-OpenStay old new = open_of new ≡ open_of old
+-- the JFNs of all jobs are what they were, by name and by number
+pub record OpenStay (old new : FileTables) : Type 0 where
+  pub named : open_of new ≡ open_of old
+  pub numbers : new.jobs ≡ old.jobs
 
 -- the files, their numbers and their lengths are what they were
 pub record FilesStay (old new : FileTables) : Type 0 where

@@ -26,7 +26,7 @@ pub fn pages_follow_the_names()
     ensures found { (m : Files) (pages : map.FinMap (file_page_cmp nat_cmp) ℕ) (f : ℕ) (name : List ℕ) (n : ℕ)
         → AreNumbers m → AreFiled m pages → map.get m f ≡ Some name
         → map.get (pages_named m pages) (record { file = name; page = n })
-            ≡ map.get pages (record { file = f; page = n }) }
+        ≡ map.get pages (record { file = f; page = n }) }
     ensures none { (m : Files) (pages : map.FinMap (file_page_cmp nat_cmp) ℕ) (name : List ℕ) (n : ℕ)
         → AreNumbers m → AreFiled m pages → number_of m name ≡ None
         → map.get (pages_named m pages) (record { file = name; page = n }) ≡ None }

@@ -10,6 +10,7 @@ pub mod Run
 pub mod Handles
 pub mod AccessWords
 pub mod Calls
+pub mod PointedTexts
 pub mod MapCalls
 pub mod ForkCalls
 pub mod FileCalls

@@ -6,6 +6,7 @@
 mod bounds;
 pub mod call;
 mod fork;
+pub mod text;
 
 pub use bounds::start_bounds_hold;
 pub use fork::{Body, Fork, Psi, TerminalMode};

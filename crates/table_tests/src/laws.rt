@@ -8,6 +8,9 @@ fn the_laws_are_called(_rt: HostRuntime) {
     jfn_table::a_file_without_names_has_no_jfn();
     file_dir::a_created_file_is_found();
     file_dir::a_listing_is_whole();
+    file_tables::numbers_follow_the_names();
+    file_tables::pages_follow_the_names();
+    file_tables::times_follow_the_jfns();
     tty_lines::oldest_first();
     tty_lines::typed_in_order();
     exec_cmd::one_command();

@@ -22,6 +22,8 @@ mod laws;
 #[cfg(test)]
 mod made;
 #[cfg(test)]
+mod named;
+#[cfg(test)]
 mod numbers;
 #[cfg(test)]
 mod orders;

@@ -1,6 +1,6 @@
 //! Units of programs over pages in memory, and what each leaves, worked out from the handbook by hand.
 //! No layer stands above; to a reader each row of a table is a program in the accumulators.
-//! Stands on ka10_unit and flat_pages.
+//! Stands on ka10_unit, text_pointers and flat_pages.
 #![tactic(auto)]
 
 #[cfg(test)]
@@ -17,6 +17,8 @@ mod deeds;
 mod operands;
 #[cfg(test)]
 mod page_steps;
+#[cfg(test)]
+mod pointed_texts;
 #[cfg(test)]
 mod runs;
 #[cfg(test)]

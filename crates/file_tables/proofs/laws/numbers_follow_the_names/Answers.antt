@@ -2,7 +2,7 @@ use Rattle.std.proofs.Common.{◌≡◌, ◌∙◌, ap, refl, ℕ, List, None}
 use Rattle.std.specs.FinMap as map
 use Rattle.plain_files.specs.Directory.{Creates, Files}
 use Rattle.plain_files.specs.NamedFiles.{AreNumbers, by_name, number_of}
-use Rattle.file_tables.proofs.Keys.{get_put, get_put_other, get_gone_other}
+use Rattle.machine_names.proofs.Keys.{get_put, get_put_other, get_gone_other}
 use Rattle.file_tables.proofs.Names.{absent_by_name, by_name_gone, by_name_put, name_apart, name_total, number_is}
 use Rattle.file_tables.proofs.laws.numbers_follow_the_names.Goals as goal
 

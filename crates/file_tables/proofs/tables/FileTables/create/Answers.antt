@@ -1,4 +1,4 @@
-use Rattle.std.proofs.Common.{◌∙◌, ap, arith}
+use Rattle.std.proofs.Common.{◌∙◌, ap, arith, refl}
 use Rattle.std.specs.FinMap as map
 use Rattle.plain_files.specs.Directory.{Creates, Files}
 use Rattle.plain_files.specs.NamedFiles.{files_named, jobs_named}
@@ -43,4 +43,7 @@ returns-clause-jfns c =
     let old = c.args.self.now in
     let f = c.in-Ok.f.0 in
     let made : Creates old.dir c.create.new.self f c.args.name.now = c.in-Ok.ensures in
-    ap (λ (m : Files). jobs_named m old.jobs) made.put ∙ made_jobs old.dir old.lengths old.jobs old.sound f c.args.name.now made.least.free
+    record {
+      named = ap (λ (m : Files). jobs_named m old.jobs) made.put ∙ made_jobs old.dir old.lengths old.jobs old.sound f c.args.name.now made.least.free;
+      numbers = refl;
+    }

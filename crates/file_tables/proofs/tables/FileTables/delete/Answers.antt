@@ -1,4 +1,4 @@
-use Rattle.std.proofs.Common.{◌∙◌, ap}
+use Rattle.std.proofs.Common.{◌∙◌, ap, refl}
 use Rattle.plain_files.specs.Directory.{Files}
 use Rattle.plain_files.specs.NamedFiles.{files_named, jobs_named, name_of}
 use Rattle.file_tables.proofs.Files.{gone_files, gone_jobs}
@@ -23,4 +23,7 @@ pub returns-clause-jfns : goal.returns-clause-jfns
 returns-clause-jfns c =
     let old = c.args.self.now in
     let f = c.args.f.0 in
-    ap (λ (m : Files). jobs_named m old.jobs) c.delete.ensures ∙ gone_jobs old.dir old.lengths old.jobs old.sound f (name_of old.dir f) c.requires.unnamed
+    record {
+      named = ap (λ (m : Files). jobs_named m old.jobs) c.delete.ensures ∙ gone_jobs old.dir old.lengths old.jobs old.sound f (name_of old.dir f) c.requires.unnamed;
+      numbers = refl;
+    }

@@ -37,7 +37,7 @@ returns-clause-opened c =
     let put : c.open_file.new.self ≡ map.insert held n (opened c.args.mode c.args.size own.0) =
     subst (λ o. IfSome o (λ jfn. c.open_file.new.self ≡ map.insert held n (opened c.args.mode c.args.size jfn))) own.1 c.open_file.ensures in
     subst (λ o. IsSomeAnd o (λ (j : OpenFile). jobs_named old.dir (slice_set old.jobs t c.open_file.new.self)
-        ≡ slice_set (jobs_named old.dir old.jobs) t (map.insert (open_at (jobs_named old.dir old.jobs) t) n (opened_file c.args.mode c.args.size j))))
+    ≡ slice_set (jobs_named old.dir old.jobs) t (map.insert (open_at (jobs_named old.dir old.jobs) t) n (opened_file c.args.mode c.args.size j))))
     (sym (own_get old.dir old.lengths old.jobs old.sound t c.requires.terminal held c.of_mut.ensures.jfns n ∙ ap (option_map (open_file old.dir)) own.1))
     (ap (λ (h : Held). jobs_named old.dir (slice_set old.jobs t h)) put
     ∙ jobs_put old.dir old.lengths old.jobs old.sound t c.requires.terminal held c.of_mut.ensures.jfns n (opened c.args.mode c.args.size own.0))

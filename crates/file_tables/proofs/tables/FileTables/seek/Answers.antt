@@ -43,7 +43,7 @@ returns-clause-moved c =
     let put : c.seek.new.self ≡ map.insert held n (moved c.args.at own.0) =
     subst (λ o. IfSome o (λ jfn. c.seek.new.self ≡ map.insert held n (moved c.args.at jfn))) own.1 c.seek.ensures in
     subst (λ o. IsSomeAnd o (λ (j : OpenFile). jobs_named old.dir (slice_set old.jobs t c.seek.new.self)
-        ≡ slice_set (jobs_named old.dir old.jobs) t (map.insert (open_at (jobs_named old.dir old.jobs) t) n (moved_file c.args.at j))))
+    ≡ slice_set (jobs_named old.dir old.jobs) t (map.insert (open_at (jobs_named old.dir old.jobs) t) n (moved_file c.args.at j))))
     (sym (own_get old.dir old.lengths old.jobs old.sound t c.requires.terminal held c.of_mut.ensures.jfns n ∙ ap (option_map (open_file old.dir)) own.1))
     (ap (λ (h : Held). jobs_named old.dir (slice_set old.jobs t h)) put
     ∙ jobs_put old.dir old.lengths old.jobs old.sound t c.requires.terminal held c.of_mut.ensures.jfns n (moved c.args.at own.0))

@@ -1,0 +1,69 @@
+-- A word of a reading, which is an accumulator's or a page's.
+use Rattle.std.proofs.Common.{◌≡◌, ℕ, ◌%◌, ◌/◌, true, false, cond, Option, None, Some, refl, sym, ◌∙◌, ap, subst}
+use Rattle.std.specs.Prelude.{⊤, Result, Ok, Err, slice_index, is_some}
+use Rattle.outside.specs.declared.TheConstants.{PAGE_WORDS}
+use Rattle.machine_names.specs.declared.names.ForkName.{ForkName}
+use Rattle.machine_names.specs.declared.names.Kind.{Kind}
+use Rattle.machine_names.specs.declared.names.Kind.TheVariants.{Read}
+use Rattle.machine_names.specs.declared.names.PageName.{PageName}
+use Rattle.machine_names.specs.declared.names.Slot.{Slot}
+use Rattle.plain_units.specs.declared.registers.Regs.{Regs}
+use Rattle.plain_pages.specs.PlainPages.{NumberedPages}
+use Rattle.plain_pages.specs.References.{in_map, page_at, slot_at, word_at}
+use Rattle.plain_units.specs.Steps.{Asked, Stop as Stopped, asked_at, begun, goes, is_accumulator, referred, run, seen, stops as asked_stops, word_taken}
+use Rattle.plain_model.specs.PointedTexts.{Reading, word_steps, words}
+use Rattle.ka10_unit.specs.declared.taken.Stop.{Stop}
+use Rattle.ka10_unit.specs.Gathers.{Framed, asks}
+use Rattle.ka10_unit.specs.Taking.{asked_as, stop_of}
+use Rattle.ka10_unit.proofs.Seeing.{word_named}
+use Rattle.text_pointers.specs.declared.reader.Reader.{Reader}
+use Rattle.text_pointers.specs.Outcomes.{reads, stops}
+use Rattle.text_pointers.specs.Reading.{ReadsPage, ReadsWord, Stands, pages_so_far}
+
+module _ {N : Type 0} (ask : NumberedPages → Slot → Kind → Asked N NumberedPages) (f : ForkName) (regs : Regs) (at : ℕ) (q : NumberedPages) (rest : ℕ → Reading) where
+  -- a word that is referred to
+  pub word_goes : (r : NumberedPages) (w : ℕ) → asked_at ask f q at Read ≡ goes r → w ≡ word_taken f (referred (begun q regs.ac) at Read r) at → reads ask f regs (words (word_steps regs at) rest) q ≡ reads ask f regs (rest w) r
+  unfolding reads run
+  word_goes r w asked is = rw (asked, is) refl
+
+  -- or that stops the reading
+  word_stops : (e : Stopped N) → asked_at ask f q at Read ≡ asked_stops e → reads ask f regs (words (word_steps regs at) rest) q ≡ stops e
+  unfolding reads run
+  word_stops e asked = rw asked refl
+
+module _ (f : ForkName) (p : Framed) (regs : Regs) (old : Reader) (at : ℕ) where
+  -- the word of an accumulator
+  pub of_accumulator : is_accumulator at ≡ true → Stands f p old → ReadsWord f p regs old old at (Ok (slice_index regs.ac at))
+  of_accumulator low stands = record {
+    stands = λ w is. stands;
+    runs = λ rest. word_goes (asks f p) f regs at (pages_so_far p old) rest (pages_so_far p old) (slice_index regs.ac at) (rw low refl) (rw low refl);
+  }
+
+  module _ (new : Reader) (high : is_accumulator at ≡ false) where
+    abbrev q : NumberedPages
+    q = pages_so_far p old
+
+    asked : (result : Result ⊤ Stop) → ReadsPage f p old new (at / PAGE_WORDS) result → asked_at (asks f p) f q at Read ≡ asked_as result (pages_so_far p new)
+    asked result page = rw high page.is
+
+    -- the word of a page
+    pub of_page : (w : ℕ) (x : ⊤) → w ≡ word_at (pages_so_far p new) (in_map (slot_at f at)) (at % PAGE_WORDS) → ReadsPage f p old new (at / PAGE_WORDS) (Ok x) → ReadsWord f p regs old new at (Ok w)
+    of_page w x is page = record {
+      stands = λ v one. page.stands x refl;
+      runs = λ rest. word_goes (asks f p) f regs at q rest (pages_so_far p new) w (asked (Ok x) page) (is ∙ by (page_at (pages_so_far p new) (in_map (slot_at f at))) refl (page.readable x refl).there);
+    }
+      where
+        by : (n : Option PageName) → page_at (pages_so_far p new) (in_map (slot_at f at)) ≡ n → is_some (page_at (pages_so_far p new) (in_map (slot_at f at))) ≡ true
+            → word_at (pages_so_far p new) (in_map (slot_at f at)) (at % PAGE_WORDS) ≡ word_taken f (referred (begun q regs.ac) at Read (pages_so_far p new)) at
+        by None none some = absurd (let no : false ≡ true = ap is_some (sym none) ∙ some in cc no)
+        by (Some n) there some =
+            word_named (pages_so_far p new) (slot_at f at) (at % PAGE_WORDS) n there ∙ sym (ap (seen (pages_so_far p new) f None at) there)
+            ∙ sym (ap (λ b. cond b (slice_index regs.ac at) (seen (pages_so_far p new) f None at (page_at (pages_so_far p new) (in_map (slot_at f at))))) high)
+
+    -- a page that stops the reading
+    pub page_stops : (e : Stop) → ReadsPage f p old new (at / PAGE_WORDS) (Err e) → ReadsWord f p regs old new at (Err e)
+    page_stops e page = record { stands = λ w no. absurd (cc no); runs = λ rest. word_stops (asks f p) f regs at q rest (stop_of e) (asked (Err e) page) }
+
+-- what the reader's fork reads a fork reads that it stands for
+pub read_by : (f : ForkName) (p : Framed) (regs : Regs) (old new : Reader) (at : ℕ) (result : Result ℕ Stop) → Stands f p old → (Stands old.fork p old → ReadsWord old.fork p regs old new at result) → ReadsWord f p regs old new at result
+read_by f p regs old new at result stands told = subst (λ (g : ForkName). ReadsWord g p regs old new at result) stands.fork (told (subst (λ (g : ForkName). Stands g p old) (sym stands.fork) stands))

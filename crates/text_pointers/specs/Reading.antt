@@ -1,0 +1,119 @@
+-- How far a reading has come, and what a part of it that was done says of the whole.
+use Rattle.std.specs.Prelude.{◌≡◌, ◌≢◌, ◌⊎◌, ℕ, ◌+◌, ◌≤◌, true, List, [], Option, None, Some, Result, Ok, Err, ⊤, is_some}
+use Rattle.std.specs.Option.{option_map}
+use Rattle.arrayvec.specs.ArrayVec.{ArrayVec}
+use Rattle.machine_names.specs.declared.names.ForkName.{ForkName}
+use Rattle.machine_names.specs.declared.names.Kind.TheVariants.{Read}
+use Rattle.machine_names.specs.declared.names.Slot.{Slot}
+use Rattle.plain_pages.specs.PlainPages.{NumberedPages}
+use Rattle.plain_pages.specs.References.{in_map, makings, page_at}
+use Rattle.page_contracts.specs.declared.answers.Need.{Need}
+use Rattle.page_contracts.specs.Pages.{PagesMeaning}
+use Rattle.plain_units.specs.declared.registers.Regs.{Regs}
+use Rattle.plain_model.specs.declared.text.TheConstants.{MOST_BYTES}
+use Rattle.plain_model.specs.PointedTexts.{Reading, bytes_from, text_at, word_steps, words}
+use Rattle.page_gather.specs.Gathering.{Gathers, IsNear, left_of}
+use Rattle.ka10_unit.specs.declared.taken.Stop.{Stop}
+use Rattle.ka10_unit.specs.Gathers.{Framed, asks, weight}
+use Rattle.ka10_unit.specs.Taking.{IsTrap, StopNeeds, asked_as, most_frames, stop_of}
+use Rattle.text_pointers.specs.declared.reader.Reader.{Reader}
+use Rattle.text_pointers.specs.declared.text.PointedText.{PointedText}
+use Rattle.text_pointers.specs.Outcomes.{IsPlain, Outcome, leaves, read_on, read_over, stops}
+
+-- the pages that the references so far leave
+abbrev pub pages_so_far : Framed → Reader → NumberedPages
+pages_so_far p r = left_of p.pages r.gather
+
+-- a page of a fork's space
+abbrev pub in_space : ForkName → ℕ → Slot
+in_space f page = record { fork = f; page = page }
+
+-- a page of a fork's space is there and in a frame, and a read of it makes nothing more
+pub record IsReadable (f : ForkName) (p : Framed) (q : NumberedPages) (page : ℕ) : Type 0 where
+  pub makes : makings q (in_map (in_space f page)) Read ≡ Some []
+  pub there : is_some (page_at q (in_map (in_space f page))) ≡ true
+  pub near : IsNear q p.scene (in_space f page)
+
+-- so is that of the last byte that stands in one
+abbrev pub HasPage : ForkName → Framed → NumberedPages → Option ℕ → Type 0
+HasPage f p q None = Unit {0}
+HasPage f p q (Some page) = IsReadable f p q page
+
+-- what a reader of a fork's space has referred to: each reference goes through
+pub record Stands (f : ForkName) (p : Framed) (r : Reader) : Type 0 where
+  pub fork : r.fork ≡ f
+  pub gathers : Gathers p.pages p.scene r.gather
+  pub page : HasPage f p (pages_so_far p r) r.page
+
+-- ---- how much is referred to
+
+-- how many frames a reading may want: those of its address, and two for the pages of its bytes
+abbrev pub text_frames : ℕ
+text_frames = most_frames + 2
+
+-- a page was referred to before, or there is room for one more
+abbrev pub MayRefer : Reader → ℕ → Type 0
+MayRefer r page = (r.page ≡ Some page) ⊎ (weight r.gather + 1 ≤ text_frames)
+
+-- nothing more was referred to
+pub record IsSame (old new : Reader) : Type 0 where
+  pub page : new.page ≡ old.page
+  pub weight_is : weight new.gather ≤ weight old.gather
+
+-- one page more was, another than that of the last byte
+pub record IsNext (old new : Reader) (page : ℕ) : Type 0 where
+  pub page_is : new.page ≡ Some page
+  pub other : old.page ≢ Some page
+  pub weight_is : weight new.gather ≤ weight old.gather + 1
+
+-- a page is referred to once in a row
+abbrev pub RefersOnce : {A : Type 0} → Reader → Reader → ℕ → Result A Stop → Type 0
+RefersOnce old new page (Ok x) = IsSame old new ⊎ IsNext old new page
+RefersOnce old new page (Err e) = Unit {0}
+
+-- what a reading that stops needs first is so, and it needs nothing over pages in memory
+abbrev pub StopsFor : {P : Type 0} → PagesMeaning P → P → Stop → Type 0
+StopsFor means p stop = (means.flat ≡ true → IsTrap stop) × StopNeeds means.store text_frames p stop
+
+-- ---- what the calls say
+
+-- a page was referred to, and can be read on the pages that this leaves
+pub record ReadsPage (f : ForkName) (p : Framed) (old new : Reader) (page : ℕ) (result : Result ⊤ Stop) : Type 0 where
+  pub is : asks f p (pages_so_far p old) (in_space f page) Read ≡ asked_as result (pages_so_far p new)
+  pub stands : (x : ⊤) → result ≡ Ok x → Stands f p new
+  pub readable : (x : ⊤) → result ≡ Ok x → IsReadable f p (pages_so_far p new) page
+
+-- a reading goes on with a word, or stops
+abbrev pub went_on : Result ℕ Stop → (ℕ → Outcome Need) → Outcome Need
+went_on (Ok w) next = next w
+went_on (Err e) next = stops (stop_of e)
+
+-- a word was read: whatever comes behind it, the reading goes on with it, or stops as it did
+pub record ReadsWord (f : ForkName) (p : Framed) (regs : Regs) (old new : Reader) (at : ℕ) (result : Result ℕ Stop) : Type 0 where
+  pub stands : (w : ℕ) → result ≡ Ok w → Stands f p new
+  pub runs : (rest : ℕ → Reading) → read_over f p regs (words (word_steps regs at) rest) (pages_so_far p old) ≡ went_on result (λ w. read_over f p regs (rest w) (pages_so_far p new))
+
+-- the bytes of a text, if there is one
+abbrev pub bytes_of : Option (ArrayVec ℕ) → Option (List ℕ)
+bytes_of text = option_map (λ t. t.items) text
+
+-- how a reading ended, or why it stopped
+abbrev pub came_to : Framed → Reader → Result (Option (ArrayVec ℕ)) Stop → Outcome Need
+came_to p new (Ok text) = leaves (pages_so_far p new) (bytes_of text)
+came_to p new (Err e) = stops (stop_of e)
+
+-- the bytes from a pointer on were read
+pub record ReadsBytes (f : ForkName) (p : Framed) (regs : Regs) (old new : Reader) (first : ℕ) (result : Result (Option (ArrayVec ℕ)) Stop) : Type 0 where
+  pub stands : (text : Option (ArrayVec ℕ)) → result ≡ Ok text → Stands f p new
+  pub is : read_over f p regs (bytes_from MOST_BYTES regs first []) (pages_so_far p old) ≡ came_to p new result
+
+-- how the reading of a whole text ended
+abbrev pub ended : Framed → Result PointedText Stop → Outcome Need
+ended p (Ok t) = leaves (pages_so_far p t.reader) (bytes_of t.text)
+ended p (Err e) = stops (stop_of e)
+
+-- A TEXT WAS READ: over these pages its reading comes to this, and over the plain ones where it needs nothing first
+pub record ReadsText (f : ForkName) (p : Framed) (regs : Regs) (pointer : ℕ) (result : Result PointedText Stop) : Type 0 where
+  pub stands : (t : PointedText) → result ≡ Ok t → Stands f p t.reader
+  pub is : read_over f p regs (text_at regs pointer) p.pages ≡ ended p result
+  pub plain : IsPlain (ended p result) (read_on f regs (text_at regs pointer) p.pages)
