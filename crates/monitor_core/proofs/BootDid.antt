@@ -31,7 +31,7 @@ use Rattle.machine_names.specs.Orders.{file_page_cmp, name_cmp}
 use Rattle.file_tables.specs.declared.tables.FileTables.{FileTables}
 use Rattle.monitor_core.proofs.NamedPages.{none_named}
 use Rattle.file_tables.specs.Tables.{files_of, no_jobs as no_jfns, open_of}
-use Rattle.plain_files.specs.OpenFiles.{OpenFiles, open_at}
+use Rattle.plain_files.specs.OpenFiles.{OpenFile, OpenFiles, open_at}
 
 -- a table with no entry is the empty map
 none_from : {K X V : Type 0} {R : K → K → Ordering} (key : ℕ → X → K) (value : ℕ → X → V) (n k : ℕ) → map_from {R = R} key value k (replicate n None) ≡ fin.empty
@@ -51,7 +51,7 @@ none_listed look none from (suc n) = ap (λ o. length (cons_option o (filter_map
 -- nor is a JFN held
 pub unheld_boot : (files : FileTables) → open_of files ≡ no_jfns → (jobs : List (Option Job)) → AreUnheld (open_of files) jobs
 unfolding no_jfns
-unheld_boot files open jobs t gone = ap (λ o. open_at o t) open ∙ all_empty TERMINALS t
+unheld_boot files held jobs t gone = ap fin.len (ap (λ o. open_at o t) held ∙ all_empty TERMINALS t) ∙ fin.len-empty nat_cmp OpenFile
   where
     all_empty : (n i : ℕ) → get_or {A = OpenFiles} (replicate n fin.empty) i fin.empty ≡ fin.empty
     all_empty zero i = refl
@@ -84,7 +84,7 @@ module _ (jobs : List (Option Job)) (none : jobs ≡ no_jobs TERMINALS) where
     nobody = λ t f e lives at. nobody tree f empty lives;
   }
 
-module _ {P : Type 0} {b : _} (m : System P b) (none : m.jobs.items ≡ no_jobs TERMINALS) (tree : m.tree ≡ no_forks) (clock : m.clock ≡ 0) (files : files_of m.files ≡ fin.empty) (open : open_of m.files ≡ no_jfns) where
+module _ {P : Type 0} {b : _} (m : System P b) (none : m.jobs.items ≡ no_jobs TERMINALS) (tree : m.tree ≡ no_forks) (clock : m.clock ≡ 0) (files : files_of m.files ≡ fin.empty) (held : open_of m.files ≡ no_jfns) where
   pub within_boot : ((t : Tty) → b.means.serial m.pages t ≤ 1) → IsWithin m 0
   within_boot serials = record {
     ticks = omega (arith, clock);

@@ -126,7 +126,7 @@ module _ {P : Type 0} {b : _} (m : System P b) (t : Tty) (user : List ℕ) where
           let added = told d fits.pages in
           let f = next_name m.tree t in
           let within : t.0 < length m.jobs.items = omega (arith, m.sound.job_room, low) in
-          let plain_k : plain_job (open_at (open_of m.files) t.0) k ≡ new_job user f = λ i. record (new_job user f) { user = user_is i; mode = mode i; top = top i; jfns = m.unheld t.0 free i } in
+          let plain_k : plain_job (open_at (open_of m.files) t.0) k ≡ new_job user f = λ i. record (new_job user f) { user = user_is i; mode = mode i; top = top i; jfns = fin.empty_of_len (open_at (open_of m.files) t.0) (m.unheld t.0 free) i } in
           let jobs : jobs_of (open_of m'.files) m'.jobs.items ≡ fin.insert old.jobs t.0 (new_job user f) = (λ i. jobs_of (open_of (files i)) (set_to i)) ∙ jobs_set (open_of m.files) m.jobs.items t.0 k within ∙ ap (fin.insert old.jobs t.0) plain_k in
           let mine : state_of m' d ≡ with_job old t user = λ i. record old { pages = named (files i).dir (added.1 i); files = files_of (files i); jobs = jobs i; forks = (tree i).forks; fork_serials = (tree i).serials; clock = clock i } in
           let effect = apply_outer old (Login t user) ∙ logs_in d fits (agrees d fits.pages) dead unused room in (

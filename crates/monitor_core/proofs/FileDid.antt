@@ -1,6 +1,6 @@
 -- The events of files, as the events of the plain machine.
 use Rattle.std.proofs.Common.{◌≡◌, ℕ, ◌+◌, ◌*◌, ◌<◌, ◌≤◌, Bool, true, false, cond, List, [], ◌∷◌, length, take, Option, None, Some, refl, sym, ◌∙◌, ap, subst, arith, nat_lt, is_some}
-use Rattle.std.specs.Prelude.{Result, Ok, Err}
+use Rattle.std.specs.Prelude.{MatchOption, Result, Ok, Err}
 use Rattle.std.specs.Ordering.{nat_cmp}
 use Rattle.std.specs.Option.{option_map_or}
 use Rattle.std.specs.FinMap as fin
@@ -18,7 +18,7 @@ use Rattle.plain_pages.specs.References.{Referred, denied, full, granted, in_fil
 use Rattle.plain_files.specs.declared.bounds.TheConstants.{LARGEST_BYTE}
 use Rattle.plain_files.specs.Directory.{Creates}
 use Rattle.plain_files.specs.NamedFiles.{AreFiled, name_of, page_named, pages_named}
-use Rattle.plain_files.specs.Sizes.{PlainFile, new_file, reaching}
+use Rattle.plain_files.specs.Sizes.{PlainFile, file_at, new_file, reaching}
 use Rattle.plain_model.specs.Events.{outer}
 use Rattle.plain_model.specs.FileEvents.{at_file, console, make_file, page_named as spot_named, show_page, stored_row, words_shown, write_words, written}
 use Rattle.plain_model.specs.State.{PlainState}
@@ -30,6 +30,8 @@ use Rattle.script_texts.specs.declared.event.Item.TheVariants.{PageLine, Refusal
 use Rattle.script_texts.specs.declared.event.Refusal.TheVariants.{Exists, FileFull, FilesFull, NoFile, NoFilePage}
 use Rattle.script_texts.specs.declared.event.Step.TheVariants.{Outer}
 use Rattle.script_texts.specs.declared.event.WordRow.{WordRow}
+use Rattle.machine_names.specs.declared.names.FileNo.{FileNo}
+use Rattle.file_tables.proofs.Names.{by_name_at, named as its_name}
 use Rattle.file_tables.specs.declared.tables.FileTables.{FileTables}
 use Rattle.file_tables.specs.Tables.{FilesStay, IsThere, OpenStay, files_of, open_of}
 use Rattle.monitor_core.specs.declared.reply.Reply.TheVariants.{Nothing, One, Page as ShowsPage}
@@ -47,6 +49,22 @@ use Rattle.monitor_core.proofs.Systems.{fits_left, serials_made, state_left}
 some_is : {X : Type 0} (o : Option X) → is_some o ≡ true → (x : X) × (o ≡ Some x)
 some_is None h = absurd (cc h)
 some_is (Some x) h = (x, refl)
+
+-- what is found by a name
+module _ (t : FileTables) (name : List ℕ) where
+  abbrev IsFound : Option FileNo → Type 0
+  IsFound o = MatchOption o (fin.get (files_of t) name ≡ None) (λ f. IsThere t f.0 × (name_of t.dir f.0 ≡ name))
+
+  pub file_there : (f : ℕ) → IsThere t f → fin.get (files_of t) (name_of t.dir f) ≡ Some (file_at t.lengths f)
+  file_there f there = by_name_at t.dir t.sound.numbers (file_at t.lengths) f (name_of t.dir f) (its_name t.dir f there)
+
+  pub file_found : (o : Option FileNo) → IsFound o → is_some o ≡ true → (file : PlainFile) × (fin.get (files_of t) name ≡ Some file)
+  file_found None found some = absurd (cc some)
+  file_found (Some f) found some = (file_at t.lengths f.0, ap (fin.get (files_of t)) (sym found.1) ∙ file_there f.0 found.0)
+
+  pub file_missing : (o : Option FileNo) → IsFound o → is_some o ≡ false → fin.get (files_of t) name ≡ None
+  file_missing None found none = found
+  file_missing (Some f) found none = absurd (cc none)
 
 module _ {P : Type 0} {b : _} (m : System P b) (name : List ℕ) where
   -- FILE, where there is one of the name, and where there are as many as there may be
@@ -79,7 +97,7 @@ module _ {P : Type 0} {b : _} (m : System P b) (name : List ℕ) where
   -- an empty file is made
   pub did_file : (m' : System P b) (f : ℕ) → fin.get (files_of m.files) name ≡ None → fin.len (files_of m.files) < MOST_FILES → files_of m'.files ≡ fin.insert (files_of m.files) name new_file → Creates m.files.dir m'.files.dir f name → OpenStay m.files m'.files
       → m'.pages ≡ m.pages → m'.tree ≡ m.tree → m'.jobs.items ≡ m.jobs.items → m'.clock ≡ m.clock → Did m m' (Outer (File name)) Nothing
-  did_file m' f none few files created open same tree jobs clock = record {
+  did_file m' f none few files created held same tree jobs clock = record {
     each = λ d fits.
         let s = state_of m d in
         let p = b.means.plain m.pages d in
@@ -89,7 +107,7 @@ module _ {P : Type 0} {b : _} (m : System P b) (name : List ℕ) where
         let keys : pages_named m'.files.dir p.files ≡ pages_named m.files.dir p.files = ap (λ t. pages_named t p.files) dir ∙ named_made m.files.dir f name created.least.free p.files fits.filed in
         let pages : named m'.files.dir (b.means.plain m'.pages d) ≡ named m.files.dir p = ap (λ x. named m'.files.dir (b.means.plain x d)) same ∙ (λ i. record (named m.files.dir p) { files = keys i }) in
         let mine : state_of m' d ≡ record s { files = fin.insert s.files name new_file } =
-        λ i. record s { pages = pages i; files = files i; jobs = jobs_of (open i) (jobs i); forks = (tree i).forks; fork_serials = (tree i).serials; clock = clock i } in
+        λ i. record s { pages = pages i; files = files i; jobs = jobs_of (held i) (jobs i); forks = (tree i).forks; fork_serials = (tree i).serials; clock = clock i } in
         let effect = apply_outer s (File name) ∙ outer_file s name
         ∙ ap (λ o. cond (is_some o) (refused s (Exists name)) (cond (nat_lt (fin.len s.files) MOST_FILES) (record { state = record s { files = fin.insert s.files name new_file }; items = [] }) (refused s (FilesFull name)))) none
         ∙ ap (λ c. cond c (record { state = record s { files = fin.insert s.files name new_file }; items = [] }) (refused s (FilesFull name))) yes in (
@@ -184,7 +202,7 @@ module _ {P : Type 0} {b : _} (m : System P b) (f page : ℕ) (there : IsThere m
       }
 
     -- and the file reaches behind them
-    module _ (end : ℕ) (is_end : end ≡ page * PAGE_WORDS + offset + length words) (files : files_of m'.files ≡ fin.insert (files_of m.files) name (reaching LARGEST_BYTE end file)) (dir : m'.files.dir ≡ m.files.dir) (open : OpenStay m.files m'.files)
+    module _ (end : ℕ) (is_end : end ≡ page * PAGE_WORDS + offset + length words) (files : files_of m'.files ≡ fin.insert (files_of m.files) name (reaching LARGEST_BYTE end file)) (dir : m'.files.dir ≡ m.files.dir) (held : OpenStay m.files m'.files)
         (told : (d : DrumWords) → b.means.fits m.pages d → b.means.fits m'.pages d × IsRowWritten {X = Unit {0}} (b.means.plain m.pages d) (b.means.plain m'.pages d) (in_file (file_page f page)) console offset words (Ok tt)) where
       pub did_write : Did m m' (Outer (Words name page offset row)) Nothing
       did_write = record {
@@ -200,7 +218,7 @@ module _ {P : Type 0} {b : _} (m : System P b) (f page : ℕ) (there : IsThere m
             let q_files : q.files ≡ ready.files = ap (λ x. x.files) stored ∙ row_files m.files.dir m.files.sound.numbers f page there words offset ready in
             let pages : stored_row (named m.files.dir ready) (spot_named name page) offset words ≡ named m.files.dir q = row_named m.files.dir m.files.sound.numbers f page there words offset ready ready_filed ∙ ap (named m.files.dir) (sym stored) in
             let mine : state_of m' d ≡ record s { pages = named m.files.dir q; files = fin.insert s.files name (reaching LARGEST_BYTE end file) } =
-            λ i. record s { pages = named (dir i) q; files = files i; jobs = jobs_of (open i) (jobs i); forks = (tree i).forks; fork_serials = (tree i).serials; clock = clock i } in
+            λ i. record s { pages = named (dir i) q; files = files i; jobs = jobs_of (held i) (jobs i); forks = (tree i).forks; fork_serials = (tree i).serials; clock = clock i } in
             let went : ◌≡◌ {A = Effect} (written s name page offset words file (granted (named m.files.dir ready))) (record { state = record s { pages = named m.files.dir q; files = fin.insert s.files name (reaching LARGEST_BYTE end file) }; items = [] }) =
             λ i. record { state = record s { pages = pages i; files = fin.insert s.files name (reaching LARGEST_BYTE (sym is_end i) file) }; items = [] } in
             let effect = apply_outer s (Words name page offset row) ∙ outer_written d fits ∙ ap (λ r. written s name page offset words file (named_result m.files.dir r)) refers ∙ went in (

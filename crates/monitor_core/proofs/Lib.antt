@@ -10,6 +10,8 @@ mod Rooms
 mod Filed
 mod NamedPages
 mod FileReferences
+mod ShownWords
+mod WordsTouched
 mod FileDid
 mod Silent
 mod UnitRan

@@ -88,8 +88,8 @@ unfolding first_regs psi_at_rest
 top_body name = record { status = λ c h. absurd (cc h); off = refl; pc = omega arith; accumulators = refl }
 
 -- no JFN is held where no job is, once there is a job more
-pub unheld_begun : (open : List OpenFiles) (jobs : List (Option Job)) (t : ℕ) (k : Job) → AreUnheld open jobs → t < length jobs → AreUnheld open (set jobs t (Some k))
-unheld_begun open jobs t k none within u gone = elim (cases_eq u t) [
+pub unheld_begun : (held : List OpenFiles) (jobs : List (Option Job)) (t : ℕ) (k : Job) → AreUnheld held jobs → t < length jobs → AreUnheld held (set jobs t (Some k))
+unheld_begun held jobs t k none within u gone = elim (cases_eq u t) [
   | inl same ↦ absurd (let there : Some k ≡ None = sym (get_or-set_same jobs t (Some k) None within) ∙ ap (job_at (set jobs t (Some k))) (sym same) ∙ gone in cc there)
   | inr ne ↦ none u (sym (get_or-set_other jobs t u (Some k) None ne) ∙ gone)
 ]

@@ -17,22 +17,22 @@ jobs_ranked js i x e = refl
 alike : {K : Type 0} {R : K → K → Ordering} → IsTotalOrder R → (x : K) → eq_by_cmp R x x ≡ true
 alike o x = ap is_eq (tied_itself o x)
 
-module _ (open : List OpenFiles) where
+module _ (held : List OpenFiles) where
   abbrev told_job : ℕ → Job → PlainJob
-  told_job u k = plain_job (open_at open u) k
+  told_job u k = plain_job (open_at held u) k
 
-  pub job_found : (js : List (Option Job)) (t : ℕ) (j : Job) → job_at js t ≡ Some j → fin.get (jobs_of open js) t ≡ Some (told_job t j)
+  pub job_found : (js : List (Option Job)) (t : ℕ) (j : Job) → job_at js t ≡ Some j → fin.get (jobs_of held js) t ≡ Some (told_job t j)
   job_found js t j at =
       found nat_cmp_total fin.nat_cmp-IsAntisymmetric (λ (u : ℕ) (k : Job). u) told_job (λ q. q) 0 js t t (jobs_ranked js) (omega arith)
       ∙ ap (λ e. with_key nat_cmp (λ (u : ℕ) (k : Job). u) told_job t t e) at
       ∙ ap (λ b. cond b (Some (told_job t j)) None) (alike nat_cmp_total t)
 
-  pub job_missing : (js : List (Option Job)) (t : ℕ) → job_at js t ≡ None → fin.get (jobs_of open js) t ≡ None
+  pub job_missing : (js : List (Option Job)) (t : ℕ) → job_at js t ≡ None → fin.get (jobs_of held js) t ≡ None
   job_missing js t at =
       found nat_cmp_total fin.nat_cmp-IsAntisymmetric (λ (u : ℕ) (k : Job). u) told_job (λ q. q) 0 js t t (jobs_ranked js) (omega arith)
       ∙ ap (λ e. with_key nat_cmp (λ (u : ℕ) (k : Job). u) told_job t t e) at
 
   -- another job in a terminal's place is another entry of the map
-  pub jobs_set : (js : List (Option Job)) (t : ℕ) (j : Job) → t < length js → jobs_of open (set js t (Some j)) ≡ fin.insert (jobs_of open js) t (told_job t j)
+  pub jobs_set : (js : List (Option Job)) (t : ℕ) (j : Job) → t < length js → jobs_of held (set js t (Some j)) ≡ fin.insert (jobs_of held js) t (told_job t j)
   jobs_set js t j within =
       map_from_set nat_cmp_total fin.nat_cmp-IsAntisymmetric (λ (u : ℕ) (k : Job). u) told_job (λ q. q) js t j (jobs_ranked js) (jobs_ranked (set js t (Some j))) within (λ x e. refl)

@@ -42,8 +42,8 @@ change_is s name change same = by (map.get s.forks name)
     by (Some f) = λ i. record s { forks = map.insert s.forks (same f i) (change f) }
 
 -- no JFN is held where no job is, nor where none was
-pub unheld_still : (open : List OpenFiles) (jobs jobs' : List (Option Job)) → AreUnheld open jobs → SameTops jobs jobs' → AreUnheld open jobs'
-unheld_still open jobs jobs' none tops t gone = none t (tops.none t gone)
+pub unheld_still : (held : List OpenFiles) (jobs jobs' : List (Option Job)) → AreUnheld held jobs → SameTops jobs jobs' → AreUnheld held jobs'
+unheld_still held jobs jobs' none tops t gone = none t (tops.none t gone)
 
 module _ {P : Type 0} {b : _} (m m' : System P b) (files : m'.files ≡ m.files) where
   -- the drum fits where the pages of files are those that they were

@@ -51,8 +51,8 @@ use Rattle.monitor_core.proofs.Systems.{fits_left, unheld_still}
 use Rattle.monitor_core.proofs.UnitEffect.{Runs, behind_state, jobs_seen}
 
 -- the jobs of which one gives its terminal to the monitor, as the plain state has them
-module _ (open : List OpenFiles) where
-  pub jobs_left_seen : (jobs : List (Option Job)) (t : Tty) (stops : Bool) → t.0 < length jobs → jobs_of open (jobs_left jobs t.0 stops) ≡ jobs_seen (jobs_of open jobs) t stops
+module _ (held : List OpenFiles) where
+  pub jobs_left_seen : (jobs : List (Option Job)) (t : Tty) (stops : Bool) → t.0 < length jobs → jobs_of held (jobs_left jobs t.0 stops) ≡ jobs_seen (jobs_of held jobs) t stops
   jobs_left_seen jobs t false low = refl
   jobs_left_seen jobs t true low = by (job_at jobs t.0) refl
     where
@@ -60,11 +60,11 @@ module _ (open : List OpenFiles) where
       left o = option_map_or (λ (j : Job). slice_set jobs t.0 (Some (record j { mode = Command }))) o jobs
 
       seen : Option PlainJob → fin.FinMap nat_cmp PlainJob
-      seen o = option_map_or (λ (j : PlainJob). fin.insert (jobs_of open jobs) t.0 (record j { mode = Command })) o (jobs_of open jobs)
+      seen o = option_map_or (λ (j : PlainJob). fin.insert (jobs_of held jobs) t.0 (record j { mode = Command })) o (jobs_of held jobs)
 
-      by : (o : Option Job) → job_at jobs t.0 ≡ o → jobs_of open (left o) ≡ seen (fin.get (jobs_of open jobs) t.0)
-      by None none = ap seen (sym (job_missing open jobs t.0 none))
-      by (Some j) there = jobs_set open jobs t.0 (record j { mode = Command }) low ∙ ap seen (sym (job_found open jobs t.0 j there))
+      by : (o : Option Job) → job_at jobs t.0 ≡ o → jobs_of held (left o) ≡ seen (fin.get (jobs_of held jobs) t.0)
+      by None none = ap seen (sym (job_missing held jobs t.0 none))
+      by (Some j) there = jobs_set held jobs t.0 (record j { mode = Command }) low ∙ ap seen (sym (job_found held jobs t.0 j there))
 
 -- and each terminal has the same top fork
 pub tops_left : (jobs : List (Option Job)) (t : ℕ) (stops : Bool) → t < length jobs → SameTops jobs (jobs_left jobs t stops)
@@ -173,9 +173,9 @@ module _ {P : Type 0} {b : _} (m : System P b) (f : Fork) (trees : IsTree m.tree
 
         state_is : state_of m' d ≡ behind_state filed (state_of m d) f last
         state_is =
-            let open = open_of m.files in
-            let jobs_are : jobs_of (open_of m'.files) m'.jobs.items ≡ jobs_seen (jobs_of open m.jobs.items) f.name.tty (is_stop (seen_of f.slot units.shown)) =
-            (λ i. jobs_of (open_of (files i)) (jobs i)) ∙ jobs_left_seen open m.jobs.items f.name.tty (is_stop shown) within_jobs ∙ ap (λ x. jobs_seen (jobs_of open m.jobs.items) f.name.tty (is_stop x)) seen in
+            let held = open_of m.files in
+            let jobs_are : jobs_of (open_of m'.files) m'.jobs.items ≡ jobs_seen (jobs_of held m.jobs.items) f.name.tty (is_stop (seen_of f.slot units.shown)) =
+            (λ i. jobs_of (open_of (files i)) (jobs i)) ∙ jobs_left_seen held m.jobs.items f.name.tty (is_stop shown) within_jobs ∙ ap (λ x. jobs_seen (jobs_of held m.jobs.items) f.name.tty (is_stop x)) seen in
             let tree_so = tree_is ∙ woken in
             (λ i. record (state_of m' d) { pages = named (files i).dir (b.means.plain (pages_are i) d); files = files_of (files i); jobs = jobs_are i; forks = (tree_so i).forks; fork_serials = (tree_so i).serials; clock = clock i })
             ∙ ap (λ x. record (behind_state filed (state_of m d) f last) { pages = x }) (named_left m.files.dir (b.means.plain m.pages d) (b.means.plain q d) entries.files)

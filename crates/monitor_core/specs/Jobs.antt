@@ -25,7 +25,7 @@ plain_job jfns j = record { user = j.user; top = j.top; mode = j.mode; line = []
 
 -- the jobs by terminal, each with the JFNs that are held there
 abbrev pub jobs_of : List OpenFiles → List (Option Job) → map.FinMap nat_cmp PlainJob
-jobs_of open jobs = map_from (λ t j. t) (λ t j. plain_job (open_at open t) j) 0 jobs
+jobs_of held jobs = map_from (λ t j. t) (λ t j. plain_job (open_at held t) j) 0 jobs
 
 -- the job of a terminal
 abbrev pub job_at : List (Option Job) → ℕ → Option Job
@@ -37,7 +37,7 @@ jobs_left jobs t stops = if stops then option_map_or (λ j. slice_set jobs t (So
 
 -- no JFN is held where no job is
 abbrev pub AreUnheld : List OpenFiles → List (Option Job) → Type 0
-AreUnheld open jobs = (t : ℕ) → job_at jobs t ≡ None → open_at open t ≡ map.empty
+AreUnheld held jobs = (t : ℕ) → job_at jobs t ≡ None → map.len (open_at held t) ≡ 0
 
 -- no job at so many terminals
 unfoldable pub no_jobs : ℕ → List (Option Job)
