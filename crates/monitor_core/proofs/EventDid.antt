@@ -16,10 +16,10 @@ use Rattle.page_contracts.specs.DrumWords.{DrumWords}
 use Rattle.machine_names.specs.Bounds.{IsTerminal}
 use Rattle.plain_pages.specs.Room.{live, HasRoom}
 use Rattle.plain_model.specs.Forks.{top_fork}
-use Rattle.plain_model.specs.Unit.{Effect}
+use Rattle.plain_model.specs.Unit.{Effect, refused}
 use Rattle.plain_model.specs.Trees.{PlainTree, next_name, tree_of}
 use Rattle.page_contracts.specs.Pages.{Agrees}
-use Rattle.plain_model.specs.Events.{refused, with_job, new_job, outer}
+use Rattle.plain_model.specs.Events.{with_job, new_job, outer}
 use Rattle.plain_pages.specs.NewMaps.{with_map}
 use Rattle.plain_model.proofs.Equations.{apply_outer, outer_login, outer_tick}
 use Rattle.plain_pages.proofs.Refiled.{live_refiled}

@@ -1,20 +1,22 @@
 -- The events of files, as the events of the plain machine.
-use Rattle.std.proofs.Common.{◌≡◌, ℕ, ◌+◌, ◌*◌, ◌<◌, ◌≤◌, Bool, true, false, cond, List, [], ◌∷◌, length, take, Option, None, Some, refl, sym, ◌∙◌, ap, subst, arith, nat_lt, is_some}
-use Rattle.std.specs.Prelude.{MatchOption, Result, Ok, Err}
+use Rattle.std.proofs.Common.{◌≡◌, ℕ, ◌+◌, ◌*◌, ◌<◌, ◌≤◌, Bool, true, false, cond, List, [], ◌∷◌, length, take, Option, None, Some, refl, sym, ◌∙◌, ap, subst, arith, nat_lt, is_some, inl, inr}
+use Rattle.std.specs.Prelude.{◌↔◌, IsTrue, is_none, MatchOption, Result, Ok, Err}
 use Rattle.std.specs.Ordering.{nat_cmp}
-use Rattle.std.specs.Option.{option_map_or}
+use Rattle.std.proofs.lemmas.List.{length-take-le}
+use Rattle.std.specs.Option.{IsSomeAnd, option_map_or}
 use Rattle.std.specs.FinMap as fin
+use Rattle.std.proofs.lemmas.Bool.{cases_lt}
 use Rattle.std.proofs.lemmas.Bool.Decides.{nat_tests}
 use Rattle.outside.specs.declared.TheConstants.{PAGE_WORDS}
 use Rattle.machine_names.specs.Bounds.{IsFileName}
 use Rattle.machine_names.specs.declared.names.PageName.{PageName}
 use Rattle.machine_names.specs.declared.names.TheConstants.{MOST_FILES}
 use Rattle.machine_names.specs.declared.names.Kind.TheVariants.{Write}
-use Rattle.machine_names.specs.Orders.{file_page, name_cmp}
+use Rattle.machine_names.specs.Orders.{FilePage, file_page, name_cmp}
 use Rattle.page_contracts.specs.DrumWords.{DrumWords}
-use Rattle.page_contracts.specs.Pages.{Agrees}
+use Rattle.page_contracts.specs.Pages.{Agrees, PagesMeaning}
 use Rattle.plain_pages.specs.PlainPages.{NumberedPages}
-use Rattle.plain_pages.specs.References.{Referred, denied, full, granted, in_file, page_at, reference, words_of}
+use Rattle.plain_pages.specs.References.{Referred, denied, full, granted, in_file, page_at, reference, words_at, words_of}
 use Rattle.plain_files.specs.declared.bounds.TheConstants.{LARGEST_BYTE}
 use Rattle.plain_files.specs.Directory.{Creates}
 use Rattle.plain_files.specs.NamedFiles.{AreFiled, name_of, page_named, pages_named}
@@ -30,19 +32,23 @@ use Rattle.script_texts.specs.declared.event.Item.TheVariants.{PageLine, Refusal
 use Rattle.script_texts.specs.declared.event.Refusal.TheVariants.{Exists, FileFull, FilesFull, NoFile, NoFilePage}
 use Rattle.script_texts.specs.declared.event.Step.TheVariants.{Outer}
 use Rattle.script_texts.specs.declared.event.WordRow.{WordRow}
+use Rattle.script_texts.specs.Limits.{FitsRow}
 use Rattle.machine_names.specs.declared.names.FileNo.{FileNo}
-use Rattle.file_tables.proofs.Names.{by_name_at, named as its_name}
+use Rattle.file_tables.proofs.Names.{absent_by_name, by_name_at, named as its_name}
+use Rattle.file_tables.proofs.Pages.{page_none}
+use Rattle.machine_names.specs.PageWords.{zero_words}
 use Rattle.file_tables.specs.declared.tables.FileTables.{FileTables}
-use Rattle.file_tables.specs.Tables.{FilesStay, IsThere, OpenStay, files_of, open_of}
+use Rattle.file_tables.specs.Tables.{file_of, IsThere, OpenStay, files_of, open_of}
+use Rattle.monitor_core.specs.declared.reply.Reply.{Reply}
 use Rattle.monitor_core.specs.declared.reply.Reply.TheVariants.{Nothing, One, Page as ShowsPage}
 use Rattle.monitor_core.specs.declared.system.System.{System}
 use Rattle.monitor_core.specs.declared.writing.Barred.{Barred}
 use Rattle.monitor_core.specs.Jobs.{jobs_of}
-use Rattle.monitor_core.specs.Replies.{page_items, reply_items}
+use Rattle.monitor_core.specs.Replies.{FitsReply, page_items, reply_items}
 use Rattle.monitor_core.specs.Systems.{Did, FitsPages, IsWithin, named, state_of}
 use Rattle.monitor_core.specs.Writing.{IsRowWritten, Makes, left_by, write_of}
 use Rattle.monitor_core.proofs.FileReferences.{named_result, page_is, row_files, row_named, write_filed, write_named}
-use Rattle.monitor_core.proofs.JobDid.{was_granted}
+use Rattle.monitor_core.proofs.JobDid.{did_still, was_granted}
 use Rattle.monitor_core.proofs.NamedPages.{filed_made, named_made}
 use Rattle.monitor_core.proofs.Systems.{fits_left, serials_made, state_left}
 
@@ -50,21 +56,91 @@ some_is : {X : Type 0} (o : Option X) → is_some o ≡ true → (x : X) × (o �
 some_is None h = absurd (cc h)
 some_is (Some x) h = (x, refl)
 
+-- a file that is there
+pub file_there : (t : FileTables) (f : ℕ) → IsThere t f → fin.get (files_of t) (name_of t.dir f) ≡ Some (file_at t.lengths f)
+file_there t f there = by_name_at t.dir t.sound.numbers (file_at t.lengths) f (name_of t.dir f) (its_name t.dir f there)
+
 -- what is found by a name
 module _ (t : FileTables) (name : List ℕ) where
   abbrev IsFound : Option FileNo → Type 0
   IsFound o = MatchOption o (fin.get (files_of t) name ≡ None) (λ f. IsThere t f.0 × (name_of t.dir f.0 ≡ name))
 
-  pub file_there : (f : ℕ) → IsThere t f → fin.get (files_of t) (name_of t.dir f) ≡ Some (file_at t.lengths f)
-  file_there f there = by_name_at t.dir t.sound.numbers (file_at t.lengths) f (name_of t.dir f) (its_name t.dir f there)
-
   pub file_found : (o : Option FileNo) → IsFound o → is_some o ≡ true → (file : PlainFile) × (fin.get (files_of t) name ≡ Some file)
   file_found None found some = absurd (cc some)
-  file_found (Some f) found some = (file_at t.lengths f.0, ap (fin.get (files_of t)) (sym found.1) ∙ file_there f.0 found.0)
+  file_found (Some f) found some = (file_at t.lengths f.0, ap (fin.get (files_of t)) (sym found.1) ∙ file_there t f.0 found.0)
+
+  pub is_missing : (o : Option FileNo) → IsFound o → ((f : FileNo) → o ≡ Some f → ⊥) → fin.get (files_of t) name ≡ None
+  is_missing None found not = found
+  is_missing (Some f) found not = absurd (not f refl)
 
   pub file_missing : (o : Option FileNo) → IsFound o → is_some o ≡ false → fin.get (files_of t) name ≡ None
   file_missing None found none = found
   file_missing (Some f) found none = absurd (cc none)
+
+-- whether there may be a file more
+pub is_room : (b : Bool) (n : ℕ) → (IsTrue b ↔ (n < MOST_FILES)) → b ≡ true → n < MOST_FILES
+is_room b n tells is = tells.0 is
+
+pub no_room : (b : Bool) (n : ℕ) → (IsTrue b ↔ (n < MOST_FILES)) → b ≡ false → MOST_FILES ≤ n
+no_room b n tells is = elim (cases_lt n MOST_FILES) [
+  | inl few ↦ absurd (let no : true ≡ false = sym (tells.1 few) ∙ is in cc no)
+  | inr many ↦ many
+]
+
+-- what a file names, as the plain pages have it
+pub page_at_file : {P : Type 0} (means : PagesMeaning P) (p : P) (plain : NumberedPages) (f page : ℕ) → Agrees means p plain → page_at plain (in_file (file_page f page)) ≡ means.filed p (file_page f page)
+unfolding page_at
+page_at_file means p plain f page a = ap (λ (g : FilePage ℕ → Option PageName). g (file_page f page)) (sym a.filed)
+
+-- the word behind those of a row
+pub words_end : (row : WordRow) (page offset : ℕ) → FitsRow offset row → page * PAGE_WORDS + offset + row.count ≡ page * PAGE_WORDS + offset + length (take row.count row.words)
+words_end row page offset fits = let all : length (take row.count row.words) ≡ row.count = length-take-le row.count row.words (omega (arith, fits.most, fits.room)) in omega (arith, all)
+
+-- the files once one reaches to a word
+pub reaches : (old new : FileTables) (f end : ℕ) (file : PlainFile) → file_of old f ≡ Some file → IsSomeAnd (file_of old f) (λ x. files_of new ≡ fin.insert (files_of old) (name_of old.dir f) (reaching LARGEST_BYTE end x)) → files_of new ≡ fin.insert (files_of old) (name_of old.dir f) (reaching LARGEST_BYTE end file)
+reaches old new f end file is told = subst (λ o. IsSomeAnd o (λ x. files_of new ≡ fin.insert (files_of old) (name_of old.dir f) (reaching LARGEST_BYTE end x))) is told
+
+-- what is shown of a file's page: nothing, where there is no such file or page
+module _ {P : Type 0} {b : _} (m : System P b) (name : List ℕ) (page : ℕ) (d : DrumWords) (fits : FitsPages m d) where
+  no_items : page_at (state_of m d).pages (spot_named name page) ≡ None → page_items (state_of m d) name page ≡ []
+  no_items none = ap (λ o. option_map_or (λ n. PageLine name page ∷ words_shown 0 (words_of (state_of m d).pages n)) o []) none
+
+  absent_page : fin.get (files_of m.files) name ≡ None → page_at (state_of m d).pages (spot_named name page) ≡ None
+  unfolding page_at
+  absent_page none = page_none m.files.dir m.files.sound.numbers (b.means.plain m.pages d).files fits.filed (record { file = name; page = page }) (absent_by_name m.files.dir m.files.sound.numbers (file_at m.files.lengths) name none)
+
+  pub no_file_items : fin.get (files_of m.files) name ≡ None → page_items (state_of m d) name page ≡ []
+  no_file_items none = no_items (absent_page none)
+
+  module _ (f : ℕ) (there : IsThere m.files f) (is : name_of m.files.dir f ≡ name) where
+    its_page : page_at (state_of m d).pages (spot_named name page) ≡ page_at (b.means.plain m.pages d) (in_file (file_page f page))
+    its_page = subst (λ n. page_at (state_of m d).pages (spot_named n page) ≡ page_at (b.means.plain m.pages d) (in_file (file_page f page))) is (page_is m.files.dir m.files.sound.numbers f page there (b.means.plain m.pages d) fits.filed)
+
+    pub no_page_items : page_at (b.means.plain m.pages d) (in_file (file_page f page)) ≡ None → page_items (state_of m d) name page ≡ []
+    no_page_items none = no_items (its_page ∙ none)
+
+    -- its line and its words, where it is there
+    pub some_items : (n : PageName) → page_at (b.means.plain m.pages d) (in_file (file_page f page)) ≡ Some n → page_items (state_of m d) name page ≡ PageLine name page ∷ words_shown 0 (words_at (b.means.plain m.pages d) (in_file (file_page f page)))
+    some_items n some =
+        ap (λ o. option_map_or (λ n. PageLine name page ∷ words_shown 0 (words_of (state_of m d).pages n)) o []) (its_page ∙ some)
+        ∙ ap (λ o. PageLine name page ∷ words_shown 0 (option_map_or (words_of (b.means.plain m.pages d)) o zero_words)) (sym some)
+
+-- the page that a file names, if it names one
+pub none_there : {X : Type 0} (o : Option X) → is_none o ≡ true → o ≡ None
+none_there None h = refl
+none_there (Some x) h = absurd (cc h)
+
+pub some_there : {X : Type 0} (o : Option X) → is_none o ≡ false → (x : X) × (o ≡ Some x)
+some_there None h = absurd (cc h)
+some_there (Some x) h = (x, refl)
+
+-- a look at a file, under its name
+pub did_look : {P : Type 0} {b : _} (m : System P b) (name : List ℕ) (f page : ℕ) → name_of m.files.dir f ≡ name → (reply : List ℕ → Reply) → FitsReply (reply name)
+    → ((d : DrumWords) → FitsPages m d → ◌≡◌ {A = Effect} (outer (state_of m d) (Page (name_of m.files.dir f) page)) (record { state = state_of m d; items = reply_items (state_of m d) (reply (name_of m.files.dir f)) }))
+    → Did m m (Outer (Page name page)) (reply name)
+did_look m name f page is reply fits shows =
+    subst (λ n. Did m m (Outer (Page n page)) (reply n)) is
+    (did_still m m refl refl refl refl refl (Page (name_of m.files.dir f) page) (reply (name_of m.files.dir f)) (subst (λ n. FitsReply (reply n)) (sym is) fits) shows)
 
 module _ {P : Type 0} {b : _} (m : System P b) (name : List ℕ) where
   -- FILE, where there is one of the name, and where there are as many as there may be
@@ -105,9 +181,10 @@ module _ {P : Type 0} {b : _} (m : System P b) (name : List ℕ) where
         let dir : m'.files.dir ≡ fin.insert m.files.dir f name = created.put in
         let filed : AreFiled m'.files.dir p.files = subst (λ t. AreFiled t p.files) (sym dir) (filed_made m.files.dir f name created.least.free p.files fits.filed) in
         let keys : pages_named m'.files.dir p.files ≡ pages_named m.files.dir p.files = ap (λ t. pages_named t p.files) dir ∙ named_made m.files.dir f name created.least.free p.files fits.filed in
+        let open_is : open_of m'.files ≡ open_of m.files = held.named in
         let pages : named m'.files.dir (b.means.plain m'.pages d) ≡ named m.files.dir p = ap (λ x. named m'.files.dir (b.means.plain x d)) same ∙ (λ i. record (named m.files.dir p) { files = keys i }) in
         let mine : state_of m' d ≡ record s { files = fin.insert s.files name new_file } =
-        λ i. record s { pages = pages i; files = files i; jobs = jobs_of (held i) (jobs i); forks = (tree i).forks; fork_serials = (tree i).serials; clock = clock i } in
+        λ i. record s { pages = pages i; files = files i; jobs = jobs_of (open_is i) (jobs i); forks = (tree i).forks; fork_serials = (tree i).serials; clock = clock i } in
         let effect = apply_outer s (File name) ∙ outer_file s name
         ∙ ap (λ o. cond (is_some o) (refused s (Exists name)) (cond (nat_lt (fin.len s.files) MOST_FILES) (record { state = record s { files = fin.insert s.files name new_file }; items = [] }) (refused s (FilesFull name)))) none
         ∙ ap (λ c. cond c (record { state = record s { files = fin.insert s.files name new_file }; items = [] }) (refused s (FilesFull name))) yes in (
@@ -178,8 +255,8 @@ module _ {P : Type 0} {b : _} (m : System P b) (f page : ℕ) (there : IsThere m
       refuses s ready (denied kind) h = refl
       refuses s ready full h = refl
 
-      pub did_not_write : IsFileName name → Did m m' (Outer (Words name page offset row)) (One (Refusal (FileFull name)))
-      did_not_write fits_name = record {
+      pub did_not_write : (called : List ℕ) → name ≡ called → IsFileName called → Did m m' (Outer (Words called page offset row)) (One (Refusal (FileFull called)))
+      did_not_write called is fits_name = subst (λ n. Did m m' (Outer (Words n page offset row)) (One (Refusal (FileFull n)))) is (record {
         each = λ d fits.
             let s = state_of m d in
             let wrote = told d fits.pages in
@@ -196,29 +273,30 @@ module _ {P : Type 0} {b : _} (m : System P b) (f page : ℕ) (there : IsThere m
               mine ∙ ap (λ e. e.state) (sym effect),
               ap (λ e. e.items) (sym effect),
             );
-        shown = fits_name;
+        shown = subst IsFileName (sym is) fits_name;
         within = words_within;
         most = made.most;
-      }
+      })
 
     -- and the file reaches behind them
     module _ (end : ℕ) (is_end : end ≡ page * PAGE_WORDS + offset + length words) (files : files_of m'.files ≡ fin.insert (files_of m.files) name (reaching LARGEST_BYTE end file)) (dir : m'.files.dir ≡ m.files.dir) (held : OpenStay m.files m'.files)
         (told : (d : DrumWords) → b.means.fits m.pages d → b.means.fits m'.pages d × IsRowWritten {X = Unit {0}} (b.means.plain m.pages d) (b.means.plain m'.pages d) (in_file (file_page f page)) console offset words (Ok tt)) where
-      pub did_write : Did m m' (Outer (Words name page offset row)) Nothing
-      did_write = record {
+      pub did_write : (called : List ℕ) → name ≡ called → Did m m' (Outer (Words called page offset row)) Nothing
+      did_write called is = subst (λ n. Did m m' (Outer (Words n page offset row)) Nothing) is (record {
         each = λ d fits.
             let s = state_of m d in
             let p = b.means.plain m.pages d in
             let q = b.means.plain m'.pages d in
             let wrote = told d fits.pages in
             let ready = wrote.1.ready in
+            let open_is : open_of m'.files ≡ open_of m.files = held.named in
             let refers : reference p (in_file (file_page f page)) Write console ≡ granted ready = was_granted (reference p (in_file (file_page f page)) Write console) ready wrote.1.readied.refers in
             let ready_filed = write_filed m.files.dir m.files.sound.numbers f page there p fits.filed console ready refers in
             let stored : q ≡ stored_row ready (in_file (file_page f page)) offset words = wrote.1.store in
             let q_files : q.files ≡ ready.files = ap (λ x. x.files) stored ∙ row_files m.files.dir m.files.sound.numbers f page there words offset ready in
             let pages : stored_row (named m.files.dir ready) (spot_named name page) offset words ≡ named m.files.dir q = row_named m.files.dir m.files.sound.numbers f page there words offset ready ready_filed ∙ ap (named m.files.dir) (sym stored) in
             let mine : state_of m' d ≡ record s { pages = named m.files.dir q; files = fin.insert s.files name (reaching LARGEST_BYTE end file) } =
-            λ i. record s { pages = named (dir i) q; files = files i; jobs = jobs_of (held i) (jobs i); forks = (tree i).forks; fork_serials = (tree i).serials; clock = clock i } in
+            λ i. record s { pages = named (dir i) q; files = files i; jobs = jobs_of (open_is i) (jobs i); forks = (tree i).forks; fork_serials = (tree i).serials; clock = clock i } in
             let went : ◌≡◌ {A = Effect} (written s name page offset words file (granted (named m.files.dir ready))) (record { state = record s { pages = named m.files.dir q; files = fin.insert s.files name (reaching LARGEST_BYTE end file) }; items = [] }) =
             λ i. record { state = record s { pages = pages i; files = fin.insert s.files name (reaching LARGEST_BYTE (sym is_end i) file) }; items = [] } in
             let effect = apply_outer s (Words name page offset row) ∙ outer_written d fits ∙ ap (λ r. written s name page offset words file (named_result m.files.dir r)) refers ∙ went in (
@@ -229,4 +307,4 @@ module _ {P : Type 0} {b : _} (m : System P b) (f page : ℕ) (there : IsThere m
         shown = tt;
         within = words_within;
         most = made.most;
-      }
+      })

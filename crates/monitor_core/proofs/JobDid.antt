@@ -29,8 +29,8 @@ use Rattle.plain_model.specs.Run.{apply}
 use Rattle.plain_pages.specs.References.{Referred, granted, denied, full, in_map, reference, stored, with_word, words_of, page_at, slot_at}
 use Rattle.plain_model.specs.Forks.{change_fork, fork_line, forks_by_slot}
 use Rattle.plain_model.specs.Trees.{PlainTree, with_changed_of}
-use Rattle.plain_model.specs.Unit.{Effect}
-use Rattle.plain_model.specs.Events.{refused, poked, restarted, word_seen, outer}
+use Rattle.plain_model.specs.Unit.{Effect, refused}
+use Rattle.plain_model.specs.Events.{poked, restarted, word_seen, outer}
 use Rattle.plain_model.proofs.Equations.{apply_outer, outer_poke, outer_start, outer_examine, outer_forks}
 use Rattle.plain_pages.proofs.Refiled.{refiled_result, reference_leaves}
 use Rattle.machine_names.specs.Orders.{name_cmp}
@@ -271,7 +271,7 @@ module _ {P : Type 0} {b : _} (m m' : System P b) (is_tree : IsTree m.tree) (t :
     each = λ d f.
         let old = state_of m d in
         let job = m.sound.each_job t.0 j at in
-        let plain_k : plain_job k ≡ record (plain_job (open_at (open_of m.files) t.0) j) { mode = Program } = λ i. record (plain_job (open_at (open_of m.files) t.0) j) { user = user i; mode = mode i; top = top i } in
+        let plain_k : plain_job (open_at (open_of m.files) t.0) k ≡ record (plain_job (open_at (open_of m.files) t.0) j) { mode = Program } = λ i. record (plain_job (open_at (open_of m.files) t.0) j) { user = user i; mode = mode i; top = top i } in
         let jobs : jobs_of (open_of m'.files) m'.jobs.items ≡ fin.insert old.jobs t.0 (record (plain_job (open_at (open_of m.files) t.0) j) { mode = Program }) =
         (λ i. jobs_of (open_of (files i)) (set_to i)) ∙ jobs_set (open_of m.files) m.jobs.items t.0 k (omega (arith, m.sound.job_room, job.low)) ∙ ap (fin.insert old.jobs t.0) plain_k in
         let mine : state_of m' d ≡ record (change_fork old j.top (restarted address)) { jobs = fin.insert old.jobs t.0 (record (plain_job (open_at (open_of m.files) t.0) j) { mode = Program }) } =

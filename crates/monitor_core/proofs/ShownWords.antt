@@ -1,6 +1,7 @@
 -- What a look at a page's words finds, and how they are shown one behind the other.
-use Rattle.std.proofs.Common.{◌≡◌, ◌⊎◌, ℕ, ◌+◌, ◌<◌, ◌==◌, Bool, true, false, cond, List, [], ◌∷◌, ◌++◌, length, Option, None, Some, refl, sym, ◌∙◌, ap, arith, slice_index}
-use Rattle.std.proofs.lemmas.List.{append-assoc, append-nil, get_or-replicate}
+use Rattle.std.proofs.Common.{◌≡◌, ℕ, suc, ◌+◌, ◌<◌, ◌==◌, Bool, true, false, cond, List, [], ◌∷◌, ◌++◌, length, take, drop, take-append-drop, Option, None, Some, refl, sym, ◌∙◌, ap, arith, slice_index}
+use Rattle.std.proofs.lemmas.List.{append_assoc, drop_more, get_or-replicate, length-take-le}
+use Rattle.std.proofs.Math.Seq.{take-length, take-suc}
 use Rattle.std.specs.Option.{option_map_or}
 use Rattle.outside.specs.declared.TheConstants.{PAGE_WORDS}
 use Rattle.machine_names.specs.declared.names.PageName.{PageName}
@@ -22,7 +23,29 @@ shown_append (x ∷ xs) ys offset =
     let at : offset + 1 + length xs ≡ offset + length (x ∷ xs) = omega arith in
     ap (λ l. first ++ l) (shown_append xs ys (offset + 1))
     ∙ ap (λ k. first ++ (words_shown (offset + 1) xs ++ words_shown k ys)) at
-    ∙ sym (append-assoc first (words_shown (offset + 1) xs) (words_shown (offset + length (x ∷ xs)) ys))
+    ∙ sym (append_assoc first (words_shown (offset + 1) xs) (words_shown (offset + length (x ∷ xs)) ys))
+
+-- the words up to one, and that one
+pub one_more_word : (ws : List ℕ) (i : ℕ) → i < length ws → words_shown 0 (take i ws) ++ words_shown i (slice_index ws i ∷ []) ≡ words_shown 0 (take (i + 1) ws)
+one_more_word ws i low =
+    let so_many : i ≡ 0 + length (take i ws) = omega (arith, length-take-le i ws (omega (arith, low))) in
+    let next : suc i ≡ i + 1 = omega arith in
+    ap (λ k. words_shown 0 (take i ws) ++ words_shown k (slice_index ws i ∷ [])) so_many
+    ∙ sym (shown_append (take i ws) (slice_index ws i ∷ []) 0)
+    ∙ ap (words_shown 0) (sym (take-suc ws i _ low) ∙ ap (λ k. take k ws) next)
+
+-- the words up to one, that one, and those behind it
+pub words_split : (ws : List ℕ) (i : ℕ) → i < length ws → words_shown 0 ws ≡ words_shown 0 (take i ws) ++ (words_shown i (slice_index ws i ∷ []) ++ words_shown (i + 1) (drop (i + 1) ws))
+words_split ws i low =
+    let so_many : 0 + length (take i ws) ≡ i = omega (arith, length-take-le i ws (omega (arith, low))) in
+    ap (words_shown 0) (sym (take-append-drop i ws) ∙ ap (λ l. take i ws ++ l) (drop_more ws i _ low))
+    ∙ shown_append (take i ws) (slice_index ws i ∷ drop (i + 1) ws) 0
+    ∙ ap (λ k. words_shown 0 (take i ws) ++ words_shown k (slice_index ws i ∷ drop (i + 1) ws)) so_many
+    ∙ ap (λ l. words_shown 0 (take i ws) ++ l) (shown_append (slice_index ws i ∷ []) (drop (i + 1) ws) i)
+
+-- all of them
+pub all_words : (ws : List ℕ) (i : ℕ) → i ≡ length ws → take i ws ≡ ws
+all_words ws i is = ap (λ k. take k ws) is ∙ take-length ws
 
 -- a word alone
 pub shown_zero : (offset word : ℕ) → word ≡ 0 → words_shown offset (word ∷ []) ≡ []
@@ -37,6 +60,15 @@ stored_more p at offset [] word = let same : offset ≡ offset + 0 = omega arith
 stored_more p at offset (w ∷ ws) word =
     let same : offset + 1 + length ws ≡ offset + length (w ∷ ws) = omega arith in
     stored_more (stored p at offset w) at (offset + 1) ws word ∙ ap (λ k. stored (stored_row (stored p at offset w) at (offset + 1) ws) at k word) same
+
+-- the next of the words that are stored
+pub stored_next : (p : NumberedPages) (at : Spot ℕ) (offset : ℕ) (words : List ℕ) (i : ℕ) → i < length words → stored (stored_row p at offset (take i words)) at (offset + i) (slice_index words i) ≡ stored_row p at offset (take (i + 1) words)
+stored_next p at offset words i low =
+    let so_many : i ≡ length (take i words) = omega (arith, length-take-le i words (omega (arith, low))) in
+    let next : suc i ≡ i + 1 = omega arith in
+    ap (λ k. stored (stored_row p at offset (take i words)) at (offset + k) (slice_index words i)) so_many
+    ∙ sym (stored_more p at offset (take i words) (slice_index words i))
+    ∙ ap (stored_row p at offset) (sym (take-suc words i _ low) ∙ ap (λ k. take k words) next)
 
 module _ (p : NumberedPages) (scene : Scene) (at : Spot ℕ) (offset : ℕ) where
   abbrev found : Option PageName → Peeked

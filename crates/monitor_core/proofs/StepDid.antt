@@ -122,7 +122,7 @@ module _ {P : Type 0} {b : _} {T : Type 0} (fault_count : T → ℕ) (onward : T
     all_cut begins given = record {
       steps = replicate count step;
       begins = begins;
-      each = λ d f. record { legal = did.legal d f; given = subst (λ is. IsCut stands cut out out' is (replicate count step)) (did.items d f) (given d) };
+      each = λ d f. record { legal = did.legal d f; given = subst (λ is. IsCut stands cut out out' is (replicate count step)) (did.items d f) (given d (did.fits d f)) };
     }
 
   -- the step of an event that was done, and given behind the items of its reply

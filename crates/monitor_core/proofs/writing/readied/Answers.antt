@@ -38,7 +38,6 @@ returns-in_default g c =
           );
       ready = sym c.touch-in-Zero.ensures.answer ∙ ready;
       made = record { lives = c.settle.ensures.lives; forks = c.settle.ensures.forks; most = c.settle.ensures.most; own = omega (arith, c.settle.ensures.serial); others = c.settle.ensures.serials };
-      fits = tt;
     }
 
 pub returns-in-Copy-clause-told : goal.returns-in-Copy-clause-told
