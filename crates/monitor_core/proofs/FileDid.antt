@@ -1,6 +1,6 @@
 -- The events of files, as the events of the plain machine.
 use Rattle.std.proofs.Common.{◌≡◌, ℕ, ◌+◌, ◌*◌, ◌<◌, ◌≤◌, Bool, true, false, cond, List, [], ◌∷◌, length, take, Option, None, Some, refl, sym, ◌∙◌, ap, subst, arith, nat_lt, is_some, inl, inr}
-use Rattle.std.specs.Prelude.{◌↔◌, IsTrue, is_none, MatchOption, Result, Ok, Err}
+use Rattle.std.specs.Prelude.{◌↔◌, IsTrue, not, MatchOption, Result, Ok, Err}
 use Rattle.std.specs.Ordering.{nat_cmp}
 use Rattle.std.proofs.lemmas.List.{length-take-le}
 use Rattle.std.specs.Option.{IsSomeAnd, option_map_or}
@@ -126,13 +126,13 @@ module _ {P : Type 0} {b : _} (m : System P b) (name : List ℕ) (page : ℕ) (d
         ∙ ap (λ o. PageLine name page ∷ words_shown 0 (option_map_or (words_of (b.means.plain m.pages d)) o zero_words)) (sym some)
 
 -- the page that a file names, if it names one
-pub none_there : {X : Type 0} (o : Option X) → is_none o ≡ true → o ≡ None
-none_there None h = refl
-none_there (Some x) h = absurd (cc h)
+pub none_there : {X : Type 0} (o : Option X) (none : Bool) → is_some o ≡ not none → none ≡ true → o ≡ None
+none_there None none is h = refl
+none_there (Some x) none is h = absurd (let no : true ≡ false = is ∙ ap not h in cc no)
 
-pub some_there : {X : Type 0} (o : Option X) → is_none o ≡ false → (x : X) × (o ≡ Some x)
-some_there None h = absurd (cc h)
-some_there (Some x) h = (x, refl)
+pub some_there : {X : Type 0} (o : Option X) (none : Bool) → is_some o ≡ not none → none ≡ false → (x : X) × (o ≡ Some x)
+some_there None none is h = absurd (let no : false ≡ true = is ∙ ap not h in cc no)
+some_there (Some x) none is h = (x, refl)
 
 -- a look at a file, under its name
 pub did_look : {P : Type 0} {b : _} (m : System P b) (name : List ℕ) (f page : ℕ) → name_of m.files.dir f ≡ name → (reply : List ℕ → Reply) → FitsReply (reply name)

@@ -24,7 +24,7 @@ returns-then-is_none g c =
     let found = c.in-Some.ensures.found in
     took_nothing (FitsPages m) g.T.Taker.fault_count g.T.Taker.onward g.T.Taker.stands g.T.Taker.cut c.args.out.now tt _
     (λ d fits. no_page_items m c.args.name.now c.args.page d fits f found.0 found.1
-      (page_at_file g.P.Pages.means m.pages (g.P.Pages.means.plain m.pages d) f c.args.page (g.met.P.Pages.agrees m.pages d fits.pages) ∙ sym c.page_of.ensures ∙ none_there c.page_of.result (sym c.is_none.ensures ∙ c.if-is_none.true)))
+      (page_at_file g.P.Pages.means m.pages (g.P.Pages.means.plain m.pages d) f c.args.page (g.met.P.Pages.agrees m.pages d fits.pages) ∙ sym c.page_of.ensures ∙ none_there c.page_of.result c.is_none.result c.is_none.ensures c.if-is_none.true))
 
 pub returns-in_err-item : goal.returns-in_err-item
 returns-in_err-item g c =
@@ -33,7 +33,7 @@ returns-in_err-item g c =
     let found = c.in-Some.ensures.found in
     let failed = c.in_err-item.ensures in
     let r = c.from_residual.result in
-    let there = some_there c.page_of.result (sym c.is_none.ensures ∙ c.if-is_none.false) in
+    let there = some_there c.page_of.result c.is_none.result c.is_none.ensures c.if-is_none.false in
     record {
       taker = record { later = failed.later; cause = on_err r failed.cause; goes_on = failed.onward };
       given = λ d fits.
@@ -49,7 +49,7 @@ returns g c =
     let f = c.in-Some.file.0 in
     let found = c.in-Some.ensures.found in
     let r = c.give_words.result in
-    let there = some_there c.page_of.result (sym c.is_none.ensures ∙ c.if-is_none.false) in
+    let there = some_there c.page_of.result c.is_none.result c.is_none.ensures c.if-is_none.false in
     record {
       taker = taker_then g.T.Taker.fault_count g.T.Taker.onward c.args.out.now c.item.new.self c.give_words.new.out c.item.result r (record { later = c.item.ensures.later; cause = c.item.ensures.cause; goes_on = c.item.ensures.onward }) c.give_words.ensures.taker;
       given = λ d fits.
