@@ -36,7 +36,7 @@ number_pages = file_page_total nat_cmp_total
 pub name_pages : IsTotalOrder (file_page_cmp name_cmp)
 name_pages = file_page_total name_total
 
-numbers_apart : IsAntisymmetric (file_page_cmp nat_cmp)
+pub numbers_apart : IsAntisymmetric (file_page_cmp nat_cmp)
 numbers_apart = page_apart nat_cmp-IsAntisymmetric
 
 names_apart : IsAntisymmetric (file_page_cmp name_cmp)
@@ -50,7 +50,7 @@ module _ (m : Files) (a : AreNumbers m) where
       let page : p.page ≡ q.page = ap (λ (x : FilePage (List ℕ)). x.page) e in
       λ i. record { file = file i; page = page i }
 
-  alike_pages : (p q : FilePage ℕ) → map.contains_key m p.file ≡ true → map.contains_key m q.file ≡ true
+  pub alike_pages : (p q : FilePage ℕ) → map.contains_key m p.file ≡ true → map.contains_key m q.file ≡ true
       → eq_by_cmp (file_page_cmp name_cmp) (page_named m p) (page_named m q) ≡ eq_by_cmp (file_page_cmp nat_cmp) p q
   alike_pages p q p_there q_there = by (cases_key number_pages numbers_apart p q)
     where
@@ -102,7 +102,7 @@ module _ (m : Files) (a : AreNumbers m) where
         at q (inr absent) = page_none q absent ∙ sym (none q absent)
 
 module _ (m : Files) (a : AreNumbers m) {V : Type 0} (pages : map.FinMap (file_page_cmp nat_cmp) V) (filed : AreFiled m pages) (at : FilePage ℕ) (there : map.contains_key m at.file ≡ true) where
-  filed_put : (v : V) → AreFiled m (map.insert pages at v)
+  pub filed_put : (v : V) → AreFiled m (map.insert pages at v)
   filed_put v p held = by (cases_key number_pages numbers_apart p at)
     where
       by : (p ≡ at) ⊎ (p ≢ at) → map.contains_key m p.file ≡ true

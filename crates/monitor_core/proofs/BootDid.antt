@@ -1,5 +1,5 @@
 -- A system with nothing in it.
-use Rattle.std.proofs.Common.{◌≤◌, ◌≡◌, ℕ, zero, suc, ◌+◌, List, length, get_or, false, Option, None, Some, refl, sym, ◌∙◌, ap, subst, arith, replicate, is_some}
+use Rattle.std.proofs.Common.{◌≤◌, ◌≡◌, ℕ, zero, suc, ◌+◌, List, length, get_or, true, false, Option, None, Some, refl, sym, ◌∙◌, ap, subst, arith, replicate, is_some}
 use Rattle.std.specs.List.{cons_option, filter_map, range_with_len}
 use Rattle.std.proofs.lemmas.List.{length-replicate}
 use Rattle.std.specs.declared.cmp.Ordering.{Ordering}
@@ -22,13 +22,19 @@ use Rattle.fork_tree.proofs.Slots.{in_none}
 use Rattle.fork_calls.specs.Holding.{Holds}
 use Rattle.monitor_core.specs.declared.job.Job.{Job}
 use Rattle.monitor_core.specs.declared.system.System.{System}
-use Rattle.monitor_core.specs.Jobs.{map_from, plain_job, no_jobs, job_at, jobs_of}
+use Rattle.monitor_core.specs.Jobs.{AreUnheld, map_from, plain_job, no_jobs, job_at, jobs_of}
 use Rattle.monitor_core.specs.Sound.{AreSound}
-use Rattle.monitor_core.specs.Systems.{state_of, FitsPages, IsWithin}
-use Rattle.monitor_core.proofs.Unfiled.{named}
+use Rattle.monitor_core.specs.Systems.{named, state_of, FitsPages, IsWithin}
+use Rattle.plain_files.specs.NamedFiles.{AreFiled, pages_named}
+use Rattle.plain_pages.specs.PlainPages.{PlainPages, NumberedPages}
+use Rattle.machine_names.specs.Orders.{file_page_cmp, name_cmp}
+use Rattle.file_tables.specs.declared.tables.FileTables.{FileTables}
+use Rattle.monitor_core.proofs.NamedPages.{none_named}
+use Rattle.file_tables.specs.Tables.{files_of, no_jobs as no_jfns, open_of}
+use Rattle.plain_files.specs.OpenFiles.{OpenFile, OpenFiles, open_at}
 
 -- a table with no entry is the empty map
-none_from : {K X V : Type 0} {R : K → K → Ordering} (key : ℕ → X → K) (value : X → V) (n k : ℕ) → map_from {R = R} key value k (replicate n None) ≡ fin.empty
+none_from : {K X V : Type 0} {R : K → K → Ordering} (key : ℕ → X → K) (value : ℕ → X → V) (n k : ℕ) → map_from {R = R} key value k (replicate n None) ≡ fin.empty
 none_from key value zero k = refl
 none_from key value (suc n) k = none_from key value n (k + 1)
 
@@ -41,6 +47,16 @@ none_at (suc n) (suc i) = none_at n i
 none_listed : {X : Type 0} (look : ℕ → Option X) → ((k : ℕ) → look k ≡ None) → (from n : ℕ) → length (filter_map look (range_with_len from n)) ≡ 0
 none_listed look none from zero = refl
 none_listed look none from (suc n) = ap (λ o. length (cons_option o (filter_map look (range_with_len (from + 1) n)))) (none from) ∙ none_listed look none (from + 1) n
+
+-- nor is a JFN held
+pub unheld_boot : (files : FileTables) → open_of files ≡ no_jfns → (jobs : List (Option Job)) → AreUnheld (open_of files) jobs
+unfolding no_jfns
+unheld_boot files held jobs t gone = ap fin.len (ap (λ o. open_at o t) held ∙ all_empty TERMINALS t) ∙ fin.len-empty nat_cmp OpenFile
+  where
+    all_empty : (n i : ℕ) → get_or {A = OpenFiles} (replicate n fin.empty) i fin.empty ≡ fin.empty
+    all_empty zero i = refl
+    all_empty (suc n) zero = refl
+    all_empty (suc n) (suc i) = all_empty n i
 
 -- no fork lives
 nobody : {A : Type 0} (tree : PlainTree) (f : Fork) → tree ≡ no_forks → Lives tree.forks f → A
@@ -68,7 +84,7 @@ module _ (jobs : List (Option Job)) (none : jobs ≡ no_jobs TERMINALS) where
     nobody = λ t f e lives at. nobody tree f empty lives;
   }
 
-module _ {P : Type 0} {b : _} (m : System P b) (none : m.jobs.items ≡ no_jobs TERMINALS) (tree : m.tree ≡ no_forks) (clock : m.clock ≡ 0) where
+module _ {P : Type 0} {b : _} (m : System P b) (none : m.jobs.items ≡ no_jobs TERMINALS) (tree : m.tree ≡ no_forks) (clock : m.clock ≡ 0) (files : files_of m.files ≡ fin.empty) (held : open_of m.files ≡ no_jfns) where
   pub within_boot : ((t : Tty) → b.means.serial m.pages t ≤ 1) → IsWithin m 0
   within_boot serials = record {
     ticks = omega (arith, clock);
@@ -79,7 +95,7 @@ module _ {P : Type 0} {b : _} (m : System P b) (none : m.jobs.items ≡ no_jobs 
   pub booted : (limit : ℕ) (d : DrumWords) → b.means.fits m.pages d → b.means.plain m.pages d ≡ opening_pages nat_cmp limit → FitsPages m d × (state_of m d ≡ opening limit)
   unfolding opening opening_pages no_jobs
   booted limit d fits is =
-      let jobs : jobs_of m.jobs.items ≡ fin.empty = ap jobs_of none ∙ none_from (λ (t : ℕ) (j : Job). t) plain_job TERMINALS 0 in (
-        record { pages = fits; unfiled = ap (λ p. p.files) is },
-        λ i. record { pages = named (is i); files = fin.empty; jobs = jobs i; forks = (tree i).forks; fork_serials = (tree i).serials; clock = clock i; trace = false },
+      let jobs : jobs_of (open_of m.files) m.jobs.items ≡ fin.empty = ap (jobs_of (open_of m.files)) none ∙ none_from (λ (t : ℕ) (j : Job). t) (λ t j. plain_job (open_at (open_of m.files) t) j) TERMINALS 0 in (
+        record { pages = fits; filed = subst (AreFiled m.files.dir) (sym (ap (λ p. p.files) is)) (λ at there. absurd (let no : false ≡ true = sym (ap is_some (fin.get-empty (file_page_cmp nat_cmp) at)) ∙ there in cc no)) },
+        (λ i. record (state_of m d) { pages = named m.files.dir (is i) }) ∙ λ i. record { pages = record (opening_pages name_cmp limit) { files = none_named m.files.dir i }; files = files i; jobs = jobs i; forks = (tree i).forks; fork_serials = (tree i).serials; clock = clock i; trace = false },
       )

@@ -1,5 +1,5 @@
 -- Items and steps that are given in pieces.
-use Rattle.std.proofs.Common.{◌≡◌, ℕ, ◌<◌, ◌≤◌, ◌+◌, ◌-◌, replicate, List, [], ◌∷◌, ◌++◌, length, take, drop, get_or, sym, ◌∙◌, ap, arith, take-append-drop}
+use Rattle.std.proofs.Common.{◌≡◌, ℕ, ◌<◌, ◌≤◌, ◌+◌, ◌-◌, replicate, List, [], ◌∷◌, ◌++◌, length, take, drop, get_or, sym, ◌∙◌, ap, subst, arith, take-append-drop}
 use Rattle.std.specs.Prelude.{Result, Ok, Err, OnErr, codes}
 use Rattle.std.specs.Result.{IsErr}
 use Rattle.std.proofs.lemmas.List.{map-append, drop_more, replicate-append-replicate}
@@ -10,9 +10,10 @@ use Rattle.script_texts.specs.declared.event.Item.{Item}
 use Rattle.script_texts.specs.declared.event.Item.TheVariants.{Char}
 use Rattle.script_texts.specs.declared.event.Step.{Step}
 use Rattle.script_texts.specs.Taker.{GoesOn, IsCut}
+use Rattle.page_contracts.specs.DrumWords.{DrumWords}
 use Rattle.plain_model.specs.Unit.{printed}
-use Rattle.script_texts.proofs.Takers.{onward_then, goes_on_append, cut_behind, cut_longer}
-use Rattle.monitor_core.specs.Giving.{StaysTaker, Takes}
+use Rattle.script_texts.proofs.Takers.{onward_nil, onward_then, goes_on_append, goes_on_nil, cut_behind, cut_longer}
+use Rattle.monitor_core.specs.Giving.{StaysTaker, Takes, TookAll, TookOver}
 
 abbrev pub forced_start : List ℕ
 forced_start = CARRIAGE_RETURN ∷ LINE_FEED ∷ codes "?FORCED "
@@ -62,4 +63,16 @@ module _ {T X E : Type 0} (stands cut : T → T → List Item → List Step → 
   takes_then a b c r items more steps rest went given = record {
     ok = on_ok_weaker r (goes_on_append stands a b c items more steps rest went) given.ok;
     err = on_err_weaker r (cut_behind stands cut a b c items more steps rest went) given.err;
+  }
+
+module _ {T X E : Type 0} (fits : DrumWords → Type 0) (fault_count : T → ℕ) (onward : T → T → Type 0) (stands cut : T → T → List Item → List Step → Type 0) where
+  -- what was given over whatever drum was given over each that fits
+  pub over_drums : {old new : T} {result : Result X E} {items : DrumWords → List Item} {steps : List Step} → TookAll fault_count onward stands cut old new result items steps → TookOver fits fault_count onward stands cut old new result items steps
+  over_drums took = record { taker = took.taker; given = λ d f. took.given d }
+
+  -- nothing is given where there is nothing to give
+  pub took_nothing : (t : T) (x : X) (items : DrumWords → List Item) → ((d : DrumWords) → fits d → items d ≡ []) → TookOver {X = X} {E = E} fits fault_count onward stands cut t t (Ok x) items []
+  took_nothing t x items none = record {
+    taker = record { later = omega arith; cause = tt; goes_on = onward_nil onward t };
+    given = λ d f. record { ok = subst (λ is. GoesOn stands t t is []) (sym (none d f)) (goes_on_nil stands t); err = tt };
   }

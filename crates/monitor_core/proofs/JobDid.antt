@@ -26,11 +26,11 @@ use Rattle.page_contracts.specs.DrumWords.{DrumWords}
 use Rattle.script_texts.specs.Limits.{FitsCause, FitsItem}
 use Rattle.machine_names.specs.Bounds.{IsTerminal}
 use Rattle.plain_model.specs.Run.{apply}
-use Rattle.plain_pages.specs.References.{Referred, granted, denied, full, in_map, reference, stored, words_of, page_at, slot_at}
+use Rattle.plain_pages.specs.References.{Referred, granted, denied, full, in_map, reference, stored, with_word, words_of, page_at, slot_at}
 use Rattle.plain_model.specs.Forks.{change_fork, fork_line, forks_by_slot}
 use Rattle.plain_model.specs.Trees.{PlainTree, with_changed_of}
-use Rattle.plain_model.specs.Unit.{Effect}
-use Rattle.plain_model.specs.Events.{refused, poked, restarted, word_seen, outer}
+use Rattle.plain_model.specs.Unit.{Effect, refused}
+use Rattle.plain_model.specs.Events.{poked, restarted, word_seen, outer}
 use Rattle.plain_model.proofs.Equations.{apply_outer, outer_poke, outer_start, outer_examine, outer_forks}
 use Rattle.plain_pages.proofs.Refiled.{refiled_result, reference_leaves}
 use Rattle.machine_names.specs.Orders.{name_cmp}
@@ -46,13 +46,19 @@ use Rattle.monitor_core.specs.JobEvents.{event_at}
 use Rattle.monitor_core.specs.Jobs.{jobs_of, job_at, plain_job}
 use Rattle.monitor_core.specs.Looking.{word_in, examined_in, item_of}
 use Rattle.monitor_core.specs.Replies.{reply_items, FitsReply}
-use Rattle.monitor_core.specs.Systems.{state_of, FitsPages, IsWithin, Did}
-use Rattle.monitor_core.specs.Writing.{write_of, left_by, most_makings, IsWritten, Makes, Writes, with_accumulator}
+use Rattle.plain_files.specs.NamedFiles.{pages_named}
+use Rattle.plain_files.specs.OpenFiles.{open_at}
+use Rattle.file_tables.specs.Tables.{files_of, open_of}
+use Rattle.monitor_core.specs.Systems.{named, state_of, FitsPages, IsWithin, Did}
+use Rattle.monitor_core.specs.declared.writing.Barred.{Barred}
+use Rattle.monitor_core.specs.declared.writing.Barred.TheVariants.{ByMap, ByDrum}
+use Rattle.monitor_core.specs.Writing.{write_of, left_by, poke_refusal, refused_by, most_makings, IsWritten, Makes, Writes, with_accumulator}
 use Rattle.monitor_core.proofs.Looks.{below, not_below}
 use Rattle.monitor_core.proofs.Lookups.{job_found, job_missing, jobs_set}
 use Rattle.monitor_core.proofs.Sounds.{split_at}
-use Rattle.monitor_core.proofs.Systems.{change_is, units_change}
-use Rattle.monitor_core.proofs.Unfiled.{named, reference_named}
+use Rattle.monitor_core.proofs.Systems.{change_is, fits_left, fits_still, serials_made, state_left, units_change}
+use Rattle.monitor_core.proofs.Filed.{NamedFiles, keyed, reference_keyed}
+use Rattle.monitor_core.proofs.NamedPages.{alike_named, named_left}
 
 -- what was read is put back
 pub put_back : {X : Type 0} (xs : List X) (i : ℕ) (x y : X) → x ≡ get_or xs i x → x ≡ y → set xs i y ≡ xs
@@ -65,15 +71,15 @@ no_job_event s t (ToStart address) h = outer_start s t address ∙ rw h
 no_job_event s t (ToExamine serial address) h = outer_examine s t serial address ∙ rw h
 no_job_event s t ToShow h = outer_forks s t ∙ rw h
 
-module _ {P : Type 0} {b : _} (m m' : System P b) (same : m'.pages ≡ m.pages) (tree : m'.tree ≡ m.tree) (jobs : m'.jobs.items ≡ m.jobs.items) (clock : m'.clock ≡ m.clock) where
+module _ {P : Type 0} {b : _} (m m' : System P b) (files : m'.files ≡ m.files) (same : m'.pages ≡ m.pages) (tree : m'.tree ≡ m.tree) (jobs : m'.jobs.items ≡ m.jobs.items) (clock : m'.clock ≡ m.clock) where
   -- an event that changes nothing
   pub did_still : (e : Event) (reply : Reply) → FitsReply reply → ((d : DrumWords) → FitsPages m d → ◌≡◌ {A = Effect} (outer (state_of m d) e) (record { state = state_of m d; items = reply_items (state_of m d) reply })) → Did m m' (Outer e) reply
   did_still e reply fits shows = record {
     each = λ d f.
         let old = state_of m d in
-        let new : state_of m' d ≡ old = λ i. record old { pages = named (b.means.plain (same i) d); jobs = jobs_of (jobs i); forks = (tree i).forks; fork_serials = (tree i).serials; clock = clock i } in
+        let new : state_of m' d ≡ old = state_left m m' files same tree jobs clock d in
         let effect = apply_outer old e ∙ shows d f in (
-          record { pages = subst (λ p. b.means.fits p d) (sym same) f.pages; unfiled = ap (λ p. (b.means.plain p d).files) same ∙ f.unfiled },
+          fits_still m m' files same d f,
           new ∙ ap (λ x. x.state) (sym effect),
           ap (λ s. reply_items s reply) new ∙ ap (λ x. x.items) (sym effect),
         );
@@ -87,7 +93,7 @@ module _ {P : Type 0} {b : _} (m m' : System P b) (same : m'.pages ≡ m.pages) 
   }
 
   pub did_no_job : (t : Tty) (e : JobEvent) → IsTerminal t → job_at m.jobs.items t.0 ≡ None → Did m m' (Outer (event_at t e)) (One (Refusal (NoJob t)))
-  did_no_job t e terminal free = did_still (event_at t e) (One (Refusal (NoJob t))) terminal (λ d f. no_job_event (state_of m d) t e (job_missing m.jobs.items t.0 free))
+  did_no_job t e terminal free = did_still (event_at t e) (One (Refusal (NoJob t))) terminal (λ d f. no_job_event (state_of m d) t e (job_missing (open_of m.files) m.jobs.items t.0 free))
 
   module _ (t : Tty) (e : JobEvent) (j : Job) (at : job_at m.jobs.items t.0 ≡ Some j) where
     -- the word that is there, as the state has it
@@ -102,7 +108,7 @@ module _ {P : Type 0} {b : _} (m m' : System P b) (same : m'.pages ≡ m.pages) 
 
     examines : (d : DrumWords) (serial address : ℕ) → ◌≡◌ {A = Effect} (outer (state_of m d) (event_at t (ToExamine serial address))) (record { state = state_of m d; items = item_of (examined_in (b.means.plain m.pages d) m.tree.forks t serial address) ∷ [] })
     examines d serial address =
-        outer_examine s t serial address ∙ ap (λ (o : Option PlainJob). option_map_or (λ i. of_fork (fin.get s.forks (record { tty = t; serial = serial }))) o (refused s (NoJob t))) (job_found m.jobs.items t.0 j at)
+        outer_examine s t serial address ∙ ap (λ (o : Option PlainJob). option_map_or (λ i. of_fork (fin.get s.forks (record { tty = t; serial = serial }))) o (refused s (NoJob t))) (job_found (open_of m.files) m.jobs.items t.0 j at)
         ∙ by (fin.get s.forks (record { tty = t; serial = serial }))
       where
         s : PlainState
@@ -126,7 +132,7 @@ module _ {P : Type 0} {b : _} (m m' : System P b) (same : m'.pages ≡ m.pages) 
     did_forks is fits =
         subst (λ x. Did m m' (Outer (event_at t x)) (Forks t)) (sym is)
         (did_still (event_at t ToShow) (Forks t) fits
-        (λ d f. let s = state_of m d in outer_forks s t ∙ ap (λ (o : Option PlainJob). option_map_or (λ i. record { state = s; items = map (λ k. ForkLine (fork_line s.forks k)) (forks_by_slot s.forks t) }) o (refused s (NoJob t))) (job_found m.jobs.items t.0 j at)))
+        (λ d f. let s = state_of m d in outer_forks s t ∙ ap (λ (o : Option PlainJob). option_map_or (λ i. record { state = s; items = map (λ k. ForkLine (fork_line s.forks k)) (forks_by_slot s.forks t) }) o (refused s (NoJob t))) (job_found (open_of m.files) m.jobs.items t.0 j at)))
 
 -- what a poke shows: nothing, or why it is refused
 abbrev pub poke_reply : {X : Type 0} → Result X Cause → Reply
@@ -134,51 +140,49 @@ poke_reply (Ok done) = Nothing
 poke_reply (Err cause) = One (Refusal cause)
 
 -- a word that is stored in the pages of a state
-stored_named : (p : NumberedPages) (at : Slot) (offset word : ℕ) → stored (named p) (in_map at) offset word ≡ named (stored p (in_map at) offset word)
+stored_keyed : (filed : NamedFiles) (p : NumberedPages) (at : Slot) (offset word : ℕ) → stored (keyed filed p) (in_map at) offset word ≡ keyed filed (stored p (in_map at) offset word)
 unfolding page_at
-stored_named p at offset word = by (page_at p (in_map at))
+stored_keyed filed p at offset word = by (page_at p (in_map at))
   where
-    by : (n : Option PageName) → option_map_or (λ n. record (named p) { objects = fin.insert p.objects n (slice_set (words_of p n) offset word) }) n (named p) ≡ named (option_map_or (λ n. record p { objects = fin.insert p.objects n (slice_set (words_of p n) offset word) }) n p)
+    by : (n : Option PageName) → option_map_or (with_word (keyed filed p) offset word) n (keyed filed p) ≡ keyed filed (option_map_or (with_word p offset word) n p)
     by None = refl
     by (Some n) = refl
 
 -- a poke of a page, by what its reference came to
-poked_by : {X : Type 0} (s : PlainState) (t : Tty) (at : Slot) (offset word : ℕ) (p ready q : NumberedPages) (r : Referred nat_cmp) (result : Result X Cause) → write_of t r ≡ left_by ready result
-    → ((done : X) → result ≡ Ok done → q ≡ stored ready (in_map at) offset word) → OnErr result (q ≡ p)
-    → ◌≡◌ {A = Effect} (poked (record s { pages = named p }) t at offset word (refiled_result name_cmp r fin.empty)) (record { state = record s { pages = named q }; items = reply_items s (poke_reply result) })
-poked_by s t at offset word p ready q (granted g) (Ok done) refers store stays =
+poked_by : (filed : NamedFiles) (s : PlainState) (t : Tty) (at : Slot) (offset word : ℕ) (p ready q : NumberedPages) (r : Referred nat_cmp) (tried : Result (Unit {0}) Barred) → write_of r ≡ left_by ready tried
+    → ((done : Unit {0}) → refused_by (poke_refusal t) tried ≡ Ok done → q ≡ stored ready (in_map at) offset word) → OnErr (refused_by (poke_refusal t) tried) (q ≡ p)
+    → ◌≡◌ {A = Effect} (poked (record s { pages = keyed filed p }) t at offset word (refiled_result name_cmp r filed)) (record { state = record s { pages = keyed filed q }; items = reply_items s (poke_reply (refused_by (poke_refusal t) tried)) })
+poked_by filed s t at offset word p ready q (granted g) (Ok done) refers store stays =
     let is : g ≡ ready = cc refers in
-    ap (λ x. record { state = record s { pages = x }; items = [] }) (stored_named g at offset word ∙ ap named (ap (λ x. stored x (in_map at) offset word) is ∙ sym (store done refl)))
-poked_by s t at offset word p ready q (granted g) (Err cause) refers store stays = absurd (cc refers)
-poked_by s t at offset word p ready q (denied kind) (Ok done) refers store stays = absurd (cc refers)
-poked_by s t at offset word p ready q (denied kind) (Err cause) refers store stays =
-    let is : Denied t ≡ cause = cc refers in λ i. record { state = record s { pages = named (sym stays i) }; items = Refusal (is i) ∷ [] }
-poked_by s t at offset word p ready q full (Ok done) refers store stays = absurd (cc refers)
-poked_by s t at offset word p ready q full (Err cause) refers store stays =
-    let is : Full t ≡ cause = cc refers in λ i. record { state = record s { pages = named (sym stays i) }; items = Refusal (is i) ∷ [] }
+    ap (λ x. record { state = record s { pages = x }; items = [] }) (stored_keyed filed g at offset word ∙ ap (keyed filed) (ap (λ x. stored x (in_map at) offset word) is ∙ sym (store done refl)))
+poked_by filed s t at offset word p ready q (granted g) (Err barred) refers store stays = absurd (cc refers)
+poked_by filed s t at offset word p ready q (denied kind) (Ok done) refers store stays = absurd (cc refers)
+poked_by filed s t at offset word p ready q (denied kind) (Err barred) refers store stays =
+    let is : ByMap ≡ barred = cc refers in λ i. record { state = record s { pages = keyed filed (sym stays i) }; items = Refusal (poke_refusal t (is i)) ∷ [] }
+poked_by filed s t at offset word p ready q full (Ok done) refers store stays = absurd (cc refers)
+poked_by filed s t at offset word p ready q full (Err barred) refers store stays =
+    let is : ByDrum ≡ barred = cc refers in λ i. record { state = record s { pages = keyed filed (sym stays i) }; items = Refusal (poke_refusal t (is i)) ∷ [] }
 
--- no write changes the pages of files
-was_granted : (t : Tty) (r : Referred nat_cmp) (q : NumberedPages) → write_of t r ≡ Ok q → r ≡ granted q
-was_granted t (granted g) q h = let is : g ≡ q = cc h in ap granted is
-was_granted t (denied kind) q h = absurd (cc h)
-was_granted t full q h = absurd (cc h)
+-- no write through a map changes the pages of files
+pub was_granted : (r : Referred nat_cmp) (q : NumberedPages) → write_of r ≡ Ok q → r ≡ granted q
+was_granted (granted g) q h = let is : g ≡ q = cc h in ap granted is
+was_granted (denied kind) q h = absurd (cc h)
+was_granted full q h = absurd (cc h)
+
+went_on : (t : Tty) (ready : NumberedPages) (r : Result NumberedPages Barred) (tried : Result (Unit {0}) Barred) (done : Unit {0}) → Ok done ≡ refused_by (poke_refusal t) tried → r ≡ left_by ready tried → r ≡ Ok ready
+went_on t ready r (Ok x) done is refers = refers
+went_on t ready r (Err barred) done is refers = absurd (cc is)
 
 written_files : {p q : NumberedPages} {at : Slot} {offset word : ℕ} (r : Result (Unit {0}) Cause) → IsWritten p q at offset word r → q.files ≡ p.files
 written_files {p} {q} {at} {offset} {word} (Ok done) w =
-    ap (λ x. x.files) (w.store done refl) ∙ stored_leaves w.ready at offset word ∙ reference_leaves at.fork.tty p w.ready at Write (was_granted at.fork.tty (reference p (in_map at) Write at.fork.tty) w.ready w.readied.refers)
+    let refers = went_on at.fork.tty w.ready (write_of (reference p (in_map at) Write at.fork.tty)) w.tried done w.is w.readied.refers in
+    ap (λ x. x.files) (w.store done refl) ∙ stored_leaves w.ready at offset word ∙ reference_leaves at.fork.tty p w.ready at Write (was_granted (reference p (in_map at) Write at.fork.tty) w.ready refers)
 written_files (Err cause) w = ap (λ x. x.files) w.stays
 
-module _ {P : Type 0} {b : _} (m m' : System P b) (is_tree : IsTree m.tree) (t : Tty) (e : JobEvent) (j : Job) (at : job_at m.jobs.items t.0 ≡ Some j) (clock : m'.clock ≡ m.clock) where
+module _ {P : Type 0} {b : _} (m m' : System P b) (is_tree : IsTree m.tree) (t : Tty) (e : JobEvent) (j : Job) (at : job_at m.jobs.items t.0 ≡ Some j) (files : m'.files ≡ m.files) (clock : m'.clock ≡ m.clock) where
   -- a job's top fork is of its terminal
   owner : j.top.tty ≡ t
   owner = λ i. record { 0 = (m.sound.each_job t.0 j at).terminal i }
-
-  -- the pages that were made for the top fork's terminal, as counts
-  made_serials : (entries : ℕ) → IsWithin m entries → Makes b.means m.pages m'.pages j.top.tty 2 → (u : Tty) → b.means.serial m'.pages u ≤ most_makings * (entries + 1) + 1
-  made_serials entries w made u = elim (cases_eq u.0 j.top.tty.0) [
-    | inl same ↦ let is : u ≡ j.top.tty = λ i. record { 0 = same i } in omega (arith, ap (b.means.serial m'.pages) is, made.own, w.serials j.top.tty)
-    | inr ne ↦ omega (arith, made.others u (λ h. ne (ap (λ x. x.0) h)), w.serials u)
-  ]
 
   module _ (jobs : m'.jobs.items ≡ m.jobs.items) where
     -- a word was put into an accumulator
@@ -188,31 +192,37 @@ module _ {P : Type 0} {b : _} (m m' : System P b) (is_tree : IsTree m.tree) (t :
         let old = state_of m d in
         let paged : Effect = poked old t (slot_at j.top address) (address % PAGE_WORDS) word (reference old.pages (in_map (slot_at j.top address)) Write t) in
         let mine : state_of m' d ≡ change_fork old j.top (with_accumulator address word) =
-        (λ i. record old { pages = named (b.means.plain (same i) d); jobs = jobs_of (jobs i); forks = (is i).forks; fork_serials = (is i).serials; clock = clock i })
+        (λ i. record old { pages = named (files i).dir (b.means.plain (same i) d); files = files_of (files i); jobs = jobs_of (open_of (files i)) (jobs i); forks = (is i).forks; fork_serials = (is i).serials; clock = clock i })
         ∙ sym (change_is old j.top (with_accumulator address word) (λ f. refl)) in
         outer_poke old t address word
-        ∙ ap (λ (o : Option PlainJob). option_map_or (λ i. cond (nat_lt address ACCUMULATORS) (record { state = change_fork old i.top (with_accumulator address word); items = [] }) (poked old t (slot_at i.top address) (address % PAGE_WORDS) word (reference old.pages (in_map (slot_at i.top address)) Write t))) o (refused old (NoJob t))) (job_found m.jobs.items t.0 j at)
+        ∙ ap (λ (o : Option PlainJob). option_map_or (λ i. cond (nat_lt address ACCUMULATORS) (record { state = change_fork old i.top (with_accumulator address word); items = [] }) (poked old t (slot_at i.top address) (address % PAGE_WORDS) word (reference old.pages (in_map (slot_at i.top address)) Write t))) o (refused old (NoJob t))) (job_found (open_of m.files) m.jobs.items t.0 j at)
         ∙ ap (λ c. cond c (record { state = change_fork old j.top (with_accumulator address word); items = [] }) paged) (below address low)
         ∙ ap (λ s. record { state = s; items = [] }) (sym mine)
 
     -- a word was written into a page, or the write was refused
-    poked_high : {X : Type 0} (address word : ℕ) (d : DrumWords) (result : Result X Cause) → FitsPages m d → ACCUMULATORS ≤ address → m'.tree ≡ m.tree → IsWritten (b.means.plain m.pages d) (b.means.plain m'.pages d) (slot_at j.top address) (address % PAGE_WORDS) word result
+    poked_high : (address word : ℕ) (d : DrumWords) (result : Result (Unit {0}) Cause) → FitsPages m d → ACCUMULATORS ≤ address → m'.tree ≡ m.tree → IsWritten (b.means.plain m.pages d) (b.means.plain m'.pages d) (slot_at j.top address) (address % PAGE_WORDS) word result
         → ◌≡◌ {A = Effect} (outer (state_of m d) (event_at t (ToPoke address word))) (record { state = state_of m' d; items = reply_items (state_of m' d) (poke_reply result) })
-    poked_high {X = X} address word d result f high is wrote =
+    poked_high address word d result f high is wrote =
         let old = state_of m d in
         let p = b.means.plain m.pages d in
         let q = b.means.plain m'.pages d in
         let slot = slot_at j.top address in
-        let refers : write_of t (reference p (in_map slot) Write t) ≡ left_by wrote.ready result = subst (λ u. write_of u (reference p (in_map slot) Write u) ≡ left_by wrote.ready result) owner wrote.readied.refers in
-        let mine : state_of m' d ≡ record old { pages = named q } = λ i. record old { pages = named q; jobs = jobs_of (jobs i); forks = (is i).forks; fork_serials = (is i).serials; clock = clock i } in
+        let filed = pages_named m.files.dir p.files in
+        let alike = alike_named m.files.dir p m.files.sound.numbers f.filed in
+        let refers : write_of (reference p (in_map slot) Write t) ≡ left_by wrote.ready wrote.tried = subst (λ u. write_of (reference p (in_map slot) Write u) ≡ left_by wrote.ready wrote.tried) owner wrote.readied.refers in
+        let refused_is : result ≡ refused_by (poke_refusal t) wrote.tried = subst (λ u. result ≡ refused_by (poke_refusal u) wrote.tried) owner wrote.is in
+        let mine : state_of m' d ≡ record old { pages = keyed filed q } =
+        (λ i. record old { pages = named (files i).dir q; files = files_of (files i); jobs = jobs_of (open_of (files i)) (jobs i); forks = (is i).forks; fork_serials = (is i).serials; clock = clock i })
+        ∙ ap (λ x. record old { pages = x }) (named_left m.files.dir p q (written_files result wrote)) in
         outer_poke old t address word
-        ∙ ap (λ (o : Option PlainJob). option_map_or (λ i. cond (nat_lt address ACCUMULATORS) (record { state = change_fork old i.top (with_accumulator address word); items = [] }) (poked old t (slot_at i.top address) (address % PAGE_WORDS) word (reference old.pages (in_map (slot_at i.top address)) Write t))) o (refused old (NoJob t))) (job_found m.jobs.items t.0 j at)
+        ∙ ap (λ (o : Option PlainJob). option_map_or (λ i. cond (nat_lt address ACCUMULATORS) (record { state = change_fork old i.top (with_accumulator address word); items = [] }) (poked old t (slot_at i.top address) (address % PAGE_WORDS) word (reference old.pages (in_map (slot_at i.top address)) Write t))) o (refused old (NoJob t))) (job_found (open_of m.files) m.jobs.items t.0 j at)
         ∙ ap (λ c. cond c (record { state = change_fork old j.top (with_accumulator address word); items = [] }) (poked old t slot (address % PAGE_WORDS) word (reference old.pages (in_map slot) Write t))) (not_below address high)
-        ∙ ap (poked old t slot (address % PAGE_WORDS) word) (reference_named p f.unfiled slot Write t)
-        ∙ poked_by old t slot (address % PAGE_WORDS) word p wrote.ready q (reference p (in_map slot) Write t) result refers wrote.store wrote.stays
+        ∙ ap (poked old t slot (address % PAGE_WORDS) word) (reference_keyed filed p alike slot Write t)
+        ∙ poked_by filed old t slot (address % PAGE_WORDS) word p wrote.ready q (reference p (in_map slot) Write t) wrote.tried refers (λ done e. wrote.store done (refused_is ∙ e)) (subst (λ r. OnErr r (q ≡ p)) refused_is wrote.stays)
+        ∙ (λ i. record { state = record old { pages = keyed filed q }; items = reply_items old (poke_reply (sym refused_is i)) })
         ∙ (λ i. record { state = sym mine i; items = reply_of_poke result i })
       where
-        reply_of_poke : (r : Result X Cause) → reply_items (state_of m d) (poke_reply r) ≡ reply_items (state_of m' d) (poke_reply r)
+        reply_of_poke : (r : Result (Unit {0}) Cause) → reply_items (state_of m d) (poke_reply r) ≡ reply_items (state_of m' d) (poke_reply r)
         reply_of_poke (Ok done) = refl
         reply_of_poke (Err cause) = refl
 
@@ -226,7 +236,7 @@ module _ {P : Type 0} {b : _} (m m' : System P b) (is_tree : IsTree m.tree) (t :
             | inl small ↦
                 let done = low small in
                 let effect = apply_outer (state_of m d) (event_at t (ToPoke address word)) ∙ poked_low address word d small done.1 done.2 in (
-                  record { pages = subst (λ p. b.means.fits p d) (sym done.2) f.pages; unfiled = ap (λ p. (b.means.plain p d).files) done.2 ∙ f.unfiled },
+                  fits_still m m' files done.2 d f,
                   ap (λ x. x.state) (sym effect),
                   ap (λ r. reply_items (state_of m' d) (poke_reply r)) done.0 ∙ ap (λ x. x.items) (sym effect),
                 )
@@ -234,7 +244,7 @@ module _ {P : Type 0} {b : _} (m m' : System P b) (is_tree : IsTree m.tree) (t :
                 let done = high above in
                 let wrote = done.1.each d f.pages in
                 let effect = apply_outer (state_of m d) (event_at t (ToPoke address word)) ∙ poked_high address word d result f above done.0 wrote.1 in (
-                  record { pages = wrote.0; unfiled = written_files result wrote.1 ∙ f.unfiled },
+                  fits_left m m' files d wrote.0 (written_files result wrote.1) f,
                   ap (λ x. x.state) (sym effect),
                   ap (λ x. x.items) (sym effect),
                 )
@@ -246,7 +256,7 @@ module _ {P : Type 0} {b : _} (m m' : System P b) (is_tree : IsTree m.tree) (t :
               | inl small ↦ units_change m entries (entries + 1) j.top (with_accumulator address word) is_tree (λ k. refl) w (omega arith) f (ap (λ (x : PlainTree). fin.get x.forks f.name) (sym (low small).1) ∙ lives)
               | inr above ↦ omega (arith, w.units f (ap (λ (x : PlainTree). fin.get x.forks f.name) (sym (high above).0) ∙ lives))
             ];
-            serials = made_serials entries w made;
+            serials = serials_made m m' entries j.top.tty w made;
           };
           most = made.most;
         }))
@@ -261,17 +271,17 @@ module _ {P : Type 0} {b : _} (m m' : System P b) (is_tree : IsTree m.tree) (t :
     each = λ d f.
         let old = state_of m d in
         let job = m.sound.each_job t.0 j at in
-        let plain_k : plain_job k ≡ record (plain_job j) { mode = Program } = λ i. record (plain_job j) { user = user i; mode = mode i; top = top i } in
-        let jobs : jobs_of m'.jobs.items ≡ fin.insert old.jobs t.0 (record (plain_job j) { mode = Program }) =
-        ap jobs_of set_to ∙ jobs_set m.jobs.items t.0 k (omega (arith, m.sound.job_room, job.low)) ∙ ap (fin.insert old.jobs t.0) plain_k in
-        let mine : state_of m' d ≡ record (change_fork old j.top (restarted address)) { jobs = fin.insert old.jobs t.0 (record (plain_job j) { mode = Program }) } =
-        (λ i. record old { pages = named (b.means.plain (same i) d); jobs = jobs i; forks = (changes i).forks; fork_serials = (changes i).serials; clock = clock i })
-        ∙ ap (λ (s : PlainState). record s { jobs = fin.insert old.jobs t.0 (record (plain_job j) { mode = Program }) }) (sym (change_is old j.top (restarted address) (λ x. refl))) in
+        let plain_k : plain_job (open_at (open_of m.files) t.0) k ≡ record (plain_job (open_at (open_of m.files) t.0) j) { mode = Program } = λ i. record (plain_job (open_at (open_of m.files) t.0) j) { user = user i; mode = mode i; top = top i } in
+        let jobs : jobs_of (open_of m'.files) m'.jobs.items ≡ fin.insert old.jobs t.0 (record (plain_job (open_at (open_of m.files) t.0) j) { mode = Program }) =
+        (λ i. jobs_of (open_of (files i)) (set_to i)) ∙ jobs_set (open_of m.files) m.jobs.items t.0 k (omega (arith, m.sound.job_room, job.low)) ∙ ap (fin.insert old.jobs t.0) plain_k in
+        let mine : state_of m' d ≡ record (change_fork old j.top (restarted address)) { jobs = fin.insert old.jobs t.0 (record (plain_job (open_at (open_of m.files) t.0) j) { mode = Program }) } =
+        (λ i. record old { pages = named (files i).dir (b.means.plain (same i) d); files = files_of (files i); jobs = jobs i; forks = (changes i).forks; fork_serials = (changes i).serials; clock = clock i })
+        ∙ ap (λ (s : PlainState). record s { jobs = fin.insert old.jobs t.0 (record (plain_job (open_at (open_of m.files) t.0) j) { mode = Program }) }) (sym (change_is old j.top (restarted address) (λ x. refl))) in
         let effect : ◌≡◌ {A = Effect} (apply old (Outer (event_at t (ToStart address)))) (record { state = state_of m' d; items = [] }) =
         apply_outer old (event_at t (ToStart address)) ∙ outer_start old t address
-        ∙ ap (λ (o : Option PlainJob). option_map_or (λ i. record { state = record (change_fork old i.top (restarted address)) { jobs = fin.insert old.jobs t.0 (record i { mode = Program }) }; items = [] }) o (refused old (NoJob t))) (job_found m.jobs.items t.0 j at)
+        ∙ ap (λ (o : Option PlainJob). option_map_or (λ i. record { state = record (change_fork old i.top (restarted address)) { jobs = fin.insert old.jobs t.0 (record i { mode = Program }) }; items = [] }) o (refused old (NoJob t))) (job_found (open_of m.files) m.jobs.items t.0 j at)
         ∙ ap (λ s. record { state = s; items = [] }) (sym mine) in (
-          record { pages = subst (λ p. b.means.fits p d) (sym same) f.pages; unfiled = ap (λ p. (b.means.plain p d).files) same ∙ f.unfiled },
+          fits_still m m' files same d f,
           ap (λ x. x.state) (sym effect),
           ap (λ x. x.items) (sym effect),
         );

@@ -7,7 +7,12 @@ mod Maps
 mod MapFrom
 mod Lookups
 mod Rooms
-mod Unfiled
+mod Filed
+mod NamedPages
+mod FileReferences
+mod ShownWords
+mod WordsTouched
+mod FileDid
 mod Silent
 mod UnitRan
 mod UnitRows

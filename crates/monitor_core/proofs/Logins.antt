@@ -22,7 +22,8 @@ use Rattle.fork_tree.proofs.Kept.{name_unused}
 use Rattle.fork_tree.proofs.Slots.{get_put, get_put_other, in_none}
 use Rattle.fork_calls.proofs.Added.{added_holds, few_forks}
 use Rattle.monitor_core.specs.declared.job.Job.{Job}
-use Rattle.monitor_core.specs.Jobs.{job_at}
+use Rattle.plain_files.specs.OpenFiles.{OpenFiles}
+use Rattle.monitor_core.specs.Jobs.{AreUnheld, job_at}
 use Rattle.monitor_core.specs.Limits.{IsBody}
 use Rattle.monitor_core.specs.Sound.{AreSound}
 use Rattle.monitor_core.proofs.Sounds.{lives_now}
@@ -85,6 +86,13 @@ filled live limit frames h = by (nat_le (live + 1) limit) (nat_le 1 frames) refl
 top_body : (name : ForkName) → IsBody (top_fork name).body
 unfolding first_regs psi_at_rest
 top_body name = record { status = λ c h. absurd (cc h); off = refl; pc = omega arith; accumulators = refl }
+
+-- no JFN is held where no job is, once there is a job more
+pub unheld_begun : (held : List OpenFiles) (jobs : List (Option Job)) (t : ℕ) (k : Job) → AreUnheld held jobs → t < length jobs → AreUnheld held (set jobs t (Some k))
+unheld_begun held jobs t k none within u gone = elim (cases_eq u t) [
+  | inl same ↦ absurd (let there : Some k ≡ None = sym (get_or-set_same jobs t (Some k) None within) ∙ ap (job_at (set jobs t (Some k))) (sym same) ∙ gone in cc there)
+  | inr ne ↦ none u (sym (get_or-set_other jobs t u (Some k) None ne) ∙ gone)
+]
 
 module _ {P : Type 0} (means : PagesMeaning P) (p : P) (tree : PlainTree) (jobs : List (Option Job)) (s : AreSound means p tree jobs) (t : Tty) (free : job_at jobs t.0 ≡ None) (low : t.0 < TERMINALS) where
   -- no fork is in the first slot of a terminal without a job

@@ -13,11 +13,11 @@ abbrev pub Ranked : {K X : Type 0} → (ℕ → X → K) → (K → ℕ) → ℕ
 Ranked {K} {X} key rank n os = (i : ℕ) (x : X) → get_or os i None ≡ Some x → rank (key (n + i) x) ≡ n + i
 
 -- the value of an entry, where it has this key
-abbrev pub with_key : {K X V : Type 0} → (K → K → Ordering) → (ℕ → X → K) → (X → V) → K → ℕ → Option X → Option V
+abbrev pub with_key : {K X V : Type 0} → (K → K → Ordering) → (ℕ → X → K) → (ℕ → X → V) → K → ℕ → Option X → Option V
 with_key R key value q n None = None
-with_key R key value q n (Some x) = cond (eq_by_cmp R q (key n x)) (Some (value x)) None
+with_key R key value q n (Some x) = cond (eq_by_cmp R q (key n x)) (Some (value n x)) None
 
-module _ {K X V : Type 0} {R : K → K → Ordering} (o : IsTotalOrder R) (same : map.IsAntisymmetric R) (key : ℕ → X → K) (value : X → V) (rank : K → ℕ) where
+module _ {K X V : Type 0} {R : K → K → Ordering} (o : IsTotalOrder R) (same : map.IsAntisymmetric R) (key : ℕ → X → K) (value : ℕ → X → V) (rank : K → ℕ) where
   ranked_tail : (n : ℕ) (e : Option X) (os : List (Option X)) → Ranked key rank n (e ∷ os) → Ranked key rank (n + 1) os
   ranked_tail n e os r i x is = let there : n + 1 + i ≡ n + suc i = omega arith in subst (λ k. rank (key k x) ≡ k) (sym there) (r (suc i) x is)
 
@@ -34,8 +34,8 @@ module _ {K X V : Type 0} {R : K → K → Ordering} (o : IsTotalOrder R) (same 
   below n (Some x ∷ os) q r h =
       let rest = below (n + 1) os q (ranked_tail n (Some x) os r) (omega arith) in
       let here : rank (key n x) ≡ n = subst (λ k. rank (key k x) ≡ k) (omega arith) (r 0 x refl) in
-      map.get-insert o (map_from key value (n + 1) os) (key n x) (value x) q
-      ∙ ap (λ b. cond b (Some (value x)) (map.get (map_from {R = R} key value (n + 1) os) q)) (apart q (key n x) (λ e. let f : rank q ≡ n = e ∙ here in omega arith))
+      map.get-insert o (map_from key value (n + 1) os) (key n x) (value n x) q
+      ∙ ap (λ b. cond b (Some (value n x)) (map.get (map_from {R = R} key value (n + 1) os) q)) (apart q (key n x) (λ e. let f : rank q ≡ n = e ∙ here in omega arith))
       ∙ rest
 
   -- what is at a key: the value of the entry of its rank, where that has the key
@@ -46,14 +46,14 @@ module _ {K X V : Type 0} {R : K → K → Ordering} (o : IsTotalOrder R) (same 
   found n (Some x ∷ os) zero q r e =
       let rest = below (n + 1) os q (ranked_tail n (Some x) os r) (omega arith) in
       let there : n ≡ rank q = omega arith in
-      map.get-insert o (map_from key value (n + 1) os) (key n x) (value x) q
-      ∙ ap (λ m. cond (eq_by_cmp R q (key n x)) (Some (value x)) m) rest
-      ∙ ap (λ k. cond (eq_by_cmp R q (key k x)) (Some (value x)) None) there
+      map.get-insert o (map_from key value (n + 1) os) (key n x) (value n x) q
+      ∙ ap (λ m. cond (eq_by_cmp R q (key n x)) (Some (value n x)) m) rest
+      ∙ ap (λ k. cond (eq_by_cmp R q (key k x)) (Some (value k x)) None) there
   found n (Some x ∷ os) (suc i) q r e =
       let rest = found (n + 1) os i q (ranked_tail n (Some x) os r) (omega arith) in
       let here : rank (key n x) ≡ n = subst (λ k. rank (key k x) ≡ k) (omega arith) (r 0 x refl) in
-      map.get-insert o (map_from key value (n + 1) os) (key n x) (value x) q
-      ∙ ap (λ b. cond b (Some (value x)) (map.get (map_from {R = R} key value (n + 1) os) q)) (apart q (key n x) (λ h. let f : rank q ≡ n = h ∙ here in omega arith))
+      map.get-insert o (map_from key value (n + 1) os) (key n x) (value n x) q
+      ∙ ap (λ b. cond b (Some (value n x)) (map.get (map_from {R = R} key value (n + 1) os) q)) (apart q (key n x) (λ h. let f : rank q ≡ n = h ∙ here in omega arith))
       ∙ rest
 
   shadow : (b : Bool) (v : V) (w : Option V) → ((b ≡ true → ⊥) → w ≡ None) → cond b (Some v) None ≡ cond b (Some v) w
@@ -63,24 +63,24 @@ module _ {K X V : Type 0} {R : K → K → Ordering} (o : IsTotalOrder R) (same 
   -- a key's own entry, where the key does not tie with it
   not_there : (q : K) (n : ℕ) (e : Option X) (y : X) → ((x : X) → e ≡ Some x → key n x ≡ key n y) → (eq_by_cmp R q (key n y) ≡ true → ⊥) → with_key R key value q n e ≡ None
   not_there q n None y h ne = refl
-  not_there q n (Some x) y h ne = ap (λ k. cond (eq_by_cmp R q k) (Some (value x)) None) (h x refl) ∙ elim (cases_Bool (eq_by_cmp R q (key n y))) [ inl t ↦ absurd (ne t) | inr f ↦ ap (λ b. cond b (Some (value x)) None) f ]
+  not_there q n (Some x) y h ne = ap (λ k. cond (eq_by_cmp R q k) (Some (value n x)) None) (h x refl) ∙ elim (cases_Bool (eq_by_cmp R q (key n y))) [ inl t ↦ absurd (ne t) | inr f ↦ ap (λ b. cond b (Some (value n x)) None) f ]
 
   module _ (os : List (Option X)) (i : ℕ) (y : X) (r : Ranked key rank 0 os) (s : Ranked key rank 0 (set os i (Some y))) (within : i < length os) (old : (x : X) → get_or os i None ≡ Some x → key i x ≡ key i y) where
-    set_at : (q : K) → (rank q ≡ i) ⊎ (rank q ≡ i → ⊥) → map.get (map_from {R = R} key value 0 (set os i (Some y))) q ≡ map.get (map.insert (map_from {R = R} key value 0 os) (key i y) (value y)) q
+    set_at : (q : K) → (rank q ≡ i) ⊎ (rank q ≡ i → ⊥) → map.get (map_from {R = R} key value 0 (set os i (Some y))) q ≡ map.get (map.insert (map_from {R = R} key value 0 os) (key i y) (value i y)) q
     set_at q (inl e) =
         found 0 (set os i (Some y)) i q s (omega (arith, e))
         ∙ ap (λ x. with_key R key value q (rank q) x) (get_or-set_same os i (Some y) None within)
-        ∙ ap (λ k. cond (eq_by_cmp R q (key k y)) (Some (value y)) None) e
-        ∙ shadow (eq_by_cmp R q (key i y)) (value y) (map.get (map_from {R = R} key value 0 os) q)
+        ∙ ap (λ k. cond (eq_by_cmp R q (key k y)) (Some (value k y)) None) e
+        ∙ shadow (eq_by_cmp R q (key i y)) (value i y) (map.get (map_from {R = R} key value 0 os) q)
         (λ ne. found 0 os i q r (omega (arith, e)) ∙ ap (λ k. with_key R key value q k (get_or os i None)) e ∙ not_there q i (get_or os i None) y old ne)
-        ∙ sym (map.get-insert o (map_from key value 0 os) (key i y) (value y) q)
+        ∙ sym (map.get-insert o (map_from key value 0 os) (key i y) (value i y) q)
     set_at q (inr ne) =
         let rank_y : rank (key i y) ≡ i = let there : 0 + i ≡ i = omega arith in subst (λ k. rank (key k y) ≡ k) there (s i y (get_or-set_same os i (Some y) None within)) in
         found 0 (set os i (Some y)) (rank q) q s (omega arith)
         ∙ ap (λ x. with_key R key value q (rank q) x) (get_or-set_other os i (rank q) (Some y) None ne)
         ∙ sym (found 0 os (rank q) q r (omega arith))
-        ∙ sym (map.get-insert o (map_from key value 0 os) (key i y) (value y) q ∙ ap (λ b. cond b (Some (value y)) (map.get (map_from {R = R} key value 0 os) q)) (apart q (key i y) (λ e. ne (e ∙ rank_y))))
+        ∙ sym (map.get-insert o (map_from key value 0 os) (key i y) (value i y) q ∙ ap (λ b. cond b (Some (value i y)) (map.get (map_from {R = R} key value 0 os) q)) (apart q (key i y) (λ e. ne (e ∙ rank_y))))
 
     -- a table with another entry is the map with that entry's value
-    pub map_from_set : map_from {R = R} key value 0 (set os i (Some y)) ≡ map.insert (map_from key value 0 os) (key i y) (value y)
+    pub map_from_set : map_from {R = R} key value 0 (set os i (Some y)) ≡ map.insert (map_from key value 0 os) (key i y) (value i y)
     map_from_set = map.same_map o same _ _ (λ q. set_at q (cases_eq (rank q) i))

@@ -22,12 +22,12 @@ use Rattle.monitor_core.proofs.Gave.{gave_none, gave_append, gave_cut}
 use Rattle.monitor_core.specs.declared.machine.Machine.{Machine}
 use Rattle.monitor_core.specs.declared.system.System.{System}
 use Rattle.monitor_core.specs.declared.reply.Reply.{Reply}
-use Rattle.monitor_core.specs.declared.reply.Reply.TheVariants.{Nothing, One, Prints, Forks}
+use Rattle.monitor_core.specs.declared.reply.Reply.TheVariants.{Nothing, One, Prints, Forks, Page}
 use Rattle.monitor_core.specs.declared.shown.Stop.{Stop}
 use Rattle.monitor_core.specs.declared.shown.Stop.TheVariants.{GoesOn as Runs, Halted, Forced}
 use Rattle.monitor_core.specs.Shown.{none_shown, stop_items}
 use Rattle.monitor_core.specs.Acts.{Given, Cut, Acted, TookTurns}
-use Rattle.monitor_core.specs.Giving.{TookAll}
+use Rattle.monitor_core.specs.Giving.{TookOver}
 use Rattle.monitor_core.specs.Machines.{plain, done, auto, is_live}
 use Rattle.monitor_core.specs.Replies.{reply_items, is_silent}
 use Rattle.monitor_core.specs.Systems.{CanDo, Did, DidAll, FitsPages, state_of}
@@ -47,6 +47,7 @@ silent_items s Nothing h = refl
 silent_items s (One item) h = absurd (cc h)
 silent_items s (Prints t shown) h = none_items t shown.out shown.stop h
 silent_items s (Forks t) h = absurd (cc h)
+silent_items s (Page name page) h = absurd (cc h)
 
 -- the entry of an event that is one follows it
 follows_event : (e : Event) → shape_of e ≡ single → FollowsOne e (Outer e ∷ [])
@@ -109,29 +110,29 @@ did_idle m count can = record {
 module _ {P : Type 0} {b : _} {T : Type 0} (fault_count : T → ℕ) (onward : T → T → Type 0) (stands cut : T → T → List Item → List Step → Type 0) where
   module _ (m m' : Machine P b) (out out' : T) (step : Step) (count : ℕ) (reply : Reply) (event : Event) (did : DidAll m.system m'.system step count reply) where
     -- equal steps that were done, given behind what they show
-    all_given : FollowsOne event (replicate count step) → done m' ≡ done m + count → ((d : DrumWords) → GoesOn stands out out' (reply_items (state_of m'.system d) reply) (replicate count step)) → Given stands m m' out out' event
+    all_given : FollowsOne event (replicate count step) → done m' ≡ done m + count → ((d : DrumWords) → FitsPages m'.system d → GoesOn stands out out' (reply_items (state_of m'.system d) reply) (replicate count step)) → Given stands m m' out out' event
     all_given follows counts given = record {
       steps = replicate count step;
       follows = follows;
       count = omega (arith, counts, length-replicate count step);
-      each = λ d f. (did.fits d f, record { legal = did.legal d f; state = did.state d f; given = subst (λ is. GoesOn stands out out' is (replicate count step)) (did.items d f) (given d) });
+      each = λ d f. (did.fits d f, record { legal = did.legal d f; state = did.state d f; given = subst (λ is. GoesOn stands out out' is (replicate count step)) (did.items d f) (given d (did.fits d f)) });
     }
 
-    all_cut : Begins event (replicate count step) → ((d : DrumWords) → IsCut stands cut out out' (reply_items (state_of m'.system d) reply) (replicate count step)) → Cut stands cut m out out' event
+    all_cut : Begins event (replicate count step) → ((d : DrumWords) → FitsPages m'.system d → IsCut stands cut out out' (reply_items (state_of m'.system d) reply) (replicate count step)) → Cut stands cut m out out' event
     all_cut begins given = record {
       steps = replicate count step;
       begins = begins;
-      each = λ d f. record { legal = did.legal d f; given = subst (λ is. IsCut stands cut out out' is (replicate count step)) (did.items d f) (given d) };
+      each = λ d f. record { legal = did.legal d f; given = subst (λ is. IsCut stands cut out out' is (replicate count step)) (did.items d f) (given d (did.fits d f)) };
     }
 
   -- the step of an event that was done, and given behind the items of its reply
   pub step_acted : {X E : Type 0} (m m' : Machine P b) (out out' : T) (r : Result X E) (e : Event) (reply : Reply) → CanDo m.system (Outer e) → Did m.system m'.system (Outer e) reply
-      → TookAll fault_count onward stands cut out out' r (λ d. reply_items (state_of m'.system d) reply) (Outer e ∷ []) → done m' ≡ done m + 1 → auto m' ≡ auto m → is_live m' ≡ is_live m
+      → TookOver (FitsPages m'.system) fault_count onward stands cut out out' r (λ d. reply_items (state_of m'.system d) reply) (Outer e ∷ []) → done m' ≡ done m + 1 → auto m' ≡ auto m → is_live m' ≡ is_live m
       → Acted fault_count onward stands cut m m' out out' r e
   step_acted {X} {E} m m' out out' r e reply can did took count mark live = record {
     taker = took.taker;
-    ok = all r (λ d. (took.given d).ok);
-    err = part r (λ d. (took.given d).err);
+    ok = all r (λ d f. (took.given d f).ok);
+    err = part r (λ d f. (took.given d f).err);
     mark = mark ∙ sym (single_mark (auto m) e can.0.1);
     live = live;
     most = did.most;
@@ -140,36 +141,36 @@ module _ {P : Type 0} {b : _} {T : Type 0} (fault_count : T → ℕ) (onward : T
       one : DidAll m.system m'.system (Outer e) 1 reply
       one = did_one m.system m'.system (Outer e) reply can did
 
-      all : (r : Result X E) → ((d : DrumWords) → OnOk r (GoesOn stands out out' (reply_items (state_of m'.system d) reply) (Outer e ∷ []))) → OnOk r (Given stands m m' out out' e)
+      all : (r : Result X E) → ((d : DrumWords) → FitsPages m'.system d → OnOk r (GoesOn stands out out' (reply_items (state_of m'.system d) reply) (Outer e ∷ []))) → OnOk r (Given stands m m' out out' e)
       all (Err c) given = tt
       all (Ok x) given = all_given m m' out out' (Outer e) 1 reply e one (follows_event e can.0.1) count given
 
-      part : (r : Result X E) → ((d : DrumWords) → OnErr r (IsCut stands cut out out' (reply_items (state_of m'.system d) reply) (Outer e ∷ []))) → OnErr r (Cut stands cut m out out' e)
+      part : (r : Result X E) → ((d : DrumWords) → FitsPages m'.system d → OnErr r (IsCut stands cut out out' (reply_items (state_of m'.system d) reply) (Outer e ∷ []))) → OnErr r (Cut stands cut m out out' e)
       part (Ok x) given = tt
       part (Err c) given = all_cut m m' out out' (Outer e) 1 reply e one (begins_event e can.0.1) given
 
   -- equal turns that were done, and given behind the items of the reply
   module _ {E : Type 0} (m m' : Machine P b) (out out' : T) (step : Step) (turn : IsTurn step) (count left : ℕ) (some : 1 ≤ count) (few : count ≤ left) (reply : Reply) (did : DidAll m.system m'.system step count reply) (counts : done m' ≡ done m + count) (mark : auto m' ≡ auto m) (live : is_live m' ≡ is_live m) where
-    pub turns_given : {X F : Type 0} (x : X) → TookAll {E = F} fault_count onward stands cut out out' (Ok x) (λ d. reply_items (state_of m'.system d) reply) (replicate count step) → TookTurns {E = E} fault_count onward stands cut m m' out out' (Ok count) left
+    pub turns_given : {X F : Type 0} (x : X) → TookOver {E = F} (FitsPages m'.system) fault_count onward stands cut out out' (Ok x) (λ d. reply_items (state_of m'.system d) reply) (replicate count step) → TookTurns {E = E} fault_count onward stands cut m m' out out' (Ok count) left
     turns_given x took = record {
       taker = record { later = took.taker.later; cause = tt; goes_on = took.taker.goes_on };
       some = some;
       few = few;
-      ok = all_given m m' out out' step count reply (Run count) did (length-replicate count step, are_turns count step turn) counts (λ d. (took.given d).ok);
+      ok = all_given m m' out out' step count reply (Run count) did (length-replicate count step, are_turns count step turn) counts (λ d f. (took.given d f).ok);
       err = tt;
       mark = mark;
       live = live;
       most = did.most;
     }
 
-    pub turns_cut : {X F : Type 0} (failed : F) (r : Result ℕ E) → IsErr r → TookAll {X = X} fault_count onward stands cut out out' (Err failed) (λ d. reply_items (state_of m'.system d) reply) (replicate count step) → TookTurns fault_count onward stands cut m m' out out' r left
+    pub turns_cut : {X F : Type 0} (failed : F) (r : Result ℕ E) → IsErr r → TookOver {X = X} (FitsPages m'.system) fault_count onward stands cut out out' (Err failed) (λ d. reply_items (state_of m'.system d) reply) (replicate count step) → TookTurns fault_count onward stands cut m m' out out' r left
     turns_cut failed (Ok n) is took = absurd (cc is)
     turns_cut failed (Err e) is took = record {
       taker = record { later = took.taker.later; cause = took.taker.cause; goes_on = took.taker.goes_on };
       some = tt;
       few = tt;
       ok = tt;
-      err = all_cut m m' out out' step count reply (Run left) did (omega (arith, length-replicate count step, few), are_turns count step turn) (λ d. (took.given d).err);
+      err = all_cut m m' out out' step count reply (Run left) did (omega (arith, length-replicate count step, few), are_turns count step turn) (λ d f. (took.given d f).err);
       mark = mark;
       live = live;
       most = did.most;

@@ -1,5 +1,5 @@
 -- Steps of a system, as steps of the plain machine.
-use Rattle.std.proofs.Common.{◌≡◌, ℕ, ◌<◌, ◌≤◌, ◌^◌, is_some, List, Option, None, Some, refl, sym, ◌∙◌, ap, subst, arith, inl, inr, length-set}
+use Rattle.std.proofs.Common.{◌≡◌, ℕ, ◌+◌, ◌*◌, ◌<◌, ◌≤◌, ◌^◌, is_some, List, Option, None, Some, refl, sym, ◌∙◌, ap, subst, arith, inl, inr, length-set}
 use Rattle.std.specs.Option.{option_map, option_map_or}
 use Rattle.std.specs.FinMap as map
 use Rattle.machine_names.specs.declared.names.ForkName.{ForkName}
@@ -9,17 +9,24 @@ use Rattle.plain_model.specs.State.{PlainState}
 use Rattle.plain_model.specs.Trees.{changed, PlainTree, with_changed_of}
 use Rattle.machine_names.specs.declared.names.TheConstants.{ACCUMULATORS}
 use Rattle.plain_model.specs.Events.{restarted}
-use Rattle.monitor_core.specs.Writing.{with_accumulator}
+use Rattle.machine_names.specs.declared.names.Tty.{Tty}
+use Rattle.std.proofs.lemmas.Bool.{cases_eq}
+use Rattle.monitor_core.specs.Writing.{Makes, most_makings, with_accumulator}
 use Rattle.fork_tree.specs.Trees.{IsTree, Lives}
 use Rattle.fork_tree.proofs.Slots.{held_lives}
 use Rattle.monitor_core.specs.declared.job.Job.{Job}
 use Rattle.monitor_core.specs.declared.system.System.{System}
 use Rattle.monitor_core.specs.Holding.{Holds}
-use Rattle.monitor_core.specs.Jobs.{job_at}
-use Rattle.monitor_core.specs.Systems.{IsWithin}
+use Rattle.page_contracts.specs.DrumWords.{DrumWords}
+use Rattle.plain_files.specs.OpenFiles.{OpenFiles}
+use Rattle.plain_files.specs.NamedFiles.{AreFiled}
+use Rattle.file_tables.specs.declared.tables.FileTables.{FileTables}
+use Rattle.file_tables.specs.Tables.{files_of, open_of}
+use Rattle.monitor_core.specs.Jobs.{AreUnheld, job_at, jobs_of}
+use Rattle.monitor_core.specs.Systems.{FitsPages, IsWithin, named, state_of}
 use Rattle.monitor_core.specs.Limits.{IsBody}
 use Rattle.monitor_core.specs.Sound.{AreSound}
-use Rattle.monitor_core.proofs.Sounds.{lives_now, same_tops, sound_change, sound_same, split_at}
+use Rattle.monitor_core.proofs.Sounds.{SameTops, lives_now, same_tops, sound_change, sound_same, split_at}
 
 -- what a map of one value gives
 pub mapped_some : {X Y : Type 0} (f : X → Y) (o : Option X) (y : Y) → option_map f o ≡ Some y → (x : X) × (o ≡ Some x) × (f x ≡ y)
@@ -33,6 +40,33 @@ change_is s name change same = by (map.get s.forks name)
     by : (o : Option Fork) → option_map_or (λ f. with_fork s (change f)) o s ≡ record s { forks = changed s.forks change o }
     by None = refl
     by (Some f) = λ i. record s { forks = map.insert s.forks (same f i) (change f) }
+
+-- no JFN is held where no job is, nor where none was
+pub unheld_still : (held : List OpenFiles) (jobs jobs' : List (Option Job)) → AreUnheld held jobs → SameTops jobs jobs' → AreUnheld held jobs'
+unheld_still held jobs jobs' none tops t gone = none t (tops.none t gone)
+
+module _ {P : Type 0} {b : _} (m m' : System P b) (files : m'.files ≡ m.files) where
+  -- the drum fits where the pages of files are those that they were
+  pub fits_left : (d : DrumWords) → b.means.fits m'.pages d → (b.means.plain m'.pages d).files ≡ (b.means.plain m.pages d).files → FitsPages m d → FitsPages m' d
+  fits_left d fits same f = record {
+    pages = fits;
+    filed = subst (λ (t : FileTables). AreFiled t.dir (b.means.plain m'.pages d).files) (sym files) (subst (AreFiled m.files.dir) (sym same) f.filed);
+  }
+
+  module _ (same : m'.pages ≡ m.pages) where
+    pub fits_still : (d : DrumWords) → FitsPages m d → FitsPages m' d
+    fits_still d f = fits_left d (subst (λ p. b.means.fits p d) (sym same) f.pages) (ap (λ p. (b.means.plain p d).files) same) f
+
+    -- a state of the same pages and files
+    pub state_left : (tree : m'.tree ≡ m.tree) (jobs : m'.jobs.items ≡ m.jobs.items) (clock : m'.clock ≡ m.clock) (d : DrumWords) → state_of m' d ≡ state_of m d
+    state_left tree jobs clock d = λ i. record (state_of m d) {
+      pages = named (files i).dir (b.means.plain (same i) d);
+      files = files_of (files i);
+      jobs = jobs_of (open_of (files i)) (jobs i);
+      forks = (tree i).forks;
+      fork_serials = (tree i).serials;
+      clock = clock i;
+    }
 
 module _ {P : Type 0} {b : _} where
   -- the top fork of a job lives
@@ -65,6 +99,13 @@ module _ {P : Type 0} {b : _} where
       by : (o : Option Fork) → map.get m.tree.forks n ≡ o → Lives (changed m.tree.forks change o) f → f.body.units ≤ later
       by None e lives = omega (arith, more, w.units f lives)
       by (Some k) e lives = units_changed m entries later k.name (change k) w more (omega (arith, same k, w.units k (held_lives m.tree.forks is.slotted n k e), more)) f lives
+
+  -- pages were made for an owner in an entry
+  pub serials_made : (m m' : System P b) (entries : ℕ) (owner : Tty) → IsWithin m entries → Makes b.means m.pages m'.pages owner 2 → (u : Tty) → b.means.serial m'.pages u ≤ most_makings * (entries + 1) + 1
+  serials_made m m' entries owner w made u = elim (cases_eq u.0 owner.0) [
+    | inl same ↦ let is : u ≡ owner = λ i. record { 0 = same i } in omega (arith, ap (b.means.serial m'.pages) is, made.own, w.serials owner)
+    | inr ne ↦ omega (arith, made.others u (λ h. ne (ap (λ x. x.0) h)), w.serials u)
+  ]
 
   -- nothing is counted but an entry
   pub within_later : (m : System P b) (entries later : ℕ) → IsWithin m entries → entries ≤ later → IsWithin m later

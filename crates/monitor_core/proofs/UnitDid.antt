@@ -33,32 +33,38 @@ use Rattle.monitor_core.specs.declared.shown.Stop.TheVariants.{GoesOn}
 use Rattle.monitor_core.specs.declared.system.System.{System}
 use Rattle.monitor_core.specs.declared.units.Units.{Units}
 use Rattle.monitor_core.specs.ForkUnit.{Behind, LeavesForks, UnitWaits, UnitsRan}
-use Rattle.monitor_core.specs.Jobs.{job_at, jobs_left, jobs_of}
+use Rattle.monitor_core.specs.Jobs.{AreUnheld, job_at, jobs_left, jobs_of}
 use Rattle.monitor_core.specs.Runners.{woken_where}
 use Rattle.monitor_core.specs.Shown.{FitsShown, FitsStop, is_stop, seen_of, shown_items}
 use Rattle.monitor_core.specs.Sound.{AreSound}
-use Rattle.monitor_core.specs.Systems.{DidAll, FitsPages, IsWithin, Waits, state_of}
+use Rattle.plain_files.specs.NamedFiles.{pages_named}
+use Rattle.plain_files.specs.OpenFiles.{OpenFiles}
+use Rattle.file_tables.specs.Tables.{files_of, open_of}
+use Rattle.monitor_core.specs.Systems.{DidAll, FitsPages, IsWithin, Waits, named, state_of}
 use Rattle.monitor_core.specs.Writing.{most_makings}
 use Rattle.monitor_core.proofs.Lookups.{job_found, job_missing, jobs_set}
 use Rattle.monitor_core.proofs.Rows.{Entries, units_as}
 use Rattle.monitor_core.proofs.Sounds.{SameTops, same_tops, same_tops_set}
-use Rattle.monitor_core.proofs.Unfiled.{named}
+use Rattle.monitor_core.proofs.Filed.{NamedFiles}
+use Rattle.monitor_core.proofs.NamedPages.{alike_named, named_left}
+use Rattle.monitor_core.proofs.Systems.{fits_left, unheld_still}
 use Rattle.monitor_core.proofs.UnitEffect.{Runs, behind_state, jobs_seen}
 
 -- the jobs of which one gives its terminal to the monitor, as the plain state has them
-pub jobs_left_seen : (jobs : List (Option Job)) (t : Tty) (stops : Bool) → t.0 < length jobs → jobs_of (jobs_left jobs t.0 stops) ≡ jobs_seen (jobs_of jobs) t stops
-jobs_left_seen jobs t false low = refl
-jobs_left_seen jobs t true low = by (job_at jobs t.0) refl
-  where
-    left : Option Job → List (Option Job)
-    left o = option_map_or (λ (j : Job). slice_set jobs t.0 (Some (record j { mode = Command }))) o jobs
+module _ (held : List OpenFiles) where
+  pub jobs_left_seen : (jobs : List (Option Job)) (t : Tty) (stops : Bool) → t.0 < length jobs → jobs_of held (jobs_left jobs t.0 stops) ≡ jobs_seen (jobs_of held jobs) t stops
+  jobs_left_seen jobs t false low = refl
+  jobs_left_seen jobs t true low = by (job_at jobs t.0) refl
+    where
+      left : Option Job → List (Option Job)
+      left o = option_map_or (λ (j : Job). slice_set jobs t.0 (Some (record j { mode = Command }))) o jobs
 
-    seen : Option PlainJob → fin.FinMap nat_cmp PlainJob
-    seen o = option_map_or (λ (j : PlainJob). fin.insert (jobs_of jobs) t.0 (record j { mode = Command })) o (jobs_of jobs)
+      seen : Option PlainJob → fin.FinMap nat_cmp PlainJob
+      seen o = option_map_or (λ (j : PlainJob). fin.insert (jobs_of held jobs) t.0 (record j { mode = Command })) o (jobs_of held jobs)
 
-    by : (o : Option Job) → job_at jobs t.0 ≡ o → jobs_of (left o) ≡ seen (fin.get (jobs_of jobs) t.0)
-    by None none = ap seen (sym (job_missing jobs t.0 none))
-    by (Some j) there = jobs_set jobs t.0 (record j { mode = Command }) low ∙ ap seen (sym (job_found jobs t.0 j there))
+      by : (o : Option Job) → job_at jobs t.0 ≡ o → jobs_of held (left o) ≡ seen (fin.get (jobs_of held jobs) t.0)
+      by None none = ap seen (sym (job_missing held jobs t.0 none))
+      by (Some j) there = jobs_set held jobs t.0 (record j { mode = Command }) low ∙ ap seen (sym (job_found held jobs t.0 j there))
 
 -- and each terminal has the same top fork
 pub tops_left : (jobs : List (Option Job)) (t : ℕ) (stops : Bool) → t < length jobs → SameTops jobs (jobs_left jobs t stops)
@@ -84,6 +90,10 @@ module _ {P : Type 0} {b : _} (m : System P b) (f : Fork) (trees : IsTree m.tree
 
   within_jobs : f.name.tty.0 < length m.jobs.items
   within_jobs = omega (arith, m.sound.job_room, low)
+
+  -- no JFN is held where no job is, whoever reads the terminal
+  pub unheld_left : {jobs' : List (Option Job)} (shown : Shown) → jobs' ≡ jobs_left m.jobs.items f.name.tty.0 (is_stop shown) → AreUnheld (open_of m.files) jobs'
+  unheld_left shown jobs = subst (AreUnheld (open_of m.files)) (sym jobs) (unheld_still (open_of m.files) m.jobs.items (jobs_left m.jobs.items f.name.tty.0 (is_stop shown)) m.unheld (tops_left m.jobs.items f.name.tty.0 (is_stop shown) within_jobs))
 
   -- behind units of a fork, and once who waits runs again
   module _ (q : P) (left tree' : PlainTree) (count : ℕ) (stops : Bool) (leaves : LeavesForks b.means m.pages q m.tree left f count) (left_trees : IsTree left) (woken : tree' ≡ record left { forks = woken_where left.forks f.name.tty stops }) where
@@ -145,29 +155,35 @@ module _ {P : Type 0} {b : _} (m : System P b) (f : Fork) (trees : IsTree m.tree
         })
 
   module _ (q : P) (left tree' : PlainTree) (units : Units) (ran : UnitsRan b.means m.pages q m.tree left f units) (left_trees : IsTree left) (woken : tree' ≡ record left { forks = woken_where left.forks f.name.tty (is_stop units.shown) }) where
-    module _ (m' : System P b) (pages_are : m'.pages ≡ q) (tree_is : m'.tree ≡ tree') (shown : Shown) (runs : f.body.status ≡ Run) (thawed : is_frozen MOST_FORKS m.tree.forks (Some f) ≡ false)
+    module _ (m' : System P b) (files : m'.files ≡ m.files) (pages_are : m'.pages ≡ q) (tree_is : m'.tree ≡ tree') (shown : Shown) (runs : f.body.status ≡ Run) (thawed : is_frozen MOST_FORKS m.tree.forks (Some f) ≡ false)
         (seen : shown ≡ seen_of f.slot units.shown) (jobs : m'.jobs.items ≡ jobs_left m.jobs.items f.name.tty.0 (is_stop shown)) (clock : m'.clock ≡ m.clock) (some : 1 ≤ units.count) where
       module _ (d : DrumWords) (fits : FitsPages m d) where
         abbrev last : Behind
         last = record { tree = left; fork = ran.after; pages = b.means.plain q d; shown = units.shown }
 
-        can_run : Runs (state_of m d) f (b.means.plain m.pages d)
-        can_run = record { trees = trees; fork = lives; pages = refl; unfiled = fits.unfiled; quiet = refl; off = (m.sound.each_fork f lives).off; runs = runs; thawed = thawed }
+        -- the pages of files under names
+        abbrev filed : NamedFiles
+        filed = pages_named m.files.dir (b.means.plain m.pages d).files
 
-        entries : Entries (state_of m d) f (b.means.plain m.pages d) can_run units.count last
-        entries = units_as (state_of m d) f (b.means.plain m.pages d) can_run units.count last (ran.told d fits.pages).1 (λ stops. record { own = left_trees.slotted.own; within = left_within q left tree' units.count (is_stop units.shown) ran.leaves left_trees woken })
+        can_run : Runs filed (state_of m d) f (b.means.plain m.pages d)
+        can_run = record { trees = trees; fork = lives; pages = refl; alike = alike_named m.files.dir (b.means.plain m.pages d) m.files.sound.numbers fits.filed; quiet = refl; off = (m.sound.each_fork f lives).off; runs = runs; thawed = thawed }
 
-        state_is : state_of m' d ≡ behind_state (state_of m d) f last
+        entries : Entries filed (state_of m d) f (b.means.plain m.pages d) can_run units.count last
+        entries = units_as filed (state_of m d) f (b.means.plain m.pages d) can_run units.count last (ran.told d fits.pages).1 (λ stops. record { own = left_trees.slotted.own; within = left_within q left tree' units.count (is_stop units.shown) ran.leaves left_trees woken })
+
+        state_is : state_of m' d ≡ behind_state filed (state_of m d) f last
         state_is =
-            let jobs_are : jobs_of m'.jobs.items ≡ jobs_seen (jobs_of m.jobs.items) f.name.tty (is_stop (seen_of f.slot units.shown)) =
-            ap jobs_of jobs ∙ jobs_left_seen m.jobs.items f.name.tty (is_stop shown) within_jobs ∙ ap (λ x. jobs_seen (jobs_of m.jobs.items) f.name.tty (is_stop x)) seen in
+            let held = open_of m.files in
+            let jobs_are : jobs_of (open_of m'.files) m'.jobs.items ≡ jobs_seen (jobs_of held m.jobs.items) f.name.tty (is_stop (seen_of f.slot units.shown)) =
+            (λ i. jobs_of (open_of (files i)) (jobs i)) ∙ jobs_left_seen held m.jobs.items f.name.tty (is_stop shown) within_jobs ∙ ap (λ x. jobs_seen (jobs_of held m.jobs.items) f.name.tty (is_stop x)) seen in
             let tree_so = tree_is ∙ woken in
-            λ i. record (state_of m' d) { pages = named (b.means.plain (pages_are i) d); jobs = jobs_are i; forks = (tree_so i).forks; fork_serials = (tree_so i).serials; clock = clock i }
+            (λ i. record (state_of m' d) { pages = named (files i).dir (b.means.plain (pages_are i) d); files = files_of (files i); jobs = jobs_are i; forks = (tree_so i).forks; fork_serials = (tree_so i).serials; clock = clock i })
+            ∙ ap (λ x. record (behind_state filed (state_of m d) f last) { pages = x }) (named_left m.files.dir (b.means.plain m.pages d) (b.means.plain q d) entries.files)
 
       -- units that ran in a row
       pub did_units : DidAll m m' (AUnit f.name) units.count (Prints f.name.tty shown)
       did_units = record {
-        fits = λ d fits. record { pages = subst (λ (x : P). b.means.fits x d) (sym pages_are) (ran.told d fits.pages).0; unfiled = ap (λ (x : P). (b.means.plain x d).files) pages_are ∙ (entries d fits).unfiled };
+        fits = λ d fits. fits_left m m' files d (subst (λ (x : P). b.means.fits x d) (sym pages_are) (ran.told d fits.pages).0) (ap (λ (x : P). (b.means.plain x d).files) pages_are ∙ (entries d fits).files) fits;
         legal = λ d fits. (entries d fits).legal;
         state = λ d fits. state_is d fits ∙ sym (entries d fits).state;
         items = λ d fits. ap (shown_items f.name.tty) seen ∙ sym (entries d fits).items;
@@ -191,14 +207,14 @@ module _ {P : Type 0} {b : _} (m : System P b) (f : Fork) (trees : IsTree m.tree
     pub waits_sound : AreSound b.means q left m.jobs.items
     waits_sound = units_sound q left left 0 false waits.leaves left_trees refl left_trees m.jobs.items (record { out = None; stop = GoesOn }) refl
 
-    pub waits_still : (m' : System P b) → m'.pages ≡ q → m'.tree ≡ left → m'.jobs ≡ m.jobs → m'.clock ≡ m.clock → Waits m m' n
-    waits_still m' pages_are tree_is jobs_are clock = record {
+    pub waits_still : (m' : System P b) → m'.files ≡ m.files → m'.pages ≡ q → m'.tree ≡ left → m'.jobs ≡ m.jobs → m'.clock ≡ m.clock → Waits m m' n
+    waits_still m' files pages_are tree_is jobs_are clock = record {
       each = λ d fits.
           let t = waits.told d fits.pages in
           let same : b.means.plain m'.pages d ≡ b.means.plain m.pages d = ap (λ (x : P). b.means.plain x d) pages_are ∙ t.2 in
           let tree_same = tree_is ∙ t.1 in (
-            record { pages = subst (λ (x : P). b.means.fits x d) (sym pages_are) t.0; unfiled = ap (λ x. x.files) same ∙ fits.unfiled },
-            λ i. record (state_of m' d) { pages = named (same i); jobs = jobs_of (jobs_are i).items; forks = (tree_same i).forks; fork_serials = (tree_same i).serials; clock = clock i },
+            fits_left m m' files d (subst (λ (x : P). b.means.fits x d) (sym pages_are) t.0) (ap (λ x. x.files) same) fits,
+            λ i. record (state_of m' d) { pages = named (files i).dir (same i); files = files_of (files i); jobs = jobs_of (open_of (files i)) (jobs_are i).items; forks = (tree_same i).forks; fork_serials = (tree_same i).serials; clock = clock i },
           );
       within = λ entries w. record {
         ticks = omega (arith, clock, w.ticks);

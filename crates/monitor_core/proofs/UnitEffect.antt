@@ -48,7 +48,8 @@ use Rattle.monitor_core.specs.Runners.{woken_where}
 use Rattle.monitor_core.specs.Shown.{is_stop, is_stopped, nothing, seen_of, seen_stop, shown_items, stands, stop_items, stop_of}
 use Rattle.monitor_core.proofs.CallerStays.{caller_stays}
 use Rattle.monitor_core.proofs.Keeping.{dropped_off, posted_off}
-use Rattle.monitor_core.proofs.Unfiled.{call_named, named, unit_named}
+use Rattle.plain_pages.proofs.Refiled.{NameAlike}
+use Rattle.monitor_core.proofs.Filed.{NamedFiles, call_keyed, keyed, unit_keyed}
 
 -- the jobs once the monitor reads a terminal, if it does
 abbrev pub jobs_seen : fin.FinMap nat_cmp PlainJob → Tty → Bool → fin.FinMap nat_cmp PlainJob
@@ -172,34 +173,34 @@ module _ (f : Fork) where
   turn_stays (end.Failed code) = (refl, refl)
   turn_stays (end.Trap channel) = posted_stays f channel (refl, refl)
 
--- a state of trees without files in which a fork can run, over these pages
-pub record Runs (s : PlainState) (f : Fork) (p : NumberedPages) : Type 0 where
+-- a state of trees in which a fork can run, over these pages, with these pages of files
+pub record Runs (filed : NamedFiles) (s : PlainState) (f : Fork) (p : NumberedPages) : Type 0 where
   pub trees : IsTree (tree_of s)
   pub fork : fin.get s.forks f.name ≡ Some f
-  pub pages : s.pages ≡ named p
-  pub unfiled : p.files ≡ fin.empty
+  pub pages : s.pages ≡ keyed filed p
+  pub alike : NameAlike name_cmp p filed
   pub quiet : s.trace ≡ false
   pub off : f.body.psi.on ≡ false
   pub runs : f.body.status ≡ Run
   pub thawed : is_frozen MOST_FORKS s.forks (Some f) ≡ false
 
 -- the state behind a unit of a fork, and what it shows
-abbrev pub behind_state : PlainState → Fork → Behind → PlainState
-behind_state s f b = record s {
-  pages = named b.pages;
+abbrev pub behind_state : NamedFiles → PlainState → Fork → Behind → PlainState
+behind_state filed s f b = record s {
+  pages = keyed filed b.pages;
   jobs = jobs_seen s.jobs f.name.tty (is_stop (seen_of f.slot b.shown));
   forks = woken_where b.tree.forks f.name.tty (is_stop b.shown);
   fork_serials = b.tree.serials;
 }
 
-abbrev pub effect_of : PlainState → Fork → Behind → Effect
-effect_of s f b = record { state = behind_state s f b; items = shown_items f.name.tty (seen_of f.slot b.shown) }
+abbrev pub effect_of : NamedFiles → PlainState → Fork → Behind → Effect
+effect_of filed s f b = record { state = behind_state filed s f b; items = shown_items f.name.tty (seen_of f.slot b.shown) }
 
 -- where a fork has stopped, the forks take no channel
 abbrev pub StopsQuietly : Behind → Type 0
 StopsQuietly b = is_stop b.shown ≡ true → AreQuiet b.tree.forks
 
-module _ (s : PlainState) (f : Fork) (p : NumberedPages) (t : Runs s f p) where
+module _ (filed : NamedFiles) (s : PlainState) (f : Fork) (p : NumberedPages) (t : Runs filed s f p) where
   -- the forks without a superior are those in slot 1
   top : is_some f.superior ≡ not (f.slot == 1)
   top = by f.superior refl
@@ -213,12 +214,12 @@ module _ (s : PlainState) (f : Fork) (p : NumberedPages) (t : Runs s f p) where
 
   -- an effect is that of what is behind the unit
   abbrev Comes : Effect → Behind → Type 0
-  Comes x b = StopsQuietly b → x ≡ effect_of s f b
+  Comes x b = StopsQuietly b → x ≡ effect_of filed s f b
 
-  on_pages : (q : NumberedPages) (g : Fork) (shown : Shown) → EndsAs f g shown → Comes (unit_ended (record s { pages = named q }) g g.body.status) (left_so (tree_of s) (counted g) q shown)
+  on_pages : (q : NumberedPages) (g : Fork) (shown : Shown) → EndsAs f g shown → Comes (unit_ended (record s { pages = keyed filed q }) g g.body.status) (left_so (tree_of s) (counted g) q shown)
   on_pages q g shown e quiet =
-      ended_as (record s { pages = named q }) f top g e.name e.superior (λ stops. quiet (ap is_stop e.shown ∙ stops))
-      ∙ ap (λ x. effect_of s f (left_so (tree_of s) (counted g) q x)) (sym e.shown)
+      ended_as (record s { pages = keyed filed q }) f top g e.name e.superior (λ stops. quiet (ap is_stop e.shown ∙ stops))
+      ∙ ap (λ x. effect_of filed s f (left_so (tree_of s) (counted g) q x)) (sym e.shown)
 
   -- a turn of a monitor call
   module _ (number : ℕ) where
@@ -268,17 +269,17 @@ module _ (s : PlainState) (f : Fork) (p : NumberedPages) (t : Runs s f p) where
     called_as quiet =
         let g = caller_there.0 in
         let stays = caller_there.2 in
-        let left : PlainState = record s { forks = gone.parts.tree.forks; fork_serials = gone.parts.tree.serials; pages = named gone.parts.pages } in
+        let left : PlainState = record s { forks = gone.parts.tree.forks; fork_serials = gone.parts.tree.serials; pages = keyed filed gone.parts.pages } in
         let behind_is : called_behind (tree_of s) f p number ≡ turn_behind gone.parts.tree gone.parts.pages gone.out g = ap (λ (o : Option Fork). turn_behind gone.parts.tree gone.parts.pages gone.out (unwrap_or o f)) caller_there.1 in
         ap (λ q. turned s f.name.tty (call_turned (record { tree = tree_of s; pages = q }) f.name f.body.regs number)) t.pages
-        ∙ ap (turned s f.name.tty) (call_named p t.unfiled (tree_of s) f.name f.body.regs number)
-        ∙ ap (λ (o : Option Fork). turned s f.name.tty (record { parts = record { tree = gone.parts.tree; pages = named gone.parts.pages }; caller = o; out = gone.out })) caller_there.1
+        ∙ ap (turned s f.name.tty) (call_keyed filed p t.alike (tree_of s) f.name f.body.regs number)
+        ∙ ap (λ (o : Option Fork). turned s f.name.tty (record { parts = record { tree = gone.parts.tree; pages = keyed filed gone.parts.pages }; caller = o; out = gone.out })) caller_there.1
         ∙ ap (λ (e : Effect). record e { items = turn_printed f.name.tty gone.out ++ e.items }) (ended_as left f top g stays.0 stays.1 (subst StopsQuietly behind_is quiet))
-        ∙ ap (effect_of s f) (sym behind_is)
+        ∙ ap (effect_of filed s f) (sym behind_is)
 
-  over_as : (x : Planned nat_cmp ⊥) → Comes (over s f (refiled_plan name_cmp fin.empty x)) (behind (tree_of s) f p x)
+  over_as : (x : Planned nat_cmp ⊥) → Comes (over s f (refiled_plan name_cmp filed x)) (behind (tree_of s) f p x)
   over_as (done u e) quiet =
-      ap (λ q. went s f q e) (left_refiled name_cmp fin.empty f.name u e)
+      ap (λ q. went s f q e) (left_refiled name_cmp filed f.name u e)
       ∙ on_pages (pages_left f.name u e) (posted_if (with_regs f e.regs) e.post) (post_shown e.post) (posted_if_ends f (with_regs f e.regs) e.post refl refl t.off t.runs) quiet
   over_as (unit_stopped (trap channel)) quiet =
       ap (λ q. unit_ended (record s { pages = q }) (posted f channel) (posted f channel).body.status) t.pages
@@ -290,11 +291,11 @@ module _ (s : PlainState) (f : Fork) (p : NumberedPages) (t : Runs s f p) where
   unit_as quiet =
       unit_some s f.name f t.fork
       ∙ ap (λ q. over s f (unit_on f.name q f.body.regs)) t.pages
-      ∙ ap (over s f) (unit_named p t.unfiled f.name f.body.regs)
+      ∙ ap (over s f) (unit_keyed filed p t.alike f.name f.body.regs)
       ∙ over_as (unit_on f.name p f.body.regs) quiet
 
   -- an entry of the fork
-  pub step_as : StopsQuietly (behind_unit (tree_of s) f p) → apply s (AUnit f.name) ≡ effect_of s f (behind_unit (tree_of s) f p)
+  pub step_as : StopsQuietly (behind_unit (tree_of s) f p) → apply s (AUnit f.name) ≡ effect_of filed s f (behind_unit (tree_of s) f p)
   step_as quiet =
       let line : unit_line s f.name ≡ [] = ap (λ b. cond b (option_map_or (λ k. UnitLine f.name k.body.regs.pc ∷ []) (fin.get s.forks f.name) []) []) t.quiet in
       apply_unit s f.name ∙ (λ i. record { state = (unit_as quiet i).state; items = line i ++ (unit_as quiet i).items })

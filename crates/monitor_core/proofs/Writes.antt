@@ -1,65 +1,64 @@
--- A slot that is made ready to write, by what its touch answers, and a word that is put there.
+-- A page that is made ready to write, by what its touch answers.
 use Rattle.std.proofs.Common.{◌≡◌, inl, inr, ℕ, Bool, true, false, Some, refl, sym, ◌∙◌, ap, subst, ◌∷◌, [], List}
 use Rattle.std.specs.Prelude.{Result, Ok, Err}
 use Rattle.std.specs.Result.{IsErrAnd}
 use Rattle.std.specs.Ordering.{nat_cmp}
 use Rattle.std.specs.Cmp.{nat_cmp_total}
-use Rattle.machine_names.specs.declared.names.Slot.{Slot}
 use Rattle.machine_names.specs.declared.names.Kind.{Kind}
 use Rattle.machine_names.specs.declared.names.Kind.TheVariants.{Write}
 use Rattle.page_contracts.specs.declared.answers.Touch.{Touch}
 use Rattle.page_contracts.specs.declared.answers.Touch.TheVariants.{Ready, Zero, Copy, Denied, Full}
-use Rattle.script_texts.specs.declared.event.Refusal.{Refusal}
-use Rattle.script_texts.specs.declared.event.Refusal.TheVariants.{Denied as ADenied, Full as AFull}
+use Rattle.machine_names.specs.declared.names.Tty.{Tty}
 use Rattle.plain_pages.specs.PlainPages.{NumberedPages}
-use Rattle.plain_pages.specs.References.{in_map, Making, blank, copy, makings, make, Referred, granted, reference, settled}
+use Rattle.plain_pages.specs.References.{Spot, Making, blank, copy, makings, make, Referred, granted, reference, settled}
 use Rattle.page_contracts.specs.Pages.{Scene, touch_of, SettlesTo, is_in_core}
 use Rattle.plain_pages.proofs.ReferencesMade.{reference_stays, reference_settled, settled_makes}
 use Rattle.page_contracts.proofs.Touches.{ready_touch, zero_touch, copy_touch, denied_touch, full_touch}
 use Rattle.plain_pages.proofs.Settles.{makings_settled}
-use Rattle.monitor_core.specs.Writing.{write_of, IsReadied, IsWritten}
-use Rattle.monitor_core.proofs.Making.{copy_last}
+use Rattle.monitor_core.specs.declared.writing.Barred.TheVariants.{ByMap, ByDrum}
+use Rattle.monitor_core.specs.Writing.{write_of, IsReadied}
+use Rattle.monitor_core.proofs.Making.{copy_last_at}
 
-module _ (p : NumberedPages) (s : Slot) where
+module _ (p : NumberedPages) (at : Spot ℕ) (owner : Tty) where
   abbrev Refers : NumberedPages → Type 0
-  Refers q = reference p (in_map s) Write s.fork.tty ≡ granted q
+  Refers q = reference p at Write owner ≡ granted q
 
-  pub readied_as : {X : Type 0} (q : NumberedPages) (x : X) → reference p (in_map s) Write s.fork.tty ≡ granted q → IsReadied {X = X} p q s (Ok x)
-  readied_as q x refers = record { refers = ap (write_of s.fork.tty) refers; stays = tt }
+  pub readied_as : {X : Type 0} (q : NumberedPages) (x : X) → reference p at Write owner ≡ granted q → IsReadied {X = X} p q at owner (Ok x)
+  readied_as q x refers = record { refers = ap write_of refers; stays = tt }
 
   -- once the first page is made, the reference is what it was
-  refers_on : (m : Making ℕ) (rest : List (Making ℕ)) (q r : NumberedPages) → makings p (in_map s) Write ≡ Some (m ∷ rest) → Refers q → reference (settled p (in_map s) Write s.fork.tty) (in_map s) Write s.fork.tty ≡ granted r → Refers r
+  refers_on : (m : Making ℕ) (rest : List (Making ℕ)) (q r : NumberedPages) → makings p at Write ≡ Some (m ∷ rest) → Refers q → reference (settled p at Write owner) at Write owner ≡ granted r → Refers r
   refers_on m rest q r first refers later =
-      let same : ◌≡◌ {A = Referred nat_cmp} (granted q) (granted r) = sym (reference_settled nat_cmp_total s.fork.tty (in_map s) Write p m rest q first refers) ∙ later in
+      let same : ◌≡◌ {A = Referred nat_cmp} (granted q) (granted r) = sym (reference_settled nat_cmp_total owner at Write p m rest q first refers) ∙ later in
       refers ∙ same
 
-module _ (p : NumberedPages) (scene : Scene) (s : Slot) (t : Touch) (told : t ≡ touch_of p scene (in_map s) Write s.fork.tty) where
-  pub ready_refers : t ≡ Ready → reference p (in_map s) Write s.fork.tty ≡ granted p
-  ready_refers answer = reference_stays p s.fork.tty (in_map s) Write (ready_touch p scene s.fork.tty (in_map s) Write (sym told ∙ answer))
+module _ (p : NumberedPages) (scene : Scene) (at : Spot ℕ) (owner : Tty) (t : Touch) (told : t ≡ touch_of p scene at Write owner) where
+  pub ready_refers : t ≡ Ready → reference p at Write owner ≡ granted p
+  ready_refers answer = reference_stays p owner at Write (ready_touch p scene owner at Write (sym told ∙ answer))
 
   -- a copy is all that is made
-  pub copy_refers : (sole : Bool) (q : NumberedPages) → t ≡ Copy sole → q ≡ settled p (in_map s) Write s.fork.tty → reference p (in_map s) Write s.fork.tty ≡ granted q
+  pub copy_refers : (sole : Bool) (q : NumberedPages) → t ≡ Copy sole → q ≡ settled p at Write owner → reference p at Write owner ≡ granted q
   copy_refers sole q answer made =
-      let z = copy_touch p scene s.fork.tty (in_map s) Write sole (sym told ∙ answer) in
+      let z = copy_touch p scene owner at Write sole (sym told ∙ answer) in
       let first = z.1.3 in
-      let rest_is : [] ≡ z.1.2 = copy_last p s Write (copy z.1.0 z.1.1) z.1.2 first z.1.0 z.1.1 refl in
-      let nothing : makings (make p s.fork.tty (copy z.1.0 z.1.1)) (in_map s) Write ≡ Some [] = makings_settled nat_cmp_total p s.fork.tty (in_map s) Write (copy z.1.0 z.1.1) z.1.2 first ∙ ap Some (sym rest_is) in
-      let settled_is = settled_makes p s.fork.tty (in_map s) Write (copy z.1.0 z.1.1) z.1.2 first in
-      let stays : reference (settled p (in_map s) Write s.fork.tty) (in_map s) Write s.fork.tty ≡ granted q =
-      ap (λ x. reference x (in_map s) Write s.fork.tty) settled_is ∙ reference_stays (make p s.fork.tty (copy z.1.0 z.1.1)) s.fork.tty (in_map s) Write nothing ∙ ap granted (sym settled_is ∙ sym made) in
-      refers_on p s (copy z.1.0 z.1.1) z.1.2 z.0.0 q first z.0.1 stays
+      let rest_is : [] ≡ z.1.2 = copy_last_at p at Write z.1.0 z.1.1 z.1.2 first in
+      let nothing : makings (make p owner (copy z.1.0 z.1.1)) at Write ≡ Some [] = makings_settled nat_cmp_total p owner at Write (copy z.1.0 z.1.1) z.1.2 first ∙ ap Some (sym rest_is) in
+      let settled_is = settled_makes p owner at Write (copy z.1.0 z.1.1) z.1.2 first in
+      let stays : reference (settled p at Write owner) at Write owner ≡ granted q =
+      ap (λ x. reference x at Write owner) settled_is ∙ reference_stays (make p owner (copy z.1.0 z.1.1)) owner at Write nothing ∙ ap granted (sym settled_is ∙ sym made) in
+      refers_on p at owner (copy z.1.0 z.1.1) z.1.2 z.0.0 q first z.0.1 stays
 
   -- a zero page, and then nothing or a copy
-  pub zero_refers : (q r : NumberedPages) → t ≡ Zero → q ≡ settled p (in_map s) Write s.fork.tty → reference q (in_map s) Write s.fork.tty ≡ granted r → reference p (in_map s) Write s.fork.tty ≡ granted r
+  pub zero_refers : (q r : NumberedPages) → t ≡ Zero → q ≡ settled p at Write owner → reference q at Write owner ≡ granted r → reference p at Write owner ≡ granted r
   zero_refers q r answer made later =
-      let z = zero_touch p scene s.fork.tty (in_map s) Write (sym told ∙ answer) in
-      refers_on p s (blank z.1.0) z.1.1 z.0.0 r z.1.2 z.0.1 (ap (λ x. reference x (in_map s) Write s.fork.tty) (sym made) ∙ later)
+      let z = zero_touch p scene owner at Write (sym told ∙ answer) in
+      refers_on p at owner (blank z.1.0) z.1.1 z.0.0 r z.1.2 z.0.1 (ap (λ x. reference x at Write owner) (sym made) ∙ later)
 
-  pub denied_refers : {X : Type 0} (k : Kind) → t ≡ Denied k → IsReadied {X = X} p p s (Err (ADenied s.fork.tty))
-  denied_refers k answer = record { refers = ap (write_of s.fork.tty) (denied_touch p scene s.fork.tty (in_map s) Write k (sym told ∙ answer)).1; stays = refl }
+  pub denied_refers : {X : Type 0} (k : Kind) → t ≡ Denied k → IsReadied {X = X} p p at owner (Err ByMap)
+  denied_refers k answer = record { refers = ap write_of (denied_touch p scene owner at Write k (sym told ∙ answer)).1; stays = refl }
 
-  pub full_refers : {X : Type 0} → t ≡ Full → IsReadied {X = X} p p s (Err (AFull s.fork.tty))
-  full_refers answer = record { refers = ap (write_of s.fork.tty) (full_touch p scene s.fork.tty (in_map s) Write (sym told ∙ answer)); stays = refl }
+  pub full_refers : {X : Type 0} → t ≡ Full → IsReadied {X = X} p p at owner (Err ByDrum)
+  full_refers answer = record { refers = ap write_of (full_touch p scene owner at Write (sym told ∙ answer)); stays = refl }
 
 -- behind a zero page that is made nothing is made, but where a copy is, if all is in core
 pub settles_ready : (old new : Touch) → old ≡ Zero → SettlesTo old new → ((sole : Bool) → new ≡ Copy sole → ⊥) → is_in_core new ≡ true → new ≡ Ready
@@ -74,7 +73,3 @@ settles_ready old new zero settles not core = by (subst (λ t. SettlesTo t new) 
 pub errs : {X E : Type 0} (r : Result X E) (e : E) → IsErrAnd r (λ v. v ≡ e) → r ≡ Err e
 errs (Ok x) e h = absurd h
 errs (Err v) e h = ap Err h
-
--- no word is written where the slot is not ready
-pub unwritten : {X Y : Type 0} (p q : NumberedPages) (s : Slot) (offset word : ℕ) (cause : Refusal) → IsReadied {X = X} p q s (Err cause) → IsWritten {X = Y} p q s offset word (Err cause)
-unwritten p q s offset word cause r = record { ready = q; readied = record { refers = r.refers; stays = r.stays }; store = λ done e. absurd (cc e); stays = r.stays }

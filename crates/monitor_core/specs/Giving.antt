@@ -26,6 +26,11 @@ pub record TookAll {T X E : Type 0} (fault_count : T → ℕ) (onward : T → T 
   pub taker : StaysTaker fault_count onward old new result
   pub given : (d : DrumWords) → Takes stands cut old new result (items d) steps
 
--- the same of items alone
+-- the same over each drum that fits
+pub record TookOver {T X E : Type 0} (fits : DrumWords → Type 0) (fault_count : T → ℕ) (onward : T → T → Type 0) (stands cut : Standing T) (old new : T) (result : Result X E) (items : DrumWords → List Item) (steps : List Step) : Type 0 where
+  pub taker : StaysTaker fault_count onward old new result
+  pub given : (d : DrumWords) → fits d → Takes stands cut old new result (items d) steps
+
+-- items alone over whatever drum
 abbrev pub TookItems : {T X E : Type 0} → (T → ℕ) → (T → T → Type 0) → Standing T → Standing T → T → T → Result X E → (DrumWords → List Item) → Type 0
 TookItems fault_count onward stands cut old new result items = TookAll fault_count onward stands cut old new result items []

@@ -1,6 +1,5 @@
 -- The plain state that a system stands for, and what one step does to it.
 use Rattle.std.specs.Prelude.{◌≡◌, ℕ, ◌+◌, ◌*◌, ◌≤◌, true, false, replicate}
-use Rattle.std.specs.FinMap as map
 use Rattle.machine_names.specs.declared.names.Tty.{Tty}
 use Rattle.machine_names.specs.declared.names.ForkName.{ForkName}
 use Rattle.plain_model.specs.declared.fork.Fork.{Fork}
@@ -8,7 +7,10 @@ use Rattle.script_texts.specs.declared.event.Step.{Step}
 use Rattle.script_texts.specs.declared.event.Step.TheVariants.{Outer, Unit as AUnit, Idle}
 use Rattle.machine_names.specs.Orders.{name_cmp}
 use Rattle.plain_model.specs.State.{PlainState}
-use Rattle.plain_pages.specs.PlainPages.{refiled}
+use Rattle.plain_pages.specs.PlainPages.{NamedPages, NumberedPages, refiled}
+use Rattle.plain_files.specs.Directory.{Files}
+use Rattle.plain_files.specs.NamedFiles.{AreFiled, pages_named}
+use Rattle.file_tables.specs.Tables.{files_of, open_of}
 use Rattle.script_texts.specs.Limits.{FitsStep, IsBuilt}
 use Rattle.page_contracts.specs.DrumWords.{DrumWords}
 use Rattle.page_contracts.specs.declared.answers.Need.{Need}
@@ -23,22 +25,26 @@ use Rattle.monitor_core.specs.Jobs.{jobs_of}
 use Rattle.monitor_core.specs.Replies.{reply_items, FitsReply}
 use Rattle.monitor_core.specs.Writing.{most_makings}
 
--- the plain state over the words of a drum; nothing shows its units or has a file yet
+-- the pages of a state, which knows files by their names, where the pages know them by number
+abbrev pub named : Files → NumberedPages → NamedPages
+named files p = refiled name_cmp p (pages_named files p.files)
+
+-- the plain state over the words of a drum; nothing shows its units
 abbrev pub state_of : {P : Type 0} {b : _} → System P b → DrumWords → PlainState
 state_of {P} {b} m d = record {
-  pages = refiled name_cmp (b.means.plain m.pages d) map.empty;
-  files = map.empty;
-  jobs = jobs_of m.jobs.items;
+  pages = named m.files.dir (b.means.plain m.pages d);
+  files = files_of m.files;
+  jobs = jobs_of (open_of m.files) m.jobs.items;
   forks = m.tree.forks;
   fork_serials = m.tree.serials;
   clock = m.clock;
   trace = false;
 }
 
--- the words of a drum fit the system's pages, and no file has a page
+-- the words of a drum fit the system's pages, and only files that are there have pages
 pub record FitsPages {P : Type 0} {b : _} (m : System P b) (d : DrumWords) : Type 0 where
   pub pages : b.means.fits m.pages d
-  pub unfiled : (b.means.plain m.pages d).files ≡ map.empty
+  pub filed : AreFiled m.files.dir (b.means.plain m.pages d).files
 
 -- its counts are no higher than so many entries let them be
 pub record IsWithin {P : Type 0} {b : _} (m : System P b) (entries : ℕ) : Type 0 where

@@ -1,5 +1,5 @@
--- A word that is written through a fork's map, as the plain pages have it.
-use Rattle.std.specs.Prelude.{◌≡◌, ◌≢◌, ℕ, ◌+◌, ◌≤◌, Result, Ok, Err, OnErr}
+-- Words that are written through a fork's map or into a file, as the plain pages have them.
+use Rattle.std.specs.Prelude.{◌≡◌, ◌≢◌, ℕ, ◌+◌, ◌≤◌, List, Result, Ok, Err, OnErr, OnOk}
 use Rattle.std.specs.Ordering.{nat_cmp}
 use Rattle.machine_names.specs.declared.names.Tty.{Tty}
 use Rattle.machine_names.specs.declared.names.Slot.{Slot}
@@ -10,7 +10,10 @@ use Rattle.plain_model.specs.declared.fork.Fork.{Fork}
 use Rattle.plain_model.specs.Calls.{with_ac}
 use Rattle.plain_model.specs.Forks.{with_regs}
 use Rattle.plain_pages.specs.PlainPages.{NumberedPages}
-use Rattle.plain_pages.specs.References.{Referred, granted, denied, full, in_map, reference, stored}
+use Rattle.monitor_core.specs.declared.writing.Barred.{Barred}
+use Rattle.monitor_core.specs.declared.writing.Barred.TheVariants.{ByMap, ByDrum}
+use Rattle.plain_pages.specs.References.{Spot, Referred, granted, denied, full, in_map, reference, stored}
+use Rattle.plain_model.specs.FileEvents.{stored_row}
 use Rattle.page_contracts.specs.DrumWords.{DrumWords}
 use Rattle.page_contracts.specs.Pages.{PagesMeaning}
 
@@ -18,32 +21,51 @@ use Rattle.page_contracts.specs.Pages.{PagesMeaning}
 abbrev pub with_accumulator : ℕ → ℕ → Fork → Fork
 with_accumulator at word f = with_regs f (with_ac f.body.regs at word)
 
--- a reference to write, as an event of a terminal has it: the pages that it leaves, or the refusal
-abbrev pub write_of : Tty → Referred nat_cmp → Result NumberedPages Refusal
-write_of t (granted q) = Ok q
-write_of t (denied kind) = Err (Denied t)
-write_of t full = Err (Full t)
+-- a reference to write: the pages that it leaves, or what bars it
+abbrev pub write_of : Referred nat_cmp → Result NumberedPages Barred
+write_of (granted q) = Ok q
+write_of (denied kind) = Err ByMap
+write_of full = Err ByDrum
 
 -- the pages that a call left that went
-abbrev pub left_by : {X : Type 0} → NumberedPages → Result X Refusal → Result NumberedPages Refusal
+abbrev pub left_by : {X E : Type 0} → NumberedPages → Result X E → Result NumberedPages E
 left_by q (Ok done) = Ok q
 left_by q (Err cause) = Err cause
 
--- a slot was made ready to write, or the write is refused, and nothing changes
-pub record IsReadied {X : Type 0} (p q : NumberedPages) (s : Slot) (result : Result X Refusal) : Type 0 where
-  pub refers : write_of s.fork.tty (reference p (in_map s) Write s.fork.tty) ≡ left_by q result
+-- a page was made ready to write for an owner of what is made, or the write is barred, and nothing changes
+pub record IsReadied {X : Type 0} (p q : NumberedPages) (at : Spot ℕ) (owner : Tty) (result : Result X Barred) : Type 0 where
+  pub refers : write_of (reference p at Write owner) ≡ left_by q result
   pub stays : OnErr result (q ≡ p)
 
+-- what bars a write, as an event of a terminal says it
+abbrev pub poke_refusal : Tty → Barred → Refusal
+poke_refusal t ByMap = Denied t
+poke_refusal t ByDrum = Full t
+
+-- a call that went, or is refused by what bars it
+abbrev pub refused_by : {X E F : Type 0} → (E → F) → Result X E → Result X F
+refused_by cause (Ok done) = Ok done
+refused_by cause (Err e) = Err (cause e)
+
 -- a word was written at an offset of a slot, or the write is refused, and nothing changes
-pub record IsWritten {X : Type 0} (p q : NumberedPages) (s : Slot) (offset word : ℕ) (result : Result X Refusal) : Type 0 where
+pub record IsWritten (p q : NumberedPages) (s : Slot) (offset word : ℕ) (result : Result (Unit {0}) Refusal) : Type 0 where
   pub ready : NumberedPages
-  pub readied : IsReadied p ready s result
-  pub store : (done : X) → result ≡ Ok done → q ≡ stored ready (in_map s) offset word
+  pub tried : Result (Unit {0}) Barred
+  pub readied : IsReadied p ready (in_map s) s.fork.tty tried
+  pub is : result ≡ refused_by (poke_refusal s.fork.tty) tried
+  pub store : (done : Unit {0}) → result ≡ Ok done → q ≡ stored ready (in_map s) offset word
   pub stays : OnErr result (q ≡ p)
 
 -- the same over each drum that fits
-pub record Writes {P X : Type 0} (means : PagesMeaning P) (old new : P) (s : Slot) (offset word : ℕ) (result : Result X Refusal) : Type 0 where
+pub record Writes {P : Type 0} (means : PagesMeaning P) (old new : P) (s : Slot) (offset word : ℕ) (result : Result (Unit {0}) Refusal) : Type 0 where
   pub each : (d : DrumWords) → means.fits old d → means.fits new d × IsWritten (means.plain old d) (means.plain new d) s offset word result
+
+-- words were written one behind the other from an offset of a page on, or the write is barred, and nothing changes
+pub record IsRowWritten {X : Type 0} (p q : NumberedPages) (at : Spot ℕ) (owner : Tty) (offset : ℕ) (words : List ℕ) (result : Result X Barred) : Type 0 where
+  pub ready : NumberedPages
+  pub readied : IsReadied p ready at owner result
+  pub store : OnOk result (q ≡ stored_row ready at offset words)
+  pub stays : OnErr result (q ≡ p)
 
 -- so many pages at most are made in one entry: two for each reference that a unit has room for
 abbrev pub most_makings : ℕ
@@ -56,3 +78,10 @@ pub record Makes {P : Type 0} (means : PagesMeaning P) (old new : P) (owner : Tt
   pub most : means.most new ≡ means.most old
   pub own : means.serial new owner ≤ means.serial old owner + count
   pub others : (t : Tty) → t ≢ owner → means.serial new t ≡ means.serial old t
+
+-- no page was made: the same, for whatever owner
+pub record MakesNone {P : Type 0} (means : PagesMeaning P) (old new : P) : Type 0 where
+  pub lives : means.lives new ≡ means.lives old
+  pub forks : means.forks_of new ≡ means.forks_of old
+  pub most : means.most new ≡ means.most old
+  pub serials : means.serial new ≡ means.serial old

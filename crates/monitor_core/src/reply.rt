@@ -3,7 +3,7 @@ ghost use Rattle.std.specs.Prelude.{◌≡◌};
 ghost use Rattle.monitor_core.specs.Replies.{is_silent as is_silent_of};
 
 use crate::shown::Shown;
-use machine_names::Tty;
+use machine_names::{FileName, Tty};
 use script_texts::Item;
 
 /// What a step shows. Its items are made as they are given, one by one, so that it is small however many they are.
@@ -15,6 +15,8 @@ pub enum Reply {
     Prints(Tty, Shown),
     /// The forks of a terminal's job, by slot.
     Forks(Tty),
+    /// A file's page, and each of its words that isn't 0.
+    Page(FileName, u16),
 }
 
 impl Reply {

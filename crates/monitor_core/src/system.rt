@@ -1,17 +1,21 @@
 // The system: all that the plain state tells of.
+ghost use Rattle.file_tables.specs.Tables.{open_of};
+ghost use Rattle.monitor_core.specs.Jobs.{AreUnheld};
 ghost use Rattle.monitor_core.specs.Sound.{AreSound};
 
 use crate::job::Job;
+use file_tables::FileTables;
 use fork_tree::Tree;
 use ka10_unit::Taken;
 use page_contracts::Pages;
 
-/// The pages, the forks of all jobs, the jobs, and the clock. Its steps are those of the plain machine; which fork
+/// The pages, the forks of all jobs, the files and JFNs, the jobs, and the clock. Its steps are those of the plain machine; which fork
 /// runs next, and what is given to whom, is not its concern.
 #[derive(Drop)]
 pub struct System<P: Pages> {
     pages: P,
     tree: Tree,
+    files: FileTables,
     /// The job of each terminal.
     jobs: Vec<Option<Job>>,
     /// What a unit takes that is not done in place; kept for the next.
@@ -19,8 +23,10 @@ pub struct System<P: Pages> {
     /// How many ticks there were.
     clock: u64,
     ghost sound: { AreSound P.means pages tree jobs.items },
+    ghost unheld: { AreUnheld (open_of files) jobs.items },
 }
 
+mod at_file;
 mod at_job;
 mod boot;
 mod give;

@@ -8,6 +8,8 @@ mod cuts;
 #[cfg(test)]
 mod failures;
 #[cfg(test)]
+mod files;
+#[cfg(test)]
 mod first;
 #[cfg(test)]
 mod laws;

@@ -2,11 +2,14 @@
 ghost use Rattle.std.specs.Prelude.{◌≡◌, ◌≤◌, IfOk};
 ghost use Rattle.machine_names.specs.declared.names.TheConstants.{MOST_FORKS};
 ghost use Rattle.machine_names.specs.declared.names.Tty.{Tty as ATty};
+ghost use Rattle.std.specs.FinMap as map;
+ghost use Rattle.file_tables.specs.Tables.{files_of, no_jobs as no_jfns, open_of};
 ghost use Rattle.fork_tree.specs.Trees.{no_forks};
 ghost use Rattle.monitor_core.specs.Jobs.{no_jobs};
 
 use crate::job::empty_jobs;
 use crate::system::System;
+use file_tables::FileTables;
 use fork_tree::Tree;
 use ka10_unit::Taken;
 use machine_names::TERMINALS;
@@ -21,14 +24,18 @@ impl<P: Pages + Drop> System<P> {
         requires none { (t : ATty) → P.means.forks_of pages t ≡ 0 }
         ensures pages { IfOk result (λ m. m.pages ≡ pages) }
         ensures jobs { IfOk result (λ m. m.jobs.items ≡ no_jobs TERMINALS) }
+        ensures jfns { IfOk result (λ m. open_of m.files ≡ no_jfns) }
         ensures tree { IfOk result (λ m. m.tree ≡ no_forks) }
+        ensures files { IfOk result (λ m. files_of m.files ≡ map.empty) }
         ensures clock { IfOk result (λ m. m.clock ≡ 0) }
     {
         let jobs = empty_jobs(alloc)?;
         let tree = Tree::boot(alloc)?;
+        let files = FileTables::boot(alloc)?;
         Ok(System {
             pages,
             tree,
+            files,
             jobs,
             taken: Taken::new(),
             clock: 0,

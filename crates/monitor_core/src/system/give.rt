@@ -1,18 +1,21 @@
 // The items of a reply, and the steps behind them, given to a taker.
-ghost use Rattle.std.specs.Prelude.{◌<◌, ◌≤◌, [], replicate};
+ghost use Rattle.std.specs.Prelude.{◌≡◌, ◌<◌, ◌≤◌, [], replicate, true};
+ghost use Rattle.machine_names.specs.Bounds.{IsFileName};
+ghost use Rattle.machine_names.specs.declared.names.TheConstants.{SPACE_PAGES};
 ghost use Rattle.plain_model.specs.Forks.{fork_in};
 ghost use Rattle.script_texts.specs.Limits.{FitsStep};
 ghost use Rattle.script_texts.specs.Follows.{IsTurn};
 ghost use Rattle.monitor_core.specs.declared.reply.Reply.{Reply as AReply};
-ghost use Rattle.monitor_core.specs.Giving.{TookAll, TookItems};
-ghost use Rattle.monitor_core.specs.Replies.{lines_of, reply_items, FitsReply};
-ghost use Rattle.monitor_core.specs.Systems.{state_of};
+ghost use Rattle.monitor_core.specs.Giving.{TookAll, TookItems, TookOver};
+ghost use Rattle.monitor_core.specs.Replies.{lines_of, page_items, reply_items, FitsReply};
+ghost use Rattle.monitor_core.specs.Systems.{FitsPages, state_of};
 
 use crate::forks::line;
 use crate::giving::give_shown;
+use crate::page_shown::give_words;
 use crate::reply::Reply;
 use crate::system::System;
-use machine_names::{MOST_FORKS, Tty};
+use machine_names::{FileName, MOST_FORKS, Place, Tty};
 use outside::Failed;
 use page_contracts::Pages;
 use script_texts::{Item, Step, Taker};
@@ -53,17 +56,37 @@ impl<P: Pages> System<P> {
         Ok(())
     }
 
+    // Gives a file's page, if it is there.
+    #[inline(never)]
+    fn give_page<T: Taker>(&self, name: &FileName, page: u16, out: &mut T) -> Result<(), Failed>
+        requires name { IsFileName name.now }
+        requires page { page < SPACE_PAGES }
+        requires flat { P.means.flat ≡ true }
+        ensures { TookOver (FitsPages self.now) T.fault_count T.onward T.stands T.cut out.old out.new result (λ d. page_items (state_of self.now d) name.now page) [] }
+    {
+        let Some(file) = self.files.find(name) else {
+            return Ok(());
+        };
+        if self.pages.page_of(file, page).is_none() {
+            return Ok(());
+        }
+        out.item(Item::PageLine(*name, page))?;
+        give_words(&self.pages, Place::File(file, page), out)
+    }
+
     /// Gives the items of a reply, one by one.
     #[inline(always)]
     pub fn give<T: Taker>(&self, reply: Reply, out: &mut T) -> Result<(), Failed>
-        requires { FitsReply reply }
-        ensures { TookItems T.fault_count T.onward T.stands T.cut out.old out.new result (λ d. reply_items (state_of self.now d) reply) }
+        requires reply { FitsReply reply }
+        requires flat { P.means.flat ≡ true }
+        ensures { TookOver (FitsPages self.now) T.fault_count T.onward T.stands T.cut out.old out.new result (λ d. reply_items (state_of self.now d) reply) [] }
     {
         match reply {
             Reply::Nothing => Ok(()),
             Reply::One(item) => out.item(item),
             Reply::Prints(t, shown) => give_shown(out, t, shown),
             Reply::Forks(t) => self.give_forks(t, out),
+            Reply::Page(name, page) => self.give_page(&name, page, out),
         }
     }
 
@@ -79,7 +102,8 @@ impl<P: Pages> System<P> {
         requires some { 1 ≤ count }
         requires turn { 1 < count → IsTurn step.now }
         requires reply { FitsReply reply }
-        ensures { TookAll T.fault_count T.onward T.stands T.cut out.old out.new result (λ d. reply_items (state_of self.now d) reply) (replicate count step.now) }
+        requires flat { P.means.flat ≡ true }
+        ensures { TookOver (FitsPages self.now) T.fault_count T.onward T.stands T.cut out.old out.new result (λ d. reply_items (state_of self.now d) reply) (replicate count step.now) }
     {
         if reply.is_silent() {
             // Most units show nothing: their steps go straight to the taker.

@@ -83,14 +83,13 @@ impl<P: Pages> System<P> {
             Event::Examine(t, serial, address) => {
                 self.at_job(*t, JobEvent::Examine(*serial, *address))
             }
+            Event::File(name) => self.make_file(name),
+            Event::Words(name, page, offset, row) => self.write_words(name, *page, *offset, row),
+            Event::Page(name, page) => self.show_page(name, *page),
             Event::Forks(t) => self.at_job(*t, JobEvent::Forks),
             Event::Tick => Ok(self.tick()),
             Event::Run(_) | Event::Evict(_) | Event::Drum(_) | Event::Auto(_) => unreachable!(),
-            Event::TypeIn(..)
-            | Event::File(_)
-            | Event::Words(..)
-            | Event::Page(..)
-            | Event::Trace(_) => unreachable!(),
+            Event::TypeIn(..) | Event::Trace(_) => unreachable!(),
         }
     }
 

@@ -15,7 +15,7 @@ pub returns-in-Full-clause-did : goal.returns-in-Full-clause-did
 returns-in-Full-clause-did g c =
     let m = c.args.self.now in
     let none = none_first g.P.Pages.means m.pages m.tree m.jobs.items m.sound c.args.t c.requires.free c.requires.terminal c.are_trees.ensures in
-    did_still m m refl refl refl refl (Login c.args.t c.args.user) (One (Refusal (Full c.args.t))) c.requires.terminal
+    did_still m m refl refl refl refl refl (Login c.args.t c.args.user) (One (Refusal (Full c.args.t))) c.requires.terminal
     (λ d f. is_full m c.args.t c.args.user c.requires.free d f (g.met.P.Pages.agrees m.pages d f.pages) (none_held g.P.Pages.means m.pages m.tree m.jobs.items m.sound c.args.t c.requires.free c.requires.terminal c.are_trees.ensures)
     (unused m.tree c.args.t none c.requires.unused) (filled _ _ _ c.in-Full.ensures.answer))
 

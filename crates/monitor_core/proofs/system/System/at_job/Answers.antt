@@ -11,14 +11,16 @@ use Rattle.monitor_core.specs.Looking.{item_of}
 use Rattle.monitor_core.specs.Replies.{reply_of}
 use Rattle.monitor_core.specs.Sound.{AreSound}
 use Rattle.monitor_core.proofs.Sounds.{entry_read, job_read, same_tops_set, sound_change}
-use Rattle.monitor_core.proofs.Systems.{holds_fork, holds_top, sound_poked, restarted_body, top_fork_of}
+use Rattle.file_tables.specs.Tables.{open_of}
+use Rattle.monitor_core.specs.Jobs.{AreUnheld}
+use Rattle.monitor_core.proofs.Systems.{unheld_still, holds_fork, holds_top, sound_poked, restarted_body, top_fork_of}
 use Rattle.monitor_core.proofs.Writes.{errs}
 use Rattle.monitor_core.proofs.JobDid.{did_no_job, did_poke, did_start, did_examine, did_forks, poke_reply, put_back}
 use Rattle.monitor_core.proofs.system.System.at_job.Goals as goal
 
 pub returns-in_default : goal.returns-in_default
 returns-in_default g c =
-    did_no_job c.args.self.now _ refl refl (put_back c.args.self.now.jobs.items c.args.t.0 c.index_mut.result.now c.index_mut.result.now c.index_mut.ensures.value refl) refl c.args.t c.args.e c.requires.terminal
+    did_no_job c.args.self.now _ refl refl refl (put_back c.args.self.now.jobs.items c.args.t.0 c.index_mut.result.now c.index_mut.result.now c.index_mut.ensures.value refl) refl c.args.t c.args.e c.requires.terminal
     (entry_read c.args.self.now.jobs.items c.args.t.0 c.index_mut.result.now c.args.self.now.sound.job_room c.requires.terminal c.index_mut.ensures.value ∙ c.in_default.is)
 
 pub poke-requires-clause-fork : goal.poke-requires-clause-fork
@@ -31,16 +33,17 @@ pub invariant_of-self-in-Poke : goal.invariant_of-self-in-Poke
 invariant_of-self-in-Poke g c = record {
   sound = sound_poked c.args.self.now c.are_trees.ensures c.poke.new.pages c.poke.new.tree _ c.in-Some.job.top c.in-Poke.address c.in-Poke.word c.poke.ensures.made.lives c.poke.ensures.made.forks (put_back c.args.self.now.jobs.items c.args.t.0 c.index_mut.result.now (Some c.in-Some.job) c.index_mut.ensures.value c.in-Some.is)
       (λ low. (c.poke.ensures.low low).1) (λ high. (c.poke.ensures.high high).0);
+  unheld = subst (AreUnheld (open_of c.args.self.now.files)) (sym (put_back c.args.self.now.jobs.items c.args.t.0 c.index_mut.result.now (Some c.in-Some.job) c.index_mut.ensures.value c.in-Some.is)) c.args.self.now.unheld;
 }
 
 pub returns-in_ok-poke-in-Poke : goal.returns-in_ok-poke-in-Poke
 returns-in_ok-poke-in-Poke g c =
-    did_poke c.args.self.now _ c.are_trees.ensures c.args.t c.args.e c.in-Some.job (job_read c.args.self.now.jobs.items c.args.t.0 _ c.in-Some.job c.args.self.now.sound.job_room c.requires.terminal c.index_mut.ensures.value c.in-Some.is) refl (put_back c.args.self.now.jobs.items c.args.t.0 c.index_mut.result.now (Some c.in-Some.job) c.index_mut.ensures.value c.in-Some.is) c.in-Poke.address c.in-Poke.word c.poke.result _ c.in-Poke.is
+    did_poke c.args.self.now _ c.are_trees.ensures c.args.t c.args.e c.in-Some.job (job_read c.args.self.now.jobs.items c.args.t.0 _ c.in-Some.job c.args.self.now.sound.job_room c.requires.terminal c.index_mut.ensures.value c.in-Some.is) refl refl (put_back c.args.self.now.jobs.items c.args.t.0 c.index_mut.result.now (Some c.in-Some.job) c.index_mut.ensures.value c.in-Some.is) c.in-Poke.address c.in-Poke.word c.poke.result _ c.in-Poke.is
     (ap poke_reply c.in_ok-poke-in-Poke.was) c.poke.ensures.fits c.poke.ensures.low c.poke.ensures.high c.poke.ensures.made
 
 pub returns-in_err-poke-in-Poke : goal.returns-in_err-poke-in-Poke
 returns-in_err-poke-in-Poke g c =
-    did_poke c.args.self.now _ c.are_trees.ensures c.args.t c.args.e c.in-Some.job (job_read c.args.self.now.jobs.items c.args.t.0 _ c.in-Some.job c.args.self.now.sound.job_room c.requires.terminal c.index_mut.ensures.value c.in-Some.is) refl (put_back c.args.self.now.jobs.items c.args.t.0 c.index_mut.result.now (Some c.in-Some.job) c.index_mut.ensures.value c.in-Some.is) c.in-Poke.address c.in-Poke.word c.poke.result _ c.in-Poke.is
+    did_poke c.args.self.now _ c.are_trees.ensures c.args.t c.args.e c.in-Some.job (job_read c.args.self.now.jobs.items c.args.t.0 _ c.in-Some.job c.args.self.now.sound.job_room c.requires.terminal c.index_mut.ensures.value c.in-Some.is) refl refl (put_back c.args.self.now.jobs.items c.args.t.0 c.index_mut.result.now (Some c.in-Some.job) c.index_mut.ensures.value c.in-Some.is) c.in-Poke.address c.in-Poke.word c.poke.result _ c.in-Poke.is
     (ap poke_reply c.in_err-poke-in-Poke.was ∙ ap reply_of (sym (errs c.from_residual.result _ c.from_residual.ensures.1))) c.poke.ensures.fits c.poke.ensures.low c.poke.ensures.high c.poke.ensures.made
 
 pub start-requires-clause-lives : goal.start-requires-clause-lives
@@ -59,11 +62,12 @@ invariant_of-self-in-Start g c =
           (sound_change g.P.Pages.means c.args.self.now.pages c.args.self.now.pages c.args.self.now.tree c.args.self.now.jobs.items jobs c.args.self.now.sound refl refl
           (same_tops_set c.args.self.now.jobs.items c.args.t.0 c.in-Some.job k (omega (arith, low, job.low)) at refl)
           c.are_trees.ensures c.in-Some.job.top (restarted c.in-Start.address) (λ f. refl) (λ f. refl) (λ f. refl) (λ f b. restarted_body f c.in-Start.address (subst FitsJobEvent c.in-Start.is c.requires.fits) b));
+      unheld = unheld_still (open_of c.args.self.now.files) c.args.self.now.jobs.items jobs c.args.self.now.unheld (same_tops_set c.args.self.now.jobs.items c.args.t.0 c.in-Some.job k (omega (arith, low, job.low)) at refl);
     }
 
 pub returns-in-Start : goal.returns-in-Start
 returns-in-Start g c =
-    did_start c.args.self.now _ c.are_trees.ensures c.args.t c.args.e c.in-Some.job (job_read c.args.self.now.jobs.items c.args.t.0 _ c.in-Some.job c.args.self.now.sound.job_room c.requires.terminal c.index_mut.ensures.value c.in-Some.is) refl _ c.in-Start.address refl c.in-Start.is refl refl refl c.start.ensures refl
+    did_start c.args.self.now _ c.are_trees.ensures c.args.t c.args.e c.in-Some.job (job_read c.args.self.now.jobs.items c.args.t.0 _ c.in-Some.job c.args.self.now.sound.job_room c.requires.terminal c.index_mut.ensures.value c.in-Some.is) refl refl _ c.in-Start.address refl c.in-Start.is refl refl refl c.start.ensures refl
 
 pub examined-requires-clause-each : goal.examined-requires-clause-each
 examined-requires-clause-each g c f e =
@@ -72,15 +76,15 @@ examined-requires-clause-each g c f e =
 
 pub returns-in_ok-seen-in-Ok : goal.returns-in_ok-seen-in-Ok
 returns-in_ok-seen-in-Ok g c =
-    did_examine c.args.self.now _ refl refl (put_back c.args.self.now.jobs.items c.args.t.0 c.index_mut.result.now (Some c.in-Some.job) c.index_mut.ensures.value c.in-Some.is) refl c.args.t c.args.e c.in-Some.job (job_read c.args.self.now.jobs.items c.args.t.0 _ c.in-Some.job c.args.self.now.sound.job_room c.requires.terminal c.index_mut.ensures.value c.in-Some.is) c.in-Examine.serial c.in-Examine.address c.in-Ok.seen _ c.in-Examine.is
+    did_examine c.args.self.now _ refl refl refl (put_back c.args.self.now.jobs.items c.args.t.0 c.index_mut.result.now (Some c.in-Some.job) c.index_mut.ensures.value c.in-Some.is) refl c.args.t c.args.e c.in-Some.job (job_read c.args.self.now.jobs.items c.args.t.0 _ c.in-Some.job c.args.self.now.sound.job_room c.requires.terminal c.index_mut.ensures.value c.in-Some.is) c.in-Examine.serial c.in-Examine.address c.in-Ok.seen _ c.in-Examine.is
     (ap (λ r. One (item_of r)) c.in_ok-seen-in-Ok.was) (c.in-Ok.ensures.fits c.requires.terminal (subst FitsJobEvent c.in-Examine.is c.requires.fits).0) c.in-Ok.ensures.told
 
 pub returns-in_err-seen-in-Ok : goal.returns-in_err-seen-in-Ok
 returns-in_err-seen-in-Ok g c =
-    did_examine c.args.self.now _ refl refl (put_back c.args.self.now.jobs.items c.args.t.0 c.index_mut.result.now (Some c.in-Some.job) c.index_mut.ensures.value c.in-Some.is) refl c.args.t c.args.e c.in-Some.job (job_read c.args.self.now.jobs.items c.args.t.0 _ c.in-Some.job c.args.self.now.sound.job_room c.requires.terminal c.index_mut.ensures.value c.in-Some.is) c.in-Examine.serial c.in-Examine.address c.in-Ok.seen _ c.in-Examine.is
+    did_examine c.args.self.now _ refl refl refl (put_back c.args.self.now.jobs.items c.args.t.0 c.index_mut.result.now (Some c.in-Some.job) c.index_mut.ensures.value c.in-Some.is) refl c.args.t c.args.e c.in-Some.job (job_read c.args.self.now.jobs.items c.args.t.0 _ c.in-Some.job c.args.self.now.sound.job_room c.requires.terminal c.index_mut.ensures.value c.in-Some.is) c.in-Examine.serial c.in-Examine.address c.in-Ok.seen _ c.in-Examine.is
     (ap (λ r. One (item_of r)) c.in_err-seen-in-Ok.was ∙ ap reply_of (sym (errs c.from_residual-in_err-seen-in-Ok.result _ c.from_residual-in_err-seen-in-Ok.ensures.1)))
     (c.in-Ok.ensures.fits c.requires.terminal (subst FitsJobEvent c.in-Examine.is c.requires.fits).0) c.in-Ok.ensures.told
 
 pub returns-in-Forks : goal.returns-in-Forks
 returns-in-Forks g c =
-    did_forks c.args.self.now _ refl refl (put_back c.args.self.now.jobs.items c.args.t.0 c.index_mut.result.now (Some c.in-Some.job) c.index_mut.ensures.value c.in-Some.is) refl c.args.t c.args.e c.in-Some.job (job_read c.args.self.now.jobs.items c.args.t.0 _ c.in-Some.job c.args.self.now.sound.job_room c.requires.terminal c.index_mut.ensures.value c.in-Some.is) c.in-Forks.is c.requires.terminal
+    did_forks c.args.self.now _ refl refl refl (put_back c.args.self.now.jobs.items c.args.t.0 c.index_mut.result.now (Some c.in-Some.job) c.index_mut.ensures.value c.in-Some.is) refl c.args.t c.args.e c.in-Some.job (job_read c.args.self.now.jobs.items c.args.t.0 _ c.in-Some.job c.args.self.now.sound.job_room c.requires.terminal c.index_mut.ensures.value c.in-Some.is) c.in-Forks.is c.requires.terminal

@@ -1,15 +1,16 @@
 use Rattle.std.proofs.Common.{sym, subst}
-use Rattle.monitor_core.specs.Giving.{TookItems}
+use Rattle.monitor_core.specs.Giving.{TookOver}
 use Rattle.monitor_core.specs.Replies.{reply_items}
-use Rattle.monitor_core.specs.Systems.{state_of}
+use Rattle.monitor_core.specs.Systems.{FitsPages, state_of}
+use Rattle.monitor_core.proofs.Given.{over_drums}
 use Rattle.monitor_core.proofs.system.System.give.Goals as goal
 
 pub returns-in-Forks : goal.returns-in-Forks
 returns-in-Forks g c =
-    let given = c.give_forks.ensures in
-    subst (λ r. TookItems g.T.Taker.fault_count g.T.Taker.onward g.T.Taker.stands g.T.Taker.cut c.args.out.now c.give_forks.new.out c.give_forks.result (λ d. reply_items (state_of c.args.self.now d) r)) (sym c.in-Forks.is) given
+    subst (λ r. TookOver (FitsPages c.args.self.now) g.T.Taker.fault_count g.T.Taker.onward g.T.Taker.stands g.T.Taker.cut c.args.out.now c.give_forks.new.out c.give_forks.result (λ d. reply_items (state_of c.args.self.now d) r) []) (sym c.in-Forks.is)
+    (over_drums (FitsPages c.args.self.now) g.T.Taker.fault_count g.T.Taker.onward g.T.Taker.stands g.T.Taker.cut c.give_forks.ensures)
 
 pub returns-in-Prints : goal.returns-in-Prints
 returns-in-Prints g c =
-    let given = c.give_shown.ensures in
-    subst (λ r. TookItems g.T.Taker.fault_count g.T.Taker.onward g.T.Taker.stands g.T.Taker.cut c.args.out.now c.give_shown.new.out c.give_shown.result (λ d. reply_items (state_of c.args.self.now d) r)) (sym c.in-Prints.is) given
+    subst (λ r. TookOver (FitsPages c.args.self.now) g.T.Taker.fault_count g.T.Taker.onward g.T.Taker.stands g.T.Taker.cut c.args.out.now c.give_shown.new.out c.give_shown.result (λ d. reply_items (state_of c.args.self.now d) r) []) (sym c.in-Prints.is)
+    (over_drums (FitsPages c.args.self.now) g.T.Taker.fault_count g.T.Taker.onward g.T.Taker.stands g.T.Taker.cut c.give_shown.ensures)

@@ -10,7 +10,7 @@ use Rattle.monitor_core.proofs.system.System.give_all.Goals as goal
 pub returns-then-is_silent : goal.returns-then-is_silent
 returns-then-is_silent g c = record {
   taker = c.give_steps.ensures.taker;
-  given = λ d. subst (λ is. Takes g.T.Taker.stands g.T.Taker.cut c.args.out.now c.give_steps.new.out c.give_steps.result is (replicate c.args.count c.args.step.now)) (sym (silent_items (state_of c.args.self.now d) c.args.reply (sym c.if-is_silent.ensures))) (c.give_steps.ensures.given d);
+  given = λ d f. subst (λ is. Takes g.T.Taker.stands g.T.Taker.cut c.args.out.now c.give_steps.new.out c.give_steps.result is (replicate c.args.count c.args.step.now)) (sym (silent_items (state_of c.args.self.now d) c.args.reply (sym c.if-is_silent.ensures))) (c.give_steps.ensures.given d);
 }
 
 pub returns-in_err-give_steps : goal.returns-in_err-give_steps
@@ -20,7 +20,7 @@ returns-in_err-give_steps g c =
     let failed = c.in_err-give_steps.ensures in
     record {
       taker = taker_failed g.T.Taker.fault_count g.T.Taker.onward c.args.out.now c.give_steps-2.new.out _ r failed.taker;
-      given = λ d.
+      given = λ d f.
           subst (Takes g.T.Taker.stands g.T.Taker.cut c.args.out.now c.give_steps-2.new.out r (reply_items (state_of c.args.self.now d) c.args.reply)) (last_of c.args.count step c.requires.some)
           (takes_part g.T.Taker.stands g.T.Taker.cut _ _ r [] (reply_items (state_of c.args.self.now d) c.args.reply) _ (step ∷ []) c.from_residual.ensures.0 (failed.given d).err);
     }
@@ -32,12 +32,12 @@ returns-in_err-give g c =
     let failed = c.in_err-give.ensures in
     record {
       taker = taker_then g.T.Taker.fault_count g.T.Taker.onward c.args.out.now c.give_steps-2.new.out c.give.new.out c.give_steps-2.result r c.give_steps-2.ensures.taker (taker_failed g.T.Taker.fault_count g.T.Taker.onward c.give_steps-2.new.out c.give.new.out _ r failed.taker);
-      given = λ d.
+      given = λ d f.
           let items = reply_items (state_of c.args.self.now d) c.args.reply in
           subst (Takes g.T.Taker.stands g.T.Taker.cut c.args.out.now c.give.new.out r items) (last_of c.args.count step c.requires.some)
           (takes_then g.T.Taker.stands g.T.Taker.cut _ _ _ r [] items _ (step ∷ []) (c.in_ok-give_steps.ensures.given d).ok
           (subst (λ is. Takes g.T.Taker.stands g.T.Taker.cut c.give_steps-2.new.out c.give.new.out r is (step ∷ [])) (append-nil items)
-          (takes_part g.T.Taker.stands g.T.Taker.cut _ _ r items [] [] (step ∷ []) c.from_residual-in_err-give.ensures.0 (failed.given d).err)));
+          (takes_part g.T.Taker.stands g.T.Taker.cut _ _ r items [] [] (step ∷ []) c.from_residual-in_err-give.ensures.0 (failed.given d f).err)));
     }
 
 pub returns : goal.returns
@@ -46,10 +46,10 @@ returns g c =
     let r = c.step.result in
     record {
       taker = taker_then g.T.Taker.fault_count g.T.Taker.onward c.args.out.now c.give_steps-2.new.out c.step.new.self c.give_steps-2.result r c.give_steps-2.ensures.taker (taker_then g.T.Taker.fault_count g.T.Taker.onward c.give_steps-2.new.out c.give.new.out c.step.new.self c.give.result r c.give.ensures.taker (record { later = c.step.ensures.later; cause = c.step.ensures.cause; goes_on = c.step.ensures.onward }));
-      given = λ d.
+      given = λ d f.
           let items = reply_items (state_of c.args.self.now d) c.args.reply in
           subst (Takes g.T.Taker.stands g.T.Taker.cut c.args.out.now c.step.new.self r items) (last_of c.args.count step c.requires.some)
           (takes_then g.T.Taker.stands g.T.Taker.cut _ _ _ r [] items _ (step ∷ []) (c.in_ok-give_steps.ensures.given d).ok
           (subst (λ is. Takes g.T.Taker.stands g.T.Taker.cut c.give_steps-2.new.out c.step.new.self r is (step ∷ [])) (append-nil items)
-          (takes_then g.T.Taker.stands g.T.Taker.cut _ _ _ r items [] [] (step ∷ []) (c.in_ok-give.ensures.given d).ok (record { ok = c.step.ensures.ok; err = c.step.ensures.err }))));
+          (takes_then g.T.Taker.stands g.T.Taker.cut _ _ _ r items [] [] (step ∷ []) (c.in_ok-give.ensures.given d f).ok (record { ok = c.step.ensures.ok; err = c.step.ensures.err }))));
     }

@@ -1,0 +1,86 @@
+// The events of files.
+ghost use Rattle.std.specs.Prelude.{◌≡◌, ◌<◌, ◌^◌, true};
+ghost use Rattle.machine_names.specs.Bounds.{IsFileName};
+ghost use Rattle.machine_names.specs.declared.names.TheConstants.{SPACE_PAGES};
+ghost use Rattle.script_texts.specs.Limits.{FitsRow};
+ghost use Rattle.script_texts.specs.declared.event.Event.{Event as AnEvent};
+ghost use Rattle.script_texts.specs.declared.event.Step.{Step as AStep};
+ghost use Rattle.monitor_core.specs.Replies.{reply_of};
+ghost use Rattle.monitor_core.specs.Systems.{Did, IsWithin};
+
+use crate::reaching::reach;
+use crate::reply::Reply;
+use crate::system::System;
+use crate::writing::write_row;
+use machine_names::{FileName, PAGE_ADDRESSES, Place, Tty};
+use page_contracts::Pages;
+use script_texts::{Refusal, WordRow};
+
+impl<P: Pages> System<P> {
+    /// FILE: an empty file is made. Exists, where there is one of this name; FilesFull, where there are 512.
+    pub(crate) fn make_file(&mut self, name: &FileName) -> Result<Reply, Refusal>
+        requires name { IsFileName name.now }
+        ensures { Did self.old self.new (AStep.Outer (AnEvent.File name.now)) (reply_of result) }
+    {
+        if self.files.find(name).is_some() {
+            return Err(Refusal::Exists(*name));
+        }
+        if !self.files.has_room() {
+            return Err(Refusal::FilesFull(*name));
+        }
+        self.files.create(name);
+        Ok(Reply::Nothing)
+    }
+
+    /// WORDS: words are put into a file's page, from an offset on; the file reaches behind them, and its bytes are words.
+    /// NoFile, where there is none of this name; FileFull, where the page had to be made and the drum is full.
+    pub(crate) fn write_words(
+        &mut self,
+        name: &FileName,
+        page: u16,
+        offset: u16,
+        row: &WordRow,
+    ) -> Result<Reply, Refusal>
+        requires name { IsFileName name.now }
+        requires page { page < SPACE_PAGES }
+        requires row { FitsRow offset row.now }
+        requires flat { P.means.flat ≡ true }
+        requires few { IsWithin self.old (2 ^ 52) }
+        ensures { Did self.old self.new (AStep.Outer (AnEvent.Words name.now page offset row.now)) (reply_of result) }
+    {
+        let Some(file) = self.files.find(name) else {
+            return Err(Refusal::NoFile(*name));
+        };
+        match write_row(
+            &mut self.pages,
+            Place::File(file, page),
+            Tty::CONSOLE,
+            offset,
+            row,
+        ) {
+            Ok(()) => {
+                let end = u32::from(page) * PAGE_ADDRESSES
+                    + u32::from(offset)
+                    + u32::from(row.count);
+                reach(&mut self.files, file, u64::from(end));
+                Ok(Reply::Nothing)
+            }
+            Err(_) => Err(Refusal::FileFull(*name)),
+        }
+    }
+
+    /// PAGE: a file's page is shown. NoFile, where there is none of this name; NoFilePage, where it has no such page.
+    pub(crate) fn show_page(&mut self, name: &FileName, page: u16) -> Result<Reply, Refusal>
+        requires name { IsFileName name.now }
+        requires page { page < SPACE_PAGES }
+        ensures { Did self.old self.new (AStep.Outer (AnEvent.Page name.now page)) (reply_of result) }
+    {
+        let Some(file) = self.files.find(name) else {
+            return Err(Refusal::NoFile(*name));
+        };
+        match self.pages.page_of(file, page) {
+            Some(_) => Ok(Reply::Page(*name, page)),
+            None => Err(Refusal::NoFilePage(*name)),
+        }
+    }
+}
