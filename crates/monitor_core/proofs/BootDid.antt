@@ -25,8 +25,7 @@ use Rattle.monitor_core.specs.declared.system.System.{System}
 use Rattle.monitor_core.specs.Jobs.{AreUnheld, map_from, plain_job, no_jobs, job_at, jobs_of}
 use Rattle.monitor_core.specs.Sound.{AreSound}
 use Rattle.monitor_core.specs.Systems.{named, state_of, FitsPages, IsWithin}
-use Rattle.plain_files.specs.NamedFiles.{AreFiled, pages_named}
-use Rattle.plain_pages.specs.PlainPages.{PlainPages, NumberedPages}
+use Rattle.plain_files.specs.NamedFiles.{AreFiled}
 use Rattle.machine_names.specs.Orders.{file_page_cmp, name_cmp}
 use Rattle.file_tables.specs.declared.tables.FileTables.{FileTables}
 use Rattle.monitor_core.proofs.NamedPages.{none_named}

@@ -1,5 +1,5 @@
 -- The steps that are no job's: TICK and LOGIN.
-use Rattle.std.proofs.Common.{◌≡◌, ℕ, ◌+◌, ◌<◌, ◌≤◌, [], ◌∷◌, List, length, set, Bool, true, false, cond, Option, None, Some, refl, sym, ◌∙◌, ap, subst, arith, nat_lt, nat_le, is_some, slice_index}
+use Rattle.std.proofs.Common.{◌≡◌, ℕ, ◌+◌, ◌<◌, ◌≤◌, [], ◌∷◌, List, length, set, Bool, true, false, cond, Option, None, Some, refl, sym, ◌∙◌, ap, arith, nat_lt, nat_le, is_some, slice_index}
 use Rattle.std.proofs.lemmas.Bool.Decides.{nat_tests}
 use Rattle.std.specs.FinMap as fin
 use Rattle.machine_names.specs.declared.names.TheConstants.{LAST_SERIAL}

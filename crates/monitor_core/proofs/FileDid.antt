@@ -1,6 +1,6 @@
 -- The events of files, as the events of the plain machine.
 use Rattle.std.proofs.Common.{◌≡◌, ℕ, ◌+◌, ◌*◌, ◌<◌, ◌≤◌, Bool, true, false, cond, List, [], ◌∷◌, length, take, Option, None, Some, refl, sym, ◌∙◌, ap, subst, arith, nat_lt, is_some, inl, inr}
-use Rattle.std.specs.Prelude.{◌↔◌, IsTrue, not, MatchOption, Result, Ok, Err}
+use Rattle.std.specs.Prelude.{◌↔◌, IsTrue, not, MatchOption, Ok, Err}
 use Rattle.std.specs.Ordering.{nat_cmp}
 use Rattle.std.proofs.lemmas.List.{length-take-le}
 use Rattle.std.specs.Option.{IsSomeAnd, option_map_or}
@@ -12,17 +12,17 @@ use Rattle.machine_names.specs.Bounds.{IsFileName}
 use Rattle.machine_names.specs.declared.names.PageName.{PageName}
 use Rattle.machine_names.specs.declared.names.TheConstants.{MOST_FILES}
 use Rattle.machine_names.specs.declared.names.Kind.TheVariants.{Write}
-use Rattle.machine_names.specs.Orders.{FilePage, file_page, name_cmp}
+use Rattle.machine_names.specs.Orders.{FilePage, file_page}
 use Rattle.page_contracts.specs.DrumWords.{DrumWords}
 use Rattle.page_contracts.specs.Pages.{Agrees, PagesMeaning}
 use Rattle.plain_pages.specs.PlainPages.{NumberedPages}
 use Rattle.plain_pages.specs.References.{Referred, denied, full, granted, in_file, page_at, reference, words_at, words_of}
 use Rattle.plain_files.specs.declared.bounds.TheConstants.{LARGEST_BYTE}
 use Rattle.plain_files.specs.Directory.{Creates}
-use Rattle.plain_files.specs.NamedFiles.{AreFiled, name_of, page_named, pages_named}
+use Rattle.plain_files.specs.NamedFiles.{AreFiled, name_of, pages_named}
 use Rattle.plain_files.specs.Sizes.{PlainFile, file_at, new_file, reaching}
 use Rattle.plain_model.specs.Events.{outer}
-use Rattle.plain_model.specs.FileEvents.{at_file, console, make_file, page_named as spot_named, show_page, stored_row, words_shown, write_words, written}
+use Rattle.plain_model.specs.FileEvents.{console, page_named as spot_named, stored_row, words_shown, written}
 use Rattle.plain_model.specs.State.{PlainState}
 use Rattle.plain_model.specs.Trees.{PlainTree}
 use Rattle.plain_model.specs.Unit.{Effect, refused}
@@ -50,7 +50,7 @@ use Rattle.monitor_core.specs.Writing.{IsRowWritten, Makes, left_by, write_of}
 use Rattle.monitor_core.proofs.FileReferences.{named_result, page_is, row_files, row_named, write_filed, write_named}
 use Rattle.monitor_core.proofs.JobDid.{did_still, was_granted}
 use Rattle.monitor_core.proofs.NamedPages.{filed_made, named_made}
-use Rattle.monitor_core.proofs.Systems.{fits_left, serials_made, state_left}
+use Rattle.monitor_core.proofs.Systems.{fits_left, serials_made}
 
 some_is : {X : Type 0} (o : Option X) → is_some o ≡ true → (x : X) × (o ≡ Some x)
 some_is None h = absurd (cc h)

@@ -6,7 +6,7 @@ use Rattle.std.specs.FinMap as fin
 use Rattle.machine_names.specs.declared.names.PageName.{PageName}
 use Rattle.machine_names.specs.declared.names.Tty.{Tty}
 use Rattle.machine_names.specs.declared.names.Kind.TheVariants.{Write}
-use Rattle.machine_names.specs.Orders.{FilePage, file_page, file_page_cmp, name_cmp}
+use Rattle.machine_names.specs.Orders.{file_page, name_cmp}
 use Rattle.plain_pages.specs.PlainPages.{NumberedPages}
 use Rattle.plain_pages.specs.References.{Referred, Spot, blank, denied, full, granted, in_file, in_its_file, make, make_all, makings, next_page, page_at, reference, stored, with_word}
 use Rattle.plain_pages.specs.Room.{HasRoom}

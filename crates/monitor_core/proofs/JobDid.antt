@@ -1,7 +1,6 @@
 -- An event of a terminal's job, as the event of the plain machine.
-use Rattle.std.proofs.Common.{◌≡◌, inl, inr, ℕ, ◌+◌, ◌*◌, ◌<◌, ◌≤◌, ◌%◌, [], ◌∷◌, List, get_or, set, map, cond, Option, None, Some, refl, sym, ◌∙◌, ap, subst, arith, nat_lt, slice_set}
+use Rattle.std.proofs.Common.{◌≡◌, inl, inr, ℕ, ◌+◌, ◌<◌, ◌≤◌, ◌%◌, [], ◌∷◌, List, get_or, set, map, cond, Option, None, Some, refl, sym, ◌∙◌, ap, subst, arith, nat_lt}
 use Rattle.std.specs.Prelude.{Result, Ok, Err, OnErr, IfErr}
-use Rattle.std.proofs.lemmas.Bool.{cases_eq}
 use Rattle.std.proofs.lemmas.List.{set-get_or}
 use Rattle.std.specs.Ordering.{nat_cmp}
 use Rattle.std.specs.Option.{option_map_or}
@@ -19,14 +18,14 @@ use Rattle.script_texts.specs.declared.event.Step.TheVariants.{Outer}
 use Rattle.script_texts.specs.declared.event.Item.{Item}
 use Rattle.script_texts.specs.declared.event.Item.TheVariants.{Examined, ForkLine, Refusal}
 use Rattle.script_texts.specs.declared.event.Refusal.{Refusal as Cause}
-use Rattle.script_texts.specs.declared.event.Refusal.TheVariants.{NoJob, NoFork, NoPage, Denied, Full}
+use Rattle.script_texts.specs.declared.event.Refusal.TheVariants.{NoJob, NoFork, NoPage}
 use Rattle.plain_model.specs.State.{PlainState, PlainJob}
 use Rattle.plain_pages.specs.PlainPages.{NumberedPages}
 use Rattle.page_contracts.specs.DrumWords.{DrumWords}
 use Rattle.script_texts.specs.Limits.{FitsCause, FitsItem}
 use Rattle.machine_names.specs.Bounds.{IsTerminal}
 use Rattle.plain_model.specs.Run.{apply}
-use Rattle.plain_pages.specs.References.{Referred, granted, denied, full, in_map, reference, stored, with_word, words_of, page_at, slot_at}
+use Rattle.plain_pages.specs.References.{Referred, granted, denied, full, in_map, reference, stored, with_word, page_at, slot_at}
 use Rattle.plain_model.specs.Forks.{change_fork, fork_line, forks_by_slot}
 use Rattle.plain_model.specs.Trees.{PlainTree, with_changed_of}
 use Rattle.plain_model.specs.Unit.{Effect, refused}
@@ -49,10 +48,10 @@ use Rattle.monitor_core.specs.Replies.{reply_items, FitsReply}
 use Rattle.plain_files.specs.NamedFiles.{pages_named}
 use Rattle.plain_files.specs.OpenFiles.{open_at}
 use Rattle.file_tables.specs.Tables.{files_of, open_of}
-use Rattle.monitor_core.specs.Systems.{named, state_of, FitsPages, IsWithin, Did}
+use Rattle.monitor_core.specs.Systems.{named, state_of, FitsPages, Did}
 use Rattle.monitor_core.specs.declared.writing.Barred.{Barred}
 use Rattle.monitor_core.specs.declared.writing.Barred.TheVariants.{ByMap, ByDrum}
-use Rattle.monitor_core.specs.Writing.{write_of, left_by, poke_refusal, refused_by, most_makings, IsWritten, Makes, Writes, with_accumulator}
+use Rattle.monitor_core.specs.Writing.{write_of, left_by, poke_refusal, refused_by, IsWritten, Makes, Writes, with_accumulator}
 use Rattle.monitor_core.proofs.Looks.{below, not_below}
 use Rattle.monitor_core.proofs.Lookups.{job_found, job_missing, jobs_set}
 use Rattle.monitor_core.proofs.Sounds.{split_at}

@@ -11,7 +11,6 @@ mod Filed
 mod NamedPages
 mod FileReferences
 mod ShownWords
-mod WordsTouched
 mod FileDid
 mod Silent
 mod UnitRan

@@ -11,8 +11,9 @@ use Rattle.page_contracts.specs.declared.answers.Peeked.TheVariants.{Is, Absent,
 use Rattle.plain_model.specs.declared.fork.Fork.{Fork}
 use Rattle.plain_pages.specs.PlainPages.{NumberedPages}
 use Rattle.plain_pages.specs.References.{in_map, page_at, words_of, slot_at}
-use Rattle.page_contracts.specs.Pages.{Scene, peek_of, away_or, map_away, page_away}
+use Rattle.page_contracts.specs.Pages.{Scene, peek_of}
 use Rattle.monitor_core.specs.Looking.{word_in}
+use Rattle.monitor_core.proofs.ShownWords.{looked}
 
 pub below : (a : ℕ) → a < ACCUMULATORS → nat_lt a ACCUMULATORS ≡ true
 below a h = grind (arith, nat_tests)
@@ -25,21 +26,14 @@ abbrev pub found : Option ℕ → Peeked
 found o = option_map_or Is o NoPage
 
 module _ (p : NumberedPages) (scene : Scene) (f : Fork) (address : ℕ) (high : ACCUMULATORS ≤ address) where
-  passed : (away : Option ℕ) (t u : Peeked) → ((home : ℕ) → Absent (record { 0 = home }) ≡ u → ⊥) → away_or away t ≡ u → t ≡ u
-  passed None t u not e = e
-  passed (Some home) t u not e = absurd (not home e)
-
   found_page : (n : Option PageName) → option_map_or (λ n. Is (slice_index (words_of p n) (address % PAGE_WORDS))) n NoPage ≡ found (option_map (λ n. slice_index (words_of p n) (address % PAGE_WORDS)) n)
   found_page None = refl
   found_page (Some n) = refl
 
   -- a look that finds a word, or no page
   pub looks : (slot : Slot) (offset : ℕ) (u : Peeked) → slot ≡ slot_at f.name address → offset ≡ address % PAGE_WORDS → ((home : ℕ) → Absent (record { 0 = home }) ≡ u → ⊥) → u ≡ peek_of p scene (in_map slot) offset → u ≡ found (word_in p f address)
-  unfolding peek_of
   looks slot offset u is at not told =
-      let e = passed (map_away p scene (in_map slot)) _ u not (sym (told ∙ ap (peek_of p scene (in_map slot)) at)) in
-      let h = passed (page_away p scene (in_map slot)) _ u not e in
-      sym h ∙ found_page (page_at p (in_map slot))
+      looked p scene (in_map slot) (address % PAGE_WORDS) u not (told ∙ ap (peek_of p scene (in_map slot)) at) ∙ found_page (page_at p (in_map slot))
       ∙ ap (λ s. found (option_map (λ n. slice_index (words_of p n) (address % PAGE_WORDS)) (page_at p (in_map s)))) is
       ∙ ap (λ b. found (cond b (Some (slice_index f.body.regs.ac address)) (option_map (λ n. slice_index (words_of p n) (address % PAGE_WORDS)) (page_at p (in_map (slot_at f.name address)))))) (sym (not_below address high))
 

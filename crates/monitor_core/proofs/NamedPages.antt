@@ -1,11 +1,10 @@
 -- Pages of files under the names of the files.
-use Rattle.std.proofs.Common.{◌≡◌, ◌≢◌, ◌⊎◌, ℕ, ◌+◌, Bool, true, false, cond, List, [], ◌∷◌, map as each, Option, None, Some, inl, inr, refl, sym, ◌∙◌, ap, subst, arith, T, is_lt, Ordering}
+use Rattle.std.proofs.Common.{◌≡◌, ◌≢◌, ℕ, true, false, cond, List, [], ◌∷◌, map as each, Option, None, Some, refl, sym, ◌∙◌, ap, arith, T, is_lt, Ordering}
 use Rattle.std.specs.Prelude.{is_some}
 use Rattle.std.specs.Ordering.{eq_by_cmp, is_eq, nat_cmp}
 use Rattle.std.specs.Cmp.{IsTotalOrder}
 use Rattle.std.specs.Option.{option_map_or, unwrap_or}
 use Rattle.std.specs.List.{sum_by}
-use Rattle.std.proofs.lemmas.Bool.{cases_eq}
 use Rattle.std.proofs.lemmas.List.Sums.{sum_by-cons}
 use Rattle.std.specs.FinMap as fin
 use Rattle.machine_names.specs.declared.names.PageName.{PageName}
@@ -15,7 +14,7 @@ use Rattle.plain_pages.proofs.Counts.{both_first, both_second, ordered_less, tot
 use Rattle.plain_pages.proofs.Whole.{no_values, none_of, tally}
 use Rattle.plain_pages.proofs.Refiled.{NameAlike}
 use Rattle.plain_files.specs.Directory.{Files}
-use Rattle.plain_files.specs.NamedFiles.{AreFiled, AreNumbers, name_of, page_named, pages_named}
+use Rattle.plain_files.specs.NamedFiles.{AreFiled, AreNumbers, page_named, pages_named}
 use Rattle.number_map.proofs.Keys.{get_put_other}
 use Rattle.file_tables.proofs.Pages.{alike_pages, name_pages, numbers_apart, number_pages}
 use Rattle.file_tables.proofs.Rekeyed.{Each, each_there, weaker}

@@ -1,5 +1,5 @@
 -- What a look at a page's words finds, and how they are shown one behind the other.
-use Rattle.std.proofs.Common.{◌≡◌, ℕ, suc, ◌+◌, ◌<◌, ◌==◌, Bool, true, false, cond, List, [], ◌∷◌, ◌++◌, length, take, drop, take-append-drop, Option, None, Some, refl, sym, ◌∙◌, ap, arith, slice_index}
+use Rattle.std.proofs.Common.{◌≡◌, ℕ, suc, ◌+◌, ◌<◌, ◌==◌, false, cond, List, [], ◌∷◌, ◌++◌, length, take, drop, take-append-drop, Option, None, Some, sym, ◌∙◌, ap, arith, slice_index}
 use Rattle.std.proofs.lemmas.List.{append_assoc, drop_more, get_or-replicate, length-take-le}
 use Rattle.std.proofs.Math.Seq.{take-length, take-suc}
 use Rattle.std.specs.Option.{option_map_or}
@@ -79,7 +79,7 @@ module _ (p : NumberedPages) (scene : Scene) (at : Spot ℕ) (offset : ℕ) wher
   passed (Some home) t u not e = absurd (not home e)
 
   -- a look that finds what it wants in frames finds the word, or that no page is there
-  looked : (u : Peeked) → ((home : ℕ) → Absent (record { 0 = home }) ≡ u → ⊥) → u ≡ peek_of p scene at offset → u ≡ found (page_at p at)
+  pub looked : (u : Peeked) → ((home : ℕ) → Absent (record { 0 = home }) ≡ u → ⊥) → u ≡ peek_of p scene at offset → u ≡ found (page_at p at)
   unfolding peek_of
   looked u not told = sym (passed (page_away p scene at) (found (page_at p at)) u not (passed (map_away p scene at) (away_or (page_away p scene at) (found (page_at p at))) u not (sym told)))
 

@@ -1,4 +1,4 @@
-use Rattle.std.proofs.Common.{[], ◌++◌, Some, sym, subst}
+use Rattle.std.proofs.Common.{[], ◌++◌, sym, subst}
 use Rattle.plain_model.specs.Unit.{printed, shown_code, turn_printed}
 use Rattle.monitor_core.specs.Giving.{Takes, TookItems}
 use Rattle.monitor_core.specs.Shown.{stop_items}

@@ -1,6 +1,5 @@
-use Rattle.std.proofs.Common.{[], ◌∷◌, ◌++◌, ◌<◌, ◌+◌, length, take, drop, slice_index, arith, sym, subst}
+use Rattle.std.proofs.Common.{[], ◌∷◌, ◌++◌, ◌+◌, take, drop, slice_index, arith, sym, subst}
 use Rattle.page_contracts.specs.DrumWords.{DrumWords}
-use Rattle.outside.specs.declared.TheConstants.{PAGE_WORDS}
 use Rattle.page_contracts.specs.Pages.{spot_of}
 use Rattle.plain_pages.specs.References.{page_at, words_at}
 use Rattle.plain_pages.proofs.Makings.{page_fits}

@@ -1,8 +1,7 @@
-use Rattle.std.proofs.Common.{◌≡◌, ◌<◌, ◌+◌, suc, arith, sym, ◌∙◌, ap, length, slice_index}
+use Rattle.std.proofs.Common.{◌<◌, ◌+◌, arith, ◌∙◌, ap, length, slice_index}
 use Rattle.std.proofs.lemmas.Grind.{get_or_default_zero}
 use Rattle.page_contracts.specs.Pages.{spot_of}
 use Rattle.plain_pages.specs.References.{stored}
-use Rattle.plain_model.specs.FileEvents.{stored_row}
 use Rattle.std.specs.Prelude.{slice_index_or}
 use Rattle.ka10_in_place.proofs.Used.{stays_on}
 use Rattle.monitor_core.proofs.ShownWords.{stored_next}

@@ -1,4 +1,4 @@
-use Rattle.std.proofs.Common.{sym, subst}
+use Rattle.std.proofs.Common.{[], sym, subst}
 use Rattle.monitor_core.specs.Giving.{TookOver}
 use Rattle.monitor_core.specs.Replies.{reply_items}
 use Rattle.monitor_core.specs.Systems.{FitsPages, state_of}

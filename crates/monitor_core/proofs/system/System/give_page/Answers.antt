@@ -1,7 +1,5 @@
-use Rattle.std.proofs.Common.{◌≡◌, [], ◌∷◌, ◌++◌, ◌∙◌, Option, None, Some, ℕ, sym, subst, arith}
-use Rattle.machine_names.specs.declared.names.PageName.{PageName}
+use Rattle.std.proofs.Common.{[], ◌∷◌, ◌∙◌, sym, subst}
 use Rattle.machine_names.specs.Orders.{file_page}
-use Rattle.page_contracts.specs.DrumWords.{DrumWords}
 use Rattle.plain_pages.specs.References.{in_file, words_at}
 use Rattle.plain_model.specs.FileEvents.{words_shown}
 use Rattle.script_texts.specs.declared.event.Item.TheVariants.{PageLine}

@@ -1,7 +1,5 @@
-use Rattle.std.proofs.Common.{refl, sym, ◌∙◌, arith, ◌<◌, inl, inr}
-use Rattle.std.proofs.lemmas.Bool.{cases_lt}
+use Rattle.std.proofs.Common.{refl, sym, ◌∙◌}
 use Rattle.std.specs.FinMap as map
-use Rattle.machine_names.specs.declared.names.TheConstants.{MOST_FILES}
 use Rattle.script_texts.specs.declared.event.Event.TheVariants.{File}
 use Rattle.script_texts.specs.declared.event.Item.TheVariants.{Refusal}
 use Rattle.script_texts.specs.declared.event.Refusal.TheVariants.{Exists, FilesFull}
