@@ -48,7 +48,8 @@ fn each_line_shows_its_own(rt: HostRuntime) {
 }
 
 // Puts a number with three digits of this base behind a text.
-fn push_digits(text: &mut Vec<u8>, number: u32, base: u32) -> Result<(), AllocError> {
+fn push_digits(text: &mut Vec<u8>, number: u32, base: u8) -> Result<(), AllocError> {
+    let base = u32::from(base);
     for place in [base * base, base, 1] {
         text.push(b'0' + (number / place % base) as u8)?;
     }
