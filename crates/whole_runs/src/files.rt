@@ -47,11 +47,10 @@ fn each_line_shows_its_own(rt: HostRuntime) {
     same_at(&rt, 0, shown.as_slice(), wanted.as_slice());
 }
 
-// Puts a number with three digits of this base behind a text.
-fn push_digits(text: &mut Vec<u8>, number: u32, base: u8) -> Result<(), AllocError> {
-    let base = u32::from(base);
-    for place in [base * base, base, 1] {
-        text.push(b'0' + (number / place % base) as u8)?;
+// Puts three digits behind a text.
+fn push_digits(text: &mut Vec<u8>, digits: [u32; 3]) -> Result<(), AllocError> {
+    for digit in digits {
+        text.push(b'0' + (digit % 10) as u8)?;
     }
     Ok(())
 }
@@ -61,7 +60,7 @@ fn many_files(alloc: Global, count: u32, rest: &[u8]) -> Result<Vec<u8>, Memory>
     let mut script = Vec::new(alloc);
     for n in 0..count {
         script.extend_from_slice(b"FILE <A>F")?;
-        push_digits(&mut script, n, 10)?;
+        push_digits(&mut script, [n / 100, n / 10 % 10, n % 10])?;
         script.extend_from_slice(b".\n")?;
     }
     script.extend_from_slice(rest)?;
@@ -97,7 +96,7 @@ fn many_pages(alloc: Global, count: u32, rest: &[u8]) -> Result<Vec<u8>, Memory>
     let mut script = Vec::from_slice(alloc, b"FILE <A>BIG.\nFILE <A>SMALL.\n")?;
     for page in 0..count {
         script.extend_from_slice(b"WORDS <A>BIG. ")?;
-        push_digits(&mut script, page, 8)?;
+        push_digits(&mut script, [page / 64, page / 8 % 8, page % 8])?;
         script.extend_from_slice(b" 0 1\n")?;
     }
     script.extend_from_slice(rest)?;
