@@ -154,7 +154,7 @@ fn ends_the_same_in_all_pieces(rt: HostRuntime) -> Result<(), Fail> {
         (b"\n", (0, Next::End)),
         (b"\n\nRUN 5\n\n", (1, Next::End)),
         (b"TICK\nTYPE 0 A\n", (1, Next::Bad(2))),
-        (b"FILE <A>B.C\n", (0, Next::Bad(1))),
+        (b"FILE <A>B.C\nTRACE ON\n", (1, Next::Bad(2))),
         (&full, (1, Next::End)),
         (&longer, (0, Next::Bad(1))),
         (&LONG_LINE, (0, Next::Bad(1))),
