@@ -1,1 +1,5 @@
 pub mod Answering
+pub mod Jobs
+pub mod Asking
+pub mod Changing
+pub mod Turning

@@ -1,5 +1,5 @@
 -- A fork's body, lent out of a tree; and a turn of a call, by its family and its answer.
-use Rattle.std.proofs.Common.{◌≡◌, ℕ, Bool, true, false, cond, Option, Some, refl, sym, ◌∙◌, ap, subst, inl, inr}
+use Rattle.std.proofs.Common.{◌≡◌, ℕ, Bool, true, false, cond, List, Option, Some, refl, sym, ◌∙◌, ap, subst, inl, inr}
 use Rattle.std.specs.Prelude.{IsSome}
 use Rattle.std.specs.Option.{option_map}
 use Rattle.std.specs.Ordering.{nat_cmp}
@@ -17,13 +17,13 @@ use Rattle.machine_names.specs.declared.names.Tty.{Tty}
 use Rattle.plain_units.specs.declared.registers.Regs.{Regs}
 use Rattle.plain_pages.specs.PlainPages.{NumberedPages}
 use Rattle.plain_model.specs.Calls.{Came, Turn, fork_behind, is_among, no_files, numbered, out_of, parts_behind, turn_on}
-use Rattle.plain_model.specs.Families.{Parts, Turned, behind, call_turned, print_calls, own_changed, asks, forks_changed, pages_changed}
-use Rattle.plain_model.specs.FileCalls.{file_call, file_calls}
+use Rattle.plain_model.specs.Families.{Parts, Turned, behind, call_turned, print_calls, own_changed, asks, asks_jfns, forks_changed, jfns_changed, names_seen, pages_changed}
+use Rattle.plain_model.specs.FileCalls.{FileParts, file_call, file_calls, file_changed, jfn_call, jfn_calls}
 use Rattle.plain_model.specs.ForkCalls.{ForkParts, fork_call, fork_calls, fork_changed}
 use Rattle.plain_model.specs.MapCalls.{map_call, map_calls, map_changed}
 use Rattle.plain_model.specs.Forks.{fork_in}
 use Rattle.plain_model.specs.Trees.{PlainTree, changed, with_body}
-use Rattle.plain_model.proofs.Calling.{MakesNone, file_makes_none, forks_behind, nothing_behind, pages_behind, print_makes_none}
+use Rattle.plain_model.proofs.Calling.{MakesNone, file_makes_none, filed_of, forks_behind, jfns_behind, nothing_behind, pages_behind, print_makes_none, with_filed}
 use Rattle.call_turns.specs.Answers.{FitsAnswer, IsDone, IsTurn, Went, answer_of}
 use Rattle.call_turns.specs.Turns.{IsOut}
 use Rattle.fork_tree.specs.Changes.{body_in, with_body_at}
@@ -96,9 +96,9 @@ done_else (answer.Failed code) none = tt
 done_else (answer.Trap channel) none = tt
 done_else (answer.Need n) none = absurd (none n refl)
 
-module _ (old new : Parts nat_cmp) (who : ForkName) (regs : Regs) (number : ℕ) where
+module _ (key : List ℕ → ℕ) (old new : Parts nat_cmp) (who : ForkName) (regs : Regs) (number : ℕ) where
   -- a turn that is done left what its call leaves
-  pub done_so : (a : Answer) → IsDone a → call_turned old who regs number ≡ answered_turn new who a → TurnedSo old new who regs number a
+  pub done_so : (a : Answer) → IsDone a → call_turned key old who regs number ≡ answered_turn new who a → TurnedSo key old new who regs number a
   done_so (answer.After rs out post) done is = is
   done_so (answer.Wait on) done is = is
   done_so answer.Halt done is = is
@@ -107,7 +107,7 @@ module _ (old new : Parts nat_cmp) (who : ForkName) (regs : Regs) (number : ℕ)
   done_so (answer.Trap channel) done is = is
   done_so (answer.Need n) done is = absurd done
 
-  pub so_done : (a : Answer) → IsDone a → TurnedSo old new who regs number a → call_turned old who regs number ≡ answered_turn new who a
+  pub so_done : (a : Answer) → IsDone a → TurnedSo key old new who regs number a → call_turned key old who regs number ≡ answered_turn new who a
   so_done (answer.After rs out post) done is = is
   so_done (answer.Wait on) done is = is
   so_done answer.Halt done is = is
@@ -117,12 +117,12 @@ module _ (old new : Parts nat_cmp) (who : ForkName) (regs : Regs) (number : ℕ)
   so_done (answer.Need n) done is = absurd done
 
 -- a turn went to its end, or needs something first, and left its family's part as it was
-pub turned_so : {C V : Type 0} {IsReason : Need → Type 0} {changed : C → V → V} {made : V} {e : End C} (whole : V → Parts nat_cmp) (old new : V) (who : ForkName) (regs : Regs) (number : ℕ) (a : Answer) → IsTurn IsReason changed old made new a e
-    → (Went changed old made new a e → call_turned (whole old) who regs number ≡ answered_turn (whole new) who a) → TurnedSo (whole old) (whole new) who regs number a
-turned_so whole old new who regs number a (inl went) is = done_so (whole old) (whole new) who regs number a (subst IsDone (sym went.answered) (answer_done _)) (is went)
-turned_so whole old new who regs number a (inr waits) is = subst (TurnedSo (whole old) (whole new) who regs number) (sym waits.answered) (ap whole waits.left)
+pub turned_so : {C V : Type 0} {IsReason : Need → Type 0} {changed : C → V → V} {made : V} {e : End C} (key : List ℕ → ℕ) (whole : V → Parts nat_cmp) (old new : V) (who : ForkName) (regs : Regs) (number : ℕ) (a : Answer) → IsTurn IsReason changed old made new a e
+    → (Went changed old made new a e → call_turned key (whole old) who regs number ≡ answered_turn (whole new) who a) → TurnedSo key (whole old) (whole new) who regs number a
+turned_so key whole old new who regs number a (inl went) is = done_so key (whole old) (whole new) who regs number a (subst IsDone (sym went.answered) (answer_done _)) (is went)
+turned_so key whole old new who regs number a (inr waits) is = subst (TurnedSo key (whole old) (whole new) who regs number) (sym waits.answered) (ap whole waits.left)
 
-module _ (v : Parts nat_cmp) (who : ForkName) where
+module _ (key : List ℕ → ℕ) (v : Parts nat_cmp) (who : ForkName) where
   -- the answer of a turn that ends so leaves its fork as the end does, and prints what that prints
   answer_is : {C : Type 0} (left : Parts nat_cmp) (o : Option Fork) (e : End C)
       → ◌≡◌ {A = Turned nat_cmp} (record { parts = left; caller = option_map (λ f. fork_behind f e) o; out = out_of e }) (record { parts = left; caller = option_map (λ f. answered f (answer_of e)) o; out = out_in (answer_of e) })
@@ -157,7 +157,7 @@ module _ (v : Parts nat_cmp) (who : ForkName) where
         (sym (ap (λ (q : NumberedPages). parts_behind own_changed v (record v { pages = q }) (turn_on no_files v.pages t).end) makes
         ∙ nothing_behind v (turn_on no_files v.pages t).end))
 
-    pub print_went : is_among print_calls number ≡ true → (a : Answer) → a ≡ answer_of (turn_on no_files v.pages (numbered print_calls number regs)).end → call_turned v who regs number ≡ answered_turn v who a
+    pub print_went : is_among print_calls number ≡ true → (a : Answer) → a ≡ answer_of (turn_on no_files v.pages (numbered print_calls number regs)).end → call_turned key v who regs number ≡ answered_turn v who a
     print_went prints a is =
         on_true (is_among print_calls number) _ _ prints
         ∙ own_behind (numbered print_calls number regs) (print_makes_none v.pages number regs) a is
@@ -165,18 +165,18 @@ module _ (v : Parts nat_cmp) (who : ForkName) where
     module _ (other : is_among print_calls number ≡ false) where
       pub forks_went : is_among fork_calls number ≡ true → (tree : PlainTree) (q : NumberedPages) (a : Answer)
           → (let c = turn_on no_files v.pages (fork_call number (asks v who regs)) in Went fork_changed (parts v.tree v.pages) (parts v.tree c.pages) (parts tree q) a c.end)
-          → call_turned v who regs number ≡ answered_turn (record { tree = tree; pages = q }) who a
+          → call_turned key v who regs number ≡ answered_turn (record v { tree = tree; pages = q }) who a
       forks_went forks tree q a w =
           on_false (is_among print_calls number) _ _ other
           ∙ on_true (is_among fork_calls number) _ _ forks
-          ∙ came_behind forks_changed (turn_on no_files v.pages (fork_call number (asks v who regs))) (record { tree = tree; pages = q }) a w.answered
-          (ap (λ (part : ForkParts nat_cmp). record { tree = part.tree; pages = part.pages }) w.left
+          ∙ came_behind forks_changed (turn_on no_files v.pages (fork_call number (asks v who regs))) (record v { tree = tree; pages = q }) a w.answered
+          (ap (λ (part : ForkParts nat_cmp). record v { tree = part.tree; pages = part.pages }) w.left
           ∙ sym (forks_behind v (turn_on no_files v.pages (fork_call number (asks v who regs))).pages (turn_on no_files v.pages (fork_call number (asks v who regs))).end))
 
       module _ (unforked : is_among fork_calls number ≡ false) where
         pub maps_went : is_among map_calls number ≡ true → (q : NumberedPages) (a : Answer)
             → (let c = turn_on no_files v.pages (map_call number (asks v who regs)) in Went map_changed v.pages c.pages q a c.end)
-            → call_turned v who regs number ≡ answered_turn (record v { pages = q }) who a
+            → call_turned key v who regs number ≡ answered_turn (record v { pages = q }) who a
         maps_went maps q a w =
             on_false (is_among print_calls number) _ _ other
             ∙ on_false (is_among fork_calls number) _ _ unforked
@@ -186,7 +186,7 @@ module _ (v : Parts nat_cmp) (who : ForkName) where
             ∙ sym (pages_behind v (turn_on no_files v.pages (map_call number (asks v who regs))).pages (turn_on no_files v.pages (map_call number (asks v who regs))).end))
 
         module _ (unmapped : is_among map_calls number ≡ false) where
-          pub files_went : is_among file_calls number ≡ true → (a : Answer) → a ≡ answer_of (turn_on no_files v.pages (file_call number (asks v who regs))).end → call_turned v who regs number ≡ answered_turn v who a
+          pub files_went : is_among file_calls number ≡ true → (a : Answer) → a ≡ answer_of (turn_on no_files v.pages (file_call number (asks v who regs))).end → call_turned key v who regs number ≡ answered_turn v who a
           files_went files a is =
               on_false (is_among print_calls number) _ _ other
               ∙ on_false (is_among fork_calls number) _ _ unforked
@@ -194,10 +194,25 @@ module _ (v : Parts nat_cmp) (who : ForkName) where
               ∙ on_true (is_among file_calls number) _ _ files
               ∙ own_behind (file_call number (asks v who regs)) (file_makes_none v.pages number (asks v who regs)) a is
 
-          -- a number that is no call
-          pub none_went : is_among file_calls number ≡ false → call_turned v who regs number ≡ answered_turn v who (answer.Trap ILLEGAL_INSTRUCTION)
-          none_went unfiled =
-              on_false (is_among print_calls number) _ _ other
-              ∙ on_false (is_among fork_calls number) _ _ unforked
-              ∙ on_false (is_among map_calls number) _ _ unmapped
-              ∙ on_false (is_among file_calls number) _ _ unfiled
+          module _ (unfiled : is_among file_calls number ≡ false) where
+            pub jfns_went : is_among jfn_calls number ≡ true → (part : FileParts nat_cmp) (a : Answer)
+                → (let c = turn_on (names_seen v who) v.pages (jfn_call number (asks_jfns v who regs)) in Went (file_changed key) (filed_of v) (record (filed_of v) { pages = c.pages }) part a c.end)
+                → call_turned key v who regs number ≡ answered_turn (with_filed v part) who a
+            jfns_went jfns part a w =
+                on_false (is_among print_calls number) _ _ other
+                ∙ on_false (is_among fork_calls number) _ _ unforked
+                ∙ on_false (is_among map_calls number) _ _ unmapped
+                ∙ on_false (is_among file_calls number) _ _ unfiled
+                ∙ on_true (is_among jfn_calls number) _ _ jfns
+                ∙ came_behind (jfns_changed key) (turn_on (names_seen v who) v.pages (jfn_call number (asks_jfns v who regs))) (with_filed v part) a w.answered
+                (ap (with_filed v) w.left
+                ∙ sym (jfns_behind key v (turn_on (names_seen v who) v.pages (jfn_call number (asks_jfns v who regs))).pages (turn_on (names_seen v who) v.pages (jfn_call number (asks_jfns v who regs))).end))
+
+            -- a number that is no call
+            pub none_went : is_among jfn_calls number ≡ false → call_turned key v who regs number ≡ answered_turn v who (answer.Trap ILLEGAL_INSTRUCTION)
+            none_went unopened =
+                on_false (is_among print_calls number) _ _ other
+                ∙ on_false (is_among fork_calls number) _ _ unforked
+                ∙ on_false (is_among map_calls number) _ _ unmapped
+                ∙ on_false (is_among file_calls number) _ _ unfiled
+                ∙ on_false (is_among jfn_calls number) _ _ unopened

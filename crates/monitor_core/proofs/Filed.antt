@@ -1,5 +1,7 @@
 -- The pages of a state, which knows files by their names, as a system's pages know them by numbers.
-use Rattle.std.proofs.Common.{◌≡◌, ℕ, ◌∙◌, subst}
+use Rattle.std.proofs.Common.{◌≡◌, ℕ, List, true, sym, ◌∙◌, subst}
+use Rattle.std.specs.Cmp.{nat_cmp_total}
+use Rattle.std.specs.Cmp.Lexicographic.{nat_list_cmp_total}
 use Rattle.std.specs.FinMap as fin
 use Rattle.machine_names.specs.declared.names.PageName.{PageName}
 use Rattle.machine_names.specs.declared.names.Tty.{Tty}
@@ -14,9 +16,10 @@ use Rattle.plain_pages.specs.References.{in_map, reference}
 use Rattle.plain_units.specs.Steps.{Progress, Ending, done, begun, pages_left}
 use Rattle.plain_units.specs.Instructions.{instruction}
 use Rattle.plain_units.specs.Units.{unit_on}
-use Rattle.plain_model.specs.Families.{Turned, call_turned}
-use Rattle.plain_model.specs.Trees.{PlainTree}
-use Rattle.plain_model.proofs.RefiledCalls.{call_files, call_refiled}
+use Rattle.plain_files.specs.Sizes.{PlainFile}
+use Rattle.machine_names.proofs.OrderLemmas.{name_cmp_apart}
+use Rattle.plain_model.proofs.Keyed.{AreKeyed, keyed_by, keyed_once, totals_keyed}
+use Rattle.plain_pages.proofs.Whole.{tally}
 use Rattle.plain_pages.proofs.Refiled.{NameAlike, refiled_result, reference_refiled}
 use Rattle.plain_units.proofs.RefiledUnits.{refiled_plan, run_refiled, LeavesFiles, run_leaves, left_leaves}
 
@@ -28,9 +31,30 @@ NamedFiles = fin.FinMap (file_page_cmp name_cmp) PageName
 abbrev pub keyed : NamedFiles → NumberedPages → NamedPages
 keyed filed p = refiled name_cmp p filed
 
--- what is behind a turn, with them
-abbrev pub keyed_turned : NamedFiles → Turned nat_cmp → Turned name_cmp
-keyed_turned filed r = record { parts = record { tree = r.parts.tree; pages = keyed filed r.parts.pages }; caller = r.caller; out = r.out }
+-- a file of a name is among these
+abbrev pub IsIn : fin.FinMap name_cmp PlainFile → List ℕ → Type 0
+IsIn files name = fin.contains_key files name ≡ true
+
+-- the files of these names have the same pages under their keys as under their names, and no page is in another file
+abbrev pub AreKept : (List ℕ → Type 0) → (List ℕ → ℕ) → NumberedPages → NamedFiles → Type 0
+AreKept There key p filed = AreKeyed nat_cmp name_cmp There key (λ name. name) p.files filed
+
+module _ (There : List ℕ → Type 0) (key : List ℕ → ℕ) (p : NumberedPages) (filed : NamedFiles) (kept : AreKept There key p filed) where
+  -- each page is named as often
+  pub kept_alike : NameAlike name_cmp p filed
+  kept_alike n = totals_keyed nat_cmp_total fin.nat_cmp-IsAntisymmetric nat_list_cmp_total name_cmp_apart There key (λ name. name) p.files filed kept (tally n)
+
+  module _ (q : NumberedPages) (same : q.files ≡ p.files) where
+    pub kept_on : AreKept There key q filed
+    kept_on = subst (λ m. AreKeyed nat_cmp name_cmp There key (λ (name : List ℕ). name) m filed) (sym same) kept
+
+    -- before and behind what leaves the files
+    pub kept_still : AreKept (λ name. There name × There name) key q filed
+    kept_still = keyed_by nat_cmp name_cmp There (λ name. There name × There name) key (λ name. name) q.files filed (λ name h. (h, h)) (λ name h. h.0) kept_on
+
+-- there is one map of pages under names that goes with pages under numbers
+pub kept_once : (There : List ℕ → Type 0) (key : List ℕ → ℕ) (p : NumberedPages) (n k : NamedFiles) → AreKept There key p n → AreKept There key p k → n ≡ k
+kept_once There key p n k x y = keyed_once nat_cmp_total fin.nat_cmp-IsAntisymmetric nat_list_cmp_total name_cmp_apart There key (λ name. name) p.files n k x y
 
 module _ (filed : NamedFiles) (p : NumberedPages) (alike : NameAlike name_cmp p filed) where
   -- a reference to a map's page is the same
@@ -41,14 +65,7 @@ module _ (filed : NamedFiles) (p : NumberedPages) (alike : NameAlike name_cmp p 
   pub unit_keyed : (f : ForkName) (regs : Regs) → unit_on f (keyed filed p) regs ≡ refiled_plan name_cmp filed (unit_on f p regs)
   unit_keyed f regs = run_refiled name_cmp filed f (instruction regs) (begun p regs.ac) alike
 
-  -- and a turn of a monitor call
-  pub call_keyed : (tree : PlainTree) (who : ForkName) (regs : Regs) (number : ℕ) → call_turned (record { tree = tree; pages = keyed filed p }) who regs number ≡ keyed_turned filed (call_turned (record { tree = tree; pages = p }) who regs number)
-  call_keyed tree who regs number = call_refiled name_cmp filed (record { tree = tree; pages = p }) alike who regs number
-
 module _ (p : NumberedPages) where
-  -- neither changes the pages of files
+  -- which leaves the pages of files
   pub unit_files : (f : ForkName) (regs : Regs) (t : Progress nat_cmp) (e : Ending) → unit_on f p regs ≡ done t e → (pages_left f t e).files ≡ p.files
   unit_files f regs t e is = left_leaves f t e ∙ subst (LeavesFiles p.files) is (run_leaves f (instruction regs) (begun p regs.ac))
-
-  pub turn_files : (tree : PlainTree) (who : ForkName) (regs : Regs) (number : ℕ) → (call_turned (record { tree = tree; pages = p }) who regs number).parts.pages.files ≡ p.files
-  turn_files tree who regs number = call_files (record { tree = tree; pages = p }) who regs number

@@ -19,6 +19,9 @@ mod Keeping
 mod Leaving
 mod Stopping
 mod Calling
+mod NamedKeys
+mod JfnsAsked
+mod JfnTurns
 mod Changing
 mod Sounds
 mod Systems

@@ -1,7 +1,8 @@
 -- Units in a row behind which one needs something first.
-use Rattle.std.proofs.Common.{◌≡◌, ◌⊎◌, ℕ, ◌+◌, ◌≤◌, cond, ◌==◌, None, refl, sym, ◌∙◌, ap, subst, arith, inl, inr}
+use Rattle.std.proofs.Common.{◌≡◌, ◌⊎◌, ℕ, ◌+◌, ◌≤◌, cond, ◌==◌, List, None, refl, sym, ◌∙◌, ap, subst, arith, inl, inr}
 use Rattle.std.specs.Prelude.{Result, Ok, Err, IfOk, IfErr, IsSome}
 use Rattle.std.specs.Ordering.{nat_cmp}
+use Rattle.std.specs.FinMap as map
 use Rattle.std.proofs.lemmas.Bool.Decides.{eqb_tells}
 use Rattle.plain_model.specs.declared.fork.Body.{Body}
 use Rattle.plain_model.specs.declared.fork.Fork.{Fork}
@@ -17,12 +18,17 @@ use Rattle.ka10_in_place.specs.Once.{After, in_a_row}
 use Rattle.ka10_unit.specs.Taking.{most_frames}
 use Rattle.fork_tree.specs.Trees.{IsTree, Lives}
 use Rattle.fork_calls.specs.Holding.{Holds, MakesPages}
-use Rattle.fork_calls.specs.Needing.{call_frames}
+use Rattle.text_pointers.specs.Reading.{text_frames}
 use Rattle.fork_calls.proofs.Branch.{made_on}
+use Rattle.file_tables.specs.declared.tables.FileTables.{FileTables}
+use Rattle.file_tables.specs.Tables.{open_of}
+use Rattle.file_calls.specs.Asking.{key_in}
+use Rattle.monitor_core.specs.Jobs.{AreUnheld}
 use Rattle.monitor_core.specs.declared.units.Units.{Units}
-use Rattle.monitor_core.specs.ForkUnit.{CallWaits, Kept, LeavesForks, RanUnits, RanUpTo, UnitWaits, UnitsRan, left_so, put_back, ran_on}
+use Rattle.monitor_core.specs.ForkUnit.{CallWaits, Kept, LeavesForks, RanUnits, RanUpTo, Rest, Tables, UnitWaits, UnitsRan, left_so, put_back, ran_on, rest_of}
 use Rattle.monitor_core.specs.Shown.{nothing}
 use Rattle.monitor_core.specs.Writing.{Makes, most_makings}
+use Rattle.monitor_core.proofs.JfnsAsked.{dir_stays}
 use Rattle.monitor_core.proofs.Leaving.{came_less, leaves_one, leaves_then}
 use Rattle.monitor_core.proofs.UnitRan.{row_ran}
 
@@ -47,56 +53,66 @@ up_to_none f g p q r =
     )
 
 -- some units are a row that shows nothing
-pub up_to_some : (tree : PlainTree) (f g : Fork) (p q : NumberedPages) (n : ℕ) → 1 ≤ n → RanUpTo f p n g q → RanUnits tree f p n (left_so tree g q nothing)
-up_to_some tree f g p q n some r = subst (RanUnits tree f p n) (λ i. left_so tree (r.fork i) (r.pages i) nothing) (row_ran tree f p n r.after some r.row)
+pub up_to_some : (key : List ℕ → ℕ) (rest : Rest) (f g : Fork) (p q : NumberedPages) (n : ℕ) → 1 ≤ n → RanUpTo f p n g q → RanUnits key rest f p n (left_so rest g q nothing)
+up_to_some key rest f g p q n some r = subst (RanUnits key rest f p n) (λ i. left_so rest (r.fork i) (r.pages i) nothing) (row_ran key rest f p n r.after some r.row)
+
+-- the tables, where the forks are others
+abbrev pub with_tree : Tables → PlainTree → FileTables → Tables
+with_tree was tree files = record was { tree = tree; files = files }
 
 -- so many units of a fork were done, and the next needs this first
-pub record StopsBehind {P : Type 0} (means : PagesMeaning P) (old new : P) (tree tree' : PlainTree) (f g : Fork) (count : ℕ) (n : Need) : Type 0 where
-  pub told : (d : DrumWords) → means.fits old d → means.fits new d × (tree' ≡ put_back tree g) × RanUpTo f (means.plain old d) count g (means.plain new d)
+pub record StopsBehind {P : Type 0} (means : PagesMeaning P) (old new : P) (was : Tables) (tree : PlainTree) (files : FileTables) (f g : Fork) (count : ℕ) (n : Need) : Type 0 where
+  pub told : (d : DrumWords) → means.fits old d → means.fits new d × (tree ≡ put_back was.tree g) × RanUpTo f (means.plain old d) count g (means.plain new d)
+  pub same : files ≡ was.files
   pub keeps : Kept f g count
-  pub leaves : LeavesForks means old new tree tree' f count
+  pub leaves : LeavesForks means old new was.tree tree f count
   pub unmade : MakesPages means f.name.tty 0 old new
-  pub needed : IsNeeded means.store call_frames new n
+  pub needed : IsNeeded means.store text_frames new n
 
-module _ {P : Type 0} (means : PagesMeaning P) (old new : P) (tree tree' : PlainTree) (f g : Fork) (n : Need) (lives : Lives tree.forks f) where
-  none_done : StopsBehind means old new tree tree' f g 0 n → UnitWaits means old new tree tree' f n
+module _ {P : Type 0} (means : PagesMeaning P) (old new : P) (was : Tables) (tree : PlainTree) (files : FileTables) (f g : Fork) (n : Need) (lives : Lives was.tree.forks f) (unheld : AreUnheld (open_of was.files) was.jobs) where
+  none_done : StopsBehind means old new was tree files f g 0 n → UnitWaits means old new was (with_tree was tree files) f n
   none_done s = record {
-    told = λ d fits.
-        let t = s.told d fits in
-        let same = up_to_none f g (means.plain old d) (means.plain new d) t.2 in (
-          t.0,
-          t.1 ∙ ap (put_back tree) same.0 ∙ ap (λ m. record tree { forks = m }) (put_itself tree.forks f.name f lives),
-          same.1,
-        );
+    told = record {
+      files = s.same;
+      each = λ d fits.
+          let t = s.told d fits in
+          let same = up_to_none f g (means.plain old d) (means.plain new d) t.2 in (
+            t.0,
+            t.1 ∙ ap (put_back was.tree) same.0 ∙ ap (λ m. record was.tree { forks = m }) (put_itself was.tree.forks f.name f lives),
+            same.1,
+          );
+    };
     leaves = s.leaves;
     unmade = s.unmade;
     needed = s.needed;
   }
 
-  some_done : (count : ℕ) → 1 ≤ count → StopsBehind means old new tree tree' f g count n → UnitsRan means old new tree tree' f (record { count = count; shown = nothing })
+  some_done : (count : ℕ) → 1 ≤ count → StopsBehind means old new was tree files f g count n → UnitsRan means old new was (with_tree was tree files) f (record { count = count; shown = nothing })
   some_done count some s = record {
     after = g;
     told = λ d fits.
         let t = s.told d fits in (
           t.0,
-          subst (λ x. RanUnits tree f (means.plain old d) count (record { tree = x; fork = g; pages = means.plain new d; shown = nothing })) (sym t.1)
-              (up_to_some tree f g (means.plain old d) (means.plain new d) count some t.2),
+          subst (λ (x : Rest). RanUnits (key_in was.files) (rest_of was) f (means.plain old d) count (record { rest = x; fork = g; pages = means.plain new d; shown = nothing })) (λ i. rest_of (with_tree was (sym t.1 i) (sym s.same i)))
+              (up_to_some (key_in was.files) (rest_of was) f g (means.plain old d) (means.plain new d) count some t.2),
         );
+    numbers = λ d fits. dir_stays was.files files (ap (λ (t : FileTables). t.dir) s.same);
     keeps = s.keeps;
     leaves = s.leaves;
+    unheld = subst (λ (t : FileTables). AreUnheld (open_of t) was.jobs) (sym s.same) unheld;
     shown = (tt, tt);
   }
 
-  pub stops_ran : (count : ℕ) (r : Result Units Need) → r ≡ before count n → StopsBehind means old new tree tree' f g count n → IfOk r (UnitsRan means old new tree tree' f)
+  pub stops_ran : (count : ℕ) (r : Result Units Need) → r ≡ before count n → StopsBehind means old new was tree files f g count n → IfOk r (UnitsRan means old new was (with_tree was tree files) f)
   stops_ran count r is s = elim (by_count count n r is) [
-    | inl none ↦ subst (λ x. IfOk x (UnitsRan means old new tree tree' f)) (sym none.1) tt
-    | inr some ↦ subst (λ x. IfOk x (UnitsRan means old new tree tree' f)) (sym some.1) (some_done count some.0 s)
+    | inl none ↦ subst (λ x. IfOk x (UnitsRan means old new was (with_tree was tree files) f)) (sym none.1) tt
+    | inr some ↦ subst (λ x. IfOk x (UnitsRan means old new was (with_tree was tree files) f)) (sym some.1) (some_done count some.0 s)
   ]
 
-  pub stops_waits : (count : ℕ) (r : Result Units Need) → r ≡ before count n → StopsBehind means old new tree tree' f g count n → IfErr r (UnitWaits means old new tree tree' f)
+  pub stops_waits : (count : ℕ) (r : Result Units Need) → r ≡ before count n → StopsBehind means old new was tree files f g count n → IfErr r (UnitWaits means old new was (with_tree was tree files) f)
   stops_waits count r is s = elim (by_count count n r is) [
-    | inl none ↦ subst (λ x. IfErr x (UnitWaits means old new tree tree' f)) (sym none.1) (none_done (subst (λ k. StopsBehind means old new tree tree' f g k n) none.0 s))
-    | inr some ↦ subst (λ x. IfErr x (UnitWaits means old new tree tree' f)) (sym some.1) tt
+    | inl none ↦ subst (λ x. IfErr x (UnitWaits means old new was (with_tree was tree files) f)) (sym none.1) (none_done (subst (λ k. StopsBehind means old new was tree files f g k n) none.0 s))
+    | inr some ↦ subst (λ x. IfErr x (UnitWaits means old new was (with_tree was tree files) f)) (sym some.1) tt
   ]
 
 -- how many they are
@@ -120,31 +136,34 @@ made_less : {P : Type 0} {means : PagesMeaning P} {p q : P} {t : _} → Makes me
 made_less m = record { lives = m.lives; forks = m.forks; most = m.most; own = omega (arith, m.own); others = m.others }
 
 -- one fork has another body, behind so many units that made no page
-module _ (tree : PlainTree) (is : IsTree tree) (f : Fork) (lives : Lives tree.forks f) (body : Body) (count : ℕ) (keeps : Kept f (with_body body f) count) {P : Type 0} (means : PagesMeaning P) (old mid : P) (made : Makes means old mid f.name.tty 0) (holds : Holds means old tree.forks) where
+module _ (was : Tables) (is : IsTree was.tree) (f : Fork) (lives : Lives was.tree.forks f) (body : Body) (count : ℕ) (keeps : Kept f (with_body body f) count) {P : Type 0} (means : PagesMeaning P) (old mid : P) (made : Makes means old mid f.name.tty 0) (holds : Holds means old was.tree.forks) where
   abbrev g : Fork
   g = with_body body f
 
   -- and a unit needs something first
-  pub unit_stops : (n : Need) → ((d : DrumWords) → means.fits old d → means.fits mid d × RanUpTo f (means.plain old d) count g (means.plain mid d)) → IsNeeded means.store most_frames mid n → StopsBehind means old mid tree (put_back tree g) f g count n
+  pub unit_stops : (n : Need) → ((d : DrumWords) → means.fits old d → means.fits mid d × RanUpTo f (means.plain old d) count g (means.plain mid d)) → IsNeeded means.store most_frames mid n → StopsBehind means old mid was (put_back was.tree g) was.files f g count n
   unit_stops n told needed = record {
     told = λ d fits. (let t = told d fits in (t.0, refl, t.1));
+    same = refl;
     keeps = keeps;
-    leaves = leaves_one tree is f lives body count keeps means old mid holds (made_less made);
+    leaves = leaves_one was.tree is f lives body count keeps means old mid holds (made_less made);
     unmade = made_none made;
-    needed = needed_more means.store most_frames call_frames mid n (omega arith) needed;
+    needed = needed_more means.store most_frames text_frames mid n (omega arith) needed;
   }
 
   -- or a call does
-  pub call_stops : (new : P) (tree' : PlainTree) (n : Need) → ((d : DrumWords) → means.fits old d → means.fits mid d × RanUpTo f (means.plain old d) count g (means.plain mid d)) → CallWaits means mid new (put_back tree g) tree' f.name n → StopsBehind means old new tree tree' f g count n
-  call_stops new tree' n told waits = record {
+  pub call_stops : (new : P) (tree : PlainTree) (files : FileTables) (n : Need) → ((d : DrumWords) → means.fits old d → means.fits mid d × RanUpTo f (means.plain old d) count g (means.plain mid d)) → CallWaits means mid new (record was { tree = put_back was.tree g }) (with_tree was tree files) f.name n
+      → StopsBehind means old new was tree files f g count n
+  call_stops new tree files n told waits = record {
     told = λ d fits.
         let t = told d fits in
-        let w = waits.told d t.0 in
+        let w = waits.told.each d t.0 in
         (w.0, w.1, subst (RanUpTo f (means.plain old d) count g) (sym w.2) t.1);
+    same = waits.told.files;
     keeps = keeps;
-    leaves = subst (LeavesForks means old new tree tree' f) none
-        (leaves_then tree is f lives body count keeps means old mid new tree' 0 made
-        (record { holds = waits.left.holds; kept = λ x e. elim (waits.left.kept x e) [ inl came ↦ inl (came_less (put_back tree g).forks x 0 came) | inr new ↦ inr new ]; caller = there; tops = waits.left.tops; made = waits.left.made }));
+    leaves = subst (LeavesForks means old new was.tree tree f) none
+        (leaves_then was.tree is f lives body count keeps means old mid new tree 0 made
+        (record { holds = waits.left.holds; kept = λ x e. elim (waits.left.kept x e) [ inl came ↦ inl (came_less (put_back was.tree g).forks x 0 came) | inr new ↦ inr new ]; caller = there; tops = waits.left.tops; made = waits.left.made }));
     unmade = made_on means f.name.tty 0 0 old mid new (made_none made) waits.unmade;
     needed = waits.needed;
   }
@@ -152,5 +171,5 @@ module _ (tree : PlainTree) (is : IsTree tree) (f : Fork) (lives : Lives tree.fo
       none : count + 0 ≡ count
       none = omega arith
 
-      there : IsSome (Rattle.std.specs.FinMap.get tree'.forks g.name)
-      there = waits.left.caller (leaves_one tree is f lives body count keeps means old mid holds (made_less made)).caller
+      there : IsSome (map.get tree.forks g.name)
+      there = waits.left.caller (leaves_one was.tree is f lives body count keeps means old mid holds (made_less made)).caller

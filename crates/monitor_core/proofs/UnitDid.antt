@@ -4,6 +4,7 @@ use Rattle.std.proofs.lemmas.Bool.{cases_eq}
 use Rattle.std.specs.Option.{option_map, option_map_or}
 use Rattle.std.specs.Ordering.{nat_cmp}
 use Rattle.std.specs.FinMap as fin
+use Rattle.std.specs.Prelude.{IsSome}
 use Rattle.machine_names.specs.declared.names.TheConstants.{MOST_FORKS, TERMINALS}
 use Rattle.machine_names.specs.declared.names.Tty.{Tty}
 use Rattle.plain_model.specs.declared.fork.Fork.{Fork}
@@ -15,7 +16,7 @@ use Rattle.plain_model.specs.Forks.{ForkMap, is_frozen}
 use Rattle.page_contracts.specs.DrumWords.{DrumWords}
 use Rattle.page_contracts.specs.declared.answers.Need.{Need}
 use Rattle.page_contracts.specs.Stores.{IsNeeded}
-use Rattle.fork_calls.specs.Needing.{call_frames}
+use Rattle.text_pointers.specs.Reading.{text_frames}
 use Rattle.plain_model.specs.State.{PlainJob}
 use Rattle.plain_model.specs.Trees.{PlainTree, next_name}
 use Rattle.plain_model.proofs.ForkMaps.{AreOwn}
@@ -32,12 +33,15 @@ use Rattle.monitor_core.specs.declared.shown.Stop.{Stop}
 use Rattle.monitor_core.specs.declared.shown.Stop.TheVariants.{GoesOn}
 use Rattle.monitor_core.specs.declared.system.System.{System}
 use Rattle.monitor_core.specs.declared.units.Units.{Units}
-use Rattle.monitor_core.specs.ForkUnit.{Behind, LeavesForks, UnitWaits, UnitsRan}
+use Rattle.monitor_core.specs.ForkUnit.{Behind, HasJob, LeavesForks, Tables, UnitWaits, UnitsRan, rest_of}
 use Rattle.monitor_core.specs.Jobs.{AreUnheld, job_at, jobs_left, jobs_of}
 use Rattle.monitor_core.specs.Runners.{woken_where}
 use Rattle.monitor_core.specs.Shown.{FitsShown, FitsStop, is_stop, seen_of, shown_items}
 use Rattle.monitor_core.specs.Sound.{AreSound}
-use Rattle.plain_files.specs.NamedFiles.{pages_named}
+use Rattle.plain_files.specs.NamedFiles.{AreFiled, pages_named}
+use Rattle.plain_files.specs.Sizes.{file_at}
+use Rattle.file_tables.specs.declared.tables.FileTables.{FileTables}
+use Rattle.file_calls.specs.Asking.{key_in}
 use Rattle.plain_files.specs.OpenFiles.{OpenFiles}
 use Rattle.file_tables.specs.Tables.{files_of, open_of}
 use Rattle.monitor_core.specs.Systems.{DidAll, FitsPages, IsWithin, Waits, named, state_of}
@@ -46,9 +50,14 @@ use Rattle.monitor_core.proofs.Lookups.{job_found, job_missing, jobs_set}
 use Rattle.monitor_core.proofs.Rows.{Entries, units_as}
 use Rattle.monitor_core.proofs.Sounds.{SameTops, same_tops, same_tops_set}
 use Rattle.monitor_core.proofs.Filed.{NamedFiles}
-use Rattle.monitor_core.proofs.NamedPages.{alike_named, named_left}
+use Rattle.monitor_core.proofs.JfnsAsked.{held_there}
+use Rattle.monitor_core.proofs.NamedKeys.{filed_now, keyed_named, named_now}
 use Rattle.monitor_core.proofs.Systems.{fits_left, unheld_still}
 use Rattle.monitor_core.proofs.UnitEffect.{Runs, behind_state, jobs_seen}
+
+-- the tables of a system
+abbrev pub tables_of : {P : Type 0} {b : _} → System P b → Tables
+tables_of m = record { tree = m.tree; files = m.files; jobs = m.jobs.items }
 
 -- the jobs of which one gives its terminal to the monitor, as the plain state has them
 module _ (held : List OpenFiles) where
@@ -91,9 +100,17 @@ module _ {P : Type 0} {b : _} (m : System P b) (f : Fork) (trees : IsTree m.tree
   within_jobs : f.name.tty.0 < length m.jobs.items
   within_jobs = omega (arith, m.sound.job_room, low)
 
+  -- its terminal has a job
+  pub has_job : HasJob m.files m.jobs.items f.name.tty
+  has_job = record { terminal = low; room = m.sound.job_room; there = by (job_at m.jobs.items f.name.tty.0) refl; unheld = m.unheld }
+    where
+      by : (o : Option Job) → job_at m.jobs.items f.name.tty.0 ≡ o → IsSome (job_at m.jobs.items f.name.tty.0)
+      by None none = absurd (m.sound.nobody f.name.tty.0 f none lives refl)
+      by (Some j) there = subst IsSome (sym there) refl
+
   -- no JFN is held where no job is, whoever reads the terminal
-  pub unheld_left : {jobs' : List (Option Job)} (shown : Shown) → jobs' ≡ jobs_left m.jobs.items f.name.tty.0 (is_stop shown) → AreUnheld (open_of m.files) jobs'
-  unheld_left shown jobs = subst (AreUnheld (open_of m.files)) (sym jobs) (unheld_still (open_of m.files) m.jobs.items (jobs_left m.jobs.items f.name.tty.0 (is_stop shown)) m.unheld (tops_left m.jobs.items f.name.tty.0 (is_stop shown) within_jobs))
+  pub unheld_left : (files : FileTables) → AreUnheld (open_of files) m.jobs.items → {jobs' : List (Option Job)} (shown : Shown) → jobs' ≡ jobs_left m.jobs.items f.name.tty.0 (is_stop shown) → AreUnheld (open_of files) jobs'
+  unheld_left files unheld shown jobs = subst (AreUnheld (open_of files)) (sym jobs) (unheld_still (open_of files) m.jobs.items (jobs_left m.jobs.items f.name.tty.0 (is_stop shown)) unheld (tops_left m.jobs.items f.name.tty.0 (is_stop shown) within_jobs))
 
   -- behind units of a fork, and once who waits runs again
   module _ (q : P) (left tree' : PlainTree) (count : ℕ) (stops : Bool) (leaves : LeavesForks b.means m.pages q m.tree left f count) (left_trees : IsTree left) (woken : tree' ≡ record left { forks = woken_where left.forks f.name.tty stops }) where
@@ -154,36 +171,56 @@ module _ {P : Type 0} {b : _} (m : System P b) (f : Fork) (trees : IsTree m.tree
               none_before t (λ h lived. m.sound.nobody t h (tops.none t e) lived) k.before k.lived (ap (λ (n : ForkName). n.tty.0) (sym k.name) ∙ at);
         })
 
-  module _ (q : P) (left tree' : PlainTree) (units : Units) (ran : UnitsRan b.means m.pages q m.tree left f units) (left_trees : IsTree left) (woken : tree' ≡ record left { forks = woken_where left.forks f.name.tty (is_stop units.shown) }) where
-    module _ (m' : System P b) (files : m'.files ≡ m.files) (pages_are : m'.pages ≡ q) (tree_is : m'.tree ≡ tree') (shown : Shown) (runs : f.body.status ≡ Run) (thawed : is_frozen MOST_FORKS m.tree.forks (Some f) ≡ false)
+  -- the tables before the units, and behind them
+  abbrev was : Tables
+  was = tables_of m
+
+  abbrev now : PlainTree → FileTables → Tables
+  now left files = record was { tree = left; files = files }
+
+  module _ (q : P) (left tree' : PlainTree) (files : FileTables) (units : Units) (ran : UnitsRan b.means m.pages q was (now left files) f units) (left_trees : IsTree left) (woken : tree' ≡ record left { forks = woken_where left.forks f.name.tty (is_stop units.shown) }) where
+    module _ (m' : System P b) (files_are : m'.files ≡ files) (pages_are : m'.pages ≡ q) (tree_is : m'.tree ≡ tree') (shown : Shown) (runs : f.body.status ≡ Run) (thawed : is_frozen MOST_FORKS m.tree.forks (Some f) ≡ false)
         (seen : shown ≡ seen_of f.slot units.shown) (jobs : m'.jobs.items ≡ jobs_left m.jobs.items f.name.tty.0 (is_stop shown)) (clock : m'.clock ≡ m.clock) (some : 1 ≤ units.count) where
       module _ (d : DrumWords) (fits : FitsPages m d) where
         abbrev last : Behind
-        last = record { tree = left; fork = ran.after; pages = b.means.plain q d; shown = units.shown }
+        last = record { rest = rest_of (now left files); fork = ran.after; pages = b.means.plain q d; shown = units.shown }
 
         -- the pages of files under names
         abbrev filed : NamedFiles
         filed = pages_named m.files.dir (b.means.plain m.pages d).files
 
-        can_run : Runs filed (state_of m d) f (b.means.plain m.pages d)
-        can_run = record { trees = trees; fork = lives; pages = refl; alike = alike_named m.files.dir (b.means.plain m.pages d) m.files.sound.numbers fits.filed; quiet = refl; off = (m.sound.each_fork f lives).off; runs = runs; thawed = thawed }
+        can_run : Runs (key_in m.files) filed (state_of m d) f (b.means.plain m.pages d)
+        can_run = record { trees = trees; fork = lives; pages = refl; kept = keyed_named m.files.dir m.files.sound.numbers (file_at m.files.lengths) (b.means.plain m.pages d).files fits.filed; held = held_there was (b.means.plain m.pages d); quiet = refl; off = (m.sound.each_fork f lives).off; runs = runs; thawed = thawed }
 
-        entries : Entries filed (state_of m d) f (b.means.plain m.pages d) can_run units.count last
-        entries = units_as filed (state_of m d) f (b.means.plain m.pages d) can_run units.count last (ran.told d fits.pages).1 (λ stops. record { own = left_trees.slotted.own; within = left_within q left tree' units.count (is_stop units.shown) ran.leaves left_trees woken })
+        entries : Entries (key_in m.files) filed (state_of m d) f (b.means.plain m.pages d) can_run units.count last
+        entries = units_as (key_in m.files) filed (state_of m d) f (b.means.plain m.pages d) can_run units.count last (ran.told d fits.pages).1 (λ stops. record { own = left_trees.slotted.own; within = left_within q left tree' units.count (is_stop units.shown) ran.leaves left_trees woken })
 
-        state_is : state_of m' d ≡ behind_state filed (state_of m d) f last
+        -- the pages of files that are left, under names
+        left_named : entries.left ≡ pages_named files.dir (b.means.plain q d).files
+        left_named = named_now m.files.dir files.dir m.files.sound.numbers files.sound.numbers (file_at m.files.lengths) (file_at files.lengths) (ran.numbers d fits.pages) (b.means.plain q d).files entries.left entries.kept
+
+        left_filed : AreFiled files.dir (b.means.plain q d).files
+        left_filed = filed_now m.files.dir files.dir m.files.sound.numbers files.sound.numbers (file_at m.files.lengths) (file_at files.lengths) (ran.numbers d fits.pages) (b.means.plain q d).files entries.left entries.kept
+
+        state_is : state_of m' d ≡ behind_state entries.left (state_of m d) f last
         state_is =
-            let held = open_of m.files in
+            let held = open_of files in
             let jobs_are : jobs_of (open_of m'.files) m'.jobs.items ≡ jobs_seen (jobs_of held m.jobs.items) f.name.tty (is_stop (seen_of f.slot units.shown)) =
-            (λ i. jobs_of (open_of (files i)) (jobs i)) ∙ jobs_left_seen held m.jobs.items f.name.tty (is_stop shown) within_jobs ∙ ap (λ x. jobs_seen (jobs_of held m.jobs.items) f.name.tty (is_stop x)) seen in
+            (λ i. jobs_of (open_of (files_are i)) (jobs i)) ∙ jobs_left_seen held m.jobs.items f.name.tty (is_stop shown) within_jobs ∙ ap (λ x. jobs_seen (jobs_of held m.jobs.items) f.name.tty (is_stop x)) seen in
             let tree_so = tree_is ∙ woken in
-            (λ i. record (state_of m' d) { pages = named (files i).dir (b.means.plain (pages_are i) d); files = files_of (files i); jobs = jobs_are i; forks = (tree_so i).forks; fork_serials = (tree_so i).serials; clock = clock i })
-            ∙ ap (λ x. record (behind_state filed (state_of m d) f last) { pages = x }) (named_left m.files.dir (b.means.plain m.pages d) (b.means.plain q d) entries.files)
+            (λ i. record (state_of m' d) { pages = named (files_are i).dir (b.means.plain (pages_are i) d); files = files_of (files_are i); jobs = jobs_are i; forks = (tree_so i).forks; fork_serials = (tree_so i).serials; clock = clock i })
+            ∙ ap (λ (x : NamedFiles). behind_state x (state_of m d) f last) (sym left_named)
+
+        fits_now : FitsPages m' d
+        fits_now = record {
+          pages = subst (λ (x : P). b.means.fits x d) (sym pages_are) (ran.told d fits.pages).0;
+          filed = subst (λ (x : FileTables). AreFiled x.dir (b.means.plain m'.pages d).files) (sym files_are) (subst (λ (x : P). AreFiled files.dir (b.means.plain x d).files) (sym pages_are) left_filed);
+        }
 
       -- units that ran in a row
       pub did_units : DidAll m m' (AUnit f.name) units.count (Prints f.name.tty shown)
       did_units = record {
-        fits = λ d fits. fits_left m m' files d (subst (λ (x : P). b.means.fits x d) (sym pages_are) (ran.told d fits.pages).0) (ap (λ (x : P). (b.means.plain x d).files) pages_are ∙ (entries d fits).files) fits;
+        fits = λ d fits. fits_now d fits;
         legal = λ d fits. (entries d fits).legal;
         state = λ d fits. state_is d fits ∙ sym (entries d fits).state;
         items = λ d fits. ap (shown_items f.name.tty) seen ∙ sym (entries d fits).items;
@@ -203,18 +240,22 @@ module _ {P : Type 0} {b : _} (m : System P b) (f : Fork) (trees : IsTree m.tree
           ]
 
   -- where the first unit needs something first
-  module _ (q : P) (left : PlainTree) (n : Need) (waits : UnitWaits b.means m.pages q m.tree left f n) (left_trees : IsTree left) where
+  module _ (q : P) (left : PlainTree) (files : FileTables) (n : Need) (waits : UnitWaits b.means m.pages q was (now left files) f n) (left_trees : IsTree left) where
     pub waits_sound : AreSound b.means q left m.jobs.items
     waits_sound = units_sound q left left 0 false waits.leaves left_trees refl left_trees m.jobs.items (record { out = None; stop = GoesOn }) refl
 
-    pub waits_still : (m' : System P b) → m'.files ≡ m.files → m'.pages ≡ q → m'.tree ≡ left → m'.jobs ≡ m.jobs → m'.clock ≡ m.clock → Waits m m' n
-    waits_still m' files pages_are tree_is jobs_are clock = record {
+    pub waits_unheld : AreUnheld (open_of files) m.jobs.items
+    waits_unheld = subst (λ (x : FileTables). AreUnheld (open_of x) m.jobs.items) (sym waits.told.files) m.unheld
+
+    pub waits_still : (m' : System P b) → m'.files ≡ files → m'.pages ≡ q → m'.tree ≡ left → m'.jobs ≡ m.jobs → m'.clock ≡ m.clock → Waits m m' n
+    waits_still m' files_are pages_are tree_is jobs_are clock = record {
       each = λ d fits.
-          let t = waits.told d fits.pages in
+          let t = waits.told.each d fits.pages in
+          let files_same : m'.files ≡ m.files = files_are ∙ waits.told.files in
           let same : b.means.plain m'.pages d ≡ b.means.plain m.pages d = ap (λ (x : P). b.means.plain x d) pages_are ∙ t.2 in
           let tree_same = tree_is ∙ t.1 in (
-            fits_left m m' files d (subst (λ (x : P). b.means.fits x d) (sym pages_are) t.0) (ap (λ x. x.files) same) fits,
-            λ i. record (state_of m' d) { pages = named (files i).dir (same i); files = files_of (files i); jobs = jobs_of (open_of (files i)) (jobs_are i).items; forks = (tree_same i).forks; fork_serials = (tree_same i).serials; clock = clock i },
+            fits_left m m' files_same d (subst (λ (x : P). b.means.fits x d) (sym pages_are) t.0) (ap (λ x. x.files) same) fits,
+            λ i. record (state_of m' d) { pages = named (files_same i).dir (same i); files = files_of (files_same i); jobs = jobs_of (open_of (files_same i)) (jobs_are i).items; forks = (tree_same i).forks; fork_serials = (tree_same i).serials; clock = clock i },
           );
       within = λ entries w. record {
         ticks = omega (arith, clock, w.ticks);
@@ -222,7 +263,7 @@ module _ {P : Type 0} {b : _} (m : System P b) (f : Fork) (trees : IsTree m.tree
         serials = λ u. subst (λ (x : P). b.means.serial x u ≤ most_makings * entries + 1) (sym pages_are) (serials_still entries w u);
       };
       most = ap b.means.most pages_are ∙ waits.unmade.most;
-      needed = subst (λ (x : P). IsNeeded b.means.store call_frames x n) (sym pages_are) waits.needed;
+      needed = subst (λ (x : P). IsNeeded b.means.store text_frames x n) (sym pages_are) waits.needed;
     }
       where
         serials_still : (entries : ℕ) → IsWithin m entries → (u : Tty) → b.means.serial q u ≤ most_makings * entries + 1

@@ -1,7 +1,9 @@
 -- One unit of a fork, as an entry of the plain machine.
-use Rattle.std.proofs.Common.{◌≡◌, ℕ, ◌&&◌, ◌∷◌, ◌++◌, [], Bool, true, false, cond, not, Option, None, Some, refl, sym, ◌∙◌, ap, subst, ◌==◌, is_some}
+use Rattle.std.proofs.Common.{◌≡◌, ℕ, List, ◌&&◌, ◌∷◌, ◌++◌, [], Bool, true, false, cond, not, Option, None, Some, refl, sym, ◌∙◌, ap, subst, ◌==◌, is_some}
 use Rattle.std.proofs.lemmas.Bool.{cond_both, ne_eqb}
 use Rattle.std.specs.Ordering.{nat_cmp}
+use Rattle.std.specs.Cmp.{nat_cmp_total}
+use Rattle.std.specs.Cmp.Lexicographic.{nat_list_cmp_total}
 use Rattle.std.specs.Option.{option_map, option_map_or, unwrap_or}
 use Rattle.std.specs.FinMap as fin
 use Rattle.plain_model.specs.declared.call.End.{End}
@@ -17,8 +19,8 @@ use Rattle.machine_names.specs.declared.names.TheConstants.{MOST_FORKS}
 use Rattle.machine_names.specs.declared.names.ForkName.{ForkName}
 use Rattle.machine_names.specs.declared.names.Tty.{Tty}
 use Rattle.plain_model.specs.Calls.{Came, Turn, fork_behind, is_among, no_files, numbered, parts_behind, posted_if, turn_on, with_error}
-use Rattle.plain_model.specs.Families.{Parts, Turned, behind as family_behind, call_turned, print_calls, own_changed, asks, forks_changed, pages_changed}
-use Rattle.plain_model.specs.FileCalls.{file_call, file_calls}
+use Rattle.plain_model.specs.Families.{Parts, Turned, behind as family_behind, call_turned, print_calls, own_changed, asks, asks_jfns, forks_changed, jfns_changed, names_seen, pages_changed}
+use Rattle.plain_model.specs.FileCalls.{file_call, file_calls, jfn_call, jfn_calls}
 use Rattle.plain_model.specs.ForkCalls.{fork_call, fork_calls}
 use Rattle.plain_model.specs.Forks.{ForkMap, counted, is_frozen, superior_of, with_regs}
 use Rattle.plain_model.specs.Interrupts.{is_panic, posted}
@@ -28,9 +30,9 @@ use Rattle.plain_model.specs.Run.{IsLegalStep, apply, unit_line}
 use Rattle.plain_pages.specs.PlainPages.{NumberedPages}
 use Rattle.plain_model.specs.State.{PlainJob, PlainState}
 use Rattle.plain_units.specs.Steps.{Planned, call, done, need, pages_left, stopped as unit_stopped, trap}
-use Rattle.plain_model.specs.Unit.{Effect, called, in_command_mode, over, printed, stop_text, stopped, turn_printed, turned, unit, unit_ended, went}
+use Rattle.plain_model.specs.Unit.{Effect, called, in_command_mode, over, printed, stop_text, stopped, turn_printed, turned, unit, unit_ended, went, with_parts}
 use Rattle.plain_units.specs.Units.{unit_on}
-use Rattle.plain_model.proofs.Calling.{MakesNone, file_makes_none, forks_behind, nothing_behind, pages_behind, print_makes_none}
+use Rattle.plain_model.proofs.Calling.{MakesNone, file_makes_none, forks_behind, jfns_behind, nothing_behind, pages_behind, print_makes_none}
 use Rattle.plain_model.proofs.Equations.{apply_unit, unit_some}
 use Rattle.plain_model.proofs.ForkMaps.{AreOwn, put_itself, superior_tells}
 use Rattle.plain_model.proofs.Posted.{posted_same}
@@ -43,13 +45,14 @@ use Rattle.fork_calls.proofs.Places.{Keep, waiters_keep}
 use Rattle.monitor_core.specs.declared.shown.Shown.{Shown}
 use Rattle.monitor_core.specs.declared.shown.Stop.{Stop}
 use Rattle.monitor_core.specs.declared.shown.Stop.TheVariants.{GoesOn, Halted, Forced}
-use Rattle.monitor_core.specs.ForkUnit.{Behind, behind, behind_unit, called_behind, left_so, post_shown, turn_behind}
+use Rattle.monitor_core.specs.ForkUnit.{Behind, Rest, behind, behind_unit, called_behind, left_so, parts_in, post_shown, turn_behind}
 use Rattle.monitor_core.specs.Runners.{woken_where}
 use Rattle.monitor_core.specs.Shown.{is_stop, is_stopped, nothing, seen_of, seen_stop, shown_items, stands, stop_items, stop_of}
 use Rattle.monitor_core.proofs.CallerStays.{caller_stays}
 use Rattle.monitor_core.proofs.Keeping.{dropped_off, posted_off}
-use Rattle.plain_pages.proofs.Refiled.{NameAlike}
-use Rattle.monitor_core.proofs.Filed.{NamedFiles, call_keyed, keyed, unit_keyed}
+use Rattle.plain_model.proofs.RefiledCalls.{AreHeld, TurnsFiled, call_refiled, refiled_all}
+use Rattle.machine_names.proofs.OrderLemmas.{name_cmp_apart}
+use Rattle.monitor_core.proofs.Filed.{AreKept, IsIn, NamedFiles, kept_alike, kept_still, keyed, unit_files, unit_keyed}
 
 -- the jobs once the monitor reads a terminal, if it does
 abbrev pub jobs_seen : fin.FinMap nat_cmp PlainJob → Tty → Bool → fin.FinMap nat_cmp PlainJob
@@ -173,12 +176,17 @@ module _ (f : Fork) where
   turn_stays (end.Failed code) = (refl, refl)
   turn_stays (end.Trap channel) = posted_stays f channel (refl, refl)
 
--- a state of trees in which a fork can run, over these pages, with these pages of files
-pub record Runs (filed : NamedFiles) (s : PlainState) (f : Fork) (p : NumberedPages) : Type 0 where
+-- what a state has besides pages
+abbrev pub rest_in_state : PlainState → Rest
+rest_in_state s = record { tree = tree_of s; files = s.files; jobs = s.jobs }
+
+-- a state of trees in which a fork can run, over these pages, with these pages of files; files have these numbers
+pub record Runs (key : List ℕ → ℕ) (filed : NamedFiles) (s : PlainState) (f : Fork) (p : NumberedPages) : Type 0 where
   pub trees : IsTree (tree_of s)
   pub fork : fin.get s.forks f.name ≡ Some f
   pub pages : s.pages ≡ keyed filed p
-  pub alike : NameAlike name_cmp p filed
+  pub kept : AreKept (IsIn s.files) key p filed
+  pub held : AreHeld (parts_in (rest_in_state s) p)
   pub quiet : s.trace ≡ false
   pub off : f.body.psi.on ≡ false
   pub runs : f.body.status ≡ Run
@@ -188,9 +196,10 @@ pub record Runs (filed : NamedFiles) (s : PlainState) (f : Fork) (p : NumberedPa
 abbrev pub behind_state : NamedFiles → PlainState → Fork → Behind → PlainState
 behind_state filed s f b = record s {
   pages = keyed filed b.pages;
-  jobs = jobs_seen s.jobs f.name.tty (is_stop (seen_of f.slot b.shown));
-  forks = woken_where b.tree.forks f.name.tty (is_stop b.shown);
-  fork_serials = b.tree.serials;
+  files = b.rest.files;
+  jobs = jobs_seen b.rest.jobs f.name.tty (is_stop (seen_of f.slot b.shown));
+  forks = woken_where b.rest.tree.forks f.name.tty (is_stop b.shown);
+  fork_serials = b.rest.tree.serials;
 }
 
 abbrev pub effect_of : NamedFiles → PlainState → Fork → Behind → Effect
@@ -198,9 +207,15 @@ effect_of filed s f b = record { state = behind_state filed s f b; items = shown
 
 -- where a fork has stopped, the forks take no channel
 abbrev pub StopsQuietly : Behind → Type 0
-StopsQuietly b = is_stop b.shown ≡ true → AreQuiet b.tree.forks
+StopsQuietly b = is_stop b.shown ≡ true → AreQuiet b.rest.tree.forks
 
-module _ (filed : NamedFiles) (s : PlainState) (f : Fork) (p : NumberedPages) (t : Runs filed s f p) where
+-- an effect is that of what is behind the unit, with some pages of files, which are those under the numbers
+pub record ComesTo (key : List ℕ → ℕ) (s : PlainState) (f : Fork) (x : Effect) (b : Behind) : Type 0 where
+  pub filed : NamedFiles
+  pub is : x ≡ effect_of filed s f b
+  pub kept : AreKept (λ name. IsIn s.files name × IsIn b.rest.files name) key b.pages filed
+
+module _ (key : List ℕ → ℕ) (filed : NamedFiles) (s : PlainState) (f : Fork) (p : NumberedPages) (t : Runs key filed s f p) where
   -- the forks without a superior are those in slot 1
   top : is_some f.superior ≡ not (f.slot == 1)
   top = by f.superior refl
@@ -212,22 +227,27 @@ module _ (filed : NamedFiles) (s : PlainState) (f : Fork) (p : NumberedPages) (t
       by None none = ap (λ n. not (n == 1)) (sym (tops.0 none))
       by (Some n) some = ap not (sym (ne_eqb f.slot 1 (λ first. let both : Some n ≡ None = sym some ∙ tops.1 first in cc both)))
 
-  -- an effect is that of what is behind the unit
-  abbrev Comes : Effect → Behind → Type 0
-  Comes x b = StopsQuietly b → x ≡ effect_of filed s f b
+  abbrev rest : Rest
+  rest = rest_in_state s
 
-  on_pages : (q : NumberedPages) (g : Fork) (shown : Shown) → EndsAs f g shown → Comes (unit_ended (record s { pages = keyed filed q }) g g.body.status) (left_so (tree_of s) (counted g) q shown)
-  on_pages q g shown e quiet =
-      ended_as (record s { pages = keyed filed q }) f top g e.name e.superior (λ stops. quiet (ap is_stop e.shown ∙ stops))
-      ∙ ap (λ x. effect_of filed s f (left_so (tree_of s) (counted g) q x)) (sym e.shown)
+  abbrev Comes : Effect → Behind → Type 0
+  Comes x b = StopsQuietly b → ComesTo key s f x b
+
+  on_pages : (q : NumberedPages) → q.files ≡ p.files → (g : Fork) (shown : Shown) → EndsAs f g shown → Comes (unit_ended (record s { pages = keyed filed q }) g g.body.status) (left_so rest (counted g) q shown)
+  on_pages q same g shown e quiet = record {
+    filed = filed;
+    is = ended_as (record s { pages = keyed filed q }) f top g e.name e.superior (λ stops. quiet (ap is_stop e.shown ∙ stops))
+        ∙ ap (λ x. effect_of filed s f (left_so rest (counted g) q x)) (sym e.shown);
+    kept = kept_still (IsIn s.files) key p filed t.kept q same;
+  }
 
   -- a turn of a monitor call
   module _ (number : ℕ) where
     abbrev asked_of : Parts nat_cmp
-    asked_of = record { tree = tree_of s; pages = p }
+    asked_of = parts_in rest p
 
     abbrev gone : Turned nat_cmp
-    gone = call_turned asked_of f.name f.body.regs number
+    gone = call_turned key asked_of f.name f.body.regs number
 
     -- the fork that called is among the forks that the turn leaves
     abbrev HasCaller : Turned nat_cmp → Type 0
@@ -257,48 +277,72 @@ module _ (filed : NamedFiles) (s : PlainState) (f : Fork) (p : NumberedPages) (t
         let c = turn_on no_files p (map_call number (asks asked_of f.name f.body.regs)) in
         family_caller pages_changed c _ (pages_behind asked_of c.pages c.end) t.fork
 
+    jfn_caller : HasCaller (family_behind (jfns_changed key) asked_of f.name (turn_on (names_seen asked_of f.name) p (jfn_call number (asks_jfns asked_of f.name f.body.regs))))
+    jfn_caller =
+        let c = turn_on (names_seen asked_of f.name) p (jfn_call number (asks_jfns asked_of f.name f.body.regs)) in
+        family_caller (jfns_changed key) c _ (jfns_behind key asked_of c.pages c.end) t.fork
+
     caller_there : HasCaller gone
     caller_there =
         cond_both (is_among print_calls number) _ _ HasCaller (λ is. own_caller (numbered print_calls number f.body.regs) (print_makes_none p number f.body.regs)) (λ n1.
         cond_both (is_among fork_calls number) _ _ HasCaller (λ is. fork_caller) (λ n2.
         cond_both (is_among map_calls number) _ _ HasCaller (λ is. map_caller) (λ n3.
         cond_both (is_among file_calls number) _ _ HasCaller (λ is. own_caller (file_call number (asks asked_of f.name f.body.regs)) (file_makes_none p number (asks asked_of f.name f.body.regs))) (λ n4.
-        (posted f ILLEGAL_INSTRUCTION, ap (option_map (λ g. posted g ILLEGAL_INSTRUCTION)) t.fork, posted_stays f f ILLEGAL_INSTRUCTION (refl, refl))))))
+        cond_both (is_among jfn_calls number) _ _ HasCaller (λ is. jfn_caller) (λ n5.
+        (posted f ILLEGAL_INSTRUCTION, ap (option_map (λ g. posted g ILLEGAL_INSTRUCTION)) t.fork, posted_stays f f ILLEGAL_INSTRUCTION (refl, refl)))))))
 
-    called_as : Comes (called s f number) (called_behind (tree_of s) f p number)
+    -- the same turn where files are known by their names
+    abbrev named : Turned name_cmp
+    named = call_turned (λ name. name) (refiled_all name_cmp filed asked_of) f.name f.body.regs number
+
+    named_turns : TurnsFiled name_cmp key (λ name. name) asked_of gone named
+    named_turns = call_refiled nat_cmp_total fin.nat_cmp-IsAntisymmetric nat_list_cmp_total name_cmp_apart key (λ name. name) filed asked_of t.kept f.name t.held f.body.regs number
+
+    called_as : Comes (called s f number) (called_behind key rest f p number)
     called_as quiet =
         let g = caller_there.0 in
         let stays = caller_there.2 in
-        let left : PlainState = record s { forks = gone.parts.tree.forks; fork_serials = gone.parts.tree.serials; pages = keyed filed gone.parts.pages } in
-        let behind_is : called_behind (tree_of s) f p number ≡ turn_behind gone.parts.tree gone.parts.pages gone.out g = ap (λ (o : Option Fork). turn_behind gone.parts.tree gone.parts.pages gone.out (unwrap_or o f)) caller_there.1 in
-        ap (λ q. turned s f.name.tty (call_turned (record { tree = tree_of s; pages = q }) f.name f.body.regs number)) t.pages
-        ∙ ap (turned s f.name.tty) (call_keyed filed p t.alike (tree_of s) f.name f.body.regs number)
-        ∙ ap (λ (o : Option Fork). turned s f.name.tty (record { parts = record { tree = gone.parts.tree; pages = keyed filed gone.parts.pages }; caller = o; out = gone.out })) caller_there.1
-        ∙ ap (λ (e : Effect). record e { items = turn_printed f.name.tty gone.out ++ e.items }) (ended_as left f top g stays.0 stays.1 (subst StopsQuietly behind_is quiet))
-        ∙ ap (effect_of filed s f) (sym behind_is)
+        let left_files = named.parts.pages.files in
+        let left : PlainState = with_parts s (refiled_all name_cmp left_files gone.parts) in
+        let behind_is : called_behind key rest f p number ≡ turn_behind gone.parts gone.out g = ap (λ (o : Option Fork). turn_behind gone.parts gone.out (unwrap_or o f)) caller_there.1 in
+        record {
+          filed = left_files;
+          is = ap (λ q. turned s f.name.tty (call_turned (λ (name : List ℕ). name) (record { tree = tree_of s; pages = q; files = s.files; jobs = s.jobs }) f.name f.body.regs number)) t.pages
+              ∙ ap (turned s f.name.tty) named_turns.same
+              ∙ ap (λ (o : Option Fork). turned s f.name.tty (record { parts = refiled_all name_cmp left_files gone.parts; caller = o; out = gone.out })) caller_there.1
+              ∙ ap (λ (e : Effect). record e { items = turn_printed f.name.tty gone.out ++ e.items }) (ended_as left f top g stays.0 stays.1 (subst StopsQuietly behind_is quiet))
+              ∙ ap (effect_of left_files s f) (sym behind_is);
+          kept = named_turns.keyed;
+        }
 
-  over_as : (x : Planned nat_cmp ⊥) → Comes (over s f (refiled_plan name_cmp filed x)) (behind (tree_of s) f p x)
-  over_as (done u e) quiet =
-      ap (λ q. went s f q e) (left_refiled name_cmp filed f.name u e)
-      ∙ on_pages (pages_left f.name u e) (posted_if (with_regs f e.regs) e.post) (post_shown e.post) (posted_if_ends f (with_regs f e.regs) e.post refl refl t.off t.runs) quiet
-  over_as (unit_stopped (trap channel)) quiet =
-      ap (λ q. unit_ended (record s { pages = q }) (posted f channel) (posted f channel).body.status) t.pages
-      ∙ on_pages p (posted f channel) (post_shown (Some channel)) (posted_ends f f channel refl refl t.off t.runs) quiet
-  over_as (unit_stopped (need none)) quiet = absurd none
-  over_as (call number) quiet = called_as number quiet
+  over_as : (x : Planned nat_cmp ⊥) → unit_on f.name p f.body.regs ≡ x → Comes (over s f (refiled_plan name_cmp filed x)) (behind key rest f p x)
+  over_as (done u e) runs quiet =
+      let c = on_pages (pages_left f.name u e) (unit_files p f.name f.body.regs u e runs) (posted_if (with_regs f e.regs) e.post) (post_shown e.post) (posted_if_ends f (with_regs f e.regs) e.post refl refl t.off t.runs) quiet in
+      record { filed = c.filed; is = ap (λ q. went s f q e) (left_refiled name_cmp filed f.name u e) ∙ c.is; kept = c.kept }
+  over_as (unit_stopped (trap channel)) runs quiet =
+      let c = on_pages p refl (posted f channel) (post_shown (Some channel)) (posted_ends f f channel refl refl t.off t.runs) quiet in
+      record { filed = c.filed; is = ap (λ q. unit_ended (record s { pages = q }) (posted f channel) (posted f channel).body.status) t.pages ∙ c.is; kept = c.kept }
+  over_as (unit_stopped (need none)) runs quiet = absurd none
+  over_as (call number) runs quiet = called_as number quiet
 
-  unit_as : Comes (unit s f.name) (behind_unit (tree_of s) f p)
+  unit_as : Comes (unit s f.name) (behind_unit key rest f p)
   unit_as quiet =
-      unit_some s f.name f t.fork
-      ∙ ap (λ q. over s f (unit_on f.name q f.body.regs)) t.pages
-      ∙ ap (over s f) (unit_keyed filed p t.alike f.name f.body.regs)
-      ∙ over_as (unit_on f.name p f.body.regs) quiet
+      let c = over_as (unit_on f.name p f.body.regs) refl quiet in
+      record {
+        filed = c.filed;
+        is = unit_some s f.name f t.fork
+            ∙ ap (λ q. over s f (unit_on f.name q f.body.regs)) t.pages
+            ∙ ap (over s f) (unit_keyed filed p (kept_alike (IsIn s.files) key p filed t.kept) f.name f.body.regs)
+            ∙ c.is;
+        kept = c.kept;
+      }
 
   -- an entry of the fork
-  pub step_as : StopsQuietly (behind_unit (tree_of s) f p) → apply s (AUnit f.name) ≡ effect_of filed s f (behind_unit (tree_of s) f p)
+  pub step_as : StopsQuietly (behind_unit key rest f p) → ComesTo key s f (apply s (AUnit f.name)) (behind_unit key rest f p)
   step_as quiet =
       let line : unit_line s f.name ≡ [] = ap (λ b. cond b (option_map_or (λ k. UnitLine f.name k.body.regs.pc ∷ []) (fin.get s.forks f.name) []) []) t.quiet in
-      apply_unit s f.name ∙ (λ i. record { state = (unit_as quiet i).state; items = line i ++ (unit_as quiet i).items })
+      let c = unit_as quiet in
+      record { filed = c.filed; is = apply_unit s f.name ∙ (λ i. record { state = (c.is i).state; items = line i ++ (c.is i).items }); kept = c.kept }
 
   -- which is legal
   pub step_legal : (auto : Bool) → IsLegalStep auto s (AUnit f.name)

@@ -1,5 +1,5 @@
 -- What units of a fork come to, by how they came out.
-use Rattle.std.proofs.Common.{◌≡◌, ℕ, zero, suc, ◌+◌, ◌≤◌, Option, None, Some, refl, sym, ◌∙◌, ap, arith}
+use Rattle.std.proofs.Common.{◌≡◌, ℕ, zero, suc, ◌+◌, ◌≤◌, List, Option, None, Some, refl, sym, ◌∙◌, ap, arith}
 use Rattle.std.specs.Option.{option_and_then}
 use Rattle.std.specs.Ordering.{nat_cmp}
 use Rattle.std.specs.FinMap as map
@@ -11,81 +11,80 @@ use Rattle.plain_pages.specs.PlainPages.{NumberedPages}
 use Rattle.plain_units.specs.Steps.{call, stopped, trap}
 use Rattle.plain_model.specs.Calls.{posted_if}
 use Rattle.plain_units.specs.Units.{unit_on}
-use Rattle.plain_model.specs.Trees.{PlainTree}
 use Rattle.machine_names.proofs.OrderLemmas.{fork_cmp_total, fork_cmp_apart}
 use Rattle.plain_model.proofs.Posted.{posted_same}
 use Rattle.ka10_in_place.specs.Once.{After, once, in_a_row}
 use Rattle.ka10_in_place.specs.Bursts.{and_one_more}
 use Rattle.monitor_core.specs.Shown.{nothing}
-use Rattle.monitor_core.specs.ForkUnit.{Behind, RanUnits, RanUpTo, behind, behind_unit, called_behind, left_so, post_shown, put_back, ran_on}
+use Rattle.monitor_core.specs.ForkUnit.{Behind, RanUnits, RanUpTo, Rest, behind, behind_unit, called_behind, left_so, post_shown, put_in, ran_on}
 use Rattle.monitor_core.specs.declared.shown.Shown.{Shown}
 use Rattle.monitor_core.proofs.Maps.{insert_twice}
 use Rattle.monitor_core.proofs.Silent.{once_as, row_more, silent_unit}
 
 -- a fork that is put back twice
-pub put_twice : (tree : PlainTree) (f g : Fork) (q : NumberedPages) (shown : Shown) → g.name ≡ f.name → left_so (put_back tree f) g q shown ≡ left_so tree g q shown
-put_twice tree f g q shown same =
-    let forks = ap (λ name. map.insert (map.insert tree.forks name f) g.name g) (sym same) ∙ insert_twice fork_cmp_total fork_cmp_apart tree.forks g.name f g in
-    λ i. record { tree = record tree { forks = forks i }; fork = g; pages = q; shown = shown }
+pub put_twice : (rest : Rest) (f g : Fork) (q : NumberedPages) (shown : Shown) → g.name ≡ f.name → left_so (put_in rest f) g q shown ≡ left_so rest g q shown
+put_twice rest f g q shown same =
+    let forks = ap (λ name. map.insert (map.insert rest.tree.forks name f) g.name g) (sym same) ∙ insert_twice fork_cmp_total fork_cmp_apart rest.tree.forks g.name f g in
+    λ i. record { rest = record rest { tree = record rest.tree { forks = forks i } }; fork = g; pages = q; shown = shown }
 
 -- a fork to which a channel is posted keeps its name
 ended_name : (h : Fork) (post : Option ℕ) → (posted_if h post).name ≡ h.name
 ended_name h None = refl
 ended_name h (Some channel) = let same = posted_same h channel in same.0
 
-module _ (tree : PlainTree) (f : Fork) (p q : NumberedPages) (regs : Regs) where
+module _ (key : List ℕ → ℕ) (rest : Rest) (f : Fork) (p q : NumberedPages) (regs : Regs) where
   -- it is done
   pub done_behind : (post : Option ℕ) → once f.name p f.body.regs ≡ Some (record { pages = q; regs = regs; post = post })
-      → behind_unit tree f p ≡ left_so tree (counted (posted_if (with_regs f regs) post)) q (post_shown post)
+      → behind_unit key rest f p ≡ left_so rest (counted (posted_if (with_regs f regs) post)) q (post_shown post)
   done_behind post went =
       let o = once_as f.name p f.body.regs (record { pages = q; regs = regs; post = post }) went in
-      ap (behind tree f p) o.2 ∙ (λ i. left_so tree (counted (posted_if (with_regs f (o.3 i).regs) (o.3 i).post)) (o.3 i).pages (post_shown (o.3 i).post))
+      ap (behind key rest f p) o.2 ∙ (λ i. left_so rest (counted (posted_if (with_regs f (o.3 i).regs) (o.3 i).post)) (o.3 i).pages (post_shown (o.3 i).post))
 
   -- it traps
   pub trap_behind : (channel : ℕ) → unit_on f.name p f.body.regs ≡ stopped (trap channel) → q ≡ p → regs ≡ f.body.regs
-      → behind_unit tree f p ≡ left_so tree (counted (posted (with_regs f regs) channel)) q (post_shown (Some channel))
+      → behind_unit key rest f p ≡ left_so rest (counted (posted (with_regs f regs) channel)) q (post_shown (Some channel))
   trap_behind channel traps same regs_same =
-      ap (behind tree f p) traps ∙ (λ i. left_so tree (counted (posted (with_regs f (sym regs_same i)) channel)) (sym same i) (post_shown (Some channel)))
+      ap (behind key rest f p) traps ∙ (λ i. left_so rest (counted (posted (with_regs f (sym regs_same i)) channel)) (sym same i) (post_shown (Some channel)))
 
 -- units in a row, and the one behind them
-module _ (tree : PlainTree) (f : Fork) (p : NumberedPages) (n : ℕ) where
-  pub one_behind : (a : After nat_cmp) (last : Behind) → in_a_row f.name n p f.body.regs ≡ Some a → behind_unit (put_back tree (ran_on f n a.regs)) (ran_on f n a.regs) a.pages ≡ last → RanUnits tree f p (n + 1) last
+module _ (key : List ℕ → ℕ) (rest : Rest) (f : Fork) (p : NumberedPages) (n : ℕ) where
+  pub one_behind : (a : After nat_cmp) (last : Behind) → in_a_row f.name n p f.body.regs ≡ Some a → behind_unit key (put_in rest (ran_on f n a.regs)) (ran_on f n a.regs) a.pages ≡ last → RanUnits key rest f p (n + 1) last
   one_behind a last row is = record { before = n; counts = omega arith; after = a; row = row; ends = is }
 
   -- the one behind them posts
-  pub post_behind : (b : After nat_cmp) → and_one_more f.name n p f.body.regs ≡ Some b → RanUnits tree f p (n + 1) (left_so tree (counted (posted_if (ran_on f n b.regs) b.post)) b.pages (post_shown b.post))
+  pub post_behind : (b : After nat_cmp) → and_one_more f.name n p f.body.regs ≡ Some b → RanUnits key rest f p (n + 1) (left_so rest (counted (posted_if (ran_on f n b.regs) b.post)) b.pages (post_shown b.post))
   post_behind b h = by (in_a_row f.name n p f.body.regs) refl h
     where
       by : (o : Option (After nat_cmp)) → in_a_row f.name n p f.body.regs ≡ o → option_and_then (λ a. once f.name a.pages a.regs) o ≡ Some b
-          → RanUnits tree f p (n + 1) (left_so tree (counted (posted_if (ran_on f n b.regs) b.post)) b.pages (post_shown b.post))
+          → RanUnits key rest f p (n + 1) (left_so rest (counted (posted_if (ran_on f n b.regs) b.post)) b.pages (post_shown b.post))
       by None row is = absurd (cc is)
       by (Some a) row is =
           let last = counted (posted_if (ran_on f n b.regs) b.post) in
           one_behind a _ row
-          (done_behind (put_back tree (ran_on f n a.regs)) (ran_on f n a.regs) a.pages b.pages b.regs b.post is
-          ∙ put_twice tree (ran_on f n a.regs) last b.pages (post_shown b.post) (ended_name (ran_on f n b.regs) b.post))
+          (done_behind key (put_in rest (ran_on f n a.regs)) (ran_on f n a.regs) a.pages b.pages b.regs b.post is
+          ∙ put_twice rest (ran_on f n a.regs) last b.pages (post_shown b.post) (ended_name (ran_on f n b.regs) b.post))
 
   -- it is a monitor call
-  pub call_behind : (g : Fork) (q : NumberedPages) (number : ℕ) (last : Behind) → RanUpTo f p n g q → unit_on f.name q g.body.regs ≡ call number → called_behind (put_back tree g) g q number ≡ last → RanUnits tree f p (n + 1) last
+  pub call_behind : (g : Fork) (q : NumberedPages) (number : ℕ) (last : Behind) → RanUpTo f p n g q → unit_on f.name q g.body.regs ≡ call number → called_behind key (put_in rest g) g q number ≡ last → RanUnits key rest f p (n + 1) last
   call_behind g q number last r calls is =
       let on : unit_on f.name r.after.pages r.after.regs ≡ call number = ap (λ x. unit_on f.name x r.after.regs) r.pages ∙ ap (λ x. unit_on f.name q x) (ap (λ (h : Fork). h.body.regs) r.fork) ∙ calls in
       one_behind r.after last r.row
-      (ap (behind (put_back tree (ran_on f n r.after.regs)) (ran_on f n r.after.regs) r.after.pages) on ∙ (λ i. called_behind (put_back tree (r.fork i)) (r.fork i) (r.pages i) number) ∙ is)
+      (ap (behind key (put_in rest (ran_on f n r.after.regs)) (ran_on f n r.after.regs) r.after.pages) on ∙ (λ i. called_behind key (put_in rest (r.fork i)) (r.fork i) (r.pages i) number) ∙ is)
 
 -- units in a row alone
-pub row_ran : (tree : PlainTree) (f : Fork) (p : NumberedPages) (n : ℕ) (b : After nat_cmp) → 1 ≤ n → in_a_row f.name n p f.body.regs ≡ Some b → RanUnits tree f p n (left_so tree (ran_on f n b.regs) b.pages nothing)
-row_ran tree f p zero b some row = absurd (omega arith)
-row_ran tree f p (suc n) b some row =
+pub row_ran : (key : List ℕ → ℕ) (rest : Rest) (f : Fork) (p : NumberedPages) (n : ℕ) (b : After nat_cmp) → 1 ≤ n → in_a_row f.name n p f.body.regs ≡ Some b → RanUnits key rest f p n (left_so rest (ran_on f n b.regs) b.pages nothing)
+row_ran key rest f p zero b some row = absurd (omega arith)
+row_ran key rest f p (suc n) b some row =
     let more = row_more f.name n p f.body.regs b row in
     let a = more.before in
-    let on = put_back tree (ran_on f n a.regs) in
+    let on = put_in rest (ran_on f n a.regs) in
     let counts : f.body.units + n + 1 ≡ f.body.units + suc n = omega arith in
     record {
       before = n;
       counts = refl;
       after = a;
       row = more.row;
-      ends = silent_unit on (ran_on f n a.regs) a.pages b more.unit more.silent
-          ∙ put_twice tree (ran_on f n a.regs) (counted (with_regs (ran_on f n a.regs) b.regs)) b.pages nothing refl
-          ∙ (λ i. left_so tree (record f { body = record f.body { regs = b.regs; units = counts i } }) b.pages nothing);
+      ends = silent_unit key on (ran_on f n a.regs) a.pages b more.unit more.silent
+          ∙ put_twice rest (ran_on f n a.regs) (counted (with_regs (ran_on f n a.regs) b.regs)) b.pages nothing refl
+          ∙ (λ i. left_so rest (record f { body = record f.body { regs = b.regs; units = counts i } }) b.pages nothing);
     }

@@ -1,9 +1,12 @@
--- What a unit does to its own fork and its pages, and what it shows; and so many of them in a row.
-use Rattle.std.specs.Prelude.{◌≡◌, ◌⊎◌, true, ℕ, suc, ◌+◌, ◌≤◌, ◌<◌, ◌^◌, length, Bool, Option, None, Some, IsSome, if◌then◌else◌}
+-- What a unit does to its own fork and the pages and, where it is a call, to the forks, files and JFNs of all jobs, and what it shows; and so many of them in a row.
+use Rattle.std.specs.Prelude.{◌≡◌, ◌⊎◌, true, ℕ, suc, ◌+◌, ◌≤◌, ◌<◌, ◌^◌, List, length, Bool, Option, None, Some, IsSome, if◌then◌else◌}
 use Rattle.std.specs.Option.{option_map, unwrap_or}
 use Rattle.std.specs.Ordering.{nat_cmp}
 use Rattle.std.specs.FinMap as map
-use Rattle.machine_names.specs.declared.names.TheConstants.{ACCUMULATORS}
+use Rattle.machine_names.specs.declared.names.TheConstants.{ACCUMULATORS, TERMINALS}
+use Rattle.machine_names.specs.declared.names.Tty.{Tty}
+use Rattle.machine_names.specs.Bounds.{IsTerminal}
+use Rattle.machine_names.specs.Orders.{name_cmp}
 use Rattle.machine_names.specs.declared.names.ForkName.{ForkName}
 use Rattle.plain_units.specs.declared.channel.TheConstants.{ILLEGAL_INSTRUCTION}
 use Rattle.call_turns.specs.declared.answer.Answer.{Answer}
@@ -13,6 +16,9 @@ use Rattle.plain_model.specs.declared.fork.Fork.{Fork}
 use Rattle.plain_units.specs.declared.registers.Regs.{Regs}
 use Rattle.script_texts.specs.declared.status.ForkStatus.TheVariants.{Wait as AWait, Halted as AHalted}
 use Rattle.plain_pages.specs.PlainPages.{NumberedPages}
+use Rattle.plain_files.specs.Directory.{Files, IsAbsent}
+use Rattle.plain_files.specs.Sizes.{PlainFile}
+use Rattle.plain_model.specs.FileCalls.{Jobs}
 use Rattle.plain_model.specs.Calls.{behind_call, failed_regs, posted_if, with_error}
 use Rattle.plain_model.specs.Families.{Parts, Turned, call_turned}
 use Rattle.plain_units.specs.Steps.{Planned, done, call, trap, need, stopped as unit_stopped, pages_left}
@@ -26,9 +32,14 @@ use Rattle.ka10_unit.specs.Taking.{most_frames}
 use Rattle.plain_model.specs.Trees.{PlainTree}
 use Rattle.ka10_in_place.specs.Once.{After, in_a_row}
 use Rattle.fork_tree.specs.Trees.{Lives}
+use Rattle.file_tables.specs.declared.tables.FileTables.{FileTables}
+use Rattle.file_tables.specs.Tables.{files_of, open_of}
+use Rattle.file_calls.specs.Asking.{key_in}
+use Rattle.text_pointers.specs.Reading.{text_frames}
 use Rattle.page_contracts.specs.declared.answers.Need.{Need}
 use Rattle.fork_calls.specs.Holding.{CallLeaves, Holds, IsNew, MakesPages, TopsStay}
-use Rattle.fork_calls.specs.Needing.{call_frames}
+use Rattle.monitor_core.specs.declared.job.Job.{Job}
+use Rattle.monitor_core.specs.Jobs.{AreUnheld, job_at, jobs_of}
 use Rattle.monitor_core.specs.Limits.{FitsForced, IsBody}
 use Rattle.monitor_core.specs.Shown.{FitsShown, nothing, shown_of, stands}
 use Rattle.monitor_core.specs.Writing.{Makes, most_makings}
@@ -54,9 +65,46 @@ abbrev pub post_shown : Option ℕ → Shown
 post_shown None = nothing
 post_shown (Some channel) = stands (if is_panic channel then Forced channel else GoesOn)
 
--- what is behind a unit: the forks of all jobs with its own, that fork, the pages, and what it shows. Who waits for it is not woken yet
-pub record Behind : Type 0 where
+-- the tables that a unit may change, besides the pages
+pub record Tables : Type 0 where
   pub tree : PlainTree
+  pub files : FileTables
+  pub jobs : List (Option Job)
+
+abbrev pub tables_in : PlainTree → FileTables → List (Option Job) → Tables
+tables_in tree files jobs = record { tree = tree; files = files; jobs = jobs }
+
+-- what the plain machine has of them: the forks of all jobs, the files and the jobs
+pub record Rest : Type 0 where
+  pub tree : PlainTree
+  pub files : map.FinMap name_cmp PlainFile
+  pub jobs : Jobs
+
+abbrev pub rest_of : Tables → Rest
+rest_of t = record { tree = t.tree; files = files_of t.files; jobs = jobs_of (open_of t.files) t.jobs }
+
+-- the same with pages, and without them
+abbrev pub parts_in : Rest → NumberedPages → Parts nat_cmp
+parts_in r p = record { tree = r.tree; pages = p; files = r.files; jobs = r.jobs }
+
+abbrev pub rest_in : Parts nat_cmp → Rest
+rest_in v = record { tree = v.tree; files = v.files; jobs = v.jobs }
+
+-- each file that is there now was there under its number, or neither its number nor its name was
+abbrev pub NumbersStay : Files → Files → Type 0
+NumbersStay old new = (f : ℕ) (name : List ℕ) → map.get new f ≡ Some name → (map.get old f ≡ Some name) ⊎ ((map.get old f ≡ None) × IsAbsent old name)
+
+-- the job of a terminal is there, and no JFN is held where no job is
+pub record HasJob (files : FileTables) (jobs : List (Option Job)) (t : Tty) : Type 0 where
+  pub terminal : IsTerminal t
+  pub room : length jobs ≡ TERMINALS
+  pub there : IsSome (job_at jobs t.0)
+  pub unheld : AreUnheld (open_of files) jobs
+
+-- what is behind a unit: the forks of all jobs with its own, the files and the jobs, that fork, the pages, and what it shows. Who waits
+-- for it is not woken yet
+pub record Behind : Type 0 where
+  pub rest : Rest
   pub fork : Fork
   pub pages : NumberedPages
   pub shown : Shown
@@ -65,41 +113,44 @@ pub record Behind : Type 0 where
 abbrev pub put_back : PlainTree → Fork → PlainTree
 put_back tree f = record tree { forks = map.insert tree.forks f.name f }
 
--- a unit leaves its fork so, and of the others nothing but this
-abbrev pub left_so : PlainTree → Fork → NumberedPages → Shown → Behind
-left_so tree f p shown = record { tree = put_back tree f; fork = f; pages = p; shown = shown }
+abbrev pub put_in : Rest → Fork → Rest
+put_in r f = record r { tree = put_back r.tree f }
 
--- what is behind a turn of a call that prints this, which leaves these forks and pages and its fork so, but for its count
-abbrev pub turn_behind : PlainTree → NumberedPages → Option ℕ → Fork → Behind
-turn_behind tree p out g = left_so tree (counted g) p (shown_of out g.body.status)
+-- a unit leaves its fork so, and of the rest nothing but this
+abbrev pub left_so : Rest → Fork → NumberedPages → Shown → Behind
+left_so r f p shown = record { rest = put_in r f; fork = f; pages = p; shown = shown }
 
--- what is behind a turn of a monitor call: the fork that called is as the change leaves it
-abbrev pub called_behind : PlainTree → Fork → NumberedPages → ℕ → Behind
-called_behind tree f p number =
-    let r = call_turned (record { tree = tree; pages = p }) f.name f.body.regs number in turn_behind r.parts.tree r.parts.pages r.out (unwrap_or r.caller f)
+-- what is behind a turn of a call that prints this, which leaves these parts and its fork so, but for its count
+abbrev pub turn_behind : Parts nat_cmp → Option ℕ → Fork → Behind
+turn_behind v out g = left_so (rest_in v) (counted g) v.pages (shown_of out g.body.status)
+
+-- what is behind a turn of a monitor call, where pages of files are under these keys: the fork that called is as the change leaves it
+abbrev pub called_behind : (List ℕ → ℕ) → Rest → Fork → NumberedPages → ℕ → Behind
+called_behind key rest f p number =
+    let r = call_turned key (parts_in rest p) f.name f.body.regs number in turn_behind r.parts r.out (unwrap_or r.caller f)
 
 -- what is behind a unit of a fork that comes to this
-abbrev pub behind : PlainTree → Fork → NumberedPages → Planned nat_cmp ⊥ → Behind
-behind tree f p (done t e) = left_so tree (counted (posted_if (with_regs f e.regs) e.post)) (pages_left f.name t e) (post_shown e.post)
-behind tree f p (unit_stopped (trap channel)) = left_so tree (counted (posted f channel)) p (post_shown (Some channel))
-behind tree f p (unit_stopped (need none)) = absurd none
-behind tree f p (call number) = called_behind tree f p number
+abbrev pub behind : (List ℕ → ℕ) → Rest → Fork → NumberedPages → Planned nat_cmp ⊥ → Behind
+behind key rest f p (done t e) = left_so rest (counted (posted_if (with_regs f e.regs) e.post)) (pages_left f.name t e) (post_shown e.post)
+behind key rest f p (unit_stopped (trap channel)) = left_so rest (counted (posted f channel)) p (post_shown (Some channel))
+behind key rest f p (unit_stopped (need none)) = absurd none
+behind key rest f p (call number) = called_behind key rest f p number
 
 -- what is behind one unit of a fork
-abbrev pub behind_unit : PlainTree → Fork → NumberedPages → Behind
-behind_unit tree f p = behind tree f p (unit_on f.name p f.body.regs)
+abbrev pub behind_unit : (List ℕ → ℕ) → Rest → Fork → NumberedPages → Behind
+behind_unit key rest f p = behind key rest f p (unit_on f.name p f.body.regs)
 
 -- a fork behind so many units that left these registers
 abbrev pub ran_on : Fork → ℕ → Regs → Fork
 ran_on f n regs = record f { body = record f.body { regs = regs; units = f.body.units + n } }
 
 -- so many units of a fork in a row: all but the last post nothing and show nothing, and the last leaves and shows this
-pub record RanUnits (tree : PlainTree) (f : Fork) (p : NumberedPages) (count : ℕ) (last : Behind) : Type 0 where
+pub record RanUnits (key : List ℕ → ℕ) (rest : Rest) (f : Fork) (p : NumberedPages) (count : ℕ) (last : Behind) : Type 0 where
   pub before : ℕ
   pub counts : count ≡ suc before
   pub after : After nat_cmp
   pub row : in_a_row f.name before p f.body.regs ≡ Some after
-  pub ends : behind_unit (put_back tree (ran_on f before after.regs)) (ran_on f before after.regs) after.pages ≡ last
+  pub ends : behind_unit key (put_in rest (ran_on f before after.regs)) (ran_on f before after.regs) after.pages ≡ last
 
 -- so many units in a row that post nothing and show nothing
 pub record RanUpTo (f : Fork) (p : NumberedPages) (count : ℕ) (g : Fork) (q : NumberedPages) : Type 0 where
@@ -110,13 +161,13 @@ pub record RanUpTo (f : Fork) (p : NumberedPages) (count : ℕ) (g : Fork) (q : 
 
 -- units in a row, by their last; behind the others a monitor call is still to be made, and a unit that needs something first is not begun
 abbrev pub IsRow : Fork → NumberedPages → ℕ → Fork → NumberedPages → Last → Type 0
-IsRow f p count g q (Shows shown) = (tree : PlainTree) → RanUnits tree f p count (left_so tree g q shown)
+IsRow f p count g q (Shows shown) = (key : List ℕ → ℕ) (rest : Rest) → RanUnits key rest f p count (left_so rest g q shown)
 IsRow f p count g q (Calls number) = RanUpTo f p count g q × (unit_on f.name q g.body.regs ≡ call number)
 IsRow f p count g q (Needs n) = RanUpTo f p count g q
 
 -- one unit, which is over, or is a call that is still to be made, or needs something first
 abbrev pub IsOne : Fork → NumberedPages → Fork → NumberedPages → Last → Type 0
-IsOne f p g q (Shows shown) = (tree : PlainTree) → behind_unit tree f p ≡ left_so tree g q shown
+IsOne f p g q (Shows shown) = (key : List ℕ → ℕ) (rest : Rest) → behind_unit key rest f p ≡ left_so rest g q shown
 IsOne f p g q (Calls number) = (f ≡ g) × (p ≡ q) × (unit_on f.name q g.body.regs ≡ call number)
 IsOne f p g q (Needs n) = (f ≡ g) × (p ≡ q)
 
@@ -203,14 +254,15 @@ abbrev pub answered_turn : Parts nat_cmp → ForkName → Answer → Turned nat_
 answered_turn v who a = record { parts = v; caller = option_map (λ f. answered f a) (map.get v.tree.forks who); out = out_in a }
 
 -- a turn of a call that has answered so left these parts; one that needs something first left all as it was
-abbrev pub TurnedSo : Parts nat_cmp → Parts nat_cmp → ForkName → Regs → ℕ → Answer → Type 0
-TurnedSo old new who regs number (answer.Need n) = new ≡ old
-TurnedSo old new who regs number a = call_turned old who regs number ≡ answered_turn new who a
+abbrev pub TurnedSo : (List ℕ → ℕ) → Parts nat_cmp → Parts nat_cmp → ForkName → Regs → ℕ → Answer → Type 0
+TurnedSo key old new who regs number (answer.Need n) = new ≡ old
+TurnedSo key old new who regs number a = call_turned key old who regs number ≡ answered_turn new who a
 
 -- a turn of a call went so, over each drum that fits
-abbrev pub Turns : {P : Type 0} → PagesMeaning P → P → P → PlainTree → PlainTree → ForkName → Regs → ℕ → Answer → Type 0
-Turns means old new tree tree' who regs number a = (d : DrumWords) → means.fits old d
-    → means.fits new d × TurnedSo (record { tree = tree; pages = means.plain old d }) (record { tree = tree'; pages = means.plain new d }) who regs number a
+pub record Turns {P : Type 0} (means : PagesMeaning P) (old new : P) (was is : Tables) (who : ForkName) (regs : Regs) (number : ℕ) (a : Answer) : Type 0 where
+  pub fits : (d : DrumWords) → means.fits old d → means.fits new d
+  pub told : (d : DrumWords) → means.fits old d → TurnedSo (key_in was.files) (parts_in (rest_of was) (means.plain old d)) (parts_in (rest_of is) (means.plain new d)) who regs number a
+  pub numbers : (d : DrumWords) → means.fits old d → NumbersStay was.files.dir is.files.dir
 
 -- a fork that lives stands where one stood that lived under its name, has run so many units more at most, and keeps its limits
 pub record CameOn (old : ForkMap) (count : ℕ) (f : Fork) : Type 0 where
@@ -234,37 +286,42 @@ pub record LeavesForks {P : Type 0} (means : PagesMeaning P) (old new : P) (tree
   pub made : MakesPages means f.name.tty most_makings old new
 
 -- a call of a fork was made, over each drum that fits, and showed this
-pub record Called {P : Type 0} (means : PagesMeaning P) (old new : P) (tree tree' : PlainTree) (f : Fork) (number : ℕ) (shown : Shown) : Type 0 where
+pub record Called {P : Type 0} (means : PagesMeaning P) (old new : P) (was is : Tables) (f : Fork) (number : ℕ) (shown : Shown) : Type 0 where
   pub after : Fork
   pub told : (d : DrumWords) → means.fits old d
-      → means.fits new d × (called_behind tree f (means.plain old d) number ≡ record { tree = tree'; fork = after; pages = means.plain new d; shown = shown })
+      → means.fits new d × (called_behind (key_in was.files) (rest_of was) f (means.plain old d) number ≡ record { rest = rest_of is; fork = after; pages = means.plain new d; shown = shown })
+  pub numbers : (d : DrumWords) → means.fits old d → NumbersStay was.files.dir is.files.dir
   pub keeps : Kept f after 1
-  pub leaves : LeavesForks means old new tree tree' f 1
+  pub leaves : LeavesForks means old new was.tree is.tree f 1
+  pub unheld : AreUnheld (open_of is.files) is.jobs
   pub fits : FitsShown shown
 
--- over each drum that fits, forks and pages are as they were
-abbrev pub StaysPlainly : {P : Type 0} → PagesMeaning P → P → P → PlainTree → PlainTree → Type 0
-StaysPlainly means old new tree tree' = (d : DrumWords) → means.fits old d → means.fits new d × (tree' ≡ tree) × (means.plain new d ≡ means.plain old d)
+-- files and JFNs are as they were, and over each drum that fits so are forks and pages
+pub record StaysPlainly {P : Type 0} (means : PagesMeaning P) (old new : P) (was is : Tables) : Type 0 where
+  pub files : is.files ≡ was.files
+  pub each : (d : DrumWords) → means.fits old d → means.fits new d × (is.tree ≡ was.tree) × (means.plain new d ≡ means.plain old d)
 
 -- a call was not made, since it needs this first, whatever the drum holds
-pub record CallWaits {P : Type 0} (means : PagesMeaning P) (old new : P) (tree tree' : PlainTree) (who : ForkName) (n : Need) : Type 0 where
-  pub told : StaysPlainly means old new tree tree'
-  pub left : CallLeaves means old new tree tree' who most_makings
+pub record CallWaits {P : Type 0} (means : PagesMeaning P) (old new : P) (was is : Tables) (who : ForkName) (n : Need) : Type 0 where
+  pub told : StaysPlainly means old new was is
+  pub left : CallLeaves means old new was.tree is.tree who most_makings
   pub unmade : MakesPages means who.tty 0 old new
-  pub needed : IsNeeded means.store call_frames new n
+  pub needed : IsNeeded means.store text_frames new n
 
 -- no unit was done, since the first needs this, whatever the drum holds
-pub record UnitWaits {P : Type 0} (means : PagesMeaning P) (old new : P) (tree tree' : PlainTree) (f : Fork) (n : Need) : Type 0 where
-  pub told : StaysPlainly means old new tree tree'
-  pub leaves : LeavesForks means old new tree tree' f 0
+pub record UnitWaits {P : Type 0} (means : PagesMeaning P) (old new : P) (was is : Tables) (f : Fork) (n : Need) : Type 0 where
+  pub told : StaysPlainly means old new was is
+  pub leaves : LeavesForks means old new was.tree is.tree f 0
   pub unmade : MakesPages means f.name.tty 0 old new
-  pub needed : IsNeeded means.store call_frames new n
+  pub needed : IsNeeded means.store text_frames new n
 
 -- units of a fork of a tree ran in a row, over each drum that fits: so many, and the last showed this
-pub record UnitsRan {P : Type 0} (means : PagesMeaning P) (old new : P) (tree tree' : PlainTree) (f : Fork) (units : Units) : Type 0 where
+pub record UnitsRan {P : Type 0} (means : PagesMeaning P) (old new : P) (was is : Tables) (f : Fork) (units : Units) : Type 0 where
   pub after : Fork
   pub told : (d : DrumWords) → means.fits old d
-      → means.fits new d × RanUnits tree f (means.plain old d) units.count (record { tree = tree'; fork = after; pages = means.plain new d; shown = units.shown })
+      → means.fits new d × RanUnits (key_in was.files) (rest_of was) f (means.plain old d) units.count (record { rest = rest_of is; fork = after; pages = means.plain new d; shown = units.shown })
+  pub numbers : (d : DrumWords) → means.fits old d → NumbersStay was.files.dir is.files.dir
   pub keeps : Kept f after units.count
-  pub leaves : LeavesForks means old new tree tree' f units.count
+  pub leaves : LeavesForks means old new was.tree is.tree f units.count
+  pub unheld : AreUnheld (open_of is.files) is.jobs
   pub shown : FitsShown units.shown

@@ -15,7 +15,7 @@ use Rattle.script_texts.specs.Limits.{FitsStep, IsBuilt}
 use Rattle.page_contracts.specs.DrumWords.{DrumWords}
 use Rattle.page_contracts.specs.declared.answers.Need.{Need}
 use Rattle.page_contracts.specs.Stores.{IsNeeded}
-use Rattle.fork_calls.specs.Needing.{call_frames}
+use Rattle.text_pointers.specs.Reading.{text_frames}
 use Rattle.plain_model.specs.Run.{apply, state_after, items_of, AreLegal}
 use Rattle.fork_tree.specs.Trees.{Lives}
 use Rattle.plain_model.specs.Forks.{IsRunnable}
@@ -82,4 +82,4 @@ pub record Waits {P : Type 0} {b : _} (old new : System P b) (n : Need) : Type 0
   pub each : (d : DrumWords) → FitsPages old d → FitsPages new d × (state_of new d ≡ state_of old d)
   pub within : (entries : ℕ) → IsWithin old entries → IsWithin new entries
   pub most : b.means.most new.pages ≡ b.means.most old.pages
-  pub needed : IsNeeded b.means.store call_frames new.pages n
+  pub needed : IsNeeded b.means.store text_frames new.pages n

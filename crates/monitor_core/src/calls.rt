@@ -2,6 +2,7 @@
 ghost use Rattle.std.specs.Prelude.{◌≡◌, ◌<◌, ◌%◌, ◌^◌, IfErr, IfOk, IsOk, IsSome, None, Some, false, length, slice_index, true};
 ghost use Rattle.std.specs.FinMap as map;
 ghost use Rattle.machine_names.specs.declared.names.TheConstants.{ACCUMULATORS};
+ghost use Rattle.file_tables.specs.Tables.{open_of};
 ghost use Rattle.plain_model.specs.declared.fork.Body.{Body as ABody};
 ghost use Rattle.plain_model.specs.declared.fork.Fork.{Fork as AFork};
 ghost use Rattle.script_texts.specs.declared.status.ForkStatus.{ForkStatus as AForkStatus};
@@ -14,17 +15,20 @@ ghost use Rattle.page_contracts.specs.declared.answers.Need.{Need as ANeed};
 ghost use Rattle.call_turns.specs.Answers.{AnswerNeeds, IsDone, answer_of};
 ghost use Rattle.call_turns.specs.Turns.{IsRegs};
 ghost use Rattle.fork_calls.specs.Holding.{CallLeaves, Holds, MakesPages};
-ghost use Rattle.fork_calls.specs.Needing.{call_frames};
+ghost use Rattle.text_pointers.specs.Reading.{text_frames};
 ghost use Rattle.fork_calls.specs.Limits.{AreWithin};
 ghost use Rattle.fork_calls.specs.Turning.{HasRegs};
 ghost use Rattle.monitor_core.specs.Shown.{shown_of};
-ghost use Rattle.monitor_core.specs.ForkUnit.{CallWaits, Called, Place as APlace, Turns, answered as answered_of, fork_of, out_in};
+ghost use Rattle.monitor_core.specs.Jobs.{AreUnheld};
+ghost use Rattle.monitor_core.specs.ForkUnit.{CallWaits, Called, HasJob, Place as APlace, Turns, answered as answered_of, fork_of, out_in, tables_in};
 
+use crate::job::Job;
 use crate::runner::Runner;
 use crate::shown::{Shown, stop_of};
 use crate::unit::post_channel;
 use call_turns::{Answer, behind};
-use file_calls::is_file_call;
+use file_calls::{is_file_call, is_jfn_call};
+use file_tables::FileTables;
 use fork_calls::is_fork_call;
 use fork_tree::Tree;
 use machine_names::ForkName;
@@ -76,14 +80,25 @@ fn print_call(number: u32, regs: &Regs) -> Answer
 
 // A turn of a monitor call, by its number: of the first family of calls that has the number. A number that is no call traps. One that
 // needs something first leaves all as it was.
-fn turn<P: Pages>(number: u32, regs: &Regs, who: ForkName, tree: &mut Tree, pages: &mut P) -> Answer
+fn turn<P: Pages>(
+    number: u32,
+    regs: &Regs,
+    who: ForkName,
+    tree: &mut Tree,
+    files: &mut FileTables,
+    jobs: &Vec<Option<Job>>,
+    pages: &mut P,
+) -> Answer
     requires regs { IsRegs regs.now }
     requires lives { IsSome (map.get tree.old.forks who) }
     requires holds { Holds P.means pages.old tree.old.forks }
     requires within { AreWithin tree.old.forks }
+    requires job { HasJob files.old jobs.now.items who.tty }
     requires serial { P.means.serial pages.old who.tty < 2 ^ 62 }
-    ensures told { Turns P.means pages.old pages.new tree.old tree.new who regs.now number result }
-    ensures needs { AnswerNeeds P.means.store call_frames pages.new result }
+    ensures told { Turns P.means pages.old pages.new (tables_in tree.old files.old jobs.now.items) (tables_in tree.new files.new jobs.now.items) who regs.now number result }
+    ensures unheld { AreUnheld (open_of files.new) jobs.now.items }
+    ensures stays { (n : ANeed) → result ≡ Answer.Need n → files.new ≡ files.old }
+    ensures needs { AnswerNeeds P.means.store text_frames pages.new result }
     ensures core { P.means.flat ≡ true → IsDone result }
     ensures unmade { (n : ANeed) → result ≡ Answer.Need n → MakesPages P.means who.tty 0 pages.old pages.new }
     ensures leaves { CallLeaves P.means pages.old pages.new tree.old tree.new who 128 }
@@ -100,6 +115,12 @@ fn turn<P: Pages>(number: u32, regs: &Regs, who: ForkName, tree: &mut Tree, page
     }
     if is_file_call(number) {
         return file_calls::call(number, regs, who, tree);
+    }
+    if is_jfn_call(number) {
+        let Some(job) = &jobs[who.tty.0 as usize] else {
+            unreachable!();
+        };
+        return file_calls::jfn_call(number, regs, who, &job.user, files, pages);
     }
     Answer::Trap(ILLEGAL_INSTRUCTION)
 }
@@ -204,6 +225,8 @@ fn answered(body: &mut Body, answer: Answer) -> Shown
 pub fn called<P: Pages>(
     tree: &mut Tree,
     pages: &mut P,
+    files: &mut FileTables,
+    jobs: &Vec<Option<Job>>,
     who: Runner,
     number: u32,
 ) -> Result<Shown, Need>
@@ -212,17 +235,18 @@ pub fn called<P: Pages>(
     requires can { AreWithin tree.old.forks }
     requires few { (f : AFork) → fork_in tree.old.forks who.fork.tty who.slot ≡ Some f → f.body.units < 2 ^ 63 }
     requires holds { Holds P.means pages.old tree.old.forks }
+    requires job { HasJob files.old jobs.now.items who.fork.tty }
     requires serial { P.means.serial pages.old who.fork.tty < 2 ^ 62 }
     ensures called { (at : APlace) (b : ABody) → fork_in tree.old.forks who.fork.tty who.slot ≡ Some (fork_of who.fork at b)
-        → IfOk result (Called P.means pages.old pages.new tree.old tree.new (fork_of who.fork at b) number) }
-    ensures needs { IfErr result (CallWaits P.means pages.old pages.new tree.old tree.new who.fork) }
+        → IfOk result (Called P.means pages.old pages.new (tables_in tree.old files.old jobs.now.items) (tables_in tree.new files.new jobs.now.items) (fork_of who.fork at b) number) }
+    ensures needs { IfErr result (CallWaits P.means pages.old pages.new (tables_in tree.old files.old jobs.now.items) (tables_in tree.new files.new jobs.now.items) who.fork) }
     ensures core { P.means.flat ≡ true → IsOk result }
 {
     let Some(fork) = tree.fork_at(who.fork.tty, who.slot) else {
         unreachable!();
     };
     let regs = fork.body.regs;
-    let answer = turn(number, &regs, who.fork, tree, pages);
+    let answer = turn(number, &regs, who.fork, tree, files, jobs, pages);
     if let Answer::Need(need) = answer {
         return Err(need);
     }

@@ -1,7 +1,7 @@
 //! The monitor's machine, over any pages: jobs and their forks, and one event after another, done as steps.
 //! To the layers above `Machine::event` gives a taker legal steps that follow the event, with their items.
 //! Stands on `plain_model` for the definitions, on `page_contracts` and `script_texts` for the contracts of pages and takers,
-//! on `ka10_unit` for units, on `fork_tree` for the forks of all jobs, on `file_tables` for files and JFNs, on `pmap_calls` for the calls on maps.
+//! on `ka10_unit` for units, on `fork_tree` for the forks of all jobs, on `file_tables` for files and JFNs, on `pmap_calls` for the calls on maps, on `file_calls` for those on files and JFNs.
 #![tactic(auto)]
 
 mod address;

@@ -8,13 +8,15 @@ ghost use Rattle.fork_tree.specs.Trees.{IsTree};
 ghost use Rattle.fork_calls.specs.Holding.{Holds};
 ghost use Rattle.fork_calls.specs.Limits.{AreWithin};
 ghost use Rattle.monitor_core.specs.Limits.{CanUnit};
-ghost use Rattle.monitor_core.specs.ForkUnit.{Place as APlace, UnitWaits, UnitsRan, fork_of};
+ghost use Rattle.monitor_core.specs.ForkUnit.{HasJob, Place as APlace, UnitWaits, UnitsRan, fork_of, tables_in};
 ghost use Rattle.monitor_core.specs.Shown.{nothing};
 
 use crate::calls::called;
+use crate::job::Job;
 use crate::runner::Runner;
 use crate::shown::Shown;
 use crate::unit::{Last, run_units};
+use file_tables::FileTables;
 use fork_tree::Tree;
 use ka10_unit::Taken;
 use page_contracts::{Need, Pages};
@@ -47,6 +49,8 @@ fn done_before(count: u32, need: Need) -> Result<Units, Need>
 pub fn units_of<P: Pages>(
     tree: &mut Tree,
     pages: &mut P,
+    files: &mut FileTables,
+    jobs: &Vec<Option<Job>>,
     taken: &mut Taken,
     who: Runner,
     most: u32,
@@ -58,12 +62,13 @@ pub fn units_of<P: Pages>(
     requires serves { Serves P.means pages.old who.fork }
     requires holds { Holds P.means pages.old tree.old.forks }
     requires within { AreWithin tree.old.forks }
+    requires job { HasJob files.old jobs.now.items who.fork.tty }
     requires serial { P.means.serial pages.old who.fork.tty < 2 ^ 61 }
     requires some { 0 < most }
     ensures ran { (at : APlace) (b : ABody) → fork_in tree.old.forks who.fork.tty who.slot ≡ Some (fork_of who.fork at b)
-        → IfOk result (UnitsRan P.means pages.old pages.new tree.old tree.new (fork_of who.fork at b)) }
+        → IfOk result (UnitsRan P.means pages.old pages.new (tables_in tree.old files.old jobs.now.items) (tables_in tree.new files.new jobs.now.items) (fork_of who.fork at b)) }
     ensures waits { (at : APlace) (b : ABody) → fork_in tree.old.forks who.fork.tty who.slot ≡ Some (fork_of who.fork at b)
-        → IfErr result (UnitWaits P.means pages.old pages.new tree.old tree.new (fork_of who.fork at b)) }
+        → IfErr result (UnitWaits P.means pages.old pages.new (tables_in tree.old files.old jobs.now.items) (tables_in tree.new files.new jobs.now.items) (fork_of who.fork at b)) }
     ensures core { P.means.flat ≡ true → IsOk result }
     ensures some { IfOk result (λ units. 1 ≤ units.count) }
     ensures few { IfOk result (λ units. units.count ≤ most) }
@@ -75,7 +80,7 @@ pub fn units_of<P: Pages>(
             count: row.count,
             shown,
         }),
-        Last::Calls(number) => match called(tree, pages, who, number) {
+        Last::Calls(number) => match called(tree, pages, files, jobs, who, number) {
             Ok(shown) => Ok(Units {
                 count: row.count + 1,
                 shown,

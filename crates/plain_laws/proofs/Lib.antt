@@ -8,7 +8,9 @@ pub mod Waiters
 pub mod Stored
 pub mod Rows
 pub mod WordsWritten
+pub mod WholeJfns
 pub mod WholeRuns
+pub mod JfnTurns
 pub mod ExampleTexts
 pub mod ExampleRun
 pub mod ExampleScript

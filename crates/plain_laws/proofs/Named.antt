@@ -60,7 +60,7 @@ use Rattle.plain_model.proofs.Posted.{posted_same}
 use Rattle.plain_laws.proofs.WholeForks.{with_fork_parts, fork_parts_of}
 use Rattle.fork_tree.proofs.CanRun.{runs_as}
 use Rattle.plain_model.specs.Families.{forks_changed}
-use Rattle.plain_model.proofs.Calling.{fork_came, fork_left, fork_called, fork_turned, map_came, map_pages, map_turned, own_came, own_turned, none_turned, MakesNone, caller_by, called_by, map_by, own_by}
+use Rattle.plain_model.proofs.Calling.{fork_came, fork_left, fork_called, fork_turned, map_came, map_pages, map_turned, own_came, own_turned, none_turned, jfn_came, jfn_called, jfn_turned, MakesNone, caller_by, called_by, map_by, jfn_by, own_by}
 
 -- each living fork stands under its own name, and each terminal's next serial is 1 or more
 record AreNamed (forks : ForkMap) (serials : List ℕ) : Type 0 where
@@ -264,6 +264,9 @@ module _ (s : PlainState) (n : IsNamed s) where
   map_named : (f : Fork) (number : ℕ) → Leaves (map_turned s f number)
   map_named f number = let e = (map_came s f number).end in map_by Leaves s f number (λ g is. with_caller (record s { pages = map_pages s f number }) n f.name g is (fork_behind g e) (behind_fits g e)) n
 
+  jfn_named : (f : Fork) (number : ℕ) → Leaves (jfn_turned s f number)
+  jfn_named f number = let e = (jfn_came s f number).end in jfn_by Leaves s f number (λ g is. with_caller (jfn_called s f number) n f.name g is (fork_behind g e) (behind_fits g e)) n
+
   fork_turned_named : (f : Fork) (number : ℕ) → IsForkName f.name → Leaves (fork_turned s f number)
   fork_turned_named f number fits =
       let e = (fork_came s f number).end in
@@ -274,7 +277,7 @@ module _ (s : PlainState) (n : IsNamed s) where
   no_call_named f = caller_by Leaves s f.name.tty (parts_of s) f.name (λ g. posted g ILLEGAL_INSTRUCTION) None (λ g is. with_caller s n f.name g is (posted g ILLEGAL_INSTRUCTION) (posted_fits g ILLEGAL_INSTRUCTION)) n
 
   called_named : (f : Fork) (number : ℕ) → IsForkName f.name → Leaves (called s f number)
-  called_named f number fits = called_by Leaves s f number (own_turn_named f) (fork_turned_named f number fits) (map_named f number) (no_call_named f)
+  called_named f number fits = called_by Leaves s f number (own_turn_named f) (fork_turned_named f number fits) (map_named f number) (jfn_named f number) (no_call_named f)
 
   over_named : (f : Fork) (r : Planned name_cmp ⊥) → IsForkName f.name → Leaves (over s f r)
   over_named f (done t e) fits = went_named s n f (pages_left f.name t e) e fits

@@ -190,7 +190,7 @@ module _ (s : PlainState) (w : IsWhole s) (caller : Fork) (number : ℕ) (k : Fo
   left = let c = came s w caller.name caller.body.regs k other number in parts_behind fork_changed (record { tree = tree_of s; pages = s.pages }) (record { tree = tree_of s; pages = c.pages }) c.end
 
   -- the forks and the pages of the parts
-  left_so : fork_left s caller number ≡ record { tree = left.tree; pages = left.pages }
+  left_so : fork_left s caller number ≡ record (parts_of s) { tree = left.tree; pages = left.pages }
   left_so = forks_behind (parts_of s) (fork_came s caller number).pages (fork_came s caller number).end
 
   same : PartsStay caller.name.tty k other (map.get s.forks k) s.pages left

@@ -18,7 +18,7 @@ use Rattle.plain_pages.specs.declared.map.MapEntry.TheVariants as entry
 use Rattle.plain_model.specs.declared.fork.Fork.{Fork}
 use Rattle.script_texts.specs.declared.status.ForkStatus.{ForkStatus}
 use Rattle.plain_model.specs.State.{PlainState}
-use Rattle.plain_pages.specs.PlainPages.{NamedPages}
+use Rattle.plain_pages.specs.PlainPages.{NamedPages, Maps}
 use Rattle.machine_names.specs.Orders.{name_cmp}
 use Rattle.plain_pages.specs.Maps.{entry_at, set_entry, narrow}
 use Rattle.plain_pages.specs.Room.{page_in, uses}
@@ -29,6 +29,10 @@ use Rattle.plain_units.specs.Instructions.{instruction}
 use Rattle.plain_units.specs.Steps.{Planned, Ending, done, call, trap, need, stopped as unit_stopped, begun, pages_left}
 use Rattle.plain_model.specs.Calls.{Turn, fork_behind, parts_behind, out_of, posted_if}
 use Rattle.plain_model.specs.MapCalls.{map_changed}
+use Rattle.plain_model.specs.Families.{asks_jfns, names_seen}
+use Rattle.plain_model.proofs.JfnChanges.{left_maps}
+use Rattle.plain_model.proofs.JfnEnds.{call_ends}
+use Rattle.machine_names.proofs.OrderLemmas.{name_cmp_apart}
 use Rattle.plain_model.specs.Trees.{tree_of}
 use Rattle.plain_model.specs.Unit.{Effect, unit_ended, called, went, over, unit, parts_of}
 use Rattle.plain_units.specs.Units.{unit_on}
@@ -39,7 +43,7 @@ use Rattle.plain_units.proofs.PageRuns.{PlanLeaves}
 use Rattle.plain_laws.proofs.UnitForks.{KeptBy, ended_pages, fork_kept, over_kept}
 use Rattle.plain_laws.proofs.OtherMaps.{InJob, Elsewhere, set_other, run_other}
 use Rattle.plain_laws.proofs.OtherJobs.{Stays, put_stays, told_stays, maps_same, call_stays}
-use Rattle.plain_model.proofs.Calling.{fork_came, fork_left, fork_called, fork_turned, map_came, map_pages, map_turned, own_came, own_turned, none_turned, MakesNone, caller_by, called_by, map_by, own_by}
+use Rattle.plain_model.proofs.Calling.{fork_came, fork_left, fork_called, fork_turned, map_came, map_pages, map_turned, own_came, own_turned, none_turned, filed_of, jfn_came, jfn_left, jfn_called, jfn_turned, MakesNone, caller_by, called_by, map_by, jfn_by, own_by}
 use Rattle.plain_units.specs.declared.channel.TheConstants.{ILLEGAL_INSTRUCTION}
 
 -- what a change of a slot leaves of a map of another job
@@ -129,11 +133,19 @@ module _ (s : PlainState) (w : IsWhole s) (name : ForkName) (f : Fork) (there : 
   own_maps : (t : Turn ⊥ (Unit {0})) → MakesNone s.pages t → MapsLeft (own_turned s f t)
   own_maps t makes = own_by MapsLeft s f t makes (λ g is. let h = fork_behind g (own_came s t).end in ended_maps s refl h h.body.status) refl
 
+  jfn_maps : (number : ℕ) → MapsLeft (jfn_turned s f number)
+  jfn_maps number =
+      let a = asks_jfns (parts_of s) f.name f.body.regs in let sight = names_seen (parts_of s) f.name in let c = jfn_came s f number in
+      let fits = call_ends a sight (λ (q : NamedPages). Elsewhere f.name.tty k other s.pages q) (λ q h steps. run_other f.name.tty k other nat_list_cmp_total f.name refl s.pages steps (begun q f.body.regs.ac) h) s.pages refl number in
+      let here : map.get (jfn_left s f number).pages.maps k ≡ map.get s.pages.maps k =
+      left_maps nat_list_cmp_total name_cmp_apart (λ name. name) a sight (λ (m : Maps). map.get m k ≡ map.get s.pages.maps k) (filed_of (parts_of s)) c.pages c.end refl fits in
+      jfn_by MapsLeft s f number (λ g is. let h = fork_behind g c.end in ended_maps (jfn_called s f number) here h h.body.status) here
+
   none_maps : MapsLeft (none_turned s f)
   none_maps = caller_by MapsLeft s f.name.tty (parts_of s) f.name (λ g. posted g ILLEGAL_INSTRUCTION) None (λ g is. let h = posted g ILLEGAL_INSTRUCTION in ended_maps s refl h h.body.status) refl
 
   called_maps : (number : ℕ) → MapsLeft (called s f number)
-  called_maps number = called_by MapsLeft s f number own_maps (fork_maps number) (map_maps number) none_maps
+  called_maps number = called_by MapsLeft s f number own_maps (fork_maps number) (map_maps number) (jfn_maps number) none_maps
 
   maps_left : (r : Planned name_cmp ⊥) → PlanLeaves (λ q. Elsewhere f.name.tty k other s.pages q) f.name r → MapsLeft (over s f r)
   maps_left (done t e) left = went_maps (pages_left f.name t e) e left

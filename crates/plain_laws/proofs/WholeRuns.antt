@@ -65,9 +65,10 @@ use Rattle.plain_pages.proofs.Whole.{opening_whole, map_whole, live_whole}
 use Rattle.plain_pages.proofs.ReferencesMade.{has_room}
 use Rattle.plain_model.proofs.MapTurns.{turn_whole}
 use Rattle.plain_units.proofs.PageRuns.{AreSound, PlanKeeps, PlanLeaves, kept_itself, kept_on, reference_kept, run_kept, stored_kept}
+use Rattle.plain_laws.proofs.WholeJfns.{jfn_called_whole}
 use Rattle.plain_laws.proofs.WholeForks.{lived_given, kept_tops, job_whole, filed_whole, pages_whole, sound, keeps_whole, behind_same, put, told_whole, made_whole, next_absent, fork_called_whole}
 use Rattle.plain_model.proofs.Posted.{IsSame, posted_same}
-use Rattle.plain_model.proofs.Calling.{fork_came, fork_left, fork_called, fork_turned, map_came, map_pages, map_turned, own_came, own_turned, none_turned, MakesNone, caller_by, called_by, map_by, own_by}
+use Rattle.plain_model.proofs.Calling.{fork_came, fork_left, fork_called, fork_turned, map_came, map_pages, map_turned, own_came, own_turned, none_turned, jfn_came, jfn_called, jfn_turned, MakesNone, caller_by, called_by, map_by, jfn_by, own_by}
 use Rattle.plain_units.specs.declared.channel.TheConstants.{ILLEGAL_INSTRUCTION}
 use Rattle.std.proofs.lemmas.Cmp.{eq_by_cmp_equiv}
 
@@ -160,11 +161,19 @@ module _ (s : PlainState) (w : IsWhole s) (name : ForkName) (f : Fork) (there : 
       let whole = fork_called_whole s w name f there fits number in
       caller_by Leaves s f.name.tty (fork_left s f number) f.name (λ g. fork_behind g e) (out_of e) (λ g is. called_with (fork_called s f number) whole g is (fork_behind g e) (behind_same g e)) whole
 
+  -- a call on JFNs changes pages, files and jobs
+  jfn_whole : (number : ℕ) → IsForkName name → Leaves (jfn_turned s f number)
+  jfn_whole number fits =
+      let e = (jfn_came s f number).end in
+      let own : IsOwner f.name.tty = inl (subst (λ (n : ForkName). n.tty.0 < TERMINALS) (sym (w.tree.slotted.own name f there)) fits.0) in
+      let whole = jfn_called_whole s w f own number in
+      jfn_by Leaves s f number (λ g is. called_with (jfn_called s f number) whole g is (fork_behind g e) (behind_same g e)) whole
+
   none_whole : Leaves (none_turned s f)
   none_whole = caller_by Leaves s f.name.tty (parts_of s) f.name (λ g. posted g ILLEGAL_INSTRUCTION) None (λ g is. called_with s w g is (posted g ILLEGAL_INSTRUCTION) (posted_same g ILLEGAL_INSTRUCTION)) w
 
   called_whole : (number : ℕ) → IsForkName name → Leaves (called s f number)
-  called_whole number fits = called_by Leaves s f number own_whole (fork_turned_whole number fits) (map_whole_turn number) none_whole
+  called_whole number fits = called_by Leaves s f number own_whole (fork_turned_whole number fits) (map_whole_turn number) (jfn_whole number fits) none_whole
 
 -- a unit that goes through leaves its fork's name and slot
 went_whole : (s : PlainState) (w : IsWhole s) (name : ForkName) (f : Fork) → map.get s.forks name ≡ Some f → (q : NamedPages) → IsWhole (record s { pages = q }) → (e : Ending) → Leaves (went s f q e)

@@ -5,3 +5,4 @@ pub mod Laws
 pub mod Example
 pub mod ForkLaws
 pub mod FileLaws
+pub mod JfnLaws

@@ -7,6 +7,7 @@ mod entries;
 mod example;
 mod file_laws;
 mod fork_laws;
+mod jfn_laws;
 mod laws;
 
 pub use entries::{entries_fit, runs_are_whole};
@@ -15,6 +16,10 @@ pub use file_laws::{files_are_made_once, pages_are_shown, words_are_put};
 pub use fork_laws::{
     frozen_forks_run_when_resumed, killed_forks_take_their_pages, moves_are_who_can_run,
     units_leave_other_jobs, waiters_go_on_when_a_fork_has_ended,
+};
+pub use jfn_laws::{
+    files_go_with_their_one_jfn, mapped_pages_outlive_their_file,
+    refused_calls_leave_all_but_an_error, released_jfns_are_free, the_least_free_jfn_is_taken,
 };
 pub use laws::{
     access_is_that_of_all_entries, chains_are_short, copies_are_made_once,

@@ -1,5 +1,5 @@
 -- A turn of a call in the whole state, by its family: what it leaves with the fork that called, and that the calls on maps make no page.
-use Rattle.std.proofs.Common.{◌≡◌, ℕ, Option, None, Some, Result, Ok, Err, refl, sym, ◌∙◌, ap, subst, Ordering}
+use Rattle.std.proofs.Common.{◌≡◌, ℕ, List, Option, None, Some, Result, Ok, Err, refl, sym, ◌∙◌, ap, subst, Ordering}
 use Rattle.std.specs.Prelude.{◌==◌, ◌&&◌}
 use Rattle.std.specs.Option.{option_map}
 use Rattle.std.specs.FinMap as map
@@ -9,6 +9,7 @@ use Rattle.plain_model.specs.declared.call.End.{End}
 use Rattle.plain_model.specs.declared.call.End.TheVariants.{Done, Waits, Halts, Refused, Failed, Trap}
 use Rattle.plain_model.specs.declared.call.ForkChange.{ForkChange}
 use Rattle.plain_model.specs.declared.call.MapChange.{MapChange}
+use Rattle.plain_model.specs.declared.call.FileChange.{FileChange}
 use Rattle.plain_model.specs.declared.call.MapChange.TheVariants.{Nothing}
 use Rattle.machine_names.specs.declared.names.Tty.{Tty}
 use Rattle.machine_names.specs.declared.names.ForkName.{ForkName}
@@ -23,9 +24,9 @@ use Rattle.plain_units.specs.Deeds.{in_ac}
 use Rattle.plain_model.specs.AccessWords.{access_in}
 use Rattle.plain_model.specs.Calls.{Turn, sees, finds, ends, with_ac, no_files, Came, turn_on, given, numbered, returning, is_among, fork_behind, out_of, parts_behind, Asked}
 use Rattle.plain_model.specs.MapCalls.{is_counted, narrows, place_named, slot_named, source_of, tells_access, pages_left as left_to_do, one_page, behind_page, rpacs, spacs, rmap, pmap, map_call, map_calls, map_changed}
-use Rattle.plain_model.specs.FileCalls.{file_call, file_calls, geter}
+use Rattle.plain_model.specs.FileCalls.{FileParts, file_call, file_calls, file_changed, geter, jfn_calls}
 use Rattle.plain_model.specs.ForkCalls.{own_named, fork_calls, fork_changed}
-use Rattle.plain_model.specs.Families.{Parts, behind, asks, came_of, forking, mapping, prints, own_changed, print_calls, forks_changed, pages_changed}
+use Rattle.plain_model.specs.Families.{Parts, behind, asks, came_of, forking, mapping, opening, prints, own_changed, print_calls, forks_changed, pages_changed, jfns_changed}
 use Rattle.plain_model.specs.Trees.{tree_of}
 use Rattle.plain_model.specs.Unit.{Effect, parts_of, with_parts, turned, called}
 use Rattle.std.proofs.lemmas.Bool.{cond_both}
@@ -52,6 +53,25 @@ map_pages s f number = parts_behind map_changed s.pages s.pages (map_came s f nu
 
 abbrev pub map_turned : PlainState → Fork → ℕ → Effect
 map_turned s f number = turned s f.name.tty (behind pages_changed (parts_of s) f.name (map_came s f number))
+
+-- so of a call on JFNs, which changes pages, files and jobs
+abbrev pub jfn_came : PlainState → Fork → ℕ → Came name_cmp FileChange
+jfn_came s f number = came_of (opening (λ name. name)) (parts_of s) f.name f.body.regs number
+
+abbrev pub filed_of : {K : Type 0} {file_cmp : K → K → Ordering} → Parts file_cmp → FileParts file_cmp
+filed_of v = record { pages = v.pages; files = v.files; jobs = v.jobs }
+
+abbrev pub with_filed : {K : Type 0} {file_cmp : K → K → Ordering} → Parts file_cmp → FileParts file_cmp → Parts file_cmp
+with_filed v part = record v { pages = part.pages; files = part.files; jobs = part.jobs }
+
+abbrev pub jfn_left : PlainState → Fork → ℕ → FileParts name_cmp
+jfn_left s f number = let c = jfn_came s f number in let old = filed_of (parts_of s) in parts_behind (file_changed (λ name. name)) old (record old { pages = c.pages }) c.end
+
+abbrev pub jfn_called : PlainState → Fork → ℕ → PlainState
+jfn_called s f number = with_parts s (with_filed (parts_of s) (jfn_left s f number))
+
+abbrev pub jfn_turned : PlainState → Fork → ℕ → Effect
+jfn_turned s f number = turned s f.name.tty (behind (jfns_changed (λ name. name)) (parts_of s) f.name (jfn_came s f number))
 
 -- and of a turn that changes the fork that called alone
 abbrev pub own_came : PlainState → Turn ⊥ (Unit {0}) → Came name_cmp (Unit {0})
@@ -90,7 +110,7 @@ module _ {K : Type 0} {file_cmp : K → K → Ordering} where
   -- a change of forks and pages
   pub forks_behind : (v : Parts file_cmp) (q : PlainPages file_cmp) (e : End ForkChange)
       → parts_behind forks_changed v (record v { pages = q }) e
-      ≡ (let part = parts_behind fork_changed (record { tree = v.tree; pages = v.pages }) (record { tree = v.tree; pages = q }) e in record { tree = part.tree; pages = part.pages })
+      ≡ (let part = parts_behind fork_changed (record { tree = v.tree; pages = v.pages }) (record { tree = v.tree; pages = q }) e in record v { tree = part.tree; pages = part.pages })
   unfolding parts_behind
   forks_behind v q (Done change regs out post) = refl
   forks_behind v q (Waits on) = refl
@@ -98,6 +118,17 @@ module _ {K : Type 0} {file_cmp : K → K → Ordering} where
   forks_behind v q (Refused code) = refl
   forks_behind v q (Failed code) = refl
   forks_behind v q (Trap channel) = refl
+
+  -- a change of pages, files and jobs
+  pub jfns_behind : (key_of : List ℕ → K) (v : Parts file_cmp) (q : PlainPages file_cmp) (e : End FileChange)
+      → parts_behind (jfns_changed key_of) v (record v { pages = q }) e ≡ with_filed v (parts_behind (file_changed key_of) (filed_of v) (record (filed_of v) { pages = q }) e)
+  unfolding parts_behind
+  jfns_behind key_of v q (Done change regs out post) = refl
+  jfns_behind key_of v q (Waits on) = refl
+  jfns_behind key_of v q Halts = refl
+  jfns_behind key_of v q (Refused code) = refl
+  jfns_behind key_of v q (Failed code) = refl
+  jfns_behind key_of v q (Trap channel) = refl
 
   -- no change
   pub nothing_behind : (v : Parts file_cmp) (e : End (Unit {0})) → parts_behind own_changed v v e ≡ v
@@ -160,12 +191,14 @@ module _ {K : Type 0} {file_cmp : K → K → Ordering} where
 
 module _ (Holds : Effect → Type 0) (s : PlainState) (f : Fork) where
   -- a call is one of a family, or none; each turn that changes the fork that called alone is looked at in one way
-  pub called_by : (number : ℕ) → ((t : Turn ⊥ (Unit {0})) → MakesNone s.pages t → Holds (own_turned s f t)) → Holds (fork_turned s f number) → Holds (map_turned s f number) → Holds (none_turned s f) → Holds (called s f number)
-  called_by number own forks maps none =
+  pub called_by : (number : ℕ) → ((t : Turn ⊥ (Unit {0})) → MakesNone s.pages t → Holds (own_turned s f t)) → Holds (fork_turned s f number) → Holds (map_turned s f number) → Holds (jfn_turned s f number) → Holds (none_turned s f)
+      → Holds (called s f number)
+  called_by number own forks maps jfns none =
       cond_both (is_among print_calls number) _ _ (λ r. Holds (turned s f.name.tty r)) (λ is. own (numbered print_calls number f.body.regs) (print_makes_none s.pages number f.body.regs)) (λ n1.
       cond_both (is_among fork_calls number) _ _ (λ r. Holds (turned s f.name.tty r)) (λ is. forks) (λ n2.
       cond_both (is_among map_calls number) _ _ (λ r. Holds (turned s f.name.tty r)) (λ is. maps) (λ n3.
-      cond_both (is_among file_calls number) _ _ (λ r. Holds (turned s f.name.tty r)) (λ is. own (file_call number (asks (parts_of s) f.name f.body.regs)) (file_makes_none s.pages number (asks (parts_of s) f.name f.body.regs))) (λ n4. none))))
+      cond_both (is_among file_calls number) _ _ (λ r. Holds (turned s f.name.tty r)) (λ is. own (file_call number (asks (parts_of s) f.name f.body.regs)) (file_makes_none s.pages number (asks (parts_of s) f.name f.body.regs))) (λ n4.
+      cond_both (is_among jfn_calls number) _ _ (λ r. Holds (turned s f.name.tty r)) (λ is. jfns) (λ n5. none)))))
 
   -- such a turn leaves the fork that called
   pub own_by : (t : Turn ⊥ (Unit {0})) → MakesNone s.pages t
@@ -195,3 +228,14 @@ module _ (Holds : Effect → Type 0) (s : PlainState) (f : Fork) (number : ℕ) 
       same : parts_behind pages_changed (parts_of s) (record (parts_of s) { pages = (map_came s f number).pages }) (map_came s f number).end ≡ record (parts_of s) { pages = map_pages s f number }
       same = pages_behind (parts_of s) (map_came s f number).pages (map_came s f number).end
           ∙ ap (λ (q : NamedPages). record (parts_of s) { pages = parts_behind map_changed s.pages q (map_came s f number).end }) (map_makes_none s.pages number (record { who = f.name; regs = f.body.regs; tree = tree_of s }))
+
+  -- a call on JFNs leaves other pages, files and jobs, and the fork that called
+  pub jfn_by : ((g : Fork) → map.get s.forks f.name ≡ Some g → Holds (turned s f.name.tty (record { parts = with_filed (parts_of s) (jfn_left s f number); caller = Some (fork_behind g (jfn_came s f number).end); out = out_of (jfn_came s f number).end })))
+      → Holds (turned s f.name.tty (record { parts = with_filed (parts_of s) (jfn_left s f number); caller = None; out = out_of (jfn_came s f number).end })) → Holds (jfn_turned s f number)
+  jfn_by some none = subst Left (sym (jfns_behind (λ name. name) (parts_of s) c.pages c.end)) (caller_by Holds s f.name.tty (with_filed (parts_of s) (jfn_left s f number)) f.name (λ g. fork_behind g c.end) (out_of c.end) some none)
+    where
+      c : Came name_cmp FileChange
+      c = jfn_came s f number
+
+      Left : Parts name_cmp → Type 0
+      Left left = Holds (turned s f.name.tty (record { parts = left; caller = option_map (λ g. fork_behind g (jfn_came s f number).end) (map.get left.tree.forks f.name); out = out_of (jfn_came s f number).end }))

@@ -1,3 +1,6 @@
+pub mod Dropped
+pub mod Keyed
+pub mod FileNames
 pub mod Runs
 pub mod Values
 pub mod ForkMaps
@@ -9,3 +12,5 @@ pub mod Posted
 pub mod MapTurns
 pub mod ForkTurns
 pub mod RefiledCalls
+pub mod JfnEnds
+pub mod JfnChanges

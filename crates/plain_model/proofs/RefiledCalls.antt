@@ -1,114 +1,269 @@
--- A turn of a call leaves the pages of files, and does not depend on what files are known by.
-use Rattle.std.proofs.Common.{◌≡◌, ℕ, Bool, true, false, cond, refl, ◌∙◌, ap, Ordering}
-use Rattle.std.specs.Option.{option_map}
+-- A turn of a call does not depend on what files are known by: it leaves the same, with the pages of files under other keys.
+use Rattle.std.proofs.Common.{◌≡◌, ◌≢◌, ℕ, Bool, true, false, cond, not, ◌&&◌, List, Option, None, Some, refl, sym, ◌∙◌, ap, subst, Ordering}
+use Rattle.std.specs.Option.{option_map, option_map_or}
+use Rattle.std.specs.Prelude.{is_some}
+use Rattle.std.specs.Ordering.{eq_by_cmp, is_eq}
+use Rattle.std.specs.Cmp.{IsTotalOrder, Equal-is}
+use Rattle.std.specs.Cmp.Lexicographic.{nat_list_cmp_total}
+use Rattle.std.proofs.lemmas.Cmp.{tied_itself}
 use Rattle.std.specs.FinMap as map
 use Rattle.plain_model.specs.declared.call.End.{End}
 use Rattle.plain_model.specs.declared.call.End.TheVariants.{Done, Waits, Halts, Refused, Failed, Trap}
+use Rattle.plain_model.specs.declared.call.ForkChange.{ForkChange}
 use Rattle.plain_model.specs.declared.call.MapChange.{MapChange}
 use Rattle.plain_model.specs.declared.call.MapChange.TheVariants.{Nothing, Unmap, Follow, Narrow}
+use Rattle.plain_model.specs.declared.call.FileChange.{FileChange}
+use Rattle.plain_model.specs.declared.call.FileChange.TheVariants.{Take, Make, Open, Release, Delete}
 use Rattle.plain_pages.specs.declared.map.MapEntry.TheVariants as entry
 use Rattle.machine_names.specs.declared.names.ForkName.{ForkName}
-use Rattle.machine_names.specs.declared.names.PageName.{PageName}
+use Rattle.machine_names.specs.declared.names.Tty.{Tty}
+use Rattle.plain_files.specs.OpenFiles.{OpenFile}
+use Rattle.plain_model.specs.declared.fork.Fork.{Fork}
+use Rattle.plain_units.specs.declared.channel.TheConstants.{ILLEGAL_INSTRUCTION}
+use Rattle.plain_model.specs.Interrupts.{posted}
+use Rattle.plain_files.specs.declared.jfn.Mode.{Mode}
+use Rattle.plain_files.specs.Sizes.{PlainFile, new_file}
 use Rattle.plain_units.specs.declared.registers.Regs.{Regs}
 use Rattle.plain_pages.specs.PlainPages.{PlainPages, refiled}
-use Rattle.machine_names.specs.Orders.{file_page_cmp}
+use Rattle.plain_pages.specs.FilePages.{other_files}
+use Rattle.machine_names.specs.Orders.{name_cmp}
 use Rattle.plain_pages.specs.Maps.{narrow}
-use Rattle.plain_model.specs.Calls.{Turn, no_files, turn_on, Came, numbered, is_among, fork_behind, out_of, parts_behind}
+use Rattle.plain_model.specs.Calls.{Sight, Turn, no_files, turn_on, Came, numbered, is_among, fork_behind, out_of, parts_behind}
 use Rattle.plain_model.specs.MapCalls.{map_calls, map_changed}
-use Rattle.plain_model.specs.FileCalls.{file_calls}
+use Rattle.plain_model.specs.FileCalls.{file_calls, deleted, file_changed, files_opened, held_at, jfn_calls, opened}
 use Rattle.plain_model.specs.ForkCalls.{ForkParts, fork_calls}
-use Rattle.plain_model.specs.Families.{Parts, Turned, behind, call_turned, print_calls, own_changed, asks, forks_changed, pages_changed}
+use Rattle.plain_model.specs.Families.{Parts, Turned, behind, call_turned, print_calls, own_changed, asks, asks_jfns, names_seen, forks_changed, pages_changed, jfns_changed}
+use Rattle.machine_names.proofs.OrderLemmas.{name_cmp_apart}
 use Rattle.plain_pages.proofs.Refiled.{NameAlike}
-use Rattle.plain_units.proofs.RefiledUnits.{still_alike}
-use Rattle.plain_model.proofs.Turns.{came_leaves, came_refiled}
+use Rattle.plain_pages.proofs.FilesKept.{without_files}
+use Rattle.plain_model.proofs.Keyed.{AreKeyed, Files, Others, keyed_by, totals_keyed, without_keyed, without_refiled}
+use Rattle.plain_pages.proofs.Whole.{tally}
+use Rattle.plain_model.proofs.Calling.{filed_of, with_filed}
+use Rattle.plain_model.proofs.Turns.{NamesAlike, came_leaves, came_refiled}
 use Rattle.plain_model.proofs.ForkTurns.{change_refiled, changed_leaves as fork_leaves}
 use Rattle.plain_model.proofs.MapTurns.{changed_leaves as entry_leaves, changed_refiled}
 
-module _ {K : Type 0} {file_cmp : K → K → Ordering} where
-  -- a change leaves the pages of files
-  abbrev LeavesFiles : {C : Type 0} → (C → Parts file_cmp → Parts file_cmp) → Type 0
-  LeavesFiles changed = (c : _) (v : Parts file_cmp) → (changed c v).pages.files ≡ v.pages.files
+-- a file of a name is there
+abbrev pub IsThere : {K : Type 0} {file_cmp : K → K → Ordering} → Parts file_cmp → List ℕ → Type 0
+IsThere v name = map.contains_key v.files name ≡ true
 
-  map_files : (what : MapChange) (p : PlainPages file_cmp) → (map_changed what p).files ≡ p.files
-  unfolding map_changed
-  map_files Nothing p = refl
-  map_files (Unmap s) p = entry_leaves p s (λ e. entry.Empty)
-  map_files (Follow s t a) p = entry_leaves p s (λ e. entry.Follows t.fork.serial t.page a)
-  map_files (Narrow s a) p = entry_leaves p s (narrow a)
+-- each JFN stands for a file that is there
+abbrev pub AreHeld : {K : Type 0} {file_cmp : K → K → Ordering} → Parts file_cmp → Type 0
+AreHeld v = (t : Tty) (n : ℕ) (j : OpenFile) → map.get (held_at v.jobs t) n ≡ Some j → IsThere v j.file
 
-  behind_files : {C : Type 0} (changed : C → Parts file_cmp → Parts file_cmp) → LeavesFiles changed → (v : Parts file_cmp) (who : ForkName) (t : Turn ⊥ C) → (behind changed v who (turn_on no_files v.pages t)).parts.pages.files ≡ v.pages.files
-  unfolding parts_behind
-  behind_files changed leaves v who t = by (turn_on no_files v.pages t).end
+-- the same parts, with the pages of files under other keys
+abbrev pub refiled_all : {K L : Type 0} {file_cmp : K → K → Ordering} (other_cmp : L → L → Ordering) → Files other_cmp → Parts file_cmp → Parts other_cmp
+refiled_all other_cmp files v = record { tree = v.tree; pages = refiled other_cmp v.pages files; files = v.files; jobs = v.jobs }
+
+abbrev pub refiled_turned : {K L : Type 0} {file_cmp : K → K → Ordering} (other_cmp : L → L → Ordering) → Files other_cmp → Turned file_cmp → Turned other_cmp
+refiled_turned other_cmp files r = record { parts = refiled_all other_cmp files r.parts; caller = r.caller; out = r.out }
+
+module _ {K L : Type 0} (file_cmp : K → K → Ordering) (other_cmp : L → L → Ordering) (key : List ℕ → K) (other_key : List ℕ → L) where
+  -- the files that are there have keys of two kinds, under which they have the same pages
+  abbrev pub AreFiled : Parts file_cmp → Files other_cmp → Type 0
+  AreFiled v files = AreKeyed file_cmp other_cmp (IsThere v) key other_key v.pages.files files
+
+  -- what is left is the same but for the keys of files; those that were there and still are have the same pages under both, and no
+  -- page is under another key
+  pub record StayFiled (old new : Parts file_cmp) (other : Parts other_cmp) : Type 0 where
+    pub same : other ≡ refiled_all other_cmp other.pages.files new
+    pub keyed : AreKeyed file_cmp other_cmp (λ name. IsThere old name × IsThere new name) key other_key new.pages.files other.pages.files
+
+module _ {K L : Type 0} {file_cmp : K → K → Ordering} {other_cmp : L → L → Ordering} (key : List ℕ → K) (other_key : List ℕ → L) where
+  abbrev Stay : Parts file_cmp → Parts file_cmp → Parts other_cmp → Type 0
+  Stay old new other = StayFiled file_cmp other_cmp key other_key old new other
+
+  module _ (u : Parts file_cmp) (files : Files other_cmp) (filed : AreFiled file_cmp other_cmp key other_key u files) where
+    -- the same files with the same pages
+    stay : (w : Parts file_cmp) (x : Parts other_cmp) → x ≡ refiled_all other_cmp files w → w.pages.files ≡ u.pages.files → ((name : List ℕ) → IsThere u name → IsThere w name) → Stay u w x
+    stay w x is pages there =
+        let files_are : x.pages.files ≡ files = ap (λ (y : Parts other_cmp). y.pages.files) is in
+        let k = keyed_by file_cmp other_cmp (IsThere u) (λ name. IsThere u name × IsThere w name) key other_key u.pages.files files (λ name h. (h, there name h)) (λ name h. h.0) filed in
+        let l : AreKeyed file_cmp other_cmp (λ name. IsThere u name × IsThere w name) key other_key w.pages.files files = subst (λ (f : Files file_cmp). AreKeyed file_cmp other_cmp (λ name. IsThere u name × IsThere w name) key other_key f files) (sym pages) k in
+        record {
+          same = is ∙ ap (λ (f : Files other_cmp). refiled_all other_cmp f w) (sym files_are);
+          keyed = subst (λ (f : Files other_cmp). AreKeyed file_cmp other_cmp (λ name. IsThere u name × IsThere w name) key other_key w.pages.files f) (sym files_are) l;
+        }
+
+there_inserted : (files : map.FinMap name_cmp PlainFile) (name : List ℕ) (f : PlainFile) (x : List ℕ) → map.contains_key files x ≡ true → map.contains_key (map.insert files name f) x ≡ true
+there_inserted files name f x there = ap is_some (map.get-insert nat_list_cmp_total files name f x) ∙ by (eq_by_cmp name_cmp x name)
+  where
+    by : (b : Bool) → is_some (cond b (Some f) (map.get files x)) ≡ true
+    by true = refl
+    by false = there
+
+there_opened : (files : map.FinMap name_cmp PlainFile) (mode : Mode) (name x : List ℕ) → map.contains_key files x ≡ true → map.contains_key (files_opened files mode name) x ≡ true
+there_opened files mode name x there = by (mode.w && not mode.r) (map.get files name)
+  where
+    by : (b : Bool) (o : Option PlainFile) → map.contains_key (cond b (option_map_or (λ f. map.insert files name (record f { length = 0 })) o files) files) x ≡ true
+    by true None = there
+    by true (Some f) = there_inserted files name (record f { length = 0 }) x there
+    by false o = there
+
+-- a name that is there still but for one that went
+module _ (files : map.FinMap name_cmp PlainFile) (gone : List ℕ) where
+  others_there : (x : List ℕ) → map.contains_key files x ≡ true → x ≢ gone → map.contains_key (map.remove files gone) x ≡ true
+  others_there x there ne = ap is_some (map.get-remove nat_list_cmp_total files gone x) ∙ by (eq_by_cmp name_cmp x gone) refl
     where
-      made : Parts file_cmp
-      made = record v { pages = (turn_on no_files v.pages t).pages }
+      by : (b : Bool) → eq_by_cmp name_cmp x gone ≡ b → is_some (cond b None (map.get files x)) ≡ true
+      by true is = absurd (ne (name_cmp_apart x gone ((Equal-is (name_cmp x gone)).0 is)))
+      by false is = there
 
-      by : (e : End _) → (parts_behind changed v made e).pages.files ≡ v.pages.files
-      by (Done c regs out post) = leaves c made ∙ came_leaves t v.pages
-      by (Waits on) = refl
-      by Halts = refl
-      by (Refused code) = refl
-      by (Failed code) = refl
-      by (Trap channel) = refl
+  there_others : (x : List ℕ) → map.contains_key (map.remove files gone) x ≡ true → x ≢ gone
+  there_others x there is = let no : true ≡ false = sym there ∙ ap is_some (map.get-remove nat_list_cmp_total files gone x) ∙ ap (λ b. is_some (cond b None (map.get files x))) (ap (λ y. eq_by_cmp name_cmp y gone) is ∙ ap is_eq (tied_itself nat_list_cmp_total gone)) in cc no
 
-  either : (b : Bool) (x y : Turned file_cmp) (p : PlainPages file_cmp) → x.parts.pages.files ≡ p.files → y.parts.pages.files ≡ p.files → (cond b x y).parts.pages.files ≡ p.files
-  either true x y p first second = first
-  either false x y p first second = second
+module _ {K L : Type 0} {file_cmp : K → K → Ordering} {other_cmp : L → L → Ordering} (o : IsTotalOrder file_cmp) (apart : map.IsAntisymmetric file_cmp) (other_o : IsTotalOrder other_cmp) (other_apart : map.IsAntisymmetric other_cmp) (key : List ℕ → K) (other_key : List ℕ → L) (files : Files other_cmp) where
+  abbrev Filed : Parts file_cmp → Type 0
+  Filed u = AreFiled file_cmp other_cmp key other_key u files
 
-  -- a turn leaves the pages of files
-  pub call_files : (v : Parts file_cmp) (who : ForkName) (regs : Regs) (number : ℕ) → (call_turned v who regs number).parts.pages.files ≡ v.pages.files
-  call_files v who regs number =
-      either (is_among print_calls number) _ _ v.pages (behind_files own_changed (λ c u. refl) v who (numbered print_calls number regs))
-      (either (is_among fork_calls number) _ _ v.pages (behind_files forks_changed (λ c u. fork_leaves c (record { tree = u.tree; pages = u.pages })) v who (numbered fork_calls number (asks v who regs)))
-      (either (is_among map_calls number) _ _ v.pages (behind_files pages_changed (λ c u. map_files c u.pages) v who (numbered map_calls number (asks v who regs)))
-      (either (is_among file_calls number) _ _ v.pages (behind_files own_changed (λ c u. refl) v who (numbered file_calls number (asks v who regs))) refl)))
+  abbrev Stays : Parts file_cmp → Parts file_cmp → Parts other_cmp → Type 0
+  Stays old new other = StayFiled file_cmp other_cmp key other_key old new other
 
-module _ {K L : Type 0} {file_cmp : K → K → Ordering} (other_cmp : L → L → Ordering) (files : map.FinMap (file_page_cmp other_cmp) PageName) where
-  -- the same parts, with the pages of files under other keys
-  abbrev pub refiled_all : Parts file_cmp → Parts other_cmp
-  refiled_all v = record { tree = v.tree; pages = refiled other_cmp v.pages files }
+  abbrev rekeyed : Parts file_cmp → Parts other_cmp
+  rekeyed u = refiled_all other_cmp files u
 
-  abbrev pub refiled_turned : Turned file_cmp → Turned other_cmp
-  refiled_turned r = record { parts = refiled_all r.parts; caller = r.caller; out = r.out }
+  alike : (u : Parts file_cmp) → Filed u → NameAlike other_cmp u.pages files
+  alike u filed n = totals_keyed o apart other_o other_apart (IsThere u) key other_key u.pages.files files filed (tally n)
 
-  map_refiled : (what : MapChange) (p : PlainPages file_cmp) → NameAlike other_cmp p files → map_changed what (refiled other_cmp p files) ≡ refiled other_cmp (map_changed what p) files
-  unfolding map_changed
-  map_refiled Nothing p alike = refl
-  map_refiled (Unmap s) p alike = changed_refiled other_cmp files p alike s (λ e. entry.Empty)
-  map_refiled (Follow s t a) p alike = changed_refiled other_cmp files p alike s (λ e. entry.Follows t.fork.serial t.page a)
-  map_refiled (Narrow s a) p alike = changed_refiled other_cmp files p alike s (narrow a)
+  module _ (u : Parts file_cmp) (filed : Filed u) where
+    -- the file of a JFN is removed
+    deleted_stays : (t : Tty) (n : ℕ) (j : OpenFile) → IsThere u j.file → Stays u (with_filed u (deleted key (filed_of u) t n j)) (with_filed (rekeyed u) (deleted other_key (filed_of (rekeyed u)) t n j))
+    deleted_stays t n j there = record {
+      same = is ∙ ap (λ (f : Files other_cmp). refiled_all other_cmp f w) (sym files_are);
+      keyed = subst (λ (f : Files other_cmp). AreKeyed file_cmp other_cmp Left key other_key w.pages.files f) (sym files_are) (subst (λ (f : Files file_cmp). AreKeyed file_cmp other_cmp Left key other_key f rest) (sym (without_files o apart u.pages (key j.file))) others);
+    }
+      where
+        w : Parts file_cmp
+        w = with_filed u (deleted key (filed_of u) t n j)
 
-  -- where a change leaves the same, so does a turn
-  behind_refiled : {C : Type 0} (changed : C → Parts file_cmp → Parts file_cmp) (other : C → Parts other_cmp → Parts other_cmp)
-      → ((c : C) (u : Parts file_cmp) → NameAlike other_cmp u.pages files → other c (refiled_all u) ≡ refiled_all (changed c u))
-      → (v : Parts file_cmp) → NameAlike other_cmp v.pages files → (who : ForkName) (t : Turn ⊥ C)
-      → behind other (refiled_all v) who (turn_on no_files (refiled_all v).pages t) ≡ refiled_turned (behind changed v who (turn_on no_files v.pages t))
-  unfolding parts_behind
-  behind_refiled changed other same v alike who t =
-      ap (λ (c : Came other_cmp _). behind other (refiled_all v) who c) (came_refiled other_cmp files t v.pages alike)
-      ∙ ap (λ (left : Parts other_cmp). record { parts = left; caller = option_map (λ f. fork_behind f (turn_on no_files v.pages t).end) (map.get left.tree.forks who); out = out_of (turn_on no_files v.pages t).end }) (by (turn_on no_files v.pages t).end)
-    where
-      made : Parts file_cmp
-      made = record v { pages = (turn_on no_files v.pages t).pages }
+        x : Parts other_cmp
+        x = with_filed (rekeyed u) (deleted other_key (filed_of (rekeyed u)) t n j)
 
-      by : (e : End _) → parts_behind other (refiled_all v) (refiled_all made) e ≡ refiled_all (parts_behind changed v made e)
-      by (Done c regs out post) = same c made (still_alike other_cmp files v.pages made.pages alike (came_leaves t v.pages))
-      by (Waits on) = refl
-      by Halts = refl
-      by (Refused code) = refl
-      by (Failed code) = refl
-      by (Trap channel) = refl
+        rest : Files other_cmp
+        rest = other_files (refiled other_cmp u.pages files) (other_key j.file)
 
-  both : (b : Bool) (x y : Turned file_cmp) (x' y' : Turned other_cmp) → x' ≡ refiled_turned x → y' ≡ refiled_turned y → cond b x' y' ≡ refiled_turned (cond b x y)
-  both true x y x' y' first second = first
-  both false x y x' y' first second = second
+        Left : List ℕ → Type 0
+        Left name = map.contains_key u.files name ≡ true × map.contains_key (map.remove u.files j.file) name ≡ true
 
-  -- a turn of a call leaves the same
-  pub call_refiled : (v : Parts file_cmp) → NameAlike other_cmp v.pages files → (who : ForkName) (regs : Regs) (number : ℕ) → call_turned (refiled_all v) who regs number ≡ refiled_turned (call_turned v who regs number)
-  call_refiled v alike who regs number =
-      both (is_among print_calls number) _ _ _ _ (behind_refiled own_changed own_changed (λ c u same. refl) v alike who (numbered print_calls number regs))
-      (both (is_among fork_calls number) _ _ _ _ (behind_refiled forks_changed forks_changed
-      (λ c u same. ap (λ (part : ForkParts other_cmp). record { tree = part.tree; pages = part.pages }) (change_refiled other_cmp files c (record { tree = u.tree; pages = u.pages }) same)) v alike who (numbered fork_calls number (asks v who regs)))
-      (both (is_among map_calls number) _ _ _ _ (behind_refiled pages_changed pages_changed
-      (λ c u same. ap (λ (p : PlainPages other_cmp). record { tree = u.tree; pages = p }) (map_refiled c u.pages same)) v alike who (numbered map_calls number (asks v who regs)))
-      (both (is_among file_calls number) _ _ _ _ (behind_refiled own_changed own_changed (λ c u same. refl) v alike who (numbered file_calls number (asks v who regs))) refl)))
+        is : x ≡ refiled_all other_cmp rest w
+        is = ap (λ (p : PlainPages other_cmp). record x { pages = p }) (without_refiled o apart other_o other_apart (IsThere u) key other_key u.pages files filed j.file there)
+
+        files_are : x.pages.files ≡ rest
+        files_are = ap (λ (y : Parts other_cmp). y.pages.files) is
+
+        others : AreKeyed file_cmp other_cmp Left key other_key (other_files u.pages (key j.file)) rest
+        others = keyed_by file_cmp other_cmp (Others (IsThere u) j.file) Left key other_key (other_files u.pages (key j.file)) rest
+            (λ name h. (h.0, others_there u.files j.file name h.0 h.1)) (λ name h. (h.0, there_others u.files j.file name h.1))
+            (without_keyed o apart other_o other_apart (IsThere u) key other_key u.pages files filed j.file there)
+
+    -- a change of a call on JFNs
+    change_stays : AreHeld u → (change : FileChange) → Stays u (jfns_changed key change u) (jfns_changed other_key change (rekeyed u))
+    unfolding file_changed
+    change_stays held (Take t n name) = stay key other_key u files filed _ _ refl refl (λ x h. h)
+    change_stays held (Make t n name) = stay key other_key u files filed _ _ refl refl (λ x h. there_inserted u.files name new_file x h)
+    change_stays held (Open t n mode size) = by (map.get (held_at u.jobs t) n)
+      where
+        by : (j : Option OpenFile) → Stays u (with_filed u (option_map_or (opened key (filed_of u) t n mode size) j (filed_of u))) (with_filed (rekeyed u) (option_map_or (opened other_key (filed_of (rekeyed u)) t n mode size) j (filed_of (rekeyed u))))
+        by None = stay key other_key u files filed _ _ refl refl (λ x h. h)
+        by (Some j) = stay key other_key u files filed _ _ refl refl (λ x h. there_opened u.files mode j.file x h)
+    change_stays held (Release t n) = stay key other_key u files filed _ _ refl refl (λ x h. h)
+    change_stays held (Delete t n) = by (map.get (held_at u.jobs t) n) refl
+      where
+        by : (j : Option OpenFile) → map.get (held_at u.jobs t) n ≡ j → Stays u (with_filed u (option_map_or (deleted key (filed_of u) t n) j (filed_of u))) (with_filed (rekeyed u) (option_map_or (deleted other_key (filed_of (rekeyed u)) t n) j (filed_of (rekeyed u))))
+        by None is = stay key other_key u files filed _ _ refl refl (λ x h. h)
+        by (Some j) is = deleted_stays t n j (held t n j is)
+
+-- a change of maps leaves the pages of files, and does not depend on their keys
+map_files : {K : Type 0} {file_cmp : K → K → Ordering} (what : MapChange) (p : PlainPages file_cmp) → (map_changed what p).files ≡ p.files
+unfolding map_changed
+map_files Nothing p = refl
+map_files (Unmap s) p = entry_leaves p s (λ e. entry.Empty)
+map_files (Follow s t a) p = entry_leaves p s (λ e. entry.Follows t.fork.serial t.page a)
+map_files (Narrow s a) p = entry_leaves p s (narrow a)
+
+map_refiled : {K L : Type 0} {file_cmp : K → K → Ordering} (other_cmp : L → L → Ordering) (files : Files other_cmp) (what : MapChange) (p : PlainPages file_cmp) → NameAlike other_cmp p files → map_changed what (refiled other_cmp p files) ≡ refiled other_cmp (map_changed what p) files
+unfolding map_changed
+map_refiled other_cmp files Nothing p alike = refl
+map_refiled other_cmp files (Unmap s) p alike = changed_refiled other_cmp files p alike s (λ e. entry.Empty)
+map_refiled other_cmp files (Follow s t a) p alike = changed_refiled other_cmp files p alike s (λ e. entry.Follows t.fork.serial t.page a)
+map_refiled other_cmp files (Narrow s a) p alike = changed_refiled other_cmp files p alike s (narrow a)
+
+-- a turn leaves the same but for the keys of files
+module _ {K L : Type 0} {file_cmp : K → K → Ordering} (other_cmp : L → L → Ordering) (key : List ℕ → K) (other_key : List ℕ → L) where
+  pub record TurnsFiled (v : Parts file_cmp) (r : Turned file_cmp) (other : Turned other_cmp) : Type 0 where
+    pub same : other ≡ refiled_turned other_cmp other.parts.pages.files r
+    pub keyed : AreKeyed file_cmp other_cmp (λ name. IsThere v name × IsThere r.parts name) key other_key r.parts.pages.files other.parts.pages.files
+
+  turns : (v : Parts file_cmp) (left : Parts file_cmp) (other_left : Parts other_cmp) (who : ForkName) (change : Fork → Fork) (out : Option ℕ) → StayFiled file_cmp other_cmp key other_key v left other_left
+      → TurnsFiled v (record { parts = left; caller = option_map change (map.get left.tree.forks who); out = out }) (record { parts = other_left; caller = option_map change (map.get other_left.tree.forks who); out = out })
+  turns v left other_left who change out stays = record {
+    same = ap (λ (l : Parts other_cmp). record { parts = l; caller = option_map change (map.get l.tree.forks who); out = out }) stays.same;
+    keyed = stays.keyed;
+  }
+
+module _ {K L : Type 0} {file_cmp : K → K → Ordering} {other_cmp : L → L → Ordering} (o : IsTotalOrder file_cmp) (apart : map.IsAntisymmetric file_cmp) (other_o : IsTotalOrder other_cmp) (other_apart : map.IsAntisymmetric other_cmp) (key : List ℕ → K) (other_key : List ℕ → L) (files : Files other_cmp) where
+  abbrev renewed : Parts file_cmp → Parts other_cmp
+  renewed u = refiled_all other_cmp files u
+
+  module _ (v : Parts file_cmp) (filed : AreFiled file_cmp other_cmp key other_key v files) (who : ForkName) where
+    abbrev Turns : Turned file_cmp → Turned other_cmp → Type 0
+    Turns r other = TurnsFiled other_cmp key other_key v r other
+
+    as_it_was : StayFiled file_cmp other_cmp key other_key v v (renewed v)
+    as_it_was = stay key other_key v files filed v (renewed v) refl refl (λ name h. h)
+
+    -- the pages that a turn made, with what it does not change
+    abbrev made_with : PlainPages file_cmp → Parts file_cmp
+    made_with q = record v { pages = q }
+
+    -- where a change leaves the same, so does a turn
+    module _ {C : Type 0} (changed : C → Parts file_cmp → Parts file_cmp) (other : C → Parts other_cmp → Parts other_cmp)
+        (step : (c : C) (q : PlainPages file_cmp) → AreFiled file_cmp other_cmp key other_key (made_with q) files → StayFiled file_cmp other_cmp key other_key (made_with q) (changed c (made_with q)) (other c (renewed (made_with q)))) where
+      ended : (q : PlainPages file_cmp) → q.files ≡ v.pages.files → (e : End C) → StayFiled file_cmp other_cmp key other_key v (parts_behind changed v (made_with q) e) (parts_behind other (renewed v) (renewed (made_with q)) e)
+      unfolding parts_behind
+      ended q same (Done c regs out post) =
+          let s = step c q (subst (λ (f : Files file_cmp). AreKeyed file_cmp other_cmp (IsThere v) key other_key f files) (sym same) filed) in
+          record { same = s.same; keyed = s.keyed }
+      ended q same (Waits on) = as_it_was
+      ended q same Halts = as_it_was
+      ended q same (Refused code) = as_it_was
+      ended q same (Failed code) = as_it_was
+      ended q same (Trap channel) = as_it_was
+
+      behind_turns : (one : Sight ⊥ K) (sight : Sight ⊥ L) → NamesAlike one sight → (t : Turn ⊥ C) → Turns (behind changed v who (turn_on one v.pages t)) (behind other (renewed v) who (turn_on sight (renewed v).pages t))
+      behind_turns one sight like t =
+          let came : Came file_cmp C = turn_on one v.pages t in
+          subst (λ (c : Came other_cmp C). Turns (behind changed v who came) (behind other (renewed v) who c)) (sym (came_refiled other_cmp files one sight like t v.pages (alike o apart other_o other_apart key other_key files v filed)))
+          (turns other_cmp key other_key v (parts_behind changed v (made_with came.pages) came.end) (parts_behind other (renewed v) (renewed (made_with came.pages)) came.end) who (λ f. fork_behind f came.end) (out_of came.end)
+          (ended came.pages (came_leaves one t v.pages) came.end))
+
+    no_files_told : NamesAlike (no_files {K = K}) (no_files {K = L})
+    no_files_told = record { names = λ name. refl; more = refl }
+
+    either : (b : Bool) (x y : Turned file_cmp) (x' y' : Turned other_cmp) → Turns x x' → Turns y y' → Turns (cond b x y) (cond b x' y')
+    either true x y x' y' first second = first
+    either false x y x' y' first second = second
+
+    own_step : (c : Unit {0}) (q : PlainPages file_cmp) → AreFiled file_cmp other_cmp key other_key (made_with q) files → StayFiled file_cmp other_cmp key other_key (made_with q) (own_changed c (made_with q)) (own_changed c (renewed (made_with q)))
+    own_step c q k = stay key other_key (made_with q) files k (made_with q) (renewed (made_with q)) refl refl (λ name h. h)
+
+    fork_step : (c : ForkChange) (q : PlainPages file_cmp) → AreFiled file_cmp other_cmp key other_key (made_with q) files → StayFiled file_cmp other_cmp key other_key (made_with q) (forks_changed c (made_with q)) (forks_changed c (renewed (made_with q)))
+    fork_step c q k = stay key other_key (made_with q) files k _ _
+        (ap (λ (part : ForkParts other_cmp). record (renewed v) { tree = part.tree; pages = part.pages }) (change_refiled other_cmp files c (record { tree = v.tree; pages = q }) (alike o apart other_o other_apart key other_key files (made_with q) k)))
+        (fork_leaves c (record { tree = v.tree; pages = q })) (λ name h. h)
+
+    map_step : (c : MapChange) (q : PlainPages file_cmp) → AreFiled file_cmp other_cmp key other_key (made_with q) files → StayFiled file_cmp other_cmp key other_key (made_with q) (pages_changed c (made_with q)) (pages_changed c (renewed (made_with q)))
+    map_step c q k = stay key other_key (made_with q) files k _ _
+        (ap (λ (p : PlainPages other_cmp). record (renewed v) { pages = p }) (map_refiled other_cmp files c q (alike o apart other_o other_apart key other_key files (made_with q) k)))
+        (map_files c q) (λ name h. h)
+
+    -- A TURN OF A CALL LEAVES THE SAME, whatever files are known by
+    pub call_refiled : AreHeld v → (regs : Regs) (number : ℕ) → Turns (call_turned key v who regs number) (call_turned other_key (renewed v) who regs number)
+    call_refiled held regs number =
+        either (is_among print_calls number) _ _ _ _ (behind_turns own_changed own_changed own_step no_files no_files no_files_told (numbered print_calls number regs))
+        (either (is_among fork_calls number) _ _ _ _ (behind_turns forks_changed forks_changed fork_step no_files no_files no_files_told (numbered fork_calls number (asks v who regs)))
+        (either (is_among map_calls number) _ _ _ _ (behind_turns pages_changed pages_changed map_step no_files no_files no_files_told (numbered map_calls number (asks v who regs)))
+        (either (is_among file_calls number) _ _ _ _ (behind_turns own_changed own_changed own_step no_files no_files no_files_told (numbered file_calls number (asks v who regs)))
+        (either (is_among jfn_calls number) _ _ _ _
+        (behind_turns (jfns_changed key) (jfns_changed other_key) (λ c q k. change_stays o apart other_o other_apart key other_key files (made_with q) k held c) (names_seen v who) (names_seen (renewed v) who) (record { names = λ name. refl; more = refl }) (numbered jfn_calls number (asks_jfns v who regs)))
+        (turns other_cmp key other_key v v (renewed v) who (λ f. posted f ILLEGAL_INSTRUCTION) None as_it_was)))))

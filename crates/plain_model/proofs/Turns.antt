@@ -27,7 +27,7 @@ use Rattle.plain_model.specs.declared.call.Touched.TheVariants.{Granted, Denied,
 use Rattle.machine_names.specs.declared.names.Tty.{Tty}
 use Rattle.machine_names.specs.declared.names.Slot.{Slot}
 use Rattle.machine_names.specs.declared.names.Kind.{Kind}
-use Rattle.plain_model.specs.Calls.{Turn, sees, finds, reads, touches, takes, adds, looks, makes, ends, Sight, no_files, Came, entry_of, spot_of, stepped, touched, with_added, turn_on}
+use Rattle.plain_model.specs.Calls.{Turn, sees, finds, reads, touches, takes, adds, looks, makes, ends, Sight, Came, entry_of, spot_of, stepped, touched, with_added, turn_on}
 use Rattle.plain_units.specs.Blocks.{steps_on}
 use Rattle.plain_units.proofs.PageRuns.{PlanLeaves}
 use Rattle.plain_pages.proofs.Counts.{total_insert}
@@ -313,11 +313,11 @@ module _ {F K L : Type 0} {file_cmp : K → K → Ordering} (other_cmp : L → L
     came_same (ends e) p files alike = (refl, alike)
 
 -- a turn that knows no file leaves the pages of files
-abbrev pub LeavesFilesAlone : {C K : Type 0} (file_cmp : K → K → Ordering) → Turn ⊥ C → Type 0
-LeavesFilesAlone file_cmp t = (p : PlainPages file_cmp) → (turn_on no_files p t).pages.files ≡ p.files
+abbrev pub LeavesFilesAlone : {C K : Type 0} (file_cmp : K → K → Ordering) → Sight ⊥ K → Turn ⊥ C → Type 0
+LeavesFilesAlone file_cmp sight t = (p : PlainPages file_cmp) → (turn_on sight p t).pages.files ≡ p.files
 
-module _ {C K : Type 0} {file_cmp : K → K → Ordering} where
-  pub came_leaves : (t : Turn ⊥ C) → LeavesFilesAlone file_cmp t
+module _ {C K : Type 0} {file_cmp : K → K → Ordering} (sight : Sight ⊥ K) where
+  pub came_leaves : (t : Turn ⊥ C) → LeavesFilesAlone file_cmp sight t
   unfolding turn_on
   came_leaves (sees s next) p = came_leaves (next (entry_of p s)) p
   came_leaves (finds (in_map s) next) p = came_leaves (next (page_at p (in_map s))) p
@@ -325,33 +325,38 @@ module _ {C K : Type 0} {file_cmp : K → K → Ordering} where
   came_leaves (reads f offset next) p = absurd f.file
   came_leaves (touches owner (in_map s) kind next) p = by (λ what. came_leaves (next what)) (reference p (in_map s) kind owner) refl
     where
-      by : ((what : Touched) → LeavesFilesAlone file_cmp (next what)) → (r : Referred file_cmp) → reference p (in_map s) kind owner ≡ r → (touched p r (λ q what. turn_on no_files q (next what))).pages.files ≡ p.files
+      by : ((what : Touched) → LeavesFilesAlone file_cmp sight (next what)) → (r : Referred file_cmp) → reference p (in_map s) kind owner ≡ r → (touched p r (λ q what. turn_on sight q (next what))).pages.files ≡ p.files
       by rest (granted q) is = rest Granted q ∙ reference_leaves owner p q s kind is
       by rest (denied k) is = rest Denied p
       by rest full is = rest Full p
   came_leaves (touches owner (in_file f) kind next) p = absurd f.file
   came_leaves (takes f regs steps next) p = by (λ e. came_leaves (next e)) (steps_on f regs steps p) (run_leaves f steps (begun p regs.ac))
     where
-      by : ((e : Ending) → LeavesFilesAlone file_cmp (next e)) → (r : Planned file_cmp ⊥) → LeavesFiles p.files r → (stepped f r (λ q e. turn_on no_files q (next e)) (λ channel. record { end = Trap channel; pages = p })).pages.files ≡ p.files
+      by : ((e : Ending) → LeavesFilesAlone file_cmp sight (next e)) → (r : Planned file_cmp ⊥) → LeavesFiles p.files r → (stepped f r (λ q e. turn_on sight q (next e)) (λ channel. record { end = Trap channel; pages = p })).pages.files ≡ p.files
       by rest (done t e) leaves = rest e (pages_left f t e) ∙ left_leaves f t e ∙ leaves
       by rest (stopped (trap channel)) leaves = refl
       by rest (stopped (need none)) leaves = absurd none
       by rest (call number) leaves = refl
   came_leaves (adds f entries next) p = by (λ b. came_leaves (next b)) (HasRoom (with_map p f entries) f.tty)
     where
-      by : ((b : Bool) → LeavesFilesAlone file_cmp (next b)) → (b : Bool) → (turn_on no_files (with_added p f entries b) (next b)).pages.files ≡ p.files
+      by : ((b : Bool) → LeavesFilesAlone file_cmp sight (next b)) → (b : Bool) → (turn_on sight (with_added p f entries b) (next b)).pages.files ≡ p.files
       by rest true = rest true (with_map p f entries)
       by rest false = rest false p
-  came_leaves (looks name next) p = came_leaves (next false) p
-  came_leaves (makes name next) p = came_leaves (next false) p
+  came_leaves (looks name next) p = came_leaves (next (sight.is_name name)) p
+  came_leaves (makes name next) p = came_leaves (next sight.has_more) p
   came_leaves (ends e) p = refl
 
--- and so it comes out the same, whatever files are known by
-no_files_alike : {K L : Type 0} (file_cmp : K → K → Ordering) (other_cmp : L → L → Ordering) → TellAlike file_cmp other_cmp no_files no_files
-no_files_alike file_cmp other_cmp = record { together = λ f g. absurd f; names = λ name. refl; more = refl; total = λ f. absurd f; other_total = λ f. absurd f }
+-- two sights without files tell the same of names and room
+pub record NamesAlike {K L : Type 0} (one : Sight ⊥ K) (other : Sight ⊥ L) : Type 0 where
+  pub names : (name : List ℕ) → other.is_name name ≡ one.is_name name
+  pub more : other.has_more ≡ one.has_more
 
-module _ {C K L : Type 0} {file_cmp : K → K → Ordering} (other_cmp : L → L → Ordering) (files : map.FinMap (file_page_cmp other_cmp) PageName) where
-  pub came_refiled : (t : Turn ⊥ C) (p : PlainPages file_cmp) → NameAlike other_cmp p files → turn_on no_files (refiled other_cmp p files) t ≡ refiled_came other_cmp files (turn_on no_files p t)
+alike_sights : {K L : Type 0} (file_cmp : K → K → Ordering) (other_cmp : L → L → Ordering) (one : Sight ⊥ K) (other : Sight ⊥ L) → NamesAlike one other → TellAlike file_cmp other_cmp one other
+alike_sights file_cmp other_cmp one other like = record { together = λ f g. absurd f; names = like.names; more = like.more; total = λ f. absurd f; other_total = λ f. absurd f }
+
+-- then such a turn comes out the same, whatever files are known by
+module _ {C K L : Type 0} {file_cmp : K → K → Ordering} (other_cmp : L → L → Ordering) (files : map.FinMap (file_page_cmp other_cmp) PageName) (one : Sight ⊥ K) (other : Sight ⊥ L) (like : NamesAlike one other) where
+  pub came_refiled : (t : Turn ⊥ C) (p : PlainPages file_cmp) → NameAlike other_cmp p files → turn_on other (refiled other_cmp p files) t ≡ refiled_came other_cmp files (turn_on one p t)
   came_refiled t p alike =
-      (came_same other_cmp no_files no_files (no_files_alike file_cmp other_cmp) t p files (record { names = alike; stand = λ f. absurd f })).0
-      ∙ ap (λ (fs : map.FinMap (file_page_cmp other_cmp) PageName). refiled_came other_cmp fs (turn_on no_files p t)) (came_leaves t (refiled other_cmp p files))
+      (came_same other_cmp one other (alike_sights file_cmp other_cmp one other like) t p files (record { names = alike; stand = λ f. absurd f })).0
+      ∙ ap (λ (fs : map.FinMap (file_page_cmp other_cmp) PageName). refiled_came other_cmp fs (turn_on one p t)) (came_leaves other t (refiled other_cmp p files))

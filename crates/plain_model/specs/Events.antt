@@ -24,7 +24,7 @@ use Rattle.plain_pages.specs.References.{Referred, granted, denied, full, in_map
 use Rattle.plain_model.specs.Forks.{top_fork, change_fork, with_regs, forks_by_slot, fork_line}
 use Rattle.plain_model.specs.Trees.{tree_of, next_serial, next_name, with_made}
 use Rattle.plain_model.specs.Calls.{with_ac}
-use Rattle.plain_model.specs.Unit.{Effect, refused, with_parts}
+use Rattle.plain_model.specs.Unit.{Effect, parts_of, refused, with_parts}
 use Rattle.plain_model.specs.FileEvents.{make_file, write_words, show_page}
 use Rattle.plain_pages.specs.NewMaps.{with_map}
 
@@ -40,7 +40,7 @@ new_job user top = record { user = user; top = top; mode = Command; line = []; s
 abbrev pub with_job : PlainState → Tty → List ℕ → PlainState
 with_job s t user =
     let f = next_name (tree_of s) t in
-    let made = with_parts s (record { tree = with_made (tree_of s) (top_fork f); pages = with_map s.pages f EmptyMap }) in
+    let made = with_parts s (record (parts_of s) { tree = with_made (tree_of s) (top_fork f); pages = with_map s.pages f EmptyMap }) in
     record made { jobs = map.insert s.jobs t.0 (new_job user f) }
 
 -- LOGIN: refused where the terminal has a job, where its serials are used up, and where the drum is full

@@ -1,6 +1,6 @@
 -- The families of monitor calls, and a turn of any call by its number.
-use Rattle.std.specs.Prelude.{ℕ, ◌%◌, List, [], ◌∷◌, Bool, if◌then◌else◌, Option, None, Some, slice_index}
-use Rattle.std.specs.Option.{option_map}
+use Rattle.std.specs.Prelude.{ℕ, ◌%◌, List, [], ◌∷◌, Bool, if◌then◌else◌, nat_lt, Option, None, Some, is_some, slice_index}
+use Rattle.std.specs.Option.{option_map, option_map_or}
 use Rattle.std.specs.declared.cmp.Ordering.{Ordering}
 use Rattle.std.specs.FinMap as map
 use Rattle.plain_model.specs.declared.call.TheConstants.{PBOUT}
@@ -8,7 +8,11 @@ use Rattle.plain_units.specs.declared.channel.TheConstants.{ILLEGAL_INSTRUCTION}
 use Rattle.plain_model.specs.declared.call.End.TheVariants.{Done}
 use Rattle.plain_model.specs.declared.call.MapChange.{MapChange}
 use Rattle.plain_model.specs.declared.call.ForkChange.{ForkChange}
+use Rattle.plain_model.specs.declared.call.FileChange.{FileChange}
 use Rattle.machine_names.specs.declared.names.ForkName.{ForkName}
+use Rattle.machine_names.specs.declared.names.TheConstants.{MOST_FILES}
+use Rattle.machine_names.specs.Orders.{name_cmp}
+use Rattle.plain_files.specs.Sizes.{PlainFile}
 use Rattle.plain_model.specs.declared.fork.Fork.{Fork}
 use Rattle.plain_units.specs.declared.registers.Regs.{Regs}
 use Rattle.plain_pages.specs.PlainPages.{PlainPages}
@@ -16,7 +20,7 @@ use Rattle.plain_model.specs.Interrupts.{posted}
 use Rattle.plain_model.specs.Trees.{PlainTree}
 use Rattle.plain_model.specs.Calls.{Asked, Turn, ends, Sight, no_files, Came, turn_on, numbered, is_among, fork_behind, parts_behind, out_of, behind_call}
 use Rattle.plain_model.specs.MapCalls.{map_calls, map_changed}
-use Rattle.plain_model.specs.FileCalls.{file_calls}
+use Rattle.plain_model.specs.FileCalls.{Jobs, JfnAsked, file_calls, file_changed, held_at, jfn_calls, times_held}
 use Rattle.plain_model.specs.ForkCalls.{fork_calls, fork_changed}
 
 -- PBOUT prints the low 7 bits of accumulator 1
@@ -27,10 +31,12 @@ prints regs = ends (Done tt (behind_call regs) (Some (slice_index regs.ac 1 % 12
 abbrev pub print_calls : List (ℕ × (Regs → Turn ⊥ (Unit {0})))
 print_calls = (PBOUT, prints) ∷ []
 
--- what monitor calls see and change, whatever files are known by: the forks and the pages
+-- what monitor calls see and change, whatever pages of files are known by: the forks, the pages, the files, and the jobs
 pub record Parts {K : Type 0} (file_cmp : K → K → Ordering) : Type 0 where
   pub tree : PlainTree
   pub pages : PlainPages file_cmp
+  pub files : map.FinMap name_cmp PlainFile
+  pub jobs : Jobs
 
 -- A family of calls: the calls by their numbers, what they are asked with, what they are told of files, and what their changes
 -- leave of the parts.
@@ -102,14 +108,31 @@ module _ {K : Type 0} {file_cmp : K → K → Ordering} where
   abbrev pub mapping : Family file_cmp ⊥ Asked MapChange
   mapping = record { calls = map_calls; asked = asks; sight = λ v who. no_files; changed = pages_changed }
 
-  -- the calls on files
+  -- the calls on files that change the fork that called alone
   abbrev pub filing : Family file_cmp ⊥ Asked (Unit {0})
   filing = record { calls = file_calls; asked = asks; sight = λ v who. no_files; changed = own_changed }
 
-  -- all families
-  abbrev pub families : List (Offer file_cmp)
-  families = offered printing ∷ offered forking ∷ offered mapping ∷ offered filing ∷ []
+  -- what calls on JFNs are asked with
+  abbrev pub asks_jfns : Parts file_cmp → ForkName → Regs → JfnAsked
+  asks_jfns v who regs = record { who = who; regs = regs; user = option_map_or (λ j. j.user) (map.get v.jobs who.tty.0) []; held = held_at v.jobs who.tty; times = times_held v.jobs }
 
-  -- a turn of a monitor call
-  abbrev pub call_turned : Parts file_cmp → ForkName → Regs → ℕ → Turned file_cmp
-  call_turned v who regs number = first_turned families v who regs number
+  -- what they are told of files: which names there are, and whether one more may be there
+  abbrev pub names_seen : Parts file_cmp → ForkName → Sight ⊥ K
+  names_seen v who = record { file_of = λ none. None; is_name = λ name. is_some (map.get v.files name); has_more = nat_lt (map.len v.files) MOST_FILES }
+
+  module _ (key_of : List ℕ → K) where
+    -- a call on JFNs changes pages, files and jobs
+    abbrev pub jfns_changed : FileChange → Parts file_cmp → Parts file_cmp
+    jfns_changed change v = let part = file_changed key_of change (record { pages = v.pages; files = v.files; jobs = v.jobs }) in record v { pages = part.pages; files = part.files; jobs = part.jobs }
+
+    -- the calls on JFNs
+    abbrev pub opening : Family file_cmp ⊥ JfnAsked FileChange
+    opening = record { calls = jfn_calls; asked = asks_jfns; sight = names_seen; changed = jfns_changed }
+
+    -- all families, where pages of files are under the keys of the files' names
+    abbrev pub families : List (Offer file_cmp)
+    families = offered printing ∷ offered forking ∷ offered mapping ∷ offered filing ∷ offered opening ∷ []
+
+    -- a turn of a monitor call
+    abbrev pub call_turned : Parts file_cmp → ForkName → Regs → ℕ → Turned file_cmp
+    call_turned v who regs number = first_turned families v who regs number

@@ -38,7 +38,7 @@ on_page word r = if nat_lt (right word) SPACE_PAGES then r else Err BAD_PAGE
 unfoldable pub slot_of : ForkMap → ForkName → ℕ → Result Slot ℕ
 slot_of forks who word = option_map_or (λ f. Ok (record { fork = f.name; page = right word })) (named forks who (left word)) (Err NO_HANDLE)
 
--- the same by a handle or a JFN, of which none is held
+-- the same by a handle or a JFN; no call on maps takes a JFN yet
 unfoldable pub place_of : ForkMap → ForkName → ℕ → Result Slot ℕ
 place_of forks who word = if nat_lt (left word) FORK_SELF then Err NO_JFN else slot_of forks who word
 

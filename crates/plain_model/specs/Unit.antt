@@ -72,10 +72,10 @@ trapped s f channel = unit_ended s (posted f channel) (posted f channel).body.st
 
 -- the parts of the state that calls see and change, and the state with others
 abbrev pub parts_of : PlainState → Parts name_cmp
-parts_of s = record { tree = tree_of s; pages = s.pages }
+parts_of s = record { tree = tree_of s; pages = s.pages; files = s.files; jobs = s.jobs }
 
 abbrev pub with_parts : PlainState → Parts name_cmp → PlainState
-with_parts s v = record s { forks = v.tree.forks; fork_serials = v.tree.serials; pages = v.pages }
+with_parts s v = record s { forks = v.tree.forks; fork_serials = v.tree.serials; pages = v.pages; files = v.files; jobs = v.jobs }
 
 -- the characters that a turn prints
 abbrev pub turn_printed : Tty → Option ℕ → List Item
@@ -91,7 +91,7 @@ turned s t r = let e = caller_ended (with_parts s r.parts) r.caller in record e 
 
 -- a turn of a monitor call; a number that is no call traps as an illegal instruction
 abbrev pub called : PlainState → Fork → ℕ → Effect
-called s f number = turned s f.name.tty (call_turned (parts_of s) f.name f.body.regs number)
+called s f number = turned s f.name.tty (call_turned (λ name. name) (parts_of s) f.name f.body.regs number)
 
 -- a unit has gone through: its fork has the registers that it leaves, and then the channel that it posts
 abbrev pub went : PlainState → Fork → NamedPages → Ending → Effect

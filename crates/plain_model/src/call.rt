@@ -1,13 +1,29 @@
 //! Monitor calls (JSYS Manual): their numbers under their names, handles of forks, the codes of errors, and how
 //! a turn of a call ends.
 use crate::{Body, Fork};
-use machine_names::{Access, ForkName, MOST_FORKS, Slot};
+use machine_names::{Access, FileName, ForkName, MOST_FORKS, Slot, Tty};
+use plain_files::Mode;
 use plain_units::Regs;
 use script_texts::WaitOn;
 use word36::Word;
 
 /// Tells the last error of a fork.
 pub const GETER: u32 = 0o12;
+
+/// Takes a JFN for the file of a name, and may make that file.
+pub const GTJFN: u32 = 0o20;
+
+/// Opens the file of a JFN.
+pub const OPENF: u32 = 0o21;
+
+/// Closes the file of a JFN, and releases the JFN.
+pub const CLOSF: u32 = 0o22;
+
+/// Releases a JFN whose file isn't open.
+pub const RLJFN: u32 = 0o23;
+
+/// Deletes the file of a JFN, and releases the JFN.
+pub const DELF: u32 = 0o26;
 
 /// Maps a page of one place into another, or takes one out of a map.
 pub const PMAP: u32 = 0o56;
@@ -87,11 +103,35 @@ pub const NO_ROOM: u32 = 0o600005;
 /// The error of a JFN that isn't held.
 pub const NO_JFN: u32 = 0o600006;
 
+/// The error of a file that isn't open in the way wanted, or is to be opened in none.
+pub const NOT_OPEN: u32 = 0o600007;
+
+/// The error of a JFN by which its file is open.
+pub const JFN_OPEN: u32 = 0o600010;
+
+/// The error of a name that no file has.
+pub const NO_FILE: u32 = 0o600011;
+
+/// The error of a text that is no name of a file.
+pub const BAD_NAME: u32 = 0o600012;
+
+/// The error of a machine that has 512 files.
+pub const FILES_FULL: u32 = 0o600013;
+
+/// The error of a job that holds twenty JFNs.
+pub const JFNS_FULL: u32 = 0o600014;
+
+/// The error of a file for which another JFN stands.
+pub const FILE_IN_USE: u32 = 0o600015;
+
 /// The error of a page number past 777.
 pub const BAD_PAGE: u32 = 0o600016;
 
 /// The error of a page that isn't there.
 pub const NO_PAGE: u32 = 0o600017;
+
+/// The error of bytes that are larger than words.
+pub const BAD_SIZE: u32 = 0o600020;
 
 /// How a turn of a monitor call ends.
 #[derive(Clone, Copy)]
@@ -151,4 +191,19 @@ pub enum ForkChange {
     Halt(ForkName),
     /// Sixteen words are stored in the space of a fork, from an address on.
     Store(ForkName, u32, [Word; 16]),
+}
+
+/// What a turn of a call on JFNs changes. A JFN is one of the job at a terminal.
+#[derive(Clone, Copy)]
+pub enum FileChange {
+    /// A free JFN stands for the file of a name.
+    Take(Tty, u32, FileName),
+    /// A file of a name is made, without a byte, and a free JFN stands for it.
+    Make(Tty, u32, FileName),
+    /// The file of a JFN is opened, at its first byte, in bytes of a size; one that is opened to be written alone has no byte left.
+    Open(Tty, u32, Mode, u8),
+    /// A JFN stands for no file any more.
+    Release(Tty, u32),
+    /// The file of a JFN is removed, with the names that its pages have there, and the JFN stands for none.
+    Delete(Tty, u32),
 }

@@ -43,7 +43,15 @@ impl<P: Pages> System<P> {
         ensures some { IfOk result (λ units. 1 ≤ units.count) }
         ensures few { IfOk result (λ units. units.count ≤ most) }
     {
-        let ran = units_of(&mut self.tree, &mut self.pages, &mut self.taken, who, most);
+        let ran = units_of(
+            &mut self.tree,
+            &mut self.pages,
+            &mut self.files,
+            &self.jobs,
+            &mut self.taken,
+            who,
+            most,
+        );
         self.tree.are_trees();
         match ran {
             Err(need) => Err(need),

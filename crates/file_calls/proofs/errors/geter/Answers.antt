@@ -1,4 +1,4 @@
-use Rattle.std.proofs.Common.{◌≡◌, ℕ, Result, sym, ◌∙◌, ap, subst}
+use Rattle.std.proofs.Common.{ℕ, Result, sym, ◌∙◌, ap, subst}
 use Rattle.plain_model.specs.declared.fork.Fork.{Fork}
 use Rattle.plain_pages.specs.PlainPages.{NumberedPages}
 use Rattle.plain_model.specs.Calls.{Turn, ends, given, no_files, returning, turn_on, with_ac}

@@ -15,10 +15,11 @@ use Rattle.plain_model.specs.Trees.{PlainTree, changed, with_body, with_changed_
 use Rattle.fork_tree.specs.Trees.{IsTree, Lives}
 use Rattle.fork_tree.proofs.Slots.{in_tells, some_of}
 use Rattle.call_turns.specs.Answers.{AnswerNeeds, IsDone}
-use Rattle.fork_calls.specs.Needing.{call_frames}
+use Rattle.text_pointers.specs.Reading.{text_frames}
 use Rattle.fork_calls.specs.Holding.{CallLeaves}
 use Rattle.fork_calls.specs.Limits.{AreWithin, FitsForced, IsBody}
-use Rattle.monitor_core.specs.ForkUnit.{Kept, LeavesForks, TurnedSo, answered, answered_turn, called_behind, fork_of, out_in, put_back, turn_behind}
+use Rattle.file_calls.specs.Asking.{key_in}
+use Rattle.monitor_core.specs.ForkUnit.{Kept, LeavesForks, Tables, TurnedSo, answered, answered_turn, called_behind, fork_of, out_in, parts_in, put_back, put_in, rest_of, turn_behind}
 use Rattle.monitor_core.specs.Shown.{FitsShown, FitsStop, shown_of, stop_of}
 use Rattle.monitor_core.proofs.Calling.{done_else, out_fits, so_done}
 use Rattle.monitor_core.proofs.Keeping.{answered_keeps}
@@ -98,6 +99,9 @@ returns-in-Some-body_mut-clause-called g c at b found =
     let old = c.args.tree.now in
     let new = c.turn-answer.new.tree in
     let answer = c.turn-answer.result in
+    let turn = c.turn-answer.ensures in
+    let tables : Tables = record { tree = old; files = c.args.files.now; jobs = c.args.jobs.now.items } in
+    let mid : Tables = record tables { tree = new; files = c.turn-answer.new.files } in
     let was = c.fork_at.ensures.tree in
     let is = c.are_trees.ensures in
     let left = c.turn-answer.ensures.leaves in
@@ -119,16 +123,19 @@ returns-in-Some-body_mut-clause-called g c at b found =
       told = λ d drum.
           let p = g.P.Pages.means.plain c.args.pages.now d in
           let q = g.P.Pages.means.plain c.turn-answer.new.pages d in
-          let t = c.turn-answer.ensures.told d drum in
-          let turned : call_turned (record { tree = old; pages = p }) who f.body.regs number ≡ answered_turn (record { tree = new; pages = q }) who answer =
-          subst (λ (x : Fork). call_turned (record { tree = old; pages = p }) who x.body.regs number ≡ answered_turn (record { tree = new; pages = q }) who answer) same
-          (so_done (record { tree = old; pages = p }) (record { tree = new; pages = q }) who c.in-Some.fork.now.body.regs number answer (done_else answer (λ n is. c.in_default-answer.not-Need n is)) t.1) in
-          let behind_is : called_behind old f p number ≡ turn_behind new q (out_in answer) (answered k answer) =
-          ap (λ (r : Turned nat_cmp). turn_behind r.parts.tree r.parts.pages r.out (unwrap_or r.caller f)) turned
-          ∙ ap (λ (o : Option Fork). turn_behind new q (out_in answer) (unwrap_or (option_map (λ h. answered h answer) o) f)) stands.1 in
-          let left_is : turn_behind new q (out_in answer) (answered k answer) ≡ record { tree = put_back new (with_body body k); fork = with_body body k; pages = q; shown = shown_of (out_in answer) body.status } =
-          ap (λ (h : Fork). record { tree = put_back new h; fork = h; pages = q; shown = shown_of (out_in answer) h.body.status }) (sym fork) in
-          (t.0, behind_is ∙ left_is ∙ (λ i. record { tree = sym back i; fork = with_body body k; pages = q; shown = sym c.answered.ensures.shown i }));
+          let v = parts_in (rest_of tables) p in
+          let w = parts_in (rest_of mid) q in
+          let turned : call_turned (key_in tables.files) v who f.body.regs number ≡ answered_turn w who answer =
+          subst (λ (x : Fork). call_turned (key_in tables.files) v who x.body.regs number ≡ answered_turn w who answer) same
+          (so_done (key_in tables.files) v w who c.in-Some.fork.now.body.regs number answer (done_else answer (λ n is. c.in_default-answer.not-Need n is)) (turn.told.told d drum)) in
+          let behind_is : called_behind (key_in tables.files) (rest_of tables) f p number ≡ turn_behind w (out_in answer) (answered k answer) =
+          ap (λ (r : Turned nat_cmp). turn_behind r.parts r.out (unwrap_or r.caller f)) turned
+          ∙ ap (λ (o : Option Fork). turn_behind w (out_in answer) (unwrap_or (option_map (λ h. answered h answer) o) f)) stands.1 in
+          let left_is : turn_behind w (out_in answer) (answered k answer) ≡ record { rest = put_in (rest_of mid) (with_body body k); fork = with_body body k; pages = q; shown = shown_of (out_in answer) body.status } =
+          ap (λ (h : Fork). record { rest = put_in (rest_of mid) h; fork = h; pages = q; shown = shown_of (out_in answer) h.body.status }) (sym fork) in
+          (turn.told.fits d drum, behind_is ∙ left_is ∙ (λ i. record { rest = rest_of (record mid { tree = sym back i }); fork = with_body body k; pages = q; shown = sym c.answered.ensures.shown i }));
+      numbers = turn.told.numbers;
+      unheld = turn.unheld;
       keeps = after_keeps old new was is left.kept f k lives fits stands.1 body keeps;
       leaves = subst (λ x. LeavesForks g.P.Pages.means c.args.pages.now c.turn-answer.new.pages old x f 1) (sym back)
           (turn_leaves old new was is left.kept f k lives fits stands.1 body keeps g.P.Pages.means c.args.pages.now c.turn-answer.new.pages left);
@@ -141,16 +148,20 @@ returns-in-Need-clause-needs g c =
     let who = c.args.who.fork in
     let turn = c.turn-answer.ensures in
     let n = c.in-Need.need in
+    let tables : Tables = record { tree = c.args.tree.now; files = c.args.files.now; jobs = c.args.jobs.now.items } in
+    let left : Tables = record tables { tree = c.turn-answer.new.tree; files = c.turn-answer.new.files } in
     record {
-      told = λ d drum.
-          let t = turn.told d drum in
-          let p = means.plain c.args.pages.now d in
-          let q = means.plain c.turn-answer.new.pages d in
-          let same = subst (TurnedSo (record { tree = c.args.tree.now; pages = p }) (record { tree = c.turn-answer.new.tree; pages = q }) who c.in-Some.fork.now.body.regs c.args.number) c.in-Need.is t.1 in
-          (t.0, ap (λ (v : Parts nat_cmp). v.tree) same, ap (λ (v : Parts nat_cmp). v.pages) same);
+      told = record {
+        files = turn.stays n c.in-Need.is;
+        each = λ d drum.
+            let p = means.plain c.args.pages.now d in
+            let q = means.plain c.turn-answer.new.pages d in
+            let same = subst (TurnedSo (key_in tables.files) (parts_in (rest_of tables) p) (parts_in (rest_of left) q) who c.in-Some.fork.now.body.regs c.args.number) c.in-Need.is (turn.told.told d drum) in
+            (turn.told.fits d drum, ap (λ (v : Parts nat_cmp). v.tree) same, ap (λ (v : Parts nat_cmp). v.pages) same);
+      };
       left = turn.leaves;
       unmade = turn.unmade n c.in-Need.is;
-      needed = subst (AnswerNeeds means.store call_frames c.turn-answer.new.pages) c.in-Need.is turn.needs;
+      needed = subst (AnswerNeeds means.store text_frames c.turn-answer.new.pages) c.in-Need.is turn.needs;
     }
 
 pub returns-in-Need-clause-core : goal.returns-in-Need-clause-core

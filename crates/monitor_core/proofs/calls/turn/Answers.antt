@@ -1,4 +1,5 @@
-use Rattle.std.proofs.Common.{◌∙◌, refl, sym, ap, arith}
+use Rattle.std.proofs.Common.{◌≡◌, ◌∙◌, refl, sym, ap, subst, arith}
+use Rattle.std.specs.Prelude.{IsSome}
 use Rattle.std.specs.Ordering.{nat_cmp}
 use Rattle.plain_pages.specs.PlainPages.{NumberedPages}
 use Rattle.plain_model.specs.ForkCalls.{ForkParts}
@@ -7,45 +8,83 @@ use Rattle.plain_model.specs.Trees.{PlainTree}
 use Rattle.page_contracts.specs.Pages.{PagesMeaning}
 use Rattle.machine_names.specs.declared.names.ForkName.{ForkName}
 use Rattle.ka10_unit.proofs.Carried.{grows_none, grows_within}
+use Rattle.call_turns.specs.declared.answer.Answer.{Answer}
+use Rattle.call_turns.specs.declared.answer.Answer.TheVariants as answer
+use Rattle.call_turns.specs.Answers.{IsDone}
+use Rattle.ka10_unit.specs.Gathers.{framed}
+use Rattle.file_tables.specs.declared.tables.FileTables.{FileTables}
+use Rattle.file_tables.specs.Tables.{open_of}
+use Rattle.file_calls.specs.Asking.{asked_of, key_in}
+use Rattle.file_calls.specs.Turning.{Stays, TextNeeds}
 use Rattle.fork_calls.specs.Holding.{CallLeaves, Holds}
-use Rattle.fork_calls.specs.Needing.{call_frames}
+use Rattle.text_pointers.specs.Reading.{text_frames}
 use Rattle.fork_calls.proofs.Branch.{none_made}
 use Rattle.fork_calls.proofs.CallLeaving.{grown_leaves}
 use Rattle.fork_calls.proofs.Needed.{answer_more, done_needs}
 use Rattle.monitor_core.proofs.Calling.{done_so, files_went, forks_went, has_regs, maps_went, none_went, print_went, turned_so}
+use Rattle.monitor_core.specs.ForkUnit.{Tables, parts_in, rest_of}
+use Rattle.monitor_core.specs.Jobs.{jobs_of}
+use Rattle.monitor_core.proofs.JfnTurns.{jfn_turned}
+use Rattle.monitor_core.proofs.JfnsAsked.{dir_stays, jobs_held, numbers_follow, still_unheld}
+use Rattle.monitor_core.proofs.Sounds.{entry_read, job_read}
 use Rattle.monitor_core.proofs.calls.turn.Goals as goal
+
+-- the files behind a turn that is done, or needs something first
+by_answer : {P X : Type 0} (old new : P) (tables tables' : FileTables) (a : Answer) → (IsDone a → X) → (tables' ≡ tables → X) → Stays old new tables tables' a → X
+by_answer old new tables tables' (answer.Need n) done waits stays = waits stays.1
+by_answer old new tables tables' (answer.After regs out post) done waits stays = done tt
+by_answer old new tables tables' (answer.Wait on) done waits stays = done tt
+by_answer old new tables tables' answer.Halt done waits stays = done tt
+by_answer old new tables tables' (answer.Refused code) done waits stays = done tt
+by_answer old new tables tables' (answer.Failed code) done waits stays = done tt
+by_answer old new tables tables' (answer.Trap channel) done waits stays = done tt
 
 -- nothing was changed
 nothing_left : {P : Type 0} (means : PagesMeaning P) (who : ForkName) (tree : PlainTree) (p : P) → Holds means p tree.forks → CallLeaves means p p tree tree who 128
 nothing_left means who tree p holds = grown_leaves means who tree 128 p p (grows_within means who.tty 0 128 p p (omega arith) (grows_none means who.tty p)) holds
 
 pub returns-then-is_print_call-clause-told : goal.returns-then-is_print_call-clause-told
-returns-then-is_print_call-clause-told g c d fits =
-    let p = g.P.Pages.means.plain c.args.pages.now d in
-    (fits, done_so _ _ c.args.who c.args.regs.now c.args.number c.print_call.result c.print_call.ensures.done (print_went (record { tree = c.args.tree.now; pages = p }) c.args.who c.args.regs.now c.args.number (sym c.is_print_call.ensures ∙ c.if-is_print_call.true) c.print_call.result (c.print_call.ensures.told p)))
+returns-then-is_print_call-clause-told g c =
+    let was : Tables = record { tree = c.args.tree.now; files = c.args.files.now; jobs = c.args.jobs.now.items } in
+    record {
+      fits = λ d fits. fits;
+      told = λ d fits.
+          let p = g.P.Pages.means.plain c.args.pages.now d in
+          done_so (key_in was.files) _ _ c.args.who c.args.regs.now c.args.number c.print_call.result c.print_call.ensures.done
+          (print_went (key_in was.files) (parts_in (rest_of was) p) c.args.who c.args.regs.now c.args.number (sym c.is_print_call.ensures ∙ c.if-is_print_call.true) c.print_call.result (c.print_call.ensures.told p));
+      numbers = λ d fits. dir_stays was.files was.files refl;
+    }
 
 pub returns-then-is_print_call-clause-leaves : goal.returns-then-is_print_call-clause-leaves
 returns-then-is_print_call-clause-leaves g c = nothing_left g.P.Pages.means c.args.who c.args.tree.now c.args.pages.now c.requires.holds
 
 pub returns-then-is_fork_call-clause-told : goal.returns-then-is_fork_call-clause-told
-returns-then-is_fork_call-clause-told g c d fits =
-    let p = g.P.Pages.means.plain c.args.pages.now d in
-    let q = g.P.Pages.means.plain c.call.new.pages d in
-    let t = c.call.ensures.told d fits in (
-      t.0,
-      turned_so (λ (x : ForkParts nat_cmp). record { tree = x.tree; pages = x.pages }) (parts c.args.tree.now p) (parts c.call.new.tree q) c.args.who c.args.regs.now c.args.number c.call.result t.1
-          (λ went. forks_went (record { tree = c.args.tree.now; pages = p }) c.args.who c.args.regs.now c.args.number (sym c.is_print_call.ensures ∙ c.if-is_print_call.false) (sym c.is_fork_call.ensures ∙ c.if-is_fork_call.true) c.call.new.tree q c.call.result went),
-    )
+returns-then-is_fork_call-clause-told g c =
+    let was : Tables = record { tree = c.args.tree.now; files = c.args.files.now; jobs = c.args.jobs.now.items } in
+    record {
+      fits = λ d fits. (c.call.ensures.told d fits).0;
+      told = λ d fits.
+          let p = g.P.Pages.means.plain c.args.pages.now d in
+          let q = g.P.Pages.means.plain c.call.new.pages d in
+          let v = parts_in (rest_of was) p in
+          turned_so (key_in was.files) (λ (x : ForkParts nat_cmp). record v { tree = x.tree; pages = x.pages }) (parts c.args.tree.now p) (parts c.call.new.tree q) c.args.who c.args.regs.now c.args.number c.call.result (c.call.ensures.told d fits).1
+          (λ went. forks_went (key_in was.files) v c.args.who c.args.regs.now c.args.number (sym c.is_print_call.ensures ∙ c.if-is_print_call.false) (sym c.is_fork_call.ensures ∙ c.if-is_fork_call.true) c.call.new.tree q c.call.result went);
+      numbers = λ d fits. dir_stays was.files was.files refl;
+    }
 
 pub returns-then-is_map_call-clause-told : goal.returns-then-is_map_call-clause-told
-returns-then-is_map_call-clause-told g c d fits =
-    let p = g.P.Pages.means.plain c.args.pages.now d in
-    let q = g.P.Pages.means.plain c.call-then-is_map_call.new.pages d in
-    let t = c.call-then-is_map_call.ensures.told d fits in (
-      t.0,
-      turned_so (λ (x : NumberedPages). record { tree = c.args.tree.now; pages = x }) p q c.args.who c.args.regs.now c.args.number c.call-then-is_map_call.result t.1
-          (λ went. maps_went (record { tree = c.args.tree.now; pages = p }) c.args.who c.args.regs.now c.args.number (sym c.is_print_call.ensures ∙ c.if-is_print_call.false) (sym c.is_fork_call.ensures ∙ c.if-is_fork_call.false) (sym c.is_map_call.ensures ∙ c.if-is_map_call.true) q c.call-then-is_map_call.result went),
-    )
+returns-then-is_map_call-clause-told g c =
+    let was : Tables = record { tree = c.args.tree.now; files = c.args.files.now; jobs = c.args.jobs.now.items } in
+    record {
+      fits = λ d fits. (c.call-then-is_map_call.ensures.told d fits).0;
+      told = λ d fits.
+          let p = g.P.Pages.means.plain c.args.pages.now d in
+          let q = g.P.Pages.means.plain c.call-then-is_map_call.new.pages d in
+          let v = parts_in (rest_of was) p in
+          turned_so (key_in was.files) (λ (x : NumberedPages). record v { pages = x }) p q c.args.who c.args.regs.now c.args.number c.call-then-is_map_call.result (c.call-then-is_map_call.ensures.told d fits).1
+          (λ went. maps_went (key_in was.files) v c.args.who c.args.regs.now c.args.number (sym c.is_print_call.ensures ∙ c.if-is_print_call.false) (sym c.is_fork_call.ensures ∙ c.if-is_fork_call.false) (sym c.is_map_call.ensures ∙ c.if-is_map_call.true) q c.call-then-is_map_call.result went);
+      numbers = λ d fits. dir_stays was.files was.files refl;
+    }
 
 pub returns-then-is_map_call-clause-leaves : goal.returns-then-is_map_call-clause-leaves
 returns-then-is_map_call-clause-leaves g c =
@@ -58,13 +97,18 @@ pub returns-then-is_map_call-clause-regs : goal.returns-then-is_map_call-clause-
 returns-then-is_map_call-clause-regs g c = has_regs c.call-then-is_map_call.result c.call-then-is_map_call.ensures.fits
 
 pub returns-then-is_file_call-clause-told : goal.returns-then-is_file_call-clause-told
-returns-then-is_file_call-clause-told g c d fits =
-    let p = g.P.Pages.means.plain c.args.pages.now d in
-    let a = c.call-then-is_file_call in (
-      fits,
-      done_so _ _ c.args.who c.args.regs.now c.args.number a.result a.ensures.done
-          (files_went (record { tree = c.args.tree.now; pages = p }) c.args.who c.args.regs.now c.args.number (sym c.is_print_call.ensures ∙ c.if-is_print_call.false) (sym c.is_fork_call.ensures ∙ c.if-is_fork_call.false) (sym c.is_map_call.ensures ∙ c.if-is_map_call.false) (sym c.is_file_call.ensures ∙ c.if-is_file_call.true) a.result (a.ensures.told p)),
-    )
+returns-then-is_file_call-clause-told g c =
+    let was : Tables = record { tree = c.args.tree.now; files = c.args.files.now; jobs = c.args.jobs.now.items } in
+    let a = c.call-then-is_file_call in
+    record {
+      fits = λ d fits. fits;
+      told = λ d fits.
+          let p = g.P.Pages.means.plain c.args.pages.now d in
+          done_so (key_in was.files) _ _ c.args.who c.args.regs.now c.args.number a.result a.ensures.done
+          (files_went (key_in was.files) (parts_in (rest_of was) p) c.args.who c.args.regs.now c.args.number (sym c.is_print_call.ensures ∙ c.if-is_print_call.false) (sym c.is_fork_call.ensures ∙ c.if-is_fork_call.false) (sym c.is_map_call.ensures ∙ c.if-is_map_call.false) (sym c.is_file_call.ensures ∙ c.if-is_file_call.true)
+          a.result (a.ensures.told p));
+      numbers = λ d fits. dir_stays was.files was.files refl;
+    }
 
 pub returns-then-is_file_call-clause-leaves : goal.returns-then-is_file_call-clause-leaves
 returns-then-is_file_call-clause-leaves g c = nothing_left g.P.Pages.means c.args.who c.args.tree.now c.args.pages.now c.requires.holds
@@ -73,27 +117,76 @@ pub returns-then-is_file_call-clause-regs : goal.returns-then-is_file_call-claus
 returns-then-is_file_call-clause-regs g c = has_regs c.call-then-is_file_call.result c.call-then-is_file_call.ensures.fits
 
 pub returns-clause-told : goal.returns-clause-told
-returns-clause-told g c d fits =
-    let p = g.P.Pages.means.plain c.args.pages.now d in
-    (fits, none_went (record { tree = c.args.tree.now; pages = p }) c.args.who c.args.regs.now c.args.number (sym c.is_print_call.ensures ∙ c.if-is_print_call.false) (sym c.is_fork_call.ensures ∙ c.if-is_fork_call.false) (sym c.is_map_call.ensures ∙ c.if-is_map_call.false) (sym c.is_file_call.ensures ∙ c.if-is_file_call.false))
+returns-clause-told g c =
+    let was : Tables = record { tree = c.args.tree.now; files = c.args.files.now; jobs = c.args.jobs.now.items } in
+    record {
+      fits = λ d fits. fits;
+      told = λ d fits.
+          none_went (key_in was.files) (parts_in (rest_of was) (g.P.Pages.means.plain c.args.pages.now d)) c.args.who c.args.regs.now c.args.number (sym c.is_print_call.ensures ∙ c.if-is_print_call.false) (sym c.is_fork_call.ensures ∙ c.if-is_fork_call.false) (sym c.is_map_call.ensures ∙ c.if-is_map_call.false)
+          (sym c.is_file_call.ensures ∙ c.if-is_file_call.false) (sym c.is_jfn_call.ensures ∙ c.if-is_jfn_call.false);
+      numbers = λ d fits. dir_stays was.files was.files refl;
+    }
 
 pub returns-clause-leaves : goal.returns-clause-leaves
 returns-clause-leaves g c = nothing_left g.P.Pages.means c.args.who c.args.tree.now c.args.pages.now c.requires.holds
 
 pub returns-then-is_print_call-clause-needs : goal.returns-then-is_print_call-clause-needs
-returns-then-is_print_call-clause-needs g c = done_needs g.P.Pages.means.store call_frames c.args.pages.now c.print_call.result c.print_call.ensures.done
+returns-then-is_print_call-clause-needs g c = done_needs g.P.Pages.means.store text_frames c.args.pages.now c.print_call.result c.print_call.ensures.done
 
 pub returns-then-is_print_call-clause-unmade : goal.returns-then-is_print_call-clause-unmade
 returns-then-is_print_call-clause-unmade g c n is = none_made g.P.Pages.means c.args.pages.now c.args.pages.now c.args.who.tty refl refl
 
 pub returns-then-is_map_call-clause-needs : goal.returns-then-is_map_call-clause-needs
-returns-then-is_map_call-clause-needs g c = answer_more g.P.Pages.means.store 1 c.call-then-is_map_call.new.pages call_frames c.call-then-is_map_call.result (omega arith) c.call-then-is_map_call.ensures.needs
+returns-then-is_map_call-clause-needs g c = answer_more g.P.Pages.means.store 1 c.call-then-is_map_call.new.pages text_frames c.call-then-is_map_call.result (omega arith) c.call-then-is_map_call.ensures.needs
 
 pub returns-then-is_map_call-clause-unmade : goal.returns-then-is_map_call-clause-unmade
 returns-then-is_map_call-clause-unmade g c n is = (let none = c.call-then-is_map_call.ensures.none in none_made g.P.Pages.means c.args.pages.now c.call-then-is_map_call.new.pages c.args.who.tty none.serials none.most)
 
 pub returns-then-is_file_call-clause-needs : goal.returns-then-is_file_call-clause-needs
-returns-then-is_file_call-clause-needs g c = done_needs g.P.Pages.means.store call_frames c.args.pages.now c.call-then-is_file_call.result c.call-then-is_file_call.ensures.done
+returns-then-is_file_call-clause-needs g c = done_needs g.P.Pages.means.store text_frames c.args.pages.now c.call-then-is_file_call.result c.call-then-is_file_call.ensures.done
 
 pub returns-then-is_file_call-clause-unmade : goal.returns-then-is_file_call-clause-unmade
 returns-then-is_file_call-clause-unmade g c n is = none_made g.P.Pages.means c.args.pages.now c.args.pages.now c.args.who.tty refl refl
+
+-- a turn of a call on JFNs
+pub returns-then-is_jfn_call-clause-told : goal.returns-then-is_jfn_call-clause-told
+returns-then-is_jfn_call-clause-told g c =
+    let means = g.P.Pages.means in
+    let was : Tables = record { tree = c.args.tree.now; files = c.args.files.now; jobs = c.args.jobs.now.items } in
+    let j = c.in-Some.job in
+    let there = job_read was.jobs c.args.who.tty.0 c.index.result.now j c.requires.job.room c.requires.job.terminal c.index.ensures c.in-Some.is in
+    let t = c.jfn_call.ensures.told in
+    let a = c.jfn_call.result in
+    record {
+      fits = t.fits;
+      told = λ d fits.
+          let p = means.plain c.args.pages.now d in
+          jfn_turned was c.args.who c.args.regs.now c.args.number j there c.requires.job.unheld (sym c.is_print_call.ensures ∙ c.if-is_print_call.false) (sym c.is_fork_call.ensures ∙ c.if-is_fork_call.false) (sym c.is_map_call.ensures ∙ c.if-is_map_call.false)
+          (sym c.is_file_call.ensures ∙ c.if-is_file_call.false) (sym c.is_jfn_call.ensures ∙ c.if-is_jfn_call.true)
+          (TextNeeds (framed means c.args.pages.now d) (asked_of c.args.who c.args.regs.now j.user was.files)) c.jfn_call.new.tables p (means.plain c.jfn_call.new.pages d) a
+          (t.comes d (jobs_of (open_of was.files) was.jobs) fits (jobs_held was.jobs (open_of was.files) c.requires.job.unheld));
+      numbers = λ d fits. by_answer c.args.pages.now c.jfn_call.new.pages was.files c.jfn_call.new.tables a (λ done. numbers_follow was.files c.jfn_call.new.tables _ (t.numbers d fits done)) (λ need. dir_stays was.files c.jfn_call.new.tables (ap (λ (x : FileTables). x.dir) need)) c.jfn_call.ensures.stays;
+    }
+
+pub returns-then-is_jfn_call-clause-unheld : goal.returns-then-is_jfn_call-clause-unheld
+returns-then-is_jfn_call-clause-unheld g c = still_unheld c.args.files.now c.jfn_call.new.tables c.args.jobs.now.items c.args.who.tty c.requires.job c.jfn_call.ensures.others
+
+pub returns-then-is_jfn_call-clause-stays : goal.returns-then-is_jfn_call-clause-stays
+returns-then-is_jfn_call-clause-stays g c n is = (subst (Stays c.args.pages.now c.jfn_call.new.pages c.args.files.now c.jfn_call.new.tables) is c.jfn_call.ensures.stays).1
+
+pub returns-then-is_jfn_call-clause-leaves : goal.returns-then-is_jfn_call-clause-leaves
+returns-then-is_jfn_call-clause-leaves g c = grown_leaves g.P.Pages.means c.args.who c.args.tree.now 128 c.args.pages.now c.jfn_call.new.pages c.jfn_call.ensures.grows c.requires.holds
+
+pub returns-then-is_jfn_call-clause-unmade : goal.returns-then-is_jfn_call-clause-unmade
+returns-then-is_jfn_call-clause-unmade g c n is =
+    let means = g.P.Pages.means in
+    let same = (subst (Stays c.args.pages.now c.jfn_call.new.pages c.args.files.now c.jfn_call.new.tables) is c.jfn_call.ensures.stays).0 in
+    none_made means c.args.pages.now c.jfn_call.new.pages c.args.who.tty (ap means.serial same) (ap means.most same)
+
+pub jfn_call-requires-clause-serves : goal.jfn_call-requires-clause-serves
+jfn_call-requires-clause-serves g c = record { lives = c.requires.holds.living c.args.who ∙ c.requires.lives; terminal = c.requires.job.terminal }
+
+pub unreachable-requires : goal.unreachable-requires
+unreachable-requires g c =
+    let none = entry_read c.args.jobs.now.items c.args.who.tty.0 c.index.result.now c.requires.job.room c.requires.job.terminal c.index.ensures ∙ c.in_default.is in
+    let there = subst IsSome none c.requires.job.there in cc there

@@ -24,8 +24,8 @@ returns-in-Most-clause-ran g c at =
           let q = g.P.Pages.means.plain c.burst-burst.new.pages d in
           let came = subst (λ e. Came e n f.name p f.body.regs q regs) c.in-Most.is (burst.told d f.name fits c.space-space.ensures) in (
             burst.fits d fits,
-            λ tree. subst (λ k. RanUnits tree f p n (left_so tree (ran_on f k regs) q nothing)) (sym c.from.ensures)
-                (row_ran tree f p n (record { pages = q; regs = regs; post = None }) (omega (arith, counted, c.requires.some)) came),
+            λ key rest. subst (λ k. RanUnits key rest f p n (left_so rest (ran_on f k regs) q nothing)) (sym c.from.ensures)
+                (row_ran key rest f p n (record { pages = q; regs = regs; post = None }) (omega (arith, counted, c.requires.some)) came),
           );
       keeps = subst (λ k. Kept f (ran_on f k regs) n) (sym c.from.ensures) (row_keeps f n regs burst.pc (burst.accumulators ∙ c.requires.can.fits.accumulators));
       made = record { lives = burst.stays.lives; forks = burst.stays.forks; most = burst.stays.most; own = omega (arith, ap (λ s. s f.name.tty) burst.stays.serials); others = λ t ne. ap (λ s. s t) burst.stays.serials };
@@ -49,8 +49,8 @@ returns-in-Overflow-clause-ran g c at =
           let q = g.P.Pages.means.plain c.burst-burst.new.pages d in
           let came = subst (λ e. Came e n f.name p f.body.regs q regs) c.in-Overflow.is (burst.told d f.name fits c.space-space.ensures) in (
             burst.fits d fits,
-            λ tree. subst (RanUnits tree f p (n + 1)) (λ i. left_so tree (fork i) q (sym ended.shown i))
-                (post_behind tree f p n (record { pages = q; regs = regs; post = Some OVERFLOW }) came),
+            λ key rest. subst (RanUnits key rest f p (n + 1)) (λ i. left_so rest (fork i) q (sym ended.shown i))
+                (post_behind key rest f p n (record { pages = q; regs = regs; post = Some OVERFLOW }) came),
           );
       keeps = more_keeps f (ran_on f n regs) _ n 1 row (subst (λ h. Kept (ran_on f n regs) h 1) fork (ended_keeps (ran_on f n regs) c.requires.can.fits.off regs burst.pc row.accumulators Overflow));
       made = record { lives = burst.stays.lives; forks = burst.stays.forks; most = burst.stays.most; own = omega (arith, ap (λ s. s f.name.tty) burst.stays.serials); others = λ t ne. ap (λ s. s t) burst.stays.serials };
@@ -74,8 +74,8 @@ returns-in-Pushdown-clause-ran g c at =
           let q = g.P.Pages.means.plain c.burst-burst.new.pages d in
           let came = subst (λ e. Came e n f.name p f.body.regs q regs) c.in-Pushdown.is (burst.told d f.name fits c.space-space.ensures) in (
             burst.fits d fits,
-            λ tree. subst (RanUnits tree f p (n + 1)) (λ i. left_so tree (fork i) q (sym ended.shown i))
-                (post_behind tree f p n (record { pages = q; regs = regs; post = Some PUSHDOWN_OVERFLOW }) came),
+            λ key rest. subst (RanUnits key rest f p (n + 1)) (λ i. left_so rest (fork i) q (sym ended.shown i))
+                (post_behind key rest f p n (record { pages = q; regs = regs; post = Some PUSHDOWN_OVERFLOW }) came),
           );
       keeps = more_keeps f (ran_on f n regs) _ n 1 row (subst (λ h. Kept (ran_on f n regs) h 1) fork (ended_keeps (ran_on f n regs) c.requires.can.fits.off regs burst.pc row.accumulators Pushdown));
       made = record { lives = burst.stays.lives; forks = burst.stays.forks; most = burst.stays.most; own = omega (arith, ap (λ s. s f.name.tty) burst.stays.serials); others = λ t ne. ap (λ s. s t) burst.stays.serials };

@@ -1,7 +1,7 @@
 use Rattle.std.proofs.Common.{refl, arith}
 use Rattle.page_contracts.specs.declared.answers.Need.TheVariants.{Frame}
 use Rattle.page_contracts.proofs.Losing.{needed_more}
-use Rattle.fork_calls.specs.Needing.{call_frames}
+use Rattle.text_pointers.specs.Reading.{text_frames}
 use Rattle.script_texts.specs.declared.event.Event.TheVariants.{Login}
 use Rattle.script_texts.specs.declared.event.Item.TheVariants.{Refusal}
 use Rattle.script_texts.specs.declared.event.Refusal.TheVariants.{Full}
@@ -24,7 +24,7 @@ returns-in-NeedFrame-clause-waits g c = record {
   each = λ d f. (f, refl);
   within = λ entries w. w;
   most = refl;
-  needed = needed_more g.P.Pages.means.store 1 call_frames c.args.self.now.pages Frame (omega arith) (c.in-NeedFrame.ensures.frames refl);
+  needed = needed_more g.P.Pages.means.store 1 text_frames c.args.self.now.pages Frame (omega arith) (c.in-NeedFrame.ensures.frames refl);
 }
 
 pub returns-in-NeedFrame-clause-core : goal.returns-in-NeedFrame-clause-core

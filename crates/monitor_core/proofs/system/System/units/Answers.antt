@@ -4,7 +4,7 @@ use Rattle.monitor_core.specs.Limits.{CanUnit}
 use Rattle.monitor_core.specs.Runners.{woken_where}
 use Rattle.monitor_core.specs.Shown.{is_stop, seen_of}
 use Rattle.monitor_core.proofs.Running.{place_of, runner, runner_lives, runner_only, runner_runs, runner_there}
-use Rattle.monitor_core.proofs.UnitDid.{did_units, unheld_left, units_sound, waits_sound, waits_still}
+use Rattle.monitor_core.proofs.UnitDid.{did_units, has_job, unheld_left, units_sound, waits_sound, waits_still, waits_unheld}
 use Rattle.monitor_core.proofs.system.System.units.Goals as goal
 
 pub units_of-ran-requires-clause-there : goal.units_of-ran-requires-clause-there
@@ -30,6 +30,9 @@ units_of-ran-requires-clause-serves g c =
     let lives = runner_lives m.tree c.args.who c.requires.can in
     record { lives = m.sound.holds.living f.name ∙ ap is_some lives; terminal = (c.requires.can.trees.slotted.named f lives).0 }
 
+pub units_of-ran-requires-clause-job : goal.units_of-ran-requires-clause-job
+units_of-ran-requires-clause-job g c = has_job c.args.self.now (runner c.args.self.now.tree c.args.who c.requires.can) c.requires.can.trees (runner_lives c.args.self.now.tree c.args.who c.requires.can)
+
 pub invariant_of-self : goal.invariant_of-self
 invariant_of-self g c =
     let m = c.args.self.now in
@@ -37,7 +40,7 @@ invariant_of-self g c =
     let r = c.requires.can in
     let f = runner m.tree who r in
     let waits = c.in-Err.ensures.waits (place_of r.fork) r.fork.body (runner_there m.tree who r) in
-    record { unheld = m.unheld; sound = waits_sound m f r.trees (runner_lives m.tree who r) c.units_of-ran.new.pages c.units_of-ran.new.tree c.in-Err.need waits c.are_trees.ensures }
+    record { unheld = waits_unheld m f r.trees (runner_lives m.tree who r) c.units_of-ran.new.pages c.units_of-ran.new.tree c.units_of-ran.new.files c.in-Err.need waits c.are_trees.ensures; sound = waits_sound m f r.trees (runner_lives m.tree who r) c.units_of-ran.new.pages c.units_of-ran.new.tree c.units_of-ran.new.files c.in-Err.need waits c.are_trees.ensures }
 
 pub returns-in-Err-clause-waits : goal.returns-in-Err-clause-waits
 returns-in-Err-clause-waits g c =
@@ -46,7 +49,7 @@ returns-in-Err-clause-waits g c =
     let r = c.requires.can in
     let f = runner m.tree who r in
     let waits = c.in-Err.ensures.waits (place_of r.fork) r.fork.body (runner_there m.tree who r) in
-    waits_still m f r.trees (runner_lives m.tree who r) c.units_of-ran.new.pages c.units_of-ran.new.tree c.in-Err.need waits c.are_trees.ensures _ refl refl refl refl refl
+    waits_still m f r.trees (runner_lives m.tree who r) c.units_of-ran.new.pages c.units_of-ran.new.tree c.units_of-ran.new.files c.in-Err.need waits c.are_trees.ensures _ refl refl refl refl refl
 
 pub invariant_of-self-in-Ok : goal.invariant_of-self-in-Ok
 invariant_of-self-in-Ok g c =
@@ -59,7 +62,7 @@ invariant_of-self-in-Ok g c =
     let left = c.units_of-ran.new.tree in
     let woken : c.wake_where.new.tree ≡ record left { forks = woken_where left.forks who.fork.tty (is_stop units.shown) } =
     ◌∙◌ {b = record left { forks = woken_where left.forks who.fork.tty c.is_stop.result }} c.wake_where.ensures (ap (λ b. record left { forks = woken_where left.forks who.fork.tty b }) c.is_stop.ensures) in
-    record { unheld = unheld_left m f r.trees (runner_lives m.tree who r) c.seen.result c.seen.ensures.jobs; sound = units_sound m f r.trees (runner_lives m.tree who r) c.units_of-ran.new.pages left c.wake_where.new.tree units.count (is_stop units.shown) ran.leaves c.are_trees.ensures woken c.are_trees-in-Ok.ensures c.seen.new.jobs.items c.seen.result c.seen.ensures.jobs }
+    record { unheld = unheld_left m f r.trees (runner_lives m.tree who r) c.units_of-ran.new.files ran.unheld c.seen.result c.seen.ensures.jobs; sound = units_sound m f r.trees (runner_lives m.tree who r) c.units_of-ran.new.pages left c.wake_where.new.tree units.count (is_stop units.shown) ran.leaves c.are_trees.ensures woken c.are_trees-in-Ok.ensures c.seen.new.jobs.items c.seen.result c.seen.ensures.jobs }
 
 pub returns-in-Ok-clause-did : goal.returns-in-Ok-clause-did
 returns-in-Ok-clause-did g c =
@@ -74,4 +77,4 @@ returns-in-Ok-clause-did g c =
     let woken : c.wake_where.new.tree ≡ record left { forks = woken_where left.forks who.fork.tty (is_stop units.shown) } =
     ◌∙◌ {b = record left { forks = woken_where left.forks who.fork.tty c.is_stop.result }} c.wake_where.ensures (ap (λ b. record left { forks = woken_where left.forks who.fork.tty b }) c.is_stop.ensures) in
     let can = runner_runs m.tree who r in
-    did_units m f r.trees (runner_lives m.tree who r) c.units_of-ran.new.pages left c.wake_where.new.tree units ran c.are_trees.ensures woken _ refl refl refl c.seen.result can.0 can.1 seen c.seen.ensures.jobs refl c.in-Ok.ensures.some
+    did_units m f r.trees (runner_lives m.tree who r) c.units_of-ran.new.pages left c.wake_where.new.tree c.units_of-ran.new.files units ran c.are_trees.ensures woken _ refl refl refl c.seen.result can.0 can.1 seen c.seen.ensures.jobs refl c.in-Ok.ensures.some
