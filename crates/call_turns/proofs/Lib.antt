@@ -1,2 +1,4 @@
 pub mod Looks
+pub mod Touches
 pub mod DrivenTurns
+pub mod Numbered

@@ -12,7 +12,9 @@ use Rattle.page_contracts.specs.declared.answers.Need.{Need}
 use Rattle.page_contracts.specs.declared.answers.Need.TheVariants as need
 use Rattle.page_contracts.specs.declared.answers.Seen.TheVariants.{Is, Absent, Missing}
 use Rattle.plain_pages.specs.PlainPages.{NumberedPages}
-use Rattle.plain_pages.specs.References.{in_map, page_at}
+use Rattle.plain_pages.specs.References.{in_map, in_file, page_at}
+use Rattle.machine_names.specs.Orders.{FilePage}
+use Rattle.std.specs.FinMap as map
 use Rattle.plain_pages.specs.Maps.{Entries, Chain, chain, chain_within, chain_from, entry_at, behind, followed}
 use Rattle.page_contracts.specs.Pages.{Scene, seen_of, map_away_or}
 use Rattle.plain_model.specs.Calls.{entry_of}
@@ -158,15 +160,19 @@ module _ (p : NumberedPages) (scene : Scene) (s : Slot) (n : ℕ) where
 
 -- and so of what was asked
 module _ (p : NumberedPages) (scene : Scene) (s : Slot) where
-  pub page_told : (page : Option PageName) → Ok page ≡ told (way_need 4 scene p s) (page_within 4 (entry_at p.maps) s) → Ok (Page page) ≡ told (way_need 4 scene p s) (Page (page_at p (in_map s)))
+  -- the page at the end of a chain
+  pub page_is : (r : Result (Option PageName) Need) → r ≡ told (way_need 4 scene p s) (page_within 4 (entry_at p.maps) s) → r ≡ told (way_need 4 scene p s) (page_at p (in_map s))
+  page_is r is = is ∙ ap (told (way_need 4 scene p s)) (page_found p s)
+
+  pub page_told : (page : Option PageName) → Ok page ≡ told (way_need 4 scene p s) (page_at p (in_map s)) → Ok (Page page) ≡ told (way_need 4 scene p s) (Page (page_at p (in_map s)))
   page_told page is = by (way_need 4 scene p s) is
     where
-      by : (o : Option Need) → Ok page ≡ told o (page_within 4 (entry_at p.maps) s) → Ok (Page page) ≡ told o (Page (page_at p (in_map s)))
-      by None h = let e : page ≡ page_within 4 (entry_at p.maps) s = cc h in ap (λ x. Ok (Page x)) (e ∙ page_found p s)
+      by : (o : Option Need) → Ok page ≡ told o (page_at p (in_map s)) → Ok (Page page) ≡ told o (Page (page_at p (in_map s)))
+      by None h = let e : page ≡ page_at p (in_map s) = cc h in ap (λ x. Ok (Page x)) e
       by (Some n) h = absurd (cc h)
 
-  pub page_needed : (what : Need) → Err what ≡ told (way_need 4 scene p s) (page_within 4 (entry_at p.maps) s) → Err what ≡ told (way_need 4 scene p s) (Page (page_at p (in_map s)))
-  page_needed what is = sym (ap (λ o. told o (Page (page_at p (in_map s)))) (needed_is (way_need 4 scene p s) (page_within 4 (entry_at p.maps) s) what is))
+  pub page_needed : (what : Need) → Err what ≡ told (way_need 4 scene p s) (page_at p (in_map s)) → Err what ≡ told (way_need 4 scene p s) (Page (page_at p (in_map s)))
+  page_needed what is = sym (ap (λ o. told o (Page (page_at p (in_map s)))) (needed_is (way_need 4 scene p s) (page_at p (in_map s)) what is))
 
   pub entry_told : (e : MapEntry) → Ok e ≡ told (entry_need scene p s) (entry_of p s) → Ok (Entry e) ≡ told (entry_need scene p s) (Entry (entry_of p s))
   entry_told e is = by (entry_need scene p s) is
@@ -177,3 +183,21 @@ module _ (p : NumberedPages) (scene : Scene) (s : Slot) where
 
   pub entry_needed : (what : Need) → Err what ≡ told (entry_need scene p s) (entry_of p s) → Err what ≡ told (entry_need scene p s) (Entry (entry_of p s))
   entry_needed what is = sym (ap (λ o. told o (Entry (entry_of p s))) (needed_is (entry_need scene p s) (entry_of p s) what is))
+
+  -- where no fork is, no page is
+  pub missing_page : Missing ≡ seen_of p scene s → page_at p (in_map s) ≡ None
+  missing_page h =
+      let four : 0 < 4 = omega arith in
+      sym (no_page (entry_at p.maps) s 4 four (told_is (entry_need scene p s) (entry_of p s) Empty (missing_entry p scene s h)).1 ∙ page_found p s)
+
+  -- a map that is in no frame is on the way
+  pub absent_way : (home : Home) → Absent home ≡ seen_of p scene s → way_need 4 scene p s ≡ None → ⊥
+  absent_way home h none =
+      let four : 0 < 4 = omega arith in
+      let two : None ≡ Some (need.Page home) = sym none ∙ way_stops p scene s 4 (need.Page home) four (absent_map p scene s home h) in
+      cc two
+
+-- what a file names is told
+pub filed_told : (p : NumberedPages) (f : FilePage ℕ) (filed : FilePage ℕ → Option PageName) (page : Option PageName) → filed ≡ map.get p.files → page ≡ filed f → Ok (Page page) ≡ told None (Page (page_at p (in_file f)))
+unfolding page_at
+filed_told p f filed page is h = ap (λ n. Ok (Page n)) (h ∙ ap (λ (g : FilePage ℕ → Option PageName). g f) is)

@@ -1,4 +1,6 @@
 pub mod Turns
 pub mod Telling
+pub mod Granting
 pub mod Needing
+pub mod Numbers
 pub mod Answers

@@ -1,19 +1,24 @@
 -- What a turn is told by pages of which some may be in no frame: what is so, or what it needs first.
-use Rattle.std.specs.Prelude.{ℕ, zero, suc, false, Option, None, Some, Result, Ok, Err}
+use Rattle.std.specs.Prelude.{ℕ, zero, suc, Option, None, Some, Result, Ok, Err}
 use Rattle.std.specs.Option.{option_map, option_or, option_and_then}
 use Rattle.machine_names.specs.declared.names.PageName.{PageName}
 use Rattle.machine_names.specs.declared.names.Slot.{Slot}
+use Rattle.machine_names.specs.declared.names.Tty.{Tty}
+use Rattle.machine_names.specs.declared.names.Kind.{Kind}
+use Rattle.machine_names.specs.Orders.{file_page}
+use Rattle.page_contracts.specs.declared.answers.Touch.{Touch}
+use Rattle.page_contracts.specs.declared.answers.Touch.TheVariants.{Absent, NeedFrame}
 use Rattle.plain_pages.specs.declared.map.MapEntry.{MapEntry}
 use Rattle.plain_pages.specs.declared.map.MapEntry.TheVariants.{Follows}
 use Rattle.page_contracts.specs.declared.answers.Need.{Need}
 use Rattle.page_contracts.specs.declared.answers.Need.TheVariants as need
 use Rattle.plain_pages.specs.PlainPages.{NumberedPages}
 use Rattle.plain_pages.specs.Maps.{Entries, chain_within, entry_at, followed}
-use Rattle.plain_pages.specs.References.{in_map, page_at}
-use Rattle.page_contracts.specs.Pages.{Scene}
-use Rattle.plain_model.specs.Calls.{Turn, sees, finds, looks, makes, entry_of}
+use Rattle.plain_pages.specs.References.{Spot, in_map, in_file, page_at}
+use Rattle.page_contracts.specs.Pages.{Scene, touch_of}
+use Rattle.plain_model.specs.Calls.{Turn, sees, finds, touches, looks, makes, Sight, spot_of, entry_of}
 use Rattle.call_turns.specs.declared.turn.Ask.{Ask}
-use Rattle.call_turns.specs.declared.turn.Ask.TheVariants.{Sees, Finds}
+use Rattle.call_turns.specs.declared.turn.Ask.TheVariants.{Sees, Finds, FindsFile}
 use Rattle.call_turns.specs.declared.turn.Told.{Told}
 use Rattle.call_turns.specs.declared.turn.Told.TheVariants.{Entry, Page}
 
@@ -48,16 +53,35 @@ page_told n scene p s = told (way_need n scene p s) (page_within n (entry_at p.m
 abbrev pub told_of : NumberedPages → Ask → Told
 told_of p (Sees s) = Entry (entry_of p s)
 told_of p (Finds s) = Page (page_at p (in_map s))
+told_of p (FindsFile f page) = Page (page_at p (in_file (file_page f.0 page)))
 
--- what is needed to tell it
+-- what a look for a page needs: what a file names is told whatever is in frames
+abbrev pub find_need : Scene → NumberedPages → Option (Spot ℕ) → Option Need
+find_need scene p (Some (in_map s)) = way_need 4 scene p s
+find_need scene p (Some (in_file f)) = None
+find_need scene p None = None
+
+-- what is needed to tell what is asked
 abbrev pub ask_need : Scene → NumberedPages → Ask → Option Need
 ask_need scene p (Sees s) = entry_need scene p s
 ask_need scene p (Finds s) = way_need 4 scene p s
+ask_need scene p (FindsFile f page) = None
 
--- what the first look of a turn needs that needs something, up to the first step that is no look
-unfoldable pub looks_need : {C : Type 0} → Scene → NumberedPages → Turn ⊥ C → Option Need
-looks_need scene p (sees s next) = option_or (entry_need scene p s) (looks_need scene p (next (entry_of p s)))
-looks_need scene p (finds (in_map s) next) = option_or (way_need 4 scene p s) (looks_need scene p (next (page_at p (in_map s))))
-looks_need scene p (looks name next) = looks_need scene p (next false)
-looks_need scene p (makes name next) = looks_need scene p (next false)
-looks_need scene p t = None
+-- what a reference needs that a touch answers
+abbrev pub need_in : Touch → Option Need
+need_in (Absent home) = Some (need.Page home)
+need_in NeedFrame = Some need.Frame
+need_in t = None
+
+-- a reference that makes one page at most needs a map on its way, its page, or a frame
+abbrev pub touch_need : Scene → NumberedPages → Spot ℕ → Kind → Tty → Option Need
+touch_need scene p at kind owner = need_in (touch_of p scene at kind owner)
+
+-- what the first step of a turn needs that needs something, up to its first reference, which makes one page at most, or to other steps
+unfoldable pub looks_need : {F C : Type 0} → Sight F ℕ → Scene → NumberedPages → Turn F C → Option Need
+looks_need sight scene p (sees s next) = option_or (entry_need scene p s) (looks_need sight scene p (next (entry_of p s)))
+looks_need sight scene p (finds at next) = let s = spot_of sight at in option_or (find_need scene p s) (looks_need sight scene p (next (option_and_then (page_at p) s)))
+looks_need sight scene p (touches owner at kind next) = option_and_then (λ s. touch_need scene p s kind owner) (spot_of sight at)
+looks_need sight scene p (looks name next) = looks_need sight scene p (next (sight.is_name name))
+looks_need sight scene p (makes name next) = looks_need sight scene p (next sight.has_more)
+looks_need sight scene p t = None

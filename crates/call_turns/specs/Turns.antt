@@ -1,21 +1,31 @@
 -- A turn as it is driven: its first step and what is left of it, and the whole turn that this comes to.
-use Rattle.std.specs.Prelude.{◌≡◌, ℕ, zero, suc, ◌<◌, ◌^◌, Option, None, Some, length}
+use Rattle.std.specs.Prelude.{◌≡◌, ℕ, zero, suc, ◌<◌, ◌^◌, Option, None, Some, is_some, if◌then◌else◌, length}
 use Rattle.plain_model.specs.declared.call.End.{End}
 use Rattle.plain_model.specs.declared.call.End.TheVariants.{Done, Waits, Halts, Refused, Failed, Trap}
+use Rattle.plain_model.specs.declared.call.TheConstants.{NO_PAGE}
 use Rattle.plain_units.specs.declared.channel.TheConstants.{ILLEGAL_INSTRUCTION}
 use Rattle.machine_names.specs.declared.names.TheConstants.{SPACE_PAGES, ACCUMULATORS}
 use Rattle.machine_names.specs.declared.names.PageName.{PageName}
+use Rattle.machine_names.specs.declared.names.Slot.{Slot}
+use Rattle.machine_names.specs.declared.names.Tty.{Tty}
+use Rattle.machine_names.specs.declared.names.Kind.{Kind}
+use Rattle.machine_names.specs.declared.names.Kind.TheVariants.{Read, Write}
+use Rattle.machine_names.specs.Bounds.{IsFilePage}
+use Rattle.machine_names.specs.Orders.{FilePage, file_page}
 use Rattle.plain_units.specs.declared.registers.Regs.{Regs}
 use Rattle.plain_pages.specs.declared.map.MapEntry.{MapEntry}
 use Rattle.plain_pages.specs.declared.map.MapEntry.TheVariants.{Empty}
-use Rattle.plain_pages.specs.References.{in_map}
-use Rattle.plain_model.specs.Calls.{Turn, sees, finds, ends}
+use Rattle.plain_pages.specs.References.{Spot, in_map, in_file}
+use Rattle.plain_model.specs.Calls.{Turn, sees, finds, touches, ends, if_granted}
 use Rattle.call_turns.specs.declared.turn.Ask.{Ask}
-use Rattle.call_turns.specs.declared.turn.Ask.TheVariants.{Sees, Finds}
+use Rattle.call_turns.specs.declared.turn.Ask.TheVariants.{Sees, Finds, FindsFile}
 use Rattle.call_turns.specs.declared.turn.Told.{Told}
 use Rattle.call_turns.specs.declared.turn.Told.TheVariants.{Entry, Page}
 use Rattle.call_turns.specs.declared.turn.Turn.{Turn as Step}
-use Rattle.call_turns.specs.declared.turn.Turn.TheVariants.{Ends, Asks}
+use Rattle.call_turns.specs.declared.turn.Turn.TheVariants.{Ends, Asks, Reads, Fills}
+use Rattle.call_turns.specs.declared.turn.Grant.{Grant}
+use Rattle.call_turns.specs.declared.turn.Grant.TheVariants.{Nothing, Read as MayRead, Fill}
+use Rattle.call_turns.specs.declared.turn.Outcome.{Outcome}
 
 abbrev pub entry_in : Told → MapEntry
 entry_in (Entry e) = e
@@ -26,20 +36,36 @@ page_in (Entry e) = None
 page_in (Page n) = n
 
 -- asks, and goes on with what is told
-abbrev pub asking : {C : Type 0} → Ask → (Told → Turn ⊥ C) → Turn ⊥ C
+abbrev pub asking : {C : Type 0} → Ask → (Told → Turn ℕ C) → Turn ℕ C
 asking (Sees s) next = sees s (λ e. next (Entry e))
 asking (Finds s) next = finds (in_map s) (λ n. next (Page n))
+asking (FindsFile f page) next = finds (in_file (file_page f.0 page)) (λ n. next (Page n))
 
--- the whole turn, where what is left is done after each reply, and where more than so many asks trap
-abbrev pub turn_of : {C S : Type 0} → (S → Told → Step C S) → Step C S → ℕ → Turn ⊥ C
-turn_of later (Ends e) n = ends e
-turn_of later (Asks what rest) zero = ends (Trap ILLEGAL_INSTRUCTION)
-turn_of later (Asks what rest) (suc n) = asking what (λ r. turn_of later (later rest r) n)
+-- refers to a page, and ends so where that is granted
+abbrev pub touching : {C : Type 0} → Tty → Spot ℕ → Kind → End C → Turn ℕ C
+touching owner at kind e = touches owner at kind (λ what. ends (if_granted e what))
 
--- what is asked is of a page of a fork's space
+-- reads the page at the end of a slot's chain, where one is there
+abbrev pub reading : {C : Type 0} → Tty → Slot → End C → Turn ℕ C
+reading owner s e = finds (in_map s) (λ n. if is_some n then touching owner (in_map s) Read e else ends (Refused NO_PAGE))
+
+-- writes a page of a file
+abbrev pub filling : {C : Type 0} → Tty → FilePage ℕ → End C → Turn ℕ C
+filling owner f e = touching owner (in_file f) Write e
+
+-- the whole turn of an owner of pages, where what is left is done after each reply, and where more than so many asks trap
+abbrev pub turn_of : {C S : Type 0} → Tty → (S → Told → Step C S) → Step C S → ℕ → Turn ℕ C
+turn_of owner later (Ends e) n = ends e
+turn_of owner later (Reads s e) n = reading owner s e
+turn_of owner later (Fills f page e) n = filling owner (file_page f.0 page) e
+turn_of owner later (Asks what rest) zero = ends (Trap ILLEGAL_INSTRUCTION)
+turn_of owner later (Asks what rest) (suc n) = asking what (λ r. turn_of owner later (later rest r) n)
+
+-- what is asked is of a page of a fork's space, or of a file
 abbrev pub IsAsk : Ask → Type 0
 IsAsk (Sees s) = s.page < SPACE_PAGES
 IsAsk (Finds s) = s.page < SPACE_PAGES
+IsAsk (FindsFile f page) = IsFilePage f page
 
 -- registers of a fork: an address for a program counter, and 16 accumulators
 abbrev pub IsRegs : Regs → Type 0
@@ -64,7 +90,13 @@ FitsEnd sound (Refused code) = Unit {0}
 FitsEnd sound (Failed code) = Unit {0}
 FitsEnd sound (Trap channel) = channel < 36
 
--- what is asked is of a page, what is left holds, and the end is within its limits
-abbrev pub FitsTurn : {C S : Type 0} → (S → Type 0) → (C → Type 0) → Step C S → Type 0
-FitsTurn holds sound (Ends e) = FitsEnd sound e
+-- how a turn comes out is within its limits: its change is sound behind what was granted
+abbrev pub FitsOutcome : {C : Type 0} → (Grant → C → Type 0) → Outcome C → Type 0
+FitsOutcome sound o = FitsEnd (sound o.grant) o.end
+
+-- what is asked is of a page, what is left holds, and each end is within its limits
+abbrev pub FitsTurn : {C S : Type 0} → (S → Type 0) → (Grant → C → Type 0) → Step C S → Type 0
+FitsTurn holds sound (Ends e) = FitsEnd (sound Nothing) e
 FitsTurn holds sound (Asks what rest) = IsAsk what × holds rest
+FitsTurn holds sound (Reads s e) = (s.page < SPACE_PAGES) × FitsEnd (sound (MayRead s)) e
+FitsTurn holds sound (Fills f page e) = IsFilePage f page × FitsEnd (sound (Fill f page)) e

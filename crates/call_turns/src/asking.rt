@@ -5,7 +5,8 @@ ghost use Rattle.machine_names.specs.declared.names.TheConstants.{SPACE_PAGES};
 ghost use Rattle.page_contracts.specs.DrumWords.{DrumWords};
 ghost use Rattle.page_contracts.specs.Stores.{IsNeeded};
 ghost use Rattle.plain_model.specs.Calls.{entry_of};
-ghost use Rattle.call_turns.specs.Telling.{ask_need, entry_need, page_told, told, told_of};
+ghost use Rattle.plain_pages.specs.References.{in_map, page_at as named_at};
+ghost use Rattle.call_turns.specs.Telling.{ask_need, entry_need, page_told, told, told_of, way_need};
 ghost use Rattle.call_turns.specs.Turns.{IsAsk};
 
 use crate::{Ask, Told};
@@ -16,8 +17,8 @@ use plain_pages::MapEntry;
 /// How many links a chain has at most.
 const MOST_LINKS: u32 = 4;
 
-// The entry of a slot, Empty where its fork isn't there.
-fn entry_of<P: Pages>(pages: &P, slot: Slot) -> Result<MapEntry, Need>
+/// The entry of a slot, Empty where its fork isn't there; or its map has to come into core first.
+pub fn entry_of<P: Pages>(pages: &P, slot: Slot) -> Result<MapEntry, Need>
     requires { slot.page < SPACE_PAGES }
     ensures told { (d : DrumWords) → P.means.fits pages.now d → result ≡ told (entry_need (P.means.scene pages.now) (P.means.plain pages.now d) slot) (entry_of (P.means.plain pages.now d) slot) }
     ensures page { (serial page : ℕ) (a : AnAccess) → result ≡ Ok (MapEntry.Follows serial page a) → page < SPACE_PAGES }
@@ -57,6 +58,16 @@ fn page_within<P: Pages>(pages: &P, slot: Slot, links: u32) -> Result<Option<Pag
     }
 }
 
+/// The page at the end of a slot's chain, if one is named there; or a map on the way has to come into core first.
+pub fn page_at<P: Pages>(pages: &P, slot: Slot) -> Result<Option<PageName>, Need>
+    requires { slot.page < SPACE_PAGES }
+    ensures told { (d : DrumWords) → P.means.fits pages.now d → result ≡ told (way_need 4 (P.means.scene pages.now) (P.means.plain pages.now d) slot) (named_at (P.means.plain pages.now d) (in_map slot)) }
+    ensures needs { IfErr result (IsNeeded P.means.store 1 pages.now) }
+    ensures core { P.means.flat ≡ true → IsOk result }
+{
+    page_within(pages, slot, MOST_LINKS)
+}
+
 /// Asks the pages, which tell what is so, or which map has to come into core first.
 pub fn ask<P: Pages>(what: Ask, pages: &P) -> Result<Told, Need>
     requires { IsAsk what }
@@ -69,9 +80,10 @@ pub fn ask<P: Pages>(what: Ask, pages: &P) -> Result<Told, Need>
             Ok(entry) => Ok(Told::Entry(entry)),
             Err(need) => Err(need),
         },
-        Ask::Finds(slot) => match page_within(pages, slot, MOST_LINKS) {
+        Ask::Finds(slot) => match page_at(pages, slot) {
             Ok(page) => Ok(Told::Page(page)),
             Err(need) => Err(need),
         },
+        Ask::FindsFile(file, page) => Ok(Told::Page(pages.page_of(file, page))),
     }
 }

@@ -7,9 +7,11 @@ mod answer;
 mod asking;
 mod driving;
 mod ending;
+mod touching;
 mod turn;
 
 pub use answer::Answer;
+pub use asking::entry_of;
 pub use driving::{Rest, driven};
 pub use ending::{answer_of, behind, returning, with_ac};
-pub use turn::{Ask, Told, Turn};
+pub use turn::{Ask, Grant, Outcome, Told, Turn};

@@ -7,10 +7,10 @@ use Rattle.plain_model.specs.declared.call.ForkChange.TheVariants.{Kill}
 use Rattle.page_contracts.specs.declared.answers.Need.{Need}
 use Rattle.page_contracts.specs.declared.answers.Need.TheVariants as need
 use Rattle.machine_names.specs.declared.names.ForkName.{ForkName}
-use Rattle.plain_model.specs.Calls.{Turn}
+use Rattle.plain_model.specs.Calls.{Turn, no_files}
 use Rattle.plain_model.specs.declared.call.Touched.{Touched}
 use Rattle.machine_names.specs.declared.names.Tty.{Tty}
-use Rattle.machine_names.specs.declared.names.Slot.{Slot}
+use Rattle.plain_pages.specs.References.{Spot}
 use Rattle.machine_names.specs.declared.names.Kind.{Kind}
 use Rattle.plain_units.specs.declared.registers.Regs.{Regs}
 use Rattle.plain_pages.specs.PlainPages.{NumberedPages}
@@ -57,12 +57,12 @@ ForkEndNeeds forks scene p e n = EndNeeds scene forks e n
 abbrev pub WordsNeed : Scene → NumberedPages → ForkName → Regs → Steps → (Scene → NumberedPages → Ending → Type 0) → Need → Type 0
 WordsNeed scene p f regs steps later n = run_over f (record { pages = p; scene = scene }) steps (begun p regs.ac) ≡ stopped (needs n)
 
-abbrev pub NoTouches : Scene → NumberedPages → Tty → Slot → Kind → (Scene → NumberedPages → Touched → Type 0) → Need → Type 0
-NoTouches scene p owner s kind later n = ⊥
+abbrev pub NoTouches : Scene → NumberedPages → Tty → Spot ℕ → Kind → (Scene → NumberedPages → Touched → Type 0) → Need → Type 0
+NoTouches scene p owner at kind later n = ⊥
 
 -- WHAT A TURN NEEDS FIRST: a frame for a new map, what its references need, with the new map there, or the maps of forks that are killed
 abbrev pub TurnNeeds : Framed → ForkMap → Turn ⊥ ForkChange → Need → Type 0
-TurnNeeds p forks t n = NeedsOf WordsNeed NoTouches (ForkEndNeeds forks) p.scene p.pages t n
+TurnNeeds p forks t n = NeedsOf no_files WordsNeed NoTouches (ForkEndNeeds forks) p.scene p.pages t n
 
 -- how many frames a call may want: those of its references, and one for the map of a new fork
 abbrev pub call_frames : ℕ

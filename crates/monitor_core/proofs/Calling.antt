@@ -17,7 +17,7 @@ use Rattle.machine_names.specs.declared.names.Tty.{Tty}
 use Rattle.plain_units.specs.declared.registers.Regs.{Regs}
 use Rattle.plain_pages.specs.PlainPages.{NumberedPages}
 use Rattle.plain_model.specs.Calls.{Came, Turn, fork_behind, is_among, no_files, numbered, out_of, parts_behind, turn_on}
-use Rattle.plain_model.specs.Families.{Parts, Turned, behind, call_turned, print_calls, own_changed, asks, asks_jfns, forks_changed, jfns_changed, names_seen, pages_changed}
+use Rattle.plain_model.specs.Families.{Parts, Turned, behind, call_turned, print_calls, own_changed, asks, asks_jfns, asks_maps, files_seen, forks_changed, jfns_changed, names_seen, pages_changed}
 use Rattle.plain_model.specs.FileCalls.{FileParts, file_call, file_calls, file_changed, jfn_call, jfn_calls}
 use Rattle.plain_model.specs.ForkCalls.{ForkParts, fork_call, fork_calls, fork_changed}
 use Rattle.plain_model.specs.MapCalls.{map_call, map_calls, map_changed}
@@ -175,15 +175,15 @@ module _ (key : List ℕ → ℕ) (v : Parts nat_cmp) (who : ForkName) where
 
       module _ (unforked : is_among fork_calls number ≡ false) where
         pub maps_went : is_among map_calls number ≡ true → (q : NumberedPages) (a : Answer)
-            → (let c = turn_on no_files v.pages (map_call number (asks v who regs)) in Went map_changed v.pages c.pages q a c.end)
+            → (let c = turn_on (files_seen key v who) v.pages (map_call number (asks_maps v who regs)) in Went (map_changed key) v.pages c.pages q a c.end)
             → call_turned key v who regs number ≡ answered_turn (record v { pages = q }) who a
         maps_went maps q a w =
             on_false (is_among print_calls number) _ _ other
             ∙ on_false (is_among fork_calls number) _ _ unforked
             ∙ on_true (is_among map_calls number) _ _ maps
-            ∙ came_behind pages_changed (turn_on no_files v.pages (map_call number (asks v who regs))) (record v { pages = q }) a w.answered
+            ∙ came_behind (pages_changed key) (turn_on (files_seen key v who) v.pages (map_call number (asks_maps v who regs))) (record v { pages = q }) a w.answered
             (ap (λ (r : NumberedPages). record v { pages = r }) w.left
-            ∙ sym (pages_behind v (turn_on no_files v.pages (map_call number (asks v who regs))).pages (turn_on no_files v.pages (map_call number (asks v who regs))).end))
+            ∙ sym (pages_behind key v (turn_on (files_seen key v who) v.pages (map_call number (asks_maps v who regs))).pages (turn_on (files_seen key v who) v.pages (map_call number (asks_maps v who regs))).end))
 
         module _ (unmapped : is_among map_calls number ≡ false) where
           pub files_went : is_among file_calls number ≡ true → (a : Answer) → a ≡ answer_of (turn_on no_files v.pages (file_call number (asks v who regs))).end → call_turned key v who regs number ≡ answered_turn v who a

@@ -19,7 +19,7 @@ use Rattle.machine_names.specs.declared.names.TheConstants.{MOST_FORKS}
 use Rattle.machine_names.specs.declared.names.ForkName.{ForkName}
 use Rattle.machine_names.specs.declared.names.Tty.{Tty}
 use Rattle.plain_model.specs.Calls.{Came, Turn, fork_behind, is_among, no_files, numbered, parts_behind, posted_if, turn_on, with_error}
-use Rattle.plain_model.specs.Families.{Parts, Turned, behind as family_behind, call_turned, print_calls, own_changed, asks, asks_jfns, forks_changed, jfns_changed, names_seen, pages_changed}
+use Rattle.plain_model.specs.Families.{Parts, Turned, behind as family_behind, call_turned, print_calls, own_changed, asks, asks_jfns, asks_maps, files_seen, forks_changed, jfns_changed, names_seen, pages_changed}
 use Rattle.plain_model.specs.FileCalls.{file_call, file_calls, jfn_call, jfn_calls}
 use Rattle.plain_model.specs.ForkCalls.{fork_call, fork_calls}
 use Rattle.plain_model.specs.Forks.{ForkMap, counted, is_frozen, superior_of, with_regs}
@@ -272,10 +272,10 @@ module _ (key : List ℕ → ℕ) (filed : NamedFiles) (s : PlainState) (f : For
         let c = turn_on no_files p (fork_call number (asks asked_of f.name f.body.regs)) in
         family_caller forks_changed c _ (forks_behind asked_of c.pages c.end) (caller_stays f t.runs t.off (tree_of s) t.trees t.fork p number)
 
-    map_caller : HasCaller (family_behind pages_changed asked_of f.name (turn_on no_files p (map_call number (asks asked_of f.name f.body.regs))))
+    map_caller : HasCaller (family_behind (pages_changed key) asked_of f.name (turn_on (files_seen key asked_of f.name) p (map_call number (asks_maps asked_of f.name f.body.regs))))
     map_caller =
-        let c = turn_on no_files p (map_call number (asks asked_of f.name f.body.regs)) in
-        family_caller pages_changed c _ (pages_behind asked_of c.pages c.end) t.fork
+        let c = turn_on (files_seen key asked_of f.name) p (map_call number (asks_maps asked_of f.name f.body.regs)) in
+        family_caller (pages_changed key) c _ (pages_behind key asked_of c.pages c.end) t.fork
 
     jfn_caller : HasCaller (family_behind (jfns_changed key) asked_of f.name (turn_on (names_seen asked_of f.name) p (jfn_call number (asks_jfns asked_of f.name f.body.regs))))
     jfn_caller =

@@ -111,7 +111,7 @@ fn turn<P: Pages>(
         return fork_calls::call(number, regs, who, tree, pages);
     }
     if is_map_call(number) {
-        return pmap_calls::call(number, regs, who, tree, pages);
+        return pmap_calls::call(number, regs, who, tree, files, pages);
     }
     if is_file_call(number) {
         return file_calls::call(number, regs, who, tree);

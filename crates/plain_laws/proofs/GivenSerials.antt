@@ -11,6 +11,7 @@ use Rattle.machine_names.specs.declared.names.ForkName.{ForkName}
 use Rattle.machine_names.specs.declared.names.Kind.{Kind}
 use Rattle.machine_names.specs.declared.names.Slot.{Slot}
 use Rattle.machine_names.specs.declared.names.Tty.{Tty}
+use Rattle.machine_names.specs.declared.names.PageName.{PageName}
 use Rattle.plain_pages.specs.declared.map.MapEntry.{MapEntry}
 use Rattle.plain_pages.specs.declared.map.MapEntry.TheVariants.{Empty, Names, Follows}
 use Rattle.plain_pages.specs.declared.map.NewMap.{NewMap}
@@ -19,7 +20,7 @@ use Rattle.plain_pages.specs.PlainPages.{PlainPages, Map, Maps}
 use Rattle.plain_pages.specs.Maps.{entry_at, full_access, narrow, set_entry}
 use Rattle.plain_pages.specs.NewMaps.{empty_map, following_map, new_map}
 use Rattle.plain_pages.specs.Room.{HasRoom, page_in}
-use Rattle.plain_pages.specs.References.{Making, blank, copy, in_map, in_file, makings, make, make_all, next_page, granted, denied, reference, slot_at, stored, with_entry, without_fork, with_changed}
+use Rattle.plain_pages.specs.References.{Making, blank, copy, in_map, in_file, makings, make, make_all, next_page, page_at, granted, denied, reference, slot_at, stored, with_entry, without_fork, with_changed}
 use Rattle.plain_pages.specs.WholePages.{AreWhole}
 use Rattle.plain_pages.proofs.Kept.{drop_all_leaves, entry_maps}
 use Rattle.plain_pages.proofs.Settles.{copy_maps}
@@ -28,8 +29,9 @@ use Rattle.plain_units.proofs.PageRuns.{PlanLeaves, stored_maps}
 use Rattle.plain_units.specs.Blocks.{stored_from}
 use Rattle.plain_units.specs.Steps.{Progress, Steps, plainly, run}
 use Rattle.plain_model.specs.declared.call.MapChange.{MapChange}
-use Rattle.plain_model.specs.declared.call.MapChange.TheVariants.{Nothing, Unmap, Follow, Narrow}
-use Rattle.plain_model.specs.MapCalls.{map_changed}
+use Rattle.plain_model.specs.declared.call.MapChange.TheVariants.{Nothing, Unmap, Follow, Narrow, Map, Put, Drop}
+use Rattle.plain_pages.proofs.FilesKept.{filed_maps}
+use Rattle.plain_model.specs.MapCalls.{entry_for, keyed, map_changed}
 use Rattle.plain_model.proofs.ForkMaps.{cases_name, get_put, get_put_other, get_gone, get_gone_other}
 use Rattle.plain_laws.specs.Whole.{AreGiven}
 use Rattle.plain_laws.proofs.Led.{run_led, words_led}
@@ -114,6 +116,9 @@ module _ (next : Tty → ℕ) where
   IsGivenChange (Unmap s) = Unit {0}
   IsGivenChange (Follow s from a) = from.fork.serial < next s.fork.tty
   IsGivenChange (Narrow s a) = Unit {0}
+  IsGivenChange (Map s name page a) = Unit {0}
+  IsGivenChange (Put name page s) = Unit {0}
+  IsGivenChange (Drop name page) = Unit {0}
 
   module _ {K : Type 0} {file_cmp : K → K → Ordering} where
     abbrev pub Holds : PlainPages file_cmp → Type 0
@@ -171,14 +176,21 @@ module _ (next : Tty → ℕ) where
         by None none = given
         by (Some e) is = subst (AreGiven next) (sym (entry_maps p whole s e (change e) is)) (set_given p.maps s (change e) given (fits e (λ serial page a same. given s serial page a (is ∙ ap Some same))))
 
-    pub change_given : (p : PlainPages file_cmp) → AreWhole p → Holds p → (what : MapChange) → IsGivenChange what → Holds (map_changed what p)
+    pub change_given : IsTotalOrder file_cmp → map_of.IsAntisymmetric file_cmp → (key : List ℕ → K) (p : PlainPages file_cmp) → AreWhole p → Holds p → (what : MapChange) → IsGivenChange what → Holds (map_changed key what p)
     unfolding map_changed
-    change_given p whole given Nothing fits = given
-    change_given p whole given (Unmap s) fits = where_given p whole given s (λ e. Empty) (λ e was serial page a is. absurd (cc is))
-    change_given p whole given (Follow s from a) fits = where_given p whole given s (λ e. Follows from.fork.serial from.page a) (λ e was serial page b is. let same : from.fork.serial ≡ serial = cc is in subst (λ n. n < next s.fork.tty) same fits)
-    change_given p whole given (Narrow s a) fits = where_given p whole given s (narrow a) (λ e was. narrowed a e was)
+    change_given o apart key p whole given Nothing fits = given
+    change_given o apart key p whole given (Unmap s) fits = where_given p whole given s (λ e. Empty) (λ e was serial page a is. absurd (cc is))
+    change_given o apart key p whole given (Follow s from a) fits = where_given p whole given s (λ e. Follows from.fork.serial from.page a) (λ e was serial page b is. let same : from.fork.serial ≡ serial = cc is in subst (λ n. n < next s.fork.tty) same fits)
+    change_given o apart key p whole given (Narrow s a) fits = where_given p whole given s (narrow a) (λ e was. narrowed a e was)
       where
         narrowed : (a : Access) (e : MapEntry) → IsGiven s.fork.tty e → IsGiven s.fork.tty (narrow a e)
         narrowed a Empty was = λ serial page b is. absurd (cc is)
         narrowed a (Names n x) was = λ serial page b is. absurd (cc is)
         narrowed a (Follows serial page x) was = λ n to b is. let same : serial ≡ n = cc is in subst (λ k. k < next s.fork.tty) same (was serial page x refl)
+    change_given o apart key p whole given (Map s name page a) fits = where_given p whole given s (λ e. entry_for a e (map_of.get p.files (keyed key name page))) (λ e was. entered e was (map_of.get p.files (keyed key name page)))
+      where
+        entered : (e : MapEntry) → IsGiven s.fork.tty e → (n : Option PageName) → IsGiven s.fork.tty (entry_for a e n)
+        entered e was None = was
+        entered e was (Some n) = λ serial to b is. absurd (cc is)
+    change_given o apart key p whole given (Put name page s) fits = subst (AreGiven next) (sym (filed_maps o apart p (keyed key name page) (page_at p (in_map s)))) given
+    change_given o apart key p whole given (Drop name page) fits = subst (AreGiven next) (sym (filed_maps o apart p (keyed key name page) None)) given

@@ -1,15 +1,17 @@
 -- A call on maps changes a slot of its job, and follows one of its job.
-use Rattle.std.proofs.Common.{◌≡◌, ◌&&◌, ℕ, true, Option, None, Some, Result, Ok, Err, refl, ◌∙◌, ap, subst, is_some}
+use Rattle.std.proofs.Common.{◌≡◌, ◌&&◌, ℕ, true, cond, List, Ordering, Option, None, Some, Result, Ok, Err, refl, ◌∙◌, ap, subst, is_some}
 use Rattle.std.specs.Prelude.{◌==◌, nat_lt}
 use Rattle.std.specs.Option.{option_map_or, option_and_then}
 use Rattle.std.specs.FinMap as map
 use Rattle.std.proofs.lemmas.Bool.{cond_both}
 use Rattle.word36.specs.Words.{left, right}
-use Rattle.plain_model.specs.declared.call.TheConstants.{PMAP, RPACS, SPACS, RMAP, FORK_SELF, FORK_SUPERIOR, BAD_PAGE, NO_HANDLE, NO_JFN}
+use Rattle.plain_model.specs.declared.call.TheConstants.{PMAP, RPACS, SPACS, RMAP, FORK_SELF, FORK_SUPERIOR, BAD_PAGE, NO_HANDLE, NO_JFN, NO_PAGE, NOT_OPEN}
 use Rattle.plain_model.specs.declared.call.End.{End}
 use Rattle.plain_model.specs.declared.call.End.TheVariants.{Done, Waits, Halts, Refused, Failed, Trap}
 use Rattle.plain_model.specs.declared.call.MapChange.{MapChange}
-use Rattle.plain_model.specs.declared.call.MapChange.TheVariants.{Nothing, Unmap, Follow, Narrow}
+use Rattle.plain_model.specs.declared.call.MapChange.TheVariants.{Nothing, Unmap, Follow, Narrow, Map, Put, Drop}
+use Rattle.plain_model.specs.declared.call.Touched.{Touched}
+use Rattle.plain_model.specs.declared.call.Touched.TheVariants.{Granted, Denied, Full}
 use Rattle.machine_names.specs.declared.names.TheConstants.{SPACE_PAGES}
 use Rattle.machine_names.specs.declared.names.Tty.{Tty}
 use Rattle.machine_names.specs.declared.names.ForkName.{ForkName}
@@ -18,13 +20,22 @@ use Rattle.machine_names.specs.declared.names.Access.{Access}
 use Rattle.plain_pages.specs.declared.map.MapEntry.{MapEntry}
 use Rattle.plain_pages.specs.declared.map.MapEntry.TheVariants as entry
 use Rattle.plain_model.specs.declared.fork.Fork.{Fork}
-use Rattle.plain_pages.specs.PlainPages.{NamedPages}
+use Rattle.plain_pages.specs.PlainPages.{PlainPages}
+use Rattle.plain_pages.specs.References.{Referred, granted, denied, full, in_map, in_file, page_at, reference, word_at}
+use Rattle.plain_pages.specs.Room.{HasRoom}
+use Rattle.plain_pages.specs.NewMaps.{with_map}
+use Rattle.machine_names.specs.declared.names.PageName.{PageName}
+use Rattle.machine_names.specs.declared.names.Kind.TheVariants.{Read}
+use Rattle.plain_files.specs.OpenFiles.{OpenFile}
+use Rattle.plain_units.specs.Steps.{Ending, Planned, done, call, trap, need, stopped as unit_stopped, pages_left}
+use Rattle.plain_units.specs.Blocks.{steps_on}
 use Rattle.plain_model.specs.Forks.{ForkMap, fork_in, superior_of}
 use Rattle.plain_model.specs.Handles.{named, named_by}
 use Rattle.plain_model.specs.AccessWords.{access_in}
 use Rattle.plain_units.specs.Deeds.{in_ac}
-use Rattle.plain_model.specs.Calls.{Turn, ends, and_then, given, returning, no_files, turn_on, Asked}
-use Rattle.plain_model.specs.MapCalls.{ALL_ONES, behind_page, on_page, slot_of, place_of, place_named, slot_named, narrows, rpacs, spacs, rmap, unmapped, mapped, one_page, is_counted, pages_left as left_to_do, pmap, map_call}
+use Rattle.plain_model.specs.Calls.{Sight, Turn, sees, finds, reads, touches, takes, adds, looks, makes, ends, and_then, entry_of, given, if_granted, returning, spot_of, stepped, touched, turn_on, with_ac, with_added}
+use Rattle.plain_model.specs.MapCalls.{ALL_ONES, MapAsked, MapPlace, of_fork, of_file, access_at, access_wanted, allows, file_spot, from_file, into_file, is_counted, is_written, makes_page, map_call, mapping_into, maps, narrows, on_page, one_page, pages_left as left_to_do, place_named, place_of, places_named, pmap, rmap, rpacs, slot_named, slot_of, source_of, spacs, tells_access, unmapping}
+use Rattle.plain_model.proofs.Turns.{Keeps, KeepsEnd}
 use Rattle.plain_model.proofs.ForkMaps.{AreOwn, slot_tells, superior_tells}
 use Rattle.plain_laws.proofs.OtherMaps.{InJob}
 
@@ -70,91 +81,176 @@ module _ (forks : ForkMap) (own : AreOwn forks) (who : ForkName) where
       by None none = tt
       by (Some f) some = let at = named_job (left word) f some in (ap is_some at.0, at.1)
 
-  place_job : (word : ℕ) → OkIn (Stands forks who.tty) (place_of forks who word)
-  unfolding place_of
-  place_job word = cond_both (nat_lt (left word) FORK_SELF) (Err NO_JFN) (slot_of forks who word) (OkIn (Stands forks who.tty)) (λ is_jfn. tt) (λ is_handle. slot_job word)
-
 -- a change of a slot of a fork of a job that lives, which follows one of another
 abbrev pub ChangeIn : ForkMap → Tty → MapChange → Type 0
 ChangeIn forks t Nothing = Unit {0}
 ChangeIn forks t (Unmap s) = Stands forks t s
 ChangeIn forks t (Follow s other a) = Stands forks t s × Stands forks t other
 ChangeIn forks t (Narrow s a) = Stands forks t s
+ChangeIn forks t (Map s name page a) = Stands forks t s
+ChangeIn forks t (Put name page s) = Stands forks t s
+ChangeIn forks t (Drop name page) = Unit {0}
 
 abbrev pub EndIn : ForkMap → Tty → End MapChange → Type 0
-EndIn forks t (Done change regs out post) = ChangeIn forks t change
-EndIn forks t (Waits on) = Unit {0}
-EndIn forks t Halts = Unit {0}
-EndIn forks t (Refused code) = Unit {0}
-EndIn forks t (Failed code) = Unit {0}
-EndIn forks t (Trap channel) = Unit {0}
+EndIn forks t e = KeepsEnd (ChangeIn forks t) e
+
+-- a turn whose change is such, if it is done, ends so
+module _ {F C K : Type 0} {file_cmp : K → K → Ordering} (Known : F → Type 0) (Allowed : C → Type 0) (sight : Sight F K) where
+  abbrev EndsSo : Turn F C → Type 0
+  EndsSo t = (p : PlainPages file_cmp) → KeepsEnd Allowed (turn_on sight p t).end
+
+  came_keeps : (t : Turn F C) → Keeps Known Allowed t → EndsSo t
+  unfolding turn_on
+  came_keeps (sees s next) keeps p = came_keeps (next (entry_of p s)) (keeps (entry_of p s)) p
+  came_keeps (finds at next) keeps p = let n = option_and_then (page_at p) (spot_of sight at) in came_keeps (next n) (keeps.1 n) p
+  came_keeps (reads f offset next) keeps p = let w = option_map_or (λ at. word_at p at offset) (spot_of sight (in_file f)) 0 in came_keeps (next w) (keeps.1 w) p
+  came_keeps (touches owner at kind next) keeps p = by (λ what. came_keeps (next what) (keeps.1 what)) (option_map_or (λ s. reference p s kind owner) (spot_of sight at) (denied kind))
+    where
+      by : ((what : Touched) → EndsSo (next what)) → (r : Referred file_cmp) → KeepsEnd Allowed (touched p r (λ q what. turn_on sight q (next what))).end
+      by rest (granted q) = rest Granted q
+      by rest (denied k) = rest Denied p
+      by rest full = rest Full p
+  came_keeps (takes f regs steps next) keeps p = by (λ e. came_keeps (next e) (keeps e)) (steps_on f regs steps p)
+    where
+      by : ((e : Ending) → EndsSo (next e)) → (r : Planned file_cmp ⊥) → KeepsEnd Allowed (stepped f r (λ q e. turn_on sight q (next e)) (λ channel. record { end = Trap channel; pages = p })).end
+      by rest (done t e) = rest e (pages_left f t e)
+      by rest (unit_stopped (trap channel)) = tt
+      by rest (unit_stopped (need none)) = absurd none
+      by rest (call number) = tt
+  came_keeps (adds f entries next) keeps p = let room = HasRoom (with_map p f entries) f.tty in came_keeps (next room) (keeps room) (with_added p f entries room)
+  came_keeps (looks name next) keeps p = came_keeps (next (sight.is_name name)) (keeps (sight.is_name name)) p
+  came_keeps (makes name next) keeps p = came_keeps (next sight.has_more) (keeps sight.has_more) p
+  came_keeps (ends e) keeps p = keeps
 
 -- a call on maps changes a slot of its job, and follows one of it
-module _ (a : Asked) (own : AreOwn a.tree.forks) (p : NamedPages) where
-  Ends : Turn ⊥ MapChange → Type 0
-  Ends t = EndIn a.tree.forks a.who.tty (turn_on no_files p t).end
+module _ (a : MapAsked) (own : AreOwn a.tree.forks) where
+  abbrev Here : Slot → Type 0
+  Here s = Stands a.tree.forks a.who.tty s
 
-  given_in : (holds : Slot → Type 0) (r : Result Slot ℕ) (next : Slot → Turn ⊥ MapChange) → OkIn holds r → ((s : Slot) → holds s → Ends (next s)) → Ends (given r next)
-  unfolding Ends turn_on
+  abbrev AnyFile : List ℕ → Type 0
+  AnyFile name = Unit {0}
+
+  abbrev Fits : Turn (List ℕ) MapChange → Type 0
+  Fits t = Keeps AnyFile (ChangeIn a.tree.forks a.who.tty) t
+
+  abbrev FitsIt : End MapChange → Type 0
+  FitsIt e = KeepsEnd (ChangeIn a.tree.forks a.who.tty) e
+
+  -- a slot of its job, or a page of a file
+  abbrev PlaceHere : MapPlace → Type 0
+  PlaceHere (of_fork s) = Here s
+  PlaceHere (of_file j page) = Unit {0}
+
+  given_in : {A : Type 0} (holds : A → Type 0) (r : Result A ℕ) (next : A → Turn (List ℕ) MapChange) → OkIn holds r → ((x : A) → holds x → Fits (next x)) → Fits (given r next)
   given_in holds (Err code) next ok goes = tt
-  given_in holds (Ok s) next ok goes = goes s ok
+  given_in holds (Ok x) next ok goes = goes x ok
+
+  then_in : {A B : Type 0} (holds : A → Type 0) (all : B → Type 0) (r : Result A ℕ) (next : A → Result B ℕ) → OkIn holds r → ((x : A) → holds x → OkIn all (next x)) → OkIn all (and_then r next)
+  then_in holds all (Err code) next ok goes = tt
+  then_in holds all (Ok x) next ok goes = goes x ok
 
   on_page_in : {A : Type 0} (holds : A → Type 0) (word : ℕ) (r : Result A ℕ) → OkIn holds r → OkIn holds (on_page word r)
   on_page_in holds word r ok = cond_both (nat_lt (right word) SPACE_PAGES) r (Err BAD_PAGE) (OkIn holds) (λ good. ok) (λ bad. tt)
 
-  place_in : OkIn (Stands a.tree.forks a.who.tty) (place_named a)
-  place_in = on_page_in (Stands a.tree.forks a.who.tty) (in_ac a.regs 1) (place_of a.tree.forks a.who (in_ac a.regs 1)) (place_job a.tree.forks own a.who (in_ac a.regs 1))
+  place_in : (word : ℕ) → OkIn PlaceHere (place_of a word)
+  unfolding place_of
+  place_in word = cond_both (nat_lt (left word) FORK_SELF) (option_map_or (λ j. Ok (of_file j (right word))) (map.get a.held (left word)) (Err NO_JFN)) (and_then (slot_of a.tree.forks a.who word) (λ slot. Ok (of_fork slot))) (OkIn PlaceHere)
+      (λ is. by (map.get a.held (left word))) (λ is. then_in Here PlaceHere (slot_of a.tree.forks a.who word) (λ slot. Ok (of_fork slot)) (slot_job a.tree.forks own a.who word) (λ s here. here))
+    where
+      by : (o : Option OpenFile) → OkIn PlaceHere (option_map_or (λ j. Ok (of_file j (right word))) o (Err NO_JFN))
+      by None = tt
+      by (Some j) = tt
 
-  slot_in : OkIn (Stands a.tree.forks a.who.tty) (slot_named a)
-  slot_in = on_page_in (Stands a.tree.forks a.who.tty) (in_ac a.regs 1) (slot_of a.tree.forks a.who (in_ac a.regs 1)) (slot_job a.tree.forks own a.who (in_ac a.regs 1))
+  named_in : (n : ℕ) → OkIn PlaceHere (place_named a n)
+  named_in n = on_page_in PlaceHere (in_ac a.regs n) (place_of a (in_ac a.regs n)) (place_in (in_ac a.regs n))
 
-  narrows_in : (s : Slot) (access : Access) (e : MapEntry) → Stands a.tree.forks a.who.tty s → EndIn a.tree.forks a.who.tty (narrows s access a.regs e)
+  abbrev BothHere : MapPlace × MapPlace → Type 0
+  BothHere p = PlaceHere p.0 × PlaceHere p.1
+
+  abbrev both : Result (MapPlace × MapPlace) ℕ
+  both = and_then (place_of a (in_ac a.regs 1)) (λ from. and_then (place_of a (in_ac a.regs 2)) (λ to. Ok (from, to)))
+
+  both_in : OkIn BothHere both
+  both_in = then_in PlaceHere BothHere (place_of a (in_ac a.regs 1)) (λ from. and_then (place_of a (in_ac a.regs 2)) (λ to. Ok (from, to))) (place_in (in_ac a.regs 1))
+      (λ from x. then_in PlaceHere BothHere (place_of a (in_ac a.regs 2)) (λ to. Ok (from, to)) (place_in (in_ac a.regs 2)) (λ to y. (x, y)))
+
+  places_in : OkIn BothHere (places_named a)
+  places_in = on_page_in BothHere (in_ac a.regs 1) (on_page (in_ac a.regs 2) both) (on_page_in BothHere (in_ac a.regs 2) both both_in)
+
+  slot_in : OkIn Here (slot_named a)
+  slot_in = on_page_in Here (in_ac a.regs 1) (slot_of a.tree.forks a.who (in_ac a.regs 1)) (slot_job a.tree.forks own a.who (in_ac a.regs 1))
+
+  narrows_in : (s : Slot) (access : Access) (e : MapEntry) → Here s → FitsIt (narrows s access a.regs e)
   narrows_in s access entry.Empty here = tt
   narrows_in s access (entry.Names n x) here = here
   narrows_in s access (entry.Follows serial page x) here = here
 
-  spacs_in : Ends (spacs a)
-  unfolding Ends turn_on
-  spacs_in = given_in (Stands a.tree.forks a.who.tty) (slot_named a) _ slot_in (λ s here. narrows_in s (access_in (in_ac a.regs 2)) _ here)
+  granted_in : (change : MapChange) → ChangeIn a.tree.forks a.who.tty change → (what : Touched) → FitsIt (if_granted (maps a change) what)
+  granted_in change fits Granted = fits
+  granted_in change fits Denied = tt
+  granted_in change fits Full = tt
 
-  rpacs_in : Ends (rpacs a)
-  unfolding Ends turn_on
-  rpacs_in = given_in (Stands a.tree.forks a.who.tty) (place_named a) _ place_in (λ s here. tt)
+  access_in_place : (place : MapPlace) → Fits (access_at a.regs place)
+  access_in_place (of_fork s) = λ e. (tt, λ n. tt)
+  access_in_place (of_file j page) = (tt, λ n. tt)
 
-  rmap_in : Ends (rmap a)
-  unfolding Ends turn_on
-  rmap_in = given_in (Stands a.tree.forks a.who.tty) (slot_named a) _ slot_in (λ s here. tt)
-
-  to_in : (next : Slot → MapChange) → ((s : Slot) → Stands a.tree.forks a.who.tty s → ChangeIn a.tree.forks a.who.tty (next s)) → (r : Result Slot ℕ) → OkIn (Stands a.tree.forks a.who.tty) r → OkIn (ChangeIn a.tree.forks a.who.tty) (and_then r (λ to. Ok (next to)))
-  to_in next fits (Err code) ok = tt
-  to_in next fits (Ok s) ok = fits s ok
-
-  from_in : (r : Result Slot ℕ) (next : Slot → Result MapChange ℕ) → OkIn (Stands a.tree.forks a.who.tty) r → ((s : Slot) → Stands a.tree.forks a.who.tty s → OkIn (ChangeIn a.tree.forks a.who.tty) (next s)) → OkIn (ChangeIn a.tree.forks a.who.tty) (and_then r next)
-  from_in (Err code) next stands ok = tt
-  from_in (Ok s) next stands ok = ok s stands
-
-  destination : OkIn (Stands a.tree.forks a.who.tty) (place_of a.tree.forks a.who (in_ac a.regs 2))
-  destination = place_job a.tree.forks own a.who (in_ac a.regs 2)
-
-  one_in : OkIn (ChangeIn a.tree.forks a.who.tty) (one_page a)
-  unfolding one_page
-  one_in = cond_both (in_ac a.regs 1 == ALL_ONES) (unmapped a) (mapped a) (OkIn (ChangeIn a.tree.forks a.who.tty))
-      (λ is. on_page_in (ChangeIn a.tree.forks a.who.tty) (in_ac a.regs 2) _ (to_in Unmap (λ s here. here) (place_of a.tree.forks a.who (in_ac a.regs 2)) destination))
-      (λ other. on_page_in (ChangeIn a.tree.forks a.who.tty) (in_ac a.regs 1) _ (on_page_in (ChangeIn a.tree.forks a.who.tty) (in_ac a.regs 2) _
-      (from_in (place_of a.tree.forks a.who (in_ac a.regs 1)) _ (place_job a.tree.forks own a.who (in_ac a.regs 1)) (λ from stands. to_in (λ to. Follow to from (access_in (in_ac a.regs 3))) (λ s here. (here, stands)) (place_of a.tree.forks a.who (in_ac a.regs 2)) destination))))
-
-  pmap_in : Ends (pmap a)
-  unfolding Ends turn_on
-  pmap_in = cond_both (is_counted a.regs && (left_to_do a.regs == 0)) (ends (returning Nothing a.regs)) (given (one_page a) (λ change. ends (Done change (behind_page a.regs) None None))) Ends (λ none. tt) (λ some. by (one_page a) one_in)
+  from_in : (j : OpenFile) (page : ℕ) (to : Slot) → Here to → Fits (from_file a j page to)
+  from_in j page to here = cond_both (allows j (access_wanted a)) (finds (file_spot j page) found) (ends (Refused NOT_OPEN)) Fits (λ is. (tt, each)) (λ is. tt)
     where
-      by : (r : Result MapChange ℕ) → OkIn (ChangeIn a.tree.forks a.who.tty) r → Ends (given r (λ change. ends (Done change (behind_page a.regs) None None)))
-      by (Err code) ok = tt
-      by (Ok change) ok = ok
+      found : Option PageName → Turn (List ℕ) MapChange
+      found n = cond (is_some n) (ends (maps a (Map to j.file page (access_wanted a)))) (cond (is_written j) (makes_page a j page (maps a (Map to j.file page (access_wanted a)))) (ends (Refused NO_PAGE)))
 
-  pub map_call_in : (number : ℕ) → EndIn a.tree.forks a.who.tty (turn_on no_files p (map_call number a)).end
-  unfolding Ends turn_on
-  map_call_in number =
-      cond_both (PMAP == number) (pmap a) _ Ends (λ is. pmap_in) (λ n1.
-      cond_both (RPACS == number) (rpacs a) _ Ends (λ is. rpacs_in) (λ n2.
-      cond_both (SPACS == number) (spacs a) _ Ends (λ is. spacs_in) (λ n3.
-      cond_both (RMAP == number) (rmap a) _ Ends (λ is. rmap_in) (λ n4. tt))))
+      each : (n : Option PageName) → Fits (found n)
+      each (Some n) = here
+      each None = cond_both (is_written j) (makes_page a j page (maps a (Map to j.file page (access_wanted a)))) (ends (Refused NO_PAGE)) Fits (λ is. (tt, granted_in (Map to j.file page (access_wanted a)) here)) (λ is. tt)
+
+  into_in : (from : Slot) (j : OpenFile) (page : ℕ) → Here from → Fits (into_file a from j page)
+  into_in from j page here = cond_both (is_written j) (finds (in_map from) found) (ends (Refused NOT_OPEN)) Fits (λ is. (tt, each)) (λ is. tt)
+    where
+      found : Option PageName → Turn (List ℕ) MapChange
+      found n = cond (is_some n) (touches a.who.tty (in_map from) Read (λ what. ends (if_granted (maps a (Put j.file page from)) what))) (ends (Refused NO_PAGE))
+
+      each : (n : Option PageName) → Fits (found n)
+      each (Some n) = (tt, granted_in (Put j.file page from) here)
+      each None = tt
+
+  mapping_in : (p : MapPlace × MapPlace) → BothHere p → Fits (mapping_into a p.0 p.1)
+  mapping_in p here = by p.0 p.1 here.0 here.1
+    where
+      by : (from to : MapPlace) → PlaceHere from → PlaceHere to → Fits (mapping_into a from to)
+      by (of_fork from) (of_fork to) x y = (y, x)
+      by (of_file j page) (of_fork to) x y = from_in j page to y
+      by (of_fork from) (of_file j page) x y = into_in from j page x
+      by (of_file i p) (of_file j q) x y = tt
+
+  unmapping_in : (place : MapPlace) → PlaceHere place → Fits (unmapping a place)
+  unmapping_in (of_fork to) here = here
+  unmapping_in (of_file j page) here = cond_both (is_written j) (ends (maps a (Drop j.file page))) (ends (Refused NOT_OPEN)) Fits (λ is. tt) (λ is. tt)
+
+  one_in : Fits (one_page a)
+  unfolding one_page
+  one_in = cond_both (in_ac a.regs 1 == ALL_ONES) (given (place_named a 2) (unmapping a)) (given (places_named a) (λ p. mapping_into a p.0 p.1)) Fits
+      (λ is. given_in PlaceHere (place_named a 2) (unmapping a) (named_in 2) unmapping_in)
+      (λ is. given_in BothHere (places_named a) (λ p. mapping_into a p.0 p.1) places_in mapping_in)
+
+  pmap_in : Fits (pmap a)
+  pmap_in = cond_both (is_counted a.regs && (left_to_do a.regs == 0)) (ends (returning Nothing a.regs)) (one_page a) Fits (λ none. tt) (λ some. one_in)
+
+  rpacs_in : Fits (rpacs a)
+  rpacs_in = given_in PlaceHere (place_named a 1) (access_at a.regs) (named_in 1) (λ place here. access_in_place place)
+
+  spacs_in : Fits (spacs a)
+  spacs_in = given_in Here (slot_named a) (λ slot. sees slot (λ e. ends (narrows slot (access_in (in_ac a.regs 2)) a.regs e))) slot_in (λ s here e. narrows_in s (access_in (in_ac a.regs 2)) e here)
+
+  rmap_in : Fits (rmap a)
+  rmap_in = given_in Here (slot_named a) (λ slot. sees slot (λ e. finds (in_map slot) (λ page. ends (tells_access (with_ac a.regs 1 (source_of a.tree.forks slot e)) e page)))) slot_in (λ s here e. (tt, λ n. tt))
+
+  call_in : (number : ℕ) → Fits (map_call number a)
+  call_in number =
+      cond_both (PMAP == number) (pmap a) _ Fits (λ is. pmap_in) (λ n1.
+      cond_both (RPACS == number) (rpacs a) _ Fits (λ is. rpacs_in) (λ n2.
+      cond_both (SPACS == number) (spacs a) _ Fits (λ is. spacs_in) (λ n3.
+      cond_both (RMAP == number) (rmap a) _ Fits (λ is. rmap_in) (λ n4. tt))))
+
+  pub map_call_in : {K : Type 0} {file_cmp : K → K → Ordering} (sight : Sight (List ℕ) K) (p : PlainPages file_cmp) (number : ℕ) → EndIn a.tree.forks a.who.tty (turn_on sight p (map_call number a)).end
+  map_call_in sight p number = came_keeps AnyFile (ChangeIn a.tree.forks a.who.tty) sight (map_call number a) (call_in number) p

@@ -1,16 +1,15 @@
--- A turn of a call in the whole state, by its family: what it leaves with the fork that called, and that the calls on maps make no page.
+-- A turn of a call in the whole state, by its family: what it leaves with the fork that called.
 use Rattle.std.proofs.Common.{◌≡◌, ℕ, List, Option, None, Some, Result, Ok, Err, refl, sym, ◌∙◌, ap, subst, Ordering}
-use Rattle.std.specs.Prelude.{◌==◌, ◌&&◌}
+use Rattle.std.specs.Prelude.{◌==◌}
 use Rattle.std.specs.Option.{option_map}
 use Rattle.std.specs.FinMap as map
-use Rattle.plain_model.specs.declared.call.TheConstants.{GETER, PBOUT, PMAP, RPACS, SPACS, RMAP}
+use Rattle.plain_model.specs.declared.call.TheConstants.{GETER, PBOUT}
 use Rattle.plain_units.specs.declared.channel.TheConstants.{ILLEGAL_INSTRUCTION}
 use Rattle.plain_model.specs.declared.call.End.{End}
 use Rattle.plain_model.specs.declared.call.End.TheVariants.{Done, Waits, Halts, Refused, Failed, Trap}
 use Rattle.plain_model.specs.declared.call.ForkChange.{ForkChange}
 use Rattle.plain_model.specs.declared.call.MapChange.{MapChange}
 use Rattle.plain_model.specs.declared.call.FileChange.{FileChange}
-use Rattle.plain_model.specs.declared.call.MapChange.TheVariants.{Nothing}
 use Rattle.machine_names.specs.declared.names.Tty.{Tty}
 use Rattle.machine_names.specs.declared.names.ForkName.{ForkName}
 use Rattle.plain_model.specs.declared.fork.Fork.{Fork}
@@ -19,15 +18,11 @@ use Rattle.plain_pages.specs.PlainPages.{PlainPages, NamedPages}
 use Rattle.plain_model.specs.State.{PlainState}
 use Rattle.machine_names.specs.Orders.{name_cmp}
 use Rattle.plain_model.specs.Interrupts.{posted}
-use Rattle.plain_pages.specs.References.{in_map}
-use Rattle.plain_units.specs.Deeds.{in_ac}
-use Rattle.plain_model.specs.AccessWords.{access_in}
-use Rattle.plain_model.specs.Calls.{Turn, sees, finds, ends, with_ac, no_files, Came, turn_on, given, numbered, returning, is_among, fork_behind, out_of, parts_behind, Asked}
-use Rattle.plain_model.specs.MapCalls.{is_counted, narrows, place_named, slot_named, source_of, tells_access, pages_left as left_to_do, one_page, behind_page, rpacs, spacs, rmap, pmap, map_call, map_calls, map_changed}
+use Rattle.plain_model.specs.Calls.{Turn, ends, with_ac, no_files, Came, turn_on, given, numbered, returning, is_among, fork_behind, out_of, parts_behind, Asked}
+use Rattle.plain_model.specs.MapCalls.{map_calls, map_changed}
 use Rattle.plain_model.specs.FileCalls.{FileParts, file_call, file_calls, file_changed, geter, jfn_calls}
 use Rattle.plain_model.specs.ForkCalls.{own_named, fork_calls, fork_changed}
 use Rattle.plain_model.specs.Families.{Parts, behind, asks, came_of, forking, mapping, opening, prints, own_changed, print_calls, forks_changed, pages_changed, jfns_changed}
-use Rattle.plain_model.specs.Trees.{tree_of}
 use Rattle.plain_model.specs.Unit.{Effect, parts_of, with_parts, turned, called}
 use Rattle.std.proofs.lemmas.Bool.{cond_both}
 
@@ -46,13 +41,13 @@ fork_turned s f number = turned s f.name.tty (behind forks_changed (parts_of s) 
 
 -- so of a call on maps
 abbrev pub map_came : PlainState → Fork → ℕ → Came name_cmp MapChange
-map_came s f number = came_of mapping (parts_of s) f.name f.body.regs number
+map_came s f number = came_of (mapping (λ name. name)) (parts_of s) f.name f.body.regs number
 
 abbrev pub map_pages : PlainState → Fork → ℕ → NamedPages
-map_pages s f number = parts_behind map_changed s.pages s.pages (map_came s f number).end
+map_pages s f number = let c = map_came s f number in parts_behind (map_changed (λ name. name)) s.pages c.pages c.end
 
 abbrev pub map_turned : PlainState → Fork → ℕ → Effect
-map_turned s f number = turned s f.name.tty (behind pages_changed (parts_of s) f.name (map_came s f number))
+map_turned s f number = turned s f.name.tty (behind (pages_changed (λ name. name)) (parts_of s) f.name (map_came s f number))
 
 -- so of a call on JFNs, which changes pages, files and jobs
 abbrev pub jfn_came : PlainState → Fork → ℕ → Came name_cmp FileChange
@@ -98,14 +93,14 @@ module _ (Holds : Effect → Type 0) (s : PlainState) where
 
 module _ {K : Type 0} {file_cmp : K → K → Ordering} where
   -- a change of pages alone
-  pub pages_behind : (v : Parts file_cmp) (q : PlainPages file_cmp) (e : End MapChange) → parts_behind pages_changed v (record v { pages = q }) e ≡ record v { pages = parts_behind map_changed v.pages q e }
+  pub pages_behind : (key_of : List ℕ → K) (v : Parts file_cmp) (q : PlainPages file_cmp) (e : End MapChange) → parts_behind (pages_changed key_of) v (record v { pages = q }) e ≡ record v { pages = parts_behind (map_changed key_of) v.pages q e }
   unfolding parts_behind
-  pages_behind v q (Done change regs out post) = refl
-  pages_behind v q (Waits on) = refl
-  pages_behind v q Halts = refl
-  pages_behind v q (Refused code) = refl
-  pages_behind v q (Failed code) = refl
-  pages_behind v q (Trap channel) = refl
+  pages_behind key_of v q (Done change regs out post) = refl
+  pages_behind key_of v q (Waits on) = refl
+  pages_behind key_of v q Halts = refl
+  pages_behind key_of v q (Refused code) = refl
+  pages_behind key_of v q (Failed code) = refl
+  pages_behind key_of v q (Trap channel) = refl
 
   -- a change of forks and pages
   pub forks_behind : (v : Parts file_cmp) (q : PlainPages file_cmp) (e : End ForkChange)
@@ -150,36 +145,7 @@ module _ {K : Type 0} {file_cmp : K → K → Ordering} where
     given_none (Err code) next goes = refl
     given_none (Ok x) next goes = goes x
 
-    rpacs_none : (a : Asked) → MakesNone (rpacs a)
-    unfolding turn_on
-    rpacs_none a = given_none (place_named a) (λ slot. sees slot (λ e. finds (in_map slot) (λ page. ends (tells_access a.regs e page)))) (λ s. refl)
-
-    spacs_none : (a : Asked) → MakesNone (spacs a)
-    unfolding turn_on
-    spacs_none a = given_none (slot_named a) (λ slot. sees slot (λ e. ends (narrows slot (access_in (in_ac a.regs 2)) a.regs e))) (λ s. refl)
-
-    rmap_none : (a : Asked) → MakesNone (rmap a)
-    unfolding turn_on
-    rmap_none a = given_none (slot_named a) (λ slot. sees slot (λ e. finds (in_map slot) (λ page. ends (tells_access (with_ac a.regs 1 (source_of a.tree.forks slot e)) e page)))) (λ s. refl)
-
-    pmap_none : (a : Asked) → MakesNone (pmap a)
-    unfolding turn_on
-    pmap_none a = cond_both (is_counted a.regs && (left_to_do a.regs == 0)) (ends (returning Nothing a.regs)) (given (one_page a) (λ change. ends (Done change (behind_page a.regs) None None))) MakesNone
-        (λ none. refl) (λ some. given_none (one_page a) (λ change. ends (Done change (behind_page a.regs) None None)) (λ change. refl))
-
-    ends_none : {C : Type 0} (e : End C) → MakesNone (ends e)
-    unfolding turn_on
-    ends_none e = refl
-
-    -- no call on maps does
-    pub map_makes_none : (number : ℕ) (a : Asked) → MakesNone (map_call number a)
-    map_makes_none number a =
-        cond_both (PMAP == number) (pmap a) _ MakesNone (λ is. pmap_none a) (λ n1.
-        cond_both (RPACS == number) (rpacs a) _ MakesNone (λ is. rpacs_none a) (λ n2.
-        cond_both (SPACS == number) (spacs a) _ MakesNone (λ is. spacs_none a) (λ n3.
-        cond_both (RMAP == number) (rmap a) _ MakesNone (λ is. rmap_none a) (λ n4. ends_none (Trap ILLEGAL_INSTRUCTION)))))
-
-    -- nor one that prints
+    -- a call that prints makes none
     pub print_makes_none : (number : ℕ) (regs : Regs) → MakesNone (numbered print_calls number regs)
     unfolding turn_on
     print_makes_none number regs = cond_both (PBOUT == number) (prints regs) _ MakesNone (λ is. refl) (λ n. refl)
@@ -217,17 +183,13 @@ module _ (Holds : Effect → Type 0) (s : PlainState) (f : Fork) (number : ℕ) 
   -- a call on maps leaves other pages, and the fork that called
   pub map_by : ((g : Fork) → map.get s.forks f.name ≡ Some g → Holds (turned s f.name.tty (record { parts = record (parts_of s) { pages = map_pages s f number }; caller = Some (fork_behind g (map_came s f number).end); out = out_of (map_came s f number).end })))
       → Holds (turned s f.name.tty (record { parts = record (parts_of s) { pages = map_pages s f number }; caller = None; out = out_of (map_came s f number).end })) → Holds (map_turned s f number)
-  map_by some none = subst Left (sym same) (caller_by Holds s f.name.tty (record (parts_of s) { pages = map_pages s f number }) f.name (λ g. fork_behind g c.end) (out_of c.end) some none)
+  map_by some none = subst Left (sym (pages_behind (λ name. name) (parts_of s) c.pages c.end)) (caller_by Holds s f.name.tty (record (parts_of s) { pages = map_pages s f number }) f.name (λ g. fork_behind g c.end) (out_of c.end) some none)
     where
       c : Came name_cmp MapChange
       c = map_came s f number
 
       Left : Parts name_cmp → Type 0
       Left left = Holds (turned s f.name.tty (record { parts = left; caller = option_map (λ g. fork_behind g (map_came s f number).end) (map.get left.tree.forks f.name); out = out_of (map_came s f number).end }))
-
-      same : parts_behind pages_changed (parts_of s) (record (parts_of s) { pages = (map_came s f number).pages }) (map_came s f number).end ≡ record (parts_of s) { pages = map_pages s f number }
-      same = pages_behind (parts_of s) (map_came s f number).pages (map_came s f number).end
-          ∙ ap (λ (q : NamedPages). record (parts_of s) { pages = parts_behind map_changed s.pages q (map_came s f number).end }) (map_makes_none s.pages number (record { who = f.name; regs = f.body.regs; tree = tree_of s }))
 
   -- a call on JFNs leaves other pages, files and jobs, and the fork that called
   pub jfn_by : ((g : Fork) → map.get s.forks f.name ≡ Some g → Holds (turned s f.name.tty (record { parts = with_filed (parts_of s) (jfn_left s f number); caller = Some (fork_behind g (jfn_came s f number).end); out = out_of (jfn_came s f number).end })))

@@ -11,6 +11,8 @@ pub mod ForkEnds
 pub mod Posted
 pub mod MapTurns
 pub mod ForkTurns
+pub mod RefiledPages
+pub mod MapKeeps
 pub mod RefiledCalls
 pub mod JfnEnds
 pub mod JfnChanges

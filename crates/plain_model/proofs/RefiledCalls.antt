@@ -11,10 +11,13 @@ use Rattle.plain_model.specs.declared.call.End.{End}
 use Rattle.plain_model.specs.declared.call.End.TheVariants.{Done, Waits, Halts, Refused, Failed, Trap}
 use Rattle.plain_model.specs.declared.call.ForkChange.{ForkChange}
 use Rattle.plain_model.specs.declared.call.MapChange.{MapChange}
-use Rattle.plain_model.specs.declared.call.MapChange.TheVariants.{Nothing, Unmap, Follow, Narrow}
+use Rattle.plain_model.specs.declared.call.MapChange.TheVariants.{Nothing, Unmap, Follow, Narrow, Map, Put, Drop}
 use Rattle.plain_model.specs.declared.call.FileChange.{FileChange}
 use Rattle.plain_model.specs.declared.call.FileChange.TheVariants.{Take, Make, Open, Release, Delete}
+use Rattle.plain_pages.specs.declared.map.MapEntry.{MapEntry}
 use Rattle.plain_pages.specs.declared.map.MapEntry.TheVariants as entry
+use Rattle.machine_names.specs.declared.names.PageName.{PageName}
+use Rattle.machine_names.specs.declared.names.Slot.{Slot}
 use Rattle.machine_names.specs.declared.names.ForkName.{ForkName}
 use Rattle.machine_names.specs.declared.names.Tty.{Tty}
 use Rattle.plain_files.specs.OpenFiles.{OpenFile}
@@ -25,21 +28,24 @@ use Rattle.plain_files.specs.declared.jfn.Mode.{Mode}
 use Rattle.plain_files.specs.Sizes.{PlainFile, new_file}
 use Rattle.plain_units.specs.declared.registers.Regs.{Regs}
 use Rattle.plain_pages.specs.PlainPages.{PlainPages, refiled}
-use Rattle.plain_pages.specs.FilePages.{other_files}
-use Rattle.machine_names.specs.Orders.{name_cmp}
+use Rattle.plain_pages.specs.FilePages.{other_files, with_file}
+use Rattle.plain_pages.specs.References.{in_map, page_at, with_changed}
+use Rattle.machine_names.specs.Orders.{FilePage, name_cmp}
 use Rattle.plain_pages.specs.Maps.{narrow}
 use Rattle.plain_model.specs.Calls.{Sight, Turn, no_files, turn_on, Came, numbered, is_among, fork_behind, out_of, parts_behind}
-use Rattle.plain_model.specs.MapCalls.{map_calls, map_changed}
+use Rattle.plain_model.specs.MapCalls.{entry_for, keyed, map_calls, map_changed}
 use Rattle.plain_model.specs.FileCalls.{file_calls, deleted, file_changed, files_opened, held_at, jfn_calls, opened}
 use Rattle.plain_model.specs.ForkCalls.{ForkParts, fork_calls}
-use Rattle.plain_model.specs.Families.{Parts, Turned, behind, call_turned, print_calls, own_changed, asks, asks_jfns, names_seen, forks_changed, pages_changed, jfns_changed}
+use Rattle.plain_model.specs.Families.{Parts, Turned, behind, call_turned, print_calls, own_changed, asks, asks_jfns, asks_maps, files_seen, names_seen, forks_changed, pages_changed, jfns_changed}
 use Rattle.machine_names.proofs.OrderLemmas.{name_cmp_apart}
 use Rattle.plain_pages.proofs.Refiled.{NameAlike}
 use Rattle.plain_pages.proofs.FilesKept.{without_files}
 use Rattle.plain_model.proofs.Keyed.{AreKeyed, Files, Others, keyed_by, totals_keyed, without_keyed, without_refiled}
 use Rattle.plain_pages.proofs.Whole.{tally}
 use Rattle.plain_model.proofs.Calling.{filed_of, with_filed}
-use Rattle.plain_model.proofs.Turns.{NamesAlike, came_leaves, came_refiled}
+use Rattle.plain_model.proofs.Turns.{KeepsEnd, NamesAlike, TellAlike, came_leaves, came_refiled, came_same}
+use Rattle.plain_model.proofs.RefiledPages.{other_set, put_keyed, put_refiled}
+use Rattle.plain_model.proofs.MapKeeps.{KeepsFiles, OfFiles, map_keeps}
 use Rattle.plain_model.proofs.ForkTurns.{change_refiled, changed_leaves as fork_leaves}
 use Rattle.plain_model.proofs.MapTurns.{changed_leaves as entry_leaves, changed_refiled}
 
@@ -173,20 +179,52 @@ module _ {K L : Type 0} {file_cmp : K → K → Ordering} {other_cmp : L → L �
         by None is = stay key other_key u files filed _ _ refl refl (λ x h. h)
         by (Some j) is = deleted_stays t n j (held t n j is)
 
--- a change of maps leaves the pages of files, and does not depend on their keys
-map_files : {K : Type 0} {file_cmp : K → K → Ordering} (what : MapChange) (p : PlainPages file_cmp) → (map_changed what p).files ≡ p.files
-unfolding map_changed
-map_files Nothing p = refl
-map_files (Unmap s) p = entry_leaves p s (λ e. entry.Empty)
-map_files (Follow s t a) p = entry_leaves p s (λ e. entry.Follows t.fork.serial t.page a)
-map_files (Narrow s a) p = entry_leaves p s (narrow a)
+  -- a change of a call on maps that changes files that are there
+  module _ (u : Parts file_cmp) (filed : Filed u) where
+    entry_stays : (s : Slot) (change : MapEntry → MapEntry) → Stays u (record u { pages = with_changed u.pages s change }) (record (rekeyed u) { pages = with_changed (refiled other_cmp u.pages files) s change })
+    entry_stays s change = stay key other_key u files filed _ _
+        (ap (λ (p : PlainPages other_cmp). record (rekeyed u) { pages = p }) (changed_refiled other_cmp files u.pages (alike u filed) s change)) (entry_leaves u.pages s change) (λ name h. h)
 
-map_refiled : {K L : Type 0} {file_cmp : K → K → Ordering} (other_cmp : L → L → Ordering) (files : Files other_cmp) (what : MapChange) (p : PlainPages file_cmp) → NameAlike other_cmp p files → map_changed what (refiled other_cmp p files) ≡ refiled other_cmp (map_changed what p) files
-unfolding map_changed
-map_refiled other_cmp files Nothing p alike = refl
-map_refiled other_cmp files (Unmap s) p alike = changed_refiled other_cmp files p alike s (λ e. entry.Empty)
-map_refiled other_cmp files (Follow s t a) p alike = changed_refiled other_cmp files p alike s (λ e. entry.Follows t.fork.serial t.page a)
-map_refiled other_cmp files (Narrow s a) p alike = changed_refiled other_cmp files p alike s (narrow a)
+    file_stays : (name : List ℕ) → IsThere u name → (page : ℕ) (new : Option PageName)
+        → Stays u (record u { pages = with_file u.pages (keyed key name page) new }) (record (rekeyed u) { pages = with_file (refiled other_cmp u.pages files) (keyed other_key name page) new })
+    file_stays name there page new = record {
+      same = is ∙ ap (λ (f : Files other_cmp). refiled_all other_cmp f w) (sym files_are);
+      keyed = subst (λ (f : Files other_cmp). AreKeyed file_cmp other_cmp Both key other_key w.pages.files f) (sym files_are) both;
+    }
+      where
+        w : Parts file_cmp
+        w = record u { pages = with_file u.pages (keyed key name page) new }
+
+        x : Parts other_cmp
+        x = record (rekeyed u) { pages = with_file (refiled other_cmp u.pages files) (keyed other_key name page) new }
+
+        now : Files other_cmp
+        now = other_set o apart other_o other_apart (IsThere u) key other_key u.pages files filed name there page new
+
+        Both : List ℕ → Type 0
+        Both a = IsThere u a × IsThere w a
+
+        is : x ≡ refiled_all other_cmp now w
+        is = ap (λ (p : PlainPages other_cmp). record (rekeyed u) { pages = p }) (put_refiled o apart other_o other_apart (IsThere u) key other_key u.pages files filed name there page new)
+
+        files_are : x.pages.files ≡ now
+        files_are = ap (λ (y : Parts other_cmp). y.pages.files) is
+
+        both : AreKeyed file_cmp other_cmp Both key other_key w.pages.files now
+        both = keyed_by file_cmp other_cmp (IsThere u) Both key other_key w.pages.files now (λ a h. (h, h)) (λ a h. h.0) (put_keyed o apart other_o other_apart (IsThere u) key other_key u.pages files filed name there page new)
+
+    map_stays : (change : MapChange) → OfFiles (IsThere u) change → Stays u (pages_changed key change u) (pages_changed other_key change (rekeyed u))
+    unfolding map_changed page_at
+    map_stays Nothing there = stay key other_key u files filed _ _ refl refl (λ x h. h)
+    map_stays (Unmap s) there = entry_stays s (λ e. entry.Empty)
+    map_stays (Follow s t a) there = entry_stays s (λ e. entry.Follows t.fork.serial t.page a)
+    map_stays (Narrow s a) there = entry_stays s (narrow a)
+    map_stays (Map s name page a) there =
+        let old = map.get u.pages.files (keyed key name page) in
+        subst (λ (n : Option PageName). Stays u (record u { pages = with_changed u.pages s (λ e. entry_for a e old) }) (record (rekeyed u) { pages = with_changed (refiled other_cmp u.pages files) s (λ e. entry_for a e n) }))
+        (sym (filed.same name there page)) (entry_stays s (λ e. entry_for a e old))
+    map_stays (Put name page s) there = file_stays name there page (page_at u.pages (in_map s))
+    map_stays (Drop name page) there = file_stays name there page None
 
 -- a turn leaves the same but for the keys of files
 module _ {K L : Type 0} {file_cmp : K → K → Ordering} (other_cmp : L → L → Ordering) (key : List ℕ → K) (other_key : List ℕ → L) where
@@ -252,17 +290,66 @@ module _ {K L : Type 0} {file_cmp : K → K → Ordering} {other_cmp : L → L �
         (ap (λ (part : ForkParts other_cmp). record (renewed v) { tree = part.tree; pages = part.pages }) (change_refiled other_cmp files c (record { tree = v.tree; pages = q }) (alike o apart other_o other_apart key other_key files (made_with q) k)))
         (fork_leaves c (record { tree = v.tree; pages = q })) (λ name h. h)
 
-    map_step : (c : MapChange) (q : PlainPages file_cmp) → AreFiled file_cmp other_cmp key other_key (made_with q) files → StayFiled file_cmp other_cmp key other_key (made_with q) (pages_changed c (made_with q)) (pages_changed c (renewed (made_with q)))
-    map_step c q k = stay key other_key (made_with q) files k _ _
-        (ap (λ (p : PlainPages other_cmp). record (renewed v) { pages = p }) (map_refiled other_cmp files c q (alike o apart other_o other_apart key other_key files (made_with q) k)))
-        (map_files c q) (λ name h. h)
+    -- two files are told apart by both kinds of keys, or by neither
+    keys_tied : (a b : List ℕ) → IsThere v a → IsThere v b → eq_by_cmp other_cmp (other_key a) (other_key b) ≡ eq_by_cmp file_cmp (key a) (key b)
+    keys_tied a b x y = by (eq_by_cmp other_cmp (other_key a) (other_key b)) (eq_by_cmp file_cmp (key a) (key b)) refl refl
+      where
+        by : (c d : Bool) → eq_by_cmp other_cmp (other_key a) (other_key b) ≡ c → eq_by_cmp file_cmp (key a) (key b) ≡ d → c ≡ d
+        by true true p q = refl
+        by false false p q = refl
+        by true false p q =
+            let is : a ≡ b = filed.other_apart a b x y (other_apart (other_key a) (other_key b) ((Equal-is (other_cmp (other_key a) (other_key b))).0 p)) in
+            absurd (let no : true ≡ false = sym (ap is_eq (tied_itself o (key b))) ∙ ap (λ (n : List ℕ). eq_by_cmp file_cmp (key n) (key b)) (sym is) ∙ q in cc no)
+        by false true p q =
+            let is : a ≡ b = filed.apart a b x y (apart (key a) (key b) ((Equal-is (file_cmp (key a) (key b))).0 q)) in
+            absurd (let no : true ≡ false = sym (ap is_eq (tied_itself other_o (other_key b))) ∙ ap (λ (n : List ℕ). eq_by_cmp other_cmp (other_key n) (other_key b)) (sym is) ∙ p in cc no)
+
+    -- a page of a file that is there
+    abbrev Filed_by : {J : Type 0} → (List ℕ → J) → FilePage J → Type 0
+    Filed_by at f = (a : List ℕ) × IsThere v a × (at a ≡ f.file)
+
+    seen_told : TellAlike file_cmp other_cmp (IsThere v) (Filed_by key) (Filed_by other_key) (files_seen key v who) (files_seen other_key (renewed v) who)
+    seen_told = record {
+      together = keys_tied;
+      names = λ name. refl;
+      more = refl;
+      total = λ f. o;
+      other_total = λ f. other_o;
+      apart = λ f. apart;
+      other_apart = λ f. other_apart;
+      filed = λ f known k is page. (f, known, cc is);
+      other_filed = λ f known l is page. (f, known, cc is);
+    }
+
+    map_ended : (now : Files other_cmp) (q : PlainPages file_cmp) → AreFiled file_cmp other_cmp key other_key (made_with q) now → (e : End MapChange) → KeepsEnd (OfFiles (IsThere v)) e
+        → StayFiled file_cmp other_cmp key other_key v (parts_behind (pages_changed key) v (made_with q) e) (parts_behind (pages_changed other_key) (renewed v) (refiled_all other_cmp now (made_with q)) e)
+    unfolding parts_behind
+    map_ended now q k (Done c regs out post) keeps = let s = map_stays o apart other_o other_apart key other_key now (made_with q) k c keeps in record { same = s.same; keyed = s.keyed }
+    map_ended now q k (Waits on) keeps = as_it_was
+    map_ended now q k Halts keeps = as_it_was
+    map_ended now q k (Refused code) keeps = as_it_was
+    map_ended now q k (Failed code) keeps = as_it_was
+    map_ended now q k (Trap channel) keeps = as_it_was
+
+    -- so does a turn that refers to files that are there
+    map_turns : (t : Turn (List ℕ) MapChange) → KeepsFiles (IsThere v) t
+        → Turns (behind (pages_changed key) v who (turn_on (files_seen key v who) v.pages t)) (behind (pages_changed other_key) (renewed v) who (turn_on (files_seen other_key (renewed v) who) (renewed v).pages t))
+    map_turns t keeps =
+        let c : Came file_cmp MapChange = turn_on (files_seen key v who) v.pages t in
+        let now : Files other_cmp = (turn_on (files_seen other_key (renewed v) who) (renewed v).pages t).pages.files in
+        let agree = came_same other_cmp (IsThere v) (Filed_by key) (Filed_by other_key) (files_seen key v who) (files_seen other_key (renewed v) who) seen_told (OfFiles (IsThere v)) t keeps v.pages files
+            (record { names = alike o apart other_o other_apart key other_key files v filed; stand = filed.same; filed = filed.filed; other_filed = filed.other_filed }) in
+        let made : AreFiled file_cmp other_cmp key other_key (made_with c.pages) now = record { apart = filed.apart; other_apart = filed.other_apart; same = agree.1.stand; filed = agree.1.filed; other_filed = agree.1.other_filed } in
+        subst (λ (d : Came other_cmp MapChange). Turns (behind (pages_changed key) v who c) (behind (pages_changed other_key) (renewed v) who d)) (sym agree.0)
+        (turns other_cmp key other_key v (parts_behind (pages_changed key) v (made_with c.pages) c.end) (parts_behind (pages_changed other_key) (renewed v) (refiled_all other_cmp now (made_with c.pages)) c.end) who (λ f. fork_behind f c.end) (out_of c.end)
+        (map_ended now c.pages made c.end agree.2))
 
     -- A TURN OF A CALL LEAVES THE SAME, whatever files are known by
     pub call_refiled : AreHeld v → (regs : Regs) (number : ℕ) → Turns (call_turned key v who regs number) (call_turned other_key (renewed v) who regs number)
     call_refiled held regs number =
         either (is_among print_calls number) _ _ _ _ (behind_turns own_changed own_changed own_step no_files no_files no_files_told (numbered print_calls number regs))
         (either (is_among fork_calls number) _ _ _ _ (behind_turns forks_changed forks_changed fork_step no_files no_files no_files_told (numbered fork_calls number (asks v who regs)))
-        (either (is_among map_calls number) _ _ _ _ (behind_turns pages_changed pages_changed map_step no_files no_files no_files_told (numbered map_calls number (asks v who regs)))
+        (either (is_among map_calls number) _ _ _ _ (map_turns (numbered map_calls number (asks_maps v who regs)) (map_keeps (IsThere v) (asks_maps v who regs) (held who.tty) number))
         (either (is_among file_calls number) _ _ _ _ (behind_turns own_changed own_changed own_step no_files no_files no_files_told (numbered file_calls number (asks v who regs)))
         (either (is_among jfn_calls number) _ _ _ _
         (behind_turns (jfns_changed key) (jfns_changed other_key) (λ c q k. change_stays o apart other_o other_apart key other_key files (made_with q) k held c) (names_seen v who) (names_seen (renewed v) who) (record { names = λ name. refl; more = refl }) (numbered jfn_calls number (asks_jfns v who regs)))

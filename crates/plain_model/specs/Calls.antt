@@ -7,6 +7,7 @@ use Rattle.plain_model.specs.declared.call.End.{End}
 use Rattle.plain_model.specs.declared.call.End.TheVariants.{Done, Waits, Halts, Refused, Failed, Trap}
 use Rattle.plain_model.specs.declared.call.Touched.{Touched}
 use Rattle.plain_model.specs.declared.call.Touched.TheVariants.{Granted, Denied, Full}
+use Rattle.plain_model.specs.declared.call.TheConstants.{NO_PAGE, NO_ROOM}
 use Rattle.plain_units.specs.declared.channel.TheConstants.{ILLEGAL_INSTRUCTION}
 use Rattle.machine_names.specs.declared.names.TheConstants.{ACCUMULATORS}
 use Rattle.machine_names.specs.declared.names.ForkName.{ForkName}
@@ -86,6 +87,12 @@ with_ac regs ac word = record regs { ac = slice_set regs.ac ac word }
 -- the call is done, and returns with these registers
 abbrev pub returning : {C : Type 0} → C → Regs → End C
 returning change regs = Done change (behind_call regs) None None
+
+-- a call with one return ends so where a reference was granted; where there is no page, or no room for one, it is refused
+abbrev pub if_granted : {C : Type 0} → End C → Touched → End C
+if_granted e Granted = e
+if_granted e Denied = Refused NO_PAGE
+if_granted e Full = Refused NO_ROOM
 
 -- what follows from what was named, or the code of an error
 abbrev pub and_then : {A B : Type 0} → Result A ℕ → (A → Result B ℕ) → Result B ℕ

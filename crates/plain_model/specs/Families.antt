@@ -19,7 +19,7 @@ use Rattle.plain_pages.specs.PlainPages.{PlainPages}
 use Rattle.plain_model.specs.Interrupts.{posted}
 use Rattle.plain_model.specs.Trees.{PlainTree}
 use Rattle.plain_model.specs.Calls.{Asked, Turn, ends, Sight, no_files, Came, turn_on, numbered, is_among, fork_behind, parts_behind, out_of, behind_call}
-use Rattle.plain_model.specs.MapCalls.{map_calls, map_changed}
+use Rattle.plain_model.specs.MapCalls.{MapAsked, map_calls, map_changed}
 use Rattle.plain_model.specs.FileCalls.{Jobs, JfnAsked, file_calls, file_changed, held_at, jfn_calls, times_held}
 use Rattle.plain_model.specs.ForkCalls.{fork_calls, fork_changed}
 
@@ -100,14 +100,6 @@ module _ {K : Type 0} {file_cmp : K → K → Ordering} where
   abbrev pub forking : Family file_cmp ⊥ Asked ForkChange
   forking = record { calls = fork_calls; asked = asks; sight = λ v who. no_files; changed = forks_changed }
 
-  -- a call on maps changes pages
-  abbrev pub pages_changed : MapChange → Parts file_cmp → Parts file_cmp
-  pages_changed change v = record v { pages = map_changed change v.pages }
-
-  -- the calls on maps
-  abbrev pub mapping : Family file_cmp ⊥ Asked MapChange
-  mapping = record { calls = map_calls; asked = asks; sight = λ v who. no_files; changed = pages_changed }
-
   -- the calls on files that change the fork that called alone
   abbrev pub filing : Family file_cmp ⊥ Asked (Unit {0})
   filing = record { calls = file_calls; asked = asks; sight = λ v who. no_files; changed = own_changed }
@@ -120,7 +112,23 @@ module _ {K : Type 0} {file_cmp : K → K → Ordering} where
   abbrev pub names_seen : Parts file_cmp → ForkName → Sight ⊥ K
   names_seen v who = record { file_of = λ none. None; is_name = λ name. is_some (map.get v.files name); has_more = nat_lt (map.len v.files) MOST_FILES }
 
+  -- what calls on maps are asked with
+  abbrev pub asks_maps : Parts file_cmp → ForkName → Regs → MapAsked
+  asks_maps v who regs = record { who = who; regs = regs; tree = v.tree; held = held_at v.jobs who.tty }
+
   module _ (key_of : List ℕ → K) where
+    -- a call on maps changes pages
+    abbrev pub pages_changed : MapChange → Parts file_cmp → Parts file_cmp
+    pages_changed change v = record v { pages = map_changed key_of change v.pages }
+
+    -- it knows files by their names
+    abbrev pub files_seen : Parts file_cmp → ForkName → Sight (List ℕ) K
+    files_seen v who = record { file_of = λ name. Some (key_of name); is_name = λ name. is_some (map.get v.files name); has_more = nat_lt (map.len v.files) MOST_FILES }
+
+    -- the calls on maps
+    abbrev pub mapping : Family file_cmp (List ℕ) MapAsked MapChange
+    mapping = record { calls = map_calls; asked = asks_maps; sight = files_seen; changed = pages_changed }
+
     -- a call on JFNs changes pages, files and jobs
     abbrev pub jfns_changed : FileChange → Parts file_cmp → Parts file_cmp
     jfns_changed change v = let part = file_changed key_of change (record { pages = v.pages; files = v.files; jobs = v.jobs }) in record v { pages = part.pages; files = part.files; jobs = part.jobs }

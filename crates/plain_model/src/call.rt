@@ -133,6 +133,9 @@ pub const NO_PAGE: u32 = 0o600017;
 /// The error of bytes that are larger than words.
 pub const BAD_SIZE: u32 = 0o600020;
 
+/// The error of a page of a file that is to be mapped into a file.
+pub const FILE_TO_FILE: u32 = 0o600023;
+
 /// How a turn of a monitor call ends.
 #[derive(Clone, Copy)]
 pub enum End<C> {
@@ -173,6 +176,12 @@ pub enum MapChange {
     Follow(Slot, Slot, Access),
     /// The entry of a slot keeps of its access what is given too, and gets the copy mark where that is given.
     Narrow(Slot, Access),
+    /// The entry of a slot names a page of the file of a name, which is there, with this access.
+    Map(Slot, FileName, u16, Access),
+    /// A page of the file of a name becomes the page at the end of a slot's chain, which is there.
+    Put(FileName, u16, Slot),
+    /// The file of a name has no such page any more.
+    Drop(FileName, u16),
 }
 
 /// What a turn of a fork call changes.

@@ -52,39 +52,39 @@ bits false false false false = refl
 pub comes_back : (a : Access) → access_in (access_word a) ≡ a
 comes_back a = bits a.r a.w a.x a.c
 
-module _ (p : NumberedPages) (w : AreWhole p) (s : Slot) (there : HasEntry p s) where
+module _ (key : List ℕ → ℕ) (p : NumberedPages) (w : AreWhole p) (s : Slot) (there : HasEntry p s) where
   -- an entry set anew stands in its slot, and in no other
-  set_there : (y : MapEntry) → entry_at (with_entry p s y).maps s ≡ Some y
+  pub set_there : (y : MapEntry) → entry_at (with_entry p s y).maps s ≡ Some y
   set_there y = ap (λ (m : Maps). entry_at m s) (entry_maps p w s there.0 y there.1) ∙ entry_set p.maps s there.0 y there.1
 
   set_others : (y : MapEntry) (u : Slot) → u ≢ s → entry_at (with_entry p s y).maps u ≡ entry_at p.maps u
   set_others y u ne = ap (λ (m : Maps). entry_at m u) (entry_maps p w s there.0 y there.1) ∙ entry_other p.maps s there.0 y there.1 u ne
 
-  follow_is : (t : Slot) (a : Access) → map_changed (Follow s t a) p ≡ with_entry p s (Follows t.fork.serial t.page a)
+  follow_is : (t : Slot) (a : Access) → map_changed key (Follow s t a) p ≡ with_entry p s (Follows t.fork.serial t.page a)
   unfolding map_changed
   follow_is t a = ap (λ o. option_map_or (λ e. with_entry p s (Follows t.fork.serial t.page a)) o p) there.1
 
-  unmap_is : map_changed (Unmap s) p ≡ with_entry p s Empty
+  unmap_is : map_changed key (Unmap s) p ≡ with_entry p s Empty
   unfolding map_changed
   unmap_is = ap (λ o. option_map_or (λ e. with_entry p s Empty) o p) there.1
 
-  pub reads_source : (t : Slot) (a : Access) (c : Chain) → s.fork.tty ≡ t.fork.tty → chain (entry_at (map_changed (Follow s t a) p).maps) s ≡ Some c
-      → words_at (map_changed (Follow s t a) p) (in_map s) ≡ words_at (map_changed (Follow s t a) p) (in_map t)
+  pub reads_source : (t : Slot) (a : Access) (c : Chain) → s.fork.tty ≡ t.fork.tty → chain (entry_at (map_changed key (Follow s t a) p).maps) s ≡ Some c
+      → words_at (map_changed key (Follow s t a) p) (in_map s) ≡ words_at (map_changed key (Follow s t a) p) (in_map t)
   reads_source t a c same h =
-      let q = map_changed (Follow s t a) p in
+      let q = map_changed key (Follow s t a) p in
       let is : entry_at q.maps s ≡ Some (Follows t.fork.serial t.page a) = ap (λ (r : NumberedPages). entry_at r.maps s) (follow_is t a) ∙ set_there (Follows t.fork.serial t.page a) in
       let source : followed s t.fork.serial t.page ≡ t = λ i. record { fork = record { tty = same i; serial = t.fork.serial }; page = t.page } in
       follower_words q s t.fork.serial t.page a c h is ∙ ap (λ u. words_at q (in_map u)) source
 
-  pub others_stay : (t u : Slot) (a : Access) → u ≢ s → entry_at (map_changed (Follow s t a) p).maps u ≡ entry_at p.maps u
+  pub others_stay : (t u : Slot) (a : Access) → u ≢ s → entry_at (map_changed key (Follow s t a) p).maps u ≡ entry_at p.maps u
   others_stay t u a ne = ap (λ (r : NumberedPages). entry_at r.maps u) (follow_is t a) ∙ set_others (Follows t.fork.serial t.page a) u ne
 
-  pub is_unmapped : entry_at (map_changed (Unmap s) p).maps s ≡ Some Empty
+  pub is_unmapped : entry_at (map_changed key (Unmap s) p).maps s ≡ Some Empty
   is_unmapped = ap (λ (r : NumberedPages). entry_at r.maps s) unmap_is ∙ set_there Empty
 
-pub refused_pages : (p q : NumberedPages) (code : ℕ) → parts_behind map_changed p q (refusal code) ≡ p
+pub refused_pages : (key : List ℕ → ℕ) (p q : NumberedPages) (code : ℕ) → parts_behind (map_changed key) p q (refusal code) ≡ p
 unfolding parts_behind
-refused_pages p q code = refl
+refused_pages key p q code = refl
 
 pub refused_fork : (f : Fork) (code : ℕ) → LeavesErrorAlone f code (fork_behind f (refusal code))
 unfolding fork_behind

@@ -1,3 +1,5 @@
+pub mod Asking
+pub mod Paging
 pub mod Stages
 pub mod Making
 pub mod Laws

@@ -1,6 +1,7 @@
 // Access in a word (JSYS Manual, RPACS).
 ghost use Rattle.std.specs.Prelude.{◌≡◌, ◌≤◌, ◌+◌, ◌/◌, ◌%◌, ◌==◌, if◌then◌else◌};
 ghost use Rattle.plain_model.specs.AccessWords.{access_in as access_in_of, access_told as access_told_of, access_word, entry_word};
+ghost use Rattle.plain_model.specs.MapCalls.{file_access as file_access_of};
 
 use machine_names::{Access, PageName};
 use plain_pages::MapEntry;
@@ -80,4 +81,15 @@ pub fn access_told(entry: MapEntry, page: Option<PageName>) -> Word
     ensures { result ≡ access_told_of entry page }
 {
     Word::wrapped(entry_bits(entry) + bit(page.is_some(), PRESENT))
+}
+
+/// What RPACS tells of a page of a file: one that is there may be read and written.
+#[tactic(auto, unfolding(plain_model::specs::AccessWords::access_word))]
+pub fn file_access(page: Option<PageName>) -> Word
+    ensures { result ≡ file_access_of page }
+{
+    match page {
+        Some(_) => Word::wrapped(READ + WRITE + PRESENT),
+        None => Word::ZERO,
+    }
 }

@@ -1,35 +1,59 @@
 // The first step of each call on maps, by its definition.
 ghost use Rattle.std.specs.Prelude.{◌≡◌};
-ghost use Rattle.plain_model.specs.MapCalls.{pmap as pmap_of, rmap as rmap_of, rpacs as rpacs_of, spacs as spacs_of};
+ghost use Rattle.machine_names.specs.Bounds.{IsTerminal};
+ghost use Rattle.machine_names.specs.declared.names.Tty.{Tty as ATty};
+ghost use Rattle.file_tables.specs.declared.tables.FileTables.{FileTables as AFileTables};
+ghost use Rattle.plain_model.specs.MapCalls.{access_at as access_at_of, pmap as pmap_of, rmap as rmap_of, rpacs as rpacs_of, spacs as spacs_of};
+ghost use Rattle.plain_model.specs.Trees.{PlainTree};
+ghost use Rattle.call_turns.specs.Numbers.{numbered_turn};
 ghost use Rattle.call_turns.specs.Turns.{IsRegs, FitsTurn};
+ghost use Rattle.pmap_calls.specs.Asking.{IsPlaceIn, asked, key_of, place_by};
 ghost use Rattle.pmap_calls.specs.Stages.{IsMapChange, IsStage, whole};
 
 use crate::access::access_in;
-use crate::naming::{place_named, slot_named};
-use crate::pmap::{behind_page, is_counted, one_page, pages_left};
+use crate::naming::{PagePlace, place_named, slot_named};
+use crate::paging::{accumulator, is_counted, pages_left};
+use crate::pmap::one_page;
 use crate::stage::Stage;
 use call_turns::{Ask, Turn, returning};
+use file_tables::FileTables;
 use fork_tree::Tree;
 use machine_names::ForkName;
 use plain_model::call::{End, MapChange};
 use plain_units::Regs;
 
-/// RPACS: tells the access of a page in accumulator 2. BAD_PAGE, NO_HANDLE, NO_JFN.
-pub fn rpacs(regs: &Regs, who: ForkName, tree: &Tree) -> Turn<MapChange, Stage>
+// The access is told of a place.
+fn access_at(place: PagePlace, regs: &Regs) -> Turn<MapChange, Stage>
     requires { IsRegs regs.now }
-    ensures turn { whole tree.now result ≡ rpacs_of (record { who = who; regs = regs.now; tree = tree.now }) }
+    ensures turn { (owner : ATty) (tree : PlainTree) (tables : AFileTables) → IsPlaceIn tables place
+        → whole owner tree result ≡ numbered_turn (key_of tables) (access_at_of regs.now (place_by tables place)) }
+    ensures fits { (tables : AFileTables) → IsPlaceIn tables place → FitsTurn IsStage IsMapChange result }
+{
+    match place {
+        PagePlace::Fork(slot) => Turn::Asks(Ask::Sees(slot), Stage::Access(slot, *regs)),
+        PagePlace::File(jfn, page) => {
+            Turn::Asks(Ask::FindsFile(jfn.file, page), Stage::FileAccess(*regs))
+        }
+    }
+}
+
+/// RPACS: tells the access of a page of a fork or a file in accumulator 2. BAD_PAGE, NO_HANDLE, NO_JFN.
+pub fn rpacs(regs: &Regs, who: ForkName, tree: &Tree, tables: &FileTables) -> Turn<MapChange, Stage>
+    requires regs { IsRegs regs.now }
+    requires terminal { IsTerminal who.tty }
+    ensures turn { whole who.tty tree.now result ≡ numbered_turn (key_of tables.now) (rpacs_of (asked who regs.now tree.now tables.now)) }
     ensures fits { FitsTurn IsStage IsMapChange result }
 {
-    match place_named(tree, who, regs.ac[1]) {
-        Ok(slot) => Turn::Asks(Ask::Sees(slot), Stage::Access(slot, *regs)),
+    match place_named(tree, tables, who, accumulator(regs, 1)) {
+        Ok(place) => access_at(place, regs),
         Err(code) => Turn::Ends(End::Refused(code)),
     }
 }
 
 /// SPACS: narrows the access of a page. BAD_PAGE, NO_HANDLE, NO_PAGE.
-pub fn spacs(regs: &Regs, who: ForkName, tree: &Tree) -> Turn<MapChange, Stage>
+pub fn spacs(regs: &Regs, who: ForkName, tree: &Tree, tables: &FileTables) -> Turn<MapChange, Stage>
     requires { IsRegs regs.now }
-    ensures turn { whole tree.now result ≡ spacs_of (record { who = who; regs = regs.now; tree = tree.now }) }
+    ensures turn { whole who.tty tree.now result ≡ numbered_turn (key_of tables.now) (spacs_of (asked who regs.now tree.now tables.now)) }
     ensures fits { FitsTurn IsStage IsMapChange result }
 {
     match slot_named(tree, who, regs.ac[1]) {
@@ -42,9 +66,9 @@ pub fn spacs(regs: &Regs, who: ForkName, tree: &Tree) -> Turn<MapChange, Stage>
 }
 
 /// RMAP: tells what a page follows in accumulator 1, and its access in accumulator 2. BAD_PAGE, NO_HANDLE.
-pub fn rmap(regs: &Regs, who: ForkName, tree: &Tree) -> Turn<MapChange, Stage>
+pub fn rmap(regs: &Regs, who: ForkName, tree: &Tree, tables: &FileTables) -> Turn<MapChange, Stage>
     requires { IsRegs regs.now }
-    ensures turn { whole tree.now result ≡ rmap_of (record { who = who; regs = regs.now; tree = tree.now }) }
+    ensures turn { whole who.tty tree.now result ≡ numbered_turn (key_of tables.now) (rmap_of (asked who regs.now tree.now tables.now)) }
     ensures fits { FitsTurn IsStage IsMapChange result }
 {
     match slot_named(tree, who, regs.ac[1]) {
@@ -53,22 +77,16 @@ pub fn rmap(regs: &Regs, who: ForkName, tree: &Tree) -> Turn<MapChange, Stage>
     }
 }
 
-/// PMAP: maps a page, or takes one out of its map. BAD_PAGE, NO_HANDLE, NO_JFN.
-pub fn pmap(regs: &Regs, who: ForkName, tree: &Tree) -> Turn<MapChange, Stage>
-    requires { IsRegs regs.now }
-    ensures turn { whole tree.now result ≡ pmap_of (record { who = who; regs = regs.now; tree = tree.now }) }
+/// PMAP: maps a page of one place into another, or takes one away. BAD_PAGE; NO_HANDLE and NO_JFN; FILE_TO_FILE; NOT_OPEN, where a
+/// file isn't open for the access; NO_PAGE, where there is no page to be mapped or it may not be read; NO_ROOM.
+pub fn pmap(regs: &Regs, who: ForkName, tree: &Tree, tables: &FileTables) -> Turn<MapChange, Stage>
+    requires regs { IsRegs regs.now }
+    requires terminal { IsTerminal who.tty }
+    ensures turn { whole who.tty tree.now result ≡ numbered_turn (key_of tables.now) (pmap_of (asked who regs.now tree.now tables.now)) }
     ensures fits { FitsTurn IsStage IsMapChange result }
 {
     if is_counted(regs) && pages_left(regs) == 0 {
         return Turn::Ends(returning(MapChange::Nothing, *regs));
     }
-    match one_page(regs, who, tree) {
-        Ok(change) => Turn::Ends(End::Done {
-            change,
-            regs: behind_page(*regs),
-            out: None,
-            post: None,
-        }),
-        Err(code) => Turn::Ends(End::Refused(code)),
-    }
+    one_page(regs, who, tree, tables)
 }

@@ -1,14 +1,18 @@
 // What is left of a call on maps once it is told what it asked for.
 ghost use Rattle.std.specs.Prelude.{◌≡◌, ◌<◌};
-ghost use Rattle.plain_model.specs.MapCalls.{narrows as narrows_of, source_of as source_of_entry, tells_access as tells_access_of};
+ghost use Rattle.machine_names.specs.Bounds.{IsFilePage};
+ghost use Rattle.plain_model.specs.declared.call.MapChange.{MapChange as AMapChange};
+ghost use Rattle.plain_model.specs.Calls.{returning as returning_of, with_ac as with_ac_of};
+ghost use Rattle.plain_model.specs.MapCalls.{file_access as file_access_of, narrows as narrows_of, source_of as source_of_entry, tells_access as tells_access_of};
 ghost use Rattle.machine_names.specs.declared.names.TheConstants.{SPACE_PAGES};
-ghost use Rattle.call_turns.specs.Turns.{IsRegs, FitsEnd};
-ghost use Rattle.pmap_calls.specs.Stages.{IsMapChange};
+ghost use Rattle.call_turns.specs.declared.turn.Grant.{Grant as AGrant};
+ghost use Rattle.call_turns.specs.Turns.{IsRegs, FitsEnd, FitsTurn};
+ghost use Rattle.pmap_calls.specs.Stages.{IsMapChange, IsStage, filled as filled_by, if_there as if_page_there};
 
-use crate::access::access_told;
+use crate::access::{access_told, file_access};
 use call_turns::{Ask, Rest, Told, Turn, returning, with_ac};
 use fork_tree::Tree;
-use machine_names::{Access, ForkName, PageName, Slot};
+use machine_names::{Access, FileNo, ForkName, PageName, Slot};
 use plain_model::call::{End, FORK_SELF, MapChange, NO_PAGE};
 use plain_pages::MapEntry;
 use plain_units::Regs;
@@ -25,6 +29,12 @@ pub enum Stage {
     Page(MapEntry, Regs),
     /// SPACS, told the entry of a slot.
     Narrow(Slot, Access, Regs),
+    /// RPACS, told the page of a file.
+    FileAccess(Regs),
+    /// PMAP, told the page of a file, which is made where it isn't there.
+    Fill(FileNo, u16, End<MapChange>),
+    /// PMAP, told the page of a file, which has to be there.
+    There(End<MapChange>),
 }
 
 /// The handle and the page that the entry of a slot follows; all ones where it follows none, or a killed fork.
@@ -51,7 +61,7 @@ fn source_of(tree: &Tree, slot: Slot, entry: MapEntry) -> Word
 fn tells_access(regs: Regs, entry: MapEntry, page: Option<PageName>) -> End<MapChange>
     requires { IsRegs regs }
     ensures end { result ≡ tells_access_of regs entry page }
-    ensures sound { FitsEnd IsMapChange result }
+    ensures sound { FitsEnd (IsMapChange AGrant.Nothing) result }
 {
     returning(
         MapChange::Nothing,
@@ -64,12 +74,52 @@ fn narrows(slot: Slot, access: Access, regs: Regs, entry: MapEntry) -> End<MapCh
     requires page { slot.page < SPACE_PAGES }
     requires regs { IsRegs regs }
     ensures end { result ≡ narrows_of slot access regs entry }
-    ensures sound { FitsEnd IsMapChange result }
+    ensures sound { FitsEnd (IsMapChange AGrant.Nothing) result }
 {
     match entry {
         MapEntry::Empty => End::Refused(NO_PAGE),
         MapEntry::Names(_, _) => returning(MapChange::Narrow(slot, access), regs),
         MapEntry::Follows(_, _, _) => returning(MapChange::Narrow(slot, access), regs),
+    }
+}
+
+// The access of a page of a file is told, and the call is done.
+fn tells_file_access(regs: Regs, page: Option<PageName>) -> End<MapChange>
+    requires { IsRegs regs }
+    ensures end { result ≡ returning_of AMapChange.Nothing (with_ac_of regs 2 (file_access_of page)) }
+    ensures sound { FitsEnd (IsMapChange AGrant.Nothing) result }
+{
+    returning(MapChange::Nothing, with_ac(regs, 2, file_access(page)))
+}
+
+// A page of a file that isn't there is made.
+fn filled(
+    file: FileNo,
+    page: u16,
+    end: End<MapChange>,
+    told: Option<PageName>,
+) -> Turn<MapChange, Stage>
+    requires page { IsFilePage file page }
+    requires there { FitsEnd (IsMapChange AGrant.Nothing) end }
+    requires made { FitsEnd (IsMapChange (AGrant.Fill file page)) end }
+    ensures turn { result ≡ filled_by file page end told }
+    ensures fits { FitsTurn IsStage IsMapChange result }
+{
+    match told {
+        Some(_) => Turn::Ends(end),
+        None => Turn::Fills(file, page, end),
+    }
+}
+
+// A page of a file has to be there.
+fn if_there(end: End<MapChange>, told: Option<PageName>) -> Turn<MapChange, Stage>
+    requires { FitsEnd (IsMapChange AGrant.Nothing) end }
+    ensures turn { result ≡ if_page_there end told }
+    ensures fits { FitsTurn IsStage IsMapChange result }
+{
+    match told {
+        Some(_) => Turn::Ends(end),
+        None => Turn::Ends(End::Refused(NO_PAGE)),
     }
 }
 
@@ -100,6 +150,9 @@ impl Rest<MapChange, Tree> for Stage {
                 regs,
                 reply.entry(),
             )),
+            Stage::FileAccess(regs) => Turn::Ends(tells_file_access(regs, reply.page())),
+            Stage::Fill(file, page, end) => filled(file, page, end, reply.page()),
+            Stage::There(end) => if_there(end, reply.page()),
         }
     }
 }

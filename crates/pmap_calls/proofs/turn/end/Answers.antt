@@ -1,26 +1,29 @@
 use Rattle.std.proofs.Common.{◌∙◌, sym, subst, inl}
-use Rattle.call_turns.specs.Answers.{AnswerNeeds}
-use Rattle.pmap_calls.proofs.Changes.{behind_done, behind_other, end_needs, lost_none}
+use Rattle.call_turns.specs.Answers.{AnswerNeeds, FitsAnswer, IsDone}
+use Rattle.call_turns.specs.Granting.{pages_granted}
+use Rattle.pmap_calls.specs.Asking.{key_of}
+use Rattle.pmap_calls.specs.Making.{MakesIn}
+use Rattle.pmap_calls.specs.Stages.{IsMapChange}
+use Rattle.pmap_calls.proofs.Changes.{behind_done, behind_other, end_done, end_fits, end_makes, end_needs, lost_none}
 use Rattle.pmap_calls.proofs.turn.end.Goals as goal
 
 pub returns-in-Ok-clause-told : goal.returns-in-Ok-clause-told
 returns-in-Ok-clause-told g c d f =
+    let p = g.P.Pages.means.plain c.args.pages.now d in
     let t = c.in-Ok.ensures.told d f in
-    (t.0, inl (record { answered = c.answer_of.ensures; left = t.1 ∙ behind_done (g.P.Pages.means.plain c.args.pages.now d) c.args.end c.in-Done.what _ _ _ c.in-Done.is }))
+    (t.0, inl (record { answered = c.answer_of.ensures; left = t.1 ∙ behind_done (key_of c.args.tables.now) p (pages_granted p c.args.owner c.args.outcome.grant) c.args.outcome.end c.in-Done.what _ _ _ c.in-Done.is }))
 
-pub returns-in_default-clause-told : goal.returns-in_default-clause-told
-returns-in_default-clause-told g c d f =
-    (f, inl (record { answered = c.answer_of-in_default.ensures; left = behind_other (g.P.Pages.means.plain c.args.pages.now d) c.args.end c.in_default.not-Done }))
-
-pub returns-in-Ok-clause-needs : goal.returns-in-Ok-clause-needs
-returns-in-Ok-clause-needs g c =
-    let s = c.change.new.pages in
-    subst (AnswerNeeds g.P.Pages.means.store 1 s) (sym c.answer_of.ensures) (end_needs g.P.Pages.means.store 1 s c.args.end)
-
-pub returns-in_default-clause-needs : goal.returns-in_default-clause-needs
-returns-in_default-clause-needs g c =
+pub returns-in_default : goal.returns-in_default
+returns-in_default g c =
+    let means = g.P.Pages.means in
     let s = c.args.pages.now in
-    subst (AnswerNeeds g.P.Pages.means.store 1 s) (sym c.answer_of-in_default.ensures) (end_needs g.P.Pages.means.store 1 s c.args.end)
-
-pub returns-in_default-clause-loses : goal.returns-in_default-clause-loses
-returns-in_default-clause-loses g c = lost_none g.P.Pages.means c.args.pages.now
+    let e = c.args.outcome.end in
+    let answered = c.answer_of-in_default.ensures in
+    record {
+      told = λ d f. let p = means.plain s d in (f, inl (record { answered = answered; left = behind_other (key_of c.args.tables.now) p (pages_granted p c.args.owner c.args.outcome.grant) e c.in_default.not-Done }));
+      needs = subst (AnswerNeeds means.store 1 s) (sym answered) (end_needs means.store 1 s e);
+      core = λ flat. subst IsDone (sym answered) (end_done e);
+      fits = subst FitsAnswer (sym answered) (end_fits (IsMapChange c.args.outcome.grant) e c.requires.fits);
+      loses = lost_none means s;
+      made = subst (MakesIn means c.args.owner s s) (sym answered) (end_makes means c.args.owner s e);
+    }
