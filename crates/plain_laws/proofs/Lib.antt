@@ -27,6 +27,8 @@ pub mod OtherJobs
 pub mod UnitForks
 pub mod UnitJobs
 pub mod RowsPut
+pub mod WrittenFiles
+pub mod MappedFiles
 pub mod FilesMade
 pub mod Shown
 pub mod Moving
