@@ -29,6 +29,7 @@ pub mod UnitJobs
 pub mod RowsPut
 pub mod WrittenFiles
 pub mod MappedFiles
+pub mod PmapTurns
 pub mod FilesMade
 pub mod Shown
 pub mod Moving

@@ -28,6 +28,6 @@ pub use laws::{
     references_change_no_word,
 };
 pub use mapped_laws::{
-    copies_leave_the_file, mapping_and_unmapping_take_no_room, pages_put_and_mapped_are_the_same,
-    written_words_are_the_files,
+    copies_leave_the_file, mapping_and_unmapping_take_no_room, pages_of_files_are_mapped_and_put,
+    pages_put_and_mapped_are_the_same, written_words_are_the_files,
 };
