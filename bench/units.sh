@@ -35,11 +35,6 @@ halted='100 400040000000 101 104000000152 102 104000000170 103 254000000100'
 running='100 200040000200 101 201100000200 102 104000000152 103 104000000170 104 254000000100
     200 060000000003 203 254000000003'
 
-# poked WORD..: addresses and words in pairs, at terminal 0.
-poked() {
-    printf 'POKE 0 %s %s\n' "$@"
-}
-
 # script JOBS PROGRAM UNITS LOOP UNITS..: the loop at terminal 0, beside jobs that do not run, behind a program there
 # that runs for so many units, if there is one; with RUN lines of so many units.
 script() {
@@ -67,24 +62,11 @@ making() {
     [ $# -eq 0 ] || printf 'RUN %d\n' "$@"
 }
 
-# The machine instructions that a run of a script takes.
-instructions() {
-    valgrind --tool=callgrind --callgrind-out-file="$work/callgrind" "$program" run <"$1" 2>&1 >/dev/null |
-        awk '/Collected/ { print $NF }'
-}
-
 # The machine instructions of a run of a script in which the writer takes equal turns: those of the record's lines.
 of_lines() {
     instructions "$1" >/dev/null
     callgrind_annotate --inclusive=yes --threshold=100 "$work/callgrind" |
         awk '/Writer::(equal_turns|begin_run)/ { gsub(",", "", $1); most = $1 > most ? $1 : most } END { print most + 0 }'
-}
-
-# tenths SCRIPT..: the tenths of a machine instruction that a unit takes of what makes a script.
-tenths() {
-    "$@" 100000 >half.script
-    "$@" 100000 100000 >one.script
-    echo $((($(instructions one.script) - $(instructions half.script)) / 10000))
 }
 
 # units_in_a_us MILLIONS SCRIPT..: how many units of what makes a script are run in a millionth of a second.

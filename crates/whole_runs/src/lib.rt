@@ -16,6 +16,8 @@ mod laws;
 #[cfg(test)]
 mod limits;
 #[cfg(test)]
+mod mapped;
+#[cfg(test)]
 mod memory_run;
 #[cfg(test)]
 mod same;
