@@ -199,7 +199,43 @@ fresh
 yes 'RUN 1' | head -c 16777217 >"$work/script"
 ends "a script that is too long" 7 '?LONG SCRIPT\n' 'I 2796202\n' run <"$work/script"
 
+# Standard streams that are closed fail where they are used, and the record is never opened in their place.
+said='tenex: standard input: '
+fresh
+ends "a script that is closed" 5 '?READ\n' '' run <&-
+fresh
+cases=$((cases + 1))
+(cd "$work/at" && exec "$program" run) <"$top/examples/first.script" >&- 2>"$work/messages"
+[ $? -eq 6 ] || fail "a transcript that is closed: another status than 6"
+grep -q '^tenex: standard output: ' "$work/messages" || fail "a transcript that is closed: '$(cat "$work/messages")'"
+! grep -q '^T0' "$work/at/tenex.record" || fail "a transcript that is closed: it stands in the record"
+said=
+fresh
+cases=$((cases + 1))
+(cd "$work/at" && exec "$program" run --frames 159) </dev/null >"$work/out" 2>&-
+[ $? -eq 1 ] || fail "standard error that is closed: another status than 1"
+[ "$(cat "$work/out")" = '?USAGE' ] && [ ! -s "$work/at/tenex.record" ] || fail "standard error that is closed: the help stands elsewhere"
+
+# A run that is stopped leaves what was done before the line at hand, once that was much.
+fresh
+cases=$((cases + 1))
+{ printf 'LOGIN 0 A\nPOKE 0 100 254000000100\nSTART 0 100\nRUN 100001\nEXAMINE 0 1 100\nRUN 100001\n' && yes 'RUN 1000000' | head -n 100000; } >"$work/script"
+(cd "$work/at" && exec "$program" run) <"$work/script" >"$work/out" &
+run=$!
+for ((tries = 0; tries < 200; tries++)); do
+    ! grep -q '^EXAMINE' "$work/at/tenex.record" 2>/dev/null || break
+    sleep 0.1
+done
+kill -KILL "$run"
+wait "$run" 2>/dev/null
+printf 'T0 @\nX 0 1 000100 254000000100\n' | cmp -s - "$work/out" || fail "a run that is stopped: its transcript is '$(cat "$work/out")'"
+printf 'LOGIN 0 A\nPOKE 0 100 254000000100\nSTART 0 100\nU 0 1 100001\nEXAMINE 0 1 100\n' | cmp -s -n 75 - "$work/at/tenex.record" ||
+    fail "a run that is stopped: its record is '$(head -c 200 "$work/at/tenex.record")'"
+
 said='tenex: tenex.record: '
+fresh
+mkfifo "$work/at/tenex.record"
+ends "a pipe in the place of the record" 9 '?CANNOT OPEN\n' - run <"$top/examples/first.script"
 fresh
 mkdir "$work/at/tenex.record"
 ends "a record that can't be made" 9 '?CANNOT OPEN\n' - run <"$top/examples/first.script"

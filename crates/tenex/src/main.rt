@@ -9,6 +9,7 @@ use messages::{explain, explain_error, usage};
 use outside::{MOST_DRUM_PAGES, StdSink, StdSource, SureDrum};
 use std::fs::File;
 use std::io::{self, BufWriter, ErrorKind};
+use std::os::unix::fs::FileTypeExt;
 use std::process::ExitCode;
 use std::rt::Env;
 use std::{env, fs};
@@ -17,6 +18,9 @@ use texts::Status;
 
 /// The file in the current folder that takes the record.
 const RECORD: &str = "tenex.record";
+
+/// What stands in for a standard stream that is closed: a folder, of which nothing is read and to which nothing is written.
+const NO_STREAM: &str = "/";
 
 /// The exit status where the file of the record can't be made.
 const CANNOT_OPEN: u8 = 9;
@@ -85,9 +89,25 @@ fn cannot_open(rt: &HostRuntime, error: &io::Error) -> u8 {
     refused(rt, "?CANNOT OPEN", CANNOT_OPEN)
 }
 
+/// Whether a pipe stands in the place of the record: the run would wait for someone to read it.
+fn is_pipe(rt: &HostRuntime) -> bool {
+    match fs::metadata(rt, RECORD) {
+        Ok(found) => found.file_type().is_fifo(),
+        Err(_) => false,
+    }
+}
+
+/// Makes the file of the record anew.
+fn make_record(rt: &HostRuntime) -> io::Result<File> {
+    if is_pipe(rt) {
+        return Err(io::Error::other("a pipe can't take the record"));
+    }
+    fs::create(rt, RECORD)
+}
+
 /// Makes the file of the record anew, and runs.
 fn run_recorded(rt: &HostRuntime, words: &[String]) -> u8 {
-    match fs::create(rt, RECORD) {
+    match make_record(rt) {
         Ok(record) => run(rt, words, record),
         Err(error) => cannot_open(rt, &error),
     }
@@ -95,7 +115,7 @@ fn run_recorded(rt: &HostRuntime, words: &[String]) -> u8 {
 
 /// A word is no text. The record is emptied, as with other wrong words.
 fn refuse_no_text(rt: &HostRuntime) -> u8 {
-    match fs::create(rt, RECORD) {
+    match make_record(rt) {
         Ok(_) => wrong_words(rt),
         Err(error) => cannot_open(rt, &error),
     }
@@ -111,6 +131,17 @@ fn status(rt: &HostRuntime) -> u8 {
     }
 }
 
+/// Takes the places of standard streams that are closed, so that no file is opened there: such a stream fails
+/// where it is used.
+fn stand_in(rt: &HostRuntime) -> [io::Result<File>; 3] {
+    [
+        fs::open(rt, NO_STREAM),
+        fs::open(rt, NO_STREAM),
+        fs::open(rt, NO_STREAM),
+    ]
+}
+
 fn main(rt: HostRuntime) -> ExitCode {
+    let _streams = stand_in(&rt);
     ExitCode::from(status(&rt))
 }

@@ -13,7 +13,7 @@ use monitor_core::{Ended, Machine};
 use outside::{Drum, Failed, Source};
 use page_contracts::Pages;
 use script_lang::{Lines, Next};
-use script_texts::Taker;
+use script_texts::{Event, Taker};
 use texts::{Last, Status};
 
 /// How the driving of a script ended.
@@ -64,8 +64,12 @@ impl Driven {
     }
 }
 
+/// After more turns than these the taker hands on what it keeps before the next line, so that a run that is stopped leaves
+/// what was done before that line.
+const MOST_KEPT: u64 = 100_000;
+
 /// Runs each line's event as it is read, from a new machine on, and gives its steps to a taker, which hands
-/// on what it keeps before each read of the source.
+/// on what it keeps before each read of the source, and behind each 100,000 turns before the next line.
 pub fn drive<P: Pages, S: Source, D: Drum, K: Taker>(
     machine: &mut Machine<P>,
     script: &mut S,
@@ -93,16 +97,20 @@ pub fn drive<P: Pages, S: Source, D: Drum, K: Taker>(
     ensures drove { Drove D.held S.left K.stands K.cut machine.old drum.old script.old script.new taker.old taker.new result }
 {
     let mut lines = Lines::new();
+    let mut kept = 0;
     loop {
-        let Ok(()) = hand_on(&mut lines, taker) else {
+        let Ok(()) = hand_on(&mut lines, &mut kept, taker) else {
             return Driven::TakerFault;
         };
         match lines.next(script) {
-            Next::One(event) => match machine.event(event, drum, taker) {
-                Ended::Went => {}
-                Ended::DrumFault => return Driven::DrumFault,
-                Ended::TakerFault => return Driven::TakerFault,
-            },
+            Next::One(event) => {
+                kept = kept.saturating_add(turns_of(&event));
+                match machine.event(event, drum, taker) {
+                    Ended::Went => {}
+                    Ended::DrumFault => return Driven::DrumFault,
+                    Ended::TakerFault => return Driven::TakerFault,
+                }
+            }
             Next::End => return Driven::Done,
             Next::Bad(number) => return Driven::Bad(number),
             Next::ReadFault => return Driven::ReadFault,
@@ -111,19 +119,27 @@ pub fn drive<P: Pages, S: Source, D: Drum, K: Taker>(
     }
 }
 
+// How many turns an event has.
+fn turns_of(event: &Event) -> u64 {
+    match event {
+        Event::Run(turns) => u64::from(*turns),
+        _ => 0,
+    }
+}
+
 // Has the taker hand on what it keeps where the next line has to be read, so that who types the script sees
-// what the lines before did.
-fn hand_on<K: Taker>(lines: &mut Lines, taker: &mut K) -> Result<(), Failed>
+// what the lines before did; and where it keeps what many turns did.
+fn hand_on<K: Taker>(lines: &mut Lines, kept: &mut u64, taker: &mut K) -> Result<(), Failed>
     ensures skips { Skips lines.old lines.new }
     ensures later { K.fault_count taker.old ≤ K.fault_count taker.new }
     ensures cause { OnErr result (Rose (K.fault_count taker.old) (K.fault_count taker.new)) }
     ensures onward { StaysOnward K.onward taker.old taker.new }
-    ensures unread { (NeedsRead lines.new → ⊥) → taker.new ≡ taker.old }
     ensures handed { NeedsRead lines.new → OnOk result (K.handed_on taker.new) }
     ensures ok { OnOk result (GoesOn K.stands taker.old taker.new [] []) }
     ensures err { OnErr result (IsCut K.stands K.cut taker.old taker.new [] []) }
 {
-    if lines.needs_read() {
+    if lines.needs_read() || *kept > MOST_KEPT {
+        *kept = 0;
         taker.flush()
     } else {
         Ok(())
