@@ -87,6 +87,14 @@ for end in ("script", "transcript", "record"):
             if part and not part.startswith(";") and part not in block:
                 fail(f"README.md does not show the line {part!r} of examples/copy.{end}")
 
+# what the lessons quote
+for lesson in text_of("docs/LESSONS.md").split("\n## ")[1:]:
+    name = re.search(r"\(\.\./examples/(lesson_\w+)\.script\)", lesson)[1]
+    shown = [line for end in ("script", "transcript", "record") for line in text_of(f"examples/{name}.{end}").split("\n")]
+    for line in re.findall(r"^    (.*)$", lesson, re.M):
+        if line not in shown and not line.startswith(("./tenex", "cp ")):
+            fail(f"docs/LESSONS.md quotes {line!r}, which {name} does not have")
+
 if failures:
     sys.exit(1)
 print(f"documents.py: {links} links, {len(crates)} crates and {len(examples)} examples fit")
