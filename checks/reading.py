@@ -30,6 +30,8 @@ class File:
         self.taken = {}
         self.modules = {}
         self.of_data = {}
+        self.path = path
+        self.stray = []
         name = None
         base = 0
         for line in open(path, encoding="utf-8").read().split("\n"):
@@ -57,7 +59,7 @@ class File:
                 name = head[1]
                 self.lines[name] = []
             if name is None:
-                fail(f"{path}: no definition for the line {line!r}")
+                self.stray.append(line)
                 continue
             self.lines[name].append(line)
             part = re.match(r"  (?:pub )?(\S+) :", line)
@@ -113,6 +115,9 @@ wanted = collections.defaultdict(set)
 for (crate, file), _ in reached:
     wanted[crate].add(file)
 count = sum(map(len, wanted.values()))
+for file in sorted({file for file, _ in reached}):
+    for line in files[file].stray:
+        fail(f"{files[file].path}: of which definition is the line {line!r}?")
 lines = sum(len(files[file].lines[name]) for file, name in reached)
 
 
