@@ -44,7 +44,7 @@ use Rattle.monitor_core.proofs.Lookups.{job_found, job_missing}
 use Rattle.monitor_core.proofs.NamedKeys.{name_there}
 
 -- what holds nothing is empty
-none_held : (m : OpenFiles) → map.len m ≡ 0 → m ≡ map.empty
+pub none_held : (m : OpenFiles) → map.len m ≡ 0 → m ≡ map.empty
 none_held m none = map.same_map nat_cmp_total map.nat_cmp-IsAntisymmetric m map.empty (λ t. map.get-entries m t ∙ ap (map.find nat_cmp t) (none_of (map.entries m) (sym (map.len-entries m) ∙ none)) ∙ sym (map.get-empty {X = OpenFile} nat_cmp t))
 
 module _ (jobs : List (Option Job)) where

@@ -22,6 +22,7 @@ mod Calling
 mod NamedKeys
 mod JfnsAsked
 mod JfnTurns
+mod MapTurns
 mod Changing
 mod Sounds
 mod Systems

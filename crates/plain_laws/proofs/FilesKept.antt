@@ -40,7 +40,14 @@ module _ {K V : Type 0} {R : K → K → Ordering} (o : IsTotalOrder R) (apart :
     | inr ne ↦ ap is_some (get_put_other o apart m k q v ne) ∙ there
   ]
 
-  -- what is there after another went was there, and is another
+  -- what is there after another went was there
+  pub gone_has : (q : K) → map.contains_key (map.remove m k) q ≡ true → map.contains_key m q ≡ true
+  gone_has q there = elim (cases_key o apart q k) [
+    | inl e ↦ absurd (let no : false ≡ true = sym (ap is_some (get_gone o apart m k q e)) ∙ there in cc no)
+    | inr ne ↦ sym (ap is_some (get_gone_other o apart m k q ne)) ∙ there
+  ]
+
+  -- and is another
   pub gone_tells : (q : K) (w : V) → map.get (map.remove m k) q ≡ Some w → (q ≢ k) × (map.get m q ≡ Some w)
   gone_tells q w is = elim (cases_key o apart q k) [
     | inl e ↦ absurd (let no : None ≡ Some w = sym (get_gone o apart m k q e) ∙ is in cc no)
@@ -100,6 +107,10 @@ module _ (files : Files) (pages : FilePages) (jobs : Jobs) (w : AreFilesWhole fi
   -- fewer pages of files
   pub pages_fewer : (rest : FilePages) → ((at : FilePage (List ℕ)) → map.contains_key rest at ≡ true → map.contains_key pages at ≡ true) → AreFilesWhole files rest jobs
   pages_fewer rest there = record { named = w.named; placed = λ at is. w.placed at (there at is); jfns = w.jfns }
+
+  -- a page that goes
+  pub page_gone : (at : FilePage (List ℕ)) → AreFilesWhole files (map.remove pages at) jobs
+  page_gone at = pages_fewer (map.remove pages at) (λ q is. gone_has (file_page_total nat_list_cmp_total) (file_page_apart name_cmp_apart) pages at q is)
 
   -- a file that goes, which has no page any more and for which no JFN stands
   pub file_gone : (name : List ℕ) → ((at : FilePage (List ℕ)) → map.contains_key pages at ≡ true → at.file ≢ name) → ((t n : ℕ) (j : PlainJob) (i : OpenFile) → map.get jobs t ≡ Some j → map.get j.jfns n ≡ Some i → i.file ≢ name)

@@ -29,7 +29,7 @@ use Rattle.plain_units.proofs.PageRuns.{PlanLeaves, stored_maps}
 use Rattle.plain_units.specs.Blocks.{stored_from}
 use Rattle.plain_units.specs.Steps.{Progress, Steps, plainly, run}
 use Rattle.plain_model.specs.declared.call.MapChange.{MapChange}
-use Rattle.plain_model.specs.declared.call.MapChange.TheVariants.{Nothing, Unmap, Follow, Narrow, Map, Put, Drop}
+use Rattle.plain_model.specs.declared.call.MapChange.TheVariants.{Nothing, Unmap, Follow, Narrow, Map as MapPage, Put, Drop}
 use Rattle.plain_pages.proofs.FilesKept.{filed_maps}
 use Rattle.plain_model.specs.MapCalls.{entry_for, keyed, map_changed}
 use Rattle.plain_model.proofs.ForkMaps.{cases_name, get_put, get_put_other, get_gone, get_gone_other}
@@ -116,7 +116,7 @@ module _ (next : Tty → ℕ) where
   IsGivenChange (Unmap s) = Unit {0}
   IsGivenChange (Follow s from a) = from.fork.serial < next s.fork.tty
   IsGivenChange (Narrow s a) = Unit {0}
-  IsGivenChange (Map s name page a) = Unit {0}
+  IsGivenChange (MapPage s name page a) = Unit {0}
   IsGivenChange (Put name page s) = Unit {0}
   IsGivenChange (Drop name page) = Unit {0}
 
@@ -187,7 +187,7 @@ module _ (next : Tty → ℕ) where
         narrowed a Empty was = λ serial page b is. absurd (cc is)
         narrowed a (Names n x) was = λ serial page b is. absurd (cc is)
         narrowed a (Follows serial page x) was = λ n to b is. let same : serial ≡ n = cc is in subst (λ k. k < next s.fork.tty) same (was serial page x refl)
-    change_given o apart key p whole given (Map s name page a) fits = where_given p whole given s (λ e. entry_for a e (map_of.get p.files (keyed key name page))) (λ e was. entered e was (map_of.get p.files (keyed key name page)))
+    change_given o apart key p whole given (MapPage s name page a) fits = where_given p whole given s (λ e. entry_for a e (map_of.get p.files (keyed key name page))) (λ e was. entered e was (map_of.get p.files (keyed key name page)))
       where
         entered : (e : MapEntry) → IsGiven s.fork.tty e → (n : Option PageName) → IsGiven s.fork.tty (entry_for a e n)
         entered e was None = was

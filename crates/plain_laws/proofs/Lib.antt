@@ -1,5 +1,6 @@
 pub mod FilesKept
 pub mod MapEnds
+pub mod FileMakings
 pub mod Led
 pub mod GivenSerials
 pub mod Named
@@ -9,6 +10,7 @@ pub mod Stored
 pub mod Rows
 pub mod WordsWritten
 pub mod WholeJfns
+pub mod WholeMaps
 pub mod WholeRuns
 pub mod JfnTurns
 pub mod ExampleTexts
@@ -25,6 +27,9 @@ pub mod OtherJobs
 pub mod UnitForks
 pub mod UnitJobs
 pub mod RowsPut
+pub mod WrittenFiles
+pub mod MappedFiles
+pub mod PmapTurns
 pub mod FilesMade
 pub mod Shown
 pub mod Moving

@@ -1,18 +1,20 @@
--- A call on maps changes a slot of its job, and follows one of its job.
-use Rattle.std.proofs.Common.{◌≡◌, ◌&&◌, ℕ, true, cond, List, Ordering, Option, None, Some, Result, Ok, Err, refl, ◌∙◌, ap, subst, is_some}
+-- A call on maps refers to slots of its job and to pages of files of its JFNs; it changes such a slot or page, and follows a slot of its job.
+use Rattle.std.proofs.Common.{◌≡◌, ◌<◌, ◌&&◌, ℕ, Bool, true, cond, List, Option, None, Some, Result, Ok, Err, refl, sym, ◌∙◌, ap, subst, arith, is_some}
 use Rattle.std.specs.Prelude.{◌==◌, nat_lt}
 use Rattle.std.specs.Option.{option_map_or, option_and_then}
 use Rattle.std.specs.FinMap as map
 use Rattle.std.proofs.lemmas.Bool.{cond_both}
+use Rattle.std.proofs.lemmas.Bool.Decides.{nat_tests}
 use Rattle.word36.specs.Words.{left, right}
 use Rattle.plain_model.specs.declared.call.TheConstants.{PMAP, RPACS, SPACS, RMAP, FORK_SELF, FORK_SUPERIOR, BAD_PAGE, NO_HANDLE, NO_JFN, NO_PAGE, NOT_OPEN}
 use Rattle.plain_model.specs.declared.call.End.{End}
-use Rattle.plain_model.specs.declared.call.End.TheVariants.{Done, Waits, Halts, Refused, Failed, Trap}
+use Rattle.plain_model.specs.declared.call.End.TheVariants.{Refused}
 use Rattle.plain_model.specs.declared.call.MapChange.{MapChange}
 use Rattle.plain_model.specs.declared.call.MapChange.TheVariants.{Nothing, Unmap, Follow, Narrow, Map, Put, Drop}
 use Rattle.plain_model.specs.declared.call.Touched.{Touched}
 use Rattle.plain_model.specs.declared.call.Touched.TheVariants.{Granted, Denied, Full}
-use Rattle.machine_names.specs.declared.names.TheConstants.{SPACE_PAGES}
+use Rattle.machine_names.specs.declared.names.TheConstants.{FILE_PAGES, SPACE_PAGES}
+use Rattle.machine_names.specs.Orders.{FilePage, name_cmp}
 use Rattle.machine_names.specs.declared.names.Tty.{Tty}
 use Rattle.machine_names.specs.declared.names.ForkName.{ForkName}
 use Rattle.machine_names.specs.declared.names.Slot.{Slot}
@@ -20,22 +22,20 @@ use Rattle.machine_names.specs.declared.names.Access.{Access}
 use Rattle.plain_pages.specs.declared.map.MapEntry.{MapEntry}
 use Rattle.plain_pages.specs.declared.map.MapEntry.TheVariants as entry
 use Rattle.plain_model.specs.declared.fork.Fork.{Fork}
-use Rattle.plain_pages.specs.PlainPages.{PlainPages}
-use Rattle.plain_pages.specs.References.{Referred, granted, denied, full, in_map, in_file, page_at, reference, word_at}
-use Rattle.plain_pages.specs.Room.{HasRoom}
-use Rattle.plain_pages.specs.NewMaps.{with_map}
+use Rattle.plain_pages.specs.PlainPages.{NamedPages}
+use Rattle.plain_pages.specs.References.{Spot, Referred, granted, denied, full, in_map, in_file, page_at, reference, word_at}
 use Rattle.machine_names.specs.declared.names.PageName.{PageName}
+use Rattle.machine_names.specs.declared.names.Kind.{Kind}
 use Rattle.machine_names.specs.declared.names.Kind.TheVariants.{Read}
 use Rattle.plain_files.specs.OpenFiles.{OpenFile}
-use Rattle.plain_units.specs.Steps.{Ending, Planned, done, call, trap, need, stopped as unit_stopped, pages_left}
-use Rattle.plain_units.specs.Blocks.{steps_on}
 use Rattle.plain_model.specs.Forks.{ForkMap, fork_in, superior_of}
 use Rattle.plain_model.specs.Handles.{named, named_by}
 use Rattle.plain_model.specs.AccessWords.{access_in}
 use Rattle.plain_units.specs.Deeds.{in_ac}
-use Rattle.plain_model.specs.Calls.{Sight, Turn, sees, finds, reads, touches, takes, adds, looks, makes, ends, and_then, entry_of, given, if_granted, returning, spot_of, stepped, touched, turn_on, with_ac, with_added}
+use Rattle.plain_model.specs.Calls.{Came, Sight, Turn, sees, finds, reads, touches, takes, adds, looks, makes, ends, and_then, entry_of, given, if_granted, returning, spot_of, touched, turn_on, with_ac}
+use Rattle.plain_model.specs.Families.{Parts, files_seen}
 use Rattle.plain_model.specs.MapCalls.{ALL_ONES, MapAsked, MapPlace, of_fork, of_file, access_at, access_wanted, allows, file_spot, from_file, into_file, is_counted, is_written, makes_page, map_call, mapping_into, maps, narrows, on_page, one_page, pages_left as left_to_do, place_named, place_of, places_named, pmap, rmap, rpacs, slot_named, slot_of, source_of, spacs, tells_access, unmapping}
-use Rattle.plain_model.proofs.Turns.{Keeps, KeepsEnd}
+use Rattle.plain_model.proofs.Turns.{KeepsEnd}
 use Rattle.plain_model.proofs.ForkMaps.{AreOwn, slot_tells, superior_tells}
 use Rattle.plain_laws.proofs.OtherMaps.{InJob}
 
@@ -81,65 +81,91 @@ module _ (forks : ForkMap) (own : AreOwn forks) (who : ForkName) where
       by None none = tt
       by (Some f) some = let at = named_job (left word) f some in (ap is_some at.0, at.1)
 
--- a change of a slot of a fork of a job that lives, which follows one of another
-abbrev pub ChangeIn : ForkMap → Tty → MapChange → Type 0
-ChangeIn forks t Nothing = Unit {0}
-ChangeIn forks t (Unmap s) = Stands forks t s
-ChangeIn forks t (Follow s other a) = Stands forks t s × Stands forks t other
-ChangeIn forks t (Narrow s a) = Stands forks t s
-ChangeIn forks t (Map s name page a) = Stands forks t s
-ChangeIn forks t (Put name page s) = Stands forks t s
-ChangeIn forks t (Drop name page) = Unit {0}
+-- a number below that of pages of a space is one of a page of a file
+page_below : (k : ℕ) → nat_lt k SPACE_PAGES ≡ true → k < FILE_PAGES
+page_below k h = grind (arith, nat_tests)
 
-abbrev pub EndIn : ForkMap → Tty → End MapChange → Type 0
-EndIn forks t e = KeepsEnd (ChangeIn forks t) e
+-- Where some files are there: the references and the changes of calls on maps of a job.
+module _ (forks : ForkMap) (t : Tty) (There : List ℕ → Type 0) where
+  -- a page of a file that is there
+  abbrev pub IsThere : FilePage (List ℕ) → Type 0
+  IsThere f = There f.file × (f.page < FILE_PAGES)
 
--- a turn whose change is such, if it is done, ends so
-module _ {F C K : Type 0} {file_cmp : K → K → Ordering} (Known : F → Type 0) (Allowed : C → Type 0) (sight : Sight F K) where
-  abbrev EndsSo : Turn F C → Type 0
-  EndsSo t = (p : PlainPages file_cmp) → KeepsEnd Allowed (turn_on sight p t).end
+  -- they refer to slots of forks of the job that live, and to pages of files that are there
+  abbrev pub SpotIn : Spot (List ℕ) → Type 0
+  SpotIn (in_map s) = Stands forks t s
+  SpotIn (in_file f) = IsThere f
 
-  came_keeps : (t : Turn F C) → Keeps Known Allowed t → EndsSo t
-  unfolding turn_on
-  came_keeps (sees s next) keeps p = came_keeps (next (entry_of p s)) (keeps (entry_of p s)) p
-  came_keeps (finds at next) keeps p = let n = option_and_then (page_at p) (spot_of sight at) in came_keeps (next n) (keeps.1 n) p
-  came_keeps (reads f offset next) keeps p = let w = option_map_or (λ at. word_at p at offset) (spot_of sight (in_file f)) 0 in came_keeps (next w) (keeps.1 w) p
-  came_keeps (touches owner at kind next) keeps p = by (λ what. came_keeps (next what) (keeps.1 what)) (option_map_or (λ s. reference p s kind owner) (spot_of sight at) (denied kind))
-    where
-      by : ((what : Touched) → EndsSo (next what)) → (r : Referred file_cmp) → KeepsEnd Allowed (touched p r (λ q what. turn_on sight q (next what))).end
-      by rest (granted q) = rest Granted q
-      by rest (denied k) = rest Denied p
-      by rest full = rest Full p
-  came_keeps (takes f regs steps next) keeps p = by (λ e. came_keeps (next e) (keeps e)) (steps_on f regs steps p)
-    where
-      by : ((e : Ending) → EndsSo (next e)) → (r : Planned file_cmp ⊥) → KeepsEnd Allowed (stepped f r (λ q e. turn_on sight q (next e)) (λ channel. record { end = Trap channel; pages = p })).end
-      by rest (done t e) = rest e (pages_left f t e)
-      by rest (unit_stopped (trap channel)) = tt
-      by rest (unit_stopped (need none)) = absurd none
-      by rest (call number) = tt
-  came_keeps (adds f entries next) keeps p = let room = HasRoom (with_map p f entries) f.tty in came_keeps (next room) (keeps room) (with_added p f entries room)
-  came_keeps (looks name next) keeps p = came_keeps (next (sight.is_name name)) (keeps (sight.is_name name)) p
-  came_keeps (makes name next) keeps p = came_keeps (next sight.has_more) (keeps sight.has_more) p
-  came_keeps (ends e) keeps p = keeps
+  -- they change such a slot, which follows such a slot, or such a page
+  abbrev pub ChangeIn : MapChange → Type 0
+  ChangeIn Nothing = Unit {0}
+  ChangeIn (Unmap s) = Stands forks t s
+  ChangeIn (Follow s other a) = Stands forks t s × Stands forks t other
+  ChangeIn (Narrow s a) = Stands forks t s
+  ChangeIn (Map s name page a) = Stands forks t s
+  ChangeIn (Put name page s) = There name × (page < FILE_PAGES)
+  ChangeIn (Drop name page) = Unit {0}
 
--- a call on maps changes a slot of its job, and follows one of it
-module _ (a : MapAsked) (own : AreOwn a.tree.forks) where
+  abbrev pub EndIn : End MapChange → Type 0
+  EndIn e = KeepsEnd ChangeIn e
+
+  -- a turn whose references are such, for the job, and whose change is such, if it is done
+  abbrev pub TurnIn : Turn (List ℕ) MapChange → Type 0
+  TurnIn (sees s next) = (e : MapEntry) → TurnIn (next e)
+  TurnIn (finds at next) = (n : Option PageName) → TurnIn (next n)
+  TurnIn (reads f offset next) = (w : ℕ) → TurnIn (next w)
+  TurnIn (touches owner at kind next) = (owner ≡ t) × SpotIn at × ((what : Touched) → TurnIn (next what))
+  TurnIn (takes f regs steps next) = ⊥
+  TurnIn (adds f entries next) = ⊥
+  TurnIn (looks name next) = (b : Bool) → TurnIn (next b)
+  TurnIn (makes name next) = (b : Bool) → TurnIn (next b)
+  TurnIn (ends e) = EndIn e
+
+  -- such a turn ends so, and what such references keep holds of the pages that it made
+  module _ (v : Parts name_cmp) (who : ForkName) (After : NamedPages → Type 0) (refers : (p q : NamedPages) (at : Spot (List ℕ)) (kind : Kind) → SpotIn at → After p → reference p at kind t ≡ granted q → After q) where
+    abbrev sight : Sight (List ℕ) (List ℕ)
+    sight = files_seen (λ name. name) v who
+
+    abbrev pub CameIn : Came name_cmp MapChange → Type 0
+    CameIn c = EndIn c.end × After c.pages
+
+    pub came_in : (u : Turn (List ℕ) MapChange) → TurnIn u → (p : NamedPages) → After p → CameIn (turn_on sight p u)
+    unfolding turn_on
+    came_in (sees s next) fits p h = came_in (next (entry_of p s)) (fits (entry_of p s)) p h
+    came_in (finds at next) fits p h = let n = option_and_then (page_at p) (spot_of sight at) in came_in (next n) (fits n) p h
+    came_in (reads f offset next) fits p h = let w = option_map_or (λ at. word_at p at offset) (spot_of sight (in_file f)) 0 in came_in (next w) (fits w) p h
+    came_in (touches owner at kind next) fits p h = by (λ what q. came_in (next what) (fits.2 what) q) at fits.1
+      where
+        come : ((what : Touched) (q : NamedPages) → After q → CameIn (turn_on sight q (next what))) → (s : Spot (List ℕ)) → SpotIn s → (r : Referred name_cmp) → reference p s kind owner ≡ r → CameIn (touched p r (λ q what. turn_on sight q (next what)))
+        come rest s here (granted q) is = rest Granted q (refers p q s kind here h (sym (ap (λ (u : Tty). reference p s kind u) fits.0) ∙ is))
+        come rest s here (denied k) is = rest Denied p h
+        come rest s here full is = rest Full p h
+
+        by : ((what : Touched) (q : NamedPages) → After q → CameIn (turn_on sight q (next what))) → (s : Spot (List ℕ)) → SpotIn s
+            → CameIn (touched p (option_map_or (λ x. reference p x kind owner) (spot_of sight s) (denied kind)) (λ q what. turn_on sight q (next what)))
+        by rest (in_map x) here = come rest (in_map x) here (reference p (in_map x) kind owner) refl
+        by rest (in_file f) here = come rest (in_file f) here (reference p (in_file f) kind owner) refl
+    came_in (takes f regs steps next) fits p h = absurd fits
+    came_in (adds f entries next) fits p h = absurd fits
+    came_in (looks name next) fits p h = came_in (next (sight.is_name name)) (fits (sight.is_name name)) p h
+    came_in (makes name next) fits p h = came_in (next sight.has_more) (fits sight.has_more) p h
+    came_in (ends e) fits p h = (fits, h)
+
+-- so does a call on maps, where the files of the caller's JFNs are there
+module _ (a : MapAsked) (own : AreOwn a.tree.forks) (There : List ℕ → Type 0) (held : (n : ℕ) (j : OpenFile) → map.get a.held n ≡ Some j → There j.file) where
   abbrev Here : Slot → Type 0
   Here s = Stands a.tree.forks a.who.tty s
 
-  abbrev AnyFile : List ℕ → Type 0
-  AnyFile name = Unit {0}
-
   abbrev Fits : Turn (List ℕ) MapChange → Type 0
-  Fits t = Keeps AnyFile (ChangeIn a.tree.forks a.who.tty) t
+  Fits t = TurnIn a.tree.forks a.who.tty There t
 
   abbrev FitsIt : End MapChange → Type 0
-  FitsIt e = KeepsEnd (ChangeIn a.tree.forks a.who.tty) e
+  FitsIt e = EndIn a.tree.forks a.who.tty There e
 
-  -- a slot of its job, or a page of a file
+  -- a slot of its job, or a page of a file that is there
   abbrev PlaceHere : MapPlace → Type 0
   PlaceHere (of_fork s) = Here s
-  PlaceHere (of_file j page) = Unit {0}
+  PlaceHere (of_file j page) = There j.file × (page < FILE_PAGES)
 
   given_in : {A : Type 0} (holds : A → Type 0) (r : Result A ℕ) (next : A → Turn (List ℕ) MapChange) → OkIn holds r → ((x : A) → holds x → Fits (next x)) → Fits (given r next)
   given_in holds (Err code) next ok goes = tt
@@ -149,17 +175,17 @@ module _ (a : MapAsked) (own : AreOwn a.tree.forks) where
   then_in holds all (Err code) next ok goes = tt
   then_in holds all (Ok x) next ok goes = goes x ok
 
-  on_page_in : {A : Type 0} (holds : A → Type 0) (word : ℕ) (r : Result A ℕ) → OkIn holds r → OkIn holds (on_page word r)
-  on_page_in holds word r ok = cond_both (nat_lt (right word) SPACE_PAGES) r (Err BAD_PAGE) (OkIn holds) (λ good. ok) (λ bad. tt)
+  on_page_in : {A : Type 0} (holds : A → Type 0) (word : ℕ) (r : Result A ℕ) → (nat_lt (right word) SPACE_PAGES ≡ true → OkIn holds r) → OkIn holds (on_page word r)
+  on_page_in holds word r ok = cond_both (nat_lt (right word) SPACE_PAGES) r (Err BAD_PAGE) (OkIn holds) (λ low. ok low) (λ bad. tt)
 
-  place_in : (word : ℕ) → OkIn PlaceHere (place_of a word)
+  place_in : (word : ℕ) → nat_lt (right word) SPACE_PAGES ≡ true → OkIn PlaceHere (place_of a word)
   unfolding place_of
-  place_in word = cond_both (nat_lt (left word) FORK_SELF) (option_map_or (λ j. Ok (of_file j (right word))) (map.get a.held (left word)) (Err NO_JFN)) (and_then (slot_of a.tree.forks a.who word) (λ slot. Ok (of_fork slot))) (OkIn PlaceHere)
-      (λ is. by (map.get a.held (left word))) (λ is. then_in Here PlaceHere (slot_of a.tree.forks a.who word) (λ slot. Ok (of_fork slot)) (slot_job a.tree.forks own a.who word) (λ s here. here))
+  place_in word low = cond_both (nat_lt (left word) FORK_SELF) (option_map_or (λ j. Ok (of_file j (right word))) (map.get a.held (left word)) (Err NO_JFN)) (and_then (slot_of a.tree.forks a.who word) (λ slot. Ok (of_fork slot))) (OkIn PlaceHere)
+      (λ is. by (map.get a.held (left word)) refl) (λ is. then_in Here PlaceHere (slot_of a.tree.forks a.who word) (λ slot. Ok (of_fork slot)) (slot_job a.tree.forks own a.who word) (λ s here. here))
     where
-      by : (o : Option OpenFile) → OkIn PlaceHere (option_map_or (λ j. Ok (of_file j (right word))) o (Err NO_JFN))
-      by None = tt
-      by (Some j) = tt
+      by : (o : Option OpenFile) → map.get a.held (left word) ≡ o → OkIn PlaceHere (option_map_or (λ j. Ok (of_file j (right word))) o (Err NO_JFN))
+      by None is = tt
+      by (Some j) is = (held (left word) j is, page_below (right word) low)
 
   named_in : (n : ℕ) → OkIn PlaceHere (place_named a n)
   named_in n = on_page_in PlaceHere (in_ac a.regs n) (place_of a (in_ac a.regs n)) (place_in (in_ac a.regs n))
@@ -170,48 +196,48 @@ module _ (a : MapAsked) (own : AreOwn a.tree.forks) where
   abbrev both : Result (MapPlace × MapPlace) ℕ
   both = and_then (place_of a (in_ac a.regs 1)) (λ from. and_then (place_of a (in_ac a.regs 2)) (λ to. Ok (from, to)))
 
-  both_in : OkIn BothHere both
-  both_in = then_in PlaceHere BothHere (place_of a (in_ac a.regs 1)) (λ from. and_then (place_of a (in_ac a.regs 2)) (λ to. Ok (from, to))) (place_in (in_ac a.regs 1))
-      (λ from x. then_in PlaceHere BothHere (place_of a (in_ac a.regs 2)) (λ to. Ok (from, to)) (place_in (in_ac a.regs 2)) (λ to y. (x, y)))
+  both_in : nat_lt (right (in_ac a.regs 1)) SPACE_PAGES ≡ true → nat_lt (right (in_ac a.regs 2)) SPACE_PAGES ≡ true → OkIn BothHere both
+  both_in low1 low2 = then_in PlaceHere BothHere (place_of a (in_ac a.regs 1)) (λ from. and_then (place_of a (in_ac a.regs 2)) (λ to. Ok (from, to))) (place_in (in_ac a.regs 1) low1)
+      (λ from x. then_in PlaceHere BothHere (place_of a (in_ac a.regs 2)) (λ to. Ok (from, to)) (place_in (in_ac a.regs 2) low2) (λ to y. (x, y)))
 
   places_in : OkIn BothHere (places_named a)
-  places_in = on_page_in BothHere (in_ac a.regs 1) (on_page (in_ac a.regs 2) both) (on_page_in BothHere (in_ac a.regs 2) both both_in)
+  places_in = on_page_in BothHere (in_ac a.regs 1) (on_page (in_ac a.regs 2) both) (λ low1. on_page_in BothHere (in_ac a.regs 2) both (both_in low1))
 
   slot_in : OkIn Here (slot_named a)
-  slot_in = on_page_in Here (in_ac a.regs 1) (slot_of a.tree.forks a.who (in_ac a.regs 1)) (slot_job a.tree.forks own a.who (in_ac a.regs 1))
+  slot_in = on_page_in Here (in_ac a.regs 1) (slot_of a.tree.forks a.who (in_ac a.regs 1)) (λ low. slot_job a.tree.forks own a.who (in_ac a.regs 1))
 
   narrows_in : (s : Slot) (access : Access) (e : MapEntry) → Here s → FitsIt (narrows s access a.regs e)
   narrows_in s access entry.Empty here = tt
   narrows_in s access (entry.Names n x) here = here
   narrows_in s access (entry.Follows serial page x) here = here
 
-  granted_in : (change : MapChange) → ChangeIn a.tree.forks a.who.tty change → (what : Touched) → FitsIt (if_granted (maps a change) what)
+  granted_in : (change : MapChange) → ChangeIn a.tree.forks a.who.tty There change → (what : Touched) → FitsIt (if_granted (maps a change) what)
   granted_in change fits Granted = fits
   granted_in change fits Denied = tt
   granted_in change fits Full = tt
 
   access_in_place : (place : MapPlace) → Fits (access_at a.regs place)
-  access_in_place (of_fork s) = λ e. (tt, λ n. tt)
-  access_in_place (of_file j page) = (tt, λ n. tt)
+  access_in_place (of_fork s) = λ e n. tt
+  access_in_place (of_file j page) = λ n. tt
 
-  from_in : (j : OpenFile) (page : ℕ) (to : Slot) → Here to → Fits (from_file a j page to)
-  from_in j page to here = cond_both (allows j (access_wanted a)) (finds (file_spot j page) found) (ends (Refused NOT_OPEN)) Fits (λ is. (tt, each)) (λ is. tt)
+  from_in : (j : OpenFile) (page : ℕ) (to : Slot) → There j.file × (page < FILE_PAGES) → Here to → Fits (from_file a j page to)
+  from_in j page to there here = cond_both (allows j (access_wanted a)) (finds (file_spot j page) found) (ends (Refused NOT_OPEN)) Fits (λ is. each) (λ is. tt)
     where
       found : Option PageName → Turn (List ℕ) MapChange
       found n = cond (is_some n) (ends (maps a (Map to j.file page (access_wanted a)))) (cond (is_written j) (makes_page a j page (maps a (Map to j.file page (access_wanted a)))) (ends (Refused NO_PAGE)))
 
       each : (n : Option PageName) → Fits (found n)
       each (Some n) = here
-      each None = cond_both (is_written j) (makes_page a j page (maps a (Map to j.file page (access_wanted a)))) (ends (Refused NO_PAGE)) Fits (λ is. (tt, granted_in (Map to j.file page (access_wanted a)) here)) (λ is. tt)
+      each None = cond_both (is_written j) (makes_page a j page (maps a (Map to j.file page (access_wanted a)))) (ends (Refused NO_PAGE)) Fits (λ is. (refl, there, granted_in (Map to j.file page (access_wanted a)) here)) (λ is. tt)
 
-  into_in : (from : Slot) (j : OpenFile) (page : ℕ) → Here from → Fits (into_file a from j page)
-  into_in from j page here = cond_both (is_written j) (finds (in_map from) found) (ends (Refused NOT_OPEN)) Fits (λ is. (tt, each)) (λ is. tt)
+  into_in : (from : Slot) (j : OpenFile) (page : ℕ) → Here from → There j.file × (page < FILE_PAGES) → Fits (into_file a from j page)
+  into_in from j page here there = cond_both (is_written j) (finds (in_map from) found) (ends (Refused NOT_OPEN)) Fits (λ is. each) (λ is. tt)
     where
       found : Option PageName → Turn (List ℕ) MapChange
       found n = cond (is_some n) (touches a.who.tty (in_map from) Read (λ what. ends (if_granted (maps a (Put j.file page from)) what))) (ends (Refused NO_PAGE))
 
       each : (n : Option PageName) → Fits (found n)
-      each (Some n) = (tt, granted_in (Put j.file page from) here)
+      each (Some n) = (refl, here, granted_in (Put j.file page from) there)
       each None = tt
 
   mapping_in : (p : MapPlace × MapPlace) → BothHere p → Fits (mapping_into a p.0 p.1)
@@ -219,8 +245,8 @@ module _ (a : MapAsked) (own : AreOwn a.tree.forks) where
     where
       by : (from to : MapPlace) → PlaceHere from → PlaceHere to → Fits (mapping_into a from to)
       by (of_fork from) (of_fork to) x y = (y, x)
-      by (of_file j page) (of_fork to) x y = from_in j page to y
-      by (of_fork from) (of_file j page) x y = into_in from j page x
+      by (of_file j page) (of_fork to) x y = from_in j page to x y
+      by (of_fork from) (of_file j page) x y = into_in from j page x y
       by (of_file i p) (of_file j q) x y = tt
 
   unmapping_in : (place : MapPlace) → PlaceHere place → Fits (unmapping a place)
@@ -243,14 +269,11 @@ module _ (a : MapAsked) (own : AreOwn a.tree.forks) where
   spacs_in = given_in Here (slot_named a) (λ slot. sees slot (λ e. ends (narrows slot (access_in (in_ac a.regs 2)) a.regs e))) slot_in (λ s here e. narrows_in s (access_in (in_ac a.regs 2)) e here)
 
   rmap_in : Fits (rmap a)
-  rmap_in = given_in Here (slot_named a) (λ slot. sees slot (λ e. finds (in_map slot) (λ page. ends (tells_access (with_ac a.regs 1 (source_of a.tree.forks slot e)) e page)))) slot_in (λ s here e. (tt, λ n. tt))
+  rmap_in = given_in Here (slot_named a) (λ slot. sees slot (λ e. finds (in_map slot) (λ page. ends (tells_access (with_ac a.regs 1 (source_of a.tree.forks slot e)) e page)))) slot_in (λ s here e n. tt)
 
-  call_in : (number : ℕ) → Fits (map_call number a)
-  call_in number =
+  pub map_call_in : (number : ℕ) → Fits (map_call number a)
+  map_call_in number =
       cond_both (PMAP == number) (pmap a) _ Fits (λ is. pmap_in) (λ n1.
       cond_both (RPACS == number) (rpacs a) _ Fits (λ is. rpacs_in) (λ n2.
       cond_both (SPACS == number) (spacs a) _ Fits (λ is. spacs_in) (λ n3.
       cond_both (RMAP == number) (rmap a) _ Fits (λ is. rmap_in) (λ n4. tt))))
-
-  pub map_call_in : {K : Type 0} {file_cmp : K → K → Ordering} (sight : Sight (List ℕ) K) (p : PlainPages file_cmp) (number : ℕ) → EndIn a.tree.forks a.who.tty (turn_on sight p (map_call number a)).end
-  map_call_in sight p number = came_keeps AnyFile (ChangeIn a.tree.forks a.who.tty) sight (map_call number a) (call_in number) p

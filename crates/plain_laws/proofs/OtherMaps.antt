@@ -128,7 +128,7 @@ module _ (t : Tty) (k : ForkName) (other : k.tty.0 ≡ t.0 → ⊥) where
           let r = roomy (HasRoom (make p owner m) owner) (make_all (make p owner m) owner ms) q g in
           all_other ms (make p owner m) q (All-tail (MadeIn t) m ms here) r.1 ∙ make_other p m (All-head (MadeIn t) m ms here)
 
-      reference_other : (p q : PlainPages file_cmp) (s : Slot) (kind : Kind) → InJob t s → reference p (in_map s) kind owner ≡ granted q → Elsewhere p q
+      pub reference_other : (p q : PlainPages file_cmp) (s : Slot) (kind : Kind) → InJob t s → reference p (in_map s) kind owner ≡ granted q → Elsewhere p q
       reference_other p q s kind here g = by (makings p (in_map s) kind) refl
         where
           by : (x : Option (List (Making K))) → makings p (in_map s) kind ≡ x → Elsewhere p q

@@ -30,11 +30,11 @@ use Rattle.plain_pages.proofs.Reading.{page_of_chain, four, is_four, same_page_t
 
 -- where an entry names another page, a chain that came to it ends there, and each other is as it was
 module _ (old new : Entries) (m : Slot) (x : PageName) (a : Access) (here : new m ≡ Some (Names x a)) (others : (t : Slot) → t ≢ m → new t ≡ old t) where
-  data Passes (n : ℕ) (s : Slot) (c : Chain) : Type 0 where
+  pub data Passes (n : ℕ) (s : Slot) (c : Chain) : Type 0 where
     through : (k : ℕ) (d : Chain) → reached k old s ≡ Some m → chain_within n new s ≡ Some d → d.page ≡ Some x → Passes n s c
     beside : chain_within n new s ≡ Some c → Passes n s c
 
-  passes : (n : ℕ) (s : Slot) (c : Chain) → chain_within n old s ≡ Some c → Passes n s c
+  pub passes : (n : ℕ) (s : Slot) (c : Chain) → chain_within n old s ≡ Some c → Passes n s c
   passes zero s c h = absurd (no_chain_within old s c h)
   passes (suc n) s c h = elim (slot_tells s m) [
     | inl same ↦ through 0 (single_link s a (Some x)) (ap Some same) (chain_here n new s (Some (Names x a)) (ap new same ∙ here)) refl

@@ -1,5 +1,5 @@
 -- A unit of a job leaves the forks and the maps of other jobs.
-use Rattle.std.proofs.Common.{◌≡◌, ℕ, Bool, true, false, cond, Option, None, Some, refl, ◌∙◌, ap}
+use Rattle.std.proofs.Common.{◌≡◌, ℕ, Bool, true, false, cond, List, Option, None, Some, refl, ◌∙◌, ap}
 use Rattle.std.specs.Prelude.{◌==◌}
 use Rattle.std.specs.Option.{option_map_or, option_and_then}
 use Rattle.std.specs.Cmp.Lexicographic.{nat_list_cmp_total}
@@ -8,40 +8,43 @@ use Rattle.word36.specs.Words.{left}
 use Rattle.plain_model.specs.declared.call.End.{End}
 use Rattle.plain_model.specs.declared.call.End.TheVariants.{Done, Waits, Halts, Refused, Failed, Trap}
 use Rattle.plain_model.specs.declared.call.MapChange.{MapChange}
-use Rattle.plain_model.specs.declared.call.MapChange.TheVariants.{Nothing, Unmap, Follow, Narrow}
+use Rattle.plain_model.specs.declared.call.MapChange.TheVariants.{Nothing, Unmap, Follow, Narrow, Map, Put, Drop}
 use Rattle.machine_names.specs.declared.names.Tty.{Tty}
 use Rattle.machine_names.specs.declared.names.ForkName.{ForkName}
 use Rattle.machine_names.specs.declared.names.PageName.{PageName}
 use Rattle.machine_names.specs.declared.names.Slot.{Slot}
+use Rattle.machine_names.specs.declared.names.Kind.{Kind}
 use Rattle.plain_pages.specs.declared.map.MapEntry.{MapEntry}
 use Rattle.plain_pages.specs.declared.map.MapEntry.TheVariants as entry
 use Rattle.plain_model.specs.declared.fork.Fork.{Fork}
 use Rattle.script_texts.specs.declared.status.ForkStatus.{ForkStatus}
 use Rattle.plain_model.specs.State.{PlainState}
 use Rattle.plain_pages.specs.PlainPages.{NamedPages, Maps}
-use Rattle.machine_names.specs.Orders.{name_cmp}
+use Rattle.machine_names.specs.Orders.{FilePage, name_cmp}
 use Rattle.plain_pages.specs.Maps.{entry_at, set_entry, narrow}
 use Rattle.plain_pages.specs.Room.{page_in, uses}
-use Rattle.plain_pages.specs.References.{drop_unnamed, with_entry, with_changed}
+use Rattle.plain_pages.specs.References.{Spot, drop_unnamed, granted, in_file, in_map, page_at, reference, with_entry, with_changed}
+use Rattle.plain_pages.specs.FilePages.{with_file}
+use Rattle.plain_pages.proofs.FilesKept.{filed_maps}
 use Rattle.plain_model.specs.Forks.{ForkMap, with_regs}
 use Rattle.plain_model.specs.Interrupts.{posted}
 use Rattle.plain_units.specs.Instructions.{instruction}
 use Rattle.plain_units.specs.Steps.{Planned, Ending, done, call, trap, need, stopped as unit_stopped, begun, pages_left}
 use Rattle.plain_model.specs.Calls.{Turn, fork_behind, parts_behind, out_of, posted_if}
-use Rattle.plain_model.specs.MapCalls.{map_changed}
-use Rattle.plain_model.specs.Families.{asks_jfns, names_seen}
+use Rattle.plain_model.specs.MapCalls.{entry_for, map_call, map_changed}
+use Rattle.plain_model.specs.Families.{asks_jfns, asks_maps, names_seen}
 use Rattle.plain_model.proofs.JfnChanges.{left_maps}
 use Rattle.plain_model.proofs.JfnEnds.{call_ends}
 use Rattle.machine_names.proofs.OrderLemmas.{name_cmp_apart}
-use Rattle.plain_model.specs.Trees.{tree_of}
 use Rattle.plain_model.specs.Unit.{Effect, unit_ended, called, went, over, unit, parts_of}
 use Rattle.plain_units.specs.Units.{unit_on}
 use Rattle.plain_laws.specs.Whole.{IsWhole}
-use Rattle.plain_laws.proofs.MapEnds.{EndIn, map_call_in}
+use Rattle.plain_laws.proofs.FileMakings.{file_leaves}
+use Rattle.plain_laws.proofs.MapEnds.{ChangeIn, EndIn, SpotIn, came_in, map_call_in}
 use Rattle.plain_units.proofs.Lookups.{looked_up}
 use Rattle.plain_units.proofs.PageRuns.{PlanLeaves}
 use Rattle.plain_laws.proofs.UnitForks.{KeptBy, ended_pages, fork_kept, over_kept}
-use Rattle.plain_laws.proofs.OtherMaps.{InJob, Elsewhere, set_other, run_other}
+use Rattle.plain_laws.proofs.OtherMaps.{InJob, Elsewhere, reference_other, set_other, run_other}
 use Rattle.plain_laws.proofs.OtherJobs.{Stays, put_stays, told_stays, maps_same, call_stays}
 use Rattle.plain_model.proofs.Calling.{fork_came, fork_left, fork_called, fork_turned, map_came, map_pages, map_turned, own_came, own_turned, none_turned, filed_of, jfn_came, jfn_left, jfn_called, jfn_turned, MakesNone, caller_by, called_by, map_by, jfn_by, own_by}
 use Rattle.plain_units.specs.declared.channel.TheConstants.{ILLEGAL_INSTRUCTION}
@@ -70,17 +73,38 @@ module _ (t : Tty) (k : ForkName) (other : k.tty.0 ≡ t.0 → ⊥) (p : NamedPa
       by None = refl
       by (Some e) = entry_other s (change e) here
 
-  turn_other : (forks : ForkMap) (e : End MapChange) → EndIn forks t e → Elsewhere t k other p (parts_behind map_changed p p e)
-  unfolding parts_behind map_changed
-  turn_other forks (Done Nothing regs out post) here = refl
-  turn_other forks (Done (Unmap s) regs out post) here = changed_other s (λ e. entry.Empty) here.1
-  turn_other forks (Done (Follow s from a) regs out post) here = changed_other s (λ e. entry.Follows from.fork.serial from.page a) here.0.1
-  turn_other forks (Done (Narrow s a) regs out post) here = changed_other s (narrow a) here.1
-  turn_other forks (Waits on) here = refl
-  turn_other forks Halts here = refl
-  turn_other forks (Refused code) here = refl
-  turn_other forks (Failed code) here = refl
-  turn_other forks (Trap channel) here = refl
+-- what the turn of a call on maps leaves of one
+module _ (t : Tty) (k : ForkName) (other : k.tty.0 ≡ t.0 → ⊥) (p : NamedPages) (forks : ForkMap) where
+  abbrev AnyFile : List ℕ → Type 0
+  AnyFile name = Unit {0}
+
+  -- its references
+  refers_other : (q r : NamedPages) (at : Spot (List ℕ)) (kind : Kind) → SpotIn forks t AnyFile at → Elsewhere t k other p q → reference q at kind t ≡ granted r → Elsewhere t k other p r
+  refers_other q r (in_map at) kind here h g = reference_other t k other nat_list_cmp_total t q r at kind here.1 g ∙ h
+  refers_other q r (in_file f) kind here h g = let l = file_leaves q r t f kind g in ap (λ (m : Maps). map.get m k) l.maps ∙ h
+
+  filed_other : (q : NamedPages) (f : FilePage (List ℕ)) (n : Option PageName) → Elsewhere t k other q (with_file q f n)
+  filed_other q f n = ap (λ (m : Maps). map.get m k) (filed_maps nat_list_cmp_total name_cmp_apart q f n)
+
+  -- and its change
+  change_other : (q : NamedPages) (what : MapChange) → ChangeIn forks t AnyFile what → Elsewhere t k other q (map_changed (λ name. name) what q)
+  unfolding map_changed
+  change_other q Nothing here = refl
+  change_other q (Unmap s) here = changed_other t k other q s (λ e. entry.Empty) here.1
+  change_other q (Follow s from a) here = changed_other t k other q s (λ e. entry.Follows from.fork.serial from.page a) here.0.1
+  change_other q (Narrow s a) here = changed_other t k other q s (narrow a) here.1
+  change_other q (Map s name page a) here = changed_other t k other q s (λ e. entry_for a e (map.get q.files (record { file = name; page = page }))) here.1
+  change_other q (Put name page s) here = filed_other q (record { file = name; page = page }) (page_at q (in_map s))
+  change_other q (Drop name page) here = filed_other q (record { file = name; page = page }) None
+
+  turn_other : (q : NamedPages) → Elsewhere t k other p q → (e : End MapChange) → EndIn forks t AnyFile e → Elsewhere t k other p (parts_behind (map_changed (λ name. name)) p q e)
+  unfolding parts_behind
+  turn_other q h (Done what regs out post) here = change_other q what here ∙ h
+  turn_other q h (Waits on) here = refl
+  turn_other q h Halts here = refl
+  turn_other q h (Refused code) here = refl
+  turn_other q h (Failed code) here = refl
+  turn_other q h (Trap channel) here = refl
 
 -- a unit of a fork
 module _ (s : PlainState) (w : IsWhole s) (name : ForkName) (f : Fork) (there : map.get s.forks name ≡ Some f) (k : ForkName) (other : k.tty.0 ≡ f.name.tty.0 → ⊥) where
@@ -121,7 +145,10 @@ module _ (s : PlainState) (w : IsWhole s) (name : ForkName) (f : Fork) (there : 
   map_maps : (number : ℕ) → MapsLeft (map_turned s f number)
   map_maps number =
       let e = (map_came s f number).end in
-      let here = turn_other f.name.tty k other s.pages s.forks e (map_call_in (record { who = f.name; regs = f.body.regs; tree = tree_of s }) w.tree.slotted.own s.pages number) in
+      let a = asks_maps (parts_of s) f.name f.body.regs in
+      let came = came_in s.forks f.name.tty (λ name. Unit {0}) (parts_of s) f.name (Elsewhere f.name.tty k other s.pages) (refers_other f.name.tty k other s.pages s.forks) (map_call number a)
+      (map_call_in a w.tree.slotted.own (λ name. Unit {0}) (λ n j held. tt) number) s.pages refl in
+      let here = turn_other f.name.tty k other s.pages s.forks (map_came s f number).pages came.1 e came.0 in
       map_by MapsLeft s f number (λ g is. let h = fork_behind g e in ended_maps (record s { pages = map_pages s f number }) here h h.body.status) here
 
   fork_maps : (number : ℕ) → MapsLeft (fork_turned s f number)

@@ -1,7 +1,7 @@
 -- The plain state is whole wherever a run comes.
 use Rattle.std.proofs.Common.{◌≡◌, ℕ, suc, ◌+◌, ◌%◌, ◌<◌, ◌≤◌, Bool, true, false, cond, List, [], ◌∷◌, Option, None, Some, inl, inr, refl, sym, ◌∙◌, ap, subst, arith, All}
 use Rattle.std.specs.Option.{option_and_then}
-use Rattle.std.specs.Prelude.{is_none, is_some, nat_lt, slice_get, slice_index, take}
+use Rattle.std.specs.Prelude.{is_none, is_some, nat_lt, slice_get, take}
 use Rattle.std.specs.List.{find, range_with_len}
 use Rattle.std.specs.Ordering.{eq_by_cmp, nat_cmp}
 use Rattle.std.specs.Cmp.{nat_cmp_total}
@@ -30,7 +30,7 @@ use Rattle.script_texts.specs.declared.status.ForkStatus.TheVariants.{Run as Run
 use Rattle.plain_model.specs.Interrupts.{posted}
 use Rattle.plain_model.specs.Unit.{Effect, in_command_mode, with_stopped, stopped, unit_ended, trapped, called, went, over, unit, parts_of}
 use Rattle.plain_units.specs.Units.{unit_on}
-use Rattle.plain_model.specs.Calls.{Turn, fork_behind, out_of, parts_behind, posted_if, Asked, with_ac}
+use Rattle.plain_model.specs.Calls.{Turn, fork_behind, out_of, posted_if, with_ac}
 use Rattle.plain_units.specs.Steps.{Planned, Ending, done, call, trap, need, stopped as unit_stopped, begun, pages_left}
 use Rattle.script_texts.specs.declared.event.Event.{Event}
 use Rattle.script_texts.specs.declared.event.Event.TheVariants.{Login, TypeIn, File, Words, Poke, Start, Run, Tick, Evict, Drum, Auto, Examine, Forks, Page, Trace}
@@ -45,11 +45,6 @@ use Rattle.plain_model.specs.FileEvents.{make_file, page_named}
 use Rattle.plain_model.specs.Events.{at_job, new_job, with_job, login, poked, poked_at, poke, restarted, start, started, word_seen, examined_in, outer}
 use Rattle.script_texts.specs.Limits.{FitsEvent, FitsStep}
 use Rattle.plain_model.specs.Trees.{free_slot, is_free, next_serial, tree_of, next_name}
-use Rattle.plain_model.specs.declared.call.End.{End}
-use Rattle.plain_model.specs.declared.call.End.TheVariants.{Done, Waits, Halts, Refused, Failed, Trap}
-use Rattle.plain_model.specs.declared.call.MapChange.{MapChange}
-use Rattle.plain_model.specs.declared.call.MapChange.TheVariants.{Nothing, Unmap, Follow, Narrow}
-use Rattle.plain_model.specs.MapCalls.{map_changed}
 use Rattle.plain_pages.specs.declared.map.MapEntry.TheVariants.{Follows}
 use Rattle.fork_tree.proofs.Kept.{none_tree}
 use Rattle.fork_tree.proofs.Slots.{in_none}
@@ -57,16 +52,15 @@ use Rattle.plain_model.specs.Forks.{ForkMap, fork_in, top_fork, with_fork, with_
 use Rattle.plain_laws.specs.Whole.{AreGiven, IsWhole}
 use Rattle.plain_laws.proofs.FilesKept.{file_put, job_put, no_files_whole, none_open}
 use Rattle.plain_laws.proofs.WordsWritten.{new_fits, row_within, words_whole}
-use Rattle.plain_laws.proofs.GivenSerials.{IsGivenChange, added_given, change_given, poked_given, run_given}
-use Rattle.plain_laws.proofs.MapEnds.{ChangeIn, EndIn, map_call_in}
+use Rattle.plain_laws.proofs.GivenSerials.{added_given, poked_given, run_given}
 use Rattle.plain_units.proofs.Lookups.{looked_up}
 use Rattle.plain_model.proofs.ForkMaps.{get_put}
 use Rattle.plain_pages.proofs.Whole.{opening_whole, map_whole, live_whole}
 use Rattle.plain_pages.proofs.ReferencesMade.{has_room}
-use Rattle.plain_model.proofs.MapTurns.{turn_whole}
 use Rattle.plain_units.proofs.PageRuns.{AreSound, PlanKeeps, PlanLeaves, kept_itself, kept_on, reference_kept, run_kept, stored_kept}
 use Rattle.plain_laws.proofs.WholeJfns.{jfn_called_whole}
-use Rattle.plain_laws.proofs.WholeForks.{lived_given, kept_tops, job_whole, filed_whole, pages_whole, sound, keeps_whole, behind_same, put, told_whole, made_whole, next_absent, fork_called_whole}
+use Rattle.plain_laws.proofs.WholeMaps.{map_called_whole}
+use Rattle.plain_laws.proofs.WholeForks.{kept_tops, job_whole, filed_whole, sound, keeps_whole, behind_same, put, told_whole, made_whole, next_absent, fork_called_whole}
 use Rattle.plain_model.proofs.Posted.{IsSame, posted_same}
 use Rattle.plain_model.proofs.Calling.{fork_came, fork_left, fork_called, fork_turned, map_came, map_pages, map_turned, own_came, own_turned, none_turned, jfn_came, jfn_called, jfn_turned, MakesNone, caller_by, called_by, map_by, jfn_by, own_by}
 use Rattle.plain_units.specs.declared.channel.TheConstants.{ILLEGAL_INSTRUCTION}
@@ -117,24 +111,6 @@ module _ (s : PlainState) (w : IsWhole s) (name : ForkName) (f : Fork) (there : 
   trapped_whole : (channel : ℕ) → Leaves (trapped s f channel)
   trapped_whole channel = ended_whole_fork (posted f channel) (posted f channel).body.status (posted_same f channel)
 
--- a call on maps follows forks that live
-turn_given : (s : PlainState) → IsWhole s → (t : Tty) (e : End MapChange) → EndIn s.forks t e → AreGiven (next_serial (tree_of s)) (parts_behind map_changed s.pages s.pages e).maps
-unfolding parts_behind
-turn_given s w t (Done what regs out post) fits = change_given (next_serial (tree_of s)) s.pages w.pages w.given what (follows what fits)
-  where
-    follows : (what : MapChange) → ChangeIn s.forks t what → IsGivenChange (next_serial (tree_of s)) what
-    follows Nothing fits = tt
-    follows (Unmap at) fits = tt
-    follows (Follow at from a) fits =
-        let job : from.fork.tty.0 ≡ at.fork.tty.0 = fits.1.1 ∙ sym fits.0.1 in
-        omega (arith, lived_given s w from.fork fits.1.0, ap (slice_index s.fork_serials) job)
-    follows (Narrow at a) fits = tt
-turn_given s w t (Waits on) fits = w.given
-turn_given s w t Halts fits = w.given
-turn_given s w t (Refused code) fits = w.given
-turn_given s w t (Failed code) fits = w.given
-turn_given s w t (Trap channel) fits = w.given
-
 module _ (s : PlainState) (w : IsWhole s) (name : ForkName) (f : Fork) (there : map.get s.forks name ≡ Some f) where
   -- the fork that called, as it is put among the forks
   called_with : (u : PlainState) → IsWhole u → (g : Fork) → map.get u.forks f.name ≡ Some g → (h : Fork) → IsSame g h → Leaves (unit_ended u h h.body.status)
@@ -144,14 +120,15 @@ module _ (s : PlainState) (w : IsWhole s) (name : ForkName) (f : Fork) (there : 
   own_whole : (t : Turn ⊥ (Unit {0})) → MakesNone s.pages t → Leaves (own_turned s f t)
   own_whole t makes = own_by Leaves s f t makes (λ g is. called_with s w g is (fork_behind g (own_came s t).end) (behind_same g (own_came s t).end)) w
 
+  -- the terminal of a fork with a name owns pages
+  own_terminal : IsForkName name → IsOwner f.name.tty
+  own_terminal fits = inl (subst (λ (n : ForkName). n.tty.0 < TERMINALS) (sym (w.tree.slotted.own name f there)) fits.0)
+
   -- a call on maps changes pages alone
-  map_whole_turn : (number : ℕ) → Leaves (map_turned s f number)
-  map_whole_turn number =
+  map_whole_turn : (number : ℕ) → IsForkName name → Leaves (map_turned s f number)
+  map_whole_turn number fits =
       let e = (map_came s f number).end in
-      let asks : Asked = record { who = f.name; regs = f.body.regs; tree = tree_of s } in
-      let stays = turn_whole s.pages w.pages e in
-      let given = turn_given s w f.name.tty e (map_call_in asks w.tree.slotted.own s.pages number) in
-      let whole = pages_whole s w (map_pages s f number) stays.whole (omega (arith, w.room, stays.room, stays.limit)) stays.files stays.keys given in
+      let whole = map_called_whole s w f (own_terminal fits) number in
       map_by Leaves s f number (λ g is. called_with (record s { pages = map_pages s f number }) whole g is (fork_behind g e) (behind_same g e)) whole
 
   -- a fork call changes forks and pages
@@ -165,15 +142,14 @@ module _ (s : PlainState) (w : IsWhole s) (name : ForkName) (f : Fork) (there : 
   jfn_whole : (number : ℕ) → IsForkName name → Leaves (jfn_turned s f number)
   jfn_whole number fits =
       let e = (jfn_came s f number).end in
-      let own : IsOwner f.name.tty = inl (subst (λ (n : ForkName). n.tty.0 < TERMINALS) (sym (w.tree.slotted.own name f there)) fits.0) in
-      let whole = jfn_called_whole s w f own number in
+      let whole = jfn_called_whole s w f (own_terminal fits) number in
       jfn_by Leaves s f number (λ g is. called_with (jfn_called s f number) whole g is (fork_behind g e) (behind_same g e)) whole
 
   none_whole : Leaves (none_turned s f)
   none_whole = caller_by Leaves s f.name.tty (parts_of s) f.name (λ g. posted g ILLEGAL_INSTRUCTION) None (λ g is. called_with s w g is (posted g ILLEGAL_INSTRUCTION) (posted_same g ILLEGAL_INSTRUCTION)) w
 
   called_whole : (number : ℕ) → IsForkName name → Leaves (called s f number)
-  called_whole number fits = called_by Leaves s f number own_whole (fork_turned_whole number fits) (map_whole_turn number) (jfn_whole number fits) none_whole
+  called_whole number fits = called_by Leaves s f number own_whole (fork_turned_whole number fits) (map_whole_turn number fits) (jfn_whole number fits) none_whole
 
 -- a unit that goes through leaves its fork's name and slot
 went_whole : (s : PlainState) (w : IsWhole s) (name : ForkName) (f : Fork) → map.get s.forks name ≡ Some f → (q : NamedPages) → IsWhole (record s { pages = q }) → (e : Ending) → Leaves (went s f q e)

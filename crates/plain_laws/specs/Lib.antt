@@ -6,3 +6,4 @@ pub mod Example
 pub mod ForkLaws
 pub mod FileLaws
 pub mod JfnLaws
+pub mod MappedLaws

@@ -9,6 +9,7 @@ mod file_laws;
 mod fork_laws;
 mod jfn_laws;
 mod laws;
+mod mapped_laws;
 
 pub use entries::{entries_fit, runs_are_whole};
 pub use example::{empty_script, first_script};
@@ -25,4 +26,8 @@ pub use laws::{
     access_is_that_of_all_entries, chains_are_short, copies_are_made_once,
     followers_read_the_followed, narrowing_never_widens, pages_go_with_their_last_name,
     references_change_no_word,
+};
+pub use mapped_laws::{
+    copies_leave_the_file, mapping_and_unmapping_take_no_room, pages_of_files_are_mapped_and_put,
+    pages_put_and_mapped_are_the_same, written_words_are_the_files,
 };

@@ -1,5 +1,5 @@
 -- What dropping pages that nothing names leaves of their words, whatever files are known by.
-use Rattle.std.proofs.Common.{◌≡◌, ℕ, Bool, true, false, cond, ◌&&◌, ◌||◌, List, [], ◌∷◌, Option, None, inl, inr, refl, sym, ◌∙◌, ap, Ordering}
+use Rattle.std.proofs.Common.{◌≡◌, Bool, true, false, cond, ◌&&◌, ◌||◌, List, [], ◌∷◌, None, inl, inr, refl, sym, ◌∙◌, ap, Ordering}
 use Rattle.std.specs.Prelude.{◌==◌}
 use Rattle.std.specs.List.{sum_by}
 use Rattle.std.specs.FinMap as map

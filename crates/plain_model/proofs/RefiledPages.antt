@@ -1,6 +1,6 @@
 -- A page that is put at one of a file's pages, or taken from there, under two kinds of keys: both kinds leave the same.
-use Rattle.std.proofs.Common.{◌≡◌, ◌≢◌, ℕ, Bool, true, false, [], ◌∷◌, Option, None, Some, refl, sym, ◌∙◌, ap, subst, Ordering}
-use Rattle.std.specs.Prelude.{is_some}
+use Rattle.std.proofs.Common.{◌≡◌, ◌≢◌, ℕ, Bool, true, false, cond, Option, None, Some, refl, sym, ◌∙◌, ap, subst, Ordering}
+use Rattle.std.specs.Prelude.{◌==◌, is_some}
 use Rattle.std.specs.Option.{option_map_or}
 use Rattle.std.specs.Ordering.{eq_by_cmp}
 use Rattle.std.specs.Cmp.{IsTotalOrder}
@@ -9,10 +9,11 @@ use Rattle.machine_names.specs.declared.names.PageName.{PageName}
 use Rattle.machine_names.specs.Orders.{FilePage, file_page_cmp}
 use Rattle.plain_pages.specs.PlainPages.{PlainPages, refiled}
 use Rattle.plain_pages.specs.References.{drop_unnamed}
+use Rattle.plain_pages.specs.Room.{uses}
 use Rattle.plain_pages.specs.FilePages.{files_with, with_file}
 use Rattle.plain_pages.proofs.FilesKept.{files_apart, filed_files, set_elsewhere, set_here}
 use Rattle.plain_model.proofs.Keyed.{AreKeyed, Files, page_under, totals_keyed}
-use Rattle.plain_pages.proofs.Refiled.{NameAlike, drop_all_refiled}
+use Rattle.plain_pages.proofs.Refiled.{NameAlike, uses_refiled}
 use Rattle.plain_pages.proofs.Whole.{tally}
 
 -- another page of a file of which this holds
@@ -80,6 +81,17 @@ module _ {N K L : Type 0} {file_cmp : K → K → Ordering} {other_cmp : L → L
   set_alike : NameAlike other_cmp set other_set
   set_alike n = totals_keyed o apart other_o other_apart There key other_key set_files other_set set_keyed (tally n)
 
+  -- whether a page loses its last name does not depend on the keys
+  drop_alike : (n : PageName) → drop_unnamed (refiled other_cmp set other_set) n ≡ refiled other_cmp (drop_unnamed set n) other_set
+  drop_alike n = ap (λ k. cond (k == 0) (refiled other_cmp gone other_set) (refiled other_cmp set other_set)) (uses_refiled other_cmp set other_set set_alike n) ∙ by (uses set n == 0)
+    where
+      gone : PlainPages file_cmp
+      gone = record set { objects = map.remove set.objects n }
+
+      by : (b : Bool) → cond b (refiled other_cmp gone other_set) (refiled other_cmp set other_set) ≡ refiled other_cmp (cond b gone set) other_set
+      by true = refl
+      by false = refl
+
   -- and what is left is the same but for the keys
   pub put_refiled : with_file (refiled other_cmp p files) other_here new ≡ refiled other_cmp (with_file p here new) other_set
   unfolding with_file
@@ -87,4 +99,4 @@ module _ {N K L : Type 0} {file_cmp : K → K → Ordering} {other_cmp : L → L
     where
       by : (n : Option PageName) → option_map_or (drop_unnamed (refiled other_cmp set other_set)) n (refiled other_cmp set other_set) ≡ refiled other_cmp (option_map_or (drop_unnamed set) n set) other_set
       by None = refl
-      by (Some n) = drop_all_refiled other_cmp other_set set (n ∷ []) set_alike
+      by (Some n) = drop_alike n

@@ -1,9 +1,9 @@
 use Rattle.std.proofs.Common.{◌≡◌, ◌∙◌, refl, sym, ap, subst, arith}
 use Rattle.std.specs.Prelude.{IsSome}
 use Rattle.std.specs.Ordering.{nat_cmp}
-use Rattle.plain_pages.specs.PlainPages.{NumberedPages}
 use Rattle.plain_model.specs.ForkCalls.{ForkParts}
 use Rattle.fork_calls.specs.Turning.{parts}
+use Rattle.plain_model.specs.MapCalls.{map_call}
 use Rattle.plain_model.specs.Trees.{PlainTree}
 use Rattle.page_contracts.specs.Pages.{PagesMeaning}
 use Rattle.machine_names.specs.declared.names.ForkName.{ForkName}
@@ -21,10 +21,13 @@ use Rattle.text_pointers.specs.Reading.{text_frames}
 use Rattle.fork_calls.proofs.Branch.{none_made}
 use Rattle.fork_calls.proofs.CallLeaving.{grown_leaves}
 use Rattle.fork_calls.proofs.Needed.{answer_more, done_needs}
-use Rattle.monitor_core.proofs.Calling.{done_so, files_went, forks_went, has_regs, maps_went, none_went, print_went, turned_so}
+use Rattle.pmap_calls.specs.Asking.{asked}
+use Rattle.pmap_calls.specs.Making.{MapNeeds}
+use Rattle.monitor_core.proofs.Calling.{done_so, files_went, forks_went, has_regs, none_went, print_went, turned_so}
 use Rattle.monitor_core.specs.ForkUnit.{Tables, parts_in, rest_of}
 use Rattle.monitor_core.specs.Jobs.{jobs_of}
 use Rattle.monitor_core.proofs.JfnTurns.{jfn_turned}
+use Rattle.monitor_core.proofs.MapTurns.{map_grows, map_turned, map_unmade}
 use Rattle.monitor_core.proofs.JfnsAsked.{dir_stays, jobs_held, numbers_follow, still_unheld}
 use Rattle.monitor_core.proofs.Sounds.{entry_read, job_read}
 use Rattle.monitor_core.proofs.calls.turn.Goals as goal
@@ -74,24 +77,23 @@ returns-then-is_fork_call-clause-told g c =
 
 pub returns-then-is_map_call-clause-told : goal.returns-then-is_map_call-clause-told
 returns-then-is_map_call-clause-told g c =
+    let means = g.P.Pages.means in
     let was : Tables = record { tree = c.args.tree.now; files = c.args.files.now; jobs = c.args.jobs.now.items } in
+    let a = c.call-then-is_map_call in
     record {
-      fits = λ d fits. (c.call-then-is_map_call.ensures.told d fits).0;
+      fits = λ d fits. (a.ensures.told d fits).0;
       told = λ d fits.
-          let p = g.P.Pages.means.plain c.args.pages.now d in
-          let q = g.P.Pages.means.plain c.call-then-is_map_call.new.pages d in
-          let v = parts_in (rest_of was) p in
-          turned_so (key_in was.files) (λ (x : NumberedPages). record v { pages = x }) p q c.args.who c.args.regs.now c.args.number c.call-then-is_map_call.result (c.call-then-is_map_call.ensures.told d fits).1
-          (λ went. maps_went (key_in was.files) v c.args.who c.args.regs.now c.args.number (sym c.is_print_call.ensures ∙ c.if-is_print_call.false) (sym c.is_fork_call.ensures ∙ c.if-is_fork_call.false) (sym c.is_map_call.ensures ∙ c.if-is_map_call.true) q c.call-then-is_map_call.result went);
+          let p = means.plain c.args.pages.now d in
+          map_turned was c.args.who c.args.regs.now c.args.number c.requires.job.unheld (sym c.is_print_call.ensures ∙ c.if-is_print_call.false) (sym c.is_fork_call.ensures ∙ c.if-is_fork_call.false) (sym c.is_map_call.ensures ∙ c.if-is_map_call.true)
+          (MapNeeds was.files (means.scene c.args.pages.now) p (map_call c.args.number (asked c.args.who c.args.regs.now was.tree was.files))) p (means.plain a.new.pages d) a.result (a.ensures.told d fits).1;
       numbers = λ d fits. dir_stays was.files was.files refl;
     }
 
 pub returns-then-is_map_call-clause-leaves : goal.returns-then-is_map_call-clause-leaves
 returns-then-is_map_call-clause-leaves g c =
-    let who = c.args.who in
-    let none = c.call-then-is_map_call.ensures.none in
-    grown_leaves g.P.Pages.means who c.args.tree.now 128 c.args.pages.now c.call-then-is_map_call.new.pages
-    (record { lives = none.lives; forks = none.forks; most = none.most; serial = omega (arith, ap (λ s. s who.tty) none.serials); serials = λ t ne. ap (λ s. s t) none.serials; loses = c.call-then-is_map_call.ensures.loses }) c.requires.holds
+    let means = g.P.Pages.means in
+    let a = c.call-then-is_map_call in
+    grown_leaves means c.args.who c.args.tree.now 128 c.args.pages.now a.new.pages (map_grows means c.args.who.tty c.args.pages.now a.new.pages a.result a.ensures.made a.ensures.loses) c.requires.holds
 
 pub returns-then-is_map_call-clause-regs : goal.returns-then-is_map_call-clause-regs
 returns-then-is_map_call-clause-regs g c = has_regs c.call-then-is_map_call.result c.call-then-is_map_call.ensures.fits
@@ -140,7 +142,7 @@ pub returns-then-is_map_call-clause-needs : goal.returns-then-is_map_call-clause
 returns-then-is_map_call-clause-needs g c = answer_more g.P.Pages.means.store 1 c.call-then-is_map_call.new.pages text_frames c.call-then-is_map_call.result (omega arith) c.call-then-is_map_call.ensures.needs
 
 pub returns-then-is_map_call-clause-unmade : goal.returns-then-is_map_call-clause-unmade
-returns-then-is_map_call-clause-unmade g c n is = (let none = c.call-then-is_map_call.ensures.none in none_made g.P.Pages.means c.args.pages.now c.call-then-is_map_call.new.pages c.args.who.tty none.serials none.most)
+returns-then-is_map_call-clause-unmade g c n is = map_unmade g.P.Pages.means c.args.who.tty c.args.pages.now c.call-then-is_map_call.new.pages c.call-then-is_map_call.result n is c.call-then-is_map_call.ensures.made
 
 pub returns-then-is_file_call-clause-needs : goal.returns-then-is_file_call-clause-needs
 returns-then-is_file_call-clause-needs g c = done_needs g.P.Pages.means.store text_frames c.args.pages.now c.call-then-is_file_call.result c.call-then-is_file_call.ensures.done
@@ -182,6 +184,9 @@ returns-then-is_jfn_call-clause-unmade g c n is =
     let means = g.P.Pages.means in
     let same = (subst (Stays c.args.pages.now c.jfn_call.new.pages c.args.files.now c.jfn_call.new.tables) is c.jfn_call.ensures.stays).0 in
     none_made means c.args.pages.now c.jfn_call.new.pages c.args.who.tty (ap means.serial same) (ap means.most same)
+
+pub call-requires-then-is_map_call-clause-terminal : goal.call-requires-then-is_map_call-clause-terminal
+call-requires-then-is_map_call-clause-terminal g c = c.requires.job.terminal
 
 pub jfn_call-requires-clause-serves : goal.jfn_call-requires-clause-serves
 jfn_call-requires-clause-serves g c = record { lives = c.requires.holds.living c.args.who ∙ c.requires.lives; terminal = c.requires.job.terminal }
