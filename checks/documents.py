@@ -1,0 +1,100 @@
+"""Whether the documents fit the repository: links lead to files that are there, and to what they name; each crate has its README and its
+row, and rests there on those of crates.txt; each example stands in the index. Status 1: something does not fit, and each was printed.
+"""
+import glob
+import os
+import re
+import sys
+
+failures = 0
+
+
+def fail(text):
+    global failures
+    failures += 1
+    print(f"documents.py: FAILED: {text}", file=sys.stderr)
+
+
+def text_of(path):
+    return open(path, encoding="utf-8").read()
+
+
+def anchors(text):
+    return {re.sub(r"[^\w\- ]", "", head.lower()).replace(" ", "-") for head in re.findall(r"^#+ (.*)$", text, re.M)}
+
+
+# links
+documents = ["README.md", *glob.glob("docs/*.md"), *glob.glob("examples/*.md"), *glob.glob("crates/*/README.md")]
+links = 0
+for document in documents:
+    text = text_of(document)
+    for name, to in re.findall(r"\[([^\]]*)\]\(([^)\s]+)\)", text):
+        if re.match(r"https?:", to):
+            continue
+        links += 1
+        path, _, anchor = to.partition("#")
+        file = os.path.normpath(os.path.join(os.path.dirname(document), path)) if path else document
+        if not os.path.exists(file):
+            fail(f"{document}: the link {to} leads nowhere")
+            continue
+        if anchor and anchor not in anchors(text_of(file)):
+            fail(f"{document}: {file} has no heading #{anchor}")
+        word = re.fullmatch(r"`(?:[\w]+::)*(\w+)`", name)
+        if word and file.endswith((".rt", ".antt")) and not re.search(rf"\b{word[1]}\b", text_of(file)):
+            fail(f"{document}: {file} has no {word[1]}")
+
+# crates
+rows = re.findall(r"^\| \[(\w+)\]\(\.\./crates/(\w+)/README\.md\) \|", text_of("docs/ARCHITECTURE.md"), re.M)
+crates = {}
+for line in text_of("crates.txt").split("\n"):
+    line = line.partition("#")[0]
+    if ":" in line:
+        crates[line.split(":")[0].split()[0]] = line.split(":")[1].split()
+for crate, stands_on in crates.items():
+    if (crate, crate) not in rows:
+        fail(f"docs/ARCHITECTURE.md has no row for {crate}")
+    readme = f"crates/{crate}/README.md"
+    if not os.path.exists(readme):
+        fail(f"{readme} is absent")
+        continue
+    rests = re.search(r"^\*\*Rests on:\*\* (.*)\.$", text_of(readme), re.M)
+    if not rests:
+        fail(f"{readme} does not say on what it rests")
+    elif sorted(re.findall(r"`(\w+)`", rests[1])) != sorted(stands_on):
+        fail(f"{readme} rests on {rests[1]}; crates.txt has {' '.join(stands_on)}")
+for crate, _ in rows:
+    if crate not in crates:
+        fail(f"docs/ARCHITECTURE.md has a row for {crate}, which crates.txt does not have")
+trusted = set(re.findall(r"`(\w+)`", re.search(r"statements of the kit's crates that are used: (.*)\.", text_of("docs/PROMISES.md"))[1]))
+used = {it for stands_on in crates.values() for it in stands_on if it not in crates}
+if trusted != used:
+    fail(f"docs/PROMISES.md trusts the kit's {sorted(trusted)}, and crates.txt has {sorted(used)}")
+
+# examples
+index = text_of("examples/README.md")
+examples = {os.path.relpath(path, "examples")[:-len(".script")] for path in glob.glob("examples/**/*.script", recursive=True)}
+indexed = [name[:-len(".script")] for name in re.findall(r"\]\(([\w/]+\.script)\)", index)]
+for name in sorted(examples - set(indexed)):
+    fail(f"examples/README.md lacks {name}")
+for name in sorted({name for name in indexed if indexed.count(name) > 1}):
+    fail(f"examples/README.md has {name} twice")
+
+# the example of README.md
+block = text_of("README.md")
+for end in ("script", "transcript", "record"):
+    for line in text_of(f"examples/copy.{end}").split("\n"):
+        for part in re.split(r"(?=\\015)", line) if end == "transcript" else [line]:
+            if part and not part.startswith(";") and part not in block:
+                fail(f"README.md does not show the line {part!r} of examples/copy.{end}")
+
+# what the lessons quote
+for lesson in text_of("docs/LESSONS.md").split("\n## ")[1:]:
+    name = re.search(r"\(\.\./examples/(lesson_\w+)\.script\)", lesson)[1]
+    shown = [line for end in ("script", "transcript", "record") for line in text_of(f"examples/{name}.{end}").split("\n")]
+    for line in re.findall(r"^    (.*)$", lesson, re.M):
+        if line not in shown and not line.startswith(("./tenex", "cp ")):
+            fail(f"docs/LESSONS.md quotes {line!r}, which {name} does not have")
+
+if failures:
+    sys.exit(1)
+print(f"documents.py: {links} links, {len(crates)} crates and {len(examples)} examples fit")
