@@ -20,7 +20,7 @@ use Rattle.plain_model.specs.declared.call.MapChange.{MapChange}
 use Rattle.call_turns.specs.declared.answer.Answer.{Answer}
 use Rattle.call_turns.specs.declared.answer.Answer.TheVariants as answer
 use Rattle.call_turns.specs.Answers.{IsTurn}
-use Rattle.file_tables.specs.Tables.{jfns_at, open_of}
+use Rattle.file_tables.specs.Tables.{open_of}
 use Rattle.file_calls.specs.Asking.{key_in}
 use Rattle.pmap_calls.specs.Asking.{asked, seen_in}
 use Rattle.pmap_calls.specs.Making.{MakesAtMost, MakesIn}
