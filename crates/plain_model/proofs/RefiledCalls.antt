@@ -338,7 +338,7 @@ module _ {K L : Type 0} {file_cmp : K → K → Ordering} {other_cmp : L → L �
         let c : Came file_cmp MapChange = turn_on (files_seen key v who) v.pages t in
         let now : Files other_cmp = (turn_on (files_seen other_key (renewed v) who) (renewed v).pages t).pages.files in
         let agree = came_same other_cmp (IsThere v) (Filed_by key) (Filed_by other_key) (files_seen key v who) (files_seen other_key (renewed v) who) seen_told (OfFiles (IsThere v)) t keeps v.pages files
-            (record { names = alike o apart other_o other_apart key other_key files v filed; stand = filed.same; filed = filed.filed; other_filed = filed.other_filed }) in
+        (record { names = alike o apart other_o other_apart key other_key files v filed; stand = filed.same; filed = filed.filed; other_filed = filed.other_filed }) in
         let made : AreFiled file_cmp other_cmp key other_key (made_with c.pages) now = record { apart = filed.apart; other_apart = filed.other_apart; same = agree.1.stand; filed = agree.1.filed; other_filed = agree.1.other_filed } in
         subst (λ (d : Came other_cmp MapChange). Turns (behind (pages_changed key) v who c) (behind (pages_changed other_key) (renewed v) who d)) (sym agree.0)
         (turns other_cmp key other_key v (parts_behind (pages_changed key) v (made_with c.pages) c.end) (parts_behind (pages_changed other_key) (renewed v) (refiled_all other_cmp now (made_with c.pages)) c.end) who (λ f. fork_behind f c.end) (out_of c.end)
