@@ -15,7 +15,7 @@ use Rattle.frame_table.proofs.HeldFrames.{hold_spent}
 use Rattle.drum_queue.specs.declared.transfer.Transfer.{Transfer}
 use Rattle.drum_queue.specs.declared.transfer.Transfer.TheVariants.{Read, Write}
 use Rattle.drum_queue.specs.Transfers.{Transfers, frame_of, transfer_of, without, writes}
-use Rattle.paged_store.specs.Resident.{Seats, seat, home_at, home_of, reads, page_in, is_moving, holds_in, pins_in, SeatsStay, IsGivenTo, IsRepinned}
+use Rattle.paged_store.specs.Resident.{Seats, seat, home_at, home_of, reads, page_in, is_moving, holds_in, pins_in, age_in, AgesStay, SeatsStay, IsGivenTo, IsRepinned}
 use Rattle.paged_store.specs.Agreeing.{AreBound, Agrees}
 use Rattle.paged_store.specs.Queues.{without_own, without_other, pushed_own, pushed_other, once_without, once_pushed, bound_without, bound_pushed, bound_same, bound_at, first_own, first_ends}
 use Rattle.paged_store.specs.Seating.{home_below, seat_same, seat_other, single_set}
@@ -94,13 +94,18 @@ seats_stay seats f s below home pins = record {
 pub seats_same : (seats : Seats) → SeatsStay seats seats
 seats_same seats = record { size = refl; homes = λ f. refl; pins = λ f. refl; spare = refl }
 
-pub repinned : (seats : Seats) (f pins : ℕ) (s : Option Tenant) → f < length seats → option_map (λ t. t.home.0) s ≡ home_at seats f → pins_in s ≡ pins → IsRepinned f pins seats (set seats f s)
-repinned seats f pins s below home is = record {
+pub repinned : (seats : Seats) (f pins : ℕ) (s : Option Tenant) → f < length seats → option_map (λ t. t.home.0) s ≡ home_at seats f → pins_in s ≡ pins → age_in s ≡ age_in (seat seats f)
+    → IsRepinned f pins seats (set seats f s)
+repinned seats f pins s below home is age = record {
   size = length-set seats f s;
   homes = homes_stay seats f s below home;
   others = λ g other. ap pins_in (seat_other seats f g s other);
   own = ap pins_in (seat_same seats f s below) ∙ is;
   spare = spare_stays seats f s below home;
+  ages = λ g. elim (cases_eq g f) [
+    | inl e ↦ ap age_in (ap (seat (set seats f s)) e ∙ seat_same seats f s below) ∙ age ∙ ap (λ (k : ℕ). age_in (seat seats k)) (sym e)
+    | inr other ↦ ap age_in (seat_other seats f g s other)
+  ];
 }
 
 -- One frame's seat, words and transfer change.
