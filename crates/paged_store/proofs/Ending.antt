@@ -1,12 +1,13 @@
 -- The oldest transfer ends: the page that comes in, or that leaves.
-use Rattle.std.proofs.Common.{◌≡◌, ℕ, ◌+◌, List, [], ◌∷◌, map, count_by, drop, slice_get, Option, None, Some, Result, Ok, Err, Bool, true, false, cond, refl, sym, ◌∙◌, ap, subst, arith, set, get_or}
+use Rattle.std.proofs.Common.{◌≡◌, ◌≢◌, ℕ, ◌+◌, inl, inr, List, [], ◌∷◌, map, count_by, drop, slice_get, Option, None, Some, Result, Ok, Err, Bool, true, false, cond, refl, sym, ◌∙◌, ap, subst, arith, set, get_or}
 use Rattle.std.specs.Prelude.{is_none, OnOk, OnErr}
 use Rattle.std.specs.Option.{option_map}
-use Rattle.std.proofs.lemmas.Bool.{false_from_ne_true}
+use Rattle.std.proofs.lemmas.Bool.{cases_eq, false_from_ne_true}
+use Rattle.std.proofs.lemmas.List.{get_or-set_other}
 use Rattle.outside.specs.Drums.{IsPage}
 use Rattle.page_homes.specs.declared.homes.Home.{Home}
 use Rattle.page_homes.specs.declared.homes.FrameId.{FrameId}
-use Rattle.page_contracts.specs.Stores.{HomePlace, free, away, here, place}
+use Rattle.page_contracts.specs.Stores.{HomePlace, KeepsAges, Renews, free, away, here, place}
 use Rattle.page_contracts.specs.Stores as meaning
 use Rattle.drum_queue.specs.declared.transfer.Transfer.{Transfer}
 use Rattle.drum_queue.specs.declared.transfer.Transfer.TheVariants.{Read, Write}
@@ -15,12 +16,13 @@ use Rattle.paged_store.specs.declared.residence.Residence.{Residence}
 use Rattle.paged_store.specs.UntoldNeeds.{Needs}
 use Rattle.paged_store.specs.HeldHomes.{held_by}
 use Rattle.paged_store.specs.Keeping.{IsKept, is_among}
-use Rattle.paged_store.specs.Resident.{Seats, seat, home_at, framed, page_in, pins_in, places, reads, meant, SeatsStay, IsTakenFrom}
+use Rattle.paged_store.specs.Resident.{Seats, age_at, seat, home_at, framed, page_in, pins_in, places, reads, meant, tenant_at, SeatsStay, IsRenewed, IsTakenFrom}
 use Rattle.paged_store.specs.Seating.{frame_is, home_below}
 use Rattle.paged_store.specs.Agreeing.{Agrees, agrees}
 use Rattle.paged_store.specs.Queues.{without_own, without_other}
 use Rattle.paged_store.specs.KeptHomes.{kept_stays, kept_taken, still_frame, none_counted}
-use Rattle.paged_store.specs.Placing.{place_taken, reading_in, shown_in}
+use Rattle.paged_store.specs.Placing.{framed_other, place_taken, places_same, reading_in, shown_in}
+use Rattle.paged_store.proofs.Renewing.{keeps_at, renews_at}
 use Rattle.paged_store.proofs.Completing.{arrived_places, departed_places}
 use Rattle.paged_store.proofs.Resting.{rescued_idle}
 use Rattle.paged_store.proofs.Steps.{oldest_is, oldest_home, spare_set}
@@ -38,6 +40,7 @@ pub record HasArrived (flags : List Bool) (o n : Residence) (f h : ℕ) : Type 0
   pub homes : homes_in flags n ≡ set (homes_in flags o) h (here (page_in n.frames.words f))
   pub was : place (homes_in flags o) h ≡ away
   pub oldest : map meant o.queue.queued ≡ meaning.arrival h ∷ map meant n.queue.queued
+  pub came : Renews h (tenant_at n.frames.seats n.queue.queued) (age_at o.frames.seats o.queue.queued) (age_at n.frames.seats n.queue.queued)
 
 pub record HasDeparted (flags : List Bool) (o n : Residence) (f h : ℕ) : Type 0 where
   pub homes : homes_in flags n ≡ set (homes_in flags o) h away
@@ -45,26 +48,29 @@ pub record HasDeparted (flags : List Bool) (o n : Residence) (f h : ℕ) : Type 
   pub oldest : map meant o.queue.queued ≡ meaning.departure h ∷ map meant n.queue.queued
   pub page : IsPage (page_in o.frames.words f)
   pub spare : count_by is_none n.frames.seats ≡ count_by is_none o.frames.seats + 1
+  pub went : KeepsAges h (tenant_at o.frames.seats o.queue.queued) (age_at o.frames.seats o.queue.queued) (age_at n.frames.seats n.queue.queued)
 
 module _ (flags : List Bool) (o n : Residence) (f : FrameId) (h : Home) where
   agree : Agrees o.frames o.queue
   agree = agrees o.frames o.queue o.resident
 
-  pub arrived : slice_get o.queue.queued 0 ≡ Some (Read f h) → get_or flags h.0 false ≡ true → SeatsStay o.frames.seats n.frames.seats → (ws : List ℕ) → n.frames.words ≡ set o.frames.words f.0 ws
+  pub arrived : slice_get o.queue.queued 0 ≡ Some (Read f h) → get_or flags h.0 false ≡ true → SeatsStay o.frames.seats n.frames.seats → IsRenewed f.0 o.frames.seats n.frames.seats → (ws : List ℕ) → n.frames.words ≡ set o.frames.words f.0 ws
       → n.queue.queued ≡ drop 1 o.queue.queued → HasArrived flags o n f.0 h.0
-  arrived first taken stays ws words queue =
+  arrived first taken stays renewed ws words queue =
       let oldest = oldest_is (Read f h) o.queue.queued (agrees o.frames o.queue o.resident).once first in
       let given = oldest_home o.frames o.queue (Read f h) (agrees o.frames o.queue o.resident) first in
       let below = home_below o.frames.seats f.0 h.0 given in
       let rest : n.queue.queued ≡ without f.0 o.queue.queued = queue ∙ oldest.rest in
+      let others : (g : ℕ) → g ≢ f.0 → reads (transfer_of g n.queue.queued) ≡ reads (transfer_of g o.queue.queued) =
+      λ g other. ap reads (ap (λ (ts : List Transfer). transfer_of g ts) rest ∙ without_other f.0 g o.queue.queued other) in
+      let own : reads (transfer_of f.0 n.queue.queued) ≡ false = ap reads (ap (λ (ts : List Transfer). transfer_of f.0 ts) rest ∙ without_own f.0 o.queue.queued) in
       record {
         homes = arrived_places flags o.frames.seats n.frames.seats o.frames.words n.frames.words o.queue.queued n.queue.queued f.0 h.0 ws o.resident.single n.resident.single stays given taken words
-            (omega (arith, o.resident.worded))
-            (λ g other. ap reads (ap (λ (ts : List Transfer). transfer_of g ts) rest ∙ without_other f.0 g o.queue.queued other))
-            (ap reads (ap (λ (ts : List Transfer). transfer_of f.0 ts) rest ∙ without_own f.0 o.queue.queued));
+            (omega (arith, o.resident.worded)) others own;
         was = place_taken flags (framed o.frames.seats o.frames.words o.queue.queued) h.0 taken
             ∙ reading_in o.frames.seats o.frames.words o.queue.queued h.0 f.0 (frame_is o.frames.seats h.0 f.0 o.resident.single given) (ap reads oldest.own);
         oldest = head_meant o.queue.queued (Read f h) first ∙ ap (λ (ts : List Transfer). meaning.arrival h.0 ∷ map meant ts) (sym queue);
+        came = renews_at o.frames.seats n.frames.seats o.queue.queued n.queue.queued f.0 h.0 others n.resident.single (stays.homes f.0 ∙ given) own renewed;
       }
 
   pub departed : slice_get o.queue.queued 0 ≡ Some (Write f h) → get_or flags h.0 false ≡ true → IsTakenFrom h.0 f.0 o.frames.seats n.frames.seats → n.frames.words ≡ o.frames.words
@@ -74,23 +80,42 @@ module _ (flags : List Bool) (o n : Residence) (f : FrameId) (h : Home) where
       let below = home_below o.frames.seats f.0 h.0 from.had in
       let rest : n.queue.queued ≡ without f.0 o.queue.queued = queue ∙ oldest.rest in
       let read : reads (transfer_of f.0 o.queue.queued) ≡ false = ap reads oldest.own in
+      let others : (g : ℕ) → g ≢ f.0 → reads (transfer_of g n.queue.queued) ≡ reads (transfer_of g o.queue.queued) =
+      λ g other. ap reads (ap (λ (ts : List Transfer). transfer_of g ts) rest ∙ without_other f.0 g o.queue.queued other) in
       let spare = spare_set o.frames.seats f.0 None below in
       let had = ap (λ (b : Bool). let m : ℕ = cond b 1 0 in m) (some_none (seat o.frames.seats f.0) from.had) in
       let now = ap (λ (ss : Seats). count_by is_none ss) from.seats in
       record {
         homes = ap (λ (ws : List (List ℕ)). places flags (framed n.frames.seats ws n.queue.queued)) words
-            ∙ departed_places flags o.frames.seats n.frames.seats o.frames.words o.queue.queued n.queue.queued f.0 h.0 o.resident.single n.resident.single from taken
-            (λ g other. ap reads (ap (λ (ts : List Transfer). transfer_of g ts) rest ∙ without_other f.0 g o.queue.queued other));
+            ∙ departed_places flags o.frames.seats n.frames.seats o.frames.words o.queue.queued n.queue.queued f.0 h.0 o.resident.single n.resident.single from taken others;
         was = place_taken flags (framed o.frames.seats o.frames.words o.queue.queued) h.0 taken
             ∙ shown_in o.frames.seats o.frames.words o.queue.queued h.0 f.0 (frame_is o.frames.seats h.0 f.0 o.resident.single from.had) read;
         oldest = head_meant o.queue.queued (Write f h) first ∙ ap (λ (ts : List Transfer). meaning.departure h.0 ∷ map meant ts) (sym queue);
         page = o.resident.pages f.0 h.0 from.had read;
         spare = omega (arith, spare, had, now);
+        went = keeps_at o.frames.seats n.frames.seats o.queue.queued n.queue.queued f.0 h.0 others from;
       }
     where
       some_none : (s : Option Rattle.frame_table.specs.declared.tenant.Tenant.Tenant) → option_map (λ t. t.home.0) s ≡ Some h.0 → is_none s ≡ false
       some_none None e = absurd cc
       some_none (Some t) e = refl
+
+  -- a read that failed leaves all pages where they were: the words of its frame are still to be read
+  pub unread : slice_get o.queue.queued 0 ≡ Some (Read f h) → n.frames.seats ≡ o.frames.seats → (ws : List ℕ) → n.frames.words ≡ set o.frames.words f.0 ws → n.queue ≡ o.queue → homes_in flags n ≡ homes_in flags o
+  unread first seats ws words queue =
+      let oldest = oldest_is (Read f h) o.queue.queued (agrees o.frames o.queue o.resident).once first in
+      let given = oldest_home o.frames o.queue (Read f h) (agrees o.frames o.queue o.resident) first in
+      let is = frame_is o.frames.seats h.0 f.0 o.resident.single given in
+      let read : reads (transfer_of f.0 o.queue.queued) ≡ true = ap reads oldest.own in
+      ap (λ (ss : Seats). places flags (framed ss n.frames.words n.queue.queued)) seats
+      ∙ ap (λ (vs : List (List ℕ)). places flags (framed o.frames.seats vs n.queue.queued)) words
+      ∙ ap (λ (q : Transfers). places flags (framed o.frames.seats (set o.frames.words f.0 ws) q.queued)) queue
+      ∙ places_same flags (framed o.frames.seats (set o.frames.words f.0 ws) o.queue.queued) (framed o.frames.seats o.frames.words o.queue.queued) (λ k. elim (cases_eq k h.0) [
+        | inl e ↦ ap (framed o.frames.seats (set o.frames.words f.0 ws) o.queue.queued) e ∙ reading_in o.frames.seats (set o.frames.words f.0 ws) o.queue.queued h.0 f.0 is read
+            ∙ sym (ap (framed o.frames.seats o.frames.words o.queue.queued) e ∙ reading_in o.frames.seats o.frames.words o.queue.queued h.0 f.0 is read)
+        | inr other ↦ framed_other o.frames.seats o.frames.seats o.frames.words (set o.frames.words f.0 ws) o.queue.queued o.queue.queued f.0 h.0 k
+            (λ x has. let two : Some x ≡ Some h.0 = sym has ∙ given in let e : x ≡ h.0 = cc in e) refl (λ g ne. get_or-set_other o.frames.words f.0 g ws [] ne) (λ g ne. refl) other
+      ])
 
   module _ (holders : List (List ℕ)) (untold : Needs) (kept : IsKept o.frames.seats o.queue.queued flags holders untold) where
     rest_idle : (t : Transfer) → slice_get o.queue.queued 0 ≡ Some t → (g : ℕ) → transfer_of g o.queue.queued ≡ None → transfer_of g (drop 1 o.queue.queued) ≡ None

@@ -8,12 +8,13 @@ use Rattle.outside.specs.Drums.{IsPage}
 use Rattle.outside.specs.declared.TheConstants.{PAGE_WORDS}
 use Rattle.machine_names.specs.PageWords.{zero_words}
 use Rattle.page_contracts.specs.declared.store.Room.TheVariants.{Enough, NeedFrame, Full}
-use Rattle.page_contracts.specs.Stores.{free, here, place, room_of, free_homes}
+use Rattle.page_contracts.specs.Stores.{Renews, free, here, place, room_of, free_homes}
 use Rattle.drum_queue.specs.Transfers.{Transfers, transfer_of}
 use Rattle.paged_store.specs.declared.store.PagedStore.{PagedStore}
 use Rattle.paged_store.specs.declared.residence.Residence.{Residence}
 use Rattle.paged_store.specs.Keeping.{IsKept, members_of}
-use Rattle.paged_store.specs.Resident.{Seats, frame_for, framed, meant, places, placed, IsGivenTo}
+use Rattle.paged_store.specs.Resident.{Seats, age_at, frame_for, framed, meant, places, placed, reads, tenant_at, IsGivenTo, IsRenewed}
+use Rattle.paged_store.proofs.Renewing.{given_home, renews_at, tenants_made}
 use Rattle.paged_store.specs.Seating.{frame_none}
 use Rattle.paged_store.specs.KeptHomes.{kept_given}
 use Rattle.paged_store.specs.Placing.{place_at, places_length, free_is, framed_busy}
@@ -74,6 +75,19 @@ module _ (s : PagedStore) (n : Residence) (flags : List Bool) (h f : ℕ) (words
 
   pub made_queue : map meant n.queue.queued ≡ map meant s.core.queue.queued
   made_queue = ap (λ (q : Transfers). map meant q.queued) queue
+
+  made_reads : (g : ℕ) → reads (transfer_of g n.queue.queued) ≡ reads (transfer_of g s.core.queue.queued)
+  made_reads g = ap (λ (q : Transfers). reads (transfer_of g q.queued)) queue
+
+  pub made_tenants : transfer_of f s.core.queue.queued ≡ None → (frame : ℕ) → (tenant_at n.frames.seats n.queue.queued frame ≡ Some h → ⊥)
+      → tenant_at n.frames.seats n.queue.queued frame ≡ tenant_at s.core.frames.seats s.core.queue.queued frame
+  made_tenants idle = tenants_made s.core.frames.seats n.frames.seats s.core.queue.queued n.queue.queued f h (λ g ne. made_reads g) given (made_reads f ∙ ap reads idle)
+
+  pub made_ages : transfer_of f s.core.queue.queued ≡ None → IsRenewed f s.core.frames.seats n.frames.seats
+      → Renews h (tenant_at n.frames.seats n.queue.queued) (age_at s.core.frames.seats s.core.queue.queued) (age_at n.frames.seats n.queue.queued)
+  made_ages idle renewed =
+      renews_at s.core.frames.seats n.frames.seats s.core.queue.queued n.queue.queued f h (λ g ne. made_reads g) n.resident.single
+      (given_home s.core.frames.seats n.frames.seats s.core.queue.queued n.queue.queued f h (λ g ne. made_reads g) given) (made_reads f ∙ ap reads idle) renewed
 
   pub made_members : members_of (length n.frames.seats) ≡ members_of (length s.core.frames.seats)
   made_members = ap members_of (ap (λ (ss : Seats). length ss) given.seats ∙ length-set s.core.frames.seats f (Some given.tenant))

@@ -1,6 +1,6 @@
 -- What a use, a page that comes and a page that goes make of the ages of frames.
-use Rattle.std.proofs.Common.{◌≡◌, ◌≢◌, ℕ, ◌+◌, ◌<◌, ◌≤◌, inl, inr, List, length, Option, None, Some, is_some, Bool, true, false, cond, refl, sym, ◌∙◌, ap, subst, arith, set}
-use Rattle.std.specs.Option.{option_map, option_map_or}
+use Rattle.std.proofs.Common.{◌≡◌, ◌≢◌, ℕ, ◌<◌, inl, inr, List, length, Option, None, Some, is_some, Bool, true, false, cond, refl, sym, ◌∙◌, ap, subst, arith, set}
+use Rattle.std.specs.Option.{option_map}
 use Rattle.std.proofs.Math.Path.{fun_ext}
 use Rattle.std.proofs.lemmas.Bool.{cases_eq, cases_lt, false≢true, eq-eqb, ne_eqb}
 use Rattle.page_homes.specs.declared.homes.Home.{Home}
@@ -10,7 +10,7 @@ use Rattle.frame_table.specs.Ages.{RenewsAge}
 use Rattle.frame_table.specs.Core.{Core, IsCore, LAST_USE, new_tenant, next_use, seat_of, used, with_page, with_tenant}
 use Rattle.frame_table.proofs.YoungFrames.{frame_used, page_comes}
 use Rattle.drum_queue.specs.declared.transfer.Transfer.{Transfer}
-use Rattle.drum_queue.specs.Transfers.{Transfers, transfer_of}
+use Rattle.drum_queue.specs.Transfers.{transfer_of}
 use Rattle.paged_store.specs.Resident.{Seats, seat, home_at, age_in, age_at, tenant_at, frame_for, reads, AgesStay, IsRenewed, IsSingle, IsGivenTo, IsTakenFrom}
 use Rattle.paged_store.specs.Seating.{home_below, none_has, seat_same, seat_other}
 use Rattle.paged_store.specs.Aging.{tenant_shown, tenant_hidden, tenant_given, tenant_some, tenant_none, age_shown, age_hidden, age_none}

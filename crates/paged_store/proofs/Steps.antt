@@ -15,7 +15,7 @@ use Rattle.frame_table.proofs.HeldFrames.{hold_spent}
 use Rattle.drum_queue.specs.declared.transfer.Transfer.{Transfer}
 use Rattle.drum_queue.specs.declared.transfer.Transfer.TheVariants.{Read, Write}
 use Rattle.drum_queue.specs.Transfers.{Transfers, frame_of, transfer_of, without, writes}
-use Rattle.paged_store.specs.Resident.{Seats, seat, home_at, home_of, reads, page_in, is_moving, holds_in, pins_in, age_in, AgesStay, SeatsStay, IsGivenTo, IsRepinned}
+use Rattle.paged_store.specs.Resident.{Seats, seat, home_at, home_of, reads, page_in, is_moving, holds_in, pins_in, age_in, SeatsStay, IsGivenTo, IsRepinned}
 use Rattle.paged_store.specs.Agreeing.{AreBound, Agrees}
 use Rattle.paged_store.specs.Queues.{without_own, without_other, pushed_own, pushed_other, once_without, once_pushed, bound_without, bound_pushed, bound_same, bound_at, first_own, first_ends}
 use Rattle.paged_store.specs.Seating.{home_below, seat_same, seat_other, single_set}

@@ -6,7 +6,7 @@ use Rattle.std.proofs.lemmas.List.{get_or-set_same, get_or-set_other, set-get_or
 use Rattle.page_contracts.specs.declared.answers.Need.{Need}
 use Rattle.page_contracts.specs.declared.answers.Need.TheVariants.{Frame}
 use Rattle.page_contracts.specs.declared.answers.Found.{Found}
-use Rattle.page_contracts.specs.Stores.{HomePlace, free, away, here, place, is_here, with_word_in, word_in, IsUsed, Cancels, departs, noted, noted_all}
+use Rattle.page_contracts.specs.Stores.{HomePlace, free, away, here, place, is_here, with_word_in, word_in, IsUsed, Cancels, Renews, departs, noted, noted_all}
 use Rattle.page_contracts.specs.Stores as meaning
 use Rattle.drum_queue.specs.declared.transfer.Transfer.{Transfer}
 use Rattle.drum_queue.specs.declared.transfer.Transfer.TheVariants.{Read, Write}
@@ -14,13 +14,15 @@ use Rattle.drum_queue.specs.Transfers.{Transfers, transfer_of, without, writes}
 use Rattle.paged_store.specs.declared.store.PagedStore.{PagedStore}
 use Rattle.paged_store.specs.declared.residence.Residence.{Residence}
 use Rattle.paged_store.specs.HeldHomes.{held_by}
-use Rattle.paged_store.specs.Resident.{Seats, seat, home_at, frame_for, framed, found_at, page_in, places, reads, meant, SeatsStay, HasWords}
-use Rattle.paged_store.specs.Seating.{frame_is, frame_has, home_below}
+use Rattle.paged_store.specs.Resident.{Seats, seat, home_at, frame_for, framed, found_at, page_in, places, reads, meant, tenant_at, SeatsStay, HasWords, IsRenewed}
+use Rattle.paged_store.specs.Seating.{frame_is, frame_has, none_has, home_below}
+use Rattle.paged_store.specs.Aging.{tenant_given}
+use Rattle.paged_store.proofs.Renewing.{renews_at, tenants_alike}
 use Rattle.paged_store.specs.Agreeing.{agrees}
 use Rattle.paged_store.specs.Meant.{departures, no_departures}
 use Rattle.paged_store.specs.Placing.{places_changed, framed_other, shown_in, found_frame, found_alike}
 use Rattle.paged_store.specs.StoreMeaning.{paged_meaning, homes_of}
-use Rattle.paged_store.specs.StoreSteps.{IsAtRest, SeatsRest}
+use Rattle.paged_store.specs.StoreSteps.{IsInPlace, SeatsRest}
 use Rattle.paged_store.specs.StoreSound.{marked, at_frame, paged_sound}
 use Rattle.paged_store.specs.Keeping.{members_of}
 use Rattle.std.proofs.Math.Path.{fun_ext}
@@ -37,42 +39,52 @@ told_by_writes None needs = refl
 told_by_writes (Some (Read f h)) needs = refl
 told_by_writes (Some (Write f h)) needs = refl
 
+-- a frame's departure is taken from the queue, and is that of its home
+used_cancels : (old new : PagedStore) (f h : ℕ) → home_at old.core.frames.seats f ≡ Some h
+    → new.core.queue.queued ≡ cond (writes (transfer_of f old.core.queue.queued)) (without f old.core.queue.queued) old.core.queue.queued
+    → new.untold.needs ≡ cond (writes (transfer_of f old.core.queue.queued)) (noted Frame old.untold.needs) old.untold.needs → Cancels paged_meaning (departs h) old new
+used_cancels old new f h given queue untold =
+    let own = departures old.core.frames old.core.queue (agrees old.core.frames old.core.queue old.core.resident) h f given in
+    record {
+      queue = ap (map meant) queue ∙ sym own.others;
+      untold = untold ∙ sym (ap (λ (ts : List meaning.Transfer). noted_all ts old.untold.needs) own.those ∙ told_by_writes (transfer_of f old.core.queue.queued) old.untold.needs);
+    }
+
 -- a use of a frame is one of the page of its home
-pub used_parts : (old new : PagedStore) (f h : ℕ) → home_at old.core.frames.seats f ≡ Some h → SeatsRest old.core.frames.seats new.core.frames.seats
+pub used_parts : (old new : PagedStore) (f h : ℕ) → home_at old.core.frames.seats f ≡ Some h → reads (transfer_of f old.core.queue.queued) ≡ false → IsRenewed f old.core.frames.seats new.core.frames.seats
+    → SeatsRest old.core.frames.seats new.core.frames.seats
     → ((g : ℕ) → reads (transfer_of g new.core.queue.queued) ≡ reads (transfer_of g old.core.queue.queued))
     → new.core.queue.queued ≡ cond (writes (transfer_of f old.core.queue.queued)) (without f old.core.queue.queued) old.core.queue.queued
     → new.untold.needs ≡ cond (writes (transfer_of f old.core.queue.queued)) (noted Frame old.untold.needs) old.untold.needs
     → new.holders ≡ old.holders → IsUsed paged_meaning h old new
-used_parts old new f h given seats read queue untold holders =
-    let own = departures old.core.frames old.core.queue (agrees old.core.frames old.core.queue old.core.resident) h f given in
+used_parts old new f h given shown renewed seats read queue untold holders =
     record {
       framed = record {
         spare = seats.spare;
         found = fun_ext (λ k. found_alike old.core.frames.seats new.core.frames.seats old.core.queue.queued new.core.queue.queued k old.core.resident.single seats.homes read);
-        tenant = fun_ext seats.homes;
+        tenant = tenants_alike old.core.frames.seats new.core.frames.seats old.core.queue.queued new.core.queue.queued seats.homes read;
         members = ap members_of seats.size;
       };
-      rescued = record {
-        queue = ap (map meant) queue ∙ sym own.others;
-        untold = untold ∙ sym (ap (λ (ts : List meaning.Transfer). noted_all ts old.untold.needs) own.those ∙ told_by_writes (transfer_of f old.core.queue.queued) old.untold.needs);
-      };
+      rescued = used_cancels old new f h given queue untold;
       holds = ap (λ (hs : List (List ℕ)). let g : ℕ → List ℕ = λ k. held_by hs k in g) holders;
+      ages = renews_at old.core.frames.seats new.core.frames.seats old.core.queue.queued new.core.queue.queued f h (λ g ne. read g) new.core.resident.single (seats.homes f ∙ given) (read f ∙ shown) renewed;
     }
 
-pub used_is : (old new : PagedStore) (f h : ℕ) → home_at old.core.frames.seats f ≡ Some h → IsAtRest old new
+pub used_is : (old new : PagedStore) (f h : ℕ) → home_at old.core.frames.seats f ≡ Some h → reads (transfer_of f old.core.queue.queued) ≡ false → IsInPlace old new → IsRenewed f old.core.frames.seats new.core.frames.seats
     → new.core.queue.queued ≡ cond (writes (transfer_of f old.core.queue.queued)) (without f old.core.queue.queued) old.core.queue.queued
     → new.untold.needs ≡ cond (writes (transfer_of f old.core.queue.queued)) (noted Frame old.untold.needs) old.untold.needs
     → new.holders ≡ old.holders → IsUsed paged_meaning h old new
-used_is old new f h given rest queue untold holders = used_parts old new f h given rest.seats rest.reads_stay queue untold holders
+used_is old new f h given shown stays renewed queue untold holders = used_parts old new f h given shown renewed stays.seats stays.reads_stay queue untold holders
 
 -- a use once a word has changed, which moves no page
-pub used_after : (old new : PagedStore) (o : Residence) (f h : ℕ) → home_at old.core.frames.seats f ≡ Some h → o.frames.seats ≡ old.core.frames.seats → o.queue ≡ old.core.queue → SeatsRest o.frames.seats new.core.frames.seats
+pub used_after : (old new : PagedStore) (o : Residence) (f h : ℕ) → home_at old.core.frames.seats f ≡ Some h → reads (transfer_of f old.core.queue.queued) ≡ false → IsRenewed f o.frames.seats new.core.frames.seats
+    → o.frames.seats ≡ old.core.frames.seats → o.queue ≡ old.core.queue → SeatsRest o.frames.seats new.core.frames.seats
     → ((g : ℕ) → reads (transfer_of g new.core.queue.queued) ≡ reads (transfer_of g o.queue.queued))
     → new.core.queue.queued ≡ cond (writes (transfer_of f o.queue.queued)) (without f o.queue.queued) o.queue.queued
     → new.untold.needs ≡ cond (writes (transfer_of f o.queue.queued)) (noted Frame old.untold.needs) old.untold.needs
     → new.holders ≡ old.holders → IsUsed paged_meaning h old new
-used_after old new o f h given same queue_same seats read queue untold holders =
-    used_parts old new f h given (subst (λ (ss : Seats). SeatsRest ss new.core.frames.seats) same seats)
+used_after old new o f h given shown renewed same queue_same seats read queue untold holders =
+    used_parts old new f h given shown (subst (λ (ss : Seats). IsRenewed f ss new.core.frames.seats) same renewed) (subst (λ (ss : Seats). SeatsRest ss new.core.frames.seats) same seats)
     (λ g. read g ∙ ap (λ (q : Transfers). reads (transfer_of g q.queued)) queue_same)
     (queue ∙ ap (λ (q : Transfers). cond (writes (transfer_of f q.queued)) (without f q.queued) q.queued) queue_same)
     (untold ∙ ap (λ (q : Transfers). cond (writes (transfer_of f q.queued)) (noted Frame old.untold.needs) old.untold.needs) queue_same) holders
@@ -81,6 +93,10 @@ reads_only : (o : Option Transfer) → reads o ≡ true → writes o ≡ false
 reads_only None e = refl
 reads_only (Some (Read f h)) e = refl
 reads_only (Some (Write f h)) e = absurd (false≢true e)
+
+-- where no frame has the page of a home nothing is younger than it was
+used_none : (s : PagedStore) (h : ℕ) → ((frame : ℕ) → tenant_at s.core.frames.seats s.core.queue.queued frame ≡ Some h → ⊥) → Renews h (paged_meaning.tenant s) (paged_meaning.age s) (paged_meaning.age s)
+used_none s h none = record { youngest = λ frame other has ne some. absurd (none frame has); others = λ frame apart. refl }
 
 -- a page that is in no frame has no departure
 pub used_same : (s : PagedStore) (h : ℕ) → None ≡ found_at s.core.frames.seats s.core.queue.queued h → IsUsed paged_meaning h s s
@@ -93,12 +109,22 @@ used_same s h none = at (frame_for s.core.frames.seats h) refl
           framed = record { spare = refl; found = refl; tenant = refl; members = refl };
           rescued = record { queue = sym own.others; untold = sym (ap (λ (ts : List meaning.Transfer). noted_all ts s.untold.needs) own.those) };
           holds = refl;
+          ages = used_none s h (λ frame has. none_has s.core.frames.seats h is frame (tenant_given s.core.frames.seats s.core.queue.queued frame h has).0);
         }
     at (Some f) is =
         let read = found_reading_only s.core.frames.seats s.core.queue.queued h f is none in
         let idle = reads_only (transfer_of f s.core.queue.queued) read in
-        used_parts s s f h (frame_has s.core.frames.seats h f is) (record { size = refl; homes = λ g. refl; spare = refl }) (λ g. refl)
-        (ap (λ (b : Bool). cond b (without f s.core.queue.queued) s.core.queue.queued) (sym idle)) (ap (λ (b : Bool). cond b (noted Frame s.untold.needs) s.untold.needs) (sym idle)) refl
+        let given = frame_has s.core.frames.seats h f is in
+        record {
+          framed = record { spare = refl; found = refl; tenant = refl; members = refl };
+          rescued = used_cancels s s f h given
+        (ap (λ (b : Bool). cond b (without f s.core.queue.queued) s.core.queue.queued) (sym idle)) (ap (λ (b : Bool). cond b (noted Frame s.untold.needs) s.untold.needs) (sym idle));
+          holds = refl;
+          ages = used_none s h (λ frame has.
+              let there = tenant_given s.core.frames.seats s.core.queue.queued frame h has in
+              let same : frame ≡ f = s.core.resident.single frame f h there.0 given in
+              false≢true (sym there.1 ∙ ap (λ (g : ℕ). reads (transfer_of g s.core.queue.queued)) same ∙ read));
+        }
 
 -- what was found has words
 pub has_words : (seats : Seats) (queue : List Transfer) (h : ℕ) (found : Found) → found_at seats queue h ≡ Some found → HasWords seats queue found.0

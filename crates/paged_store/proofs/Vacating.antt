@@ -1,5 +1,5 @@
 -- A home is given up.
-use Rattle.std.proofs.Common.{◌≡◌, ℕ, ◌+◌, ◌<◌, ◌≤◌, inl, inr, List, [], ◌∷◌, length, map, filter, count_by, Option, None, Some, is_some, Bool, true, false, cond, ◌||◌, refl, sym, ◌∙◌, ap, subst, arith, set, get_or, add-zero}
+use Rattle.std.proofs.Common.{◌≡◌, ◌≢◌, ℕ, ◌+◌, ◌<◌, ◌≤◌, inl, inr, List, [], ◌∷◌, length, map, filter, count_by, Option, None, Some, is_some, Bool, true, false, cond, ◌||◌, refl, sym, ◌∙◌, ap, subst, arith, set, get_or, add-zero}
 use Rattle.std.specs.Prelude.{is_none}
 use Rattle.std.specs.Option.{option_map, option_map_or}
 use Rattle.std.specs.List.{list_any}
@@ -9,7 +9,7 @@ use Rattle.std.proofs.Math.Path.{fun_ext}
 use Rattle.page_homes.specs.declared.homes.TheConstants.{MOST_HOMES}
 use Rattle.frame_table.specs.declared.tenant.Tenant.{Tenant}
 use Rattle.page_contracts.specs.declared.answers.Need.{Need}
-use Rattle.page_contracts.specs.Stores.{need_of, noted, noted_all, moves, arrives, HomePlace, free, away, here, place, is_here, frames_of, Cancels, IsFreed}
+use Rattle.page_contracts.specs.Stores.{need_of, noted, noted_all, moves, arrives, HomePlace, free, away, here, place, is_here, frames_of, tenant_left, Cancels, IsFreed, KeepsAges, StaysThere}
 use Rattle.page_contracts.specs.Stores as meaning
 use Rattle.drum_queue.specs.declared.transfer.Transfer.{Transfer}
 use Rattle.drum_queue.specs.declared.transfer.Transfer.TheVariants.{Read, Write}
@@ -19,13 +19,14 @@ use Rattle.paged_store.specs.declared.residence.Residence.{Residence}
 use Rattle.paged_store.specs.UntoldNeeds.{Needs, IsBelow}
 use Rattle.paged_store.specs.HeldHomes.{held_by}
 use Rattle.paged_store.specs.Keeping.{IsKept, is_among, members_of}
-use Rattle.paged_store.specs.Resident.{Seats, seat, home_at, home_of, frame_for, framed, meant, pins_in, places, reads, IsSingle, IsTakenFrom}
+use Rattle.paged_store.specs.Resident.{Seats, age_at, tenant_at, seat, home_at, home_of, frame_for, framed, meant, pins_in, places, reads, IsSingle, IsTakenFrom}
 use Rattle.paged_store.specs.Seating.{frame_none, none_has, home_below, seat_same, seat_other}
 use Rattle.paged_store.specs.Agreeing.{agrees}
 use Rattle.paged_store.specs.Queues.{bound_at, without_other, idle_kept}
 use Rattle.paged_store.specs.KeptHomes.{kept_taken, none_counted}
 use Rattle.paged_store.specs.StoreSound.{marked}
-use Rattle.paged_store.proofs.Resting.{rescued_idle, rest_homes}
+use Rattle.paged_store.proofs.Resting.{rescued_idle, rest_homes, stays_there}
+use Rattle.paged_store.proofs.Renewing.{keeps_at, tenants_kept, tenants_left}
 use Rattle.paged_store.proofs.Completing.{departed_places}
 use Rattle.paged_store.proofs.Steps.{spare_set}
 use Rattle.paged_store.specs.Meant.{arrivals, moving_of, no_arrivals, not_moving}
@@ -66,6 +67,8 @@ pub record IsFreedFrom (mid new : PagedStore) (h : ℕ) : Type 0 where
   pub untold : new.untold.needs ≡ noted_all (filter (moves h) (map meant mid.core.queue.queued)) mid.untold.needs
   pub holders : new.holders ≡ mid.holders
   pub size : length new.core.frames.seats ≡ length mid.core.frames.seats
+  pub tenants : (frame : ℕ) → paged_meaning.tenant new frame ≡ tenant_left h (paged_meaning.tenant mid frame)
+  pub ages : KeepsAges h (paged_meaning.tenant mid) (paged_meaning.age mid) (paged_meaning.age new)
 
 pub freed_by : (s mid new : PagedStore) (h : ℕ) → IsAtRest s mid → mid.core.queue ≡ s.core.queue → mid.untold ≡ s.untold → ((k : ℕ) → held_by mid.holders k ≡ all_but h (held_by s.holders k)) → IsFreedFrom mid new h
     → IsFreed paged_meaning h s new
@@ -80,8 +83,13 @@ freed_by s mid new h rest queue untold holders freed = record {
   };
   holds = fun_ext (λ k. ap (λ (hs : List (List ℕ)). held_by hs k) freed.holders ∙ holders k);
   members = ap members_of (freed.size ∙ rest.seats.size);
+  tenants = λ frame. freed.tenants frame ∙ ap (λ (t : ℕ → Option ℕ). tenant_left h (t frame)) there.framed.tenant;
+  ages = λ frame apart. freed.ages frame (λ has. apart (sym (ap (λ (t : ℕ → Option ℕ). t frame) there.framed.tenant) ∙ has)) ∙ ap (λ (a : ℕ → ℕ). a frame) there.ages;
 }
   where
+    there : StaysThere paged_meaning s mid
+    there = stays_there s mid rest
+
     same_frames : (is_here (place (homes_of mid) h) || list_any (arrives h) (map meant mid.core.queue.queued)) ≡ (is_here (place (homes_of s) h) || list_any (arrives h) (map meant s.core.queue.queued))
     same_frames =
         ap (λ (ps : List HomePlace). is_here (place ps h) || list_any (arrives h) (map meant mid.core.queue.queued)) (rest_homes s mid rest)
@@ -105,6 +113,8 @@ freed_away mid new h gone taken core flags untold holders =
       untold = ap (λ (u : Needs). u.needs) untold ∙ sym (ap (λ (ts : List meaning.Transfer). noted_all ts mid.untold.needs) moving.those);
       holders = holders;
       size = ap (λ (o : Residence). length o.frames.seats) core;
+      tenants = λ frame. ap (λ (o : Residence). tenant_at o.frames.seats o.queue.queued frame) core ∙ tenants_kept mid.core.frames.seats mid.core.queue.queued h frame gone;
+      ages = λ frame apart. ap (λ (o : Residence). age_at o.frames.seats o.queue.queued frame) core;
     }
 
 told_moving : (o : Option Transfer) (needs : List Need) → option_map_or (λ t. noted (need_of (meant t)) needs) o needs ≡ noted_all (cond (is_some o) (option_map_or (λ t. meant t ∷ []) o []) []) needs
@@ -157,8 +167,15 @@ freed_frame mid new n f h is taken from words queue core flags untold holders =
       untold = untold ∙ told_moving (transfer_of f mid.core.queue.queued) mid.untold.needs ∙ sym (ap (λ (ts : List meaning.Transfer). noted_all ts mid.untold.needs) moving.those);
       holders = holders;
       size = ap (λ (o : Residence). length o.frames.seats) core ∙ ap (λ (ss : Seats). length ss) from.seats ∙ length-set mid.core.frames.seats f None;
+      tenants = λ frame. ap (λ (o : Residence). tenant_at o.frames.seats o.queue.queued frame) core
+          ∙ tenants_left mid.core.frames.seats n.frames.seats mid.core.queue.queued n.queue.queued f h read from mid.core.resident.single frame;
+      ages = λ frame apart. ap (λ (o : Residence). age_at o.frames.seats o.queue.queued frame) core
+          ∙ keeps_at mid.core.frames.seats n.frames.seats mid.core.queue.queued n.queue.queued f h read from frame apart;
     }
   where
+    read : (g : ℕ) → g ≢ f → reads (transfer_of g n.queue.queued) ≡ reads (transfer_of g mid.core.queue.queued)
+    read g other = ap reads (ap (λ (ts : List Transfer). transfer_of g ts) queue ∙ without_other f g mid.core.queue.queued other)
+
     some_none : (o : Option Tenant) → option_map (λ t. t.home.0) o ≡ Some h → is_none o ≡ false
     some_none None e = absurd cc
     some_none (Some t) e = refl

@@ -1,4 +1,5 @@
 use Rattle.std.proofs.Common.{◌≡◌, ◌<◌, ◌≤◌, ◌∙◌, ◌⊎◌, inl, ℕ, List, [], ◌∷◌, Some, None, true, false, refl, sym, ap, subst, length, map, set, get_or, slice_get, arith, rules}
+use Rattle.std.proofs.lemmas.Bool.{false≢true, true≢false}
 use Rattle.std.proofs.lemmas.List.{get_or-set_same}
 use Rattle.page_contracts.specs.declared.answers.Need.TheVariants.{Page, Frame}
 use Rattle.page_contracts.specs.Stores.{HomePlace, free, away, here, place, is_here, is_taken, Ends}
@@ -6,15 +7,16 @@ use Rattle.page_contracts.specs.Stores as meaning
 use Rattle.drum_queue.specs.declared.transfer.Transfer.{Transfer}
 use Rattle.drum_queue.specs.declared.transfer.Transfer.TheVariants.{Read, Write}
 use Rattle.paged_store.specs.declared.store.PagedStore.{PagedStore}
-use Rattle.paged_store.specs.Resident.{home_at, page_in, framed}
+use Rattle.paged_store.specs.Resident.{home_at, page_in, framed, IsRenewed}
 use Rattle.paged_store.specs.Agreeing.{agrees}
 use Rattle.paged_store.specs.Placing.{places_length, taken_all}
 use Rattle.paged_store.specs.StoreMeaning.{homes_of}
 use Rattle.paged_store.specs.StoreSound.{marked}
 use Rattle.paged_store.proofs.Taking.{flag_below}
 use Rattle.paged_store.proofs.Steps.{oldest_home, oldest_is}
-use Rattle.paged_store.proofs.Ending.{HasArrived, HasDeparted, homes_in, arrived, departed, kept_arrived, kept_departed, moved_unpinned}
+use Rattle.paged_store.proofs.Ending.{HasArrived, HasDeparted, head_meant, homes_in, arrived, departed, unread, kept_arrived, kept_departed, moved_unpinned}
 use Rattle.paged_store.proofs.Completing.{content_read, content_written, fits_read, fits_written, taken_stays, told_words}
+use Rattle.paged_store.proofs.Resting.{stored_same}
 use Rattle.paged_store.proofs.store.PagedStoreStore.complete.Goals as goal
 
 -- the home of the oldest transfer is taken
@@ -75,6 +77,8 @@ returns-in-None-clause-ends g c =
       later = omega arith;
       read = λ home e. absurd cc;
       wrote = λ e. absurd cc;
+      failed = λ e. absurd cc;
+      uncounted = λ e. absurd cc;
       size = refl;
     }
   where
@@ -84,9 +88,9 @@ returns-in-None-clause-ends g c =
 
 -- the page that has come in, from what the call says
 arrival : (s : PagedStore) (n : Rattle.paged_store.specs.declared.residence.Residence.Residence) (f : Rattle.page_homes.specs.declared.homes.FrameId.FrameId) (h : Rattle.page_homes.specs.declared.homes.Home.Home)
-    → slice_get s.core.queue.queued 0 ≡ Some (Read f h) → Rattle.paged_store.specs.Resident.SeatsStay s.core.frames.seats n.frames.seats → (x : (ws : List ℕ) × (n.frames.words ≡ set s.core.frames.words f.0 ws))
+    → slice_get s.core.queue.queued 0 ≡ Some (Read f h) → Rattle.paged_store.specs.Resident.SeatsStay s.core.frames.seats n.frames.seats → IsRenewed f.0 s.core.frames.seats n.frames.seats → (x : (ws : List ℕ) × (n.frames.words ≡ set s.core.frames.words f.0 ws))
     → n.queue.queued ≡ Rattle.std.proofs.Common.drop 1 s.core.queue.queued → HasArrived s.homes s.core n f.0 h.0
-arrival s n f h first stays words queue = arrived s.homes s.core n f h first (home_taken s (Read f h) first) stays words.0 words.1 queue
+arrival s n f h first stays renewed words queue = arrived s.homes s.core n f h first (home_taken s (Read f h) first) stays renewed words.0 words.1 queue
 
 arrived_here : (ps qs : List HomePlace) (h : ℕ) (p : HomePlace) → qs ≡ set ps h p → h < length ps → place qs h ≡ p
 arrived_here ps qs h p is below = ap (λ (xs : List HomePlace). place xs h) is ∙ get_or-set_same ps h p free below
@@ -95,7 +99,7 @@ pub returns-in-Ok-clause-ends : goal.returns-in-Ok-clause-ends
 returns-in-Ok-clause-ends g c =
     let s = c.args.self.now in
     let first : slice_get s.core.queue.queued 0 ≡ Some (Read c.in-Some-Read.f c.in-Some-Read.home) = search rules in
-    let a = arrival s c.arrive.new.self c.in-Some-Read.f c.in-Some-Read.home first c.in-Ok.ensures.seats c.in-Ok.ensures.words c.in-Ok.ensures.queue in
+    let a = arrival s c.arrive.new.self c.in-Some-Read.f c.in-Some-Read.home first c.in-Ok.ensures.seats c.in-Ok.ensures.renews c.in-Ok.ensures.words c.in-Ok.ensures.queue in
     let at = arrived_here (homes_of s) (homes_in s.homes c.arrive.new.self) c.in-Some-Read.home.0 (here (page_in c.arrive.new.self.frames.words c.in-Some-Read.f.0)) a.homes (home_within s (Read c.in-Some-Read.f c.in-Some-Read.home) first) in
     record {
       nothing = (λ e. absurd cc, λ e. (let no : meaning.arrival c.in-Some-Read.home.0 ∷ map Rattle.paged_store.specs.Resident.meant c.arrive.new.self.queue.queued ≡ [] = sym a.oldest ∙ e in absurd cc));
@@ -112,25 +116,29 @@ returns-in-Ok-clause-ends g c =
             untold = refl;
             holds = refl;
             members = ap Rattle.paged_store.specs.Keeping.members_of c.in-Ok.ensures.seats.size;
+            came = λ is. a.came;
+            went = λ is. absurd (true≢false is);
           };
       cause = λ e. absurd cc;
       later = c.in-Ok.ensures.later;
-      read = λ home e. c.in-Ok.ensures.counted;
+      read = λ home e. (c.in-Ok.ensures.counted, c.in-Ok.ensures.writes);
       wrote = λ e. absurd cc;
+      failed = λ e. absurd cc;
+      uncounted = λ e. absurd cc;
       size = c.in-Ok.ensures.size;
     }
 
 pub returns-in-Ok-clause-taken : goal.returns-in-Ok-clause-taken
 returns-in-Ok-clause-taken g c =
     let s = c.args.self.now in
-    let a = arrival s c.arrive.new.self c.in-Some-Read.f c.in-Some-Read.home (search rules) c.in-Ok.ensures.seats c.in-Ok.ensures.words c.in-Ok.ensures.queue in
+    let a = arrival s c.arrive.new.self c.in-Some-Read.f c.in-Some-Read.home (search rules) c.in-Ok.ensures.seats c.in-Ok.ensures.renews c.in-Ok.ensures.words c.in-Ok.ensures.queue in
     taken_stays (homes_of s) (homes_in s.homes c.arrive.new.self) c.in-Some-Read.home.0 (here (page_in c.arrive.new.self.frames.words c.in-Some-Read.f.0)) a.homes (sym (ap is_taken a.was))
 
 pub returns-in-Ok-clause-content : goal.returns-in-Ok-clause-content
 returns-in-Ok-clause-content g c d stands fits no_fault =
     let s = c.args.self.now in
     let first : slice_get s.core.queue.queued 0 ≡ Some (Read c.in-Some-Read.f c.in-Some-Read.home) = search rules in
-    let a = arrival s c.arrive.new.self c.in-Some-Read.f c.in-Some-Read.home first c.in-Ok.ensures.seats c.in-Ok.ensures.words c.in-Ok.ensures.queue in
+    let a = arrival s c.arrive.new.self c.in-Some-Read.f c.in-Some-Read.home first c.in-Ok.ensures.seats c.in-Ok.ensures.renews c.in-Ok.ensures.words c.in-Ok.ensures.queue in
     let told = told_words _ d stands in (
       d,
       inl (c.in-Ok.ensures.held d told),
@@ -165,11 +173,15 @@ returns-in-Ok-depart-clause-ends g c =
             untold = refl;
             holds = refl;
             members = ap Rattle.paged_store.specs.Keeping.members_of (ap (λ (ss : Rattle.paged_store.specs.Resident.Seats). length ss) c.in-Ok-depart.ensures.taken.seats ∙ Rattle.std.proofs.lemmas.List.length-set _ _ _);
+            came = λ is. absurd (false≢true is);
+            went = λ is. a.went;
           };
       cause = λ e. absurd cc;
       later = c.in-Ok-depart.ensures.later;
       read = λ home e. absurd cc;
-      wrote = λ e. c.in-Ok-depart.ensures.counted;
+      wrote = λ e. (c.in-Ok-depart.ensures.counted, c.in-Ok-depart.ensures.reads);
+      failed = λ e. absurd cc;
+      uncounted = λ e. absurd cc;
       size = c.in-Ok-depart.ensures.size;
     }
 
@@ -192,6 +204,25 @@ returns-in-Ok-depart-clause-content g c d stands fits no_fault =
       fits_written (homes_of s) (homes_in s.homes c.depart.new.self) d (set d c.in-Some-Write.home.0 words) c.in-Some-Write.home.0 away words a.homes refl a.page fits,
       content_written (homes_of s) (homes_in s.homes c.depart.new.self) d (set d c.in-Some-Write.home.0 words) c.in-Some-Write.home.0 words a.homes a.was refl within (omega (arith, within, fits.enough)),
     )
+
+pub returns-in-Err-clause-ends : goal.returns-in-Err-clause-ends
+returns-in-Err-clause-ends g c =
+    let s = c.args.self.now in
+    let first : slice_get s.core.queue.queued 0 ≡ Some (Read c.in-Some-Read.f c.in-Some-Read.home) = search rules in
+    let head = head_meant s.core.queue.queued (Read c.in-Some-Read.f c.in-Some-Read.home) first in
+    let e = c.in-Err.ensures in
+    record {
+      nothing = (λ is. absurd cc, λ is. (let no : meaning.arrival c.in-Some-Read.home.0 ∷ map Rattle.paged_store.specs.Resident.meant (Rattle.std.proofs.Common.drop 1 s.core.queue.queued) ≡ [] = sym head ∙ is in absurd cc));
+      same = λ is. absurd cc;
+      done = λ need is. absurd cc;
+      cause = λ is. e.cause;
+      later = e.later;
+      read = λ home is. absurd cc;
+      wrote = λ is. absurd cc;
+      failed = λ is. stored_same s _ e.unused e.failed (unread s.homes s.core c.arrive.new.self c.in-Some-Read.f c.in-Some-Read.home first e.unused e.words.0 e.words.1 e.failed) refl refl;
+      uncounted = λ is. (e.uncounted, e.writes);
+      size = e.size;
+    }
 
 pub returns-in-Err-clause-taken : goal.returns-in-Err-clause-taken
 returns-in-Err-clause-taken g c =

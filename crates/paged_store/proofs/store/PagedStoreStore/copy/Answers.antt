@@ -8,7 +8,7 @@ use Rattle.paged_store.specs.Seating.{frame_has}
 use Rattle.paged_store.proofs.Using.{shown_words, has_words, no_here}
 use Rattle.std.proofs.lemmas.Bool.{false≢true}
 use Rattle.paged_store.specs.StoreMeaning.{homes_of}
-use Rattle.paged_store.proofs.Making.{room_parts, free_count, free_away, kept_made, homes_made, made_below, made_free, made_spare, made_queue, made_members}
+use Rattle.paged_store.proofs.Making.{room_parts, free_count, free_away, kept_made, homes_made, made_below, made_free, made_spare, made_queue, made_members, made_tenants, made_ages}
 use Rattle.paged_store.proofs.store.PagedStoreStore.copy.Goals as goal
 
 -- the words of the page that is copied
@@ -53,6 +53,8 @@ returns c =
       queued = record { queue = made_queue s n flags h f words t.below t.free t.taken g.given g.words g.queue; untold = refl };
       holds = refl;
       members = made_members s n flags h f words t.below t.free t.taken g.given g.words g.queue;
+      tenants = made_tenants s n flags h f words t.below t.free t.taken g.given g.words g.queue g.idle;
+      ages = made_ages s n flags h f words t.below t.free t.taken g.given g.words g.queue g.idle g.renews;
     }
 
 pub page-words-requires : goal.page-words-requires

@@ -5,6 +5,7 @@ use Rattle.drum_queue.specs.declared.transfer.Transfer.TheVariants.{Write}
 use Rattle.paged_store.specs.UntoldNeeds.{Needs}
 use Rattle.paged_store.specs.HeldHomes.{held_by}
 use Rattle.paged_store.specs.Resident.{meant}
+use Rattle.paged_store.specs.Aging.{tenant_given}
 use Rattle.paged_store.specs.StoreSound.{may_can, can_may}
 use Rattle.paged_store.proofs.Resting.{stays_there, rest_same}
 use Rattle.paged_store.proofs.store.PagedStoreStore.evict.Goals as goal
@@ -26,7 +27,7 @@ returns c =
     let may = c.in-Some.ensures in
     record {
       leaves = λ home can.
-          let two : Some c.in-Some.home.0 ≡ Some home = sym may.given ∙ can.there in
+          let two : Some c.in-Some.home.0 ≡ Some home = sym may.given ∙ (tenant_given s.core.frames.seats s.core.queue.queued c.args.frame.0 home can.there).0 in
           let same : c.in-Some.home.0 ≡ home = cc in
           ap (map meant) c.dismiss.ensures.queue ∙ map-append meant s.core.queue.queued (Write c.args.frame c.in-Some.home ∷ [])
           ∙ ap (λ (k : ℕ). map meant s.core.queue.queued ++ (meaning.departure k ∷ [])) same;

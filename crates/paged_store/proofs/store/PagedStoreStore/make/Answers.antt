@@ -2,7 +2,7 @@ use Rattle.std.proofs.Common.{◌∙◌, refl, sym, ap, subst, set, arith}
 use Rattle.outside.specs.Drums.{IsPage}
 use Rattle.page_contracts.specs.Stores.{here, free_homes}
 use Rattle.paged_store.specs.StoreMeaning.{homes_of}
-use Rattle.paged_store.proofs.Making.{zeros_fit, room_parts, free_count, free_away, kept_made, homes_made, made_below, made_free, made_spare, made_queue, made_members}
+use Rattle.paged_store.proofs.Making.{zeros_fit, room_parts, free_count, free_away, kept_made, homes_made, made_below, made_free, made_spare, made_queue, made_members, made_tenants, made_ages}
 use Rattle.paged_store.proofs.store.PagedStoreStore.make.Goals as goal
 
 pub take-home-requires : goal.take-home-requires
@@ -43,4 +43,6 @@ returns c =
       queued = record { queue = made_queue s n flags h f words t.below t.free t.taken g.given g.words g.queue; untold = refl };
       holds = refl;
       members = made_members s n flags h f words t.below t.free t.taken g.given g.words g.queue;
+      tenants = made_tenants s n flags h f words t.below t.free t.taken g.given g.words g.queue g.idle;
+      ages = made_ages s n flags h f words t.below t.free t.taken g.given g.words g.queue g.idle g.renews;
     }
