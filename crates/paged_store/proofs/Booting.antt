@@ -6,7 +6,7 @@ use Rattle.std.proofs.lemmas.List.{length-replicate}
 use Rattle.page_homes.specs.declared.homes.TheConstants.{MOST_HOMES}
 use Rattle.paged_store.specs.HeldHomes.{held_by, no_holds}
 use Rattle.paged_store.specs.Keeping.{IsKept, is_among, is_distinct}
-use Rattle.paged_store.specs.Resident.{seat, home_at}
+use Rattle.page_residence.specs.Resident.{seat, home_at}
 
 none_held : (n k : ℕ) → get_or {A = List ℕ} (replicate n []) k [] ≡ []
 none_held zero k = refl

@@ -9,9 +9,9 @@ use Rattle.page_contracts.specs.DrumWords.{DrumWords, Stands}
 use Rattle.page_contracts.specs.Stores.{HomePlace, free, away, here, place, is_taken, content, over_drum, FitsHomes}
 use Rattle.drum_queue.specs.declared.transfer.Transfer.{Transfer}
 use Rattle.drum_queue.specs.Transfers.{transfer_of}
-use Rattle.paged_store.specs.Resident.{Seats, seat, home_at, frame_for, framed, page_in, places, reads, IsSingle, SeatsStay, IsTakenFrom}
-use Rattle.paged_store.specs.Seating.{frame_is, frame_none, frame_alike, frame_other, seat_same, seat_other, home_below}
-use Rattle.paged_store.specs.Placing.{places_changed, framed_other, shown_in, gone_in}
+use Rattle.page_residence.specs.Resident.{Seats, seat, home_at, frame_for, framed, page_in, places, reads, IsSingle, SeatsStay, IsTakenFrom}
+use Rattle.page_residence.proofs.Seating.{frame_is, frame_none, frame_alike, frame_other, seat_same, seat_other, home_below}
+use Rattle.page_residence.proofs.Placing.{places_changed, framed_other, shown_in, gone_in}
 
 -- one home's page is elsewhere, and its content is the same: the words of the drum there are those that it had, or it has those that were there
 module _ (old new : List HomePlace) (d e : DrumWords) (h : ℕ) where

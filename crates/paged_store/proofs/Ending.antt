@@ -12,20 +12,20 @@ use Rattle.page_contracts.specs.Stores as meaning
 use Rattle.drum_queue.specs.declared.transfer.Transfer.{Transfer}
 use Rattle.drum_queue.specs.declared.transfer.Transfer.TheVariants.{Read, Write}
 use Rattle.drum_queue.specs.Transfers.{Transfers, frame_of, transfer_of, without}
-use Rattle.paged_store.specs.declared.residence.Residence.{Residence}
+use Rattle.page_residence.specs.declared.residence.Residence.{Residence}
 use Rattle.paged_store.specs.UntoldNeeds.{Needs}
 use Rattle.paged_store.specs.HeldHomes.{held_by}
 use Rattle.paged_store.specs.Keeping.{IsKept, is_among}
-use Rattle.paged_store.specs.Resident.{Seats, age_at, seat, home_at, framed, page_in, pins_in, places, reads, meant, tenant_at, SeatsStay, IsRenewed, IsTakenFrom}
-use Rattle.paged_store.specs.Seating.{frame_is, home_below}
-use Rattle.paged_store.specs.Agreeing.{Agrees, agrees}
-use Rattle.paged_store.specs.Queues.{without_own, without_other}
+use Rattle.page_residence.specs.Resident.{Seats, age_at, seat, home_at, framed, page_in, pins_in, places, reads, meant, tenant_at, SeatsStay, IsRenewed, IsTakenFrom}
+use Rattle.page_residence.proofs.Seating.{frame_is, home_below}
+use Rattle.page_residence.proofs.Agreeing.{Agrees, agrees}
+use Rattle.page_residence.proofs.Queues.{without_own, without_other}
 use Rattle.paged_store.specs.KeptHomes.{kept_stays, kept_taken, still_frame, none_counted}
-use Rattle.paged_store.specs.Placing.{framed_other, place_taken, places_same, reading_in, shown_in}
-use Rattle.paged_store.proofs.Renewing.{keeps_at, renews_at}
+use Rattle.page_residence.proofs.Placing.{framed_other, place_taken, places_same, reading_in, shown_in}
+use Rattle.page_residence.proofs.Renewing.{keeps_at, renews_at}
 use Rattle.paged_store.proofs.Completing.{arrived_places, departed_places}
 use Rattle.paged_store.proofs.Resting.{rescued_idle}
-use Rattle.paged_store.proofs.Steps.{oldest_is, oldest_home, spare_set}
+use Rattle.page_residence.proofs.Steps.{oldest_is, oldest_home, spare_set}
 
 pub head_meant : (q : List Transfer) (t : Transfer) → slice_get q 0 ≡ Some t → map meant q ≡ meant t ∷ map meant (drop 1 q)
 head_meant [] t is = absurd cc

@@ -8,12 +8,13 @@ use Rattle.page_contracts.specs.Stores.{IsFetched, Meeting, joins, begins, waits
 use Rattle.page_contracts.specs.Stores as meaning
 use Rattle.drum_queue.specs.Transfers.{transfer_of}
 use Rattle.paged_store.specs.declared.store.PagedStore.{PagedStore}
-use Rattle.paged_store.specs.declared.residence.Residence.{Residence}
+use Rattle.page_residence.specs.declared.residence.Residence.{Residence}
 use Rattle.paged_store.specs.HeldHomes.{held_by}
-use Rattle.paged_store.specs.Keeping.{members_of, victim_of}
-use Rattle.paged_store.specs.Resident.{AgesStay, meant, reads}
-use Rattle.paged_store.specs.Aging.{tenant_shown}
-use Rattle.paged_store.specs.Leaving.{victim_goes}
+use Rattle.page_residence.specs.Victims.{victim_of}
+use Rattle.paged_store.specs.Keeping.{members_of}
+use Rattle.page_residence.specs.Resident.{AgesStay, meant, reads}
+use Rattle.page_residence.proofs.Aging.{tenant_shown}
+use Rattle.page_residence.proofs.Leaving.{victim_goes}
 use Rattle.paged_store.specs.StoreSound.{goes_may}
 use Rattle.paged_store.specs.StoreMeaning.{homes_of, paged_meaning}
 use Rattle.paged_store.specs.StoreSteps.{IsAtRest, SeatsRest, departing}

@@ -13,16 +13,16 @@ use Rattle.frame_table.specs.declared.tenant.Tenant.{Tenant}
 use Rattle.drum_queue.specs.declared.transfer.Transfer.{Transfer}
 use Rattle.drum_queue.specs.declared.transfer.Transfer.TheVariants.{Read}
 use Rattle.drum_queue.specs.Transfers.{transfer_of}
-use Rattle.paged_store.specs.declared.residence.Residence.{Residence}
-use Rattle.paged_store.specs.Resident.{Seats, seat, home_at, frame_for, framed, found_at, page_in, places, placed, reads, meant, IsSingle, IsGivenTo}
-use Rattle.paged_store.specs.Seating.{frame_has, frame_is, frame_other, seat_same, IsFor}
-use Rattle.paged_store.specs.Agreeing.{agrees}
-use Rattle.paged_store.specs.Meant.{arrivals, no_arrivals}
-use Rattle.paged_store.specs.Placing.{place_at, away_in, gone_in, reading_in, shown_in, framed_other, places_same, places_set}
+use Rattle.page_residence.specs.declared.residence.Residence.{Residence}
+use Rattle.page_residence.specs.Resident.{Seats, seat, home_at, frame_for, framed, found_at, page_in, places, placed, reads, meant, IsSingle, IsGivenTo}
+use Rattle.page_residence.proofs.Seating.{frame_has, frame_is, frame_other, seat_same, IsFor}
+use Rattle.page_residence.proofs.Agreeing.{agrees}
+use Rattle.page_residence.proofs.Meant.{arrivals, no_arrivals}
+use Rattle.page_residence.proofs.Placing.{place_at, away_in, gone_in, reading_in, shown_in, framed_other, places_same, places_set}
 use Rattle.paged_store.proofs.Ending.{homes_in}
-use Rattle.paged_store.proofs.Steps.{spare_set}
-use Rattle.paged_store.proofs.Finding.{found_none, found_reading}
-use Rattle.paged_store.specs.Queues.{pushed_own, pushed_other}
+use Rattle.page_residence.proofs.Steps.{spare_set}
+use Rattle.page_residence.proofs.Finding.{found_none, found_reading}
+use Rattle.page_residence.proofs.Queues.{pushed_own, pushed_other}
 use Rattle.paged_store.specs.UntoldNeeds.{Needs}
 use Rattle.paged_store.specs.Keeping.{IsKept}
 use Rattle.paged_store.specs.KeptHomes.{kept_given}
@@ -103,13 +103,13 @@ module _ (o n : Residence) (h f : ℕ) (away_was : frame_for o.frames.seats h �
     | inr other ↦ by_frame k other (frame_for o.frames.seats k) refl
   ])
     where
-      by_frame : (k : ℕ) → k ≢ h → (x : Option ℕ) → frame_for o.frames.seats k ≡ x → Rattle.paged_store.specs.Resident.found_in n.queue.queued (frame_for n.frames.seats k) ≡ Rattle.paged_store.specs.Resident.found_in o.queue.queued (frame_for o.frames.seats k)
+      by_frame : (k : ℕ) → k ≢ h → (x : Option ℕ) → frame_for o.frames.seats k ≡ x → Rattle.page_residence.specs.Resident.found_in n.queue.queued (frame_for n.frames.seats k) ≡ Rattle.page_residence.specs.Resident.found_in o.queue.queued (frame_for o.frames.seats k)
       by_frame k other None is =
-          ap (Rattle.paged_store.specs.Resident.found_in n.queue.queued) (given_other k other ∙ is) ∙ sym (ap (Rattle.paged_store.specs.Resident.found_in o.queue.queued) is)
+          ap (Rattle.page_residence.specs.Resident.found_in n.queue.queued) (given_other k other ∙ is) ∙ sym (ap (Rattle.page_residence.specs.Resident.found_in o.queue.queued) is)
       by_frame k other (Some g) is =
           let ne : g ≢ f = λ e. other (before k (ap (home_at o.frames.seats) (sym e) ∙ frame_has o.frames.seats k g is)) in
-          ap (Rattle.paged_store.specs.Resident.found_in n.queue.queued) (given_other k other ∙ is) ∙ ap (λ (b : Bool). cond b None (Some (let x : Found = record { 0 = g } in x))) (read g ne)
-          ∙ sym (ap (Rattle.paged_store.specs.Resident.found_in o.queue.queued) is)
+          ap (Rattle.page_residence.specs.Resident.found_in n.queue.queued) (given_other k other ∙ is) ∙ ap (λ (b : Bool). cond b None (Some (let x : Found = record { 0 = g } in x))) (read g ne)
+          ∙ sym (ap (Rattle.page_residence.specs.Resident.found_in o.queue.queued) is)
 
   -- a frame that was filled shows its words
   pub seated_homes : (flags : List Bool) (words : List ℕ) → n.frames.words ≡ set o.frames.words f words → n.queue ≡ o.queue → transfer_of f o.queue.queued ≡ None

@@ -1,6 +1,3 @@
-pub mod Steps
-pub mod Renewing
-pub mod Finding
 pub mod Taking
 pub mod Noting
 pub mod Holding

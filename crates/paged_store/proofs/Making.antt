@@ -11,13 +11,13 @@ use Rattle.page_contracts.specs.declared.store.Room.TheVariants.{Enough, NeedFra
 use Rattle.page_contracts.specs.Stores.{Renews, free, here, place, room_of, free_homes}
 use Rattle.drum_queue.specs.Transfers.{Transfers, transfer_of}
 use Rattle.paged_store.specs.declared.store.PagedStore.{PagedStore}
-use Rattle.paged_store.specs.declared.residence.Residence.{Residence}
+use Rattle.page_residence.specs.declared.residence.Residence.{Residence}
 use Rattle.paged_store.specs.Keeping.{IsKept, members_of}
-use Rattle.paged_store.specs.Resident.{Seats, age_at, frame_for, framed, meant, places, placed, reads, tenant_at, IsGivenTo, IsRenewed}
-use Rattle.paged_store.proofs.Renewing.{given_home, renews_at, tenants_made}
-use Rattle.paged_store.specs.Seating.{frame_none}
+use Rattle.page_residence.specs.Resident.{Seats, age_at, frame_for, framed, meant, places, placed, reads, tenant_at, IsGivenTo, IsRenewed}
+use Rattle.page_residence.proofs.Renewing.{given_home, renews_at, tenants_made}
+use Rattle.page_residence.proofs.Seating.{frame_none}
 use Rattle.paged_store.specs.KeptHomes.{kept_given}
-use Rattle.paged_store.specs.Placing.{place_at, places_length, free_is, framed_busy}
+use Rattle.page_residence.proofs.Placing.{place_at, places_length, free_is, framed_busy}
 use Rattle.paged_store.specs.StoreMeaning.{homes_of}
 use Rattle.paged_store.specs.StoreSound.{marked}
 use Rattle.paged_store.proofs.Fetching.{given_spare, seated_homes}

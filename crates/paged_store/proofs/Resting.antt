@@ -9,17 +9,17 @@ use Rattle.page_contracts.specs.Stores.{StaysThere, StaysFramed, StaysStored}
 use Rattle.drum_queue.specs.declared.transfer.Transfer.{Transfer}
 use Rattle.drum_queue.specs.declared.transfer.Transfer.TheVariants.{Write}
 use Rattle.drum_queue.specs.Transfers.{Transfers, transfer_of, without, writes}
-use Rattle.paged_store.specs.Queues.{without_own, without_other, pushed_own, pushed_other}
+use Rattle.page_residence.proofs.Queues.{without_own, without_other, pushed_own, pushed_other}
 use Rattle.paged_store.specs.StoreSound.{writes_only}
 use Rattle.paged_store.specs.declared.store.PagedStore.{PagedStore}
 use Rattle.paged_store.specs.Keeping.{members_of}
-use Rattle.paged_store.specs.Resident.{Seats, age_at, found_at, framed, meant, places, reads, tenant_at, SeatsStay}
+use Rattle.page_residence.specs.Resident.{Seats, age_at, found_at, framed, meant, places, reads, tenant_at, SeatsStay}
 use Rattle.paged_store.specs.UntoldNeeds.{Needs}
 use Rattle.paged_store.specs.HeldHomes.{held_by}
-use Rattle.paged_store.specs.Placing.{framed_alike, found_alike, places_same}
+use Rattle.page_residence.proofs.Placing.{framed_alike, found_alike, places_same}
 use Rattle.paged_store.specs.StoreMeaning.{paged_meaning, homes_of}
 use Rattle.paged_store.specs.StoreSteps.{IsAtRest, IsInPlace, SeatsRest}
-use Rattle.paged_store.proofs.Renewing.{ages_alike, tenants_alike}
+use Rattle.page_residence.proofs.Renewing.{ages_alike, tenants_alike}
 
 pub in_place : (old new : PagedStore) → IsAtRest old new → IsInPlace old new
 in_place old new rest = record { seats = rest.seats; words = rest.words; reads_stay = rest.reads_stay; homes = rest.homes }

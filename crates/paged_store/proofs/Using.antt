@@ -12,24 +12,24 @@ use Rattle.drum_queue.specs.declared.transfer.Transfer.{Transfer}
 use Rattle.drum_queue.specs.declared.transfer.Transfer.TheVariants.{Read, Write}
 use Rattle.drum_queue.specs.Transfers.{Transfers, transfer_of, without, writes}
 use Rattle.paged_store.specs.declared.store.PagedStore.{PagedStore}
-use Rattle.paged_store.specs.declared.residence.Residence.{Residence}
+use Rattle.page_residence.specs.declared.residence.Residence.{Residence}
 use Rattle.paged_store.specs.HeldHomes.{held_by}
-use Rattle.paged_store.specs.Resident.{Seats, seat, home_at, frame_for, framed, found_at, page_in, places, reads, meant, tenant_at, SeatsStay, HasWords, IsRenewed}
-use Rattle.paged_store.specs.Seating.{frame_is, frame_has, none_has, home_below}
-use Rattle.paged_store.specs.Aging.{tenant_given}
-use Rattle.paged_store.proofs.Renewing.{renews_at, tenants_alike}
-use Rattle.paged_store.specs.Agreeing.{agrees}
-use Rattle.paged_store.specs.Meant.{departures, no_departures}
-use Rattle.paged_store.specs.Placing.{places_changed, framed_other, shown_in, found_frame, found_alike}
+use Rattle.page_residence.specs.Resident.{Seats, seat, home_at, frame_for, framed, found_at, page_in, places, reads, meant, tenant_at, SeatsStay, HasWords, IsRenewed}
+use Rattle.page_residence.proofs.Seating.{frame_is, frame_has, none_has, home_below}
+use Rattle.page_residence.proofs.Aging.{tenant_given}
+use Rattle.page_residence.proofs.Renewing.{renews_at, tenants_alike}
+use Rattle.page_residence.proofs.Agreeing.{agrees}
+use Rattle.page_residence.proofs.Meant.{departures, no_departures}
+use Rattle.page_residence.proofs.Placing.{places_changed, framed_other, shown_in, found_frame, found_alike}
 use Rattle.paged_store.specs.StoreMeaning.{paged_meaning, homes_of}
 use Rattle.paged_store.specs.StoreSteps.{IsInPlace, SeatsRest}
 use Rattle.paged_store.specs.StoreSound.{marked, at_frame, paged_sound}
 use Rattle.paged_store.specs.Keeping.{members_of}
 use Rattle.std.proofs.Math.Path.{fun_ext}
 use Rattle.paged_store.proofs.Ending.{homes_in}
-use Rattle.paged_store.proofs.Finding.{found_reading_only}
+use Rattle.page_residence.proofs.Finding.{found_reading_only}
 
-writes_home : (o : Option Transfer) → writes o ≡ true → option_map_or (λ t. meant t ∷ []) o [] ≡ option_map_or (λ t. meaning.departure (Rattle.paged_store.specs.Resident.home_of t) ∷ []) o []
+writes_home : (o : Option Transfer) → writes o ≡ true → option_map_or (λ t. meant t ∷ []) o [] ≡ option_map_or (λ t. meaning.departure (Rattle.page_residence.specs.Resident.home_of t) ∷ []) o []
 writes_home None w = refl
 writes_home (Some (Read f h)) w = absurd (false≢true w)
 writes_home (Some (Write f h)) w = refl

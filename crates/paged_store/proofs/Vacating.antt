@@ -15,22 +15,22 @@ use Rattle.drum_queue.specs.declared.transfer.Transfer.{Transfer}
 use Rattle.drum_queue.specs.declared.transfer.Transfer.TheVariants.{Read, Write}
 use Rattle.drum_queue.specs.Transfers.{Transfers, transfer_of, without}
 use Rattle.paged_store.specs.declared.store.PagedStore.{PagedStore}
-use Rattle.paged_store.specs.declared.residence.Residence.{Residence}
+use Rattle.page_residence.specs.declared.residence.Residence.{Residence}
 use Rattle.paged_store.specs.UntoldNeeds.{Needs, IsBelow}
 use Rattle.paged_store.specs.HeldHomes.{held_by}
 use Rattle.paged_store.specs.Keeping.{IsKept, is_among, members_of}
-use Rattle.paged_store.specs.Resident.{Seats, age_at, tenant_at, seat, home_at, home_of, frame_for, framed, meant, pins_in, places, reads, IsSingle, IsTakenFrom}
-use Rattle.paged_store.specs.Seating.{frame_none, none_has, home_below, seat_same, seat_other}
-use Rattle.paged_store.specs.Agreeing.{agrees}
-use Rattle.paged_store.specs.Queues.{bound_at, without_other, idle_kept}
+use Rattle.page_residence.specs.Resident.{Seats, age_at, tenant_at, seat, home_at, home_of, frame_for, framed, meant, pins_in, places, reads, IsSingle, IsTakenFrom}
+use Rattle.page_residence.proofs.Seating.{frame_none, none_has, home_below, seat_same, seat_other}
+use Rattle.page_residence.proofs.Agreeing.{agrees}
+use Rattle.page_residence.proofs.Queues.{bound_at, without_other, idle_kept}
 use Rattle.paged_store.specs.KeptHomes.{kept_taken, none_counted}
 use Rattle.paged_store.specs.StoreSound.{marked}
 use Rattle.paged_store.proofs.Resting.{rescued_idle, rest_homes, stays_there}
-use Rattle.paged_store.proofs.Renewing.{keeps_at, tenants_kept, tenants_left}
+use Rattle.page_residence.proofs.Renewing.{keeps_at, tenants_kept, tenants_left}
 use Rattle.paged_store.proofs.Completing.{departed_places}
-use Rattle.paged_store.proofs.Steps.{spare_set}
-use Rattle.paged_store.specs.Meant.{arrivals, moving_of, no_arrivals, not_moving}
-use Rattle.paged_store.specs.Placing.{place_taken, places_set, gone_in, reading_in, shown_in}
+use Rattle.page_residence.proofs.Steps.{spare_set}
+use Rattle.page_residence.proofs.Meant.{arrivals, moving_of, no_arrivals, not_moving}
+use Rattle.page_residence.proofs.Placing.{place_taken, places_set, gone_in, reading_in, shown_in}
 use Rattle.paged_store.specs.StoreMeaning.{homes_of, paged_meaning}
 use Rattle.paged_store.specs.StoreSteps.{IsAtRest, all_but}
 use Rattle.paged_store.proofs.Taking.{flag_below}

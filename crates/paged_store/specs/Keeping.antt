@@ -8,7 +8,7 @@ use Rattle.drum_queue.specs.declared.transfer.Transfer.{Transfer}
 use Rattle.drum_queue.specs.Transfers.{transfer_of}
 use Rattle.paged_store.specs.UntoldNeeds.{Needs}
 use Rattle.paged_store.specs.HeldHomes.{held_by}
-use Rattle.paged_store.specs.Resident.{Seats, seat, home_at, frame_for, pins_in}
+use Rattle.page_residence.specs.Resident.{Seats, seat, home_at, frame_for, pins_in}
 
 -- whether a home is among those that are held
 abbrev pub is_among : ℕ → List ℕ → Bool
@@ -37,26 +37,6 @@ pub record IsKept (seats : Seats) (queue : List Transfer) (flags : List Bool) (h
   pub held : (k h : ℕ) → is_among h (held_by holders k) ≡ true → is_still seats queue h ≡ true
   pub once : (k : ℕ) → is_distinct (held_by holders k) ≡ true
   pub pinned : (f h : ℕ) → home_at seats f ≡ Some h → pins_in (seat seats f) ≡ count_by (is_among h) holders
-
--- the page of a home may leave its frame
-pub record MayLeave (seats : Seats) (queue : List Transfer) (f h : ℕ) : Type 0 where
-  pub given : home_at seats f ≡ Some h
-  pub unpinned : pins_in (seat seats f) ≡ 0
-  pub idle : transfer_of f queue ≡ None
-
--- the first of the frames from one on with the least age, and this age
-abbrev pub earlier : ℕ → Option ℕ → Option (ℕ × ℕ) → Option (ℕ × ℕ)
-earlier n None best = best
-earlier n (Some age) None = Some (n, age)
-earlier n (Some age) (Some best) = if nat_le age best.1 then Some (n, age) else Some best
-
-unfoldable pub least_from : ℕ → Seats → Option (ℕ × ℕ)
-least_from n [] = None
-least_from n (s ∷ seats) = earlier n (leaving s) (least_from (suc n) seats)
-
--- the frame whose page goes next
-abbrev pub victim_of : Seats → Option ℕ
-victim_of seats = option_map (λ best. best.0) (least_from 0 seats)
 
 -- how many forks may have their pages in so many frames
 abbrev pub members_of : ℕ → ℕ

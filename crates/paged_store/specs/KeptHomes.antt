@@ -9,9 +9,9 @@ use Rattle.drum_queue.specs.declared.transfer.Transfer.{Transfer}
 use Rattle.drum_queue.specs.Transfers.{transfer_of}
 use Rattle.paged_store.specs.UntoldNeeds.{Needs}
 use Rattle.paged_store.specs.HeldHomes.{held_by}
-use Rattle.paged_store.specs.Resident.{Seats, seat, home_at, frame_for, pins_in, IsSingle, SeatsStay, IsGivenTo, IsTakenFrom, IsRepinned}
+use Rattle.page_residence.specs.Resident.{Seats, seat, home_at, frame_for, pins_in, IsSingle, SeatsStay, IsGivenTo, IsTakenFrom, IsRepinned}
 use Rattle.paged_store.specs.Keeping.{is_among, is_distinct, is_still, still_in, IsKept}
-use Rattle.paged_store.specs.Seating.{frame_has, frame_is, frame_alike, seat_same, seat_other, home_below}
+use Rattle.page_residence.proofs.Seating.{frame_has, frame_is, frame_alike, seat_same, seat_other, home_below}
 
 -- a home that is among those that are held for somebody is counted
 pub among_counts : (holders : List (List ℕ)) (k h : ℕ) → is_among h (held_by holders k) ≡ true → 0 < count_by (is_among h) holders

@@ -1,16 +1,8 @@
 pub mod TakenHomes
 pub mod UntoldNeeds
 pub mod HeldHomes
-pub mod Resident
-pub mod Seating
-pub mod Agreeing
-pub mod Queues
 pub mod Keeping
 pub mod KeptHomes
-pub mod Leaving
-pub mod Aging
-pub mod Placing
-pub mod Meant
 pub mod StoreMeaning
 pub mod StoreSteps
 pub mod StoreSound

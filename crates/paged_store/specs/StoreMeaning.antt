@@ -3,8 +3,9 @@ use Rattle.std.specs.Prelude.{List, map, length, false, count_by, is_none}
 use Rattle.page_contracts.specs.Stores.{StoreMeaning, HomePlace}
 use Rattle.paged_store.specs.declared.store.PagedStore.{PagedStore}
 use Rattle.paged_store.specs.HeldHomes.{held_by}
-use Rattle.paged_store.specs.Keeping.{members_of, victim_of}
-use Rattle.paged_store.specs.Resident.{age_at, found_at, framed, meant, places, tenant_at}
+use Rattle.page_residence.specs.Victims.{victim_of}
+use Rattle.paged_store.specs.Keeping.{members_of}
+use Rattle.page_residence.specs.Resident.{age_at, found_at, framed, meant, places, tenant_at}
 
 -- where the page of each home is
 abbrev pub homes_of : PagedStore → List HomePlace

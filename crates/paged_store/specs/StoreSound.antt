@@ -13,15 +13,16 @@ use Rattle.drum_queue.specs.declared.transfer.Transfer.{Transfer}
 use Rattle.drum_queue.specs.Transfers.{transfer_of, writes}
 use Rattle.paged_store.specs.declared.store.PagedStore.{PagedStore}
 use Rattle.paged_store.specs.HeldHomes.{held_by}
-use Rattle.paged_store.specs.Keeping.{MayLeave, is_among, victim_of}
-use Rattle.paged_store.specs.Resident.{Seats, seat, home_at, frame_for, framed, found_at, page_in, pins_in, is_moving, age_in, reads}
-use Rattle.paged_store.specs.Seating.{frame_has}
-use Rattle.paged_store.specs.Agreeing.{Agrees, agrees}
+use Rattle.page_residence.specs.Victims.{MayLeave, victim_of}
+use Rattle.paged_store.specs.Keeping.{is_among}
+use Rattle.page_residence.specs.Resident.{Seats, seat, home_at, frame_for, framed, found_at, page_in, pins_in, is_moving, age_in, reads}
+use Rattle.page_residence.proofs.Seating.{frame_has}
+use Rattle.page_residence.proofs.Agreeing.{Agrees, agrees}
 use Rattle.paged_store.specs.KeptHomes.{contains_among, among_contains, still_frame, none_counted, uncounted}
-use Rattle.paged_store.specs.Leaving.{victim_goes, victim_least, victim_first, none_goes, leaves_at}
-use Rattle.paged_store.specs.Meant.{arrivals, departures, moving_of, no_arrivals, no_departures, not_moving, goes_parts, parts_go}
-use Rattle.paged_store.specs.Placing.{places_length, place_at, place_taken, here_at, shown_in, reading_in, finds, found_frame, IsHereIn}
-use Rattle.paged_store.specs.Aging.{tenant_shown, tenant_given, age_shown}
+use Rattle.page_residence.proofs.Leaving.{victim_goes, victim_least, victim_first, none_goes, leaves_at}
+use Rattle.page_residence.proofs.Meant.{arrivals, departures, moving_of, no_arrivals, no_departures, not_moving, goes_parts, parts_go}
+use Rattle.page_residence.proofs.Placing.{places_length, place_at, place_taken, here_at, shown_in, reading_in, finds, found_frame, IsHereIn}
+use Rattle.page_residence.proofs.Aging.{tenant_shown, tenant_given, age_shown}
 use Rattle.paged_store.specs.StoreMeaning.{paged_meaning}
 
 pub none_is : (o : Option Transfer) → is_some o ≡ false → o ≡ None
@@ -129,18 +130,18 @@ module _ (s : PagedStore) where
   finds_are : (h : ℕ) → is_some (found_at s.core.frames.seats s.core.queue.queued h) ≡ is_here (place (paged_meaning.homes s) h)
   finds_are h = at (frame_for s.core.frames.seats h) refl
     where
-      placed_away : (b : Bool) → false ≡ is_here (Rattle.paged_store.specs.Resident.placed b away)
+      placed_away : (b : Bool) → false ≡ is_here (Rattle.page_residence.specs.Resident.placed b away)
       placed_away true = refl
       placed_away false = refl
 
       at : (o : Option ℕ) → frame_for s.core.frames.seats h ≡ o → is_some (found_at s.core.frames.seats s.core.queue.queued h) ≡ is_here (place (paged_meaning.homes s) h)
       at None is =
-          let gone = Rattle.paged_store.specs.Placing.gone_in s.core.frames.seats s.core.frames.words s.core.queue.queued h is in
+          let gone = Rattle.page_residence.proofs.Placing.gone_in s.core.frames.seats s.core.frames.words s.core.queue.queued h is in
           finds s.core.frames.seats s.core.frames.words s.core.queue.queued h ∙ ap is_here gone ∙ placed_away (get_or s.homes h false)
-          ∙ sym (ap is_here (place_at s.homes (framed s.core.frames.seats s.core.frames.words s.core.queue.queued) h ∙ ap (λ (p : HomePlace). Rattle.paged_store.specs.Resident.placed (get_or s.homes h false) p) gone))
+          ∙ sym (ap is_here (place_at s.homes (framed s.core.frames.seats s.core.frames.words s.core.queue.queued) h ∙ ap (λ (p : HomePlace). Rattle.page_residence.specs.Resident.placed (get_or s.homes h false) p) gone))
       at (Some f) is = finds s.core.frames.seats s.core.frames.words s.core.queue.queued h ∙ ap is_here (sym (at_frame h f (frame_has s.core.frames.seats h f is)))
 
-  comes_away : (h : ℕ) → list_any (arrives h) (map Rattle.paged_store.specs.Resident.meant s.core.queue.queued) ≡ true → place (paged_meaning.homes s) h ≡ away
+  comes_away : (h : ℕ) → list_any (arrives h) (map Rattle.page_residence.specs.Resident.meant s.core.queue.queued) ≡ true → place (paged_meaning.homes s) h ≡ away
   comes_away h some = at (frame_for s.core.frames.seats h) refl
     where
       at : (o : Option ℕ) → frame_for s.core.frames.seats h ≡ o → place (paged_meaning.homes s) h ≡ away
@@ -149,7 +150,7 @@ module _ (s : PagedStore) where
           let given = frame_has s.core.frames.seats h f is in
           at_frame h f given ∙ reading_in s.core.frames.seats s.core.frames.words s.core.queue.queued h f is (sym (arrivals s.core.frames s.core.queue r h f given).any ∙ some)
 
-  goes_here : (h : ℕ) → list_any (departs h) (map Rattle.paged_store.specs.Resident.meant s.core.queue.queued) ≡ true → is_here (place (paged_meaning.homes s) h) ≡ true
+  goes_here : (h : ℕ) → list_any (departs h) (map Rattle.page_residence.specs.Resident.meant s.core.queue.queued) ≡ true → is_here (place (paged_meaning.homes s) h) ≡ true
   goes_here h some = at (frame_for s.core.frames.seats h) refl
     where
       at : (o : Option ℕ) → frame_for s.core.frames.seats h ≡ o → is_here (place (paged_meaning.homes s) h) ≡ true
@@ -159,10 +160,10 @@ module _ (s : PagedStore) where
           ap is_here (at_frame h f given ∙ shown_in s.core.frames.seats s.core.frames.words s.core.queue.queued h f is
           (writes_only (transfer_of f s.core.queue.queued) (sym (departures s.core.frames s.core.queue r h f given).any ∙ some)))
 
-  few_of : (h : ℕ) → count_by (moves h) (map Rattle.paged_store.specs.Resident.meant s.core.queue.queued) ≤ 1
+  few_of : (h : ℕ) → count_by (moves h) (map Rattle.page_residence.specs.Resident.meant s.core.queue.queued) ≤ 1
   few_of h = at (frame_for s.core.frames.seats h) refl
     where
-      at : (o : Option ℕ) → frame_for s.core.frames.seats h ≡ o → count_by (moves h) (map Rattle.paged_store.specs.Resident.meant s.core.queue.queued) ≤ 1
+      at : (o : Option ℕ) → frame_for s.core.frames.seats h ≡ o → count_by (moves h) (map Rattle.page_residence.specs.Resident.meant s.core.queue.queued) ≤ 1
       at None is = let none = (not_moving s.core.frames s.core.queue r h is).count in omega (arith, none)
       at (Some f) is = (moving_of s.core.frames s.core.queue r h f (frame_has s.core.frames.seats h f is)).few
 
@@ -171,7 +172,7 @@ module _ (s : PagedStore) where
       let still = still_frame s.core.frames.seats s.core.queue.queued h (s.kept.held k h (contains_among (held_by s.holders k) h there)) in
       ap is_here (at_frame h still.frame still.given ∙ shown_in s.core.frames.seats s.core.frames.words s.core.queue.queued h still.frame still.is (ap reads still.idle))
 
-  held_still : (k h : ℕ) → Contains (held_by s.holders k) h → list_any (moves h) (map Rattle.paged_store.specs.Resident.meant s.core.queue.queued) ≡ false
+  held_still : (k h : ℕ) → Contains (held_by s.holders k) h → list_any (moves h) (map Rattle.page_residence.specs.Resident.meant s.core.queue.queued) ≡ false
   held_still k h there =
       let still = still_frame s.core.frames.seats s.core.queue.queued h (s.kept.held k h (contains_among (held_by s.holders k) h there)) in
       (moving_of s.core.frames s.core.queue r h still.frame still.given).any ∙ ap is_some still.idle

@@ -5,7 +5,7 @@ use Rattle.page_contracts.specs.Stores as meaning
 use Rattle.drum_queue.specs.Transfers.{transfer_of}
 use Rattle.paged_store.specs.declared.store.PagedStore.{PagedStore}
 use Rattle.paged_store.specs.HeldHomes.{held_by}
-use Rattle.paged_store.specs.Resident.{Seats, AgesStay, home_at, reads}
+use Rattle.page_residence.specs.Resident.{Seats, AgesStay, home_at, reads}
 
 -- each frame keeps its home
 pub record SeatsRest (old new : Seats) : Type 0 where

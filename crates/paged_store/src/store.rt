@@ -6,17 +6,18 @@ ghost use Rattle.page_contracts.specs.declared.answers.Need.{Need};
 ghost use Rattle.drum_queue.specs.Transfers.{transfer_of, without, writes};
 ghost use Rattle.drum_queue.specs.declared.transfer.Transfer.{Transfer};
 ghost use Rattle.paged_store.specs.HeldHomes.{held_by};
-ghost use Rattle.paged_store.specs.Keeping.{IsKept, MayLeave, is_among, members_of, victim_of};
-ghost use Rattle.paged_store.specs.Resident.{home_at, meant};
+ghost use Rattle.page_residence.specs.Victims.{MayLeave, victim_of};
+ghost use Rattle.paged_store.specs.Keeping.{IsKept, is_among, members_of};
+ghost use Rattle.page_residence.specs.Resident.{home_at, meant};
 
 use crate::holders::Holders;
 use crate::homes::Homes;
-use crate::residence::Residence;
 use crate::untold::Untold;
 use drum_queue::Transfer;
 use outside::{Drum, Memory, PAGE_WORDS};
 use page_contracts::{Completed, Found, MOST_HOLDERS, Need, Room, Store};
 use page_homes::{FrameId, Home, MOST_HOMES};
+use page_residence::Residence;
 use std::alloc::Global;
 use word36::Word;
 
@@ -42,7 +43,7 @@ impl PagedStore {
     ghost use Rattle.std.specs.Prelude.{map};
     ghost use Rattle.std.specs.Option.{option_map_or};
     ghost use Rattle.page_contracts.specs.Stores.{IsFetched, away, awaited, meeting, place};
-    ghost use Rattle.paged_store.specs.Resident.{IsRenewed, IsTakenFrom};
+    ghost use Rattle.page_residence.specs.Resident.{IsRenewed, IsTakenFrom};
     ghost use Rattle.paged_store.specs.StoreMeaning.{paged_meaning};
     ghost use Rattle.paged_store.specs.StoreSteps.{HasReleased, IsAtRest, IsInPlace, all_but, departing};
 

@@ -6,15 +6,15 @@ use Rattle.page_contracts.specs.declared.answers.Need.TheVariants.{Page}
 use Rattle.page_contracts.specs.Stores.{awaited, begins}
 use Rattle.drum_queue.specs.declared.transfer.Transfer.TheVariants.{Read}
 use Rattle.drum_queue.specs.Transfers.{transfer_of}
-use Rattle.paged_store.specs.declared.residence.Residence.{Residence}
+use Rattle.page_residence.specs.declared.residence.Residence.{Residence}
 use Rattle.paged_store.specs.UntoldNeeds.{Needs}
-use Rattle.paged_store.specs.Keeping.{victim_of}
-use Rattle.paged_store.specs.Resident.{Seats, frame_for, meant, reads}
+use Rattle.page_residence.specs.Victims.{victim_of}
+use Rattle.page_residence.specs.Resident.{Seats, frame_for, meant, reads}
 use Rattle.paged_store.specs.StoreSteps.{departing}
 use Rattle.paged_store.proofs.Taking.{flag_below}
 use Rattle.paged_store.proofs.Fetching.{away_taken, joins_at, begins_at, waits_at, given_spare, expected_homes, expected_found, kept_expected, read_own, read_other}
 use Rattle.paged_store.proofs.Fetched.{fetched_at, fetched_same, fetched_waits, rest_moved}
-use Rattle.paged_store.proofs.Renewing.{ages_begun}
+use Rattle.page_residence.proofs.Renewing.{ages_begun}
 use Rattle.paged_store.proofs.store.PagedStore.fetch_page.Goals as goal
 
 pub returns-in-Some-clause-answer : goal.returns-in-Some-clause-answer

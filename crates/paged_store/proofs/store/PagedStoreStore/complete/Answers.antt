@@ -7,26 +7,26 @@ use Rattle.page_contracts.specs.Stores as meaning
 use Rattle.drum_queue.specs.declared.transfer.Transfer.{Transfer}
 use Rattle.drum_queue.specs.declared.transfer.Transfer.TheVariants.{Read, Write}
 use Rattle.paged_store.specs.declared.store.PagedStore.{PagedStore}
-use Rattle.paged_store.specs.Resident.{home_at, page_in, framed, IsRenewed}
-use Rattle.paged_store.specs.Agreeing.{agrees}
-use Rattle.paged_store.specs.Placing.{places_length, taken_all}
+use Rattle.page_residence.specs.Resident.{home_at, page_in, framed, IsRenewed}
+use Rattle.page_residence.proofs.Agreeing.{agrees}
+use Rattle.page_residence.proofs.Placing.{places_length, taken_all}
 use Rattle.paged_store.specs.StoreMeaning.{homes_of}
 use Rattle.paged_store.specs.StoreSound.{marked}
 use Rattle.paged_store.proofs.Taking.{flag_below}
-use Rattle.paged_store.proofs.Steps.{oldest_home, oldest_is}
+use Rattle.page_residence.proofs.Steps.{oldest_home, oldest_is}
 use Rattle.paged_store.proofs.Ending.{HasArrived, HasDeparted, head_meant, homes_in, arrived, departed, unread, kept_arrived, kept_departed, moved_unpinned}
 use Rattle.paged_store.proofs.Completing.{content_read, content_written, fits_read, fits_written, taken_stays, told_words}
 use Rattle.paged_store.proofs.Resting.{stored_same}
 use Rattle.paged_store.proofs.store.PagedStoreStore.complete.Goals as goal
 
 -- the home of the oldest transfer is taken
-home_taken : (s : PagedStore) (t : Transfer) → slice_get s.core.queue.queued 0 ≡ Some t → get_or s.homes (Rattle.paged_store.specs.Resident.home_of t) false ≡ true
+home_taken : (s : PagedStore) (t : Transfer) → slice_get s.core.queue.queued 0 ≡ Some t → get_or s.homes (Rattle.page_residence.specs.Resident.home_of t) false ≡ true
 home_taken s t first =
-    marked s (Rattle.drum_queue.specs.Transfers.frame_of t) (Rattle.paged_store.specs.Resident.home_of t) (oldest_home s.core.frames s.core.queue t (agrees s.core.frames s.core.queue s.core.resident) first)
+    marked s (Rattle.drum_queue.specs.Transfers.frame_of t) (Rattle.page_residence.specs.Resident.home_of t) (oldest_home s.core.frames s.core.queue t (agrees s.core.frames s.core.queue s.core.resident) first)
 
-home_within : (s : PagedStore) (t : Transfer) → slice_get s.core.queue.queued 0 ≡ Some t → Rattle.paged_store.specs.Resident.home_of t < length (homes_of s)
+home_within : (s : PagedStore) (t : Transfer) → slice_get s.core.queue.queued 0 ≡ Some t → Rattle.page_residence.specs.Resident.home_of t < length (homes_of s)
 home_within s t first =
-    let below = flag_below s.homes (Rattle.paged_store.specs.Resident.home_of t) (home_taken s t first) in
+    let below = flag_below s.homes (Rattle.page_residence.specs.Resident.home_of t) (home_taken s t first) in
     omega (arith, below, places_length s.homes (framed s.core.frames.seats s.core.frames.words s.core.queue.queued))
 
 pub arrive-requires-clause-page : goal.arrive-requires-clause-page
@@ -82,13 +82,13 @@ returns-in-None-clause-ends g c =
       size = refl;
     }
   where
-    none_meant : (q : List Transfer) → slice_get q 0 ≡ None → map Rattle.paged_store.specs.Resident.meant q ≡ []
+    none_meant : (q : List Transfer) → slice_get q 0 ≡ None → map Rattle.page_residence.specs.Resident.meant q ≡ []
     none_meant [] e = refl
     none_meant (t ∷ ts) e = absurd cc
 
 -- the page that has come in, from what the call says
-arrival : (s : PagedStore) (n : Rattle.paged_store.specs.declared.residence.Residence.Residence) (f : Rattle.page_homes.specs.declared.homes.FrameId.FrameId) (h : Rattle.page_homes.specs.declared.homes.Home.Home)
-    → slice_get s.core.queue.queued 0 ≡ Some (Read f h) → Rattle.paged_store.specs.Resident.SeatsStay s.core.frames.seats n.frames.seats → IsRenewed f.0 s.core.frames.seats n.frames.seats → (x : (ws : List ℕ) × (n.frames.words ≡ set s.core.frames.words f.0 ws))
+arrival : (s : PagedStore) (n : Rattle.page_residence.specs.declared.residence.Residence.Residence) (f : Rattle.page_homes.specs.declared.homes.FrameId.FrameId) (h : Rattle.page_homes.specs.declared.homes.Home.Home)
+    → slice_get s.core.queue.queued 0 ≡ Some (Read f h) → Rattle.page_residence.specs.Resident.SeatsStay s.core.frames.seats n.frames.seats → IsRenewed f.0 s.core.frames.seats n.frames.seats → (x : (ws : List ℕ) × (n.frames.words ≡ set s.core.frames.words f.0 ws))
     → n.queue.queued ≡ Rattle.std.proofs.Common.drop 1 s.core.queue.queued → HasArrived s.homes s.core n f.0 h.0
 arrival s n f h first stays renewed words queue = arrived s.homes s.core n f h first (home_taken s (Read f h) first) stays renewed words.0 words.1 queue
 
@@ -102,7 +102,7 @@ returns-in-Ok-clause-ends g c =
     let a = arrival s c.arrive.new.self c.in-Some-Read.f c.in-Some-Read.home first c.in-Ok.ensures.seats c.in-Ok.ensures.renews c.in-Ok.ensures.words c.in-Ok.ensures.queue in
     let at = arrived_here (homes_of s) (homes_in s.homes c.arrive.new.self) c.in-Some-Read.home.0 (here (page_in c.arrive.new.self.frames.words c.in-Some-Read.f.0)) a.homes (home_within s (Read c.in-Some-Read.f c.in-Some-Read.home) first) in
     record {
-      nothing = (λ e. absurd cc, λ e. (let no : meaning.arrival c.in-Some-Read.home.0 ∷ map Rattle.paged_store.specs.Resident.meant c.arrive.new.self.queue.queued ≡ [] = sym a.oldest ∙ e in absurd cc));
+      nothing = (λ e. absurd cc, λ e. (let no : meaning.arrival c.in-Some-Read.home.0 ∷ map Rattle.page_residence.specs.Resident.meant c.arrive.new.self.queue.queued ≡ [] = sym a.oldest ∙ e in absurd cc));
       same = λ e. absurd cc;
       done = λ need e.
           let told : Page c.in-Some-Read.home ≡ need = cc in
@@ -147,8 +147,8 @@ returns-in-Ok-clause-content g c d stands fits no_fault =
           (home_within s (Read c.in-Some-Read.f c.in-Some-Read.home) first),
     )
 
-departure : (s : PagedStore) (n : Rattle.paged_store.specs.declared.residence.Residence.Residence) (f : Rattle.page_homes.specs.declared.homes.FrameId.FrameId) (h : Rattle.page_homes.specs.declared.homes.Home.Home)
-    → slice_get s.core.queue.queued 0 ≡ Some (Write f h) → Rattle.paged_store.specs.Resident.IsTakenFrom h.0 f.0 s.core.frames.seats n.frames.seats → n.frames.words ≡ s.core.frames.words
+departure : (s : PagedStore) (n : Rattle.page_residence.specs.declared.residence.Residence.Residence) (f : Rattle.page_homes.specs.declared.homes.FrameId.FrameId) (h : Rattle.page_homes.specs.declared.homes.Home.Home)
+    → slice_get s.core.queue.queued 0 ≡ Some (Write f h) → Rattle.page_residence.specs.Resident.IsTakenFrom h.0 f.0 s.core.frames.seats n.frames.seats → n.frames.words ≡ s.core.frames.words
     → n.queue.queued ≡ Rattle.std.proofs.Common.drop 1 s.core.queue.queued → HasDeparted s.homes s.core n f.0 h.0
 departure s n f h first from words queue = departed s.homes s.core n f h first (home_taken s (Write f h) first) from words queue
 
@@ -159,7 +159,7 @@ returns-in-Ok-depart-clause-ends g c =
     let a = departure s c.depart.new.self c.in-Some-Write.f c.in-Some-Write.home first c.in-Ok-depart.ensures.taken c.in-Ok-depart.ensures.words c.in-Ok-depart.ensures.queue in
     let at = arrived_here (homes_of s) (homes_in s.homes c.depart.new.self) c.in-Some-Write.home.0 away a.homes (home_within s (Write c.in-Some-Write.f c.in-Some-Write.home) first) in
     record {
-      nothing = (λ e. absurd cc, λ e. (let no : meaning.departure c.in-Some-Write.home.0 ∷ map Rattle.paged_store.specs.Resident.meant c.depart.new.self.queue.queued ≡ [] = sym a.oldest ∙ e in absurd cc));
+      nothing = (λ e. absurd cc, λ e. (let no : meaning.departure c.in-Some-Write.home.0 ∷ map Rattle.page_residence.specs.Resident.meant c.depart.new.self.queue.queued ≡ [] = sym a.oldest ∙ e in absurd cc));
       same = λ e. absurd cc;
       done = λ need e.
           let told : Frame ≡ need = cc in
@@ -172,7 +172,7 @@ returns-in-Ok-depart-clause-ends g c =
             spare = a.spare;
             untold = refl;
             holds = refl;
-            members = ap Rattle.paged_store.specs.Keeping.members_of (ap (λ (ss : Rattle.paged_store.specs.Resident.Seats). length ss) c.in-Ok-depart.ensures.taken.seats ∙ Rattle.std.proofs.lemmas.List.length-set _ _ _);
+            members = ap Rattle.paged_store.specs.Keeping.members_of (ap (λ (ss : Rattle.page_residence.specs.Resident.Seats). length ss) c.in-Ok-depart.ensures.taken.seats ∙ Rattle.std.proofs.lemmas.List.length-set _ _ _);
             came = λ is. absurd (false≢true is);
             went = λ is. a.went;
           };
@@ -212,7 +212,7 @@ returns-in-Err-clause-ends g c =
     let head = head_meant s.core.queue.queued (Read c.in-Some-Read.f c.in-Some-Read.home) first in
     let e = c.in-Err.ensures in
     record {
-      nothing = (λ is. absurd cc, λ is. (let no : meaning.arrival c.in-Some-Read.home.0 ∷ map Rattle.paged_store.specs.Resident.meant (Rattle.std.proofs.Common.drop 1 s.core.queue.queued) ≡ [] = sym head ∙ is in absurd cc));
+      nothing = (λ is. absurd cc, λ is. (let no : meaning.arrival c.in-Some-Read.home.0 ∷ map Rattle.page_residence.specs.Resident.meant (Rattle.std.proofs.Common.drop 1 s.core.queue.queued) ≡ [] = sym head ∙ is in absurd cc));
       same = λ is. absurd cc;
       done = λ need is. absurd cc;
       cause = λ is. e.cause;

@@ -2,9 +2,9 @@ use Rattle.std.proofs.Common.{◌≡◌, ◌∙◌, ℕ, List, Some, true, refl,
 use Rattle.page_contracts.specs.declared.answers.Found.{Found}
 use Rattle.page_contracts.specs.Stores.{here, free_homes, is_here, place}
 use Rattle.paged_store.specs.declared.store.PagedStore.{PagedStore}
-use Rattle.paged_store.specs.Resident.{found_at, page_in}
-use Rattle.paged_store.specs.Placing.{found_frame}
-use Rattle.paged_store.specs.Seating.{frame_has}
+use Rattle.page_residence.specs.Resident.{found_at, page_in}
+use Rattle.page_residence.proofs.Placing.{found_frame}
+use Rattle.page_residence.proofs.Seating.{frame_has}
 use Rattle.paged_store.proofs.Using.{shown_words, has_words, no_here}
 use Rattle.std.proofs.lemmas.Bool.{false≢true}
 use Rattle.paged_store.specs.StoreMeaning.{homes_of}

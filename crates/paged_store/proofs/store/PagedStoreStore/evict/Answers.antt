@@ -4,8 +4,8 @@ use Rattle.page_contracts.specs.Stores as meaning
 use Rattle.drum_queue.specs.declared.transfer.Transfer.TheVariants.{Write}
 use Rattle.paged_store.specs.UntoldNeeds.{Needs}
 use Rattle.paged_store.specs.HeldHomes.{held_by}
-use Rattle.paged_store.specs.Resident.{meant}
-use Rattle.paged_store.specs.Aging.{tenant_given}
+use Rattle.page_residence.specs.Resident.{meant}
+use Rattle.page_residence.proofs.Aging.{tenant_given}
 use Rattle.paged_store.specs.StoreSound.{may_can, can_may}
 use Rattle.paged_store.proofs.Resting.{stays_there, rest_same}
 use Rattle.paged_store.proofs.store.PagedStoreStore.evict.Goals as goal

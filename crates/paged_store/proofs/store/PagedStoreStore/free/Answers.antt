@@ -4,9 +4,9 @@ use Rattle.paged_store.specs.declared.store.PagedStore.{PagedStore}
 use Rattle.paged_store.specs.HeldHomes.{held_by}
 use Rattle.paged_store.specs.Keeping.{IsKept, is_among}
 use Rattle.paged_store.specs.KeptHomes.{others_none}
-use Rattle.paged_store.specs.Placing.{taken_at}
-use Rattle.paged_store.specs.Resident.{frame_for}
-use Rattle.paged_store.specs.Seating.{frame_has}
+use Rattle.page_residence.proofs.Placing.{taken_at}
+use Rattle.page_residence.specs.Resident.{frame_for}
+use Rattle.page_residence.proofs.Seating.{frame_has}
 use Rattle.paged_store.specs.StoreMeaning.{homes_of}
 use Rattle.paged_store.proofs.Vacating.{freed_by, freed_away, freed_frame, kept_freed, gone_after}
 use Rattle.paged_store.proofs.store.PagedStoreStore.free.Goals as goal
