@@ -303,9 +303,20 @@ impl Residence {
         ensures size { D.size drum.new ≡ D.size drum.old }
     {
         write_from(&mut self.frames, f, home.0, drum)?;
+        self.leave(f, home);
+        Ok(())
+    }
+
+    // The page of the oldest transfer, which is a write that has ended, leaves its frame.
+    fn leave(&mut self, f: FrameId, home: Home)
+        requires oldest { slice_get self.old.queue.queued 0 ≡ Some (Transfer.Write f home) }
+        requires unpinned { pins_in (seat self.old.frames.seats f.0) ≡ 0 }
+        ensures taken { IsTakenFrom home.0 f.0 self.old.frames.seats self.new.frames.seats }
+        ensures words { self.new.frames.words ≡ self.old.frames.words }
+        ensures queue { self.new.queue.queued ≡ drop 1 self.old.queue.queued }
+    {
         self.queue.finish();
         self.frames.free(f);
-        Ok(())
     }
 
     /// Makes a frame free, with its transfer, which is answered. Nobody has pinned it.

@@ -1,8 +1,8 @@
 use Rattle.std.proofs.Common.{ap, rules}
 use Rattle.drum_queue.specs.declared.transfer.Transfer.TheVariants.{Write}
 use Rattle.page_residence.specs.Resident.{reads}
-use Rattle.page_residence.proofs.Agreeing.{agrees, resides}
-use Rattle.page_residence.proofs.Steps.{resident_departed, oldest_home, oldest_is, home_taken}
+use Rattle.page_residence.proofs.Agreeing.{agrees}
+use Rattle.page_residence.proofs.Steps.{oldest_home, oldest_is, home_taken}
 use Rattle.page_residence.proofs.residence.Residence.depart.Goals as goal
 
 pub write_from-requires-clause-taken : goal.write_from-requires-clause-taken
@@ -18,11 +18,3 @@ write_from-requires-clause-words g c =
     let r = agrees s.frames s.queue s.resident in
     let has = oldest_home s.frames s.queue (Write c.args.f c.args.home) r c.requires.oldest in
     s.resident.pages c.args.f.0 c.args.home.0 has (ap reads (oldest_is (Write c.args.f c.args.home) s.queue.queued r.once c.requires.oldest).own)
-
-pub invariant_of-self-2 : goal.invariant_of-self-2
-invariant_of-self-2 g c =
-    let s = c.args.self.now in
-    record {
-      resident = rw (c.free.ensures, c.write_from.ensures.frames, c.finish.ensures)
-          (resides _ _ (resident_departed s.frames s.queue c.args.f c.args.home (agrees s.frames s.queue s.resident) c.requires.oldest));
-    }
