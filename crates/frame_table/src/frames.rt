@@ -1,5 +1,5 @@
 // The frames of core.
-ghost use Rattle.std.specs.Prelude.{◌≡◌, ◌+◌, ◌-◌, ◌<◌, ◌≤◌, Some, None, IsSome, IfOk, IfSome, ℕ, MatchOption, false, is_none, count_by, length, replicate, slice_index};
+ghost use Rattle.std.specs.Prelude.{◌≡◌, ◌+◌, ◌-◌, ◌<◌, ◌≤◌, Some, None, IsSome, IfOk, IfSome, ℕ, MatchOption, false, is_none, count_by, length, replicate, slice_index, slice_set};
 ghost use Rattle.std.specs.Borrow.{Array, Lends, sem, u64 as number};
 ghost use Rattle.machine_names.specs.PageWords.{zero_words};
 ghost use Rattle.frame_table.specs.Core.{AreAllTaken, IsAway, IsCore, IsLeastFree, IsVictim, age_of, can_leave, holds_of, home_in, is_held, is_moving, pins_of, seat_of, used, with_page, with_tenant, with_words, without_page, words_of};
@@ -117,7 +117,7 @@ impl Frames {
         }
     }
 
-    /// How many pins a frame has, at most 63.
+    /// How many pins a frame has, at most 64.
     pub fn pins(&self, f: FrameId) -> u8
         requires { f.0 < length self.now.seats }
         ensures { result ≡ pins_of self.now f.0 }
@@ -146,6 +146,14 @@ impl Frames {
         ensures { result ≡ slice_index (words_of self.now f.0) at }
     {
         self.pages[f.0 as usize][at as usize]
+    }
+
+    /// The words of a frame that is taken.
+    pub fn page(&self, f: FrameId) -> [u64; PAGE_WORDS]
+        requires { IsSome (seat_of self.now f.0) }
+        ensures { result ≡ words_of self.now f.0 }
+    {
+        self.pages[f.0 as usize]
     }
 
     // What takes a frame.
@@ -197,7 +205,7 @@ impl Frames {
         self.reseat(f, Tenant { holds, ..tenant });
     }
 
-    /// Pins a frame that is taken. It has fewer than 63 pins.
+    /// Pins a frame that is taken. It has fewer than 64 pins.
     pub fn pin(&mut self, f: FrameId)
         requires taken { IsSome (seat_of self.old f.0) }
         requires few { pins_of self.old f.0 < MOST_PINS }
@@ -251,6 +259,17 @@ impl Frames {
         &mut self.pages[hold.frame().0 as usize]
     }
 
+    /// Puts a word into a frame that is taken. All else stays.
+    #[inline(always)]
+    pub fn put(&mut self, f: FrameId, at: u16, word: u64)
+        requires taken { IsSome (seat_of self.old f.0) }
+        requires at { at < PAGE_WORDS }
+        ensures { self.new ≡ with_words self.old f.0 (slice_set (words_of self.old f.0) at word) }
+    {
+        let page = &mut self.pages[f.0 as usize];
+        page[at as usize] = word;
+    }
+
     /// The frame whose page goes next: of those that are taken, and neither held nor in transfer, the
     /// one of least age, then least number. None exactly where every frame is held, free or in
     /// transfer.
@@ -263,7 +282,8 @@ impl Frames {
 
     // The free frame of least number. None exactly where all are taken.
     fn least_free(&self) -> Option<FrameId>
-        ensures { MatchOption result (AreAllTaken self.now) (λ f. IsLeastFree self.now f.0) }
+        ensures frame { MatchOption result (AreAllTaken self.now) (λ f. IsLeastFree self.now f.0) }
+        ensures whole { IsCore self.now }
     {
         let f = self.taken.least_absent(0)?;
         Some(FrameId(f as u32))
@@ -277,6 +297,7 @@ impl Frames {
         ensures frame { MatchOption result (AreAllTaken self.old) (λ f. IsLeastFree self.old f.0) }
         ensures full { result ≡ None → self.new ≡ self.old }
         ensures assigned { IfSome result (λ f. self.new ≡ with_page self.old f.0 home) }
+        ensures whole { IsCore self.old }
     {
         let f = self.least_free()?;
         self.seat(f, home);
@@ -326,7 +347,8 @@ impl Frames {
     /// stand still. A free frame has no age.
     pub fn touch_age(&mut self, f: FrameId)
         requires { f.0 < length self.old.seats }
-        ensures { self.new ≡ used self.old f.0 }
+        ensures used { self.new ≡ used self.old f.0 }
+        ensures whole { IsCore self.old }
     {
         if let Some(tenant) = self.seats[f.0 as usize] {
             self.renew(f, tenant);
