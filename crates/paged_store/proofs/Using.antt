@@ -118,7 +118,7 @@ used_same s h none = at (frame_for s.core.frames.seats h) refl
         record {
           framed = record { spare = refl; found = refl; tenant = refl; members = refl };
           rescued = used_cancels s s f h given
-        (ap (λ (b : Bool). cond b (without f s.core.queue.queued) s.core.queue.queued) (sym idle)) (ap (λ (b : Bool). cond b (noted Frame s.untold.needs) s.untold.needs) (sym idle));
+              (ap (λ (b : Bool). cond b (without f s.core.queue.queued) s.core.queue.queued) (sym idle)) (ap (λ (b : Bool). cond b (noted Frame s.untold.needs) s.untold.needs) (sym idle));
           holds = refl;
           ages = used_none s h (λ frame has.
               let there = tenant_given s.core.frames.seats s.core.queue.queued frame h has in
