@@ -7,6 +7,7 @@ ghost use Rattle.frame_table.specs.contracts.frames.Frames.{the_row};
 
 use crate::pages::zero_pages;
 use crate::tenant::Tenant;
+use crate::victims::oldest_leaver;
 use crate::{Hold, MOST_PINS};
 use number_map::NumberMap;
 use number_set::NumberSet;
@@ -14,7 +15,6 @@ use outside::{Memory, PAGE_WORDS};
 use page_homes::{FrameId, Home, MOST_HOMES};
 use std::alloc::Global;
 use std::marker::Model;
-use tournament::Tournament;
 
 /// How many holds of a frame are not spent at most.
 pub const MOST_HOLDS: u32 = u32::MAX;
@@ -29,8 +29,6 @@ const HOMES: usize = MOST_HOMES as usize;
 pub struct Frames {
     seats: Vec<Option<Tenant>>,
     pages: Vec<[u64; PAGE_WORDS]>,
-    // The ages of the frames that may give up their page.
-    leaving: Tournament,
     taken: NumberSet,
     homes: NumberMap<FrameId, HOMES>,
     free: u32,
@@ -46,7 +44,7 @@ impl Model for Frames {
 
     ghost view = { λ s. core_of s.seats.items s.pages.items s.uses };
 
-    ghost invariant = { λ s. AreKept (core_of s.seats.items s.pages.items s.uses) s.leaving s.taken s.homes s.free };
+    ghost invariant = { λ s. AreKept (core_of s.seats.items s.pages.items s.uses) s.taken s.homes s.free };
 }
 
 impl Frames {
@@ -57,7 +55,6 @@ impl Frames {
         Ok(Frames {
             seats: vec![in alloc; None; n as usize]?,
             pages: zero_pages(alloc, n)?,
-            leaving: Tournament::boot(alloc, n as usize)?,
             taken: NumberSet::boot(alloc, n as usize)?,
             homes: NumberMap::boot(alloc)?,
             free: n,
@@ -176,7 +173,6 @@ impl Frames {
         ensures { self.new ≡ with_tenant self.old f.0 (λ t. tenant) }
     {
         self.seats[f.0 as usize] = Some(tenant);
-        self.leaving.set(f.0 as usize, tenant.leaving_age());
     }
 
     /// Holds a frame that is taken, until the hold is released. Fewer than 2^32 - 1 holds of it are
@@ -272,12 +268,11 @@ impl Frames {
 
     /// The frame whose page goes next: of those that are taken, and neither held nor in transfer, the
     /// one of least age, then least number. None exactly where every frame is held, free or in
-    /// transfer.
+    /// transfer. It is looked for among all frames, so that a use costs no more than its number.
     pub fn victim(&self) -> Option<FrameId>
         ensures { MatchOption result ((f : ℕ) → can_leave self.now f ≡ false) (λ f. IsVictim self.now f.0) }
     {
-        let f = self.leaving.winner()?;
-        Some(FrameId(f as u32))
+        oldest_leaver(&self.seats)
     }
 
     // The free frame of least number. None exactly where all are taken.
@@ -313,7 +308,6 @@ impl Frames {
     {
         let tenant = Tenant::new(home, self.uses);
         self.seats[f.0 as usize] = Some(tenant);
-        self.leaving.set(f.0 as usize, tenant.leaving_age());
         self.taken.insert(f.0 as usize);
         self.homes.insert(home.0 as usize, f);
         self.free -= 1;
@@ -337,7 +331,6 @@ impl Frames {
         ensures { self.new ≡ without_page self.old f.0 }
     {
         self.seats[f.0 as usize] = None;
-        self.leaving.set(f.0 as usize, None);
         self.taken.remove(f.0 as usize);
         self.homes.remove(home.0 as usize);
         self.free += 1;
@@ -365,7 +358,6 @@ impl Frames {
             ..tenant
         };
         self.seats[f.0 as usize] = Some(renewed);
-        self.leaving.set(f.0 as usize, renewed.leaving_age());
         self.uses = self.uses.saturating_add(1);
     }
 }

@@ -361,6 +361,14 @@ impl Residence {
         }
     }
 
+    /// Whether a frame has a pin.
+    pub fn is_pinned(&self, f: FrameId) -> bool
+        requires { f.0 < length self.now.frames.seats }
+        ensures { result ≡ false → pins_in (seat self.now.frames.seats f.0) ≡ 0 }
+    {
+        self.frames.pins(f) > 0
+    }
+
     /// Pins a frame that is given to a page.
     pub fn pin(&mut self, f: FrameId)
         requires given { IsSome (seat self.old.frames.seats f.0) }

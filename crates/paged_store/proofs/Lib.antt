@@ -12,3 +12,4 @@ pub mod Releasing
 pub mod Holds
 pub mod Vacating
 pub mod Booting
+pub mod Lasting

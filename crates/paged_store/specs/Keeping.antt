@@ -1,9 +1,7 @@
 -- What a store keeps beside its frames: the homes that are taken, and what is held for whom.
-use Rattle.std.specs.Prelude.{◌≡◌, ℕ, suc, ◌-◌, ◌/◌, ◌≤◌, ◌==◌, List, [], ◌∷◌, length, Bool, true, false, not, ◌&&◌, nat_le, Option, None, Some, is_some, count_by, slice_index_or, if◌then◌else◌}
+use Rattle.std.specs.Prelude.{◌≡◌, ℕ, ◌-◌, ◌/◌, ◌≤◌, ◌==◌, List, [], ◌∷◌, length, Bool, true, false, not, ◌&&◌, Option, None, Some, is_some, count_by, slice_index_or}
 use Rattle.std.specs.List.{list_any}
-use Rattle.std.specs.Option.{option_map}
 use Rattle.page_homes.specs.declared.homes.TheConstants.{MOST_HOMES}
-use Rattle.frame_table.specs.Seats.{leaving}
 use Rattle.drum_queue.specs.declared.transfer.Transfer.{Transfer}
 use Rattle.drum_queue.specs.Transfers.{transfer_of}
 use Rattle.paged_store.specs.UntoldNeeds.{Needs}

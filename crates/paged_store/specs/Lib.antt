@@ -6,3 +6,4 @@ pub mod KeptHomes
 pub mod StoreMeaning
 pub mod StoreSteps
 pub mod StoreSound
+pub mod OnePlace

@@ -161,13 +161,26 @@ impl PagedStore {
         }
     }
 
-    // A home isn't held for anybody any more.
+    // Whether a home may be held for somebody: its frame has a pin.
+    fn is_held(&self, home: Home) -> bool
+        ensures { result ≡ false → (k : ℕ) → is_among home.0 (held_by self.now.holders k) ≡ false }
+    {
+        match self.core.frame_of(home) {
+            Some(f) => self.core.is_pinned(f),
+            None => false,
+        }
+    }
+
+    // A home isn't held for anybody any more. No holder is looked at where its frame has no pin.
     fn release_all(&mut self, home: Home)
         ensures rests { IsAtRest self.old self.new }
         ensures queue { self.new.core.queue ≡ self.old.core.queue }
         ensures untold { self.new.untold ≡ self.old.untold }
         ensures holders { (k : ℕ) → held_by self.new.holders k ≡ all_but home.0 (held_by self.old.holders k) }
     {
+        if !self.is_held(home) {
+            return;
+        }
         for holder in 0..MOST_HOLDERS {
             self.release(holder, home);
         }
