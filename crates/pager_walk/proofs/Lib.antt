@@ -1,0 +1,5 @@
+pub mod DecodedWords
+pub mod NumberedMaps
+pub mod MapRows
+pub mod Looking
+pub mod Walking

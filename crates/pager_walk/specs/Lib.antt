@@ -1,0 +1,4 @@
+pub mod Decoding
+pub mod MapPages
+pub mod PagedMaps
+pub mod Walks
