@@ -3,3 +3,4 @@ pub mod NumberedMaps
 pub mod MapRows
 pub mod Looking
 pub mod Walking
+pub mod Changing

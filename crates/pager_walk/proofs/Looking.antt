@@ -39,7 +39,7 @@ taken_map [] h = refl
 taken_map (p ∷ ps) zero = refl
 taken_map (p ∷ ps) (suc h) = taken_map ps h
 
-taken_within : (places : List HomePlace) (h : ℕ) → is_taken (place places h) ≡ true → h < length places
+pub taken_within : (places : List HomePlace) (h : ℕ) → is_taken (place places h) ≡ true → h < length places
 taken_within [] h e = absurd (cc e)
 taken_within (p ∷ ps) zero e = omega arith
 taken_within (p ∷ ps) (suc h) e = omega (arith, taken_within ps h e)

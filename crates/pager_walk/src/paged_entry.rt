@@ -1,15 +1,18 @@
 // Entries of maps that are pages.
-ghost use Rattle.std.specs.Prelude.{◌≡◌, ◌<◌, true, is_some, map};
+ghost use Rattle.std.specs.Prelude.{◌≡◌, ◌<◌, List, Bool, None, IfOk, is_some, map, replicate};
+ghost use Rattle.std.specs.FinMap as fin;
 ghost use Rattle.page_contracts.specs.DrumWords.{DrumWords};
-ghost use Rattle.page_contracts.specs.Stores.{is_taken};
+ghost use Rattle.page_contracts.specs.Stores.{FitsHomes, HomePlace, is_taken};
 ghost use Rattle.pager_walk.specs.Decoding.{pointer_in};
-ghost use Rattle.pager_walk.specs.PagedMaps.{AreRooted, FitsMaps, FollowsWithin, TellsEntry, entry_for, entry_in, look_at, name_at, page_entry, tables_of};
+ghost use Rattle.pager_walk.specs.PagedMaps.{AreRooted, FitsMaps, FollowsWithin, TellsEntry, entry_for, entry_in, look_at, maps_over, name_at, page_entry, tables_of};
 
-use crate::map_pages::{MapPage, map_of, root};
+use crate::map_pages::{MapPage, free_maps, map_of, root};
 use machine_names::{Access, PageName, SPACE_PAGES, Slot};
+use outside::Memory;
 use page_contracts::Store;
 use page_homes::Home;
 use share_table::{Pointer, ShareTable, decode};
+use std::alloc::{AllocError, Global};
 use word36::Word;
 
 /// An entry of a map, as its word and the tables say: nothing; the page of a home; or an entry of the
@@ -49,7 +52,37 @@ fn pointer_of(word: Word) -> Option<Pointer>
     decode(word)
 }
 
+// So many homes, none of whose pages has a name.
+fn no_names(alloc: Global, homes: u32) -> Result<Vec<Option<PageName>>, AllocError>
+    ensures { IfOk result (λ v. v.items ≡ replicate homes None) }
+{
+    let mut names = Vec::with_capacity(alloc, homes as usize)?;
+    for _home in 0..homes {
+        names.push(None)?;
+    }
+    Ok(names)
+}
+
 impl MapTables {
+    /// No map, and no page has a name or is shared; room for so many homes and shares. Each drum with
+    /// enough pages fits, and the plain maps over it are none. Err: no memory.
+    pub fn boot(alloc: Global, homes: u32) -> Result<MapTables, Memory>
+        ensures rooted { IfOk result (λ m. (taken : List Bool) → AreRooted (tables_of m) taken) }
+        ensures fits { IfOk result (λ m. (places : List HomePlace) (d : DrumWords) → FitsHomes places d → FitsMaps (tables_of m) places d) }
+        ensures none { IfOk result (λ m. (places : List HomePlace) (d : DrumWords) → maps_over (tables_of m) places d ≡ fin.empty) }
+        ensures names { IfOk result (λ m. m.names.items ≡ replicate homes None) }
+        ensures shares { IfOk result (λ m. m.shares ≡ record { room = homes; pages = fin.empty }) }
+    {
+        let maps = free_maps(alloc)?;
+        let names = no_names(alloc, homes)?;
+        let shares = ShareTable::boot(alloc, homes)?;
+        Ok(MapTables {
+            maps,
+            names,
+            shares,
+        })
+    }
+
     // Whether the page of a home has a name.
     fn has_name(&self, home: Home) -> bool
         ensures { result ≡ is_some (name_at self.now.names.items home.0) }
