@@ -1,19 +1,17 @@
 -- What a change of a map's page leaves of the plain maps.
-use Rattle.std.proofs.Common.{◌≡◌, ◌≢◌, ◌⊎◌, inl, inr, ℕ, zero, suc, ◌<◌, ◌≤◌, List, [], ◌∷◌, Bool, true, false, cond, Option, None, Some, is_some, length, map, refl, sym, ◌∙◌, ap, subst, arith}
-use Rattle.std.specs.Prelude.{IsSome, slice_index, slice_index_or, slice_set}
+use Rattle.std.proofs.Common.{◌≡◌, ◌≢◌, ◌⊎◌, inl, inr, ℕ, zero, suc, ◌<◌, ◌≤◌, List, [], ◌∷◌, true, cond, Option, None, Some, length, map, refl, sym, ◌∙◌, ap, subst, arith}
+use Rattle.std.specs.Prelude.{IsSome, slice_index, slice_set}
 use Rattle.std.specs.Option.{option_map, option_map_or, option_and_then}
 use Rattle.std.specs.FinMap as fin
 use Rattle.std.proofs.lemmas.List.{get_or-set_same, get_or-set_other, length-set, map-set}
 use Rattle.std.proofs.lemmas.Bool.{cases_eq, cases_lt}
 use Rattle.outside.specs.Drums.{page_at as drum_page}
-use Rattle.outside.specs.declared.TheConstants.{PAGE_WORDS}
 use Rattle.machine_names.specs.declared.names.ForkName.{ForkName}
 use Rattle.machine_names.specs.declared.names.Slot.{Slot}
 use Rattle.machine_names.specs.declared.names.TheConstants.{SPACE_PAGES}
 use Rattle.machine_names.specs.Orders.{same_fork}
 use Rattle.machine_names.proofs.OrderLemmas.{fork_cmp_total, fork_cmp_apart}
 use Rattle.page_homes.specs.declared.homes.Home.{Home}
-use Rattle.plain_pages.specs.declared.map.MapEntry.{MapEntry}
 use Rattle.plain_pages.specs.declared.map.MapEntry.TheVariants as entry
 use Rattle.plain_pages.specs.PlainPages.{Map, Maps}
 use Rattle.plain_pages.specs.Maps.{set_entry}
@@ -22,7 +20,6 @@ use Rattle.share_table.specs.Pointers.{IsPointer, pointer_word}
 use Rattle.page_contracts.specs.DrumWords.{DrumWords}
 use Rattle.page_contracts.specs.Stores.{HomePlace, free, away, here, place, is_taken, over_drum, content, word_in, with_word_in, FitsHomes}
 use Rattle.pager_walk.specs.declared.paged_entry.PagedEntry.{PagedEntry}
-use Rattle.pager_walk.specs.declared.paged_entry.Looked.TheVariants.{Is, Refused}
 use Rattle.pager_walk.specs.MapPages.{root_at, fork_at, index_of}
 use Rattle.pager_walk.specs.PagedMaps.{Tables, entry_for, entry_in, plain_entry, entry_of, words_in, row_of, maps_over, AreRooted, FitsMaps, look_word, look_map, look_at, is_near}
 use Rattle.pager_walk.proofs.DecodedWords.{pointer_back}

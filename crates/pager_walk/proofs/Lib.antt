@@ -4,3 +4,5 @@ pub mod MapRows
 pub mod Looking
 pub mod Walking
 pub mod Changing
+pub mod Begun
+pub mod Opened

@@ -1,15 +1,12 @@
-use Rattle.std.proofs.Common.{◌≡◌, ◌∙◌, ℕ, List, Option, None, Some, true, false, map, sym, ap, subst}
-use Rattle.std.specs.Prelude.{IsSome, slice_set}
+use Rattle.std.proofs.Common.{◌≡◌, ◌∙◌, ℕ, Option, Some, true, false, sym, ap, subst}
+use Rattle.std.specs.Prelude.{slice_set}
 use Rattle.page_homes.specs.declared.homes.Home.{Home}
-use Rattle.plain_pages.specs.Maps.{set_entry}
 use Rattle.share_table.specs.Pointers.{pointer_word}
-use Rattle.page_contracts.specs.Stores.{HomePlace, here, place, is_taken, with_word_in, IsUsed}
-use Rattle.pager_walk.specs.declared.paged_entry.Looked.{Looked}
-use Rattle.pager_walk.specs.declared.paged_entry.PagedEntry.{PagedEntry}
+use Rattle.page_contracts.specs.Stores.{place, is_taken, with_word_in, IsUsed}
 use Rattle.pager_walk.specs.MapPages.{root_at, index_of}
-use Rattle.pager_walk.specs.PagedMaps.{entry_for, entry_in, look_map, look_at, is_near, maps_over, plain_entry, tables_of, AreRooted, FitsMaps}
+use Rattle.pager_walk.specs.PagedMaps.{look_map, is_near, tables_of}
 use Rattle.pager_walk.proofs.NumberedMaps.{index_fork, fork_within}
-use Rattle.pager_walk.proofs.Looking.{root_taken, look_there}
+use Rattle.pager_walk.proofs.Looking.{root_taken}
 use Rattle.pager_walk.proofs.Changing.{pointer_put}
 use Rattle.pager_walk.proofs.map_changes.set.Goals as goal
 
