@@ -12,6 +12,7 @@ use Rattle.machine_names.specs.declared.names.TheConstants.{SPACE_PAGES, MOST_FO
 use Rattle.machine_names.specs.PageWords.{zero_words}
 use Rattle.page_homes.specs.declared.homes.Home.{Home}
 use Rattle.plain_pages.specs.declared.map.MapEntry.TheVariants as entry
+use Rattle.plain_pages.specs.PlainPages.{Map}
 use Rattle.plain_pages.specs.NewMaps.{empty_map}
 use Rattle.share_table.specs.declared.pointer.Pointer.{Pointer}
 use Rattle.share_table.specs.declared.pointer.Pointer.TheVariants as pointer
@@ -49,6 +50,9 @@ zero_pointer = pointer_back pointer.Empty tt
 pub zero_entry : (t : Tables) → IsSome (entry_in t 0)
 zero_entry t = ap (λ (o : Option Pointer). is_some (option_and_then (entry_for t) o)) zero_pointer
 
+pub zero_there : (t : Tables) (page : ℕ) → IsSome (entry_in t (slice_index zero_words page))
+zero_there t page = subst (λ w. IsSome (entry_in t w)) (sym (zero_word page)) (zero_entry t)
+
 -- a new page is an empty map
 pub zero_row : (t : Tables) → row_of t (Some zero_words) ≡ empty_map
 unfolding zero_words empty_map
@@ -61,12 +65,12 @@ unnamed_of (Some n) e = absurd (e refl)
 -- a fork gets a map under a number that is no fork's, at a home that was free
 module _ (t : Tables) (places : List HomePlace) (rooted : AreRooted t (map is_taken places)) (k : ℕ) (f : ForkName) (home : Home)
     (absent : index_of t.maps f ≡ None) (spare : fork_at t.maps k ≡ None) (within : k < MOST_MAPS) (from : first_map f.tty ≤ k) (below : k < first_map f.tty + MOST_FORKS)
-    (inside : home.0 < length places) (was_free : place places home.0 ≡ free) where
+    (inside : home.0 < length places) (was_free : place places home.0 ≡ free) (words : List ℕ) where
   abbrev begun : Tables
   begun = with_root t k f home
 
   abbrev after : List HomePlace
-  after = slice_set places home.0 (here zero_words)
+  after = slice_set places home.0 (here words)
 
   is_within : k < length t.maps
   is_within = omega (arith, within, rooted.numbered.count)
@@ -117,10 +121,10 @@ module _ (t : Tables) (places : List HomePlace) (rooted : AreRooted t (map is_ta
   apart_of h taken same = let z : false ≡ true = sym (ap is_taken was_free) ∙ sym (taken_map places home.0) ∙ ap (λ i. slice_index_or (map is_taken places) i false) (sym same) ∙ taken in absurd (cc z)
 
   own_taken : slice_index_or (map is_taken after) home.0 false ≡ true
-  own_taken = taken_map after home.0 ∙ ap is_taken (get_or-set_same places home.0 (here zero_words) free inside)
+  own_taken = taken_map after home.0 ∙ ap is_taken (get_or-set_same places home.0 (here words) free inside)
 
   still_taken : (h : ℕ) → slice_index_or (map is_taken places) h false ≡ true → slice_index_or (map is_taken after) h false ≡ true
-  still_taken h taken = taken_map after h ∙ ap is_taken (get_or-set_other places home.0 h (here zero_words) free (apart_of h taken)) ∙ sym (taken_map places h) ∙ taken
+  still_taken h taken = taken_map after h ∙ ap is_taken (get_or-set_other places home.0 h (here words) free (apart_of h taken)) ∙ sym (taken_map places h) ∙ taken
 
   own_root : (j : ℕ) → j ≡ k → (root_at begun.maps j).0 ≡ home.0
   own_root j same = ap (λ i. (root_at begun.maps i).0) same ∙ ap (λ (m : MapPage). m.home.0) map_own
@@ -152,25 +156,25 @@ module _ (t : Tables) (places : List HomePlace) (rooted : AreRooted t (map is_ta
   }
 
   module _ (d : DrumWords) where
-    own_content : (j : ℕ) → j ≡ k → content after d (root_at begun.maps j).0 ≡ Some zero_words
-    own_content j same = ap (content after d) (own_root j same) ∙ content_same places d home.0 (here zero_words) inside
+    own_content : (j : ℕ) → j ≡ k → content after d (root_at begun.maps j).0 ≡ Some words
+    own_content j same = ap (content after d) (own_root j same) ∙ content_same places d home.0 (here words) inside
 
     other_content : (j : ℕ) (g : ForkName) → j ≢ k → fork_at t.maps j ≡ Some g → content after d (root_at begun.maps j).0 ≡ content places d (root_at t.maps j).0
-    other_content j g ne e = ap (content after d) (other_root j ne) ∙ content_other places d home.0 (root_at t.maps j).0 (here zero_words) (apart_of (root_at t.maps j).0 (rooted.there j g e))
+    other_content j g ne e = ap (content after d) (other_root j ne) ∙ content_other places d home.0 (root_at t.maps j).0 (here words) (apart_of (root_at t.maps j).0 (rooted.there j g e))
 
-    pub fits_begun : FitsMaps t places d → FitsMaps begun after d
-    fits_begun fits = record { drum = fits_still places d home.0 (here zero_words) fits.drum; entries = λ j page g e l. by j page g (whose j g e) l }
+    pub fits_begun : ((page : ℕ) → page < SPACE_PAGES → IsSome (entry_in t (slice_index words page))) → FitsMaps t places d → FitsMaps begun after d
+    fits_begun stand fits = record { drum = fits_still places d home.0 (here words) fits.drum; entries = λ j page g e l. by j page g (whose j g e) l }
       where
         by : (j page : ℕ) (g : ForkName) → ((j ≡ k) × (g ≡ f)) ⊎ ((j ≢ k) × (fork_at t.maps j ≡ Some g)) → page < SPACE_PAGES → IsSome (entry_in begun (slice_index (words_in (content after d (root_at begun.maps j).0)) page))
-        by j page g (inl x) l = subst (λ w. IsSome (entry_in begun w)) (sym (ap (λ (c : Option (List ℕ)). slice_index (words_in c) page) (own_content j x.0) ∙ zero_word page)) (zero_entry begun)
+        by j page g (inl x) l = subst (λ (c : Option (List ℕ)). IsSome (entry_in begun (slice_index (words_in c) page))) (sym (own_content j x.0)) (stand page l)
         by j page g (inr x) l = subst (λ (c : Option (List ℕ)). IsSome (entry_in begun (slice_index (words_in c) page))) (sym (other_content j g x.0 x.1)) (fits.entries j page g x.1 l)
 
-    pub maps_begun : maps_over begun after d ≡ fin.insert (maps_over t places d) f empty_map
-    maps_begun = maps_with (maps_over t places d) (maps_over begun after d) f empty_map own others
+    pub maps_begun : (m : Map) → row_of t (Some words) ≡ m → maps_over begun after d ≡ fin.insert (maps_over t places d) f m
+    maps_begun m row = maps_with (maps_over t places d) (maps_over begun after d) f m own others
       where
-        own : fin.get (maps_over begun after d) f ≡ Some empty_map
+        own : fin.get (maps_over begun after d) f ≡ Some m
         own = get_over begun after d f ∙ ap (option_map (λ j. row_of begun (content after d (root_at begun.maps j).0))) (index_is begun.maps numbered_begun.once f k (ap (λ (m : MapPage). m.fork) map_own))
-            ∙ ap (λ (c : Option (List ℕ)). Some (row_of begun c)) (own_content k refl) ∙ ap Some (zero_row begun)
+            ∙ ap (λ (c : Option (List ℕ)). Some (row_of begun c)) (own_content k refl) ∙ ap Some row
 
         others : (q : ForkName) → q ≢ f → fin.get (maps_over begun after d) q ≡ fin.get (maps_over t places d) q
         others q ne = get_over begun after d q ∙ by (searched t.maps q) ∙ sym (get_over t places d q)

@@ -6,3 +6,4 @@ pub mod Walking
 pub mod Changing
 pub mod Begun
 pub mod Opened
+pub mod Followed

@@ -2,3 +2,4 @@ pub mod Decoding
 pub mod MapPages
 pub mod PagedMaps
 pub mod Walks
+pub mod NewPages

@@ -54,8 +54,8 @@ impl Walked {
     }
 }
 
-// Every right, and no copy mark.
-const FULL_ACCESS: Access = Access {
+/// Every right, and no copy mark.
+pub const FULL_ACCESS: Access = Access {
     r: true,
     w: true,
     x: true,

@@ -9,6 +9,6 @@ mod map_pages;
 mod paged_entry;
 
 pub use chain_walk::{CHAIN, Walked, Way, walk};
-pub use map_changes::{begin, set};
+pub use map_changes::{begin, begin_following, set};
 pub use map_pages::{MOST_MAPS, MapPage, free_number, map_of, root};
 pub use paged_entry::{Looked, MapTables, PagedEntry, entry};

@@ -3,17 +3,19 @@ ghost use Rattle.std.specs.Prelude.{◌≡◌, ◌<◌, ◌≤◌, ◌+◌, ℕ,
 ghost use Rattle.std.specs.FinMap as fin;
 ghost use Rattle.machine_names.specs.PageWords.{zero_words};
 ghost use Rattle.plain_pages.specs.Maps.{set_entry};
-ghost use Rattle.plain_pages.specs.NewMaps.{empty_map};
+ghost use Rattle.plain_pages.specs.NewMaps.{empty_map, following_map};
 ghost use Rattle.share_table.specs.Pointers.{IsPointer, pointer_word};
 ghost use Rattle.page_contracts.specs.DrumWords.{DrumWords};
 ghost use Rattle.page_contracts.specs.Stores.{IsMade, IsUsed, free_homes, here, is_taken, place, room_of, with_word_in};
 ghost use Rattle.pager_walk.specs.declared.paged_entry.PagedEntry.{PagedEntry as APagedEntry};
 ghost use Rattle.pager_walk.specs.MapPages.{first_map, fork_at, index_of, root_at};
+ghost use Rattle.pager_walk.specs.NewPages.{following_words};
 ghost use Rattle.pager_walk.specs.PagedMaps.{AreRooted, FitsMaps, entry_for, is_near, look_at, maps_over, plain_entry, tables_of, with_root};
 
+use crate::chain_walk::FULL_ACCESS;
 use crate::map_pages::{MOST_MAPS, MapPage, map_of, root};
 use crate::paged_entry::MapTables;
-use machine_names::{ForkName, MOST_FORKS, SPACE_PAGES, Slot};
+use machine_names::{ForkName, LAST_SERIAL, MOST_FORKS, SPACE_PAGES, Slot};
 use page_contracts::{Room, Store};
 use page_homes::Home;
 use share_table::{Pointer, encode};
@@ -59,6 +61,49 @@ pub fn begin<S: Store>(store: &mut S, tables: &mut MapTables, number: u32, fork:
         → maps_over (tables_of tables.new) (S.means.homes store.new) d ≡ fin.insert (maps_over (tables_of tables.old) (S.means.homes store.old) d) fork empty_map }
 {
     let home = store.make();
+    tables.maps[number as usize] = MapPage {
+        fork: Some(fork),
+        home,
+    };
+    home
+}
+
+// Takes a free home for the page of a map, each of whose entries follows the same entry of the fork with a
+// serial.
+fn make_following<S: Store>(store: &mut S, serial: u32) -> Home
+    requires room { room_of (free_homes (S.means.homes store.old)) (S.means.spare store.old) 1 ≡ Room.Enough }
+    requires serial { 1 ≤ serial }
+    requires last { serial ≤ LAST_SERIAL }
+    ensures { IsMade S.means result.0 (here (following_words serial SPACE_PAGES)) store.old store.new }
+{
+    let home = store.make();
+    for page in 0..SPACE_PAGES {
+        let word = encode(Pointer::Indirect(serial, page as u16, FULL_ACCESS));
+        store.put(home, page as u16, word);
+    }
+    home
+}
+
+/// The same, of a fork of the same terminal: each entry of the new map follows the same entry of it, with
+/// every right.
+pub fn begin_following<S: Store>(store: &mut S, tables: &mut MapTables, number: u32, fork: ForkName, leader: ForkName) -> Home
+    requires rooted { AreRooted (tables_of tables.old) (map is_taken (S.means.homes store.old)) }
+    requires absent { index_of tables.old.maps.items fork ≡ None }
+    requires number { fork_at tables.old.maps.items number ≡ None }
+    requires most { number < MOST_MAPS }
+    requires from { first_map fork.tty ≤ number }
+    requires below { number < first_map fork.tty + MOST_FORKS }
+    requires room { room_of (free_homes (S.means.homes store.old)) (S.means.spare store.old) 1 ≡ Room.Enough }
+    requires serial { 1 ≤ leader.serial }
+    requires last { leader.serial ≤ LAST_SERIAL }
+    ensures made { IsMade S.means result.0 (here (following_words leader.serial SPACE_PAGES)) store.old store.new }
+    ensures tables { tables_of tables.new ≡ with_root (tables_of tables.old) number fork result }
+    ensures rooted { AreRooted (tables_of tables.new) (map is_taken (S.means.homes store.new)) }
+    ensures fits { (d : DrumWords) → FitsMaps (tables_of tables.old) (S.means.homes store.old) d → FitsMaps (tables_of tables.new) (S.means.homes store.new) d }
+    ensures told { (d : DrumWords) → FitsMaps (tables_of tables.old) (S.means.homes store.old) d
+        → maps_over (tables_of tables.new) (S.means.homes store.new) d ≡ fin.insert (maps_over (tables_of tables.old) (S.means.homes store.old) d) fork (following_map leader) }
+{
+    let home = make_following(store, leader.serial);
     tables.maps[number as usize] = MapPage {
         fork: Some(fork),
         home,
