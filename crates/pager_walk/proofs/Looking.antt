@@ -24,8 +24,8 @@ use Rattle.pager_walk.specs.declared.paged_entry.PagedEntry.{PagedEntry}
 use Rattle.pager_walk.specs.declared.paged_entry.PagedEntry.TheVariants.{Page}
 use Rattle.pager_walk.specs.declared.paged_entry.Looked.TheVariants.{Is, Refused}
 use Rattle.pager_walk.specs.Decoding.{pointer_in}
-use Rattle.pager_walk.specs.MapPages.{root_at, index_of}
-use Rattle.pager_walk.specs.PagedMaps.{Tables, name_at, page_entry, entry_for, entry_in, plain_entry, entry_of, words_in, maps_over, AreRooted, FitsMaps, look_word, look_map, look_at, FollowsWithin, TellsEntry}
+use Rattle.pager_walk.specs.MapPages.{root_at, fork_at, index_of}
+use Rattle.pager_walk.specs.PagedMaps.{Tables, name_at, page_entry, entry_for, entry_in, plain_entry, entry_of, words_in, maps_over, AreRooted, FitsMaps, look_word, look_map, look_at, LookStands, TellsEntry}
 use Rattle.pager_walk.proofs.DecodedWords.{pointer_only}
 use Rattle.pager_walk.proofs.NumberedMaps.{index_fork}
 use Rattle.pager_walk.proofs.MapRows.{entry_over, entry_none}
@@ -58,47 +58,9 @@ pub content_here : (places : List HomePlace) (d : DrumWords) (h : ℕ) (words : 
 unfolding content
 content_here places d h words is = ap (λ p. over_drum p (drum_page d h)) is
 
--- an entry that a word stands for follows no page past a space
-module _ (t : Tables) where
-  named_within : (b : Bool) (home : Home) (a : Access) → FollowsWithin (option_map_or Is (cond b (Some (Page home a)) None) Refused)
-  named_within true home a = tt
-  named_within false home a = tt
-
-  pub follows_in : (w : ℕ) → FollowsWithin (option_map_or Is (entry_in t w) Refused)
-  follows_in w = by (pointer_in w) refl
-    where
-      of : (p : Pointer) → IsPointer p → FollowsWithin (option_map_or Is (entry_for t p) Refused)
-      of pointer.Empty is = tt
-      of (pointer.Private home a) is = named_within (is_some (name_at t.names home.0)) home a
-      of (pointer.Shared share a) is = shared (page_at t.shares share.0)
-        where
-          shared : (o : Option SharedPage) → FollowsWithin (option_map_or Is (option_and_then (λ p. page_entry t.names p.home a) o) Refused)
-          shared None = tt
-          shared (Some p) = named_within (is_some (name_at t.names p.home.0)) p.home a
-      of (pointer.Indirect serial page a) is = is.2
-
-      by : (o : Option Pointer) → pointer_in w ≡ o → FollowsWithin (option_map_or Is (option_and_then (entry_for t) o) Refused)
-      by None e = tt
-      by (Some p) e = of p (pointer_only w p e).0
-
-  pub follows_at : (places : List HomePlace) (s : Slot) → FollowsWithin (look_at t places s)
-  follows_at places s = by (index_of t.maps s.fork)
-    where
-      word : (home : Home) (o : Option ℕ) → FollowsWithin (look_word t home o)
-      word home None = tt
-      word home (Some w) = follows_in w
-
-      by : (o : Option ℕ) → FollowsWithin (look_map t places s.page o)
-      by None = tt
-      by (Some k) = word (root_at t.maps k) (word_in (place places (root_at t.maps k).0) s.page)
-
-stands : (o : Option PagedEntry) → IsSome o → (e : PagedEntry) × (o ≡ Some e)
-stands None e = absurd (cc e)
-stands (Some e) h = (e, refl)
-
-some_entry : (o : Option MapEntry) (e : MapEntry) → o ≡ Some e → IsSome o
-some_entry None e h = absurd (cc h)
-some_entry (Some x) e h = refl
+some_fork : (o : Option ForkName) (f : ForkName) → o ≡ Some f → IsSome o
+some_fork None f e = absurd (cc e)
+some_fork (Some g) f e = refl
 
 -- a look at an entry whose map is there
 pub look_there : (t : Tables) (places : List HomePlace) (s : Slot) (k : ℕ) (home : Home) → index_of t.maps s.fork ≡ Some k → home ≡ root_at t.maps k → look_at t places s ≡ look_word t home (word_in (place places home.0) s.page)
@@ -107,6 +69,50 @@ look_there t places s k home is root = ap (look_map t places s.page) is ∙ ap (
 -- a fork's map has a taken home
 pub root_taken : (t : Tables) (places : List HomePlace) → AreRooted t (map is_taken places) → (f : ForkName) (k : ℕ) → index_of t.maps f ≡ Some k → is_taken (place places (root_at t.maps k).0) ≡ true
 root_taken t places rooted f k is = sym (taken_map places (root_at t.maps k).0) ∙ rooted.there k f (index_fork t.maps f k is)
+
+-- what holds of the entry of a word
+module _ (t : Tables) (places : List HomePlace) where
+  named_stands : (b : Bool) (home : Home) (a : Access) → is_some (name_at t.names home.0) ≡ b → LookStands t places (option_map_or Is (cond b (Some (Page home a)) None) Refused)
+  named_stands true home a e = e
+  named_stands false home a e = tt
+
+  stands_in : (w : ℕ) → LookStands t places (option_map_or Is (entry_in t w) Refused)
+  stands_in w = by (pointer_in w) refl
+    where
+      of : (p : Pointer) → IsPointer p → LookStands t places (option_map_or Is (entry_for t p) Refused)
+      of pointer.Empty is = tt
+      of (pointer.Private home a) is = named_stands (is_some (name_at t.names home.0)) home a refl
+      of (pointer.Shared share a) is = shared (page_at t.shares share.0)
+        where
+          shared : (o : Option SharedPage) → LookStands t places (option_map_or Is (option_and_then (λ p. page_entry t.names p.home a) o) Refused)
+          shared None = tt
+          shared (Some p) = named_stands (is_some (name_at t.names p.home.0)) p.home a refl
+      of (pointer.Indirect serial page a) is = is.2
+
+      by : (o : Option Pointer) → pointer_in w ≡ o → LookStands t places (option_map_or Is (option_and_then (entry_for t) o) Refused)
+      by None e = tt
+      by (Some p) e = of p (pointer_only w p e).0
+
+  -- what holds of a look
+  pub stands_at : AreRooted t (map is_taken places) → (s : Slot) → LookStands t places (look_at t places s)
+  stands_at rooted s = by (index_of t.maps s.fork) refl
+    where
+      there : (k : ℕ) → index_of t.maps s.fork ≡ Some k → (p : HomePlace) → place places (root_at t.maps k).0 ≡ p → LookStands t places (look_word t (root_at t.maps k) (word_in p s.page))
+      there k is free at = let z : false ≡ true = sym (ap is_taken at) ∙ root_taken t places rooted s.fork k is in absurd (cc z)
+      there k is away at = record { number = k; fork = some_fork (fork_at t.maps k) s.fork (index_fork t.maps s.fork k is); root = refl; away = at }
+      there k is (here words) at = stands_in (slice_index words s.page)
+
+      by : (o : Option ℕ) → index_of t.maps s.fork ≡ o → LookStands t places (look_map t places s.page o)
+      by None is = tt
+      by (Some k) is = there k is (place places (root_at t.maps k).0) refl
+
+stands : (o : Option PagedEntry) → IsSome o → (e : PagedEntry) × (o ≡ Some e)
+stands None e = absurd (cc e)
+stands (Some e) h = (e, refl)
+
+some_entry : (o : Option MapEntry) (e : MapEntry) → o ≡ Some e → IsSome o
+some_entry None e h = absurd (cc h)
+some_entry (Some x) e h = refl
 
 module _ (t : Tables) (places : List HomePlace) (d : DrumWords) (rooted : AreRooted t (map is_taken places)) (pages : ArePages places) (fits : FitsMaps t places d) where
   -- the entry of a slot is that of its word, over the words of a drum

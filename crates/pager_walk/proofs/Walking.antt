@@ -21,9 +21,9 @@ use Rattle.pager_walk.specs.declared.paged_entry.Looked.TheVariants.{Is, Absent 
 use Rattle.pager_walk.specs.declared.chain_walk.Way.{Way}
 use Rattle.pager_walk.specs.declared.chain_walk.Walked.{Walked}
 use Rattle.pager_walk.specs.declared.chain_walk.Walked.TheVariants.{Along, Absent, NoChain}
-use Rattle.pager_walk.specs.PagedMaps.{Tables, name_of, look_at, map_away, maps_over, AreRooted, FitsMaps, FollowsWithin, TellsEntry}
-use Rattle.pager_walk.specs.Walks.{walk_end, walk_behind, walked_behind, walk_from, walk_within, walk_at, allows_along, first_absent, IsChain, TellsOf, TellsWalk}
-use Rattle.pager_walk.proofs.Looking.{ArePages, follows_at, looked}
+use Rattle.pager_walk.specs.PagedMaps.{Tables, name_at, name_of, look_at, is_near, map_away, maps_over, AreRooted, FitsMaps, LookStands, TellsEntry}
+use Rattle.pager_walk.specs.Walks.{walk_end, walk_behind, walked_behind, walk_from, walk_within, walk_at, allows_along, first_absent, IsChain, TellsOf, TellsWalk, IsNearSlot, WayStands, WalkStands}
+use Rattle.pager_walk.proofs.Looking.{ArePages, stands_at, looked}
 
 pub walk_none : (most : ℕ) (t : Tables) (places : List HomePlace) (s : Slot) → most ≡ 0 → walk_within most t places s ≡ NoChain
 unfolding walk_within
@@ -95,7 +95,7 @@ module _ (t : Tables) (places : List HomePlace) (d : DrumWords) (rooted : AreRoo
   abbrev Tells : Slot → ℕ → Option MapEntry → Walked → Type 0
   Tells s n o w = TellsOf t.names (first_absent away (maps_from s o (maps_within n entries))) (chain_from s o (chain_within n entries)) w
 
-  walked_from : (n : ℕ) (s : Slot) (l : Looked) → TellsEntry t places d s l → FollowsWithin l
+  walked_from : (n : ℕ) (s : Slot) (l : Looked) → TellsEntry t places d s l → LookStands t places l
       → ((next : Slot) → next.page < SPACE_PAGES → TellsOf t.names (first_absent away (maps_within n entries next)) (chain_within n entries next) (walk_within n t places next))
       → Tells s n (entries s) (walk_from s l (walk_within n t places))
   walked_from n s (Is Empty) told within rest = subst (λ (o : Option MapEntry). Tells s n o (Along (walk_end s full_access None))) (sym told.1) (ap (λ o. option_or o None) told.0, (single_link s full_access None, refl, one t.names s full_access None))
@@ -119,9 +119,55 @@ module _ (t : Tables) (places : List HomePlace) (d : DrumWords) (rooted : AreRoo
   walked_within : (n : ℕ) (s : Slot) → s.page < SPACE_PAGES → TellsOf t.names (first_absent away (maps_within n entries s)) (chain_within n entries s) (walk_within n t places s)
   unfolding walk_within chain_within maps_within
   walked_within zero s below = (refl, refl)
-  walked_within (suc n) s below = walked_from n s (look_at t places s) (looked t places d rooted pages fits s below) (follows_at t places s) (λ next l. walked_within n next l)
+  walked_within (suc n) s below = walked_from n s (look_at t places s) (looked t places d rooted pages fits s below) (stands_at t places rooted s) (λ next l. walked_within n next l)
 
   -- a walk finds what is to be known of the chain of its slot
   pub walked : (s : Slot) → s.page < SPACE_PAGES → TellsWalk t places d s (walk_at t places s)
   unfolding walk_at chain maps_on_way
   walked s below = walked_within 4 s below
+
+-- what holds of a walk over whatever drum
+module _ (t : Tables) (places : List HomePlace) (rooted : AreRooted t (map is_taken places)) where
+  near_at : (s : Slot) (l : Looked) → s.page < SPACE_PAGES → look_at t places s ≡ l → is_near l ≡ true → IsNearSlot t places s
+  near_at s l below is near = record { page = below; near = ap is_near is ∙ near }
+
+  marked_stands : (b : Bool) (s : Slot) (rest : Option Slot) → IsNearSlot t places s → ((r : Slot) → rest ≡ Some r → IsNearSlot t places r) → (r : Slot) → cond b (Some s) rest ≡ Some r → IsNearSlot t places r
+  marked_stands true s rest near other r e = let same : s ≡ r = cc e in subst (IsNearSlot t places) same near
+  marked_stands false s rest near other r e = other r e
+
+  none_marked : (r : Slot) → ◌≡◌ {A = Option Slot} None (Some r) → IsNearSlot t places r
+  none_marked r e = absurd (cc e)
+
+  behind_stands : (s : Slot) (a : Access) (w : Walked) → IsNearSlot t places s → WalkStands t places w → WalkStands t places (walked_behind s a w)
+  behind_stands s a (Along w) near x = record { end = x.end; empty = x.empty; names = x.names; named = x.named; copy = marked_stands a.c s w.copy near x.copy }
+  behind_stands s a (Absent home) near x = x
+  behind_stands s a NoChain near x = tt
+
+  stood_from : (n : ℕ) (s : Slot) (l : Looked) → s.page < SPACE_PAGES → look_at t places s ≡ l → LookStands t places l → ((next : Slot) → next.page < SPACE_PAGES → WalkStands t places (walk_within n t places next)) → WalkStands t places (walk_from s l (walk_within n t places))
+  stood_from n s (Is Empty) below is stands rest = record {
+    end = near_at s (Is Empty) below is refl;
+    empty = λ e. is;
+    names = λ home e. absurd (cc e);
+    named = λ home e. absurd (cc e);
+    copy = none_marked;
+  }
+  stood_from n s (Is (Page home a)) below is stands rest = record {
+    end = near_at s (Is (Page home a)) below is refl;
+    empty = λ e. absurd (cc e);
+    names = λ h e. (a, (let same : home ≡ h = cc e in is ∙ ap (λ (x : Home). Is (Page x a)) same));
+    named = λ h e. (let same : home ≡ h = cc e in subst (λ (x : Home). is_some (name_at t.names x.0) ≡ true) same stands);
+    copy = marked_stands a.c s None (near_at s (Is (Page home a)) below is refl) none_marked;
+  }
+  stood_from n s (Is (Follows serial page a)) below is stands rest = behind_stands s a (walk_within n t places (followed s serial page)) (near_at s (Is (Follows serial page a)) below is refl) (rest (followed s serial page) stands)
+  stood_from n s (MapAbsent home) below is stands rest = stands
+  stood_from n s Missing below is stands rest = tt
+  stood_from n s Refused below is stands rest = tt
+
+  stood_within : (n : ℕ) (s : Slot) → s.page < SPACE_PAGES → WalkStands t places (walk_within n t places s)
+  unfolding walk_within
+  stood_within zero s below = tt
+  stood_within (suc n) s below = stood_from n s (look_at t places s) below refl (stands_at t places rooted s) (λ next l. stood_within n next l)
+
+  pub stood : (s : Slot) → s.page < SPACE_PAGES → WalkStands t places (walk_at t places s)
+  unfolding walk_at
+  stood s below = stood_within 4 s below

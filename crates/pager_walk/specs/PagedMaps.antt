@@ -16,7 +16,7 @@ use Rattle.share_table.specs.declared.pointer.Pointer.{Pointer}
 use Rattle.share_table.specs.declared.pointer.Pointer.TheVariants as pointer
 use Rattle.share_table.specs.Shares.{Shares, page_at}
 use Rattle.page_contracts.specs.DrumWords.{DrumWords}
-use Rattle.page_contracts.specs.Stores.{HomePlace, FitsHomes, place, word_in, content, away_at}
+use Rattle.page_contracts.specs.Stores.{HomePlace, FitsHomes, place, away, word_in, content, away_at}
 use Rattle.pager_walk.specs.declared.map_pages.MapPage.{MapPage}
 use Rattle.pager_walk.specs.declared.paged_entry.MapTables.{MapTables}
 use Rattle.pager_walk.specs.declared.paged_entry.PagedEntry.{PagedEntry}
@@ -134,13 +134,21 @@ is_near Refused = true
 abbrev pub with_root : Tables → ℕ → ForkName → Home → Tables
 with_root t k f home = record t { maps = slice_set t.maps k (record { fork = Some f; home = home }) }
 
--- what is followed is an entry of a space
-abbrev pub FollowsWithin : Looked → Type 0
-FollowsWithin (Is (Follows serial page access)) = page < SPACE_PAGES
-FollowsWithin (Is e) = Unit {0}
-FollowsWithin (Absent home) = Unit {0}
-FollowsWithin Missing = Unit {0}
-FollowsWithin Refused = Unit {0}
+-- a home of a fork's map, which is in no frame
+pub record IsAwayMap (t : Tables) (places : List HomePlace) (home : Home) : Type 0 where
+  pub number : ℕ
+  pub fork : IsSome (fork_at t.maps number)
+  pub root : home ≡ root_at t.maps number
+  pub away : place places home.0 ≡ away
+
+-- What holds of a look over whatever drum: a page that is named has a name, what is followed is an entry of a space, and what is absent is a map that is in no frame.
+abbrev pub LookStands : Tables → List HomePlace → Looked → Type 0
+LookStands t places (Is Empty) = Unit {0}
+LookStands t places (Is (Page home access)) = is_some (name_at t.names home.0) ≡ true
+LookStands t places (Is (Follows serial page access)) = page < SPACE_PAGES
+LookStands t places (Absent home) = IsAwayMap t places home
+LookStands t places Missing = Unit {0}
+LookStands t places Refused = Unit {0}
 
 -- What a look says of the plain maps over the words of a drum: the entry, where its map is in a frame; the home of the map, where that is in none; or that
 -- there is no entry. No word is refused.

@@ -1,5 +1,5 @@
 -- Walks along the chains of maps that are pages.
-use Rattle.std.specs.Prelude.{◌≡◌, ℕ, zero, suc, List, [], ◌∷◌, Bool, false, ◌&&◌, ◌||◌, Option, None, Some, if◌then◌else◌, find}
+use Rattle.std.specs.Prelude.{◌≡◌, ℕ, zero, suc, ◌<◌, List, [], ◌∷◌, Bool, true, false, is_some, ◌&&◌, ◌||◌, Option, None, Some, if◌then◌else◌, find}
 use Rattle.std.specs.Option.{option_map, option_or}
 use Rattle.machine_names.specs.declared.names.Access.{Access}
 use Rattle.machine_names.specs.declared.names.ForkName.{ForkName}
@@ -7,6 +7,7 @@ use Rattle.machine_names.specs.declared.names.PageName.{PageName}
 use Rattle.machine_names.specs.declared.names.Slot.{Slot}
 use Rattle.machine_names.specs.declared.names.Kind.{Kind}
 use Rattle.machine_names.specs.declared.names.Kind.TheVariants.{Read, Write, Execute}
+use Rattle.machine_names.specs.declared.names.TheConstants.{SPACE_PAGES}
 use Rattle.page_homes.specs.declared.homes.Home.{Home}
 use Rattle.plain_pages.specs.Maps.{Chain, chain, entry_at, followed, full_access, maps_on_way, permits}
 use Rattle.page_contracts.specs.DrumWords.{DrumWords}
@@ -17,7 +18,7 @@ use Rattle.pager_walk.specs.declared.paged_entry.Looked.TheVariants.{Is, Absent 
 use Rattle.pager_walk.specs.declared.chain_walk.Way.{Way}
 use Rattle.pager_walk.specs.declared.chain_walk.Walked.{Walked}
 use Rattle.pager_walk.specs.declared.chain_walk.Walked.TheVariants.{Along, Absent, NoChain}
-use Rattle.pager_walk.specs.PagedMaps.{Tables, name_of, look_at, map_away, maps_over}
+use Rattle.pager_walk.specs.PagedMaps.{Tables, name_at, name_of, look_at, is_near, map_away, maps_over, IsAwayMap}
 
 -- a walk that ends at an entry with this access
 abbrev pub walk_end : Slot → Access → Option Home → Way
@@ -91,3 +92,23 @@ TellsOf names absent c NoChain = (absent ≡ None) × (c ≡ None)
 -- what a walk says of the plain maps over the words of a drum
 abbrev pub TellsWalk : Tables → List HomePlace → DrumWords → Slot → Walked → Type 0
 TellsWalk t places d s w = let entries = entry_at (maps_over t places d) in TellsOf t.names (first_absent (map_away t places) (maps_on_way entries s)) (chain entries s) w
+
+-- a slot whose map is in a frame
+pub record IsNearSlot (t : Tables) (places : List HomePlace) (s : Slot) : Type 0 where
+  pub page : s.page < SPACE_PAGES
+  pub near : is_near (look_at t places s) ≡ true
+
+-- What holds of a chain that was walked along, over whatever drum: its last entry is empty or names the page, which has a name; and that entry and the one with the
+-- copy mark can be set.
+pub record WayStands (t : Tables) (places : List HomePlace) (w : Way) : Type 0 where
+  pub end : IsNearSlot t places w.end
+  pub empty : w.home ≡ None → look_at t places w.end ≡ Is Empty
+  pub names : (home : Home) → w.home ≡ Some home → (a : Access) × (look_at t places w.end ≡ Is (Page home a))
+  pub named : (home : Home) → w.home ≡ Some home → is_some (name_at t.names home.0) ≡ true
+  pub copy : (s : Slot) → w.copy ≡ Some s → IsNearSlot t places s
+
+-- what holds of a walk over whatever drum
+abbrev pub WalkStands : Tables → List HomePlace → Walked → Type 0
+WalkStands t places (Along w) = WayStands t places w
+WalkStands t places (Absent home) = IsAwayMap t places home
+WalkStands t places NoChain = Unit {0}

@@ -3,7 +3,7 @@ ghost use Rattle.std.specs.Prelude.{◌≡◌, ◌<◌, map};
 ghost use Rattle.page_contracts.specs.DrumWords.{DrumWords};
 ghost use Rattle.page_contracts.specs.Stores.{is_taken};
 ghost use Rattle.pager_walk.specs.PagedMaps.{AreRooted, FitsMaps, tables_of};
-ghost use Rattle.pager_walk.specs.Walks.{TellsWalk, allows, walk_at, walk_behind, walk_end, walk_within, walked_behind};
+ghost use Rattle.pager_walk.specs.Walks.{TellsWalk, WalkStands, allows, walk_at, walk_behind, walk_end, walk_within, walked_behind};
 
 use crate::paged_entry::{Looked, MapTables, PagedEntry, entry};
 use machine_names::{Access, ForkName, Kind, SPACE_PAGES, Slot};
@@ -145,6 +145,7 @@ pub fn walk<S: Store>(store: &S, tables: &MapTables, at: Slot) -> Walked
     requires rooted { AreRooted (tables_of tables.now) (map is_taken (S.means.homes store.now)) }
     requires page { at.page < SPACE_PAGES }
     ensures answer { result ≡ walk_at (tables_of tables.now) (S.means.homes store.now) at }
+    ensures stands { WalkStands (tables_of tables.now) (S.means.homes store.now) result }
     ensures told { (d : DrumWords) → FitsMaps (tables_of tables.now) (S.means.homes store.now) d → TellsWalk (tables_of tables.now) (S.means.homes store.now) d at result }
 {
     walk_along(store, tables, CHAIN, at)

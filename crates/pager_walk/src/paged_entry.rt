@@ -4,7 +4,7 @@ ghost use Rattle.std.specs.FinMap as fin;
 ghost use Rattle.page_contracts.specs.DrumWords.{DrumWords};
 ghost use Rattle.page_contracts.specs.Stores.{FitsHomes, HomePlace, is_taken};
 ghost use Rattle.pager_walk.specs.Decoding.{pointer_in};
-ghost use Rattle.pager_walk.specs.PagedMaps.{AreRooted, FitsMaps, FollowsWithin, TellsEntry, entry_for, entry_in, look_at, maps_over, name_at, page_entry, tables_of};
+ghost use Rattle.pager_walk.specs.PagedMaps.{AreRooted, FitsMaps, LookStands, TellsEntry, entry_for, entry_in, look_at, maps_over, name_at, page_entry, tables_of};
 
 use crate::map_pages::{MapPage, free_maps, map_of, root};
 use machine_names::{Access, PageName, SPACE_PAGES, Slot};
@@ -160,7 +160,7 @@ pub fn entry<S: Store>(store: &S, tables: &MapTables, at: Slot) -> Looked
     requires rooted { AreRooted (tables_of tables.now) (map is_taken (S.means.homes store.now)) }
     requires page { at.page < SPACE_PAGES }
     ensures answer { result ≡ look_at (tables_of tables.now) (S.means.homes store.now) at }
-    ensures follows { FollowsWithin result }
+    ensures stands { LookStands (tables_of tables.now) (S.means.homes store.now) result }
     ensures told { (d : DrumWords) → FitsMaps (tables_of tables.now) (S.means.homes store.now) d → TellsEntry (tables_of tables.now) (S.means.homes store.now) d at result }
 {
     found(store, tables, at)

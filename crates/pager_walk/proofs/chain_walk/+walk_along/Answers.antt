@@ -3,7 +3,7 @@ use Rattle.pager_walk.specs.declared.paged_entry.PagedEntry.TheVariants.{Empty, 
 use Rattle.pager_walk.specs.declared.paged_entry.Looked.{Looked}
 use Rattle.pager_walk.specs.declared.paged_entry.Looked.TheVariants.{Is, Absent, Missing, Refused}
 use Rattle.pager_walk.specs.declared.chain_walk.Walked.TheVariants.{Along}
-use Rattle.pager_walk.specs.PagedMaps.{tables_of, FollowsWithin}
+use Rattle.pager_walk.specs.PagedMaps.{tables_of, LookStands}
 use Rattle.pager_walk.specs.Walks.{walked_behind}
 use Rattle.pager_walk.proofs.Walking.{walk_none, walk_here}
 use Rattle.pager_walk.proofs.chain_walk.+walk_along.Goals as goal
@@ -12,7 +12,7 @@ pub returns-then-most-eq0 : goal.returns-then-most-eq0
 returns-then-most-eq0 g t c = sym (walk_none c.args.most (tables_of c.args.tables.now) (g.S.Store.means.homes c.args.store.now) c.args.at c.if-most-eq0.true)
 
 pub walk_along-rest-requires : goal.walk_along-rest-requires
-walk_along-rest-requires g t c k l = (omega arith, (l, (c.requires.rooted, subst (λ (x : Looked). FollowsWithin x) (ap Is c.in-Is-Follows.field-0-is) c.in-Is-Follows.ensures.follows)))
+walk_along-rest-requires g t c k l = (omega arith, (l, (c.requires.rooted, subst (λ (x : Looked). LookStands (tables_of c.args.tables.now) (g.S.Store.means.homes c.args.store.now) x) (ap Is c.in-Is-Follows.field-0-is) c.in-Is-Follows.ensures.stands)))
 
 pub returns-in-Is-Empty : goal.returns-in-Is-Empty
 returns-in-Is-Empty g t c =
