@@ -1,7 +1,7 @@
 -- The page of a map whose entries follow another's.
-use Rattle.std.proofs.Common.{◌≡◌, ◌≢◌, ◌⊎◌, inl, inr, ℕ, zero, suc, ◌+◌, ◌<◌, ◌≤◌, List, [], ◌∷◌, Bool, true, false, not, cond, ◌||◌, Option, None, Some, length, map, replicate, refl, sym, ◌∙◌, ap, subst, arith, add-one}
+use Rattle.std.proofs.Common.{◌≡◌, inl, inr, ℕ, zero, suc, ◌+◌, ◌<◌, ◌≤◌, List, [], ◌∷◌, Bool, true, false, not, cond, ◌||◌, Option, Some, length, refl, sym, ◌∙◌, ap, subst, arith, add-one}
 use Rattle.std.specs.Prelude.{IsSome, slice_index, slice_index_or, slice_set, filter}
-use Rattle.std.specs.List.{list_any, range_with_len}
+use Rattle.std.specs.List.{list_any}
 use Rattle.std.specs.Option.{option_map_or}
 use Rattle.std.proofs.lemmas.List.{get_or-set_same, get_or-set_other, length-set, length-map, length-replicate, get_or-map}
 use Rattle.std.proofs.lemmas.List.FromFn.{fill_by_all}
@@ -10,13 +10,11 @@ use Rattle.outside.specs.declared.TheConstants.{PAGE_WORDS}
 use Rattle.machine_names.specs.declared.names.ForkName.{ForkName}
 use Rattle.machine_names.specs.declared.names.TheConstants.{LAST_SERIAL, SPACE_PAGES}
 use Rattle.machine_names.specs.PageWords.{zero_words}
-use Rattle.plain_pages.specs.declared.map.MapEntry.{MapEntry}
 use Rattle.plain_pages.specs.declared.map.MapEntry.TheVariants as entry
 use Rattle.plain_pages.specs.Maps.{full_access}
 use Rattle.plain_pages.specs.NewMaps.{following_map}
 use Rattle.share_table.specs.declared.pointer.Pointer.TheVariants.{Indirect}
-use Rattle.share_table.specs.Pointers.{IsPointer}
-use Rattle.page_contracts.specs.Stores.{StoreMeaning, HomePlace, free, here, place, is_here, Transfer, departs, without, noted_all, IsSound, IsMade, IsUsed}
+use Rattle.page_contracts.specs.Stores.{StoreMeaning, HomePlace, is_here, Transfer, departs, without, noted_all, IsSound, IsMade, IsUsed}
 use Rattle.pager_walk.specs.declared.paged_entry.PagedEntry.{PagedEntry}
 use Rattle.pager_walk.specs.declared.paged_entry.PagedEntry.TheVariants.{Follows}
 use Rattle.pager_walk.specs.NewPages.{following_word, following_words}
@@ -76,9 +74,10 @@ kept_all these (t ∷ queue) e = by (these t) refl e (kept_all these queue)
   where
     by : (b : Bool) → these t ≡ b → (b || list_any these queue) ≡ false → (list_any these queue ≡ false → (without these queue ≡ queue) × (filter these queue ≡ [])) → (without these (t ∷ queue) ≡ t ∷ queue) × (filter these (t ∷ queue) ≡ [])
     by true is h rest = absurd (cc h)
-    by false is h rest =
-        (ap (λ c. cond (not c) (t ∷ without these queue) (without these queue)) is ∙ ap (λ ys. t ∷ ys) (rest h).0,
-        ap (λ c. cond c (t ∷ filter these queue) (filter these queue)) is ∙ (rest h).1)
+    by false is h rest = (
+      ap (λ c. cond (not c) (t ∷ without these queue) (without these queue)) is ∙ ap (λ ys. t ∷ ys) (rest h).0,
+      ap (λ c. cond c (t ∷ filter these queue) (filter these queue)) is ∙ (rest h).1,
+    )
 
 set_twice : {A : Type 0} (xs : List A) (i : ℕ) (y z : A) → slice_set (slice_set xs i y) i z ≡ slice_set xs i z
 set_twice [] i y z = refl

@@ -7,3 +7,5 @@ pub mod Changing
 pub mod Begun
 pub mod Opened
 pub mod Followed
+pub mod Ended
+pub mod WalkLaws

@@ -18,14 +18,19 @@ use Rattle.share_table.specs.declared.pointer.Pointer.TheVariants as pointer
 use Rattle.share_table.specs.declared.shares.SharedPage.{SharedPage}
 use Rattle.share_table.specs.Pointers.{IsPointer}
 use Rattle.share_table.specs.Shares.{page_at}
+use Rattle.page_contracts.specs.declared.answers.Seen.{Seen}
+use Rattle.page_contracts.specs.declared.answers.Seen.TheVariants as seen
 use Rattle.page_contracts.specs.DrumWords.{DrumWords}
-use Rattle.page_contracts.specs.Stores.{HomePlace, free, away, here, place, is_taken, over_drum, content, word_in, away_at, away_home, FitsHomes}
+use Rattle.page_contracts.specs.Pages.{Scene, seen_of, map_away_or, FollowsPage, SeenNeeds}
+use Rattle.plain_pages.specs.PlainPages.{NumberedPages}
+use Rattle.page_contracts.specs.Stores.{StoreMeaning, HomePlace, free, away, here, place, is_taken, over_drum, content, word_in, away_at, away_home, FitsHomes}
 use Rattle.pager_walk.specs.declared.paged_entry.PagedEntry.{PagedEntry}
-use Rattle.pager_walk.specs.declared.paged_entry.PagedEntry.TheVariants.{Page}
-use Rattle.pager_walk.specs.declared.paged_entry.Looked.TheVariants.{Is, Refused}
+use Rattle.pager_walk.specs.declared.paged_entry.PagedEntry.TheVariants.{Empty, Page, Follows}
+use Rattle.pager_walk.specs.declared.paged_entry.Looked.{Looked}
+use Rattle.pager_walk.specs.declared.paged_entry.Looked.TheVariants.{Is, Absent, Missing, Refused}
 use Rattle.pager_walk.specs.Decoding.{pointer_in}
 use Rattle.pager_walk.specs.MapPages.{root_at, fork_at, index_of}
-use Rattle.pager_walk.specs.PagedMaps.{Tables, name_at, page_entry, entry_for, entry_in, plain_entry, entry_of, words_in, maps_over, AreRooted, FitsMaps, look_word, look_map, look_at, LookStands, TellsEntry}
+use Rattle.pager_walk.specs.PagedMaps.{Tables, seen_for, name_at, page_entry, entry_for, entry_in, plain_entry, entry_of, words_in, maps_over, AreRooted, FitsMaps, look_word, look_map, look_at, LookStands, TellsEntry, map_away}
 use Rattle.pager_walk.proofs.DecodedWords.{pointer_only}
 use Rattle.pager_walk.proofs.NumberedMaps.{index_fork}
 use Rattle.pager_walk.proofs.MapRows.{entry_over, entry_none}
@@ -143,3 +148,45 @@ module _ (t : Tables) (places : List HomePlace) (d : DrumWords) (rooted : AreRoo
       by : (o : Option ℕ) → index_of t.maps s.fork ≡ o → TellsEntry t places d s (look_map t places s.page o)
       by None is = (ap (option_and_then (λ j. away_at places (root_at t.maps j).0)) is, entry_none t places d s is)
       by (Some k) is = there k is (place places (root_at t.maps k).0) refl
+
+-- What is seen of a look
+pub record Sees (t : Tables) (places : List HomePlace) (s : Slot) (result : Seen) : Type 0 where
+  pub follows : FollowsPage result
+  pub told : (d : DrumWords) (p : NumberedPages) (scene : Scene) → FitsMaps t places d → p.maps ≡ maps_over t places d → scene.map_away ≡ map_away t places → result ≡ seen_of p scene s
+
+module _ (t : Tables) (places : List HomePlace) (rooted : AreRooted t (map is_taken places)) (pages : ArePages places) (s : Slot) (below : s.page < SPACE_PAGES) where
+  seen_follows : (l : Looked) → LookStands t places l → FollowsPage (seen_for t l)
+  seen_follows (Is Empty) x = tt
+  seen_follows (Is (Page home a)) x = tt
+  seen_follows (Is (Follows serial page a)) x = x
+  seen_follows (Absent home) x = tt
+  seen_follows Missing x = tt
+  seen_follows Refused x = tt
+
+  seen_told : (d : DrumWords) (p : NumberedPages) (scene : Scene) → p.maps ≡ maps_over t places d → scene.map_away ≡ map_away t places → (l : Looked) → TellsEntry t places d s l → seen_for t l ≡ seen_of p scene s
+  unfolding seen_of
+  seen_told d p scene maps absent (Is e) x =
+      sym (ap (λ (o : Option MapEntry). option_map_or (λ f. map_away_or (scene.map_away s.fork) (seen.Is f)) o seen.Missing) (ap (λ m. entry_at m s) maps ∙ x.1)
+      ∙ ap (λ o. map_away_or o (seen.Is (plain_entry t.names e))) (ap (λ (g : ForkName → Option ℕ). g s.fork) absent ∙ x.0))
+  seen_told d p scene maps absent (Absent home) x = by (entry_at (maps_over t places d) s) refl x.1
+    where
+      by : (o : Option MapEntry) → entry_at (maps_over t places d) s ≡ o → IsSome o → seen.Absent home ≡ option_map_or (λ f. map_away_or (scene.map_away s.fork) (seen.Is f)) (entry_at p.maps s) seen.Missing
+      by None is some = absurd (cc some)
+      by (Some e) is some =
+          sym (ap (λ (o : Option MapEntry). option_map_or (λ f. map_away_or (scene.map_away s.fork) (seen.Is f)) o seen.Missing) (ap (λ m. entry_at m s) maps ∙ is)
+          ∙ ap (λ o. map_away_or o (seen.Is e)) (ap (λ (g : ForkName → Option ℕ). g s.fork) absent ∙ x.0))
+  seen_told d p scene maps absent Missing x = sym (ap (λ (o : Option MapEntry). option_map_or (λ f. map_away_or (scene.map_away s.fork) (seen.Is f)) o seen.Missing) (ap (λ m. entry_at m s) maps ∙ x.1))
+  seen_told d p scene maps absent Refused x = absurd x
+
+  pub sees : Sees t places s (seen_for t (look_at t places s))
+  sees = record {
+    follows = seen_follows (look_at t places s) (stands_at t places rooted s);
+    told = λ d p scene fits maps absent. seen_told d p scene maps absent (look_at t places s) (looked t places d rooted pages fits s below);
+  }
+
+-- what is seen to be away is
+pub seen_needs : {S : Type 0} (means : StoreMeaning S) (store : S) (t : Tables) (l : Looked) → LookStands t (means.homes store) l → SeenNeeds means store (seen_for t l)
+seen_needs means store t (Is e) x = tt
+seen_needs means store t (Absent home) x = x.away
+seen_needs means store t Missing x = tt
+seen_needs means store t Refused x = tt

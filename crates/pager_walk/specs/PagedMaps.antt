@@ -15,6 +15,8 @@ use Rattle.plain_pages.specs.Maps.{entry_at}
 use Rattle.share_table.specs.declared.pointer.Pointer.{Pointer}
 use Rattle.share_table.specs.declared.pointer.Pointer.TheVariants as pointer
 use Rattle.share_table.specs.Shares.{Shares, page_at}
+use Rattle.page_contracts.specs.declared.answers.Seen.{Seen}
+use Rattle.page_contracts.specs.declared.answers.Seen.TheVariants as seen
 use Rattle.page_contracts.specs.DrumWords.{DrumWords}
 use Rattle.page_contracts.specs.Stores.{HomePlace, FitsHomes, place, away, word_in, content, away_at}
 use Rattle.pager_walk.specs.declared.map_pages.MapPage.{MapPage}
@@ -133,6 +135,17 @@ is_near Refused = true
 -- the tables with the map of a fork under a number, at a home
 abbrev pub with_root : Tables → ℕ → ForkName → Home → Tables
 with_root t k f home = record t { maps = slice_set t.maps k (record { fork = Some f; home = home }) }
+
+-- the tables with no fork's map under a number
+abbrev pub without_root : Tables → ℕ → Tables
+without_root t k = record t { maps = slice_set t.maps k (record { fork = None; home = root_at t.maps k }) }
+
+-- what a look finds, as the layer above sees it
+abbrev pub seen_for : Tables → Looked → Seen
+seen_for t (Is e) = seen.Is (plain_entry t.names e)
+seen_for t (Absent home) = seen.Absent home
+seen_for t Missing = seen.Missing
+seen_for t Refused = seen.Missing
 
 -- a home of a fork's map, which is in no frame
 pub record IsAwayMap (t : Tables) (places : List HomePlace) (home : Home) : Type 0 where

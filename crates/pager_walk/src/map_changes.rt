@@ -6,11 +6,11 @@ ghost use Rattle.plain_pages.specs.Maps.{set_entry};
 ghost use Rattle.plain_pages.specs.NewMaps.{empty_map, following_map};
 ghost use Rattle.share_table.specs.Pointers.{IsPointer, pointer_word};
 ghost use Rattle.page_contracts.specs.DrumWords.{DrumWords};
-ghost use Rattle.page_contracts.specs.Stores.{IsMade, IsUsed, free_homes, here, is_taken, place, room_of, with_word_in};
+ghost use Rattle.page_contracts.specs.Stores.{IsFreed, IsMade, IsUsed, free_homes, here, is_taken, place, room_of, with_word_in};
 ghost use Rattle.pager_walk.specs.declared.paged_entry.PagedEntry.{PagedEntry as APagedEntry};
 ghost use Rattle.pager_walk.specs.MapPages.{first_map, fork_at, index_of, root_at};
 ghost use Rattle.pager_walk.specs.NewPages.{following_words};
-ghost use Rattle.pager_walk.specs.PagedMaps.{AreRooted, FitsMaps, entry_for, is_near, look_at, maps_over, plain_entry, tables_of, with_root};
+ghost use Rattle.pager_walk.specs.PagedMaps.{AreRooted, FitsMaps, entry_for, is_near, look_at, maps_over, plain_entry, tables_of, with_root, without_root};
 
 use crate::chain_walk::FULL_ACCESS;
 use crate::map_pages::{MOST_MAPS, MapPage, map_of, root};
@@ -86,7 +86,13 @@ fn make_following<S: Store>(store: &mut S, serial: u32) -> Home
 
 /// The same, of a fork of the same terminal: each entry of the new map follows the same entry of it, with
 /// every right.
-pub fn begin_following<S: Store>(store: &mut S, tables: &mut MapTables, number: u32, fork: ForkName, leader: ForkName) -> Home
+pub fn begin_following<S: Store>(
+    store: &mut S,
+    tables: &mut MapTables,
+    number: u32,
+    fork: ForkName,
+    leader: ForkName,
+) -> Home
     requires rooted { AreRooted (tables_of tables.old) (map is_taken (S.means.homes store.old)) }
     requires absent { index_of tables.old.maps.items fork ≡ None }
     requires number { fork_at tables.old.maps.items number ≡ None }
@@ -109,4 +115,21 @@ pub fn begin_following<S: Store>(store: &mut S, tables: &mut MapTables, number: 
         home,
     };
     home
+}
+
+/// A fork's map goes: its home is given up, and its number is no fork's. What its entries named is named
+/// there no more.
+pub fn end<S: Store>(store: &mut S, tables: &mut MapTables, number: u32, fork: ForkName)
+    requires rooted { AreRooted (tables_of tables.old) (map is_taken (S.means.homes store.old)) }
+    requires fork { fork_at tables.old.maps.items number ≡ Some fork }
+    ensures freed { IsFreed S.means (root_at tables.old.maps.items number).0 store.old store.new }
+    ensures tables { tables_of tables.new ≡ without_root (tables_of tables.old) number }
+    ensures rooted { AreRooted (tables_of tables.new) (map is_taken (S.means.homes store.new)) }
+    ensures fits { (d : DrumWords) → FitsMaps (tables_of tables.old) (S.means.homes store.old) d → FitsMaps (tables_of tables.new) (S.means.homes store.new) d }
+    ensures told { (d : DrumWords) → FitsMaps (tables_of tables.old) (S.means.homes store.old) d
+        → maps_over (tables_of tables.new) (S.means.homes store.new) d ≡ fin.remove (maps_over (tables_of tables.old) (S.means.homes store.old) d) fork }
+{
+    let home = root(&tables.maps, number);
+    store.free(home);
+    tables.maps[number as usize] = MapPage { fork: None, home };
 }

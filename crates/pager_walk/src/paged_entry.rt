@@ -3,14 +3,17 @@ ghost use Rattle.std.specs.Prelude.{◌≡◌, ◌<◌, List, Bool, None, IfOk, 
 ghost use Rattle.std.specs.FinMap as fin;
 ghost use Rattle.page_contracts.specs.DrumWords.{DrumWords};
 ghost use Rattle.page_contracts.specs.Stores.{FitsHomes, HomePlace, is_taken};
+ghost use Rattle.plain_pages.specs.PlainPages.{NumberedPages};
+ghost use Rattle.page_contracts.specs.Pages.{FollowsPage, Scene, SeenNeeds, seen_of};
 ghost use Rattle.pager_walk.specs.Decoding.{pointer_in};
-ghost use Rattle.pager_walk.specs.PagedMaps.{AreRooted, FitsMaps, LookStands, TellsEntry, entry_for, entry_in, look_at, maps_over, name_at, page_entry, tables_of};
+ghost use Rattle.pager_walk.specs.PagedMaps.{AreRooted, FitsMaps, LookStands, TellsEntry, entry_for, entry_in, look_at, map_away, maps_over, name_at, name_of, page_entry, plain_entry, seen_for, tables_of};
 
 use crate::map_pages::{MapPage, free_maps, map_of, root};
-use machine_names::{Access, PageName, SPACE_PAGES, Slot};
+use machine_names::{Access, PageName, SPACE_PAGES, Slot, Tty};
 use outside::Memory;
-use page_contracts::Store;
+use page_contracts::{Seen, Store};
 use page_homes::Home;
+use plain_pages::MapEntry;
 use share_table::{Pointer, ShareTable, decode};
 use std::alloc::{AllocError, Global};
 use word36::Word;
@@ -104,6 +107,43 @@ impl MapTables {
         }
     }
 
+    // The name of the page of a home; that of none where it has none.
+    fn name(&self, home: Home) -> PageName
+        ensures { result ≡ name_of self.now.names.items home }
+    {
+        let nobody = PageName {
+            tty: Tty(0),
+            serial: 0,
+        };
+        if home.0 as usize >= self.names.len() {
+            return nobody;
+        }
+        self.names[home.0 as usize].unwrap_or(nobody)
+    }
+
+    /// An entry with the name of a page in the place of its home.
+    pub fn plain(&self, entry: PagedEntry) -> MapEntry
+        ensures { result ≡ plain_entry self.now.names.items entry }
+    {
+        match entry {
+            PagedEntry::Empty => MapEntry::Empty,
+            PagedEntry::Page(home, access) => MapEntry::Names(self.name(home), access),
+            PagedEntry::Follows(serial, page, access) => MapEntry::Follows(serial, page, access),
+        }
+    }
+
+    // What a look finds, as the layer above sees it.
+    fn shown(&self, looked: Looked) -> Seen
+        ensures { result ≡ seen_for (tables_of self.now) looked }
+    {
+        match looked {
+            Looked::Is(entry) => Seen::Is(self.plain(entry)),
+            Looked::Absent(home) => Seen::Absent(home),
+            Looked::Missing => Seen::Missing,
+            Looked::Refused => Seen::Missing,
+        }
+    }
+
     // The entry that a pointer is.
     fn entry_for(&self, pointer: Pointer) -> Option<PagedEntry>
         ensures { result ≡ entry_for (tables_of self.now) pointer }
@@ -164,4 +204,18 @@ pub fn entry<S: Store>(store: &S, tables: &MapTables, at: Slot) -> Looked
     ensures told { (d : DrumWords) → FitsMaps (tables_of tables.now) (S.means.homes store.now) d → TellsEntry (tables_of tables.now) (S.means.homes store.now) d at result }
 {
     found(store, tables, at)
+}
+
+/// The entry of a slot as the layer above sees it, with the name of a page in the place of its home. A word
+/// that stands for none is Missing, as is the entry of a fork that has no map.
+pub fn seen<S: Store>(store: &S, tables: &MapTables, at: Slot) -> Seen
+    requires rooted { AreRooted (tables_of tables.now) (map is_taken (S.means.homes store.now)) }
+    requires page { at.page < SPACE_PAGES }
+    ensures answer { result ≡ seen_for (tables_of tables.now) (look_at (tables_of tables.now) (S.means.homes store.now) at) }
+    ensures follows { FollowsPage result }
+    ensures needs { SeenNeeds S.means store.now result }
+    ensures told { (d : DrumWords) (p : NumberedPages) (scene : Scene) → FitsMaps (tables_of tables.now) (S.means.homes store.now) d → p.maps ≡ maps_over (tables_of tables.now) (S.means.homes store.now) d
+        → scene.map_away ≡ map_away (tables_of tables.now) (S.means.homes store.now) → result ≡ seen_of p scene at }
+{
+    tables.shown(entry(store, tables, at))
 }

@@ -22,7 +22,7 @@ returns g c =
       tables = refl;
       rooted = subst (λ (ps : List HomePlace). AreRooted after (map is_taken ps)) (sym m.homes) (rooted_begun t places r.rooted c.args.number c.args.fork home r.absent r.number r.most r.from r.below m.below m.was_free words);
       fits = λ d fits. subst (λ (ps : List HomePlace). FitsMaps after ps d) (sym m.homes)
-      (fits_begun t places r.rooted c.args.number c.args.fork home r.absent r.number r.most r.from r.below m.below m.was_free words d (following_there t c.args.leader.serial r.serial r.last) fits);
+          (fits_begun t places r.rooted c.args.number c.args.fork home r.absent r.number r.most r.from r.below m.below m.was_free words d (following_there t c.args.leader.serial r.serial r.last) fits);
       told = λ d fits. ap (λ (ps : List HomePlace). maps_over after ps d) m.homes
-      ∙ maps_begun t places r.rooted c.args.number c.args.fork home r.absent r.number r.most r.from r.below m.below m.was_free words d (following_map c.args.leader) (following_row t c.args.leader.serial r.serial r.last c.args.leader refl);
+          ∙ maps_begun t places r.rooted c.args.number c.args.fork home r.absent r.number r.most r.from r.below m.below m.was_free words d (following_map c.args.leader) (following_row t c.args.leader.serial r.serial r.last c.args.leader refl);
     }

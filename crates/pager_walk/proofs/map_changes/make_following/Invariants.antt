@@ -1,4 +1,3 @@
-use Rattle.std.proofs.Common.{ℕ}
 use Rattle.page_contracts.specs.Stores.{IsMade, here}
 use Rattle.pager_walk.specs.NewPages.{following_words}
 use Rattle.pager_walk.proofs.map_changes.make_following.Given as goal

@@ -31,7 +31,7 @@ returns g c =
     let is = sym c.in-Some.ensures in
     let same : (k : ℕ) → index_of t.maps c.args.at.fork ≡ Some k → c.in-Some.number ≡ k = λ k e. (let z : Some c.in-Some.number ≡ Some k = c.in-Some.ensures ∙ e in cc z) in
     let base : g.S.Store.means.homes c.put.new.self ≡ slice_set places (root_at t.maps c.in-Some.number).0 (with_word_in (place places (root_at t.maps c.in-Some.number).0) c.args.at.page (pointer_word c.args.pointer)) =
-        c.put.ensures.homes ∙ λ i. slice_set places (c.root-home.ensures i).0 (with_word_in (place places (c.root-home.ensures i).0) c.args.at.page (c.encode.ensures i)) in
+    c.put.ensures.homes ∙ λ i. slice_set places (c.root-home.ensures i).0 (with_word_in (place places (c.root-home.ensures i).0) c.args.at.page (c.encode.ensures i)) in
     let x = pointer_put t places (g.S.Store.means.homes c.put.new.self) c.args.at c.in-Some.number c.args.pointer c.requires.rooted is c.requires.near c.requires.pointer c.requires.entry base in
     record {
       homes = λ k e. base ∙ ap (λ j. slice_set places (root_at t.maps j).0 (with_word_in (place places (root_at t.maps j).0) c.args.at.page (pointer_word c.args.pointer))) (same k e);
