@@ -1,0 +1,5 @@
+pub mod Decoding
+pub mod MapPages
+pub mod PagedMaps
+pub mod Walks
+pub mod NewPages

@@ -1,0 +1,50 @@
+-- Which home has the map of each fork.
+use Rattle.std.specs.Prelude.{◌≡◌, ℕ, suc, ◌+◌, ◌*◌, ◌<◌, ◌≤◌, List, [], ◌∷◌, Bool, false, Option, None, Some, if◌then◌else◌, length, slice_index_or}
+use Rattle.std.specs.Option.{option_map_or}
+use Rattle.machine_names.specs.declared.names.ForkName.{ForkName}
+use Rattle.machine_names.specs.declared.names.Tty.{Tty}
+use Rattle.machine_names.specs.declared.names.TheConstants.{MOST_FORKS}
+use Rattle.machine_names.specs.Orders.{same_fork}
+use Rattle.page_homes.specs.declared.homes.Home.{Home}
+use Rattle.pager_walk.specs.declared.map_pages.MapPage.{MapPage}
+use Rattle.pager_walk.specs.declared.map_pages.TheConstants.{MOST_MAPS}
+
+-- the map of no fork
+abbrev pub no_map : MapPage
+no_map = record { fork = None; home = record { 0 = 0 } }
+
+-- the map with a number; there is none past the end
+abbrev pub map_at : List MapPage → ℕ → MapPage
+map_at maps k = slice_index_or maps k no_map
+
+-- the fork whose map has a number
+abbrev pub fork_at : List MapPage → ℕ → Option ForkName
+fork_at maps k = (map_at maps k).fork
+
+-- the home of the map with a number
+abbrev pub root_at : List MapPage → ℕ → Home
+root_at maps k = (map_at maps k).home
+
+-- whether a map is that of a fork
+abbrev pub is_map_of : MapPage → ForkName → Bool
+is_map_of m f = option_map_or (same_fork f) m.fork false
+
+abbrev pub one_later : Option ℕ → Option ℕ
+one_later None = None
+one_later (Some k) = Some (suc k)
+
+-- the number of the first map of a fork
+abbrev pub index_of : List MapPage → ForkName → Option ℕ
+index_of [] f = None
+index_of (m ∷ maps) f = if is_map_of m f then Some 0 else one_later (index_of maps f)
+
+-- the number of the first map that a terminal's forks may have
+abbrev pub first_map : Tty → ℕ
+first_map t = t.0 * MOST_FORKS
+
+-- Each fork has one map, among those of its terminal.
+pub record AreNumbered (maps : List MapPage) : Type 0 where
+  pub count : length maps ≡ MOST_MAPS
+  pub once : (j k : ℕ) (f : ForkName) → fork_at maps j ≡ Some f → fork_at maps k ≡ Some f → j ≡ k
+  pub from : (k : ℕ) (f : ForkName) → fork_at maps k ≡ Some f → first_map f.tty ≤ k
+  pub below : (k : ℕ) (f : ForkName) → fork_at maps k ≡ Some f → k < first_map f.tty + MOST_FORKS
