@@ -1,5 +1,5 @@
 -- What a new page with a name leaves of the plain maps: all of them, since no entry names it yet.
-use Rattle.std.proofs.Common.{◌≡◌, ◌≢◌, ◌⊎◌, inl, inr, ℕ, zero, suc, ◌<◌, ◌≤◌, List, [], ◌∷◌, Bool, true, false, cond, Option, None, Some, is_some, length, map, refl, sym, ◌∙◌, ap, subst, arith}
+use Rattle.std.proofs.Common.{◌≡◌, ◌≢◌, ◌⊎◌, inl, inr, ℕ, suc, ◌<◌, ◌≤◌, List, [], ◌∷◌, Bool, true, false, cond, Option, None, Some, is_some, length, map, refl, sym, ◌∙◌, ap, subst, arith}
 use Rattle.std.specs.Prelude.{IsSome, slice_index, slice_index_or, slice_set}
 use Rattle.std.specs.Option.{option_map, option_map_or, option_and_then, unwrap_or}
 use Rattle.std.specs.FinMap as fin
@@ -9,13 +9,10 @@ use Rattle.outside.specs.declared.TheConstants.{PAGE_WORDS}
 use Rattle.machine_names.specs.declared.names.Access.{Access}
 use Rattle.machine_names.specs.declared.names.ForkName.{ForkName}
 use Rattle.machine_names.specs.declared.names.PageName.{PageName}
-use Rattle.machine_names.specs.declared.names.TheConstants.{SPACE_PAGES}
 use Rattle.machine_names.specs.PageWords.{zero_words}
 use Rattle.machine_names.proofs.OrderLemmas.{fork_cmp_total, fork_cmp_apart}
 use Rattle.page_homes.specs.declared.homes.Home.{Home}
-use Rattle.plain_pages.specs.declared.map.MapEntry.{MapEntry}
 use Rattle.plain_pages.specs.declared.map.MapEntry.TheVariants as entry
-use Rattle.plain_pages.specs.PlainPages.{Map}
 use Rattle.share_table.specs.declared.pointer.Pointer.{Pointer}
 use Rattle.share_table.specs.declared.pointer.Pointer.TheVariants as pointer
 use Rattle.share_table.specs.declared.shares.SharedPage.{SharedPage}
@@ -31,7 +28,6 @@ use Rattle.pager_walk.proofs.NumberedMaps.{searched}
 use Rattle.pager_walk.proofs.MapRows.{get_over}
 use Rattle.pager_walk.proofs.Looking.{ArePages, taken_map, words_whole}
 use Rattle.pager_walk.proofs.Changing.{content_other, fits_still}
-use Rattle.pager_walk.proofs.Begun.{unnamed_of}
 
 map_same : {A B : Type 0} (f g : A → B) (xs : List A) (d : A) → ((i : ℕ) → i < length xs → f (slice_index_or xs i d) ≡ g (slice_index_or xs i d)) → map f xs ≡ map g xs
 map_same f g [] d same = refl

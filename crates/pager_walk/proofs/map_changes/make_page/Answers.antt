@@ -1,4 +1,4 @@
-use Rattle.std.proofs.Common.{List, map, refl, sym, ◌∙◌, ap, subst, arith}
+use Rattle.std.proofs.Common.{List, map, refl, sym, ◌∙◌, ap, subst}
 use Rattle.page_contracts.specs.Stores.{HomePlace, is_taken}
 use Rattle.pager_walk.specs.PagedMaps.{tables_of, with_name, maps_over, AreRooted, FitsMaps}
 use Rattle.pager_walk.proofs.NamedPages.{rooted_named, fits_named, maps_named}
