@@ -58,7 +58,7 @@ pub zero_row : (t : Tables) → row_of t (Some zero_words) ≡ empty_map
 unfolding zero_words empty_map
 zero_row t = map_replicate (entry_of t) PAGE_WORDS 0 ∙ ap (λ (o : Option Pointer). replicate SPACE_PAGES (option_map_or (plain_entry t.names) (option_and_then (entry_for t) o) entry.Empty)) zero_pointer
 
-unnamed_of : (o : Option PageName) → (is_some o ≡ true → ⊥) → o ≡ None
+pub unnamed_of : (o : Option PageName) → (is_some o ≡ true → ⊥) → o ≡ None
 unnamed_of None e = refl
 unnamed_of (Some n) e = absurd (e refl)
 

@@ -9,3 +9,4 @@ pub mod Opened
 pub mod Followed
 pub mod Ended
 pub mod WalkLaws
+pub mod NamedPages

@@ -136,6 +136,10 @@ is_near Refused = true
 abbrev pub with_root : Tables → ℕ → ForkName → Home → Tables
 with_root t k f home = record t { maps = slice_set t.maps k (record { fork = Some f; home = home }) }
 
+-- the tables with a name for the page of a home
+abbrev pub with_name : Tables → Home → PageName → Tables
+with_name t home name = record t { names = slice_set t.names home.0 (Some name) }
+
 -- the tables with no fork's map under a number
 abbrev pub without_root : Tables → ℕ → Tables
 without_root t k = record t { maps = slice_set t.maps k (record { fork = None; home = root_at t.maps k }) }

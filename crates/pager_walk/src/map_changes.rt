@@ -1,5 +1,5 @@
 // Changes of maps that are pages.
-ghost use Rattle.std.specs.Prelude.{◌≡◌, ◌<◌, ◌≤◌, ◌+◌, ℕ, None, Some, IsSome, true, map, slice_set};
+ghost use Rattle.std.specs.Prelude.{◌≡◌, ◌<◌, ◌≤◌, ◌+◌, ℕ, None, Some, IsSome, true, length, map, slice_set};
 ghost use Rattle.std.specs.FinMap as fin;
 ghost use Rattle.machine_names.specs.PageWords.{zero_words};
 ghost use Rattle.plain_pages.specs.Maps.{set_entry};
@@ -10,12 +10,12 @@ ghost use Rattle.page_contracts.specs.Stores.{IsFreed, IsMade, IsUsed, free_home
 ghost use Rattle.pager_walk.specs.declared.paged_entry.PagedEntry.{PagedEntry as APagedEntry};
 ghost use Rattle.pager_walk.specs.MapPages.{first_map, fork_at, index_of, root_at};
 ghost use Rattle.pager_walk.specs.NewPages.{following_words};
-ghost use Rattle.pager_walk.specs.PagedMaps.{AreRooted, FitsMaps, entry_for, is_near, look_at, maps_over, plain_entry, tables_of, with_root, without_root};
+ghost use Rattle.pager_walk.specs.PagedMaps.{AreRooted, FitsMaps, entry_for, is_near, look_at, maps_over, plain_entry, tables_of, with_name, with_root, without_root};
 
 use crate::chain_walk::FULL_ACCESS;
 use crate::map_pages::{MOST_MAPS, MapPage, map_of, root};
 use crate::paged_entry::MapTables;
-use machine_names::{ForkName, LAST_SERIAL, MOST_FORKS, SPACE_PAGES, Slot};
+use machine_names::{ForkName, LAST_SERIAL, MOST_FORKS, PageName, SPACE_PAGES, Slot};
 use page_contracts::{Room, Store};
 use page_homes::Home;
 use share_table::{Pointer, encode};
@@ -41,6 +41,23 @@ pub fn set<S: Store>(store: &mut S, tables: &MapTables, at: Slot, pointer: Point
     };
     let home = root(&tables.maps, number);
     store.put(home, at.page, encode(pointer));
+}
+
+/// Takes a free home for a zero page with a name. No entry names it yet.
+pub fn make_page<S: Store>(store: &mut S, tables: &mut MapTables, name: PageName) -> Home
+    requires rooted { AreRooted (tables_of tables.old) (map is_taken (S.means.homes store.old)) }
+    requires names { length (S.means.homes store.old) ≤ length tables.old.names.items }
+    requires room { room_of (free_homes (S.means.homes store.old)) (S.means.spare store.old) 1 ≡ Room.Enough }
+    ensures made { IsMade S.means result.0 (here zero_words) store.old store.new }
+    ensures tables { tables_of tables.new ≡ with_name (tables_of tables.old) result name }
+    ensures rooted { AreRooted (tables_of tables.new) (map is_taken (S.means.homes store.new)) }
+    ensures fits { (d : DrumWords) → FitsMaps (tables_of tables.old) (S.means.homes store.old) d → FitsMaps (tables_of tables.new) (S.means.homes store.new) d }
+    ensures told { (d : DrumWords) → FitsMaps (tables_of tables.old) (S.means.homes store.old) d
+        → maps_over (tables_of tables.new) (S.means.homes store.new) d ≡ maps_over (tables_of tables.old) (S.means.homes store.old) d }
+{
+    let home = store.make();
+    tables.names[home.0 as usize] = Some(name);
+    home
 }
 
 /// A fork gets a map under a number of its terminal that is no fork's: the page of a new home, each of whose
