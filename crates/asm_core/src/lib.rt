@@ -1,0 +1,12 @@
+//! An assembler of the machine's programs: a text of lines becomes words, each at its address.
+//! To the layers above a program is the list of its words, or the first fault in it.
+//! Stands on `word36` for words and octal texts, and on `machine_names` for texts of fixed room.
+#![tactic(auto)]
+
+mod cutting;
+mod half;
+mod line;
+mod numbers;
+
+pub use half::Half;
+pub use line::{AsmFault, Line, LineText, Placed, Statement, Symbol, Value};
