@@ -1,5 +1,5 @@
 // A line cut into its parts.
-ghost use Rattle.std.specs.Prelude.{◌≡◌, ◌≤◌, ◌==◌, length, None, Some, MatchOption, not};
+ghost use Rattle.std.specs.Prelude.{◌≡◌, ◌≤◌, ◌==◌, length, None, Some, MatchOption, IfSome, not, ◌+◌};
 ghost use Rattle.std.specs.List.{list_all, position};
 ghost use Rattle.asm_core.specs.Cutting.{behind_field, cut, ends_field, field, is_blank, is_line_code, is_line_text, is_over, past_blanks};
 
@@ -18,7 +18,8 @@ pub(crate) fn is_line_text(text: &[u8]) -> bool
 fn has_line_codes(text: &[u8]) -> bool
     ensures { result ≡ list_all is_line_code text.now }
 {
-    text.iter().all(|c| (b' ' <= *c && *c <= b'~') || *c == b'\t')
+    text.iter()
+        .all(|c| (b' ' <= *c && *c <= b'~') || *c == b'\t')
 }
 
 /// A text without the blanks in front of it.
@@ -48,7 +49,8 @@ pub(crate) fn cut_field(text: &[u8]) -> (&[u8], &[u8])
 fn field_end(text: &[u8]) -> Option<usize>
     ensures { result ≡ position ends_field text.now }
 {
-    text.iter().position(|c| *c == b' ' || *c == b'\t' || *c == b';')
+    text.iter()
+        .position(|c| *c == b' ' || *c == b'\t' || *c == b';')
 }
 
 /// Whether nothing but blanks and a comment is left of a line.
@@ -65,7 +67,8 @@ pub(crate) fn is_over(text: &[u8]) -> bool
 /// What stands before the first such mark of a text, and what behind it. None exactly where there is
 /// no such mark.
 pub(crate) fn cut(text: &[u8], mark: u8) -> Option<(&[u8], &[u8])>
-    ensures { MatchOption result (cut mark text.now ≡ None) (λ p. cut mark text.now ≡ Some (p.0.now, p.1.now)) }
+    ensures cut { MatchOption result (cut mark text.now ≡ None) (λ p. cut mark text.now ≡ Some (p.0.now, p.1.now)) }
+    ensures shorter { IfSome result (λ p. length p.0.now + length p.1.now + 1 ≡ length text.now) }
 {
     let at = place_of(text, mark)?;
     Some((&text[..at], &text[at + 1..]))

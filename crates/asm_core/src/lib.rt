@@ -6,6 +6,7 @@
 mod cutting;
 mod half;
 mod line;
+mod names;
 mod numbers;
 
 pub use half::Half;
