@@ -1,5 +1,5 @@
 // A line cut into its parts.
-ghost use Rattle.std.specs.Prelude.{◌≡◌, ◌≤◌, ◌==◌, length, None, Some, MatchOption, IfSome, not, ◌+◌};
+ghost use Rattle.std.specs.Prelude.{◌≡◌, ◌≤◌, ◌==◌, length, None, Some, MatchOption, IfSome, IsTrue, not, ◌+◌};
 ghost use Rattle.std.specs.List.{list_all, position};
 ghost use Rattle.asm_core.specs.Cutting.{behind_field, cut, ends_field, field, is_blank, is_line_code, is_line_text, is_over, past_blanks};
 
@@ -9,7 +9,8 @@ pub const LINE_CHARACTERS: usize = 256;
 /// Whether a text is a line without its line feed: at most 256 characters, each printed, a space or a tab.
 #[tactic(auto, unfolding(crate::specs::Cutting::is_line_text))]
 pub(crate) fn is_line_text(text: &[u8]) -> bool
-    ensures { result ≡ is_line_text text.now }
+    ensures value { result ≡ is_line_text text.now }
+    ensures short { IsTrue result → length text.now ≤ LINE_CHARACTERS }
 {
     text.len() <= LINE_CHARACTERS && has_line_codes(text)
 }
@@ -24,7 +25,8 @@ fn has_line_codes(text: &[u8]) -> bool
 
 /// A text without the blanks in front of it.
 pub(crate) fn past_blanks(text: &[u8]) -> &[u8]
-    ensures { result.now ≡ past_blanks text.now }
+    ensures value { result.now ≡ past_blanks text.now }
+    ensures shorter { length result.now ≤ length text.now }
 {
     let (_, behind) = text.split_at(first_unblank(text).unwrap_or(text.len()));
     behind
@@ -41,6 +43,7 @@ fn first_unblank(text: &[u8]) -> Option<usize>
 pub(crate) fn cut_field(text: &[u8]) -> (&[u8], &[u8])
     ensures field { result.0.now ≡ field text.now }
     ensures behind { result.1.now ≡ behind_field text.now }
+    ensures shorter { length result.1.now ≤ length text.now }
 {
     text.split_at(field_end(text).unwrap_or(text.len()))
 }

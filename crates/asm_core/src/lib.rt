@@ -8,6 +8,9 @@ mod half;
 mod line;
 mod names;
 mod numbers;
+mod operands;
+mod statements;
 
 pub use half::Half;
 pub use line::{AsmFault, Line, LineText, Placed, Statement, Symbol, Value};
+pub use statements::read_line;

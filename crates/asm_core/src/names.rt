@@ -35,7 +35,8 @@ pub(crate) fn call_of(word: &[u8]) -> Option<u16>
 /// The opcode that a word names.
 #[tactic(auto, unfolding(crate::specs::Names::opcode_of))]
 pub(crate) fn opcode_of(word: &[u8]) -> Option<u16>
-    ensures { result ≡ opcode_of word.now }
+    ensures value { result ≡ opcode_of word.now }
+    ensures below { IfSome result (λ op. op < 512) }
 {
     if let Some(op) = arithmetic(word) {
         return Some(op);

@@ -1,5 +1,5 @@
 // The numbers and symbols of a line.
-ghost use Rattle.std.specs.Prelude.{◌≡◌, ◌≤◌, ◌<◌, ◌^◌, IfSome};
+ghost use Rattle.std.specs.Prelude.{◌≡◌, ◌≤◌, ◌<◌, ◌^◌, IfSome, IsTrue, length};
 ghost use Rattle.std.specs.List.{list_all};
 ghost use Rattle.asm_core.specs.Numbers.{begins_with_letter, is_symbol, is_symbol_code, octal_number, register, value_of};
 
@@ -16,7 +16,7 @@ pub const SYMBOL_CHARACTERS: usize = 6;
 const REGISTER_DIGITS: usize = 2;
 
 /// How many accumulators there are.
-pub const REGISTERS: u64 = 16;
+pub const REGISTERS: u32 = 16;
 
 /// The number that 1 to so many octal digits write.
 pub(crate) fn octal_number(text: &[u8], most: usize) -> Option<u64>
@@ -36,11 +36,11 @@ pub(crate) fn half(text: &[u8]) -> Option<Half>
 
 /// The accumulator or index register that 1 or 2 octal digits write.
 #[tactic(auto, unfolding(crate::specs::Numbers::register))]
-pub(crate) fn register(text: &[u8]) -> Option<u64>
+pub(crate) fn register(text: &[u8]) -> Option<u32>
     ensures value { result ≡ register text.now }
     ensures below { IfSome result (λ n. n < 16) }
 {
-    let n = octal_number(text, REGISTER_DIGITS)?;
+    let n = octal_number(text, REGISTER_DIGITS)? as u32;
     if n < REGISTERS { Some(n) } else { None }
 }
 
@@ -48,6 +48,7 @@ pub(crate) fn register(text: &[u8]) -> Option<u64>
 #[tactic(auto, unfolding(crate::specs::Numbers::is_symbol))]
 pub(crate) fn is_symbol(text: &[u8]) -> bool
     ensures value { result ≡ is_symbol text.now }
+    ensures short { IsTrue result → length text.now ≤ SYMBOL_CHARACTERS }
 {
     begins_with_letter(text) && text.len() <= SYMBOL_CHARACTERS && has_symbol_codes(text)
 }
