@@ -1,4 +1,6 @@
 pub mod Cuts
 pub mod Digits
+pub mod Keys
 pub mod Naming
 pub mod Opcodes
+pub mod Surveying

@@ -2,3 +2,5 @@ pub mod Cutting
 pub mod Numbers
 pub mod Names
 pub mod Grammar
+pub mod Places
+pub mod Passes

@@ -10,6 +10,8 @@ mod names;
 mod numbers;
 mod operands;
 mod statements;
+mod survey;
+mod symbols;
 
 pub use half::Half;
 pub use line::{AsmFault, Line, LineText, Placed, Statement, Symbol, Value};

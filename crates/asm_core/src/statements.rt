@@ -1,5 +1,5 @@
 // The statements of a line, and a whole line.
-ghost use Rattle.std.specs.Prelude.{◌≡◌, ◌≤◌, length, map};
+ghost use Rattle.std.specs.Prelude.{◌≡◌, ◌≤◌, length, IfSome};
 ghost use Rattle.std.specs.List.{list_all};
 ghost use Rattle.std.specs.Str.{bytes_eq};
 ghost use Rattle.std.specs.Prelude.{nat_le};
@@ -7,7 +7,7 @@ ghost use Rattle.asm_core.specs.Grammar.{asciz, line_in, line_of, named, plain, 
 
 use crate::cutting::{LINE_CHARACTERS, cut, cut_field, is_line_text, is_over, past_blanks};
 use crate::names::{call_of, opcode_of};
-use crate::numbers::{half, is_symbol};
+use crate::numbers::{SYMBOL_CHARACTERS, half, is_symbol};
 use crate::operands::{instruction, word_of};
 use crate::{Line, LineText, Statement, Symbol};
 use word36::Word;
@@ -18,7 +18,8 @@ const MONITOR_CALL: u32 = 0o104000;
 /// A text without its line feed as a line. None exactly where it is no line of a program.
 #[tactic(auto, unfolding(crate::specs::Grammar::line_of))]
 pub fn read_line(text: &[u8]) -> Option<Line>
-    ensures { result ≡ line_of text.now }
+    ensures value { result ≡ line_of text.now }
+    ensures short { IfSome result (λ x. IfSome x.label (λ s. length s ≤ SYMBOL_CHARACTERS)) }
 {
     if is_line_text(text) {
         line_in(past_blanks(text))
@@ -32,7 +33,8 @@ pub fn read_line(text: &[u8]) -> Option<Line>
 #[tactic(auto, unfolding(crate::specs::Grammar::line_in))]
 fn line_in(text: &[u8]) -> Option<Line>
     requires { length text.now ≤ LINE_CHARACTERS }
-    ensures { result ≡ line_in text.now }
+    ensures value { result ≡ line_in text.now }
+    ensures short { IfSome result (λ x. IfSome x.label (λ s. length s ≤ SYMBOL_CHARACTERS)) }
 {
     if let Some((front, behind)) = cut(text, b':') {
         if is_symbol(front) {
