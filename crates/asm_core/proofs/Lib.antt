@@ -3,4 +3,5 @@ pub mod Digits
 pub mod Keys
 pub mod Naming
 pub mod Opcodes
+pub mod Reading
 pub mod Surveying
