@@ -1,3 +1,4 @@
+pub mod Assembling
 pub mod Cuts
 pub mod Digits
 pub mod Keys
@@ -5,3 +6,4 @@ pub mod Naming
 pub mod Opcodes
 pub mod Reading
 pub mod Surveying
+pub mod Wording

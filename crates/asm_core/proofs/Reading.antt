@@ -14,7 +14,7 @@ use Rattle.asm_core.proofs.Cuts.{cut_pieces, cut_remainder, uncut_pieces, uncut_
 
 module _ (before : List Line) (left : List ℕ) where
   module _ (line behind : List ℕ) (parted : cut 10 left ≡ Some (line, behind)) where
-    opened : read_behind before (pieces 10 left) (remainder 10 left) ≡ onward (next_line before line) (λ x. read_behind (before ++ x ∷ []) (pieces 10 behind) (remainder 10 behind))
+    pub opened : read_behind before (pieces 10 left) (remainder 10 left) ≡ onward (next_line before line) (λ x. read_behind (before ++ x ∷ []) (pieces 10 behind) (remainder 10 behind))
     unfolding read_behind
     opened =
         ap (λ ps. read_behind before ps (remainder 10 left)) (cut_pieces 10 left line behind parted)

@@ -5,10 +5,10 @@ use Rattle.std.specs.BTreeMap.{get}
 use Rattle.std.specs.List.{list_all}
 use Rattle.asm_core.specs.declared.line.Line.{Line}
 use Rattle.asm_core.specs.declared.line.AsmFault.{AsmFault}
-use Rattle.asm_core.specs.declared.line.AsmFault.TheVariants.{Memory, Doubled}
+use Rattle.asm_core.specs.declared.line.AsmFault.TheVariants.{Memory, Doubled, Undefined}
 use Rattle.asm_core.specs.declared.symbols.Symbols.{Symbols}
 use Rattle.asm_core.specs.declared.survey.Survey.{Survey}
-use Rattle.asm_core.specs.Places.{has_label, location, value_in}
+use Rattle.asm_core.specs.Places.{first_undefined, has_label, location, value_in}
 
 -- the number under which a symbol is kept: no two texts of bytes have the same
 abbrev pub key : List ℕ → ℕ
@@ -46,3 +46,7 @@ IsNew symbols (Some symbol) = symbols symbol ≡ None
 abbrev pub IsDoubled : (List ℕ → Option ℕ) → Option (List ℕ) → AsmFault → Type 0
 IsDoubled symbols None fault = ⊥
 IsDoubled symbols (Some symbol) fault = (fault ≡ Doubled symbol) × (symbols symbol ≢ None)
+
+-- the fault of the first of some symbols that has no value
+abbrev pub IsUndefined : (List ℕ → Option ℕ) → List (List ℕ) → AsmFault → Type 0
+IsUndefined symbols names fault = (symbol : List ℕ) × (fault ≡ Undefined symbol) × (first_undefined symbols names ≡ Some symbol)

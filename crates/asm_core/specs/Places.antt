@@ -79,14 +79,14 @@ words_by symbols (Halves l r) = joined (half_by symbols l) (half_by symbols r) �
 words_by symbols (Asciz text) = packed (length text / 5 + 1) text
 
 -- words at successive addresses
-unfoldable pub placed : ℕ → List ℕ → List Placed
-placed address [] = []
-placed address (w ∷ ws) = record { address = address; word = w } ∷ placed (address + 1) ws
+unfoldable pub placed_from : ℕ → List ℕ → List Placed
+placed_from address [] = []
+placed_from address (w ∷ ws) = record { address = address; word = w } ∷ placed_from (address + 1) ws
 
 -- the words of some lines behind others
 unfoldable pub assembled_by : (List ℕ → Option ℕ) → List Line → List Line → List Placed
 assembled_by symbols before [] = []
-assembled_by symbols before (x ∷ xs) = placed (location before) (words_by symbols x.statement) ++ assembled_by symbols (before ++ x ∷ []) xs
+assembled_by symbols before (x ∷ xs) = placed_from (location before) (words_by symbols x.statement) ++ assembled_by symbols (before ++ x ∷ []) xs
 
 -- the words of a program with their addresses, in the order of its lines
 unfoldable pub assembled : List Line → List Placed

@@ -9,10 +9,13 @@ mod line;
 mod names;
 mod numbers;
 mod operands;
+mod program;
 mod statements;
 mod survey;
 mod symbols;
+mod words;
 
 pub use half::Half;
 pub use line::{AsmFault, Line, LineText, Placed, Statement, Symbol, Value};
+pub use program::assemble;
 pub use statements::read_line;
