@@ -1,10 +1,9 @@
 -- What a program gives, as far as its lines were gone over.
-use Rattle.std.proofs.Common.{◌≡◌, ℕ, ◌+◌, ◌<◌, ◌≤◌, List, [], ◌∷◌, ◌++◌, length, Bool, true, false, Option, None, Some, Result, Ok, Err, refl, sym, ◌∙◌, ap, subst, arith, append_assoc}
+use Rattle.std.proofs.Common.{◌≡◌, ℕ, ◌+◌, List, [], ◌∷◌, ◌++◌, length, Bool, true, false, Option, None, Some, Result, Ok, Err, refl, sym, ◌∙◌, ap, append_assoc}
 use Rattle.std.specs.Prelude.{if◌then◌else◌, ◌==◌}
 use Rattle.std.specs.Option.{is_some}
 use Rattle.std.proofs.lemmas.List.{append-nil}
 use Rattle.asm_core.specs.declared.line.Line.{Line}
-use Rattle.asm_core.specs.declared.line.Placed.{Placed}
 use Rattle.asm_core.specs.declared.line.AsmFault.{AsmFault}
 use Rattle.asm_core.specs.declared.line.AsmFault.TheVariants.{Line as BadLine, Overrun, Doubled, Undefined}
 use Rattle.asm_core.specs.Cutting.{cut, pieces, remainder}

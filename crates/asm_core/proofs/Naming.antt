@@ -1,5 +1,5 @@
 -- The names in code are the lists of names.
-use Rattle.std.proofs.Common.{◌≡◌, ◌≢◌, ℕ, suc, ◌+◌, ◌<◌, List, [], ◌∷◌, ◌++◌, length, get_or, map, drop, Bool, true, false, eqb, Option, None, Some, refl, sym, ◌∙◌, ap, arith}
+use Rattle.std.proofs.Common.{◌≡◌, ◌≢◌, ℕ, ◌+◌, List, [], ◌∷◌, ◌++◌, Bool, true, false, Option, None, Some, refl, sym, ◌∙◌, ap}
 use Rattle.std.specs.Prelude.{codes, if◌then◌else◌, ◌&&◌}
 use Rattle.std.specs.Str.{bytes_eq}
 use Rattle.std.proofs.lemmas.Bool.{eq-eqb}
@@ -7,7 +7,7 @@ use Rattle.std.proofs.lemmas.Slice.Eq.{bytes_eq-Decides}
 use Rattle.asm_core.specs.declared.names.TheConstants.{CALL_NUMBERS}
 use Rattle.asm_core.specs.Cutting.{cut, pieces}
 use Rattle.asm_core.proofs.Cuts.{cut_pieces, uncut_pieces}
-use Rattle.asm_core.specs.Names.{Group, call_of, calls, in_groups, meaning, of_group, of_stem, of_stems, or_else}
+use Rattle.asm_core.specs.Names.{Group, calls, in_groups, meaning, of_group, of_stem, of_stems, or_else}
 
 -- names with numbers beside them
 abbrev pub numbered : List (List ℕ) → List ℕ → List (List ℕ × ℕ)

@@ -1,11 +1,11 @@
 -- Opcodes are below 512.
 use Rattle.std.proofs.Common.{◌≡◌, ℕ, ◌<◌, List, [], ◌∷◌, Bool, true, false, Option, None, Some, refl, sym, subst}
-use Rattle.std.specs.Prelude.{◌&&◌, nat_lt, if◌then◌else◌, IfSome}
+use Rattle.std.specs.Prelude.{nat_lt, if◌then◌else◌, IfSome}
 use Rattle.std.specs.List.{list_all}
 use Rattle.std.specs.Str.{bytes_eq}
 use Rattle.std.proofs.lemmas.Bool.{ltb-true}
 use Rattle.asm_core.specs.Cutting.{pieces}
-use Rattle.asm_core.specs.Names.{Group, arithmetic, in_groups, jumps, logic, meaning, of_group, opcode_of, or_else}
+use Rattle.asm_core.specs.Names.{Group, arithmetic, in_groups, jumps, logic, meaning, of_group, or_else}
 use Rattle.asm_core.proofs.Digits.{both}
 
 abbrev is_small : List ℕ × ℕ → Bool

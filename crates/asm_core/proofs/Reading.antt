@@ -1,12 +1,10 @@
 -- A program read line by line.
-use Rattle.std.proofs.Common.{◌≡◌, ◌≢◌, ℕ, suc, ◌+◌, ◌<◌, ◌≤◌, ◌^◌, List, [], ◌∷◌, ◌++◌, length, Bool, true, false, Option, None, Some, Result, Ok, Err, ◌⊎◌, inl, inr, refl, sym, ◌∙◌, ap, subst, arith, append_assoc}
+use Rattle.std.proofs.Common.{◌≡◌, ℕ, ◌+◌, List, [], ◌∷◌, ◌++◌, length, None, Some, Result, Ok, Err, inl, inr, refl, ◌∙◌, ap, arith}
 use Rattle.std.specs.Prelude.{if◌then◌else◌, ◌==◌}
-use Rattle.std.proofs.lemmas.List.{append-nil}
 use Rattle.asm_core.specs.declared.line.Line.{Line}
 use Rattle.asm_core.specs.declared.line.AsmFault.{AsmFault}
-use Rattle.asm_core.specs.declared.line.AsmFault.TheVariants.{Memory, Line as BadLine}
+use Rattle.asm_core.specs.declared.line.AsmFault.TheVariants.{Line as BadLine}
 use Rattle.asm_core.specs.declared.symbols.Symbols.{Symbols}
-use Rattle.asm_core.specs.declared.survey.Survey.{Survey}
 use Rattle.asm_core.specs.Cutting.{cut, pieces, remainder}
 use Rattle.asm_core.specs.Passes.{IsFault, Surveyed, kept}
 use Rattle.asm_core.specs.Places.{lines_of, location, next_line, onward, read_behind, value_in}

@@ -1,5 +1,5 @@
 -- How a line of a program is cut into its parts.
-use Rattle.std.specs.Prelude.{ℕ, List, [], ◌∷◌, Bool, true, false, not, ◌||◌, ◌&&◌, nat_le, if◌then◌else◌, ◌==◌, Option, None, Some, take, drop, length}
+use Rattle.std.specs.Prelude.{ℕ, List, [], ◌∷◌, Bool, true, not, ◌||◌, ◌&&◌, nat_le, if◌then◌else◌, ◌==◌, Option, None, Some, take, drop, length}
 use Rattle.std.specs.List.{list_all, position_or_len}
 
 -- a blank: a space or a tab

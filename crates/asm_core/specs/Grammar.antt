@@ -1,5 +1,5 @@
 -- The lines of a program.
-use Rattle.std.specs.Prelude.{ℕ, ◌+◌, ◌*◌, ◌^◌, List, [], ◌∷◌, Bool, ◌&&◌, nat_le, if◌then◌else◌, ◌==◌, Option, None, Some, length, codes}
+use Rattle.std.specs.Prelude.{ℕ, ◌+◌, ◌*◌, ◌^◌, List, [], ◌∷◌, ◌&&◌, nat_le, if◌then◌else◌, ◌==◌, Option, None, Some, length, codes}
 use Rattle.std.specs.List.{list_all}
 use Rattle.std.specs.Str.{bytes_eq}
 use Rattle.word36.specs.Words.{joined}

@@ -1,5 +1,5 @@
 -- The names of instructions and monitor calls (PDP-10 handbook, "User operations"; TENEX JSYS manual).
-use Rattle.std.specs.Prelude.{ℕ, ◌+◌, List, [], ◌∷◌, ◌++◌, Bool, if◌then◌else◌, Option, None, Some, codes}
+use Rattle.std.specs.Prelude.{ℕ, ◌+◌, List, [], ◌∷◌, ◌++◌, if◌then◌else◌, Option, None, Some, codes}
 use Rattle.std.specs.Str.{bytes_eq}
 use Rattle.asm_core.specs.Cutting.{pieces}
 

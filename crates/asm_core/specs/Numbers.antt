@@ -1,5 +1,5 @@
 -- The numbers and symbols of a program.
-use Rattle.std.specs.Prelude.{ℕ, List, [], ◌∷◌, Bool, true, false, ◌||◌, ◌&&◌, nat_le, nat_lt, if◌then◌else◌, ◌==◌, Option, None, Some, length}
+use Rattle.std.specs.Prelude.{ℕ, List, [], ◌∷◌, Bool, false, ◌||◌, ◌&&◌, nat_le, nat_lt, if◌then◌else◌, Option, None, Some, length}
 use Rattle.std.specs.List.{list_all}
 use Rattle.word36.specs.Octal.{octal_value}
 use Rattle.asm_core.specs.declared.line.Value.{Value}

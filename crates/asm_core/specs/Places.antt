@@ -1,5 +1,5 @@
 -- Where the lines of a program stand, what its symbols are, and what its words.
-use Rattle.std.specs.Prelude.{ℕ, zero, suc, ◌+◌, ◌*◌, ◌/◌, ◌%◌, ◌^◌, List, [], ◌∷◌, ◌++◌, Bool, false, true, not, ◌&&◌, ◌||◌, nat_le, nat_lt, if◌then◌else◌, ◌==◌, Option, None, Some, Result, Ok, Err, length, drop, slice_index}
+use Rattle.std.specs.Prelude.{ℕ, zero, suc, ◌+◌, ◌*◌, ◌/◌, ◌%◌, ◌^◌, List, [], ◌∷◌, ◌++◌, Bool, false, ◌&&◌, ◌||◌, nat_le, nat_lt, if◌then◌else◌, ◌==◌, Option, None, Some, Result, Ok, Err, length, drop, slice_index}
 use Rattle.std.specs.Option.{is_some, unwrap_or}
 use Rattle.std.specs.Str.{bytes_eq}
 use Rattle.word36.specs.Words.{joined}
@@ -10,7 +10,7 @@ use Rattle.asm_core.specs.declared.line.Statement.TheVariants.{Nothing, Loc, Num
 use Rattle.asm_core.specs.declared.line.Line.{Line}
 use Rattle.asm_core.specs.declared.line.Placed.{Placed}
 use Rattle.asm_core.specs.declared.line.AsmFault.{AsmFault}
-use Rattle.asm_core.specs.declared.line.AsmFault.TheVariants.{Memory, Line as BadLine, Overrun, Doubled, Undefined}
+use Rattle.asm_core.specs.declared.line.AsmFault.TheVariants.{Line as BadLine, Overrun, Doubled, Undefined}
 use Rattle.asm_core.specs.Cutting.{pieces, remainder}
 use Rattle.asm_core.specs.Grammar.{line_of}
 

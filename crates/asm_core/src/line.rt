@@ -41,14 +41,14 @@ pub struct Line {
 }
 
 /// A word at its address.
-#[derive(Clone, Copy)]
+#[derive(Clone, Copy, PartialEq, Eq)]
 pub struct Placed {
     pub address: u32,
     pub word: Word,
 }
 
 /// Why a text is no program. Lines are numbered from 1.
-#[derive(Clone, Copy, Drop)]
+#[derive(Clone, Copy, PartialEq, Eq, Drop)]
 pub enum AsmFault {
     /// No memory was left.
     Memory,

@@ -1,8 +1,7 @@
-use Rattle.std.proofs.Common.{ℕ, List, ◌≡◌, ◌∙◌, ◌+◌, sym, ap, take, drop, length, Some}
+use Rattle.std.proofs.Common.{ℕ, List, ◌∙◌, ◌+◌, sym, ap, take, drop, Some}
 use Rattle.std.specs.Prelude.{◌==◌}
 use Rattle.std.proofs.lemmas.List.{take_rest}
-use Rattle.asm_core.specs.Cutting.{cut}
-use Rattle.asm_core.proofs.Cuts.{cut_found, cut_missed, found, not_found, place}
+use Rattle.asm_core.proofs.Cuts.{cut_found, cut_missed, found, not_found}
 use Rattle.asm_core.proofs.cutting.cut.Goals as goal
 
 pub returns-clause-cut : goal.returns-clause-cut

@@ -1,4 +1,4 @@
-use Rattle.std.proofs.Common.{◌≡◌, map, drop}
+use Rattle.std.proofs.Common.{◌≡◌, drop}
 use Rattle.asm_core.specs.Cutting.{pieces}
 use Rattle.asm_core.specs.Names.{call_of, meaning}
 use Rattle.asm_core.proofs.Naming.{numbered}

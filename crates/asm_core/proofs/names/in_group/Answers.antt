@@ -1,4 +1,4 @@
-use Rattle.std.proofs.Common.{◌≡◌, ◌+◌, List, ℕ, arith, sym, ◌∙◌, ap, Option}
+use Rattle.std.proofs.Common.{◌+◌, ℕ, arith, sym, ◌∙◌, ap, Option}
 use Rattle.asm_core.specs.Cutting.{pieces}
 use Rattle.asm_core.specs.Names.{meaning, of_group, of_stems, or_else}
 use Rattle.asm_core.proofs.Naming.{stems_cut, stems_uncut}

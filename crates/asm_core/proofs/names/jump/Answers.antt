@@ -1,4 +1,4 @@
-use Rattle.std.proofs.Common.{sym, ◌∙◌, ap, drop, get_or, codes, ◌∷◌, []}
+use Rattle.std.proofs.Common.{sym, ◌∙◌, drop, codes}
 use Rattle.asm_core.specs.Names.{jumps, on_condition, plain}
 use Rattle.asm_core.proofs.Naming.{group_has, group_passed, last_group}
 use Rattle.asm_core.proofs.names.jump.Goals as goal

@@ -1,4 +1,4 @@
-use Rattle.std.proofs.Common.{sym, ◌∙◌, lit<}
+use Rattle.std.proofs.Common.{sym, lit<}
 use Rattle.asm_core.proofs.Digits.{symbol_short}
 use Rattle.asm_core.proofs.numbers.value.Goals as goal
 

@@ -1,11 +1,9 @@
-use Rattle.std.proofs.Common.{◌≡◌, ◌∙◌, ◌++◌, ◌∷◌, ℕ, List, [], Ok, Err, ⊎_elim, inl, inr, refl, sym, ap, arith}
+use Rattle.std.proofs.Common.{◌≡◌, ◌∙◌, ◌++◌, ◌∷◌, List, [], Ok, Err, ⊎_elim, inl, inr, refl, sym, ap, arith}
 use Rattle.std.proofs.lemmas.Result.{err_from_is_err_and}
 use Rattle.asm_core.specs.declared.line.Line.{Line}
 use Rattle.asm_core.specs.declared.line.Placed.{Placed}
-use Rattle.asm_core.specs.declared.line.AsmFault.{AsmFault}
-use Rattle.asm_core.specs.Cutting.{pieces, remainder}
 use Rattle.asm_core.specs.Passes.{IsUndefined, kept}
-use Rattle.asm_core.specs.Places.{assembled_by, behind, first_undefined, location, outcome, placed_from, read_behind, used, uses, words_by}
+use Rattle.asm_core.specs.Places.{assembled_by, behind, first_undefined, location, placed_from, used, uses, words_by}
 use Rattle.asm_core.proofs.Assembling.{assembled_more, assembled_none, defined_more, line_fits, line_more, line_read, no_line, none_used, outcome_done, outcome_undefined, read_all, undefined_here}
 use Rattle.asm_core.proofs.Reading.{start_read}
 use Rattle.asm_core.proofs.Surveying.{location_more, words_below}

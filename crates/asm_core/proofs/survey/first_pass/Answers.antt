@@ -1,4 +1,4 @@
-use Rattle.std.proofs.Common.{◌≡◌, ◌∙◌, ◌+◌, ℕ, Bool, [], ◌∷◌, ◌++◌, Ok, Err, length, refl, sym, ap, inr, arith, length-append}
+use Rattle.std.proofs.Common.{◌∙◌, ◌+◌, ℕ, Bool, [], ◌∷◌, ◌++◌, Ok, Err, length, sym, ap, inr, arith, length-append}
 use Rattle.std.specs.Prelude.{if◌then◌else◌}
 use Rattle.std.proofs.lemmas.Result.{err_from_is_err_and}
 use Rattle.asm_core.specs.declared.line.AsmFault.TheVariants.{Line as BadLine}

@@ -1,4 +1,4 @@
-use Rattle.std.proofs.Common.{◌-◌, ◌≡◌, length, get_or, arith}
+use Rattle.std.proofs.Common.{◌-◌, length, get_or, arith}
 use Rattle.asm_core.proofs.Keys.{bytes_read, key_small, key_step, power_small}
 use Rattle.asm_core.proofs.symbols.key.Goals as goal
 

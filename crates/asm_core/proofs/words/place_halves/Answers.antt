@@ -1,4 +1,4 @@
-use Rattle.std.proofs.Common.{ℕ, List, [], ◌≡◌, ◌∙◌, ◌∷◌, ◌++◌, inr, sym, ap}
+use Rattle.std.proofs.Common.{ℕ, [], ◌∙◌, ◌∷◌, ◌++◌, inr, ap}
 use Rattle.std.proofs.lemmas.Result.{err_from_is_err_and}
 use Rattle.word36.specs.Words.{joined}
 use Rattle.asm_core.specs.declared.line.Placed.{Placed}

@@ -1,6 +1,6 @@
-use Rattle.std.proofs.Common.{ℕ, List, [], ◌≡◌, ◌∙◌, ◌∷◌, ◌++◌, ◌+◌, ◌-◌, ◌/◌, length, drop, sym, ap}
+use Rattle.std.proofs.Common.{ℕ, List, [], ◌∙◌, ◌∷◌, ◌++◌, ◌+◌, ◌-◌, ◌/◌, length, drop, sym, ap}
 use Rattle.asm_core.specs.declared.line.Placed.{Placed}
-use Rattle.asm_core.specs.Places.{five, packed, placed_from}
+use Rattle.asm_core.specs.Places.{packed, placed_from}
 use Rattle.asm_core.proofs.Wording.{text_end, text_start, text_step}
 use Rattle.asm_core.proofs.words.place_text.Goals as goal
 

@@ -1,4 +1,4 @@
-use Rattle.std.proofs.Common.{◌≡◌, ◌++◌, ◌+◌, ◌-◌, ◌/◌, length}
+use Rattle.std.proofs.Common.{◌≡◌, ◌++◌, ◌+◌, ◌-◌}
 use Rattle.asm_core.specs.Places.{packed, placed_from}
 use Rattle.asm_core.proofs.words.place_text.Given as goal
 

@@ -1,4 +1,4 @@
-use Rattle.std.proofs.Common.{◌≡◌, ◌∙◌, ◌+◌, refl, ap, inr, arith}
+use Rattle.std.proofs.Common.{◌∙◌, ◌+◌, refl, ap, inr, arith}
 use Rattle.std.proofs.lemmas.Result.{err_from_is_err_and}
 use Rattle.asm_core.specs.Places.{behind}
 use Rattle.asm_core.proofs.Surveying.{label_below, next_bad, next_doubled, next_ok, next_overrun, next_stands, words_below}

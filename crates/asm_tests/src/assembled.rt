@@ -1,0 +1,31 @@
+// What a text is assembled to.
+use crate::same::same_for;
+use asm_core::{AsmFault, Placed, assemble};
+use std::alloc::Global;
+use std::process::Abort;
+use std::test::Fail;
+use word36::Word;
+
+// A text's words stand at these addresses.
+pub fn gives(rt: &impl Abort, alloc: Global, text: &str, want: &[(u32, u64)]) -> Result<(), Fail> {
+    let Ok(program) = assemble(alloc, text.as_bytes()) else {
+        return Ok(assert!(rt; false, "for {text}"));
+    };
+    same_for(rt, text, program.len(), want.len());
+    for (got, (address, word)) in program.iter().zip(want) {
+        let want = Placed {
+            address: *address,
+            word: Word::wrapped(*word),
+        };
+        same_for(rt, text, *got, want);
+    }
+    Ok(())
+}
+
+// A text has this fault.
+pub fn fails(rt: &impl Abort, alloc: Global, text: &str, want: AsmFault) {
+    match assemble(alloc, text.as_bytes()) {
+        Ok(_) => assert!(rt; false, "for {text}"),
+        Err(fault) => same_for(rt, text, fault, want),
+    }
+}
