@@ -1,6 +1,7 @@
 pub mod Assembling
 pub mod Cuts
 pub mod Digits
+pub mod Faulting
 pub mod Keys
 pub mod Naming
 pub mod Opcodes

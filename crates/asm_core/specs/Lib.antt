@@ -4,3 +4,4 @@ pub mod Names
 pub mod Grammar
 pub mod Places
 pub mod Passes
+pub mod Faults

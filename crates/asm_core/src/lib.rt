@@ -5,6 +5,7 @@
 
 mod cutting;
 mod half;
+mod laws;
 mod line;
 mod names;
 mod numbers;
@@ -16,6 +17,7 @@ mod symbols;
 mod words;
 
 pub use half::Half;
+pub use laws::first_fault_decides;
 pub use line::{AsmFault, Line, LineText, Placed, Statement, Symbol, Value};
 pub use program::assemble;
 pub use statements::read_line;

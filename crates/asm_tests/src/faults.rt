@@ -1,11 +1,12 @@
 // Faults and their lines.
 use crate::assembled::{fails, gives};
 use asm_core::{AsmFault, Symbol};
+use std::alloc::Global;
 use std::process::Abort;
 use std::test::Fail;
 
 #[test]
-fn lines_of_no_program_are_told(rt: HostRuntime) {
+fn lines_of_no_program_are_told(rt: HostRuntime) -> Result<(), Fail> {
     let alloc = rt.alloc();
     for line in [
         "A",
@@ -44,8 +45,9 @@ fn lines_of_no_program_are_told(rt: HostRuntime) {
         " HALTF\r",
         "\u{7f}",
     ] {
-        same_line(&rt, alloc, line);
+        same_line(&rt, alloc, line)?;
     }
+    Ok(())
 }
 
 // A line between two others has no right form.

@@ -2,6 +2,7 @@
 use crate::assembled::gives;
 use crate::same::same_for;
 use ka10_table::{Family, row};
+use std::alloc::Global;
 use std::process::Abort;
 use std::test::Fail;
 

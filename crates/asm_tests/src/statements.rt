@@ -54,7 +54,7 @@ fn operands_fill_their_fields(rt: HostRuntime) -> Result<(), Fail> {
 fn texts_are_packed(rt: HostRuntime) -> Result<(), Fail> {
     let alloc = rt.alloc();
     gives(&rt, alloc, " ASCIZ \"\"\n", &[(0, 0)])?;
-    gives(&rt, alloc, " ASCIZ \"AAAA\" ;A\n", &[(0, 0o406030140600)])?;
+    gives(&rt, alloc, " ASCIZ \"AAAA\" ;A\n", &[(0, 0o406030140400)])?;
     gives(
         &rt,
         alloc,
@@ -65,7 +65,7 @@ fn texts_are_packed(rt: HostRuntime) -> Result<(), Fail> {
         &rt,
         alloc,
         " ASCIZ \"A;: ~~\"\n",
-        &[(0, 0o407667220374), (1, 0o770000000000)],
+        &[(0, 0o405667220374), (1, 0o770000000000)],
     )
 }
 
