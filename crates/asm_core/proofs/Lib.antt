@@ -2,6 +2,7 @@ pub mod Assembling
 pub mod Cuts
 pub mod Digits
 pub mod Faulting
+pub mod Fields
 pub mod Keys
 pub mod Naming
 pub mod Opcodes

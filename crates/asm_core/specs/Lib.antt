@@ -5,3 +5,4 @@ pub mod Grammar
 pub mod Places
 pub mod Passes
 pub mod Faults
+pub mod Words
