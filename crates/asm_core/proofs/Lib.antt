@@ -3,9 +3,11 @@ pub mod Cuts
 pub mod Digits
 pub mod Faulting
 pub mod Fields
+pub mod Joining
 pub mod Keys
 pub mod Naming
 pub mod Opcodes
+pub mod Packing
 pub mod Reading
 pub mod Surveying
 pub mod Wording

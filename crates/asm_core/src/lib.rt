@@ -17,7 +17,9 @@ mod symbols;
 mod words;
 
 pub use half::Half;
-pub use laws::{first_fault_decides, instructions_have_fields};
+pub use laws::{
+    characters_come_back, first_fault_decides, instructions_have_fields, programs_join,
+};
 pub use line::{AsmFault, Line, LineText, Placed, Statement, Symbol, Value};
 pub use program::assemble;
 pub use statements::read_line;
