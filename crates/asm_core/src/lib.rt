@@ -23,3 +23,4 @@ pub use laws::{
 pub use line::{AsmFault, Line, LineText, Placed, Statement, Symbol, Value};
 pub use program::assemble;
 pub use statements::read_line;
+pub use survey::PROGRAM_BYTES;

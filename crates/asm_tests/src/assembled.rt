@@ -1,14 +1,23 @@
 // What a text is assembled to.
 use crate::same::same_for;
-use asm_core::{AsmFault, Placed, assemble};
+use asm_core::{AsmFault, PROGRAM_BYTES, Placed, assemble};
 use std::alloc::Global;
 use std::process::Abort;
 use std::test::Fail;
 use word36::Word;
 
+// What a text is assembled to, if it is not too long.
+fn assembled(alloc: Global, text: &str) -> Result<Vec<Placed>, AsmFault> {
+    let bytes = text.as_bytes();
+    if bytes.len() > PROGRAM_BYTES {
+        return Err(AsmFault::Memory);
+    }
+    assemble(alloc, bytes)
+}
+
 // A text's words stand at these addresses.
 pub fn gives(rt: &impl Abort, alloc: Global, text: &str, want: &[(u32, u64)]) -> Result<(), Fail> {
-    let Ok(program) = assemble(alloc, text.as_bytes()) else {
+    let Ok(program) = assembled(alloc, text) else {
         return Ok(assert!(rt; false, "for {text}"));
     };
     same_for(rt, text, program.len(), want.len());
@@ -24,8 +33,5 @@ pub fn gives(rt: &impl Abort, alloc: Global, text: &str, want: &[(u32, u64)]) ->
 
 // A text has this fault.
 pub fn fails(rt: &impl Abort, alloc: Global, text: &str, want: AsmFault) {
-    match assemble(alloc, text.as_bytes()) {
-        Ok(_) => assert!(rt; false, "for {text}"),
-        Err(fault) => same_for(rt, text, fault, want),
-    }
+    same_for(rt, text, assembled(alloc, text).err(), Some(want));
 }

@@ -1,4 +1,6 @@
 // The names of the instructions.
+ghost use Rattle.std.specs.Prelude.{◌<◌};
+
 use crate::assembled::gives;
 use crate::same::same_for;
 use ka10_table::{Family, row};

@@ -73,7 +73,7 @@ fn texts_are_packed(rt: HostRuntime) -> Result<(), Fail> {
 fn calls_have_names(rt: HostRuntime) -> Result<(), Fail> {
     let alloc = rt.alloc();
     for (name, number) in [
-        ("GETER", 0o12),
+        ("GETER", 0o12u16),
         ("TIME", 0o14),
         ("RUNTM", 0o15),
         ("GTJFN", 0o20),
@@ -118,7 +118,12 @@ fn calls_have_names(rt: HostRuntime) -> Result<(), Fail> {
         ("HALTF", 0o170),
     ] {
         let line = format!(in alloc; " {name}\n")?;
-        gives(&rt, alloc, line.as_str(), &[(0, 0o104000000000 + number)])?;
+        gives(
+            &rt,
+            alloc,
+            line.as_str(),
+            &[(0, 0o104000000000 + u64::from(number))],
+        )?;
     }
     Ok(())
 }
