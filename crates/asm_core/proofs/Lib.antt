@@ -1,0 +1,13 @@
+pub mod Assembling
+pub mod Cuts
+pub mod Digits
+pub mod Faulting
+pub mod Fields
+pub mod Joining
+pub mod Keys
+pub mod Naming
+pub mod Opcodes
+pub mod Packing
+pub mod Reading
+pub mod Surveying
+pub mod Wording
