@@ -12,8 +12,10 @@ top=$(cd "$(dirname "$0")/.." && pwd)
 work=$(mktemp -d)
 trap 'rm -rf "$work"' EXIT
 
-grows='file_dir create, delete=create moves the names behind the new one'
-timed='number_set tournament number_map page_files jfn_table file_dir frame_order drum_queue frame_table share_table script_lang tty_lines exec_cmd'
+grows='file_dir create, delete=create moves the names behind the new one
+frame_table victim=victim looks at all frames
+frame_table victim, others pinned=victim looks at all frames'
+timed='number_set number_map page_files jfn_table file_dir frame_order drum_queue frame_table share_table script_lang tty_lines exec_cmd'
 
 mkdir -p "$work/crates/leaf_speed/src"
 for crate in word36 outside page_homes machine_names script_texts plain_files plain_typing $timed; do
@@ -44,7 +46,6 @@ use script_lang::big_from;
 use share_table::{Pointer, Share, ShareTable, decode, encode};
 use std::io;
 use std::time::CpuClock;
-use tournament::Tournament;
 use tty_lines::Line;
 
 // How many nanoseconds the last round of turns takes at least.
@@ -108,20 +109,6 @@ fn number_set(rt: &HostRuntime, filled: u32) -> io::Result<()> {
         let least = numbers.least_absent(0);
         numbers.insert(n as usize);
         least
-    })
-}
-
-fn tournament(rt: &HostRuntime, filled: u32) -> io::Result<()> {
-    let timer = Timer::of(rt, "tournament", filled);
-    let mut keys = there(Tournament::boot(rt.alloc(), filled as usize))?;
-    for n in 0..filled {
-        keys.set(n as usize, Some(u64::from(n)));
-    }
-    timer.time("winner", |_| keys.winner())?;
-    timer.time("set, set, winner", |n| {
-        keys.set(n as usize, None);
-        keys.set(n as usize, Some(u64::from(n)));
-        keys.winner()
     })
 }
 
@@ -343,7 +330,6 @@ fn main(rt: HostRuntime) -> io::Result<()> {
     file_dir(&rt, 16)?;
     file_dir(&rt, 512)?;
     for frames in [64, 8192] {
-        tournament(&rt, frames)?;
         frame_order(&rt, frames)?;
         drum_queue(&rt, frames)?;
         frame_table(&rt, frames)?;

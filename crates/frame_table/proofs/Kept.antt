@@ -1,12 +1,12 @@
 -- What each change of a frame leaves of how the frames are kept.
-use Rattle.std.proofs.Common.{◌≡◌, ◌≢◌, ◌∷◌, ℕ, zero, suc, ◌+◌, ◌-◌, ◌^◌, ◌<◌, ◌≤◌, inl, inr, List, length, map as each, Option, None, Some, is_some, cond, refl, sym, ◌∙◌, ap, subst, arith, get_or, set, replicate, count_by}
+use Rattle.std.proofs.Common.{◌≡◌, ◌≢◌, ℕ, zero, suc, ◌+◌, ◌-◌, ◌^◌, ◌<◌, ◌≤◌, inl, inr, List, length, Option, None, Some, is_some, cond, refl, sym, ◌∙◌, ap, subst, arith, get_or, set, replicate, count_by}
 use Rattle.std.specs.Prelude.{is_none}
 use Rattle.std.specs.Option.{option_map, option_map_or}
 use Rattle.std.specs.Ordering.{nat_cmp}
 use Rattle.std.specs.FinMap as map
 use Rattle.std.specs.FinSet as members
 use Rattle.std.proofs.lemmas.Bool.{cases_eq, cases_lt}
-use Rattle.std.proofs.lemmas.List.{get_or-set_same, get_or-set_other, length-set, get_or_past, length-replicate, map-set, set-get_or}
+use Rattle.std.proofs.lemmas.List.{get_or-set_same, get_or-set_other, length-set, get_or_past, length-replicate, set-get_or}
 use Rattle.std.proofs.lemmas.List.Sums.{sum_by-set, sum_by-cons, count_by-le-length}
 use Rattle.number_map.proofs.Keys.{get_put, get_put_other, get_gone, get_gone_other}
 use Rattle.number_set.proofs.Members as numbers
@@ -18,12 +18,9 @@ use Rattle.machine_names.specs.PageWords.{zero_words}
 use Rattle.frame_table.specs.declared.tenant.Tenant.{Tenant}
 use Rattle.frame_table.specs.declared.tenant.TheConstants.{MOST_PINS}
 use Rattle.frame_table.specs.Core.{Core, LAST_USE, seat_of, home_in, age_of, IsAway, new_tenant, next_use, with_page, without_page, with_words}
-use Rattle.frame_table.specs.Seats.{AreKept, leaving, leaving_age}
+use Rattle.frame_table.specs.Seats.{AreKept}
 
--- the ages of the frames that may give up their page; those that are taken; and each home's frame
-abbrev Ages : Type 0
-Ages = List (Option ℕ)
-
+-- each home's frame
 abbrev Homes : Type 0
 Homes = map.FinMap nat_cmp FrameId
 
@@ -61,10 +58,10 @@ pub next_after : (n : ℕ) → n ≤ LAST_USE → (n ≤ next_use n) × (next_us
 next_after n last = (omega arith, omega arith, λ before. omega arith)
 
 -- a frame's tenant changes, but not its home; uses may go on
-pub kept_changed : (c : Core) (ages : Ages) (taken : Numbers) (homes : Homes) (free f uses : ℕ) (t u : Tenant) → AreKept c ages taken homes free
+pub kept_changed : (c : Core) (taken : Numbers) (homes : Homes) (free f uses : ℕ) (t u : Tenant) → AreKept c taken homes free
     → seat_of c f ≡ Some t → u.home ≡ t.home → u.pins ≤ MOST_PINS → c.uses ≤ uses → uses ≤ LAST_USE → (uses < LAST_USE → u.age < uses)
-    → AreKept (record c { seats = set c.seats f (Some u); uses = uses }) (set ages f (leaving_age u)) taken homes free
-kept_changed c ages taken homes free f uses t u is at same few later last young =
+    → AreKept (record c { seats = set c.seats f (Some u); uses = uses }) taken homes free
+kept_changed c taken homes free f uses t u is at same few later last young =
     let core = is.core in
     let seats : List (Option Tenant) = set c.seats f (Some u) in
     let below : f < length c.seats = taken_below c.seats f t at in
@@ -102,7 +99,6 @@ kept_changed c ages taken homes free f uses t u is at same few later last young 
         worded = core.worded ∙ sym size;
       };
       small = subst (λ (m : ℕ). m < 2 ^ 32) (sym size) is.small;
-      leave = ap (λ ks. set ks f (leaving_age u)) is.leave ∙ sym (map-set leaving c.seats f (Some u));
       bound = is.bound ∙ sym size;
       occupied = λ g. is.occupied g ∙ sym (some_stay g);
       found = λ h g at_h. homes_stay g.0 ∙ is.found h g at_h;
@@ -111,9 +107,9 @@ kept_changed c ages taken homes free f uses t u is at same few later last young 
     }
 
 -- a frame has other words
-pub kept_words : (c : Core) (ages : Ages) (taken : Numbers) (homes : Homes) (free f : ℕ) (ws : List ℕ) → AreKept c ages taken homes free
-    → AreKept (with_words c f ws) ages taken homes free
-kept_words c ages taken homes free f ws is =
+pub kept_words : (c : Core) (taken : Numbers) (homes : Homes) (free f : ℕ) (ws : List ℕ) → AreKept c taken homes free
+    → AreKept (with_words c f ws) taken homes free
+kept_words c taken homes free f ws is =
     let core = is.core in
     record {
       core = record {
@@ -125,7 +121,6 @@ kept_words c ages taken homes free f ws is =
         worded = length-set c.words f ws ∙ core.worded;
       };
       small = is.small;
-      leave = is.leave;
       bound = is.bound;
       occupied = is.occupied;
       found = is.found;
@@ -134,11 +129,11 @@ kept_words c ages taken homes free f ws is =
     }
 
 -- a free frame gets the page of a home that is in no frame
-pub kept_seated : (c : Core) (ages : Ages) (taken : Numbers) (homes : Homes) (free f : ℕ) (h : Home) → AreKept c ages taken homes free
+pub kept_seated : (c : Core) (taken : Numbers) (homes : Homes) (free f : ℕ) (h : Home) → AreKept c taken homes free
     → f < length c.seats → seat_of c f ≡ None → IsAway c h → h.0 < MOST_HOMES
-    → AreKept (with_page c f h) (set ages f (leaving_age (new_tenant h c.uses))) (record taken { members = members.insert taken.members f })
+    → AreKept (with_page c f h) (record taken { members = members.insert taken.members f })
     (map.insert homes h.0 (record { 0 = f })) (free - 1)
-kept_seated c ages taken homes free f h is below none away low =
+kept_seated c taken homes free f h is below none away low =
     let core = is.core in
     let seats : List (Option Tenant) = set c.seats f (Some (new_tenant h c.uses)) in
     let here : seat seats f ≡ Some (new_tenant h c.uses) = get_or-set_same c.seats f (Some (new_tenant h c.uses)) None below in
@@ -186,7 +181,6 @@ kept_seated c ages taken homes free f h is below none away low =
         worded = core.worded ∙ sym size;
       };
       small = subst (λ (m : ℕ). m < 2 ^ 32) (sym size) is.small;
-      leave = ap (λ ks. set ks f (leaving_age (new_tenant h c.uses))) is.leave ∙ sym (map-set leaving c.seats f (Some (new_tenant h c.uses)));
       bound = is.bound ∙ sym size;
       occupied = λ g. elim (cases_eq g f) [
         | inl e ↦ numbers.added taken.members f g e ∙ sym (ap (λ (k : ℕ). is_some (seat seats k)) e ∙ ap is_some here)
@@ -211,10 +205,10 @@ kept_seated c ages taken homes free f h is below none away low =
     }
 
 -- a frame that is taken becomes free
-pub kept_vacated : (c : Core) (ages : Ages) (taken : Numbers) (homes : Homes) (free f : ℕ) (h : Home) → AreKept c ages taken homes free
+pub kept_vacated : (c : Core) (taken : Numbers) (homes : Homes) (free f : ℕ) (h : Home) → AreKept c taken homes free
     → home_in c f ≡ Some h
-    → AreKept (without_page c f) (set ages f None) (record taken { members = members.remove taken.members f }) (map.remove homes h.0) (free + 1)
-kept_vacated c ages taken homes free f h is at =
+    → AreKept (without_page c f) (record taken { members = members.remove taken.members f }) (map.remove homes h.0) (free + 1)
+kept_vacated c taken homes free f h is at =
     let core = is.core in
     let seats : List (Option Tenant) = set c.seats f None in
     let was = homed (seat c.seats f) h at in
@@ -246,7 +240,6 @@ kept_vacated c ages taken homes free f h is at =
         worded = core.worded ∙ sym size;
       };
       small = subst (λ (m : ℕ). m < 2 ^ 32) (sym size) is.small;
-      leave = ap (λ ks. set ks f None) is.leave ∙ sym (map-set leaving c.seats f None);
       bound = is.bound ∙ sym size;
       occupied = λ g. elim (cases_eq g f) [
         | inl e ↦ numbers.gone taken.members f g e ∙ sym (ap (λ (k : ℕ). is_some (seat seats k)) e ∙ ap is_some here)
@@ -266,9 +259,9 @@ kept_vacated c ages taken homes free f h is at =
     }
 
 -- there is room to count one more free frame
-pub free_small : (c : Core) (ages : Ages) (taken : Numbers) (homes : Homes) (free f : ℕ) (h : Home) → AreKept c ages taken homes free → home_in c f ≡ Some h → free + 1 < 2 ^ 32
-free_small c ages taken homes free f h is at =
-    let next = kept_vacated c ages taken homes free f h is at in
+pub free_small : (c : Core) (taken : Numbers) (homes : Homes) (free f : ℕ) (h : Home) → AreKept c taken homes free → home_in c f ≡ Some h → free + 1 < 2 ^ 32
+free_small c taken homes free f h is at =
+    let next = kept_vacated c taken homes free f h is at in
     omega (arith, next.free, next.small, count_by-le-length is_none (set c.seats f None))
 
 count_none : (n : ℕ) → count_by is_none (replicate {A = Option Tenant} n None) ≡ n
@@ -280,13 +273,9 @@ none_at zero f = refl
 none_at (suc n) zero = refl
 none_at (suc n) (suc f) = none_at n f
 
-none_leave : (n : ℕ) → each leaving (replicate n None) ≡ replicate n None
-none_leave zero = refl
-none_leave (suc n) = ap (λ ks. None ∷ ks) (none_leave n)
-
 -- all frames are free at the beginning
 pub kept_none : (n : ℕ) → n < 2 ^ 32
-    → AreKept (record { seats = replicate n None; words = replicate n zero_words; uses = 0 }) (replicate n None) (record { bound = n; members = members.empty }) map.empty n
+    → AreKept (record { seats = replicate n None; words = replicate n zero_words; uses = 0 }) (record { bound = n; members = members.empty }) map.empty n
 kept_none n small =
     let seats : List (Option Tenant) = replicate n None in
     let size : length seats ≡ n = length-replicate {A = Option Tenant} n None in
@@ -301,7 +290,6 @@ kept_none n small =
         worded = length-replicate {A = List ℕ} n zero_words ∙ sym size;
       };
       small = subst (λ (m : ℕ). m < 2 ^ 32) (sym size) small;
-      leave = sym (none_leave n);
       bound = sym size;
       occupied = λ f. members.contains-empty nat_cmp f ∙ sym (ap is_some (none_at n f));
       found = λ h f at. let gone : None ≡ Some f = sym (map.get-empty nat_cmp h) ∙ at in absurd cc;
@@ -310,20 +298,20 @@ kept_none n small =
     }
 
 -- what a frame is taken by is changed, but not its home nor its age
-pub kept_reseated : (c q : Core) (ages : Ages) (taken : Numbers) (homes : Homes) (free f : ℕ) (u : Tenant) → AreKept c ages taken homes free → c ≡ q
-    → home_in q f ≡ Some u.home → age_of q f ≡ u.age → u.pins ≤ MOST_PINS → AreKept (record c { seats = set c.seats f (Some u) }) (set ages f (leaving_age u)) taken homes free
-kept_reseated c q ages taken homes free f u is view at age few =
+pub kept_reseated : (c q : Core) (taken : Numbers) (homes : Homes) (free f : ℕ) (u : Tenant) → AreKept c taken homes free → c ≡ q
+    → home_in q f ≡ Some u.home → age_of q f ≡ u.age → u.pins ≤ MOST_PINS → AreKept (record c { seats = set c.seats f (Some u) }) taken homes free
+kept_reseated c q taken homes free f u is view at age few =
     let was = homed (seat c.seats f) u.home (ap (λ (r : Core). home_in r f) view ∙ at) in
     let same : was.0.age ≡ u.age = sym (ap (λ (o : Option Tenant). option_map_or (λ t. t.age) o 0) was.1) ∙ ap (λ (r : Core). age_of r f) view ∙ age in
-    kept_changed c ages taken homes free f c.uses was.0 u is was.1 (sym was.2) few (omega arith) is.core.numbered
+    kept_changed c taken homes free f c.uses was.0 u is was.1 (sym was.2) few (omega arith) is.core.numbered
     (λ before. subst (λ (n : ℕ). n < c.uses) same (is.core.aged f was.0 was.1 before))
 
 -- a frame that is taken is used
-pub kept_used : (c : Core) (ages : Ages) (taken : Numbers) (homes : Homes) (free f : ℕ) (t : Tenant) → AreKept c ages taken homes free → seat_of c f ≡ Some t
-    → AreKept (record c { seats = set c.seats f (Some (record t { age = c.uses })); uses = next_use c.uses }) (set ages f (leaving_age (record t { age = c.uses }))) taken homes free
-kept_used c ages taken homes free f t is at =
+pub kept_used : (c : Core) (taken : Numbers) (homes : Homes) (free f : ℕ) (t : Tenant) → AreKept c taken homes free → seat_of c f ≡ Some t
+    → AreKept (record c { seats = set c.seats f (Some (record t { age = c.uses })); uses = next_use c.uses }) taken homes free
+kept_used c taken homes free f t is at =
     let next = next_after c.uses is.core.numbered in
-    kept_changed c ages taken homes free f (next_use c.uses) t (record t { age = c.uses }) is at refl (is.core.pinned f t at) next.0 next.1 next.2
+    kept_changed c taken homes free f (next_use c.uses) t (record t { age = c.uses }) is at refl (is.core.pinned f t at) next.0 next.1 next.2
 
 -- to make a free frame free changes nothing
 pub free_stays : (c : Core) (f : ℕ) → seat_of c f ≡ None → c ≡ without_page c f

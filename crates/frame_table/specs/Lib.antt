@@ -2,3 +2,4 @@ pub mod Core
 pub mod Seats
 pub mod Ages
 pub mod Deeds
+pub mod Victims

@@ -1,5 +1,5 @@
 -- How the frames are kept.
-use Rattle.std.specs.Prelude.{◌≡◌, ℕ, ◌<◌, ◌^◌, List, length, map as each, Option, None, Some, is_none, is_some, count_by, if◌then◌else◌}
+use Rattle.std.specs.Prelude.{◌≡◌, ℕ, ◌<◌, ◌^◌, List, length, Option, None, Some, is_none, is_some, count_by, if◌then◌else◌}
 use Rattle.std.specs.Ordering.{nat_cmp}
 use Rattle.std.specs.FinMap as map
 use Rattle.std.specs.FinSet as set
@@ -22,12 +22,11 @@ abbrev pub leaving : Option Tenant → Option ℕ
 leaving None = None
 leaving (Some t) = leaving_age t
 
--- The ages are those of the frames that may give up their page. It is known which frames are taken, and how many are free;
+-- It is known which frames are taken, and how many are free;
 -- and each home's frame is found by the home's number.
-pub record AreKept (c : Core) (ages : List (Option ℕ)) (taken : Numbers) (homes : map.FinMap nat_cmp FrameId) (vacant : ℕ) : Type 0 where
+pub record AreKept (c : Core) (taken : Numbers) (homes : map.FinMap nat_cmp FrameId) (vacant : ℕ) : Type 0 where
   pub core : IsCore c
   pub small : length c.seats < 2 ^ 32
-  pub leave : ages ≡ each leaving c.seats
   pub bound : taken.bound ≡ length c.seats
   pub occupied : (f : ℕ) → set.contains taken.members f ≡ is_some (seat_of c f)
   pub found : (h : ℕ) (f : FrameId) → map.get homes h ≡ Some f → home_in c f.0 ≡ Some (record { 0 = h })

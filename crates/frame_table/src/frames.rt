@@ -1,5 +1,5 @@
 // The frames of core.
-ghost use Rattle.std.specs.Prelude.{◌≡◌, ◌+◌, ◌-◌, ◌<◌, ◌≤◌, Some, None, IsSome, IfOk, IfSome, ℕ, MatchOption, false, is_none, count_by, length, replicate, slice_index};
+ghost use Rattle.std.specs.Prelude.{◌≡◌, ◌+◌, ◌-◌, ◌<◌, ◌≤◌, Some, None, IsSome, IfOk, IfSome, ℕ, MatchOption, false, is_none, count_by, length, replicate, slice_index, slice_set};
 ghost use Rattle.std.specs.Borrow.{Array, Lends, sem, u64 as number};
 ghost use Rattle.machine_names.specs.PageWords.{zero_words};
 ghost use Rattle.frame_table.specs.Core.{AreAllTaken, IsAway, IsCore, IsLeastFree, IsVictim, age_of, can_leave, holds_of, home_in, is_held, is_moving, pins_of, seat_of, used, with_page, with_tenant, with_words, without_page, words_of};
@@ -7,6 +7,7 @@ ghost use Rattle.frame_table.specs.contracts.frames.Frames.{the_row};
 
 use crate::pages::zero_pages;
 use crate::tenant::Tenant;
+use crate::victims::oldest_leaver;
 use crate::{Hold, MOST_PINS};
 use number_map::NumberMap;
 use number_set::NumberSet;
@@ -14,7 +15,6 @@ use outside::{Memory, PAGE_WORDS};
 use page_homes::{FrameId, Home, MOST_HOMES};
 use std::alloc::Global;
 use std::marker::Model;
-use tournament::Tournament;
 
 /// How many holds of a frame are not spent at most.
 pub const MOST_HOLDS: u32 = u32::MAX;
@@ -29,8 +29,6 @@ const HOMES: usize = MOST_HOMES as usize;
 pub struct Frames {
     seats: Vec<Option<Tenant>>,
     pages: Vec<[u64; PAGE_WORDS]>,
-    // The ages of the frames that may give up their page.
-    leaving: Tournament,
     taken: NumberSet,
     homes: NumberMap<FrameId, HOMES>,
     free: u32,
@@ -46,7 +44,7 @@ impl Model for Frames {
 
     ghost view = { λ s. core_of s.seats.items s.pages.items s.uses };
 
-    ghost invariant = { λ s. AreKept (core_of s.seats.items s.pages.items s.uses) s.leaving s.taken s.homes s.free };
+    ghost invariant = { λ s. AreKept (core_of s.seats.items s.pages.items s.uses) s.taken s.homes s.free };
 }
 
 impl Frames {
@@ -57,7 +55,6 @@ impl Frames {
         Ok(Frames {
             seats: vec![in alloc; None; n as usize]?,
             pages: zero_pages(alloc, n)?,
-            leaving: Tournament::boot(alloc, n as usize)?,
             taken: NumberSet::boot(alloc, n as usize)?,
             homes: NumberMap::boot(alloc)?,
             free: n,
@@ -117,7 +114,7 @@ impl Frames {
         }
     }
 
-    /// How many pins a frame has, at most 63.
+    /// How many pins a frame has, at most 64.
     pub fn pins(&self, f: FrameId) -> u8
         requires { f.0 < length self.now.seats }
         ensures { result ≡ pins_of self.now f.0 }
@@ -148,6 +145,14 @@ impl Frames {
         self.pages[f.0 as usize][at as usize]
     }
 
+    /// The words of a frame that is taken.
+    pub fn page(&self, f: FrameId) -> [u64; PAGE_WORDS]
+        requires { IsSome (seat_of self.now f.0) }
+        ensures { result ≡ words_of self.now f.0 }
+    {
+        self.pages[f.0 as usize]
+    }
+
     // What takes a frame.
     fn tenant(&self, f: FrameId) -> Tenant
         requires { IsSome (seat_of self.now f.0) }
@@ -168,7 +173,6 @@ impl Frames {
         ensures { self.new ≡ with_tenant self.old f.0 (λ t. tenant) }
     {
         self.seats[f.0 as usize] = Some(tenant);
-        self.leaving.set(f.0 as usize, tenant.leaving_age());
     }
 
     /// Holds a frame that is taken, until the hold is released. Fewer than 2^32 - 1 holds of it are
@@ -197,7 +201,7 @@ impl Frames {
         self.reseat(f, Tenant { holds, ..tenant });
     }
 
-    /// Pins a frame that is taken. It has fewer than 63 pins.
+    /// Pins a frame that is taken. It has fewer than 64 pins.
     pub fn pin(&mut self, f: FrameId)
         requires taken { IsSome (seat_of self.old f.0) }
         requires few { pins_of self.old f.0 < MOST_PINS }
@@ -251,19 +255,30 @@ impl Frames {
         &mut self.pages[hold.frame().0 as usize]
     }
 
+    /// Puts a word into a frame that is taken. All else stays.
+    #[inline(always)]
+    pub fn put(&mut self, f: FrameId, at: u16, word: u64)
+        requires taken { IsSome (seat_of self.old f.0) }
+        requires at { at < PAGE_WORDS }
+        ensures { self.new ≡ with_words self.old f.0 (slice_set (words_of self.old f.0) at word) }
+    {
+        let page = &mut self.pages[f.0 as usize];
+        page[at as usize] = word;
+    }
+
     /// The frame whose page goes next: of those that are taken, and neither held nor in transfer, the
     /// one of least age, then least number. None exactly where every frame is held, free or in
-    /// transfer.
+    /// transfer. It is looked for among all frames, so that a use costs no more than its number.
     pub fn victim(&self) -> Option<FrameId>
         ensures { MatchOption result ((f : ℕ) → can_leave self.now f ≡ false) (λ f. IsVictim self.now f.0) }
     {
-        let f = self.leaving.winner()?;
-        Some(FrameId(f as u32))
+        oldest_leaver(&self.seats)
     }
 
     // The free frame of least number. None exactly where all are taken.
     fn least_free(&self) -> Option<FrameId>
-        ensures { MatchOption result (AreAllTaken self.now) (λ f. IsLeastFree self.now f.0) }
+        ensures frame { MatchOption result (AreAllTaken self.now) (λ f. IsLeastFree self.now f.0) }
+        ensures whole { IsCore self.now }
     {
         let f = self.taken.least_absent(0)?;
         Some(FrameId(f as u32))
@@ -277,6 +292,7 @@ impl Frames {
         ensures frame { MatchOption result (AreAllTaken self.old) (λ f. IsLeastFree self.old f.0) }
         ensures full { result ≡ None → self.new ≡ self.old }
         ensures assigned { IfSome result (λ f. self.new ≡ with_page self.old f.0 home) }
+        ensures whole { IsCore self.old }
     {
         let f = self.least_free()?;
         self.seat(f, home);
@@ -292,7 +308,6 @@ impl Frames {
     {
         let tenant = Tenant::new(home, self.uses);
         self.seats[f.0 as usize] = Some(tenant);
-        self.leaving.set(f.0 as usize, tenant.leaving_age());
         self.taken.insert(f.0 as usize);
         self.homes.insert(home.0 as usize, f);
         self.free -= 1;
@@ -316,7 +331,6 @@ impl Frames {
         ensures { self.new ≡ without_page self.old f.0 }
     {
         self.seats[f.0 as usize] = None;
-        self.leaving.set(f.0 as usize, None);
         self.taken.remove(f.0 as usize);
         self.homes.remove(home.0 as usize);
         self.free += 1;
@@ -326,7 +340,8 @@ impl Frames {
     /// stand still. A free frame has no age.
     pub fn touch_age(&mut self, f: FrameId)
         requires { f.0 < length self.old.seats }
-        ensures { self.new ≡ used self.old f.0 }
+        ensures used { self.new ≡ used self.old f.0 }
+        ensures whole { IsCore self.old }
     {
         if let Some(tenant) = self.seats[f.0 as usize] {
             self.renew(f, tenant);
@@ -343,7 +358,6 @@ impl Frames {
             ..tenant
         };
         self.seats[f.0 as usize] = Some(renewed);
-        self.leaving.set(f.0 as usize, renewed.leaving_age());
         self.uses = self.uses.saturating_add(1);
     }
 }

@@ -7,7 +7,7 @@ use page_homes::{FrameId, Home};
 use std::marker::Model;
 
 /// How many pins a frame has at most.
-pub const MOST_PINS: u8 = 63;
+pub const MOST_PINS: u8 = 64;
 
 /// What a frame is taken by: the home whose page it holds, the number of its last use, how many
 /// holds of it are not spent, how many pins it has, and whether a transfer of it is queued.

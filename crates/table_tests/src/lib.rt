@@ -16,8 +16,6 @@ mod frames;
 #[cfg(test)]
 mod jfns;
 #[cfg(test)]
-mod keys;
-#[cfg(test)]
 mod laws;
 #[cfg(test)]
 mod made;

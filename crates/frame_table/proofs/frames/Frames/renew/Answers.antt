@@ -9,5 +9,5 @@ invariant_of-self c =
     let inside = c.self.inside in
     let now : Core = core_of inside.seats.items inside.pages.items inside.uses in
     let at : seat_of now c.args.f.0 ≡ Some c.args.tenant = ap (λ (q : Core). seat_of q c.args.f.0) c.self.view_is ∙ c.requires in
-    rw (c.set.ensures, c.leaving_age.ensures, c.saturating_add-self-inside.ensures)
-    (kept_used now inside.leaving inside.taken inside.homes inside.free c.args.f.0 c.args.tenant c.self.invariant at)
+    rw (c.saturating_add-self-inside.ensures)
+    (kept_used now inside.taken inside.homes inside.free c.args.f.0 c.args.tenant c.self.invariant at)

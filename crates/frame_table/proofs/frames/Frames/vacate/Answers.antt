@@ -9,7 +9,7 @@ overflow_add-self c =
     let inside = c.self.inside in
     let now : Core = core_of inside.seats.items inside.pages.items inside.uses in
     let at : home_in now c.args.f.0 ≡ Some c.args.home = ap (λ (q : Core). home_in q c.args.f.0) c.self.view_is ∙ c.requires in
-    let small = free_small now inside.leaving inside.taken inside.homes inside.free c.args.f.0 c.args.home c.self.invariant at in
+    let small = free_small now inside.taken inside.homes inside.free c.args.f.0 c.args.home c.self.invariant at in
     omega arith
 
 pub invariant_of-self : goal.invariant_of-self
@@ -17,5 +17,5 @@ invariant_of-self c =
     let inside = c.self.inside in
     let now : Core = core_of inside.seats.items inside.pages.items inside.uses in
     let at : home_in now c.args.f.0 ≡ Some c.args.home = ap (λ (q : Core). home_in q c.args.f.0) c.self.view_is ∙ c.requires in
-    rw (c.set.ensures, c.remove.ensures, c.remove-2.ensures.gone)
-    (kept_vacated now inside.leaving inside.taken inside.homes inside.free c.args.f.0 c.args.home c.self.invariant at)
+    rw (c.remove.ensures, c.remove-2.ensures.gone)
+    (kept_vacated now inside.taken inside.homes inside.free c.args.f.0 c.args.home c.self.invariant at)

@@ -1,21 +1,19 @@
-use Rattle.std.proofs.Common.{◌≡◌, ℕ, false, subst, rules}
-use Rattle.tournament.specs.Keys.{AreAbsent, IsLeast}
+use Rattle.std.proofs.Common.{◌≡◌, ℕ, List, Option, None, Some, MatchOption, false, subst}
+use Rattle.page_homes.specs.declared.homes.FrameId.{FrameId}
+use Rattle.frame_table.specs.declared.tenant.Tenant.{Tenant}
 use Rattle.frame_table.specs.Core.{Core, IsVictim, can_leave}
 use Rattle.frame_table.specs.Seats.{core_of}
+use Rattle.frame_table.specs.Victims.{GoesFirst}
 use Rattle.frame_table.proofs.Found.{none_leave, victim_is}
 use Rattle.frame_table.proofs.frames.Frames.victim.Goals as goal
 
-pub returns-in_err-f : goal.returns-in_err-f
-returns-in_err-f c =
-    let inside = c.self.inside in
-    let now : Core = core_of inside.seats.items inside.pages.items inside.uses in
-    let none : AreAbsent inside.leaving = search rules in
-    rw c.from_residual.ensures
-    (subst (λ (q : Core). (f : ℕ) → can_leave q f ≡ false) c.self.view_is (none_leave now inside.leaving inside.taken inside.homes inside.free c.self.invariant none))
+-- none, or the victim
+found : (c : Core) (o : Option FrameId) → GoesFirst c.seats o → MatchOption o ((f : ℕ) → can_leave c f ≡ false) (λ f. IsVictim c f.0)
+found c None first = none_leave c first
+found c (Some f) first = victim_is c f first
 
 pub returns : goal.returns
 returns c =
     let inside = c.self.inside in
     let now : Core = core_of inside.seats.items inside.pages.items inside.uses in
-    let least : IsLeast inside.leaving c.in_ok-f.f = search rules in
-    subst (λ (q : Core). IsVictim q c.in_ok-f.f) c.self.view_is (victim_is now inside.leaving inside.taken inside.homes inside.free c.self.invariant c.in_ok-f.f least)
+    subst (λ (q : Core). MatchOption c.oldest_leaver.result ((f : ℕ) → can_leave q f ≡ false) (λ f. IsVictim q f.0)) c.self.view_is (found now c.oldest_leaver.result (subst (λ (seats : List (Option Tenant)). GoesFirst seats c.oldest_leaver.result) c.deref.ensures.value c.oldest_leaver.ensures))
