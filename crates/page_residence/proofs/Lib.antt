@@ -1,0 +1,10 @@
+pub mod Seating
+pub mod Agreeing
+pub mod Queues
+pub mod Leaving
+pub mod Aging
+pub mod Placing
+pub mod Meant
+pub mod Steps
+pub mod Finding
+pub mod Renewing

@@ -1,0 +1,10 @@
+-- What is held for whom.
+use Rattle.std.specs.Prelude.{ℕ, List, [], replicate, slice_index_or}
+
+-- the homes that are held for a holder
+abbrev pub held_by : List (List ℕ) → ℕ → List ℕ
+held_by holders k = slice_index_or holders k []
+
+-- nothing is held for anybody
+unfoldable pub no_holds : List (List ℕ)
+no_holds = replicate 64 []
