@@ -13,3 +13,4 @@ pub mod Holds
 pub mod Vacating
 pub mod Booting
 pub mod Lasting
+pub mod Living

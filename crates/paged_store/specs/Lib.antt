@@ -7,3 +7,4 @@ pub mod StoreMeaning
 pub mod StoreSteps
 pub mod StoreSound
 pub mod OnePlace
+pub mod Lives

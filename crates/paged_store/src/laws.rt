@@ -1,8 +1,10 @@
 // What follows for pages in frames and on a drum, in the words of their users. A law does nothing when it runs.
-ghost use Rattle.std.specs.Prelude.{◌≡◌, ℕ, [], Contains, Some, length, true};
+ghost use Rattle.std.specs.Prelude.{◌≡◌, ℕ, List, [], Contains, Some, false, length, true};
 ghost use Rattle.page_homes.specs.declared.homes.Home.{Home};
 ghost use Rattle.page_contracts.specs.declared.answers.Need.{Need};
-ghost use Rattle.page_contracts.specs.Stores.{IsFetched, awaited, is_here, is_taken, meeting, place};
+ghost use Rattle.page_contracts.specs.Stores.{IsFetched, awaited, content, is_here, is_taken, meeting, place};
+ghost use Rattle.page_contracts.specs.DrumWords.{DrumWords};
+ghost use Rattle.paged_store.specs.Lives.{Deed, HasDone, is_given_up};
 ghost use Rattle.paged_store.specs.OnePlace.{HasOnePlace, HaveEnded};
 ghost use Rattle.paged_store.specs.StoreMeaning.{paged_meaning};
 ghost use Rattle.paged_store.specs.declared.store.PagedStore.{PagedStore};
@@ -11,6 +13,14 @@ ghost use Rattle.paged_store.specs.declared.store.PagedStore.{PagedStore};
 /// at its home.
 pub fn a_page_has_one_place()
     ensures { (s : PagedStore) (home : ℕ) → is_taken (place (paged_meaning.homes s) home) ≡ true → HasOnePlace s home }
+{}
+
+/// A page that isn't given up and into which no word is put has its words, over those that the drum tells, whatever is
+/// done and in whatever order: uses, by which writes are taken from the queue, transfers that end, homes of other pages
+/// that are given up.
+pub fn pages_keep_their_words()
+    ensures { (deeds : List Deed) (s n : PagedStore) (d e : DrumWords) (home : ℕ) → HasDone deeds s n d e → is_given_up home deeds ≡ false
+        → content (paged_meaning.homes n) e home ≡ content (paged_meaning.homes s) d home }
 {}
 
 /// What is held for somebody is never the page that leaves next.

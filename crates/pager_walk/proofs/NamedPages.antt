@@ -78,10 +78,11 @@ module _ (t : Tables) (places : List HomePlace) (rooted : AreRooted t (map is_ta
       by : (b : Bool) → is_some (name_at t.names h.0) ≡ b → is_some (cond b (Some (Page h a)) None) ≡ true → Same (page_entry named.names h a) (page_entry t.names h a)
       by false is e = absurd (cc e)
       by true is e =
-          let other = other_name h.0 (named_apart h.0 is) in
-          (ap (λ (o : Option PageName). cond (is_some o) (Some (Page h a)) None) other,
-          ap (λ b. option_map_or (plain_entry named.names) (cond b (Some (Page h a)) None) entry.Empty) (ap is_some other ∙ is) ∙ ap (λ (o : Option PageName). entry.Names (unwrap_or o nobody) a) other
-          ∙ sym (ap (λ b. option_map_or (plain_entry t.names) (cond b (Some (Page h a)) None) entry.Empty) is))
+          let other = other_name h.0 (named_apart h.0 is) in (
+            ap (λ (o : Option PageName). cond (is_some o) (Some (Page h a)) None) other,
+            ap (λ b. option_map_or (plain_entry named.names) (cond b (Some (Page h a)) None) entry.Empty) (ap is_some other ∙ is) ∙ ap (λ (o : Option PageName). entry.Names (unwrap_or o nobody) a) other
+                ∙ sym (ap (λ b. option_map_or (plain_entry t.names) (cond b (Some (Page h a)) None) entry.Empty) is),
+          )
 
   same_word : (w : ℕ) → IsSome (entry_in t w) → Same (entry_in named w) (entry_in t w)
   same_word w some = by (pointer_in w) some
@@ -108,8 +109,8 @@ module _ (t : Tables) (places : List HomePlace) (rooted : AreRooted t (map is_ta
     fits_named = record {
       drum = fits_still places d home.0 (here zero_words) fits.drum;
       entries = λ k page f e l.
-        let some = fits.entries k page f e l in
-        subst (λ (c : Option (List ℕ)). IsSome (entry_in named (slice_index (words_in c) page))) (sym (content_is k f e)) (subst (λ (o : Option PagedEntry). IsSome o) (sym (same_word (slice_index (words_in (content places d (root_at t.maps k).0)) page) some).0) some);
+          let some = fits.entries k page f e l in
+          subst (λ (c : Option (List ℕ)). IsSome (entry_in named (slice_index (words_in c) page))) (sym (content_is k f e)) (subst (λ (o : Option PagedEntry). IsSome o) (sym (same_word (slice_index (words_in (content places d (root_at t.maps k).0)) page) some).0) some);
     }
 
     same_row : (k : ℕ) (f : ForkName) → fork_at t.maps k ≡ Some f → row_of named (content after d (root_at t.maps k).0) ≡ row_of t (content places d (root_at t.maps k).0)
