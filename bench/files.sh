@@ -3,11 +3,12 @@
 # builds the program: a round of GTJFN and RLJFN, and one of a PMAP that maps a page of a file, an AOS there, and the
 # PMAP that takes it away. Each round is told in machine instructions, with the few units around it. Names of files
 # are found by halves, and pages of files in steps of six bits of a number; nothing else may grow with the files.
-# Status 1: with 512 files a round of GTJFN takes more machine instructions than nine further halves may, which are
-# allowed MOST each (100, or the argument); or one of PMAP more than 1.1 times as many. 2: nothing counts them.
+# Status 1: with 512 files a round takes more machine instructions than nine further halves may, which are allowed
+# MOST each (200, or the argument). 2: nothing counts them.
 set -eu
 source "$(dirname "$0")/program.inc"
-most=${1:-100}
+most=${1:-200}
+counted_units=1000
 command -v valgrind >/dev/null || {
     echo 'machine instructions: not counted, as valgrind is not there'
     exit 2
@@ -55,7 +56,7 @@ round() {
     shift
     unit=$(tenths "$@")
     "$program" run <one.script >/dev/null
-    tail -n 2 tenex.record | grep -q '^U 0 1 200000$' || {
+    tail -n 2 tenex.record | grep -q "^U 0 1 $((2 * counted_units))\$" || {
         echo "files.sh: the program of $1 stopped" >&2
         exit 1
     }
@@ -70,5 +71,5 @@ mapping_all=$(round 8 mapping 512)
 printf '%-24s %10s %10s\n' 'a round of' 'one file' '512 files'
 printf '%-24s %10d %10d\n' 'GTJFN, RLJFN' "$naming_one" "$naming_all" 'PMAP, AOS, PMAP' "$mapping_one" "$mapping_all"
 [ "$naming_all" -le $((naming_one + 9 * most)) ] || failed=1
-[ $((mapping_all * 10)) -le $((mapping_one * 11)) ] || failed=1
+[ "$mapping_all" -le $((mapping_one + 9 * most)) ] || failed=1
 exit $failed
