@@ -10,6 +10,7 @@ use Rattle.plain_model.specs.declared.call.End.TheVariants.{Done, Waits, Halts, 
 use Rattle.plain_model.specs.declared.call.ForkChange.{ForkChange}
 use Rattle.plain_model.specs.declared.call.MapChange.{MapChange}
 use Rattle.plain_model.specs.declared.call.FileChange.{FileChange}
+use Rattle.plain_model.specs.declared.call.ByteChange.{ByteChange}
 use Rattle.machine_names.specs.declared.names.Tty.{Tty}
 use Rattle.machine_names.specs.declared.names.ForkName.{ForkName}
 use Rattle.plain_model.specs.declared.fork.Fork.{Fork}
@@ -22,7 +23,9 @@ use Rattle.plain_model.specs.Calls.{Turn, ends, with_ac, no_files, Came, turn_on
 use Rattle.plain_model.specs.MapCalls.{map_calls, map_changed}
 use Rattle.plain_model.specs.FileCalls.{FileParts, file_call, file_calls, file_changed, geter, jfn_calls}
 use Rattle.plain_model.specs.ForkCalls.{own_named, fork_calls, fork_changed}
-use Rattle.plain_model.specs.Families.{Parts, behind, asks, came_of, forking, mapping, opening, prints, own_changed, print_calls, forks_changed, pages_changed, jfns_changed}
+use Rattle.plain_model.specs.ByteCalls.{ByteRows, byte_calls, byte_changed}
+use Rattle.plain_model.specs.StringCalls.{string_calls}
+use Rattle.plain_model.specs.Families.{Parts, behind, asks, came_of, bytes_changed, on_bytes, forking, mapping, opening, prints, own_changed, print_calls, forks_changed, pages_changed, jfns_changed}
 use Rattle.plain_model.specs.Unit.{Effect, parts_of, with_parts, turned, called}
 use Rattle.std.proofs.lemmas.Bool.{cond_both}
 
@@ -67,6 +70,19 @@ jfn_called s f number = with_parts s (with_filed (parts_of s) (jfn_left s f numb
 
 abbrev pub jfn_turned : PlainState → Fork → ℕ → Effect
 jfn_turned s f number = turned s f.name.tty (behind (jfns_changed (λ name. name)) (parts_of s) f.name (jfn_came s f number))
+
+-- so of a call on bytes, or on strings of them, which changes these too
+abbrev pub byte_came : PlainState → Fork → ByteRows → ℕ → Came name_cmp ByteChange
+byte_came s f rows number = came_of (on_bytes (λ name. name) rows) (parts_of s) f.name f.body.regs number
+
+abbrev pub byte_left : PlainState → Fork → ByteRows → ℕ → FileParts name_cmp
+byte_left s f rows number = let c = byte_came s f rows number in let old = filed_of (parts_of s) in parts_behind (byte_changed (λ name. name)) old (record old { pages = c.pages }) c.end
+
+abbrev pub byte_called : PlainState → Fork → ByteRows → ℕ → PlainState
+byte_called s f rows number = with_parts s (with_filed (parts_of s) (byte_left s f rows number))
+
+abbrev pub byte_turned : PlainState → Fork → ByteRows → ℕ → Effect
+byte_turned s f rows number = turned s f.name.tty (behind (bytes_changed (λ name. name)) (parts_of s) f.name (byte_came s f rows number))
 
 -- and of a turn that changes the fork that called alone
 abbrev pub own_came : PlainState → Turn ⊥ (Unit {0}) → Came name_cmp (Unit {0})
@@ -125,6 +141,16 @@ module _ {K : Type 0} {file_cmp : K → K → Ordering} where
   jfns_behind key_of v q (Failed code) = refl
   jfns_behind key_of v q (Trap channel) = refl
 
+  pub bytes_behind : (key_of : List ℕ → K) (v : Parts file_cmp) (q : PlainPages file_cmp) (e : End ByteChange)
+      → parts_behind (bytes_changed key_of) v (record v { pages = q }) e ≡ with_filed v (parts_behind (byte_changed key_of) (filed_of v) (record (filed_of v) { pages = q }) e)
+  unfolding parts_behind
+  bytes_behind key_of v q (Done change regs out post) = refl
+  bytes_behind key_of v q (Waits on) = refl
+  bytes_behind key_of v q Halts = refl
+  bytes_behind key_of v q (Refused code) = refl
+  bytes_behind key_of v q (Failed code) = refl
+  bytes_behind key_of v q (Trap channel) = refl
+
   -- no change
   pub nothing_behind : (v : Parts file_cmp) (e : End (Unit {0})) → parts_behind own_changed v v e ≡ v
   unfolding parts_behind
@@ -157,14 +183,16 @@ module _ {K : Type 0} {file_cmp : K → K → Ordering} where
 
 module _ (Holds : Effect → Type 0) (s : PlainState) (f : Fork) where
   -- a call is one of a family, or none; each turn that changes the fork that called alone is looked at in one way
-  pub called_by : (number : ℕ) → ((t : Turn ⊥ (Unit {0})) → MakesNone s.pages t → Holds (own_turned s f t)) → Holds (fork_turned s f number) → Holds (map_turned s f number) → Holds (jfn_turned s f number) → Holds (none_turned s f)
+  pub called_by : (number : ℕ) → ((t : Turn ⊥ (Unit {0})) → MakesNone s.pages t → Holds (own_turned s f t)) → Holds (fork_turned s f number) → Holds (map_turned s f number) → Holds (jfn_turned s f number) → Holds (byte_turned s f byte_calls number) → Holds (byte_turned s f string_calls number) → Holds (none_turned s f)
       → Holds (called s f number)
-  called_by number own forks maps jfns none =
+  called_by number own forks maps jfns bytes_of strings_of none =
       cond_both (is_among print_calls number) _ _ (λ r. Holds (turned s f.name.tty r)) (λ is. own (numbered print_calls number f.body.regs) (print_makes_none s.pages number f.body.regs)) (λ n1.
       cond_both (is_among fork_calls number) _ _ (λ r. Holds (turned s f.name.tty r)) (λ is. forks) (λ n2.
       cond_both (is_among map_calls number) _ _ (λ r. Holds (turned s f.name.tty r)) (λ is. maps) (λ n3.
       cond_both (is_among file_calls number) _ _ (λ r. Holds (turned s f.name.tty r)) (λ is. own (file_call number (asks (parts_of s) f.name f.body.regs)) (file_makes_none s.pages number (asks (parts_of s) f.name f.body.regs))) (λ n4.
-      cond_both (is_among jfn_calls number) _ _ (λ r. Holds (turned s f.name.tty r)) (λ is. jfns) (λ n5. none)))))
+      cond_both (is_among jfn_calls number) _ _ (λ r. Holds (turned s f.name.tty r)) (λ is. jfns) (λ n5.
+      cond_both (is_among byte_calls number) _ _ (λ r. Holds (turned s f.name.tty r)) (λ is. bytes_of) (λ n6.
+      cond_both (is_among string_calls number) _ _ (λ r. Holds (turned s f.name.tty r)) (λ is. strings_of) (λ n7. none)))))))
 
   -- such a turn leaves the fork that called
   pub own_by : (t : Turn ⊥ (Unit {0})) → MakesNone s.pages t
@@ -201,3 +229,15 @@ module _ (Holds : Effect → Type 0) (s : PlainState) (f : Fork) (number : ℕ) 
 
       Left : Parts name_cmp → Type 0
       Left left = Holds (turned s f.name.tty (record { parts = left; caller = option_map (λ g. fork_behind g (jfn_came s f number).end) (map.get left.tree.forks f.name); out = out_of (jfn_came s f number).end }))
+
+  -- so does a call on bytes, or on strings of them
+  module _ (rows : ByteRows) where
+    pub byte_by : ((g : Fork) → map.get s.forks f.name ≡ Some g → Holds (turned s f.name.tty (record { parts = with_filed (parts_of s) (byte_left s f rows number); caller = Some (fork_behind g (byte_came s f rows number).end); out = out_of (byte_came s f rows number).end })))
+        → Holds (turned s f.name.tty (record { parts = with_filed (parts_of s) (byte_left s f rows number); caller = None; out = out_of (byte_came s f rows number).end })) → Holds (byte_turned s f rows number)
+    byte_by some none = subst Left (sym (bytes_behind (λ name. name) (parts_of s) c.pages c.end)) (caller_by Holds s f.name.tty (with_filed (parts_of s) (byte_left s f rows number)) f.name (λ g. fork_behind g c.end) (out_of c.end) some none)
+      where
+        c : Came name_cmp ByteChange
+        c = byte_came s f rows number
+
+        Left : Parts name_cmp → Type 0
+        Left left = Holds (turned s f.name.tty (record { parts = left; caller = option_map (λ g. fork_behind g (byte_came s f rows number).end) (map.get left.tree.forks f.name); out = out_of (byte_came s f rows number).end }))

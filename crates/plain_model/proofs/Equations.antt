@@ -7,14 +7,14 @@ use Rattle.machine_names.specs.declared.names.Tty.{Tty}
 use Rattle.machine_names.specs.declared.names.ForkName.{ForkName}
 use Rattle.plain_model.specs.declared.fork.Fork.{Fork}
 use Rattle.script_texts.specs.declared.event.Event.{Event}
-use Rattle.script_texts.specs.declared.event.Event.TheVariants.{Login, File, Words, Poke, Start, Tick, Examine, Forks, Page}
+use Rattle.script_texts.specs.declared.event.Event.TheVariants.{Login, TypeIn, File, Words, Poke, Start, Tick, Examine, Forks, Page}
 use Rattle.script_texts.specs.declared.event.Step.TheVariants.{Outer, Unit as AUnit, Idle}
 use Rattle.plain_model.specs.State.{PlainState}
 use Rattle.plain_model.specs.Unit.{over, unit}
 use Rattle.plain_units.specs.Units.{unit_on}
 use Rattle.script_texts.specs.declared.event.WordRow.{WordRow}
 use Rattle.plain_model.specs.FileEvents.{make_file, write_words, show_page}
-use Rattle.plain_model.specs.Events.{login, poke, start, tick, examine, show_forks, outer}
+use Rattle.plain_model.specs.Events.{login, type_in, poke, start, tick, examine, show_forks, outer}
 use Rattle.plain_model.specs.Run.{apply, unit_line}
 
 module _ (s : PlainState) where
@@ -26,6 +26,10 @@ module _ (s : PlainState) where
   pub outer_login : (t : Tty) (user : List ℕ) → outer s (Login t user) ≡ login s t user
   unfolding outer
   outer_login t user = refl
+
+  pub outer_type_in : (t : Tty) (text : List ℕ) → outer s (TypeIn t text) ≡ type_in s t text
+  unfolding outer
+  outer_type_in t text = refl
 
   pub outer_file : (name : List ℕ) → outer s (File name) ≡ make_file s name
   unfolding outer

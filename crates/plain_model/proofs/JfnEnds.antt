@@ -31,15 +31,15 @@ use Rattle.plain_model.specs.PointedTexts.{Reading, words, read, text_at, with_r
 use Rattle.plain_model.specs.FileCalls.{JfnAsked, made_for, found_or_made, taking, gtjfn, of_jfn, size_in, mode_in, skipping, telling, openf, closf, rljfn, delf, jfn_call}
 use Rattle.plain_model.proofs.Turns.{Comes, takes_comes}
 
--- a turn reads a text: it goes on, on pages of which this holds, or traps
+-- a turn reads: it goes on, on pages of which this holds, or traps
 module _ {F C K : Type 0} {file_cmp : K → K → Ordering} (sight : Sight F K) (Holds : End C → PlainPages file_cmp → Type 0) (After : PlainPages file_cmp → Type 0) (f : ForkName) (regs : Regs)
     (runs : (q : PlainPages file_cmp) → After q → (steps : Steps) → PlanLeaves After f (steps_on f regs steps q)) (traps : (q : PlainPages file_cmp) (channel : ℕ) → After q → Holds (Trap channel) q) where
-  pub reading_comes : (next : Option (List ℕ) → Turn F C) → ((q : PlainPages file_cmp) (text : Option (List ℕ)) → After q → Comes sight q Holds (next text)) → (r : Reading) (q : PlainPages file_cmp) → After q → Comes sight q Holds (with_reading f regs r next)
+  pub reading_comes : {A : Type 0} (next : A → Turn F C) → ((q : PlainPages file_cmp) (found : A) → After q → Comes sight q Holds (next found)) → (r : Reading A) (q : PlainPages file_cmp) → After q → Comes sight q Holds (with_reading f regs r next)
   unfolding with_reading
   reading_comes next goes (words steps rest) q after =
       takes_comes sight q Holds After f regs steps (λ e. with_reading f regs (rest (slice_index e.regs.ac 0)) next) (runs q after steps)
       (λ r e later. reading_comes next goes (rest (slice_index e.regs.ac 0)) r later) (λ channel. traps q channel after)
-  reading_comes next goes (read text) q after = goes q text after
+  reading_comes next goes (read found) q after = goes q found after
 
 -- a JFN that is taken is the least that is free to the caller's job, for the name that a text stands for
 pub record IsTaken (a : JfnAsked) (t : Tty) (n : ℕ) (name : List ℕ) : Type 0 where

@@ -7,6 +7,7 @@ use Rattle.std.specs.Ordering.{eq_by_cmp, is_eq}
 use Rattle.std.specs.Cmp.{IsTotalOrder, Equal-is}
 use Rattle.std.specs.FinMap as map
 use Rattle.std.proofs.lemmas.Cmp.{tied_itself}
+use Rattle.std.proofs.lemmas.List.Sums.{sum_by-cons}
 use Rattle.machine_names.specs.declared.names.PageName.{PageName}
 use Rattle.machine_names.specs.Orders.{FilePage, file_page_cmp}
 use Rattle.machine_names.proofs.OrderLemmas.{file_page_total, file_page_apart, page_cmp_total, page_cmp_apart}
@@ -104,6 +105,11 @@ module _ {I K L X : Type 0} {R : K → K → Ordering} {S : L → L → Ordering
         let less : map.len (map.remove m (at i.0)) ≡ k = map.len-remove o m (at i.0) ∙ ap (λ b. cond b (map.len m - 1) (map.len m)) (ap is_some one) ∙ omega (arith, size) in
         let rest = totals_match w k (map.remove m (at i.0)) (map.remove n (to i.0)) less (still_match m n h i.0 i.1) in
         omega (arith, total_without o apart w m (at i.0) x.1 one, total_without other_o other_apart w n (to i.0) x.1 (h.same i.0 i.1 ∙ one), rest)
+
+-- a list is as long as it has elements
+length_total : {X : Type 0} (xs : List X) → length xs ≡ sum_by (λ x. 1) xs
+length_total [] = refl
+length_total (x ∷ xs) = omega (arith, length_total xs, sum_by-cons (λ y. 1) x xs)
 
 -- what is dropped is told by which pages are listed
 drop_all_same : {K : Type 0} {file_cmp : K → K → Ordering} (p : PlainPages file_cmp) (ns ms : List PageName) → ((n : PageName) → has n ns ≡ has n ms) → drop_all_unnamed p ns ≡ drop_all_unnamed p ms
@@ -278,6 +284,23 @@ module _ {N K L : Type 0} {file_cmp : K → K → Ordering} {other_cmp : L → L
       let same : count_by (same_page n) (names_of_file (refiled other_cmp p files) (other_key gone)) ≡ count_by (same_page n) (names_of_file p (key gone)) =
       omega (arith, mine, others, totals_keyed o apart other_o other_apart There key other_key p.files files h (tally n), rest_alike n) in
       has_count n (names_of_file (refiled other_cmp p files) (other_key gone)) ∙ ap (nat_lt 0) same ∙ sym (has_count n (names_of_file p (key gone)))
+
+  -- a file has as many pages
+  pub counted_alike : length (names_of_file (refiled other_cmp p files) (other_key gone)) ≡ length (names_of_file p (key gone))
+  counted_alike =
+      let one : PageName → ℕ = λ n. 1 in
+      let mine = values_split (file_page_cmp file_cmp) one (file_page_total o) (file_page_apart apart) p.files (λ f. eq_by_cmp file_cmp f.file (key gone)) in
+      let others = values_split (file_page_cmp other_cmp) one (file_page_total other_o) (file_page_apart other_apart) files (λ f. eq_by_cmp other_cmp f.file (other_key gone)) in
+      let rest = totals_keyed o apart other_o other_apart (Others There gone) key other_key set.files rest_files (without_keyed o apart other_o other_apart There key other_key p files h gone there) one in
+      omega (
+        arith,
+        mine,
+        others,
+        rest,
+        totals_keyed o apart other_o other_apart There key other_key p.files files h one,
+        length_total (names_of_file (refiled other_cmp p files) (other_key gone)),
+        length_total (names_of_file p (key gone)),
+      )
 
   pub without_refiled : without_file (refiled other_cmp p files) (other_key gone) ≡ refiled other_cmp (without_file p (key gone)) rest_files
   unfolding without_file

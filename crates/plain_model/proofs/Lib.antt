@@ -13,6 +13,9 @@ pub mod MapTurns
 pub mod ForkTurns
 pub mod RefiledPages
 pub mod MapKeeps
+pub mod ByteKeeps
+pub mod StringKeeps
+pub mod RefiledBytes
 pub mod RefiledCalls
 pub mod JfnEnds
 pub mod JfnChanges

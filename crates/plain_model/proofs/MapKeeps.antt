@@ -28,7 +28,7 @@ use Rattle.plain_model.specs.MapCalls.{ALL_ONES, MapAsked, MapPlace, of_fork, of
 use Rattle.plain_model.proofs.Turns.{Keeps, KeepsEnd}
 
 -- what was named is such, if anything was
-abbrev AllOk : {A : Type 0} → (A → Type 0) → Result A ℕ → Type 0
+abbrev pub AllOk : {A : Type 0} → (A → Type 0) → Result A ℕ → Type 0
 AllOk Good (Ok x) = Good x
 AllOk Good (Err code) = Unit {0}
 
@@ -36,7 +36,7 @@ module _ {A : Type 0} (Good : A → Type 0) where
   page_ok : (word : ℕ) (r : Result A ℕ) → AllOk Good r → AllOk Good (on_page word r)
   page_ok word r good = cond_both (nat_lt (right word) SPACE_PAGES) r (Err BAD_PAGE) (AllOk Good) (λ is. good) (λ is. tt)
 
-  then_ok : {B : Type 0} (All : B → Type 0) (r : Result B ℕ) (next : B → Result A ℕ) → AllOk All r → ((x : B) → All x → AllOk Good (next x)) → AllOk Good (and_then r next)
+  pub then_ok : {B : Type 0} (All : B → Type 0) (r : Result B ℕ) (next : B → Result A ℕ) → AllOk All r → ((x : B) → All x → AllOk Good (next x)) → AllOk Good (and_then r next)
   then_ok All (Ok x) next good goes = goes x good
   then_ok All (Err code) next good goes = tt
 

@@ -1,5 +1,5 @@
 -- A turn of a call does not depend on what files are known by: it leaves the same, with the pages of files under other keys.
-use Rattle.std.proofs.Common.{◌≡◌, ◌≢◌, ℕ, Bool, true, false, cond, not, ◌&&◌, List, Option, None, Some, refl, sym, ◌∙◌, ap, subst, Ordering}
+use Rattle.std.proofs.Common.{◌≡◌, ◌≢◌, ℕ, ◌+◌, Bool, true, false, cond, not, ◌&&◌, List, length, Option, None, Some, refl, sym, ◌∙◌, ap, subst, Ordering}
 use Rattle.std.specs.Option.{option_map, option_map_or}
 use Rattle.std.specs.Prelude.{is_some}
 use Rattle.std.specs.Ordering.{eq_by_cmp, is_eq}
@@ -7,6 +7,7 @@ use Rattle.std.specs.Cmp.{IsTotalOrder, Equal-is}
 use Rattle.std.specs.Cmp.Lexicographic.{nat_list_cmp_total}
 use Rattle.std.proofs.lemmas.Cmp.{tied_itself}
 use Rattle.std.specs.FinMap as map
+use Rattle.std.proofs.Math.Path.{fun_ext}
 use Rattle.plain_model.specs.declared.call.End.{End}
 use Rattle.plain_model.specs.declared.call.End.TheVariants.{Done, Waits, Halts, Refused, Failed, Trap}
 use Rattle.plain_model.specs.declared.call.ForkChange.{ForkChange}
@@ -14,6 +15,8 @@ use Rattle.plain_model.specs.declared.call.MapChange.{MapChange}
 use Rattle.plain_model.specs.declared.call.MapChange.TheVariants.{Nothing, Unmap, Follow, Narrow, Map, Put, Drop}
 use Rattle.plain_model.specs.declared.call.FileChange.{FileChange}
 use Rattle.plain_model.specs.declared.call.FileChange.TheVariants.{Take, Make, Open, Release, Delete}
+use Rattle.plain_model.specs.declared.call.ByteChange.{ByteChange}
+use Rattle.plain_model.specs.declared.call.ByteChange.TheVariants as byte
 use Rattle.plain_pages.specs.declared.map.MapEntry.{MapEntry}
 use Rattle.plain_pages.specs.declared.map.MapEntry.TheVariants as entry
 use Rattle.machine_names.specs.declared.names.PageName.{PageName}
@@ -25,10 +28,10 @@ use Rattle.plain_model.specs.declared.fork.Fork.{Fork}
 use Rattle.plain_units.specs.declared.channel.TheConstants.{ILLEGAL_INSTRUCTION}
 use Rattle.plain_model.specs.Interrupts.{posted}
 use Rattle.plain_files.specs.declared.jfn.Mode.{Mode}
-use Rattle.plain_files.specs.Sizes.{PlainFile, new_file}
+use Rattle.plain_files.specs.Sizes.{PlainFile, new_file, reaching}
 use Rattle.plain_units.specs.declared.registers.Regs.{Regs}
 use Rattle.plain_pages.specs.PlainPages.{PlainPages, refiled}
-use Rattle.plain_pages.specs.FilePages.{other_files, with_file}
+use Rattle.plain_pages.specs.FilePages.{names_of_file, other_files, with_file}
 use Rattle.plain_pages.specs.References.{in_map, page_at, with_changed}
 use Rattle.machine_names.specs.Orders.{FilePage, name_cmp}
 use Rattle.plain_pages.specs.Maps.{narrow}
@@ -36,14 +39,19 @@ use Rattle.plain_model.specs.Calls.{Sight, Turn, no_files, turn_on, Came, number
 use Rattle.plain_model.specs.MapCalls.{entry_for, keyed, map_calls, map_changed}
 use Rattle.plain_model.specs.FileCalls.{file_calls, deleted, file_changed, files_opened, held_at, jfn_calls, opened}
 use Rattle.plain_model.specs.ForkCalls.{ForkParts, fork_calls}
-use Rattle.plain_model.specs.Families.{Parts, Turned, behind, call_turned, print_calls, own_changed, asks, asks_jfns, asks_maps, files_seen, names_seen, forks_changed, pages_changed, jfns_changed}
+use Rattle.plain_model.specs.ByteCalls.{ByteAsked, ByteRows, byte_calls, byte_changed, byte_page, files_reaching, input_at, pages_of, written}
+use Rattle.plain_model.specs.StringCalls.{string_calls}
+use Rattle.plain_model.specs.Families.{Parts, Turned, behind, call_turned, print_calls, own_changed, asks, asks_bytes, asks_jfns, asks_maps, bytes_changed, files_seen, names_seen, forks_changed, pages_changed, jfns_changed}
 use Rattle.machine_names.proofs.OrderLemmas.{name_cmp_apart}
 use Rattle.plain_pages.proofs.Refiled.{NameAlike}
 use Rattle.plain_pages.proofs.FilesKept.{without_files}
-use Rattle.plain_model.proofs.Keyed.{AreKeyed, Files, Others, keyed_by, totals_keyed, without_keyed, without_refiled}
+use Rattle.plain_model.proofs.Keyed.{AreKeyed, Files, Others, counted_alike, keyed_by, totals_keyed, without_keyed, without_refiled}
 use Rattle.plain_pages.proofs.Whole.{tally}
 use Rattle.plain_model.proofs.Calling.{filed_of, with_filed}
-use Rattle.plain_model.proofs.Turns.{KeepsEnd, NamesAlike, TellAlike, came_leaves, came_refiled, came_same}
+use Rattle.plain_model.proofs.Turns.{Keeps, KeepsEnd, NamesAlike, TellAlike, came_leaves, came_refiled, came_same}
+use Rattle.plain_model.proofs.ByteKeeps.{KnowsFiles, byte_keeps}
+use Rattle.plain_model.proofs.StringKeeps.{string_keeps}
+use Rattle.plain_model.proofs.RefiledBytes.{byte_leaves, byte_refiled}
 use Rattle.plain_model.proofs.RefiledPages.{other_set, put_keyed, put_refiled}
 use Rattle.plain_model.proofs.MapKeeps.{KeepsFiles, OfFiles, map_keeps}
 use Rattle.plain_model.proofs.ForkTurns.{change_refiled, changed_leaves as fork_leaves}
@@ -105,6 +113,13 @@ there_opened files mode name x there = by (mode.w && not mode.r) (map.get files 
     by true None = there
     by true (Some f) = there_inserted files name (record f { length = 0 }) x there
     by false o = there
+
+there_reaching : (files : map.FinMap name_cmp PlainFile) (name : List ℕ) (size end : ℕ) (x : List ℕ) → map.contains_key files x ≡ true → map.contains_key (files_reaching files name size end) x ≡ true
+there_reaching files name size end x there = by (map.get files name)
+  where
+    by : (o : Option PlainFile) → map.contains_key (option_map_or (λ f. map.insert files name (reaching size end f)) o files) x ≡ true
+    by None = there
+    by (Some f) = there_inserted files name (reaching size end f) x there
 
 -- a name that is there still but for one that went
 module _ (files : map.FinMap name_cmp PlainFile) (gone : List ℕ) where
@@ -178,6 +193,21 @@ module _ {K L : Type 0} {file_cmp : K → K → Ordering} {other_cmp : L → L �
         by : (j : Option OpenFile) → map.get (held_at u.jobs t) n ≡ j → Stays u (with_filed u (option_map_or (deleted key (filed_of u) t n) j (filed_of u))) (with_filed (rekeyed u) (option_map_or (deleted other_key (filed_of (rekeyed u)) t n) j (filed_of (rekeyed u))))
         by None is = stay key other_key u files filed _ _ refl refl (λ x h. h)
         by (Some j) is = deleted_stays t n j (held t n j is)
+
+    -- a change of a call on bytes
+    byte_stays : AreHeld u → (change : ByteChange) → Stays u (bytes_changed key change u) (bytes_changed other_key change (rekeyed u))
+    unfolding byte_changed
+    byte_stays held byte.Nothing = stay key other_key u files filed _ _ refl refl (λ x h. h)
+    byte_stays held (byte.Take t) = stay key other_key u files filed _ _ refl refl (λ x h. h)
+    byte_stays held (byte.Move t n at) = stay key other_key u files filed _ _ refl refl (λ x h. h)
+    byte_stays held (byte.Put t n word) = by (map.get (held_at u.jobs t) n) refl
+      where
+        by : (j : Option OpenFile) → map.get (held_at u.jobs t) n ≡ j
+            → Stays u (with_filed u (option_map_or (written key (filed_of u) t n word) j (filed_of u))) (with_filed (rekeyed u) (option_map_or (written other_key (filed_of (rekeyed u)) t n word) j (filed_of (rekeyed u))))
+        by None is = stay key other_key u files filed _ _ refl refl (λ x h. h)
+        by (Some j) is = stay key other_key u files filed _ _
+            (ap (λ (p : PlainPages other_cmp). with_filed (rekeyed u) (record (written other_key (filed_of (rekeyed u)) t n word j) { pages = p })) (byte_refiled other_cmp key other_key files u.pages j word (filed.same j.file (held t n j is) (byte_page j))))
+            (byte_leaves key u.pages j word) (λ x h. there_reaching u.files j.file j.size (j.at + 1) x h)
 
   -- a change of a call on maps that changes files that are there
   module _ (u : Parts file_cmp) (filed : Filed u) where
@@ -321,28 +351,56 @@ module _ {K L : Type 0} {file_cmp : K → K → Ordering} {other_cmp : L → L �
       other_filed = λ f known l is page. (f, known, cc is);
     }
 
-    map_ended : (now : Files other_cmp) (q : PlainPages file_cmp) → AreFiled file_cmp other_cmp key other_key (made_with q) now → (e : End MapChange) → KeepsEnd (OfFiles (IsThere v)) e
-        → StayFiled file_cmp other_cmp key other_key v (parts_behind (pages_changed key) v (made_with q) e) (parts_behind (pages_changed other_key) (renewed v) (refiled_all other_cmp now (made_with q)) e)
-    unfolding parts_behind
-    map_ended now q k (Done c regs out post) keeps = let s = map_stays o apart other_o other_apart key other_key now (made_with q) k c keeps in record { same = s.same; keyed = s.keyed }
-    map_ended now q k (Waits on) keeps = as_it_was
-    map_ended now q k Halts keeps = as_it_was
-    map_ended now q k (Refused code) keeps = as_it_was
-    map_ended now q k (Failed code) keeps = as_it_was
-    map_ended now q k (Trap channel) keeps = as_it_was
+    -- so does a turn that refers to files that are there, where its change leaves the same
+    module _ {C : Type 0} (Allowed : C → Type 0) (changed : C → Parts file_cmp → Parts file_cmp) (other : C → Parts other_cmp → Parts other_cmp)
+        (step : (now : Files other_cmp) (q : PlainPages file_cmp) → AreFiled file_cmp other_cmp key other_key (made_with q) now → (c : C) → Allowed c
+        → StayFiled file_cmp other_cmp key other_key (made_with q) (changed c (made_with q)) (other c (refiled_all other_cmp now (made_with q)))) where
+      filed_ended : (now : Files other_cmp) (q : PlainPages file_cmp) → AreFiled file_cmp other_cmp key other_key (made_with q) now → (e : End C) → KeepsEnd Allowed e
+          → StayFiled file_cmp other_cmp key other_key v (parts_behind changed v (made_with q) e) (parts_behind other (renewed v) (refiled_all other_cmp now (made_with q)) e)
+      unfolding parts_behind
+      filed_ended now q k (Done c regs out post) keeps = let s = step now q k c keeps in record { same = s.same; keyed = s.keyed }
+      filed_ended now q k (Waits on) keeps = as_it_was
+      filed_ended now q k Halts keeps = as_it_was
+      filed_ended now q k (Refused code) keeps = as_it_was
+      filed_ended now q k (Failed code) keeps = as_it_was
+      filed_ended now q k (Trap channel) keeps = as_it_was
 
-    -- so does a turn that refers to files that are there
+      filed_turns : (t : Turn (List ℕ) C) → Keeps (IsThere v) Allowed t
+          → Turns (behind changed v who (turn_on (files_seen key v who) v.pages t)) (behind other (renewed v) who (turn_on (files_seen other_key (renewed v) who) (renewed v).pages t))
+      filed_turns t keeps =
+          let c : Came file_cmp C = turn_on (files_seen key v who) v.pages t in
+          let now : Files other_cmp = (turn_on (files_seen other_key (renewed v) who) (renewed v).pages t).pages.files in
+          let agree = came_same other_cmp (IsThere v) (Filed_by key) (Filed_by other_key) (files_seen key v who) (files_seen other_key (renewed v) who) seen_told Allowed t keeps v.pages files
+          (record { names = alike o apart other_o other_apart key other_key files v filed; stand = filed.same; filed = filed.filed; other_filed = filed.other_filed }) in
+          let made : AreFiled file_cmp other_cmp key other_key (made_with c.pages) now = record { apart = filed.apart; other_apart = filed.other_apart; same = agree.1.stand; filed = agree.1.filed; other_filed = agree.1.other_filed } in
+          subst (λ (d : Came other_cmp C). Turns (behind changed v who c) (behind other (renewed v) who d)) (sym agree.0)
+          (turns other_cmp key other_key v (parts_behind changed v (made_with c.pages) c.end) (parts_behind other (renewed v) (refiled_all other_cmp now (made_with c.pages)) c.end) who (λ f. fork_behind f c.end) (out_of c.end)
+          (filed_ended now c.pages made c.end agree.2))
+
     map_turns : (t : Turn (List ℕ) MapChange) → KeepsFiles (IsThere v) t
         → Turns (behind (pages_changed key) v who (turn_on (files_seen key v who) v.pages t)) (behind (pages_changed other_key) (renewed v) who (turn_on (files_seen other_key (renewed v) who) (renewed v).pages t))
-    map_turns t keeps =
-        let c : Came file_cmp MapChange = turn_on (files_seen key v who) v.pages t in
-        let now : Files other_cmp = (turn_on (files_seen other_key (renewed v) who) (renewed v).pages t).pages.files in
-        let agree = came_same other_cmp (IsThere v) (Filed_by key) (Filed_by other_key) (files_seen key v who) (files_seen other_key (renewed v) who) seen_told (OfFiles (IsThere v)) t keeps v.pages files
-        (record { names = alike o apart other_o other_apart key other_key files v filed; stand = filed.same; filed = filed.filed; other_filed = filed.other_filed }) in
-        let made : AreFiled file_cmp other_cmp key other_key (made_with c.pages) now = record { apart = filed.apart; other_apart = filed.other_apart; same = agree.1.stand; filed = agree.1.filed; other_filed = agree.1.other_filed } in
-        subst (λ (d : Came other_cmp MapChange). Turns (behind (pages_changed key) v who c) (behind (pages_changed other_key) (renewed v) who d)) (sym agree.0)
-        (turns other_cmp key other_key v (parts_behind (pages_changed key) v (made_with c.pages) c.end) (parts_behind (pages_changed other_key) (renewed v) (refiled_all other_cmp now (made_with c.pages)) c.end) who (λ f. fork_behind f c.end) (out_of c.end)
-        (map_ended now c.pages made c.end agree.2))
+    map_turns t keeps = filed_turns (OfFiles (IsThere v)) (pages_changed key) (pages_changed other_key) (λ now q k c there. map_stays o apart other_o other_apart key other_key now (made_with q) k c there) t keeps
+
+    -- files have as many pages under both kinds of keys
+    pages_same : (name : List ℕ) → pages_of other_key v.files (renewed v).pages name ≡ pages_of key v.files v.pages name
+    pages_same name = by (map.contains_key v.files name) refl
+      where
+        by : (b : Bool) → map.contains_key v.files name ≡ b → cond b (length (names_of_file (renewed v).pages (other_key name))) 0 ≡ cond b (length (names_of_file v.pages (key name))) 0
+        by true there = counted_alike o apart other_o other_apart (IsThere v) key other_key v.pages files filed name there
+        by false none = refl
+
+    asked_same : (regs : Regs) → asks_bytes other_key (renewed v) who regs ≡ asks_bytes key v who regs
+    asked_same regs = ap (λ (n : List ℕ → ℕ). record { who = who; regs = regs; held = held_at v.jobs who.tty; input = input_at v.jobs who.tty; files = v.files; pages = n }) (fun_ext pages_same)
+
+    -- calls that are asked with bytes, and know the files of JFNs
+    module _ (rows : ByteRows) (regs : Regs) (number : ℕ) where
+      byte_turns : AreHeld v → KnowsFiles (IsThere v) (numbered rows number (asks_bytes key v who regs))
+          → Turns (behind (bytes_changed key) v who (turn_on (files_seen key v who) v.pages (numbered rows number (asks_bytes key v who regs))))
+          (behind (bytes_changed other_key) (renewed v) who (turn_on (files_seen other_key (renewed v) who) (renewed v).pages (numbered rows number (asks_bytes other_key (renewed v) who regs))))
+      byte_turns held keeps =
+          subst (λ (a : ByteAsked). Turns (behind (bytes_changed key) v who (turn_on (files_seen key v who) v.pages (numbered rows number (asks_bytes key v who regs))))
+          (behind (bytes_changed other_key) (renewed v) who (turn_on (files_seen other_key (renewed v) who) (renewed v).pages (numbered rows number a)))) (sym (asked_same regs))
+          (filed_turns (λ c. Unit {0}) (bytes_changed key) (bytes_changed other_key) (λ now q k c any. byte_stays o apart other_o other_apart key other_key now (made_with q) k held c) (numbered rows number (asks_bytes key v who regs)) keeps)
 
     -- A TURN OF A CALL LEAVES THE SAME, whatever files are known by
     pub call_refiled : AreHeld v → (regs : Regs) (number : ℕ) → Turns (call_turned key v who regs number) (call_turned other_key (renewed v) who regs number)
@@ -353,4 +411,6 @@ module _ {K L : Type 0} {file_cmp : K → K → Ordering} {other_cmp : L → L �
         (either (is_among file_calls number) _ _ _ _ (behind_turns own_changed own_changed own_step no_files no_files no_files_told (numbered file_calls number (asks v who regs)))
         (either (is_among jfn_calls number) _ _ _ _
         (behind_turns (jfns_changed key) (jfns_changed other_key) (λ c q k. change_stays o apart other_o other_apart key other_key files (made_with q) k held c) (names_seen v who) (names_seen (renewed v) who) (record { names = λ name. refl; more = refl }) (numbered jfn_calls number (asks_jfns v who regs)))
-        (turns other_cmp key other_key v v (renewed v) who (λ f. posted f ILLEGAL_INSTRUCTION) None as_it_was)))))
+        (either (is_among byte_calls number) _ _ _ _ (byte_turns byte_calls regs number held (byte_keeps (IsThere v) (asks_bytes key v who regs) (held who.tty) number))
+        (either (is_among string_calls number) _ _ _ _ (byte_turns string_calls regs number held (string_keeps (IsThere v) (asks_bytes key v who regs) (held who.tty) number))
+        (turns other_cmp key other_key v v (renewed v) who (λ f. posted f ILLEGAL_INSTRUCTION) None as_it_was)))))))

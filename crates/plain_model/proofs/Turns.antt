@@ -109,7 +109,7 @@ Keeps Known Allowed (makes name next) = (b : Bool) → Keeps Known Allowed (next
 Keeps Known Allowed (ends e) = KeepsEnd Allowed e
 
 -- any end is such, where any change is
-ends_any : {C : Type 0} (e : End C) → KeepsEnd (λ c. Unit {0}) e
+pub ends_any : {C : Type 0} (e : End C) → KeepsEnd (λ c. Unit {0}) e
 ends_any (Done change regs out post) = tt
 ends_any (Waits on) = tt
 ends_any Halts = tt

@@ -88,11 +88,16 @@ with_ac regs ac word = record regs { ac = slice_set regs.ac ac word }
 abbrev pub returning : {C : Type 0} → C → Regs → End C
 returning change regs = Done change (behind_call regs) None None
 
--- a call with one return ends so where a reference was granted; where there is no page, or no room for one, it is refused
+-- a call with one return ends so where a reference was granted, and otherwise where there is no room for its page; where there is no
+-- page it is refused
+abbrev pub granted_or : {C : Type 0} → End C → End C → Touched → End C
+granted_or e other Granted = e
+granted_or e other Denied = Refused NO_PAGE
+granted_or e other Full = other
+
+-- it is refused where there is no page, or no room for one
 abbrev pub if_granted : {C : Type 0} → End C → Touched → End C
-if_granted e Granted = e
-if_granted e Denied = Refused NO_PAGE
-if_granted e Full = Refused NO_ROOM
+if_granted e what = granted_or e (Refused NO_ROOM) what
 
 -- what follows from what was named, or the code of an error
 abbrev pub and_then : {A B : Type 0} → Result A ℕ → (A → Result B ℕ) → Result B ℕ

@@ -1,5 +1,5 @@
 -- The events of a script that are one step of the plain machine.
-use Rattle.std.specs.Prelude.{ℕ, ◌+◌, ◌%◌, List, [], ◌∷◌, map, Bool, false, nat_lt, Option, None, Some, if◌then◌else◌, slice_index, take, is_some}
+use Rattle.std.specs.Prelude.{ℕ, ◌+◌, ◌%◌, List, [], ◌∷◌, map, Bool, nat_lt, Option, None, Some, if◌then◌else◌, slice_index, take, is_some}
 use Rattle.std.specs.Option.{option_map, option_map_or}
 use Rattle.std.specs.FinMap as map
 use Rattle.outside.specs.declared.TheConstants.{PAGE_WORDS}
@@ -10,11 +10,10 @@ use Rattle.machine_names.specs.declared.names.Slot.{Slot}
 use Rattle.machine_names.specs.declared.names.Kind.TheVariants.{Write}
 use Rattle.machine_names.specs.declared.character.TheConstants.{PROMPT}
 use Rattle.plain_pages.specs.declared.map.NewMap.TheVariants.{Empty as EmptyMap}
-use Rattle.plain_model.specs.declared.fork.TerminalMode.TheVariants.{Command, Program}
-use Rattle.script_texts.specs.declared.status.ForkStatus.TheVariants.{Run as Running}
+use Rattle.plain_model.specs.declared.fork.TerminalMode.TheVariants.{Command}
 use Rattle.plain_model.specs.declared.fork.Fork.{Fork}
 use Rattle.script_texts.specs.declared.event.Event.{Event}
-use Rattle.script_texts.specs.declared.event.Event.TheVariants.{Login, File, Words, Poke, Start, Tick, Examine, Forks, Page, Trace}
+use Rattle.script_texts.specs.declared.event.Event.TheVariants.{Login, TypeIn, File, Words, Poke, Start, Tick, Examine, Forks, Page, Trace}
 use Rattle.script_texts.specs.declared.event.Item.TheVariants.{Char, ForkLine, Examined}
 use Rattle.script_texts.specs.declared.event.Refusal.TheVariants.{Busy, NoJob, SerialsOut, Full, Denied, NoFork, NoPage}
 use Rattle.plain_model.specs.State.{PlainState, PlainJob}
@@ -27,6 +26,8 @@ use Rattle.plain_model.specs.Calls.{with_ac}
 use Rattle.plain_model.specs.Unit.{Effect, parts_of, refused, with_parts}
 use Rattle.plain_model.specs.FileEvents.{make_file, write_words, show_page}
 use Rattle.plain_pages.specs.NewMaps.{with_map}
+use Rattle.plain_model.specs.Commands.{started}
+use Rattle.plain_model.specs.TypeEvents.{typed_all}
 
 -- an event of a terminal's job; it is refused where the terminal has none
 abbrev pub at_job : PlainState → Tty → (PlainJob → Effect) → Effect
@@ -51,6 +52,10 @@ login s t user =
     else (if HasRoom (with_map s.pages (next_name (tree_of s) t) EmptyMap) t then record { state = with_job s t user; items = Char t PROMPT ∷ [] }
     else refused s (Full t)))
 
+-- TYPE: the characters of a text are typed at the terminal, one after another
+abbrev pub type_in : PlainState → Tty → List ℕ → Effect
+type_in s t text = at_job s t (λ j. typed_all s t text)
+
 -- a word put into a slot's page, where a write is granted
 abbrev pub poked : PlainState → Tty → Slot → ℕ → ℕ → Referred name_cmp → Effect
 poked s t slot offset word (granted p) = record { state = record s { pages = stored p (in_map slot) offset word }; items = [] }
@@ -66,14 +71,6 @@ poked_at s t address word j =
 -- POKE: a write of the top fork, by its access; low addresses are its accumulators
 abbrev pub poke : PlainState → Tty → ℕ → ℕ → Effect
 poke s t address word = at_job s t (poked_at s t address word)
-
--- a fork that runs at an address, with no freeze mark
-abbrev pub restarted : ℕ → Fork → Fork
-restarted address f = record f { frozen = false; body = record f.body { status = Running; regs = record f.body.regs { pc = address } } }
-
--- a terminal's job in program mode, with its top fork started at an address
-abbrev pub started : PlainState → Tty → ℕ → PlainJob → PlainState
-started s t address j = record (change_fork s j.top (restarted address)) { jobs = map.insert s.jobs t.0 (record j { mode = Program }) }
 
 -- START: the top fork runs at the address, with no freeze mark, in program mode
 abbrev pub start : PlainState → Tty → ℕ → Effect
@@ -108,6 +105,7 @@ traced s on = record { state = record s { trace = on }; items = [] }
 -- an event as one step; those that are not built change nothing
 unfoldable pub outer : PlainState → Event → Effect
 outer s (Login t user) = login s t user
+outer s (TypeIn t text) = type_in s t text
 outer s (File name) = make_file s name
 outer s (Words name page offset row) = write_words s name page offset (take row.count row.words)
 outer s (Poke t address word) = poke s t address word

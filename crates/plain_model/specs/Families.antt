@@ -9,6 +9,7 @@ use Rattle.plain_model.specs.declared.call.End.TheVariants.{Done}
 use Rattle.plain_model.specs.declared.call.MapChange.{MapChange}
 use Rattle.plain_model.specs.declared.call.ForkChange.{ForkChange}
 use Rattle.plain_model.specs.declared.call.FileChange.{FileChange}
+use Rattle.plain_model.specs.declared.call.ByteChange.{ByteChange}
 use Rattle.machine_names.specs.declared.names.ForkName.{ForkName}
 use Rattle.machine_names.specs.declared.names.TheConstants.{MOST_FILES}
 use Rattle.machine_names.specs.Orders.{name_cmp}
@@ -22,6 +23,8 @@ use Rattle.plain_model.specs.Calls.{Asked, Turn, ends, Sight, no_files, Came, tu
 use Rattle.plain_model.specs.MapCalls.{MapAsked, map_calls, map_changed}
 use Rattle.plain_model.specs.FileCalls.{Jobs, JfnAsked, file_calls, file_changed, held_at, jfn_calls, times_held}
 use Rattle.plain_model.specs.ForkCalls.{fork_calls, fork_changed}
+use Rattle.plain_model.specs.ByteCalls.{ByteAsked, ByteRows, byte_calls, byte_changed, input_at, pages_of}
+use Rattle.plain_model.specs.StringCalls.{string_calls}
 
 -- PBOUT prints the low 7 bits of accumulator 1
 abbrev pub prints : Regs → Turn ⊥ (Unit {0})
@@ -137,9 +140,29 @@ module _ {K : Type 0} {file_cmp : K → K → Ordering} where
     abbrev pub opening : Family file_cmp ⊥ JfnAsked FileChange
     opening = record { calls = jfn_calls; asked = asks_jfns; sight = names_seen; changed = jfns_changed }
 
+    -- what calls on bytes are asked with
+    abbrev pub asks_bytes : Parts file_cmp → ForkName → Regs → ByteAsked
+    asks_bytes v who regs = record { who = who; regs = regs; held = held_at v.jobs who.tty; input = input_at v.jobs who.tty; files = v.files; pages = pages_of key_of v.files v.pages }
+
+    -- a call on bytes changes pages, files and jobs
+    abbrev pub bytes_changed : ByteChange → Parts file_cmp → Parts file_cmp
+    bytes_changed change v = let part = byte_changed key_of change (record { pages = v.pages; files = v.files; jobs = v.jobs }) in record v { pages = part.pages; files = part.files; jobs = part.jobs }
+
+    -- calls that are asked with the same, and change the same
+    abbrev pub on_bytes : ByteRows → Family file_cmp (List ℕ) ByteAsked ByteChange
+    on_bytes rows = record { calls = rows; asked = asks_bytes; sight = files_seen; changed = bytes_changed }
+
+    -- the calls on bytes
+    abbrev pub bytes : Family file_cmp (List ℕ) ByteAsked ByteChange
+    bytes = on_bytes byte_calls
+
+    -- the calls on strings of bytes
+    abbrev pub strings : Family file_cmp (List ℕ) ByteAsked ByteChange
+    strings = on_bytes string_calls
+
     -- all families, where pages of files are under the keys of the files' names
     abbrev pub families : List (Offer file_cmp)
-    families = offered printing ∷ offered forking ∷ offered mapping ∷ offered filing ∷ offered opening ∷ []
+    families = offered printing ∷ offered forking ∷ offered mapping ∷ offered filing ∷ offered opening ∷ offered bytes ∷ offered strings ∷ []
 
     -- a turn of a monitor call
     abbrev pub call_turned : Parts file_cmp → ForkName → Regs → ℕ → Turned file_cmp

@@ -5,6 +5,8 @@ pub mod Inferiors
 pub mod Trees
 pub mod Unit
 pub mod FileEvents
+pub mod Commands
+pub mod TypeEvents
 pub mod Events
 pub mod Run
 pub mod Handles
@@ -14,5 +16,7 @@ pub mod PointedTexts
 pub mod MapCalls
 pub mod ForkCalls
 pub mod FileCalls
+pub mod ByteCalls
+pub mod StringCalls
 pub mod Families
 pub mod Moves

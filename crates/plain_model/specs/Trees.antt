@@ -71,14 +71,30 @@ without_wait status = status
 abbrev pub unwaited : Fork → Fork
 unwaited f = with_status f (without_wait f.body.status)
 
+-- the forks in these slots of a job changed, in order
+abbrev pub changed_in : (Fork → Fork) → ForkMap → Tty → List ℕ → ForkMap
+changed_in change forks t [] = forks
+changed_in change forks t (slot ∷ slots) = changed_in change (changed forks change (fork_in forks t slot)) t slots
+
 -- of these slots of a job, in order, who waits for a fork runs again
 abbrev pub woken_in : ForkMap → Tty → List ℕ → ForkMap
-woken_in forks t [] = forks
-woken_in forks t (slot ∷ slots) = woken_in (changed forks unwaited (fork_in forks t slot)) t slots
+woken_in forks t slots = changed_in unwaited forks t slots
 
 -- a fork of a job has ended: who waits for a fork of that job runs again
 unfoldable pub waiters_woken : ForkMap → Tty → ForkMap
 waiters_woken forks t = woken_in forks t (range_with_len 1 MOST_FORKS)
+
+-- who waits for a character runs again
+abbrev pub without_read : ForkStatus → ForkStatus
+without_read (Wait on.Input) = Run
+without_read status = status
+
+abbrev pub unread : Fork → Fork
+unread f = with_status f (without_read f.body.status)
+
+-- a character is stored for a job: whoever waits for one runs again
+unfoldable pub readers_woken : ForkMap → Tty → ForkMap
+readers_woken forks t = changed_in unread forks t (range_with_len 1 MOST_FORKS)
 
 -- a fork has halted or was forced: who waits for a fork of its job runs again, and then its superior is told by a channel
 abbrev pub end_told : ForkMap → Fork → ForkMap

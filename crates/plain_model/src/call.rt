@@ -25,6 +25,27 @@ pub const RLJFN: u32 = 0o23;
 /// Deletes the file of a JFN, and releases the JFN.
 pub const DELF: u32 = 0o26;
 
+/// Moves a JFN to a byte of its file.
+pub const SFPTR: u32 = 0o27;
+
+/// Tells the length of a file, and how many pages it has.
+pub const SIZEF: u32 = 0o36;
+
+/// Tells the byte at which a JFN stands.
+pub const RFPTR: u32 = 0o43;
+
+/// Takes the next byte of a file, or the next character of the terminal.
+pub const BIN: u32 = 0o50;
+
+/// Writes the next byte of a file, or prints a character.
+pub const BOUT: u32 = 0o51;
+
+/// Takes the bytes of a string from a file, or from the terminal.
+pub const SIN: u32 = 0o52;
+
+/// Writes the bytes of a string to a file, or prints them.
+pub const SOUT: u32 = 0o53;
+
 /// Maps a page of one place into another, or takes one out of a map.
 pub const PMAP: u32 = 0o56;
 
@@ -37,8 +58,14 @@ pub const SPACS: u32 = 0o60;
 /// Tells which page an entry of a map follows.
 pub const RMAP: u32 = 0o61;
 
+/// Takes the next character of the terminal.
+pub const PBIN: u32 = 0o73;
+
 /// Prints the character in accumulator 1.
 pub const PBOUT: u32 = 0o74;
+
+/// Prints the bytes of a string.
+pub const PSOUT: u32 = 0o76;
 
 /// Makes an inferior fork.
 pub const CFORK: u32 = 0o152;
@@ -84,6 +111,12 @@ pub const FIRST_HANDLE: u32 = FORK_SELF + 1;
 
 /// The handle of the fork in the last slot.
 pub const LAST_HANDLE: u32 = FORK_SELF + MOST_FORKS as u32;
+
+/// The number that stands for the terminal's input where a call on bytes is handed a JFN (JSYS Manual, "Primary files").
+pub const TERMINAL_INPUT: u32 = 0o100;
+
+/// The number that stands for the terminal's output there.
+pub const TERMINAL_OUTPUT: u32 = 0o101;
 
 /// The error of a handle that names no fork.
 pub const NO_HANDLE: u32 = 0o600001;
@@ -132,6 +165,9 @@ pub const NO_PAGE: u32 = 0o600017;
 
 /// The error of bytes that are larger than words.
 pub const BAD_SIZE: u32 = 0o600020;
+
+/// The error of a position behind the last byte that a file has room for, or at that end where a byte is to be written.
+pub const BAD_POSITION: u32 = 0o600021;
 
 /// The error of a page of a file that is to be mapped into a file.
 pub const FILE_TO_FILE: u32 = 0o600023;
@@ -215,4 +251,17 @@ pub enum FileChange {
     Release(Tty, u32),
     /// The file of a JFN is removed, with the names that its pages have there, and the JFN stands for none.
     Delete(Tty, u32),
+}
+
+/// What a turn of a call on bytes changes. A JFN is one of the job at a terminal.
+#[derive(Clone, Copy)]
+pub enum ByteChange {
+    Nothing,
+    /// The oldest character that is stored for the job at a terminal is taken.
+    Take(Tty),
+    /// A JFN stands at another byte of its file.
+    Move(Tty, u32, u64),
+    /// The byte at which a JFN stands becomes the low bits of a word. The file has bytes of the JFN's size then, and reaches
+    /// behind that one; and the JFN stands at the next.
+    Put(Tty, u32, Word),
 }

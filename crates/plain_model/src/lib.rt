@@ -5,6 +5,7 @@
 
 mod bounds;
 pub mod call;
+pub mod command;
 mod fork;
 pub mod text;
 

@@ -7,4 +7,4 @@ mod command;
 mod typed;
 
 pub use command::Command;
-pub use typed::{ASSIGNABLE_CODES, CONTROL_C, MOST_STORED, Typed};
+pub use typed::{ASSIGNABLE_CODES, BELL, CONTROL_C, MOST_STORED, Typed};

@@ -10,6 +10,9 @@ pub const ASSIGNABLE_CODES: usize = 0o33;
 /// What stops a program. It is never stored or assigned.
 pub const CONTROL_C: u8 = 0o3;
 
+/// What a terminal rings at a character that is lost.
+pub const BELL: u8 = 0o7;
+
 /// What becomes of a character that is typed.
 #[derive(Clone, Copy, PartialEq, Eq)]
 pub enum Typed {

@@ -7,6 +7,9 @@ pub const OVERFLOW: u8 = 0o6;
 /// Channel 9: a pushdown list ran over, or under.
 pub const PUSHDOWN_OVERFLOW: u8 = 0o11;
 
+/// Channel 10: a file was read to its end.
+pub const END_OF_FILE: u8 = 0o12;
+
 /// Channel 15: an illegal instruction, or a monitor call that was refused.
 pub const ILLEGAL_INSTRUCTION: u8 = 0o17;
 

@@ -47,7 +47,6 @@ FitsEvent (Trace on) = Unit {0}
 
 -- the events that the machine acts on
 abbrev pub IsBuilt : Event → Type 0
-IsBuilt (TypeIn t text) = ⊥
 IsBuilt (Trace on) = ⊥
 IsBuilt e = Unit {0}
 

@@ -54,20 +54,8 @@ impl Event {
         ensures { IsTrue result ↔ IsBuilt self.now }
     {
         match self {
-            Event::Login(..)
-            | Event::File(_)
-            | Event::Words(..)
-            | Event::Poke(..)
-            | Event::Start(..)
-            | Event::Run(_)
-            | Event::Tick
-            | Event::Evict(_)
-            | Event::Drum(_)
-            | Event::Auto(_)
-            | Event::Examine(..)
-            | Event::Forks(_)
-            | Event::Page(..) => true,
-            Event::TypeIn(..) | Event::Trace(_) => false,
+            Event::Trace(_) => false,
+            _ => true,
         }
     }
 }
