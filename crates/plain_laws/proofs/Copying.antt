@@ -1,5 +1,5 @@
 -- Copies: when a reference makes one, where it stands, and what it holds; and what a word that is put changes.
-use Rattle.std.proofs.Common.{◌≡◌, ◌≢◌, Bool, true, false, List, [], ◌∷◌, ◌++◌, Option, None, Some, refl, sym, ◌∙◌, ap, subst, Ordering}
+use Rattle.std.proofs.Common.{◌≡◌, ◌≢◌, Bool, true, false, cond, List, [], ◌∷◌, ◌++◌, Option, None, Some, refl, sym, ◌∙◌, ap, subst, Ordering}
 use Rattle.std.specs.Prelude.{find, is_some, if◌then◌else◌}
 use Rattle.std.specs.Option.{option_map_or, option_and_then}
 use Rattle.std.specs.Cmp.{IsTotalOrder}
@@ -13,7 +13,7 @@ use Rattle.plain_pages.specs.declared.map.MapEntry.TheVariants.{Empty}
 use Rattle.plain_pages.specs.PlainPages.{PlainPages}
 use Rattle.plain_pages.specs.Maps.{Link, Chain, chain, entry_at, full_access, permits, may}
 use Rattle.plain_pages.specs.Room.{HasRoom}
-use Rattle.plain_pages.specs.References.{in_map, Making, blank, copy, blanks, copy_in, copies, along_chain, private_access, makings, make, make_all, granted, denied, reference, next_page, words_of, words_at}
+use Rattle.plain_pages.specs.References.{in_map, Making, blank, copy, blanks, copy_in, copies, along_chain, page_at, private_access, makings, make, make_all, granted, denied, reference, next_page, words_of, words_at}
 use Rattle.machine_names.specs.PageWords.{zero_words}
 use Rattle.machine_names.specs.Bounds.{IsOwner}
 use Rattle.plain_pages.specs.WholePages.{AreWhole}
@@ -23,8 +23,8 @@ use Rattle.plain_pages.proofs.Makings.{CanMake}
 use Rattle.plain_pages.proofs.Made.{IsMade, is_blank, is_copy, not_later}
 use Rattle.plain_pages.proofs.Settles.{makings_settled, makings_can}
 use Rattle.plain_pages.proofs.ReferencesMade.{make_first, roomy, reference_makes, reference_denied, reference_stays}
-use Rattle.plain_laws.proofs.ReadsOn.{reads_on_itself, reads_on, empty_words}
-use Rattle.plain_pages.proofs.Reading.{mark_there}
+use Rattle.plain_laws.proofs.ReadsOn.{reads_on_itself, reads_on, empty_words, reference_reads}
+use Rattle.plain_pages.proofs.Reading.{mark_there, page_of_chain}
 
 module _ {K : Type 0} {file_cmp : K → K → Ordering} (p : PlainPages file_cmp) (s : Slot) (kind : Kind) (owner : Tty) where
   granted_makes : (q : PlainPages file_cmp) → reference p (in_map s) kind owner ≡ granted q → (ms : List (Making K)) × (makings p (in_map s) kind ≡ Some ms) × (make_all p owner ms ≡ granted q)
@@ -89,15 +89,38 @@ module _ {K : Type 0} {file_cmp : K → K → Ordering} (p : PlainPages file_cmp
       no_copies Execute is = refl
       no_copies Write is = unmarked (find marked c.links) refl is
 
-module _ {K : Type 0} {file_cmp : K → K → Ordering} (o : IsTotalOrder file_cmp) (owner : Tty) (own : IsOwner owner) where
+module _ {K : Type 0} {file_cmp : K → K → Ordering} (o : IsTotalOrder file_cmp) (owner : Tty) where
   -- once it has gone through, a reference makes nothing more
   again : (s : Slot) (kind : Kind) (ms : List (Making K)) (p q : PlainPages file_cmp) → makings p (in_map s) kind ≡ Some ms → make_all p owner ms ≡ granted q → makings q (in_map s) kind ≡ Some []
   unfolding make_all
   again s kind [] p q h g = let same : p ≡ q = cc g in subst (λ (r : PlainPages file_cmp). makings r (in_map s) kind ≡ Some []) same h
   again s kind (m ∷ ms) p q h g = let room = roomy (HasRoom (make p owner m) owner) (make_all (make p owner m) owner ms) q g in again s kind ms (make p owner m) q (makings_settled o p owner (in_map s) kind m ms h) room.1
 
+  -- then the page of the slot is there
+  pub page_made : (p q : PlainPages file_cmp) (s : Slot) (kind : Kind) → reference p (in_map s) kind owner ≡ granted q → (n : PageName) × (page_at q (in_map s) ≡ Some n)
+  unfolding makings
+  page_made p q s kind g = let m = granted_makes p s kind owner q g in by (chain (entry_at q.maps) s) refl (again s kind m.0 p q m.1 m.2)
+    where
+      along : (c : Chain) (n : Option PageName) → c.page ≡ n → (b : Bool) → (if b then Some (cond (is_some n) [] (blank (in_map c.end) ∷ []) ++ copies {K = K} kind c) else None) ≡ Some [] → (x : PageName) × (n ≡ Some x)
+      along c (Some n) is b h = (n, refl)
+      along c None is true h = absurd (cc h)
+      along c None is false h = absurd (cc h)
+
+      by : (o : Option Chain) → chain (entry_at q.maps) s ≡ o → option_and_then (along_chain {K = K} kind) o ≡ Some [] → (n : PageName) × (page_at q (in_map s) ≡ Some n)
+      by None is h = absurd (cc h)
+      by (Some c) is h = let n = along c c.page refl (permits kind c) h in (n.0, page_of_chain q s c is ∙ n.1)
+
+module _ {K : Type 0} {file_cmp : K → K → Ordering} (o : IsTotalOrder file_cmp) (owner : Tty) (own : IsOwner owner) where
   pub made_once : (p q : PlainPages file_cmp) (s : Slot) (kind : Kind) → reference p (in_map s) kind owner ≡ granted q → reference q (in_map s) kind owner ≡ granted q
-  made_once p q s kind g = let m = granted_makes p s kind owner q g in reference_stays q owner (in_map s) kind (again s kind m.0 p q m.1 m.2)
+  made_once p q s kind g = let m = granted_makes p s kind owner q g in reference_stays q owner (in_map s) kind (again o owner s kind m.0 p q m.1 m.2)
+
+  -- and the slot reads what it read before
+  pub words_stay : (p q : PlainPages file_cmp) → AreWhole p → (s : Slot) (kind : Kind) → reference p (in_map s) kind owner ≡ granted q → words_at q (in_map s) ≡ words_at p (in_map s)
+  words_stay p q w s kind g = by (chain (entry_at p.maps) s) refl
+    where
+      by : (x : Option Chain) → chain (entry_at p.maps) s ≡ x → words_at q (in_map s) ≡ words_at p (in_map s)
+      by None is = absurd (let no : denied kind ≡ granted q = sym (denied_without p s kind owner is) ∙ g in cc no)
+      by (Some c) is = let r = reference_reads o owner own p q w s kind g in let d = r.words s c is in d.2
 
   -- the copy that is the last making, on pages that read as the first ones do
   last_copy : (p z : PlainPages file_cmp) → AreWhole p → ReadsOn owner p z → (s : Slot) (c : Chain) (l : Link) → chain (entry_at p.maps) s ≡ Some c → find marked c.links ≡ Some l → ((t : Slot) → t ≢ c.end → entry_at z.maps t ≡ entry_at p.maps t)

@@ -104,6 +104,10 @@ module _ (files : Files) (pages : FilePages) (jobs : Jobs) (w : AreFilesWhole fi
     ];
   }
 
+  -- a job that goes
+  pub job_gone : (t : ℕ) → AreFilesWhole files pages (map.remove jobs t)
+  job_gone t = record { named = w.named; placed = w.placed; jfns = λ u j is. w.jfns u j (gone_tells nat_cmp_total nat_cmp-IsAntisymmetric jobs t u j is).1 }
+
   -- fewer pages of files
   pub pages_fewer : (rest : FilePages) → ((at : FilePage (List ℕ)) → map.contains_key rest at ≡ true → map.contains_key pages at ≡ true) → AreFilesWhole files rest jobs
   pages_fewer rest there = record { named = w.named; placed = λ at is. w.placed at (there at is); jfns = w.jfns }

@@ -1,62 +1,32 @@
 -- A turn of a call on JFNs, as it comes out and what it leaves.
 use Rattle.std.proofs.Common.{◌≡◌, ℕ, Bool, true, false, cond, ◌||◌, List, [], Option, None, Some, refl, ◌∙◌, ap}
-use Rattle.std.specs.Prelude.{◌==◌, if◌then◌else◌, is_some, nat_lt, slice_index}
+use Rattle.std.specs.Prelude.{◌==◌, if◌then◌else◌, is_some, nat_lt}
 use Rattle.std.specs.Option.{option_map, option_map_or, option_and_then}
-use Rattle.std.specs.declared.cmp.Ordering.{Ordering}
 use Rattle.std.specs.FinMap as map
 use Rattle.word36.specs.Words.{bit}
 use Rattle.machine_names.specs.FileNames.{file_named}
 use Rattle.machine_names.specs.Orders.{name_cmp}
-use Rattle.machine_names.specs.declared.names.ForkName.{ForkName}
 use Rattle.machine_names.specs.declared.names.TheConstants.{MOST_FILES}
 use Rattle.plain_files.specs.declared.bounds.TheConstants.{LARGEST_BYTE}
 use Rattle.plain_files.specs.OpenFiles.{OpenFile, free_jfn}
-use Rattle.plain_pages.specs.PlainPages.{NamedPages, PlainPages}
-use Rattle.plain_units.specs.declared.channel.TheConstants.{ILLEGAL_INSTRUCTION}
+use Rattle.plain_pages.specs.PlainPages.{NamedPages}
 use Rattle.plain_units.specs.declared.registers.Regs.{Regs}
-use Rattle.plain_units.specs.Blocks.{steps_on}
 use Rattle.plain_units.specs.Deeds.{in_ac}
-use Rattle.plain_units.specs.Steps.{Planned, call, done, need, pages_left, stopped, trap}
 use Rattle.plain_model.specs.declared.call.TheConstants.{BAD_NAME, BAD_SIZE, CLOSF, DELF, FILE_IN_USE, FILES_FULL, GTJFN, JFN_OPEN, JFNS_FULL, NOT_OPEN, NO_FILE, NO_JFN, OPENF, RLJFN}
 use Rattle.plain_model.specs.declared.call.End.{End}
-use Rattle.plain_model.specs.declared.call.End.TheVariants.{Done, Failed, Trap}
+use Rattle.plain_model.specs.declared.call.End.TheVariants.{Done, Failed}
 use Rattle.plain_model.specs.declared.call.FileChange.{FileChange}
 use Rattle.plain_model.specs.declared.call.FileChange.TheVariants.{Delete, Make, Open, Release, Take}
 use Rattle.plain_model.specs.declared.fork.Fork.{Fork}
-use Rattle.plain_model.specs.Calls.{Came, Sight, Turn, ends, failed_regs, fork_behind, looks, makes, no_files, parts_behind, stepped, turn_on, with_error}
+use Rattle.plain_model.specs.Calls.{Came, Sight, ends, failed_regs, fork_behind, looks, makes, parts_behind, turn_on, with_error}
 use Rattle.plain_model.specs.Families.{Turned, asks_jfns, behind, jfns_changed, names_seen}
 use Rattle.plain_model.specs.FileCalls.{JfnAsked, found_or_made, gtjfn, made_for, mode_in, of_jfn, size_in, skipping, taking, telling, times_held}
 use Rattle.plain_model.specs.Forks.{with_regs}
-use Rattle.plain_model.specs.PointedTexts.{Reading, read, text_at, with_reading, words}
+use Rattle.plain_model.specs.PointedTexts.{text_at}
 use Rattle.plain_model.specs.State.{PlainState}
 use Rattle.plain_model.specs.Unit.{parts_of}
 use Rattle.plain_laws.specs.JfnLaws.{AsksFor, Lives, NamesJfn, Reads, jfn_named, jfns_of, turn_of, user_of}
-
--- a turn that ends with the text that it has read
-abbrev told : Regs → Option (List ℕ) → End (Option (List ℕ))
-told regs text = Done text regs None None
-
-abbrev telling_text : ForkName → Regs → Reading → Turn ⊥ (Option (List ℕ))
-telling_text f regs r = with_reading f regs r (λ t. ends (told regs t))
-
--- a turn that reads a text goes on with it, on the pages of then
-module _ {C K : Type 0} {file_cmp : K → K → Ordering} (sight : Sight ⊥ K) (f : ForkName) (regs : Regs) (next : Option (List ℕ) → Turn ⊥ C) where
-  reads_on : (r : Reading) (p : PlainPages file_cmp) (text : Option (List ℕ)) (q : PlainPages file_cmp) → turn_on no_files p (telling_text f regs r) ≡ record { end = told regs text; pages = q } → turn_on sight p (with_reading f regs r next) ≡ turn_on sight q (next text)
-  unfolding with_reading turn_on
-  reads_on (words steps rest) p text q is = by (λ w r is. reads_on (rest w) r text q is) (steps_on f regs steps p) is
-    where
-      by : ((w : ℕ) (r : PlainPages file_cmp) → turn_on no_files r (telling_text f regs (rest w)) ≡ record { end = told regs text; pages = q } → turn_on sight r (with_reading f regs (rest w) next) ≡ turn_on sight q (next text)) → (x : Planned file_cmp ⊥)
-          → stepped f x (λ r e. turn_on no_files r (telling_text f regs (rest (slice_index e.regs.ac 0)))) (λ channel. record { end = Trap channel; pages = p }) ≡ record { end = told regs text; pages = q }
-          → stepped f x (λ r e. turn_on sight r (with_reading f regs (rest (slice_index e.regs.ac 0)) next)) (λ channel. record { end = Trap channel; pages = p }) ≡ turn_on sight q (next text)
-      by later (done t e) is = later (slice_index e.regs.ac 0) (pages_left f t e) is
-      by later (stopped (trap channel)) is = absurd (let no : Trap channel ≡ told regs text = ap (λ (c : Came file_cmp (Option (List ℕ))). c.end) is in cc no)
-      by later (stopped (need none)) is = absurd none
-      by later (call number) is = absurd (let no : Trap ILLEGAL_INSTRUCTION ≡ told regs text = ap (λ (c : Came file_cmp (Option (List ℕ))). c.end) is in cc no)
-  reads_on (read t) p text q is =
-      let same : told regs t ≡ told regs text = ap (λ (c : Came file_cmp (Option (List ℕ))). c.end) is in
-      let texts : t ≡ text = cc same in
-      let pages : p ≡ q = ap (λ (c : Came file_cmp (Option (List ℕ))). c.pages) is in
-      λ i. turn_on sight (pages i) (next (texts i))
+use Rattle.plain_laws.proofs.ReadTurns.{reads_on}
 
 module _ (s : PlainState) (f : Fork) (lives : Lives s f) where
   abbrev asked : JfnAsked

@@ -15,7 +15,7 @@ use Rattle.plain_pages.specs.Room.{page_in, uses}
 use Rattle.plain_pages.specs.References.{drop_all_unnamed, without_fork}
 use Rattle.plain_model.specs.Inferiors.{last_below}
 use Rattle.plain_pages.specs.WholePages.{AreWhole}
-use Rattle.plain_model.specs.ForkCalls.{ForkParts, without, without_below, fork_changed}
+use Rattle.plain_model.specs.ForkCalls.{ForkParts, killed, without, without_below, fork_changed}
 use Rattle.plain_laws.specs.ForkLaws.{AreLeft}
 use Rattle.plain_model.proofs.ForkMaps.{cases_name, get_gone, get_gone_other, gone_itself}
 use Rattle.machine_names.proofs.OrderLemmas.{fork_cmp_total}
@@ -30,17 +30,18 @@ len_gone m f = by (map.contains_key m f) (map.len-remove fork_cmp_total m f)
     by false is = omega (arith, is)
 
 module _ {K : Type 0} {file_cmp : K → K → Ordering} where
-  -- fewer pages, and those that are named as they were
-  record AreFewer (p q : PlainPages file_cmp) : Type 0 where
-    whole : AreWhole q
-    names : (n : PageName) → uses q n ≤ uses p n
-    objects : (n : PageName) → map.get q.objects n ≡ cond (nat_lt 0 (uses q n)) (map.get p.objects n) None
-    maps : (f : ForkName) (m : Map) → map.get q.maps f ≡ Some m → map.get p.maps f ≡ Some m
-    fewer_pages : map.len q.objects ≤ map.len p.objects
-    fewer_forks : map.len q.maps ≤ map.len p.maps
+  -- fewer pages, and those that are named as they were, as they are by the same files
+  pub record AreFewer (p q : PlainPages file_cmp) : Type 0 where
+    pub whole : AreWhole q
+    pub names : (n : PageName) → uses q n ≤ uses p n
+    pub objects : (n : PageName) → map.get q.objects n ≡ cond (nat_lt 0 (uses q n)) (map.get p.objects n) None
+    pub maps : (f : ForkName) (m : Map) → map.get q.maps f ≡ Some m → map.get p.maps f ≡ Some m
+    pub files : q.files ≡ p.files
+    pub fewer_pages : map.len q.objects ≤ map.len p.objects
+    pub fewer_forks : map.len q.maps ≤ map.len p.maps
 
   all_there : (p : PlainPages file_cmp) → AreWhole p → AreFewer p p
-  all_there p w = record { whole = w; names = λ n. omega arith; objects = λ n. by n (nat_lt 0 (uses p n)) refl; maps = λ f m h. h; fewer_pages = omega arith; fewer_forks = omega arith }
+  all_there p w = record { whole = w; names = λ n. omega arith; objects = λ n. by n (nat_lt 0 (uses p n)) refl; maps = λ f m h. h; files = refl; fewer_pages = omega arith; fewer_forks = omega arith }
     where
       by : (n : PageName) (b : Bool) → nat_lt 0 (uses p n) ≡ b → map.get p.objects n ≡ cond b (map.get p.objects n) None
       by n true is = refl
@@ -52,6 +53,7 @@ module _ {K : Type 0} {file_cmp : K → K → Ordering} where
     names = λ n. omega (arith, a.names n, b.names n);
     objects = λ n. b.objects n ∙ ap (λ o. cond (nat_lt 0 (uses r n)) o None) (a.objects n) ∙ both (uses r n) (uses q n) (map.get p.objects n) (b.names n);
     maps = λ f m h. a.maps f m (b.maps f m h);
+    files = b.files ∙ a.files;
     fewer_pages = omega (arith, a.fewer_pages, b.fewer_pages);
     fewer_forks = omega (arith, a.fewer_forks, b.fewer_forks);
   }
@@ -92,11 +94,12 @@ module _ {K : Type 0} {file_cmp : K → K → Ordering} where
             names = λ n. omega (arith, uses_fork p w f m there n);
             objects = (fork_kept p w f m there).objects;
             maps = left m there;
+            files = (fork_kept p w f m there).files;
             fewer_pages = drop_all_len (record p { maps = map.remove p.maps f }) (option_map_or (filter_map page_in) (map.get p.maps f) []);
             fewer_forks = omega (arith, forks, len_gone p.maps f);
           }
 
-  below_fewer : (n : ℕ) (f : ForkName) (v : ForkParts file_cmp) → AreWhole v.pages → AreFewer v.pages (without_below n f v).pages
+  pub below_fewer : (n : ℕ) (f : ForkName) (v : ForkParts file_cmp) → AreWhole v.pages → AreFewer v.pages (without_below n f v).pages
   unfolding without_below
   below_fewer zero f v w = all_there v.pages w
   below_fewer (suc n) f v w = by (λ u whole. below_fewer n f u whole) (last_below v.tree.forks f)
@@ -108,14 +111,34 @@ module _ {K : Type 0} {file_cmp : K → K → Ordering} where
           let u = without v k.name in
           then_fewer v.pages u.pages (without_below n f u).pages first (rest u first.whole)
 
+  -- with all below it
+  pub killed_fewer : (v : ForkParts file_cmp) (f : ForkName) → AreWhole v.pages → AreFewer v.pages (killed v f).pages
+  killed_fewer v f w =
+      let below = below_fewer MOST_FORKS f v w in
+      let u = without_below MOST_FORKS f v in
+      then_fewer v.pages u.pages (without_fork u.pages f) below (fork_fewer u.pages below.whole f)
+
+  -- the forks that are left are as they were
+  pub below_forks : (n : ℕ) (f : ForkName) (v : ForkParts file_cmp) (k : ForkName) (g : Fork) → map.get (without_below n f v).tree.forks k ≡ Some g → map.get v.tree.forks k ≡ Some g
+  unfolding without_below
+  below_forks zero f v k g is = is
+  below_forks (suc n) f v k g is = by (λ u. below_forks n f u k g) (last_below v.tree.forks f) is
+    where
+      left : (x : ForkName) → map.get (map.remove v.tree.forks x) k ≡ Some g → map.get v.tree.forks k ≡ Some g
+      left x h = elim (cases_name k x) [
+        | inl e ↦ absurd (let no : None ≡ Some g = sym (get_gone v.tree.forks x k e) ∙ h in cc no)
+        | inr ne ↦ sym (get_gone_other v.tree.forks x k ne) ∙ h
+      ]
+
+      by : ((u : ForkParts file_cmp) → map.get (without_below n f u).tree.forks k ≡ Some g → map.get u.tree.forks k ≡ Some g) → (o : Option Fork) → map.get (option_map_or (λ x. without_below n f (without v x.name)) o v).tree.forks k ≡ Some g
+          → map.get v.tree.forks k ≡ Some g
+      by rest None h = h
+      by rest (Some x) h = left x.name (rest (without v x.name) h)
+
   -- so it is where a fork is killed
   pub killed_left : (v : ForkParts file_cmp) (f : ForkName) → AreWhole v.pages → AreLeft v.pages (fork_changed (Kill f) v).pages
   unfolding fork_changed
-  killed_left v f w =
-      let below = below_fewer MOST_FORKS f v w in
-      let u = without_below MOST_FORKS f v in
-      let last = fork_fewer u.pages below.whole f in
-      told (without_fork u.pages f) (then_fewer v.pages u.pages (without_fork u.pages f) below last)
+  killed_left v f w = told (killed v f).pages (killed_fewer v f w)
     where
       told : (q : PlainPages file_cmp) → AreFewer v.pages q → AreLeft v.pages q
       told q a = record {

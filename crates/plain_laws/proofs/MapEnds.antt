@@ -31,11 +31,15 @@ use Rattle.plain_files.specs.OpenFiles.{OpenFile}
 use Rattle.plain_model.specs.Forks.{ForkMap, fork_in, superior_of}
 use Rattle.plain_model.specs.Handles.{named, named_by}
 use Rattle.plain_model.specs.AccessWords.{access_in}
+use Rattle.plain_units.specs.declared.registers.Regs.{Regs}
+use Rattle.plain_units.specs.Blocks.{steps_on}
 use Rattle.plain_units.specs.Deeds.{in_ac}
+use Rattle.plain_units.specs.Steps.{Ending, Steps}
+use Rattle.plain_units.proofs.PageRuns.{PlanLeaves}
 use Rattle.plain_model.specs.Calls.{Came, Sight, Turn, sees, finds, reads, touches, takes, adds, looks, makes, ends, and_then, entry_of, given, if_granted, returning, spot_of, touched, turn_on, with_ac}
 use Rattle.plain_model.specs.Families.{Parts, files_seen}
 use Rattle.plain_model.specs.MapCalls.{ALL_ONES, MapAsked, MapPlace, of_fork, of_file, access_at, access_wanted, allows, file_spot, from_file, into_file, is_counted, is_written, makes_page, map_call, mapping_into, maps, narrows, on_page, one_page, pages_left as left_to_do, place_named, place_of, places_named, pmap, rmap, rpacs, slot_named, slot_of, source_of, spacs, tells_access, unmapping}
-use Rattle.plain_model.proofs.Turns.{KeepsEnd}
+use Rattle.plain_model.proofs.Turns.{KeepsEnd, takes_comes}
 use Rattle.plain_model.proofs.ForkMaps.{AreOwn, slot_tells, superior_tells}
 use Rattle.plain_laws.proofs.OtherMaps.{InJob}
 
@@ -109,47 +113,49 @@ module _ (forks : ForkMap) (t : Tty) (There : List ℕ → Type 0) where
   abbrev pub EndIn : End MapChange → Type 0
   EndIn e = KeepsEnd ChangeIn e
 
-  -- a turn whose references are such, for the job, and whose change is such, if it is done
-  abbrev pub TurnIn : Turn (List ℕ) MapChange → Type 0
-  TurnIn (sees s next) = (e : MapEntry) → TurnIn (next e)
-  TurnIn (finds at next) = (n : Option PageName) → TurnIn (next n)
-  TurnIn (reads f offset next) = (w : ℕ) → TurnIn (next w)
-  TurnIn (touches owner at kind next) = (owner ≡ t) × SpotIn at × ((what : Touched) → TurnIn (next what))
-  TurnIn (takes f regs steps next) = ⊥
-  TurnIn (adds f entries next) = ⊥
-  TurnIn (looks name next) = (b : Bool) → TurnIn (next b)
-  TurnIn (makes name next) = (b : Bool) → TurnIn (next b)
-  TurnIn (ends e) = EndIn e
+  -- a turn whose references are such, for the job, which takes steps of forks of the job, and whose change is such as it may be, if it is done
+  module _ {C : Type 0} (Allowed : C → Type 0) where
+    abbrev pub TurnIn : Turn (List ℕ) C → Type 0
+    TurnIn (sees s next) = (e : MapEntry) → TurnIn (next e)
+    TurnIn (finds at next) = (n : Option PageName) → TurnIn (next n)
+    TurnIn (reads f offset next) = (w : ℕ) → TurnIn (next w)
+    TurnIn (touches owner at kind next) = (owner ≡ t) × SpotIn at × ((what : Touched) → TurnIn (next what))
+    TurnIn (takes f regs steps next) = (f.tty ≡ t) × ((e : Ending) → TurnIn (next e))
+    TurnIn (adds f entries next) = ⊥
+    TurnIn (looks name next) = (b : Bool) → TurnIn (next b)
+    TurnIn (makes name next) = (b : Bool) → TurnIn (next b)
+    TurnIn (ends e) = KeepsEnd Allowed e
 
-  -- such a turn ends so, and what such references keep holds of the pages that it made
-  module _ (v : Parts name_cmp) (who : ForkName) (After : NamedPages → Type 0) (refers : (p q : NamedPages) (at : Spot (List ℕ)) (kind : Kind) → SpotIn at → After p → reference p at kind t ≡ granted q → After q) where
-    abbrev sight : Sight (List ℕ) (List ℕ)
-    sight = files_seen (λ name. name) v who
+    -- such a turn ends so, and what such references and steps keep holds of the pages that it made
+    module _ (v : Parts name_cmp) (who : ForkName) (After : NamedPages → Type 0) (refers : (p q : NamedPages) (at : Spot (List ℕ)) (kind : Kind) → SpotIn at → After p → reference p at kind t ≡ granted q → After q)
+        (runs : (p : NamedPages) (f : ForkName) (regs : Regs) (steps : Steps) → f.tty ≡ t → After p → PlanLeaves After f (steps_on f regs steps p)) where
+      abbrev sight : Sight (List ℕ) (List ℕ)
+      sight = files_seen (λ name. name) v who
 
-    abbrev pub CameIn : Came name_cmp MapChange → Type 0
-    CameIn c = EndIn c.end × After c.pages
+      abbrev pub CameIn : Came name_cmp C → Type 0
+      CameIn c = KeepsEnd Allowed c.end × After c.pages
 
-    pub came_in : (u : Turn (List ℕ) MapChange) → TurnIn u → (p : NamedPages) → After p → CameIn (turn_on sight p u)
-    unfolding turn_on
-    came_in (sees s next) fits p h = came_in (next (entry_of p s)) (fits (entry_of p s)) p h
-    came_in (finds at next) fits p h = let n = option_and_then (page_at p) (spot_of sight at) in came_in (next n) (fits n) p h
-    came_in (reads f offset next) fits p h = let w = option_map_or (λ at. word_at p at offset) (spot_of sight (in_file f)) 0 in came_in (next w) (fits w) p h
-    came_in (touches owner at kind next) fits p h = by (λ what q. came_in (next what) (fits.2 what) q) at fits.1
-      where
-        come : ((what : Touched) (q : NamedPages) → After q → CameIn (turn_on sight q (next what))) → (s : Spot (List ℕ)) → SpotIn s → (r : Referred name_cmp) → reference p s kind owner ≡ r → CameIn (touched p r (λ q what. turn_on sight q (next what)))
-        come rest s here (granted q) is = rest Granted q (refers p q s kind here h (sym (ap (λ (u : Tty). reference p s kind u) fits.0) ∙ is))
-        come rest s here (denied k) is = rest Denied p h
-        come rest s here full is = rest Full p h
+      pub came_in : (u : Turn (List ℕ) C) → TurnIn u → (p : NamedPages) → After p → CameIn (turn_on sight p u)
+      unfolding turn_on
+      came_in (sees s next) fits p h = came_in (next (entry_of p s)) (fits (entry_of p s)) p h
+      came_in (finds at next) fits p h = let n = option_and_then (page_at p) (spot_of sight at) in came_in (next n) (fits n) p h
+      came_in (reads f offset next) fits p h = let w = option_map_or (λ at. word_at p at offset) (spot_of sight (in_file f)) 0 in came_in (next w) (fits w) p h
+      came_in (touches owner at kind next) fits p h = by (λ what q. came_in (next what) (fits.2 what) q) at fits.1
+        where
+          come : ((what : Touched) (q : NamedPages) → After q → CameIn (turn_on sight q (next what))) → (s : Spot (List ℕ)) → SpotIn s → (r : Referred name_cmp) → reference p s kind owner ≡ r → CameIn (touched p r (λ q what. turn_on sight q (next what)))
+          come rest s here (granted q) is = rest Granted q (refers p q s kind here h (sym (ap (λ (u : Tty). reference p s kind u) fits.0) ∙ is))
+          come rest s here (denied k) is = rest Denied p h
+          come rest s here full is = rest Full p h
 
-        by : ((what : Touched) (q : NamedPages) → After q → CameIn (turn_on sight q (next what))) → (s : Spot (List ℕ)) → SpotIn s
-            → CameIn (touched p (option_map_or (λ x. reference p x kind owner) (spot_of sight s) (denied kind)) (λ q what. turn_on sight q (next what)))
-        by rest (in_map x) here = come rest (in_map x) here (reference p (in_map x) kind owner) refl
-        by rest (in_file f) here = come rest (in_file f) here (reference p (in_file f) kind owner) refl
-    came_in (takes f regs steps next) fits p h = absurd fits
-    came_in (adds f entries next) fits p h = absurd fits
-    came_in (looks name next) fits p h = came_in (next (sight.is_name name)) (fits (sight.is_name name)) p h
-    came_in (makes name next) fits p h = came_in (next sight.has_more) (fits sight.has_more) p h
-    came_in (ends e) fits p h = (fits, h)
+          by : ((what : Touched) (q : NamedPages) → After q → CameIn (turn_on sight q (next what))) → (s : Spot (List ℕ)) → SpotIn s
+              → CameIn (touched p (option_map_or (λ x. reference p x kind owner) (spot_of sight s) (denied kind)) (λ q what. turn_on sight q (next what)))
+          by rest (in_map x) here = come rest (in_map x) here (reference p (in_map x) kind owner) refl
+          by rest (in_file f) here = come rest (in_file f) here (reference p (in_file f) kind owner) refl
+      came_in (takes f regs steps next) fits p h = takes_comes sight p (λ e q. KeepsEnd Allowed e × After q) After f regs steps next (runs p f regs steps fits.0 h) (λ q e later. came_in (next e) (fits.1 e) q later) (λ channel. (tt, h))
+      came_in (adds f entries next) fits p h = absurd fits
+      came_in (looks name next) fits p h = came_in (next (sight.is_name name)) (fits (sight.is_name name)) p h
+      came_in (makes name next) fits p h = came_in (next sight.has_more) (fits sight.has_more) p h
+      came_in (ends e) fits p h = (fits, h)
 
 -- so does a call on maps, where the files of the caller's JFNs are there
 module _ (a : MapAsked) (own : AreOwn a.tree.forks) (There : List ℕ → Type 0) (held : (n : ℕ) (j : OpenFile) → map.get a.held n ≡ Some j → There j.file) where
@@ -157,7 +163,7 @@ module _ (a : MapAsked) (own : AreOwn a.tree.forks) (There : List ℕ → Type 0
   Here s = Stands a.tree.forks a.who.tty s
 
   abbrev Fits : Turn (List ℕ) MapChange → Type 0
-  Fits t = TurnIn a.tree.forks a.who.tty There t
+  Fits t = TurnIn a.tree.forks a.who.tty There (ChangeIn a.tree.forks a.who.tty There) t
 
   abbrev FitsIt : End MapChange → Type 0
   FitsIt e = EndIn a.tree.forks a.who.tty There e

@@ -18,9 +18,11 @@ use Rattle.plain_model.specs.Interrupts.{posted}
 use Rattle.plain_units.specs.Steps.{Planned, Ending, done, call, trap, need, stopped as unit_stopped}
 use Rattle.plain_model.specs.Trees.{end_told}
 use Rattle.plain_model.specs.Calls.{Turn, with_error, fork_behind, out_of, posted_if}
+use Rattle.plain_model.specs.ByteCalls.{ByteRows, byte_calls}
+use Rattle.plain_model.specs.StringCalls.{string_calls}
 use Rattle.plain_model.specs.Unit.{Effect, in_command_mode, with_stopped, stopped, unit_ended, trapped, called, went, over, parts_of}
 use Rattle.plain_units.proofs.Lookups.{looked_up}
-use Rattle.plain_model.proofs.Calling.{fork_came, fork_left, fork_called, fork_turned, map_came, map_pages, map_turned, own_came, own_turned, none_turned, jfn_came, jfn_called, jfn_turned, MakesNone, caller_by, called_by, map_by, jfn_by, own_by}
+use Rattle.plain_model.proofs.Calling.{fork_came, fork_left, fork_called, fork_turned, map_came, map_pages, map_turned, own_came, own_turned, none_turned, jfn_came, jfn_called, jfn_turned, byte_came, byte_called, byte_turned, MakesNone, caller_by, called_by, map_by, jfn_by, byte_by, own_by}
 use Rattle.plain_model.proofs.Posted.{SameMark, posted_mark}
 
 posted_if_mark : (f : Fork) (post : Option ℕ) → SameMark f (posted_if f post)
@@ -95,6 +97,11 @@ module _ (Holds : ForkMap → Type 0) (Good : Fork → Type 0) (keeps : KeptBy H
     jfn_kept : (number : ℕ) → Leaves (jfn_turned s f number)
     jfn_kept number = jfn_by Leaves s f number (λ g is. with_caller (jfn_called s f number) h g (good_in g is) (fork_behind g (jfn_came s f number).end) (behind_mark g (jfn_came s f number).end)) h
 
+    byte_kept : (rows : ByteRows) (number : ℕ) → Leaves (byte_turned s f rows number)
+    byte_kept rows number =
+        let e = (byte_came s f rows number).end in
+        byte_by Leaves s f number rows (λ g is. with_caller (byte_called s f rows number) h g (good_in g is) (fork_behind g e) (behind_mark g e)) h
+
     none_kept : Leaves (none_turned s f)
     none_kept = caller_by Leaves s f.name.tty (parts_of s) f.name (λ g. posted g ILLEGAL_INSTRUCTION) None (λ g is. with_caller s h g (good_in g is) (posted g ILLEGAL_INSTRUCTION) (posted_mark g ILLEGAL_INSTRUCTION)) h
 
@@ -105,7 +112,7 @@ module _ (Holds : ForkMap → Type 0) (Good : Fork → Type 0) (keeps : KeptBy H
         caller_by Leaves s f.name.tty (fork_left s f number) f.name (λ g. fork_behind g e) (out_of e) (λ g is. with_caller (fork_called s f number) left g (good_still g is) (fork_behind g e) (behind_mark g e)) left
 
     called_kept : (number : ℕ) → Leaves (fork_turned s f number) → Leaves (called s f number)
-    called_kept number turns = called_by Leaves s f number own_kept turns (map_kept number) (jfn_kept number) none_kept
+    called_kept number turns = called_by Leaves s f number own_kept turns (map_kept number) (jfn_kept number) (byte_kept byte_calls number) (byte_kept string_calls number) none_kept
 
     -- a unit keeps it, if the turn does of the call that the unit may be
     pub over_kept : (r : Planned name_cmp ⊥) → ((number : ℕ) → r ≡ call number → Leaves (fork_turned s f number)) → Leaves (over s f r)

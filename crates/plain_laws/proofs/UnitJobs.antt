@@ -29,10 +29,14 @@ use Rattle.plain_pages.proofs.FilesKept.{filed_maps}
 use Rattle.plain_model.specs.Forks.{ForkMap, with_regs}
 use Rattle.plain_model.specs.Interrupts.{posted}
 use Rattle.plain_units.specs.Instructions.{instruction}
-use Rattle.plain_units.specs.Steps.{Planned, Ending, done, call, trap, need, stopped as unit_stopped, begun, pages_left}
-use Rattle.plain_model.specs.Calls.{Turn, fork_behind, parts_behind, out_of, posted_if}
+use Rattle.plain_units.specs.declared.registers.Regs.{Regs}
+use Rattle.plain_units.specs.Blocks.{steps_on}
+use Rattle.plain_units.specs.Steps.{Steps, Planned, Ending, done, call, trap, need, stopped as unit_stopped, begun, pages_left}
+use Rattle.plain_model.specs.Calls.{Turn, fork_behind, numbered, parts_behind, out_of, posted_if}
 use Rattle.plain_model.specs.MapCalls.{entry_for, map_call, map_changed}
-use Rattle.plain_model.specs.Families.{asks_jfns, asks_maps, names_seen}
+use Rattle.plain_model.specs.ByteCalls.{ByteRows, byte_calls}
+use Rattle.plain_model.specs.StringCalls.{string_calls}
+use Rattle.plain_model.specs.Families.{asks_bytes, asks_jfns, asks_maps, names_seen}
 use Rattle.plain_model.proofs.JfnChanges.{left_maps}
 use Rattle.plain_model.proofs.JfnEnds.{call_ends}
 use Rattle.machine_names.proofs.OrderLemmas.{name_cmp_apart}
@@ -40,13 +44,16 @@ use Rattle.plain_model.specs.Unit.{Effect, unit_ended, called, went, over, unit,
 use Rattle.plain_units.specs.Units.{unit_on}
 use Rattle.plain_laws.specs.Whole.{IsWhole}
 use Rattle.plain_laws.proofs.FileMakings.{file_leaves}
+use Rattle.plain_laws.proofs.ByteEnds.{FitsByte, bytes_left_maps}
+use Rattle.plain_laws.proofs.WholeBytes.{RowsFit, bytes_fit, strings_fit}
+use Rattle.plain_laws.proofs.WholeMaps.{There}
 use Rattle.plain_laws.proofs.MapEnds.{ChangeIn, EndIn, SpotIn, came_in, map_call_in}
 use Rattle.plain_units.proofs.Lookups.{looked_up}
 use Rattle.plain_units.proofs.PageRuns.{PlanLeaves}
 use Rattle.plain_laws.proofs.UnitForks.{KeptBy, ended_pages, fork_kept, over_kept}
 use Rattle.plain_laws.proofs.OtherMaps.{InJob, Elsewhere, reference_other, set_other, run_other}
 use Rattle.plain_laws.proofs.OtherJobs.{Stays, put_stays, told_stays, maps_same, call_stays}
-use Rattle.plain_model.proofs.Calling.{fork_came, fork_left, fork_called, fork_turned, map_came, map_pages, map_turned, own_came, own_turned, none_turned, filed_of, jfn_came, jfn_left, jfn_called, jfn_turned, MakesNone, caller_by, called_by, map_by, jfn_by, own_by}
+use Rattle.plain_model.proofs.Calling.{fork_came, fork_left, fork_called, fork_turned, map_came, map_pages, map_turned, own_came, own_turned, none_turned, filed_of, jfn_came, jfn_left, jfn_called, jfn_turned, byte_came, byte_left, byte_called, byte_turned, MakesNone, caller_by, called_by, map_by, jfn_by, byte_by, own_by}
 use Rattle.plain_units.specs.declared.channel.TheConstants.{ILLEGAL_INSTRUCTION}
 
 -- what a change of a slot leaves of a map of another job
@@ -73,15 +80,19 @@ module _ (t : Tty) (k : ForkName) (other : k.tty.0 ≡ t.0 → ⊥) (p : NamedPa
       by None = refl
       by (Some e) = entry_other s (change e) here
 
+-- and what steps of a fork of its own leave of one
+runs_other : (t : Tty) (k : ForkName) (other : k.tty.0 ≡ t.0 → ⊥) (p q : NamedPages) (f : ForkName) (regs : Regs) (steps : Steps) → f.tty ≡ t → Elsewhere t k other p q → PlanLeaves (λ r. Elsewhere t k other p r) f (steps_on f regs steps q)
+runs_other t k other p q f regs steps same h = run_other t k other nat_list_cmp_total f (ap (λ (u : Tty). u.0) same) p steps (begun q regs.ac) h
+
 -- what the turn of a call on maps leaves of one
 module _ (t : Tty) (k : ForkName) (other : k.tty.0 ≡ t.0 → ⊥) (p : NamedPages) (forks : ForkMap) where
   abbrev AnyFile : List ℕ → Type 0
   AnyFile name = Unit {0}
 
   -- its references
-  refers_other : (q r : NamedPages) (at : Spot (List ℕ)) (kind : Kind) → SpotIn forks t AnyFile at → Elsewhere t k other p q → reference q at kind t ≡ granted r → Elsewhere t k other p r
-  refers_other q r (in_map at) kind here h g = reference_other t k other nat_list_cmp_total t q r at kind here.1 g ∙ h
-  refers_other q r (in_file f) kind here h g = let l = file_leaves q r t f kind g in ap (λ (m : Maps). map.get m k) l.maps ∙ h
+  refers_other : (There : List ℕ → Type 0) (q r : NamedPages) (at : Spot (List ℕ)) (kind : Kind) → SpotIn forks t There at → Elsewhere t k other p q → reference q at kind t ≡ granted r → Elsewhere t k other p r
+  refers_other There q r (in_map at) kind here h g = reference_other t k other nat_list_cmp_total t q r at kind here.1 g ∙ h
+  refers_other There q r (in_file f) kind here h g = let l = file_leaves q r t f kind g in ap (λ (m : Maps). map.get m k) l.maps ∙ h
 
   filed_other : (q : NamedPages) (f : FilePage (List ℕ)) (n : Option PageName) → Elsewhere t k other q (with_file q f n)
   filed_other q f n = ap (λ (m : Maps). map.get m k) (filed_maps nat_list_cmp_total name_cmp_apart q f n)
@@ -146,7 +157,7 @@ module _ (s : PlainState) (w : IsWhole s) (name : ForkName) (f : Fork) (there : 
   map_maps number =
       let e = (map_came s f number).end in
       let a = asks_maps (parts_of s) f.name f.body.regs in
-      let came = came_in s.forks f.name.tty (λ name. Unit {0}) (parts_of s) f.name (Elsewhere f.name.tty k other s.pages) (refers_other f.name.tty k other s.pages s.forks) (map_call number a)
+      let came = came_in s.forks f.name.tty (λ name. Unit {0}) (ChangeIn s.forks f.name.tty (λ name. Unit {0})) (parts_of s) f.name (Elsewhere f.name.tty k other s.pages) (refers_other f.name.tty k other s.pages s.forks (λ name. Unit {0})) (runs_other f.name.tty k other s.pages) (map_call number a)
       (map_call_in a w.tree.slotted.own (λ name. Unit {0}) (λ n j held. tt) number) s.pages refl in
       let here = turn_other f.name.tty k other s.pages s.forks (map_came s f number).pages came.1 e came.0 in
       map_by MapsLeft s f number (λ g is. let h = fork_behind g e in ended_maps (record s { pages = map_pages s f number }) here h h.body.status) here
@@ -168,11 +179,21 @@ module _ (s : PlainState) (w : IsWhole s) (name : ForkName) (f : Fork) (there : 
       left_maps nat_list_cmp_total name_cmp_apart (λ name. name) a sight (λ (m : Maps). map.get m k ≡ map.get s.pages.maps k) (filed_of (parts_of s)) c.pages c.end refl fits in
       jfn_by MapsLeft s f number (λ g is. let h = fork_behind g c.end in ended_maps (jfn_called s f number) here h h.body.status) here
 
+  byte_maps : (rows : ByteRows) → RowsFit s w f rows → (number : ℕ) → MapsLeft (byte_turned s f rows number)
+  byte_maps rows fit number =
+      let c = byte_came s f rows number in
+      let a = asks_bytes (λ name. name) (parts_of s) f.name f.body.regs in
+      let came = came_in s.forks f.name.tty (There s w) (FitsByte a) (parts_of s) f.name (Elsewhere f.name.tty k other s.pages) (refers_other f.name.tty k other s.pages s.forks (There s w)) (runs_other f.name.tty k other s.pages)
+      (numbered rows number a) (fit number) s.pages refl in
+      let here : map.get (byte_left s f rows number).pages.maps k ≡ map.get s.pages.maps k =
+      bytes_left_maps (λ (m : Maps). map.get m k ≡ map.get s.pages.maps k) (filed_of (parts_of s)) c.pages c.end refl came.1 in
+      byte_by MapsLeft s f number rows (λ g is. let h = fork_behind g c.end in ended_maps (byte_called s f rows number) here h h.body.status) here
+
   none_maps : MapsLeft (none_turned s f)
   none_maps = caller_by MapsLeft s f.name.tty (parts_of s) f.name (λ g. posted g ILLEGAL_INSTRUCTION) None (λ g is. let h = posted g ILLEGAL_INSTRUCTION in ended_maps s refl h h.body.status) refl
 
   called_maps : (number : ℕ) → MapsLeft (called s f number)
-  called_maps number = called_by MapsLeft s f number own_maps (fork_maps number) (map_maps number) (jfn_maps number) none_maps
+  called_maps number = called_by MapsLeft s f number own_maps (fork_maps number) (map_maps number) (jfn_maps number) (byte_maps byte_calls (bytes_fit s w f) number) (byte_maps string_calls (strings_fit s w f) number) none_maps
 
   maps_left : (r : Planned name_cmp ⊥) → PlanLeaves (λ q. Elsewhere f.name.tty k other s.pages q) f.name r → MapsLeft (over s f r)
   maps_left (done t e) left = went_maps (pages_left f.name t e) e left

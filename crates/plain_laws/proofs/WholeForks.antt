@@ -7,6 +7,7 @@ use Rattle.std.specs.Ordering.{eq_by_cmp, nat_cmp}
 use Rattle.std.specs.Cmp.{Equal-is, nat_cmp_total}
 use Rattle.std.specs.Cmp.Lexicographic.{nat_list_cmp_total}
 use Rattle.std.specs.FinMap as map
+use Rattle.std.specs.FinMap.{nat_cmp-IsAntisymmetric}
 use Rattle.std.proofs.lemmas.Bool.{cond_both}
 use Rattle.std.proofs.lemmas.Bool.Decides.{eqb_tells, nat_tests}
 use Rattle.std.proofs.lemmas.Grind.{get_or-set_at}
@@ -29,7 +30,7 @@ use Rattle.plain_model.specs.declared.call.ForkChange.{ForkChange}
 use Rattle.plain_model.specs.declared.call.ForkChange.TheVariants.{Nothing, Make, Kill, Freeze, Become, Halt, Store}
 use Rattle.plain_model.specs.State.{PlainState, PlainJob}
 use Rattle.plain_pages.specs.PlainPages.{NamedPages, Map, Maps}
-use Rattle.machine_names.specs.Orders.{fork_cmp, name_cmp, same_fork}
+use Rattle.machine_names.specs.Orders.{fork_cmp, same_fork}
 use Rattle.plain_pages.specs.Room.{page_in, live}
 use Rattle.plain_pages.specs.References.{in_map, stored, slot_at, without_fork, drop_all_unnamed}
 use Rattle.machine_names.specs.Bounds.{IsOwner, IsForkName, IsTerminal}
@@ -38,13 +39,14 @@ use Rattle.plain_model.specs.Forks.{with_regs, ForkMap, fork_in, superior_of, wi
 use Rattle.plain_model.specs.Interrupts.{posted}
 use Rattle.plain_units.specs.Steps.{begun, is_accumulator}
 use Rattle.plain_model.specs.Inferiors.{is_within, is_inferior, has_inferior, leaf_below, last_up_to, last_below}
-use Rattle.plain_model.specs.Trees.{tree_of, free_slot, next_name, next_serial, new_fork, with_made, changed, with_mark, with_body, unwaited, woken_in, waiters_woken, end_told}
+use Rattle.plain_model.specs.Trees.{tree_of, free_slot, next_name, next_serial, new_fork, with_made, changed, changed_in, with_mark, with_body, unwaited, unread, waiters_woken, readers_woken, end_told}
 use Rattle.plain_units.specs.Blocks.{next_address, stored_from}
 use Rattle.plain_model.specs.Calls.{with_error, fork_behind, no_files, parts_behind, posted_if, turn_on, Asked}
-use Rattle.plain_model.specs.ForkCalls.{fork_call, map_wanted, ForkParts, without, without_below, killed, with_halted, fork_changed}
+use Rattle.plain_model.specs.Commands.{forks_and_pages, with_forks_and_pages}
+use Rattle.plain_model.specs.ForkCalls.{fork_call, map_wanted, without, without_below, killed, with_halted, fork_changed}
 use Rattle.plain_pages.specs.WholePages.{AreWhole}
 use Rattle.plain_laws.specs.WholeFiles.{Files, FilePages, Jobs, AreOpen, AreFilesWhole}
-use Rattle.plain_laws.proofs.FilesKept.{job_put}
+use Rattle.plain_laws.proofs.FilesKept.{job_put, put_tells}
 use Rattle.plain_laws.specs.Whole.{AreGiven, IsWhole}
 use Rattle.plain_laws.proofs.GivenSerials.{IsNewGiven, added_given, removed_given, run_given, words_given}
 use Rattle.plain_units.proofs.Lookups.{looked_up}
@@ -87,6 +89,7 @@ module _ (s : PlainState) (w : IsWhole s) where
     given = w.given;
     homes = λ k h. w.homes k (sym (same k) ∙ h);
     tops = λ t j is. let top = w.tops t j is in top_of j.top top.0 top.1 top.2 top.3 (tells j.top);
+    own_tops = w.own_tops;
   }
     where
       found : (k : ForkName) → map.get (map.insert s.forks name g) k ≡ cond (eq_by_cmp fork_cmp k name) (Some g) (map.get s.forks k)
@@ -128,6 +131,10 @@ module _ (s : PlainState) (w : IsWhole s) where
     given = w.given;
     homes = λ f h. has f.tty.0 (eq_by_cmp nat_cmp f.tty.0 t) (map.get-insert nat_cmp_total s.jobs t k f.tty.0) (w.homes f h);
     tops = λ u i is. at u i (eq_by_cmp nat_cmp u t) (sym (map.get-insert nat_cmp_total s.jobs t k u) ∙ is);
+    own_tops = λ u i is. elim (put_tells nat_cmp_total nat_cmp-IsAntisymmetric s.jobs t k u i is) [
+      | inl e ↦ sym (ap (λ (x : PlainJob). x.top.tty.0) e.1) ∙ ap (λ (n : ForkName). n.tty.0) top ∙ w.own_tops t j there ∙ sym e.0
+      | inr was ↦ w.own_tops u i was
+    ];
   }
     where
       has : (u : ℕ) (b : Bool) → map.get (map.insert s.jobs t k) u ≡ cond b (Some k) (map.get s.jobs u) → map.contains_key s.jobs u ≡ true → map.contains_key (map.insert s.jobs t k) u ≡ true
@@ -152,6 +159,7 @@ module _ (s : PlainState) (w : IsWhole s) where
     given = given;
     homes = w.homes;
     tops = w.tops;
+    own_tops = w.own_tops;
   }
 
   pub pages_whole : (q : NamedPages) → AreWhole q → live q ≤ q.limit → q.files ≡ s.pages.files → ((f : ForkName) → map.contains_key q.maps f ≡ map.contains_key s.pages.maps f) → AreGiven (next_serial (tree_of s)) q.maps → IsWhole (record s { pages = q })
@@ -195,17 +203,23 @@ module _ (s : PlainState) (w : IsWhole s) where
   changed_if change same None there = w
   changed_if change same (Some k) there = let is = same k in fork_at_whole s w k.name k (change k) (there k refl) is.0 is.1 is.2
 
--- who waits for a fork runs again, slot by slot
-woken_whole : (s : PlainState) → IsWhole s → (t : Tty) (slots : List ℕ) → IsWhole (record s { forks = woken_in s.forks t slots })
-woken_whole s w t [] = w
-woken_whole s w t (slot ∷ slots) =
-    let forks = changed s.forks unwaited (fork_in s.forks t slot) in
-    woken_whole (record s { forks = forks }) (changed_if s w unwaited (λ f. (refl, refl, refl)) (fork_in s.forks t slot) (λ k is. let at = slot_tells s.forks w.tree.slotted.own t slot k is in at.0)) t slots
+-- forks in slots of a job changed in order that keep their names, slots and superiors
+module _ (change : Fork → Fork) (same : (f : Fork) → IsSame f (change f)) where
+  slots_whole : (s : PlainState) → IsWhole s → (t : Tty) (slots : List ℕ) → IsWhole (record s { forks = changed_in change s.forks t slots })
+  slots_whole s w t [] = w
+  slots_whole s w t (slot ∷ slots) =
+      let forks = changed s.forks change (fork_in s.forks t slot) in
+      slots_whole (record s { forks = forks }) (changed_if s w change same (fork_in s.forks t slot) (λ k is. let at = slot_tells s.forks w.tree.slotted.own t slot k is in at.0)) t slots
 
 module _ (s : PlainState) (w : IsWhole s) where
+  -- who waits for a fork runs again, or who waits for a character
   pub waiters_whole : (t : Tty) → IsWhole (record s { forks = waiters_woken s.forks t })
   unfolding waiters_woken
-  waiters_whole t = woken_whole s w t (range_with_len 1 MOST_FORKS)
+  waiters_whole t = slots_whole unwaited (λ f. (refl, refl, refl)) s w t (range_with_len 1 MOST_FORKS)
+
+  pub readers_whole : (t : Tty) → IsWhole (record s { forks = readers_woken s.forks t })
+  unfolding readers_woken
+  readers_whole t = slots_whole unread (λ f. (refl, refl, refl)) s w t (range_with_len 1 MOST_FORKS)
 
   posted_whole : (f : Fork) (channel : ℕ) → IsWhole (record s { forks = changed s.forks (λ k. posted k channel) (superior_of s.forks f) })
   posted_whole f channel = changed_if s w (λ k. posted k channel) (λ k. posted_same k channel) (superior_of s.forks f) (λ k is. let at = superior_tells s.forks w.tree.slotted.own f k is in at.0)
@@ -219,58 +233,65 @@ abbrev pub IsNoTop : PlainState → ForkName → Type 0
 IsNoTop s name = (t : ℕ) (j : PlainJob) → map.get s.jobs t ≡ Some j → j.top ≡ name → ⊥
 
 module _ (s : PlainState) (w : IsWhole s) (name : ForkName) where
-  -- a fork that has no inferior, and goes with its map, leaves the state whole
-  pub gone_whole : HasNoInferior s.forks name → IsNoTop s name → IsWhole (record s { forks = map.remove s.forks name; pages = without_fork s.pages name })
-  unfolding without_fork
-  gone_whole bare no_top = by (map.get s.pages.maps name) refl
-    where
-      tree_left : IsTree (record (tree_of s) { forks = map.remove s.forks name })
-      tree_left = at (map.get s.forks name) refl
-        where
-          at : (o : Option Fork) → map.get s.forks name ≡ o → IsTree (record (tree_of s) { forks = map.remove s.forks name })
-          at None none = subst (λ (m : ForkMap). IsTree (record (tree_of s) { forks = m })) (sym (gone_itself s.forks name none)) w.tree
-          at (Some f) there =
-              let own = w.tree.slotted.own name f there in
-              let lives = held_lives s.forks w.tree.slotted name f there in
-              subst (λ (n : ForkName). IsTree (record (tree_of s) { forks = map.remove s.forks n })) own
-              (killed_tree (tree_of s) f w.tree lives (nobodys_superior (tree_of s) w.tree f lives (subst (HasNoInferior s.forks) (sym own) bare)))
+  -- a fork that has no inferior, and goes with its map, leaves the state whole, where of its jobs those are left whose top fork is left
+  module _ (bare : HasNoInferior s.forks name) (jobs : Jobs) (filed : AreFilesWhole s.files s.pages.files jobs)
+      (homes : (f : ForkName) → f ≢ name → map.contains_key s.forks f ≡ true → map.contains_key jobs f.tty.0 ≡ true)
+      (were : (t : ℕ) (j : PlainJob) → map.get jobs t ≡ Some j → (map.get s.jobs t ≡ Some j) × (j.top ≢ name)) where
+    pub left_whole : IsWhole (record s { forks = map.remove s.forks name; pages = without_fork s.pages name; jobs = jobs })
+    unfolding without_fork
+    left_whole = by (map.get s.pages.maps name) refl
+      where
+        tree_left : IsTree (record (tree_of s) { forks = map.remove s.forks name })
+        tree_left = at (map.get s.forks name) refl
+          where
+            at : (o : Option Fork) → map.get s.forks name ≡ o → IsTree (record (tree_of s) { forks = map.remove s.forks name })
+            at None none = subst (λ (m : ForkMap). IsTree (record (tree_of s) { forks = m })) (sym (gone_itself s.forks name none)) w.tree
+            at (Some f) there =
+                let own = w.tree.slotted.own name f there in
+                let lives = held_lives s.forks w.tree.slotted name f there in
+                subst (λ (n : ForkName). IsTree (record (tree_of s) { forks = map.remove s.forks n })) own
+                (killed_tree (tree_of s) f w.tree lives (nobodys_superior (tree_of s) w.tree f lives (subst (HasNoInferior s.forks) (sym own) bare)))
 
-      has : (k : ForkName) → map.contains_key (map.remove s.forks name) k ≡ true → map.contains_key s.forks k ≡ true
-      has k h = elim (cases_name k name) [
-        | inl e ↦ absurd (let no : false ≡ true = sym (ap is_some (get_gone s.forks name k e)) ∙ h in cc no)
-        | inr ne ↦ sym (ap is_some (get_gone_other s.forks name k ne)) ∙ h
-      ]
+        has_home : (k : ForkName) → map.contains_key (map.remove s.forks name) k ≡ true → map.contains_key jobs k.tty.0 ≡ true
+        has_home k h = elim (cases_name k name) [
+          | inl e ↦ absurd (let no : false ≡ true = sym (ap is_some (get_gone s.forks name k e)) ∙ h in cc no)
+          | inr ne ↦ homes k ne (sym (ap is_some (get_gone_other s.forks name k ne)) ∙ h)
+        ]
 
-      top_of : (t : ℕ) (j : PlainJob) → map.get s.jobs t ≡ Some j → (f : Fork) × (map.get (map.remove s.forks name) j.top ≡ Some f) × (f.slot ≡ 1) × (f.superior ≡ None)
-      top_of t j is = let top = w.tops t j is in (top.0, get_gone_other s.forks name j.top (no_top t j is) ∙ top.1, top.2, top.3)
+        top_of : (t : ℕ) (j : PlainJob) → map.get jobs t ≡ Some j → (f : Fork) × (map.get (map.remove s.forks name) j.top ≡ Some f) × (f.slot ≡ 1) × (f.superior ≡ None)
+        top_of t j is = let was = were t j is in let top = w.tops t j was.0 in (top.0, get_gone_other s.forks name j.top was.1 ∙ top.1, top.2, top.3)
 
-      keys : (m : Maps) → m ≡ map.remove s.pages.maps name → (k : ForkName) → map.contains_key (map.remove s.forks name) k ≡ map.contains_key m k
-      keys m e k = elim (cases_name k name) [
-        | inl is ↦ ap is_some (get_gone s.forks name k is) ∙ sym (ap is_some (get_gone s.pages.maps name k is)) ∙ ap (λ (x : Maps). map.contains_key x k) (sym e)
-        | inr ne ↦ ap is_some (get_gone_other s.forks name k ne) ∙ w.forks k ∙ sym (ap is_some (get_gone_other s.pages.maps name k ne)) ∙ ap (λ (x : Maps). map.contains_key x k) (sym e)
-      ]
+        keys : (m : Maps) → m ≡ map.remove s.pages.maps name → (k : ForkName) → map.contains_key (map.remove s.forks name) k ≡ map.contains_key m k
+        keys m e k = elim (cases_name k name) [
+          | inl is ↦ ap is_some (get_gone s.forks name k is) ∙ sym (ap is_some (get_gone s.pages.maps name k is)) ∙ ap (λ (x : Maps). map.contains_key x k) (sym e)
+          | inr ne ↦ ap is_some (get_gone_other s.forks name k ne) ∙ w.forks k ∙ sym (ap is_some (get_gone_other s.pages.maps name k ne)) ∙ ap (λ (x : Maps). map.contains_key x k) (sym e)
+        ]
 
-      with_pages : (q : NamedPages) → AreWhole q → live q ≤ q.limit → q.files ≡ s.pages.files → q.maps ≡ map.remove s.pages.maps name → IsWhole (record s { forks = map.remove s.forks name; pages = q })
-      with_pages q whole room files maps = record {
-        pages = whole;
-        room = room;
-        files = subst (λ (m : FilePages). AreFilesWhole s.files m s.jobs) (sym files) w.files;
-        forks = keys q.maps maps;
-        tree = tree_left;
-        given = subst (AreGiven (next_serial (tree_of s))) (sym maps) (removed_given (next_serial (tree_of s)) s.pages.maps name w.given);
-        homes = λ k h. w.homes k (has k h);
-        tops = top_of;
-      }
+        with_pages : (q : NamedPages) → AreWhole q → live q ≤ q.limit → q.files ≡ s.pages.files → q.maps ≡ map.remove s.pages.maps name → IsWhole (record s { forks = map.remove s.forks name; pages = q; jobs = jobs })
+        with_pages q whole room files maps = record {
+          pages = whole;
+          room = room;
+          files = subst (λ (m : FilePages). AreFilesWhole s.files m jobs) (sym files) filed;
+          forks = keys q.maps maps;
+          tree = tree_left;
+          given = subst (AreGiven (next_serial (tree_of s))) (sym maps) (removed_given (next_serial (tree_of s)) s.pages.maps name w.given);
+          homes = has_home;
+          tops = top_of;
+          own_tops = λ t j is. w.own_tops t j (were t j is).0;
+        }
 
-      none_there : map.get s.pages.maps name ≡ None → without_fork s.pages name ≡ s.pages
-      none_there none = ap (λ (o : Option Map). drop_all_unnamed (record s.pages { maps = map.remove s.pages.maps name }) (option_map_or (filter_map page_in) o [])) none ∙ ap (λ (m : Maps). record s.pages { maps = m }) (gone_itself s.pages.maps name none)
+        none_there : map.get s.pages.maps name ≡ None → without_fork s.pages name ≡ s.pages
+        none_there none = ap (λ (o : Option Map). drop_all_unnamed (record s.pages { maps = map.remove s.pages.maps name }) (option_map_or (filter_map page_in) o [])) none ∙ ap (λ (m : Maps). record s.pages { maps = m }) (gone_itself s.pages.maps name none)
 
-      by : (o : Option Map) → map.get s.pages.maps name ≡ o → IsWhole (record s { forks = map.remove s.forks name; pages = without_fork s.pages name })
-      by None none = with_pages (without_fork s.pages name) (subst (λ (q : NamedPages). AreWhole q) (sym (none_there none)) w.pages) (subst (λ (q : NamedPages). live q ≤ q.limit) (sym (none_there none)) w.room)
-          (ap (λ (q : NamedPages). q.files) (none_there none)) (ap (λ (q : NamedPages). q.maps) (none_there none) ∙ sym (gone_itself s.pages.maps name none))
-      by (Some m) some =
-          let kept = fork_kept s.pages w.pages name m some in
-          with_pages (without_fork s.pages name) (fork_left_whole s.pages w.pages name m some) (omega (arith, live_fork s.pages w.pages name m some, w.room, kept.limit)) kept.files (fork_maps s.pages w.pages name m some)
+        by : (o : Option Map) → map.get s.pages.maps name ≡ o → IsWhole (record s { forks = map.remove s.forks name; pages = without_fork s.pages name; jobs = jobs })
+        by None none = with_pages (without_fork s.pages name) (subst (λ (q : NamedPages). AreWhole q) (sym (none_there none)) w.pages) (subst (λ (q : NamedPages). live q ≤ q.limit) (sym (none_there none)) w.room)
+            (ap (λ (q : NamedPages). q.files) (none_there none)) (ap (λ (q : NamedPages). q.maps) (none_there none) ∙ sym (gone_itself s.pages.maps name none))
+        by (Some m) some =
+            let kept = fork_kept s.pages w.pages name m some in
+            with_pages (without_fork s.pages name) (fork_left_whole s.pages w.pages name m some) (omega (arith, live_fork s.pages w.pages name m some, w.room, kept.limit)) kept.files (fork_maps s.pages w.pages name m some)
+
+  gone_whole : HasNoInferior s.forks name → IsNoTop s name → IsWhole (record s { forks = map.remove s.forks name; pages = without_fork s.pages name })
+  gone_whole bare no_top = left_whole bare s.jobs w.files (λ f other lives. w.homes f lives) (λ t j is. (is, no_top t j is))
 
   -- who has a superior is no top fork
   pub below_no_top : (f : Fork) → map.get s.forks name ≡ Some f → is_some f.superior ≡ true → IsNoTop s name
@@ -316,53 +337,50 @@ last_tells forks who f is = up_to MOST_FORKS is
     up_to zero e = absurd (cc e)
     up_to (suc n) e = either (option_and_then (leaf_below forks who) (fork_in forks who.tty (suc n))) (last_up_to forks who n) (leaf (fork_in forks who.tty (suc n))) (up_to n) e
 
--- the state with other parts
-abbrev pub with_fork_parts : PlainState → ForkParts name_cmp → PlainState
-with_fork_parts s v = record s { forks = v.tree.forks; fork_serials = v.tree.serials; pages = v.pages }
+-- whole, and without a fork's inferiors
+pub record IsBare (f : ForkName) (s : PlainState) : Type 0 where
+  pub whole : IsWhole s
+  pub bare : HasNoInferior s.forks f
 
-abbrev pub fork_parts_of : PlainState → ForkParts name_cmp
-fork_parts_of s = record { tree = tree_of s; pages = s.pages }
-
--- without a fork's inferiors, of which there are so many at most
-record IsBare (f : ForkName) (s : PlainState) : Type 0 where
-  whole : IsWhole s
-  bare : HasNoInferior s.forks f
-
-below_whole : (n : ℕ) (f : ForkName) (s : PlainState) → IsWhole s → tally (below_in s.forks f) 1 MOST_FORKS ≤ n → IsBare f (with_fork_parts s (without_below n f (fork_parts_of s)))
+below_whole : (n : ℕ) (f : ForkName) (s : PlainState) → IsWhole s → tally (below_in s.forks f) 1 MOST_FORKS ≤ n → IsBare f (with_forks_and_pages s (without_below n f (forks_and_pages s)))
 unfolding without_below
 below_whole zero f s w few = record { whole = w; bare = none_counted f (tree_of s) w.tree few }
 below_whole (suc n) f s w few = by (λ t whole fewer. below_whole n f t whole fewer) (last_below s.forks f) refl (last_is (tree_of s) w.tree f)
   where
-    by : ((t : PlainState) → IsWhole t → tally (below_in t.forks f) 1 MOST_FORKS ≤ n → IsBare f (with_fork_parts t (without_below n f (fork_parts_of t)))) → (o : Option Fork) → last_below s.forks f ≡ o
-        → MatchOption o (HasNoInferior s.forks f) (λ k. IsLastBelow s.forks f k.name) → IsBare f (with_fork_parts s (option_map_or (λ k. without_below n f (without (fork_parts_of s) k.name)) o (fork_parts_of s)))
+    by : ((t : PlainState) → IsWhole t → tally (below_in t.forks f) 1 MOST_FORKS ≤ n → IsBare f (with_forks_and_pages t (without_below n f (forks_and_pages t)))) → (o : Option Fork) → last_below s.forks f ≡ o
+        → MatchOption o (HasNoInferior s.forks f) (λ k. IsLastBelow s.forks f k.name) → IsBare f (with_forks_and_pages s (option_map_or (λ k. without_below n f (without (forks_and_pages s) k.name)) o (forks_and_pages s)))
     by rest None none bare = record { whole = w; bare = bare }
     by rest (Some k) is last =
         let own = inferior_tells s.forks f k.name (last_tells s.forks f k is) in
         let fewer = fewer_counted f (tree_of s) w.tree last.fork last.leaf in
         let here : tally (below_in (map.remove s.forks k.name) f) 1 MOST_FORKS < tally (below_in s.forks f) 1 MOST_FORKS =
         subst (λ (q : ForkName). tally (below_in (map.remove s.forks q) f) 1 MOST_FORKS < tally (below_in s.forks f) 1 MOST_FORKS) last.named fewer in
-        rest (with_fork_parts s (without (fork_parts_of s) k.name)) (gone_whole s w k.name (subst (HasNoInferior s.forks) last.named last.leaf.leaf) (below_no_top s w k.name own.0 own.1 own.2)) (omega (arith, few, here))
+        rest (with_forks_and_pages s (without (forks_and_pages s) k.name)) (gone_whole s w k.name (subst (HasNoInferior s.forks) last.named last.leaf.leaf) (below_no_top s w k.name own.0 own.1 own.2)) (omega (arith, few, here))
 
 module _ (s : PlainState) (w : IsWhole s) where
+  -- without a fork's inferiors
+  pub bare_whole : (f : ForkName) → IsBare f (with_forks_and_pages s (without_below MOST_FORKS f (forks_and_pages s)))
+  bare_whole f = below_whole MOST_FORKS f s w (tally_most (below_in s.forks f) 1 MOST_FORKS)
+
   -- without a fork and its inferiors; who waits for a fork runs again
-  pub killed_whole : (f : ForkName) → IsNoTop s f → IsWhole (with_fork_parts s (fork_changed (Kill f) (fork_parts_of s)))
+  pub killed_whole : (f : ForkName) → IsNoTop s f → IsWhole (with_forks_and_pages s (fork_changed (Kill f) (forks_and_pages s)))
   unfolding fork_changed
   killed_whole f no_top =
-      let t = with_fork_parts s (without_below MOST_FORKS f (fork_parts_of s)) in
-      let u = with_fork_parts s (killed (fork_parts_of s) f) in
-      let b = below_whole MOST_FORKS f s w (tally_most (below_in s.forks f) 1 MOST_FORKS) in
+      let t = with_forks_and_pages s (without_below MOST_FORKS f (forks_and_pages s)) in
+      let u = with_forks_and_pages s (killed (forks_and_pages s) f) in
+      let b = bare_whole f in
       waiters_whole u (gone_whole t b.whole f b.bare no_top) f.tty
 
-  pub halted_whole : (f : ForkName) → IsWhole (with_fork_parts s (fork_changed (Halt f) (fork_parts_of s)))
+  pub halted_whole : (f : ForkName) → IsWhole (with_forks_and_pages s (fork_changed (Halt f) (forks_and_pages s)))
   unfolding fork_changed
-  halted_whole f = looked_up (λ v. IsWhole (with_fork_parts s v)) (with_halted (fork_parts_of s)) (fork_parts_of s) (map.get s.forks f)
+  halted_whole f = looked_up (λ v. IsWhole (with_forks_and_pages s v)) (with_halted (forks_and_pages s)) (forks_and_pages s) (map.get s.forks f)
       (λ g is. let h = with_status g Halted in told_whole (with_fork s h) (put s w f g is h (refl, refl, refl)) h) (λ none. w)
 
-  pub mark_whole : (f : ForkName) (on : Bool) → IsWhole (with_fork_parts s (fork_changed (Freeze f on) (fork_parts_of s)))
+  pub mark_whole : (f : ForkName) (on : Bool) → IsWhole (with_forks_and_pages s (fork_changed (Freeze f on) (forks_and_pages s)))
   unfolding fork_changed
   mark_whole f on = changed_if s w (with_mark on) (λ k. (refl, refl, refl)) (map.get s.forks f) (λ k is. ap (map.get s.forks) (w.tree.slotted.own f k is) ∙ is)
 
-  pub body_whole : (f : ForkName) (body : Body) → IsWhole (with_fork_parts s (fork_changed (Become f body) (fork_parts_of s)))
+  pub body_whole : (f : ForkName) (body : Body) → IsWhole (with_forks_and_pages s (fork_changed (Become f body) (forks_and_pages s)))
   unfolding fork_changed
   body_whole f body = changed_if s w (with_body body) (λ k. (refl, refl, refl)) (map.get s.forks f) (λ k is. ap (map.get s.forks) (w.tree.slotted.own f k is) ∙ is)
 
@@ -396,7 +414,8 @@ module _ (s : PlainState) (w : IsWhole s) where
       (keys : (k : ForkName) → map.contains_key q.maps k ≡ map.contains_key (with_map s.pages (next_name (tree_of s) t) entries).maps k)
       (jobs : Jobs) (filed : AreFilesWhole s.files s.pages.files jobs) (tops : (u : ℕ) (j : PlainJob) → map.get jobs u ≡ Some j → (x : Fork) × (map.get (map.insert s.forks (next_name (tree_of s) t) f) j.top ≡ Some x) × (x.slot ≡ 1) × (x.superior ≡ None))
       (have : (u : ℕ) → map.contains_key s.jobs u ≡ true → map.contains_key jobs u ≡ true) (home : map.contains_key jobs t.0 ≡ true)
-      (given : AreGiven (next_serial (tree_of s)) q.maps) (few : next_serial (tree_of s) t ≤ LAST_SERIAL) (free : free_slot s.forks t ≡ Some f.slot) (over : MatchOption f.superior (fork_in s.forks t 1 ≡ None) (λ slot. IsSome (fork_in s.forks t slot))) where
+      (given : AreGiven (next_serial (tree_of s)) q.maps) (few : next_serial (tree_of s) t ≤ LAST_SERIAL) (free : free_slot s.forks t ≡ Some f.slot) (over : MatchOption f.superior (fork_in s.forks t 1 ≡ None) (λ slot. IsSome (fork_in s.forks t slot)))
+      (own_tops : (u : ℕ) (j : PlainJob) → map.get jobs u ≡ Some j → j.top.tty.0 ≡ u) where
     name : ForkName
     name = next_name (tree_of s) t
 
@@ -414,6 +433,7 @@ module _ (s : PlainState) (w : IsWhole s) where
         | inr ne ↦ have k.tty.0 (w.homes k (sym (ap is_some (get_put_other s.forks name k f ne)) ∙ h))
       ];
       tops = tops;
+      own_tops = own_tops;
     }
       where
         -- no serial is taken back
@@ -441,7 +461,7 @@ module _ (s : PlainState) (w : IsWhole s) where
           | inr ne ↦ ap is_some (get_put_other s.forks name k f ne) ∙ w.forks k ∙ sym (ap is_some (get_put_other s.pages.maps name k (new_map entries) ne))
         ]
 
-    pub made_whole : f.name ≡ next_name (tree_of s) t → IsWhole (record (with_fork_parts s (record { tree = with_made (tree_of s) f; pages = q })) { jobs = jobs })
+    pub made_whole : f.name ≡ next_name (tree_of s) t → IsWhole (record (with_forks_and_pages s (record { tree = with_made (tree_of s) f; pages = q })) { jobs = jobs })
     unfolding name
     made_whole named = subst (λ (n : ForkName). IsWhole (record s { forks = map.insert s.forks n f; fork_serials = slice_set s.fork_serials n.tty.0 (n.serial + 1); pages = q; jobs = jobs })) (sym named) (made_at_whole named)
 
@@ -465,12 +485,12 @@ module _ (s : PlainState) (w : IsWhole s) where
         (subst (λ o. IsSome o) (sym (in_found s.forks w.tree.slotted who.tty k.0.slot k.0 (held_lives s.forks w.tree.slotted who k.0 k.1, ap (λ (n : ForkName). n.tty.0) own, refl))) refl)
 
     change_whole : (change : ForkChange) → FitsChange caller s.pages (λ x y. Keeps x y) q change → FitsChange caller s.pages (λ x y. AreGiven (next_serial (tree_of s)) y.maps) q change
-        → IsWhole (with_fork_parts s (fork_changed change (record (fork_parts_of s) { pages = q })))
+        → IsWhole (with_forks_and_pages s (fork_changed change (record (forks_and_pages s) { pages = q })))
     unfolding fork_changed
     change_whole Nothing k given = keeps_whole s w q k given
     change_whole (Make f) made given =
         made_whole who.tty terminal f (map_wanted caller) q made.pages.sound made.pages.forks.files made.pages.forks.keys s.jobs w.files (λ u j is. kept_tops who.tty f u j is) (λ u h. h) (w.homes who lives)
-        given.pages (few_serials made.serial) made.slot (subst (λ o. MatchOption o (fork_in s.forks who.tty 1 ≡ None) (λ slot. IsSome (fork_in s.forks who.tty slot))) (sym made.superior) caller_over) made.name
+        given.pages (few_serials made.serial) made.slot (subst (λ o. MatchOption o (fork_in s.forks who.tty 1 ≡ None) (λ slot. IsSome (fork_in s.forks who.tty slot))) (sym made.superior) caller_over) w.own_tops made.name
     change_whole (Kill f) fits given = killed_whole (record s { pages = q }) (keeps_whole s w q fits.1 given.1) f (no_top f fits.0)
     change_whole (Freeze f on) fits given = mark_whole (record s { pages = q }) (keeps_whole s w q fits.1 given.1) f on
     change_whole (Become f body) fits given = body_whole (record s { pages = q }) (keeps_whole s w q fits.1 given.1) f body

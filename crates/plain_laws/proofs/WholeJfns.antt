@@ -72,6 +72,11 @@ weight name x = cond (is_for name x) 1 0
 counted_once : (name : List ℕ) (x : OpenFile) → x.file ≡ name → weight name x ≡ 1
 counted_once name x same = ap (λ b. cond b 1 0) (ties nat_list_cmp_total name_cmp_apart x.file name same)
 
+-- where as many as none stand for a file, no JFN of a job does
+pub nobody_holds : (jobs : Jobs) (name : List ℕ) → times_held jobs name ≡ 0 → (t n : ℕ) (j : PlainJob) (i : OpenFile) → map.get jobs t ≡ Some j → map.get j.jfns n ≡ Some i → i.file ≢ name
+unfolding times_held times_open
+nobody_holds jobs name none t n j i is has same = omega (arith, counted_once name i same, none, value_counted nat_cmp (λ k. times_open k.jfns name) jobs t j is, value_counted nat_cmp (weight name) j.jfns n i has)
+
 -- where the one JFN goes that stands for a file, none does
 module _ (jobs : Jobs) (t : Tty) (j : PlainJob) (n : ℕ) (i : OpenFile) (job : map.get jobs t.0 ≡ Some j) (held : map.get j.jfns n ≡ Some i) (once : nat_lt 1 (times_held jobs i.file) ≡ false) where
   abbrev counts : PlainJob → ℕ
@@ -84,7 +89,7 @@ module _ (jobs : Jobs) (t : Tty) (j : PlainJob) (n : ℕ) (i : OpenFile) (job : 
   unfolding times_open
   fewer = omega (arith, counted_once i.file i refl, total_without nat_cmp_total nat_cmp-IsAntisymmetric (weight i.file) j.jfns n i held)
 
-  none_left : sum_by counts (map.values others) ≡ 0
+  none_left : times_held others i.file ≡ 0
   unfolding times_held
   none_left =
       let was : option_map_or counts (map.get jobs t.0) 0 ≡ counts j = ap (λ (o : Option PlainJob). option_map_or counts o 0) job in
@@ -93,14 +98,10 @@ module _ (jobs : Jobs) (t : Tty) (j : PlainJob) (n : ℕ) (i : OpenFile) (job : 
       at_most : (k : ℕ) → nat_lt 1 k ≡ false → k ≤ 1
       at_most k h = grind (arith, nat_tests)
 
-  nobody_left : (u m : ℕ) (k : PlainJob) (x : OpenFile) → map.get others u ≡ Some k → map.get k.jfns m ≡ Some x → x.file ≢ i.file
-  unfolding times_open
-  nobody_left u m k x is has same = omega (arith, counted_once i.file x same, none_left, value_counted nat_cmp counts others u k is, value_counted nat_cmp (weight i.file) k.jfns m x has)
-
 -- the JFNs of a job, where they change
 module _ (s : PlainState) (w : IsWhole s) (t : Tty) where
   -- another JFN, or one less
-  held_whole : (change : OpenFiles → OpenFiles) → ((j : PlainJob) → map.get s.jobs t.0 ≡ Some j → AreOpen s.files (change j.jfns)) → IsWhole (record s { jobs = with_held s.jobs t change })
+  pub held_whole : (change : OpenFiles → OpenFiles) → ((j : PlainJob) → map.get s.jobs t.0 ≡ Some j → AreOpen s.files (change j.jfns)) → IsWhole (record s { jobs = with_held s.jobs t change })
   held_whole change fits = by (map.get s.jobs t.0) refl
     where
       by : (o : Option PlainJob) → map.get s.jobs t.0 ≡ o → IsWhole (record s { jobs = option_map_or (λ j. map.insert s.jobs t.0 (record j { jfns = change j.jfns })) o s.jobs })
@@ -114,12 +115,12 @@ module _ (s : PlainState) (w : IsWhole s) (t : Tty) where
   release_whole n = held_whole (λ m. map.remove m n) (λ j is. jfn_gone s.files j.jfns n (w.files.jfns t.0 j is))
 
   -- the file of a JFN is there
-  file_of_held : (n : ℕ) (i : OpenFile) → map.get (held_at s.jobs t) n ≡ Some i → (1 ≤ n) × (n ≤ MOST_JFNS) × FitsOpen s.files i
+  pub file_of_held : (n : ℕ) (i : OpenFile) → map.get (held_at s.jobs t) n ≡ Some i → (1 ≤ n) × (n ≤ MOST_JFNS) × FitsOpen s.files i
   file_of_held n i held = let j = held_job s.jobs t n i held in w.files.jfns t.0 j.0 j.1 n i j.2
 
 -- files that are made or changed
 module _ (s : PlainState) (w : IsWhole s) where
-  file_whole : (name : List ℕ) (f : PlainFile) → IsFileName name → FitsFile f → (map.contains_key s.files name ≡ true) ⊎ (map.len s.files < MOST_FILES) → IsWhole (record s { files = map.insert s.files name f })
+  pub file_whole : (name : List ℕ) (f : PlainFile) → IsFileName name → FitsFile f → (map.contains_key s.files name ≡ true) ⊎ (map.len s.files < MOST_FILES) → IsWhole (record s { files = map.insert s.files name f })
   file_whole name f full fits room = filed_whole s w s.pages (map.insert s.files name f) w.pages w.room (file_put s.files s.pages.files s.jobs w.files name f full fits room) (λ k. refl) w.given
 
   opened_whole : (mode : Mode) (name : List ℕ) → IsWhole (record s { files = files_opened s.files mode name })
@@ -129,6 +130,28 @@ module _ (s : PlainState) (w : IsWhole s) where
       by true None is = w
       by true (Some f) is = (let was = w.files.named.named name f is in file_whole name (record f { length = 0 }) was.0 (was.1.0, omega arith) (inl (ap is_some is)))
       by false o is = w
+
+  -- a page that is left is of another file
+  kept_page : (name : List ℕ) (at : FilePage (List ℕ)) → map.contains_key (without_file s.pages name).files at ≡ true → (map.contains_key s.pages.files at ≡ true) × (at.file ≢ name)
+  kept_page name at h = by (eq_by_cmp name_cmp at.file name) refl (sym (ap is_some kept) ∙ h)
+    where
+      kept : map.get (without_file s.pages name).files at ≡ cond (not (eq_by_cmp name_cmp at.file name)) (map.get s.pages.files at) None
+      kept = left_page nat_list_cmp_total name_cmp_apart s.pages name at
+
+      by : (b : Bool) → eq_by_cmp name_cmp at.file name ≡ b → is_some (cond (not b) (map.get s.pages.files at) None) ≡ true → (map.contains_key s.pages.files at ≡ true) × (at.file ≢ name)
+      by true is k = absurd (cc k)
+      by false is k = (k, λ same. (let no : true ≡ false = sym (ties nat_list_cmp_total name_cmp_apart at.file name same) ∙ is in cc no))
+
+  -- a file that goes with its pages, where no JFN stands for it
+  pub removed_whole : (name : List ℕ) → times_held s.jobs name ≡ 0 → IsWhole (record s { pages = without_file s.pages name; files = map.remove s.files name })
+  removed_whole name none =
+      let q = without_file s.pages name in
+      let fewer = pages_fewer s.files s.pages.files s.jobs w.files q.files (λ at h. (let k = kept_page name at h in k.0)) in
+      let bare = file_gone s.files q.files s.jobs fewer name (λ at h. (let k = kept_page name at h in k.1)) (nobody_holds s.jobs name none) in
+      let still = without_still nat_list_cmp_total name_cmp_apart s.pages name w.pages in
+      let room : live q ≤ q.limit = omega (arith, live_without nat_list_cmp_total name_cmp_apart s.pages name w.pages, w.room, still.limit) in
+      let maps = without_maps nat_list_cmp_total name_cmp_apart s.pages name in
+      filed_whole s w q (map.remove s.files name) (without_whole nat_list_cmp_total name_cmp_apart s.pages name w.pages) room bare (λ f. ap (λ (m : Maps). map.contains_key m f) maps) (subst (AreGiven (next_serial (tree_of s))) (sym maps) w.given)
 
 still_opened : (files : Files) (mode : Mode) (name x : List ℕ) → map.contains_key files x ≡ true → map.contains_key (files_opened files mode name) x ≡ true
 still_opened files mode name x there = by (mode.w && not mode.r) (map.get files name)
@@ -176,31 +199,13 @@ module _ (s : PlainState) (w : IsWhole s) (who : ForkName) (regs : Regs) where
   unfolding file_changed
   close_whole n = release_whole s w who.tty n
 
-  -- a page that is left is of another file
-  kept_page : (name : List ℕ) (at : FilePage (List ℕ)) → map.contains_key (without_file s.pages name).files at ≡ true → (map.contains_key s.pages.files at ≡ true) × (at.file ≢ name)
-  kept_page name at h = by (eq_by_cmp name_cmp at.file name) refl (sym (ap is_some kept) ∙ h)
-    where
-      kept : map.get (without_file s.pages name).files at ≡ cond (not (eq_by_cmp name_cmp at.file name)) (map.get s.pages.files at) None
-      kept = left_page nat_list_cmp_total name_cmp_apart s.pages name at
-
-      by : (b : Bool) → eq_by_cmp name_cmp at.file name ≡ b → is_some (cond (not b) (map.get s.pages.files at) None) ≡ true → (map.contains_key s.pages.files at ≡ true) × (at.file ≢ name)
-      by true is k = absurd (cc k)
-      by false is k = (k, λ same. (let no : true ≡ false = sym (ties nat_list_cmp_total name_cmp_apart at.file name same) ∙ is in cc no))
-
   delete_whole : (n : ℕ) (i : OpenFile) → map.get asked.held n ≡ Some i → nat_lt 1 (times_held s.jobs i.file) ≡ false → IsWhole (changed_state (Delete who.tty n))
   unfolding file_changed
   delete_whole n i held once =
-      let q = without_file s.pages i.file in
       let j = held_job s.jobs who.tty n i held in
-      let released = release_whole s w who.tty n in
       let freed : PlainState = record s { jobs = with_held s.jobs who.tty (λ m. map.remove m n) } in
       let jobs_are : freed.jobs ≡ others s.jobs who.tty j.0 n i j.1 j.2 once = ap (λ (o : Option PlainJob). option_map_or (λ k. map.insert s.jobs who.tty.0 (record k { jfns = map.remove k.jfns n })) o s.jobs) j.1 in
-      let bare = file_gone s.files q.files freed.jobs (pages_fewer s.files s.pages.files freed.jobs released.files q.files (λ at h. (let k = kept_page i.file at h in k.0))) i.file (λ at h. (let k = kept_page i.file at h in k.1))
-      (λ u m k x is has. nobody_left s.jobs who.tty j.0 n i j.1 j.2 once u m k x (sym (ap (λ (b : Jobs). map.get b u) jobs_are) ∙ is) has) in
-      let still = without_still nat_list_cmp_total name_cmp_apart s.pages i.file w.pages in
-      let room : live q ≤ q.limit = omega (arith, live_without nat_list_cmp_total name_cmp_apart s.pages i.file w.pages, w.room, still.limit) in
-      let maps = without_maps nat_list_cmp_total name_cmp_apart s.pages i.file in
-      let whole = filed_whole freed released q (map.remove s.files i.file) (without_whole nat_list_cmp_total name_cmp_apart s.pages i.file w.pages) room bare (λ f. ap (λ (m : Maps). map.contains_key m f) maps) (subst (AreGiven (next_serial (tree_of s))) (sym maps) w.given) in
+      let whole = removed_whole freed (release_whole s w who.tty n) i.file (ap (λ (b : Jobs). times_held b i.file) jobs_are ∙ none_left s.jobs who.tty j.0 n i j.1 j.2 once) in
       subst (λ (o : Option OpenFile). IsWhole (with_parts s (with_filed (parts_of s) (option_map_or (deleted (λ name. name) (filed_of (parts_of s)) who.tty n) o (filed_of (parts_of s)))))) (sym held) whole
 
   change_whole : (change : FileChange) → FitsChange asked (names_seen (parts_of s) who) change → IsWhole (changed_state change)

@@ -8,14 +8,18 @@ use Rattle.machine_names.specs.declared.names.TheConstants.{FILE_PAGES}
 use Rattle.machine_names.specs.declared.names.ForkName.{ForkName}
 use Rattle.machine_names.specs.declared.names.PageName.{PageName}
 use Rattle.machine_names.specs.declared.names.Kind.{Kind}
+use Rattle.machine_names.specs.declared.names.Slot.{Slot}
 use Rattle.machine_names.specs.declared.names.Tty.{Tty}
 use Rattle.machine_names.proofs.OrderLemmas.{name_cmp_apart}
 use Rattle.plain_files.specs.OpenFiles.{OpenFile}
 use Rattle.plain_pages.specs.PlainPages.{NamedPages, Maps}
 use Rattle.plain_pages.specs.FilePages.{files_with}
-use Rattle.plain_pages.specs.References.{Spot, granted, in_file, in_map, next_page, page_at, reference}
+use Rattle.plain_pages.specs.References.{Spot, granted, in_file, in_map, next_page, page_at, reference, slot_at, stored}
 use Rattle.plain_pages.proofs.ReferencesMade.{reference_room, reference_whole}
-use Rattle.plain_units.proofs.PageRuns.{AreSound, reference_kept}
+use Rattle.plain_units.specs.declared.registers.Regs.{Regs}
+use Rattle.plain_units.specs.Blocks.{steps_on}
+use Rattle.plain_units.specs.Steps.{Steps, begun}
+use Rattle.plain_units.proofs.PageRuns.{AreSound, Keeps, PlanLeaves, reference_kept, stored_kept, stored_maps}
 use Rattle.plain_model.specs.declared.call.End.{End}
 use Rattle.plain_model.specs.declared.call.End.TheVariants.{Done, Waits, Halts, Refused, Failed, Trap}
 use Rattle.plain_model.specs.declared.call.MapChange.{MapChange}
@@ -36,35 +40,44 @@ use Rattle.plain_laws.specs.WholeFiles.{AreFilesWhole, FilePages}
 use Rattle.plain_laws.proofs.FileMakings.{file_leaves}
 use Rattle.plain_laws.proofs.FilesKept.{page_gone, page_put}
 use Rattle.plain_laws.proofs.GivenSerials.{IsGivenChange, change_given, reference_given}
+use Rattle.plain_laws.proofs.Led.{run_led}
 use Rattle.plain_laws.proofs.MapEnds.{ChangeIn, EndIn, SpotIn, came_in, map_call_in}
 use Rattle.plain_laws.proofs.WholeForks.{filed_whole, lived_given, sound}
 
 module _ (s : PlainState) (w : IsWhole s) where
-  abbrev There : List ℕ → Type 0
+  abbrev pub There : List ℕ → Type 0
   There name = map.contains_key s.files name ≡ true
 
   abbrev AreFiles : FilePages → Type 0
   AreFiles m = AreFilesWhole s.files m s.jobs
 
   -- pages that a turn made: they are sound, of the same forks, follow forks that were there, and the files are whole with them
-  record After (q : NamedPages) : Type 0 where
-    sound : AreSound q
-    keys : (f : ForkName) → map.contains_key q.maps f ≡ map.contains_key s.pages.maps f
-    given : AreGiven (next_serial (tree_of s)) q.maps
-    filed : AreFiles q.files
+  pub record After (q : NamedPages) : Type 0 where
+    pub sound : AreSound q
+    pub keys : (f : ForkName) → map.contains_key q.maps f ≡ map.contains_key s.pages.maps f
+    pub given : AreGiven (next_serial (tree_of s)) q.maps
+    pub filed : AreFiles q.files
 
-  at_first : After s.pages
+  pub at_first : After s.pages
   at_first = record { sound = sound s w; keys = λ f. refl; given = w.given; filed = w.files }
 
-  refers_on : (t : Tty) → IsOwner t → (p q : NamedPages) (at : Spot (List ℕ)) (kind : Kind) → SpotIn s.forks t There at → After p → reference p at kind t ≡ granted q → After q
-  refers_on t own p q (in_map at) kind here h g =
-      let k = reference_kept nat_list_cmp_total t own p q at kind h.sound g in
-      record {
-        sound = k.sound;
-        keys = λ f. k.forks.keys f ∙ h.keys f;
-        given = reference_given (next_serial (tree_of s)) nat_list_cmp_total t p q at kind h.given g;
-        filed = subst AreFiles (sym k.forks.files) h.filed;
-      }
+  -- so are those that keep the forks and the files, and what entries follow
+  kept_after : (p q : NamedPages) → After p → Keeps p q → AreGiven (next_serial (tree_of s)) q.maps → After q
+  kept_after p q h k given = record { sound = k.sound; keys = λ f. k.forks.keys f ∙ h.keys f; given = given; filed = subst AreFiles (sym k.forks.files) h.filed }
+
+  slot_refers : (t : Tty) → IsOwner t → (p q : NamedPages) (at : Slot) (kind : Kind) → After p → reference p (in_map at) kind t ≡ granted q → After q
+  slot_refers t own p q at kind h g = kept_after p q h (reference_kept nat_list_cmp_total t own p q at kind h.sound g) (reference_given (next_serial (tree_of s)) nat_list_cmp_total t p q at kind h.given g)
+
+  stores_on : (p : NamedPages) (at : Slot) (offset word : ℕ) → After p → After (stored p (in_map at) offset word)
+  stores_on p at offset word h =
+      kept_after p (stored p (in_map at) offset word) h (stored_kept p (in_map at) offset word nat_list_cmp_total h.sound) (subst (AreGiven (next_serial (tree_of s))) (sym (stored_maps p (in_map at) offset word)) h.given)
+
+  -- steps of a fork
+  pub runs_on : (t : Tty) → IsOwner t → (p : NamedPages) (f : ForkName) (regs : Regs) (steps : Steps) → f.tty ≡ t → After p → PlanLeaves After f (steps_on f regs steps p)
+  runs_on t own p f regs steps same h = run_led f After (λ q r a kind k g. slot_refers f.tty (subst IsOwner (sym same) own) q r (slot_at f a) kind k g) stores_on steps (begun p regs.ac) h
+
+  pub refers_on : (t : Tty) → IsOwner t → (p q : NamedPages) (at : Spot (List ℕ)) (kind : Kind) → SpotIn s.forks t There at → After p → reference p at kind t ≡ granted q → After q
+  refers_on t own p q (in_map at) kind here h g = slot_refers t own p q at kind h g
   refers_on t own p q (in_file f) kind here h g =
       let l = file_leaves p q t f kind g in
       record {
@@ -118,7 +131,7 @@ module _ (s : PlainState) (w : IsWhole s) where
   pub map_called_whole : (f : Fork) → IsOwner f.name.tty → (number : ℕ) → IsWhole (record s { pages = map_pages s f number })
   unfolding parts_behind
   map_called_whole f own number =
-      let came = came_in s.forks f.name.tty There (parts_of s) f.name After (refers_on f.name.tty own) (map_call number (asks_maps (parts_of s) f.name f.body.regs))
+      let came = came_in s.forks f.name.tty There (ChangeIn s.forks f.name.tty There) (parts_of s) f.name After (refers_on f.name.tty own) (runs_on f.name.tty own) (map_call number (asks_maps (parts_of s) f.name f.body.regs))
       (map_call_in (asks_maps (parts_of s) f.name f.body.regs) w.tree.slotted.own There file_of_held number) s.pages at_first in
       by (map_came s f number).end came.0 came.1
     where

@@ -7,6 +7,7 @@ use Rattle.std.specs.Ordering.{eq_by_cmp, nat_cmp}
 use Rattle.std.specs.Cmp.{nat_cmp_total}
 use Rattle.std.specs.Cmp.Lexicographic.{nat_list_cmp_total}
 use Rattle.std.specs.FinMap as map
+use Rattle.std.specs.FinMap.{nat_cmp-IsAntisymmetric}
 use Rattle.std.proofs.lemmas.Bool.{cond_both}
 use Rattle.std.proofs.lemmas.Bool.Decides.{nat_tests}
 use Rattle.std.proofs.lemmas.List.Elements.{All-head, All-tail}
@@ -24,13 +25,15 @@ use Rattle.plain_pages.specs.Room.{HasRoom, live}
 use Rattle.plain_pages.specs.References.{in_map, Referred, granted, denied, full, page_at, reference, stored, slot_at}
 use Rattle.machine_names.specs.Bounds.{IsFileName, IsOwner, IsForkName, IsTerminal}
 use Rattle.machine_names.specs.declared.names.Kind.TheVariants.{Write}
-use Rattle.plain_model.specs.declared.fork.TerminalMode.TheVariants.{Command, Program}
+use Rattle.plain_model.specs.declared.fork.TerminalMode.TheVariants.{Command}
 use Rattle.script_texts.specs.declared.status.ForkStatus.{ForkStatus}
 use Rattle.script_texts.specs.declared.status.ForkStatus.TheVariants.{Run as Running, Wait, Halted, Forced}
 use Rattle.plain_model.specs.Interrupts.{posted}
 use Rattle.plain_model.specs.Unit.{Effect, in_command_mode, with_stopped, stopped, unit_ended, trapped, called, went, over, unit, parts_of}
 use Rattle.plain_units.specs.Units.{unit_on}
 use Rattle.plain_model.specs.Calls.{Turn, fork_behind, out_of, posted_if, with_ac}
+use Rattle.plain_model.specs.ByteCalls.{ByteRows, byte_calls}
+use Rattle.plain_model.specs.StringCalls.{string_calls}
 use Rattle.plain_units.specs.Steps.{Planned, Ending, done, call, trap, need, stopped as unit_stopped, begun, pages_left}
 use Rattle.script_texts.specs.declared.event.Event.{Event}
 use Rattle.script_texts.specs.declared.event.Event.TheVariants.{Login, TypeIn, File, Words, Poke, Start, Run, Tick, Evict, Drum, Auto, Examine, Forks, Page, Trace}
@@ -42,16 +45,17 @@ use Rattle.plain_pages.specs.NewMaps.{with_map}
 use Rattle.machine_names.specs.declared.names.TheConstants.{MOST_FILES}
 use Rattle.plain_files.specs.Sizes.{new_file}
 use Rattle.plain_model.specs.FileEvents.{make_file, page_named}
-use Rattle.plain_model.specs.Events.{at_job, new_job, with_job, login, poked, poked_at, poke, restarted, start, started, word_seen, examined_in, outer}
+use Rattle.plain_model.specs.Events.{at_job, new_job, with_job, login, poked, poked_at, poke, start, word_seen, examined_in, outer}
 use Rattle.script_texts.specs.Limits.{FitsEvent, FitsStep}
 use Rattle.plain_model.specs.Trees.{free_slot, is_free, next_serial, tree_of, next_name}
 use Rattle.plain_pages.specs.declared.map.MapEntry.TheVariants.{Follows}
 use Rattle.fork_tree.proofs.Kept.{none_tree}
 use Rattle.fork_tree.proofs.Slots.{in_none}
-use Rattle.plain_model.specs.Forks.{ForkMap, fork_in, top_fork, with_fork, with_regs, counted, change_fork}
+use Rattle.plain_model.specs.Forks.{ForkMap, fork_in, top_fork, with_fork, with_regs, counted}
 use Rattle.plain_laws.specs.Whole.{AreGiven, IsWhole}
-use Rattle.plain_laws.proofs.FilesKept.{file_put, job_put, no_files_whole, none_open}
-use Rattle.plain_laws.proofs.WordsWritten.{new_fits, row_within, words_whole}
+use Rattle.plain_laws.proofs.FilesKept.{file_put, job_put, no_files_whole, none_open, put_tells}
+use Rattle.plain_laws.proofs.ByteSizes.{new_fits}
+use Rattle.plain_laws.proofs.WordsWritten.{row_within, words_whole}
 use Rattle.plain_laws.proofs.GivenSerials.{added_given, poked_given, run_given}
 use Rattle.plain_units.proofs.Lookups.{looked_up}
 use Rattle.plain_model.proofs.ForkMaps.{get_put}
@@ -60,9 +64,12 @@ use Rattle.plain_pages.proofs.ReferencesMade.{has_room}
 use Rattle.plain_units.proofs.PageRuns.{AreSound, PlanKeeps, PlanLeaves, kept_itself, kept_on, reference_kept, run_kept, stored_kept}
 use Rattle.plain_laws.proofs.WholeJfns.{jfn_called_whole}
 use Rattle.plain_laws.proofs.WholeMaps.{map_called_whole}
+use Rattle.plain_laws.proofs.WholeBytes.{RowsFit, byte_called_whole, bytes_fit, strings_fit}
+use Rattle.plain_laws.proofs.WholeCommands.{Leaves, changed_whole, started_whole}
+use Rattle.plain_laws.proofs.WholeTyped.{typed_whole}
 use Rattle.plain_laws.proofs.WholeForks.{kept_tops, job_whole, filed_whole, sound, keeps_whole, behind_same, put, told_whole, made_whole, next_absent, fork_called_whole}
 use Rattle.plain_model.proofs.Posted.{IsSame, posted_same}
-use Rattle.plain_model.proofs.Calling.{fork_came, fork_left, fork_called, fork_turned, map_came, map_pages, map_turned, own_came, own_turned, none_turned, jfn_came, jfn_called, jfn_turned, MakesNone, caller_by, called_by, map_by, jfn_by, own_by}
+use Rattle.plain_model.proofs.Calling.{fork_came, fork_left, fork_called, fork_turned, map_came, map_pages, map_turned, own_came, own_turned, none_turned, jfn_came, jfn_called, jfn_turned, byte_came, byte_called, byte_turned, MakesNone, caller_by, called_by, map_by, jfn_by, byte_by, own_by}
 use Rattle.plain_units.specs.declared.channel.TheConstants.{ILLEGAL_INSTRUCTION}
 use Rattle.std.proofs.lemmas.Cmp.{eq_by_cmp_equiv}
 
@@ -78,6 +85,7 @@ whole_opening limit = record {
   given = λ at serial page a is. (let no : None ≡ Some (Follows serial page a) = sym (ap (λ (o : Option Map). option_and_then (λ (m : Map). slice_get m at.page) o) (map.get-empty fork_cmp at.fork)) ∙ is in absurd (cc no));
   homes = λ f h. absurd (cc (sym (none f) ∙ h));
   tops = λ t j h. absurd (cc (sym (map.get-empty nat_cmp t) ∙ h));
+  own_tops = λ t j h. absurd (cc (sym (map.get-empty nat_cmp t) ∙ h));
 }
   where
     none_live : live (opening limit).pages ≡ 0
@@ -88,10 +96,6 @@ whole_opening limit = record {
 
     no_map : (f : ForkName) → map.contains_key (map.empty {X = Map} {R = fork_cmp}) f ≡ false
     no_map f = ap is_some (map.get-empty fork_cmp f)
-
--- what a step leaves is whole
-abbrev Leaves : Effect → Type 0
-Leaves e = IsWhole e.state
 
 mode_whole : (s : PlainState) → IsWhole s → (t : Tty) → IsWhole (in_command_mode s t)
 mode_whole s w t = looked_up IsWhole _ s (map.get s.jobs t.0) (λ j is. job_whole s w t.0 j (record j { mode = Command }) is refl (w.files.jfns t.0 j is)) (λ none. w)
@@ -145,11 +149,18 @@ module _ (s : PlainState) (w : IsWhole s) (name : ForkName) (f : Fork) (there : 
       let whole = jfn_called_whole s w f (own_terminal fits) number in
       jfn_by Leaves s f number (λ g is. called_with (jfn_called s f number) whole g is (fork_behind g e) (behind_same g e)) whole
 
+  -- so does a call on bytes, or on strings of them
+  byte_whole : (rows : ByteRows) → RowsFit s w f rows → (number : ℕ) → IsForkName name → Leaves (byte_turned s f rows number)
+  byte_whole rows fit number fits =
+      let e = (byte_came s f rows number).end in
+      let whole = byte_called_whole s w f (own_terminal fits) rows fit number in
+      byte_by Leaves s f number rows (λ g is. called_with (byte_called s f rows number) whole g is (fork_behind g e) (behind_same g e)) whole
+
   none_whole : Leaves (none_turned s f)
   none_whole = caller_by Leaves s f.name.tty (parts_of s) f.name (λ g. posted g ILLEGAL_INSTRUCTION) None (λ g is. called_with s w g is (posted g ILLEGAL_INSTRUCTION) (posted_same g ILLEGAL_INSTRUCTION)) w
 
   called_whole : (number : ℕ) → IsForkName name → Leaves (called s f number)
-  called_whole number fits = called_by Leaves s f number own_whole (fork_turned_whole number fits) (map_whole_turn number fits) (jfn_whole number fits) none_whole
+  called_whole number fits = called_by Leaves s f number own_whole (fork_turned_whole number fits) (map_whole_turn number fits) (jfn_whole number fits) (byte_whole byte_calls (bytes_fit s w f) number fits) (byte_whole string_calls (strings_fit s w f) number fits) none_whole
 
 -- a unit that goes through leaves its fork's name and slot
 went_whole : (s : PlainState) (w : IsWhole s) (name : ForkName) (f : Fork) → map.get s.forks name ≡ Some f → (q : NamedPages) → IsWhole (record s { pages = q }) → (e : Ending) → Leaves (went s f q e)
@@ -187,11 +198,8 @@ module _ (s : PlainState) (w : IsWhole s) where
           over_whole name f is fits (unit_on f.name s.pages f.body.regs) (run_kept nat_list_cmp_total s.pages f.name own (instruction f.body.regs) (begun s.pages f.body.regs.ac) (kept_itself s.pages (sound s w)))
           (run_given (next_serial (tree_of s)) nat_list_cmp_total f.name (instruction f.body.regs) (begun s.pages f.body.regs.ac) w.given)
 
-  changed_whole : (name : ForkName) (change : Fork → Fork) → ((f : Fork) → IsSame f (change f)) → IsWhole (change_fork s name change)
-  changed_whole name change same = looked_up IsWhole _ s (map.get s.forks name) (λ f is. put s w name f is (change f) (same f)) (λ none. w)
-
-  with_job_whole : (t : Tty) (user : List ℕ) → IsTerminal t → is_some (map.get s.jobs t.0) ≡ false → nat_lt LAST_SERIAL (next_serial (tree_of s) t) ≡ false → HasRoom (with_map s.pages (next_name (tree_of s) t) EmptyMap) t ≡ true → IsWhole (with_job s t user)
-  with_job_whole t user terminal no_job few room = made_whole s w t terminal (top_fork f) EmptyMap (with_map s.pages f EmptyMap) sound refl (λ k. refl) jobs (job_put s.files s.pages.files s.jobs w.files t.0 (new_job user f) (none_open s.files)) tops have home (added_given (next_serial (tree_of s)) s.pages.maps f EmptyMap w.given tt) (few_serials few) (first_free s.forks t none_in) none_in refl
+  login_job_whole : (t : Tty) (user : List ℕ) → IsTerminal t → is_some (map.get s.jobs t.0) ≡ false → nat_lt LAST_SERIAL (next_serial (tree_of s) t) ≡ false → HasRoom (with_map s.pages (next_name (tree_of s) t) EmptyMap) t ≡ true → IsWhole (with_job s t user)
+  login_job_whole t user terminal no_job few room = made_whole s w t terminal (top_fork f) EmptyMap (with_map s.pages f EmptyMap) sound refl (λ k. refl) jobs (job_put s.files s.pages.files s.jobs w.files t.0 (new_job user f) (none_open s.files)) tops have home (added_given (next_serial (tree_of s)) s.pages.maps f EmptyMap w.given tt) (few_serials few) (first_free s.forks t none_in) none_in own_tops refl
     where
       f : ForkName
       f = next_name (tree_of s) t
@@ -230,11 +238,17 @@ module _ (s : PlainState) (w : IsWhole s) where
               (top_fork f, ap (λ (j : PlainJob). map.get (map.insert s.forks f (top_fork f)) j.top) (sym here) ∙ get_put s.forks f f (top_fork f) refl, refl, refl)
           top_of i false is = kept_tops s w t (top_fork f) u i is
 
+      own_tops : (u : ℕ) (i : PlainJob) → map.get jobs u ≡ Some i → i.top.tty.0 ≡ u
+      own_tops u i is = elim (put_tells nat_cmp_total nat_cmp-IsAntisymmetric s.jobs t.0 (new_job user f) u i is) [
+        | inl e ↦ sym (ap (λ (x : PlainJob). x.top.tty.0) e.1) ∙ sym e.0
+        | inr was ↦ w.own_tops u i was
+      ]
+
   login_whole : (t : Tty) (user : List ℕ) → IsTerminal t → Leaves (login s t user)
   login_whole t user terminal =
       cond_both (is_some (map.get s.jobs t.0)) _ _ Leaves (λ busy. w) (λ free.
       cond_both (nat_lt LAST_SERIAL (next_serial (tree_of s) t)) _ _ Leaves (λ out. w) (λ few.
-      cond_both (HasRoom (with_map s.pages (next_name (tree_of s) t) EmptyMap) t) _ _ Leaves (λ fits. with_job_whole t user terminal free few fits) (λ none. w)))
+      cond_both (HasRoom (with_map s.pages (next_name (tree_of s) t) EmptyMap) t) _ _ Leaves (λ fits. login_job_whole t user terminal free few fits) (λ none. w)))
 
   poked_whole : (t : Tty) → IsTerminal t → (at : Slot) (offset word : ℕ) (r : Referred name_cmp) → reference s.pages (in_map at) Write t ≡ r → Leaves (poked s t at offset word r)
   poked_whole t terminal at offset word (granted q) is =
@@ -250,22 +264,10 @@ module _ (s : PlainState) (w : IsWhole s) where
   poke_whole : (t : Tty) (address word : ℕ) → IsTerminal t → Leaves (poke s t address word)
   poke_whole t address word terminal = job_effect t (poked_at s t address word) (λ j is.
       let at = slot_at j.top address in
-      cond_both (nat_lt address ACCUMULATORS) _ _ Leaves (λ low. changed_whole j.top (λ f. with_regs f (with_ac f.body.regs address word)) (λ f. (refl, refl, refl))) (λ high. poked_whole t terminal at (address % PAGE_WORDS) word (reference s.pages (in_map at) Write t) refl))
+      cond_both (nat_lt address ACCUMULATORS) _ _ Leaves (λ low. changed_whole s w j.top (λ f. with_regs f (with_ac f.body.regs address word)) (λ f. (refl, refl, refl))) (λ high. poked_whole t terminal at (address % PAGE_WORDS) word (reference s.pages (in_map at) Write t) refl))
 
   start_whole : (t : Tty) (address : ℕ) → Leaves (start s t address)
-  start_whole t address = job_effect t _ does
-    where
-      jobs_stay : (j : PlainJob) → (change_fork s j.top (restarted address)).jobs ≡ s.jobs
-      jobs_stay j = looked_up (λ (c : PlainState). c.jobs ≡ s.jobs) _ s (map.get s.forks j.top) (λ f is. refl) (λ none. refl)
-
-      does : (j : PlainJob) → map.get s.jobs t.0 ≡ Some j → IsWhole (started s t address j)
-      does j is =
-          let c = change_fork s j.top (restarted address) in
-          let same = jobs_stay j in
-          let there : map.get c.jobs t.0 ≡ Some j = ap (λ x. map.get x t.0) same ∙ is in
-          let whole = changed_whole j.top (restarted address) (λ f. (refl, refl, refl)) in
-          let m = job_whole c whole t.0 j (record j { mode = Program }) there refl (whole.files.jfns t.0 j there) in
-          subst (λ x. IsWhole (record c { jobs = map.insert x t.0 (record j { mode = Program }) })) same m
+  start_whole t address = job_effect t _ (λ j is. started_whole s w t j is address)
 
   file_whole : (name : List ℕ) → IsFileName name → Leaves (make_file s name)
   file_whole name named =
@@ -284,9 +286,9 @@ module _ (s : PlainState) (w : IsWhole s) where
   outer_whole (Examine t serial address) fits = job_effect t _ (λ j is.
       looked_up Leaves (examined_in s t serial address) _ (map.get s.forks (record { tty = t; serial = serial })) (λ f there. looked_up Leaves _ _ (word_seen s f address) (λ word seen. w) (λ none. w)) (λ none. w))
   outer_whole (Forks t) fits = job_effect t _ (λ j is. w)
-  outer_whole Tick fits = record { pages = w.pages; room = w.room; files = w.files; forks = w.forks; tree = w.tree; given = w.given; homes = w.homes; tops = w.tops }
-  outer_whole (Trace on) fits = record { pages = w.pages; room = w.room; files = w.files; forks = w.forks; tree = w.tree; given = w.given; homes = w.homes; tops = w.tops }
-  outer_whole (TypeIn t text) fits = w
+  outer_whole Tick fits = record { pages = w.pages; room = w.room; files = w.files; forks = w.forks; tree = w.tree; given = w.given; homes = w.homes; tops = w.tops; own_tops = w.own_tops }
+  outer_whole (Trace on) fits = record { pages = w.pages; room = w.room; files = w.files; forks = w.forks; tree = w.tree; given = w.given; homes = w.homes; tops = w.tops; own_tops = w.own_tops }
+  outer_whole (TypeIn t text) fits = job_effect t _ (λ j is. typed_whole s w t text)
   outer_whole (File name) fits = file_whole name fits
   outer_whole (Words name page offset row) fits = words_whole s name page offset (take row.count row.words) w fits.0 fits.1 (row_within offset row fits.2)
   outer_whole (Run n) fits = w

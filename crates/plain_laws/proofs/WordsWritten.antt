@@ -1,12 +1,10 @@
 -- What a WORDS comes to, and that it leaves the plain state whole.
-use Rattle.std.proofs.Common.{◌≡◌, ℕ, suc, ◌+◌, ◌-◌, ◌*◌, ◌/◌, ◌<◌, ◌≤◌, Bool, true, false, cond, List, [], length, Option, None, Some, inl, inr, refl, sym, ◌∙◌, ap, subst, arith}
-use Rattle.std.specs.Prelude.{is_some, nat_le, nat_lt, ◌==◌, take}
+use Rattle.std.proofs.Common.{◌≡◌, ℕ, ◌+◌, ◌*◌, ◌<◌, ◌≤◌, Bool, true, false, cond, List, [], length, Option, None, Some, inl, inr, refl, sym, ◌∙◌, ap, subst, arith}
+use Rattle.std.specs.Prelude.{is_some, nat_lt, take}
 use Rattle.std.specs.Option.{option_map_or}
 use Rattle.std.specs.Cmp.Lexicographic.{nat_list_cmp_total}
 use Rattle.std.specs.FinMap as map
-use Rattle.std.proofs.lemmas.Bool.{eqb-true}
 use Rattle.std.proofs.lemmas.List.{length-take-le}
-use Rattle.std.proofs.Math.Nat.{div-lt_iff_lt-mul, le-div_iff_mul-le}
 use Rattle.outside.specs.declared.TheConstants.{PAGE_WORDS}
 use Rattle.machine_names.specs.declared.names.PageName.{PageName}
 use Rattle.machine_names.specs.declared.names.ForkName.{ForkName}
@@ -17,8 +15,7 @@ use Rattle.machine_names.specs.Orders.{FilePage, name_cmp}
 use Rattle.machine_names.proofs.OrderLemmas.{page_cmp_total}
 use Rattle.machine_names.specs.declared.names.TheConstants.{FILE_PAGES}
 use Rattle.plain_files.specs.declared.bounds.TheConstants.{LARGEST_BYTE}
-use Rattle.plain_files.specs.Bytes.{IsByteSize, bytes_per_word, most_bytes}
-use Rattle.plain_files.specs.Sizes.{PlainFile, FitsFile, new_file, words_touched, length_in, reaching}
+use Rattle.plain_files.specs.Sizes.{PlainFile, reaching}
 use Rattle.plain_pages.specs.PlainPages.{NamedPages, Maps}
 use Rattle.plain_pages.specs.Room.{HasRoom, live}
 use Rattle.plain_pages.specs.References.{in_file, blank, Referred, granted, full, make, next_page, reference}
@@ -37,37 +34,10 @@ use Rattle.plain_model.specs.Unit.{Effect, refused}
 use Rattle.plain_model.specs.FileEvents.{console, page_named, stored_row, written, write_words}
 use Rattle.plain_laws.specs.Whole.{AreGiven, IsWhole}
 use Rattle.plain_laws.specs.WholeFiles.{FilePages, AreFilesWhole}
+use Rattle.plain_laws.proofs.ByteSizes.{reaching_fits}
 use Rattle.plain_laws.proofs.FilesKept.{file_put, page_put}
 use Rattle.plain_laws.proofs.WholeForks.{filed_whole, sound}
 use Rattle.plain_laws.proofs.Rows.{row_kept, row_maps, row_files}
-
--- a word holds a byte at least
-bytes_some : (size : ℕ) → IsByteSize size → 1 ≤ bytes_per_word size
-bytes_some size fits = (le-div_iff_mul-le {k = size} {x = 1} {y = LARGEST_BYTE} (omega (arith, fits.0))).1 (omega (arith, fits.1))
-
--- words are as many as their bytes touch
-touched_most : (length words per : ℕ) → 1 ≤ per → length ≤ words * per → (length + per - 1) / per ≤ words
-touched_most length words per some fits =
-    let below : (length + per - 1) / per < suc words = (div-lt_iff_lt-mul {k = per} {x = length + per - 1} {y = suc words} (omega (arith, some))).1 (omega (arith, some, fits)) in
-    omega (arith, below)
-
-pub new_fits : FitsFile new_file
-new_fits = ((omega arith, omega arith), omega arith)
-
--- a file that reaches behind a row of words of one of its pages fits
-reaching_fits : (f : PlainFile) (end : ℕ) → FitsFile f → end ≤ FILE_PAGES * PAGE_WORDS → FitsFile (reaching LARGEST_BYTE end f)
-reaching_fits f end fits below = ((omega arith, omega arith), by (nat_le (length_in LARGEST_BYTE f) end))
-  where
-    own : length_in LARGEST_BYTE f ≤ FILE_PAGES * PAGE_WORDS
-    own = at (LARGEST_BYTE == f.size) refl
-      where
-        at : (b : Bool) → (LARGEST_BYTE == f.size) ≡ b → cond b f.length (words_touched f * bytes_per_word LARGEST_BYTE) ≤ FILE_PAGES * PAGE_WORDS
-        at true is = let same : LARGEST_BYTE ≡ f.size = eqb-true LARGEST_BYTE f.size is in subst (λ size. f.length ≤ most_bytes size) (sym same) fits.1
-        at false is = omega (arith, touched_most f.length (FILE_PAGES * PAGE_WORDS) (bytes_per_word f.size) (bytes_some f.size fits.0) fits.1)
-
-    by : (b : Bool) → cond b end (length_in LARGEST_BYTE f) ≤ most_bytes LARGEST_BYTE
-    by true = omega (arith, below)
-    by false = omega (arith, own)
 
 -- a row lies within its page
 pub row_within : (offset : ℕ) (row : WordRow) → FitsRow offset row → offset + length (take row.count row.words) ≤ PAGE_WORDS
@@ -134,7 +104,7 @@ module _ (s : PlainState) (name : List ℕ) (page offset : ℕ) (words : List �
           let k = row_kept (in_file spot) q offset words nat_list_cmp_total good in
           let same = row_maps (in_file spot) q offset words ∙ maps in
           let g = reaching LARGEST_BYTE (page * PAGE_WORDS + offset + length words) f in
-          let fits = reaching_fits f (page * PAGE_WORDS + offset + length words) (w.files.named.named name f is).1 (omega (arith, below, within)) in
+          let fits = reaching_fits LARGEST_BYTE (page * PAGE_WORDS + offset + length words) f (omega arith, omega arith) (w.files.named.named name f is).1 (omega (arith, below, within)) in
           let files = file_put s.files q.files s.jobs filed name g full_name fits (inl (ap is_some is)) in
           filed_whole s w (stored_row q (in_file spot) offset words) (map.insert s.files name g) k.sound.whole k.sound.room
           (subst (λ (m : FilePages). AreFilesWhole (map.insert s.files name g) m s.jobs) (sym (row_files (in_file spot) q offset words)) files)

@@ -17,7 +17,7 @@ use Rattle.plain_model.specs.Calls.{ends, failed_regs, no_files, turn_on, with_a
 use Rattle.plain_model.specs.Families.{Parts, Turned, call_turned}
 use Rattle.plain_model.specs.FileCalls.{held_at, with_held}
 use Rattle.plain_model.specs.Forks.{with_regs}
-use Rattle.plain_model.specs.PointedTexts.{with_text}
+use Rattle.plain_model.specs.PointedTexts.{Reading, text_at, with_reading}
 use Rattle.plain_model.specs.State.{PlainState}
 use Rattle.plain_model.specs.Unit.{parts_of}
 
@@ -44,11 +44,16 @@ jfn_named f = right (in_ac f.body.regs 1)
 abbrev pub NamesJfn : PlainState → Fork → OpenFile → Type 0
 NamesJfn s f j = map.get (jfns_of s f) (jfn_named f) ≡ Some j
 
--- a fork reads a text, or too long a one, by the pointer in accumulator 2; these are the pages then, with those that its references made
+-- a fork reads this in its space; these are the pages then, with those that its references made
+module _ {A : Type 0} where
+  abbrev pub ReadsSo : PlainState → Fork → Reading A → A → NamedPages → Type 0
+  ReadsSo s f r found q =
+      let told = λ (x : A). Done x f.body.regs None None in
+      turn_on no_files s.pages (with_reading f.name f.body.regs r (λ x. ends (told x))) ≡ record { end = told found; pages = q }
+
+-- a fork reads a text, or too long a one, by the pointer in accumulator 2
 abbrev pub Reads : PlainState → Fork → Option (List ℕ) → NamedPages → Type 0
-Reads s f text q =
-    let told = λ (t : Option (List ℕ)). Done t f.body.regs None None in
-    turn_on no_files s.pages (with_text f.name f.body.regs (in_ac f.body.regs 2) (λ t. ends (told t))) ≡ record { end = told text; pages = q }
+Reads s f text q = ReadsSo s f (text_at f.body.regs (in_ac f.body.regs 2)) text q
 
 -- what it reads names a file
 pub record AsksFor (s : PlainState) (f : Fork) (name : List ℕ) (q : NamedPages) : Type 0 where

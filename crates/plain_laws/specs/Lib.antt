@@ -7,3 +7,7 @@ pub mod ForkLaws
 pub mod FileLaws
 pub mod JfnLaws
 pub mod MappedLaws
+pub mod ByteLaws
+pub mod TypeLaws
+pub mod CommandLaws
+pub mod StringLaws

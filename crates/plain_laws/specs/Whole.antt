@@ -22,7 +22,8 @@ AreGiven next maps = (at : Slot) (serial page : ℕ) (a : Access) → entry_at m
 
 -- besides, they have room; the files and the JFNs are whole; the forks that live are those with a map; each job's are a tree: each under
 -- its own name, whose serial its terminal's next one is above, in a slot, 1 to 30, in which no other fork of its job is, below a superior that
--- lives and is older; who is followed was once made; a terminal with forks has a job; and the top fork of a job is in slot 1, and has no superior
+-- lives and is older; who is followed was once made; a terminal with forks has a job; and the top fork of a job is in slot 1, has no superior, and
+-- is of the job's terminal
 pub record IsWhole (s : PlainState) : Type 0 where
   pub pages : AreWhole s.pages
   pub room : FitsLimit s.pages
@@ -32,3 +33,4 @@ pub record IsWhole (s : PlainState) : Type 0 where
   pub given : AreGiven (next_serial (tree_of s)) s.pages.maps
   pub homes : (f : ForkName) → map.contains_key s.forks f ≡ true → map.contains_key s.jobs f.tty.0 ≡ true
   pub tops : (t : ℕ) (j : PlainJob) → map.get s.jobs t ≡ Some j → (f : Fork) × (map.get s.forks j.top ≡ Some f) × (f.slot ≡ 1) × (f.superior ≡ None)
+  pub own_tops : (t : ℕ) (j : PlainJob) → map.get s.jobs t ≡ Some j → j.top.tty.0 ≡ t

@@ -1,8 +1,10 @@
-//! Laws of the plain machine: what its definitions say of pages, of forks and of runs, in the words of those who use
-//! them, and two scripts computed. To the layers above they are facts to cite; nothing that runs stands on them.
-//! Stands on `plain_model`, on `fork_tree` for the law of trees, and on the definitions below it.
+//! Laws of the plain machine: what its definitions say of pages, of forks, of what users type and of runs, in the words of
+//! those who use them, and two scripts computed. To the layers above they are facts to cite; nothing that runs stands on them.
+//! Stands on `plain_model`, on `fork_tree` for the law of trees, on `ka10_bytes` for bytes of words, and on the definitions below it.
 #![tactic(auto)]
 
+mod byte_laws;
+mod command_laws;
 mod entries;
 mod example;
 mod file_laws;
@@ -10,7 +12,16 @@ mod fork_laws;
 mod jfn_laws;
 mod laws;
 mod mapped_laws;
+mod string_laws;
+mod type_laws;
 
+pub use byte_laws::{
+    bytes_are_read, bytes_are_read_back, bytes_are_written, characters_come_in_their_order,
+    files_reach_the_furthest_byte, positions_are_set_and_told,
+};
+pub use command_laws::{
+    files_in_use_are_not_deleted, nothing_is_left_of_who_logs_out, programs_are_run_from_files,
+};
 pub use entries::{entries_fit, runs_are_whole};
 pub use example::{empty_script, first_script};
 pub use file_laws::{files_are_made_once, pages_are_shown, words_are_put};
@@ -31,3 +42,9 @@ pub use mapped_laws::{
     copies_leave_the_file, mapping_and_unmapping_take_no_room, pages_of_files_are_mapped_and_put,
     pages_put_and_mapped_are_the_same, written_words_are_the_files,
 };
+pub use string_laws::{
+    strings_are_printed, strings_are_read_by_their_pointers, strings_are_taken,
+    strings_are_written, strings_come_back_whole, strings_end_by_their_counts,
+    written_strings_are_taken_back,
+};
+pub use type_laws::{control_c_always_comes_through, typed_characters_are_stored_in_their_order};
