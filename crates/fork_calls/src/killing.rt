@@ -38,8 +38,8 @@ fn ask_map<P: Pages>(name: ForkName, pages: &P) -> Result<(), Need>
     }
 }
 
-// Asks for the maps of a fork and of all below it.
-fn ask_maps<P: Pages>(name: ForkName, tree: &Tree, pages: &P) -> Result<(), Need>
+/// Asks for the maps of a fork and of all below it. Err: one of them is in no frame.
+pub fn ask_maps<P: Pages>(name: ForkName, tree: &Tree, pages: &P) -> Result<(), Need>
     requires lives { IsSome (map.get tree.now.forks name) }
     requires holds { Holds P.means pages.now tree.now.forks }
     ensures there { IsOk result → AreMapsHere (P.means.scene pages.now) tree.now.forks name }
@@ -59,8 +59,9 @@ fn ask_maps<P: Pages>(name: ForkName, tree: &Tree, pages: &P) -> Result<(), Need
     Ok(())
 }
 
-// Kills all below a fork: each time the one that has none below itself and the highest slot, with its map.
-fn kill_below<P: Pages>(who: ForkName, tree: &mut Tree, pages: &mut P)
+/// Kills all below a fork, whose maps and its own are in frames: each time the one that has none below itself and the highest
+/// slot, with its map. Nobody is told.
+pub fn kill_below<P: Pages>(who: ForkName, tree: &mut Tree, pages: &mut P)
     requires holds { Holds P.means pages.old tree.old.forks }
     requires maps { AreMapsHere (P.means.scene pages.old) tree.old.forks who }
     ensures told { (d : DrumWords) → P.means.fits pages.old d
@@ -84,8 +85,8 @@ fn kill_below<P: Pages>(who: ForkName, tree: &mut Tree, pages: &mut P)
     tree.are_trees();
 }
 
-// Kills a fork that has none below itself, with its map.
-fn kill_bare<P: Pages>(name: ForkName, tree: &mut Tree, pages: &mut P)
+/// Kills a fork that has none below itself, with its map, which is in a frame. Nobody is told.
+pub fn kill_bare<P: Pages>(name: ForkName, tree: &mut Tree, pages: &mut P)
     requires lives { IsSome (map.get tree.old.forks name) }
     requires bare { HasNoInferior tree.old.forks name }
     requires holds { Holds P.means pages.old tree.old.forks }

@@ -16,6 +16,7 @@ mod table;
 mod turn;
 mod words;
 
+pub use killing::{ask_maps, kill_bare, kill_below};
 pub use naming::own_named;
 pub use table::is_fork_call;
 pub use turn::call;

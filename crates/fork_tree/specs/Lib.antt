@@ -5,3 +5,4 @@ pub mod Changes
 pub mod Turns
 pub mod Places
 pub mod Lending
+pub mod Waking

@@ -78,6 +78,15 @@ impl Line {
         }
     }
 
+    /// The oldest character that is stored, below 128, which stays. None exactly where none is stored.
+    pub fn oldest(&self) -> Option<u8>
+        ensures oldest { result ≡ slice_get self.now.input 0 }
+        ensures small { IfSome result (λ code. code < 128) }
+        ensures line { IsLine self.now }
+    {
+        self.input.front().copied()
+    }
+
     /// The oldest character that is stored, below 128, which is stored no more. None exactly where none
     /// is.
     pub fn take(&mut self) -> Option<u8>

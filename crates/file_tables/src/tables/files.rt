@@ -1,17 +1,17 @@
 // The files by name and by number.
-ghost use Rattle.std.specs.Prelude.{◌≡◌, ◌≤◌, ◌<◌, ◌↔◌, IsSome, IsTrue, MatchOption, None, Some};
+ghost use Rattle.std.specs.Prelude.{◌≡◌, ◌≤◌, ◌<◌, ◌↔◌, ℕ, IfSome, IsSome, IsTrue, MatchOption, None, Some};
 ghost use Rattle.std.specs.Option.{IsSomeAnd, option_map};
 ghost use Rattle.std.specs.FinMap as map;
 ghost use Rattle.machine_names.specs.Bounds.{IsFileName};
 ghost use Rattle.plain_files.specs.Bytes.{IsByteSize, most_bytes};
 ghost use Rattle.machine_names.specs.declared.names.TheConstants.{MOST_FILES as MOST};
-ghost use Rattle.plain_files.specs.Directory.{Creates};
+ghost use Rattle.plain_files.specs.Directory.{ComesAfter, Creates, IsNext};
 ghost use Rattle.plain_files.specs.NamedFiles.{name_of, number_of};
 ghost use Rattle.plain_files.specs.Sizes.{FitsFile, new_file};
 ghost use Rattle.file_tables.specs.Tables.{IsThere, OpenStay, file_of, files_of, times_of};
 
 use crate::FileTables;
-use machine_names::{FileName, FileNo};
+use machine_names::{DirName, FileName, FileNo};
 use plain_files::LARGEST_BYTE;
 
 impl FileTables {
@@ -33,6 +33,18 @@ impl FileTables {
         ensures number { number_of self.now.dir result ≡ Some f.0 }
     {
         self.dir.name_of(f)
+    }
+
+    /// The first file of a directory whose full name comes after that of another file, which is
+    /// there, or the first of all where none is given; byte by byte. None exactly where there is
+    /// none. Its place is found by halves.
+    pub fn list(&self, user: &DirName, after: Option<FileNo>) -> Option<FileNo>
+        requires { IfSome after (λ f. IsThere self.now f.0) }
+        ensures next { MatchOption result ((f : ℕ) → ComesAfter self.now.dir user.now after f → ⊥)
+            (λ f. IsNext self.now.dir user.now after f.0) }
+        ensures there { IfSome result (λ f. IsThere self.now f.0) }
+    {
+        self.dir.list(user, after)
     }
 
     /// Whether there may be one more file: below 512.

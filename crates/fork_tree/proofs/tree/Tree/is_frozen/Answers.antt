@@ -1,4 +1,4 @@
-use Rattle.std.proofs.Common.{◌≡◌, ◌∙◌, ◌-◌, ◌+◌, ◌||◌, sym, ap, arith, Some}
+use Rattle.std.proofs.Common.{◌≡◌, ◌∙◌, ◌-◌, ◌+◌, ◌||◌, sym, ap, arith}
 use Rattle.std.specs.Option.{option_copied}
 use Rattle.plain_model.specs.Forks.{superior_of, any_upward}
 use Rattle.plain_model.specs.declared.fork.Fork.{Fork}

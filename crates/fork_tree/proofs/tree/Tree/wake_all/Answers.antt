@@ -1,10 +1,10 @@
 use Rattle.std.proofs.Common.{◌≡◌, ◌-◌, ◌+◌, suc, ◌∙◌, sym, ap, refl, arith}
 use Rattle.std.specs.List.{range_with_len}
-use Rattle.plain_model.specs.Trees.{PlainTree, waiters_woken, woken_in}
-use Rattle.fork_tree.proofs.tree.Tree.wake_waiters.Goals as goal
+use Rattle.plain_model.specs.Trees.{PlainTree, changed_in}
+use Rattle.fork_tree.specs.Waking.{freed_of}
+use Rattle.fork_tree.proofs.tree.Tree.wake_all.Goals as goal
 
 pub loop-slot-init : goal.loop-slot-init
-unfolding waiters_woken
 loop-slot-init c = record { forks = refl; serials = refl }
 
 pub loop-slot-preserved : goal.loop-slot-preserved
@@ -12,11 +12,12 @@ loop-slot-preserved c =
     let old = c.loop-slot.self in
     let t = c.args.tty in
     let slot = c.loop-slot.slot in
+    let change = freed_of c.args.awaited in
     let step : 31 - slot ≡ suc (31 - (slot + 1)) = omega arith in
     record {
       forks =
-          ap (λ (x : PlainTree). woken_in x.forks t (range_with_len (slot + 1) (31 - (slot + 1)))) c.wake.ensures
-          ∙ sym (ap (λ n. woken_in old.forks t (range_with_len slot n)) step)
+          ap (λ (x : PlainTree). changed_in change x.forks t (range_with_len (slot + 1) (31 - (slot + 1)))) c.wake.ensures
+          ∙ sym (ap (λ n. changed_in change old.forks t (range_with_len slot n)) step)
           ∙ c.loop-slot.invariant.forks;
       serials = ap (λ (x : PlainTree). x.serials) c.wake.ensures ∙ c.loop-slot.invariant.serials;
     }
@@ -24,7 +25,9 @@ loop-slot-preserved c =
 pub returns : goal.returns
 returns c =
     let last = c.loop-slot.self in
+    let t = c.args.tty in
+    let change = freed_of c.args.awaited in
     let over : 31 - c.loop-slot.slot ≡ 0 = omega arith in
-    let all : last.forks ≡ waiters_woken c.args.self.now.forks c.args.tty =
-    sym (ap (λ n. woken_in last.forks c.args.tty (range_with_len c.loop-slot.slot n)) over) ∙ c.loop-slot.invariant.forks in
+    let all : last.forks ≡ changed_in change c.args.self.now.forks t (range_with_len 1 30) =
+    sym (ap (λ n. changed_in change last.forks t (range_with_len c.loop-slot.slot n)) over) ∙ c.loop-slot.invariant.forks in
     λ i. record { forks = all i; serials = c.loop-slot.invariant.serials i }
