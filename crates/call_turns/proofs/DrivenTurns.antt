@@ -10,7 +10,7 @@ use Rattle.page_contracts.specs.declared.answers.Need.{Need}
 use Rattle.plain_pages.specs.PlainPages.{NumberedPages}
 use Rattle.plain_pages.specs.References.{Spot, in_map, in_file, Referred, granted, denied, full, reference, page_at}
 use Rattle.page_contracts.specs.Pages.{Scene, frames_taken, touch_of}
-use Rattle.plain_model.specs.Calls.{Turn, Came, Sight, turn_on, if_granted, ends}
+use Rattle.plain_model.specs.Calls.{Turn, Came, Sight, turn_on, granted_or, ends}
 use Rattle.machine_names.specs.declared.names.ForkName.{ForkName}
 use Rattle.machine_names.specs.declared.names.Tty.{Tty}
 use Rattle.machine_names.specs.declared.names.Slot.{Slot}
@@ -21,14 +21,16 @@ use Rattle.machine_names.specs.Orders.{FilePage, file_page}
 use Rattle.plain_units.specs.declared.registers.Regs.{Regs}
 use Rattle.plain_units.specs.Steps.{Steps, Ending}
 use Rattle.call_turns.specs.declared.turn.Ask.{Ask}
-use Rattle.call_turns.specs.declared.turn.Ask.TheVariants.{Sees, Finds, FindsFile}
+use Rattle.call_turns.specs.declared.turn.Ask.TheVariants.{Sees, Finds, FindsFile, ReadsFile}
 use Rattle.call_turns.specs.declared.turn.Told.{Told}
 use Rattle.call_turns.specs.declared.turn.Grant.TheVariants.{Nothing}
 use Rattle.call_turns.specs.declared.turn.Outcome.{Outcome}
+use Rattle.call_turns.specs.declared.turn.WhenFull.{WhenFull}
+use Rattle.call_turns.specs.declared.turn.WhenFull.TheVariants as full_as
 use Rattle.call_turns.specs.declared.turn.Turn.{Turn as Step}
 use Rattle.call_turns.specs.declared.turn.Turn.TheVariants.{Ends, Asks, Reads, Fills}
-use Rattle.call_turns.specs.Turns.{asking, filling, reading, touching, turn_of}
-use Rattle.call_turns.specs.Telling.{told, told_of, ask_need, entry_need, way_need, looks_need, touch_need}
+use Rattle.call_turns.specs.Turns.{asking, filling, full_end, reading, touching, turn_of}
+use Rattle.call_turns.specs.Telling.{told, told_of, ask_need, entry_need, way_need, looks_need, page_need, touch_need}
 use Rattle.call_turns.specs.Numbers.{by_number}
 use Rattle.call_turns.specs.Needing.{DrivenTo, FirstNeeds, Matches, OneTouchNeeds, ReferredLater, TurnNeeds}
 use Rattle.call_turns.proofs.Looks.{told_is, needed_is}
@@ -50,12 +52,14 @@ module _ {F C S : Type 0} (later : S → Told → Step C S) (seen : Sight F ℕ)
   asked_need (Sees s) next = refl
   asked_need (Finds s) next = refl
   asked_need (FindsFile f page) next = refl
+  asked_need (ReadsFile f page offset) next = refl
 
   asked_on : (what : Ask) (next : Told → Turn ℕ C) → turn_on sight p (asking what next) ≡ turn_on sight p (next (told_of p what))
   unfolding turn_on
   asked_on (Sees s) next = refl
   asked_on (Finds s) next = refl
   asked_on (FindsFile f page) next = refl
+  asked_on (ReadsFile f page offset) next = refl
 
   -- a turn that is known
   abbrev Known : Step C S → ℕ → Step C S → Result (Outcome C) Need → Type 0
@@ -79,10 +83,10 @@ module _ {F C S : Type 0} (later : S → Told → Step C S) (seen : Sight F ℕ)
       at zero = h
       at (suc n) = h
 
-  pub fills_last : (t : Step C S) (most : ℕ) (f : FileNo) (page : ℕ) (e : End C) (r : Result (Outcome C) Need) → t ≡ Fills f page e → Comes (filling owner (file_page f.0 page) e) r → Comes (whole t most) r
-  fills_last t most f page e r is h = known t (Fills f page e) most r is (at most)
+  pub fills_last : (t : Step C S) (most : ℕ) (f : FileNo) (page : ℕ) (e : End C) (when : WhenFull) (r : Result (Outcome C) Need) → t ≡ Fills f page e when → Comes (filling owner (file_page f.0 page) e when) r → Comes (whole t most) r
+  fills_last t most f page e when r is h = known t (Fills f page e when) most r is (at most)
     where
-      at : (n : ℕ) → Comes (whole (Fills f page e) n) r
+      at : (n : ℕ) → Comes (whole (Fills f page e when) n) r
       at zero = h
       at (suc n) = h
 
@@ -134,35 +138,41 @@ module _ {F C S : Type 0} (later : S → Told → Step C S) (seen : Sight F ℕ)
         by None h = rest h
         by (Some m) h = h
     look_needs (FindsFile f page) next n rest h = rest h
+    look_needs (ReadsFile f page offset) next n rest h = by (page_need scene p (in_file (file_page f.0 page))) h
+      where
+        by : (o : Option Need) → FirstNeeds (option_or o (looks_need sight scene p (next (told_of p (ReadsFile f page offset))))) (EndNeeds scene p (turn_on sight p (next (told_of p (ReadsFile f page offset)))).end n) n
+            → FirstNeeds o (Needs (next (told_of p (ReadsFile f page offset))) n) n
+        by None h = rest h
+        by (Some m) h = h
 
     -- a reference that leaves the maps
-    module _ (at : Spot ℕ) (k : Kind) (e : End C) (refers : RefersTo seen scene p owner e at k) (keeps : (q : NumberedPages) → reference p at k owner ≡ granted q → q.maps ≡ p.maps) (n : Need) where
+    module _ (at : Spot ℕ) (k : Kind) (e : End C) (when : WhenFull) (refers : RefersTo seen scene p owner e when at k) (keeps : (q : NumberedPages) → reference p at k owner ≡ granted q → q.maps ≡ p.maps) (n : Need) where
       abbrev taken : ℕ
       taken = frames_taken (touch_of p scene at k owner)
 
       abbrev Later : Referred nat_cmp → Type 0
-      Later r = ReferredLater scene p taken r (λ after q what. EndNeeds after q (if_granted e what) n)
+      Later r = ReferredLater scene p taken r (λ after q what. EndNeeds after q (granted_or e (full_end when) what) n)
 
-      later_needs : (r : Referred nat_cmp) → reference p at k owner ≡ r → EndNeeds scene p (turn_on sight p (touching owner at k e)).end n → Later r
+      later_needs : (r : Referred nat_cmp) → reference p at k owner ≡ r → EndNeeds scene p (turn_on sight p (touching owner at k e when)).end n → Later r
       unfolding turn_on
       later_needs (granted q) is h =
           let after : Scene = record scene { free_frames = scene.free_frames - taken } in
-          let same : (turn_on sight p (touching owner at k e)).end ≡ e = ap (λ (c : Came nat_cmp C). c.end) (came_granted seen scene p owner e at k refers q is) in
+          let same : (turn_on sight p (touching owner at k e when)).end ≡ e = ap (λ (c : Came nat_cmp C). c.end) (came_granted seen scene p owner e when at k refers q is) in
           (after, taken_scene scene taken (frames_free p scene at k owner), stays after q e n refl (keeps q is) (subst (λ x. EndNeeds scene p x n) same h))
-      later_needs (denied j) is h = subst (λ x. EndNeeds scene p x n) (ap (λ (c : Came nat_cmp C). c.end) (came_denied seen scene p owner e at k refers j is)) h
-      later_needs full is h = subst (λ x. EndNeeds scene p x n) (ap (λ (c : Came nat_cmp C). c.end) (came_full seen scene p owner e at k refers is)) h
+      later_needs (denied j) is h = subst (λ x. EndNeeds scene p x n) (ap (λ (c : Came nat_cmp C). c.end) (came_denied seen scene p owner e when at k refers j is)) h
+      later_needs full is h = subst (λ x. EndNeeds scene p x n) (ap (λ (c : Came nat_cmp C). c.end) (came_full seen scene p owner e when at k refers is)) h
 
-      touch_needs : FirstNeeds (touch_need scene p at k owner) (EndNeeds scene p (turn_on sight p (touching owner at k e)).end n) n
-          → OneTouchNeeds scene p owner at k (λ after q what. EndNeeds after q (if_granted e what) n) n
+      touch_needs : FirstNeeds (touch_need scene p at k owner) (EndNeeds scene p (turn_on sight p (touching owner at k e when)).end n) n
+          → OneTouchNeeds scene p owner at k (λ after q what. EndNeeds after q (granted_or e (full_end when) what) n) n
       touch_needs h = by (touch_need scene p at k owner) h
         where
-          by : (o : Option Need) → FirstNeeds o (EndNeeds scene p (turn_on sight p (touching owner at k e)).end n) n → FirstNeeds o (Later (reference p at k owner)) n
+          by : (o : Option Need) → FirstNeeds o (EndNeeds scene p (turn_on sight p (touching owner at k e when)).end n) n → FirstNeeds o (Later (reference p at k owner)) n
           by None h = later_needs (reference p at k owner) refl h
           by (Some m) h = h
 
-    fill_needs : (f : FilePage ℕ) (e : End C) (n : Need) → Looked (filling owner f e) n → Needs (filling owner f e) n
+    fill_needs : (f : FilePage ℕ) (e : End C) (when : WhenFull) (n : Need) → Looked (filling owner f e when) n → Needs (filling owner f e when) n
     unfolding looks_need
-    fill_needs f e n h = touch_needs (in_file f) kind.Write e (refers_in seen scene p owner e f kind.Write) (λ q g. (filled_is p owner f q g).1) n h
+    fill_needs f e when n h = touch_needs (in_file f) kind.Write e when (refers_in seen scene p owner e when f kind.Write) (λ q g. (filled_is p owner f q g).1) n h
 
     read_keeps : (s : Slot) → is_some (page_at p (in_map s)) ≡ true → (q : NumberedPages) → reference p (in_map s) kind.Read owner ≡ granted q → q.maps ≡ p.maps
     read_keeps s there q g = elim (read_is p owner s there) [
@@ -171,14 +181,14 @@ module _ {F C S : Type 0} (later : S → Told → Step C S) (seen : Sight F ℕ)
     ]
 
     abbrev behind : Slot → End C → Bool → Turn ℕ C
-    behind s e b = cond b (touching owner (in_map s) kind.Read e) (ends (Refused NO_PAGE))
+    behind s e b = cond b (touching owner (in_map s) kind.Read e full_as.Refused) (ends (Refused NO_PAGE))
 
     read_needs : (s : Slot) (e : End C) (n : Need) → Looked (reading owner s e) n → Needs (reading owner s e) n
     unfolding turn_on looks_need
     read_needs s e n h = by (way_need 4 scene p s) h
       where
         rest : (b : Bool) → is_some (page_at p (in_map s)) ≡ b → Looked (behind s e b) n → Needs (behind s e b) n
-        rest true is h = touch_needs (in_map s) kind.Read e (refers_to seen scene p owner e s kind.Read) (read_keeps s is) n h
+        rest true is h = touch_needs (in_map s) kind.Read e full_as.Refused (refers_to seen scene p owner e full_as.Refused s kind.Read) (read_keeps s is) n h
         rest false is h = h
 
         by : (o : Option Need) → FirstNeeds (option_or o (looks_need sight scene p (behind s e (is_some (page_at p (in_map s)))))) (EndNeeds scene p (turn_on sight p (behind s e (is_some (page_at p (in_map s))))).end n) n
@@ -192,7 +202,7 @@ module _ {F C S : Type 0} (later : S → Told → Step C S) (seen : Sight F ℕ)
     turn_needs (Ends e) (suc m) n h = h
     turn_needs (Reads s e) zero n h = read_needs s e n h
     turn_needs (Reads s e) (suc m) n h = read_needs s e n h
-    turn_needs (Fills f page e) zero n h = fill_needs (file_page f.0 page) e n h
-    turn_needs (Fills f page e) (suc m) n h = fill_needs (file_page f.0 page) e n h
+    turn_needs (Fills f page e when) zero n h = fill_needs (file_page f.0 page) e when n h
+    turn_needs (Fills f page e when) (suc m) n h = fill_needs (file_page f.0 page) e when n h
     turn_needs (Asks what rest) zero n h = h
     turn_needs (Asks what rest) (suc m) n h = look_needs what (λ r. whole (later rest r) m) n (λ l. turn_needs (later rest (told_of p what)) m n l) h

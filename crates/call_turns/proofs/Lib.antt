@@ -1,4 +1,5 @@
 pub mod Looks
+pub mod Peeks
 pub mod Touches
 pub mod DrivenTurns
 pub mod Numbered

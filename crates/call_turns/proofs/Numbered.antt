@@ -21,7 +21,7 @@ use Rattle.plain_model.specs.declared.call.Touched.TheVariants.{Granted, Denied,
 use Rattle.plain_model.specs.Calls.{Turn, sees, finds, reads, touches, takes, adds, looks, makes, ends, Sight, entry_of, spot_of, stepped, touched, with_added, turn_on}
 use Rattle.call_turns.specs.Numbers.{by_number, numbered_spot, numbered_turn}
 use Rattle.call_turns.specs.Needing.{FirstNeeds, NeedsFrame, SpotNeeds, TurnNeeds}
-use Rattle.call_turns.specs.Telling.{entry_need, find_need}
+use Rattle.call_turns.specs.Telling.{entry_need, find_need, word_need}
 
 module _ {F : Type 0} (seen : Sight F ℕ) (number : F → ℕ) (all : (f : F) → seen.file_of f ≡ Some (number f)) where
   -- a spot is the same
@@ -79,7 +79,9 @@ module _ {F C : Type 0} (seen : Sight F ℕ) (number : F → ℕ) (all : (f : F)
     needs_same (finds at next) scene p n =
         ap (λ s. FirstNeeds (find_need scene p s) (By scene p (next (option_and_then (page_at p) s)) n) n) (spot_same seen number all at)
         ∙ ap (λ later. FirstNeeds (find_need scene p (spot_of seen at)) later n) (needs_same (next (option_and_then (page_at p) (spot_of seen at))) scene p n)
-    needs_same (reads f offset next) scene p n = refl
+    needs_same (reads f offset next) scene p n =
+        ap (λ s. FirstNeeds (word_need scene p s) (By scene p (next (option_map_or (λ at. word_at p at offset) s 0)) n) n) (spot_same seen number all (in_file f))
+        ∙ ap (λ later. FirstNeeds (word_need scene p (spot_of seen (in_file f))) later n) (needs_same (next (option_map_or (λ at. word_at p at offset) (spot_of seen (in_file f)) 0)) scene p n)
     needs_same (touches owner at kind next) scene p n =
         ap (λ s. SpotNeeds (by_number seen) StepsNeed TouchNeeds EndNeeds scene p owner s kind (λ after q what. By after q (next what) n) n) (spot_same seen number all at)
         ∙ ap (λ (later : Scene → NumberedPages → Touched → Type 0). SpotNeeds seen StepsNeed TouchNeeds EndNeeds scene p owner (spot_of seen at) kind later n)

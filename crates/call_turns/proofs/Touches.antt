@@ -23,15 +23,17 @@ use Rattle.plain_pages.specs.References.{Spot, in_map, in_file, Making, blank, c
 use Rattle.plain_pages.proofs.ReferencesMade.{reference_denied, reference_makes, reference_stays, settled_makes, settled_stays, make_first, roomy}
 use Rattle.plain_model.specs.declared.call.End.{End}
 use Rattle.plain_model.specs.declared.call.End.TheVariants.{Refused}
-use Rattle.plain_model.specs.declared.call.TheConstants.{NO_PAGE, NO_ROOM}
-use Rattle.plain_model.specs.Calls.{Turn, Came, Sight, touched, turn_on, if_granted, ends}
+use Rattle.plain_model.specs.declared.call.TheConstants.{NO_PAGE}
+use Rattle.plain_model.specs.Calls.{Turn, Came, Sight, touched, turn_on, granted_or, ends}
 use Rattle.call_turns.specs.declared.turn.Grant.TheVariants.{Fill}
 use Rattle.call_turns.specs.declared.turn.Outcome.{Outcome}
+use Rattle.call_turns.specs.declared.turn.WhenFull.{WhenFull}
+use Rattle.call_turns.specs.declared.turn.WhenFull.TheVariants as full_as
 use Rattle.call_turns.specs.Granting.{filled_by, read_by, refused}
 use Rattle.call_turns.specs.Needing.{DrivenTo, Matches}
 use Rattle.call_turns.specs.Numbers.{by_number}
 use Rattle.call_turns.specs.Telling.{looks_need, need_in, told, way_need}
-use Rattle.call_turns.specs.Turns.{filling, reading, touching}
+use Rattle.call_turns.specs.Turns.{filling, full_end, reading, touching}
 use Rattle.call_turns.proofs.Looks.{told_is, needed_is}
 
 module _ (p : NumberedPages) (owner : Tty) where
@@ -96,19 +98,19 @@ module _ (p : NumberedPages) (owner : Tty) where
     ]
 
 -- how a turn comes out whose last step refers to a page
-module _ {F C : Type 0} (seen : Sight F ℕ) (scene : Scene) (p : NumberedPages) (owner : Tty) (e : End C) where
+module _ {F C : Type 0} (seen : Sight F ℕ) (scene : Scene) (p : NumberedPages) (owner : Tty) (e : End C) (when : WhenFull) where
   abbrev pub sight : Sight ℕ ℕ
   sight = by_number seen
 
   abbrev pub On : Spot ℕ → Kind → Came nat_cmp C
-  On at k = turn_on sight p (touching owner at k e)
+  On at k = turn_on sight p (touching owner at k e when)
 
   abbrev Comes : Turn ℕ C → Result (Outcome C) Need → Type 0
   Comes t r = DrivenTo sight scene p owner t r
 
   module _ (at : Spot ℕ) (k : Kind) where
     abbrev pub goes : Referred nat_cmp → Came nat_cmp C
-    goes r = touched p r (λ q what. turn_on sight q (ends (if_granted e what)))
+    goes r = touched p r (λ q what. turn_on sight q (ends (granted_or e (full_end when) what)))
 
     abbrev pub RefersTo : Type 0
     RefersTo = On at k ≡ goes (reference p at k owner)
@@ -122,7 +124,7 @@ module _ {F C : Type 0} (seen : Sight F ℕ) (scene : Scene) (p : NumberedPages)
       unfolding turn_on
       came_denied j h = refers ∙ ap goes h
 
-      pub came_full : reference p at k owner ≡ full → On at k ≡ record { end = Refused NO_ROOM; pages = p }
+      pub came_full : reference p at k owner ≡ full → On at k ≡ record { end = full_end when; pages = p }
       unfolding turn_on
       came_full h = refers ∙ ap goes h
 
@@ -139,11 +141,11 @@ module _ {F C : Type 0} (seen : Sight F ℕ) (scene : Scene) (p : NumberedPages)
     abbrev Read_as : Touch → Type 0
     Read_as t = t ≡ touch_of p scene (in_map s) kind.Read owner
 
-    needs_is : (t : Touch) → Read_as t → looks_need sight scene p (touching owner (in_map s) kind.Read e) ≡ need_in t
+    needs_is : (t : Touch) → Read_as t → looks_need sight scene p (touching owner (in_map s) kind.Read e when) ≡ need_in t
     unfolding looks_need
     needs_is t h = ap need_in (sym h)
 
-    pub read_matches : (t : Touch) → Read_as t → Comes (touching owner (in_map s) kind.Read e) (read_by t s e)
+    pub read_matches : (t : Touch) → Read_as t → Comes (touching owner (in_map s) kind.Read e when) (read_by t s e)
     read_matches Ready h = (needs_is Ready h, came_granted (in_map s) kind.Read (refers_to s kind.Read) p (reference_stays p owner (in_map s) kind.Read (ready_touch p scene owner (in_map s) kind.Read (sym h))))
     read_matches Zero h = let z = zero_touch p scene owner (in_map s) kind.Read (sym h) in absurd (read_first p owner s there (blank z.1.0) z.1.1 z.1.2)
     read_matches (Copy sole) h = let z = copy_touch p scene owner (in_map s) kind.Read sole (sym h) in absurd (read_first p owner s there (copy z.1.0 z.1.1) z.1.2 z.1.3)
@@ -160,14 +162,14 @@ module _ {F C : Type 0} (seen : Sight F ℕ) (scene : Scene) (p : NumberedPages)
     abbrev Filled_as : Touch → Type 0
     Filled_as t = t ≡ touch_of p scene (in_file f) kind.Write owner
 
-    fills_need : (t : Touch) → Filled_as t → looks_need sight scene p (filling owner f e) ≡ need_in t
+    fills_need : (t : Touch) → Filled_as t → looks_need sight scene p (filling owner f e when) ≡ need_in t
     unfolding looks_need
     fills_need t h = ap need_in (sym h)
 
     fills : (q : NumberedPages) → reference p (in_file f) kind.Write owner ≡ granted q → On (in_file f) kind.Write ≡ record { end = e; pages = settled p (in_file f) kind.Write owner }
     fills q h = came_granted (in_file f) kind.Write (refers_in f kind.Write) q h ∙ ap (λ (x : NumberedPages). record { end = e; pages = x }) (sym (filled_is p owner f q h).0)
 
-    pub filled_matches : (t : Touch) → Filled_as t → Comes (filling owner f e) (filled_by t (Fill file page) e)
+    pub filled_matches : (t : Touch) → Filled_as t → Comes (filling owner f e when) (filled_by t (Fill file page) e when)
     filled_matches Ready h = (fills_need Ready h, fills p (reference_stays p owner (in_file f) kind.Write (ready_touch p scene owner (in_file f) kind.Write (sym h))))
     filled_matches Zero h = let z = zero_touch p scene owner (in_file f) kind.Write (sym h) in (fills_need Zero h, fills z.0.0 z.0.1)
     filled_matches (Copy sole) h = let z = copy_touch p scene owner (in_file f) kind.Write sole (sym h) in (fills_need (Copy sole) h, fills z.0.0 z.0.1)
@@ -176,36 +178,43 @@ module _ {F C : Type 0} (seen : Sight F ℕ) (scene : Scene) (p : NumberedPages)
     filled_matches (Denied k) h = let d = denied_touch p scene owner (in_file f) kind.Write k (sym h) in (fills_need (Denied k) h, came_denied (in_file f) kind.Write (refers_in f kind.Write) d.0 d.1)
     filled_matches Full h = (fills_need Full h, came_full (in_file f) kind.Write (refers_in f kind.Write) (full_touch p scene owner (in_file f) kind.Write (sym h)))
 
-  -- a turn that reads the page at the end of a chain looks for that first
+-- a turn that reads the page at the end of a chain looks for that first
+module _ {F C : Type 0} (seen : Sight F ℕ) (scene : Scene) (p : NumberedPages) (owner : Tty) (e : End C) where
+  abbrev view : Sight ℕ ℕ
+  view = by_number seen
+
+  abbrev ReadsSo : Turn ℕ C → Result (Outcome C) Need → Type 0
+  ReadsSo t r = DrivenTo view scene p owner t r
+
   module _ (s : Slot) where
     abbrev behind : Bool → Turn ℕ C
-    behind there = cond there (touching owner (in_map s) kind.Read e) (ends (Refused NO_PAGE))
+    behind there = cond there (touching owner (in_map s) kind.Read e full_as.Refused) (ends (Refused NO_PAGE))
 
-    reads_need : looks_need sight scene p (reading owner s e) ≡ option_or (way_need 4 scene p s) (looks_need sight scene p (behind (is_some (page_at p (in_map s)))))
+    reads_need : looks_need view scene p (reading owner s e) ≡ option_or (way_need 4 scene p s) (looks_need view scene p (behind (is_some (page_at p (in_map s)))))
     unfolding looks_need
     reads_need = refl
 
-    reads_on : turn_on sight p (reading owner s e) ≡ turn_on sight p (behind (is_some (page_at p (in_map s))))
+    reads_on : turn_on view p (reading owner s e) ≡ turn_on view p (behind (is_some (page_at p (in_map s))))
     unfolding turn_on
     reads_on = refl
 
-    found : (n : Option PageName) → Ok n ≡ told (way_need 4 scene p s) (page_at p (in_map s)) → (r : Result (Outcome C) Need) → Comes (behind (is_some n)) r → Comes (reading owner s e) r
+    found : (n : Option PageName) → Ok n ≡ told (way_need 4 scene p s) (page_at p (in_map s)) → (r : Result (Outcome C) Need) → ReadsSo (behind (is_some n)) r → ReadsSo (reading owner s e) r
     found n is r h =
         let t = told_is (way_need 4 scene p s) (page_at p (in_map s)) n is in
         let same : is_some (page_at p (in_map s)) ≡ is_some n = ap is_some (sym t.1) in
-        let needs = reads_need ∙ ap (λ o. option_or o (looks_need sight scene p (behind (is_some (page_at p (in_map s)))))) t.0 ∙ ap (λ b. looks_need sight scene p (behind b)) same in
-        subst (λ x. Matches p owner r (looks_need sight scene p (reading owner s e)) x) (sym (reads_on ∙ ap (λ b. turn_on sight p (behind b)) same))
-        (subst (λ x. Matches p owner r x (turn_on sight p (behind (is_some n)))) (sym needs) h)
+        let needs = reads_need ∙ ap (λ o. option_or o (looks_need view scene p (behind (is_some (page_at p (in_map s)))))) t.0 ∙ ap (λ b. looks_need view scene p (behind b)) same in
+        subst (λ x. Matches p owner r (looks_need view scene p (reading owner s e)) x) (sym (reads_on ∙ ap (λ b. turn_on view p (behind b)) same))
+        (subst (λ x. Matches p owner r x (turn_on view p (behind (is_some n)))) (sym needs) h)
 
-    pub reads_there : (n : PageName) → Ok (Some n) ≡ told (way_need 4 scene p s) (page_at p (in_map s)) → (r : Result (Outcome C) Need) → Comes (touching owner (in_map s) kind.Read e) r → Comes (reading owner s e) r
+    pub reads_there : (n : PageName) → Ok (Some n) ≡ told (way_need 4 scene p s) (page_at p (in_map s)) → (r : Result (Outcome C) Need) → ReadsSo (touching owner (in_map s) kind.Read e full_as.Refused) r → ReadsSo (reading owner s e) r
     reads_there n is r h = found (Some n) is r h
 
-    pub reads_none : Ok None ≡ told (way_need 4 scene p s) (page_at p (in_map s)) → Comes (reading owner s e) (Ok (refused NO_PAGE))
+    pub reads_none : Ok None ≡ told (way_need 4 scene p s) (page_at p (in_map s)) → ReadsSo (reading owner s e) (Ok (refused NO_PAGE))
     unfolding turn_on looks_need
     reads_none is = found None is (Ok (refused NO_PAGE)) (refl, refl)
 
-    pub reads_wait : (n : Need) → Err n ≡ told (way_need 4 scene p s) (page_at p (in_map s)) → Comes (reading owner s e) (Err n)
-    reads_wait n is = reads_need ∙ ap (λ o. option_or o (looks_need sight scene p (behind (is_some (page_at p (in_map s)))))) (needed_is (way_need 4 scene p s) (page_at p (in_map s)) n is)
+    pub reads_wait : (n : Need) → Err n ≡ told (way_need 4 scene p s) (page_at p (in_map s)) → ReadsSo (reading owner s e) (Err n)
+    reads_wait n is = reads_need ∙ ap (λ o. option_or o (looks_need view scene p (behind (is_some (page_at p (in_map s)))))) (needed_is (way_need 4 scene p s) (page_at p (in_map s)) n is)
 
     -- a page is there that was found
     pub is_there : (n : PageName) → Ok (Some n) ≡ told (way_need 4 scene p s) (page_at p (in_map s)) → (way_need 4 scene p s ≡ None) × (is_some (page_at p (in_map s)) ≡ true)

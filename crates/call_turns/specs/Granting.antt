@@ -15,10 +15,12 @@ use Rattle.plain_pages.specs.PlainPages.{NumberedPages}
 use Rattle.plain_pages.specs.References.{in_file, settled}
 use Rattle.plain_model.specs.declared.call.End.{End}
 use Rattle.plain_model.specs.declared.call.End.TheVariants.{Refused}
-use Rattle.plain_model.specs.declared.call.TheConstants.{NO_PAGE, NO_ROOM}
+use Rattle.plain_model.specs.declared.call.TheConstants.{NO_PAGE}
 use Rattle.call_turns.specs.declared.turn.Grant.{Grant}
 use Rattle.call_turns.specs.declared.turn.Grant.TheVariants.{Nothing, Read, Fill}
 use Rattle.call_turns.specs.declared.turn.Outcome.{Outcome}
+use Rattle.call_turns.specs.declared.turn.WhenFull.{WhenFull}
+use Rattle.call_turns.specs.Turns.{full_end}
 
 -- the pages of an owner with the page that was granted, which is made where it isn't there
 abbrev pub pages_granted : NumberedPages → Tty → Grant → NumberedPages
@@ -35,9 +37,9 @@ IsGranted means p (Fill f page) = IsFilePage f page × (can_settle (means.touche
 abbrev pub refused : {C : Type 0} → ℕ → Outcome C
 refused code = record { grant = Nothing; end = Refused code }
 
--- a turn ends so behind a grant, or is refused
-abbrev pub GrantsOr : {C : Type 0} → Grant → End C → Outcome C → Type 0
-GrantsOr g e o = (o ≡ record { grant = g; end = e }) ⊎ ((code : ℕ) × (o ≡ refused code))
+-- a turn ends so behind a grant, or is refused, or ends as it does where the drum is full
+abbrev pub GrantsOr : {C : Type 0} → Grant → End C → WhenFull → Outcome C → Type 0
+GrantsOr g e when o = (o ≡ record { grant = g; end = e }) ⊎ (((code : ℕ) × (o ≡ refused code)) ⊎ (o ≡ record { grant = Nothing; end = full_end when }))
 
 -- how a turn comes out by what a touch answers that is to read a page of a slot
 abbrev pub read_by : {C : Type 0} → Touch → Slot → End C → Result (Outcome C) Need
@@ -47,9 +49,9 @@ read_by NeedFrame s e = Err need.Frame
 read_by t s e = Ok (refused NO_PAGE)
 
 -- and by what one answers that is to write a page of a file, granted so
-abbrev pub filled_by : {C : Type 0} → Touch → Grant → End C → Result (Outcome C) Need
-filled_by (Absent home) g e = Err (need.Page home)
-filled_by NeedFrame g e = Err need.Frame
-filled_by (Denied k) g e = Ok (refused NO_PAGE)
-filled_by Full g e = Ok (refused NO_ROOM)
-filled_by t g e = Ok (record { grant = g; end = e })
+abbrev pub filled_by : {C : Type 0} → Touch → Grant → End C → WhenFull → Result (Outcome C) Need
+filled_by (Absent home) g e when = Err (need.Page home)
+filled_by NeedFrame g e when = Err need.Frame
+filled_by (Denied k) g e when = Ok (refused NO_PAGE)
+filled_by Full g e when = Ok (record { grant = Nothing; end = full_end when })
+filled_by t g e when = Ok (record { grant = g; end = e })

@@ -1,6 +1,6 @@
 -- WHAT A TURN NEEDS FIRST: of its steps in order the first that needs something says what.
 use Rattle.std.specs.Prelude.{◌≡◌, ◌⊎◌, ℕ, true, false, Option, None, Some, Result, Ok, Err}
-use Rattle.std.specs.Option.{option_and_then}
+use Rattle.std.specs.Option.{option_and_then, option_map_or}
 use Rattle.std.specs.Ordering.{nat_cmp}
 use Rattle.plain_model.specs.declared.call.End.{End}
 use Rattle.plain_model.specs.declared.call.Touched.{Touched}
@@ -13,7 +13,7 @@ use Rattle.machine_names.specs.declared.names.Tty.{Tty}
 use Rattle.machine_names.specs.declared.names.Kind.{Kind}
 use Rattle.plain_units.specs.declared.registers.Regs.{Regs}
 use Rattle.plain_pages.specs.PlainPages.{NumberedPages}
-use Rattle.plain_pages.specs.References.{Spot, Referred, granted, denied, full, page_at, reference}
+use Rattle.plain_pages.specs.References.{Spot, in_file, Referred, granted, denied, full, page_at, reference, word_at}
 use Rattle.plain_pages.specs.Room.{HasRoom}
 use Rattle.plain_pages.specs.NewMaps.{with_map}
 use Rattle.page_contracts.specs.Pages.{Scene, TakesFrames, TakesMap, frames_taken, touch_of}
@@ -21,7 +21,7 @@ use Rattle.plain_units.specs.Steps.{Steps, Ending}
 use Rattle.plain_model.specs.Calls.{Turn, sees, finds, reads, touches, takes, adds, looks, makes, ends, Sight, Came, entry_of, spot_of, turn_on}
 use Rattle.call_turns.specs.declared.turn.Outcome.{Outcome}
 use Rattle.call_turns.specs.Granting.{pages_granted}
-use Rattle.call_turns.specs.Telling.{entry_need, find_need, looks_need, touch_need}
+use Rattle.call_turns.specs.Telling.{entry_need, find_need, looks_need, touch_need, word_need}
 
 -- this is needed, and if nothing is, what comes later
 abbrev pub FirstNeeds : Option Need → Type 0 → Need → Type 0
@@ -59,7 +59,8 @@ module _ {F C : Type 0} (sight : Sight F ℕ)
   abbrev pub TurnNeeds : Scene → NumberedPages → Turn F C → Need → Type 0
   TurnNeeds scene p (sees s next) n = FirstNeeds (entry_need scene p s) (TurnNeeds scene p (next (entry_of p s)) n) n
   TurnNeeds scene p (finds at next) n = FirstNeeds (find_need scene p (spot_of sight at)) (TurnNeeds scene p (next (option_and_then (page_at p) (spot_of sight at))) n) n
-  TurnNeeds scene p (reads f offset next) n = ⊥
+  TurnNeeds scene p (reads f offset next) n =
+      FirstNeeds (word_need scene p (spot_of sight (in_file f))) (TurnNeeds scene p (next (option_map_or (λ at. word_at p at offset) (spot_of sight (in_file f)) 0)) n) n
   TurnNeeds scene p (touches owner at kind next) n = SpotNeeds scene p owner (spot_of sight at) kind (λ after q what. TurnNeeds after q (next what) n) n
   TurnNeeds scene p (takes f regs steps next) n = StepsNeed scene p f regs steps (λ after q e. TurnNeeds after q (next e) n) n
   TurnNeeds scene p (adds f entries next) n =

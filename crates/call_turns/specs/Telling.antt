@@ -1,6 +1,6 @@
 -- What a turn is told by pages of which some may be in no frame: what is so, or what it needs first.
 use Rattle.std.specs.Prelude.{ℕ, zero, suc, Option, None, Some, Result, Ok, Err}
-use Rattle.std.specs.Option.{option_map, option_or, option_and_then}
+use Rattle.std.specs.Option.{option_map, option_map_or, option_or, option_and_then}
 use Rattle.machine_names.specs.declared.names.PageName.{PageName}
 use Rattle.machine_names.specs.declared.names.Slot.{Slot}
 use Rattle.machine_names.specs.declared.names.Tty.{Tty}
@@ -14,13 +14,13 @@ use Rattle.page_contracts.specs.declared.answers.Need.{Need}
 use Rattle.page_contracts.specs.declared.answers.Need.TheVariants as need
 use Rattle.plain_pages.specs.PlainPages.{NumberedPages}
 use Rattle.plain_pages.specs.Maps.{Entries, chain_within, entry_at, followed}
-use Rattle.plain_pages.specs.References.{Spot, in_map, in_file, page_at}
-use Rattle.page_contracts.specs.Pages.{Scene, touch_of}
-use Rattle.plain_model.specs.Calls.{Turn, sees, finds, touches, looks, makes, Sight, spot_of, entry_of}
+use Rattle.plain_pages.specs.References.{Spot, in_map, in_file, page_at, word_at}
+use Rattle.page_contracts.specs.Pages.{Scene, page_away, touch_of}
+use Rattle.plain_model.specs.Calls.{Turn, sees, finds, reads, touches, looks, makes, Sight, spot_of, entry_of}
 use Rattle.call_turns.specs.declared.turn.Ask.{Ask}
-use Rattle.call_turns.specs.declared.turn.Ask.TheVariants.{Sees, Finds, FindsFile}
+use Rattle.call_turns.specs.declared.turn.Ask.TheVariants.{Sees, Finds, FindsFile, ReadsFile}
 use Rattle.call_turns.specs.declared.turn.Told.{Told}
-use Rattle.call_turns.specs.declared.turn.Told.TheVariants.{Entry, Page}
+use Rattle.call_turns.specs.declared.turn.Told.TheVariants.{Entry, Page, Word as AWord}
 
 -- what is so is told, unless something is needed first
 abbrev pub told : {A : Type 0} → Option Need → A → Result A Need
@@ -54,6 +54,7 @@ abbrev pub told_of : NumberedPages → Ask → Told
 told_of p (Sees s) = Entry (entry_of p s)
 told_of p (Finds s) = Page (page_at p (in_map s))
 told_of p (FindsFile f page) = Page (page_at p (in_file (file_page f.0 page)))
+told_of p (ReadsFile f page offset) = AWord (word_at p (in_file (file_page f.0 page)) offset)
 
 -- what a look for a page needs: what a file names is told whatever is in frames
 abbrev pub find_need : Scene → NumberedPages → Option (Spot ℕ) → Option Need
@@ -61,11 +62,20 @@ find_need scene p (Some (in_map s)) = way_need 4 scene p s
 find_need scene p (Some (in_file f)) = None
 find_need scene p None = None
 
+-- a look at a word needs the page that has it, where that is in no frame
+abbrev pub page_need : Scene → NumberedPages → Spot ℕ → Option Need
+page_need scene p at = option_map (λ home. need.Page (record { 0 = home })) (page_away p scene at)
+
+-- what a look at a word of a file's page needs, where there is such a file
+abbrev pub word_need : Scene → NumberedPages → Option (Spot ℕ) → Option Need
+word_need scene p at = option_and_then (page_need scene p) at
+
 -- what is needed to tell what is asked
 abbrev pub ask_need : Scene → NumberedPages → Ask → Option Need
 ask_need scene p (Sees s) = entry_need scene p s
 ask_need scene p (Finds s) = way_need 4 scene p s
 ask_need scene p (FindsFile f page) = None
+ask_need scene p (ReadsFile f page offset) = page_need scene p (in_file (file_page f.0 page))
 
 -- what a reference needs that a touch answers
 abbrev pub need_in : Touch → Option Need
@@ -81,6 +91,7 @@ touch_need scene p at kind owner = need_in (touch_of p scene at kind owner)
 unfoldable pub looks_need : {F C : Type 0} → Sight F ℕ → Scene → NumberedPages → Turn F C → Option Need
 looks_need sight scene p (sees s next) = option_or (entry_need scene p s) (looks_need sight scene p (next (entry_of p s)))
 looks_need sight scene p (finds at next) = let s = spot_of sight at in option_or (find_need scene p s) (looks_need sight scene p (next (option_and_then (page_at p) s)))
+looks_need sight scene p (reads f offset next) = let s = spot_of sight (in_file f) in option_or (word_need scene p s) (looks_need sight scene p (next (option_map_or (λ at. word_at p at offset) s 0)))
 looks_need sight scene p (touches owner at kind next) = option_and_then (λ s. touch_need scene p s kind owner) (spot_of sight at)
 looks_need sight scene p (looks name next) = looks_need sight scene p (next (sight.is_name name))
 looks_need sight scene p (makes name next) = looks_need sight scene p (next sight.has_more)

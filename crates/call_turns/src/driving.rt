@@ -39,7 +39,7 @@ pub trait Rest<C, V> {
 }
 
 /// Drives a turn of an owner of pages to its end, and changes nothing. A turn asks so many things at most: one that would ask more traps. A need comes
-/// exactly where one of its looks needs a map that is in no frame, or its reference a page or a frame, and is that of the first.
+/// exactly where one of its looks needs a map or the page of a word that is in no frame, or its reference a page or a frame, and is that of the first.
 pub fn driven<C: Copy, V, S: Rest<C, V> + Copy, P: Pages>(
     turn: Turn<C, S>,
     most: u32,
@@ -60,7 +60,7 @@ pub fn driven<C: Copy, V, S: Rest<C, V> + Copy, P: Pages>(
             end,
         }),
         Turn::Reads(slot, end) => read(pages, slot, end),
-        Turn::Fills(file, page, end) => fill(pages, file, page, end),
+        Turn::Fills(file, page, end, full) => fill(pages, file, page, end, full),
         Turn::Asks(what, rest) => {
             if most == 0 {
                 return Ok(Outcome {

@@ -11,7 +11,8 @@ mod touching;
 mod turn;
 
 pub use answer::Answer;
-pub use asking::entry_of;
+pub use asking::{entry_of, word_of};
 pub use driving::{Rest, driven};
 pub use ending::{answer_of, behind, returning, with_ac};
-pub use turn::{Ask, Grant, Outcome, Told, Turn};
+pub use touching::fill;
+pub use turn::{Ask, Grant, Outcome, Told, Turn, WhenFull};

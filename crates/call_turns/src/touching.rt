@@ -14,12 +14,13 @@ ghost use Rattle.call_turns.specs.Needing.{DrivenTo};
 ghost use Rattle.call_turns.specs.Numbers.{by_number};
 ghost use Rattle.call_turns.specs.Telling.{way_need};
 ghost use Rattle.call_turns.specs.Turns.{filling, reading, touching};
+ghost use Rattle.call_turns.specs.declared.turn.WhenFull.{WhenFull as AWhenFull};
 
 use crate::asking::page_at;
-use crate::{Grant, Outcome};
+use crate::{Grant, Outcome, WhenFull};
 use machine_names::{FileNo, Kind, Place, Slot};
 use page_contracts::{Need, Pages, Seen, Touch};
-use plain_model::call::{End, NO_PAGE, NO_ROOM};
+use plain_model::call::{End, NO_PAGE};
 
 // How a turn comes out by what a touch answers that is to read a page of a slot.
 fn read_by<C: Copy>(touch: Touch, slot: Slot, end: End<C>) -> Result<Outcome<C>, Need>
@@ -44,8 +45,8 @@ fn read_there<C: Copy, P: Pages>(pages: &P, slot: Slot, end: End<C>) -> Result<O
     requires { slot.page < SPACE_PAGES }
     ensures told { (d : DrumWords) (owner : ATty) (seen : Sight (List ℕ) ℕ) → P.means.fits pages.now d → IsOwner owner
         → way_need 4 (P.means.scene pages.now) (P.means.plain pages.now d) slot ≡ None → is_some (named_at (P.means.plain pages.now d) (in_map slot)) ≡ true
-        → DrivenTo (by_number seen) (P.means.scene pages.now) (P.means.plain pages.now d) owner (touching owner (in_map slot) Kind.Read end) result }
-    ensures grants { IfOk result (GrantsOr (Grant.Read slot) end) }
+        → DrivenTo (by_number seen) (P.means.scene pages.now) (P.means.plain pages.now d) owner (touching owner (in_map slot) Kind.Read end AWhenFull.Refused) result }
+    ensures grants { IfOk result (GrantsOr (Grant.Read slot) end AWhenFull.Refused) }
     ensures granted { IfOk result (λ o. IsGranted P.means pages.now o.grant) }
     ensures needs { IfErr result (IsNeeded P.means.store 1 pages.now) }
     ensures core { P.means.flat ≡ true → IsOk result }
@@ -63,7 +64,7 @@ pub fn read<C: Copy, P: Pages>(pages: &P, slot: Slot, end: End<C>) -> Result<Out
     requires { slot.page < SPACE_PAGES }
     ensures told { (d : DrumWords) (owner : ATty) (seen : Sight (List ℕ) ℕ) → P.means.fits pages.now d → IsOwner owner
         → DrivenTo (by_number seen) (P.means.scene pages.now) (P.means.plain pages.now d) owner (reading owner slot end) result }
-    ensures grants { IfOk result (GrantsOr (Grant.Read slot) end) }
+    ensures grants { IfOk result (GrantsOr (Grant.Read slot) end AWhenFull.Refused) }
     ensures granted { IfOk result (λ o. IsGranted P.means pages.now o.grant) }
     ensures needs { IfErr result (IsNeeded P.means.store 1 pages.now) }
     ensures core { P.means.flat ≡ true → IsOk result }
@@ -76,14 +77,22 @@ pub fn read<C: Copy, P: Pages>(pages: &P, slot: Slot, end: End<C>) -> Result<Out
 }
 
 // How a turn comes out by what a touch answers that is to write a page of a file.
-fn filled_by<C: Copy>(touch: Touch, grant: Grant, end: End<C>) -> Result<Outcome<C>, Need>
-    ensures { result ≡ filled_by_touch touch grant end }
+fn filled_by<C: Copy>(
+    touch: Touch,
+    grant: Grant,
+    end: End<C>,
+    full: WhenFull,
+) -> Result<Outcome<C>, Need>
+    ensures { result ≡ filled_by_touch touch grant end full }
 {
     match touch {
         Touch::Absent(home) => Err(Need::Page(home)),
         Touch::NeedFrame => Err(Need::Frame),
         Touch::Denied(_) => Ok(Outcome::refused(NO_PAGE)),
-        Touch::Full => Ok(Outcome::refused(NO_ROOM)),
+        Touch::Full => Ok(Outcome {
+            grant: Grant::Nothing,
+            end: full.end(),
+        }),
         Touch::Ready => Ok(Outcome { grant, end }),
         Touch::Zero => Ok(Outcome { grant, end }),
         Touch::Copy { sole: _ } => Ok(Outcome { grant, end }),
@@ -97,11 +106,12 @@ pub fn fill<C: Copy, P: Pages>(
     file: FileNo,
     page: u16,
     end: End<C>,
+    full: WhenFull,
 ) -> Result<Outcome<C>, Need>
     requires { IsFilePage file page }
     ensures told { (d : DrumWords) (owner : ATty) (seen : Sight (List ℕ) ℕ) → P.means.fits pages.now d → IsOwner owner
-        → DrivenTo (by_number seen) (P.means.scene pages.now) (P.means.plain pages.now d) owner (filling owner (file_page file.0 page) end) result }
-    ensures grants { IfOk result (GrantsOr (Grant.Fill file page) end) }
+        → DrivenTo (by_number seen) (P.means.scene pages.now) (P.means.plain pages.now d) owner (filling owner (file_page file.0 page) end full) result }
+    ensures grants { IfOk result (GrantsOr (Grant.Fill file page) end full) }
     ensures granted { IfOk result (λ o. IsGranted P.means pages.now o.grant) }
     ensures needs { IfErr result (IsNeeded P.means.store 1 pages.now) }
     ensures core { P.means.flat ≡ true → IsOk result }
@@ -110,5 +120,6 @@ pub fn fill<C: Copy, P: Pages>(
         pages.touch(Place::File(file, page), Kind::Write),
         Grant::Fill(file, page),
         end,
+        full,
     )
 }

@@ -15,12 +15,14 @@ mod taken;
 mod word_blocks;
 
 pub use addresses::address_of;
+pub use carry::store;
 pub use ends::Ending;
 pub use laws::{
     blocks_are_copied, blocks_move_by_words, exchanged_words_change_places, pushed_calls_return,
     pushed_words_come_back, stored_calls_return, units_are_plain_or_wait, vectors_are_gone_over,
 };
 pub use plans::{Planned, plan};
+pub use references::{ask, held_word};
 pub use slow::{Outcome, slow_unit};
 pub use taken::{Stop, Taken};
 pub use word_blocks::{make_block, refer_block, store_block};

@@ -42,7 +42,7 @@ pub fn page_of_address(fork: ForkName, at: u32) -> Place
 }
 
 /// Asks for the page of an address; the accumulators touch none.
-fn ask<P: Pages>(
+pub fn ask<P: Pages>(
     gather: &mut Gather,
     pages: &P,
     fork: ForkName,
@@ -74,7 +74,7 @@ fn ask<P: Pages>(
 }
 
 /// The word at an address whose page was asked for.
-fn held_word<P: Pages>(gather: &Gather, pages: &P, fork: ForkName, at: u32) -> Word
+pub fn held_word<P: Pages>(gather: &Gather, pages: &P, fork: ForkName, at: u32) -> Word
     requires serves { Serves P.means pages.now fork }
     requires address { IsAddress at }
     ensures told { (d : DrumWords) → P.means.fits pages.now d → Gathers (P.means.plain pages.now d) (P.means.scene pages.now) gather.now

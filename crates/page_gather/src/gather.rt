@@ -179,6 +179,13 @@ impl Gather {
         word_after(pages, self.changes.as_slice(), slot_of(pages, at), offset)
     }
 
+    /// How many pages the references make that take a home of their own.
+    pub fn homes(&self) -> u32
+        ensures { result ≡ self.now.homes }
+    {
+        self.homes
+    }
+
     /// Makes the pages and copies of the references added, in order, and uses the pages that are ready.
     pub fn make<P: Pages>(&self, pages: &mut P)
         requires places { ArePlaces (P.means.lives pages.old) self.now.references }

@@ -19,6 +19,7 @@ use Rattle.call_turns.specs.declared.turn.Grant.{Grant}
 use Rattle.call_turns.specs.declared.turn.Grant.TheVariants as grant
 use Rattle.call_turns.specs.declared.turn.Turn.{Turn as Step}
 use Rattle.call_turns.specs.declared.turn.Turn.TheVariants.{Ends, Asks, Fills}
+use Rattle.call_turns.specs.declared.turn.WhenFull.TheVariants as when
 use Rattle.call_turns.specs.Turns.{FitsEnd, IsRegs, entry_in, page_in, turn_of}
 use Rattle.pmap_calls.specs.declared.stage.Stage.{Stage}
 use Rattle.pmap_calls.specs.declared.stage.Stage.TheVariants.{Access, Source, Page, Narrow, FileAccess, Fill, There}
@@ -26,7 +27,7 @@ use Rattle.pmap_calls.specs.declared.stage.Stage.TheVariants.{Access, Source, Pa
 -- a page of a file that isn't there is made
 abbrev pub filled : FileNo → ℕ → End MapChange → Option PageName → Step MapChange Stage
 filled f page e (Some n) = Ends e
-filled f page e None = Fills f page e
+filled f page e None = Fills f page e when.Refused
 
 -- or has to be there
 abbrev pub if_there : End MapChange → Option PageName → Step MapChange Stage

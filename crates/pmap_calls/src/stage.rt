@@ -10,7 +10,7 @@ ghost use Rattle.call_turns.specs.Turns.{IsRegs, FitsEnd, FitsTurn};
 ghost use Rattle.pmap_calls.specs.Stages.{IsMapChange, IsStage, filled as filled_by, if_there as if_page_there};
 
 use crate::access::{access_told, file_access};
-use call_turns::{Ask, Rest, Told, Turn, returning, with_ac};
+use call_turns::{Ask, Rest, Told, Turn, WhenFull, returning, with_ac};
 use fork_tree::Tree;
 use machine_names::{Access, FileNo, ForkName, PageName, Slot};
 use plain_model::call::{End, FORK_SELF, MapChange, NO_PAGE};
@@ -107,7 +107,7 @@ fn filled(
 {
     match told {
         Some(_) => Turn::Ends(end),
-        None => Turn::Fills(file, page, end),
+        None => Turn::Fills(file, page, end, WhenFull::Refused),
     }
 }
 

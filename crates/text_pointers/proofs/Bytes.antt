@@ -1,5 +1,5 @@
 -- The bytes of a text, one behind the other.
-use Rattle.std.proofs.Common.{◌≡◌, ℕ, suc, ◌+◌, ◌-◌, ◌<◌, ◌≤◌, false, List, [], ◌∷◌, ◌++◌, None, Some, refl, sym, ◌∙◌, ap, arith}
+use Rattle.std.proofs.Common.{◌≡◌, ℕ, suc, ◌+◌, ◌-◌, ◌<◌, ◌≤◌, false, Option, List, [], ◌∷◌, ◌++◌, None, Some, refl, sym, ◌∙◌, ap, arith}
 use Rattle.std.specs.Prelude.{Result, Ok, Err, ◌==◌}
 use Rattle.arrayvec.specs.ArrayVec.{ArrayVec}
 use Rattle.word36.specs.Words.{right}
@@ -7,11 +7,12 @@ use Rattle.word36.specs.Bytes.{incremented, loaded}
 use Rattle.machine_names.specs.declared.names.ForkName.{ForkName}
 use Rattle.page_contracts.specs.declared.answers.Need.{Need}
 use Rattle.plain_units.specs.declared.registers.Regs.{Regs}
-use Rattle.plain_model.specs.PointedTexts.{Reading, byte_read, bytes_from, word_steps, words}
+use Rattle.plain_model.specs.PointedTexts.{TextReading, byte_read, bytes_from, word_steps, words}
 use Rattle.ka10_unit.specs.declared.taken.Stop.{Stop}
 use Rattle.ka10_unit.specs.Gathers.{Framed}
 use Rattle.text_pointers.specs.declared.reader.Reader.{Reader}
 use Rattle.text_pointers.specs.Outcomes.{Outcome, read_over, reads}
+use Rattle.text_pointers.proofs.WordReads.{word_runs}
 use Rattle.text_pointers.specs.Reading.{ReadsBytes, ReadsWord, Stands, pages_so_far, went_on}
 
 one_more : (n i : ℕ) → i < n → n - i ≡ suc (n - (i + 1))
@@ -24,7 +25,7 @@ byte_first n regs pointer text = refl
 
 module _ (f : ForkName) (p : Framed) (regs : Regs) (old : Reader) (first : ℕ) where
   -- what the whole comes to
-  abbrev Whole : Outcome Need
+  abbrev Whole : Outcome Need (Option (List ℕ))
   Whole = read_over f p regs (bytes_from 40 regs first []) (pages_so_far p old)
 
   -- so many bytes were read
@@ -45,13 +46,13 @@ module _ (f : ForkName) (p : Framed) (regs : Regs) (old : Reader) (first : ℕ) 
 
   module _ (r new : Reader) (i pointer : ℕ) (text : List ℕ) (less : i < 40) (before : ReadsSoFar r i pointer text) where
     -- what is left behind a word
-    abbrev Rest : ℕ → Reading
+    abbrev Rest : ℕ → TextReading
     Rest w = byte_read (loaded pointer w) text (bytes_from (40 - (i + 1)) regs (incremented pointer))
 
     behind : (result : Result ℕ Stop) → ReadsWord f p regs r new (right pointer) result → Whole ≡ went_on result (λ w. read_over f p regs (Rest w) (pages_so_far p new))
     behind result word =
         sym before.runs ∙ ap (λ n. read_over f p regs (bytes_from n regs pointer text) (pages_so_far p r)) (one_more 40 i less)
-        ∙ ap (λ b. read_over f p regs b (pages_so_far p r)) (byte_first (40 - (i + 1)) regs pointer text) ∙ word.runs Rest
+        ∙ ap (λ b. read_over f p regs b (pages_so_far p r)) (byte_first (40 - (i + 1)) regs pointer text) ∙ word_runs f p regs r new (right pointer) result word Rest
 
     -- it stops the reading
     pub word_stops : (e : Stop) → ReadsWord f p regs r new (right pointer) (Err e) → ReadsBytes f p regs old new first (Err e)

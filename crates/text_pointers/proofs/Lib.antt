@@ -4,6 +4,8 @@ pub mod WordReads
 pub mod Crossing
 pub mod Bytes
 pub mod Turns
+pub mod AddressReads
 pub mod TextReads
+pub mod ByteReads
 pub mod InOrder
 pub mod Needs

@@ -1,4 +1,4 @@
--- A turn of a call that reads a text: it goes on with the text, on the pages that this leaves, whatever it does then; or it traps.
+-- A turn of a call that reads a text, or a byte: it goes on with that, on the pages that this leaves, whatever it does then; or it traps.
 use Rattle.std.proofs.Common.{◌≡◌, ℕ, List, Option, refl, subst}
 use Rattle.std.specs.Prelude.{Ok, Err, slice_index}
 use Rattle.std.specs.Ordering.{nat_cmp}
@@ -9,21 +9,22 @@ use Rattle.plain_pages.specs.PlainPages.{NumberedPages}
 use Rattle.plain_units.specs.Blocks.{steps_on}
 use Rattle.plain_units.specs.Steps.{Planned, call, done, need, pages_left, stopped, trap}
 use Rattle.plain_model.specs.Calls.{Came, Sight, Turn, stepped, turn_on}
-use Rattle.plain_model.specs.PointedTexts.{Reading, read, text_at, with_reading, with_text, words}
+use Rattle.plain_model.specs.PointedTexts.{Reading, byte_at, read, text_at, with_reading, with_text, words}
 use Rattle.ka10_unit.specs.declared.taken.Stop.TheVariants.{Trap}
 use Rattle.ka10_unit.specs.Gathers.{Framed}
+use Rattle.text_pointers.specs.declared.byte.PointedByte.{PointedByte}
 use Rattle.text_pointers.specs.declared.text.PointedText.{PointedText}
 use Rattle.text_pointers.specs.Outcomes.{Outcome, leaves, goes_on, read_on, reads, stops}
-use Rattle.text_pointers.specs.Reading.{ReadsText, bytes_of, pages_so_far}
+use Rattle.text_pointers.specs.Reading.{ReadsByte, ReadsText, bytes_of, pages_so_far}
 
-module _ {F C : Type 0} (sight : Sight F ℕ) (f : ForkName) (regs : Regs) (next : Option (List ℕ) → Turn F C) where
+module _ {F C A : Type 0} (sight : Sight F ℕ) (f : ForkName) (regs : Regs) (next : A → Turn F C) where
   -- what a turn comes to whose reading comes to this over the plain pages
-  abbrev TurnsTo : Came nat_cmp C → Outcome ⊥ → Type 0
-  TurnsTo came (leaves q text) = came ≡ turn_on sight q (next text)
+  abbrev TurnsTo : Came nat_cmp C → Outcome ⊥ A → Type 0
+  TurnsTo came (leaves q found) = came ≡ turn_on sight q (next found)
   TurnsTo came (stops (trap channel)) = came.end ≡ TrapEnd channel
   TurnsTo came (stops (need none)) = Unit {0}
 
-  turn_reads : (reading : Reading) (q : NumberedPages) → TurnsTo (turn_on sight q (with_reading f regs reading next)) (read_on f regs reading q)
+  turn_reads : (reading : Reading A) (q : NumberedPages) → TurnsTo (turn_on sight q (with_reading f regs reading next)) (read_on f regs reading q)
   unfolding turn_on with_reading reads
   turn_reads (words steps rest) q = by (steps_on f regs steps q) (λ r w. turn_reads (rest w) r)
     where
@@ -33,13 +34,23 @@ module _ {F C : Type 0} (sight : Sight F ℕ) (f : ForkName) (regs : Regs) (next
       by (stopped (trap channel)) each = refl
       by (stopped (need none)) each = absurd none
       by (call number) each = refl
-  turn_reads (read text) q = refl
+  turn_reads (read found) q = refl
 
-  module _ (p : Framed) (pointer : ℕ) where
+module _ {F C : Type 0} (sight : Sight F ℕ) (f : ForkName) (regs : Regs) where
+  module _ (next : Option (List ℕ) → Turn F C) (p : Framed) (pointer : ℕ) where
     -- it goes on with the text
     pub text_goes : (t : PointedText) → ReadsText f p regs pointer (Ok t) → turn_on sight p.pages (with_text f regs pointer next) ≡ turn_on sight (pages_so_far p t.reader) (next (bytes_of t.text))
-    text_goes t h = subst (TurnsTo (turn_on sight p.pages (with_text f regs pointer next))) h.plain (turn_reads (text_at regs pointer) p.pages)
+    text_goes t h = subst (TurnsTo sight f regs next (turn_on sight p.pages (with_text f regs pointer next))) h.plain (turn_reads sight f regs next (text_at regs pointer) p.pages)
 
     -- it traps
     pub text_traps : (channel : ℕ) → ReadsText f p regs pointer (Err (Trap channel)) → (turn_on sight p.pages (with_text f regs pointer next)).end ≡ TrapEnd channel
-    text_traps channel h = subst (TurnsTo (turn_on sight p.pages (with_text f regs pointer next))) h.plain (turn_reads (text_at regs pointer) p.pages)
+    text_traps channel h = subst (TurnsTo sight f regs next (turn_on sight p.pages (with_text f regs pointer next))) h.plain (turn_reads sight f regs next (text_at regs pointer) p.pages)
+
+  module _ (next : ℕ → Turn F C) (p : Framed) (pointer : ℕ) where
+    -- it goes on with the byte
+    pub byte_goes : (b : PointedByte) → ReadsByte f p regs pointer (Ok b) → turn_on sight p.pages (with_reading f regs (byte_at regs pointer) next) ≡ turn_on sight (pages_so_far p b.reader) (next b.byte)
+    byte_goes b h = subst (TurnsTo sight f regs next (turn_on sight p.pages (with_reading f regs (byte_at regs pointer) next))) h.plain (turn_reads sight f regs next (byte_at regs pointer) p.pages)
+
+    -- it traps
+    pub byte_traps : (channel : ℕ) → ReadsByte f p regs pointer (Err (Trap channel)) → (turn_on sight p.pages (with_reading f regs (byte_at regs pointer) next)).end ≡ TrapEnd channel
+    byte_traps channel h = subst (TurnsTo sight f regs next (turn_on sight p.pages (with_reading f regs (byte_at regs pointer) next))) h.plain (turn_reads sight f regs next (byte_at regs pointer) p.pages)

@@ -11,12 +11,13 @@ use Rattle.page_contracts.specs.declared.answers.Need.{Need}
 use Rattle.page_contracts.specs.Pages.{PagesMeaning}
 use Rattle.plain_units.specs.declared.registers.Regs.{Regs}
 use Rattle.plain_model.specs.declared.text.TheConstants.{MOST_BYTES}
-use Rattle.plain_model.specs.PointedTexts.{Reading, bytes_from, text_at, word_steps, words}
+use Rattle.plain_model.specs.PointedTexts.{Reading, byte_at, bytes_from, read, text_at, word_steps, words}
 use Rattle.page_gather.specs.Gathering.{Gathers, IsNear, left_of}
 use Rattle.ka10_unit.specs.declared.taken.Stop.{Stop}
 use Rattle.ka10_unit.specs.Gathers.{Framed, asks, weight}
 use Rattle.ka10_unit.specs.Taking.{IsTrap, StopNeeds, asked_as, most_frames, stop_of}
 use Rattle.text_pointers.specs.declared.reader.Reader.{Reader}
+use Rattle.text_pointers.specs.declared.byte.PointedByte.{PointedByte}
 use Rattle.text_pointers.specs.declared.text.PointedText.{PointedText}
 use Rattle.text_pointers.specs.Outcomes.{IsPlain, Outcome, leaves, read_on, read_over, stops}
 
@@ -84,21 +85,25 @@ pub record ReadsPage (f : ForkName) (p : Framed) (old new : Reader) (page : ℕ)
   pub readable : (x : ⊤) → result ≡ Ok x → IsReadable f p (pages_so_far p new) page
 
 -- a reading goes on with a word, or stops
-abbrev pub went_on : Result ℕ Stop → (ℕ → Outcome Need) → Outcome Need
+abbrev pub went_on : {A : Type 0} → Result ℕ Stop → (ℕ → Outcome Need A) → Outcome Need A
 went_on (Ok w) next = next w
 went_on (Err e) next = stops (stop_of e)
 
--- a word was read: whatever comes behind it, the reading goes on with it, or stops as it did
+-- the reading of the word at an address
+abbrev pub one_word : Regs → ℕ → Reading ℕ
+one_word regs at = words (word_steps regs at) (λ w. read w)
+
+-- a word was read, or the reading stopped
 pub record ReadsWord (f : ForkName) (p : Framed) (regs : Regs) (old new : Reader) (at : ℕ) (result : Result ℕ Stop) : Type 0 where
   pub stands : (w : ℕ) → result ≡ Ok w → Stands f p new
-  pub runs : (rest : ℕ → Reading) → read_over f p regs (words (word_steps regs at) rest) (pages_so_far p old) ≡ went_on result (λ w. read_over f p regs (rest w) (pages_so_far p new))
+  pub is : read_over f p regs (one_word regs at) (pages_so_far p old) ≡ went_on result (leaves (pages_so_far p new))
 
 -- the bytes of a text, if there is one
 abbrev pub bytes_of : Option (ArrayVec ℕ) → Option (List ℕ)
 bytes_of text = option_map (λ t. t.items) text
 
 -- how a reading ended, or why it stopped
-abbrev pub came_to : Framed → Reader → Result (Option (ArrayVec ℕ)) Stop → Outcome Need
+abbrev pub came_to : Framed → Reader → Result (Option (ArrayVec ℕ)) Stop → Outcome Need (Option (List ℕ))
 came_to p new (Ok text) = leaves (pages_so_far p new) (bytes_of text)
 came_to p new (Err e) = stops (stop_of e)
 
@@ -108,7 +113,7 @@ pub record ReadsBytes (f : ForkName) (p : Framed) (regs : Regs) (old new : Reade
   pub is : read_over f p regs (bytes_from MOST_BYTES regs first []) (pages_so_far p old) ≡ came_to p new result
 
 -- how the reading of a whole text ended
-abbrev pub ended : Framed → Result PointedText Stop → Outcome Need
+abbrev pub ended : Framed → Result PointedText Stop → Outcome Need (Option (List ℕ))
 ended p (Ok t) = leaves (pages_so_far p t.reader) (bytes_of t.text)
 ended p (Err e) = stops (stop_of e)
 
@@ -117,3 +122,14 @@ pub record ReadsText (f : ForkName) (p : Framed) (regs : Regs) (pointer : ℕ) (
   pub stands : (t : PointedText) → result ≡ Ok t → Stands f p t.reader
   pub is : read_over f p regs (text_at regs pointer) p.pages ≡ ended p result
   pub plain : IsPlain (ended p result) (read_on f regs (text_at regs pointer) p.pages)
+
+-- how the reading of a byte ended
+abbrev pub byte_ended : Framed → Result PointedByte Stop → Outcome Need ℕ
+byte_ended p (Ok b) = leaves (pages_so_far p b.reader) b.byte
+byte_ended p (Err e) = stops (stop_of e)
+
+-- A BYTE WAS READ: over these pages its reading comes to this, and over the plain ones where it needs nothing first
+pub record ReadsByte (f : ForkName) (p : Framed) (regs : Regs) (pointer : ℕ) (result : Result PointedByte Stop) : Type 0 where
+  pub stands : (b : PointedByte) → result ≡ Ok b → Stands f p b.reader
+  pub is : read_over f p regs (byte_at regs pointer) p.pages ≡ byte_ended p result
+  pub plain : IsPlain (byte_ended p result) (read_on f regs (byte_at regs pointer) p.pages)

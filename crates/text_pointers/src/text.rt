@@ -9,6 +9,7 @@ ghost use Rattle.ka10_unit.specs.Gathers.{Serves, framed, weight};
 ghost use Rattle.ka10_unit.specs.Taking.{most_frames};
 ghost use Rattle.text_pointers.specs.Reading.{ReadsBytes, ReadsText, Stands, StopsFor, bytes_of};
 
+use crate::byte::next_pointer;
 use crate::reader::Reader;
 use arrayvec::ArrayVec;
 use ka10_bytes::{increment, load};
@@ -31,8 +32,8 @@ pub struct PointedText {
     pub reader: Reader,
 }
 
-// A pointer in short, written out.
-fn full_pointer(pointer: Word) -> Word
+/// A pointer in short, written out.
+pub fn full_pointer(pointer: Word) -> Word
     ensures { result ≡ full_pointer_of pointer }
 {
     if pointer.left() == SHORT_POINTER {
@@ -99,7 +100,7 @@ pub fn text_at<P: Pages>(
     ensures needs { IfErr result (StopsFor P.means pages.now) }
     ensures told { (d : DrumWords) → P.means.fits pages.now d → ReadsText fork (framed P.means pages.now d) regs.now pointer result }
 {
-    let first = increment(full_pointer(pointer));
+    let first = next_pointer(pointer);
     let mut taken = Taken::new();
     taken.restart(fork);
     match address_of(&mut taken, regs, pages, first) {

@@ -11,7 +11,7 @@ returns-in-Reads-clause-told g t c d owner seen f o =
 
 pub returns-in-Fills-clause-told : goal.returns-in-Fills-clause-told
 returns-in-Fills-clause-told g t c d owner seen f o =
-    fills_last (g.S.Rest.later c.args.parts.now) seen (g.P.Pages.means.scene c.args.pages.now) (g.P.Pages.means.plain c.args.pages.now d) owner c.args.turn c.args.most c.in-Fills.file c.in-Fills.page c.in-Fills.end c.fill.result c.in-Fills.is (c.fill.ensures.told d owner seen f o)
+    fills_last (g.S.Rest.later c.args.parts.now) seen (g.P.Pages.means.scene c.args.pages.now) (g.P.Pages.means.plain c.args.pages.now d) owner c.args.turn c.args.most c.in-Fills.file c.in-Fills.page c.in-Fills.end c.in-Fills.full c.fill.result c.in-Fills.is (c.fill.ensures.told d owner seen f o)
 
 pub returns-then-most-eq0-clause-told : goal.returns-then-most-eq0-clause-told
 returns-then-most-eq0-clause-told g t c d owner seen f o =

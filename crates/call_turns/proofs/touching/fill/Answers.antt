@@ -10,5 +10,5 @@ pub returns-clause-told : goal.returns-clause-told
 returns-clause-told g c d owner seen f o =
     let p = g.P.Pages.means.plain c.args.pages.now d in
     let scene = g.P.Pages.means.scene c.args.pages.now in
-    subst (DrivenTo (by_number seen) scene p owner (filling owner (file_page c.args.file.0 c.args.page) c.args.end)) (sym c.filled_by.ensures)
-    (filled_matches seen scene p owner c.args.end c.args.file c.args.page c.touch.result (c.touch.ensures.told d owner f o))
+    subst (DrivenTo (by_number seen) scene p owner (filling owner (file_page c.args.file.0 c.args.page) c.args.end c.args.full)) (sym c.filled_by.ensures)
+    (filled_matches seen scene p owner c.args.end c.args.full c.args.file c.args.page c.touch.result (c.touch.ensures.told d owner f o))

@@ -5,6 +5,7 @@ use Rattle.plain_pages.specs.References.{in_map}
 use Rattle.call_turns.specs.Needing.{DrivenTo}
 use Rattle.call_turns.specs.Numbers.{by_number}
 use Rattle.call_turns.specs.Turns.{touching}
+use Rattle.call_turns.specs.declared.turn.WhenFull.TheVariants as full
 use Rattle.call_turns.proofs.Looks.{absent_way, missing_page}
 use Rattle.call_turns.proofs.Touches.{read_matches}
 use Rattle.call_turns.proofs.touching.read_there.Goals as goal
@@ -13,8 +14,8 @@ pub returns-in-Is-clause-told : goal.returns-in-Is-clause-told
 returns-in-Is-clause-told g c d owner seen f o way there =
     let p = g.P.Pages.means.plain c.args.pages.now d in
     let scene = g.P.Pages.means.scene c.args.pages.now in
-    subst (DrivenTo (by_number seen) scene p owner (touching owner (in_map c.args.slot) kind.Read c.args.end)) (sym c.read_by.ensures)
-    (read_matches seen scene p owner c.args.end c.args.slot there c.touch.result (c.touch.ensures.told d owner f o))
+    subst (DrivenTo (by_number seen) scene p owner (touching owner (in_map c.args.slot) kind.Read c.args.end full.Refused)) (sym c.read_by.ensures)
+    (read_matches seen scene p owner c.args.end full.Refused c.args.slot there c.touch.result (c.touch.ensures.told d owner f o))
 
 pub returns-in-Missing-clause-told : goal.returns-in-Missing-clause-told
 returns-in-Missing-clause-told g c d owner seen f o way there =
