@@ -1,0 +1,4 @@
+pub mod Asking
+pub mod Turning
+pub mod Planning
+pub mod Changing
