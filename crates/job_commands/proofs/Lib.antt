@@ -1,0 +1,5 @@
+mod Begun
+mod Changing
+mod NextLines
+mod Programs
+mod Tops

@@ -1,0 +1,41 @@
+use Rattle.std.proofs.Common.{◌≡◌, ◌+◌, None, Some, sym, ◌∙◌, ap, arith}
+use Rattle.std.specs.Option.{option_map}
+use Rattle.std.specs.FinMap as map
+use Rattle.machine_names.specs.declared.names.ForkName.{ForkName}
+use Rattle.plain_model.specs.declared.fork.Fork.{Fork}
+use Rattle.plain_model.specs.Forks.{ForkMap}
+use Rattle.plain_model.specs.Trees.{PlainTree}
+use Rattle.plain_model.proofs.ForkMaps.{get_gone, get_gone_other}
+use Rattle.fork_tree.proofs.Kept.{top_lives}
+use Rattle.ka10_in_place.proofs.Stored.{lost_on}
+use Rattle.fork_calls.proofs.Branch.{made_on}
+use Rattle.fork_calls.proofs.Places.{come_on}
+use Rattle.job_commands.proofs.Tops.{top_is}
+use Rattle.job_commands.proofs.leaving.log_out.Goals as goal
+
+pub returns-clause-leaves : goal.returns-clause-leaves
+returns-clause-leaves g c =
+    let means = g.P.Pages.means in
+    let top = c.args.top in
+    let tree = c.args.tree.now in
+    let mid = c.kill_inferiors.new.tree.forks in
+    let last = c.kill_bare.new.tree in
+    let left : last.forks ≡ map.remove mid top = ap (λ (t : PlainTree). t.forks) c.kill_bare.ensures.tree in
+    let come = come_on tree.forks mid last.forks c.kill_inferiors.ensures.kept c.kill_bare.ensures.kept in
+    record {
+      holds = c.kill_bare.ensures.holds;
+      kept = come;
+      gone = λ f lives same.
+          let k = top_lives last c.are_trees-2.ensures (f.name.serial + 1) f lives (omega arith) in
+          let came = come k.0 k.1.0 in
+          let is : came.before.name ≡ top = top_is tree.forks c.are_trees.ensures.slotted top c.requires.top came.before came.lived (ap (λ (n : ForkName). n.tty.0) (sym came.name) ∙ k.1.1 ∙ same) (sym came.slot ∙ k.1.2) in
+          let none : map.get last.forks k.0.name ≡ None = ap (λ (m : ForkMap). map.get m k.0.name) left ∙ get_gone mid top k.0.name (came.name ∙ is) in
+          let no : None ≡ Some k.0 = sym none ∙ k.1.0 in
+          cc no;
+      tops = λ name apart at.
+          ap (λ (m : ForkMap). option_map (λ (f : Fork). f.slot) (map.get m name)) left
+          ∙ ap (option_map (λ (f : Fork). f.slot)) (get_gone_other mid top name apart)
+          ∙ c.kill_inferiors.ensures.tops name at;
+      made = made_on means top.tty 0 0 c.args.pages.now c.kill_inferiors.new.pages c.kill_bare.new.pages (c.kill_inferiors.ensures.made top.tty) (c.kill_bare.ensures.made top.tty);
+      loses = lost_on means c.args.pages.now c.kill_inferiors.new.pages c.kill_bare.new.pages c.kill_inferiors.ensures.loses c.kill_bare.ensures.loses;
+    }

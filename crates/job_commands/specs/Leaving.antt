@@ -1,0 +1,34 @@
+-- What is left once a job's forks are killed, all or all but its top fork.
+use Rattle.std.specs.Prelude.{◌≡◌, ◌≢◌, Some}
+use Rattle.std.specs.Option.{option_map}
+use Rattle.std.specs.FinMap as map
+use Rattle.machine_names.specs.declared.names.ForkName.{ForkName}
+use Rattle.plain_model.specs.declared.fork.Fork.{Fork}
+use Rattle.plain_model.specs.Forks.{ForkMap}
+use Rattle.plain_model.specs.Trees.{PlainTree}
+use Rattle.page_contracts.specs.Pages.{PagesMeaning, MayLose}
+use Rattle.fork_tree.specs.Trees.{Lives}
+use Rattle.fork_calls.specs.Holding.{ComeFrom, Holds, MakesPages, TopsStay}
+
+-- a fork is the top fork of its job
+abbrev pub IsTop : ForkMap → ForkName → Type 0
+IsTop forks top = option_map (λ f. f.slot) (map.get forks top) ≡ Some 1
+
+-- no fork of the job is left; each fork of another job that lives stands where it stood, and the top forks of other jobs live on; pages and
+-- tree have the same forks; no page was made, and what is queued and held may have become less
+pub record LogoutLeaves {P : Type 0} (means : PagesMeaning P) (old new : P) (tree tree' : PlainTree) (top : ForkName) : Type 0 where
+  pub holds : Holds means new tree'.forks
+  pub kept : ComeFrom tree.forks tree'.forks
+  pub gone : (f : Fork) → Lives tree'.forks f → f.name.tty.0 ≢ top.tty.0
+  pub tops : (name : ForkName) → name ≢ top → IsTop tree.forks name → IsTop tree'.forks name
+  pub made : MakesPages means top.tty 0 old new
+  pub loses : MayLose means old new
+
+-- each fork that lives stands where it stood, and the top forks live on; pages and tree have the same forks; no page was made, and what is
+-- queued and held may have become less
+pub record RunLeaves {P : Type 0} (means : PagesMeaning P) (old new : P) (tree tree' : PlainTree) (top : ForkName) : Type 0 where
+  pub holds : Holds means new tree'.forks
+  pub kept : ComeFrom tree.forks tree'.forks
+  pub tops : TopsStay tree.forks tree'.forks
+  pub made : MakesPages means top.tty 0 old new
+  pub loses : MayLose means old new

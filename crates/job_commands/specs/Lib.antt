@@ -1,0 +1,5 @@
+pub mod Programs
+pub mod Leaving
+pub mod Going
+pub mod Deleting
+pub mod Listing

@@ -1,0 +1,25 @@
+-- Programs in files, and a fork that runs one.
+use Rattle.std.specs.Prelude.{◌≡◌, ℕ, Option, None, Some, Result, Ok, Err, IsSome}
+use Rattle.std.specs.Ordering.{nat_cmp}
+use Rattle.word36.specs.Words.{right}
+use Rattle.machine_names.specs.Orders.{file_page}
+use Rattle.machine_names.specs.declared.names.ForkName.{ForkName}
+use Rattle.plain_pages.specs.PlainPages.{NumberedPages}
+use Rattle.plain_pages.specs.References.{Spot, in_file, page_at, word_at}
+use Rattle.plain_model.specs.declared.command.TheConstants.{START_WORD}
+use Rattle.plain_model.specs.Commands.{with_program_run}
+use Rattle.plain_model.specs.ForkCalls.{ForkParts}
+
+-- the first page of a file
+abbrev pub first_page : ℕ → Spot ℕ
+first_page file = in_file (file_page file 0)
+
+-- a program has this start word: its file has the first page, and there this word; or it doesn't have that page
+abbrev pub StartsAt : NumberedPages → ℕ → Option ℕ → Type 0
+StartsAt p file (Some word) = IsSome (page_at p (first_page file)) × (word ≡ word_at p (first_page file) START_WORD)
+StartsAt p file None = page_at p (first_page file) ≡ None
+
+-- a program is run at the right half of its start word, which is told; or its file doesn't have the first page, and nothing changes
+abbrev pub IsRun : {E : Type 0} → ForkName → ℕ → ForkParts nat_cmp → ForkParts nat_cmp → Result ℕ E → Type 0
+IsRun top file v w (Ok word) = StartsAt v.pages file (Some word) × (w ≡ with_program_run v top file (right word))
+IsRun top file v w (Err none) = StartsAt v.pages file None × (w ≡ v)

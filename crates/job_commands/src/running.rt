@@ -1,0 +1,80 @@
+// RUN: the top fork begins a program.
+ghost use Rattle.std.specs.Prelude.{◌≡◌, ◌<◌, IsSome, true};
+ghost use Rattle.std.specs.FinMap as map;
+ghost use Rattle.machine_names.specs.declared.names.TheConstants.{MOST_FILES};
+ghost use Rattle.page_contracts.specs.DrumWords.{DrumWords};
+ghost use Rattle.plain_model.specs.Commands.{begun_at, with_program_body};
+ghost use Rattle.plain_model.specs.Trees.{with_changed_of};
+ghost use Rattle.fork_tree.specs.Trees.{IsTree};
+ghost use Rattle.fork_calls.specs.Holding.{Holds};
+ghost use Rattle.fork_calls.specs.Turning.{parts};
+ghost use Rattle.job_commands.specs.Leaving.{RunLeaves};
+ghost use Rattle.job_commands.specs.Programs.{IsRun};
+
+use crate::leaving::kill_inferiors;
+use crate::program::{map_program, start_of};
+use fork_tree::Tree;
+use machine_names::{ACCUMULATORS, FileNo, ForkName};
+use page_contracts::Pages;
+use plain_model::{Body, Psi};
+use plain_units::Regs;
+use script_texts::ForkStatus;
+use word36::{Flags, Word};
+
+/// A file has no program: its first page isn't there.
+#[derive(Clone, Copy, PartialEq, Eq)]
+pub struct NoProgram;
+
+// Nothing is in a fork's accumulators, it has no flags, its interrupts are at rest, it doesn't sleep, and it runs at an address.
+#[tactic(auto, unfolding(plain_model::specs::Forks::first_regs, plain_model::specs::Forks::psi_at_rest))]
+fn begin(body: &mut Body, address: u32)
+    ensures { body.new ≡ with_program_body address body.old }
+{
+    body.status = ForkStatus::Run;
+    body.regs = Regs {
+        ac: [Word::ZERO; ACCUMULATORS as usize],
+        pc: address,
+        flags: Flags::CLEAR,
+    };
+    body.psi = Psi::REST;
+    body.sleep = None;
+}
+
+// A fork begins a program at an address, with no freeze mark.
+fn begin_at(tree: &mut Tree, top: ForkName, address: u32)
+    requires tree { IsTree tree.old }
+    requires lives { IsSome (map.get tree.old.forks top) }
+    ensures { tree.new ≡ with_changed_of tree.old top (begun_at address) }
+{
+    tree.freeze(top, false);
+    if let Some(body) = tree.body_mut(top) {
+        begin(body, address);
+    }
+}
+
+/// RUN: all inferiors of the top fork are killed, its map becomes that of the program in a file, and it begins at the
+/// right half of the program's start word, which is told. NoProgram exactly where the file doesn't have its first page; nothing changes then.
+pub fn run<P: Pages>(
+    top: ForkName,
+    file: FileNo,
+    tree: &mut Tree,
+    pages: &mut P,
+) -> Result<Word, NoProgram>
+    requires lives { IsSome (map.get tree.old.forks top) }
+    requires file { file.0 < MOST_FILES }
+    requires holds { Holds P.means pages.old tree.old.forks }
+    requires flat { P.means.flat ≡ true }
+    ensures told { (d : DrumWords) → P.means.fits pages.old d
+        → P.means.fits pages.new d × IsRun top file.0 (parts tree.old (P.means.plain pages.old d)) (parts tree.new (P.means.plain pages.new d)) result }
+    ensures leaves { RunLeaves P.means pages.old pages.new tree.old tree.new top }
+{
+    let Some(word) = start_of(pages, file) else {
+        return Err(NoProgram);
+    };
+    kill_inferiors(top, tree, pages);
+    map_program(pages, top, file);
+    tree.are_trees();
+    begin_at(tree, top, word.right());
+    tree.are_trees();
+    Ok(word)
+}
