@@ -22,8 +22,10 @@ use Rattle.fork_tree.proofs.Slots.{in_none}
 use Rattle.fork_calls.specs.Holding.{Holds}
 use Rattle.monitor_core.specs.declared.job.Job.{Job}
 use Rattle.monitor_core.specs.declared.system.System.{System}
+use Rattle.monitor_core.specs.declared.typing.Typing.{Typing}
 use Rattle.monitor_core.specs.Jobs.{AreUnheld, map_from, plain_job, no_jobs, job_at, jobs_of}
 use Rattle.monitor_core.specs.Sound.{AreSound}
+use Rattle.monitor_core.specs.Typings.{new_typing, nothing_typed, typing_at}
 use Rattle.monitor_core.specs.Systems.{named, state_of, FitsPages, IsWithin}
 use Rattle.plain_files.specs.NamedFiles.{AreFiled}
 use Rattle.machine_names.specs.Orders.{file_page_cmp, name_cmp}
@@ -56,6 +58,11 @@ unheld_boot files held jobs t gone = ap fin.len (ap (λ o. open_at o t) held ∙
     all_empty zero i = refl
     all_empty (suc n) zero = refl
     all_empty (suc n) (suc i) = all_empty n i
+
+-- each terminal has its typing
+pub typing_room_boot : (typed : List Typing) → typed ≡ nothing_typed TERMINALS → length typed ≡ TERMINALS
+unfolding nothing_typed
+typing_room_boot typed none = ap length none ∙ length-replicate TERMINALS new_typing
 
 -- no fork lives
 nobody : {A : Type 0} (tree : PlainTree) (f : Fork) → tree ≡ no_forks → Lives tree.forks f → A
@@ -94,7 +101,7 @@ module _ {P : Type 0} {b : _} (m : System P b) (none : m.jobs.items ≡ no_jobs 
   pub booted : (limit : ℕ) (d : DrumWords) → b.means.fits m.pages d → b.means.plain m.pages d ≡ opening_pages nat_cmp limit → FitsPages m d × (state_of m d ≡ opening limit)
   unfolding opening opening_pages no_jobs
   booted limit d fits is =
-      let jobs : jobs_of (open_of m.files) m.jobs.items ≡ fin.empty = ap (jobs_of (open_of m.files)) none ∙ none_from (λ (t : ℕ) (j : Job). t) (λ t j. plain_job (open_at (open_of m.files) t) j) TERMINALS 0 in (
+      let jobs : jobs_of (open_of m.files) m.typed.items m.jobs.items ≡ fin.empty = ap (jobs_of (open_of m.files) m.typed.items) none ∙ none_from (λ (t : ℕ) (j : Job). t) (λ t j. plain_job (open_at (open_of m.files) t) (typing_at m.typed.items t) j) TERMINALS 0 in (
         record { pages = fits; filed = subst (AreFiled m.files.dir) (sym (ap (λ p. p.files) is)) (λ at there. absurd (let no : false ≡ true = sym (ap is_some (fin.get-empty (file_page_cmp nat_cmp) at)) ∙ there in cc no)) },
         (λ i. record (state_of m d) { pages = named m.files.dir (is i) }) ∙ λ i. record { pages = record (opening_pages name_cmp limit) { files = none_named m.files.dir i }; files = files i; jobs = jobs i; forks = (tree i).forks; fork_serials = (tree i).serials; clock = clock i; trace = false },
       )

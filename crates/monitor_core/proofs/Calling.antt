@@ -4,6 +4,7 @@ use Rattle.std.specs.Prelude.{IsSome}
 use Rattle.std.specs.Option.{option_map}
 use Rattle.std.specs.Ordering.{nat_cmp}
 use Rattle.std.specs.FinMap as map
+use Rattle.plain_model.specs.declared.call.ByteChange.{ByteChange}
 use Rattle.plain_model.specs.declared.call.End.{End}
 use Rattle.plain_model.specs.declared.call.End.TheVariants.{Done, Waits, Halts, Refused, Failed, Trap}
 use Rattle.plain_units.specs.declared.channel.TheConstants.{ILLEGAL_INSTRUCTION}
@@ -16,14 +17,16 @@ use Rattle.page_contracts.specs.declared.answers.Need.{Need}
 use Rattle.machine_names.specs.declared.names.Tty.{Tty}
 use Rattle.plain_units.specs.declared.registers.Regs.{Regs}
 use Rattle.plain_pages.specs.PlainPages.{NumberedPages}
+use Rattle.plain_model.specs.ByteCalls.{ByteAsked, ByteTurn, byte_calls, byte_changed}
 use Rattle.plain_model.specs.Calls.{Came, Turn, fork_behind, is_among, no_files, numbered, out_of, parts_behind, turn_on}
-use Rattle.plain_model.specs.Families.{Parts, Turned, behind, call_turned, print_calls, own_changed, asks, asks_jfns, asks_maps, files_seen, forks_changed, jfns_changed, names_seen, pages_changed}
+use Rattle.plain_model.specs.Families.{Parts, Turned, behind, call_turned, print_calls, own_changed, asks, asks_bytes, asks_jfns, asks_maps, bytes_changed, files_seen, forks_changed, jfns_changed, names_seen, pages_changed}
 use Rattle.plain_model.specs.FileCalls.{FileParts, file_call, file_calls, file_changed, jfn_call, jfn_calls}
 use Rattle.plain_model.specs.ForkCalls.{ForkParts, fork_call, fork_calls, fork_changed}
 use Rattle.plain_model.specs.MapCalls.{map_call, map_calls, map_changed}
+use Rattle.plain_model.specs.StringCalls.{string_calls}
 use Rattle.plain_model.specs.Forks.{fork_in}
 use Rattle.plain_model.specs.Trees.{PlainTree, changed, with_body}
-use Rattle.plain_model.proofs.Calling.{MakesNone, file_makes_none, filed_of, forks_behind, jfns_behind, nothing_behind, pages_behind, print_makes_none, with_filed}
+use Rattle.plain_model.proofs.Calling.{MakesNone, bytes_behind, file_makes_none, filed_of, forks_behind, jfns_behind, nothing_behind, pages_behind, print_makes_none, with_filed}
 use Rattle.call_turns.specs.Answers.{FitsAnswer, IsDone, IsTurn, Went, answer_of}
 use Rattle.call_turns.specs.Turns.{IsOut}
 use Rattle.fork_tree.specs.Changes.{body_in, with_body_at}
@@ -157,6 +160,17 @@ module _ (key : List ℕ → ℕ) (v : Parts nat_cmp) (who : ForkName) where
         (sym (ap (λ (q : NumberedPages). parts_behind own_changed v (record v { pages = q }) (turn_on no_files v.pages t).end) makes
         ∙ nothing_behind v (turn_on no_files v.pages t).end))
 
+    -- a call of a family that changes pages, files and jobs as the calls on bytes do, and is asked with the same
+    module _ (rows : List (ℕ × (ByteAsked → ByteTurn))) where
+      abbrev pub byte_came : Came nat_cmp ByteChange
+      byte_came = turn_on (files_seen key v who) v.pages (numbered rows number (asks_bytes key v who regs))
+
+      abbrev pub BytesWent : FileParts nat_cmp → Answer → Type 0
+      BytesWent part a = Went (byte_changed key) (filed_of v) (record (filed_of v) { pages = byte_came.pages }) part a byte_came.end
+
+      bytes_left : (part : FileParts nat_cmp) (a : Answer) → BytesWent part a → behind (bytes_changed key) v who byte_came ≡ answered_turn (with_filed v part) who a
+      bytes_left part a w = came_behind (bytes_changed key) byte_came (with_filed v part) a w.answered (ap (with_filed v) w.left ∙ sym (bytes_behind key v byte_came.pages byte_came.end))
+
     pub print_went : is_among print_calls number ≡ true → (a : Answer) → a ≡ answer_of (turn_on no_files v.pages (numbered print_calls number regs)).end → call_turned key v who regs number ≡ answered_turn v who a
     print_went prints a is =
         on_true (is_among print_calls number) _ _ prints
@@ -208,11 +222,36 @@ module _ (key : List ℕ → ℕ) (v : Parts nat_cmp) (who : ForkName) where
                 (ap (with_filed v) w.left
                 ∙ sym (jfns_behind key v (turn_on (names_seen v who) v.pages (jfn_call number (asks_jfns v who regs))).pages (turn_on (names_seen v who) v.pages (jfn_call number (asks_jfns v who regs))).end))
 
-            -- a number that is no call
-            pub none_went : is_among jfn_calls number ≡ false → call_turned key v who regs number ≡ answered_turn v who (answer.Trap ILLEGAL_INSTRUCTION)
-            none_went unopened =
-                on_false (is_among print_calls number) _ _ other
-                ∙ on_false (is_among fork_calls number) _ _ unforked
-                ∙ on_false (is_among map_calls number) _ _ unmapped
-                ∙ on_false (is_among file_calls number) _ _ unfiled
-                ∙ on_false (is_among jfn_calls number) _ _ unopened
+            module _ (unopened : is_among jfn_calls number ≡ false) where
+              pub bytes_went : is_among byte_calls number ≡ true → (part : FileParts nat_cmp) (a : Answer) → BytesWent byte_calls part a → call_turned key v who regs number ≡ answered_turn (with_filed v part) who a
+              bytes_went bytes part a w =
+                  on_false (is_among print_calls number) _ _ other
+                  ∙ on_false (is_among fork_calls number) _ _ unforked
+                  ∙ on_false (is_among map_calls number) _ _ unmapped
+                  ∙ on_false (is_among file_calls number) _ _ unfiled
+                  ∙ on_false (is_among jfn_calls number) _ _ unopened
+                  ∙ on_true (is_among byte_calls number) _ _ bytes
+                  ∙ bytes_left byte_calls part a w
+
+              module _ (unbyted : is_among byte_calls number ≡ false) where
+                pub strings_went : is_among string_calls number ≡ true → (part : FileParts nat_cmp) (a : Answer) → BytesWent string_calls part a → call_turned key v who regs number ≡ answered_turn (with_filed v part) who a
+                strings_went strings part a w =
+                    on_false (is_among print_calls number) _ _ other
+                    ∙ on_false (is_among fork_calls number) _ _ unforked
+                    ∙ on_false (is_among map_calls number) _ _ unmapped
+                    ∙ on_false (is_among file_calls number) _ _ unfiled
+                    ∙ on_false (is_among jfn_calls number) _ _ unopened
+                    ∙ on_false (is_among byte_calls number) _ _ unbyted
+                    ∙ on_true (is_among string_calls number) _ _ strings
+                    ∙ bytes_left string_calls part a w
+
+                -- a number that is no call
+                pub none_went : is_among string_calls number ≡ false → call_turned key v who regs number ≡ answered_turn v who (answer.Trap ILLEGAL_INSTRUCTION)
+                none_went unstrung =
+                    on_false (is_among print_calls number) _ _ other
+                    ∙ on_false (is_among fork_calls number) _ _ unforked
+                    ∙ on_false (is_among map_calls number) _ _ unmapped
+                    ∙ on_false (is_among file_calls number) _ _ unfiled
+                    ∙ on_false (is_among jfn_calls number) _ _ unopened
+                    ∙ on_false (is_among byte_calls number) _ _ unbyted
+                    ∙ on_false (is_among string_calls number) _ _ unstrung

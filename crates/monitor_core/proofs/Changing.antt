@@ -7,7 +7,7 @@ use Rattle.machine_names.specs.declared.names.ForkName.{ForkName}
 use Rattle.plain_model.specs.declared.fork.Body.{Body}
 use Rattle.plain_model.specs.declared.fork.Fork.{Fork}
 use Rattle.script_texts.specs.declared.status.ForkStatus.TheVariants.{Run}
-use Rattle.plain_model.specs.Events.{restarted}
+use Rattle.plain_model.specs.Commands.{restarted}
 use Rattle.monitor_core.specs.Writing.{with_accumulator}
 use Rattle.plain_model.specs.Forks.{ForkMap}
 use Rattle.machine_names.proofs.OrderLemmas.{fork_cmp_total, fork_cmp_apart}

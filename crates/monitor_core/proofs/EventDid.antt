@@ -1,7 +1,9 @@
 -- The steps that are no job's: TICK and LOGIN.
 use Rattle.std.proofs.Common.{◌≡◌, ℕ, ◌+◌, ◌<◌, ◌≤◌, [], ◌∷◌, List, length, set, Bool, true, false, cond, Option, None, Some, refl, sym, ◌∙◌, ap, arith, nat_lt, nat_le, is_some, slice_index}
 use Rattle.std.proofs.lemmas.Bool.Decides.{nat_tests}
+use Rattle.std.specs.Option.{option_map}
 use Rattle.std.specs.FinMap as fin
+use Rattle.word36.specs.Words.{right}
 use Rattle.machine_names.specs.declared.names.TheConstants.{LAST_SERIAL}
 use Rattle.machine_names.specs.declared.character.TheConstants.{PROMPT}
 use Rattle.machine_names.specs.declared.names.Tty.{Tty}
@@ -28,23 +30,24 @@ use Rattle.monitor_core.specs.declared.job.Job.{Job}
 use Rattle.monitor_core.specs.declared.reply.Reply.TheVariants.{Nothing, One}
 use Rattle.monitor_core.specs.declared.system.System.{System}
 use Rattle.monitor_core.specs.Jobs.{jobs_of, job_at, plain_job}
+use Rattle.monitor_core.specs.Typings.{new_typing}
 use Rattle.plain_files.specs.NamedFiles.{pages_named}
 use Rattle.plain_files.specs.OpenFiles.{open_at}
 use Rattle.file_tables.specs.Tables.{files_of, open_of}
 use Rattle.monitor_core.specs.Systems.{named, state_of, FitsPages, Did}
-use Rattle.monitor_core.proofs.Lookups.{job_found, job_missing, jobs_set}
+use Rattle.monitor_core.proofs.Lookups.{job_found, job_missing, jobs_put}
 use Rattle.monitor_core.proofs.Systems.{fits_left, fits_still, units_changed}
 use Rattle.monitor_core.proofs.Rooms.{room_le, no_room_le, live_map, has_room}
 use Rattle.monitor_core.proofs.NamedPages.{alike_named}
 
 module _ {P : Type 0} {b : _} (m m' : System P b) where
-  pub did_tick : m'.pages ≡ m.pages → m'.files ≡ m.files → m'.tree ≡ m.tree → m'.jobs.items ≡ m.jobs.items → m'.clock ≡ m.clock + 1 → Did m m' (Outer Tick) Nothing
-  did_tick same files tree jobs clock = record {
+  pub did_tick : m'.pages ≡ m.pages → m'.files ≡ m.files → m'.tree ≡ m.tree → m'.jobs.items ≡ m.jobs.items → m'.typed.items ≡ m.typed.items → m'.clock ≡ m.clock + 1 → Did m m' (Outer Tick) Nothing
+  did_tick same files tree jobs typed clock = record {
     each = λ d f.
         let old = state_of m d in
         let effect = apply_outer old Tick ∙ outer_tick old in (
           fits_still m m' files same d f,
-          (λ i. record old { pages = named (files i).dir (b.means.plain (same i) d); files = files_of (files i); jobs = jobs_of (open_of (files i)) (jobs i); forks = (tree i).forks; fork_serials = (tree i).serials; clock = clock i }) ∙ ap (λ e. e.state) (sym effect),
+          (λ i. record old { pages = named (files i).dir (b.means.plain (same i) d); files = files_of (files i); jobs = jobs_of (open_of (files i)) (typed i) (jobs i); forks = (tree i).forks; fork_serials = (tree i).serials; clock = clock i }) ∙ ap (λ e. e.state) (sym effect),
           ap (λ e. e.items) (sym effect),
         );
     shown = tt;
@@ -85,11 +88,11 @@ module _ {P : Type 0} {b : _} (m : System P b) (t : Tty) (user : List ℕ) where
     where
       there : (o : Option Job) → job_at m.jobs.items t.0 ≡ o → is_some o ≡ true → is_some (fin.get (state_of m d).jobs t.0) ≡ true
       there None is h = absurd (cc h)
-      there (Some j) is h = ap is_some (job_found (open_of m.files) m.jobs.items t.0 j is)
+      there (Some j) is h = ap is_some (job_found (open_of m.files) m.typed.items m.jobs.items t.0 j is)
 
   module _ (free : job_at m.jobs.items t.0 ≡ None) where
     not_busy : (d : DrumWords) → outer (state_of m d) (Login t user) ≡ asked d false (nat_lt LAST_SERIAL (slice_index m.tree.serials t.0)) (room d)
-    not_busy d = asks d ∙ ap (λ h. asked d h (nat_lt LAST_SERIAL (slice_index m.tree.serials t.0)) (room d)) (ap is_some (job_missing (open_of m.files) m.jobs.items t.0 free))
+    not_busy d = asks d ∙ ap (λ h. asked d h (nat_lt LAST_SERIAL (slice_index m.tree.serials t.0)) (room d)) (ap is_some (job_missing (open_of m.files) m.typed.items m.jobs.items t.0 free))
 
     -- its serials are used up
     pub serials_are_out : (d : DrumWords) → LAST_SERIAL < slice_index m.tree.serials t.0 → outer (state_of m d) (Login t user) ≡ refused (state_of m d) (SerialsOut t)
@@ -117,17 +120,18 @@ module _ {P : Type 0} {b : _} (m : System P b) (t : Tty) (user : List ℕ) where
 
     -- the job is made
     pub did_login : (m' : System P b) (k : Job) → IsTerminal t → slice_index m.tree.serials t.0 ≤ LAST_SERIAL → ((d : DrumWords) → b.means.fits m.pages d → Agrees b.means m.pages (b.means.plain m.pages d)) → b.means.lives m.pages (next_name m.tree t) ≡ false
-        → b.means.count m.pages < b.means.most m.pages → m'.tree ≡ with_new_in m.tree t None 1 → m'.files ≡ m.files → m'.jobs.items ≡ set m.jobs.items t.0 (Some k) → k.user ≡ user → k.mode ≡ Command → k.top ≡ next_name m.tree t → m'.clock ≡ m.clock
+        → b.means.count m.pages < b.means.most m.pages → m'.tree ≡ with_new_in m.tree t None 1 → m'.files ≡ m.files → m'.jobs.items ≡ set m.jobs.items t.0 (Some k) → m'.typed.items ≡ set m.typed.items t.0 new_typing → k.user ≡ user → k.mode ≡ Command → k.top ≡ next_name m.tree t → k.start ≡ None → m'.clock ≡ m.clock
         → ((d : DrumWords) → b.means.fits m.pages d → b.means.fits m'.pages d × (b.means.plain m'.pages d ≡ with_map (b.means.plain m.pages d) (next_name m.tree t) EmptyMap)) → b.means.serial m'.pages ≡ b.means.serial m.pages → b.means.most m'.pages ≡ b.means.most m.pages
         → Did m m' (Outer (Login t user)) (One (Char t PROMPT))
-    did_login m' k low unused agrees dead room tree files set_to user_is mode top clock told pages most = record {
+    did_login m' k low unused agrees dead room tree files set_to typed_to user_is mode top start clock told pages most = record {
       each = λ d fits.
           let old = state_of m d in
           let added = told d fits.pages in
           let f = next_name m.tree t in
           let within : t.0 < length m.jobs.items = omega (arith, m.sound.job_room, low) in
-          let plain_k : plain_job (open_at (open_of m.files) t.0) k ≡ new_job user f = λ i. record (new_job user f) { user = user_is i; mode = mode i; top = top i; jfns = fin.empty_of_len (open_at (open_of m.files) t.0) (m.unheld t.0 free) i } in
-          let jobs : jobs_of (open_of m'.files) m'.jobs.items ≡ fin.insert old.jobs t.0 (new_job user f) = (λ i. jobs_of (open_of (files i)) (set_to i)) ∙ jobs_set (open_of m.files) m.jobs.items t.0 k within ∙ ap (fin.insert old.jobs t.0) plain_k in
+          let room_typed : t.0 < length m.typed.items = omega (arith, m.typing_room, low) in
+          let plain_k : plain_job (open_at (open_of m.files) t.0) new_typing k ≡ new_job user f = λ i. record (new_job user f) { user = user_is i; mode = mode i; top = top i; start = option_map right (start i); jfns = fin.empty_of_len (open_at (open_of m.files) t.0) (m.unheld t.0 free) i } in
+          let jobs : jobs_of (open_of m'.files) m'.typed.items m'.jobs.items ≡ fin.insert old.jobs t.0 (new_job user f) = (λ i. jobs_of (open_of (files i)) (typed_to i) (set_to i)) ∙ jobs_put (open_of m.files) (open_of m.files) m.typed.items m.jobs.items t.0 new_typing k (λ u ne. refl) within room_typed ∙ ap (fin.insert old.jobs t.0) plain_k in
           let mine : state_of m' d ≡ with_job old t user = λ i. record old { pages = named (files i).dir (added.1 i); files = files_of (files i); jobs = jobs i; forks = (tree i).forks; fork_serials = (tree i).serials; clock = clock i } in
           let effect = apply_outer old (Login t user) ∙ logs_in d fits (agrees d fits.pages) dead unused room in (
             fits_left m m' files d added.0 (ap (λ p. p.files) added.1) fits,

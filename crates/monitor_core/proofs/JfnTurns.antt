@@ -25,14 +25,14 @@ use Rattle.monitor_core.proofs.JfnsAsked.{asks_are, jobs_holding_are}
 
 module _ (was : Tables) (who : ForkName) (regs : Regs) (number : ℕ) (j : Job) (there : job_at was.jobs who.tty.0 ≡ Some j) (unheld : AreUnheld (open_of was.files) was.jobs) where
   abbrev jobs : Jobs
-  jobs = jobs_of (open_of was.files) was.jobs
+  jobs = jobs_of (open_of was.files) was.typed was.jobs
 
   -- the parts that the call changes, as the tables have them
   abbrev told : FileTables → NumberedPages → FileParts nat_cmp
-  told files p = record { pages = p; files = files_of files; jobs = jobs_of (open_of files) was.jobs }
+  told files p = record { pages = p; files = files_of files; jobs = jobs_of (open_of files) was.typed was.jobs }
 
   told_are : parts jobs ≡ told
-  told_are = λ i files p. record { pages = p; files = files_of files; jobs = jobs_holding_are was.jobs (open_of was.files) (open_of files) i }
+  told_are = λ i files p. record { pages = p; files = files_of files; jobs = jobs_holding_are was.typed was.jobs (open_of was.files) (open_of files) i }
 
   -- how it comes out
   abbrev came : NumberedPages → JfnAsked → Came nat_cmp FileChange

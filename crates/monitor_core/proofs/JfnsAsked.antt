@@ -38,6 +38,7 @@ use Rattle.file_calls.specs.Turning.{EndFollows}
 use Rattle.file_calls.proofs.Holding.{job_holding}
 use Rattle.file_calls.proofs.Times.{times_are}
 use Rattle.monitor_core.specs.declared.job.Job.{Job}
+use Rattle.monitor_core.specs.declared.typing.Typing.{Typing}
 use Rattle.monitor_core.specs.ForkUnit.{HasJob, NumbersStay, Tables, parts_in, rest_of}
 use Rattle.monitor_core.specs.Jobs.{AreUnheld, job_at, jobs_of}
 use Rattle.monitor_core.proofs.Lookups.{job_found, job_missing}
@@ -47,36 +48,36 @@ use Rattle.monitor_core.proofs.NamedKeys.{name_there}
 pub none_held : (m : OpenFiles) → map.len m ≡ 0 → m ≡ map.empty
 none_held m none = map.same_map nat_cmp_total map.nat_cmp-IsAntisymmetric m map.empty (λ t. map.get-entries m t ∙ ap (map.find nat_cmp t) (none_of (map.entries m) (sym (map.len-entries m) ∙ none)) ∙ sym (map.get-empty {X = OpenFile} nat_cmp t))
 
-module _ (jobs : List (Option Job)) where
+module _ (typed : List Typing) (jobs : List (Option Job)) where
   -- the jobs with other JFNs
-  pub jobs_holding_are : (opens now : List OpenFiles) → jobs_holding (jobs_of opens jobs) now ≡ jobs_of now jobs
-  jobs_holding_are opens now = map.same_map nat_cmp_total map.nat_cmp-IsAntisymmetric (jobs_holding (jobs_of opens jobs) now) (jobs_of now jobs) (λ t. by t (job_at jobs t) refl)
+  pub jobs_holding_are : (opens now : List OpenFiles) → jobs_holding (jobs_of opens typed jobs) now ≡ jobs_of now typed jobs
+  jobs_holding_are opens now = map.same_map nat_cmp_total map.nat_cmp-IsAntisymmetric (jobs_holding (jobs_of opens typed jobs) now) (jobs_of now typed jobs) (λ t. by t (job_at jobs t) refl)
     where
-      by : (t : ℕ) (o : Option Job) → job_at jobs t ≡ o → map.get (jobs_holding (jobs_of opens jobs) now) t ≡ map.get (jobs_of now jobs) t
-      by t None is = job_holding (jobs_of opens jobs) now t ∙ ap (option_map (holding now t)) (job_missing opens jobs t is) ∙ sym (job_missing now jobs t is)
-      by t (Some j) is = job_holding (jobs_of opens jobs) now t ∙ ap (option_map (holding now t)) (job_found opens jobs t j is) ∙ sym (job_found now jobs t j is)
+      by : (t : ℕ) (o : Option Job) → job_at jobs t ≡ o → map.get (jobs_holding (jobs_of opens typed jobs) now) t ≡ map.get (jobs_of now typed jobs) t
+      by t None is = job_holding (jobs_of opens typed jobs) now t ∙ ap (option_map (holding now t)) (job_missing opens typed jobs t is) ∙ sym (job_missing now typed jobs t is)
+      by t (Some j) is = job_holding (jobs_of opens typed jobs) now t ∙ ap (option_map (holding now t)) (job_found opens typed jobs t j is) ∙ sym (job_found now typed jobs t j is)
 
-  pub jobs_held : (opens : List OpenFiles) → AreUnheld opens jobs → AreHeld (jobs_of opens jobs) opens
+  pub jobs_held : (opens : List OpenFiles) → AreUnheld opens jobs → AreHeld (jobs_of opens typed jobs) opens
   jobs_held opens unheld t gone = by (job_at jobs t) refl
     where
       by : (o : Option Job) → job_at jobs t ≡ o → open_at opens t ≡ map.empty
       by None is = none_held (open_at opens t) (unheld t is)
-      by (Some j) is = absurd (not_both (map.get (jobs_of opens jobs) t) _ gone (job_found opens jobs t j is))
+      by (Some j) is = absurd (not_both (map.get (jobs_of opens typed jobs) t) _ gone (job_found opens typed jobs t j is))
 
-  pub times_as : (opens : List OpenFiles) → AreUnheld opens jobs → times_held (jobs_of opens jobs) ≡ times_open_in_all opens
-  times_as opens unheld = λ i name. (ap (λ (js : Jobs). times_held js name) (sym (jobs_holding_are opens opens)) ∙ times_are name (jobs_of opens jobs) opens (jobs_held opens unheld)) i
+  pub times_as : (opens : List OpenFiles) → AreUnheld opens jobs → times_held (jobs_of opens typed jobs) ≡ times_open_in_all opens
+  times_as opens unheld = λ i name. (ap (λ (js : Jobs). times_held js name) (sym (jobs_holding_are opens opens)) ∙ times_are name (jobs_of opens typed jobs) opens (jobs_held opens unheld)) i
 
 -- who asks what
 pub asks_are : (was : Tables) (p : NumberedPages) (who : ForkName) (regs : Regs) (j : Job) → job_at was.jobs who.tty.0 ≡ Some j → AreUnheld (open_of was.files) was.jobs
     → asks_jfns (parts_in (rest_of was) p) who regs ≡ asked_of who regs j.user was.files
 asks_are was p who regs j there unheld =
-    let found = job_found (open_of was.files) was.jobs who.tty.0 j there in
+    let found = job_found (open_of was.files) was.typed was.jobs who.tty.0 j there in
     λ i. record {
       who = who;
       regs = regs;
       user = option_map_or (λ (k : PlainJob). k.user) (found i) [];
       held = option_map_or (λ (k : PlainJob). k.jfns) (found i) map.empty;
-      times = times_as was.jobs (open_of was.files) unheld i;
+      times = times_as was.typed was.jobs (open_of was.files) unheld i;
     }
 
 -- each JFN stands for a file that is there
@@ -96,16 +97,16 @@ held_there was p t n j is = by (job_at was.jobs t.0) refl
 
     by : (o : Option Job) → job_at was.jobs t.0 ≡ o → map.contains_key (files_of was.files) j.file ≡ true
     by None none =
-        let gone : map.get (held_at (jobs_of opens was.jobs) t) n ≡ None = ap (λ (o : Option PlainJob). map.get (option_map_or (λ k. k.jfns) o map.empty) n) (job_missing opens was.jobs t.0 none) ∙ map.get-empty {X = OpenFile} nat_cmp n in
-        absurd (not_both (map.get (held_at (jobs_of opens was.jobs) t) n) j gone is)
+        let gone : map.get (held_at (jobs_of opens was.typed was.jobs) t) n ≡ None = ap (λ (o : Option PlainJob). map.get (option_map_or (λ k. k.jfns) o map.empty) n) (job_missing opens was.typed was.jobs t.0 none) ∙ map.get-empty {X = OpenFile} nat_cmp n in
+        absurd (not_both (map.get (held_at (jobs_of opens was.typed was.jobs) t) n) j gone is)
     by (Some k) there =
         at (map.get (jfns_of was.files.jobs t.0) n) refl
         (sym (job_jfn was.files.dir was.files.jobs t.0 n)
-        ∙ sym (ap (λ (o : Option PlainJob). map.get (option_map_or (λ (x : PlainJob). x.jfns) o map.empty) n) (job_found opens was.jobs t.0 k there)) ∙ is)
+        ∙ sym (ap (λ (o : Option PlainJob). map.get (option_map_or (λ (x : PlainJob). x.jfns) o map.empty) n) (job_found opens was.typed was.jobs t.0 k there)) ∙ is)
 
 -- no JFN is held where no job is, behind a call of a fork whose terminal has a job
-pub still_unheld : (old new : FileTables) (jobs : List (Option Job)) (t : Tty) → HasJob old jobs t → OthersHold t old new → AreUnheld (open_of new) jobs
-still_unheld old new jobs t job others u none = by (cases_eq u t.0)
+pub still_unheld : (old new : FileTables) (jobs : List (Option Job)) (typed : List Typing) (t : Tty) → HasJob old jobs typed t → OthersHold t old new → AreUnheld (open_of new) jobs
+still_unheld old new jobs typed t job others u none = by (cases_eq u t.0)
   where
     by : (u ≡ t.0) ⊎ (u ≢ t.0) → map.len (jfns_at new u) ≡ 0
     by (inl e) = absurd (subst (λ o. is_some o ≡ true → ⊥) (sym (ap (job_at jobs) (sym e) ∙ none)) (λ h. cc h) job.there)

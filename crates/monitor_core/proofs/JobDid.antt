@@ -3,7 +3,8 @@ use Rattle.std.proofs.Common.{◌≡◌, inl, inr, ℕ, ◌+◌, ◌<◌, ◌≤
 use Rattle.std.specs.Prelude.{Result, Ok, Err, OnErr, IfErr}
 use Rattle.std.proofs.lemmas.List.{set-get_or}
 use Rattle.std.specs.Ordering.{nat_cmp}
-use Rattle.std.specs.Option.{option_map_or}
+use Rattle.std.specs.Option.{option_map, option_map_or}
+use Rattle.word36.specs.Words.{right}
 use Rattle.std.specs.FinMap as fin
 use Rattle.outside.specs.declared.TheConstants.{PAGE_WORDS}
 use Rattle.machine_names.specs.declared.names.TheConstants.{ACCUMULATORS}
@@ -29,7 +30,8 @@ use Rattle.plain_pages.specs.References.{Referred, granted, denied, full, in_map
 use Rattle.plain_model.specs.Forks.{change_fork, fork_line, forks_by_slot}
 use Rattle.plain_model.specs.Trees.{PlainTree, with_changed_of}
 use Rattle.plain_model.specs.Unit.{Effect, refused}
-use Rattle.plain_model.specs.Events.{poked, restarted, word_seen, outer}
+use Rattle.plain_model.specs.Commands.{in_program, restarted, started, with_job_at}
+use Rattle.plain_model.specs.Events.{poked, word_seen, outer}
 use Rattle.plain_model.proofs.Equations.{apply_outer, outer_poke, outer_start, outer_examine, outer_forks}
 use Rattle.plain_pages.proofs.Refiled.{refiled_result, reference_leaves}
 use Rattle.machine_names.specs.Orders.{name_cmp}
@@ -43,6 +45,7 @@ use Rattle.monitor_core.specs.declared.reply.Reply.TheVariants.{Nothing, One, Fo
 use Rattle.monitor_core.specs.declared.system.System.{System}
 use Rattle.monitor_core.specs.JobEvents.{event_at}
 use Rattle.monitor_core.specs.Jobs.{jobs_of, job_at, plain_job}
+use Rattle.monitor_core.specs.Typings.{typing_at}
 use Rattle.monitor_core.specs.Looking.{word_in, examined_in, item_of}
 use Rattle.monitor_core.specs.Replies.{reply_items, FitsReply}
 use Rattle.plain_files.specs.NamedFiles.{pages_named}
@@ -70,13 +73,13 @@ no_job_event s t (ToStart address) h = outer_start s t address ∙ rw h
 no_job_event s t (ToExamine serial address) h = outer_examine s t serial address ∙ rw h
 no_job_event s t ToShow h = outer_forks s t ∙ rw h
 
-module _ {P : Type 0} {b : _} (m m' : System P b) (files : m'.files ≡ m.files) (same : m'.pages ≡ m.pages) (tree : m'.tree ≡ m.tree) (jobs : m'.jobs.items ≡ m.jobs.items) (clock : m'.clock ≡ m.clock) where
+module _ {P : Type 0} {b : _} (m m' : System P b) (files : m'.files ≡ m.files) (same : m'.pages ≡ m.pages) (tree : m'.tree ≡ m.tree) (jobs : m'.jobs.items ≡ m.jobs.items) (typed : m'.typed.items ≡ m.typed.items) (clock : m'.clock ≡ m.clock) where
   -- an event that changes nothing
   pub did_still : (e : Event) (reply : Reply) → FitsReply reply → ((d : DrumWords) → FitsPages m d → ◌≡◌ {A = Effect} (outer (state_of m d) e) (record { state = state_of m d; items = reply_items (state_of m d) reply })) → Did m m' (Outer e) reply
   did_still e reply fits shows = record {
     each = λ d f.
         let old = state_of m d in
-        let new : state_of m' d ≡ old = state_left m m' files same tree jobs clock d in
+        let new : state_of m' d ≡ old = state_left m m' files same tree jobs typed clock d in
         let effect = apply_outer old e ∙ shows d f in (
           fits_still m m' files same d f,
           new ∙ ap (λ x. x.state) (sym effect),
@@ -92,7 +95,7 @@ module _ {P : Type 0} {b : _} (m m' : System P b) (files : m'.files ≡ m.files)
   }
 
   pub did_no_job : (t : Tty) (e : JobEvent) → IsTerminal t → job_at m.jobs.items t.0 ≡ None → Did m m' (Outer (event_at t e)) (One (Refusal (NoJob t)))
-  did_no_job t e terminal free = did_still (event_at t e) (One (Refusal (NoJob t))) terminal (λ d f. no_job_event (state_of m d) t e (job_missing (open_of m.files) m.jobs.items t.0 free))
+  did_no_job t e terminal free = did_still (event_at t e) (One (Refusal (NoJob t))) terminal (λ d f. no_job_event (state_of m d) t e (job_missing (open_of m.files) m.typed.items m.jobs.items t.0 free))
 
   module _ (t : Tty) (e : JobEvent) (j : Job) (at : job_at m.jobs.items t.0 ≡ Some j) where
     -- the word that is there, as the state has it
@@ -107,7 +110,7 @@ module _ {P : Type 0} {b : _} (m m' : System P b) (files : m'.files ≡ m.files)
 
     examines : (d : DrumWords) (serial address : ℕ) → ◌≡◌ {A = Effect} (outer (state_of m d) (event_at t (ToExamine serial address))) (record { state = state_of m d; items = item_of (examined_in (b.means.plain m.pages d) m.tree.forks t serial address) ∷ [] })
     examines d serial address =
-        outer_examine s t serial address ∙ ap (λ (o : Option PlainJob). option_map_or (λ i. of_fork (fin.get s.forks (record { tty = t; serial = serial }))) o (refused s (NoJob t))) (job_found (open_of m.files) m.jobs.items t.0 j at)
+        outer_examine s t serial address ∙ ap (λ (o : Option PlainJob). option_map_or (λ i. of_fork (fin.get s.forks (record { tty = t; serial = serial }))) o (refused s (NoJob t))) (job_found (open_of m.files) m.typed.items m.jobs.items t.0 j at)
         ∙ by (fin.get s.forks (record { tty = t; serial = serial }))
       where
         s : PlainState
@@ -131,7 +134,7 @@ module _ {P : Type 0} {b : _} (m m' : System P b) (files : m'.files ≡ m.files)
     did_forks is fits =
         subst (λ x. Did m m' (Outer (event_at t x)) (Forks t)) (sym is)
         (did_still (event_at t ToShow) (Forks t) fits
-        (λ d f. let s = state_of m d in outer_forks s t ∙ ap (λ (o : Option PlainJob). option_map_or (λ i. record { state = s; items = map (λ k. ForkLine (fork_line s.forks k)) (forks_by_slot s.forks t) }) o (refused s (NoJob t))) (job_found (open_of m.files) m.jobs.items t.0 j at)))
+        (λ d f. let s = state_of m d in outer_forks s t ∙ ap (λ (o : Option PlainJob). option_map_or (λ i. record { state = s; items = map (λ k. ForkLine (fork_line s.forks k)) (forks_by_slot s.forks t) }) o (refused s (NoJob t))) (job_found (open_of m.files) m.typed.items m.jobs.items t.0 j at)))
 
 -- what a poke shows: nothing, or why it is refused
 abbrev pub poke_reply : {X : Type 0} → Result X Cause → Reply
@@ -178,7 +181,7 @@ written_files {p} {q} {at} {offset} {word} (Ok done) w =
     ap (λ x. x.files) (w.store done refl) ∙ stored_leaves w.ready at offset word ∙ reference_leaves at.fork.tty p w.ready at Write (was_granted (reference p (in_map at) Write at.fork.tty) w.ready refers)
 written_files (Err cause) w = ap (λ x. x.files) w.stays
 
-module _ {P : Type 0} {b : _} (m m' : System P b) (is_tree : IsTree m.tree) (t : Tty) (e : JobEvent) (j : Job) (at : job_at m.jobs.items t.0 ≡ Some j) (files : m'.files ≡ m.files) (clock : m'.clock ≡ m.clock) where
+module _ {P : Type 0} {b : _} (m m' : System P b) (is_tree : IsTree m.tree) (t : Tty) (e : JobEvent) (j : Job) (at : job_at m.jobs.items t.0 ≡ Some j) (files : m'.files ≡ m.files) (typed : m'.typed.items ≡ m.typed.items) (clock : m'.clock ≡ m.clock) where
   -- a job's top fork is of its terminal
   owner : j.top.tty ≡ t
   owner = λ i. record { 0 = (m.sound.each_job t.0 j at).terminal i }
@@ -191,10 +194,10 @@ module _ {P : Type 0} {b : _} (m m' : System P b) (is_tree : IsTree m.tree) (t :
         let old = state_of m d in
         let paged : Effect = poked old t (slot_at j.top address) (address % PAGE_WORDS) word (reference old.pages (in_map (slot_at j.top address)) Write t) in
         let mine : state_of m' d ≡ change_fork old j.top (with_accumulator address word) =
-        (λ i. record old { pages = named (files i).dir (b.means.plain (same i) d); files = files_of (files i); jobs = jobs_of (open_of (files i)) (jobs i); forks = (is i).forks; fork_serials = (is i).serials; clock = clock i })
+        (λ i. record old { pages = named (files i).dir (b.means.plain (same i) d); files = files_of (files i); jobs = jobs_of (open_of (files i)) (typed i) (jobs i); forks = (is i).forks; fork_serials = (is i).serials; clock = clock i })
         ∙ sym (change_is old j.top (with_accumulator address word) (λ f. refl)) in
         outer_poke old t address word
-        ∙ ap (λ (o : Option PlainJob). option_map_or (λ i. cond (nat_lt address ACCUMULATORS) (record { state = change_fork old i.top (with_accumulator address word); items = [] }) (poked old t (slot_at i.top address) (address % PAGE_WORDS) word (reference old.pages (in_map (slot_at i.top address)) Write t))) o (refused old (NoJob t))) (job_found (open_of m.files) m.jobs.items t.0 j at)
+        ∙ ap (λ (o : Option PlainJob). option_map_or (λ i. cond (nat_lt address ACCUMULATORS) (record { state = change_fork old i.top (with_accumulator address word); items = [] }) (poked old t (slot_at i.top address) (address % PAGE_WORDS) word (reference old.pages (in_map (slot_at i.top address)) Write t))) o (refused old (NoJob t))) (job_found (open_of m.files) m.typed.items m.jobs.items t.0 j at)
         ∙ ap (λ c. cond c (record { state = change_fork old j.top (with_accumulator address word); items = [] }) paged) (below address low)
         ∙ ap (λ s. record { state = s; items = [] }) (sym mine)
 
@@ -211,10 +214,10 @@ module _ {P : Type 0} {b : _} (m m' : System P b) (is_tree : IsTree m.tree) (t :
         let refers : write_of (reference p (in_map slot) Write t) ≡ left_by wrote.ready wrote.tried = subst (λ u. write_of (reference p (in_map slot) Write u) ≡ left_by wrote.ready wrote.tried) owner wrote.readied.refers in
         let refused_is : result ≡ refused_by (poke_refusal t) wrote.tried = subst (λ u. result ≡ refused_by (poke_refusal u) wrote.tried) owner wrote.is in
         let mine : state_of m' d ≡ record old { pages = keyed filed q } =
-        (λ i. record old { pages = named (files i).dir q; files = files_of (files i); jobs = jobs_of (open_of (files i)) (jobs i); forks = (is i).forks; fork_serials = (is i).serials; clock = clock i })
+        (λ i. record old { pages = named (files i).dir q; files = files_of (files i); jobs = jobs_of (open_of (files i)) (typed i) (jobs i); forks = (is i).forks; fork_serials = (is i).serials; clock = clock i })
         ∙ ap (λ x. record old { pages = x }) (named_left m.files.dir p q (written_files result wrote)) in
         outer_poke old t address word
-        ∙ ap (λ (o : Option PlainJob). option_map_or (λ i. cond (nat_lt address ACCUMULATORS) (record { state = change_fork old i.top (with_accumulator address word); items = [] }) (poked old t (slot_at i.top address) (address % PAGE_WORDS) word (reference old.pages (in_map (slot_at i.top address)) Write t))) o (refused old (NoJob t))) (job_found (open_of m.files) m.jobs.items t.0 j at)
+        ∙ ap (λ (o : Option PlainJob). option_map_or (λ i. cond (nat_lt address ACCUMULATORS) (record { state = change_fork old i.top (with_accumulator address word); items = [] }) (poked old t (slot_at i.top address) (address % PAGE_WORDS) word (reference old.pages (in_map (slot_at i.top address)) Write t))) o (refused old (NoJob t))) (job_found (open_of m.files) m.typed.items m.jobs.items t.0 j at)
         ∙ ap (λ c. cond c (record { state = change_fork old j.top (with_accumulator address word); items = [] }) (poked old t slot (address % PAGE_WORDS) word (reference old.pages (in_map slot) Write t))) (not_below address high)
         ∙ ap (poked old t slot (address % PAGE_WORDS) word) (reference_keyed filed p alike slot Write t)
         ∙ poked_by filed old t slot (address % PAGE_WORDS) word p wrote.ready q (reference p (in_map slot) Write t) wrote.tried refers (λ done e. wrote.store done (refused_is ∙ e)) (subst (λ r. OnErr r (q ≡ p)) refused_is wrote.stays)
@@ -265,20 +268,21 @@ module _ {P : Type 0} {b : _} (m m' : System P b) (is_tree : IsTree m.tree) (t :
         reply_fits (Err cause) h = h
 
   -- the top fork was started
-  pub did_start : (k : Job) (address : ℕ) → m'.jobs.items ≡ set m.jobs.items t.0 (Some k) → e ≡ ToStart address → k.user ≡ j.user → k.mode ≡ Program → k.top ≡ j.top → m'.tree ≡ with_changed_of m.tree j.top (restarted address) → m'.pages ≡ m.pages → Did m m' (Outer (event_at t e)) Nothing
-  did_start k address set_to is user mode top changes same = subst (λ x. Did m m' (Outer (event_at t x)) Nothing) (sym is) (record {
+  pub did_start : (k : Job) (address : ℕ) → m'.jobs.items ≡ set m.jobs.items t.0 (Some k) → e ≡ ToStart address → k.user ≡ j.user → k.mode ≡ Program → k.top ≡ j.top → k.start ≡ j.start → m'.tree ≡ with_changed_of m.tree j.top (restarted address) → m'.pages ≡ m.pages → Did m m' (Outer (event_at t e)) Nothing
+  did_start k address set_to is user mode top start changes same = subst (λ x. Did m m' (Outer (event_at t x)) Nothing) (sym is) (record {
     each = λ d f.
         let old = state_of m d in
         let job = m.sound.each_job t.0 j at in
-        let plain_k : plain_job (open_at (open_of m.files) t.0) k ≡ record (plain_job (open_at (open_of m.files) t.0) j) { mode = Program } = λ i. record (plain_job (open_at (open_of m.files) t.0) j) { user = user i; mode = mode i; top = top i } in
-        let jobs : jobs_of (open_of m'.files) m'.jobs.items ≡ fin.insert old.jobs t.0 (record (plain_job (open_at (open_of m.files) t.0) j) { mode = Program }) =
-        (λ i. jobs_of (open_of (files i)) (set_to i)) ∙ jobs_set (open_of m.files) m.jobs.items t.0 k (omega (arith, m.sound.job_room, job.low)) ∙ ap (fin.insert old.jobs t.0) plain_k in
-        let mine : state_of m' d ≡ record (change_fork old j.top (restarted address)) { jobs = fin.insert old.jobs t.0 (record (plain_job (open_at (open_of m.files) t.0) j) { mode = Program }) } =
+        let was : PlainJob = plain_job (open_at (open_of m.files) t.0) (typing_at m.typed.items t.0) j in
+        let plain_k : plain_job (open_at (open_of m.files) t.0) (typing_at m.typed.items t.0) k ≡ record was { mode = Program } = λ i. record was { user = user i; mode = mode i; top = top i; start = option_map right (start i) } in
+        let jobs : jobs_of (open_of m'.files) m'.typed.items m'.jobs.items ≡ fin.insert old.jobs t.0 (record was { mode = Program }) =
+        (λ i. jobs_of (open_of (files i)) (typed i) (set_to i)) ∙ jobs_set (open_of m.files) m.typed.items m.jobs.items t.0 k (omega (arith, m.sound.job_room, job.low)) ∙ ap (fin.insert old.jobs t.0) plain_k in
+        let mine : state_of m' d ≡ started old t address was =
         (λ i. record old { pages = named (files i).dir (b.means.plain (same i) d); files = files_of (files i); jobs = jobs i; forks = (changes i).forks; fork_serials = (changes i).serials; clock = clock i })
-        ∙ ap (λ (s : PlainState). record s { jobs = fin.insert old.jobs t.0 (record (plain_job (open_at (open_of m.files) t.0) j) { mode = Program }) }) (sym (change_is old j.top (restarted address) (λ x. refl))) in
+        ∙ ap (λ (s : PlainState). with_job_at s t (in_program was)) (sym (change_is old j.top (restarted address) (λ x. refl))) in
         let effect : ◌≡◌ {A = Effect} (apply old (Outer (event_at t (ToStart address)))) (record { state = state_of m' d; items = [] }) =
         apply_outer old (event_at t (ToStart address)) ∙ outer_start old t address
-        ∙ ap (λ (o : Option PlainJob). option_map_or (λ i. record { state = record (change_fork old i.top (restarted address)) { jobs = fin.insert old.jobs t.0 (record i { mode = Program }) }; items = [] }) o (refused old (NoJob t))) (job_found (open_of m.files) m.jobs.items t.0 j at)
+        ∙ ap (λ (o : Option PlainJob). option_map_or (λ i. record { state = started old t address i; items = [] }) o (refused old (NoJob t))) (job_found (open_of m.files) m.typed.items m.jobs.items t.0 j at)
         ∙ ap (λ s. record { state = s; items = [] }) (sym mine) in (
           fits_still m m' files same d f,
           ap (λ x. x.state) (sym effect),

@@ -23,6 +23,7 @@ mod NamedKeys
 mod JfnsAsked
 mod JfnTurns
 mod MapTurns
+mod ByteTurns
 mod Changing
 mod Sounds
 mod Systems
@@ -39,3 +40,15 @@ mod BootDid
 mod Runnable
 mod StepDid
 mod ForksShown
+mod HasDone
+mod CharacterDid
+mod DeleteDid
+mod RunDid
+mod TypeDid
+mod CommandPages
+mod CommandDid
+mod Commanded
+mod GivenParts
+mod Listed
+mod Typed
+mod TypedIn

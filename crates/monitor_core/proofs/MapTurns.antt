@@ -27,24 +27,26 @@ use Rattle.pmap_calls.specs.Making.{MakesAtMost, MakesIn}
 use Rattle.ka10_unit.specs.Carrying.{Grows}
 use Rattle.fork_calls.specs.Holding.{MakesPages}
 use Rattle.monitor_core.specs.declared.job.Job.{Job}
+use Rattle.monitor_core.specs.declared.typing.Typing.{Typing}
 use Rattle.monitor_core.specs.ForkUnit.{Tables, TurnedSo, parts_in, rest_of}
 use Rattle.monitor_core.specs.Jobs.{AreUnheld, job_at, jobs_of}
+use Rattle.monitor_core.specs.Writing.{most_makings}
 use Rattle.monitor_core.proofs.Calling.{maps_went, turned_so}
 use Rattle.monitor_core.proofs.JfnsAsked.{none_held}
 use Rattle.monitor_core.proofs.Lookups.{job_found, job_missing}
 
 -- the JFNs of the job at a terminal are those that are held there
-held_are : (jobs : List (Option Job)) (opens : List OpenFiles) → AreUnheld opens jobs → (t : Tty) → held_at (jobs_of opens jobs) t ≡ open_at opens t.0
-held_are jobs opens unheld t = by (job_at jobs t.0) refl
+pub held_are : (typed : List Typing) (jobs : List (Option Job)) (opens : List OpenFiles) → AreUnheld opens jobs → (t : Tty) → held_at (jobs_of opens typed jobs) t ≡ open_at opens t.0
+held_are typed jobs opens unheld t = by (job_at jobs t.0) refl
   where
-    by : (o : Option Job) → job_at jobs t.0 ≡ o → held_at (jobs_of opens jobs) t ≡ open_at opens t.0
-    by None none = ap (λ (o : Option PlainJob). option_map_or (λ k. k.jfns) o map.empty) (job_missing opens jobs t.0 none) ∙ sym (none_held (open_at opens t.0) (unheld t.0 none))
-    by (Some j) there = ap (λ (o : Option PlainJob). option_map_or (λ k. k.jfns) o map.empty) (job_found opens jobs t.0 j there)
+    by : (o : Option Job) → job_at jobs t.0 ≡ o → held_at (jobs_of opens typed jobs) t ≡ open_at opens t.0
+    by None none = ap (λ (o : Option PlainJob). option_map_or (λ k. k.jfns) o map.empty) (job_missing opens typed jobs t.0 none) ∙ sym (none_held (open_at opens t.0) (unheld t.0 none))
+    by (Some j) there = ap (λ (o : Option PlainJob). option_map_or (λ k. k.jfns) o map.empty) (job_found opens typed jobs t.0 j there)
 
 module _ (was : Tables) (who : ForkName) (regs : Regs) (number : ℕ) (unheld : AreUnheld (open_of was.files) was.jobs) where
   -- who asks what
   maps_asked : (p : NumberedPages) → asks_maps (parts_in (rest_of was) p) who regs ≡ asked who regs was.tree was.files
-  maps_asked p = λ i. record { who = who; regs = regs; tree = was.tree; held = held_are was.jobs (open_of was.files) unheld who.tty i }
+  maps_asked p = λ i. record { who = who; regs = regs; tree = was.tree; held = held_are was.typed was.jobs (open_of was.files) unheld who.tty i }
 
   -- how it comes out
   abbrev came : NumberedPages → MapAsked → Came nat_cmp MapChange
@@ -62,10 +64,10 @@ module _ (was : Tables) (who : ForkName) (regs : Regs) (number : ℕ) (unheld : 
 
 module _ {P : Type 0} (means : PagesMeaning P) (t : Tty) (old new : P) where
   -- what it makes is no more than the words of a call may
-  most_grows : (pages : ℕ) → pages ≤ 128 → MakesAtMost means t pages old new → MayLose means old new → Grows means t 128 old new
+  most_grows : (pages : ℕ) → pages ≤ most_makings → MakesAtMost means t pages old new → MayLose means old new → Grows means t most_makings old new
   most_grows pages few made loses = record { lives = made.lives; forks = made.forks; most = made.most; serial = omega (arith, made.serial); serials = made.serials; loses = loses }
 
-  pub map_grows : (a : Answer) → MakesIn means t old new a → MayLose means old new → Grows means t 128 old new
+  pub map_grows : (a : Answer) → MakesIn means t old new a → MayLose means old new → Grows means t most_makings old new
   map_grows (answer.Need n) made loses = most_grows 0 (omega arith) made loses
   map_grows (answer.After regs out post) made loses = most_grows 1 (omega arith) made loses
   map_grows (answer.Wait on) made loses = most_grows 1 (omega arith) made loses

@@ -17,7 +17,9 @@ use Rattle.fork_tree.proofs.Slots.{cases_name, get_put, get_put_other, held_live
 use Rattle.fork_calls.specs.Holding.{SamePlaces}
 use Rattle.fork_calls.proofs.Holdings.{holds_same, holds_still}
 use Rattle.monitor_core.specs.declared.job.Job.{Job}
+use Rattle.monitor_core.specs.declared.typing.Typing.{Typing}
 use Rattle.monitor_core.specs.Jobs.{job_at}
+use Rattle.monitor_core.specs.Typings.{new_typing, typing_at}
 use Rattle.monitor_core.specs.Limits.{IsBody}
 use Rattle.monitor_core.specs.Sound.{AreSound}
 
@@ -31,6 +33,10 @@ entry_read jobs t o room low read = stands jobs t None o (omega (arith, room, lo
 
 pub job_read : (jobs : List (Option Job)) (t : ℕ) (o : Option Job) (j : Job) → length jobs ≡ TERMINALS → t < TERMINALS → o ≡ get_or jobs t o → o ≡ Some j → job_at jobs t ≡ Some j
 job_read jobs t o j room low read is = entry_read jobs t o room low read ∙ is
+
+-- so is what was typed there
+pub typing_read : (typed : List Typing) (t : ℕ) (y : Typing) → length typed ≡ TERMINALS → t < TERMINALS → y ≡ get_or typed t y → typing_at typed t ≡ y
+typing_read typed t y room low read = stands typed t new_typing y (omega (arith, room, low)) ∙ sym read
 
 -- a number is below another or not
 pub split_at : (a b : ℕ) → (a < b) ⊎ (b ≤ a)

@@ -1,9 +1,10 @@
 -- Units in a row behind which one needs something first.
-use Rattle.std.proofs.Common.{◌≡◌, ◌⊎◌, ℕ, ◌+◌, ◌≤◌, cond, ◌==◌, List, None, refl, sym, ◌∙◌, ap, subst, arith, inl, inr}
+use Rattle.std.proofs.Common.{◌≡◌, ◌⊎◌, ℕ, ◌+◌, ◌≤◌, cond, ◌==◌, List, length, None, refl, sym, ◌∙◌, ap, subst, arith, inl, inr}
 use Rattle.std.specs.Prelude.{Result, Ok, Err, IfOk, IfErr, IsSome}
 use Rattle.std.specs.Ordering.{nat_cmp}
 use Rattle.std.specs.FinMap as map
 use Rattle.std.proofs.lemmas.Bool.Decides.{eqb_tells}
+use Rattle.machine_names.specs.declared.names.TheConstants.{TERMINALS}
 use Rattle.plain_model.specs.declared.fork.Body.{Body}
 use Rattle.plain_model.specs.declared.fork.Fork.{Fork}
 use Rattle.page_contracts.specs.declared.answers.Need.{Need}
@@ -18,12 +19,13 @@ use Rattle.ka10_in_place.specs.Once.{After, in_a_row}
 use Rattle.ka10_unit.specs.Taking.{most_frames}
 use Rattle.fork_tree.specs.Trees.{IsTree, Lives}
 use Rattle.fork_calls.specs.Holding.{Holds, MakesPages}
-use Rattle.text_pointers.specs.Reading.{text_frames}
 use Rattle.fork_calls.proofs.Branch.{made_on}
 use Rattle.file_tables.specs.declared.tables.FileTables.{FileTables}
 use Rattle.file_tables.specs.Tables.{open_of}
 use Rattle.file_calls.specs.Asking.{key_in}
+use Rattle.monitor_core.specs.Limits.{unit_frames}
 use Rattle.monitor_core.specs.Jobs.{AreUnheld}
+use Rattle.monitor_core.specs.declared.typing.Typing.{Typing}
 use Rattle.monitor_core.specs.declared.units.Units.{Units}
 use Rattle.monitor_core.specs.ForkUnit.{CallWaits, Kept, LeavesForks, RanUnits, RanUpTo, Rest, Tables, UnitWaits, UnitsRan, left_so, put_back, ran_on, rest_of}
 use Rattle.monitor_core.specs.Shown.{nothing}
@@ -56,24 +58,26 @@ up_to_none f g p q r =
 pub up_to_some : (key : List ℕ → ℕ) (rest : Rest) (f g : Fork) (p q : NumberedPages) (n : ℕ) → 1 ≤ n → RanUpTo f p n g q → RanUnits key rest f p n (left_so rest g q nothing)
 up_to_some key rest f g p q n some r = subst (RanUnits key rest f p n) (λ i. left_so rest (r.fork i) (r.pages i) nothing) (row_ran key rest f p n r.after some r.row)
 
--- the tables, where the forks are others
-abbrev pub with_tree : Tables → PlainTree → FileTables → Tables
-with_tree was tree files = record was { tree = tree; files = files }
+-- the tables, where these are others
+abbrev pub with_tree : Tables → PlainTree → FileTables → List Typing → Tables
+with_tree was tree files typed = record was { tree = tree; files = files; typed = typed }
 
 -- so many units of a fork were done, and the next needs this first
-pub record StopsBehind {P : Type 0} (means : PagesMeaning P) (old new : P) (was : Tables) (tree : PlainTree) (files : FileTables) (f g : Fork) (count : ℕ) (n : Need) : Type 0 where
+pub record StopsBehind {P : Type 0} (means : PagesMeaning P) (old new : P) (was : Tables) (tree : PlainTree) (files : FileTables) (typed : List Typing) (f g : Fork) (count : ℕ) (n : Need) : Type 0 where
   pub told : (d : DrumWords) → means.fits old d → means.fits new d × (tree ≡ put_back was.tree g) × RanUpTo f (means.plain old d) count g (means.plain new d)
   pub same : files ≡ was.files
+  pub same_typed : typed ≡ was.typed
   pub keeps : Kept f g count
   pub leaves : LeavesForks means old new was.tree tree f count
   pub unmade : MakesPages means f.name.tty 0 old new
-  pub needed : IsNeeded means.store text_frames new n
+  pub needed : IsNeeded means.store unit_frames new n
 
-module _ {P : Type 0} (means : PagesMeaning P) (old new : P) (was : Tables) (tree : PlainTree) (files : FileTables) (f g : Fork) (n : Need) (lives : Lives was.tree.forks f) (unheld : AreUnheld (open_of was.files) was.jobs) where
-  none_done : StopsBehind means old new was tree files f g 0 n → UnitWaits means old new was (with_tree was tree files) f n
+module _ {P : Type 0} (means : PagesMeaning P) (old new : P) (was : Tables) (tree : PlainTree) (files : FileTables) (typed : List Typing) (f g : Fork) (n : Need) (lives : Lives was.tree.forks f) (unheld : AreUnheld (open_of was.files) was.jobs) (room : length was.typed ≡ TERMINALS) where
+  none_done : StopsBehind means old new was tree files typed f g 0 n → UnitWaits means old new was (with_tree was tree files typed) f n
   none_done s = record {
     told = record {
       files = s.same;
+      typed = s.same_typed;
       each = λ d fits.
           let t = s.told d fits in
           let same = up_to_none f g (means.plain old d) (means.plain new d) t.2 in (
@@ -87,32 +91,33 @@ module _ {P : Type 0} (means : PagesMeaning P) (old new : P) (was : Tables) (tre
     needed = s.needed;
   }
 
-  some_done : (count : ℕ) → 1 ≤ count → StopsBehind means old new was tree files f g count n → UnitsRan means old new was (with_tree was tree files) f (record { count = count; shown = nothing })
+  some_done : (count : ℕ) → 1 ≤ count → StopsBehind means old new was tree files typed f g count n → UnitsRan means old new was (with_tree was tree files typed) f (record { count = count; shown = nothing })
   some_done count some s = record {
     after = g;
     told = λ d fits.
         let t = s.told d fits in (
           t.0,
-          subst (λ (x : Rest). RanUnits (key_in was.files) (rest_of was) f (means.plain old d) count (record { rest = x; fork = g; pages = means.plain new d; shown = nothing })) (λ i. rest_of (with_tree was (sym t.1 i) (sym s.same i)))
+          subst (λ (x : Rest). RanUnits (key_in was.files) (rest_of was) f (means.plain old d) count (record { rest = x; fork = g; pages = means.plain new d; shown = nothing })) (λ i. rest_of (with_tree was (sym t.1 i) (sym s.same i) (sym s.same_typed i)))
               (up_to_some (key_in was.files) (rest_of was) f g (means.plain old d) (means.plain new d) count some t.2),
         );
     numbers = λ d fits. dir_stays was.files files (ap (λ (t : FileTables). t.dir) s.same);
     keeps = s.keeps;
     leaves = s.leaves;
     unheld = subst (λ (t : FileTables). AreUnheld (open_of t) was.jobs) (sym s.same) unheld;
+    typing_room = ap length s.same_typed ∙ room;
     shown = (tt, tt);
   }
 
-  pub stops_ran : (count : ℕ) (r : Result Units Need) → r ≡ before count n → StopsBehind means old new was tree files f g count n → IfOk r (UnitsRan means old new was (with_tree was tree files) f)
+  pub stops_ran : (count : ℕ) (r : Result Units Need) → r ≡ before count n → StopsBehind means old new was tree files typed f g count n → IfOk r (UnitsRan means old new was (with_tree was tree files typed) f)
   stops_ran count r is s = elim (by_count count n r is) [
-    | inl none ↦ subst (λ x. IfOk x (UnitsRan means old new was (with_tree was tree files) f)) (sym none.1) tt
-    | inr some ↦ subst (λ x. IfOk x (UnitsRan means old new was (with_tree was tree files) f)) (sym some.1) (some_done count some.0 s)
+    | inl none ↦ subst (λ x. IfOk x (UnitsRan means old new was (with_tree was tree files typed) f)) (sym none.1) tt
+    | inr some ↦ subst (λ x. IfOk x (UnitsRan means old new was (with_tree was tree files typed) f)) (sym some.1) (some_done count some.0 s)
   ]
 
-  pub stops_waits : (count : ℕ) (r : Result Units Need) → r ≡ before count n → StopsBehind means old new was tree files f g count n → IfErr r (UnitWaits means old new was (with_tree was tree files) f)
+  pub stops_waits : (count : ℕ) (r : Result Units Need) → r ≡ before count n → StopsBehind means old new was tree files typed f g count n → IfErr r (UnitWaits means old new was (with_tree was tree files typed) f)
   stops_waits count r is s = elim (by_count count n r is) [
-    | inl none ↦ subst (λ x. IfErr x (UnitWaits means old new was (with_tree was tree files) f)) (sym none.1) (none_done (subst (λ k. StopsBehind means old new was tree files f g k n) none.0 s))
-    | inr some ↦ subst (λ x. IfErr x (UnitWaits means old new was (with_tree was tree files) f)) (sym some.1) tt
+    | inl none ↦ subst (λ x. IfErr x (UnitWaits means old new was (with_tree was tree files typed) f)) (sym none.1) (none_done (subst (λ k. StopsBehind means old new was tree files typed f g k n) none.0 s))
+    | inr some ↦ subst (λ x. IfErr x (UnitWaits means old new was (with_tree was tree files typed) f)) (sym some.1) tt
   ]
 
 -- how many they are
@@ -141,25 +146,27 @@ module _ (was : Tables) (is : IsTree was.tree) (f : Fork) (lives : Lives was.tre
   g = with_body body f
 
   -- and a unit needs something first
-  pub unit_stops : (n : Need) → ((d : DrumWords) → means.fits old d → means.fits mid d × RanUpTo f (means.plain old d) count g (means.plain mid d)) → IsNeeded means.store most_frames mid n → StopsBehind means old mid was (put_back was.tree g) was.files f g count n
+  pub unit_stops : (n : Need) → ((d : DrumWords) → means.fits old d → means.fits mid d × RanUpTo f (means.plain old d) count g (means.plain mid d)) → IsNeeded means.store most_frames mid n → StopsBehind means old mid was (put_back was.tree g) was.files was.typed f g count n
   unit_stops n told needed = record {
     told = λ d fits. (let t = told d fits in (t.0, refl, t.1));
     same = refl;
+    same_typed = refl;
     keeps = keeps;
     leaves = leaves_one was.tree is f lives body count keeps means old mid holds (made_less made);
     unmade = made_none made;
-    needed = needed_more means.store most_frames text_frames mid n (omega arith) needed;
+    needed = needed_more means.store most_frames unit_frames mid n (omega arith) needed;
   }
 
   -- or a call does
-  pub call_stops : (new : P) (tree : PlainTree) (files : FileTables) (n : Need) → ((d : DrumWords) → means.fits old d → means.fits mid d × RanUpTo f (means.plain old d) count g (means.plain mid d)) → CallWaits means mid new (record was { tree = put_back was.tree g }) (with_tree was tree files) f.name n
-      → StopsBehind means old new was tree files f g count n
-  call_stops new tree files n told waits = record {
+  pub call_stops : (new : P) (tree : PlainTree) (files : FileTables) (typed : List Typing) (n : Need) → ((d : DrumWords) → means.fits old d → means.fits mid d × RanUpTo f (means.plain old d) count g (means.plain mid d)) → CallWaits means mid new (record was { tree = put_back was.tree g }) (with_tree was tree files typed) f.name n
+      → StopsBehind means old new was tree files typed f g count n
+  call_stops new tree files typed n told waits = record {
     told = λ d fits.
         let t = told d fits in
         let w = waits.told.each d t.0 in
         (w.0, w.1, subst (RanUpTo f (means.plain old d) count g) (sym w.2) t.1);
     same = waits.told.files;
+    same_typed = waits.told.typed;
     keeps = keeps;
     leaves = subst (LeavesForks means old new was.tree tree f) none
         (leaves_then was.tree is f lives body count keeps means old mid new tree 0 made

@@ -16,7 +16,6 @@ use Rattle.plain_model.specs.Forks.{ForkMap, is_frozen}
 use Rattle.page_contracts.specs.DrumWords.{DrumWords}
 use Rattle.page_contracts.specs.declared.answers.Need.{Need}
 use Rattle.page_contracts.specs.Stores.{IsNeeded}
-use Rattle.text_pointers.specs.Reading.{text_frames}
 use Rattle.plain_model.specs.State.{PlainJob}
 use Rattle.plain_model.specs.Trees.{PlainTree, next_name}
 use Rattle.plain_model.proofs.ForkMaps.{AreOwn}
@@ -26,12 +25,14 @@ use Rattle.fork_calls.specs.Holding.{IsNew}
 use Rattle.fork_calls.specs.Limits.{AreWithin}
 use Rattle.fork_calls.proofs.Holdings.{holds_same}
 use Rattle.fork_calls.proofs.Places.{Keep, keep_itself, waiters_keep}
+use Rattle.monitor_core.specs.Limits.{unit_frames}
 use Rattle.monitor_core.specs.declared.job.Job.{Job}
 use Rattle.monitor_core.specs.declared.reply.Reply.TheVariants.{Prints}
 use Rattle.monitor_core.specs.declared.shown.Shown.{Shown}
 use Rattle.monitor_core.specs.declared.shown.Stop.{Stop}
 use Rattle.monitor_core.specs.declared.shown.Stop.TheVariants.{GoesOn}
 use Rattle.monitor_core.specs.declared.system.System.{System}
+use Rattle.monitor_core.specs.declared.typing.Typing.{Typing}
 use Rattle.monitor_core.specs.declared.units.Units.{Units}
 use Rattle.monitor_core.specs.ForkUnit.{Behind, HasJob, LeavesForks, Tables, UnitWaits, UnitsRan, rest_of}
 use Rattle.monitor_core.specs.Jobs.{AreUnheld, job_at, jobs_left, jobs_of}
@@ -57,11 +58,11 @@ use Rattle.monitor_core.proofs.UnitEffect.{Runs, behind_state, jobs_seen}
 
 -- the tables of a system
 abbrev pub tables_of : {P : Type 0} {b : _} → System P b → Tables
-tables_of m = record { tree = m.tree; files = m.files; jobs = m.jobs.items }
+tables_of m = record { tree = m.tree; files = m.files; jobs = m.jobs.items; typed = m.typed.items }
 
 -- the jobs of which one gives its terminal to the monitor, as the plain state has them
-module _ (held : List OpenFiles) where
-  pub jobs_left_seen : (jobs : List (Option Job)) (t : Tty) (stops : Bool) → t.0 < length jobs → jobs_of held (jobs_left jobs t.0 stops) ≡ jobs_seen (jobs_of held jobs) t stops
+module _ (held : List OpenFiles) (typed : List Typing) where
+  pub jobs_left_seen : (jobs : List (Option Job)) (t : Tty) (stops : Bool) → t.0 < length jobs → jobs_of held typed (jobs_left jobs t.0 stops) ≡ jobs_seen (jobs_of held typed jobs) t stops
   jobs_left_seen jobs t false low = refl
   jobs_left_seen jobs t true low = by (job_at jobs t.0) refl
     where
@@ -69,11 +70,11 @@ module _ (held : List OpenFiles) where
       left o = option_map_or (λ (j : Job). slice_set jobs t.0 (Some (record j { mode = Command }))) o jobs
 
       seen : Option PlainJob → fin.FinMap nat_cmp PlainJob
-      seen o = option_map_or (λ (j : PlainJob). fin.insert (jobs_of held jobs) t.0 (record j { mode = Command })) o (jobs_of held jobs)
+      seen o = option_map_or (λ (j : PlainJob). fin.insert (jobs_of held typed jobs) t.0 (record j { mode = Command })) o (jobs_of held typed jobs)
 
-      by : (o : Option Job) → job_at jobs t.0 ≡ o → jobs_of held (left o) ≡ seen (fin.get (jobs_of held jobs) t.0)
-      by None none = ap seen (sym (job_missing held jobs t.0 none))
-      by (Some j) there = jobs_set held jobs t.0 (record j { mode = Command }) low ∙ ap seen (sym (job_found held jobs t.0 j there))
+      by : (o : Option Job) → job_at jobs t.0 ≡ o → jobs_of held typed (left o) ≡ seen (fin.get (jobs_of held typed jobs) t.0)
+      by None none = ap seen (sym (job_missing held typed jobs t.0 none))
+      by (Some j) there = jobs_set held typed jobs t.0 (record j { mode = Command }) low ∙ ap seen (sym (job_found held typed jobs t.0 j there))
 
 -- and each terminal has the same top fork
 pub tops_left : (jobs : List (Option Job)) (t : ℕ) (stops : Bool) → t < length jobs → SameTops jobs (jobs_left jobs t stops)
@@ -101,8 +102,8 @@ module _ {P : Type 0} {b : _} (m : System P b) (f : Fork) (trees : IsTree m.tree
   within_jobs = omega (arith, m.sound.job_room, low)
 
   -- its terminal has a job
-  pub has_job : HasJob m.files m.jobs.items f.name.tty
-  has_job = record { terminal = low; room = m.sound.job_room; there = by (job_at m.jobs.items f.name.tty.0) refl; unheld = m.unheld }
+  pub has_job : HasJob m.files m.jobs.items m.typed.items f.name.tty
+  has_job = record { terminal = low; room = m.sound.job_room; typing_room = m.typing_room; there = by (job_at m.jobs.items f.name.tty.0) refl; unheld = m.unheld }
     where
       by : (o : Option Job) → job_at m.jobs.items f.name.tty.0 ≡ o → IsSome (job_at m.jobs.items f.name.tty.0)
       by None none = absurd (m.sound.nobody f.name.tty.0 f none lives refl)
@@ -175,15 +176,15 @@ module _ {P : Type 0} {b : _} (m : System P b) (f : Fork) (trees : IsTree m.tree
   abbrev was : Tables
   was = tables_of m
 
-  abbrev now : PlainTree → FileTables → Tables
-  now left files = record was { tree = left; files = files }
+  abbrev now : PlainTree → FileTables → List Typing → Tables
+  now left files typed = record was { tree = left; files = files; typed = typed }
 
-  module _ (q : P) (left tree' : PlainTree) (files : FileTables) (units : Units) (ran : UnitsRan b.means m.pages q was (now left files) f units) (left_trees : IsTree left) (woken : tree' ≡ record left { forks = woken_where left.forks f.name.tty (is_stop units.shown) }) where
-    module _ (m' : System P b) (files_are : m'.files ≡ files) (pages_are : m'.pages ≡ q) (tree_is : m'.tree ≡ tree') (shown : Shown) (runs : f.body.status ≡ Run) (thawed : is_frozen MOST_FORKS m.tree.forks (Some f) ≡ false)
+  module _ (q : P) (left tree' : PlainTree) (files : FileTables) (typed : List Typing) (units : Units) (ran : UnitsRan b.means m.pages q was (now left files typed) f units) (left_trees : IsTree left) (woken : tree' ≡ record left { forks = woken_where left.forks f.name.tty (is_stop units.shown) }) where
+    module _ (m' : System P b) (files_are : m'.files ≡ files) (typed_are : m'.typed.items ≡ typed) (pages_are : m'.pages ≡ q) (tree_is : m'.tree ≡ tree') (shown : Shown) (runs : f.body.status ≡ Run) (thawed : is_frozen MOST_FORKS m.tree.forks (Some f) ≡ false)
         (seen : shown ≡ seen_of f.slot units.shown) (jobs : m'.jobs.items ≡ jobs_left m.jobs.items f.name.tty.0 (is_stop shown)) (clock : m'.clock ≡ m.clock) (some : 1 ≤ units.count) where
       module _ (d : DrumWords) (fits : FitsPages m d) where
         abbrev last : Behind
-        last = record { rest = rest_of (now left files); fork = ran.after; pages = b.means.plain q d; shown = units.shown }
+        last = record { rest = rest_of (now left files typed); fork = ran.after; pages = b.means.plain q d; shown = units.shown }
 
         -- the pages of files under names
         abbrev filed : NamedFiles
@@ -205,8 +206,8 @@ module _ {P : Type 0} {b : _} (m : System P b) (f : Fork) (trees : IsTree m.tree
         state_is : state_of m' d ≡ behind_state entries.left (state_of m d) f last
         state_is =
             let held = open_of files in
-            let jobs_are : jobs_of (open_of m'.files) m'.jobs.items ≡ jobs_seen (jobs_of held m.jobs.items) f.name.tty (is_stop (seen_of f.slot units.shown)) =
-            (λ i. jobs_of (open_of (files_are i)) (jobs i)) ∙ jobs_left_seen held m.jobs.items f.name.tty (is_stop shown) within_jobs ∙ ap (λ x. jobs_seen (jobs_of held m.jobs.items) f.name.tty (is_stop x)) seen in
+            let jobs_are : jobs_of (open_of m'.files) m'.typed.items m'.jobs.items ≡ jobs_seen (jobs_of held typed m.jobs.items) f.name.tty (is_stop (seen_of f.slot units.shown)) =
+            (λ i. jobs_of (open_of (files_are i)) (typed_are i) (jobs i)) ∙ jobs_left_seen held typed m.jobs.items f.name.tty (is_stop shown) within_jobs ∙ ap (λ x. jobs_seen (jobs_of held typed m.jobs.items) f.name.tty (is_stop x)) seen in
             let tree_so = tree_is ∙ woken in
             (λ i. record (state_of m' d) { pages = named (files_are i).dir (b.means.plain (pages_are i) d); files = files_of (files_are i); jobs = jobs_are i; forks = (tree_so i).forks; fork_serials = (tree_so i).serials; clock = clock i })
             ∙ ap (λ (x : NamedFiles). behind_state x (state_of m d) f last) (sym left_named)
@@ -240,22 +241,23 @@ module _ {P : Type 0} {b : _} (m : System P b) (f : Fork) (trees : IsTree m.tree
           ]
 
   -- where the first unit needs something first
-  module _ (q : P) (left : PlainTree) (files : FileTables) (n : Need) (waits : UnitWaits b.means m.pages q was (now left files) f n) (left_trees : IsTree left) where
+  module _ (q : P) (left : PlainTree) (files : FileTables) (typed : List Typing) (n : Need) (waits : UnitWaits b.means m.pages q was (now left files typed) f n) (left_trees : IsTree left) where
     pub waits_sound : AreSound b.means q left m.jobs.items
     waits_sound = units_sound q left left 0 false waits.leaves left_trees refl left_trees m.jobs.items (record { out = None; stop = GoesOn }) refl
 
     pub waits_unheld : AreUnheld (open_of files) m.jobs.items
     waits_unheld = subst (λ (x : FileTables). AreUnheld (open_of x) m.jobs.items) (sym waits.told.files) m.unheld
 
-    pub waits_still : (m' : System P b) → m'.files ≡ files → m'.pages ≡ q → m'.tree ≡ left → m'.jobs ≡ m.jobs → m'.clock ≡ m.clock → Waits m m' n
-    waits_still m' files_are pages_are tree_is jobs_are clock = record {
+    pub waits_still : (m' : System P b) → m'.files ≡ files → m'.pages ≡ q → m'.tree ≡ left → m'.jobs ≡ m.jobs → m'.typed.items ≡ typed → m'.clock ≡ m.clock → Waits m m' n
+    waits_still m' files_are pages_are tree_is jobs_are typed_are clock = record {
       each = λ d fits.
           let t = waits.told.each d fits.pages in
           let files_same : m'.files ≡ m.files = files_are ∙ waits.told.files in
+          let typed_same : m'.typed.items ≡ m.typed.items = typed_are ∙ waits.told.typed in
           let same : b.means.plain m'.pages d ≡ b.means.plain m.pages d = ap (λ (x : P). b.means.plain x d) pages_are ∙ t.2 in
           let tree_same = tree_is ∙ t.1 in (
             fits_left m m' files_same d (subst (λ (x : P). b.means.fits x d) (sym pages_are) t.0) (ap (λ x. x.files) same) fits,
-            λ i. record (state_of m' d) { pages = named (files_same i).dir (same i); files = files_of (files_same i); jobs = jobs_of (open_of (files_same i)) (jobs_are i).items; forks = (tree_same i).forks; fork_serials = (tree_same i).serials; clock = clock i },
+            λ i. record (state_of m' d) { pages = named (files_same i).dir (same i); files = files_of (files_same i); jobs = jobs_of (open_of (files_same i)) (typed_same i) (jobs_are i).items; forks = (tree_same i).forks; fork_serials = (tree_same i).serials; clock = clock i },
           );
       within = λ entries w. record {
         ticks = omega (arith, clock, w.ticks);
@@ -263,7 +265,7 @@ module _ {P : Type 0} {b : _} (m : System P b) (f : Fork) (trees : IsTree m.tree
         serials = λ u. subst (λ (x : P). b.means.serial x u ≤ most_makings * entries + 1) (sym pages_are) (serials_still entries w u);
       };
       most = ap b.means.most pages_are ∙ waits.unmade.most;
-      needed = subst (λ (x : P). IsNeeded b.means.store text_frames x n) (sym pages_are) waits.needed;
+      needed = subst (λ (x : P). IsNeeded b.means.store unit_frames x n) (sym pages_are) waits.needed;
     }
       where
         serials_still : (entries : ℕ) → IsWithin m entries → (u : Tty) → b.means.serial q u ≤ most_makings * entries + 1

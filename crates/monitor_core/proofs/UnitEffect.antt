@@ -18,13 +18,15 @@ use Rattle.plain_model.specs.declared.fork.TerminalMode.TheVariants.{Command}
 use Rattle.machine_names.specs.declared.names.TheConstants.{MOST_FORKS}
 use Rattle.machine_names.specs.declared.names.ForkName.{ForkName}
 use Rattle.machine_names.specs.declared.names.Tty.{Tty}
+use Rattle.plain_model.specs.ByteCalls.{ByteAsked, ByteTurn, byte_calls}
 use Rattle.plain_model.specs.Calls.{Came, Turn, fork_behind, is_among, no_files, numbered, parts_behind, posted_if, turn_on, with_error}
-use Rattle.plain_model.specs.Families.{Parts, Turned, behind as family_behind, call_turned, print_calls, own_changed, asks, asks_jfns, asks_maps, files_seen, forks_changed, jfns_changed, names_seen, pages_changed}
+use Rattle.plain_model.specs.Families.{Parts, Turned, behind as family_behind, call_turned, print_calls, own_changed, asks, asks_bytes, asks_jfns, asks_maps, bytes_changed, files_seen, forks_changed, jfns_changed, names_seen, pages_changed}
 use Rattle.plain_model.specs.FileCalls.{file_call, file_calls, jfn_call, jfn_calls}
 use Rattle.plain_model.specs.ForkCalls.{fork_call, fork_calls}
 use Rattle.plain_model.specs.Forks.{ForkMap, counted, is_frozen, superior_of, with_regs}
 use Rattle.plain_model.specs.Interrupts.{is_panic, posted}
 use Rattle.plain_model.specs.MapCalls.{map_call, map_calls}
+use Rattle.plain_model.specs.StringCalls.{string_calls}
 use Rattle.machine_names.specs.Orders.{name_cmp}
 use Rattle.plain_model.specs.Run.{IsLegalStep, apply, unit_line}
 use Rattle.plain_pages.specs.PlainPages.{NumberedPages}
@@ -32,7 +34,7 @@ use Rattle.plain_model.specs.State.{PlainJob, PlainState}
 use Rattle.plain_units.specs.Steps.{Planned, call, done, need, pages_left, stopped as unit_stopped, trap}
 use Rattle.plain_model.specs.Unit.{Effect, called, in_command_mode, over, printed, stop_text, stopped, turn_printed, turned, unit, unit_ended, went, with_parts}
 use Rattle.plain_units.specs.Units.{unit_on}
-use Rattle.plain_model.proofs.Calling.{MakesNone, file_makes_none, forks_behind, jfns_behind, nothing_behind, pages_behind, print_makes_none}
+use Rattle.plain_model.proofs.Calling.{MakesNone, bytes_behind, file_makes_none, forks_behind, jfns_behind, nothing_behind, pages_behind, print_makes_none}
 use Rattle.plain_model.proofs.Equations.{apply_unit, unit_some}
 use Rattle.plain_model.proofs.ForkMaps.{AreOwn, put_itself, superior_tells}
 use Rattle.plain_model.proofs.Posted.{posted_same}
@@ -282,6 +284,11 @@ module _ (key : List ℕ → ℕ) (filed : NamedFiles) (s : PlainState) (f : For
         let c = turn_on (names_seen asked_of f.name) p (jfn_call number (asks_jfns asked_of f.name f.body.regs)) in
         family_caller (jfns_changed key) c _ (jfns_behind key asked_of c.pages c.end) t.fork
 
+    byte_caller : (rows : List (ℕ × (ByteAsked → ByteTurn))) → HasCaller (family_behind (bytes_changed key) asked_of f.name (turn_on (files_seen key asked_of f.name) p (numbered rows number (asks_bytes key asked_of f.name f.body.regs))))
+    byte_caller rows =
+        let c = turn_on (files_seen key asked_of f.name) p (numbered rows number (asks_bytes key asked_of f.name f.body.regs)) in
+        family_caller (bytes_changed key) c _ (bytes_behind key asked_of c.pages c.end) t.fork
+
     caller_there : HasCaller gone
     caller_there =
         cond_both (is_among print_calls number) _ _ HasCaller (λ is. own_caller (numbered print_calls number f.body.regs) (print_makes_none p number f.body.regs)) (λ n1.
@@ -289,7 +296,9 @@ module _ (key : List ℕ → ℕ) (filed : NamedFiles) (s : PlainState) (f : For
         cond_both (is_among map_calls number) _ _ HasCaller (λ is. map_caller) (λ n3.
         cond_both (is_among file_calls number) _ _ HasCaller (λ is. own_caller (file_call number (asks asked_of f.name f.body.regs)) (file_makes_none p number (asks asked_of f.name f.body.regs))) (λ n4.
         cond_both (is_among jfn_calls number) _ _ HasCaller (λ is. jfn_caller) (λ n5.
-        (posted f ILLEGAL_INSTRUCTION, ap (option_map (λ g. posted g ILLEGAL_INSTRUCTION)) t.fork, posted_stays f f ILLEGAL_INSTRUCTION (refl, refl)))))))
+        cond_both (is_among byte_calls number) _ _ HasCaller (λ is. byte_caller byte_calls) (λ n6.
+        cond_both (is_among string_calls number) _ _ HasCaller (λ is. byte_caller string_calls) (λ n7.
+        (posted f ILLEGAL_INSTRUCTION, ap (option_map (λ g. posted g ILLEGAL_INSTRUCTION)) t.fork, posted_stays f f ILLEGAL_INSTRUCTION (refl, refl)))))))))
 
     -- the same turn where files are known by their names
     abbrev named : Turned name_cmp

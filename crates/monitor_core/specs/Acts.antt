@@ -1,5 +1,7 @@
 -- What a machine gave a taker of an event.
-use Rattle.std.specs.Prelude.{◌≡◌, ℕ, ◌+◌, ◌≤◌, List, length, true, Result, OnOk, OnErr, IfOk}
+use Rattle.std.specs.Prelude.{◌≡◌, ℕ, ◌+◌, ◌≤◌, List, [], length, true, Result, OnOk, OnErr, IfOk}
+use Rattle.machine_names.specs.declared.names.Tty.{Tty}
+use Rattle.plain_model.specs.TypeEvents.{typed_all}
 use Rattle.script_texts.specs.declared.event.Event.{Event}
 use Rattle.script_texts.specs.declared.event.Event.TheVariants.{Run}
 use Rattle.script_texts.specs.declared.event.Step.{Step}
@@ -8,7 +10,7 @@ use Rattle.monitor_core.specs.Outcome.{Gave, GaveCut}
 use Rattle.script_texts.specs.Follows.{FollowsOne, Begins, auto_after}
 use Rattle.monitor_core.specs.declared.machine.Machine.{Machine}
 use Rattle.monitor_core.specs.Machines.{Fits, plain, limit, done, auto, is_live}
-use Rattle.monitor_core.specs.Giving.{Standing, StaysTaker}
+use Rattle.monitor_core.specs.Giving.{Standing, StaysTaker, Takes}
 
 -- the event's steps were given, and lead from the old plain state to the new one, with no idle entry where a fork can run
 pub record Given {P : Type 0} {b : _} {T : Type 0} (stands : Standing T) (m m' : Machine P b) (out out' : T) (event : Event) : Type 0 where
@@ -39,6 +41,16 @@ pub record TookTurns {P : Type 0} {b : _} {T E : Type 0} (fault_count : T → �
   pub few : IfOk result (λ n. n ≤ left)
   pub ok : IfOk result (λ n. Given stands m m' out out' (Run n))
   pub err : OnErr result (Cut stands cut m out out' (Run left))
+  pub mark : auto m' ≡ auto m
+  pub live : is_live m' ≡ is_live m
+  pub most : limit m' ≡ limit m
+
+-- the characters of a text were typed, and what each showed was given; or the taker failed
+pub record TookText {P : Type 0} {b : _} {T X E : Type 0} (fault_count : T → ℕ) (onward : T → T → Type 0) (stands cut : Standing T) (m m' : Machine P b) (out out' : T) (result : Result X E) (t : Tty) (text : List ℕ) : Type 0 where
+  pub taker : StaysTaker fault_count onward out out' result
+  pub given : (d : DrumWords) → Fits m d → Takes stands cut out out' result (typed_all (plain m d) t text).items []
+  pub left : OnOk result ((d : DrumWords) → Fits m d → Fits m' d × (plain m' d ≡ (typed_all (plain m d) t text).state))
+  pub count : done m' ≡ done m
   pub mark : auto m' ≡ auto m
   pub live : is_live m' ≡ is_live m
   pub most : limit m' ≡ limit m

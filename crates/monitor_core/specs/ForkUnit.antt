@@ -35,12 +35,12 @@ use Rattle.fork_tree.specs.Trees.{Lives}
 use Rattle.file_tables.specs.declared.tables.FileTables.{FileTables}
 use Rattle.file_tables.specs.Tables.{files_of, open_of}
 use Rattle.file_calls.specs.Asking.{key_in}
-use Rattle.text_pointers.specs.Reading.{text_frames}
 use Rattle.page_contracts.specs.declared.answers.Need.{Need}
 use Rattle.fork_calls.specs.Holding.{CallLeaves, Holds, IsNew, MakesPages, TopsStay}
 use Rattle.monitor_core.specs.declared.job.Job.{Job}
+use Rattle.monitor_core.specs.declared.typing.Typing.{Typing}
 use Rattle.monitor_core.specs.Jobs.{AreUnheld, job_at, jobs_of}
-use Rattle.monitor_core.specs.Limits.{FitsForced, IsBody}
+use Rattle.monitor_core.specs.Limits.{FitsForced, IsBody, unit_frames}
 use Rattle.monitor_core.specs.Shown.{FitsShown, nothing, shown_of, stands}
 use Rattle.monitor_core.specs.Writing.{Makes, most_makings}
 use Rattle.monitor_core.specs.declared.shown.Shown.{Shown}
@@ -70,9 +70,10 @@ pub record Tables : Type 0 where
   pub tree : PlainTree
   pub files : FileTables
   pub jobs : List (Option Job)
+  pub typed : List Typing
 
-abbrev pub tables_in : PlainTree → FileTables → List (Option Job) → Tables
-tables_in tree files jobs = record { tree = tree; files = files; jobs = jobs }
+abbrev pub tables_in : PlainTree → FileTables → List (Option Job) → List Typing → Tables
+tables_in tree files jobs typed = record { tree = tree; files = files; jobs = jobs; typed = typed }
 
 -- what the plain machine has of them: the forks of all jobs, the files and the jobs
 pub record Rest : Type 0 where
@@ -81,7 +82,7 @@ pub record Rest : Type 0 where
   pub jobs : Jobs
 
 abbrev pub rest_of : Tables → Rest
-rest_of t = record { tree = t.tree; files = files_of t.files; jobs = jobs_of (open_of t.files) t.jobs }
+rest_of t = record { tree = t.tree; files = files_of t.files; jobs = jobs_of (open_of t.files) t.typed t.jobs }
 
 -- the same with pages, and without them
 abbrev pub parts_in : Rest → NumberedPages → Parts nat_cmp
@@ -95,9 +96,10 @@ abbrev pub NumbersStay : Files → Files → Type 0
 NumbersStay old new = (f : ℕ) (name : List ℕ) → map.get new f ≡ Some name → (map.get old f ≡ Some name) ⊎ ((map.get old f ≡ None) × IsAbsent old name)
 
 -- the job of a terminal is there, and no JFN is held where no job is
-pub record HasJob (files : FileTables) (jobs : List (Option Job)) (t : Tty) : Type 0 where
+pub record HasJob (files : FileTables) (jobs : List (Option Job)) (typed : List Typing) (t : Tty) : Type 0 where
   pub terminal : IsTerminal t
   pub room : length jobs ≡ TERMINALS
+  pub typing_room : length typed ≡ TERMINALS
   pub there : IsSome (job_at jobs t.0)
   pub unheld : AreUnheld (open_of files) jobs
 
@@ -294,11 +296,13 @@ pub record Called {P : Type 0} (means : PagesMeaning P) (old new : P) (was is : 
   pub keeps : Kept f after 1
   pub leaves : LeavesForks means old new was.tree is.tree f 1
   pub unheld : AreUnheld (open_of is.files) is.jobs
+  pub typing_room : length is.typed ≡ TERMINALS
   pub fits : FitsShown shown
 
--- files and JFNs are as they were, and over each drum that fits so are forks and pages
+-- files and JFNs are as they were, and so is what was typed; and over each drum that fits so are forks and pages
 pub record StaysPlainly {P : Type 0} (means : PagesMeaning P) (old new : P) (was is : Tables) : Type 0 where
   pub files : is.files ≡ was.files
+  pub typed : is.typed ≡ was.typed
   pub each : (d : DrumWords) → means.fits old d → means.fits new d × (is.tree ≡ was.tree) × (means.plain new d ≡ means.plain old d)
 
 -- a call was not made, since it needs this first, whatever the drum holds
@@ -306,14 +310,14 @@ pub record CallWaits {P : Type 0} (means : PagesMeaning P) (old new : P) (was is
   pub told : StaysPlainly means old new was is
   pub left : CallLeaves means old new was.tree is.tree who most_makings
   pub unmade : MakesPages means who.tty 0 old new
-  pub needed : IsNeeded means.store text_frames new n
+  pub needed : IsNeeded means.store unit_frames new n
 
 -- no unit was done, since the first needs this, whatever the drum holds
 pub record UnitWaits {P : Type 0} (means : PagesMeaning P) (old new : P) (was is : Tables) (f : Fork) (n : Need) : Type 0 where
   pub told : StaysPlainly means old new was is
   pub leaves : LeavesForks means old new was.tree is.tree f 0
   pub unmade : MakesPages means f.name.tty 0 old new
-  pub needed : IsNeeded means.store text_frames new n
+  pub needed : IsNeeded means.store unit_frames new n
 
 -- units of a fork of a tree ran in a row, over each drum that fits: so many, and the last showed this
 pub record UnitsRan {P : Type 0} (means : PagesMeaning P) (old new : P) (was is : Tables) (f : Fork) (units : Units) : Type 0 where
@@ -324,4 +328,5 @@ pub record UnitsRan {P : Type 0} (means : PagesMeaning P) (old new : P) (was is 
   pub keeps : Kept f after units.count
   pub leaves : LeavesForks means old new was.tree is.tree f units.count
   pub unheld : AreUnheld (open_of is.files) is.jobs
+  pub typing_room : length is.typed ≡ TERMINALS
   pub shown : FitsShown units.shown

@@ -1,6 +1,7 @@
 pub mod Outcome
 pub mod Limits
 pub mod Shown
+pub mod Typings
 pub mod Jobs
 pub mod Holding
 pub mod Writing
@@ -8,9 +9,11 @@ pub mod Runners
 pub mod ForkUnit
 pub mod Looking
 pub mod Sound
+pub mod Echoes
 pub mod Replies
 pub mod JobEvents
 pub mod Systems
+pub mod Effects
 pub mod Giving
 pub mod Machines
 pub mod Acts

@@ -1,8 +1,13 @@
--- Limits of a fork.
-use Rattle.std.specs.Prelude.{◌≡◌}
+-- Limits of a fork and of its units.
+use Rattle.std.specs.Prelude.{◌≡◌, ℕ}
 use Rattle.plain_model.specs.declared.fork.Body.{Body}
 use Rattle.script_texts.specs.declared.status.ForkStatus.TheVariants.{Run}
+use Rattle.string_io.specs.Turning.{string_frames}
 pub use Rattle.fork_calls.specs.Limits.{FitsForced, IsBody}
+
+-- how many frames a unit may want: a turn of a call on strings wants most
+abbrev pub unit_frames : ℕ
+unit_frames = string_frames
 
 -- what units of a fork ask besides: it runs
 pub record CanUnit (b : Body) : Type 0 where

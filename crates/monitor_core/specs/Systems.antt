@@ -15,10 +15,10 @@ use Rattle.script_texts.specs.Limits.{FitsStep, IsBuilt}
 use Rattle.page_contracts.specs.DrumWords.{DrumWords}
 use Rattle.page_contracts.specs.declared.answers.Need.{Need}
 use Rattle.page_contracts.specs.Stores.{IsNeeded}
-use Rattle.text_pointers.specs.Reading.{text_frames}
 use Rattle.plain_model.specs.Run.{apply, state_after, items_of, AreLegal}
 use Rattle.fork_tree.specs.Trees.{Lives}
 use Rattle.plain_model.specs.Forks.{IsRunnable}
+use Rattle.monitor_core.specs.Limits.{unit_frames}
 use Rattle.monitor_core.specs.declared.reply.Reply.{Reply}
 use Rattle.monitor_core.specs.declared.system.System.{System}
 use Rattle.monitor_core.specs.Jobs.{jobs_of}
@@ -34,7 +34,7 @@ abbrev pub state_of : {P : Type 0} {b : _} → System P b → DrumWords → Plai
 state_of {P} {b} m d = record {
   pages = named m.files.dir (b.means.plain m.pages d);
   files = files_of m.files;
-  jobs = jobs_of (open_of m.files) m.jobs.items;
+  jobs = jobs_of (open_of m.files) m.typed.items m.jobs.items;
   forks = m.tree.forks;
   fork_serials = m.tree.serials;
   clock = m.clock;
@@ -82,4 +82,4 @@ pub record Waits {P : Type 0} {b : _} (old new : System P b) (n : Need) : Type 0
   pub each : (d : DrumWords) → FitsPages old d → FitsPages new d × (state_of new d ≡ state_of old d)
   pub within : (entries : ℕ) → IsWithin old entries → IsWithin new entries
   pub most : b.means.most new.pages ≡ b.means.most old.pages
-  pub needed : IsNeeded b.means.store text_frames new.pages n
+  pub needed : IsNeeded b.means.store unit_frames new.pages n

@@ -69,7 +69,7 @@ pub record IsRowWritten {X : Type 0} (p q : NumberedPages) (at : Spot ℕ) (owne
 
 -- so many pages at most are made in one entry: two for each reference that a unit has room for
 abbrev pub most_makings : ℕ
-most_makings = 128
+most_makings = 129
 
 -- pages were made for an owner, so many at most: the forks that live are the same, and so are the next serials of other owners
 pub record Makes {P : Type 0} (means : PagesMeaning P) (old new : P) (owner : Tty) (count : ℕ) : Type 0 where

@@ -1,7 +1,7 @@
 // Monitor calls by their numbers.
 ghost use Rattle.std.specs.Prelude.{◌≡◌, ◌<◌, ◌%◌, ◌^◌, IfErr, IfOk, IsOk, IsSome, None, Some, false, length, slice_index, true};
 ghost use Rattle.std.specs.FinMap as map;
-ghost use Rattle.machine_names.specs.declared.names.TheConstants.{ACCUMULATORS};
+ghost use Rattle.machine_names.specs.declared.names.TheConstants.{ACCUMULATORS, TERMINALS};
 ghost use Rattle.file_tables.specs.Tables.{open_of};
 ghost use Rattle.plain_model.specs.declared.fork.Body.{Body as ABody};
 ghost use Rattle.plain_model.specs.declared.fork.Fork.{Fork as AFork};
@@ -15,17 +15,20 @@ ghost use Rattle.page_contracts.specs.declared.answers.Need.{Need as ANeed};
 ghost use Rattle.call_turns.specs.Answers.{AnswerNeeds, IsDone, answer_of};
 ghost use Rattle.call_turns.specs.Turns.{IsRegs};
 ghost use Rattle.fork_calls.specs.Holding.{CallLeaves, Holds, MakesPages};
-ghost use Rattle.text_pointers.specs.Reading.{text_frames};
 ghost use Rattle.fork_calls.specs.Limits.{AreWithin};
 ghost use Rattle.fork_calls.specs.Turning.{HasRegs};
+ghost use Rattle.monitor_core.specs.Limits.{unit_frames};
 ghost use Rattle.monitor_core.specs.Shown.{shown_of};
 ghost use Rattle.monitor_core.specs.Jobs.{AreUnheld};
+ghost use Rattle.monitor_core.specs.Writing.{most_makings};
 ghost use Rattle.monitor_core.specs.ForkUnit.{CallWaits, Called, HasJob, Place as APlace, Turns, answered as answered_of, fork_of, out_in, tables_in};
 
 use crate::job::Job;
 use crate::runner::Runner;
 use crate::shown::{Shown, stop_of};
+use crate::typing::Typing;
 use crate::unit::post_channel;
+use byte_io::is_byte_call;
 use call_turns::{Answer, behind};
 use file_calls::{is_file_call, is_jfn_call};
 use file_tables::FileTables;
@@ -39,6 +42,7 @@ use plain_units::Regs;
 use plain_units::channel::ILLEGAL_INSTRUCTION;
 use pmap_calls::is_map_call;
 use script_texts::ForkStatus;
+use string_io::is_string_call;
 use word36::Word;
 
 // Whether a number is that of a call that prints.
@@ -87,21 +91,24 @@ fn turn<P: Pages>(
     tree: &mut Tree,
     files: &mut FileTables,
     jobs: &Vec<Option<Job>>,
+    typed: &mut Vec<Typing>,
     pages: &mut P,
 ) -> Answer
     requires regs { IsRegs regs.now }
     requires lives { IsSome (map.get tree.old.forks who) }
     requires holds { Holds P.means pages.old tree.old.forks }
     requires within { AreWithin tree.old.forks }
-    requires job { HasJob files.old jobs.now.items who.tty }
+    requires job { HasJob files.old jobs.now.items typed.old.items who.tty }
     requires serial { P.means.serial pages.old who.tty < 2 ^ 62 }
-    ensures told { Turns P.means pages.old pages.new (tables_in tree.old files.old jobs.now.items) (tables_in tree.new files.new jobs.now.items) who regs.now number result }
+    ensures told { Turns P.means pages.old pages.new (tables_in tree.old files.old jobs.now.items typed.old.items) (tables_in tree.new files.new jobs.now.items typed.new.items) who regs.now number result }
     ensures unheld { AreUnheld (open_of files.new) jobs.now.items }
     ensures stays { (n : ANeed) → result ≡ Answer.Need n → files.new ≡ files.old }
-    ensures needs { AnswerNeeds P.means.store text_frames pages.new result }
+    ensures untyped { (n : ANeed) → result ≡ Answer.Need n → typed.new.items ≡ typed.old.items }
+    ensures typing_room { length typed.new.items ≡ TERMINALS }
+    ensures needs { AnswerNeeds P.means.store unit_frames pages.new result }
     ensures core { P.means.flat ≡ true → IsDone result }
     ensures unmade { (n : ANeed) → result ≡ Answer.Need n → MakesPages P.means who.tty 0 pages.old pages.new }
-    ensures leaves { CallLeaves P.means pages.old pages.new tree.old tree.new who 128 }
+    ensures leaves { CallLeaves P.means pages.old pages.new tree.old tree.new who most_makings }
     ensures regs { HasRegs result }
 {
     if is_print_call(number) {
@@ -121,6 +128,14 @@ fn turn<P: Pages>(
             unreachable!();
         };
         return file_calls::jfn_call(number, regs, who, &job.user, files, pages);
+    }
+    if is_byte_call(number) {
+        let line = &mut typed[who.tty.0 as usize].input;
+        return byte_io::call(number, regs, who, line, files, pages);
+    }
+    if is_string_call(number) {
+        let input = &mut typed[who.tty.0 as usize].input;
+        return string_io::call(number, regs, who, input, files, pages);
     }
     Answer::Trap(ILLEGAL_INSTRUCTION)
 }
@@ -227,6 +242,7 @@ pub fn called<P: Pages>(
     pages: &mut P,
     files: &mut FileTables,
     jobs: &Vec<Option<Job>>,
+    typed: &mut Vec<Typing>,
     who: Runner,
     number: u32,
 ) -> Result<Shown, Need>
@@ -235,18 +251,18 @@ pub fn called<P: Pages>(
     requires can { AreWithin tree.old.forks }
     requires few { (f : AFork) → fork_in tree.old.forks who.fork.tty who.slot ≡ Some f → f.body.units < 2 ^ 63 }
     requires holds { Holds P.means pages.old tree.old.forks }
-    requires job { HasJob files.old jobs.now.items who.fork.tty }
+    requires job { HasJob files.old jobs.now.items typed.old.items who.fork.tty }
     requires serial { P.means.serial pages.old who.fork.tty < 2 ^ 62 }
     ensures called { (at : APlace) (b : ABody) → fork_in tree.old.forks who.fork.tty who.slot ≡ Some (fork_of who.fork at b)
-        → IfOk result (Called P.means pages.old pages.new (tables_in tree.old files.old jobs.now.items) (tables_in tree.new files.new jobs.now.items) (fork_of who.fork at b) number) }
-    ensures needs { IfErr result (CallWaits P.means pages.old pages.new (tables_in tree.old files.old jobs.now.items) (tables_in tree.new files.new jobs.now.items) who.fork) }
+        → IfOk result (Called P.means pages.old pages.new (tables_in tree.old files.old jobs.now.items typed.old.items) (tables_in tree.new files.new jobs.now.items typed.new.items) (fork_of who.fork at b) number) }
+    ensures needs { IfErr result (CallWaits P.means pages.old pages.new (tables_in tree.old files.old jobs.now.items typed.old.items) (tables_in tree.new files.new jobs.now.items typed.new.items) who.fork) }
     ensures core { P.means.flat ≡ true → IsOk result }
 {
     let Some(fork) = tree.fork_at(who.fork.tty, who.slot) else {
         unreachable!();
     };
     let regs = fork.body.regs;
-    let answer = turn(number, &regs, who.fork, tree, files, jobs, pages);
+    let answer = turn(number, &regs, who.fork, tree, files, jobs, typed, pages);
     if let Answer::Need(need) = answer {
         return Err(need);
     }

@@ -3,7 +3,7 @@ ghost use Rattle.std.specs.Prelude.{◌≡◌, ◌<◌, ◌≤◌, ◌%◌, ◌^
 ghost use Rattle.std.specs.FinMap as map;
 ghost use Rattle.outside.specs.declared.TheConstants.{PAGE_WORDS};
 ghost use Rattle.plain_model.specs.declared.fork.Fork.{Fork as AFork};
-ghost use Rattle.plain_model.specs.Events.{restarted};
+ghost use Rattle.plain_model.specs.Commands.{restarted};
 ghost use Rattle.plain_model.specs.Forks.{fork_line, superior_of};
 ghost use Rattle.script_texts.specs.Limits.{FitsCause, FitsItem};
 ghost use Rattle.machine_names.specs.Bounds.{IsAddress, IsTerminal};

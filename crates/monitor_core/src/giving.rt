@@ -12,8 +12,8 @@ use machine_names::character::LINE_END;
 use outside::Failed;
 use script_texts::{Item, Taker};
 
-// Gives the characters that a terminal prints.
-fn give_text<T: Taker>(out: &mut T, t: Tty, text: &[u8]) -> Result<(), Failed>
+/// Gives the characters that a terminal prints.
+pub fn give_text<T: Taker>(out: &mut T, t: Tty, text: &[u8]) -> Result<(), Failed>
     requires terminal { IsTerminal t }
     requires codes { All (λ c. c < 128) text.now }
     ensures { TookItems T.fault_count T.onward T.stands T.cut out.old out.new result (λ d. printed t text.now) }
@@ -35,8 +35,8 @@ fn give_forced<T: Taker>(out: &mut T, t: Tty, channel: u8) -> Result<(), Failed>
     give_text(out, t, b"\r\n@")
 }
 
-// Gives a character that a terminal prints: the end of a line prints as two.
-fn give_code<T: Taker>(out: &mut T, t: Tty, code: u8) -> Result<(), Failed>
+/// Gives a character that a terminal prints: the end of a line prints as two.
+pub fn give_code<T: Taker>(out: &mut T, t: Tty, code: u8) -> Result<(), Failed>
     requires terminal { IsTerminal t }
     requires code { code < 128 }
     ensures { TookItems T.fault_count T.onward T.stands T.cut out.old out.new result (λ d. printed t (shown_code code)) }

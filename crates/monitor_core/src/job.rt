@@ -1,5 +1,5 @@
 // A job.
-ghost use Rattle.std.specs.Prelude.{◌≡◌, IfOk, length};
+ghost use Rattle.std.specs.Prelude.{◌≡◌, IfOk, None, length};
 ghost use Rattle.machine_names.specs.Bounds.{IsTerminal};
 ghost use Rattle.monitor_core.specs.Jobs.{jobs_left, no_jobs};
 ghost use Rattle.monitor_core.specs.Shown.{is_stop, is_stopped, seen_of, seen_stop};
@@ -8,26 +8,54 @@ use crate::shown::{Shown, Stop};
 use machine_names::{DirName, ForkName, TERMINALS, Tty};
 use plain_model::TerminalMode;
 use std::alloc::{AllocError, Global};
+use word36::Word;
 
-/// A job of a terminal: its user, who reads the terminal, and its top fork.
+/// A job of a terminal: its user, who reads the terminal, its top fork, and the word whose right half is where the program starts that it ran last.
 #[derive(Clone, Copy)]
 pub struct Job {
     pub user: DirName,
     pub mode: TerminalMode,
     pub top: ForkName,
+    pub start: Option<Word>,
 }
 
 impl Job {
-    /// A new job: the monitor reads its terminal.
+    /// A new job: the monitor reads its terminal, and no program was run.
     pub fn new(user: DirName, top: ForkName) -> Job
         ensures user { result.user ≡ user }
         ensures mode { result.mode ≡ TerminalMode.Command }
         ensures top { result.top ≡ top }
+        ensures start { result.start ≡ None }
     {
         Job {
             user,
             mode: TerminalMode::Command,
             top,
+            start: None,
+        }
+    }
+
+    /// The job, whose forks read its terminal.
+    pub fn in_program(self) -> Job
+        ensures { result ≡ record self { mode = TerminalMode.Program } }
+    {
+        Job {
+            user: self.user,
+            mode: TerminalMode::Program,
+            top: self.top,
+            start: self.start,
+        }
+    }
+
+    /// The job, whose terminal the monitor reads.
+    pub fn in_command(self) -> Job
+        ensures { result ≡ record self { mode = TerminalMode.Command } }
+    {
+        Job {
+            user: self.user,
+            mode: TerminalMode::Command,
+            top: self.top,
+            start: self.start,
         }
     }
 }

@@ -43,3 +43,4 @@ pub struct Machine<P: Pages> {
 mod boot;
 mod event;
 mod turns;
+mod typing;

@@ -1,15 +1,18 @@
 // The system: all that the plain state tells of.
+ghost use Rattle.std.specs.Prelude.{◌≡◌, length};
+ghost use Rattle.machine_names.specs.declared.names.TheConstants.{TERMINALS};
 ghost use Rattle.file_tables.specs.Tables.{open_of};
 ghost use Rattle.monitor_core.specs.Jobs.{AreUnheld};
 ghost use Rattle.monitor_core.specs.Sound.{AreSound};
 
 use crate::job::Job;
+use crate::typing::Typing;
 use file_tables::FileTables;
 use fork_tree::Tree;
 use ka10_unit::Taken;
 use page_contracts::Pages;
 
-/// The pages, the forks of all jobs, the files and JFNs, the jobs, and the clock. Its steps are those of the plain machine; which fork
+/// The pages, the forks of all jobs, the files and JFNs, the jobs, what was typed, and the clock. Its steps are those of the plain machine; which fork
 /// runs next, and what is given to whom, is not its concern.
 #[derive(Drop)]
 pub struct System<P: Pages> {
@@ -18,18 +21,24 @@ pub struct System<P: Pages> {
     files: FileTables,
     /// The job of each terminal.
     jobs: Vec<Option<Job>>,
+    /// What was typed at each terminal.
+    typed: Vec<Typing>,
     /// What a unit takes that is not done in place; kept for the next.
     taken: Taken,
     /// How many ticks there were.
     clock: u64,
     ghost sound: { AreSound P.means pages tree jobs.items },
     ghost unheld: { AreUnheld (open_of files) jobs.items },
+    ghost typing_room: { length typed.items ≡ TERMINALS },
 }
 
 mod at_file;
 mod at_job;
 mod boot;
+mod commands;
 mod give;
+mod give_echo;
 mod login;
 mod runners;
 mod steps;
+mod typed;

@@ -15,6 +15,7 @@ use crate::calls::called;
 use crate::job::Job;
 use crate::runner::Runner;
 use crate::shown::Shown;
+use crate::typing::Typing;
 use crate::unit::{Last, run_units};
 use file_tables::FileTables;
 use fork_tree::Tree;
@@ -51,6 +52,7 @@ pub fn units_of<P: Pages>(
     pages: &mut P,
     files: &mut FileTables,
     jobs: &Vec<Option<Job>>,
+    typed: &mut Vec<Typing>,
     taken: &mut Taken,
     who: Runner,
     most: u32,
@@ -62,13 +64,13 @@ pub fn units_of<P: Pages>(
     requires serves { Serves P.means pages.old who.fork }
     requires holds { Holds P.means pages.old tree.old.forks }
     requires within { AreWithin tree.old.forks }
-    requires job { HasJob files.old jobs.now.items who.fork.tty }
+    requires job { HasJob files.old jobs.now.items typed.old.items who.fork.tty }
     requires serial { P.means.serial pages.old who.fork.tty < 2 ^ 61 }
     requires some { 0 < most }
     ensures ran { (at : APlace) (b : ABody) → fork_in tree.old.forks who.fork.tty who.slot ≡ Some (fork_of who.fork at b)
-        → IfOk result (UnitsRan P.means pages.old pages.new (tables_in tree.old files.old jobs.now.items) (tables_in tree.new files.new jobs.now.items) (fork_of who.fork at b)) }
+        → IfOk result (UnitsRan P.means pages.old pages.new (tables_in tree.old files.old jobs.now.items typed.old.items) (tables_in tree.new files.new jobs.now.items typed.new.items) (fork_of who.fork at b)) }
     ensures waits { (at : APlace) (b : ABody) → fork_in tree.old.forks who.fork.tty who.slot ≡ Some (fork_of who.fork at b)
-        → IfErr result (UnitWaits P.means pages.old pages.new (tables_in tree.old files.old jobs.now.items) (tables_in tree.new files.new jobs.now.items) (fork_of who.fork at b)) }
+        → IfErr result (UnitWaits P.means pages.old pages.new (tables_in tree.old files.old jobs.now.items typed.old.items) (tables_in tree.new files.new jobs.now.items typed.new.items) (fork_of who.fork at b)) }
     ensures core { P.means.flat ≡ true → IsOk result }
     ensures some { IfOk result (λ units. 1 ≤ units.count) }
     ensures few { IfOk result (λ units. units.count ≤ most) }
@@ -80,7 +82,7 @@ pub fn units_of<P: Pages>(
             count: row.count,
             shown,
         }),
-        Last::Calls(number) => match called(tree, pages, files, jobs, who, number) {
+        Last::Calls(number) => match called(tree, pages, files, jobs, typed, who, number) {
             Ok(shown) => Ok(Units {
                 count: row.count + 1,
                 shown,

@@ -23,6 +23,7 @@ impl<P: Pages> Machine<P> {
     {
         match e {
             Event::Run(n) => self.run(n, out),
+            Event::TypeIn(t, text) => self.type_in(t, text, out),
             // Flat pages have no frame and no transfer.
             Event::Evict(_) | Event::Drum(_) => Ok(()),
             Event::Auto(on) => {

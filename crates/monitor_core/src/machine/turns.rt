@@ -5,6 +5,7 @@ ghost use Rattle.script_texts.specs.declared.event.Step.{Step as AStep};
 ghost use Rattle.machine_names.specs.declared.names.ForkName.{ForkName as AForkName};
 ghost use Rattle.plain_model.specs.Forks.{IsRunnable};
 ghost use Rattle.monitor_core.specs.Runners.{IsRunner};
+ghost use Rattle.monitor_core.specs.Effects.{IsAtOnce};
 ghost use Rattle.monitor_core.specs.Systems.{CanDo};
 ghost use Rattle.monitor_core.specs.Machines.{done};
 ghost use Rattle.monitor_core.specs.Acts.{Acted, TookTurns};
@@ -20,6 +21,7 @@ impl<P: Pages> Machine<P> {
     /// Does an event that is one step, counts it, and gives it behind the items that it shows.
     pub(crate) fn step<T: Taker>(&mut self, e: Event, out: &mut T) -> Result<(), Failed>
         requires can { CanDo self.old.system (AStep.Outer e) }
+        requires once { IsAtOnce e }
         requires few { done self.old < 2 ^ 52 }
         ensures { Acted T.fault_count T.onward T.stands T.cut self.old self.new out.old out.new result e }
     {

@@ -9,6 +9,7 @@ ghost use Rattle.monitor_core.specs.Jobs.{no_jobs};
 
 use crate::job::empty_jobs;
 use crate::system::System;
+use crate::typing::empty_typings;
 use file_tables::FileTables;
 use fork_tree::Tree;
 use ka10_unit::Taken;
@@ -30,6 +31,7 @@ impl<P: Pages + Drop> System<P> {
         ensures clock { IfOk result (λ m. m.clock ≡ 0) }
     {
         let jobs = empty_jobs(alloc)?;
+        let typed = empty_typings(alloc)?;
         let tree = Tree::boot(alloc)?;
         let files = FileTables::boot(alloc)?;
         Ok(System {
@@ -37,6 +39,7 @@ impl<P: Pages + Drop> System<P> {
             tree,
             files,
             jobs,
+            typed,
             taken: Taken::new(),
             clock: 0,
         })

@@ -18,7 +18,7 @@ use plain_pages::NewMap;
 use script_texts::{Item, Refusal};
 
 impl<P: Pages> System<P> {
-    // Makes a job with its top fork, and its terminal waits for a command.
+    // Makes a job with its top fork, and its terminal waits for a command; what was typed there before is lost.
     fn add_job(&mut self, t: Tty, user: DirName) -> Reply
         requires terminal { IsTerminal t }
         requires free { job_at self.old.jobs.items t.0 ≡ None }
@@ -32,6 +32,7 @@ impl<P: Pages> System<P> {
             Ok(fork) => {
                 self.tree.are_trees();
                 self.pages.add_fork(fork, NewMap::Empty);
+                self.typed[t.0 as usize].clear();
                 self.jobs[t.0 as usize] = Some(Job::new(user, fork));
                 Reply::One(Item::Char(t, character::PROMPT))
             }

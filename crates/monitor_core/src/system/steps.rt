@@ -4,6 +4,7 @@ ghost use Rattle.script_texts.specs.Limits.{FitsStep, IsBuilt};
 ghost use Rattle.script_texts.specs.declared.event.Event.{Event as AnEvent};
 ghost use Rattle.script_texts.specs.declared.event.Step.{Step as AStep};
 ghost use Rattle.monitor_core.specs.declared.reply.Reply.{Reply as AReply};
+ghost use Rattle.monitor_core.specs.Effects.{IsAtOnce};
 ghost use Rattle.monitor_core.specs.Replies.{reply_of};
 ghost use Rattle.monitor_core.specs.Runners.{IsRunner, woken_where};
 ghost use Rattle.monitor_core.specs.Systems.{CanDo, Did, DidAll, IsWithin, Waits};
@@ -48,6 +49,7 @@ impl<P: Pages> System<P> {
             &mut self.pages,
             &mut self.files,
             &self.jobs,
+            &mut self.typed,
             &mut self.taken,
             who,
             most,
@@ -80,6 +82,7 @@ impl<P: Pages> System<P> {
     fn outer(&mut self, e: &Event) -> Result<Reply, Refusal>
         requires fits { FitsStep (AStep.Outer e.now) }
         requires built { IsBuilt e.now }
+        requires once { IsAtOnce e.now }
         requires flat { P.means.flat ≡ true }
         requires few { IsWithin self.old (2 ^ 52) }
         ensures { Did self.old self.new (AStep.Outer e.now) (reply_of result) }
@@ -104,6 +107,7 @@ impl<P: Pages> System<P> {
     /// Does an event that is one step.
     pub fn apply(&mut self, e: &Event) -> Reply
         requires can { CanDo self.old (AStep.Outer e.now) }
+        requires once { IsAtOnce e.now }
         requires flat { P.means.flat ≡ true }
         requires few { IsWithin self.old (2 ^ 52) }
         ensures { Did self.old self.new (AStep.Outer e.now) result }

@@ -15,10 +15,10 @@ use Rattle.plain_model.specs.Trees.{PlainTree, changed, with_body, with_changed_
 use Rattle.fork_tree.specs.Trees.{IsTree, Lives}
 use Rattle.fork_tree.proofs.Slots.{in_tells, some_of}
 use Rattle.call_turns.specs.Answers.{AnswerNeeds, IsDone}
-use Rattle.text_pointers.specs.Reading.{text_frames}
 use Rattle.fork_calls.specs.Holding.{CallLeaves}
 use Rattle.fork_calls.specs.Limits.{AreWithin, FitsForced, IsBody}
 use Rattle.file_calls.specs.Asking.{key_in}
+use Rattle.monitor_core.specs.Limits.{unit_frames}
 use Rattle.monitor_core.specs.ForkUnit.{Kept, LeavesForks, Tables, TurnedSo, answered, answered_turn, called_behind, fork_of, out_in, parts_in, put_back, put_in, rest_of, turn_behind}
 use Rattle.monitor_core.specs.Shown.{FitsShown, FitsStop, shown_of, stop_of}
 use Rattle.monitor_core.proofs.Calling.{done_else, out_fits, so_done}
@@ -100,8 +100,8 @@ returns-in-Some-body_mut-clause-called g c at b found =
     let new = c.turn-answer.new.tree in
     let answer = c.turn-answer.result in
     let turn = c.turn-answer.ensures in
-    let tables : Tables = record { tree = old; files = c.args.files.now; jobs = c.args.jobs.now.items } in
-    let mid : Tables = record tables { tree = new; files = c.turn-answer.new.files } in
+    let tables : Tables = record { tree = old; files = c.args.files.now; jobs = c.args.jobs.now.items; typed = c.args.typed.now.items } in
+    let mid : Tables = record tables { tree = new; files = c.turn-answer.new.files; typed = c.turn-answer.new.typed.items } in
     let was = c.fork_at.ensures.tree in
     let is = c.are_trees.ensures in
     let left = c.turn-answer.ensures.leaves in
@@ -136,6 +136,7 @@ returns-in-Some-body_mut-clause-called g c at b found =
           (turn.told.fits d drum, behind_is ∙ left_is ∙ (λ i. record { rest = rest_of (record mid { tree = sym back i }); fork = with_body body k; pages = q; shown = sym c.answered.ensures.shown i }));
       numbers = turn.told.numbers;
       unheld = turn.unheld;
+      typing_room = turn.typing_room;
       keeps = after_keeps old new was is left.kept f k lives fits stands.1 body keeps;
       leaves = subst (λ x. LeavesForks g.P.Pages.means c.args.pages.now c.turn-answer.new.pages old x f 1) (sym back)
           (turn_leaves old new was is left.kept f k lives fits stands.1 body keeps g.P.Pages.means c.args.pages.now c.turn-answer.new.pages left);
@@ -148,11 +149,12 @@ returns-in-Need-clause-needs g c =
     let who = c.args.who.fork in
     let turn = c.turn-answer.ensures in
     let n = c.in-Need.need in
-    let tables : Tables = record { tree = c.args.tree.now; files = c.args.files.now; jobs = c.args.jobs.now.items } in
-    let left : Tables = record tables { tree = c.turn-answer.new.tree; files = c.turn-answer.new.files } in
+    let tables : Tables = record { tree = c.args.tree.now; files = c.args.files.now; jobs = c.args.jobs.now.items; typed = c.args.typed.now.items } in
+    let left : Tables = record tables { tree = c.turn-answer.new.tree; files = c.turn-answer.new.files; typed = c.turn-answer.new.typed.items } in
     record {
       told = record {
         files = turn.stays n c.in-Need.is;
+        typed = turn.untyped n c.in-Need.is;
         each = λ d drum.
             let p = means.plain c.args.pages.now d in
             let q = means.plain c.turn-answer.new.pages d in
@@ -161,7 +163,7 @@ returns-in-Need-clause-needs g c =
       };
       left = turn.leaves;
       unmade = turn.unmade n c.in-Need.is;
-      needed = subst (AnswerNeeds means.store text_frames c.turn-answer.new.pages) c.in-Need.is turn.needs;
+      needed = subst (AnswerNeeds means.store unit_frames c.turn-answer.new.pages) c.in-Need.is turn.needs;
     }
 
 pub returns-in-Need-clause-core : goal.returns-in-Need-clause-core

@@ -20,7 +20,7 @@ returns-in-Done g c at =
           let q = g.P.Pages.means.plain c.slow_unit.new.pages d in
           (told.0, λ key rest. done_behind key rest f p q regs (channel_of c.in-Done.post) told.1 ∙ (λ i. left_so rest (sym left i) q (sym ended.shown i)));
       keeps = subst (λ h. Kept f h 1) (sym left) (ended_keeps f c.requires.can.fits.off regs slow.pc (slow.accumulators ∙ c.requires.can.fits.accumulators) c.in-Done.post);
-      made = record { lives = slow.grows.lives; forks = slow.grows.forks; most = slow.grows.most; own = slow.grows.serial; others = slow.grows.serials };
+      made = record { lives = slow.grows.lives; forks = slow.grows.forks; most = slow.grows.most; own = omega (arith, slow.grows.serial); others = slow.grows.serials };
       fits = ended.fits;
       needs = tt;
       core = λ flat. tt;
@@ -40,7 +40,7 @@ returns-in-Trap g c at =
           let q = g.P.Pages.means.plain c.slow_unit.new.pages d in
           (told.0, λ key rest. trap_behind key rest f p q regs c.in-Trap.channel told.1 (ap (λ x. g.P.Pages.means.plain x d) slow.stopped.1) slow.stopped.0 ∙ (λ i. left_so rest (sym left i) q (sym posted.shown i)));
       keeps = subst (λ h. Kept f h 1) (sym left) (posted_keeps f c.requires.can.fits.off regs slow.pc (slow.accumulators ∙ c.requires.can.fits.accumulators) c.in-Trap.channel);
-      made = record { lives = slow.grows.lives; forks = slow.grows.forks; most = slow.grows.most; own = slow.grows.serial; others = slow.grows.serials };
+      made = record { lives = slow.grows.lives; forks = slow.grows.forks; most = slow.grows.most; own = omega (arith, slow.grows.serial); others = slow.grows.serials };
       fits = posted.fits;
       needs = tt;
       core = λ flat. tt;

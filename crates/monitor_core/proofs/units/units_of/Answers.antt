@@ -15,7 +15,7 @@ use Rattle.fork_calls.specs.Limits.{AreWithin}
 use Rattle.fork_calls.proofs.Holdings.{holds_still}
 use Rattle.monitor_core.specs.Limits.{CanUnit}
 use Rattle.monitor_core.specs.Writing.{Makes}
-use Rattle.monitor_core.specs.ForkUnit.{CallWaits, FitsLast, HasRoom, IsMet, IsRow, LastNeeds, Kept, LeavesForks, Place, Ran, RanUnits, Rest, Tables, called_behind, fork_of, makings_of, put_back, put_in, rest_of}
+use Rattle.monitor_core.specs.ForkUnit.{CallWaits, FitsLast, HasRoom, IsMet, IsRow, LastNeeds, Kept, LeavesForks, Place, Ran, RanUnits, Tables, called_behind, fork_of, makings_of, put_back, rest_of}
 use Rattle.monitor_core.proofs.Calling.{body_has, left_tree, still_in}
 use Rattle.monitor_core.proofs.JfnsAsked.{dir_stays}
 use Rattle.monitor_core.proofs.Keeping.{more_keeps}
@@ -97,7 +97,7 @@ pub returns-in-Shows-clause-ran : goal.returns-in-Shows-clause-ran
 returns-in-Shows-clause-ran g c at b there =
     let who = c.args.who.fork in
     let tree = c.args.tree.now in
-    let was : Tables = record { tree = tree; files = c.args.files.now; jobs = c.args.jobs.now.items } in
+    let was : Tables = record { tree = tree; files = c.args.files.now; jobs = c.args.jobs.now.items; typed = c.args.typed.now.items } in
     let f = fork_of who at b in
     let body = c.run_units-row.new.body in
     let after = fork_of who at body in
@@ -116,6 +116,7 @@ returns-in-Shows-clause-ran g c at b there =
           (t.0, subst (λ x. RanUnits (key_in was.files) (rest_of was) f p row.count (record { rest = rest_of (record was { tree = x }); fork = after; pages = q; shown = c.in-Shows.shown })) (sym left) (subst (IsRow f p row.count after q) c.in-Shows.is t.1 (key_in was.files) (rest_of was)));
       numbers = λ d drum. dir_stays was.files was.files refl;
       unheld = c.requires.job.unheld;
+      typing_room = c.requires.job.typing_room;
       keeps = ran.keeps;
       leaves = subst (λ x. LeavesForks g.P.Pages.means c.args.pages.now c.run_units-row.new.pages tree x f row.count) (sym left)
           (leaves_one tree is f lives body row.count ran.keeps g.P.Pages.means c.args.pages.now c.run_units-row.new.pages c.requires.holds
@@ -127,7 +128,7 @@ pub returns-in-Ok-clause-ran : goal.returns-in-Ok-clause-ran
 returns-in-Ok-clause-ran g c at b there =
     let who = c.args.who.fork in
     let tree = c.args.tree.now in
-    let was : Tables = record { tree = tree; files = c.args.files.now; jobs = c.args.jobs.now.items } in
+    let was : Tables = record { tree = tree; files = c.args.files.now; jobs = c.args.jobs.now.items; typed = c.args.typed.now.items } in
     let f = fork_of who at b in
     let body = c.run_units-row.new.body in
     let mid = fork_of who at body in
@@ -149,6 +150,7 @@ returns-in-Ok-clause-ran g c at b there =
           (made.0, call_behind (key_in was.files) (rest_of was) f p row.count mid q c.in-Calls.number _ row_is.0 row_is.1 (ap (λ (x : PlainTree). called_behind (key_in was.files) (rest_of (record was { tree = x })) mid q c.in-Calls.number) (sym left) ∙ made.1));
       numbers = λ d drum. called.numbers d (ran.told d drum).0;
       unheld = called.unheld;
+      typing_room = called.typing_room;
       keeps = more_keeps f mid called.after row.count 1 ran.keeps called.keeps;
       leaves = leaves_then tree is f lives body row.count ran.keeps g.P.Pages.means c.args.pages.now c.run_units-row.new.pages c.called.new.pages c.called.new.tree 1
           (subst (λ l. Makes g.P.Pages.means c.args.pages.now c.run_units-row.new.pages who.tty (makings_of l)) c.in-Calls.is ran.made)
@@ -160,7 +162,7 @@ pub returns-in-Err-clause-ran : goal.returns-in-Err-clause-ran
 returns-in-Err-clause-ran g c at b there =
     let who = c.args.who.fork in
     let tree = c.args.tree.now in
-    let was : Tables = record { tree = tree; files = c.args.files.now; jobs = c.args.jobs.now.items } in
+    let was : Tables = record { tree = tree; files = c.args.files.now; jobs = c.args.jobs.now.items; typed = c.args.typed.now.items } in
     let f = fork_of who at b in
     let body = c.run_units-row.new.body in
     let mid = fork_of who at body in
@@ -174,15 +176,15 @@ returns-in-Err-clause-ran g c at b there =
     let old = c.args.pages.now in
     let now = c.run_units-row.new.pages in
     let made = subst (λ l. Makes means old now who.tty (makings_of l)) c.in-Calls.is ran.made in
-    let waits = subst (λ x. CallWaits means now c.called.new.pages (record was { tree = x }) (with_tree was c.called.new.tree c.called.new.files) who c.in-Err.need) left c.in-Err.ensures.needs in
-    let stops = call_stops was is f lives body row.count ran.keeps means old now made c.requires.holds c.called.new.pages c.called.new.tree c.called.new.files c.in-Err.need (λ d fits. (let t = ran.told d fits in (t.0, (subst (IsRow f (means.plain old d) row.count mid (means.plain now d)) c.in-Calls.is t.1).0))) waits in
-    stops_ran means old c.called.new.pages was c.called.new.tree c.called.new.files f mid c.in-Err.need lives c.requires.job.unheld row.count c.done_before.result c.done_before.ensures stops
+    let waits = subst (λ x. CallWaits means now c.called.new.pages (record was { tree = x }) (with_tree was c.called.new.tree c.called.new.files c.called.new.typed.items) who c.in-Err.need) left c.in-Err.ensures.needs in
+    let stops = call_stops was is f lives body row.count ran.keeps means old now made c.requires.holds c.called.new.pages c.called.new.tree c.called.new.files c.called.new.typed.items c.in-Err.need (λ d fits. (let t = ran.told d fits in (t.0, (subst (IsRow f (means.plain old d) row.count mid (means.plain now d)) c.in-Calls.is t.1).0))) waits in
+    stops_ran means old c.called.new.pages was c.called.new.tree c.called.new.files c.called.new.typed.items f mid c.in-Err.need lives c.requires.job.unheld c.requires.job.typing_room row.count c.done_before.result c.done_before.ensures stops
 
 pub returns-in-Err-clause-waits : goal.returns-in-Err-clause-waits
 returns-in-Err-clause-waits g c at b there =
     let who = c.args.who.fork in
     let tree = c.args.tree.now in
-    let was : Tables = record { tree = tree; files = c.args.files.now; jobs = c.args.jobs.now.items } in
+    let was : Tables = record { tree = tree; files = c.args.files.now; jobs = c.args.jobs.now.items; typed = c.args.typed.now.items } in
     let f = fork_of who at b in
     let body = c.run_units-row.new.body in
     let mid = fork_of who at body in
@@ -196,15 +198,15 @@ returns-in-Err-clause-waits g c at b there =
     let old = c.args.pages.now in
     let now = c.run_units-row.new.pages in
     let made = subst (λ l. Makes means old now who.tty (makings_of l)) c.in-Calls.is ran.made in
-    let waits = subst (λ x. CallWaits means now c.called.new.pages (record was { tree = x }) (with_tree was c.called.new.tree c.called.new.files) who c.in-Err.need) left c.in-Err.ensures.needs in
-    let stops = call_stops was is f lives body row.count ran.keeps means old now made c.requires.holds c.called.new.pages c.called.new.tree c.called.new.files c.in-Err.need (λ d fits. (let t = ran.told d fits in (t.0, (subst (IsRow f (means.plain old d) row.count mid (means.plain now d)) c.in-Calls.is t.1).0))) waits in
-    stops_waits means old c.called.new.pages was c.called.new.tree c.called.new.files f mid c.in-Err.need lives c.requires.job.unheld row.count c.done_before.result c.done_before.ensures stops
+    let waits = subst (λ x. CallWaits means now c.called.new.pages (record was { tree = x }) (with_tree was c.called.new.tree c.called.new.files c.called.new.typed.items) who c.in-Err.need) left c.in-Err.ensures.needs in
+    let stops = call_stops was is f lives body row.count ran.keeps means old now made c.requires.holds c.called.new.pages c.called.new.tree c.called.new.files c.called.new.typed.items c.in-Err.need (λ d fits. (let t = ran.told d fits in (t.0, (subst (IsRow f (means.plain old d) row.count mid (means.plain now d)) c.in-Calls.is t.1).0))) waits in
+    stops_waits means old c.called.new.pages was c.called.new.tree c.called.new.files c.called.new.typed.items f mid c.in-Err.need lives c.requires.job.unheld c.requires.job.typing_room row.count c.done_before.result c.done_before.ensures stops
 
 pub returns-in-Needs-clause-ran : goal.returns-in-Needs-clause-ran
 returns-in-Needs-clause-ran g c at b there =
     let who = c.args.who.fork in
     let tree = c.args.tree.now in
-    let was : Tables = record { tree = tree; files = c.args.files.now; jobs = c.args.jobs.now.items } in
+    let was : Tables = record { tree = tree; files = c.args.files.now; jobs = c.args.jobs.now.items; typed = c.args.typed.now.items } in
     let f = fork_of who at b in
     let body = c.run_units-row.new.body in
     let mid = fork_of who at body in
@@ -219,15 +221,15 @@ returns-in-Needs-clause-ran g c at b there =
     let now = c.run_units-row.new.pages in
     let n = c.in-Needs.need in
     let made = subst (λ l. Makes means old now who.tty (makings_of l)) c.in-Needs.is ran.made in
-    let stops = subst (λ x. StopsBehind means old now was x was.files f mid row.count n) (sym left)
+    let stops = subst (λ x. StopsBehind means old now was x was.files was.typed f mid row.count n) (sym left)
     (unit_stops was is f lives body row.count ran.keeps means old now made c.requires.holds n (λ d fits. (let t = ran.told d fits in (t.0, subst (IsRow f (means.plain old d) row.count mid (means.plain now d)) c.in-Needs.is t.1))) (subst (LastNeeds means.store now) c.in-Needs.is ran.needs)) in
-    stops_ran means old now was _ was.files f mid n lives c.requires.job.unheld row.count c.done_before-in-Needs.result c.done_before-in-Needs.ensures stops
+    stops_ran means old now was _ was.files was.typed f mid n lives c.requires.job.unheld c.requires.job.typing_room row.count c.done_before-in-Needs.result c.done_before-in-Needs.ensures stops
 
 pub returns-in-Needs-clause-waits : goal.returns-in-Needs-clause-waits
 returns-in-Needs-clause-waits g c at b there =
     let who = c.args.who.fork in
     let tree = c.args.tree.now in
-    let was : Tables = record { tree = tree; files = c.args.files.now; jobs = c.args.jobs.now.items } in
+    let was : Tables = record { tree = tree; files = c.args.files.now; jobs = c.args.jobs.now.items; typed = c.args.typed.now.items } in
     let f = fork_of who at b in
     let body = c.run_units-row.new.body in
     let mid = fork_of who at body in
@@ -242,9 +244,9 @@ returns-in-Needs-clause-waits g c at b there =
     let now = c.run_units-row.new.pages in
     let n = c.in-Needs.need in
     let made = subst (λ l. Makes means old now who.tty (makings_of l)) c.in-Needs.is ran.made in
-    let stops = subst (λ x. StopsBehind means old now was x was.files f mid row.count n) (sym left)
+    let stops = subst (λ x. StopsBehind means old now was x was.files was.typed f mid row.count n) (sym left)
     (unit_stops was is f lives body row.count ran.keeps means old now made c.requires.holds n (λ d fits. (let t = ran.told d fits in (t.0, subst (IsRow f (means.plain old d) row.count mid (means.plain now d)) c.in-Needs.is t.1))) (subst (LastNeeds means.store now) c.in-Needs.is ran.needs)) in
-    stops_waits means old now was _ was.files f mid n lives c.requires.job.unheld row.count c.done_before-in-Needs.result c.done_before-in-Needs.ensures stops
+    stops_waits means old now was _ was.files was.typed f mid n lives c.requires.job.unheld c.requires.job.typing_room row.count c.done_before-in-Needs.result c.done_before-in-Needs.ensures stops
 
 pub returns-in-Err-clause-core : goal.returns-in-Err-clause-core
 returns-in-Err-clause-core g c flat = (let no = c.in-Err.ensures.core flat in absurd (cc no))

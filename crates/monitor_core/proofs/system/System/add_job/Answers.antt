@@ -1,4 +1,4 @@
-use Rattle.std.proofs.Common.{◌≡◌, ◌≢◌, ◌||◌, ◌<◌, ◌+◌, set, arith, false, Some, refl, sym, ◌∙◌, subst}
+use Rattle.std.proofs.Common.{◌≡◌, ◌≢◌, ◌||◌, ◌<◌, ◌+◌, set, arith, false, Some, refl, sym, ◌∙◌, ap, subst, length-set}
 use Rattle.plain_pages.specs.declared.map.NewMap.TheVariants.{Empty}
 use Rattle.machine_names.specs.declared.names.ForkName.{ForkName}
 use Rattle.machine_names.specs.declared.names.Tty.{Tty}
@@ -44,6 +44,7 @@ invariant_of-self g c =
           (subst (λ (n : ForkName). means.forks_of q n.tty ≡ means.forks_of p n.tty + 1) made.1 c.add_fork.ensures.forks)
           (subst (λ (n : ForkName). (u : Tty) → u ≢ n.tty → means.forks_of q u ≡ means.forks_of p u) made.1 c.add_fork.ensures.others)
           c.are_trees.ensures (subst IsTree tree_is c.are_trees-in-Ok.ensures));
+      typing_room = length-set m.typed.items c.args.t.0 c.clear.new.self ∙ m.typing_room;
       unheld = unheld_begun (open_of m.files) m.jobs.items c.args.t.0 c.new.result m.unheld (omega (arith, m.sound.job_room, c.requires.terminal));
     }
 
@@ -54,6 +55,6 @@ returns g c =
     let made = c.in-Ok.ensures in
     let none = none_first means m.pages m.tree m.jobs.items m.sound c.args.t c.requires.free c.requires.terminal c.are_trees.ensures in
     did_login m c.args.t c.args.user c.requires.free _ c.new.result c.requires.terminal (unused m.tree c.args.t none c.requires.unused) (λ d fits. g.met.P.Pages.agrees m.pages d fits)
-    (none_held means m.pages m.tree m.jobs.items m.sound c.args.t c.requires.free c.requires.terminal c.are_trees.ensures) c.requires.room (made.2 ∙ new_tree m.tree c.args.t none) refl refl c.new.ensures.user c.new.ensures.mode (c.new.ensures.top ∙ made.1) refl
+    (none_held means m.pages m.tree m.jobs.items m.sound c.args.t c.requires.free c.requires.terminal c.are_trees.ensures) c.requires.room (made.2 ∙ new_tree m.tree c.args.t none) refl refl (ap (set m.typed.items c.args.t.0) c.clear.ensures) c.new.ensures.user c.new.ensures.mode (c.new.ensures.top ∙ made.1) c.new.ensures.start refl
     (subst (λ (n : ForkName). (d : DrumWords) → means.fits m.pages d → means.fits c.add_fork.new.self d × (means.plain c.add_fork.new.self d ≡ with_map (means.plain m.pages d) n Empty)) made.1 c.add_fork.ensures.told)
     c.add_fork.ensures.serials c.add_fork.ensures.most

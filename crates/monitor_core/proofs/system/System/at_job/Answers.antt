@@ -1,7 +1,7 @@
 use Rattle.std.proofs.Common.{Some, set, refl, sym, ◌∙◌, ap, subst, arith}
 use Rattle.std.specs.Prelude.{IsSome}
 use Rattle.plain_model.specs.declared.fork.TerminalMode.TheVariants.{Program}
-use Rattle.plain_model.specs.Events.{restarted}
+use Rattle.plain_model.specs.Commands.{restarted}
 use Rattle.plain_model.specs.Trees.{PlainTree}
 use Rattle.fork_tree.proofs.Slots.{held_lives}
 use Rattle.monitor_core.specs.declared.job.Job.{Job}
@@ -20,7 +20,7 @@ use Rattle.monitor_core.proofs.system.System.at_job.Goals as goal
 
 pub returns-in_default : goal.returns-in_default
 returns-in_default g c =
-    did_no_job c.args.self.now _ refl refl refl (put_back c.args.self.now.jobs.items c.args.t.0 c.index_mut.result.now c.index_mut.result.now c.index_mut.ensures.value refl) refl c.args.t c.args.e c.requires.terminal
+    did_no_job c.args.self.now _ refl refl refl (put_back c.args.self.now.jobs.items c.args.t.0 c.index_mut.result.now c.index_mut.result.now c.index_mut.ensures.value refl) refl refl c.args.t c.args.e c.requires.terminal
     (entry_read c.args.self.now.jobs.items c.args.t.0 c.index_mut.result.now c.args.self.now.sound.job_room c.requires.terminal c.index_mut.ensures.value ∙ c.in_default.is)
 
 pub poke-requires-clause-fork : goal.poke-requires-clause-fork
@@ -34,16 +34,17 @@ invariant_of-self-in-Poke g c = record {
   sound = sound_poked c.args.self.now c.are_trees.ensures c.poke.new.pages c.poke.new.tree _ c.in-Some.job.top c.in-Poke.address c.in-Poke.word c.poke.ensures.made.lives c.poke.ensures.made.forks (put_back c.args.self.now.jobs.items c.args.t.0 c.index_mut.result.now (Some c.in-Some.job) c.index_mut.ensures.value c.in-Some.is)
       (λ low. (c.poke.ensures.low low).1) (λ high. (c.poke.ensures.high high).0);
   unheld = subst (AreUnheld (open_of c.args.self.now.files)) (sym (put_back c.args.self.now.jobs.items c.args.t.0 c.index_mut.result.now (Some c.in-Some.job) c.index_mut.ensures.value c.in-Some.is)) c.args.self.now.unheld;
+  typing_room = c.args.self.now.typing_room;
 }
 
 pub returns-in_ok-poke-in-Poke : goal.returns-in_ok-poke-in-Poke
 returns-in_ok-poke-in-Poke g c =
-    did_poke c.args.self.now _ c.are_trees.ensures c.args.t c.args.e c.in-Some.job (job_read c.args.self.now.jobs.items c.args.t.0 _ c.in-Some.job c.args.self.now.sound.job_room c.requires.terminal c.index_mut.ensures.value c.in-Some.is) refl refl (put_back c.args.self.now.jobs.items c.args.t.0 c.index_mut.result.now (Some c.in-Some.job) c.index_mut.ensures.value c.in-Some.is) c.in-Poke.address c.in-Poke.word c.poke.result _ c.in-Poke.is
+    did_poke c.args.self.now _ c.are_trees.ensures c.args.t c.args.e c.in-Some.job (job_read c.args.self.now.jobs.items c.args.t.0 _ c.in-Some.job c.args.self.now.sound.job_room c.requires.terminal c.index_mut.ensures.value c.in-Some.is) refl refl refl (put_back c.args.self.now.jobs.items c.args.t.0 c.index_mut.result.now (Some c.in-Some.job) c.index_mut.ensures.value c.in-Some.is) c.in-Poke.address c.in-Poke.word c.poke.result _ c.in-Poke.is
     (ap poke_reply c.in_ok-poke-in-Poke.was) c.poke.ensures.fits c.poke.ensures.low c.poke.ensures.high c.poke.ensures.made
 
 pub returns-in_err-poke-in-Poke : goal.returns-in_err-poke-in-Poke
 returns-in_err-poke-in-Poke g c =
-    did_poke c.args.self.now _ c.are_trees.ensures c.args.t c.args.e c.in-Some.job (job_read c.args.self.now.jobs.items c.args.t.0 _ c.in-Some.job c.args.self.now.sound.job_room c.requires.terminal c.index_mut.ensures.value c.in-Some.is) refl refl (put_back c.args.self.now.jobs.items c.args.t.0 c.index_mut.result.now (Some c.in-Some.job) c.index_mut.ensures.value c.in-Some.is) c.in-Poke.address c.in-Poke.word c.poke.result _ c.in-Poke.is
+    did_poke c.args.self.now _ c.are_trees.ensures c.args.t c.args.e c.in-Some.job (job_read c.args.self.now.jobs.items c.args.t.0 _ c.in-Some.job c.args.self.now.sound.job_room c.requires.terminal c.index_mut.ensures.value c.in-Some.is) refl refl refl (put_back c.args.self.now.jobs.items c.args.t.0 c.index_mut.result.now (Some c.in-Some.job) c.index_mut.ensures.value c.in-Some.is) c.in-Poke.address c.in-Poke.word c.poke.result _ c.in-Poke.is
     (ap poke_reply c.in_err-poke-in-Poke.was ∙ ap reply_of (sym (errs c.from_residual.result _ c.from_residual.ensures.1))) c.poke.ensures.fits c.poke.ensures.low c.poke.ensures.high c.poke.ensures.made
 
 pub start-requires-clause-lives : goal.start-requires-clause-lives
@@ -63,11 +64,12 @@ invariant_of-self-in-Start g c =
           (same_tops_set c.args.self.now.jobs.items c.args.t.0 c.in-Some.job k (omega (arith, low, job.low)) at refl)
           c.are_trees.ensures c.in-Some.job.top (restarted c.in-Start.address) (λ f. refl) (λ f. refl) (λ f. refl) (λ f b. restarted_body f c.in-Start.address (subst FitsJobEvent c.in-Start.is c.requires.fits) b));
       unheld = unheld_still (open_of c.args.self.now.files) c.args.self.now.jobs.items jobs c.args.self.now.unheld (same_tops_set c.args.self.now.jobs.items c.args.t.0 c.in-Some.job k (omega (arith, low, job.low)) at refl);
+      typing_room = c.args.self.now.typing_room;
     }
 
 pub returns-in-Start : goal.returns-in-Start
 returns-in-Start g c =
-    did_start c.args.self.now _ c.are_trees.ensures c.args.t c.args.e c.in-Some.job (job_read c.args.self.now.jobs.items c.args.t.0 _ c.in-Some.job c.args.self.now.sound.job_room c.requires.terminal c.index_mut.ensures.value c.in-Some.is) refl refl _ c.in-Start.address refl c.in-Start.is refl refl refl c.start.ensures refl
+    did_start c.args.self.now _ c.are_trees.ensures c.args.t c.args.e c.in-Some.job (job_read c.args.self.now.jobs.items c.args.t.0 _ c.in-Some.job c.args.self.now.sound.job_room c.requires.terminal c.index_mut.ensures.value c.in-Some.is) refl refl refl _ c.in-Start.address refl c.in-Start.is refl refl refl refl c.start.ensures refl
 
 pub examined-requires-clause-each : goal.examined-requires-clause-each
 examined-requires-clause-each g c f e =
@@ -76,15 +78,15 @@ examined-requires-clause-each g c f e =
 
 pub returns-in_ok-seen-in-Ok : goal.returns-in_ok-seen-in-Ok
 returns-in_ok-seen-in-Ok g c =
-    did_examine c.args.self.now _ refl refl refl (put_back c.args.self.now.jobs.items c.args.t.0 c.index_mut.result.now (Some c.in-Some.job) c.index_mut.ensures.value c.in-Some.is) refl c.args.t c.args.e c.in-Some.job (job_read c.args.self.now.jobs.items c.args.t.0 _ c.in-Some.job c.args.self.now.sound.job_room c.requires.terminal c.index_mut.ensures.value c.in-Some.is) c.in-Examine.serial c.in-Examine.address c.in-Ok.seen _ c.in-Examine.is
+    did_examine c.args.self.now _ refl refl refl (put_back c.args.self.now.jobs.items c.args.t.0 c.index_mut.result.now (Some c.in-Some.job) c.index_mut.ensures.value c.in-Some.is) refl refl c.args.t c.args.e c.in-Some.job (job_read c.args.self.now.jobs.items c.args.t.0 _ c.in-Some.job c.args.self.now.sound.job_room c.requires.terminal c.index_mut.ensures.value c.in-Some.is) c.in-Examine.serial c.in-Examine.address c.in-Ok.seen _ c.in-Examine.is
     (ap (λ r. One (item_of r)) c.in_ok-seen-in-Ok.was) (c.in-Ok.ensures.fits c.requires.terminal (subst FitsJobEvent c.in-Examine.is c.requires.fits).0) c.in-Ok.ensures.told
 
 pub returns-in_err-seen-in-Ok : goal.returns-in_err-seen-in-Ok
 returns-in_err-seen-in-Ok g c =
-    did_examine c.args.self.now _ refl refl refl (put_back c.args.self.now.jobs.items c.args.t.0 c.index_mut.result.now (Some c.in-Some.job) c.index_mut.ensures.value c.in-Some.is) refl c.args.t c.args.e c.in-Some.job (job_read c.args.self.now.jobs.items c.args.t.0 _ c.in-Some.job c.args.self.now.sound.job_room c.requires.terminal c.index_mut.ensures.value c.in-Some.is) c.in-Examine.serial c.in-Examine.address c.in-Ok.seen _ c.in-Examine.is
+    did_examine c.args.self.now _ refl refl refl (put_back c.args.self.now.jobs.items c.args.t.0 c.index_mut.result.now (Some c.in-Some.job) c.index_mut.ensures.value c.in-Some.is) refl refl c.args.t c.args.e c.in-Some.job (job_read c.args.self.now.jobs.items c.args.t.0 _ c.in-Some.job c.args.self.now.sound.job_room c.requires.terminal c.index_mut.ensures.value c.in-Some.is) c.in-Examine.serial c.in-Examine.address c.in-Ok.seen _ c.in-Examine.is
     (ap (λ r. One (item_of r)) c.in_err-seen-in-Ok.was ∙ ap reply_of (sym (errs c.from_residual-in_err-seen-in-Ok.result _ c.from_residual-in_err-seen-in-Ok.ensures.1)))
     (c.in-Ok.ensures.fits c.requires.terminal (subst FitsJobEvent c.in-Examine.is c.requires.fits).0) c.in-Ok.ensures.told
 
 pub returns-in-Forks : goal.returns-in-Forks
 returns-in-Forks g c =
-    did_forks c.args.self.now _ refl refl refl (put_back c.args.self.now.jobs.items c.args.t.0 c.index_mut.result.now (Some c.in-Some.job) c.index_mut.ensures.value c.in-Some.is) refl c.args.t c.args.e c.in-Some.job (job_read c.args.self.now.jobs.items c.args.t.0 _ c.in-Some.job c.args.self.now.sound.job_room c.requires.terminal c.index_mut.ensures.value c.in-Some.is) c.in-Forks.is c.requires.terminal
+    did_forks c.args.self.now _ refl refl refl (put_back c.args.self.now.jobs.items c.args.t.0 c.index_mut.result.now (Some c.in-Some.job) c.index_mut.ensures.value c.in-Some.is) refl refl c.args.t c.args.e c.in-Some.job (job_read c.args.self.now.jobs.items c.args.t.0 _ c.in-Some.job c.args.self.now.sound.job_room c.requires.terminal c.index_mut.ensures.value c.in-Some.is) c.in-Forks.is c.requires.terminal

@@ -13,7 +13,7 @@ use Rattle.monitor_core.proofs.system.System.login.Goals as goal
 
 pub returns-then-is_some : goal.returns-then-is_some
 returns-then-is_some g c =
-    did_still c.args.self.now c.args.self.now refl refl refl refl refl (Login c.args.t c.args.user) (One (Refusal (Busy c.args.t))) c.requires.terminal
+    did_still c.args.self.now c.args.self.now refl refl refl refl refl refl (Login c.args.t c.args.user) (One (Refusal (Busy c.args.t))) c.requires.terminal
     (λ d f. is_busy c.args.self.now c.args.t c.args.user d (ap is_some (entry_read c.args.self.now.jobs.items c.args.t.0 c.index.result.now c.args.self.now.sound.job_room c.requires.terminal c.index.ensures) ∙ sym c.is_some.ensures ∙ c.if-is_some.true))
 
 pub add_where_room-requires-clause-free : goal.add_where_room-requires-clause-free
@@ -32,5 +32,5 @@ returns-in-Err-SerialsOut g c =
     let free : job_at m.jobs.items c.args.t.0 ≡ None = (entry_read m.jobs.items c.args.t.0 c.index.result.now m.sound.job_room c.requires.terminal c.index.ensures) ∙ missing c.index.result.now (sym c.is_some.ensures ∙ c.if-is_some.false) in
     let none = none_first g.P.Pages.means m.pages m.tree m.jobs.items m.sound c.args.t free c.requires.terminal c.are_trees.ensures in
     let used = used_up m.tree c.args.t none (sym c.can_make.ensures ∙ c.in-Err-SerialsOut.is ∙ ap Err c.in-Err-SerialsOut.field-0-is) in
-    did_still m m refl refl refl refl refl (Login c.args.t c.args.user) (One (Refusal (SerialsOut c.args.t))) c.requires.terminal
+    did_still m m refl refl refl refl refl refl (Login c.args.t c.args.user) (One (Refusal (SerialsOut c.args.t))) c.requires.terminal
     (λ d f. serials_are_out m c.args.t c.args.user free d used)

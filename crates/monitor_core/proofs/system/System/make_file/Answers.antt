@@ -14,18 +14,18 @@ returns-then-is_some g c =
     let m = c.args.self.now in
     let name = c.args.name.now in
     let file = file_found m.files name c.find.result c.find.ensures.found (sym c.is_some.ensures ∙ c.if-is_some.true) in
-    did_still m m refl refl refl refl refl (File name) (One (Refusal (Exists name))) c.requires.name (λ d f. file_exists m name file.0 d file.1)
+    did_still m m refl refl refl refl refl refl (File name) (One (Refusal (Exists name))) c.requires.name (λ d f. file_exists m name file.0 d file.1)
 
 pub returns-then-not-has_room : goal.returns-then-not-has_room
 returns-then-not-has_room g c =
     let m = c.args.self.now in
     let name = c.args.name.now in
     let none = file_missing m.files name c.find.result c.find.ensures.found (sym c.is_some.ensures ∙ c.if-is_some.false) in
-    did_still m m refl refl refl refl refl (File name) (One (Refusal (FilesFull name))) c.requires.name (λ d f. files_are_full m name d none (no_room c.has_room.result (map.len (files_of m.files)) c.has_room.ensures c.if-not-has_room.true))
+    did_still m m refl refl refl refl refl refl (File name) (One (Refusal (FilesFull name))) c.requires.name (λ d f. files_are_full m name d none (no_room c.has_room.result (map.len (files_of m.files)) c.has_room.ensures c.if-not-has_room.true))
 
 pub returns : goal.returns
 returns g c =
     let m = c.args.self.now in
     let name = c.args.name.now in
     let none = file_missing m.files name c.find.result c.find.ensures.found (sym c.is_some.ensures ∙ c.if-is_some.false) in
-    did_file m name _ c.create.result.0 none (is_room c.has_room.result (map.len (files_of m.files)) c.has_room.ensures c.if-not-has_room.false) c.create.ensures.files c.create.ensures.number c.create.ensures.jfns refl refl refl refl
+    did_file m name _ c.create.result.0 none (is_room c.has_room.result (map.len (files_of m.files)) c.has_room.ensures c.if-not-has_room.false) c.create.ensures.files c.create.ensures.number c.create.ensures.jfns refl refl refl refl refl

@@ -11,7 +11,7 @@ pub returns-in_default : goal.returns-in_default
 returns-in_default g c =
     let m = c.args.self.now in
     let name = c.args.name.now in
-    did_still m m refl refl refl refl refl (Page name c.args.page) (One (Refusal (NoFile name))) c.requires.name
+    did_still m m refl refl refl refl refl refl (Page name c.args.page) (One (Refusal (NoFile name))) c.requires.name
     (λ d f. page_of_none m name c.args.page d (is_missing m.files name c.find.result c.find.ensures.found c.in_default.not-Some))
 
 pub returns-in-Some-page_of : goal.returns-in-Some-page_of

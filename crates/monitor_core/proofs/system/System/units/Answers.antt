@@ -1,4 +1,4 @@
-use Rattle.std.proofs.Common.{◌≡◌, IsSome, is_some, refl, sym, ◌∙◌, ap, subst, arith}
+use Rattle.std.proofs.Common.{◌≡◌, length, IsSome, is_some, refl, sym, ◌∙◌, ap, subst, arith}
 use Rattle.plain_model.specs.declared.fork.Fork.{Fork}
 use Rattle.monitor_core.specs.Limits.{CanUnit}
 use Rattle.monitor_core.specs.Runners.{woken_where}
@@ -40,7 +40,7 @@ invariant_of-self g c =
     let r = c.requires.can in
     let f = runner m.tree who r in
     let waits = c.in-Err.ensures.waits (place_of r.fork) r.fork.body (runner_there m.tree who r) in
-    record { unheld = waits_unheld m f r.trees (runner_lives m.tree who r) c.units_of-ran.new.pages c.units_of-ran.new.tree c.units_of-ran.new.files c.in-Err.need waits c.are_trees.ensures; sound = waits_sound m f r.trees (runner_lives m.tree who r) c.units_of-ran.new.pages c.units_of-ran.new.tree c.units_of-ran.new.files c.in-Err.need waits c.are_trees.ensures }
+    record { typing_room = ap length waits.told.typed ∙ m.typing_room; unheld = waits_unheld m f r.trees (runner_lives m.tree who r) c.units_of-ran.new.pages c.units_of-ran.new.tree c.units_of-ran.new.files c.units_of-ran.new.typed.items c.in-Err.need waits c.are_trees.ensures; sound = waits_sound m f r.trees (runner_lives m.tree who r) c.units_of-ran.new.pages c.units_of-ran.new.tree c.units_of-ran.new.files c.units_of-ran.new.typed.items c.in-Err.need waits c.are_trees.ensures }
 
 pub returns-in-Err-clause-waits : goal.returns-in-Err-clause-waits
 returns-in-Err-clause-waits g c =
@@ -49,7 +49,7 @@ returns-in-Err-clause-waits g c =
     let r = c.requires.can in
     let f = runner m.tree who r in
     let waits = c.in-Err.ensures.waits (place_of r.fork) r.fork.body (runner_there m.tree who r) in
-    waits_still m f r.trees (runner_lives m.tree who r) c.units_of-ran.new.pages c.units_of-ran.new.tree c.units_of-ran.new.files c.in-Err.need waits c.are_trees.ensures _ refl refl refl refl refl
+    waits_still m f r.trees (runner_lives m.tree who r) c.units_of-ran.new.pages c.units_of-ran.new.tree c.units_of-ran.new.files c.units_of-ran.new.typed.items c.in-Err.need waits c.are_trees.ensures _ refl refl refl refl refl refl
 
 pub invariant_of-self-in-Ok : goal.invariant_of-self-in-Ok
 invariant_of-self-in-Ok g c =
@@ -62,7 +62,7 @@ invariant_of-self-in-Ok g c =
     let left = c.units_of-ran.new.tree in
     let woken : c.wake_where.new.tree ≡ record left { forks = woken_where left.forks who.fork.tty (is_stop units.shown) } =
     ◌∙◌ {b = record left { forks = woken_where left.forks who.fork.tty c.is_stop.result }} c.wake_where.ensures (ap (λ b. record left { forks = woken_where left.forks who.fork.tty b }) c.is_stop.ensures) in
-    record { unheld = unheld_left m f r.trees (runner_lives m.tree who r) c.units_of-ran.new.files ran.unheld c.seen.result c.seen.ensures.jobs; sound = units_sound m f r.trees (runner_lives m.tree who r) c.units_of-ran.new.pages left c.wake_where.new.tree units.count (is_stop units.shown) ran.leaves c.are_trees.ensures woken c.are_trees-in-Ok.ensures c.seen.new.jobs.items c.seen.result c.seen.ensures.jobs }
+    record { unheld = unheld_left m f r.trees (runner_lives m.tree who r) c.units_of-ran.new.files ran.unheld c.seen.result c.seen.ensures.jobs; sound = units_sound m f r.trees (runner_lives m.tree who r) c.units_of-ran.new.pages left c.wake_where.new.tree units.count (is_stop units.shown) ran.leaves c.are_trees.ensures woken c.are_trees-in-Ok.ensures c.seen.new.jobs.items c.seen.result c.seen.ensures.jobs; typing_room = ran.typing_room }
 
 pub returns-in-Ok-clause-did : goal.returns-in-Ok-clause-did
 returns-in-Ok-clause-did g c =
@@ -77,4 +77,4 @@ returns-in-Ok-clause-did g c =
     let woken : c.wake_where.new.tree ≡ record left { forks = woken_where left.forks who.fork.tty (is_stop units.shown) } =
     ◌∙◌ {b = record left { forks = woken_where left.forks who.fork.tty c.is_stop.result }} c.wake_where.ensures (ap (λ b. record left { forks = woken_where left.forks who.fork.tty b }) c.is_stop.ensures) in
     let can = runner_runs m.tree who r in
-    did_units m f r.trees (runner_lives m.tree who r) c.units_of-ran.new.pages left c.wake_where.new.tree c.units_of-ran.new.files units ran c.are_trees.ensures woken _ refl refl refl c.seen.result can.0 can.1 seen c.seen.ensures.jobs refl c.in-Ok.ensures.some
+    did_units m f r.trees (runner_lives m.tree who r) c.units_of-ran.new.pages left c.wake_where.new.tree c.units_of-ran.new.files c.units_of-ran.new.typed.items units ran c.are_trees.ensures woken _ refl refl refl refl c.seen.result can.0 can.1 seen c.seen.ensures.jobs refl c.in-Ok.ensures.some

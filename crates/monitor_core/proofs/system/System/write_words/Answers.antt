@@ -11,7 +11,7 @@ pub returns-in_default : goal.returns-in_default
 returns-in_default g c =
     let m = c.args.self.now in
     let name = c.args.name.now in
-    did_still m m refl refl refl refl refl (Words name c.args.page c.args.offset c.args.row.now) (One (Refusal (NoFile name))) c.requires.name
+    did_still m m refl refl refl refl refl refl (Words name c.args.page c.args.offset c.args.row.now) (One (Refusal (NoFile name))) c.requires.name
     (λ d f. words_of_none m name c.args.page c.args.offset c.args.row.now d (is_missing m.files name c.find.result c.find.ensures.found c.in_default.not-Some))
 
 pub returns-in-Ok : goal.returns-in-Ok
@@ -20,7 +20,7 @@ returns-in-Ok g c =
     let f = c.in-Some.file.0 in
     let found = c.in-Some.ensures.found in
     let there = file_there m.files f found.0 in
-    did_write m f c.args.page found.0 _ there c.args.offset c.args.row.now _ refl refl refl c.in-Ok.ensures.made
+    did_write m f c.args.page found.0 _ there c.args.offset c.args.row.now _ refl refl refl refl c.in-Ok.ensures.made
     c.from-in-Ok-3.result (omega (arith, c.from.ensures, c.from-in-Ok.ensures, c.from-in-Ok-2.ensures, c.from-in-Ok-3.ensures, words_end c.args.row.now c.args.page c.args.offset c.requires.row))
     (reaches m.files c.reach.new.files f _ _ there c.reach.ensures.files) c.reach.ensures.numbers c.reach.ensures.jfns c.in-Ok.ensures.told c.args.name.now found.1
 
@@ -30,5 +30,5 @@ returns-in-Err g c =
     let f = c.in-Some.file.0 in
     let found = c.in-Some.ensures.found in
     let there = file_there m.files f found.0 in
-    did_not_write m f c.args.page found.0 _ there c.args.offset c.args.row.now _ refl refl refl c.in-Err.ensures.made
+    did_not_write m f c.args.page found.0 _ there c.args.offset c.args.row.now _ refl refl refl refl c.in-Err.ensures.made
     c.in-Err.field-0 refl c.in-Err.ensures.told c.args.name.now found.1 c.requires.name

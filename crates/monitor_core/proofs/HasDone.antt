@@ -1,0 +1,151 @@
+-- Effects that a system has had, and what is always true of its tables then.
+use Rattle.std.proofs.Common.{◌≡◌, ◌≢◌, ℕ, ◌+◌, ◌≤◌, ◌<◌, List, [], ◌++◌, length, set, true, false, Option, None, Some, refl, sym, ◌∙◌, ap, subst, arith, inl, inr, length-set, get_or-set_same, get_or-set_other}
+use Rattle.std.specs.Option.{option_map}
+use Rattle.std.specs.FinMap as map
+use Rattle.std.proofs.lemmas.Bool.{cases_eq}
+use Rattle.std.proofs.lemmas.List.{length-map}
+use Rattle.machine_names.specs.declared.names.ForkName.{ForkName}
+use Rattle.machine_names.specs.declared.names.TheConstants.{TERMINALS}
+use Rattle.machine_names.specs.declared.names.Tty.{Tty}
+use Rattle.script_texts.specs.declared.event.Item.{Item}
+use Rattle.page_contracts.specs.DrumWords.{DrumWords}
+use Rattle.page_contracts.specs.Pages.{PagesMeaning}
+use Rattle.std.specs.Ordering.{nat_cmp}
+use Rattle.plain_files.specs.OpenFiles.{OpenFile, OpenFiles, open_at}
+use Rattle.plain_model.specs.declared.fork.Fork.{Fork}
+use Rattle.plain_model.specs.State.{PlainJob, PlainState}
+use Rattle.plain_model.specs.Trees.{PlainTree, with_changed_of}
+use Rattle.plain_model.specs.Unit.{Effect}
+use Rattle.fork_tree.specs.Trees.{IsTree}
+use Rattle.fork_tree.proofs.Slots.{held_lives}
+use Rattle.fork_calls.specs.Holding.{ComeFrom, Holds, TopsStay}
+use Rattle.fork_calls.proofs.Holdings.{holds_same, holds_still}
+use Rattle.fork_calls.proofs.Places.{IsMild, Keep, came_itself, changed_keeps}
+use Rattle.fork_calls.proofs.Tops.{same_tops as still_tops}
+use Rattle.job_commands.specs.Leaving.{LogoutLeaves}
+use Rattle.monitor_core.specs.declared.job.Job.{Job}
+use Rattle.monitor_core.specs.declared.system.System.{System}
+use Rattle.monitor_core.specs.Effects.{Has, HasJobAt, job_in}
+use Rattle.monitor_core.specs.Typings.{typing_at}
+use Rattle.file_tables.specs.Tables.{open_of}
+use Rattle.file_tables.specs.declared.tables.FileTables.{FileTables}
+use Rattle.plain_files.specs.NamedFiles.{open_named}
+use Rattle.monitor_core.specs.Jobs.{AreUnheld, job_at, plain_job}
+use Rattle.monitor_core.specs.Sound.{AreSound}
+use Rattle.monitor_core.specs.Systems.{FitsPages, state_of}
+use Rattle.monitor_core.proofs.Sounds.{SameTops}
+use Rattle.monitor_core.proofs.Systems.{fits_still, state_left}
+
+-- ---- effects
+
+module _ {P : Type 0} {b : _} (m m' : System P b) (effect : PlainState → Effect) (items : PlainState → List Item) where
+  -- an effect is had that leaves this state, in which no unit ran and no page was made
+  pub has_so : m'.clock ≡ m.clock → ComeFrom m.tree.forks m'.tree.forks → ((u : Tty) → b.means.serial m'.pages u ≤ b.means.serial m.pages u) → b.means.most m'.pages ≡ b.means.most m.pages
+      → ((d : DrumWords) → FitsPages m d → FitsPages m' d) → ((d : DrumWords) → FitsPages m d → ◌≡◌ {A = Effect} (effect (state_of m d)) (record { state = state_of m' d; items = items (state_of m' d) })) → Has m m' effect items
+  has_so clock come serials most fits is = record {
+    each = λ d f. (fits d f, ap (λ e. e.state) (sym (is d f)), ap (λ e. e.items) (sym (is d f)));
+    within = λ entries w. record {
+      ticks = omega (arith, clock, w.ticks);
+      units = λ f lives. let c = come f lives in omega (arith, c.units, w.units c.before c.lived);
+      serials = λ u. omega (arith, serials u, w.serials u);
+    };
+    most = most;
+  }
+
+  -- the pages and the files stay
+  pub has_left : m'.files ≡ m.files → m'.pages ≡ m.pages → m'.clock ≡ m.clock → ComeFrom m.tree.forks m'.tree.forks
+      → ((d : DrumWords) → FitsPages m d → ◌≡◌ {A = Effect} (effect (state_of m d)) (record { state = state_of m' d; items = items (state_of m' d) })) → Has m m' effect items
+  has_left files same clock come is = has_so clock come (λ u. omega (arith, ap (λ p. b.means.serial p u) same)) (ap b.means.most same) (fits_still m m' files same) is
+
+  -- the same effect
+  pub has_as : (effect' : PlainState → Effect) → ((d : DrumWords) → effect' (state_of m d) ≡ effect (state_of m d)) → Has m m' effect items → Has m m' effect' items
+  has_as effect' same has = record {
+    each = λ d f. let e = has.each d f in (e.0, e.1 ∙ ap (λ x. x.state) (sym (same d)), e.2 ∙ ap (λ x. x.items) (sym (same d)));
+    within = has.within;
+    most = has.most;
+  }
+
+-- an effect that was had by the same tables
+pub has_from : {P : Type 0} {b : _} (m n m' : System P b) (t : Tty) (j : Job) (effect : PlainState → PlainJob → Effect) (items : PlainState → List Item) → n.files ≡ m.files → n.pages ≡ m.pages → n.tree ≡ m.tree → n.jobs.items ≡ m.jobs.items → n.typed.items ≡ m.typed.items → n.clock ≡ m.clock
+    → Has n m' (λ s. effect s (job_in n t j)) items → Has m m' (λ s. effect s (job_in m t j)) items
+has_from {b = b} m n m' t j effect items files same tree jobs typed clock has = record {
+  each = λ d f.
+      let e = has.each d (fits_still m n files same d f) in
+      let was = state_left m n files same tree jobs typed clock d in
+      let had : effect (state_of n d) (job_in n t j) ≡ effect (state_of m d) (job_in m t j) = λ i. effect (was i) (plain_job (open_at (open_of (files i)) t.0) (typing_at (typed i) t.0) j) in
+      (e.0, e.1 ∙ ap (λ x. x.state) had, e.2 ∙ ap (λ x. x.items) had);
+  within = λ entries w. has.within entries (record {
+    ticks = omega (arith, clock, w.ticks);
+    units = λ f lives. w.units f (ap (λ (x : PlainTree). map.get x.forks f.name) (sym tree) ∙ lives);
+    serials = λ u. omega (arith, ap (λ p. b.means.serial p u) same, w.serials u);
+  });
+  most = has.most ∙ ap b.means.most same;
+}
+
+-- ---- trees
+
+-- one fork changed, which stands where it stood
+pub change_keeps : (tree : PlainTree) → IsTree tree → (n : ForkName) (change : Fork → Fork) → ((k : Fork) → IsMild change k) → Keep tree.forks (with_changed_of tree n change).forks
+change_keeps tree is n change mild = changed_keeps tree.forks is.slotted.own change (map.get tree.forks n) (λ k e. (held_lives tree.forks is.slotted n k e, mild k))
+
+-- ---- tables
+
+-- each terminal has its JFNs
+pub open_room : (files : FileTables) → length (open_of files) ≡ TERMINALS
+open_room files = length-map files.jobs (open_named files.dir) ∙ files.sound.terminals
+
+module _ {P : Type 0} (means : PagesMeaning P) (p q : P) (tree tree' : PlainTree) (jobs : List (Option Job)) (s : AreSound means p tree jobs) where
+  module _ (jobs' : List (Option Job)) (tops : SameTops jobs jobs') where
+    -- the forks came from those that lived, and the top forks live on
+    pub sound_came : Holds means q tree'.forks → ComeFrom tree.forks tree'.forks → TopsStay tree.forks tree'.forks → AreSound means q tree' jobs'
+    sound_came holds come stay = record {
+      holds = holds;
+      job_room = tops.room ∙ s.job_room;
+      each_fork = λ f lives. let c = come f lives in c.within (s.each_fork c.before c.lived);
+      each_job = λ t k e.
+          let j = tops.tops t k e in
+          let job = s.each_job t j.0 j.1 in
+          record {
+            terminal = ap (λ n. n.tty.0) j.2 ∙ job.terminal;
+            low = job.low;
+            top = ap (λ n. option_map (λ f. f.slot) (map.get tree'.forks n)) j.2 ∙ stay j.0.top job.top;
+          };
+      nobody = λ t f e lives at. let c = come f lives in s.nobody t c.before (tops.none t e) c.lived (ap (λ n. n.tty.0) (sym c.name) ∙ at);
+    }
+
+    -- each stands where it stood
+    pub sound_kept : IsTree tree → IsTree tree' → Keep tree.forks tree'.forks → means.lives q ≡ means.lives p → means.forks_of q ≡ means.forks_of p → AreSound means q tree' jobs'
+    sound_kept is is' keep lives forks =
+        sound_came (holds_same means q tree.forks tree'.forks is.slotted is'.slotted keep.same (holds_still means p q tree.forks lives forks s.holds)) keep.come (still_tops tree.forks tree'.forks keep.same)
+
+  -- a job is gone, with its forks
+  module _ (t : ℕ) (j : Job) (at : job_at jobs t ≡ Some j) where
+    gone_here : job_at (set jobs t None) t ≡ None
+    gone_here = get_or-set_same jobs t None None (let job = s.each_job t j at in omega (arith, s.job_room, job.low))
+
+    other_there : (u : ℕ) → (u ≡ t → ⊥) → job_at (set jobs t None) u ≡ job_at jobs u
+    other_there u ne = get_or-set_other jobs t u None None ne
+
+    pub sound_gone : LogoutLeaves means p q tree tree' j.top → AreSound means q tree' (set jobs t None)
+    sound_gone left = record {
+      holds = left.holds;
+      job_room = length-set jobs t None ∙ s.job_room;
+      each_fork = λ f lives. let c = left.kept f lives in c.within (s.each_fork c.before c.lived);
+      each_job = λ u k e. elim (cases_eq u t) [
+        | inl same ↦ absurd (let no : None ≡ Some k = sym gone_here ∙ ap (job_at (set jobs t None)) (sym same) ∙ e in cc no)
+        | inr ne ↦
+            let job = s.each_job u k (sym (other_there u ne) ∙ e) in
+            let apart : k.top ≢ j.top = λ same. ne (sym job.terminal ∙ ap (λ n. n.tty.0) same ∙ (s.each_job t j at).terminal) in
+            record { terminal = job.terminal; low = job.low; top = left.tops k.top apart job.top }
+      ];
+      nobody = λ u f e lives at_u. elim (cases_eq u t) [
+        | inl same ↦ left.gone f lives (at_u ∙ same ∙ sym (s.each_job t j at).terminal)
+        | inr ne ↦ let c = left.kept f lives in s.nobody u c.before (sym (other_there u ne) ∙ e) c.lived (ap (λ n. n.tty.0) (sym c.name) ∙ at_u)
+      ];
+    }
+
+    pub unheld_gone : (held : List OpenFiles) → t < length held → AreUnheld held jobs → AreUnheld (set held t map.empty) (set jobs t None)
+    unheld_gone held within none u e = elim (cases_eq u t) [
+      | inl same ↦ ap (λ v. map.len (open_at (set held t map.empty) v)) same ∙ ap map.len (get_or-set_same held t map.empty map.empty within) ∙ map.len-empty nat_cmp OpenFile
+      | inr ne ↦ ap map.len (get_or-set_other held t u map.empty map.empty ne) ∙ none u (sym (other_there u ne) ∙ e)
+    ]

@@ -1,0 +1,26 @@
+use Rattle.std.proofs.Common.{refl, sym, ◌∙◌, ap, subst}
+use Rattle.monitor_core.specs.Jobs.{AreUnheld}
+use Rattle.monitor_core.proofs.Sounds.{same_tops, sound_same}
+use Rattle.machine_names.specs.declared.names.Tty.{Tty}
+use Rattle.monitor_core.proofs.DeleteDid.{has_deleted, has_not_deleted}
+use Rattle.monitor_core.proofs.system.System.delete_file.Goals as goal
+
+pub invariant_of-self : goal.invariant_of-self
+invariant_of-self g c =
+    let m = c.args.self.now in
+    let grown = c.delete.ensures.grows c.args.t in
+    record {
+      sound = sound_same g.P.Pages.means m.pages c.delete.new.pages m.tree m.jobs.items m.jobs.items m.sound grown.lives grown.forks (same_tops m.jobs.items m.jobs.items refl);
+      unheld = subst (λ held. AreUnheld held m.jobs.items) (sym c.delete.ensures.jfns.named) m.unheld;
+      typing_room = m.typing_room;
+    }
+
+pub returns-in-Ok : goal.returns-in-Ok
+returns-in-Ok g c =
+    let e = c.in-Ok.ensures in
+    has_deleted c.args.self.now _ c.args.t c.args.name.now c.in-Some.file.0 c.in-Some.ensures.found.0 c.in-Some.ensures.found.1 refl refl refl refl e.grows e.jfns e.told e.files.0 e.files.1 e.files.2
+
+pub returns-in-Err : goal.returns-in-Err
+returns-in-Err g c =
+    let e = c.in-Err.ensures in
+    has_not_deleted c.args.self.now _ c.args.t c.args.name.now c.in-Some.file.0 c.in-Some.ensures.found.0 c.in-Some.ensures.found.1 refl refl refl refl e.grows e.jfns e.told e.files.0 e.files.1

@@ -1,0 +1,34 @@
+use Rattle.std.proofs.Common.{sym, subst}
+use Rattle.machine_names.specs.declared.character.TheConstants.{LINE_END}
+use Rattle.plain_model.specs.TypeEvents.{echo}
+use Rattle.monitor_core.specs.Echoes.{echo_items, told_items}
+use Rattle.monitor_core.specs.Giving.{TookItems}
+use Rattle.monitor_core.specs.Systems.{state_of}
+use Rattle.monitor_core.proofs.GivenParts.{part_failed, part_then}
+use Rattle.monitor_core.proofs.system.System.give_echo.Goals as goal
+
+pub returns-in-Shows : goal.returns-in-Shows
+returns-in-Shows g c =
+    subst (λ shown. TookItems g.T.Taker.fault_count g.T.Taker.onward g.T.Taker.stands g.T.Taker.cut c.args.out.now c.give_code.new.out c.give_code.result (λ d. echo_items c.args.t shown (state_of c.args.self.now d))) (sym c.in-Shows.is) c.give_code.ensures
+
+pub returns-in-Bell : goal.returns-in-Bell
+returns-in-Bell g c =
+    subst (λ shown. TookItems g.T.Taker.fault_count g.T.Taker.onward g.T.Taker.stands g.T.Taker.cut c.args.out.now c.give_text.new.out c.give_text.result (λ d. echo_items c.args.t shown (state_of c.args.self.now d))) (sym c.in-Bell.is) c.give_text.ensures
+
+pub returns-in-Stops : goal.returns-in-Stops
+returns-in-Stops g c =
+    subst (λ shown. TookItems g.T.Taker.fault_count g.T.Taker.onward g.T.Taker.stands g.T.Taker.cut c.args.out.now c.give_text-in-Stops.new.out c.give_text-in-Stops.result (λ d. echo_items c.args.t shown (state_of c.args.self.now d))) (sym c.in-Stops.is) c.give_text-in-Stops.ensures
+
+pub returns-in_err-give_code-in-Ends : goal.returns-in_err-give_code-in-Ends
+returns-in_err-give_code-in-Ends g c =
+    let t = c.args.t in
+    let r = c.from_residual.result in
+    subst (λ shown. TookItems g.T.Taker.fault_count g.T.Taker.onward g.T.Taker.stands g.T.Taker.cut c.args.out.now c.give_code-in-Ends.new.out r (λ d. echo_items t shown (state_of c.args.self.now d))) (sym c.in-Ends.is)
+    (part_failed g.T.Taker.fault_count g.T.Taker.onward g.T.Taker.stands g.T.Taker.cut _ _ _ r (λ d. echo t LINE_END) (λ d. told_items t c.in-Ends.told (state_of c.args.self.now d)) c.from_residual.ensures.0 c.in_err-give_code-in-Ends.ensures)
+
+pub returns-in_ok-give_code-in-Ends : goal.returns-in_ok-give_code-in-Ends
+returns-in_ok-give_code-in-Ends g c =
+    let t = c.args.t in
+    let r = c.give_told.result in
+    subst (λ shown. TookItems g.T.Taker.fault_count g.T.Taker.onward g.T.Taker.stands g.T.Taker.cut c.args.out.now c.give_told.new.out r (λ d. echo_items t shown (state_of c.args.self.now d))) (sym c.in-Ends.is)
+    (part_then g.T.Taker.fault_count g.T.Taker.onward g.T.Taker.stands g.T.Taker.cut _ _ _ _ r (λ d. echo t LINE_END) (λ d. told_items t c.in-Ends.told (state_of c.args.self.now d)) c.in_ok-give_code-in-Ends.ensures c.give_told.ensures)

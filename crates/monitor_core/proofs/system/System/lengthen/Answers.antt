@@ -1,0 +1,24 @@
+use Rattle.std.proofs.Common.{◌≡◌, ◌<◌, ◌++◌, ◌∷◌, [], length, Some, get_or, set, refl, sym, ◌∙◌, ap, subst, length-set}
+use Rattle.std.specs.Prelude.{IsSome}
+use Rattle.plain_model.specs.Trees.{PlainTree}
+use Rattle.fork_calls.proofs.Places.{Keep}
+use Rattle.file_tables.specs.Tables.{open_of}
+use Rattle.monitor_core.specs.declared.job.Job.{Job}
+use Rattle.monitor_core.specs.declared.typing.Typing.{Typing}
+use Rattle.monitor_core.specs.Typings.{new_typing}
+use Rattle.monitor_core.proofs.HasDone.{change_keeps, has_as, sound_kept}
+use Rattle.monitor_core.proofs.Sounds.{same_tops, same_tops_set, stands}
+use Rattle.monitor_core.proofs.Systems.{top_fork_of, unheld_still}
+use Rattle.monitor_core.proofs.CommandDid.{has_lengthened}
+use Rattle.monitor_core.proofs.TypeDid.{low_typed}
+use Rattle.plain_typing.specs.declared.typed.TheConstants.{MOST_STORED}
+use Rattle.monitor_core.proofs.system.System.lengthen.Goals as goal
+
+pub returns-in-Ok-clause-has : goal.returns-in-Ok-clause-has
+returns-in-Ok-clause-has g c =
+    let m = c.args.self.now in
+    let j = c.args.job in
+    let read = stands m.typed.items c.args.t.0 c.index_mut.result.now new_typing (low_typed m m c.args.t j c.requires.job) in
+    has_lengthened m _ c.args.t j c.requires.job refl refl refl _ refl refl refl c.args.code
+    (subst (λ (y : Typing). length y.line.items < MOST_STORED) (c.index_mut.ensures.value ∙ read) (c.in-Ok.ensures.variant.0 refl))
+    (λ i. record ((c.index_mut.ensures.value ∙ read) i) { line = record { items = (c.in-Ok.ensures.ok ∙ ap (λ (y : Typing). y.line.items ++ c.args.code ∷ []) (c.index_mut.ensures.value ∙ read)) i } })

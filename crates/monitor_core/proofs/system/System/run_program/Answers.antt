@@ -1,0 +1,44 @@
+use Rattle.std.proofs.Common.{Some, set, refl, sym, ◌∙◌, ap, subst}
+use Rattle.std.specs.Prelude.{IsSome}
+use Rattle.monitor_core.proofs.Systems.{top_fork_of, unheld_still}
+use Rattle.monitor_core.proofs.HasDone.{sound_came}
+use Rattle.job_commands.specs.declared.running.NoProgram.{NoProgram}
+use Rattle.monitor_core.proofs.RunDid.{has_not_run, has_run_on}
+use Rattle.monitor_core.proofs.Sounds.{same_tops, same_tops_set}
+use Rattle.monitor_core.proofs.TypeDid.{low_job}
+use Rattle.file_tables.specs.Tables.{open_of}
+use Rattle.monitor_core.proofs.system.System.run_program.Goals as goal
+
+pub run-requires-clause-lives : goal.run-requires-clause-lives
+run-requires-clause-lives g c = let k = top_fork_of c.args.self.now c.args.t.0 c.args.job c.requires.job in subst IsSome (sym k.1) refl
+
+pub invariant_of-self : goal.invariant_of-self
+invariant_of-self g c =
+    let m = c.args.self.now in
+    let j = c.args.job in
+    let left = c.run.ensures.leaves in
+    let jobs = set m.jobs.items c.args.t.0 (Some _) in
+    let tops = same_tops_set m.jobs.items c.args.t.0 j _ (low_job m m c.args.t j c.requires.job) c.requires.job refl in
+    record {
+      sound = sound_came g.P.Pages.means m.pages c.run.new.pages m.tree c.run.new.tree m.jobs.items m.sound jobs tops left.holds left.kept left.tops;
+      unheld = unheld_still (open_of m.files) m.jobs.items jobs m.unheld tops;
+      typing_room = m.typing_room;
+    }
+
+pub invariant_of-self-in-Err : goal.invariant_of-self-in-Err
+invariant_of-self-in-Err g c =
+    let m = c.args.self.now in
+    let left = c.run.ensures.leaves in
+    record {
+      sound = sound_came g.P.Pages.means m.pages c.run.new.pages m.tree c.run.new.tree m.jobs.items m.sound m.jobs.items (same_tops m.jobs.items m.jobs.items refl) left.holds left.kept left.tops;
+      unheld = m.unheld;
+      typing_room = m.typing_room;
+    }
+
+pub returns-in-Ok : goal.returns-in-Ok
+returns-in-Ok g c =
+    has_run_on c.args.self.now _ c.args.t c.args.job c.requires.job refl refl refl c.run.ensures.leaves c.args.name.now c.in-Some.file.0 c.in-Some.ensures.found.0 c.in-Some.ensures.found.1 NoProgram c.in-Ok.word refl c.in-Ok.ensures.told
+
+pub returns-in-Err : goal.returns-in-Err
+returns-in-Err g c =
+    has_not_run c.args.self.now _ c.args.t c.args.job c.requires.job refl refl refl c.run.ensures.leaves c.args.name.now c.in-Some.file.0 c.in-Some.ensures.found.0 c.in-Some.ensures.found.1 c.in-Err.field-0 refl c.in-Err.ensures.told

@@ -1,0 +1,53 @@
+use Rattle.std.proofs.Common.{◌≡◌, ◌++◌, ◌∷◌, [], Some, get_or, set, refl, sym, ◌∙◌, ap, subst, length-set}
+use Rattle.plain_model.specs.Trees.{PlainTree}
+use Rattle.plain_model.specs.Unit.{Effect}
+use Rattle.plain_model.specs.State.{PlainState}
+use Rattle.plain_model.specs.TypeEvents.{interrupted, line_of}
+use Rattle.monitor_core.specs.declared.typing.Typing.{Typing}
+use Rattle.monitor_core.specs.declared.echo.Echo.TheVariants.{Shows}
+use Rattle.monitor_core.specs.Echoes.{echo_items}
+use Rattle.monitor_core.specs.Systems.{state_of}
+use Rattle.plain_typing.specs.declared.typed.Typed.{Typed}
+use Rattle.plain_typing.specs.declared.typed.Typed.TheVariants.{Stored, ControlC}
+use Rattle.plain_typing.specs.Characters.{read_as}
+use Rattle.plain_typing.specs.Typing.{fate_of, left_by}
+use Rattle.fork_calls.proofs.Places.{Keep}
+use Rattle.file_tables.specs.Tables.{open_of}
+use Rattle.monitor_core.specs.Effects.{Has, job_in}
+use Rattle.monitor_core.specs.Typings.{new_typing}
+use Rattle.monitor_core.proofs.CommandDid.{has_kept, has_stopped, readers_keep}
+use Rattle.monitor_core.proofs.HasDone.{has_from, sound_kept}
+use Rattle.monitor_core.proofs.JobDid.{put_back}
+use Rattle.monitor_core.proofs.Sounds.{same_tops, stands}
+use Rattle.monitor_core.proofs.TypeDid.{low_typed}
+use Rattle.monitor_core.proofs.system.System.type_program.Goals as goal
+
+pub invariant_of-self : goal.invariant_of-self
+invariant_of-self g c =
+    let m = c.args.self.now in
+    let tops = same_tops m.jobs.items m.jobs.items refl in
+    let keep = subst (λ (x : PlainTree). Keep m.tree.forks x.forks) (sym c.wake.ensures.tree) (readers_keep m.tree.forks c.wake.ensures.was.slotted.own c.args.t) in
+    record {
+      sound = sound_kept g.P.Pages.means m.pages m.pages m.tree c.wake.new.tree m.jobs.items m.sound m.jobs.items tops c.wake.ensures.was c.wake.ensures.is keep refl refl;
+      unheld = m.unheld;
+      typing_room = length-set m.typed.items c.args.t.0 _ ∙ m.typing_room;
+    }
+
+pub returns-in-Stored-clause-has : goal.returns-in-Stored-clause-has
+returns-in-Stored-clause-has g c =
+    let m = c.args.self.now in
+    let t = c.args.t in
+    let code = read_as c.args.c in
+    let at = c.index_mut.ensures.value ∙ stands m.typed.items t.0 c.index_mut.result.now new_typing (low_typed m m t c.args.job c.requires.job) in
+    has_kept m _ t c.args.job c.requires.job c.wake.ensures.was refl refl refl _ refl refl c.read_as.result code _ c.read_as.ensures (c.in-Stored.ensures.fate ∙ ap (λ (y : Typing). fate_of y.input code) at)
+    (λ i. record (at i) { input = (c.in-Stored.ensures.line ∙ ap (λ (y : Typing). left_by y.input code Stored) at) i }) c.wake.ensures.tree
+
+pub returns-in-ControlC-clause-has : goal.returns-in-ControlC-clause-has
+returns-in-ControlC-clause-has g c =
+    let m = c.args.self.now in
+    let t = c.args.t in
+    let code = read_as c.args.c in
+    let at = c.index_mut.ensures.value ∙ stands m.typed.items t.0 c.index_mut.result.now new_typing (low_typed m m t c.args.job c.requires.job) in
+    let typed = put_back m.typed.items t.0 c.index_mut.result.now _ c.index_mut.ensures.value (λ i. record c.index_mut.result.now { input = sym c.in-ControlC.ensures.line i }) in
+    has_stopped m c.interrupt.new.self t c.args.job code _ (echo_items t c.interrupt.result) (c.in-ControlC.ensures.fate ∙ ap (λ (y : Typing). fate_of y.input code) at)
+    (has_from m _ c.interrupt.new.self t c.args.job (λ s j. interrupted s t j) (echo_items t c.interrupt.result) refl refl refl refl typed refl c.interrupt.ensures.has)

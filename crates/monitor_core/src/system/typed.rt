@@ -1,0 +1,170 @@
+// A character that is typed at a terminal.
+ghost use Rattle.std.specs.Prelude.{◌≡◌, ◌<◌, [], IsSome, is_some, true};
+ghost use Rattle.std.specs.FinMap as map;
+ghost use Rattle.machine_names.specs.Bounds.{IsTerminal};
+ghost use Rattle.plain_typing.specs.Characters.{read_as as is_read_as};
+ghost use Rattle.plain_typing.specs.Commands.{command_of};
+ghost use Rattle.plain_typing.specs.Typing.{fate_of};
+ghost use Rattle.plain_model.specs.declared.fork.TerminalMode.{TerminalMode as AMode};
+ghost use Rattle.plain_model.specs.Commands.{with_job_at};
+ghost use Rattle.plain_model.specs.Trees.{readers_woken};
+ghost use Rattle.fork_tree.specs.Trees.{IsTree};
+ghost use Rattle.plain_model.specs.TypeEvents.{interrupted, line_ended, line_of, line_typed, typed_at, typed_one, typed_so};
+ghost use Rattle.monitor_core.specs.Echoes.{echo_items, FitsEcho};
+ghost use Rattle.monitor_core.specs.Effects.{Has, HasJobAt, job_in, stopped_tree};
+ghost use Rattle.monitor_core.specs.Jobs.{job_at};
+
+use crate::echo::Echo;
+use crate::job::Job;
+use crate::system::System;
+use exec_cmd::read;
+use fork_tree::Tree;
+use machine_names::character::LINE_END;
+use machine_names::{ForkName, Tty};
+use page_contracts::Pages;
+use plain_model::TerminalMode;
+use plain_typing::{CONTROL_C, Command, Typed};
+use tty_lines::read_as;
+
+// The top fork has the freeze mark, where the forks of its job read the terminal.
+fn stop(mode: TerminalMode, top: ForkName, tree: &mut Tree)
+    requires { IsSome (map.get tree.old.forks top) }
+    ensures { tree.new ≡ stopped_tree mode tree.old top }
+{
+    match mode {
+        TerminalMode::Program => tree.freeze(top, true),
+        TerminalMode::Command => {}
+    }
+}
+
+// A character is stored for a job: who waits for one runs again.
+fn wake(tree: &mut Tree, t: Tty)
+    ensures tree { tree.new ≡ record tree.old { forks = readers_woken tree.old.forks t } }
+    ensures was { IsTree tree.old }
+    ensures is { IsTree tree.new }
+{
+    tree.are_trees();
+    tree.wake_readers(t);
+    tree.are_trees();
+}
+
+impl<P: Pages> System<P> {
+    // Control-C: the program stands still, and the monitor waits for a command.
+    fn interrupt(&mut self, t: Tty, job: Job) -> Echo
+        requires terminal { IsTerminal t }
+        requires job { HasJobAt self.old t job }
+        ensures has { Has self.old self.new (λ s. interrupted s t (job_in self.old t job)) (echo_items t result) }
+        ensures fits { FitsEcho result }
+    {
+        self.tree.are_trees();
+        stop(job.mode, job.top, &mut self.tree);
+        self.tree.are_trees();
+        self.jobs[t.0 as usize] = Some(job.in_command());
+        self.typed[t.0 as usize].line.clear();
+        Echo::Stops
+    }
+
+    // A character is typed for the forks of a job.
+    fn type_program(&mut self, t: Tty, job: Job, c: u8) -> Echo
+        requires terminal { IsTerminal t }
+        requires job { HasJobAt self.old t job }
+        requires code { c < 128 }
+        ensures has { Has self.old self.new (λ s. let j = job_in self.old t job in typed_so (fate_of (line_of j) (is_read_as c)) s t j (is_read_as c)) (echo_items t result) }
+        ensures fits { FitsEcho result }
+    {
+        match self.typed[t.0 as usize].input.typed(c) {
+            Typed::Stored => {
+                wake(&mut self.tree, t);
+                Echo::Shows(read_as(c))
+            }
+            Typed::Dropped => Echo::Bell,
+            // Nobody assigns a code yet.
+            Typed::Posts(_, _) => Echo::Nothing,
+            Typed::ControlC => self.interrupt(t, job),
+        }
+    }
+
+    // A character of a line, where that has room.
+    fn lengthen(&mut self, t: Tty, job: Job, code: u8) -> Echo
+        requires terminal { IsTerminal t }
+        requires job { HasJobAt self.old t job }
+        requires code { code < 128 }
+        ensures has { Has self.old self.new (λ s. line_typed s t (job_in self.old t job) code) (echo_items t result) }
+        ensures fits { FitsEcho result }
+    {
+        match self.typed[t.0 as usize].line.try_push(code) {
+            Ok(()) => Echo::Shows(code),
+            Err(_) => Echo::Bell,
+        }
+    }
+
+    // A line is over: it is the job's no longer.
+    fn take_line(&mut self, t: Tty, job: &Job) -> Command
+        requires terminal { IsTerminal t }
+        requires job { HasJobAt self.old t job.now }
+        ensures has { Has self.old self.new (λ s. record { state = with_job_at s t (record (job_in self.old t job.now) { line = [] }); items = [] }) (λ s. []) }
+        ensures command { result ≡ command_of job.now.user (job_in self.old t job.now).line }
+        ensures jobs { self.new.jobs.items ≡ self.old.jobs.items }
+        ensures left { job_in self.new t job.now ≡ record (job_in self.old t job.now) { line = [] } }
+    {
+        let line = &mut self.typed[t.0 as usize].line;
+        let command = read(line.as_slice(), &job.user);
+        line.clear();
+        command
+    }
+
+    // The line is over, and its command is done.
+    fn end_line(&mut self, t: Tty, job: &Job) -> Echo
+        requires terminal { IsTerminal t }
+        requires job { HasJobAt self.old t job.now }
+        requires flat { P.means.flat ≡ true }
+        ensures has { Has self.old self.new (λ s. line_ended s t (job_in self.old t job.now)) (echo_items t result) }
+        ensures fits { FitsEcho result }
+    {
+        let command = self.take_line(t, job);
+        Echo::Ends(self.command(t, *job, &command))
+    }
+
+    // A character, as it is read, is typed for the monitor.
+    fn type_line(&mut self, t: Tty, job: Job, code: u8) -> Echo
+        requires terminal { IsTerminal t }
+        requires job { HasJobAt self.old t job }
+        requires flat { P.means.flat ≡ true }
+        requires code { code < 128 }
+        ensures has { Has self.old self.new (λ s. typed_one AMode.Command s t (job_in self.old t job) code) (echo_items t result) }
+        ensures fits { FitsEcho result }
+    {
+        if code == CONTROL_C {
+            return self.interrupt(t, job);
+        }
+        if code == LINE_END {
+            return self.end_line(t, &job);
+        }
+        self.lengthen(t, job, code)
+    }
+
+    /// A character is typed at a terminal. Once its job is gone, nothing is done.
+    pub(crate) fn type_one(&mut self, t: Tty, c: u8) -> Echo
+        requires terminal { IsTerminal t }
+        requires flat { P.means.flat ≡ true }
+        requires code { c < 128 }
+        ensures has { Has self.old self.new (λ s. typed_at s t c) (echo_items t result) }
+        ensures fits { FitsEcho result }
+    {
+        match self.jobs[t.0 as usize] {
+            Some(job) => match job.mode {
+                TerminalMode::Program => self.type_program(t, job, c),
+                TerminalMode::Command => self.type_line(t, job, read_as(c)),
+            },
+            None => Echo::Nothing,
+        }
+    }
+
+    /// Whether a terminal has a job.
+    pub(crate) fn has_job(&self, t: Tty) -> bool
+        requires { IsTerminal t }
+        ensures { result ≡ is_some (job_at self.now.jobs.items t.0) }
+    {
+        self.jobs[t.0 as usize].is_some()
+    }
+}
