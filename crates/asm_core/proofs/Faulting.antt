@@ -1,5 +1,5 @@
 -- Which texts are programs.
-use Rattle.std.proofs.Common.{◌≡◌, ◌≢◌, ℕ, zero, suc, ◌+◌, ◌<◌, ◌≤◌, List, [], ◌∷◌, ◌++◌, length, take, get_or, Bool, true, false, Option, None, Some, Result, Ok, Err, ◌⊎◌, inl, inr, refl, sym, ◌∙◌, ap, subst, arith, append_assoc}
+use Rattle.std.proofs.Common.{◌≡◌, ◌≢◌, ℕ, zero, suc, ◌+◌, ◌<◌, List, [], ◌∷◌, ◌++◌, length, take, get_or, Bool, false, Result, Ok, Err, ◌⊎◌, inl, inr, refl, sym, ◌∙◌, ap, subst, arith, append_assoc}
 use Rattle.std.specs.Prelude.{if◌then◌else◌, ◌==◌, ◌↔◌}
 use Rattle.std.proofs.lemmas.Bool.Decides.{nat_tests}
 use Rattle.std.proofs.lemmas.List.{append-nil}
@@ -7,7 +7,7 @@ use Rattle.asm_core.specs.declared.line.Line.{Line}
 use Rattle.asm_core.specs.declared.line.AsmFault.{AsmFault}
 use Rattle.asm_core.specs.declared.line.AsmFault.TheVariants.{Line as BadLine}
 use Rattle.asm_core.specs.Cutting.{pieces, remainder}
-use Rattle.asm_core.specs.Faults.{AreFirst, AreLines, FailsBehind, IsFirstFault, blank}
+use Rattle.asm_core.specs.Faults.{AreFirst, AreLines, IsFirstFault, blank}
 use Rattle.asm_core.specs.Places.{lines_of, next_line, onward, read_behind}
 
 -- the next lines of a text behind others

@@ -1,15 +1,13 @@
 -- Two programs one behind the other.
-use Rattle.std.proofs.Common.{◌≡◌, ℕ, ◌+◌, ◌<◌, ◌≤◌, List, [], ◌∷◌, ◌++◌, length, Bool, true, false, Option, None, Some, refl, sym, ◌∙◌, ap, subst, arith, append_assoc}
+use Rattle.std.proofs.Common.{◌≡◌, ℕ, List, [], ◌∷◌, ◌++◌, Bool, true, false, Option, None, Some, refl, sym, ◌∙◌, ap, append_assoc}
 use Rattle.std.specs.Prelude.{if◌then◌else◌}
 use Rattle.std.specs.Option.{is_some, unwrap_or}
-use Rattle.std.proofs.lemmas.List.{append-nil}
 use Rattle.word36.specs.Words.{joined}
 use Rattle.asm_core.specs.declared.line.Value.{Value}
 use Rattle.asm_core.specs.declared.line.Value.TheVariants.{Number as Half, Named}
 use Rattle.asm_core.specs.declared.line.Statement.{Statement}
 use Rattle.asm_core.specs.declared.line.Statement.TheVariants.{Nothing, Loc, Number, Halves, Asciz}
 use Rattle.asm_core.specs.declared.line.Line.{Line}
-use Rattle.asm_core.specs.declared.line.Placed.{Placed}
 use Rattle.asm_core.specs.Places.{assembled, assembled_by, behind, first_undefined, half_by, has_label, labelled_from, location, location_from, names_in, placed_from, used, uses, value_in, words_by}
 use Rattle.asm_core.specs.Words.{AreApart, BeginsAnew, IsClosed}
 use Rattle.asm_core.proofs.Assembling.{assembled_append}

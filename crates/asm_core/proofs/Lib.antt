@@ -5,6 +5,8 @@ pub mod Faulting
 pub mod Fields
 pub mod Joining
 pub mod Keys
+pub mod Listed
+pub mod Named
 pub mod Naming
 pub mod Opcodes
 pub mod Packing

@@ -1,5 +1,5 @@
 -- Which texts are programs, and which line is the first fault of one that is not.
-use Rattle.std.specs.Prelude.{◌≡◌, ◌≢◌, ◌⊎◌, ℕ, ◌+◌, ◌<◌, List, [], ◌∷◌, None, Ok, Err, length, take, slice_index_or}
+use Rattle.std.specs.Prelude.{◌≡◌, ◌≢◌, ◌⊎◌, ℕ, ◌+◌, ◌<◌, List, [], None, Ok, Err, length, take, slice_index_or}
 use Rattle.asm_core.specs.declared.line.Statement.TheVariants.{Nothing}
 use Rattle.asm_core.specs.declared.line.Line.{Line}
 use Rattle.asm_core.specs.declared.line.AsmFault.{AsmFault}

@@ -6,3 +6,5 @@ pub mod Places
 pub mod Passes
 pub mod Faults
 pub mod Words
+pub mod Listing
+pub mod Rows

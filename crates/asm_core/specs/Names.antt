@@ -81,6 +81,14 @@ abbrev pub in_groups : List Group → List ℕ → Option ℕ
 in_groups [] word = None
 in_groups (g ∷ gs) word = or_else (meaning (of_group g) word) (in_groups gs word)
 
+-- the names of some groups, and of all
+abbrev pub of_groups : List Group → List (List ℕ × ℕ)
+of_groups [] = []
+of_groups (g ∷ gs) = of_group g ++ of_groups gs
+
+unfoldable pub names : List (List ℕ × ℕ)
+names = of_groups arithmetic ++ (of_groups jumps ++ of_groups logic)
+
 -- the opcode that a word names
 unfoldable pub opcode_of : List ℕ → Option ℕ
 opcode_of word = or_else (in_groups arithmetic word) (or_else (in_groups jumps word) (in_groups logic word))

@@ -1,5 +1,5 @@
 -- What the words of a program are made of.
-use Rattle.std.specs.Prelude.{◌≡◌, ℕ, ◌+◌, ◌*◌, ◌^◌, ◌<◌, List, [], ◌∷◌, ◌++◌, Option, None, Some}
+use Rattle.std.specs.Prelude.{◌≡◌, ℕ, ◌+◌, ◌*◌, ◌^◌, ◌<◌, List, [], ◌∷◌, Option, None, Some}
 use Rattle.asm_core.specs.declared.line.Value.{Value}
 use Rattle.asm_core.specs.declared.line.Statement.{Statement}
 use Rattle.asm_core.specs.declared.line.Statement.TheVariants.{Loc}

@@ -1,11 +1,18 @@
 // What follows from the definitions, in the words of their users. A law does nothing when it runs.
 ghost use Rattle.std.specs.Prelude.{◌≡◌, ◌↔◌, ◌+◌, ◌-◌, ◌*◌, ◌/◌, ◌%◌, ◌^◌, ◌<◌, ◌≤◌, ℕ, List, ◌++◌, Some, Ok, Err, length, slice_index};
+ghost use Rattle.std.specs.Prelude.{◌==◌};
+ghost use Rattle.std.specs.List.{All, list_any};
+ghost use Rattle.ka10_table.specs.Rows.{row_of};
+ghost use Rattle.asm_core.specs.Names.{names, opcode_of};
+ghost use Rattle.asm_core.specs.Rows.{has_name};
 ghost use Rattle.asm_core.specs.declared.line.AsmFault.{AsmFault as AFault};
 ghost use Rattle.asm_core.specs.declared.line.Line.{Line as ALine};
+ghost use Rattle.asm_core.specs.declared.line.Placed.{Placed as APlaced};
 ghost use Rattle.asm_core.specs.declared.line.Statement.{Statement as AStatement};
 ghost use Rattle.asm_core.specs.Faults.{AreLines, IsFirstFault};
 ghost use Rattle.asm_core.specs.Grammar.{instruction};
-ghost use Rattle.asm_core.specs.Places.{assembled, character, lines_of, packed};
+ghost use Rattle.asm_core.specs.Listing.{AreInSpace, listing};
+ghost use Rattle.asm_core.specs.Places.{assembled, character, lines_of, outcome, packed};
 ghost use Rattle.asm_core.specs.Words.{AreApart, BeginsAnew, IsClosed, IsInstruction, instruction_word};
 
 /// A text is read as lines exactly where each is right behind those before it and the last has its line
@@ -39,4 +46,16 @@ pub fn characters_come_back()
 /// other, gives the words of the one and then those of the other.
 pub fn programs_join()
     ensures { (xs : List ALine) (ys : List ALine) → BeginsAnew ys → AreApart xs ys → IsClosed xs → IsClosed ys → assembled (xs ++ ys) ≡ assembled xs ++ assembled ys }
+{}
+
+/// Words at addresses are a program: the text that has a LOC and a WORD for each of them gives just them.
+pub fn listings_are_read()
+    ensures { (program : List APlaced) → AreInSpace program → outcome (listing program) ≡ Ok program }
+{}
+
+/// Each name of an instruction means its opcode, so that no two are the same; and an opcode has a name
+/// exactly where its row of the table is neither illegal nor one that a program handles itself.
+pub fn rows_have_names()
+    ensures each { All (λ p. opcode_of p.0 ≡ Some p.1) names }
+    ensures rows { (op : ℕ) → op < 512 → list_any (λ p. p.1 == op) names ≡ has_name (row_of op).family }
 {}

@@ -1,6 +1,6 @@
 //! An assembler of the machine's programs: a text of lines becomes words, each at its address.
 //! To the layers above a program is the list of its words, or the first fault in it.
-//! Stands on `word36` for words and octal texts, and on `machine_names` for texts of fixed room.
+//! Stands on `word36` for words and octal texts, on `machine_names` for texts of fixed room, and on `ka10_table` for the rows that have names.
 #![tactic(auto)]
 
 mod cutting;
@@ -18,7 +18,8 @@ mod words;
 
 pub use half::Half;
 pub use laws::{
-    characters_come_back, first_fault_decides, instructions_have_fields, programs_join,
+    characters_come_back, first_fault_decides, instructions_have_fields, listings_are_read,
+    programs_join, rows_have_names,
 };
 pub use line::{AsmFault, Line, LineText, Placed, Statement, Symbol, Value};
 pub use program::assemble;

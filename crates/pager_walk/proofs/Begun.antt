@@ -3,7 +3,7 @@ use Rattle.std.proofs.Common.{◌≡◌, ◌≢◌, ◌⊎◌, inl, inr, ℕ, ze
 use Rattle.std.specs.Prelude.{IsSome, slice_index, slice_index_or, slice_set}
 use Rattle.std.specs.Option.{option_map, option_map_or, option_and_then}
 use Rattle.std.specs.FinMap as fin
-use Rattle.std.proofs.lemmas.List.{get_or-set_same, get_or-set_other, length-set}
+use Rattle.std.proofs.lemmas.List.{get_or-set_same, get_or-set_other, length-set, length-map}
 use Rattle.std.proofs.lemmas.Bool.{cases_eq}
 use Rattle.outside.specs.declared.TheConstants.{PAGE_WORDS}
 use Rattle.machine_names.specs.declared.names.ForkName.{ForkName}
@@ -153,6 +153,7 @@ module _ (t : Tables) (places : List HomePlace) (rooted : AreRooted t (map is_ta
     apart = λ j i g h a b same. apart_roots j i g h (whose j g a) (whose i h b) same;
     unnamed = λ j g e. unnamed_roots j g (whose j g e);
     named = λ h e. still_taken h (rooted.named h e);
+    few = omega (arith, rooted.few, length-map after is_taken, length-map places is_taken, length-set places home.0 (here words));
   }
 
   module _ (d : DrumWords) where

@@ -1,9 +1,9 @@
 -- What is left of the plain maps once a fork's map has gone.
-use Rattle.std.proofs.Common.{◌≡◌, ◌≢◌, ◌⊎◌, inl, inr, ℕ, List, true, false, cond, Option, None, Some, is_some, map, sym, ◌∙◌, ap, subst}
+use Rattle.std.proofs.Common.{arith, ◌≡◌, ◌≢◌, ◌⊎◌, inl, inr, ℕ, List, true, false, cond, Option, None, Some, is_some, map, sym, ◌∙◌, ap, subst}
 use Rattle.std.specs.Prelude.{IsSome, slice_index, slice_index_or, slice_set}
 use Rattle.std.specs.Option.{option_map}
 use Rattle.std.specs.FinMap as fin
-use Rattle.std.proofs.lemmas.List.{get_or-set_same, get_or-set_other, length-set}
+use Rattle.std.proofs.lemmas.List.{get_or-set_same, get_or-set_other, length-set, length-map}
 use Rattle.std.proofs.lemmas.Bool.{cases_eq}
 use Rattle.machine_names.specs.declared.names.ForkName.{ForkName}
 use Rattle.machine_names.specs.Orders.{same_fork}
@@ -71,6 +71,7 @@ module _ (t : Tables) (places : List HomePlace) (rooted : AreRooted t (map is_ta
     apart = λ j i g h a b same. let x = whose j g a in let y = whose i h b in rooted.apart j i g h x.1 y.1 (sym (root_is j x.0) ∙ same ∙ root_is i y.0);
     unnamed = λ j g e. let x = whose j g e in ap (name_at t.names) (root_is j x.0) ∙ rooted.unnamed j g x.1;
     named = λ h e. still_taken h (λ same. let z : false ≡ true = sym (ap (λ i. is_some (name_at t.names i)) same ∙ ap is_some (rooted.unnamed k f own)) ∙ e in absurd (cc z)) (rooted.named h e);
+    few = omega (arith, rooted.few, length-map after is_taken, length-map places is_taken, length-set places (root_at t.maps k).0 free);
   }
 
   module _ (d : DrumWords) where

@@ -1,9 +1,9 @@
 -- What a new page with a name leaves of the plain maps: all of them, since no entry names it yet.
-use Rattle.std.proofs.Common.{◌≡◌, ◌≢◌, ◌⊎◌, inl, inr, ℕ, suc, ◌<◌, ◌≤◌, List, [], ◌∷◌, Bool, true, false, cond, Option, None, Some, is_some, length, map, refl, sym, ◌∙◌, ap, subst, arith}
+use Rattle.std.proofs.Common.{◌≡◌, ◌≢◌, ◌⊎◌, inl, inr, ℕ, suc, ◌<◌, List, [], ◌∷◌, Bool, true, false, cond, Option, None, Some, is_some, length, map, refl, sym, ◌∙◌, ap, subst, arith}
 use Rattle.std.specs.Prelude.{IsSome, slice_index, slice_index_or, slice_set}
 use Rattle.std.specs.Option.{option_map, option_map_or, option_and_then, unwrap_or}
 use Rattle.std.specs.FinMap as fin
-use Rattle.std.proofs.lemmas.List.{get_or-set_same, get_or-set_other}
+use Rattle.std.proofs.lemmas.List.{get_or-set_same, get_or-set_other, length-set, length-map}
 use Rattle.std.proofs.lemmas.Bool.{cases_eq}
 use Rattle.outside.specs.declared.TheConstants.{PAGE_WORDS}
 use Rattle.machine_names.specs.declared.names.Access.{Access}
@@ -34,7 +34,7 @@ map_same f g [] d same = refl
 map_same f g (x ∷ xs) d same = λ i. same 0 (omega arith) i ∷ map_same f g xs d (λ k l. same (suc k) (omega (arith, l))) i
 
 -- a home that was free gets a name
-module _ (t : Tables) (places : List HomePlace) (rooted : AreRooted t (map is_taken places)) (home : Home) (name : PageName) (inside : home.0 < length places) (within : length places ≤ length t.names) (was_free : place places home.0 ≡ free) where
+module _ (t : Tables) (places : List HomePlace) (rooted : AreRooted t (map is_taken places)) (home : Home) (name : PageName) (inside : home.0 < length places) (was_free : place places home.0 ≡ free) where
   abbrev named : Tables
   named = with_name t home name
 
@@ -67,6 +67,7 @@ module _ (t : Tables) (places : List HomePlace) (rooted : AreRooted t (map is_ta
       | inl same ↦ ap (λ i. slice_index_or (map is_taken after) i false) same ∙ own_taken
       | inr other ↦ still_taken h (rooted.named h (sym (ap is_some (other_name h other)) ∙ e))
     ];
+    few = omega (arith, rooted.few, length-map after is_taken, length-map places is_taken, length-set places home.0 (here zero_words), length-set t.names home.0 (Some name));
   }
 
   abbrev Same : Option PagedEntry → Option PagedEntry → Type 0

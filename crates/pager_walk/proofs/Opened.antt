@@ -1,5 +1,6 @@
 -- Tables in which no fork has a map.
-use Rattle.std.proofs.Common.{◌≡◌, ℕ, zero, suc, List, [], ◌∷◌, Bool, true, false, Option, None, Some, is_some, length, replicate, refl, sym, ◌∙◌, ap}
+use Rattle.std.proofs.Common.{◌≡◌, ℕ, zero, suc, List, [], ◌∷◌, Bool, true, false, Option, None, Some, is_some, length, replicate, refl, sym, ◌∙◌, ap, ◌≤◌, arith}
+use Rattle.std.proofs.lemmas.List.{length-replicate}
 use Rattle.std.specs.Option.{option_map_or}
 use Rattle.std.specs.FinMap as fin
 use Rattle.machine_names.specs.declared.names.ForkName.{ForkName}
@@ -37,13 +38,14 @@ rows_none t words [] none = refl
 rows_none t words (m ∷ maps) none = ap (λ (o : Option ForkName). option_map_or (λ f. fin.insert (rows_from t words maps) f (row_of t (words m.home.0))) o (rows_from t words maps)) (none 0) ∙ rows_none t words maps (λ k. none (suc k))
 
 module _ (t : Tables) (none : (k : ℕ) → fork_at t.maps k ≡ None) where
-  pub rooted_none : AreNumbered t.maps → (homes : ℕ) → t.names ≡ replicate homes None → (taken : List Bool) → AreRooted t taken
-  rooted_none numbered homes names taken = record {
+  pub rooted_none : AreNumbered t.maps → (homes : ℕ) → t.names ≡ replicate homes None → (taken : List Bool) → length taken ≤ homes → AreRooted t taken
+  rooted_none numbered homes names taken few = record {
     numbered = numbered;
     there = λ k f e. none_is (fork_at t.maps k) f (none k) e;
     apart = λ j k f g a b same. none_is (fork_at t.maps j) f (none j) a;
     unnamed = λ k f e. none_is (fork_at t.maps k) f (none k) e;
     named = λ h e. let z : false ≡ true = sym (ap (λ (ns : List (Option PageName)). is_some (name_at ns h)) names ∙ ap is_some (no_name homes h)) ∙ e in absurd (cc z);
+    few = omega (arith, few, ap (λ (ns : List (Option PageName)). length ns) names, length-replicate {A = Option PageName} homes None);
   }
 
   pub fits_none : (places : List HomePlace) (d : DrumWords) → FitsHomes places d → FitsMaps t places d

@@ -1,5 +1,5 @@
 -- Maps that are pages of a store, and the plain maps that they are over the words of a drum.
-use Rattle.std.specs.Prelude.{◌≡◌, ℕ, ◌<◌, List, [], ◌∷◌, Bool, true, false, Option, None, Some, is_some, IsSome, if◌then◌else◌, map, slice_index, slice_index_or, slice_set}
+use Rattle.std.specs.Prelude.{◌≡◌, ℕ, ◌<◌, ◌≤◌, List, [], ◌∷◌, Bool, true, false, Option, None, Some, is_some, IsSome, if◌then◌else◌, length, map, slice_index, slice_index_or, slice_set}
 use Rattle.std.specs.Option.{option_map_or, option_and_then, unwrap_or}
 use Rattle.std.specs.FinMap as fin
 use Rattle.machine_names.specs.declared.names.Access.{Access}
@@ -93,7 +93,7 @@ rows_from t words (m ∷ maps) = with_row t words m (rows_from t words maps)
 unfoldable pub maps_over : Tables → List HomePlace → DrumWords → Maps
 maps_over t places d = rows_from t (content places d) t.maps
 
--- Each fork's map has a home of its own, which is taken and no page's, and a home that has a name is taken. It rests on tables in memory and on which homes are
+-- Each fork's map has a home of its own, which is taken and no page's; a home that has a name is taken; and there is room for the name of each home. It rests on tables in memory and on which homes are
 -- taken alone, so that a drum that gives other words leaves it as it is.
 pub record AreRooted (t : Tables) (taken : List Bool) : Type 0 where
   pub numbered : AreNumbered t.maps
@@ -101,6 +101,7 @@ pub record AreRooted (t : Tables) (taken : List Bool) : Type 0 where
   pub apart : (j k : ℕ) (f g : ForkName) → fork_at t.maps j ≡ Some f → fork_at t.maps k ≡ Some g → (root_at t.maps j).0 ≡ (root_at t.maps k).0 → j ≡ k
   pub unnamed : (k : ℕ) (f : ForkName) → fork_at t.maps k ≡ Some f → name_at t.names (root_at t.maps k).0 ≡ None
   pub named : (h : ℕ) → is_some (name_at t.names h) ≡ true → slice_index_or taken h false ≡ true
+  pub few : length taken ≤ length t.names
 
 -- The words of a drum fit: each word of each map stands for an entry, which agrees with the tables.
 pub record FitsMaps (t : Tables) (places : List HomePlace) (d : DrumWords) : Type 0 where

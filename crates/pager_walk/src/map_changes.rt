@@ -1,5 +1,5 @@
 // Changes of maps that are pages.
-ghost use Rattle.std.specs.Prelude.{◌≡◌, ◌<◌, ◌≤◌, ◌+◌, ℕ, None, Some, IsSome, true, length, map, slice_set};
+ghost use Rattle.std.specs.Prelude.{◌≡◌, ◌<◌, ◌≤◌, ◌+◌, ℕ, None, Some, IsSome, true, map, slice_set};
 ghost use Rattle.std.specs.FinMap as fin;
 ghost use Rattle.machine_names.specs.PageWords.{zero_words};
 ghost use Rattle.plain_pages.specs.Maps.{set_entry};
@@ -46,7 +46,6 @@ pub fn set<S: Store>(store: &mut S, tables: &MapTables, at: Slot, pointer: Point
 /// Takes a free home for a zero page with a name. No entry names it yet.
 pub fn make_page<S: Store>(store: &mut S, tables: &mut MapTables, name: PageName) -> Home
     requires rooted { AreRooted (tables_of tables.old) (map is_taken (S.means.homes store.old)) }
-    requires names { length (S.means.homes store.old) ≤ length tables.old.names.items }
     requires room { room_of (free_homes (S.means.homes store.old)) (S.means.spare store.old) 1 ≡ Room.Enough }
     ensures made { IsMade S.means result.0 (here zero_words) store.old store.new }
     ensures tables { tables_of tables.new ≡ with_name (tables_of tables.old) result name }
@@ -134,11 +133,11 @@ pub fn begin_following<S: Store>(
     home
 }
 
-/// A fork's map goes: its home is given up, and its number is no fork's. What its entries named is named
+/// A fork's map goes, which has a number: its home is given up, and the number is no fork's. What its entries named is named
 /// there no more.
 pub fn end<S: Store>(store: &mut S, tables: &mut MapTables, number: u32, fork: ForkName)
     requires rooted { AreRooted (tables_of tables.old) (map is_taken (S.means.homes store.old)) }
-    requires fork { fork_at tables.old.maps.items number ≡ Some fork }
+    requires fork { index_of tables.old.maps.items fork ≡ Some number }
     ensures freed { IsFreed S.means (root_at tables.old.maps.items number).0 store.old store.new }
     ensures tables { tables_of tables.new ≡ without_root (tables_of tables.old) number }
     ensures rooted { AreRooted (tables_of tables.new) (map is_taken (S.means.homes store.new)) }

@@ -1,5 +1,5 @@
 // Entries of maps that are pages.
-ghost use Rattle.std.specs.Prelude.{◌≡◌, ◌<◌, List, Bool, None, IfOk, is_some, map, replicate};
+ghost use Rattle.std.specs.Prelude.{◌≡◌, ◌<◌, ◌≤◌, length, List, Bool, None, IfOk, is_some, map, replicate};
 ghost use Rattle.std.specs.FinMap as fin;
 ghost use Rattle.page_contracts.specs.DrumWords.{DrumWords};
 ghost use Rattle.page_contracts.specs.Stores.{FitsHomes, HomePlace, is_taken};
@@ -70,7 +70,7 @@ impl MapTables {
     /// No map, and no page has a name or is shared; room for so many homes and shares. Each drum with
     /// enough pages fits, and the plain maps over it are none. Err: no memory.
     pub fn boot(alloc: Global, homes: u32) -> Result<MapTables, Memory>
-        ensures rooted { IfOk result (λ m. (taken : List Bool) → AreRooted (tables_of m) taken) }
+        ensures rooted { IfOk result (λ m. (taken : List Bool) → length taken ≤ homes → AreRooted (tables_of m) taken) }
         ensures fits { IfOk result (λ m. (places : List HomePlace) (d : DrumWords) → FitsHomes places d → FitsMaps (tables_of m) places d) }
         ensures none { IfOk result (λ m. (places : List HomePlace) (d : DrumWords) → maps_over (tables_of m) places d ≡ fin.empty) }
         ensures names { IfOk result (λ m. m.names.items ≡ replicate homes None) }
@@ -144,8 +144,9 @@ impl MapTables {
         }
     }
 
-    // The entry that a pointer is.
-    fn entry_for(&self, pointer: Pointer) -> Option<PagedEntry>
+    /// The entry that a pointer is. None exactly where it names a home that has no page, or a share that
+    /// isn't there.
+    pub fn entry_for(&self, pointer: Pointer) -> Option<PagedEntry>
         ensures { result ≡ entry_for (tables_of self.now) pointer }
     {
         match pointer {

@@ -1,4 +1,4 @@
-//! Tests of the monitor's tables: numbers, files, JFNs, frames, shares, the drum's queue, typing and commands.
+//! Tests of the monitor's tables: numbers, files, JFNs, frames, shares, maps that are pages, the drum's queue, typing and commands.
 //! No layer stands above; to a reader each test is a table's life, step by step.
 //! Stands on the crates of tables.
 #![tactic(auto)]
@@ -19,6 +19,8 @@ mod jfns;
 mod laws;
 #[cfg(test)]
 mod made;
+#[cfg(test)]
+mod maps;
 #[cfg(test)]
 mod named;
 #[cfg(test)]
