@@ -1,5 +1,5 @@
 """Whether the comments of the examples fit their words: a comment '; ADDRESS  INSTRUCTION' or '; ADDRESS  WORD' stands for the word
-that the next POKE puts at that address. Each example opens with a comment, and one that starts a program has its instructions in comments.
+that the next POKE or WORDS puts at that address. Each example opens with a comment, and one that starts a program has its instructions in comments.
 Status 1: something does not fit, and each was printed.
 """
 import glob
@@ -34,8 +34,9 @@ for n, deed in enumerate("NZCO"):
     for mask, at in (("R", 0), ("L", 1), ("D", 0o10), ("S", 0o11)):
         line(0o600 + 0o20 * n + at, [f"T{mask}{deed}{skip}" for skip in ("", "E", "A", "N")], 2)
 
-CALLS = {"GETER": 0o12, "GTJFN": 0o20, "OPENF": 0o21, "CLOSF": 0o22, "RLJFN": 0o23, "DELF": 0o26, "PMAP": 0o56, "RPACS": 0o57, "SPACS": 0o60,
-         "RMAP": 0o61, "PBOUT": 0o74, "CFORK": 0o152, "KFORK": 0o153, "FFORK": 0o154, "RFORK": 0o155, "RFSTS": 0o156, "SFORK": 0o157,
+CALLS = {"GETER": 0o12, "GTJFN": 0o20, "OPENF": 0o21, "CLOSF": 0o22, "RLJFN": 0o23, "DELF": 0o26, "SFPTR": 0o27, "SIZEF": 0o36,
+         "RFPTR": 0o43, "BIN": 0o50, "BOUT": 0o51, "SIN": 0o52, "SOUT": 0o53, "PMAP": 0o56, "RPACS": 0o57, "SPACS": 0o60,
+         "RMAP": 0o61, "PBIN": 0o73, "PBOUT": 0o74, "PSOUT": 0o76, "CFORK": 0o152, "KFORK": 0o153, "FFORK": 0o154, "RFORK": 0o155, "RFSTS": 0o156, "SFORK": 0o157,
          "SFACS": 0o160, "RFACS": 0o161, "HFORK": 0o162, "WFORK": 0o163, "HALTF": 0o170}
 OPCODES["JSYS"] = 0o104
 OPERANDS = re.compile(r"(?:([0-7]+),)?(@)?([0-7]*)(?:\(([0-7]+)\))?")
@@ -50,6 +51,18 @@ def word_of(name, operands):
         return None
     ac, indirect, address, index = fields.groups()
     return (OPCODES[name] << 27) + (int(ac or "0", 8) << 23) + (bool(indirect) << 22) + (int(index or "0", 8) << 18) + int(address or "0", 8)
+
+
+def puts_of(text):
+    """The addresses and the words of a POKE, or of a WORDS, whose addresses are those of the file's words."""
+    poke = re.fullmatch(r"POKE [0-9]+ ([0-7]+) ([0-7]+)", text)
+    if poke:
+        return [(int(poke[1], 8), int(poke[2], 8))]
+    row = re.fullmatch(r"WORDS \S+ ([0-7]+) ([0-7]+)((?: [0-7]+)+)", text)
+    if not row:
+        return []
+    first = int(row[1], 8) * 512 + int(row[2], 8)
+    return [(first + n, int(word, 8)) for n, word in enumerate(row[3].split())]
 
 
 failures = 0
@@ -78,18 +91,19 @@ for path in scripts:
                 said[int(address, 8)] = (word, number)
                 comments += 1
         names |= {it for it in re.findall(r"[A-Z]+", text) if it in OPCODES or it in CALLS} if text.startswith(";") else set()
-        poke = re.fullmatch(r"POKE [0-9]+ ([0-7]+) ([0-7]+)", text)
-        if poke and int(poke[1], 8) in said:
-            word, above = said.pop(int(poke[1], 8))
-            if word != int(poke[2], 8):
-                fail(f"{path}:{above} is {word:012o}, and the word is {poke[2]}")
+        puts = puts_of(text)
+        if puts and puts[0][0] in said:
+            for address, put in puts:
+                word, above = said.pop(address, (put, number))
+                if word != put:
+                    fail(f"{path}:{above} is {word:012o}, and the word is {put:012o}")
         elif text and not text.startswith(";"):
             for word, above in said.values():
                 fail(f"{path}:{above} stands for no word below it")
             said = {}
-    pokes = [int(word, 8) for word in re.findall(r"^POKE \d+ [0-7]+ ([0-7]+)$", "\n".join(lines), re.M)]
+    words = [word for text in lines for _, word in puts_of(text)]
     for name, number in CALLS.items():
-        if 0o104000000000 + number in pokes and name not in names:
+        if 0o104000000000 + number in words and name not in names:
             fail(f"{path} has no comment with {name}")
 if failures:
     sys.exit(1)

@@ -153,7 +153,7 @@ fn ends_the_same_in_all_pieces(rt: HostRuntime) -> Result<(), Fail> {
         (b"RUN 5\n;", (1, Next::Bad(2))),
         (b"\n", (0, Next::End)),
         (b"\n\nRUN 5\n\n", (1, Next::End)),
-        (b"TICK\nTYPE 0 A\n", (1, Next::Bad(2))),
+        (b"TICK\nTRACE OFF\n", (1, Next::Bad(2))),
         (b"FILE <A>B.C\nTRACE ON\n", (1, Next::Bad(2))),
         (&full, (1, Next::End)),
         (&longer, (0, Next::Bad(1))),

@@ -23,3 +23,5 @@ mod memory_run;
 mod same;
 #[cfg(test)]
 mod scripts;
+#[cfg(test)]
+mod typed;
