@@ -8,6 +8,7 @@ use Rattle.plain_units.specs.declared.channel.TheConstants.{ILLEGAL_INSTRUCTION}
 use Rattle.plain_model.specs.declared.call.End.{End}
 use Rattle.plain_model.specs.declared.call.End.TheVariants.{Done, Waits, Halts, Refused, Failed, Trap}
 use Rattle.plain_model.specs.declared.call.ForkChange.{ForkChange}
+use Rattle.plain_model.specs.declared.call.InterruptChange.{InterruptChange}
 use Rattle.plain_model.specs.declared.call.MapChange.{MapChange}
 use Rattle.plain_model.specs.declared.call.FileChange.{FileChange}
 use Rattle.plain_model.specs.declared.call.ByteChange.{ByteChange}
@@ -16,16 +17,18 @@ use Rattle.machine_names.specs.declared.names.ForkName.{ForkName}
 use Rattle.plain_model.specs.declared.fork.Fork.{Fork}
 use Rattle.plain_units.specs.declared.registers.Regs.{Regs}
 use Rattle.plain_pages.specs.PlainPages.{PlainPages, NamedPages}
+use Rattle.plain_model.specs.Forks.{ForkMap}
 use Rattle.plain_model.specs.State.{PlainState}
 use Rattle.machine_names.specs.Orders.{name_cmp}
 use Rattle.plain_model.specs.Interrupts.{posted}
 use Rattle.plain_model.specs.Calls.{Turn, ends, with_ac, no_files, Came, turn_on, given, numbered, returning, is_among, fork_behind, out_of, parts_behind, Asked}
 use Rattle.plain_model.specs.MapCalls.{map_calls, map_changed}
-use Rattle.plain_model.specs.FileCalls.{FileParts, file_call, file_calls, file_changed, geter, jfn_calls}
+use Rattle.plain_model.specs.FileCalls.{FileParts, Jobs, file_call, file_calls, file_changed, geter, jfn_calls}
 use Rattle.plain_model.specs.ForkCalls.{own_named, fork_calls, fork_changed}
 use Rattle.plain_model.specs.ByteCalls.{ByteRows, byte_calls, byte_changed}
 use Rattle.plain_model.specs.StringCalls.{string_calls}
-use Rattle.plain_model.specs.Families.{Parts, behind, asks, came_of, bytes_changed, on_bytes, forking, mapping, opening, prints, own_changed, print_calls, forks_changed, pages_changed, jfns_changed}
+use Rattle.plain_model.specs.InterruptCalls.{interrupt_calls, interrupt_changed}
+use Rattle.plain_model.specs.Families.{Parts, behind, asks, came_of, bytes_changed, codes_behind, on_bytes, forking, interrupting, mapping, opening, prints, own_changed, print_calls, forks_changed, interrupts_changed, pages_changed, jfns_changed}
 use Rattle.plain_model.specs.Unit.{Effect, parts_of, with_parts, turned, called}
 use Rattle.std.proofs.lemmas.Bool.{cond_both}
 
@@ -41,6 +44,19 @@ fork_called s f number = with_parts s (fork_left s f number)
 
 abbrev pub fork_turned : PlainState → Fork → ℕ → Effect
 fork_turned s f number = turned s f.name.tty (behind forks_changed (parts_of s) f.name (fork_came s f number))
+
+-- so of a call on pseudo-interrupts
+abbrev pub interrupt_came : PlainState → Fork → ℕ → Came name_cmp InterruptChange
+interrupt_came s f number = came_of interrupting (parts_of s) f.name f.body.regs number
+
+abbrev pub interrupt_left : PlainState → Fork → ℕ → Parts name_cmp
+interrupt_left s f number = let c = interrupt_came s f number in parts_behind interrupts_changed (parts_of s) (record (parts_of s) { pages = c.pages }) c.end
+
+abbrev pub interrupt_called : PlainState → Fork → ℕ → PlainState
+interrupt_called s f number = with_parts s (interrupt_left s f number)
+
+abbrev pub interrupt_turned : PlainState → Fork → ℕ → Effect
+interrupt_turned s f number = turned s f.name.tty (behind interrupts_changed (parts_of s) f.name (interrupt_came s f number))
 
 -- so of a call on maps
 abbrev pub map_came : PlainState → Fork → ℕ → Came name_cmp MapChange
@@ -95,6 +111,16 @@ own_turned s f t = turned s f.name.tty (behind own_changed (parts_of s) f.name (
 abbrev pub none_turned : PlainState → Fork → Effect
 none_turned s f = turned s f.name.tty (record { parts = parts_of s; caller = option_map (λ g. posted g ILLEGAL_INSTRUCTION) (map.get s.forks f.name); out = None })
 
+-- the jobs behind a turn of a fork call
+abbrev pub jobs_behind : End ForkChange → ForkMap → Jobs → Jobs
+jobs_behind (Done change regs out post) forks jobs = codes_behind change forks jobs
+jobs_behind e forks jobs = jobs
+
+-- the pages behind a turn that changes none of them: those that it made, where it is done
+abbrev pub pages_after : {C : Type 0} {K : Type 0} {file_cmp : K → K → Ordering} → PlainPages file_cmp → PlainPages file_cmp → End C → PlainPages file_cmp
+pages_after p q (Done change regs out post) = q
+pages_after p q e = p
+
 module _ (Holds : Effect → Type 0) (s : PlainState) where
   -- the fork that called is put among the forks that the turn leaves
   pub caller_by : (t : Tty) (left : Parts name_cmp) (who : ForkName) (change : Fork → Fork) (out : Option ℕ)
@@ -118,10 +144,11 @@ module _ {K : Type 0} {file_cmp : K → K → Ordering} where
   pages_behind key_of v q (Failed code) = refl
   pages_behind key_of v q (Trap channel) = refl
 
-  -- a change of forks and pages
+  -- a change of forks, pages and codes
   pub forks_behind : (v : Parts file_cmp) (q : PlainPages file_cmp) (e : End ForkChange)
       → parts_behind forks_changed v (record v { pages = q }) e
-      ≡ (let part = parts_behind fork_changed (record { tree = v.tree; pages = v.pages }) (record { tree = v.tree; pages = q }) e in record v { tree = part.tree; pages = part.pages })
+      ≡ (let part = parts_behind fork_changed (record { tree = v.tree; pages = v.pages }) (record { tree = v.tree; pages = q }) e in
+      record v { tree = part.tree; pages = part.pages; jobs = jobs_behind e part.tree.forks v.jobs })
   unfolding parts_behind
   forks_behind v q (Done change regs out post) = refl
   forks_behind v q (Waits on) = refl
@@ -129,6 +156,19 @@ module _ {K : Type 0} {file_cmp : K → K → Ordering} where
   forks_behind v q (Refused code) = refl
   forks_behind v q (Failed code) = refl
   forks_behind v q (Trap channel) = refl
+
+  -- a change of forks and codes, on the pages that the turn made
+  pub interrupts_behind : (v : Parts file_cmp) (q : PlainPages file_cmp) (e : End InterruptChange)
+      → parts_behind interrupts_changed v (record v { pages = q }) e
+      ≡ (let part = parts_behind interrupt_changed (record { tree = v.tree; jobs = v.jobs }) (record { tree = v.tree; jobs = v.jobs }) e in
+      record v { tree = part.tree; pages = pages_after v.pages q e; jobs = part.jobs })
+  unfolding parts_behind
+  interrupts_behind v q (Done change regs out post) = refl
+  interrupts_behind v q (Waits on) = refl
+  interrupts_behind v q Halts = refl
+  interrupts_behind v q (Refused code) = refl
+  interrupts_behind v q (Failed code) = refl
+  interrupts_behind v q (Trap channel) = refl
 
   -- a change of pages, files and jobs
   pub jfns_behind : (key_of : List ℕ → K) (v : Parts file_cmp) (q : PlainPages file_cmp) (e : End FileChange)
@@ -183,16 +223,17 @@ module _ {K : Type 0} {file_cmp : K → K → Ordering} where
 
 module _ (Holds : Effect → Type 0) (s : PlainState) (f : Fork) where
   -- a call is one of a family, or none; each turn that changes the fork that called alone is looked at in one way
-  pub called_by : (number : ℕ) → ((t : Turn ⊥ (Unit {0})) → MakesNone s.pages t → Holds (own_turned s f t)) → Holds (fork_turned s f number) → Holds (map_turned s f number) → Holds (jfn_turned s f number) → Holds (byte_turned s f byte_calls number) → Holds (byte_turned s f string_calls number) → Holds (none_turned s f)
+  pub called_by : (number : ℕ) → ((t : Turn ⊥ (Unit {0})) → MakesNone s.pages t → Holds (own_turned s f t)) → Holds (fork_turned s f number) → Holds (interrupt_turned s f number) → Holds (map_turned s f number) → Holds (jfn_turned s f number) → Holds (byte_turned s f byte_calls number) → Holds (byte_turned s f string_calls number) → Holds (none_turned s f)
       → Holds (called s f number)
-  called_by number own forks maps jfns bytes_of strings_of none =
+  called_by number own forks interrupts maps jfns bytes_of strings_of none =
       cond_both (is_among print_calls number) _ _ (λ r. Holds (turned s f.name.tty r)) (λ is. own (numbered print_calls number f.body.regs) (print_makes_none s.pages number f.body.regs)) (λ n1.
       cond_both (is_among fork_calls number) _ _ (λ r. Holds (turned s f.name.tty r)) (λ is. forks) (λ n2.
+      cond_both (is_among interrupt_calls number) _ _ (λ r. Holds (turned s f.name.tty r)) (λ is. interrupts) (λ n8.
       cond_both (is_among map_calls number) _ _ (λ r. Holds (turned s f.name.tty r)) (λ is. maps) (λ n3.
       cond_both (is_among file_calls number) _ _ (λ r. Holds (turned s f.name.tty r)) (λ is. own (file_call number (asks (parts_of s) f.name f.body.regs)) (file_makes_none s.pages number (asks (parts_of s) f.name f.body.regs))) (λ n4.
       cond_both (is_among jfn_calls number) _ _ (λ r. Holds (turned s f.name.tty r)) (λ is. jfns) (λ n5.
       cond_both (is_among byte_calls number) _ _ (λ r. Holds (turned s f.name.tty r)) (λ is. bytes_of) (λ n6.
-      cond_both (is_among string_calls number) _ _ (λ r. Holds (turned s f.name.tty r)) (λ is. strings_of) (λ n7. none)))))))
+      cond_both (is_among string_calls number) _ _ (λ r. Holds (turned s f.name.tty r)) (λ is. strings_of) (λ n7. none))))))))
 
   -- such a turn leaves the fork that called
   pub own_by : (t : Turn ⊥ (Unit {0})) → MakesNone s.pages t

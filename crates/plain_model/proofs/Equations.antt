@@ -1,5 +1,5 @@
 -- What the definitions say that do not open by themselves, one equation each.
-use Rattle.std.proofs.Common.{◌≡◌, ℕ, List, [], ◌++◌, Some, refl, ap}
+use Rattle.std.proofs.Common.{◌≡◌, ℕ, List, [], ◌++◌, Some, refl, ◌∙◌, ap, cond, false}
 use Rattle.std.specs.Prelude.{take}
 use Rattle.std.specs.Option.{option_map_or}
 use Rattle.std.specs.FinMap as map
@@ -10,7 +10,8 @@ use Rattle.script_texts.specs.declared.event.Event.{Event}
 use Rattle.script_texts.specs.declared.event.Event.TheVariants.{Login, TypeIn, File, Words, Poke, Start, Tick, Examine, Forks, Page}
 use Rattle.script_texts.specs.declared.event.Step.TheVariants.{Outer, Unit as AUnit, Idle}
 use Rattle.plain_model.specs.State.{PlainState}
-use Rattle.plain_model.specs.Unit.{over, unit}
+use Rattle.plain_model.specs.Inspections.{is_interrupted}
+use Rattle.plain_model.specs.Unit.{instruction_unit, interrupted_unit, over, unit, unit_of}
 use Rattle.plain_units.specs.Units.{unit_on}
 use Rattle.script_texts.specs.declared.event.WordRow.{WordRow}
 use Rattle.plain_model.specs.FileEvents.{make_file, write_words, show_page}
@@ -19,9 +20,13 @@ use Rattle.plain_model.specs.Run.{apply, unit_line}
 
 module _ (s : PlainState) where
   -- a unit of a fork that lives
-  pub unit_some : (name : ForkName) (f : Fork) → map.get s.forks name ≡ Some f → unit s name ≡ over s f (unit_on f.name s.pages f.body.regs)
+  pub unit_some : (name : ForkName) (f : Fork) → map.get s.forks name ≡ Some f → unit s name ≡ unit_of s f
   unfolding unit
-  unit_some name f h = ap (λ o. option_map_or (λ k. over s k (unit_on k.name s.pages k.body.regs)) o (record { state = s; items = [] })) h
+  unit_some name f h = ap (λ o. option_map_or (unit_of s) o (record { state = s; items = [] })) h
+
+  -- that of a fork which isn't interrupted is its instruction
+  pub unit_plain : (name : ForkName) (f : Fork) → map.get s.forks name ≡ Some f → is_interrupted f.body.psi ≡ false → unit s name ≡ over s f (unit_on f.name s.pages f.body.regs)
+  unit_plain name f h off = unit_some name f h ∙ ap (λ b. cond b (interrupted_unit s f) (instruction_unit s f)) off
 
   pub outer_login : (t : Tty) (user : List ℕ) → outer s (Login t user) ≡ login s t user
   unfolding outer

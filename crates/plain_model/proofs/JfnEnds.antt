@@ -27,7 +27,8 @@ use Rattle.plain_model.specs.declared.call.End.TheVariants.{Done, Waits, Halts, 
 use Rattle.plain_model.specs.declared.call.FileChange.{FileChange}
 use Rattle.plain_model.specs.declared.call.FileChange.TheVariants.{Take, Make, Open, Release, Delete}
 use Rattle.plain_model.specs.Calls.{Turn, ends, looks, makes, Sight, turn_on}
-use Rattle.plain_model.specs.PointedTexts.{Reading, words, read, text_at, with_reading}
+use Rattle.plain_model.specs.PointedTexts.{text_at}
+use Rattle.plain_model.specs.Readings.{Reading, words, read, with_reading}
 use Rattle.plain_model.specs.FileCalls.{JfnAsked, made_for, found_or_made, taking, gtjfn, of_jfn, size_in, mode_in, skipping, telling, openf, closf, rljfn, delf, jfn_call}
 use Rattle.plain_model.proofs.Turns.{Comes, takes_comes}
 

@@ -11,6 +11,8 @@ use Rattle.std.proofs.Math.Path.{fun_ext}
 use Rattle.plain_model.specs.declared.call.End.{End}
 use Rattle.plain_model.specs.declared.call.End.TheVariants.{Done, Waits, Halts, Refused, Failed, Trap}
 use Rattle.plain_model.specs.declared.call.ForkChange.{ForkChange}
+use Rattle.plain_model.specs.declared.call.InterruptChange.{InterruptChange}
+use Rattle.plain_model.specs.InterruptCalls.{interrupt_calls}
 use Rattle.plain_model.specs.declared.call.MapChange.{MapChange}
 use Rattle.plain_model.specs.declared.call.MapChange.TheVariants.{Nothing, Unmap, Follow, Narrow, Map, Put, Drop}
 use Rattle.plain_model.specs.declared.call.FileChange.{FileChange}
@@ -41,7 +43,7 @@ use Rattle.plain_model.specs.FileCalls.{file_calls, deleted, file_changed, files
 use Rattle.plain_model.specs.ForkCalls.{ForkParts, fork_calls}
 use Rattle.plain_model.specs.ByteCalls.{ByteAsked, ByteRows, byte_calls, byte_changed, byte_page, files_reaching, input_at, pages_of, written}
 use Rattle.plain_model.specs.StringCalls.{string_calls}
-use Rattle.plain_model.specs.Families.{Parts, Turned, behind, call_turned, print_calls, own_changed, asks, asks_bytes, asks_jfns, asks_maps, bytes_changed, files_seen, names_seen, forks_changed, pages_changed, jfns_changed}
+use Rattle.plain_model.specs.Families.{codes_behind, interrupts_changed, Parts, Turned, behind, call_turned, print_calls, own_changed, asks, asks_bytes, asks_jfns, asks_maps, bytes_changed, files_seen, names_seen, forks_changed, pages_changed, jfns_changed}
 use Rattle.machine_names.proofs.OrderLemmas.{name_cmp_apart}
 use Rattle.plain_pages.proofs.Refiled.{NameAlike}
 use Rattle.plain_pages.proofs.FilesKept.{without_files}
@@ -317,8 +319,11 @@ module _ {K L : Type 0} {file_cmp : K → K → Ordering} {other_cmp : L → L �
 
     fork_step : (c : ForkChange) (q : PlainPages file_cmp) → AreFiled file_cmp other_cmp key other_key (made_with q) files → StayFiled file_cmp other_cmp key other_key (made_with q) (forks_changed c (made_with q)) (forks_changed c (renewed (made_with q)))
     fork_step c q k = stay key other_key (made_with q) files k _ _
-        (ap (λ (part : ForkParts other_cmp). record (renewed v) { tree = part.tree; pages = part.pages }) (change_refiled other_cmp files c (record { tree = v.tree; pages = q }) (alike o apart other_o other_apart key other_key files (made_with q) k)))
+        (ap (λ (part : ForkParts other_cmp). record (renewed v) { tree = part.tree; pages = part.pages; jobs = codes_behind c part.tree.forks v.jobs }) (change_refiled other_cmp files c (record { tree = v.tree; pages = q }) (alike o apart other_o other_apart key other_key files (made_with q) k)))
         (fork_leaves c (record { tree = v.tree; pages = q })) (λ name h. h)
+
+    interrupt_step : (c : InterruptChange) (q : PlainPages file_cmp) → AreFiled file_cmp other_cmp key other_key (made_with q) files → StayFiled file_cmp other_cmp key other_key (made_with q) (interrupts_changed c (made_with q)) (interrupts_changed c (renewed (made_with q)))
+    interrupt_step c q k = stay key other_key (made_with q) files k (interrupts_changed c (made_with q)) (interrupts_changed c (renewed (made_with q))) refl refl (λ name h. h)
 
     -- two files are told apart by both kinds of keys, or by neither
     keys_tied : (a b : List ℕ) → IsThere v a → IsThere v b → eq_by_cmp other_cmp (other_key a) (other_key b) ≡ eq_by_cmp file_cmp (key a) (key b)
@@ -407,10 +412,11 @@ module _ {K L : Type 0} {file_cmp : K → K → Ordering} {other_cmp : L → L �
     call_refiled held regs number =
         either (is_among print_calls number) _ _ _ _ (behind_turns own_changed own_changed own_step no_files no_files no_files_told (numbered print_calls number regs))
         (either (is_among fork_calls number) _ _ _ _ (behind_turns forks_changed forks_changed fork_step no_files no_files no_files_told (numbered fork_calls number (asks v who regs)))
+        (either (is_among interrupt_calls number) _ _ _ _ (behind_turns interrupts_changed interrupts_changed interrupt_step no_files no_files no_files_told (numbered interrupt_calls number (asks v who regs)))
         (either (is_among map_calls number) _ _ _ _ (map_turns (numbered map_calls number (asks_maps v who regs)) (map_keeps (IsThere v) (asks_maps v who regs) (held who.tty) number))
         (either (is_among file_calls number) _ _ _ _ (behind_turns own_changed own_changed own_step no_files no_files no_files_told (numbered file_calls number (asks v who regs)))
         (either (is_among jfn_calls number) _ _ _ _
         (behind_turns (jfns_changed key) (jfns_changed other_key) (λ c q k. change_stays o apart other_o other_apart key other_key files (made_with q) k held c) (names_seen v who) (names_seen (renewed v) who) (record { names = λ name. refl; more = refl }) (numbered jfn_calls number (asks_jfns v who regs)))
         (either (is_among byte_calls number) _ _ _ _ (byte_turns byte_calls regs number held (byte_keeps (IsThere v) (asks_bytes key v who regs) (held who.tty) number))
         (either (is_among string_calls number) _ _ _ _ (byte_turns string_calls regs number held (string_keeps (IsThere v) (asks_bytes key v who regs) (held who.tty) number))
-        (turns other_cmp key other_key v v (renewed v) who (λ f. posted f ILLEGAL_INSTRUCTION) None as_it_was)))))))
+        (turns other_cmp key other_key v v (renewed v) who (λ f. posted f ILLEGAL_INSTRUCTION) None as_it_was))))))))

@@ -30,6 +30,7 @@ use Rattle.plain_model.specs.Forks.{change_fork, first_regs, psi_at_rest, with_f
 use Rattle.plain_model.specs.Trees.{tree_of, with_body, with_changed_of, with_mark}
 use Rattle.plain_model.specs.ForkCalls.{ForkParts, killed, without_below}
 use Rattle.plain_model.specs.FileCalls.{times_held}
+use Rattle.plain_model.specs.InterruptCalls.{living_codes}
 use Rattle.plain_model.specs.FileEvents.{page_named}
 use Rattle.plain_model.specs.Unit.{Effect, printed}
 
@@ -129,9 +130,11 @@ forks_and_pages s = record { tree = tree_of s; pages = s.pages }
 abbrev pub with_forks_and_pages : PlainState → ForkParts name_cmp → PlainState
 with_forks_and_pages s v = record s { forks = v.tree.forks; fork_serials = v.tree.serials; pages = v.pages }
 
--- a job whose top fork runs the program in a file
+-- a job whose top fork runs the program in a file; of the codes that its forks have assigned, those of the top fork stay
 abbrev pub running : PlainState → Tty → PlainJob → List ℕ → ℕ → PlainState
-running s t j name address = with_job_at (with_forks_and_pages s (with_program_run (forks_and_pages s) j.top name address)) t (record (in_program j) { start = Some address })
+running s t j name address =
+    let run = with_forks_and_pages s (with_program_run (forks_and_pages s) j.top name address) in
+    with_job_at run t (record (in_program j) { start = Some address; codes = living_codes run.forks j.codes })
 
 -- the address at which a program starts: the right half of a word of its first page
 abbrev pub start_address : PlainState → List ℕ → ℕ

@@ -8,6 +8,8 @@ use Rattle.plain_units.specs.declared.channel.TheConstants.{ILLEGAL_INSTRUCTION}
 use Rattle.plain_model.specs.declared.call.End.TheVariants.{Done}
 use Rattle.plain_model.specs.declared.call.MapChange.{MapChange}
 use Rattle.plain_model.specs.declared.call.ForkChange.{ForkChange}
+use Rattle.plain_model.specs.declared.call.ForkChange.TheVariants.{Kill}
+use Rattle.plain_model.specs.declared.call.InterruptChange.{InterruptChange}
 use Rattle.plain_model.specs.declared.call.FileChange.{FileChange}
 use Rattle.plain_model.specs.declared.call.ByteChange.{ByteChange}
 use Rattle.machine_names.specs.declared.names.ForkName.{ForkName}
@@ -23,6 +25,8 @@ use Rattle.plain_model.specs.Calls.{Asked, Turn, ends, Sight, no_files, Came, tu
 use Rattle.plain_model.specs.MapCalls.{MapAsked, map_calls, map_changed}
 use Rattle.plain_model.specs.FileCalls.{Jobs, JfnAsked, file_calls, file_changed, held_at, jfn_calls, times_held}
 use Rattle.plain_model.specs.ForkCalls.{fork_calls, fork_changed}
+use Rattle.plain_model.specs.Forks.{ForkMap}
+use Rattle.plain_model.specs.InterruptCalls.{interrupt_calls, interrupt_changed, living_codes, with_codes_of}
 use Rattle.plain_model.specs.ByteCalls.{ByteAsked, ByteRows, byte_calls, byte_changed, input_at, pages_of}
 use Rattle.plain_model.specs.StringCalls.{string_calls}
 
@@ -60,6 +64,11 @@ pub record Offer {K : Type 0} (file_cmp : K → K → Ordering) : Type 0 where
   pub has : ℕ → Bool
   pub turned : Parts file_cmp → ForkName → Regs → ℕ → Turned file_cmp
 
+-- what a fork call changes of the jobs: where forks are killed, their codes are assigned to nothing
+abbrev pub codes_behind : ForkChange → ForkMap → Jobs → Jobs
+codes_behind (Kill f) forks jobs = with_codes_of jobs f.tty (living_codes forks)
+codes_behind change forks jobs = jobs
+
 module _ {K : Type 0} {file_cmp : K → K → Ordering} where
   -- what is behind a turn that came out so
   abbrev pub behind : {C : Type 0} → (C → Parts file_cmp → Parts file_cmp) → Parts file_cmp → ForkName → Came file_cmp C → Turned file_cmp
@@ -95,13 +104,23 @@ module _ {K : Type 0} {file_cmp : K → K → Ordering} where
   abbrev pub asks : Parts file_cmp → ForkName → Regs → Asked
   asks v who regs = record { who = who; regs = regs; tree = v.tree }
 
-  -- a fork call changes forks and pages
+  -- a fork call changes forks and pages, and codes
   abbrev pub forks_changed : ForkChange → Parts file_cmp → Parts file_cmp
-  forks_changed change v = let part = fork_changed change (record { tree = v.tree; pages = v.pages }) in record v { tree = part.tree; pages = part.pages }
+  forks_changed change v =
+      let part = fork_changed change (record { tree = v.tree; pages = v.pages }) in
+      record v { tree = part.tree; pages = part.pages; jobs = codes_behind change part.tree.forks v.jobs }
 
   -- the fork calls
   abbrev pub forking : Family file_cmp ⊥ Asked ForkChange
   forking = record { calls = fork_calls; asked = asks; sight = λ v who. no_files; changed = forks_changed }
+
+  -- a call on pseudo-interrupts changes forks and codes
+  abbrev pub interrupts_changed : InterruptChange → Parts file_cmp → Parts file_cmp
+  interrupts_changed change v = let part = interrupt_changed change (record { tree = v.tree; jobs = v.jobs }) in record v { tree = part.tree; jobs = part.jobs }
+
+  -- the calls on pseudo-interrupts
+  abbrev pub interrupting : Family file_cmp ⊥ Asked InterruptChange
+  interrupting = record { calls = interrupt_calls; asked = asks; sight = λ v who. no_files; changed = interrupts_changed }
 
   -- the calls on files that change the fork that called alone
   abbrev pub filing : Family file_cmp ⊥ Asked (Unit {0})
@@ -162,7 +181,7 @@ module _ {K : Type 0} {file_cmp : K → K → Ordering} where
 
     -- all families, where pages of files are under the keys of the files' names
     abbrev pub families : List (Offer file_cmp)
-    families = offered printing ∷ offered forking ∷ offered mapping ∷ offered filing ∷ offered opening ∷ offered bytes ∷ offered strings ∷ []
+    families = offered printing ∷ offered forking ∷ offered interrupting ∷ offered mapping ∷ offered filing ∷ offered opening ∷ offered bytes ∷ offered strings ∷ []
 
     -- a turn of a monitor call
     abbrev pub call_turned : Parts file_cmp → ForkName → Regs → ℕ → Turned file_cmp

@@ -23,7 +23,7 @@ use Rattle.script_texts.specs.declared.status.ForkStatus.TheVariants.{Run, Wait,
 use Rattle.script_texts.specs.declared.status.WaitOn.TheVariants as on
 use Rattle.plain_pages.specs.PlainPages.{PlainPages}
 use Rattle.plain_pages.specs.References.{without_fork}
-use Rattle.plain_model.specs.Forks.{ForkMap, first_regs, with_status}
+use Rattle.plain_model.specs.Forks.{ForkMap, first_regs, no_levels, with_status}
 use Rattle.machine_names.specs.Orders.{same_fork}
 use Rattle.plain_units.specs.Steps.{is_accumulator}
 use Rattle.plain_units.specs.Deeds.{flags_half, in_ac, pc_word, skip_pc}
@@ -130,7 +130,7 @@ abbrev pub started_at : ℕ → Body → Body
 started_at address body = record body {
   status = Run;
   regs = record body.regs { pc = address; flags = no_flags };
-  psi = record body.psi { pending = 0; levels = 0 };
+  psi = record body.psi { pending = 0; levels = no_levels };
   sleep = None;
 }
 

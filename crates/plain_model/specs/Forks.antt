@@ -11,6 +11,7 @@ use Rattle.script_texts.specs.declared.status.ForkStatus.{ForkStatus}
 use Rattle.script_texts.specs.declared.status.ForkStatus.TheVariants.{Run, Halted}
 use Rattle.plain_units.specs.declared.registers.Regs.{Regs}
 use Rattle.plain_model.specs.declared.fork.Psi.{Psi}
+use Rattle.plain_model.specs.declared.interrupt.TheConstants.{LEVELS}
 use Rattle.plain_model.specs.declared.fork.Fork.{Fork}
 use Rattle.script_texts.specs.declared.event.ForkLine.{ForkLine}
 use Rattle.machine_names.specs.Orders.{fork_cmp}
@@ -68,9 +69,13 @@ fork_line forks f = record {
   address = f.body.regs.pc;
 }
 
+-- no level is in progress
+abbrev pub no_levels : List Bool
+no_levels = replicate LEVELS false
+
 -- interrupts are off, with no table, channel or level
 unfoldable pub psi_at_rest : Psi
-psi_at_rest = record { on = false; table = None; active = 0; pending = 0; levels = 0 }
+psi_at_rest = record { on = false; table = None; active = 0; pending = 0; levels = no_levels }
 
 -- sixteen accumulators of 0, at address 0
 unfoldable pub first_regs : Regs

@@ -3,6 +3,8 @@ pub mod Forks
 pub mod Interrupts
 pub mod Inferiors
 pub mod Trees
+pub mod Posting
+pub mod Inspections
 pub mod Unit
 pub mod FileEvents
 pub mod Commands
@@ -12,11 +14,13 @@ pub mod Run
 pub mod Handles
 pub mod AccessWords
 pub mod Calls
+pub mod Readings
 pub mod PointedTexts
 pub mod MapCalls
 pub mod ForkCalls
 pub mod FileCalls
 pub mod ByteCalls
 pub mod StringCalls
+pub mod InterruptCalls
 pub mod Families
 pub mod Moves

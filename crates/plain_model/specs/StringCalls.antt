@@ -19,7 +19,8 @@ use Rattle.plain_model.specs.declared.call.ByteChange.TheVariants.{Nothing, Take
 use Rattle.plain_model.specs.Calls.{behind_call, ends, given, numbered, reads, returning, takes, touches, with_ac}
 use Rattle.plain_model.specs.ByteCalls.{ByteAsked, ByteRows, ByteTurn, by_number, byte_offset, byte_page, byte_pointer, end_for, if_written, jfn_number, jfn_open, page_in}
 use Rattle.plain_model.specs.MapCalls.{file_spot, is_read, is_written}
-use Rattle.plain_model.specs.PointedTexts.{address_steps, byte_at, full_pointer, with_reading}
+use Rattle.plain_model.specs.PointedTexts.{address_steps, byte_at, full_pointer}
+use Rattle.plain_model.specs.Readings.{with_reading}
 
 -- a string's pointer behind its next byte
 abbrev pub next_pointer : ℕ → ℕ

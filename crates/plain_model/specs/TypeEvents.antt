@@ -3,6 +3,7 @@ use Rattle.std.specs.Prelude.{ℕ, List, [], ◌∷◌, ◌++◌, length, nat_lt
 use Rattle.std.specs.Option.{option_map_or}
 use Rattle.std.specs.FinMap as map
 use Rattle.machine_names.specs.declared.character.TheConstants.{CARRIAGE_RETURN, LINE_END, LINE_FEED, PROMPT}
+use Rattle.machine_names.specs.declared.names.ForkName.{ForkName}
 use Rattle.machine_names.specs.declared.names.Tty.{Tty}
 use Rattle.plain_typing.specs.declared.typed.Typed.{Typed}
 use Rattle.plain_typing.specs.declared.typed.Typed.TheVariants.{Stored, Dropped, Posts, ControlC}
@@ -15,10 +16,12 @@ use Rattle.script_texts.specs.declared.event.Item.{Item}
 use Rattle.plain_model.specs.declared.fork.TerminalMode.{TerminalMode}
 use Rattle.plain_model.specs.declared.fork.TerminalMode.TheVariants.{Command, Program}
 use Rattle.plain_model.specs.State.{PlainState, PlainJob}
-use Rattle.plain_model.specs.Forks.{change_fork}
+use Rattle.plain_model.specs.declared.fork.Fork.{Fork}
+use Rattle.plain_model.specs.Forks.{change_fork, with_fork}
+use Rattle.plain_model.specs.Interrupts.{forces, posted}
 use Rattle.plain_model.specs.Trees.{readers_woken, with_mark}
 use Rattle.plain_model.specs.Commands.{commanded, with_job_at}
-use Rattle.plain_model.specs.Unit.{Effect, printed, shown_code}
+use Rattle.plain_model.specs.Unit.{Effect, printed, shown_code, stopped}
 
 -- a character as its terminal shows it
 abbrev pub echo : Tty → ℕ → List Item
@@ -50,11 +53,19 @@ abbrev pub stored : PlainState → Tty → PlainJob → ℕ → Effect
 stored s t j code = let line = left_by (line_of j) code Stored in
     record { state = record (with_job_at s t (record j { input = line.input })) { forks = readers_woken s.forks t }; items = echo t code }
 
--- a character that became this; nobody assigns a code yet
+-- a channel is posted to a fork: where that forces it, it has stopped
+abbrev pub channel_posted : PlainState → ℕ → Fork → Effect
+channel_posted s channel f = let g = posted f channel in if forces f.body.psi channel then stopped s g else record { state = with_fork s g; items = [] }
+
+-- to the fork of a name, where it lives
+abbrev pub posted_at : PlainState → ForkName → ℕ → Effect
+posted_at s name channel = option_map_or (channel_posted s channel) (map.get s.forks name) (record { state = s; items = [] })
+
+-- a character that became this; one that a fork has assigned is neither stored nor echoed
 abbrev pub typed_so : Typed → PlainState → Tty → PlainJob → ℕ → Effect
 typed_so Stored s t j code = stored s t j code
 typed_so Dropped s t j code = rings s t
-typed_so (Posts fork channel) s t j code = record { state = s; items = [] }
+typed_so (Posts fork channel) s t j code = posted_at s fork channel
 typed_so ControlC s t j code = interrupted s t j
 
 -- ---- typing for the monitor

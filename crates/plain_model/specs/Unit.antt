@@ -1,4 +1,5 @@
--- One unit of a fork: an instruction, or a trap (PDP-10 handbook, "Instruction format").
+-- One unit of a fork: an interrupt that it takes, an instruction, or a trap (JSYS Manual, "Pseudo-interrupt system"; PDP-10 handbook,
+-- "Instruction format").
 use Rattle.std.specs.Prelude.{ℕ, List, [], ◌∷◌, ◌++◌, map, codes, decimal, is_some, Option, if◌then◌else◌, ◌==◌}
 use Rattle.std.specs.Option.{option_map_or}
 use Rattle.std.specs.FinMap as map_of
@@ -17,8 +18,12 @@ use Rattle.plain_pages.specs.PlainPages.{NamedPages}
 use Rattle.plain_units.specs.Steps.{Planned, Ending, done, call, trap, need, stopped as unit_stopped, pages_left}
 use Rattle.plain_model.specs.Calls.{posted_if}
 use Rattle.plain_model.specs.Families.{Parts, Turned, call_turned}
-use Rattle.plain_model.specs.Forks.{with_fork, with_regs, counted}
+use Rattle.plain_model.specs.Forks.{with_fork, with_regs, with_status, counted}
 use Rattle.plain_model.specs.Trees.{end_told, tree_of}
+use Rattle.plain_model.specs.declared.interrupt.Delivery.{Delivery}
+use Rattle.plain_model.specs.declared.interrupt.Inspected.{Inspected}
+use Rattle.plain_model.specs.declared.interrupt.Inspected.TheVariants.{Nothing, Delivers, Forces}
+use Rattle.plain_model.specs.Inspections.{delivered, inspected, inspected_by, is_interrupted, stored_word}
 use Rattle.plain_model.specs.Interrupts.{posted}
 use Rattle.machine_names.specs.Orders.{name_cmp}
 use Rattle.plain_units.specs.Units.{unit_on}
@@ -104,6 +109,29 @@ over s f (unit_stopped (trap channel)) = trapped s f channel
 over s f (unit_stopped (need none)) = absurd none
 over s f (call number) = called s f number
 
+-- the unit of a fork that lives, its interrupts aside
+abbrev pub instruction_unit : PlainState → Fork → Effect
+instruction_unit s f = over s f (unit_on f.name s.pages f.body.regs)
+
+-- a channel is delivered, which is the whole unit
+abbrev pub taken_up : PlainState → NamedPages → Fork → Delivery → Effect
+taken_up s p f d = record { state = with_fork (record s { pages = stored_word p f d }) (counted (delivered f d)); items = [] }
+
+-- What an inspection came to decides the unit: a channel is delivered, on the pages that this has made; or the fork is forced, and none is
+-- made; and where no channel can be delivered the unit is that of the instruction.
+abbrev pub decided : PlainState → Fork → NamedPages → Inspected → Effect
+decided s f p Nothing = instruction_unit s f
+decided s f p (Delivers d) = taken_up s p f d
+decided s f p (Forces channel) = unit_ended s (with_status f (Forced channel)) (Forced channel)
+
+-- the unit of a fork whose channels are looked at
+abbrev pub interrupted_unit : PlainState → Fork → Effect
+interrupted_unit s f = let came = inspected f s.pages in decided s f came.pages (inspected_by came.end)
+
+-- the unit of a fork that lives
+abbrev pub unit_of : PlainState → Fork → Effect
+unit_of s f = if is_interrupted f.body.psi then interrupted_unit s f else instruction_unit s f
+
 -- one unit of a fork
 unfoldable pub unit : PlainState → ForkName → Effect
-unit s f = option_map_or (λ k. over s k (unit_on k.name s.pages k.body.regs)) (map_of.get s.forks f) (record { state = s; items = [] })
+unit s f = option_map_or (unit_of s) (map_of.get s.forks f) (record { state = s; items = [] })

@@ -67,6 +67,33 @@ pub const PBOUT: u32 = 0o74;
 /// Prints the bytes of a string.
 pub const PSOUT: u32 = 0o76;
 
+/// Says where the level table and the channel table of a fork are.
+pub const SIR: u32 = 0o125;
+
+/// Turns the interrupts of a fork on.
+pub const EIR: u32 = 0o126;
+
+/// Turns them off.
+pub const DIR: u32 = 0o130;
+
+/// Makes channels of a fork active.
+pub const AIC: u32 = 0o131;
+
+/// Posts channels to a fork.
+pub const IIC: u32 = 0o132;
+
+/// Makes channels of a fork inactive.
+pub const DIC: u32 = 0o133;
+
+/// Goes back to where an interrupt was taken.
+pub const DEBRK: u32 = 0o136;
+
+/// Assigns a code that is typed to a channel of the fork.
+pub const ATI: u32 = 0o137;
+
+/// Assigns it to nothing.
+pub const DTI: u32 = 0o140;
+
 /// Makes an inferior fork.
 pub const CFORK: u32 = 0o152;
 
@@ -169,6 +196,9 @@ pub const BAD_SIZE: u32 = 0o600020;
 /// The error of a position behind the last byte that a file has room for, or at that end where a byte is to be written.
 pub const BAD_POSITION: u32 = 0o600021;
 
+/// The error of a code that can't be assigned, or of a channel past 35.
+pub const BAD_CODE: u32 = 0o600022;
+
 /// The error of a page of a file that is to be mapped into a file.
 pub const FILE_TO_FILE: u32 = 0o600023;
 
@@ -264,4 +294,17 @@ pub enum ByteChange {
     /// The byte at which a JFN stands becomes the low bits of a word. The file has bytes of the JFN's size then, and reaches
     /// behind that one; and the JFN stands at the next.
     Put(Tty, u32, Word),
+}
+
+/// What a turn of a call on pseudo-interrupts changes.
+#[derive(Clone, Copy)]
+pub enum InterruptChange {
+    /// The caller or an inferior has another body.
+    Become(ForkName, Body),
+    /// The channels of a word are posted to an inferior, in order; bit c of the word is channel c.
+    Post(ForkName, Word),
+    /// A code is assigned to a channel of a fork, in place of what it was assigned to.
+    Assign(u8, ForkName, u8),
+    /// A code that is typed at a terminal is assigned to nothing.
+    Unassign(Tty, u8),
 }

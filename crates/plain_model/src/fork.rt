@@ -1,30 +1,39 @@
 // Forks, and who reads their terminal.
+ghost use Rattle.std.specs.Prelude.{◌≡◌};
+ghost use Rattle.plain_model.specs.Forks.{psi_at_rest};
+
+use crate::interrupt::LEVELS;
 use machine_names::ForkName;
 use plain_units::Regs;
 use script_texts::ForkStatus;
+use word36::Word;
 
-/// The pseudo-interrupts of a fork (JSYS Manual, "Pseudo-interrupt system"): whether they are on;
-/// where the level table and the channel table are; which of the channels 0 to 35 are active and
-/// which are pending, channel c being the bit of value 2^c; and the levels in progress, level n
-/// being the bit of value 2^n.
+/// The pseudo-interrupts of a fork (JSYS Manual, "Pseudo-interrupt system"): whether they are on; where the
+/// level table and the channel table are, LEVTAB,,CHNTAB; which of the channels 0 to 35 are active and which
+/// are pending, bit c of a word being channel c; and which of the levels 1 to 3 are in progress.
 #[derive(Clone, Copy)]
 pub struct Psi {
     pub on: bool,
-    pub table: Option<(u32, u32)>,
-    pub active: u64,
-    pub pending: u64,
-    pub levels: u8,
+    pub table: Option<Word>,
+    pub active: Word,
+    pub pending: Word,
+    pub levels: [bool; LEVELS as usize],
 }
 
 impl Psi {
     /// Off, with no table, no channel and no level.
-    pub const REST: Psi = Psi {
-        on: false,
-        table: None,
-        active: 0,
-        pending: 0,
-        levels: 0,
-    };
+    #[tactic(auto, unfolding(crate::specs::Forks::psi_at_rest))]
+    pub fn at_rest() -> Psi
+        ensures { result ≡ psi_at_rest }
+    {
+        Psi {
+            on: false,
+            table: None,
+            active: Word::ZERO,
+            pending: Word::ZERO,
+            levels: [false; LEVELS as usize],
+        }
+    }
 }
 
 /// What a fork is but its place in the tree: its status and registers, its interrupts, the moment

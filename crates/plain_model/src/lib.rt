@@ -7,6 +7,7 @@ mod bounds;
 pub mod call;
 pub mod command;
 mod fork;
+pub mod interrupt;
 pub mod text;
 
 pub use bounds::start_bounds_hold;

@@ -1,11 +1,10 @@
 -- A line: the characters that are stored, and the codes that are assigned.
-use Rattle.std.specs.Prelude.{◌≡◌, ◌≢◌, ℕ, ◌<◌, ◌≤◌, List, [], length, All, Bool, false, not, Option, Some, refl}
+use Rattle.std.specs.Prelude.{◌≡◌, ◌≢◌, ℕ, ◌<◌, ◌≤◌, List, [], length, All, Bool, false, Some, refl}
 use Rattle.std.specs.Ordering.{nat_cmp}
 use Rattle.std.specs.Coded.{Coded, code_by, coded×, coded_list, coded_ℕ}
 use Rattle.std.specs.Option.{option_map_or}
 use Rattle.std.specs.FinMap as map
 use Rattle.machine_names.specs.declared.names.ForkName.{ForkName}
-use Rattle.machine_names.specs.Orders.{same_fork}
 use Rattle.plain_typing.specs.declared.typed.TheConstants.{ASSIGNABLE_CODES, CONTROL_C, MOST_STORED}
 
 -- the fork and the channel of each code that is assigned
@@ -46,10 +45,6 @@ pub record IsLine (line : InputLine) : Type 0 where
   pub small : All (λ c. c < 128) line.input
   pub assigned : AreAssigned line.codes
 
--- whether a code is assigned to a fork
-abbrev pub assigned_to : ForkName → Option (ForkName × ℕ) → Bool
-assigned_to fork code = option_map_or (λ a. same_fork a.0 fork) code false
-
--- the codes of the other forks
-abbrev pub without_codes_of : ForkName → Codes → Codes
-without_codes_of fork codes = map.retain_keys codes (λ code. not (assigned_to fork (map.get codes code)))
+-- the codes that are assigned to forks which pass a test
+abbrev pub codes_of : (ForkName → Bool) → Codes → Codes
+codes_of keeps codes = map.retain_keys codes (λ code. option_map_or (λ a. keeps a.0) (map.get codes code) false)
