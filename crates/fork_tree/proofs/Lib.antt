@@ -1,3 +1,5 @@
+pub mod Posted
+pub mod Wanted
 pub mod Ranges
 pub mod Slots
 pub mod Tables
@@ -11,4 +13,5 @@ pub mod Listed
 pub mod Branches
 pub mod Killing
 pub mod Waking
+pub mod Reading
 pub mod Named

@@ -1,15 +1,18 @@
 -- The forks of a job changed slot by slot; so who waits for a fork runs again when one ends, and who waits for a character when one is stored.
-use Rattle.std.proofs.Common.{◌≡◌, ℕ, zero, suc, ◌+◌, ◌<◌, ◌≤◌, Option, None, Some, refl, sym, ◌∙◌, ap, arith, inl, inr, ◌⊎◌}
+use Rattle.std.proofs.Common.{◌≡◌, ℕ, zero, suc, ◌+◌, ◌<◌, ◌≤◌, Option, None, Some, refl, sym, ◌∙◌, ap, subst, arith, inl, inr, ◌⊎◌}
 use Rattle.std.specs.List.{range_with_len}
 use Rattle.std.specs.FinMap as map
 use Rattle.std.proofs.lemmas.Bool.{cases_lt}
 use Rattle.plain_model.specs.Forks.{fork_in}
+use Rattle.machine_names.specs.declared.names.ForkName.{ForkName}
 use Rattle.machine_names.specs.declared.names.Tty.{Tty}
 use Rattle.machine_names.specs.declared.names.TheConstants.{MOST_FORKS}
 use Rattle.plain_model.specs.declared.fork.Fork.{Fork}
-use Rattle.plain_model.specs.Trees.{PlainTree, changed, changed_in, unread, unwaited, readers_woken, waiters_woken}
+use Rattle.plain_model.specs.Trees.{PlainTree, changed, changed_in, unread, unwaited, readers_woken, waiters_woken, without_read}
 use Rattle.plain_model.proofs.Posted.{IsSame}
 use Rattle.fork_tree.specs.Trees.{IsIn, IsTree, Lives}
+use Rattle.fork_tree.specs.Waking.{NoneReads}
+use Rattle.fork_tree.proofs.Reading.{read_once}
 use Rattle.fork_tree.proofs.Kept.{changed_tree}
 use Rattle.fork_tree.proofs.Slots.{cases_name, get_put, get_put_other, in_found, in_tells}
 
@@ -24,12 +27,14 @@ module _ (change : Fork → Fork) (same : (f : Fork) → IsSame f (change f)) (t
     tree_still : IsTree (changed_at tree o)
     others : (f : Fork) → Lives tree.forks f → (IsIn tree.forks t slot f → ⊥) → Lives (changed_at tree o).forks f
     here : (f : Fork) → IsIn tree.forks t slot f → Lives (changed_at tree o).forks (change f)
+    gone : (name : ForkName) → map.get tree.forks name ≡ None → map.get (changed_at tree o).forks name ≡ None
 
   changes : (tree : PlainTree) → IsTree tree → (slot : ℕ) (o : Option Fork) → fork_in tree.forks t slot ≡ o → Changes tree slot o
   changes tree is slot None none = record {
     tree_still = is;
     others = λ f lives apart. lives;
     here = λ f at. absurd (let no : None ≡ Some f = sym none ∙ in_found tree.forks is.slotted t slot f at in cc no);
+    gone = λ name none. none;
   }
   changes tree is slot (Some j) some =
       let at = in_tells tree.forks is.slotted t slot j some in
@@ -46,6 +51,10 @@ module _ (change : Fork → Fork) (same : (f : Fork) → IsSame f (change f)) (t
         here = λ f is_in.
             let one : f ≡ j = is.slotted.once t slot f j is_in at in
             get_put tree.forks j.name (change f).name (change j) ((same f).0 ∙ ap (λ (x : Fork). x.name) one) ∙ ap (λ (x : Fork). Some (change x)) (sym one);
+        gone = λ name none. elim (cases_name name j.name) [
+          | inl same ↦ (let both : None ≡ Some j = sym none ∙ (ap (map.get tree.forks) same ∙ at.0) in absurd (cc both))
+          | inr ne ↦ get_put_other tree.forks j.name name (change j) ne ∙ none
+        ];
       }
 
   -- a fork in none of these slots stays
@@ -55,6 +64,13 @@ module _ (change : Fork → Fork) (same : (f : Fork) → IsSame f (change f)) (t
   apart_stays (suc n) from tree is f lives apart =
       let w = changes tree is from (fork_in tree.forks t from) refl in
       apart_stays n (from + 1) (changed_at tree (fork_in tree.forks t from)) w.tree_still f (w.others f lives (λ at. apart at.1 (omega (arith, at.2)) (omega (arith, at.2)))) (λ job low high. apart job (omega (arith, low)) (omega (arith, high)))
+
+  -- a name of which no fork lives stays so
+  absent_stays : (n from : ℕ) (tree : PlainTree) → IsTree tree → (name : ForkName) → map.get tree.forks name ≡ None → map.get (changed_in change tree.forks t (range_with_len from n)) name ≡ None
+  absent_stays zero from tree is name none = none
+  absent_stays (suc n) from tree is name none =
+      let w = changes tree is from (fork_in tree.forks t from) refl in
+      absent_stays n (from + 1) (changed_at tree (fork_in tree.forks t from)) w.tree_still name (w.gone name none)
 
   -- a fork in one of them is changed
   each_changed : (n from : ℕ) (tree : PlainTree) → IsTree tree → (f : Fork) → Lives tree.forks f → f.name.tty.0 ≡ t.0 → from ≤ f.slot → f.slot < from + n
@@ -96,3 +112,17 @@ module _ (tree : PlainTree) (is : IsTree tree) (t : Tty) (f : Fork) (lives : Liv
   pub others_keep : (f.name.tty.0 ≡ t.0 → ⊥) → map.get (readers_woken tree.forks t) f.name ≡ Some f
   unfolding readers_woken
   others_keep other = apart_stays unread (λ k. (refl, refl, refl)) t MOST_FORKS 1 tree is f lives (λ job low high. other job)
+
+-- and so none waits for one any more
+pub none_reads : (tree : PlainTree) → IsTree tree → (t : Tty) → NoneReads (readers_woken tree.forks t) t
+unfolding readers_woken
+none_reads tree is t f lives job = by (map.get tree.forks f.name) refl
+  where
+    by : (o : Option Fork) → map.get tree.forks f.name ≡ o → without_read f.body.status ≡ f.body.status
+    by None e = let none : None ≡ Some f = sym (absent_stays unread (λ k. (refl, refl, refl)) t MOST_FORKS 1 tree is f.name e) ∙ lives in absurd (cc none)
+    by (Some g) e =
+        let own = is.slotted.own f.name g e in
+        let before : Lives tree.forks g = ap (map.get tree.forks) own ∙ e in
+        let after : Some (unread g) ≡ Some f = sym (all_read tree is t g before (ap (λ (n : ForkName). n.tty.0) own ∙ job)) ∙ (ap (map.get (readers_woken tree.forks t)) own ∙ lives) in
+        let same : unread g ≡ f = cc after in
+        subst (λ (k : Fork). without_read k.body.status ≡ k.body.status) same (read_once g.body.status)

@@ -5,7 +5,9 @@ ghost use Rattle.plain_model.specs.declared.fork.Fork.{Fork as AFork};
 ghost use Rattle.machine_names.specs.declared.names.ForkName.{ForkName as AForkName};
 ghost use Rattle.machine_names.specs.declared.names.Tty.{Tty as ATty};
 ghost use Rattle.machine_names.specs.declared.names.TheConstants.{MOST_FORKS};
-ghost use Rattle.plain_model.specs.Forks.{ForkMap, IsRunnable, fork_in, forks_by_slot, is_frozen};
+ghost use Rattle.plain_model.specs.declared.interrupt.TheConstants.{CHANNELS};
+ghost use Rattle.plain_model.specs.Forks.{ForkMap, IsRunnable, fork_in, forks_by_slot, is_frozen, with_status};
+ghost use Rattle.plain_model.specs.Interrupts.{has_channel, is_panic, listens, posted};
 ghost use Rattle.machine_names.specs.Orders.{same_fork};
 ghost use Rattle.plain_model.specs.State.{opening};
 ghost use Rattle.std.specs.Option.{option_map};
@@ -88,6 +90,15 @@ pub fn waiters_of_a_job_run_again()
         → map.get (waiters_woken tree.forks t) f.name ≡ Some (unwaited f) }
     ensures others { (tree : PlainTree) (t : ATty) (f : AFork) → IsTree tree → Lives tree.forks f → (f.name.tty.0 ≡ t.0 → ⊥)
         → map.get (waiters_woken tree.forks t) f.name ≡ Some f }
+{}
+
+/// A channel that a fork takes is pending once it is posted, and no other becomes so. One that it does not take forces the fork, where it is a
+/// panic channel, and otherwise nothing changes.
+pub fn a_posted_channel_is_pending()
+    ensures taken { (f : AFork) (c : ℕ) → c < CHANNELS → listens f.body.psi c ≡ true → has_channel (posted f c).body.psi.pending c ≡ true }
+    ensures others { (f : AFork) (c d : ℕ) → c < CHANNELS → d < CHANNELS → d ≢ c → has_channel (posted f c).body.psi.pending d ≡ has_channel f.body.psi.pending d }
+    ensures forced { (f : AFork) (c : ℕ) → listens f.body.psi c ≡ false → is_panic c ≡ true → posted f c ≡ with_status f (ForkStatus.Forced c) }
+    ensures dropped { (f : AFork) (c : ℕ) → listens f.body.psi c ≡ false → is_panic c ≡ false → posted f c ≡ f }
 {}
 
 /// Of all places the one that a turn is behind comes last, and no two come together.

@@ -26,7 +26,7 @@ fn new_fork(name: ForkName, slot: u8, superior: Option<u8>) -> Fork
     let body = Body {
         status: ForkStatus::Halted,
         regs,
-        psi: Psi::REST,
+        psi: Psi::at_rest(),
         sleep: None,
         units: 0,
         error: 0,

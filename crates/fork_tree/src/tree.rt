@@ -32,11 +32,14 @@ pub struct Tree {
     pub(crate) forks: ForkTable,
     /// The next serial of each terminal's forks.
     pub(crate) serials: Vec<u32>,
+    /// Of each terminal, whether a fork may wait for a character: where a body was lent since the last was stored.
+    pub(crate) readers: Vec<bool>,
 }
 
 impl Model for Tree {
     ghost use Rattle.plain_model.specs.Trees.{PlainTree};
-    ghost use Rattle.fork_tree.specs.Trees.{IsTree, tree_code};
+    ghost use Rattle.fork_tree.specs.Trees.{tree_code};
+    ghost use Rattle.fork_tree.specs.Waking.{IsKept};
 
     ghost Value = { PlainTree };
 
@@ -44,7 +47,7 @@ impl Model for Tree {
 
     ghost view = { λ t. record { forks = t.forks; serials = t.serials.items } };
 
-    ghost invariant = { λ t. IsTree (record { forks = t.forks; serials = t.serials.items }) };
+    ghost invariant = { λ t. IsKept (record { forks = t.forks; serials = t.serials.items }) t.readers.items };
 }
 
 /// The name of a fork, where there is one.
@@ -65,6 +68,7 @@ impl Tree {
         Ok(Tree {
             forks: ForkTable::boot(alloc)?,
             serials: vec![in alloc; 1; usize::from(TERMINALS)]?,
+            readers: vec![in alloc; false; usize::from(TERMINALS)]?,
         })
     }
 
@@ -123,6 +127,7 @@ impl Tree {
         ensures* writes_back { sem 𝓛 (LendsAt self.entry tty slot result) }
         ensures body { result.now ≡ body_in (fork_in self.old.forks tty slot) }
     {
+        self.readers[usize::from(tty.0)] = true;
         self.forks.body_at(tty, slot)
     }
 

@@ -1,10 +1,11 @@
 // Forks of a job that wait go on: a fork has ended, or a character is there.
-ghost use Rattle.std.specs.Prelude.{◌≡◌};
+ghost use Rattle.std.specs.Prelude.{◌≡◌, MatchBool};
 ghost use Rattle.std.specs.List.{range_with_len};
 ghost use Rattle.machine_names.specs.declared.names.TheConstants.{MOST_FORKS};
 ghost use Rattle.plain_model.specs.Forks.{fork_in};
 ghost use Rattle.plain_model.specs.Trees.{changed, changed_in, readers_woken, waiters_woken, without_read, without_wait};
-ghost use Rattle.fork_tree.specs.Waking.{freed, freed_of};
+ghost use Rattle.machine_names.specs.Bounds.{IsTerminal};
+ghost use Rattle.fork_tree.specs.Waking.{NoneReads, freed, freed_of};
 
 use crate::tree::Tree;
 use machine_names::{MOST_FORKS, Tty};
@@ -93,11 +94,37 @@ impl Tree {
         self.wake_all(tty, Awaited::End);
     }
 
-    /// A character is stored for a job: who waits for one runs again, in slot order. Thirty looks.
+    // Whether a fork of a job may wait for a character. If not, none does.
+    fn may_read(&self, tty: Tty) -> bool
+        ensures { MatchBool result (IsTerminal tty) (NoneReads self.now.forks tty) }
+    {
+        let _ = &self.forks;
+        match self.readers.get(usize::from(tty.0)) {
+            Some(may) => *may,
+            None => false,
+        }
+    }
+
+    // No fork of a job waits for a character, until a body is lent again.
+    fn rest(&mut self, tty: Tty)
+        requires terminal { IsTerminal tty }
+        requires none { NoneReads self.old.forks tty }
+        ensures { self.new ≡ self.old }
+    {
+        let _ = &self.forks;
+        self.readers[usize::from(tty.0)] = false;
+    }
+
+    /// A character is stored for a job: who waits for one runs again, in slot order. One look where no body of the job was lent since the
+    /// last was stored, as where a line is typed; else thirty.
     #[tactic(auto, unfolding(plain_model::specs::Trees::readers_woken))]
     pub fn wake_readers(&mut self, tty: Tty)
         ensures { self.new ≡ record self.old { forks = readers_woken self.old.forks tty } }
     {
-        self.wake_all(tty, Awaited::Character);
+        self.are_trees();
+        if self.may_read(tty) {
+            self.wake_all(tty, Awaited::Character);
+            self.rest(tty);
+        }
     }
 }

@@ -72,7 +72,7 @@ fn codes_interrupt_the_forks_that_assigned_them(rt: HostRuntime) {
     line.unassign(0o32);
     same(&rt, line.typed(0o32), Typed::Stored);
     line.unassign(0o32);
-    line.forget(fork(1));
+    line.unassign(0o0);
     same(&rt, line.typed(0o0), Typed::Stored);
     same(&rt, line.typed(0o1), Typed::Posts(fork(3), 4));
     // A carriage return is read as the end of the line, so that it interrupts nobody.
@@ -82,16 +82,17 @@ fn codes_interrupt_the_forks_that_assigned_them(rt: HostRuntime) {
 }
 
 #[test]
-fn a_fork_of_another_terminal_is_another_fork(rt: HostRuntime) {
+fn a_code_is_told_with_its_fork_and_channel(rt: HostRuntime) {
     let mut line = made(&rt, Line::boot(rt.alloc()));
+    same(&rt, line.assigned(0o4), None);
     line.assign(0o4, fork(1), 1);
-    line.forget(ForkName {
-        tty: Tty(3),
-        serial: 1,
-    });
-    same(&rt, line.typed(0o4), Typed::Posts(fork(1), 1));
-    line.forget(fork(1));
-    same(&rt, line.typed(0o4), Typed::Stored);
+    line.assign(0o5, fork(1), 2);
+    same(&rt, line.assigned(0o4), Some((fork(1), 1)));
+    same(&rt, line.assigned(0o6), None);
+    same(&rt, line.assigned(0o177), None);
+    line.unassign(0o4);
+    same(&rt, line.assigned(0o4), None);
+    same(&rt, line.assigned(0o5), Some((fork(1), 2)));
 }
 
 #[test]

@@ -37,7 +37,7 @@ fn body(status: ForkStatus) -> Body {
             pc: 0,
             flags: Flags::CLEAR,
         },
-        psi: Psi::REST,
+        psi: Psi::at_rest(),
         sleep: None,
         units: 0,
         error: 0,

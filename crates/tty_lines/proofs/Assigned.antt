@@ -1,7 +1,6 @@
 -- Codes that are taken away one after another.
-use Rattle.std.proofs.Common.{◌≡◌, ◌≢◌, ℕ, ◌+◌, ◌<◌, ◌≤◌, List, [], length, Option, Some, None, true, false, cond, sym, refl, ◌∙◌, ap, subst, arith, ◌⊎◌, inl, inr}
-use Rattle.std.specs.Prelude.{not}
-use Rattle.std.specs.Option.{option_map, unwrap_or}
+use Rattle.std.proofs.Common.{◌≡◌, ◌≢◌, ℕ, ◌+◌, ◌<◌, ◌≤◌, List, [], length, Option, Some, None, Bool, true, false, cond, sym, refl, ◌∙◌, ap, subst, arith, ◌⊎◌, inl, inr}
+use Rattle.std.specs.Option.{option_map, option_map_or, unwrap_or}
 use Rattle.std.proofs.lemmas.Bool.{cases_eq, cases_lt}
 use Rattle.std.specs.Ordering.{nat_cmp}
 use Rattle.std.specs.Cmp.{nat_cmp_total}
@@ -9,17 +8,15 @@ use Rattle.std.specs.FinMap as map
 use Rattle.machine_names.specs.declared.names.ForkName.{ForkName}
 use Rattle.number_map.proofs.Keys.{get_gone, get_gone_other, get_put, get_put_other, same}
 use Rattle.plain_typing.specs.declared.typed.TheConstants.{ASSIGNABLE_CODES}
-use Rattle.plain_typing.specs.Lines.{Codes, AreAssigned, IsAssignable, IsLine, assigned_to, without_codes_of}
+use Rattle.plain_typing.specs.Lines.{Codes, AreAssigned, IsAssignable, IsLine, codes_of}
 
-turned : {A : Type 0} (b : _) (x y : A) → cond (not b) x y ≡ cond b y x
-turned true x y = refl
-turned false x y = refl
+-- whether a code is assigned to a fork that passes a test
+abbrev pub is_of : (ForkName → Bool) → Option (ForkName × ℕ) → Bool
+is_of keeps o = option_map_or (λ a. keeps a.0) o false
 
--- what a code is assigned to where those of a fork are taken away
-pub get_others : (fork : ForkName) (codes : Codes) (k : ℕ) → map.get (without_codes_of fork codes) k ≡ cond (assigned_to fork (map.get codes k)) None (map.get codes k)
-get_others fork codes k =
-    map.get-retain_keys codes (λ code. not (assigned_to fork (map.get codes code))) k (λ x tied. ap (λ o. not (assigned_to fork o)) (map.get_tied nat_cmp_total codes k x tied))
-    ∙ turned (assigned_to fork (map.get codes k)) (map.get codes k) None
+-- what a code is assigned to where those of such forks alone stay
+pub get_kept : (keeps : ForkName → Bool) (codes : Codes) (k : ℕ) → map.get (codes_of keeps codes) k ≡ cond (is_of keeps (map.get codes k)) (map.get codes k) None
+get_kept keeps codes k = map.get-retain_keys codes (λ code. is_of keeps (map.get codes code)) k (λ x tied. ap (is_of keeps) (map.get_tied nat_cmp_total codes k x tied))
 
 -- no code past those that may be assigned is
 pub none_beyond : (codes : Codes) → AreAssigned codes → (k : ℕ) → ASSIGNABLE_CODES ≤ k → map.get codes k ≡ None
@@ -63,20 +60,33 @@ below_kept goal old now code are stays = record { done = λ k h. at k h (cases_e
     at k h (inl e) = are.left k (omega arith) ∙ (ap (λ n. map.get old n) e ∙ (stays ∙ ap (λ n. map.get goal n) (sym e)))
     at k h (inr ne) = are.done k (omega arith)
 
--- a fork's codes are given up one after another
-module _ (fork : ForkName) (old now : Codes) (code : ℕ) (are : AreBelow (without_codes_of fork old) old now code) where
-  same_code : (b : _) → assigned_to fork (map.get now code) ≡ b → map.get (without_codes_of fork old) code ≡ cond b None (map.get old code)
-  same_code b e = get_others fork old code ∙ ap (λ t. cond t None (map.get old code)) (ap (assigned_to fork) (sym (are.left code (omega arith))) ∙ e)
+-- the codes of forks that don't pass a test are given up one after another
+module _ (keeps : ForkName → Bool) (old now : Codes) (code : ℕ) (are : AreBelow (codes_of keeps old) old now code) where
+  kept_here : (o : Option (ForkName × ℕ)) → map.get now code ≡ o → map.get (codes_of keeps old) code ≡ cond (is_of keeps o) o None
+  kept_here o e = get_kept keeps old code ∙ ap (λ p. cond (is_of keeps p) p None) (sym (are.left code (omega arith)) ∙ e)
 
-  pub forgets : assigned_to fork (map.get now code) ≡ true → AreBelow (without_codes_of fork old) old (map.remove now code) (code + 1)
-  forgets e = below_gone (without_codes_of fork old) old now code are (same_code true e)
+  -- this one's doesn't
+  pub gives_up : (a : ForkName × ℕ) → map.get now code ≡ Some a → keeps a.0 ≡ false → AreBelow (codes_of keeps old) old (map.remove now code) (code + 1)
+  gives_up a e fails = below_gone (codes_of keeps old) old now code are (kept_here (Some a) e ∙ ap (λ b. cond b (Some a) None) fails)
 
-  pub keeps : assigned_to fork (map.get now code) ≡ false → AreBelow (without_codes_of fork old) old now (code + 1)
-  keeps e = below_kept (without_codes_of fork old) old now code are (sym (same_code false e))
+  -- this one's does
+  pub keeps_one : (a : ForkName × ℕ) → map.get now code ≡ Some a → keeps a.0 ≡ true → AreBelow (codes_of keeps old) old now (code + 1)
+  keeps_one a e passes =
+      let goal : map.get (codes_of keeps old) code ≡ Some a = kept_here (Some a) e ∙ ap (λ b. cond b (Some a) None) passes in
+      below_kept (codes_of keeps old) old now code are (sym (are.left code (omega arith)) ∙ (e ∙ sym goal))
 
--- a code that is not assigned is none of a fork's
-pub unassigned_others : (fork : ForkName) (codes : Codes) (k : ℕ) → map.get codes k ≡ None → map.get codes k ≡ map.get (without_codes_of fork codes) k
-unassigned_others fork codes k none = none ∙ sym (get_others fork codes k ∙ ap (λ o. cond (assigned_to fork o) None o) none)
+  -- the code is assigned to nothing
+  pub passes_one : map.get now code ≡ None → AreBelow (codes_of keeps old) old now (code + 1)
+  passes_one e = below_kept (codes_of keeps old) old now code are (sym (are.left code (omega arith)) ∙ (e ∙ sym (kept_here None e)))
+
+-- a code that is assigned to nothing stays so
+pub unassigned_kept : (keeps : ForkName → Bool) (codes : Codes) (k : ℕ) → map.get codes k ≡ None → map.get codes k ≡ map.get (codes_of keeps codes) k
+unassigned_kept keeps codes k none = none ∙ sym (get_kept keeps codes k ∙ ap (λ o. cond (is_of keeps o) o None) none)
+
+-- once all codes are looked at, those of such forks alone are left
+pub all_kept : (keeps : ForkName → Bool) (old now : Codes) (code : ℕ) → AreAssigned old → ASSIGNABLE_CODES ≤ code → AreBelow (codes_of keeps old) old now code → now ≡ codes_of keeps old
+all_kept keeps old now code assigned over are =
+    below_all (codes_of keeps old) old now code are (λ k far. unassigned_kept keeps old k (none_beyond old assigned k (omega (arith, over, far))))
 
 -- where each code that is assigned was so before, it may be
 pub assigned_less : (old new : Codes) → AreAssigned old → ((k : ℕ) (a : ForkName × ℕ) → map.get new k ≡ Some a → map.get old k ≡ Some a) → AreAssigned new
@@ -85,12 +95,12 @@ assigned_less old new are less = record { each = λ k f c e. are.each k f c (les
 pub assigned_none : AreAssigned map.empty
 assigned_none = record { each = λ k f c e. let clash : None ≡ Some (f, c) = sym (map.get-empty nat_cmp k) ∙ e in cc clash }
 
-pub assigned_without : (fork : ForkName) (codes : Codes) → AreAssigned codes → AreAssigned (without_codes_of fork codes)
-assigned_without fork codes are = assigned_less codes (without_codes_of fork codes) are (λ k a e. at (assigned_to fork (map.get codes k)) k a (sym (get_others fork codes k) ∙ e))
+pub assigned_kept : (keeps : ForkName → Bool) (codes : Codes) → AreAssigned codes → AreAssigned (codes_of keeps codes)
+assigned_kept keeps codes are = assigned_less codes (codes_of keeps codes) are (λ k a e. at (is_of keeps (map.get codes k)) k a (sym (get_kept keeps codes k) ∙ e))
   where
-    at : (b : _) (k : ℕ) (a : ForkName × ℕ) → cond b None (map.get codes k) ≡ Some a → map.get codes k ≡ Some a
-    at true k a e = cc e
-    at false k a e = e
+    at : (b : _) (k : ℕ) (a : ForkName × ℕ) → cond b (map.get codes k) None ≡ Some a → map.get codes k ≡ Some a
+    at true k a e = e
+    at false k a e = cc e
 
 pub assigned_gone : (codes : Codes) (code : ℕ) → AreAssigned codes → AreAssigned (map.remove codes code)
 assigned_gone codes code are = assigned_less codes (map.remove codes code) are (λ k a e. at k a e (cases_eq k code))

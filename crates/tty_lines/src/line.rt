@@ -2,7 +2,7 @@
 ghost use Rattle.std.specs.Prelude.{◌≡◌, ◌<◌, ◌↔◌, [], drop, slice_get, IsTrue, IfOk, IfSome};
 ghost use Rattle.std.specs.FinMap as map;
 ghost use Rattle.plain_typing.specs.Characters.{read_as as is_read_as};
-ghost use Rattle.plain_typing.specs.Lines.{AreAssigned, IsAssignable, IsLine, assigned_to, new_line, without_codes_of};
+ghost use Rattle.plain_typing.specs.Lines.{AreAssigned, IsAssignable, IsLine, new_line};
 ghost use Rattle.plain_typing.specs.Typing.{fate_of, left_by};
 
 use crate::read_as;
@@ -69,7 +69,7 @@ impl Line {
         if code == CONTROL_C {
             return Typed::ControlC;
         }
-        if let Some((fork, channel)) = self.codes.get(usize::from(code)) {
+        if let Some((fork, channel)) = self.assigned(code) {
             return Typed::Posts(fork, channel);
         }
         match self.input.try_push_back(code) {
@@ -97,6 +97,14 @@ impl Line {
         self.input.pop_front()
     }
 
+    /// The fork and its channel that a code is assigned to. None exactly where it is assigned to nothing. One step.
+    pub fn assigned(&self, code: u8) -> Option<(ForkName, u8)>
+        ensures assigned { result ≡ map.get self.now.codes code }
+        ensures line { IsLine self.now }
+    {
+        self.codes.get(usize::from(code))
+    }
+
     /// Assigns a code to a fork's channel, in place of what it was assigned to.
     pub fn assign(&mut self, code: u8, fork: ForkName, channel: u8)
         requires code { IsAssignable code }
@@ -106,18 +114,11 @@ impl Line {
         self.codes.insert(usize::from(code), (fork, channel));
     }
 
-    /// A code is assigned to nothing any more.
+    /// A code is assigned to nothing any more. Those of other codes stay.
     pub fn unassign(&mut self, code: u8)
         ensures { self.new ≡ record self.old { codes = map.remove self.old.codes code } }
     {
         self.codes.remove(usize::from(code));
-    }
-
-    /// The codes of a fork are assigned to nothing any more. Those of the others stay.
-    pub fn forget(&mut self, fork: ForkName)
-        ensures { self.new ≡ record self.old { codes = without_codes_of fork self.old.codes } }
-    {
-        forget_codes(&mut self.codes, fork);
     }
 
     /// The line is as at its boot: nothing is stored, and no code is assigned.
@@ -137,23 +138,4 @@ fn unassign_all(codes: &mut Codes)
     for code in 0..ASSIGNABLE_CODES {
         codes.remove(code);
     }
-}
-
-// Takes away the codes of a fork.
-fn forget_codes(codes: &mut Codes, fork: ForkName)
-    requires { AreAssigned codes.old }
-    ensures { codes.new ≡ without_codes_of fork codes.old }
-{
-    for code in 0..ASSIGNABLE_CODES {
-        if is_assigned_to(codes.get(code), fork) {
-            codes.remove(code);
-        }
-    }
-}
-
-// Whether a code is assigned to a fork.
-fn is_assigned_to(assigned: Option<(ForkName, u8)>, fork: ForkName) -> bool
-    ensures { result ≡ assigned_to fork assigned }
-{
-    assigned.is_some_and(|(owner, _)| owner == fork)
 }

@@ -7,13 +7,13 @@ use Rattle.fork_tree.proofs.tree.Tree.is_leaf.Goals as goal
 
 pub returns-then-is_superior_in : goal.returns-then-is_superior_in
 returns-then-is_superior_in c =
-    let is : IsTree c.args.self.now = subst IsTree c.self.view_is c.self.invariant in
+    let is : IsTree c.args.self.now = subst IsTree c.self.view_is c.self.invariant.tree in
     let g = c.is_superior_in.ensures.0 c.if-is_superior_in.true in
     (λ e. absurd (cc e), λ leaf. absurd (nobodys_superior c.args.self.now is c.args.fork.now c.requires leaf g.0 g.1.0 (slot_superior c.args.self.now is c.args.fork.now g.0 c.requires g.1.1 g.2)))
 
 pub returns-else-is_superior_in : goal.returns-else-is_superior_in
 returns-else-is_superior_in c =
-    let is : IsTree c.args.self.now = subst IsTree c.self.view_is c.self.invariant in (
+    let is : IsTree c.args.self.now = subst IsTree c.self.view_is c.self.invariant.tree in (
       λ e. nobody_below c.args.self.now is c.args.fork.now c.requires (λ g lives over.
           let s = superior_slot c.args.self.now is c.args.fork.now g c.requires over in
           elim (cases_lt g.slot c.loop-slot.slot) [

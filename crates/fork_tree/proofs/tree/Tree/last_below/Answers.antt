@@ -14,7 +14,7 @@ use Rattle.fork_tree.proofs.tree.Tree.last_below.Goals as goal
 
 pub returns-in-Some : goal.returns-in-Some
 returns-in-Some c =
-    let is : IsTree c.args.self.now = subst IsTree c.self.view_is c.self.invariant in
+    let is : IsTree c.args.self.now = subst IsTree c.self.view_is c.self.invariant.tree in
     let here = c.in-Some.ensures in
     let f = c.in-Some.fork.now in
     record {
@@ -29,7 +29,7 @@ returns-in-Some c =
 
 pub returns : goal.returns
 returns c =
-    let is : IsTree c.args.self.now = subst IsTree c.self.view_is c.self.invariant in
+    let is : IsTree c.args.self.now = subst IsTree c.self.view_is c.self.invariant.tree in
     leafless c.args.self.now is c.args.who (λ g tty leaf. c.loop-below.invariant g.slot g (omega (arith, is.slotted.first g leaf.lives)) (leaf.lives, tty, refl) leaf)
 
 copied_some : (r : Option (Bor Fork)) → is_some r ≡ true → (f : Fork) × (option_copied r ≡ Some f)
