@@ -5,7 +5,8 @@ use Rattle.std.specs.Ordering.{nat_cmp}
 use Rattle.machine_names.specs.declared.names.ForkName.{ForkName}
 use Rattle.plain_units.specs.declared.registers.Regs.{Regs}
 use Rattle.plain_units.specs.Steps.{Progress, begun, run}
-use Rattle.plain_model.specs.PointedTexts.{Reading, address_steps, ends_with, words}
+use Rattle.plain_model.specs.PointedTexts.{address_steps}
+use Rattle.plain_model.specs.Readings.{Reading, ends_with, words}
 use Rattle.page_gather.specs.Gathering.{after_all}
 use Rattle.ka10_deeds.specs.declared.word_fields.Address.{Address}
 use Rattle.ka10_unit.specs.declared.taken.Taken.{Taken}

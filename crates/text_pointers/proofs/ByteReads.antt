@@ -4,7 +4,8 @@ use Rattle.std.specs.Prelude.{Result, Ok, Err}
 use Rattle.word36.specs.Bytes.{loaded}
 use Rattle.machine_names.specs.declared.names.ForkName.{ForkName}
 use Rattle.plain_units.specs.declared.registers.Regs.{Regs}
-use Rattle.plain_model.specs.PointedTexts.{Reading, byte_at, read, word_steps, words}
+use Rattle.plain_model.specs.PointedTexts.{byte_at}
+use Rattle.plain_model.specs.Readings.{Reading, read, word_steps, words}
 use Rattle.ka10_deeds.specs.declared.word_fields.Address.{Address}
 use Rattle.ka10_unit.specs.declared.taken.Taken.{Taken}
 use Rattle.ka10_unit.specs.declared.taken.Stop.{Stop}

@@ -7,7 +7,8 @@ use Rattle.word36.specs.Bytes.{incremented, loaded}
 use Rattle.machine_names.specs.declared.names.ForkName.{ForkName}
 use Rattle.page_contracts.specs.declared.answers.Need.{Need}
 use Rattle.plain_units.specs.declared.registers.Regs.{Regs}
-use Rattle.plain_model.specs.PointedTexts.{TextReading, byte_read, bytes_from, word_steps, words}
+use Rattle.plain_model.specs.PointedTexts.{TextReading, byte_read, bytes_from}
+use Rattle.plain_model.specs.Readings.{word_steps, words}
 use Rattle.ka10_unit.specs.declared.taken.Stop.{Stop}
 use Rattle.ka10_unit.specs.Gathers.{Framed}
 use Rattle.text_pointers.specs.declared.reader.Reader.{Reader}

@@ -8,39 +8,39 @@ use Rattle.ka10_unit.specs.Gathers.{weight}
 use Rattle.text_pointers.specs.declared.reader.Reader.{Reader}
 use Rattle.text_pointers.specs.Reading.{MayRefer, RefersOnce}
 
--- the last page so many ends of pages behind that of an address, of which so many words are passed
-pub record IsPageBehind (first k w n : ℕ) : Type 0 where
+-- the last page so many ends of pages behind that of an address, of which so many words are passed, where so much was referred to before
+pub record IsPageBehind (before first k w n : ℕ) : Type 0 where
   pub crossed : ℕ
   pub page : n ≡ (first / 512 + crossed) % 512
   pub few : crossed ≤ (first % 512 + k) / 512
-  pub weight_is : w ≤ 33 + crossed
+  pub weight_is : w ≤ before + 1 + crossed
 
 -- the pages that were referred to, so many words behind an address, with the weight of all references
-abbrev pub Crosses : ℕ → ℕ → ℕ → Option ℕ → Type 0
-Crosses first k w None = w ≤ 32
-Crosses first k w (Some n) = IsPageBehind first k w n
+abbrev pub Crosses : ℕ → ℕ → ℕ → ℕ → Option ℕ → Type 0
+Crosses before first k w None = w ≤ before
+Crosses before first k w (Some n) = IsPageBehind before first k w n
 
 -- a reader is so many words at most behind an address
-pub record IsBehind (first most at : ℕ) (r : Reader) : Type 0 where
+pub record IsBehind (before first most at : ℕ) (r : Reader) : Type 0 where
   pub passed : ℕ
   pub few : passed ≤ most
   pub here : at ≡ (first + passed) % 2 ^ 18
-  pub crosses : Crosses first passed (weight r.gather) r.page
+  pub crosses : Crosses before first passed (weight r.gather) r.page
 
-pub none_behind : (first : ℕ) (r : Reader) → first < 2 ^ 18 → r.page ≡ None → weight r.gather ≤ 32 → IsBehind first 0 first r
-none_behind first r low none few = record { passed = 0; few = omega arith; here = omega arith; crosses = subst (Crosses first 0 (weight r.gather)) (sym none) few }
+pub none_behind : (before first : ℕ) (r : Reader) → first < 2 ^ 18 → r.page ≡ None → weight r.gather ≤ before → IsBehind before first 0 first r
+none_behind before first r low none few = record { passed = 0; few = omega arith; here = omega arith; crosses = subst (Crosses before first 0 (weight r.gather)) (sym none) few }
 
 -- there is room for the page of the next word
-pub may_refer : (first i at : ℕ) (r : Reader) → i < 40 → IsBehind first i at r → MayRefer r (at / 512)
-may_refer first i at r less b = by r.page refl b.crosses
+pub may_refer : (before first i at : ℕ) (r : Reader) → before ≤ 32 → i < 40 → IsBehind before first i at r → MayRefer r (at / 512)
+may_refer before first i at r begun less b = by r.page refl b.crosses
   where
-    second : (n : ℕ) (h : IsPageBehind first b.passed (weight r.gather) n) → 1 ≤ h.crossed → n ≡ at / 512
+    second : (n : ℕ) (h : IsPageBehind before first b.passed (weight r.gather) n) → 1 ≤ h.crossed → n ≡ at / 512
     second n h one = omega (arith, h.page, h.few, b.few, b.here, less, one)
 
-    by : (o : Option ℕ) → r.page ≡ o → Crosses first b.passed (weight r.gather) o → MayRefer r (at / 512)
-    by None is few = inr (omega (arith, few))
+    by : (o : Option ℕ) → r.page ≡ o → Crosses before first b.passed (weight r.gather) o → MayRefer r (at / 512)
+    by None is few = inr (omega (arith, few, begun))
     by (Some n) is h = elim (cases_lt h.crossed 1) [
-      | inl none ↦ inr (omega (arith, none, h.weight_is))
+      | inl none ↦ inr (omega (arith, none, h.weight_is, begun))
       | inr one ↦ inl (is ∙ ap Some (second n h one))
     ]
 
@@ -51,30 +51,47 @@ more_crossed first k c n at page few here other = elim (cases_lt c ((first % 512
   | inr most ↦ absurd (other (omega (arith, page, few, here, most)))
 ]
 
--- the next word is as many behind, or one more
-pub goes_behind : {A : Type 0} (first i at to : ℕ) (old new : Reader) (x : A) → IsBehind first i at old → RefersOnce {A = A} old new (at / 512) (Ok x) → (to ≡ at) ⊎ (to ≡ (at + 1) % 2 ^ 18) → IsBehind first (i + 1) to new
-goes_behind first i at to old new x b once next = on (crosses once) next
-  where
-    widen : (k w v : ℕ) (o : Option ℕ) → b.passed ≤ k → v ≤ w → Crosses first b.passed w o → Crosses first k v o
-    widen k w v None more less few = omega (arith, less, few)
-    widen k w v (Some n) more less h = record { crossed = h.crossed; page = h.page; few = omega (arith, h.few, more); weight_is = omega (arith, h.weight_is, less) }
+module _ (before first : ℕ) where
+  -- what is so many words behind is more behind, and no heavier
+  widened : (k l w v : ℕ) (o : Option ℕ) → k ≤ l → v ≤ w → Crosses before first k w o → Crosses before first l v o
+  widened k l w v None more less few = omega (arith, less, few)
+  widened k l w v (Some n) more less h = record { crossed = h.crossed; page = h.page; few = omega (arith, h.few, more); weight_is = omega (arith, h.weight_is, less) }
 
-    here : at / 512 ≡ (first / 512 + (first % 512 + b.passed) / 512) % 512
-    here = let is = b.here in omega (arith, is)
+  -- the next word is as many behind, or one more
+  pub steps_behind : (i at to : ℕ) (r : Reader) → IsBehind before first i at r → (to ≡ at) ⊎ (to ≡ (at + 1) % 2 ^ 18) → IsBehind before first (i + 1) to r
+  steps_behind i at to r b (inl same) = record { passed = b.passed; few = omega (arith, b.few); here = same ∙ b.here; crosses = b.crosses }
+  steps_behind i at to r b (inr one) = record {
+    passed = b.passed + 1;
+    few = omega (arith, b.few);
+    here = omega (arith, b.here, one);
+    crosses = widened b.passed (b.passed + 1) (weight r.gather) (weight r.gather) r.page (omega arith) (omega arith) b.crosses;
+  }
 
-    crosses : RefersOnce {A = _} old new (at / 512) (Ok x) → Crosses first b.passed (weight new.gather) new.page
-    crosses (inl same) = subst (Crosses first b.passed (weight new.gather)) (sym same.page) (widen b.passed (weight old.gather) (weight new.gather) old.page (omega arith) same.weight_is b.crosses)
-    crosses (inr more) = subst (Crosses first b.passed (weight new.gather)) (sym more.page_is) (by old.page refl b.crosses)
-      where
-        by : (o : Option ℕ) → old.page ≡ o → Crosses first b.passed (weight old.gather) o → IsPageBehind first b.passed (weight new.gather) (at / 512)
-        by None is few = record { crossed = (first % 512 + b.passed) / 512; page = here; few = omega arith; weight_is = omega (arith, few, more.weight_is) }
-        by (Some n) is h =
-            let farther = more_crossed first b.passed h.crossed n at h.page h.few b.here (λ same. more.other (is ∙ ap Some same)) in
-            record { crossed = (first % 512 + b.passed) / 512; page = here; few = omega arith; weight_is = omega (arith, h.weight_is, more.weight_is, farther) }
+  -- a word that was read is as many behind
+  pub refers_behind : {A : Type 0} (i at : ℕ) (old new : Reader) (x : A) → IsBehind before first i at old → RefersOnce {A = A} old new (at / 512) (Ok x) → IsBehind before first i at new
+  refers_behind i at old new x b once = record { passed = b.passed; few = b.few; here = b.here; crosses = crosses once }
+    where
+      here : at / 512 ≡ (first / 512 + (first % 512 + b.passed) / 512) % 512
+      here = let is = b.here in omega (arith, is)
 
-    on : Crosses first b.passed (weight new.gather) new.page → (to ≡ at) ⊎ (to ≡ (at + 1) % 2 ^ 18) → IsBehind first (i + 1) to new
-    on h (inl same) = record { passed = b.passed; few = omega (arith, b.few); here = same ∙ b.here; crosses = h }
-    on h (inr one) = record { passed = b.passed + 1; few = omega (arith, b.few); here = omega (arith, b.here, one); crosses = widen (b.passed + 1) (weight new.gather) (weight new.gather) new.page (omega arith) (omega arith) h }
+      crosses : RefersOnce {A = _} old new (at / 512) (Ok x) → Crosses before first b.passed (weight new.gather) new.page
+      crosses (inl same) =
+          subst (Crosses before first b.passed (weight new.gather)) (sym same.page) (widened b.passed b.passed (weight old.gather) (weight new.gather) old.page (omega arith) same.weight_is b.crosses)
+      crosses (inr more) = subst (Crosses before first b.passed (weight new.gather)) (sym more.page_is) (by old.page refl b.crosses)
+        where
+          by : (o : Option ℕ) → old.page ≡ o → Crosses before first b.passed (weight old.gather) o → IsPageBehind before first b.passed (weight new.gather) (at / 512)
+          by None is few = record { crossed = (first % 512 + b.passed) / 512; page = here; few = omega arith; weight_is = omega (arith, few, more.weight_is) }
+          by (Some n) is h =
+              let farther = more_crossed first b.passed h.crossed n at h.page h.few b.here (λ same. more.other (is ∙ ap Some same)) in
+              record { crossed = (first % 512 + b.passed) / 512; page = here; few = omega arith; weight_is = omega (arith, h.weight_is, more.weight_is, farther) }
+
+  -- so many words wide, two pages were referred to at most
+  pub two_behind : (i at : ℕ) (r : Reader) → i ≤ 512 → IsBehind before first i at r → weight r.gather ≤ before + 2
+  two_behind i at r few b = by r.page b.crosses
+    where
+      by : (o : Option ℕ) → Crosses before first b.passed (weight r.gather) o → weight r.gather ≤ before + 2
+      by None h = omega (arith, h)
+      by (Some n) h = omega (arith, h.few, h.weight_is, b.few, few)
 
 -- an increment names a byte in the same word, or in the next
 pub address_goes : (p : ℕ) → (right (incremented p) ≡ right p) ⊎ (right (incremented p) ≡ (right p + 1) % 2 ^ 18)

@@ -1,6 +1,7 @@
 pub mod Plainly
 pub mod Readable
 pub mod WordReads
+pub mod Opening
 pub mod Crossing
 pub mod Bytes
 pub mod Turns

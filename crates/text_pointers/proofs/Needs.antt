@@ -23,7 +23,8 @@ use Rattle.plain_pages.specs.Room.{live}
 use Rattle.plain_units.specs.Addressing.{address, address_within, indexed, is_indirect}
 use Rattle.plain_units.specs.Steps.{Asked, Ending, Progress, Steps, asked_at, begun, calls, done, call, ends as steps_end, goes, goes_on as steps_go, is_accumulator, keeps, need, pages_left, put_into, referred, refers, run, stopped, stops as asked_stops, trap, traps, widens, word_taken}
 use Rattle.plain_model.specs.Calls.{Turn, takes}
-use Rattle.plain_model.specs.PointedTexts.{Reading, TextReading, byte_at, bytes_from, ends_with, full_pointer, pointing_to, read, text_at, with_reading, with_text, words}
+use Rattle.plain_model.specs.PointedTexts.{TextReading, byte_at, bytes_from, full_pointer, pointing_to, text_at, with_text}
+use Rattle.plain_model.specs.Readings.{Reading, ends_with, read, with_reading, words}
 use Rattle.page_gather.specs.declared.reference.Added.TheVariants as added
 use Rattle.page_gather.specs.Gathering.{answered, came_to, left_by, most_framed, page_or}
 use Rattle.ka10_unit.specs.Gathers.{Framed, asked_by, asks}
@@ -210,7 +211,7 @@ module _ {F C A : Type 0} (Needs : Scene → NumberedPages → Turn F C → Type
   reading_later (read found) only q low r x h later = let its : (q ≡ r) × (found ≡ x) = (cc h, cc h) in subst (λ (y : A). Needs (Left q) q (next y)) (sym its.1) (subst (λ (z : NumberedPages). Needs (Left z) z (next x)) (sym its.0) later)
 
   -- IT NEEDS WHAT THE READING NEEDS, for any sense of need in which what takes steps needs what these need first
-  read_needs : (reading : Reading A) → OnlyReads reading → read_over f p regs reading p.pages ≡ stops (need n) → Needs p.scene p.pages (with_reading f regs reading next)
+  pub read_needs : (reading : Reading A) → OnlyReads reading → read_over f p regs reading p.pages ≡ stops (need n) → Needs p.scene p.pages (with_reading f regs reading next)
   read_needs reading only h = subst (λ (scene : Scene). Needs scene p.pages (with_reading f regs reading next)) same (reading_needs reading only p.pages (omega arith) h)
     where
       same : Left p.pages ≡ p.scene
@@ -220,7 +221,7 @@ module _ {F C A : Type 0} (Needs : Scene → NumberedPages → Turn F C → Type
           by m = omega arith
 
   -- or what comes behind it
-  read_later : (reading : Reading A) → OnlyReads reading → (r : NumberedPages) (x : A) → read_over f p regs reading p.pages ≡ leaves r x → Needs (Left r) r (next x) → Needs p.scene p.pages (with_reading f regs reading next)
+  pub read_later : (reading : Reading A) → OnlyReads reading → (r : NumberedPages) (x : A) → read_over f p regs reading p.pages ≡ leaves r x → Needs (Left r) r (next x) → Needs p.scene p.pages (with_reading f regs reading next)
   read_later reading only r x h later = subst (λ (scene : Scene). Needs scene p.pages (with_reading f regs reading next)) same (reading_later reading only p.pages (omega arith) r x h later)
     where
       same : Left p.pages ≡ p.scene

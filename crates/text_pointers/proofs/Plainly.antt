@@ -7,7 +7,7 @@ use Rattle.plain_units.specs.declared.registers.Regs.{Regs}
 use Rattle.plain_pages.specs.PlainPages.{NumberedPages}
 use Rattle.page_contracts.specs.declared.answers.Need.{Need}
 use Rattle.plain_units.specs.Steps.{Planned, begun, call, done, need, pages_left, plainly, run, stopped, trap}
-use Rattle.plain_model.specs.PointedTexts.{Reading, read, words}
+use Rattle.plain_model.specs.Readings.{Reading, read, words}
 use Rattle.ka10_unit.specs.Gathers.{Framed}
 use Rattle.ka10_unit.specs.Taking.{IsPlain as IsPlainPlan, Plan, run_over}
 use Rattle.ka10_unit.proofs.Plainly.{runs_plainly}

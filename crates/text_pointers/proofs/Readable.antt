@@ -62,7 +62,7 @@ denied_as p owner s kind k h = by (makings p (in_map s) kind) refl
     by None is = cc (sym h ∙ reference_denied p owner (in_map s) kind is)
     by (Some ms) is = absurd (not_made p owner ms k (sym (reference_makes p owner (in_map s) kind ms is) ∙ h))
 
-answered_as : (q : NumberedPages) (scene : Scene) (most : ℕ) (owner : Tty) (r : PageReference) (k : Kind) → Denied k ≡ answered q scene most owner r → k ≡ r.kind
+pub answered_as : (q : NumberedPages) (scene : Scene) (most : ℕ) (owner : Tty) (r : PageReference) (k : Kind) → Denied k ≡ answered q scene most owner r → k ≡ r.kind
 unfolding answered
 answered_as q scene most owner r k h = by (map_away q scene (in_map r.slot)) (reference q (in_map r.slot) r.kind owner) refl (page_away q scene (in_map r.slot)) h
   where

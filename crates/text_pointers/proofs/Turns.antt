@@ -9,7 +9,8 @@ use Rattle.plain_pages.specs.PlainPages.{NumberedPages}
 use Rattle.plain_units.specs.Blocks.{steps_on}
 use Rattle.plain_units.specs.Steps.{Planned, call, done, need, pages_left, stopped, trap}
 use Rattle.plain_model.specs.Calls.{Came, Sight, Turn, stepped, turn_on}
-use Rattle.plain_model.specs.PointedTexts.{Reading, byte_at, read, text_at, with_reading, with_text, words}
+use Rattle.plain_model.specs.PointedTexts.{byte_at, text_at, with_text}
+use Rattle.plain_model.specs.Readings.{Reading, read, with_reading, words}
 use Rattle.ka10_unit.specs.declared.taken.Stop.TheVariants.{Trap}
 use Rattle.ka10_unit.specs.Gathers.{Framed}
 use Rattle.text_pointers.specs.declared.byte.PointedByte.{PointedByte}
@@ -19,12 +20,12 @@ use Rattle.text_pointers.specs.Reading.{ReadsByte, ReadsText, bytes_of, pages_so
 
 module _ {F C A : Type 0} (sight : Sight F ℕ) (f : ForkName) (regs : Regs) (next : A → Turn F C) where
   -- what a turn comes to whose reading comes to this over the plain pages
-  abbrev TurnsTo : Came nat_cmp C → Outcome ⊥ A → Type 0
+  abbrev pub TurnsTo : Came nat_cmp C → Outcome ⊥ A → Type 0
   TurnsTo came (leaves q found) = came ≡ turn_on sight q (next found)
   TurnsTo came (stops (trap channel)) = came.end ≡ TrapEnd channel
   TurnsTo came (stops (need none)) = Unit {0}
 
-  turn_reads : (reading : Reading A) (q : NumberedPages) → TurnsTo (turn_on sight q (with_reading f regs reading next)) (read_on f regs reading q)
+  pub turn_reads : (reading : Reading A) (q : NumberedPages) → TurnsTo (turn_on sight q (with_reading f regs reading next)) (read_on f regs reading q)
   unfolding turn_on with_reading reads
   turn_reads (words steps rest) q = by (steps_on f regs steps q) (λ r w. turn_reads (rest w) r)
     where

@@ -11,7 +11,7 @@ use Rattle.plain_units.specs.declared.registers.Regs.{Regs}
 use Rattle.plain_pages.specs.PlainPages.{NumberedPages}
 use Rattle.plain_pages.specs.References.{in_map, page_at, slot_at, word_at}
 use Rattle.plain_units.specs.Steps.{Asked, Steps, Stop as Stopped, asked_at, begun, call, done, goes, is_accumulator, referred, run, seen, stopped, stops as asked_stops, word_taken}
-use Rattle.plain_model.specs.PointedTexts.{Reading, read, word_steps, words}
+use Rattle.plain_model.specs.Readings.{Reading, read, word_steps, words}
 use Rattle.ka10_unit.specs.declared.taken.Stop.{Stop}
 use Rattle.ka10_unit.specs.Gathers.{Framed, asks}
 use Rattle.page_contracts.specs.declared.answers.Need.{Need}

@@ -9,7 +9,7 @@ use Rattle.plain_units.specs.declared.channel.TheConstants.{ILLEGAL_INSTRUCTION}
 use Rattle.plain_units.specs.declared.registers.Regs.{Regs}
 use Rattle.plain_pages.specs.PlainPages.{NumberedPages}
 use Rattle.plain_units.specs.Steps.{Asked, Planned, Stop, begun, call, done, need, pages_left, plainly, run, stopped, trap}
-use Rattle.plain_model.specs.PointedTexts.{Reading, read, words}
+use Rattle.plain_model.specs.Readings.{Reading, read, words}
 use Rattle.ka10_unit.specs.Gathers.{Framed, asks}
 
 -- what a reading comes to: the pages that it leaves, with what was read; or why it stops

@@ -1,5 +1,5 @@
 -- How far a reading has come, and what a part of it that was done says of the whole.
-use Rattle.std.specs.Prelude.{◌≡◌, ◌≢◌, ◌⊎◌, ℕ, ◌+◌, ◌≤◌, true, List, [], Option, None, Some, Result, Ok, Err, ⊤, is_some}
+use Rattle.std.specs.Prelude.{◌≡◌, ◌≢◌, ◌⊎◌, ℕ, ◌+◌, ◌≤◌, true, List, [], Option, None, Some, Result, Ok, Err, ⊤, false, is_some}
 use Rattle.std.specs.Option.{option_map}
 use Rattle.arrayvec.specs.ArrayVec.{ArrayVec}
 use Rattle.machine_names.specs.declared.names.ForkName.{ForkName}
@@ -9,13 +9,17 @@ use Rattle.plain_pages.specs.PlainPages.{NumberedPages}
 use Rattle.plain_pages.specs.References.{in_map, makings, page_at}
 use Rattle.page_contracts.specs.declared.answers.Need.{Need}
 use Rattle.page_contracts.specs.Pages.{PagesMeaning}
+use Rattle.plain_units.specs.declared.channel.TheConstants.{DENIED_READ, DENIED_WRITE, DRUM_FULL}
 use Rattle.plain_units.specs.declared.registers.Regs.{Regs}
 use Rattle.plain_model.specs.declared.text.TheConstants.{MOST_BYTES}
-use Rattle.plain_model.specs.PointedTexts.{Reading, byte_at, bytes_from, read, text_at, word_steps, words}
+use Rattle.plain_model.specs.PointedTexts.{byte_at, bytes_from, text_at}
+use Rattle.plain_units.specs.Steps.{is_accumulator}
+use Rattle.plain_model.specs.Readings.{Reading, read, word_steps, words, written_steps}
 use Rattle.page_gather.specs.Gathering.{Gathers, IsNear, left_of}
 use Rattle.ka10_unit.specs.declared.taken.Stop.{Stop}
+use Rattle.ka10_unit.specs.declared.taken.Stop.TheVariants as stop
 use Rattle.ka10_unit.specs.Gathers.{Framed, asks, weight}
-use Rattle.ka10_unit.specs.Taking.{IsTrap, StopNeeds, asked_as, most_frames, stop_of}
+use Rattle.ka10_unit.specs.Taking.{IsOpenAt, IsTrap, StopNeeds, asked_as, most_frames, stop_of}
 use Rattle.text_pointers.specs.declared.reader.Reader.{Reader}
 use Rattle.text_pointers.specs.declared.byte.PointedByte.{PointedByte}
 use Rattle.text_pointers.specs.declared.text.PointedText.{PointedText}
@@ -35,7 +39,7 @@ pub record IsReadable (f : ForkName) (p : Framed) (q : NumberedPages) (page : �
   pub there : is_some (page_at q (in_map (in_space f page))) ≡ true
   pub near : IsNear q p.scene (in_space f page)
 
--- so is that of the last byte that stands in one
+-- so is that of the last word that was read in one
 abbrev pub HasPage : ForkName → Framed → NumberedPages → Option ℕ → Type 0
 HasPage f p q None = Unit {0}
 HasPage f p q (Some page) = IsReadable f p q page
@@ -76,6 +80,11 @@ RefersOnce old new page (Err e) = Unit {0}
 abbrev pub StopsFor : {P : Type 0} → PagesMeaning P → P → Stop → Type 0
 StopsFor means p stop = (means.flat ≡ true → IsTrap stop) × StopNeeds means.store text_frames p stop
 
+-- a stop that is a trap is by a reference that is denied, or for which the drum is full
+abbrev pub IsByReference : Stop → Type 0
+IsByReference (stop.Trap channel) = (channel ≡ DENIED_READ) ⊎ (channel ≡ DENIED_WRITE) ⊎ (channel ≡ DRUM_FULL)
+IsByReference (stop.Need n) = Unit {0}
+
 -- ---- what the calls say
 
 -- a page was referred to, and can be read on the pages that this leaves
@@ -84,9 +93,9 @@ pub record ReadsPage (f : ForkName) (p : Framed) (old new : Reader) (page : ℕ)
   pub stands : (x : ⊤) → result ≡ Ok x → Stands f p new
   pub readable : (x : ⊤) → result ≡ Ok x → IsReadable f p (pages_so_far p new) page
 
--- a reading goes on with a word, or stops
-abbrev pub went_on : {A : Type 0} → Result ℕ Stop → (ℕ → Outcome Need A) → Outcome Need A
-went_on (Ok w) next = next w
+-- a reading goes on with what was found, or stops
+abbrev pub went_on : {A B : Type 0} → Result B Stop → (B → Outcome Need A) → Outcome Need A
+went_on (Ok x) next = next x
 went_on (Err e) next = stops (stop_of e)
 
 -- the reading of the word at an address
@@ -97,6 +106,16 @@ one_word regs at = words (word_steps regs at) (λ w. read w)
 pub record ReadsWord (f : ForkName) (p : Framed) (regs : Regs) (old new : Reader) (at : ℕ) (result : Result ℕ Stop) : Type 0 where
   pub stands : (w : ℕ) → result ≡ Ok w → Stands f p new
   pub is : read_over f p regs (one_word regs at) (pages_so_far p old) ≡ went_on result (leaves (pages_so_far p new))
+
+-- the reading that refers to the word at an address, to write it, whatever it is
+abbrev pub one_opened : Regs → ℕ → Reading ⊤
+one_opened regs at = words (written_steps regs at) (λ w. read tt)
+
+-- a word that is to be written was referred to, and can be stored on the pages that this leaves; or the reading stopped
+pub record OpensWord (f : ForkName) (p : Framed) (old new : Reader) (at : ℕ) (result : Result ⊤ Stop) : Type 0 where
+  pub stands : (x : ⊤) → result ≡ Ok x → Stands f p new
+  pub is : (regs : Regs) → read_over f p regs (one_opened regs at) (pages_so_far p old) ≡ went_on result (leaves (pages_so_far p new))
+  pub open_at : (x : ⊤) → result ≡ Ok x → is_accumulator at ≡ false → IsOpenAt f (record p { pages = pages_so_far p new }) at
 
 -- the bytes of a text, if there is one
 abbrev pub bytes_of : Option (ArrayVec ℕ) → Option (List ℕ)

@@ -6,9 +6,9 @@ ghost use Rattle.machine_names.specs.declared.names.ForkName.{ForkName as AForkN
 ghost use Rattle.machine_names.specs.declared.names.TheConstants.{SPACE_PAGES};
 ghost use Rattle.page_contracts.specs.DrumWords.{DrumWords};
 ghost use Rattle.page_gather.specs.Gathering.{left_of};
-ghost use Rattle.ka10_unit.specs.Carrying.{Grows};
-ghost use Rattle.ka10_unit.specs.Gathers.{IsOf, Serves, framed};
-ghost use Rattle.text_pointers.specs.Reading.{MayRefer, ReadsPage, ReadsWord, RefersOnce, Stands, StopsFor};
+ghost use Rattle.ka10_unit.specs.Carrying.{Grows, StaysAway};
+ghost use Rattle.ka10_unit.specs.Gathers.{IsOf, Serves, framed, weight};
+ghost use Rattle.text_pointers.specs.Reading.{IsByReference, MayRefer, OpensWord, ReadsPage, ReadsWord, RefersOnce, Stands, StopsFor, text_frames};
 
 use crate::reader::Reader;
 use ka10_unit::Stop;
@@ -37,6 +37,7 @@ impl Reader {
         ensures fork { self.new.fork ≡ self.old.fork }
         ensures once { RefersOnce self.old self.new page result }
         ensures needs { IfErr result (StopsFor P.means pages.now) }
+        ensures channel { IfErr result IsByReference }
         ensures told { (d : DrumWords) → P.means.fits pages.now d → Stands self.old.fork (framed P.means pages.now d) self.old
             → ReadsPage self.old.fork (framed P.means pages.now d) self.old self.new page result }
     {
@@ -64,6 +65,7 @@ impl Reader {
         ensures fork { self.new.fork ≡ self.old.fork }
         ensures once { RefersOnce self.old self.new (at / PAGE_WORDS) result }
         ensures needs { IfErr result (StopsFor P.means pages.now) }
+        ensures channel { IfErr result IsByReference }
         ensures told { (d : DrumWords) → P.means.fits pages.now d → Stands self.old.fork (framed P.means pages.now d) self.old
             → ReadsWord self.old.fork (framed P.means pages.now d) regs.now self.old self.new at result }
     {
@@ -80,6 +82,34 @@ impl Reader {
         }
     }
 
+    /// Refers to the word at an address, to write it, once the pages are made. The accumulators are in no page. Err: a map
+    /// on the way or the page is in no frame; or the page may not be written, or has to be made and finds no frame, or the
+    /// drum is full.
+    pub fn writable<P: Pages>(&mut self, pages: &P, at: u32) -> Result<(), Stop>
+        requires serves { Serves P.means pages.now self.old.fork }
+        requires address { IsAddress at }
+        requires room { weight self.old.gather + 2 ≤ text_frames }
+        ensures fork { self.new.fork ≡ self.old.fork }
+        ensures needs { IfErr result (StopsFor P.means pages.now) }
+        ensures channel { IfErr result IsByReference }
+        ensures told { (d : DrumWords) → P.means.fits pages.now d → Stands self.old.fork (framed P.means pages.now d) self.old
+            → OpensWord self.old.fork (framed P.means pages.now d) self.old self.new at result }
+    {
+        if at < ACCUMULATORS {
+            return Ok(());
+        }
+        let place = self.place((at / PAGE_ADDRESSES) as u16);
+        match self.gather.add(pages, place, Kind::Write) {
+            Added::Went => {
+                self.page = None;
+                Ok(())
+            }
+            Added::Need(need) => Err(Stop::Need(need)),
+            Added::Denied(_) => Err(Stop::Trap(channel::DENIED_WRITE)),
+            Added::Full => Err(Stop::Trap(channel::DRUM_FULL)),
+        }
+    }
+
     /// Makes the pages that were referred to, in order.
     pub fn make<P: Pages>(&self, pages: &mut P)
         requires serves { Serves P.means pages.old self.now.fork }
@@ -88,6 +118,7 @@ impl Reader {
             → P.means.plain pages.new d ≡ left_of (P.means.plain pages.old d) self.now.gather }
         ensures fits { (d : DrumWords) → P.means.fits pages.old d → P.means.fits pages.new d }
         ensures grows { Grows P.means self.now.fork.tty 128 pages.old pages.new }
+        ensures away { StaysAway (P.means.scene pages.old) (P.means.scene pages.new) }
     {
         self.gather.make(pages);
     }

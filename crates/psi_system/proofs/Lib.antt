@@ -1,0 +1,9 @@
+pub mod Wanting
+pub mod Looking
+pub mod Choosing
+pub mod Inspected
+pub mod Delivered
+pub mod TakenUp
+pub mod Levels
+pub mod Ends
+pub mod Firsts
