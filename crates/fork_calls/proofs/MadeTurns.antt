@@ -81,7 +81,7 @@ unfolding psi_at_rest
 made_new a slot words lives long = record {
   name = refl;
   units = refl;
-  within = record { status = λ channel e. status_fits (starts a.regs) channel e; off = refl; pc = pc_low (starts a.regs); accumulators = long };
+  within = record { status = λ channel e. status_fits (starts a.regs) channel e; pc = pc_low (starts a.regs); accumulators = long };
   below = ap (λ (o : Option Fork). is_some (option_map (λ k. k.slot) o)) (some_of (map.get a.tree.forks a.who) lives).1;
 }
   where

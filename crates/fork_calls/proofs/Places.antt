@@ -111,7 +111,7 @@ unwaited_mild k = record {
   slot = refl;
   superior = refl;
   units = refl;
-  within = λ b. record { status = wait_fits k.body.status b.status; off = b.off; pc = b.pc; accumulators = b.accumulators };
+  within = λ b. record { status = wait_fits k.body.status b.status; pc = b.pc; accumulators = b.accumulators };
 }
 
 woken_keeps : (t : Tty) (slots : List ℕ) (forks : ForkMap) → AreOwn forks → Keep forks (woken_in forks t slots)

@@ -1,5 +1,5 @@
 -- Limits of forks.
-use Rattle.std.specs.Prelude.{◌≡◌, ℕ, ◌<◌, ◌^◌, length, false}
+use Rattle.std.specs.Prelude.{◌≡◌, ℕ, ◌<◌, ◌^◌, length}
 use Rattle.machine_names.specs.declared.names.TheConstants.{ACCUMULATORS}
 use Rattle.plain_model.specs.declared.fork.Body.{Body}
 use Rattle.plain_model.specs.declared.fork.Fork.{Fork}
@@ -12,10 +12,9 @@ use Rattle.fork_tree.specs.Trees.{Lives}
 abbrev pub FitsForced : ForkStatus → Type 0
 FitsForced status = (channel : ℕ) → status ≡ Forced channel → channel < 36
 
--- a fork takes no channel, and its status and registers are within their limits
+-- the status and the registers of a fork are within their limits
 pub record IsBody (b : Body) : Type 0 where
   pub status : FitsForced b.status
-  pub off : b.psi.on ≡ false
   pub pc : b.regs.pc < 2 ^ 18
   pub accumulators : length b.regs.ac ≡ ACCUMULATORS
 

@@ -3,6 +3,7 @@ ghost use Rattle.std.specs.Prelude.{◌≡◌, ◌<◌, ◌^◌, IfOk, true, fal
 ghost use Rattle.plain_units.specs.declared.registers.Regs.{Regs as ARegs};
 ghost use Rattle.plain_model.specs.Calls.{given};
 ghost use Rattle.plain_model.specs.ForkCalls.{cfork as cfork_of, of_inferior, rfacs as rfacs_of, rfsts as rfsts_of, sfacs as sfacs_of, sfork as sfork_of, started_at as started_at_of, wfork as wfork_of, has_ended as has_ended_of};
+ghost use Rattle.plain_model.specs.Forks.{no_levels};
 ghost use Rattle.machine_names.specs.Bounds.{IsTerminal};
 ghost use Rattle.call_turns.specs.Turns.{IsRegs};
 ghost use Rattle.fork_calls.specs.Asking.{asked};
@@ -15,11 +16,12 @@ use crate::step::FirstStep;
 use call_turns::{returning, with_ac};
 use fork_tree::{NoFork, Tree};
 use machine_names::ForkName;
-use plain_model::Body;
 use plain_model::call::{End, FORKS_FULL, ForkChange, SERIALS_OUT};
+use plain_model::interrupt::LEVELS;
+use plain_model::{Body, Psi};
 use plain_units::Regs;
 use script_texts::{ForkStatus, WaitOn};
-use word36::Flags;
+use word36::{Flags, Word};
 
 /// CFORK: makes an inferior. FORKS_FULL, SERIALS_OUT, NO_ROOM.
 pub fn cfork(who: ForkName, tree: &Tree) -> FirstStep
@@ -77,19 +79,34 @@ pub fn rfsts(regs: &Regs, who: ForkName, tree: &Tree) -> Result<FirstStep, u32>
     Ok(FirstStep::Ends(returning(ForkChange::Nothing, told)))
 }
 
-// A fork that is started at an address: it has no flags, and no pending channel, level or sleep.
-fn started_at(address: u32, mut body: Body) -> Body
-    requires { address < 2 ^ 18 }
-    ensures started { result ≡ started_at_of address body }
-    ensures within { IsBody body → IsBody result }
+// Interrupts with no pending channel and no level in progress.
+fn cleared(psi: &Psi) -> Psi
+    ensures { result ≡ record psi.now { pending = 0; levels = no_levels } }
 {
-    body.status = ForkStatus::Run;
-    body.regs.pc = address;
-    body.regs.flags = Flags::CLEAR;
-    body.psi.pending = 0;
-    body.psi.levels = 0;
-    body.sleep = None;
-    body
+    Psi {
+        pending: Word::ZERO,
+        levels: [false; LEVELS as usize],
+        ..*psi
+    }
+}
+
+// A fork that is started at an address: it has no flags, and no pending channel, level or sleep.
+fn started_at(address: u32, body: &Body) -> Body
+    requires { address < 2 ^ 18 }
+    ensures started { result ≡ started_at_of address body.now }
+    ensures within { IsBody body.now → IsBody result }
+{
+    Body {
+        status: ForkStatus::Run,
+        regs: Regs {
+            pc: address,
+            flags: Flags::CLEAR,
+            ..body.regs
+        },
+        psi: cleared(&body.psi),
+        sleep: None,
+        ..*body
+    }
 }
 
 /// SFORK: starts an inferior at the address in accumulator 2. NO_HANDLE, NO_INFERIOR.
@@ -99,7 +116,7 @@ pub fn sfork(regs: &Regs, who: ForkName, tree: &Tree) -> Result<FirstStep, u32>
     ensures fits { IfOk result (FitsStep (asked who regs.now tree.now)) }
 {
     let fork = inferior_named(regs, who, tree)?;
-    let body = started_at(address_named(regs), fork.body);
+    let body = started_at(address_named(regs), &fork.body);
     Ok(FirstStep::Ends(returning(ForkChange::Become(fork.name, body), *regs)))
 }
 

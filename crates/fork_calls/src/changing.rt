@@ -9,7 +9,6 @@ ghost use Rattle.plain_model.specs.Trees.{with_changed_of};
 ghost use Rattle.fork_tree.specs.Trees.{IsTree};
 ghost use Rattle.fork_calls.specs.Asking.{IsBelow};
 ghost use Rattle.fork_calls.specs.Holding.{CallLeaves, ComeFrom, Holds, SamePlaces};
-ghost use Rattle.fork_calls.specs.Limits.{AreWithin};
 ghost use Rattle.fork_calls.specs.Steps.{IsBodyOf, IsChangeBelow, halted};
 ghost use Rattle.fork_calls.specs.Turning.{ChangesIf, parts};
 
@@ -31,11 +30,9 @@ fn set_halted(name: ForkName, tree: &mut Tree)
     }
 }
 
-// Halts an inferior: who waits for a fork of the job runs again. No fork takes the channel by which the superior would be
-// told.
+// Halts an inferior: who waits for a fork of the job runs again, and the superior of the inferior is told by a channel.
 fn halt(who: ForkName, name: ForkName, tree: &mut Tree)
-    requires below { IsBelow tree.old.forks who name }
-    requires within { AreWithin tree.old.forks }
+    requires { IsBelow tree.old.forks who name }
     ensures told { (p : NumberedPages) → parts tree.new p ≡ fork_changed (AForkChange.Halt name) (parts tree.old p) }
     ensures same { SamePlaces tree.old.forks tree.new.forks }
     ensures kept { ComeFrom tree.old.forks tree.new.forks }
@@ -43,7 +40,7 @@ fn halt(who: ForkName, name: ForkName, tree: &mut Tree)
 {
     tree.are_trees();
     set_halted(name, tree);
-    tree.wake_waiters(name.tty);
+    tree.tell_end(name);
     tree.are_trees();
 }
 
@@ -82,7 +79,6 @@ pub fn change<P: Pages>(
 ) -> Result<(), Need>
     requires change { IsChangeBelow tree.old.forks who what }
     requires holds { Holds P.means pages.old tree.old.forks }
-    requires within { AreWithin tree.old.forks }
     ensures told { ChangesIf P.means pages.old pages.new tree.old tree.new result what }
     ensures needs { IfErr result (IsNeeded P.means.store 1 pages.new) }
     ensures core { P.means.flat ≡ true → IsOk result }

@@ -6,7 +6,6 @@ ghost use Rattle.plain_units.specs.declared.registers.Regs.{Regs as ARegs};
 ghost use Rattle.call_turns.specs.Answers.{AnswerNeeds, IsDone, answer_of as answer_to};
 ghost use Rattle.call_turns.specs.Turns.{IsRegs, FitsEnd};
 ghost use Rattle.fork_calls.specs.Holding.{CallLeaves, Holds};
-ghost use Rattle.fork_calls.specs.Limits.{AreWithin};
 ghost use Rattle.fork_calls.specs.Asking.{asked};
 ghost use Rattle.fork_calls.specs.Steps.{IsChangeBelow, whole};
 ghost use Rattle.fork_calls.specs.Turning.{HasRegs, Turned, stopped_by};
@@ -59,7 +58,6 @@ pub fn end<P: Pages>(
 ) -> Answer
     requires fits { FitsEnd (IsChangeBelow tree.old.forks who) ending }
     requires holds { Holds P.means pages.old tree.old.forks }
-    requires within { AreWithin tree.old.forks }
     ensures told { (regs : ARegs) → Turned P.means pages.old pages.new tree.old tree.new result (whole (asked who regs tree.old) (AFirstStep.Ends ending)) }
     ensures needs { AnswerNeeds P.means.store 1 pages.new result }
     ensures core { P.means.flat ≡ true → IsDone result }

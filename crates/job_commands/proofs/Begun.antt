@@ -12,5 +12,5 @@ begun_mild address f low = record {
   slot = refl;
   superior = refl;
   units = refl;
-  within = λ b. record { status = λ channel e. absurd (cc e); off = refl; pc = low; accumulators = refl };
+  within = λ b. record { status = λ channel e. absurd (cc e); pc = low; accumulators = refl };
 }

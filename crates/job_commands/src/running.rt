@@ -36,7 +36,7 @@ fn begin(body: &mut Body, address: u32)
         pc: address,
         flags: Flags::CLEAR,
     };
-    body.psi = Psi::REST;
+    body.psi = Psi::at_rest();
     body.sleep = None;
 }
 

@@ -13,7 +13,8 @@ use Rattle.plain_units.specs.Steps.{Asked, Ending, Progress, Stop as Stopped, as
 use Rattle.plain_pages.specs.PlainPages.{NumberedPages}
 use Rattle.plain_model.specs.declared.call.ByteChange.{ByteChange}
 use Rattle.plain_model.specs.declared.call.End.TheVariants.{Done}
-use Rattle.plain_model.specs.PointedTexts.{address_steps, ends_with}
+use Rattle.plain_model.specs.PointedTexts.{address_steps}
+use Rattle.plain_model.specs.Readings.{ends_with}
 use Rattle.page_gather.specs.Gathering.{Gathering, after_all, left_of}
 use Rattle.ka10_deeds.specs.declared.word_fields.Address.{Address}
 use Rattle.ka10_unit.specs.declared.taken.Taken.{Taken}

@@ -20,7 +20,8 @@ use Rattle.plain_model.specs.declared.call.End.{End}
 use Rattle.plain_model.specs.declared.call.End.TheVariants.{Done, Waits, Halts, Refused, Failed, Trap as TrapEnd}
 use Rattle.plain_model.specs.ByteCalls.{ByteTurn}
 use Rattle.plain_model.specs.Calls.{Came, ends, reads, stepped, takes, turn_on}
-use Rattle.plain_model.specs.PointedTexts.{address_steps, byte_at, with_reading}
+use Rattle.plain_model.specs.PointedTexts.{address_steps, byte_at}
+use Rattle.plain_model.specs.Readings.{with_reading}
 use Rattle.plain_model.specs.StringCalls.{deposit_steps}
 use Rattle.page_gather.specs.Gathering.{AreSound, Gathers, after_all, most_framed}
 use Rattle.ka10_unit.specs.declared.taken.Stop.{Stop}
