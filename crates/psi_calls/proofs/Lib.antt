@@ -1,0 +1,9 @@
+pub mod Woken
+pub mod PostedKeeps
+pub mod JobCodes
+pub mod Changed
+pub mod Ended
+pub mod StoredReads
+pub mod Living
+pub mod AddedChannels
+pub mod Undone
