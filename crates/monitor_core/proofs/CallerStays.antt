@@ -1,7 +1,7 @@
--- A fork that makes a fork call stands among the forks that its turn leaves, as it was.
+-- A fork that makes a call which changes forks has its place among those that the turn leaves.
 use Rattle.std.proofs.Common.{◌≡◌, ℕ, Bool, true, false, ◌||◌, List, [], ◌∷◌, Option, None, Some, refl, sym, ◌∙◌, ap, subst, arith, inl, inr, Ordering}
 use Rattle.std.specs.Prelude.{MatchBool}
-use Rattle.std.specs.List.{range_with_len}
+use Rattle.std.specs.List.{list_any, range_with_len}
 use Rattle.std.specs.Option.{option_map_or}
 use Rattle.std.specs.FinMap as map
 use Rattle.plain_model.specs.declared.call.End.{End}
@@ -10,7 +10,7 @@ use Rattle.plain_model.specs.declared.call.ForkChange.{ForkChange}
 use Rattle.plain_model.specs.declared.call.ForkChange.TheVariants.{Nothing, Make, Kill, Freeze, Become, Halt, Store}
 use Rattle.plain_units.specs.declared.channel.TheConstants.{INFERIOR_ENDED}
 use Rattle.plain_model.specs.declared.fork.Fork.{Fork}
-use Rattle.script_texts.specs.declared.status.ForkStatus.TheVariants.{Run, Halted}
+use Rattle.script_texts.specs.declared.status.ForkStatus.TheVariants.{Halted}
 use Rattle.machine_names.specs.declared.names.TheConstants.{MOST_FORKS}
 use Rattle.machine_names.specs.declared.names.ForkName.{ForkName}
 use Rattle.machine_names.specs.declared.names.Tty.{Tty}
@@ -20,57 +20,61 @@ use Rattle.machine_names.specs.Orders.{same_fork}
 use Rattle.plain_model.specs.ForkCalls.{ForkParts, fork_call, fork_changed, killed, with_halted}
 use Rattle.plain_model.specs.Inferiors.{is_inferior}
 use Rattle.fork_tree.specs.Inferiors.{without_branch}
-use Rattle.plain_model.specs.Interrupts.{posted}
+use Rattle.plain_model.specs.FileCalls.{Jobs}
+use Rattle.plain_model.specs.InterruptCalls.{InterruptParts, interrupt_changed}
+use Rattle.plain_model.specs.Interrupts.{channels_of, forces, posted, posted_all}
+use Rattle.plain_model.specs.Posting.{told_if, with_all_posted}
+use Rattle.plain_model.specs.declared.call.InterruptChange.{InterruptChange}
+use Rattle.plain_model.specs.declared.call.InterruptChange.TheVariants.{Become as Set, Post, Assign, Unassign}
 use Rattle.plain_pages.specs.PlainPages.{PlainPages}
-use Rattle.plain_model.specs.Trees.{PlainTree, changed, end_told, unwaited, waiters_woken, with_body, with_mark, without_wait, woken_in}
+use Rattle.plain_model.specs.Trees.{PlainTree, changed, end_told, unwaited, waiters_woken, with_body, with_mark, woken_in}
 use Rattle.plain_model.proofs.ForkEnds.{Anyhow, FitsChange, FitsEnd, call_names}
 use Rattle.plain_model.proofs.ForkMaps.{AreOwn, cases_name, get_put, get_put_other, held_there, names_same, slot_tells, superior_tells}
-use Rattle.plain_model.proofs.Posted.{posted_mark}
+use Rattle.plain_model.proofs.Posted.{posted_same}
 use Rattle.fork_tree.specs.Trees.{IsTree, Lives}
 use Rattle.fork_tree.proofs.Branches.{goes, gone_or_left}
 use Rattle.fork_tree.proofs.Kept.{name_unused}
 use Rattle.fork_tree.proofs.Killing.{killed_branch}
 use Rattle.fork_tree.proofs.Leaves.{inferior_lives}
 use Rattle.fork_calls.proofs.Branch.{below_younger}
-use Rattle.monitor_core.proofs.Keeping.{dropped_off}
 
-module _ (f : Fork) (runs : f.body.status ≡ Run) (off : f.body.psi.on ≡ false) where
-  -- it stands among forks that are under their own names
+module _ (f : Fork) where
+  -- a fork of its name stands in its place, among forks that are under their own names
   record StandsIn (m : ForkMap) : Type 0 where
     own : AreOwn m
-    there : map.get m f.name ≡ Some f
+    fork : Fork
+    there : map.get m f.name ≡ Some fork
+    superior : fork.superior ≡ f.superior
 
-  is_it : (m : ForkMap) → StandsIn m → (k : Fork) → map.get m k.name ≡ Some k → f.name ≡ k.name → k ≡ f
-  is_it m s k at same = let both : Some k ≡ Some f = sym at ∙ ap (map.get m) (sym same) ∙ s.there in cc both
+  is_it : (m : ForkMap) (s : StandsIn m) (k : Fork) → map.get m k.name ≡ Some k → f.name ≡ k.name → k ≡ s.fork
+  is_it m s k at same = let both : Some k ≡ Some s.fork = sym at ∙ ap (map.get m) (sym same) ∙ s.there in cc both
 
-  put_in : (m : ForkMap) → StandsIn m → (k : Fork) → (f.name ≡ k.name → k ≡ f) → StandsIn (map.insert m k.name k)
-  put_in m s k same = record {
-    own = λ q g e. elim (cases_name q k.name) [
-      | inl at ↦ let both : Some k ≡ Some g = sym (get_put m k.name q k at) ∙ e in let one : k ≡ g = cc both in ap (λ (x : Fork). x.name) (sym one) ∙ sym at
-      | inr ne ↦ s.own q g (sym (get_put_other m k.name q k ne) ∙ e)
-    ];
-    there = elim (cases_name f.name k.name) [
-      | inl at ↦ get_put m k.name f.name k at ∙ ap Some (same at)
-      | inr ne ↦ get_put_other m k.name f.name k ne ∙ s.there
-    ];
-  }
+  put_in : (m : ForkMap) → StandsIn m → (k : Fork) → (f.name ≡ k.name → k.superior ≡ f.superior) → StandsIn (map.insert m k.name k)
+  put_in m s k same = elim (cases_name f.name k.name) [
+    | inl at ↦ record { own = owned; fork = k; there = get_put m k.name f.name k at; superior = same at }
+    | inr ne ↦ record { own = owned; fork = s.fork; there = get_put_other m k.name f.name k ne ∙ s.there; superior = s.superior }
+  ]
+    where
+      owned : AreOwn (map.insert m k.name k)
+      owned q g e = elim (cases_name q k.name) [
+        | inl at ↦ let both : Some k ≡ Some g = sym (get_put m k.name q k at) ∙ e in let one : k ≡ g = cc both in ap (λ (x : Fork). x.name) (sym one) ∙ sym at
+        | inr ne ↦ s.own q g (sym (get_put_other m k.name q k ne) ∙ e)
+      ]
 
-  -- a change leaves it, if there is one
-  changed_in : (m : ForkMap) → StandsIn m → (change : Fork → Fork) → ((k : Fork) → (change k).name ≡ k.name) → (o : Option Fork) → ((k : Fork) → o ≡ Some k → map.get m k.name ≡ Some k)
-      → ((k : Fork) → o ≡ Some k → k ≡ f → change k ≡ f) → StandsIn (changed m change o)
-  changed_in m s change name None there same = s
-  changed_in m s change name (Some k) there same =
-      subst (λ (n : ForkName). StandsIn (map.insert m n (change k))) (name k)
-      (put_in m s (change k) (λ e. same k refl (is_it m s k (there k refl) (e ∙ name k))))
-
-  unwaited_it : unwaited f ≡ f
-  unwaited_it = ap (λ x. with_status f (without_wait x)) runs ∙ (λ i. with_status f (sym runs i))
+  -- a change that leaves the places of forks leaves its place, if there is one
+  changed_in : (m : ForkMap) → StandsIn m → (change : Fork → Fork) → ((k : Fork) → ((change k).name ≡ k.name) × ((change k).superior ≡ k.superior)) → (o : Option Fork) → ((k : Fork) → o ≡ Some k → map.get m k.name ≡ Some k)
+      → StandsIn (changed m change o)
+  changed_in m s change keeps None there = s
+  changed_in m s change keeps (Some k) there =
+      let named = (keeps k).0 in
+      subst (λ (n : ForkName). StandsIn (map.insert m n (change k))) named
+      (put_in m s (change k) (λ e. (keeps k).1 ∙ ap (λ (x : Fork). x.superior) (is_it m s k (there k refl) (e ∙ named)) ∙ s.superior))
 
   woken_stands : (t : Tty) (slots : List ℕ) (m : ForkMap) → StandsIn m → StandsIn (woken_in m t slots)
   woken_stands t [] m s = s
   woken_stands t (slot ∷ slots) m s =
       woken_stands t slots (changed m unwaited (fork_in m t slot))
-      (changed_in m s unwaited (λ k. refl) (fork_in m t slot) (λ k e. let at = slot_tells m s.own t slot k e in at.0) (λ k e is. ap unwaited is ∙ unwaited_it))
+      (changed_in m s unwaited (λ k. (refl, refl)) (fork_in m t slot) (λ k e. let at = slot_tells m s.own t slot k e in at.0))
 
   waiters_stand : (m : ForkMap) → StandsIn m → (t : Tty) → StandsIn (waiters_woken m t)
   unfolding waiters_woken
@@ -80,12 +84,33 @@ module _ (f : Fork) (runs : f.body.status ≡ Run) (off : f.body.psi.on ≡ fals
   told_stands m s g =
       let woken = waiters_woken m g.name.tty in
       let w = waiters_stand m s g.name.tty in
-      changed_in woken w (λ k. posted k INFERIOR_ENDED) (λ k. (posted_mark k INFERIOR_ENDED).0) (superior_of woken g) (λ k e. let at = superior_tells woken w.own g k e in at.0)
-      (λ k e is. ap (λ (x : Fork). posted x INFERIOR_ENDED) is ∙ dropped_off f INFERIOR_ENDED off refl)
+      changed_in woken w (λ k. posted k INFERIOR_ENDED) (λ k. let same = posted_same k INFERIOR_ENDED in (same.0, same.2)) (superior_of woken g) (λ k e. let at = superior_tells woken w.own g k e in at.0)
+
+  -- channels posted to a fork leave its place
+  all_posted_same : (channels : List ℕ) (k : Fork) → ((posted_all k channels).name ≡ k.name) × ((posted_all k channels).superior ≡ k.superior)
+  all_posted_same [] k = (refl, refl)
+  all_posted_same (channel ∷ channels) k =
+      let first = posted_same k channel in
+      let rest = all_posted_same channels (posted k channel) in
+      (rest.0 ∙ first.0, rest.1 ∙ first.2)
+
+  -- so where they are posted to a fork that lives
+  all_posted_stand : (m : ForkMap) → StandsIn m → (channels : List ℕ) (k : Fork) → map.get m k.name ≡ Some k → StandsIn (with_all_posted m channels k)
+  all_posted_stand m s channels k at = told (list_any (forces k.body.psi) channels)
+    where
+      g : Fork
+      g = posted_all k channels
+
+      put : StandsIn (map.insert m g.name g)
+      put = let same = all_posted_same channels k in put_in m s g (λ e. same.1 ∙ ap (λ (x : Fork). x.superior) (is_it m s k at (e ∙ same.0)) ∙ s.superior)
+
+      told : (b : Bool) → StandsIn (told_if b m (posted_all k channels))
+      told true = told_stands (map.insert m g.name g) put g
+      told false = put
 
   module _ (tree : PlainTree) (is : IsTree tree) (lives : Lives tree.forks f) where
-    stands : StandsIn tree.forks
-    stands = record { own = is.slotted.own; there = lives }
+    abbrev stands : StandsIn tree.forks
+    stands = record { own = is.slotted.own; fork = f; there = lives; superior = refl }
 
     -- it is no inferior of itself
     not_below : (k : Fork) → map.get tree.forks k.name ≡ Some k → is_inferior tree.forks f.name k.name ≡ true → k ≡ f → ⊥
@@ -106,7 +131,9 @@ module _ (f : Fork) (runs : f.body.status ≡ Run) (off : f.body.psi.on ≡ fals
     branch_stands : (k : Fork) → map.get tree.forks k.name ≡ Some k → is_inferior tree.forks f.name k.name ≡ true → StandsIn (without_branch tree.forks k.name)
     branch_stands k at below = record {
       own = λ q g e. owned q g e (goes tree.forks k.name q) (gone_or_left tree.forks k.name q);
+      fork = f;
       there = subst (λ b. MatchBool b (map.get (without_branch tree.forks k.name) f.name ≡ None) (map.get (without_branch tree.forks k.name) f.name ≡ map.get tree.forks f.name)) (stays_with k at below) (gone_or_left tree.forks k.name f.name) ∙ lives;
+      superior = refl;
     }
       where
         owned : (q : ForkName) (g : Fork) → map.get (without_branch tree.forks k.name) q ≡ Some g → (b : Bool) → MatchBool b (map.get (without_branch tree.forks k.name) q ≡ None) (map.get (without_branch tree.forks k.name) q ≡ map.get tree.forks q) → g.name ≡ q
@@ -116,10 +143,8 @@ module _ (f : Fork) (runs : f.body.status ≡ Run) (off : f.body.psi.on ≡ fals
     abbrev asked_so : Asked
     asked_so = record { who = f.name; regs = f.body.regs; tree = tree }
 
-    of_inferior_stands : (name : ForkName) (change : Fork → Fork) → ((k : Fork) → (change k).name ≡ k.name) → is_inferior tree.forks f.name name ≡ true → StandsIn (changed tree.forks change (map.get tree.forks name))
-    of_inferior_stands name change named below =
-        changed_in tree.forks stands change named (map.get tree.forks name) (λ k e. held_there tree.forks is.slotted.own name k e)
-        (λ k e same. absurd (not_below k (held_there tree.forks is.slotted.own name k e) (ap (is_inferior tree.forks f.name) (is.slotted.own name k e) ∙ below) same))
+    of_name_stands : (name : ForkName) (change : Fork → Fork) → ((k : Fork) → ((change k).name ≡ k.name) × ((change k).superior ≡ k.superior)) → StandsIn (changed tree.forks change (map.get tree.forks name))
+    of_name_stands name change keeps = changed_in tree.forks stands change keeps (map.get tree.forks name) (λ k e. held_there tree.forks is.slotted.own name k e)
 
     module _ {K : Type 0} {file_cmp : K → K → Ordering} where
       abbrev parts_so : PlainPages file_cmp → ForkParts file_cmp
@@ -133,16 +158,15 @@ module _ (f : Fork) (runs : f.body.status ≡ Run) (off : f.body.psi.on ≡ fals
           (subst (λ (n : ForkName). StandsIn (without_branch tree.forks n)) named
           (branch_stands k.0 (held_there tree.forks is.slotted.own name k.0 k.1) (ap (is_inferior tree.forks f.name) named ∙ below)))
 
-      halted_stands : (p : PlainPages file_cmp) (name : ForkName) → is_inferior tree.forks f.name name ≡ true → StandsIn (option_map_or (with_halted (parts_so p)) (map.get tree.forks name) (parts_so p)).tree.forks
-      halted_stands p name below = by (map.get tree.forks name) refl
+      halted_stands : (p : PlainPages file_cmp) (name : ForkName) → StandsIn (option_map_or (with_halted (parts_so p)) (map.get tree.forks name) (parts_so p)).tree.forks
+      halted_stands p name = by (map.get tree.forks name) refl
         where
           by : (o : Option Fork) → map.get tree.forks name ≡ o → StandsIn (option_map_or (with_halted (parts_so p)) o (parts_so p)).tree.forks
           by None none = stands
           by (Some k) there =
               let at = held_there tree.forks is.slotted.own name k there in
               let g = with_status k Halted in
-              told_stands (map.insert tree.forks g.name g)
-              (put_in tree.forks stands g (λ e. absurd (not_below k at (ap (is_inferior tree.forks f.name) (is.slotted.own name k there) ∙ below) (is_it tree.forks stands k at e)))) g
+              told_stands (map.insert tree.forks g.name g) (put_in tree.forks stands g (λ e. ap (λ (x : Fork). x.superior) (is_it tree.forks stands k at e))) g
 
       change_stands : (p q : PlainPages file_cmp) (change : ForkChange) → FitsChange asked_so p (Anyhow asked_so p) q change → StandsIn (fork_changed change (parts_so q)).tree.forks
       unfolding fork_changed
@@ -150,9 +174,9 @@ module _ (f : Fork) (runs : f.body.status ≡ Run) (off : f.body.psi.on ≡ fals
       change_stands p q (Make h) fits =
           put_in tree.forks stands h (λ e. absurd (let no : Some f ≡ None = sym lives ∙ ap (map.get tree.forks) (e ∙ fits.name) ∙ name_unused tree f.name.tty is in cc no))
       change_stands p q (Kill name) fits = waiters_stand (killed (parts_so q) name).tree.forks (killed_stands q name fits.0) name.tty
-      change_stands p q (Freeze name on) fits = of_inferior_stands name (with_mark on) (λ k. refl) fits.0
-      change_stands p q (Become name body) fits = of_inferior_stands name (with_body body) (λ k. refl) fits.0
-      change_stands p q (Halt name) fits = halted_stands q name fits.0
+      change_stands p q (Freeze name on) fits = of_name_stands name (with_mark on) (λ k. (refl, refl))
+      change_stands p q (Become name body) fits = of_name_stands name (with_body body) (λ k. (refl, refl))
+      change_stands p q (Halt name) fits = halted_stands q name
       change_stands p q (Store name at words) fits = stands
 
       end_stands : (p q : PlainPages file_cmp) (e : End ForkChange) → FitsEnd asked_so p (Anyhow asked_so p) q e → StandsIn (parts_behind fork_changed (parts_so p) (parts_so q) e).tree.forks
@@ -164,6 +188,35 @@ module _ (f : Fork) (runs : f.body.status ≡ Run) (off : f.body.psi.on ≡ fals
       end_stands p q (Failed code) fits = stands
       end_stands p q (Trap channel) fits = stands
 
-      -- the fork that called is there, as it was
-      pub caller_stays : (p : PlainPages file_cmp) (number : ℕ) → (let c = turn_on no_files p (fork_call number asked_so) in map.get (parts_behind fork_changed (parts_so p) (parts_so c.pages) c.end).tree.forks f.name ≡ Some f)
-      caller_stays p number = let c = turn_on no_files p (fork_call number asked_so) in (end_stands p c.pages c.end (call_names asked_so p number)).there
+      -- a fork of its name is where the fork that called was
+      pub caller_stays : (p : PlainPages file_cmp) (number : ℕ)
+          → (let c = turn_on no_files p (fork_call number asked_so) in (g : Fork) × (map.get (parts_behind fork_changed (parts_so p) (parts_so c.pages) c.end).tree.forks f.name ≡ Some g) × (g.superior ≡ f.superior) × (g.name ≡ f.name))
+      caller_stays p number = let c = turn_on no_files p (fork_call number asked_so) in let s = end_stands p c.pages c.end (call_names asked_so p number) in (s.fork, s.there, s.superior, s.own f.name s.fork s.there)
+
+    -- so behind a turn of a call on pseudo-interrupts
+    module _ (jobs : Jobs) where
+      abbrev tables_so : InterruptParts
+      tables_so = record { tree = tree; jobs = jobs }
+
+      posted_stand : (name : ForkName) (channels : List ℕ) (o : Option Fork) → map.get tree.forks name ≡ o → StandsIn (option_map_or (with_all_posted tree.forks channels) o tree.forks)
+      posted_stand name channels None none = stands
+      posted_stand name channels (Some k) there = all_posted_stand tree.forks stands channels k (held_there tree.forks is.slotted.own name k there)
+
+      interrupt_stands : (change : InterruptChange) → StandsIn (interrupt_changed change tables_so).tree.forks
+      unfolding interrupt_changed
+      interrupt_stands (Set name body) = of_name_stands name (with_body body) (λ k. (refl, refl))
+      interrupt_stands (Post name word) = posted_stand name (channels_of word) (map.get tree.forks name) refl
+      interrupt_stands (Assign code name channel) = stands
+      interrupt_stands (Unassign t code) = stands
+
+      end_interrupts : (e : End InterruptChange) → StandsIn (parts_behind interrupt_changed tables_so tables_so e).tree.forks
+      unfolding parts_behind
+      end_interrupts (Done change regs out post) = interrupt_stands change
+      end_interrupts (Waits on) = stands
+      end_interrupts Halts = stands
+      end_interrupts (Refused code) = stands
+      end_interrupts (Failed code) = stands
+      end_interrupts (Trap channel) = stands
+
+      pub interrupter_stays : (e : End InterruptChange) → (g : Fork) × (map.get (parts_behind interrupt_changed tables_so tables_so e).tree.forks f.name ≡ Some g) × (g.superior ≡ f.superior) × (g.name ≡ f.name)
+      interrupter_stays e = let s = end_interrupts e in (s.fork, s.there, s.superior, s.own f.name s.fork s.there)

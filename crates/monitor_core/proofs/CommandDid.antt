@@ -1,14 +1,11 @@
 -- Commands of a terminal's job, as the plain machine has them.
-use Rattle.std.proofs.Common.{◌≡◌, ℕ, ◌<◌, ◌^◌, List, [], ◌∷◌, Bool, true, false, cond, not, ◌&&◌, ◌||◌, ◌==◌, ◌++◌, length, subst, Option, None, Some, set, refl, sym, ◌∙◌, ap, arith}
-use Rattle.std.specs.Prelude.{codes, is_some}
+use Rattle.std.proofs.Common.{◌≡◌, ℕ, ◌<◌, ◌^◌, List, [], ◌∷◌, Bool, true, false, cond, not, ◌&&◌, ◌||◌, ◌==◌, ◌++◌, length, subst, Option, Some, set, refl, sym, ◌∙◌, ap}
+use Rattle.std.specs.Prelude.{codes}
 use Rattle.std.specs.Option.{option_map, option_map_or}
 use Rattle.std.specs.FinMap as fin
 use Rattle.word36.specs.Words.{right}
-use Rattle.machine_names.specs.Orders.{name_cmp}
 use Rattle.machine_names.specs.declared.names.Tty.{Tty}
 use Rattle.page_contracts.specs.DrumWords.{DrumWords}
-use Rattle.plain_files.specs.NamedFiles.{pages_named}
-use Rattle.plain_files.specs.OpenFiles.{open_at}
 use Rattle.plain_model.specs.declared.fork.Fork.{Fork}
 use Rattle.plain_model.specs.declared.fork.TerminalMode.TheVariants.{Command, Program}
 use Rattle.script_texts.specs.declared.status.ForkStatus.{ForkStatus}
@@ -19,7 +16,6 @@ use Rattle.plain_model.specs.State.{PlainJob, PlainState}
 use Rattle.plain_model.specs.Trees.{PlainTree, changed, changed_in, readers_woken, unread, with_changed_of, with_mark, without_read}
 use Rattle.plain_model.specs.Unit.{Effect}
 use Rattle.file_tables.specs.Tables.{files_of, open_of}
-use Rattle.fork_calls.specs.Limits.{IsBody}
 use Rattle.fork_calls.proofs.Places.{IsMild, Keep, came_itself, changed_keeps, keep_itself, keep_on}
 use Rattle.fork_tree.specs.Trees.{IsTree}
 use Rattle.plain_model.proofs.ForkMaps.{AreOwn, slot_tells}
@@ -39,15 +35,15 @@ use Rattle.std.specs.List.{range_with_len}
 use Rattle.script_texts.specs.declared.status.WaitOn.TheVariants as on
 use Rattle.plain_model.specs.declared.fork.TerminalMode.{TerminalMode}
 use Rattle.job_commands.specs.Going.{can_continue}
-use Rattle.monitor_core.specs.declared.echo.Complaint.TheVariants.{NoProgram, Cannot}
+use Rattle.monitor_core.specs.declared.echo.Complaint.TheVariants.{Cannot}
 use Rattle.monitor_core.specs.declared.echo.Told.TheVariants.{Nothing, Refused}
 use Rattle.monitor_core.specs.declared.job.Job.{Job}
 use Rattle.monitor_core.specs.declared.system.System.{System}
 use Rattle.monitor_core.specs.Echoes.{echo_items, told_items}
 use Rattle.monitor_core.specs.Effects.{HasJobAt, job_in}
-use Rattle.monitor_core.specs.Jobs.{jobs_of, plain_job}
+use Rattle.monitor_core.specs.Jobs.{jobs_of}
 use Rattle.monitor_core.specs.Limits.{FitsForced}
-use Rattle.monitor_core.specs.Systems.{FitsPages, named, state_of}
+use Rattle.monitor_core.specs.Systems.{named, state_of}
 use Rattle.monitor_core.specs.Typings.{typing_at}
 use Rattle.monitor_core.proofs.Lookups.{jobs_set}
 use Rattle.monitor_core.proofs.Systems.{change_is, restarted_body, state_left}
@@ -65,7 +61,7 @@ halt_fits Halted h = λ channel e. absurd (cc e)
 halt_fits (Forced channel) h = h
 
 pub resumed_mild : (f : Fork) → IsMild resumed f
-resumed_mild f = record { name = refl; slot = refl; superior = refl; units = refl; within = λ b. record { status = halt_fits f.body.status b.status; off = b.off; pc = b.pc; accumulators = b.accumulators } }
+resumed_mild f = record { name = refl; slot = refl; superior = refl; units = refl; within = λ b. record { status = halt_fits f.body.status b.status; pc = b.pc; accumulators = b.accumulators } }
 
 pub marked_mild : (on : Bool) (f : Fork) → IsMild (with_mark on) f
 marked_mild on f = record { name = refl; slot = refl; superior = refl; units = refl; within = λ b. b }
@@ -85,7 +81,7 @@ read_fits (Wait on.Fork) h = h
 read_fits (Wait (on.Sleep moment)) h = h
 
 unread_mild : (f : Fork) → IsMild unread f
-unread_mild f = record { name = refl; slot = refl; superior = refl; units = refl; within = λ b. record { status = read_fits f.body.status b.status; off = b.off; pc = b.pc; accumulators = b.accumulators } }
+unread_mild f = record { name = refl; slot = refl; superior = refl; units = refl; within = λ b. record { status = read_fits f.body.status b.status; pc = b.pc; accumulators = b.accumulators } }
 
 read_in : (t : Tty) (slots : List ℕ) (forks : ForkMap) → AreOwn forks → Keep forks (changed_in unread forks t slots)
 read_in t [] forks own = keep_itself forks own

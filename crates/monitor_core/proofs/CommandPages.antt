@@ -8,13 +8,11 @@ use Rattle.machine_names.specs.declared.names.PageName.{PageName}
 use Rattle.machine_names.specs.declared.names.Slot.{Slot}
 use Rattle.machine_names.specs.declared.names.TheConstants.{MOST_FORKS, SPACE_PAGES}
 use Rattle.machine_names.specs.Orders.{file_page_cmp}
-use Rattle.plain_pages.specs.declared.map.MapEntry.{MapEntry}
-use Rattle.plain_pages.specs.Maps.{entry_at}
 use Rattle.plain_pages.specs.PlainPages.{PlainPages, refiled}
 use Rattle.plain_pages.specs.Room.{page_in}
-use Rattle.plain_pages.specs.References.{drop_unnamed, with_changed, with_entry, without_fork}
+use Rattle.plain_pages.specs.References.{with_changed, without_fork}
 use Rattle.plain_pages.proofs.Kept.{drop_all_leaves}
-use Rattle.plain_pages.proofs.Refiled.{NameAlike, entry_refiled, fork_refiled}
+use Rattle.plain_pages.proofs.Refiled.{NameAlike, fork_refiled}
 use Rattle.plain_units.proofs.RefiledUnits.{still_alike}
 use Rattle.plain_model.specs.declared.fork.Fork.{Fork}
 use Rattle.plain_model.specs.Inferiors.{last_below}

@@ -1,7 +1,6 @@
 -- What a line asks for, by the command that it is.
-use Rattle.std.proofs.Common.{◌≡◌, List, [], refl, sym, ◌∙◌, ap, subst}
+use Rattle.std.proofs.Common.{◌≡◌, List, [], refl, sym, ◌∙◌, subst}
 use Rattle.machine_names.specs.declared.names.Tty.{Tty}
-use Rattle.page_contracts.specs.DrumWords.{DrumWords}
 use Rattle.plain_typing.specs.declared.command.Command.{Command}
 use Rattle.plain_typing.specs.declared.command.Command.TheVariants as command
 use Rattle.plain_model.specs.State.{PlainState}

@@ -1,6 +1,6 @@
 -- DELETE, as the plain machine has it.
-use Rattle.std.proofs.Common.{◌≡◌, ◌≢◌, ℕ, ◌<◌, ◌≤◌, [], true, false, cond, Option, None, Some, refl, sym, ◌∙◌, ap, subst, arith, inl, inr, ◌⊎◌, nat_lt}
-use Rattle.std.specs.Prelude.{List, codes, is_some, Ok, Err, Result}
+use Rattle.std.proofs.Common.{◌≡◌, ◌≢◌, ℕ, ◌<◌, [], true, false, cond, Some, sym, ◌∙◌, ap, subst, arith, inl, inr, nat_lt}
+use Rattle.std.specs.Prelude.{List, codes, is_some}
 use Rattle.std.specs.Cmp.{nat_cmp_total}
 use Rattle.std.specs.Ordering.{nat_cmp}
 use Rattle.std.specs.FinMap as map
@@ -10,7 +10,7 @@ use Rattle.number_map.proofs.Keys.{get_gone, get_gone_other}
 use Rattle.machine_names.specs.Orders.{name_cmp}
 use Rattle.machine_names.specs.declared.names.Tty.{Tty}
 use Rattle.page_contracts.specs.DrumWords.{DrumWords}
-use Rattle.plain_files.specs.Directory.{Files, IsAbsent}
+use Rattle.plain_files.specs.Directory.{Files}
 use Rattle.plain_files.specs.NamedFiles.{AreFiled, AreNumbers, name_of, pages_named}
 use Rattle.plain_files.specs.OpenFiles.{times_open_in_all}
 use Rattle.plain_pages.specs.FilePages.{other_files, without_file}
@@ -18,17 +18,14 @@ use Rattle.plain_pages.specs.PlainPages.{NumberedPages, refiled}
 use Rattle.plain_pages.proofs.FilesKept.{without_files}
 use Rattle.plain_model.specs.Commands.{delete_file, prompted, told}
 use Rattle.plain_model.specs.FileCalls.{times_held}
-use Rattle.plain_model.specs.State.{PlainState}
 use Rattle.plain_model.specs.Unit.{Effect}
 use Rattle.plain_model.proofs.Keyed.{Others, keyed_by, without_keyed, without_refiled}
 use Rattle.ka10_unit.specs.Carrying.{Grows}
 use Rattle.fork_calls.specs.Holding.{ComeFrom}
 use Rattle.plain_model.specs.Trees.{PlainTree}
 use Rattle.fork_calls.proofs.Places.{came_itself}
-use Rattle.file_tables.specs.declared.tables.FileTables.{FileTables}
 use Rattle.file_tables.specs.Tables.{IsThere, OpenStay, files_of, open_of}
-use Rattle.file_tables.proofs.Names.{by_name_at, name_apart, name_total, named, not_both, numbers_gone}
-use Rattle.job_commands.specs.Deleting.{Deletes, pages_left}
+use Rattle.file_tables.proofs.Names.{name_apart, name_total, named, not_both, numbers_gone}
 use Rattle.monitor_core.specs.ForkUnit.{NumbersStay}
 use Rattle.monitor_core.specs.declared.echo.Complaint.TheVariants.{Busy}
 use Rattle.monitor_core.specs.declared.echo.Told.TheVariants.{Prompt, Refused}

@@ -1,5 +1,5 @@
 -- Effects that a system has had, and what is always true of its tables then.
-use Rattle.std.proofs.Common.{◌≡◌, ◌≢◌, ℕ, ◌+◌, ◌≤◌, ◌<◌, List, [], ◌++◌, length, set, true, false, Option, None, Some, refl, sym, ◌∙◌, ap, subst, arith, inl, inr, length-set, get_or-set_same, get_or-set_other}
+use Rattle.std.proofs.Common.{◌≡◌, ◌≢◌, ℕ, ◌≤◌, ◌<◌, List, length, set, Option, None, Some, sym, ◌∙◌, ap, arith, inl, inr, length-set, get_or-set_same, get_or-set_other}
 use Rattle.std.specs.Option.{option_map}
 use Rattle.std.specs.FinMap as map
 use Rattle.std.proofs.lemmas.Bool.{cases_eq}
@@ -20,12 +20,12 @@ use Rattle.fork_tree.specs.Trees.{IsTree}
 use Rattle.fork_tree.proofs.Slots.{held_lives}
 use Rattle.fork_calls.specs.Holding.{ComeFrom, Holds, TopsStay}
 use Rattle.fork_calls.proofs.Holdings.{holds_same, holds_still}
-use Rattle.fork_calls.proofs.Places.{IsMild, Keep, came_itself, changed_keeps}
+use Rattle.fork_calls.proofs.Places.{IsMild, Keep, changed_keeps}
 use Rattle.fork_calls.proofs.Tops.{same_tops as still_tops}
 use Rattle.job_commands.specs.Leaving.{LogoutLeaves}
 use Rattle.monitor_core.specs.declared.job.Job.{Job}
 use Rattle.monitor_core.specs.declared.system.System.{System}
-use Rattle.monitor_core.specs.Effects.{Has, HasJobAt, job_in}
+use Rattle.monitor_core.specs.Effects.{Has, job_in}
 use Rattle.monitor_core.specs.Typings.{typing_at}
 use Rattle.file_tables.specs.Tables.{open_of}
 use Rattle.file_tables.specs.declared.tables.FileTables.{FileTables}

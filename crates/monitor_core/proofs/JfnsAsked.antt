@@ -7,13 +7,12 @@ use Rattle.std.specs.Cmp.{nat_cmp_total}
 use Rattle.std.proofs.lemmas.Bool.{cases_eq}
 use Rattle.std.specs.FinMap as map
 use Rattle.number_map.proofs.Keys.{get_put, get_put_other, get_gone, get_gone_other}
-use Rattle.number_map.specs.Numbers.{IsLeastFree}
 use Rattle.machine_names.specs.declared.names.ForkName.{ForkName}
 use Rattle.machine_names.specs.declared.names.Tty.{Tty}
 use Rattle.plain_files.specs.declared.jfn.Jfn.{Jfn}
 use Rattle.plain_files.specs.Directory.{Creates, Files, IsAbsent}
 use Rattle.plain_files.specs.Jobs.{jfns_of}
-use Rattle.plain_files.specs.NamedFiles.{AreNumbers, open_file}
+use Rattle.plain_files.specs.NamedFiles.{open_file}
 use Rattle.plain_files.specs.OpenFiles.{OpenFile, OpenFiles, open_at, times_open_in_all}
 use Rattle.plain_files.specs.Sizes.{file_at}
 use Rattle.plain_pages.specs.PlainPages.{NumberedPages}
@@ -24,12 +23,12 @@ use Rattle.plain_model.specs.declared.call.End.TheVariants.{Done, Waits, Halts, 
 use Rattle.plain_model.specs.declared.call.FileChange.{FileChange}
 use Rattle.plain_model.specs.declared.call.FileChange.TheVariants.{Take, Make, Open, Release, Delete}
 use Rattle.plain_model.specs.State.{PlainJob}
-use Rattle.plain_model.specs.FileCalls.{JfnAsked, Jobs, held_at, times_held}
-use Rattle.plain_model.specs.Families.{Parts, asks_jfns}
+use Rattle.plain_model.specs.FileCalls.{Jobs, held_at, times_held}
+use Rattle.plain_model.specs.Families.{asks_jfns}
 use Rattle.plain_model.proofs.RefiledCalls.{AreHeld as HoldThere}
 use Rattle.file_tables.specs.declared.tables.FileTables.{FileTables}
 use Rattle.file_tables.specs.Tables.{files_of, jfns_at, open_of}
-use Rattle.file_tables.proofs.Names.{named, not_both, one_value}
+use Rattle.file_tables.proofs.Names.{named, not_both}
 use Rattle.file_tables.proofs.Opened.{job_jfn}
 use Rattle.file_calls.specs.Asking.{asked_of}
 use Rattle.file_calls.specs.Changing.{DirFollows}

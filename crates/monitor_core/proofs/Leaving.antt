@@ -127,7 +127,6 @@ module _ (old new : PlainTree) (was : IsTree old) (is : IsTree new) (come : Come
     slot = caller_came.slot ∙ ap (λ (x : Fork). x.slot) caller_same;
     superior = caller_came.superior ∙ ap (λ (x : Fork). x.superior) caller_same;
     status = λ s. caller_within.status;
-    on = caller_within.off ∙ sym fits.off;
     pc = caller_within.pc;
     accumulators = caller_within.accumulators;
     units = omega (arith, caller_came.units, ap (λ (x : Fork). x.body.units) caller_same);

@@ -8,6 +8,8 @@ mod MapFrom
 mod Lookups
 mod Rooms
 mod Filed
+mod Inspected
+mod Kills
 mod NamedPages
 mod FileReferences
 mod ShownWords
@@ -16,6 +18,7 @@ mod Silent
 mod UnitRan
 mod UnitRows
 mod Keeping
+mod Told
 mod Leaving
 mod Stopping
 mod Calling
@@ -24,6 +27,7 @@ mod JfnsAsked
 mod JfnTurns
 mod MapTurns
 mod ByteTurns
+mod CodeTurns
 mod Changing
 mod Sounds
 mod Systems
@@ -33,6 +37,7 @@ mod CallerStays
 mod UnitEffect
 mod Rows
 mod UnitDid
+mod PostDid
 mod JobDid
 mod Logins
 mod EventDid

@@ -85,7 +85,7 @@ filled live limit frames h = by (nat_le (live + 1) limit) (nat_le 1 frames) refl
 -- a new top fork is within its limits
 top_body : (name : ForkName) → IsBody (top_fork name).body
 unfolding first_regs psi_at_rest
-top_body name = record { status = λ c h. absurd (cc h); off = refl; pc = omega arith; accumulators = refl }
+top_body name = record { status = λ c h. absurd (cc h); pc = omega arith; accumulators = refl }
 
 -- no JFN is held where no job is, once there is a job more
 pub unheld_begun : (held : List OpenFiles) (jobs : List (Option Job)) (t : ℕ) (k : Job) → AreUnheld held jobs → t < length jobs → AreUnheld held (set jobs t (Some k))

@@ -1,5 +1,5 @@
 -- Units of a fork in a row, as entries of the plain machine.
-use Rattle.std.proofs.Common.{◌≡◌, ℕ, List, zero, suc, ◌+◌, ◌∷◌, ◌++◌, [], true, None, Some, refl, sym, ◌∙◌, ap, subst, arith, replicate}
+use Rattle.std.proofs.Common.{◌≡◌, ℕ, List, zero, suc, ◌+◌, ◌∷◌, ◌++◌, [], ◌≤◌, true, false, None, Some, refl, sym, ◌∙◌, ap, subst, arith, replicate}
 use Rattle.std.proofs.lemmas.List.{append-nil, replicate-append-replicate}
 use Rattle.std.specs.Ordering.{nat_cmp}
 use Rattle.std.specs.FinMap as fin
@@ -7,6 +7,7 @@ use Rattle.script_texts.specs.declared.event.Step.TheVariants.{Unit as AUnit}
 use Rattle.plain_model.specs.declared.fork.Fork.{Fork}
 use Rattle.machine_names.specs.declared.names.TheConstants.{MOST_FORKS}
 use Rattle.plain_model.specs.Forks.{counted, with_regs}
+use Rattle.plain_model.specs.Inspections.{is_interrupted}
 use Rattle.plain_model.specs.Run.{AreLegal, apply, items_of, state_after}
 use Rattle.plain_pages.specs.PlainPages.{NumberedPages}
 use Rattle.plain_model.specs.State.{PlainState}
@@ -24,7 +25,7 @@ use Rattle.monitor_core.proofs.Frozen.{still_frozen}
 use Rattle.monitor_core.proofs.Maps.{insert_again, insert_twice}
 use Rattle.monitor_core.proofs.Silent.{once_as, row_more, silent_unit}
 use Rattle.monitor_core.proofs.Filed.{AreKept, IsIn, NamedFiles, kept_on, kept_once, kept_still, keyed, unit_files}
-use Rattle.monitor_core.proofs.UnitEffect.{Runs, StopsQuietly, behind_state, effect_of, rest_in_state, step_as, step_legal}
+use Rattle.monitor_core.proofs.UnitEffect.{Runs, behind_state, effect_of, rest_in_state, step_as, step_legal}
 
 -- one more of the same
 one_more : {X : Type 0} (n : ℕ) (x : X) → replicate (suc n) x ≡ replicate n x ++ x ∷ []
@@ -60,7 +61,6 @@ module _ (key : List ℕ → ℕ) (filed : NamedFiles) (s : PlainState) (f : For
     kept = kept_on (IsIn s.files) key p filed t.kept a.pages files;
     held = t.held;
     quiet = t.quiet;
-    off = t.off;
     runs = t.runs;
     thawed = still_frozen (tree_of s) t.trees f (ran_on f n a.regs) t.fork refl refl refl refl MOST_FORKS ∙ t.thawed;
   }
@@ -74,12 +74,12 @@ module _ (key : List ℕ → ℕ) (filed : NamedFiles) (s : PlainState) (f : For
     pub kept : AreKept (λ name. IsIn s.files name × IsIn last.rest.files name) key last.pages left
 
   -- one more entry behind them
-  behind_row : (n : ℕ) (a : After nat_cmp) (e : Behind) → RowDone n a → behind_unit key (put_in rest (ran_on f n a.regs)) (ran_on f n a.regs) a.pages ≡ e → StopsQuietly e → Entries (suc n) e
-  behind_row n a e d is quiet =
+  behind_row : (n : ℕ) (a : After nat_cmp) (e : Behind) → RowDone n a → behind_unit key (put_in rest (ran_on f n a.regs)) (ran_on f n a.regs) a.pages ≡ e → Entries (suc n) e
+  behind_row n a e d is =
       let runs = runs_on n a d.files in
       let ran = ran_on f n a.regs in
       let unit = AUnit f.name in
-      let went = step_as key filed (row_state n a) ran a.pages runs (subst StopsQuietly (sym is) quiet) in
+      let went = step_as key filed (row_state n a) ran a.pages runs in
       let step = went.is ∙ ap (effect_of went.filed (row_state n a) ran) is in
       let more = one_more n unit in
       let here = d.state in
@@ -104,16 +104,17 @@ module _ (key : List ℕ → ℕ) (filed : NamedFiles) (s : PlainState) (f : For
   first_row a is = let same : record { pages = p; regs = f.body.regs; post = None } ≡ a = cc is in subst (RowDone zero) same no_row
 
   -- units in a row, as entries
-  row_done : (n : ℕ) (a : After nat_cmp) → in_a_row f.name n p f.body.regs ≡ Some a → RowDone n a
-  row_done zero a is = first_row a is
-  row_done (suc n) b is =
+  row_done : (n : ℕ) → (1 ≤ n → is_interrupted f.body.psi ≡ false) → (a : After nat_cmp) → in_a_row f.name n p f.body.regs ≡ Some a → RowDone n a
+  row_done zero alone a is = first_row a is
+  row_done (suc n) alone b is =
       let more = row_more f.name n p f.body.regs b is in
       let a = more.before in
-      let d = row_done n a more.row in
+      let off = alone (omega arith) in
+      let d = row_done n (λ some. off) a more.row in
       let ran = ran_on f n a.regs in
       let left = put_in rest ran in
       let went = counted (with_regs ran b.regs) in
-      let last = behind_row n a (left_so left went b.pages nothing) d (silent_unit key left ran a.pages b more.unit more.silent) (λ stops. absurd (cc stops)) in
+      let last = behind_row n a (left_so left went b.pages nothing) d (silent_unit key left ran a.pages b off more.unit more.silent) in
       let files = once_files f.name a.pages a.regs b more.unit ∙ d.files in
       let same : last.left ≡ filed = kept_once (λ name. IsIn s.files name × IsIn s.files name) key b.pages last.left filed last.kept (kept_still (IsIn s.files) key p filed t.kept b.pages files) in
       let counts : f.body.units + n + 1 ≡ f.body.units + suc n = omega arith in
@@ -126,5 +127,5 @@ module _ (key : List ℕ → ℕ) (filed : NamedFiles) (s : PlainState) (f : For
       }
 
   -- units in a row, and the last behind them
-  pub units_as : (count : ℕ) (e : Behind) → RanUnits key rest f p count e → StopsQuietly e → Entries count e
-  units_as count e r quiet = subst (λ n. Entries n e) (sym r.counts) (behind_row r.before r.after e (row_done r.before r.after r.row) r.ends quiet)
+  pub units_as : (count : ℕ) (e : Behind) → RanUnits key rest f p count e → Entries count e
+  units_as count e r = subst (λ n. Entries n e) (sym r.counts) (behind_row r.before r.after e (row_done r.before r.alone r.after r.row) r.ends)

@@ -1,5 +1,5 @@
 -- Units in a row that post nothing.
-use Rattle.std.proofs.Common.{◌≡◌, ℕ, suc, List, Option, None, Some, refl, sym, ◌∙◌, ap}
+use Rattle.std.proofs.Common.{◌≡◌, ℕ, suc, List, false, cond, Option, None, Some, refl, sym, ◌∙◌, ap}
 use Rattle.std.specs.Ordering.{nat_cmp}
 use Rattle.std.specs.Option.{option_and_then}
 use Rattle.std.specs.declared.cmp.Ordering.{Ordering}
@@ -10,10 +10,11 @@ use Rattle.plain_pages.specs.PlainPages.{PlainPages, NumberedPages}
 use Rattle.plain_units.specs.Steps.{Planned, Progress, Ending, done, stopped, call, pages_left}
 use Rattle.plain_model.specs.Forks.{with_regs, counted}
 use Rattle.plain_model.specs.Calls.{posted_if}
+use Rattle.plain_model.specs.Inspections.{is_interrupted}
 use Rattle.plain_units.specs.Units.{unit_on}
 use Rattle.ka10_in_place.specs.Once.{After, once, in_a_row, unless_posted, went_through}
 use Rattle.monitor_core.specs.Shown.{nothing}
-use Rattle.monitor_core.specs.ForkUnit.{Rest, behind, behind_unit, left_so, post_shown}
+use Rattle.monitor_core.specs.ForkUnit.{Rest, behind, behind_instruction, behind_interrupted, behind_unit, left_so, post_shown}
 
 -- a unit that went through, and what it left
 went_as : {K : Type 0} {file_cmp : K → K → Ordering} (f : ForkName) (x : Planned file_cmp ⊥) (a : After file_cmp) → went_through f x ≡ Some a → (t : Progress file_cmp) × (e : Ending) × (x ≡ done t e) × (record { pages = pages_left f t e; regs = e.regs; post = e.post } ≡ a)
@@ -48,9 +49,14 @@ row_more {file_cmp = file_cmp} f n p regs b h = by (in_a_row f n p regs) refl h
     by None row is = absurd (cc is)
     by (Some a) row is = then a (once f a.pages a.regs) row refl is
 
+-- what is behind a unit of a fork that isn't interrupted
+pub instruction_alone : (key : List ℕ → ℕ) (rest : Rest) (f : Fork) (p : NumberedPages) → is_interrupted f.body.psi ≡ false → behind_unit key rest f p ≡ behind_instruction key rest f p
+instruction_alone key rest f p alone = ap (λ b. cond b (behind_interrupted key rest f p) (behind_instruction key rest f p)) alone
+
 -- what is behind a unit that went through and posts nothing
-pub silent_unit : (key : List ℕ → ℕ) (rest : Rest) (f : Fork) (p : NumberedPages) (b : After nat_cmp) → once f.name p f.body.regs ≡ Some b → b.post ≡ None → behind_unit key rest f p ≡ left_so rest (counted (with_regs f b.regs)) b.pages nothing
-silent_unit key rest f p b went silent =
+pub silent_unit : (key : List ℕ → ℕ) (rest : Rest) (f : Fork) (p : NumberedPages) (b : After nat_cmp) → is_interrupted f.body.psi ≡ false → once f.name p f.body.regs ≡ Some b → b.post ≡ None → behind_unit key rest f p ≡ left_so rest (counted (with_regs f b.regs)) b.pages nothing
+silent_unit key rest f p b alone went silent =
     let o = once_as f.name p f.body.regs b went in
-    ap (behind key rest f p) o.2 ∙ (λ i. left_so rest (counted (posted_if (with_regs f (o.3 i).regs) (o.3 i).post)) (o.3 i).pages (post_shown (o.3 i).post))
-    ∙ (λ i. left_so rest (counted (posted_if (with_regs f b.regs) (silent i))) b.pages (post_shown (silent i)))
+    instruction_alone key rest f p alone
+    ∙ ap (behind key rest f p) o.2 ∙ (λ i. left_so rest (counted (posted_if (with_regs f (o.3 i).regs) (o.3 i).post)) (o.3 i).pages (post_shown f.body.psi (o.3 i).post))
+    ∙ (λ i. left_so rest (counted (posted_if (with_regs f b.regs) (silent i))) b.pages (post_shown f.body.psi (silent i)))

@@ -11,13 +11,12 @@ use Rattle.page_contracts.specs.declared.answers.Need.{Need}
 use Rattle.page_contracts.specs.DrumWords.{DrumWords}
 use Rattle.page_contracts.specs.Pages.{PagesMeaning}
 use Rattle.page_contracts.specs.Stores.{IsNeeded}
-use Rattle.page_contracts.proofs.Losing.{needed_more}
 use Rattle.plain_pages.specs.PlainPages.{NumberedPages}
 use Rattle.plain_model.specs.Trees.{PlainTree, with_body}
 use Rattle.plain_model.proofs.ForkMaps.{put_itself}
 use Rattle.ka10_in_place.specs.Once.{After, in_a_row}
-use Rattle.ka10_unit.specs.Taking.{most_frames}
 use Rattle.fork_tree.specs.Trees.{IsTree, Lives}
+use Rattle.fork_tree.proofs.Slots.{get_put}
 use Rattle.fork_calls.specs.Holding.{Holds, MakesPages}
 use Rattle.fork_calls.proofs.Branch.{made_on}
 use Rattle.file_tables.specs.declared.tables.FileTables.{FileTables}
@@ -56,7 +55,7 @@ up_to_none f g p q r =
 
 -- some units are a row that shows nothing
 pub up_to_some : (key : List ℕ → ℕ) (rest : Rest) (f g : Fork) (p q : NumberedPages) (n : ℕ) → 1 ≤ n → RanUpTo f p n g q → RanUnits key rest f p n (left_so rest g q nothing)
-up_to_some key rest f g p q n some r = subst (RanUnits key rest f p n) (λ i. left_so rest (r.fork i) (r.pages i) nothing) (row_ran key rest f p n r.after some r.row)
+up_to_some key rest f g p q n some r = subst (RanUnits key rest f p n) (λ i. left_so rest (r.fork i) (r.pages i) nothing) (row_ran key rest f p n r.after (r.alone some) some r.row)
 
 -- the tables, where these are others
 abbrev pub with_tree : Tables → PlainTree → FileTables → List Typing → Tables
@@ -94,6 +93,7 @@ module _ {P : Type 0} (means : PagesMeaning P) (old new : P) (was : Tables) (tre
   some_done : (count : ℕ) → 1 ≤ count → StopsBehind means old new was tree files typed f g count n → UnitsRan means old new was (with_tree was tree files typed) f (record { count = count; shown = nothing })
   some_done count some s = record {
     after = g;
+    there = λ d fits. subst (λ (x : PlainTree). Lives x.forks g) (sym (s.told d fits).1) (get_put was.tree.forks g.name g.name g refl);
     told = λ d fits.
         let t = s.told d fits in (
           t.0,
@@ -146,7 +146,7 @@ module _ (was : Tables) (is : IsTree was.tree) (f : Fork) (lives : Lives was.tre
   g = with_body body f
 
   -- and a unit needs something first
-  pub unit_stops : (n : Need) → ((d : DrumWords) → means.fits old d → means.fits mid d × RanUpTo f (means.plain old d) count g (means.plain mid d)) → IsNeeded means.store most_frames mid n → StopsBehind means old mid was (put_back was.tree g) was.files was.typed f g count n
+  pub unit_stops : (n : Need) → ((d : DrumWords) → means.fits old d → means.fits mid d × RanUpTo f (means.plain old d) count g (means.plain mid d)) → IsNeeded means.store unit_frames mid n → StopsBehind means old mid was (put_back was.tree g) was.files was.typed f g count n
   unit_stops n told needed = record {
     told = λ d fits. (let t = told d fits in (t.0, refl, t.1));
     same = refl;
@@ -154,7 +154,7 @@ module _ (was : Tables) (is : IsTree was.tree) (f : Fork) (lives : Lives was.tre
     keeps = keeps;
     leaves = leaves_one was.tree is f lives body count keeps means old mid holds (made_less made);
     unmade = made_none made;
-    needed = needed_more means.store most_frames unit_frames mid n (omega arith) needed;
+    needed = needed;
   }
 
   -- or a call does

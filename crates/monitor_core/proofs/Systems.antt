@@ -117,10 +117,10 @@ module _ {P : Type 0} {b : _} where
 
 -- a fork with a word in an accumulator stays within its limits, and so does one that is started again
 worded_body : (f : Fork) (at word : ℕ) → IsBody f.body → IsBody (with_accumulator at word f).body
-worded_body f at word b = record { status = b.status; off = b.off; pc = b.pc; accumulators = length-set f.body.regs.ac at word ∙ b.accumulators }
+worded_body f at word b = record { status = b.status; pc = b.pc; accumulators = length-set f.body.regs.ac at word ∙ b.accumulators }
 
 pub restarted_body : (f : Fork) (address : ℕ) → address < 2 ^ 18 → IsBody f.body → IsBody (restarted address f).body
-restarted_body f address low b = record { status = λ c h. absurd (cc h); off = b.off; pc = low; accumulators = b.accumulators }
+restarted_body f address low b = record { status = λ c h. absurd (cc h); pc = low; accumulators = b.accumulators }
 
 -- a system with a word put at an address of a fork is sound
 pub sound_poked : {P : Type 0} {b : _} (m : System P b) → IsTree m.tree → (q : P) (tree : PlainTree) (jobs : List (Option Job)) (name : ForkName) (address word : ℕ) → b.means.lives q ≡ b.means.lives m.pages → b.means.forks_of q ≡ b.means.forks_of m.pages → jobs ≡ m.jobs.items

@@ -1,25 +1,21 @@
 -- A character that is typed, as the plain machine has it.
-use Rattle.std.proofs.Common.{◌≡◌, ℕ, ◌<◌, List, [], ◌∷◌, ◌++◌, length, set, Bool, true, false, cond, Option, None, Some, refl, sym, ◌∙◌, ap, subst, arith, nat_lt, ◌==◌}
+use Rattle.std.proofs.Common.{◌≡◌, ℕ, ◌<◌, [], ◌∷◌, ◌++◌, length, set, true, cond, Option, None, Some, refl, sym, ◌∙◌, ap, arith, nat_lt}
 use Rattle.std.specs.Option.{option_map_or}
 use Rattle.std.proofs.lemmas.Bool.Decides.{nat_tests}
 use Rattle.std.specs.FinMap as fin
 use Rattle.machine_names.specs.declared.character.TheConstants.{LINE_END}
-use Rattle.machine_names.specs.declared.names.ForkName.{ForkName}
 use Rattle.machine_names.specs.declared.names.Tty.{Tty}
 use Rattle.page_contracts.specs.DrumWords.{DrumWords}
 use Rattle.plain_files.specs.OpenFiles.{open_at}
-use Rattle.plain_typing.specs.declared.typed.Typed.{Typed}
-use Rattle.plain_typing.specs.declared.typed.Typed.TheVariants.{Stored}
-use Rattle.plain_typing.specs.declared.typed.TheConstants.{CONTROL_C, MOST_STORED}
+use Rattle.plain_typing.specs.declared.typed.TheConstants.{MOST_STORED}
 use Rattle.plain_typing.specs.Characters.{read_as}
 use Rattle.plain_typing.specs.Commands.{command_of}
-use Rattle.plain_model.specs.declared.fork.Fork.{Fork}
 use Rattle.plain_model.specs.declared.fork.TerminalMode.{TerminalMode}
 use Rattle.plain_model.specs.declared.fork.TerminalMode.TheVariants.{Command, Program}
 use Rattle.plain_model.specs.State.{PlainJob, PlainState}
 use Rattle.plain_model.specs.Commands.{commanded, with_job_at}
 use Rattle.plain_model.specs.Trees.{PlainTree, readers_woken, with_mark}
-use Rattle.plain_model.specs.TypeEvents.{echo, interrupted, line_ended, line_typed, rings, stopped_by, stored, typed_at, typed_one, typed_so}
+use Rattle.plain_model.specs.TypeEvents.{echo, interrupted, line_ended, line_typed, rings, stopped_by, stored, typed_at, typed_one}
 use Rattle.plain_model.specs.Unit.{Effect}
 use Rattle.file_tables.specs.Tables.{files_of, open_of}
 use Rattle.monitor_core.specs.declared.echo.Echo.TheVariants.{Shows, Stops, Ends}
@@ -30,7 +26,7 @@ use Rattle.monitor_core.specs.declared.typing.Typing.{Typing}
 use Rattle.monitor_core.specs.Echoes.{echo_items, told_items}
 use Rattle.monitor_core.specs.Effects.{Has, HasJobAt, job_in, stopped_tree}
 use Rattle.monitor_core.specs.Jobs.{jobs_of, job_at, plain_job}
-use Rattle.monitor_core.specs.Systems.{FitsPages, named, state_of}
+use Rattle.monitor_core.specs.Systems.{named, state_of}
 use Rattle.monitor_core.specs.Typings.{typing_at}
 use Rattle.monitor_core.proofs.Lookups.{job_found, job_missing, jobs_put, jobs_typed}
 use Rattle.monitor_core.proofs.Systems.{change_is}

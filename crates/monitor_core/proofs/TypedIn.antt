@@ -6,7 +6,6 @@ use Rattle.std.specs.Option.{option_map_or}
 use Rattle.machine_names.specs.declared.names.Tty.{Tty}
 use Rattle.script_texts.specs.declared.event.Event.TheVariants.{TypeIn}
 use Rattle.script_texts.specs.declared.event.Item.{Item}
-use Rattle.script_texts.specs.declared.event.Item.TheVariants.{Refusal}
 use Rattle.script_texts.specs.declared.event.Refusal.TheVariants.{NoJob}
 use Rattle.script_texts.specs.declared.event.Step.{Step}
 use Rattle.script_texts.specs.declared.event.Step.TheVariants.{Outer}
@@ -26,7 +25,7 @@ use Rattle.monitor_core.specs.declared.system.System.{System}
 use Rattle.monitor_core.specs.Acts.{Acted, Cut, Given, TookText}
 use Rattle.monitor_core.specs.Giving.{StaysTaker, Takes}
 use Rattle.monitor_core.specs.Jobs.{job_at}
-use Rattle.monitor_core.specs.Machines.{Fits, auto, done, is_live, limit, plain}
+use Rattle.monitor_core.specs.Machines.{Fits, auto, done, is_live, plain}
 use Rattle.monitor_core.specs.Systems.{FitsPages, state_of}
 use Rattle.monitor_core.proofs.Given.{on_err, taker_failed, taker_then, takes_then}
 use Rattle.monitor_core.proofs.GivenParts.{no_ok}

@@ -12,7 +12,7 @@ use Rattle.script_texts.specs.declared.status.ForkStatus.TheVariants.{Run}
 use Rattle.plain_model.specs.declared.fork.TerminalMode.TheVariants.{Command}
 use Rattle.script_texts.specs.declared.event.Step.TheVariants.{Unit as AUnit}
 use Rattle.machine_names.specs.declared.names.ForkName.{ForkName}
-use Rattle.plain_model.specs.Forks.{ForkMap, is_frozen}
+use Rattle.plain_model.specs.Forks.{is_frozen}
 use Rattle.page_contracts.specs.DrumWords.{DrumWords}
 use Rattle.page_contracts.specs.declared.answers.Need.{Need}
 use Rattle.page_contracts.specs.Stores.{IsNeeded}
@@ -24,7 +24,7 @@ use Rattle.fork_tree.proofs.Slots.{some_of}
 use Rattle.fork_calls.specs.Holding.{IsNew}
 use Rattle.fork_calls.specs.Limits.{AreWithin}
 use Rattle.fork_calls.proofs.Holdings.{holds_same}
-use Rattle.fork_calls.proofs.Places.{Keep, keep_itself, waiters_keep}
+use Rattle.fork_calls.proofs.Places.{Keep, keep_itself}
 use Rattle.monitor_core.specs.Limits.{unit_frames}
 use Rattle.monitor_core.specs.declared.job.Job.{Job}
 use Rattle.monitor_core.specs.declared.reply.Reply.TheVariants.{Prints}
@@ -36,7 +36,7 @@ use Rattle.monitor_core.specs.declared.typing.Typing.{Typing}
 use Rattle.monitor_core.specs.declared.units.Units.{Units}
 use Rattle.monitor_core.specs.ForkUnit.{Behind, HasJob, LeavesForks, Tables, UnitWaits, UnitsRan, rest_of}
 use Rattle.monitor_core.specs.Jobs.{AreUnheld, job_at, jobs_left, jobs_of}
-use Rattle.monitor_core.specs.Runners.{woken_where}
+use Rattle.monitor_core.specs.Runners.{told_at, told_where}
 use Rattle.monitor_core.specs.Shown.{FitsShown, FitsStop, is_stop, seen_of, shown_items}
 use Rattle.monitor_core.specs.Sound.{AreSound}
 use Rattle.plain_files.specs.NamedFiles.{AreFiled, pages_named}
@@ -47,6 +47,7 @@ use Rattle.plain_files.specs.OpenFiles.{OpenFiles}
 use Rattle.file_tables.specs.Tables.{files_of, open_of}
 use Rattle.monitor_core.specs.Systems.{DidAll, FitsPages, IsWithin, Waits, named, state_of}
 use Rattle.monitor_core.specs.Writing.{most_makings}
+use Rattle.monitor_core.proofs.Told.{end_keeps}
 use Rattle.monitor_core.proofs.Lookups.{job_found, job_missing, jobs_set}
 use Rattle.monitor_core.proofs.Rows.{Entries, units_as}
 use Rattle.monitor_core.proofs.Sounds.{SameTops, same_tops, same_tops_set}
@@ -85,14 +86,25 @@ tops_left jobs t true low = by (job_at jobs t) refl
     by None none = same_tops jobs jobs refl
     by (Some j) there = same_tops_set jobs t j (record j { mode = Command }) low there refl
 
-seen_fits : (b : Bool) (stop : Stop) → FitsStop stop → FitsStop (cond b GoesOn stop)
+pub seen_fits : (b : Bool) (stop : Stop) → FitsStop stop → FitsStop (cond b GoesOn stop)
 seen_fits true stop fits = tt
 seen_fits false stop fits = fits
 
--- the forks once who waits runs again: each in its place, within its limits
-woken_keeps : (forks : ForkMap) → AreOwn forks → (t : Tty) (stops : Bool) → Keep forks (woken_where forks t stops)
-woken_keeps forks own t true = waiters_keep forks own t
-woken_keeps forks own t false = keep_itself forks own
+-- the forks once it is told that one has ended, where it has stopped: each in its place, within its limits
+told_keeps : (tree : PlainTree) → AreOwn tree.forks → (name : ForkName) (stops : Bool) → Keep tree.forks (told_at tree name stops).forks
+told_keeps tree own name stops = by (fin.get tree.forks name)
+  where
+    where_keeps : (g : Fork) (b : Bool) → Keep tree.forks (told_where tree.forks g b)
+    where_keeps g true = end_keeps tree.forks own g
+    where_keeps g false = keep_itself tree.forks own
+
+    by : (o : Option Fork) → Keep tree.forks (option_map_or (λ g. told_where tree.forks g stops) o tree.forks)
+    by None = keep_itself tree.forks own
+    by (Some g) = where_keeps g stops
+
+-- and which they are
+told_is : (tree : PlainTree) (name : ForkName) (stops : Bool) (g : Fork) → fin.get tree.forks name ≡ Some g → told_at tree name stops ≡ record tree { forks = told_where tree.forks g stops }
+told_is tree name stops g there = ap (λ o. record tree { forks = option_map_or (λ h. told_where tree.forks h stops) o tree.forks }) there
 
 module _ {P : Type 0} {b : _} (m : System P b) (f : Fork) (trees : IsTree m.tree) (lives : Lives m.tree.forks f) where
   low : f.name.tty.0 < TERMINALS
@@ -113,16 +125,13 @@ module _ {P : Type 0} {b : _} (m : System P b) (f : Fork) (trees : IsTree m.tree
   pub unheld_left : (files : FileTables) → AreUnheld (open_of files) m.jobs.items → {jobs' : List (Option Job)} (shown : Shown) → jobs' ≡ jobs_left m.jobs.items f.name.tty.0 (is_stop shown) → AreUnheld (open_of files) jobs'
   unheld_left files unheld shown jobs = subst (AreUnheld (open_of files)) (sym jobs) (unheld_still (open_of files) m.jobs.items (jobs_left m.jobs.items f.name.tty.0 (is_stop shown)) unheld (tops_left m.jobs.items f.name.tty.0 (is_stop shown) within_jobs))
 
-  -- behind units of a fork, and once who waits runs again
-  module _ (q : P) (left tree' : PlainTree) (count : ℕ) (stops : Bool) (leaves : LeavesForks b.means m.pages q m.tree left f count) (left_trees : IsTree left) (woken : tree' ≡ record left { forks = woken_where left.forks f.name.tty stops }) where
+  -- behind units of a fork, and once it is told that it has ended
+  module _ (q : P) (left tree' : PlainTree) (count : ℕ) (leaves : LeavesForks b.means m.pages q m.tree left f count) (left_trees : IsTree left) (keeps : Keep left.forks tree'.forks) where
     left_within : AreWithin left.forks
     left_within g there = elim (leaves.kept g there) [
       | inl came ↦ came.within (m.sound.each_fork came.before came.lived)
       | inr new ↦ new.within
     ]
-
-    keeps : Keep left.forks tree'.forks
-    keeps = subst (λ (x : PlainTree). Keep left.forks x.forks) (sym woken) (woken_keeps left.forks left_trees.slotted.own f.name.tty stops)
 
     -- a fork of a job has no more units
     few_units : (entries : ℕ) → IsWithin m entries → (g : Fork) → Lives tree'.forks g → g.body.units ≤ entries + count
@@ -179,7 +188,13 @@ module _ {P : Type 0} {b : _} (m : System P b) (f : Fork) (trees : IsTree m.tree
   abbrev now : PlainTree → FileTables → List Typing → Tables
   now left files typed = record was { tree = left; files = files; typed = typed }
 
-  module _ (q : P) (left tree' : PlainTree) (files : FileTables) (typed : List Typing) (units : Units) (ran : UnitsRan b.means m.pages q was (now left files typed) f units) (left_trees : IsTree left) (woken : tree' ≡ record left { forks = woken_where left.forks f.name.tty (is_stop units.shown) }) where
+  module _ (q : P) (left tree' : PlainTree) (files : FileTables) (typed : List Typing) (units : Units) (ran : UnitsRan b.means m.pages q was (now left files typed) f units) (left_trees : IsTree left) (told : tree' ≡ told_at left f.name (is_stop units.shown)) where
+    pub left_keeps : Keep left.forks tree'.forks
+    left_keeps = subst (λ (x : PlainTree). Keep left.forks x.forks) (sym told) (told_keeps left left_trees.slotted.own f.name (is_stop units.shown))
+
+    told_so : (d : DrumWords) → b.means.fits m.pages d → tree' ≡ record left { forks = told_where left.forks ran.after (is_stop units.shown) }
+    told_so d fits = told ∙ told_is left f.name (is_stop units.shown) ran.after (ap (fin.get left.forks) (sym ran.keeps.name) ∙ ran.there d fits)
+
     module _ (m' : System P b) (files_are : m'.files ≡ files) (typed_are : m'.typed.items ≡ typed) (pages_are : m'.pages ≡ q) (tree_is : m'.tree ≡ tree') (shown : Shown) (runs : f.body.status ≡ Run) (thawed : is_frozen MOST_FORKS m.tree.forks (Some f) ≡ false)
         (seen : shown ≡ seen_of f.slot units.shown) (jobs : m'.jobs.items ≡ jobs_left m.jobs.items f.name.tty.0 (is_stop shown)) (clock : m'.clock ≡ m.clock) (some : 1 ≤ units.count) where
       module _ (d : DrumWords) (fits : FitsPages m d) where
@@ -191,10 +206,10 @@ module _ {P : Type 0} {b : _} (m : System P b) (f : Fork) (trees : IsTree m.tree
         filed = pages_named m.files.dir (b.means.plain m.pages d).files
 
         can_run : Runs (key_in m.files) filed (state_of m d) f (b.means.plain m.pages d)
-        can_run = record { trees = trees; fork = lives; pages = refl; kept = keyed_named m.files.dir m.files.sound.numbers (file_at m.files.lengths) (b.means.plain m.pages d).files fits.filed; held = held_there was (b.means.plain m.pages d); quiet = refl; off = (m.sound.each_fork f lives).off; runs = runs; thawed = thawed }
+        can_run = record { trees = trees; fork = lives; pages = refl; kept = keyed_named m.files.dir m.files.sound.numbers (file_at m.files.lengths) (b.means.plain m.pages d).files fits.filed; held = held_there was (b.means.plain m.pages d); quiet = refl; runs = runs; thawed = thawed }
 
         entries : Entries (key_in m.files) filed (state_of m d) f (b.means.plain m.pages d) can_run units.count last
-        entries = units_as (key_in m.files) filed (state_of m d) f (b.means.plain m.pages d) can_run units.count last (ran.told d fits.pages).1 (λ stops. record { own = left_trees.slotted.own; within = left_within q left tree' units.count (is_stop units.shown) ran.leaves left_trees woken })
+        entries = units_as (key_in m.files) filed (state_of m d) f (b.means.plain m.pages d) can_run units.count last (ran.told d fits.pages).1
 
         -- the pages of files that are left, under names
         left_named : entries.left ≡ pages_named files.dir (b.means.plain q d).files
@@ -208,7 +223,7 @@ module _ {P : Type 0} {b : _} (m : System P b) (f : Fork) (trees : IsTree m.tree
             let held = open_of files in
             let jobs_are : jobs_of (open_of m'.files) m'.typed.items m'.jobs.items ≡ jobs_seen (jobs_of held typed m.jobs.items) f.name.tty (is_stop (seen_of f.slot units.shown)) =
             (λ i. jobs_of (open_of (files_are i)) (typed_are i) (jobs i)) ∙ jobs_left_seen held typed m.jobs.items f.name.tty (is_stop shown) within_jobs ∙ ap (λ x. jobs_seen (jobs_of held typed m.jobs.items) f.name.tty (is_stop x)) seen in
-            let tree_so = tree_is ∙ woken in
+            let tree_so = tree_is ∙ told_so d fits.pages in
             (λ i. record (state_of m' d) { pages = named (files_are i).dir (b.means.plain (pages_are i) d); files = files_of (files_are i); jobs = jobs_are i; forks = (tree_so i).forks; fork_serials = (tree_so i).serials; clock = clock i })
             ∙ ap (λ (x : NamedFiles). behind_state x (state_of m d) f last) (sym left_named)
 
@@ -228,7 +243,7 @@ module _ {P : Type 0} {b : _} (m : System P b) (f : Fork) (trees : IsTree m.tree
         shown = (low, subst FitsShown (sym seen) (let fits = ran.shown in (fits.0, seen_fits (is_stop units.shown && not (f.slot == 1)) units.shown.stop fits.1)));
         within = λ n w. record {
           ticks = omega (arith, clock, w.ticks);
-          units = λ g there. few_units q left tree' units.count (is_stop units.shown) ran.leaves left_trees woken n w g (ap (λ (x : PlainTree). fin.get x.forks g.name) (sym tree_is) ∙ there);
+          units = λ g there. few_units q left tree' units.count ran.leaves left_trees left_keeps n w g (ap (λ (x : PlainTree). fin.get x.forks g.name) (sym tree_is) ∙ there);
           serials = λ u. subst (λ (x : P). b.means.serial x u ≤ most_makings * (n + units.count) + 1) (sym pages_are) (serials_left n w u);
         };
         most = ap b.means.most pages_are ∙ ran.leaves.made.most;
@@ -243,7 +258,7 @@ module _ {P : Type 0} {b : _} (m : System P b) (f : Fork) (trees : IsTree m.tree
   -- where the first unit needs something first
   module _ (q : P) (left : PlainTree) (files : FileTables) (typed : List Typing) (n : Need) (waits : UnitWaits b.means m.pages q was (now left files typed) f n) (left_trees : IsTree left) where
     pub waits_sound : AreSound b.means q left m.jobs.items
-    waits_sound = units_sound q left left 0 false waits.leaves left_trees refl left_trees m.jobs.items (record { out = None; stop = GoesOn }) refl
+    waits_sound = units_sound q left left 0 waits.leaves left_trees (keep_itself left.forks left_trees.slotted.own) left_trees m.jobs.items (record { out = None; stop = GoesOn }) refl
 
     pub waits_unheld : AreUnheld (open_of files) m.jobs.items
     waits_unheld = subst (λ (x : FileTables). AreUnheld (open_of x) m.jobs.items) (sym waits.told.files) m.unheld
@@ -261,7 +276,7 @@ module _ {P : Type 0} {b : _} (m : System P b) (f : Fork) (trees : IsTree m.tree
           );
       within = λ entries w. record {
         ticks = omega (arith, clock, w.ticks);
-        units = λ g there. omega (arith, few_units q left left 0 false waits.leaves left_trees refl entries w g (ap (λ (x : PlainTree). fin.get x.forks g.name) (sym tree_is) ∙ there));
+        units = λ g there. omega (arith, few_units q left left 0 waits.leaves left_trees (keep_itself left.forks left_trees.slotted.own) entries w g (ap (λ (x : PlainTree). fin.get x.forks g.name) (sym tree_is) ∙ there));
         serials = λ u. subst (λ (x : P). b.means.serial x u ≤ most_makings * entries + 1) (sym pages_are) (serials_still entries w u);
       };
       most = ap b.means.most pages_are ∙ waits.unmade.most;

@@ -3,6 +3,7 @@ use Rattle.std.specs.Prelude.{ℕ, ◌<◌, List, [], ◌∷◌, ◌++◌, codes
 use Rattle.std.specs.List.{flat_map}
 use Rattle.std.specs.FinMap as map
 use Rattle.machine_names.specs.declared.character.TheConstants.{CARRIAGE_RETURN, LINE_END, LINE_FEED, PROMPT}
+use Rattle.machine_names.specs.Bounds.{IsTerminal}
 use Rattle.machine_names.specs.declared.names.Tty.{Tty}
 use Rattle.plain_typing.specs.declared.typed.TheConstants.{BELL}
 use Rattle.script_texts.specs.declared.event.Item.{Item}
@@ -15,7 +16,8 @@ use Rattle.monitor_core.specs.declared.echo.Complaint.TheVariants as complaint
 use Rattle.monitor_core.specs.declared.echo.Told.{Told}
 use Rattle.monitor_core.specs.declared.echo.Told.TheVariants as told
 use Rattle.monitor_core.specs.declared.echo.Echo.{Echo}
-use Rattle.monitor_core.specs.declared.echo.Echo.TheVariants.{Nothing, Shows, Bell, Stops, Ends}
+use Rattle.monitor_core.specs.declared.echo.Echo.TheVariants.{Nothing, Shows, Bell, Stops, Posts, Ends}
+use Rattle.monitor_core.specs.Shown.{FitsStop, stop_items}
 
 -- how it is printed why a command isn't done
 abbrev pub complaint_text : Complaint → List ℕ
@@ -44,9 +46,11 @@ echo_items t Nothing s = []
 echo_items t (Shows code) s = echo t code
 echo_items t Bell s = printed t (BELL ∷ [])
 echo_items t Stops s = printed t stop_text
+echo_items t (Posts u stop) s = stop_items u stop
 echo_items t (Ends told) s = echo t LINE_END ++ told_items t told s
 
 -- the limits of what is shown
 abbrev pub FitsEcho : Echo → Type 0
 FitsEcho (Shows code) = code < 128
+FitsEcho (Posts u stop) = IsTerminal u × FitsStop stop
 FitsEcho other = Unit {0}

@@ -1,5 +1,5 @@
 -- What a unit does to its own fork and the pages and, where it is a call, to the forks, files and JFNs of all jobs, and what it shows; and so many of them in a row.
-use Rattle.std.specs.Prelude.{◌≡◌, ◌⊎◌, true, ℕ, suc, ◌+◌, ◌≤◌, ◌<◌, ◌^◌, List, length, Bool, Option, None, Some, IsSome, if◌then◌else◌}
+use Rattle.std.specs.Prelude.{◌≡◌, ◌⊎◌, true, ℕ, suc, ◌+◌, ◌≤◌, ◌<◌, ◌^◌, List, length, Bool, false, Option, None, Some, IsSome, if◌then◌else◌, ◌==◌}
 use Rattle.std.specs.Option.{option_map, unwrap_or}
 use Rattle.std.specs.Ordering.{nat_cmp}
 use Rattle.std.specs.FinMap as map
@@ -14,21 +14,27 @@ use Rattle.call_turns.specs.declared.answer.Answer.TheVariants as answer
 use Rattle.plain_model.specs.declared.fork.Body.{Body}
 use Rattle.plain_model.specs.declared.fork.Fork.{Fork}
 use Rattle.plain_units.specs.declared.registers.Regs.{Regs}
-use Rattle.script_texts.specs.declared.status.ForkStatus.TheVariants.{Wait as AWait, Halted as AHalted}
+use Rattle.script_texts.specs.declared.status.ForkStatus.TheVariants.{Wait as AWait, Halted as AHalted, Forced as AForced}
 use Rattle.plain_pages.specs.PlainPages.{NumberedPages}
 use Rattle.plain_files.specs.Directory.{Files, IsAbsent}
 use Rattle.plain_files.specs.Sizes.{PlainFile}
 use Rattle.plain_model.specs.FileCalls.{Jobs}
 use Rattle.plain_model.specs.Calls.{behind_call, failed_regs, posted_if, with_error}
+use Rattle.plain_typing.specs.Lines.{InputLine}
+use Rattle.plain_model.specs.declared.call.TheConstants.{KFORK}
+use Rattle.plain_model.specs.InterruptCalls.{living_codes}
 use Rattle.plain_model.specs.Families.{Parts, Turned, call_turned}
 use Rattle.plain_units.specs.Steps.{Planned, done, call, trap, need, stopped as unit_stopped, pages_left}
 use Rattle.plain_units.specs.Units.{unit_on}
 use Rattle.plain_model.specs.Forks.{ForkMap, with_regs, with_status, counted}
-use Rattle.plain_model.specs.Interrupts.{posted, is_panic}
+use Rattle.plain_model.specs.declared.fork.Psi.{Psi}
+use Rattle.plain_model.specs.declared.interrupt.Inspected.{Inspected}
+use Rattle.plain_model.specs.declared.interrupt.Inspected.TheVariants.{Nothing as Nought, Delivers, Forces}
+use Rattle.plain_model.specs.Inspections.{delivered, inspected, inspected_by, is_interrupted, stored_word}
+use Rattle.plain_model.specs.Interrupts.{forces, posted}
 use Rattle.page_contracts.specs.DrumWords.{DrumWords}
 use Rattle.page_contracts.specs.Pages.{PagesMeaning}
 use Rattle.page_contracts.specs.Stores.{StoreMeaning, IsNeeded}
-use Rattle.ka10_unit.specs.Taking.{most_frames}
 use Rattle.plain_model.specs.Trees.{PlainTree}
 use Rattle.ka10_in_place.specs.Once.{After, in_a_row}
 use Rattle.fork_tree.specs.Trees.{Lives}
@@ -60,10 +66,10 @@ pub record Place : Type 0 where
 abbrev pub fork_of : ForkName → Place → Body → Fork
 fork_of name at body = record { name = name; slot = at.slot; superior = at.superior; frozen = at.frozen; body = body }
 
--- what is shown of a channel that is posted to a fork which does not take it: a panic channel forces it
-abbrev pub post_shown : Option ℕ → Shown
-post_shown None = nothing
-post_shown (Some channel) = stands (if is_panic channel then Forced channel else GoesOn)
+-- what is shown of a channel that is posted to a fork with these interrupts: where it forces the fork, that
+abbrev pub post_shown : Psi → Option ℕ → Shown
+post_shown psi None = nothing
+post_shown psi (Some channel) = stands (if forces psi channel then Forced channel else GoesOn)
 
 -- the tables that a unit may change, besides the pages
 pub record Tables : Type 0 where
@@ -103,8 +109,8 @@ pub record HasJob (files : FileTables) (jobs : List (Option Job)) (typed : List 
   pub there : IsSome (job_at jobs t.0)
   pub unheld : AreUnheld (open_of files) jobs
 
--- what is behind a unit: the forks of all jobs with its own, the files and the jobs, that fork, the pages, and what it shows. Who waits
--- for it is not woken yet
+-- what is behind a unit: the forks of all jobs with its own, the files and the jobs, that fork, the pages, and what it shows. Where it
+-- has stopped, nobody is told yet
 pub record Behind : Type 0 where
   pub rest : Rest
   pub fork : Fork
@@ -131,47 +137,71 @@ abbrev pub called_behind : (List ℕ → ℕ) → Rest → Fork → NumberedPage
 called_behind key rest f p number =
     let r = call_turned key (parts_in rest p) f.name f.body.regs number in turn_behind r.parts r.out (unwrap_or r.caller f)
 
--- what is behind a unit of a fork that comes to this
+-- what is behind an instruction of a fork that comes to this
 abbrev pub behind : (List ℕ → ℕ) → Rest → Fork → NumberedPages → Planned nat_cmp ⊥ → Behind
-behind key rest f p (done t e) = left_so rest (counted (posted_if (with_regs f e.regs) e.post)) (pages_left f.name t e) (post_shown e.post)
-behind key rest f p (unit_stopped (trap channel)) = left_so rest (counted (posted f channel)) p (post_shown (Some channel))
+behind key rest f p (done t e) = left_so rest (counted (posted_if (with_regs f e.regs) e.post)) (pages_left f.name t e) (post_shown f.body.psi e.post)
+behind key rest f p (unit_stopped (trap channel)) = left_so rest (counted (posted f channel)) p (post_shown f.body.psi (Some channel))
 behind key rest f p (unit_stopped (need none)) = absurd none
 behind key rest f p (call number) = called_behind key rest f p number
 
+-- what is behind one unit of a fork, its interrupts aside
+abbrev pub behind_instruction : (List ℕ → ℕ) → Rest → Fork → NumberedPages → Behind
+behind_instruction key rest f p = behind key rest f p (unit_on f.name p f.body.regs)
+
+-- what is behind a unit whose inspection made these pages and came to this
+abbrev pub behind_decided : (List ℕ → ℕ) → Rest → Fork → NumberedPages → NumberedPages → Inspected → Behind
+behind_decided key rest f p made Nought = behind_instruction key rest f p
+behind_decided key rest f p made (Delivers d) = left_so rest (counted (delivered f d)) (stored_word made f d) nothing
+behind_decided key rest f p made (Forces channel) = left_so rest (counted (with_status f (AForced channel))) p (stands (Forced channel))
+
+-- what is behind one unit of a fork whose channels are looked at
+abbrev pub behind_interrupted : (List ℕ → ℕ) → Rest → Fork → NumberedPages → Behind
+behind_interrupted key rest f p = let came = inspected f p in behind_decided key rest f p came.pages (inspected_by came.end)
+
 -- what is behind one unit of a fork
 abbrev pub behind_unit : (List ℕ → ℕ) → Rest → Fork → NumberedPages → Behind
-behind_unit key rest f p = behind key rest f p (unit_on f.name p f.body.regs)
+behind_unit key rest f p = if is_interrupted f.body.psi then behind_interrupted key rest f p else behind_instruction key rest f p
 
 -- a fork behind so many units that left these registers
 abbrev pub ran_on : Fork → ℕ → Regs → Fork
 ran_on f n regs = record f { body = record f.body { regs = regs; units = f.body.units + n } }
 
--- so many units of a fork in a row: all but the last post nothing and show nothing, and the last leaves and shows this
+-- so many units of a fork in a row: all but the last are instructions that post nothing and show nothing, and the last leaves and shows this
 pub record RanUnits (key : List ℕ → ℕ) (rest : Rest) (f : Fork) (p : NumberedPages) (count : ℕ) (last : Behind) : Type 0 where
   pub before : ℕ
   pub counts : count ≡ suc before
   pub after : After nat_cmp
   pub row : in_a_row f.name before p f.body.regs ≡ Some after
+  pub alone : 1 ≤ before → is_interrupted f.body.psi ≡ false
   pub ends : behind_unit key (put_in rest (ran_on f before after.regs)) (ran_on f before after.regs) after.pages ≡ last
 
--- so many units in a row that post nothing and show nothing
+-- so many units in a row that are instructions, post nothing and show nothing
 pub record RanUpTo (f : Fork) (p : NumberedPages) (count : ℕ) (g : Fork) (q : NumberedPages) : Type 0 where
   pub after : After nat_cmp
   pub row : in_a_row f.name count p f.body.regs ≡ Some after
+  pub alone : 1 ≤ count → is_interrupted f.body.psi ≡ false
   pub fork : ran_on f count after.regs ≡ g
   pub pages : after.pages ≡ q
+
+-- what is behind a unit of one kind of a fork
+abbrev pub Leaving : Type 0
+Leaving = (List ℕ → ℕ) → Rest → Fork → NumberedPages → Behind
+
+-- such a unit is a monitor call
+abbrev pub IsCall : Leaving → Fork → NumberedPages → ℕ → Type 0
+IsCall leaving f p number = (key : List ℕ → ℕ) (rest : Rest) → leaving key rest f p ≡ called_behind key rest f p number
 
 -- units in a row, by their last; behind the others a monitor call is still to be made, and a unit that needs something first is not begun
 abbrev pub IsRow : Fork → NumberedPages → ℕ → Fork → NumberedPages → Last → Type 0
 IsRow f p count g q (Shows shown) = (key : List ℕ → ℕ) (rest : Rest) → RanUnits key rest f p count (left_so rest g q shown)
-IsRow f p count g q (Calls number) = RanUpTo f p count g q × (unit_on f.name q g.body.regs ≡ call number)
+IsRow f p count g q (Calls number) = RanUpTo f p count g q × IsCall behind_unit g q number
 IsRow f p count g q (Needs n) = RanUpTo f p count g q
 
--- one unit, which is over, or is a call that is still to be made, or needs something first
-abbrev pub IsOne : Fork → NumberedPages → Fork → NumberedPages → Last → Type 0
-IsOne f p g q (Shows shown) = (key : List ℕ → ℕ) (rest : Rest) → behind_unit key rest f p ≡ left_so rest g q shown
-IsOne f p g q (Calls number) = (f ≡ g) × (p ≡ q) × (unit_on f.name q g.body.regs ≡ call number)
-IsOne f p g q (Needs n) = (f ≡ g) × (p ≡ q)
+-- one unit of a kind, which is over, or is a call that is still to be made, or needs something first
+abbrev pub IsOne : Leaving → Fork → NumberedPages → Fork → NumberedPages → Last → Type 0
+IsOne leaving f p g q (Shows shown) = (key : List ℕ → ℕ) (rest : Rest) → leaving key rest f p ≡ left_so rest g q shown
+IsOne leaving f p g q (Calls number) = (f ≡ g) × (p ≡ q) × IsCall leaving g q number
+IsOne leaving f p g q (Needs n) = (f ≡ g) × (p ≡ q)
 
 -- how many units a last one is: one that is still to be made is none
 abbrev pub units_over : Last → ℕ
@@ -193,7 +223,7 @@ FitsLast (Needs n) = Unit {0}
 
 -- what it needs first is so, over whatever drum
 abbrev pub LastNeeds : {P : Type 0} → StoreMeaning P → P → Last → Type 0
-LastNeeds store p (Needs n) = IsNeeded store most_frames p n
+LastNeeds store p (Needs n) = IsNeeded store unit_frames p n
 LastNeeds store p last = Unit {0}
 
 -- it needs nothing first
@@ -213,14 +243,13 @@ pub record Kept (f g : Fork) (count : ℕ) : Type 0 where
   pub slot : g.slot ≡ f.slot
   pub superior : g.superior ≡ f.superior
   pub status : FitsForced f.body.status → FitsForced g.body.status
-  pub on : g.body.psi.on ≡ f.body.psi.on
   pub pc : g.body.regs.pc < 2 ^ 18
   pub accumulators : length g.body.regs.ac ≡ ACCUMULATORS
   pub units : g.body.units ≡ f.body.units + count
 
--- one unit of a fork ran, over each drum that fits, or is a call, or needs something first
-pub record RanOne {P : Type 0} (means : PagesMeaning P) (old new : P) (f g : Fork) (last : Last) : Type 0 where
-  pub told : (d : DrumWords) → means.fits old d → means.fits new d × IsOne f (means.plain old d) g (means.plain new d) last
+-- one unit of a kind ran, over each drum that fits, or is a call, or needs something first
+pub record RanOne {P : Type 0} (leaving : Leaving) (means : PagesMeaning P) (old new : P) (f g : Fork) (last : Last) : Type 0 where
+  pub told : (d : DrumWords) → means.fits old d → means.fits new d × IsOne leaving f (means.plain old d) g (means.plain new d) last
   pub keeps : Kept f g (units_over last)
   pub made : Makes means old new f.name.tty (makings_of last)
   pub fits : FitsLast last
@@ -254,6 +283,12 @@ out_in other = None
 -- what is behind a turn that leaves these forks and pages, with this answer
 abbrev pub answered_turn : Parts nat_cmp → ForkName → Answer → Turned nat_cmp
 answered_turn v who a = record { parts = v; caller = option_map (λ f. answered f a) (map.get v.tree.forks who); out = out_in a }
+
+-- a line behind a turn of a fork call that has answered so: where it has killed forks, of the codes those stay that forks have assigned
+-- which live
+abbrev pub line_behind : ℕ → Answer → ForkMap → InputLine → InputLine
+line_behind number (answer.After regs out post) forks line = if number == KFORK then record line { codes = living_codes forks line.codes } else line
+line_behind number other forks line = line
 
 -- a turn of a call that has answered so left these parts; one that needs something first left all as it was
 abbrev pub TurnedSo : (List ℕ → ℕ) → Parts nat_cmp → Parts nat_cmp → ForkName → Regs → ℕ → Answer → Type 0
@@ -290,6 +325,7 @@ pub record LeavesForks {P : Type 0} (means : PagesMeaning P) (old new : P) (tree
 -- a call of a fork was made, over each drum that fits, and showed this
 pub record Called {P : Type 0} (means : PagesMeaning P) (old new : P) (was is : Tables) (f : Fork) (number : ℕ) (shown : Shown) : Type 0 where
   pub after : Fork
+  pub there : Lives is.tree.forks after
   pub told : (d : DrumWords) → means.fits old d
       → means.fits new d × (called_behind (key_in was.files) (rest_of was) f (means.plain old d) number ≡ record { rest = rest_of is; fork = after; pages = means.plain new d; shown = shown })
   pub numbers : (d : DrumWords) → means.fits old d → NumbersStay was.files.dir is.files.dir
@@ -322,6 +358,7 @@ pub record UnitWaits {P : Type 0} (means : PagesMeaning P) (old new : P) (was is
 -- units of a fork of a tree ran in a row, over each drum that fits: so many, and the last showed this
 pub record UnitsRan {P : Type 0} (means : PagesMeaning P) (old new : P) (was is : Tables) (f : Fork) (units : Units) : Type 0 where
   pub after : Fork
+  pub there : (d : DrumWords) → means.fits old d → Lives is.tree.forks after
   pub told : (d : DrumWords) → means.fits old d
       → means.fits new d × RanUnits (key_in was.files) (rest_of was) f (means.plain old d) units.count (record { rest = rest_of is; fork = after; pages = means.plain new d; shown = units.shown })
   pub numbers : (d : DrumWords) → means.fits old d → NumbersStay was.files.dir is.files.dir

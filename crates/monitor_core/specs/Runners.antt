@@ -1,11 +1,14 @@
 -- Forks of a tree that can run, as the machine chooses them.
 use Rattle.std.specs.Prelude.{◌≡◌, ℕ, ◌≤◌, Bool, if◌then◌else◌}
+use Rattle.std.specs.FinMap as map
+use Rattle.std.specs.Option.{option_map_or}
+use Rattle.machine_names.specs.declared.names.ForkName.{ForkName}
 use Rattle.machine_names.specs.declared.names.Tty.{Tty}
 use Rattle.machine_names.specs.declared.names.TheConstants.{MOST_FORKS}
 use Rattle.plain_model.specs.declared.fork.Fork.{Fork}
 use Rattle.machine_names.specs.Bounds.{IsTerminal}
 use Rattle.plain_model.specs.Forks.{ForkMap, IsRunnable}
-use Rattle.plain_model.specs.Trees.{waiters_woken, PlainTree}
+use Rattle.plain_model.specs.Trees.{PlainTree, end_told}
 use Rattle.fork_tree.specs.Trees.{IsIn, IsTree}
 use Rattle.monitor_core.specs.declared.runner.Runner.{Runner}
 
@@ -23,6 +26,10 @@ pub record IsSlot (t : Tty) (slot : ℕ) : Type 0 where
   pub first : 1 ≤ slot
   pub last : slot ≤ MOST_FORKS
 
--- the forks once who waits for one of a job runs again, where one has stopped
-abbrev pub woken_where : ForkMap → Tty → Bool → ForkMap
-woken_where forks t stops = if stops then waiters_woken forks t else forks
+-- the forks once it is told that one of them has ended, where it has stopped
+abbrev pub told_where : ForkMap → Fork → Bool → ForkMap
+told_where forks f stops = if stops then end_told forks f else forks
+
+-- so of the fork of a name
+abbrev pub told_at : PlainTree → ForkName → Bool → PlainTree
+told_at tree name stops = record tree { forks = option_map_or (λ f. told_where tree.forks f stops) (map.get tree.forks name) tree.forks }

@@ -1,5 +1,5 @@
 // Monitor calls by their numbers.
-ghost use Rattle.std.specs.Prelude.{◌≡◌, ◌<◌, ◌%◌, ◌^◌, IfErr, IfOk, IsOk, IsSome, None, Some, false, length, slice_index, true};
+ghost use Rattle.std.specs.Prelude.{◌≡◌, ◌<◌, ◌%◌, ◌^◌, IfErr, IfOk, IsOk, IsSome, None, Some, length, slice_index, true};
 ghost use Rattle.std.specs.FinMap as map;
 ghost use Rattle.machine_names.specs.declared.names.TheConstants.{ACCUMULATORS, TERMINALS};
 ghost use Rattle.file_tables.specs.Tables.{open_of};
@@ -16,12 +16,16 @@ ghost use Rattle.call_turns.specs.Answers.{AnswerNeeds, IsDone, answer_of};
 ghost use Rattle.call_turns.specs.Turns.{IsRegs};
 ghost use Rattle.fork_calls.specs.Holding.{CallLeaves, Holds, MakesPages};
 ghost use Rattle.fork_calls.specs.Limits.{AreWithin};
-ghost use Rattle.fork_calls.specs.Turning.{HasRegs};
+ghost use Rattle.plain_model.specs.ForkCalls.{fork_call};
+ghost use Rattle.fork_calls.specs.Asking.{asked};
+ghost use Rattle.fork_calls.specs.Needing.{call_frames};
+ghost use Rattle.fork_calls.specs.Turning.{HasRegs, Turned as ForksTurned};
+ghost use Rattle.fork_tree.specs.Trees.{IsTree};
 ghost use Rattle.monitor_core.specs.Limits.{unit_frames};
 ghost use Rattle.monitor_core.specs.Shown.{shown_of};
 ghost use Rattle.monitor_core.specs.Jobs.{AreUnheld};
 ghost use Rattle.monitor_core.specs.Writing.{most_makings};
-ghost use Rattle.monitor_core.specs.ForkUnit.{CallWaits, Called, HasJob, Place as APlace, Turns, answered as answered_of, fork_of, out_in, tables_in};
+ghost use Rattle.monitor_core.specs.ForkUnit.{CallWaits, Called, HasJob, Place as APlace, Turns, answered as answered_of, fork_of, line_behind, out_in, tables_in};
 
 use crate::job::Job;
 use crate::runner::Runner;
@@ -37,12 +41,14 @@ use fork_tree::Tree;
 use machine_names::ForkName;
 use page_contracts::{Need, Pages};
 use plain_model::Body;
-use plain_model::call::PBOUT;
+use plain_model::call::{KFORK, PBOUT};
 use plain_units::Regs;
 use plain_units::channel::ILLEGAL_INSTRUCTION;
 use pmap_calls::is_map_call;
+use psi_calls::{forget_lost, is_psi_call};
 use script_texts::ForkStatus;
 use string_io::is_string_call;
+use tty_lines::Line;
 use word36::Word;
 
 // Whether a number is that of a call that prints.
@@ -82,6 +88,40 @@ fn print_call(number: u32, regs: &Regs) -> Answer
     Answer::Trap(ILLEGAL_INSTRUCTION)
 }
 
+// A turn of a fork call. Where it has killed forks, the codes that they have assigned are assigned to nothing.
+fn fork_turn<P: Pages>(
+    number: u32,
+    regs: &Regs,
+    who: ForkName,
+    tree: &mut Tree,
+    line: &mut Line,
+    pages: &mut P,
+) -> Answer
+    requires regs { IsRegs regs.now }
+    requires lives { IsSome (map.get tree.old.forks who) }
+    requires holds { Holds P.means pages.old tree.old.forks }
+    requires within { AreWithin tree.old.forks }
+    requires serial { P.means.serial pages.old who.tty < 2 ^ 62 }
+    ensures told { ForksTurned P.means pages.old pages.new tree.old tree.new result (fork_call number (asked who regs.now tree.old)) }
+    ensures line { line.new ≡ line_behind number result tree.new.forks line.old }
+    ensures input { line.new.input ≡ line.old.input }
+    ensures trees { IsTree tree.old }
+    ensures needs { AnswerNeeds P.means.store call_frames pages.new result }
+    ensures core { P.means.flat ≡ true → IsDone result }
+    ensures unmade { (n : ANeed) → result ≡ Answer.Need n → MakesPages P.means who.tty 0 pages.old pages.new }
+    ensures leaves { CallLeaves P.means pages.old pages.new tree.old tree.new who 128 }
+    ensures regs { HasRegs result }
+{
+    tree.are_trees();
+    let answer = fork_calls::call(number, regs, who, tree, pages);
+    if let Answer::After { .. } = &answer {
+        if number == KFORK {
+            forget_lost(line, tree);
+        }
+    }
+    answer
+}
+
 // A turn of a monitor call, by its number: of the first family of calls that has the number. A number that is no call traps. One that
 // needs something first leaves all as it was.
 fn turn<P: Pages>(
@@ -115,7 +155,12 @@ fn turn<P: Pages>(
         return print_call(number, regs);
     }
     if is_fork_call(number) {
-        return fork_calls::call(number, regs, who, tree, pages);
+        let assigned = &mut typed[who.tty.0 as usize].input;
+        return fork_turn(number, regs, who, tree, assigned, pages);
+    }
+    if is_psi_call(number) {
+        let codes = &mut typed[who.tty.0 as usize].input;
+        return psi_calls::call(number, regs, who, tree, codes, pages);
     }
     if is_map_call(number) {
         return pmap_calls::call(number, regs, who, tree, files, pages);
@@ -166,7 +211,6 @@ fn fail(body: &mut Body, code: u32)
 
 // A channel is posted, if one is.
 fn post_if(body: &mut Body, channel: Option<u8>)
-    requires { body.old.psi.on ≡ false }
     ensures fork { (f : AFork) → with_body body.new f ≡ posted_if (with_body body.old f) channel }
     ensures units { body.new.units ≡ body.old.units }
 {
@@ -178,7 +222,6 @@ fn post_if(body: &mut Body, channel: Option<u8>)
 // A fork is as a turn of its call leaves it that has answered so, but for its count of units: one that is refused leaves its error, and
 // traps where it has one return; who waits stays on the call. What it prints.
 fn left(body: &mut Body, answer: Answer) -> Option<u8>
-    requires off { body.old.psi.on ≡ false }
     requires pc { body.old.regs.pc < 2 ^ 18 }
     requires accumulators { length body.old.regs.ac ≡ ACCUMULATORS }
     requires done { IsDone answer }
@@ -219,7 +262,6 @@ fn left(body: &mut Body, answer: Answer) -> Option<u8>
 
 // A turn of a call is over that has answered so.
 fn answered(body: &mut Body, answer: Answer) -> Shown
-    requires off { body.old.psi.on ≡ false }
     requires few { body.old.units < 2 ^ 63 }
     requires pc { body.old.regs.pc < 2 ^ 18 }
     requires accumulators { length body.old.regs.ac ≡ ACCUMULATORS }

@@ -2,7 +2,8 @@
 ghost use Rattle.std.specs.Prelude.{◌≡◌};
 ghost use Rattle.monitor_core.specs.Echoes.{complaint_text};
 
-use machine_names::DirName;
+use crate::shown::Stop;
+use machine_names::{DirName, Tty};
 
 /// Why a command isn't done.
 #[derive(Clone, Copy, PartialEq, Eq)]
@@ -57,6 +58,8 @@ pub enum Echo {
     Bell,
     /// Control-C, and the prompt.
     Stops,
+    /// How the terminal of a fork shows that it stands, to which a channel was posted: the character is one that it has assigned.
+    Posts(Tty, Stop),
     /// The end of a line, and what its command prints.
     Ends(Told),
 }

@@ -48,8 +48,8 @@ pub fn give_code<T: Taker>(out: &mut T, t: Tty, code: u8) -> Result<(), Failed>
     }
 }
 
-// Gives what a top fork prints that stands so.
-fn give_stop<T: Taker>(out: &mut T, t: Tty, stop: Stop) -> Result<(), Failed>
+/// Gives what a top fork prints that stands so.
+pub fn give_stop<T: Taker>(out: &mut T, t: Tty, stop: Stop) -> Result<(), Failed>
     requires terminal { IsTerminal t }
     requires fits { FitsStop stop }
     ensures { TookItems T.fault_count T.onward T.stands T.cut out.old out.new result (λ d. stop_items t stop) }

@@ -60,10 +60,10 @@ impl Job {
     }
 }
 
-// How a terminal shows that the fork in a slot of its job stands. Where the top fork stops, the monitor reads the terminal;
-// any other fork stops without a word.
+/// How a terminal shows that the fork in a slot of its job stands. Where the top fork stops, the monitor reads the terminal;
+/// any other fork stops without a word.
 #[inline]
-fn seen_stop(jobs: &mut Vec<Option<Job>>, t: Tty, slot: u8, stop: Stop) -> Stop
+pub fn seen_stop(jobs: &mut Vec<Option<Job>>, t: Tty, slot: u8, stop: Stop) -> Stop
     requires terminal { IsTerminal t }
     requires room { length jobs.old.items ≡ TERMINALS }
     ensures stop { result ≡ seen_stop slot stop }

@@ -1,26 +1,29 @@
 // Units of one fork, as far as they concern its body and its pages.
-ghost use Rattle.std.specs.Prelude.{◌≡◌, ◌<◌, ◌+◌, ◌^◌, if◌then◌else◌, true, false, Some};
+ghost use Rattle.std.specs.Prelude.{◌≡◌, ◌<◌, ◌+◌, ◌^◌, if◌then◌else◌, Some};
 ghost use Rattle.plain_model.specs.declared.fork.Fork.{Fork as AFork};
-ghost use Rattle.plain_model.specs.Forks.{counted};
-ghost use Rattle.plain_model.specs.Interrupts.{posted, is_panic};
+ghost use Rattle.plain_model.specs.declared.fork.Psi.{Psi as APsi};
+ghost use Rattle.plain_model.specs.Forks.{counted, with_status};
+ghost use Rattle.plain_model.specs.Interrupts.{forces, posted};
+ghost use Rattle.script_texts.specs.declared.status.ForkStatus.{ForkStatus as AForkStatus};
 ghost use Rattle.plain_model.specs.Calls.{posted_if};
-ghost use Rattle.ka10_deeds.specs.Done.{channel_of};
+ghost use Rattle.ka10_deeds.specs.Done.{channel_of as posted_by};
 ghost use Rattle.ka10_unit.specs.Gathers.{Serves};
 ghost use Rattle.plain_model.specs.Trees.{with_body};
 ghost use Rattle.monitor_core.specs.Limits.{CanUnit};
-ghost use Rattle.monitor_core.specs.Shown.{FitsShown, FitsStop};
-ghost use Rattle.monitor_core.specs.ForkUnit.{HasRoom, Place as APlace, Ran, RanOne, fork_of, post_shown, units_over};
+ghost use Rattle.monitor_core.specs.Shown.{FitsShown, FitsStop, stands};
+ghost use Rattle.monitor_core.specs.ForkUnit.{HasRoom, Place as APlace, Ran, RanOne, behind_instruction, behind_interrupted, fork_of, post_shown, units_over};
 
 use crate::shown::{Shown, Stop};
+use fork_tree::post;
 use ka10_deeds::Post;
 use ka10_in_place::{BurstEnd, burst};
-use ka10_unit::{Outcome, Taken, slow_unit};
+use ka10_unit::{Outcome, Stop as Stopped, Taken, slow_unit};
 use machine_names::ForkName;
 use page_contracts::{Need, Pages};
 use plain_model::Body;
-use plain_units::channel::{
-    DENIED_EXECUTE, DRUM_FULL, ILLEGAL_INSTRUCTION, OVERFLOW, PUSHDOWN_OVERFLOW,
-};
+use plain_model::interrupt::{CHANNELS, Inspected};
+use plain_units::channel::{OVERFLOW, PUSHDOWN_OVERFLOW};
+use psi_system::{deliver, inspect, is_interrupted};
 use script_texts::ForkStatus;
 
 /// The last of units in a row.
@@ -41,61 +44,52 @@ pub struct Row {
     pub last: Last,
 }
 
-// Whether a channel is a panic channel.
-fn is_panic(channel: u8) -> bool
-    ensures { result ≡ is_panic channel }
+/// The channel that a number stands for: the last, for each number behind it, as the bits of a word have it. No unit posts such a
+/// number, but no contract says so.
+pub fn channel_of(number: u8) -> u8
+    ensures low { result < CHANNELS }
+    ensures is { number < CHANNELS → result ≡ number }
+    ensures posts { (f : AFork) → posted f result ≡ posted f number }
+    ensures forces { (psi : APsi) → forces psi result ≡ forces psi number }
 {
-    match channel {
-        PUSHDOWN_OVERFLOW | DRUM_FULL => true,
-        _ => (ILLEGAL_INSTRUCTION..=DENIED_EXECUTE).contains(&channel),
+    if number < CHANNELS {
+        number
+    } else {
+        CHANNELS - 1
     }
 }
 
-// How a channel leaves a fork that takes none: a panic channel forces it.
-fn stop_by(channel: u8) -> Stop
-    ensures stop { result ≡ (if is_panic channel then Stop.Forced channel else Stop.GoesOn) }
+/// A channel is posted to a fork. How it stands then, where it ran: one that the channel forces has stopped.
+pub fn post_channel(body: &mut Body, channel: u8) -> Stop
+    ensures fork { (f : AFork) → with_body body.new f ≡ posted (with_body body.old f) channel }
+    ensures stop { result ≡ (if forces body.old.psi channel then Stop.Forced channel else Stop.GoesOn) }
     ensures fits { FitsStop result }
+    ensures units { body.new.units ≡ body.old.units }
 {
-    if is_panic(channel) {
+    if post(body, channel_of(channel)) {
         Stop::Forced(channel)
     } else {
         Stop::GoesOn
     }
 }
 
-/// A channel is posted to a fork which takes none: a panic channel forces it, and another is dropped.
-pub fn post_channel(body: &mut Body, channel: u8)
-    requires { body.old.psi.on ≡ false }
-    ensures fork { (f : AFork) → with_body body.new f ≡ posted (with_body body.old f) channel }
-    ensures units { body.new.units ≡ body.old.units }
-{
-    if is_panic(channel) {
-        body.status = ForkStatus::Forced(channel);
-    }
-}
-
-// A unit is over that posts a channel to its fork, which takes none.
+// A unit is over that posts a channel to its fork.
 fn posted(body: &mut Body, channel: u8) -> Shown
-    requires off { body.old.psi.on ≡ false }
     requires few { body.old.units < 2 ^ 63 }
     ensures fork { (f : AFork) → with_body body.new f ≡ counted (posted (with_body body.old f) channel) }
-    ensures shown { result ≡ post_shown (Some channel) }
+    ensures shown { result ≡ post_shown body.old.psi (Some channel) }
     ensures fits { FitsShown result }
 {
-    post_channel(body, channel);
+    let stop = post_channel(body, channel);
     body.units += 1;
-    Shown {
-        out: None,
-        stop: stop_by(channel),
-    }
+    Shown { out: None, stop }
 }
 
 // A unit is done that posts a channel, if it does.
 fn ended(body: &mut Body, post: Post) -> Shown
-    requires off { body.old.psi.on ≡ false }
     requires few { body.old.units < 2 ^ 63 }
-    ensures fork { (f : AFork) → with_body body.new f ≡ counted (posted_if (with_body body.old f) (channel_of post)) }
-    ensures shown { result ≡ post_shown (channel_of post) }
+    ensures fork { (f : AFork) → with_body body.new f ≡ counted (posted_if (with_body body.old f) (posted_by post)) }
+    ensures shown { result ≡ post_shown body.old.psi (posted_by post) }
     ensures fits { FitsShown result }
 {
     match post {
@@ -108,13 +102,13 @@ fn ended(body: &mut Body, post: Post) -> Shown
     }
 }
 
-// One unit of a fork, whatever it wants.
+// One unit of a fork, its interrupts aside, whatever it wants.
 fn one_unit<P: Pages>(body: &mut Body, fork: ForkName, pages: &mut P, taken: &mut Taken) -> Last
     requires can { CanUnit body.old }
     requires few { body.old.units < 2 ^ 63 }
     requires serves { Serves P.means pages.old fork }
     requires serial { P.means.serial pages.old fork.tty < 2 ^ 61 }
-    ensures { (at : APlace) → RanOne P.means pages.old pages.new (fork_of fork at body.old) (fork_of fork at body.new) result }
+    ensures { (at : APlace) → RanOne behind_instruction P.means pages.old pages.new (fork_of fork at body.old) (fork_of fork at body.new) result }
 {
     match slow_unit(taken, &mut body.regs, pages, fork) {
         Outcome::Done(post) => Last::Shows(ended(body, post)),
@@ -124,23 +118,53 @@ fn one_unit<P: Pages>(body: &mut Body, fork: ForkName, pages: &mut P, taken: &mu
     }
 }
 
-// The one unit behind units in a row.
-fn one_more<P: Pages>(
-    body: &mut Body,
-    fork: ForkName,
-    pages: &mut P,
-    taken: &mut Taken,
-    before: u32,
-) -> Row
+// A fork is forced by a channel, which is its whole unit.
+fn forced(body: &mut Body, channel: u8) -> Last
+    requires few { body.old.units < 2 ^ 63 }
+    requires channel { channel < CHANNELS }
+    ensures fork { (f : AFork) → with_body body.new f ≡ counted (with_status (with_body body.old f) (AForkStatus.Forced channel)) }
+    ensures last { result ≡ Last.Shows (stands (Stop.Forced channel)) }
+{
+    body.status = ForkStatus::Forced(channel);
+    body.units += 1;
+    Last::Shows(Shown {
+        out: None,
+        stop: Stop::Forced(channel),
+    })
+}
+
+// One unit of a fork whose channels are looked at: one is delivered, or the fork is forced; or none can be taken now, and it goes on
+// where it stands.
+fn interrupted<P: Pages>(body: &mut Body, fork: ForkName, pages: &mut P, taken: &mut Taken) -> Last
     requires can { CanUnit body.old }
     requires few { body.old.units < 2 ^ 63 }
     requires serves { Serves P.means pages.old fork }
     requires serial { P.means.serial pages.old fork.tty < 2 ^ 61 }
-    requires room { before + 1 < 2 ^ 32 }
-    ensures one { (at : APlace) → RanOne P.means pages.old pages.new (fork_of fork at body.old) (fork_of fork at body.new) result.last }
-    ensures count { result.count ≡ before + units_over result.last }
+    ensures { (at : APlace) → RanOne behind_interrupted P.means pages.old pages.new (fork_of fork at body.old) (fork_of fork at body.new) result }
 {
-    let last = one_unit(body, fork, pages, taken);
+    match inspect(body, fork, pages) {
+        Err(why) => match why {
+            Stopped::Need(need) => Last::Needs(need),
+            Stopped::Trap(channel) => forced(body, channel),
+        },
+        Ok(seen) => match seen.what {
+            Inspected::Nothing => one_unit(body, fork, pages, taken),
+            Inspected::Forces(channel) => forced(body, channel),
+            Inspected::Delivers(delivery) => {
+                deliver(body, fork, &delivery, &seen.reader, pages);
+                body.units += 1;
+                Last::Shows(Shown::NOTHING)
+            }
+        },
+    }
+}
+
+// So many units, and a last one behind them.
+fn row_of(before: u32, last: Last) -> Row
+    requires { before + 1 < 2 ^ 32 }
+    ensures last { result.last ≡ last }
+    ensures count { result.count ≡ before + units_over last }
+{
     let over = match last {
         Last::Shows(_) => 1,
         Last::Calls(_) | Last::Needs(_) => 0,
@@ -152,7 +176,8 @@ fn one_more<P: Pages>(
 }
 
 /// Units of a fork in a row, as many as this at most: as many as go in place and post nothing, and the one behind
-/// them, where there is room for it. A monitor call is left to be made, and so is a unit that needs something first.
+/// them, where there is room for it; but one alone where the fork looks at its channels first. A monitor call is left to be made, and so is
+/// a unit that needs something first.
 #[inline]
 pub fn run_units<P: Pages>(
     body: &mut Body,
@@ -169,6 +194,10 @@ pub fn run_units<P: Pages>(
     ensures ran { (at : APlace) → Ran P.means pages.old pages.new (fork_of fork at body.old) (fork_of fork at body.new) result }
     ensures room { HasRoom most result.count result.last }
 {
+    if is_interrupted(&body.psi) {
+        let last = interrupted(body, fork, pages, taken);
+        return row_of(0, last);
+    }
     let space = pages.space(fork);
     let burst = burst(&mut body.regs, pages, space, most);
     body.units += u64::from(burst.units);
@@ -185,6 +214,9 @@ pub fn run_units<P: Pages>(
             count: burst.units + 1,
             last: Last::Shows(ended(body, Post::Pushdown)),
         },
-        BurstEnd::Slow => one_more(body, fork, pages, taken, burst.units),
+        BurstEnd::Slow => {
+            let last = one_unit(body, fork, pages, taken);
+            row_of(burst.units, last)
+        }
     }
 }

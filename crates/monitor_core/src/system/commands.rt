@@ -14,9 +14,10 @@ use machine_names::{FileName, Tty};
 use page_contracts::Pages;
 use plain_model::TerminalMode;
 use plain_typing::Command;
+use psi_calls::forget_lost;
 
 impl<P: Pages> System<P> {
-    // RUN: the program in a file is run.
+    // RUN: the program in a file is run. Of the codes that forks of the job have assigned, those of the top fork stay.
     fn run_program(&mut self, t: Tty, job: Job, name: &FileName) -> Told
         requires terminal { IsTerminal t }
         requires job { HasJobAt self.old t job }
@@ -36,6 +37,7 @@ impl<P: Pages> System<P> {
                     top: job.top,
                     start: Some(word),
                 });
+                forget_lost(&mut self.typed[t.0 as usize].input, &self.tree);
                 Told::Nothing
             }
             Err(_) => Told::Refused(Complaint::NoProgram),

@@ -13,7 +13,7 @@ ghost use Rattle.monitor_core.specs.Giving.{TookItems};
 ghost use Rattle.monitor_core.specs.Systems.{state_of};
 
 use crate::echo::{Complaint, Echo, Told};
-use crate::giving::{give_code, give_text};
+use crate::giving::{give_code, give_stop, give_text};
 use crate::system::System;
 use job_commands::{file_part, next_listed};
 use machine_names::character::LINE_END;
@@ -84,6 +84,7 @@ impl<P: Pages> System<P> {
             Echo::Shows(code) => give_code(out, t, code),
             Echo::Bell => give_text(out, t, b"\x07"),
             Echo::Stops => give_text(out, t, b"^C\r\n@"),
+            Echo::Posts(t, stop) => give_stop(out, t, stop),
             Echo::Ends(told) => {
                 give_code(out, t, LINE_END)?;
                 self.give_told(t, told, out)

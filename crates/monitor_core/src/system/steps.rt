@@ -6,7 +6,7 @@ ghost use Rattle.script_texts.specs.declared.event.Step.{Step as AStep};
 ghost use Rattle.monitor_core.specs.declared.reply.Reply.{Reply as AReply};
 ghost use Rattle.monitor_core.specs.Effects.{IsAtOnce};
 ghost use Rattle.monitor_core.specs.Replies.{reply_of};
-ghost use Rattle.monitor_core.specs.Runners.{IsRunner, woken_where};
+ghost use Rattle.monitor_core.specs.Runners.{IsRunner, told_at};
 ghost use Rattle.monitor_core.specs.Systems.{CanDo, Did, DidAll, IsWithin, Waits};
 
 use crate::job::seen;
@@ -16,23 +16,23 @@ use crate::runner::Runner;
 use crate::system::System;
 use crate::units::{Units, units_of};
 use fork_tree::Tree;
-use machine_names::Tty;
+use machine_names::ForkName;
 use page_contracts::{Need, Pages};
 use script_texts::{Event, Item, Refusal};
 
-// Who waits for a fork of a job runs again, where one has stopped.
+// Whoever is to hear that a fork has ended is told, where it has stopped.
 #[inline]
-fn wake_where(tree: &mut Tree, t: Tty, stops: bool)
-    ensures { tree.new ≡ record tree.old { forks = woken_where tree.old.forks t stops } }
+fn tell_where(tree: &mut Tree, who: ForkName, stops: bool)
+    ensures { tree.new ≡ told_at tree.old who stops }
 {
     if stops {
-        tree.wake_waiters(t);
+        tree.tell_end(who);
     }
 }
 
 impl<P: Pages> System<P> {
     /// Units of a fork that can run, in a row, at least one and so many at most; and what the last shows at its
-    /// terminal. Where it stops, who waits for a fork of its job runs again. Err: the first needs this first, and nothing is done.
+    /// terminal. Where it stops, who waits for a fork of its job runs again, and then its superior is told by a channel. Err: the first needs this first, and nothing is done.
     #[inline]
     pub fn units(&mut self, who: Runner, most: u32) -> Result<Units, Need>
         requires can { IsRunner self.old.tree who }
@@ -58,7 +58,7 @@ impl<P: Pages> System<P> {
         match ran {
             Err(need) => Err(need),
             Ok(units) => {
-                wake_where(&mut self.tree, who.fork.tty, units.shown.stop.is_stop());
+                tell_where(&mut self.tree, who.fork, units.shown.stop.is_stop());
                 self.tree.are_trees();
                 Ok(Units {
                     count: units.count,

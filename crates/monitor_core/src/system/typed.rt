@@ -1,7 +1,8 @@
 // A character that is typed at a terminal.
-ghost use Rattle.std.specs.Prelude.{◌≡◌, ◌<◌, [], IsSome, is_some, true};
+ghost use Rattle.std.specs.Prelude.{◌≡◌, ◌<◌, [], IsSome, if◌then◌else◌, is_some, true};
 ghost use Rattle.std.specs.FinMap as map;
 ghost use Rattle.machine_names.specs.Bounds.{IsTerminal};
+ghost use Rattle.machine_names.specs.declared.names.Tty.{Tty as ATty};
 ghost use Rattle.plain_typing.specs.Characters.{read_as as is_read_as};
 ghost use Rattle.plain_typing.specs.Commands.{command_of};
 ghost use Rattle.plain_typing.specs.Typing.{fate_of};
@@ -9,16 +10,18 @@ ghost use Rattle.plain_model.specs.declared.fork.TerminalMode.{TerminalMode as A
 ghost use Rattle.plain_model.specs.Commands.{with_job_at};
 ghost use Rattle.plain_model.specs.Trees.{readers_woken};
 ghost use Rattle.fork_tree.specs.Trees.{IsTree};
-ghost use Rattle.plain_model.specs.TypeEvents.{interrupted, line_ended, line_of, line_typed, typed_at, typed_one, typed_so};
+ghost use Rattle.plain_model.specs.TypeEvents.{interrupted, line_ended, line_of, line_typed, posted_at, typed_at, typed_one, typed_so};
 ghost use Rattle.monitor_core.specs.Echoes.{echo_items, FitsEcho};
 ghost use Rattle.monitor_core.specs.Effects.{Has, HasJobAt, job_in, stopped_tree};
 ghost use Rattle.monitor_core.specs.Jobs.{job_at};
 
 use crate::echo::Echo;
-use crate::job::Job;
+use crate::job::{Job, seen_stop};
+use crate::shown::Stop;
 use crate::system::System;
+use crate::unit::channel_of;
 use exec_cmd::read;
-use fork_tree::Tree;
+use fork_tree::{Tree, channel_word};
 use machine_names::character::LINE_END;
 use machine_names::{ForkName, Tty};
 use page_contracts::Pages;
@@ -48,6 +51,17 @@ fn wake(tree: &mut Tree, t: Tty)
     tree.are_trees();
 }
 
+// How a fork stands to which a channel was posted, that has forced it or not.
+fn stop_by(forced: bool, channel: u8) -> Stop
+    ensures { result ≡ (if forced then Stop.Forced channel else Stop.GoesOn) }
+{
+    if forced {
+        Stop::Forced(channel)
+    } else {
+        Stop::GoesOn
+    }
+}
+
 impl<P: Pages> System<P> {
     // Control-C: the program stands still, and the monitor waits for a command.
     fn interrupt(&mut self, t: Tty, job: Job) -> Echo
@@ -64,6 +78,24 @@ impl<P: Pages> System<P> {
         Echo::Stops
     }
 
+    // A character that a fork has assigned is typed: its channel is posted to that fork. One that it forces has stopped.
+    fn post_typed(&mut self, name: ForkName, channel: u8) -> Echo
+        ensures has { (t : ATty) → Has self.old self.new (λ s. posted_at s name channel) (echo_items t result) }
+        ensures fits { FitsEcho result }
+    {
+        self.tree.are_trees();
+        let Some(fork) = self.tree.fork(name) else {
+            return Echo::Nothing;
+        };
+        let slot = fork.slot;
+        let forced = self
+            .tree
+            .post_channels(name, channel_word(channel_of(channel)));
+        self.tree.are_trees();
+        let stop = stop_by(forced, channel);
+        Echo::Posts(name.tty, seen_stop(&mut self.jobs, name.tty, slot, stop))
+    }
+
     // A character is typed for the forks of a job.
     fn type_program(&mut self, t: Tty, job: Job, c: u8) -> Echo
         requires terminal { IsTerminal t }
@@ -78,8 +110,7 @@ impl<P: Pages> System<P> {
                 Echo::Shows(read_as(c))
             }
             Typed::Dropped => Echo::Bell,
-            // Nobody assigns a code yet.
-            Typed::Posts(_, _) => Echo::Nothing,
+            Typed::Posts(fork, channel) => self.post_typed(fork, channel),
             Typed::ControlC => self.interrupt(t, job),
         }
     }

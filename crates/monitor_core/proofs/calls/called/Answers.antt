@@ -13,7 +13,7 @@ use Rattle.plain_model.specs.Forks.{counted, fork_in}
 use Rattle.page_contracts.specs.Pages.{PagesMeaning}
 use Rattle.plain_model.specs.Trees.{PlainTree, changed, with_body, with_changed_of}
 use Rattle.fork_tree.specs.Trees.{IsTree, Lives}
-use Rattle.fork_tree.proofs.Slots.{in_tells, some_of}
+use Rattle.fork_tree.proofs.Slots.{get_put, in_tells, some_of}
 use Rattle.call_turns.specs.Answers.{AnswerNeeds, IsDone}
 use Rattle.fork_calls.specs.Holding.{CallLeaves}
 use Rattle.fork_calls.specs.Limits.{AreWithin, FitsForced, IsBody}
@@ -75,7 +75,6 @@ answered-requires g c =
     let named = c.requires.named f.0 f.1 in
     let within = lent_within old new c.args.who.fork left was c.are_trees.ensures c.requires.can c.args.who.slot f.0 f.1 named _ c.in-Some-body_mut.ensures.body in
     record {
-      off = within.off;
       few = lent_few old new c.args.who.fork left was c.are_trees.ensures c.requires.can c.args.who.slot f.0 f.1 named _ c.in-Some-body_mut.ensures.body (c.requires.few f.0 f.1);
       pc = within.pc;
       accumulators = within.accumulators;
@@ -117,9 +116,10 @@ returns-in-Some-body_mut-clause-called g c at b found =
     let same : c.in-Some.fork.now ≡ f = cc seen in
     let fork : with_body body k ≡ counted (answered k answer) = c.answered.ensures.fork k ∙ ap (λ x. counted (answered (with_body x k) answer)) here in
     let back : with_changed_of new who (with_body body) ≡ put_back new (with_body body k) = ap (λ o. record new { forks = changed new.forks (with_body body) o }) stands.1 in
-    let keeps : Kept k (with_body body k) 1 = subst (λ h. Kept k h 1) (sym fork) (answered_keeps k within.off within.pc within.accumulators answer c.turn-answer.ensures.regs) in
+    let keeps : Kept k (with_body body k) 1 = subst (λ h. Kept k h 1) (sym fork) (answered_keeps k within.pc within.accumulators answer c.turn-answer.ensures.regs) in
     record {
       after = with_body body k;
+      there = subst (λ (x : PlainTree). Lives x.forks (with_body body k)) (sym back) (get_put new.forks k.name k.name (with_body body k) refl);
       told = λ d drum.
           let p = g.P.Pages.means.plain c.args.pages.now d in
           let q = g.P.Pages.means.plain c.turn-answer.new.pages d in

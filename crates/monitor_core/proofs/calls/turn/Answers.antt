@@ -1,14 +1,9 @@
-use Rattle.std.proofs.Common.{◌≡◌, ◌<◌, ◌∙◌, ℕ, List, get_or, length, set, refl, sym, ap, subst, arith, length-set}
-use Rattle.std.proofs.lemmas.List.{set-get_or}
+use Rattle.std.proofs.Common.{◌≡◌, ◌<◌, ◌∙◌, length, refl, sym, ap, subst, arith, length-set}
 use Rattle.std.specs.Prelude.{IsSome}
-use Rattle.std.specs.Ordering.{nat_cmp}
 use Rattle.plain_model.specs.ByteCalls.{byte_call}
-use Rattle.plain_model.specs.ForkCalls.{ForkParts}
-use Rattle.fork_calls.specs.Turning.{parts}
 use Rattle.plain_model.specs.MapCalls.{map_call}
 use Rattle.plain_model.specs.StringCalls.{string_call}
 use Rattle.plain_model.specs.Trees.{PlainTree}
-use Rattle.plain_typing.specs.Lines.{InputLine}
 use Rattle.page_contracts.specs.Pages.{PagesMeaning}
 use Rattle.machine_names.specs.declared.names.ForkName.{ForkName}
 use Rattle.ka10_unit.proofs.Carried.{grows_none, grows_within}
@@ -17,12 +12,16 @@ use Rattle.call_turns.specs.declared.answer.Answer.TheVariants as answer
 use Rattle.call_turns.specs.Answers.{IsDone}
 use Rattle.ka10_unit.specs.Gathers.{framed}
 use Rattle.file_tables.specs.declared.tables.FileTables.{FileTables}
-use Rattle.file_tables.specs.Tables.{open_of}
+use Rattle.file_tables.specs.Tables.{files_of, open_of}
 use Rattle.file_calls.specs.Asking.{asked_of, key_in}
 use Rattle.file_calls.specs.Turning.{Stays, TextNeeds}
 use Rattle.byte_io.specs.Asking.{asked_on}
 use Rattle.byte_io.specs.Turning.{ByteNeeds, Stays as StaysWhole}
 use Rattle.string_io.specs.Turning.{StringNeeds}
+use Rattle.plain_model.specs.Calls.{numbered}
+use Rattle.plain_model.specs.InterruptCalls.{interrupt_calls}
+use Rattle.fork_calls.specs.Asking.{asked as asked_by}
+use Rattle.psi_calls.specs.Turning.{PsiNeeds, Stays as StaysAll, psi_frames}
 use Rattle.fork_tree.proofs.Slots.{some_of}
 use Rattle.fork_calls.specs.Holding.{CallLeaves, Holds}
 use Rattle.fork_calls.proofs.Branch.{none_made}
@@ -30,12 +29,12 @@ use Rattle.fork_calls.proofs.CallLeaving.{grown_leaves}
 use Rattle.fork_calls.proofs.Needed.{answer_more, done_needs}
 use Rattle.pmap_calls.specs.Asking.{asked}
 use Rattle.pmap_calls.specs.Making.{MapNeeds}
-use Rattle.monitor_core.proofs.Calling.{done_so, files_went, forks_went, has_regs, none_went, print_went, turned_so}
+use Rattle.monitor_core.proofs.CodeTurns.{fork_turned, has_codes, interrupt_turned, typed_stay}
+use Rattle.monitor_core.proofs.Calling.{done_so, files_went, has_regs, none_went, print_went}
 use Rattle.monitor_core.specs.Limits.{unit_frames}
-use Rattle.monitor_core.specs.ForkUnit.{Tables, parts_in, rest_of}
+use Rattle.monitor_core.specs.ForkUnit.{Tables, line_behind, parts_in, rest_of}
 use Rattle.monitor_core.specs.Jobs.{job_at, jobs_of}
 use Rattle.monitor_core.specs.Writing.{most_makings}
-use Rattle.monitor_core.specs.declared.typing.Typing.{Typing}
 use Rattle.monitor_core.proofs.ByteTurns.{byte_turned, has_line, string_turned}
 use Rattle.monitor_core.proofs.JfnTurns.{jfn_turned}
 use Rattle.monitor_core.proofs.MapTurns.{map_grows, map_turned, map_unmade}
@@ -57,10 +56,6 @@ by_answer old new tables tables' (answer.Trap channel) done waits stays = done t
 nothing_left : {P : Type 0} (means : PagesMeaning P) (who : ForkName) (tree : PlainTree) (p : P) → Holds means p tree.forks → CallLeaves means p p tree tree who most_makings
 nothing_left means who tree p holds = grown_leaves means who tree most_makings p p (grows_within means who.tty 0 most_makings p p (omega arith) (grows_none means who.tty p)) holds
 
--- what was typed is as it was, where the line at a terminal is put back as it was
-typed_stay : (typed : List Typing) (t : ℕ) (typing : Typing) (line : InputLine) → typing ≡ get_or typed t typing → line ≡ typing.input → set typed t (record typing { input = line }) ≡ typed
-typed_stay typed t typing line read same = (λ i. set typed t (record typing { input = same i })) ∙ ap (set typed t) read ∙ set-get_or typed t typing
-
 pub returns-then-is_print_call-clause-told : goal.returns-then-is_print_call-clause-told
 returns-then-is_print_call-clause-told g c =
     let was : Tables = record { tree = c.args.tree.now; files = c.args.files.now; jobs = c.args.jobs.now.items; typed = c.args.typed.now.items } in
@@ -78,15 +73,21 @@ returns-then-is_print_call-clause-leaves g c = nothing_left g.P.Pages.means c.ar
 
 pub returns-then-is_fork_call-clause-told : goal.returns-then-is_fork_call-clause-told
 returns-then-is_fork_call-clause-told g c =
+    let means = g.P.Pages.means in
     let was : Tables = record { tree = c.args.tree.now; files = c.args.files.now; jobs = c.args.jobs.now.items; typed = c.args.typed.now.items } in
+    let who = c.args.who in
+    let turn = c.fork_turn in
+    let typing = c.index_mut.result.now in
+    let job = c.requires.job in
+    let at = typing_read was.typed who.tty.0 typing job.typing_room job.terminal c.index_mut.ensures.value in
+    let j = some_of (job_at was.jobs who.tty.0) job.there in
     record {
-      fits = λ d fits. (c.call.ensures.told d fits).0;
+      fits = λ d fits. (turn.ensures.told d fits).0;
       told = λ d fits.
-          let p = g.P.Pages.means.plain c.args.pages.now d in
-          let q = g.P.Pages.means.plain c.call.new.pages d in
-          let v = parts_in (rest_of was) p in
-          turned_so (key_in was.files) (λ (x : ForkParts nat_cmp). record v { tree = x.tree; pages = x.pages }) (parts c.args.tree.now p) (parts c.call.new.tree q) c.args.who c.args.regs.now c.args.number c.call.result (c.call.ensures.told d fits).1
-          (λ went. forks_went (key_in was.files) v c.args.who c.args.regs.now c.args.number (sym c.is_print_call.ensures ∙ c.if-is_print_call.false) (sym c.is_fork_call.ensures ∙ c.if-is_fork_call.true) c.call.new.tree q c.call.result went);
+          let p = means.plain c.args.pages.now d in
+          let q = means.plain turn.new.pages d in
+          fork_turned was who c.args.regs.now c.args.number j.0 j.1 typing at (subst (λ n. who.tty.0 < n) (sym job.room) job.terminal) (subst (λ n. who.tty.0 < n) (sym job.typing_room) job.terminal) turn.new.line turn.ensures.input turn.ensures.trees p turn.new.tree
+          (sym c.is_print_call.ensures ∙ c.if-is_print_call.false) (sym c.is_fork_call.ensures ∙ c.if-is_fork_call.true) _ q turn.result turn.ensures.line (turn.ensures.told d fits).1;
       numbers = λ d fits. dir_stays was.files was.files refl;
     }
 
@@ -96,7 +97,62 @@ leaves_more means p q tree tree' who left = record { holds = left.holds; kept = 
 
 pub returns-then-is_fork_call-clause-leaves : goal.returns-then-is_fork_call-clause-leaves
 returns-then-is_fork_call-clause-leaves g c =
+    leaves_more g.P.Pages.means c.args.pages.now c.fork_turn.new.pages c.args.tree.now c.fork_turn.new.tree c.args.who c.fork_turn.ensures.leaves
+
+pub returns-then-is_fork_call-clause-untyped : goal.returns-then-is_fork_call-clause-untyped
+returns-then-is_fork_call-clause-untyped g c n is =
+    let typing = c.index_mut.result.now in
+    typed_stay c.args.typed.now.items c.args.who.tty.0 typing c.fork_turn.new.line c.index_mut.ensures.value (c.fork_turn.ensures.line ∙ ap (λ a. line_behind c.args.number a c.fork_turn.new.tree.forks typing.input) is)
+
+pub returns-then-is_fork_call-clause-typing_room : goal.returns-then-is_fork_call-clause-typing_room
+returns-then-is_fork_call-clause-typing_room g c = length-set c.args.typed.now.items c.args.who.tty.0 (record c.index_mut.result.now { input = c.fork_turn.new.line }) ∙ c.requires.job.typing_room
+
+pub returns-then-is_psi_call-clause-told : goal.returns-then-is_psi_call-clause-told
+returns-then-is_psi_call-clause-told g c =
+    let means = g.P.Pages.means in
+    let was : Tables = record { tree = c.args.tree.now; files = c.args.files.now; jobs = c.args.jobs.now.items; typed = c.args.typed.now.items } in
+    let who = c.args.who in
+    let call = c.call in
+    let typing = c.index_mut-then-is_psi_call.result.now in
+    let job = c.requires.job in
+    let at = typing_read was.typed who.tty.0 typing job.typing_room job.terminal c.index_mut-then-is_psi_call.ensures.value in
+    let j = some_of (job_at was.jobs who.tty.0) job.there in
+    let low = subst (λ n. who.tty.0 < n) (sym job.room) job.terminal in
+    let room = subst (λ n. who.tty.0 < n) (sym job.typing_room) job.terminal in
+    record {
+      fits = call.ensures.told.fits;
+      told = λ d fits.
+          let p = means.plain c.args.pages.now d in
+          let q = means.plain call.new.pages d in
+          interrupt_turned was who c.args.regs.now c.args.number j.0 j.1 typing at low room call.new.line call.ensures.input
+          (sym c.is_print_call.ensures ∙ c.if-is_print_call.false) (sym c.is_fork_call.ensures ∙ c.if-is_fork_call.false) (sym c.is_psi_call.ensures ∙ c.if-is_psi_call.true) call.new.tree (PsiNeeds (means.scene c.args.pages.now) p (numbered interrupt_calls c.args.number (asked_by who c.args.regs.now was.tree))) p q call.result
+          (call.ensures.told.comes d (files_of was.files) (jobs_of (open_of was.files) was.typed was.jobs) fits (has_codes was who c.args.regs.now c.args.number j.0 j.1 typing at low room));
+      numbers = λ d fits. dir_stays was.files was.files refl;
+    }
+
+pub returns-then-is_psi_call-clause-leaves : goal.returns-then-is_psi_call-clause-leaves
+returns-then-is_psi_call-clause-leaves g c =
     leaves_more g.P.Pages.means c.args.pages.now c.call.new.pages c.args.tree.now c.call.new.tree c.args.who c.call.ensures.leaves
+
+pub returns-then-is_psi_call-clause-untyped : goal.returns-then-is_psi_call-clause-untyped
+returns-then-is_psi_call-clause-untyped g c n is =
+    let call = c.call in
+    let typing = c.index_mut-then-is_psi_call.result.now in
+    typed_stay c.args.typed.now.items c.args.who.tty.0 typing call.new.line c.index_mut-then-is_psi_call.ensures.value
+    (subst (StaysAll c.args.pages.now call.new.pages c.args.tree.now call.new.tree typing.input call.new.line) is call.ensures.stays).2
+
+pub returns-then-is_psi_call-clause-typing_room : goal.returns-then-is_psi_call-clause-typing_room
+returns-then-is_psi_call-clause-typing_room g c = length-set c.args.typed.now.items c.args.who.tty.0 (record c.index_mut-then-is_psi_call.result.now { input = c.call.new.line }) ∙ c.requires.job.typing_room
+
+pub returns-then-is_psi_call-clause-needs : goal.returns-then-is_psi_call-clause-needs
+returns-then-is_psi_call-clause-needs g c = answer_more g.P.Pages.means.store psi_frames c.call.new.pages unit_frames c.call.result (omega arith) c.call.ensures.needs
+
+pub returns-then-is_psi_call-clause-unmade : goal.returns-then-is_psi_call-clause-unmade
+returns-then-is_psi_call-clause-unmade g c n is =
+    let means = g.P.Pages.means in
+    let call = c.call in
+    let same = (subst (StaysAll c.args.pages.now call.new.pages c.args.tree.now call.new.tree c.index_mut-then-is_psi_call.result.now.input call.new.line) is call.ensures.stays).0 in
+    none_made means c.args.pages.now call.new.pages c.args.who.tty (ap means.serial same) (ap means.most same)
 
 pub returns-then-is_map_call-clause-told : goal.returns-then-is_map_call-clause-told
 returns-then-is_map_call-clause-told g c =
@@ -107,7 +163,7 @@ returns-then-is_map_call-clause-told g c =
       fits = λ d fits. (a.ensures.told d fits).0;
       told = λ d fits.
           let p = means.plain c.args.pages.now d in
-          map_turned was c.args.who c.args.regs.now c.args.number c.requires.job.unheld (sym c.is_print_call.ensures ∙ c.if-is_print_call.false) (sym c.is_fork_call.ensures ∙ c.if-is_fork_call.false) (sym c.is_map_call.ensures ∙ c.if-is_map_call.true)
+          map_turned was c.args.who c.args.regs.now c.args.number c.requires.job.unheld (sym c.is_print_call.ensures ∙ c.if-is_print_call.false) (sym c.is_fork_call.ensures ∙ c.if-is_fork_call.false) (sym c.is_psi_call.ensures ∙ c.if-is_psi_call.false) (sym c.is_map_call.ensures ∙ c.if-is_map_call.true)
           (MapNeeds was.files (means.scene c.args.pages.now) p (map_call c.args.number (asked c.args.who c.args.regs.now was.tree was.files))) p (means.plain a.new.pages d) a.result (a.ensures.told d fits).1;
       numbers = λ d fits. dir_stays was.files was.files refl;
     }
@@ -130,7 +186,7 @@ returns-then-is_file_call-clause-told g c =
       told = λ d fits.
           let p = g.P.Pages.means.plain c.args.pages.now d in
           done_so (key_in was.files) _ _ c.args.who c.args.regs.now c.args.number a.result a.ensures.done
-          (files_went (key_in was.files) (parts_in (rest_of was) p) c.args.who c.args.regs.now c.args.number (sym c.is_print_call.ensures ∙ c.if-is_print_call.false) (sym c.is_fork_call.ensures ∙ c.if-is_fork_call.false) (sym c.is_map_call.ensures ∙ c.if-is_map_call.false) (sym c.is_file_call.ensures ∙ c.if-is_file_call.true)
+          (files_went (key_in was.files) (parts_in (rest_of was) p) c.args.who c.args.regs.now c.args.number (sym c.is_print_call.ensures ∙ c.if-is_print_call.false) (sym c.is_fork_call.ensures ∙ c.if-is_fork_call.false) (sym c.is_psi_call.ensures ∙ c.if-is_psi_call.false) (sym c.is_map_call.ensures ∙ c.if-is_map_call.false) (sym c.is_file_call.ensures ∙ c.if-is_file_call.true)
           a.result (a.ensures.told p));
       numbers = λ d fits. dir_stays was.files was.files refl;
     }
@@ -147,7 +203,7 @@ returns-clause-told g c =
     record {
       fits = λ d fits. fits;
       told = λ d fits.
-          none_went (key_in was.files) (parts_in (rest_of was) (g.P.Pages.means.plain c.args.pages.now d)) c.args.who c.args.regs.now c.args.number (sym c.is_print_call.ensures ∙ c.if-is_print_call.false) (sym c.is_fork_call.ensures ∙ c.if-is_fork_call.false) (sym c.is_map_call.ensures ∙ c.if-is_map_call.false)
+          none_went (key_in was.files) (parts_in (rest_of was) (g.P.Pages.means.plain c.args.pages.now d)) c.args.who c.args.regs.now c.args.number (sym c.is_print_call.ensures ∙ c.if-is_print_call.false) (sym c.is_fork_call.ensures ∙ c.if-is_fork_call.false) (sym c.is_psi_call.ensures ∙ c.if-is_psi_call.false) (sym c.is_map_call.ensures ∙ c.if-is_map_call.false)
           (sym c.is_file_call.ensures ∙ c.if-is_file_call.false) (sym c.is_jfn_call.ensures ∙ c.if-is_jfn_call.false) (sym c.is_byte_call.ensures ∙ c.if-is_byte_call.false) (sym c.is_string_call.ensures ∙ c.if-is_string_call.false);
       numbers = λ d fits. dir_stays was.files was.files refl;
     }
@@ -186,7 +242,7 @@ returns-then-is_jfn_call-clause-told g c =
       fits = t.fits;
       told = λ d fits.
           let p = means.plain c.args.pages.now d in
-          jfn_turned was c.args.who c.args.regs.now c.args.number j there c.requires.job.unheld (sym c.is_print_call.ensures ∙ c.if-is_print_call.false) (sym c.is_fork_call.ensures ∙ c.if-is_fork_call.false) (sym c.is_map_call.ensures ∙ c.if-is_map_call.false)
+          jfn_turned was c.args.who c.args.regs.now c.args.number j there c.requires.job.unheld (sym c.is_print_call.ensures ∙ c.if-is_print_call.false) (sym c.is_fork_call.ensures ∙ c.if-is_fork_call.false) (sym c.is_psi_call.ensures ∙ c.if-is_psi_call.false) (sym c.is_map_call.ensures ∙ c.if-is_map_call.false)
           (sym c.is_file_call.ensures ∙ c.if-is_file_call.false) (sym c.is_jfn_call.ensures ∙ c.if-is_jfn_call.true)
           (TextNeeds (framed means c.args.pages.now d) (asked_of c.args.who c.args.regs.now j.user was.files)) c.jfn_call.new.tables p (means.plain c.jfn_call.new.pages d) a
           (t.comes d (jobs_of (open_of was.files) was.typed was.jobs) fits (jobs_held was.typed was.jobs (open_of was.files) c.requires.job.unheld));
@@ -227,8 +283,8 @@ returns-then-is_byte_call-clause-told g c =
     let who = c.args.who in
     let job = c.requires.job in
     let j = some_of (job_at was.jobs who.tty.0) job.there in
-    let typing = c.index_mut.result.now in
-    let at = typing_read was.typed who.tty.0 typing job.typing_room job.terminal c.index_mut.ensures.value in
+    let typing = c.index_mut-then-is_byte_call.result.now in
+    let at = typing_read was.typed who.tty.0 typing job.typing_room job.terminal c.index_mut-then-is_byte_call.ensures.value in
     let call = c.call-then-is_byte_call in
     let within : who.tty.0 < length was.jobs = omega (arith, job.room, job.terminal) in
     let typing_within : who.tty.0 < length was.typed = omega (arith, job.typing_room, job.terminal) in
@@ -237,7 +293,7 @@ returns-then-is_byte_call-clause-told g c =
       told = λ d fits.
           let p = means.plain c.args.pages.now d in
           byte_turned was who c.args.regs.now c.args.number j.0 j.1 job.unheld typing at call.new.tables call.new.input call.ensures.others within typing_within
-          (sym c.is_print_call.ensures ∙ c.if-is_print_call.false) (sym c.is_fork_call.ensures ∙ c.if-is_fork_call.false) (sym c.is_map_call.ensures ∙ c.if-is_map_call.false) (sym c.is_file_call.ensures ∙ c.if-is_file_call.false)
+          (sym c.is_print_call.ensures ∙ c.if-is_print_call.false) (sym c.is_fork_call.ensures ∙ c.if-is_fork_call.false) (sym c.is_psi_call.ensures ∙ c.if-is_psi_call.false) (sym c.is_map_call.ensures ∙ c.if-is_map_call.false) (sym c.is_file_call.ensures ∙ c.if-is_file_call.false)
           (sym c.is_jfn_call.ensures ∙ c.if-is_jfn_call.false) (sym c.is_byte_call.ensures ∙ c.if-is_byte_call.true)
           (ByteNeeds was.files (means.scene c.args.pages.now) p (byte_call c.args.number (asked_on who c.args.regs.now was.files typing.input.input p))) p (means.plain call.new.pages d) call.result
           (call.ensures.told.comes d (jobs_of (open_of was.files) was.typed was.jobs) fits (has_line was who c.args.regs.now c.args.number j.0 j.1 job.unheld typing at));
@@ -250,16 +306,16 @@ returns-then-is_byte_call-clause-unheld g c = still_unheld c.args.files.now c.ca
 pub returns-then-is_byte_call-clause-stays : goal.returns-then-is_byte_call-clause-stays
 returns-then-is_byte_call-clause-stays g c n is =
     let call = c.call-then-is_byte_call in
-    (subst (StaysWhole c.args.pages.now call.new.pages c.args.files.now call.new.tables c.index_mut.result.now.input call.new.input) is call.ensures.stays).1
+    (subst (StaysWhole c.args.pages.now call.new.pages c.args.files.now call.new.tables c.index_mut-then-is_byte_call.result.now.input call.new.input) is call.ensures.stays).1
 
 pub returns-then-is_byte_call-clause-untyped : goal.returns-then-is_byte_call-clause-untyped
 returns-then-is_byte_call-clause-untyped g c n is =
     let call = c.call-then-is_byte_call in
-    let typing = c.index_mut.result.now in
-    typed_stay c.args.typed.now.items c.args.who.tty.0 typing call.new.input c.index_mut.ensures.value (subst (StaysWhole c.args.pages.now call.new.pages c.args.files.now call.new.tables typing.input call.new.input) is call.ensures.stays).2
+    let typing = c.index_mut-then-is_byte_call.result.now in
+    typed_stay c.args.typed.now.items c.args.who.tty.0 typing call.new.input c.index_mut-then-is_byte_call.ensures.value (subst (StaysWhole c.args.pages.now call.new.pages c.args.files.now call.new.tables typing.input call.new.input) is call.ensures.stays).2
 
 pub returns-then-is_byte_call-clause-typing_room : goal.returns-then-is_byte_call-clause-typing_room
-returns-then-is_byte_call-clause-typing_room g c = length-set c.args.typed.now.items c.args.who.tty.0 (record c.index_mut.result.now { input = c.call-then-is_byte_call.new.input }) ∙ c.requires.job.typing_room
+returns-then-is_byte_call-clause-typing_room g c = length-set c.args.typed.now.items c.args.who.tty.0 (record c.index_mut-then-is_byte_call.result.now { input = c.call-then-is_byte_call.new.input }) ∙ c.requires.job.typing_room
 
 pub returns-then-is_byte_call-clause-needs : goal.returns-then-is_byte_call-clause-needs
 returns-then-is_byte_call-clause-needs g c = answer_more g.P.Pages.means.store 1 c.call-then-is_byte_call.new.pages unit_frames c.call-then-is_byte_call.result (omega arith) c.call-then-is_byte_call.ensures.needs
@@ -294,7 +350,7 @@ returns-then-is_string_call-clause-told g c =
       told = λ d fits.
           let p = means.plain c.args.pages.now d in
           string_turned was who c.args.regs.now c.args.number j.0 j.1 job.unheld typing at call.new.tables call.new.input call.ensures.others within typing_within
-          (sym c.is_print_call.ensures ∙ c.if-is_print_call.false) (sym c.is_fork_call.ensures ∙ c.if-is_fork_call.false) (sym c.is_map_call.ensures ∙ c.if-is_map_call.false) (sym c.is_file_call.ensures ∙ c.if-is_file_call.false)
+          (sym c.is_print_call.ensures ∙ c.if-is_print_call.false) (sym c.is_fork_call.ensures ∙ c.if-is_fork_call.false) (sym c.is_psi_call.ensures ∙ c.if-is_psi_call.false) (sym c.is_map_call.ensures ∙ c.if-is_map_call.false) (sym c.is_file_call.ensures ∙ c.if-is_file_call.false)
           (sym c.is_jfn_call.ensures ∙ c.if-is_jfn_call.false) (sym c.is_byte_call.ensures ∙ c.if-is_byte_call.false) (sym c.is_string_call.ensures ∙ c.if-is_string_call.true)
           (StringNeeds was.files (means.scene c.args.pages.now) p (string_call c.args.number (asked_on who c.args.regs.now was.files typing.input.input p))) p (means.plain call.new.pages d) call.result
           (call.ensures.told.comes d (jobs_of (open_of was.files) was.typed was.jobs) fits (has_line was who c.args.regs.now c.args.number j.0 j.1 job.unheld typing at));

@@ -1,7 +1,10 @@
 use Rattle.std.proofs.Common.{arith, sym, ◌∙◌, ap, subst}
 use Rattle.ka10_deeds.specs.Done.{channel_of}
 use Rattle.plain_units.specs.Units.{unit_on}
-use Rattle.monitor_core.specs.ForkUnit.{Kept, fork_of, left_so}
+use Rattle.ka10_unit.specs.Taking.{most_frames}
+use Rattle.page_contracts.proofs.Losing.{needed_more}
+use Rattle.monitor_core.specs.Limits.{unit_frames}
+use Rattle.monitor_core.specs.ForkUnit.{Kept, behind, fork_of, left_so}
 use Rattle.monitor_core.proofs.Keeping.{ended_keeps, posted_keeps, none_keeps}
 use Rattle.monitor_core.proofs.UnitRan.{done_behind, trap_behind}
 use Rattle.monitor_core.proofs.unit.one_unit.Goals as goal
@@ -19,7 +22,7 @@ returns-in-Done g c at =
           let p = g.P.Pages.means.plain c.args.pages.now d in
           let q = g.P.Pages.means.plain c.slow_unit.new.pages d in
           (told.0, λ key rest. done_behind key rest f p q regs (channel_of c.in-Done.post) told.1 ∙ (λ i. left_so rest (sym left i) q (sym ended.shown i)));
-      keeps = subst (λ h. Kept f h 1) (sym left) (ended_keeps f c.requires.can.fits.off regs slow.pc (slow.accumulators ∙ c.requires.can.fits.accumulators) c.in-Done.post);
+      keeps = subst (λ h. Kept f h 1) (sym left) (ended_keeps f regs slow.pc (slow.accumulators ∙ c.requires.can.fits.accumulators) c.in-Done.post);
       made = record { lives = slow.grows.lives; forks = slow.grows.forks; most = slow.grows.most; own = omega (arith, slow.grows.serial); others = slow.grows.serials };
       fits = ended.fits;
       needs = tt;
@@ -39,7 +42,7 @@ returns-in-Trap g c at =
           let p = g.P.Pages.means.plain c.args.pages.now d in
           let q = g.P.Pages.means.plain c.slow_unit.new.pages d in
           (told.0, λ key rest. trap_behind key rest f p q regs c.in-Trap.channel told.1 (ap (λ x. g.P.Pages.means.plain x d) slow.stopped.1) slow.stopped.0 ∙ (λ i. left_so rest (sym left i) q (sym posted.shown i)));
-      keeps = subst (λ h. Kept f h 1) (sym left) (posted_keeps f c.requires.can.fits.off regs slow.pc (slow.accumulators ∙ c.requires.can.fits.accumulators) c.in-Trap.channel);
+      keeps = subst (λ h. Kept f h 1) (sym left) (posted_keeps f regs slow.pc (slow.accumulators ∙ c.requires.can.fits.accumulators) c.in-Trap.channel);
       made = record { lives = slow.grows.lives; forks = slow.grows.forks; most = slow.grows.most; own = omega (arith, slow.grows.serial); others = slow.grows.serials };
       fits = posted.fits;
       needs = tt;
@@ -56,7 +59,7 @@ returns-in-Call g c at =
           let told = slow.told d fits in
           let p = g.P.Pages.means.plain c.args.pages.now d in
           let pages = ap (λ x. g.P.Pages.means.plain x d) slow.stopped.1 in
-          (told.0, ((λ i. fork_of c.args.fork at (record c.args.body.now { regs = sym slow.stopped.0 i })), sym pages, (λ i. unit_on c.args.fork (pages i) (slow.stopped.0 i)) ∙ told.1));
+          (told.0, ((λ i. fork_of c.args.fork at (record c.args.body.now { regs = sym slow.stopped.0 i })), sym pages, λ key rest. ap (behind key rest (record f { body = record f.body { regs = regs } }) (g.P.Pages.means.plain c.slow_unit.new.pages d)) ((λ i. unit_on c.args.fork (pages i) (slow.stopped.0 i)) ∙ told.1)));
       keeps = none_keeps f regs slow.pc (slow.accumulators ∙ c.requires.can.fits.accumulators);
       made = record {
         lives = slow.grows.lives;
@@ -85,6 +88,6 @@ returns-in-Need g c at =
         others = slow.grows.serials;
       };
       fits = tt;
-      needs = slow.needs;
+      needs = needed_more g.P.Pages.means.store most_frames unit_frames c.slow_unit.new.pages c.in-Need.need (omega arith) slow.needs;
       core = slow.core;
     }

@@ -3,4 +3,4 @@ use Rattle.plain_model.specs.Forks.{counted}
 use Rattle.monitor_core.proofs.unit.posted.Goals as goal
 
 pub returns-clause-fork : goal.returns-clause-fork
-returns-clause-fork c f = ap counted (c.post_channel.ensures.fork f)
+returns-clause-fork c f = ap counted (c.post_channel-stop.ensures.fork f)

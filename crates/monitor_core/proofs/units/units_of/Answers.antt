@@ -9,7 +9,7 @@ use Rattle.page_contracts.specs.Pages.{PagesMeaning}
 use Rattle.plain_model.specs.Trees.{PlainTree, with_body}
 use Rattle.fork_tree.specs.Changes.{body_in, with_body_at}
 use Rattle.fork_tree.specs.Trees.{IsTree, Lives}
-use Rattle.fork_tree.proofs.Slots.{in_tells, some_of}
+use Rattle.fork_tree.proofs.Slots.{get_put, in_tells, some_of}
 use Rattle.fork_calls.specs.Holding.{Holds}
 use Rattle.fork_calls.specs.Limits.{AreWithin}
 use Rattle.fork_calls.proofs.Holdings.{holds_still}
@@ -109,6 +109,7 @@ returns-in-Shows-clause-ran g c at b there =
     let left = left_tree tree who.tty c.args.who.slot f body there in
     record {
       after = after;
+      there = λ d drum. subst (λ (x : PlainTree). Lives x.forks after) (sym left) (get_put tree.forks who who after refl);
       told = λ d drum.
           let p = g.P.Pages.means.plain c.args.pages.now d in
           let q = g.P.Pages.means.plain c.run_units-row.new.pages d in
@@ -141,13 +142,14 @@ returns-in-Ok-clause-ran g c at b there =
     let called = c.in-Ok.ensures.called at body (still_in tree is who.tty c.args.who.slot f body there) in
     record {
       after = called.after;
+      there = λ d drum. called.there;
       told = λ d drum.
           let p = g.P.Pages.means.plain c.args.pages.now d in
           let q = g.P.Pages.means.plain c.run_units-row.new.pages d in
           let t = ran.told d drum in
           let made = called.told d t.0 in
           let row_is = subst (IsRow f p row.count mid q) c.in-Calls.is t.1 in
-          (made.0, call_behind (key_in was.files) (rest_of was) f p row.count mid q c.in-Calls.number _ row_is.0 row_is.1 (ap (λ (x : PlainTree). called_behind (key_in was.files) (rest_of (record was { tree = x })) mid q c.in-Calls.number) (sym left) ∙ made.1));
+          (made.0, call_behind (key_in was.files) (rest_of was) f p row.count row_is.0.alone mid q c.in-Calls.number _ row_is.0 row_is.1 (ap (λ (x : PlainTree). called_behind (key_in was.files) (rest_of (record was { tree = x })) mid q c.in-Calls.number) (sym left) ∙ made.1));
       numbers = λ d drum. called.numbers d (ran.told d drum).0;
       unheld = called.unheld;
       typing_room = called.typing_room;

@@ -1,4 +1,4 @@
-use Rattle.std.proofs.Common.{[], take, drop, refl, ap, arith, sym, ◌∙◌, subst}
+use Rattle.std.proofs.Common.{[], take, refl, ap, arith, sym, ◌∙◌, subst}
 use Rattle.plain_model.specs.TypeEvents.{typed_all}
 use Rattle.plain_model.specs.Unit.{Effect}
 use Rattle.script_texts.specs.Taker.{GoesOn}

@@ -1,8 +1,4 @@
-use Rattle.std.proofs.Common.{[], refl, sym, ap}
-use Rattle.plain_typing.specs.declared.command.Command.{Command}
-use Rattle.plain_typing.specs.declared.command.Command.TheVariants as command
-use Rattle.monitor_core.specs.Echoes.{told_items}
-use Rattle.monitor_core.specs.Effects.{job_in}
+use Rattle.std.proofs.Common.{refl}
 use Rattle.monitor_core.proofs.Commanded.{has_blank, has_continue, has_delete, has_directory, has_logout, has_run, has_start, has_unknown}
 use Rattle.monitor_core.proofs.system.System.command.Goals as goal
 

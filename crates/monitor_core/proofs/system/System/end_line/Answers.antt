@@ -1,5 +1,4 @@
 use Rattle.std.proofs.Common.{◌∙◌, ap, subst}
-use Rattle.plain_typing.specs.declared.command.Command.{Command}
 use Rattle.plain_model.specs.Commands.{commanded}
 use Rattle.monitor_core.specs.Echoes.{told_items}
 use Rattle.monitor_core.specs.Effects.{Has, job_in}

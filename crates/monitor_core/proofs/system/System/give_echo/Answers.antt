@@ -1,7 +1,7 @@
 use Rattle.std.proofs.Common.{sym, subst}
 use Rattle.machine_names.specs.declared.character.TheConstants.{LINE_END}
 use Rattle.plain_model.specs.TypeEvents.{echo}
-use Rattle.monitor_core.specs.Echoes.{echo_items, told_items}
+use Rattle.monitor_core.specs.Echoes.{FitsEcho, echo_items, told_items}
 use Rattle.monitor_core.specs.Giving.{TookItems}
 use Rattle.monitor_core.specs.Systems.{state_of}
 use Rattle.monitor_core.proofs.GivenParts.{part_failed, part_then}
@@ -18,6 +18,13 @@ returns-in-Bell g c =
 pub returns-in-Stops : goal.returns-in-Stops
 returns-in-Stops g c =
     subst (λ shown. TookItems g.T.Taker.fault_count g.T.Taker.onward g.T.Taker.stands g.T.Taker.cut c.args.out.now c.give_text-in-Stops.new.out c.give_text-in-Stops.result (λ d. echo_items c.args.t shown (state_of c.args.self.now d))) (sym c.in-Stops.is) c.give_text-in-Stops.ensures
+
+pub give_stop-requires : goal.give_stop-requires
+give_stop-requires g c = let fits = subst FitsEcho c.in-Posts.is c.requires.fits in record { terminal = fits.0; fits = fits.1 }
+
+pub returns-in-Posts : goal.returns-in-Posts
+returns-in-Posts g c =
+    subst (λ shown. TookItems g.T.Taker.fault_count g.T.Taker.onward g.T.Taker.stands g.T.Taker.cut c.args.out.now c.give_stop.new.out c.give_stop.result (λ d. echo_items c.args.t shown (state_of c.args.self.now d))) (sym c.in-Posts.is) c.give_stop.ensures
 
 pub returns-in_err-give_code-in-Ends : goal.returns-in_err-give_code-in-Ends
 returns-in_err-give_code-in-Ends g c =

@@ -1,7 +1,6 @@
 use Rattle.std.proofs.Common.{◌≡◌, true, false, cond, Some, set, refl, sym, ◌∙◌, ap, subst}
 use Rattle.std.specs.Prelude.{IsSome}
 use Rattle.std.specs.Option.{option_map_or}
-use Rattle.plain_model.specs.declared.fork.TerminalMode.TheVariants.{Program}
 use Rattle.plain_model.specs.Commands.{resumed}
 use Rattle.plain_model.specs.Trees.{PlainTree, with_changed_of}
 use Rattle.fork_calls.proofs.Places.{Keep}

@@ -1,14 +1,7 @@
-use Rattle.std.proofs.Common.{◌≡◌, ◌<◌, ◌++◌, ◌∷◌, [], length, Some, get_or, set, refl, sym, ◌∙◌, ap, subst, length-set}
-use Rattle.std.specs.Prelude.{IsSome}
-use Rattle.plain_model.specs.Trees.{PlainTree}
-use Rattle.fork_calls.proofs.Places.{Keep}
-use Rattle.file_tables.specs.Tables.{open_of}
-use Rattle.monitor_core.specs.declared.job.Job.{Job}
+use Rattle.std.proofs.Common.{◌<◌, ◌++◌, ◌∷◌, [], length, refl, ◌∙◌, ap, subst}
 use Rattle.monitor_core.specs.declared.typing.Typing.{Typing}
 use Rattle.monitor_core.specs.Typings.{new_typing}
-use Rattle.monitor_core.proofs.HasDone.{change_keeps, has_as, sound_kept}
-use Rattle.monitor_core.proofs.Sounds.{same_tops, same_tops_set, stands}
-use Rattle.monitor_core.proofs.Systems.{top_fork_of, unheld_still}
+use Rattle.monitor_core.proofs.Sounds.{stands}
 use Rattle.monitor_core.proofs.CommandDid.{has_lengthened}
 use Rattle.monitor_core.proofs.TypeDid.{low_typed}
 use Rattle.plain_typing.specs.declared.typed.TheConstants.{MOST_STORED}

@@ -1,5 +1,4 @@
-use Rattle.std.proofs.Common.{None, set, refl, sym, ◌∙◌, ap, subst, arith}
-use Rattle.std.specs.FinMap as map
+use Rattle.std.proofs.Common.{None, set, refl, sym, subst, arith}
 use Rattle.monitor_core.specs.Jobs.{AreUnheld}
 use Rattle.monitor_core.proofs.HasDone.{open_room, sound_gone, unheld_gone}
 use Rattle.monitor_core.proofs.RunDid.{has_logged_out}

@@ -1,7 +1,5 @@
 use Rattle.std.proofs.Common.{◌<◌, ◌^◌, Some, set, refl, sym, ◌∙◌, ap, subst}
 use Rattle.std.specs.Prelude.{IsSome}
-use Rattle.word36.specs.Words.{right}
-use Rattle.plain_model.specs.declared.fork.TerminalMode.TheVariants.{Program}
 use Rattle.plain_model.specs.Commands.{restarted}
 use Rattle.plain_model.specs.Trees.{PlainTree, with_changed_of}
 use Rattle.fork_calls.proofs.Places.{Keep}

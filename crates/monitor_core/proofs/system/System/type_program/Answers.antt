@@ -1,23 +1,17 @@
-use Rattle.std.proofs.Common.{◌≡◌, ◌++◌, ◌∷◌, [], Some, get_or, set, refl, sym, ◌∙◌, ap, subst, length-set}
+use Rattle.std.proofs.Common.{refl, sym, ◌∙◌, ap, subst, length-set}
 use Rattle.plain_model.specs.Trees.{PlainTree}
-use Rattle.plain_model.specs.Unit.{Effect}
-use Rattle.plain_model.specs.State.{PlainState}
-use Rattle.plain_model.specs.TypeEvents.{interrupted, line_of}
+use Rattle.plain_model.specs.TypeEvents.{interrupted, posted_at}
 use Rattle.monitor_core.specs.declared.typing.Typing.{Typing}
-use Rattle.monitor_core.specs.declared.echo.Echo.TheVariants.{Shows}
 use Rattle.monitor_core.specs.Echoes.{echo_items}
-use Rattle.monitor_core.specs.Systems.{state_of}
-use Rattle.plain_typing.specs.declared.typed.Typed.{Typed}
-use Rattle.plain_typing.specs.declared.typed.Typed.TheVariants.{Stored, ControlC}
+use Rattle.plain_typing.specs.declared.typed.Typed.TheVariants.{Stored}
 use Rattle.plain_typing.specs.Characters.{read_as}
 use Rattle.plain_typing.specs.Typing.{fate_of, left_by}
 use Rattle.fork_calls.proofs.Places.{Keep}
-use Rattle.file_tables.specs.Tables.{open_of}
-use Rattle.monitor_core.specs.Effects.{Has, job_in}
 use Rattle.monitor_core.specs.Typings.{new_typing}
 use Rattle.monitor_core.proofs.CommandDid.{has_kept, has_stopped, readers_keep}
 use Rattle.monitor_core.proofs.HasDone.{has_from, sound_kept}
 use Rattle.monitor_core.proofs.JobDid.{put_back}
+use Rattle.monitor_core.proofs.PostDid.{has_posting}
 use Rattle.monitor_core.proofs.Sounds.{same_tops, stands}
 use Rattle.monitor_core.proofs.TypeDid.{low_typed}
 use Rattle.monitor_core.proofs.system.System.type_program.Goals as goal
@@ -51,3 +45,13 @@ returns-in-ControlC-clause-has g c =
     let typed = put_back m.typed.items t.0 c.index_mut.result.now _ c.index_mut.ensures.value (λ i. record c.index_mut.result.now { input = sym c.in-ControlC.ensures.line i }) in
     has_stopped m c.interrupt.new.self t c.args.job code _ (echo_items t c.interrupt.result) (c.in-ControlC.ensures.fate ∙ ap (λ (y : Typing). fate_of y.input code) at)
     (has_from m _ c.interrupt.new.self t c.args.job (λ s j. interrupted s t j) (echo_items t c.interrupt.result) refl refl refl refl typed refl c.interrupt.ensures.has)
+
+pub returns-in-Posts-clause-has : goal.returns-in-Posts-clause-has
+returns-in-Posts-clause-has g c =
+    let m = c.args.self.now in
+    let t = c.args.t in
+    let code = read_as c.args.c in
+    let at = c.index_mut.ensures.value ∙ stands m.typed.items t.0 c.index_mut.result.now new_typing (low_typed m m t c.args.job c.requires.job) in
+    let typed = put_back m.typed.items t.0 c.index_mut.result.now _ c.index_mut.ensures.value (λ i. record c.index_mut.result.now { input = sym c.in-Posts.ensures.line i }) in
+    has_posting m c.post_typed.new.self t c.args.job code c.in-Posts.fork c.in-Posts.channel _ (echo_items t c.post_typed.result) (c.in-Posts.ensures.fate ∙ ap (λ (y : Typing). fate_of y.input code) at)
+    (has_from m _ c.post_typed.new.self t c.args.job (λ s j. posted_at s c.in-Posts.fork c.in-Posts.channel) (echo_items t c.post_typed.result) refl refl refl refl typed refl (c.post_typed.ensures.has t))

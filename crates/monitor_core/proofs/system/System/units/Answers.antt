@@ -1,10 +1,10 @@
 use Rattle.std.proofs.Common.{◌≡◌, length, IsSome, is_some, refl, sym, ◌∙◌, ap, subst, arith}
 use Rattle.plain_model.specs.declared.fork.Fork.{Fork}
 use Rattle.monitor_core.specs.Limits.{CanUnit}
-use Rattle.monitor_core.specs.Runners.{woken_where}
+use Rattle.monitor_core.specs.Runners.{told_at}
 use Rattle.monitor_core.specs.Shown.{is_stop, seen_of}
 use Rattle.monitor_core.proofs.Running.{place_of, runner, runner_lives, runner_only, runner_runs, runner_there}
-use Rattle.monitor_core.proofs.UnitDid.{did_units, has_job, unheld_left, units_sound, waits_sound, waits_still, waits_unheld}
+use Rattle.monitor_core.proofs.UnitDid.{did_units, has_job, left_keeps, unheld_left, units_sound, waits_sound, waits_still, waits_unheld}
 use Rattle.monitor_core.proofs.system.System.units.Goals as goal
 
 pub units_of-ran-requires-clause-there : goal.units_of-ran-requires-clause-there
@@ -60,9 +60,8 @@ invariant_of-self-in-Ok g c =
     let units = c.in-Ok.units in
     let ran = c.in-Ok.ensures.ran (place_of r.fork) r.fork.body (runner_there m.tree who r) in
     let left = c.units_of-ran.new.tree in
-    let woken : c.wake_where.new.tree ≡ record left { forks = woken_where left.forks who.fork.tty (is_stop units.shown) } =
-    ◌∙◌ {b = record left { forks = woken_where left.forks who.fork.tty c.is_stop.result }} c.wake_where.ensures (ap (λ b. record left { forks = woken_where left.forks who.fork.tty b }) c.is_stop.ensures) in
-    record { unheld = unheld_left m f r.trees (runner_lives m.tree who r) c.units_of-ran.new.files ran.unheld c.seen.result c.seen.ensures.jobs; sound = units_sound m f r.trees (runner_lives m.tree who r) c.units_of-ran.new.pages left c.wake_where.new.tree units.count (is_stop units.shown) ran.leaves c.are_trees.ensures woken c.are_trees-in-Ok.ensures c.seen.new.jobs.items c.seen.result c.seen.ensures.jobs; typing_room = ran.typing_room }
+    let told : c.tell_where.new.tree ≡ told_at left who.fork (is_stop units.shown) = c.tell_where.ensures ∙ ap (told_at left who.fork) c.is_stop.ensures in
+    record { unheld = unheld_left m f r.trees (runner_lives m.tree who r) c.units_of-ran.new.files ran.unheld c.seen.result c.seen.ensures.jobs; sound = units_sound m f r.trees (runner_lives m.tree who r) c.units_of-ran.new.pages left c.tell_where.new.tree units.count ran.leaves c.are_trees.ensures (left_keeps m f r.trees (runner_lives m.tree who r) c.units_of-ran.new.pages left c.tell_where.new.tree c.units_of-ran.new.files c.units_of-ran.new.typed.items units ran c.are_trees.ensures told) c.are_trees-in-Ok.ensures c.seen.new.jobs.items c.seen.result c.seen.ensures.jobs; typing_room = ran.typing_room }
 
 pub returns-in-Ok-clause-did : goal.returns-in-Ok-clause-did
 returns-in-Ok-clause-did g c =
@@ -74,7 +73,6 @@ returns-in-Ok-clause-did g c =
     let ran = c.in-Ok.ensures.ran (place_of r.fork) r.fork.body (runner_there m.tree who r) in
     let seen : c.seen.result ≡ seen_of r.fork.slot units.shown = c.seen.ensures.shown ∙ ap (λ n. seen_of n units.shown) (sym r.there.2) in
     let left = c.units_of-ran.new.tree in
-    let woken : c.wake_where.new.tree ≡ record left { forks = woken_where left.forks who.fork.tty (is_stop units.shown) } =
-    ◌∙◌ {b = record left { forks = woken_where left.forks who.fork.tty c.is_stop.result }} c.wake_where.ensures (ap (λ b. record left { forks = woken_where left.forks who.fork.tty b }) c.is_stop.ensures) in
+    let told : c.tell_where.new.tree ≡ told_at left who.fork (is_stop units.shown) = c.tell_where.ensures ∙ ap (told_at left who.fork) c.is_stop.ensures in
     let can = runner_runs m.tree who r in
-    did_units m f r.trees (runner_lives m.tree who r) c.units_of-ran.new.pages left c.wake_where.new.tree c.units_of-ran.new.files c.units_of-ran.new.typed.items units ran c.are_trees.ensures woken _ refl refl refl refl c.seen.result can.0 can.1 seen c.seen.ensures.jobs refl c.in-Ok.ensures.some
+    did_units m f r.trees (runner_lives m.tree who r) c.units_of-ran.new.pages left c.tell_where.new.tree c.units_of-ran.new.files c.units_of-ran.new.typed.items units ran c.are_trees.ensures told _ refl refl refl refl c.seen.result can.0 can.1 seen c.seen.ensures.jobs refl c.in-Ok.ensures.some
