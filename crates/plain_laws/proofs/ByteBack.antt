@@ -22,7 +22,7 @@ use Rattle.plain_model.specs.MapCalls.{is_read}
 use Rattle.plain_model.specs.State.{PlainState}
 use Rattle.plain_laws.specs.ByteLaws.{ReadsByte, StandTogether, byte_of, end_of, page_of_jfn, with_byte}
 use Rattle.plain_laws.specs.JfnLaws.{Lives, NamesJfn, jfn_named}
-use Rattle.plain_laws.specs.Whole.{IsWhole}
+use Rattle.plain_laws.specs.Whole.{IsWholeMachine}
 use Rattle.plain_laws.proofs.ByteSizes.{reached}
 use Rattle.plain_laws.proofs.ByteTurns.{read_so}
 use Rattle.plain_laws.proofs.ByteWords.{writes_byte}
@@ -39,7 +39,7 @@ reaches files name size end there = by (map.get files name) refl there
     by (Some f) is some = subst (λ (o : Option PlainFile). end ≤ length_in size (unwrap_or o new_file)) (sym (get_put nat_list_cmp_total name_cmp_apart files name name (reaching size end f) refl)) (reached size end f)
 
 -- a byte that is written at a JFN, in pages that are whole; and what another JFN at that byte reads then
-module _ (s u : PlainState) (f : Fork) (i j : OpenFile) (byte : ℕ) (p q : NamedPages) (w : IsWhole s) (sound : AreWhole p) (own : IsOwner f.name.tty) (held : NamesJfn s f j)
+module _ (s u : PlainState) (f : Fork) (i j : OpenFile) (byte : ℕ) (p q : NamedPages) (w : IsWholeMachine s) (sound : AreWhole p) (own : IsOwner f.name.tty) (held : NamesJfn s f j)
     (grants : reference p (in_file (page_of_jfn j)) Write f.name.tty ≡ granted q) (pages : u.pages ≡ with_byte q j byte) (files : u.files ≡ files_reaching s.files j.file j.size (j.at + 1)) (together : StandTogether i j) where
   pub byte_then : byte_of u.pages i ≡ byte % 2 ^ j.size
   byte_then =
@@ -55,9 +55,9 @@ module _ (s u : PlainState) (f : Fork) (i j : OpenFile) (byte : ℕ) (p q : Name
       (λ k. length_in (together.size k) (unwrap_or (map.get (files k) (together.file k)) new_file)) in
       omega (arith, far, at, together.at)
 
-  pub read_back : (g : Fork) → IsWhole u → Lives u g → NamesJfn u g i → is_read i ≡ true → ReadsByte u g i (byte % 2 ^ j.size)
+  pub read_back : (g : Fork) → IsWholeMachine u → Lives u g → NamesJfn u g i → is_read i ≡ true → ReadsByte u g i (byte % 2 ^ j.size)
   read_back g whole lives named ready = subst (ReadsByte u g i) byte_then (read_so u g lives whole i named ready before_end)
 
 -- the file of a JFN has room for the bytes that it has, of the JFN's size
-pub end_fits : (s : PlainState) → IsWhole s → (f : Fork) (j : OpenFile) → NamesJfn s f j → end_of s j ≤ most_bytes j.size
+pub end_fits : (s : PlainState) → IsWholeMachine s → (f : Fork) (j : OpenFile) → NamesJfn s f j → end_of s j ≤ most_bytes j.size
 end_fits s w f j held = let fits = held_fits s w f (jfn_named f) j held in fits.room

@@ -40,7 +40,7 @@ use Rattle.plain_model.specs.Unit.{parts_of}
 use Rattle.plain_model.proofs.Calling.{filed_of, with_filed}
 use Rattle.plain_laws.specs.ByteLaws.{ReadsByte, TakesCharacter, Writes, behind_first_return, byte_of, end_of, page_of_jfn, with_byte}
 use Rattle.plain_laws.specs.JfnLaws.{Lives, NamesJfn, behind_second, jfn_named, turn_of, with_jfns}
-use Rattle.plain_laws.specs.Whole.{IsWhole}
+use Rattle.plain_laws.specs.Whole.{IsWholeMachine}
 use Rattle.plain_laws.proofs.WholeJfns.{file_of_held}
 
 module _ (s : PlainState) (f : Fork) (lives : Lives s f) where
@@ -105,7 +105,7 @@ module _ (s : PlainState) (f : Fork) (lives : Lives s f) where
   unfolding turn_on
   bin_waits named is = ap (λ n. left_of (bin_by n)) named ∙ none_so 2 is
 
-  module _ (w : IsWhole s) (j : OpenFile) (held : NamesJfn s f j) where
+  module _ (w : IsWholeMachine s) (j : OpenFile) (held : NamesJfn s f j) where
     low : jfn_named f ≤ MOST_JFNS
     low = (file_of_held s w f.name.tty (jfn_named f) j held).1
 

@@ -32,6 +32,7 @@ use Rattle.plain_model.specs.Commands.{begun_at, commanded, forks_and_pages, in_
 use Rattle.plain_model.specs.FileCalls.{times_held}
 use Rattle.plain_model.specs.FileEvents.{page_named}
 use Rattle.plain_model.specs.Inferiors.{is_inferior}
+use Rattle.plain_model.specs.InterruptCalls.{living_codes}
 use Rattle.plain_model.specs.State.{PlainState, PlainJob}
 use Rattle.plain_model.specs.Trees.{changed, tree_of}
 use Rattle.plain_model.specs.TypeEvents.{typed_all, typed_at, typed_one}
@@ -44,7 +45,7 @@ use Rattle.fork_tree.proofs.Slots.{empty_of, held_lives, names_same, some_of}
 use Rattle.plain_laws.specs.CommandLaws.{BeginsProgram, IsCommand, LeavesNothing, Tells, line_done, page_of_file, page_of_fork, without_line}
 use Rattle.plain_laws.specs.MappedLaws.{KeepsPage, WritesAll}
 use Rattle.plain_laws.specs.TypeLaws.{typed}
-use Rattle.plain_laws.specs.Whole.{IsWhole}
+use Rattle.plain_laws.specs.Whole.{IsWholeMachine}
 use Rattle.plain_laws.proofs.Holders.{named_by}
 use Rattle.plain_laws.proofs.Killed.{AreFewer, below_fewer, below_forks, killed_fewer}
 use Rattle.plain_laws.proofs.Programs.{HasProgram, filed_kept}
@@ -83,7 +84,7 @@ module _ (s : PlainState) (t : Tty) (j : PlainJob) where
   left_there : map.get before.jobs t.0 ≡ Some left
   left_there = get_put nat_cmp_total nat_cmp-IsAntisymmetric s.jobs t.0 t.0 left refl
 
-  before_whole : IsWhole s → map.get s.jobs t.0 ≡ Some j → IsWhole before
+  before_whole : IsWholeMachine s → map.get s.jobs t.0 ≡ Some j → IsWholeMachine before
   before_whole w is = with_job_whole s w t j left is refl refl
 
 -- RUN
@@ -105,7 +106,7 @@ module _ (s : PlainState) (t : Tty) (j : PlainJob) (name : List ℕ) (is : IsCom
   pub run_no_program : map.contains_key s.files name ≡ true → map.get s.pages.files (page_of_file name 0) ≡ None → Tells s t j (codes "?NO PROGRAM")
   run_no_program there none = run_by there None none
 
-  module _ (w : IsWhole s) where
+  module _ (w : IsWholeMachine s) where
     pub run_is : IsSome (map.get s.pages.files (page_of_file name 0)) → line_done s t ≡ ended t (record { state = running (before s t j) t (left s t j) name (start_address s name); items = [] })
     run_is some = let n = some_of (map.get s.pages.files (page_of_file name 0)) some in run_by (w.files.placed (page_of_file name 0) some).0 (Some n.0) n.1
 
@@ -113,7 +114,7 @@ module _ (s : PlainState) (t : Tty) (j : PlainJob) (name : List ℕ) (is : IsCom
       abbrev address : ℕ
       address = start_address s name
 
-      was : IsWhole (before s t j)
+      was : IsWholeMachine (before s t j)
       was = before_whole s t j w is.job
 
       abbrev bare : PlainState
@@ -154,11 +155,11 @@ module _ (s : PlainState) (t : Tty) (j : PlainJob) (name : List ℕ) (is : IsCom
           | inl e ↦ e ∙ named
           | inr ne ↦ only g (sym (ap is_some (ap (λ m. map.get m g) put ∙ fork_other bare.forks f.name g (begun_at address f) ne)) ∙ there) job
         ];
-        job = get_put nat_cmp_total nat_cmp-IsAntisymmetric (before s t j).jobs t.0 t.0 (record (in_program (left s t j)) { start = Some address }) refl;
+        job = get_put nat_cmp_total nat_cmp-IsAntisymmetric (before s t j).jobs t.0 t.0 (record (in_program (left s t j)) { start = Some address; codes = living_codes (running (before s t j) t (left s t j) name address).forks j.codes }) refl;
       }
 
 -- what a program writes goes into copies
-pub copies_made : (s u : PlainState) (t : Tty) (j : PlainJob) (name : List ℕ) (f : Fork) (page : ℕ) (n : PageName) (q : NamedPages) (words : List (ℕ × ℕ)) (at : FilePage (List ℕ)) → IsWhole u → IsTerminal t → BeginsProgram s u t j name f
+pub copies_made : (s u : PlainState) (t : Tty) (j : PlainJob) (name : List ℕ) (f : Fork) (page : ℕ) (n : PageName) (q : NamedPages) (words : List (ℕ × ℕ)) (at : FilePage (List ℕ)) → IsWholeMachine u → IsTerminal t → BeginsProgram s u t j name f
     → page < SPACE_PAGES → map.get s.pages.files (page_of_file name page) ≡ Some n → WritesAll u.pages q t (page_of_fork j.top page) words → KeepsPage u.pages q at
 copies_made s u t j name f page n q words at w terminal begins within filed goes =
     let here = page_of_fork j.top page in
@@ -196,8 +197,8 @@ module _ (s : PlainState) (t : Tty) (j : PlainJob) (is : IsCommand s t j command
   pub rest_lost : (more : List ℕ) → typed s t (CARRIAGE_RETURN ∷ more) ≡ line_done s t
   rest_lost more = typed_here s t j is.job (CARRIAGE_RETURN ∷ more) ∙ first_typed s t CARRIAGE_RETURN more (ended t leaves) end_is ∙ ap (ended t) (none_typed t more gone job_gone) ∙ sym logout_is
 
-  module _ (w : IsWhole s) where
-    left_whole : IsWhole gone
+  module _ (w : IsWholeMachine s) where
+    left_whole : IsWholeMachine gone
     left_whole = logged_out_whole (before s t j) (before_whole s t j w is.job) t (left s t j) (left_there s t j)
 
     fewer_left : AreFewer s.pages gone.pages
@@ -267,7 +268,7 @@ module _ (s : PlainState) (t : Tty) (j : PlainJob) (name : List ℕ) (is : IsCom
       let was : option_map_or counts (map.get s.jobs t.0) 0 ≡ counts j = ap (λ (o : Option PlainJob). option_map_or counts o 0) is.job in
       omega (arith, was, total_insert nat_cmp_total counts s.jobs t.0 (left s t j))
 
-  pub delete_busy : IsWhole s → (u n : ℕ) (k : PlainJob) (i : OpenFile) → map.get s.jobs u ≡ Some k → map.get k.jfns n ≡ Some i → i.file ≡ name → Tells s t j (codes "?FILE BUSY")
+  pub delete_busy : IsWholeMachine s → (u n : ℕ) (k : PlainJob) (i : OpenFile) → map.get s.jobs u ≡ Some k → map.get k.jfns n ≡ Some i → i.file ≡ name → Tells s t j (codes "?FILE BUSY")
   delete_busy w u n k i job held stands =
       let there : map.contains_key s.files name ≡ true = ap (map.contains_key s.files) (sym stands) ∙ (w.files.jfns u k job n i held).2.0 in
       delete_is ∙ ap (λ b. ended t (deletes b (nat_lt 0 (times_held (before s t j).jobs name)))) there ∙ ap (λ b. ended t (deletes true b)) (ap (nat_lt 0) as_often ∙ counted)

@@ -33,8 +33,9 @@ use Rattle.plain_pages.proofs.Whole.{opening_whole, map_whole, live_whole}
 use Rattle.plain_pages.proofs.Makings.{make_whole}
 use Rattle.plain_pages.proofs.ReferencesMade.{reference_stays}
 use Rattle.plain_pages.proofs.ChainEquations.{named_chain}
-use Rattle.plain_model.proofs.Equations.{unit_some}
-use Rattle.plain_model.specs.Forks.{top_fork, first_regs}
+use Rattle.plain_model.proofs.Equations.{unit_plain}
+use Rattle.plain_model.specs.Forks.{top_fork, first_regs, psi_at_rest}
+use Rattle.plain_model.specs.Inspections.{is_interrupted}
 use Rattle.plain_pages.specs.declared.map.NewMap.TheVariants.{Empty as EmptyMap}
 use Rattle.plain_pages.specs.NewMaps.{empty_map}
 use Rattle.plain_model.specs.Events.{new_job, outer}
@@ -269,9 +270,9 @@ from_word jobs forks f w =
 -- the word at an address of the page is fetched
 fetches : (jobs : Jobs) (forks : AllForks) (regs : Regs) (units w : ℕ) → map.get forks first_fork ≡ Some (fork Run regs units) → is_accumulator regs.pc ≡ false → slot_at first_fork regs.pc ≡ first_slot → slice_index words_3 (regs.pc % PAGE_WORDS) ≡ w
     → unit (at pages_5 jobs forks) first_fork ≡ from_word jobs forks (fork Run regs units) w
-unfolding run instruction
+unfolding run instruction is_interrupted psi_at_rest
 fetches jobs forks regs units w there high in_page word =
-    unit_some s first_fork f there
+    unit_plain s first_fork f there refl
     ∙ ap (λ b. over s f (goes_on (if b then goes pages_5 else plainly first_fork pages_5 (slot_at first_fork regs.pc) Execute) next)) high
     ∙ ap (λ at. over s f (goes_on (plainly first_fork pages_5 at Execute) next)) in_page
     ∙ ap (λ r. over s f (goes_on (plain_asked r) next)) fetch_granted

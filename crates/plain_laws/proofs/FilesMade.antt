@@ -13,7 +13,7 @@ use Rattle.script_texts.specs.declared.event.Refusal.TheVariants.{Exists, FilesF
 use Rattle.plain_model.specs.State.{PlainState}
 use Rattle.plain_model.specs.Unit.{Effect, refused}
 use Rattle.plain_model.specs.FileEvents.{make_file}
-use Rattle.plain_laws.specs.Whole.{IsWhole}
+use Rattle.plain_laws.specs.Whole.{IsWholeMachine}
 use Rattle.plain_laws.specs.FileLaws.{IsNewFile, ChangesFile}
 use Rattle.plain_laws.proofs.RowsPut.{file_page}
 
@@ -35,7 +35,7 @@ module _ (s : PlainState) (name : List ℕ) where
         full : nat_lt (map.len s.files) MOST_FILES ≡ false
         full = grind (arith, nat_tests)
 
-    pub file_made : IsWhole s → map.len s.files < MOST_FILES → ((make_file s name).items ≡ []) × IsNewFile (make_file s name).state name × ChangesFile s (make_file s name).state name
+    pub file_made : IsWholeMachine s → map.len s.files < MOST_FILES → ((make_file s name).items ≡ []) × IsNewFile (make_file s name).state name × ChangesFile s (make_file s name).state name
     file_made w few = subst (λ (e : Effect). (e.items ≡ []) × IsNewFile e.state name × ChangesFile s e.state name) (sym (ap (λ b. cond b (refused s (Exists name)) where_absent) absent ∙ ap (λ b. cond b with_it (refused s (FilesFull name))) room)) (refl, new, rest)
       where
         room : nat_lt (map.len s.files) MOST_FILES ≡ true

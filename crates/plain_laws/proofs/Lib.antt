@@ -17,8 +17,14 @@ pub mod WholeBytes
 pub mod LoneTops
 pub mod Programs
 pub mod WholeCommands
+pub mod InterruptEnds
+pub mod Inspected
+pub mod WholeInterrupts
 pub mod WholeTyped
 pub mod WholeRuns
+pub mod LivingForks
+pub mod LivingCodes
+pub mod LivingRuns
 pub mod Named
 pub mod ReadTurns
 pub mod JfnTurns
@@ -54,3 +60,9 @@ pub mod Holders
 pub mod TypedLines
 pub mod TypedTexts
 pub mod CommandsDone
+pub mod LevelsNest
+pub mod InterruptUnits
+pub mod FlagsBack
+pub mod ReadingsTaken
+pub mod PostedNext
+pub mod LeastFirst

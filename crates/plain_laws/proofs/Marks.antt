@@ -26,12 +26,15 @@ use Rattle.plain_model.specs.Calls.{parts_behind, Asked}
 use Rattle.plain_model.specs.ForkCalls.{ForkParts, without, without_below, with_halted, fork_changed}
 use Rattle.plain_laws.specs.ForkLaws.{Resumes, UnitResumes}
 use Rattle.plain_units.specs.Steps.{Planned, done, call, stopped as unit_stopped}
-use Rattle.plain_model.specs.Unit.{over, unit, parts_of}
+use Rattle.plain_model.specs.Unit.{Effect, called, instruction_unit, over, unit, unit_of, parts_of}
+use Rattle.plain_model.specs.Inspections.{inspected}
+use Rattle.plain_model.proofs.Equations.{unit_some}
 use Rattle.plain_units.specs.Units.{unit_on}
-use Rattle.plain_laws.specs.Whole.{IsWhole}
+use Rattle.plain_laws.specs.Whole.{IsWholeMachine}
 use Rattle.plain_model.proofs.ForkMaps.{AreOwn, cases_name, get_put, get_put_other, get_gone, get_gone_other, held_there, slot_tells, superior_tells}
 use Rattle.plain_model.proofs.ForkEnds.{FitsChange, FitsEnd, call_names}
-use Rattle.plain_laws.proofs.UnitForks.{KeptBy, fork_kept, over_kept}
+use Rattle.plain_laws.proofs.Inspected.{unit_by}
+use Rattle.plain_laws.proofs.UnitForks.{KeptBy, forced_kept, fork_kept, over_kept, taken_kept}
 use Rattle.plain_model.proofs.Posted.{posted_mark}
 use Rattle.plain_laws.proofs.WholeForks.{no_fork}
 use Rattle.fork_tree.proofs.CanRun.{runs_as}
@@ -113,7 +116,7 @@ module _ (name : ForkName) where
       by rest None = w
       by rest (Some k) = rest (without v k.name) (gone_marked v.tree.forks w k.name)
 
-  module _ (s : PlainState) (w : IsWhole s) (f : Fork) (there : map.get s.forks name ≡ Some f) (mark : f.frozen ≡ true) where
+  module _ (s : PlainState) (w : IsWholeMachine s) (f : Fork) (there : map.get s.forks name ≡ Some f) (mark : f.frozen ≡ true) where
     marked : Marked s.forks
     marked = record { own = w.tree.slotted.own; mark = λ g is. let both : Some f ≡ Some g = sym there ∙ is in let same : f ≡ g = cc both in ap (λ (x : Fork). x.frozen) (sym same) ∙ mark }
 
@@ -189,37 +192,55 @@ module _ (name : ForkName) where
     abbrev Good : Fork → Type 0
     Good g = g.name ≡ name → g.frozen ≡ true
 
-    by_mark : KeptBy Marked Good
-    by_mark = record {
+    good_in : (m : ForkMap) → Marked m → (k : ForkName) (g : Fork) → map.get m k ≡ Some g → Good g
+    good_in m u k g is e = u.mark g (ap (map.get m) (sym e ∙ u.own k g is) ∙ is)
+
+    by_mark : (t : Tty) → KeptBy t Marked Good
+    by_mark t = record {
+      own = λ m u. u.own;
+      found = λ m u k g job is. good_in m u k g is;
       same = λ g h is good e. is.1 ∙ good (sym is.0 ∙ e);
       put = λ m u g good. put_marked m u g good;
       told = λ m u g good. told_marked m u g;
     }
 
-    good_in : (m : ForkMap) → Marked m → (k : ForkName) (g : Fork) → map.get m k ≡ Some g → Good g
-    good_in m u k g is e = u.mark g (ap (map.get m) (sym e ∙ u.own k g is) ∙ is)
-
     -- a unit of a fork leaves the mark, or its call takes it
     module _ (who : ForkName) (caller : Fork) (living : map.get s.forks who ≡ Some caller) where
+      good : Good caller
+      good = good_in s.forks marked who caller living
+
       over_marks : (r : Planned name_cmp ⊥) → Marked (over s caller r).state.forks ⊎ ((number : ℕ) × (r ≡ call number) × Resumes s caller number name)
-      over_marks (done t e) = inl (over_kept Marked Good by_mark s marked caller (good_in s.forks marked who caller living) (λ g is. good_in s.forks marked caller.name g is) (done t e) (λ number is. absurd (cc is)))
-      over_marks (unit_stopped why) = inl (over_kept Marked Good by_mark s marked caller (good_in s.forks marked who caller living) (λ g is. good_in s.forks marked caller.name g is) (unit_stopped why) (λ number is. absurd (cc is)))
+      over_marks (done t e) = inl (over_kept caller.name.tty Marked Good (by_mark caller.name.tty) s marked caller good refl (done t e) (λ number is. absurd (cc is)))
+      over_marks (unit_stopped why) = inl (over_kept caller.name.tty Marked Good (by_mark caller.name.tty) s marked caller good refl (unit_stopped why) (λ number is. absurd (cc is)))
       over_marks (call number) = elim (call_stays caller number) [
         | inr resumes ↦ inr (number, refl, resumes)
         | inl u ↦
-            let good = good_in s.forks marked who caller living in
-            let turns = fork_kept Marked Good by_mark s marked caller good (λ g is. good_in s.forks marked caller.name g is) number u (λ g is. good_in (fork_called s caller number).forks u caller.name g is) in
-            inl (over_kept Marked Good by_mark s marked caller good (λ g is. good_in s.forks marked caller.name g is) (call number) (λ n is.
+            let turns = fork_kept caller.name.tty Marked Good (by_mark caller.name.tty) s marked caller good refl number u in
+            inl (over_kept caller.name.tty Marked Good (by_mark caller.name.tty) s marked caller good refl (call number) (λ n is.
             let same : number ≡ n = cc is in subst (λ m. Marked (fork_turned s caller m).state.forks) same turns))
       ]
+
+      -- a unit that is its instruction, with the call that it is where that takes the mark
+      abbrev Left : Effect → Type 0
+      Left e = Marked e.state.forks ⊎ ((number : ℕ) × (unit_on caller.name s.pages caller.body.regs ≡ call number) × Resumes s caller number name × (unit_of s caller ≡ called s caller number))
+
+      plainly_left : unit_of s caller ≡ instruction_unit s caller → Left (instruction_unit s caller)
+      plainly_left plain = elim (over_marks (unit_on caller.name s.pages caller.body.regs)) [
+        | inl u ↦ inl u
+        | inr r ↦ inr (r.0, r.1, r.2, plain ∙ ap (over s caller) r.1)
+      ]
+
+      unit_marks : Left (unit_of s caller)
+      unit_marks = unit_by Left s caller plainly_left (λ d takes. inl (taken_kept caller.name.tty Marked Good (by_mark caller.name.tty) s marked caller good refl (inspected caller s.pages).pages d))
+          (λ channel forced. inl (forced_kept caller.name.tty Marked Good (by_mark caller.name.tty) s marked caller good refl channel))
 
     pub mark_stays : (who : ForkName) (g : Fork) → map.get (unit s who).state.forks name ≡ Some g → (g.frozen ≡ true) ⊎ UnitResumes s who name
     unfolding unit
     mark_stays who g is = by (map.get s.forks who) refl is
       where
-        by : (o : Option Fork) → map.get s.forks who ≡ o → map.get (option_map_or (λ c. over s c (unit_on c.name s.pages c.body.regs)) o (record { state = s; items = [] })).state.forks name ≡ Some g → (g.frozen ≡ true) ⊎ UnitResumes s who name
+        by : (o : Option Fork) → map.get s.forks who ≡ o → map.get (option_map_or (unit_of s) o (record { state = s; items = [] })).state.forks name ≡ Some g → (g.frozen ≡ true) ⊎ UnitResumes s who name
         by None none at = inl (marked.mark g at)
-        by (Some c) some at = elim (over_marks who c some (unit_on c.name s.pages c.body.regs)) [
+        by (Some c) some at = elim (unit_marks who c some) [
           | inl u ↦ inl (u.mark g at)
-          | inr r ↦ inr (record { caller = c; living = some; number = r.0; calls = r.1; resumes = r.2 })
+          | inr r ↦ inr (record { caller = c; living = some; number = r.0; calls = r.1; resumes = r.2; does = unit_some s who c some ∙ r.3 })
         ]

@@ -25,7 +25,7 @@ use Rattle.plain_model.specs.Forks.{ForkMap, fork_in, superior_of, with_status}
 use Rattle.plain_model.specs.Interrupts.{posted}
 use Rattle.plain_model.specs.Inferiors.{is_within, is_inferior, last_below}
 use Rattle.plain_model.specs.Trees.{tree_of, next_name, changed, with_mark, with_body, unwaited, woken_in, waiters_woken, end_told}
-use Rattle.plain_laws.specs.Whole.{IsWhole}
+use Rattle.plain_laws.specs.Whole.{IsWholeMachine}
 use Rattle.plain_model.proofs.ForkEnds.{FitsChange, FitsEnd, Leads, call_ends, mapped}
 use Rattle.plain_laws.proofs.WholeForks.{last_tells}
 use Rattle.plain_model.proofs.Posted.{posted_same}
@@ -33,7 +33,7 @@ use Rattle.plain_model.proofs.ForkMaps.{AreOwn, cases_name, get_put, get_put_oth
 use Rattle.plain_laws.proofs.OtherMaps.{not_it, Elsewhere, run_other, words_other, gone_maps}
 use Rattle.plain_model.specs.Families.{Parts}
 use Rattle.plain_model.specs.Unit.{parts_of}
-use Rattle.plain_model.proofs.Calling.{fork_came, fork_left, fork_called, forks_behind}
+use Rattle.plain_model.proofs.Calling.{fork_came, fork_left, fork_called, forks_behind, jobs_behind}
 use Rattle.std.specs.Cmp.Lexicographic.{nat_list_cmp_total}
 
 -- whether a fork stands below another, they are of one job
@@ -94,7 +94,7 @@ module _ (t : Tty) (k : ForkName) (other : k.tty.0 ≡ t.0 → ⊥) (there : Opt
       let u = waiters_stay m w f.name.tty here in
       changed_stays v u (λ j. posted j INFERIOR_ENDED) (λ j. let same = posted_same j INFERIOR_ENDED in same.0) (superior_of v f) (λ j is. let at = superior_tells v u.own f j is in at.1 ∙ here)
 
-  gone_stays : (m : ForkMap) → Stays m → (f : ForkName) → f.tty.0 ≡ t.0 → Stays (map.remove m f)
+  pub gone_stays : (m : ForkMap) → Stays m → (f : ForkName) → f.tty.0 ≡ t.0 → Stays (map.remove m f)
   gone_stays m w f here = record { own = λ q h is. w.own q h (left q h is); stays = get_gone_other m f k (not_it t k other f here) ∙ w.stays }
     where
       left : (q : ForkName) (h : Fork) → map.get (map.remove m f) q ≡ Some h → map.get m q ≡ Some h
@@ -104,11 +104,11 @@ module _ (t : Tty) (k : ForkName) (other : k.tty.0 ≡ t.0 → ⊥) (there : Opt
       ]
 
   -- the forks and the maps of other jobs
-  record PartsStay (p : NamedPages) (v : ForkParts name_cmp) : Type 0 where
-    forks : Stays v.tree.forks
-    maps : Elsewhere t k other p v.pages
+  pub record PartsStay (p : NamedPages) (v : ForkParts name_cmp) : Type 0 where
+    pub forks : Stays v.tree.forks
+    pub maps : Elsewhere t k other p v.pages
 
-  below_stays : (n : ℕ) (f : ForkName) (p : NamedPages) (v : ForkParts name_cmp) → f.tty.0 ≡ t.0 → PartsStay p v → PartsStay p (without_below n f v)
+  pub below_stays : (n : ℕ) (f : ForkName) (p : NamedPages) (v : ForkParts name_cmp) → f.tty.0 ≡ t.0 → PartsStay p v → PartsStay p (without_below n f v)
   unfolding without_below
   below_stays zero f p v here w = w
   below_stays (suc n) f p v here w = by (λ u m. below_stays n f p u here m) (last_below v.tree.forks f) refl
@@ -119,7 +119,7 @@ module _ (t : Tty) (k : ForkName) (other : k.tty.0 ≡ t.0 → ⊥) (there : Opt
           let at = inferior_job v.tree.forks w.forks.own f j.name (last_tells v.tree.forks f j is) ∙ here in
           rest (without v j.name) (record { forks = gone_stays v.tree.forks w.forks j.name at; maps = gone_maps t k other v.pages j.name at ∙ w.maps })
 
-module _ (s : PlainState) (w : IsWhole s) (who : ForkName) (regs : Regs) (k : ForkName) (other : k.tty.0 ≡ who.tty.0 → ⊥) where
+module _ (s : PlainState) (w : IsWholeMachine s) (who : ForkName) (regs : Regs) (k : ForkName) (other : k.tty.0 ≡ who.tty.0 → ⊥) where
   abbrev caller : Asked
   caller = record { who = who; regs = regs; tree = tree_of s }
 
@@ -185,12 +185,12 @@ module _ (s : PlainState) (w : IsWhole s) (who : ForkName) (regs : Regs) (k : Fo
       by (Trap channel) fits = record { forks = as_it_was; maps = refl }
 
 -- a fork call leaves the forks and the maps of other jobs
-module _ (s : PlainState) (w : IsWhole s) (caller : Fork) (number : ℕ) (k : ForkName) (other : k.tty.0 ≡ caller.name.tty.0 → ⊥) where
+module _ (s : PlainState) (w : IsWholeMachine s) (caller : Fork) (number : ℕ) (k : ForkName) (other : k.tty.0 ≡ caller.name.tty.0 → ⊥) where
   abbrev left : ForkParts name_cmp
   left = let c = came s w caller.name caller.body.regs k other number in parts_behind fork_changed (record { tree = tree_of s; pages = s.pages }) (record { tree = tree_of s; pages = c.pages }) c.end
 
-  -- the forks and the pages of the parts
-  left_so : fork_left s caller number ≡ record (parts_of s) { tree = left.tree; pages = left.pages }
+  -- the forks, the pages and the codes of the parts
+  left_so : fork_left s caller number ≡ record (parts_of s) { tree = left.tree; pages = left.pages; jobs = jobs_behind (fork_came s caller number).end left.tree.forks s.jobs }
   left_so = forks_behind (parts_of s) (fork_came s caller number).pages (fork_came s caller number).end
 
   same : PartsStay caller.name.tty k other (map.get s.forks k) s.pages left

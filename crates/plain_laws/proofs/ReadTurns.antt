@@ -10,7 +10,7 @@ use Rattle.plain_units.specs.Steps.{Ending, Planned, Progress, Steps, call, done
 use Rattle.plain_model.specs.declared.call.End.{End}
 use Rattle.plain_model.specs.declared.call.End.TheVariants.{Done, Trap}
 use Rattle.plain_model.specs.Calls.{Came, Sight, Turn, ends, no_files, stepped, takes, turn_on}
-use Rattle.plain_model.specs.PointedTexts.{Reading, read, with_reading, words}
+use Rattle.plain_model.specs.Readings.{Reading, read, with_reading, words}
 
 -- a turn goes on behind steps that go through
 module _ {F C K : Type 0} {file_cmp : K → K → Ordering} (sight : Sight F K) (p : PlainPages file_cmp) (f : ForkName) (regs : Regs) (steps : Steps) (next : Ending → Turn F C) where

@@ -23,7 +23,7 @@ use Rattle.plain_model.specs.State.{PlainState}
 use Rattle.plain_model.specs.Unit.{Effect, refused}
 use Rattle.plain_model.specs.FileEvents.{console, page_named, write_words}
 use Rattle.script_texts.specs.declared.event.Refusal.TheVariants.{NoFile, FileFull}
-use Rattle.plain_laws.specs.Whole.{IsWhole}
+use Rattle.plain_laws.specs.Whole.{IsWholeMachine}
 use Rattle.plain_laws.specs.FileLaws.{HasPage, PutsRow, WritesRow, file_word}
 use Rattle.plain_laws.proofs.Rows.{with_row, beside_row, within_row, row_maps, row_files, row_live, row_page, row_others, row_words}
 use Rattle.plain_laws.proofs.WordsWritten.{Outcome, no_file, no_room, there, made, outcome, spot, after, filled_whole, filled_live}
@@ -59,7 +59,7 @@ module _ (s : PlainState) (name : List ℕ) (page offset : ℕ) (words : List �
       by (there f n found has is) = absurd (no_way f found)
       by (made f found none room is) = absurd (no_way f found)
 
-module _ (s : PlainState) (w : IsWhole s) (name : List ℕ) (page offset : ℕ) (words : List ℕ) where
+module _ (s : PlainState) (w : IsWholeMachine s) (name : List ℕ) (page offset : ℕ) (words : List ℕ) where
   abbrev at : FilePage (List ℕ)
   at = spot s name page offset words
 
@@ -178,7 +178,7 @@ module _ (s : PlainState) (w : IsWhole s) (name : List ℕ) (page offset : ℕ) 
         by (made f found absent fits is) = subst Written (sym is) (refl, row_written within (filled s.pages console at) (is_made absent) f found)
 
 -- a page of a file has its file
-pub page_there : (s : PlainState) → IsWhole s → (name : List ℕ) (page : ℕ) → HasPage s name page → map.contains_key s.files name ≡ true
+pub page_there : (s : PlainState) → IsWholeMachine s → (name : List ℕ) (page : ℕ) → HasPage s name page → map.contains_key s.files name ≡ true
 page_there s w name page has =
     let at : FilePage (List ℕ) = record { file = name; page = page } in
     (w.files.placed at (sym (ap is_some (file_page s.pages at)) ∙ has)).0

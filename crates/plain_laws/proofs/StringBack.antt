@@ -24,13 +24,14 @@ use Rattle.plain_model.specs.declared.fork.Fork.{Fork}
 use Rattle.plain_model.specs.ByteCalls.{files_reaching}
 use Rattle.plain_model.specs.Calls.{Came, ends, no_files, turn_on}
 use Rattle.plain_model.specs.MapCalls.{is_read}
-use Rattle.plain_model.specs.PointedTexts.{Reading, byte_at}
+use Rattle.plain_model.specs.PointedTexts.{byte_at}
+use Rattle.plain_model.specs.Readings.{Reading}
 use Rattle.plain_model.specs.State.{PlainState}
 use Rattle.plain_model.proofs.JfnEnds.{reading_comes}
 use Rattle.plain_laws.specs.StringLaws.{IsInSpace, ReadsNext, TakesNext, address_of, byte_pointed, next_of, offset_pointed, spot_pointed, with_byte_pointed}
 use Rattle.plain_laws.specs.ByteLaws.{StandTogether, page_of_jfn, with_byte}
 use Rattle.plain_laws.specs.JfnLaws.{Lives, NamesJfn, ReadsSo}
-use Rattle.plain_laws.specs.Whole.{IsWhole}
+use Rattle.plain_laws.specs.Whole.{IsWholeMachine}
 use Rattle.plain_laws.proofs.ByteBack.{before_end, byte_then}
 use Rattle.plain_laws.proofs.Copying.{page_made}
 use Rattle.plain_laws.proofs.ReadTurns.{telling, told}
@@ -63,7 +64,7 @@ module _ (q : NamedPages) (w : AreWhole q) (f : Fork) (p byte : ℕ) where
       ∙ loads_back p (word_at q at offset) byte inside
 
 -- what a fork reads leaves whole pages whole
-pub read_whole : {A : Type 0} (s : PlainState) (w : IsWhole s) (f : Fork) → IsOwner f.name.tty → (r : Reading A) (found : A) (q : NamedPages) → ReadsSo s f r found q → AreWhole q
+pub read_whole : {A : Type 0} (s : PlainState) (w : IsWholeMachine s) (f : Fork) → IsOwner f.name.tty → (r : Reading A) (found : A) (q : NamedPages) → ReadsSo s f r found q → AreWhole q
 unfolding turn_on
 read_whole {A = A} s w f own r found q is = subst (λ (c : Came name_cmp A). AreWhole c.pages) is comes.sound.whole
   where
@@ -75,9 +76,9 @@ read_whole {A = A} s w f own r found q is = subst (λ (c : Came name_cmp A). Are
         (λ x. ends (told f.body.regs x)) (λ x y k. finished x y k) r s.pages (kept_itself s.pages (sound s w))
 
 -- what SOUT has written at a JFN, SIN takes back at that byte of the file
-module _ (s u : PlainState) (f g : Fork) (i j : OpenFile) (byte : ℕ) (p q : NamedPages) (w : IsWhole s) (own : IsOwner f.name.tty) (held : NamesJfn s f j) (found : ReadsNext s f 2 byte p)
+module _ (s u : PlainState) (f g : Fork) (i j : OpenFile) (byte : ℕ) (p q : NamedPages) (w : IsWholeMachine s) (own : IsOwner f.name.tty) (held : NamesJfn s f j) (found : ReadsNext s f 2 byte p)
     (grants : reference p (in_file (page_of_jfn j)) Write f.name.tty ≡ granted q) (pages : u.pages ≡ with_byte q j byte) (files : u.files ≡ files_reaching s.files j.file j.size (j.at + 1)) (together : StandTogether i j) where
-  pub given_back : (x z : NamedPages) → IsWhole u → Lives u g → IsOwner g.name.tty → NamesJfn u g i → is_read i ≡ true → IsInSpace g (next_of g 2)
+  pub given_back : (x z : NamedPages) → IsWholeMachine u → Lives u g → IsOwner g.name.tty → NamesJfn u g i → is_read i ≡ true → IsInSpace g (next_of g 2)
       → reference u.pages (spot_pointed g (next_of g 2)) Read g.name.tty ≡ granted x → reference x (spot_pointed g (next_of g 2)) Write g.name.tty ≡ granted z → TakesNext u g i (byte % 2 ^ j.size) z
   given_back x z whole lives owns named ready place reading writing =
       let sound_pages = read_whole s w f own (byte_at f.body.regs (next_of f 2)) byte p found in
@@ -85,7 +86,7 @@ module _ (s u : PlainState) (f g : Fork) (i j : OpenFile) (byte : ℕ) (p q : Na
       subst (λ b. TakesNext u g i b z) (byte_then s u f i j byte p q w sound_pages own held grants pages files together) (sin_takes u g lives whole i named x z owns ready before place reading writing)
 
 -- and it is in the string then, if both have room for its bits
-module _ (u : PlainState) (w : IsWhole u) (g : Fork) (own : IsOwner g.name.tty) (x z : NamedPages) where
+module _ (u : PlainState) (w : IsWholeMachine u) (g : Fork) (own : IsOwner g.name.tty) (x z : NamedPages) where
   pub same_byte : (bits byte : ℕ) → reference u.pages (spot_pointed g (next_of g 2)) Read g.name.tty ≡ granted x → reference x (spot_pointed g (next_of g 2)) Write g.name.tty ≡ granted z
       → byte < 2 ^ bits → bits ≤ size (next_of g 2) → position (next_of g 2) + size (next_of g 2) ≤ 36 → byte_pointed (with_byte_pointed z g (next_of g 2) (byte % 2 ^ bits)) g (next_of g 2) ≡ byte
   same_byte bits byte reading writing small fits inside =

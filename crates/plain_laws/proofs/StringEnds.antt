@@ -17,7 +17,8 @@ use Rattle.plain_model.specs.Forks.{ForkMap}
 use Rattle.plain_model.specs.Calls.{ends, given, reads, returning, touches}
 use Rattle.plain_model.specs.MapCalls.{file_spot, is_read, is_written}
 use Rattle.plain_model.specs.ByteCalls.{ByteAsked, ByteTurn, byte_offset, byte_page, byte_pointer, end_for, if_written, jfn_number, jfn_open, page_in}
-use Rattle.plain_model.specs.PointedTexts.{Reading, words, read, byte_at, with_reading}
+use Rattle.plain_model.specs.PointedTexts.{byte_at}
+use Rattle.plain_model.specs.Readings.{Reading, words, read, with_reading}
 use Rattle.plain_model.specs.StringCalls.{at_end, behind_byte, next_pointer, prints_byte, prints_next, psout, puts_byte, sin, sout, string_call, takes_character, takes_from, takes_next, with_next}
 use Rattle.plain_model.proofs.Turns.{KeepsEnd}
 use Rattle.plain_laws.proofs.ByteEnds.{FitsByte, FitsHeld, FitsTurn, Named, by_in, given_so, moved_on, open_in, written_in}

@@ -16,7 +16,8 @@ use Rattle.plain_units.specs.Addressing.{address, address_within, indexed, is_in
 use Rattle.plain_units.specs.Blocks.{steps_on}
 use Rattle.plain_units.specs.Instructions.{storing}
 use Rattle.plain_units.specs.Steps.{Ending, Planned, Progress, Steps, asked_at, begun, done, goes, goes_on, is_accumulator, plain_asked, plainly, referred, run, seen, widened, word_taken}
-use Rattle.plain_model.specs.PointedTexts.{address_steps, word_steps}
+use Rattle.plain_model.specs.PointedTexts.{address_steps}
+use Rattle.plain_model.specs.Readings.{word_steps}
 use Rattle.plain_model.specs.StringCalls.{deposit_steps}
 
 -- steps that end with one word

@@ -30,14 +30,15 @@ use Rattle.plain_model.specs.Families.{Turned, bytes_changed}
 use Rattle.plain_model.specs.Forks.{with_regs, with_status}
 use Rattle.plain_model.specs.Interrupts.{posted}
 use Rattle.plain_model.specs.MapCalls.{file_spot, is_read, is_written}
-use Rattle.plain_model.specs.PointedTexts.{address_steps, byte_at, with_reading, word_steps}
+use Rattle.plain_model.specs.PointedTexts.{address_steps, byte_at}
+use Rattle.plain_model.specs.Readings.{with_reading, word_steps}
 use Rattle.plain_model.specs.State.{PlainState}
 use Rattle.plain_model.specs.StringCalls.{at_end, behind_byte, deposit_steps, if_written_too, prints_byte, prints_next, puts_byte, takes_character, takes_from, takes_next, with_next}
 use Rattle.plain_model.specs.Unit.{parts_of}
 use Rattle.plain_laws.specs.ByteLaws.{behind_first_return, byte_of, end_of, page_of_jfn}
 use Rattle.plain_laws.specs.JfnLaws.{Lives, NamesJfn, jfn_named, turn_of}
 use Rattle.plain_laws.specs.StringLaws.{IsInSpace, IsOfString, ReadsNext, TakesNext, TakesNextCharacter, WritesNext, address_of, byte_pointed, next_of, offset_pointed, spot_pointed, with_byte_pointed}
-use Rattle.plain_laws.specs.Whole.{IsWhole}
+use Rattle.plain_laws.specs.Whole.{IsWholeMachine}
 use Rattle.plain_laws.proofs.ByteTurns.{asked, by_file, done_so, goes_on, has_room, is_ended, left_by, left_of, not_ended, posted_so, printed_so, put_so, sight, waits_so}
 use Rattle.plain_laws.proofs.Copying.{page_made, words_stay}
 use Rattle.plain_laws.proofs.ReadTurns.{reads_on, takes_on, told}
@@ -59,7 +60,7 @@ next_read s f n q place grants =
 
 module _ (s : PlainState) (f : Fork) (lives : Lives s f) where
   -- a byte is deposited into the string
-  module _ (place : IsInSpace f (next_of f 2)) (w : IsWhole s) (own : IsOwner f.name.tty) (q r : NamedPages)
+  module _ (place : IsInSpace f (next_of f 2)) (w : IsWholeMachine s) (own : IsOwner f.name.tty) (q r : NamedPages)
       (reading : reference s.pages (spot_pointed f (next_of f 2)) Read f.name.tty ≡ granted q) (writing : reference q (spot_pointed f (next_of f 2)) Write f.name.tty ≡ granted r) (change : ByteChange) (byte : ℕ) where
     abbrev pointer : ℕ
     pointer = next_of f 2
@@ -159,7 +160,7 @@ module _ (s : PlainState) (f : Fork) (lives : Lives s f) where
   sout_printed q named found none = ap (λ n. left_of s f lives (at_terminal n)) named ∙ ends_string q found none (λ p x. ends (Done Nothing (behind_byte f.body.regs p x) (Some (x % 128)) None))
 
   -- to a file
-  module _ (w : IsWhole s) (j : OpenFile) (held : NamesJfn s f j) where
+  module _ (w : IsWholeMachine s) (j : OpenFile) (held : NamesJfn s f j) where
     abbrev puts_next : ℕ → ℕ → ByteTurn
     puts_next p byte = touches f.name.tty (file_spot j (byte_page j)) Write (λ what. ends (if_written (Done (Put f.name.tty (jfn_named f) byte) (behind_byte f.body.regs p byte) None None) what))
 
@@ -201,7 +202,7 @@ module _ (s : PlainState) (f : Fork) (lives : Lives s f) where
   abbrev from_terminal : ℕ → List ℕ → ByteTurn
   from_terminal n input = by_number n (takes_character (asked s f lives) input) (ends (Refused NOT_OPEN)) (given (jfn_open is_read (asked s f lives)) (takes_from (asked s f lives)))
 
-  pub sin_takes_character : (c : ℕ) (cs : List ℕ) (q r : NamedPages) → IsWhole s → IsOwner f.name.tty → jfn_named f ≡ TERMINAL_INPUT → input_at s.jobs f.name.tty ≡ c ∷ cs → IsInSpace f (next_of f 2)
+  pub sin_takes_character : (c : ℕ) (cs : List ℕ) (q r : NamedPages) → IsWholeMachine s → IsOwner f.name.tty → jfn_named f ≡ TERMINAL_INPUT → input_at s.jobs f.name.tty ≡ c ∷ cs → IsInSpace f (next_of f 2)
       → reference s.pages (spot_pointed f (next_of f 2)) Read f.name.tty ≡ granted q → reference q (spot_pointed f (next_of f 2)) Write f.name.tty ≡ granted r → TakesNextCharacter s f c r
   unfolding byte_changed
   sin_takes_character c cs q r w own named is place reading writing =

@@ -40,7 +40,7 @@ use Rattle.fork_tree.proofs.Upward.{ancestor_any, ancestor_lives, any_ancestor, 
 use Rattle.fork_tree.proofs.Waking.{all_read, others_keep}
 use Rattle.plain_model.proofs.ForkMaps.{get_put as fork_put}
 use Rattle.plain_laws.specs.TypeLaws.{HasJob, StoresText, at_prompt, control_c_shown, echoes, typed}
-use Rattle.plain_laws.specs.Whole.{IsWhole}
+use Rattle.plain_laws.specs.Whole.{IsWholeMachine}
 use Rattle.plain_laws.proofs.LoneTops.{within}
 use Rattle.plain_laws.proofs.TypedLines.{at_here, first_typed, one_typed, typed_here}
 use Rattle.plain_laws.proofs.WholeTyped.{typed_at_whole, typed_whole}
@@ -96,7 +96,7 @@ module _ (t : Tty) where
   job_stores : (s : PlainState) (j : PlainJob) (code : ℕ) → HasJob (stored s t j code).state t (with_one j code)
   job_stores s j code = get_put nat_cmp_total nat_cmp-IsAntisymmetric s.jobs t.0 t.0 (with_one j code) refl
 
-  stores_one : (s : PlainState) → IsWhole s → (j : PlainJob) (c : ℕ) → StoresText s (stored s t j (read_as c)).state t j (c ∷ [])
+  stores_one : (s : PlainState) → IsWholeMachine s → (j : PlainJob) (c : ℕ) → StoresText s (stored s t j (read_as c)).state t j (c ∷ [])
   stores_one s w j c = record {
     job = job_stores s j (read_as c);
     jobs = λ u other. get_put_other nat_cmp_total nat_cmp-IsAntisymmetric s.jobs t.0 u (with_one j (read_as c)) other;
@@ -115,12 +115,12 @@ module _ (t : Tty) where
   }
 
   -- CHARACTERS ARE STORED
-  pub text_stored : (cs : List ℕ) (c : ℕ) (s : PlainState) (j : PlainJob) → IsWhole s → HasJob s t j → GoIn j (c ∷ cs) → StoresText s (typed_all s t (c ∷ cs)).state t j (c ∷ cs)
+  pub text_stored : (cs : List ℕ) (c : ℕ) (s : PlainState) (j : PlainJob) → IsWholeMachine s → HasJob s t j → GoIn j (c ∷ cs) → StoresText s (typed_all s t (c ∷ cs)).state t j (c ∷ cs)
   text_stored [] c s j w is g = subst (λ (e : Effect). StoresText s e.state t j (c ∷ [])) (sym (one_typed s t c ∙ one_stored s j c [] is g)) (stores_one s w j c)
   text_stored (d ∷ ds) c s j w is g =
       let e = one_stored s j c (d ∷ ds) is g in
       let u = (stored s t j (read_as c)).state in
-      let whole : IsWhole u = subst (λ (x : Effect). IsWhole x.state) e (typed_at_whole s w t c) in
+      let whole : IsWholeMachine u = subst (λ (x : Effect). IsWholeMachine x.state) e (typed_at_whole s w t c) in
       let k = with_one j (read_as c) in
       let later = text_stored ds d u k whole (job_stores s j (read_as c)) (rest_goes_in j c (d ∷ ds) g) in
       subst (λ (x : Effect). StoresText s x.state t j (c ∷ d ∷ ds)) (sym (first_typed s t c (d ∷ ds) (stored s t j (read_as c)) e)) (then_stores s u (typed_all u t (d ∷ ds)).state j c (d ∷ ds) (stores_one s w j c) later)
@@ -166,7 +166,7 @@ module _ (t : Tty) where
         ∙ ap (λ (o : Option Fork). record { state = at_prompt (option_map_or (λ k. with_fork s (with_mark true k)) o s) t j; items = control_c_shown t }) there
 
 -- no fork of a job runs whose top fork has the freeze mark
-module _ (s : PlainState) (w : IsWhole s) (top : Fork) (lives : LivesIn s.forks top) (first : top.slot ≡ 1) (mark : top.frozen ≡ true) where
+module _ (s : PlainState) (w : IsWholeMachine s) (top : Fork) (lives : LivesIn s.forks top) (first : top.slot ≡ 1) (mark : top.frozen ≡ true) where
   abbrev frozen : Fork → Bool
   frozen k = k.frozen
 
@@ -195,13 +195,13 @@ module _ (s : PlainState) (w : IsWhole s) (top : Fork) (lives : LivesIn s.forks 
       cc no
 
 -- so it is behind control-C
-pub none_runs_behind : (s : PlainState) (t : Tty) (j : PlainJob) (name : ForkName) → IsWhole s → HasJob s t j → j.mode ≡ Program → name.tty.0 ≡ t.0 → IsRunnable (typed s t (CONTROL_C ∷ [])).state.forks name → ⊥
+pub none_runs_behind : (s : PlainState) (t : Tty) (j : PlainJob) (name : ForkName) → IsWholeMachine s → HasJob s t j → j.mode ≡ Program → name.tty.0 ≡ t.0 → IsRunnable (typed s t (CONTROL_C ∷ [])).state.forks name → ⊥
 none_runs_behind s t j name w is mode job runs =
     let top = w.tops t.0 j is in
     let f = top.0 in
     let own = w.tree.slotted.own j.top f top.1 in
     let stops = program_stops t s j is f mode top.1 in
     let u = at_prompt (with_fork s (with_mark true f)) t j in
-    let whole : IsWhole u = subst (λ (e : Effect). IsWhole e.state) (sym (typed_here s t j is (CONTROL_C ∷ [])) ∙ stops) (typed_whole s w t (CONTROL_C ∷ [])) in
+    let whole : IsWholeMachine u = subst (λ (e : Effect). IsWholeMachine e.state) (sym (typed_here s t j is (CONTROL_C ∷ [])) ∙ stops) (typed_whole s w t (CONTROL_C ∷ [])) in
     none_runs_below u whole (with_mark true f) (fork_put s.forks f.name f.name (with_mark true f) refl) top.2 refl name (job ∙ sym (w.own_tops t.0 j is) ∙ ap (λ (n : ForkName). n.tty.0) (sym own))
     (subst (λ (e : Effect). IsRunnable e.state.forks name) stops runs)

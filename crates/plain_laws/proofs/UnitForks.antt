@@ -1,11 +1,13 @@
 -- What a unit does to forks: it puts its own fork, and tells where that has ended; all else is done by a fork call.
-use Rattle.std.proofs.Common.{◌≡◌, ℕ, Option, None, Some, refl}
+use Rattle.std.proofs.Common.{◌≡◌, ℕ, Bool, true, false, List, [], ◌∷◌, Option, None, Some, refl, ◌∙◌}
 use Rattle.std.specs.Prelude.{is_some}
+use Rattle.std.specs.List.{list_any}
 use Rattle.std.specs.FinMap as map
 use Rattle.std.proofs.lemmas.Bool.{cond_both}
 use Rattle.plain_model.specs.declared.call.End.{End}
 use Rattle.plain_model.specs.declared.call.End.TheVariants.{Done, Waits, Halts, Refused, Failed, Trap}
 use Rattle.plain_units.specs.declared.channel.TheConstants.{ILLEGAL_INSTRUCTION}
+use Rattle.machine_names.specs.declared.names.ForkName.{ForkName}
 use Rattle.machine_names.specs.declared.names.Tty.{Tty}
 use Rattle.plain_model.specs.declared.fork.Fork.{Fork}
 use Rattle.script_texts.specs.declared.status.ForkStatus.{ForkStatus}
@@ -13,17 +15,29 @@ use Rattle.script_texts.specs.declared.status.ForkStatus.TheVariants.{Run as Run
 use Rattle.plain_model.specs.State.{PlainState}
 use Rattle.plain_pages.specs.PlainPages.{NamedPages}
 use Rattle.machine_names.specs.Orders.{name_cmp}
-use Rattle.plain_model.specs.Forks.{ForkMap, with_fork, with_regs, counted}
-use Rattle.plain_model.specs.Interrupts.{posted}
+use Rattle.plain_model.specs.Forks.{ForkMap, with_fork, with_regs, with_status, counted}
+use Rattle.plain_model.specs.declared.call.InterruptChange.{InterruptChange}
+use Rattle.plain_model.specs.declared.call.InterruptChange.TheVariants.{Become, Post, Assign, Unassign}
+use Rattle.plain_model.specs.declared.interrupt.Delivery.{Delivery}
+use Rattle.plain_model.specs.Families.{asks, interrupts_changed}
+use Rattle.plain_model.specs.Inspections.{delivered, inspected}
+use Rattle.plain_model.specs.InterruptCalls.{interrupt_changed}
+use Rattle.plain_model.specs.Interrupts.{channels_of, forces, posted, posted_all}
+use Rattle.plain_model.specs.Posting.{told_if}
+use Rattle.plain_units.specs.Units.{unit_on}
 use Rattle.plain_units.specs.Steps.{Planned, Ending, done, call, trap, need, stopped as unit_stopped}
-use Rattle.plain_model.specs.Trees.{end_told}
-use Rattle.plain_model.specs.Calls.{Turn, with_error, fork_behind, out_of, posted_if}
+use Rattle.plain_model.specs.Trees.{end_told, with_body}
+use Rattle.plain_model.specs.Calls.{Asked, Turn, with_error, fork_behind, out_of, parts_behind, posted_if}
 use Rattle.plain_model.specs.ByteCalls.{ByteRows, byte_calls}
 use Rattle.plain_model.specs.StringCalls.{string_calls}
-use Rattle.plain_model.specs.Unit.{Effect, in_command_mode, with_stopped, stopped, unit_ended, trapped, called, went, over, parts_of}
+use Rattle.plain_model.specs.Unit.{Effect, in_command_mode, with_stopped, stopped, unit_ended, trapped, called, went, over, parts_of, taken_up, unit_of}
 use Rattle.plain_units.proofs.Lookups.{looked_up}
-use Rattle.plain_model.proofs.Calling.{fork_came, fork_left, fork_called, fork_turned, map_came, map_pages, map_turned, own_came, own_turned, none_turned, jfn_came, jfn_called, jfn_turned, byte_came, byte_called, byte_turned, MakesNone, caller_by, called_by, map_by, jfn_by, byte_by, own_by}
+use Rattle.plain_model.proofs.Calling.{fork_came, fork_left, fork_called, fork_turned, interrupt_came, interrupt_called, interrupt_left, interrupt_turned, map_came, map_pages, map_turned, own_came, own_turned, none_turned, jfn_came, jfn_called, jfn_turned, byte_came, byte_called, byte_turned, MakesNone, caller_by, called_by, map_by, jfn_by, byte_by, own_by}
+use Rattle.plain_model.proofs.ForkMaps.{AreOwn}
 use Rattle.plain_model.proofs.Posted.{SameMark, posted_mark}
+use Rattle.plain_model.proofs.Turns.{KeepsEnd}
+use Rattle.plain_laws.proofs.Inspected.{unit_by}
+use Rattle.plain_laws.proofs.InterruptEnds.{ChangesOwn, interrupt_names}
 
 posted_if_mark : (f : Fork) (post : Option ℕ) → SameMark f (posted_if f post)
 posted_if_mark f None = (refl, refl)
@@ -38,14 +52,20 @@ behind_mark f (Refused code) = posted_mark (with_error f code) ILLEGAL_INSTRUCTI
 behind_mark f (Failed code) = (refl, refl)
 behind_mark f (Trap channel) = posted_mark f channel
 
--- What holds of the forks, where a fork that is good may be put among them, and may end; and who is good stays so
--- while its name and mark stay.
-pub record KeptBy (Holds : ForkMap → Type 0) (Good : Fork → Type 0) : Type 0 where
+posted_all_mark : (f : Fork) (channels : List ℕ) → SameMark f (posted_all f channels)
+posted_all_mark f [] = (refl, refl)
+posted_all_mark f (channel ∷ channels) = let one = posted_mark f channel in let more = posted_all_mark (posted f channel) channels in (more.0 ∙ one.0, more.1 ∙ one.1)
+
+-- What holds of the forks, where a fork that is good may be put among them, and may end; who is good stays so while its
+-- name and mark stay; and those of a job that are there are good.
+pub record KeptBy (t : Tty) (Holds : ForkMap → Type 0) (Good : Fork → Type 0) : Type 0 where
+  pub own : (m : ForkMap) → Holds m → AreOwn m
+  pub found : (m : ForkMap) → Holds m → (k : ForkName) (f : Fork) → k.tty.0 ≡ t.0 → map.get m k ≡ Some f → Good f
   pub same : (f g : Fork) → SameMark f g → Good f → Good g
   pub put : (m : ForkMap) → Holds m → (f : Fork) → Good f → Holds (map.insert m f.name f)
   pub told : (m : ForkMap) → Holds m → (f : Fork) → Good f → Holds (end_told m f)
 
-module _ (Holds : ForkMap → Type 0) (Good : Fork → Type 0) (keeps : KeptBy Holds Good) where
+module _ (job : Tty) (Holds : ForkMap → Type 0) (Good : Fork → Type 0) (keeps : KeptBy job Holds Good) where
   abbrev Leaves : Effect → Type 0
   Leaves e = Holds e.state.forks
 
@@ -67,7 +87,14 @@ module _ (Holds : ForkMap → Type 0) (Good : Fork → Type 0) (keeps : KeptBy H
   ended_kept u h f Halted good = stopped_kept u h (counted f) (counted_good f good)
   ended_kept u h f (Forced channel) good = stopped_kept u h (counted f) (counted_good f good)
 
-  module _ (s : PlainState) (h : Holds s.forks) (f : Fork) (good : Good f) (good_in : (g : Fork) → map.get s.forks f.name ≡ Some g → Good g) where
+  told_if_kept : (ended : Bool) (m : ForkMap) → Holds m → (f : Fork) → Good f → Holds (told_if ended m f)
+  told_if_kept true m h f good = keeps.told (map.insert m f.name f) (keeps.put m h f good) f good
+  told_if_kept false m h f good = keeps.put m h f good
+
+  module _ (s : PlainState) (h : Holds s.forks) (f : Fork) (good : Good f) (here : f.name.tty.0 ≡ job.0) where
+    good_in : (m : ForkMap) → Holds m → (g : Fork) → map.get m f.name ≡ Some g → Good g
+    good_in m holds g is = keeps.found m holds f.name g here is
+
     trapped_kept : (channel : ℕ) → Leaves (trapped s f channel)
     trapped_kept channel = ended_kept s h (posted f channel) (posted f channel).body.status (keeps.same f (posted f channel) (posted_mark f channel) good)
 
@@ -89,37 +116,81 @@ module _ (Holds : ForkMap → Type 0) (Good : Fork → Type 0) (keeps : KeptBy H
     with_caller u left g here k same = ended_kept u left k k.body.status (keeps.same g k same here)
 
     own_kept : (t : Turn ⊥ (Unit {0})) → MakesNone s.pages t → Leaves (own_turned s f t)
-    own_kept t makes = own_by Leaves s f t makes (λ g is. with_caller s h g (good_in g is) (fork_behind g (own_came s t).end) (behind_mark g (own_came s t).end)) h
+    own_kept t makes = own_by Leaves s f t makes (λ g is. with_caller s h g (good_in s.forks h g is) (fork_behind g (own_came s t).end) (behind_mark g (own_came s t).end)) h
 
     map_kept : (number : ℕ) → Leaves (map_turned s f number)
-    map_kept number = map_by Leaves s f number (λ g is. with_caller (record s { pages = map_pages s f number }) h g (good_in g is) (fork_behind g (map_came s f number).end) (behind_mark g (map_came s f number).end)) h
+    map_kept number = map_by Leaves s f number (λ g is. with_caller (record s { pages = map_pages s f number }) h g (good_in s.forks h g is) (fork_behind g (map_came s f number).end) (behind_mark g (map_came s f number).end)) h
 
     jfn_kept : (number : ℕ) → Leaves (jfn_turned s f number)
-    jfn_kept number = jfn_by Leaves s f number (λ g is. with_caller (jfn_called s f number) h g (good_in g is) (fork_behind g (jfn_came s f number).end) (behind_mark g (jfn_came s f number).end)) h
+    jfn_kept number = jfn_by Leaves s f number (λ g is. with_caller (jfn_called s f number) h g (good_in s.forks h g is) (fork_behind g (jfn_came s f number).end) (behind_mark g (jfn_came s f number).end)) h
 
     byte_kept : (rows : ByteRows) (number : ℕ) → Leaves (byte_turned s f rows number)
     byte_kept rows number =
         let e = (byte_came s f rows number).end in
-        byte_by Leaves s f number rows (λ g is. with_caller (byte_called s f rows number) h g (good_in g is) (fork_behind g e) (behind_mark g e)) h
+        byte_by Leaves s f number rows (λ g is. with_caller (byte_called s f rows number) h g (good_in s.forks h g is) (fork_behind g e) (behind_mark g e)) h
 
     none_kept : Leaves (none_turned s f)
-    none_kept = caller_by Leaves s f.name.tty (parts_of s) f.name (λ g. posted g ILLEGAL_INSTRUCTION) None (λ g is. with_caller s h g (good_in g is) (posted g ILLEGAL_INSTRUCTION) (posted_mark g ILLEGAL_INSTRUCTION)) h
+    none_kept = caller_by Leaves s f.name.tty (parts_of s) f.name (λ g. posted g ILLEGAL_INSTRUCTION) None (λ g is. with_caller s h g (good_in s.forks h g is) (posted g ILLEGAL_INSTRUCTION) (posted_mark g ILLEGAL_INSTRUCTION)) h
 
-    -- the fork that called is put where the call leaves such forks, and it good
-    pub fork_kept : (number : ℕ) → Holds (fork_called s f number).forks → ((g : Fork) → map.get (fork_called s f number).forks f.name ≡ Some g → Good g) → Leaves (fork_turned s f number)
-    fork_kept number left good_still =
+    -- the fork that called is put where the call leaves such forks
+    pub fork_kept : (number : ℕ) → Holds (fork_called s f number).forks → Leaves (fork_turned s f number)
+    fork_kept number left =
         let e = (fork_came s f number).end in
-        caller_by Leaves s f.name.tty (fork_left s f number) f.name (λ g. fork_behind g e) (out_of e) (λ g is. with_caller (fork_called s f number) left g (good_still g is) (fork_behind g e) (behind_mark g e)) left
+        caller_by Leaves s f.name.tty (fork_left s f number) f.name (λ g. fork_behind g e) (out_of e) (λ g is. with_caller (fork_called s f number) left g (good_in (fork_called s f number).forks left g is) (fork_behind g e) (behind_mark g e)) left
+
+    -- a call on pseudo-interrupts changes forks of the job
+    module _ (number : ℕ) where
+      abbrev asked : Asked
+      asked = asks (parts_of s) f.name f.body.regs
+
+      good_of : (k : ForkName) → k.tty.0 ≡ f.name.tty.0 → (g : Fork) → map.get s.forks k ≡ Some g → Good g
+      good_of k same g is = keeps.found s.forks h k g (same ∙ here) is
+
+      change_kept : (q : NamedPages) (change : InterruptChange) → ChangesOwn asked change → Holds (interrupts_changed change (record (parts_of s) { pages = q })).tree.forks
+      unfolding interrupt_changed
+      change_kept q (Become k body) same = looked_up Holds _ s.forks (map.get s.forks k) (λ g is. keeps.put s.forks h (with_body body g) (keeps.same g (with_body body g) (refl, refl) (good_of k same g is))) (λ none. h)
+      change_kept q (Post k word) same = looked_up Holds _ s.forks (map.get s.forks k)
+          (λ g is. let all = posted_all g (channels_of word) in told_if_kept (list_any (forces g.body.psi) (channels_of word)) s.forks h all (keeps.same g all (posted_all_mark g (channels_of word)) (good_of k same g is))) (λ none. h)
+      change_kept q (Assign code k channel) same = h
+      change_kept q (Unassign t code) same = h
+
+      left_kept : Holds (interrupt_called s f number).forks
+      unfolding parts_behind
+      left_kept = by (interrupt_came s f number).end (interrupt_names asked (keeps.own s.forks h) s.pages number)
+        where
+          by : (e : End InterruptChange) → KeepsEnd (ChangesOwn asked) e → Holds (parts_behind interrupts_changed (parts_of s) (record (parts_of s) { pages = (interrupt_came s f number).pages }) e).tree.forks
+          by (Done change regs out post) fits = change_kept (interrupt_came s f number).pages change fits
+          by (Waits on) fits = h
+          by Halts fits = h
+          by (Refused code) fits = h
+          by (Failed code) fits = h
+          by (Trap channel) fits = h
+
+      interrupt_kept : Leaves (interrupt_turned s f number)
+      interrupt_kept =
+          let e = (interrupt_came s f number).end in
+          caller_by Leaves s f.name.tty (interrupt_left s f number) f.name (λ g. fork_behind g e) (out_of e) (λ g is. with_caller (interrupt_called s f number) left_kept g (good_in (interrupt_called s f number).forks left_kept g is) (fork_behind g e) (behind_mark g e)) left_kept
 
     called_kept : (number : ℕ) → Leaves (fork_turned s f number) → Leaves (called s f number)
-    called_kept number turns = called_by Leaves s f number own_kept turns (map_kept number) (jfn_kept number) (byte_kept byte_calls number) (byte_kept string_calls number) none_kept
+    called_kept number turns = called_by Leaves s f number own_kept turns (interrupt_kept number) (map_kept number) (jfn_kept number) (byte_kept byte_calls number) (byte_kept string_calls number) none_kept
 
-    -- a unit keeps it, if the turn does of the call that the unit may be
+    -- an instruction keeps it, if the turn does of the call that it may be
     pub over_kept : (r : Planned name_cmp ⊥) → ((number : ℕ) → r ≡ call number → Leaves (fork_turned s f number)) → Leaves (over s f r)
     over_kept (done t e) turns = went_kept _ e
     over_kept (unit_stopped (trap channel)) turns = trapped_kept channel
     over_kept (unit_stopped (need none)) turns = absurd none
     over_kept (call number) turns = called_kept number (turns number refl)
+
+    -- so does a channel that is delivered, and a fork that is forced before its instruction
+    pub taken_kept : (q : NamedPages) (d : Delivery) → Leaves (taken_up s q f d)
+    taken_kept q d = let g = counted (delivered f d) in keeps.put s.forks h g (keeps.same f g (refl, refl) good)
+
+    pub forced_kept : (channel : ℕ) → Leaves (unit_ended s (with_status f (Forced channel)) (Forced channel))
+    forced_kept channel = let g = with_status f (Forced channel) in ended_kept s h g (Forced channel) (keeps.same f g (refl, refl) good)
+
+    -- and so a unit
+    pub unit_kept : ((number : ℕ) → Leaves (fork_turned s f number)) → Leaves (unit_of s f)
+    unit_kept turns = unit_by Leaves s f (λ is. over_kept (unit_on f.name s.pages f.body.regs) (λ number is. turns number)) (λ d is. taken_kept (inspected f s.pages).pages d) (λ channel is. forced_kept channel)
 
 -- how a unit ends says nothing of the pages
 stopped_pages : (u : PlainState) (f : Fork) → (stopped u f).state.pages ≡ u.pages

@@ -1,9 +1,11 @@
 -- A unit of a job leaves the forks and the maps of other jobs.
-use Rattle.std.proofs.Common.{◌≡◌, ℕ, Bool, true, false, cond, List, Option, None, Some, refl, ◌∙◌, ap}
+use Rattle.std.proofs.Common.{◌≡◌, ℕ, ◌%◌, Bool, true, false, cond, List, Option, None, Some, refl, ◌∙◌, ap}
 use Rattle.std.specs.Prelude.{◌==◌}
 use Rattle.std.specs.Option.{option_map_or, option_and_then}
 use Rattle.std.specs.Cmp.Lexicographic.{nat_list_cmp_total}
 use Rattle.std.specs.FinMap as map
+use Rattle.std.proofs.lemmas.Bool.{cond_both}
+use Rattle.outside.specs.declared.TheConstants.{PAGE_WORDS}
 use Rattle.word36.specs.Words.{left}
 use Rattle.plain_model.specs.declared.call.End.{End}
 use Rattle.plain_model.specs.declared.call.End.TheVariants.{Done, Waits, Halts, Refused, Failed, Trap}
@@ -18,42 +20,48 @@ use Rattle.plain_pages.specs.declared.map.MapEntry.{MapEntry}
 use Rattle.plain_pages.specs.declared.map.MapEntry.TheVariants as entry
 use Rattle.plain_model.specs.declared.fork.Fork.{Fork}
 use Rattle.script_texts.specs.declared.status.ForkStatus.{ForkStatus}
+use Rattle.script_texts.specs.declared.status.ForkStatus.TheVariants.{Forced}
 use Rattle.plain_model.specs.State.{PlainState}
 use Rattle.plain_pages.specs.PlainPages.{NamedPages, Maps}
 use Rattle.machine_names.specs.Orders.{FilePage, name_cmp}
 use Rattle.plain_pages.specs.Maps.{entry_at, set_entry, narrow}
 use Rattle.plain_pages.specs.Room.{page_in, uses}
-use Rattle.plain_pages.specs.References.{Spot, drop_unnamed, granted, in_file, in_map, page_at, reference, with_entry, with_changed}
+use Rattle.plain_pages.specs.References.{Spot, drop_unnamed, granted, in_file, in_map, page_at, reference, slot_at, with_entry, with_changed}
 use Rattle.plain_pages.specs.FilePages.{with_file}
 use Rattle.plain_pages.proofs.FilesKept.{filed_maps}
-use Rattle.plain_model.specs.Forks.{ForkMap, with_regs}
+use Rattle.plain_model.specs.declared.call.InterruptChange.{InterruptChange}
+use Rattle.plain_model.specs.declared.interrupt.Delivery.{Delivery}
+use Rattle.plain_model.specs.Inspections.{inspected, interrupted_word}
+use Rattle.plain_model.specs.Forks.{ForkMap, with_regs, with_status}
 use Rattle.plain_model.specs.Interrupts.{posted}
 use Rattle.plain_units.specs.Instructions.{instruction}
 use Rattle.plain_units.specs.declared.registers.Regs.{Regs}
 use Rattle.plain_units.specs.Blocks.{steps_on}
-use Rattle.plain_units.specs.Steps.{Steps, Planned, Ending, done, call, trap, need, stopped as unit_stopped, begun, pages_left}
-use Rattle.plain_model.specs.Calls.{Turn, fork_behind, numbered, parts_behind, out_of, posted_if}
+use Rattle.plain_units.specs.Steps.{Steps, Planned, Ending, done, call, trap, need, stopped as unit_stopped, begun, is_accumulator, pages_left, put_into}
+use Rattle.plain_model.specs.Calls.{Asked, Turn, fork_behind, numbered, parts_behind, out_of, posted_if}
 use Rattle.plain_model.specs.MapCalls.{entry_for, map_call, map_changed}
 use Rattle.plain_model.specs.ByteCalls.{ByteRows, byte_calls}
 use Rattle.plain_model.specs.StringCalls.{string_calls}
-use Rattle.plain_model.specs.Families.{asks_bytes, asks_jfns, asks_maps, names_seen}
+use Rattle.plain_model.specs.Families.{Parts, asks, asks_bytes, asks_jfns, asks_maps, names_seen}
 use Rattle.plain_model.proofs.JfnChanges.{left_maps}
 use Rattle.plain_model.proofs.JfnEnds.{call_ends}
 use Rattle.machine_names.proofs.OrderLemmas.{name_cmp_apart}
-use Rattle.plain_model.specs.Unit.{Effect, unit_ended, called, went, over, unit, parts_of}
+use Rattle.plain_model.specs.Unit.{Effect, unit_ended, called, went, over, unit, unit_of, parts_of, taken_up}
 use Rattle.plain_units.specs.Units.{unit_on}
-use Rattle.plain_laws.specs.Whole.{IsWhole}
+use Rattle.plain_laws.specs.Whole.{IsWholeMachine}
 use Rattle.plain_laws.proofs.FileMakings.{file_leaves}
 use Rattle.plain_laws.proofs.ByteEnds.{FitsByte, bytes_left_maps}
 use Rattle.plain_laws.proofs.WholeBytes.{RowsFit, bytes_fit, strings_fit}
 use Rattle.plain_laws.proofs.WholeMaps.{There}
 use Rattle.plain_laws.proofs.MapEnds.{ChangeIn, EndIn, SpotIn, came_in, map_call_in}
 use Rattle.plain_units.proofs.Lookups.{looked_up}
-use Rattle.plain_units.proofs.PageRuns.{PlanLeaves}
-use Rattle.plain_laws.proofs.UnitForks.{KeptBy, ended_pages, fork_kept, over_kept}
+use Rattle.plain_units.proofs.PageRuns.{PlanLeaves, stored_maps}
+use Rattle.plain_laws.proofs.Inspected.{inspected_keeps, unit_by}
+use Rattle.plain_laws.proofs.InterruptEnds.{interrupt_ends}
+use Rattle.plain_laws.proofs.UnitForks.{KeptBy, ended_pages, fork_kept, unit_kept}
 use Rattle.plain_laws.proofs.OtherMaps.{InJob, Elsewhere, reference_other, set_other, run_other}
 use Rattle.plain_laws.proofs.OtherJobs.{Stays, put_stays, told_stays, maps_same, call_stays}
-use Rattle.plain_model.proofs.Calling.{fork_came, fork_left, fork_called, fork_turned, map_came, map_pages, map_turned, own_came, own_turned, none_turned, filed_of, jfn_came, jfn_left, jfn_called, jfn_turned, byte_came, byte_left, byte_called, byte_turned, MakesNone, caller_by, called_by, map_by, jfn_by, byte_by, own_by}
+use Rattle.plain_model.proofs.Calling.{fork_came, fork_left, fork_called, fork_turned, interrupt_came, interrupt_called, interrupt_left, interrupt_turned, interrupts_behind, pages_after, map_came, map_pages, map_turned, own_came, own_turned, none_turned, filed_of, jfn_came, jfn_left, jfn_called, jfn_turned, byte_came, byte_left, byte_called, byte_turned, MakesNone, caller_by, called_by, map_by, jfn_by, byte_by, own_by}
 use Rattle.plain_units.specs.declared.channel.TheConstants.{ILLEGAL_INSTRUCTION}
 
 -- what a change of a slot leaves of a map of another job
@@ -118,15 +126,17 @@ module _ (t : Tty) (k : ForkName) (other : k.tty.0 ≡ t.0 → ⊥) (p : NamedPa
   turn_other q h (Trap channel) here = refl
 
 -- a unit of a fork
-module _ (s : PlainState) (w : IsWhole s) (name : ForkName) (f : Fork) (there : map.get s.forks name ≡ Some f) (k : ForkName) (other : k.tty.0 ≡ f.name.tty.0 → ⊥) where
+module _ (s : PlainState) (w : IsWholeMachine s) (name : ForkName) (f : Fork) (there : map.get s.forks name ≡ Some f) (k : ForkName) (other : k.tty.0 ≡ f.name.tty.0 → ⊥) where
   abbrev Holds : ForkMap → Type 0
   Holds m = Stays f.name.tty k other (map.get s.forks k) m
 
   abbrev Good : Fork → Type 0
   Good g = g.name.tty.0 ≡ f.name.tty.0
 
-  by_job : KeptBy Holds Good
+  by_job : KeptBy f.name.tty Holds Good
   by_job = record {
+    own = λ m h. h.own;
+    found = λ m h q g here is. ap (λ (n : ForkName). n.tty.0) (h.own q g is) ∙ here;
     same = λ g h is good. ap (λ (n : ForkName). n.tty.0) is.0 ∙ good;
     put = λ m h g good. put_stays f.name.tty k other (map.get s.forks k) m h g good;
     told = λ m h g good. told_stays f.name.tty k other (map.get s.forks k) m h g good;
@@ -135,13 +145,8 @@ module _ (s : PlainState) (w : IsWhole s) (name : ForkName) (f : Fork) (there : 
   at_first : Holds s.forks
   at_first = record { own = w.tree.slotted.own; stays = refl }
 
-  forks_left : (r : Planned name_cmp ⊥) → Holds (over s f r).state.forks
-  forks_left r = over_kept Holds Good by_job s at_first f refl good_in r (λ number is.
-      let l = call_stays s w f number k other in
-      fork_kept Holds Good by_job s at_first f refl good_in number l (λ g here. ap (λ (n : ForkName). n.tty.0) (l.own f.name g here)))
-    where
-      good_in : (g : Fork) → map.get s.forks f.name ≡ Some g → Good g
-      good_in g is = ap (λ (n : ForkName). n.tty.0) (w.tree.slotted.own f.name g is)
+  forks_left : Holds (unit_of s f).state.forks
+  forks_left = unit_kept f.name.tty Holds Good by_job s at_first f refl refl (λ number. fork_kept f.name.tty Holds Good by_job s at_first f refl refl number (call_stays s w f number k other))
 
   -- its maps
   abbrev MapsLeft : Effect → Type 0
@@ -189,11 +194,39 @@ module _ (s : PlainState) (w : IsWhole s) (name : ForkName) (f : Fork) (there : 
       bytes_left_maps (λ (m : Maps). map.get m k ≡ map.get s.pages.maps k) (filed_of (parts_of s)) c.pages c.end refl came.1 in
       byte_by MapsLeft s f number rows (λ g is. let h = fork_behind g c.end in ended_maps (byte_called s f rows number) here h h.body.status) here
 
+  -- the pages that a turn made whose steps are those of its fork
+  steps_other : (q : NamedPages) → Elsewhere f.name.tty k other s.pages q → (steps : Steps) → PlanLeaves (λ r. Elsewhere f.name.tty k other s.pages r) f.name (steps_on f.name f.body.regs steps q)
+  steps_other q h steps = run_other f.name.tty k other nat_list_cmp_total f.name refl s.pages steps (begun q f.body.regs.ac) h
+
+  interrupt_maps : (number : ℕ) → MapsLeft (interrupt_turned s f number)
+  interrupt_maps number =
+      let e = (interrupt_came s f number).end in
+      caller_by MapsLeft s f.name.tty (interrupt_left s f number) f.name (λ g. fork_behind g e) (out_of e) (λ g is. let h = fork_behind g e in ended_maps (interrupt_called s f number) here h h.body.status) here
+    where
+      a : Asked
+      a = asks (parts_of s) f.name f.body.regs
+
+      q : NamedPages
+      q = (interrupt_came s f number).pages
+
+      by : (e : End InterruptChange) → Elsewhere f.name.tty k other s.pages q → map.get (pages_after s.pages q e).maps k ≡ map.get s.pages.maps k
+      by (Done change regs out post) h = h
+      by (Waits on) h = refl
+      by Halts h = refl
+      by (Refused code) h = refl
+      by (Failed code) h = refl
+      by (Trap channel) h = refl
+
+      here : map.get (interrupt_called s f number).pages.maps k ≡ map.get s.pages.maps k
+      here =
+          let both = interrupt_ends a w.tree.slotted.own (λ r. Elsewhere f.name.tty k other s.pages r) steps_other s.pages refl number in
+          ap (λ (v : Parts name_cmp). map.get v.pages.maps k) (interrupts_behind (parts_of s) q (interrupt_came s f number).end) ∙ by (interrupt_came s f number).end both.1
+
   none_maps : MapsLeft (none_turned s f)
   none_maps = caller_by MapsLeft s f.name.tty (parts_of s) f.name (λ g. posted g ILLEGAL_INSTRUCTION) None (λ g is. let h = posted g ILLEGAL_INSTRUCTION in ended_maps s refl h h.body.status) refl
 
   called_maps : (number : ℕ) → MapsLeft (called s f number)
-  called_maps number = called_by MapsLeft s f number own_maps (fork_maps number) (map_maps number) (jfn_maps number) (byte_maps byte_calls (bytes_fit s w f) number) (byte_maps string_calls (strings_fit s w f) number) none_maps
+  called_maps number = called_by MapsLeft s f number own_maps (fork_maps number) (interrupt_maps number) (map_maps number) (jfn_maps number) (byte_maps byte_calls (bytes_fit s w f) number) (byte_maps string_calls (strings_fit s w f) number) none_maps
 
   maps_left : (r : Planned name_cmp ⊥) → PlanLeaves (λ q. Elsewhere f.name.tty k other s.pages q) f.name r → MapsLeft (over s f r)
   maps_left (done t e) left = went_maps (pages_left f.name t e) e left
@@ -201,17 +234,29 @@ module _ (s : PlainState) (w : IsWhole s) (name : ForkName) (f : Fork) (there : 
   maps_left (unit_stopped (need none)) left = absurd none
   maps_left (call number) left = called_maps number
 
-module _ (s : PlainState) (w : IsWhole s) (who k : ForkName) (other : k.tty.0 ≡ who.tty.0 → ⊥) where
+  -- where a channel is delivered its PC word is stored in the fork's own space
+  taken_maps : (d : Delivery) → MapsLeft (taken_up s (inspected f s.pages).pages f d)
+  taken_maps d =
+      let q = (inspected f s.pages).pages in
+      cond_both (is_accumulator d.at) None (Some (record { at = d.at; word = interrupted_word f.body.regs })) (λ put. map.get (put_into f.name q put).maps k ≡ map.get s.pages.maps k) (λ low. found)
+      (λ high. ap (λ (m : Maps). map.get m k) (stored_maps q (in_map (slot_at f.name d.at)) (d.at % PAGE_WORDS) (interrupted_word f.body.regs)) ∙ found)
+    where
+      found : map.get (inspected f s.pages).pages.maps k ≡ map.get s.pages.maps k
+      found = inspected_keeps f (λ q. Elsewhere f.name.tty k other s.pages q) steps_other s.pages refl
+
+  unit_left : MapsLeft (unit_of s f)
+  unit_left = unit_by MapsLeft s f (λ is. maps_left (unit_on f.name s.pages f.body.regs) (steps_other s.pages refl (instruction f.body.regs))) (λ d is. taken_maps d) (λ channel is. ended_maps s refl (with_status f (Forced channel)) (Forced channel))
+
+module _ (s : PlainState) (w : IsWholeMachine s) (who k : ForkName) (other : k.tty.0 ≡ who.tty.0 → ⊥) where
   apart : (f : Fork) → map.get s.forks who ≡ Some f → k.tty.0 ≡ f.name.tty.0 → ⊥
   apart f is e = other (e ∙ ap (λ (n : ForkName). n.tty.0) (w.tree.slotted.own who f is))
 
   pub unit_forks : map.get (unit s who).state.forks k ≡ map.get s.forks k
   unfolding unit
   unit_forks = looked_up (λ (e : Effect). map.get e.state.forks k ≡ map.get s.forks k) _ _ (map.get s.forks who)
-      (λ f is. let l = forks_left s w who f is k (apart f is) (unit_on f.name s.pages f.body.regs) in l.stays) (λ none. refl)
+      (λ f is. let l = forks_left s w who f is k (apart f is) in l.stays) (λ none. refl)
 
   pub unit_maps : map.get (unit s who).state.pages.maps k ≡ map.get s.pages.maps k
   unfolding unit
   unit_maps = looked_up (λ (e : Effect). map.get e.state.pages.maps k ≡ map.get s.pages.maps k) _ _ (map.get s.forks who)
-      (λ f is. maps_left s w who f is k (apart f is) (unit_on f.name s.pages f.body.regs)
-      (run_other f.name.tty k (apart f is) nat_list_cmp_total f.name refl s.pages (instruction f.body.regs) (begun s.pages f.body.regs.ac) refl)) (λ none. refl)
+      (λ f is. unit_left s w who f is k (apart f is)) (λ none. refl)

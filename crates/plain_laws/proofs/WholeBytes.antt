@@ -31,7 +31,7 @@ use Rattle.plain_model.specs.Trees.{next_serial, tree_of}
 use Rattle.plain_model.specs.Unit.{parts_of, with_parts}
 use Rattle.plain_model.proofs.Calling.{byte_called, byte_came, filed_of, with_filed}
 use Rattle.plain_model.proofs.Turns.{KeepsEnd}
-use Rattle.plain_laws.specs.Whole.{AreGiven, IsWhole}
+use Rattle.plain_laws.specs.Whole.{AreGiven, IsWholeMachine}
 use Rattle.plain_laws.specs.WholeFiles.{AreOpen, Files, Jfns}
 use Rattle.plain_laws.proofs.ByteEnds.{FitsByte, FitsHeld, FitsTurn, byte_call_in}
 use Rattle.plain_laws.proofs.ByteSizes.{length_fits, new_fits, reaching_fits}
@@ -48,63 +48,63 @@ moved_open files jfns n at i fit has room =
     let was = fit n i has in
     subst (λ (o : Option OpenFile). AreOpen files (option_map_or (λ j. map.insert jfns n (moved_file at j)) o jfns)) (sym has) (jfn_put files jfns n (moved_file at i) fit was.0 was.1 (was.2.0, was.2.1, room))
 
-module _ (s : PlainState) (w : IsWhole s) (t : Tty) where
+module _ (s : PlainState) (w : IsWholeMachine s) (t : Tty) where
   -- the oldest of the characters is taken
-  taken_whole : IsWhole (record s { jobs = with_input s.jobs t behind_first })
+  taken_whole : IsWholeMachine (record s { jobs = with_input s.jobs t behind_first })
   taken_whole = by (map.get s.jobs t.0) refl
     where
-      by : (o : Option PlainJob) → map.get s.jobs t.0 ≡ o → IsWhole (record s { jobs = option_map_or (λ j. map.insert s.jobs t.0 (record j { input = behind_first j.input })) o s.jobs })
+      by : (o : Option PlainJob) → map.get s.jobs t.0 ≡ o → IsWholeMachine (record s { jobs = option_map_or (λ j. map.insert s.jobs t.0 (record j { input = behind_first j.input })) o s.jobs })
       by None is = w
       by (Some j) is = job_whole s w t.0 j (record j { input = behind_first j.input }) is refl (w.files.jfns t.0 j is)
 
   -- a JFN is moved
-  moved_whole : (n at : ℕ) (i : OpenFile) → map.get (held_at s.jobs t) n ≡ Some i → at ≤ most_bytes i.size → IsWhole (record s { jobs = with_held s.jobs t (with_position n at) })
+  moved_whole : (n at : ℕ) (i : OpenFile) → map.get (held_at s.jobs t) n ≡ Some i → at ≤ most_bytes i.size → IsWholeMachine (record s { jobs = with_held s.jobs t (with_position n at) })
   moved_whole n at i held room = held_whole s w t (with_position n at) (λ j is.
       moved_open s.files j.jfns n at i (w.files.jfns t.0 j is) (sym (ap (λ (o : Option PlainJob). map.get (option_map_or (λ k. k.jfns) o map.empty) n) is) ∙ held) room)
 
 -- a byte is written
-module _ (s : PlainState) (w : IsWhole s) where
-  put_whole : (j : OpenFile) (byte : ℕ) → IsWhole (record s { pages = pages_put (λ name. name) s.pages j byte })
+module _ (s : PlainState) (w : IsWholeMachine s) where
+  put_whole : (j : OpenFile) (byte : ℕ) → IsWholeMachine (record s { pages = pages_put (λ name. name) s.pages j byte })
   put_whole j byte =
       let at : Spot (List ℕ) = in_file (keyed (λ name. name) j.file (byte_page j)) in
       let word = deposited (byte_pointer j) (word_at s.pages at (byte_offset j)) byte in
       keeps_whole s w (pages_put (λ name. name) s.pages j byte) (stored_kept s.pages at (byte_offset j) word nat_list_cmp_total (sound s w))
       (subst (AreGiven (next_serial (tree_of s))) (sym (stored_maps s.pages at (byte_offset j) word)) w.given)
 
-  reaching_whole : (name : List ℕ) (size end : ℕ) → ((f : PlainFile) → FitsFile f → FitsFile (reaching size end f)) → IsWhole (record s { files = files_reaching s.files name size end })
+  reaching_whole : (name : List ℕ) (size end : ℕ) → ((f : PlainFile) → FitsFile f → FitsFile (reaching size end f)) → IsWholeMachine (record s { files = files_reaching s.files name size end })
   reaching_whole name size end fits = by (map.get s.files name) refl
     where
-      by : (o : Option PlainFile) → map.get s.files name ≡ o → IsWhole (record s { files = option_map_or (λ f. map.insert s.files name (reaching size end f)) o s.files })
+      by : (o : Option PlainFile) → map.get s.files name ≡ o → IsWholeMachine (record s { files = option_map_or (λ f. map.insert s.files name (reaching size end f)) o s.files })
       by None is = w
       by (Some f) is = let was = w.files.named.named name f is in file_whole s w name (reaching size end f) was.0 (fits f was.1) (inl (ap is_some is))
 
 -- a change of a call on bytes
-module _ (s : PlainState) (w : IsWhole s) (who : ForkName) (regs : Regs) where
+module _ (s : PlainState) (w : IsWholeMachine s) (who : ForkName) (regs : Regs) where
   abbrev asked : ByteAsked
   asked = asks_bytes (λ name. name) (parts_of s) who regs
 
   abbrev changed_state : ByteChange → PlainState
   changed_state change = with_parts s (with_filed (parts_of s) (byte_changed (λ name. name) change (filed_of (parts_of s))))
 
-  put_changed : (n byte : ℕ) (j : OpenFile) → map.get (held_at s.jobs who.tty) n ≡ Some j → j.at < most_bytes j.size → IsWhole (changed_state (Put who.tty n byte))
+  put_changed : (n byte : ℕ) (j : OpenFile) → map.get (held_at s.jobs who.tty) n ≡ Some j → j.at < most_bytes j.size → IsWholeMachine (changed_state (Put who.tty n byte))
   unfolding byte_changed
   put_changed n byte j held room =
       let was = file_of_held s w who.tty n j held in
       let one : PlainState = record s { pages = pages_put (λ name. name) s.pages j byte } in
       let two : PlainState = record one { files = files_reaching s.files j.file j.size (j.at + 1) } in
-      let whole_one : IsWhole one = put_whole s w j byte in
-      let whole_two : IsWhole two = reaching_whole one whole_one j.file j.size (j.at + 1) (λ f fits. reaching_fits j.size (j.at + 1) f was.2.1 fits (omega (arith, room))) in
-      subst (λ (o : Option OpenFile). IsWhole (with_parts s (with_filed (parts_of s) (option_map_or (written (λ name. name) (filed_of (parts_of s)) who.tty n byte) o (filed_of (parts_of s)))))) (sym held)
+      let whole_one : IsWholeMachine one = put_whole s w j byte in
+      let whole_two : IsWholeMachine two = reaching_whole one whole_one j.file j.size (j.at + 1) (λ f fits. reaching_fits j.size (j.at + 1) f was.2.1 fits (omega (arith, room))) in
+      subst (λ (o : Option OpenFile). IsWholeMachine (with_parts s (with_filed (parts_of s) (option_map_or (written (λ name. name) (filed_of (parts_of s)) who.tty n byte) o (filed_of (parts_of s)))))) (sym held)
       (moved_whole two whole_two who.tty n (j.at + 1) j held (omega (arith, room)))
 
-  change_whole : (change : ByteChange) → FitsByte asked change → IsWhole (changed_state change)
+  change_whole : (change : ByteChange) → FitsByte asked change → IsWholeMachine (changed_state change)
   unfolding byte_changed
   change_whole Nothing fits = w
   change_whole (Take t) fits = taken_whole s w t
-  change_whole (Move t n at) fits = subst (λ u. IsWhole (changed_state (Move u n at))) (sym fits.1.0) (moved_whole s w who.tty n at fits.0 fits.1.1 fits.2)
-  change_whole (Put t n byte) fits = subst (λ u. IsWhole (changed_state (Put u n byte))) (sym fits.1.0) (put_changed n byte fits.0 fits.1.1 fits.2)
+  change_whole (Move t n at) fits = subst (λ u. IsWholeMachine (changed_state (Move u n at))) (sym fits.1.0) (moved_whole s w who.tty n at fits.0 fits.1.1 fits.2)
+  change_whole (Put t n byte) fits = subst (λ u. IsWholeMachine (changed_state (Put u n byte))) (sym fits.1.0) (put_changed n byte fits.0 fits.1.1 fits.2)
 
-module _ (s : PlainState) (w : IsWhole s) (f : Fork) where
+module _ (s : PlainState) (w : IsWholeMachine s) (f : Fork) where
   -- the files of the JFNs of its job fit
   pub held_fits : (n : ℕ) (j : OpenFile) → map.get (held_at s.jobs f.name.tty) n ≡ Some j → FitsHeld (asks_bytes (λ name. name) (parts_of s) f.name f.body.regs) (There s w) j
   held_fits n j held =
@@ -116,23 +116,23 @@ module _ (s : PlainState) (w : IsWhole s) (f : Fork) where
       by (Some g) is = (w.files.named.named j.file g is).1
 
 -- calls are such that their turns fit
-abbrev pub RowsFit : (s : PlainState) → IsWhole s → Fork → ByteRows → Type 0
+abbrev pub RowsFit : (s : PlainState) → IsWholeMachine s → Fork → ByteRows → Type 0
 RowsFit s w f rows = (number : ℕ) → let a = asks_bytes (λ name. name) (parts_of s) f.name f.body.regs in FitsTurn s.forks a (There s w) (numbered rows number a)
 
 -- those on bytes are, and those on strings
-pub bytes_fit : (s : PlainState) (w : IsWhole s) (f : Fork) → RowsFit s w f byte_calls
+pub bytes_fit : (s : PlainState) (w : IsWholeMachine s) (f : Fork) → RowsFit s w f byte_calls
 bytes_fit s w f number = byte_call_in s.forks (asks_bytes (λ name. name) (parts_of s) f.name f.body.regs) (There s w) (held_fits s w f) number
 
-pub strings_fit : (s : PlainState) (w : IsWhole s) (f : Fork) → RowsFit s w f string_calls
+pub strings_fit : (s : PlainState) (w : IsWholeMachine s) (f : Fork) → RowsFit s w f string_calls
 strings_fit s w f number = string_call_in s.forks (asks_bytes (λ name. name) (parts_of s) f.name f.body.regs) (There s w) (held_fits s w f) number
 
 -- a turn, which may make pages
-module _ (s : PlainState) (w : IsWhole s) (f : Fork) (own : IsOwner f.name.tty) (rows : ByteRows) (fit : RowsFit s w f rows) where
-  made_whole : (q : NamedPages) → After s w q → IsWhole (record s { pages = q })
+module _ (s : PlainState) (w : IsWholeMachine s) (f : Fork) (own : IsOwner f.name.tty) (rows : ByteRows) (fit : RowsFit s w f rows) where
+  made_whole : (q : NamedPages) → After s w q → IsWholeMachine (record s { pages = q })
   made_whole q h = filed_whole s w q s.files h.sound.whole h.sound.room h.filed h.keys h.given
 
   -- SUCH A TURN LEAVES A WHOLE STATE WHOLE
-  pub byte_called_whole : (number : ℕ) → IsWhole (byte_called s f rows number)
+  pub byte_called_whole : (number : ℕ) → IsWholeMachine (byte_called s f rows number)
   unfolding parts_behind
   byte_called_whole number =
       let a = asks_bytes (λ name. name) (parts_of s) f.name f.body.regs in
@@ -140,7 +140,7 @@ module _ (s : PlainState) (w : IsWhole s) (f : Fork) (own : IsOwner f.name.tty) 
       by (byte_came s f rows number).end came.0 came.1
     where
       by : (e : End ByteChange) → KeepsEnd (FitsByte (asks_bytes (λ name. name) (parts_of s) f.name f.body.regs)) e → After s w (byte_came s f rows number).pages
-          → IsWhole (with_parts s (with_filed (parts_of s) (parts_behind (byte_changed (λ name. name)) (filed_of (parts_of s)) (record (filed_of (parts_of s)) { pages = (byte_came s f rows number).pages }) e)))
+          → IsWholeMachine (with_parts s (with_filed (parts_of s) (parts_behind (byte_changed (λ name. name)) (filed_of (parts_of s)) (record (filed_of (parts_of s)) { pages = (byte_came s f rows number).pages }) e)))
       by (Done change regs out post) fits h = change_whole (record s { pages = (byte_came s f rows number).pages }) (made_whole (byte_came s f rows number).pages h) f.name f.body.regs change fits
       by (Waits on) fits h = w
       by Halts fits h = w

@@ -19,6 +19,7 @@ use Rattle.plain_model.specs.Forks.{change_fork, with_fork}
 use Rattle.plain_model.specs.Trees.{changed, tree_of}
 use Rattle.plain_model.specs.ForkCalls.{without_below}
 use Rattle.plain_model.specs.FileCalls.{times_held}
+use Rattle.plain_model.specs.InterruptCalls.{living_codes}
 use Rattle.plain_model.specs.FileEvents.{page_named}
 use Rattle.plain_model.specs.Unit.{Effect}
 use Rattle.plain_model.specs.Commands.{begun_at, commanded, continued, delete_file, forks_and_pages, go_on, in_program, is_forced, logged_out, restarted, resumed, run_program, running, start_address, start_again, started, with_forks_and_pages, with_job_at, with_program}
@@ -26,7 +27,7 @@ use Rattle.plain_model.proofs.Posted.{IsSame}
 use Rattle.plain_units.proofs.Lookups.{looked_up}
 use Rattle.fork_tree.specs.Inferiors.{HasNoInferior}
 use Rattle.fork_tree.proofs.Slots.{held_lives, some_of}
-use Rattle.plain_laws.specs.Whole.{IsWhole}
+use Rattle.plain_laws.specs.Whole.{IsWholeMachine}
 use Rattle.plain_laws.specs.WholeFiles.{AreOpen, Jobs}
 use Rattle.plain_laws.proofs.FilesKept.{gone_tells, job_gone}
 use Rattle.plain_laws.proofs.LoneTops.{only_top}
@@ -36,27 +37,27 @@ use Rattle.plain_laws.proofs.WholeJfns.{removed_whole}
 
 -- what a step leaves is whole
 abbrev pub Leaves : Effect → Type 0
-Leaves e = IsWhole e.state
+Leaves e = IsWholeMachine e.state
 
-module _ (s : PlainState) (w : IsWhole s) where
+module _ (s : PlainState) (w : IsWholeMachine s) where
   -- a fork changed that keeps its name, slot and superior
-  pub changed_whole : (name : ForkName) (change : Fork → Fork) → ((f : Fork) → IsSame f (change f)) → IsWhole (change_fork s name change)
-  changed_whole name change same = looked_up IsWhole _ s (map.get s.forks name) (λ f is. put s w name f is (change f) (same f)) (λ none. w)
+  pub changed_whole : (name : ForkName) (change : Fork → Fork) → ((f : Fork) → IsSame f (change f)) → IsWholeMachine (change_fork s name change)
+  changed_whole name change same = looked_up IsWholeMachine _ s (map.get s.forks name) (λ f is. put s w name f is (change f) (same f)) (λ none. w)
 
   -- a job changed that keeps its top fork and its JFNs
-  pub with_job_whole : (t : Tty) (j k : PlainJob) → map.get s.jobs t.0 ≡ Some j → k.top ≡ j.top → k.jfns ≡ j.jfns → IsWhole (with_job_at s t k)
+  pub with_job_whole : (t : Tty) (j k : PlainJob) → map.get s.jobs t.0 ≡ Some j → k.top ≡ j.top → k.jfns ≡ j.jfns → IsWholeMachine (with_job_at s t k)
   with_job_whole t j k is top jfns = job_whole s w t.0 j k is top (subst (AreOpen s.files) (sym jfns) (w.files.jfns t.0 j is))
 
 -- a fork changed, and then a job
-pub changed_job_whole : (s : PlainState) → IsWhole s → (name : ForkName) (change : Fork → Fork) → ((f : Fork) → IsSame f (change f)) → (t : Tty) (j k : PlainJob) → map.get s.jobs t.0 ≡ Some j → k.top ≡ j.top → k.jfns ≡ j.jfns
-    → IsWhole (with_job_at (change_fork s name change) t k)
+pub changed_job_whole : (s : PlainState) → IsWholeMachine s → (name : ForkName) (change : Fork → Fork) → ((f : Fork) → IsSame f (change f)) → (t : Tty) (j k : PlainJob) → map.get s.jobs t.0 ≡ Some j → k.top ≡ j.top → k.jfns ≡ j.jfns
+    → IsWholeMachine (with_job_at (change_fork s name change) t k)
 changed_job_whole s w name change same t j k is top jfns = with_job_whole (change_fork s name change) (changed_whole s w name change same) t j k (ap (λ (x : Jobs). map.get x t.0) stay ∙ is) top jfns
   where
     stay : (change_fork s name change).jobs ≡ s.jobs
     stay = looked_up (λ (c : PlainState). c.jobs ≡ s.jobs) _ s (map.get s.forks name) (λ f is. refl) (λ none. refl)
 
-module _ (s : PlainState) (w : IsWhole s) (t : Tty) (j : PlainJob) (is : map.get s.jobs t.0 ≡ Some j) where
-  pub started_whole : (address : ℕ) → IsWhole (started s t address j)
+module _ (s : PlainState) (w : IsWholeMachine s) (t : Tty) (j : PlainJob) (is : map.get s.jobs t.0 ≡ Some j) where
+  pub started_whole : (address : ℕ) → IsWholeMachine (started s t address j)
   started_whole address = changed_job_whole s w j.top (restarted address) (λ f. (refl, refl, refl)) t j (in_program j) is refl refl
 
   start_whole : Leaves (start_again s t j)
@@ -93,18 +94,18 @@ module _ (s : PlainState) (w : IsWhole s) (t : Tty) (j : PlainJob) (is : map.get
     abbrev begun : PlainState
     begun = record alone { forks = changed alone.forks (begun_at address) (map.get alone.forks j.top) }
 
-    begun_whole : IsWhole begun
+    begun_whole : IsWholeMachine begun
     begun_whole = changed_if alone alone_whole.whole (begun_at address) (λ f. (refl, refl, refl)) (map.get alone.forks j.top) (λ k at. ap (map.get alone.forks) (alone_whole.whole.tree.slotted.own j.top k at) ∙ at)
 
     pub has_program : HasProgram j.top name SPACE_PAGES alone.pages (with_program SPACE_PAGES alone.pages j.top name)
     has_program = program_set j.top name alone.pages alone_whole.whole.pages (sym (alone_whole.whole.forks j.top) ∙ ap is_some top_alone.1) SPACE_PAGES (omega arith)
 
-    pub running_whole : IsWhole (running s t j name address)
+    pub running_whole : IsWholeMachine (running s t j name address)
     running_whole =
         let q = with_program SPACE_PAGES alone.pages j.top name in
         let whole = pages_whole begun begun_whole q has_program.whole (omega (arith, has_program.room, has_program.limit, alone_whole.whole.room)) has_program.files has_program.keys
         (λ at serial page a follows. alone_whole.whole.given at serial page a (has_program.follows at serial page a follows)) in
-        with_job_whole (record begun { pages = q }) whole t j (record (in_program j) { start = Some address }) is refl refl
+        with_job_whole (record begun { pages = q }) whole t j (record (in_program j) { start = Some address; codes = living_codes begun.forks j.codes }) is refl refl
 
   run_whole : (name : List ℕ) → Leaves (run_program s t j name)
   run_whole name = cond_both (map.contains_key s.files name) _ _ Leaves
@@ -118,7 +119,7 @@ module _ (s : PlainState) (w : IsWhole s) (t : Tty) (j : PlainJob) (is : map.get
       none_of k h = grind (arith, nat_tests)
 
   -- the top fork goes as the last of its job, and so no fork is left without one
-  pub logged_out_whole : IsWhole (logged_out s t j)
+  pub logged_out_whole : IsWholeMachine (logged_out s t j)
   logged_out_whole = left_whole alone alone_whole.whole j.top alone_whole.bare (map.remove s.jobs t.0) (job_gone s.files alone.pages.files s.jobs alone_whole.whole.files t.0) homes were
     where
       homes : (f : ForkName) → f ≢ j.top → map.contains_key alone.forks f ≡ true → map.contains_key (map.remove s.jobs t.0) f.tty.0 ≡ true

@@ -47,7 +47,7 @@ use Rattle.plain_model.specs.ForkCalls.{fork_call, map_wanted, without, without_
 use Rattle.plain_pages.specs.WholePages.{AreWhole}
 use Rattle.plain_laws.specs.WholeFiles.{Files, FilePages, Jobs, AreOpen, AreFilesWhole}
 use Rattle.plain_laws.proofs.FilesKept.{job_put, put_tells}
-use Rattle.plain_laws.specs.Whole.{AreGiven, IsWhole}
+use Rattle.plain_laws.specs.Whole.{AreGiven, IsWholeMachine}
 use Rattle.plain_laws.proofs.GivenSerials.{IsNewGiven, added_given, removed_given, run_given, words_given}
 use Rattle.plain_units.proofs.Lookups.{looked_up}
 use Rattle.machine_names.proofs.OrderLemmas.{fork_cmp_total, fork_cmp_apart}
@@ -55,7 +55,9 @@ use Rattle.plain_model.proofs.ForkMaps.{cases_name, get_put, get_put_other, get_
 use Rattle.plain_pages.proofs.Kept.{fork_kept, fork_maps, live_fork, fork_whole as fork_left_whole}
 use Rattle.plain_units.proofs.PageRuns.{AreSound, Keeps, kept_itself, kept_on, stored_kept}
 use Rattle.plain_model.proofs.ForkEnds.{FitsChange, FitsEnd, Leads, call_ends, call_keeps, mapped}
-use Rattle.plain_model.specs.Families.{forks_changed}
+use Rattle.plain_typing.specs.Lines.{Codes}
+use Rattle.plain_model.specs.Families.{codes_behind, forks_changed}
+use Rattle.plain_model.specs.InterruptCalls.{living_codes, with_codes_of}
 use Rattle.plain_model.specs.Unit.{parts_of, with_parts}
 use Rattle.plain_model.proofs.Calling.{fork_came, fork_called}
 use Rattle.fork_tree.specs.Inferiors.{HasNoInferior, IsLastBelow}
@@ -75,8 +77,8 @@ put_over m name f g = same_forks _ _ (λ q. elim (cases_name q name) [
 ])
 
 -- a state with a fork changed that keeps its name, slot and superior
-module _ (s : PlainState) (w : IsWhole s) where
-  pub fork_at_whole : (name : ForkName) (f g : Fork) → map.get s.forks name ≡ Some f → g.name ≡ name → g.slot ≡ f.slot → g.superior ≡ f.superior → IsWhole (record s { forks = map.insert s.forks name g })
+module _ (s : PlainState) (w : IsWholeMachine s) where
+  pub fork_at_whole : (name : ForkName) (f g : Fork) → map.get s.forks name ≡ Some f → g.name ≡ name → g.slot ≡ f.slot → g.superior ≡ f.superior → IsWholeMachine (record s { forks = map.insert s.forks name g })
   fork_at_whole name f g there named slot superior = record {
     pages = w.pages;
     room = w.room;
@@ -117,11 +119,11 @@ module _ (s : PlainState) (w : IsWhole s) where
           (g, found k ∙ ap (λ b. cond b (Some g) (map.get s.forks k)) e.0, slot ∙ ap (λ (x : Fork). x.slot) here ∙ one, superior ∙ ap (λ (x : Fork). x.superior) here ∙ none)
       top_of k h is one none (inr e) = (h, found k ∙ ap (λ b. cond b (Some g) (map.get s.forks k)) e ∙ is, one, none)
 
-  pub fork_whole : (name : ForkName) (f g : Fork) → map.get s.forks name ≡ Some f → g.name ≡ name → g.slot ≡ f.slot → g.superior ≡ f.superior → IsWhole (with_fork s g)
-  fork_whole name f g there named slot superior = subst (λ k. IsWhole (record s { forks = map.insert s.forks k g })) (sym named) (fork_at_whole name f g there named slot superior)
+  pub fork_whole : (name : ForkName) (f g : Fork) → map.get s.forks name ≡ Some f → g.name ≡ name → g.slot ≡ f.slot → g.superior ≡ f.superior → IsWholeMachine (with_fork s g)
+  fork_whole name f g there named slot superior = subst (λ k. IsWholeMachine (record s { forks = map.insert s.forks k g })) (sym named) (fork_at_whole name f g there named slot superior)
 
   -- a job changed that keeps its top fork, and whose JFNs fit
-  pub job_whole : (t : ℕ) (j k : PlainJob) → map.get s.jobs t ≡ Some j → k.top ≡ j.top → AreOpen s.files k.jfns → IsWhole (record s { jobs = map.insert s.jobs t k })
+  pub job_whole : (t : ℕ) (j k : PlainJob) → map.get s.jobs t ≡ Some j → k.top ≡ j.top → AreOpen s.files k.jfns → IsWholeMachine (record s { jobs = map.insert s.jobs t k })
   job_whole t j k there top fit = record {
     pages = w.pages;
     room = w.room;
@@ -148,8 +150,12 @@ module _ (s : PlainState) (w : IsWhole s) where
           (f.0, ap (λ (x : PlainJob). map.get s.forks x.top) (sym here) ∙ ap (map.get s.forks) top ∙ f.1, f.2, f.3)
       at u i false is = w.tops u i is
 
+  -- other codes of a job
+  pub codes_whole : (t : Tty) (change : Codes → Codes) → IsWholeMachine (record s { jobs = with_codes_of s.jobs t change })
+  codes_whole t change = looked_up (λ (jobs : Jobs). IsWholeMachine (record s { jobs = jobs })) _ s.jobs (map.get s.jobs t.0) (λ j is. job_whole t.0 j (record j { codes = change j.codes }) is refl (w.files.jfns t.0 j is)) (λ none. w)
+
   -- other pages and other files, with the forks of these
-  pub filed_whole : (q : NamedPages) (files : Files) → AreWhole q → live q ≤ q.limit → AreFilesWhole files q.files s.jobs → ((f : ForkName) → map.contains_key q.maps f ≡ map.contains_key s.pages.maps f) → AreGiven (next_serial (tree_of s)) q.maps → IsWhole (record s { pages = q; files = files })
+  pub filed_whole : (q : NamedPages) (files : Files) → AreWhole q → live q ≤ q.limit → AreFilesWhole files q.files s.jobs → ((f : ForkName) → map.contains_key q.maps f ≡ map.contains_key s.pages.maps f) → AreGiven (next_serial (tree_of s)) q.maps → IsWholeMachine (record s { pages = q; files = files })
   filed_whole q files whole room filed keys given = record {
     pages = whole;
     room = room;
@@ -162,14 +168,14 @@ module _ (s : PlainState) (w : IsWhole s) where
     own_tops = w.own_tops;
   }
 
-  pub pages_whole : (q : NamedPages) → AreWhole q → live q ≤ q.limit → q.files ≡ s.pages.files → ((f : ForkName) → map.contains_key q.maps f ≡ map.contains_key s.pages.maps f) → AreGiven (next_serial (tree_of s)) q.maps → IsWhole (record s { pages = q })
+  pub pages_whole : (q : NamedPages) → AreWhole q → live q ≤ q.limit → q.files ≡ s.pages.files → ((f : ForkName) → map.contains_key q.maps f ≡ map.contains_key s.pages.maps f) → AreGiven (next_serial (tree_of s)) q.maps → IsWholeMachine (record s { pages = q })
   pages_whole q whole room files keys given = filed_whole q s.files whole room (subst (λ (m : FilePages). AreFilesWhole s.files m s.jobs) (sym files) w.files) keys given
 
   pub sound : AreSound s.pages
   sound = record { whole = w.pages; room = w.room }
 
   -- other pages that are sound, with the same files and forks
-  pub keeps_whole : (q : NamedPages) → Keeps s.pages q → AreGiven (next_serial (tree_of s)) q.maps → IsWhole (record s { pages = q })
+  pub keeps_whole : (q : NamedPages) → Keeps s.pages q → AreGiven (next_serial (tree_of s)) q.maps → IsWholeMachine (record s { pages = q })
   keeps_whole q k given = pages_whole q k.sound.whole k.sound.room k.forks.files k.forks.keys given
 
   -- a fork that lives has a serial that was given out
@@ -193,51 +199,51 @@ behind_same f (Refused code) = posted_same (with_error f code) ILLEGAL_INSTRUCTI
 behind_same f (Failed code) = (refl, refl, refl)
 behind_same f (Trap channel) = posted_same f channel
 
-module _ (s : PlainState) (w : IsWhole s) where
+module _ (s : PlainState) (w : IsWholeMachine s) where
   -- a fork put in place of one
-  pub put : (name : ForkName) (f : Fork) → map.get s.forks name ≡ Some f → (g : Fork) → IsSame f g → IsWhole (with_fork s g)
+  pub put : (name : ForkName) (f : Fork) → map.get s.forks name ≡ Some f → (g : Fork) → IsSame f g → IsWholeMachine (with_fork s g)
   put name f there g same = fork_whole s w name f g there (same.0 ∙ w.tree.slotted.own name f there) same.1 same.2
 
   -- a fork changed, if there is one
-  pub changed_if : (change : Fork → Fork) → ((f : Fork) → IsSame f (change f)) → (o : Option Fork) → ((k : Fork) → o ≡ Some k → map.get s.forks k.name ≡ Some k) → IsWhole (record s { forks = changed s.forks change o })
+  pub changed_if : (change : Fork → Fork) → ((f : Fork) → IsSame f (change f)) → (o : Option Fork) → ((k : Fork) → o ≡ Some k → map.get s.forks k.name ≡ Some k) → IsWholeMachine (record s { forks = changed s.forks change o })
   changed_if change same None there = w
   changed_if change same (Some k) there = let is = same k in fork_at_whole s w k.name k (change k) (there k refl) is.0 is.1 is.2
 
 -- forks in slots of a job changed in order that keep their names, slots and superiors
 module _ (change : Fork → Fork) (same : (f : Fork) → IsSame f (change f)) where
-  slots_whole : (s : PlainState) → IsWhole s → (t : Tty) (slots : List ℕ) → IsWhole (record s { forks = changed_in change s.forks t slots })
+  slots_whole : (s : PlainState) → IsWholeMachine s → (t : Tty) (slots : List ℕ) → IsWholeMachine (record s { forks = changed_in change s.forks t slots })
   slots_whole s w t [] = w
   slots_whole s w t (slot ∷ slots) =
       let forks = changed s.forks change (fork_in s.forks t slot) in
       slots_whole (record s { forks = forks }) (changed_if s w change same (fork_in s.forks t slot) (λ k is. let at = slot_tells s.forks w.tree.slotted.own t slot k is in at.0)) t slots
 
-module _ (s : PlainState) (w : IsWhole s) where
+module _ (s : PlainState) (w : IsWholeMachine s) where
   -- who waits for a fork runs again, or who waits for a character
-  pub waiters_whole : (t : Tty) → IsWhole (record s { forks = waiters_woken s.forks t })
+  pub waiters_whole : (t : Tty) → IsWholeMachine (record s { forks = waiters_woken s.forks t })
   unfolding waiters_woken
   waiters_whole t = slots_whole unwaited (λ f. (refl, refl, refl)) s w t (range_with_len 1 MOST_FORKS)
 
-  pub readers_whole : (t : Tty) → IsWhole (record s { forks = readers_woken s.forks t })
+  pub readers_whole : (t : Tty) → IsWholeMachine (record s { forks = readers_woken s.forks t })
   unfolding readers_woken
   readers_whole t = slots_whole unread (λ f. (refl, refl, refl)) s w t (range_with_len 1 MOST_FORKS)
 
-  posted_whole : (f : Fork) (channel : ℕ) → IsWhole (record s { forks = changed s.forks (λ k. posted k channel) (superior_of s.forks f) })
+  posted_whole : (f : Fork) (channel : ℕ) → IsWholeMachine (record s { forks = changed s.forks (λ k. posted k channel) (superior_of s.forks f) })
   posted_whole f channel = changed_if s w (λ k. posted k channel) (λ k. posted_same k channel) (superior_of s.forks f) (λ k is. let at = superior_tells s.forks w.tree.slotted.own f k is in at.0)
 
 -- a fork that ended is told of
-pub told_whole : (s : PlainState) → IsWhole s → (f : Fork) → IsWhole (record s { forks = end_told s.forks f })
+pub told_whole : (s : PlainState) → IsWholeMachine s → (f : Fork) → IsWholeMachine (record s { forks = end_told s.forks f })
 told_whole s w f = posted_whole (record s { forks = waiters_woken s.forks f.name.tty }) (waiters_whole s w f.name.tty) f INFERIOR_ENDED
 
 -- a fork is the top fork of no job
 abbrev pub IsNoTop : PlainState → ForkName → Type 0
 IsNoTop s name = (t : ℕ) (j : PlainJob) → map.get s.jobs t ≡ Some j → j.top ≡ name → ⊥
 
-module _ (s : PlainState) (w : IsWhole s) (name : ForkName) where
+module _ (s : PlainState) (w : IsWholeMachine s) (name : ForkName) where
   -- a fork that has no inferior, and goes with its map, leaves the state whole, where of its jobs those are left whose top fork is left
   module _ (bare : HasNoInferior s.forks name) (jobs : Jobs) (filed : AreFilesWhole s.files s.pages.files jobs)
       (homes : (f : ForkName) → f ≢ name → map.contains_key s.forks f ≡ true → map.contains_key jobs f.tty.0 ≡ true)
       (were : (t : ℕ) (j : PlainJob) → map.get jobs t ≡ Some j → (map.get s.jobs t ≡ Some j) × (j.top ≢ name)) where
-    pub left_whole : IsWhole (record s { forks = map.remove s.forks name; pages = without_fork s.pages name; jobs = jobs })
+    pub left_whole : IsWholeMachine (record s { forks = map.remove s.forks name; pages = without_fork s.pages name; jobs = jobs })
     unfolding without_fork
     left_whole = by (map.get s.pages.maps name) refl
       where
@@ -267,7 +273,7 @@ module _ (s : PlainState) (w : IsWhole s) (name : ForkName) where
           | inr ne ↦ ap is_some (get_gone_other s.forks name k ne) ∙ w.forks k ∙ sym (ap is_some (get_gone_other s.pages.maps name k ne)) ∙ ap (λ (x : Maps). map.contains_key x k) (sym e)
         ]
 
-        with_pages : (q : NamedPages) → AreWhole q → live q ≤ q.limit → q.files ≡ s.pages.files → q.maps ≡ map.remove s.pages.maps name → IsWhole (record s { forks = map.remove s.forks name; pages = q; jobs = jobs })
+        with_pages : (q : NamedPages) → AreWhole q → live q ≤ q.limit → q.files ≡ s.pages.files → q.maps ≡ map.remove s.pages.maps name → IsWholeMachine (record s { forks = map.remove s.forks name; pages = q; jobs = jobs })
         with_pages q whole room files maps = record {
           pages = whole;
           room = room;
@@ -283,14 +289,14 @@ module _ (s : PlainState) (w : IsWhole s) (name : ForkName) where
         none_there : map.get s.pages.maps name ≡ None → without_fork s.pages name ≡ s.pages
         none_there none = ap (λ (o : Option Map). drop_all_unnamed (record s.pages { maps = map.remove s.pages.maps name }) (option_map_or (filter_map page_in) o [])) none ∙ ap (λ (m : Maps). record s.pages { maps = m }) (gone_itself s.pages.maps name none)
 
-        by : (o : Option Map) → map.get s.pages.maps name ≡ o → IsWhole (record s { forks = map.remove s.forks name; pages = without_fork s.pages name; jobs = jobs })
+        by : (o : Option Map) → map.get s.pages.maps name ≡ o → IsWholeMachine (record s { forks = map.remove s.forks name; pages = without_fork s.pages name; jobs = jobs })
         by None none = with_pages (without_fork s.pages name) (subst (λ (q : NamedPages). AreWhole q) (sym (none_there none)) w.pages) (subst (λ (q : NamedPages). live q ≤ q.limit) (sym (none_there none)) w.room)
             (ap (λ (q : NamedPages). q.files) (none_there none)) (ap (λ (q : NamedPages). q.maps) (none_there none) ∙ sym (gone_itself s.pages.maps name none))
         by (Some m) some =
             let kept = fork_kept s.pages w.pages name m some in
             with_pages (without_fork s.pages name) (fork_left_whole s.pages w.pages name m some) (omega (arith, live_fork s.pages w.pages name m some, w.room, kept.limit)) kept.files (fork_maps s.pages w.pages name m some)
 
-  gone_whole : HasNoInferior s.forks name → IsNoTop s name → IsWhole (record s { forks = map.remove s.forks name; pages = without_fork s.pages name })
+  gone_whole : HasNoInferior s.forks name → IsNoTop s name → IsWholeMachine (record s { forks = map.remove s.forks name; pages = without_fork s.pages name })
   gone_whole bare no_top = left_whole bare s.jobs w.files (λ f other lives. w.homes f lives) (λ t j is. (is, no_top t j is))
 
   -- who has a superior is no top fork
@@ -339,15 +345,15 @@ last_tells forks who f is = up_to MOST_FORKS is
 
 -- whole, and without a fork's inferiors
 pub record IsBare (f : ForkName) (s : PlainState) : Type 0 where
-  pub whole : IsWhole s
+  pub whole : IsWholeMachine s
   pub bare : HasNoInferior s.forks f
 
-below_whole : (n : ℕ) (f : ForkName) (s : PlainState) → IsWhole s → tally (below_in s.forks f) 1 MOST_FORKS ≤ n → IsBare f (with_forks_and_pages s (without_below n f (forks_and_pages s)))
+below_whole : (n : ℕ) (f : ForkName) (s : PlainState) → IsWholeMachine s → tally (below_in s.forks f) 1 MOST_FORKS ≤ n → IsBare f (with_forks_and_pages s (without_below n f (forks_and_pages s)))
 unfolding without_below
 below_whole zero f s w few = record { whole = w; bare = none_counted f (tree_of s) w.tree few }
 below_whole (suc n) f s w few = by (λ t whole fewer. below_whole n f t whole fewer) (last_below s.forks f) refl (last_is (tree_of s) w.tree f)
   where
-    by : ((t : PlainState) → IsWhole t → tally (below_in t.forks f) 1 MOST_FORKS ≤ n → IsBare f (with_forks_and_pages t (without_below n f (forks_and_pages t)))) → (o : Option Fork) → last_below s.forks f ≡ o
+    by : ((t : PlainState) → IsWholeMachine t → tally (below_in t.forks f) 1 MOST_FORKS ≤ n → IsBare f (with_forks_and_pages t (without_below n f (forks_and_pages t)))) → (o : Option Fork) → last_below s.forks f ≡ o
         → MatchOption o (HasNoInferior s.forks f) (λ k. IsLastBelow s.forks f k.name) → IsBare f (with_forks_and_pages s (option_map_or (λ k. without_below n f (without (forks_and_pages s) k.name)) o (forks_and_pages s)))
     by rest None none bare = record { whole = w; bare = bare }
     by rest (Some k) is last =
@@ -357,13 +363,13 @@ below_whole (suc n) f s w few = by (λ t whole fewer. below_whole n f t whole fe
         subst (λ (q : ForkName). tally (below_in (map.remove s.forks q) f) 1 MOST_FORKS < tally (below_in s.forks f) 1 MOST_FORKS) last.named fewer in
         rest (with_forks_and_pages s (without (forks_and_pages s) k.name)) (gone_whole s w k.name (subst (HasNoInferior s.forks) last.named last.leaf.leaf) (below_no_top s w k.name own.0 own.1 own.2)) (omega (arith, few, here))
 
-module _ (s : PlainState) (w : IsWhole s) where
+module _ (s : PlainState) (w : IsWholeMachine s) where
   -- without a fork's inferiors
   pub bare_whole : (f : ForkName) → IsBare f (with_forks_and_pages s (without_below MOST_FORKS f (forks_and_pages s)))
   bare_whole f = below_whole MOST_FORKS f s w (tally_most (below_in s.forks f) 1 MOST_FORKS)
 
   -- without a fork and its inferiors; who waits for a fork runs again
-  pub killed_whole : (f : ForkName) → IsNoTop s f → IsWhole (with_forks_and_pages s (fork_changed (Kill f) (forks_and_pages s)))
+  pub killed_whole : (f : ForkName) → IsNoTop s f → IsWholeMachine (with_forks_and_pages s (fork_changed (Kill f) (forks_and_pages s)))
   unfolding fork_changed
   killed_whole f no_top =
       let t = with_forks_and_pages s (without_below MOST_FORKS f (forks_and_pages s)) in
@@ -371,16 +377,16 @@ module _ (s : PlainState) (w : IsWhole s) where
       let b = bare_whole f in
       waiters_whole u (gone_whole t b.whole f b.bare no_top) f.tty
 
-  pub halted_whole : (f : ForkName) → IsWhole (with_forks_and_pages s (fork_changed (Halt f) (forks_and_pages s)))
+  pub halted_whole : (f : ForkName) → IsWholeMachine (with_forks_and_pages s (fork_changed (Halt f) (forks_and_pages s)))
   unfolding fork_changed
-  halted_whole f = looked_up (λ v. IsWhole (with_forks_and_pages s v)) (with_halted (forks_and_pages s)) (forks_and_pages s) (map.get s.forks f)
+  halted_whole f = looked_up (λ v. IsWholeMachine (with_forks_and_pages s v)) (with_halted (forks_and_pages s)) (forks_and_pages s) (map.get s.forks f)
       (λ g is. let h = with_status g Halted in told_whole (with_fork s h) (put s w f g is h (refl, refl, refl)) h) (λ none. w)
 
-  pub mark_whole : (f : ForkName) (on : Bool) → IsWhole (with_forks_and_pages s (fork_changed (Freeze f on) (forks_and_pages s)))
+  pub mark_whole : (f : ForkName) (on : Bool) → IsWholeMachine (with_forks_and_pages s (fork_changed (Freeze f on) (forks_and_pages s)))
   unfolding fork_changed
   mark_whole f on = changed_if s w (with_mark on) (λ k. (refl, refl, refl)) (map.get s.forks f) (λ k is. ap (map.get s.forks) (w.tree.slotted.own f k is) ∙ is)
 
-  pub body_whole : (f : ForkName) (body : Body) → IsWhole (with_forks_and_pages s (fork_changed (Become f body) (forks_and_pages s)))
+  pub body_whole : (f : ForkName) (body : Body) → IsWholeMachine (with_forks_and_pages s (fork_changed (Become f body) (forks_and_pages s)))
   unfolding fork_changed
   body_whole f body = changed_if s w (with_body body) (λ k. (refl, refl, refl)) (map.get s.forks f) (λ k is. ap (map.get s.forks) (w.tree.slotted.own f k is) ∙ is)
 
@@ -392,7 +398,7 @@ stored_from_kept p w f at (word ∷ words) =
     cond_both (is_accumulator at) p q (λ x. Keeps p (stored_from x f (next_address at) words)) (λ low. stored_from_kept p w f (next_address at) words)
     (λ high. let k = stored_kept p (in_map slot) (at % PAGE_WORDS) word nat_list_cmp_total w in kept_on p q (stored_from q f (next_address at) words) k (stored_from_kept q k.sound f (next_address at) words))
 
-module _ (s : PlainState) (w : IsWhole s) where
+module _ (s : PlainState) (w : IsWholeMachine s) where
   -- no fork has the next name
   pub no_fork : (t : Tty) → map.contains_key s.forks (next_name (tree_of s) t) ≡ false
   no_fork t = ap is_some (name_unused (tree_of s) t w.tree)
@@ -419,7 +425,7 @@ module _ (s : PlainState) (w : IsWhole s) where
     name : ForkName
     name = next_name (tree_of s) t
 
-    made_at_whole : f.name ≡ name → IsWhole (record s { forks = map.insert s.forks name f; fork_serials = slice_set s.fork_serials t.0 (name.serial + 1); pages = q; jobs = jobs })
+    made_at_whole : f.name ≡ name → IsWholeMachine (record s { forks = map.insert s.forks name f; fork_serials = slice_set s.fork_serials t.0 (name.serial + 1); pages = q; jobs = jobs })
     unfolding name
     made_at_whole named = record {
       pages = sound.whole;
@@ -461,9 +467,9 @@ module _ (s : PlainState) (w : IsWhole s) where
           | inr ne ↦ ap is_some (get_put_other s.forks name k f ne) ∙ w.forks k ∙ sym (ap is_some (get_put_other s.pages.maps name k (new_map entries) ne))
         ]
 
-    pub made_whole : f.name ≡ next_name (tree_of s) t → IsWhole (record (with_forks_and_pages s (record { tree = with_made (tree_of s) f; pages = q })) { jobs = jobs })
+    pub made_whole : f.name ≡ next_name (tree_of s) t → IsWholeMachine (record (with_forks_and_pages s (record { tree = with_made (tree_of s) f; pages = q })) { jobs = jobs })
     unfolding name
-    made_whole named = subst (λ (n : ForkName). IsWhole (record s { forks = map.insert s.forks n f; fork_serials = slice_set s.fork_serials n.tty.0 (n.serial + 1); pages = q; jobs = jobs })) (sym named) (made_at_whole named)
+    made_whole named = subst (λ (n : ForkName). IsWholeMachine (record s { forks = map.insert s.forks n f; fork_serials = slice_set s.fork_serials n.tty.0 (n.serial + 1); pages = q; jobs = jobs })) (sym named) (made_at_whole named)
 
   -- a change of a fork call leaves the state whole
   module _ (who : ForkName) (regs : Regs) (terminal : IsTerminal who.tty) (lives : map.contains_key s.forks who ≡ true) (q : NamedPages) where
@@ -485,7 +491,7 @@ module _ (s : PlainState) (w : IsWhole s) where
         (subst (λ o. IsSome o) (sym (in_found s.forks w.tree.slotted who.tty k.0.slot k.0 (held_lives s.forks w.tree.slotted who k.0 k.1, ap (λ (n : ForkName). n.tty.0) own, refl))) refl)
 
     change_whole : (change : ForkChange) → FitsChange caller s.pages (λ x y. Keeps x y) q change → FitsChange caller s.pages (λ x y. AreGiven (next_serial (tree_of s)) y.maps) q change
-        → IsWhole (with_forks_and_pages s (fork_changed change (record (forks_and_pages s) { pages = q })))
+        → IsWholeMachine (with_forks_and_pages s (fork_changed change (record (forks_and_pages s) { pages = q })))
     unfolding fork_changed
     change_whole Nothing k given = keeps_whole s w q k given
     change_whole (Make f) made given =
@@ -510,10 +516,21 @@ module _ (s : PlainState) (w : IsWhole s) where
         leading : (p : NamedPages) → AreGiven (next_serial (tree_of s)) p.maps → Leads caller s.pages (λ x y. AreGiven (next_serial (tree_of s)) y.maps) p
         leading p given = record { itself = given; runs = λ steps. run_given (next_serial (tree_of s)) nat_list_cmp_total who steps (begun p regs.ac) given }
 
+  -- so do the codes of forks that were killed
+  codes_behind_whole : (change : ForkChange) (forks : ForkMap) → IsWholeMachine (record s { jobs = codes_behind change forks s.jobs })
+  codes_behind_whole Nothing forks = w
+  codes_behind_whole (Make f) forks = w
+  codes_behind_whole (Kill f) forks = codes_whole s w f.tty (living_codes forks)
+  codes_behind_whole (Freeze f on) forks = w
+  codes_behind_whole (Become f body) forks = w
+  codes_behind_whole (Halt f) forks = w
+  codes_behind_whole (Store f at words) forks = w
+
+module _ (s : PlainState) (w : IsWholeMachine s) where
   -- a fork call leaves the state whole
-  pub fork_called_whole : (name : ForkName) (f : Fork) → map.get s.forks name ≡ Some f → IsForkName name → (number : ℕ) → IsWhole (fork_called s f number)
+  pub fork_called_whole : (name : ForkName) (f : Fork) → map.get s.forks name ≡ Some f → IsForkName name → (number : ℕ) → IsWholeMachine (fork_called s f number)
   unfolding parts_behind
-  fork_called_whole name f there fits number = by (fork_came s f number).end (call_keeps nat_list_cmp_total a own s.pages (sound s w) (next_absent f.name.tty) number) (call_given f.name f.body.regs terminal lives q number)
+  fork_called_whole name f there fits number = by (fork_came s f number).end (call_keeps nat_list_cmp_total a own s.pages (sound s w) (next_absent s w f.name.tty) number) (call_given s w f.name f.body.regs terminal lives q number)
     where
       a : Asked
       a = record { who = f.name; regs = f.body.regs; tree = tree_of s }
@@ -530,8 +547,10 @@ module _ (s : PlainState) (w : IsWhole s) where
       q : NamedPages
       q = (fork_came s f number).pages
 
-      by : (e : End ForkChange) → FitsEnd a s.pages (λ x y. Keeps x y) q e → FitsEnd a s.pages (λ x y. AreGiven (next_serial (tree_of s)) y.maps) q e → IsWhole (with_parts s (parts_behind forks_changed (parts_of s) (record (parts_of s) { pages = q }) e))
-      by (Done change regs out post) ok given = change_whole f.name f.body.regs terminal lives q change ok given
+      by : (e : End ForkChange) → FitsEnd a s.pages (λ x y. Keeps x y) q e → FitsEnd a s.pages (λ x y. AreGiven (next_serial (tree_of s)) y.maps) q e → IsWholeMachine (with_parts s (parts_behind forks_changed (parts_of s) (record (parts_of s) { pages = q }) e))
+      by (Done change regs out post) ok given =
+          let v = fork_changed change (record (forks_and_pages s) { pages = q }) in
+          codes_behind_whole (with_forks_and_pages s v) (change_whole s w f.name f.body.regs terminal lives q change ok given) change v.tree.forks
       by (Waits on) ok given = w
       by Halts ok given = w
       by (Refused code) ok given = w

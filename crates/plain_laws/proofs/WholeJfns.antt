@@ -46,7 +46,7 @@ use Rattle.plain_model.specs.Unit.{parts_of, with_parts}
 use Rattle.plain_model.proofs.Calling.{filed_of, jfn_called, jfn_came, with_filed}
 use Rattle.plain_model.proofs.JfnChanges.{held_job}
 use Rattle.plain_model.proofs.JfnEnds.{FitsChange, FitsEnd, call_ends}
-use Rattle.plain_laws.specs.Whole.{AreGiven, IsWhole}
+use Rattle.plain_laws.specs.Whole.{AreGiven, IsWholeMachine}
 use Rattle.plain_laws.specs.WholeFiles.{AreOpen, Files, FitsOpen}
 use Rattle.plain_laws.proofs.FilesKept.{file_gone, file_put, jfn_gone, jfn_put, pages_fewer, put_keeps}
 use Rattle.plain_laws.proofs.GivenSerials.{run_given}
@@ -99,19 +99,19 @@ module _ (jobs : Jobs) (t : Tty) (j : PlainJob) (n : ℕ) (i : OpenFile) (job : 
       at_most k h = grind (arith, nat_tests)
 
 -- the JFNs of a job, where they change
-module _ (s : PlainState) (w : IsWhole s) (t : Tty) where
+module _ (s : PlainState) (w : IsWholeMachine s) (t : Tty) where
   -- another JFN, or one less
-  pub held_whole : (change : OpenFiles → OpenFiles) → ((j : PlainJob) → map.get s.jobs t.0 ≡ Some j → AreOpen s.files (change j.jfns)) → IsWhole (record s { jobs = with_held s.jobs t change })
+  pub held_whole : (change : OpenFiles → OpenFiles) → ((j : PlainJob) → map.get s.jobs t.0 ≡ Some j → AreOpen s.files (change j.jfns)) → IsWholeMachine (record s { jobs = with_held s.jobs t change })
   held_whole change fits = by (map.get s.jobs t.0) refl
     where
-      by : (o : Option PlainJob) → map.get s.jobs t.0 ≡ o → IsWhole (record s { jobs = option_map_or (λ j. map.insert s.jobs t.0 (record j { jfns = change j.jfns })) o s.jobs })
+      by : (o : Option PlainJob) → map.get s.jobs t.0 ≡ o → IsWholeMachine (record s { jobs = option_map_or (λ j. map.insert s.jobs t.0 (record j { jfns = change j.jfns })) o s.jobs })
       by None is = w
       by (Some j) is = job_whole s w t.0 j (record j { jfns = change j.jfns }) is refl (fits j is)
 
-  put_whole : (n : ℕ) (i : OpenFile) → 1 ≤ n → n ≤ MOST_JFNS → FitsOpen s.files i → IsWhole (record s { jobs = with_held s.jobs t (λ m. map.insert m n i) })
+  put_whole : (n : ℕ) (i : OpenFile) → 1 ≤ n → n ≤ MOST_JFNS → FitsOpen s.files i → IsWholeMachine (record s { jobs = with_held s.jobs t (λ m. map.insert m n i) })
   put_whole n i low high fits = held_whole (λ m. map.insert m n i) (λ j is. jfn_put s.files j.jfns n i (w.files.jfns t.0 j is) low high fits)
 
-  release_whole : (n : ℕ) → IsWhole (record s { jobs = with_held s.jobs t (λ m. map.remove m n) })
+  release_whole : (n : ℕ) → IsWholeMachine (record s { jobs = with_held s.jobs t (λ m. map.remove m n) })
   release_whole n = held_whole (λ m. map.remove m n) (λ j is. jfn_gone s.files j.jfns n (w.files.jfns t.0 j is))
 
   -- the file of a JFN is there
@@ -119,14 +119,14 @@ module _ (s : PlainState) (w : IsWhole s) (t : Tty) where
   file_of_held n i held = let j = held_job s.jobs t n i held in w.files.jfns t.0 j.0 j.1 n i j.2
 
 -- files that are made or changed
-module _ (s : PlainState) (w : IsWhole s) where
-  pub file_whole : (name : List ℕ) (f : PlainFile) → IsFileName name → FitsFile f → (map.contains_key s.files name ≡ true) ⊎ (map.len s.files < MOST_FILES) → IsWhole (record s { files = map.insert s.files name f })
+module _ (s : PlainState) (w : IsWholeMachine s) where
+  pub file_whole : (name : List ℕ) (f : PlainFile) → IsFileName name → FitsFile f → (map.contains_key s.files name ≡ true) ⊎ (map.len s.files < MOST_FILES) → IsWholeMachine (record s { files = map.insert s.files name f })
   file_whole name f full fits room = filed_whole s w s.pages (map.insert s.files name f) w.pages w.room (file_put s.files s.pages.files s.jobs w.files name f full fits room) (λ k. refl) w.given
 
-  opened_whole : (mode : Mode) (name : List ℕ) → IsWhole (record s { files = files_opened s.files mode name })
+  opened_whole : (mode : Mode) (name : List ℕ) → IsWholeMachine (record s { files = files_opened s.files mode name })
   opened_whole mode name = by (mode.w && not mode.r) (map.get s.files name) refl
     where
-      by : (b : Bool) (o : Option PlainFile) → map.get s.files name ≡ o → IsWhole (record s { files = cond b (option_map_or (λ f. map.insert s.files name (record f { length = 0 })) o s.files) s.files })
+      by : (b : Bool) (o : Option PlainFile) → map.get s.files name ≡ o → IsWholeMachine (record s { files = cond b (option_map_or (λ f. map.insert s.files name (record f { length = 0 })) o s.files) s.files })
       by true None is = w
       by true (Some f) is = (let was = w.files.named.named name f is in file_whole name (record f { length = 0 }) was.0 (was.1.0, omega arith) (inl (ap is_some is)))
       by false o is = w
@@ -143,7 +143,7 @@ module _ (s : PlainState) (w : IsWhole s) where
       by false is k = (k, λ same. (let no : true ≡ false = sym (ties nat_list_cmp_total name_cmp_apart at.file name same) ∙ is in cc no))
 
   -- a file that goes with its pages, where no JFN stands for it
-  pub removed_whole : (name : List ℕ) → times_held s.jobs name ≡ 0 → IsWhole (record s { pages = without_file s.pages name; files = map.remove s.files name })
+  pub removed_whole : (name : List ℕ) → times_held s.jobs name ≡ 0 → IsWholeMachine (record s { pages = without_file s.pages name; files = map.remove s.files name })
   removed_whole name none =
       let q = without_file s.pages name in
       let fewer = pages_fewer s.files s.pages.files s.jobs w.files q.files (λ at h. (let k = kept_page name at h in k.0)) in
@@ -162,7 +162,7 @@ still_opened files mode name x there = by (mode.w && not mode.r) (map.get files 
     by false o = there
 
 -- a change of a call on JFNs
-module _ (s : PlainState) (w : IsWhole s) (who : ForkName) (regs : Regs) where
+module _ (s : PlainState) (w : IsWholeMachine s) (who : ForkName) (regs : Regs) where
   abbrev asked : JfnAsked
   asked = asks_jfns (parts_of s) who regs
 
@@ -172,11 +172,11 @@ module _ (s : PlainState) (w : IsWhole s) (who : ForkName) (regs : Regs) where
   just_taken : (files : Files) (name : List ℕ) → map.contains_key files name ≡ true → FitsOpen files (taken_file name)
   just_taken files name there = (there, (omega arith, omega arith), omega arith)
 
-  take_whole : (n : ℕ) (name : List ℕ) → free_jfn asked.held ≡ Some n → map.contains_key s.files name ≡ true → IsWhole (changed_state (Take who.tty n name))
+  take_whole : (n : ℕ) (name : List ℕ) → free_jfn asked.held ≡ Some n → map.contains_key s.files name ≡ true → IsWholeMachine (changed_state (Take who.tty n name))
   unfolding file_changed
   take_whole n name free there = let k = free_fits asked.held n free in put_whole s w who.tty n (taken_file name) k.0 k.1 (just_taken s.files name there)
 
-  make_whole : (n : ℕ) (name : List ℕ) → free_jfn asked.held ≡ Some n → IsFileName name → nat_lt (map.len s.files) MOST_FILES ≡ true → IsWhole (changed_state (Make who.tty n name))
+  make_whole : (n : ℕ) (name : List ℕ) → free_jfn asked.held ≡ Some n → IsFileName name → nat_lt (map.len s.files) MOST_FILES ≡ true → IsWholeMachine (changed_state (Make who.tty n name))
   unfolding file_changed
   make_whole n name free full room =
       let k = free_fits asked.held n free in
@@ -187,45 +187,46 @@ module _ (s : PlainState) (w : IsWhole s) (who : ForkName) (regs : Regs) where
       below : (k : ℕ) → nat_lt k MOST_FILES ≡ true → k < MOST_FILES
       below k h = grind (arith, nat_tests)
 
-  open_whole : (n : ℕ) (mode : Mode) (size : ℕ) (i : OpenFile) → map.get asked.held n ≡ Some i → IsByteSize size → IsWhole (changed_state (Open who.tty n mode size))
+  open_whole : (n : ℕ) (mode : Mode) (size : ℕ) (i : OpenFile) → map.get asked.held n ≡ Some i → IsByteSize size → IsWholeMachine (changed_state (Open who.tty n mode size))
   unfolding file_changed
   open_whole n mode size i held fits =
       let was = file_of_held s w who.tty n i held in
       let at : PlainState = record s { files = files_opened s.files mode i.file } in
       let whole = put_whole at (opened_whole s w mode i.file) who.tty n (opened_file mode size i) was.0 was.1 (still_opened s.files mode i.file i.file was.2.0, fits, omega arith) in
-      subst (λ (o : Option OpenFile). IsWhole (with_parts s (with_filed (parts_of s) (option_map_or (opened (λ name. name) (filed_of (parts_of s)) who.tty n mode size) o (filed_of (parts_of s)))))) (sym held) whole
+      subst (λ (o : Option OpenFile). IsWholeMachine (with_parts s (with_filed (parts_of s) (option_map_or (opened (λ name. name) (filed_of (parts_of s)) who.tty n mode size) o (filed_of (parts_of s)))))) (sym held) whole
 
-  close_whole : (n : ℕ) → IsWhole (changed_state (Release who.tty n))
+  close_whole : (n : ℕ) → IsWholeMachine (changed_state (Release who.tty n))
   unfolding file_changed
   close_whole n = release_whole s w who.tty n
 
-  delete_whole : (n : ℕ) (i : OpenFile) → map.get asked.held n ≡ Some i → nat_lt 1 (times_held s.jobs i.file) ≡ false → IsWhole (changed_state (Delete who.tty n))
+  delete_whole : (n : ℕ) (i : OpenFile) → map.get asked.held n ≡ Some i → nat_lt 1 (times_held s.jobs i.file) ≡ false → IsWholeMachine (changed_state (Delete who.tty n))
   unfolding file_changed
   delete_whole n i held once =
       let j = held_job s.jobs who.tty n i held in
       let freed : PlainState = record s { jobs = with_held s.jobs who.tty (λ m. map.remove m n) } in
       let jobs_are : freed.jobs ≡ others s.jobs who.tty j.0 n i j.1 j.2 once = ap (λ (o : Option PlainJob). option_map_or (λ k. map.insert s.jobs who.tty.0 (record k { jfns = map.remove k.jfns n })) o s.jobs) j.1 in
       let whole = removed_whole freed (release_whole s w who.tty n) i.file (ap (λ (b : Jobs). times_held b i.file) jobs_are ∙ none_left s.jobs who.tty j.0 n i j.1 j.2 once) in
-      subst (λ (o : Option OpenFile). IsWhole (with_parts s (with_filed (parts_of s) (option_map_or (deleted (λ name. name) (filed_of (parts_of s)) who.tty n) o (filed_of (parts_of s)))))) (sym held) whole
+      subst (λ (o : Option OpenFile). IsWholeMachine (with_parts s (with_filed (parts_of s) (option_map_or (deleted (λ name. name) (filed_of (parts_of s)) who.tty n) o (filed_of (parts_of s)))))) (sym held) whole
 
-  change_whole : (change : FileChange) → FitsChange asked (names_seen (parts_of s) who) change → IsWhole (changed_state change)
-  change_whole (Take t n name) fits = subst (λ u. IsWhole (changed_state (Take u n name))) (sym fits.0.job) (take_whole n name fits.0.free fits.1)
-  change_whole (Make t n name) fits = subst (λ u. IsWhole (changed_state (Make u n name))) (sym fits.0.job) (make_whole n name fits.0.free (file_named_is asked.user [] fits.0.text name fits.0.named) fits.2)
-  change_whole (Open t n mode size) fits = subst (λ u. IsWhole (changed_state (Open u n mode size))) (sym fits.1.own.job) (open_whole n mode size fits.0 fits.1.own.held fits.1.fits)
-  change_whole (Release t n) fits = subst (λ u. IsWhole (changed_state (Release u n))) (sym fits.1.job) (close_whole n)
-  change_whole (Delete t n) fits = subst (λ u. IsWhole (changed_state (Delete u n))) (sym fits.1.job) (delete_whole n fits.0 fits.1.held fits.2)
+  change_whole : (change : FileChange) → FitsChange asked (names_seen (parts_of s) who) change → IsWholeMachine (changed_state change)
+  change_whole (Take t n name) fits = subst (λ u. IsWholeMachine (changed_state (Take u n name))) (sym fits.0.job) (take_whole n name fits.0.free fits.1)
+  change_whole (Make t n name) fits = subst (λ u. IsWholeMachine (changed_state (Make u n name))) (sym fits.0.job) (make_whole n name fits.0.free (file_named_is asked.user [] fits.0.text name fits.0.named) fits.2)
+  change_whole (Open t n mode size) fits = subst (λ u. IsWholeMachine (changed_state (Open u n mode size))) (sym fits.1.own.job) (open_whole n mode size fits.0 fits.1.own.held fits.1.fits)
+  change_whole (Release t n) fits = subst (λ u. IsWholeMachine (changed_state (Release u n))) (sym fits.1.job) (close_whole n)
+  change_whole (Delete t n) fits = subst (λ u. IsWholeMachine (changed_state (Delete u n))) (sym fits.1.job) (delete_whole n fits.0 fits.1.held fits.2)
 
-both_leave : {K : Type 0} {file_cmp : K → K → Ordering} (A B : PlainPages file_cmp → Type 0) (f : ForkName) (r : Planned file_cmp ⊥) → PlanLeaves A f r → PlanLeaves B f r → PlanLeaves (λ q. A q × B q) f r
+-- what steps leave of both of two kinds
+pub both_leave : {K : Type 0} {file_cmp : K → K → Ordering} (A B : PlainPages file_cmp → Type 0) (f : ForkName) (r : Planned file_cmp ⊥) → PlanLeaves A f r → PlanLeaves B f r → PlanLeaves (λ q. A q × B q) f r
 both_leave A B f (done t e) a b = (a, b)
 both_leave A B f (stopped why) a b = tt
 both_leave A B f (call number) a b = tt
 
 -- a turn, which makes pages for its references
-module _ (s : PlainState) (w : IsWhole s) (f : Fork) (own : IsOwner f.name.tty) where
+module _ (s : PlainState) (w : IsWholeMachine s) (f : Fork) (own : IsOwner f.name.tty) where
   abbrev After : NamedPages → Type 0
   After q = Keeps s.pages q × AreGiven (next_serial (tree_of s)) q.maps
 
-  pub jfn_called_whole : (number : ℕ) → IsWhole (jfn_called s f number)
+  pub jfn_called_whole : (number : ℕ) → IsWholeMachine (jfn_called s f number)
   unfolding parts_behind
   jfn_called_whole number = by (jfn_came s f number).end (call_ends (asks_jfns (parts_of s) f.name f.body.regs) (names_seen (parts_of s) f.name) After runs s.pages (kept_itself s.pages (sound s w), w.given) number)
     where
@@ -234,7 +235,7 @@ module _ (s : PlainState) (w : IsWhole s) (f : Fork) (own : IsOwner f.name.tty) 
           (run_kept nat_list_cmp_total s.pages f.name own steps (begun q f.body.regs.ac) k.0) (run_given (next_serial (tree_of s)) nat_list_cmp_total f.name steps (begun q f.body.regs.ac) k.1)
 
       by : (e : End FileChange) → FitsEnd (asks_jfns (parts_of s) f.name f.body.regs) (names_seen (parts_of s) f.name) After e (jfn_came s f number).pages
-          → IsWhole (with_parts s (with_filed (parts_of s) (parts_behind (file_changed (λ name. name)) (filed_of (parts_of s)) (record (filed_of (parts_of s)) { pages = (jfn_came s f number).pages }) e)))
+          → IsWholeMachine (with_parts s (with_filed (parts_of s) (parts_behind (file_changed (λ name. name)) (filed_of (parts_of s)) (record (filed_of (parts_of s)) { pages = (jfn_came s f number).pages }) e)))
       by (Done change regs out post) fits = change_whole (record s { pages = (jfn_came s f number).pages }) (keeps_whole s w (jfn_came s f number).pages fits.1.0 fits.1.1) f.name f.body.regs change fits.0
       by (Waits on) fits = w
       by Halts fits = w

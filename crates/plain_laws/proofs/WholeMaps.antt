@@ -35,7 +35,7 @@ use Rattle.plain_model.specs.Unit.{parts_of}
 use Rattle.plain_model.proofs.Calling.{map_came, map_pages}
 use Rattle.plain_model.proofs.JfnChanges.{held_job}
 use Rattle.plain_model.proofs.MapTurns.{change_whole, files_behind}
-use Rattle.plain_laws.specs.Whole.{AreGiven, IsWhole}
+use Rattle.plain_laws.specs.Whole.{AreGiven, IsWholeMachine}
 use Rattle.plain_laws.specs.WholeFiles.{AreFilesWhole, FilePages}
 use Rattle.plain_laws.proofs.FileMakings.{file_leaves}
 use Rattle.plain_laws.proofs.FilesKept.{page_gone, page_put}
@@ -44,7 +44,7 @@ use Rattle.plain_laws.proofs.Led.{run_led}
 use Rattle.plain_laws.proofs.MapEnds.{ChangeIn, EndIn, SpotIn, came_in, map_call_in}
 use Rattle.plain_laws.proofs.WholeForks.{filed_whole, lived_given, sound}
 
-module _ (s : PlainState) (w : IsWhole s) where
+module _ (s : PlainState) (w : IsWholeMachine s) where
   abbrev pub There : List ℕ → Type 0
   There name = map.contains_key s.files name ≡ true
 
@@ -121,14 +121,14 @@ module _ (s : PlainState) (w : IsWhole s) where
     follows (Put name page at) fits = tt
     follows (Drop name page) fits = tt
 
-    changed_whole : (what : MapChange) → FitsChange what → IsWhole (record s { pages = map_changed (λ name. name) what q })
+    changed_whole : (what : MapChange) → FitsChange what → IsWholeMachine (record s { pages = map_changed (λ name. name) what q })
     changed_whole what fits =
         let c = change_whole nat_list_cmp_total name_cmp_apart (λ name. name) q h.sound.whole what in
         filed_whole s w (map_changed (λ name. name) what q) s.files c.whole (omega (arith, c.room, c.limit, h.sound.room)) (subst AreFiles (sym c.files) (filed_left what fits)) (λ f. c.keys f ∙ h.keys f)
         (change_given (next_serial (tree_of s)) nat_list_cmp_total name_cmp_apart (λ name. name) q h.sound.whole h.given what (follows what fits))
 
   -- A TURN OF A CALL ON MAPS LEAVES A WHOLE STATE WHOLE
-  pub map_called_whole : (f : Fork) → IsOwner f.name.tty → (number : ℕ) → IsWhole (record s { pages = map_pages s f number })
+  pub map_called_whole : (f : Fork) → IsOwner f.name.tty → (number : ℕ) → IsWholeMachine (record s { pages = map_pages s f number })
   unfolding parts_behind
   map_called_whole f own number =
       let came = came_in s.forks f.name.tty There (ChangeIn s.forks f.name.tty There) (parts_of s) f.name After (refers_on f.name.tty own) (runs_on f.name.tty own) (map_call number (asks_maps (parts_of s) f.name f.body.regs))
@@ -138,7 +138,7 @@ module _ (s : PlainState) (w : IsWhole s) where
       file_of_held : (n : ℕ) (j : OpenFile) → map.get (held_at s.jobs f.name.tty) n ≡ Some j → There j.file
       file_of_held n j held = let k = held_job s.jobs f.name.tty n j held in let fits = w.files.jfns f.name.tty.0 k.0 k.1 n j k.2 in fits.2.0
 
-      by : (e : End MapChange) → EndIn s.forks f.name.tty There e → After (map_came s f number).pages → IsWhole (record s { pages = parts_behind (map_changed (λ name. name)) s.pages (map_came s f number).pages e })
+      by : (e : End MapChange) → EndIn s.forks f.name.tty There e → After (map_came s f number).pages → IsWholeMachine (record s { pages = parts_behind (map_changed (λ name. name)) s.pages (map_came s f number).pages e })
       by (Done what regs out post) fits h = changed_whole f.name.tty (map_came s f number).pages h what fits
       by (Waits on) fits h = w
       by Halts fits h = w

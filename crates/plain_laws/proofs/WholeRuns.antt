@@ -25,11 +25,10 @@ use Rattle.plain_pages.specs.Room.{HasRoom, live}
 use Rattle.plain_pages.specs.References.{in_map, Referred, granted, denied, full, page_at, reference, stored, slot_at}
 use Rattle.machine_names.specs.Bounds.{IsFileName, IsOwner, IsForkName, IsTerminal}
 use Rattle.machine_names.specs.declared.names.Kind.TheVariants.{Write}
-use Rattle.plain_model.specs.declared.fork.TerminalMode.TheVariants.{Command}
 use Rattle.script_texts.specs.declared.status.ForkStatus.{ForkStatus}
 use Rattle.script_texts.specs.declared.status.ForkStatus.TheVariants.{Run as Running, Wait, Halted, Forced}
 use Rattle.plain_model.specs.Interrupts.{posted}
-use Rattle.plain_model.specs.Unit.{Effect, in_command_mode, with_stopped, stopped, unit_ended, trapped, called, went, over, unit, parts_of}
+use Rattle.plain_model.specs.Unit.{Effect, unit_ended, trapped, called, went, over, unit, unit_of, parts_of}
 use Rattle.plain_units.specs.Units.{unit_on}
 use Rattle.plain_model.specs.Calls.{Turn, fork_behind, out_of, posted_if, with_ac}
 use Rattle.plain_model.specs.ByteCalls.{ByteRows, byte_calls}
@@ -51,8 +50,8 @@ use Rattle.plain_model.specs.Trees.{free_slot, is_free, next_serial, tree_of, ne
 use Rattle.plain_pages.specs.declared.map.MapEntry.TheVariants.{Follows}
 use Rattle.fork_tree.proofs.Kept.{none_tree}
 use Rattle.fork_tree.proofs.Slots.{in_none}
-use Rattle.plain_model.specs.Forks.{ForkMap, fork_in, top_fork, with_fork, with_regs, counted}
-use Rattle.plain_laws.specs.Whole.{AreGiven, IsWhole}
+use Rattle.plain_model.specs.Forks.{ForkMap, fork_in, top_fork, with_regs, with_status, counted}
+use Rattle.plain_laws.specs.Whole.{AreGiven, IsWholeMachine}
 use Rattle.plain_laws.proofs.FilesKept.{file_put, job_put, no_files_whole, none_open, put_tells}
 use Rattle.plain_laws.proofs.ByteSizes.{new_fits}
 use Rattle.plain_laws.proofs.WordsWritten.{row_within, words_whole}
@@ -66,15 +65,17 @@ use Rattle.plain_laws.proofs.WholeJfns.{jfn_called_whole}
 use Rattle.plain_laws.proofs.WholeMaps.{map_called_whole}
 use Rattle.plain_laws.proofs.WholeBytes.{RowsFit, byte_called_whole, bytes_fit, strings_fit}
 use Rattle.plain_laws.proofs.WholeCommands.{Leaves, changed_whole, started_whole}
+use Rattle.plain_laws.proofs.Inspected.{unit_by}
+use Rattle.plain_laws.proofs.WholeInterrupts.{interrupt_called_whole, stopped_whole, taken_whole}
 use Rattle.plain_laws.proofs.WholeTyped.{typed_whole}
-use Rattle.plain_laws.proofs.WholeForks.{kept_tops, job_whole, filed_whole, sound, keeps_whole, behind_same, put, told_whole, made_whole, next_absent, fork_called_whole}
+use Rattle.plain_laws.proofs.WholeForks.{kept_tops, filed_whole, sound, keeps_whole, behind_same, put, made_whole, next_absent, fork_called_whole}
 use Rattle.plain_model.proofs.Posted.{IsSame, posted_same}
-use Rattle.plain_model.proofs.Calling.{fork_came, fork_left, fork_called, fork_turned, map_came, map_pages, map_turned, own_came, own_turned, none_turned, jfn_came, jfn_called, jfn_turned, byte_came, byte_called, byte_turned, MakesNone, caller_by, called_by, map_by, jfn_by, byte_by, own_by}
+use Rattle.plain_model.proofs.Calling.{fork_came, fork_left, fork_called, fork_turned, interrupt_came, interrupt_called, interrupt_left, interrupt_turned, map_came, map_pages, map_turned, own_came, own_turned, none_turned, jfn_came, jfn_called, jfn_turned, byte_came, byte_called, byte_turned, MakesNone, caller_by, called_by, map_by, jfn_by, byte_by, own_by}
 use Rattle.plain_units.specs.declared.channel.TheConstants.{ILLEGAL_INSTRUCTION}
 use Rattle.std.proofs.lemmas.Cmp.{eq_by_cmp_equiv}
 
 -- the opening state is whole
-pub whole_opening : (limit : ℕ) → IsWhole (opening limit)
+pub whole_opening : (limit : ℕ) → IsWholeMachine (opening limit)
 unfolding opening opening_pages
 whole_opening limit = record {
   pages = opening_whole name_cmp limit;
@@ -97,27 +98,19 @@ whole_opening limit = record {
     no_map : (f : ForkName) → map.contains_key (map.empty {X = Map} {R = fork_cmp}) f ≡ false
     no_map f = ap is_some (map.get-empty fork_cmp f)
 
-mode_whole : (s : PlainState) → IsWhole s → (t : Tty) → IsWhole (in_command_mode s t)
-mode_whole s w t = looked_up IsWhole _ s (map.get s.jobs t.0) (λ j is. job_whole s w t.0 j (record j { mode = Command }) is refl (w.files.jfns t.0 j is)) (λ none. w)
-
-module _ (s : PlainState) (w : IsWhole s) (name : ForkName) (f : Fork) (there : map.get s.forks name ≡ Some f) where
-  stopped_whole : (g : Fork) → IsSame f g → Leaves (stopped s g)
-  stopped_whole g same =
-      let t = with_stopped s g in let m : IsWhole t = told_whole (with_fork s g) (put s w name f there g same) g in
-      cond_both (is_some g.superior) _ _ Leaves (λ below. m) (λ top. mode_whole t m g.name.tty)
-
+module _ (s : PlainState) (w : IsWholeMachine s) (name : ForkName) (f : Fork) (there : map.get s.forks name ≡ Some f) where
   ended_whole_fork : (g : Fork) (status : ForkStatus) → IsSame f g → Leaves (unit_ended s g status)
   ended_whole_fork g Running same = put s w name f there (counted g) same
   ended_whole_fork g (Wait on) same = put s w name f there (counted g) same
-  ended_whole_fork g Halted same = stopped_whole (counted g) same
-  ended_whole_fork g (Forced channel) same = stopped_whole (counted g) same
+  ended_whole_fork g Halted same = stopped_whole s w name f there (counted g) same
+  ended_whole_fork g (Forced channel) same = stopped_whole s w name f there (counted g) same
 
   trapped_whole : (channel : ℕ) → Leaves (trapped s f channel)
   trapped_whole channel = ended_whole_fork (posted f channel) (posted f channel).body.status (posted_same f channel)
 
-module _ (s : PlainState) (w : IsWhole s) (name : ForkName) (f : Fork) (there : map.get s.forks name ≡ Some f) where
+module _ (s : PlainState) (w : IsWholeMachine s) (name : ForkName) (f : Fork) (there : map.get s.forks name ≡ Some f) where
   -- the fork that called, as it is put among the forks
-  called_with : (u : PlainState) → IsWhole u → (g : Fork) → map.get u.forks f.name ≡ Some g → (h : Fork) → IsSame g h → Leaves (unit_ended u h h.body.status)
+  called_with : (u : PlainState) → IsWholeMachine u → (g : Fork) → map.get u.forks f.name ≡ Some g → (h : Fork) → IsSame g h → Leaves (unit_ended u h h.body.status)
   called_with u whole g is h same = ended_whole_fork u whole f.name g is h h.body.status same
 
   -- a call may change nothing else
@@ -156,14 +149,21 @@ module _ (s : PlainState) (w : IsWhole s) (name : ForkName) (f : Fork) (there : 
       let whole = byte_called_whole s w f (own_terminal fits) rows fit number in
       byte_by Leaves s f number rows (λ g is. called_with (byte_called s f rows number) whole g is (fork_behind g e) (behind_same g e)) whole
 
+  -- a call on pseudo-interrupts changes forks and codes
+  interrupt_whole : (number : ℕ) → IsForkName name → Leaves (interrupt_turned s f number)
+  interrupt_whole number fits =
+      let e = (interrupt_came s f number).end in
+      let whole = interrupt_called_whole s w f (own_terminal fits) number in
+      caller_by Leaves s f.name.tty (interrupt_left s f number) f.name (λ g. fork_behind g e) (out_of e) (λ g is. called_with (interrupt_called s f number) whole g is (fork_behind g e) (behind_same g e)) whole
+
   none_whole : Leaves (none_turned s f)
   none_whole = caller_by Leaves s f.name.tty (parts_of s) f.name (λ g. posted g ILLEGAL_INSTRUCTION) None (λ g is. called_with s w g is (posted g ILLEGAL_INSTRUCTION) (posted_same g ILLEGAL_INSTRUCTION)) w
 
   called_whole : (number : ℕ) → IsForkName name → Leaves (called s f number)
-  called_whole number fits = called_by Leaves s f number own_whole (fork_turned_whole number fits) (map_whole_turn number fits) (jfn_whole number fits) (byte_whole byte_calls (bytes_fit s w f) number fits) (byte_whole string_calls (strings_fit s w f) number fits) none_whole
+  called_whole number fits = called_by Leaves s f number own_whole (fork_turned_whole number fits) (interrupt_whole number fits) (map_whole_turn number fits) (jfn_whole number fits) (byte_whole byte_calls (bytes_fit s w f) number fits) (byte_whole string_calls (strings_fit s w f) number fits) none_whole
 
 -- a unit that goes through leaves its fork's name and slot
-went_whole : (s : PlainState) (w : IsWhole s) (name : ForkName) (f : Fork) → map.get s.forks name ≡ Some f → (q : NamedPages) → IsWhole (record s { pages = q }) → (e : Ending) → Leaves (went s f q e)
+went_whole : (s : PlainState) (w : IsWholeMachine s) (name : ForkName) (f : Fork) → map.get s.forks name ≡ Some f → (q : NamedPages) → IsWholeMachine (record s { pages = q }) → (e : Ending) → Leaves (went s f q e)
 went_whole s w name f there q whole e = by e.post
   where
     g : Fork
@@ -181,7 +181,7 @@ first_free : (forks : ForkMap) (t : Tty) → fork_in forks t 1 ≡ None → free
 unfolding free_slot
 first_free forks t none = first_found (is_free forks t) 1 29 (ap is_none none)
 
-module _ (s : PlainState) (w : IsWhole s) where
+module _ (s : PlainState) (w : IsWholeMachine s) where
   over_whole : (name : ForkName) (f : Fork) → map.get s.forks name ≡ Some f → IsForkName name → (r : Planned name_cmp ⊥) → PlanKeeps nat_list_cmp_total s.pages f.name r → PlanLeaves (λ (q : NamedPages). AreGiven (next_serial (tree_of s)) q.maps) f.name r → Leaves (over s f r)
   over_whole name f there fits (done t e) left given = went_whole s w name f there (pages_left f.name t e) (keeps_whole s w (pages_left f.name t e) left given) e
   over_whole name f there fits (unit_stopped (trap channel)) left given = trapped_whole s w name f there channel
@@ -192,13 +192,15 @@ module _ (s : PlainState) (w : IsWhole s) where
   unfolding unit
   unit_whole name fits = looked_up Leaves _ _ (map.get s.forks name) (λ f is. runs f is) (λ none. w)
     where
-      runs : (f : Fork) → map.get s.forks name ≡ Some f → Leaves (over s f (unit_on f.name s.pages f.body.regs))
+      runs : (f : Fork) → map.get s.forks name ≡ Some f → Leaves (unit_of s f)
       runs f is =
           let own : IsOwner f.name.tty = inl (subst (λ (n : ForkName). n.tty.0 < TERMINALS) (sym (w.tree.slotted.own name f is)) fits.0) in
-          over_whole name f is fits (unit_on f.name s.pages f.body.regs) (run_kept nat_list_cmp_total s.pages f.name own (instruction f.body.regs) (begun s.pages f.body.regs.ac) (kept_itself s.pages (sound s w)))
-          (run_given (next_serial (tree_of s)) nat_list_cmp_total f.name (instruction f.body.regs) (begun s.pages f.body.regs.ac) w.given)
+          unit_by Leaves s f
+          (λ plain. over_whole name f is fits (unit_on f.name s.pages f.body.regs) (run_kept nat_list_cmp_total s.pages f.name own (instruction f.body.regs) (begun s.pages f.body.regs.ac) (kept_itself s.pages (sound s w)))
+          (run_given (next_serial (tree_of s)) nat_list_cmp_total f.name (instruction f.body.regs) (begun s.pages f.body.regs.ac) w.given))
+          (λ d takes. taken_whole s w f own name is d) (λ channel forces. ended_whole_fork s w name f is (with_status f (Forced channel)) (Forced channel) (refl, refl, refl))
 
-  login_job_whole : (t : Tty) (user : List ℕ) → IsTerminal t → is_some (map.get s.jobs t.0) ≡ false → nat_lt LAST_SERIAL (next_serial (tree_of s) t) ≡ false → HasRoom (with_map s.pages (next_name (tree_of s) t) EmptyMap) t ≡ true → IsWhole (with_job s t user)
+  login_job_whole : (t : Tty) (user : List ℕ) → IsTerminal t → is_some (map.get s.jobs t.0) ≡ false → nat_lt LAST_SERIAL (next_serial (tree_of s) t) ≡ false → HasRoom (with_map s.pages (next_name (tree_of s) t) EmptyMap) t ≡ true → IsWholeMachine (with_job s t user)
   login_job_whole t user terminal no_job few room = made_whole s w t terminal (top_fork f) EmptyMap (with_map s.pages f EmptyMap) sound refl (λ k. refl) jobs (job_put s.files s.pages.files s.jobs w.files t.0 (new_job user f) (none_open s.files)) tops have home (added_given (next_serial (tree_of s)) s.pages.maps f EmptyMap w.given tt) (few_serials few) (first_free s.forks t none_in) none_in own_tops refl
     where
       f : ForkName
@@ -298,13 +300,13 @@ module _ (s : PlainState) (w : IsWhole s) where
   outer_whole (Page name page) fits = looked_up Leaves _ _ (map.get s.files name) (λ f there. looked_up Leaves _ _ (page_at s.pages (page_named name page)) (λ n is. w) (λ none. w)) (λ none. w)
 
   -- an entry within its limits leaves a whole state whole
-  pub step_whole : (x : Step) → FitsStep x → IsWhole (apply s x).state
+  pub step_whole : (x : Step) → FitsStep x → IsWholeMachine (apply s x).state
   unfolding apply
   step_whole (Outer e) fits = outer_whole e fits.0
   step_whole (AUnit name) fits = unit_whole name fits
   step_whole Idle fits = w
 
 -- and so do entries in order
-pub steps_whole : (s : PlainState) (xs : List Step) → IsWhole s → All FitsStep xs → IsWhole (state_after s xs)
+pub steps_whole : (s : PlainState) (xs : List Step) → IsWholeMachine s → All FitsStep xs → IsWholeMachine (state_after s xs)
 steps_whole s [] w fits = w
 steps_whole s (x ∷ xs) w fits = steps_whole (apply s x).state xs (step_whole s w x (All-head FitsStep x xs fits)) (All-tail FitsStep x xs fits)

@@ -21,13 +21,14 @@ use Rattle.plain_model.specs.Trees.{with_mark}
 use Rattle.plain_model.specs.Commands.{with_job_at}
 use Rattle.plain_model.specs.TypeEvents.{interrupted, line_ended, line_of, line_typed, stopped_by, typed_all, typed_at, typed_one, typed_so}
 use Rattle.plain_units.proofs.Lookups.{looked_up}
-use Rattle.plain_laws.specs.Whole.{IsWhole}
+use Rattle.plain_laws.specs.Whole.{IsWholeMachine}
 use Rattle.plain_laws.proofs.WholeCommands.{Leaves, changed_job_whole, commanded_whole, with_job_whole}
 use Rattle.plain_laws.proofs.WholeForks.{readers_whole}
+use Rattle.plain_laws.proofs.WholeInterrupts.{posted_at_whole}
 
-module _ (s : PlainState) (w : IsWhole s) (t : Tty) (j : PlainJob) (is : map.get s.jobs t.0 ≡ Some j) where
+module _ (s : PlainState) (w : IsWholeMachine s) (t : Tty) (j : PlainJob) (is : map.get s.jobs t.0 ≡ Some j) where
   -- a job with another line, or other characters
-  line_whole : (line input : List ℕ) → IsWhole (with_job_at s t (record j { line = line; input = input }))
+  line_whole : (line input : List ℕ) → IsWholeMachine (with_job_at s t (record j { line = line; input = input }))
   line_whole line input = with_job_whole s w t j (record j { line = line; input = input }) is refl refl
 
   interrupted_whole : Leaves (interrupted s t j)
@@ -36,14 +37,14 @@ module _ (s : PlainState) (w : IsWhole s) (t : Tty) (j : PlainJob) (is : map.get
       left : PlainJob
       left = record j { mode = Command; line = [] }
 
-      by : (m : TerminalMode) → IsWhole (with_job_at (stopped_by m s j) t left)
+      by : (m : TerminalMode) → IsWholeMachine (with_job_at (stopped_by m s j) t left)
       by Program = changed_job_whole s w j.top (with_mark true) (λ f. (refl, refl, refl)) t j left is refl refl
       by Command = with_job_whole s w t j left is refl refl
 
   typed_so_whole : (fate : Typed) (code : ℕ) → Leaves (typed_so fate s t j code)
   typed_so_whole Stored code = readers_whole (with_job_at s t (record j { input = j.input ++ code ∷ [] })) (line_whole j.line (j.input ++ code ∷ [])) t
   typed_so_whole Dropped code = w
-  typed_so_whole (Posts fork channel) code = w
+  typed_so_whole (Posts fork channel) code = posted_at_whole s w fork channel
   typed_so_whole ControlC code = interrupted_whole
 
   ended_whole : Leaves (line_ended s t j)
@@ -60,11 +61,11 @@ module _ (s : PlainState) (w : IsWhole s) (t : Tty) (j : PlainJob) (is : map.get
   typed_one_whole Program code = typed_so_whole (fate_of (line_of j) code) code
   typed_one_whole Command code = cond_both (code == CONTROL_C) _ _ Leaves (λ stops. interrupted_whole) (λ goes. cond_both (code == LINE_END) _ _ Leaves (λ ends. ended_whole) (λ more. line_typed_whole code))
 
-pub typed_at_whole : (s : PlainState) → IsWhole s → (t : Tty) (c : ℕ) → Leaves (typed_at s t c)
+pub typed_at_whole : (s : PlainState) → IsWholeMachine s → (t : Tty) (c : ℕ) → Leaves (typed_at s t c)
 typed_at_whole s w t c = looked_up Leaves _ _ (map.get s.jobs t.0) (λ j is. typed_one_whole s w t j is j.mode (read_as c)) (λ none. w)
 
 -- WHAT IS TYPED LEAVES A WHOLE STATE WHOLE
-pub typed_whole : (s : PlainState) → IsWhole s → (t : Tty) (text : List ℕ) → Leaves (typed_all s t text)
+pub typed_whole : (s : PlainState) → IsWholeMachine s → (t : Tty) (text : List ℕ) → Leaves (typed_all s t text)
 unfolding typed_all
 typed_whole s w t [] = w
 typed_whole s w t (c ∷ cs) = typed_whole (typed_at s t c).state (typed_at_whole s w t c) t cs

@@ -32,7 +32,7 @@ use Rattle.plain_model.specs.State.{PlainState}
 use Rattle.plain_model.specs.Trees.{next_serial, tree_of}
 use Rattle.plain_model.specs.Unit.{Effect, refused}
 use Rattle.plain_model.specs.FileEvents.{console, page_named, stored_row, written, write_words}
-use Rattle.plain_laws.specs.Whole.{AreGiven, IsWhole}
+use Rattle.plain_laws.specs.Whole.{AreGiven, IsWholeMachine}
 use Rattle.plain_laws.specs.WholeFiles.{FilePages, AreFilesWhole}
 use Rattle.plain_laws.proofs.ByteSizes.{reaching_fits}
 use Rattle.plain_laws.proofs.FilesKept.{file_put, page_put}
@@ -85,7 +85,7 @@ module _ (s : PlainState) (name : List ℕ) (page offset : ℕ) (words : List �
       by None none = no_file none (found None none)
       by (Some f) is = at_page f is (map.get s.pages.files spot) refl
 
-  module _ (w : IsWhole s) where
+  module _ (w : IsWholeMachine s) where
     -- a page that is made leaves whole pages whole, and is one more
     pub filled_whole : map.get s.pages.files spot ≡ None → AreWhole (filled s.pages console spot)
     filled_whole none = make_whole nat_list_cmp_total s.pages w.pages console (inr refl) (blank (in_file spot)) none
@@ -99,7 +99,7 @@ module _ (s : PlainState) (name : List ℕ) (page offset : ℕ) (words : List �
 
     module _ (full_name : IsFileName name) (below : page < FILE_PAGES) (within : offset + length words ≤ PAGE_WORDS) where
       -- the row leaves whole what has its page
-      after_whole : (q : NamedPages) (f : PlainFile) → map.get s.files name ≡ Some f → AreSound q → q.maps ≡ s.pages.maps → AreFilesWhole s.files q.files s.jobs → IsWhole (after q f)
+      after_whole : (q : NamedPages) (f : PlainFile) → map.get s.files name ≡ Some f → AreSound q → q.maps ≡ s.pages.maps → AreFilesWhole s.files q.files s.jobs → IsWholeMachine (after q f)
       after_whole q f is good maps filed =
           let k = row_kept (in_file spot) q offset words nat_list_cmp_total good in
           let same = row_maps (in_file spot) q offset words ∙ maps in
@@ -110,16 +110,16 @@ module _ (s : PlainState) (name : List ℕ) (page offset : ℕ) (words : List �
           (subst (λ (m : FilePages). AreFilesWhole (map.insert s.files name g) m s.jobs) (sym (row_files (in_file spot) q offset words)) files)
           (λ (x : ForkName). ap (λ (m : Maps). map.contains_key m x) same) (subst (AreGiven (next_serial (tree_of s))) (sym same) w.given)
 
-      pub words_whole : IsWhole (write_words s name page offset words).state
+      pub words_whole : IsWholeMachine (write_words s name page offset words).state
       words_whole = by outcome
         where
-          leaves : (e : Effect) → write_words s name page offset words ≡ e → IsWhole e.state → IsWhole (write_words s name page offset words).state
-          leaves e is whole = subst (λ (x : Effect). IsWhole x.state) (sym is) whole
+          leaves : (e : Effect) → write_words s name page offset words ≡ e → IsWholeMachine e.state → IsWholeMachine (write_words s name page offset words).state
+          leaves e is whole = subst (λ (x : Effect). IsWholeMachine x.state) (sym is) whole
 
           filed : (f : PlainFile) → map.get s.files name ≡ Some f → AreFilesWhole s.files (filled s.pages console spot).files s.jobs
           filed f at = subst (λ (m : FilePages). AreFilesWhole s.files m s.jobs) (sym (filled_files s.pages console spot)) (page_put s.files s.pages.files s.jobs w.files spot (next_page s.pages console) (ap is_some at) below)
 
-          by : Outcome → IsWhole (write_words s name page offset words).state
+          by : Outcome → IsWholeMachine (write_words s name page offset words).state
           by (no_file none is) = leaves (refused s (NoFile name)) is w
           by (no_room found none room is) = leaves (refused s (FileFull name)) is w
           by (there f n at has is) = leaves (done s.pages f) is (after_whole s.pages f at (sound s w) refl w.files)

@@ -17,6 +17,7 @@ use Rattle.plain_pages.specs.PlainPages.{NamedPages}
 use Rattle.plain_model.specs.declared.fork.Fork.{Fork}
 use Rattle.plain_model.specs.declared.fork.TerminalMode.TheVariants.{Command, Program}
 use Rattle.plain_model.specs.Commands.{begun_at, program_access, start_address, with_job_at, with_line_end}
+use Rattle.plain_model.specs.InterruptCalls.{living_codes}
 use Rattle.plain_model.specs.State.{PlainState, PlainJob}
 use Rattle.plain_model.specs.Unit.{Effect, printed}
 use Rattle.plain_laws.specs.MappedLaws.{KeepsPage}
@@ -49,7 +50,7 @@ page_of_file file page = record { file = file; page = page }
 
 -- The top fork of a job begins the program in a file, and is the only fork of the job. Each page of its space is that page of the file, to
 -- be read and executed and not to be written, with the copy mark; or it is empty where the file has no such page. What files there are, which
--- pages they have and with which words stays as it was.
+-- pages they have and with which words stays as it was. Of the codes that the job's forks have assigned, those of the top fork stay.
 pub record BeginsProgram (old new : PlainState) (t : Tty) (j : PlainJob) (name : List ℕ) (f : Fork) : Type 0 where
   pub named : (page : ℕ) (n : PageName) → page < SPACE_PAGES → map.get old.pages.files (page_of_file name page) ≡ Some n → entry_at new.pages.maps (page_of_fork j.top page) ≡ Some (Names n program_access)
   pub empty : (page : ℕ) → page < SPACE_PAGES → map.get old.pages.files (page_of_file name page) ≡ None → entry_at new.pages.maps (page_of_fork j.top page) ≡ Some Empty
@@ -58,7 +59,7 @@ pub record BeginsProgram (old new : PlainState) (t : Tty) (j : PlainJob) (name :
   pub kept : (at : FilePage (List ℕ)) → KeepsPage old.pages new.pages at
   pub begins : map.get new.forks j.top ≡ Some (begun_at (start_address old name) f)
   pub alone : (g : ForkName) → g.tty.0 ≡ t.0 → map.contains_key new.forks g ≡ true → g ≡ j.top
-  pub job : HasJob new t (record j { mode = Program; line = []; start = Some (start_address old name) })
+  pub job : HasJob new t (record j { mode = Program; line = []; start = Some (start_address old name); codes = living_codes new.forks j.codes })
 
 -- a page is named by an entry of a map of another job's fork, or by a file
 abbrev pub IsNamedElsewhere : NamedPages → Tty → PageName → Type 0

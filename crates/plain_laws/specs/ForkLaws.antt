@@ -17,7 +17,7 @@ use Rattle.plain_pages.specs.Room.{live, uses}
 use Rattle.plain_pages.specs.WholePages.{AreWhole}
 use Rattle.plain_units.specs.Steps.{call}
 use Rattle.plain_model.specs.Families.{came_of, forking}
-use Rattle.plain_model.specs.Unit.{parts_of}
+use Rattle.plain_model.specs.Unit.{called, parts_of, unit}
 use Rattle.plain_units.specs.Units.{unit_on}
 
 -- the end of a turn that waits for a fork
@@ -38,10 +38,11 @@ pub record AreLeft {K : Type 0} {file_cmp : K → K → Ordering} (p q : PlainPa
 abbrev pub Resumes : PlainState → Fork → ℕ → ForkName → Type 0
 Resumes s caller number name = (regs : Regs) × (out post : Option ℕ) × ((came_of forking (parts_of s) caller.name caller.body.regs number).end ≡ Done (Freeze name false) regs out post)
 
--- a unit is such a call
+-- a unit is such a call: it takes no interrupt
 pub record UnitResumes (s : PlainState) (who name : ForkName) : Type 0 where
   pub caller : Fork
   pub living : map.get s.forks who ≡ Some caller
   pub number : ℕ
   pub calls : unit_on caller.name s.pages caller.body.regs ≡ call number
   pub resumes : Resumes s caller number name
+  pub does : unit s who ≡ called s caller number

@@ -17,7 +17,8 @@ use Rattle.plain_model.specs.Calls.{ends, failed_regs, no_files, turn_on, with_a
 use Rattle.plain_model.specs.Families.{Parts, Turned, call_turned}
 use Rattle.plain_model.specs.FileCalls.{held_at, with_held}
 use Rattle.plain_model.specs.Forks.{with_regs}
-use Rattle.plain_model.specs.PointedTexts.{Reading, text_at, with_reading}
+use Rattle.plain_model.specs.PointedTexts.{text_at}
+use Rattle.plain_model.specs.Readings.{Reading, with_reading}
 use Rattle.plain_model.specs.State.{PlainState}
 use Rattle.plain_model.specs.Unit.{parts_of}
 

@@ -11,3 +11,4 @@ pub mod ByteLaws
 pub mod TypeLaws
 pub mod CommandLaws
 pub mod StringLaws
+pub mod InterruptLaws

@@ -1,4 +1,4 @@
-//! Laws of the plain machine: what its definitions say of pages, of forks, of what users type and of runs, in the words of
+//! Laws of the plain machine: what its definitions say of pages, of forks, of interrupts, of what users type and of runs, in the words of
 //! those who use them, and two scripts computed. To the layers above they are facts to cite; nothing that runs stands on them.
 //! Stands on `plain_model`, on `fork_tree` for the law of trees, on `ka10_bytes` for bytes of words, and on the definitions below it.
 #![tactic(auto)]
@@ -9,6 +9,7 @@ mod entries;
 mod example;
 mod file_laws;
 mod fork_laws;
+mod interrupt_laws;
 mod jfn_laws;
 mod laws;
 mod mapped_laws;
@@ -28,6 +29,13 @@ pub use file_laws::{files_are_made_once, pages_are_shown, words_are_put};
 pub use fork_laws::{
     frozen_forks_run_when_resumed, killed_forks_take_their_pages, moves_are_who_can_run,
     units_leave_other_jobs, waiters_go_on_when_a_fork_has_ended,
+};
+pub use interrupt_laws::{
+    assigned_characters_reach_their_fork, channels_are_pending_until_they_are_delivered,
+    codes_do_not_outlive_their_forks, debrk_undoes_a_delivery, forced_forks_make_no_page,
+    interrupts_come_before_instructions, interrupts_that_are_off_change_nothing, levels_nest,
+    panic_channels_force_who_does_not_take_them, posted_channels_are_delivered_next,
+    the_least_level_is_delivered_first, waiting_calls_are_made_again,
 };
 pub use jfn_laws::{
     files_go_with_their_one_jfn, mapped_pages_outlive_their_file,

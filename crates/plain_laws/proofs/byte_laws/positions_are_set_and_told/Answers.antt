@@ -6,7 +6,7 @@ pub returns-clause-set : goal.returns-clause-set
 returns-clause-set c = λ s f j lives held ready other room. sfptr_so s f lives j held ready other room
 
 pub returns-clause-end : goal.returns-clause-end
-returns-clause-end c = λ s f j w lives held ready ones. sfptr_end s f lives j held ready ones (end_fits s w f j held)
+returns-clause-end c = λ s f j w lives held ready ones. sfptr_end s f lives j held ready ones (end_fits s w.machine f j held)
 
 pub returns-clause-told : goal.returns-clause-told
 returns-clause-told c = λ s f j lives held ready. rfptr_so s f lives j held ready

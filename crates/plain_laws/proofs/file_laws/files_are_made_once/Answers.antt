@@ -12,4 +12,4 @@ pub returns-clause-full : goal.returns-clause-full
 returns-clause-full c = λ s name absent most. outer_file s name ∙ files_full s name absent most
 
 pub returns-clause-made : goal.returns-clause-made
-returns-clause-made c = λ s name w absent few. subst (λ (e : Effect). (e.items ≡ []) × IsNewFile e.state name × ChangesFile s e.state name) (sym (outer_file s name)) (file_made s name absent w few)
+returns-clause-made c = λ s name w absent few. subst (λ (e : Effect). (e.items ≡ []) × IsNewFile e.state name × ChangesFile s e.state name) (sym (outer_file s name)) (file_made s name absent w.machine few)

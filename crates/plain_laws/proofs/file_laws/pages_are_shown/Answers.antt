@@ -12,7 +12,7 @@ use Rattle.plain_model.specs.State.{PlainState}
 use Rattle.plain_model.specs.Events.{outer}
 use Rattle.plain_model.specs.FileEvents.{write_words}
 use Rattle.plain_laws.specs.FileLaws.{HasPage}
-use Rattle.plain_laws.specs.Whole.{IsWhole}
+use Rattle.plain_laws.specs.Whole.{IsWholeMachine}
 use Rattle.plain_model.specs.Unit.{Effect}
 use Rattle.plain_model.proofs.Equations.{outer_page, outer_words}
 use Rattle.plain_laws.proofs.Shown.{no_such_file, no_such_page, shown_stays, is_shown, was_shown}
@@ -31,13 +31,13 @@ returns-clause-no_page c = λ s name page there none. outer_page s name page ∙
 
 pub returns-clause-shown : goal.returns-clause-shown
 returns-clause-shown c = λ s name page offset word w has.
-    let there = page_there s w name page has in (
+    let there = page_there s w.machine name page has in (
       λ shown. was_shown s name page there has offset word (subst (λ (e : Effect). Contains e.items (PageWord offset word)) (outer_page s name page) shown),
       λ stands. subst (λ (e : Effect). Contains e.items (PageWord offset word)) (sym (outer_page s name page)) (is_shown s name page there has offset word stands.0 stands.1),
     )
 
 -- what is put is shown
-put_shown : (s : PlainState) → IsWhole s → (name : List ℕ) (page offset : ℕ) (row : WordRow) (i : ℕ) → FitsRow offset row → map.contains_key s.files name ≡ true → HasPage s name page ⊎ (live s.pages < s.pages.limit)
+put_shown : (s : PlainState) → IsWholeMachine s → (name : List ℕ) (page offset : ℕ) (row : WordRow) (i : ℕ) → FitsRow offset row → map.contains_key s.files name ≡ true → HasPage s name page ⊎ (live s.pages < s.pages.limit)
     → i < row.count → slice_index row.words i ≢ 0 → Contains (outer (write_words s name page offset (take row.count row.words)).state (Page name page)).items (PageWord (offset + i) (slice_index row.words i))
 put_shown s w name page offset row i fits there room below some =
     let words = take row.count row.words in
@@ -49,4 +49,4 @@ put_shown s w name page offset row i fits there room below some =
 
 pub returns-clause-written : goal.returns-clause-written
 returns-clause-written c = λ s name page offset row i w fits there room below some.
-    subst (λ (e : Effect). Contains (outer e.state (Page name page)).items (PageWord (offset + i) (slice_index row.words i))) (sym (outer_words s name page offset row)) (put_shown s w name page offset row i fits there room below some)
+    subst (λ (e : Effect). Contains (outer e.state (Page name page)).items (PageWord (offset + i) (slice_index row.words i))) (sym (outer_words s name page offset row)) (put_shown s w.machine name page offset row i fits there room below some)

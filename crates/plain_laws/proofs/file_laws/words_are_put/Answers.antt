@@ -11,9 +11,9 @@ pub returns-clause-no_file : goal.returns-clause-no_file
 returns-clause-no_file c = λ s name page offset row absent. outer_words s name page offset row ∙ no_such_file s name page offset (take row.count row.words) absent
 
 pub returns-clause-full : goal.returns-clause-full
-returns-clause-full c = λ s name page offset row w there none least. outer_words s name page offset row ∙ no_room_for_it s w name page offset (take row.count row.words) there none least
+returns-clause-full c = λ s name page offset row w there none least. outer_words s name page offset row ∙ no_room_for_it s w.machine name page offset (take row.count row.words) there none least
 
 pub returns-clause-put : goal.returns-clause-put
 returns-clause-put c = λ s name page offset row w fits there room.
     subst (λ (e : Effect). (e.items ≡ []) × WritesRow s e.state name page offset (take row.count row.words)) (sym (outer_words s name page offset row))
-    (written s w name page offset (take row.count row.words) there (row_within offset row fits) room)
+    (written s w.machine name page offset (take row.count row.words) there (row_within offset row fits) room)

@@ -2,10 +2,10 @@ use Rattle.plain_laws.proofs.StringTurns.{sout_ends, sout_printed, sout_prints, 
 use Rattle.plain_laws.proofs.string_laws.strings_are_written.Goals as goal
 
 pub returns-clause-written : goal.returns-clause-written
-returns-clause-written c = λ s f j byte q r w lives held ready room found some grants. sout_puts s f lives w j held byte q r ready room found some grants
+returns-clause-written c = λ s f j byte q r w lives held ready room found some grants. sout_puts s f lives w.machine j held byte q r ready room found some grants
 
 pub returns-clause-ended : goal.returns-clause-ended
-returns-clause-ended c = λ s f j q w lives held ready room found none. sout_ends s f lives w j held q ready room found none
+returns-clause-ended c = λ s f j q w lives held ready room found none. sout_ends s f lives w.machine j held q ready room found none
 
 pub returns-clause-printed : goal.returns-clause-printed
 returns-clause-printed c = λ s f byte q lives named found some. sout_prints s f lives byte q named found some

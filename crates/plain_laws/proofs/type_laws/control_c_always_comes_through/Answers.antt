@@ -8,4 +8,4 @@ pub returns-clause-program : goal.returns-clause-program
 returns-clause-program c = λ s t j f is mode there. program_stops t s j is f mode there
 
 pub returns-clause-stands : goal.returns-clause-stands
-returns-clause-stands c = none_runs_behind
+returns-clause-stands c = λ s t j name w is mode job runs. none_runs_behind s t j name w.machine is mode job runs

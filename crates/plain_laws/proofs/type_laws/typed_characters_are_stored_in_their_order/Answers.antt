@@ -9,7 +9,7 @@ pub returns-clause-shown : goal.returns-clause-shown
 returns-clause-shown c = λ s t j text w is mode each room. ap (λ (e : Effect). e.items) (typed_here s t j is text) ∙ text_shown t text s j is (record { mode = mode; each = each; room = room })
 
 pub returns-clause-stored : goal.returns-clause-stored
-returns-clause-stored c = λ s t j x xs w is mode each room. subst (λ (e : Effect). StoresText s e.state t j (x ∷ xs)) (sym (typed_here s t j is (x ∷ xs))) (text_stored t xs x s j w is (record { mode = mode; each = each; room = room }))
+returns-clause-stored c = λ s t j x xs w is mode each room. subst (λ (e : Effect). StoresText s e.state t j (x ∷ xs)) (sym (typed_here s t j is (x ∷ xs))) (text_stored t xs x s j w.machine is (record { mode = mode; each = each; room = room }))
 
 pub returns-clause-input : goal.returns-clause-input
 returns-clause-input c = λ old new t j text is stores. input_grows t old new j text is stores
