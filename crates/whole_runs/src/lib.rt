@@ -12,6 +12,8 @@ mod files;
 #[cfg(test)]
 mod first;
 #[cfg(test)]
+mod interrupts;
+#[cfg(test)]
 mod laws;
 #[cfg(test)]
 mod limits;
