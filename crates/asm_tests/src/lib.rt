@@ -1,10 +1,12 @@
-//! Tests of the assembler: each name of an instruction, the statements, and the faults.
+//! Tests of the assembler: each name of an instruction, the statements, the faults, and the command.
 //! No layer stands above; to a reader each row of a table is lines and the words that they become.
-//! Stands on asm_core and ka10_table.
+//! Stands on asm_core, asm_console and ka10_table.
 #![tactic(auto)]
 
 #[cfg(test)]
 mod assembled;
+#[cfg(test)]
+mod command;
 #[cfg(test)]
 mod faults;
 #[cfg(test)]

@@ -1,0 +1,4 @@
+pub mod Below
+pub mod Judging
+pub mod Scripts
+pub mod Writes
