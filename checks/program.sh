@@ -132,13 +132,23 @@ ends "another word" 1 '?USAGE\n' '' RUN <"$top/examples/first.script"
 fresh
 ends "a word that is no text" 1 '?USAGE\n' '' $'run\xff' <"$top/examples/first.script"
 
-said='tenex: a line of the script is bad; the transcript ends with its number'
+said='tenex: line 4 is a line of a script that is not built yet: TRACE ON'
 fresh
 printf '; nothing\n\nLOGIN 0 A\nTRACE ON\n' >"$work/script"
 ends "a line that is not acted on yet" 2 'T0 @\n?LINE 4\n' 'LOGIN 0 A\n' run <"$work/script"
+said='tenex: line 2 is no line of a script: STOP'
 fresh
-printf 'LOGIN 0 A\nSTOP\n' >"$work/script"
+printf 'LOGIN 0 A\nSTOP\nTRACE ON\n' >"$work/script"
 ends "a bad line" 2 'T0 @\n?LINE 2\n' 'LOGIN 0 A\n' run <"$work/script"
+said='tenex: line 2 is no line of a script: it has bytes that are not printed'
+fresh
+printf 'LOGIN 0 A\nRUN 2\r\n' >"$work/script"
+ends "a bad line with a byte that is not printed" 2 'T0 @\n?LINE 2\n' 'LOGIN 0 A\n' run <"$work/script"
+said='tenex: line 201 has more than 256 bytes'
+fresh
+{ yes '; a line of 20 bytes' | head -n 200; printf ';%256d\n' 0; } >"$work/script"
+ends "a line that is too long" 2 '?LINE 201\n' '' run <"$work/script"
+said='tenex: line 3 does not end with a line feed'
 fresh
 printf 'LOGIN 0 A\nRUN 2\nRUN 3' >"$work/script"
 ends "a last line without its end" 2 'T0 @\n?LINE 3\n' 'LOGIN 0 A\nI 2\n' run <"$work/script"

@@ -68,6 +68,18 @@ same_answer help me
 same_answer '' help
 same_answer RUN
 same_answer run ''
+same_answer asm
+same_answer asm ''
+same_answer asm 16
+same_answer asm 000
+same_answer asm 0x
+same_answer asm -1
+same_answer asm 0 0
+same_answer asm -- 0
+same_answer ASM 0
+handed_on asm 0
+handed_on asm 07
+handed_on asm 15
 same_answer run help
 same_answer run --help
 same_answer run run

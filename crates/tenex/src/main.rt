@@ -1,12 +1,14 @@
 //! The program: it hands its words, standard input, standard output, the file `tenex.record` and a drum
-//! to the console. To its user the exit status is how the run ended, and standard error says what helps.
-//! Stands on tenex_console.
+//! to the console, or the first three to the assembler. To its user the exit status is how that ended, and standard error
+//! says what helps. Stands on tenex_console and asm_console.
 #![tactic(auto)]
 
 mod messages;
+mod watch;
 
-use messages::{explain, explain_error, usage};
-use outside::{MOST_DRUM_PAGES, StdSink, StdSource, SureDrum};
+use asm_console::{AsmStatus, asm};
+use messages::{explain, explain_end, explain_error, explain_line, explain_stopped, usage};
+use outside::{MOST_DRUM_PAGES, Source, StdSink, StdSource, SureDrum};
 use std::fs::File;
 use std::io::{self, BufWriter, ErrorKind};
 use std::os::unix::fs::FileTypeExt;
@@ -15,6 +17,7 @@ use std::rt::Env;
 use std::{env, fs};
 use tenex_console::tenex;
 use texts::Status;
+use watch::Watched;
 
 /// The file in the current folder that takes the record.
 const RECORD: &str = "tenex.record";
@@ -72,15 +75,52 @@ fn run(rt: &HostRuntime, words: &[String], record: File) -> u8 {
     let Ok(record) = BufWriter::new(alloc, record) else {
         return no_memory(rt);
     };
-    let mut script = StdSource::new(rt.stdin());
+    let mut script = Watched::new(StdSource::new(rt.stdin()));
     let mut out = StdSink::new(printer);
     let mut rec = StdSink::new(record);
     let status = tenex(alloc, words, &mut script, &mut out, &mut rec, &mut drum);
+    if status == Status::Script {
+        explain_bad(rt, &script);
+    }
     explain(rt, status);
-    explain_error(rt, "standard input", script.error());
+    explain_error(rt, "standard input", script.source().error());
     explain_error(rt, "standard output", out.error());
     explain_error(rt, RECORD, rec.error());
     status.number()
+}
+
+/// Says which line of a bad script is bad.
+fn explain_bad<S: Source>(rt: &HostRuntime, script: &Watched<S>) {
+    if let Some(bad) = script.bad() {
+        explain_line(rt, bad);
+    } else if let Some(number) = script.unended() {
+        explain_end(rt, number);
+    }
+}
+
+/// Assembles the program on standard input with these words. No file is made.
+fn assemble(rt: &HostRuntime, words: &[String]) -> u8 {
+    let alloc = rt.alloc();
+    let Ok(printer) = BufWriter::new(alloc, rt.stdout()) else {
+        return no_memory(rt);
+    };
+    let mut text = StdSource::new(rt.stdin());
+    let mut out = StdSink::new(printer);
+    let status = asm(alloc, words, &mut text, &mut out);
+    if let AsmStatus::Stopped(why) = &status {
+        explain_stopped(rt, why);
+    }
+    explain_error(rt, "standard input", text.error());
+    explain_error(rt, "standard output", out.error());
+    status.number()
+}
+
+/// Whether the words are those of the assembler, right or wrong.
+fn ask_for_words(words: &[String]) -> bool {
+    match words {
+        [name, ..] => name.as_str() == "asm",
+        [] => false,
+    }
 }
 
 /// The file of the record can't be made.
@@ -125,6 +165,7 @@ fn refuse_no_text(rt: &HostRuntime) -> u8 {
 fn status(rt: &HostRuntime) -> u8 {
     match words(rt) {
         Ok(words) if ask_for_usage(&words) => wrong_words(rt),
+        Ok(words) if ask_for_words(&words) => assemble(rt, &words),
         Ok(words) => run_recorded(rt, &words),
         Err(error) if error.kind() == ErrorKind::OutOfMemory => no_memory(rt),
         Err(_) => refuse_no_text(rt),

@@ -1,16 +1,22 @@
 // What standard error says to a person. No text of a run goes there, and where it can't be written nothing
 // is lost.
+use crate::watch::{BadLine, Wrong};
+use asm_console::Stopped;
+use asm_core::AsmFault;
 use std::io::Error;
 use texts::Status;
 
 /// How the program is used.
 const USAGE: &str = "\
 usage: tenex run [--frames N] [--drum N]
-  runs the console script on standard input; the transcript goes to standard output, and the record to the
+       tenex asm T
+  run: runs the console script on standard input; the transcript goes to standard output, and the record to the
   file tenex.record in the current folder, which is made anew
   --frames N   page frames of core, 160 to 8192; 256 if not given
   --drum N     pages of the drum, 256 to 16384: the most pages and forks at once; 2048 if not given
-  docs/MACHINE.md has the lines of a script, and examples/ scripts to begin with";
+  asm: assembles the program on standard input; the lines of a script that put its words at terminal T, 0 to 15,
+  go to standard output, and no file is made
+  docs/MACHINE.md has the lines of a script and of a program, and examples/ some to begin with";
 
 /// Says how the program is used.
 pub fn usage(rt: &HostRuntime) {
@@ -23,9 +29,7 @@ fn help(status: Status) -> Option<&'static str> {
     match status {
         Status::Done | Status::ReadFault | Status::WriteFault => None,
         Status::Usage => Some(USAGE),
-        Status::Script => Some(
-            "tenex: a line of the script is bad; the transcript ends with its number, and docs/MACHINE.md has the lines that there are",
-        ),
+        Status::Script => Some("tenex: docs/MACHINE.md has the lines of a script"),
         Status::DrumFault => Some("tenex: the drum failed"),
         Status::Memory => Some("tenex: there is no memory for a machine of this size"),
         Status::LongScript => Some("tenex: the script has more than 16777216 bytes"),
@@ -44,4 +48,74 @@ pub fn explain_error(rt: &HostRuntime, file: &str, error: Option<&Error>) {
     if let Some(error) = error {
         let _ = eprintln!(rt; "tenex: {file}: {error}");
     }
+}
+
+/// Says which line of a script is bad, and why.
+pub fn explain_line(rt: &HostRuntime, bad: &BadLine) {
+    let number = bad.number;
+    let _ = match bad.wrong {
+        Wrong::NoLine => {
+            let text = shown(bad.bytes());
+            eprintln!(rt; "tenex: line {number} is no line of a script: {text}")
+        }
+        Wrong::NotBuilt => {
+            let text = shown(bad.bytes());
+            eprintln!(rt;
+                "tenex: line {number} is a line of a script that is not built yet: {text}"
+            )
+        }
+        Wrong::TooLong => eprintln!(rt; "tenex: line {number} has more than 256 bytes"),
+        Wrong::TooManyTurns => {
+            eprintln!(rt;
+                "tenex: with line {number} the script asks for more than 1099511627776 turns"
+            )
+        }
+    };
+}
+
+/// Says that the last line of a script has no line feed.
+pub fn explain_end(rt: &HostRuntime, number: u64) {
+    let _ = eprintln!(rt; "tenex: line {number} does not end with a line feed");
+}
+
+/// A line as it can be shown: its bytes, where each is a printed character or a space.
+fn shown(bytes: &[u8]) -> &str {
+    if bytes.iter().all(|c| *c >= b' ' && *c <= b'~') {
+        str::from_utf8(bytes).unwrap_or("")
+    } else {
+        "it has bytes that are not printed"
+    }
+}
+
+/// Says why a program has no words: nothing, where the error of a file says it.
+pub fn explain_stopped(rt: &HostRuntime, why: &Stopped) {
+    match why {
+        Stopped::Usage => usage(rt),
+        Stopped::ReadFault => {}
+        Stopped::LongText => {
+            let _ = rt.eprintln("tenex: the program has more than 1048576 bytes");
+        }
+        Stopped::Fault(fault) => explain_fault(rt, fault),
+    }
+}
+
+/// Says what is wrong with the text of a program.
+fn explain_fault(rt: &HostRuntime, fault: &AsmFault) {
+    let _ = match fault {
+        AsmFault::Memory => rt.eprintln("tenex: there is no memory for the program"),
+        AsmFault::Line(n) => eprintln!(rt;
+            "tenex: line {n} is no line of a program, or does not end with a line feed"
+        ),
+        AsmFault::Overrun(n) => eprintln!(rt;
+            "tenex: a word or the label of line {n} would be at 1000000 or above"
+        ),
+        AsmFault::Doubled(symbol) => {
+            let symbol = shown(symbol.as_slice());
+            eprintln!(rt; "tenex: the symbol {symbol} labels two lines")
+        }
+        AsmFault::Undefined(symbol) => {
+            let symbol = shown(symbol.as_slice());
+            eprintln!(rt; "tenex: the symbol {symbol} is used and labels no line")
+        }
+    };
 }
