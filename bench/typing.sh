@@ -1,9 +1,9 @@
 #!/usr/bin/env bash
 # Prints how many machine instructions it takes to type 80 characters and to read them, in a job of one fork and in one
 # of thirty, and how many a round of BOUT, SFPTR, BIN and SFPTR takes, with one file of one page and with 512 files, of
-# which this one has 512 pages, as ./tenex builds the program. Status 1: with thirty forks the first takes more than a
-# fiftieth more, or with 512 files the second takes more than MOST more machine instructions (400, or the argument).
-# 2: nothing counts them.
+# which this one has 512 pages, as ./tenex builds the program. Status 1: with thirty forks the first takes more than an
+# eighth more, since whose turn is next is looked for among the slots of the job, or with 512 files the second takes
+# more than MOST more machine instructions (400, or the argument). 2: nothing counts them.
 set -eu
 source "$(dirname "$0")/program.inc"
 most=${1:-400}
@@ -79,7 +79,7 @@ typed_one=$(typed 1)
 typed_thirty=$(typed 30)
 printf '%-28s %10s %10s\n' 'machine instructions' 'one fork' '30 forks'
 printf '%-28s %10d %10d\n' 'TYPE of 80, read by PBIN' "$typed_one" "$typed_thirty"
-[ $((50 * typed_thirty)) -le $((51 * typed_one)) ] || failed=1
+[ $((8 * typed_thirty)) -le $((9 * typed_one)) ] || failed=1
 bytes_one=$(round bytes 1)
 bytes_all=$(round bytes 512)
 printf '%-28s %10s %10s\n' '' 'one file' '512 files'
