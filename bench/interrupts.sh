@@ -9,6 +9,8 @@ command -v valgrind >/dev/null || {
     exit 2
 }
 
+counted_units=8000
+
 # posting ACTIVE UNITS..: MOVEI 1,400000; MOVE 2,200; SIR; MOVE 2,201; AIC; EIR; MOVE 2,202; and then IIC of channel 0 and
 # JRST 107 without end; the channel's handler is DEBRK alone. ACTIVE are the channels that are active.
 posting() {
