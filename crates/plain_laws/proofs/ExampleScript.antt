@@ -7,7 +7,6 @@ use Rattle.word36.specs.Octal.{AreOctalDigits, octal_value}
 use Rattle.script_texts.specs.declared.event.Event.{Event}
 use Rattle.script_texts.specs.declared.event.Event.TheVariants.{Login, Poke, Start, Run}
 use Rattle.machine_names.specs.Bounds.{is_name_code, IsDirName}
-use Rattle.script_texts.specs.Limits.{IsBuilt}
 use Rattle.script_texts.specs.Script.{IsDigit, IsDecimal, IsOctal, IsTty, IsShort, Spells, Gives, IsScript, decimal_value}
 use Rattle.plain_laws.specs.Example.{first_terminal, movei_word, pbout_word, haltf_word, example_events, example_script}
 
@@ -41,8 +40,8 @@ octal_field most text n some few digits value = ((at_most _ _ some, at_most _ _ 
 short : (line : List ℕ) → nat_le (length line) 256 ≡ true → list_all (λ c. not (c == 10)) line ≡ true → IsShort line
 short line few plain = record { short = at_most _ _ few; no_feed = all_by (λ c. not (c == 10)) (λ c. c ≢ 10) no_feed line plain }
 
-gives : (line : List ℕ) (e : Event) → nat_le (length line) 256 ≡ true → list_all (λ c. not (c == 10)) line ≡ true → Spells line e → IsBuilt e → Gives line (e ∷ [])
-gives line e few plain spelled built = (short line few plain, inl (e, record { spelled = spelled; built = built }, refl))
+gives : (line : List ℕ) (e : Event) → nat_le (length line) 256 ≡ true → list_all (λ c. not (c == 10)) line ≡ true → Spells line e → Gives line (e ∷ [])
+gives line e few plain spelled = (short line few plain, inl (e, spelled, refl))
 
 terminal : IsTty (codes "0") first_terminal
 terminal = (decimal_field 2 (codes "0") 0 refl refl refl refl, at_most 1 16 refl)
@@ -51,7 +50,7 @@ user : IsDirName (codes "SMITH")
 user = (at_most 1 5 refl, at_most 5 12 refl, AllPass-from_list_all is_name_code (codes "SMITH") refl)
 
 line_1 : Gives (codes "LOGIN 0 SMITH") (Login first_terminal (codes "SMITH") ∷ [])
-line_1 = gives (codes "LOGIN 0 SMITH") (Login first_terminal (codes "SMITH")) refl refl (codes "0", refl, terminal, user) tt
+line_1 = gives (codes "LOGIN 0 SMITH") (Login first_terminal (codes "SMITH")) refl refl (codes "0", refl, terminal, user)
 
 line_2 : Gives (codes "POKE 0 100 201040000101") (Poke first_terminal 64 movei_word ∷ [])
 line_2 =
@@ -63,7 +62,7 @@ line_2 =
       terminal,
       octal_field 6 (codes "100") 64 refl refl refl refl,
       octal_field 12 (codes "201040000101") movei_word refl refl refl refl,
-    ) tt
+    )
 
 line_3 : Gives (codes "POKE 0 101 104000000074") (Poke first_terminal 65 pbout_word ∷ [])
 line_3 =
@@ -75,7 +74,7 @@ line_3 =
       terminal,
       octal_field 6 (codes "101") 65 refl refl refl refl,
       octal_field 12 (codes "104000000074") pbout_word refl refl refl refl,
-    ) tt
+    )
 
 line_4 : Gives (codes "POKE 0 102 104000000170") (Poke first_terminal 66 haltf_word ∷ [])
 line_4 =
@@ -87,13 +86,13 @@ line_4 =
       terminal,
       octal_field 6 (codes "102") 66 refl refl refl refl,
       octal_field 12 (codes "104000000170") haltf_word refl refl refl refl,
-    ) tt
+    )
 
 line_5 : Gives (codes "START 0 100") (Start first_terminal 64 ∷ [])
-line_5 = gives (codes "START 0 100") (Start first_terminal 64) refl refl (codes "0", codes "100", refl, terminal, octal_field 6 (codes "100") 64 refl refl refl refl) tt
+line_5 = gives (codes "START 0 100") (Start first_terminal 64) refl refl (codes "0", codes "100", refl, terminal, octal_field 6 (codes "100") 64 refl refl refl refl)
 
 line_6 : Gives (codes "RUN 5") (Run 5 ∷ [])
-line_6 = gives (codes "RUN 5") (Run 5) refl refl (codes "5", refl, decimal_field 7 (codes "5") 5 refl refl refl refl, at_most 1 5 refl, at_most 5 1000000 refl) tt
+line_6 = gives (codes "RUN 5") (Run 5) refl refl (codes "5", refl, decimal_field 7 (codes "5") 5 refl refl refl refl, at_most 1 5 refl, at_most 5 1000000 refl)
 
 pub example_spelled : IsScript example_script example_events
 example_spelled = record {

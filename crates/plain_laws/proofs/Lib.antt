@@ -39,6 +39,8 @@ pub mod Killed
 pub mod Marks
 pub mod OtherMaps
 pub mod OtherJobs
+pub mod ClockTurns
+pub mod Sleeps
 pub mod UnitForks
 pub mod UnitJobs
 pub mod RowsPut

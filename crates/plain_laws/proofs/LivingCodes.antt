@@ -26,13 +26,16 @@ use Rattle.plain_model.specs.declared.call.ForkChange.{ForkChange}
 use Rattle.plain_model.specs.declared.call.ForkChange.TheVariants as forks
 use Rattle.plain_model.specs.declared.call.InterruptChange.{InterruptChange}
 use Rattle.plain_model.specs.declared.call.InterruptChange.TheVariants.{Become, Post, Assign, Unassign}
+use Rattle.plain_model.specs.declared.call.SleepChange.{SleepChange}
+use Rattle.plain_model.specs.declared.call.SleepChange.TheVariants as sleep
+use Rattle.plain_model.specs.ClockCalls.{clock_changed, without_moment}
 use Rattle.plain_model.specs.declared.fork.Fork.{Fork}
 use Rattle.plain_model.specs.declared.fork.TerminalMode.TheVariants.{Command}
 use Rattle.plain_files.specs.OpenFiles.{OpenFile, OpenFiles}
 use Rattle.plain_model.specs.ByteCalls.{ByteRows, behind_first, byte_calls, byte_changed, written}
 use Rattle.plain_model.specs.Calls.{Asked, Turn, parts_behind, posted_if}
 use Rattle.plain_units.specs.declared.channel.TheConstants.{ILLEGAL_INSTRUCTION}
-use Rattle.plain_model.specs.Families.{Parts, Turned, asks, behind, bytes_changed, forks_changed, interrupts_changed, jfns_changed, own_changed, pages_changed}
+use Rattle.plain_model.specs.Families.{Parts, Turned, asks, behind, bytes_changed, forks_changed, interrupts_changed, jfns_changed, own_changed, pages_changed, sleeps_changed}
 use Rattle.plain_model.specs.FileCalls.{deleted, file_changed, held_at, opened, with_held}
 use Rattle.plain_model.specs.ForkCalls.{fork_changed, with_halted}
 use Rattle.plain_model.specs.Forks.{ForkMap, counted, with_fork, with_regs, with_status}
@@ -43,7 +46,7 @@ use Rattle.plain_model.specs.State.{PlainState, PlainJob}
 use Rattle.plain_model.specs.StringCalls.{string_calls}
 use Rattle.plain_model.specs.Trees.{tree_of, with_body, with_mark}
 use Rattle.plain_model.specs.Unit.{Effect, called, caller_ended, in_command_mode, over, parts_of, stopped, turned, unit_ended, unit_of, with_parts, with_stopped}
-use Rattle.plain_model.proofs.Calling.{byte_came, byte_turned, called_by, filed_of, fork_called, fork_came, fork_turned, interrupt_came, interrupt_turned, jfn_came, jfn_turned, map_came, map_turned, none_turned, own_came, own_turned, MakesNone}
+use Rattle.plain_model.proofs.Calling.{byte_came, byte_turned, called_by, clock_came, clock_turned, filed_of, fork_called, fork_came, fork_turned, interrupt_came, interrupt_turned, jfn_came, jfn_turned, map_came, map_turned, none_turned, own_came, own_turned, MakesNone}
 use Rattle.plain_model.proofs.ForkEnds.{Anyhow, FitsChange, FitsEnd, call_names}
 use Rattle.plain_model.proofs.Turns.{KeepsEnd, ends_any}
 use Rattle.plain_laws.specs.Whole.{AreOfLiving, IsWholeMachine}
@@ -142,6 +145,11 @@ module _ (s : PlainState) (are : AreOfLiving s.forks s.jobs) where
       by None = are
       by (Some j) = kept_by _ (held_codes s.jobs t _)
 
+  sleep_codes : (q : NamedPages) (change : SleepChange) → Living (sleeps_changed change (record (parts_of s) { pages = q }))
+  unfolding clock_changed
+  sleep_codes q sleep.Nothing = are
+  sleep_codes q (sleep.Awakes k) = still_living s.forks _ s.jobs s.jobs (changed_there s.forks without_moment (map.get s.forks k)) (same_codes s.jobs) are
+
   -- a code is assigned to a fork that lives
   module _ (who : ForkName) (lives : map.contains_key s.forks who ≡ true) where
     assigned_codes : (code channel : ℕ) → AreOfLiving s.forks (with_codes_of s.jobs who.tty (λ codes. map.insert codes code (who, channel)))
@@ -236,11 +244,14 @@ module _ (s : PlainState) (w : IsWholeMachine s) (are : AreOfLiving s.forks s.jo
       let a = asks (parts_of s) f.name f.body.regs in
       turned_codes s f.name.tty (behind interrupts_changed (parts_of s) f.name c) (behind_codes (ChangesOwn a) interrupts_changed (parts_of s) c.pages c.end (interrupt_names a w.tree.slotted.own s.pages number) are (λ change own. interrupt_codes s are a lives c.pages change own))
 
+  clock_turned_codes : (number : ℕ) → KeepsCodes (clock_turned s f number)
+  clock_turned_codes number = let c = clock_came s f number in turned_codes s f.name.tty (behind sleeps_changed (parts_of s) f.name c) (behind_codes AnyChange sleeps_changed (parts_of s) c.pages c.end (ends_any c.end) are (λ change any. sleep_codes s are c.pages change))
+
   none_codes : KeepsCodes (none_turned s f)
   none_codes = turned_codes s f.name.tty (record { parts = parts_of s; caller = option_map (λ g. posted g ILLEGAL_INSTRUCTION) (map.get s.forks f.name); out = None }) are
 
   called_codes : (number : ℕ) → KeepsCodes (called s f number)
-  called_codes number = called_by KeepsCodes s f number own_codes (fork_codes s w are f number) (interrupt_turned_codes number) (map_codes number) (jfn_turned_codes number) (byte_turned_codes byte_calls number) (byte_turned_codes string_calls number) none_codes
+  called_codes number = called_by KeepsCodes s f number own_codes (fork_codes s w are f number) (interrupt_turned_codes number) (clock_turned_codes number) (map_codes number) (jfn_turned_codes number) (byte_turned_codes byte_calls number) (byte_turned_codes string_calls number) none_codes
 
   over_codes : (r : Planned name_cmp ⊥) → KeepsCodes (over s f r)
   over_codes (done t e) = let g = posted_if (with_regs f e.regs) e.post in ended_codes (record s { pages = pages_left f.name t e }) are g g.body.status

@@ -7,7 +7,7 @@ use Rattle.std.specs.Cmp.{nat_cmp_total}
 use Rattle.std.specs.FinMap as map
 use Rattle.std.specs.FinMap.{nat_cmp-IsAntisymmetric}
 use Rattle.machine_names.specs.declared.names.ForkName.{ForkName}
-use Rattle.machine_names.specs.declared.names.TheConstants.{MOST_FORKS}
+use Rattle.machine_names.specs.declared.names.TheConstants.{MOST_FORKS, TERMINALS}
 use Rattle.machine_names.specs.declared.names.Tty.{Tty}
 use Rattle.plain_typing.specs.Lines.{Codes}
 use Rattle.plain_units.specs.declared.channel.TheConstants.{INFERIOR_ENDED}
@@ -18,7 +18,7 @@ use Rattle.plain_model.specs.InterruptCalls.{living_codes, with_codes_of}
 use Rattle.plain_model.specs.Interrupts.{posted}
 use Rattle.plain_model.specs.Posting.{told_if}
 use Rattle.plain_model.specs.State.{PlainJob}
-use Rattle.plain_model.specs.Trees.{changed, changed_in, end_told, readers_woken, unread, unwaited, waiters_woken}
+use Rattle.plain_model.specs.Trees.{awoken, awoken_at, changed, changed_in, end_told, job_awoken, readers_woken, sleepers_awoken, unread, unwaited, waiters_woken}
 use Rattle.plain_model.proofs.ForkMaps.{cases_name, get_put, get_put_other}
 use Rattle.plain_laws.specs.Whole.{AreOfLiving}
 use Rattle.plain_laws.specs.WholeFiles.{Jobs}
@@ -52,6 +52,15 @@ waiters_there m t = slots_there unwaited t (range_with_len 1 MOST_FORKS) m
 pub readers_there : (m : ForkMap) (t : Tty) → Stay m (readers_woken m t)
 unfolding readers_woken
 readers_there m t = slots_there unread t (range_with_len 1 MOST_FORKS) m
+
+awoken_there : (clock : ℕ) (ts : List ℕ) (m : ForkMap) → Stay m (awoken_at clock m ts)
+unfolding job_awoken
+awoken_there clock [] m f lives = lives
+awoken_there clock (t ∷ ts) m f lives = awoken_there clock ts (job_awoken clock m (record { 0 = t })) f (slots_there (awoken clock) (record { 0 = t }) (range_with_len 1 MOST_FORKS) m f lives)
+
+pub sleepers_there : (clock : ℕ) (m : ForkMap) → Stay m (sleepers_awoken clock m)
+unfolding sleepers_awoken
+sleepers_there clock m = awoken_there clock (range_with_len 0 TERMINALS) m
 
 pub told_there : (m : ForkMap) (g : Fork) → Stay m (end_told m g)
 told_there m g f lives = let v = waiters_woken m g.name.tty in changed_there v (λ k. posted k INFERIOR_ENDED) (superior_of v g) f (waiters_there m g.name.tty f lives)

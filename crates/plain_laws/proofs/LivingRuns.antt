@@ -1,5 +1,5 @@
 -- No code outlives its fork wherever a run comes.
-use Rattle.std.proofs.Common.{◌≡◌, ℕ, ◌++◌, ◌%◌, true, List, [], ◌∷◌, None, Some, inl, inr, refl, sym, ◌∙◌, ap, length, All}
+use Rattle.std.proofs.Common.{◌≡◌, ℕ, ◌+◌, ◌++◌, ◌%◌, true, List, [], ◌∷◌, None, Some, inl, inr, refl, sym, ◌∙◌, ap, length, All}
 use Rattle.std.specs.Prelude.{is_some, nat_lt, take, ◌==◌, ◌||◌}
 use Rattle.std.specs.Ordering.{nat_cmp}
 use Rattle.std.specs.Cmp.{nat_cmp_total}
@@ -46,7 +46,7 @@ use Rattle.plain_model.specs.InterruptCalls.{living_codes}
 use Rattle.plain_model.specs.Interrupts.{forces, posted}
 use Rattle.plain_model.specs.Run.{apply, state_after}
 use Rattle.plain_model.specs.State.{PlainState, PlainJob, opening}
-use Rattle.plain_model.specs.Trees.{next_name, next_serial, readers_woken, tree_of, with_mark}
+use Rattle.plain_model.specs.Trees.{next_name, next_serial, readers_woken, sleepers_awoken, tree_of, with_mark}
 use Rattle.plain_model.specs.TypeEvents.{channel_posted, interrupted, line_ended, line_of, posted_at, stopped_by, typed_all, typed_at, typed_one, typed_so}
 use Rattle.plain_model.specs.Unit.{Effect, unit}
 use Rattle.plain_model.specs.declared.fork.Fork.{Fork}
@@ -55,7 +55,7 @@ use Rattle.plain_model.specs.declared.fork.TerminalMode.TheVariants.{Command, Pr
 use Rattle.plain_laws.specs.Whole.{AreOfLiving, IsWhole, IsWholeMachine}
 use Rattle.plain_laws.proofs.FilesKept.{put_tells}
 use Rattle.plain_laws.proofs.LivingCodes.{KeepsCodes, stopped_codes, unit_codes, with_fork_codes}
-use Rattle.plain_laws.proofs.LivingForks.{Stay, changed_there, gone_codes, narrowed_job, put_codes, put_there, readers_there, still_living}
+use Rattle.plain_laws.proofs.LivingForks.{Stay, changed_there, gone_codes, narrowed_job, put_codes, put_there, readers_there, same_codes, sleepers_there, still_living}
 use Rattle.plain_laws.proofs.OtherJobs.{PartsStay, below_stays, gone_stays}
 use Rattle.plain_laws.proofs.WholeCommands.{with_job_whole}
 use Rattle.plain_laws.proofs.WholeRuns.{step_whole, whole_opening}
@@ -203,7 +203,7 @@ module _ (s : PlainState) (w : IsWholeMachine s) (are : AreOfLiving s.forks s.jo
   outer_codes (Examine t serial address) = at_job_codes t _ (λ j is.
       looked_up KeepsCodes (examined_in s t serial address) _ (map.get s.forks (record { tty = t; serial = serial })) (λ f there. looked_up KeepsCodes _ _ (word_seen s f address) (λ word seen. are) (λ none. are)) (λ none. are))
   outer_codes (Forks t) = at_job_codes t _ (λ j is. are)
-  outer_codes Tick = are
+  outer_codes Tick = still_living s.forks (sleepers_awoken (s.clock + 1) s.forks) s.jobs s.jobs (sleepers_there (s.clock + 1) s.forks) (same_codes s.jobs) are
   outer_codes (Trace on) = are
   outer_codes (TypeIn t text) = at_job_codes t _ (λ j is. typed_codes s w are t text)
   outer_codes (File name) = cond_both (is_some (map.get s.files name)) _ _ KeepsCodes (λ there. are) (λ absent. cond_both (nat_lt (map.len s.files) MOST_FILES) _ _ KeepsCodes (λ room. are) (λ none. are))

@@ -1,6 +1,5 @@
 -- What a fork call leaves: the forks and the maps of other jobs.
-use Rattle.std.proofs.Common.{◌≡◌, ◌||◌, ℕ, zero, suc, Bool, true, false, List, [], ◌∷◌, Option, None, Some, inl, inr, refl, sym, ◌∙◌, ap, subst}
-use Rattle.std.specs.List.{range_with_len}
+use Rattle.std.proofs.Common.{◌≡◌, ◌||◌, ℕ, zero, suc, Bool, true, false, Option, None, Some, refl, sym, ◌∙◌, ap, subst}
 use Rattle.std.specs.Option.{option_map_or}
 use Rattle.std.specs.FinMap as map
 use Rattle.machine_names.specs.declared.names.Tty.{Tty}
@@ -12,7 +11,6 @@ use Rattle.plain_model.specs.declared.call.End.{End}
 use Rattle.plain_model.specs.declared.call.End.TheVariants.{Done, Waits, Halts, Refused, Failed, Trap}
 use Rattle.plain_model.specs.declared.call.ForkChange.{ForkChange}
 use Rattle.plain_model.specs.declared.call.ForkChange.TheVariants.{Nothing, Make, Kill, Freeze, Become, Halt, Store}
-use Rattle.plain_units.specs.declared.channel.TheConstants.{INFERIOR_ENDED}
 use Rattle.machine_names.specs.declared.names.TheConstants.{MOST_FORKS}
 use Rattle.plain_model.specs.declared.fork.Fork.{Fork}
 use Rattle.plain_units.specs.declared.registers.Regs.{Regs}
@@ -21,15 +19,14 @@ use Rattle.plain_model.specs.State.{PlainState}
 use Rattle.plain_pages.specs.PlainPages.{NamedPages}
 use Rattle.machine_names.specs.Orders.{name_cmp, same_fork}
 use Rattle.plain_pages.specs.NewMaps.{new_map}
-use Rattle.plain_model.specs.Forks.{ForkMap, fork_in, superior_of, with_status}
-use Rattle.plain_model.specs.Interrupts.{posted}
+use Rattle.plain_model.specs.Forks.{ForkMap, superior_of, with_status}
 use Rattle.plain_model.specs.Inferiors.{is_within, is_inferior, last_below}
-use Rattle.plain_model.specs.Trees.{tree_of, next_name, changed, with_mark, with_body, unwaited, woken_in, waiters_woken, end_told}
+use Rattle.plain_model.specs.Trees.{tree_of, next_name, changed, with_mark, with_body, waiters_woken, end_told}
 use Rattle.plain_laws.specs.Whole.{IsWholeMachine}
 use Rattle.plain_model.proofs.ForkEnds.{FitsChange, FitsEnd, Leads, call_ends, mapped}
 use Rattle.plain_laws.proofs.WholeForks.{last_tells}
-use Rattle.plain_model.proofs.Posted.{posted_same}
-use Rattle.plain_model.proofs.ForkMaps.{AreOwn, cases_name, get_put, get_put_other, get_gone, get_gone_other, names_same, slot_tells, superior_tells}
+use Rattle.plain_model.proofs.OtherJobs.{JobChanged, KeepsName, changed_job, gone_job, put_job, told_job, waiters_job}
+use Rattle.plain_model.proofs.ForkMaps.{AreOwn, get_put_other, names_same, superior_tells}
 use Rattle.plain_laws.proofs.OtherMaps.{not_it, Elsewhere, run_other, words_other, gone_maps}
 use Rattle.plain_model.specs.Families.{Parts}
 use Rattle.plain_model.specs.Unit.{parts_of}
@@ -61,47 +58,23 @@ module _ (t : Tty) (k : ForkName) (other : k.tty.0 ≡ t.0 → ⊥) (there : Opt
     pub own : AreOwn m
     pub stays : map.get m k ≡ there
 
-  -- a name is kept
-  abbrev KeepsName : (Fork → Fork) → Type 0
-  KeepsName change = (f : Fork) → (change f).name ≡ f.name
+  stays_on : (m n : ForkMap) (u : Tty) → u.0 ≡ t.0 → JobChanged u m n → Stays m → Stays n
+  stays_on m n u here change w = record { own = change.own; stays = change.others k (λ e. other (e ∙ here)) ∙ w.stays }
 
   pub put_stays : (m : ForkMap) → Stays m → (f : Fork) → f.name.tty.0 ≡ t.0 → Stays (map.insert m f.name f)
-  put_stays m w f here = record { own = λ q h is. owned q h is; stays = get_put_other m f.name k f (not_it t k other f.name here) ∙ w.stays }
-    where
-      owned : (q : ForkName) (h : Fork) → map.get (map.insert m f.name f) q ≡ Some h → h.name ≡ q
-      owned q h is = elim (cases_name q f.name) [
-        | inl e ↦ let both : Some f ≡ Some h = sym (get_put m f.name q f e) ∙ is in let same : f ≡ h = cc both in ap (λ (x : Fork). x.name) (sym same) ∙ sym e
-        | inr ne ↦ w.own q h (sym (get_put_other m f.name q f ne) ∙ is)
-      ]
+  put_stays m w f here = stays_on m (map.insert m f.name f) t refl (put_job t m w.own f here) w
 
   changed_stays : (m : ForkMap) → Stays m → (change : Fork → Fork) → KeepsName change → (o : Option Fork) → ((j : Fork) → o ≡ Some j → j.name.tty.0 ≡ t.0) → Stays (changed m change o)
-  changed_stays m w change same None here = w
-  changed_stays m w change same (Some j) here =
-      subst (λ n. Stays (map.insert m n (change j))) (same j) (put_stays m w (change j) (ap (λ (x : ForkName). x.tty.0) (same j) ∙ here j refl))
-
-  woken_stays : (m : ForkMap) → Stays m → (u : Tty) → u.0 ≡ t.0 → (slots : List ℕ) → Stays (woken_in m u slots)
-  woken_stays m w u here [] = w
-  woken_stays m w u here (slot ∷ slots) =
-      woken_stays (changed m unwaited (fork_in m u slot)) (changed_stays m w unwaited (λ f. refl) (fork_in m u slot) (λ j is. let at = slot_tells m w.own u slot j is in at.1 ∙ here)) u here slots
+  changed_stays m w change same o here = stays_on m (changed m change o) t refl (changed_job t m w.own change same o here) w
 
   waiters_stay : (m : ForkMap) → Stays m → (u : Tty) → u.0 ≡ t.0 → Stays (waiters_woken m u)
-  unfolding waiters_woken
-  waiters_stay m w u here = woken_stays m w u here (range_with_len 1 MOST_FORKS)
+  waiters_stay m w u here = stays_on m (waiters_woken m u) u here (waiters_job m w.own u) w
 
   pub told_stays : (m : ForkMap) → Stays m → (f : Fork) → f.name.tty.0 ≡ t.0 → Stays (end_told m f)
-  told_stays m w f here =
-      let v = waiters_woken m f.name.tty in
-      let u = waiters_stay m w f.name.tty here in
-      changed_stays v u (λ j. posted j INFERIOR_ENDED) (λ j. let same = posted_same j INFERIOR_ENDED in same.0) (superior_of v f) (λ j is. let at = superior_tells v u.own f j is in at.1 ∙ here)
+  told_stays m w f here = stays_on m (end_told m f) f.name.tty here (told_job m w.own f) w
 
   pub gone_stays : (m : ForkMap) → Stays m → (f : ForkName) → f.tty.0 ≡ t.0 → Stays (map.remove m f)
-  gone_stays m w f here = record { own = λ q h is. w.own q h (left q h is); stays = get_gone_other m f k (not_it t k other f here) ∙ w.stays }
-    where
-      left : (q : ForkName) (h : Fork) → map.get (map.remove m f) q ≡ Some h → map.get m q ≡ Some h
-      left q h is = elim (cases_name q f) [
-        | inl e ↦ absurd (let no : None ≡ Some h = sym (get_gone m f q e) ∙ is in cc no)
-        | inr ne ↦ sym (get_gone_other m f q ne) ∙ is
-      ]
+  gone_stays m w f here = stays_on m (map.remove m f) t refl (gone_job t m w.own f here) w
 
   -- the forks and the maps of other jobs
   pub record PartsStay (p : NamedPages) (v : ForkParts name_cmp) : Type 0 where

@@ -1,5 +1,5 @@
 -- What a unit does to forks: it puts its own fork, and tells where that has ended; all else is done by a fork call.
-use Rattle.std.proofs.Common.{◌≡◌, ℕ, Bool, true, false, List, [], ◌∷◌, Option, None, Some, refl, ◌∙◌}
+use Rattle.std.proofs.Common.{◌≡◌, ℕ, Bool, true, false, List, [], ◌∷◌, Option, None, Some, refl, ◌∙◌, ap}
 use Rattle.std.specs.Prelude.{is_some}
 use Rattle.std.specs.List.{list_any}
 use Rattle.std.specs.FinMap as map
@@ -12,6 +12,11 @@ use Rattle.machine_names.specs.declared.names.Tty.{Tty}
 use Rattle.plain_model.specs.declared.fork.Fork.{Fork}
 use Rattle.script_texts.specs.declared.status.ForkStatus.{ForkStatus}
 use Rattle.script_texts.specs.declared.status.ForkStatus.TheVariants.{Run as Running, Wait, Halted, Forced}
+use Rattle.script_texts.specs.declared.status.WaitOn.{WaitOn}
+use Rattle.script_texts.specs.declared.status.WaitOn.TheVariants as on
+use Rattle.plain_model.specs.declared.call.SleepChange.{SleepChange}
+use Rattle.plain_model.specs.declared.call.SleepChange.TheVariants.{Awakes, Nothing}
+use Rattle.plain_model.specs.ClockCalls.{clock_changed, without_moment}
 use Rattle.plain_model.specs.State.{PlainState}
 use Rattle.plain_pages.specs.PlainPages.{NamedPages}
 use Rattle.machine_names.specs.Orders.{name_cmp}
@@ -19,34 +24,40 @@ use Rattle.plain_model.specs.Forks.{ForkMap, with_fork, with_regs, with_status, 
 use Rattle.plain_model.specs.declared.call.InterruptChange.{InterruptChange}
 use Rattle.plain_model.specs.declared.call.InterruptChange.TheVariants.{Become, Post, Assign, Unassign}
 use Rattle.plain_model.specs.declared.interrupt.Delivery.{Delivery}
-use Rattle.plain_model.specs.Families.{asks, interrupts_changed}
+use Rattle.plain_model.specs.Families.{asks, asks_clock, interrupts_changed}
 use Rattle.plain_model.specs.Inspections.{delivered, inspected}
 use Rattle.plain_model.specs.InterruptCalls.{interrupt_changed}
 use Rattle.plain_model.specs.Interrupts.{channels_of, forces, posted, posted_all}
 use Rattle.plain_model.specs.Posting.{told_if}
 use Rattle.plain_units.specs.Units.{unit_on}
 use Rattle.plain_units.specs.Steps.{Planned, Ending, done, call, trap, need, stopped as unit_stopped}
-use Rattle.plain_model.specs.Trees.{end_told, with_body}
-use Rattle.plain_model.specs.Calls.{Asked, Turn, with_error, fork_behind, out_of, parts_behind, posted_if}
+use Rattle.plain_model.specs.Trees.{end_told, tree_of, with_body}
+use Rattle.plain_model.specs.Calls.{Asked, Turn, with_error, with_wait, fork_behind, out_of, parts_behind, posted_if}
 use Rattle.plain_model.specs.ByteCalls.{ByteRows, byte_calls}
 use Rattle.plain_model.specs.StringCalls.{string_calls}
 use Rattle.plain_model.specs.Unit.{Effect, in_command_mode, with_stopped, stopped, unit_ended, trapped, called, went, over, parts_of, taken_up, unit_of}
 use Rattle.plain_units.proofs.Lookups.{looked_up}
-use Rattle.plain_model.proofs.Calling.{fork_came, fork_left, fork_called, fork_turned, interrupt_came, interrupt_called, interrupt_left, interrupt_turned, map_came, map_pages, map_turned, own_came, own_turned, none_turned, jfn_came, jfn_called, jfn_turned, byte_came, byte_called, byte_turned, MakesNone, caller_by, called_by, map_by, jfn_by, byte_by, own_by}
+use Rattle.plain_model.proofs.Calling.{clock_called, clock_came, clock_turned, fork_came, fork_left, fork_called, fork_turned, interrupt_came, interrupt_called, interrupt_left, interrupt_turned, map_came, map_pages, map_turned, own_came, own_turned, none_turned, jfn_came, jfn_called, jfn_turned, byte_came, byte_called, byte_turned, MakesNone, caller_by, called_by, map_by, jfn_by, byte_by, own_by}
 use Rattle.plain_model.proofs.ForkMaps.{AreOwn}
 use Rattle.plain_model.proofs.Posted.{SameMark, posted_mark}
 use Rattle.plain_model.proofs.Turns.{KeepsEnd}
 use Rattle.plain_laws.proofs.Inspected.{unit_by}
+use Rattle.plain_laws.proofs.ClockTurns.{SleepsOwn, clock_by, clock_names}
 use Rattle.plain_laws.proofs.InterruptEnds.{ChangesOwn, interrupt_names}
 
 posted_if_mark : (f : Fork) (post : Option ℕ) → SameMark f (posted_if f post)
 posted_if_mark f None = (refl, refl)
 posted_if_mark f (Some channel) = posted_mark f channel
 
+wait_mark : (f : Fork) (what : WaitOn) → SameMark f (with_wait f what)
+wait_mark f on.Input = (refl, refl)
+wait_mark f on.Fork = (refl, refl)
+wait_mark f (on.Sleep moment) = (refl, refl)
+
 behind_mark : {C : Type 0} (f : Fork) (e : End C) → SameMark f (fork_behind f e)
 unfolding fork_behind
 behind_mark f (Done change regs out post) = posted_if_mark (with_regs f regs) post
-behind_mark f (Waits on) = (refl, refl)
+behind_mark f (Waits what) = wait_mark f what
 behind_mark f Halts = (refl, refl)
 behind_mark f (Refused code) = posted_mark (with_error f code) ILLEGAL_INSTRUCTION
 behind_mark f (Failed code) = (refl, refl)
@@ -171,8 +182,33 @@ module _ (job : Tty) (Holds : ForkMap → Type 0) (Good : Fork → Type 0) (keep
           let e = (interrupt_came s f number).end in
           caller_by Leaves s f.name.tty (interrupt_left s f number) f.name (λ g. fork_behind g e) (out_of e) (λ g is. with_caller (interrupt_called s f number) left_kept g (good_in (interrupt_called s f number).forks left_kept g is) (fork_behind g e) (behind_mark g e)) left_kept
 
+    -- a call on the clock changes the fork that called
+    module _ (number : ℕ) where
+      awake_kept : (change : SleepChange) → SleepsOwn f.name change → Holds (clock_changed change (tree_of s)).forks
+      unfolding clock_changed
+      awake_kept Nothing own = h
+      awake_kept (Awakes k) own = looked_up Holds _ s.forks (map.get s.forks k)
+          (λ g is. keeps.put s.forks h (without_moment g) (keeps.same g (without_moment g) (refl, refl) (keeps.found s.forks h k g (ap (λ (n : ForkName). n.tty.0) own ∙ here) is))) (λ none. h)
+
+      slept_kept : Holds (clock_called s f number).forks
+      unfolding parts_behind
+      slept_kept = by (clock_came s f number).end (clock_names s.pages (asks_clock (parts_of s) f.name f.body.regs) number)
+        where
+          by : (e : End SleepChange) → KeepsEnd (SleepsOwn f.name) e → Holds (parts_behind clock_changed (tree_of s) (tree_of s) e).forks
+          by (Done change regs out post) own = awake_kept change own
+          by (Waits what) own = h
+          by Halts own = h
+          by (Refused code) own = h
+          by (Failed code) own = h
+          by (Trap channel) own = h
+
+      clock_kept : Leaves (clock_turned s f number)
+      clock_kept =
+          let e = (clock_came s f number).end in
+          clock_by Leaves s f number (λ g is. with_caller (clock_called s f number) slept_kept g (good_in (clock_called s f number).forks slept_kept g is) (fork_behind g e) (behind_mark g e)) slept_kept
+
     called_kept : (number : ℕ) → Leaves (fork_turned s f number) → Leaves (called s f number)
-    called_kept number turns = called_by Leaves s f number own_kept turns (interrupt_kept number) (map_kept number) (jfn_kept number) (byte_kept byte_calls number) (byte_kept string_calls number) none_kept
+    called_kept number turns = called_by Leaves s f number own_kept turns (interrupt_kept number) (clock_kept number) (map_kept number) (jfn_kept number) (byte_kept byte_calls number) (byte_kept string_calls number) none_kept
 
     -- an instruction keeps it, if the turn does of the call that it may be
     pub over_kept : (r : Planned name_cmp ⊥) → ((number : ℕ) → r ≡ call number → Leaves (fork_turned s f number)) → Leaves (over s f r)

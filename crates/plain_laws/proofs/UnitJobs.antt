@@ -57,11 +57,12 @@ use Rattle.plain_laws.proofs.MapEnds.{ChangeIn, EndIn, SpotIn, came_in, map_call
 use Rattle.plain_units.proofs.Lookups.{looked_up}
 use Rattle.plain_units.proofs.PageRuns.{PlanLeaves, stored_maps}
 use Rattle.plain_laws.proofs.Inspected.{inspected_keeps, unit_by}
+use Rattle.plain_laws.proofs.ClockTurns.{clock_by}
 use Rattle.plain_laws.proofs.InterruptEnds.{interrupt_ends}
 use Rattle.plain_laws.proofs.UnitForks.{KeptBy, ended_pages, fork_kept, unit_kept}
 use Rattle.plain_laws.proofs.OtherMaps.{InJob, Elsewhere, reference_other, set_other, run_other}
 use Rattle.plain_laws.proofs.OtherJobs.{Stays, put_stays, told_stays, maps_same, call_stays}
-use Rattle.plain_model.proofs.Calling.{fork_came, fork_left, fork_called, fork_turned, interrupt_came, interrupt_called, interrupt_left, interrupt_turned, interrupts_behind, pages_after, map_came, map_pages, map_turned, own_came, own_turned, none_turned, filed_of, jfn_came, jfn_left, jfn_called, jfn_turned, byte_came, byte_left, byte_called, byte_turned, MakesNone, caller_by, called_by, map_by, jfn_by, byte_by, own_by}
+use Rattle.plain_model.proofs.Calling.{clock_called, clock_came, clock_turned, fork_came, fork_left, fork_called, fork_turned, interrupt_came, interrupt_called, interrupt_left, interrupt_turned, interrupts_behind, pages_after, map_came, map_pages, map_turned, own_came, own_turned, none_turned, filed_of, jfn_came, jfn_left, jfn_called, jfn_turned, byte_came, byte_left, byte_called, byte_turned, MakesNone, caller_by, called_by, map_by, jfn_by, byte_by, own_by}
 use Rattle.plain_units.specs.declared.channel.TheConstants.{ILLEGAL_INSTRUCTION}
 
 -- what a change of a slot leaves of a map of another job
@@ -222,11 +223,14 @@ module _ (s : PlainState) (w : IsWholeMachine s) (name : ForkName) (f : Fork) (t
           let both = interrupt_ends a w.tree.slotted.own (λ r. Elsewhere f.name.tty k other s.pages r) steps_other s.pages refl number in
           ap (λ (v : Parts name_cmp). map.get v.pages.maps k) (interrupts_behind (parts_of s) q (interrupt_came s f number).end) ∙ by (interrupt_came s f number).end both.1
 
+  clock_maps : (number : ℕ) → MapsLeft (clock_turned s f number)
+  clock_maps number = let e = (clock_came s f number).end in clock_by MapsLeft s f number (λ g is. let h = fork_behind g e in ended_maps (clock_called s f number) refl h h.body.status) refl
+
   none_maps : MapsLeft (none_turned s f)
   none_maps = caller_by MapsLeft s f.name.tty (parts_of s) f.name (λ g. posted g ILLEGAL_INSTRUCTION) None (λ g is. let h = posted g ILLEGAL_INSTRUCTION in ended_maps s refl h h.body.status) refl
 
   called_maps : (number : ℕ) → MapsLeft (called s f number)
-  called_maps number = called_by MapsLeft s f number own_maps (fork_maps number) (interrupt_maps number) (map_maps number) (jfn_maps number) (byte_maps byte_calls (bytes_fit s w f) number) (byte_maps string_calls (strings_fit s w f) number) none_maps
+  called_maps number = called_by MapsLeft s f number own_maps (fork_maps number) (interrupt_maps number) (clock_maps number) (map_maps number) (jfn_maps number) (byte_maps byte_calls (bytes_fit s w f) number) (byte_maps string_calls (strings_fit s w f) number) none_maps
 
   maps_left : (r : Planned name_cmp ⊥) → PlanLeaves (λ q. Elsewhere f.name.tty k other s.pages q) f.name r → MapsLeft (over s f r)
   maps_left (done t e) left = went_maps (pages_left f.name t e) e left

@@ -39,9 +39,11 @@ use Rattle.plain_model.specs.Forks.{with_regs, ForkMap, fork_in, superior_of, wi
 use Rattle.plain_model.specs.Interrupts.{posted}
 use Rattle.plain_units.specs.Steps.{begun, is_accumulator}
 use Rattle.plain_model.specs.Inferiors.{is_within, is_inferior, has_inferior, leaf_below, last_up_to, last_below}
-use Rattle.plain_model.specs.Trees.{tree_of, free_slot, next_name, next_serial, new_fork, with_made, changed, changed_in, with_mark, with_body, unwaited, unread, waiters_woken, readers_woken, end_told}
+use Rattle.plain_model.specs.Trees.{tree_of, free_slot, next_name, next_serial, new_fork, with_made, changed, changed_in, with_mark, with_body, unwaited, unread, waiters_woken, readers_woken, end_told, awoken, awoken_at, job_awoken, sleepers_awoken}
 use Rattle.plain_units.specs.Blocks.{next_address, stored_from}
-use Rattle.plain_model.specs.Calls.{with_error, fork_behind, no_files, parts_behind, posted_if, turn_on, Asked}
+use Rattle.script_texts.specs.declared.status.WaitOn.{WaitOn}
+use Rattle.script_texts.specs.declared.status.WaitOn.TheVariants as on
+use Rattle.plain_model.specs.Calls.{with_error, with_wait, fork_behind, no_files, parts_behind, posted_if, turn_on, Asked}
 use Rattle.plain_model.specs.Commands.{forks_and_pages, with_forks_and_pages}
 use Rattle.plain_model.specs.ForkCalls.{fork_call, map_wanted, without, without_below, killed, with_halted, fork_changed}
 use Rattle.plain_pages.specs.WholePages.{AreWhole}
@@ -189,11 +191,16 @@ posted_if_same : (f : Fork) (post : Option ℕ) → IsSame f (posted_if f post)
 posted_if_same f None = (refl, refl, refl)
 posted_if_same f (Some channel) = posted_same f channel
 
+wait_same : (f : Fork) (what : WaitOn) → IsSame f (with_wait f what)
+wait_same f on.Input = (refl, refl, refl)
+wait_same f on.Fork = (refl, refl, refl)
+wait_same f (on.Sleep moment) = (refl, refl, refl)
+
 -- a turn of a call leaves its fork's name, slot and superior
 pub behind_same : {C : Type 0} (f : Fork) (e : End C) → IsSame f (fork_behind f e)
 unfolding fork_behind
 behind_same f (Done change regs out post) = posted_if_same (with_regs f regs) post
-behind_same f (Waits on) = (refl, refl, refl)
+behind_same f (Waits what) = wait_same f what
 behind_same f Halts = (refl, refl, refl)
 behind_same f (Refused code) = posted_same (with_error f code) ILLEGAL_INSTRUCTION
 behind_same f (Failed code) = (refl, refl, refl)
@@ -217,7 +224,18 @@ module _ (change : Fork → Fork) (same : (f : Fork) → IsSame f (change f)) wh
       let forks = changed s.forks change (fork_in s.forks t slot) in
       slots_whole (record s { forks = forks }) (changed_if s w change same (fork_in s.forks t slot) (λ k is. let at = slot_tells s.forks w.tree.slotted.own t slot k is in at.0)) t slots
 
+-- so who sleeps to a moment that the clock has reached runs again, at these terminals
+awoken_whole : (clock : ℕ) (s : PlainState) → IsWholeMachine s → (ts : List ℕ) → IsWholeMachine (record s { forks = awoken_at clock s.forks ts })
+unfolding job_awoken
+awoken_whole clock s w [] = w
+awoken_whole clock s w (t ∷ ts) = awoken_whole clock (record s { forks = job_awoken clock s.forks (record { 0 = t }) }) (slots_whole (awoken clock) (λ f. (refl, refl, refl)) s w (record { 0 = t }) (range_with_len 1 MOST_FORKS)) ts
+
 module _ (s : PlainState) (w : IsWholeMachine s) where
+  -- and at all
+  pub sleepers_whole : (clock : ℕ) → IsWholeMachine (record s { forks = sleepers_awoken clock s.forks })
+  unfolding sleepers_awoken
+  sleepers_whole clock = awoken_whole clock s w (range_with_len 0 TERMINALS)
+
   -- who waits for a fork runs again, or who waits for a character
   pub waiters_whole : (t : Tty) → IsWholeMachine (record s { forks = waiters_woken s.forks t })
   unfolding waiters_woken

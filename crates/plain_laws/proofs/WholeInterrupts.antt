@@ -19,6 +19,9 @@ use Rattle.plain_model.specs.declared.call.End.{End}
 use Rattle.plain_model.specs.declared.call.End.TheVariants.{Done, Waits, Halts, Refused, Failed, Trap}
 use Rattle.plain_model.specs.declared.call.InterruptChange.{InterruptChange}
 use Rattle.plain_model.specs.declared.call.InterruptChange.TheVariants.{Become, Post, Assign, Unassign}
+use Rattle.plain_model.specs.declared.call.SleepChange.{SleepChange}
+use Rattle.plain_model.specs.declared.call.SleepChange.TheVariants as sleep
+use Rattle.plain_model.specs.ClockCalls.{clock_changed, without_moment}
 use Rattle.plain_model.specs.declared.fork.Fork.{Fork}
 use Rattle.plain_model.specs.declared.fork.TerminalMode.TheVariants.{Command}
 use Rattle.plain_model.specs.declared.interrupt.Delivery.{Delivery}
@@ -33,7 +36,7 @@ use Rattle.plain_model.specs.State.{PlainState}
 use Rattle.plain_model.specs.Trees.{next_serial, tree_of, with_body}
 use Rattle.plain_model.specs.TypeEvents.{channel_posted, posted_at}
 use Rattle.plain_model.specs.Unit.{in_command_mode, parts_of, stopped, taken_up, with_parts, with_stopped}
-use Rattle.plain_model.proofs.Calling.{interrupt_came, interrupt_called}
+use Rattle.plain_model.proofs.Calling.{clock_called, clock_came, interrupt_came, interrupt_called}
 use Rattle.plain_model.proofs.Posted.{IsSame, posted_same}
 use Rattle.plain_laws.specs.Whole.{AreGiven, IsWholeMachine}
 use Rattle.plain_laws.proofs.GivenSerials.{run_given}
@@ -65,6 +68,25 @@ module _ (s : PlainState) (w : IsWholeMachine s) (name : ForkName) (f : Fork) (t
 pub posted_at_whole : (s : PlainState) → IsWholeMachine s → (name : ForkName) (channel : ℕ) → Leaves (posted_at s name channel)
 posted_at_whole s w name channel = looked_up Leaves (channel_posted s channel) _ (map.get s.forks name)
     (λ f there. cond_both (forces f.body.psi channel) _ _ Leaves (λ forced. stopped_whole s w name f there (posted f channel) (posted_same f channel)) (λ goes. put s w name f there (posted f channel) (posted_same f channel))) (λ none. w)
+
+-- A CALL ON THE CLOCK LEAVES A WHOLE STATE WHOLE
+module _ (s : PlainState) (w : IsWholeMachine s) (f : Fork) where
+  sleep_whole : (change : SleepChange) → IsWholeMachine (record s { forks = (clock_changed change (tree_of s)).forks; fork_serials = (clock_changed change (tree_of s)).serials })
+  unfolding clock_changed
+  sleep_whole sleep.Nothing = w
+  sleep_whole (sleep.Awakes g) = changed_if s w without_moment (λ h. (refl, refl, refl)) (map.get s.forks g) (λ h is. ap (map.get s.forks) (w.tree.slotted.own g h is) ∙ is)
+
+  pub clock_called_whole : (number : ℕ) → IsWholeMachine (clock_called s f number)
+  unfolding parts_behind
+  clock_called_whole number = by (clock_came s f number).end
+    where
+      by : (e : End SleepChange) → IsWholeMachine (with_parts s (record (parts_of s) { tree = parts_behind clock_changed (tree_of s) (tree_of s) e }))
+      by (Done change regs out post) = sleep_whole change
+      by (Waits on) = w
+      by Halts = w
+      by (Refused code) = w
+      by (Failed code) = w
+      by (Trap channel) = w
 
 -- pages that steps of a fork have made
 module _ (s : PlainState) (w : IsWholeMachine s) where

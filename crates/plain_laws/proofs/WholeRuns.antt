@@ -65,12 +65,13 @@ use Rattle.plain_laws.proofs.WholeJfns.{jfn_called_whole}
 use Rattle.plain_laws.proofs.WholeMaps.{map_called_whole}
 use Rattle.plain_laws.proofs.WholeBytes.{RowsFit, byte_called_whole, bytes_fit, strings_fit}
 use Rattle.plain_laws.proofs.WholeCommands.{Leaves, changed_whole, started_whole}
+use Rattle.plain_laws.proofs.ClockTurns.{clock_by}
 use Rattle.plain_laws.proofs.Inspected.{unit_by}
-use Rattle.plain_laws.proofs.WholeInterrupts.{interrupt_called_whole, stopped_whole, taken_whole}
+use Rattle.plain_laws.proofs.WholeInterrupts.{clock_called_whole, interrupt_called_whole, stopped_whole, taken_whole}
 use Rattle.plain_laws.proofs.WholeTyped.{typed_whole}
-use Rattle.plain_laws.proofs.WholeForks.{kept_tops, filed_whole, sound, keeps_whole, behind_same, put, made_whole, next_absent, fork_called_whole}
+use Rattle.plain_laws.proofs.WholeForks.{sleepers_whole, kept_tops, filed_whole, sound, keeps_whole, behind_same, put, made_whole, next_absent, fork_called_whole}
 use Rattle.plain_model.proofs.Posted.{IsSame, posted_same}
-use Rattle.plain_model.proofs.Calling.{fork_came, fork_left, fork_called, fork_turned, interrupt_came, interrupt_called, interrupt_left, interrupt_turned, map_came, map_pages, map_turned, own_came, own_turned, none_turned, jfn_came, jfn_called, jfn_turned, byte_came, byte_called, byte_turned, MakesNone, caller_by, called_by, map_by, jfn_by, byte_by, own_by}
+use Rattle.plain_model.proofs.Calling.{clock_called, clock_came, clock_turned, fork_came, fork_left, fork_called, fork_turned, interrupt_came, interrupt_called, interrupt_left, interrupt_turned, map_came, map_pages, map_turned, own_came, own_turned, none_turned, jfn_came, jfn_called, jfn_turned, byte_came, byte_called, byte_turned, MakesNone, caller_by, called_by, map_by, jfn_by, byte_by, own_by}
 use Rattle.plain_units.specs.declared.channel.TheConstants.{ILLEGAL_INSTRUCTION}
 use Rattle.std.proofs.lemmas.Cmp.{eq_by_cmp_equiv}
 
@@ -156,11 +157,18 @@ module _ (s : PlainState) (w : IsWholeMachine s) (name : ForkName) (f : Fork) (t
       let whole = interrupt_called_whole s w f (own_terminal fits) number in
       caller_by Leaves s f.name.tty (interrupt_left s f number) f.name (λ g. fork_behind g e) (out_of e) (λ g is. called_with (interrupt_called s f number) whole g is (fork_behind g e) (behind_same g e)) whole
 
+  -- a call on the clock changes the fork that called
+  clock_whole : (number : ℕ) → Leaves (clock_turned s f number)
+  clock_whole number =
+      let e = (clock_came s f number).end in
+      let whole = clock_called_whole s w f number in
+      clock_by Leaves s f number (λ g is. called_with (clock_called s f number) whole g is (fork_behind g e) (behind_same g e)) whole
+
   none_whole : Leaves (none_turned s f)
   none_whole = caller_by Leaves s f.name.tty (parts_of s) f.name (λ g. posted g ILLEGAL_INSTRUCTION) None (λ g is. called_with s w g is (posted g ILLEGAL_INSTRUCTION) (posted_same g ILLEGAL_INSTRUCTION)) w
 
   called_whole : (number : ℕ) → IsForkName name → Leaves (called s f number)
-  called_whole number fits = called_by Leaves s f number own_whole (fork_turned_whole number fits) (interrupt_whole number fits) (map_whole_turn number fits) (jfn_whole number fits) (byte_whole byte_calls (bytes_fit s w f) number fits) (byte_whole string_calls (strings_fit s w f) number fits) none_whole
+  called_whole number fits = called_by Leaves s f number own_whole (fork_turned_whole number fits) (interrupt_whole number fits) (clock_whole number) (map_whole_turn number fits) (jfn_whole number fits) (byte_whole byte_calls (bytes_fit s w f) number fits) (byte_whole string_calls (strings_fit s w f) number fits) none_whole
 
 -- a unit that goes through leaves its fork's name and slot
 went_whole : (s : PlainState) (w : IsWholeMachine s) (name : ForkName) (f : Fork) → map.get s.forks name ≡ Some f → (q : NamedPages) → IsWholeMachine (record s { pages = q }) → (e : Ending) → Leaves (went s f q e)
@@ -288,7 +296,7 @@ module _ (s : PlainState) (w : IsWholeMachine s) where
   outer_whole (Examine t serial address) fits = job_effect t _ (λ j is.
       looked_up Leaves (examined_in s t serial address) _ (map.get s.forks (record { tty = t; serial = serial })) (λ f there. looked_up Leaves _ _ (word_seen s f address) (λ word seen. w) (λ none. w)) (λ none. w))
   outer_whole (Forks t) fits = job_effect t _ (λ j is. w)
-  outer_whole Tick fits = record { pages = w.pages; room = w.room; files = w.files; forks = w.forks; tree = w.tree; given = w.given; homes = w.homes; tops = w.tops; own_tops = w.own_tops }
+  outer_whole Tick fits = let v = sleepers_whole s w (s.clock + 1) in record { pages = v.pages; room = v.room; files = v.files; forks = v.forks; tree = v.tree; given = v.given; homes = v.homes; tops = v.tops; own_tops = v.own_tops }
   outer_whole (Trace on) fits = record { pages = w.pages; room = w.room; files = w.files; forks = w.forks; tree = w.tree; given = w.given; homes = w.homes; tops = w.tops; own_tops = w.own_tops }
   outer_whole (TypeIn t text) fits = job_effect t _ (λ j is. typed_whole s w t text)
   outer_whole (File name) fits = file_whole name fits

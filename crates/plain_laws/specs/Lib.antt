@@ -12,3 +12,4 @@ pub mod TypeLaws
 pub mod CommandLaws
 pub mod StringLaws
 pub mod InterruptLaws
+pub mod ClockLaws

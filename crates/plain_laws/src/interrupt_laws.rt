@@ -19,7 +19,7 @@ ghost use Rattle.plain_model.specs.declared.fork.Psi.{Psi as APsi};
 ghost use Rattle.plain_model.specs.declared.interrupt.Delivery.{Delivery as ADelivery};
 ghost use Rattle.plain_model.specs.declared.interrupt.Found.{Found as AFound};
 ghost use Rattle.plain_model.specs.declared.interrupt.TheConstants.{CHANNELS};
-ghost use Rattle.plain_model.specs.Calls.{Asked, fork_behind, no_files, turn_on};
+ghost use Rattle.plain_model.specs.Calls.{Asked, fork_behind, no_files, turn_on, with_wait};
 ghost use Rattle.plain_model.specs.Forks.{with_fork, with_status};
 ghost use Rattle.plain_model.specs.Inspections.{delivered, interrupted_word, is_interrupted, is_wanted, least_level, with_level};
 ghost use Rattle.plain_model.specs.InterruptCalls.{debrk, restored, without_level};
@@ -96,7 +96,7 @@ pub fn debrk_undoes_a_delivery()
 /// A fork that waits stays on its call. A channel that it takes has it run again, with its registers as they were; so the
 /// word that a delivery stores has the address of the call, to which DEBRK returns, and the call is made again.
 pub fn waiting_calls_are_made_again()
-    ensures waits { (f : AFork) (on : AWaitOn) → fork_behind {C = InterruptChange} f (Waits on) ≡ with_status f (ForkStatus.Wait on) }
+    ensures waits { (f : AFork) (on : AWaitOn) → (fork_behind {C = InterruptChange} f (Waits on) ≡ with_wait f on) × ((with_wait f on).body.status ≡ ForkStatus.Wait on) × ((with_wait f on).body.regs ≡ f.body.regs) }
     ensures wakes { (f : AFork) (on : AWaitOn) (channel : ℕ) → f.body.status ≡ ForkStatus.Wait on → listens f.body.psi channel ≡ true → ((posted f channel).body.status ≡ ForkStatus.Run) × ((posted f channel).body.regs ≡ f.body.regs) }
     ensures again { (f : AFork) (channel : ℕ) (now : ARegs) → f.body.regs.pc < 2 ^ 18 → (restored now (interrupted_word (posted f channel).body.regs)).pc ≡ f.body.regs.pc }
 {}

@@ -1,9 +1,10 @@
-//! Laws of the plain machine: what its definitions say of pages, of forks, of interrupts, of what users type and of runs, in the words of
-//! those who use them, and two scripts computed. To the layers above they are facts to cite; nothing that runs stands on them.
+//! Laws of the plain machine: what its definitions say of pages, of forks, of interrupts, of the clock, of what users type and of runs, in
+//! the words of those who use them, and two scripts computed. To the layers above they are facts to cite; nothing that runs stands on them.
 //! Stands on `plain_model`, on `fork_tree` for the law of trees, on `ka10_bytes` for bytes of words, and on the definitions below it.
 #![tactic(auto)]
 
 mod byte_laws;
+mod clock_laws;
 mod command_laws;
 mod entries;
 mod example;
@@ -19,6 +20,10 @@ mod type_laws;
 pub use byte_laws::{
     bytes_are_read, bytes_are_read_back, bytes_are_written, characters_come_in_their_order,
     files_reach_the_furthest_byte, positions_are_set_and_told,
+};
+pub use clock_laws::{
+    frozen_sleepers_do_not_run, interrupted_sleeps_begin_anew, sleeps_are_over_at_their_moment,
+    the_clock_and_the_units_are_told, ticks_awake_who_is_due,
 };
 pub use command_laws::{
     files_in_use_are_not_deleted, nothing_is_left_of_who_logs_out, programs_are_run_from_files,

@@ -1,14 +1,17 @@
 -- A turn of a call in the whole state, by its family: what it leaves with the fork that called.
 use Rattle.std.proofs.Common.{◌≡◌, ℕ, List, Option, None, Some, Result, Ok, Err, refl, sym, ◌∙◌, ap, subst, Ordering}
-use Rattle.std.specs.Prelude.{◌==◌}
+use Rattle.std.specs.Prelude.{◌==◌, ◌%◌, ◌^◌}
 use Rattle.std.specs.Option.{option_map}
 use Rattle.std.specs.FinMap as map
-use Rattle.plain_model.specs.declared.call.TheConstants.{GETER, PBOUT}
+use Rattle.plain_model.specs.declared.call.TheConstants.{DISMS, GETER, PBOUT, RUNTM, TIME}
 use Rattle.plain_units.specs.declared.channel.TheConstants.{ILLEGAL_INSTRUCTION}
 use Rattle.plain_model.specs.declared.call.End.{End}
 use Rattle.plain_model.specs.declared.call.End.TheVariants.{Done, Waits, Halts, Refused, Failed, Trap}
 use Rattle.plain_model.specs.declared.call.ForkChange.{ForkChange}
 use Rattle.plain_model.specs.declared.call.InterruptChange.{InterruptChange}
+use Rattle.plain_model.specs.declared.call.SleepChange.{SleepChange}
+use Rattle.plain_model.specs.declared.call.SleepChange.TheVariants.{Nothing}
+use Rattle.plain_units.specs.Deeds.{in_ac}
 use Rattle.plain_model.specs.declared.call.MapChange.{MapChange}
 use Rattle.plain_model.specs.declared.call.FileChange.{FileChange}
 use Rattle.plain_model.specs.declared.call.ByteChange.{ByteChange}
@@ -28,7 +31,9 @@ use Rattle.plain_model.specs.ForkCalls.{own_named, fork_calls, fork_changed}
 use Rattle.plain_model.specs.ByteCalls.{ByteRows, byte_calls, byte_changed}
 use Rattle.plain_model.specs.StringCalls.{string_calls}
 use Rattle.plain_model.specs.InterruptCalls.{interrupt_calls, interrupt_changed}
-use Rattle.plain_model.specs.Families.{Parts, behind, asks, came_of, bytes_changed, codes_behind, on_bytes, forking, interrupting, mapping, opening, prints, own_changed, print_calls, forks_changed, interrupts_changed, pages_changed, jfns_changed}
+use Rattle.plain_model.specs.ClockCalls.{ClockAsked, clock_calls, clock_changed, disms, runtm, sleep_of, sleeping, time}
+use Rattle.plain_model.specs.Trees.{PlainTree, tree_of}
+use Rattle.plain_model.specs.Families.{Parts, sleeps_changed, timing, behind, asks, came_of, bytes_changed, codes_behind, on_bytes, forking, interrupting, mapping, opening, prints, own_changed, print_calls, forks_changed, interrupts_changed, pages_changed, jfns_changed}
 use Rattle.plain_model.specs.Unit.{Effect, parts_of, with_parts, turned, called}
 use Rattle.std.proofs.lemmas.Bool.{cond_both}
 
@@ -57,6 +62,19 @@ interrupt_called s f number = with_parts s (interrupt_left s f number)
 
 abbrev pub interrupt_turned : PlainState → Fork → ℕ → Effect
 interrupt_turned s f number = turned s f.name.tty (behind interrupts_changed (parts_of s) f.name (interrupt_came s f number))
+
+-- so of a call on the clock, which changes forks alone
+abbrev pub clock_came : PlainState → Fork → ℕ → Came name_cmp SleepChange
+clock_came s f number = came_of timing (parts_of s) f.name f.body.regs number
+
+abbrev pub clock_left : PlainState → Fork → ℕ → PlainTree
+clock_left s f number = parts_behind clock_changed (tree_of s) (tree_of s) (clock_came s f number).end
+
+abbrev pub clock_called : PlainState → Fork → ℕ → PlainState
+clock_called s f number = with_parts s (record (parts_of s) { tree = clock_left s f number })
+
+abbrev pub clock_turned : PlainState → Fork → ℕ → Effect
+clock_turned s f number = turned s f.name.tty (behind sleeps_changed (parts_of s) f.name (clock_came s f number))
 
 -- so of a call on maps
 abbrev pub map_came : PlainState → Fork → ℕ → Came name_cmp MapChange
@@ -170,6 +188,16 @@ module _ {K : Type 0} {file_cmp : K → K → Ordering} where
   interrupts_behind v q (Failed code) = refl
   interrupts_behind v q (Trap channel) = refl
 
+  -- a change of forks alone, behind a turn that makes no page
+  pub sleeps_behind : (v : Parts file_cmp) (e : End SleepChange) → parts_behind sleeps_changed v v e ≡ record v { tree = parts_behind clock_changed v.tree v.tree e }
+  unfolding parts_behind
+  sleeps_behind v (Done change regs out post) = refl
+  sleeps_behind v (Waits on) = refl
+  sleeps_behind v Halts = refl
+  sleeps_behind v (Refused code) = refl
+  sleeps_behind v (Failed code) = refl
+  sleeps_behind v (Trap channel) = refl
+
   -- a change of pages, files and jobs
   pub jfns_behind : (key_of : List ℕ → K) (v : Parts file_cmp) (q : PlainPages file_cmp) (e : End FileChange)
       → parts_behind (jfns_changed key_of) v (record v { pages = q }) e ≡ with_filed v (parts_behind (file_changed key_of) (filed_of v) (record (filed_of v) { pages = q }) e)
@@ -221,19 +249,29 @@ module _ {K : Type 0} {file_cmp : K → K → Ordering} where
     unfolding turn_on
     file_makes_none number a = cond_both (GETER == number) (geter a) _ MakesNone (λ is. given_none (own_named a) (λ g. ends (returning tt (with_ac a.regs 2 g.body.error))) (λ g. refl)) (λ n. refl)
 
+    -- nor one on the clock
+    pub clock_makes_none : (number : ℕ) (a : ClockAsked) → MakesNone (numbered clock_calls number a)
+    unfolding turn_on
+    clock_makes_none number a =
+        cond_both (TIME == number) (time a) _ MakesNone (λ is. refl) (λ n1.
+        cond_both (RUNTM == number) (runtm a) _ MakesNone (λ is. given_none (own_named a.call) (λ g. ends (returning Nothing (with_ac a.call.regs 1 (g.body.units % 2 ^ 36)))) (λ g. refl)) (λ n2.
+        cond_both (DISMS == number) (disms a) _ MakesNone
+        (λ is. cond_both (in_ac a.call.regs 1 == 0) (ends (returning Nothing a.call.regs)) (ends (sleeping a (sleep_of a.call))) MakesNone (λ none. refl) (λ some. refl)) (λ n3. refl)))
+
 module _ (Holds : Effect → Type 0) (s : PlainState) (f : Fork) where
   -- a call is one of a family, or none; each turn that changes the fork that called alone is looked at in one way
-  pub called_by : (number : ℕ) → ((t : Turn ⊥ (Unit {0})) → MakesNone s.pages t → Holds (own_turned s f t)) → Holds (fork_turned s f number) → Holds (interrupt_turned s f number) → Holds (map_turned s f number) → Holds (jfn_turned s f number) → Holds (byte_turned s f byte_calls number) → Holds (byte_turned s f string_calls number) → Holds (none_turned s f)
+  pub called_by : (number : ℕ) → ((t : Turn ⊥ (Unit {0})) → MakesNone s.pages t → Holds (own_turned s f t)) → Holds (fork_turned s f number) → Holds (interrupt_turned s f number) → Holds (clock_turned s f number) → Holds (map_turned s f number) → Holds (jfn_turned s f number) → Holds (byte_turned s f byte_calls number) → Holds (byte_turned s f string_calls number) → Holds (none_turned s f)
       → Holds (called s f number)
-  called_by number own forks interrupts maps jfns bytes_of strings_of none =
+  called_by number own forks interrupts clocks maps jfns bytes_of strings_of none =
       cond_both (is_among print_calls number) _ _ (λ r. Holds (turned s f.name.tty r)) (λ is. own (numbered print_calls number f.body.regs) (print_makes_none s.pages number f.body.regs)) (λ n1.
       cond_both (is_among fork_calls number) _ _ (λ r. Holds (turned s f.name.tty r)) (λ is. forks) (λ n2.
       cond_both (is_among interrupt_calls number) _ _ (λ r. Holds (turned s f.name.tty r)) (λ is. interrupts) (λ n8.
+      cond_both (is_among clock_calls number) _ _ (λ r. Holds (turned s f.name.tty r)) (λ is. clocks) (λ n9.
       cond_both (is_among map_calls number) _ _ (λ r. Holds (turned s f.name.tty r)) (λ is. maps) (λ n3.
       cond_both (is_among file_calls number) _ _ (λ r. Holds (turned s f.name.tty r)) (λ is. own (file_call number (asks (parts_of s) f.name f.body.regs)) (file_makes_none s.pages number (asks (parts_of s) f.name f.body.regs))) (λ n4.
       cond_both (is_among jfn_calls number) _ _ (λ r. Holds (turned s f.name.tty r)) (λ is. jfns) (λ n5.
       cond_both (is_among byte_calls number) _ _ (λ r. Holds (turned s f.name.tty r)) (λ is. bytes_of) (λ n6.
-      cond_both (is_among string_calls number) _ _ (λ r. Holds (turned s f.name.tty r)) (λ is. strings_of) (λ n7. none))))))))
+      cond_both (is_among string_calls number) _ _ (λ r. Holds (turned s f.name.tty r)) (λ is. strings_of) (λ n7. none)))))))))
 
   -- such a turn leaves the fork that called
   pub own_by : (t : Turn ⊥ (Unit {0})) → MakesNone s.pages t

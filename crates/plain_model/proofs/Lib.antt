@@ -4,6 +4,7 @@ pub mod FileNames
 pub mod Runs
 pub mod Values
 pub mod ForkMaps
+pub mod OtherJobs
 pub mod Calling
 pub mod Equations
 pub mod Turns

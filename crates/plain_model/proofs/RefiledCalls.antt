@@ -12,6 +12,8 @@ use Rattle.plain_model.specs.declared.call.End.{End}
 use Rattle.plain_model.specs.declared.call.End.TheVariants.{Done, Waits, Halts, Refused, Failed, Trap}
 use Rattle.plain_model.specs.declared.call.ForkChange.{ForkChange}
 use Rattle.plain_model.specs.declared.call.InterruptChange.{InterruptChange}
+use Rattle.plain_model.specs.declared.call.SleepChange.{SleepChange}
+use Rattle.plain_model.specs.ClockCalls.{clock_calls}
 use Rattle.plain_model.specs.InterruptCalls.{interrupt_calls}
 use Rattle.plain_model.specs.declared.call.MapChange.{MapChange}
 use Rattle.plain_model.specs.declared.call.MapChange.TheVariants.{Nothing, Unmap, Follow, Narrow, Map, Put, Drop}
@@ -43,7 +45,7 @@ use Rattle.plain_model.specs.FileCalls.{file_calls, deleted, file_changed, files
 use Rattle.plain_model.specs.ForkCalls.{ForkParts, fork_calls}
 use Rattle.plain_model.specs.ByteCalls.{ByteAsked, ByteRows, byte_calls, byte_changed, byte_page, files_reaching, input_at, pages_of, written}
 use Rattle.plain_model.specs.StringCalls.{string_calls}
-use Rattle.plain_model.specs.Families.{codes_behind, interrupts_changed, Parts, Turned, behind, call_turned, print_calls, own_changed, asks, asks_bytes, asks_jfns, asks_maps, bytes_changed, files_seen, names_seen, forks_changed, pages_changed, jfns_changed}
+use Rattle.plain_model.specs.Families.{asks_clock, codes_behind, interrupts_changed, sleeps_changed, Parts, Turned, behind, call_turned, print_calls, own_changed, asks, asks_bytes, asks_jfns, asks_maps, bytes_changed, files_seen, names_seen, forks_changed, pages_changed, jfns_changed}
 use Rattle.machine_names.proofs.OrderLemmas.{name_cmp_apart}
 use Rattle.plain_pages.proofs.Refiled.{NameAlike}
 use Rattle.plain_pages.proofs.FilesKept.{without_files}
@@ -69,7 +71,7 @@ AreHeld v = (t : Tty) (n : ℕ) (j : OpenFile) → map.get (held_at v.jobs t) n 
 
 -- the same parts, with the pages of files under other keys
 abbrev pub refiled_all : {K L : Type 0} {file_cmp : K → K → Ordering} (other_cmp : L → L → Ordering) → Files other_cmp → Parts file_cmp → Parts other_cmp
-refiled_all other_cmp files v = record { tree = v.tree; pages = refiled other_cmp v.pages files; files = v.files; jobs = v.jobs }
+refiled_all other_cmp files v = record { tree = v.tree; pages = refiled other_cmp v.pages files; files = v.files; jobs = v.jobs; clock = v.clock }
 
 abbrev pub refiled_turned : {K L : Type 0} {file_cmp : K → K → Ordering} (other_cmp : L → L → Ordering) → Files other_cmp → Turned file_cmp → Turned other_cmp
 refiled_turned other_cmp files r = record { parts = refiled_all other_cmp files r.parts; caller = r.caller; out = r.out }
@@ -325,6 +327,9 @@ module _ {K L : Type 0} {file_cmp : K → K → Ordering} {other_cmp : L → L �
     interrupt_step : (c : InterruptChange) (q : PlainPages file_cmp) → AreFiled file_cmp other_cmp key other_key (made_with q) files → StayFiled file_cmp other_cmp key other_key (made_with q) (interrupts_changed c (made_with q)) (interrupts_changed c (renewed (made_with q)))
     interrupt_step c q k = stay key other_key (made_with q) files k (interrupts_changed c (made_with q)) (interrupts_changed c (renewed (made_with q))) refl refl (λ name h. h)
 
+    sleep_step : (c : SleepChange) (q : PlainPages file_cmp) → AreFiled file_cmp other_cmp key other_key (made_with q) files → StayFiled file_cmp other_cmp key other_key (made_with q) (sleeps_changed c (made_with q)) (sleeps_changed c (renewed (made_with q)))
+    sleep_step c q k = stay key other_key (made_with q) files k (sleeps_changed c (made_with q)) (sleeps_changed c (renewed (made_with q))) refl refl (λ name h. h)
+
     -- two files are told apart by both kinds of keys, or by neither
     keys_tied : (a b : List ℕ) → IsThere v a → IsThere v b → eq_by_cmp other_cmp (other_key a) (other_key b) ≡ eq_by_cmp file_cmp (key a) (key b)
     keys_tied a b x y = by (eq_by_cmp other_cmp (other_key a) (other_key b)) (eq_by_cmp file_cmp (key a) (key b)) refl refl
@@ -413,10 +418,11 @@ module _ {K L : Type 0} {file_cmp : K → K → Ordering} {other_cmp : L → L �
         either (is_among print_calls number) _ _ _ _ (behind_turns own_changed own_changed own_step no_files no_files no_files_told (numbered print_calls number regs))
         (either (is_among fork_calls number) _ _ _ _ (behind_turns forks_changed forks_changed fork_step no_files no_files no_files_told (numbered fork_calls number (asks v who regs)))
         (either (is_among interrupt_calls number) _ _ _ _ (behind_turns interrupts_changed interrupts_changed interrupt_step no_files no_files no_files_told (numbered interrupt_calls number (asks v who regs)))
+        (either (is_among clock_calls number) _ _ _ _ (behind_turns sleeps_changed sleeps_changed sleep_step no_files no_files no_files_told (numbered clock_calls number (asks_clock v who regs)))
         (either (is_among map_calls number) _ _ _ _ (map_turns (numbered map_calls number (asks_maps v who regs)) (map_keeps (IsThere v) (asks_maps v who regs) (held who.tty) number))
         (either (is_among file_calls number) _ _ _ _ (behind_turns own_changed own_changed own_step no_files no_files no_files_told (numbered file_calls number (asks v who regs)))
         (either (is_among jfn_calls number) _ _ _ _
         (behind_turns (jfns_changed key) (jfns_changed other_key) (λ c q k. change_stays o apart other_o other_apart key other_key files (made_with q) k held c) (names_seen v who) (names_seen (renewed v) who) (record { names = λ name. refl; more = refl }) (numbered jfn_calls number (asks_jfns v who regs)))
         (either (is_among byte_calls number) _ _ _ _ (byte_turns byte_calls regs number held (byte_keeps (IsThere v) (asks_bytes key v who regs) (held who.tty) number))
         (either (is_among string_calls number) _ _ _ _ (byte_turns string_calls regs number held (string_keeps (IsThere v) (asks_bytes key v who regs) (held who.tty) number))
-        (turns other_cmp key other_key v v (renewed v) who (λ f. posted f ILLEGAL_INSTRUCTION) None as_it_was))))))))
+        (turns other_cmp key other_key v v (renewed v) who (λ f. posted f ILLEGAL_INSTRUCTION) None as_it_was)))))))))

@@ -20,6 +20,8 @@ use Rattle.plain_pages.specs.declared.map.MapEntry.{MapEntry}
 use Rattle.plain_pages.specs.declared.map.MapEntry.TheVariants.{Empty}
 use Rattle.plain_model.specs.declared.fork.Fork.{Fork}
 use Rattle.script_texts.specs.declared.status.ForkStatus.TheVariants.{Wait, Halted}
+use Rattle.script_texts.specs.declared.status.WaitOn.{WaitOn}
+use Rattle.script_texts.specs.declared.status.WaitOn.TheVariants as on
 use Rattle.plain_units.specs.declared.registers.Regs.{Regs}
 use Rattle.plain_pages.specs.PlainPages.{PlainPages}
 use Rattle.machine_names.specs.Orders.{FilePage}
@@ -173,11 +175,16 @@ failed_regs regs code = behind_call (with_ac regs 1 code)
 abbrev pub posted_if : Fork → Option ℕ → Fork
 posted_if f post = option_map_or (posted f) post f
 
+-- a fork that waits; one that sleeps knows to which moment
+abbrev pub with_wait : Fork → WaitOn → Fork
+with_wait f (on.Sleep moment) = record f { body = record f.body { status = Wait (on.Sleep moment); sleep = Some moment } }
+with_wait f what = with_status f (Wait what)
+
 -- the fork that called, behind a turn but for its count of units: a refused call leaves its error, and traps where it has one return;
 -- who waits stays on the call
 unfoldable pub fork_behind : {C : Type 0} → Fork → End C → Fork
 fork_behind f (Done change regs out post) = posted_if (with_regs f regs) post
-fork_behind f (Waits on) = with_status f (Wait on)
+fork_behind f (Waits what) = with_wait f what
 fork_behind f Halts = with_status (with_regs f (behind_call f.body.regs)) Halted
 fork_behind f (Failed code) = with_error (with_regs f (failed_regs f.body.regs code)) code
 fork_behind f (Refused code) = posted (with_error f code) ILLEGAL_INSTRUCTION

@@ -21,7 +21,7 @@ use Rattle.machine_names.specs.Orders.{name_cmp}
 use Rattle.plain_pages.specs.Room.{HasRoom}
 use Rattle.plain_pages.specs.References.{Referred, granted, denied, full, in_map, reference, stored, words_of, page_at, slot_at}
 use Rattle.plain_model.specs.Forks.{top_fork, change_fork, with_regs, forks_by_slot, fork_line}
-use Rattle.plain_model.specs.Trees.{tree_of, next_serial, next_name, with_made}
+use Rattle.plain_model.specs.Trees.{tree_of, next_serial, next_name, sleepers_awoken, with_made}
 use Rattle.plain_model.specs.Calls.{with_ac}
 use Rattle.plain_model.specs.Unit.{Effect, parts_of, refused, with_parts}
 use Rattle.plain_model.specs.FileEvents.{make_file, write_words, show_page}
@@ -94,15 +94,15 @@ examine s t serial address = at_job s t (λ j. option_map_or (examined_in s t se
 abbrev pub show_forks : PlainState → Tty → Effect
 show_forks s t = at_job s t (λ j. record { state = s; items = map (λ f. ForkLine (fork_line s.forks f)) (forks_by_slot s.forks t) })
 
--- TICK: the clock goes on by one
+-- TICK: the clock goes on by one, and each sleeper whose moment it reaches runs again
 abbrev pub tick : PlainState → Effect
-tick s = record { state = record s { clock = s.clock + 1 }; items = [] }
+tick s = let clock = s.clock + 1 in record { state = record s { clock = clock; forks = sleepers_awoken clock s.forks }; items = [] }
 
 -- TRACE: whether each unit is shown
 abbrev pub traced : PlainState → Bool → Effect
 traced s on = record { state = record s { trace = on }; items = [] }
 
--- an event as one step; those that are not built change nothing
+-- an event as one step; those that are none change nothing
 unfoldable pub outer : PlainState → Event → Effect
 outer s (Login t user) = login s t user
 outer s (TypeIn t text) = type_in s t text

@@ -10,6 +10,7 @@ use Rattle.plain_model.specs.declared.call.MapChange.{MapChange}
 use Rattle.plain_model.specs.declared.call.ForkChange.{ForkChange}
 use Rattle.plain_model.specs.declared.call.ForkChange.TheVariants.{Kill}
 use Rattle.plain_model.specs.declared.call.InterruptChange.{InterruptChange}
+use Rattle.plain_model.specs.declared.call.SleepChange.{SleepChange}
 use Rattle.plain_model.specs.declared.call.FileChange.{FileChange}
 use Rattle.plain_model.specs.declared.call.ByteChange.{ByteChange}
 use Rattle.machine_names.specs.declared.names.ForkName.{ForkName}
@@ -27,6 +28,7 @@ use Rattle.plain_model.specs.FileCalls.{Jobs, JfnAsked, file_calls, file_changed
 use Rattle.plain_model.specs.ForkCalls.{fork_calls, fork_changed}
 use Rattle.plain_model.specs.Forks.{ForkMap}
 use Rattle.plain_model.specs.InterruptCalls.{interrupt_calls, interrupt_changed, living_codes, with_codes_of}
+use Rattle.plain_model.specs.ClockCalls.{ClockAsked, clock_calls, clock_changed}
 use Rattle.plain_model.specs.ByteCalls.{ByteAsked, ByteRows, byte_calls, byte_changed, input_at, pages_of}
 use Rattle.plain_model.specs.StringCalls.{string_calls}
 
@@ -38,12 +40,14 @@ prints regs = ends (Done tt (behind_call regs) (Some (slice_index regs.ac 1 % 12
 abbrev pub print_calls : List (ℕ × (Regs → Turn ⊥ (Unit {0})))
 print_calls = (PBOUT, prints) ∷ []
 
--- what monitor calls see and change, whatever pages of files are known by: the forks, the pages, the files, and the jobs
+-- what monitor calls see and change, whatever pages of files are known by: the forks, the pages, the files, and the jobs; and the clock, which
+-- none changes
 pub record Parts {K : Type 0} (file_cmp : K → K → Ordering) : Type 0 where
   pub tree : PlainTree
   pub pages : PlainPages file_cmp
   pub files : map.FinMap name_cmp PlainFile
   pub jobs : Jobs
+  pub clock : ℕ
 
 -- A family of calls: the calls by their numbers, what they are asked with, what they are told of files, and what their changes
 -- leave of the parts.
@@ -122,6 +126,18 @@ module _ {K : Type 0} {file_cmp : K → K → Ordering} where
   abbrev pub interrupting : Family file_cmp ⊥ Asked InterruptChange
   interrupting = record { calls = interrupt_calls; asked = asks; sight = λ v who. no_files; changed = interrupts_changed }
 
+  -- what calls on the clock are asked with
+  abbrev pub asks_clock : Parts file_cmp → ForkName → Regs → ClockAsked
+  asks_clock v who regs = record { call = asks v who regs; clock = v.clock }
+
+  -- a call on the clock changes a fork's sleep
+  abbrev pub sleeps_changed : SleepChange → Parts file_cmp → Parts file_cmp
+  sleeps_changed change v = record v { tree = clock_changed change v.tree }
+
+  -- the calls on the clock
+  abbrev pub timing : Family file_cmp ⊥ ClockAsked SleepChange
+  timing = record { calls = clock_calls; asked = asks_clock; sight = λ v who. no_files; changed = sleeps_changed }
+
   -- the calls on files that change the fork that called alone
   abbrev pub filing : Family file_cmp ⊥ Asked (Unit {0})
   filing = record { calls = file_calls; asked = asks; sight = λ v who. no_files; changed = own_changed }
@@ -181,7 +197,7 @@ module _ {K : Type 0} {file_cmp : K → K → Ordering} where
 
     -- all families, where pages of files are under the keys of the files' names
     abbrev pub families : List (Offer file_cmp)
-    families = offered printing ∷ offered forking ∷ offered interrupting ∷ offered mapping ∷ offered filing ∷ offered opening ∷ offered bytes ∷ offered strings ∷ []
+    families = offered printing ∷ offered forking ∷ offered interrupting ∷ offered timing ∷ offered mapping ∷ offered filing ∷ offered opening ∷ offered bytes ∷ offered strings ∷ []
 
     -- a turn of a monitor call
     abbrev pub call_turned : Parts file_cmp → ForkName → Regs → ℕ → Turned file_cmp

@@ -1,5 +1,5 @@
 -- Forks: which can run, and how they begin and end (CACM paper, "Forks").
-use Rattle.std.specs.Prelude.{◌≡◌, ℕ, zero, suc, ◌+◌, List, Bool, true, false, not, ◌||◌, ◌&&◌, Option, None, Some, ◌==◌, find, replicate}
+use Rattle.std.specs.Prelude.{◌≡◌, ◌≢◌, ℕ, zero, suc, ◌+◌, List, Bool, true, false, not, ◌||◌, ◌&&◌, Option, None, Some, ◌==◌, find, replicate}
 use Rattle.std.specs.List.{filter_map, range_with_len}
 use Rattle.std.specs.Option.{option_map_or, option_and_then}
 use Rattle.std.specs.FinMap as map
@@ -54,6 +54,10 @@ runs_in forks name = option_map_or (can_run forks) (map.get forks name) false
 -- the same, as what holds
 abbrev pub IsRunnable : ForkMap → ForkName → Type 0
 IsRunnable forks name = runs_in forks name ≡ true
+
+-- each fork of another job than this is as it was
+abbrev pub OthersStay : Tty → ForkMap → ForkMap → Type 0
+OthersStay t old new = (name : ForkName) → name.tty.0 ≢ t.0 → map.get new name ≡ map.get old name
 
 -- a job's forks by slot
 abbrev pub forks_by_slot : ForkMap → Tty → List Fork

@@ -1,10 +1,9 @@
 -- The calls on pseudo-interrupts (JSYS Manual): SIR, EIR, DIR, AIC, DIC, IIC, DEBRK, ATI, DTI.
-use Rattle.std.specs.Prelude.{ℕ, ◌-◌, List, [], ◌∷◌, Bool, true, false, ◌||◌, ◌==◌, nat_le, if◌then◌else◌, Option, None, Some, Result, Ok, Err, is_some, slice_set}
+use Rattle.std.specs.Prelude.{ℕ, ◌-◌, List, [], ◌∷◌, Bool, true, false, ◌||◌, ◌==◌, nat_le, if◌then◌else◌, Option, None, Some, Ok, Err, is_some, slice_set}
 use Rattle.std.specs.Option.{option_map, option_map_or}
 use Rattle.std.specs.FinMap as map
 use Rattle.word36.specs.Words.{left, right}
 use Rattle.machine_names.specs.Orders.{same_fork}
-use Rattle.machine_names.specs.declared.names.ForkName.{ForkName}
 use Rattle.machine_names.specs.declared.names.Tty.{Tty}
 use Rattle.plain_typing.specs.declared.typed.TheConstants.{ASSIGNABLE_CODES, CONTROL_C}
 use Rattle.plain_units.specs.declared.channel.TheConstants.{ILLEGAL_INSTRUCTION}

@@ -11,6 +11,7 @@ pub mod Commands
 pub mod TypeEvents
 pub mod Events
 pub mod Run
+pub mod Passing
 pub mod Handles
 pub mod AccessWords
 pub mod Calls
@@ -22,5 +23,6 @@ pub mod FileCalls
 pub mod ByteCalls
 pub mod StringCalls
 pub mod InterruptCalls
+pub mod ClockCalls
 pub mod Families
 pub mod Moves

@@ -1,12 +1,12 @@
 -- The forks of all jobs with their serials: how a fork is made, is changed, and stops (CACM paper, "Forks").
-use Rattle.std.specs.Prelude.{ℕ, ◌+◌, List, [], ◌∷◌, Bool, Option, find, is_none, slice_index, slice_set}
+use Rattle.std.specs.Prelude.{ℕ, ◌+◌, List, [], ◌∷◌, Bool, Option, find, if◌then◌else◌, is_none, nat_le, slice_index, slice_set}
 use Rattle.std.specs.List.{range_with_len}
 use Rattle.std.specs.Option.{option_map_or}
 use Rattle.std.specs.FinMap as map
 use Rattle.plain_units.specs.declared.channel.TheConstants.{INFERIOR_ENDED}
 use Rattle.machine_names.specs.declared.names.Tty.{Tty}
 use Rattle.machine_names.specs.declared.names.ForkName.{ForkName}
-use Rattle.machine_names.specs.declared.names.TheConstants.{MOST_FORKS}
+use Rattle.machine_names.specs.declared.names.TheConstants.{MOST_FORKS, TERMINALS}
 use Rattle.plain_model.specs.declared.fork.Fork.{Fork}
 use Rattle.plain_model.specs.declared.fork.Body.{Body}
 use Rattle.script_texts.specs.declared.status.ForkStatus.{ForkStatus}
@@ -95,6 +95,27 @@ unread f = with_status f (without_read f.body.status)
 -- a character is stored for a job: whoever waits for one runs again
 unfoldable pub readers_woken : ForkMap → Tty → ForkMap
 readers_woken forks t = changed_in unread forks t (range_with_len 1 MOST_FORKS)
+
+-- who sleeps to a moment that the clock has reached runs again
+abbrev pub without_sleep : ℕ → ForkStatus → ForkStatus
+without_sleep clock (Wait (on.Sleep moment)) = if nat_le moment clock then Run else Wait (on.Sleep moment)
+without_sleep clock status = status
+
+abbrev pub awoken : ℕ → Fork → Fork
+awoken clock f = with_status f (without_sleep clock f.body.status)
+
+-- so of each fork of a job, by slot
+unfoldable pub job_awoken : ℕ → ForkMap → Tty → ForkMap
+job_awoken clock forks t = changed_in (awoken clock) forks t (range_with_len 1 MOST_FORKS)
+
+-- and of each fork of the jobs at these terminals, in order
+abbrev pub awoken_at : ℕ → ForkMap → List ℕ → ForkMap
+awoken_at clock forks [] = forks
+awoken_at clock forks (t ∷ ts) = awoken_at clock (job_awoken clock forks (record { 0 = t })) ts
+
+-- the clock has come to a moment: each sleeper whose moment it reaches runs again, by terminal and slot
+unfoldable pub sleepers_awoken : ℕ → ForkMap → ForkMap
+sleepers_awoken clock forks = awoken_at clock forks (range_with_len 0 TERMINALS)
 
 -- a fork has halted or was forced: who waits for a fork of its job runs again, and then its superior is told by a channel
 abbrev pub end_told : ForkMap → Fork → ForkMap

@@ -77,7 +77,7 @@ trapped s f channel = unit_ended s (posted f channel) (posted f channel).body.st
 
 -- the parts of the state that calls see and change, and the state with others
 abbrev pub parts_of : PlainState → Parts name_cmp
-parts_of s = record { tree = tree_of s; pages = s.pages; files = s.files; jobs = s.jobs }
+parts_of s = record { tree = tree_of s; pages = s.pages; files = s.files; jobs = s.jobs; clock = s.clock }
 
 abbrev pub with_parts : PlainState → Parts name_cmp → PlainState
 with_parts s v = record s { forks = v.tree.forks; fork_serials = v.tree.serials; pages = v.pages; files = v.files; jobs = v.jobs }

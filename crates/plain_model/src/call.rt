@@ -10,6 +10,12 @@ use word36::Word;
 /// Tells the last error of a fork.
 pub const GETER: u32 = 0o12;
 
+/// Tells the time.
+pub const TIME: u32 = 0o14;
+
+/// Tells how many units a fork has run.
+pub const RUNTM: u32 = 0o15;
+
 /// Takes a JFN for the file of a name, and may make that file.
 pub const GTJFN: u32 = 0o20;
 
@@ -124,8 +130,14 @@ pub const HFORK: u32 = 0o162;
 /// Waits for an inferior to end.
 pub const WFORK: u32 = 0o163;
 
+/// Sleeps for some ticks.
+pub const DISMS: u32 = 0o167;
+
 /// Halts the fork.
 pub const HALTF: u32 = 0o170;
+
+/// How many of the units in which TIME tells the time a tick has.
+pub const UNITS_A_TICK: u32 = 1;
 
 /// The handle by which a fork names itself (JSYS Manual, "Process handles").
 pub const FORK_SELF: u32 = 0o400000;
@@ -307,4 +319,12 @@ pub enum InterruptChange {
     Assign(u8, ForkName, u8),
     /// A code that is typed at a terminal is assigned to nothing.
     Unassign(Tty, u8),
+}
+
+/// What a turn of a call on the clock changes.
+#[derive(Clone, Copy)]
+pub enum SleepChange {
+    Nothing,
+    /// A fork, whose sleep is over, sleeps no more.
+    Awakes(ForkName),
 }

@@ -10,5 +10,5 @@ mod fork;
 pub mod interrupt;
 pub mod text;
 
-pub use bounds::start_bounds_hold;
+pub use bounds::{MOST_PASSED, start_bounds_hold};
 pub use fork::{Body, Fork, Psi, TerminalMode};

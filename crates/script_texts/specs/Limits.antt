@@ -1,4 +1,4 @@
--- The limits of events, items and steps, and which events are built.
+-- The limits of events, items and steps.
 use Rattle.std.specs.Prelude.{◌≡◌, ℕ, ◌+◌, ◌<◌, ◌≤◌, ◌^◌, length, drop, All}
 use Rattle.outside.specs.declared.TheConstants.{PAGE_WORDS}
 use Rattle.machine_names.specs.declared.names.TheConstants.{LAST_SERIAL, SPACE_PAGES}
@@ -44,11 +44,6 @@ FitsEvent (Examine t serial address) = IsTerminal t × (serial < 1000000) × IsA
 FitsEvent (Forks t) = IsTerminal t
 FitsEvent (Page name page) = IsFileName name × (page < SPACE_PAGES)
 FitsEvent (Trace on) = Unit {0}
-
--- the events that the machine acts on
-abbrev pub IsBuilt : Event → Type 0
-IsBuilt (Trace on) = ⊥
-IsBuilt e = Unit {0}
 
 -- an event that is one entry
 abbrev pub IsOuter : Event → Type 0

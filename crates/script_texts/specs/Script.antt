@@ -6,7 +6,7 @@ use Rattle.machine_names.specs.declared.names.Tty.{Tty}
 use Rattle.script_texts.specs.declared.event.Event.{Event}
 use Rattle.script_texts.specs.declared.event.Event.TheVariants.{Login, TypeIn, File, Words, Poke, Start, Run, Tick, Evict, Drum, Auto, Examine, Forks, Page, Trace}
 use Rattle.machine_names.specs.Bounds.{IsTerminal, IsDirName, IsFileName}
-use Rattle.script_texts.specs.Limits.{FitsRow, IsBuilt}
+use Rattle.script_texts.specs.Limits.{FitsRow}
 use Rattle.script_texts.specs.Follows.{Shape, silent, turns, single, shape_of}
 use Rattle.script_texts.specs.Texts.{field, on_or_off}
 
@@ -80,15 +80,10 @@ pub record IsShort (line : List ℕ) : Type 0 where
   pub short : length line ≤ 256
   pub no_feed : HasNoFeed line
 
--- a line spells an event that is built
-pub record Means (line : List ℕ) (event : Event) : Type 0 where
-  pub spelled : Spells line event
-  pub built : IsBuilt event
-
 -- a line is one of the script, and gives these events: one, or none
 abbrev pub Gives : List ℕ → List Event → Type 0
 Gives line events =
-    IsShort line × (((e : Event) × Means line e × (events ≡ e ∷ [])) ⊎ (IsBlank line × (events ≡ [])))
+    IsShort line × (((e : Event) × Spells line e × (events ≡ e ∷ [])) ⊎ (IsBlank line × (events ≡ [])))
 
 -- the bytes of lines, each with its line feed
 abbrev pub joined : List (List ℕ) → List ℕ
@@ -137,7 +132,7 @@ pub record IsScript (text : List ℕ) (events : List Event) : Type 0 where
 -- a line that is none of the script, or asks for too many turns behind those before it
 abbrev pub IsBadLine : ℕ → List ℕ → Type 0
 IsBadLine so_far line =
-    (256 < length line) ⊎ (((e : Event) → Means line e → ⊥) × (IsBlank line → ⊥)) ⊎ ((e : Event) × Means line e × (most_turns < so_far + turns_of e))
+    (256 < length line) ⊎ (((e : Event) → Spells line e → ⊥) × (IsBlank line → ⊥)) ⊎ ((e : Event) × Spells line e × (most_turns < so_far + turns_of e))
 
 -- Behind so many bytes and turns the text goes on with a bad line: one that ends within the limit, or
 -- a last one without a line feed.

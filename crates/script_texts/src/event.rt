@@ -1,6 +1,4 @@
 // What a script does to the machine, what the machine shows, and what it did.
-ghost use Rattle.std.specs.Prelude.{◌↔◌, IsTrue};
-ghost use Rattle.script_texts.specs.Limits.{IsBuilt};
 
 use crate::ForkStatus;
 use machine_names::{DirName, FileName, ForkName, Tty, TypedText};
@@ -46,18 +44,6 @@ pub enum Event {
     Page(FileName, u16),
     /// Whether each unit is shown; true is ON.
     Trace(bool),
-}
-
-impl Event {
-    /// Whether the event is one of those that the machine acts on.
-    pub fn is_built(&self) -> bool
-        ensures { IsTrue result ↔ IsBuilt self.now }
-    {
-        match self {
-            Event::Trace(_) => false,
-            _ => true,
-        }
-    }
 }
 
 /// A fork as the machine shows it: its name, its superior's serial or 0, its status, its own
