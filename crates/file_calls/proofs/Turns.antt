@@ -21,7 +21,8 @@ use Rattle.ka10_unit.specs.declared.taken.Stop.{Stop}
 use Rattle.ka10_unit.specs.declared.taken.Stop.TheVariants.{Trap, Need}
 use Rattle.ka10_unit.specs.Gathers.{framed}
 use Rattle.ka10_unit.specs.Taking.{IsTrap, StopNeeds}
-use Rattle.text_pointers.specs.declared.text.PointedText.{PointedText}
+use Rattle.arrayvec.specs.ArrayVec.{ArrayVec}
+use Rattle.text_pointers.specs.declared.reader.Reader.{Reader}
 use Rattle.text_pointers.specs.Reading.{ReadsText, bytes_of, pages_so_far}
 use Rattle.text_pointers.proofs.Turns.{text_goes, text_traps}
 use Rattle.file_tables.specs.declared.tables.FileTables.{FileTables}
@@ -136,18 +137,18 @@ module _ {P : Type 0} (means : PagesMeaning P) (old mid new : P) (tables tables'
   })
 
   -- a turn that goes on with its text, and then ends so
-  module _ (text : PointedText) (pages : (d : DrumWords) → means.fits old d → means.fits mid d × (means.plain mid d ≡ behind_end e (means.plain old d) (pages_so_far (framed means old d) text.reader)))
-      (reads : (d : DrumWords) → means.fits old d → ReadsText a.who (framed means old d) a.regs (in_ac a.regs 2) (Ok text))
-      (turn : (p : NumberedPages) → turn_on (names_of tables) p (named_turn a (bytes_of text.text)) ≡ record { end = e; pages = p }) (over : EndsOver means mid new tables tables' e) where
-    came : (d : DrumWords) → means.fits old d → turn_on (names_of tables) (means.plain old d) (gtjfn a) ≡ record { end = e; pages = pages_so_far (framed means old d) text.reader }
-    came d fits = text_goes (names_of tables) a.who a.regs (named_turn a) (framed means old d) (in_ac a.regs 2) text (reads d fits) ∙ turn (pages_so_far (framed means old d) text.reader)
+  module _ (reader : Reader) (text : Option (ArrayVec ℕ)) (pages : (d : DrumWords) → means.fits old d → means.fits mid d × (means.plain mid d ≡ behind_end e (means.plain old d) (pages_so_far (framed means old d) reader)))
+      (reads : (d : DrumWords) → means.fits old d → ReadsText a.who (framed means old d) a.regs (in_ac a.regs 2) reader (Ok text))
+      (turn : (p : NumberedPages) → turn_on (names_of tables) p (named_turn a (bytes_of text)) ≡ record { end = e; pages = p }) (over : EndsOver means mid new tables tables' e) where
+    came : (d : DrumWords) → means.fits old d → turn_on (names_of tables) (means.plain old d) (gtjfn a) ≡ record { end = e; pages = pages_so_far (framed means old d) reader }
+    came d fits = text_goes (names_of tables) a.who a.regs (named_turn a) (framed means old d) (in_ac a.regs 2) reader text (reads d fits) ∙ turn (pages_so_far (framed means old d) reader)
 
     pub text_over : Turned means old new tables tables' a result (gtjfn a)
     text_over = record {
       fits = λ d fits. over.fits d (pages d fits).0;
       comes = λ d jobs fits held.
           let p = means.plain old d in
-          let q = pages_so_far (framed means old d) text.reader in
+          let q = pages_so_far (framed means old d) reader in
           let key = key_in tables in
           let left : parts jobs tables' (means.plain new d) ≡ parts_behind (file_changed key) (parts jobs tables p) (parts jobs tables q) e =
           over.left d jobs (pages d fits).0 held ∙ ap (λ (r : NumberedPages). let w = parts jobs tables r in parts_behind (file_changed key) w w e) (pages d fits).1
@@ -159,8 +160,8 @@ module _ {P : Type 0} (means : PagesMeaning P) (old mid new : P) (tables tables'
 
 module _ {P : Type 0} (means : PagesMeaning P) (p : P) (tables : FileTables) (a : JfnAsked) where
   -- a turn whose reading stops
-  pub text_stops : (stop : Stop) → ((d : DrumWords) → means.fits p d → ReadsText a.who (framed means p d) a.regs (in_ac a.regs 2) (Err stop)) → Turned means p p tables tables a (stopped_by stop) (gtjfn a)
-  text_stops (Trap channel) reads = record {
+  pub text_stops : (reader : Reader) (stop : Stop) → ((d : DrumWords) → means.fits p d → ReadsText a.who (framed means p d) a.regs (in_ac a.regs 2) reader (Err stop)) → Turned means p p tables tables a (stopped_by stop) (gtjfn a)
+  text_stops reader (Trap channel) reads = record {
     fits = λ d fits. fits;
     comes = λ d jobs fits held.
         let v = parts jobs tables (means.plain p d) in
@@ -171,8 +172,8 @@ module _ {P : Type 0} (means : PagesMeaning P) (p : P) (tables : FileTables) (a 
   }
     where
       traps : (d : DrumWords) → means.fits p d → (turn_on (names_of tables) (means.plain p d) (gtjfn a)).end ≡ TrapEnd channel
-      traps d fits = text_traps (names_of tables) a.who a.regs (named_turn a) (framed means p d) (in_ac a.regs 2) channel (reads d fits)
-  text_stops (Need n) reads = record {
+      traps d fits = text_traps (names_of tables) a.who a.regs (named_turn a) (framed means p d) (in_ac a.regs 2) reader channel (reads d fits)
+  text_stops reader (Need n) reads = record {
     fits = λ d fits. fits;
     comes = λ d jobs fits held. inr (record { need = n; answered = refl; reason = (reads d fits).is; left = refl });
     numbers = λ d fits done. absurd done;

@@ -28,7 +28,7 @@ use page_contracts::Pages;
 use plain_model::call::{CLOSF, DELF, End, FileChange, GTJFN, OPENF, RLJFN};
 use plain_units::Regs;
 use plain_units::channel::ILLEGAL_INSTRUCTION;
-use text_pointers::{Reader, text_at};
+use text_pointers::{Reader, Scratch, text_at};
 use word36::Word;
 
 /// Whether a number is that of a call on JFNs.
@@ -120,6 +120,7 @@ fn gtjfn<P: Pages>(
     who: ForkName,
     user: &DirName,
     tables: &mut FileTables,
+    scratch: &mut Scratch,
     pages: &mut P,
 ) -> Answer
     requires regs { IsRegs regs.now }
@@ -133,11 +134,11 @@ fn gtjfn<P: Pages>(
     ensures grows { Grows P.means who.tty 128 pages.old pages.new }
     ensures regs { HasRegs result }
 {
-    match text_at(regs, pages, who, pointer(regs)) {
+    match text_at(scratch, regs, pages, who, pointer(regs)) {
         Err(stop) => stopped(stop),
-        Ok(read) => {
-            let ending = named(&read.text, regs, who, user, tables);
-            make_text(&ending, &read.reader, pages);
+        Ok(text) => {
+            let ending = named(&text, regs, who, user, tables);
+            make_text(&ending, &scratch.reader, pages);
             end(ending, who, tables, pages)
         }
     }
@@ -154,6 +155,7 @@ pub fn jfn_call<P: Pages>(
     who: ForkName,
     user: &DirName,
     tables: &mut FileTables,
+    scratch: &mut Scratch,
     pages: &mut P,
 ) -> Answer
     requires regs { IsRegs regs.now }
@@ -168,7 +170,7 @@ pub fn jfn_call<P: Pages>(
     ensures regs { HasRegs result }
 {
     if number == GTJFN {
-        return gtjfn(regs, who, user, tables, pages);
+        return gtjfn(regs, who, user, tables, scratch, pages);
     }
     let ending = ending(number, regs, who, tables);
     end(ending, who, tables, pages)

@@ -59,6 +59,19 @@ fn slot_of<P: Pages>(pages: &P, at: Place) -> Slot
     }
 }
 
+// A vector has the items of another.
+fn copy_items<T: Copy + Default, const MOST: usize>(
+    to: &mut ArrayVec<T, MOST>,
+    from: &ArrayVec<T, MOST>,
+)
+    ensures { to.new ≡ from.now }
+{
+    to.clear();
+    if to.try_extend_from_slice(from.as_slice()).is_err() {
+        unreachable!();
+    }
+}
+
 impl Gather {
     /// No reference, of an owner of what will be made.
     pub fn new(owner: Tty) -> Gather
@@ -88,6 +101,16 @@ impl Gather {
         self.references.clear();
         self.changes.clear();
         self.homes = 0;
+    }
+
+    /// The references of another. It costs as much as there are of them.
+    pub fn copy_from(&mut self, other: &Gather)
+        ensures { self.new ≡ other.now }
+    {
+        self.owner = other.owner;
+        copy_items(&mut self.references, &other.references);
+        copy_items(&mut self.changes, &other.changes);
+        self.homes = other.homes;
     }
 
     // One reference more, with what it makes.

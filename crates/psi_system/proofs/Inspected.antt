@@ -1,6 +1,6 @@
 -- The inspection of a fork, over pages of which some are in no frame, and over the plain ones.
 use Rattle.std.proofs.Common.{◌≡◌, ℕ, List, [], ◌∷◌, Option, None, refl, sym, ◌∙◌, ap, subst}
-use Rattle.std.specs.Prelude.{Result, Ok, Err}
+use Rattle.std.specs.Prelude.{Result, Ok, Err, IfOk}
 use Rattle.std.specs.Option.{option_map_or}
 use Rattle.std.specs.Ordering.{nat_cmp}
 use Rattle.machine_names.specs.declared.names.ForkName.{ForkName}
@@ -22,7 +22,6 @@ use Rattle.text_pointers.specs.Outcomes.{IsPlain, read_on, read_over, reads}
 use Rattle.text_pointers.specs.Reading.{Stands, pages_so_far}
 use Rattle.text_pointers.proofs.Plainly.{plain_of}
 use Rattle.text_pointers.proofs.Turns.{TurnsTo, turn_reads}
-use Rattle.psi_system.specs.declared.inspecting.Seen.{Seen}
 use Rattle.psi_system.specs.Inspecting.{CameOut, Delivers, Inspects, IsFork, ReadsOn, ended, fork_with}
 
 -- ---- it is of the body alone
@@ -44,63 +43,51 @@ module _ (f : Fork) (p : Framed) where
   ends_so what = ends (Done what f.body.regs None None)
 
   -- how the plain machine's comes out, by what its reading comes to
-  came_by : (result : Result Seen Stop) → IsPlain (ended p result) (read_on f.name f.body.regs (inspection f) p.pages) → CameOut p (inspected f p.pages) result
+  came_by : (new : Reader) (result : Result Inspected Stop) → IsPlain (ended p new result) (read_on f.name f.body.regs (inspection f) p.pages) → CameOut p new (inspected f p.pages) result
   unfolding turn_on
-  came_by (Ok s) plain = let came = subst (TurnsTo no_files f.name f.body.regs ends_so (inspected f p.pages)) plain (turn_reads no_files f.name f.body.regs ends_so (inspection f) p.pages) in
+  came_by new (Ok what) plain = let came = subst (TurnsTo no_files f.name f.body.regs ends_so (inspected f p.pages)) plain (turn_reads no_files f.name f.body.regs ends_so (inspection f) p.pages) in
       (ap (λ (c : Came nat_cmp Inspected). inspected_by c.end) came, ap (λ (c : Came nat_cmp Inspected). c.pages) came)
-  came_by (Err (Trap channel)) plain = ap inspected_by (subst (TurnsTo no_files f.name f.body.regs ends_so (inspected f p.pages)) plain (turn_reads no_files f.name f.body.regs ends_so (inspection f) p.pages))
-  came_by (Err (Need n)) plain = tt
+  came_by new (Err (Trap channel)) plain = ap inspected_by (subst (TurnsTo no_files f.name f.body.regs ends_so (inspected f p.pages)) plain (turn_reads no_files f.name f.body.regs ends_so (inspection f) p.pages))
+  came_by new (Err (Need n)) plain = tt
 
 -- a reader that refers to nothing leaves the pages as they are
 none_left : (p : Framed) (r : Reader) → r.gather.references ≡ [] → pages_so_far p r ≡ p.pages
 unfolding after_all
 none_left p r none = rw none refl
 
-module _ (name : ForkName) (body : Body) (p : Framed) where
-  abbrev Comes : Result Seen Stop → Type 0
-  Comes result = read_over name p body.regs (inspection (fork_with name body)) p.pages ≡ ended p result
+module _ (name : ForkName) (body : Body) (p : Framed) (new : Reader) where
+  abbrev Comes : Result Inspected Stop → Type 0
+  Comes result = read_over name p body.regs (inspection (fork_with name body)) p.pages ≡ ended p new result
 
-  of_fork : (result : Result Seen Stop) → Comes result → (f : Fork) → IsFork f name body → read_over name p body.regs (inspection f) p.pages ≡ ended p result
+  of_fork : (result : Result Inspected Stop) → Comes result → (f : Fork) → IsFork f name body → read_over name p body.regs (inspection f) p.pages ≡ ended p new result
   of_fork result is f h = ap (λ (r : Reading Inspected). read_over name p body.regs r p.pages) (inspection_same f (fork_with name body) h.body) ∙ is
 
-  came_of : (result : Result Seen Stop) → Comes result → (f : Fork) → IsFork f name body → CameOut p (inspected f p.pages) result
-  came_of result is f h = came_by f p result (plain_of f.name p f.body.regs (inspection f) p.pages (ended p result) own)
+  came_of : (result : Result Inspected Stop) → Comes result → (f : Fork) → IsFork f name body → CameOut p new (inspected f p.pages) result
+  came_of result is f h = came_by f p new result (plain_of f.name p f.body.regs (inspection f) p.pages (ended p new result) own)
     where
-      own : read_over f.name p f.body.regs (inspection f) p.pages ≡ ended p result
+      own : read_over f.name p f.body.regs (inspection f) p.pages ≡ ended p new result
       own = ap (λ (n : ForkName). read_over n p f.body.regs (inspection f) p.pages) h.name ∙ ap (λ (b : Body). read_over name p b.regs (inspection f) p.pages) h.body ∙ of_fork result is f h
 
   module _ (old : Reader) (none : old.gather.references ≡ []) (own : old.fork ≡ name) where
     -- what a reader of this fork's space that referred to nothing has read by its tables
-    abbrev ReadsAll : ForkName → Reader → Result Inspected Stop → Type 0
-    ReadsAll f new result = ReadsOn f p body.regs old new (inspection (fork_with f body)) (λ (i : Inspected). read i) result
+    abbrev ReadsAll : ForkName → Result Inspected Stop → Type 0
+    ReadsAll f result = ReadsOn f p body.regs old new (inspection (fork_with f body)) (λ (i : Inspected). read i) result
 
-    at_pages : (result : Result Seen Stop) → read_over name p body.regs (inspection (fork_with name body)) (pages_so_far p old) ≡ ended p result → Comes result
-    at_pages result is = ap (read_over name p body.regs (inspection (fork_with name body))) (sym (none_left p old none)) ∙ is
+    abbrev ComesHere : Result Inspected Stop → Type 0
+    ComesHere result = read_over name p body.regs (inspection (fork_with name body)) (pages_so_far p old) ≡ ended p new result
 
-    stops_at : (new : Reader) (e : Stop) → ReadsAll name new (Err e) → Inspects name body p (Err e)
-    stops_at new e h = record {
-      stands = λ s no. absurd (cc no);
-      opens = λ s no. absurd (cc no);
-      is = of_fork (Err e) (at_pages (Err e) h.is);
-      came = came_of (Err e) (at_pages (Err e) h.is);
-    }
-
-    ends_at : (new : Reader) (what : Inspected) → ReadsAll name new (Ok what) → Delivers name p new what → Inspects name body p (Ok (record { what = what; reader = new }))
+    comes : (result : Result Inspected Stop) → ReadsAll name result → ComesHere result
     unfolding reads
-    ends_at new what h opens =
-        let result : Result Seen Stop = Ok (record { what = what; reader = new }) in
-        record {
-          stands = λ s is. (let same : record { what = what; reader = new } ≡ s = cc is in subst (λ (x : Seen). Stands name p x.reader) same (h.stands what refl));
-          opens = λ s is. (let same : record { what = what; reader = new } ≡ s = cc is in subst (λ (x : Seen). Delivers name p x.reader x.what) same opens);
-          is = of_fork result (at_pages result h.is);
-          came = came_of result (at_pages result h.is);
-        }
+    comes (Ok what) h = h.is
+    comes (Err e) h = h.is
 
-    pub inspection_stops : (new : Reader) (e : Stop) → ReadsAll old.fork new (Err e) → Inspects name body p (Err e)
-    inspection_stops new e h = stops_at new e (subst (λ (f : ForkName). ReadsAll f new (Err e)) own h)
+    inspected_so : (result : Result Inspected Stop) → ReadsAll name result → ((what : Inspected) → result ≡ Ok what → Delivers name p new what) → Inspects name body p new result
+    inspected_so result h opens =
+        let is : Comes result = ap (read_over name p body.regs (inspection (fork_with name body))) (sym (none_left p old none)) ∙ comes result h in
+        record { stands = h.stands; opens = opens; is = of_fork result is; came = came_of result is }
 
-    pub inspection_ends : (new : Reader) (what : Inspected) → ReadsAll old.fork new (Ok what) → Delivers old.fork p new what → Inspects name body p (Ok (record { what = what; reader = new }))
-    inspection_ends new what h opens = ends_at new what (subst (λ (f : ForkName). ReadsAll f new (Ok what)) own h) (subst (λ (f : ForkName). Delivers f p new what) own opens)
+    pub is_inspected : (result : Result Inspected Stop) → ReadsAll old.fork result → IfOk result (Delivers old.fork p new) → Inspects name body p new result
+    is_inspected result h opens = inspected_so result (subst (λ (f : ForkName). ReadsAll f result) own h) (λ what is. subst (λ (f : ForkName). Delivers f p new what) own (subst (λ (r : Result Inspected Stop). IfOk r (Delivers old.fork p new)) is opens))
 
     -- such a reader stands
     pub none_stands : Gathers p.pages p.scene old.gather → old.page ≡ None → Stands old.fork p old

@@ -1,8 +1,6 @@
 -- What an inspection of a fork comes to, over pages of which some are in no frame, and over the plain ones.
-use Rattle.std.specs.Prelude.{◌≡◌, ℕ, Bool, false, not, ◌==◌, Option, None, Some, Result, Ok, Err, if◌then◌else◌, slice_set}
+use Rattle.std.specs.Prelude.{◌≡◌, ℕ, false, Option, None, Some, Result, Ok, Err, if◌then◌else◌, slice_set}
 use Rattle.std.specs.Ordering.{nat_cmp}
-use Rattle.word36.specs.Boolean.{boolean_of}
-use Rattle.word36.specs.declared.opcodes.TheConstants.{AND}
 use Rattle.machine_names.specs.declared.names.ForkName.{ForkName}
 use Rattle.page_contracts.specs.declared.answers.Need.{Need}
 use Rattle.plain_units.specs.declared.registers.Regs.{Regs}
@@ -19,11 +17,10 @@ use Rattle.plain_model.specs.Readings.{Reading}
 use Rattle.ka10_unit.specs.declared.taken.Stop.{Stop}
 use Rattle.ka10_unit.specs.declared.taken.Stop.TheVariants as stop
 use Rattle.ka10_unit.specs.Gathers.{Framed, weight}
-use Rattle.ka10_unit.specs.Taking.{IsOpenAt, stop_of}
+use Rattle.ka10_unit.specs.Taking.{IsOpenAt}
 use Rattle.text_pointers.specs.declared.reader.Reader.{Reader}
-use Rattle.text_pointers.specs.Outcomes.{Outcome, leaves, read_over, stops}
+use Rattle.text_pointers.specs.Outcomes.{Outcome, leaves, read_over}
 use Rattle.text_pointers.specs.Reading.{Stands, pages_so_far, went_on}
-use Rattle.psi_system.specs.declared.inspecting.Seen.{Seen}
 
 -- a fork of a name, with a body
 pub record IsFork (f : Fork) (who : ForkName) (has : Body) : Type 0 where
@@ -65,20 +62,19 @@ Delivers f p r other = Unit {0}
 -- ---- the whole
 
 -- what an inspection came to, over these pages
-abbrev pub ended : Framed → Result Seen Stop → Outcome Need Inspected
-ended p (Ok s) = leaves (pages_so_far p s.reader) s.what
-ended p (Err e) = stops (stop_of e)
+abbrev pub ended : Framed → Reader → Result Inspected Stop → Outcome Need Inspected
+ended p new result = went_on result (leaves (pages_so_far p new))
 
 -- how the plain machine's came out: so, on these pages; or it forces the fork; nothing is said where something is needed first
-abbrev pub CameOut : Framed → Came nat_cmp Inspected → Result Seen Stop → Type 0
-CameOut p came (Ok s) = (inspected_by came.end ≡ s.what) × (came.pages ≡ pages_so_far p s.reader)
-CameOut p came (Err (stop.Trap channel)) = inspected_by came.end ≡ inspected.Forces channel
-CameOut p came (Err (stop.Need n)) = Unit {0}
+abbrev pub CameOut : Framed → Reader → Came nat_cmp Inspected → Result Inspected Stop → Type 0
+CameOut p new came (Ok what) = (inspected_by came.end ≡ what) × (came.pages ≡ pages_so_far p new)
+CameOut p new came (Err (stop.Trap channel)) = inspected_by came.end ≡ inspected.Forces channel
+CameOut p new came (Err (stop.Need n)) = Unit {0}
 
 -- A FORK WAS INSPECTED: over these pages its reading comes to this, and over the plain ones where it needs nothing first; and the PC word
 -- of a channel that is delivered can be stored
-pub record Inspects (name : ForkName) (body : Body) (p : Framed) (result : Result Seen Stop) : Type 0 where
-  pub stands : (s : Seen) → result ≡ Ok s → Stands name p s.reader
-  pub opens : (s : Seen) → result ≡ Ok s → Delivers name p s.reader s.what
-  pub is : (f : Fork) → IsFork f name body → read_over name p body.regs (inspection f) p.pages ≡ ended p result
-  pub came : (f : Fork) → IsFork f name body → CameOut p (inspected_on f p.pages) result
+pub record Inspects (name : ForkName) (body : Body) (p : Framed) (new : Reader) (result : Result Inspected Stop) : Type 0 where
+  pub stands : (what : Inspected) → result ≡ Ok what → Stands name p new
+  pub opens : (what : Inspected) → result ≡ Ok what → Delivers name p new what
+  pub is : (f : Fork) → IsFork f name body → read_over name p body.regs (inspection f) p.pages ≡ ended p new result
+  pub came : (f : Fork) → IsFork f name body → CameOut p new (inspected_on f p.pages) result

@@ -3,6 +3,7 @@ ghost use Rattle.std.specs.Prelude.{◌≡◌, ◌+◌, ◌-◌, ◌≤◌, ◌<
 ghost use Rattle.page_contracts.specs.DrumWords.{DrumWords};
 ghost use Rattle.plain_model.specs.Inspections.{channel_at as channel_at_of, chosen as chosen_of, inspecting, inspection, level_at as level_at_of, wanted};
 ghost use Rattle.plain_model.specs.Readings.{read};
+ghost use Rattle.machine_names.specs.Bounds.{IsAddress};
 ghost use Rattle.plain_model.specs.declared.interrupt.Inspected.{Inspected as AnInspected};
 ghost use Rattle.plain_model.specs.declared.interrupt.Delivery.{Delivery as ADelivery};
 ghost use Rattle.ka10_unit.specs.Gathers.{Serves, framed, weight};
@@ -16,18 +17,10 @@ use ka10_unit::Stop;
 use machine_names::ForkName;
 use page_contracts::Pages;
 use plain_model::Body;
-use plain_model::interrupt::{CHANNELS, Delivery, Found, Inspected};
+use plain_model::interrupt::{CHANNELS, Delivery, Found, Inspected, LEVELS};
 use plain_units::Regs;
 use text_pointers::Reader;
 use word36::Word;
-
-/// What an inspection came to, and what it referred to.
-#[derive(Drop)]
-pub struct Seen {
-    pub what: Inspected,
-    /// The pages that this makes are to be made before a channel is delivered.
-    pub reader: Reader,
-}
 
 // The address of a channel's word, LEVTAB,,CHNTAB being the table.
 fn channel_at(table: Word, channel: u8) -> u32
@@ -37,11 +30,12 @@ fn channel_at(table: Word, channel: u8) -> u32
     table.right() + u32::from(channel) & Word::HALF_MASK
 }
 
-// The address of a level's word.
-fn level_at(table: Word, level: u8) -> u32
-    requires low { 1 ≤ level }
-    requires high { level ≤ 3 }
-    ensures { result ≡ level_at_of table level }
+/// The address of the word of a level, 1 to 3, in a table LEVTAB,,CHNTAB.
+pub fn level_at(table: Word, level: u8) -> u32
+    requires first { 1 ≤ level }
+    requires last { level ≤ LEVELS }
+    ensures at { result ≡ level_at_of table level }
+    ensures address { IsAddress result }
 {
     table.left() + u32::from(level - 1) & Word::HALF_MASK
 }
@@ -162,18 +156,20 @@ fn inspect_by<P: Pages>(reader: &mut Reader, body: &Body, pages: &P) -> Result<I
 /// be taken; or one is taken, and its PC word can be stored once the pages are made; or the fork is forced by a channel. Err: a
 /// reference to a word of the tables, or to that of the PC word, whose page, or a map on the way, is in no frame, or for which a page
 /// has to be made while no frame is free; or one that is denied, or for which the drum is full, which forces the fork by its channel.
-/// No page is made before `deliver`.
-pub fn inspect<P: Pages>(body: &Body, fork: ForkName, pages: &P) -> Result<Seen, Stop>
+/// The reader begins anew, and what it has referred to then is to be made before a channel is delivered: no page is made before `deliver`.
+pub fn inspect<P: Pages>(
+    reader: &mut Reader,
+    body: &Body,
+    fork: ForkName,
+    pages: &P,
+) -> Result<Inspected, Stop>
     requires serves { Serves P.means pages.now fork }
-    ensures fork { IfOk result (λ s. s.reader.fork ≡ fork) }
-    ensures fits { IfOk result (λ s. FitsInspected s.what) }
+    ensures fork { reader.new.fork ≡ fork }
+    ensures fits { IfOk result FitsInspected }
     ensures needs { IfErr result (StopsFor P.means pages.now) }
     ensures channel { IfErr result IsByReference }
-    ensures told { (d : DrumWords) → P.means.fits pages.now d → Inspects fork body.now (framed P.means pages.now d) result }
+    ensures told { (d : DrumWords) → P.means.fits pages.now d → Inspects fork body.now (framed P.means pages.now d) reader.new result }
 {
-    let mut reader = Reader::new(fork);
-    match inspect_by(&mut reader, body, pages) {
-        Err(stop) => Err(stop),
-        Ok(what) => Ok(Seen { what, reader }),
-    }
+    reader.restart(fork);
+    inspect_by(reader, body, pages)
 }

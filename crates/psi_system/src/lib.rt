@@ -11,7 +11,7 @@ mod laws;
 
 pub use channels::is_interrupted;
 pub use delivering::deliver;
-pub use inspecting::{Seen, inspect};
+pub use inspecting::{inspect, level_at};
 pub use laws::{
     delivered_channels_are_taken_up, levels_nest, nothing_is_looked_at_with_interrupts_off,
     the_least_level_is_delivered,

@@ -23,7 +23,7 @@ use Rattle.plain_pages.specs.Room.{live}
 use Rattle.plain_units.specs.Addressing.{address, address_within, indexed, is_indirect}
 use Rattle.plain_units.specs.Steps.{Asked, Ending, Progress, Steps, asked_at, begun, calls, done, call, ends as steps_end, goes, goes_on as steps_go, is_accumulator, keeps, need, pages_left, put_into, referred, refers, run, stopped, stops as asked_stops, trap, traps, widens, word_taken}
 use Rattle.plain_model.specs.Calls.{Turn, takes}
-use Rattle.plain_model.specs.PointedTexts.{TextReading, byte_at, bytes_from, full_pointer, pointing_to, text_at, with_text}
+use Rattle.plain_model.specs.PointedTexts.{byte_at, bytes_from, full_pointer, pointing_to, text_at, with_text}
 use Rattle.plain_model.specs.Readings.{Reading, ends_with, read, with_reading, words}
 use Rattle.page_gather.specs.declared.reference.Added.TheVariants as added
 use Rattle.page_gather.specs.Gathering.{answered, came_to, left_by, most_framed, page_or}

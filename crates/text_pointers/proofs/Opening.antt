@@ -10,7 +10,7 @@ use Rattle.plain_model.specs.Readings.{Reading, read, words, written_steps}
 use Rattle.page_contracts.specs.declared.answers.Need.{Need}
 use Rattle.ka10_unit.specs.declared.taken.Stop.{Stop}
 use Rattle.ka10_unit.specs.Gathers.{Framed, asks}
-use Rattle.ka10_unit.specs.Taking.{AsksAt, IsOpenAt, Plan, run_over, stop_of}
+use Rattle.ka10_unit.specs.Taking.{AsksAt, Plan, run_over, stop_of}
 use Rattle.text_pointers.specs.declared.reader.Reader.{Reader}
 use Rattle.text_pointers.specs.Outcomes.{Outcome, goes_on, leaves, read_over, reads, stops}
 use Rattle.text_pointers.specs.Reading.{OpensWord, Stands, one_opened, pages_so_far, went_on}

@@ -1,5 +1,5 @@
 -- The reading of a whole text: its address, and then its bytes.
-use Rattle.std.proofs.Common.{◌≡◌, ℕ, List, [], Option, None, refl, sym, ◌∙◌, subst}
+use Rattle.std.proofs.Common.{◌≡◌, ℕ, [], Option, None, sym, ◌∙◌, subst}
 use Rattle.std.specs.Prelude.{Result, Ok, Err}
 use Rattle.arrayvec.specs.ArrayVec.{ArrayVec}
 use Rattle.word36.specs.Bytes.{incremented}
@@ -13,9 +13,8 @@ use Rattle.ka10_unit.specs.Gathers.{Framed}
 use Rattle.ka10_unit.specs.Planning.{reached}
 use Rattle.ka10_unit.specs.Taking.{Follows}
 use Rattle.text_pointers.specs.declared.reader.Reader.{Reader}
-use Rattle.text_pointers.specs.declared.text.PointedText.{PointedText}
 use Rattle.text_pointers.specs.Outcomes.{read_over}
-use Rattle.text_pointers.specs.Reading.{ReadsBytes, ReadsText, Stands, ended}
+use Rattle.text_pointers.specs.Reading.{ReadsBytes, ReadsText, Stands, came_to}
 use Rattle.text_pointers.proofs.AddressReads.{address_goes, address_stops}
 use Rattle.text_pointers.proofs.Plainly.{plain_of}
 
@@ -28,21 +27,18 @@ module _ (f : ForkName) (p : Framed) (regs : Regs) (pointer : ℕ) where
   abbrev Rest : ℕ → TextReading
   Rest e = bytes_from 40 regs (pointing_to First e) []
 
-  text_as : (result : Result PointedText Stop) → ((t : PointedText) → result ≡ Ok t → Stands f p t.reader) → read_over f p regs (text_at regs pointer) p.pages ≡ ended p result → ReadsText f p regs pointer result
-  text_as result stands is = record { stands = stands; is = is; plain = plain_of f p regs (text_at regs pointer) p.pages (ended p result) is }
+  text_as : (new : Reader) (result : Result (Option (ArrayVec ℕ)) Stop) → ((text : Option (ArrayVec ℕ)) → result ≡ Ok text → Stands f p new) → read_over f p regs (text_at regs pointer) p.pages ≡ came_to p new result → ReadsText f p regs pointer new result
+  text_as new result stands is = record { stands = stands; is = is; plain = plain_of f p regs (text_at regs pointer) p.pages (came_to p new result) is }
 
   module _ (none taken : Taken) (gather : none.gather.references ≡ []) (refs : none.refs.items ≡ []) (kept : none.kept ≡ None) where
     -- the address stops it
-    pub text_address_stops : (e : Stop) → Follows {A = Address} f p regs.ac none taken (reached regs.ac First) (Err e) → ReadsText f p regs pointer (Err e)
-    text_address_stops e h = text_as (Err e) (λ t no. absurd (cc no)) (address_stops f p regs First Rest none taken gather refs kept e h)
+    pub text_address_stops : (r : Reader) (e : Stop) → Follows {A = Address} f p regs.ac none taken (reached regs.ac First) (Err e) → ReadsText f p regs pointer r (Err e)
+    text_address_stops r e h = text_as r (Err e) (λ text no. absurd (cc no)) (address_stops f p regs First Rest none taken gather refs kept e h)
 
     module _ (a : Address) (none_kept : taken.kept ≡ None) (h : Follows f p regs.ac none taken (reached regs.ac First) (Ok a)) (r : Reader) (of_taken : r.gather ≡ taken.gather) where
-      pub bytes_stop : (new : Reader) (e : Stop) → ReadsBytes f p regs r new (pointing_to First a.e) (Err e) → ReadsText f p regs pointer (Err e)
-      bytes_stop new e b = text_as (Err e) (λ t no. absurd (cc no)) (address_goes f p regs First Rest none taken gather refs kept a none_kept h r of_taken ∙ b.is)
-
-      pub bytes_end : (new : Reader) (text : Option (ArrayVec ℕ)) → ReadsBytes f p regs r new (pointing_to First a.e) (Ok text) → ReadsText f p regs pointer (Ok (record { text = text; reader = new }))
-      bytes_end new text b = text_as (Ok (record { text = text; reader = new })) (λ t is. (let same : record { text = text; reader = new } ≡ t = cc is in subst (λ (x : PointedText). Stands f p x.reader) same (b.stands text refl)))
-          (address_goes f p regs First Rest none taken gather refs kept a none_kept h r of_taken ∙ b.is)
+      -- so it is as its bytes are
+      pub bytes_end : (new : Reader) (result : Result (Option (ArrayVec ℕ)) Stop) → ReadsBytes f p regs r new (pointing_to First a.e) result → ReadsText f p regs pointer new result
+      bytes_end new result b = text_as new result b.stands (address_goes f p regs First Rest none taken gather refs kept a none_kept h r of_taken ∙ b.is)
 
 -- the bytes that the reader's fork reads a fork reads that it stands for
 pub bytes_by : (f : ForkName) (p : Framed) (regs : Regs) (old new : Reader) (first : ℕ) (result : Result (Option (ArrayVec ℕ)) Stop) → Stands f p old → (Stands old.fork p old → ReadsBytes old.fork p regs old new first result) → ReadsBytes f p regs old new first result

@@ -2,6 +2,7 @@
 use Rattle.std.proofs.Common.{◌≡◌, ℕ, List, Option, refl, subst}
 use Rattle.std.specs.Prelude.{Ok, Err, slice_index}
 use Rattle.std.specs.Ordering.{nat_cmp}
+use Rattle.arrayvec.specs.ArrayVec.{ArrayVec}
 use Rattle.plain_model.specs.declared.call.End.TheVariants.{Trap as TrapEnd}
 use Rattle.machine_names.specs.declared.names.ForkName.{ForkName}
 use Rattle.plain_units.specs.declared.registers.Regs.{Regs}
@@ -14,7 +15,7 @@ use Rattle.plain_model.specs.Readings.{Reading, read, with_reading, words}
 use Rattle.ka10_unit.specs.declared.taken.Stop.TheVariants.{Trap}
 use Rattle.ka10_unit.specs.Gathers.{Framed}
 use Rattle.text_pointers.specs.declared.byte.PointedByte.{PointedByte}
-use Rattle.text_pointers.specs.declared.text.PointedText.{PointedText}
+use Rattle.text_pointers.specs.declared.reader.Reader.{Reader}
 use Rattle.text_pointers.specs.Outcomes.{Outcome, leaves, goes_on, read_on, reads, stops}
 use Rattle.text_pointers.specs.Reading.{ReadsByte, ReadsText, bytes_of, pages_so_far}
 
@@ -40,12 +41,12 @@ module _ {F C A : Type 0} (sight : Sight F ℕ) (f : ForkName) (regs : Regs) (ne
 module _ {F C : Type 0} (sight : Sight F ℕ) (f : ForkName) (regs : Regs) where
   module _ (next : Option (List ℕ) → Turn F C) (p : Framed) (pointer : ℕ) where
     -- it goes on with the text
-    pub text_goes : (t : PointedText) → ReadsText f p regs pointer (Ok t) → turn_on sight p.pages (with_text f regs pointer next) ≡ turn_on sight (pages_so_far p t.reader) (next (bytes_of t.text))
-    text_goes t h = subst (TurnsTo sight f regs next (turn_on sight p.pages (with_text f regs pointer next))) h.plain (turn_reads sight f regs next (text_at regs pointer) p.pages)
+    pub text_goes : (r : Reader) (text : Option (ArrayVec ℕ)) → ReadsText f p regs pointer r (Ok text) → turn_on sight p.pages (with_text f regs pointer next) ≡ turn_on sight (pages_so_far p r) (next (bytes_of text))
+    text_goes r text h = subst (TurnsTo sight f regs next (turn_on sight p.pages (with_text f regs pointer next))) h.plain (turn_reads sight f regs next (text_at regs pointer) p.pages)
 
     -- it traps
-    pub text_traps : (channel : ℕ) → ReadsText f p regs pointer (Err (Trap channel)) → (turn_on sight p.pages (with_text f regs pointer next)).end ≡ TrapEnd channel
-    text_traps channel h = subst (TurnsTo sight f regs next (turn_on sight p.pages (with_text f regs pointer next))) h.plain (turn_reads sight f regs next (text_at regs pointer) p.pages)
+    pub text_traps : (r : Reader) (channel : ℕ) → ReadsText f p regs pointer r (Err (Trap channel)) → (turn_on sight p.pages (with_text f regs pointer next)).end ≡ TrapEnd channel
+    text_traps r channel h = subst (TurnsTo sight f regs next (turn_on sight p.pages (with_text f regs pointer next))) h.plain (turn_reads sight f regs next (text_at regs pointer) p.pages)
 
   module _ (next : ℕ → Turn F C) (p : Framed) (pointer : ℕ) where
     -- it goes on with the byte

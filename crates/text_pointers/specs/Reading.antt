@@ -22,7 +22,6 @@ use Rattle.ka10_unit.specs.Gathers.{Framed, asks, weight}
 use Rattle.ka10_unit.specs.Taking.{IsOpenAt, IsTrap, StopNeeds, asked_as, most_frames, stop_of}
 use Rattle.text_pointers.specs.declared.reader.Reader.{Reader}
 use Rattle.text_pointers.specs.declared.byte.PointedByte.{PointedByte}
-use Rattle.text_pointers.specs.declared.text.PointedText.{PointedText}
 use Rattle.text_pointers.specs.Outcomes.{IsPlain, Outcome, leaves, read_on, read_over, stops}
 
 -- the pages that the references so far leave
@@ -131,16 +130,11 @@ pub record ReadsBytes (f : ForkName) (p : Framed) (regs : Regs) (old new : Reade
   pub stands : (text : Option (ArrayVec ℕ)) → result ≡ Ok text → Stands f p new
   pub is : read_over f p regs (bytes_from MOST_BYTES regs first []) (pages_so_far p old) ≡ came_to p new result
 
--- how the reading of a whole text ended
-abbrev pub ended : Framed → Result PointedText Stop → Outcome Need (Option (List ℕ))
-ended p (Ok t) = leaves (pages_so_far p t.reader) (bytes_of t.text)
-ended p (Err e) = stops (stop_of e)
-
 -- A TEXT WAS READ: over these pages its reading comes to this, and over the plain ones where it needs nothing first
-pub record ReadsText (f : ForkName) (p : Framed) (regs : Regs) (pointer : ℕ) (result : Result PointedText Stop) : Type 0 where
-  pub stands : (t : PointedText) → result ≡ Ok t → Stands f p t.reader
-  pub is : read_over f p regs (text_at regs pointer) p.pages ≡ ended p result
-  pub plain : IsPlain (ended p result) (read_on f regs (text_at regs pointer) p.pages)
+pub record ReadsText (f : ForkName) (p : Framed) (regs : Regs) (pointer : ℕ) (new : Reader) (result : Result (Option (ArrayVec ℕ)) Stop) : Type 0 where
+  pub stands : (text : Option (ArrayVec ℕ)) → result ≡ Ok text → Stands f p new
+  pub is : read_over f p regs (text_at regs pointer) p.pages ≡ came_to p new result
+  pub plain : IsPlain (came_to p new result) (read_on f regs (text_at regs pointer) p.pages)
 
 -- how the reading of a byte ended
 abbrev pub byte_ended : Framed → Result PointedByte Stop → Outcome Need ℕ

@@ -6,10 +6,12 @@
 mod byte;
 mod laws;
 mod reader;
+mod scratch;
 mod text;
 mod words;
 
 pub use byte::{PointedByte, byte_at, next_pointer};
 pub use laws::texts_are_read_in_order;
 pub use reader::Reader;
-pub use text::{PointedText, Text, text_at};
+pub use scratch::Scratch;
+pub use text::{Text, text_at};

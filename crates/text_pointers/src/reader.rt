@@ -2,7 +2,7 @@
 ghost use Rattle.ka10_unit.specs.Gathers.{IsOf};
 
 use ka10_unit::Taken;
-use machine_names::ForkName;
+use machine_names::{ForkName, Tty};
 use page_gather::Gather;
 
 /// What a reading in the space of a fork refers to: the words of its pointer's address, and the
@@ -23,20 +23,45 @@ impl Reader {
     ghost use Rattle.page_gather.specs.Gathering.{AreSound, Gathers};
     ghost use Rattle.plain_pages.specs.PlainPages.{NumberedPages};
 
-    /// Refers to nothing yet, in the space of a fork.
-    pub fn new(fork: ForkName) -> Reader
-        requires { fork.tty.0 < TERMINALS }
-        ensures fork { result.fork ≡ fork }
+    /// Refers to nothing yet, for no fork.
+    pub fn new() -> Reader
         ensures none { result.gather.references ≡ [] }
         ensures unmade { result.gather.homes ≡ 0 }
         ensures page { result.page ≡ None }
-        ensures told { (p : NumberedPages) (scene : Scene) → AreSound p scene → Gathers p scene result.gather }
     {
         Reader {
-            fork,
-            gather: Gather::new(fork.tty),
+            fork: ForkName {
+                tty: Tty::CONSOLE,
+                serial: 0,
+            },
+            gather: Gather::new(Tty::CONSOLE),
             page: None,
         }
+    }
+
+    /// Refers to nothing again, in the space of this fork.
+    pub fn restart(&mut self, fork: ForkName)
+        requires { fork.tty.0 < TERMINALS }
+        ensures fork { self.new.fork ≡ fork }
+        ensures none { self.new.gather.references ≡ [] }
+        ensures unmade { self.new.gather.homes ≡ 0 }
+        ensures page { self.new.page ≡ None }
+        ensures told { (p : NumberedPages) (scene : Scene) → AreSound p scene → Gathers p scene self.new.gather }
+    {
+        self.fork = fork;
+        self.gather.restart(fork.tty);
+        self.page = None;
+    }
+
+    /// Goes on behind the references of an address, which stay with who took it.
+    pub fn go_behind(&mut self, taken: &Taken)
+        ensures fork { self.new.fork ≡ taken.now.fork }
+        ensures gather { self.new.gather ≡ taken.now.gather }
+        ensures page { self.new.page ≡ None }
+    {
+        self.fork = taken.fork;
+        self.gather.copy_from(&taken.gather);
+        self.page = None;
     }
 
     /// Goes on behind the references of an address.

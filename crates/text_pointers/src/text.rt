@@ -11,9 +11,10 @@ ghost use Rattle.text_pointers.specs.Reading.{ReadsBytes, ReadsText, Stands, Sto
 
 use crate::byte::next_pointer;
 use crate::reader::Reader;
+use crate::scratch::Scratch;
 use arrayvec::ArrayVec;
 use ka10_bytes::{increment, load};
-use ka10_unit::{Stop, Taken, address_of};
+use ka10_unit::{Stop, address_of};
 use machine_names::ForkName;
 use page_contracts::Pages;
 use plain_model::text::{MOST_BYTES, SEVEN_BIT_POINTER, SHORT_POINTER};
@@ -22,15 +23,6 @@ use word36::Word;
 
 /// The bytes of a text, each as the low bits of a word.
 pub type Text = ArrayVec<Word, MOST_BYTES>;
-
-/// What was read at a pointer.
-#[derive(Drop)]
-pub struct PointedText {
-    /// The bytes before the first that is 0. None: none of the first 40 is.
-    pub text: Option<Text>,
-    /// What was referred to; the pages that this makes are to be made before it is used up.
-    pub reader: Reader,
-}
 
 /// A pointer in short, written out.
 pub fn full_pointer(pointer: Word) -> Word
@@ -85,32 +77,31 @@ fn read_bytes<P: Pages>(
 }
 
 /// Reads the text at a byte pointer in the space of a fork (JSYS Manual, "String pointers"): up to the first byte that is
-/// 0, or none where that isn't among the first 40. The pointer is incremented before each byte, and its address is taken
+/// 0, or None where that isn't among the first 40. The pointer is incremented before each byte, and its address is taken
 /// once, behind the first increment. Err: a reference of the address or of a byte whose page, or a map on the way, is in no
 /// frame; that is denied; or for which a page has to be made while the drum is full, or no frame is free; or an address
-/// behind more than 16 indirect words. No page is made before `Reader::make`.
+/// behind more than 16 indirect words. What was referred to is the reader's; the pages that this makes are to be made before the text is used
+/// up, and none is made before `Reader::make`.
 pub fn text_at<P: Pages>(
+    scratch: &mut Scratch,
     regs: &Regs,
     pages: &P,
     fork: ForkName,
     pointer: Word,
-) -> Result<PointedText, Stop>
+) -> Result<Option<Text>, Stop>
     requires serves { Serves P.means pages.now fork }
-    ensures fork { IfOk result (λ t. t.reader.fork ≡ fork) }
+    ensures fork { IfOk result (λ text. scratch.new.reader.fork ≡ fork) }
     ensures needs { IfErr result (StopsFor P.means pages.now) }
-    ensures told { (d : DrumWords) → P.means.fits pages.now d → ReadsText fork (framed P.means pages.now d) regs.now pointer result }
+    ensures told { (d : DrumWords) → P.means.fits pages.now d → ReadsText fork (framed P.means pages.now d) regs.now pointer scratch.new.reader result }
 {
     let first = next_pointer(pointer);
-    let mut taken = Taken::new();
-    taken.restart(fork);
-    match address_of(&mut taken, regs, pages, first) {
+    scratch.taken.restart(fork);
+    match address_of(&mut scratch.taken, regs, pages, first) {
         Err(stop) => Err(stop),
         Ok(address) => {
-            let mut reader = Reader::behind(taken);
-            match read_bytes(&mut reader, regs, pages, pointing_to(first, address.e)) {
-                Err(stop) => Err(stop),
-                Ok(text) => Ok(PointedText { text, reader }),
-            }
+            scratch.reader.go_behind(&scratch.taken);
+            let from = pointing_to(first, address.e);
+            read_bytes(&mut scratch.reader, regs, pages, from)
         }
     }
 }

@@ -1,12 +1,11 @@
 use Rattle.std.proofs.Common.{◌≡◌, ◌∙◌}
-use Rattle.std.specs.Prelude.{Ok, Err}
 use Rattle.word36.specs.Bytes.{incremented}
 use Rattle.plain_model.specs.PointedTexts.{full_pointer}
 use Rattle.ka10_unit.specs.Gathers.{framed}
 use Rattle.ka10_unit.proofs.Adding.{sound_as}
 use Rattle.ka10_unit.proofs.Stepping.{none_stands}
 use Rattle.text_pointers.proofs.AddressReads.{behind_stands}
-use Rattle.text_pointers.proofs.TextReads.{bytes_by, bytes_end, bytes_stop, text_address_stops}
+use Rattle.text_pointers.proofs.TextReads.{bytes_by, bytes_end, text_address_stops}
 use Rattle.text_pointers.proofs.text.text_at.Goals as goal
 
 pub returns-in-Err-clause-told : goal.returns-in-Err-clause-told
@@ -15,28 +14,17 @@ returns-in-Err-clause-told g c d fits =
     let p = framed means c.args.pages.now d in
     let none = none_stands c.args.fork p c.args.regs.now c.restart.new.self c.restart.ensures.fork (c.restart.ensures.told _ _ (sound_as means c.args.pages.now _ (g.met.P.Pages.whole c.args.pages.now d fits) (g.met.P.Pages.agrees c.args.pages.now d fits))) c.restart.ensures.kept in
     let first : c.next_pointer-first.result ≡ incremented (full_pointer c.args.pointer) = c.next_pointer-first.ensures in
-    text_address_stops c.args.fork p c.args.regs.now c.args.pointer c.restart.new.self c.address_of.new.taken c.restart.ensures.gather c.restart.ensures.refs c.restart.ensures.kept c.in-Err.stop (rw first at (c.in-Err.ensures.told d c.args.fork fits none))
+    text_address_stops c.args.fork p c.args.regs.now c.args.pointer c.restart.new.self c.address_of.new.taken c.restart.ensures.gather c.restart.ensures.refs c.restart.ensures.kept c.args.scratch.now.reader c.in-Err.stop (rw first at (c.in-Err.ensures.told d c.args.fork fits none))
 
-pub returns-in-Err-read_bytes-clause-told : goal.returns-in-Err-read_bytes-clause-told
-returns-in-Err-read_bytes-clause-told g c d fits =
+pub returns-in-Ok-clause-told : goal.returns-in-Ok-clause-told
+returns-in-Ok-clause-told g c d fits =
     let means = g.P.Pages.means in
     let p = framed means c.args.pages.now d in
     let none = none_stands c.args.fork p c.args.regs.now c.restart.new.self c.restart.ensures.fork (c.restart.ensures.told _ _ (sound_as means c.args.pages.now _ (g.met.P.Pages.whole c.args.pages.now d fits) (g.met.P.Pages.agrees c.args.pages.now d fits))) c.restart.ensures.kept in
     let first : c.next_pointer-first.result ≡ incremented (full_pointer c.args.pointer) = c.next_pointer-first.ensures in
     let address = rw first at (c.in-Ok.ensures.told d c.args.fork fits none) in
     let kept = c.in-Ok.ensures.kept ∙ c.restart.ensures.kept in
-    let reader = behind_stands c.args.fork p c.args.regs.now.ac (incremented (full_pointer c.args.pointer)) c.restart.new.self c.address_of.new.taken c.in-Ok.address address c.behind-reader.result c.behind-reader.ensures.gather c.behind-reader.ensures.fork c.behind-reader.ensures.page in
-    let bytes = rw (c.pointing_to.ensures, first) at (bytes_by c.args.fork p c.args.regs.now c.behind-reader.result c.read_bytes.new.reader c.pointing_to.result (Err c.in-Err-read_bytes.stop) reader (c.in-Err-read_bytes.ensures.told d fits)) in
-    bytes_stop c.args.fork p c.args.regs.now c.args.pointer c.restart.new.self c.address_of.new.taken c.restart.ensures.gather c.restart.ensures.refs c.restart.ensures.kept c.in-Ok.address kept address c.behind-reader.result c.behind-reader.ensures.gather c.read_bytes.new.reader c.in-Err-read_bytes.stop bytes
-
-pub returns-in-Ok-read_bytes-clause-told : goal.returns-in-Ok-read_bytes-clause-told
-returns-in-Ok-read_bytes-clause-told g c d fits =
-    let means = g.P.Pages.means in
-    let p = framed means c.args.pages.now d in
-    let none = none_stands c.args.fork p c.args.regs.now c.restart.new.self c.restart.ensures.fork (c.restart.ensures.told _ _ (sound_as means c.args.pages.now _ (g.met.P.Pages.whole c.args.pages.now d fits) (g.met.P.Pages.agrees c.args.pages.now d fits))) c.restart.ensures.kept in
-    let first : c.next_pointer-first.result ≡ incremented (full_pointer c.args.pointer) = c.next_pointer-first.ensures in
-    let address = rw first at (c.in-Ok.ensures.told d c.args.fork fits none) in
-    let kept = c.in-Ok.ensures.kept ∙ c.restart.ensures.kept in
-    let reader = behind_stands c.args.fork p c.args.regs.now.ac (incremented (full_pointer c.args.pointer)) c.restart.new.self c.address_of.new.taken c.in-Ok.address address c.behind-reader.result c.behind-reader.ensures.gather c.behind-reader.ensures.fork c.behind-reader.ensures.page in
-    let bytes = rw (c.pointing_to.ensures, first) at (bytes_by c.args.fork p c.args.regs.now c.behind-reader.result c.read_bytes.new.reader c.pointing_to.result (Ok c.in-Ok-read_bytes.text) reader (c.in-Ok-read_bytes.ensures.told d fits)) in
-    bytes_end c.args.fork p c.args.regs.now c.args.pointer c.restart.new.self c.address_of.new.taken c.restart.ensures.gather c.restart.ensures.refs c.restart.ensures.kept c.in-Ok.address kept address c.behind-reader.result c.behind-reader.ensures.gather c.read_bytes.new.reader c.in-Ok-read_bytes.text bytes
+    let behind = c.go_behind.new.self in
+    let reader = behind_stands c.args.fork p c.args.regs.now.ac (incremented (full_pointer c.args.pointer)) c.restart.new.self c.address_of.new.taken c.in-Ok.address address behind c.go_behind.ensures.gather c.go_behind.ensures.fork c.go_behind.ensures.page in
+    let bytes = rw (c.pointing_to-from.ensures, first) at (bytes_by c.args.fork p c.args.regs.now behind c.read_bytes.new.reader c.pointing_to-from.result c.read_bytes.result reader (c.read_bytes.ensures.told d fits)) in
+    bytes_end c.args.fork p c.args.regs.now c.args.pointer c.restart.new.self c.address_of.new.taken c.restart.ensures.gather c.restart.ensures.refs c.restart.ensures.kept c.in-Ok.address kept address behind c.go_behind.ensures.gather c.read_bytes.new.reader c.read_bytes.result bytes
