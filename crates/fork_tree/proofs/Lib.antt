@@ -8,10 +8,10 @@ pub mod Kept
 pub mod Upward
 pub mod CanRun
 pub mod Leaves
-pub mod Rounds
 pub mod Listed
 pub mod Branches
 pub mod Killing
 pub mod Waking
+pub mod Sleepers
 pub mod Reading
 pub mod Named

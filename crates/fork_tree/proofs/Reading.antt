@@ -1,27 +1,43 @@
--- Of which terminals a fork may wait for a character, where forks come, go and are changed.
-use Rattle.std.proofs.Common.{◌≡◌, ◌≢◌, ℕ, ◌<◌, List, [], ◌∷◌, length, get_or, set, Bool, true, false, Option, None, Some, refl, sym, ◌∙◌, ap, arith, ◌⊎◌, inl, inr, get_or-set_same, get_or-set_other}
+-- What is known of who waits, where forks come, go and are changed.
+use Rattle.std.proofs.Common.{◌≡◌, ◌≢◌, ℕ, ◌<◌, ◌≤◌, List, [], ◌∷◌, length, get_or, set, Bool, true, false, Option, None, Some, refl, sym, ◌∙◌, ap, arith, ◌⊎◌, inl, inr, get_or-set_same, get_or-set_other}
 use Rattle.std.proofs.lemmas.Bool.{cases_eq}
-use Rattle.std.specs.List.{range_with_len}
-use Rattle.std.specs.Prelude.{IsSome}
+use Rattle.std.specs.Prelude.{IsSome, MatchBool, ◌||◌}
 use Rattle.std.specs.FinMap as map
 use Rattle.machine_names.specs.declared.names.ForkName.{ForkName}
 use Rattle.machine_names.specs.declared.names.Tty.{Tty}
-use Rattle.machine_names.specs.declared.names.TheConstants.{MOST_FORKS, TERMINALS}
+use Rattle.machine_names.specs.declared.names.TheConstants.{TERMINALS}
 use Rattle.plain_model.specs.declared.fork.Body.{Body}
 use Rattle.plain_model.specs.declared.fork.Fork.{Fork}
 use Rattle.script_texts.specs.declared.status.ForkStatus.{ForkStatus}
 use Rattle.script_texts.specs.declared.status.ForkStatus.TheVariants.{Run, Wait, Halted, Forced}
 use Rattle.script_texts.specs.declared.status.WaitOn.TheVariants as on
 use Rattle.plain_model.specs.Forks.{ForkMap, fork_in, with_status}
-use Rattle.plain_model.specs.Trees.{changed, changed_in, readers_woken, unread, with_body, with_mark, without_read}
+use Rattle.plain_model.specs.Trees.{changed, changed_in, with_body, with_mark, without_read}
 use Rattle.fork_tree.specs.Trees.{AreSlotted, Lives}
-use Rattle.fork_tree.specs.Waking.{NoneReads}
+use Rattle.fork_tree.specs.Waking.{AreQuiet, NoneWaits, freed, freed_of, is_by, lent_notes, may_wait, quiet_notes}
+use Rattle.fork_tree.specs.declared.notes.Awaited.{Awaited}
+use Rattle.fork_tree.specs.declared.notes.Awaited.TheVariants.{Character, End, Moment}
+use Rattle.fork_tree.specs.declared.notes.Due.{Due}
+use Rattle.fork_tree.specs.declared.notes.Due.TheVariants.{Never}
+use Rattle.fork_tree.specs.declared.notes.Notes.{Notes}
 use Rattle.fork_tree.proofs.Slots.{cases_name, get_gone, get_gone_other, get_put, get_put_other, in_tells, some_of}
 use Rattle.plain_model.proofs.ForkMaps.{put_itself}
 
--- of some terminals a fork may wait: of no other does one
-abbrev pub AreQuiet : ForkMap → List Bool → Type 0
-AreQuiet forks readers = (t : Tty) → get_or readers t.0 false ≡ false → NoneReads forks t
+-- a halted fork waits for nothing
+pub halted_calm : (awaited : Awaited) → freed awaited Halted ≡ Halted
+halted_calm End = refl
+halted_calm Character = refl
+halted_calm (Moment clock) = refl
+
+-- where a body was lent, one may wait for anything
+lent_may : (awaited : Awaited) → may_wait lent_notes awaited ≡ true
+lent_may End = refl
+lent_may Character = refl
+lent_may (Moment clock) = refl
+
+-- what is noted of a terminal
+noted_same : (notes : List Notes) (t u : Tty) (n : Notes) → t.0 < length notes → u.0 ≡ t.0 → get_or (set notes t.0 n) u.0 quiet_notes ≡ n
+noted_same notes t u n within here = ap (λ i. get_or (set notes t.0 n) i quiet_notes) here ∙ get_or-set_same notes t.0 n quiet_notes within
 
 -- a fork that lives once one is put there is that one, or lived before
 lives_put : (forks : ForkMap) (g f : Fork) → Lives (map.insert forks g.name g) f → (f ≡ g) ⊎ Lives forks f
@@ -30,26 +46,26 @@ lives_put forks g f lives = elim (cases_name f.name g.name) [
   | inr other ↦ inr (sym (get_put_other forks g.name f.name g other) ∙ lives)
 ]
 
--- a fork that doesn't wait for a character is put there
-pub quiet_put : (forks : ForkMap) (readers : List Bool) (g : Fork) → AreQuiet forks readers → without_read g.body.status ≡ g.body.status → AreQuiet (map.insert forks g.name g) readers
-quiet_put forks readers g quiet calm t off f lives job = elim (lives_put forks g f lives) [
-  | inl same ↦ rw same calm
-  | inr before ↦ quiet t off f before job
+-- a fork that doesn't wait is put there
+pub quiet_put : (forks : ForkMap) (notes : List Notes) (g : Fork) → AreQuiet forks notes → ((awaited : Awaited) → freed awaited g.body.status ≡ g.body.status) → AreQuiet (map.insert forks g.name g) notes
+quiet_put forks notes g quiet calm t a off f lives job = elim (lives_put forks g f lives) [
+  | inl same ↦ rw same (calm a)
+  | inr before ↦ quiet t a off f before job
 ]
 
 -- a fork has the freeze mark, or not
-pub quiet_marked : (forks : ForkMap) (readers : List Bool) (on : Bool) (o : Option Fork) → ((f : Fork) → o ≡ Some f → Lives forks f) → AreQuiet forks readers → AreQuiet (changed forks (with_mark on) o) readers
-quiet_marked forks readers on None lives quiet = quiet
-quiet_marked forks readers on (Some k) lives quiet = λ t off f there job. elim (lives_put forks (with_mark on k) f there) [
-  | inl same ↦ rw same (quiet t off k (lives k refl) (ap (λ (x : Fork). x.name.tty.0) (sym same) ∙ job))
-  | inr before ↦ quiet t off f before job
+pub quiet_marked : (forks : ForkMap) (notes : List Notes) (on : Bool) (o : Option Fork) → ((f : Fork) → o ≡ Some f → Lives forks f) → AreQuiet forks notes → AreQuiet (changed forks (with_mark on) o) notes
+quiet_marked forks notes on None lives quiet = quiet
+quiet_marked forks notes on (Some k) lives quiet = λ t a off f there job. elim (lives_put forks (with_mark on k) f there) [
+  | inl same ↦ rw same (quiet t a off k (lives k refl) (ap (λ (x : Fork). x.name.tty.0) (sym same) ∙ job))
+  | inr before ↦ quiet t a off f before job
 ]
 
 -- a fork goes
-pub quiet_gone : (forks : ForkMap) (readers : List Bool) (name : ForkName) → AreQuiet forks readers → AreQuiet (map.remove forks name) readers
-quiet_gone forks readers name quiet t off f lives job = elim (cases_name f.name name) [
+pub quiet_gone : (forks : ForkMap) (notes : List Notes) (name : ForkName) → AreQuiet forks notes → AreQuiet (map.remove forks name) notes
+quiet_gone forks notes name quiet t a off f lives job = elim (cases_name f.name name) [
   | inl same ↦ (let none : None ≡ Some f = sym (get_gone forks name f.name same) ∙ lives in absurd (cc none))
-  | inr other ↦ quiet t off f (sym (get_gone_other forks name f.name other) ∙ lives) job
+  | inr other ↦ quiet t a off f (sym (get_gone_other forks name f.name other) ∙ lives) job
 ]
 
 -- a terminal with a fork is one
@@ -59,12 +75,12 @@ its_terminal forks slotted t slot there =
     let at = in_tells forks slotted t slot f.0 f.1 in
     omega (arith, at.1, (slotted.named f.0 at.0).0)
 
--- the body of a fork of a terminal is lent: one may wait there
-pub quiet_lent : (forks : ForkMap) (readers : List Bool) (t : Tty) (body : Body) (o : Option Fork) → ((f : Fork) → o ≡ Some f → f.name.tty.0 ≡ t.0) → t.0 < length readers → AreQuiet forks readers
-    → AreQuiet (changed forks (with_body body) o) (set readers t.0 true)
-quiet_lent forks readers t body o at within quiet = λ u off f lives job. elim (cases_eq u.0 t.0) [
-  | inl here ↦ (let h : true ≡ false = sym (ap (λ i. get_or (set readers t.0 true) i false) here ∙ get_or-set_same readers t.0 true false within) ∙ off in absurd (cc h))
-  | inr ne ↦ quiet u (sym (get_or-set_other readers t.0 u.0 true false ne) ∙ off) f (before u f ne job o at lives) job
+-- the body of a fork of a terminal is lent: any may wait there
+pub quiet_lent : (forks : ForkMap) (notes : List Notes) (t : Tty) (body : Body) (o : Option Fork) → ((f : Fork) → o ≡ Some f → f.name.tty.0 ≡ t.0) → t.0 < length notes → AreQuiet forks notes
+    → AreQuiet (changed forks (with_body body) o) (set notes t.0 lent_notes)
+quiet_lent forks notes t body o at within quiet = λ u a off f lives job. elim (cases_eq u.0 t.0) [
+  | inl here ↦ (let h : true ≡ false = sym (lent_may a) ∙ sym (ap (λ (n : Notes). may_wait n a) (noted_same notes t u lent_notes within here)) ∙ off in absurd (cc h))
+  | inr ne ↦ quiet u a (sym (ap (λ (n : Notes). may_wait n a) (get_or-set_other notes t.0 u.0 lent_notes quiet_notes ne)) ∙ off) f (before u f ne job o at lives) job
 ]
   where
     before : (u : Tty) (f : Fork) → u.0 ≢ t.0 → f.name.tty.0 ≡ u.0 → (o : Option Fork) → ((k : Fork) → o ≡ Some k → k.name.tty.0 ≡ t.0) → Lives (changed forks (with_body body) o) f → Lives forks f
@@ -74,34 +90,65 @@ quiet_lent forks readers t body o at within quiet = λ u off f lives job. elim (
       | inr lived ↦ lived
     ]
 
--- none of a terminal waits
-pub quiet_rest : (forks : ForkMap) (readers : List Bool) (t : Tty) → NoneReads forks t → AreQuiet forks readers → AreQuiet forks (set readers t.0 false)
-quiet_rest forks readers t none quiet = λ u off f lives job. elim (cases_eq u.0 t.0) [
-  | inl here ↦ none f lives (job ∙ here)
-  | inr ne ↦ quiet u (sym (get_or-set_other readers t.0 u.0 false false ne) ∙ off) f lives job
+-- something is known of the forks of a terminal
+pub quiet_noted : (forks : ForkMap) (notes : List Notes) (t : Tty) (n : Notes) → t.0 < length notes → ((awaited : Awaited) → may_wait n awaited ≡ false → NoneWaits awaited forks t) → AreQuiet forks notes
+    → AreQuiet forks (set notes t.0 n)
+quiet_noted forks notes t n within known quiet = λ u a off f lives job. elim (cases_eq u.0 t.0) [
+  | inl here ↦ known a (sym (ap (λ (m : Notes). may_wait m a) (noted_same notes t u n within here)) ∙ off) f lives (job ∙ here)
+  | inr ne ↦ quiet u a (sym (ap (λ (m : Notes). may_wait m a) (get_or-set_other notes t.0 u.0 n quiet_notes ne)) ∙ off) f lives job
 ]
 
+-- none waits for a character
+pub readers_noted : (forks : ForkMap) (notes : List Notes) (t : Tty) (n : Notes) → t.0 < length notes → n ≡ get_or notes t.0 quiet_notes → NoneWaits Character forks t → AreQuiet forks notes
+    → AreQuiet forks (set notes t.0 (record n { readers = Never }))
+readers_noted forks notes t n within is none quiet = quiet_noted forks notes t (record n { readers = Never }) within known quiet
+  where
+    known : (awaited : Awaited) → may_wait (record n { readers = Never }) awaited ≡ false → NoneWaits awaited forks t
+    known End off = absurd (cc off)
+    known Character off = none
+    known (Moment clock) off = quiet t (Moment clock) (sym (ap (λ (m : Notes). may_wait m (Moment clock)) is) ∙ off)
+
+-- none sleeps that may go on before one is due
+pub sleepers_noted : (forks : ForkMap) (notes : List Notes) (t : Tty) (n : Notes) (due : Due) → t.0 < length notes → n ≡ get_or notes t.0 quiet_notes
+    → ((clock : ℕ) → is_by due clock ≡ false → NoneWaits (Moment clock) forks t) → AreQuiet forks notes → AreQuiet forks (set notes t.0 (record n { sleepers = due }))
+sleepers_noted forks notes t n due within is none quiet = quiet_noted forks notes t (record n { sleepers = due }) within known quiet
+  where
+    known : (awaited : Awaited) → may_wait (record n { sleepers = due }) awaited ≡ false → NoneWaits awaited forks t
+    known End off = absurd (cc off)
+    known Character off = quiet t Character (sym (ap (λ (m : Notes). may_wait m Character) is) ∙ off)
+    known (Moment clock) off = none clock off
+
+-- by what is known of a terminal
+pub by_notes : (b : Bool) (A B : Type 0) → A → (b ≡ false → B) → MatchBool b A B
+by_notes true A B here none = here
+by_notes false A B here none = none refl
+
+-- neither of two
+pub neither : (a b : Bool) → (a || b) ≡ false → (a ≡ false) × (b ≡ false)
+neither true b e = absurd (cc e)
+neither false b e = (refl, e)
+
+-- of a terminal that has none, nothing waits
+pub none_beyond : (forks : ForkMap) → AreSlotted forks → (t : Tty) → TERMINALS ≤ t.0 → (awaited : Awaited) → NoneWaits awaited forks t
+none_beyond forks slotted t beyond awaited f lives job = absurd (omega (arith, (slotted.named f lives).0, job, beyond))
+
 -- no fork lives
-pub quiet_none : (readers : List Bool) → AreQuiet map.empty readers
-quiet_none readers t off f lives job = let h : None ≡ Some f = sym (map.get-empty _ f.name) ∙ lives in absurd (cc h)
+pub quiet_none : (notes : List Notes) → AreQuiet map.empty notes
+quiet_none notes t a off f lives job = let h : None ≡ Some f = sym (map.get-empty _ f.name) ∙ lives in absurd (cc h)
 
 -- ---- where none waits, nothing changes
 
-module _ (forks : ForkMap) (slotted : AreSlotted forks) (t : Tty) (none : NoneReads forks t) where
-  unmoved : (slot : ℕ) (o : Option Fork) → fork_in forks t slot ≡ o → changed forks unread o ≡ forks
+module _ (forks : ForkMap) (slotted : AreSlotted forks) (t : Tty) (awaited : Awaited) (none : NoneWaits awaited forks t) where
+  unmoved : (slot : ℕ) (o : Option Fork) → fork_in forks t slot ≡ o → changed forks (freed_of awaited) o ≡ forks
   unmoved slot None e = refl
   unmoved slot (Some k) e =
       let at = in_tells forks slotted t slot k e in
-      let same : unread k ≡ k = ap (with_status k) (none k at.0 at.1) in
+      let same : freed_of awaited k ≡ k = ap (with_status k) (none k at.0 at.1) in
       ap (map.insert forks k.name) same ∙ put_itself forks k.name k at.0
 
-  all_unmoved : (slots : List ℕ) → changed_in unread forks t slots ≡ forks
-  all_unmoved [] = refl
-  all_unmoved (slot ∷ slots) = ap (λ m. changed_in unread m t slots) (unmoved slot (fork_in forks t slot) refl) ∙ all_unmoved slots
-
-  pub nobody_read : readers_woken forks t ≡ forks
-  unfolding readers_woken
-  nobody_read = all_unmoved (range_with_len 1 MOST_FORKS)
+  pub nobody_freed : (slots : List ℕ) → changed_in (freed_of awaited) forks t slots ≡ forks
+  nobody_freed [] = refl
+  nobody_freed (slot ∷ slots) = ap (λ m. changed_in (freed_of awaited) m t slots) (unmoved slot (fork_in forks t slot) refl) ∙ nobody_freed slots
 
 -- ---- who has been woken doesn't wait
 

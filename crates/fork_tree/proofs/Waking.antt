@@ -11,7 +11,8 @@ use Rattle.plain_model.specs.declared.fork.Fork.{Fork}
 use Rattle.plain_model.specs.Trees.{PlainTree, changed, changed_in, unread, unwaited, readers_woken, waiters_woken, without_read}
 use Rattle.plain_model.proofs.Posted.{IsSame}
 use Rattle.fork_tree.specs.Trees.{IsIn, IsTree, Lives}
-use Rattle.fork_tree.specs.Waking.{NoneReads}
+use Rattle.fork_tree.specs.Waking.{NoneWaits}
+use Rattle.fork_tree.specs.declared.notes.Awaited.TheVariants.{Character}
 use Rattle.fork_tree.proofs.Reading.{read_once}
 use Rattle.fork_tree.proofs.Kept.{changed_tree}
 use Rattle.fork_tree.proofs.Slots.{cases_name, get_put, get_put_other, in_found, in_tells}
@@ -57,8 +58,13 @@ module _ (change : Fork → Fork) (same : (f : Fork) → IsSame f (change f)) (t
         ];
       }
 
+  -- the forks stay a tree
+  pub in_order : (n from : ℕ) (tree : PlainTree) → IsTree tree → IsTree (record tree { forks = changed_in change tree.forks t (range_with_len from n) })
+  in_order zero from tree is = is
+  in_order (suc n) from tree is = in_order n (from + 1) (changed_at tree (fork_in tree.forks t from)) (changes tree is from (fork_in tree.forks t from) refl).tree_still
+
   -- a fork in none of these slots stays
-  apart_stays : (n from : ℕ) (tree : PlainTree) → IsTree tree → (f : Fork) → Lives tree.forks f → (f.name.tty.0 ≡ t.0 → from ≤ f.slot → f.slot < from + n → ⊥)
+  pub apart_stays : (n from : ℕ) (tree : PlainTree) → IsTree tree → (f : Fork) → Lives tree.forks f → (f.name.tty.0 ≡ t.0 → from ≤ f.slot → f.slot < from + n → ⊥)
       → map.get (changed_in change tree.forks t (range_with_len from n)) f.name ≡ Some f
   apart_stays zero from tree is f lives apart = lives
   apart_stays (suc n) from tree is f lives apart =
@@ -66,14 +72,14 @@ module _ (change : Fork → Fork) (same : (f : Fork) → IsSame f (change f)) (t
       apart_stays n (from + 1) (changed_at tree (fork_in tree.forks t from)) w.tree_still f (w.others f lives (λ at. apart at.1 (omega (arith, at.2)) (omega (arith, at.2)))) (λ job low high. apart job (omega (arith, low)) (omega (arith, high)))
 
   -- a name of which no fork lives stays so
-  absent_stays : (n from : ℕ) (tree : PlainTree) → IsTree tree → (name : ForkName) → map.get tree.forks name ≡ None → map.get (changed_in change tree.forks t (range_with_len from n)) name ≡ None
+  pub absent_stays : (n from : ℕ) (tree : PlainTree) → IsTree tree → (name : ForkName) → map.get tree.forks name ≡ None → map.get (changed_in change tree.forks t (range_with_len from n)) name ≡ None
   absent_stays zero from tree is name none = none
   absent_stays (suc n) from tree is name none =
       let w = changes tree is from (fork_in tree.forks t from) refl in
       absent_stays n (from + 1) (changed_at tree (fork_in tree.forks t from)) w.tree_still name (w.gone name none)
 
   -- a fork in one of them is changed
-  each_changed : (n from : ℕ) (tree : PlainTree) → IsTree tree → (f : Fork) → Lives tree.forks f → f.name.tty.0 ≡ t.0 → from ≤ f.slot → f.slot < from + n
+  pub each_changed : (n from : ℕ) (tree : PlainTree) → IsTree tree → (f : Fork) → Lives tree.forks f → f.name.tty.0 ≡ t.0 → from ≤ f.slot → f.slot < from + n
       → map.get (changed_in change tree.forks t (range_with_len from n)) f.name ≡ Some (change f)
   each_changed zero from tree is f lives job low high = absurd (omega (arith, low, high))
   each_changed (suc n) from tree is f lives job low high = by (λ u k there. each_changed n (from + 1) u k f there job) (cases_lt from f.slot)
@@ -114,7 +120,7 @@ module _ (tree : PlainTree) (is : IsTree tree) (t : Tty) (f : Fork) (lives : Liv
   others_keep other = apart_stays unread (λ k. (refl, refl, refl)) t MOST_FORKS 1 tree is f lives (λ job low high. other job)
 
 -- and so none waits for one any more
-pub none_reads : (tree : PlainTree) → IsTree tree → (t : Tty) → NoneReads (readers_woken tree.forks t) t
+pub none_reads : (tree : PlainTree) → IsTree tree → (t : Tty) → NoneWaits Character (readers_woken tree.forks t) t
 unfolding readers_woken
 none_reads tree is t f lives job = by (map.get tree.forks f.name) refl
   where

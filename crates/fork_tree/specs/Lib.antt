@@ -2,7 +2,6 @@ pub mod Trees
 pub mod Making
 pub mod Inferiors
 pub mod Changes
-pub mod Turns
 pub mod Places
 pub mod Lending
 pub mod Waking

@@ -18,7 +18,6 @@ ghost use Rattle.plain_model.specs.Trees.{new_fork, PlainTree, tree_of, unwaited
 ghost use Rattle.plain_model.specs.ForkCalls.{ForkParts, killed};
 ghost use Rattle.fork_tree.specs.Making.{Makes, room_for};
 ghost use Rattle.fork_tree.specs.Trees.{IsAncestor, IsTree, Lives, above};
-ghost use Rattle.fork_tree.specs.Turns.{IsPlace, steps_to};
 
 use crate::NoFork;
 use script_texts::ForkStatus;
@@ -99,10 +98,4 @@ pub fn a_posted_channel_is_pending()
     ensures others { (f : AFork) (c d : ℕ) → c < CHANNELS → d < CHANNELS → d ≢ c → has_channel (posted f c).body.psi.pending d ≡ has_channel f.body.psi.pending d }
     ensures forced { (f : AFork) (c : ℕ) → listens f.body.psi c ≡ false → is_panic c ≡ true → posted f c ≡ with_status f (ForkStatus.Forced c) }
     ensures dropped { (f : AFork) (c : ℕ) → listens f.body.psi c ≡ false → is_panic c ≡ false → posted f c ≡ f }
-{}
-
-/// Of all places the one that a turn is behind comes last, and no two come together.
-pub fn who_ran_comes_last()
-    ensures last { (p q : ℕ) → IsPlace p → IsPlace q → steps_to p q ≤ steps_to p p }
-    ensures apart { (p q r : ℕ) → IsPlace p → IsPlace q → IsPlace r → steps_to p q ≡ steps_to p r → q ≡ r }
 {}

@@ -8,6 +8,7 @@ mod handle;
 mod inferiors;
 mod laws;
 mod making;
+mod notes;
 mod posting;
 mod runnable;
 mod tree;
@@ -17,7 +18,7 @@ pub use laws::{
     a_branch_is_killed_from_below, a_full_job_has_thirty_forks, a_killed_fork_takes_its_branch,
     a_made_fork_is_found, a_posted_channel_is_pending, ancestors_are_older,
     forks_are_frozen_from_above, inferiors_have_it_above, trees_from_the_opening,
-    waiters_of_a_job_run_again, who_ran_comes_last,
+    waiters_of_a_job_run_again,
 };
 pub use posting::{channel_word, has_channel, is_panic, listens, post, post_all, wants_one};
 pub use tree::{NoFork, Tree};

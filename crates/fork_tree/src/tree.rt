@@ -9,6 +9,7 @@ ghost use Rattle.fork_tree.specs.Lending.{LendsAt, LendsOf};
 ghost use Rattle.fork_tree.specs.Trees.{IsTree, no_forks};
 
 use crate::fork_table::ForkTable;
+use crate::notes::Notes;
 use machine_names::{ForkName, TERMINALS, Tty};
 use outside::Memory;
 use plain_model::{Body, Fork};
@@ -32,8 +33,8 @@ pub struct Tree {
     pub(crate) forks: ForkTable,
     /// The next serial of each terminal's forks.
     pub(crate) serials: Vec<u32>,
-    /// Of each terminal, whether a fork may wait for a character: where a body was lent since the last was stored.
-    pub(crate) readers: Vec<bool>,
+    /// Of each terminal, what is known of who waits for a character or to a moment.
+    pub(crate) notes: Vec<Notes>,
 }
 
 impl Model for Tree {
@@ -47,7 +48,7 @@ impl Model for Tree {
 
     ghost view = { λ t. record { forks = t.forks; serials = t.serials.items } };
 
-    ghost invariant = { λ t. IsKept (record { forks = t.forks; serials = t.serials.items }) t.readers.items };
+    ghost invariant = { λ t. IsKept (record { forks = t.forks; serials = t.serials.items }) t.notes.items };
 }
 
 /// The name of a fork, where there is one.
@@ -68,7 +69,7 @@ impl Tree {
         Ok(Tree {
             forks: ForkTable::boot(alloc)?,
             serials: vec![in alloc; 1; usize::from(TERMINALS)]?,
-            readers: vec![in alloc; false; usize::from(TERMINALS)]?,
+            notes: vec![in alloc; Notes::QUIET; usize::from(TERMINALS)]?,
         })
     }
 
@@ -127,7 +128,7 @@ impl Tree {
         ensures* writes_back { sem 𝓛 (LendsAt self.entry tty slot result) }
         ensures body { result.now ≡ body_in (fork_in self.old.forks tty slot) }
     {
-        self.readers[usize::from(tty.0)] = true;
+        self.notes[usize::from(tty.0)] = Notes::LENT;
         self.forks.body_at(tty, slot)
     }
 

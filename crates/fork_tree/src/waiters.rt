@@ -1,24 +1,17 @@
-// Forks of a job that wait go on: a fork has ended, or a character is there.
-ghost use Rattle.std.specs.Prelude.{◌≡◌, MatchBool};
+// Forks that wait go on: a fork of their job has ended, a character is there, or the clock has reached their moment.
+ghost use Rattle.std.specs.Prelude.{◌≡◌, ℕ, MatchBool, false};
 ghost use Rattle.std.specs.List.{range_with_len};
 ghost use Rattle.machine_names.specs.declared.names.TheConstants.{MOST_FORKS};
 ghost use Rattle.plain_model.specs.Forks.{fork_in};
-ghost use Rattle.plain_model.specs.Trees.{changed, changed_in, readers_woken, waiters_woken, without_read, without_wait};
+ghost use Rattle.plain_model.specs.Trees.{changed, changed_in, job_awoken, readers_woken, sleepers_awoken, waiters_woken, without_read, without_sleep, without_wait};
 ghost use Rattle.machine_names.specs.Bounds.{IsTerminal};
-ghost use Rattle.fork_tree.specs.Waking.{NoneReads, freed, freed_of};
+ghost use Rattle.fork_tree.specs.Waking.{NoneSleepsIn, NoneWaits, freed, freed_of, is_by};
+ghost use Rattle.fork_tree.specs.declared.notes.Awaited.{Awaited as AnAwaited};
 
+use crate::notes::{Awaited, Due};
 use crate::tree::Tree;
-use machine_names::{MOST_FORKS, Tty};
+use machine_names::{MOST_FORKS, TERMINALS, Tty};
 use script_texts::{ForkStatus, WaitOn};
-
-/// What forks of a job wait for.
-#[derive(Clone, Copy)]
-enum Awaited {
-    /// That a fork of the job ends.
-    End,
-    /// A character of the terminal.
-    Character,
-}
 
 // The status of a fork that no longer waits for one.
 fn without_wait(status: ForkStatus) -> ForkStatus
@@ -52,6 +45,33 @@ fn without_read(status: ForkStatus) -> ForkStatus
     }
 }
 
+// The status of a fork that no longer sleeps to a moment that the clock has reached.
+fn without_sleep(clock: u64, status: ForkStatus) -> ForkStatus
+    ensures { result ≡ without_sleep clock status }
+{
+    match status {
+        ForkStatus::Wait(on) => match on {
+            WaitOn::Sleep(moment) if moment <= clock => ForkStatus::Run,
+            WaitOn::Sleep(_) => status,
+            WaitOn::Input => status,
+            WaitOn::Fork => status,
+        },
+        ForkStatus::Run => status,
+        ForkStatus::Halted => status,
+        ForkStatus::Forced(_) => status,
+    }
+}
+
+// From when on a fork with a status may go on that sleeps.
+fn sleep_due(status: ForkStatus) -> Due
+    ensures { (clock : ℕ) → is_by result clock ≡ false → without_sleep clock status ≡ status }
+{
+    match status {
+        ForkStatus::Wait(WaitOn::Sleep(moment)) => Due::From(moment),
+        _ => Due::Never,
+    }
+}
+
 // The status of a fork that no longer waits for this.
 fn freed(awaited: Awaited, status: ForkStatus) -> ForkStatus
     ensures { result ≡ freed awaited status }
@@ -59,6 +79,7 @@ fn freed(awaited: Awaited, status: ForkStatus) -> ForkStatus
     match awaited {
         Awaited::End => without_wait(status),
         Awaited::Character => without_read(status),
+        Awaited::Moment(clock) => without_sleep(clock, status),
     }
 }
 
@@ -94,25 +115,57 @@ impl Tree {
         self.wake_all(tty, Awaited::End);
     }
 
-    // Whether a fork of a job may wait for a character. If not, none does.
-    fn may_read(&self, tty: Tty) -> bool
-        ensures { MatchBool result (IsTerminal tty) (NoneReads self.now.forks tty) }
+    // Whether a fork of a job may wait for this. If not, none does.
+    fn may_wait(&self, tty: Tty, awaited: Awaited) -> bool
+        ensures { MatchBool result (IsTerminal tty) (NoneWaits awaited self.now.forks tty) }
     {
         let _ = &self.forks;
-        match self.readers.get(usize::from(tty.0)) {
-            Some(may) => *may,
-            None => false,
+        if tty.0 >= TERMINALS {
+            return false;
+        }
+        self.notes[usize::from(tty.0)].may_wait(awaited)
+    }
+
+    // From when on a fork in a slot of a job may go on that sleeps.
+    fn slot_due(&self, tty: Tty, slot: u8) -> Due
+        ensures { (clock : ℕ) → is_by result clock ≡ false → NoneSleepsIn clock self.now.forks tty slot }
+    {
+        match self.fork_at(tty, slot) {
+            Some(fork) => sleep_due(fork.body.status),
+            None => Due::Never,
         }
     }
 
+    // From when on a fork of a job may go on that sleeps.
+    fn sleepers_due(&self, tty: Tty) -> Due
+        ensures { (clock : ℕ) → is_by result clock ≡ false → NoneWaits (AnAwaited.Moment clock) self.now.forks tty }
+    {
+        self.are_trees();
+        let mut due = Due::Never;
+        for slot in 1..=MOST_FORKS {
+            due = due.sooner(self.slot_due(tty, slot));
+        }
+        due
+    }
+
     // No fork of a job waits for a character, until a body is lent again.
-    fn rest(&mut self, tty: Tty)
+    fn note_readers(&mut self, tty: Tty)
         requires terminal { IsTerminal tty }
-        requires none { NoneReads self.old.forks tty }
+        requires none { NoneWaits AnAwaited.Character self.old.forks tty }
         ensures { self.new ≡ self.old }
     {
         let _ = &self.forks;
-        self.readers[usize::from(tty.0)] = false;
+        self.notes[usize::from(tty.0)].readers = Due::Never;
+    }
+
+    // No fork of a job sleeps to a moment before this, until a body is lent again.
+    fn note_sleepers(&mut self, tty: Tty, due: Due)
+        requires terminal { IsTerminal tty }
+        requires none { (clock : ℕ) → is_by due clock ≡ false → NoneWaits (AnAwaited.Moment clock) self.old.forks tty }
+        ensures { self.new ≡ self.old }
+    {
+        let _ = &self.forks;
+        self.notes[usize::from(tty.0)].sleepers = due;
     }
 
     /// A character is stored for a job: who waits for one runs again, in slot order. One look where no body of the job was lent since the
@@ -122,9 +175,34 @@ impl Tree {
         ensures { self.new ≡ record self.old { forks = readers_woken self.old.forks tty } }
     {
         self.are_trees();
-        if self.may_read(tty) {
+        if self.may_wait(tty, Awaited::Character) {
             self.wake_all(tty, Awaited::Character);
-            self.rest(tty);
+            self.note_readers(tty);
+        }
+    }
+
+    // Of a job, who sleeps to a moment that the clock has reached runs again, in slot order.
+    #[tactic(auto, unfolding(plain_model::specs::Trees::job_awoken))]
+    fn wake_sleepers_of(&mut self, tty: Tty, clock: u64)
+        ensures { self.new ≡ record self.old { forks = job_awoken clock self.old.forks tty } }
+    {
+        self.are_trees();
+        if self.may_wait(tty, Awaited::Moment(clock)) {
+            self.wake_all(tty, Awaited::Moment(clock));
+            let due = self.sleepers_due(tty);
+            self.note_sleepers(tty, due);
+        }
+    }
+
+    /// The clock has come to a moment: who sleeps to one that it has reached runs again, by terminal and slot (JSYS Manual, DISMS). One look
+    /// for each terminal where no body of its job was lent since the last look and none of its sleepers is due; else its thirty slots are
+    /// gone over twice.
+    #[tactic(auto, unfolding(plain_model::specs::Trees::sleepers_awoken))]
+    pub fn wake_sleepers(&mut self, clock: u64)
+        ensures { self.new ≡ record self.old { forks = sleepers_awoken clock self.old.forks } }
+    {
+        for tty in 0..TERMINALS {
+            self.wake_sleepers_of(Tty(tty), clock);
         }
     }
 }

@@ -1,7 +1,7 @@
 use fork_tree::{
     a_branch_is_killed_from_below, a_full_job_has_thirty_forks, a_made_fork_is_found,
     ancestors_are_older, forks_are_frozen_from_above, inferiors_have_it_above,
-    trees_from_the_opening, who_ran_comes_last,
+    trees_from_the_opening,
 };
 
 #[test]
@@ -13,5 +13,4 @@ fn the_laws_are_called(_rt: HostRuntime) {
     inferiors_have_it_above();
     forks_are_frozen_from_above();
     a_branch_is_killed_from_below();
-    who_ran_comes_last();
 }

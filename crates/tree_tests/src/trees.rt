@@ -291,29 +291,6 @@ fn forks_are_frozen_by_ancestors(rt: HostRuntime) -> Result<(), Fail> {
 }
 
 #[test]
-fn forks_run_in_turn(rt: HostRuntime) -> Result<(), Fail> {
-    let mut tree = family(&rt, rt.alloc())?;
-    same(&rt, tree.next_runnable(T, 1).is_none(), true);
-    for serial in [2, 3, 5] {
-        tree.set_body(name(serial), body(ForkStatus::Run));
-    }
-    for (t, slot, want) in [
-        (3, 1, 2),
-        (3, 2, 3),
-        (3, 3, 5),
-        (3, 4, 5),
-        (3, 5, 2),
-        (3, 30, 2),
-        (2, 1, 2),
-        (15, 30, 2),
-    ] {
-        let next = tree.next_runnable(Tty(t), slot).map(|fork| fork.name);
-        same_in(&rt, u64::from(slot), next, Some(name(want)));
-    }
-    Ok(())
-}
-
-#[test]
 fn bodies_are_changed_in_place(rt: HostRuntime) -> Result<(), Fail> {
     let mut tree = family(&rt, rt.alloc())?;
     if let Some(body) = tree.body_mut(name(2)) {
@@ -328,5 +305,80 @@ fn bodies_are_changed_in_place(rt: HostRuntime) -> Result<(), Fail> {
     is(&rt, tree.fork(name(2)), &fork);
     same(&rt, tree.body_mut(name(6)).is_none(), true);
     is(&rt, tree.fork(name(4)), &new(4, 4, Some(2)));
+    Ok(())
+}
+
+// A body that sleeps to a moment of the clock.
+fn sleeper(moment: u64) -> Body {
+    body(ForkStatus::Wait(WaitOn::Sleep(moment)))
+}
+
+// Of the forks 1 to 5, which sleep.
+fn asleep(tree: &Tree) -> [bool; 5] {
+    let mut sleep = [false; 5];
+    for fork in 0..5 {
+        let status = tree.status(name(fork as u32 + 1));
+        sleep[fork] = matches!(status, Some(ForkStatus::Wait(WaitOn::Sleep(_))));
+    }
+    sleep
+}
+
+#[test]
+fn sleepers_are_awoken_at_their_moment(rt: HostRuntime) -> Result<(), Fail> {
+    let mut tree = family(&rt, rt.alloc())?;
+    for (serial, moment) in [(1, 9), (2, 4), (4, 4), (5, 20)] {
+        tree.set_body(name(serial), sleeper(moment));
+    }
+    tree.set_body(name(3), body(ForkStatus::Wait(WaitOn::Input)));
+    for (clock, sleep) in [
+        (1, [true, true, false, true, true]),
+        (3, [true, true, false, true, true]),
+        (4, [true, false, false, false, true]),
+        (5, [true, false, false, false, true]),
+        (15, [false, false, false, false, true]),
+    ] {
+        tree.wake_sleepers(clock);
+        same_in(&rt, clock, asleep(&tree), sleep);
+    }
+    same(&rt, tree.status(name(1)), Some(ForkStatus::Run));
+    same(
+        &rt,
+        tree.status(name(3)),
+        Some(ForkStatus::Wait(WaitOn::Input)),
+    );
+    tree.set_body(name(2), sleeper(17));
+    for (clock, sleep) in [
+        (16, [false, true, false, false, true]),
+        (17, [false, false, false, false, true]),
+        (20, [false; 5]),
+    ] {
+        tree.wake_sleepers(clock);
+        same_in(&rt, clock, asleep(&tree), sleep);
+    }
+    tree.wake_readers(T);
+    same(&rt, tree.status(name(3)), Some(ForkStatus::Run));
+    Ok(())
+}
+
+#[test]
+fn sleepers_of_all_jobs_are_awoken(rt: HostRuntime) -> Result<(), Fail> {
+    let mut tree = boot(rt.alloc())?;
+    for tty in 0..16 {
+        if tree.fork_at(Tty(tty), 1).is_none() {
+            let Ok(fork) = tree.make(Tty(tty), None) else {
+                return Err("no fork".into());
+            };
+            tree.set_body(fork, sleeper(10 + u64::from(tty)));
+        }
+    }
+    tree.wake_sleepers(17);
+    for tty in 0..16 {
+        let fork = ForkName {
+            tty: Tty(tty),
+            serial: 1,
+        };
+        let runs = tree.status(fork) == Some(ForkStatus::Run);
+        same_in(&rt, u64::from(tty), runs, tty <= 7);
+    }
     Ok(())
 }

@@ -13,5 +13,5 @@ invariant_of-self c =
     rw c.set_mark.ensures (record {
       tree = changed_look (record { forks = t.forks; serials = t.serials.items }) (with_mark c.args.on) (λ k. refl) (λ k. refl) (λ k. refl) c.self.invariant.tree (map.get t.forks c.args.name) held;
       terminals = c.self.invariant.terminals;
-      quiet = quiet_marked t.forks t.readers.items c.args.on (map.get t.forks c.args.name) held c.self.invariant.quiet;
+      quiet = quiet_marked t.forks t.notes.items c.args.on (map.get t.forks c.args.name) held c.self.invariant.quiet;
     })

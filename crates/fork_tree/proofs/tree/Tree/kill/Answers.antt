@@ -21,5 +21,5 @@ invariant_of-self c =
     rw c.remove.ensures (record {
       tree = rw (← name) (killed_tree tree f.0 c.self.invariant.tree lives (nobodys_superior tree c.self.invariant.tree f.0 lives leaf));
       terminals = c.self.invariant.terminals;
-      quiet = quiet_gone t.forks t.readers.items c.args.name c.self.invariant.quiet;
+      quiet = quiet_gone t.forks t.notes.items c.args.name c.self.invariant.quiet;
     })

@@ -1,10 +1,10 @@
-use Rattle.std.proofs.Common.{◌≡◌, refl, ◌∙◌, sym, ap, subst, arith, None, get_or}
+use Rattle.std.proofs.Common.{◌≡◌, ◌∙◌, sym, ap, subst, arith, None, get_or}
 use Rattle.std.specs.Prelude.{IsSome, MatchOption}
 use Rattle.std.proofs.lemmas.List.{get_or_read}
 use Rattle.plain_model.specs.Forks.{fork_in}
 use Rattle.plain_model.specs.Trees.{PlainTree, new_fork, next_name}
 use Rattle.fork_tree.proofs.Kept.{made_tree, slot_first, slot_free, slot_last}
-use Rattle.fork_tree.proofs.Reading.{quiet_put}
+use Rattle.fork_tree.proofs.Reading.{halted_calm, quiet_put}
 use Rattle.fork_tree.proofs.tree.Tree.make.Goals as goal
 
 pub insert-requires-clause-first : goal.insert-requires-clause-first
@@ -48,5 +48,5 @@ invariant_of-self c =
     rw (c.insert.ensures, c.new_fork.ensures, c.from-2.ensures, serial) (record {
       tree = made_tree tree c.args.tty c.args.superior c.in-Some.slot c.self.invariant.tree c.requires.terminal (sym c.in-Some.ensures) (omega (arith, serial, c.if-serial-gt-LAST_SERIAL.false)) over;
       terminals = c.self.invariant.terminals;
-      quiet = quiet_put t.forks t.readers.items (new_fork (next_name tree c.args.tty) c.in-Some.slot c.args.superior) c.self.invariant.quiet refl;
+      quiet = quiet_put t.forks t.notes.items (new_fork (next_name tree c.args.tty) c.in-Some.slot c.args.superior) c.self.invariant.quiet halted_calm;
     })
