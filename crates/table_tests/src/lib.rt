@@ -1,4 +1,4 @@
-//! Tests of the monitor's tables: numbers, files, JFNs, frames, shares, maps that are pages, the drum's queue, typing and commands.
+//! Tests of the monitor's tables: numbers, the scheduler's lists, files, JFNs, frames, shares, maps that are pages, the drum's queue, typing and commands.
 //! No layer stands above; to a reader each test is a table's life, step by step.
 //! Stands on the crates of tables.
 #![tactic(auto)]
@@ -29,6 +29,8 @@ mod numbers;
 mod orders;
 #[cfg(test)]
 mod same;
+#[cfg(test)]
+mod schedules;
 #[cfg(test)]
 mod shares;
 #[cfg(test)]

@@ -11,8 +11,8 @@ use machine_names::{ForkName, Kind, LAST_SERIAL, PageName, Slot, TERMINALS, Tty}
 use page_contracts::{Room, Seen, Store};
 use page_homes::Home;
 use pager_walk::{
-    Looked, MOST_MAPS, MapTables, Walked, Way, begin, begin_following, end, entry, free_number,
-    make_page, map_of, seen, set, walk,
+    Looked, MOST_MAPS, MapTables, Walked, Way, begin, begin_following, end, entry, make_page, seen,
+    set, walk,
 };
 use plain_pages::MapEntry;
 use share_table::decode;
@@ -51,13 +51,13 @@ fn add<S: Store>(
     if new.tty.0 >= TERMINALS {
         panic!(rt; "no such terminal");
     }
-    let Some(number) = free_number(&tables.maps, new.tty) else {
+    let Some(number) = tables.maps.free_number(new.tty) else {
         panic!(rt; "thirty forks");
     };
     if number >= MOST_MAPS {
         panic!(rt; "no such map");
     }
-    if let Some(_) = map_of(&tables.maps, new) {
+    if let Some(_) = tables.maps.map_of(new) {
         panic!(rt; "it has a map");
     }
     let Room::Enough = store.room(1) else {
@@ -123,7 +123,7 @@ fn drop_map<S: Store>(rt: &impl Abort, store: &mut S, tables: &mut MapTables, ol
     requires { AreRooted (tables_of tables.old) (map is_taken (S.means.homes store.old)) }
     ensures { AreRooted (tables_of tables.new) (map is_taken (S.means.homes store.new)) }
 {
-    let Some(number) = map_of(&tables.maps, old) else {
+    let Some(number) = tables.maps.map_of(old) else {
         panic!(rt; "no map");
     };
     end(store, tables, number, old);

@@ -1,0 +1,15 @@
+pub mod Turns
+pub mod RowChanges
+pub mod Moves
+pub mod Kept
+pub mod Leaving
+pub mod Looks
+pub mod Admitting
+pub mod Arrivals
+pub mod Seats
+pub mod Ties
+pub mod Units
+pub mod Lines
+pub mod Alone
+pub mod Heads
+pub mod Apart
