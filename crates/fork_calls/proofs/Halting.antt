@@ -10,11 +10,12 @@ use Rattle.plain_model.specs.declared.fork.Fork.{Fork}
 use Rattle.script_texts.specs.declared.status.ForkStatus.{ForkStatus}
 use Rattle.script_texts.specs.declared.status.ForkStatus.TheVariants.{Run, Wait, Halted, Forced}
 use Rattle.plain_pages.specs.PlainPages.{NumberedPages}
-use Rattle.plain_model.specs.Forks.{ForkMap, superior_of, with_status}
+use Rattle.plain_model.specs.Forks.{ForkMap, OthersStay, superior_of, with_status}
 use Rattle.plain_model.specs.Interrupts.{is_panic, listens, pended, posted, woken}
 use Rattle.plain_model.specs.Trees.{PlainTree, changed, waiters_woken, with_changed_of, end_told}
 use Rattle.plain_model.specs.ForkCalls.{fork_changed, with_halted}
 use Rattle.plain_model.proofs.ForkMaps.{AreOwn, get_put, superior_tells}
+use Rattle.plain_model.proofs.OtherJobs.{others_alike, others_on, put_job, told_job}
 use Rattle.plain_model.proofs.Posted.{posted_same}
 use Rattle.fork_tree.specs.Trees.{Lives}
 use Rattle.fork_calls.specs.Limits.{FitsForced, IsBody}
@@ -87,6 +88,13 @@ module _ (tree : PlainTree) (own : AreOwn tree.forks) (name : ForkName) (f : For
 
   pub halt_keeps : Keep tree.forks (end_told set g)
   halt_keeps = keep_on tree.forks set (end_told set g) set_keeps (end_keeps set set_keeps.own g)
+
+  -- no fork of another job is told
+  pub halt_others : OthersStay name.tty tree.forks (end_told set g)
+  halt_others =
+      let here : g.name.tty.0 ≡ name.tty.0 = ap (λ (n : ForkName). n.tty.0) (own name f there) in
+      let put = put_job name.tty tree.forks own g here in
+      others_on name.tty tree.forks set (end_told set g) put.others (others_alike name.tty g.name.tty set (end_told set g) here (told_job set put.own g).others)
 
   pub halt_changes : (p : NumberedPages) → parts (record tree { forks = end_told set g }) p ≡ fork_changed (Halt name) (parts tree p)
   unfolding fork_changed

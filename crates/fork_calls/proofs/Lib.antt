@@ -4,6 +4,8 @@ pub mod Holdings
 pub mod Tops
 pub mod Maps
 pub mod CallLeaving
+pub mod Frozen
+pub mod OtherRuns
 pub mod Halting
 pub mod Branch
 pub mod Bodies

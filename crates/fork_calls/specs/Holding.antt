@@ -6,7 +6,7 @@ use Rattle.machine_names.specs.declared.names.Tty.{Tty}
 use Rattle.machine_names.specs.declared.names.ForkName.{ForkName}
 use Rattle.machine_names.specs.declared.names.TheConstants.{MOST_FORKS}
 use Rattle.plain_model.specs.declared.fork.Fork.{Fork}
-use Rattle.plain_model.specs.Forks.{ForkMap, forks_by_slot}
+use Rattle.plain_model.specs.Forks.{ForkMap, OthersStay, forks_by_slot}
 use Rattle.machine_names.specs.Bounds.{IsTerminal}
 use Rattle.page_contracts.specs.Pages.{PagesMeaning, MayLose}
 use Rattle.plain_model.specs.Trees.{PlainTree, next_name}
@@ -58,12 +58,13 @@ pub record MakesPages {P : Type 0} (means : PagesMeaning P) (owner : Tty) (pages
   pub serial : means.serial new owner ≤ means.serial old owner + pages
   pub serials : (t : Tty) → t ≢ owner → means.serial new t ≡ means.serial old t
 
--- what a call of a fork leaves of pages and forks, with so many pages made at most: they go together, each fork lived or is made, and that fork and the top forks live
--- on; and what is queued and held may have become less
+-- what a call of a fork leaves of pages and forks, with so many pages made at most: they go together, each fork lived or is made, that fork and the top forks live
+-- on, and the forks of other jobs are as they were; and what is queued and held may have become less
 pub record CallLeaves {P : Type 0} (means : PagesMeaning P) (old new : P) (tree tree' : PlainTree) (who : ForkName) (pages : ℕ) : Type 0 where
   pub holds : Holds means new tree'.forks
   pub kept : ComeOrNew tree tree'.forks
   pub caller : IsSome (map.get tree.forks who) → IsSome (map.get tree'.forks who)
   pub tops : TopsStay tree.forks tree'.forks
+  pub others : OthersStay who.tty tree.forks tree'.forks
   pub made : MakesPages means who.tty pages old new
   pub loses : MayLose means old new

@@ -72,13 +72,13 @@ IsChangeBelow forks who Nothing = Unit {0}
 IsChangeBelow forks who (Make f) = ⊥
 IsChangeBelow forks who (Kill f) = IsBelow forks who f
 IsChangeBelow forks who (Freeze f on) = IsBelow forks who f
-IsChangeBelow forks who (Become f body) = IsBodyOf forks f body
+IsChangeBelow forks who (Become f body) = IsBelow forks who f × IsBodyOf forks f body
 IsChangeBelow forks who (Halt f) = IsBelow forks who f
 IsChangeBelow forks who (Store f at words) = ⊥
 
--- what holds of a first step: a fork is made in the free slot, while a serial is left for it; and words are those of an inferior
+-- what holds of a first step: a fork is made in the free slot, while a serial is left for it; and words are those of an inferior that lives
 abbrev pub FitsStep : Asked → FirstStep → Type 0
 FitsStep a (Ends e) = FitsEnd (IsChangeBelow a.tree.forks a.who) e
 FitsStep a (Makes slot) = slot_for a.tree a.who.tty ≡ Ok slot
-FitsStep a (Sets f) = Lives a.tree.forks f
+FitsStep a (Sets f) = Lives a.tree.forks f × IsBelow a.tree.forks a.who f.name
 FitsStep a (Stores f) = Lives a.tree.forks f

@@ -5,6 +5,7 @@ ghost use Rattle.page_contracts.specs.Stores.{IsNeeded};
 ghost use Rattle.plain_model.specs.ForkCalls.{fork_changed};
 ghost use Rattle.plain_model.specs.declared.call.ForkChange.{ForkChange as AForkChange};
 ghost use Rattle.plain_pages.specs.PlainPages.{NumberedPages};
+ghost use Rattle.plain_model.specs.Forks.{OthersStay};
 ghost use Rattle.plain_model.specs.Trees.{with_changed_of};
 ghost use Rattle.fork_tree.specs.Trees.{IsTree};
 ghost use Rattle.fork_calls.specs.Asking.{IsBelow};
@@ -36,6 +37,7 @@ fn halt(who: ForkName, name: ForkName, tree: &mut Tree)
     ensures told { (p : NumberedPages) → parts tree.new p ≡ fork_changed (AForkChange.Halt name) (parts tree.old p) }
     ensures same { SamePlaces tree.old.forks tree.new.forks }
     ensures kept { ComeFrom tree.old.forks tree.new.forks }
+    ensures others { OthersStay name.tty tree.old.forks tree.new.forks }
     ensures trees { IsTree tree.new }
 {
     tree.are_trees();
@@ -50,6 +52,7 @@ fn set_mark(who: ForkName, name: ForkName, on: bool, tree: &mut Tree)
     ensures told { (p : NumberedPages) → parts tree.new p ≡ fork_changed (AForkChange.Freeze name on) (parts tree.old p) }
     ensures same { SamePlaces tree.old.forks tree.new.forks }
     ensures kept { ComeFrom tree.old.forks tree.new.forks }
+    ensures others { OthersStay name.tty tree.old.forks tree.new.forks }
     ensures trees { IsTree tree.new }
 {
     tree.are_trees();
@@ -63,6 +66,7 @@ pub fn set_body(name: ForkName, body: Body, tree: &mut Tree)
     ensures told { (p : NumberedPages) → parts tree.new p ≡ fork_changed (AForkChange.Become name body) (parts tree.old p) }
     ensures same { SamePlaces tree.old.forks tree.new.forks }
     ensures kept { ComeFrom tree.old.forks tree.new.forks }
+    ensures others { OthersStay name.tty tree.old.forks tree.new.forks }
     ensures trees { IsTree tree.new }
 {
     tree.are_trees();

@@ -2,6 +2,7 @@
 ghost use Rattle.std.specs.Prelude.{◌≡◌, ◌≤◌, IfErr, IsOk, IsSome, None, true};
 ghost use Rattle.std.specs.FinMap as map;
 ghost use Rattle.plain_model.specs.ForkCalls.{without_below};
+ghost use Rattle.plain_model.specs.Forks.{OthersStay};
 ghost use Rattle.plain_model.specs.declared.call.ForkChange.{ForkChange as AForkChange};
 ghost use Rattle.machine_names.specs.declared.names.TheConstants.{MOST_FORKS};
 ghost use Rattle.machine_names.specs.declared.names.ForkName.{ForkName as AForkName};
@@ -72,6 +73,7 @@ pub fn kill_below<P: Pages>(who: ForkName, tree: &mut Tree, pages: &mut P)
     ensures tops { TopsStay tree.old.forks tree.new.forks }
     ensures made { (t : ATty) → MakesPages P.means t 0 pages.old pages.new }
     ensures loses { MayLose P.means pages.old pages.new }
+    ensures others { OthersStay who.tty tree.old.forks tree.new.forks }
     ensures older { (q : AForkName) → q.serial ≤ who.serial → map.get tree.new.forks q ≡ map.get tree.old.forks q }
     ensures bare { HasNoInferior tree.new.forks who }
 {

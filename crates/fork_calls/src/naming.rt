@@ -18,19 +18,23 @@ fn fork_named(regs: &Regs, who: ForkName, tree: &Tree) -> Result<Fork, u32>
     requires { IsRegs regs.now }
     ensures named { result ≡ fork_named_of (asked who regs.now tree.now) }
     ensures lives { IfOk result (Lives tree.now.forks) }
+    ensures job { IfOk result (λ f. f.name.tty.0 ≡ who.tty.0) }
 {
+    tree.are_trees();
     match tree.fork_named(who, regs.ac[1].right()) {
         Some(fork) => Ok(*fork),
         None => Err(NO_HANDLE),
     }
 }
 
-// A fork, where it is an inferior of the caller; or NO_INFERIOR.
+// A fork of the caller's job, where it is an inferior of the caller; or NO_INFERIOR.
 fn if_inferior(fork: Fork, regs: &Regs, who: ForkName, tree: &Tree) -> Result<Fork, u32>
-    requires { Lives tree.now.forks fork }
+    requires lives { Lives tree.now.forks fork }
+    requires job { fork.name.tty.0 ≡ who.tty.0 }
     ensures named { result ≡ if_inferior_of (asked who regs.now tree.now) fork }
     ensures below { IfOk result (λ f. IsBelow tree.now.forks who f.name) }
     ensures lives { IfOk result (Lives tree.now.forks) }
+    ensures job { IfOk result (λ f. f.name.tty.0 ≡ who.tty.0) }
 {
     if tree.below(who, fork.name) {
         Ok(fork)
@@ -66,6 +70,7 @@ pub fn own_named(regs: &Regs, who: ForkName, tree: &Tree) -> Result<Fork, u32>
     requires { IsRegs regs.now }
     ensures named { result ≡ own_named_of (asked who regs.now tree.now) }
     ensures lives { IfOk result (Lives tree.now.forks) }
+    ensures job { IfOk result (λ f. f.name.tty.0 ≡ who.tty.0) }
 {
     match fork_named(regs, who, tree) {
         Ok(fork) => {

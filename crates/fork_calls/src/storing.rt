@@ -9,7 +9,7 @@ ghost use Rattle.call_turns.specs.Answers.{AnswerNeeds, IsDone};
 ghost use Rattle.ka10_unit.specs.Gathers.{Serves};
 ghost use Rattle.ka10_unit.specs.Taking.{most_frames};
 ghost use Rattle.fork_tree.specs.Trees.{Lives};
-ghost use Rattle.fork_calls.specs.Asking.{asked};
+ghost use Rattle.fork_calls.specs.Asking.{IsBelow, asked};
 ghost use Rattle.fork_calls.specs.Holding.{CallLeaves, Holds, MakesPages};
 ghost use Rattle.fork_calls.specs.Steps.{whole};
 ghost use Rattle.fork_calls.specs.Turning.{HasRegs, Turned};
@@ -61,6 +61,7 @@ pub fn set_accumulators<P: Pages>(
 ) -> Answer
     requires regs { IsRegs regs.now }
     requires fork { Lives tree.old.forks fork }
+    requires below { IsBelow tree.old.forks who fork.name }
     requires serves { Serves P.means pages.old who }
     requires holds { Holds P.means pages.old tree.old.forks }
     requires serial { P.means.serial pages.old who.tty < 2 ^ 62 }

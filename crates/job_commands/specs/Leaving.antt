@@ -4,7 +4,7 @@ use Rattle.std.specs.Option.{option_map}
 use Rattle.std.specs.FinMap as map
 use Rattle.machine_names.specs.declared.names.ForkName.{ForkName}
 use Rattle.plain_model.specs.declared.fork.Fork.{Fork}
-use Rattle.plain_model.specs.Forks.{ForkMap}
+use Rattle.plain_model.specs.Forks.{ForkMap, OthersStay}
 use Rattle.plain_model.specs.Trees.{PlainTree}
 use Rattle.page_contracts.specs.Pages.{PagesMeaning, MayLose}
 use Rattle.fork_tree.specs.Trees.{Lives}
@@ -14,21 +14,23 @@ use Rattle.fork_calls.specs.Holding.{ComeFrom, Holds, MakesPages, TopsStay}
 abbrev pub IsTop : ForkMap → ForkName → Type 0
 IsTop forks top = option_map (λ f. f.slot) (map.get forks top) ≡ Some 1
 
--- no fork of the job is left; each fork of another job that lives stands where it stood, and the top forks of other jobs live on; pages and
--- tree have the same forks; no page was made, and what is queued and held may have become less
+-- no fork of the job is left; each fork that lives stands where it stood, and the top forks of other jobs live on; each fork of another job is as
+-- it was; pages and tree have the same forks; no page was made, and what is queued and held may have become less
 pub record LogoutLeaves {P : Type 0} (means : PagesMeaning P) (old new : P) (tree tree' : PlainTree) (top : ForkName) : Type 0 where
   pub holds : Holds means new tree'.forks
   pub kept : ComeFrom tree.forks tree'.forks
   pub gone : (f : Fork) → Lives tree'.forks f → f.name.tty.0 ≢ top.tty.0
   pub tops : (name : ForkName) → name ≢ top → IsTop tree.forks name → IsTop tree'.forks name
+  pub others : OthersStay top.tty tree.forks tree'.forks
   pub made : MakesPages means top.tty 0 old new
   pub loses : MayLose means old new
 
--- each fork that lives stands where it stood, and the top forks live on; pages and tree have the same forks; no page was made, and what is
--- queued and held may have become less
+-- each fork that lives stands where it stood, and the top forks live on; each fork of another job is as it was; pages and tree have the same
+-- forks; no page was made, and what is queued and held may have become less
 pub record RunLeaves {P : Type 0} (means : PagesMeaning P) (old new : P) (tree tree' : PlainTree) (top : ForkName) : Type 0 where
   pub holds : Holds means new tree'.forks
   pub kept : ComeFrom tree.forks tree'.forks
   pub tops : TopsStay tree.forks tree'.forks
+  pub others : OthersStay top.tty tree.forks tree'.forks
   pub made : MakesPages means top.tty 0 old new
   pub loses : MayLose means old new

@@ -3,6 +3,7 @@ ghost use Rattle.std.specs.Prelude.{◌≡◌, IsSome, if◌then◌else◌, fals
 ghost use Rattle.std.specs.Option.{option_map_or};
 ghost use Rattle.std.specs.FinMap as map;
 ghost use Rattle.plain_model.specs.Commands.{is_forced as is_forced_of, resumed, without_halt as without_halt_of};
+ghost use Rattle.plain_model.specs.Forks.{OthersStay};
 ghost use Rattle.plain_model.specs.Trees.{with_changed_of};
 ghost use Rattle.fork_tree.specs.Trees.{IsTree};
 ghost use Rattle.job_commands.specs.Going.{can_continue};
@@ -61,6 +62,7 @@ pub fn go_on(top: ForkName, tree: &mut Tree) -> bool
     requires lives { IsSome (map.get tree.old.forks top) }
     ensures goes { result ≡ option_map_or can_continue (map.get tree.old.forks top) false }
     ensures tree { tree.new ≡ (if result then with_changed_of tree.old top resumed else tree.old) }
+    ensures others { OthersStay top.tty tree.old.forks tree.new.forks }
 {
     tree.are_trees();
     let Some(fork) = tree.fork(top) else {

@@ -7,6 +7,7 @@ ghost use Rattle.machine_names.specs.declared.names.Tty.{Tty as ATty};
 ghost use Rattle.page_contracts.specs.DrumWords.{DrumWords};
 ghost use Rattle.page_contracts.specs.Pages.{MayLose};
 ghost use Rattle.plain_model.specs.ForkCalls.{killed, without_below};
+ghost use Rattle.plain_model.specs.Forks.{OthersStay};
 ghost use Rattle.fork_tree.specs.Inferiors.{HasNoInferior};
 ghost use Rattle.fork_calls.specs.Holding.{ComeFrom, Holds, MakesPages, TopsStay};
 ghost use Rattle.fork_calls.specs.Turning.{parts};
@@ -30,6 +31,7 @@ pub fn kill_inferiors<P: Pages>(who: ForkName, tree: &mut Tree, pages: &mut P)
     ensures tops { TopsStay tree.old.forks tree.new.forks }
     ensures made { (t : ATty) → MakesPages P.means t 0 pages.old pages.new }
     ensures loses { MayLose P.means pages.old pages.new }
+    ensures others { OthersStay who.tty tree.old.forks tree.new.forks }
     ensures older { (q : AForkName) → q.serial ≤ who.serial → map.get tree.new.forks q ≡ map.get tree.old.forks q }
     ensures bare { HasNoInferior tree.new.forks who }
 {

@@ -29,7 +29,7 @@ use Rattle.ka10_unit.specs.Gathers.{Framed, framed}
 use Rattle.text_pointers.specs.Reading.{pages_so_far}
 use Rattle.text_pointers.proofs.Needs.{read_needs}
 use Rattle.text_pointers.proofs.Turns.{TurnsTo, turn_reads}
-use Rattle.psi_calls.specs.declared.stored.StoredWord.{StoredWord}
+use Rattle.text_pointers.specs.declared.reader.Reader.{Reader}
 use Rattle.psi_calls.specs.Stored.{ReadsStored}
 use Rattle.psi_calls.specs.Turning.{Changes, EndsOver, FileMap, HasCodes, PsiNeeds, Turned, jobs_with, parts}
 use Rattle.psi_calls.proofs.Changed.{become_changes}
@@ -44,9 +44,9 @@ module _ (tree tree' : PlainTree) (line line' : InputLine) (t : Tty) where
   unfolding parts_behind
   done_ends e what regs out post is changes = subst (EndsOver tree tree' line line' t) (sym is) changes
 
-  all_same : tree' ≡ tree → line' ≡ line → (files : FileMap) (jobs : Jobs) (p : NumberedPages) → HasCodes jobs t line → parts tree' files (jobs_with jobs t line') p ≡ parts tree files jobs p
-  all_same same kept files jobs p has =
-      ap (λ (u : PlainTree). parts u files (jobs_with jobs t line') p) same ∙ ap (λ (js : Jobs). parts tree files js p) (same_codes jobs t line line' has (ap (λ (l : InputLine). l.codes) kept))
+  all_same : tree' ≡ tree → line' ≡ line → (files : FileMap) (jobs : Jobs) (clock : ℕ) (p : NumberedPages) → HasCodes jobs t line → parts tree' files (jobs_with jobs t line') clock p ≡ parts tree files jobs clock p
+  all_same same kept files jobs clock p has =
+      ap (λ (u : PlainTree). parts u files (jobs_with jobs t line') clock p) same ∙ ap (λ (js : Jobs). parts tree files js clock p) (same_codes jobs t line line' has (ap (λ (l : InputLine). l.codes) kept))
 
   -- another leaves all as it was
   pub other_ends : (e : End InterruptChange) → ((what : InterruptChange) (regs : Regs) (out post : Option ℕ) → e ≡ Done what regs out post → ⊥) → tree' ≡ tree → line' ≡ line → EndsOver tree tree' line line' t e
@@ -63,7 +63,7 @@ module _ (tree tree' : PlainTree) (line line' : InputLine) (t : Tty) where
   unfolding turn_on
   ends_turned means p result e answered told = record {
     fits = λ d fits. fits;
-    comes = λ d files jobs fits has. inl (record { answered = answered; left = told files jobs (means.plain p d) has });
+    comes = λ d files jobs clock fits has. inl (record { answered = answered; left = told files jobs clock (means.plain p d) has });
   }
 
 -- ---- DEBRK
@@ -88,52 +88,52 @@ module _ (a : Asked) (f : Fork) (table level : ℕ) where
   abbrev Turn : InterruptTurn
   Turn = dismissed a f table level
 
-  goes : (p : Framed) (s : StoredWord) → ReadsStored a.who p a.regs table level (Ok s) → turn_on no_files p.pages Turn ≡ record { end = Ending s.word; pages = pages_so_far p s.reader }
-  goes p s h =
+  goes : (p : Framed) (r : Reader) (w : ℕ) → ReadsStored a.who p a.regs table level r (Ok w) → turn_on no_files p.pages Turn ≡ record { end = Ending w; pages = pages_so_far p r }
+  goes p r w h =
       subst (TurnsTo no_files a.who a.regs (λ w. ends (Ending w)) (turn_on no_files p.pages Turn)) h.plain (turn_reads no_files a.who a.regs (λ w. ends (Ending w)) (word_stored a.regs table level) p.pages)
-      ∙ came_ends (pages_so_far p s.reader) (Ending s.word)
+      ∙ came_ends (pages_so_far p r) (Ending w)
 
-  traps : (p : Framed) (channel : ℕ) → ReadsStored a.who p a.regs table level (Err (Trap channel)) → (turn_on no_files p.pages Turn).end ≡ TrapEnd channel
-  traps p channel h = subst (TurnsTo no_files a.who a.regs (λ w. ends (Ending w)) (turn_on no_files p.pages Turn)) h.plain (turn_reads no_files a.who a.regs (λ w. ends (Ending w)) (word_stored a.regs table level) p.pages)
+  traps : (p : Framed) (r : Reader) (channel : ℕ) → ReadsStored a.who p a.regs table level r (Err (Trap channel)) → (turn_on no_files p.pages Turn).end ≡ TrapEnd channel
+  traps p r channel h = subst (TurnsTo no_files a.who a.regs (λ w. ends (Ending w)) (turn_on no_files p.pages Turn)) h.plain (turn_reads no_files a.who a.regs (λ w. ends (Ending w)) (word_stored a.regs table level) p.pages)
 
-  waits : (p : Framed) (n : Need) → ReadsStored a.who p a.regs table level (Err (NeedStop n)) → PsiNeeds p.scene p.pages Turn n
-  waits p n h = read_needs (λ scene q t. PsiNeeds scene q t n) a.who a.regs n (λ w. ends (Ending w)) (λ scene q steps rest needs. needs) p (word_stored a.regs table level) (only_reads a.regs table level) h.is
+  waits : (p : Framed) (r : Reader) (n : Need) → ReadsStored a.who p a.regs table level r (Err (NeedStop n)) → PsiNeeds p.scene p.pages Turn n
+  waits p r n h = read_needs (λ scene q t. PsiNeeds scene q t n) a.who a.regs n (λ w. ends (Ending w)) (λ scene q steps rest needs. needs) p (word_stored a.regs table level) (only_reads a.regs table level) h.is
 
   module _ {P : Type 0} (means : PagesMeaning P) (old : P) (tree : PlainTree) (line : InputLine) where
     -- its reading stops it
-    pub stops_turned : (stop : Stop) → ((d : DrumWords) → means.fits old d → ReadsStored a.who (framed means old d) a.regs table level (Err stop)) → (result : Answer) → result ≡ stopped_by stop
+    pub stops_turned : (r : Reader) (stop : Stop) → ((d : DrumWords) → means.fits old d → ReadsStored a.who (framed means old d) a.regs table level r (Err stop)) → (result : Answer) → result ≡ stopped_by stop
         → Turned means old old tree tree line line a.who.tty result Turn
-    stops_turned (Trap channel) reads result answered = record {
+    stops_turned r (Trap channel) reads result answered = record {
       fits = λ d fits. fits;
-      comes = λ d files jobs fits has.
+      comes = λ d files jobs clock fits has.
           let p = framed means old d in
-          let v = parts tree files jobs p.pages in
+          let v = parts tree files jobs clock p.pages in
           let made : Parts nat_cmp = record v { pages = (turn_on no_files p.pages Turn).pages } in
-          let new = parts tree files (jobs_with jobs a.who.tty line) p.pages in
-          let here : Went interrupts_changed v made new result (TrapEnd channel) = record { answered = answered; left = all_same tree tree line line a.who.tty refl refl files jobs p.pages has ∙ trap_leaves v made channel } in
-          inl (subst (λ (e : End InterruptChange). Went interrupts_changed v made new result e) (sym (traps p channel (reads d fits))) here);
+          let new = parts tree files (jobs_with jobs a.who.tty line) clock p.pages in
+          let here : Went interrupts_changed v made new result (TrapEnd channel) = record { answered = answered; left = all_same tree tree line line a.who.tty refl refl files jobs clock p.pages has ∙ trap_leaves v made channel } in
+          inl (subst (λ (e : End InterruptChange). Went interrupts_changed v made new result e) (sym (traps p r channel (reads d fits))) here);
     }
-    stops_turned (NeedStop n) reads result answered = record {
+    stops_turned r (NeedStop n) reads result answered = record {
       fits = λ d fits. fits;
-      comes = λ d files jobs fits has. inr (record { need = n; answered = answered; reason = waits (framed means old d) n (reads d fits); left = all_same tree tree line line a.who.tty refl refl files jobs (means.plain old d) has });
+      comes = λ d files jobs clock fits has. inr (record { need = n; answered = answered; reason = waits (framed means old d) r n (reads d fits); left = all_same tree tree line line a.who.tty refl refl files jobs clock (means.plain old d) has });
     }
 
     -- the word was read, the pages that this makes were made, and the fork was changed
-    pub went_turned : (new : P) (tree' : PlainTree) (s : StoredWord) → ((d : DrumWords) → means.fits old d → ReadsStored a.who (framed means old d) a.regs table level (Ok s)) → ((d : DrumWords) → means.fits old d → means.fits new d)
-        → ((d : DrumWords) → means.fits old d → means.plain new d ≡ pages_so_far (framed means old d) s.reader) → tree' ≡ with_changed_of tree f.name (with_body (without_level f.body level)) → (result : Answer) → result ≡ After (restored a.regs s.word) None None
+    pub went_turned : (new : P) (tree' : PlainTree) (r : Reader) (w : ℕ) → ((d : DrumWords) → means.fits old d → ReadsStored a.who (framed means old d) a.regs table level r (Ok w)) → ((d : DrumWords) → means.fits old d → means.fits new d)
+        → ((d : DrumWords) → means.fits old d → means.plain new d ≡ pages_so_far (framed means old d) r) → tree' ≡ with_changed_of tree f.name (with_body (without_level f.body level)) → (result : Answer) → result ≡ After (restored a.regs w) None None
         → Turned means old new tree tree' line line a.who.tty result Turn
-    went_turned new tree' s reads fit made is result answered = record {
+    went_turned new tree' r w reads fit made is result answered = record {
       fits = fit;
-      comes = λ d files jobs fits has.
+      comes = λ d files jobs clock fits has.
           let p = framed means old d in
-          let v = parts tree files jobs p.pages in
+          let v = parts tree files jobs clock p.pages in
           let what = Become f.name (without_level f.body level) in
-          let changed = become_changes tree tree' line line a.who.tty f.name (without_level f.body level) is refl files jobs (means.plain new d) has in
-          let behind : Parts nat_cmp = record v { pages = pages_so_far p s.reader } in
-          let new_parts = parts tree' files (jobs_with jobs a.who.tty line) (means.plain new d) in
-          let here : Went interrupts_changed v behind new_parts result (Ending s.word) = record {
+          let changed = become_changes tree tree' line line a.who.tty f.name (without_level f.body level) is refl files jobs clock (means.plain new d) has in
+          let behind : Parts nat_cmp = record v { pages = pages_so_far p r } in
+          let new_parts = parts tree' files (jobs_with jobs a.who.tty line) clock (means.plain new d) in
+          let here : Went interrupts_changed v behind new_parts result (Ending w) = record {
             answered = answered;
-            left = done_leaves v behind new_parts what (restored a.regs s.word) (changed ∙ ap (λ (q : NumberedPages). interrupts_changed what (parts tree files jobs q)) (made d fits));
+            left = done_leaves v behind new_parts what (restored a.regs w) (changed ∙ ap (λ (q : NumberedPages). interrupts_changed what (parts tree files jobs clock q)) (made d fits));
           } in
-          inl (subst (λ (c : Came nat_cmp InterruptChange). Went interrupts_changed v (record v { pages = c.pages }) new_parts result c.end) (sym (goes p s (reads d fits))) here);
+          inl (subst (λ (c : Came nat_cmp InterruptChange). Went interrupts_changed v (record v { pages = c.pages }) new_parts result c.end) (sym (goes p r w (reads d fits))) here);
     }

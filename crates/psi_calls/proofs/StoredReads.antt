@@ -17,8 +17,7 @@ use Rattle.text_pointers.specs.Outcomes.{read_over}
 use Rattle.text_pointers.specs.Reading.{HasPage, ReadsWord, Stands, pages_so_far}
 use Rattle.text_pointers.proofs.Needs.{OnlyReads}
 use Rattle.text_pointers.proofs.Plainly.{plain_of}
-use Rattle.text_pointers.proofs.WordReads.{read_here, word_runs}
-use Rattle.psi_calls.specs.declared.stored.StoredWord.{StoredWord}
+use Rattle.text_pointers.proofs.WordReads.{word_runs}
 use Rattle.psi_calls.specs.Stored.{ReadsStored, stored_ended}
 
 -- it only reads
@@ -34,8 +33,8 @@ pub new_stands : (f : ForkName) (p : Framed) (r : Reader) → r.fork ≡ f → G
 new_stands f p r fork gathers page = record { fork = fork; gathers = gathers; page = subst (HasPage f p (pages_so_far p r)) (sym page) tt }
 
 module _ (f : ForkName) (p : Framed) (regs : Regs) (table level : ℕ) where
-  stored_as : (result : Result StoredWord Stop) → ((s : StoredWord) → result ≡ Ok s → Stands f p s.reader) → read_over f p regs (word_stored regs table level) p.pages ≡ stored_ended p result → ReadsStored f p regs table level result
-  stored_as result stands is = record { stands = stands; is = is; plain = plain_of f p regs (word_stored regs table level) p.pages (stored_ended p result) is }
+  stored_as : (new : Reader) (result : Result ℕ Stop) → ((w : ℕ) → result ≡ Ok w → Stands f p new) → read_over f p regs (word_stored regs table level) p.pages ≡ stored_ended p new result → ReadsStored f p regs table level new result
+  stored_as new result stands is = record { stands = stands; is = is; plain = plain_of f p regs (word_stored regs table level) p.pages (stored_ended p new result) is }
 
   module _ (none mid : Reader) (empty : none.gather.references ≡ []) where
     -- what is left behind the word of the level
@@ -46,19 +45,13 @@ module _ (f : ForkName) (p : Framed) (regs : Regs) (table level : ℕ) where
     begins = ap (read_over f p regs (word_stored regs table level)) (sym (none_left p.pages none empty))
 
     -- that word stops it
-    pub named_stops : (e : Stop) → ReadsWord f p regs none mid (level_at table level) (Err e) → ReadsStored f p regs table level (Err e)
-    named_stops e word = stored_as (Err e) (λ s no. absurd (cc no)) (begins ∙ word_runs f p regs none mid (level_at table level) (Err e) word Rest)
+    pub named_stops : (e : Stop) → ReadsWord f p regs none mid (level_at table level) (Err e) → ReadsStored f p regs table level mid (Err e)
+    named_stops e word = stored_as mid (Err e) (λ s no. absurd (cc no)) (begins ∙ word_runs f p regs none mid (level_at table level) (Err e) word Rest)
 
     module _ (w : ℕ) (named : ReadsWord f p regs none mid (level_at table level) (Ok w)) (new : Reader) where
       goes : read_over f p regs (word_stored regs table level) p.pages ≡ read_over f p regs (Rest w) (pages_so_far p mid)
       goes = begins ∙ word_runs f p regs none mid (level_at table level) (Ok w) named Rest
 
-      -- the word that it names stops it
-      pub stored_stops : (e : Stop) → ReadsWord f p regs mid new (right w) (Err e) → ReadsStored f p regs table level (Err e)
-      stored_stops e word = stored_as (Err e) (λ s no. absurd (cc no)) (goes ∙ word_runs f p regs mid new (right w) (Err e) word (λ v. read v))
-
-      -- it is read
-      pub stored_ends : (v : ℕ) → ReadsWord f p regs mid new (right w) (Ok v) → ReadsStored f p regs table level (Ok (record { word = v; reader = new }))
-      stored_ends v word =
-          stored_as (Ok (record { word = v; reader = new })) (λ s same. (let one : record { word = v; reader = new } ≡ s = cc same in subst (λ (x : StoredWord). Stands f p x.reader) one (word.stands v refl)))
-          (goes ∙ word_runs f p regs mid new (right w) (Ok v) word (λ u. read u) ∙ read_here f p regs v (pages_so_far p new))
+      -- and so does the word that it names
+      pub stored_ends : (result : Result ℕ Stop) → ReadsWord f p regs mid new (right w) result → ReadsStored f p regs table level new result
+      stored_ends result word = stored_as new result word.stands (goes ∙ word.is)

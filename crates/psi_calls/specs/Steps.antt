@@ -38,10 +38,10 @@ pub record IsLevelOf (f : Fork) (least : LevelToEnd) : Type 0 where
   pub first : 1 ≤ least.level
   pub last : least.level ≤ LEVELS
 
--- a change that a fork's call may make: it changes forks that live, and the codes of its own job
+-- a change that a fork's call may make: it changes forks of its own job that live, and the job's codes
 abbrev pub IsChange : ForkMap → ForkName → InterruptChange → Type 0
-IsChange forks who (Become f body) = IsBodyOf forks f body
-IsChange forks who (Post f channels) = IsSome (map.get forks f)
+IsChange forks who (Become f body) = (f.tty.0 ≡ who.tty.0) × IsBodyOf forks f body
+IsChange forks who (Post f channels) = (f.tty.0 ≡ who.tty.0) × IsSome (map.get forks f)
 IsChange forks who (Assign code f channel) = (f ≡ who) × IsAssignable code × (channel < CHANNELS)
 IsChange forks who (Unassign t code) = t ≡ who.tty
 

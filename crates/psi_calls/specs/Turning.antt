@@ -30,9 +30,9 @@ use Rattle.text_pointers.specs.Reading.{text_frames}
 abbrev pub FileMap : Type 0
 FileMap = map.FinMap name_cmp PlainFile
 
--- the forks, the files, the jobs and the pages
-abbrev pub parts : PlainTree → FileMap → Jobs → NumberedPages → Parts nat_cmp
-parts tree files jobs p = record { tree = tree; pages = p; files = files; jobs = jobs }
+-- the forks, the files, the jobs, the clock and the pages
+abbrev pub parts : PlainTree → FileMap → Jobs → ℕ → NumberedPages → Parts nat_cmp
+parts tree files jobs clock p = record { tree = tree; pages = p; files = files; jobs = jobs; clock = clock }
 
 -- the codes that the job at a terminal has assigned
 abbrev pub codes_at : Jobs → Tty → Codes
@@ -51,13 +51,13 @@ jobs_with jobs t line = with_codes_of jobs t (λ old. line.codes)
 -- a change was made, over all jobs of which that at a terminal has these codes; no page is changed
 abbrev pub Changes : PlainTree → PlainTree → InputLine → InputLine → Tty → InterruptChange → Type 0
 Changes tree tree' line line' t what =
-    (files : FileMap) (jobs : Jobs) (p : NumberedPages) → HasCodes jobs t line → parts tree' files (jobs_with jobs t line') p ≡ interrupts_changed what (parts tree files jobs p)
+    (files : FileMap) (jobs : Jobs) (clock : ℕ) (p : NumberedPages) → HasCodes jobs t line → parts tree' files (jobs_with jobs t line') clock p ≡ interrupts_changed what (parts tree files jobs clock p)
 
 -- a turn that reads no word ended so: its change was made, if it is done
 abbrev pub EndsOver : PlainTree → PlainTree → InputLine → InputLine → Tty → End InterruptChange → Type 0
 EndsOver tree tree' line line' t e =
-    (files : FileMap) (jobs : Jobs) (p : NumberedPages) → HasCodes jobs t line
-    → parts tree' files (jobs_with jobs t line') p ≡ parts_behind interrupts_changed (parts tree files jobs p) (parts tree files jobs p) e
+    (files : FileMap) (jobs : Jobs) (clock : ℕ) (p : NumberedPages) → HasCodes jobs t line
+    → parts tree' files (jobs_with jobs t line') clock p ≡ parts_behind interrupts_changed (parts tree files jobs clock p) (parts tree files jobs clock p) e
 
 -- a turn that isn't done leaves forks and codes as they were
 abbrev pub StaysPut : PlainTree → PlainTree → InputLine → InputLine → Answer → Type 0
@@ -85,12 +85,12 @@ ComesOut scene v new result t =
     let c = turn_on no_files v.pages t in
     IsTurn (PsiNeeds scene v.pages t) interrupts_changed v (record v { pages = c.pages }) new result c.end
 
--- A TURN OF A CALL, over each drum that fits, all files, and all jobs of which the caller's has these codes: its answer is that of its end,
+-- A TURN OF A CALL, over each drum that fits, all files, each clock, and all jobs of which the caller's has these codes: its answer is that of its end,
 -- and what it leaves is what that leaves, with no file and no other job changed; or it needs something first, and leaves all as it was
 pub record Turned {P : Type 0} (means : PagesMeaning P) (old new : P) (tree tree' : PlainTree) (line line' : InputLine) (t : Tty) (result : Answer) (turn : InterruptTurn) : Type 0 where
   pub fits : (d : DrumWords) → means.fits old d → means.fits new d
-  pub comes : (d : DrumWords) (files : FileMap) (jobs : Jobs) → means.fits old d → HasCodes jobs t line
-      → ComesOut (means.scene old) (parts tree files jobs (means.plain old d)) (parts tree' files (jobs_with jobs t line') (means.plain new d)) result turn
+  pub comes : (d : DrumWords) (files : FileMap) (jobs : Jobs) (clock : ℕ) → means.fits old d → HasCodes jobs t line
+      → ComesOut (means.scene old) (parts tree files jobs clock (means.plain old d)) (parts tree' files (jobs_with jobs t line') clock (means.plain new d)) result turn
 
 -- how many frames a turn may want: one for each of the two words that DEBRK reads; no more than the reading of a text
 abbrev pub psi_frames : ℕ

@@ -98,9 +98,10 @@ fn posted(fork: Fork, channels: Word) -> Body
     body
 }
 
-// The channels of a word are to be posted to a fork that lives. The end of the caller is told by its own unit, and so its body is changed
+// The channels of a word are to be posted to a fork of the caller's job that lives. The end of the caller is told by its own unit, and so its body is changed
 // alone.
 fn posting(fork: Fork, channels: Word, who: ForkName) -> InterruptChange
+    requires job { fork.name.tty.0 ≡ who.tty.0 }
     ensures posts { result ≡ posts_to who channels fork }
     ensures fits { (forks : ForkMap) → Lives forks fork → IsChange forks who result }
 {

@@ -2,6 +2,7 @@
 ghost use Rattle.std.specs.Prelude.{◌≡◌};
 ghost use Rattle.fork_calls.specs.Holding.{ComeFrom, SamePlaces};
 ghost use Rattle.fork_tree.specs.Trees.{IsTree};
+ghost use Rattle.plain_model.specs.Forks.{OthersStay};
 ghost use Rattle.psi_calls.specs.Steps.{IsChange};
 ghost use Rattle.psi_calls.specs.Turning.{Changes};
 
@@ -17,6 +18,7 @@ pub fn change(what: &InterruptChange, who: ForkName, tree: &mut Tree, line: &mut
     ensures input { line.new.input ≡ line.old.input }
     ensures same { SamePlaces tree.old.forks tree.new.forks }
     ensures kept { ComeFrom tree.old.forks tree.new.forks }
+    ensures others { OthersStay who.tty tree.old.forks tree.new.forks }
     ensures trees { IsTree tree.new }
 {
     tree.are_trees();

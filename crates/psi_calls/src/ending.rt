@@ -9,6 +9,7 @@ ghost use Rattle.fork_calls.specs.Turning.{HasRegs, stopped_by};
 ghost use Rattle.fork_tree.specs.Trees.{IsTree, Lives};
 ghost use Rattle.ka10_unit.specs.Gathers.{Serves};
 ghost use Rattle.plain_typing.specs.Lines.{InputLine};
+ghost use Rattle.plain_model.specs.Forks.{OthersStay};
 ghost use Rattle.plain_model.specs.InterruptCalls.{dismissed};
 ghost use Rattle.psi_calls.specs.Steps.{IsChange, IsLevelOf, dismissed_at};
 ghost use Rattle.psi_calls.specs.Turning.{EndsOver, Stays, StaysPut, Turned, psi_frames};
@@ -24,6 +25,7 @@ use machine_names::ForkName;
 use page_contracts::Pages;
 use plain_model::call::{End, InterruptChange};
 use plain_units::Regs;
+use text_pointers::Reader;
 use tty_lines::Line;
 
 // The answer of a turn that stops before its end.
@@ -46,6 +48,7 @@ pub fn end(ending: End<InterruptChange>, who: ForkName, tree: &mut Tree, line: &
     ensures input { line.new.input ≡ line.old.input }
     ensures same { SamePlaces tree.old.forks tree.new.forks }
     ensures kept { ComeFrom tree.old.forks tree.new.forks }
+    ensures others { OthersStay who.tty tree.old.forks tree.new.forks }
     ensures trees { IsTree tree.new }
     ensures regs { HasRegs result }
     ensures done { IsDone result }
@@ -64,6 +67,7 @@ pub fn dismiss<P: Pages>(
     regs: &Regs,
     who: ForkName,
     tree: &mut Tree,
+    reader: &mut Reader,
     pages: &mut P,
 ) -> Answer
     requires regs { IsRegs regs.now }
@@ -81,15 +85,15 @@ pub fn dismiss<P: Pages>(
     ensures regs { HasRegs result }
 {
     tree.are_trees();
-    match word_stored(regs, who, least.table, least.level, pages) {
+    match word_stored(reader, regs, who, least.table, least.level, pages) {
         Err(stop) => stopped(stop),
-        Ok(stored) => {
-            stored.reader.make(pages);
+        Ok(word) => {
+            reader.make(pages);
             let body = without_level(least.fork.body, least.level);
             tree.set_body(who, body);
             tree.are_trees();
             Answer::After {
-                regs: restored(*regs, stored.word),
+                regs: restored(*regs, word),
                 out: None,
                 post: None,
             }

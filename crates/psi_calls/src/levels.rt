@@ -2,14 +2,12 @@
 ghost use Rattle.std.specs.Prelude.{◌≡◌, ◌≤◌, ◌<◌, ◌^◌, IfSome};
 ghost use Rattle.plain_units.specs.Deeds.{half_flags};
 ghost use Rattle.plain_model.specs.declared.interrupt.TheConstants.{LEVELS};
-ghost use Rattle.plain_model.specs.Inspections.{least_level as least_level_of, level_at as level_at_of};
+ghost use Rattle.plain_model.specs.Inspections.{least_level as least_level_of};
 ghost use Rattle.plain_model.specs.InterruptCalls.{restored as restored_of, without_level as without_level_of};
 ghost use Rattle.call_turns.specs.Turns.{IsRegs};
 ghost use Rattle.fork_calls.specs.Limits.{IsBody};
-ghost use Rattle.machine_names.specs.Bounds.{IsAddress};
 
 use ka10_deeds::flags_of;
-use plain_model::interrupt::LEVELS;
 use plain_model::{Body, Psi};
 use plain_units::Regs;
 use word36::Word;
@@ -29,16 +27,6 @@ pub fn least_level(psi: &Psi) -> Option<u8>
     } else {
         None
     }
-}
-
-/// The address of the word of a level, 1 to 3, in a table LEVTAB,,CHNTAB.
-pub fn level_at(table: Word, level: u8) -> u32
-    requires first { 1 ≤ level }
-    requires last { level ≤ LEVELS }
-    ensures at { result ≡ level_at_of table level }
-    ensures address { IsAddress result }
-{
-    table.left() + u32::from(level - 1) & Word::HALF_MASK
 }
 
 /// A fork of which a level, 1 to 3, is in progress no more.

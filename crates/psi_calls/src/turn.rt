@@ -18,12 +18,13 @@ use fork_tree::Tree;
 use machine_names::ForkName;
 use page_contracts::Pages;
 use plain_units::Regs;
+use text_pointers::Reader;
 use tty_lines::Line;
 
 /// One turn of a call on pseudo-interrupts, by its number (JSYS Manual, "Pseudo-interrupt system"), with the line of the terminal of the job
 /// that calls: its answer is that of the plain call, and so are the forks, the codes and the pages that it leaves. DEBRK alone reads words,
 /// two of them: it needs something first only where the page of one, or a map on the way, is in no frame, or where what it makes finds none.
-/// A turn that isn't done leaves all as it was, and none changes the characters that are stored. A number that is no such call traps as an
+/// It reads them by the reader, whatever that has referred to before. A turn that isn't done leaves all as it was, and none changes the characters that are stored. A number that is no such call traps as an
 /// illegal instruction.
 pub fn call<P: Pages>(
     number: u32,
@@ -31,6 +32,7 @@ pub fn call<P: Pages>(
     who: ForkName,
     tree: &mut Tree,
     line: &mut Line,
+    reader: &mut Reader,
     pages: &mut P,
 ) -> Answer
     requires regs { IsRegs regs.now }
@@ -48,6 +50,6 @@ pub fn call<P: Pages>(
     tree.are_trees();
     match first(number, regs, who, tree) {
         FirstStep::Ends(ending) => end(ending, who, tree, line),
-        FirstStep::Dismisses(least) => dismiss(&least, regs, who, tree, pages),
+        FirstStep::Dismisses(least) => dismiss(&least, regs, who, tree, reader, pages),
     }
 }

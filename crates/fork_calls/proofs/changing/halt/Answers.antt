@@ -2,11 +2,12 @@ use Rattle.std.proofs.Common.{refl, sym, ◌∙◌, ap, subst}
 use Rattle.std.specs.Prelude.{IsSome}
 use Rattle.std.specs.Option.{option_map_or}
 use Rattle.std.specs.FinMap as map
+use Rattle.plain_model.specs.Forks.{OthersStay}
 use Rattle.plain_model.specs.Trees.{PlainTree, end_told}
 use Rattle.fork_tree.proofs.Leaves.{inferior_lives}
 use Rattle.fork_calls.specs.Holding.{ComeFrom, SamePlaces}
 use Rattle.fork_calls.specs.Turning.{parts}
-use Rattle.fork_calls.proofs.Halting.{halt_changes, halt_is, halt_keeps}
+use Rattle.fork_calls.proofs.Halting.{halt_changes, halt_is, halt_keeps, halt_others}
 use Rattle.fork_calls.proofs.changing.halt.Goals as goal
 
 pub set_halted-requires : goal.set_halted-requires
@@ -27,5 +28,6 @@ returns c =
       told = λ p. ap (λ (t : PlainTree). parts t p) is ∙ halt_changes tree own name f.0 f.1 p;
       same = subst (λ (t : PlainTree). SamePlaces tree.forks t.forks) (sym is) keep.same;
       kept = subst (λ (t : PlainTree). ComeFrom tree.forks t.forks) (sym is) keep.come;
+      others = subst (λ (t : PlainTree). OthersStay name.tty tree.forks t.forks) (sym is) (halt_others tree own name f.0 f.1);
       trees = c.are_trees-2.ensures;
     }

@@ -1,6 +1,8 @@
 use Rattle.std.proofs.Common.{refl, sym, subst}
 use Rattle.std.specs.Prelude.{IsSome}
-use Rattle.plain_model.specs.Trees.{PlainTree}
+use Rattle.plain_model.specs.Forks.{OthersStay}
+use Rattle.plain_model.specs.Trees.{PlainTree, with_mark}
+use Rattle.plain_model.proofs.OtherJobs.{named_others}
 use Rattle.fork_tree.proofs.Leaves.{inferior_lives}
 use Rattle.fork_calls.specs.Holding.{ComeFrom, SamePlaces}
 use Rattle.fork_calls.proofs.Bodies.{mark_changes, mark_keeps}
@@ -18,5 +20,6 @@ returns c =
       told = mark_changes tree own c.args.name c.args.on c.freeze.new.self c.freeze.ensures;
       same = subst (λ (t : PlainTree). SamePlaces tree.forks t.forks) (sym c.freeze.ensures) keep.same;
       kept = subst (λ (t : PlainTree). ComeFrom tree.forks t.forks) (sym c.freeze.ensures) keep.come;
+      others = subst (λ (t : PlainTree). OthersStay c.args.name.tty tree.forks t.forks) (sym c.freeze.ensures) (named_others tree own c.args.name (with_mark c.args.on));
       trees = c.are_trees-2.ensures;
     }

@@ -3,7 +3,9 @@ use Rattle.std.specs.Prelude.{IsSome, is_some}
 use Rattle.std.specs.Option.{option_map}
 use Rattle.machine_names.specs.declared.names.ForkName.{ForkName}
 use Rattle.plain_model.specs.Inferiors.{is_inferior}
+use Rattle.plain_model.specs.Forks.{OthersStay}
 use Rattle.plain_model.proofs.ForkMaps.{get_gone_other}
+use Rattle.plain_model.proofs.OtherJobs.{gone_others, others_on, waiters_job}
 use Rattle.plain_model.specs.Trees.{PlainTree}
 use Rattle.std.specs.FinMap as map
 use Rattle.fork_tree.proofs.Slots.{held_lives}
@@ -12,7 +14,7 @@ use Rattle.ka10_in_place.proofs.Stored.{lost_on}
 use Rattle.fork_calls.specs.Holding.{TopsStay}
 use Rattle.fork_calls.specs.Turning.{parts}
 use Rattle.fork_calls.proofs.Branch.{below_younger, kill_changes, made_on}
-use Rattle.fork_calls.proofs.CallLeaving.{none_leaves}
+use Rattle.fork_calls.proofs.CallLeaving.{below_others, none_leaves}
 use Rattle.fork_calls.proofs.Holdings.{holds_same}
 use Rattle.fork_calls.proofs.Places.{Keep, come_on, still_living, waiters_keep}
 use Rattle.fork_calls.proofs.Tops.{below_low, gone_tops, same_tops, tops_on}
@@ -66,6 +68,11 @@ returns-clause-leaves g c =
           still_living mid last keep.same who ∙ ap (λ (t : PlainTree). map.contains_key t.forks who) c.kill_bare.ensures.tree
           ∙ ap is_some (get_gone_other first name who apart ∙ c.kill_below.ensures.older who (omega (arith, low))) ∙ lives;
       tops = tops_on tree.forks first last c.kill_below.ensures.tops (tops_on first mid last bare (same_tops mid last keep.same));
+      others =
+          let t = name.tty in
+          let one = subst (λ (x : PlainTree). OthersStay t first x.forks) (sym c.kill_bare.ensures.tree) (gone_others t first name refl) in
+          let told = subst (λ (x : PlainTree). OthersStay t mid x.forks) (sym c.wake_waiters.ensures) (waiters_job mid c.are_trees-2.ensures.slotted.own t).others in
+          below_others tree is who name c.requires.below last (others_on t tree.forks first last c.kill_below.ensures.others (others_on t first mid last one told));
       made = made_on means who.tty 0 0 c.args.pages.now c.kill_below.new.pages c.kill_bare.new.pages (c.kill_below.ensures.made who.tty) (c.kill_bare.ensures.made who.tty);
       loses = lost_on means c.args.pages.now c.kill_below.new.pages c.kill_bare.new.pages c.kill_below.ensures.loses c.kill_bare.ensures.loses;
     }

@@ -4,11 +4,12 @@ use Rattle.std.specs.Option.{option_map}
 use Rattle.std.specs.Ordering.{nat_cmp}
 use Rattle.std.specs.FinMap as map
 use Rattle.machine_names.specs.declared.names.ForkName.{ForkName}
-use Rattle.plain_model.specs.Forks.{ForkMap}
+use Rattle.plain_model.specs.Forks.{ForkMap, OthersStay}
 use Rattle.plain_model.specs.Inferiors.{is_inferior, last_below}
 use Rattle.plain_model.specs.Trees.{PlainTree}
 use Rattle.plain_model.specs.ForkCalls.{ForkParts, without, without_below}
 use Rattle.plain_model.proofs.ForkMaps.{get_gone_other}
+use Rattle.plain_model.proofs.OtherJobs.{gone_others, others_itself, others_on}
 use Rattle.fork_tree.specs.Inferiors.{HasNoInferior}
 use Rattle.fork_tree.proofs.Killing.{below_in, fewer_counted, last_once, none_counted}
 use Rattle.fork_tree.proofs.Upward.{tally, tally_most}
@@ -17,6 +18,7 @@ use Rattle.fork_calls.specs.Holding.{TopsStay}
 use Rattle.fork_calls.specs.Needing.{AreMapsHere, GoesWith}
 use Rattle.fork_calls.specs.Turning.{parts}
 use Rattle.fork_calls.proofs.Branch.{below_end, below_over, below_step, made_on, none_made, below_younger, one_less, told_last, told_none}
+use Rattle.fork_calls.proofs.CallLeaving.{below_job}
 use Rattle.fork_calls.proofs.Maps.{fewer_go}
 use Rattle.fork_calls.proofs.Places.{came_itself, come_on}
 use Rattle.fork_calls.proofs.Tops.{below_low, gone_tops, tops_on}
@@ -30,6 +32,7 @@ loop-round-init g c = record {
   tops = λ name top. top;
   made = λ t. none_made g.P.Pages.means c.args.pages.now c.args.pages.now t refl refl;
   loses = lost_none g.P.Pages.means c.args.pages.now;
+  others = others_itself c.args.who.tty c.args.tree.now.forks;
   older = λ q low. refl;
   few = tally_most (below_in c.args.tree.now.forks c.args.who) 1 30;
   told = λ d fits. (fits, refl);
@@ -77,6 +80,9 @@ loop-round-preserved g c =
           tops_on c.args.tree.now.forks tree.forks c.kill_bare.new.tree.forks before.tops (subst (TopsStay tree.forks) (sym gone) (gone_tops tree.forks name low));
       made = λ t. made_on means t 0 0 c.args.pages.now c.loop-round.pages c.kill_bare.new.pages (before.made t) (c.kill_bare.ensures.made t);
       loses = lost_on means c.args.pages.now c.loop-round.pages c.kill_bare.new.pages before.loses c.kill_bare.ensures.loses;
+      others =
+          let here = below_job tree is who name (ap (is_inferior tree.forks who) (sym k.named) ∙ k.leaf.below) in
+          others_on who.tty c.args.tree.now.forks tree.forks c.kill_bare.new.tree.forks before.others (subst (OthersStay who.tty tree.forks) (sym gone) (gone_others who.tty tree.forks name here));
       older = λ q low.
           let apart : q ≡ name → ⊥ = λ same. omega (arith, low, younger, ap (λ (n : ForkName). n.serial) (same ∙ sym k.named)) in
           ap (λ (m : ForkMap). map.get m q) gone ∙ get_gone_other tree.forks name q apart ∙ before.older q low;

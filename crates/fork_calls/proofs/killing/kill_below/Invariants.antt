@@ -5,6 +5,7 @@ use Rattle.machine_names.specs.declared.names.Tty.{Tty}
 use Rattle.page_contracts.specs.DrumWords.{DrumWords}
 use Rattle.page_contracts.specs.Pages.{MayLose}
 use Rattle.plain_model.specs.ForkCalls.{without_below}
+use Rattle.plain_model.specs.Forks.{OthersStay}
 use Rattle.fork_tree.proofs.Killing.{below_in}
 use Rattle.fork_tree.proofs.Upward.{tally}
 use Rattle.fork_calls.specs.Holding.{ComeFrom, Holds, MakesPages, TopsStay}
@@ -20,6 +21,7 @@ invariant-loop-round g l = record {
   tops : TopsStay l.fn.tree.forks l.tree.forks;
   made : (t : Tty) → MakesPages g.P.Pages.means t 0 l.fn.pages l.pages;
   loses : MayLose g.P.Pages.means l.fn.pages l.pages;
+  others : OthersStay l.who.tty l.fn.tree.forks l.tree.forks;
   older : (q : ForkName) → q.serial ≤ l.who.serial → map.get l.tree.forks q ≡ map.get l.fn.tree.forks q;
   few : tally (below_in l.tree.forks l.who) 1 30 ≤ 30 - l._round;
   told : (d : DrumWords) → g.P.Pages.means.fits l.fn.pages d

@@ -10,7 +10,7 @@ use Rattle.machine_names.specs.declared.names.PageName.{PageName}
 use Rattle.machine_names.specs.declared.names.Tty.{Tty}
 use Rattle.plain_pages.specs.declared.map.NewMap.{NewMap}
 use Rattle.plain_units.specs.declared.registers.Regs.{Regs}
-use Rattle.plain_model.specs.Forks.{ForkMap}
+use Rattle.plain_model.specs.Forks.{ForkMap, OthersStay}
 use Rattle.machine_names.specs.Orders.{same_fork}
 use Rattle.plain_pages.specs.NewMaps.{with_map}
 use Rattle.plain_pages.specs.Room.{HasRoom}
@@ -20,6 +20,7 @@ use Rattle.page_contracts.proofs.Losing.{needed_more}
 use Rattle.page_contracts.specs.Pages.{IsNewMap, MayLose, NamesPage, PagesMeaning, TakesMap}
 use Rattle.plain_model.specs.Trees.{PlainTree, next_name}
 use Rattle.plain_model.specs.ForkCalls.{made_fork, map_wanted}
+use Rattle.plain_model.proofs.OtherJobs.{others_itself, put_others}
 use Rattle.call_turns.specs.Answers.{AnswerNeeds, IsDone, answer_of}
 use Rattle.ka10_unit.specs.Carrying.{Grows}
 use Rattle.ka10_unit.specs.Gathers.{framed}
@@ -181,6 +182,7 @@ returns-in-Err-clause-leaves g c =
       kept = λ f lives. inl (came_itself forks f lives);
       caller = λ lives. lives;
       tops = λ n top. top;
+      others = others_itself t forks;
       made = made_on means t 128 0 old grown new (words_made means t old mapped grown add.serials add.most c.in-Err.ensures.grows) (none_made means grown new t drop.serials drop.most);
       loses = lost_on means old grown new (subst (MayLose means old) (sym same) add.loses) drop.loses;
     }
@@ -210,6 +212,7 @@ returns-in-Ok-clause-leaves g c =
       kept = subst (ComeOrNew tree) (sym made) (made_come tree f (made_new a c.args.slot c.in-Ok.words c.requires.lives (omega arith)));
       caller = λ lives. ap (λ (m : ForkMap). map.contains_key m who) made ∙ still_there tree.forks f who lives;
       tops = subst (TopsStay tree.forks) (sym made) (made_tops tree.forks f unused);
+      others = subst (OthersStay who.tty tree.forks) (sym made) (put_others who.tty tree.forks f refl);
       made = words_made means who.tty old mapped new add.serials add.most grows;
       loses = lost_on means old mapped new add.loses grows.loses;
     }

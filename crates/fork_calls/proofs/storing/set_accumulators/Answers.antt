@@ -15,7 +15,7 @@ use Rattle.fork_calls.specs.Steps.{set_end, whole}
 use Rattle.fork_calls.specs.Turning.{parts}
 use Rattle.fork_calls.specs.declared.step.FirstStep.TheVariants.{Sets}
 use Rattle.fork_calls.proofs.Branch.{none_made}
-use Rattle.fork_calls.proofs.CallLeaving.{grown_leaves, places_leave}
+use Rattle.fork_calls.proofs.CallLeaving.{below_others, grown_leaves, places_leave}
 use Rattle.fork_calls.proofs.Needed.{done_needs, stop_needs}
 use Rattle.fork_calls.proofs.TurnBlocks.{block_goes, block_stops, turn_stops}
 use Rattle.fork_calls.proofs.storing.set_accumulators.Goals as goal
@@ -59,6 +59,7 @@ pub returns-in-Ok-clause-leaves : goal.returns-in-Ok-clause-leaves
 returns-in-Ok-clause-leaves g c =
     places_leave g.P.Pages.means c.args.who c.args.tree.now 128 c.args.pages.now c.block.new.pages c.in-Ok.ensures.grows c.requires.holds
     c.set_body.new.tree c.are_trees.ensures.slotted c.set_body.ensures.trees.slotted c.set_body.ensures.same c.set_body.ensures.kept
+    (below_others c.args.tree.now c.are_trees.ensures c.args.who c.args.fork.name c.requires.below c.set_body.new.tree.forks c.set_body.ensures.others)
 
 pub returns-in-Err-clause-needs : goal.returns-in-Err-clause-needs
 returns-in-Err-clause-needs g c =

@@ -40,6 +40,7 @@ returns-in-Ends-clause-leaves g c =
       kept = left.kept;
       caller = left.caller;
       tops = left.tops;
+      others = left.others;
       made = record { most = made.most; serial = omega (arith, made.serial); serials = made.serials };
       loses = left.loses;
     }

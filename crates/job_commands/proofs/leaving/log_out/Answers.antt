@@ -1,11 +1,12 @@
-use Rattle.std.proofs.Common.{◌≡◌, ◌+◌, None, Some, sym, ◌∙◌, ap, arith}
+use Rattle.std.proofs.Common.{◌≡◌, ◌+◌, None, Some, refl, sym, ◌∙◌, ap, subst, arith}
 use Rattle.std.specs.Option.{option_map}
 use Rattle.std.specs.FinMap as map
 use Rattle.machine_names.specs.declared.names.ForkName.{ForkName}
 use Rattle.plain_model.specs.declared.fork.Fork.{Fork}
-use Rattle.plain_model.specs.Forks.{ForkMap}
+use Rattle.plain_model.specs.Forks.{ForkMap, OthersStay}
 use Rattle.plain_model.specs.Trees.{PlainTree}
 use Rattle.plain_model.proofs.ForkMaps.{get_gone, get_gone_other}
+use Rattle.plain_model.proofs.OtherJobs.{gone_others, others_on}
 use Rattle.fork_tree.proofs.Kept.{top_lives}
 use Rattle.ka10_in_place.proofs.Stored.{lost_on}
 use Rattle.fork_calls.proofs.Branch.{made_on}
@@ -36,6 +37,7 @@ returns-clause-leaves g c =
           ap (λ (m : ForkMap). option_map (λ (f : Fork). f.slot) (map.get m name)) left
           ∙ ap (option_map (λ (f : Fork). f.slot)) (get_gone_other mid top name apart)
           ∙ c.kill_inferiors.ensures.tops name at;
+      others = others_on top.tty tree.forks mid last.forks c.kill_inferiors.ensures.others (subst (OthersStay top.tty mid) (sym left) (gone_others top.tty mid top refl));
       made = made_on means top.tty 0 0 c.args.pages.now c.kill_inferiors.new.pages c.kill_bare.new.pages (c.kill_inferiors.ensures.made top.tty) (c.kill_bare.ensures.made top.tty);
       loses = lost_on means c.args.pages.now c.kill_inferiors.new.pages c.kill_bare.new.pages c.kill_inferiors.ensures.loses c.kill_bare.ensures.loses;
     }

@@ -1,6 +1,8 @@
 use Rattle.std.proofs.Common.{refl, sym, subst}
 use Rattle.std.specs.FinMap as map
+use Rattle.plain_model.specs.Forks.{OthersStay}
 use Rattle.plain_model.specs.Trees.{PlainTree, changed}
+use Rattle.plain_model.proofs.OtherJobs.{named_others, others_itself, others_on}
 use Rattle.plain_model.specs.Commands.{begun_at}
 use Rattle.fork_tree.proofs.Slots.{held_lives}
 use Rattle.ka10_in_place.proofs.Stored.{lost_none, lost_on}
@@ -18,6 +20,7 @@ returns-in_default-clause-leaves g c =
       holds = c.requires.holds;
       kept = came_itself c.args.tree.now.forks;
       tops = λ name top. top;
+      others = others_itself c.args.top.tty c.args.tree.now.forks;
       made = none_made means c.args.pages.now c.args.pages.now c.args.top.tty refl refl;
       loses = lost_none means c.args.pages.now;
     }
@@ -41,6 +44,8 @@ returns-clause-leaves g c =
       holds = holds_same means c.map_program.new.pages mid last slotted c.are_trees-2.ensures.slotted keep.same (holds_still means pages c.map_program.new.pages mid grown.lives grown.forks k.holds);
       kept = come_on old mid last k.kept keep.come;
       tops = tops_on old mid last k.tops (same_tops mid last keep.same);
+      others = others_on top.tty old mid last k.others
+          (subst (λ (t : PlainTree). OthersStay top.tty mid t.forks) (sym c.begin_at.ensures) (named_others c.kill_inferiors.new.tree slotted.own top (begun_at c.right.result)));
       made = made_on means top.tty 0 0 c.args.pages.now pages c.map_program.new.pages (k.made top.tty) (grown_made means top.tty 0 pages c.map_program.new.pages grown);
       loses = lost_on means c.args.pages.now pages c.map_program.new.pages k.loses grown.loses;
     }

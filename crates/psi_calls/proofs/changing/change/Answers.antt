@@ -1,5 +1,8 @@
 use Rattle.std.proofs.Common.{sym, ◌∙◌, subst}
-use Rattle.plain_model.specs.Trees.{PlainTree}
+use Rattle.plain_model.specs.Forks.{OthersStay}
+use Rattle.plain_model.specs.Interrupts.{channels_of}
+use Rattle.plain_model.specs.Trees.{PlainTree, with_body}
+use Rattle.plain_model.proofs.OtherJobs.{named_others, others_alike, others_itself, posted_others}
 use Rattle.fork_calls.proofs.Bodies.{body_keeps}
 use Rattle.fork_calls.proofs.Places.{Keep, keep_itself}
 use Rattle.psi_calls.specs.Steps.{IsChange}
@@ -35,7 +38,7 @@ keeps c =
     elim c.match-what.branch [
       | in-Become w ↦
           let can = subst (IsChange tree.forks who) w.in-Become.is c.requires in
-          subst (λ (t : PlainTree). Keep tree.forks t.forks) (sym (w.tree-is ∙ w.set_body.ensures)) (body_keeps tree own w.in-Become.name w.in-Become.body can)
+          subst (λ (t : PlainTree). Keep tree.forks t.forks) (sym (w.tree-is ∙ w.set_body.ensures)) (body_keeps tree own w.in-Become.name w.in-Become.body can.1)
       | in-Post w ↦ subst (λ (t : PlainTree). Keep tree.forks t.forks) (sym (w.tree-is ∙ w.post_channels.ensures.forks)) (channels_keep tree.forks own w.in-Post.channels w.in-Post.name)
       | in-Assign w ↦ subst (λ (t : PlainTree). Keep tree.forks t.forks) (sym w.tree-is) (keep_itself tree.forks own)
       | in-Unassign w ↦ subst (λ (t : PlainTree). Keep tree.forks t.forks) (sym w.tree-is) (keep_itself tree.forks own)
@@ -46,3 +49,23 @@ returns-clause-same c = (keeps c).same
 
 pub returns-clause-kept : goal.returns-clause-kept
 returns-clause-kept c = (keeps c).come
+
+pub returns-clause-others : goal.returns-clause-others
+returns-clause-others c =
+    let tree = c.args.tree.now in
+    let who = c.args.who in
+    let own = c.are_trees.ensures.slotted.own in
+    elim c.match-what.branch [
+      | in-Become w ↦
+          let can = subst (IsChange tree.forks who) w.in-Become.is c.requires in
+          let name = w.in-Become.name in
+          let here = others_alike who.tty name.tty tree.forks _ can.0 (named_others tree own name (with_body w.in-Become.body)) in
+          subst (λ (t : PlainTree). OthersStay who.tty tree.forks t.forks) (sym (w.tree-is ∙ w.set_body.ensures)) here
+      | in-Post w ↦
+          let can = subst (IsChange tree.forks who) w.in-Post.is c.requires in
+          let name = w.in-Post.name in
+          let here = others_alike who.tty name.tty tree.forks _ can.0 (posted_others tree.forks own name (channels_of w.in-Post.channels)) in
+          subst (λ (t : PlainTree). OthersStay who.tty tree.forks t.forks) (sym (w.tree-is ∙ w.post_channels.ensures.forks)) here
+      | in-Assign w ↦ subst (λ (t : PlainTree). OthersStay who.tty tree.forks t.forks) (sym w.tree-is) (others_itself who.tty tree.forks)
+      | in-Unassign w ↦ subst (λ (t : PlainTree). OthersStay who.tty tree.forks t.forks) (sym w.tree-is) (others_itself who.tty tree.forks)
+    ]

@@ -21,7 +21,7 @@ pub returns-in-Ends-clause-leaves : goal.returns-in-Ends-clause-leaves
 returns-in-Ends-clause-leaves g c =
     let means = g.P.Pages.means in
     let s = c.args.pages.now in
-    places_leave means c.args.who c.args.tree.now 128 s s (none_grown means c.args.who.tty s) c.requires.holds c.end.new.tree c.are_trees.ensures.slotted c.end.ensures.trees.slotted c.end.ensures.same c.end.ensures.kept
+    places_leave means c.args.who c.args.tree.now 128 s s (none_grown means c.args.who.tty s) c.requires.holds c.end.new.tree c.are_trees.ensures.slotted c.end.ensures.trees.slotted c.end.ensures.same c.end.ensures.kept c.end.ensures.others
 
 pub returns-in-Dismisses-clause-stays : goal.returns-in-Dismisses-clause-stays
 returns-in-Dismisses-clause-stays g c = c.dismiss.ensures.stays c.args.line.now
