@@ -1,0 +1,92 @@
+-- A fork in line goes no farther back while the lists follow others.
+use Rattle.std.proofs.Common.{◌≡◌, ℕ, Bool, true, false, ◌&&◌, ◌||◌, not, List, [], ◌∷◌, ◌++◌, Option, None, Some, refl, sym, ◌∙◌, ap, arith, filter}
+use Rattle.std.proofs.lemmas.Bool.{cond_both}
+use Rattle.std.specs.List.{list_any}
+use Rattle.machine_names.specs.declared.names.ForkName.{ForkName}
+use Rattle.machine_names.specs.declared.names.Tty.{Tty}
+use Rattle.plain_model.specs.declared.fork.Fork.{Fork}
+use Rattle.plain_model.specs.Forks.{ForkMap, fork_in, runs_in}
+use Rattle.job_sched.specs.Lines.{Nears, is_in_line}
+use Rattle.job_sched.specs.Schedules.{Schedule, is_outside, is_ready, is_waiter, stands, started, stopped}
+use Rattle.job_sched.specs.Units.{IsTimed}
+use Rattle.job_sched.proofs.Lines.{joins, starts, stops}
+use Rattle.fork_lists.specs.declared.seen.Seen.{Seen}
+use Rattle.fork_lists.specs.Following.{lost_stopped, picks_started, started_if, stopped_if}
+use Rattle.fork_lists.specs.Seeing.{seen_in}
+use Rattle.fork_lists.proofs.Folds.{apart_from}
+
+module _ (forks : ForkMap) (f : ForkName) (runs : runs_in forks f ≡ true) where
+  abbrev Comes : Schedule → Schedule → Type 0
+  Comes s u = IsTimed s → is_in_line f s ≡ true → Nears f s u 0
+
+  as_it_is : (s : Schedule) → Comes s s
+  as_it_is s timed here = record { timed = timed; here = here; nearer = omega arith }
+
+  then_more : (s u v : Schedule) → Comes s u → Comes u v → Comes s v
+  then_more s u v first second timed here = let a = first timed here in joins f s u v 0 0 a (second a.timed a.here)
+
+  stop_nears : (o : Option ForkName) (s : Schedule) → Comes s (stopped_if forks o s)
+  stop_nears None s = as_it_is s
+  stop_nears (Some g) s = cond_both (runs_in forks g) s (stopped s g) (Comes s) (λ can. as_it_is s) (λ lost timed here. stops f g s timed here (apart_from forks g f lost runs))
+
+  start_nears : (picks : ForkName → Bool) (o : Option Fork) (s : Schedule) → Comes s (started_if forks picks o s)
+  start_nears picks None s = as_it_is s
+  start_nears picks (Some g) s = cond_both (picks g.name && runs_in forks g.name) (started s g.name) s (Comes s) (λ can timed here. starts f g.name s timed here) (λ none. as_it_is s)
+
+  lost_nears : (seen : List Seen) (t : Tty) (slots : List ℕ) (s : Schedule) → Comes s (lost_stopped forks seen t s slots)
+  lost_nears seen t [] s = as_it_is s
+  lost_nears seen t (slot ∷ slots) s =
+      let u = stopped_if forks (seen_in seen t slot).fork s in
+      then_more s u (lost_stopped forks seen t u slots) (stop_nears (seen_in seen t slot).fork s) (lost_nears seen t slots u)
+
+  picks_near : (picks : ℕ → ForkName → Bool) (t : Tty) (slots : List ℕ) (s : Schedule) → Comes s (picks_started forks picks t s slots)
+  picks_near picks t [] s = as_it_is s
+  picks_near picks t (slot ∷ slots) s =
+      let u = started_if forks (picks slot) (fork_in forks t slot) s in
+      then_more s u (picks_started forks picks t u slots) (start_nears (picks slot) (fork_in forks t slot) s) (picks_near picks t slots u)
+
+  pub followed_nears : (seen : List Seen) (t : Tty) (slots : List ℕ) (s : Schedule) (one two : ℕ → ForkName → Bool)
+      → Comes s (picks_started forks two t (picks_started forks one t (lost_stopped forks seen t s slots) slots) slots)
+  followed_nears seen t slots s one two =
+      let u = lost_stopped forks seen t s slots in
+      let v = picks_started forks one t u slots in
+      then_more s u (picks_started forks two t v slots) (lost_nears seen t slots s) (then_more u v (picks_started forks two t v slots) (picks_near one t slots u) (picks_near two t slots v))
+
+-- where no fork is in page wait, whoever stands is in line
+pub in_line : (f : ForkName) (s : Schedule) → s.waiting ≡ [] → stands f s ≡ true → is_in_line f s ≡ true
+in_line f s calm here = by (is_ready f s) (is_outside f s) (sym (ap (λ ws. (is_outside f s || is_ready f s) || list_any (is_waiter f) ws) calm) ∙ here)
+  where
+    by : (a b : Bool) → ((b || a) || false) ≡ true → (a || b) ≡ true
+    by true b e = refl
+    by false true e = refl
+    by false false e = e
+
+-- nobody enters page wait
+stop_calm : (f : ForkName) (s : Schedule) → s.waiting ≡ [] → (stopped s f).waiting ≡ []
+stop_calm f s calm = ap (filter (λ w. not (is_waiter f w))) calm
+
+start_calm : (f : ForkName) (s : Schedule) → s.waiting ≡ [] → (started s f).waiting ≡ []
+start_calm f s calm = cond_both (stands f s) s (record s { outside = s.outside ++ f ∷ [] }) (λ (u : Schedule). u.waiting ≡ []) (λ is. calm) (λ none. calm)
+
+pub stop_keeps : (forks : ForkMap) (o : Option ForkName) (s : Schedule) → s.waiting ≡ [] → (stopped_if forks o s).waiting ≡ []
+stop_keeps forks None s calm = calm
+stop_keeps forks (Some f) s calm = cond_both (runs_in forks f) s (stopped s f) (λ (u : Schedule). u.waiting ≡ []) (λ can. calm) (λ lost. stop_calm f s calm)
+
+module _ (forks : ForkMap) (t : Tty) where
+  lost_calm : (seen : List Seen) (slots : List ℕ) (s : Schedule) → s.waiting ≡ [] → (lost_stopped forks seen t s slots).waiting ≡ []
+  lost_calm seen [] s calm = calm
+  lost_calm seen (slot ∷ slots) s calm = lost_calm seen slots (stopped_if forks (seen_in seen t slot).fork s) (stop_keeps forks (seen_in seen t slot).fork s calm)
+
+  picks_calm : (picks : ℕ → ForkName → Bool) (slots : List ℕ) (s : Schedule) → s.waiting ≡ [] → (picks_started forks picks t s slots).waiting ≡ []
+  picks_calm picks [] s calm = calm
+  picks_calm picks (slot ∷ slots) s calm = picks_calm picks slots (started_if forks (picks slot) (fork_in forks t slot) s) (by (fork_in forks t slot))
+    where
+      by : (o : Option Fork) → (started_if forks (picks slot) o s).waiting ≡ []
+      by None = calm
+      by (Some f) = cond_both (picks slot f.name && runs_in forks f.name) (started s f.name) s (λ (u : Schedule). u.waiting ≡ []) (λ can. start_calm f.name s calm) (λ none. calm)
+
+  pub followed_calm : (seen : List Seen) (slots : List ℕ) (s : Schedule) (one two : ℕ → ForkName → Bool) → s.waiting ≡ []
+      → (picks_started forks two t (picks_started forks one t (lost_stopped forks seen t s slots) slots) slots).waiting ≡ []
+  followed_calm seen slots s one two calm =
+      let u = lost_stopped forks seen t s slots in
+      picks_calm two slots (picks_started forks one t u slots) (picks_calm one slots u (lost_calm seen slots s calm))

@@ -1,0 +1,18 @@
+use Rattle.std.proofs.Common.{◌∙◌, ap}
+use Rattle.fork_lists.specs.declared.lists.ForkLists.{ForkLists}
+use Rattle.fork_lists.proofs.Folds.{cannot_run, does_run, runs_on, stops_lost}
+use Rattle.fork_lists.proofs.lists.ForkLists.follow_slot.Goals as goal
+use Rattle.fork_lists.proofs.lists.ForkLists.follow_slot.Goals.{then-not-runnable, else-not-runnable}
+use Rattle.std.proofs.Common.{Some, refl, sym}
+
+pub returns-clause-schedule : goal.returns-clause-schedule
+returns-clause-schedule c =
+    let forks = c.args.tree.now.forks in
+    c.note.ensures.schedule ∙ elim c.if-not-runnable.branch [
+      | then-not-runnable w ↦
+          ap (λ (l : ForkLists). l.sched) w.self-is ∙ w.stop.ensures.stopped
+          ∙ stops_lost forks (Some c.args.who) c.args.who c.args.self.now.sched refl (cannot_run forks c.args.who c.runnable.result c.runnable.ensures w.if-not-runnable.true)
+      | else-not-runnable w ↦
+          ap (λ (l : ForkLists). l.sched) w.self-is
+          ∙ runs_on forks c.args.who c.args.self.now.sched (sym (does_run forks c.args.who c.runnable.result c.runnable.ensures) ∙ w.if-not-runnable.false)
+    ]

@@ -1,0 +1,4 @@
+pub mod Seeing
+pub mod Following
+pub mod Ties
+pub mod Choices

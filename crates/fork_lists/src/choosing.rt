@@ -1,0 +1,89 @@
+// Whose turn is next, and for how long.
+ghost use Rattle.std.specs.Prelude.{◌≡◌, ◌*◌, ◌<◌, ◌≤◌, IfOk, MatchOption, length, replicate, true};
+ghost use Rattle.std.specs.FinMap as map;
+ghost use Rattle.machine_names.specs.declared.names.ForkName.{ForkName as AForkName};
+ghost use Rattle.plain_model.specs.Forks.{ForkMap, IsRunnable};
+ghost use Rattle.job_sched.specs.Schedules.{heads};
+ghost use Rattle.job_sched.specs.Ties.{IsSound};
+ghost use Rattle.job_sched.specs.Units.{IsRow, row_ran};
+ghost use Rattle.machine_names.specs.declared.names.TheConstants.{MOST_FORKS, TERMINALS};
+ghost use Rattle.fork_lists.specs.Seeing.{nobody};
+ghost use Rattle.fork_lists.specs.Ties.{AreTied};
+
+use crate::lists::ForkLists;
+use crate::seen::{NOBODY, Seen};
+use job_sched::Sched;
+use machine_names::{ForkName, MOST_FORKS, TERMINALS};
+use outside::Memory;
+use std::alloc::{AllocError, Global};
+
+// A place for each slot of each job.
+const PLACES: usize = TERMINALS as usize * MOST_FORKS as usize;
+
+// Nobody was seen in any slot.
+fn nobody_seen(alloc: Global) -> Result<Vec<Seen>, AllocError>
+    ensures { IfOk result (λ seen. seen.items ≡ replicate (TERMINALS * MOST_FORKS) nobody) }
+{
+    vec![in alloc; NOBODY; PLACES]
+}
+
+impl ForkLists {
+    /// No fork lives. The balance set has so many members at most. Memory, where none was found.
+    pub fn boot(alloc: Global, set: u32) -> Result<ForkLists, Memory>
+        requires first { 1 ≤ set }
+        requires last { set ≤ 63 }
+        ensures { IfOk result (AreTied map.empty) }
+    {
+        let sched = Sched::boot(alloc, set)?;
+        let seen = nobody_seen(alloc)?;
+        Ok(ForkLists { sched, seen })
+    }
+
+    /// What is so of every schedule.
+    pub fn sound(&self)
+        ensures { IsSound self.now.sched }
+    {
+        self.sched.sound();
+    }
+
+    /// The fork whose turn is next: the head of the ready list (CACM paper, "Scheduling"). None exactly where no fork can run. One step.
+    pub fn choose(&self) -> Option<ForkName>
+        ensures chosen { (forks : ForkMap) → AreTied forks self.now → MatchOption result ((f : AForkName) → IsRunnable forks f → ⊥) (IsRunnable forks) }
+        ensures head { MatchOption result (length self.now.sched.ready ≡ 0) (λ f. (0 < length self.now.sched.ready) × (heads f self.now.sched.ready ≡ true)) }
+    {
+        self.sched.sound();
+        self.sched.choose()
+    }
+
+    /// Whether a fork is the head of the ready list. One step.
+    pub fn is_head(&self, name: ForkName) -> bool
+        ensures { result ≡ heads name self.now.sched.ready }
+    {
+        match self.sched.choose() {
+            Some(head) => head == name,
+            None => false,
+        }
+    }
+
+    /// How many units the head may run in a row, where so many are left of a RUN: all where no other fork can run, and else those that are
+    /// left of its quantum at most.
+    pub fn most_in_row(&self, left: u32) -> u32
+        requires head { 0 < length self.now.sched.ready }
+        requires some { 1 ≤ left }
+        ensures row { IsRow result self.now.sched }
+        ensures most { result ≤ left }
+        ensures some { 1 ≤ result }
+    {
+        self.sched.most_in_row(left)
+    }
+
+    /// A row of so many units of the head is over, and the quanta that end by it.
+    pub fn ran_row(&mut self, count: u32)
+        requires { IsRow count self.old.sched }
+        ensures ran { self.new.sched ≡ row_ran count self.old.sched }
+        ensures seen { self.new.seen ≡ self.old.seen }
+        ensures tied { (forks : ForkMap) → AreTied forks self.old → AreTied forks self.new }
+    {
+        self.sched.ran_row(count);
+    }
+}
