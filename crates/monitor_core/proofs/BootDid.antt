@@ -20,6 +20,7 @@ use Rattle.fork_tree.specs.Trees.{Lives, no_forks}
 use Rattle.fork_tree.proofs.Kept.{none_tree}
 use Rattle.fork_tree.proofs.Slots.{in_none}
 use Rattle.fork_calls.specs.Holding.{Holds}
+use Rattle.monitor_core.specs.declared.panel.Panel.{Panel}
 use Rattle.monitor_core.specs.declared.job.Job.{Job}
 use Rattle.monitor_core.specs.declared.system.System.{System}
 use Rattle.monitor_core.specs.declared.typing.Typing.{Typing}
@@ -90,10 +91,10 @@ module _ (jobs : List (Option Job)) (none : jobs ≡ no_jobs TERMINALS) where
     nobody = λ t f e lives at. nobody tree f empty lives;
   }
 
-module _ {P : Type 0} {b : _} (m : System P b) (none : m.jobs.items ≡ no_jobs TERMINALS) (tree : m.tree ≡ no_forks) (clock : m.clock ≡ 0) (files : files_of m.files ≡ fin.empty) (held : open_of m.files ≡ no_jfns) where
+module _ {P : Type 0} {b : _} (m : System P b) (none : m.jobs.items ≡ no_jobs TERMINALS) (tree : m.tree ≡ no_forks) (panel : m.panel ≡ record { clock = 0; trace = false }) (files : files_of m.files ≡ fin.empty) (held : open_of m.files ≡ no_jfns) where
   pub within_boot : ((t : Tty) → b.means.serial m.pages t ≤ 1) → IsWithin m 0
   within_boot serials = record {
-    ticks = omega (arith, clock);
+    ticks = omega (arith, ap (λ (x : Panel). x.clock) panel);
     units = λ f e. nobody m.tree f tree e;
     serials = λ t. omega (arith, serials t);
   }
@@ -103,5 +104,5 @@ module _ {P : Type 0} {b : _} (m : System P b) (none : m.jobs.items ≡ no_jobs 
   booted limit d fits is =
       let jobs : jobs_of (open_of m.files) m.typed.items m.jobs.items ≡ fin.empty = ap (jobs_of (open_of m.files) m.typed.items) none ∙ none_from (λ (t : ℕ) (j : Job). t) (λ t j. plain_job (open_at (open_of m.files) t) (typing_at m.typed.items t) j) TERMINALS 0 in (
         record { pages = fits; filed = subst (AreFiled m.files.dir) (sym (ap (λ p. p.files) is)) (λ at there. absurd (let no : false ≡ true = sym (ap is_some (fin.get-empty (file_page_cmp nat_cmp) at)) ∙ there in cc no)) },
-        (λ i. record (state_of m d) { pages = named m.files.dir (is i) }) ∙ λ i. record { pages = record (opening_pages name_cmp limit) { files = none_named m.files.dir i }; files = files i; jobs = jobs i; forks = (tree i).forks; fork_serials = (tree i).serials; clock = clock i; trace = false },
+        (λ i. record (state_of m d) { pages = named m.files.dir (is i) }) ∙ λ i. record { pages = record (opening_pages name_cmp limit) { files = none_named m.files.dir i }; files = files i; jobs = jobs i; forks = (tree i).forks; fork_serials = (tree i).serials; clock = (panel i).clock; trace = (panel i).trace },
       )

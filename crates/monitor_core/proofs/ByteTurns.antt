@@ -18,6 +18,7 @@ use Rattle.plain_model.specs.Families.{asks_bytes, call_turned, print_calls}
 use Rattle.plain_model.specs.ByteCalls.{ByteAsked, ByteRows, byte_calls, byte_changed, with_input}
 use Rattle.plain_model.specs.FileCalls.{FileParts, Jobs, file_calls, jfn_calls, with_held}
 use Rattle.plain_model.specs.ForkCalls.{fork_calls}
+use Rattle.plain_model.specs.ClockCalls.{clock_calls}
 use Rattle.plain_model.specs.InterruptCalls.{interrupt_calls}
 use Rattle.plain_model.specs.MapCalls.{map_calls}
 use Rattle.plain_model.specs.StringCalls.{string_calls}
@@ -106,17 +107,17 @@ module _ (was : Tables) (who : ForkName) (regs : Regs) (number : ℕ) (j : Job) 
           let as_asked = subst (λ (b : ByteAsked). let c = came rows p b in IsTurn IsReason (byte_changed (key_in was.files)) (told was p) (told was c.pages) (told now q) a c.end) (sym (bytes_asked p)) as_told in
           turned_so (key_in was.files) (with_filed v) (filed_of v) (told now q) who regs number a as_asked went
 
-    module _ (printless : is_among print_calls number ≡ false) (unforked : is_among fork_calls number ≡ false) (unposted : is_among interrupt_calls number ≡ false) (unmapped : is_among map_calls number ≡ false) (unfiled : is_among file_calls number ≡ false) (unopened : is_among jfn_calls number ≡ false) where
+    module _ (printless : is_among print_calls number ≡ false) (unforked : is_among fork_calls number ≡ false) (unposted : is_among interrupt_calls number ≡ false) (untimed : is_among clock_calls number ≡ false) (unmapped : is_among map_calls number ≡ false) (unfiled : is_among file_calls number ≡ false) (unopened : is_among jfn_calls number ≡ false) where
       -- a call on bytes
       pub byte_turned : is_among byte_calls number ≡ true → (IsReason : Need → Type 0) (p q : NumberedPages) (a : Answer)
           → (let c = came byte_calls p (asked_on who regs was.files line.input p) in IsTurn IsReason (byte_changed (key_in was.files)) (parts jobs was.files p) (parts jobs was.files c.pages) (parts (jobs_with jobs t files left) files q) a c.end)
           → TurnedSo (key_in was.files) (parts_in (rest_of was) p) (parts_in (rest_of now) q) who regs number a
       byte_turned bytes IsReason p q a comes =
-          rows_turned byte_calls p q a (λ went. bytes_went (key_in was.files) (parts_in (rest_of was) p) who regs number printless unforked unposted unmapped unfiled unopened bytes (told now q) a went) IsReason comes
+          rows_turned byte_calls p q a (λ went. bytes_went (key_in was.files) (parts_in (rest_of was) p) who regs number printless unforked unposted untimed unmapped unfiled unopened bytes (told now q) a went) IsReason comes
 
       -- a call on strings
       pub string_turned : is_among byte_calls number ≡ false → is_among string_calls number ≡ true → (IsReason : Need → Type 0) (p q : NumberedPages) (a : Answer)
           → (let c = came string_calls p (asked_on who regs was.files line.input p) in IsTurn IsReason (byte_changed (key_in was.files)) (parts jobs was.files p) (parts jobs was.files c.pages) (parts (jobs_with jobs t files left) files q) a c.end)
           → TurnedSo (key_in was.files) (parts_in (rest_of was) p) (parts_in (rest_of now) q) who regs number a
       string_turned unbyted strings IsReason p q a comes =
-          rows_turned string_calls p q a (λ went. strings_went (key_in was.files) (parts_in (rest_of was) p) who regs number printless unforked unposted unmapped unfiled unopened unbyted strings (told now q) a went) IsReason comes
+          rows_turned string_calls p q a (λ went. strings_went (key_in was.files) (parts_in (rest_of was) p) who regs number printless unforked unposted untimed unmapped unfiled unopened unbyted strings (told now q) a went) IsReason comes

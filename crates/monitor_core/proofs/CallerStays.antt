@@ -25,6 +25,9 @@ use Rattle.plain_model.specs.InterruptCalls.{InterruptParts, interrupt_changed}
 use Rattle.plain_model.specs.Interrupts.{channels_of, forces, posted, posted_all}
 use Rattle.plain_model.specs.Posting.{told_if, with_all_posted}
 use Rattle.plain_model.specs.declared.call.InterruptChange.{InterruptChange}
+use Rattle.plain_model.specs.declared.call.SleepChange.{SleepChange}
+use Rattle.plain_model.specs.declared.call.SleepChange.TheVariants.{Nothing as Unslept, Awakes}
+use Rattle.plain_model.specs.ClockCalls.{clock_changed, without_moment}
 use Rattle.plain_model.specs.declared.call.InterruptChange.TheVariants.{Become as Set, Post, Assign, Unassign}
 use Rattle.plain_pages.specs.PlainPages.{PlainPages}
 use Rattle.plain_model.specs.Trees.{PlainTree, changed, end_told, unwaited, waiters_woken, with_body, with_mark, woken_in}
@@ -192,6 +195,24 @@ module _ (f : Fork) where
       pub caller_stays : (p : PlainPages file_cmp) (number : ℕ)
           → (let c = turn_on no_files p (fork_call number asked_so) in (g : Fork) × (map.get (parts_behind fork_changed (parts_so p) (parts_so c.pages) c.end).tree.forks f.name ≡ Some g) × (g.superior ≡ f.superior) × (g.name ≡ f.name))
       caller_stays p number = let c = turn_on no_files p (fork_call number asked_so) in let s = end_stands p c.pages c.end (call_names asked_so p number) in (s.fork, s.there, s.superior, s.own f.name s.fork s.there)
+
+    -- so behind a turn of a call on the clock
+    sleep_stands : (change : SleepChange) → StandsIn (clock_changed change tree).forks
+    unfolding clock_changed
+    sleep_stands Unslept = stands
+    sleep_stands (Awakes name) = of_name_stands name without_moment (λ k. (refl, refl))
+
+    end_sleeps : (e : End SleepChange) → StandsIn (parts_behind clock_changed tree tree e).forks
+    unfolding parts_behind
+    end_sleeps (Done change regs out post) = sleep_stands change
+    end_sleeps (Waits on) = stands
+    end_sleeps Halts = stands
+    end_sleeps (Refused code) = stands
+    end_sleeps (Failed code) = stands
+    end_sleeps (Trap channel) = stands
+
+    pub sleeper_stays : (e : End SleepChange) → (g : Fork) × (map.get (parts_behind clock_changed tree tree e).forks f.name ≡ Some g) × (g.superior ≡ f.superior) × (g.name ≡ f.name)
+    sleeper_stays e = let s = end_sleeps e in (s.fork, s.there, s.superior, s.own f.name s.fork s.there)
 
     -- so behind a turn of a call on pseudo-interrupts
     module _ (jobs : Jobs) where

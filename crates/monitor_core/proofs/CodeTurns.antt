@@ -96,11 +96,11 @@ module _ (was : Tables) (who : ForkName) (regs : Regs) (number : ℕ) (j : Job) 
     -- a call on pseudo-interrupts
     pub interrupt_turned : is_among print_calls number ≡ false → is_among fork_calls number ≡ false → is_among interrupt_calls number ≡ true → (tree : PlainTree) (IsReason : Need → Type 0) (p q : NumberedPages) (a : Answer)
         → (let v = parts_in (rest_of was) p in let c = turn_on no_files p (numbered interrupt_calls number (asks v who regs)) in
-        IsTurn IsReason interrupts_changed v (record v { pages = c.pages }) (record { tree = tree; pages = q; files = files_of was.files; jobs = jobs_with jobs t left }) a c.end)
+        IsTurn IsReason interrupts_changed v (record v { pages = c.pages }) (record { tree = tree; pages = q; files = files_of was.files; jobs = jobs_with jobs t left; clock = was.clock }) a c.end)
         → TurnedSo (key_in was.files) (parts_in (rest_of was) p) (parts_in (rest_of (now tree)) q) who regs number a
     interrupt_turned printless unforked interrupts tree IsReason p q a comes =
         let v = parts_in (rest_of was) p in
-        let told = subst (λ (js : Jobs). let c = turn_on no_files p (numbered interrupt_calls number (asks v who regs)) in IsTurn IsReason interrupts_changed v (record v { pages = c.pages }) (record { tree = tree; pages = q; files = files_of was.files; jobs = js }) a c.end) jobs_left comes in
+        let told = subst (λ (js : Jobs). let c = turn_on no_files p (numbered interrupt_calls number (asks v who regs)) in IsTurn IsReason interrupts_changed v (record v { pages = c.pages }) (record { tree = tree; pages = q; files = files_of was.files; jobs = js; clock = was.clock }) a c.end) jobs_left comes in
         turned_so (key_in was.files) (λ (x : Parts nat_cmp). x) v (parts_in (rest_of (now tree)) q) who regs number a told
         (λ went. interrupts_went (key_in was.files) v who regs number printless unforked interrupts (parts_in (rest_of (now tree)) q) a went)
 
@@ -158,4 +158,4 @@ module _ (was : Tables) (who : ForkName) (regs : Regs) (number : ℕ) (j : Job) 
       fork_turned printless forks IsReason q a line (inr waits) =
           let same = still (line ∙ ap (λ x. line_behind number x tree.forks typing.input) waits.answered) in
           subst (TurnedSo (key_in was.files) v (parts_in (rest_of (now tree)) q) who regs number) (sym waits.answered)
-          (λ i. record { tree = (waits.left i).tree; pages = (waits.left i).pages; files = files_of was.files; jobs = sym same i })
+          (λ i. record { tree = (waits.left i).tree; pages = (waits.left i).pages; files = files_of was.files; jobs = sym same i; clock = was.clock })

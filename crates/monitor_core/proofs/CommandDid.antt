@@ -99,7 +99,7 @@ module _ {P : Type 0} {b : _} (m m' : System P b) (t : Tty) (j : Job) (at : HasJ
   abbrev was : PlainJob
   was = job_in m t j
 
-  module _ (files : m'.files ≡ m.files) (same : m'.pages ≡ m.pages) (clock : m'.clock ≡ m.clock) (typed : m'.typed.items ≡ m.typed.items) (jobs : m'.jobs.items ≡ set m.jobs.items t.0 (Some (record j { mode = Program }))) (d : DrumWords) where
+  module _ (files : m'.files ≡ m.files) (same : m'.pages ≡ m.pages) (panel : m'.panel ≡ m.panel) (typed : m'.typed.items ≡ m.typed.items) (jobs : m'.jobs.items ≡ set m.jobs.items t.0 (Some (record j { mode = Program }))) (d : DrumWords) where
     abbrev old : PlainState
     old = state_of m d
 
@@ -107,7 +107,7 @@ module _ {P : Type 0} {b : _} (m m' : System P b) (t : Tty) (j : Job) (at : HasJ
     in_program_now tree tree_is =
         let now : jobs_of (open_of m'.files) m'.typed.items m'.jobs.items ≡ fin.insert old.jobs t.0 (in_program was) =
         (λ i. jobs_of (open_of (files i)) (typed i) (jobs i)) ∙ jobs_set (open_of m.files) m.typed.items m.jobs.items t.0 (record j { mode = Program }) (low_job m m' t j at) in
-        λ i. record old { pages = named (files i).dir (b.means.plain (same i) d); files = files_of (files i); jobs = now i; forks = (tree_is i).forks; fork_serials = (tree_is i).serials; clock = clock i }
+        λ i. record old { pages = named (files i).dir (b.means.plain (same i) d); files = files_of (files i); jobs = now i; forks = (tree_is i).forks; fork_serials = (tree_is i).serials; clock = (panel i).clock; trace = (panel i).trace }
 
     pub starts_again : (word : ℕ) → j.start ≡ Some word → m'.tree ≡ with_changed_of m.tree j.top (restarted (right word)) → ◌≡◌ {A = Effect} (start_again old t was) (record { state = state_of m' d; items = told_items t Nothing (state_of m' d) })
     starts_again word start tree =
@@ -142,35 +142,35 @@ module _ {P : Type 0} {b : _} (m m' : System P b) (t : Tty) (j : Job) (at : HasJ
       either false false h = absurd (cc h)
 
 -- the same as effects that were had
-module _ {P : Type 0} {b : _} (m m' : System P b) (t : Tty) (j : Job) (at : HasJobAt m t j) (files : m'.files ≡ m.files) (same : m'.pages ≡ m.pages) (clock : m'.clock ≡ m.clock) (typed : m'.typed.items ≡ m.typed.items) where
+module _ {P : Type 0} {b : _} (m m' : System P b) (t : Tty) (j : Job) (at : HasJobAt m t j) (files : m'.files ≡ m.files) (same : m'.pages ≡ m.pages) (panel : m'.panel ≡ m.panel) (typed : m'.typed.items ≡ m.typed.items) where
   module _ (jobs : m'.jobs.items ≡ set m.jobs.items t.0 (Some (record j { mode = Program }))) (is : IsTree m.tree) where
     pub has_started : (word : ℕ) → j.start ≡ Some word → right word < 2 ^ 18 → m'.tree ≡ with_changed_of m.tree j.top (restarted (right word)) → Has m m' (λ s. start_again s t (job_in m t j)) (told_items t Nothing)
     has_started word start low tree =
         let keep = change_keeps m.tree is j.top (restarted (right word)) (restarted_mild (right word) low) in
-        has_left m m' (λ s. start_again s t (job_in m t j)) (told_items t Nothing) files same clock (subst (λ (x : PlainTree). ComeFrom m.tree.forks x.forks) (sym tree) keep.come) (λ d f. starts_again m m' t j at files same clock typed jobs d word start tree)
+        has_left m m' (λ s. start_again s t (job_in m t j)) (told_items t Nothing) files same panel (subst (λ (x : PlainTree). ComeFrom m.tree.forks x.forks) (sym tree) keep.come) (λ d f. starts_again m m' t j at files same panel typed jobs d word start tree)
 
     pub has_gone_on : (k : Fork) → fin.get m.tree.forks j.top ≡ Some k → can_continue k ≡ true → m'.tree ≡ with_changed_of m.tree j.top resumed → Has m m' (λ s. go_on s t (job_in m t j)) (told_items t Nothing)
     has_gone_on k lives can tree =
         let keep = change_keeps m.tree is j.top resumed resumed_mild in
-        has_left m m' (λ s. go_on s t (job_in m t j)) (told_items t Nothing) files same clock (subst (λ (x : PlainTree). ComeFrom m.tree.forks x.forks) (sym tree) keep.come) (λ d f. goes_on m m' t j at files same clock typed jobs d k lives can tree)
+        has_left m m' (λ s. go_on s t (job_in m t j)) (told_items t Nothing) files same panel (subst (λ (x : PlainTree). ComeFrom m.tree.forks x.forks) (sym tree) keep.come) (λ d f. goes_on m m' t j at files same panel typed jobs d k lives can tree)
 
   pub has_stayed : m'.jobs.items ≡ m.jobs.items → (k : Fork) → fin.get m.tree.forks j.top ≡ Some k → can_continue k ≡ false → m'.tree ≡ m.tree → Has m m' (λ s. go_on s t (job_in m t j)) (told_items t (Refused Cannot))
   has_stayed jobs k lives can tree =
-      has_left m m' (λ s. go_on s t (job_in m t j)) (told_items t (Refused Cannot)) files same clock (subst (λ (x : PlainTree). ComeFrom m.tree.forks x.forks) (sym tree) (came_itself m.tree.forks))
-      (λ d f. stays m m' t j at d k lives can ∙ (λ i. record { state = sym (state_left m m' files same tree jobs typed clock d) i; items = told_items t (Refused Cannot) (state_of m d) }))
+      has_left m m' (λ s. go_on s t (job_in m t j)) (told_items t (Refused Cannot)) files same panel (subst (λ (x : PlainTree). ComeFrom m.tree.forks x.forks) (sym tree) (came_itself m.tree.forks))
+      (λ d f. stays m m' t j at d k lives can ∙ (λ i. record { state = sym (state_left m m' files same tree jobs typed panel d) i; items = told_items t (Refused Cannot) (state_of m d) }))
 
 -- characters
-module _ {P : Type 0} {b : _} (m m' : System P b) (t : Tty) (j : Job) (at : HasJobAt m t j) (is : IsTree m.tree) (files : m'.files ≡ m.files) (same : m'.pages ≡ m.pages) (clock : m'.clock ≡ m.clock) (y : Typing) (typed : m'.typed.items ≡ set m.typed.items t.0 y) where
+module _ {P : Type 0} {b : _} (m m' : System P b) (t : Tty) (j : Job) (at : HasJobAt m t j) (is : IsTree m.tree) (files : m'.files ≡ m.files) (same : m'.pages ≡ m.pages) (panel : m'.panel ≡ m.panel) (y : Typing) (typed : m'.typed.items ≡ set m.typed.items t.0 y) where
   pub has_interrupted : y ≡ record (typing_at m.typed.items t.0) { line = record { items = [] } } → m'.jobs.items ≡ set m.jobs.items t.0 (Some (record j { mode = Command })) → m'.tree ≡ stopped_tree j.mode m.tree j.top → Has m m' (λ s. interrupted s t (job_in m t j)) (echo_items t Stops)
   has_interrupted line jobs tree =
-      has_left m m' (λ s. interrupted s t (job_in m t j)) (echo_items t Stops) files same clock (subst (λ (x : PlainTree). ComeFrom m.tree.forks x.forks) (sym tree) (stopped_keeps m.tree is j.mode j.top).come)
-      (λ d f. interrupts m m' t j at files same clock y typed d line jobs tree)
+      has_left m m' (λ s. interrupted s t (job_in m t j)) (echo_items t Stops) files same panel (subst (λ (x : PlainTree). ComeFrom m.tree.forks x.forks) (sym tree) (stopped_keeps m.tree is j.mode j.top).come)
+      (λ d f. interrupts m m' t j at files same panel y typed d line jobs tree)
 
   module _ (jobs : m'.jobs.items ≡ m.jobs.items) where
     pub has_stored : (code : ℕ) → y ≡ record (typing_at m.typed.items t.0) { input = record ((typing_at m.typed.items t.0).input) { input = (typing_at m.typed.items t.0).input.input ++ code ∷ [] } } → m'.tree ≡ record m.tree { forks = readers_woken m.tree.forks t } → Has m m' (λ s. stored s t (job_in m t j) code) (echo_items t (Shows code))
     has_stored code input tree =
-        has_left m m' (λ s. stored s t (job_in m t j) code) (echo_items t (Shows code)) files same clock (subst (λ (x : PlainTree). ComeFrom m.tree.forks x.forks) (sym tree) (readers_keep m.tree.forks is.slotted.own t).come)
-        (λ d f. stores m m' t j at files same clock y typed d code input jobs tree)
+        has_left m m' (λ s. stored s t (job_in m t j) code) (echo_items t (Shows code)) files same panel (subst (λ (x : PlainTree). ComeFrom m.tree.forks x.forks) (sym tree) (readers_keep m.tree.forks is.slotted.own t).come)
+        (λ d f. stores m m' t j at files same panel y typed d code input jobs tree)
 
     -- as what becomes of it
     pub has_kept : (shown code : ℕ) (fate : Typed) → shown ≡ code → Stored ≡ fate → y ≡ record (typing_at m.typed.items t.0) { input = record ((typing_at m.typed.items t.0).input) { input = (typing_at m.typed.items t.0).input.input ++ code ∷ [] } } → m'.tree ≡ record m.tree { forks = readers_woken m.tree.forks t }
@@ -183,14 +183,14 @@ module _ {P : Type 0} {b : _} (m m' : System P b) (t : Tty) (j : Job) (at : HasJ
 pub has_stopped : {P : Type 0} {b : _} (m m' : System P b) (t : Tty) (j : Job) (code : ℕ) (fate : Typed) (items : PlainState → List Item) → ControlC ≡ fate → Has m m' (λ s. interrupted s t (job_in m t j)) items → Has m m' (λ s. typed_so fate s t (job_in m t j) code) items
 has_stopped m m' t j code fate items is has = subst (λ f. Has m m' (λ s. typed_so f s t (job_in m t j) code) items) is has
 
-module _ {P : Type 0} {b : _} (m m' : System P b) (t : Tty) (j : Job) (at : HasJobAt m t j) (files : m'.files ≡ m.files) (same : m'.pages ≡ m.pages) (clock : m'.clock ≡ m.clock) (y : Typing) (typed : m'.typed.items ≡ set m.typed.items t.0 y) (jobs : m'.jobs.items ≡ m.jobs.items) (tree : m'.tree ≡ m.tree) where
+module _ {P : Type 0} {b : _} (m m' : System P b) (t : Tty) (j : Job) (at : HasJobAt m t j) (files : m'.files ≡ m.files) (same : m'.pages ≡ m.pages) (panel : m'.panel ≡ m.panel) (y : Typing) (typed : m'.typed.items ≡ set m.typed.items t.0 y) (jobs : m'.jobs.items ≡ m.jobs.items) (tree : m'.tree ≡ m.tree) where
   still_come : ComeFrom m.tree.forks m'.tree.forks
   still_come = subst (λ (x : PlainTree). ComeFrom m.tree.forks x.forks) (sym tree) (came_itself m.tree.forks)
 
   pub has_lengthened : (code : ℕ) → length (typing_at m.typed.items t.0).line.items < MOST_STORED → y ≡ record (typing_at m.typed.items t.0) { line = record { items = (typing_at m.typed.items t.0).line.items ++ code ∷ [] } } → Has m m' (λ s. line_typed s t (job_in m t j) code) (echo_items t (Shows code))
   has_lengthened code room line =
-      has_left m m' (λ s. line_typed s t (job_in m t j) code) (echo_items t (Shows code)) files same clock still_come (λ d f. lengthens m m' t j at files same clock y typed d code room line jobs tree)
+      has_left m m' (λ s. line_typed s t (job_in m t j) code) (echo_items t (Shows code)) files same panel still_come (λ d f. lengthens m m' t j at files same panel y typed d code room line jobs tree)
 
   pub has_taken : y ≡ record (typing_at m.typed.items t.0) { line = record { items = [] } } → Has m m' (λ s. record { state = with_job_at s t (record (job_in m t j) { line = [] }); items = [] }) (λ s. [])
   has_taken line =
-      has_left m m' (λ s. record { state = with_job_at s t (record (job_in m t j) { line = [] }); items = [] }) (λ s. []) files same clock still_come (λ d f. takes_line m m' t j at files same clock y typed d line jobs tree)
+      has_left m m' (λ s. record { state = with_job_at s t (record (job_in m t j) { line = [] }); items = [] }) (λ s. []) files same panel still_come (λ d f. takes_line m m' t j at files same panel y typed d line jobs tree)

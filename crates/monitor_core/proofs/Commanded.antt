@@ -48,20 +48,20 @@ module _ {P : Type 0} {b : _} (m m' : System P b) (t : Tty) (j : Job) (c : Comma
   has_logout is told has = taken_as command.Logout told (sym is) has
 
   -- those that change nothing
-  still : (e : Command) (told : Told) → c ≡ e → m'.files ≡ m.files → m'.pages ≡ m.pages → m'.tree ≡ m.tree → m'.jobs.items ≡ m.jobs.items → m'.typed.items ≡ m.typed.items → m'.clock ≡ m.clock
+  still : (e : Command) (told : Told) → c ≡ e → m'.files ≡ m.files → m'.pages ≡ m.pages → m'.tree ≡ m.tree → m'.jobs.items ≡ m.jobs.items → m'.typed.items ≡ m.typed.items → m'.panel ≡ m.panel
       → ((s : PlainState) → ◌≡◌ {A = Effect} (commanded s t (job_in m t j) e) (record { state = s; items = told_items t told s })) → Does told
-  still e told is files same tree jobs typed clock says =
-      taken_as e told (sym is) (has_left m m' (λ s. commanded s t (job_in m t j) e) (told_items t told) files same clock (subst (λ (x : PlainTree). ComeFrom m.tree.forks x.forks) (sym tree) (came_itself m.tree.forks))
-      (λ d f. says (state_of m d) ∙ (λ i. record { state = sym (state_left m m' files same tree jobs typed clock d) i; items = told_items t told (sym (state_left m m' files same tree jobs typed clock d) i) })))
+  still e told is files same tree jobs typed panel says =
+      taken_as e told (sym is) (has_left m m' (λ s. commanded s t (job_in m t j) e) (told_items t told) files same panel (subst (λ (x : PlainTree). ComeFrom m.tree.forks x.forks) (sym tree) (came_itself m.tree.forks))
+      (λ d f. says (state_of m d) ∙ (λ i. record { state = sym (state_left m m' files same tree jobs typed panel d) i; items = told_items t told (sym (state_left m m' files same tree jobs typed panel d) i) })))
 
-  pub has_blank : c ≡ command.Blank → m'.files ≡ m.files → m'.pages ≡ m.pages → m'.tree ≡ m.tree → m'.jobs.items ≡ m.jobs.items → m'.typed.items ≡ m.typed.items → m'.clock ≡ m.clock → Does Prompt
+  pub has_blank : c ≡ command.Blank → m'.files ≡ m.files → m'.pages ≡ m.pages → m'.tree ≡ m.tree → m'.jobs.items ≡ m.jobs.items → m'.typed.items ≡ m.typed.items → m'.panel ≡ m.panel → Does Prompt
   unfolding commanded
-  has_blank is files same tree jobs typed clock = still command.Blank Prompt is files same tree jobs typed clock (λ s. refl)
+  has_blank is files same tree jobs typed panel = still command.Blank Prompt is files same tree jobs typed panel (λ s. refl)
 
-  pub has_directory : c ≡ command.Directory → m'.files ≡ m.files → m'.pages ≡ m.pages → m'.tree ≡ m.tree → m'.jobs.items ≡ m.jobs.items → m'.typed.items ≡ m.typed.items → m'.clock ≡ m.clock → Does (Files j.user)
+  pub has_directory : c ≡ command.Directory → m'.files ≡ m.files → m'.pages ≡ m.pages → m'.tree ≡ m.tree → m'.jobs.items ≡ m.jobs.items → m'.typed.items ≡ m.typed.items → m'.panel ≡ m.panel → Does (Files j.user)
   unfolding commanded
-  has_directory is files same tree jobs typed clock = still command.Directory (Files j.user) is files same tree jobs typed clock (λ s. refl)
+  has_directory is files same tree jobs typed panel = still command.Directory (Files j.user) is files same tree jobs typed panel (λ s. refl)
 
-  pub has_unknown : c ≡ command.Unknown → m'.files ≡ m.files → m'.pages ≡ m.pages → m'.tree ≡ m.tree → m'.jobs.items ≡ m.jobs.items → m'.typed.items ≡ m.typed.items → m'.clock ≡ m.clock → Does (Refused complaint.Unknown)
+  pub has_unknown : c ≡ command.Unknown → m'.files ≡ m.files → m'.pages ≡ m.pages → m'.tree ≡ m.tree → m'.jobs.items ≡ m.jobs.items → m'.typed.items ≡ m.typed.items → m'.panel ≡ m.panel → Does (Refused complaint.Unknown)
   unfolding commanded
-  has_unknown is files same tree jobs typed clock = still command.Unknown (Refused complaint.Unknown) is files same tree jobs typed clock (λ s. refl)
+  has_unknown is files same tree jobs typed panel = still command.Unknown (Refused complaint.Unknown) is files same tree jobs typed panel (λ s. refl)

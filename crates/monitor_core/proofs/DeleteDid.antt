@@ -100,7 +100,7 @@ module _ (m : Files) (a : AreNumbers m) (f : ℕ) (name : List ℕ) (is : map.ge
       ∙ ap (refiled name_cmp (without_file p (number_in m name))) (sym rest)
       ∙ sym (without_refiled nat_cmp_total map.nat_cmp-IsAntisymmetric name_total name_apart Was (number_in m) (λ x. x) p (pages_named m p.files) keyed name gone.0)
 
-module _ {P : Type 0} {b : _} (m m' : System P b) (t : Tty) (name : List ℕ) (f : ℕ) (there : IsThere m.files f) (called : name_of m.files.dir f ≡ name) (tree : m'.tree ≡ m.tree) (jobs : m'.jobs.items ≡ m.jobs.items) (typed : m'.typed.items ≡ m.typed.items) (clock : m'.clock ≡ m.clock)
+module _ {P : Type 0} {b : _} (m m' : System P b) (t : Tty) (name : List ℕ) (f : ℕ) (there : IsThere m.files f) (called : name_of m.files.dir f ≡ name) (tree : m'.tree ≡ m.tree) (jobs : m'.jobs.items ≡ m.jobs.items) (typed : m'.typed.items ≡ m.typed.items) (panel : m'.panel ≡ m.panel)
     (grows : (u : Tty) → Grows b.means u 0 m.pages m'.pages) (open_stays : OpenStay m.files m'.files) where
   at : map.get m.files.dir f ≡ Some name
   at = named m.files.dir f there ∙ ap Some called
@@ -131,13 +131,13 @@ module _ {P : Type 0} {b : _} (m m' : System P b) (t : Tty) (name : List ℕ) (f
         let went = (told_pages d fits.pages).1 in
         let pages : named_pages m'.files.dir (b.means.plain m'.pages d) ≡ without_file old.pages name = (λ i. named_pages (dir i) (went i)) ∙ named_left_by m.files.dir m.files.sound.numbers f name at p fits.filed in
         let mine : state_of m' d ≡ record old { pages = without_file old.pages name; files = map.remove old.files name } =
-        λ i. record old { pages = pages i; files = (files ∙ ap (map.remove (files_of m.files)) called) i; jobs = jobs_of (open_stays.named i) (typed i) (jobs i); forks = (tree i).forks; fork_serials = (tree i).serials; clock = clock i } in
+        λ i. record old { pages = pages i; files = (files ∙ ap (map.remove (files_of m.files)) called) i; jobs = jobs_of (open_stays.named i) (typed i) (jobs i); forks = (tree i).forks; fork_serials = (tree i).serials; clock = (panel i).clock; trace = (panel i).trace } in
         asks d ∙ ap (λ r. cond r (told old t (codes "?FILE BUSY")) (prompted (record old { pages = without_file old.pages name; files = map.remove old.files name }) t [])) (none_held _ times_none)
         ∙ (λ i. prompted (sym mine i) t [])
 
     pub has_deleted : Has m m' (λ s. delete_file s t name) (told_items t Prompt)
     has_deleted =
-        has_so m m' (λ s. delete_file s t name) (told_items t Prompt) clock (subst (λ (x : PlainTree). ComeFrom m.tree.forks x.forks) (sym tree) (came_itself m.tree.forks)) (λ u. omega (arith, (grows u).serial)) (grows t).most
+        has_so m m' (λ s. delete_file s t name) (told_items t Prompt) panel (subst (λ (x : PlainTree). ComeFrom m.tree.forks x.forks) (sym tree) (came_itself m.tree.forks)) (λ u. omega (arith, (grows u).serial)) (grows t).most
         (λ d fits. let p = b.means.plain m.pages d in record {
           pages = (told_pages d fits.pages).0;
           filed = subst (λ files. AreFiled files (b.means.plain m'.pages d).files) (sym dir) (subst (λ (q : NumberedPages). AreFiled (map.remove m.files.dir f) q.files) (sym (told_pages d fits.pages).1) (filed_left m.files.dir m.files.sound.numbers f name at p fits.filed));
@@ -148,11 +148,11 @@ module _ {P : Type 0} {b : _} (m m' : System P b) (t : Tty) (name : List ℕ) (f
     refuses d fits =
         let old = state_of m d in
         let mine : state_of m' d ≡ old =
-        λ i. record old { pages = named_pages (files i).dir ((told_pages d fits.pages).1 i); files = files_of (files i); jobs = jobs_of (open_of (files i)) (typed i) (jobs i); forks = (tree i).forks; fork_serials = (tree i).serials; clock = clock i } in
+        λ i. record old { pages = named_pages (files i).dir ((told_pages d fits.pages).1 i); files = files_of (files i); jobs = jobs_of (open_of (files i)) (typed i) (jobs i); forks = (tree i).forks; fork_serials = (tree i).serials; clock = (panel i).clock; trace = (panel i).trace } in
         asks d ∙ ap (λ r. cond r (told old t (codes "?FILE BUSY")) (prompted (record old { pages = without_file old.pages name; files = map.remove old.files name }) t [])) (some_held _ times_some)
         ∙ (λ i. told (sym mine i) t (codes "?FILE BUSY"))
 
     pub has_not_deleted : Has m m' (λ s. delete_file s t name) (told_items t (Refused Busy))
     has_not_deleted =
-        has_so m m' (λ s. delete_file s t name) (told_items t (Refused Busy)) clock (subst (λ (x : PlainTree). ComeFrom m.tree.forks x.forks) (sym tree) (came_itself m.tree.forks)) (λ u. omega (arith, (grows u).serial)) (grows t).most
+        has_so m m' (λ s. delete_file s t name) (told_items t (Refused Busy)) panel (subst (λ (x : PlainTree). ComeFrom m.tree.forks x.forks) (sym tree) (came_itself m.tree.forks)) (λ u. omega (arith, (grows u).serial)) (grows t).most
         (λ d fits. fits_left m m' files d (told_pages d fits.pages).0 (ap (λ (q : NumberedPages). q.files) (told_pages d fits.pages).1) fits) refuses

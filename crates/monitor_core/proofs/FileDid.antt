@@ -39,6 +39,7 @@ use Rattle.file_tables.proofs.Pages.{page_none}
 use Rattle.machine_names.specs.PageWords.{zero_words}
 use Rattle.file_tables.specs.declared.tables.FileTables.{FileTables}
 use Rattle.file_tables.specs.Tables.{file_of, IsThere, OpenStay, files_of, open_of}
+use Rattle.monitor_core.specs.declared.panel.Panel.{Panel}
 use Rattle.monitor_core.specs.declared.reply.Reply.{Reply}
 use Rattle.monitor_core.specs.declared.reply.Reply.TheVariants.{Nothing, One, Page as ShowsPage}
 use Rattle.monitor_core.specs.declared.system.System.{System}
@@ -172,8 +173,8 @@ module _ {P : Type 0} {b : _} (m : System P b) (name : List ℕ) where
 
   -- an empty file is made
   pub did_file : (m' : System P b) (f : ℕ) → fin.get (files_of m.files) name ≡ None → fin.len (files_of m.files) < MOST_FILES → files_of m'.files ≡ fin.insert (files_of m.files) name new_file → Creates m.files.dir m'.files.dir f name → OpenStay m.files m'.files
-      → m'.pages ≡ m.pages → m'.tree ≡ m.tree → m'.jobs.items ≡ m.jobs.items → m'.typed.items ≡ m.typed.items → m'.clock ≡ m.clock → Did m m' (Outer (File name)) Nothing
-  did_file m' f none few files created held same tree jobs typed clock = record {
+      → m'.pages ≡ m.pages → m'.tree ≡ m.tree → m'.jobs.items ≡ m.jobs.items → m'.typed.items ≡ m.typed.items → m'.panel ≡ m.panel → Did m m' (Outer (File name)) Nothing
+  did_file m' f none few files created held same tree jobs typed panel = record {
     each = λ d fits.
         let s = state_of m d in
         let p = b.means.plain m.pages d in
@@ -184,7 +185,7 @@ module _ {P : Type 0} {b : _} (m : System P b) (name : List ℕ) where
         let open_is : open_of m'.files ≡ open_of m.files = held.named in
         let pages : named m'.files.dir (b.means.plain m'.pages d) ≡ named m.files.dir p = ap (λ x. named m'.files.dir (b.means.plain x d)) same ∙ (λ i. record (named m.files.dir p) { files = keys i }) in
         let mine : state_of m' d ≡ record s { files = fin.insert s.files name new_file } =
-        λ i. record s { pages = pages i; files = files i; jobs = jobs_of (open_is i) (typed i) (jobs i); forks = (tree i).forks; fork_serials = (tree i).serials; clock = clock i } in
+        λ i. record s { pages = pages i; files = files i; jobs = jobs_of (open_is i) (typed i) (jobs i); forks = (tree i).forks; fork_serials = (tree i).serials; clock = (panel i).clock; trace = (panel i).trace } in
         let effect = apply_outer s (File name) ∙ outer_file s name
         ∙ ap (λ o. cond (is_some o) (refused s (Exists name)) (cond (nat_lt (fin.len s.files) MOST_FILES) (record { state = record s { files = fin.insert s.files name new_file }; items = [] }) (refused s (FilesFull name)))) none
         ∙ ap (λ c. cond c (record { state = record s { files = fin.insert s.files name new_file }; items = [] }) (refused s (FilesFull name))) yes in (
@@ -194,7 +195,7 @@ module _ {P : Type 0} {b : _} (m : System P b) (name : List ℕ) where
         );
     shown = tt;
     within = λ entries w. record {
-      ticks = omega (arith, clock, w.ticks);
+      ticks = omega (arith, ap (λ (x : Panel). x.clock) panel, w.ticks);
       units = λ g e. omega (arith, w.units g (ap (λ (x : PlainTree). fin.get x.forks g.name) (sym tree) ∙ e));
       serials = λ t. omega (arith, ap (λ x. b.means.serial x t) same, w.serials t);
     };
@@ -230,7 +231,7 @@ module _ {P : Type 0} {b : _} (m : System P b) (f page : ℕ) (there : IsThere m
       ∙ (λ i. record { state = s; items = option_map_or (λ n. PageLine name page ∷ words_shown 0 (words_of s.pages n)) (sym here i) [] })
 
   -- words are put into a page of the file
-  module _ (offset : ℕ) (row : WordRow) (m' : System P b) (tree : m'.tree ≡ m.tree) (jobs : m'.jobs.items ≡ m.jobs.items) (typed : m'.typed.items ≡ m.typed.items) (clock : m'.clock ≡ m.clock) (made : Makes b.means m.pages m'.pages console 2) where
+  module _ (offset : ℕ) (row : WordRow) (m' : System P b) (tree : m'.tree ≡ m.tree) (jobs : m'.jobs.items ≡ m.jobs.items) (typed : m'.typed.items ≡ m.typed.items) (panel : m'.panel ≡ m.panel) (made : Makes b.means m.pages m'.pages console 2) where
     abbrev words : List ℕ
     words = take row.count row.words
 
@@ -243,7 +244,7 @@ module _ {P : Type 0} {b : _} (m : System P b) (f page : ℕ) (there : IsThere m
 
     words_within : (entries : ℕ) → IsWithin m entries → IsWithin m' (entries + 1)
     words_within entries w = record {
-      ticks = omega (arith, clock, w.ticks);
+      ticks = omega (arith, ap (λ (x : Panel). x.clock) panel, w.ticks);
       units = λ g e. omega (arith, w.units g (ap (λ (x : PlainTree). fin.get x.forks g.name) (sym tree) ∙ e));
       serials = serials_made m m' entries console w made;
     }
@@ -266,7 +267,8 @@ module _ {P : Type 0} {b : _} (m : System P b) (f page : ℕ) (there : IsThere m
               jobs = jobs_of (open_of (same i)) (typed i) (jobs i);
               forks = (tree i).forks;
               fork_serials = (tree i).serials;
-              clock = clock i;
+              clock = (panel i).clock;
+              trace = (panel i).trace;
             } in
             let effect = apply_outer s (Words name page offset row) ∙ outer_written d fits ∙ refuses s wrote.1.ready (reference (b.means.plain m.pages d) (in_file (file_page f page)) Write console) wrote.1.readied.refers in (
               fits_left m m' same d wrote.0 (ap (λ x. x.files) wrote.1.stays) fits,
@@ -296,7 +298,7 @@ module _ {P : Type 0} {b : _} (m : System P b) (f page : ℕ) (there : IsThere m
             let q_files : q.files ≡ ready.files = ap (λ x. x.files) stored ∙ row_files m.files.dir m.files.sound.numbers f page there words offset ready in
             let pages : stored_row (named m.files.dir ready) (spot_named name page) offset words ≡ named m.files.dir q = row_named m.files.dir m.files.sound.numbers f page there words offset ready ready_filed ∙ ap (named m.files.dir) (sym stored) in
             let mine : state_of m' d ≡ record s { pages = named m.files.dir q; files = fin.insert s.files name (reaching LARGEST_BYTE end file) } =
-            λ i. record s { pages = named (dir i) q; files = files i; jobs = jobs_of (open_is i) (typed i) (jobs i); forks = (tree i).forks; fork_serials = (tree i).serials; clock = clock i } in
+            λ i. record s { pages = named (dir i) q; files = files i; jobs = jobs_of (open_is i) (typed i) (jobs i); forks = (tree i).forks; fork_serials = (tree i).serials; clock = (panel i).clock; trace = (panel i).trace } in
             let went : ◌≡◌ {A = Effect} (written s name page offset words file (granted (named m.files.dir ready))) (record { state = record s { pages = named m.files.dir q; files = fin.insert s.files name (reaching LARGEST_BYTE end file) }; items = [] }) =
             λ i. record { state = record s { pages = pages i; files = fin.insert s.files name (reaching LARGEST_BYTE (sym is_end i) file) }; items = [] } in
             let effect = apply_outer s (Words name page offset row) ∙ outer_written d fits ∙ ap (λ r. written s name page offset words file (named_result m.files.dir r)) refers ∙ went in (

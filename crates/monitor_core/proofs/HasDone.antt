@@ -23,6 +23,7 @@ use Rattle.fork_calls.proofs.Holdings.{holds_same, holds_still}
 use Rattle.fork_calls.proofs.Places.{IsMild, Keep, changed_keeps}
 use Rattle.fork_calls.proofs.Tops.{same_tops as still_tops}
 use Rattle.job_commands.specs.Leaving.{LogoutLeaves}
+use Rattle.monitor_core.specs.declared.panel.Panel.{Panel}
 use Rattle.monitor_core.specs.declared.job.Job.{Job}
 use Rattle.monitor_core.specs.declared.system.System.{System}
 use Rattle.monitor_core.specs.Effects.{Has, job_in}
@@ -40,12 +41,12 @@ use Rattle.monitor_core.proofs.Systems.{fits_still, state_left}
 
 module _ {P : Type 0} {b : _} (m m' : System P b) (effect : PlainState → Effect) (items : PlainState → List Item) where
   -- an effect is had that leaves this state, in which no unit ran and no page was made
-  pub has_so : m'.clock ≡ m.clock → ComeFrom m.tree.forks m'.tree.forks → ((u : Tty) → b.means.serial m'.pages u ≤ b.means.serial m.pages u) → b.means.most m'.pages ≡ b.means.most m.pages
+  pub has_so : m'.panel ≡ m.panel → ComeFrom m.tree.forks m'.tree.forks → ((u : Tty) → b.means.serial m'.pages u ≤ b.means.serial m.pages u) → b.means.most m'.pages ≡ b.means.most m.pages
       → ((d : DrumWords) → FitsPages m d → FitsPages m' d) → ((d : DrumWords) → FitsPages m d → ◌≡◌ {A = Effect} (effect (state_of m d)) (record { state = state_of m' d; items = items (state_of m' d) })) → Has m m' effect items
-  has_so clock come serials most fits is = record {
+  has_so panel come serials most fits is = record {
     each = λ d f. (fits d f, ap (λ e. e.state) (sym (is d f)), ap (λ e. e.items) (sym (is d f)));
     within = λ entries w. record {
-      ticks = omega (arith, clock, w.ticks);
+      ticks = omega (arith, ap (λ (x : Panel). x.clock) panel, w.ticks);
       units = λ f lives. let c = come f lives in omega (arith, c.units, w.units c.before c.lived);
       serials = λ u. omega (arith, serials u, w.serials u);
     };
@@ -53,9 +54,9 @@ module _ {P : Type 0} {b : _} (m m' : System P b) (effect : PlainState → Effec
   }
 
   -- the pages and the files stay
-  pub has_left : m'.files ≡ m.files → m'.pages ≡ m.pages → m'.clock ≡ m.clock → ComeFrom m.tree.forks m'.tree.forks
+  pub has_left : m'.files ≡ m.files → m'.pages ≡ m.pages → m'.panel ≡ m.panel → ComeFrom m.tree.forks m'.tree.forks
       → ((d : DrumWords) → FitsPages m d → ◌≡◌ {A = Effect} (effect (state_of m d)) (record { state = state_of m' d; items = items (state_of m' d) })) → Has m m' effect items
-  has_left files same clock come is = has_so clock come (λ u. omega (arith, ap (λ p. b.means.serial p u) same)) (ap b.means.most same) (fits_still m m' files same) is
+  has_left files same panel come is = has_so panel come (λ u. omega (arith, ap (λ p. b.means.serial p u) same)) (ap b.means.most same) (fits_still m m' files same) is
 
   -- the same effect
   pub has_as : (effect' : PlainState → Effect) → ((d : DrumWords) → effect' (state_of m d) ≡ effect (state_of m d)) → Has m m' effect items → Has m m' effect' items
@@ -66,16 +67,16 @@ module _ {P : Type 0} {b : _} (m m' : System P b) (effect : PlainState → Effec
   }
 
 -- an effect that was had by the same tables
-pub has_from : {P : Type 0} {b : _} (m n m' : System P b) (t : Tty) (j : Job) (effect : PlainState → PlainJob → Effect) (items : PlainState → List Item) → n.files ≡ m.files → n.pages ≡ m.pages → n.tree ≡ m.tree → n.jobs.items ≡ m.jobs.items → n.typed.items ≡ m.typed.items → n.clock ≡ m.clock
+pub has_from : {P : Type 0} {b : _} (m n m' : System P b) (t : Tty) (j : Job) (effect : PlainState → PlainJob → Effect) (items : PlainState → List Item) → n.files ≡ m.files → n.pages ≡ m.pages → n.tree ≡ m.tree → n.jobs.items ≡ m.jobs.items → n.typed.items ≡ m.typed.items → n.panel ≡ m.panel
     → Has n m' (λ s. effect s (job_in n t j)) items → Has m m' (λ s. effect s (job_in m t j)) items
-has_from {b = b} m n m' t j effect items files same tree jobs typed clock has = record {
+has_from {b = b} m n m' t j effect items files same tree jobs typed panel has = record {
   each = λ d f.
       let e = has.each d (fits_still m n files same d f) in
-      let was = state_left m n files same tree jobs typed clock d in
+      let was = state_left m n files same tree jobs typed panel d in
       let had : effect (state_of n d) (job_in n t j) ≡ effect (state_of m d) (job_in m t j) = λ i. effect (was i) (plain_job (open_at (open_of (files i)) t.0) (typing_at (typed i) t.0) j) in
       (e.0, e.1 ∙ ap (λ x. x.state) had, e.2 ∙ ap (λ x. x.items) had);
   within = λ entries w. has.within entries (record {
-    ticks = omega (arith, clock, w.ticks);
+    ticks = omega (arith, ap (λ (x : Panel). x.clock) panel, w.ticks);
     units = λ f lives. w.units f (ap (λ (x : PlainTree). map.get x.forks f.name) (sym tree) ∙ lives);
     serials = λ u. omega (arith, ap (λ p. b.means.serial p u) same, w.serials u);
   });

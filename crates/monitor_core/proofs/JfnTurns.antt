@@ -9,6 +9,7 @@ use Rattle.plain_model.specs.Calls.{Came, is_among, turn_on}
 use Rattle.plain_model.specs.Families.{print_calls}
 use Rattle.plain_model.specs.FileCalls.{FileParts, JfnAsked, Jobs, file_calls, file_changed, jfn_call, jfn_calls}
 use Rattle.plain_model.specs.ForkCalls.{fork_calls}
+use Rattle.plain_model.specs.ClockCalls.{clock_calls}
 use Rattle.plain_model.specs.InterruptCalls.{interrupt_calls}
 use Rattle.plain_model.specs.MapCalls.{map_calls}
 use Rattle.plain_model.specs.declared.call.FileChange.{FileChange}
@@ -39,7 +40,7 @@ module _ (was : Tables) (who : ForkName) (regs : Regs) (number : ℕ) (j : Job) 
   abbrev came : NumberedPages → JfnAsked → Came nat_cmp FileChange
   came p a = turn_on (names_of was.files) p (jfn_call number a)
 
-  module _ (printless : is_among print_calls number ≡ false) (unforked : is_among fork_calls number ≡ false) (unposted : is_among interrupt_calls number ≡ false) (unmapped : is_among map_calls number ≡ false) (unfiled : is_among file_calls number ≡ false) (jfns : is_among jfn_calls number ≡ true) where
+  module _ (printless : is_among print_calls number ≡ false) (unforked : is_among fork_calls number ≡ false) (unposted : is_among interrupt_calls number ≡ false) (untimed : is_among clock_calls number ≡ false) (unmapped : is_among map_calls number ≡ false) (unfiled : is_among file_calls number ≡ false) (jfns : is_among jfn_calls number ≡ true) where
     pub jfn_turned : (IsReason : Need → Type 0) (files : FileTables) (p q : NumberedPages) (a : Answer)
         → (let c = came p (asked_of who regs j.user was.files) in IsTurn IsReason (file_changed (key_in was.files)) (parts jobs was.files p) (parts jobs was.files c.pages) (parts jobs files q) a c.end)
         → TurnedSo (key_in was.files) (parts_in (rest_of was) p) (parts_in (rest_of (record was { files = files })) q) who regs number a
@@ -48,4 +49,4 @@ module _ (was : Tables) (who : ForkName) (regs : Regs) (number : ℕ) (j : Job) 
         let as_told = subst (λ (f : FileTables → NumberedPages → FileParts nat_cmp). let c = came p (asked_of who regs j.user was.files) in IsTurn IsReason (file_changed (key_in was.files)) (f was.files p) (f was.files c.pages) (f files q) a c.end) told_are comes in
         let as_asked = subst (λ (b : JfnAsked). let c = came p b in IsTurn IsReason (file_changed (key_in was.files)) (told was.files p) (told was.files c.pages) (told files q) a c.end) (sym (asks_are was p who regs j there unheld)) as_told in
         turned_so (key_in was.files) (with_filed v) (filed_of v) (told files q) who regs number a as_asked
-        (λ went. jfns_went (key_in was.files) v who regs number printless unforked unposted unmapped unfiled jfns (told files q) a went)
+        (λ went. jfns_went (key_in was.files) v who regs number printless unforked unposted untimed unmapped unfiled jfns (told files q) a went)

@@ -37,6 +37,7 @@ use Rattle.plain_pages.proofs.Refiled.{refiled_result, reference_leaves}
 use Rattle.machine_names.specs.Orders.{name_cmp}
 use Rattle.plain_units.proofs.RefiledUnits.{stored_leaves}
 use Rattle.fork_tree.specs.Trees.{IsTree}
+use Rattle.monitor_core.specs.declared.panel.Panel.{Panel}
 use Rattle.monitor_core.specs.declared.job.Job.{Job}
 use Rattle.monitor_core.specs.declared.job_event.JobEvent.{JobEvent}
 use Rattle.monitor_core.specs.declared.job_event.JobEvent.TheVariants.{Poke as ToPoke, Start as ToStart, Examine as ToExamine, Forks as ToShow}
@@ -73,13 +74,13 @@ no_job_event s t (ToStart address) h = outer_start s t address ∙ rw h
 no_job_event s t (ToExamine serial address) h = outer_examine s t serial address ∙ rw h
 no_job_event s t ToShow h = outer_forks s t ∙ rw h
 
-module _ {P : Type 0} {b : _} (m m' : System P b) (files : m'.files ≡ m.files) (same : m'.pages ≡ m.pages) (tree : m'.tree ≡ m.tree) (jobs : m'.jobs.items ≡ m.jobs.items) (typed : m'.typed.items ≡ m.typed.items) (clock : m'.clock ≡ m.clock) where
+module _ {P : Type 0} {b : _} (m m' : System P b) (files : m'.files ≡ m.files) (same : m'.pages ≡ m.pages) (tree : m'.tree ≡ m.tree) (jobs : m'.jobs.items ≡ m.jobs.items) (typed : m'.typed.items ≡ m.typed.items) (panel : m'.panel ≡ m.panel) where
   -- an event that changes nothing
   pub did_still : (e : Event) (reply : Reply) → FitsReply reply → ((d : DrumWords) → FitsPages m d → ◌≡◌ {A = Effect} (outer (state_of m d) e) (record { state = state_of m d; items = reply_items (state_of m d) reply })) → Did m m' (Outer e) reply
   did_still e reply fits shows = record {
     each = λ d f.
         let old = state_of m d in
-        let new : state_of m' d ≡ old = state_left m m' files same tree jobs typed clock d in
+        let new : state_of m' d ≡ old = state_left m m' files same tree jobs typed panel d in
         let effect = apply_outer old e ∙ shows d f in (
           fits_still m m' files same d f,
           new ∙ ap (λ x. x.state) (sym effect),
@@ -87,7 +88,7 @@ module _ {P : Type 0} {b : _} (m m' : System P b) (files : m'.files ≡ m.files)
         );
     shown = fits;
     within = λ entries w. record {
-      ticks = omega (arith, clock, w.ticks);
+      ticks = omega (arith, ap (λ (x : Panel). x.clock) panel, w.ticks);
       units = λ f e. omega (arith, w.units f (ap (λ (x : PlainTree). fin.get x.forks f.name) (sym tree) ∙ e));
       serials = λ t. omega (arith, ap (λ p. b.means.serial p t) same, w.serials t);
     };
@@ -181,7 +182,7 @@ written_files {p} {q} {at} {offset} {word} (Ok done) w =
     ap (λ x. x.files) (w.store done refl) ∙ stored_leaves w.ready at offset word ∙ reference_leaves at.fork.tty p w.ready at Write (was_granted (reference p (in_map at) Write at.fork.tty) w.ready refers)
 written_files (Err cause) w = ap (λ x. x.files) w.stays
 
-module _ {P : Type 0} {b : _} (m m' : System P b) (is_tree : IsTree m.tree) (t : Tty) (e : JobEvent) (j : Job) (at : job_at m.jobs.items t.0 ≡ Some j) (files : m'.files ≡ m.files) (typed : m'.typed.items ≡ m.typed.items) (clock : m'.clock ≡ m.clock) where
+module _ {P : Type 0} {b : _} (m m' : System P b) (is_tree : IsTree m.tree) (t : Tty) (e : JobEvent) (j : Job) (at : job_at m.jobs.items t.0 ≡ Some j) (files : m'.files ≡ m.files) (typed : m'.typed.items ≡ m.typed.items) (panel : m'.panel ≡ m.panel) where
   -- a job's top fork is of its terminal
   owner : j.top.tty ≡ t
   owner = λ i. record { 0 = (m.sound.each_job t.0 j at).terminal i }
@@ -194,7 +195,7 @@ module _ {P : Type 0} {b : _} (m m' : System P b) (is_tree : IsTree m.tree) (t :
         let old = state_of m d in
         let paged : Effect = poked old t (slot_at j.top address) (address % PAGE_WORDS) word (reference old.pages (in_map (slot_at j.top address)) Write t) in
         let mine : state_of m' d ≡ change_fork old j.top (with_accumulator address word) =
-        (λ i. record old { pages = named (files i).dir (b.means.plain (same i) d); files = files_of (files i); jobs = jobs_of (open_of (files i)) (typed i) (jobs i); forks = (is i).forks; fork_serials = (is i).serials; clock = clock i })
+        (λ i. record old { pages = named (files i).dir (b.means.plain (same i) d); files = files_of (files i); jobs = jobs_of (open_of (files i)) (typed i) (jobs i); forks = (is i).forks; fork_serials = (is i).serials; clock = (panel i).clock; trace = (panel i).trace })
         ∙ sym (change_is old j.top (with_accumulator address word) (λ f. refl)) in
         outer_poke old t address word
         ∙ ap (λ (o : Option PlainJob). option_map_or (λ i. cond (nat_lt address ACCUMULATORS) (record { state = change_fork old i.top (with_accumulator address word); items = [] }) (poked old t (slot_at i.top address) (address % PAGE_WORDS) word (reference old.pages (in_map (slot_at i.top address)) Write t))) o (refused old (NoJob t))) (job_found (open_of m.files) m.typed.items m.jobs.items t.0 j at)
@@ -214,7 +215,7 @@ module _ {P : Type 0} {b : _} (m m' : System P b) (is_tree : IsTree m.tree) (t :
         let refers : write_of (reference p (in_map slot) Write t) ≡ left_by wrote.ready wrote.tried = subst (λ u. write_of (reference p (in_map slot) Write u) ≡ left_by wrote.ready wrote.tried) owner wrote.readied.refers in
         let refused_is : result ≡ refused_by (poke_refusal t) wrote.tried = subst (λ u. result ≡ refused_by (poke_refusal u) wrote.tried) owner wrote.is in
         let mine : state_of m' d ≡ record old { pages = keyed filed q } =
-        (λ i. record old { pages = named (files i).dir q; files = files_of (files i); jobs = jobs_of (open_of (files i)) (typed i) (jobs i); forks = (is i).forks; fork_serials = (is i).serials; clock = clock i })
+        (λ i. record old { pages = named (files i).dir q; files = files_of (files i); jobs = jobs_of (open_of (files i)) (typed i) (jobs i); forks = (is i).forks; fork_serials = (is i).serials; clock = (panel i).clock; trace = (panel i).trace })
         ∙ ap (λ x. record old { pages = x }) (named_left m.files.dir p q (written_files result wrote)) in
         outer_poke old t address word
         ∙ ap (λ (o : Option PlainJob). option_map_or (λ i. cond (nat_lt address ACCUMULATORS) (record { state = change_fork old i.top (with_accumulator address word); items = [] }) (poked old t (slot_at i.top address) (address % PAGE_WORDS) word (reference old.pages (in_map (slot_at i.top address)) Write t))) o (refused old (NoJob t))) (job_found (open_of m.files) m.typed.items m.jobs.items t.0 j at)
@@ -253,7 +254,7 @@ module _ {P : Type 0} {b : _} (m m' : System P b) (is_tree : IsTree m.tree) (t :
           ];
           shown = reply_fits result fits;
           within = λ entries w. record {
-            ticks = omega (arith, clock, w.ticks);
+            ticks = omega (arith, ap (λ (x : Panel). x.clock) panel, w.ticks);
             units = λ f lives. elim (split_at address ACCUMULATORS) [
               | inl small ↦ units_change m entries (entries + 1) j.top (with_accumulator address word) is_tree (λ k. refl) w (omega arith) f (ap (λ (x : PlainTree). fin.get x.forks f.name) (sym (low small).1) ∙ lives)
               | inr above ↦ omega (arith, w.units f (ap (λ (x : PlainTree). fin.get x.forks f.name) (sym (high above).0) ∙ lives))
@@ -278,7 +279,7 @@ module _ {P : Type 0} {b : _} (m m' : System P b) (is_tree : IsTree m.tree) (t :
         let jobs : jobs_of (open_of m'.files) m'.typed.items m'.jobs.items ≡ fin.insert old.jobs t.0 (record was { mode = Program }) =
         (λ i. jobs_of (open_of (files i)) (typed i) (set_to i)) ∙ jobs_set (open_of m.files) m.typed.items m.jobs.items t.0 k (omega (arith, m.sound.job_room, job.low)) ∙ ap (fin.insert old.jobs t.0) plain_k in
         let mine : state_of m' d ≡ started old t address was =
-        (λ i. record old { pages = named (files i).dir (b.means.plain (same i) d); files = files_of (files i); jobs = jobs i; forks = (changes i).forks; fork_serials = (changes i).serials; clock = clock i })
+        (λ i. record old { pages = named (files i).dir (b.means.plain (same i) d); files = files_of (files i); jobs = jobs i; forks = (changes i).forks; fork_serials = (changes i).serials; clock = (panel i).clock; trace = (panel i).trace })
         ∙ ap (λ (s : PlainState). with_job_at s t (in_program was)) (sym (change_is old j.top (restarted address) (λ x. refl))) in
         let effect : ◌≡◌ {A = Effect} (apply old (Outer (event_at t (ToStart address)))) (record { state = state_of m' d; items = [] }) =
         apply_outer old (event_at t (ToStart address)) ∙ outer_start old t address
@@ -290,7 +291,7 @@ module _ {P : Type 0} {b : _} (m m' : System P b) (is_tree : IsTree m.tree) (t :
         );
     shown = tt;
     within = λ entries w. record {
-      ticks = omega (arith, clock, w.ticks);
+      ticks = omega (arith, ap (λ (x : Panel). x.clock) panel, w.ticks);
       units = λ f lives. units_change m entries (entries + 1) j.top (restarted address) is_tree (λ k. refl) w (omega arith) f (ap (λ (x : PlainTree). fin.get x.forks f.name) (sym changes) ∙ lives);
       serials = λ u. omega (arith, ap (λ p. b.means.serial p u) same, w.serials u);
     };

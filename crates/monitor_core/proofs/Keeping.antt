@@ -7,6 +7,7 @@ use Rattle.call_turns.specs.declared.answer.Answer.{Answer}
 use Rattle.call_turns.specs.declared.answer.Answer.TheVariants as answer
 use Rattle.plain_model.specs.declared.fork.Fork.{Fork}
 use Rattle.plain_units.specs.declared.registers.Regs.{Regs}
+use Rattle.script_texts.specs.declared.status.WaitOn.TheVariants.{Input, Fork as AFork, Sleep}
 use Rattle.script_texts.specs.declared.status.ForkStatus.{ForkStatus}
 use Rattle.script_texts.specs.declared.status.ForkStatus.TheVariants.{Forced as AForced, Halted as AHalted, Run, Wait}
 use Rattle.plain_model.specs.Calls.{behind_call, failed_regs, posted_if, with_error}
@@ -87,7 +88,9 @@ answered_keeps f pc acs (answer.Refused code) fits =
     record { name = k.name; slot = k.slot; superior = k.superior; status = k.status; pc = k.pc; accumulators = k.accumulators; units = k.units }
 answered_keeps f pc acs (answer.Failed code) fits = failed_keeps f code acs
 answered_keeps f pc acs (answer.Trap channel) fits = posted_keeps f f.body.regs pc acs channel
-answered_keeps f pc acs (answer.Wait on) fits = record { name = refl; slot = refl; superior = refl; status = λ s c h. absurd (cc h); pc = pc; accumulators = acs; units = refl }
+answered_keeps f pc acs (answer.Wait Input) fits = record { name = refl; slot = refl; superior = refl; status = λ s c h. absurd (cc h); pc = pc; accumulators = acs; units = refl }
+answered_keeps f pc acs (answer.Wait AFork) fits = record { name = refl; slot = refl; superior = refl; status = λ s c h. absurd (cc h); pc = pc; accumulators = acs; units = refl }
+answered_keeps f pc acs (answer.Wait (Sleep moment)) fits = record { name = refl; slot = refl; superior = refl; status = λ s c h. absurd (cc h); pc = pc; accumulators = acs; units = refl }
 answered_keeps f pc acs answer.Halt fits = halted_keeps f f.body.regs pc acs
 answered_keeps f pc acs (answer.Need need) fits = plain_keeps f f.body.regs pc acs
 

@@ -31,7 +31,6 @@ mod CodeTurns
 mod Changing
 mod Sounds
 mod Systems
-mod Frozen
 mod Running
 mod CallerStays
 mod UnitEffect
@@ -57,3 +56,7 @@ mod GivenParts
 mod Listed
 mod Typed
 mod TypedIn
+mod ReachDid
+mod Sleepers
+mod JobOthers
+pub mod ListsTied

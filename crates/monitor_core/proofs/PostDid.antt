@@ -121,7 +121,7 @@ module _ {P : Type 0} {b : _} (m m' : System P b) (trees : IsTree m.tree) (name 
   abbrev forks_are : m'.tree ≡ record m.tree { forks = told_if (forces f.body.psi channel) m.tree.forks (posted f channel) }
   forks_are = tree_is m.tree trees name f there channel bit low same alike forced is m'.tree tree
 
-  module _ (stop seen : Stop) (stop_is : stop ≡ stop_by forced channel) (seen_is : seen ≡ seen_stop f.slot stop) (files : m'.files ≡ m.files) (pages : m'.pages ≡ m.pages) (clock : m'.clock ≡ m.clock) (typed : m'.typed.items ≡ m.typed.items)
+  module _ (stop seen : Stop) (stop_is : stop ≡ stop_by forced channel) (seen_is : seen ≡ seen_stop f.slot stop) (files : m'.files ≡ m.files) (pages : m'.pages ≡ m.pages) (panel : m'.panel ≡ m.panel) (typed : m'.typed.items ≡ m.typed.items)
       (jobs : m'.jobs.items ≡ jobs_left m.jobs.items name.tty.0 (is_stopped seen)) (within : name.tty.0 < length m.jobs.items) where
     module _ (d : DrumWords) where
       abbrev old : PlainState
@@ -140,7 +140,7 @@ module _ {P : Type 0} {b : _} (m m' : System P b) (trees : IsTree m.tree) (name 
           let jobs_are : jobs_of (open_of m'.files) m'.typed.items m'.jobs.items ≡ jobs_seen old.jobs f.name.tty (is_stopped seen) =
           (λ i. jobs_of (open_of (files i)) (typed i) (jobs i)) ∙ jobs_left_seen held m.typed.items m.jobs.items name.tty (is_stopped seen) within
           ∙ (λ i. jobs_seen old.jobs (sym (trees.slotted.own name f there) i).tty (is_stopped seen)) in
-          λ i. record old { pages = named (files i).dir (b.means.plain (pages i) d); files = files_of (files i); jobs = jobs_are i; forks = (forks_are i).forks; fork_serials = (forks_are i).serials; clock = clock i }
+          λ i. record old { pages = named (files i).dir (b.means.plain (pages i) d); files = files_of (files i); jobs = jobs_are i; forks = (forks_are i).forks; fork_serials = (forks_are i).serials; clock = (panel i).clock; trace = (panel i).trace }
 
       shows : (told : Bool) → forces f.body.psi channel ≡ told → ◌≡◌ {A = Effect} (cond told (stopped old (posted f channel)) (record { state = with_fork old (posted f channel); items = [] })) (record { state = left_by told (seen_stop f.slot (stop_by told channel)); items = stop_items f.name.tty (seen_stop f.slot (stop_by told channel)) })
       shows true forces_it =
@@ -157,7 +157,7 @@ module _ {P : Type 0} {b : _} (m m' : System P b) (trees : IsTree m.tree) (name 
           ∙ (λ i. record { state = sym now i; items = stop_items name.tty seen })
 
     pub has_posted : (t : Tty) → Has m m' (λ s. posted_at s name channel) (echo_items t (Posts name.tty seen))
-    has_posted t = has_left m m' (λ s. posted_at s name channel) (echo_items t (Posts name.tty seen)) files pages clock (kept m.tree trees name f there channel bit low same alike forced is m'.tree tree).come (λ d f. effect_is d)
+    has_posted t = has_left m m' (λ s. posted_at s name channel) (echo_items t (Posts name.tty seen)) files pages panel (kept m.tree trees name f there channel bit low same alike forced is m'.tree tree).come (λ d f. effect_is d)
 
 -- a channel that is posted, as what becomes of a character
 pub has_posting : {P : Type 0} {b : _} (m m' : System P b) (t : Tty) (j : Job) (code : ℕ) (name : ForkName) (channel : ℕ) (fate : Typed) (items : PlainState → List Item) → Given name channel ≡ fate → Has m m' (λ s. posted_at s name channel) items

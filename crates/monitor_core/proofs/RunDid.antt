@@ -62,7 +62,7 @@ none_made {b = b} m m' t made u = elim (cases_eq u.0 t.0) [
 abbrev pub with_living : ForkMap → Typing → Typing
 with_living forks y = record y { input = record y.input { codes = living_codes forks y.input.codes } }
 
-module _ {P : Type 0} {b : _} (m m' : System P b) (t : Tty) (j : Job) (at : HasJobAt m t j) (files : m'.files ≡ m.files) (clock : m'.clock ≡ m.clock) (left : RunLeaves b.means m.pages m'.pages m.tree m'.tree j.top)
+module _ {P : Type 0} {b : _} (m m' : System P b) (t : Tty) (j : Job) (at : HasJobAt m t j) (files : m'.files ≡ m.files) (panel : m'.panel ≡ m.panel) (left : RunLeaves b.means m.pages m'.pages m.tree m'.tree j.top)
     (name : List ℕ) (f : ℕ) (there : IsThere m.files f) (called : name_of m.files.dir f ≡ name) where
   module _ (d : DrumWords) (fits : FitsPages m d) where
     abbrev old : PlainState
@@ -114,7 +114,7 @@ module _ {P : Type 0} {b : _} (m m' : System P b) (t : Tty) (j : Job) (at : HasJ
         ∙ ap (λ x. fin.insert old.jobs t.0 (plain_job (open_at (open_of m.files) t.0) x begun)) lives
         ∙ ap (λ (w : ForkParts nat_cmp). fin.insert old.jobs t.0 (record (in_program was) { start = Some (right word); codes = living_codes w.tree.forks was.codes })) run.1 in
         let mine : state_of m' d ≡ running old t was name (right word) =
-        (λ i. record old { pages = same_pages i; files = files_of (files i); jobs = now i; forks = (run.1 i).tree.forks; fork_serials = (run.1 i).tree.serials; clock = clock i })
+        (λ i. record old { pages = same_pages i; files = files_of (files i); jobs = now i; forks = (run.1 i).tree.forks; fork_serials = (run.1 i).tree.serials; clock = (panel i).clock; trace = (panel i).trace })
         ∙ ap (λ (w : ForkParts name_cmp). with_job_at (with_forks_and_pages old w) t (record (in_program was) { start = Some (right word); codes = living_codes w.tree.forks was.codes })) (sym (run_same name_cmp (pages_named m.files.dir p.files) f name v j.top (right word) alike under)) in
         asks ∙ ap (λ o. option_map_or (λ n. record { state = running old t was name (start_address old name); items = [] }) o (told old t (codes "?NO PROGRAM"))) page.1
         ∙ (λ i. record { state = (ap (running old t was name) address ∙ sym mine) i; items = [] })
@@ -122,21 +122,21 @@ module _ {P : Type 0} {b : _} (m m' : System P b) (t : Tty) (j : Job) (at : HasJ
     runs_not : {X : Type 0} (e : X) → m'.typed.items ≡ m.typed.items → m'.jobs.items ≡ m.jobs.items → IsRun j.top f (parts m.tree p) (parts m'.tree (b.means.plain m'.pages d)) (Err e)
         → ◌≡◌ {A = Effect} (run_program old t (job_in m t j) name) (record { state = state_of m' d; items = told_items t (Refused NoProgram) (state_of m' d) })
     runs_not e typed jobs run =
-        let mine : state_of m' d ≡ old = λ i. record old { pages = named (files i).dir (run.1 i).pages; files = files_of (files i); jobs = jobs_of (open_of (files i)) (typed i) (jobs i); forks = (run.1 i).tree.forks; fork_serials = (run.1 i).tree.serials; clock = clock i } in
+        let mine : state_of m' d ≡ old = λ i. record old { pages = named (files i).dir (run.1 i).pages; files = files_of (files i); jobs = jobs_of (open_of (files i)) (typed i) (jobs i); forks = (run.1 i).tree.forks; fork_serials = (run.1 i).tree.serials; clock = (panel i).clock; trace = (panel i).trace } in
         asks ∙ ap (λ o. option_map_or (λ n. record { state = running old t (job_in m t j) name (start_address old name); items = [] }) o (told old t (codes "?NO PROGRAM"))) run.0
         ∙ (λ i. record { state = sym mine i; items = told_items t (Refused NoProgram) old })
 
   pub has_run_on : (X : Type 0) (word : ℕ) (y : Typing) → m'.typed.items ≡ set m.typed.items t.0 y → y ≡ with_living m'.tree.forks (typing_at m.typed.items t.0) → m'.jobs.items ≡ set m.jobs.items t.0 (Some (record j { mode = Program; start = Some word }))
       → ((d : DrumWords) → b.means.fits m.pages d → b.means.fits m'.pages d × IsRun {E = X} j.top f (parts m.tree (b.means.plain m.pages d)) (parts m'.tree (b.means.plain m'.pages d)) (Ok word)) → Has m m' (λ s. run_program s t (job_in m t j) name) (told_items t Nothing)
   has_run_on X word y typed lives jobs did =
-      has_so m m' (λ s. run_program s t (job_in m t j) name) (told_items t Nothing) clock left.kept (none_made m m' j.top.tty left.made) left.made.most
+      has_so m m' (λ s. run_program s t (job_in m t j) name) (told_items t Nothing) panel left.kept (none_made m m' j.top.tty left.made) left.made.most
       (λ d fits. let r = did d fits.pages in fits_left m m' files d r.0 (ap (λ (w : ForkParts nat_cmp). w.pages.files) r.1.1 ∙ run_leaves (parts m.tree (b.means.plain m.pages d)) j.top f (right word)) fits)
       (λ d fits. runs d fits X word y typed lives jobs (did d fits.pages).1)
 
   pub has_not_run : {X : Type 0} (e : X) → m'.typed.items ≡ m.typed.items → m'.jobs.items ≡ m.jobs.items
       → ((d : DrumWords) → b.means.fits m.pages d → b.means.fits m'.pages d × IsRun j.top f (parts m.tree (b.means.plain m.pages d)) (parts m'.tree (b.means.plain m'.pages d)) (Err e)) → Has m m' (λ s. run_program s t (job_in m t j) name) (told_items t (Refused NoProgram))
   has_not_run e typed jobs did =
-      has_so m m' (λ s. run_program s t (job_in m t j) name) (told_items t (Refused NoProgram)) clock left.kept (none_made m m' j.top.tty left.made) left.made.most
+      has_so m m' (λ s. run_program s t (job_in m t j) name) (told_items t (Refused NoProgram)) panel left.kept (none_made m m' j.top.tty left.made) left.made.most
       (λ d fits. let r = did d fits.pages in fits_left m m' files d r.0 (ap (λ (w : ForkParts nat_cmp). w.pages.files) r.1.1) fits)
       (λ d fits. runs_not d fits e typed jobs (did d fits.pages).1)
 
@@ -161,7 +161,7 @@ module _ (held now : List OpenFiles) (typed : List Typing) (js : List (Option Jo
       by u (inl same) = job_missing now typed (set js t None) u (ap (job_at (set js t None)) same ∙ get_or-set_same js t None None within) ∙ sym (get_gone (jobs_of held typed js) t u same)
       by u (inr ne) = other u ne ∙ sym (get_gone_other (jobs_of held typed js) t u ne)
 
-module _ {P : Type 0} {b : _} (m m' : System P b) (t : Tty) (j : Job) (at : HasJobAt m t j) (clock : m'.clock ≡ m.clock) (typed : m'.typed.items ≡ m.typed.items) (left : LogoutLeaves b.means m.pages m'.pages m.tree m'.tree j.top)
+module _ {P : Type 0} {b : _} (m m' : System P b) (t : Tty) (j : Job) (at : HasJobAt m t j) (panel : m'.panel ≡ m.panel) (typed : m'.typed.items ≡ m.typed.items) (left : LogoutLeaves b.means m.pages m'.pages m.tree m'.tree j.top)
     (files : FilesStay m.files m'.files) (opened : open_of m'.files ≡ slice_set (open_of m.files) t.0 fin.empty) (jobs : m'.jobs.items ≡ set m.jobs.items t.0 None)
     (killed_so : (d : DrumWords) → b.means.fits m.pages d → b.means.fits m'.pages d × (parts m'.tree (b.means.plain m'.pages d) ≡ killed (parts m.tree (b.means.plain m.pages d)) j.top)) where
   files_kept : (d : DrumWords) → b.means.fits m.pages d → (b.means.plain m'.pages d).files ≡ (b.means.plain m.pages d).files
@@ -180,13 +180,13 @@ module _ {P : Type 0} {b : _} (m m' : System P b) (t : Tty) (j : Job) (at : HasJ
       (λ i. jobs_of (open_of m'.files) (typed i) (jobs i))
       ∙ jobs_gone (open_of m.files) (open_of m'.files) m.typed.items m.jobs.items t.0 (λ u ne. ap (λ o. open_at o u) opened ∙ get_or-set_other (open_of m.files) t.0 u fin.empty fin.empty ne) (low_job m m' t j at) in
       let mine : state_of m' d ≡ logged_out old t (job_in m t j) =
-      (λ i. record old { pages = same_pages i; files = files.files i; jobs = now i; forks = (went i).tree.forks; fork_serials = (went i).tree.serials; clock = clock i })
+      (λ i. record old { pages = same_pages i; files = files.files i; jobs = now i; forks = (went i).tree.forks; fork_serials = (went i).tree.serials; clock = (panel i).clock; trace = (panel i).trace })
       ∙ ap (λ (w : ForkParts name_cmp). record (with_forks_and_pages old w) { jobs = fin.remove old.jobs t.0 }) (sym (killed_same name_cmp (pages_named m.files.dir p.files) v j.top (alike_named m.files.dir p m.files.sound.numbers f.filed))) in
       λ i. record { state = sym mine i; items = [] }
 
   pub has_logged_out : Has m m' (λ s. record { state = logged_out s t (job_in m t j); items = [] }) (told_items t Nothing)
   has_logged_out =
-      has_so m m' (λ s. record { state = logged_out s t (job_in m t j); items = [] }) (told_items t Nothing) clock left.kept (none_made m m' j.top.tty left.made) left.made.most
+      has_so m m' (λ s. record { state = logged_out s t (job_in m t j); items = [] }) (told_items t Nothing) panel left.kept (none_made m m' j.top.tty left.made) left.made.most
       (λ d f. record {
         pages = (killed_so d f.pages).0;
         filed = subst (λ dir. AreFiled dir (b.means.plain m'.pages d).files) (sym files.numbers) (subst (AreFiled m.files.dir) (sym (files_kept d f.pages)) f.filed);

@@ -22,7 +22,7 @@ use Rattle.monitor_core.proofs.Gave.{gave_none, gave_append, gave_cut}
 use Rattle.monitor_core.specs.declared.machine.Machine.{Machine}
 use Rattle.monitor_core.specs.declared.system.System.{System}
 use Rattle.monitor_core.specs.declared.reply.Reply.{Reply}
-use Rattle.monitor_core.specs.declared.reply.Reply.TheVariants.{Nothing, One, Prints, Forks, Page}
+use Rattle.monitor_core.specs.declared.reply.Reply.TheVariants.{Nothing, One, Ran, Forks, Page}
 use Rattle.monitor_core.specs.declared.shown.Stop.{Stop}
 use Rattle.monitor_core.specs.declared.shown.Stop.TheVariants.{GoesOn as Runs, Halted, Forced}
 use Rattle.monitor_core.specs.Shown.{none_shown, stop_items}
@@ -45,7 +45,8 @@ none_items t (Some code) stop h = absurd (cc h)
 pub silent_items : (s : PlainState) (reply : Reply) → is_silent reply ≡ true → reply_items s reply ≡ []
 silent_items s Nothing h = refl
 silent_items s (One item) h = absurd (cc h)
-silent_items s (Prints t shown) h = none_items t shown.out shown.stop h
+silent_items s (Ran f None shown) h = none_items f.tty shown.out shown.stop h
+silent_items s (Ran f (Some pc) shown) h = absurd (cc h)
 silent_items s (Forks t) h = absurd (cc h)
 silent_items s (Page name page) h = absurd (cc h)
 
@@ -133,7 +134,7 @@ module _ {P : Type 0} {b : _} {T : Type 0} (fault_count : T → ℕ) (onward : T
     taker = took.taker;
     ok = all r (λ d f. (took.given d f).ok);
     err = part r (λ d f. (took.given d f).err);
-    mark = mark ∙ sym (single_mark (auto m) e can.0.1);
+    mark = mark ∙ sym (single_mark (auto m) e can.1);
     live = live;
     most = did.most;
   }
@@ -143,11 +144,11 @@ module _ {P : Type 0} {b : _} {T : Type 0} (fault_count : T → ℕ) (onward : T
 
       all : (r : Result X E) → ((d : DrumWords) → FitsPages m'.system d → OnOk r (GoesOn stands out out' (reply_items (state_of m'.system d) reply) (Outer e ∷ []))) → OnOk r (Given stands m m' out out' e)
       all (Err c) given = tt
-      all (Ok x) given = all_given m m' out out' (Outer e) 1 reply e one (follows_event e can.0.1) count given
+      all (Ok x) given = all_given m m' out out' (Outer e) 1 reply e one (follows_event e can.1) count given
 
       part : (r : Result X E) → ((d : DrumWords) → FitsPages m'.system d → OnErr r (IsCut stands cut out out' (reply_items (state_of m'.system d) reply) (Outer e ∷ []))) → OnErr r (Cut stands cut m out out' e)
       part (Ok x) given = tt
-      part (Err c) given = all_cut m m' out out' (Outer e) 1 reply e one (begins_event e can.0.1) given
+      part (Err c) given = all_cut m m' out out' (Outer e) 1 reply e one (begins_event e can.1) given
 
   -- equal turns that were done, and given behind the items of the reply
   module _ {E : Type 0} (m m' : Machine P b) (out out' : T) (step : Step) (turn : IsTurn step) (count left : ℕ) (some : 1 ≤ count) (few : count ≤ left) (reply : Reply) (did : DidAll m.system m'.system step count reply) (counts : done m' ≡ done m + count) (mark : auto m' ≡ auto m) (live : is_live m' ≡ is_live m) where

@@ -25,6 +25,7 @@ use Rattle.file_calls.specs.Asking.{key_in}
 use Rattle.monitor_core.specs.Limits.{unit_frames}
 use Rattle.monitor_core.specs.Jobs.{AreUnheld}
 use Rattle.monitor_core.specs.declared.typing.Typing.{Typing}
+use Rattle.monitor_core.specs.declared.units.Reach.{Reach}
 use Rattle.monitor_core.specs.declared.units.Units.{Units}
 use Rattle.monitor_core.specs.ForkUnit.{CallWaits, Kept, LeavesForks, RanUnits, RanUpTo, Rest, Tables, UnitWaits, UnitsRan, left_so, put_back, ran_on, rest_of}
 use Rattle.monitor_core.specs.Shown.{nothing}
@@ -34,13 +35,13 @@ use Rattle.monitor_core.proofs.Leaving.{came_less, leaves_one, leaves_then}
 use Rattle.monitor_core.proofs.UnitRan.{row_ran}
 
 -- those that are done before it alone, if there are any
-abbrev before : ℕ → Need → Result Units Need
-before count n = cond (count == 0) (Err n) (Ok (record { count = count; shown = nothing }))
+abbrev before : ℕ → Need → Reach → Result Units Need
+before count n reach = cond (count == 0) (Err n) (Ok (record { count = count; shown = nothing; reach = reach }))
 
-by_count : (count : ℕ) (n : Need) (r : Result Units Need) → r ≡ before count n → ((count ≡ 0) × (r ≡ Err n)) ⊎ ((1 ≤ count) × (r ≡ Ok (record { count = count; shown = nothing })))
-by_count count n r is = elim (eqb_tells count 0) [
-  | inl none ↦ inl (none.1, is ∙ ap (λ b. cond b (Err n) (Ok (record { count = count; shown = nothing }))) none.0)
-  | inr some ↦ inr (omega (arith, some.1), is ∙ ap (λ b. cond b (Err n) (Ok (record { count = count; shown = nothing }))) some.0)
+by_count : (count : ℕ) (n : Need) (reach : Reach) (r : Result Units Need) → r ≡ before count n reach → ((count ≡ 0) × (r ≡ Err n)) ⊎ ((1 ≤ count) × (r ≡ Ok (record { count = count; shown = nothing; reach = reach })))
+by_count count n reach r is = elim (eqb_tells count 0) [
+  | inl none ↦ inl (none.1, is ∙ ap (λ b. cond b (Err n) (Ok (record { count = count; shown = nothing; reach = reach }))) none.0)
+  | inr some ↦ inr (omega (arith, some.1), is ∙ ap (λ b. cond b (Err n) (Ok (record { count = count; shown = nothing; reach = reach }))) some.0)
 ]
 
 -- no unit changes nothing
@@ -90,8 +91,8 @@ module _ {P : Type 0} (means : PagesMeaning P) (old new : P) (was : Tables) (tre
     needed = s.needed;
   }
 
-  some_done : (count : ℕ) → 1 ≤ count → StopsBehind means old new was tree files typed f g count n → UnitsRan means old new was (with_tree was tree files typed) f (record { count = count; shown = nothing })
-  some_done count some s = record {
+  some_done : (count : ℕ) (reach : Reach) → 1 ≤ count → StopsBehind means old new was tree files typed f g count n → UnitsRan means old new was (with_tree was tree files typed) f (record { count = count; shown = nothing; reach = reach })
+  some_done count reach some s = record {
     after = g;
     there = λ d fits. subst (λ (x : PlainTree). Lives x.forks g) (sym (s.told d fits).1) (get_put was.tree.forks g.name g.name g refl);
     told = λ d fits.
@@ -108,29 +109,36 @@ module _ {P : Type 0} (means : PagesMeaning P) (old new : P) (was : Tables) (tre
     shown = (tt, tt);
   }
 
-  pub stops_ran : (count : ℕ) (r : Result Units Need) → r ≡ before count n → StopsBehind means old new was tree files typed f g count n → IfOk r (UnitsRan means old new was (with_tree was tree files typed) f)
-  stops_ran count r is s = elim (by_count count n r is) [
+  pub stops_ran : (count : ℕ) (reach : Reach) (r : Result Units Need) → r ≡ before count n reach → StopsBehind means old new was tree files typed f g count n → IfOk r (UnitsRan means old new was (with_tree was tree files typed) f)
+  stops_ran count reach r is s = elim (by_count count n reach r is) [
     | inl none ↦ subst (λ x. IfOk x (UnitsRan means old new was (with_tree was tree files typed) f)) (sym none.1) tt
-    | inr some ↦ subst (λ x. IfOk x (UnitsRan means old new was (with_tree was tree files typed) f)) (sym some.1) (some_done count some.0 s)
+    | inr some ↦ subst (λ x. IfOk x (UnitsRan means old new was (with_tree was tree files typed) f)) (sym some.1) (some_done count reach some.0 s)
   ]
 
-  pub stops_waits : (count : ℕ) (r : Result Units Need) → r ≡ before count n → StopsBehind means old new was tree files typed f g count n → IfErr r (UnitWaits means old new was (with_tree was tree files typed) f)
-  stops_waits count r is s = elim (by_count count n r is) [
+  pub stops_waits : (count : ℕ) (reach : Reach) (r : Result Units Need) → r ≡ before count n reach → StopsBehind means old new was tree files typed f g count n → IfErr r (UnitWaits means old new was (with_tree was tree files typed) f)
+  stops_waits count reach r is s = elim (by_count count n reach r is) [
     | inl none ↦ subst (λ x. IfErr x (UnitWaits means old new was (with_tree was tree files typed) f)) (sym none.1) (none_done (subst (λ k. StopsBehind means old new was tree files typed f g k n) none.0 s))
     | inr some ↦ subst (λ x. IfErr x (UnitWaits means old new was (with_tree was tree files typed) f)) (sym some.1) tt
   ]
 
 -- how many they are
-pub before_some : (count : ℕ) (n : Need) (r : Result Units Need) → r ≡ before count n → IfOk r (λ units. 1 ≤ units.count)
-before_some count n r is = elim (by_count count n r is) [
+pub before_some : (count : ℕ) (n : Need) (reach : Reach) (r : Result Units Need) → r ≡ before count n reach → IfOk r (λ units. 1 ≤ units.count)
+before_some count n reach r is = elim (by_count count n reach r is) [
   | inl none ↦ subst (λ x. IfOk x (λ (units : Units). 1 ≤ units.count)) (sym none.1) tt
   | inr some ↦ subst (λ x. IfOk x (λ (units : Units). 1 ≤ units.count)) (sym some.1) some.0
 ]
 
-pub before_few : (count most : ℕ) (n : Need) (r : Result Units Need) → count ≤ most → r ≡ before count n → IfOk r (λ units. units.count ≤ most)
-before_few count most n r few is = elim (by_count count n r is) [
+pub before_few : (count most : ℕ) (n : Need) (reach : Reach) (r : Result Units Need) → count ≤ most → r ≡ before count n reach → IfOk r (λ units. units.count ≤ most)
+before_few count most n reach r few is = elim (by_count count n reach r is) [
   | inl none ↦ subst (λ x. IfOk x (λ (units : Units). units.count ≤ most)) (sym none.1) tt
   | inr some ↦ subst (λ x. IfOk x (λ (units : Units). units.count ≤ most)) (sym some.1) few
+]
+
+-- how far they have reached
+pub before_reach : (P : Reach → Type 0) (count : ℕ) (n : Need) (reach : Reach) (r : Result Units Need) → P reach → r ≡ before count n reach → IfOk r (λ units. P units.reach)
+before_reach P count n reach r reaches is = elim (by_count count n reach r is) [
+  | inl none ↦ subst (λ x. IfOk x (λ (units : Units). P units.reach)) (sym none.1) tt
+  | inr some ↦ subst (λ x. IfOk x (λ (units : Units). P units.reach)) (sym some.1) reaches
 ]
 
 -- none that made no page

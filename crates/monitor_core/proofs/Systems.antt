@@ -58,14 +58,15 @@ module _ {P : Type 0} {b : _} (m m' : System P b) (files : m'.files ≡ m.files)
     fits_still d f = fits_left d (subst (λ p. b.means.fits p d) (sym same) f.pages) (ap (λ p. (b.means.plain p d).files) same) f
 
     -- a state of the same pages and files
-    pub state_left : (tree : m'.tree ≡ m.tree) (jobs : m'.jobs.items ≡ m.jobs.items) (typed : m'.typed.items ≡ m.typed.items) (clock : m'.clock ≡ m.clock) (d : DrumWords) → state_of m' d ≡ state_of m d
-    state_left tree jobs typed clock d = λ i. record (state_of m d) {
+    pub state_left : (tree : m'.tree ≡ m.tree) (jobs : m'.jobs.items ≡ m.jobs.items) (typed : m'.typed.items ≡ m.typed.items) (panel : m'.panel ≡ m.panel) (d : DrumWords) → state_of m' d ≡ state_of m d
+    state_left tree jobs typed panel d = λ i. record (state_of m d) {
       pages = named (files i).dir (b.means.plain (same i) d);
       files = files_of (files i);
       jobs = jobs_of (open_of (files i)) (typed i) (jobs i);
       forks = (tree i).forks;
       fork_serials = (tree i).serials;
-      clock = clock i;
+      clock = (panel i).clock;
+      trace = (panel i).trace;
     }
 
 module _ {P : Type 0} {b : _} where

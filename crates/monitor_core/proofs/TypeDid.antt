@@ -42,7 +42,7 @@ module _ {P : Type 0} {b : _} (m m' : System P b) (t : Tty) (j : Job) (at : HasJ
   pub low_typed : t.0 < length m.typed.items
   low_typed = let job = m.sound.each_job t.0 j at in omega (arith, m.typing_room, job.low)
 
-  module _ (files : m'.files ≡ m.files) (same : m'.pages ≡ m.pages) (clock : m'.clock ≡ m.clock) (y : Typing) (typed : m'.typed.items ≡ set m.typed.items t.0 y) (d : DrumWords) where
+  module _ (files : m'.files ≡ m.files) (same : m'.pages ≡ m.pages) (panel : m'.panel ≡ m.panel) (y : Typing) (typed : m'.typed.items ≡ set m.typed.items t.0 y) (d : DrumWords) where
     abbrev old : PlainState
     old = state_of m d
 
@@ -52,7 +52,7 @@ module _ {P : Type 0} {b : _} (m m' : System P b) (t : Tty) (j : Job) (at : HasJ
     typed_job k tree jobs tree_is =
         let now : jobs_of (open_of m'.files) m'.typed.items m'.jobs.items ≡ fin.insert old.jobs t.0 (plain_job (open_at (open_of m.files) t.0) y k) =
         (λ i. jobs_of (open_of (files i)) (typed i) (jobs i)) ∙ jobs_put (open_of m.files) (open_of m.files) m.typed.items m.jobs.items t.0 y k (λ u ne. refl) low_job low_typed in
-        λ i. record old { pages = named (files i).dir (b.means.plain (same i) d); files = files_of (files i); jobs = now i; forks = (tree_is i).forks; fork_serials = (tree_is i).serials; clock = clock i }
+        λ i. record old { pages = named (files i).dir (b.means.plain (same i) d); files = files_of (files i); jobs = now i; forks = (tree_is i).forks; fork_serials = (tree_is i).serials; clock = (panel i).clock; trace = (panel i).trace }
 
     -- the job is the same
     pub typed_alone : (tree : PlainTree) → m'.jobs.items ≡ m.jobs.items → m'.tree ≡ tree
@@ -60,7 +60,7 @@ module _ {P : Type 0} {b : _} (m m' : System P b) (t : Tty) (j : Job) (at : HasJ
     typed_alone tree jobs tree_is =
         let now : jobs_of (open_of m'.files) m'.typed.items m'.jobs.items ≡ fin.insert old.jobs t.0 (plain_job (open_at (open_of m.files) t.0) y j) =
         (λ i. jobs_of (open_of (files i)) (typed i) (jobs i)) ∙ jobs_typed (open_of m.files) (open_of m.files) m.typed.items m.jobs.items t.0 y j (λ u ne. refl) low_job low_typed at in
-        λ i. record old { pages = named (files i).dir (b.means.plain (same i) d); files = files_of (files i); jobs = now i; forks = (tree_is i).forks; fork_serials = (tree_is i).serials; clock = clock i }
+        λ i. record old { pages = named (files i).dir (b.means.plain (same i) d); files = files_of (files i); jobs = now i; forks = (tree_is i).forks; fork_serials = (tree_is i).serials; clock = (panel i).clock; trace = (panel i).trace }
 
     -- control-C
     pub interrupts : y ≡ record (typing_at m.typed.items t.0) { line = record { items = [] } } → m'.jobs.items ≡ set m.jobs.items t.0 (Some (record j { mode = Command })) → m'.tree ≡ stopped_tree j.mode m.tree j.top

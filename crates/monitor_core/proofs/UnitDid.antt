@@ -25,9 +25,10 @@ use Rattle.fork_calls.specs.Holding.{IsNew}
 use Rattle.fork_calls.specs.Limits.{AreWithin}
 use Rattle.fork_calls.proofs.Holdings.{holds_same}
 use Rattle.fork_calls.proofs.Places.{Keep, keep_itself}
+use Rattle.monitor_core.specs.declared.panel.Panel.{Panel}
 use Rattle.monitor_core.specs.Limits.{unit_frames}
 use Rattle.monitor_core.specs.declared.job.Job.{Job}
-use Rattle.monitor_core.specs.declared.reply.Reply.TheVariants.{Prints}
+use Rattle.monitor_core.specs.declared.reply.Reply.TheVariants.{Ran}
 use Rattle.monitor_core.specs.declared.shown.Shown.{Shown}
 use Rattle.monitor_core.specs.declared.shown.Stop.{Stop}
 use Rattle.monitor_core.specs.declared.shown.Stop.TheVariants.{GoesOn}
@@ -37,7 +38,8 @@ use Rattle.monitor_core.specs.declared.units.Units.{Units}
 use Rattle.monitor_core.specs.ForkUnit.{Behind, HasJob, LeavesForks, Tables, UnitWaits, UnitsRan, rest_of}
 use Rattle.monitor_core.specs.Jobs.{AreUnheld, job_at, jobs_left, jobs_of}
 use Rattle.monitor_core.specs.Runners.{told_at, told_where}
-use Rattle.monitor_core.specs.Shown.{FitsShown, FitsStop, is_stop, seen_of, shown_items}
+use Rattle.monitor_core.specs.Replies.{FitsLine, line_before, ran_items}
+use Rattle.monitor_core.specs.Shown.{FitsShown, FitsStop, is_stop, seen_of}
 use Rattle.monitor_core.specs.Sound.{AreSound}
 use Rattle.plain_files.specs.NamedFiles.{AreFiled, pages_named}
 use Rattle.plain_files.specs.Sizes.{file_at}
@@ -59,7 +61,7 @@ use Rattle.monitor_core.proofs.UnitEffect.{Runs, behind_state, jobs_seen}
 
 -- the tables of a system
 abbrev pub tables_of : {P : Type 0} {b : _} → System P b → Tables
-tables_of m = record { tree = m.tree; files = m.files; jobs = m.jobs.items; typed = m.typed.items }
+tables_of m = record { tree = m.tree; files = m.files; jobs = m.jobs.items; typed = m.typed.items; clock = m.panel.clock }
 
 -- the jobs of which one gives its terminal to the monitor, as the plain state has them
 module _ (held : List OpenFiles) (typed : List Typing) where
@@ -196,7 +198,20 @@ module _ {P : Type 0} {b : _} (m : System P b) (f : Fork) (trees : IsTree m.tree
     told_so d fits = told ∙ told_is left f.name (is_stop units.shown) ran.after (ap (fin.get left.forks) (sym ran.keeps.name) ∙ ran.there d fits)
 
     module _ (m' : System P b) (files_are : m'.files ≡ files) (typed_are : m'.typed.items ≡ typed) (pages_are : m'.pages ≡ q) (tree_is : m'.tree ≡ tree') (shown : Shown) (runs : f.body.status ≡ Run) (thawed : is_frozen MOST_FORKS m.tree.forks (Some f) ≡ false)
-        (seen : shown ≡ seen_of f.slot units.shown) (jobs : m'.jobs.items ≡ jobs_left m.jobs.items f.name.tty.0 (is_stop shown)) (clock : m'.clock ≡ m.clock) (some : 1 ≤ units.count) where
+        (seen : shown ≡ seen_of f.slot units.shown) (jobs : m'.jobs.items ≡ jobs_left m.jobs.items f.name.tty.0 (is_stop shown)) (panel : m'.panel ≡ m.panel) (some : 1 ≤ units.count)
+        (line : Option ℕ) (line_is : line ≡ line_before m.panel.trace (Some f)) (single : IsSome line → units.count ≤ 1) where
+      -- a row of units has no line
+      quiet : 2 ≤ units.count → m.panel.trace ≡ false
+      quiet more = by m.panel.trace refl
+        where
+          by : (b : Bool) → m.panel.trace ≡ b → b ≡ false
+          by true on = absurd (let few = single (subst IsSome (sym (line_is ∙ ap (λ t. line_before t (Some f)) on)) refl) in omega (arith, few, more))
+          by false off = refl
+
+      line_fits : (b : Bool) → FitsLine (line_before b (Some f))
+      line_fits true = (m.sound.each_fork f lives).pc
+      line_fits false = tt
+
       module _ (d : DrumWords) (fits : FitsPages m d) where
         abbrev last : Behind
         last = record { rest = rest_of (now left files typed); fork = ran.after; pages = b.means.plain q d; shown = units.shown }
@@ -206,10 +221,10 @@ module _ {P : Type 0} {b : _} (m : System P b) (f : Fork) (trees : IsTree m.tree
         filed = pages_named m.files.dir (b.means.plain m.pages d).files
 
         can_run : Runs (key_in m.files) filed (state_of m d) f (b.means.plain m.pages d)
-        can_run = record { trees = trees; fork = lives; pages = refl; kept = keyed_named m.files.dir m.files.sound.numbers (file_at m.files.lengths) (b.means.plain m.pages d).files fits.filed; held = held_there was (b.means.plain m.pages d); quiet = refl; runs = runs; thawed = thawed }
+        can_run = record { trees = trees; fork = lives; pages = refl; kept = keyed_named m.files.dir m.files.sound.numbers (file_at m.files.lengths) (b.means.plain m.pages d).files fits.filed; held = held_there was (b.means.plain m.pages d); runs = runs; thawed = thawed }
 
-        entries : Entries (key_in m.files) filed (state_of m d) f (b.means.plain m.pages d) can_run units.count last
-        entries = units_as (key_in m.files) filed (state_of m d) f (b.means.plain m.pages d) can_run units.count last (ran.told d fits.pages).1
+        entries : Entries (key_in m.files) filed (state_of m d) f (b.means.plain m.pages d) can_run units.count f.body.regs.pc last
+        entries = units_as (key_in m.files) filed (state_of m d) f (b.means.plain m.pages d) can_run units.count last quiet (ran.told d fits.pages).1
 
         -- the pages of files that are left, under names
         left_named : entries.left ≡ pages_named files.dir (b.means.plain q d).files
@@ -224,7 +239,7 @@ module _ {P : Type 0} {b : _} (m : System P b) (f : Fork) (trees : IsTree m.tree
             let jobs_are : jobs_of (open_of m'.files) m'.typed.items m'.jobs.items ≡ jobs_seen (jobs_of held typed m.jobs.items) f.name.tty (is_stop (seen_of f.slot units.shown)) =
             (λ i. jobs_of (open_of (files_are i)) (typed_are i) (jobs i)) ∙ jobs_left_seen held typed m.jobs.items f.name.tty (is_stop shown) within_jobs ∙ ap (λ x. jobs_seen (jobs_of held typed m.jobs.items) f.name.tty (is_stop x)) seen in
             let tree_so = tree_is ∙ told_so d fits.pages in
-            (λ i. record (state_of m' d) { pages = named (files_are i).dir (b.means.plain (pages_are i) d); files = files_of (files_are i); jobs = jobs_are i; forks = (tree_so i).forks; fork_serials = (tree_so i).serials; clock = clock i })
+            (λ i. record (state_of m' d) { pages = named (files_are i).dir (b.means.plain (pages_are i) d); files = files_of (files_are i); jobs = jobs_are i; forks = (tree_so i).forks; fork_serials = (tree_so i).serials; clock = (panel i).clock; trace = (panel i).trace })
             ∙ ap (λ (x : NamedFiles). behind_state x (state_of m d) f last) (sym left_named)
 
         fits_now : FitsPages m' d
@@ -234,15 +249,15 @@ module _ {P : Type 0} {b : _} (m : System P b) (f : Fork) (trees : IsTree m.tree
         }
 
       -- units that ran in a row
-      pub did_units : DidAll m m' (AUnit f.name) units.count (Prints f.name.tty shown)
+      pub did_units : DidAll m m' (AUnit f.name) units.count (Ran f.name line shown)
       did_units = record {
         fits = λ d fits. fits_now d fits;
         legal = λ d fits. (entries d fits).legal;
         state = λ d fits. state_is d fits ∙ sym (entries d fits).state;
-        items = λ d fits. ap (shown_items f.name.tty) seen ∙ sym (entries d fits).items;
-        shown = (low, subst FitsShown (sym seen) (let fits = ran.shown in (fits.0, seen_fits (is_stop units.shown && not (f.slot == 1)) units.shown.stop fits.1)));
+        items = λ d fits. (λ i. ran_items f.name (line_is i) (seen i)) ∙ sym (entries d fits).items;
+        shown = (trees.slotted.named f lives, subst FitsLine (sym line_is) (line_fits m.panel.trace), subst FitsShown (sym seen) (let fits = ran.shown in (fits.0, seen_fits (is_stop units.shown && not (f.slot == 1)) units.shown.stop fits.1)));
         within = λ n w. record {
-          ticks = omega (arith, clock, w.ticks);
+          ticks = omega (arith, ap (λ (x : Panel). x.clock) panel, w.ticks);
           units = λ g there. few_units q left tree' units.count ran.leaves left_trees left_keeps n w g (ap (λ (x : PlainTree). fin.get x.forks g.name) (sym tree_is) ∙ there);
           serials = λ u. subst (λ (x : P). b.means.serial x u ≤ most_makings * (n + units.count) + 1) (sym pages_are) (serials_left n w u);
         };
@@ -263,8 +278,8 @@ module _ {P : Type 0} {b : _} (m : System P b) (f : Fork) (trees : IsTree m.tree
     pub waits_unheld : AreUnheld (open_of files) m.jobs.items
     waits_unheld = subst (λ (x : FileTables). AreUnheld (open_of x) m.jobs.items) (sym waits.told.files) m.unheld
 
-    pub waits_still : (m' : System P b) → m'.files ≡ files → m'.pages ≡ q → m'.tree ≡ left → m'.jobs ≡ m.jobs → m'.typed.items ≡ typed → m'.clock ≡ m.clock → Waits m m' n
-    waits_still m' files_are pages_are tree_is jobs_are typed_are clock = record {
+    pub waits_still : (m' : System P b) → m'.files ≡ files → m'.pages ≡ q → m'.tree ≡ left → m'.jobs ≡ m.jobs → m'.typed.items ≡ typed → m'.panel ≡ m.panel → Waits m m' n
+    waits_still m' files_are pages_are tree_is jobs_are typed_are panel = record {
       each = λ d fits.
           let t = waits.told.each d fits.pages in
           let files_same : m'.files ≡ m.files = files_are ∙ waits.told.files in
@@ -272,10 +287,10 @@ module _ {P : Type 0} {b : _} (m : System P b) (f : Fork) (trees : IsTree m.tree
           let same : b.means.plain m'.pages d ≡ b.means.plain m.pages d = ap (λ (x : P). b.means.plain x d) pages_are ∙ t.2 in
           let tree_same = tree_is ∙ t.1 in (
             fits_left m m' files_same d (subst (λ (x : P). b.means.fits x d) (sym pages_are) t.0) (ap (λ x. x.files) same) fits,
-            λ i. record (state_of m' d) { pages = named (files_same i).dir (same i); files = files_of (files_same i); jobs = jobs_of (open_of (files_same i)) (typed_same i) (jobs_are i).items; forks = (tree_same i).forks; fork_serials = (tree_same i).serials; clock = clock i },
+            λ i. record (state_of m' d) { pages = named (files_same i).dir (same i); files = files_of (files_same i); jobs = jobs_of (open_of (files_same i)) (typed_same i) (jobs_are i).items; forks = (tree_same i).forks; fork_serials = (tree_same i).serials; clock = (panel i).clock; trace = (panel i).trace },
           );
       within = λ entries w. record {
-        ticks = omega (arith, clock, w.ticks);
+        ticks = omega (arith, ap (λ (x : Panel). x.clock) panel, w.ticks);
         units = λ g there. omega (arith, few_units q left left 0 waits.leaves left_trees (keep_itself left.forks left_trees.slotted.own) entries w g (ap (λ (x : PlainTree). fin.get x.forks g.name) (sym tree_is) ∙ there));
         serials = λ u. subst (λ (x : P). b.means.serial x u ≤ most_makings * entries + 1) (sym pages_are) (serials_still entries w u);
       };

@@ -1,5 +1,5 @@
 -- One unit of a fork, as an entry of the plain machine.
-use Rattle.std.proofs.Common.{◌≡◌, ℕ, List, ◌&&◌, ◌∷◌, ◌++◌, [], Bool, true, false, cond, not, Option, None, Some, refl, sym, ◌∙◌, ap, ◌==◌, is_some}
+use Rattle.std.proofs.Common.{◌≡◌, ℕ, List, ◌&&◌, ◌++◌, [], Bool, true, false, cond, not, Option, None, Some, refl, sym, ◌∙◌, ap, ◌==◌, is_some}
 use Rattle.std.proofs.lemmas.Bool.{cond_both, ne_eqb}
 use Rattle.std.specs.Ordering.{nat_cmp}
 use Rattle.std.specs.Cmp.{nat_cmp_total}
@@ -9,23 +9,24 @@ use Rattle.std.specs.FinMap as fin
 use Rattle.plain_model.specs.declared.call.End.{End}
 use Rattle.plain_model.specs.declared.call.End.TheVariants as end
 use Rattle.plain_units.specs.declared.channel.TheConstants.{ILLEGAL_INSTRUCTION}
-use Rattle.script_texts.specs.declared.event.Item.TheVariants.{UnitLine}
 use Rattle.script_texts.specs.declared.event.Step.TheVariants.{Unit as AUnit}
 use Rattle.plain_model.specs.declared.fork.Fork.{Fork}
 use Rattle.script_texts.specs.declared.status.ForkStatus.{ForkStatus}
+use Rattle.script_texts.specs.declared.status.WaitOn.TheVariants.{Input, Fork as AFork, Sleep}
 use Rattle.script_texts.specs.declared.status.ForkStatus.TheVariants.{Run, Wait, Forced as AForced, Halted as AHalted}
 use Rattle.plain_model.specs.declared.fork.TerminalMode.TheVariants.{Command}
 use Rattle.machine_names.specs.declared.names.TheConstants.{MOST_FORKS}
 use Rattle.machine_names.specs.declared.names.Tty.{Tty}
 use Rattle.plain_model.specs.ByteCalls.{ByteAsked, ByteTurn, byte_calls}
 use Rattle.plain_model.specs.Calls.{Came, Turn, fork_behind, is_among, no_files, numbered, parts_behind, posted_if, turn_on, with_error}
-use Rattle.plain_model.specs.Families.{Parts, Turned, behind as family_behind, call_turned, print_calls, own_changed, asks, asks_bytes, asks_jfns, asks_maps, bytes_changed, files_seen, forks_changed, interrupts_changed, jfns_changed, names_seen, pages_changed}
+use Rattle.plain_model.specs.Families.{Parts, Turned, behind as family_behind, call_turned, print_calls, own_changed, asks, asks_bytes, asks_clock, sleeps_changed, asks_jfns, asks_maps, bytes_changed, files_seen, forks_changed, interrupts_changed, jfns_changed, names_seen, pages_changed}
 use Rattle.plain_model.specs.FileCalls.{file_call, file_calls, jfn_call, jfn_calls}
 use Rattle.plain_model.specs.ForkCalls.{fork_call, fork_calls}
 use Rattle.plain_model.specs.Forks.{ForkMap, counted, is_frozen, with_fork, with_regs, with_status}
 use Rattle.plain_model.specs.declared.interrupt.Inspected.{Inspected}
 use Rattle.plain_model.specs.declared.interrupt.Inspected.TheVariants.{Nothing as Nought, Delivers, Forces}
 use Rattle.plain_model.specs.Inspections.{delivered, inspected, inspected_by, is_interrupted, stored_word}
+use Rattle.plain_model.specs.ClockCalls.{clock_calls, clock_changed}
 use Rattle.plain_model.specs.InterruptCalls.{interrupt_calls}
 use Rattle.plain_model.specs.Interrupts.{is_panic, listens, pended, posted, woken}
 use Rattle.plain_model.specs.MapCalls.{map_call, map_calls}
@@ -37,7 +38,7 @@ use Rattle.plain_model.specs.State.{PlainJob, PlainState}
 use Rattle.plain_units.specs.Steps.{Planned, call, done, need, pages_left, stopped as unit_stopped, trap}
 use Rattle.plain_model.specs.Unit.{Effect, called, decided, in_command_mode, instruction_unit, interrupted_unit, over, printed, stop_text, stopped, turn_printed, turned, unit, unit_ended, went, with_parts}
 use Rattle.plain_units.specs.Units.{unit_on}
-use Rattle.plain_model.proofs.Calling.{MakesNone, bytes_behind, file_makes_none, forks_behind, interrupts_behind, jfns_behind, nothing_behind, pages_behind, print_makes_none}
+use Rattle.plain_model.proofs.Calling.{MakesNone, bytes_behind, clock_makes_none, file_makes_none, forks_behind, interrupts_behind, jfns_behind, nothing_behind, pages_behind, print_makes_none, sleeps_behind}
 use Rattle.plain_model.proofs.Equations.{apply_unit, unit_some}
 use Rattle.plain_model.proofs.Posted.{posted_same}
 use Rattle.plain_units.proofs.RefiledUnits.{left_refiled, refiled_plan}
@@ -50,7 +51,7 @@ use Rattle.monitor_core.specs.declared.shown.Stop.TheVariants.{GoesOn, Halted, F
 use Rattle.monitor_core.specs.ForkUnit.{Behind, Rest, behind, behind_decided, behind_instruction, behind_interrupted, behind_unit, called_behind, left_so, parts_in, post_shown, turn_behind}
 use Rattle.monitor_core.specs.Runners.{told_where}
 use Rattle.monitor_core.specs.Shown.{is_stop, is_stopped, nothing, seen_of, seen_stop, shown_items, stands, stop_items, stop_of}
-use Rattle.monitor_core.proofs.CallerStays.{caller_stays, interrupter_stays}
+use Rattle.monitor_core.proofs.CallerStays.{caller_stays, interrupter_stays, sleeper_stays}
 use Rattle.monitor_core.proofs.Inspected.{inspected_files, inspected_keyed, word_files, word_keyed}
 use Rattle.plain_pages.proofs.Refiled.{NameAlike}
 use Rattle.plain_model.proofs.RefiledCalls.{AreHeld, TurnsFiled, call_refiled, refiled_all}
@@ -144,7 +145,9 @@ module _ (f : Fork) where
   unfolding fork_behind
   turn_stays g stays (end.Done change regs out None) = stays
   turn_stays g stays (end.Done change regs out (Some channel)) = posted_stays (with_regs g regs) channel stays
-  turn_stays g stays (end.Waits on) = stays
+  turn_stays g stays (end.Waits Input) = stays
+  turn_stays g stays (end.Waits AFork) = stays
+  turn_stays g stays (end.Waits (Sleep moment)) = stays
   turn_stays g stays end.Halts = stays
   turn_stays g stays (end.Refused code) = posted_stays (with_error g code) ILLEGAL_INSTRUCTION stays
   turn_stays g stays (end.Failed code) = stays
@@ -152,7 +155,7 @@ module _ (f : Fork) where
 
 -- what a state has besides pages
 abbrev pub rest_in_state : PlainState → Rest
-rest_in_state s = record { tree = tree_of s; files = s.files; jobs = s.jobs }
+rest_in_state s = record { tree = tree_of s; files = s.files; jobs = s.jobs; clock = s.clock }
 
 -- a state of trees in which a fork can run, over these pages, with these pages of files; files have these numbers
 pub record Runs (key : List ℕ → ℕ) (filed : NamedFiles) (s : PlainState) (f : Fork) (p : NumberedPages) : Type 0 where
@@ -161,7 +164,6 @@ pub record Runs (key : List ℕ → ℕ) (filed : NamedFiles) (s : PlainState) (
   pub pages : s.pages ≡ keyed filed p
   pub kept : AreKept (IsIn s.files) key p filed
   pub held : AreHeld (parts_in (rest_in_state s) p)
-  pub quiet : s.trace ≡ false
   pub runs : f.body.status ≡ Run
   pub thawed : is_frozen MOST_FORKS s.forks (Some f) ≡ false
 
@@ -175,6 +177,10 @@ behind_state filed s f b = record s {
   fork_serials = b.rest.tree.serials;
 }
 
+-- its line stands before what it shows, where each unit is shown
+abbrev pub lined : PlainState → Fork → Effect → Effect
+lined s f e = record e { items = unit_line s f.name ++ e.items }
+
 abbrev pub effect_of : NamedFiles → PlainState → Fork → Behind → Effect
 effect_of filed s f b = record { state = behind_state filed s f b; items = shown_items f.name.tty (seen_of f.slot b.shown) }
 
@@ -182,6 +188,12 @@ effect_of filed s f b = record { state = behind_state filed s f b; items = shown
 pub record ComesTo (key : List ℕ → ℕ) (s : PlainState) (f : Fork) (x : Effect) (b : Behind) : Type 0 where
   pub filed : NamedFiles
   pub is : x ≡ effect_of filed s f b
+  pub kept : AreKept (λ name. IsIn s.files name × IsIn b.rest.files name) key b.pages filed
+
+-- so an entry of it, with its line
+pub record StepsTo (key : List ℕ → ℕ) (s : PlainState) (f : Fork) (b : Behind) : Type 0 where
+  pub filed : NamedFiles
+  pub is : apply s (AUnit f.name) ≡ lined s f (effect_of filed s f b)
   pub kept : AreKept (λ name. IsIn s.files name × IsIn b.rest.files name) key b.pages filed
 
 -- the forks without a superior are those in slot 1
@@ -251,6 +263,13 @@ module _ (key : List ℕ → ℕ) (filed : NamedFiles) (s : PlainState) (f : For
         let g = interrupter_stays f (tree_of s) t.trees t.fork s.jobs c.end in
         family_caller interrupts_changed c _ (interrupts_behind asked_of c.pages c.end) g.0 g.1 (g.3, g.2)
 
+    clock_caller : HasCaller (family_behind sleeps_changed asked_of f.name (turn_on no_files p (numbered clock_calls number (asks_clock asked_of f.name f.body.regs))))
+    clock_caller =
+        let c = turn_on no_files p (numbered clock_calls number (asks_clock asked_of f.name f.body.regs)) in
+        let g = sleeper_stays f (tree_of s) t.trees t.fork c.end in
+        family_caller sleeps_changed c (record asked_of { tree = parts_behind clock_changed (tree_of s) (tree_of s) c.end })
+        (ap (λ (q : NumberedPages). parts_behind sleeps_changed asked_of (record asked_of { pages = q }) c.end) (clock_makes_none p number (asks_clock asked_of f.name f.body.regs)) ∙ sleeps_behind asked_of c.end) g.0 g.1 (g.3, g.2)
+
     map_caller : HasCaller (family_behind (pages_changed key) asked_of f.name (turn_on (files_seen key asked_of f.name) p (map_call number (asks_maps asked_of f.name f.body.regs))))
     map_caller =
         let c = turn_on (files_seen key asked_of f.name) p (map_call number (asks_maps asked_of f.name f.body.regs)) in
@@ -271,12 +290,13 @@ module _ (key : List ℕ → ℕ) (filed : NamedFiles) (s : PlainState) (f : For
         cond_both (is_among print_calls number) _ _ HasCaller (λ is. own_caller (numbered print_calls number f.body.regs) (print_makes_none p number f.body.regs)) (λ n1.
         cond_both (is_among fork_calls number) _ _ HasCaller (λ is. fork_caller) (λ n2.
         cond_both (is_among interrupt_calls number) _ _ HasCaller (λ is. interrupt_caller) (λ n8.
+        cond_both (is_among clock_calls number) _ _ HasCaller (λ is. clock_caller) (λ n9.
         cond_both (is_among map_calls number) _ _ HasCaller (λ is. map_caller) (λ n3.
         cond_both (is_among file_calls number) _ _ HasCaller (λ is. own_caller (file_call number (asks asked_of f.name f.body.regs)) (file_makes_none p number (asks asked_of f.name f.body.regs))) (λ n4.
         cond_both (is_among jfn_calls number) _ _ HasCaller (λ is. jfn_caller) (λ n5.
         cond_both (is_among byte_calls number) _ _ HasCaller (λ is. byte_caller byte_calls) (λ n6.
         cond_both (is_among string_calls number) _ _ HasCaller (λ is. byte_caller string_calls) (λ n7.
-        (posted f ILLEGAL_INSTRUCTION, ap (option_map (λ g. posted g ILLEGAL_INSTRUCTION)) t.fork, posted_stays f f ILLEGAL_INSTRUCTION (refl, refl))))))))))
+        (posted f ILLEGAL_INSTRUCTION, ap (option_map (λ g. posted g ILLEGAL_INSTRUCTION)) t.fork, posted_stays f f ILLEGAL_INSTRUCTION (refl, refl)))))))))))
 
     -- the same turn where files are known by their names
     abbrev named : Turned name_cmp
@@ -294,7 +314,7 @@ module _ (key : List ℕ → ℕ) (filed : NamedFiles) (s : PlainState) (f : For
         let behind_is : called_behind key rest f p number ≡ turn_behind gone.parts gone.out g = ap (λ (o : Option Fork). turn_behind gone.parts gone.out (unwrap_or o f)) caller_there.1 in
         record {
           filed = left_files;
-          is = ap (λ q. turned s f.name.tty (call_turned (λ (name : List ℕ). name) (record { tree = tree_of s; pages = q; files = s.files; jobs = s.jobs }) f.name f.body.regs number)) t.pages
+          is = ap (λ q. turned s f.name.tty (call_turned (λ (name : List ℕ). name) (record { tree = tree_of s; pages = q; files = s.files; jobs = s.jobs; clock = s.clock }) f.name f.body.regs number)) t.pages
               ∙ ap (turned s f.name.tty) named_turns.same
               ∙ ap (λ (o : Option Fork). turned s f.name.tty (record { parts = refiled_all name_cmp left_files gone.parts; caller = o; out = gone.out })) caller_there.1
               ∙ ap (λ (e : Effect). record e { items = turn_printed f.name.tty gone.out ++ e.items }) (ended_as left f top g stays.0 stays.1)
@@ -363,11 +383,10 @@ module _ (key : List ℕ → ℕ) (filed : NamedFiles) (s : PlainState) (f : For
       by false = instruction_as
 
   -- an entry of the fork
-  pub step_as : ComesTo key s f (apply s (AUnit f.name)) (behind_unit key rest f p)
+  pub step_as : StepsTo key s f (behind_unit key rest f p)
   step_as =
-      let line : unit_line s f.name ≡ [] = ap (λ b. cond b (option_map_or (λ k. UnitLine f.name k.body.regs.pc ∷ []) (fin.get s.forks f.name) []) []) t.quiet in
       let c = unit_as in
-      record { filed = c.filed; is = apply_unit s f.name ∙ (λ i. record { state = (c.is i).state; items = line i ++ (c.is i).items }); kept = c.kept }
+      record { filed = c.filed; is = apply_unit s f.name ∙ ap (lined s f) c.is; kept = c.kept }
 
   -- which is legal
   pub step_legal : (auto : Bool) → IsLegalStep auto s (AUnit f.name)

@@ -14,12 +14,12 @@ use Rattle.call_turns.specs.declared.answer.Answer.TheVariants as answer
 use Rattle.plain_model.specs.declared.fork.Body.{Body}
 use Rattle.plain_model.specs.declared.fork.Fork.{Fork}
 use Rattle.plain_units.specs.declared.registers.Regs.{Regs}
-use Rattle.script_texts.specs.declared.status.ForkStatus.TheVariants.{Wait as AWait, Halted as AHalted, Forced as AForced}
+use Rattle.script_texts.specs.declared.status.ForkStatus.TheVariants.{Halted as AHalted, Forced as AForced}
 use Rattle.plain_pages.specs.PlainPages.{NumberedPages}
 use Rattle.plain_files.specs.Directory.{Files, IsAbsent}
 use Rattle.plain_files.specs.Sizes.{PlainFile}
 use Rattle.plain_model.specs.FileCalls.{Jobs}
-use Rattle.plain_model.specs.Calls.{behind_call, failed_regs, posted_if, with_error}
+use Rattle.plain_model.specs.Calls.{behind_call, failed_regs, posted_if, with_error, with_wait}
 use Rattle.plain_typing.specs.Lines.{InputLine}
 use Rattle.plain_model.specs.declared.call.TheConstants.{KFORK}
 use Rattle.plain_model.specs.InterruptCalls.{living_codes}
@@ -71,31 +71,33 @@ abbrev pub post_shown : Psi → Option ℕ → Shown
 post_shown psi None = nothing
 post_shown psi (Some channel) = stands (if forces psi channel then Forced channel else GoesOn)
 
--- the tables that a unit may change, besides the pages
+-- the tables that a unit may change, besides the pages, and the clock, which it reads
 pub record Tables : Type 0 where
   pub tree : PlainTree
   pub files : FileTables
   pub jobs : List (Option Job)
   pub typed : List Typing
+  pub clock : ℕ
 
-abbrev pub tables_in : PlainTree → FileTables → List (Option Job) → List Typing → Tables
-tables_in tree files jobs typed = record { tree = tree; files = files; jobs = jobs; typed = typed }
+abbrev pub tables_in : PlainTree → FileTables → List (Option Job) → List Typing → ℕ → Tables
+tables_in tree files jobs typed clock = record { tree = tree; files = files; jobs = jobs; typed = typed; clock = clock }
 
--- what the plain machine has of them: the forks of all jobs, the files and the jobs
+-- what the plain machine has of them: the forks of all jobs, the files and the jobs, and the clock
 pub record Rest : Type 0 where
   pub tree : PlainTree
   pub files : map.FinMap name_cmp PlainFile
   pub jobs : Jobs
+  pub clock : ℕ
 
 abbrev pub rest_of : Tables → Rest
-rest_of t = record { tree = t.tree; files = files_of t.files; jobs = jobs_of (open_of t.files) t.typed t.jobs }
+rest_of t = record { tree = t.tree; files = files_of t.files; jobs = jobs_of (open_of t.files) t.typed t.jobs; clock = t.clock }
 
 -- the same with pages, and without them
 abbrev pub parts_in : Rest → NumberedPages → Parts nat_cmp
-parts_in r p = record { tree = r.tree; pages = p; files = r.files; jobs = r.jobs }
+parts_in r p = record { tree = r.tree; pages = p; files = r.files; jobs = r.jobs; clock = r.clock }
 
 abbrev pub rest_in : Parts nat_cmp → Rest
-rest_in v = record { tree = v.tree; files = v.files; jobs = v.jobs }
+rest_in v = record { tree = v.tree; files = v.files; jobs = v.jobs; clock = v.clock }
 
 -- each file that is there now was there under its number, or neither its number nor its name was
 abbrev pub NumbersStay : Files → Files → Type 0
@@ -268,7 +270,7 @@ pub record Ran {P : Type 0} (means : PagesMeaning P) (old new : P) (f g : Fork) 
 -- the fork that called, behind a turn with this answer but for its count of units
 abbrev pub answered : Fork → Answer → Fork
 answered f (answer.After regs out post) = posted_if (with_regs f regs) post
-answered f (answer.Wait on) = with_status f (AWait on)
+answered f (answer.Wait what) = with_wait f what
 answered f answer.Halt = with_status (with_regs f (behind_call f.body.regs)) AHalted
 answered f (answer.Refused code) = posted (with_error f code) ILLEGAL_INSTRUCTION
 answered f (answer.Failed code) = with_error (with_regs f (failed_regs f.body.regs code)) code

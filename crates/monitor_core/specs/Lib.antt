@@ -15,5 +15,7 @@ pub mod JobEvents
 pub mod Systems
 pub mod Effects
 pub mod Giving
+pub mod Reaching
 pub mod Machines
 pub mod Acts
+pub mod Following

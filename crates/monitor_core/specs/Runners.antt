@@ -1,12 +1,9 @@
 -- Forks of a tree that can run, as the machine chooses them.
-use Rattle.std.specs.Prelude.{◌≡◌, ℕ, ◌≤◌, Bool, if◌then◌else◌}
+use Rattle.std.specs.Prelude.{◌≡◌, Bool, if◌then◌else◌}
 use Rattle.std.specs.FinMap as map
 use Rattle.std.specs.Option.{option_map_or}
 use Rattle.machine_names.specs.declared.names.ForkName.{ForkName}
-use Rattle.machine_names.specs.declared.names.Tty.{Tty}
-use Rattle.machine_names.specs.declared.names.TheConstants.{MOST_FORKS}
 use Rattle.plain_model.specs.declared.fork.Fork.{Fork}
-use Rattle.machine_names.specs.Bounds.{IsTerminal}
 use Rattle.plain_model.specs.Forks.{ForkMap, IsRunnable}
 use Rattle.plain_model.specs.Trees.{PlainTree, end_told}
 use Rattle.fork_tree.specs.Trees.{IsIn, IsTree}
@@ -19,12 +16,6 @@ pub record IsRunner (tree : PlainTree) (who : Runner) : Type 0 where
   pub there : IsIn tree.forks who.fork.tty who.slot fork
   pub named : fork.name ≡ who.fork
   pub runs : IsRunnable tree.forks who.fork
-
--- a slot of a terminal's job
-pub record IsSlot (t : Tty) (slot : ℕ) : Type 0 where
-  pub terminal : IsTerminal t
-  pub first : 1 ≤ slot
-  pub last : slot ≤ MOST_FORKS
 
 -- the forks once it is told that one of them has ended, where it has stopped
 abbrev pub told_where : ForkMap → Fork → Bool → ForkMap

@@ -1,5 +1,5 @@
 -- The plain state that a system stands for, and what one step does to it.
-use Rattle.std.specs.Prelude.{◌≡◌, ℕ, ◌+◌, ◌*◌, ◌≤◌, true, false, replicate}
+use Rattle.std.specs.Prelude.{◌≡◌, ℕ, ◌+◌, ◌*◌, ◌≤◌, true, replicate}
 use Rattle.machine_names.specs.declared.names.Tty.{Tty}
 use Rattle.machine_names.specs.declared.names.ForkName.{ForkName}
 use Rattle.plain_model.specs.declared.fork.Fork.{Fork}
@@ -11,7 +11,7 @@ use Rattle.plain_pages.specs.PlainPages.{NamedPages, NumberedPages, refiled}
 use Rattle.plain_files.specs.Directory.{Files}
 use Rattle.plain_files.specs.NamedFiles.{AreFiled, pages_named}
 use Rattle.file_tables.specs.Tables.{files_of, open_of}
-use Rattle.script_texts.specs.Limits.{FitsStep, IsBuilt}
+use Rattle.script_texts.specs.Limits.{FitsStep}
 use Rattle.page_contracts.specs.DrumWords.{DrumWords}
 use Rattle.page_contracts.specs.declared.answers.Need.{Need}
 use Rattle.page_contracts.specs.Stores.{IsNeeded}
@@ -29,7 +29,7 @@ use Rattle.monitor_core.specs.Writing.{most_makings}
 abbrev pub named : Files → NumberedPages → NamedPages
 named files p = refiled name_cmp p (pages_named files p.files)
 
--- the plain state over the words of a drum; nothing shows its units
+-- the plain state over the words of a drum
 abbrev pub state_of : {P : Type 0} {b : _} → System P b → DrumWords → PlainState
 state_of {P} {b} m d = record {
   pages = named m.files.dir (b.means.plain m.pages d);
@@ -37,8 +37,8 @@ state_of {P} {b} m d = record {
   jobs = jobs_of (open_of m.files) m.typed.items m.jobs.items;
   forks = m.tree.forks;
   fork_serials = m.tree.serials;
-  clock = m.clock;
-  trace = false;
+  clock = m.panel.clock;
+  trace = m.panel.trace;
 }
 
 -- the words of a drum fit the system's pages, and only files that are there have pages
@@ -48,13 +48,13 @@ pub record FitsPages {P : Type 0} {b : _} (m : System P b) (d : DrumWords) : Typ
 
 -- its counts are no higher than so many entries let them be
 pub record IsWithin {P : Type 0} {b : _} (m : System P b) (entries : ℕ) : Type 0 where
-  pub ticks : m.clock ≤ entries
+  pub ticks : m.panel.clock ≤ entries
   pub units : (f : Fork) → Lives m.tree.forks f → f.body.units ≤ entries
   pub serials : (t : Tty) → b.means.serial m.pages t ≤ most_makings * entries + 1
 
--- what a step asks: an event that is built and is one entry, within its limits; a fork that can run; or that none can
+-- what a step asks: an event that is one entry, within its limits; a fork that can run; or that none can
 abbrev pub CanDo : {P : Type 0} {b : _} → System P b → Step → Type 0
-CanDo m (Outer e) = FitsStep (Outer e) × IsBuilt e
+CanDo m (Outer e) = FitsStep (Outer e)
 CanDo m (AUnit f) = IsRunnable m.tree.forks f
 CanDo m Idle = (f : ForkName) → IsRunnable m.tree.forks f → ⊥
 

@@ -8,7 +8,7 @@ ghost use Rattle.plain_model.specs.declared.fork.Fork.{Fork as AFork};
 ghost use Rattle.script_texts.specs.declared.status.ForkStatus.{ForkStatus as AForkStatus};
 ghost use Rattle.plain_pages.specs.PlainPages.{NumberedPages};
 ghost use Rattle.plain_model.specs.Forks.{counted, fork_in, with_regs, with_status};
-ghost use Rattle.plain_model.specs.Calls.{behind_call, failed_regs, is_among, no_files, numbered, posted_if, turn_on, with_error};
+ghost use Rattle.plain_model.specs.Calls.{behind_call, failed_regs, is_among, no_files, numbered, posted_if, turn_on, with_error, with_wait};
 ghost use Rattle.plain_model.specs.Families.{print_calls};
 ghost use Rattle.plain_model.specs.Trees.{with_body};
 ghost use Rattle.page_contracts.specs.declared.answers.Need.{Need as ANeed};
@@ -22,6 +22,7 @@ ghost use Rattle.fork_calls.specs.Needing.{call_frames};
 ghost use Rattle.fork_calls.specs.Turning.{HasRegs, Turned as ForksTurned};
 ghost use Rattle.fork_tree.specs.Trees.{IsTree};
 ghost use Rattle.monitor_core.specs.Limits.{unit_frames};
+ghost use Rattle.monitor_core.specs.Reaching.{Reaches, reach_of};
 ghost use Rattle.monitor_core.specs.Shown.{shown_of};
 ghost use Rattle.monitor_core.specs.Jobs.{AreUnheld};
 ghost use Rattle.monitor_core.specs.Writing.{most_makings};
@@ -32,8 +33,10 @@ use crate::runner::Runner;
 use crate::shown::{Shown, stop_of};
 use crate::typing::Typing;
 use crate::unit::post_channel;
+use crate::units::Reach;
 use byte_io::is_byte_call;
 use call_turns::{Answer, behind};
+use clock_calls::is_clock_call;
 use file_calls::{is_file_call, is_jfn_call};
 use file_tables::FileTables;
 use fork_calls::is_fork_call;
@@ -46,8 +49,9 @@ use plain_units::Regs;
 use plain_units::channel::ILLEGAL_INSTRUCTION;
 use pmap_calls::is_map_call;
 use psi_calls::{forget_lost, is_psi_call};
-use script_texts::ForkStatus;
+use script_texts::{ForkStatus, WaitOn};
 use string_io::is_string_call;
+use text_pointers::Scratch;
 use tty_lines::Line;
 use word36::Word;
 
@@ -132,6 +136,8 @@ fn turn<P: Pages>(
     files: &mut FileTables,
     jobs: &Vec<Option<Job>>,
     typed: &mut Vec<Typing>,
+    clock: u64,
+    scratch: &mut Scratch,
     pages: &mut P,
 ) -> Answer
     requires regs { IsRegs regs.now }
@@ -140,7 +146,8 @@ fn turn<P: Pages>(
     requires within { AreWithin tree.old.forks }
     requires job { HasJob files.old jobs.now.items typed.old.items who.tty }
     requires serial { P.means.serial pages.old who.tty < 2 ^ 62 }
-    ensures told { Turns P.means pages.old pages.new (tables_in tree.old files.old jobs.now.items typed.old.items) (tables_in tree.new files.new jobs.now.items typed.new.items) who regs.now number result }
+    requires clock { clock < 2 ^ 63 }
+    ensures told { Turns P.means pages.old pages.new (tables_in tree.old files.old jobs.now.items typed.old.items clock) (tables_in tree.new files.new jobs.now.items typed.new.items clock) who regs.now number result }
     ensures unheld { AreUnheld (open_of files.new) jobs.now.items }
     ensures stays { (n : ANeed) → result ≡ Answer.Need n → files.new ≡ files.old }
     ensures untyped { (n : ANeed) → result ≡ Answer.Need n → typed.new.items ≡ typed.old.items }
@@ -149,6 +156,7 @@ fn turn<P: Pages>(
     ensures core { P.means.flat ≡ true → IsDone result }
     ensures unmade { (n : ANeed) → result ≡ Answer.Need n → MakesPages P.means who.tty 0 pages.old pages.new }
     ensures leaves { CallLeaves P.means pages.old pages.new tree.old tree.new who most_makings }
+    ensures own { reach_of number ≡ Reach.Own → tree.new ≡ tree.old }
     ensures regs { HasRegs result }
 {
     if is_print_call(number) {
@@ -160,7 +168,11 @@ fn turn<P: Pages>(
     }
     if is_psi_call(number) {
         let codes = &mut typed[who.tty.0 as usize].input;
-        return psi_calls::call(number, regs, who, tree, codes, pages);
+        return psi_calls::call(number, regs, who, tree, codes, &mut scratch.reader, pages);
+    }
+    if is_clock_call(number) {
+        tree.are_trees();
+        return clock_calls::call(number, regs, who, tree, clock);
     }
     if is_map_call(number) {
         return pmap_calls::call(number, regs, who, tree, files, pages);
@@ -172,7 +184,7 @@ fn turn<P: Pages>(
         let Some(job) = &jobs[who.tty.0 as usize] else {
             unreachable!();
         };
-        return file_calls::jfn_call(number, regs, who, &job.user, files, pages);
+        return file_calls::jfn_call(number, regs, who, &job.user, files, scratch, pages);
     }
     if is_byte_call(number) {
         let line = &mut typed[who.tty.0 as usize].input;
@@ -183,6 +195,28 @@ fn turn<P: Pages>(
         return string_io::call(number, regs, who, input, files, pages);
     }
     Answer::Trap(ILLEGAL_INSTRUCTION)
+}
+
+/// How far a monitor call of a number may reach.
+pub fn reach_of(number: u32) -> Reach
+    ensures { result ≡ reach_of number }
+{
+    if is_fork_call(number) || is_psi_call(number) || is_clock_call(number) {
+        Reach::Job
+    } else {
+        Reach::Own
+    }
+}
+
+// The fork waits; one that sleeps knows to which moment.
+fn wait(body: &mut Body, what: WaitOn)
+    ensures fork { (f : AFork) → with_body body.new f ≡ with_wait (with_body body.old f) what }
+    ensures units { body.new.units ≡ body.old.units }
+{
+    if let WaitOn::Sleep(moment) = what {
+        body.sleep = Some(moment);
+    }
+    body.status = ForkStatus::Wait(what);
 }
 
 // The fork is halted, behind the call.
@@ -235,8 +269,8 @@ fn left(body: &mut Body, answer: Answer) -> Option<u8>
             post_if(body, post);
             out
         }
-        Answer::Wait(on) => {
-            body.status = ForkStatus::Wait(on);
+        Answer::Wait(what) => {
+            wait(body, what);
             None
         }
         Answer::Halt => {
@@ -285,6 +319,8 @@ pub fn called<P: Pages>(
     files: &mut FileTables,
     jobs: &Vec<Option<Job>>,
     typed: &mut Vec<Typing>,
+    clock: u64,
+    scratch: &mut Scratch,
     who: Runner,
     number: u32,
 ) -> Result<Shown, Need>
@@ -295,16 +331,20 @@ pub fn called<P: Pages>(
     requires holds { Holds P.means pages.old tree.old.forks }
     requires job { HasJob files.old jobs.now.items typed.old.items who.fork.tty }
     requires serial { P.means.serial pages.old who.fork.tty < 2 ^ 62 }
+    requires clock { clock < 2 ^ 63 }
     ensures called { (at : APlace) (b : ABody) → fork_in tree.old.forks who.fork.tty who.slot ≡ Some (fork_of who.fork at b)
-        → IfOk result (Called P.means pages.old pages.new (tables_in tree.old files.old jobs.now.items typed.old.items) (tables_in tree.new files.new jobs.now.items typed.new.items) (fork_of who.fork at b) number) }
-    ensures needs { IfErr result (CallWaits P.means pages.old pages.new (tables_in tree.old files.old jobs.now.items typed.old.items) (tables_in tree.new files.new jobs.now.items typed.new.items) who.fork) }
+        → IfOk result (Called P.means pages.old pages.new (tables_in tree.old files.old jobs.now.items typed.old.items clock) (tables_in tree.new files.new jobs.now.items typed.new.items clock) (fork_of who.fork at b) number) }
+    ensures needs { IfErr result (CallWaits P.means pages.old pages.new (tables_in tree.old files.old jobs.now.items typed.old.items clock) (tables_in tree.new files.new jobs.now.items typed.new.items clock) who.fork) }
     ensures core { P.means.flat ≡ true → IsOk result }
+    ensures reach { Reaches (reach_of number) who.fork tree.old tree.new }
 {
     let Some(fork) = tree.fork_at(who.fork.tty, who.slot) else {
         unreachable!();
     };
     let regs = fork.body.regs;
-    let answer = turn(number, &regs, who.fork, tree, files, jobs, typed, pages);
+    let answer = turn(
+        number, &regs, who.fork, tree, files, jobs, typed, clock, scratch, pages,
+    );
     if let Answer::Need(need) = answer {
         return Err(need);
     }

@@ -1,14 +1,15 @@
 // What a unit shows, given to a taker.
 ghost use Rattle.std.specs.Prelude.{◌<◌, All};
-ghost use Rattle.machine_names.specs.Bounds.{IsTerminal};
+ghost use Rattle.machine_names.specs.Bounds.{IsForkName, IsTerminal};
 ghost use Rattle.plain_model.specs.Unit.{printed, shown_code};
 ghost use Rattle.monitor_core.specs.Giving.{TookItems};
+ghost use Rattle.monitor_core.specs.Replies.{FitsLine, ran_items};
 ghost use Rattle.monitor_core.specs.Shown.{FitsShown, FitsStop, shown_items, stop_items};
 
 use crate::shown::{Shown, Stop};
 use itoa::Buffer;
-use machine_names::Tty;
 use machine_names::character::LINE_END;
+use machine_names::{ForkName, Tty};
 use outside::Failed;
 use script_texts::{Item, Taker};
 
@@ -61,9 +62,8 @@ pub fn give_stop<T: Taker>(out: &mut T, t: Tty, stop: Stop) -> Result<(), Failed
     }
 }
 
-/// Gives the items of what a unit shows. A call of its own, as most units show nothing.
-#[inline(never)]
-pub fn give_shown<T: Taker>(out: &mut T, t: Tty, shown: Shown) -> Result<(), Failed>
+// Gives the items of what a terminal shows of a unit.
+fn give_shown<T: Taker>(out: &mut T, t: Tty, shown: Shown) -> Result<(), Failed>
     requires terminal { IsTerminal t }
     requires fits { FitsShown shown }
     ensures { TookItems T.fault_count T.onward T.stands T.cut out.old out.new result (λ d. shown_items t shown) }
@@ -74,5 +74,28 @@ pub fn give_shown<T: Taker>(out: &mut T, t: Tty, shown: Shown) -> Result<(), Fai
             give_stop(out, t, shown.stop)
         }
         None => give_stop(out, t, shown.stop),
+    }
+}
+
+/// Gives the items of a unit: its line, where each unit is shown, and what its terminal shows. A call of its own, as most units show
+/// nothing.
+#[inline(never)]
+pub fn give_ran<T: Taker>(
+    out: &mut T,
+    fork: ForkName,
+    line: Option<u32>,
+    shown: Shown,
+) -> Result<(), Failed>
+    requires fork { IsForkName fork }
+    requires address { FitsLine line }
+    requires fits { FitsShown shown }
+    ensures { TookItems T.fault_count T.onward T.stands T.cut out.old out.new result (λ d. ran_items fork line shown) }
+{
+    match line {
+        Some(pc) => {
+            out.item(Item::UnitLine(fork, pc))?;
+            give_shown(out, fork.tty, shown)
+        }
+        None => give_shown(out, fork.tty, shown),
     }
 }

@@ -1,7 +1,7 @@
 //! The monitor's machine, over any pages: jobs and their forks, and one event after another, done as steps.
 //! To the layers above `Machine::event` gives a taker legal steps that follow the event, with their items.
 //! Stands on `plain_model` for the definitions, on `page_contracts` and `script_texts` for the contracts of pages and takers,
-//! on `ka10_unit` for units, on `psi_system` for the interrupts before them, on `fork_tree` for the forks of all jobs, on `file_tables` for files and JFNs, on `tty_lines` for what is typed, on `psi_calls` for the calls on interrupts, on `pmap_calls` for those on maps, on `file_calls` for those on files and JFNs, on `byte_io` for those on bytes, on `string_io` for those on strings.
+//! on `ka10_unit` for units, on `fork_lists` for whose turn is next, and on a crate for each family of calls and each table: forks, files, JFNs, terminals.
 #![tactic(auto)]
 
 mod address;
@@ -14,6 +14,8 @@ mod job_event;
 mod looking;
 mod machine;
 mod page_shown;
+mod panel;
+mod progress;
 mod reaching;
 mod reply;
 mod runner;

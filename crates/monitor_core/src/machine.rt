@@ -1,10 +1,10 @@
 // The machine, over any pages.
 ghost use Rattle.std.specs.Prelude.{◌≡◌, true};
-ghost use Rattle.monitor_core.specs.Runners.{IsSlot};
+ghost use Rattle.fork_lists.specs.Ties.{AreTied};
 ghost use Rattle.monitor_core.specs.Systems.{IsWithin};
 
 use crate::system::System;
-use machine_names::Tty;
+use fork_lists::ForkLists;
 use page_contracts::Pages;
 
 /// Sizes of a machine: how many forks the balance set has at most, 1 to 63.
@@ -25,9 +25,8 @@ pub enum Ended {
 #[derive(Drop)]
 pub struct Machine<P: Pages> {
     system: System<P>,
-    /// Whose turn it was last: the terminal of a job, and the slot of its fork.
-    terminal: Tty,
-    slot: u8,
+    /// Whose turn is next.
+    lists: ForkLists,
     /// How many events and entries of runs are done.
     done: u64,
     /// No fault has stopped it.
@@ -37,10 +36,12 @@ pub struct Machine<P: Pages> {
     // Nobody waits for a page yet: the pages stand in memory.
     ghost flat: { P.means.flat ≡ true },
     ghost within: { IsWithin system done },
-    ghost turn: { IsSlot terminal slot },
+    // The forks in the lists are those that can run.
+    ghost tied: { AreTied system.tree.forks lists },
 }
 
 mod boot;
 mod event;
+mod following;
 mod turns;
 mod typing;

@@ -3,7 +3,7 @@ ghost use Rattle.std.specs.Prelude.{◌≡◌};
 ghost use Rattle.monitor_core.specs.Replies.{is_silent as is_silent_of};
 
 use crate::shown::Shown;
-use machine_names::{FileName, Tty};
+use machine_names::{FileName, ForkName, Tty};
 use script_texts::Item;
 
 /// What a step shows. Its items are made as they are given, one by one, so that it is small however many they are.
@@ -11,8 +11,8 @@ use script_texts::Item;
 pub enum Reply {
     Nothing,
     One(Item),
-    /// What a unit of a job's top fork shows at its terminal.
-    Prints(Tty, Shown),
+    /// The last of units of a fork: its program counter before it, where each unit is shown, and what its terminal shows.
+    Ran(ForkName, Option<u32>, Shown),
     /// The forks of a terminal's job, by slot.
     Forks(Tty),
     /// A file's page, and each of its words that isn't 0.
@@ -27,7 +27,7 @@ impl Reply {
     {
         match self {
             Reply::Nothing => true,
-            Reply::Prints(_, shown) => shown.is_nothing(),
+            Reply::Ran(_, None, shown) => shown.is_nothing(),
             _ => false,
         }
     }

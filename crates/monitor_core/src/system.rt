@@ -6,13 +6,14 @@ ghost use Rattle.monitor_core.specs.Jobs.{AreUnheld};
 ghost use Rattle.monitor_core.specs.Sound.{AreSound};
 
 use crate::job::Job;
+use crate::panel::Panel;
 use crate::typing::Typing;
 use file_tables::FileTables;
 use fork_tree::Tree;
-use ka10_unit::Taken;
 use page_contracts::Pages;
+use text_pointers::Scratch;
 
-/// The pages, the forks of all jobs, the files and JFNs, the jobs, what was typed, and the clock. Its steps are those of the plain machine; which fork
+/// The pages, the forks of all jobs, the files and JFNs, the jobs, what was typed, the clock, and whether each unit is shown. Its steps are those of the plain machine; which fork
 /// runs next, and what is given to whom, is not its concern.
 #[derive(Drop)]
 pub struct System<P: Pages> {
@@ -23,10 +24,10 @@ pub struct System<P: Pages> {
     jobs: Vec<Option<Job>>,
     /// What was typed at each terminal.
     typed: Vec<Typing>,
-    /// What a unit takes that is not done in place; kept for the next.
-    taken: Taken,
-    /// How many ticks there were.
-    clock: u64,
+    /// What a unit takes that is not done in place, and what is referred to in reading words; kept for the next.
+    scratch: Scratch,
+    /// The clock, and whether each unit is shown.
+    panel: Panel,
     ghost sound: { AreSound P.means pages tree jobs.items },
     ghost unheld: { AreUnheld (open_of files) jobs.items },
     ghost typing_room: { length typed.items ≡ TERMINALS },

@@ -25,6 +25,7 @@ use plain_model::interrupt::{CHANNELS, Inspected};
 use plain_units::channel::{OVERFLOW, PUSHDOWN_OVERFLOW};
 use psi_system::{deliver, inspect, is_interrupted};
 use script_texts::ForkStatus;
+use text_pointers::Scratch;
 
 /// The last of units in a row.
 #[derive(Clone, Copy)]
@@ -135,23 +136,28 @@ fn forced(body: &mut Body, channel: u8) -> Last
 
 // One unit of a fork whose channels are looked at: one is delivered, or the fork is forced; or none can be taken now, and it goes on
 // where it stands.
-fn interrupted<P: Pages>(body: &mut Body, fork: ForkName, pages: &mut P, taken: &mut Taken) -> Last
+fn interrupted<P: Pages>(
+    body: &mut Body,
+    fork: ForkName,
+    pages: &mut P,
+    scratch: &mut Scratch,
+) -> Last
     requires can { CanUnit body.old }
     requires few { body.old.units < 2 ^ 63 }
     requires serves { Serves P.means pages.old fork }
     requires serial { P.means.serial pages.old fork.tty < 2 ^ 61 }
     ensures { (at : APlace) → RanOne behind_interrupted P.means pages.old pages.new (fork_of fork at body.old) (fork_of fork at body.new) result }
 {
-    match inspect(body, fork, pages) {
+    match inspect(&mut scratch.reader, body, fork, pages) {
         Err(why) => match why {
             Stopped::Need(need) => Last::Needs(need),
             Stopped::Trap(channel) => forced(body, channel),
         },
-        Ok(seen) => match seen.what {
-            Inspected::Nothing => one_unit(body, fork, pages, taken),
+        Ok(what) => match what {
+            Inspected::Nothing => one_unit(body, fork, pages, &mut scratch.taken),
             Inspected::Forces(channel) => forced(body, channel),
             Inspected::Delivers(delivery) => {
-                deliver(body, fork, &delivery, &seen.reader, pages);
+                deliver(body, fork, &delivery, &scratch.reader, pages);
                 body.units += 1;
                 Last::Shows(Shown::NOTHING)
             }
@@ -183,7 +189,7 @@ pub fn run_units<P: Pages>(
     body: &mut Body,
     fork: ForkName,
     pages: &mut P,
-    taken: &mut Taken,
+    scratch: &mut Scratch,
     most: u32,
 ) -> Row
     requires can { CanUnit body.old }
@@ -195,7 +201,7 @@ pub fn run_units<P: Pages>(
     ensures room { HasRoom most result.count result.last }
 {
     if is_interrupted(&body.psi) {
-        let last = interrupted(body, fork, pages, taken);
+        let last = interrupted(body, fork, pages, scratch);
         return row_of(0, last);
     }
     let space = pages.space(fork);
@@ -215,7 +221,7 @@ pub fn run_units<P: Pages>(
             last: Last::Shows(ended(body, Post::Pushdown)),
         },
         BurstEnd::Slow => {
-            let last = one_unit(body, fork, pages, taken);
+            let last = one_unit(body, fork, pages, &mut scratch.taken);
             row_of(burst.units, last)
         }
     }

@@ -2,16 +2,17 @@
 ghost use Rattle.std.specs.Prelude.{◌≡◌, ◌<◌, ◌≤◌, ◌^◌, ◌==◌, Err, IfErr, IfOk, IsOk, IsSome, Ok, Some, if◌then◌else◌, true};
 ghost use Rattle.plain_model.specs.declared.fork.Body.{Body as ABody};
 ghost use Rattle.plain_model.specs.declared.fork.Fork.{Fork as AFork};
-ghost use Rattle.plain_model.specs.Forks.{fork_in};
+ghost use Rattle.plain_model.specs.Forks.{OthersStay, fork_in};
 ghost use Rattle.ka10_unit.specs.Gathers.{Serves};
 ghost use Rattle.fork_tree.specs.Trees.{IsTree};
 ghost use Rattle.fork_calls.specs.Holding.{Holds};
 ghost use Rattle.fork_calls.specs.Limits.{AreWithin};
 ghost use Rattle.monitor_core.specs.Limits.{CanUnit};
 ghost use Rattle.monitor_core.specs.ForkUnit.{HasJob, Place as APlace, UnitWaits, UnitsRan, fork_of, tables_in};
+ghost use Rattle.monitor_core.specs.Reaching.{Reaches};
 ghost use Rattle.monitor_core.specs.Shown.{nothing};
 
-use crate::calls::called;
+use crate::calls::{called, reach_of};
 use crate::job::Job;
 use crate::runner::Runner;
 use crate::shown::Shown;
@@ -19,20 +20,30 @@ use crate::typing::Typing;
 use crate::unit::{Last, run_units};
 use file_tables::FileTables;
 use fork_tree::Tree;
-use ka10_unit::Taken;
 use page_contracts::{Need, Pages};
+use text_pointers::Scratch;
 
-/// Units of a fork in a row: how many, at least one, and what the last of them shows. Those before it show
+/// How far units of a fork have reached among the forks.
+#[derive(Clone, Copy)]
+pub enum Reach {
+    /// Only the fork that ran may stand otherwise.
+    Own,
+    /// Forks of its job may.
+    Job,
+}
+
+/// Units of a fork in a row: how many, at least one, what the last of them shows, and how far they reached. Those before it show
 /// nothing.
 #[derive(Clone, Copy)]
 pub struct Units {
     pub count: u32,
     pub shown: Shown,
+    pub reach: Reach,
 }
 
 // A unit needs this first, behind so many that are done: these alone, if there are any.
-fn done_before(count: u32, need: Need) -> Result<Units, Need>
-    ensures { result ≡ (if count == 0 then Err need else Ok (record { count = count; shown = nothing })) }
+fn done_before(count: u32, need: Need, reach: Reach) -> Result<Units, Need>
+    ensures { result ≡ (if count == 0 then Err need else Ok (record { count = count; shown = nothing; reach = reach })) }
 {
     if count == 0 {
         return Err(need);
@@ -40,6 +51,7 @@ fn done_before(count: u32, need: Need) -> Result<Units, Need>
     Ok(Units {
         count,
         shown: Shown::NOTHING,
+        reach,
     })
 }
 
@@ -53,7 +65,8 @@ pub fn units_of<P: Pages>(
     files: &mut FileTables,
     jobs: &Vec<Option<Job>>,
     typed: &mut Vec<Typing>,
-    taken: &mut Taken,
+    scratch: &mut Scratch,
+    clock: u64,
     who: Runner,
     most: u32,
 ) -> Result<Units, Need>
@@ -66,29 +79,37 @@ pub fn units_of<P: Pages>(
     requires within { AreWithin tree.old.forks }
     requires job { HasJob files.old jobs.now.items typed.old.items who.fork.tty }
     requires serial { P.means.serial pages.old who.fork.tty < 2 ^ 61 }
+    requires clock { clock < 2 ^ 63 }
     requires some { 0 < most }
     ensures ran { (at : APlace) (b : ABody) → fork_in tree.old.forks who.fork.tty who.slot ≡ Some (fork_of who.fork at b)
-        → IfOk result (UnitsRan P.means pages.old pages.new (tables_in tree.old files.old jobs.now.items typed.old.items) (tables_in tree.new files.new jobs.now.items typed.new.items) (fork_of who.fork at b)) }
+        → IfOk result (UnitsRan P.means pages.old pages.new (tables_in tree.old files.old jobs.now.items typed.old.items clock) (tables_in tree.new files.new jobs.now.items typed.new.items clock) (fork_of who.fork at b)) }
     ensures waits { (at : APlace) (b : ABody) → fork_in tree.old.forks who.fork.tty who.slot ≡ Some (fork_of who.fork at b)
-        → IfErr result (UnitWaits P.means pages.old pages.new (tables_in tree.old files.old jobs.now.items typed.old.items) (tables_in tree.new files.new jobs.now.items typed.new.items) (fork_of who.fork at b)) }
+        → IfErr result (UnitWaits P.means pages.old pages.new (tables_in tree.old files.old jobs.now.items typed.old.items clock) (tables_in tree.new files.new jobs.now.items typed.new.items clock) (fork_of who.fork at b)) }
     ensures core { P.means.flat ≡ true → IsOk result }
+    ensures reach { IfOk result (λ units. Reaches units.reach who.fork tree.old tree.new) }
+    ensures others { OthersStay who.fork.tty tree.old.forks tree.new.forks }
     ensures some { IfOk result (λ units. 1 ≤ units.count) }
     ensures few { IfOk result (λ units. units.count ≤ most) }
 {
     let body = tree.body_at(who.fork.tty, who.slot);
-    let row = run_units(body, who.fork, pages, taken, most);
+    let row = run_units(body, who.fork, pages, scratch, most);
     match row.last {
         Last::Shows(shown) => Ok(Units {
             count: row.count,
             shown,
+            reach: Reach::Own,
         }),
-        Last::Calls(number) => match called(tree, pages, files, jobs, typed, who, number) {
-            Ok(shown) => Ok(Units {
-                count: row.count + 1,
-                shown,
-            }),
-            Err(need) => done_before(row.count, need),
-        },
-        Last::Needs(need) => done_before(row.count, need),
+        Last::Calls(number) => {
+            let reach = reach_of(number);
+            match called(tree, pages, files, jobs, typed, clock, scratch, who, number) {
+                Ok(shown) => Ok(Units {
+                    count: row.count + 1,
+                    shown,
+                    reach,
+                }),
+                Err(need) => done_before(row.count, need, reach),
+            }
+        }
+        Last::Needs(need) => done_before(row.count, need, Reach::Own),
     }
 }

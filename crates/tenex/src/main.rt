@@ -7,7 +7,7 @@ mod messages;
 mod watch;
 
 use asm_console::{AsmStatus, asm};
-use messages::{explain, explain_end, explain_error, explain_line, explain_stopped, usage};
+use messages::{explain, explain_error, explain_line, explain_stopped, usage};
 use outside::{MOST_DRUM_PAGES, Source, StdSink, StdSource, SureDrum};
 use std::fs::File;
 use std::io::{self, BufWriter, ErrorKind};
@@ -63,7 +63,7 @@ fn wrong_words(rt: &HostRuntime) -> u8 {
     refused(rt, "?USAGE", Status::Usage.number())
 }
 
-/// Runs the script on standard input with these words and this file for the record.
+/// Runs the script on standard input, or a generated one, with these words and this file for the record.
 fn run(rt: &HostRuntime, words: &[String], record: File) -> u8 {
     let alloc = rt.alloc();
     let Ok(mut drum) = SureDrum::new(alloc, MOST_DRUM_PAGES) else {
@@ -92,9 +92,7 @@ fn run(rt: &HostRuntime, words: &[String], record: File) -> u8 {
 /// Says which line of a bad script is bad.
 fn explain_bad<S: Source>(rt: &HostRuntime, script: &Watched<S>) {
     if let Some(bad) = script.bad() {
-        explain_line(rt, bad);
-    } else if let Some(number) = script.unended() {
-        explain_end(rt, number);
+        explain_line(rt, &bad);
     }
 }
 

@@ -9,9 +9,12 @@ use texts::Status;
 /// How the program is used.
 const USAGE: &str = "\
 usage: tenex run [--frames N] [--drum N]
+       tenex big SEED [--frames N] [--drum N]
        tenex asm T
   run: runs the console script on standard input; the transcript goes to standard output, and the record to the
   file tenex.record in the current folder, which is made anew
+  big: runs the script that is generated from the seed, a number of 1 to 9 digits, in the same way, and prints
+  behind the transcript how many events, units, idle entries and characters there were
   --frames N   page frames of core, 160 to 8192; 256 if not given
   --drum N     pages of the drum, 256 to 16384: the most pages and forks at once; 2048 if not given
   asm: assembles the program on standard input; the lines of a script that put its words at terminal T, 0 to 15,
@@ -51,18 +54,12 @@ pub fn explain_error(rt: &HostRuntime, file: &str, error: Option<&Error>) {
 }
 
 /// Says which line of a script is bad, and why.
-pub fn explain_line(rt: &HostRuntime, bad: &BadLine) {
+pub fn explain_line(rt: &HostRuntime, bad: &BadLine<'_>) {
     let number = bad.number;
     let _ = match bad.wrong {
         Wrong::NoLine => {
-            let text = shown(bad.bytes());
+            let text = shown(bad.bytes);
             eprintln!(rt; "tenex: line {number} is no line of a script: {text}")
-        }
-        Wrong::NotBuilt => {
-            let text = shown(bad.bytes());
-            eprintln!(rt;
-                "tenex: line {number} is a line of a script that is not built yet: {text}"
-            )
         }
         Wrong::TooLong => eprintln!(rt; "tenex: line {number} has more than 256 bytes"),
         Wrong::TooManyTurns => {
@@ -70,12 +67,8 @@ pub fn explain_line(rt: &HostRuntime, bad: &BadLine) {
                 "tenex: with line {number} the script asks for more than 1099511627776 turns"
             )
         }
+        Wrong::Unended => eprintln!(rt; "tenex: line {number} does not end with a line feed"),
     };
-}
-
-/// Says that the last line of a script has no line feed.
-pub fn explain_end(rt: &HostRuntime, number: u64) {
-    let _ = eprintln!(rt; "tenex: line {number} does not end with a line feed");
 }
 
 /// A line as it can be shown: its bytes, where each is a printed character or a space.

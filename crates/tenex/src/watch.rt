@@ -1,55 +1,61 @@
-// The lines of a script, watched as they are read, so that a bad one can be named.
+// The lines of a script that were read last, kept so that a bad one can be named.
 use outside::{Failed, Source};
 use script_lang::{MOST_LINE, MOST_TURNS, Read, read_line};
 use script_texts::Event;
+
+/// How many bytes are kept: what was read last, and before it the line that had no end yet.
+const KEPT_BYTES: usize = 8192;
 
 /// What is wrong with a line of a script.
 #[derive(Clone, Copy)]
 pub enum Wrong {
     /// It is no line of the grammar.
     NoLine,
-    /// It is one of the grammar, and the machine doesn't act on it yet.
-    NotBuilt,
     /// It has more bytes than a line may have.
     TooLong,
     /// Its turns are more than those of a script may be, together with those before it.
     TooManyTurns,
+    /// It is the last one, and has no line feed.
+    Unended,
 }
 
-/// A bad line: its number, counted from 1, what is wrong with it, and its bytes, as many as a line may have.
+/// A bad line: its number, counted from 1, what is wrong with it, and its bytes.
 #[derive(Clone, Copy)]
-pub struct BadLine {
+pub struct BadLine<'a> {
     pub number: u64,
     pub wrong: Wrong,
-    bytes: [u8; MOST_LINE],
-    count: usize,
+    pub bytes: &'a [u8],
 }
 
-impl BadLine {
-    /// The line's bytes, as many as a line may have.
-    pub fn bytes(&self) -> &[u8] {
-        self.bytes.get(..self.count).unwrap_or(&[])
-    }
-}
-
-/// The lines that went by: the one that is not at its end yet, and the first bad one.
-#[derive(Drop)]
-struct Watch {
-    bytes: [u8; MOST_LINE],
-    count: usize,
-    is_long: bool,
+// The lines that went by: how many, and how many turns they ask for.
+#[derive(Clone, Copy)]
+struct Lines {
     lines: u64,
     turns: u64,
-    bad: Option<BadLine>,
 }
 
-impl Watch {
-    // What is wrong with the line that ends here.
-    fn wrong(&mut self) -> Option<Wrong> {
-        if self.is_long {
+impl Lines {
+    // A good line went by. Only a RUN line has turns, so no other is read once more.
+    fn pass(&mut self, line: &[u8]) {
+        self.lines = self.lines.saturating_add(1);
+        if !line.starts_with(b"RUN ") {
+            return;
+        }
+        if let Read::One(Event::Run(turns)) = read_line(line) {
+            self.turns = self.turns.saturating_add(u64::from(turns));
+        }
+    }
+
+    // What is wrong with the next line, or with what stands there of one that has no end.
+    fn wrong(&mut self, piece: &[u8]) -> Option<Wrong> {
+        self.lines = self.lines.saturating_add(1);
+        let Some(line) = piece.strip_suffix(b"\n") else {
+            return Some(unended(piece));
+        };
+        if line.len() > MOST_LINE {
             return Some(Wrong::TooLong);
         }
-        match read_line(self.bytes.get(..self.count).unwrap_or(&[])) {
+        match read_line(line) {
             Read::Nothing => None,
             Read::Bad => Some(Wrong::NoLine),
             Read::One(event) => self.wrong_event(&event),
@@ -58,9 +64,6 @@ impl Watch {
 
     // What is wrong with the event of a line.
     fn wrong_event(&mut self, event: &Event) -> Option<Wrong> {
-        if !event.is_built() {
-            return Some(Wrong::NotBuilt);
-        }
         if let Event::Run(turns) = event {
             self.turns = self.turns.saturating_add(u64::from(*turns));
         }
@@ -69,46 +72,66 @@ impl Watch {
         }
         None
     }
+}
 
-    // A line ends.
-    fn end_line(&mut self) {
-        self.lines = self.lines.saturating_add(1);
-        if let Some(wrong) = self.wrong() {
-            self.bad = Some(BadLine {
-                number: self.lines,
-                wrong,
-                bytes: self.bytes,
-                count: self.count,
-            });
-        }
-        self.count = 0;
-        self.is_long = false;
-    }
-
-    // One byte goes by. Behind the first bad line nothing is looked at.
-    fn take(&mut self, byte: u8) {
-        if self.bad.is_some() {
-            return;
-        }
-        if byte == b'\n' {
-            self.end_line();
-        } else if self.count < MOST_LINE {
-            self.bytes[self.count] = byte;
-            self.count += 1;
-        } else {
-            self.is_long = true;
-        }
-    }
-
-    // Bytes go by.
-    fn take_all(&mut self, bytes: &[u8]) {
-        for byte in bytes {
-            self.take(*byte);
-        }
+// What is wrong with a line that has no line feed.
+fn unended(line: &[u8]) -> Wrong {
+    if line.len() > MOST_LINE {
+        Wrong::TooLong
+    } else {
+        Wrong::Unended
     }
 }
 
-/// A source, and the lines that went by as it was read.
+// The bytes that are kept, and the lines before them.
+#[derive(Drop)]
+struct Watch {
+    bytes: [u8; KEPT_BYTES],
+    count: usize,
+    before: Lines,
+}
+
+impl Watch {
+    // Nothing is kept, behind so many lines.
+    fn behind(before: Lines) -> Self {
+        Watch {
+            bytes: [0; KEPT_BYTES],
+            count: 0,
+            before,
+        }
+    }
+
+    // The bytes that are kept.
+    fn kept(&self) -> &[u8] {
+        self.bytes.get(..self.count).unwrap_or(&[])
+    }
+
+    // Keeps bytes too, as long as there is room: what is read at once is less than half of it.
+    fn keep(&mut self, bytes: &[u8]) {
+        if bytes.len() <= KEPT_BYTES && self.count <= KEPT_BYTES - bytes.len() {
+            self.bytes[self.count..self.count + bytes.len()].copy_from_slice(bytes);
+            self.count += bytes.len();
+        }
+    }
+
+    // More is read, so the lines that have their end are good: only the one without is kept.
+    fn take(&mut self, bytes: &[u8]) {
+        let mut before = self.before;
+        let mut begun: &[u8] = &[];
+        for piece in self.kept().split_inclusive(|c| *c == b'\n') {
+            match piece.strip_suffix(b"\n") {
+                Some(line) => before.pass(line),
+                None => begun = piece,
+            }
+        }
+        let mut watch = Watch::behind(before);
+        watch.keep(begun);
+        watch.keep(bytes);
+        *self = watch;
+    }
+}
+
+/// A source, and what was read of it last.
 #[derive(Drop)]
 pub struct Watched<S: Source> {
     source: S,
@@ -116,18 +139,11 @@ pub struct Watched<S: Source> {
 }
 
 impl<S: Source> Watched<S> {
-    /// Nothing went by yet.
+    /// Nothing was read yet.
     pub fn new(source: S) -> Self {
         Watched {
             source,
-            watch: Watch {
-                bytes: [0; MOST_LINE],
-                count: 0,
-                is_long: false,
-                lines: 0,
-                turns: 0,
-                bad: None,
-            },
+            watch: Watch::behind(Lines { lines: 0, turns: 0 }),
         }
     }
 
@@ -136,18 +152,19 @@ impl<S: Source> Watched<S> {
         &self.source
     }
 
-    /// The first bad line that went by.
-    pub fn bad(&self) -> Option<&BadLine> {
-        self.watch.bad.as_ref()
-    }
-
-    /// The number of the line that is not at its end, where there is one.
-    pub fn unended(&self) -> Option<u64> {
-        if self.watch.count > 0 {
-            Some(self.watch.lines.saturating_add(1))
-        } else {
-            None
+    /// The first bad line, where the source was read until there was one, and no further.
+    pub fn bad(&self) -> Option<BadLine<'_>> {
+        let mut lines = self.watch.before;
+        for piece in self.watch.kept().split_inclusive(|c| *c == b'\n') {
+            if let Some(wrong) = lines.wrong(piece) {
+                return Some(BadLine {
+                    number: lines.lines,
+                    wrong,
+                    bytes: piece.strip_suffix(b"\n").unwrap_or(piece),
+                });
+            }
         }
+        None
     }
 }
 
@@ -163,7 +180,9 @@ impl<S: Source> Source for Watched<S> {
     // What it answers is what the source gave.
     fn read(&mut self, piece: &mut [u8]) -> Result<usize, Failed> {
         let count = self.source.read(piece)?;
-        self.watch.take_all(&piece[..count]);
+        if count > 0 {
+            self.watch.take(&piece[..count]);
+        }
         Ok(count)
     }
 }

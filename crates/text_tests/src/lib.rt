@@ -4,6 +4,8 @@
 #![tactic(auto)]
 
 #[cfg(test)]
+mod asked;
+#[cfg(test)]
 mod canonical;
 #[cfg(test)]
 mod drums;
@@ -25,8 +27,6 @@ mod pieces;
 mod runs;
 #[cfg(test)]
 mod same;
-#[cfg(test)]
-mod sizes;
 #[cfg(test)]
 mod streams;
 #[cfg(test)]

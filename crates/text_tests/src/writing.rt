@@ -80,6 +80,46 @@ fn writes_a_run(rt: HostRuntime) -> Result<(), Fail> {
     Ok(())
 }
 
+// Nine entries and ten characters: two events, five units of two forks, and two idle entries.
+fn write_a_tally(writer: &mut InMemory<'_>) -> Result<(), Failed> {
+    writer.step(Step::Outer(Event::Login(Tty(0), DirName::new(b"A"))))?;
+    writer.turns(Step::Unit(FORK), 3)?;
+    for code in *b"0123456789" {
+        writer.item(Item::Char(Tty(1), code))?;
+    }
+    writer.step(Step::Unit(FORK))?;
+    writer.step(Step::Outer(Event::Tick))?;
+    writer.item(Item::Refusal(Refusal::Busy(Tty(15))))?;
+    writer.turns(Step::Idle, 2)?;
+    writer.step(Step::Unit(ForkName {
+        tty: Tty(1),
+        serial: 1,
+    }))?;
+    writer.finish(Last::Summary {
+        reads: 4,
+        writes: 5,
+    })
+}
+
+#[test]
+fn counts_what_it_writes(rt: HostRuntime) -> Result<(), Fail> {
+    let mut out = sink(rt.alloc(), 64)?;
+    let mut rec = sink(rt.alloc(), 64)?;
+    same(
+        &rt,
+        write_a_tally(&mut Writer::new(&mut out, &mut rec)),
+        Ok(()),
+    );
+    have(
+        &rt,
+        &out,
+        &rec,
+        b"T1 0123456789\n?BUSY 15\nS 2 5 2 10\n",
+        b"LOGIN 0 A\nU 0 1 4\nTICK\nI 2\nU 1 1 1\nE 4 5\n",
+    );
+    Ok(())
+}
+
 fn write_items(writer: &mut InMemory<'_>) -> Result<(), Failed> {
     writer.item(Item::Char(Tty(3), 0o177))?;
     writer.item(Item::Char(Tty(3), b'\\'))?;

@@ -6,3 +6,4 @@ mod InRuns
 pub mod Starts
 mod RecordLines
 mod RecordApart
+pub mod Tallies

@@ -16,6 +16,9 @@ use Rattle.std.specs.Prelude.{replicate}
 use Rattle.texts.specs.declared.last.Last.{Last}
 use Rattle.texts.specs.declared.writer.Writer.{Writer}
 use Rattle.texts.specs.Ends.{end_line, record_end}
+use Rattle.texts.specs.declared.tally.Tally.{Tally}
+use Rattle.texts.specs.Tally.{tally, with_item, with_steps}
+use Rattle.texts.proofs.Tallies.{tally_item, tally_steps}
 use Rattle.texts.specs.Turns.{open_run, run_count, step_of}
 use Rattle.texts.specs.declared.turns.RunEntry.{RunEntry}
 use Rattle.texts.specs.declared.turns.RunEntry.TheVariants.{Unit as UnitOf, Idle as IdleTurn}
@@ -92,13 +95,14 @@ module _ {T R : Type 0} (out_taken : T → Option (List ℕ)) (rec_taken : R →
 
   -- an item is written
   pub item_goes_on : (i : Item) → Grows (out_taken old.out.now) (out_taken new.out.now) (item_text old.line i) → new.line ≡ item_open i → new.rec.now ≡ old.rec.now → new.run ≡ old.run
-      → GoesOn For old new (i ∷ []) []
-  item_goes_on i grows line rec run = record {
+      → new.tally ≡ with_item old.tally i → GoesOn For old new (i ∷ []) []
+  item_goes_on i grows line rec run tallies = record {
     each = λ first is ss few s. record {
       out = wrote_more _ _ _ _ _ (text_after new.line) (λ js. transcript ((is ++ i ∷ []) ++ js)) i (item_text old.line i) s.out grows
           (λ js. ap (λ o. item_text old.line i ++ text_after o js) (sym line)) (λ js. ap transcript (append_assoc is (i ∷ []) js));
       rec = rec_stays first ss (ss ++ []) rec run (sym (append-nil ss)) s.rec;
       count = subst (λ r. run_count r ≤ length (ss ++ [])) (sym run) (omega (arith, s.count, length-append ss []));
+      tallied = λ fresh. tallies ∙ ap (λ t. with_item t i) (s.tallied fresh) ∙ tally_item is ss i ∙ ap (tally (is ++ i ∷ [])) (sym (append-nil ss));
     };
   }
 
@@ -117,8 +121,8 @@ module _ {T R : Type 0} (out_taken : T → Option (List ℕ)) (rec_taken : R →
   -- a step is written, or held back
   pub step_goes_on : (s : Step) → Grows (rec_taken old.rec.now) (rec_taken new.rec.now) (step_text (open_run old.run) s)
       → (run_count old.run < max_steps → open_run new.run ≡ step_run (open_run old.run) s) → run_count new.run ≤ run_count old.run + 1 → new.out.now ≡ old.out.now → new.line ≡ old.line
-      → GoesOn For old new [] (s ∷ [])
-  step_goes_on s grows run count out line = record {
+      → new.tally ≡ with_steps old.tally s 1 → GoesOn For old new [] (s ∷ [])
+  step_goes_on s grows run count out line tallies = record {
     each = λ first is ss few st.
         let small : run_count old.run < max_steps = omega (arith, few, st.count, length-append ss (s ∷ [])) in
         record {
@@ -126,6 +130,7 @@ module _ {T R : Type 0} (out_taken : T → Option (List ℕ)) (rec_taken : R →
           rec = wrote_more _ _ _ _ _ (record_after (open_run new.run)) (λ ts. entries_text ((ss ++ s ∷ []) ++ ts)) s (step_text (open_run old.run) s) st.rec grows
               (λ ts. ap (λ r. step_text (open_run old.run) s ++ record_after r ts) (sym (run small))) (λ ts. ap entries_text (append_assoc ss (s ∷ []) ts));
           count = omega (arith, st.count, count, length-append ss (s ∷ []));
+          tallied = λ fresh. tallies ∙ ap (λ t. with_steps t s 1) (st.tallied fresh) ∙ tally_steps is ss s 1 ∙ ap (λ l. tally l (ss ++ s ∷ [])) (sym (append-nil is));
         };
   }
 
@@ -145,8 +150,8 @@ module _ {T R : Type 0} (out_taken : T → Option (List ℕ)) (rec_taken : R →
   pub turns_go_on : (s : Step) (m k : ℕ) → Counted s → Grows (rec_taken old.rec.now) (rec_taken new.rec.now) (step_text (open_run old.run) s)
       → step_run (open_run old.run) s ≡ Some (s, k)
       → (run_count old.run + m < max_steps → open_run new.run ≡ Some (s, k + m)) → run_count new.run ≤ run_count old.run + (m + 1) → new.out.now ≡ old.out.now → new.line ≡ old.line
-      → GoesOn For old new [] (replicate (suc m) s)
-  turns_go_on s m k one grows begun run count out line = record {
+      → new.tally ≡ with_steps old.tally s (suc m) → GoesOn For old new [] (replicate (suc m) s)
+  turns_go_on s m k one grows begun run count out line tallies = record {
     each = λ first is ss few st.
         let long : length (replicate (suc m) s) ≡ suc m = length-replicate (suc m) s in
         let small : run_count old.run + m < max_steps = omega (arith, few, st.count, length-append ss (replicate (suc m) s), long) in
@@ -157,15 +162,16 @@ module _ {T R : Type 0} (out_taken : T → Option (List ℕ)) (rec_taken : R →
           rec = wrote_list _ _ _ _ _ (record_after (open_run new.run)) (λ ts. entries_text ((ss ++ replicate (suc m) s) ++ ts)) (replicate (suc m) s) (step_text (open_run old.run) s) st.rec grows
               text (λ ts. ap entries_text (append_assoc ss (replicate (suc m) s) ts));
           count = omega (arith, st.count, count, length-append ss (replicate (suc m) s), long);
+          tallied = λ fresh. tallies ∙ ap (λ t. with_steps t s (suc m)) (st.tallied fresh) ∙ tally_steps is ss s (suc m) ∙ ap (λ l. tally l (ss ++ replicate (suc m) s)) (sym (append-nil is));
         };
   }
 
   pub turns_given : (s : Step) (n k : ℕ) → 1 ≤ n → Counted s → Grows (rec_taken old.rec.now) (rec_taken new.rec.now) (step_text (open_run old.run) s)
       → step_run (open_run old.run) s ≡ Some (s, k)
       → (run_count old.run + n ≤ max_steps → open_run new.run ≡ Some (s, k + (n - 1))) → run_count new.run ≤ run_count old.run + n → new.out.now ≡ old.out.now → new.line ≡ old.line
-      → GoesOn For old new [] (replicate n s)
-  turns_given s zero k some one grows begun run count out line = absurd (omega arith)
-  turns_given s (suc m) k some one grows begun run count out line = turns_go_on s m k one grows begun (λ small. run (omega arith) ∙ ap (λ j. Some (s, k + j)) (omega arith)) (omega arith) out line
+      → new.tally ≡ with_steps old.tally s n → GoesOn For old new [] (replicate n s)
+  turns_given s zero k some one grows begun run count out line tallies = absurd (omega arith)
+  turns_given s (suc m) k some one grows begun run count out line tallies = turns_go_on s m k one grows begun (λ small. run (omega arith) ∙ ap (λ j. Some (s, k + j)) (omega arith)) (omega arith) out line tallies
 
   pub turns_cut : (s : Step) (n : ℕ) → 1 ≤ n → GrowsPartly (rec_taken old.rec.now) (rec_taken new.rec.now) (step_text (open_run old.run) s) → new.out.now ≡ old.out.now
       → IsCut For Cut old new [] (replicate n s)
@@ -179,6 +185,7 @@ module _ {T R : Type 0} (out_taken : T → Option (List ℕ)) (rec_taken : R →
       out = subst (λ l. Wrote (out_taken first.out.now) (out_taken new.out.now) (text_after l) (λ js. transcript (is ++ js))) (sym keeps.line) (wrote_stays _ _ _ _ _ st.out keeps.out);
       rec = subst (λ r. Wrote (rec_taken first.rec.now) (rec_taken new.rec.now) (record_after (open_run r)) (λ ts. entries_text (ss ++ ts))) (sym keeps.run) (wrote_stays _ _ _ _ _ st.rec keeps.rec);
       count = subst (λ r. run_count r ≤ length ss) (sym keeps.run) st.count;
+      tallied = λ fresh. keeps.tally ∙ st.tallied fresh;
     };
   }
 
@@ -186,8 +193,8 @@ module _ {T R : Type 0} (out_taken : T → Option (List ℕ)) (rec_taken : R →
   pub kept_within : KeepsWritten out_taken rec_taken old new → Keeps Cut old new
   kept_within keeps = record { each = λ first is ss c. record { out = partly_stays _ _ _ _ c.out keeps.out; rec = partly_stays _ _ _ _ c.rec keeps.rec } }
 
-  pub kept_at_end : KeepsWritten out_taken rec_taken old new → (last : Last) → Keeps (IsCutAtEnd out_taken rec_taken last) old new
-  kept_at_end keeps last = record { each = λ first is ss c. record { out = partly_stays _ _ _ _ c.out keeps.out; rec = partly_stays _ _ _ _ c.rec keeps.rec } }
+  pub kept_at_end : KeepsWritten out_taken rec_taken old new → (last : Last) (counts : Tally) → Keeps (IsCutAtEnd out_taken rec_taken last counts) old new
+  kept_at_end keeps last counts = record { each = λ first is ss c. record { out = partly_stays _ _ _ _ c.out keeps.out; rec = partly_stays _ _ _ _ c.rec keeps.rec } }
 
   -- what is flushed is cut where it stood, whatever follows
   pub kept_cut : KeepsWritten out_taken rec_taken old new → IsCut For Cut old new [] []
@@ -200,13 +207,13 @@ module _ {T R : Type 0} (out_taken : T → Option (List ℕ)) (rec_taken : R →
 
   module _ (last : Last) where
     out_ends : (first : Writer T R) (is : List Item) → Wrote (out_taken first.out.now) (out_taken old.out.now) (text_after old.line) (λ js. transcript (is ++ js))
-        → Grows (out_taken old.out.now) (out_taken new.out.now) (text_after old.line [] ++ end_line last)
-        → (told : List ℕ) → out_taken first.out.now ≡ Some told → out_taken new.out.now ≡ Some (told ++ (transcript is ++ end_line last))
+        → Grows (out_taken old.out.now) (out_taken new.out.now) (text_after old.line [] ++ end_line last old.tally)
+        → (told : List ℕ) → out_taken first.out.now ≡ Some told → out_taken new.out.now ≡ Some (told ++ (transcript is ++ end_line last old.tally))
     out_ends first is w grows told h =
-        subst (λ l. out_taken new.out.now ≡ Some (told ++ (transcript l ++ end_line last))) (append-nil is) (wrote_end _ _ _ _ _ (end_line last) w grows told h)
+        subst (λ l. out_taken new.out.now ≡ Some (told ++ (transcript l ++ end_line last old.tally))) (append-nil is) (wrote_end _ _ _ _ _ (end_line last old.tally) w grows told h)
 
     -- both texts are closed
-    pub finishes : Grows (out_taken old.out.now) (out_taken new.out.now) (text_after old.line [] ++ end_line last)
+    pub finishes : Grows (out_taken old.out.now) (out_taken new.out.now) (text_after old.line [] ++ end_line last old.tally)
         → Grows (rec_taken old.rec.now) (rec_taken new.rec.now) (record_after (open_run old.run) [] ++ record_end last) → Finishes out_taken rec_taken last old new
     finishes out rec = record {
       each = λ first is ss st. record {
@@ -222,7 +229,7 @@ module _ {T R : Type 0} (out_taken : T → Option (List ℕ)) (rec_taken : R →
     }
 
     -- the transcript is closed, and the record is not
-    pub record_fails : Grows (out_taken old.out.now) (out_taken new.out.now) (text_after old.line [] ++ end_line last)
+    pub record_fails : Grows (out_taken old.out.now) (out_taken new.out.now) (text_after old.line [] ++ end_line last old.tally)
         → GrowsPartly (rec_taken old.rec.now) (rec_taken new.rec.now) (record_after (open_run old.run) [] ++ record_end last) → FailsAtEnd out_taken rec_taken last old new
     record_fails out rec = record {
       each = λ first is ss st. record {
@@ -232,10 +239,10 @@ module _ {T R : Type 0} (out_taken : T → Option (List ℕ)) (rec_taken : R →
     }
 
     -- the transcript is not closed, and the record is as it was
-    pub transcript_fails : GrowsPartly (out_taken old.out.now) (out_taken new.out.now) (text_after old.line [] ++ end_line last) → new.rec.now ≡ old.rec.now → FailsAtEnd out_taken rec_taken last old new
+    pub transcript_fails : GrowsPartly (out_taken old.out.now) (out_taken new.out.now) (text_after old.line [] ++ end_line last old.tally) → new.rec.now ≡ old.rec.now → FailsAtEnd out_taken rec_taken last old new
     transcript_fails out rec = record {
       each = λ first is ss st. record {
-        out = subst (λ l. WrotePartly (out_taken first.out.now) (out_taken new.out.now) (transcript l ++ end_line last)) (append-nil is) (wrote_end_partly _ _ _ _ _ (end_line last) st.out out);
+        out = subst (λ l. WrotePartly (out_taken first.out.now) (out_taken new.out.now) (transcript l ++ end_line last old.tally)) (append-nil is) (wrote_end_partly _ _ _ _ _ (end_line last old.tally) st.out out);
         rec = cut_here _ _ _ _ (subst (λ r. WrotePartly (rec_taken first.rec.now) (rec_taken r) (entries_text ss)) (sym rec)
             (subst (λ l. WrotePartly (rec_taken first.rec.now) (rec_taken old.rec.now) (entries_text l)) (append-nil ss) (wrote_cut _ _ _ _ [] st.rec)));
       };

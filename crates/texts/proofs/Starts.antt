@@ -32,4 +32,5 @@ stands_start out_taken rec_taken w line run = record {
   rec = subst (λ r. Wrote (rec_taken w.rec.now) (rec_taken w.rec.now) (record_after (open_run r)) (λ ts. entries_text ([] ++ ts))) (sym run)
       (record { each = λ a h. ([], h ∙ ap Some (sym (append-nil a)), λ xs. recorded xs) });
   count = subst (λ r. run_count r ≤ 0) (sym run) (omega arith);
+  tallied = λ fresh. fresh;
 }

@@ -4,7 +4,9 @@ use Rattle.script_texts.specs.Texts.{ended, counts_line}
 use Rattle.texts.specs.declared.last.Status.{Status}
 use Rattle.texts.specs.declared.last.Status.TheVariants.{Done, Usage, Script, DrumFault, Memory, ReadFault, WriteFault, LongScript}
 use Rattle.texts.specs.declared.last.Last.{Last}
-use Rattle.texts.specs.declared.last.Last.TheVariants.{Done as Ended, Stopped}
+use Rattle.texts.specs.declared.last.Last.TheVariants.{Done as Ended, Summary, Stopped}
+use Rattle.texts.specs.declared.tally.Tally.{Tally}
+use Rattle.texts.specs.Tally.{tally_line}
 
 -- the exit status
 abbrev pub status_number : Status → ℕ
@@ -28,12 +30,14 @@ closing_line ReadFault n = ended (codes "?READ")
 closing_line WriteFault n = []
 closing_line LongScript n = ended (codes "?LONG SCRIPT")
 
--- the last line of the transcript, behind the closed line of characters
-abbrev pub end_line : Last → List ℕ
-end_line (Ended reads writes) = []
-end_line (Stopped status n) = closing_line status n
+-- the last line of the transcript, behind the closed line of characters, where so much was counted
+abbrev pub end_line : Last → Tally → List ℕ
+end_line (Ended reads writes) counts = []
+end_line (Summary reads writes) counts = tally_line counts
+end_line (Stopped status n) counts = closing_line status n
 
 -- the last line of the record, behind the closed run of turns
 abbrev pub record_end : Last → List ℕ
 record_end (Ended reads writes) = counts_line reads writes
+record_end (Summary reads writes) = counts_line reads writes
 record_end (Stopped status n) = []

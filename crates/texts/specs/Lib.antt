@@ -4,3 +4,4 @@ pub mod Wrote
 pub mod Writer
 pub mod OpenLine
 pub mod OpenRun
+pub mod Tally

@@ -14,6 +14,8 @@ use Rattle.texts.specs.declared.writer.Writer.{Writer}
 use Rattle.texts.specs.Wrote.{Told, Wrote, WrotePartly}
 use Rattle.texts.specs.declared.last.Last.{Last}
 use Rattle.texts.specs.Ends.{end_line, record_end}
+use Rattle.texts.specs.Tally.{no_tally, tally}
+use Rattle.texts.specs.declared.tally.Tally.{Tally}
 
 -- it has the same sinks; no count has fallen, and its own rose exactly where one of theirs did
 pub record IsOnward {T R : Type 0} (out_faults : T → ℕ) (rec_faults : R → ℕ) (first now : Writer T R) : Type 0 where
@@ -47,11 +49,12 @@ pub record Counts {T R : Type 0} (out_faults : T → ℕ) (rec_faults : R → �
 pub record Keeps {T R : Type 0} (so : Writer T R → Writer T R → List Item → List Step → Type 0) (old new : Writer T R) : Type 0 where
   pub each : (first : Writer T R) (is : List Item) (ss : List Step) → so first old is ss → so first new is ss
 
--- since the first, its sinks took the texts of these lists, but for the line and the run that are open
+-- since the first, its sinks took the texts of these lists, but for the line and the run that are open; and it has counted them
 pub record Stands {T R : Type 0} (out_taken : T → Told) (rec_taken : R → Told) (first now : Writer T R) (is : List Item) (ss : List Step) : Type 0 where
   pub out : Wrote (out_taken first.out.now) (out_taken now.out.now) (text_after now.line) (λ js. transcript (is ++ js))
   pub rec : Wrote (rec_taken first.rec.now) (rec_taken now.rec.now) (record_after (open_run now.run)) (λ ts. entries_text (ss ++ ts))
   pub count : run_count now.run ≤ length ss
+  pub tallied : first.tally ≡ no_tally → now.tally ≡ tally is ss
 
 -- since the first, each sink took a front of the text of its list
 pub record IsCutWithin {T R : Type 0} (out_taken : T → Told) (rec_taken : R → Told) (first now : Writer T R) (is : List Item) (ss : List Step) : Type 0 where
@@ -64,21 +67,22 @@ pub record KeepsWritten {T R : Type 0} (out_taken : T → Told) (rec_taken : R �
   pub rec : Stays (rec_taken old.rec.now) (rec_taken new.rec.now)
   pub line : new.line ≡ old.line
   pub run : new.run ≡ old.run
+  pub tally : new.tally ≡ old.tally
 
 -- since the first, its sinks took the texts of these lists, closed, with their last lines
-pub record IsFinished {T R : Type 0} (out_taken : T → Told) (rec_taken : R → Told) (last : Last) (first now : Writer T R) (is : List Item) (ss : List Step) : Type 0 where
-  pub out : (told : List ℕ) → out_taken first.out.now ≡ Some told → out_taken now.out.now ≡ Some (told ++ (transcript is ++ end_line last))
+pub record IsFinished {T R : Type 0} (out_taken : T → Told) (rec_taken : R → Told) (last : Last) (counts : Tally) (first now : Writer T R) (is : List Item) (ss : List Step) : Type 0 where
+  pub out : (told : List ℕ) → out_taken first.out.now ≡ Some told → out_taken now.out.now ≡ Some (told ++ (transcript is ++ end_line last counts))
   pub rec : (told : List ℕ) → rec_taken first.rec.now ≡ Some told → rec_taken now.rec.now ≡ Some (told ++ (entries_text ss ++ record_end last))
 
 -- since the first, each sink took a front of its closed text
-pub record IsCutAtEnd {T R : Type 0} (out_taken : T → Told) (rec_taken : R → Told) (last : Last) (first now : Writer T R) (is : List Item) (ss : List Step) : Type 0 where
-  pub out : WrotePartly (out_taken first.out.now) (out_taken now.out.now) (transcript is ++ end_line last)
+pub record IsCutAtEnd {T R : Type 0} (out_taken : T → Told) (rec_taken : R → Told) (last : Last) (counts : Tally) (first now : Writer T R) (is : List Item) (ss : List Step) : Type 0 where
+  pub out : WrotePartly (out_taken first.out.now) (out_taken now.out.now) (transcript is ++ end_line last counts)
   pub rec : WrotePartly (rec_taken first.rec.now) (rec_taken now.rec.now) (entries_text ss ++ record_end last)
 
 -- for each pair for which it stood it is finished now
 pub record Finishes {T R : Type 0} (out_taken : T → Told) (rec_taken : R → Told) (last : Last) (old new : Writer T R) : Type 0 where
-  pub each : (first : Writer T R) (is : List Item) (ss : List Step) → Stands out_taken rec_taken first old is ss → IsFinished out_taken rec_taken last first new is ss
+  pub each : (first : Writer T R) (is : List Item) (ss : List Step) → Stands out_taken rec_taken first old is ss → IsFinished out_taken rec_taken last old.tally first new is ss
 
 -- for each pair for which it stood it is cut within the closed texts now
 pub record FailsAtEnd {T R : Type 0} (out_taken : T → Told) (rec_taken : R → Told) (last : Last) (old new : Writer T R) : Type 0 where
-  pub each : (first : Writer T R) (is : List Item) (ss : List Step) → Stands out_taken rec_taken first old is ss → IsCutAtEnd out_taken rec_taken last first new is ss
+  pub each : (first : Writer T R) (is : List Item) (ss : List Step) → Stands out_taken rec_taken first old is ss → IsCutAtEnd out_taken rec_taken last old.tally first new is ss

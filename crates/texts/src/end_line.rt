@@ -1,21 +1,52 @@
 // The end of the transcript.
-ghost use Rattle.std.specs.Prelude.{◌≡◌, ◌≤◌, ◌++◌, length};
+ghost use Rattle.std.specs.Prelude.{◌≡◌, ◌≤◌, ◌+◌, ◌++◌, length, decimal};
+ghost use Rattle.script_texts.specs.Texts.{field};
 ghost use Rattle.texts.specs.Ends.{closing_line, end_line};
 ghost use Rattle.texts.specs.OpenLine.{line_end};
+ghost use Rattle.texts.specs.Tally.{tally_line};
 
 use crate::line::Line;
-use crate::{Last, Status};
+use crate::{Last, Status, Tally};
+use script_lang::digits::DECIMAL_DIGITS;
+
+/// How many bytes the line of the counts has at most: a letter, four counts behind their spaces, and the line feed.
+const SUMMARY_ROOM: usize = 86;
 
 /// The last line of the transcript, behind the line before, which is open where it is a terminal's of this
 /// number.
-pub fn end_line(before: Option<u8>, last: Last) -> Line
-    ensures { result ≡ line_end before ++ end_line last }
+pub fn end_line(before: Option<u8>, last: Last, tally: &Tally) -> Line
+    ensures { result ≡ line_end before ++ end_line last tally.now }
 {
     let mut line = Line::behind(before);
-    if let Last::Stopped(status, n) = last {
-        push_closing(&mut line, status, n);
+    match last {
+        Last::Done { .. } => {}
+        Last::Summary { .. } => push_tally(&mut line, tally),
+        Last::Stopped(status, n) => push_closing(&mut line, status, n),
     }
     line
+}
+
+// Puts the line of the counts behind a line.
+fn push_tally(line: &mut Line, tally: &Tally)
+    requires { length line.old ≤ 1 }
+    ensures { line.new ≡ line.old ++ tally_line tally.now }
+{
+    line.push(b"S ");
+    line.push_decimal(tally.events);
+    push_count(line, tally.units);
+    push_count(line, tally.idles);
+    push_count(line, tally.characters);
+    line.push(b"\n");
+}
+
+// Puts a count behind a line, behind a space.
+fn push_count(line: &mut Line, n: u64)
+    requires { length line.old ≤ SUMMARY_ROOM }
+    ensures bytes { line.new ≡ line.old ++ field (decimal n) }
+    ensures long { length line.new ≤ length line.old + 1 + DECIMAL_DIGITS }
+{
+    line.push(b" ");
+    line.push_decimal(n);
 }
 
 // Puts the line that tells how a run stopped behind a line.

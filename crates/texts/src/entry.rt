@@ -27,8 +27,10 @@ pub fn record_end(run: Option<Turns>, last: Last) -> Line
     ensures { result ≡ run_end (open_run run) ++ record_end last }
 {
     let mut line = run_line(run);
-    if let Last::Done { reads, writes } = last {
-        push_counts(&mut line, reads, writes);
+    match last {
+        Last::Done { reads, writes } => push_counts(&mut line, reads, writes),
+        Last::Summary { reads, writes } => push_counts(&mut line, reads, writes),
+        Last::Stopped(_, _) => {}
     }
     line
 }

@@ -5,7 +5,7 @@ ghost use Rattle.texts.specs.Ends.{status_number};
 /// How a run ended, in the order of the exit statuses, 0 to 7.
 #[derive(Clone, Copy, PartialEq, Eq)]
 pub enum Status {
-    /// The script was run to its end.
+    /// The script was run to its end, or the generated one was.
     Done,
     /// The words of the command were wrong.
     Usage,
@@ -41,10 +41,13 @@ impl Status {
     }
 }
 
-/// What the last lines tell: how often the drum was read and written in a run that is done, or how a run
-/// stopped and at which line of the script, counted from 1. Only `Script` shows the line.
+/// What the last lines tell.
 #[derive(Clone, Copy, PartialEq, Eq)]
 pub enum Last {
+    /// The run is done: how often it read and wrote the drum.
     Done { reads: u64, writes: u64 },
+    /// The same, and behind the transcript how many entries the run has, and how many characters it showed.
+    Summary { reads: u64, writes: u64 },
+    /// How the run stopped, and at which line of the script, counted from 1. Only `Script` shows the line.
     Stopped(Status, u64),
 }

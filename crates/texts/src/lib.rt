@@ -10,8 +10,10 @@ mod last;
 pub mod laws;
 mod line;
 mod put;
+mod tally;
 mod turns;
 mod writer;
 
 pub use last::{Last, Status};
+pub use tally::Tally;
 pub use writer::Writer;

@@ -2,32 +2,36 @@
 ghost use Rattle.std.specs.Prelude.{◌≡◌, ◌≤◌, None, Some, [], ◌∷◌, replicate, OnOk, OnErr};
 ghost use Rattle.outside.specs.Faults.{CountsUp, Rose};
 ghost use Rattle.script_texts.specs.Taker.{GoesOn, IsCut, StaysOnward};
+ghost use Rattle.texts.specs.Tally.{no_tally};
 ghost use Rattle.texts.specs.Turns.{step_of, open_run};
 
-use crate::Last;
 use crate::end_line::end_line;
 use crate::entry::{entry_line, record_end};
 use crate::item_line::{item_line, open_line};
 use crate::put::put;
 use crate::turns::{RunEntry, Turns, is_same_turn, run_line};
+use crate::{Last, Tally};
 use outside::{Failed, Sink};
 use script_texts::{Event, Item, Step, Taker};
 
 /// Writes the transcript of the items to one sink and the record of the steps to another, each as it comes.
 /// It holds back the line feed behind the characters of one terminal, and the line of a run of equal turns,
-/// until what comes next shows that they are complete. Each line is given to its sink whole.
+/// until what comes next shows that they are complete. Each line is given to its sink whole. What it takes is
+/// counted.
 #[derive(Drop)]
 pub struct Writer<'a, T: Sink, R: Sink> {
     out: &'a mut T,
     rec: &'a mut R,
     line: Option<u8>,
     run: Option<Turns>,
+    tally: Tally,
     faults: u64,
 }
 
 impl<'a, T: Sink, R: Sink> Writer<'a, T, R> {
     ghost use Rattle.script_texts.specs.declared.event.Step.TheVariants.{Outer as AnOuter};
     ghost use Rattle.texts.specs.declared.last.Last.{Last as ALast};
+    ghost use Rattle.texts.specs.declared.tally.Tally.{Tally as ATally};
     ghost use Rattle.script_texts.specs.Limits.{FitsEvent};
     ghost use Rattle.texts.specs.OpenRun.{step_text, step_run, run_end};
     ghost use Rattle.texts.specs.Writer.{IsOnward, IsHandedOn, HandsOn, Counts, Stands, IsCutWithin, IsCutAtEnd, Finishes, FailsAtEnd, Keeps, KeepsWritten};
@@ -40,6 +44,7 @@ impl<'a, T: Sink, R: Sink> Writer<'a, T, R> {
         ensures rec { result.rec.now ≡ rec.old }
         ensures line { result.line ≡ None }
         ensures run { result.run ≡ None }
+        ensures tally { result.tally ≡ no_tally }
         ensures faults { result.faults ≡ 0 }
     {
         Writer {
@@ -47,6 +52,7 @@ impl<'a, T: Sink, R: Sink> Writer<'a, T, R> {
             rec,
             line: None,
             run: None,
+            tally: Tally::NONE,
             faults: 0,
         }
     }
@@ -63,7 +69,7 @@ impl<'a, T: Sink, R: Sink> Writer<'a, T, R> {
         ensures ok { OnOk result (Finishes T.taken R.taken last self.old self.new) }
         ensures err { OnErr result (FailsAtEnd T.taken R.taken last self.old self.new) }
     {
-        let out_end = end_line(self.line, last);
+        let out_end = end_line(self.line, last, &self.tally);
         counted(&mut self.faults, put(&mut *self.out, &out_end))?;
         let rec_end = record_end(self.run, last);
         counted(&mut self.faults, put(&mut *self.rec, &rec_end))?;
@@ -78,7 +84,7 @@ impl<'a, T: Sink, R: Sink> Writer<'a, T, R> {
         ensures tried { HandsOn T.handed_on R.handed_on T.fault_count R.fault_count self.old self.new }
         ensures stands { Keeps (Stands T.taken R.taken) self.old self.new }
         ensures cut { Keeps (IsCutWithin T.taken R.taken) self.old self.new }
-        ensures cut_at_end { (last : ALast) → Keeps (IsCutAtEnd T.taken R.taken last) self.old self.new }
+        ensures cut_at_end { (last : ALast) (counts : ATally) → Keeps (IsCutAtEnd T.taken R.taken last counts) self.old self.new }
     {
         let _ = self.flush_both();
     }
@@ -107,6 +113,7 @@ impl<'a, T: Sink, R: Sink> Writer<'a, T, R> {
             None => self.begin_run(turn, n),
             Some(run) => {
                 if is_same_turn(run.turn, turn) {
+                    self.tally.count_turns(turn, n);
                     self.run = Some(Turns {
                         turn: run.turn,
                         count: run.count.saturating_add(n),
@@ -131,6 +138,7 @@ impl<'a, T: Sink, R: Sink> Writer<'a, T, R> {
     {
         let line = run_line(self.run);
         counted(&mut self.faults, put(&mut *self.rec, &line))?;
+        self.tally.count_turns(turn, n);
         self.run = Some(Turns { turn, count: n });
         Ok(())
     }
@@ -145,6 +153,7 @@ impl<'a, T: Sink, R: Sink> Writer<'a, T, R> {
     {
         let line = entry_line(self.run, &e);
         counted(&mut self.faults, put(&mut *self.rec, &line))?;
+        self.tally.count_event();
         self.run = None;
         Ok(())
     }
@@ -184,6 +193,7 @@ impl<'a, T: Sink, R: Sink> Taker for Writer<'a, T, R> {
     fn item(&mut self, i: Item) -> Result<(), Failed> {
         let line = item_line(self.line, &i);
         counted(&mut self.faults, put(&mut *self.out, &line))?;
+        self.tally.count_item(&i);
         self.line = open_line(&i);
         Ok(())
     }

@@ -237,7 +237,7 @@ const WAITS: Interrupted = Interrupted {
      RUN 10\n\
      FORKS 0\n\
      TYPE 0 \\001\n\
-     RUN 10\n\
+     RUN 210\n\
      EXAMINE 0 1 400\n\
      FORKS 0\n\
      EXAMINE 0 1 10\n\
@@ -333,20 +333,13 @@ const WAITS: Interrupted = Interrupted {
      I 1\n\
      EXAMINE 0 1 400\n\
      TYPE 0 d\n\
-     U 0 1 3\n\
-     U 0 2 1\n\
-     U 0 1 1\n\
-     U 0 2 5\n\
+     U 0 1 4\n\
+     U 0 2 6\n\
      FORKS 0\n\
      TYPE 0 \\001\n\
-     U 0 1 1\n\
-     U 0 2 1\n\
-     U 0 1 1\n\
-     U 0 2 1\n\
-     U 0 1 1\n\
-     U 0 2 1\n\
-     U 0 1 1\n\
-     U 0 2 3\n\
+     U 0 2 194\n\
+     U 0 1 4\n\
+     U 0 2 12\n\
      EXAMINE 0 1 400\n\
      FORKS 0\n\
      EXAMINE 0 1 10\n\

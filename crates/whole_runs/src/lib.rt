@@ -4,6 +4,8 @@
 #![tactic(auto)]
 
 #[cfg(test)]
+mod clock;
+#[cfg(test)]
 mod cuts;
 #[cfg(test)]
 mod failures;

@@ -106,8 +106,7 @@ fn a_copy_through_followers_leaves_the_file(rt: HostRuntime) {
           P <T>A.B 0\n\
           W 000 000000000003\n",
         b"START 0 100\n\
-          U 0 1 10\nU 0 2 1\nU 0 1 1\nU 0 2 1\nU 0 3 1\nU 0 2 1\nU 0 3 2\nU 0 1 1\nU 0 2 2\n\
-          U 0 1 2\nI 18\n\
+          U 0 1 11\nU 0 2 3\nU 0 3 3\nU 0 1 1\nU 0 2 2\nU 0 1 2\nI 18\n\
           FORKS 0\n\
           EXAMINE 0 1 5000\n\
           EXAMINE 0 2 5000\n\
@@ -195,8 +194,7 @@ fn a_private_copy_is_the_writers_alone(rt: HostRuntime) {
           P <T>A.B 0\n\
           W 000 000000000003\n",
         b"START 0 100\n\
-          U 0 1 10\nU 0 2 1\nU 0 1 1\nU 0 2 1\nU 0 3 1\nU 0 2 1\nU 0 3 9\nU 0 1 1\nU 0 2 3\n\
-          U 0 1 2\nI 30\n\
+          U 0 1 11\nU 0 2 3\nU 0 3 10\nU 0 1 1\nU 0 2 3\nU 0 1 2\nI 30\n\
           FORKS 0\n\
           EXAMINE 0 3 2\n\
           EXAMINE 0 3 4\n\
@@ -292,13 +290,11 @@ fn a_follower_reads_what_was_mapped_until_its_source_is_killed(rt: HostRuntime) 
           P <T>A.B 1\n\
           W 000 000000000004\n",
         b"START 0 100\n\
-          U 0 1 2\nU 0 2 1\nU 0 1 1\nU 0 2 1\nU 0 1 1\nU 0 2 1\nU 0 3 1\nU 0 1 1\nU 0 2 1\n\
-          U 0 3 1\nU 0 2 1\nU 0 3 1\nU 0 2 1\nU 0 3 1\nU 0 2 1\nU 0 3 1\nU 0 2 1\nU 0 3 1\n\
-          U 0 2 1\nU 0 3 1\nU 0 2 1\nU 0 3 1\nU 0 2 1\nU 0 3 1\nU 0 1 1\nU 0 3 2\nU 0 1 2\nI 30\n\
+          U 0 1 5\nU 0 2 11\nU 0 3 7\nU 0 1 2\nI 35\n\
           FORKS 0\n\
           EXAMINE 0 3 4\n\
           START 0 110\n\
-          U 0 1 5\nU 0 3 1\nU 0 1 2\nI 8\n\
+          U 0 1 6\nU 0 3 1\nU 0 1 2\nI 7\n\
           FORKS 0\n\
           EXAMINE 0 3 5000\n\
           PAGE <T>A.B 1\n\
@@ -358,11 +354,7 @@ fn two_jobs_write_one_file(rt: HostRuntime) {
           X 1 1 005000 000000000012\n",
         b"START 0 100\n\
           START 1 100\n\
-          U 0 1 1\nU 1 1 1\nU 0 1 1\nU 1 1 1\nU 0 1 1\nU 1 1 1\nU 0 1 1\nU 1 1 1\nU 0 1 1\n\
-          U 1 1 1\nU 0 1 1\nU 1 1 1\nU 0 1 1\nU 1 1 1\nU 0 1 1\nU 1 1 1\nU 0 1 1\nU 1 1 1\n\
-          U 0 1 1\nU 1 1 1\nU 0 1 1\nU 1 1 1\nU 0 1 1\nU 1 1 1\nU 0 1 1\nU 1 1 1\nU 0 1 1\n\
-          U 1 1 1\nU 0 1 1\nU 1 1 1\nU 0 1 1\nU 1 1 1\nU 0 1 1\nU 1 1 1\nU 0 1 1\nU 1 1 1\n\
-          U 0 1 1\nU 1 1 1\nU 0 1 1\nU 1 1 1\nI 20\n\
+          U 0 1 20\nU 1 1 20\nI 20\n\
           PAGE <T>A.B 0\n\
           EXAMINE 0 1 5000\n\
           EXAMINE 1 1 5000\n\

@@ -49,26 +49,39 @@ fn a_long_script_is_its_own_record(rt: HostRuntime) {
     );
 }
 
-// Three terminals, of which one is started between two runs, behind the one that ran last.
+// Three terminals, of which one is started between two runs. Who loops is passed over after 200 units, with one member of the
+// balance set as with 63.
 #[test]
 fn forks_run_by_turns(rt: HostRuntime) {
-    assert_runs(
-        &rt,
-        // JRST 100, at terminals 0 and 15; at terminal 2 the word 0 is fetched
-        b"LOGIN 2 B\nLOGIN 15 C\nLOGIN 0 A\n\
-          POKE 0 100 254000000100\n\
-          POKE 15 100 254000000100\n\
-          START 0 100\nSTART 15 100\nRUN 3\n\
-          START 2 100\nAUTO OFF\nRUN 4\n",
-        b"T2 @\nT15 @\nT0 @\n\
-          T2 \\015\\012\nT2 ?FORCED 15\\015\\012\nT2 @\n",
-        b"LOGIN 2 B\nLOGIN 15 C\nLOGIN 0 A\n\
-          POKE 0 100 254000000100\n\
-          POKE 15 100 254000000100\n\
-          START 0 100\nSTART 15 100\nU 0 1 1\nU 15 1 1\nU 0 1 1\n\
-          START 2 100\nU 2 1 1\nU 15 1 1\nU 0 1 1\nU 15 1 1\n\
-          E 0 0\n",
-    );
+    for words in [["run"].as_slice(), &["run", "--frames", "8192"]] {
+        let ran = made(
+            &rt,
+            run_words(
+                rt.alloc(),
+                words,
+                // JRST 100, at terminals 0 and 15; at terminal 2 the word 0 is fetched
+                b"LOGIN 2 B\nLOGIN 15 C\nLOGIN 0 A\n\
+                  POKE 0 100 254000000100\n\
+                  POKE 15 100 254000000100\n\
+                  START 0 100\nSTART 15 100\nRUN 500\n\
+                  START 2 100\nAUTO OFF\nRUN 700\n",
+                PAGES,
+            ),
+        );
+        assert_ended(
+            &rt,
+            &ran,
+            Status::Done,
+            b"T2 @\nT15 @\nT0 @\n\
+              T2 \\015\\012\nT2 ?FORCED 15\\015\\012\nT2 @\n",
+            b"LOGIN 2 B\nLOGIN 15 C\nLOGIN 0 A\n\
+              POKE 0 100 254000000100\n\
+              POKE 15 100 254000000100\n\
+              START 0 100\nSTART 15 100\nU 0 1 200\nU 15 1 200\nU 0 1 100\n\
+              START 2 100\nU 0 1 100\nU 15 1 200\nU 2 1 1\nU 0 1 200\nU 15 1 199\n\
+              E 0 0\n",
+        );
+    }
 }
 
 // A fork makes an inferior and halts. The inferior runs on: it counts down, prints, and halts.
@@ -129,7 +142,7 @@ fn an_inferior_runs_on(rt: HostRuntime) {
               POKE 0 124 104000000170\n\
               POKE 0 200 420000000120\n\
               START 0 100\n\
-              U 0 1 2\nU 0 2 1\nU 0 1 1\nU 0 2 6\nI 10\n\
+              U 0 1 3\nU 0 2 7\nI 10\n\
               FORKS 0\n\
               START 0 110\n\
               U 0 1 3\nI 17\n\

@@ -10,22 +10,21 @@ ghost use Rattle.monitor_core.specs.Machines.{Fits, plain, limit, done, auto, is
 
 use crate::machine::{Config, Machine};
 use crate::system::System;
-use machine_names::{MOST_FORKS, TERMINALS, Tty};
+use fork_lists::ForkLists;
 use outside::Memory;
 use page_contracts::Pages;
 use std::alloc::Global;
 
 impl<P: Pages + Drop> Machine<P> {
-    /// A machine over pages that hold no fork and no file, in the opening state. The size of the
-    /// balance set isn't looked at before there is one. Memory, where none was found.
-    pub fn boot(alloc: Global, _config: Config, pages: P) -> Result<Machine<P>, Memory>
+    /// A machine over pages that hold no fork and no file, in the opening state. Memory, where none was found.
+    pub fn boot(alloc: Global, config: Config, pages: P) -> Result<Machine<P>, Memory>
         requires flat { P.means.flat ≡ true }
         requires roomy { MOST_FORKS ≤ P.means.most_forks }
         requires forks { (t : ATty) → P.means.forks_of pages t ≡ 0 }
         requires serials { (t : ATty) → P.means.serial pages t ≤ 1 }
         requires opening { (d : DrumWords) → P.means.fits pages d → P.means.plain pages d ≡ opening_pages nat_cmp (P.means.most pages) }
-        requires low { 1 ≤ _config.set }
-        requires high { _config.set ≤ 63 }
+        requires low { 1 ≤ config.set }
+        requires high { config.set ≤ 63 }
         ensures state { IfOk result (λ m. (d : DrumWords) → P.means.fits pages d → Fits m d × (plain m d ≡ opening (P.means.most pages))) }
         ensures limit { IfOk result (λ m. limit m ≡ P.means.most pages) }
         ensures done { IfOk result (λ m. done m ≡ 0) }
@@ -33,11 +32,10 @@ impl<P: Pages + Drop> Machine<P> {
         ensures auto { IfOk result (λ m. auto m ≡ true) }
     {
         let system = System::boot(alloc, pages)?;
+        let lists = ForkLists::boot(alloc, config.set)?;
         Ok(Machine {
             system,
-            // So that slot 1 of terminal 0 comes first.
-            terminal: Tty(TERMINALS - 1),
-            slot: MOST_FORKS,
+            lists,
             done: 0,
             live: true,
             auto: true,

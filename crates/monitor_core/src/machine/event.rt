@@ -2,7 +2,7 @@
 ghost use Rattle.std.specs.Prelude.{◌≡◌, ◌<◌, ◌^◌, ◌≤◌, ◌↔◌, true};
 ghost use Rattle.outside.specs.Faults.{Rose};
 ghost use Rattle.script_texts.specs.Taker.{StaysOnward};
-ghost use Rattle.script_texts.specs.Limits.{FitsEvent, IsBuilt};
+ghost use Rattle.script_texts.specs.Limits.{FitsEvent};
 ghost use Rattle.monitor_core.specs.Outcome.{DrumStays, Went, Stopped, CutOff};
 ghost use Rattle.script_texts.specs.Follows.{auto_after};
 ghost use Rattle.monitor_core.specs.Machines.{Fits, plain, limit, done, auto, is_live as live_of};
@@ -18,7 +18,6 @@ impl<P: Pages> Machine<P> {
     fn act<T: Taker>(&mut self, e: Event, out: &mut T) -> Result<(), Failed>
         requires few { done self.old < 2 ^ 50 }
         requires fits { FitsEvent e }
-        requires built { IsBuilt e }
         ensures { Acted T.fault_count T.onward T.stands T.cut self.old self.new out.old out.new result e }
     {
         match e {
@@ -44,7 +43,6 @@ impl<P: Pages> Machine<P> {
         requires drum { limit self.old ≤ D.size drum.old }
         requires few { done self.old < 2 ^ 50 }
         requires fits { FitsEvent e }
-        requires built { IsBuilt e }
         ensures later { T.fault_count out.old ≤ T.fault_count out.new }
         ensures cause { result ≡ Ended.TakerFault → Rose (T.fault_count out.old) (T.fault_count out.new) }
         ensures onward { StaysOnward T.onward out.old out.new }

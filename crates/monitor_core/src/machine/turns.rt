@@ -4,6 +4,8 @@ ghost use Rattle.script_texts.specs.declared.event.Event.{Event as AnEvent};
 ghost use Rattle.script_texts.specs.declared.event.Step.{Step as AStep};
 ghost use Rattle.machine_names.specs.declared.names.ForkName.{ForkName as AForkName};
 ghost use Rattle.plain_model.specs.Forks.{IsRunnable};
+ghost use Rattle.job_sched.specs.Units.{IsRow};
+ghost use Rattle.monitor_core.specs.Following.{IsHead};
 ghost use Rattle.monitor_core.specs.Runners.{IsRunner};
 ghost use Rattle.monitor_core.specs.Effects.{IsAtOnce};
 ghost use Rattle.monitor_core.specs.Systems.{CanDo};
@@ -11,6 +13,7 @@ ghost use Rattle.monitor_core.specs.Machines.{done};
 ghost use Rattle.monitor_core.specs.Acts.{Acted, TookTurns};
 
 use crate::machine::Machine;
+use crate::machine::following::{end_row, follow_event};
 use crate::reply::Reply;
 use crate::runner::Runner;
 use outside::Failed;
@@ -25,7 +28,9 @@ impl<P: Pages> Machine<P> {
         requires few { done self.old < 2 ^ 52 }
         ensures { Acted T.fault_count T.onward T.stands T.cut self.old self.new out.old out.new result e }
     {
+        self.system.trees();
         let reply = self.system.apply(&e);
+        follow_event(&mut self.lists, self.system.forks(), &e);
         self.done += 1;
         self.system.give_all(&Step::Outer(e), 1, reply, out)
     }
@@ -34,22 +39,28 @@ impl<P: Pages> Machine<P> {
     #[inline]
     fn units<T: Taker>(&mut self, who: Runner, most: u32, out: &mut T) -> Result<u32, Failed>
         requires can { IsRunner self.old.system.tree who }
+        requires head { IsHead self.old.lists.sched who.fork }
+        requires row { IsRow most self.old.lists.sched }
         requires some { 0 < most }
         requires few { done self.old < 2 ^ 52 }
         ensures { TookTurns T.fault_count T.onward T.stands T.cut self.old self.new out.old out.new result most }
     {
-        let units = match self.system.units(who, most) {
-            Ok(units) => units,
+        let done = match self.system.units(who, most) {
+            Ok(done) => done,
             // Pages in memory alone need nothing first.
             Err(_) => unreachable!(),
         };
-        self.terminal = who.fork.tty;
-        self.slot = who.slot;
-        self.done += u64::from(units.count);
-        let reply = Reply::Prints(who.fork.tty, units.shown);
+        end_row(
+            &mut self.lists,
+            self.system.forks(),
+            who,
+            done.reach,
+            done.count,
+        );
+        self.done += u64::from(done.count);
         self.system
-            .give_all(&Step::Unit(who.fork), units.count, reply, out)?;
-        Ok(units.count)
+            .give_all(&Step::Unit(who.fork), done.count, done.reply, out)?;
+        Ok(done.count)
     }
 
     // Idle entries, where no fork can run.
@@ -65,23 +76,18 @@ impl<P: Pages> Machine<P> {
         Ok(count)
     }
 
-    // The next turns of a run, so many at most: units of a fork that can run, one where another can run too;
-    // or as many idle entries, where none can. Says how many.
+    // The next turns of a run, so many at most: units of the fork whose turn is next, to the end of its quantum where another can run too; or as
+    // many idle entries, where none can. Says how many.
     #[inline]
     fn turns<T: Taker>(&mut self, left: u32, out: &mut T) -> Result<u32, Failed>
         requires some { 1 ≤ left }
         requires few { done self.old < 2 ^ 52 }
         ensures { TookTurns T.fault_count T.onward T.stands T.cut self.old self.new out.old out.new result left }
     {
-        match self.system.next(self.terminal, self.slot) {
-            Some(who) => {
-                // Who comes next behind itself is alone, and need not be looked for again.
-                let again = who.slot == self.slot && who.fork.tty.0 == self.terminal.0;
-                let most = if again || self.system.is_alone(who) {
-                    left
-                } else {
-                    1
-                };
+        match self.lists.choose() {
+            Some(fork) => {
+                let who = self.system.runner(fork);
+                let most = self.lists.most_in_row(left);
                 self.units(who, most, out)
             }
             None => self.idle(left, out),

@@ -7,6 +7,7 @@ ghost use Rattle.monitor_core.specs.Machines.{done};
 ghost use Rattle.monitor_core.specs.Acts.{Acted, TookText};
 
 use crate::machine::Machine;
+use crate::machine::following::follow_typed;
 use crate::reply::Reply;
 use machine_names::{Tty, TypedText};
 use outside::Failed;
@@ -21,7 +22,9 @@ impl<P: Pages> Machine<P> {
         ensures { TookText T.fault_count T.onward T.stands T.cut self.old self.new out.old out.new result t text.now }
     {
         for code in text {
+            self.system.trees();
             let shown = self.system.type_one(t, *code);
+            follow_typed(&mut self.lists, self.system.forks(), t, &shown);
             self.system.give_echo(t, shown, out)?;
         }
         Ok(())

@@ -20,7 +20,8 @@ impl<P: Pages> System<P> {
     /// FILE: an empty file is made. Exists, where there is one of this name; FilesFull, where there are 512.
     pub(crate) fn make_file(&mut self, name: &FileName) -> Result<Reply, Refusal>
         requires name { IsFileName name.now }
-        ensures { Did self.old self.new (AStep.Outer (AnEvent.File name.now)) (reply_of result) }
+        ensures did { Did self.old self.new (AStep.Outer (AnEvent.File name.now)) (reply_of result) }
+        ensures tree { self.new.tree ≡ self.old.tree }
     {
         if self.files.find(name).is_some() {
             return Err(Refusal::Exists(*name));
@@ -46,7 +47,8 @@ impl<P: Pages> System<P> {
         requires row { FitsRow offset row.now }
         requires flat { P.means.flat ≡ true }
         requires few { IsWithin self.old (2 ^ 52) }
-        ensures { Did self.old self.new (AStep.Outer (AnEvent.Words name.now page offset row.now)) (reply_of result) }
+        ensures did { Did self.old self.new (AStep.Outer (AnEvent.Words name.now page offset row.now)) (reply_of result) }
+        ensures tree { self.new.tree ≡ self.old.tree }
     {
         let Some(file) = self.files.find(name) else {
             return Err(Refusal::NoFile(*name));
@@ -73,7 +75,8 @@ impl<P: Pages> System<P> {
     pub(crate) fn show_page(&mut self, name: &FileName, page: u16) -> Result<Reply, Refusal>
         requires name { IsFileName name.now }
         requires page { page < SPACE_PAGES }
-        ensures { Did self.old self.new (AStep.Outer (AnEvent.Page name.now page)) (reply_of result) }
+        ensures did { Did self.old self.new (AStep.Outer (AnEvent.Page name.now page)) (reply_of result) }
+        ensures tree { self.new.tree ≡ self.old.tree }
     {
         let Some(file) = self.files.find(name) else {
             return Err(Refusal::NoFile(*name));

@@ -1,6 +1,7 @@
 // The events of a terminal's job.
 ghost use Rattle.std.specs.Prelude.{◌≡◌, ◌^◌, true};
 ghost use Rattle.machine_names.specs.Bounds.{IsTerminal};
+ghost use Rattle.plain_model.specs.Forks.{OthersStay};
 ghost use Rattle.script_texts.specs.declared.event.Step.{Step as AStep};
 ghost use Rattle.monitor_core.specs.JobEvents.{event_at, FitsJobEvent};
 ghost use Rattle.monitor_core.specs.Replies.{reply_of};
@@ -22,7 +23,8 @@ impl<P: Pages> System<P> {
         requires fits { FitsJobEvent e }
         requires flat { P.means.flat ≡ true }
         requires few { IsWithin self.old (2 ^ 52) }
-        ensures { Did self.old self.new (AStep.Outer (event_at t e)) (reply_of result) }
+        ensures did { Did self.old self.new (AStep.Outer (event_at t e)) (reply_of result) }
+        ensures others { OthersStay t self.old.tree.forks self.new.tree.forks }
     {
         self.tree.are_trees();
         let Some(job) = &mut self.jobs[t.0 as usize] else {

@@ -1,5 +1,5 @@
 // A system with nothing in it.
-ghost use Rattle.std.specs.Prelude.{◌≡◌, ◌≤◌, IfOk};
+ghost use Rattle.std.specs.Prelude.{◌≡◌, ◌≤◌, IfOk, false};
 ghost use Rattle.machine_names.specs.declared.names.TheConstants.{MOST_FORKS};
 ghost use Rattle.machine_names.specs.declared.names.Tty.{Tty as ATty};
 ghost use Rattle.std.specs.FinMap as map;
@@ -8,15 +8,16 @@ ghost use Rattle.fork_tree.specs.Trees.{no_forks};
 ghost use Rattle.monitor_core.specs.Jobs.{no_jobs};
 
 use crate::job::empty_jobs;
+use crate::panel::Panel;
 use crate::system::System;
 use crate::typing::empty_typings;
 use file_tables::FileTables;
 use fork_tree::Tree;
-use ka10_unit::Taken;
 use machine_names::TERMINALS;
 use outside::Memory;
 use page_contracts::Pages;
 use std::alloc::Global;
+use text_pointers::Scratch;
 
 impl<P: Pages + Drop> System<P> {
     /// No job, over pages without a fork. Memory, where none was found.
@@ -28,7 +29,7 @@ impl<P: Pages + Drop> System<P> {
         ensures jfns { IfOk result (λ m. open_of m.files ≡ no_jfns) }
         ensures tree { IfOk result (λ m. m.tree ≡ no_forks) }
         ensures files { IfOk result (λ m. files_of m.files ≡ map.empty) }
-        ensures clock { IfOk result (λ m. m.clock ≡ 0) }
+        ensures panel { IfOk result (λ m. m.panel ≡ record { clock = 0; trace = false }) }
     {
         let jobs = empty_jobs(alloc)?;
         let typed = empty_typings(alloc)?;
@@ -40,8 +41,8 @@ impl<P: Pages + Drop> System<P> {
             files,
             jobs,
             typed,
-            taken: Taken::new(),
-            clock: 0,
+            scratch: Scratch::new(),
+            panel: Panel::FIRST,
         })
     }
 }

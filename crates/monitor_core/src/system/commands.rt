@@ -1,6 +1,7 @@
 // The commands of a terminal's job to the monitor.
 ghost use Rattle.std.specs.Prelude.{◌≡◌, [], true};
 ghost use Rattle.machine_names.specs.Bounds.{IsTerminal};
+ghost use Rattle.plain_model.specs.Forks.{OthersStay};
 ghost use Rattle.plain_model.specs.Commands.{commanded, delete_file as delete_file_of, go_on as go_on_of, logged_out, run_program as run_program_of, start_again as start_again_of};
 ghost use Rattle.monitor_core.specs.Echoes.{told_items};
 ghost use Rattle.monitor_core.specs.Effects.{Has, HasJobAt, job_in};
@@ -22,7 +23,8 @@ impl<P: Pages> System<P> {
         requires terminal { IsTerminal t }
         requires job { HasJobAt self.old t job }
         requires flat { P.means.flat ≡ true }
-        ensures { Has self.old self.new (λ s. run_program_of s t (job_in self.old t job) name.now) (told_items t result) }
+        ensures has { Has self.old self.new (λ s. run_program_of s t (job_in self.old t job) name.now) (told_items t result) }
+        ensures others { OthersStay t self.old.tree.forks self.new.tree.forks }
     {
         let Some(file) = self.files.find(name) else {
             return Told::Refused(Complaint::NoFile);
@@ -48,7 +50,8 @@ impl<P: Pages> System<P> {
     fn start_again(&mut self, t: Tty, job: Job) -> Told
         requires terminal { IsTerminal t }
         requires job { HasJobAt self.old t job }
-        ensures { Has self.old self.new (λ s. start_again_of s t (job_in self.old t job)) (told_items t result) }
+        ensures has { Has self.old self.new (λ s. start_again_of s t (job_in self.old t job)) (told_items t result) }
+        ensures others { OthersStay t self.old.tree.forks self.new.tree.forks }
     {
         let Some(word) = job.start else {
             return Told::Refused(Complaint::NoProgram);
@@ -64,7 +67,8 @@ impl<P: Pages> System<P> {
     fn go_on(&mut self, t: Tty, job: Job) -> Told
         requires terminal { IsTerminal t }
         requires job { HasJobAt self.old t job }
-        ensures { Has self.old self.new (λ s. go_on_of s t (job_in self.old t job)) (told_items t result) }
+        ensures has { Has self.old self.new (λ s. go_on_of s t (job_in self.old t job)) (told_items t result) }
+        ensures others { OthersStay t self.old.tree.forks self.new.tree.forks }
     {
         self.tree.are_trees();
         if !go_on(job.top, &mut self.tree) {
@@ -77,7 +81,8 @@ impl<P: Pages> System<P> {
 
     // DELETE: a file is removed.
     fn delete_file(&mut self, t: Tty, name: &FileName) -> Told
-        ensures { Has self.old self.new (λ s. delete_file_of s t name.now) (told_items t result) }
+        ensures has { Has self.old self.new (λ s. delete_file_of s t name.now) (told_items t result) }
+        ensures others { OthersStay t self.old.tree.forks self.new.tree.forks }
     {
         let Some(file) = self.files.find(name) else {
             return Told::Refused(Complaint::NoFile);
@@ -93,7 +98,8 @@ impl<P: Pages> System<P> {
         requires terminal { IsTerminal t }
         requires job { HasJobAt self.old t job }
         requires flat { P.means.flat ≡ true }
-        ensures { Has self.old self.new (λ s. record { state = logged_out s t (job_in self.old t job); items = [] }) (told_items t result) }
+        ensures has { Has self.old self.new (λ s. record { state = logged_out s t (job_in self.old t job); items = [] }) (told_items t result) }
+        ensures others { OthersStay t self.old.tree.forks self.new.tree.forks }
     {
         self.tree.are_trees();
         log_out(job.top, &mut self.tree, &mut self.pages);
@@ -108,7 +114,8 @@ impl<P: Pages> System<P> {
         requires terminal { IsTerminal t }
         requires job { HasJobAt self.old t job }
         requires flat { P.means.flat ≡ true }
-        ensures { Has self.old self.new (λ s. commanded s t (job_in self.old t job) command.now) (told_items t result) }
+        ensures has { Has self.old self.new (λ s. commanded s t (job_in self.old t job) command.now) (told_items t result) }
+        ensures others { OthersStay t self.old.tree.forks self.new.tree.forks }
     {
         match command {
             Command::Blank => Told::Prompt,

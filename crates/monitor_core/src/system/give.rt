@@ -11,7 +11,7 @@ ghost use Rattle.monitor_core.specs.Replies.{lines_of, page_items, reply_items, 
 ghost use Rattle.monitor_core.specs.Systems.{FitsPages, state_of};
 
 use crate::forks::line;
-use crate::giving::give_shown;
+use crate::giving::give_ran;
 use crate::page_shown::give_words;
 use crate::reply::Reply;
 use crate::system::System;
@@ -84,7 +84,7 @@ impl<P: Pages> System<P> {
         match reply {
             Reply::Nothing => Ok(()),
             Reply::One(item) => out.item(item),
-            Reply::Prints(t, shown) => give_shown(out, t, shown),
+            Reply::Ran(fork, line, shown) => give_ran(out, fork, line, shown),
             Reply::Forks(t) => self.give_forks(t, out),
             Reply::Page(name, page) => self.give_page(&name, page, out),
         }

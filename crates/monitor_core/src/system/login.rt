@@ -1,6 +1,7 @@
 // LOGIN: a job is made.
 ghost use Rattle.std.specs.Prelude.{◌≡◌, ◌<◌, IfErr, IfOk, IsOk, None, Ok, true};
 ghost use Rattle.machine_names.specs.Bounds.{IsTerminal};
+ghost use Rattle.plain_model.specs.Forks.{OthersStay};
 ghost use Rattle.script_texts.specs.declared.event.Event.{Event as AnEvent};
 ghost use Rattle.script_texts.specs.declared.event.Step.{Step as AStep};
 ghost use Rattle.fork_tree.specs.Making.{room_for};
@@ -25,7 +26,8 @@ impl<P: Pages> System<P> {
         requires unused { room_for self.old.tree t ≡ Ok tt }
         requires room { P.means.count self.old.pages < P.means.most self.old.pages }
         requires frame { 0 < (P.means.scene self.old.pages).free_frames }
-        ensures { Did self.old self.new (AStep.Outer (AnEvent.Login t user)) result }
+        ensures did { Did self.old self.new (AStep.Outer (AnEvent.Login t user)) result }
+        ensures others { OthersStay t self.old.tree.forks self.new.tree.forks }
     {
         self.tree.are_trees();
         match self.tree.make(t, None) {
@@ -48,6 +50,7 @@ impl<P: Pages> System<P> {
         ensures did { IfOk result (λ done. Did self.old self.new (AStep.Outer (AnEvent.Login t user)) (reply_of done)) }
         ensures waits { IfErr result (Waits self.old self.new) }
         ensures core { P.means.flat ≡ true → IsOk result }
+        ensures others { OthersStay t self.old.tree.forks self.new.tree.forks }
     {
         self.tree.are_trees();
         match self.pages.room(1) {
@@ -62,7 +65,8 @@ impl<P: Pages> System<P> {
     pub(crate) fn login(&mut self, t: Tty, user: DirName) -> Result<Reply, Refusal>
         requires terminal { IsTerminal t }
         requires flat { P.means.flat ≡ true }
-        ensures { Did self.old self.new (AStep.Outer (AnEvent.Login t user)) (reply_of result) }
+        ensures did { Did self.old self.new (AStep.Outer (AnEvent.Login t user)) (reply_of result) }
+        ensures others { OthersStay t self.old.tree.forks self.new.tree.forks }
     {
         if self.jobs[t.0 as usize].is_some() {
             return Err(Refusal::Busy(t));

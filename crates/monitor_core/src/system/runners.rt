@@ -1,41 +1,48 @@
-// Which forks can run.
-ghost use Rattle.std.specs.Prelude.{◌≡◌, ◌↔◌, IsTrue, MatchOption};
-ghost use Rattle.machine_names.specs.declared.names.ForkName.{ForkName as AForkName};
+// The forks of all jobs, as the lists of the machine follow them.
+ghost use Rattle.std.specs.Prelude.{◌≡◌};
 ghost use Rattle.plain_model.specs.Forks.{IsRunnable};
-ghost use Rattle.monitor_core.specs.Runners.{IsRunner, IsSlot};
+ghost use Rattle.fork_tree.specs.Trees.{IsTree};
+ghost use Rattle.monitor_core.specs.Runners.{IsRunner};
 
 use crate::runner::Runner;
 use crate::system::System;
-use machine_names::Tty;
+use fork_tree::Tree;
+use machine_names::ForkName;
 use page_contracts::Pages;
 
 impl<P: Pages> System<P> {
-    /// The fork that is next to run behind a slot of a job: the first that can run, by terminal and slot, going round
-    /// to that slot itself. None exactly where no fork can.
+    /// The forks of all jobs.
     #[inline]
-    pub fn next(&self, t: Tty, slot: u8) -> Option<Runner>
-        requires { IsSlot t slot }
-        ensures { MatchOption result ((f : AForkName) → IsRunnable self.now.tree.forks f → ⊥) (IsRunner self.now.tree) }
+    pub fn forks(&self) -> &Tree
+        ensures forks { result.now ≡ self.now.tree }
+        ensures trees { IsTree self.now.tree }
     {
         self.tree.are_trees();
-        match self.tree.next_runnable(t, slot) {
-            Some(fork) => Some(Runner {
-                fork: fork.name,
-                slot: fork.slot,
-            }),
-            None => None,
-        }
+        &self.tree
     }
 
-    /// Whether no other fork than this one can run: it is next to run behind itself.
-    #[inline]
-    pub fn is_alone(&self, who: Runner) -> bool
-        requires { IsRunner self.now.tree who }
-        ensures { IsTrue result ↔ ((f : AForkName) → IsRunnable self.now.tree.forks f → f ≡ who.fork) }
+    /// The forks of each job are a tree. It does nothing when it runs.
+    #[inline(always)]
+    pub fn trees(&self)
+        ensures { IsTree self.now.tree }
     {
-        match self.tree.next_runnable(who.fork.tty, who.slot) {
-            Some(next) => next.slot == who.slot && next.name.tty.0 == who.fork.tty.0,
-            None => false,
+        self.tree.are_trees();
+    }
+
+    /// A fork that can run, with its slot. One step.
+    #[inline]
+    pub fn runner(&self, name: ForkName) -> Runner
+        requires { IsRunnable self.now.tree.forks name }
+        ensures runner { IsRunner self.now.tree result }
+        ensures name { result.fork ≡ name }
+    {
+        self.tree.are_trees();
+        match self.tree.fork(name) {
+            Some(fork) => Runner {
+                fork: name,
+                slot: fork.slot,
+            },
+            None => unreachable!(),
         }
     }
 }

@@ -1,20 +1,22 @@
 // Steps: an event that is one, and units of a fork.
-ghost use Rattle.std.specs.Prelude.{◌≡◌, ◌<◌, ◌≤◌, ◌^◌, IfErr, IfOk, IsOk, true};
-ghost use Rattle.script_texts.specs.Limits.{FitsStep, IsBuilt};
+ghost use Rattle.std.specs.Prelude.{◌≡◌, ◌<◌, ◌≤◌, ◌^◌, IfErr, IfOk, IsOk, IsSome, if◌then◌else◌, true};
+ghost use Rattle.plain_model.specs.Forks.{OthersStay, fork_in};
+ghost use Rattle.script_texts.specs.Limits.{FitsStep};
 ghost use Rattle.script_texts.specs.declared.event.Event.{Event as AnEvent};
 ghost use Rattle.script_texts.specs.declared.event.Step.{Step as AStep};
-ghost use Rattle.monitor_core.specs.declared.reply.Reply.{Reply as AReply};
 ghost use Rattle.monitor_core.specs.Effects.{IsAtOnce};
-ghost use Rattle.monitor_core.specs.Replies.{reply_of};
+ghost use Rattle.monitor_core.specs.Reaching.{EventReaches, Reaches};
+ghost use Rattle.monitor_core.specs.Replies.{line_before, reply_of};
 ghost use Rattle.monitor_core.specs.Runners.{IsRunner, told_at};
 ghost use Rattle.monitor_core.specs.Systems.{CanDo, Did, DidAll, IsWithin, Waits};
 
 use crate::job::seen;
 use crate::job_event::JobEvent;
+use crate::progress::Progress;
 use crate::reply::Reply;
 use crate::runner::Runner;
 use crate::system::System;
-use crate::units::{Units, units_of};
+use crate::units::{Reach, units_of};
 use fork_tree::Tree;
 use machine_names::ForkName;
 use page_contracts::{Need, Pages};
@@ -30,50 +32,106 @@ fn tell_where(tree: &mut Tree, who: ForkName, stops: bool)
     }
 }
 
+// How many units a row may have: one alone, where each is shown.
+#[inline]
+fn row_room(line: Option<u32>, most: u32) -> u32
+    requires { 0 < most }
+    ensures some { 0 < result }
+    ensures few { result ≤ most }
+    ensures one { IsSome line → result ≡ 1 }
+{
+    match line {
+        Some(_) => 1,
+        None => most,
+    }
+}
+
+// How far units reached, once it is told that their fork has ended, where it has stopped.
+#[inline]
+fn reach_told(reach: Reach, stops: bool) -> Reach
+    ensures { result ≡ (if stops then Reach.Job else reach) }
+{
+    if stops { Reach::Job } else { reach }
+}
+
 impl<P: Pages> System<P> {
-    /// Units of a fork that can run, in a row, at least one and so many at most; and what the last shows at its
-    /// terminal. Where it stops, who waits for a fork of its job runs again, and then its superior is told by a channel. Err: the first needs this first, and nothing is done.
+    // The program counter of the fork in a slot of a job before its next unit, where each unit is shown.
     #[inline]
-    pub fn units(&mut self, who: Runner, most: u32) -> Result<Units, Need>
+    fn line_before(&self, who: Runner) -> Option<u32>
+        ensures { result ≡ line_before self.now.panel.trace (fork_in self.now.tree.forks who.fork.tty who.slot) }
+    {
+        if !self.panel.trace {
+            return None;
+        }
+        match self.tree.fork_at(who.fork.tty, who.slot) {
+            Some(fork) => Some(fork.body.regs.pc),
+            None => None,
+        }
+    }
+
+    /// Units of a fork that can run, in a row, at least one and so many at most, and what the last shows at its
+    /// terminal; where each unit is shown, one alone, behind its line. Where it stops, who waits for a fork of its job runs again, and then
+    /// its superior is told by a channel. Err: the first needs this first, and nothing is done.
+    #[inline]
+    pub fn units(&mut self, who: Runner, most: u32) -> Result<Progress, Need>
         requires can { IsRunner self.old.tree who }
         requires few { IsWithin self.old (2 ^ 52) }
         requires some { 0 < most }
-        ensures did { IfOk result (λ units. DidAll self.old self.new (AStep.Unit who.fork) units.count (AReply.Prints who.fork.tty units.shown)) }
+        ensures did { IfOk result (λ done. DidAll self.old self.new (AStep.Unit who.fork) done.count done.reply) }
         ensures waits { IfErr result (Waits self.old self.new) }
         ensures core { P.means.flat ≡ true → IsOk result }
-        ensures some { IfOk result (λ units. 1 ≤ units.count) }
-        ensures few { IfOk result (λ units. units.count ≤ most) }
+        ensures reach { IfOk result (λ done. Reaches done.reach who.fork self.old.tree self.new.tree) }
+        ensures others { OthersStay who.fork.tty self.old.tree.forks self.new.tree.forks }
+        ensures some { IfOk result (λ done. 1 ≤ done.count) }
+        ensures few { IfOk result (λ done. done.count ≤ most) }
     {
+        let line = self.line_before(who);
         let ran = units_of(
             &mut self.tree,
             &mut self.pages,
             &mut self.files,
             &self.jobs,
             &mut self.typed,
-            &mut self.taken,
+            &mut self.scratch,
+            self.panel.clock,
             who,
-            most,
+            row_room(line, most),
         );
         self.tree.are_trees();
         match ran {
             Err(need) => Err(need),
             Ok(units) => {
-                tell_where(&mut self.tree, who.fork, units.shown.stop.is_stop());
+                let stops = units.shown.stop.is_stop();
+                tell_where(&mut self.tree, who.fork, stops);
                 self.tree.are_trees();
-                Ok(Units {
+                let shown = seen(&mut self.jobs, who.fork.tty, who.slot, units.shown);
+                Ok(Progress {
                     count: units.count,
-                    shown: seen(&mut self.jobs, who.fork.tty, who.slot, units.shown),
+                    reply: Reply::Ran(who.fork, line, shown),
+                    reach: reach_told(units.reach, stops),
                 })
             }
         }
     }
 
-    // TICK: the clock goes on by one.
+    // TICK: the clock goes on by one, and each sleeper whose moment it reaches runs again.
     fn tick(&mut self) -> Reply
         requires { IsWithin self.old (2 ^ 52) }
-        ensures { Did self.old self.new (AStep.Outer AnEvent.Tick) result }
+        ensures did { Did self.old self.new (AStep.Outer AnEvent.Tick) result }
+        ensures reach { EventReaches AnEvent.Tick self.new.panel.clock self.old.tree self.new.tree }
     {
-        self.clock += 1;
+        self.panel.clock += 1;
+        self.tree.are_trees();
+        self.tree.wake_sleepers(self.panel.clock);
+        Reply::Nothing
+    }
+
+    // TRACE: whether each unit is shown.
+    fn set_trace(&mut self, on: bool) -> Reply
+        ensures did { Did self.old self.new (AStep.Outer (AnEvent.Trace on)) result }
+        ensures tree { self.new.tree ≡ self.old.tree }
+    {
+        self.panel.trace = on;
         Reply::Nothing
     }
 
@@ -81,11 +139,11 @@ impl<P: Pages> System<P> {
     // pages in memory.
     fn outer(&mut self, e: &Event) -> Result<Reply, Refusal>
         requires fits { FitsStep (AStep.Outer e.now) }
-        requires built { IsBuilt e.now }
         requires once { IsAtOnce e.now }
         requires flat { P.means.flat ≡ true }
         requires few { IsWithin self.old (2 ^ 52) }
-        ensures { Did self.old self.new (AStep.Outer e.now) (reply_of result) }
+        ensures did { Did self.old self.new (AStep.Outer e.now) (reply_of result) }
+        ensures reach { EventReaches e.now self.new.panel.clock self.old.tree self.new.tree }
     {
         match e {
             Event::Login(t, user) => self.login(*t, *user),
@@ -99,8 +157,9 @@ impl<P: Pages> System<P> {
             Event::Page(name, page) => self.show_page(name, *page),
             Event::Forks(t) => self.at_job(*t, JobEvent::Forks),
             Event::Tick => Ok(self.tick()),
+            Event::Trace(on) => Ok(self.set_trace(*on)),
             Event::Run(_) | Event::Evict(_) | Event::Drum(_) | Event::Auto(_) => unreachable!(),
-            Event::TypeIn(..) | Event::Trace(_) => unreachable!(),
+            Event::TypeIn(..) => unreachable!(),
         }
     }
 
@@ -110,7 +169,8 @@ impl<P: Pages> System<P> {
         requires once { IsAtOnce e.now }
         requires flat { P.means.flat ≡ true }
         requires few { IsWithin self.old (2 ^ 52) }
-        ensures { Did self.old self.new (AStep.Outer e.now) result }
+        ensures did { Did self.old self.new (AStep.Outer e.now) result }
+        ensures reach { EventReaches e.now self.new.panel.clock self.old.tree self.new.tree }
     {
         match self.outer(e) {
             Ok(reply) => reply,

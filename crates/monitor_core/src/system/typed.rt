@@ -8,12 +8,14 @@ ghost use Rattle.plain_typing.specs.Commands.{command_of};
 ghost use Rattle.plain_typing.specs.Typing.{fate_of};
 ghost use Rattle.plain_model.specs.declared.fork.TerminalMode.{TerminalMode as AMode};
 ghost use Rattle.plain_model.specs.Commands.{with_job_at};
+ghost use Rattle.plain_model.specs.Forks.{OthersStay};
 ghost use Rattle.plain_model.specs.Trees.{readers_woken};
 ghost use Rattle.fork_tree.specs.Trees.{IsTree};
 ghost use Rattle.plain_model.specs.TypeEvents.{interrupted, line_ended, line_of, line_typed, posted_at, typed_at, typed_one, typed_so};
 ghost use Rattle.monitor_core.specs.Echoes.{echo_items, FitsEcho};
 ghost use Rattle.monitor_core.specs.Effects.{Has, HasJobAt, job_in, stopped_tree};
 ghost use Rattle.monitor_core.specs.Jobs.{job_at};
+ghost use Rattle.monitor_core.specs.Reaching.{reached_at};
 
 use crate::echo::Echo;
 use crate::job::{Job, seen_stop};
@@ -69,6 +71,7 @@ impl<P: Pages> System<P> {
         requires job { HasJobAt self.old t job }
         ensures has { Has self.old self.new (λ s. interrupted s t (job_in self.old t job)) (echo_items t result) }
         ensures fits { FitsEcho result }
+        ensures others { OthersStay (reached_at t result) self.old.tree.forks self.new.tree.forks }
     {
         self.tree.are_trees();
         stop(job.mode, job.top, &mut self.tree);
@@ -82,6 +85,7 @@ impl<P: Pages> System<P> {
     fn post_typed(&mut self, name: ForkName, channel: u8) -> Echo
         ensures has { (t : ATty) → Has self.old self.new (λ s. posted_at s name channel) (echo_items t result) }
         ensures fits { FitsEcho result }
+        ensures others { (t : ATty) → OthersStay (reached_at t result) self.old.tree.forks self.new.tree.forks }
     {
         self.tree.are_trees();
         let Some(fork) = self.tree.fork(name) else {
@@ -103,6 +107,7 @@ impl<P: Pages> System<P> {
         requires code { c < 128 }
         ensures has { Has self.old self.new (λ s. let j = job_in self.old t job in typed_so (fate_of (line_of j) (is_read_as c)) s t j (is_read_as c)) (echo_items t result) }
         ensures fits { FitsEcho result }
+        ensures others { OthersStay (reached_at t result) self.old.tree.forks self.new.tree.forks }
     {
         match self.typed[t.0 as usize].input.typed(c) {
             Typed::Stored => {
@@ -122,6 +127,7 @@ impl<P: Pages> System<P> {
         requires code { code < 128 }
         ensures has { Has self.old self.new (λ s. line_typed s t (job_in self.old t job) code) (echo_items t result) }
         ensures fits { FitsEcho result }
+        ensures others { OthersStay (reached_at t result) self.old.tree.forks self.new.tree.forks }
     {
         match self.typed[t.0 as usize].line.try_push(code) {
             Ok(()) => Echo::Shows(code),
@@ -136,6 +142,7 @@ impl<P: Pages> System<P> {
         ensures has { Has self.old self.new (λ s. record { state = with_job_at s t (record (job_in self.old t job.now) { line = [] }); items = [] }) (λ s. []) }
         ensures command { result ≡ command_of job.now.user (job_in self.old t job.now).line }
         ensures jobs { self.new.jobs.items ≡ self.old.jobs.items }
+        ensures tree { self.new.tree ≡ self.old.tree }
         ensures left { job_in self.new t job.now ≡ record (job_in self.old t job.now) { line = [] } }
     {
         let line = &mut self.typed[t.0 as usize].line;
@@ -151,6 +158,7 @@ impl<P: Pages> System<P> {
         requires flat { P.means.flat ≡ true }
         ensures has { Has self.old self.new (λ s. line_ended s t (job_in self.old t job.now)) (echo_items t result) }
         ensures fits { FitsEcho result }
+        ensures others { OthersStay (reached_at t result) self.old.tree.forks self.new.tree.forks }
     {
         let command = self.take_line(t, job);
         Echo::Ends(self.command(t, *job, &command))
@@ -164,6 +172,7 @@ impl<P: Pages> System<P> {
         requires code { code < 128 }
         ensures has { Has self.old self.new (λ s. typed_one AMode.Command s t (job_in self.old t job) code) (echo_items t result) }
         ensures fits { FitsEcho result }
+        ensures others { OthersStay (reached_at t result) self.old.tree.forks self.new.tree.forks }
     {
         if code == CONTROL_C {
             return self.interrupt(t, job);
@@ -181,6 +190,7 @@ impl<P: Pages> System<P> {
         requires code { c < 128 }
         ensures has { Has self.old self.new (λ s. typed_at s t c) (echo_items t result) }
         ensures fits { FitsEcho result }
+        ensures others { OthersStay (reached_at t result) self.old.tree.forks self.new.tree.forks }
     {
         match self.jobs[t.0 as usize] {
             Some(job) => match job.mode {

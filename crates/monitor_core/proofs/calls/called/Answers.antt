@@ -9,7 +9,7 @@ use Rattle.machine_names.specs.declared.names.ForkName.{ForkName}
 use Rattle.script_texts.specs.declared.status.ForkStatus.{ForkStatus}
 use Rattle.script_texts.specs.declared.status.ForkStatus.TheVariants.{Run, Wait, Halted, Forced}
 use Rattle.plain_model.specs.Families.{Parts, Turned, call_turned}
-use Rattle.plain_model.specs.Forks.{counted, fork_in}
+use Rattle.plain_model.specs.Forks.{OthersStay, counted, fork_in}
 use Rattle.page_contracts.specs.Pages.{PagesMeaning}
 use Rattle.plain_model.specs.Trees.{PlainTree, changed, with_body, with_changed_of}
 use Rattle.fork_tree.specs.Trees.{IsTree, Lives}
@@ -24,6 +24,10 @@ use Rattle.monitor_core.specs.Shown.{FitsShown, FitsStop, shown_of, stop_of}
 use Rattle.monitor_core.proofs.Calling.{done_else, out_fits, so_done}
 use Rattle.monitor_core.proofs.Keeping.{answered_keeps}
 use Rattle.monitor_core.proofs.Leaving.{after_keeps, caller_keeps, caller_within, turn_leaves}
+use Rattle.monitor_core.specs.Reaching.{Reaches, reach_of}
+use Rattle.monitor_core.specs.declared.units.Reach.{Reach}
+use Rattle.monitor_core.specs.declared.units.Reach.TheVariants.{Own, Job}
+use Rattle.monitor_core.proofs.ReachDid.{called_reaches, same_reaches}
 use Rattle.monitor_core.proofs.calls.called.Goals as goal
 
 -- the fork that called, behind its turn
@@ -51,6 +55,15 @@ stop_fits Run fits = tt
 stop_fits (Wait on) fits = tt
 stop_fits Halted fits = tt
 stop_fits (Forced channel) fits = fits channel refl
+
+-- a turn alone
+turn_reaches : (r : Reach) (who : ForkName) (old turned : PlainTree) (slot : ℕ) → IsTree old → IsSome (fork_in old.forks who.tty slot) → ((f : Fork) → fork_in old.forks who.tty slot ≡ Some f → f.name ≡ who) → (r ≡ Own → turned ≡ old) → OthersStay who.tty old.forks turned.forks → Reaches r who old turned
+turn_reaches Own who old turned slot trees found named same others =
+    let f = some_of (fork_in old.forks who.tty slot) found in
+    let name = named f.0 f.1 in
+    let lives = in_tells old.forks trees.slotted who.tty slot f.0 f.1 in
+    same_reaches old who f.0 (ap (map.get old.forks) (sym name) ∙ lives.0) name Own turned (same refl)
+turn_reaches Job who old turned slot trees found named same others = others
 
 pub turn-answer-requires-clause-regs : goal.turn-answer-requires-clause-regs
 turn-answer-requires-clause-regs g c =
@@ -99,7 +112,7 @@ returns-in-Some-body_mut-clause-called g c at b found =
     let new = c.turn-answer.new.tree in
     let answer = c.turn-answer.result in
     let turn = c.turn-answer.ensures in
-    let tables : Tables = record { tree = old; files = c.args.files.now; jobs = c.args.jobs.now.items; typed = c.args.typed.now.items } in
+    let tables : Tables = record { tree = old; files = c.args.files.now; jobs = c.args.jobs.now.items; typed = c.args.typed.now.items; clock = c.args.clock } in
     let mid : Tables = record tables { tree = new; files = c.turn-answer.new.files; typed = c.turn-answer.new.typed.items } in
     let was = c.fork_at.ensures.tree in
     let is = c.are_trees.ensures in
@@ -149,7 +162,7 @@ returns-in-Need-clause-needs g c =
     let who = c.args.who.fork in
     let turn = c.turn-answer.ensures in
     let n = c.in-Need.need in
-    let tables : Tables = record { tree = c.args.tree.now; files = c.args.files.now; jobs = c.args.jobs.now.items; typed = c.args.typed.now.items } in
+    let tables : Tables = record { tree = c.args.tree.now; files = c.args.files.now; jobs = c.args.jobs.now.items; typed = c.args.typed.now.items; clock = c.args.clock } in
     let left : Tables = record tables { tree = c.turn-answer.new.tree; files = c.turn-answer.new.files; typed = c.turn-answer.new.typed.items } in
     record {
       told = record {
@@ -168,3 +181,14 @@ returns-in-Need-clause-needs g c =
 
 pub returns-in-Need-clause-core : goal.returns-in-Need-clause-core
 returns-in-Need-clause-core g c flat = absurd (subst IsDone c.in-Need.is (c.turn-answer.ensures.core flat))
+
+-- how far the call has reached
+pub returns-in-Need-clause-reach : goal.returns-in-Need-clause-reach
+returns-in-Need-clause-reach g c = turn_reaches (reach_of c.args.number) c.args.who.fork c.args.tree.now c.turn-answer.new.tree c.args.who.slot c.fork_at.ensures.tree c.requires.there c.requires.named c.turn-answer.ensures.own c.turn-answer.ensures.leaves.others
+
+pub returns-in-None-clause-reach : goal.returns-in-None-clause-reach
+returns-in-None-clause-reach g c = turn_reaches (reach_of c.args.number) c.args.who.fork c.args.tree.now c.turn-answer.new.tree c.args.who.slot c.fork_at.ensures.tree c.requires.there c.requires.named c.turn-answer.ensures.own c.turn-answer.ensures.leaves.others
+
+pub returns-in-Some-body_mut-clause-reach : goal.returns-in-Some-body_mut-clause-reach
+returns-in-Some-body_mut-clause-reach g c =
+    called_reaches (reach_of c.args.number) c.args.who.fork c.args.tree.now c.turn-answer.new.tree _ c.turn-answer.ensures.own c.turn-answer.ensures.leaves.others c.are_trees.ensures.slotted.own c.answered.new.body refl

@@ -1,4 +1,4 @@
-use Rattle.std.proofs.Common.{◌≡◌, ◌<◌, ◌∙◌, length, refl, sym, ap, subst, arith, length-set}
+use Rattle.std.proofs.Common.{◌≡◌, ◌<◌, ◌∙◌, length, None, Option, Some, inl, refl, sym, ap, subst, arith, length-set}
 use Rattle.std.specs.Prelude.{IsSome}
 use Rattle.plain_model.specs.ByteCalls.{byte_call}
 use Rattle.plain_model.specs.MapCalls.{map_call}
@@ -23,14 +23,20 @@ use Rattle.plain_model.specs.InterruptCalls.{interrupt_calls}
 use Rattle.fork_calls.specs.Asking.{asked as asked_by}
 use Rattle.psi_calls.specs.Turning.{PsiNeeds, Stays as StaysAll, psi_frames}
 use Rattle.fork_tree.proofs.Slots.{some_of}
-use Rattle.fork_calls.specs.Holding.{CallLeaves, Holds}
+use Rattle.fork_calls.specs.Holding.{CallLeaves, Holds, SamePlaces}
 use Rattle.fork_calls.proofs.Branch.{none_made}
 use Rattle.fork_calls.proofs.CallLeaving.{grown_leaves}
 use Rattle.fork_calls.proofs.Needed.{answer_more, done_needs}
 use Rattle.pmap_calls.specs.Asking.{asked}
 use Rattle.pmap_calls.specs.Making.{MapNeeds}
 use Rattle.monitor_core.proofs.CodeTurns.{fork_turned, has_codes, interrupt_turned, typed_stay}
-use Rattle.monitor_core.proofs.Calling.{done_so, files_went, has_regs, none_went, print_went}
+use Rattle.monitor_core.proofs.ReachDid.{clocks_reach, forks_reach, interrupts_reach}
+use Rattle.fork_calls.proofs.Holdings.{holds_same}
+use Rattle.plain_model.specs.Forks.{ForkMap}
+use Rattle.plain_model.specs.declared.fork.Fork.{Fork}
+use Rattle.std.specs.FinMap as map
+use Rattle.std.specs.Option.{option_map}
+use Rattle.monitor_core.proofs.Calling.{clock_went, done_so, files_went, has_regs, none_went, print_went}
 use Rattle.monitor_core.specs.Limits.{unit_frames}
 use Rattle.monitor_core.specs.ForkUnit.{Tables, line_behind, parts_in, rest_of}
 use Rattle.monitor_core.specs.Jobs.{job_at, jobs_of}
@@ -56,9 +62,17 @@ by_answer old new tables tables' (answer.Trap channel) done waits stays = done t
 nothing_left : {P : Type 0} (means : PagesMeaning P) (who : ForkName) (tree : PlainTree) (p : P) → Holds means p tree.forks → CallLeaves means p p tree tree who most_makings
 nothing_left means who tree p holds = grown_leaves means who tree most_makings p p (grows_within means who.tty 0 most_makings p p (omega arith) (grows_none means who.tty p)) holds
 
+-- who lived lives on, where each fork stays in its slot
+still_there : (old new : ForkMap) → SamePlaces old new → (name : ForkName) → IsSome (map.get old name) → IsSome (map.get new name)
+still_there old new same name there = by (map.get new name) (same name ∙ ap (option_map (λ (f : Fork). f.slot)) (some_of (map.get old name) there).1)
+  where
+    by : (o : Option Fork) → option_map (λ (f : Fork). f.slot) o ≡ Some (some_of (map.get old name) there).0.slot → IsSome o
+    by None none = absurd (cc none)
+    by (Some f) is = refl
+
 pub returns-then-is_print_call-clause-told : goal.returns-then-is_print_call-clause-told
 returns-then-is_print_call-clause-told g c =
-    let was : Tables = record { tree = c.args.tree.now; files = c.args.files.now; jobs = c.args.jobs.now.items; typed = c.args.typed.now.items } in
+    let was : Tables = record { tree = c.args.tree.now; files = c.args.files.now; jobs = c.args.jobs.now.items; typed = c.args.typed.now.items; clock = c.args.clock } in
     record {
       fits = λ d fits. fits;
       told = λ d fits.
@@ -74,7 +88,7 @@ returns-then-is_print_call-clause-leaves g c = nothing_left g.P.Pages.means c.ar
 pub returns-then-is_fork_call-clause-told : goal.returns-then-is_fork_call-clause-told
 returns-then-is_fork_call-clause-told g c =
     let means = g.P.Pages.means in
-    let was : Tables = record { tree = c.args.tree.now; files = c.args.files.now; jobs = c.args.jobs.now.items; typed = c.args.typed.now.items } in
+    let was : Tables = record { tree = c.args.tree.now; files = c.args.files.now; jobs = c.args.jobs.now.items; typed = c.args.typed.now.items; clock = c.args.clock } in
     let who = c.args.who in
     let turn = c.fork_turn in
     let typing = c.index_mut.result.now in
@@ -93,7 +107,7 @@ returns-then-is_fork_call-clause-told g c =
 
 -- a call that may make fewer pages leaves what one leaves that may make as many as any
 leaves_more : {P : Type 0} (means : PagesMeaning P) (p q : P) (tree tree' : PlainTree) (who : ForkName) → CallLeaves means p q tree tree' who 128 → CallLeaves means p q tree tree' who most_makings
-leaves_more means p q tree tree' who left = record { holds = left.holds; kept = left.kept; caller = left.caller; tops = left.tops; loses = left.loses; made = record { most = left.made.most; serial = omega (arith, left.made.serial); serials = left.made.serials } }
+leaves_more means p q tree tree' who left = record { holds = left.holds; kept = left.kept; caller = left.caller; tops = left.tops; others = left.others; loses = left.loses; made = record { most = left.made.most; serial = omega (arith, left.made.serial); serials = left.made.serials } }
 
 pub returns-then-is_fork_call-clause-leaves : goal.returns-then-is_fork_call-clause-leaves
 returns-then-is_fork_call-clause-leaves g c =
@@ -110,7 +124,7 @@ returns-then-is_fork_call-clause-typing_room g c = length-set c.args.typed.now.i
 pub returns-then-is_psi_call-clause-told : goal.returns-then-is_psi_call-clause-told
 returns-then-is_psi_call-clause-told g c =
     let means = g.P.Pages.means in
-    let was : Tables = record { tree = c.args.tree.now; files = c.args.files.now; jobs = c.args.jobs.now.items; typed = c.args.typed.now.items } in
+    let was : Tables = record { tree = c.args.tree.now; files = c.args.files.now; jobs = c.args.jobs.now.items; typed = c.args.typed.now.items; clock = c.args.clock } in
     let who = c.args.who in
     let call = c.call in
     let typing = c.index_mut-then-is_psi_call.result.now in
@@ -126,7 +140,7 @@ returns-then-is_psi_call-clause-told g c =
           let q = means.plain call.new.pages d in
           interrupt_turned was who c.args.regs.now c.args.number j.0 j.1 typing at low room call.new.line call.ensures.input
           (sym c.is_print_call.ensures ∙ c.if-is_print_call.false) (sym c.is_fork_call.ensures ∙ c.if-is_fork_call.false) (sym c.is_psi_call.ensures ∙ c.if-is_psi_call.true) call.new.tree (PsiNeeds (means.scene c.args.pages.now) p (numbered interrupt_calls c.args.number (asked_by who c.args.regs.now was.tree))) p q call.result
-          (call.ensures.told.comes d (files_of was.files) (jobs_of (open_of was.files) was.typed was.jobs) fits (has_codes was who c.args.regs.now c.args.number j.0 j.1 typing at low room));
+          (call.ensures.told.comes d (files_of was.files) (jobs_of (open_of was.files) was.typed was.jobs) was.clock fits (has_codes was who c.args.regs.now c.args.number j.0 j.1 typing at low room));
       numbers = λ d fits. dir_stays was.files was.files refl;
     }
 
@@ -154,16 +168,54 @@ returns-then-is_psi_call-clause-unmade g c n is =
     let same = (subst (StaysAll c.args.pages.now call.new.pages c.args.tree.now call.new.tree c.index_mut-then-is_psi_call.result.now.input call.new.line) is call.ensures.stays).0 in
     none_made means c.args.pages.now call.new.pages c.args.who.tty (ap means.serial same) (ap means.most same)
 
+-- a turn of a call on the clock
+pub returns-then-is_clock_call-clause-told : goal.returns-then-is_clock_call-clause-told
+returns-then-is_clock_call-clause-told g c =
+    let means = g.P.Pages.means in
+    let was : Tables = record { tree = c.args.tree.now; files = c.args.files.now; jobs = c.args.jobs.now.items; typed = c.args.typed.now.items; clock = c.args.clock } in
+    let call = c.call-then-is_clock_call in
+    record {
+      fits = λ d fits. fits;
+      told = λ d fits.
+          let p = means.plain c.args.pages.now d in
+          let v = parts_in (rest_of was) p in
+          done_so (key_in was.files) v (record v { tree = call.new.tree }) c.args.who c.args.regs.now c.args.number call.result call.ensures.done
+          (clock_went (key_in was.files) v c.args.who c.args.regs.now c.args.number (sym c.is_print_call.ensures ∙ c.if-is_print_call.false) (sym c.is_fork_call.ensures ∙ c.if-is_fork_call.false) (sym c.is_psi_call.ensures ∙ c.if-is_psi_call.false) (sym c.is_clock_call.ensures ∙ c.if-is_clock_call.true) call.new.tree call.result (call.ensures.told p));
+      numbers = λ d fits. dir_stays was.files was.files refl;
+    }
+
+pub returns-then-is_clock_call-clause-needs : goal.returns-then-is_clock_call-clause-needs
+returns-then-is_clock_call-clause-needs g c = done_needs g.P.Pages.means.store unit_frames c.args.pages.now c.call-then-is_clock_call.result c.call-then-is_clock_call.ensures.done
+
+pub returns-then-is_clock_call-clause-unmade : goal.returns-then-is_clock_call-clause-unmade
+returns-then-is_clock_call-clause-unmade g c n is = none_made g.P.Pages.means c.args.pages.now c.args.pages.now c.args.who.tty refl refl
+
+pub returns-then-is_clock_call-clause-leaves : goal.returns-then-is_clock_call-clause-leaves
+returns-then-is_clock_call-clause-leaves g c =
+    let means = g.P.Pages.means in
+    let call = c.call-then-is_clock_call in
+    let none = nothing_left means c.args.who c.args.tree.now c.args.pages.now c.requires.holds in
+    let same = call.ensures.same in
+    record {
+      holds = holds_same means c.args.pages.now c.args.tree.now.forks call.new.tree.forks c.are_trees.ensures.slotted call.ensures.trees.slotted same c.requires.holds;
+      kept = λ f e. inl (call.ensures.kept f e);
+      caller = λ there. still_there c.args.tree.now.forks call.new.tree.forks same c.args.who there;
+      tops = λ name top. same name ∙ top;
+      others = call.ensures.others;
+      made = none.made;
+      loses = none.loses;
+    }
+
 pub returns-then-is_map_call-clause-told : goal.returns-then-is_map_call-clause-told
 returns-then-is_map_call-clause-told g c =
     let means = g.P.Pages.means in
-    let was : Tables = record { tree = c.args.tree.now; files = c.args.files.now; jobs = c.args.jobs.now.items; typed = c.args.typed.now.items } in
+    let was : Tables = record { tree = c.args.tree.now; files = c.args.files.now; jobs = c.args.jobs.now.items; typed = c.args.typed.now.items; clock = c.args.clock } in
     let a = c.call-then-is_map_call in
     record {
       fits = λ d fits. (a.ensures.told d fits).0;
       told = λ d fits.
           let p = means.plain c.args.pages.now d in
-          map_turned was c.args.who c.args.regs.now c.args.number c.requires.job.unheld (sym c.is_print_call.ensures ∙ c.if-is_print_call.false) (sym c.is_fork_call.ensures ∙ c.if-is_fork_call.false) (sym c.is_psi_call.ensures ∙ c.if-is_psi_call.false) (sym c.is_map_call.ensures ∙ c.if-is_map_call.true)
+          map_turned was c.args.who c.args.regs.now c.args.number c.requires.job.unheld (sym c.is_print_call.ensures ∙ c.if-is_print_call.false) (sym c.is_fork_call.ensures ∙ c.if-is_fork_call.false) (sym c.is_psi_call.ensures ∙ c.if-is_psi_call.false) (sym c.is_clock_call.ensures ∙ c.if-is_clock_call.false) (sym c.is_map_call.ensures ∙ c.if-is_map_call.true)
           (MapNeeds was.files (means.scene c.args.pages.now) p (map_call c.args.number (asked c.args.who c.args.regs.now was.tree was.files))) p (means.plain a.new.pages d) a.result (a.ensures.told d fits).1;
       numbers = λ d fits. dir_stays was.files was.files refl;
     }
@@ -179,14 +231,14 @@ returns-then-is_map_call-clause-regs g c = has_regs c.call-then-is_map_call.resu
 
 pub returns-then-is_file_call-clause-told : goal.returns-then-is_file_call-clause-told
 returns-then-is_file_call-clause-told g c =
-    let was : Tables = record { tree = c.args.tree.now; files = c.args.files.now; jobs = c.args.jobs.now.items; typed = c.args.typed.now.items } in
+    let was : Tables = record { tree = c.args.tree.now; files = c.args.files.now; jobs = c.args.jobs.now.items; typed = c.args.typed.now.items; clock = c.args.clock } in
     let a = c.call-then-is_file_call in
     record {
       fits = λ d fits. fits;
       told = λ d fits.
           let p = g.P.Pages.means.plain c.args.pages.now d in
           done_so (key_in was.files) _ _ c.args.who c.args.regs.now c.args.number a.result a.ensures.done
-          (files_went (key_in was.files) (parts_in (rest_of was) p) c.args.who c.args.regs.now c.args.number (sym c.is_print_call.ensures ∙ c.if-is_print_call.false) (sym c.is_fork_call.ensures ∙ c.if-is_fork_call.false) (sym c.is_psi_call.ensures ∙ c.if-is_psi_call.false) (sym c.is_map_call.ensures ∙ c.if-is_map_call.false) (sym c.is_file_call.ensures ∙ c.if-is_file_call.true)
+          (files_went (key_in was.files) (parts_in (rest_of was) p) c.args.who c.args.regs.now c.args.number (sym c.is_print_call.ensures ∙ c.if-is_print_call.false) (sym c.is_fork_call.ensures ∙ c.if-is_fork_call.false) (sym c.is_psi_call.ensures ∙ c.if-is_psi_call.false) (sym c.is_clock_call.ensures ∙ c.if-is_clock_call.false) (sym c.is_map_call.ensures ∙ c.if-is_map_call.false) (sym c.is_file_call.ensures ∙ c.if-is_file_call.true)
           a.result (a.ensures.told p));
       numbers = λ d fits. dir_stays was.files was.files refl;
     }
@@ -199,11 +251,11 @@ returns-then-is_file_call-clause-regs g c = has_regs c.call-then-is_file_call.re
 
 pub returns-clause-told : goal.returns-clause-told
 returns-clause-told g c =
-    let was : Tables = record { tree = c.args.tree.now; files = c.args.files.now; jobs = c.args.jobs.now.items; typed = c.args.typed.now.items } in
+    let was : Tables = record { tree = c.args.tree.now; files = c.args.files.now; jobs = c.args.jobs.now.items; typed = c.args.typed.now.items; clock = c.args.clock } in
     record {
       fits = λ d fits. fits;
       told = λ d fits.
-          none_went (key_in was.files) (parts_in (rest_of was) (g.P.Pages.means.plain c.args.pages.now d)) c.args.who c.args.regs.now c.args.number (sym c.is_print_call.ensures ∙ c.if-is_print_call.false) (sym c.is_fork_call.ensures ∙ c.if-is_fork_call.false) (sym c.is_psi_call.ensures ∙ c.if-is_psi_call.false) (sym c.is_map_call.ensures ∙ c.if-is_map_call.false)
+          none_went (key_in was.files) (parts_in (rest_of was) (g.P.Pages.means.plain c.args.pages.now d)) c.args.who c.args.regs.now c.args.number (sym c.is_print_call.ensures ∙ c.if-is_print_call.false) (sym c.is_fork_call.ensures ∙ c.if-is_fork_call.false) (sym c.is_psi_call.ensures ∙ c.if-is_psi_call.false) (sym c.is_clock_call.ensures ∙ c.if-is_clock_call.false) (sym c.is_map_call.ensures ∙ c.if-is_map_call.false)
           (sym c.is_file_call.ensures ∙ c.if-is_file_call.false) (sym c.is_jfn_call.ensures ∙ c.if-is_jfn_call.false) (sym c.is_byte_call.ensures ∙ c.if-is_byte_call.false) (sym c.is_string_call.ensures ∙ c.if-is_string_call.false);
       numbers = λ d fits. dir_stays was.files was.files refl;
     }
@@ -233,7 +285,7 @@ returns-then-is_file_call-clause-unmade g c n is = none_made g.P.Pages.means c.a
 pub returns-then-is_jfn_call-clause-told : goal.returns-then-is_jfn_call-clause-told
 returns-then-is_jfn_call-clause-told g c =
     let means = g.P.Pages.means in
-    let was : Tables = record { tree = c.args.tree.now; files = c.args.files.now; jobs = c.args.jobs.now.items; typed = c.args.typed.now.items } in
+    let was : Tables = record { tree = c.args.tree.now; files = c.args.files.now; jobs = c.args.jobs.now.items; typed = c.args.typed.now.items; clock = c.args.clock } in
     let j = c.in-Some.job in
     let there = job_read was.jobs c.args.who.tty.0 c.index.result.now j c.requires.job.room c.requires.job.terminal c.index.ensures c.in-Some.is in
     let t = c.jfn_call.ensures.told in
@@ -242,7 +294,7 @@ returns-then-is_jfn_call-clause-told g c =
       fits = t.fits;
       told = λ d fits.
           let p = means.plain c.args.pages.now d in
-          jfn_turned was c.args.who c.args.regs.now c.args.number j there c.requires.job.unheld (sym c.is_print_call.ensures ∙ c.if-is_print_call.false) (sym c.is_fork_call.ensures ∙ c.if-is_fork_call.false) (sym c.is_psi_call.ensures ∙ c.if-is_psi_call.false) (sym c.is_map_call.ensures ∙ c.if-is_map_call.false)
+          jfn_turned was c.args.who c.args.regs.now c.args.number j there c.requires.job.unheld (sym c.is_print_call.ensures ∙ c.if-is_print_call.false) (sym c.is_fork_call.ensures ∙ c.if-is_fork_call.false) (sym c.is_psi_call.ensures ∙ c.if-is_psi_call.false) (sym c.is_clock_call.ensures ∙ c.if-is_clock_call.false) (sym c.is_map_call.ensures ∙ c.if-is_map_call.false)
           (sym c.is_file_call.ensures ∙ c.if-is_file_call.false) (sym c.is_jfn_call.ensures ∙ c.if-is_jfn_call.true)
           (TextNeeds (framed means c.args.pages.now d) (asked_of c.args.who c.args.regs.now j.user was.files)) c.jfn_call.new.tables p (means.plain c.jfn_call.new.pages d) a
           (t.comes d (jobs_of (open_of was.files) was.typed was.jobs) fits (jobs_held was.typed was.jobs (open_of was.files) c.requires.job.unheld));
@@ -279,7 +331,7 @@ unreachable-requires g c =
 pub returns-then-is_byte_call-clause-told : goal.returns-then-is_byte_call-clause-told
 returns-then-is_byte_call-clause-told g c =
     let means = g.P.Pages.means in
-    let was : Tables = record { tree = c.args.tree.now; files = c.args.files.now; jobs = c.args.jobs.now.items; typed = c.args.typed.now.items } in
+    let was : Tables = record { tree = c.args.tree.now; files = c.args.files.now; jobs = c.args.jobs.now.items; typed = c.args.typed.now.items; clock = c.args.clock } in
     let who = c.args.who in
     let job = c.requires.job in
     let j = some_of (job_at was.jobs who.tty.0) job.there in
@@ -293,7 +345,7 @@ returns-then-is_byte_call-clause-told g c =
       told = λ d fits.
           let p = means.plain c.args.pages.now d in
           byte_turned was who c.args.regs.now c.args.number j.0 j.1 job.unheld typing at call.new.tables call.new.input call.ensures.others within typing_within
-          (sym c.is_print_call.ensures ∙ c.if-is_print_call.false) (sym c.is_fork_call.ensures ∙ c.if-is_fork_call.false) (sym c.is_psi_call.ensures ∙ c.if-is_psi_call.false) (sym c.is_map_call.ensures ∙ c.if-is_map_call.false) (sym c.is_file_call.ensures ∙ c.if-is_file_call.false)
+          (sym c.is_print_call.ensures ∙ c.if-is_print_call.false) (sym c.is_fork_call.ensures ∙ c.if-is_fork_call.false) (sym c.is_psi_call.ensures ∙ c.if-is_psi_call.false) (sym c.is_clock_call.ensures ∙ c.if-is_clock_call.false) (sym c.is_map_call.ensures ∙ c.if-is_map_call.false) (sym c.is_file_call.ensures ∙ c.if-is_file_call.false)
           (sym c.is_jfn_call.ensures ∙ c.if-is_jfn_call.false) (sym c.is_byte_call.ensures ∙ c.if-is_byte_call.true)
           (ByteNeeds was.files (means.scene c.args.pages.now) p (byte_call c.args.number (asked_on who c.args.regs.now was.files typing.input.input p))) p (means.plain call.new.pages d) call.result
           (call.ensures.told.comes d (jobs_of (open_of was.files) was.typed was.jobs) fits (has_line was who c.args.regs.now c.args.number j.0 j.1 job.unheld typing at));
@@ -336,7 +388,7 @@ returns-then-is_byte_call-clause-regs g c = has_regs c.call-then-is_byte_call.re
 pub returns-then-is_string_call-clause-told : goal.returns-then-is_string_call-clause-told
 returns-then-is_string_call-clause-told g c =
     let means = g.P.Pages.means in
-    let was : Tables = record { tree = c.args.tree.now; files = c.args.files.now; jobs = c.args.jobs.now.items; typed = c.args.typed.now.items } in
+    let was : Tables = record { tree = c.args.tree.now; files = c.args.files.now; jobs = c.args.jobs.now.items; typed = c.args.typed.now.items; clock = c.args.clock } in
     let who = c.args.who in
     let job = c.requires.job in
     let j = some_of (job_at was.jobs who.tty.0) job.there in
@@ -350,7 +402,7 @@ returns-then-is_string_call-clause-told g c =
       told = λ d fits.
           let p = means.plain c.args.pages.now d in
           string_turned was who c.args.regs.now c.args.number j.0 j.1 job.unheld typing at call.new.tables call.new.input call.ensures.others within typing_within
-          (sym c.is_print_call.ensures ∙ c.if-is_print_call.false) (sym c.is_fork_call.ensures ∙ c.if-is_fork_call.false) (sym c.is_psi_call.ensures ∙ c.if-is_psi_call.false) (sym c.is_map_call.ensures ∙ c.if-is_map_call.false) (sym c.is_file_call.ensures ∙ c.if-is_file_call.false)
+          (sym c.is_print_call.ensures ∙ c.if-is_print_call.false) (sym c.is_fork_call.ensures ∙ c.if-is_fork_call.false) (sym c.is_psi_call.ensures ∙ c.if-is_psi_call.false) (sym c.is_clock_call.ensures ∙ c.if-is_clock_call.false) (sym c.is_map_call.ensures ∙ c.if-is_map_call.false) (sym c.is_file_call.ensures ∙ c.if-is_file_call.false)
           (sym c.is_jfn_call.ensures ∙ c.if-is_jfn_call.false) (sym c.is_byte_call.ensures ∙ c.if-is_byte_call.false) (sym c.is_string_call.ensures ∙ c.if-is_string_call.true)
           (StringNeeds was.files (means.scene c.args.pages.now) p (string_call c.args.number (asked_on who c.args.regs.now was.files typing.input.input p))) p (means.plain call.new.pages d) call.result
           (call.ensures.told.comes d (jobs_of (open_of was.files) was.typed was.jobs) fits (has_line was who c.args.regs.now c.args.number j.0 j.1 job.unheld typing at));
@@ -386,3 +438,12 @@ returns-then-is_string_call-clause-leaves g c = grown_leaves g.P.Pages.means c.a
 
 pub call-requires-then-is_string_call-clause-serves : goal.call-requires-then-is_string_call-clause-serves
 call-requires-then-is_string_call-clause-serves g c = record { lives = c.requires.holds.living c.args.who ∙ c.requires.lives; terminal = c.requires.job.terminal }
+
+pub returns-then-is_fork_call-clause-own : goal.returns-then-is_fork_call-clause-own
+returns-then-is_fork_call-clause-own g c own = absurd (forks_reach c.args.number (sym c.is_fork_call.ensures ∙ c.if-is_fork_call.true) own)
+
+pub returns-then-is_psi_call-clause-own : goal.returns-then-is_psi_call-clause-own
+returns-then-is_psi_call-clause-own g c own = absurd (interrupts_reach c.args.number (sym c.is_psi_call.ensures ∙ c.if-is_psi_call.true) own)
+
+pub returns-then-is_clock_call-clause-own : goal.returns-then-is_clock_call-clause-own
+returns-then-is_clock_call-clause-own g c own = absurd (clocks_reach c.args.number (sym c.is_clock_call.ensures ∙ c.if-is_clock_call.true) own)

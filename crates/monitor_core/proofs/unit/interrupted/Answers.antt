@@ -41,7 +41,7 @@ returns-in-Trap g c at =
         fits,
         λ key rest.
             let came = (c.inspect.ensures.told d fits).came f (record { name = refl; body = refl }) in
-            ap (behind_decided key rest f (means.plain p d) (inspected_on f (means.plain p d)).pages) (subst (λ why. CameOut (framed means p d) (inspected_on f (means.plain p d)) (Err why)) c.in-Trap.is (subst (CameOut (framed means p d) (inspected_on f (means.plain p d))) c.in-Err.is came)) ∙ (λ i. left_so rest (sym left i) (means.plain p d) (stands (Forced channel))),
+            ap (behind_decided key rest f (means.plain p d) (inspected_on f (means.plain p d)).pages) (subst (λ why. CameOut (framed means p d) c.inspect.new.reader (inspected_on f (means.plain p d)) (Err why)) c.in-Trap.is (subst (CameOut (framed means p d) c.inspect.new.reader (inspected_on f (means.plain p d))) c.in-Err.is came)) ∙ (λ i. left_so rest (sym left i) (means.plain p d) (stands (Forced channel))),
       );
       keeps = subst (λ h. Kept f h 1) (sym left) (forced_keeps f channel low c.requires.can.fits.pc c.requires.can.fits.accumulators);
       made = record { lives = refl; forks = refl; most = refl; own = omega arith; others = λ t ne. refl };
@@ -60,7 +60,7 @@ returns-in-Nothing g c at =
       told = λ d fits.
           let left = one.told d fits in
           let came = (c.inspect.ensures.told d fits).came f (record { name = refl; body = refl }) in
-          let what = (subst (CameOut (framed means p d) (inspected_on f (means.plain p d))) c.in-Ok.is came).0 ∙ c.in-Nothing.is in
+          let what = (subst (CameOut (framed means p d) c.inspect.new.reader (inspected_on f (means.plain p d))) c.in-Ok.is came).0 ∙ c.in-Nothing.is in
           (left.0, one_as behind_instruction behind_interrupted f (fork_of c.args.fork at c.one_unit.new.body) (means.plain p d) (means.plain c.one_unit.new.pages d) c.one_unit.result (λ key rest. ap (behind_decided key rest f (means.plain p d) (inspected_on f (means.plain p d)).pages) what) left.1);
       keeps = one.keeps;
       made = one.made;
@@ -83,7 +83,7 @@ returns-in-Forces g c at =
         fits,
         λ key rest.
             let came = (c.inspect.ensures.told d fits).came f (record { name = refl; body = refl }) in
-            let what = (subst (CameOut (framed means p d) (inspected_on f (means.plain p d))) c.in-Ok.is came).0 ∙ c.in-Forces.is in
+            let what = (subst (CameOut (framed means p d) c.inspect.new.reader (inspected_on f (means.plain p d))) c.in-Ok.is came).0 ∙ c.in-Forces.is in
             ap (behind_decided key rest f (means.plain p d) (inspected_on f (means.plain p d)).pages) what ∙ (λ i. left_so rest (sym left i) (means.plain p d) (stands (Forced channel))),
       );
       keeps = subst (λ h. Kept f h 1) (sym left) (forced_keeps f channel low c.requires.can.fits.pc c.requires.can.fits.accumulators);
@@ -107,9 +107,9 @@ returns-in-Delivers g c at =
         deliver.fits d fits,
         λ key rest.
             let inspects = c.inspect.ensures.told d fits in
-            let came = subst (CameOut (framed means p d) (inspected_on f (means.plain p d))) c.in-Ok.is (inspects.came f (record { name = refl; body = refl })) in
-            let stands_so = inspects.stands c.in-Ok.seen c.in-Ok.is in
-            let opens = subst (Delivers c.args.fork (framed means p d) c.in-Ok.seen.reader) c.in-Delivers.is (inspects.opens c.in-Ok.seen c.in-Ok.is) in
+            let came = subst (CameOut (framed means p d) c.inspect.new.reader (inspected_on f (means.plain p d))) c.in-Ok.is (inspects.came f (record { name = refl; body = refl })) in
+            let stands_so = inspects.stands c.in-Ok.what c.in-Ok.is in
+            let opens = subst (Delivers c.args.fork (framed means p d) c.inspect.new.reader) c.in-Delivers.is (inspects.opens c.in-Ok.what c.in-Ok.is) in
             let pages = deliver.told d f fits (record { name = refl; body = refl }) stands_so opens in
             ap (behind_decided key rest f (means.plain p d) (inspected_on f (means.plain p d)).pages) (came.0 ∙ c.in-Delivers.is)
             ∙ (λ i. left_so rest (sym left i) ((ap (λ q. stored_word q f delivery) came.1 ∙ sym pages) i) nothing),

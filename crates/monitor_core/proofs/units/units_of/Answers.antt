@@ -1,5 +1,6 @@
 use Rattle.std.proofs.Common.{◌≡◌, ℕ, Some, refl, sym, ◌∙◌, ap, subst, arith}
 use Rattle.std.specs.Prelude.{IsSome}
+use Rattle.std.specs.FinMap as map
 use Rattle.plain_model.specs.declared.fork.Body.{Body}
 use Rattle.plain_model.specs.declared.fork.Fork.{Fork}
 use Rattle.machine_names.specs.declared.names.ForkName.{ForkName}
@@ -20,7 +21,11 @@ use Rattle.monitor_core.proofs.Calling.{body_has, left_tree, still_in}
 use Rattle.monitor_core.proofs.JfnsAsked.{dir_stays}
 use Rattle.monitor_core.proofs.Keeping.{more_keeps}
 use Rattle.monitor_core.proofs.Leaving.{leaves_one, leaves_then, left_came, left_holds}
-use Rattle.monitor_core.proofs.Stopping.{StopsBehind, with_tree, before_few, before_some, call_stops, stops_ran, stops_waits, unit_stops}
+use Rattle.monitor_core.specs.Reaching.{Reaches, ReachesOwn, reach_of}
+use Rattle.monitor_core.specs.declared.units.Reach.{Reach}
+use Rattle.monitor_core.specs.declared.units.Reach.TheVariants.{Own}
+use Rattle.monitor_core.proofs.ReachDid.{own_then, reaches_others, slot_reaches}
+use Rattle.monitor_core.proofs.Stopping.{StopsBehind, with_tree, before_few, before_reach, before_some, call_stops, stops_ran, stops_waits, unit_stops}
 use Rattle.monitor_core.proofs.UnitRan.{call_behind}
 use Rattle.file_calls.specs.Asking.{key_in}
 use Rattle.monitor_core.proofs.units.units_of.Goals as goal
@@ -42,6 +47,17 @@ module _ (tree : PlainTree) (is : IsTree tree) (t : Tty) (slot : ℕ) (f : Fork)
 
   row_holds : {P : Type 0} (means : PagesMeaning P) (p q : P) (owner : Tty) (pages : ℕ) → Holds means p tree.forks → Makes means p q owner pages → Holds means q (with_body_at tree t slot body).forks
   row_holds means p q owner pages holds made = subst (λ (x : PlainTree). Holds means q x.forks) (sym back) (left_holds tree is f lived body n keeps means q (holds_still means p q tree.forks made.lives made.forks holds))
+
+-- a row reaches its own fork, and a call behind it as far as it may
+module _ (tree : PlainTree) (is : IsTree tree) (who : ForkName) (slot : ℕ) (f : Fork) (at : fork_in tree.forks who.tty slot ≡ Some f) (named : f.name ≡ who) (body : Body) where
+  at_name : map.get tree.forks who ≡ Some f
+  at_name = let lives = in_tells tree.forks is.slotted who.tty slot f at in ap (map.get tree.forks) (sym named) ∙ lives.0
+
+  row_reaches : ReachesOwn who tree (with_body_at tree who.tty slot body)
+  row_reaches = slot_reaches tree who slot f body at at_name
+
+  call_reaches : (r : Reach) (new : PlainTree) → Reaches r who (with_body_at tree who.tty slot body) new → Reaches r who tree new
+  call_reaches r new then = own_then tree who f at_name named r (with_body_at tree who.tty slot body) new is.slotted.own row_reaches then
 
 kept_as : (who : ForkName) (f : Fork) (x y : Body) (n : ℕ) → f.name ≡ who → x ≡ f.body → Kept (fork_of who (place_of f) x) (fork_of who (place_of f) y) n → Kept f (with_body y f) n
 kept_as who f x y n named here k =
@@ -97,7 +113,7 @@ pub returns-in-Shows-clause-ran : goal.returns-in-Shows-clause-ran
 returns-in-Shows-clause-ran g c at b there =
     let who = c.args.who.fork in
     let tree = c.args.tree.now in
-    let was : Tables = record { tree = tree; files = c.args.files.now; jobs = c.args.jobs.now.items; typed = c.args.typed.now.items } in
+    let was : Tables = record { tree = tree; files = c.args.files.now; jobs = c.args.jobs.now.items; typed = c.args.typed.now.items; clock = c.args.clock } in
     let f = fork_of who at b in
     let body = c.run_units-row.new.body in
     let after = fork_of who at body in
@@ -129,7 +145,7 @@ pub returns-in-Ok-clause-ran : goal.returns-in-Ok-clause-ran
 returns-in-Ok-clause-ran g c at b there =
     let who = c.args.who.fork in
     let tree = c.args.tree.now in
-    let was : Tables = record { tree = tree; files = c.args.files.now; jobs = c.args.jobs.now.items; typed = c.args.typed.now.items } in
+    let was : Tables = record { tree = tree; files = c.args.files.now; jobs = c.args.jobs.now.items; typed = c.args.typed.now.items; clock = c.args.clock } in
     let f = fork_of who at b in
     let body = c.run_units-row.new.body in
     let mid = fork_of who at body in
@@ -164,7 +180,7 @@ pub returns-in-Err-clause-ran : goal.returns-in-Err-clause-ran
 returns-in-Err-clause-ran g c at b there =
     let who = c.args.who.fork in
     let tree = c.args.tree.now in
-    let was : Tables = record { tree = tree; files = c.args.files.now; jobs = c.args.jobs.now.items; typed = c.args.typed.now.items } in
+    let was : Tables = record { tree = tree; files = c.args.files.now; jobs = c.args.jobs.now.items; typed = c.args.typed.now.items; clock = c.args.clock } in
     let f = fork_of who at b in
     let body = c.run_units-row.new.body in
     let mid = fork_of who at body in
@@ -180,13 +196,13 @@ returns-in-Err-clause-ran g c at b there =
     let made = subst (λ l. Makes means old now who.tty (makings_of l)) c.in-Calls.is ran.made in
     let waits = subst (λ x. CallWaits means now c.called.new.pages (record was { tree = x }) (with_tree was c.called.new.tree c.called.new.files c.called.new.typed.items) who c.in-Err.need) left c.in-Err.ensures.needs in
     let stops = call_stops was is f lives body row.count ran.keeps means old now made c.requires.holds c.called.new.pages c.called.new.tree c.called.new.files c.called.new.typed.items c.in-Err.need (λ d fits. (let t = ran.told d fits in (t.0, (subst (IsRow f (means.plain old d) row.count mid (means.plain now d)) c.in-Calls.is t.1).0))) waits in
-    stops_ran means old c.called.new.pages was c.called.new.tree c.called.new.files c.called.new.typed.items f mid c.in-Err.need lives c.requires.job.unheld c.requires.job.typing_room row.count c.done_before.result c.done_before.ensures stops
+    stops_ran means old c.called.new.pages was c.called.new.tree c.called.new.files c.called.new.typed.items f mid c.in-Err.need lives c.requires.job.unheld c.requires.job.typing_room row.count c.reach_of-reach.result c.done_before.result c.done_before.ensures stops
 
 pub returns-in-Err-clause-waits : goal.returns-in-Err-clause-waits
 returns-in-Err-clause-waits g c at b there =
     let who = c.args.who.fork in
     let tree = c.args.tree.now in
-    let was : Tables = record { tree = tree; files = c.args.files.now; jobs = c.args.jobs.now.items; typed = c.args.typed.now.items } in
+    let was : Tables = record { tree = tree; files = c.args.files.now; jobs = c.args.jobs.now.items; typed = c.args.typed.now.items; clock = c.args.clock } in
     let f = fork_of who at b in
     let body = c.run_units-row.new.body in
     let mid = fork_of who at body in
@@ -202,13 +218,13 @@ returns-in-Err-clause-waits g c at b there =
     let made = subst (λ l. Makes means old now who.tty (makings_of l)) c.in-Calls.is ran.made in
     let waits = subst (λ x. CallWaits means now c.called.new.pages (record was { tree = x }) (with_tree was c.called.new.tree c.called.new.files c.called.new.typed.items) who c.in-Err.need) left c.in-Err.ensures.needs in
     let stops = call_stops was is f lives body row.count ran.keeps means old now made c.requires.holds c.called.new.pages c.called.new.tree c.called.new.files c.called.new.typed.items c.in-Err.need (λ d fits. (let t = ran.told d fits in (t.0, (subst (IsRow f (means.plain old d) row.count mid (means.plain now d)) c.in-Calls.is t.1).0))) waits in
-    stops_waits means old c.called.new.pages was c.called.new.tree c.called.new.files c.called.new.typed.items f mid c.in-Err.need lives c.requires.job.unheld c.requires.job.typing_room row.count c.done_before.result c.done_before.ensures stops
+    stops_waits means old c.called.new.pages was c.called.new.tree c.called.new.files c.called.new.typed.items f mid c.in-Err.need lives c.requires.job.unheld c.requires.job.typing_room row.count c.reach_of-reach.result c.done_before.result c.done_before.ensures stops
 
 pub returns-in-Needs-clause-ran : goal.returns-in-Needs-clause-ran
 returns-in-Needs-clause-ran g c at b there =
     let who = c.args.who.fork in
     let tree = c.args.tree.now in
-    let was : Tables = record { tree = tree; files = c.args.files.now; jobs = c.args.jobs.now.items; typed = c.args.typed.now.items } in
+    let was : Tables = record { tree = tree; files = c.args.files.now; jobs = c.args.jobs.now.items; typed = c.args.typed.now.items; clock = c.args.clock } in
     let f = fork_of who at b in
     let body = c.run_units-row.new.body in
     let mid = fork_of who at body in
@@ -225,13 +241,13 @@ returns-in-Needs-clause-ran g c at b there =
     let made = subst (λ l. Makes means old now who.tty (makings_of l)) c.in-Needs.is ran.made in
     let stops = subst (λ x. StopsBehind means old now was x was.files was.typed f mid row.count n) (sym left)
     (unit_stops was is f lives body row.count ran.keeps means old now made c.requires.holds n (λ d fits. (let t = ran.told d fits in (t.0, subst (IsRow f (means.plain old d) row.count mid (means.plain now d)) c.in-Needs.is t.1))) (subst (LastNeeds means.store now) c.in-Needs.is ran.needs)) in
-    stops_ran means old now was _ was.files was.typed f mid n lives c.requires.job.unheld c.requires.job.typing_room row.count c.done_before-in-Needs.result c.done_before-in-Needs.ensures stops
+    stops_ran means old now was _ was.files was.typed f mid n lives c.requires.job.unheld c.requires.job.typing_room row.count Own c.done_before-in-Needs.result c.done_before-in-Needs.ensures stops
 
 pub returns-in-Needs-clause-waits : goal.returns-in-Needs-clause-waits
 returns-in-Needs-clause-waits g c at b there =
     let who = c.args.who.fork in
     let tree = c.args.tree.now in
-    let was : Tables = record { tree = tree; files = c.args.files.now; jobs = c.args.jobs.now.items; typed = c.args.typed.now.items } in
+    let was : Tables = record { tree = tree; files = c.args.files.now; jobs = c.args.jobs.now.items; typed = c.args.typed.now.items; clock = c.args.clock } in
     let f = fork_of who at b in
     let body = c.run_units-row.new.body in
     let mid = fork_of who at body in
@@ -248,26 +264,76 @@ returns-in-Needs-clause-waits g c at b there =
     let made = subst (λ l. Makes means old now who.tty (makings_of l)) c.in-Needs.is ran.made in
     let stops = subst (λ x. StopsBehind means old now was x was.files was.typed f mid row.count n) (sym left)
     (unit_stops was is f lives body row.count ran.keeps means old now made c.requires.holds n (λ d fits. (let t = ran.told d fits in (t.0, subst (IsRow f (means.plain old d) row.count mid (means.plain now d)) c.in-Needs.is t.1))) (subst (LastNeeds means.store now) c.in-Needs.is ran.needs)) in
-    stops_waits means old now was _ was.files was.typed f mid n lives c.requires.job.unheld c.requires.job.typing_room row.count c.done_before-in-Needs.result c.done_before-in-Needs.ensures stops
+    stops_waits means old now was _ was.files was.typed f mid n lives c.requires.job.unheld c.requires.job.typing_room row.count Own c.done_before-in-Needs.result c.done_before-in-Needs.ensures stops
 
 pub returns-in-Err-clause-core : goal.returns-in-Err-clause-core
 returns-in-Err-clause-core g c flat = (let no = c.in-Err.ensures.core flat in absurd (cc no))
 
 pub returns-in-Err-clause-some : goal.returns-in-Err-clause-some
-returns-in-Err-clause-some g c = before_some c.run_units-row.result.count c.in-Err.need c.done_before.result c.done_before.ensures
+returns-in-Err-clause-some g c = before_some c.run_units-row.result.count c.in-Err.need c.reach_of-reach.result c.done_before.result c.done_before.ensures
 
 pub returns-in-Err-clause-few : goal.returns-in-Err-clause-few
 returns-in-Err-clause-few g c =
     let room = subst (HasRoom c.args.most c.run_units-row.result.count) c.in-Calls.is c.run_units-row.ensures.room in
-    before_few c.run_units-row.result.count c.args.most c.in-Err.need c.done_before.result (omega (arith, room)) c.done_before.ensures
+    before_few c.run_units-row.result.count c.args.most c.in-Err.need c.reach_of-reach.result c.done_before.result (omega (arith, room)) c.done_before.ensures
 
 pub returns-in-Needs-clause-core : goal.returns-in-Needs-clause-core
 returns-in-Needs-clause-core g c flat = (let f = some_of _ c.requires.there in absurd (subst IsMet c.in-Needs.is ((c.run_units-row.ensures.ran (place_of f.0)).core flat)))
 
 pub returns-in-Needs-clause-some : goal.returns-in-Needs-clause-some
-returns-in-Needs-clause-some g c = before_some c.run_units-row.result.count c.in-Needs.need c.done_before-in-Needs.result c.done_before-in-Needs.ensures
+returns-in-Needs-clause-some g c = before_some c.run_units-row.result.count c.in-Needs.need Own c.done_before-in-Needs.result c.done_before-in-Needs.ensures
 
 pub returns-in-Needs-clause-few : goal.returns-in-Needs-clause-few
 returns-in-Needs-clause-few g c =
     let room = subst (HasRoom c.args.most c.run_units-row.result.count) c.in-Needs.is c.run_units-row.ensures.room in
-    before_few c.run_units-row.result.count c.args.most c.in-Needs.need c.done_before-in-Needs.result (omega (arith, room)) c.done_before-in-Needs.ensures
+    before_few c.run_units-row.result.count c.args.most c.in-Needs.need Own c.done_before-in-Needs.result (omega (arith, room)) c.done_before-in-Needs.ensures
+
+-- how far the units have reached
+pub returns-in-Shows-clause-reach : goal.returns-in-Shows-clause-reach
+returns-in-Shows-clause-reach g c =
+    let f = some_of _ c.requires.there in
+    row_reaches c.args.tree.now c.requires.tree c.args.who.fork c.args.who.slot f.0 f.1 (c.requires.can f.0 f.1).0 c.run_units-row.new.body
+
+pub returns-in-Shows-clause-others : goal.returns-in-Shows-clause-others
+returns-in-Shows-clause-others g c =
+    let f = some_of _ c.requires.there in
+    reaches_others Own c.args.who.fork c.args.tree.now _ c.requires.tree.slotted.own (row_reaches c.args.tree.now c.requires.tree c.args.who.fork c.args.who.slot f.0 f.1 (c.requires.can f.0 f.1).0 c.run_units-row.new.body)
+
+pub returns-in-Needs-clause-reach : goal.returns-in-Needs-clause-reach
+returns-in-Needs-clause-reach g c =
+    let f = some_of _ c.requires.there in
+    let tree = c.args.tree.now in
+    let who = c.args.who.fork in
+    before_reach (λ r. Reaches r who tree (with_body_at tree who.tty c.args.who.slot c.run_units-row.new.body)) c.run_units-row.result.count c.in-Needs.need Own c.done_before-in-Needs.result
+    (row_reaches tree c.requires.tree who c.args.who.slot f.0 f.1 (c.requires.can f.0 f.1).0 c.run_units-row.new.body) c.done_before-in-Needs.ensures
+
+pub returns-in-Needs-clause-others : goal.returns-in-Needs-clause-others
+returns-in-Needs-clause-others g c =
+    let f = some_of _ c.requires.there in
+    reaches_others Own c.args.who.fork c.args.tree.now _ c.requires.tree.slotted.own (row_reaches c.args.tree.now c.requires.tree c.args.who.fork c.args.who.slot f.0 f.1 (c.requires.can f.0 f.1).0 c.run_units-row.new.body)
+
+pub returns-in-Ok-clause-reach : goal.returns-in-Ok-clause-reach
+returns-in-Ok-clause-reach g c =
+    let f = some_of _ c.requires.there in
+    call_reaches c.args.tree.now c.requires.tree c.args.who.fork c.args.who.slot f.0 f.1 (c.requires.can f.0 f.1).0 c.run_units-row.new.body c.reach_of-reach.result c.called.new.tree
+    (subst (λ r. Reaches r c.args.who.fork (with_body_at c.args.tree.now c.args.who.fork.tty c.args.who.slot c.run_units-row.new.body) c.called.new.tree) (sym c.reach_of-reach.ensures) c.called.ensures.reach)
+
+pub returns-in-Ok-clause-others : goal.returns-in-Ok-clause-others
+returns-in-Ok-clause-others g c =
+    let f = some_of _ c.requires.there in
+    reaches_others (reach_of c.in-Calls.number) c.args.who.fork c.args.tree.now c.called.new.tree c.requires.tree.slotted.own
+    (call_reaches c.args.tree.now c.requires.tree c.args.who.fork c.args.who.slot f.0 f.1 (c.requires.can f.0 f.1).0 c.run_units-row.new.body (reach_of c.in-Calls.number) c.called.new.tree c.called.ensures.reach)
+
+pub returns-in-Err-clause-reach : goal.returns-in-Err-clause-reach
+returns-in-Err-clause-reach g c =
+    let f = some_of _ c.requires.there in
+    let who = c.args.who.fork in
+    before_reach (λ r. Reaches r who c.args.tree.now c.called.new.tree) c.run_units-row.result.count c.in-Err.need c.reach_of-reach.result c.done_before.result
+    (call_reaches c.args.tree.now c.requires.tree who c.args.who.slot f.0 f.1 (c.requires.can f.0 f.1).0 c.run_units-row.new.body c.reach_of-reach.result c.called.new.tree
+    (subst (λ r. Reaches r who (with_body_at c.args.tree.now who.tty c.args.who.slot c.run_units-row.new.body) c.called.new.tree) (sym c.reach_of-reach.ensures) c.called.ensures.reach)) c.done_before.ensures
+
+pub returns-in-Err-clause-others : goal.returns-in-Err-clause-others
+returns-in-Err-clause-others g c =
+    let f = some_of _ c.requires.there in
+    reaches_others (reach_of c.in-Calls.number) c.args.who.fork c.args.tree.now c.called.new.tree c.requires.tree.slotted.own
+    (call_reaches c.args.tree.now c.requires.tree c.args.who.fork c.args.who.slot f.0 f.1 (c.requires.can f.0 f.1).0 c.run_units-row.new.body (reach_of c.in-Calls.number) c.called.new.tree c.called.ensures.reach)

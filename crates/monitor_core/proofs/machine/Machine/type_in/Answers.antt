@@ -17,7 +17,7 @@ returns-then-not-has_job g c =
     let t = c.args.t in
     let e = TypeIn t c.args.text in
     let refused = One (Refusal (NoJob t)) in
-    step_acted g.T.Taker.fault_count g.T.Taker.onward g.T.Taker.stands g.T.Taker.cut c.args.self.now _ c.args.out.now c.give_all.new.out c.give_all.result e refused ((c.requires.fits, refl), tt)
+    step_acted g.T.Taker.fault_count g.T.Taker.onward g.T.Taker.stands g.T.Taker.cut c.args.self.now _ c.args.out.now c.give_all.new.out c.give_all.result e refused (c.requires.fits, refl)
     (did_still m m refl refl refl refl refl refl e refused c.requires.fits.0 (λ d f. types_nothing m t c.args.text d (missing (job_at m.jobs.items t.0) (sym c.has_job.ensures ∙ c.if-not-has_job.true)))) c.give_all.ensures refl refl refl
 
 pub returns-in_err-type_text : goal.returns-in_err-type_text

@@ -1,4 +1,4 @@
-use Rattle.std.proofs.Common.{◌≡◌, ◌≢◌, ◌||◌, ◌<◌, ◌+◌, set, arith, false, Some, refl, sym, ◌∙◌, ap, subst, length-set}
+use Rattle.std.proofs.Common.{◌≡◌, ◌≢◌, ◌||◌, ◌<◌, ◌+◌, set, arith, false, None, Some, refl, sym, ◌∙◌, ap, subst, length-set}
 use Rattle.plain_pages.specs.declared.map.NewMap.TheVariants.{Empty}
 use Rattle.machine_names.specs.declared.names.ForkName.{ForkName}
 use Rattle.machine_names.specs.declared.names.Tty.{Tty}
@@ -11,6 +11,7 @@ use Rattle.monitor_core.specs.Sound.{AreSound}
 use Rattle.monitor_core.proofs.EventDid.{did_login}
 use Rattle.file_tables.specs.Tables.{open_of}
 use Rattle.monitor_core.proofs.Logins.{unheld_begun, new_tree, none_first, none_held, room_held, sound_begun, unused}
+use Rattle.monitor_core.proofs.JobOthers.{made_stays}
 use Rattle.monitor_core.proofs.system.System.add_job.Goals as goal
 
 pub make-requires-clause-superior : goal.make-requires-clause-superior
@@ -48,8 +49,8 @@ invariant_of-self g c =
       unheld = unheld_begun (open_of m.files) m.jobs.items c.args.t.0 c.new.result m.unheld (omega (arith, m.sound.job_room, c.requires.terminal));
     }
 
-pub returns : goal.returns
-returns g c =
+pub returns-clause-did : goal.returns-clause-did
+returns-clause-did g c =
     let means = g.P.Pages.means in
     let m = c.args.self.now in
     let made = c.in-Ok.ensures in
@@ -58,3 +59,6 @@ returns g c =
     (none_held means m.pages m.tree m.jobs.items m.sound c.args.t c.requires.free c.requires.terminal c.are_trees.ensures) c.requires.room (made.2 ∙ new_tree m.tree c.args.t none) refl refl (ap (set m.typed.items c.args.t.0) c.clear.ensures) c.new.ensures.user c.new.ensures.mode (c.new.ensures.top ∙ made.1) c.new.ensures.start refl
     (subst (λ (n : ForkName). (d : DrumWords) → means.fits m.pages d → means.fits c.add_fork.new.self d × (means.plain c.add_fork.new.self d ≡ with_map (means.plain m.pages d) n Empty)) made.1 c.add_fork.ensures.told)
     c.add_fork.ensures.serials c.add_fork.ensures.most
+
+pub returns-clause-others : goal.returns-clause-others
+returns-clause-others g c = made_stays c.args.self.now.tree c.make.new.self c.args.t None c.in-Ok.ensures.2

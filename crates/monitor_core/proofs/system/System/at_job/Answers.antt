@@ -16,10 +16,12 @@ use Rattle.monitor_core.specs.Jobs.{AreUnheld}
 use Rattle.monitor_core.proofs.Systems.{unheld_still, holds_fork, holds_top, sound_poked, restarted_body, top_fork_of}
 use Rattle.monitor_core.proofs.Writes.{errs}
 use Rattle.monitor_core.proofs.JobDid.{did_no_job, did_poke, did_start, did_examine, did_forks, poke_reply, put_back}
+use Rattle.monitor_core.proofs.JobOthers.{top_changed, top_poked}
+use Rattle.monitor_core.specs.Writing.{with_accumulator}
 use Rattle.monitor_core.proofs.system.System.at_job.Goals as goal
 
-pub returns-in_default : goal.returns-in_default
-returns-in_default g c =
+pub returns-in_default-clause-did : goal.returns-in_default-clause-did
+returns-in_default-clause-did g c =
     did_no_job c.args.self.now _ refl refl refl (put_back c.args.self.now.jobs.items c.args.t.0 c.index_mut.result.now c.index_mut.result.now c.index_mut.ensures.value refl) refl refl c.args.t c.args.e c.requires.terminal
     (entry_read c.args.self.now.jobs.items c.args.t.0 c.index_mut.result.now c.args.self.now.sound.job_room c.requires.terminal c.index_mut.ensures.value ∙ c.in_default.is)
 
@@ -37,13 +39,13 @@ invariant_of-self-in-Poke g c = record {
   typing_room = c.args.self.now.typing_room;
 }
 
-pub returns-in_ok-poke-in-Poke : goal.returns-in_ok-poke-in-Poke
-returns-in_ok-poke-in-Poke g c =
+pub returns-in_ok-poke-in-Poke-clause-did : goal.returns-in_ok-poke-in-Poke-clause-did
+returns-in_ok-poke-in-Poke-clause-did g c =
     did_poke c.args.self.now _ c.are_trees.ensures c.args.t c.args.e c.in-Some.job (job_read c.args.self.now.jobs.items c.args.t.0 _ c.in-Some.job c.args.self.now.sound.job_room c.requires.terminal c.index_mut.ensures.value c.in-Some.is) refl refl refl (put_back c.args.self.now.jobs.items c.args.t.0 c.index_mut.result.now (Some c.in-Some.job) c.index_mut.ensures.value c.in-Some.is) c.in-Poke.address c.in-Poke.word c.poke.result _ c.in-Poke.is
     (ap poke_reply c.in_ok-poke-in-Poke.was) c.poke.ensures.fits c.poke.ensures.low c.poke.ensures.high c.poke.ensures.made
 
-pub returns-in_err-poke-in-Poke : goal.returns-in_err-poke-in-Poke
-returns-in_err-poke-in-Poke g c =
+pub returns-in_err-poke-in-Poke-clause-did : goal.returns-in_err-poke-in-Poke-clause-did
+returns-in_err-poke-in-Poke-clause-did g c =
     did_poke c.args.self.now _ c.are_trees.ensures c.args.t c.args.e c.in-Some.job (job_read c.args.self.now.jobs.items c.args.t.0 _ c.in-Some.job c.args.self.now.sound.job_room c.requires.terminal c.index_mut.ensures.value c.in-Some.is) refl refl refl (put_back c.args.self.now.jobs.items c.args.t.0 c.index_mut.result.now (Some c.in-Some.job) c.index_mut.ensures.value c.in-Some.is) c.in-Poke.address c.in-Poke.word c.poke.result _ c.in-Poke.is
     (ap poke_reply c.in_err-poke-in-Poke.was ∙ ap reply_of (sym (errs c.from_residual.result _ c.from_residual.ensures.1))) c.poke.ensures.fits c.poke.ensures.low c.poke.ensures.high c.poke.ensures.made
 
@@ -67,8 +69,8 @@ invariant_of-self-in-Start g c =
       typing_room = c.args.self.now.typing_room;
     }
 
-pub returns-in-Start : goal.returns-in-Start
-returns-in-Start g c =
+pub returns-in-Start-clause-did : goal.returns-in-Start-clause-did
+returns-in-Start-clause-did g c =
     did_start c.args.self.now _ c.are_trees.ensures c.args.t c.args.e c.in-Some.job (job_read c.args.self.now.jobs.items c.args.t.0 _ c.in-Some.job c.args.self.now.sound.job_room c.requires.terminal c.index_mut.ensures.value c.in-Some.is) refl refl refl _ c.in-Start.address refl c.in-Start.is refl refl refl refl c.start.ensures refl
 
 pub examined-requires-clause-each : goal.examined-requires-clause-each
@@ -76,17 +78,28 @@ examined-requires-clause-each g c f e =
     let lives = held_lives c.args.self.now.tree.forks c.are_trees.ensures.slotted _ f e in
     (holds_fork c.args.self.now c.are_trees.ensures f lives, (c.args.self.now.sound.each_fork f lives).accumulators)
 
-pub returns-in_ok-seen-in-Ok : goal.returns-in_ok-seen-in-Ok
-returns-in_ok-seen-in-Ok g c =
+pub returns-in_ok-seen-in-Ok-clause-did : goal.returns-in_ok-seen-in-Ok-clause-did
+returns-in_ok-seen-in-Ok-clause-did g c =
     did_examine c.args.self.now _ refl refl refl (put_back c.args.self.now.jobs.items c.args.t.0 c.index_mut.result.now (Some c.in-Some.job) c.index_mut.ensures.value c.in-Some.is) refl refl c.args.t c.args.e c.in-Some.job (job_read c.args.self.now.jobs.items c.args.t.0 _ c.in-Some.job c.args.self.now.sound.job_room c.requires.terminal c.index_mut.ensures.value c.in-Some.is) c.in-Examine.serial c.in-Examine.address c.in-Ok.seen _ c.in-Examine.is
     (ap (λ r. One (item_of r)) c.in_ok-seen-in-Ok.was) (c.in-Ok.ensures.fits c.requires.terminal (subst FitsJobEvent c.in-Examine.is c.requires.fits).0) c.in-Ok.ensures.told
 
-pub returns-in_err-seen-in-Ok : goal.returns-in_err-seen-in-Ok
-returns-in_err-seen-in-Ok g c =
+pub returns-in_err-seen-in-Ok-clause-did : goal.returns-in_err-seen-in-Ok-clause-did
+returns-in_err-seen-in-Ok-clause-did g c =
     did_examine c.args.self.now _ refl refl refl (put_back c.args.self.now.jobs.items c.args.t.0 c.index_mut.result.now (Some c.in-Some.job) c.index_mut.ensures.value c.in-Some.is) refl refl c.args.t c.args.e c.in-Some.job (job_read c.args.self.now.jobs.items c.args.t.0 _ c.in-Some.job c.args.self.now.sound.job_room c.requires.terminal c.index_mut.ensures.value c.in-Some.is) c.in-Examine.serial c.in-Examine.address c.in-Ok.seen _ c.in-Examine.is
     (ap (λ r. One (item_of r)) c.in_err-seen-in-Ok.was ∙ ap reply_of (sym (errs c.from_residual-in_err-seen-in-Ok.result _ c.from_residual-in_err-seen-in-Ok.ensures.1)))
     (c.in-Ok.ensures.fits c.requires.terminal (subst FitsJobEvent c.in-Examine.is c.requires.fits).0) c.in-Ok.ensures.told
 
-pub returns-in-Forks : goal.returns-in-Forks
-returns-in-Forks g c =
+pub returns-in-Forks-clause-did : goal.returns-in-Forks-clause-did
+returns-in-Forks-clause-did g c =
     did_forks c.args.self.now _ refl refl refl (put_back c.args.self.now.jobs.items c.args.t.0 c.index_mut.result.now (Some c.in-Some.job) c.index_mut.ensures.value c.in-Some.is) refl refl c.args.t c.args.e c.in-Some.job (job_read c.args.self.now.jobs.items c.args.t.0 _ c.in-Some.job c.args.self.now.sound.job_room c.requires.terminal c.index_mut.ensures.value c.in-Some.is) c.in-Forks.is c.requires.terminal
+
+pub returns-in_ok-poke-in-Poke-clause-others : goal.returns-in_ok-poke-in-Poke-clause-others
+returns-in_ok-poke-in-Poke-clause-others g c =
+    top_poked c.args.self.now c.args.t c.in-Some.job (job_read c.args.self.now.jobs.items c.args.t.0 _ c.in-Some.job c.args.self.now.sound.job_room c.requires.terminal c.index_mut.ensures.value c.in-Some.is) c.are_trees.ensures c.in-Poke.address (with_accumulator c.in-Poke.address c.in-Poke.word) c.poke.new.tree (λ low. (c.poke.ensures.low low).1) (λ high. (c.poke.ensures.high high).0)
+
+pub returns-in_err-poke-in-Poke-clause-others : goal.returns-in_err-poke-in-Poke-clause-others
+returns-in_err-poke-in-Poke-clause-others g c =
+    top_poked c.args.self.now c.args.t c.in-Some.job (job_read c.args.self.now.jobs.items c.args.t.0 _ c.in-Some.job c.args.self.now.sound.job_room c.requires.terminal c.index_mut.ensures.value c.in-Some.is) c.are_trees.ensures c.in-Poke.address (with_accumulator c.in-Poke.address c.in-Poke.word) c.poke.new.tree (λ low. (c.poke.ensures.low low).1) (λ high. (c.poke.ensures.high high).0)
+
+pub returns-in-Start-clause-others : goal.returns-in-Start-clause-others
+returns-in-Start-clause-others g c = top_changed c.args.self.now c.args.t c.in-Some.job (job_read c.args.self.now.jobs.items c.args.t.0 _ c.in-Some.job c.args.self.now.sound.job_room c.requires.terminal c.index_mut.ensures.value c.in-Some.is) c.are_trees.ensures (restarted c.in-Start.address) c.start.new.tree c.start.ensures

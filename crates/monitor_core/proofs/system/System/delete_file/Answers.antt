@@ -14,12 +14,12 @@ invariant_of-self g c =
       typing_room = m.typing_room;
     }
 
-pub returns-in-Ok : goal.returns-in-Ok
-returns-in-Ok g c =
+pub returns-in-Ok-clause-has : goal.returns-in-Ok-clause-has
+returns-in-Ok-clause-has g c =
     let e = c.in-Ok.ensures in
     has_deleted c.args.self.now _ c.args.t c.args.name.now c.in-Some.file.0 c.in-Some.ensures.found.0 c.in-Some.ensures.found.1 refl refl refl refl e.grows e.jfns e.told e.files.0 e.files.1 e.files.2
 
-pub returns-in-Err : goal.returns-in-Err
-returns-in-Err g c =
+pub returns-in-Err-clause-has : goal.returns-in-Err-clause-has
+returns-in-Err-clause-has g c =
     let e = c.in-Err.ensures in
     has_not_deleted c.args.self.now _ c.args.t c.args.name.now c.in-Some.file.0 c.in-Some.ensures.found.0 c.in-Some.ensures.found.1 refl refl refl refl e.grows e.jfns e.told e.files.0 e.files.1

@@ -4,6 +4,8 @@ use Rattle.monitor_core.specs.Echoes.{told_items}
 use Rattle.monitor_core.specs.Effects.{Has, job_in}
 use Rattle.monitor_core.specs.Jobs.{job_at}
 use Rattle.monitor_core.proofs.TypeDid.{ends_line}
+use Rattle.plain_model.specs.Forks.{OthersStay}
+use Rattle.plain_model.specs.Trees.{PlainTree}
 use Rattle.monitor_core.proofs.system.System.end_line.Goals as goal
 
 pub command-requires-clause-job : goal.command-requires-clause-job
@@ -17,4 +19,7 @@ returns-clause-has g c =
     let t = c.args.t in
     let j = c.args.job.now in
     ends_line m last t j c.requires.job mid c.command.result c.take_line-command.ensures.has c.take_line-command.ensures.left
-    (subst (λ x. Has mid last (λ s. commanded s t (job_in mid t j) x) (told_items t c.command.result)) c.take_line-command.ensures.command c.command.ensures)
+    (subst (λ x. Has mid last (λ s. commanded s t (job_in mid t j) x) (told_items t c.command.result)) c.take_line-command.ensures.command c.command.ensures.has)
+
+pub returns-clause-others : goal.returns-clause-others
+returns-clause-others g c = subst (λ (x : PlainTree). OthersStay c.args.t x.forks c.command.new.self.tree.forks) c.take_line-command.ensures.tree c.command.ensures.others

@@ -10,7 +10,7 @@ returns-in-Forks g c =
     subst (λ r. TookOver (FitsPages c.args.self.now) g.T.Taker.fault_count g.T.Taker.onward g.T.Taker.stands g.T.Taker.cut c.args.out.now c.give_forks.new.out c.give_forks.result (λ d. reply_items (state_of c.args.self.now d) r) []) (sym c.in-Forks.is)
     (over_drums (FitsPages c.args.self.now) g.T.Taker.fault_count g.T.Taker.onward g.T.Taker.stands g.T.Taker.cut c.give_forks.ensures)
 
-pub returns-in-Prints : goal.returns-in-Prints
-returns-in-Prints g c =
-    subst (λ r. TookOver (FitsPages c.args.self.now) g.T.Taker.fault_count g.T.Taker.onward g.T.Taker.stands g.T.Taker.cut c.args.out.now c.give_shown.new.out c.give_shown.result (λ d. reply_items (state_of c.args.self.now d) r) []) (sym c.in-Prints.is)
-    (over_drums (FitsPages c.args.self.now) g.T.Taker.fault_count g.T.Taker.onward g.T.Taker.stands g.T.Taker.cut c.give_shown.ensures)
+pub returns-in-Ran : goal.returns-in-Ran
+returns-in-Ran g c =
+    subst (λ r. TookOver (FitsPages c.args.self.now) g.T.Taker.fault_count g.T.Taker.onward g.T.Taker.stands g.T.Taker.cut c.args.out.now c.give_ran.new.out c.give_ran.result (λ d. reply_items (state_of c.args.self.now d) r) []) (sym c.in-Ran.is)
+    (over_drums (FitsPages c.args.self.now) g.T.Taker.fault_count g.T.Taker.onward g.T.Taker.stands g.T.Taker.cut c.give_ran.ensures)

@@ -12,13 +12,15 @@ use Rattle.monitor_core.proofs.HasDone.{change_keeps, sound_kept}
 use Rattle.monitor_core.proofs.Sounds.{same_tops_set}
 use Rattle.monitor_core.proofs.Systems.{top_fork_of, unheld_still}
 use Rattle.monitor_core.proofs.TypeDid.{low_job}
+use Rattle.monitor_core.proofs.JobOthers.{top_changed}
+use Rattle.monitor_core.proofs.ReachDid.{others_same}
 use Rattle.monitor_core.proofs.system.System.go_on.Goals as goal
 
 pub go_on-requires : goal.go_on-requires
 go_on-requires g c = let k = top_fork_of c.args.self.now c.args.t.0 c.args.job c.requires.job in record { lives = subst IsSome (sym k.1) refl }
 
-pub returns-then-not-go_on : goal.returns-then-not-go_on
-returns-then-not-go_on g c =
+pub returns-then-not-go_on-clause-has : goal.returns-then-not-go_on-clause-has
+returns-then-not-go_on-clause-has g c =
     let m = c.args.self.now in
     let j = c.args.job in
     let k = top_fork_of m c.args.t.0 j c.requires.job in
@@ -40,11 +42,21 @@ invariant_of-self-2 g c =
       typing_room = m.typing_room;
     }
 
-pub returns : goal.returns
-returns g c =
+pub returns-clause-has : goal.returns-clause-has
+returns-clause-has g c =
     let m = c.args.self.now in
     let j = c.args.job in
     let k = top_fork_of m c.args.t.0 j c.requires.job in
     let can : can_continue k.0 ≡ true = sym (sym c.if-not-go_on.false ∙ c.go_on.ensures.goes ∙ ap (λ o. option_map_or can_continue o false) k.1) in
     let went : c.go_on.new.tree ≡ with_changed_of m.tree j.top resumed = c.go_on.ensures.tree ∙ ap (λ r. cond r (with_changed_of m.tree j.top resumed) m.tree) c.if-not-go_on.false in
     has_gone_on m _ c.args.t j c.requires.job refl refl refl refl (ap (λ k. set m.jobs.items c.args.t.0 (Some k)) c.in_program.ensures) c.are_trees.ensures k.0 k.1 can went
+
+pub returns-then-not-go_on-clause-others : goal.returns-then-not-go_on-clause-others
+returns-then-not-go_on-clause-others g c =
+    others_same c.args.t c.args.self.now.tree.forks _ (ap (λ (x : PlainTree). x.forks) (c.if-not-go_on.ensures.tree))
+
+pub returns-clause-others : goal.returns-clause-others
+returns-clause-others g c =
+    let m = c.args.self.now in
+    let j = c.args.job in
+    top_changed m c.args.t j c.requires.job c.are_trees.ensures resumed c.go_on.new.tree (c.go_on.ensures.tree ∙ ap (λ r. cond r (with_changed_of m.tree j.top resumed) m.tree) c.if-not-go_on.false)

@@ -10,6 +10,7 @@ use Rattle.monitor_core.proofs.Sounds.{same_tops_set, stands}
 use Rattle.monitor_core.proofs.Systems.{top_fork_of, unheld_still}
 use Rattle.monitor_core.proofs.CommandDid.{has_interrupted, stopped_keeps}
 use Rattle.monitor_core.proofs.TypeDid.{low_job, low_typed}
+use Rattle.monitor_core.proofs.JobOthers.{top_stopped}
 use Rattle.monitor_core.proofs.system.System.interrupt.Goals as goal
 
 pub stop-requires : goal.stop-requires
@@ -37,3 +38,6 @@ returns-clause-has g c =
     has_interrupted m _ c.args.t j c.requires.job c.are_trees.ensures refl refl refl _ refl
     (λ i. record ((c.index_mut-2.ensures.value ∙ read) i) { line = record { items = c.clear.ensures i } })
     (ap (λ k. set m.jobs.items c.args.t.0 (Some k)) c.in_command.ensures) c.stop.ensures
+
+pub returns-clause-others : goal.returns-clause-others
+returns-clause-others g c = top_stopped c.args.self.now c.args.t c.args.job c.requires.job c.are_trees.ensures c.args.job.mode c.stop.new.tree c.stop.ensures

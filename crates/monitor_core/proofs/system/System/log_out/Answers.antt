@@ -3,6 +3,7 @@ use Rattle.monitor_core.specs.Jobs.{AreUnheld}
 use Rattle.monitor_core.proofs.HasDone.{open_room, sound_gone, unheld_gone}
 use Rattle.monitor_core.proofs.RunDid.{has_logged_out}
 use Rattle.file_tables.specs.Tables.{open_of}
+use Rattle.monitor_core.proofs.JobOthers.{top_others}
 use Rattle.monitor_core.proofs.system.System.log_out.Goals as goal
 
 pub invariant_of-self : goal.invariant_of-self
@@ -16,5 +17,8 @@ invariant_of-self g c =
       typing_room = m.typing_room;
     }
 
-pub returns : goal.returns
-returns g c = has_logged_out c.args.self.now _ c.args.t c.args.job c.requires.job refl refl c.log_out.ensures.leaves c.release_all.ensures.files c.release_all.ensures.released refl c.log_out.ensures.told
+pub returns-clause-has : goal.returns-clause-has
+returns-clause-has g c = has_logged_out c.args.self.now _ c.args.t c.args.job c.requires.job refl refl c.log_out.ensures.leaves c.release_all.ensures.files c.release_all.ensures.released refl c.log_out.ensures.told
+
+pub returns-clause-others : goal.returns-clause-others
+returns-clause-others g c = top_others c.args.self.now c.args.t c.args.job c.requires.job c.log_out.new.tree.forks c.log_out.ensures.leaves.others

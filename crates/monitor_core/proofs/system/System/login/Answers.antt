@@ -11,8 +11,8 @@ use Rattle.monitor_core.proofs.Logins.{never_full, none_first, used_up}
 use Rattle.monitor_core.proofs.Sounds.{entry_read}
 use Rattle.monitor_core.proofs.system.System.login.Goals as goal
 
-pub returns-then-is_some : goal.returns-then-is_some
-returns-then-is_some g c =
+pub returns-then-is_some-clause-did : goal.returns-then-is_some-clause-did
+returns-then-is_some-clause-did g c =
     did_still c.args.self.now c.args.self.now refl refl refl refl refl refl (Login c.args.t c.args.user) (One (Refusal (Busy c.args.t))) c.requires.terminal
     (λ d f. is_busy c.args.self.now c.args.t c.args.user d (ap is_some (entry_read c.args.self.now.jobs.items c.args.t.0 c.index.result.now c.args.self.now.sound.job_room c.requires.terminal c.index.ensures) ∙ sym c.is_some.ensures ∙ c.if-is_some.true))
 
@@ -26,8 +26,8 @@ unreachable-requires-in-Err-ForksFull g c =
     let none = none_first g.P.Pages.means m.pages m.tree m.jobs.items m.sound c.args.t free c.requires.terminal c.are_trees.ensures in
     never_full m.tree c.args.t none (sym c.can_make.ensures ∙ c.in-Err-ForksFull.is ∙ ap Err c.in-Err-ForksFull.field-0-is)
 
-pub returns-in-Err-SerialsOut : goal.returns-in-Err-SerialsOut
-returns-in-Err-SerialsOut g c =
+pub returns-in-Err-SerialsOut-clause-did : goal.returns-in-Err-SerialsOut-clause-did
+returns-in-Err-SerialsOut-clause-did g c =
     let m = c.args.self.now in
     let free : job_at m.jobs.items c.args.t.0 ≡ None = (entry_read m.jobs.items c.args.t.0 c.index.result.now m.sound.job_room c.requires.terminal c.index.ensures) ∙ missing c.index.result.now (sym c.is_some.ensures ∙ c.if-is_some.false) in
     let none = none_first g.P.Pages.means m.pages m.tree m.jobs.items m.sound c.args.t free c.requires.terminal c.are_trees.ensures in

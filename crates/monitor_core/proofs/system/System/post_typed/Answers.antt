@@ -17,6 +17,7 @@ use Rattle.monitor_core.proofs.HasDone.{sound_kept}
 use Rattle.monitor_core.proofs.PostDid.{forced_fits, forced_is, has_posted, kept, stop_by}
 use Rattle.monitor_core.proofs.Systems.{unheld_still}
 use Rattle.monitor_core.proofs.UnitDid.{seen_fits, tops_left}
+use Rattle.monitor_core.proofs.JobOthers.{posts_stay}
 use Rattle.monitor_core.proofs.system.System.post_typed.Goals as goal
 
 pub invariant_of-self : goal.invariant_of-self
@@ -77,3 +78,6 @@ returns-clause-fits g c =
       subst (λ (n : ForkName). n.tty.0 < TERMINALS) (trees.slotted.own name f there) (trees.slotted.named f lived).0,
       subst FitsStop (sym c.seen_stop.ensures.stop) (seen_fits (is_stopped stop && not (f.slot == 1)) stop fits),
     )
+
+pub returns-clause-others : goal.returns-clause-others
+returns-clause-others g c t = posts_stay c.args.self.now.tree c.post_channels-forced.new.self c.are_trees.ensures c.args.name c.channel_word.result c.post_channels-forced.ensures.forks

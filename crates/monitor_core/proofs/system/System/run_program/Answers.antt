@@ -10,6 +10,7 @@ use Rattle.monitor_core.specs.declared.typing.Typing.{Typing}
 use Rattle.monitor_core.specs.Typings.{new_typing}
 use Rattle.monitor_core.proofs.TypeDid.{low_job, low_typed}
 use Rattle.file_tables.specs.Tables.{open_of}
+use Rattle.monitor_core.proofs.JobOthers.{top_others}
 use Rattle.monitor_core.proofs.system.System.run_program.Goals as goal
 
 pub run-requires-clause-lives : goal.run-requires-clause-lives
@@ -38,13 +39,19 @@ invariant_of-self-in-Err g c =
       typing_room = m.typing_room;
     }
 
-pub returns-in-Ok : goal.returns-in-Ok
-returns-in-Ok g c =
+pub returns-in-Ok-clause-has : goal.returns-in-Ok-clause-has
+returns-in-Ok-clause-has g c =
     let m = c.args.self.now in
     let at = c.index_mut-in-Ok.ensures.value ∙ stands m.typed.items c.args.t.0 c.index_mut-in-Ok.result.now new_typing (low_typed m m c.args.t c.args.job c.requires.job) in
     has_run_on m _ c.args.t c.args.job c.requires.job refl refl c.run.ensures.leaves c.args.name.now c.in-Some.file.0 c.in-Some.ensures.found.0 c.in-Some.ensures.found.1 NoProgram c.in-Ok.word _ refl
     (λ i. record (at i) { input = (c.forget_lost.ensures ∙ ap (λ (y : Typing). record y.input { codes = living_codes c.run.new.tree.forks y.input.codes }) at) i }) refl c.in-Ok.ensures.told
 
-pub returns-in-Err : goal.returns-in-Err
-returns-in-Err g c =
+pub returns-in-Err-clause-has : goal.returns-in-Err-clause-has
+returns-in-Err-clause-has g c =
     has_not_run c.args.self.now _ c.args.t c.args.job c.requires.job refl refl c.run.ensures.leaves c.args.name.now c.in-Some.file.0 c.in-Some.ensures.found.0 c.in-Some.ensures.found.1 c.in-Err.field-0 refl refl c.in-Err.ensures.told
+
+pub returns-in-Ok-clause-others : goal.returns-in-Ok-clause-others
+returns-in-Ok-clause-others g c = top_others c.args.self.now c.args.t c.args.job c.requires.job c.run.new.tree.forks c.run.ensures.leaves.others
+
+pub returns-in-Err-clause-others : goal.returns-in-Err-clause-others
+returns-in-Err-clause-others g c = top_others c.args.self.now c.args.t c.args.job c.requires.job c.run.new.tree.forks c.run.ensures.leaves.others

@@ -10,6 +10,7 @@ use Rattle.monitor_core.proofs.HasDone.{change_keeps, sound_kept}
 use Rattle.monitor_core.proofs.Sounds.{same_tops_set}
 use Rattle.monitor_core.proofs.Systems.{top_fork_of, unheld_still}
 use Rattle.monitor_core.proofs.TypeDid.{low_job}
+use Rattle.monitor_core.proofs.JobOthers.{top_changed}
 use Rattle.monitor_core.proofs.system.System.start_again.Goals as goal
 
 pub start-requires-clause-lives : goal.start-requires-clause-lives
@@ -29,9 +30,12 @@ invariant_of-self g c =
       typing_room = m.typing_room;
     }
 
-pub returns : goal.returns
-returns g c =
+pub returns-clause-has : goal.returns-clause-has
+returns-clause-has g c =
     let m = c.args.self.now in
     let j = c.args.job in
     has_started m _ c.args.t j c.requires.job refl refl refl refl (ap (λ k. set m.jobs.items c.args.t.0 (Some k)) c.in_program.ensures) c.are_trees.ensures c.in-Some.word c.in-Some.is
     (subst (λ a. a < 2 ^ 18) c.right.ensures.value c.right.ensures.below) (c.start.ensures ∙ ap (λ a. with_changed_of m.tree j.top (restarted a)) c.right.ensures.value)
+
+pub returns-clause-others : goal.returns-clause-others
+returns-clause-others g c = top_changed c.args.self.now c.args.t c.args.job c.requires.job c.are_trees.ensures (restarted c.right.result) c.start.new.tree c.start.ensures

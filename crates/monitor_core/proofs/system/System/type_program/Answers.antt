@@ -14,6 +14,7 @@ use Rattle.monitor_core.proofs.JobDid.{put_back}
 use Rattle.monitor_core.proofs.PostDid.{has_posting}
 use Rattle.monitor_core.proofs.Sounds.{same_tops, stands}
 use Rattle.monitor_core.proofs.TypeDid.{low_typed}
+use Rattle.monitor_core.proofs.JobOthers.{readers_stay}
 use Rattle.monitor_core.proofs.system.System.type_program.Goals as goal
 
 pub invariant_of-self : goal.invariant_of-self
@@ -55,3 +56,6 @@ returns-in-Posts-clause-has g c =
     let typed = put_back m.typed.items t.0 c.index_mut.result.now _ c.index_mut.ensures.value (λ i. record c.index_mut.result.now { input = sym c.in-Posts.ensures.line i }) in
     has_posting m c.post_typed.new.self t c.args.job code c.in-Posts.fork c.in-Posts.channel _ (echo_items t c.post_typed.result) (c.in-Posts.ensures.fate ∙ ap (λ (y : Typing). fate_of y.input code) at)
     (has_from m _ c.post_typed.new.self t c.args.job (λ s j. posted_at s c.in-Posts.fork c.in-Posts.channel) (echo_items t c.post_typed.result) refl refl refl refl typed refl (c.post_typed.ensures.has t))
+
+pub returns-in-Stored-clause-others : goal.returns-in-Stored-clause-others
+returns-in-Stored-clause-others g c = readers_stay c.args.self.now.tree c.wake.new.tree c.wake.ensures.was c.args.t c.wake.ensures.tree

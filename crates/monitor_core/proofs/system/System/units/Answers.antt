@@ -1,11 +1,21 @@
-use Rattle.std.proofs.Common.{◌≡◌, length, IsSome, is_some, refl, sym, ◌∙◌, ap, subst, arith}
+use Rattle.std.proofs.Common.{◌≡◌, ℕ, ◌≤◌, cond, length, IsSome, is_some, refl, sym, ◌∙◌, ap, subst, arith}
 use Rattle.plain_model.specs.declared.fork.Fork.{Fork}
 use Rattle.monitor_core.specs.Limits.{CanUnit}
 use Rattle.monitor_core.specs.Runners.{told_at}
 use Rattle.monitor_core.specs.Shown.{is_stop, seen_of}
 use Rattle.monitor_core.proofs.Running.{place_of, runner, runner_lives, runner_only, runner_runs, runner_there}
+use Rattle.monitor_core.specs.Reaching.{Reaches}
+use Rattle.monitor_core.specs.declared.units.Reach.TheVariants.{Job}
+use Rattle.monitor_core.specs.Replies.{line_before}
+use Rattle.monitor_core.proofs.ReachDid.{reaches_others, told_reaches}
 use Rattle.monitor_core.proofs.UnitDid.{did_units, has_job, left_keeps, unheld_left, units_sound, waits_sound, waits_still, waits_unheld}
 use Rattle.monitor_core.proofs.system.System.units.Goals as goal
+
+single : (room count : ℕ) → count ≤ room → room ≡ 1 → count ≤ 1
+single room count few one = omega (arith, few, one)
+
+pub units_of-ran-requires-clause-clock : goal.units_of-ran-requires-clause-clock
+units_of-ran-requires-clause-clock g c = omega (arith, c.requires.few.ticks)
 
 pub units_of-ran-requires-clause-there : goal.units_of-ran-requires-clause-there
 units_of-ran-requires-clause-there g c = subst IsSome (sym (runner_there c.args.self.now.tree c.args.who c.requires.can)) refl
@@ -60,8 +70,8 @@ invariant_of-self-in-Ok g c =
     let units = c.in-Ok.units in
     let ran = c.in-Ok.ensures.ran (place_of r.fork) r.fork.body (runner_there m.tree who r) in
     let left = c.units_of-ran.new.tree in
-    let told : c.tell_where.new.tree ≡ told_at left who.fork (is_stop units.shown) = c.tell_where.ensures ∙ ap (told_at left who.fork) c.is_stop.ensures in
-    record { unheld = unheld_left m f r.trees (runner_lives m.tree who r) c.units_of-ran.new.files ran.unheld c.seen.result c.seen.ensures.jobs; sound = units_sound m f r.trees (runner_lives m.tree who r) c.units_of-ran.new.pages left c.tell_where.new.tree units.count ran.leaves c.are_trees.ensures (left_keeps m f r.trees (runner_lives m.tree who r) c.units_of-ran.new.pages left c.tell_where.new.tree c.units_of-ran.new.files c.units_of-ran.new.typed.items units ran c.are_trees.ensures told) c.are_trees-in-Ok.ensures c.seen.new.jobs.items c.seen.result c.seen.ensures.jobs; typing_room = ran.typing_room }
+    let told : c.tell_where.new.tree ≡ told_at left who.fork (is_stop units.shown) = c.tell_where.ensures ∙ ap (told_at left who.fork) c.is_stop-stops.ensures in
+    record { unheld = unheld_left m f r.trees (runner_lives m.tree who r) c.units_of-ran.new.files ran.unheld c.seen-shown.result c.seen-shown.ensures.jobs; sound = units_sound m f r.trees (runner_lives m.tree who r) c.units_of-ran.new.pages left c.tell_where.new.tree units.count ran.leaves c.are_trees.ensures (left_keeps m f r.trees (runner_lives m.tree who r) c.units_of-ran.new.pages left c.tell_where.new.tree c.units_of-ran.new.files c.units_of-ran.new.typed.items units ran c.are_trees.ensures told) c.are_trees-in-Ok.ensures c.seen-shown.new.jobs.items c.seen-shown.result c.seen-shown.ensures.jobs; typing_room = ran.typing_room }
 
 pub returns-in-Ok-clause-did : goal.returns-in-Ok-clause-did
 returns-in-Ok-clause-did g c =
@@ -71,8 +81,25 @@ returns-in-Ok-clause-did g c =
     let f = runner m.tree who r in
     let units = c.in-Ok.units in
     let ran = c.in-Ok.ensures.ran (place_of r.fork) r.fork.body (runner_there m.tree who r) in
-    let seen : c.seen.result ≡ seen_of r.fork.slot units.shown = c.seen.ensures.shown ∙ ap (λ n. seen_of n units.shown) (sym r.there.2) in
+    let seen : c.seen-shown.result ≡ seen_of r.fork.slot units.shown = c.seen-shown.ensures.shown ∙ ap (λ n. seen_of n units.shown) (sym r.there.2) in
     let left = c.units_of-ran.new.tree in
-    let told : c.tell_where.new.tree ≡ told_at left who.fork (is_stop units.shown) = c.tell_where.ensures ∙ ap (told_at left who.fork) c.is_stop.ensures in
+    let told : c.tell_where.new.tree ≡ told_at left who.fork (is_stop units.shown) = c.tell_where.ensures ∙ ap (told_at left who.fork) c.is_stop-stops.ensures in
     let can = runner_runs m.tree who r in
-    did_units m f r.trees (runner_lives m.tree who r) c.units_of-ran.new.pages left c.tell_where.new.tree c.units_of-ran.new.files c.units_of-ran.new.typed.items units ran c.are_trees.ensures told _ refl refl refl refl c.seen.result can.0 can.1 seen c.seen.ensures.jobs refl c.in-Ok.ensures.some
+    did_units m f r.trees (runner_lives m.tree who r) c.units_of-ran.new.pages left c.tell_where.new.tree c.units_of-ran.new.files c.units_of-ran.new.typed.items units ran c.are_trees.ensures told _ refl refl refl refl c.seen-shown.result can.0 can.1 seen c.seen-shown.ensures.jobs refl c.in-Ok.ensures.some c.line_before-line.result (c.line_before-line.ensures ∙ ap (line_before m.panel.trace) (runner_there m.tree who r)) (λ some. single c.row_room.result units.count c.in-Ok.ensures.few (c.row_room.ensures.one some))
+
+pub returns-in-Err-clause-others : goal.returns-in-Err-clause-others
+returns-in-Err-clause-others g c = c.units_of-ran.ensures.others
+
+pub returns-in-Ok-clause-reach : goal.returns-in-Ok-clause-reach
+returns-in-Ok-clause-reach g c =
+    let units = c.in-Ok.units in
+    let reaches = told_reaches units.reach c.is_stop-stops.result c.args.who.fork c.args.self.now.tree c.units_of-ran.new.tree c.tell_where.new.tree c.requires.can.trees.slotted.own c.are_trees.ensures.slotted.own c.in-Ok.ensures.reach c.tell_where.ensures in
+    subst (λ x. Reaches x c.args.who.fork c.args.self.now.tree c.tell_where.new.tree) (sym c.reach_told.ensures) reaches
+
+pub returns-in-Ok-clause-others : goal.returns-in-Ok-clause-others
+returns-in-Ok-clause-others g c =
+    let units = c.in-Ok.units in
+    let stops = c.is_stop-stops.result in
+    let own = c.requires.can.trees.slotted.own in
+    reaches_others (cond stops Job units.reach) c.args.who.fork c.args.self.now.tree c.tell_where.new.tree own
+    (told_reaches units.reach stops c.args.who.fork c.args.self.now.tree c.units_of-ran.new.tree c.tell_where.new.tree own c.are_trees.ensures.slotted.own c.in-Ok.ensures.reach c.tell_where.ensures)

@@ -16,4 +16,4 @@ returns-then-is_same_turn-clause-ok g c =
     let counted : run_count c.args.self.now.run ≡ r.count = ap run_count c.in-Some.is in
     turns_given _ _ _ _ (step_of c.args.turn) c.args.n (r.count + 1) c.requires.some (turn_counted c.args.turn) (subst (Grows (g.R.Sink.taken c.args.self.now.rec.now) (g.R.Sink.taken c.args.self.now.rec.now)) (sym text) (grows_none (g.R.Sink.taken c.args.self.now.rec.now))) run
     (λ small. ap (λ k. Some (step_of r.turn, k)) (omega (arith, c.saturating_add.ensures, small, counted, c.requires.some)) ∙ ap (λ x. Some (x, r.count + 1 + (c.args.n - 1))) (joins_step r.turn c.args.turn same))
-    (omega (arith, c.saturating_add.ensures, counted)) refl refl
+    (omega (arith, c.saturating_add.ensures, counted)) refl refl c.count_turns.ensures

@@ -6,7 +6,7 @@ use Rattle.texts.proofs.writer.Writer.event.Goals as goal
 
 pub returns-clause-ok : goal.returns-clause-ok
 returns-clause-ok g c =
-    step_goes_on _ _ _ _ (Outer c.args.e) (same_grows _ _ _ _ c.entry_line-line.ensures (went _ c.counted.ensures.answer c.in_ok-counted.was c.put.ensures.ok)) (λ small. refl) (omega arith) refl refl
+    step_goes_on _ _ _ _ (Outer c.args.e) (same_grows _ _ _ _ c.entry_line-line.ensures (went _ c.counted.ensures.answer c.in_ok-counted.was c.put.ensures.ok)) (λ small. refl) (omega arith) refl refl (c.count_event.ensures c.args.e)
 
 pub returns-in_err-counted-clause-err : goal.returns-in_err-counted-clause-err
 returns-in_err-counted-clause-err g c =

@@ -8,4 +8,4 @@ pub returns-clause-cut : goal.returns-clause-cut
 returns-clause-cut g c = kept_within _ _ _ _ c.flush_both.ensures.keeps
 
 pub returns-clause-cut_at_end : goal.returns-clause-cut_at_end
-returns-clause-cut_at_end g c last = kept_at_end _ _ _ _ c.flush_both.ensures.keeps last
+returns-clause-cut_at_end g c last counts = kept_at_end _ _ _ _ c.flush_both.ensures.keeps last counts

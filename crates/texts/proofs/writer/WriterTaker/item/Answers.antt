@@ -5,7 +5,7 @@ use Rattle.texts.proofs.writer.WriterTaker.item.Goals as goal
 
 pub returns-clause-ok : goal.returns-clause-ok
 returns-clause-ok g c =
-    item_goes_on _ _ _ _ c.args.i (same_grows _ _ _ _ c.item_line-line.ensures (went _ c.counted.ensures.answer c.in_ok-counted.was c.put.ensures.ok)) c.open_line-self.ensures refl refl
+    item_goes_on _ _ _ _ c.args.i (same_grows _ _ _ _ c.item_line-line.ensures (went _ c.counted.ensures.answer c.in_ok-counted.was c.put.ensures.ok)) c.open_line-self.ensures refl refl c.count_item.ensures
 
 pub returns-in_err-counted-clause-err : goal.returns-in_err-counted-clause-err
 returns-in_err-counted-clause-err g c =

@@ -1,6 +1,6 @@
-// Words, and the sizes that they ask for.
+// Words, and the run that they ask for.
 use crate::same::same_for;
-use command_words::{Sizes, asked_sizes};
+use command_words::{EventSource, Request, Sizes, asked_run};
 use std::alloc::{AllocError, Global};
 use std::process::Abort;
 use std::test::Fail;
@@ -12,10 +12,10 @@ fn words_of(alloc: Global, line: &str) -> Result<Vec<String>, AllocError> {
         .try_collect(alloc)
 }
 
-// The words of a line ask for these sizes, or for nothing.
-fn asks(rt: &impl Abort, alloc: Global, line: &str, want: Option<Sizes>) -> Result<(), Fail> {
+// The words of a line ask for this run, or for nothing.
+fn asks(rt: &impl Abort, alloc: Global, line: &str, want: Option<Request>) -> Result<(), Fail> {
     let words = words_of(alloc, line)?;
-    same_for(rt, line.as_bytes(), asked_sizes(alloc, &words), Ok(want));
+    same_for(rt, line.as_bytes(), asked_run(alloc, &words), Ok(want));
     Ok(())
 }
 
@@ -34,7 +34,74 @@ fn right_words_ask_for_sizes(rt: HostRuntime) -> Result<(), Fail> {
         ("run --frames 161 --drum 257", 161, 257),
         ("run --frames=8191 --drum=16383", 8191, 16383),
     ] {
-        asks(&rt, alloc, line, Some(Sizes { frames, drum }))?;
+        let request = Request {
+            events: EventSource::Script,
+            sizes: Sizes { frames, drum },
+        };
+        asks(&rt, alloc, line, Some(request))?;
+    }
+    Ok(())
+}
+
+#[test]
+fn a_seed_asks_for_a_generated_script(rt: HostRuntime) -> Result<(), Fail> {
+    let alloc = rt.alloc();
+    for (line, seed, frames, drum) in [
+        ("big 7", 7, 256, 2048),
+        ("big 0", 0, 256, 2048),
+        ("big 000000007", 7, 256, 2048),
+        ("big 999999999", 999_999_999, 256, 2048),
+        ("big 7 --frames 160", 7, 160, 2048),
+        ("big --frames 160 7", 7, 160, 2048),
+        ("big --frames=160 7 --drum 256", 7, 160, 256),
+        ("big --drum 256 --frames 160 7", 7, 160, 256),
+        ("big 160 --frames 161", 160, 161, 2048),
+        ("big --frames 161 160", 160, 161, 2048),
+    ] {
+        let request = Request {
+            events: EventSource::Generated(seed),
+            sizes: Sizes { frames, drum },
+        };
+        asks(&rt, alloc, line, Some(request))?;
+    }
+    Ok(())
+}
+
+#[test]
+fn other_seeds_ask_for_nothing(rt: HostRuntime) -> Result<(), Fail> {
+    let alloc = rt.alloc();
+    for line in [
+        "big",
+        "big ",
+        "big --frames 160",
+        "big --frames 7",
+        "big 7 8",
+        "big 7 --frames 160 8",
+        "big 0000000007",
+        "big 1000000000",
+        "big -7",
+        "big +7",
+        "big 7x",
+        "big 0x7",
+        "big -",
+        "big --",
+        "big -- 7",
+        "big 7 --",
+        "big 7 --frames",
+        "big 7 --frames 159",
+        "big 7 --frames 160 --frames 160",
+        "big --seed 7",
+        "big --seed=7",
+        "big 7 run",
+        "big run",
+        "big help",
+        "BIG 7",
+        "7 big",
+        "7",
+        "run 7",
+        "run 7 --frames 160",
+    ] {
+        asks(&rt, alloc, line, None)?;
     }
     Ok(())
 }
@@ -47,7 +114,6 @@ fn other_words_ask_for_nothing(rt: HostRuntime) -> Result<(), Fail> {
         "RUN",
         "ran",
         "runs",
-        "big 7",
         "run run",
         "run 160",
         "run --",
@@ -95,6 +161,6 @@ fn other_words_ask_for_nothing(rt: HostRuntime) -> Result<(), Fail> {
         asks(&rt, alloc, line, None)?;
     }
     let none = Vec::new(alloc);
-    same_for(&rt, b"no words", asked_sizes(alloc, &none), Ok(None));
+    same_for(&rt, b"no words", asked_run(alloc, &none), Ok(None));
     Ok(())
 }

@@ -1,0 +1,40 @@
+use Rattle.std.proofs.Common.{◌≡◌, IsSome, ap, sym, subst, inl, inr}
+use Rattle.std.specs.FinMap as map
+use Rattle.script_texts.specs.declared.event.Event.{Event}
+use Rattle.monitor_core.specs.Reaching.{EventReaches}
+use Rattle.plain_model.specs.Trees.{PlainTree}
+use Rattle.fork_lists.specs.Ties.{AreTied}
+use Rattle.monitor_core.proofs.ListsTied.{can_follow, can_follow_all, tied_all, tied_followed, awoken_live}
+use Rattle.monitor_core.proofs.machine.following.follow_event.Goals as goal
+
+pub follow-requires-clause-can : goal.follow-requires-clause-can
+follow-requires-clause-can c =
+    let f = c.requires.followed in
+    can_follow f.old.forks f.trees.slotted c.args.lists.now f.tied c.in-Some.t c.args.tree.now.forks c.are_trees.ensures.slotted (c.in-Some.ensures.1 f.clock f.old c.args.tree.now f.reaches)
+
+pub returns-in-Some : goal.returns-in-Some
+returns-in-Some c =
+    let f = c.requires.followed in
+    tied_followed f.old.forks f.trees.slotted c.args.lists.now f.tied c.in-Some.t c.args.tree.now.forks c.are_trees.ensures.slotted (c.in-Some.ensures.1 f.clock f.old c.args.tree.now f.reaches) c.follow.new.self c.follow.ensures.follows
+
+pub follow_all-requires : goal.follow_all-requires
+follow_all-requires c =
+    let f = c.requires.followed in
+    let awoken = subst (λ (e : Event). EventReaches e f.clock f.old c.args.tree.now) c.in-Tick.is f.reaches in
+    record {
+      can = can_follow_all f.old.forks f.trees.slotted c.args.lists.now f.tied c.args.tree.now.forks
+          (λ g lives. subst (λ (x : PlainTree). IsSome (map.get x.forks g)) (sym awoken) (awoken_live f.old f.trees f.clock g lives));
+    }
+
+pub returns-in-Tick : goal.returns-in-Tick
+returns-in-Tick c =
+    let f = c.requires.followed in
+    tied_all f.old.forks f.trees.slotted c.args.lists.now f.tied c.args.tree.now.forks c.follow_all.new.self c.follow_all.ensures.follows
+
+pub returns-in_default : goal.returns-in_default
+returns-in_default c =
+    let f = c.requires.followed in
+    elim (c.in-None.ensures) [
+      | inl tick ↦ absurd (c.in_default.not-Tick tick)
+      | inr stays ↦ subst (λ (x : PlainTree). AreTied x.forks c.args.lists.now) (sym (stays f.clock f.old c.args.tree.now f.reaches)) f.tied
+    ]

@@ -1,0 +1,53 @@
+-- What the lists of a machine are before they follow a step.
+use Rattle.std.specs.Prelude.{◌≡◌, ◌⊎◌, ℕ, ◌<◌, length, true}
+use Rattle.machine_names.specs.declared.names.ForkName.{ForkName}
+use Rattle.machine_names.specs.declared.names.Tty.{Tty}
+use Rattle.plain_model.specs.Forks.{OthersStay}
+use Rattle.plain_model.specs.Trees.{PlainTree}
+use Rattle.script_texts.specs.declared.event.Event.{Event}
+use Rattle.script_texts.specs.declared.event.Event.TheVariants.{Tick}
+use Rattle.machine_names.specs.Bounds.{IsTerminal}
+use Rattle.fork_tree.specs.Trees.{IsTree}
+use Rattle.job_sched.specs.Schedules.{Schedule, heads}
+use Rattle.fork_lists.specs.declared.lists.ForkLists.{ForkLists}
+use Rattle.fork_lists.specs.Ties.{AreTied}
+use Rattle.monitor_core.specs.declared.runner.Runner.{Runner}
+use Rattle.monitor_core.specs.declared.units.Reach.{Reach}
+use Rattle.monitor_core.specs.Reaching.{EventReaches, Reaches}
+use Rattle.monitor_core.specs.Runners.{IsRunner}
+
+-- a fork is the head of the ready list
+pub record IsHead (s : Schedule) (f : ForkName) : Type 0 where
+  pub some : 0 < length s.ready
+  pub head : heads f s.ready ≡ true
+
+-- the lists had the forks that could run before a row of units of one, which has reached so far
+pub record RowEnded (l : ForkLists) (now : PlainTree) (who : Runner) (reach : Reach) : Type 0 where
+  pub old : PlainTree
+  pub trees : IsTree old
+  pub tied : AreTied old.forks l
+  pub runner : IsRunner old who
+  pub reaches : Reaches reach who.fork old now
+
+-- the lists had those that could run before an event
+pub record AreFollowed (l : ForkLists) (now : PlainTree) (e : Event) : Type 0 where
+  pub old : PlainTree
+  pub clock : ℕ
+  pub trees : IsTree old
+  pub tied : AreTied old.forks l
+  pub reaches : EventReaches e clock old now
+
+-- the lists had those that could run before forks of a job changed
+pub record IsFollowed (l : ForkLists) (now : PlainTree) (t : Tty) : Type 0 where
+  pub old : PlainTree
+  pub trees : IsTree old
+  pub tied : AreTied old.forks l
+  pub others : OthersStay t old.forks now.forks
+
+-- an event changes forks of the job at this terminal alone
+abbrev pub IsOf : Event → Tty → Type 0
+IsOf e t = IsTerminal t × ((clock : ℕ) (old new : PlainTree) → EventReaches e clock old new → OthersStay t old.forks new.forks)
+
+-- an event is a tick, or changes no fork
+abbrev pub IsOfNone : Event → Type 0
+IsOfNone e = (e ≡ Tick) ⊎ ((clock : ℕ) (old new : PlainTree) → EventReaches e clock old new → new ≡ old)

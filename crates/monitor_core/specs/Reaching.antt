@@ -1,0 +1,49 @@
+-- How far a step reaches among the forks, whatever a drum holds.
+use Rattle.std.specs.Prelude.{◌≡◌, ℕ, ◌||◌, if◌then◌else◌}
+use Rattle.machine_names.specs.declared.names.ForkName.{ForkName}
+use Rattle.machine_names.specs.declared.names.Tty.{Tty}
+use Rattle.script_texts.specs.declared.event.Event.{Event}
+use Rattle.script_texts.specs.declared.event.Event.TheVariants.{Login, Poke, Start, Tick, Examine, Forks}
+use Rattle.plain_model.specs.declared.fork.Body.{Body}
+use Rattle.plain_model.specs.Calls.{is_among}
+use Rattle.plain_model.specs.ClockCalls.{clock_calls}
+use Rattle.plain_model.specs.ForkCalls.{fork_calls}
+use Rattle.plain_model.specs.Forks.{OthersStay}
+use Rattle.plain_model.specs.InterruptCalls.{interrupt_calls}
+use Rattle.plain_model.specs.Trees.{PlainTree, sleepers_awoken}
+use Rattle.fork_tree.specs.Changes.{with_body_of}
+use Rattle.monitor_core.specs.declared.echo.Echo.{Echo}
+use Rattle.monitor_core.specs.declared.echo.Echo.TheVariants.{Posts}
+use Rattle.monitor_core.specs.declared.units.Reach.{Reach}
+use Rattle.monitor_core.specs.declared.units.Reach.TheVariants.{Own, Job}
+
+-- only this fork may stand otherwise, and of it no more than its body
+pub record ReachesOwn (who : ForkName) (old new : PlainTree) : Type 0 where
+  pub body : Body
+  pub left : new ≡ with_body_of old who body
+
+-- so far a fork may have reached: only it may stand otherwise, or only forks of its job
+abbrev pub Reaches : Reach → ForkName → PlainTree → PlainTree → Type 0
+Reaches Own who old new = ReachesOwn who old new
+Reaches Job who old new = OthersStay who.tty old.forks new.forks
+
+-- how far a monitor call of this number may reach: the calls on forks, on interrupts and on the clock change forks
+abbrev pub reach_of : ℕ → Reach
+reach_of number = if is_among fork_calls number || (is_among interrupt_calls number || is_among clock_calls number) then Job else Own
+
+-- how far an event that is one step may reach, which leaves the clock so: forks of its terminal's job may stand otherwise; a tick awakes
+-- sleepers; and an event of no terminal leaves all as it was
+abbrev pub EventReaches : Event → ℕ → PlainTree → PlainTree → Type 0
+EventReaches (Login t user) clock old new = OthersStay t old.forks new.forks
+EventReaches (Poke t address word) clock old new = OthersStay t old.forks new.forks
+EventReaches (Start t address) clock old new = OthersStay t old.forks new.forks
+EventReaches (Examine t serial address) clock old new = OthersStay t old.forks new.forks
+EventReaches (Forks t) clock old new = OthersStay t old.forks new.forks
+EventReaches Tick clock old new = new ≡ record old { forks = sleepers_awoken clock old.forks }
+EventReaches e clock old new = new ≡ old
+
+-- whose job's forks may stand otherwise behind a character that is typed at a terminal and shows this: that terminal's, or those of the
+-- job to whose fork a channel is posted
+abbrev pub reached_at : Tty → Echo → Tty
+reached_at t (Posts u stop) = u
+reached_at t other = t

@@ -1,0 +1,89 @@
+// The lists of the machine follow what a step has done to the forks.
+ghost use Rattle.std.specs.Prelude.{◌≡◌, ◌≤◌, MatchOption};
+ghost use Rattle.fork_lists.specs.Ties.{AreTied};
+ghost use Rattle.job_sched.specs.Units.{IsRow};
+ghost use Rattle.machine_names.specs.Bounds.{IsTerminal};
+ghost use Rattle.script_texts.specs.Limits.{FitsEvent};
+ghost use Rattle.monitor_core.specs.Following.{AreFollowed, IsFollowed, IsHead, IsOf, IsOfNone, RowEnded};
+ghost use Rattle.monitor_core.specs.Reaching.{reached_at};
+
+use crate::echo::Echo;
+use crate::runner::Runner;
+use crate::units::Reach;
+use fork_lists::ForkLists;
+use fork_tree::Tree;
+use machine_names::Tty;
+use script_texts::Event;
+
+/// A row of units of the head is over, which has reached so far among the forks: the units before the last are counted to its quantum, who stopped
+/// leaves the lists and who started enters them, and then the last unit is counted, where the head still stands.
+pub fn end_row(lists: &mut ForkLists, tree: &Tree, who: Runner, reach: Reach, count: u32)
+    requires ended { RowEnded lists.old tree.now who reach }
+    requires head { IsHead lists.old.sched who.fork }
+    requires row { IsRow count lists.old.sched }
+    requires some { 1 ≤ count }
+    ensures { AreTied tree.now.forks lists.new }
+{
+    lists.ran_row(count - 1);
+    tree.are_trees();
+    match reach {
+        Reach::Own => lists.follow_slot(tree, who.fork, who.slot),
+        Reach::Job => lists.follow(tree, who.fork.tty),
+    }
+    if lists.is_head(who.fork) {
+        lists.sound();
+        lists.ran_row(1);
+    }
+}
+
+// The terminal of whose job an event may change forks. None, where it is an event of no terminal.
+fn terminal_of(e: &Event) -> Option<Tty>
+    requires { FitsEvent e.now }
+    ensures { MatchOption result (IsOfNone e.now) (IsOf e.now) }
+{
+    match e {
+        Event::Login(t, _) => Some(*t),
+        Event::Poke(t, _, _) => Some(*t),
+        Event::Start(t, _) => Some(*t),
+        Event::Examine(t, _, _) => Some(*t),
+        Event::Forks(t) => Some(*t),
+        _ => None,
+    }
+}
+
+/// The lists follow an event that is one step.
+pub fn follow_event(lists: &mut ForkLists, tree: &Tree, e: &Event)
+    requires fits { FitsEvent e.now }
+    requires followed { AreFollowed lists.old tree.now e.now }
+    ensures { AreTied tree.now.forks lists.new }
+{
+    tree.are_trees();
+    match terminal_of(e) {
+        Some(t) => lists.follow(tree, t),
+        None => {
+            if let Event::Tick = e {
+                lists.follow_all(tree);
+            }
+        }
+    }
+}
+
+// The terminal of whose job a character may change forks, which was typed at a terminal and shows this.
+fn reached_terminal(t: Tty, shown: &Echo) -> Tty
+    ensures { result ≡ reached_at t shown.now }
+{
+    match shown {
+        Echo::Posts(u, _) => *u,
+        _ => t,
+    }
+}
+
+/// The lists follow a character that was typed at a terminal and shows this.
+pub fn follow_typed(lists: &mut ForkLists, tree: &Tree, t: Tty, shown: &Echo)
+    requires terminal { IsTerminal (reached_at t shown.now) }
+    requires followed { IsFollowed lists.old tree.now (reached_at t shown.now) }
+    ensures { AreTied tree.now.forks lists.new }
+{
+    tree.are_trees();
+    lists.follow(tree, reached_terminal(t, shown));
+}

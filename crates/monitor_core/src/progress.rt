@@ -1,0 +1,11 @@
+// What units of a fork came to.
+use crate::reply::Reply;
+use crate::units::Reach;
+
+/// What units of a fork in a row came to: how many they were, at least one, what they show, and how far they reached among the forks.
+#[derive(Clone, Copy)]
+pub struct Progress {
+    pub count: u32,
+    pub reply: Reply,
+    pub reach: Reach,
+}
