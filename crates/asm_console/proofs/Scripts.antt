@@ -1,11 +1,11 @@
 -- The lines that put words are lines of a script.
-use Rattle.std.proofs.Common.{◌≡◌, ℕ, suc, ◌+◌, ◌<◌, ◌≤◌, List, [], ◌∷◌, ◌++◌, length, take, get_or, map, All, inl, refl, ◌∙◌, sym, ap}
+use Rattle.std.proofs.Common.{◌≡◌, ℕ, suc, ◌+◌, ◌*◌, ◌<◌, ◌≤◌, List, [], ◌∷◌, ◌++◌, length, take, get_or, map, All, inl, refl, ◌∙◌, sym, ap, arith, codes, length-append}
 use Rattle.std.proofs.lemmas.List.{map-append, take_all, take_more}
 use Rattle.std.proofs.lemmas.List.Elements.{All-head, All-push, All-same, All-tail}
 use Rattle.machine_names.specs.declared.names.Tty.{Tty}
 use Rattle.script_texts.specs.Limits.{FitsEvent}
-use Rattle.script_texts.specs.Script.{AreLines, Gives, GiveAll, joined}
-use Rattle.script_texts.specs.Texts.{line_of}
+use Rattle.script_texts.specs.Script.{AreLines, Gives, GiveAll, IsScript, joined, most_bytes, turns_in}
+use Rattle.script_texts.specs.Texts.{field, line_of}
 use Rattle.script_lang.proofs.CanonicalPlain.{plain_line}
 use Rattle.script_lang.proofs.CanonicalSpells.{short, spells}
 use Rattle.asm_core.specs.declared.line.Placed.{Placed}
@@ -20,7 +20,7 @@ module _ (t : Tty) where
   unfolding bare
   one_gives p h =
       let e = event_of t p in
-      (record { short = short e h; no_feed = plain_line e h }, inl (e, record { spelled = spells e h; built = tt }, refl))
+      (record { short = short e h; no_feed = plain_line e h }, inl (e, spells e h, refl))
 
   all_give : (program : List Placed) → All FitsEvent (events_of t program) → GiveAll (map bare program) (events_of t program)
   all_give [] h = refl
@@ -38,6 +38,38 @@ module _ (t : Tty) where
 
   pub lines_read : (program : List Placed) → All FitsEvent (events_of t program) → AreLines (lines_text t program) (length program) (events_of t program)
   lines_read program h = record { lines = map bare program; whole = whole program; many = many program; gives = all_give program h }
+
+-- no word asks for a turn
+pub no_turns : (t : Tty) (program : List Placed) → turns_in (events_of t program) ≡ 0
+no_turns t [] = refl
+no_turns t (p ∷ ps) = let rest = no_turns t ps in omega (arith, rest)
+
+-- a line that puts a word has at most 28 bytes: its word, two digits, six and twelve, each behind a space, and the line feed
+line_short : (t : Tty) (p : Placed) → FitsEvent (event_of t p) → length (placed_line t p) ≤ 28
+line_short t p h =
+    let (a, b, c, is, (decimal, _), octal, word) = spells (event_of t p) h in
+    let whole = length-append (line_of (event_of t p)) (10 ∷ []) in
+    let fields = length-append a (field b ++ field c) in
+    let two = length-append (field b) (field c) in
+    let line = ap length is in
+    let front = length-append (codes "POKE ") (a ++ (field b ++ field c)) in
+    omega (arith, whole, fields, two, line, front, decimal.1, octal.0.1, word.0.1)
+
+pub lines_short : (t : Tty) (program : List Placed) → All FitsEvent (events_of t program) → length (lines_text t program) ≤ 28 * length program
+lines_short t [] h = omega arith
+lines_short t (p ∷ ps) h =
+    let both = length-append (placed_line t p) (lines_text t ps) in
+    let one = line_short t p (All-head FitsEvent _ _ h) in
+    let rest = lines_short t ps (All-tail FitsEvent _ _ h) in
+    omega (arith, both, one, rest)
+
+pub lines_script : (t : Tty) (program : List Placed) → All FitsEvent (events_of t program) → 28 * length program ≤ most_bytes → IsScript (lines_text t program) (events_of t program)
+lines_script t program h few = record {
+  count = length program;
+  lines = lines_read t program h;
+  few = let none = no_turns t program in omega (arith, none);
+  short = let all = lines_short t program h in omega (arith, all, few);
+}
 
 -- the events of one word more
 pub fits_more : (t : Tty) (program : List Placed) (i : ℕ) (d : Placed) → i < length program → All FitsEvent (events_of t (take i program)) → FitsEvent (event_of t (get_or program i d)) → All FitsEvent (events_of t (take (i + 1) program))

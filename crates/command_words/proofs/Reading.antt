@@ -1,39 +1,48 @@
 -- What a parse tells of the words, both ways.
-use Rattle.std.proofs.Common.{◌≡◌, ◌∙◌, ◌≤◌, ◌&&◌, refl, sym, ap, ap₂, subst, arith, ℕ, Bool, true, false, List, [], ◌∷◌, ◌++◌, Option, Some, None, codes, append_assoc, true≢false, map, String, string_bytes, slice_index}
+use Rattle.std.proofs.Common.{◌≡◌, ◌∙◌, ◌≤◌, refl, sym, ap, ap₂, subst, arith, ℕ, Bool, true, false, List, [], ◌∷◌, ◌++◌, Option, Some, None, codes, append_assoc, map, String, string_bytes, length, slice_index}
 use Rattle.std.specs.Prelude.{MatchOption, slice_get, unwrap_or, flat_map, if◌then◌else◌}
 use Rattle.std.specs.List.{list_all}
 use Rattle.std.specs.Str.{bytes_eq}
 use Rattle.std.proofs.Math.Bool.{or-true}
 use Rattle.std.proofs.lemmas.Bool.{and_parts}
-use Rattle.std.proofs.lemmas.List.Folds.{list_all-map}
 use Rattle.std.proofs.lemmas.Option.{none-some}
 use Rattle.std.proofs.lemmas.Slice.Eq.{bytes_eq-Decides}
 use Rattle.clap.specs.Walk.{Row, first_of, finished, has_row, with_default}
 use Rattle.clap.specs.Words.{fault_of, matches_of, rows_of}
 use Rattle.clap.proofs.WalkLemmas.{first_value-rows}
 use Rattle.clap.specs.declared.parser.matches.Found.{Found}
-use Rattle.clap.specs.Simple.{built, filled}
+use Rattle.clap.specs.Simple.{built}
 use Rattle.clap.specs.Kinds.{or_else}
 use Rattle.clap.specs.Faults.{check_fault, default_fault, defaults_fault, entered_fault, walk_fault}
-use Rattle.command_words.specs.Words.{AsksFor, AsksForDrum, AsksForFrames, IsRunBy, IsRunOf, Setting, Size, Text, apart, drum_size, frames_size, given, joined, listed, option_name, words_of}
-use Rattle.command_words.specs.Parser.{AsksForSizes, found_values, is_other, is_run_of, option_rule, run_app}
-use Rattle.command_words.specs.declared.sizes.Sizes.{Sizes}
+use Rattle.script_texts.specs.Script.{IsDecimal}
+use Rattle.command_words.specs.Words.{AreBy, AskOf, AsksFor, AsksForDrum, AsksForEvents, AsksForFrames, Given, Setting, Size, Text, a_seed, a_size, alone, apart, drum_size, frames_size, given, joined, listed, words_of}
+use Rattle.command_words.specs.Parser.{AsksForRun, found_values, is_other, kept_name, name_of, run_app, verb_named}
+use Rattle.command_words.specs.declared.request.EventSource.{EventSource}
+use Rattle.command_words.specs.declared.request.EventSource.TheVariants.{Script, Generated}
+use Rattle.command_words.specs.declared.request.Request.{Request}
+use Rattle.command_words.specs.declared.verb.Verb.{Verb}
+use Rattle.command_words.specs.declared.verb.Verb.TheVariants.{Run, Big}
 use Rattle.command_words.proofs.Looks.{differ}
-use Rattle.command_words.proofs.Steps.{between, or_else-first, or_else-second, rules, top}
+use Rattle.command_words.proofs.Steps.{between, filled_rule, or_else-first, or_else-second, rules, top}
 use Rattle.command_words.proofs.Found.{found_given}
-use Rattle.command_words.proofs.Whole.{Fine, Fine-Once, Fine-value, IsSingle, at, complete, end, end_found, end_wrong, sound}
+use Rattle.command_words.proofs.Whole.{Fine, Fine-Once, Fine-value, IsSingle, IsValue, at, complete, end, end_found, end_wrong, sound}
 
 -- ---- behind the walk
 
-no_default : (size : Size) (found : List Row) → with_default found (filled (option_rule size)) ≡ found
-no_default size found = by size (has_row (option_name size) found)
+no_default : (what : Given) (found : List Row) → with_default found (filled_rule what) ≡ found
+no_default what found = by what
   where
-    by : (size : Size) (b : Bool) → (if b then found else found) ≡ found
-    by size true = refl
-    by size false = refl
+    either : (b : Bool) → (if b then found else found) ≡ found
+    either true = refl
+    either false = refl
 
-found_rows : (name : Text) (rest : List Text) → matches_of run_app (name ∷ rest) ≡ end_found (between [] None) rest
-found_rows name rest = no_default drum_size _ ∙ no_default frames_size _
+    by : (what : Given) → with_default found (filled_rule what) ≡ found
+    by (a_size frames_size) = either (has_row (codes "frames") found)
+    by (a_size drum_size) = either (has_row (codes "drum") found)
+    by a_seed = either (has_row (codes "seed") found)
+
+found_rows : (name : Text) (rest : List Text) → matches_of run_app (name ∷ rest) ≡ end_found (between 1 [] None) rest
+found_rows name rest = no_default a_seed _ ∙ no_default (a_size drum_size) _ ∙ no_default (a_size frames_size) _
 
 no_subcommand_wrong : (stop : Option (Text × List Text)) → entered_fault (built run_app) stop ≡ []
 no_subcommand_wrong None = refl
@@ -43,38 +52,64 @@ no_check_wrong : (found : List Row) (b : Bool) → check_fault top found b ≡ [
 no_check_wrong found true = refl
 no_check_wrong found false = refl
 
-one_default_wrong : (size : Size) (found : List Row) → default_fault found (filled (option_rule size)) ≡ []
-one_default_wrong frames_size found = rw (or-true (has_row (codes "frames") found)) refl
-one_default_wrong drum_size found = rw (or-true (has_row (codes "drum") found)) refl
+one_default_wrong : (what : Given) (found : List Row) → default_fault found (filled_rule what) ≡ []
+one_default_wrong (a_size frames_size) found = rw (or-true (has_row (codes "frames") found)) refl
+one_default_wrong (a_size drum_size) found = rw (or-true (has_row (codes "drum") found)) refl
+one_default_wrong a_seed found = rw (or-true (has_row (codes "seed") found)) refl
 
 no_default_wrong : (found : List Row) → defaults_fault found rules ≡ []
 unfolding defaults_fault
-no_default_wrong found = ap₂ or_else (one_default_wrong frames_size found) (ap (λ kinds. or_else kinds []) (one_default_wrong drum_size (with_default found (filled (option_rule frames_size)))))
+no_default_wrong found =
+    let behind_frames = with_default found (filled_rule (a_size frames_size)) in
+    let behind_both = with_default behind_frames (filled_rule (a_size drum_size)) in
+    ap₂ or_else (one_default_wrong (a_size frames_size) found)
+    (ap₂ or_else (one_default_wrong (a_size drum_size) behind_frames) (ap (λ kinds. or_else kinds []) (one_default_wrong a_seed behind_both)))
 
 -- nothing is wrong with the words where nothing is wrong in the walk
-right_walk : (name : Text) (rest : List Text) → walk_fault top [] (between [] None) rest ≡ [] → end_wrong (between [] None) rest → fault_of run_app (name ∷ rest) ≡ []
+right_walk : (name : Text) (rest : List Text) → walk_fault top [] (between 1 [] None) rest ≡ [] → end_wrong (between 1 [] None) rest → fault_of run_app (name ∷ rest) ≡ []
 right_walk name rest walk_right end_right =
-    ap₂ or_else walk_right (ap₂ or_else (no_subcommand_wrong _) (ap₂ or_else end_right (ap₂ or_else (no_default_wrong (end_found (between [] None) rest)) (no_check_wrong (finished rules (end (between [] None) rest)) _))))
+    ap₂ or_else walk_right (ap₂ or_else (no_subcommand_wrong _) (ap₂ or_else end_right (ap₂ or_else (no_default_wrong (end_found (between 1 [] None) rest)) (no_check_wrong (finished rules (end (between 1 [] None) rest)) _))))
 
-walk_right : (name : Text) (rest : List Text) → fault_of run_app (name ∷ rest) ≡ [] → (walk_fault top [] (between [] None) rest ≡ []) × end_wrong (between [] None) rest
+walk_right : (name : Text) (rest : List Text) → fault_of run_app (name ∷ rest) ≡ [] → (walk_fault top [] (between 1 [] None) rest ≡ []) × end_wrong (between 1 [] None) rest
 walk_right name rest right = (or_else-first _ _ right, or_else-first _ _ (or_else-second _ _ (or_else-second _ _ right)))
 
 -- ---- what the words ask for
 
-single : (least most standard : ℕ) (values : List Text) (n : ℕ) → AsksFor least most standard values n → IsSingle values
-single least most standard [] n h = tt
-single least most standard ([] ∷ []) n h = let none : 1 ≤ 0 = h.0.0 in absurd (omega (arith, none))
-single least most standard ((c ∷ cs) ∷ []) n h = let digit = h.0.2 0 c (omega arith) in record {
+starts : (most : ℕ) (value : Text) (n : ℕ) → IsDecimal most value n → IsValue value
+starts most [] n h = let none : 1 ≤ 0 = h.0 in absurd (omega (arith, none))
+starts most (c ∷ cs) n h = let digit = h.2 0 c (omega arith) in record {
   head = c;
   rest = cs;
   is = refl;
   plain = let low : 48 ≤ c = digit.0 in omega arith;
 }
+
+single : (least most standard : ℕ) (values : List Text) (n : ℕ) → AsksFor least most standard values n → IsSingle values
+single least most standard [] n h = tt
+single least most standard (v ∷ []) n h = starts 9 v n h.0
 single least most standard (v ∷ w ∷ vs) n h = absurd h
 
-fine : (settings : List Setting) (words : List Text) (s : Sizes) → IsRunBy settings words s → Fine settings
-fine settings words s run frames_size = single 160 8192 256 (given frames_size settings) s.frames run.1
-fine settings words s run drum_size = single 256 16384 2048 (given drum_size settings) s.drum run.2
+single_seed : (name : Text) (values : List Text) (source : EventSource) → AsksForEvents name values source → IsSingle values
+single_seed name [] Script h = tt
+single_seed name [] (Generated seed) h = tt
+single_seed name (v ∷ []) (Generated seed) h = starts 9 v seed h.1
+single_seed name (v ∷ []) Script h = absurd h
+single_seed name (v ∷ w ∷ vs) (Generated seed) h = absurd h
+single_seed name (v ∷ w ∷ vs) Script h = absurd h
+
+fine : (name : Text) (settings : List Setting) (words : List Text) (r : Request) → AreBy name settings words r → Fine settings
+fine name settings words r are (a_size frames_size) = single 160 8192 256 (given (a_size frames_size) settings) r.sizes.frames are.frames
+fine name settings words r are (a_size drum_size) = single 256 16384 2048 (given (a_size drum_size) settings) r.sizes.drum are.drum
+fine name settings words r are a_seed = single_seed name (given a_seed settings) r.events are.events
+
+-- the first word is that of a verb, which takes no seed, or one
+verb_of : (name : Text) (values : List Text) (source : EventSource) → AsksForEvents name values source → (verb : Verb) × (name ≡ name_of verb)
+verb_of name [] Script h = (Run, h)
+verb_of name (v ∷ []) (Generated seed) h = (Big, h.0)
+verb_of name [] (Generated seed) h = absurd h
+verb_of name (v ∷ []) Script h = absurd h
+verb_of name (v ∷ w ∷ vs) (Generated seed) h = absurd h
+verb_of name (v ∷ w ∷ vs) Script h = absurd h
 
 joined_other : (size : Size) (value : Text) (more : List Setting) → list_all is_other (flat_map words_of (joined size value ∷ more)) ≡ list_all is_other (flat_map words_of more)
 joined_other frames_size value more = refl
@@ -85,53 +120,68 @@ apart_other : (size : Size) (value : Text) (more : List Setting) → bytes_eq va
 apart_other frames_size value more other = rw other refl
 apart_other drum_size value more other = rw other refl
 
+alone_other : (value : Text) (more : List Setting) → bytes_eq value (codes "--") ≡ false
+    → list_all is_other (flat_map words_of (alone value ∷ more)) ≡ list_all is_other (flat_map words_of more)
+alone_other value more other = rw other refl
+
+no_option : (value : Text) → IsValue value → bytes_eq value (codes "--") ≡ false
+no_option value v = differ value (codes "--") (λ same. v.plain (ap (λ l. slice_index l 0) (sym v.is ∙ same)))
+
 -- none of the words of settings is `--`
 others : (more before : List Setting) → Fine (before ++ more) → list_all is_other (flat_map words_of more) ≡ true
 others [] before h = refl
 others (joined size value ∷ more) before h =
     joined_other size value more ∙ others more (before ++ joined size value ∷ []) (subst Fine (sym (append_assoc before (joined size value ∷ []) more)) h)
 others (apart size value ∷ more) before h =
-    let v = Fine-value before (apart size value) more h in
-    apart_other size value more (differ value (codes "--") (λ same. v.plain (ap (λ l. slice_index l 0) (sym v.is ∙ same))))
+    apart_other size value more (no_option value (Fine-value before (apart size value) more h))
     ∙ others more (before ++ apart size value ∷ []) (subst Fine (sym (append_assoc before (apart size value ∷ []) more)) h)
+others (alone value ∷ more) before h =
+    alone_other value more (no_option value (Fine-value before (alone value) more h))
+    ∙ others more (before ++ alone value ∷ []) (subst Fine (sym (append_assoc before (alone value ∷ []) more)) h)
 
--- `run` with these settings: nothing is wrong, and what is found is what they give
+verb_other : (verb : Verb) (rest : List Text) → list_all is_other (name_of verb ∷ rest) ≡ list_all is_other rest
+verb_other Run rest = refl
+verb_other Big rest = refl
+
+-- the words that ask for a run: their first is that of a verb, none is `--`, nothing is wrong, and what is found
+-- is what they give
 pub record IsClean (settings : List Setting) (words : List Text) : Type 0 where
-  pub run : is_run_of words ≡ true
+  pub verb : Verb
+  pub rest : List Text
+  pub words_are : words ≡ name_of verb ∷ rest
+  pub others : list_all is_other words ≡ true
   pub right : fault_of run_app words ≡ []
-  pub values : (size : Size) → listed (first_of (option_name size) (matches_of run_app words)) ≡ given size settings
+  pub values : (what : Given) → listed (first_of (kept_name what) (matches_of run_app words)) ≡ given what settings
 
-pub clean : (settings : List Setting) (words : List Text) (s : Sizes) → IsRunBy settings words s → IsClean settings words
-clean settings words s run =
-    let h = fine settings words s run in
+pub clean : (name : Text) (settings : List Setting) (words : List Text) (r : Request) → AreBy name settings words r → IsClean settings words
+clean name settings words r are =
+    let h = fine name settings words r are in
     let all = complete settings [] None h in
-    subst (IsClean settings) (sym run.0) (record {
-      run = others settings [] h;
-      right = right_walk (codes "run") (flat_map words_of settings) all.0 all.1;
-      values = λ size. ap (λ found. listed (first_of (option_name size) found)) (found_rows (codes "run") (flat_map words_of settings) ∙ all.2) ∙ found_given size settings (Fine-Once settings h);
+    let verb = verb_of name (given a_seed settings) r.events are.events in
+    let words_are = are.words_are ∙ ap (λ n. n ∷ flat_map words_of settings) verb.1 in
+    subst (IsClean settings) (sym words_are) (record {
+      verb = verb.0;
+      rest = flat_map words_of settings;
+      words_are = refl;
+      others = verb_other verb.0 (flat_map words_of settings) ∙ others settings [] h;
+      right = right_walk (name_of verb.0) (flat_map words_of settings) all.0 all.1;
+      values = λ what. ap (λ found. listed (first_of (kept_name what) found)) (found_rows (name_of verb.0) (flat_map words_of settings) ∙ all.2) ∙ found_given what settings (Fine-Once settings h);
     })
 
--- words that begin with `run` and have no `--`, and with which nothing is wrong, are those of settings
-pub read : (words : List Text) → is_run_of words ≡ true → fault_of run_app words ≡ []
-    → (settings : List Setting) × (words ≡ codes "run" ∷ flat_map words_of settings) × ((size : Size) → listed (first_of (option_name size) (matches_of run_app words)) ≡ given size settings)
-read [] run right = absurd (true≢false (sym run))
-read (name ∷ rest) run right =
-    let parts = and_parts (bytes_eq name (codes "run")) (list_all is_other (name ∷ rest)) run in
-    let more = and_parts (is_other name) (list_all is_other rest) parts.1 in
+-- words without `--`, with which nothing is wrong, are their first one and those of settings
+pub read : (name : Text) (rest : List Text) → list_all is_other (name ∷ rest) ≡ true → fault_of run_app (name ∷ rest) ≡ []
+    → (settings : List Setting) × (rest ≡ flat_map words_of settings) × ((what : Given) → listed (first_of (kept_name what) (matches_of run_app (name ∷ rest))) ≡ given what settings)
+read name rest others right =
+    let more = and_parts (is_other name) (list_all is_other rest) others in
     let walked = walk_right name rest right in
-    let is = sound rest (at [] None) (λ size. omega arith) more.1 walked.0 walked.1 in (
+    let is = sound rest (at [] None) (λ what. none_given what) more.1 walked.0 walked.1 in (
       is.0,
-      ap₂ (λ w l. w ∷ l) ((bytes_eq-Decides name (codes "run")).0 parts.0) is.1,
-      λ size. ap (λ found. listed (first_of (option_name size) found)) (found_rows name rest ∙ is.2) ∙ found_given size is.0 is.3,
+      is.1,
+      λ what. ap (λ found. listed (first_of (kept_name what) found)) (found_rows name rest ∙ is.2) ∙ found_given what is.0 is.3,
     )
-
--- a first word that is `run`
-pub begins : {Z : Type 0} (words : List (String Z)) (name : String Z) → Some name ≡ slice_get words 0 → bytes_eq (string_bytes name) (codes "run") ≡ true
-    → list_all (λ w. is_other (string_bytes w)) words ≡ is_run_of (map string_bytes words)
-begins [] name first run = absurd (none-some name (sym first))
-begins (word ∷ rest) name first run =
-    let same : bytes_eq (string_bytes word) (codes "run") ≡ true = ap (λ o. bytes_eq (string_bytes (unwrap_or o name)) (codes "run")) (sym first) ∙ run in
-    sym (list_all-map is_other string_bytes (word ∷ rest)) ∙ ap (λ b. b && list_all is_other (map string_bytes (word ∷ rest))) (sym same)
+  where
+    none_given : (what : Given) → length (given what []) ≤ 1
+    none_given what = omega arith
 
 -- ---- the answers
 
@@ -140,38 +190,102 @@ one_number least most standard [] n m h k = h ∙ sym k
 one_number least most standard (v ∷ []) n m h k = sym h.0.3 ∙ k.0.3
 one_number least most standard (v ∷ w ∷ vs) n m h k = absurd h
 
-pub one_pair : (words : List Text) (s t : Sizes) → IsRunOf words s → IsRunOf words t → s ≡ t
-one_pair words s t (xs, run) (ys, other) =
-    let a = clean xs words s run in
-    let b = clean ys words t other in
-    let same : (size : Size) → given size ys ≡ given size xs = λ size. sym (b.values size) ∙ a.values size in
-    ap₂ (λ f d. record { frames = f; drum = d }) (one_number 160 8192 256 (given frames_size xs) s.frames t.frames run.1 (subst (λ v. AsksForFrames v t.frames) (same frames_size) other.1))
-    (one_number 256 16384 2048 (given drum_size xs) s.drum t.drum run.2 (subst (λ v. AsksForDrum v t.drum) (same drum_size) other.2))
+one_source : (name other : Text) (values : List Text) (d e : EventSource) → AsksForEvents name values d → AsksForEvents other values e → d ≡ e
+one_source name other [] Script Script h k = refl
+one_source name other (v ∷ []) (Generated m) (Generated n) h k = ap Generated (sym h.1.3 ∙ k.1.3)
+one_source name other [] (Generated m) e h k = absurd h
+one_source name other [] Script (Generated n) h k = absurd k
+one_source name other (v ∷ []) Script e h k = absurd h
+one_source name other (v ∷ []) (Generated m) Script h k = absurd k
+one_source name other (v ∷ w ∷ vs) (Generated m) e h k = absurd h
+one_source name other (v ∷ w ∷ vs) Script e h k = absurd h
 
--- what is found of one that is right, where it asks for sizes or for none
-asked : (words : List Text) → is_run_of words ≡ true → fault_of run_app words ≡ [] → (found : Found) → rows_of found ≡ matches_of run_app words
-    → (s : Sizes) → AsksForSizes found s → IsRunOf words s
-asked words run right found is s asks =
-    let settings = read words run right in
-    let same : (size : Size) → found_values found size ≡ given size settings.0 = λ size. ap listed (first_value-rows found (option_name size) ∙ ap (first_of (option_name size)) is) ∙ settings.2 size in
-    (settings.0, (settings.1, subst (λ v. AsksForFrames v s.frames) (same frames_size) asks.0, subst (λ v. AsksForDrum v s.drum) (same drum_size) asks.1))
+pub one_run : (words : List Text) (r q : Request) → AskOf words r → AskOf words q → r ≡ q
+one_run words r q (name, xs, ask) (other, ys, also) =
+    let a = clean name xs words r ask in
+    let b = clean other ys words q also in
+    let same : (what : Given) → given what ys ≡ given what xs = λ what. sym (b.values what) ∙ a.values what in
+    let events = one_source name other (given a_seed xs) r.events q.events ask.events (subst (λ v. AsksForEvents other v q.events) (same a_seed) also.events) in
+    let frames = one_number 160 8192 256 (given (a_size frames_size) xs) r.sizes.frames q.sizes.frames ask.frames (subst (λ v. AsksForFrames v q.sizes.frames) (same (a_size frames_size)) also.frames) in
+    let drum = one_number 256 16384 2048 (given (a_size drum_size) xs) r.sizes.drum q.sizes.drum ask.drum (subst (λ v. AsksForDrum v q.sizes.drum) (same (a_size drum_size)) also.drum) in
+    ap₂ (λ e s. record { events = e; sizes = s }) events (ap₂ (λ f d. record { frames = f; drum = d }) frames drum)
 
-not_asked : (words : List Text) (found : Found) → rows_of found ≡ matches_of run_app words
-    → ((s : Sizes) → AsksForSizes found s → ⊥) → (s : Sizes) → IsRunOf words s → ⊥
-not_asked words found is none s (settings, run) =
-    let a = clean settings words s run in
-    let same : (size : Size) → given size settings ≡ found_values found size = λ size. sym (ap listed (first_value-rows found (option_name size) ∙ ap (first_of (option_name size)) is) ∙ a.values size) in
-    none s (subst (λ v. AsksForFrames v s.frames) (same frames_size) run.1, subst (λ v. AsksForDrum v s.drum) (same drum_size) run.2)
+-- the first word of what a verb asks for is the verb's
+names_verb : (verb other : Verb) (values : List Text) (source : EventSource) → AsksForEvents (name_of other) values source → name_of other ≡ name_of verb → AsksForEvents (name_of verb) values source
+names_verb verb other values source h same = subst (λ n. AsksForEvents n values source) same h
 
-pub answer : (words : List Text) → is_run_of words ≡ true → fault_of run_app words ≡ [] → (found : Found) → rows_of found ≡ matches_of run_app words → (r : Option Sizes)
-    → MatchOption r ((s : Sizes) → AsksForSizes found s → ⊥) (λ s. AsksForSizes found s)
-    → MatchOption r ((s : Sizes) → IsRunOf words s → ⊥) (IsRunOf words)
-answer words run right found is None none = not_asked words found is none
-answer words run right found is (Some s) h = asked words run right found is s h
+-- what is found of words that are right, where it asks for a run or for none
+asked : (verb : Verb) (rest : List Text) → list_all is_other (name_of verb ∷ rest) ≡ true → fault_of run_app (name_of verb ∷ rest) ≡ [] → (found : Found) → rows_of found ≡ matches_of run_app (name_of verb ∷ rest)
+    → (r : Request) → AsksForRun verb found r → AskOf (name_of verb ∷ rest) r
+asked verb rest others right found is r asks =
+    let settings = read (name_of verb) rest others right in
+    let same : (what : Given) → found_values found what ≡ given what settings.0 = λ what. ap listed (first_value-rows found (kept_name what) ∙ ap (first_of (kept_name what)) is) ∙ settings.2 what in (
+      name_of verb,
+      settings.0,
+      record {
+        words_are = ap (λ l. name_of verb ∷ l) settings.1;
+        events = subst (λ v. AsksForEvents (name_of verb) v r.events) (same a_seed) asks.events;
+        frames = subst (λ v. AsksForFrames v r.sizes.frames) (same (a_size frames_size)) asks.sizes.0;
+        drum = subst (λ v. AsksForDrum v r.sizes.drum) (same (a_size drum_size)) asks.sizes.1;
+      },
+    )
 
--- a run is of words that begin with `run` and have no `--`, and nothing is wrong with them
-pub run_begins : (words : List Text) (s : Sizes) → IsRunOf words s → is_run_of words ≡ true
-run_begins words s (settings, run) = (clean settings words s run).run
+not_asked : (verb : Verb) (rest : List Text) (found : Found) → rows_of found ≡ matches_of run_app (name_of verb ∷ rest)
+    → ((r : Request) → AsksForRun verb found r → ⊥) → (r : Request) → AskOf (name_of verb ∷ rest) r → ⊥
+not_asked verb rest found is none r (name, settings, ask) =
+    let a = clean name settings (name_of verb ∷ rest) r ask in
+    let same : (what : Given) → given what settings ≡ found_values found what = λ what. sym (ap listed (first_value-rows found (kept_name what) ∙ ap (first_of (kept_name what)) is) ∙ a.values what) in
+    let named : name ≡ name_of verb = sym (ap (λ l. unwrap_or (slice_get l 0) []) ask.words_are) in
+    none r (record {
+      events = subst (λ v. AsksForEvents (name_of verb) v r.events) (same a_seed) (subst (λ n. AsksForEvents n (given a_seed settings) r.events) named ask.events);
+      sizes = (subst (λ v. AsksForFrames v r.sizes.frames) (same (a_size frames_size)) ask.frames, subst (λ v. AsksForDrum v r.sizes.drum) (same (a_size drum_size)) ask.drum);
+    })
 
-pub run_right : (words : List Text) (s : Sizes) → IsRunOf words s → fault_of run_app words ≡ []
-run_right words s (settings, run) = (clean settings words s run).right
+answer_of : (verb : Verb) (rest : List Text) → list_all is_other (name_of verb ∷ rest) ≡ true → fault_of run_app (name_of verb ∷ rest) ≡ [] → (found : Found) → rows_of found ≡ matches_of run_app (name_of verb ∷ rest)
+    → (a : Option Request) → MatchOption a ((r : Request) → AsksForRun verb found r → ⊥) (λ r. AsksForRun verb found r)
+    → MatchOption a ((r : Request) → AskOf (name_of verb ∷ rest) r → ⊥) (AskOf (name_of verb ∷ rest))
+answer_of verb rest others right found is None none = not_asked verb rest found is none
+answer_of verb rest others right found is (Some r) h = asked verb rest others right found is r h
+
+-- a verb by its name
+pub verb_is : (name : Text) (verb : Verb) → verb_named name ≡ Some verb → name ≡ name_of verb
+verb_is name verb = by (bytes_eq name (codes "run")) refl (bytes_eq name (codes "big")) refl
+  where
+    by : (b : Bool) → bytes_eq name (codes "run") ≡ b → (d : Bool) → bytes_eq name (codes "big") ≡ d → (if b then Some Run else (if d then Some Big else None)) ≡ Some verb → name ≡ name_of verb
+    by true e d k is = (bytes_eq-Decides name (codes "run")).0 e ∙ ap (λ o. name_of (unwrap_or o Run)) is
+    by false e true k is = (bytes_eq-Decides name (codes "big")).0 k ∙ ap (λ o. name_of (unwrap_or o Run)) is
+    by false e false k is = absurd (none-some verb is)
+
+-- the first of some words
+first_is : (words : List Text) (name : Text) → slice_get words 0 ≡ Some name → (rest : List Text) × (words ≡ name ∷ rest)
+first_is [] name e = absurd (none-some name e)
+first_is (w ∷ ws) name e = (ws, ap (λ o. unwrap_or o w ∷ ws) e)
+
+pub answer : (words : List Text) (name : Text) (verb : Verb) → slice_get words 0 ≡ Some name → verb_named name ≡ Some verb → list_all is_other words ≡ true → fault_of run_app words ≡ []
+    → (found : Found) → rows_of found ≡ matches_of run_app words → (a : Option Request)
+    → MatchOption a ((r : Request) → AsksForRun verb found r → ⊥) (λ r. AsksForRun verb found r)
+    → MatchOption a ((r : Request) → AskOf words r → ⊥) (AskOf words)
+answer words name verb first named others right found is a h =
+    let begins = first_is words name first in
+    let whole : words ≡ name_of verb ∷ begins.0 = begins.1 ∙ ap (λ n. n ∷ begins.0) (verb_is name verb named) in
+    subst (λ ws. list_all is_other ws ≡ true → fault_of run_app ws ≡ [] → rows_of found ≡ matches_of run_app ws → MatchOption a ((r : Request) → AskOf ws r → ⊥) (AskOf ws)) (sym whole)
+    (λ o f m. answer_of verb begins.0 o f found m a h) others right is
+
+-- words that ask for a run have a first one, that of a verb; none is `--`, and nothing is wrong with them
+pub run_begins : (words : List Text) (r : Request) → AskOf words r → (verb : Verb) × (slice_get words 0 ≡ Some (name_of verb))
+run_begins words r (name, settings, ask) = let a = clean name settings words r ask in (a.verb, ap (λ l. slice_get l 0) a.words_are)
+
+pub verb_found : (verb : Verb) → verb_named (name_of verb) ≡ Some verb
+verb_found Run = refl
+verb_found Big = refl
+
+pub run_others : (words : List Text) (r : Request) → AskOf words r → list_all is_other words ≡ true
+run_others words r (name, settings, ask) = (clean name settings words r ask).others
+
+pub run_right : (words : List Text) (r : Request) → AskOf words r → fault_of run_app words ≡ []
+run_right words r (name, settings, ask) = (clean name settings words r ask).right
+
+-- the first word, as a text
+pub first_text : {Z : Type 0} (words : List (String Z)) (name : String Z) → slice_get words 0 ≡ Some name → slice_get (map string_bytes words) 0 ≡ Some (string_bytes name)
+first_text [] name e = absurd (none-some name e)
+first_text (w ∷ ws) name e = ap (λ o. Some (string_bytes (unwrap_or o w))) e

@@ -1,10 +1,13 @@
-//! The words of the command, read with `clap`: which of them are a run, and of what sizes.
-//! To the layer above the words ask for one pair of sizes, or they are wrong.
+//! The words of the command, read with `clap`: which of them ask for a run, of which events and of what sizes.
+//! To the layer above the words ask for one run, or they are wrong.
 //! Stands on `script_lang` for numbers and on `outside` for the most pages of a drum.
 #![tactic(auto)]
 
+mod request;
 mod sizes;
+mod verb;
 mod words;
 
+pub use request::{EventSource, Request};
 pub use sizes::Sizes;
-pub use words::{asked_sizes, one_asking};
+pub use words::{asked_run, one_asking};

@@ -33,8 +33,8 @@ pub(crate) const DRUM: Range = Range {
     standard: 2048,
 };
 
-// How many digits a size has at most.
-const SIZE_DIGITS: usize = 9;
+// How many digits a number among the words has at most.
+pub(crate) const NUMBER_DIGITS: usize = 9;
 
 /// The size that the value of an option asks for. None exactly where it is no number, or out of its
 /// range.
@@ -44,7 +44,7 @@ pub(crate) fn size_of(value: Option<&str>, range: &Range) -> Option<u32>
     let Some(text) = value else {
         return Some(range.standard);
     };
-    let n = read_decimal(text.as_bytes(), SIZE_DIGITS)?;
+    let n = read_decimal(text.as_bytes(), NUMBER_DIGITS)?;
     if n < range.least || n > range.most {
         return None;
     }

@@ -4,16 +4,13 @@ use Rattle.std.specs.Prelude.{Option}
 use Rattle.std.proofs.lemmas.Grind.{flat_map-append}
 use Rattle.std.proofs.lemmas.List.{append-nil, take_at, drop_at}
 use Rattle.script_texts.specs.declared.event.Event.{Event}
-use Rattle.script_texts.specs.Limits.{IsBuilt}
-use Rattle.script_texts.specs.Script.{AreLines, Gives, GiveAll, HasNoFeed, IsBadLine, IsBadRest, IsBlank, IsLongRest, Means, Spells, joined, most_bytes}
+use Rattle.script_texts.specs.Script.{AreLines, Gives, GiveAll, HasNoFeed, IsBadLine, IsBadRest, IsBlank, IsLongRest, Spells, joined, most_bytes}
 use Rattle.script_lang.specs.Feeds.{AllLeft, EndsWithin, GoesBeyond, IsFed, Reads, StopsWithin}
 use Rattle.script_lang.specs.Lines.{Breaks, FrontIsBad, FrontIsLong, GivesFront, GivesLine, IsDone, IsFinal, IsReadBy, IsUndecided, Passes, Skips, Takes, given, lines_given, pending, turns_given}
 use Rattle.script_lang.specs.declared.lines.Line.{Line}
 use Rattle.script_lang.specs.declared.lines.Line.TheVariants.{One, Blank, Bad, Long, End, Fault}
 use Rattle.script_lang.specs.declared.lines.Lines.{Lines}
-use Rattle.script_lang.proofs.KeywordBytes.{blank_spells_none}
 use Rattle.script_lang.proofs.Reading.{beyond_line, feed_behind, reads_left, reads_none, reads_then}
-use Rattle.script_lang.proofs.Spellings.{one_event}
 
 -- what is told behind bytes that have a line feed
 fed_told : (held : List ℕ) (n : ℕ) (fed : IsFed held n) (told : List ℕ) → held ++ told ≡ fed.line ++ 10 ∷ (fed.more ++ told)
@@ -48,18 +45,11 @@ gives_line old new n fed events gives left lines bytes = record {
   more_bytes = omega (arith, bytes, fed.long);
 }
 
-pub means_built : (line : List ℕ) (e : Event) → Spells line e → IsBuilt e → Means line e
-means_built line e spelled built = record { spelled = spelled; built = built }
-
-pub gives_event : (line : List ℕ) (e : Event) → HasNoFeed line → length line ≤ 256 → Means line e → Gives line (e ∷ [])
-gives_event line e plain short means = (record { short = short; no_feed = plain }, inl (e, means, refl))
+pub gives_event : (line : List ℕ) (e : Event) → HasNoFeed line → length line ≤ 256 → Spells line e → Gives line (e ∷ [])
+gives_event line e plain short spelled = (record { short = short; no_feed = plain }, inl (e, spelled, refl))
 
 pub gives_none : (line : List ℕ) → HasNoFeed line → length line ≤ 256 → IsBlank line → Gives line []
 gives_none line plain short blank = (record { short = short; no_feed = plain }, inr (blank, refl))
-
--- a line that spells an event that is not built is none of a script
-pub unbuilt_bad : (so_far : ℕ) (line : List ℕ) (e : Event) → Spells line e → (IsBuilt e → ⊥) → IsBadLine so_far line
-unbuilt_bad so_far line e spelled unbuilt = inr (inl ((λ f means. unbuilt (subst IsBuilt (one_event line f e means.spelled spelled) means.built)), (λ blank. blank_spells_none line e blank spelled)))
 
 -- a first line that ends within the room, which is too long or does not
 pub ends_bad : (before so_far least room : ℕ) (xs told : List ℕ) → room + before ≡ most_bytes → (256 < least) ⊎ (room < least) → EndsWithin least room xs → IsBadRest before so_far (xs ++ told)

@@ -10,9 +10,9 @@ use Rattle.script_lang.proofs.KeywordBytes.{blank_spells_none}
 use Rattle.script_lang.proofs.Spellings.{one_event}
 
 pub gives_once : (line : List ℕ) (es fs : List Event) → Gives line es → Gives line fs → es ≡ fs
-gives_once line es fs (short, inl p) (_, inl q) = p.2 ∙ (ap (λ e. e ∷ []) (one_event line p.0 q.0 p.1.spelled q.1.spelled) ∙ sym q.2)
-gives_once line es fs (short, inl p) (_, inr q) = absurd (blank_spells_none line p.0 q.0 p.1.spelled)
-gives_once line es fs (short, inr p) (_, inl q) = absurd (blank_spells_none line q.0 p.0 q.1.spelled)
+gives_once line es fs (short, inl p) (_, inl q) = p.2 ∙ (ap (λ e. e ∷ []) (one_event line p.0 q.0 p.1 q.1) ∙ sym q.2)
+gives_once line es fs (short, inl p) (_, inr q) = absurd (blank_spells_none line p.0 q.0 p.1)
+gives_once line es fs (short, inr p) (_, inl q) = absurd (blank_spells_none line q.0 p.0 q.1)
 gives_once line es fs (short, inr p) (_, inr q) = p.1 ∙ sym q.1
 
 -- The second lines are the first and then more, which stand at the front of the first rest.
@@ -115,10 +115,10 @@ good_line so_far line mine (short, given) few (inl long) = omega (arith, short.s
 good_line so_far line mine (short, inl p) few (inr (inl none)) = none.0 p.0 p.1
 good_line so_far line mine (short, inr p) few (inr (inl none)) = none.1 p.0
 good_line so_far line mine (short, inl p) few (inr (inr over)) =
-    let same : over.0 ≡ p.0 = one_event line over.0 p.0 over.1.spelled p.1.spelled in
+    let same : over.0 ≡ p.0 = one_event line over.0 p.0 over.1 p.1 in
     let turns : turns_in mine ≡ turns_of over.0 + 0 = ap turns_in p.2 ∙ ap (λ e. turns_of e + 0) (sym same) in
     omega (arith, turns, over.2, few)
-good_line so_far line mine (short, inr p) few (inr (inr over)) = blank_spells_none line over.0 p.0 over.1.spelled
+good_line so_far line mine (short, inr p) few (inr (inr over)) = blank_spells_none line over.0 p.0 over.1
 
 bad_stops : (before so_far : ℕ) (rest line more : List ℕ) (mine : List Event) → IsBadRest before so_far rest → rest ≡ line ++ 10 ∷ more → Gives line mine → so_far + turns_in mine ≤ most_turns → ⊥
 bad_stops before so_far rest line more mine (inl bad) same gives few =

@@ -103,7 +103,7 @@ spelled_short line (Trace true) h = omega (arith, ap length h)
 spelled_short line (Trace false) h = omega (arith, ap length h)
 
 line_fits : (line : List ℕ) (es : List Event) → Gives line es → All FitsEvent es
-line_fits line es (short, inl h) = subst (All FitsEvent) (sym h.2) (All-cons FitsEvent h.0 [] (spelled_fits line h.0 h.1.spelled) (All-nil FitsEvent))
+line_fits line es (short, inl h) = subst (All FitsEvent) (sym h.2) (All-cons FitsEvent h.0 [] (spelled_fits line h.0 h.1) (All-nil FitsEvent))
 line_fits line es (short, inr h) = subst (All FitsEvent) (sym h.1) (All-nil FitsEvent)
 
 lines_fit : (ls : List (List ℕ)) (es : List Event) → GiveAll ls es → All FitsEvent es

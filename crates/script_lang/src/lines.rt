@@ -1,7 +1,7 @@
 // A script's lines, from a source that gives its bytes in pieces.
 ghost use Rattle.std.specs.Prelude.{◌≡◌, ◌≢◌, ◌⊎◌, ◌↔◌, ◌+◌, ◌-◌, ◌^◌, ◌<◌, ◌≤◌, ℕ, [], ◌∷◌, drop, length, take, IsTrue};
 ghost use Rattle.outside.specs.Faults.{Rose};
-ghost use Rattle.script_texts.specs.Limits.{FitsEvent, IsBuilt};
+ghost use Rattle.script_texts.specs.Limits.{FitsEvent};
 ghost use Rattle.script_texts.specs.Script.{HasNoFeed, IsBadRest, IsLongRest, most_bytes, most_turns, turns_of as turns_asked};
 ghost use Rattle.script_texts.specs.declared.event.Event.{Event as AnEvent};
 ghost use Rattle.script_lang.specs.Feeds.{AllLeft, IsFed, Reads, Spends};
@@ -20,8 +20,7 @@ pub enum Next {
     /// The end: nothing is left but lines without an event.
     End,
     /// The line of this number, counted from 1, is bad: none of a script, too long, without a line
-    /// feed at the end, a RUN whose turns are too many behind those before it, or an event that is
-    /// not built.
+    /// feed at the end, or a RUN whose turns are too many behind those before it.
     Bad(u64),
     /// The source failed.
     ReadFault,
@@ -115,7 +114,7 @@ impl Lines {
         ensures reads { Reads S.left (IsUndecided (given self.old)) (pending self.old) s.old s.new (IsReadFor (given self.old) result) }
 
         // An event is that of a line at the front, and its turns are counted.
-        ensures fits { (e : AnEvent) → result ≡ Next.One e → FitsEvent e × IsBuilt e }
+        ensures fits { (e : AnEvent) → result ≡ Next.One e → FitsEvent e }
         ensures takes { (e : AnEvent) → result ≡ Next.One e → Takes S.left self.old self.new s.old s.new (e ∷ []) }
         ensures advances { (e : AnEvent) → result ≡ Next.One e → Advances self.old self.new (turns_asked e) }
         ensures open { (e : AnEvent) → result ≡ Next.One e → IsOpen self.new }
@@ -141,7 +140,7 @@ impl Lines {
         ensures unfaulted { result ≢ Next.ReadFault → S.fault_count s.new ≡ S.fault_count s.old }
         ensures reads { Reads S.left (IsUndecided (given self.old)) (pending self.old) s.old s.new (IsReadFor (given self.old) result) }
         ensures stage { self.new.stage ≡ self.old.stage }
-        ensures fits { (e : AnEvent) → result ≡ Next.One e → FitsEvent e × IsBuilt e }
+        ensures fits { (e : AnEvent) → result ≡ Next.One e → FitsEvent e }
         ensures takes { (e : AnEvent) → result ≡ Next.One e → Takes S.left self.old self.new s.old s.new (e ∷ []) }
         ensures advances { (e : AnEvent) → result ≡ Next.One e → Advances self.old self.new (turns_asked e) }
         ensures end { result ≡ Next.End → AllLeft S.left (pending self.old) s.old (IsDone (given self.old)) }
@@ -168,7 +167,7 @@ impl Lines {
         ensures unfaulted { result ≢ Line.Fault → S.fault_count s.new ≡ S.fault_count s.old }
         ensures reads { Reads S.left (IsUndecided (given self.old)) (pending self.old) s.old s.new (IsReadBy self.old self.new result) }
         ensures stage { self.new.stage ≡ self.old.stage }
-        ensures fits { (e : AnEvent) → result ≡ Line.One e → FitsEvent e × IsBuilt e }
+        ensures fits { (e : AnEvent) → result ≡ Line.One e → FitsEvent e }
         ensures advances { (e : AnEvent) → result ≡ Line.One e → Advances self.old self.new (turns_asked e) }
         ensures passes { result ≡ Line.Blank → Advances self.old self.new 0 }
         ensures end { result ≡ Line.End → AllLeft S.left (pending self.old) s.old (IsDone (given self.old)) }
@@ -197,7 +196,7 @@ impl Lines {
         requires { IsFed (pending self.old) count }
         ensures here { (result ≢ Line.End) × (result ≢ Line.Fault) }
         ensures stage { self.new.stage ≡ self.old.stage }
-        ensures fits { (e : AnEvent) → result ≡ Line.One e → FitsEvent e × IsBuilt e }
+        ensures fits { (e : AnEvent) → result ≡ Line.One e → FitsEvent e }
         ensures gives { (e : AnEvent) → result ≡ Line.One e → GivesLine self.old self.new (e ∷ []) }
         ensures advances { (e : AnEvent) → result ≡ Line.One e → Advances self.old self.new (turns_asked e) }
         ensures blank { result ≡ Line.Blank → GivesLine self.old self.new [] }
@@ -214,9 +213,6 @@ impl Lines {
         }
         match read_line(&self.buffer.bytes()[..count]) {
             Read::One(event) => {
-                if !event.is_built() {
-                    return Line::Bad;
-                }
                 let turns = turns_of(&event);
                 if self.reached.turns + turns > MOST_TURNS {
                     return Line::Bad;

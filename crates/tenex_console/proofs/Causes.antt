@@ -2,6 +2,7 @@
 use Rattle.std.proofs.Common.{◌≡◌, ◌⊎◌, inl, inr, ℕ, ◌≤◌, None, Some, ap, refl, sym, ◌∙◌, arith}
 use Rattle.outside.specs.Faults.{Rose}
 use Rattle.texts.specs.declared.writer.Writer.{Writer}
+use Rattle.command_words.specs.declared.request.EventSource.{EventSource}
 use Rattle.texts.specs.declared.last.Last.{Last}
 use Rattle.texts.specs.declared.last.Status.{Status}
 use Rattle.texts.specs.declared.last.Status.TheVariants.{DrumFault, ReadFault, WriteFault}
@@ -34,22 +35,22 @@ unpaged Unpaged cause is = cause refl
 unpaged TakerFault cause is = absurd (cc is)
 
 -- where the texts could be closed, it was no write that failed
-written : {X : Type 0} (driven : Driven) (reads writes : ℕ) (last : Last) → last_after driven reads writes ≡ Some last → status_after driven ≡ WriteFault → X
-written WholeScript reads writes last there is = absurd (cc is)
-written (Bad n) reads writes last there is = absurd (cc is)
-written Long reads writes last there is = absurd (cc is)
-written Unread reads writes last there is = absurd (cc is)
-written Unpaged reads writes last there is = absurd (cc is)
-written TakerFault reads writes last there is = absurd (cc there)
+written : {X : Type 0} (driven : Driven) (events : EventSource) (reads writes : ℕ) (last : Last) → last_after driven events reads writes ≡ Some last → status_after driven ≡ WriteFault → X
+written WholeScript events reads writes last there is = absurd (cc is)
+written (Bad n) events reads writes last there is = absurd (cc is)
+written Long events reads writes last there is = absurd (cc is)
+written Unread events reads writes last there is = absurd (cc is)
+written Unpaged events reads writes last there is = absurd (cc is)
+written TakerFault events reads writes last there is = absurd (cc there)
 
 -- where no last line is left, a write had failed
-given_up : {X : Type 0} (driven : Driven) (reads writes : ℕ) → last_after driven reads writes ≡ None → (driven ≡ TakerFault → X) → X
-given_up WholeScript reads writes none cause = absurd (cc none)
-given_up (Bad n) reads writes none cause = absurd (cc none)
-given_up Long reads writes none cause = absurd (cc none)
-given_up Unread reads writes none cause = absurd (cc none)
-given_up Unpaged reads writes none cause = absurd (cc none)
-given_up TakerFault reads writes none cause = cause refl
+given_up : {X : Type 0} (driven : Driven) (events : EventSource) (reads writes : ℕ) → last_after driven events reads writes ≡ None → (driven ≡ TakerFault → X) → X
+given_up WholeScript events reads writes none cause = absurd (cc none)
+given_up (Bad n) events reads writes none cause = absurd (cc none)
+given_up Long events reads writes none cause = absurd (cc none)
+given_up Unread events reads writes none cause = absurd (cc none)
+given_up Unpaged events reads writes none cause = absurd (cc none)
+given_up TakerFault events reads writes none cause = cause refl
 
 module _ {S T R D : Type 0} (of_script : S → ℕ) (of_out : T → ℕ) (of_rec : R → ℕ) (of_drum : D → ℕ) (script script' : S) (drum drum' : D) (w v u : Writer T R)
     (onward : IsOnward of_out of_rec w u) (script_later : of_script script ≤ of_script script') (drum_later : of_drum drum ≤ of_drum drum') where
@@ -57,24 +58,24 @@ module _ {S T R D : Type 0} (of_script : S → ℕ) (of_out : T → ℕ) (of_rec
   later = record { script = script_later; out = onward.out_later; rec = onward.rec_later; drum = drum_later }
 
   -- the texts were closed
-  pub caused_closed : (driven : Driven) (reads writes : ℕ) (last : Last) (status : Status) → last_after driven reads writes ≡ Some last → status ≡ status_after driven
+  pub caused_closed : (driven : Driven) (events : EventSource) (reads writes : ℕ) (last : Last) (status : Status) → last_after driven events reads writes ≡ Some last → status ≡ status_after driven
       → (driven ≡ Unread → Rose (of_script script) (of_script script')) → (driven ≡ Unpaged → Rose (of_drum drum) (of_drum drum'))
       → ((driven ≡ Unread → ⊥) → of_script script' ≡ of_script script)
       → IsCaused status (faults of_script of_out of_rec of_drum script script' w.out.now u.out.now w.rec.now u.rec.now drum drum')
-  caused_closed driven reads writes last status there is read paged sure = record {
+  caused_closed driven events reads writes last status there is read paged sure = record {
     read = λ s. unread driven read (sym is ∙ s);
-    write = λ s. written driven reads writes last there (sym is ∙ s);
+    write = λ s. written driven events reads writes last there (sym is ∙ s);
     drum = λ s. unpaged driven paged (sym is ∙ s);
     later = later;
     unfaulted = λ no_read no_write. sure (λ u. no_read (is ∙ ap status_after u));
   }
 
   -- the writing was given up, since a write had failed
-  pub caused_given_up : (driven : Driven) (reads writes : ℕ) → last_after driven reads writes ≡ None → w.faults ≡ 0 → (driven ≡ TakerFault → Rose w.faults v.faults) → v.faults ≤ u.faults
+  pub caused_given_up : (driven : Driven) (events : EventSource) (reads writes : ℕ) → last_after driven events reads writes ≡ None → w.faults ≡ 0 → (driven ≡ TakerFault → Rose w.faults v.faults) → v.faults ≤ u.faults
       → IsCaused WriteFault (faults of_script of_out of_rec of_drum script script' w.out.now u.out.now w.rec.now u.rec.now drum drum')
-  caused_given_up driven reads writes none zero cause more = record {
+  caused_given_up driven events reads writes none zero cause more = record {
     read = λ s. absurd (cc s);
-    write = λ s. onward.cause (let rose = given_up driven reads writes none cause in omega (arith, zero, rose, more));
+    write = λ s. onward.cause (let rose = given_up driven events reads writes none cause in omega (arith, zero, rose, more));
     drum = λ s. absurd (cc s);
     later = later;
     unfaulted = λ no_read no_write. absurd (no_write refl);

@@ -14,15 +14,18 @@ use Rattle.machine_names.specs.PageWords.{zero_words}
 use Rattle.page_contracts.specs.Stores.{FitsHomes, free}
 use Rattle.script_texts.specs.Taker.{GoesOn}
 use Rattle.script_texts.specs.Script.{IsScript}
-use Rattle.script_texts.specs.Texts.{transcript, entries_text}
+use Rattle.script_texts.specs.Texts.{transcript, entries_text, record_text}
 use Rattle.plain_laws.proofs.Named.{opened_fit}
 use Rattle.flat_pages.proofs.StoredPlaces.{zeros_fit}
-use Rattle.command_words.specs.declared.sizes.Sizes.{Sizes}
+use Rattle.command_words.specs.declared.request.EventSource.{EventSource}
+use Rattle.command_words.specs.declared.request.EventSource.TheVariants.{Script as ReadScript, Generated}
+use Rattle.command_words.specs.declared.request.Request.{Request}
+use Rattle.texts.specs.Tally.{no_tally, tally}
 use Rattle.monitor_core.specs.declared.machine.Machine.{Machine}
 use Rattle.monitor_core.specs.Machines.{Fits, limit, plain}
 use Rattle.texts.specs.declared.writer.Writer.{Writer}
 use Rattle.texts.specs.declared.last.Last.{Last}
-use Rattle.texts.specs.declared.last.Last.TheVariants.{Done as Ended, Stopped}
+use Rattle.texts.specs.declared.last.Last.TheVariants.{Summary, Stopped}
 use Rattle.texts.specs.declared.last.Status.{Status}
 use Rattle.texts.specs.declared.last.Status.TheVariants.{Script, DrumFault, ReadFault, WriteFault, LongScript}
 use Rattle.texts.specs.Ends.{closing_line, end_line, record_end}
@@ -34,7 +37,8 @@ use Rattle.tenex_console.specs.declared.driver.Driven.{Driven}
 use Rattle.tenex_console.specs.declared.driver.Driven.TheVariants.{Done as WholeScript, Bad, Long, ReadFault as Unread, DrumFault as Unpaged, TakerFault}
 use Rattle.tenex_console.specs.Runs.{AreBroken, AreEntries, RunsTo, ShowsTo}
 use Rattle.tenex_console.specs.Driving.{Handed, IsBooted, OpensOver, RanTo}
-use Rattle.tenex_console.specs.Headline.{DrivenTo, Fronts, Headline, Part, Stops, closing, last_after, status_of}
+use Rattle.tenex_console.specs.Headline.{AreAll, DrivenTo, Fronts, Headline, Part, Stops, closing, done_transcript, last_after, last_done, status_of}
+use Rattle.tenex_console.specs.Verdicts.{AreRun}
 use Rattle.tenex_console.specs.Observed.{Observed, seen}
 use Rattle.tenex_console.specs.Statuses.{Ran, status_after}
 
@@ -93,18 +97,18 @@ pub opens_booted : {P : Type 0} {b : _} {D : Type 0} (held : D → Option DrumWo
 opens_booted held m drum booted is_flat = record { stood = inr is_flat; opened = booted.opened (zero_drum (limit m)) (drum_fits (limit m)) }
 
 -- the last lines are those of the counts that the drum told
-pub last_told : (driven : Driven) {a b c d a' b' c' d' : ℕ} {last this : Option Last} → a ≡ a' → b ≡ b' → c ≡ c' → d ≡ d' → last ≡ last_after driven (a - b) (c - d) → last ≡ this → last_after driven (a' - b') (c' - d') ≡ this
-last_told driven p q r s is that = sym (λ i. last_after driven (p i - q i) (r i - s i)) ∙ (sym is ∙ that)
+pub last_told : (driven : Driven) (events : EventSource) {a b c d a' b' c' d' : ℕ} {last this : Option Last} → a ≡ a' → b ≡ b' → c ≡ c' → d ≡ d' → last ≡ last_after driven events (a - b) (c - d) → last ≡ this → last_after driven events (a' - b') (c' - d') ≡ this
+last_told driven events p q r s is that = sym (λ i. last_after driven events (p i - q i) (r i - s i)) ∙ (sym is ∙ that)
 
 -- where there are last lines, the taker was given all
-handed_whole : {K : Type 0} (stands cut : K → K → List Item → List Step → Type 0) (out out' : K) (items : List Item) (entries : List Step) (driven : Driven) (reads writes : ℕ) (last : Last) → last_after driven reads writes ≡ Some last
+handed_whole : {K : Type 0} (stands cut : K → K → List Item → List Step → Type 0) (out out' : K) (items : List Item) (entries : List Step) (driven : Driven) (events : EventSource) (reads writes : ℕ) (last : Last) → last_after driven events reads writes ≡ Some last
     → Handed stands cut out out' driven items entries → GoesOn stands out out' items entries
-handed_whole stands cut out out' items entries WholeScript reads writes last is handed = handed
-handed_whole stands cut out out' items entries (Bad n) reads writes last is handed = handed
-handed_whole stands cut out out' items entries Long reads writes last is handed = handed
-handed_whole stands cut out out' items entries Unread reads writes last is handed = handed
-handed_whole stands cut out out' items entries Unpaged reads writes last is handed = handed
-handed_whole stands cut out out' items entries TakerFault reads writes last is handed = absurd (cc is)
+handed_whole stands cut out out' items entries WholeScript events reads writes last is handed = handed
+handed_whole stands cut out out' items entries (Bad n) events reads writes last is handed = handed
+handed_whole stands cut out out' items entries Long events reads writes last is handed = handed
+handed_whole stands cut out out' items entries Unread events reads writes last is handed = handed
+handed_whole stands cut out out' items entries Unpaged events reads writes last is handed = handed
+handed_whole stands cut out out' items entries TakerFault events reads writes last is handed = absurd (cc is)
 
 -- over pages in memory all entries of a run are legal, whatever the AUTO mark
 module _ {limit : ℕ} {events : List Event} {entries : List Step} where
@@ -139,19 +143,19 @@ module _ (limit : ℕ) (events : List Event) (entries : List Step) (items : List
 -- A run that began from the opening state, seen through the writer: as it was new, after the driving, and at the end.
 module _ {M S T R D : Type 0} {flat : Bool} {fits : M → DrumWords → Type 0} {plain : M → DrumWords → PlainState} {held : D → Option DrumWords} {limit : ℕ} {m : M} {d : D} {words : DrumWords}
     (left : S → Option (List ℕ)) (out_taken : T → Option (List ℕ)) (rec_taken : R → Option (List ℕ)) (reads writes : D → ℕ) (s s' : S) (d' : D) (w v u : Writer T R)
-    (opens : OpensOver flat fits plain held limit m d words) (is_flat : flat ≡ true) (line : w.line ≡ None) (run : w.run ≡ None) (sizes : Sizes) (same : sizes.drum ≡ limit) where
+    (opens : OpensOver flat fits plain held limit m d words) (is_flat : flat ≡ true) (line : w.line ≡ None) (run : w.run ≡ None) (fresh : w.tally ≡ no_tally) (request : Request) (same : request.sizes.drum ≡ limit) where
   abbrev told : Observed
   told = seen left out_taken rec_taken reads writes s s' w.out.now u.out.now w.rec.now u.rec.now d d'
 
   abbrev Drove : Driven → Type 0
-  Drove driven = RanTo flat fits plain held limit m d (Stands out_taken rec_taken) (IsCutWithin out_taken rec_taken) driven w v (left s) (left s')
+  Drove driven = RanTo flat fits plain held limit m d (Stands out_taken rec_taken) (IsCutWithin out_taken rec_taken) driven w v (AreRun request.events (left s) (left s') driven)
 
-  runs_flat : (driven : Driven) (ran : Drove driven) → RunsTo true sizes.drum driven ran.events ran.entries (ran.told words opens).items
+  runs_flat : (driven : Driven) (ran : Drove driven) → RunsTo true request.sizes.drum driven ran.events ran.entries (ran.told words opens).items
   runs_flat driven ran =
       let given = ran.told words opens in
-      subst (λ f. RunsTo f sizes.drum driven ran.events ran.entries given.items) is_flat (subst (λ n. RunsTo flat n driven ran.events ran.entries given.items) (sym same) given.run)
+      subst (λ f. RunsTo f request.sizes.drum driven ran.events ran.entries given.items) is_flat (subst (λ n. RunsTo flat n driven ran.events ran.entries given.items) (sym same) given.run)
 
-  driven_to : (driven : Driven) → Drove driven → DrivenTo driven sizes told
+  driven_to : (driven : Driven) → Drove driven → DrivenTo driven request told
   driven_to driven ran =
       let given = ran.told words opens in
       record {
@@ -160,17 +164,17 @@ module _ {M S T R D : Type 0} {flat : Bool} {fits : M → DrumWords → Type 0} 
         items = given.items;
         found = ran.found;
         follows = ran.follows;
-        legal = run_legal sizes.drum ran.events ran.entries given.items driven (runs_flat driven ran);
-        shown = run_shows sizes.drum ran.events ran.entries given.items driven (runs_flat driven ran);
+        legal = run_legal request.sizes.drum ran.events ran.entries given.items driven (runs_flat driven ran);
+        shown = run_shows request.sizes.drum ran.events ran.entries given.items driven (runs_flat driven ran);
       }
 
   -- the writer stood for what it was given
-  stood : (driven : Driven) (last : Last) → last_after driven told.reads told.writes ≡ Some last → (ran : Drove driven) → Stands out_taken rec_taken w v (ran.told words opens).items ran.entries
+  stood : (driven : Driven) (last : Last) → last_after driven request.events told.reads told.writes ≡ Some last → (ran : Drove driven) → Stands out_taken rec_taken w v (ran.told words opens).items ran.entries
   stood driven last is ran =
       let given = ran.told words opens in
-      (handed_whole (Stands out_taken rec_taken) (IsCutWithin out_taken rec_taken) w v given.items ran.entries driven told.reads told.writes last is given.given).each w [] [] ran.few (start out_taken rec_taken w u line run)
+      (handed_whole (Stands out_taken rec_taken) (IsCutWithin out_taken rec_taken) w v given.items ran.entries driven request.events told.reads told.writes last is given.given).each w [] [] ran.few (start out_taken rec_taken w u line run)
 
-  part : (driven : Driven) (status : Status) (n : ℕ) → last_after driven told.reads told.writes ≡ Some (Stopped status n) → Drove driven → Finishes out_taken rec_taken (Stopped status n) v u → Part driven (closing_line status n) sizes told
+  part : (driven : Driven) (status : Status) (n : ℕ) → last_after driven request.events told.reads told.writes ≡ Some (Stopped status n) → Drove driven → Finishes out_taken rec_taken (Stopped status n) v u → Part driven (closing_line status n) request told
   unfolding driven_to
   part driven status n is ran finishes =
       let given = ran.told words opens in
@@ -181,29 +185,51 @@ module _ {M S T R D : Type 0} {flat : Bool} {fits : M → DrumWords → Type 0} 
         record_is = grows_alone told.rec told.rec_after (entries_text ran.entries) ends.rec;
       }
 
-  headline : told.reads < 2 ^ 64 → told.writes < 2 ^ 64 → Drove WholeScript → Finishes out_taken rec_taken (Ended told.reads told.writes) v u → Headline sizes told
+  -- the writer has counted what it was given
+  counted : (driven : Driven) (last : Last) → last_after driven request.events told.reads told.writes ≡ Some last → (ran : Drove driven) → v.tally ≡ tally (ran.told words opens).items ran.entries
+  counted driven last is ran = (stood driven last is ran).tallied fresh
+
+  -- the transcript that is done, with the line of counts of a generated script
+  whole_transcript : (events : EventSource) (items shown : List Item) (entries : List Step) → items ≡ shown → v.tally ≡ tally items entries
+      → Grows told.out told.out_after (transcript items ++ end_line (last_done events told.reads told.writes) v.tally) → Grows told.out told.out_after (done_transcript events shown entries)
+  whole_transcript ReadScript items shown entries are counts grows = subst (λ is. Grows told.out told.out_after (transcript is)) are (grows_alone told.out told.out_after (transcript items) grows)
+  whole_transcript (Generated seed) items shown entries are counts grows =
+      subst (λ is. Grows told.out told.out_after (done_transcript (Generated seed) is entries)) are
+      (subst (λ t. Grows told.out told.out_after (transcript items ++ end_line (Summary told.reads told.writes) t)) counts grows)
+
+  whole_record : (events : EventSource) (entries : List Step) → Grows told.rec told.rec_after (entries_text entries ++ record_end (last_done events told.reads told.writes)) → Grows told.rec told.rec_after (record_text entries told.reads told.writes)
+  whole_record ReadScript entries grows = grows
+  whole_record (Generated seed) entries grows = grows
+
+  -- all events that are asked for were run
+  all_run : (source : EventSource) (events : List Event) → AreRun source told.script told.script_after WholeScript events → AreAll source told events
+  all_run ReadScript events f = λ bytes is.
+      let found = f.each bytes is in
+      let all : found.0 ≡ bytes = sym (found.2 ∙ (ap (λ rest. found.0 ++ rest) found.4.1 ∙ append-nil found.0)) in
+      (subst (λ b. IsScript b events) all found.4.0, found.3 ∙ ap Some found.4.1)
+  all_run (Generated seed) events f = f
+
+  headline : told.reads < 2 ^ 64 → told.writes < 2 ^ 64 → Drove WholeScript → Finishes out_taken rec_taken (last_done request.events told.reads told.writes) v u → Headline request told
   headline few_reads few_writes ran finishes =
       let given = ran.told words opens in
-      let ends = finishes.each w given.items ran.entries (stood WholeScript (Ended told.reads told.writes) refl ran) in
+      let last = last_done request.events told.reads told.writes in
+      let ends = finishes.each w given.items ran.entries (stood WholeScript last refl ran) in
       let entries = runs_flat WholeScript ran in
       record {
         events = ran.events;
         entries = ran.entries;
-        spelled = λ bytes is.
-            let found = ran.found.each bytes is in
-            let all : found.0 ≡ bytes = sym (found.2 ∙ (ap (λ rest. found.0 ++ rest) found.4.1 ∙ append-nil found.0)) in
-            (subst (λ b. IsScript b ran.events) all found.4.0, found.3 ∙ ap Some found.4.1);
+        all = all_run request.events ran.events ran.found;
         follows = entries.follows;
         legal = whole_legal entries;
-        transcript_is = subst (λ items. Grows told.out told.out_after (transcript items)) entries.shown (grows_alone told.out told.out_after (transcript given.items) ends.out);
-        record_is = ends.rec;
-        fits = record { fit = opened_fit true sizes.drum ran.events ran.entries ran.fit entries.follows entries.legal; few = omega (arith, ran.few); few_reads = few_reads; few_writes = few_writes };
+        transcript_is = whole_transcript request.events given.items _ ran.entries entries.shown (counted WholeScript last refl ran) ends.out;
+        record_is = whole_record request.events ran.entries ends.rec;
+        fits = record { fit = opened_fit true request.sizes.drum ran.events ran.entries ran.fit entries.follows entries.legal; few = omega (arith, ran.few); few_reads = few_reads; few_writes = few_writes };
       }
 
   -- both texts were closed with their last lines
-  ended : (driven : Driven) (last : Last) → last_after driven told.reads told.writes ≡ Some last → told.reads < 2 ^ 64 → told.writes < 2 ^ 64 → Drove driven → Finishes out_taken rec_taken last v u → Ran sizes told (status_after driven)
+  ended : (driven : Driven) (last : Last) → last_after driven request.events told.reads told.writes ≡ Some last → told.reads < 2 ^ 64 → told.writes < 2 ^ 64 → Drove driven → Finishes out_taken rec_taken last v u → Ran request told (status_after driven)
   ended WholeScript last is few_reads few_writes ran fin =
-      let this : last ≡ Ended told.reads told.writes = cc is in
+      let this : last ≡ last_done request.events told.reads told.writes = cc is in
       headline few_reads few_writes ran (subst (λ l. Finishes out_taken rec_taken l v u) this fin)
   ended (Bad n) last is few_reads few_writes ran fin =
       let this : last ≡ Stopped Script n = cc is in
@@ -219,11 +245,11 @@ module _ {M S T R D : Type 0} {flat : Bool} {fits : M → DrumWords → Type 0} 
       part Unpaged DrumFault 0 refl ran (subst (λ l. Finishes out_taken rec_taken l v u) this fin)
   ended TakerFault last is few_reads few_writes ran fin = absurd (cc is)
 
-  pub closed : (driven : Driven) (last : Last) (status : Status) → last_after driven told.reads told.writes ≡ Some last → status ≡ status_after driven → told.reads < 2 ^ 64 → told.writes < 2 ^ 64 → Drove driven → Finishes out_taken rec_taken last v u → Ran sizes told status
-  closed driven last status is this few_reads few_writes ran fin = subst (Ran sizes told) (sym this) (ended driven last is few_reads few_writes ran fin)
+  pub closed : (driven : Driven) (last : Last) (status : Status) → last_after driven request.events told.reads told.writes ≡ Some last → status ≡ status_after driven → told.reads < 2 ^ 64 → told.writes < 2 ^ 64 → Drove driven → Finishes out_taken rec_taken last v u → Ran request told status
+  closed driven last status is this few_reads few_writes ran fin = subst (Ran request told) (sym this) (ended driven last is few_reads few_writes ran fin)
 
   -- the texts were to be closed with their last lines, and a sink failed
-  pub unclosed : (driven : Driven) (last : Last) → last_after driven told.reads told.writes ≡ Some last → Drove driven → FailsAtEnd out_taken rec_taken last v u → Fronts sizes told
+  pub unclosed : (driven : Driven) (last : Last) → last_after driven request.events told.reads told.writes ≡ Some last → Drove driven → FailsAtEnd out_taken rec_taken last v u → Fronts request told
   unfolding driven_to
   unclosed driven last is ran fails =
       let given = ran.told words opens in
@@ -231,12 +257,13 @@ module _ {M S T R D : Type 0} {flat : Bool} {fits : M → DrumWords → Type 0} 
       record {
         driven = driven;
         so_far = driven_to driven ran;
-        transcript_front = subst (λ l. WrotePartly told.out told.out_after (transcript given.items ++ closing end_line l)) (sym is) ends.out;
+        transcript_front = subst (λ l. WrotePartly told.out told.out_after (transcript given.items ++ closing (λ x. end_line x (tally given.items ran.entries)) l)) (sym is)
+            (subst (λ t. WrotePartly told.out told.out_after (transcript given.items ++ end_line last t)) (counted driven last is ran) ends.out);
         record_front = subst (λ l. WrotePartly told.rec told.rec_after (entries_text ran.entries ++ closing record_end l)) (sym is) ends.rec;
       }
 
   -- the writer failed before the end
-  pub cut_short : (driven : Driven) → last_after driven told.reads told.writes ≡ None → Drove driven → Keeps (IsCutWithin out_taken rec_taken) v u → Fronts sizes told
+  pub cut_short : (driven : Driven) → last_after driven request.events told.reads told.writes ≡ None → Drove driven → Keeps (IsCutWithin out_taken rec_taken) v u → Fronts request told
   unfolding driven_to
   cut_short TakerFault is ran keeps =
       let given = ran.told words opens in

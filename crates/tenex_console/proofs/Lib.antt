@@ -1,6 +1,8 @@
 mod Asking
 mod Turns
 mod Found
+mod Lined
+mod Generating
 mod Running
 mod Closing
 mod Causes

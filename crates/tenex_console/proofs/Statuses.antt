@@ -5,15 +5,17 @@ use Rattle.outside.specs.Faults.{Rose}
 use Rattle.script_texts.specs.declared.event.Event.{Event}
 use Rattle.script_texts.specs.Script.{IsScript, IsTooLong, StopsAt}
 use Rattle.script_lang.proofs.OnePlace.{script_not_bad, script_not_long, bad_not_too_long}
-use Rattle.command_words.specs.declared.sizes.Sizes.{Sizes}
+use Rattle.command_words.specs.declared.request.EventSource.{EventSource}
+use Rattle.command_words.specs.declared.request.EventSource.TheVariants.{Script as ReadScript, Generated}
+use Rattle.command_words.specs.declared.request.Request.{Request}
 use Rattle.texts.specs.declared.last.Status.{Status}
 use Rattle.texts.specs.declared.last.Status.TheVariants.{Done, Usage, Script, DrumFault, Memory, ReadFault, WriteFault, LongScript}
 use Rattle.tenex_console.specs.declared.asked.Unbegun.{Unbegun}
 use Rattle.tenex_console.specs.declared.asked.Unbegun.TheVariants.{Usage as WrongWords, Memory as NoMemory}
 use Rattle.tenex_console.specs.declared.driver.Driven.{Driven}
 use Rattle.tenex_console.specs.declared.driver.Driven.TheVariants.{Done as WholeScript, Bad, Long, ReadFault as Unread, DrumFault as Unpaged, TakerFault}
-use Rattle.tenex_console.specs.Command.{IsRight, IsUsage}
-use Rattle.tenex_console.specs.Verdicts.{Found, Verdict}
+use Rattle.tenex_console.specs.Command.{Generates, IsReady, IsRight, IsUsage, ReadsScript}
+use Rattle.tenex_console.specs.Verdicts.{AreRun, Found, Verdict}
 use Rattle.tenex_console.specs.Headline.{IsTrueOf, Stops}
 use Rattle.tenex_console.specs.Observed.{AreSteady, Faults, IsCaused, IsSteady, Observed}
 use Rattle.tenex_console.specs.Statuses.{IsEarly, IsFaultless, Judges, Ran, RanAsked, Tells, status_after}
@@ -88,16 +90,28 @@ faultless WriteFault f caused all = elim (caused.write refl) [ inl x ↦ steady 
 faultless LongScript f caused all = tt
 
 module _ {Z : Type 0} (words : List (String Z)) (pages : ℕ) where
-  -- a status that tells of no fault, of right words and a right script
-  pub complete_run : (bytes : List ℕ) (status : Status) → (status ≡ Usage → IsUsage words pages) → Judges status bytes → IsRight words pages bytes → IsFaultless status → (status ≡ Done) ⊎ (status ≡ Memory)
-  complete_run bytes Done usage judged right fine = inl refl
-  complete_run bytes Usage usage judged right fine = absurd (not_usage words pages right.sizes right.asked (usage refl))
-  complete_run bytes Script usage judged right fine = absurd (script_not_bad bytes judged.0 right.events judged.1 right.script judged.2)
-  complete_run bytes DrumFault usage judged right fine = absurd fine
-  complete_run bytes Memory usage judged right fine = inr refl
-  complete_run bytes ReadFault usage judged right fine = absurd fine
-  complete_run bytes WriteFault usage judged right fine = absurd fine
-  complete_run bytes LongScript usage judged right fine = absurd (script_not_long bytes right.events judged.0 right.script judged.1)
+  -- a status that tells of no fault, of right words and, where it is run, a right script
+  pub complete_run : (left : Option (List ℕ)) (status : Status) → (status ≡ Usage → IsUsage words pages) → ((bytes : List ℕ) → ReadsScript words → left ≡ Some bytes → Judges status bytes)
+      → ((seed : ℕ) → Generates words seed → (status ≡ Script → ⊥) × (status ≡ LongScript → ⊥)) → IsRight words pages left → IsFaultless status → (status ≡ Done) ⊎ (status ≡ Memory)
+  complete_run left status usage judged never right = by status usage judged never
+    where
+      of_script : (P : Type 0) → ((bytes : List ℕ) (events : List Event) → ReadsScript words → left ≡ Some bytes → IsScript bytes events → P) → ((seed : ℕ) → Generates words seed → P) → P
+      of_script P read generated = split right.request.events refl right.ready
+        where
+          split : (source : EventSource) → right.request.events ≡ source → IsReady source left → P
+          split ReadScript is (bytes, events, told, script) = read bytes events (right.request, right.asked.asks, is) told script
+          split (Generated seed) is ready = generated seed (right.request, right.asked.asks, is)
+
+      by : (s : Status) → (s ≡ Usage → IsUsage words pages) → ((bytes : List ℕ) → ReadsScript words → left ≡ Some bytes → Judges s bytes)
+          → ((seed : ℕ) → Generates words seed → (s ≡ Script → ⊥) × (s ≡ LongScript → ⊥)) → IsFaultless s → (s ≡ Done) ⊎ (s ≡ Memory)
+      by Done u j n fine = inl refl
+      by Usage u j n fine = absurd (not_usage words pages right.request right.asked (u refl))
+      by Script u j n fine = absurd (of_script ⊥ (λ bytes events reads told script. let bad = j bytes reads told in script_not_bad bytes bad.0 events bad.1 script bad.2) (λ seed g. (n seed g).0 refl))
+      by DrumFault u j n fine = absurd fine
+      by Memory u j n fine = inr refl
+      by ReadFault u j n fine = absurd fine
+      by WriteFault u j n fine = absurd fine
+      by LongScript u j n fine = absurd (of_script ⊥ (λ bytes events reads told script. let long = j bytes reads told in script_not_long bytes events long.0 script long.1) (λ seed g. (n seed g).1 refl))
 
   module _ (told : Observed) where
     -- a run that began
@@ -112,15 +126,26 @@ module _ {Z : Type 0} (words : List (String Z)) (pages : ℕ) where
     tells_ran LongScript ran = ran
 
 -- a run that began is not early
-pub late : (sizes : Sizes) (told : Observed) (status : Status) → Ran sizes told status → IsEarly status → ⊥
-late sizes told Usage ran early = ran
-late sizes told Memory ran early = ran
-late sizes told Done ran early = early
-late sizes told Script ran early = early
-late sizes told DrumFault ran early = early
-late sizes told ReadFault ran early = early
-late sizes told WriteFault ran early = early
-late sizes told LongScript ran early = early
+pub late : (request : Request) (told : Observed) (status : Status) → Ran request told status → IsEarly status → ⊥
+late request told Usage ran early = ran
+late request told Memory ran early = ran
+late request told Done ran early = early
+late request told Script ran early = early
+late request told DrumFault ran early = early
+late request told ReadFault ran early = early
+late request told WriteFault ran early = early
+late request told LongScript ran early = early
+
+-- what a run came to is told of the run that was asked for
+pub ran_asked : (told : Observed) (request : Request) (events : EventSource) (status : Status) → events ≡ request.events → Ran (record { events = events; sizes = request.sizes }) told status → Ran request told status
+ran_asked told request events status is ran = subst (λ e. Ran (record { events = e; sizes = request.sizes }) told status) is ran
+
+-- a generated script is never bad, and never too long
+pub never_judged : (request : Request) (told : Observed) (status : Status) → Ran request told status → (seed : ℕ) → request.events ≡ Generated seed → (status ≡ Script → ⊥) × (status ≡ LongScript → ⊥)
+never_judged request told status ran seed is = (
+  λ e. let bad = subst (Ran request told) e ran in (subst (λ source. AreRun source told.script told.script_after (Bad bad.0) bad.1.so_far.events) is bad.1.so_far.found).0,
+  λ e. let long = subst (Ran request told) e ran in (subst (λ source. AreRun source told.script told.script_after Long long.so_far.events) is long.so_far.found).0,
+)
 
 module _ {out out' rec rec' : Option (List ℕ)} where
   -- which statuses there are where nothing was run

@@ -1,4 +1,4 @@
--- How far a script was driven, and what the taker was given.
+-- How far the events were driven, and what the taker was given.
 use Rattle.std.specs.Prelude.{◌≡◌, ℕ, ◌<◌, List, length, replicate, All, Bool, true, Option}
 use Rattle.script_texts.specs.declared.event.Event.{Event}
 use Rattle.script_texts.specs.declared.event.Item.{Item}
@@ -13,7 +13,6 @@ use Rattle.monitor_core.specs.Machines.{Fits, auto, done, is_live, limit, plain}
 use Rattle.tenex_console.specs.declared.driver.Driven.{Driven}
 use Rattle.tenex_console.specs.declared.driver.Driven.TheVariants.{TakerFault}
 use Rattle.tenex_console.specs.Runs.{FollowsTo, RunsTo}
-use Rattle.tenex_console.specs.Verdicts.{Found, Verdict}
 
 -- what the taker was given where the driving ended like this: all, or it is cut within
 abbrev pub Handed : {K : Type 0} → (stands cut : K → K → List Item → List Step → Type 0) → (out out' : K) → Driven → List Item → List Step → Type 0
@@ -38,17 +37,17 @@ pub record GivenTo {K : Type 0} (flat : Bool) (limit : ℕ) (stands cut : K → 
   pub run : RunsTo flat limit driven events entries items
   pub given : Handed stands cut out out' driven items entries
 
--- How the driving ended: the script's events and their entries, whatever is told; the script, where it told
--- its bytes; and over what the drum told, what the taker was given.
+-- How the driving ended: the events, which are of this kind, and their entries, whatever is told; and over what the
+-- drum told, what the taker was given.
 pub record RanTo {M D K : Type 0} (flat : Bool) (fits : M → DrumWords → Type 0) (plain : M → DrumWords → PlainState) (held : D → Option DrumWords)
     (limit : ℕ) (m : M) (drum : D) (stands cut : K → K → List Item → List Step → Type 0) (driven : Driven) (out out' : K)
-    (script script' : Option (List ℕ)) : Type 0 where
+    (AreThey : List Event → Type 0) : Type 0 where
   pub events : List Event
   pub entries : List Step
   pub fit : All FitsEvent events
   pub follows : FollowsTo driven events entries
   pub few : length entries < max_steps
-  pub found : Found script script' (Verdict driven events)
+  pub found : AreThey events
   pub told : (d : DrumWords) → OpensOver flat fits plain held limit m drum d → GivenTo flat limit stands cut driven out out' events entries
 
 -- a machine over pages that goes on and has done nothing, with AUTO on
@@ -63,8 +62,8 @@ pub record IsBooted {P : Type 0} {b : _} (room : ℕ) (m : Machine P b) : Type 0
   pub room_is : limit m ≡ room
   pub opened : (d : DrumWords) → FitsHomes (replicate room free) d → StandsFor Fits plain m d (opening room)
 
--- what the driving of a machine over pages came to
-abbrev pub Drove : {P S D K : Type 0} {b : _} → (D → Option DrumWords) → (S → Option (List ℕ)) → (stands cut : K → K → List Item → List Step → Type 0)
-    → Machine P b → D → (script script' : S) → (out out' : K) → Driven → Type 0
-Drove {b = b} held left stands cut m drum script script' out out' driven =
-    RanTo b.means.flat Fits plain held (limit m) m drum stands cut driven out out' (left script) (left script')
+-- what the driving of a machine over pages came to, where the events are of this kind
+abbrev pub Drove : {P D K : Type 0} {b : _} → (D → Option DrumWords) → (stands cut : K → K → List Item → List Step → Type 0)
+    → Machine P b → D → (AreThey : List Event → Type 0) → (out out' : K) → Driven → Type 0
+Drove {b = b} held stands cut m drum AreThey out out' driven =
+    RanTo b.means.flat Fits plain held (limit m) m drum stands cut driven out out' AreThey

@@ -10,53 +10,68 @@ use Rattle.script_texts.specs.Follows.{Follows}
 use Rattle.plain_model.specs.Run.{AreLegal, items_of}
 use Rattle.script_texts.specs.Script.{IsScript}
 use Rattle.script_texts.specs.Texts.{transcript, entries_text, record_text}
-use Rattle.command_words.specs.declared.sizes.Sizes.{Sizes}
-use Rattle.command_words.specs.Words.{IsRun}
+use Rattle.script_lang.specs.Generator.{big_events}
+use Rattle.command_words.specs.declared.request.EventSource.{EventSource}
+use Rattle.command_words.specs.declared.request.EventSource.TheVariants.{Script as ReadScript, Generated}
+use Rattle.command_words.specs.declared.request.Request.{Request}
+use Rattle.command_words.specs.Words.{Ask}
 use Rattle.texts.specs.declared.last.Status.{Status}
 use Rattle.texts.specs.declared.last.Status.TheVariants.{Usage, Script, DrumFault, Memory, ReadFault, WriteFault, LongScript}
 use Rattle.texts.specs.declared.last.Last.{Last}
-use Rattle.texts.specs.declared.last.Last.TheVariants.{Done as Ended, Stopped}
+use Rattle.texts.specs.declared.last.Last.TheVariants.{Done as Ended, Summary, Stopped}
 use Rattle.texts.specs.Ends.{closing_line, end_line, record_end}
+use Rattle.texts.specs.Tally.{tally, tally_line}
 use Rattle.texts.specs.Wrote.{WrotePartly}
 use Rattle.tenex_console.specs.declared.driver.Driven.{Driven}
 use Rattle.tenex_console.specs.declared.driver.Driven.TheVariants.{Done as WholeScript, Bad, Long, ReadFault as Unread, DrumFault as Unpaged, TakerFault}
 use Rattle.tenex_console.specs.declared.asked.Unbegun.{Unbegun}
 use Rattle.tenex_console.specs.declared.asked.Unbegun.TheVariants.{Usage as WrongWords, Memory as NoMemory}
 use Rattle.tenex_console.specs.Command.{IsUsage}
-use Rattle.tenex_console.specs.Verdicts.{Found, Verdict}
+use Rattle.tenex_console.specs.Verdicts.{AreRun}
 use Rattle.tenex_console.specs.Observed.{Observed}
 use Rattle.tenex_console.specs.Runs.{FollowsTo, ShowsTo}
 
--- The transcript is that of the plain machine over the entries that the record has: the script's events
+-- all events that are asked for: those of the script, which is read to its end; or those of the generated script, and
+-- then no byte of the other is read
+abbrev pub AreAll : EventSource → Observed → List Event → Type 0
+AreAll ReadScript told events = (bytes : List ℕ) → told.script ≡ Some bytes → IsScript bytes events × (told.script_after ≡ Some [])
+AreAll (Generated seed) told events = (events ≡ big_events seed) × (told.script_after ≡ told.script)
+
+-- the transcript of a run that is done: behind that of a generated script stands the line of its counts
+abbrev pub done_transcript : EventSource → List Item → List Step → List ℕ
+done_transcript ReadScript items entries = transcript items
+done_transcript (Generated seed) items entries = transcript items ++ tally_line (tally items entries)
+
+-- The transcript is that of the plain machine over the entries that the record has: the events that are asked for,
 -- in order, each RUN n being n units of forks that can run, or idle entries while none can. No other entries
--- have this record, whose last line tells how often the drum was read and written. The script is read to its end.
-pub record Headline (sizes : Sizes) (told : Observed) : Type 0 where
+-- have this record, whose last line tells how often the drum was read and written.
+pub record Headline (request : Request) (told : Observed) : Type 0 where
   pub events : List Event
   pub entries : List Step
-  pub spelled : (bytes : List ℕ) → told.script ≡ Some bytes → IsScript bytes events × (told.script_after ≡ Some [])
+  pub all : AreAll request.events told events
   pub follows : Follows events entries
-  pub legal : AreLegal true (opening sizes.drum) entries
-  pub transcript_is : Grows told.out told.out_after (transcript (items_of (opening sizes.drum) entries))
+  pub legal : AreLegal true (opening request.sizes.drum) entries
+  pub transcript_is : Grows told.out told.out_after (done_transcript request.events (items_of (opening request.sizes.drum) entries) entries)
   pub record_is : Grows told.rec told.rec_after (record_text entries told.reads told.writes)
   pub fits : FitsRecord entries told.reads told.writes
 
--- the words ask for sizes, over which the headline holds
+-- the words ask for a run, of which the headline holds
 abbrev pub HasHeadline : {Z : Type 0} → List (String Z) → Observed → Type 0
-HasHeadline words told = (sizes : Sizes) × IsRun words sizes × Headline sizes told
+HasHeadline words told = (request : Request) × Ask words request × Headline request told
 
--- The script was driven so far over all pages in memory: its events, their legal entries, and what was shown.
-pub record DrivenTo (driven : Driven) (sizes : Sizes) (told : Observed) : Type 0 where
+-- The events were driven so far over all pages in memory: these events, their legal entries, and what was shown.
+pub record DrivenTo (driven : Driven) (request : Request) (told : Observed) : Type 0 where
   pub events : List Event
   pub entries : List Step
   pub items : List Item
-  pub found : Found told.script told.script_after (Verdict driven events)
+  pub found : AreRun request.events told.script told.script_after driven events
   pub follows : FollowsTo driven events entries
-  pub legal : AreLegal true (opening sizes.drum) entries
-  pub shown : ShowsTo driven sizes.drum events entries items
+  pub legal : AreLegal true (opening request.sizes.drum) entries
+  pub shown : ShowsTo driven request.sizes.drum events entries items
 
 -- the texts of the run so far, and the line that tells how it stopped behind the transcript
-pub record Part (driven : Driven) (line : List ℕ) (sizes : Sizes) (told : Observed) : Type 0 where
-  pub so_far : DrivenTo driven sizes told
+pub record Part (driven : Driven) (line : List ℕ) (request : Request) (told : Observed) : Type 0 where
+  pub so_far : DrivenTo driven request told
   pub transcript_is : Grows told.out told.out_after (transcript so_far.items ++ line)
   pub record_is : Grows told.rec told.rec_after (entries_text so_far.entries)
 
@@ -65,22 +80,27 @@ abbrev pub closing : (Last → List ℕ) → Option Last → List ℕ
 closing line None = []
 closing line (Some last) = line last
 
+-- the last lines of a run that is done
+abbrev pub last_done : EventSource → ℕ → ℕ → Last
+last_done ReadScript reads writes = Ended reads writes
+last_done (Generated seed) reads writes = Summary reads writes
+
 -- the last lines after the driving, where there are some
-abbrev pub last_after : Driven → ℕ → ℕ → Option Last
-last_after WholeScript reads writes = Some (Ended reads writes)
-last_after (Bad n) reads writes = Some (Stopped Script n)
-last_after Long reads writes = Some (Stopped LongScript 0)
-last_after Unread reads writes = Some (Stopped ReadFault 0)
-last_after Unpaged reads writes = Some (Stopped DrumFault 0)
-last_after TakerFault reads writes = None
+abbrev pub last_after : Driven → EventSource → ℕ → ℕ → Option Last
+last_after WholeScript events reads writes = Some (last_done events reads writes)
+last_after (Bad n) events reads writes = Some (Stopped Script n)
+last_after Long events reads writes = Some (Stopped LongScript 0)
+last_after Unread events reads writes = Some (Stopped ReadFault 0)
+last_after Unpaged events reads writes = Some (Stopped DrumFault 0)
+last_after TakerFault events reads writes = None
 
 -- The driving ended in some way, and each sink took a front of the text of the run so far, closed with the last lines
 -- of this way: none, where it was the taker that failed.
-pub record Fronts (sizes : Sizes) (told : Observed) : Type 0 where
+pub record Fronts (request : Request) (told : Observed) : Type 0 where
   pub driven : Driven
-  pub so_far : DrivenTo driven sizes told
-  pub transcript_front : WrotePartly told.out told.out_after (transcript so_far.items ++ closing end_line (last_after driven told.reads told.writes))
-  pub record_front : WrotePartly told.rec told.rec_after (entries_text so_far.entries ++ closing record_end (last_after driven told.reads told.writes))
+  pub so_far : DrivenTo driven request told
+  pub transcript_front : WrotePartly told.out told.out_after (transcript so_far.items ++ closing (λ l. end_line l (tally so_far.items so_far.entries)) (last_after driven request.events told.reads told.writes))
+  pub record_front : WrotePartly told.rec told.rec_after (entries_text so_far.entries ++ closing record_end (last_after driven request.events told.reads told.writes))
 
 -- nothing was run, and the transcript is the line that tells why
 pub record Only (line : List ℕ) (told : Observed) : Type 0 where

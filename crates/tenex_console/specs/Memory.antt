@@ -7,22 +7,31 @@ use Rattle.script_texts.specs.Entries.{FitsRecord}
 use Rattle.script_texts.specs.Follows.{Follows}
 use Rattle.plain_model.specs.Run.{AreLegal, items_of}
 use Rattle.script_texts.specs.Script.{IsScript}
-use Rattle.script_texts.specs.Texts.{transcript, record_text}
+use Rattle.script_texts.specs.Texts.{record_text}
 use Rattle.outside.specs.declared.memory_drum.SureDrum.{SureDrum}
 use Rattle.outside.specs.declared.memory_sink.MemSink.{MemSink}
-use Rattle.command_words.specs.declared.sizes.Sizes.{Sizes}
-use Rattle.command_words.specs.Words.{IsRun}
+use Rattle.script_lang.specs.Generator.{big_events}
+use Rattle.command_words.specs.declared.request.EventSource.{EventSource}
+use Rattle.command_words.specs.declared.request.EventSource.TheVariants.{Script, Generated}
+use Rattle.command_words.specs.declared.request.Request.{Request}
+use Rattle.command_words.specs.Words.{Ask}
+use Rattle.tenex_console.specs.Headline.{done_transcript}
 
--- The headline in bytes: the script is lines that spell the events, and behind what both sinks had stand the
+-- these bytes are lines that spell the events, or the events are those of the generated script that is asked for
+abbrev pub AreSpelled : EventSource → List ℕ → List Event → Type 0
+AreSpelled Script script events = IsScript script events
+AreSpelled (Generated seed) script events = events ≡ big_events seed
+
+-- The headline in bytes: the events are those that are asked for, and behind what both sinks had stand the
 -- transcript of the plain machine and the record of the entries, with how often the drum was read and written.
 pub record HeadlineInBytes {Z : Type 0} (words : List (String Z)) (script : List ℕ) (out out' rec rec' : MemSink) (drum drum' : SureDrum) : Type 0 where
-  pub sizes : Sizes
-  pub asked : IsRun words sizes
+  pub request : Request
+  pub asked : Ask words request
   pub events : List Event
   pub entries : List Step
-  pub spelled : IsScript script events
+  pub spelled : AreSpelled request.events script events
   pub follows : Follows events entries
-  pub legal : AreLegal true (opening sizes.drum) entries
-  pub transcript_is : out'.bytes.items ≡ out.bytes.items ++ transcript (items_of (opening sizes.drum) entries)
+  pub legal : AreLegal true (opening request.sizes.drum) entries
+  pub transcript_is : out'.bytes.items ≡ out.bytes.items ++ done_transcript request.events (items_of (opening request.sizes.drum) entries) entries
   pub record_is : rec'.bytes.items ≡ rec.bytes.items ++ record_text entries (drum'.held.reads - drum.held.reads) (drum'.held.writes - drum.held.writes)
   pub fits : FitsRecord entries (drum'.held.reads - drum.held.reads) (drum'.held.writes - drum.held.writes)

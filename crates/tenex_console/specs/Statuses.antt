@@ -2,6 +2,8 @@
 use Rattle.std.specs.Prelude.{◌≡◌, ◌⊎◌, ℕ, List, String}
 use Rattle.script_texts.specs.declared.event.Event.{Event}
 use Rattle.script_texts.specs.Script.{IsScript, StopsAt, IsTooLong}
+use Rattle.command_words.specs.declared.request.EventSource.{EventSource}
+use Rattle.command_words.specs.declared.request.Request.{Request}
 use Rattle.command_words.specs.declared.sizes.Sizes.{Sizes}
 use Rattle.texts.specs.declared.last.Status.{Status}
 use Rattle.texts.specs.declared.last.Status.TheVariants.{Done, Usage, Script, DrumFault, Memory, ReadFault, WriteFault, LongScript}
@@ -12,24 +14,24 @@ use Rattle.tenex_console.specs.Command.{IsAsked}
 use Rattle.tenex_console.specs.Headline.{Headline, Part, Fronts, Only, OnlyFront}
 use Rattle.tenex_console.specs.Observed.{Observed}
 
--- what was told of a run of these sizes that began and has this status
-abbrev pub Ran : Sizes → Observed → Status → Type 0
-Ran sizes told Done = Headline sizes told
-Ran sizes told Usage = ⊥
-Ran sizes told Script = (n : ℕ) × Part (Bad n) (closing_line Script n) sizes told
-Ran sizes told DrumFault = Part Unpaged (closing_line DrumFault 0) sizes told
-Ran sizes told Memory = ⊥
-Ran sizes told ReadFault = Part Unread (closing_line ReadFault 0) sizes told
-Ran sizes told WriteFault = Fronts sizes told
-Ran sizes told LongScript = Part Long (closing_line LongScript 0) sizes told
+-- what was told of a run that was asked for like this, began and has this status
+abbrev pub Ran : Request → Observed → Status → Type 0
+Ran request told Done = Headline request told
+Ran request told Usage = ⊥
+Ran request told Script = (n : ℕ) × Part (Bad n) (closing_line Script n) request told
+Ran request told DrumFault = Part Unpaged (closing_line DrumFault 0) request told
+Ran request told Memory = ⊥
+Ran request told ReadFault = Part Unread (closing_line ReadFault 0) request told
+Ran request told WriteFault = Fronts request told
+Ran request told LongScript = Part Long (closing_line LongScript 0) request told
 
--- what was told of a run with this status, of any sizes with so many pages of the drum
-abbrev pub RanWith : ℕ → Observed → Status → Type 0
-RanWith pages told status = (sizes : Sizes) → sizes.drum ≡ pages → Ran sizes told status
+-- what was told of a run of these events with this status, of any sizes with so many pages of the drum
+abbrev pub RanWith : EventSource → ℕ → Observed → Status → Type 0
+RanWith events pages told status = (sizes : Sizes) → sizes.drum ≡ pages → Ran (record { events = events; sizes = sizes }) told status
 
--- the words ask for sizes, of which there was a run with this status
+-- the words ask for a run, and there was one with this status
 abbrev pub RanAsked : {Z : Type 0} → List (String Z) → ℕ → Observed → Status → Type 0
-RanAsked words drum_pages told status = (sizes : Sizes) × IsAsked words drum_pages sizes × Ran sizes told status
+RanAsked words drum_pages told status = (request : Request) × IsAsked words drum_pages request × Ran request told status
 
 -- what was told on each status
 abbrev pub Tells : {Z : Type 0} → List (String Z) → ℕ → Observed → Status → Type 0

@@ -1,7 +1,10 @@
--- What is found of a script where the driving of it ended.
+-- Which events were run where the driving ended: what is found of the script, or how much of the generated one.
 use Rattle.std.specs.Prelude.{◌≡◌, ℕ, List, [], ◌++◌, Option, Some}
 use Rattle.script_texts.specs.declared.event.Event.{Event}
 use Rattle.script_texts.specs.Script.{IsScript, StopsAt, IsTooLong, IsReadTo, BeginsWith}
+use Rattle.script_lang.specs.Generator.{big_events}
+use Rattle.command_words.specs.declared.request.EventSource.{EventSource}
+use Rattle.command_words.specs.declared.request.EventSource.TheVariants.{Script, Generated}
 use Rattle.tenex_console.specs.declared.driver.Driven.{Driven}
 use Rattle.tenex_console.specs.declared.driver.Driven.TheVariants.{Done, Bad, Long, ReadFault, DrumFault, TakerFault}
 
@@ -18,3 +21,21 @@ Verdict Long events taken rest = IsTooLong (taken ++ rest) events
 Verdict ReadFault events taken rest = IsReadTo taken events
 Verdict DrumFault events taken rest = BeginsWith taken events
 Verdict TakerFault events taken rest = BeginsWith taken events
+
+-- the generated script of this seed begins with these events
+abbrev pub BeginsGenerated : ℕ → List Event → Type 0
+BeginsGenerated seed events = (later : List Event) × (big_events seed ≡ events ++ later)
+
+-- the events are those of the generated script of this seed, or the first of them where the driving ended within
+abbrev pub AreGenerated : ℕ → Driven → List Event → Type 0
+AreGenerated seed Done events = events ≡ big_events seed
+AreGenerated seed (Bad n) events = ⊥
+AreGenerated seed Long events = ⊥
+AreGenerated seed ReadFault events = ⊥
+AreGenerated seed DrumFault events = BeginsGenerated seed events
+AreGenerated seed TakerFault events = BeginsGenerated seed events
+
+-- the events that were run, where the driving ended like this; a script that is not asked for stays
+abbrev pub AreRun : EventSource → (script script' : Option (List ℕ)) → Driven → List Event → Type 0
+AreRun Script script script' driven events = Found script script' (Verdict driven events)
+AreRun (Generated seed) script script' driven events = AreGenerated seed driven events × (script' ≡ script)

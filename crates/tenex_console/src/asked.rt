@@ -1,12 +1,12 @@
 // The machine that the words of the command ask for.
 ghost use Rattle.std.specs.Prelude.{◌≡◌, ◌+◌, ◌*◌, ◌<◌, ◌≤◌, IfOk, IfErr};
 ghost use Rattle.page_homes.specs.declared.homes.TheConstants.{MOST_HOMES};
-ghost use Rattle.command_words.specs.declared.sizes.Sizes.{Sizes as ASizes};
+ghost use Rattle.command_words.specs.declared.request.Request.{Request as ARequest};
 ghost use Rattle.tenex_console.specs.Command.{IsAsked};
 ghost use Rattle.tenex_console.specs.Driving.{IsBooted};
 ghost use Rattle.tenex_console.specs.Headline.{IsTrueOf, status_of};
 
-use command_words::{Sizes, asked_sizes};
+use command_words::{EventSource, Sizes, asked_run};
 use flat_pages::{FlatSlots, FlatStore};
 use monitor_core::{Config, Machine};
 use outside::Memory;
@@ -54,23 +54,24 @@ impl From<Memory> for Unbegun {
     }
 }
 
-/// The machine of the sizes that the words ask for, where a drum of so many pages has enough of them; or
-/// why there is none. Nothing is booted before the words and the drum are looked at.
+/// Which events the words ask for, and a machine of the sizes that they ask for, where a drum of so many pages has
+/// enough of them; or why there is none. Nothing is booted before the words and the drum are looked at.
 pub fn asked_machine(
     alloc: Global,
     words: &[String],
     drum_pages: u32,
-) -> Result<Machine<FlatSlots<FlatStore>>, Unbegun>
-    ensures booted { IfOk result (λ m. (sizes : ASizes) × IsAsked words.now drum_pages sizes × IsBooted sizes.drum m) }
+) -> Result<(EventSource, Machine<FlatSlots<FlatStore>>), Unbegun>
+    ensures booted { IfOk result (λ p. (request : ARequest) × IsAsked words.now drum_pages request × (p.0 ≡ request.events) × IsBooted request.sizes.drum p.1) }
     ensures why { IfErr result (IsTrueOf words.now drum_pages) }
 {
-    let Some(sizes) = asked_sizes(alloc, words)? else {
+    let Some(request) = asked_run(alloc, words)? else {
         return Err(Unbegun::Usage);
     };
-    if sizes.drum > drum_pages {
+    if request.sizes.drum > drum_pages {
         return Err(Unbegun::Usage);
     }
-    Ok(boot(alloc, sizes)?)
+    let machine = boot(alloc, request.sizes)?;
+    Ok((request.events, machine))
 }
 
 // A new machine of these sizes over pages in memory.

@@ -7,7 +7,7 @@ ghost use Rattle.script_texts.specs.declared.event.Event.{Event as AnEvent};
 ghost use Rattle.monitor_core.specs.Machines.{limit};
 ghost use Rattle.monitor_core.specs.Outcome.{DrumStays};
 ghost use Rattle.texts.specs.Writer.{FailsAtEnd, Finishes, HandsOn, IsHandedOn, IsOnward};
-ghost use Rattle.tenex_console.specs.Command.{IsRight, IsUsage};
+ghost use Rattle.tenex_console.specs.Command.{Generates, IsRight, IsUsage, ReadsScript};
 ghost use Rattle.tenex_console.specs.Driving.{IsBooted};
 ghost use Rattle.tenex_console.specs.Headline.{HasHeadline, Stops};
 ghost use Rattle.tenex_console.specs.Observed.{AreSteady, HandedOn, IsCaused, NoneFell, faults, seen};
@@ -15,16 +15,18 @@ ghost use Rattle.tenex_console.specs.Statuses.{IsEarly, IsFaultless, IsUsageOrBe
 
 use crate::asked::{Unbegun, asked_machine};
 use crate::driver::drive;
+use command_words::EventSource;
 use flat_pages::{FlatSlots, FlatStore};
 use monitor_core::Machine;
 use outside::{Drum, Failed, Sink, Source};
 use std::alloc::Global;
 use texts::{Last, Status, Writer};
 
-/// Runs a command: its words, those behind the program's name, must be `run` with options that ask for
-/// sizes. The script is read and run line by line; `out` takes the transcript and `rec` the record, and both
-/// are flushed before each read of the script and at the end. The status tells how it ended, and but for Done
-/// and WriteFault a last line of `out` says so too.
+/// Runs a command: its words, those behind the program's name, must be `run`, or `big` and a seed, with options
+/// that ask for sizes. On `run` the script is read and run line by line; on `big` the generated script of the seed
+/// is run, and the script is not read. `out` takes the transcript and `rec` the record, and both are flushed before
+/// each read of the script and at the end; on `big` a line of counts stands behind the transcript. The status tells
+/// how it ended, and but for Done and WriteFault a last line of `out` says so too.
 ///
 /// Usage comes where the words are others, or the drum has fewer pages than they ask for; Memory, where
 /// there is none for the words or the machine; Script, where a line of the script is bad; LongScript, where
@@ -38,21 +40,23 @@ pub fn tenex<S: Source, T: Sink, R: Sink, D: Drum>(
     rec: &mut R,
     drum: &mut D,
 ) -> Status
-    // The transcript is that of the plain machine over the entries that the record has.
+    // The transcript is that of the plain machine over the entries that the record has, and the events are those
+    // that are asked for.
     ensures headline { result ≡ Status.Done → HasHeadline words.now (seen S.left T.taken R.taken D.read_count D.write_count script.old script.new out.old out.new rec.old rec.new drum.old drum.new) }
 
     // On each status: what was read of the script, and what both sinks took.
     ensures tells { Tells words.now (D.size drum.old) (seen S.left T.taken R.taken D.read_count D.write_count script.old script.new out.old out.new rec.old rec.new drum.old drum.new) result }
 
-    // A status that judges the script is true of it, and a bad or too long script is never passed over.
-    ensures judged { (bytes : List ℕ) → S.left script.old ≡ Some bytes → Judges result bytes }
-    ensures script { (bytes : List ℕ) (n : ℕ) (es : List AnEvent) → S.left script.old ≡ Some bytes → StopsAt n bytes es → (result ≡ Status.Done → ⊥) × (result ≡ Status.LongScript → ⊥) }
-    ensures long { (bytes : List ℕ) (es : List AnEvent) → S.left script.old ≡ Some bytes → IsTooLong bytes es → (result ≡ Status.Done → ⊥) × (result ≡ Status.Script → ⊥) }
+    // Where the script is run, a status that judges it is true of it, and a bad or too long one is never passed over.
+    ensures judged { (bytes : List ℕ) → ReadsScript words.now → S.left script.old ≡ Some bytes → Judges result bytes }
+    ensures script { (bytes : List ℕ) (n : ℕ) (es : List AnEvent) → ReadsScript words.now → S.left script.old ≡ Some bytes → StopsAt n bytes es → (result ≡ Status.Done → ⊥) × (result ≡ Status.LongScript → ⊥) }
+    ensures long { (bytes : List ℕ) (es : List AnEvent) → ReadsScript words.now → S.left script.old ≡ Some bytes → IsTooLong bytes es → (result ≡ Status.Done → ⊥) × (result ≡ Status.Script → ⊥) }
 
-    // Usage comes exactly where the words or the drum are wrong; and without a run the script is not touched.
+    // Usage comes exactly where the words or the drum are wrong; and without a run of it the script is not touched.
     ensures usage { result ≡ Status.Usage → IsUsage words.now (D.size drum.old) }
     ensures always_usage { IsUsage words.now (D.size drum.old) → IsUsageOrBefore result }
     ensures unread { IsEarly result → script.new ≡ script.old }
+    ensures not_asked { (seed : ℕ) → Generates words.now seed → script.new ≡ script.old }
 
     // A fault comes only where a count rose.
     ensures read_cause { result ≡ Status.ReadFault → Rose (S.fault_count script.old) (S.fault_count script.new) }
@@ -66,8 +70,9 @@ pub fn tenex<S: Source, T: Sink, R: Sink, D: Drum>(
     ensures complete { AreSteady (faults S.fault_count T.fault_count R.fault_count D.fault_count script.old script.new out.old out.new rec.old rec.new drum.old drum.new) → IsFaultless result }
     ensures later { NoneFell (faults S.fault_count T.fault_count R.fault_count D.fault_count script.old script.new out.old out.new rec.old rec.new drum.old drum.new) }
 
-    // And with right words, a drum that is large enough and a script that is one, it is Done, or there was no memory.
-    ensures complete_run { (bytes : List ℕ) → S.left script.old ≡ Some bytes → IsRight words.now (D.size drum.old) bytes → IsFaultless result → (result ≡ Status.Done) ⊎ (result ≡ Status.Memory) }
+    // And with right words, a drum that is large enough and, where it is run, a script that is one, it is Done, or
+    // there was no memory.
+    ensures complete_run { IsRight words.now (D.size drum.old) (S.left script.old) → IsFaultless result → (result ≡ Status.Done) ⊎ (result ≡ Status.Memory) }
 
     // The drum's size stays, and no count of it falls; all pages are in memory, and it is not asked.
     ensures drum { DrumStays D.fault_count D.read_count D.write_count D.size drum.old drum.new }
@@ -77,7 +82,7 @@ pub fn tenex<S: Source, T: Sink, R: Sink, D: Drum>(
     ensures handed { HandedOn T.handed_on R.handed_on T.fault_count R.fault_count out.old out.new rec.old rec.new result }
 {
     match asked_machine(alloc, words, drum.pages()) {
-        Ok(mut machine) => run(&mut machine, script, out, rec, drum),
+        Ok((events, mut machine)) => run(&mut machine, events, script, out, rec, drum),
         Err(why) => stop(why, out, rec),
     }
 }
@@ -97,9 +102,10 @@ fn stop<T: Sink, R: Sink>(why: Unbegun, out: &mut T, rec: &mut R) -> Status
     }
 }
 
-// Runs the script on a new machine.
+// Runs the events on a new machine.
 fn run<S: Source, T: Sink, R: Sink, D: Drum>(
     machine: &mut Machine<FlatSlots<FlatStore>>,
+    events: EventSource,
     script: &mut S,
     out: &mut T,
     rec: &mut R,
@@ -107,8 +113,9 @@ fn run<S: Source, T: Sink, R: Sink, D: Drum>(
 ) -> Status
     requires booted { IsBooted (limit machine.old) machine.old }
     requires size { limit machine.old ≤ D.size drum.old }
-    ensures ran { RanWith (limit machine.old) (seen S.left T.taken R.taken D.read_count D.write_count script.old script.new out.old out.new rec.old rec.new drum.old drum.new) result }
-    ensures judged { (bytes : List ℕ) → S.left script.old ≡ Some bytes → Judges result bytes }
+    ensures ran { RanWith events (limit machine.old) (seen S.left T.taken R.taken D.read_count D.write_count script.old script.new out.old out.new rec.old rec.new drum.old drum.new) result }
+    ensures judged { (bytes : List ℕ) → events ≡ EventSource.Script → S.left script.old ≡ Some bytes → Judges result bytes }
+    ensures unread { (seed : ℕ) → events ≡ EventSource.Generated seed → script.new ≡ script.old }
     ensures caused { IsCaused result (faults S.fault_count T.fault_count R.fault_count D.fault_count script.old script.new out.old out.new rec.old rec.new drum.old drum.new) }
     ensures drum { DrumStays D.fault_count D.read_count D.write_count D.size drum.old drum.new }
     ensures untouched { drum.new ≡ drum.old }
@@ -117,8 +124,8 @@ fn run<S: Source, T: Sink, R: Sink, D: Drum>(
     let reads = drum.reads();
     let writes = drum.writes();
     let mut writer = Writer::new(out, rec);
-    let driven = drive(machine, script, drum, &mut writer);
-    let Some(last) = driven.last(drum.reads() - reads, drum.writes() - writes) else {
+    let driven = drive(machine, events, script, drum, &mut writer);
+    let Some(last) = driven.last(events, drum.reads() - reads, drum.writes() - writes) else {
         writer.give_up();
         return Status::WriteFault;
     };

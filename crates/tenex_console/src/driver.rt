@@ -1,25 +1,27 @@
-// A script, driven through a machine.
-ghost use Rattle.std.specs.Prelude.{◌≡◌, ◌≢◌, ◌≤◌, true, OnOk, OnErr, []};
+// The events that are asked for, driven through a machine.
+ghost use Rattle.std.specs.Prelude.{◌≡◌, ◌≢◌, ◌≤◌, ℕ, true};
 ghost use Rattle.outside.specs.Faults.{Rose};
-ghost use Rattle.script_texts.specs.Taker.{GoesOn, IsCut, StaysOnward};
-ghost use Rattle.script_lang.specs.Lines.{Skips, NeedsRead};
+ghost use Rattle.script_texts.specs.Taker.{StaysOnward};
 ghost use Rattle.monitor_core.specs.Machines.{limit};
 ghost use Rattle.monitor_core.specs.Outcome.{DrumStays};
 ghost use Rattle.tenex_console.specs.Driving.{Drove, IsNew};
-ghost use Rattle.tenex_console.specs.Headline.{last_after};
+ghost use Rattle.tenex_console.specs.Headline.{last_after, last_done};
 ghost use Rattle.tenex_console.specs.Statuses.{status_after};
+ghost use Rattle.tenex_console.specs.Verdicts.{AreRun};
 
-use monitor_core::{Ended, Machine};
-use outside::{Drum, Failed, Source};
+use crate::generated::drive_generated;
+use crate::lines::drive_lines;
+use command_words::EventSource;
+use monitor_core::Machine;
+use outside::{Drum, Source};
 use page_contracts::Pages;
-use script_lang::{Lines, Next};
-use script_texts::{Event, Taker};
+use script_texts::Taker;
 use texts::{Last, Status};
 
-/// How the driving of a script ended.
+/// How the driving of events ended.
 #[derive(Clone, Copy, PartialEq, Eq)]
 pub enum Driven {
-    /// The whole script was run.
+    /// All events were run.
     Done,
     /// The line of this number, counted from 1, is bad.
     Bad(u64),
@@ -34,13 +36,13 @@ pub enum Driven {
 }
 
 impl Driven {
-    /// The last lines of the texts, after so many reads and writes of the drum. None, where a text
-    /// couldn't be written.
-    pub fn last(self, reads: u64, writes: u64) -> Option<Last>
-        ensures { result ≡ last_after self reads writes }
+    /// The last lines of the texts, after so many reads and writes of the drum: a generated script has a line of
+    /// counts besides. None, where a text couldn't be written.
+    pub fn last(self, events: EventSource, reads: u64, writes: u64) -> Option<Last>
+        ensures { result ≡ last_after self events reads writes }
     {
         match self {
-            Driven::Done => Some(Last::Done { reads, writes }),
+            Driven::Done => Some(last_done(events, reads, writes)),
             Driven::Bad(number) => Some(Last::Stopped(Status::Script, number)),
             Driven::Long => Some(Last::Stopped(Status::LongScript, 0)),
             Driven::ReadFault => Some(Last::Stopped(Status::ReadFault, 0)),
@@ -64,14 +66,21 @@ impl Driven {
     }
 }
 
-/// After more turns than these the taker hands on what it keeps before the next line, so that a run that is stopped leaves
-/// what was done before that line.
-const MOST_KEPT: u64 = 100_000;
+// The last lines of a run that is done.
+fn last_done(events: EventSource, reads: u64, writes: u64) -> Last
+    ensures { result ≡ last_done events reads writes }
+{
+    match events {
+        EventSource::Script => Last::Done { reads, writes },
+        EventSource::Generated(_) => Last::Summary { reads, writes },
+    }
+}
 
-/// Runs each line's event as it is read, from a new machine on, and gives its steps to a taker, which hands
-/// on what it keeps before each read of the source, and behind each 100,000 turns before the next line.
+/// Runs the events that are asked for, from a new machine on, and gives their steps to a taker: the lines of
+/// the script as they are read, or those of a generated script, and then the source stays as it is.
 pub fn drive<P: Pages, S: Source, D: Drum, K: Taker>(
     machine: &mut Machine<P>,
+    events: EventSource,
     script: &mut S,
     drum: &mut D,
     taker: &mut K,
@@ -81,6 +90,7 @@ pub fn drive<P: Pages, S: Source, D: Drum, K: Taker>(
     ensures read_later { S.fault_count script.old ≤ S.fault_count script.new }
     ensures read_cause { result ≡ Driven.ReadFault → Rose (S.fault_count script.old) (S.fault_count script.new) }
     ensures unfaulted { result ≢ Driven.ReadFault → S.fault_count script.new ≡ S.fault_count script.old }
+    ensures unread { (seed : ℕ) → events ≡ EventSource.Generated seed → script.new ≡ script.old }
     ensures later { K.fault_count taker.old ≤ K.fault_count taker.new }
     ensures cause { result ≡ Driven.TakerFault → Rose (K.fault_count taker.old) (K.fault_count taker.new) }
     ensures onward { StaysOnward K.onward taker.old taker.new }
@@ -93,55 +103,11 @@ pub fn drive<P: Pages, S: Source, D: Drum, K: Taker>(
     // Before a read of the source that failed the taker had handed on all that it was given.
     ensures handed { result ≡ Driven.ReadFault → K.handed_on taker.new }
 
-    // What the taker was given, and what the script is found to be.
-    ensures drove { Drove D.held S.left K.stands K.cut machine.old drum.old script.old script.new taker.old taker.new result }
+    // What the taker was given, and which events they were.
+    ensures drove { Drove D.held K.stands K.cut machine.old drum.old (AreRun events (S.left script.old) (S.left script.new) result) taker.old taker.new result }
 {
-    let mut lines = Lines::new();
-    let mut kept = 0;
-    loop {
-        let Ok(()) = hand_on(&mut lines, &mut kept, taker) else {
-            return Driven::TakerFault;
-        };
-        match lines.next(script) {
-            Next::One(event) => {
-                kept = kept.saturating_add(turns_of(&event));
-                match machine.event(event, drum, taker) {
-                    Ended::Went => {}
-                    Ended::DrumFault => return Driven::DrumFault,
-                    Ended::TakerFault => return Driven::TakerFault,
-                }
-            }
-            Next::End => return Driven::Done,
-            Next::Bad(number) => return Driven::Bad(number),
-            Next::ReadFault => return Driven::ReadFault,
-            Next::Long => return Driven::Long,
-        }
-    }
-}
-
-// How many turns an event has.
-fn turns_of(event: &Event) -> u64 {
-    match event {
-        Event::Run(turns) => u64::from(*turns),
-        _ => 0,
-    }
-}
-
-// Has the taker hand on what it keeps where the next line has to be read, so that who types the script sees
-// what the lines before did; and where it keeps what many turns did.
-fn hand_on<K: Taker>(lines: &mut Lines, kept: &mut u64, taker: &mut K) -> Result<(), Failed>
-    ensures skips { Skips lines.old lines.new }
-    ensures later { K.fault_count taker.old ≤ K.fault_count taker.new }
-    ensures cause { OnErr result (Rose (K.fault_count taker.old) (K.fault_count taker.new)) }
-    ensures onward { StaysOnward K.onward taker.old taker.new }
-    ensures handed { NeedsRead lines.new → OnOk result (K.handed_on taker.new) }
-    ensures ok { OnOk result (GoesOn K.stands taker.old taker.new [] []) }
-    ensures err { OnErr result (IsCut K.stands K.cut taker.old taker.new [] []) }
-{
-    if lines.needs_read() || *kept > MOST_KEPT {
-        *kept = 0;
-        taker.flush()
-    } else {
-        Ok(())
+    match events {
+        EventSource::Script => drive_lines(machine, script, drum, taker),
+        EventSource::Generated(seed) => drive_generated(machine, seed, drum, taker),
     }
 }

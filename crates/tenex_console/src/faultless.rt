@@ -1,6 +1,6 @@
 // A run where nothing fails.
-ghost use Rattle.std.specs.Prelude.{◌≡◌, ◌⊎◌};
-ghost use Rattle.tenex_console.specs.Command.{IsRight, IsUsage};
+ghost use Rattle.std.specs.Prelude.{◌≡◌, ◌⊎◌, Some};
+ghost use Rattle.tenex_console.specs.Command.{IsRight, IsUsage, ReadsScript};
 ghost use Rattle.tenex_console.specs.Statuses.{IsFaultless, Judges};
 
 use crate::tenex;
@@ -18,10 +18,10 @@ pub fn run_faultless(
     drum: &mut SureDrum,
 ) -> Status
     ensures faultless { IsFaultless result }
-    ensures judged { Judges result script.items }
+    ensures judged { ReadsScript words.now → Judges result script.items }
     ensures usage { result ≡ Status.Usage → IsUsage words.now (⟦<SureDrum as Drum>⟧.size drum.old) }
     ensures always_usage { IsUsage words.now (⟦<SureDrum as Drum>⟧.size drum.old) → (result ≡ Status.Usage) ⊎ (result ≡ Status.Memory) }
-    ensures complete { IsRight words.now (⟦<SureDrum as Drum>⟧.size drum.old) script.items → (result ≡ Status.Done) ⊎ (result ≡ Status.Memory) }
+    ensures complete { IsRight words.now (⟦<SureDrum as Drum>⟧.size drum.old) (Some script.items) → (result ≡ Status.Done) ⊎ (result ≡ Status.Memory) }
     ensures untouched { drum.new ≡ drum.old }
 {
     let mut script = SureSource::new(script);

@@ -1,7 +1,7 @@
 // A run in memory, where all is told.
-ghost use Rattle.std.specs.Prelude.{◌≡◌, ◌⊎◌};
+ghost use Rattle.std.specs.Prelude.{◌≡◌, ◌⊎◌, Some};
 ghost use Rattle.outside.specs.Faults.{Rose};
-ghost use Rattle.tenex_console.specs.Command.{IsRight, IsUsage};
+ghost use Rattle.tenex_console.specs.Command.{IsRight, IsUsage, ReadsScript};
 ghost use Rattle.tenex_console.specs.Memory.{HeadlineInBytes};
 ghost use Rattle.tenex_console.specs.Statuses.{IsFaultless, IsUsageOrBefore, Judges};
 
@@ -23,12 +23,12 @@ pub fn run_in_memory(
     drum: &mut SureDrum,
 ) -> Status
     ensures headline { result ≡ Status.Done → HeadlineInBytes words.now script.items out.old out.new rec.old rec.new drum.old drum.new }
-    ensures judged { Judges result script.items }
+    ensures judged { ReadsScript words.now → Judges result script.items }
     ensures usage { result ≡ Status.Usage → IsUsage words.now (⟦<SureDrum as Drum>⟧.size drum.old) }
     ensures always_usage { IsUsage words.now (⟦<SureDrum as Drum>⟧.size drum.old) → IsUsageOrBefore result }
     ensures faultless { IsFaultless result ⊎ (result ≡ Status.WriteFault) }
     ensures write_cause { result ≡ Status.WriteFault → Rose (⟦<MemSink as Sink>⟧.fault_count out.old) (⟦<MemSink as Sink>⟧.fault_count out.new) ⊎ Rose (⟦<MemSink as Sink>⟧.fault_count rec.old) (⟦<MemSink as Sink>⟧.fault_count rec.new) }
-    ensures complete { IsRight words.now (⟦<SureDrum as Drum>⟧.size drum.old) script.items → IsFaultless result → (result ≡ Status.Done) ⊎ (result ≡ Status.Memory) }
+    ensures complete { IsRight words.now (⟦<SureDrum as Drum>⟧.size drum.old) (Some script.items) → IsFaultless result → (result ≡ Status.Done) ⊎ (result ≡ Status.Memory) }
     ensures untouched { drum.new ≡ drum.old }
 {
     let mut script = SureSource::new(script);

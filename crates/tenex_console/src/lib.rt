@@ -1,4 +1,4 @@
-//! The emulator: a console script is run, and its transcript and its record are written.
+//! The emulator: a console script is run, or a generated one, and its transcript and its record are written.
 //! To the layers above both texts are those of the plain machine, and each status has its cause.
 //! Stands on `monitor_core` for the machine, on `flat_pages` for its pages, on `script_lang` for the script
 //! and on `texts` for both texts.
@@ -8,7 +8,9 @@ mod asked;
 mod call;
 mod driver;
 mod faultless;
+mod generated;
 mod in_memory;
+mod lines;
 
 pub use call::tenex;
 pub use faultless::run_faultless;

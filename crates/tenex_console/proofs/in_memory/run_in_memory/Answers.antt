@@ -1,4 +1,6 @@
+use Rattle.std.proofs.Common.{subst, sym}
+use Rattle.tenex_console.specs.Command.{IsRight}
 use Rattle.tenex_console.proofs.in_memory.run_in_memory.Goals as goal
 
 pub returns-clause-complete : goal.returns-clause-complete
-returns-clause-complete c right = c.tenex.ensures.complete_run c.args.script.items c.new-script.ensures.left right
+returns-clause-complete c right = c.tenex.ensures.complete_run (subst (IsRight _ _) (sym c.new-script.ensures.left) right)

@@ -3,9 +3,10 @@ use Rattle.script_lang.specs.Lines.{given, pending}
 use Rattle.script_lang.proofs.Undecided.{undecided_earlier}
 use Rattle.tenex_console.specs.declared.driver.Driven.TheVariants.{Done, Bad, Long, ReadFault}
 use Rattle.tenex_console.proofs.Drums.{drum_on, drum_still}
-use Rattle.tenex_console.proofs.Found.{found_done, found_bad, found_long, found_unread}
-use Rattle.tenex_console.proofs.Running.{few_in, ran, ran_cut, ran_stopped, ran_unshown, so_far_more, so_far_none, so_far_shown}
-use Rattle.tenex_console.proofs.driver.drive.Goals as goal
+use Rattle.tenex_console.proofs.Found.{found_begun, found_done, found_bad, found_long, found_unread}
+use Rattle.tenex_console.proofs.Lined.{few_in, lined_few, lined_more, lined_none, lined_skipped, more_most, next_few, skipped_most}
+use Rattle.tenex_console.proofs.Running.{ran, ran_cut, ran_stopped, ran_unshown, so_far_more, so_far_none, so_far_shown}
+use Rattle.tenex_console.proofs.lines.drive_lines.Goals as goal
 
 pub loop-lines-init : goal.loop-lines-init
 loop-lines-init g c = record {
@@ -21,14 +22,14 @@ loop-lines-init g c = record {
   none = c.new-lines.ensures.pending;
   start = c.new-lines.ensures.given;
   no_lines = c.new-lines.ensures.lines;
-  so_far = so_far_none c.new-lines.ensures.turns c.new-lines.ensures.given c.requires.new.auto_on c.requires.new.none;
+  so_far = so_far_none (lined_none c.new-lines.ensures.turns c.new-lines.ensures.given) c.requires.new.auto_on c.requires.new.none;
 }
 
 pub loop-lines-preserved : goal.loop-lines-preserved
 loop-lines-preserved g c =
     let i = c.loop-lines.invariant in
     let e = c.in-One.event in
-    let shown = so_far_shown i.so_far c.hand_on.ensures.skips c.in-Ok.ensures.ok in
+    let shown = so_far_shown i.so_far (λ es f. lined_skipped es c.hand_on.ensures.skips f) (skipped_most c.hand_on.ensures.skips) c.in-Ok.ensures.ok in
     record {
       read_later = omega (arith, i.read_later, c.next.ensures.later);
       unfaulted = c.in-One.ensures.unfaulted (λ is. absurd cc) ∙ i.unfaulted;
@@ -42,52 +43,54 @@ loop-lines-preserved g c =
       none = i.none;
       start = i.start;
       no_lines = i.no_lines;
-      so_far = so_far_more shown (c.in-One.ensures.takes e refl) (c.in-One.ensures.advances e refl) (c.in-One.ensures.fits e refl).0 c.event.ensures.auto (c.in-Went.ensures.went refl);
+      so_far = so_far_more shown e (c.in-One.ensures.fits e refl) (lined_more shown.are (c.in-One.ensures.takes e refl) (c.in-One.ensures.advances e refl)) (more_most shown.are (c.in-One.ensures.takes e refl) (c.in-One.ensures.advances e refl)) c.event.ensures.auto (c.in-Went.ensures.went refl);
     }
 
 pub returns-in_default-clause-drove : goal.returns-in_default-clause-drove
 returns-in_default-clause-drove g c =
     let i = c.loop-lines.invariant in
-    ran_unshown i.so_far i.none i.start c.in_default.ensures.err
+    ran_unshown i.so_far (lined_few i.so_far.are) (found_begun i.none i.start i.so_far.are.takes (few_in i.so_far.are)) c.in_default.ensures.err
 
 pub returns-in-DrumFault-clause-drove : goal.returns-in-DrumFault-clause-drove
 returns-in-DrumFault-clause-drove g c =
     let i = c.loop-lines.invariant in
     let e = c.in-One.event in
-    let shown = so_far_shown i.so_far c.hand_on.ensures.skips c.in-Ok.ensures.ok in
-    ran_stopped shown (c.in-One.ensures.takes e refl) (c.in-One.ensures.advances e refl) (c.in-One.ensures.fits e refl).0 i.none i.start (c.in-DrumFault.ensures.stopped refl)
+    let shown = so_far_shown i.so_far (λ es f. lined_skipped es c.hand_on.ensures.skips f) (skipped_most c.hand_on.ensures.skips) c.in-Ok.ensures.ok in
+    let more = lined_more shown.are (c.in-One.ensures.takes e refl) (c.in-One.ensures.advances e refl) in
+    ran_stopped shown e (c.in-One.ensures.fits e refl) (found_begun i.none i.start more.takes (few_in more)) (next_few shown.are (c.in-One.ensures.takes e refl) (c.in-One.ensures.advances e refl)) (c.in-DrumFault.ensures.stopped refl)
 
 pub returns-in-TakerFault-clause-drove : goal.returns-in-TakerFault-clause-drove
 returns-in-TakerFault-clause-drove g c =
     let i = c.loop-lines.invariant in
     let e = c.in-One.event in
-    let shown = so_far_shown i.so_far c.hand_on.ensures.skips c.in-Ok.ensures.ok in
-    ran_cut shown (c.in-One.ensures.takes e refl) (c.in-One.ensures.advances e refl) (c.in-One.ensures.fits e refl).0 i.none i.start (c.in-TakerFault.ensures.cut refl)
+    let shown = so_far_shown i.so_far (λ es f. lined_skipped es c.hand_on.ensures.skips f) (skipped_most c.hand_on.ensures.skips) c.in-Ok.ensures.ok in
+    let more = lined_more shown.are (c.in-One.ensures.takes e refl) (c.in-One.ensures.advances e refl) in
+    ran_cut shown e (c.in-One.ensures.fits e refl) (found_begun i.none i.start more.takes (few_in more)) (next_few shown.are (c.in-One.ensures.takes e refl) (c.in-One.ensures.advances e refl)) (c.in-TakerFault.ensures.cut refl)
 
 pub returns-in-End-clause-drove : goal.returns-in-End-clause-drove
 returns-in-End-clause-drove g c =
     let i = c.loop-lines.invariant in
-    let shown = so_far_shown i.so_far c.hand_on.ensures.skips c.in-Ok.ensures.ok in
-    ran shown Done (λ es ss x. x) (λ is x. x) (λ is x. x) (found_done i.none i.start shown.takes (few_in shown) (c.in-End.ensures.end refl) (c.in-End.ensures.spends refl))
+    let shown = so_far_shown i.so_far (λ es f. lined_skipped es c.hand_on.ensures.skips f) (skipped_most c.hand_on.ensures.skips) c.in-Ok.ensures.ok in
+    ran shown (lined_few shown.are) Done (λ es ss x. x) (λ is x. x) (λ is x. x) (found_done i.none i.start shown.are.takes (few_in shown.are) (c.in-End.ensures.end refl) (c.in-End.ensures.spends refl))
 
 pub returns-in-Bad-clause-drove : goal.returns-in-Bad-clause-drove
 returns-in-Bad-clause-drove g c =
     let i = c.loop-lines.invariant in
     let n = c.in-Bad.number in
-    let shown = so_far_shown i.so_far c.hand_on.ensures.skips c.in-Ok.ensures.ok in
-    ran shown (Bad n) (λ es ss x. x) (λ is x. x) (λ is x. x) (found_bad i.none i.start shown.takes (few_in shown) c.next.ensures.reads i.no_lines shown.turns (c.in-Bad.ensures.bad n refl))
+    let shown = so_far_shown i.so_far (λ es f. lined_skipped es c.hand_on.ensures.skips f) (skipped_most c.hand_on.ensures.skips) c.in-Ok.ensures.ok in
+    ran shown (lined_few shown.are) (Bad n) (λ es ss x. x) (λ is x. x) (λ is x. x) (found_bad i.none i.start shown.are.takes (few_in shown.are) c.next.ensures.reads i.no_lines shown.are.turns (c.in-Bad.ensures.bad n refl))
 
 pub returns-in-ReadFault-clause-drove : goal.returns-in-ReadFault-clause-drove
 returns-in-ReadFault-clause-drove g c =
     let i = c.loop-lines.invariant in
-    let shown = so_far_shown i.so_far c.hand_on.ensures.skips c.in-Ok.ensures.ok in
-    ran shown ReadFault (λ es ss x. x) (λ is x. x) (λ is x. x) (found_unread i.none i.start shown.takes (few_in shown) c.in-ReadFault.ensures.reads)
+    let shown = so_far_shown i.so_far (λ es f. lined_skipped es c.hand_on.ensures.skips f) (skipped_most c.hand_on.ensures.skips) c.in-Ok.ensures.ok in
+    ran shown (lined_few shown.are) ReadFault (λ es ss x. x) (λ is x. x) (λ is x. x) (found_unread i.none i.start shown.are.takes (few_in shown.are) c.in-ReadFault.ensures.reads)
 
 pub returns-in-Long-clause-drove : goal.returns-in-Long-clause-drove
 returns-in-Long-clause-drove g c =
     let i = c.loop-lines.invariant in
-    let shown = so_far_shown i.so_far c.hand_on.ensures.skips c.in-Ok.ensures.ok in
-    ran shown Long (λ es ss x. x) (λ is x. x) (λ is x. x) (found_long i.none i.start shown.takes (few_in shown) c.next.ensures.reads (c.in-Long.ensures.long refl))
+    let shown = so_far_shown i.so_far (λ es f. lined_skipped es c.hand_on.ensures.skips f) (skipped_most c.hand_on.ensures.skips) c.in-Ok.ensures.ok in
+    ran shown (lined_few shown.are) Long (λ es ss x. x) (λ is x. x) (λ is x. x) (found_long i.none i.start shown.are.takes (few_in shown.are) c.next.ensures.reads (c.in-Long.ensures.long refl))
 
 pub returns-in-ReadFault-clause-handed : goal.returns-in-ReadFault-clause-handed
 returns-in-ReadFault-clause-handed g c is =

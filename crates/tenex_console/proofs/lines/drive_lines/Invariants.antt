@@ -4,8 +4,9 @@ use Rattle.script_texts.specs.Taker.{StaysOnward}
 use Rattle.script_lang.specs.Lines.{IsOpen, given, lines_given, pending}
 use Rattle.monitor_core.specs.Machines.{Fits, auto, done, is_live, limit, plain}
 use Rattle.monitor_core.specs.Outcome.{DrumStays}
+use Rattle.tenex_console.proofs.Lined.{Lined, most_entries}
 use Rattle.tenex_console.proofs.Running.{SoFar}
-use Rattle.tenex_console.proofs.driver.drive.Given as goal
+use Rattle.tenex_console.proofs.lines.drive_lines.Given as goal
 
 abbrev pub invariant-loop-lines : goal.invariant-loop-lines
 invariant-loop-lines g l = record {
@@ -21,7 +22,7 @@ invariant-loop-lines g l = record {
   none : pending l.initial.lines ≡ [];
   start : given l.initial.lines ≡ 0;
   no_lines : lines_given l.initial.lines ≡ 0;
-  so_far : SoFar g.P.Pages.means.flat Fits plain g.D.Drum.held g.S.Source.left g.K.Taker.stands (limit l.fn.machine) l.fn.machine l.fn.drum l.initial.lines l.lines l.fn.script l.script l.fn.taker l.taker l.machine l.drum (auto l.machine) (done l.machine);
+  so_far : SoFar g.P.Pages.means.flat Fits plain g.D.Drum.held g.K.Taker.stands (limit l.fn.machine) l.fn.machine l.fn.drum (Lined g.S.Source.left l.initial.lines l.lines l.fn.script l.script) (most_entries l.lines) l.fn.taker l.taker l.machine l.drum (auto l.machine) (done l.machine);
 }
 
 abbrev pub decreases-loop-lines : goal.decreases-loop-lines

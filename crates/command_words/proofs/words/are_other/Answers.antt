@@ -1,0 +1,11 @@
+use Rattle.std.proofs.Common.{rules, tests, ◌∙◌, sym, string_bytes}
+use Rattle.std.proofs.lemmas.Iterator.{YieldsList-from_slice}
+use Rattle.std.proofs.lemmas.Iterator.Search.{all_from_yields_List}
+use Rattle.std.proofs.lemmas.List.Folds.{list_all-map}
+use Rattle.command_words.specs.Parser.{is_other}
+use Rattle.command_words.proofs.words.are_other.Goals as goal
+
+pub returns : goal.returns
+returns c =
+    all_from_yields_List (λ w. is_other (string_bytes w)) _ _ c.all.result c.all.ensures.ran (YieldsList-from_slice c.args.words.now cc) (λ x b q k. search (rules, tests))
+    ∙ sym (list_all-map is_other string_bytes c.args.words.now)
