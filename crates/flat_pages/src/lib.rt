@@ -17,3 +17,4 @@ mod stored_page;
 
 pub use flat_slots::FlatSlots;
 pub use flat_store::FlatStore;
+pub use page_serials::PageSerials;

@@ -10,3 +10,4 @@ pub mod Followed
 pub mod Ended
 pub mod WalkLaws
 pub mod NamedPages
+pub mod Listing

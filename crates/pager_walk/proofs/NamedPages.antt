@@ -85,7 +85,7 @@ module _ (t : Tables) (places : List HomePlace) (rooted : AreRooted t (map is_ta
                 ∙ sym (ap (λ b. option_map_or (plain_entry t.names) (cond b (Some (Page h a)) None) entry.Empty) is),
           )
 
-  same_word : (w : ℕ) → IsSome (entry_in t w) → Same (entry_in named w) (entry_in t w)
+  pub same_word : (w : ℕ) → IsSome (entry_in t w) → Same (entry_in named w) (entry_in t w)
   same_word w some = by (pointer_in w) some
     where
       of : (p : Pointer) → IsSome (entry_for t p) → Same (entry_for named p) (entry_for t p)

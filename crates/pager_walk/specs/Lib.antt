@@ -3,3 +3,4 @@ pub mod MapPages
 pub mod PagedMaps
 pub mod Walks
 pub mod NewPages
+pub mod MapNumbers

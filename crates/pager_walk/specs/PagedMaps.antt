@@ -36,7 +36,7 @@ pub record Tables : Type 0 where
 
 -- the tables in memory
 abbrev pub tables_of : MapTables → Tables
-tables_of m = record { maps = m.maps.items; names = m.names.items; shares = m.shares }
+tables_of m = record { maps = m.maps.pages.items; names = m.names.items; shares = m.shares }
 
 -- the name of the page of a home
 abbrev pub name_at : List (Option PageName) → ℕ → Option PageName

@@ -9,8 +9,8 @@ mod map_changes;
 mod map_pages;
 mod paged_entry;
 
-pub use chain_walk::{CHAIN, Walked, Way, walk};
+pub use chain_walk::{CHAIN, FULL_ACCESS, Walked, Way, walk};
 pub use laws::{refused_words_lead_nowhere, transfers_change_no_map, walks_go_by_the_chain};
 pub use map_changes::{begin, begin_following, end, make_page, set};
-pub use map_pages::{MOST_MAPS, MapPage, free_number, map_of, root};
+pub use map_pages::{KeptMaps, MOST_MAPS, MapPage};
 pub use paged_entry::{Looked, MapTables, PagedEntry, entry, seen};

@@ -13,7 +13,7 @@ ghost use Rattle.pager_walk.specs.NewPages.{following_words};
 ghost use Rattle.pager_walk.specs.PagedMaps.{AreRooted, FitsMaps, entry_for, is_near, look_at, maps_over, plain_entry, tables_of, with_name, with_root, without_root};
 
 use crate::chain_walk::FULL_ACCESS;
-use crate::map_pages::{MOST_MAPS, MapPage, map_of, root};
+use crate::map_pages::MOST_MAPS;
 use crate::paged_entry::MapTables;
 use machine_names::{ForkName, LAST_SERIAL, MOST_FORKS, PageName, SPACE_PAGES, Slot};
 use page_contracts::{Room, Store};
@@ -28,18 +28,18 @@ pub fn set<S: Store>(store: &mut S, tables: &MapTables, at: Slot, pointer: Point
     requires near { is_near (look_at (tables_of tables.now) (S.means.homes store.old) at) ≡ true }
     requires pointer { IsPointer pointer }
     requires entry { IsSome (entry_for (tables_of tables.now) pointer) }
-    ensures homes { (k : ℕ) → index_of tables.now.maps.items at.fork ≡ Some k
-        → S.means.homes store.new ≡ slice_set (S.means.homes store.old) (root_at tables.now.maps.items k).0 (with_word_in (place (S.means.homes store.old) (root_at tables.now.maps.items k).0) at.page (pointer_word pointer)) }
-    ensures used { (k : ℕ) → index_of tables.now.maps.items at.fork ≡ Some k → IsUsed S.means (root_at tables.now.maps.items k).0 store.old store.new }
+    ensures homes { (k : ℕ) → index_of tables.now.maps.pages.items at.fork ≡ Some k
+        → S.means.homes store.new ≡ slice_set (S.means.homes store.old) (root_at tables.now.maps.pages.items k).0 (with_word_in (place (S.means.homes store.old) (root_at tables.now.maps.pages.items k).0) at.page (pointer_word pointer)) }
+    ensures used { (k : ℕ) → index_of tables.now.maps.pages.items at.fork ≡ Some k → IsUsed S.means (root_at tables.now.maps.pages.items k).0 store.old store.new }
     ensures rooted { AreRooted (tables_of tables.now) (map is_taken (S.means.homes store.new)) }
     ensures fits { (d : DrumWords) → FitsMaps (tables_of tables.now) (S.means.homes store.old) d → FitsMaps (tables_of tables.now) (S.means.homes store.new) d }
     ensures told { (d : DrumWords) (e : APagedEntry) → FitsMaps (tables_of tables.now) (S.means.homes store.old) d → entry_for (tables_of tables.now) pointer ≡ Some e
         → maps_over (tables_of tables.now) (S.means.homes store.new) d ≡ set_entry (maps_over (tables_of tables.now) (S.means.homes store.old) d) at (plain_entry tables.now.names.items e) }
 {
-    let Some(number) = map_of(&tables.maps, at.fork) else {
+    let Some(number) = tables.maps.map_of(at.fork) else {
         unreachable!()
     };
-    let home = root(&tables.maps, number);
+    let home = tables.maps.root(number);
     store.put(home, at.page, encode(pointer));
 }
 
@@ -63,8 +63,8 @@ pub fn make_page<S: Store>(store: &mut S, tables: &mut MapTables, name: PageName
 /// words is that of an empty entry.
 pub fn begin<S: Store>(store: &mut S, tables: &mut MapTables, number: u32, fork: ForkName) -> Home
     requires rooted { AreRooted (tables_of tables.old) (map is_taken (S.means.homes store.old)) }
-    requires absent { index_of tables.old.maps.items fork ≡ None }
-    requires number { fork_at tables.old.maps.items number ≡ None }
+    requires absent { index_of tables.old.maps.pages.items fork ≡ None }
+    requires number { fork_at tables.old.maps.pages.items number ≡ None }
     requires most { number < MOST_MAPS }
     requires from { first_map fork.tty ≤ number }
     requires below { number < first_map fork.tty + MOST_FORKS }
@@ -77,10 +77,7 @@ pub fn begin<S: Store>(store: &mut S, tables: &mut MapTables, number: u32, fork:
         → maps_over (tables_of tables.new) (S.means.homes store.new) d ≡ fin.insert (maps_over (tables_of tables.old) (S.means.homes store.old) d) fork empty_map }
 {
     let home = store.make();
-    tables.maps[number as usize] = MapPage {
-        fork: Some(fork),
-        home,
-    };
+    tables.maps.begin(number, fork, home);
     home
 }
 
@@ -110,8 +107,8 @@ pub fn begin_following<S: Store>(
     leader: ForkName,
 ) -> Home
     requires rooted { AreRooted (tables_of tables.old) (map is_taken (S.means.homes store.old)) }
-    requires absent { index_of tables.old.maps.items fork ≡ None }
-    requires number { fork_at tables.old.maps.items number ≡ None }
+    requires absent { index_of tables.old.maps.pages.items fork ≡ None }
+    requires number { fork_at tables.old.maps.pages.items number ≡ None }
     requires most { number < MOST_MAPS }
     requires from { first_map fork.tty ≤ number }
     requires below { number < first_map fork.tty + MOST_FORKS }
@@ -126,10 +123,7 @@ pub fn begin_following<S: Store>(
         → maps_over (tables_of tables.new) (S.means.homes store.new) d ≡ fin.insert (maps_over (tables_of tables.old) (S.means.homes store.old) d) fork (following_map leader) }
 {
     let home = make_following(store, leader.serial);
-    tables.maps[number as usize] = MapPage {
-        fork: Some(fork),
-        home,
-    };
+    tables.maps.begin(number, fork, home);
     home
 }
 
@@ -137,15 +131,14 @@ pub fn begin_following<S: Store>(
 /// there no more.
 pub fn end<S: Store>(store: &mut S, tables: &mut MapTables, number: u32, fork: ForkName)
     requires rooted { AreRooted (tables_of tables.old) (map is_taken (S.means.homes store.old)) }
-    requires fork { index_of tables.old.maps.items fork ≡ Some number }
-    ensures freed { IsFreed S.means (root_at tables.old.maps.items number).0 store.old store.new }
+    requires fork { index_of tables.old.maps.pages.items fork ≡ Some number }
+    ensures freed { IsFreed S.means (root_at tables.old.maps.pages.items number).0 store.old store.new }
     ensures tables { tables_of tables.new ≡ without_root (tables_of tables.old) number }
     ensures rooted { AreRooted (tables_of tables.new) (map is_taken (S.means.homes store.new)) }
     ensures fits { (d : DrumWords) → FitsMaps (tables_of tables.old) (S.means.homes store.old) d → FitsMaps (tables_of tables.new) (S.means.homes store.new) d }
     ensures told { (d : DrumWords) → FitsMaps (tables_of tables.old) (S.means.homes store.old) d
         → maps_over (tables_of tables.new) (S.means.homes store.new) d ≡ fin.remove (maps_over (tables_of tables.old) (S.means.homes store.old) d) fork }
 {
-    let home = root(&tables.maps, number);
-    store.free(home);
-    tables.maps[number as usize] = MapPage { fork: None, home };
+    store.free(tables.maps.root(number));
+    tables.maps.end(number);
 }

@@ -6,9 +6,11 @@ ghost use Rattle.page_contracts.specs.Stores.{FitsHomes, HomePlace, is_taken};
 ghost use Rattle.plain_pages.specs.PlainPages.{NumberedPages};
 ghost use Rattle.page_contracts.specs.Pages.{FollowsPage, Scene, SeenNeeds, seen_of};
 ghost use Rattle.pager_walk.specs.Decoding.{pointer_in};
+ghost use Rattle.pager_walk.specs.MapPages.{no_map};
+ghost use Rattle.pager_walk.specs.declared.map_pages.TheConstants.{MOST_MAPS};
 ghost use Rattle.pager_walk.specs.PagedMaps.{AreRooted, FitsMaps, LookStands, TellsEntry, entry_for, entry_in, look_at, map_away, maps_over, name_at, name_of, page_entry, plain_entry, seen_for, tables_of};
 
-use crate::map_pages::{MapPage, free_maps, map_of, root};
+use crate::map_pages::KeptMaps;
 use machine_names::{Access, PageName, SPACE_PAGES, Slot, Tty};
 use outside::Memory;
 use page_contracts::{Seen, Store};
@@ -43,7 +45,7 @@ pub enum Looked {
 /// the name of its page, where it has one, and the pages that are shared.
 #[derive(Drop)]
 pub struct MapTables {
-    pub maps: Vec<MapPage>,
+    pub maps: KeptMaps,
     pub names: Vec<Option<PageName>>,
     pub shares: ShareTable,
 }
@@ -73,10 +75,11 @@ impl MapTables {
         ensures rooted { IfOk result (λ m. (taken : List Bool) → length taken ≤ homes → AreRooted (tables_of m) taken) }
         ensures fits { IfOk result (λ m. (places : List HomePlace) (d : DrumWords) → FitsHomes places d → FitsMaps (tables_of m) places d) }
         ensures none { IfOk result (λ m. (places : List HomePlace) (d : DrumWords) → maps_over (tables_of m) places d ≡ fin.empty) }
+        ensures maps { IfOk result (λ m. m.maps.pages.items ≡ replicate MOST_MAPS no_map) }
         ensures names { IfOk result (λ m. m.names.items ≡ replicate homes None) }
         ensures shares { IfOk result (λ m. m.shares ≡ record { room = homes; pages = fin.empty }) }
     {
-        let maps = free_maps(alloc)?;
+        let maps = KeptMaps::boot(alloc)?;
         let names = no_names(alloc, homes)?;
         let shares = ShareTable::boot(alloc, homes)?;
         Ok(MapTables {
@@ -86,8 +89,8 @@ impl MapTables {
         })
     }
 
-    // Whether the page of a home has a name.
-    fn has_name(&self, home: Home) -> bool
+    /// Whether the page of a home has a name.
+    pub fn has_name(&self, home: Home) -> bool
         ensures { result ≡ is_some (name_at self.now.names.items home.0) }
     {
         if home.0 as usize >= self.names.len() {
@@ -107,8 +110,8 @@ impl MapTables {
         }
     }
 
-    // The name of the page of a home; that of none where it has none.
-    fn name(&self, home: Home) -> PageName
+    /// The name of the page of a home; that of none where it has none.
+    pub fn name(&self, home: Home) -> PageName
         ensures { result ≡ name_of self.now.names.items home }
     {
         let nobody = PageName {
@@ -182,10 +185,10 @@ fn found<S: Store>(store: &S, tables: &MapTables, at: Slot) -> Looked
     requires page { at.page < SPACE_PAGES }
     ensures { result ≡ look_at (tables_of tables.now) (S.means.homes store.now) at }
 {
-    let Some(number) = map_of(&tables.maps, at.fork) else {
+    let Some(number) = tables.maps.map_of(at.fork) else {
         return Looked::Missing;
     };
-    let home = root(&tables.maps, number);
+    let home = tables.maps.root(number);
     let Some(word) = store.word(home, at.page) else {
         return Looked::Absent(home);
     };

@@ -14,6 +14,8 @@ mod lists;
 #[cfg(test)]
 mod made;
 #[cfg(test)]
+mod paged_maps;
+#[cfg(test)]
 mod same;
 #[cfg(test)]
 mod steps;

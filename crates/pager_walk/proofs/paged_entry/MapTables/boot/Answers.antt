@@ -10,6 +10,7 @@ returns c =
       rooted = rooted_none t m.none m.numbered c.args.homes c.in_ok-names.ensures;
       fits = fits_none t m.none;
       none = maps_none t m.none;
+      maps = m.pages;
       names = c.in_ok-names.ensures;
       shares = c.in_ok-shares.ensures;
     }

@@ -1,0 +1,13 @@
+pub mod MapsTold
+pub mod Places
+pub mod Counted
+pub mod WalksTold
+pub mod Touched
+pub mod Needing
+pub mod Homed
+pub mod ReadyHomes
+pub mod Booted
+pub mod Moved
+pub mod NewForks
+pub mod EntrySet
+pub mod ZeroPages

@@ -1,0 +1,59 @@
+use Rattle.std.proofs.Common.{◌<◌, ◌∙◌, ap, arith, length}
+use Rattle.slot_paged.specs.PagedTables.{Beside, beside_of}
+use Rattle.slot_paged.specs.PagedMeaning.{forks_in, lives_in}
+use Rattle.slot_paged.proofs.NewForks.{absent_is, fork_lives, forks_more, forks_others}
+use Rattle.slot_paged.proofs.slot_paged.SlotPaged.add_fork.Goals as goal
+
+pub returns-in-Empty-clause-lives : goal.returns-in-Empty-clause-lives
+returns-in-Empty-clause-lives g c =
+    let s = c.args.self.now in
+    let b = beside_of s.tables in
+    let n = c.number_for-number.ensures in
+    let absent = absent_is b c.args.fork c.requires.absent in
+    let within : c.number_for-number.result < length b.tables.maps = omega (arith, s.kept.rooted.numbered.count, n.below, c.requires.terminal) in
+    λ f. ap (λ (x : Beside). lives_in x f) c.begin_empty.ensures.tables ∙ fork_lives b s.kept.rooted.numbered c.number_for-number.result c.args.fork c.begin_empty.result within absent n.fork n.from n.below f
+
+pub returns-in-Empty-clause-forks : goal.returns-in-Empty-clause-forks
+returns-in-Empty-clause-forks g c =
+    let s = c.args.self.now in
+    let b = beside_of s.tables in
+    let n = c.number_for-number.ensures in
+    let absent = absent_is b c.args.fork c.requires.absent in
+    let within : c.number_for-number.result < length b.tables.maps = omega (arith, s.kept.rooted.numbered.count, n.below, c.requires.terminal) in
+    ap (λ (x : Beside). forks_in x c.args.fork.tty) c.begin_empty.ensures.tables ∙ forks_more b s.kept.rooted.numbered c.number_for-number.result c.args.fork c.begin_empty.result within absent n.fork n.from n.below
+
+pub returns-in-Empty-clause-others : goal.returns-in-Empty-clause-others
+returns-in-Empty-clause-others g c =
+    let s = c.args.self.now in
+    let b = beside_of s.tables in
+    let n = c.number_for-number.ensures in
+    let absent = absent_is b c.args.fork c.requires.absent in
+    let within : c.number_for-number.result < length b.tables.maps = omega (arith, s.kept.rooted.numbered.count, n.below, c.requires.terminal) in
+    λ t ne. ap (λ (x : Beside). forks_in x t) c.begin_empty.ensures.tables ∙ forks_others b s.kept.rooted.numbered c.number_for-number.result c.args.fork c.begin_empty.result within absent n.fork n.from n.below t ne
+
+pub returns-in-FollowAll-clause-lives : goal.returns-in-FollowAll-clause-lives
+returns-in-FollowAll-clause-lives g c =
+    let s = c.args.self.now in
+    let b = beside_of s.tables in
+    let n = c.number_for-number.ensures in
+    let absent = absent_is b c.args.fork c.requires.absent in
+    let within : c.number_for-number.result < length b.tables.maps = omega (arith, s.kept.rooted.numbered.count, n.below, c.requires.terminal) in
+    λ f. ap (λ (x : Beside). lives_in x f) c.begin_following.ensures.tables ∙ fork_lives b s.kept.rooted.numbered c.number_for-number.result c.args.fork c.begin_following.result within absent n.fork n.from n.below f
+
+pub returns-in-FollowAll-clause-forks : goal.returns-in-FollowAll-clause-forks
+returns-in-FollowAll-clause-forks g c =
+    let s = c.args.self.now in
+    let b = beside_of s.tables in
+    let n = c.number_for-number.ensures in
+    let absent = absent_is b c.args.fork c.requires.absent in
+    let within : c.number_for-number.result < length b.tables.maps = omega (arith, s.kept.rooted.numbered.count, n.below, c.requires.terminal) in
+    ap (λ (x : Beside). forks_in x c.args.fork.tty) c.begin_following.ensures.tables ∙ forks_more b s.kept.rooted.numbered c.number_for-number.result c.args.fork c.begin_following.result within absent n.fork n.from n.below
+
+pub returns-in-FollowAll-clause-others : goal.returns-in-FollowAll-clause-others
+returns-in-FollowAll-clause-others g c =
+    let s = c.args.self.now in
+    let b = beside_of s.tables in
+    let n = c.number_for-number.ensures in
+    let absent = absent_is b c.args.fork c.requires.absent in
+    let within : c.number_for-number.result < length b.tables.maps = omega (arith, s.kept.rooted.numbered.count, n.below, c.requires.terminal) in
+    λ t ne. ap (λ (x : Beside). forks_in x t) c.begin_following.ensures.tables ∙ forks_others b s.kept.rooted.numbered c.number_for-number.result c.args.fork c.begin_following.result within absent n.fork n.from n.below t ne

@@ -1,0 +1,33 @@
+use Rattle.std.proofs.Common.{◌≡◌, ◌+◌, ◌<◌, List, length, sym, ap, subst, arith}
+use Rattle.machine_names.specs.declared.names.TheConstants.{SPACE_PAGES}
+use Rattle.page_contracts.specs.Stores.{HomePlace}
+use Rattle.plain_pages.specs.declared.map.NewMap.TheVariants as new_map
+use Rattle.plain_pages.specs.NewMaps.{with_map}
+use Rattle.pager_walk.specs.NewPages.{following_words}
+use Rattle.pager_walk.specs.PagedMaps.{Tables, FitsMaps, with_root}
+use Rattle.flat_pages.specs.HeldMaps.{followers}
+use Rattle.flat_pages.proofs.Beginning.{followers_follow, followers_new}
+use Rattle.slot_paged.specs.PagedTables.{Beside, FitsPages, beside_of, plain_over}
+use Rattle.slot_paged.specs.PagedMeaning.{with_fork}
+use Rattle.slot_paged.proofs.NewForks.{begun_told, following_entries}
+use Rattle.slot_paged.proofs.slot_paged.SlotPaged.begin_following.Goals as goal
+
+pub returns-clause-told : goal.returns-clause-told
+returns-clause-told g c d fits =
+    let s = c.args.self.now in
+    let r = c.requires in
+    let b = beside_of s.tables in
+    let places = g.S.Store.means.homes s.store in
+    let m = c.begin_following-home.ensures in
+    let home = c.begin_following-home.result in
+    let k = c.args.number in
+    let f = c.args.fork in
+    let stored = g.S.Store.means.homes c.begin_following-home.new.store in
+    let words = following_words c.args.leader.serial SPACE_PAGES in
+    let within : k < length b.tables.maps = omega (arith, s.kept.rooted.numbered.count, r.below, r.terminal) in
+    let now = beside_of (record s.tables { tables = c.begin_following-home.new.tables; living = s.tables.living + 1 }) in
+    let same : now ≡ with_fork b k f home = ap (λ (t : Tables). record b { tables = t; living = b.living + 1 }) m.tables in
+    let fits' = subst (λ (ps : List HomePlace). FitsMaps (with_root b.tables k f home) ps d) m.made.homes (subst (λ (t : Tables). FitsMaps t stored d) m.tables (m.fits d fits.maps)) in
+    let x = begun_told b places s.kept k f home words m.made.below m.made.was_free r.absent r.number r.from r.below r.terminal d fits r.room (followers c.args.leader.serial 0) (followers_new c.args.leader.serial 0) _ (followers_follow b.tables.names 0 c.args.leader) (following_entries b.tables c.args.leader r.serial r.last) fits' in
+    subst (λ (y : Beside). FitsPages y stored d × (plain_over y stored d ≡ with_map (plain_over b places d) f (new_map.FollowAll c.args.leader))) (sym same)
+    (subst (λ (ps : List HomePlace). FitsPages (with_fork b k f home) ps d × (plain_over (with_fork b k f home) ps d ≡ with_map (plain_over b places d) f (new_map.FollowAll c.args.leader))) (sym m.made.homes) x)

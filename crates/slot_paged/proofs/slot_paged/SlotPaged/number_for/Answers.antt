@@ -1,0 +1,9 @@
+use Rattle.std.proofs.Common.{refl}
+use Rattle.slot_paged.specs.PagedTables.{beside_of}
+use Rattle.slot_paged.proofs.NewForks.{number_free}
+use Rattle.slot_paged.proofs.slot_paged.SlotPaged.number_for.Goals as goal
+
+pub unreachable-requires : goal.unreachable-requires
+unreachable-requires g c =
+    let s = c.args.self.now in
+    number_free (beside_of s.tables) s.kept.rooted.numbered c.args.tty c.requires.terminal c.requires.few (c.in-None.ensures.none refl)
