@@ -5,7 +5,8 @@
 # The sources run by `rt try`: nothing is proved, and each access is checked as it goes, which is many times
 # slower than what ./tenex builds. So the columns tell whether a call grows, and not how long it takes there.
 # Calls that say in their comment that they grow with the table may: `grows` has them, each with the reason.
-# Status 1: another one took longer at the full table, by the factor 4 or the argument. 2: nothing was timed.
+# Status 1: another one took longer at the full table, by the factor 4 or the argument, or beside others by
+# more than `beside` has. 2: nothing was timed.
 set -eu
 factor=${1:-4}
 top=$(cd "$(dirname "$0")/.." && pwd)
@@ -14,16 +15,24 @@ trap 'rm -rf "$work"' EXIT
 
 grows='file_dir create, delete=create moves the names behind the new one
 frame_table victim=victim looks at all frames
-frame_table victim, others pinned=victim looks at all frames'
+frame_table victim, others pinned=victim looks at all frames
+paged_store fetch by a victim=a victim is looked for among all frames'
+# Calls that take at most so many times as long as others do, at the full table: a page that leaves its frame
+# and comes back, beside its two copies, which alone the checks of each access do not make slower; and a
+# look along maps that are pages, beside one along maps in memory.
+beside='paged_store evict, fetch=outside write, read=25
+slot_paged touch=flat_pages touch=3
+slot_paged touch along four=flat_pages touch along four=3'
 timed='number_set number_map page_files jfn_table file_dir frame_order drum_queue frame_table share_table script_lang tty_lines exec_cmd'
+paged='page_contracts page_residence paged_store flat_pages pager_walk slot_paged'
 
 mkdir -p "$work/crates/leaf_speed/src"
-for crate in word36 outside page_homes machine_names script_texts plain_files plain_typing $timed; do
+for crate in word36 outside page_homes machine_names script_texts plain_pages plain_files plain_typing $timed $paged; do
     mkdir "$work/crates/$crate"
     find "$top/crates/$crate" -mindepth 1 -maxdepth 1 ! -name out -exec cp -r -t "$work/crates/$crate" {} +
     grep "^$crate:" "$top/crates.txt" >>"$work/crates.txt"
 done
-echo "leaf_speed: outside page_homes machine_names plain_typing $timed" >>"$work/crates.txt"
+echo "leaf_speed: word36 outside page_homes machine_names plain_pages plain_typing $timed $paged" >>"$work/crates.txt"
 printf 'Handles allowed: none.\n' >"$work/HANDLES"
 
 cat >"$work/crates/leaf_speed/src/main.rt" <<'PROGRAM'
@@ -32,15 +41,21 @@ cat >"$work/crates/leaf_speed/src/main.rt" <<'PROGRAM'
 
 use drum_queue::{Queue, Transfer};
 use file_dir::{Dir, read_name};
+use flat_pages::{FlatSlots, FlatStore};
 use frame_order::FrameOrder;
 use frame_table::Frames;
 use jfn_table::JobJfns;
 use number_map::NumberMap;
 use number_set::NumberSet;
-use outside::Memory;
+use outside::{Drum, Memory, SureDrum};
+use page_contracts::{Need, Pages, Store};
 use page_files::{Files, Lengths, place};
-use machine_names::{Access, DirName, FileName, FileNo, ForkName, TERMINALS, Tty};
+use paged_store::PagedStore;
+use machine_names::{Access, DirName, FileName, FileNo, ForkName, Kind, Place, Slot, TERMINALS, Tty};
 use page_homes::{FrameId, Home};
+use plain_pages::NewMap;
+use slot_paged::SlotPaged;
+use word36::Word;
 use plain_typing::CONTROL_C;
 use script_lang::big_from;
 use share_table::{Pointer, Share, ShareTable, decode, encode};
@@ -278,6 +293,99 @@ fn share_table(rt: &HostRuntime, filled: u32) -> io::Result<()> {
     })
 }
 
+// A drum's own copies of a page, which it writes and reads again.
+fn drum(rt: &HostRuntime, pages: u32) -> io::Result<()> {
+    let mut drum = there(SureDrum::new(rt.alloc(), pages))?;
+    let mut words = [0; 512];
+    Timer::of(rt, "outside", pages).time("write, read", |page| {
+        let _written = drum.write(page, &words);
+        drum.read(page, &mut words)
+    })
+}
+
+// All frames are full. Of each home from their number on the page stands on the drum alone.
+fn paged_store(rt: &HostRuntime, frames: u32) -> io::Result<()> {
+    let timer = Timer::of(rt, "paged_store", frames);
+    let pages = 2 * frames;
+    let mut drum = there(SureDrum::new(rt.alloc(), pages))?;
+    let mut store = there(PagedStore::boot(rt.alloc(), frames, pages))?;
+    for page in 0..pages {
+        if page >= frames {
+            store.fetch(Need::Frame);
+            store.complete(&mut drum);
+        }
+        store.make();
+    }
+    // The last homes are in frames: which of them is in which is found by their words.
+    timer.time("find, load", |n| {
+        let home = Home(frames + n);
+        store.find(home).map(|found| store.load(found, 0))
+    })?;
+    timer.time("put", |n| store.put(Home(frames + n), 0, Word::ZERO))?;
+    timer.time("free, make", |n| {
+        store.free(Home(frames + n));
+        store.make()
+    })?;
+    timer.time("evict, fetch", |n| {
+        let home = Home(frames + n);
+        store.evict(FrameId(n));
+        store.complete(&mut drum);
+        store.fetch(Need::Page(home));
+        store.complete(&mut drum)
+    })?;
+    let mut next = 0;
+    timer.time("fetch by a victim", |_| {
+        let home = Home(next);
+        next = if next + 1 == pages { 0 } else { next + 1 };
+        store.fetch(Need::Page(home));
+        store.complete(&mut drum);
+        store.fetch(Need::Page(home));
+        store.complete(&mut drum)
+    })
+}
+
+// A fork of the first terminal.
+fn fork(serial: u32) -> ForkName {
+    ForkName {
+        tty: Tty(0),
+        serial,
+    }
+}
+
+// A page of a fork's space.
+fn page_of(serial: u32, page: u32) -> Place {
+    Place::Fork(Slot {
+        fork: fork(serial),
+        page: (page % 512) as u16,
+    })
+}
+
+// So many forks of a terminal, of which each follows the one before it.
+fn maps_in_memory(rt: &HostRuntime, forks: u32) -> io::Result<()> {
+    let timer = Timer::of(rt, "flat_pages", forks);
+    let store = there(FlatStore::boot(rt.alloc(), 256))?;
+    let mut pages = there(FlatSlots::boot(rt.alloc(), store, 256))?;
+    pages.add_fork(fork(1), NewMap::Empty);
+    for serial in 2..=forks {
+        pages.add_fork(fork(serial), NewMap::FollowAll(fork(if serial > 4 { 1 } else { serial - 1 })));
+    }
+    timer.time("touch", |n| pages.touch(page_of(1, n), Kind::Read))?;
+    timer.time("touch along four", |n| pages.touch(page_of(4, n), Kind::Read))
+}
+
+// The same, where maps are pages in frames.
+fn maps_in_pages(rt: &HostRuntime, forks: u32) -> io::Result<()> {
+    let timer = Timer::of(rt, "slot_paged", forks);
+    let store = there(PagedStore::boot(rt.alloc(), 256, 256))?;
+    let mut pages = there(SlotPaged::boot(rt.alloc(), store, 256))?;
+    pages.add_fork(fork(1), NewMap::Empty);
+    for serial in 2..=forks {
+        pages.add_fork(fork(serial), NewMap::FollowAll(fork(if serial > 4 { 1 } else { serial - 1 })));
+    }
+    timer.time("touch", |n| pages.touch(page_of(1, n), Kind::Read))?;
+    timer.time("touch along four", |n| pages.touch(page_of(4, n), Kind::Read))
+}
+
 // The line stores so many characters, and of so many codes each is assigned that may be.
 fn tty_lines(rt: &HostRuntime, stored: u32, codes: u8) -> io::Result<()> {
     let fork = ForkName {
@@ -334,6 +442,14 @@ fn main(rt: HostRuntime) -> io::Result<()> {
         drum_queue(&rt, frames)?;
         frame_table(&rt, frames)?;
     }
+    for frames in [160, 8192] {
+        drum(&rt, 2 * frames)?;
+        paged_store(&rt, frames)?;
+    }
+    for forks in [4, 30] {
+        maps_in_memory(&rt, forks)?;
+        maps_in_pages(&rt, forks)?;
+    }
     tty_lines(&rt, 1, 3)?;
     tty_lines(&rt, 80, 0o33)?;
     exec_cmd(&rt, b"RUN A")?;
@@ -346,10 +462,15 @@ PROGRAM
 cd "$work/crates/leaf_speed"
 # rt try also runs a program on an interpreter, which is to stop at its first step.
 rt try --steps 1 --seconds 300 2>"$work/messages" >"$work/times" || { cat "$work/messages" "$work/times" >&2; exit 2; }
-awk -F: -v factor="$factor" -v grows="$grows" '
+awk -F: -v factor="$factor" -v grows="$grows" -v beside="$beside" '
     BEGIN {
         for (n = split(grows, lines, "\n"); n > 0; n--) {
             reason[substr(lines[n], 1, index(lines[n], "=") - 1)] = substr(lines[n], index(lines[n], "=") + 1)
+        }
+        for (n = split(beside, lines, "\n"); n > 0; n--) {
+            split(lines[n], parts, "=")
+            other[parts[1]] = parts[2]
+            most[parts[1]] = parts[3]
         }
         printf "%-38s %14s %22s\n", "calls", "small: ns", "full: ns"
     }
@@ -359,8 +480,16 @@ awk -F: -v factor="$factor" -v grows="$grows" '
     {
         longer = time > factor * small[$1] && !($1 in reason)
         failed = failed || longer
+        full[$1] = time
         says = longer ? "  LONGER" : $1 in reason ? "  " reason[$1] : ""
         printf "%-38s %5d: %7.0f %12d: %8.0f%s\n", $1, size[$1], small[$1], $2, time, says
     }
-    END { exit failed }
+    END {
+        for (calls in other) {
+            longer = full[calls] > most[calls] * full[other[calls]]
+            failed = failed || longer
+            printf "%s: %.1f times as long as %s, at most %d%s\n", calls, full[calls] / full[other[calls]], other[calls], most[calls], longer ? "  LONGER" : ""
+        }
+        exit failed
+    }
 ' "$work/times"

@@ -62,13 +62,6 @@ making() {
     [ $# -eq 0 ] || printf 'RUN %d\n' "$@"
 }
 
-# The machine instructions of a run of a script in which the writer takes equal turns: those of the record's lines.
-of_lines() {
-    instructions "$1" >/dev/null
-    callgrind_annotate --inclusive=yes --threshold=100 "$work/callgrind" |
-        awk '/Writer::(equal_turns|begin_run)/ { gsub(",", "", $1); most = $1 > most ? $1 : most } END { print most + 0 }'
-}
-
 # units_in_a_us MILLIONS SCRIPT..: how many units of what makes a script are run in a millionth of a second.
 units_in_a_us() {
     local of=$1 taken
@@ -117,15 +110,11 @@ for loop in "${order[@]}"; do
         echo
     fi
 done
-# Where all thirty run, each unit is a line of the record.
-measure 'JRST 1100, 30 forks that run' 1 script 1 "$running" 3000 'JRST 1100'
+# Where all thirty run, each runs to the end of its quantum before the next.
+measure 'JRST 1100, 30 forks that run' "$millions" script 1 "$running" 3000 'JRST 1100'
 echo
 "$program" run <one.script >/dev/null
-[ "$(tail -n 31 tenex.record | grep -c '^U 0 [0-9]* 1$')" = 30 ]
-if [ -n "$counts" ]; then
-    lines=$((($(of_lines one.script) - $(of_lines half.script)) / 10000))
-    echo "of these, the record's line: $((lines / 10)).$((lines % 10))"
-fi
+[ "$(tail -n 40 tenex.record | grep '^U 0 [0-9]* 200$' | sort -u | wc -l)" = 30 ]
 
 making >start.script
 making 400000 >long.script

@@ -34,11 +34,11 @@ for n, deed in enumerate("NZCO"):
     for mask, at in (("R", 0), ("L", 1), ("D", 0o10), ("S", 0o11)):
         line(0o600 + 0o20 * n + at, [f"T{mask}{deed}{skip}" for skip in ("", "E", "A", "N")], 2)
 
-CALLS = {"GETER": 0o12, "GTJFN": 0o20, "OPENF": 0o21, "CLOSF": 0o22, "RLJFN": 0o23, "DELF": 0o26, "SFPTR": 0o27, "SIZEF": 0o36,
+CALLS = {"GETER": 0o12, "TIME": 0o14, "RUNTM": 0o15, "GTJFN": 0o20, "OPENF": 0o21, "CLOSF": 0o22, "RLJFN": 0o23, "DELF": 0o26, "SFPTR": 0o27, "SIZEF": 0o36,
          "RFPTR": 0o43, "BIN": 0o50, "BOUT": 0o51, "SIN": 0o52, "SOUT": 0o53, "PMAP": 0o56, "RPACS": 0o57, "SPACS": 0o60,
          "RMAP": 0o61, "PBIN": 0o73, "PBOUT": 0o74, "PSOUT": 0o76, "SIR": 0o125, "EIR": 0o126, "DIR": 0o130, "AIC": 0o131,
          "IIC": 0o132, "DIC": 0o133, "DEBRK": 0o136, "ATI": 0o137, "DTI": 0o140, "CFORK": 0o152, "KFORK": 0o153, "FFORK": 0o154, "RFORK": 0o155, "RFSTS": 0o156, "SFORK": 0o157,
-         "SFACS": 0o160, "RFACS": 0o161, "HFORK": 0o162, "WFORK": 0o163, "HALTF": 0o170}
+         "SFACS": 0o160, "RFACS": 0o161, "HFORK": 0o162, "WFORK": 0o163, "DISMS": 0o167, "HALTF": 0o170}
 OPCODES["JSYS"] = 0o104
 OPERANDS = re.compile(r"(?:([0-7]+),)?(@)?([0-7]*)(?:\(([0-7]+)\))?")
 

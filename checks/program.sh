@@ -110,7 +110,42 @@ illegal=$(grep -cxF 'T0 ?FORCED 15\015\012' "$work/out")
 
 fresh
 ends "sizes that are asked for" 0 '' 'E 0 0\n' run --drum=256 --frames 160 </dev/null
+
+# A generated script: eight users whose programs make 2774 turns of three units, and end in three more each, two of
+# them calls. The rest of its 20000 turns are idle; each user's @, B and the return to the monitor are five characters.
+summary='S 162 8346 11654 40'
+for words in '7 --frames 160' '7 --frames 8192' '--drum=16384 7' '--frames 160 7 --drum 16384'; do
+    fresh
+    cases=$((cases + 1))
+    # shellcheck disable=SC2086 # the words of a command are separate arguments
+    (cd "$work/at" && exec "$program" big $words) <"$work/script" >"$work/out" 2>"$work/messages" || fail "big $words: status $?"
+    [ "$(tail -n 1 "$work/out")" = "$summary" ] || fail "big $words: the last line is '$(tail -n 1 "$work/out")'"
+    [ "$(tail -n 1 "$work/at/tenex.record")" = 'E 0 0' ] || fail "big $words: the record ends with '$(tail -n 1 "$work/at/tenex.record")'"
+    [ ! -s "$work/messages" ] || fail "big $words: '$(cat "$work/messages")'"
+    units=$(awk '/^U / { n += $4 } /^I / { i += $2 } END { print n, i }' "$work/at/tenex.record")
+    [ "S 162 $units 40" = "$summary" ] || fail "big $words: the record has $units units and idle entries"
+done
+cp "$work/out" "$work/first_out"
+cp "$work/at/tenex.record" "$work/first_record"
+fresh
+cases=$((cases + 1))
+(cd "$work/at" && exec "$program" big --frames 160 7 --drum 16384) </dev/null >"$work/out" || fail "big once more: status $?"
+same "big once more: standard output" "$work/first_out" "$work/out"
+same "big once more: record" "$work/first_record" "$work/at/tenex.record"
+fresh
+cases=$((cases + 1))
+(cd "$work/at" && exec "$program" big 8) </dev/null >"$work/out" || fail "big 8: status $?"
+! cmp -s "$work/first_record" "$work/at/tenex.record" || fail "big 8: the record is that of another seed"
+fresh
+cases=$((cases + 1))
+(cd "$work/at" && exec "$program" big 7) </dev/null >/dev/full 2>/dev/null
+[ $? -eq 6 ] || fail "big with a transcript that can't be written: another status than 6"
+
 said='usage: tenex run [--frames N] [--drum N]'
+fresh
+ends "a generated script without a seed" 1 '?USAGE\n' '' big --frames 160 </dev/null
+fresh
+ends "a run with a seed" 1 '?USAGE\n' '' run 7 </dev/null
 fresh
 ends "too few frames" 1 '?USAGE\n' '' run --frames 159 </dev/null
 fresh
@@ -132,10 +167,6 @@ ends "another word" 1 '?USAGE\n' '' RUN <"$top/examples/first.script"
 fresh
 ends "a word that is no text" 1 '?USAGE\n' '' $'run\xff' <"$top/examples/first.script"
 
-said='tenex: line 4 is a line of a script that is not built yet: TRACE ON'
-fresh
-printf '; nothing\n\nLOGIN 0 A\nTRACE ON\n' >"$work/script"
-ends "a line that is not acted on yet" 2 'T0 @\n?LINE 4\n' 'LOGIN 0 A\n' run <"$work/script"
 said='tenex: line 2 is no line of a script: STOP'
 fresh
 printf 'LOGIN 0 A\nSTOP\nTRACE ON\n' >"$work/script"

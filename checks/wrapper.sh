@@ -114,6 +114,25 @@ same_answer run --drum 999999999
 same_answer run --drum 18446744073709551872
 same_answer $'run\xff'
 same_answer run --drum $'256\xff'
+same_answer big
+same_answer big ''
+same_answer big --frames 160
+same_answer big 7 8
+same_answer big 0000000007
+same_answer big 7x
+same_answer big -7
+same_answer big -
+same_answer big --seed=7
+same_answer big 7 --
+same_answer big -- 7
+same_answer big 7 --frames 159
+same_answer big 7 --drum
+same_answer BIG 7
+same_answer run 7
+same_answer run 7 --frames 160
+handed_on big 7
+handed_on big --frames 160 007
+handed_on big --frames=160 999999999 --drum 256
 handed_on run
 handed_on run --frames 160
 handed_on run --frames 8192 --drum 16384
