@@ -15,7 +15,7 @@ use plain_pages::NewEntry;
 use plain_units::Regs;
 use std::alloc::Global;
 use std::process::Abort;
-use text_pointers::{Text, text_at};
+use text_pointers::{Scratch, Text, text_at};
 use word36::{Flags, Word};
 
 // Five characters of seven bits, and two.
@@ -155,10 +155,11 @@ fn reads<P: Pages>(pages: &mut P, regs: &Regs, pointer: u64, wanted: Read) -> bo
     requires serves { Serves P.means pages.old TOP }
     requires serial { P.means.serial pages.old TOP.tty < 1000 }
 {
-    match text_at(regs, pages, TOP, Word::wrapped(pointer)) {
-        Ok(read) => {
-            read.reader.make(pages);
-            is_text(&read.text, wanted)
+    let mut scratch = Scratch::new();
+    match text_at(&mut scratch, regs, pages, TOP, Word::wrapped(pointer)) {
+        Ok(text) => {
+            scratch.reader.make(pages);
+            is_text(&text, wanted)
         }
         Err(Stop::Trap(channel)) => match wanted {
             Read::Trap(wanted) => channel == wanted,
