@@ -2,7 +2,7 @@
 # Prints how many machine instructions it takes to type 80 characters and to read them, in a job of one fork and in one
 # of thirty, and how many a round of BOUT, SFPTR, BIN and SFPTR takes, with one file of one page and with 512 files, of
 # which this one has 512 pages, as ./tenex builds the program. Status 1: with thirty forks the first takes more than an
-# eighth more, since whose turn is next is looked for among the slots of the job, or with 512 files the second takes
+# eighth more, since who waits is looked for among the slots of the job, or with 512 files the second takes
 # more than MOST more machine instructions (400, or the argument). 2: nothing counts them.
 set -eu
 source "$(dirname "$0")/program.inc"

@@ -168,17 +168,20 @@ impl Tree {
         self.notes[usize::from(tty.0)].sleepers = due;
     }
 
-    /// A character is stored for a job: who waits for one runs again, in slot order. One look where no body of the job was lent since the
-    /// last was stored, as where a line is typed; else thirty.
+    /// A character is stored for a job: who waits for one runs again, in slot order. Whether it was looked for any: where not, none
+    /// waited. One look where no body of the job was lent since the last was stored, as where a line is typed; else thirty.
     #[tactic(auto, unfolding(plain_model::specs::Trees::readers_woken))]
-    pub fn wake_readers(&mut self, tty: Tty)
-        ensures { self.new ≡ record self.old { forks = readers_woken self.old.forks tty } }
+    pub fn wake_readers(&mut self, tty: Tty) -> bool
+        ensures woken { self.new ≡ record self.old { forks = readers_woken self.old.forks tty } }
+        ensures none { result ≡ false → self.new ≡ self.old }
     {
         self.are_trees();
-        if self.may_wait(tty, Awaited::Character) {
-            self.wake_all(tty, Awaited::Character);
-            self.note_readers(tty);
+        if !self.may_wait(tty, Awaited::Character) {
+            return false;
         }
+        self.wake_all(tty, Awaited::Character);
+        self.note_readers(tty);
+        true
     }
 
     // Of a job, who sleeps to a moment that the clock has reached runs again, in slot order.

@@ -1,6 +1,6 @@
 -- Commands of a terminal's job, as the plain machine has them.
 use Rattle.std.proofs.Common.{◌≡◌, ℕ, ◌<◌, ◌^◌, List, [], ◌∷◌, Bool, true, false, cond, not, ◌&&◌, ◌||◌, ◌==◌, ◌++◌, length, subst, Option, Some, set, refl, sym, ◌∙◌, ap}
-use Rattle.std.specs.Prelude.{codes}
+use Rattle.std.specs.Prelude.{codes, if◌then◌else◌}
 use Rattle.std.specs.Option.{option_map, option_map_or}
 use Rattle.std.specs.FinMap as fin
 use Rattle.word36.specs.Words.{right}
@@ -27,7 +27,8 @@ use Rattle.plain_typing.specs.declared.typed.Typed.{Typed}
 use Rattle.plain_typing.specs.declared.typed.Typed.TheVariants.{ControlC, Stored}
 use Rattle.script_texts.specs.declared.event.Item.{Item}
 use Rattle.monitor_core.specs.declared.typing.Typing.{Typing}
-use Rattle.monitor_core.specs.declared.echo.Echo.TheVariants.{Shows, Stops}
+use Rattle.monitor_core.specs.declared.echo.Echo.{Echo}
+use Rattle.monitor_core.specs.declared.echo.Echo.TheVariants.{Shows, Stops, Wakes}
 use Rattle.monitor_core.specs.Effects.{Has, stopped_tree}
 use Rattle.machine_names.specs.declared.names.ForkName.{ForkName}
 use Rattle.machine_names.specs.declared.names.TheConstants.{MOST_FORKS}
@@ -178,6 +179,12 @@ module _ {P : Type 0} {b : _} (m m' : System P b) (t : Tty) (j : Job) (at : HasJ
     has_kept shown code fate shows is_stored input tree =
         subst (λ n. Has m m' (λ s. typed_so fate s t (job_in m t j) code) (echo_items t (Shows n))) (sym shows)
         (subst (λ f. Has m m' (λ s. typed_so f s t (job_in m t j) code) (echo_items t (Shows code))) is_stored (has_stored code input tree))
+
+-- what is shown is the same, whether or not it woke anybody
+pub has_shown : {P : Type 0} {b : _} (m m' : System P b) (change : PlainState → Effect) (t : Tty) (may : Bool) (code : ℕ) (shown : Echo) → shown ≡ (if may then Wakes code else Shows code)
+    → Has m m' change (echo_items t (Shows code)) → Has m m' change (echo_items t shown)
+has_shown m m' change t true code shown is has = subst (λ e. Has m m' change (echo_items t e)) (sym is) has
+has_shown m m' change t false code shown is has = subst (λ e. Has m m' change (echo_items t e)) (sym is) has
 
 -- control-C, as what becomes of a character
 pub has_stopped : {P : Type 0} {b : _} (m m' : System P b) (t : Tty) (j : Job) (code : ℕ) (fate : Typed) (items : PlainState → List Item) → ControlC ≡ fate → Has m m' (λ s. interrupted s t (job_in m t j)) items → Has m m' (λ s. typed_so fate s t (job_in m t j) code) items

@@ -1,6 +1,7 @@
 -- Which forks stay where the top fork of a terminal's job is changed, or one is made there.
-use Rattle.std.proofs.Common.{◌≡◌, ℕ, ◌<◌, ◌≤◌, Option, None, Some, true, inl, inr, refl, ap}
+use Rattle.std.proofs.Common.{◌≡◌, ℕ, ◌<◌, ◌≤◌, Bool, Option, None, Some, true, false, inl, inr, refl, ap, sym, subst}
 use Rattle.std.proofs.lemmas.Bool.{cases_lt}
+use Rattle.std.specs.Prelude.{if◌then◌else◌}
 use Rattle.std.specs.Option.{option_map_or}
 use Rattle.std.specs.FinMap as map
 use Rattle.machine_names.specs.declared.names.ForkName.{ForkName}
@@ -16,7 +17,10 @@ use Rattle.plain_model.specs.Trees.{PlainTree, free_slot, new_fork, next_name, r
 use Rattle.plain_model.proofs.OtherJobs.{named_others, others_alike, others_on, posted_others, put_others, readers_job}
 use Rattle.fork_tree.specs.Making.{with_new, with_new_in}
 use Rattle.fork_tree.specs.Trees.{IsTree}
+use Rattle.monitor_core.specs.declared.echo.Echo.{Echo}
+use Rattle.monitor_core.specs.declared.echo.Echo.TheVariants.{Shows, Wakes}
 use Rattle.monitor_core.specs.declared.job.Job.{Job}
+use Rattle.monitor_core.specs.Reaching.{EchoReaches}
 use Rattle.monitor_core.specs.declared.system.System.{System}
 use Rattle.monitor_core.specs.Effects.{stopped_tree}
 use Rattle.monitor_core.specs.Jobs.{job_at}
@@ -49,6 +53,11 @@ module _ {P : Type 0} {b : _} (m : System P b) (t : Tty) (j : Job) (at : job_at 
 pub readers_stay : (tree new : PlainTree) → IsTree tree → (t : Tty) → new ≡ record tree { forks = readers_woken tree.forks t } → OthersStay t tree.forks new.forks
 readers_stay tree new trees t is =
     others_on t tree.forks (readers_woken tree.forks t) new.forks (readers_job tree.forks trees.slotted.own t).others (others_same t (readers_woken tree.forks t) new.forks (ap (λ (x : PlainTree). x.forks) is))
+
+-- so a character that is stored reaches forks of the job where it may have woken one, and else none
+pub stored_reaches : (t : Tty) (may : Bool) (code : ℕ) (shown : Echo) → shown ≡ (if may then Wakes code else Shows code) → (old new : ForkMap) → (may ≡ false → new ≡ old) → OthersStay t old new → EchoReaches t shown old new
+stored_reaches t true code shown is old new none others = subst (λ e. EchoReaches t e old new) (sym is) others
+stored_reaches t false code shown is old new none others = subst (λ e. EchoReaches t e old new) (sym is) (none refl)
 
 -- channels are posted to a fork of a name
 pub posts_stay : (tree new : PlainTree) → IsTree tree → (name : ForkName) (word : ℕ) → new ≡ record tree { forks = option_map_or (with_all_posted tree.forks (channels_of word)) (map.get tree.forks name) tree.forks }

@@ -1,8 +1,7 @@
 -- The lists are tied to the forks again once they have followed what changed.
-use Rattle.std.proofs.Common.{◌≡◌, ◌≢◌, ◌⊎◌, ℕ, ◌<◌, ◌≤◌, Bool, true, false, ◌&&◌, Option, None, Some, IsSome, refl, sym, ◌∙◌, ap, subst, inl, inr, arith, ◌+◌}
+use Rattle.std.proofs.Common.{◌≡◌, ◌≢◌, ◌⊎◌, ℕ, ◌<◌, ◌≤◌, true, false, Option, None, Some, IsSome, refl, sym, ◌∙◌, ap, subst, inl, inr, arith}
 use Rattle.std.proofs.lemmas.Bool.{cases_Bool, cases_eq}
 use Rattle.std.specs.FinMap as map
-use Rattle.machine_names.specs.Bounds.{IsTerminal}
 use Rattle.machine_names.specs.Orders.{same_fork}
 use Rattle.machine_names.specs.declared.names.ForkName.{ForkName}
 use Rattle.machine_names.specs.declared.names.Tty.{Tty}
@@ -18,17 +17,11 @@ use Rattle.fork_tree.proofs.Slots.{in_found, in_none, in_tells, some_of}
 use Rattle.fork_tree.proofs.Sleepers.{each_awoken}
 use Rattle.fork_calls.proofs.OtherRuns.{body_runs, in_other, runs_other}
 use Rattle.job_sched.specs.Schedules.{Schedule, stands}
-use Rattle.job_sched.specs.Ties.{IsFilled}
 use Rattle.job_sched.specs.Units.{IsRow}
-use Rattle.monitor_core.specs.declared.echo.Echo.{Echo}
-use Rattle.monitor_core.specs.declared.echo.Echo.TheVariants.{Bell, Ends, Nothing, Posts, Shows, Stops}
-use Rattle.monitor_core.specs.Echoes.{FitsEcho}
-use Rattle.monitor_core.specs.Reaching.{reached_at}
 use Rattle.fork_lists.specs.declared.lists.ForkLists.{ForkLists}
-use Rattle.fork_lists.specs.declared.seen.Seen.{Seen}
 use Rattle.fork_lists.specs.Seeing.{SeenElsewhere, is_seen, job_slots, seen_in, seen_of, was_seen}
 use Rattle.fork_lists.specs.Following.{stopped_if}
-use Rattle.fork_lists.specs.Ties.{AreTied, CanFollow, CanFollowAll, Follows, FollowsAll, IsTiedAt, Living, is_filled}
+use Rattle.fork_lists.specs.Ties.{AreTied, CanFollow, CanFollowAll, Follows, FollowsAll, IsTiedAt, is_filled}
 use Rattle.fork_lists.proofs.Folds.{any_among, stop_filled, stop_gone, stop_one, stop_other}
 use Rattle.fork_lists.proofs.Chosen.{filled_test, test_filled}
 use Rattle.fork_lists.proofs.Nearing.{stop_keeps}
@@ -177,12 +170,3 @@ fewer_row s most n row few = record {
     | inr within ↦ inr (omega (arith, within, few))
   ];
 }
-
--- a character that is typed changes forks of a job at a terminal
-pub reached_terminal : (t : Tty) (shown : Echo) → IsTerminal t → FitsEcho shown → IsTerminal (reached_at t shown)
-reached_terminal t (Posts u stop) here fits = fits.0
-reached_terminal t Nothing here fits = here
-reached_terminal t (Shows code) here fits = here
-reached_terminal t Bell here fits = here
-reached_terminal t Stops here fits = here
-reached_terminal t (Ends told) here fits = here

@@ -16,7 +16,7 @@ use Rattle.monitor_core.specs.declared.echo.Complaint.TheVariants as complaint
 use Rattle.monitor_core.specs.declared.echo.Told.{Told}
 use Rattle.monitor_core.specs.declared.echo.Told.TheVariants as told
 use Rattle.monitor_core.specs.declared.echo.Echo.{Echo}
-use Rattle.monitor_core.specs.declared.echo.Echo.TheVariants.{Nothing, Shows, Bell, Stops, Posts, Ends}
+use Rattle.monitor_core.specs.declared.echo.Echo.TheVariants.{Nothing, Shows, Wakes, Bell, Stops, Posts, Ends}
 use Rattle.monitor_core.specs.Shown.{FitsStop, stop_items}
 
 -- how it is printed why a command isn't done
@@ -44,6 +44,7 @@ stop_text = 94 ∷ 67 ∷ CARRIAGE_RETURN ∷ LINE_FEED ∷ PROMPT ∷ []
 abbrev pub echo_items : Tty → Echo → PlainState → List Item
 echo_items t Nothing s = []
 echo_items t (Shows code) s = echo t code
+echo_items t (Wakes code) s = echo t code
 echo_items t Bell s = printed t (BELL ∷ [])
 echo_items t Stops s = printed t stop_text
 echo_items t (Posts u stop) s = stop_items u stop
@@ -52,5 +53,6 @@ echo_items t (Ends told) s = echo t LINE_END ++ told_items t told s
 -- the limits of what is shown
 abbrev pub FitsEcho : Echo → Type 0
 FitsEcho (Shows code) = code < 128
+FitsEcho (Wakes code) = code < 128
 FitsEcho (Posts u stop) = IsTerminal u × FitsStop stop
 FitsEcho other = Unit {0}

@@ -2,7 +2,7 @@
 use Rattle.std.specs.Prelude.{◌≡◌, ◌⊎◌, ℕ, ◌<◌, length, true}
 use Rattle.machine_names.specs.declared.names.ForkName.{ForkName}
 use Rattle.machine_names.specs.declared.names.Tty.{Tty}
-use Rattle.plain_model.specs.Forks.{OthersStay}
+use Rattle.plain_model.specs.Forks.{ForkMap, OthersStay}
 use Rattle.plain_model.specs.Trees.{PlainTree}
 use Rattle.script_texts.specs.declared.event.Event.{Event}
 use Rattle.script_texts.specs.declared.event.Event.TheVariants.{Tick}
@@ -11,9 +11,10 @@ use Rattle.fork_tree.specs.Trees.{IsTree}
 use Rattle.job_sched.specs.Schedules.{Schedule, heads}
 use Rattle.fork_lists.specs.declared.lists.ForkLists.{ForkLists}
 use Rattle.fork_lists.specs.Ties.{AreTied}
+use Rattle.monitor_core.specs.declared.echo.Echo.{Echo}
 use Rattle.monitor_core.specs.declared.runner.Runner.{Runner}
 use Rattle.monitor_core.specs.declared.units.Reach.{Reach}
-use Rattle.monitor_core.specs.Reaching.{EventReaches, Reaches}
+use Rattle.monitor_core.specs.Reaching.{EchoReaches, EventReaches, Reaches}
 use Rattle.monitor_core.specs.Runners.{IsRunner}
 
 -- a fork is the head of the ready list
@@ -37,12 +38,12 @@ pub record AreFollowed (l : ForkLists) (now : PlainTree) (e : Event) : Type 0 wh
   pub tied : AreTied old.forks l
   pub reaches : EventReaches e clock old now
 
--- the lists had those that could run before forks of a job changed
-pub record IsFollowed (l : ForkLists) (now : PlainTree) (t : Tty) : Type 0 where
+-- the lists had those that could run before a character was typed at a terminal, which shows this
+pub record IsFollowed (l : ForkLists) (now : PlainTree) (t : Tty) (shown : Echo) : Type 0 where
   pub old : PlainTree
   pub trees : IsTree old
   pub tied : AreTied old.forks l
-  pub others : OthersStay t old.forks now.forks
+  pub reaches : EchoReaches t shown old.forks now.forks
 
 -- an event changes forks of the job at this terminal alone
 abbrev pub IsOf : Event → Tty → Type 0
@@ -51,3 +52,11 @@ IsOf e t = IsTerminal t × ((clock : ℕ) (old new : PlainTree) → EventReaches
 -- an event is a tick, or changes no fork
 abbrev pub IsOfNone : Event → Type 0
 IsOfNone e = (e ≡ Tick) ⊎ ((clock : ℕ) (old new : PlainTree) → EventReaches e clock old new → new ≡ old)
+
+-- a character that shows this at a terminal changes forks of the job at this one alone
+abbrev pub IsAt : Tty → Echo → Tty → Type 0
+IsAt t shown u = IsTerminal u × ((old new : ForkMap) → EchoReaches t shown old new → OthersStay u old new)
+
+-- or it changes no fork
+abbrev pub IsNowhere : Tty → Echo → Type 0
+IsNowhere t shown = (old new : ForkMap) → EchoReaches t shown old new → new ≡ old

@@ -8,12 +8,12 @@ use Rattle.plain_model.specs.declared.fork.Body.{Body}
 use Rattle.plain_model.specs.Calls.{is_among}
 use Rattle.plain_model.specs.ClockCalls.{clock_calls}
 use Rattle.plain_model.specs.ForkCalls.{fork_calls}
-use Rattle.plain_model.specs.Forks.{OthersStay}
+use Rattle.plain_model.specs.Forks.{ForkMap, OthersStay}
 use Rattle.plain_model.specs.InterruptCalls.{interrupt_calls}
 use Rattle.plain_model.specs.Trees.{PlainTree, sleepers_awoken}
 use Rattle.fork_tree.specs.Changes.{with_body_of}
 use Rattle.monitor_core.specs.declared.echo.Echo.{Echo}
-use Rattle.monitor_core.specs.declared.echo.Echo.TheVariants.{Posts}
+use Rattle.monitor_core.specs.declared.echo.Echo.TheVariants.{Bell, Ends, Nothing, Posts, Shows, Stops, Wakes}
 use Rattle.monitor_core.specs.declared.units.Reach.{Reach}
 use Rattle.monitor_core.specs.declared.units.Reach.TheVariants.{Own, Job}
 
@@ -42,8 +42,13 @@ EventReaches (Forks t) clock old new = OthersStay t old.forks new.forks
 EventReaches Tick clock old new = new ≡ record old { forks = sleepers_awoken clock old.forks }
 EventReaches e clock old new = new ≡ old
 
--- whose job's forks may stand otherwise behind a character that is typed at a terminal and shows this: that terminal's, or those of the
--- job to whose fork a channel is posted
-abbrev pub reached_at : Tty → Echo → Tty
-reached_at t (Posts u stop) = u
-reached_at t other = t
+-- how far a character may reach that is typed at a terminal and shows this: one that wakes nobody, or is lost, leaves all as it was; one that
+-- posts a channel changes forks of that fork's job, and any other those of the terminal's
+abbrev pub EchoReaches : Tty → Echo → ForkMap → ForkMap → Type 0
+EchoReaches t (Shows code) old new = new ≡ old
+EchoReaches t Bell old new = new ≡ old
+EchoReaches t (Posts u stop) old new = OthersStay u old new
+EchoReaches t Nothing old new = OthersStay t old new
+EchoReaches t (Wakes code) old new = OthersStay t old new
+EchoReaches t Stops old new = OthersStay t old new
+EchoReaches t (Ends told) old new = OthersStay t old new

@@ -54,6 +54,8 @@ pub enum Echo {
     Nothing,
     /// The character, as it is shown.
     Shows(u8),
+    /// The same, and who waits for a character may go on.
+    Wakes(u8),
     /// The bell: the character is lost.
     Bell,
     /// Control-C, and the prompt.

@@ -355,8 +355,10 @@ fn sleepers_are_awoken_at_their_moment(rt: HostRuntime) -> Result<(), Fail> {
         tree.wake_sleepers(clock);
         same_in(&rt, clock, asleep(&tree), sleep);
     }
-    tree.wake_readers(T);
+    same(&rt, tree.wake_readers(T), true);
     same(&rt, tree.status(name(3)), Some(ForkStatus::Run));
+    // no body was lent since
+    same(&rt, tree.wake_readers(T), false);
     Ok(())
 }
 

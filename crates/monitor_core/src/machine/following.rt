@@ -4,8 +4,8 @@ ghost use Rattle.fork_lists.specs.Ties.{AreTied};
 ghost use Rattle.job_sched.specs.Units.{IsRow};
 ghost use Rattle.machine_names.specs.Bounds.{IsTerminal};
 ghost use Rattle.script_texts.specs.Limits.{FitsEvent};
-ghost use Rattle.monitor_core.specs.Following.{AreFollowed, IsFollowed, IsHead, IsOf, IsOfNone, RowEnded};
-ghost use Rattle.monitor_core.specs.Reaching.{reached_at};
+ghost use Rattle.monitor_core.specs.Echoes.{FitsEcho};
+ghost use Rattle.monitor_core.specs.Following.{AreFollowed, IsAt, IsFollowed, IsHead, IsNowhere, IsOf, IsOfNone, RowEnded};
 
 use crate::echo::Echo;
 use crate::runner::Runner;
@@ -68,22 +68,33 @@ pub fn follow_event(lists: &mut ForkLists, tree: &Tree, e: &Event)
     }
 }
 
-// The terminal of whose job a character may change forks, which was typed at a terminal and shows this.
-fn reached_terminal(t: Tty, shown: &Echo) -> Tty
-    ensures { result ≡ reached_at t shown.now }
+// The terminal of whose job a character may change forks, which was typed at a terminal and shows this. None, where it changes none.
+fn reached_terminal(t: Tty, shown: &Echo) -> Option<Tty>
+    requires terminal { IsTerminal t }
+    requires fits { FitsEcho shown.now }
+    ensures { MatchOption result (IsNowhere t shown.now) (IsAt t shown.now) }
 {
     match shown {
-        Echo::Posts(u, _) => *u,
-        _ => t,
+        Echo::Shows(_) => None,
+        Echo::Bell => None,
+        Echo::Posts(u, _) => Some(*u),
+        Echo::Nothing => Some(t),
+        Echo::Wakes(_) => Some(t),
+        Echo::Stops => Some(t),
+        Echo::Ends(_) => Some(t),
     }
 }
 
 /// The lists follow a character that was typed at a terminal and shows this.
 pub fn follow_typed(lists: &mut ForkLists, tree: &Tree, t: Tty, shown: &Echo)
-    requires terminal { IsTerminal (reached_at t shown.now) }
-    requires followed { IsFollowed lists.old tree.now (reached_at t shown.now) }
+    requires terminal { IsTerminal t }
+    requires fits { FitsEcho shown.now }
+    requires followed { IsFollowed lists.old tree.now t shown.now }
     ensures { AreTied tree.now.forks lists.new }
 {
     tree.are_trees();
-    lists.follow(tree, reached_terminal(t, shown));
+    match reached_terminal(t, shown) {
+        Some(u) => lists.follow(tree, u),
+        None => {}
+    }
 }

@@ -82,6 +82,7 @@ impl<P: Pages> System<P> {
         match shown {
             Echo::Nothing => Ok(()),
             Echo::Shows(code) => give_code(out, t, code),
+            Echo::Wakes(code) => give_code(out, t, code),
             Echo::Bell => give_text(out, t, b"\x07"),
             Echo::Stops => give_text(out, t, b"^C\r\n@"),
             Echo::Posts(t, stop) => give_stop(out, t, stop),

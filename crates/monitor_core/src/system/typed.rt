@@ -1,5 +1,5 @@
 // A character that is typed at a terminal.
-ghost use Rattle.std.specs.Prelude.{◌≡◌, ◌<◌, [], IsSome, if◌then◌else◌, is_some, true};
+ghost use Rattle.std.specs.Prelude.{◌≡◌, ◌<◌, [], IsSome, if◌then◌else◌, is_some, false, true};
 ghost use Rattle.std.specs.FinMap as map;
 ghost use Rattle.machine_names.specs.Bounds.{IsTerminal};
 ghost use Rattle.machine_names.specs.declared.names.Tty.{Tty as ATty};
@@ -8,14 +8,14 @@ ghost use Rattle.plain_typing.specs.Commands.{command_of};
 ghost use Rattle.plain_typing.specs.Typing.{fate_of};
 ghost use Rattle.plain_model.specs.declared.fork.TerminalMode.{TerminalMode as AMode};
 ghost use Rattle.plain_model.specs.Commands.{with_job_at};
-ghost use Rattle.plain_model.specs.Forks.{OthersStay};
 ghost use Rattle.plain_model.specs.Trees.{readers_woken};
 ghost use Rattle.fork_tree.specs.Trees.{IsTree};
 ghost use Rattle.plain_model.specs.TypeEvents.{interrupted, line_ended, line_of, line_typed, posted_at, typed_at, typed_one, typed_so};
 ghost use Rattle.monitor_core.specs.Echoes.{echo_items, FitsEcho};
 ghost use Rattle.monitor_core.specs.Effects.{Has, HasJobAt, job_in, stopped_tree};
 ghost use Rattle.monitor_core.specs.Jobs.{job_at};
-ghost use Rattle.monitor_core.specs.Reaching.{reached_at};
+ghost use Rattle.monitor_core.specs.Reaching.{EchoReaches};
+ghost use Rattle.monitor_core.specs.declared.echo.Echo.{Echo as AnEcho};
 
 use crate::echo::Echo;
 use crate::job::{Job, seen_stop};
@@ -42,15 +42,17 @@ fn stop(mode: TerminalMode, top: ForkName, tree: &mut Tree)
     }
 }
 
-// A character is stored for a job: who waits for one runs again.
-fn wake(tree: &mut Tree, t: Tty)
+// A character is stored for a job: who waits for one runs again. Whether any may.
+fn wake(tree: &mut Tree, t: Tty) -> bool
     ensures tree { tree.new ≡ record tree.old { forks = readers_woken tree.old.forks t } }
+    ensures none { result ≡ false → tree.new ≡ tree.old }
     ensures was { IsTree tree.old }
     ensures is { IsTree tree.new }
 {
     tree.are_trees();
-    tree.wake_readers(t);
+    let may = tree.wake_readers(t);
     tree.are_trees();
+    may
 }
 
 // How a fork stands to which a channel was posted, that has forced it or not.
@@ -64,6 +66,17 @@ fn stop_by(forced: bool, channel: u8) -> Stop
     }
 }
 
+// What is shown of a character that is stored, and may have woken who waits for one.
+fn stored(may: bool, code: u8) -> Echo
+    ensures { result ≡ (if may then AnEcho.Wakes code else AnEcho.Shows code) }
+{
+    if may {
+        Echo::Wakes(code)
+    } else {
+        Echo::Shows(code)
+    }
+}
+
 impl<P: Pages> System<P> {
     // Control-C: the program stands still, and the monitor waits for a command.
     fn interrupt(&mut self, t: Tty, job: Job) -> Echo
@@ -71,7 +84,7 @@ impl<P: Pages> System<P> {
         requires job { HasJobAt self.old t job }
         ensures has { Has self.old self.new (λ s. interrupted s t (job_in self.old t job)) (echo_items t result) }
         ensures fits { FitsEcho result }
-        ensures others { OthersStay (reached_at t result) self.old.tree.forks self.new.tree.forks }
+        ensures others { EchoReaches t result self.old.tree.forks self.new.tree.forks }
     {
         self.tree.are_trees();
         stop(job.mode, job.top, &mut self.tree);
@@ -85,7 +98,7 @@ impl<P: Pages> System<P> {
     fn post_typed(&mut self, name: ForkName, channel: u8) -> Echo
         ensures has { (t : ATty) → Has self.old self.new (λ s. posted_at s name channel) (echo_items t result) }
         ensures fits { FitsEcho result }
-        ensures others { (t : ATty) → OthersStay (reached_at t result) self.old.tree.forks self.new.tree.forks }
+        ensures others { (t : ATty) → EchoReaches t result self.old.tree.forks self.new.tree.forks }
     {
         self.tree.are_trees();
         let Some(fork) = self.tree.fork(name) else {
@@ -107,12 +120,12 @@ impl<P: Pages> System<P> {
         requires code { c < 128 }
         ensures has { Has self.old self.new (λ s. let j = job_in self.old t job in typed_so (fate_of (line_of j) (is_read_as c)) s t j (is_read_as c)) (echo_items t result) }
         ensures fits { FitsEcho result }
-        ensures others { OthersStay (reached_at t result) self.old.tree.forks self.new.tree.forks }
+        ensures others { EchoReaches t result self.old.tree.forks self.new.tree.forks }
     {
         match self.typed[t.0 as usize].input.typed(c) {
             Typed::Stored => {
-                wake(&mut self.tree, t);
-                Echo::Shows(read_as(c))
+                let may = wake(&mut self.tree, t);
+                stored(may, read_as(c))
             }
             Typed::Dropped => Echo::Bell,
             Typed::Posts(fork, channel) => self.post_typed(fork, channel),
@@ -127,7 +140,7 @@ impl<P: Pages> System<P> {
         requires code { code < 128 }
         ensures has { Has self.old self.new (λ s. line_typed s t (job_in self.old t job) code) (echo_items t result) }
         ensures fits { FitsEcho result }
-        ensures others { OthersStay (reached_at t result) self.old.tree.forks self.new.tree.forks }
+        ensures others { EchoReaches t result self.old.tree.forks self.new.tree.forks }
     {
         match self.typed[t.0 as usize].line.try_push(code) {
             Ok(()) => Echo::Shows(code),
@@ -158,7 +171,7 @@ impl<P: Pages> System<P> {
         requires flat { P.means.flat ≡ true }
         ensures has { Has self.old self.new (λ s. line_ended s t (job_in self.old t job.now)) (echo_items t result) }
         ensures fits { FitsEcho result }
-        ensures others { OthersStay (reached_at t result) self.old.tree.forks self.new.tree.forks }
+        ensures others { EchoReaches t result self.old.tree.forks self.new.tree.forks }
     {
         let command = self.take_line(t, job);
         Echo::Ends(self.command(t, *job, &command))
@@ -172,7 +185,7 @@ impl<P: Pages> System<P> {
         requires code { code < 128 }
         ensures has { Has self.old self.new (λ s. typed_one AMode.Command s t (job_in self.old t job) code) (echo_items t result) }
         ensures fits { FitsEcho result }
-        ensures others { OthersStay (reached_at t result) self.old.tree.forks self.new.tree.forks }
+        ensures others { EchoReaches t result self.old.tree.forks self.new.tree.forks }
     {
         if code == CONTROL_C {
             return self.interrupt(t, job);
@@ -190,7 +203,7 @@ impl<P: Pages> System<P> {
         requires code { c < 128 }
         ensures has { Has self.old self.new (λ s. typed_at s t c) (echo_items t result) }
         ensures fits { FitsEcho result }
-        ensures others { OthersStay (reached_at t result) self.old.tree.forks self.new.tree.forks }
+        ensures others { EchoReaches t result self.old.tree.forks self.new.tree.forks }
     {
         match self.jobs[t.0 as usize] {
             Some(job) => match job.mode {

@@ -12,12 +12,12 @@ pub note_readers-requires-clause-none : goal.note_readers-requires-clause-none
 unfolding readers_woken
 note_readers-requires-clause-none c = subst (λ (tree : PlainTree). NoneWaits Character tree.forks c.args.tty) (sym c.wake_all.ensures) (none_reads c.args.self.now c.are_trees.ensures c.args.tty)
 
-pub returns-then-may_wait : goal.returns-then-may_wait
+pub returns-clause-woken : goal.returns-clause-woken
 unfolding readers_woken
-returns-then-may_wait c = c.note_readers.ensures ∙ c.wake_all.ensures
+returns-clause-woken c = c.note_readers.ensures ∙ c.wake_all.ensures
 
-pub returns-else-may_wait : goal.returns-else-may_wait
+pub returns-then-not-may_wait-clause-woken : goal.returns-then-not-may_wait-clause-woken
 unfolding readers_woken
-returns-else-may_wait c =
+returns-then-not-may_wait-clause-woken c =
     let tree = c.args.self.now in
-    ap (λ m. record tree { forks = m }) (sym (nobody_freed tree.forks c.are_trees.ensures.slotted c.args.tty Character c.if-may_wait.ensures (range_with_len 1 MOST_FORKS)))
+    ap (λ m. record tree { forks = m }) (sym (nobody_freed tree.forks c.are_trees.ensures.slotted c.args.tty Character c.if-not-may_wait.ensures (range_with_len 1 MOST_FORKS)))

@@ -1,10 +1,8 @@
 use Rattle.std.proofs.Common.{[], take, refl, ap, arith, sym, ◌∙◌, subst}
-use Rattle.plain_model.specs.Forks.{OthersStay}
 use Rattle.plain_model.specs.Trees.{PlainTree}
 use Rattle.plain_model.specs.TypeEvents.{typed_all}
 use Rattle.fork_lists.specs.Ties.{AreTied}
-use Rattle.monitor_core.specs.Reaching.{reached_at}
-use Rattle.monitor_core.proofs.ListsTied.{reached_terminal}
+use Rattle.monitor_core.specs.Reaching.{EchoReaches}
 use Rattle.plain_model.specs.Unit.{Effect}
 use Rattle.script_texts.specs.Taker.{GoesOn}
 use Rattle.script_texts.proofs.Takers.{goes_on_append, goes_on_nil, onward_nil, onward_then}
@@ -38,15 +36,12 @@ invariant_of-self g c = let m = c.loop-code.self in record {
   tied = subst (λ (x : PlainTree). AreTied x.forks c.follow_typed.new.lists) c.forks.ensures.forks c.follow_typed.ensures;
 }
 
-pub follow_typed-requires-clause-terminal : goal.follow_typed-requires-clause-terminal
-follow_typed-requires-clause-terminal g c = reached_terminal c.args.t c.type_one-shown.result c.requires.terminal c.type_one-shown.ensures.fits
-
 pub follow_typed-requires-clause-followed : goal.follow_typed-requires-clause-followed
 follow_typed-requires-clause-followed g c = record {
   old = c.loop-code.self.system.tree;
   trees = c.trees.ensures;
   tied = c.loop-code.self.tied;
-  others = subst (λ (x : PlainTree). OthersStay (reached_at c.args.t c.type_one-shown.result) c.loop-code.self.system.tree.forks x.forks) (sym c.forks.ensures.forks) c.type_one-shown.ensures.others;
+  reaches = subst (λ (x : PlainTree). EchoReaches c.args.t c.type_one-shown.result c.loop-code.self.system.tree.forks x.forks) (sym c.forks.ensures.forks) c.type_one-shown.ensures.others;
 }
 
 pub loop-code-preserved : goal.loop-code-preserved

@@ -11,6 +11,10 @@ pub returns-in-Shows : goal.returns-in-Shows
 returns-in-Shows g c =
     subst (λ shown. TookItems g.T.Taker.fault_count g.T.Taker.onward g.T.Taker.stands g.T.Taker.cut c.args.out.now c.give_code.new.out c.give_code.result (λ d. echo_items c.args.t shown (state_of c.args.self.now d))) (sym c.in-Shows.is) c.give_code.ensures
 
+pub returns-in-Wakes : goal.returns-in-Wakes
+returns-in-Wakes g c =
+    subst (λ shown. TookItems g.T.Taker.fault_count g.T.Taker.onward g.T.Taker.stands g.T.Taker.cut c.args.out.now c.give_code-in-Wakes.new.out c.give_code-in-Wakes.result (λ d. echo_items c.args.t shown (state_of c.args.self.now d))) (sym c.in-Wakes.is) c.give_code-in-Wakes.ensures
+
 pub returns-in-Bell : goal.returns-in-Bell
 returns-in-Bell g c =
     subst (λ shown. TookItems g.T.Taker.fault_count g.T.Taker.onward g.T.Taker.stands g.T.Taker.cut c.args.out.now c.give_text.new.out c.give_text.result (λ d. echo_items c.args.t shown (state_of c.args.self.now d))) (sym c.in-Bell.is) c.give_text.ensures

@@ -8,22 +8,22 @@ use Rattle.plain_typing.specs.Characters.{read_as}
 use Rattle.plain_typing.specs.Typing.{fate_of, left_by}
 use Rattle.fork_calls.proofs.Places.{Keep}
 use Rattle.monitor_core.specs.Typings.{new_typing}
-use Rattle.monitor_core.proofs.CommandDid.{has_kept, has_stopped, readers_keep}
+use Rattle.monitor_core.proofs.CommandDid.{has_kept, has_shown, has_stopped, readers_keep}
 use Rattle.monitor_core.proofs.HasDone.{has_from, sound_kept}
 use Rattle.monitor_core.proofs.JobDid.{put_back}
 use Rattle.monitor_core.proofs.PostDid.{has_posting}
 use Rattle.monitor_core.proofs.Sounds.{same_tops, stands}
 use Rattle.monitor_core.proofs.TypeDid.{low_typed}
-use Rattle.monitor_core.proofs.JobOthers.{readers_stay}
+use Rattle.monitor_core.proofs.JobOthers.{readers_stay, stored_reaches}
 use Rattle.monitor_core.proofs.system.System.type_program.Goals as goal
 
 pub invariant_of-self : goal.invariant_of-self
 invariant_of-self g c =
     let m = c.args.self.now in
     let tops = same_tops m.jobs.items m.jobs.items refl in
-    let keep = subst (λ (x : PlainTree). Keep m.tree.forks x.forks) (sym c.wake.ensures.tree) (readers_keep m.tree.forks c.wake.ensures.was.slotted.own c.args.t) in
+    let keep = subst (λ (x : PlainTree). Keep m.tree.forks x.forks) (sym c.wake-may.ensures.tree) (readers_keep m.tree.forks c.wake-may.ensures.was.slotted.own c.args.t) in
     record {
-      sound = sound_kept g.P.Pages.means m.pages m.pages m.tree c.wake.new.tree m.jobs.items m.sound m.jobs.items tops c.wake.ensures.was c.wake.ensures.is keep refl refl;
+      sound = sound_kept g.P.Pages.means m.pages m.pages m.tree c.wake-may.new.tree m.jobs.items m.sound m.jobs.items tops c.wake-may.ensures.was c.wake-may.ensures.is keep refl refl;
       unheld = m.unheld;
       typing_room = length-set m.typed.items c.args.t.0 _ ∙ m.typing_room;
     }
@@ -34,8 +34,9 @@ returns-in-Stored-clause-has g c =
     let t = c.args.t in
     let code = read_as c.args.c in
     let at = c.index_mut.ensures.value ∙ stands m.typed.items t.0 c.index_mut.result.now new_typing (low_typed m m t c.args.job c.requires.job) in
-    has_kept m _ t c.args.job c.requires.job c.wake.ensures.was refl refl refl _ refl refl c.read_as.result code _ c.read_as.ensures (c.in-Stored.ensures.fate ∙ ap (λ (y : Typing). fate_of y.input code) at)
-    (λ i. record (at i) { input = (c.in-Stored.ensures.line ∙ ap (λ (y : Typing). left_by y.input code Stored) at) i }) c.wake.ensures.tree
+    has_shown m _ _ t c.wake-may.result c.read_as.result c.stored.result c.stored.ensures
+    (has_kept m _ t c.args.job c.requires.job c.wake-may.ensures.was refl refl refl _ refl refl c.read_as.result code _ c.read_as.ensures (c.in-Stored.ensures.fate ∙ ap (λ (y : Typing). fate_of y.input code) at)
+    (λ i. record (at i) { input = (c.in-Stored.ensures.line ∙ ap (λ (y : Typing). left_by y.input code Stored) at) i }) c.wake-may.ensures.tree)
 
 pub returns-in-ControlC-clause-has : goal.returns-in-ControlC-clause-has
 returns-in-ControlC-clause-has g c =
@@ -58,4 +59,7 @@ returns-in-Posts-clause-has g c =
     (has_from m _ c.post_typed.new.self t c.args.job (λ s j. posted_at s c.in-Posts.fork c.in-Posts.channel) (echo_items t c.post_typed.result) refl refl refl refl typed refl (c.post_typed.ensures.has t))
 
 pub returns-in-Stored-clause-others : goal.returns-in-Stored-clause-others
-returns-in-Stored-clause-others g c = readers_stay c.args.self.now.tree c.wake.new.tree c.wake.ensures.was c.args.t c.wake.ensures.tree
+returns-in-Stored-clause-others g c =
+    let tree = c.args.self.now.tree in
+    stored_reaches c.args.t c.wake-may.result c.read_as.result c.stored.result c.stored.ensures tree.forks c.wake-may.new.tree.forks (λ no. ap (λ (x : PlainTree). x.forks) (c.wake-may.ensures.none no))
+    (readers_stay tree c.wake-may.new.tree c.wake-may.ensures.was c.args.t c.wake-may.ensures.tree)
