@@ -8,13 +8,13 @@ use Rattle.machine_names.specs.declared.names.TheConstants.{MOST_FORKS, TERMINAL
 use Rattle.plain_model.specs.Forks.{ForkMap, IsRunnable, runs_in}
 use Rattle.fork_tree.specs.Trees.{AreSlotted}
 use Rattle.fork_tree.proofs.Slots.{held_lives, some_of}
-use Rattle.job_sched.specs.Lines.{Nears, is_in_line}
+use Rattle.job_sched.specs.Lines.{is_in_line}
 use Rattle.job_sched.specs.Schedules.{stands}
 use Rattle.job_sched.specs.Ties.{IsFilled, IsSound}
-use Rattle.job_sched.proofs.Lines.{joins}
 use Rattle.fork_lists.specs.declared.lists.ForkLists.{ForkLists}
 use Rattle.fork_lists.specs.Seeing.{job_slots, seen_in, was_seen}
-use Rattle.fork_lists.specs.Ties.{CanFollow, CanFollowAll, Follows, FollowsAll, IsTiedAt, Living}
+use Rattle.fork_lists.specs.Ties.{CanFollow, CanFollowAll, ComesOn, Follows, FollowsAll, IsTiedAt, Living}
+use Rattle.fork_lists.proofs.Nearing.{on_still, on_then}
 use Rattle.fork_lists.proofs.Tied.{runs_lives, same_seen, some_is}
 
 -- the jobs of the terminals below one are followed, and the others are as they were
@@ -25,7 +25,7 @@ pub record FollowedTo (forks : ForkMap) (old now : ForkLists) (n : ℕ) : Type 0
   pub living : Living forks now.sched
   pub filled : IsFilled old.sched → IsFilled now.sched
   pub calm : old.sched.waiting ≡ [] → now.sched.waiting ≡ []
-  pub nears : (f : ForkName) → IsRunnable forks f → is_in_line f old.sched ≡ true → Nears f old.sched now.sched 0
+  pub comes_on : (f : ForkName) → IsRunnable forks f → is_in_line f old.sched ≡ true → ComesOn f old.sched now.sched
 
 module _ (forks : ForkMap) (old : ForkLists) where
   pub none_done : IsSound old.sched → Living forks old.sched → FollowedTo forks old old 0
@@ -36,7 +36,7 @@ module _ (forks : ForkMap) (old : ForkLists) where
     living = living;
     filled = λ is. is;
     calm = λ is. is;
-    nears = λ f runs here. record { timed = sound.timed; here = here; nearer = omega arith };
+    comes_on = λ f runs here. on_still f old.sched sound.timed here;
   }
 
   pub can_each : (now : ForkLists) (n : ℕ) → n < TERMINALS → CanFollowAll forks old → FollowedTo forks old now n → CanFollow forks now (record { 0 = n })
@@ -50,8 +50,8 @@ module _ (forks : ForkMap) (old : ForkLists) where
   }
 
   pub all_more : AreSlotted forks → (now next : ForkLists) (n : ℕ) → n < TERMINALS → FollowedTo forks old now n → Follows forks (record { 0 = n }) now next
-      → ((f : ForkName) → IsRunnable forks f → is_in_line f now.sched ≡ true → Nears f now.sched next.sched 0) → FollowedTo forks old next (n + 1)
-  all_more slotted now next n low i more nears = record {
+      → ((f : ForkName) → IsRunnable forks f → is_in_line f now.sched ≡ true → ComesOn f now.sched next.sched) → FollowedTo forks old next (n + 1)
+  all_more slotted now next n low i more comes_on = record {
     tied = λ t below. elim (cases_eq t.0 n) [
       | inl here ↦ subst (IsTiedAt forks next) (sym (let job : t ≡ record { 0 = n } = λ k. record { 0 = here k } in job)) more.mine
       | inr other ↦
@@ -69,7 +69,7 @@ module _ (forks : ForkMap) (old : ForkLists) where
     ];
     filled = λ is. more.filled (i.filled is);
     calm = λ is. more.calm (i.calm is);
-    nears = λ f runs here. let a = i.nears f runs here in joins f old.sched now.sched next.sched 0 0 a (nears f runs a.here);
+    comes_on = λ f runs here. let a = i.comes_on f runs here in on_then f old.sched now.sched next.sched a (comes_on f runs a.nears.here);
   }
 
   -- a fork of no terminal neither lives nor stands

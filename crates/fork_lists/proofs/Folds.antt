@@ -14,7 +14,7 @@ use Rattle.job_sched.specs.Ties.{IsFilled}
 use Rattle.job_sched.proofs.Ties.{filled, stands_admitted, stands_left, stands_woken}
 use Rattle.fork_lists.specs.declared.seen.Seen.{Seen}
 use Rattle.fork_lists.specs.Following.{lost_stopped, picks_started, started_if, stopped_if}
-use Rattle.fork_lists.specs.Seeing.{is_seen, job_slots, seen_in, was_seen}
+use Rattle.fork_lists.specs.Seeing.{has_waited, is_seen, job_slots, seen_in, was_seen}
 
 pub stands_stopped : (f g : ForkName) (s : Schedule) → stands g (stopped s f) ≡ (stands g s && not (same_fork f g))
 stands_stopped f g s = stands_admitted g (left s f) ∙ stands_left f g s
@@ -224,6 +224,19 @@ module _ (forks : ForkMap) where
       pub picks_filled : (slots : List ℕ) (s : Schedule) → IsFilled s → IsFilled (picks_started forks picks t s slots)
       picks_filled [] s is = is
       picks_filled (slot ∷ slots) s is = picks_filled slots (started_if forks (picks slot) (fork_in forks t slot) s) (start_filled (picks slot) (fork_in forks t slot) s is)
+
+  -- where nobody was seen to wait, nobody is started who was
+  module _ (seen : List Seen) (t : Tty) where
+    none_there : (slot : ℕ) (o : Option Fork) (s : Schedule) → (seen_in seen t slot).waits ≡ false → s ≡ started_if forks (has_waited seen t slot) o s
+    none_there slot None s none = refl
+    none_there slot (Some f) s none =
+        sym (ap (λ b. cond ((b && is_seen f.name (seen_in seen t slot)) && runs_in forks f.name) (started s f.name) s) none)
+
+    pub none_waited : (slots : List ℕ) (s : Schedule) → list_any (λ slot. (seen_in seen t slot).waits) slots ≡ false → s ≡ picks_started forks (has_waited seen t) t s slots
+    none_waited [] s none = refl
+    none_waited (slot ∷ slots) s none =
+        let parts = or_parts (seen_in seen t slot).waits (list_any (λ k. (seen_in seen t k).waits) slots) none in
+        none_waited slots s parts.1 ∙ ap (λ (u : Schedule). picks_started forks (has_waited seen t) t u slots) (none_there slot (fork_in forks t slot) s parts.0)
 
 -- the slots from one on
 abbrev pub slots_from : ℕ → List ℕ

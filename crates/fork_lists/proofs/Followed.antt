@@ -6,13 +6,13 @@ use Rattle.machine_names.specs.declared.names.Tty.{Tty}
 use Rattle.machine_names.specs.declared.names.TheConstants.{MOST_FORKS}
 use Rattle.plain_model.specs.Forks.{ForkMap, IsRunnable, fork_in}
 use Rattle.fork_tree.specs.Trees.{AreSlotted}
-use Rattle.job_sched.specs.Lines.{Nears, is_in_line}
+use Rattle.job_sched.specs.Lines.{is_in_line}
 use Rattle.job_sched.specs.Schedules.{Schedule, stands}
 use Rattle.job_sched.specs.Ties.{IsFilled, IsSound}
 use Rattle.fork_lists.specs.declared.lists.ForkLists.{ForkLists}
 use Rattle.fork_lists.specs.Following.{followed, lost_stopped, picks_started}
 use Rattle.fork_lists.specs.Seeing.{has_waited, job_slots, seen_in, seen_of}
-use Rattle.fork_lists.specs.Ties.{CanFollow, Follows}
+use Rattle.fork_lists.specs.Ties.{CanFollow, ComesOn, Follows}
 use Rattle.fork_lists.proofs.Folds.{lost_filled, picks_filled}
 use Rattle.fork_lists.proofs.Nearing.{followed_calm, followed_nears}
 use Rattle.fork_lists.proofs.Tied.{mine_listed, others_listed}
@@ -34,5 +34,5 @@ module _ (forks : ForkMap) (slotted : AreSlotted forks) (l m : ForkLists) (t : T
     calm = λ is. ap (λ (s : Schedule). s.waiting) sched ∙ followed_calm forks t l.seen.items job_slots l.sched (has_waited l.seen.items t) (λ k f. not (has_waited l.seen.items t k f)) is;
   }
 
-  pub nears_all : IsSound l.sched → (f : ForkName) → IsRunnable forks f → is_in_line f l.sched ≡ true → Nears f l.sched m.sched 0
-  nears_all sound f runs here = subst (λ (s : Schedule). Nears f l.sched s 0) (sym sched) (followed_nears forks f runs l.seen.items t job_slots l.sched (has_waited l.seen.items t) (λ k g. not (has_waited l.seen.items t k g)) sound.timed here)
+  pub come_on : IsSound l.sched → (f : ForkName) → IsRunnable forks f → is_in_line f l.sched ≡ true → ComesOn f l.sched m.sched
+  come_on sound f runs here = subst (ComesOn f l.sched) (sym sched) (followed_nears forks f runs l.seen.items t job_slots l.sched (has_waited l.seen.items t) (λ k g. not (has_waited l.seen.items t k g)) sound.timed here)

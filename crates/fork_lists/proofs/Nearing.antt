@@ -1,37 +1,88 @@
 -- A fork in line goes no farther back while the lists follow others.
-use Rattle.std.proofs.Common.{◌≡◌, ℕ, Bool, true, false, ◌&&◌, ◌||◌, not, List, [], ◌∷◌, ◌++◌, Option, None, Some, refl, sym, ◌∙◌, ap, arith, filter}
-use Rattle.std.proofs.lemmas.Bool.{cond_both}
+use Rattle.std.proofs.Common.{◌≡◌, ℕ, ◌<◌, Bool, true, false, ◌&&◌, ◌||◌, not, List, [], ◌∷◌, ◌++◌, length, slice_get, Option, None, Some, inl, inr, refl, sym, ◌∙◌, ap, arith, filter}
+use Rattle.std.proofs.lemmas.Bool.{cases_Bool, cond_both}
 use Rattle.std.specs.List.{list_any}
+use Rattle.std.specs.Option.{option_map_or}
 use Rattle.machine_names.specs.declared.names.ForkName.{ForkName}
 use Rattle.machine_names.specs.declared.names.Tty.{Tty}
 use Rattle.plain_model.specs.declared.fork.Fork.{Fork}
 use Rattle.plain_model.specs.Forks.{ForkMap, fork_in, runs_in}
-use Rattle.job_sched.specs.Lines.{Nears, is_in_line}
-use Rattle.job_sched.specs.Schedules.{Schedule, is_outside, is_ready, is_waiter, stands, started, stopped}
+use Rattle.machine_names.specs.Orders.{same_fork}
+use Rattle.job_sched.specs.declared.member.Member.{Member}
+use Rattle.job_sched.specs.Lines.{is_in_line}
+use Rattle.job_sched.specs.Schedules.{Schedule, heads, is_member, is_outside, is_ready, is_waiter, stands, started, stopped}
 use Rattle.job_sched.specs.Units.{IsTimed}
-use Rattle.job_sched.proofs.Lines.{joins, starts, stops}
+use Rattle.job_sched.proofs.Heads.{starts as head_starts, stops as head_stops}
+use Rattle.job_sched.proofs.Lines.{gives, joins, starts, stops}
 use Rattle.fork_lists.specs.declared.seen.Seen.{Seen}
 use Rattle.fork_lists.specs.Following.{lost_stopped, picks_started, started_if, stopped_if}
 use Rattle.fork_lists.specs.Seeing.{seen_in}
+use Rattle.fork_lists.specs.Ties.{ComesOn}
 use Rattle.fork_lists.proofs.Folds.{apart_from}
+
+-- the head is who was the head
+pub heads_as : (g : ForkName) (ms ns : List Member) → slice_get ns 0 ≡ slice_get ms 0 → heads g ns ≡ heads g ms
+heads_as g ms ns same = of g ns ∙ ap (λ (o : Option Member). option_map_or (is_member g) o false) same ∙ sym (of g ms)
+  where
+    of : (g : ForkName) (ms : List Member) → heads g ms ≡ option_map_or (is_member g) (slice_get ms 0) false
+    of g [] = refl
+    of g (m ∷ ms) = refl
+
+-- there is one
+pub headed : (g : ForkName) (ms : List Member) → heads g ms ≡ true → 0 < length ms
+headed g [] head = absurd (cc head)
+headed g (m ∷ ms) head = omega arith
+
+-- what stays can't have gone
+still_there : {A : Type 0} (g : ForkName) (s u : Schedule) → slice_get u.ready 0 ≡ slice_get s.ready 0 → heads g s.ready ≡ true → heads g u.ready ≡ false → A
+still_there g s u same head gone = absurd (let no : true ≡ false = sym head ∙ sym (heads_as g s.ready u.ready same) ∙ gone in cc no)
+
+-- nothing has changed
+pub on_still : (f : ForkName) (s : Schedule) → IsTimed s → is_in_line f s ≡ true → ComesOn f s s
+on_still f s timed here = record { nears = record { timed = timed; here = here; nearer = omega arith }; gives = λ g head gone. still_there g s s refl head gone }
+
+-- one change behind another
+pub on_then : (f : ForkName) (s u v : Schedule) → ComesOn f s u → ComesOn f u v → ComesOn f s v
+on_then f s u v a b = record {
+  nears = joins f s u v 0 0 a.nears b.nears;
+  gives = λ g head gone. elim (cases_Bool (heads g u.ready)) [
+    | inl still ↦ joins f s u v 0 1 a.nears (b.gives g still gone)
+    | inr lost ↦ joins f s u v 1 0 (a.gives g head lost) b.nears
+  ];
+}
 
 module _ (forks : ForkMap) (f : ForkName) (runs : runs_in forks f ≡ true) where
   abbrev Comes : Schedule → Schedule → Type 0
-  Comes s u = IsTimed s → is_in_line f s ≡ true → Nears f s u 0
+  Comes s u = IsTimed s → is_in_line f s ≡ true → ComesOn f s u
 
   as_it_is : (s : Schedule) → Comes s s
-  as_it_is s timed here = record { timed = timed; here = here; nearer = omega arith }
+  as_it_is s = on_still f s
 
   then_more : (s u v : Schedule) → Comes s u → Comes u v → Comes s v
-  then_more s u v first second timed here = let a = first timed here in joins f s u v 0 0 a (second a.timed a.here)
+  then_more s u v first second timed here = let a = first timed here in on_then f s u v a (second a.nears.timed a.nears.here)
 
-  stop_nears : (o : Option ForkName) (s : Schedule) → Comes s (stopped_if forks o s)
+  stop_one : (g : ForkName) (s : Schedule) → same_fork g f ≡ false → Comes s (stopped s g)
+  stop_one g s apart timed here = record {
+    nears = stops f g s timed here apart;
+    gives = λ h head gone. elim (cases_Bool (heads g s.ready)) [
+      | inl is ↦ gives f g s timed here apart is
+      | inr other ↦ still_there h s (stopped s g) (head_stops s g (headed h s.ready head) other).0 head gone
+    ];
+  }
+
+  start_one : (g : ForkName) (s : Schedule) → Comes s (started s g)
+  start_one g s timed here = record {
+    nears = starts f g s timed here;
+    gives = λ h head gone. still_there h s (started s g) (head_starts s g (headed h s.ready head)).0 head gone;
+  }
+
+  pub stop_nears : (o : Option ForkName) (s : Schedule) → Comes s (stopped_if forks o s)
   stop_nears None s = as_it_is s
-  stop_nears (Some g) s = cond_both (runs_in forks g) s (stopped s g) (Comes s) (λ can. as_it_is s) (λ lost timed here. stops f g s timed here (apart_from forks g f lost runs))
+  stop_nears (Some g) s = cond_both (runs_in forks g) s (stopped s g) (Comes s) (λ can. as_it_is s) (λ lost. stop_one g s (apart_from forks g f lost runs))
 
   start_nears : (picks : ForkName → Bool) (o : Option Fork) (s : Schedule) → Comes s (started_if forks picks o s)
   start_nears picks None s = as_it_is s
-  start_nears picks (Some g) s = cond_both (picks g.name && runs_in forks g.name) (started s g.name) s (Comes s) (λ can timed here. starts f g.name s timed here) (λ none. as_it_is s)
+  start_nears picks (Some g) s = cond_both (picks g.name && runs_in forks g.name) (started s g.name) s (Comes s) (λ can. start_one g.name s) (λ none. as_it_is s)
 
   lost_nears : (seen : List Seen) (t : Tty) (slots : List ℕ) (s : Schedule) → Comes s (lost_stopped forks seen t s slots)
   lost_nears seen t [] s = as_it_is s

@@ -5,7 +5,8 @@ use Rattle.machine_names.specs.declared.names.ForkName.{ForkName}
 use Rattle.machine_names.specs.declared.names.Tty.{Tty}
 use Rattle.machine_names.specs.declared.names.TheConstants.{MOST_FORKS, TERMINALS}
 use Rattle.plain_model.specs.Forks.{ForkMap, fork_in, runs_in}
-use Rattle.job_sched.specs.Schedules.{Schedule, stands}
+use Rattle.job_sched.specs.Lines.{Nears}
+use Rattle.job_sched.specs.Schedules.{Schedule, heads, stands}
 use Rattle.job_sched.specs.Ties.{IsFilled}
 use Rattle.fork_lists.specs.Seeing.{job_slots, seen_in, seen_of, was_seen}
 use Rattle.fork_lists.specs.declared.lists.ForkLists.{ForkLists}
@@ -57,3 +58,8 @@ pub record FollowsAll (forks : ForkMap) (old new : ForkLists) : Type 0 where
   pub each : (t : Tty) → IsTiedAt forks new t
   pub filled : IsFilled old.sched → IsFilled new.sched
   pub calm : old.sched.waiting ≡ [] → new.sched.waiting ≡ []
+
+-- a fork in line has come no farther back, and closer where the head has lost its place
+pub record ComesOn (f : ForkName) (old new : Schedule) : Type 0 where
+  pub nears : Nears f old new 0
+  pub gives : (g : ForkName) → heads g old.ready ≡ true → heads g new.ready ≡ false → Nears f old new 1

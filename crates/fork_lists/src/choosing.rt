@@ -1,11 +1,12 @@
 // Whose turn is next, and for how long.
-ghost use Rattle.std.specs.Prelude.{◌≡◌, ◌*◌, ◌<◌, ◌≤◌, IfOk, MatchOption, length, replicate, true};
+ghost use Rattle.std.specs.Prelude.{◌≡◌, ◌-◌, ◌*◌, ◌<◌, ◌≤◌, IfOk, MatchOption, length, min, replicate, true};
 ghost use Rattle.std.specs.FinMap as map;
 ghost use Rattle.machine_names.specs.declared.names.ForkName.{ForkName as AForkName};
 ghost use Rattle.plain_model.specs.Forks.{ForkMap, IsRunnable};
 ghost use Rattle.job_sched.specs.Schedules.{heads};
 ghost use Rattle.job_sched.specs.Ties.{IsSound};
-ghost use Rattle.job_sched.specs.Units.{IsRow, row_ran};
+ghost use Rattle.job_sched.specs.declared.sched.TheConstants.{QUANTUM};
+ghost use Rattle.job_sched.specs.Units.{IsAlone, IsRow, row_ran};
 ghost use Rattle.machine_names.specs.declared.names.TheConstants.{MOST_FORKS, TERMINALS};
 ghost use Rattle.fork_lists.specs.Seeing.{nobody};
 ghost use Rattle.fork_lists.specs.Ties.{AreTied};
@@ -70,6 +71,8 @@ impl ForkLists {
     pub fn most_in_row(&self, left: u32) -> u32
         requires head { 0 < length self.now.sched.ready }
         requires some { 1 ≤ left }
+        ensures alone { IsAlone self.now.sched → result ≡ left }
+        ensures quantum { (IsAlone self.now.sched → ⊥) → result ≡ min left (QUANTUM - self.now.sched.used) }
         ensures row { IsRow result self.now.sched }
         ensures most { result ≤ left }
         ensures some { 1 ≤ result }

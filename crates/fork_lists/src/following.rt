@@ -1,15 +1,16 @@
 // The lists follow what the forks of a job have come to.
 ghost use Rattle.std.specs.Prelude.{Some, ◌≡◌, ◌≢◌, ◌≤◌, ◌&&◌, ℕ, slice_set, true};
+ghost use Rattle.std.specs.List.{list_any};
 ghost use Rattle.machine_names.specs.Bounds.{IsForkName, IsTerminal};
 ghost use Rattle.machine_names.specs.declared.names.ForkName.{ForkName as AForkName};
 ghost use Rattle.machine_names.specs.declared.names.Tty.{Tty as ATty};
 ghost use Rattle.machine_names.specs.declared.names.TheConstants.{MOST_FORKS};
 ghost use Rattle.plain_model.specs.Forks.{IsRunnable, fork_in, runs_in};
-ghost use Rattle.job_sched.specs.Lines.{Nears, is_in_line};
+ghost use Rattle.job_sched.specs.Lines.{is_in_line};
 ghost use Rattle.fork_lists.specs.Seeing.{place_at};
 ghost use Rattle.fork_lists.specs.Following.{followed, lost_stopped, picks_started, started_if, stopped_if};
-ghost use Rattle.fork_lists.specs.Seeing.{job_slots, seen_in, seen_of as seen_of_fork, SeenElsewhere};
-ghost use Rattle.fork_lists.specs.Ties.{CanFollow, CanFollowAll, Follows, FollowsAll, Living};
+ghost use Rattle.fork_lists.specs.Seeing.{has_waited, job_slots, seen_in, seen_of as seen_of_fork, SeenElsewhere};
+ghost use Rattle.fork_lists.specs.Ties.{CanFollow, CanFollowAll, ComesOn, Follows, FollowsAll, Living};
 ghost use Rattle.fork_lists.specs.Choices.{picked};
 
 use crate::lists::ForkLists;
@@ -93,7 +94,7 @@ impl ForkLists {
         requires last { slot ≤ MOST_FORKS }
         ensures { result ≡ (picked self.now.seen.items t choice slot name && runs_in tree.now.forks name) }
     {
-        tree.runnable(name) && self.is_picked(t, choice, slot, name)
+        self.is_picked(t, choice, slot, name) && tree.runnable(name)
     }
 
     // The fork in a slot starts, where it is of a choice and can run now.
@@ -129,6 +130,32 @@ impl ForkLists {
         }
     }
 
+    // Whether a fork was seen in a job to wait for one.
+    fn has_waiters(&self, t: Tty) -> bool
+        requires { IsTerminal t }
+        ensures { result ≡ list_any (λ slot. (seen_in self.now.seen.items t slot).waits) job_slots }
+    {
+        for slot in 1..=MOST_FORKS {
+            if self.seen_in(t, slot).waits {
+                return true;
+            }
+        }
+        false
+    }
+
+    // Each fork of a job starts that was seen to wait for one and can run now, by slot. Where none was, no fork is looked at.
+    fn start_waiters(&mut self, tree: &Tree, t: Tty)
+        requires terminal { IsTerminal t }
+        requires living { Living tree.now.forks self.old.sched }
+        ensures schedule { self.new.sched ≡ picks_started tree.now.forks (has_waited self.old.seen.items t) t self.old.sched job_slots }
+        ensures living { Living tree.now.forks self.new.sched }
+        ensures seen { self.new.seen ≡ self.old.seen }
+    {
+        if self.has_waiters(t) {
+            self.start_all(tree, t, Choice::Waiters);
+        }
+    }
+
     // A slot of a job is seen as it is.
     fn note(&mut self, tree: &Tree, t: Tty, slot: u8)
         requires terminal { IsTerminal t }
@@ -155,18 +182,18 @@ impl ForkLists {
 
     /// The lists follow what the forks of a job have come to (CACM paper, "Scheduling"): who was seen there and can't run any more leaves them,
     /// and the set is filled; then whoever can run and stands in none is put last outside, those first that were seen to wait for a
-    /// fork. Each by slot. Other jobs' forks stay where they stand. Each slot of the job is looked at four times.
+    /// fork. Each by slot. Other jobs' forks stay where they stand. Each slot of the job is looked at four times, five where a fork was seen to wait for one.
     pub fn follow(&mut self, tree: &Tree, t: Tty)
         requires terminal { IsTerminal t }
         requires can { CanFollow tree.now.forks self.old t }
         ensures schedule { self.new.sched ≡ followed tree.now.forks self.old.seen.items t self.old.sched }
         ensures follows { Follows tree.now.forks t self.old self.new }
-        ensures nears { (f : AForkName) → IsRunnable tree.now.forks f → is_in_line f self.old.sched ≡ true → Nears f self.old.sched self.new.sched 0 }
+        ensures comes_on { (f : AForkName) → IsRunnable tree.now.forks f → is_in_line f self.old.sched ≡ true → ComesOn f self.old.sched self.new.sched }
     {
         tree.are_trees();
         self.sched.sound();
         self.stop_all(tree, t);
-        self.start_all(tree, t, Choice::Waiters);
+        self.start_waiters(tree, t);
         self.start_all(tree, t, Choice::Others);
         self.note_all(tree, t);
     }
@@ -180,7 +207,9 @@ impl ForkLists {
         ensures schedule { self.new.sched ≡ stopped_if tree.now.forks (Some who) self.old.sched }
         ensures mine { seen_in self.new.seen.items who.tty slot ≡ seen_of_fork (fork_in tree.now.forks who.tty slot) }
         ensures others { SeenElsewhere self.old.seen.items self.new.seen.items who.tty slot }
+        ensures comes_on { (f : AForkName) → IsRunnable tree.now.forks f → is_in_line f self.old.sched ≡ true → ComesOn f self.old.sched self.new.sched }
     {
+        self.sched.sound();
         if !tree.runnable(who) {
             self.sched.stop(who);
         }
@@ -191,7 +220,7 @@ impl ForkLists {
     pub fn follow_all(&mut self, tree: &Tree)
         requires can { CanFollowAll tree.now.forks self.old }
         ensures follows { FollowsAll tree.now.forks self.old self.new }
-        ensures nears { (f : AForkName) → IsRunnable tree.now.forks f → is_in_line f self.old.sched ≡ true → Nears f self.old.sched self.new.sched 0 }
+        ensures comes_on { (f : AForkName) → IsRunnable tree.now.forks f → is_in_line f self.old.sched ≡ true → ComesOn f self.old.sched self.new.sched }
     {
         tree.are_trees();
         self.sched.sound();

@@ -1,5 +1,5 @@
 // The schedule.
-ghost use Rattle.std.specs.Prelude.{◌≡◌, ℕ, ◌+◌, ◌-◌, ◌*◌, ◌/◌, ◌<◌, ◌≤◌, ◌↔◌, ◌==◌, ◌⊎◌, List, [], ◌∷◌, length, map, slice_get, Bool, true, false, Some, None, IfOk, IsTrue, MatchOption, if◌then◌else◌};
+ghost use Rattle.std.specs.Prelude.{◌≡◌, ℕ, ◌+◌, ◌-◌, ◌*◌, ◌/◌, ◌<◌, ◌≤◌, ◌↔◌, ◌==◌, ◌⊎◌, List, [], ◌∷◌, length, map, slice_get, Bool, true, false, Some, None, IfOk, IsTrue, MatchOption, if◌then◌else◌, min};
 ghost use Rattle.std.specs.Option.{option_map};
 ghost use Rattle.std.specs.List.{find};
 ghost use Rattle.machine_names.specs.declared.names.ForkName.{ForkName as AForkName};
@@ -240,6 +240,8 @@ impl Sched {
     /// that are left of its quantum at most.
     pub fn most_in_row(&self, left: u32) -> u32
         requires { 0 < length self.now.ready }
+        ensures alone { IsAlone self.now → result ≡ left }
+        ensures quantum { (IsAlone self.now → ⊥) → result ≡ min left (QUANTUM - self.now.used) }
         ensures row { IsRow result self.now }
         ensures most { result ≤ left }
         ensures some { 1 ≤ left → 1 ≤ result }

@@ -9,7 +9,7 @@ pub follow-requires-clause-can : goal.follow-requires-clause-can
 follow-requires-clause-can c = can_each c.args.tree.now.forks c.args.self.now c.loop-t.self c.loop-t.t c.loop-t-test.true c.requires.can c.loop-t.invariant
 
 pub loop-t-preserved : goal.loop-t-preserved
-loop-t-preserved c = all_more c.args.tree.now.forks c.args.self.now c.are_trees.ensures.slotted c.loop-t.self c.follow.new.self c.loop-t.t c.loop-t-test.true c.loop-t.invariant c.follow.ensures.follows c.follow.ensures.nears
+loop-t-preserved c = all_more c.args.tree.now.forks c.args.self.now c.are_trees.ensures.slotted c.loop-t.self c.follow.new.self c.loop-t.t c.loop-t-test.true c.loop-t.invariant c.follow.ensures.follows c.follow.ensures.comes_on
 
 pub returns-clause-follows : goal.returns-clause-follows
 returns-clause-follows c = all_done c.args.tree.now.forks c.args.self.now c.are_trees.ensures.slotted c.loop-t.self c.loop-t.t (omega arith) c.loop-t.invariant

@@ -1,9 +1,10 @@
-use Rattle.std.proofs.Common.{◌∙◌, ap}
+use Rattle.std.proofs.Common.{Some, refl, sym, ◌∙◌, ap, subst}
 use Rattle.fork_lists.specs.declared.lists.ForkLists.{ForkLists}
+use Rattle.fork_lists.specs.Ties.{ComesOn}
 use Rattle.fork_lists.proofs.Folds.{cannot_run, does_run, runs_on, stops_lost}
+use Rattle.fork_lists.proofs.Nearing.{stop_nears}
 use Rattle.fork_lists.proofs.lists.ForkLists.follow_slot.Goals as goal
 use Rattle.fork_lists.proofs.lists.ForkLists.follow_slot.Goals.{then-not-runnable, else-not-runnable}
-use Rattle.std.proofs.Common.{Some, refl, sym}
 
 pub returns-clause-schedule : goal.returns-clause-schedule
 returns-clause-schedule c =
@@ -16,3 +17,7 @@ returns-clause-schedule c =
           ap (λ (l : ForkLists). l.sched) w.self-is
           ∙ runs_on forks c.args.who c.args.self.now.sched (sym (does_run forks c.args.who c.runnable.result c.runnable.ensures) ∙ w.if-not-runnable.false)
     ]
+
+pub returns-clause-comes_on : goal.returns-clause-comes_on
+returns-clause-comes_on c f runs here =
+    subst (ComesOn f c.args.self.now.sched) (sym (returns-clause-schedule c)) (stop_nears c.args.tree.now.forks f runs (Some c.args.who) c.args.self.now.sched c.sound.ensures.timed here)
