@@ -4,7 +4,7 @@ use Rattle.std.specs.Prelude.{IsSome, slice_get, slice_set, slice_index_or}
 use Rattle.std.specs.Option.{option_map, option_map_or, option_and_then}
 use Rattle.std.proofs.lemmas.Bool.{cases_eq, cases_lt}
 use Rattle.std.proofs.lemmas.Bool.Decides.{eqb_tells}
-use Rattle.std.proofs.lemmas.List.{get_or-set_same, get_or-set_other, get_or-replicate, get_or-map, get_or_past, length-set, length-map, length-replicate, take_more, take_more_set, take_all}
+use Rattle.std.proofs.lemmas.List.{get_or-set_same, get_or-set_other, get_or-replicate, get_or-map, get_or_past, get_or_read, length-set, length-map, length-replicate, take_more, take_more_set, take_all}
 use Rattle.std.proofs.lemmas.Option.{slice_get_within, slice_get-get_or, get_or_from_slice_get}
 use Rattle.machine_names.specs.declared.names.Access.{Access}
 use Rattle.machine_names.specs.declared.names.ForkName.{ForkName}
@@ -262,7 +262,14 @@ passing_is k (Follows l a) u h = elim (eqb_tells (l.map / MOST_FORKS) (k / MOST_
   | inr t ↦ absurd (let z : false ≡ true = sym (ap (λ b. slice_index_or (cond b (uses_of a) no_uses) (use_number u) false) t.0 ∙ no_use u) ∙ h in cc z)
 ]
 
-module _ (maps : List HeldMap) (looks : List (List Look)) (keys : List ℕ) (k : AreLooked maps looks keys) (held : AreHeld maps) where
+-- an entry from which the walk goes on at the next, that of a living fork's map
+pub record PassesOn (maps : List HeldMap) (looks : List (List Look)) (u : Use) (at next : EntryAt) : Type 0 where
+  pub lives : IsSome (fork_at maps next.map)
+  pub page : next.page < SPACE_PAGES
+  pub row : next.map < length looks
+  pub rest : (most : ℕ) → most ≢ 0 → option_and_then (ready_home u) (walk_within most maps at) ≡ option_and_then (ready_home u) (walk_within (most - 1) maps next)
+
+module _ {maps : List HeldMap} {looks : List (List Look)} {keys : List ℕ} (k : AreLooked maps looks keys) (held : AreHeld maps) where
   -- a map that is a fork's, of a terminal that its number tells
   terminal_is : (j : ℕ) (f : ForkName) → fork_at maps j ≡ Some f → f.tty.0 ≡ j / MOST_FORKS
   terminal_is j f is = omega (arith, held.from j f is, held.below j f is)
@@ -289,10 +296,10 @@ module _ (maps : List HeldMap) (looks : List (List Look)) (keys : List ℕ) (k :
     is_f : fork_at maps at.map ≡ Some f
     is_f = own.1
 
-    pub map_there : at.map < length maps
+    map_there : at.map < length maps
     map_there = fork_within maps at.map f is_f
 
-    pub looks_there : at.map < length looks
+    looks_there : at.map < length looks
     looks_there = omega (arith, k.rows, map_there)
 
     abbrev e : HeldEntry
@@ -301,72 +308,76 @@ module _ (maps : List HeldMap) (looks : List (List Look)) (keys : List ℕ) (k :
     there : held_entry maps at ≡ Some e
     there = slice_get-get_or (map_at maps at.map).entries at.page Empty (omega (arith, inside, held.pages at.map map_there))
 
-    beside : look_at looks at ≡ look_of at.map e
-    beside = k.each at e there
-
-    -- where it is ready, the walk ends there
-    pub ready_here : (u : Use) (most : ℕ) → most ≢ 0 → slice_index_or (look_at looks at).ready (use_number u) false ≡ true
-        → option_and_then (ready_home u) (walk_within most maps at) ≡ Some (record { 0 = (look_at looks at).number })
-    ready_here u most some h =
-        let r = ready_is at.map e u (ap (λ (l : Look). slice_index_or l.ready (use_number u) false) (sym beside) ∙ h) in
-        let home : Home = record { 0 = (look_of at.map e).number } in
-        ap (option_and_then (ready_home u)) (walk_here most maps at (Page home r.access) some (there ∙ ap Some r.is))
-        ∙ ready_end u at r.access (Some home) ∙ ap (λ b. cond b (Some home) None) r.may ∙ ap (λ (l : Look). Some (record { 0 = l.number })) (sym beside)
-
-    -- where it passes, the map that it names is there
-    module _ (u : Use) (h : slice_index_or (look_at looks at).passes (use_number u) false ≡ true) where
-      p : IsPassing at.map e u (look_of at.map e)
-      p = passing_is at.map e u (ap (λ (l : Look). slice_index_or l.passes (use_number u) false) (sym beside) ∙ h)
-
+    -- it is read from the row of the map, and asked about a use by the use's number
+    module _ {row : List Look} (read : row ≡ slice_index_or looks at.map row) (u : Use) {way : ℕ} (way_is : way ≡ use_number u) where
       abbrev l : Look
-      l = look_at looks at
+      l = slice_index_or row at.page past_look
 
-      map_is : l.map ≡ p.link.map
-      map_is = ap (λ (x : Look). x.map) beside ∙ p.map
+      beside : l ≡ look_of at.map e
+      beside = ap (λ (r : List Look). slice_index_or r at.page past_look) (get_or_read looks at.map row looks_there read []) ∙ k.each at e there
 
-      page_is : l.page ≡ p.link.page
-      page_is = ap (λ (x : Look). x.page) beside ∙ p.page
+      -- where it is ready, the walk ends there
+      pub ready_here : slice_index_or l.ready way false ≡ true → (most : ℕ) → most ≢ 0
+          → option_and_then (ready_home u) (walk_within most maps at) ≡ Some (record { 0 = l.number })
+      ready_here h most some =
+          let r = ready_is at.map e u (ap (λ (x : Look). slice_index_or x.ready (use_number u) false) (sym beside) ∙ ap (λ n. slice_index_or l.ready n false) (sym way_is) ∙ h) in
+          let home : Home = record { 0 = (look_of at.map e).number } in
+          ap (option_and_then (ready_home u)) (walk_here most maps at (Page home r.access) some (there ∙ ap Some r.is))
+          ∙ ready_end u at r.access (Some home) ∙ ap (λ b. cond b (Some home) None) r.may ∙ ap (λ (x : Look). Some (record { 0 = x.number })) (sym beside)
 
-      serial_is : l.number ≡ p.link.serial
-      serial_is = ap (λ (x : Look). x.number) beside ∙ p.serial
+      -- where it passes, the map that it names is there
+      module _ (h : slice_index_or l.passes way false ≡ true) where
+        p : IsPassing at.map e u (look_of at.map e)
+        p = passing_is at.map e u (ap (λ (x : Look). slice_index_or x.passes (use_number u) false) (sym beside) ∙ ap (λ n. slice_index_or l.passes n false) (sym way_is) ∙ h)
 
-      near : l.map / MOST_FORKS ≡ at.map / MOST_FORKS
-      near = ap (λ n. n / MOST_FORKS) map_is ∙ p.near
+        map_is : l.map ≡ p.link.map
+        map_is = ap (λ (x : Look). x.map) beside ∙ p.map
 
-      pub key_there : l.map < length keys
-      key_there = omega (arith, near, k.many, held.count, map_there)
+        page_is : l.page ≡ p.link.page
+        page_is = ap (λ (x : Look). x.page) beside ∙ p.page
 
-      follows : held_entry maps at ≡ Some (Follows p.link p.access)
-      follows = there ∙ ap Some p.is
+        serial_is : l.number ≡ p.link.serial
+        serial_is = ap (λ (x : Look). x.number) beside ∙ p.serial
 
-      pub page_there : l.page < SPACE_PAGES
-      page_there = omega (arith, page_is, held.links at p.link p.access follows)
+        near : l.map / MOST_FORKS ≡ at.map / MOST_FORKS
+        near = ap (λ n. n / MOST_FORKS) map_is ∙ p.near
 
-      -- and if its fork has the serial, the walk goes on there
-      module _ (small : l.number < 2 ^ 32) (key : key_at keys l.map ≡ l.number) where
-        g : (x : ForkName) × (fork_at maps l.map ≡ Some x) × (x.serial ≡ l.number)
-        g = keyed (fork_at maps l.map) l.number small (sym (k.forks l.map) ∙ key)
+        pub key_there : l.map < length keys
+        key_there = omega (arith, near, k.many, held.count, map_there)
 
-        pub next_lives_too : IsSome (fork_at maps l.map)
-        next_lives_too = ap is_some g.1
+        follows : held_entry maps at ≡ Some (Follows p.link p.access)
+        follows = there ∙ ap Some p.is
 
-        abbrev wanted : ForkName
-        wanted = record { tty = terminal_of maps at.map; serial = p.link.serial }
+        pub page_there : l.page < SPACE_PAGES
+        page_there = omega (arith, page_is, held.links at p.link p.access follows)
 
-        terminal : terminal_of maps at.map ≡ f.tty
-        terminal = ap (λ (o : Option ForkName). option_map_or (λ (x : ForkName). x.tty) o (record { 0 = 0 })) is_f
+        -- and if its fork has the serial, the walk goes on there
+        module _ (small : l.number < 2 ^ 32) {key : ℕ} (key_read : key ≡ slice_index_or keys l.map key) (same : key ≡ l.number) where
+          g : (x : ForkName) × (fork_at maps l.map ≡ Some x) × (x.serial ≡ l.number)
+          g = keyed (fork_at maps l.map) l.number small (sym (k.forks l.map) ∙ sym (get_or_read keys l.map key key_there key_read (2 ^ 64 - 1)) ∙ same)
 
-        same : g.0 ≡ wanted
-        same i = record { tty = (same_terminal l.map at.map g.0 f g.1 is_f near ∙ sym terminal) i; serial = (g.2 ∙ serial_is) i }
+          abbrev wanted : ForkName
+          wanted = record { tty = terminal_of maps at.map; serial = p.link.serial }
 
-        next_is : next_at maps at p.link ≡ Some (record { map = l.map; page = l.page })
-        next_is =
-            ap (option_map (λ n. record { map = n; page = p.link.page })) (index_is maps held.once wanted l.map (g.1 ∙ ap Some same))
-            ∙ ap (λ n. Some (record { map = l.map; page = n })) (sym page_is)
+          terminal : terminal_of maps at.map ≡ f.tty
+          terminal = ap (λ (o : Option ForkName). option_map_or (λ (x : ForkName). x.tty) o (record { 0 = 0 })) is_f
 
-        pub passes_on : (most : ℕ) → most ≢ 0 → option_and_then (ready_home u) (walk_within most maps at) ≡ option_and_then (ready_home u) (walk_within (most - 1) maps (record { map = l.map; page = l.page }))
-        passes_on most some =
-            ap (option_and_then (ready_home u)) (walk_here most maps at (Follows p.link p.access) some follows)
-            ∙ ready_behind u at p.access (option_and_then (walk_within (most - 1) maps) (next_at maps at p.link))
-            ∙ ap (λ b. cond b (option_and_then (ready_home u) (option_and_then (walk_within (most - 1) maps) (next_at maps at p.link))) None) p.may
-            ∙ ap (λ (o : Option EntryAt). option_and_then (ready_home u) (option_and_then (walk_within (most - 1) maps) o)) next_is
+          is_wanted : g.0 ≡ wanted
+          is_wanted i = record { tty = (same_terminal l.map at.map g.0 f g.1 is_f near ∙ sym terminal) i; serial = (g.2 ∙ serial_is) i }
+
+          next_is : next_at maps at p.link ≡ Some (record { map = l.map; page = l.page })
+          next_is =
+              ap (option_map (λ n. record { map = n; page = p.link.page })) (index_is maps held.once wanted l.map (g.1 ∙ ap Some is_wanted))
+              ∙ ap (λ n. Some (record { map = l.map; page = n })) (sym page_is)
+
+          pub passes_on : PassesOn maps looks u at (record { map = l.map; page = l.page })
+          passes_on = record {
+            lives = ap is_some g.1;
+            page = page_there;
+            row = omega (arith, k.rows, fork_within maps l.map g.0 g.1);
+            rest = λ most some.
+                ap (option_and_then (ready_home u)) (walk_here most maps at (Follows p.link p.access) some follows)
+                ∙ ready_behind u at p.access (option_and_then (walk_within (most - 1) maps) (next_at maps at p.link))
+                ∙ ap (λ b. cond b (option_and_then (ready_home u) (option_and_then (walk_within (most - 1) maps) (next_at maps at p.link))) None) p.may
+                ∙ ap (λ (o : Option EntryAt). option_and_then (ready_home u) (option_and_then (walk_within (most - 1) maps) o)) next_is;
+          }

@@ -123,7 +123,7 @@ fn row_of(number: u32, entries: &[HeldEntry; SPACE_PAGES]) -> [Look; SPACE_PAGES
 }
 
 impl KeptMaps {
-    ghost use Rattle.std.specs.Prelude.{◌≡◌, ◌<◌, ◌≤◌, ◌+◌, false, is_some, None, Some, IfOk, IsSome, length, replicate, slice_set};
+    ghost use Rattle.std.specs.Prelude.{◌≡◌, ◌<◌, ◌≤◌, ◌+◌, false, is_some, None, Some, IfOk, IfSome, IsSome, length, replicate, slice_set};
     ghost use Rattle.std.specs.Option.{option_and_then};
     ghost use Rattle.flat_pages.specs.HeldMaps.{AreHeld, map_at, fork_at, index_of, with_entry, followers};
     ghost use Rattle.flat_pages.specs.Walks.{walk, walk_within, ready_home};
@@ -233,11 +233,35 @@ impl KeptMaps {
         if look.ready[wanted.number()] {
             return Some(Home(look.number));
         }
+        if let Some(home) = self.home_behind(at, wanted) {
+            return Some(home);
+        }
         let code = self.code_along(at, wanted);
         if code > u64::from(u32::MAX) {
             return None;
         }
         Some(Home(code as u32))
+    }
+
+    // The same where the entry follows one that names a page, as most do that follow one. None also in a longer chain.
+    #[inline(always)]
+    fn home_behind(&self, at: EntryAt, wanted: Use) -> Option<Home>
+        requires held { AreHeld self.now.held.items }
+        requires lives { IsSome (fork_at self.now.held.items at.map) }
+        requires page { at.page < SPACE_PAGES }
+        ensures { IfSome result (λ h. option_and_then (ready_home wanted) (walk_within CHAIN self.now.held.items at) ≡ Some h) }
+    {
+        let way = wanted.number();
+        let look = &self.looks[at.map as usize][at.page as usize];
+        if !look.passes[way] || self.keys[look.map as usize] != u64::from(look.number) {
+            return None;
+        }
+        let behind = &self.looks[look.map as usize][look.page as usize];
+        if behind.ready[way] {
+            Some(Home(behind.number))
+        } else {
+            None
+        }
     }
 
     // The same along a chain, as a number, since an Option handed back from a call is tested a second time.
