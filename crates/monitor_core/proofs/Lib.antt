@@ -42,7 +42,10 @@ mod Logins
 mod EventDid
 mod BootDid
 mod Runnable
+mod PassedOver
+mod RowPassed
 mod StepDid
+mod TurnsPassed
 mod ForksShown
 mod HasDone
 mod CharacterDid

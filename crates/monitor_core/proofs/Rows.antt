@@ -1,12 +1,13 @@
 -- Units of a fork in a row, as entries of the plain machine.
-use Rattle.std.proofs.Common.{◌≡◌, ℕ, List, zero, suc, ◌+◌, ◌∷◌, ◌++◌, [], ◌≤◌, Bool, true, false, cond, Option, None, Some, refl, sym, ◌∙◌, ap, subst, arith, replicate}
+use Rattle.std.proofs.Common.{◌≡◌, ℕ, List, zero, suc, ◌+◌, ◌∷◌, ◌++◌, [], ◌<◌, ◌≤◌, Bool, true, false, not, ◌&&◌, cond, Option, None, Some, inl, inr, refl, sym, ◌∙◌, ap, subst, arith, replicate}
+use Rattle.std.proofs.lemmas.Bool.{cases_eq}
 use Rattle.std.proofs.lemmas.List.{append-nil, replicate-append-replicate}
 use Rattle.std.specs.Ordering.{nat_cmp}
 use Rattle.std.specs.FinMap as fin
 use Rattle.script_texts.specs.declared.event.Step.TheVariants.{Unit as AUnit}
 use Rattle.plain_model.specs.declared.fork.Fork.{Fork}
 use Rattle.machine_names.specs.declared.names.TheConstants.{MOST_FORKS}
-use Rattle.plain_model.specs.Forks.{counted, with_regs}
+use Rattle.plain_model.specs.Forks.{can_run, counted, is_run, runs_in, with_regs}
 use Rattle.plain_model.specs.Inspections.{is_interrupted}
 use Rattle.std.specs.Option.{option_map_or}
 use Rattle.script_texts.specs.declared.event.Item.TheVariants.{UnitLine}
@@ -17,7 +18,8 @@ use Rattle.machine_names.specs.declared.names.ForkName.{ForkName}
 use Rattle.plain_units.specs.declared.registers.Regs.{Regs}
 use Rattle.machine_names.proofs.OrderLemmas.{fork_cmp_total, fork_cmp_apart}
 use Rattle.plain_model.proofs.Runs.{AreLegal-append, items_of-append, state_after-append}
-use Rattle.plain_model.specs.Trees.{tree_of}
+use Rattle.plain_model.specs.Trees.{changed, tree_of, with_body}
+use Rattle.plain_model.proofs.ForkMaps.{cases_name}
 use Rattle.ka10_in_place.specs.Once.{After, in_a_row, once}
 use Rattle.fork_tree.proofs.Kept.{changed_tree}
 use Rattle.fork_tree.proofs.Slots.{get_put}
@@ -25,6 +27,7 @@ use Rattle.monitor_core.specs.ForkUnit.{Behind, RanUnits, Rest, behind_unit, lef
 use Rattle.monitor_core.specs.Replies.{line_items, ran_items}
 use Rattle.monitor_core.specs.Shown.{nothing, seen_of, shown_items}
 use Rattle.fork_calls.proofs.Frozen.{still_frozen}
+use Rattle.fork_calls.proofs.OtherRuns.{body_runs}
 use Rattle.monitor_core.proofs.Maps.{insert_again, insert_twice}
 use Rattle.monitor_core.proofs.Silent.{once_as, row_more, silent_unit}
 use Rattle.monitor_core.proofs.Filed.{AreKept, IsIn, NamedFiles, kept_on, kept_once, kept_still, keyed, unit_files}
@@ -48,12 +51,17 @@ module _ (key : List ℕ → ℕ) (filed : NamedFiles) (s : PlainState) (f : For
   abbrev row_state : ℕ → After nat_cmp → PlainState
   row_state n a = record s { pages = keyed filed a.pages; forks = fin.insert s.forks f.name (ran_on f n a.regs) }
 
+  -- behind so many of them, and behind fewer, the same forks can run
+  abbrev pub RunAsBefore : ℕ → Type 0
+  RunAsBefore n = (k : ℕ) → k ≤ n → (g : ForkName) → runs_in (state_after s (replicate k (AUnit f.name))).forks g ≡ runs_in s.forks g
+
   -- so many units in a row as entries
   pub record RowDone (n : ℕ) (a : After nat_cmp) : Type 0 where
     pub state : state_after s (replicate n (AUnit f.name)) ≡ row_state n a
     pub items : items_of s (replicate n (AUnit f.name)) ≡ []
     pub legal : AreLegal true s (replicate n (AUnit f.name))
     pub files : a.pages.files ≡ p.files
+    pub runs : RunAsBefore n
 
   -- behind them the fork can run as before
   runs_on : (n : ℕ) (a : After nat_cmp) → a.pages.files ≡ p.files → Runs key filed (row_state n a) (ran_on f n a.regs) a.pages
@@ -66,6 +74,27 @@ module _ (key : List ℕ → ℕ) (filed : NamedFiles) (s : PlainState) (f : For
     runs = t.runs;
     thawed = still_frozen (tree_of s) t.trees f (ran_on f n a.regs) t.fork refl refl refl refl MOST_FORKS ∙ t.thawed;
   }
+
+  -- so can each other
+  run_before : (n : ℕ) (a : After nat_cmp) (g : ForkName) → runs_in (row_state n a).forks g ≡ runs_in s.forks g
+  run_before n a g = elim (cases_name g f.name) [
+    | inl same ↦ ap (runs_in (row_state n a).forks) same
+        ∙ ap (λ o. option_map_or (can_run (row_state n a).forks) o false) (get_put s.forks f.name f.name now refl)
+        ∙ ap (λ b. is_run f.body.status && not b) (still_frozen (tree_of s) t.trees f now t.fork refl refl refl refl MOST_FORKS)
+        ∙ sym (ap (λ o. option_map_or (can_run s.forks) o false) t.fork) ∙ ap (runs_in s.forks) (sym same)
+    | inr other ↦ sym (body_runs (tree_of s) t.trees f.name now.body g other
+        ∙ ap (λ (o : Option Fork). runs_in (changed s.forks (with_body now.body) o) g) t.fork)
+  ]
+    where
+      now : Fork
+      now = ran_on f n a.regs
+
+  -- one more, behind which the same forks can run
+  run_more : (n : ℕ) (a : After nat_cmp) → RunAsBefore n → state_after s (replicate (suc n) (AUnit f.name)) ≡ row_state (suc n) a → RunAsBefore (suc n)
+  run_more n a before is k less g = elim (cases_eq k (suc n)) [
+    | inl last ↦ ap (λ i. runs_in (state_after s (replicate i (AUnit f.name))).forks g) last ∙ ap (λ (x : PlainState). runs_in x.forks g) is ∙ run_before (suc n) a g
+    | inr fewer ↦ before k (omega (arith, less, fewer)) g
+  ]
 
   -- the line before a unit of the fork at this program counter, where each unit is shown
   abbrev line_at : ℕ → Option ℕ
@@ -83,6 +112,7 @@ module _ (key : List ℕ → ℕ) (filed : NamedFiles) (s : PlainState) (f : For
     pub items : items_of s (replicate count (AUnit f.name)) ≡ ran_items f.name (line_at pc) (seen_of f.slot last.shown)
     pub legal : AreLegal true s (replicate count (AUnit f.name))
     pub kept : AreKept (λ name. IsIn s.files name × IsIn last.rest.files name) key last.pages left
+    pub runs : (k : ℕ) → k < count → (g : ForkName) → runs_in (state_after s (replicate k (AUnit f.name))).forks g ≡ runs_in s.forks g
 
   -- one more entry behind them
   behind_row : (n : ℕ) (a : After nat_cmp) (e : Behind) → RowDone n a → behind_unit key (put_in rest (ran_on f n a.regs)) (ran_on f n a.regs) a.pages ≡ e → Entries (suc n) a.regs.pc e
@@ -104,6 +134,7 @@ module _ (key : List ℕ → ℕ) (filed : NamedFiles) (s : PlainState) (f : For
             ∙ ap (λ is. is ++ shown_items f.name.tty (seen_of f.slot e.shown)) line;
         legal = subst (AreLegal true s) (sym more) (AreLegal-append true s (replicate n unit) (unit ∷ []) d.legal (subst (λ x. AreLegal true x (unit ∷ [])) (sym here) (step_legal key filed (row_state n a) ran a.pages runs true, tt)));
         kept = subst (λ (x : Behind). AreKept (λ name. IsIn s.files name × IsIn x.rest.files name) key x.pages went.filed) is went.kept;
+        runs = λ k less. d.runs k (omega (arith, less));
       }
 
   no_row : RowDone zero (record { pages = p; regs = f.body.regs; post = None })
@@ -111,7 +142,7 @@ module _ (key : List ℕ → ℕ) (filed : NamedFiles) (s : PlainState) (f : For
       let none : f.body.units + 0 ≡ f.body.units = omega arith in
       let same : ran_on f 0 f.body.regs ≡ f = λ i. record f { body = record f.body { units = none i } } in
       let forks : fin.insert s.forks f.name (ran_on f 0 f.body.regs) ≡ s.forks = ap (fin.insert s.forks f.name) same ∙ insert_again fork_cmp_total fork_cmp_apart s.forks f.name f t.fork in
-      record { state = λ i. record s { pages = t.pages i; forks = sym forks i }; items = refl; legal = tt; files = refl }
+      record { state = λ i. record s { pages = t.pages i; forks = sym forks i }; items = refl; legal = tt; files = refl; runs = λ k less g. let none : k ≡ 0 = omega (arith, less) in ap (λ i. runs_in (state_after s (replicate i (AUnit f.name))).forks g) none }
 
   first_row : (a : After nat_cmp) → in_a_row f.name zero p f.body.regs ≡ Some a → RowDone zero a
   unfolding in_a_row
@@ -133,12 +164,14 @@ module _ (key : List ℕ → ℕ) (filed : NamedFiles) (s : PlainState) (f : For
       let files = once_files f.name a.pages a.regs b more.unit ∙ d.files in
       let same : last.left ≡ filed = kept_once (λ name. IsIn s.files name × IsIn s.files name) key b.pages last.left filed last.kept (kept_still (IsIn s.files) key p filed t.kept b.pages files) in
       let counts : f.body.units + n + 1 ≡ f.body.units + suc n = omega arith in
+      let state = last.state ∙ ap (λ (x : NamedFiles). behind_state x s f (left_so left went b.pages nothing)) same ∙ ap (λ forks. record s { pages = keyed filed b.pages; forks = forks }) (insert_twice fork_cmp_total fork_cmp_apart s.forks f.name ran went)
+      ∙ (λ i. record s { pages = keyed filed b.pages; forks = fin.insert s.forks f.name (record f { body = record f.body { regs = b.regs; units = counts i } }) }) in
       record {
-        state = last.state ∙ ap (λ (x : NamedFiles). behind_state x s f (left_so left went b.pages nothing)) same ∙ ap (λ forks. record s { pages = keyed filed b.pages; forks = forks }) (insert_twice fork_cmp_total fork_cmp_apart s.forks f.name ran went)
-            ∙ (λ i. record s { pages = keyed filed b.pages; forks = fin.insert s.forks f.name (record f { body = record f.body { regs = b.regs; units = counts i } }) });
+        state = state;
         items = last.items ∙ ap (λ b. ran_items f.name (cond b (Some a.regs.pc) None) (seen_of f.slot nothing)) hushed;
         legal = last.legal;
         files = files;
+        runs = run_more n b d.runs state;
       }
 
   -- the line before the last of them, where each unit is shown: there is no other
@@ -160,5 +193,6 @@ module _ (key : List ℕ → ℕ) (filed : NamedFiles) (s : PlainState) (f : For
         items = row.items ∙ ap (λ line. ran_items f.name line (seen_of f.slot e.shown)) (last_line r.before r.after r.row hushed);
         legal = row.legal;
         kept = row.kept;
+        runs = row.runs;
       } in
       subst (λ n. Entries n f.body.regs.pc e) (sym r.counts) all

@@ -1,8 +1,5 @@
 -- Which forks of a system's plain state can run.
-use Rattle.std.proofs.Common.{◌≡◌, ℕ, ◌≤◌, ◌<◌, true, Some, refl, sym, ◌∙◌, ap, subst, arith}
-use Rattle.std.specs.FinMap as map
-use Rattle.machine_names.specs.declared.names.ForkName.{ForkName}
-use Rattle.plain_model.specs.declared.fork.Fork.{Fork}
+use Rattle.std.proofs.Common.{true, subst}
 use Rattle.script_texts.specs.declared.event.Step.{Step}
 use Rattle.script_texts.specs.declared.event.Step.TheVariants.{Outer, Unit as AUnit, Idle}
 use Rattle.page_contracts.specs.DrumWords.{DrumWords}
@@ -10,10 +7,6 @@ use Rattle.script_texts.specs.Limits.{FitsStep}
 use Rattle.machine_names.specs.Bounds.{IsForkName}
 use Rattle.plain_model.specs.Run.{IsLegalStep}
 use Rattle.plain_model.specs.Trees.{PlainTree}
-use Rattle.fork_tree.specs.Trees.{IsTree, Lives}
-use Rattle.plain_model.specs.Forks.{IsRunnable}
-use Rattle.fork_tree.proofs.Slots.{held_lives}
-use Rattle.fork_tree.proofs.CanRun.{runs_as}
 use Rattle.monitor_core.specs.declared.runner.Runner.{Runner}
 use Rattle.monitor_core.specs.declared.system.System.{System}
 use Rattle.monitor_core.specs.Runners.{IsRunner}

@@ -13,6 +13,8 @@ use Rattle.plain_model.specs.State.{PlainState}
 use Rattle.page_contracts.specs.DrumWords.{DrumWords}
 use Rattle.monitor_core.specs.Outcome.{Gave}
 use Rattle.script_texts.specs.Taker.{GoesOn, IsCut}
+use Rattle.plain_model.specs.Forks.{runs_in}
+use Rattle.plain_model.specs.Passing.{IsFair}
 use Rattle.plain_model.specs.Run.{apply, state_after, items_of, AreLegal, IsLegalStep}
 use Rattle.script_texts.specs.Follows.{shape_of, single, IsTurn, AreTurns, AreOfShape, FollowsOne, Begins, auto_after}
 use Rattle.plain_model.specs.Unit.{Effect, turn_printed}
@@ -26,11 +28,13 @@ use Rattle.monitor_core.specs.declared.reply.Reply.TheVariants.{Nothing, One, Ra
 use Rattle.monitor_core.specs.declared.shown.Stop.{Stop}
 use Rattle.monitor_core.specs.declared.shown.Stop.TheVariants.{GoesOn as Runs, Halted, Forced}
 use Rattle.monitor_core.specs.Shown.{none_shown, stop_items}
-use Rattle.monitor_core.specs.Acts.{Given, Cut, Acted, TookTurns}
+use Rattle.monitor_core.specs.Acts.{Given, GivenTurns, Cut, Acted, TookTurns}
+use Rattle.monitor_core.specs.PassedOver.{AreNear, ComeCloser}
 use Rattle.monitor_core.specs.Giving.{TookOver}
 use Rattle.monitor_core.specs.Machines.{plain, done, auto, is_live}
 use Rattle.monitor_core.specs.Replies.{reply_items, is_silent}
 use Rattle.monitor_core.specs.Systems.{CanDo, Did, DidAll, FitsPages, state_of}
+use Rattle.monitor_core.proofs.PassedOver.{closer_append, closer_fair, few_fair}
 use Rattle.monitor_core.proofs.Runnable.{is_legal}
 use Rattle.monitor_core.proofs.Systems.{within_later}
 
@@ -74,6 +78,7 @@ did_one m m' step reply can did = record {
   legal = λ d f. (is_legal m d step can, tt);
   state = λ d f. (did.each d f).1;
   items = λ d f. (did.each d f).2 ∙ sym (append-nil (apply (state_of m d) step).items);
+  runs = λ d f k less g. let none : k ≡ 0 = omega (arith, less) in ap (λ i. runs_in (state_after (state_of m d) (replicate i step)).forks g) none;
   shown = did.shown;
   within = did.within;
   most = did.most;
@@ -103,6 +108,7 @@ did_idle m count can = record {
   legal = λ d f. (all_idle (state_of m d) count (is_legal m d Idle can)).legal;
   state = λ d f. sym (all_idle (state_of m d) count (is_legal m d Idle can)).state;
   items = λ d f. sym (all_idle (state_of m d) count (is_legal m d Idle can)).items;
+  runs = λ d f k less g. ap (λ (s : PlainState). runs_in s.forks g) (all_idle (state_of m d) k (is_legal m d Idle can)).state;
   shown = tt;
   within = λ entries w. within_later m entries (entries + count) w (omega arith);
   most = refl;
@@ -111,12 +117,13 @@ did_idle m count can = record {
 module _ {P : Type 0} {b : _} {T : Type 0} (fault_count : T → ℕ) (onward : T → T → Type 0) (stands cut : T → T → List Item → List Step → Type 0) where
   module _ (m m' : Machine P b) (out out' : T) (step : Step) (count : ℕ) (reply : Reply) (event : Event) (did : DidAll m.system m'.system step count reply) where
     -- equal steps that were done, given behind what they show
-    all_given : FollowsOne event (replicate count step) → done m' ≡ done m + count → ((d : DrumWords) → FitsPages m'.system d → GoesOn stands out out' (reply_items (state_of m'.system d) reply) (replicate count step)) → Given stands m m' out out' event
-    all_given follows counts given = record {
+    all_given : FollowsOne event (replicate count step) → done m' ≡ done m + count → ((d : DrumWords) → FitsPages m.system d → IsFair (state_of m.system d) (replicate count step)) → ((d : DrumWords) → FitsPages m'.system d → GoesOn stands out out' (reply_items (state_of m'.system d) reply) (replicate count step)) → Given stands m m' out out' event
+    all_given follows counts fair given = record {
       steps = replicate count step;
       follows = follows;
       count = omega (arith, counts, length-replicate count step);
       each = λ d f. (did.fits d f, record { legal = did.legal d f; state = did.state d f; given = subst (λ is. GoesOn stands out out' is (replicate count step)) (did.items d f) (given d (did.fits d f)) });
+      fair = fair;
     }
 
     all_cut : Begins event (replicate count step) → ((d : DrumWords) → FitsPages m'.system d → IsCut stands cut out out' (reply_items (state_of m'.system d) reply) (replicate count step)) → Cut stands cut m out out' event
@@ -144,20 +151,26 @@ module _ {P : Type 0} {b : _} {T : Type 0} (fault_count : T → ℕ) (onward : T
 
       all : (r : Result X E) → ((d : DrumWords) → FitsPages m'.system d → OnOk r (GoesOn stands out out' (reply_items (state_of m'.system d) reply) (Outer e ∷ []))) → OnOk r (Given stands m m' out out' e)
       all (Err c) given = tt
-      all (Ok x) given = all_given m m' out out' (Outer e) 1 reply e one (follows_event e can.1) count given
+      all (Ok x) given = all_given m m' out out' (Outer e) 1 reply e one (follows_event e can.1) count (λ d f. few_fair (state_of m.system d) (Outer e ∷ []) (omega arith)) given
 
       part : (r : Result X E) → ((d : DrumWords) → FitsPages m'.system d → OnErr r (IsCut stands cut out out' (reply_items (state_of m'.system d) reply) (Outer e ∷ []))) → OnErr r (Cut stands cut m out out' e)
       part (Ok x) given = tt
       part (Err c) given = all_cut m m' out out' (Outer e) 1 reply e one (begins_event e can.1) given
 
   -- equal turns that were done, and given behind the items of the reply
-  module _ {E : Type 0} (m m' : Machine P b) (out out' : T) (step : Step) (turn : IsTurn step) (count left : ℕ) (some : 1 ≤ count) (few : count ≤ left) (reply : Reply) (did : DidAll m.system m'.system step count reply) (counts : done m' ≡ done m + count) (mark : auto m' ≡ auto m) (live : is_live m' ≡ is_live m) where
+  module _ {E : Type 0} (m m' : Machine P b) (out out' : T) (step : Step) (turn : IsTurn step) (count left : ℕ) (some : 1 ≤ count) (few : count ≤ left) (reply : Reply) (did : DidAll m.system m'.system step count reply) (counts : done m' ≡ done m + count) (mark : auto m' ≡ auto m) (live : is_live m' ≡ is_live m)
+      (passed : (d : DrumWords) → FitsPages m.system d → ComeCloser m.lists.sched (state_of m.system d) (replicate count step) m'.lists.sched) where
     pub turns_given : {X F : Type 0} (x : X) → TookOver {E = F} (FitsPages m'.system) fault_count onward stands cut out out' (Ok x) (λ d. reply_items (state_of m'.system d) reply) (replicate count step) → TookTurns {E = E} fault_count onward stands cut m m' out out' (Ok count) left
+    unfolding all_given
     turns_given x took = record {
       taker = record { later = took.taker.later; cause = tt; goes_on = took.taker.goes_on };
       some = some;
       few = few;
-      ok = all_given m m' out out' step count reply (Run count) did (length-replicate count step, are_turns count step turn) counts (λ d f. (took.given d f).ok);
+      ok = record {
+        given = all_given m m' out out' step count reply (Run count) did (length-replicate count step, are_turns count step turn) counts
+            (λ d f. closer_fair m.lists.sched (state_of m.system d) (replicate count step) m'.lists.sched (passed d f)) (λ d f. (took.given d f).ok);
+        passed = passed;
+      };
       err = tt;
       mark = mark;
       live = live;
@@ -184,35 +197,87 @@ module _ {P : Type 0} {b : _} {T : Type 0} (fault_count : T → ℕ) (onward : T
     follows = follows;
     count = omega (arith, count);
     each = λ d f. (subst (λ s. FitsPages s d) (sym same) f, subst (λ s. Gave stands out out true (plain m d) (state_of s d) []) (sym same) (gave_none stands true out (plain m d)));
+    fair = λ d f. few_fair (plain m d) [] (omega arith);
   }
 
-  pub silent_acted : {E : Type 0} (m : Machine P b) (out : T) (e : Event) → FollowsOne e [] → auto_after (auto m) e ≡ auto m → Acted {X = Unit {0}} {E = E} fault_count onward stands cut m m out out (Ok tt) e
-  silent_acted m out e follows mark = record {
+  pub silent_acted : {E : Type 0} (m m' : Machine P b) (out : T) (e : Event) → FollowsOne e [] → m'.system ≡ m.system → m'.done ≡ m.done → is_live m' ≡ is_live m → auto m' ≡ auto_after (auto m) e
+      → Acted {X = Unit {0}} {E = E} fault_count onward stands cut m m' out out (Ok tt) e
+  silent_acted m m' out e follows same count live mark = record {
     taker = record { later = omega arith; cause = tt; goes_on = onward_nil onward out };
-    ok = nothing_given m m out e follows refl refl;
+    ok = nothing_given m m' out e follows same count;
     err = tt;
-    mark = sym mark;
-    live = refl;
-    most = refl;
+    mark = mark;
+    live = live;
+    most = ap (λ (s : System P b). b.means.most s.pages) same;
   }
 
-  module _ (m mid : Machine P b) (a c : T) (k : ℕ) (so_far : Given stands m mid a c (Run k)) where
+  -- so many turns at most are more at most
+  pub took_more : {E : Type 0} (m m' : Machine P b) (out out' : T) (r : Result ℕ E) (most left : ℕ) → most ≤ left → TookTurns fault_count onward stands cut m m' out out' r most → TookTurns fault_count onward stands cut m m' out out' r left
+  took_more m m' out out' (Ok n) most left within took = record {
+    taker = took.taker;
+    some = took.some;
+    few = omega (arith, took.few, within);
+    ok = took.ok;
+    err = tt;
+    mark = took.mark;
+    live = took.live;
+    most = took.most;
+  }
+  took_more m m' out out' (Err e) most left within took = record {
+    taker = took.taker;
+    some = tt;
+    few = tt;
+    ok = tt;
+    err = record { steps = took.err.steps; begins = (omega (arith, took.err.begins.0, within), took.err.begins.1); each = took.err.each };
+    mark = took.mark;
+    live = took.live;
+    most = took.most;
+  }
+
+  -- no turn yet
+  pub no_turns : (m : Machine P b) (out : T) → ((d : DrumWords) → FitsPages m.system d → AreNear m.system.tree.forks m.lists.sched) → GivenTurns stands m m out out 0
+  unfolding nothing_given
+  no_turns m out near = record { given = nothing_given m m out (Run 0) (refl, tt) refl refl; passed = λ d f. (near d f, refl) }
+
+  module _ (m mid : Machine P b) (a c : T) (k : ℕ) (so_far : GivenTurns stands m mid a c k) where
     -- turns more
-    pub turns_more : (m' : Machine P b) (out : T) (n total : ℕ) → k + n ≡ total → Given stands mid m' c out (Run n) → Given stands m m' a out (Run total)
-    turns_more m' out n total is turns = record {
-      steps = so_far.steps ++ turns.steps;
-      follows = (omega (arith, length-append so_far.steps turns.steps, so_far.follows.0, turns.follows.0, is), AreTurns-append so_far.steps turns.steps so_far.follows.1 turns.follows.1);
-      count = omega (arith, length-append so_far.steps turns.steps, so_far.count, turns.count);
-      each = λ d f.
-          let x = so_far.each d f in
-          let y = turns.each d x.0 in
-          (y.0, gave_append stands true a c out (plain m d) (plain mid d) (plain m' d) so_far.steps turns.steps x.1 y.1);
+    pub turns_more : (m' : Machine P b) (out : T) (n total : ℕ) → k + n ≡ total → GivenTurns stands mid m' c out n → GivenTurns stands m m' a out total
+    turns_more m' out n total is more = record {
+      given = record {
+        steps = steps;
+        follows = (omega (arith, length-append first.steps turns.steps, first.follows.0, turns.follows.0, is), AreTurns-append first.steps turns.steps first.follows.1 turns.follows.1);
+        count = omega (arith, length-append first.steps turns.steps, first.count, turns.count);
+        each = λ d f.
+            let x = first.each d f in
+            let y = turns.each d x.0 in
+            (y.0, gave_append stands true a c out (plain m d) (plain mid d) (plain m' d) first.steps turns.steps x.1 y.1);
+        fair = λ d f. closer_fair m.lists.sched (plain m d) steps m'.lists.sched (closer d f);
+      };
+      passed = closer;
     }
+      where
+        first : Given stands m mid a c (Run k)
+        first = so_far.given
+
+        turns : Given stands mid m' c out (Run n)
+        turns = more.given
+
+        steps : List Step
+        steps = first.steps ++ turns.steps
+
+        closer : (d : DrumWords) → FitsPages m.system d → ComeCloser m.lists.sched (plain m d) steps m'.lists.sched
+        closer d f =
+            let x = first.each d f in
+            closer_append m.lists.sched (plain m d) first.steps turns.steps mid.lists.sched m'.lists.sched (so_far.passed d f)
+            (subst (λ (s : PlainState). ComeCloser mid.lists.sched s turns.steps m'.lists.sched) x.1.state (more.passed d x.0))
 
     -- a failure within turns more
     pub more_cut : (out : T) (left total : ℕ) → k + left ≤ total → Cut stands cut mid c out (Run left) → Cut stands cut m a out (Run total)
     more_cut out left total within turns = record {
-      steps = so_far.steps ++ turns.steps;
-      begins = (omega (arith, length-append so_far.steps turns.steps, so_far.follows.0, turns.begins.0, within), AreTurns-append so_far.steps turns.steps so_far.follows.1 turns.begins.1);
-      each = λ d f. let x = so_far.each d f in gave_cut stands cut true a c out (plain m d) (plain mid d) so_far.steps turns.steps x.1 (turns.each d x.0);
+      steps = first.steps ++ turns.steps;
+      begins = (omega (arith, length-append first.steps turns.steps, first.follows.0, turns.begins.0, within), AreTurns-append first.steps turns.steps first.follows.1 turns.begins.1);
+      each = λ d f. let x = first.each d f in gave_cut stands cut true a c out (plain m d) (plain mid d) first.steps turns.steps x.1 (turns.each d x.0);
     }
+      where
+        first : Given stands m mid a c (Run k)
+        first = so_far.given

@@ -28,6 +28,7 @@ use Rattle.monitor_core.specs.Jobs.{job_at}
 use Rattle.monitor_core.specs.Machines.{Fits, auto, done, is_live, plain}
 use Rattle.monitor_core.specs.Systems.{FitsPages, state_of}
 use Rattle.monitor_core.proofs.Given.{on_err, taker_failed, taker_then, takes_then}
+use Rattle.monitor_core.proofs.PassedOver.{few_fair}
 use Rattle.monitor_core.proofs.GivenParts.{no_ok}
 use Rattle.monitor_core.proofs.Lookups.{job_found, job_missing}
 
@@ -100,6 +101,7 @@ module _ {P : Type 0} {b : _} {T : Type 0} (fault_count : T → ℕ) (onward : T
                 given = subst (λ (e : Effect). GoesOn stands out out' (e.items ++ []) own) (sym is) (given d f);
               },
             );
+        fair = λ d f. few_fair (plain m d) own (omega arith);
       }
 
       part : (r : Result X E) → ((d : DrumWords) → Fits m d → OnErr r (IsCut stands cut out out' ((typed_all (plain m d) t text).items ++ []) own)) → OnErr r (Cut stands cut m out out' (TypeIn t text))

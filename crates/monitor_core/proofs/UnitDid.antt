@@ -255,6 +255,7 @@ module _ {P : Type 0} {b : _} (m : System P b) (f : Fork) (trees : IsTree m.tree
         legal = λ d fits. (entries d fits).legal;
         state = λ d fits. state_is d fits ∙ sym (entries d fits).state;
         items = λ d fits. (λ i. ran_items f.name (line_is i) (seen i)) ∙ sym (entries d fits).items;
+        runs = λ d fits. (entries d fits).runs;
         shown = (trees.slotted.named f lives, subst FitsLine (sym line_is) (line_fits m.panel.trace), subst FitsShown (sym seen) (let fits = ran.shown in (fits.0, seen_fits (is_stop units.shown && not (f.slot == 1)) units.shown.stop fits.1)));
         within = λ n w. record {
           ticks = omega (arith, ap (λ (x : Panel). x.clock) panel, w.ticks);

@@ -6,18 +6,27 @@ use Rattle.script_texts.specs.declared.event.Event.{Event}
 use Rattle.script_texts.specs.declared.event.Event.TheVariants.{Run}
 use Rattle.script_texts.specs.declared.event.Step.{Step}
 use Rattle.page_contracts.specs.DrumWords.{DrumWords}
+use Rattle.plain_model.specs.Passing.{IsFair}
 use Rattle.monitor_core.specs.Outcome.{Gave, GaveCut}
 use Rattle.script_texts.specs.Follows.{FollowsOne, Begins, auto_after}
 use Rattle.monitor_core.specs.declared.machine.Machine.{Machine}
 use Rattle.monitor_core.specs.Machines.{Fits, plain, limit, done, auto, is_live}
+use Rattle.monitor_core.specs.PassedOver.{ComeCloser}
 use Rattle.monitor_core.specs.Giving.{Standing, StaysTaker, Takes}
 
--- the event's steps were given, and lead from the old plain state to the new one, with no idle entry where a fork can run
+-- the event's steps were given, and lead from the old plain state to the new one, with no idle entry where a fork can run, and no fork is
+-- passed over for long
 pub record Given {P : Type 0} {b : _} {T : Type 0} (stands : Standing T) (m m' : Machine P b) (out out' : T) (event : Event) : Type 0 where
   pub steps : List Step
   pub follows : FollowsOne event steps
   pub count : done m' ≡ done m + length steps
   pub each : (d : DrumWords) → Fits m d → Fits m' d × Gave stands out out' true (plain m d) (plain m' d) steps
+  pub fair : (d : DrumWords) → Fits m d → IsFair (plain m d) steps
+
+-- so many turns of a run were given, and each fork that they pass over came closer
+pub record GivenTurns {P : Type 0} {b : _} {T : Type 0} (stands : Standing T) (m m' : Machine P b) (out out' : T) (n : ℕ) : Type 0 where
+  pub given : Given stands m m' out out' (Run n)
+  pub passed : (d : DrumWords) → Fits m d → ComeCloser m.lists.sched (plain m d) given.steps m'.lists.sched
 
 -- the taker failed within steps with which the event's may begin
 pub record Cut {P : Type 0} {b : _} {T : Type 0} (stands cut : Standing T) (m : Machine P b) (out out' : T) (event : Event) : Type 0 where
@@ -39,7 +48,7 @@ pub record TookTurns {P : Type 0} {b : _} {T E : Type 0} (fault_count : T → �
   pub taker : StaysTaker fault_count onward out out' result
   pub some : IfOk result (λ n. 1 ≤ n)
   pub few : IfOk result (λ n. n ≤ left)
-  pub ok : IfOk result (λ n. Given stands m m' out out' (Run n))
+  pub ok : IfOk result (GivenTurns stands m m' out out')
   pub err : OnErr result (Cut stands cut m out out' (Run left))
   pub mark : auto m' ≡ auto m
   pub live : is_live m' ≡ is_live m

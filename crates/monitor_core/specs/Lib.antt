@@ -17,5 +17,6 @@ pub mod Effects
 pub mod Giving
 pub mod Reaching
 pub mod Machines
+pub mod PassedOver
 pub mod Acts
 pub mod Following

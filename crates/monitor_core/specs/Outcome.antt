@@ -5,6 +5,7 @@ use Rattle.script_texts.specs.declared.event.Item.{Item}
 use Rattle.script_texts.specs.declared.event.Step.{Step}
 use Rattle.plain_model.specs.State.{PlainState}
 use Rattle.script_texts.specs.Follows.{FollowsOne, Begins, Unfinished}
+use Rattle.plain_model.specs.Passing.{IsFair}
 use Rattle.plain_model.specs.Run.{ShownFirst, AreLegal, state_after, items_of}
 use Rattle.script_texts.specs.Taker.{GoesOn, IsCut}
 use Rattle.page_contracts.specs.DrumWords.{DrumWords, Stands}
@@ -55,12 +56,13 @@ module _ {M D T : Type 0} (flat : Bool) (fits : M → DrumWords → Type 0) (pla
   pub record GaveBefore (stands : T → T → List Item → List Step → Type 0) (m : M) (drum : D) (out out' : T) (auto : Bool) (event : Event) (steps : List Step) : Type 0 where
     pub each : (d : DrumWords) → Stands flat (held drum) d → fits m d → GaveSoFar stands out out' (judged_by flat auto) event (plain m d) steps
 
-  -- an event went: its steps follow it and were given; so many entries and events more are done
+  -- an event went: its steps follow it and were given, and pass no fork over for long; so many entries and events more are done
   pub record Went (stands : T → T → List Item → List Step → Type 0) (m m' : M) (drum drum' : D) (out out' : T) (auto : Bool) (event : Event) (done done' : ℕ) : Type 0 where
     pub steps : List Step
     pub follows : FollowsOne event steps
     pub count : done' ≡ done + length steps + 1
     pub told : GaveOver stands m m' drum drum' out out' auto steps
+    pub fair : (d : DrumWords) → Stands flat (held drum) d → fits m d → IsFair (plain m d) steps
 
   -- the drum failed: of the event, the steps that were given are the turns so far, or none
   pub record Stopped (stands : T → T → List Item → List Step → Type 0) (m : M) (drum : D) (out out' : T) (auto : Bool) (event : Event) : Type 0 where

@@ -1,5 +1,5 @@
 -- The plain state that a system stands for, and what one step does to it.
-use Rattle.std.specs.Prelude.{◌≡◌, ℕ, ◌+◌, ◌*◌, ◌≤◌, true, replicate}
+use Rattle.std.specs.Prelude.{◌≡◌, ℕ, ◌+◌, ◌*◌, ◌<◌, ◌≤◌, true, replicate}
 use Rattle.machine_names.specs.declared.names.Tty.{Tty}
 use Rattle.machine_names.specs.declared.names.ForkName.{ForkName}
 use Rattle.plain_model.specs.declared.fork.Fork.{Fork}
@@ -17,7 +17,7 @@ use Rattle.page_contracts.specs.declared.answers.Need.{Need}
 use Rattle.page_contracts.specs.Stores.{IsNeeded}
 use Rattle.plain_model.specs.Run.{apply, state_after, items_of, AreLegal}
 use Rattle.fork_tree.specs.Trees.{Lives}
-use Rattle.plain_model.specs.Forks.{IsRunnable}
+use Rattle.plain_model.specs.Forks.{IsRunnable, runs_in}
 use Rattle.monitor_core.specs.Limits.{unit_frames}
 use Rattle.monitor_core.specs.declared.reply.Reply.{Reply}
 use Rattle.monitor_core.specs.declared.system.System.{System}
@@ -67,12 +67,13 @@ pub record Did {P : Type 0} {b : _} (old new : System P b) (step : Step) (reply 
   pub most : b.means.most new.pages ≡ b.means.most old.pages
 
 -- So many equal steps are done: over each drum that fits they are legal, the system stands for the state that they leave,
--- and the reply is what they show.
+-- the reply is what they show, and up to the last of them the same forks can run.
 pub record DidAll {P : Type 0} {b : _} (old new : System P b) (step : Step) (count : ℕ) (reply : Reply) : Type 0 where
   pub fits : (d : DrumWords) → FitsPages old d → FitsPages new d
   pub legal : (d : DrumWords) → FitsPages old d → AreLegal true (state_of old d) (replicate count step)
   pub state : (d : DrumWords) → FitsPages old d → state_of new d ≡ state_after (state_of old d) (replicate count step)
   pub items : (d : DrumWords) → FitsPages old d → reply_items (state_of new d) reply ≡ items_of (state_of old d) (replicate count step)
+  pub runs : (d : DrumWords) → FitsPages old d → (k : ℕ) → k < count → (f : ForkName) → runs_in (state_after (state_of old d) (replicate k step)).forks f ≡ runs_in old.tree.forks f
   pub shown : FitsReply reply
   pub within : (entries : ℕ) → IsWithin old entries → IsWithin new (entries + count)
   pub most : b.means.most new.pages ≡ b.means.most old.pages

@@ -221,6 +221,7 @@ module _ {M S T R D : Type 0} {flat : Bool} {fits : M → DrumWords → Type 0} 
         all = all_run request.events ran.events ran.found;
         follows = entries.follows;
         legal = whole_legal entries;
+        fair = entries.fair;
         transcript_is = whole_transcript request.events given.items _ ran.entries entries.shown (counted WholeScript last refl ran) ends.out;
         record_is = whole_record request.events ran.entries ends.rec;
         fits = record { fit = opened_fit true request.sizes.drum ran.events ran.entries ran.fit entries.follows entries.legal; few = omega (arith, ran.few); few_reads = few_reads; few_writes = few_writes };

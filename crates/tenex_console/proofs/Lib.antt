@@ -3,6 +3,7 @@ mod Turns
 mod Found
 mod Lined
 mod Generating
+mod Fairness
 mod Running
 mod Closing
 mod Causes

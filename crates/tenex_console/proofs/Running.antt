@@ -8,6 +8,7 @@ use Rattle.script_texts.specs.declared.event.Step.{Step}
 use Rattle.plain_model.specs.State.{PlainState, opening}
 use Rattle.script_texts.specs.Limits.{FitsEvent}
 use Rattle.script_texts.specs.Follows.{Follows, Begins, Unfinished, auto_after, auto_behind}
+use Rattle.plain_model.specs.Passing.{AreFair, IsFair}
 use Rattle.plain_model.specs.Run.{AreLegal, IsLegal, ShownFirst, state_after, items_of}
 use Rattle.script_texts.specs.Script.{turns_of}
 use Rattle.script_texts.specs.Taker.{GoesOn, IsCut, max_steps}
@@ -19,6 +20,7 @@ use Rattle.tenex_console.specs.declared.driver.Driven.{Driven}
 use Rattle.tenex_console.specs.declared.driver.Driven.TheVariants.{DrumFault, TakerFault}
 use Rattle.tenex_console.specs.Runs.{AreEntries, BreaksOff, FollowsTo, RunsTo}
 use Rattle.tenex_console.specs.Driving.{Handed, OpensOver, RanTo, StandsFor}
+use Rattle.tenex_console.proofs.Fairness.{AreFair-push}
 use Rattle.tenex_console.proofs.Turns.{follows_few, begins_few, unfinished_few, auto_push}
 
 module _ {M D K : Type 0} (flat : Bool) (fits : M → DrumWords → Type 0) (plain : M → DrumWords → PlainState) (held : D → Option DrumWords) (stands : K → K → List Item → List Step → Type 0) (limit : ℕ) (m0 : M) (drum0 : D) where
@@ -28,6 +30,7 @@ module _ {M D K : Type 0} (flat : Bool) (fits : M → DrumWords → Type 0) (pla
     pub stood : Stands flat (held drum) words
     pub opened : StandsFor fits plain m words (state_after (opening limit) entries)
     pub legal : IsLegal flat true (opening limit) events entries follows
+    pub fair : AreFair (opening limit) events entries follows
     pub given_is : GoesOn stands out out' (items_of (opening limit) entries) entries
 
   -- what holds after some events, which are of this kind, and of which there are at most so many entries
@@ -53,7 +56,7 @@ module _ {M D K : Type 0} {flat : Bool} {fits : M → DrumWords → Type 0} {pla
     are = are;
     few = omega arith;
     done_few = omega (arith, none);
-    told = λ d opens. record { words = d; stood = opens.stood; opened = opens.opened; legal = tt; given_is = goes_on_nil stands out };
+    told = λ d opens. record { words = d; stood = opens.stood; opened = opens.opened; legal = tt; fair = tt; given_is = goes_on_nil stands out };
   }
 
   -- the events are seen as of another kind, and the taker handed on what it kept
@@ -77,6 +80,7 @@ module _ {M D K : Type 0} {flat : Bool} {fits : M → DrumWords → Type 0} {pla
           stood = so.stood;
           opened = so.opened;
           legal = so.legal;
+          fair = so.fair;
           given_is = subst (λ is. GoesOn stands a c is f.entries) (append-nil items) (subst (λ ss. GoesOn stands a c (items ++ []) ss) (append-nil f.entries) both);
         };
   }
@@ -125,6 +129,7 @@ module _ {M D K : Type 0} {flat : Bool} {fits : M → DrumWords → Type 0} {pla
                     state = gave.state ∙ ap (λ x. state_after x ss) old.opened.state ∙ sym (state_after-append (opening limit) f.entries ss);
                   };
                   legal = IsLegal-push flat true (opening limit) f.events e f.entries ss f.follows went.follows old.legal (legal_more d opens ss gave.legal);
+                  fair = AreFair-push (opening limit) f.events e f.entries ss f.follows went.follows old.fair (subst (λ x. IsFair x ss) old.opened.state (went.fair old.words old.stood old.opened.fit));
                   given_is = subst (λ is. GoesOn stands a c is (f.entries ++ ss)) (sym (items_of-append (opening limit) f.entries ss)) both;
                 };
           }
@@ -194,7 +199,7 @@ module _ {M D K : Type 0} {flat : Bool} {fits : M → DrumWords → Type 0} {pla
     few_entries = omega (arith, f.few, bound)
 
     entries_told : (d : DrumWords) → OpensOver flat fits plain held limit m0 drum0 d → AreEntries flat limit f.events f.entries (items_of (opening limit) f.entries)
-    entries_told d opens = record { follows = f.follows; legal = (f.told d opens).legal; shown = refl }
+    entries_told d opens = record { follows = f.follows; legal = (f.told d opens).legal; fair = (f.told d opens).fair; shown = refl }
 
     -- the driving ended between two events
     pub ran : {AreNow : List Event → Type 0} {cut : K → K → List Item → List Step → Type 0} (driven : Driven) → ((es : List Event) (ss : List Step) → Follows es ss → FollowsTo driven es ss)

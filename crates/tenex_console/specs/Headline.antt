@@ -7,6 +7,7 @@ use Rattle.script_texts.specs.declared.event.Step.{Step}
 use Rattle.plain_model.specs.State.{opening}
 use Rattle.script_texts.specs.Entries.{FitsRecord}
 use Rattle.script_texts.specs.Follows.{Follows}
+use Rattle.plain_model.specs.Passing.{AreFair}
 use Rattle.plain_model.specs.Run.{AreLegal, items_of}
 use Rattle.script_texts.specs.Script.{IsScript}
 use Rattle.script_texts.specs.Texts.{transcript, entries_text, record_text}
@@ -43,14 +44,16 @@ done_transcript ReadScript items entries = transcript items
 done_transcript (Generated seed) items entries = transcript items ++ tally_line (tally items entries)
 
 -- The transcript is that of the plain machine over the entries that the record has: the events that are asked for,
--- in order, each RUN n being n units of forks that can run, or idle entries while none can. No other entries
--- have this record, whose last line tells how often the drum was read and written.
+-- in order, each RUN n being n units of forks that can run, or idle entries while none can; and a fork that can run
+-- is not passed over for long within a RUN. No other entries have this record, whose last line tells how often the
+-- drum was read and written.
 pub record Headline (request : Request) (told : Observed) : Type 0 where
   pub events : List Event
   pub entries : List Step
   pub all : AreAll request.events told events
   pub follows : Follows events entries
   pub legal : AreLegal true (opening request.sizes.drum) entries
+  pub fair : AreFair (opening request.sizes.drum) events entries follows
   pub transcript_is : Grows told.out told.out_after (done_transcript request.events (items_of (opening request.sizes.drum) entries) entries)
   pub record_is : Grows told.rec told.rec_after (record_text entries told.reads told.writes)
   pub fits : FitsRecord entries told.reads told.writes

@@ -5,6 +5,7 @@ use Rattle.script_texts.specs.declared.event.Step.{Step}
 use Rattle.plain_model.specs.State.{opening}
 use Rattle.script_texts.specs.Entries.{FitsRecord}
 use Rattle.script_texts.specs.Follows.{Follows}
+use Rattle.plain_model.specs.Passing.{AreFair}
 use Rattle.plain_model.specs.Run.{AreLegal, items_of}
 use Rattle.script_texts.specs.Script.{IsScript}
 use Rattle.script_texts.specs.Texts.{record_text}
@@ -32,6 +33,7 @@ pub record HeadlineInBytes {Z : Type 0} (words : List (String Z)) (script : List
   pub spelled : AreSpelled request.events script events
   pub follows : Follows events entries
   pub legal : AreLegal true (opening request.sizes.drum) entries
+  pub fair : AreFair (opening request.sizes.drum) events entries follows
   pub transcript_is : out'.bytes.items ≡ out.bytes.items ++ done_transcript request.events (items_of (opening request.sizes.drum) entries) entries
   pub record_is : rec'.bytes.items ≡ rec.bytes.items ++ record_text entries (drum'.held.reads - drum.held.reads) (drum'.held.writes - drum.held.writes)
   pub fits : FitsRecord entries (drum'.held.reads - drum.held.reads) (drum'.held.writes - drum.held.writes)

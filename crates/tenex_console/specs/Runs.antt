@@ -6,6 +6,7 @@ use Rattle.script_texts.specs.declared.event.Item.{Item}
 use Rattle.script_texts.specs.declared.event.Step.{Step}
 use Rattle.plain_model.specs.State.{opening}
 use Rattle.script_texts.specs.Follows.{Follows, Begins, Unfinished, auto_behind}
+use Rattle.plain_model.specs.Passing.{AreFair}
 use Rattle.plain_model.specs.Run.{ShownFirst, IsLegal, AreLegal, state_after, items_of}
 use Rattle.tenex_console.specs.declared.driver.Driven.{Driven}
 use Rattle.tenex_console.specs.declared.driver.Driven.TheVariants.{DrumFault, TakerFault}
@@ -35,10 +36,11 @@ ShowsTo DrumFault limit events entries items =
     × (items ≡ items_of (opening limit) entries ++ later)
 ShowsTo driven limit events entries items = items ≡ items_of (opening limit) entries
 
--- legal entries of these events with room for so many pages and forks, and their items
+-- legal entries of these events with room for so many pages and forks, which pass no fork over for long, and their items
 pub record AreEntries (flat : Bool) (limit : ℕ) (events : List Event) (entries : List Step) (items : List Item) : Type 0 where
   pub follows : Follows events entries
   pub legal : IsLegal flat true (opening limit) events entries follows
+  pub fair : AreFair (opening limit) events entries follows
   pub shown : items ≡ items_of (opening limit) entries
 
 -- legal entries of these events, the last of which was broken off

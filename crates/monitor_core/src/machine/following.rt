@@ -1,7 +1,10 @@
 // The lists of the machine follow what a step has done to the forks.
-ghost use Rattle.std.specs.Prelude.{◌≡◌, ◌≤◌, MatchOption};
+ghost use Rattle.std.specs.Prelude.{◌≡◌, ◌≢◌, ◌-◌, ◌≤◌, MatchOption, true};
 ghost use Rattle.fork_lists.specs.Ties.{AreTied};
-ghost use Rattle.job_sched.specs.Units.{IsRow};
+ghost use Rattle.job_sched.specs.Lines.{Nears, is_in_line};
+ghost use Rattle.job_sched.specs.Units.{IsRow, row_ran};
+ghost use Rattle.machine_names.specs.declared.names.ForkName.{ForkName as AForkName};
+ghost use Rattle.plain_model.specs.Forks.{IsRunnable};
 ghost use Rattle.machine_names.specs.Bounds.{IsTerminal};
 ghost use Rattle.script_texts.specs.Limits.{FitsEvent};
 ghost use Rattle.monitor_core.specs.Echoes.{FitsEcho};
@@ -16,14 +19,17 @@ use machine_names::Tty;
 use script_texts::Event;
 
 /// A row of units of the head is over, which has reached so far among the forks: the units before the last are counted to its quantum, who stopped
-/// leaves the lists and who started enters them, and then the last unit is counted, where the head still stands.
+/// leaves the lists and who started enters them, and then the last unit is counted, where the head still stands. By the last unit each other
+/// fork that can run comes closer.
 pub fn end_row(lists: &mut ForkLists, tree: &Tree, who: Runner, reach: Reach, count: u32)
     requires ended { RowEnded lists.old tree.now who reach }
     requires head { IsHead lists.old.sched who.fork }
     requires row { IsRow count lists.old.sched }
     requires some { 1 ≤ count }
-    ensures { AreTied tree.now.forks lists.new }
+    ensures tied { AreTied tree.now.forks lists.new }
+    ensures closer { (f : AForkName) → IsRunnable tree.now.forks f → f ≢ who.fork → is_in_line f lists.old.sched ≡ true → Nears f (row_ran (count - 1) lists.old.sched) lists.new.sched 1 }
 {
+    lists.sound();
     lists.ran_row(count - 1);
     tree.are_trees();
     match reach {

@@ -45,6 +45,7 @@ impl<P: Pages> Machine<P> {
         requires few { done self.old < 2 ^ 52 }
         ensures { TookTurns T.fault_count T.onward T.stands T.cut self.old self.new out.old out.new result most }
     {
+        self.lists.sound();
         let done = match self.system.units(who, most) {
             Ok(done) => done,
             // Pages in memory alone need nothing first.
@@ -57,6 +58,7 @@ impl<P: Pages> Machine<P> {
             done.reach,
             done.count,
         );
+        self.lists.sound();
         self.done += u64::from(done.count);
         self.system
             .give_all(&Step::Unit(who.fork), done.count, done.reply, out)?;
@@ -99,6 +101,7 @@ impl<P: Pages> Machine<P> {
         requires few { done self.old < 2 ^ 50 }
         ensures { Acted T.fault_count T.onward T.stands T.cut self.old self.new out.old out.new result (AnEvent.Run n) }
     {
+        self.lists.sound();
         let mut left = n;
         while left > 0 {
             left -= self.turns(left, out)?;

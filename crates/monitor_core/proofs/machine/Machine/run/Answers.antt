@@ -1,9 +1,24 @@
-use Rattle.std.proofs.Common.{◌-◌, ◌∙◌, arith}
+use Rattle.std.proofs.Common.{◌≡◌, ◌-◌, ◌∙◌, refl, subst, arith}
 use Rattle.std.proofs.lemmas.Result.{IfOk-from_err}
-use Rattle.script_texts.proofs.Takers.{onward_then}
+use Rattle.script_texts.proofs.Takers.{onward_nil, onward_then}
+use Rattle.script_texts.specs.declared.event.Event.TheVariants.{Run}
+use Rattle.monitor_core.specs.Acts.{Given, GivenTurns}
 use Rattle.monitor_core.proofs.Given.{on_err}
-use Rattle.monitor_core.proofs.StepDid.{turns_more, more_cut}
+use Rattle.monitor_core.proofs.PassedOver.{near_tied}
+use Rattle.monitor_core.proofs.StepDid.{no_turns, turns_more, more_cut}
 use Rattle.monitor_core.proofs.machine.Machine.run.Goals as goal
+
+pub loop-left-init : goal.loop-left-init
+loop-left-init g c = record {
+  few = omega arith;
+  later = omega arith;
+  onward = onward_nil g.T.Taker.onward _;
+  mark = refl;
+  live = refl;
+  most = refl;
+  given = subst (GivenTurns g.T.Taker.stands c.args.self.now c.args.self.now c.args.out.now c.args.out.now) (let none : 0 ≡ c.args.n - c.args.n = omega arith in none)
+      (no_turns g.T.Taker.fault_count g.T.Taker.onward g.T.Taker.stands g.T.Taker.cut c.args.self.now c.args.out.now (λ d f. near_tied c.args.self.now.system.tree.forks c.args.self.now.lists c.args.self.now.tied c.sound.ensures));
+}
 
 pub loop-left-preserved : goal.loop-left-preserved
 loop-left-preserved g c =
@@ -36,4 +51,16 @@ returns-in_err-left g c =
       mark = turns.mark ∙ i.mark;
       live = turns.live ∙ i.live;
       most = turns.most ∙ i.most;
+    }
+
+pub returns : goal.returns
+returns g c =
+    let i = c.loop-left.invariant in
+    record {
+      taker = record { later = i.later; cause = tt; goes_on = i.onward };
+      ok = subst (λ k. Given g.T.Taker.stands c.args.self.now c.loop-left.self c.args.out.now c.loop-left.out (Run k)) (let all : c.args.n - c.loop-left.left ≡ c.args.n = omega arith in all) i.given.given;
+      err = tt;
+      mark = i.mark;
+      live = i.live;
+      most = i.most;
     }

@@ -1,7 +1,6 @@
 use Rattle.std.proofs.Common.{◌≡◌, ◌≤◌, ◌-◌}
-use Rattle.script_texts.specs.declared.event.Event.TheVariants.{Run}
 use Rattle.script_texts.specs.Taker.{StaysOnward}
-use Rattle.monitor_core.specs.Acts.{Given}
+use Rattle.monitor_core.specs.Acts.{GivenTurns}
 use Rattle.monitor_core.specs.Machines.{auto, is_live, limit}
 use Rattle.monitor_core.proofs.machine.Machine.run.Given as goal
 
@@ -13,7 +12,7 @@ invariant-loop-left g l = record {
   mark : auto l.self ≡ auto l.fn.self;
   live : is_live l.self ≡ is_live l.fn.self;
   most : limit l.self ≡ limit l.fn.self;
-  given : Given g.T.Taker.stands l.fn.self l.self l.fn.out l.out (Run (l.n - l.left));
+  given : GivenTurns g.T.Taker.stands l.fn.self l.self l.fn.out l.out (l.n - l.left);
 }
 
 abbrev pub decreases-loop-left : goal.decreases-loop-left

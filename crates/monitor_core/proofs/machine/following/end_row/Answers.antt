@@ -1,9 +1,13 @@
-use Rattle.std.proofs.Common.{◌≡◌, ◌-◌, ◌+◌, ◌≤◌, ◌∙◌, ap, sym, subst, arith, inl, inr}
+use Rattle.std.proofs.Common.{◌≡◌, ◌-◌, ◌∙◌, true, sym, subst, arith}
 use Rattle.fork_lists.specs.declared.lists.ForkLists.{ForkLists}
-use Rattle.fork_lists.specs.Ties.{AreTied}
+use Rattle.fork_lists.specs.Ties.{AreTied, ComesOn}
+use Rattle.job_sched.specs.Lines.{Nears, is_in_line}
+use Rattle.job_sched.specs.Schedules.{Schedule, heads}
+use Rattle.job_sched.specs.Units.{row_ran}
 use Rattle.monitor_core.specs.declared.units.Reach.{Reach}
 use Rattle.monitor_core.specs.Reaching.{Reaches}
 use Rattle.monitor_core.proofs.ListsTied.{can_follow, tied_followed, tied_own}
+use Rattle.monitor_core.proofs.RowPassed.{comes_behind, head_at, head_goes_on, head_gone}
 use Rattle.monitor_core.proofs.machine.following.end_row.Goals as goal
 use Rattle.monitor_core.proofs.machine.following.end_row.Goals.{in-Own, in-Job}
 
@@ -13,8 +17,8 @@ follow-requires-clause-can c =
     can_follow e.old.forks e.trees.slotted c.ran_row.new.self (c.ran_row.ensures.tied e.old.forks e.tied) c.args.who.fork.tty c.args.tree.now.forks c.are_trees.ensures.slotted
     (subst (λ (r : Reach). Reaches r c.args.who.fork e.old c.args.tree.now) c.in-Job.is e.reaches)
 
-pub returns-else-is_head : goal.returns-else-is_head
-returns-else-is_head c =
+pub returns-else-is_head-clause-tied : goal.returns-else-is_head-clause-tied
+returns-else-is_head-clause-tied c =
     let e = c.requires.ended in
     let forks = c.args.tree.now.forks in
     let before = c.ran_row.ensures.tied e.old.forks e.tied in
@@ -30,8 +34,8 @@ returns-else-is_head c =
           subst (AreTied forks) (sym w.lists-is) (tied_followed e.old.forks e.trees.slotted c.ran_row.new.self before c.args.who.fork.tty forks new others w.follow.new.self w.follow.ensures.follows)
     ]
 
-pub returns-then-is_head : goal.returns-then-is_head
-returns-then-is_head c =
+pub returns-then-is_head-clause-tied : goal.returns-then-is_head-clause-tied
+returns-then-is_head-clause-tied c =
     let e = c.requires.ended in
     let forks = c.args.tree.now.forks in
     let before = c.ran_row.ensures.tied e.old.forks e.tied in
@@ -45,4 +49,33 @@ returns-then-is_head c =
       | in-Job w ↦
           let others = subst (λ (r : Reach). Reaches r c.args.who.fork e.old c.args.tree.now) w.in-Job.is e.reaches in
           subst (AreTied forks) (sym w.lists-is) (tied_followed e.old.forks e.trees.slotted c.ran_row.new.self before c.args.who.fork.tty forks new others w.follow.new.self w.follow.ensures.follows)
+    ])
+
+pub returns-else-is_head-clause-closer : goal.returns-else-is_head-clause-closer
+returns-else-is_head-clause-closer c f runs apart here =
+    let who = c.args.who.fork in
+    let old = c.args.lists.now.sched in
+    let n = c.args.count in
+    let m = row_ran (n - 1) old in
+    let behind : (u : Schedule) → (is_in_line f c.ran_row.new.self.sched ≡ true → ComesOn f c.ran_row.new.self.sched u) → ComesOn f m u =
+    λ u on. comes_behind f who old n c.ran_row.new.self.sched u c.sound.ensures.timed c.requires.head.head c.requires.row c.requires.some c.ran_row.ensures.ran apart here on in
+    let was : heads who m.ready ≡ true = head_at old who n c.sound.ensures.timed c.requires.head.head c.requires.row (n - 1) (omega (arith, c.requires.some)) in
+    let gone = sym c.is_head.ensures ∙ c.if-is_head.false in
+    elim c.match-reach.branch [
+      | in-Own w ↦ head_gone f who m _ (subst (λ (l : ForkLists). ComesOn f m l.sched) (sym w.lists-is) (behind w.follow_slot.new.self.sched (w.follow_slot.ensures.comes_on f runs))) apart was gone
+      | in-Job w ↦ head_gone f who m _ (subst (λ (l : ForkLists). ComesOn f m l.sched) (sym w.lists-is) (behind w.follow.new.self.sched (w.follow.ensures.comes_on f runs))) apart was gone
+    ]
+
+pub returns-then-is_head-clause-closer : goal.returns-then-is_head-clause-closer
+returns-then-is_head-clause-closer c f runs apart here =
+    let who = c.args.who.fork in
+    let old = c.args.lists.now.sched in
+    let n = c.args.count in
+    let m = row_ran (n - 1) old in
+    let behind : (u : Schedule) → (is_in_line f c.ran_row.new.self.sched ≡ true → ComesOn f c.ran_row.new.self.sched u) → ComesOn f m u =
+    λ u on. comes_behind f who old n c.ran_row.new.self.sched u c.sound.ensures.timed c.requires.head.head c.requires.row c.requires.some c.ran_row.ensures.ran apart here on in
+    let still = sym c.is_head.ensures ∙ c.if-is_head.true in
+    subst (λ (s : Schedule). Nears f m s 1) (sym c.ran_row-then-is_head.ensures.ran) (elim c.match-reach.branch [
+      | in-Own w ↦ head_goes_on f who m _ (subst (λ (l : ForkLists). ComesOn f m l.sched) (sym w.lists-is) (behind w.follow_slot.new.self.sched (w.follow_slot.ensures.comes_on f runs))) apart still
+      | in-Job w ↦ head_goes_on f who m _ (subst (λ (l : ForkLists). ComesOn f m l.sched) (sym w.lists-is) (behind w.follow.new.self.sched (w.follow.ensures.comes_on f runs))) apart still
     ])

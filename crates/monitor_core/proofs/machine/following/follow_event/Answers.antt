@@ -1,4 +1,4 @@
-use Rattle.std.proofs.Common.{◌≡◌, IsSome, ap, sym, subst, inl, inr}
+use Rattle.std.proofs.Common.{IsSome, sym, subst, inl, inr}
 use Rattle.std.specs.FinMap as map
 use Rattle.script_texts.specs.declared.event.Event.{Event}
 use Rattle.monitor_core.specs.Reaching.{EventReaches}
