@@ -1,26 +1,10 @@
 // The clock: forks that sleep, what the clock and the units are told as, and units that are shown.
-use crate::memory_run::{assert_ended, made, run_words};
-use std::process::Abort;
-use tenex_console::Status;
-
-// A script with both of its texts.
-#[derive(Clone, Copy)]
-struct Timed {
-    script: &'static [u8],
-    transcript: &'static [u8],
-    record: &'static [u8],
-}
-
-impl Timed {
-    // It runs to its end, and gives these texts.
-    fn assert_shows<R: Abort + AllocGlobal>(&self, rt: &R) {
-        let ran = made(rt, run_words(rt.alloc(), &["run"], self.script, 2048));
-        assert_ended(rt, &ran, Status::Done, self.transcript, self.record);
-    }
-}
+use crate::memory_run::WholeRun;
 
 // DISMS for two ticks, TIME, RUNTM, and DISMS for none.
-const SLEEPS: Timed = Timed {
+const SLEEPS: WholeRun = WholeRun {
+    words: &["run"],
+    pages: 2048,
     script: b"LOGIN 0 A\n\
      POKE 0 100 201040000002\n\
      POKE 0 101 104000000167\n\
@@ -92,7 +76,9 @@ fn a_sleeper_runs_again_at_its_tick_and_not_before(rt: HostRuntime) {
 }
 
 // An interrupt is delivered to a fork that sleeps.
-const INTERRUPTED: Timed = Timed {
+const INTERRUPTED: WholeRun = WholeRun {
+    words: &["run"],
+    pages: 2048,
     script: b"LOGIN 0 A\n\
      POKE 0 100 201040400000\n\
      POKE 0 101 200100000200\n\
@@ -185,7 +171,9 @@ fn a_sleep_begins_anew_behind_an_interrupt(rt: HostRuntime) {
 }
 
 // Two jobs print, and some of their units are shown.
-const TRACED: Timed = Timed {
+const TRACED: WholeRun = WholeRun {
+    words: &["run"],
+    pages: 2048,
     script: b"LOGIN 0 A\n\
      LOGIN 15 B\n\
      POKE 0 100 201040000101\n\

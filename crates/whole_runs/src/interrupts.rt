@@ -1,31 +1,8 @@
 // Pseudo-interrupts: levels, one inside the other, what can't be delivered, calls that wait, and a drum that is full.
-use crate::memory_run::{assert_ended, made, run_words};
-use std::process::Abort;
-use tenex_console::Status;
-
-// The words of a run, how many pages the drum has, and a script with both of its texts.
-#[derive(Clone, Copy)]
-struct Interrupted {
-    words: &'static [&'static str],
-    pages: u32,
-    script: &'static [u8],
-    transcript: &'static [u8],
-    record: &'static [u8],
-}
-
-impl Interrupted {
-    // It runs to its end, and gives these texts.
-    fn assert_shows<R: Abort + AllocGlobal>(&self, rt: &R) {
-        let ran = made(
-            rt,
-            run_words(rt.alloc(), self.words, self.script, self.pages),
-        );
-        assert_ended(rt, &ran, Status::Done, self.transcript, self.record);
-    }
-}
+use crate::memory_run::WholeRun;
 
 // Channel 0 of level 2 posts channel 1 of level 1, which is delivered inside it.
-const LEVELS: Interrupted = Interrupted {
+const LEVELS: WholeRun = WholeRun {
     words: &["run"],
     pages: 2048,
     script: b"LOGIN 0 A\n\
@@ -99,7 +76,7 @@ fn a_lesser_level_goes_before_another(rt: HostRuntime) {
 }
 
 // The PC word has no place that may be written.
-const DENIED: Interrupted = Interrupted {
+const DENIED: WholeRun = WholeRun {
     words: &["run"],
     pages: 2048,
     script: b"LOGIN 0 A\n\
@@ -173,7 +150,7 @@ fn a_delivery_that_is_denied_forces_the_fork(rt: HostRuntime) {
 }
 
 // PBIN, BIN, SIN and WFORK wait, and are interrupted.
-const WAITS: Interrupted = Interrupted {
+const WAITS: WholeRun = WholeRun {
     words: &["run"],
     pages: 2048,
     script: b"LOGIN 0 A\n\
@@ -355,7 +332,7 @@ fn a_call_that_waited_waits_again(rt: HostRuntime) {
 }
 
 // A copy that finds no room is made once there is some.
-const FULL: Interrupted = Interrupted {
+const FULL: WholeRun = WholeRun {
     words: &["run", "--drum", "256"],
     pages: 256,
     script: b"FILE <A>TEXT.X\n\
@@ -488,7 +465,7 @@ fn a_handler_makes_room_for_a_copy(rt: HostRuntime) {
 }
 
 // A page without another name is copied on a full drum.
-const SOLE: Interrupted = Interrupted {
+const SOLE: WholeRun = WholeRun {
     words: &["run", "--drum", "256"],
     pages: 256,
     script: b"FILE <A>TEXT.X\n\
