@@ -1,4 +1,5 @@
 pub mod Kept
+pub mod Reaching
 pub mod Found
 pub mod HeldFrames
 pub mod YoungFrames

@@ -7,7 +7,7 @@ ghost use Rattle.frame_table.specs.contracts.frames.Frames.{the_row};
 
 use crate::pages::zero_pages;
 use crate::tenant::Tenant;
-use crate::victims::oldest_leaver;
+use crate::victims::{first_to_go, note_age, note_oldest};
 use crate::{Hold, MOST_PINS};
 use number_map::NumberMap;
 use number_set::NumberSet;
@@ -15,6 +15,7 @@ use outside::{Memory, PAGE_WORDS};
 use page_homes::{FrameId, Home, MOST_HOMES};
 use std::alloc::Global;
 use std::marker::Model;
+use tournament::Tournament;
 
 /// How many holds of a frame are not spent at most.
 pub const MOST_HOLDS: u32 = u32::MAX;
@@ -29,6 +30,8 @@ const HOMES: usize = MOST_HOMES as usize;
 pub struct Frames {
     seats: Vec<Option<Tenant>>,
     pages: Vec<[u64; PAGE_WORDS]>,
+    // An age that each frame has reached which may give up its page.
+    reached: Tournament,
     taken: NumberSet,
     homes: NumberMap<FrameId, HOMES>,
     free: u32,
@@ -38,13 +41,15 @@ pub struct Frames {
 
 impl Model for Frames {
     ghost use Rattle.frame_table.specs.Core.{Core};
+    ghost use Rattle.frame_table.specs.Reached.{AreReached};
     ghost use Rattle.frame_table.specs.Seats.{AreKept, core_of};
 
     ghost Value = { Core };
 
     ghost view = { λ s. core_of s.seats.items s.pages.items s.uses };
 
-    ghost invariant = { λ s. AreKept (core_of s.seats.items s.pages.items s.uses) s.taken s.homes s.free };
+    ghost invariant = { λ s. AreKept (core_of s.seats.items s.pages.items s.uses) s.taken s.homes s.free
+        × AreReached s.reached s.seats.items };
 }
 
 impl Frames {
@@ -55,6 +60,7 @@ impl Frames {
         Ok(Frames {
             seats: vec![in alloc; None; n as usize]?,
             pages: zero_pages(alloc, n)?,
+            reached: Tournament::boot(alloc, n as usize)?,
             taken: NumberSet::boot(alloc, n as usize)?,
             homes: NumberMap::boot(alloc)?,
             free: n,
@@ -173,6 +179,7 @@ impl Frames {
         ensures { self.new ≡ with_tenant self.old f.0 (λ t. tenant) }
     {
         self.seats[f.0 as usize] = Some(tenant);
+        note_age(&mut self.reached, &self.seats, f);
     }
 
     /// Holds a frame that is taken, until the hold is released. Fewer than 2^32 - 1 holds of it are
@@ -268,11 +275,19 @@ impl Frames {
 
     /// The frame whose page goes next: of those that are taken, and neither held nor in transfer, the
     /// one of least age, then least number. None exactly where every frame is held, free or in
-    /// transfer. It is looked for among all frames, so that a use costs no more than its number.
+    /// transfer. After `look_for_victim` it is mostly at hand; else it may be looked for among all frames.
     pub fn victim(&self) -> Option<FrameId>
         ensures { MatchOption result ((f : ℕ) → can_leave self.now f ≡ false) (λ f. IsVictim self.now f.0) }
     {
-        oldest_leaver(&self.seats)
+        first_to_go(&self.reached, &self.seats)
+    }
+
+    /// Looks for the victim, so that `victim` has it at hand: a few steps for each frame that was used since it was
+    /// last looked at here, so that a use itself is no more than its number. Nothing changes.
+    pub fn look_for_victim(&mut self)
+        ensures { self.new ≡ self.old }
+    {
+        note_oldest(&mut self.reached, &self.seats);
     }
 
     // The free frame of least number. None exactly where all are taken.
@@ -308,6 +323,7 @@ impl Frames {
     {
         let tenant = Tenant::new(home, self.uses);
         self.seats[f.0 as usize] = Some(tenant);
+        note_age(&mut self.reached, &self.seats, f);
         self.taken.insert(f.0 as usize);
         self.homes.insert(home.0 as usize, f);
         self.free -= 1;

@@ -342,6 +342,13 @@ impl Residence {
         self.frames.page(f)
     }
 
+    /// Looks for the victim, so that `victim` has it at hand. Nothing changes.
+    pub fn look_for_victim(&mut self)
+        ensures { self.new ≡ self.old }
+    {
+        self.frames.look_for_victim();
+    }
+
     /// The frame whose page goes next. None exactly where no page may leave its frame.
     pub fn victim(&self) -> Option<FrameId>
         ensures { MatchOption result (victim_of self.now.frames.seats ≡ None) (λ f. victim_of self.now.frames.seats ≡ Some f.0) }

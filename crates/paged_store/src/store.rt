@@ -100,6 +100,7 @@ impl PagedStore {
         ensures untold { self.new.untold ≡ self.old.untold }
         ensures holders { self.new.holders ≡ self.old.holders }
     {
+        self.core.look_for_victim();
         let Some(f) = self.core.victim() else {
             return;
         };

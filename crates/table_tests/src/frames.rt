@@ -138,6 +138,34 @@ fn the_oldest_use_goes_first(rt: HostRuntime) {
 }
 
 #[test]
+fn a_look_for_the_victim_finds_who_was_used(rt: HostRuntime) {
+    let mut frames = made(&rt, Frames::boot(rt.alloc(), 3));
+    frames.look_for_victim();
+    same(&rt, frames.victim(), None);
+    for home in [Home(1), Home(2), Home(3)] {
+        let _ = assign(&mut frames, home);
+    }
+    touch_age(&mut frames, FrameId(1));
+    same(&rt, frames.victim(), Some(FrameId(0)));
+    touch_age(&mut frames, FrameId(2));
+    touch_age(&mut frames, FrameId(0));
+    same(&rt, frames.victim(), Some(FrameId(1)));
+    for _look in 0..4 {
+        frames.look_for_victim();
+        same(&rt, frames.victim(), Some(FrameId(1)));
+    }
+    set_transfer(&mut frames, FrameId(1), true);
+    same(&rt, frames.victim(), Some(FrameId(2)));
+    frames.look_for_victim();
+    same(&rt, frames.victim(), Some(FrameId(2)));
+    set_transfer(&mut frames, FrameId(1), false);
+    same(&rt, frames.victim(), Some(FrameId(1)));
+    free(&mut frames, FrameId(1));
+    frames.look_for_victim();
+    same(&rt, frames.victim(), Some(FrameId(2)));
+}
+
+#[test]
 fn words_are_read_and_changed(rt: HostRuntime) {
     let mut frames = made(&rt, Frames::boot(rt.alloc(), 2));
     frames.assign(Home(3));

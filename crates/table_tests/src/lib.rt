@@ -16,6 +16,8 @@ mod frames;
 #[cfg(test)]
 mod jfns;
 #[cfg(test)]
+mod keys;
+#[cfg(test)]
 mod laws;
 #[cfg(test)]
 mod made;

@@ -7,4 +7,4 @@ pub invariant_of-self : goal.invariant_of-self
 invariant_of-self c =
     let inside = c.self.inside in
     let now : Core = core_of inside.seats.items inside.pages.items inside.uses in
-    kept_reseated now c.args.self.now inside.taken inside.homes inside.free c.args.f.0 c.args.tenant c.self.invariant c.self.view_is c.requires.home c.requires.age c.requires.pins
+    (kept_reseated now c.args.self.now inside.taken inside.homes inside.free c.args.f.0 c.args.tenant c.self.invariant.0 c.self.view_is c.requires.home c.requires.age c.requires.pins, rw c.deref.ensures.value at c.note_age.ensures)

@@ -16,4 +16,4 @@ pub returns : goal.returns
 returns c =
     let inside = c.self.inside in
     let now : Core = core_of inside.seats.items inside.pages.items inside.uses in
-    subst (λ (q : Core). MatchOption c.oldest_leaver.result ((f : ℕ) → can_leave q f ≡ false) (λ f. IsVictim q f.0)) c.self.view_is (found now c.oldest_leaver.result (subst (λ (seats : List (Option Tenant)). GoesFirst seats c.oldest_leaver.result) c.deref.ensures.value c.oldest_leaver.ensures))
+    subst (λ (q : Core). MatchOption c.first_to_go.result ((f : ℕ) → can_leave q f ≡ false) (λ f. IsVictim q f.0)) c.self.view_is (found now c.first_to_go.result (subst (λ (seats : List (Option Tenant)). GoesFirst seats c.first_to_go.result) c.deref.ensures.value c.first_to_go.ensures))
