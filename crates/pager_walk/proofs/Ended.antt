@@ -40,13 +40,13 @@ module _ (t : Tables) (places : List HomePlace) (rooted : AreRooted t (map is_ta
   map_other : (j : ℕ) → j ≢ k → map_at ended.maps j ≡ map_at t.maps j
   map_other j ne = get_or-set_other t.maps k j (record { fork = None; home = root_at t.maps k }) no_map ne
 
-  whose : (j : ℕ) (g : ForkName) → fork_at ended.maps j ≡ Some g → (j ≢ k) × (fork_at t.maps j ≡ Some g)
+  pub whose : (j : ℕ) (g : ForkName) → fork_at ended.maps j ≡ Some g → (j ≢ k) × (fork_at t.maps j ≡ Some g)
   whose j g e = elim (cases_eq j k) [
     | inl same ↦ absurd (let z : ◌≡◌ {A = Option ForkName} None (Some g) = sym (ap (λ (m : MapPage). m.fork) map_own) ∙ sym (ap (fork_at ended.maps) same) ∙ e in cc z)
     | inr other ↦ (other, ap (λ (m : MapPage). m.fork) (sym (map_other j other)) ∙ e)
   ]
 
-  root_is : (j : ℕ) → j ≢ k → (root_at ended.maps j).0 ≡ (root_at t.maps j).0
+  pub root_is : (j : ℕ) → j ≢ k → (root_at ended.maps j).0 ≡ (root_at t.maps j).0
   root_is j ne = ap (λ (m : MapPage). m.home.0) (map_other j ne)
 
   -- the other maps are elsewhere
@@ -75,7 +75,7 @@ module _ (t : Tables) (places : List HomePlace) (rooted : AreRooted t (map is_ta
   }
 
   module _ (d : DrumWords) where
-    content_is : (j : ℕ) (g : ForkName) → (j ≢ k) × (fork_at t.maps j ≡ Some g) → content after d (root_at ended.maps j).0 ≡ content places d (root_at t.maps j).0
+    pub content_is : (j : ℕ) (g : ForkName) → (j ≢ k) × (fork_at t.maps j ≡ Some g) → content after d (root_at ended.maps j).0 ≡ content places d (root_at t.maps j).0
     content_is j g x = ap (content after d) (root_is j x.0) ∙ content_other places d (root_at t.maps k).0 (root_at t.maps j).0 free (elsewhere j g x)
 
     pub fits_ended : FitsMaps t places d → FitsMaps ended after d

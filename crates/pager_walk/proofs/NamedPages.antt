@@ -9,7 +9,6 @@ use Rattle.outside.specs.declared.TheConstants.{PAGE_WORDS}
 use Rattle.machine_names.specs.declared.names.Access.{Access}
 use Rattle.machine_names.specs.declared.names.ForkName.{ForkName}
 use Rattle.machine_names.specs.declared.names.PageName.{PageName}
-use Rattle.machine_names.specs.PageWords.{zero_words}
 use Rattle.machine_names.proofs.OrderLemmas.{fork_cmp_total, fork_cmp_apart}
 use Rattle.page_homes.specs.declared.homes.Home.{Home}
 use Rattle.plain_pages.specs.declared.map.MapEntry.TheVariants as entry
@@ -18,7 +17,7 @@ use Rattle.share_table.specs.declared.pointer.Pointer.TheVariants as pointer
 use Rattle.share_table.specs.declared.shares.SharedPage.{SharedPage}
 use Rattle.share_table.specs.Shares.{page_at}
 use Rattle.page_contracts.specs.DrumWords.{DrumWords}
-use Rattle.page_contracts.specs.Stores.{HomePlace, free, here, place, is_taken, content}
+use Rattle.page_contracts.specs.Stores.{HomePlace, free, place, is_taken, content}
 use Rattle.pager_walk.specs.declared.paged_entry.PagedEntry.{PagedEntry}
 use Rattle.pager_walk.specs.declared.paged_entry.PagedEntry.TheVariants.{Page}
 use Rattle.pager_walk.specs.Decoding.{pointer_in}
@@ -34,21 +33,21 @@ map_same f g [] d same = refl
 map_same f g (x ∷ xs) d same = λ i. same 0 (omega arith) i ∷ map_same f g xs d (λ k l. same (suc k) (omega (arith, l))) i
 
 -- a home that was free gets a name
-module _ (t : Tables) (places : List HomePlace) (rooted : AreRooted t (map is_taken places)) (home : Home) (name : PageName) (inside : home.0 < length places) (was_free : place places home.0 ≡ free) where
+module _ (t : Tables) (places : List HomePlace) (rooted : AreRooted t (map is_taken places)) (home : Home) (name : PageName) (page : HomePlace) (is_page : is_taken page ≡ true) (inside : home.0 < length places) (was_free : place places home.0 ≡ free) where
   abbrev named : Tables
   named = with_name t home name
 
   abbrev after : List HomePlace
-  after = slice_set places home.0 (here zero_words)
+  after = slice_set places home.0 page
 
   apart_of : (h : ℕ) → slice_index_or (map is_taken places) h false ≡ true → h ≢ home.0
   apart_of h taken same = let z : false ≡ true = sym (ap is_taken was_free) ∙ sym (taken_map places home.0) ∙ ap (λ i. slice_index_or (map is_taken places) i false) (sym same) ∙ taken in absurd (cc z)
 
   own_taken : slice_index_or (map is_taken after) home.0 false ≡ true
-  own_taken = taken_map after home.0 ∙ ap is_taken (get_or-set_same places home.0 (here zero_words) free inside)
+  own_taken = taken_map after home.0 ∙ ap is_taken (get_or-set_same places home.0 page free inside) ∙ is_page
 
   still_taken : (h : ℕ) → slice_index_or (map is_taken places) h false ≡ true → slice_index_or (map is_taken after) h false ≡ true
-  still_taken h taken = taken_map after h ∙ ap is_taken (get_or-set_other places home.0 h (here zero_words) free (apart_of h taken)) ∙ sym (taken_map places h) ∙ taken
+  still_taken h taken = taken_map after h ∙ ap is_taken (get_or-set_other places home.0 h page free (apart_of h taken)) ∙ sym (taken_map places h) ∙ taken
 
   other_name : (h : ℕ) → h ≢ home.0 → name_at named.names h ≡ name_at t.names h
   other_name h ne = get_or-set_other t.names home.0 h (Some name) None ne
@@ -67,7 +66,7 @@ module _ (t : Tables) (places : List HomePlace) (rooted : AreRooted t (map is_ta
       | inl same ↦ ap (λ i. slice_index_or (map is_taken after) i false) same ∙ own_taken
       | inr other ↦ still_taken h (rooted.named h (sym (ap is_some (other_name h other)) ∙ e))
     ];
-    few = omega (arith, rooted.few, length-map after is_taken, length-map places is_taken, length-set places home.0 (here zero_words), length-set t.names home.0 (Some name));
+    few = omega (arith, rooted.few, length-map after is_taken, length-map places is_taken, length-set places home.0 page, length-set t.names home.0 (Some name));
   }
 
   abbrev Same : Option PagedEntry → Option PagedEntry → Type 0
@@ -104,11 +103,11 @@ module _ (t : Tables) (places : List HomePlace) (rooted : AreRooted t (map is_ta
 
   module _ (pages : ArePages places) (d : DrumWords) (fits : FitsMaps t places d) where
     content_is : (k : ℕ) (f : ForkName) → fork_at t.maps k ≡ Some f → content after d (root_at t.maps k).0 ≡ content places d (root_at t.maps k).0
-    content_is k f e = content_other places d home.0 (root_at t.maps k).0 (here zero_words) (apart_of (root_at t.maps k).0 (rooted.there k f e))
+    content_is k f e = content_other places d home.0 (root_at t.maps k).0 page (apart_of (root_at t.maps k).0 (rooted.there k f e))
 
     pub fits_named : FitsMaps named after d
     fits_named = record {
-      drum = fits_still places d home.0 (here zero_words) fits.drum;
+      drum = fits_still places d home.0 page fits.drum;
       entries = λ k page f e l.
           let some = fits.entries k page f e l in
           subst (λ (c : Option (List ℕ)). IsSome (entry_in named (slice_index (words_in c) page))) (sym (content_is k f e)) (subst (λ (o : Option PagedEntry). IsSome o) (sym (same_word (slice_index (words_in (content places d (root_at t.maps k).0)) page) some).0) some);

@@ -6,7 +6,7 @@ ghost use Rattle.plain_pages.specs.Maps.{set_entry};
 ghost use Rattle.plain_pages.specs.NewMaps.{empty_map, following_map};
 ghost use Rattle.share_table.specs.Pointers.{IsPointer, pointer_word};
 ghost use Rattle.page_contracts.specs.DrumWords.{DrumWords};
-ghost use Rattle.page_contracts.specs.Stores.{IsFreed, IsMade, IsUsed, free_homes, here, is_taken, place, room_of, with_word_in};
+ghost use Rattle.page_contracts.specs.Stores.{IsFreed, IsMade, IsUsed, free_homes, here, is_here, is_taken, place, room_of, with_word_in};
 ghost use Rattle.pager_walk.specs.declared.paged_entry.PagedEntry.{PagedEntry as APagedEntry};
 ghost use Rattle.pager_walk.specs.MapPages.{first_map, fork_at, index_of, root_at};
 ghost use Rattle.pager_walk.specs.NewPages.{following_words};
@@ -55,6 +55,28 @@ pub fn make_page<S: Store>(store: &mut S, tables: &mut MapTables, name: PageName
         → maps_over (tables_of tables.new) (S.means.homes store.new) d ≡ maps_over (tables_of tables.old) (S.means.homes store.old) d }
 {
     let home = store.make();
+    tables.names[home.0 as usize] = Some(name);
+    home
+}
+
+/// The same for a page with the words of another, which is in a frame.
+pub fn copy_page<S: Store>(
+    store: &mut S,
+    tables: &mut MapTables,
+    from: Home,
+    name: PageName,
+) -> Home
+    requires rooted { AreRooted (tables_of tables.old) (map is_taken (S.means.homes store.old)) }
+    requires room { room_of (free_homes (S.means.homes store.old)) (S.means.spare store.old) 1 ≡ Room.Enough }
+    requires from { is_here (place (S.means.homes store.old) from.0) ≡ true }
+    ensures made { IsMade S.means result.0 (place (S.means.homes store.old) from.0) store.old store.new }
+    ensures tables { tables_of tables.new ≡ with_name (tables_of tables.old) result name }
+    ensures rooted { AreRooted (tables_of tables.new) (map is_taken (S.means.homes store.new)) }
+    ensures fits { (d : DrumWords) → FitsMaps (tables_of tables.old) (S.means.homes store.old) d → FitsMaps (tables_of tables.new) (S.means.homes store.new) d }
+    ensures told { (d : DrumWords) → FitsMaps (tables_of tables.old) (S.means.homes store.old) d
+        → maps_over (tables_of tables.new) (S.means.homes store.new) d ≡ maps_over (tables_of tables.old) (S.means.homes store.old) d }
+{
+    let home = store.copy(from);
     tables.names[home.0 as usize] = Some(name);
     home
 }

@@ -28,7 +28,7 @@ module _ (t t' : Tables) (words words' : ℕ → Option (List ℕ)) where
   own_same home None same = refl
   own_same home (Some f) same = same f refl
 
-  all_same : (maps : List MapPage) → ((j : ℕ) (f : ForkName) → fork_at maps j ≡ Some f → SameRow t t' words words' (root_at maps j).0) → map (map_held t' words') maps ≡ map (map_held t words) maps
+  pub all_same : (maps : List MapPage) → ((j : ℕ) (f : ForkName) → fork_at maps j ≡ Some f → SameRow t t' words words' (root_at maps j).0) → map (map_held t' words') maps ≡ map (map_held t words) maps
   all_same [] same = refl
   all_same (m ∷ maps) same =
       let own = own_same m.home m.fork (λ f e. same zero f e) in
@@ -55,7 +55,7 @@ module _ (t t' : Tables) (words words' : ℕ → Option (List ℕ)) where
         λ i. record { fork = m.fork; entries = own i } ∷ rest i
 
 -- an element that is there, by its number
-there_at : (xs : List ℕ) (i x : ℕ) → slice_get xs i ≡ Some x → (i < length xs) × (slice_index xs i ≡ x)
+pub there_at : (xs : List ℕ) (i x : ℕ) → slice_get xs i ≡ Some x → (i < length xs) × (slice_index xs i ≡ x)
 there_at [] i x e = absurd (cc e)
 there_at (y ∷ xs) zero x e = (omega arith, (let same : y ≡ x = cc e in same))
 there_at (y ∷ xs) (suc i) x e = let r = there_at xs i x e in (omega (arith, r.0), r.1)
@@ -71,6 +71,13 @@ module _ (t t' : Tables) (places places' : List HomePlace) (d : DrumWords) (root
       let r = there_at words i x e in
       let some : IsSome (entry_in t x) = subst (λ v. IsSome (entry_in t v)) r.1 (fits.entries j i f is (omega (arith, r.0, size))) in
       ap (λ (o : Option PagedEntry). option_map_or in_memory o entry.Empty) (stays x some))
+
+  -- no word of a map is put
+  pub memory_still : t'.maps ≡ t.maps → ((j : ℕ) (g : ForkName) → fork_at t.maps j ≡ Some g → content places' d (root_at t.maps j).0 ≡ content places d (root_at t.maps j).0) → maps_in_memory t' (content places' d) ≡ maps_in_memory t (content places d)
+  unfolding maps_in_memory
+  memory_still maps same =
+      ap (map (map_held t' (content places' d))) maps
+      ∙ all_same t t' (content places d) (content places' d) t.maps (λ j g x. ap (λ (c : Option (List ℕ)). map (entry_held t') (words_in c)) (same j g x) ∙ row_same j g x)
 
   -- one word of one map is put
   pub memory_set : t'.maps ≡ t.maps → (k page w : ℕ) (f : ForkName) (p : PagedEntry) → fork_at t.maps k ≡ Some f → entry_in t' w ≡ Some p

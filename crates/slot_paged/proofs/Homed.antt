@@ -64,7 +64,7 @@ place_tells b places kept pages d fits (File f page) there = tt
 -- a touch answers as told
 pub touch_told : (b : Beside) (places : List HomePlace) → AreKept b places → ArePages places → (d : DrumWords) → FitsPages b places d → (frames : ℕ) (at : Place) → IsPlace (λ f. is_some (index_of b.tables.maps f)) at → (kind : Kind) (owner : Tty) → IsOwner owner
     → touch_of (plain_over b places d) (scene_over b places frames) (spot_of at) kind owner ≡ touched_over b places frames at kind
-touch_told b places kept pages d fits frames (Fork s) there kind owner own = slot_touched b places kept.rooted pages d fits frames s kind owner own there.0 there.1 (stood b.tables places kept.rooted s there.1) (walked b.tables places d kept.rooted pages fits.maps s there.1)
+touch_told b places kept pages d fits frames (Fork s) there kind owner own = slot_touched b places kept.rooted pages d fits kept.files.count frames s kind owner own there.0 there.1 (stood b.tables places kept.rooted s there.1) (walked b.tables places d kept.rooted pages fits.maps s there.1)
 touch_told b places kept pages d fits frames (File f page) there kind owner own = file_touch_told b places kept.rooted pages d fits frames (file_page f.0 page) kind owner own (kept.filed (file_page f.0 page))
 
 -- and what it needs is needed

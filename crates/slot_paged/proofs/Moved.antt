@@ -50,6 +50,11 @@ pub kept_moved : (b : Beside) (places places' : List HomePlace) → AreKept b pl
 kept_moved b places places' kept same = record {
   rooted = subst (AreRooted b.tables) (sym same) kept.rooted;
   filed = kept.filed;
+  named = kept.named;
+  shared = kept.shared;
+  files = kept.files;
+  sized = kept.sized;
+  living = kept.living;
   homes = (let many : length places' ≡ length places = sym (length-map places' is_taken) ∙ ap length same ∙ length-map places is_taken in omega (arith, many, kept.homes));
   free = (let homes : free_homes places' ≡ free_homes places = free_mapped places' places same in omega (arith, homes, kept.free));
   few = kept.few;
@@ -80,8 +85,8 @@ module _ (b : Beside) (places : List HomePlace) (kept : AreKept b places) (pages
   abbrev pub put_places : List HomePlace
   put_places = slice_set places h.0 (with_word_in (place places h.0) offset word)
 
-  apart : IsNoRoot b.tables.maps h.0
-  apart = named_apart b places kept.rooted h.0 (homed_named b places kept at h (place_stands b places kept at there) is)
+  pub put_apart : IsNoRoot b.tables.maps h.0
+  put_apart = named_apart b places kept.rooted h.0 (homed_named b places kept at h (place_stands b places kept at there) is)
 
   taken_put : (p : HomePlace) → p ≡ here words → is_taken (with_word_in p offset word) ≡ is_taken p
   taken_put p e = ap (λ (q : HomePlace). is_taken (with_word_in q offset word)) e ∙ sym (ap is_taken e)
@@ -94,17 +99,17 @@ module _ (b : Beside) (places : List HomePlace) (kept : AreKept b places) (pages
     u = in_memory_over b places d
 
     stays : (k : ℕ) (f : ForkName) → fork_at b.tables.maps k ≡ Some f → content put_places d (root_at b.tables.maps k).0 ≡ content places d (root_at b.tables.maps k).0
-    stays k f e = content_other places d h.0 (root_at b.tables.maps k).0 (with_word_in (place places h.0) offset word) (apart k f e)
+    stays k f e = content_other places d h.0 (root_at b.tables.maps k).0 (with_word_in (place places h.0) offset word) (put_apart k f e)
 
     drum' : FitsHomes put_places d
     drum' = fits_still places d h.0 (with_word_in (place places h.0) offset word) fits.maps.drum
 
     same_place : place u.places h.0 ≡ place places h.0
-    same_place = place_same b.tables.maps places h.0 apart
+    same_place = place_same b.tables.maps places h.0 put_apart
 
     put_over : in_memory_over b put_places d ≡ replaced u (slice_set u.places h.0 (with_word_in (place u.places h.0) offset word))
     put_over =
-        let pages_set = places_set b.tables.maps places h.0 (with_word_in (place places h.0) offset word) apart ∙ ap (λ q. slice_set u.places h.0 (with_word_in q offset word)) (sym same_place) in
+        let pages_set = places_set b.tables.maps places h.0 (with_word_in (place places h.0) offset word) put_apart ∙ ap (λ q. slice_set u.places h.0 (with_word_in q offset word)) (sym same_place) in
         let maps_stay = memory_same b.tables (content places d) (content put_places d) stays in
         λ i. record u { places = pages_set i; maps = maps_stay i }
 

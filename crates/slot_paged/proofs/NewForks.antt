@@ -19,7 +19,7 @@ use Rattle.plain_pages.specs.Maps.{full_access}
 use Rattle.pager_walk.specs.declared.map_pages.MapPage.{MapPage}
 use Rattle.pager_walk.specs.declared.paged_entry.PagedEntry.{PagedEntry}
 use Rattle.pager_walk.specs.declared.paged_entry.PagedEntry.TheVariants as paged
-use Rattle.pager_walk.specs.MapPages.{AreNumbered, first_map, fork_at, index_of, one_later, root_at}
+use Rattle.pager_walk.specs.MapPages.{AreNumbered, first_map, fork_at, index_of, no_map, one_later, root_at}
 use Rattle.pager_walk.specs.PagedMaps.{Tables, AreRooted, FitsMaps, entry_in, entry_of, plain_entry, with_root, words_in}
 use Rattle.pager_walk.proofs.Changing.{content_other, content_same as content_own}
 use Rattle.pager_walk.proofs.Looking.{taken_map}
@@ -143,10 +143,21 @@ module _ (b : Beside) (places : List HomePlace) (kept : AreKept b places) (k : �
   apart : IsNoRoot b.tables.maps home.0
   apart = free_apart b.tables places kept.rooted home.0 was
 
+  one_more : b.living + 1 ≡ count_by (λ (m : MapPage). is_some m.fork) (with_fork b k f home).tables.maps
+  one_more =
+      let s = sum_by-set (λ (m : MapPage). cond (is_some m.fork) 1 0) b.tables.maps k (record { fork = Some f; home = home }) no_map within in
+      let old : ◌≡◌ {A = ℕ} (cond (is_some (fork_at b.tables.maps k)) 1 0) 0 = ap (λ o. cond (is_some o) 1 0) number in
+      omega (arith, s, old, kept.living)
+
   pub begun_kept : AreRooted (with_root b.tables k f home) (map is_taken after) → AreKept (with_fork b k f home) after
   begun_kept rooted = record {
     rooted = rooted;
     filed = kept.filed;
+    named = kept.named;
+    shared = record { stands = kept.shared.stands; back = kept.shared.back; named = kept.shared.named; homes = kept.shared.homes; room = kept.shared.room; below = kept.shared.below; count = kept.shared.count };
+    files = record { within = kept.files.within; homes = kept.files.homes; count = kept.files.count; few = kept.files.few };
+    sized = kept.sized;
+    living = one_more;
     homes = omega (arith, length-set places home.0 (here words), kept.homes);
     free =
         (let s = sum_by-set (λ (p : HomePlace). cond (is_free p) 1 0) places home.0 (here words) free below in
@@ -186,10 +197,10 @@ module _ (b : Beside) (places : List HomePlace) (kept : AreKept b places) (k : �
     )
 
 -- the same forks, whose maps are empty
-bare_held : List MapPage → List HeldMap
+unfoldable pub bare_held : List MapPage → List HeldMap
 bare_held maps = map (λ m. record { fork = m.fork; entries = flat.no_page }) maps
 
-bare_fork : (maps : List MapPage) (k : ℕ) → flat.fork_at (bare_held maps) k ≡ fork_at maps k
+pub bare_fork : (maps : List MapPage) (k : ℕ) → flat.fork_at (bare_held maps) k ≡ fork_at maps k
 unfolding bare_held
 bare_fork [] k = refl
 bare_fork (m ∷ maps) zero = refl
@@ -199,12 +210,12 @@ later_same : (o : Option ℕ) → flat.one_later o ≡ one_later o
 later_same None = refl
 later_same (Some k) = refl
 
-bare_index : (maps : List MapPage) (f : ForkName) → flat.index_of (bare_held maps) f ≡ index_of maps f
+pub bare_index : (maps : List MapPage) (f : ForkName) → flat.index_of (bare_held maps) f ≡ index_of maps f
 unfolding bare_held
 bare_index [] f = refl
 bare_index (m ∷ maps) f = ap (λ o. cond (option_map_or (same_fork f) m.fork false) (Some 0) o) (ap flat.one_later (bare_index maps f) ∙ later_same (index_of maps f))
 
-bare_living : (maps : List MapPage) (t : Tty) → flat.living_of (bare_held maps) t ≡ count_by (λ (m : MapPage). option_map_or (λ f. nat_eq f.tty.0 t.0) m.fork false) maps
+pub bare_living : (maps : List MapPage) (t : Tty) → flat.living_of (bare_held maps) t ≡ count_by (λ (m : MapPage). option_map_or (λ f. nat_eq f.tty.0 t.0) m.fork false) maps
 unfolding bare_held
 bare_living [] t = refl
 bare_living (m ∷ maps) t =
@@ -212,11 +223,11 @@ bare_living (m ∷ maps) t =
     ∙ ap (λ n. cond (option_map_or (λ f. nat_eq f.tty.0 t.0) m.fork false) 1 0 + n) (bare_living maps t)
     ∙ sym (sum_by-cons (λ (x : MapPage). cond (option_map_or (λ f. nat_eq f.tty.0 t.0) x.fork false) 1 0) m maps)
 
-bare_length : (maps : List MapPage) → length (bare_held maps) ≡ length maps
+pub bare_length : (maps : List MapPage) → length (bare_held maps) ≡ length maps
 unfolding bare_held
 bare_length maps = length-map maps (λ m. record { fork = m.fork; entries = flat.no_page })
 
-bare_at : (maps : List MapPage) (k : ℕ) → k < length maps → (flat.map_at (bare_held maps) k).entries ≡ flat.no_page
+pub bare_at : (maps : List MapPage) (k : ℕ) → k < length maps → (flat.map_at (bare_held maps) k).entries ≡ flat.no_page
 unfolding bare_held
 bare_at [] k l = absurd (omega (arith, l))
 bare_at (m ∷ maps) zero l = refl
@@ -241,7 +252,7 @@ no_page_length : length flat.no_page ≡ SPACE_PAGES
 unfolding flat.no_page
 no_page_length = length-replicate SPACE_PAGES Empty
 
-bare_are_held : (maps : List MapPage) → AreNumbered maps → flat.AreHeld (bare_held maps)
+pub bare_are_held : (maps : List MapPage) → AreNumbered maps → flat.AreHeld (bare_held maps)
 bare_are_held maps n = record {
   count = bare_length maps ∙ n.count;
   pages = λ k l. ap length (bare_at maps k (omega (arith, l, bare_length maps))) ∙ no_page_length;

@@ -39,15 +39,15 @@ pub record ReadyAt (places : List HomePlace) (x : PageHome) : Type 0 where
   pub is : x ≡ At home
   pub near : away_at places home.0 ≡ None
 
-absent_not : (o : Option ℕ) (x : Touch) → (x ≡ Ready → ⊥) → absent_or o x ≡ Ready → ⊥
+pub absent_not : (o : Option ℕ) (x : Touch) → (x ≡ Ready → ⊥) → absent_or o x ≡ Ready → ⊥
 absent_not None x f e = f e
 absent_not (Some home) x f e = cc e
 
-framed_not : (b : Bool) (x : Touch) → (x ≡ Ready → ⊥) → cond b x NeedFrame ≡ Ready → ⊥
+pub framed_not : (b : Bool) (x : Touch) → (x ≡ Ready → ⊥) → cond b x NeedFrame ≡ Ready → ⊥
 framed_not true x f e = f e
 framed_not false x f e = cc e
 
-roomy_not : (b : Bool) (x : Touch) → (x ≡ Ready → ⊥) → cond b x Full ≡ Ready → ⊥
+pub roomy_not : (b : Bool) (x : Touch) → (x ≡ Ready → ⊥) → cond b x Full ≡ Ready → ⊥
 roomy_not true x f e = f e
 roomy_not false x f e = cc e
 

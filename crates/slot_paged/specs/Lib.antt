@@ -1,3 +1,9 @@
+pub mod KnownPages
+pub mod PagedSlots
+pub mod WalkTimes
+pub mod FiledTables
+pub mod FiledSteps
+pub mod KnownNow
 pub mod PagedPlaces
 pub mod NameCounts
 pub mod MapsInMemory
@@ -6,3 +12,7 @@ pub mod PagedTouches
 pub mod PageHomes
 pub mod PagedMeaning
 pub mod MadePages
+pub mod LeftShares
+pub mod PlacesSettled
+pub mod SetEntries
+pub mod EndedForks

@@ -1,5 +1,5 @@
 -- What references find of maps that are pages.
-use Rattle.std.specs.Prelude.{ℕ, ◌+◌, List, Bool, true, false, Option, None, Some, if◌then◌else◌, ◌==◌, nat_le}
+use Rattle.std.specs.Prelude.{ℕ, ◌+◌, List, Bool, true, false, Option, None, Some, if◌then◌else◌, ◌==◌, ◌&&◌, nat_le}
 use Rattle.std.specs.Option.{option_map, option_and_then}
 use Rattle.std.specs.FinMap as fin
 use Rattle.machine_names.specs.declared.names.Kind.{Kind}
@@ -21,6 +21,7 @@ use Rattle.pager_walk.specs.declared.paged_entry.Looked.TheVariants.{Is, Missing
 use Rattle.pager_walk.specs.declared.paged_entry.PagedEntry.TheVariants.{Empty, Page, Follows}
 use Rattle.pager_walk.specs.PagedMaps.{look_at, map_away, name_at}
 use Rattle.pager_walk.specs.Walks.{allows_along, walk_at}
+use Rattle.flat_pages.specs.SlotTables.{share_of}
 use Rattle.flat_pages.specs.SlotTouches.{home_named}
 use Rattle.slot_paged.specs.NameCounts.{count_of, share_at}
 use Rattle.slot_paged.specs.PagedTables.{Beside}
@@ -37,10 +38,14 @@ roomy b n = nat_le (b.taken + b.living + n) b.limit
 abbrev pub names_at : Beside → ℕ → ℕ
 names_at b h = count_of b.tables.shares (name_at b.tables.names h) (share_at b.shared h)
 
+-- whether the page of a home has one name, which is no file's
+abbrev pub has_one_name : Beside → ℕ → Bool
+has_one_name b h = names_at b h == 1 && share_of b.filed h == 0
+
 -- whether an entry is the only name of its page
 abbrev pub alone_in : Beside → Looked → Bool
 alone_in b (Is Empty) = false
-alone_in b (Is (Page home a)) = names_at b home.0 == 1
+alone_in b (Is (Page home a)) = has_one_name b home.0
 alone_in b (Is (Follows serial page a)) = false
 alone_in b (MapAbsent home) = false
 alone_in b Missing = false

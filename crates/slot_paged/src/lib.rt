@@ -3,10 +3,21 @@
 //! Stands on `pager_walk` for maps and walks, on `flat_pages` for what such maps mean in memory, and on `page_contracts` for the contracts.
 #![tactic(auto)]
 
+mod entry_changes;
+mod file_places;
+mod file_tables;
+mod fork_ends;
+mod known_page;
+mod known_slots;
+mod known_walks;
+mod looked_up;
 mod page_home;
 mod paged_tables;
+mod settling;
 mod slot_paged;
 
+pub use known_page::KnownPage;
+pub use known_slots::KnownSlots;
 pub use page_home::PageHome;
 pub use paged_tables::PagedTables;
 pub use slot_paged::SlotPaged;

@@ -8,21 +8,22 @@ ghost use Rattle.machine_names.specs.Bounds.{IsFilePage};
 ghost use Rattle.machine_names.specs.Orders.{file_page};
 
 use flat_pages::PageSerials;
-use machine_names::{FileNo, PageName, Tty};
+use machine_names::{Access, FileNo, PageName, Tty};
 use outside::Memory;
 use page_files::Files;
 use page_homes::Home;
-use pager_walk::MapTables;
-use share_table::Share;
+use pager_walk::{Looked, MapTables, PagedEntry};
+use share_table::{Pointer, Share};
 use std::alloc::{AllocError, Global};
 
 /// The maps of forks, the names of pages and the shares; for each home the share of its page, where it has
-/// one; the homes of the pages of files; the next page serials; how many pages and how many forks there are,
+/// one, and how many pages of files name it; the homes of the pages of files; the next page serials; how many pages and how many forks there are,
 /// and how many of both there may be.
 #[derive(Drop)]
 pub struct PagedTables {
     pub tables: MapTables,
     pub shared: Vec<Option<Share>>,
+    pub filed: Vec<u32>,
     pub files: Files<Home>,
     pub serials: PageSerials,
     pub taken: u32,
@@ -41,16 +42,29 @@ fn no_shares(alloc: Global, homes: u32) -> Result<Vec<Option<Share>>, AllocError
     Ok(shared)
 }
 
+// For so many homes that no file names their pages.
+fn none_filed(alloc: Global, homes: u32) -> Result<Vec<u32>, AllocError>
+    ensures { IfOk result (λ v. v.items ≡ replicate homes 0) }
+{
+    vec![in alloc; 0; homes as usize]
+}
+
 impl PagedTables {
-    ghost use Rattle.std.specs.Prelude.{List, length};
+    ghost use Rattle.std.specs.Prelude.{IsSome, List, Some, length};
     ghost use Rattle.page_contracts.specs.DrumWords.{DrumWords};
     ghost use Rattle.page_contracts.specs.Stores.{FitsHomes, HomePlace, is_taken};
     ghost use Rattle.plain_pages.specs.PlainPages.{first_serials};
+    ghost use Rattle.flat_pages.specs.SlotTables.{share_of};
     ghost use Rattle.pager_walk.specs.MapPages.{no_map};
-    ghost use Rattle.pager_walk.specs.PagedMaps.{AreRooted, FitsMaps, tables_of};
+    ghost use Rattle.pager_walk.specs.PagedMaps.{AreRooted, FitsMaps, tables_of, with_name};
     ghost use Rattle.pager_walk.specs.declared.map_pages.TheConstants.{MOST_MAPS};
+    ghost use Rattle.slot_paged.specs.LeftShares.{keeps_name, left_by_one, left_of, left_once};
+    ghost use Rattle.slot_paged.specs.MadePages.{pointer_to, with_shares};
     ghost use Rattle.slot_paged.specs.PagedTables.{beside_of};
-    ghost use Rattle.slot_paged.specs.PagedTouches.{names_at, roomy};
+    ghost use Rattle.slot_paged.specs.SetEntries.{JoinsPage, SharesPage, alone_home, page_freed, pointer_of};
+    ghost use Rattle.share_table.specs.declared.shares.Share.{Share as AShare};
+    ghost use Rattle.share_table.specs.Shares.{page_at};
+    ghost use Rattle.slot_paged.specs.PagedTouches.{has_one_name, names_at, roomy};
     ghost use Rattle.slot_paged.specs.NameCounts.{share_at};
 
     /// No fork and no page, and room for so many of both. Err: no memory.
@@ -58,6 +72,8 @@ impl PagedTables {
         ensures maps { IfOk result (λ t. t.tables.maps.pages.items ≡ replicate MOST_MAPS no_map) }
         ensures names { IfOk result (λ t. t.tables.names.items ≡ replicate limit None) }
         ensures shared { IfOk result (λ t. t.shared.items ≡ replicate limit None) }
+        ensures filed { IfOk result (λ t. t.filed.items ≡ replicate limit 0) }
+        ensures shares { IfOk result (λ t. t.tables.shares ≡ record { room = limit; pages = fin.empty }) }
         ensures files { IfOk result (λ t. t.files ≡ fin.empty) }
         ensures terminals { IfOk result (λ t. t.serials.terminals ≡ first_serials) }
         ensures console { IfOk result (λ t. t.serials.console ≡ 1) }
@@ -67,10 +83,12 @@ impl PagedTables {
     {
         let tables = MapTables::boot(alloc, limit)?;
         let shared = no_shares(alloc, limit)?;
+        let filed = none_filed(alloc, limit)?;
         let files = Files::boot(alloc)?;
         Ok(PagedTables {
             tables,
             shared,
+            filed,
             files,
             serials: PageSerials::first(),
             taken: 0,
@@ -88,7 +106,7 @@ impl PagedTables {
     }
 
     // The share of the page of a home, where it has one.
-    fn share_of(&self, home: Home) -> Option<Share>
+    pub(crate) fn share_of(&self, home: Home) -> Option<Share>
         ensures { result ≡ share_at self.now.shared.items home.0 }
     {
         if home.0 as usize >= self.shared.len() {
@@ -113,6 +131,109 @@ impl PagedTables {
         self.tables.shares.count_of(share)
     }
 
+    // How many pages of files name the page of a home.
+    fn filed_names(&self, home: Home) -> u32
+        ensures { result ≡ share_of self.now.filed.items home.0 }
+    {
+        if home.0 as usize >= self.filed.len() {
+            return 0;
+        }
+        self.filed[home.0 as usize]
+    }
+
+    /// Whether the page of a home has one name, which is no file's.
+    pub fn has_one_name(&self, home: Home) -> bool
+        ensures { result ≡ has_one_name (beside_of self.now) home.0 }
+    {
+        self.names_of(home) == 1 && self.filed_names(home) == 0
+    }
+
+    /// The pointer that names the page of a home: by its share, where it has one.
+    pub fn pointer(&self, home: Home, access: Access) -> Pointer
+        ensures { result ≡ pointer_to (beside_of self.now) home access }
+    {
+        match self.share_of(home) {
+            Some(share) => Pointer::Shared(share, access),
+            None => Pointer::Private(home, access),
+        }
+    }
+
+    /// The pointer of an entry.
+    pub fn pointer_of(&self, entry: PagedEntry) -> Pointer
+        ensures { result ≡ pointer_of (beside_of self.now) entry }
+    {
+        match entry {
+            PagedEntry::Empty => Pointer::Empty,
+            PagedEntry::Page(home, access) => self.pointer(home, access),
+            PagedEntry::Follows(serial, page, access) => Pointer::Indirect(serial, page, access),
+        }
+    }
+
+    // Whether the page of a home keeps another name when an entry leaves it; what files name of it stays.
+    fn keeps_name(&self, home: Home) -> bool
+        ensures { result ≡ keeps_name (beside_of self.now) home.0 }
+    {
+        let names = self.names_of(home);
+        1 < names && self.filed_names(home) < names
+    }
+
+    // The page of a share is named once less.
+    pub(crate) fn leave_share(&mut self, share: Option<Share>)
+        ensures { beside_of self.new ≡ with_shares (beside_of self.old) (left_by_one self.old.tables.shares share) }
+    {
+        let Some(share) = share else {
+            return;
+        };
+        if self.tables.shares.has(share) {
+            let _last = self.tables.shares.leave(share);
+        }
+    }
+
+    // The page of a home is named once less, where it keeps another name.
+    #[tactic(auto, unfolding(crate::specs::LeftShares::left_once))]
+    fn leave(&mut self, home: Home)
+        ensures { beside_of self.new ≡ with_shares (beside_of self.old) (left_once (beside_of self.old) home.0) }
+    {
+        if self.keeps_name(home) {
+            let share = self.share_of(home);
+            self.leave_share(share);
+        }
+    }
+
+    /// The page that an entry names, if it names one, is named once less, where it keeps another name.
+    pub fn leave_entry(&mut self, seen: Looked)
+        ensures { beside_of self.new ≡ with_shares (beside_of self.old) (left_of (beside_of self.old) seen) }
+    {
+        match seen {
+            Looked::Is(PagedEntry::Page(home, _)) => self.leave(home),
+            Looked::Is(PagedEntry::Empty) => (),
+            Looked::Is(PagedEntry::Follows(_, _, _)) => (),
+            Looked::Absent(_) => (),
+            Looked::Missing => (),
+            Looked::Refused => (),
+        }
+    }
+
+    /// The home of the page that an entry alone names, if there is one.
+    pub fn alone_page(&self, seen: Looked) -> Option<Home>
+        ensures { result ≡ alone_home (beside_of self.now) seen }
+    {
+        match seen {
+            Looked::Is(PagedEntry::Page(home, _)) => {
+                if self.has_one_name(home) {
+                    Some(home)
+                } else {
+                    None
+                }
+            }
+            Looked::Is(PagedEntry::Empty) => None,
+            Looked::Is(PagedEntry::Follows(_, _, _)) => None,
+            Looked::Absent(_) => None,
+            Looked::Missing => None,
+            Looked::Refused => None,
+        }
+    }
+
     /// Whether so many pages more may live.
     pub fn has_room(&self, pages: u32) -> bool
         requires { self.now.taken + self.now.living ≤ self.now.limit }
@@ -130,6 +251,62 @@ impl PagedTables {
     {
         let serial = self.serials.take(owner);
         PageName { tty: owner, serial }
+    }
+
+    /// The page of a home has another name.
+    pub fn rename(&mut self, home: Home, name: PageName)
+        requires { home.0 < length self.old.tables.names.items }
+        ensures { beside_of self.new ≡ record (beside_of self.old) { tables = with_name (beside_of self.old).tables home name } }
+    {
+        self.tables.names[home.0 as usize] = Some(name);
+    }
+
+    // The share of the page of a home, a new one where it had none.
+    fn share_page(&mut self, home: Home) -> Share
+        requires home { home.0 < length self.old.shared.items }
+        requires room { share_at self.old.shared.items home.0 ≡ None → fin.len self.old.tables.shares.pages < self.old.tables.shares.room }
+        ensures { SharesPage (beside_of self.old) (beside_of self.new) home result }
+    {
+        if let Some(share) = self.share_of(home) {
+            return share;
+        }
+        let share = self.tables.shares.share(home);
+        self.shared[home.0 as usize] = Some(share);
+        share
+    }
+
+    /// The page of a home is named once more.
+    pub fn join(&mut self, home: Home)
+        requires home { home.0 < length self.old.shared.items }
+        requires room { share_at self.old.shared.items home.0 ≡ None → fin.len self.old.tables.shares.pages < self.old.tables.shares.room }
+        requires there { (s : AShare) → share_at self.old.shared.items home.0 ≡ Some s → IsSome (page_at self.old.tables.shares s.0) }
+        ensures { JoinsPage (beside_of self.old) (beside_of self.new) home }
+    {
+        let share = self.share_page(home);
+        self.tables.shares.join(share);
+    }
+
+    /// The page of a home goes, with its share, if it has one.
+    pub fn drop_page(&mut self, home: Home)
+        requires home { home.0 < length self.old.tables.names.items }
+        requires taken { 1 ≤ self.old.taken }
+        ensures { beside_of self.new ≡ page_freed (beside_of self.old) home }
+    {
+        let share = self.share_of(home);
+        self.leave_share(share);
+        self.tables.names[home.0 as usize] = None;
+        self.unshare(home);
+        self.taken -= 1;
+    }
+
+    /// A file names the page of a home, of which no other page of a file is.
+    pub fn file(&mut self, file: FileNo, page: u16, home: Home)
+        requires page { IsFilePage file page }
+        requires home { home.0 < length self.old.filed.items }
+        ensures { beside_of self.new ≡ record (beside_of self.old) { filed = slice_set self.old.filed.items home.0 1; files = fin.insert self.old.files (file_page file.0 page) home } }
+    {
+        self.filed[home.0 as usize] = 1;
+        let _old = self.files.put_page(file, page, home);
     }
 
     /// The page of a home has no share.

@@ -22,13 +22,13 @@ use word36::Word;
 /// more names than one has a share, which counts them.
 #[derive(Drop)]
 pub struct SlotPaged<S: Store> {
-    store: S,
-    tables: PagedTables,
+    pub(crate) store: S,
+    pub(crate) tables: PagedTables,
     ghost kept: { AreKept (beside_of tables) (S.means.homes store) },
 }
 
 // Where a reference makes a copy, if it makes one.
-fn copy_for(way: Way, kind: Kind) -> Option<Slot>
+pub(crate) fn copy_for(way: Way, kind: Kind) -> Option<Slot>
     ensures { result ≡ copy_for kind way }
 {
     match kind {
@@ -110,12 +110,12 @@ impl<S: Store> SlotPaged<S> {
     }
 
     // Whether an entry is the only name of its page.
-    fn is_alone(&self, at: Slot) -> bool
+    pub(crate) fn is_alone(&self, at: Slot) -> bool
         requires { at.page < SPACE_PAGES }
         ensures { result ≡ alone_at (beside_of self.now.tables) (S.means.homes self.now.store) at }
     {
         match entry(&self.store, &self.tables.tables, at) {
-            Looked::Is(PagedEntry::Page(home, _)) => self.tables.names_of(home) == 1,
+            Looked::Is(PagedEntry::Page(home, _)) => self.tables.has_one_name(home),
             Looked::Is(PagedEntry::Empty) => false,
             Looked::Is(PagedEntry::Follows(_, _, _)) => false,
             Looked::Absent(_) => false,
@@ -274,7 +274,7 @@ impl<S: Store> SlotPaged<S> {
     }
 
     // The home of the page of a place: at the end of its chain, or in its file.
-    fn home_of(&self, at: Place) -> PageHome
+    pub(crate) fn home_of(&self, at: Place) -> PageHome
         requires { IsPlace (lives_in (beside_of self.now.tables)) at }
         ensures answer { result ≡ homed_over (beside_of self.now.tables) (S.means.homes self.now.store) at }
         ensures taken { (h : AHome) → result ≡ PageHome.At h → is_taken (place (S.means.homes self.now.store) h.0) ≡ true }
@@ -591,62 +591,5 @@ impl<S: Store> SlotPaged<S> {
                 self.begin_following(number, fork, leader);
             }
         }
-    }
-}
-
-impl<S: Store> SlotPaged<S> {
-    ghost use Rattle.std.specs.Prelude.{◌≡◌, ◌+◌, ◌<◌, ◌^◌, true};
-    ghost use Rattle.machine_names.specs.declared.names.TheConstants.{SPACE_PAGES};
-    ghost use Rattle.machine_names.specs.Bounds.{IsOwner};
-    ghost use Rattle.page_contracts.specs.DrumWords.{DrumWords};
-    ghost use Rattle.page_contracts.specs.Pages.{IsPlace};
-    ghost use Rattle.plain_pages.specs.References.{in_map, settled};
-    ghost use Rattle.flat_pages.specs.Serials.{serial_of, with_next};
-    ghost use Rattle.pager_walk.specs.PagedMaps.{is_near, look_at};
-    ghost use Rattle.slot_paged.specs.MadePages.{MakesZero};
-    ghost use Rattle.slot_paged.specs.PagedTables.{FitsPages, beside_of, plain_over};
-    ghost use Rattle.slot_paged.specs.PagedTouches.{roomy, touched_over};
-    ghost use Rattle.slot_paged.specs.PagedMeaning.{forks_in, lives_in};
-
-    // A zero page in a home of its own, which an entry names in the place of what it named.
-    fn make_zero(&mut self, at: Slot, owner: Tty)
-        requires page { at.page < SPACE_PAGES }
-        requires near { is_near (look_at (beside_of self.old.tables).tables (S.means.homes self.old.store) at) ≡ true }
-        requires owner { IsOwner owner }
-        requires serial { serial_of self.old.tables.serials owner < 2 ^ 63 }
-        requires room { roomy (beside_of self.old.tables) 1 ≡ true }
-        requires frame { 0 < S.means.spare self.old.store }
-        ensures { MakesZero S.means self.old.store self.new.store (beside_of self.old.tables) (beside_of self.new.tables) at owner }
-    {
-        let name = self.tables.take_name(owner);
-        let home = make_page(&mut self.store, &mut self.tables.tables, name);
-        self.tables.unshare(home);
-        self.tables.taken += 1;
-        let pointer = Pointer::Private(home, FULL_ACCESS);
-        set(&mut self.store, &self.tables.tables, at, pointer);
-    }
-
-    /// Makes the zero page that a touch announces, for an owner, in a frame.
-    pub fn settle_zero(&mut self, at: Slot, kind: Kind, owner: Tty)
-        requires place { IsPlace (lives_in (beside_of self.old.tables)) (Place.Fork at) }
-        requires zero { touched_over (beside_of self.old.tables) (S.means.homes self.old.store) (S.means.spare self.old.store) (Place.Fork at) kind ≡ Touch.Zero }
-        requires owner { IsOwner owner }
-        requires serial { serial_of self.old.tables.serials owner < 2 ^ 63 }
-        ensures told { (d : DrumWords) → FitsPages (beside_of self.old.tables) (S.means.homes self.old.store) d
-            → FitsPages (beside_of self.new.tables) (S.means.homes self.new.store) d
-            × (plain_over (beside_of self.new.tables) (S.means.homes self.new.store) d ≡ settled (plain_over (beside_of self.old.tables) (S.means.homes self.old.store) d) (in_map at) kind owner) }
-        ensures lives { lives_in (beside_of self.new.tables) ≡ lives_in (beside_of self.old.tables) }
-        ensures forks { forks_in (beside_of self.new.tables) ≡ forks_in (beside_of self.old.tables) }
-        ensures serials { self.new.tables.serials ≡ with_next self.old.tables.serials owner }
-        ensures files { self.new.tables.files ≡ self.old.tables.files }
-        ensures taken { self.new.tables.taken ≡ self.old.tables.taken + 1 }
-        ensures living { self.new.tables.living ≡ self.old.tables.living }
-        ensures limit { self.new.tables.limit ≡ self.old.tables.limit }
-        ensures frames { S.means.spare self.new.store + 1 ≡ S.means.spare self.old.store }
-    {
-        let Walked::Along(way) = walk(&self.store, &self.tables.tables, at) else {
-            unreachable!()
-        };
-        self.make_zero(way.end, owner);
     }
 }

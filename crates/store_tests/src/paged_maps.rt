@@ -102,7 +102,7 @@ fn maps_go_to_the_drum_and_come_back(rt: HostRuntime) {
     let Touch::Zero = pages.touch(Place::Fork(OF_SECOND), Kind::Write) else {
         panic!(&rt; "an empty page");
     };
-    pages.settle_zero(OF_SECOND, Kind::Write, Tty(1));
+    pages.settle(Place::Fork(OF_SECOND), Kind::Write, Tty(1));
     same(&rt, pages.live(), 3);
     if !pages.lives(SECOND) {
         panic!(&rt; "it lives");

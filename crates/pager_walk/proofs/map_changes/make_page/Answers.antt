@@ -1,6 +1,7 @@
 use Rattle.std.proofs.Common.{◌<◌, List, length, map, refl, sym, ◌∙◌, ap, subst, arith, rules}
 use Rattle.std.proofs.lemmas.List.{length-map}
-use Rattle.page_contracts.specs.Stores.{HomePlace, is_taken}
+use Rattle.machine_names.specs.PageWords.{zero_words}
+use Rattle.page_contracts.specs.Stores.{HomePlace, here, is_taken}
 use Rattle.pager_walk.specs.PagedMaps.{tables_of, with_name, maps_over, AreRooted, FitsMaps}
 use Rattle.pager_walk.proofs.NamedPages.{rooted_named, fits_named, maps_named}
 use Rattle.pager_walk.proofs.map_changes.make_page.Goals as goal
@@ -22,7 +23,7 @@ returns g c =
     record {
       made = m;
       tables = refl;
-      rooted = subst (λ (ps : List HomePlace). AreRooted after (map is_taken ps)) (sym m.homes) (rooted_named t places r.rooted home c.args.name m.below m.was_free);
-      fits = λ d fits. subst (λ (ps : List HomePlace). FitsMaps after ps d) (sym m.homes) (fits_named t places r.rooted home c.args.name m.below m.was_free pages d fits);
-      told = λ d fits. ap (λ (ps : List HomePlace). maps_over after ps d) m.homes ∙ maps_named t places r.rooted home c.args.name m.below m.was_free pages d fits;
+      rooted = subst (λ (ps : List HomePlace). AreRooted after (map is_taken ps)) (sym m.homes) (rooted_named t places r.rooted home c.args.name (here zero_words) refl m.below m.was_free);
+      fits = λ d fits. subst (λ (ps : List HomePlace). FitsMaps after ps d) (sym m.homes) (fits_named t places r.rooted home c.args.name (here zero_words) refl m.below m.was_free pages d fits);
+      told = λ d fits. ap (λ (ps : List HomePlace). maps_over after ps d) m.homes ∙ maps_named t places r.rooted home c.args.name (here zero_words) refl m.below m.was_free pages d fits;
     }

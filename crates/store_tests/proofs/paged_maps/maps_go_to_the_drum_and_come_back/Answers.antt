@@ -7,11 +7,8 @@ add_fork-requires-clause-few g c = let none = rw c.made-pages.ensures at c.boot-
 pub add_fork-requires-2-clause-few : goal.add_fork-requires-2-clause-few
 add_fork-requires-2-clause-few g c = let none = rw c.made-pages.ensures at c.boot-2.ensures.forks in omega (arith, none (record { 0 = 1 }), c.add_fork.ensures.forks)
 
-pub settle_zero-requires-clause-zero : goal.settle_zero-requires-clause-zero
-settle_zero-requires-clause-zero g c = sym c.in-Zero.ensures.answer
-
-pub settle_zero-requires-clause-serial : goal.settle_zero-requires-clause-serial
-settle_zero-requires-clause-serial g c = let low = rw c.made-pages.ensures at c.boot-2.ensures.serials in rw (c.add_fork-2.ensures.serials, c.add_fork.ensures.serials) (omega (arith, low (record { 0 = 1 })))
+pub settle-requires-clause-serial : goal.settle-requires-clause-serial
+settle-requires-clause-serial g c = let low = rw c.made-pages.ensures at c.boot-2.ensures.serials in rw (c.add_fork-2.ensures.serials, c.add_fork.ensures.serials) (omega (arith, low (record { 0 = 1 })))
 
 pub put-requires-clause-ready : goal.put-requires-clause-ready
 put-requires-clause-ready g c = sym c.in-Ready.ensures.answer

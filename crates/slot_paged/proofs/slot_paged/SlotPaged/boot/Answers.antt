@@ -9,7 +9,7 @@ invariant_of-result g c =
     let e = c.in_ok-tables.ensures in
     let b = beside_of c.in_ok-tables.tables in
     let places = g.S.Store.means.homes c.args.store in
-    let fresh : IsFresh b places c.args.pages = record { homes = c.requires.homes; maps = e.maps; names = e.names; shared = e.shared; files = e.files; terminals = e.terminals; console = e.console; taken = e.numbers.0; living = e.numbers.1; limited = e.numbers.2; few = c.requires.pages } in
+    let fresh : IsFresh b places c.args.pages = record { homes = c.requires.homes; maps = e.maps; names = e.names; shared = e.shared; filed = e.filed; shares = e.shares; files = e.files; terminals = e.terminals; console = e.console; taken = e.numbers.0; living = e.numbers.1; limited = e.numbers.2; few = c.requires.pages } in
     record { kept = fresh_kept b places c.args.pages fresh (e.rooted places (fresh_length b places c.args.pages fresh)) }
 
 pub returns : goal.returns
@@ -17,7 +17,7 @@ returns g c =
     let e = c.in_ok-tables.ensures in
     let b = beside_of c.in_ok-tables.tables in
     let places = g.S.Store.means.homes c.args.store in
-    let fresh : IsFresh b places c.args.pages = record { homes = c.requires.homes; maps = e.maps; names = e.names; shared = e.shared; files = e.files; terminals = e.terminals; console = e.console; taken = e.numbers.0; living = e.numbers.1; limited = e.numbers.2; few = c.requires.pages } in
+    let fresh : IsFresh b places c.args.pages = record { homes = c.requires.homes; maps = e.maps; names = e.names; shared = e.shared; filed = e.filed; shares = e.shares; files = e.files; terminals = e.terminals; console = e.console; taken = e.numbers.0; living = e.numbers.1; limited = e.numbers.2; few = c.requires.pages } in
     record {
       plain = fresh_plain b places c.args.pages fresh;
       fits = λ d fits. fresh_fits b places c.args.pages fresh d (e.fits places d (subst (λ (ps : List HomePlace). FitsHomes ps d) (sym c.requires.homes) fits));

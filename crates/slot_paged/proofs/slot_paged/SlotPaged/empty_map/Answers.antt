@@ -1,0 +1,32 @@
+use Rattle.std.proofs.Common.{◌≡◌, ℕ, refl, subst, arith}
+use Rattle.pager_walk.specs.declared.paged_entry.PagedEntry.TheVariants as paged
+use Rattle.slot_paged.specs.EndedForks.{EmptiesFork}
+use Rattle.slot_paged.specs.PagedTables.{beside_of}
+use Rattle.slot_paged.proofs.EmptiedForks.{empties_more, empties_none, near_later}
+use Rattle.slot_paged.proofs.slot_paged.SlotPaged.empty_map.Goals as goal
+
+pub loop-page-init : goal.loop-page-init
+loop-page-init g c = empties_none g.S.Store.means c.args.self.now.store (beside_of c.args.self.now.tables) c.args.fork c.args.self.now.kept (g.met.S.Store.sound c.args.self.now.store).pages
+
+pub set_unnamed-requires-clause-page : goal.set_unnamed-requires-clause-page
+set_unnamed-requires-clause-page g c = c.loop-page-test.true
+
+pub set_unnamed-requires-clause-near : goal.set_unnamed-requires-clause-near
+set_unnamed-requires-clause-near g c =
+    let s = c.args.self.now in
+    (near_later g.S.Store.means s.store c.loop-page.self.store (beside_of s.tables) (beside_of c.loop-page.self.tables) c.args.fork c.loop-page.page c.loop-page.self.kept c.loop-page.invariant c.requires.lives c.requires.near).1
+
+pub loop-page-preserved : goal.loop-page-preserved
+loop-page-preserved g c =
+    let s = c.args.self.now in
+    let mid = c.loop-page.self in
+    let new = c.set_unnamed.new.self in
+    let store = g.S.Store.means in
+    let near = near_later store s.store mid.store (beside_of s.tables) (beside_of mid.tables) c.args.fork c.loop-page.page mid.kept c.loop-page.invariant c.requires.lives c.requires.near in
+    empties_more store s.store mid.store new.store (beside_of s.tables) (beside_of mid.tables) (beside_of new.tables) c.args.fork c.loop-page.page mid.kept (g.met.S.Store.sound mid.store).pages c.loop-page-test.true near.0.0 near.0.1 near.1 c.loop-page.invariant (c.set_unnamed.ensures paged.Empty refl)
+
+pub returns : goal.returns
+returns g c =
+    let s = c.args.self.now in
+    let all : c.loop-page.page ≡ 512 = omega (arith, c.loop-page-test.false, c.loop-page.auto.page-end) in
+    subst (λ (n : ℕ). EmptiesFork g.S.Store.means s.store c.loop-page.self.store (beside_of s.tables) (beside_of c.loop-page.self.tables) c.args.fork n) all c.loop-page.invariant

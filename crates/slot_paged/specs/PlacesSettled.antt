@@ -1,0 +1,67 @@
+-- What a page of a place that is settled leaves.
+use Rattle.std.specs.Prelude.{◌≡◌, ◌≢◌, ◌⊎◌, ℕ, ◌+◌, ◌<◌, ◌≤◌, Bool, true, IsSome, Option, Some, is_some}
+use Rattle.std.specs.FinMap as map
+use Rattle.machine_names.specs.declared.names.ForkName.{ForkName}
+use Rattle.machine_names.specs.declared.names.Kind.{Kind}
+use Rattle.machine_names.specs.declared.names.PageName.{PageName}
+use Rattle.machine_names.specs.declared.names.Place.{Place}
+use Rattle.machine_names.specs.declared.names.Place.TheVariants.{File}
+use Rattle.machine_names.specs.declared.names.Tty.{Tty}
+use Rattle.machine_names.specs.Orders.{FilePage, file_page}
+use Rattle.page_homes.specs.declared.homes.Home.{Home}
+use Rattle.page_contracts.specs.declared.answers.Touch.{Touch}
+use Rattle.page_contracts.specs.declared.answers.Touch.TheVariants.{Ready, Zero}
+use Rattle.page_contracts.specs.DrumWords.{DrumWords}
+use Rattle.page_contracts.specs.Pages.{SettlesTo, TakesFrames, frames_taken, spot_of}
+use Rattle.page_contracts.specs.Stores.{IsUsed, LAST_USE, Loses, StoreMeaning, is_here, place, traffic}
+use Rattle.plain_pages.specs.References.{settled}
+use Rattle.flat_pages.specs.Serials.{serial_of}
+use Rattle.flat_pages.specs.SlotTables.{files_held}
+use Rattle.pager_walk.specs.MapPages.{fork_at, root_at}
+use Rattle.slot_paged.specs.declared.page_home.PageHome.TheVariants.{At}
+use Rattle.slot_paged.specs.PageHomes.{homed_over}
+use Rattle.slot_paged.specs.PagedMeaning.{forks_in, lives_in}
+use Rattle.slot_paged.specs.PagedTables.{Beside, FitsPages, plain_over}
+use Rattle.slot_paged.specs.PagedTouches.{scene_over, touched_over}
+
+-- what files name
+abbrev pub filed_over : Beside → FilePage ℕ → Option PageName
+filed_over b = map.get (files_held b.tables.names b.files)
+
+-- one page of a file was set: each other page of a file names what it named
+pub record FilesOnePage (b b' : Beside) (f : FilePage ℕ) (named : Bool) : Type 0 where
+  pub set : is_some (filed_over b' f) ≡ named
+  pub others : (g : FilePage ℕ) → g ≢ f → filed_over b' g ≡ filed_over b g
+
+-- what files name once the page is made that a touch announces: what they named, and a zero page where a file had none
+abbrev pub FilesSettled : Beside → Beside → Place → Touch → Type 0
+FilesSettled b b' (File f page) Zero = FilesOnePage b b' (file_page f.0 page) true
+FilesSettled b b' at t = filed_over b' ≡ filed_over b
+
+-- a frame has no fork's map
+abbrev pub HasNoMap : {S : Type 0} → StoreMeaning S → S → Beside → ℕ → Type 0
+HasNoMap store s b frame = (k : ℕ) (f : ForkName) → fork_at b.tables.maps k ≡ Some f → store.tenant s frame ≡ Some (root_at b.tables.maps k).0 → ⊥
+
+-- the page of a place, which is in a frame, was used or made; each other frame has its age, but those of maps, in one of which an entry may have been set
+pub record UsesPlace {S : Type 0} (store : StoreMeaning S) (old new : S) (b' : Beside) (at : Place) : Type 0 where
+  pub home : Home
+  pub stands : homed_over b' (store.homes new) at ≡ At home
+  pub here : is_here (place (store.homes new) home.0) ≡ true
+  pub youngest : (frame other : ℕ) → store.tenant new frame ≡ Some home.0 → other ≢ frame → IsSome (store.tenant new other) → HasNoMap store new b' other → (store.age new other < store.age new frame) ⊎ (store.age new frame ≡ LAST_USE)
+  pub others : (frame : ℕ) → (store.tenant new frame ≡ Some home.0 → ⊥) → HasNoMap store new b' frame → store.age new frame ≡ store.age old frame
+
+-- the zero page or the copy was made that a touch announces, for an owner, or the page was used that it finds ready
+pub record SettlesPlace {S : Type 0} (store : StoreMeaning S) (old new : S) (b b' : Beside) (at : Place) (kind : Kind) (owner : Tty) : Type 0 where
+  pub told : (d : DrumWords) → FitsPages b (store.homes old) d → FitsPages b' (store.homes new) d × (plain_over b' (store.homes new) d ≡ settled (plain_over b (store.homes old) d) (spot_of at) kind owner)
+  pub settles : SettlesTo (touched_over b (store.homes old) (store.spare old) at kind) (touched_over b' (store.homes new) (store.spare new) at kind)
+  pub scene : TakesFrames (scene_over b (store.homes old) (store.spare old)) (scene_over b' (store.homes new) (store.spare new)) (frames_taken (touched_over b (store.homes old) (store.spare old) at kind))
+  pub count : b'.taken + b'.living ≡ b.taken + b.living + frames_taken (touched_over b (store.homes old) (store.spare old) at kind)
+  pub loses : Loses (traffic store old) (traffic store new)
+  pub uses : UsesPlace store old new b' at
+  pub filed : FilesSettled b b' at (touched_over b (store.homes old) (store.spare old) at kind)
+  pub ready : (h : Home) → touched_over b (store.homes old) (store.spare old) at kind ≡ Ready → homed_over b (store.homes old) at ≡ At h → IsUsed store h.0 old new
+  pub lives : lives_in b' ≡ lives_in b
+  pub forks : forks_in b' ≡ forks_in b
+  pub serial : serial_of b'.serials owner ≤ serial_of b.serials owner + 1
+  pub serials : (t : Tty) → t ≢ owner → serial_of b'.serials t ≡ serial_of b.serials t
+  pub most : b'.limit ≡ b.limit

@@ -1,0 +1,182 @@
+// Pages of files.
+ghost use Rattle.std.specs.Prelude.{◌≡◌};
+
+use crate::page_home::PageHome;
+use crate::slot_paged::SlotPaged;
+use machine_names::{FILE_PAGES, FileNo, PageName, Place, Slot};
+use page_contracts::Store;
+use page_homes::Home;
+
+impl<S: Store> SlotPaged<S> {
+    ghost use Rattle.std.specs.Prelude.{◌≡◌};
+    ghost use Rattle.machine_names.specs.Bounds.{IsFilePage};
+    ghost use Rattle.machine_names.specs.Orders.{file_page};
+    ghost use Rattle.slot_paged.specs.PagedSlots.{paged_slots};
+    ghost use Rattle.slot_paged.specs.PagedTables.{beside_of};
+
+    /// The page that a file names at one of its pages; it may be in no frame. None exactly where the file has
+    /// no such page.
+    pub fn page_of(&self, file: FileNo, page: u16) -> Option<PageName>
+        requires { IsFilePage file page }
+        ensures { result ≡ (paged_slots S.means (λ p. p.store) (λ p. beside_of p.tables)).filed self.now (file_page file.0 page) }
+    {
+        match self.tables.filed(file, page) {
+            Some(home) => Some(self.tables.tables.name(home)),
+            None => None,
+        }
+    }
+}
+
+impl<S: Store> SlotPaged<S> {
+    ghost use Rattle.std.specs.Prelude.{◌≡◌, ◌<◌, Some, None, is_some, true, false};
+    ghost use Rattle.std.specs.FinMap as fin;
+    ghost use Rattle.machine_names.specs.declared.names.TheConstants.{MOST_FILES};
+    ghost use Rattle.machine_names.specs.Bounds.{IsFilePage};
+    ghost use Rattle.machine_names.specs.Orders.{file_page};
+    ghost use Rattle.pager_walk.specs.PagedMaps.{name_at};
+    ghost use Rattle.slot_paged.specs.FiledSteps.{EmptiesFiled, SetsFiled, SharesPage};
+    ghost use Rattle.slot_paged.specs.PagedTables.{beside_of};
+    ghost use Rattle.slot_paged.specs.PagedTouches.{names_at};
+
+    // A file names a page no more that has no other name: the page is given up.
+    fn free_filed(&mut self, file: FileNo, page: u16, home: Home)
+        requires page { IsFilePage file page }
+        requires there { fin.get self.old.tables.files (file_page file.0 page) ≡ Some home }
+        requires alone { names_at (beside_of self.old.tables) home.0 ≡ 1 }
+        ensures { SetsFiled S.means self.old.store self.new.store (beside_of self.old.tables) (beside_of self.new.tables) (file_page file.0 page) None }
+    {
+        self.store.free(home);
+        self.tables.free_file(file, page, home);
+    }
+
+    // A file names no page any more at one of its pages. A page that loses its last name is given up.
+    fn unfile(&mut self, file: FileNo, page: u16)
+        requires { IsFilePage file page }
+        ensures { SetsFiled S.means self.old.store self.new.store (beside_of self.old.tables) (beside_of self.new.tables) (file_page file.0 page) None }
+    {
+        let Some(home) = self.tables.filed(file, page) else {
+            return;
+        };
+        if self.tables.names_of(home) == 1 {
+            self.free_filed(file, page, home);
+            return;
+        }
+        self.tables.leave_file(file, page, home);
+    }
+
+    // The page of a home has a share.
+    fn share_page(&mut self, home: Home)
+        requires { is_some (name_at self.old.tables.tables.names.items home.0) ≡ true }
+        ensures store { self.new.store ≡ self.old.store }
+        ensures shared { SharesPage (beside_of self.old.tables) (beside_of self.new.tables) home }
+    {
+        match self.tables.share_of(home) {
+            Some(_) => (),
+            None => {
+                let _share = self.tables.give_share(home);
+            }
+        }
+    }
+
+    // A file names a page, where it named none.
+    fn join_file(&mut self, file: FileNo, page: u16, home: Home)
+        requires page { IsFilePage file page }
+        requires none { fin.get self.old.tables.files (file_page file.0 page) ≡ None }
+        requires named { is_some (name_at self.old.tables.tables.names.items home.0) ≡ true }
+        ensures { SetsFiled S.means self.old.store self.new.store (beside_of self.old.tables) (beside_of self.new.tables) (file_page file.0 page) (Some home) }
+    {
+        self.share_page(home);
+        self.tables.join_file(file, page, home);
+    }
+
+    // Whether a file names the page of a home at one of its pages.
+    fn names_page(&self, file: FileNo, page: u16, home: Home) -> bool
+        requires { IsFilePage file page }
+        ensures yes { result ≡ true → fin.get self.now.tables.files (file_page file.0 page) ≡ Some home }
+        ensures no { result ≡ false → fin.get self.now.tables.files (file_page file.0 page) ≡ Some home → ⊥ }
+    {
+        match self.tables.filed(file, page) {
+            Some(old) => old.0 == home.0,
+            None => false,
+        }
+    }
+
+    // A file names a page in the place of what it named.
+    fn refile(&mut self, file: FileNo, page: u16, home: Home)
+        requires page { IsFilePage file page }
+        requires named { is_some (name_at self.old.tables.tables.names.items home.0) ≡ true }
+        ensures { SetsFiled S.means self.old.store self.new.store (beside_of self.old.tables) (beside_of self.new.tables) (file_page file.0 page) (Some home) }
+    {
+        if self.names_page(file, page, home) {
+            return;
+        }
+        self.unfile(file, page);
+        self.join_file(file, page, home);
+    }
+
+    // A file names no page any more at any of its pages. Pages that lose their last name are given up.
+    fn unfile_all(&mut self, file: FileNo)
+        requires { file.0 < MOST_FILES }
+        ensures { EmptiesFiled S.means self.old.store self.new.store (beside_of self.old.tables) (beside_of self.new.tables) file.0 FILE_PAGES }
+    {
+        for page in 0..FILE_PAGES as u16 {
+            self.unfile(file, page);
+        }
+    }
+}
+
+impl<S: Store> SlotPaged<S> {
+    ghost use Rattle.std.specs.Prelude.{◌≡◌, ◌<◌, is_some, IfSome};
+    ghost use Rattle.machine_names.specs.declared.names.TheConstants.{MOST_FILES};
+    ghost use Rattle.machine_names.specs.declared.names.Kind.TheVariants.{Read};
+    ghost use Rattle.machine_names.specs.Bounds.{IsFilePage};
+    ghost use Rattle.machine_names.specs.Orders.{file_page};
+    ghost use Rattle.page_contracts.specs.declared.answers.Touch.TheVariants.{Ready};
+    ghost use Rattle.page_contracts.specs.DrumWords.{DrumWords};
+    ghost use Rattle.page_contracts.specs.Pages.{DropsFile, FilesOne, IsPlace, MayLose, StaysInCore, UsesNone};
+    ghost use Rattle.plain_pages.specs.FilePages.{filed_by, without_file};
+    ghost use Rattle.slot_paged.specs.PagedSlots.{paged_slots};
+    ghost use Rattle.slot_paged.specs.PagedTables.{beside_of};
+
+    /// Sets a page of a file: to the page at the end of a slot's chain, which a touch to read finds Ready, or to
+    /// none. A page that loses its last name is dropped.
+    pub fn set_file(&mut self, file: FileNo, page: u16, from: Option<Slot>)
+        requires page { IsFilePage file page }
+        requires place { IfSome from (λ s. IsPlace ((paged_slots S.means (λ p. p.store) (λ p. beside_of p.tables)).lives self.old) (Place.Fork s)) }
+        requires ready { IfSome from (λ s. (paged_slots S.means (λ p. p.store) (λ p. beside_of p.tables)).touched self.old (Place.Fork s) Read ≡ Ready) }
+        ensures told { (d : DrumWords) → (paged_slots S.means (λ p. p.store) (λ p. beside_of p.tables)).fits self.old d → (paged_slots S.means (λ p. p.store) (λ p. beside_of p.tables)).fits self.new d × ((paged_slots S.means (λ p. p.store) (λ p. beside_of p.tables)).plain self.new d ≡ filed_by ((paged_slots S.means (λ p. p.store) (λ p. beside_of p.tables)).plain self.old d) (file_page file.0 page) from) }
+        ensures scene { StaysInCore ((paged_slots S.means (λ p. p.store) (λ p. beside_of p.tables)).scene self.old) ((paged_slots S.means (λ p. p.store) (λ p. beside_of p.tables)).scene self.new) 0 }
+        ensures filed { FilesOne (paged_slots S.means (λ p. p.store) (λ p. beside_of p.tables)) (file_page file.0 page) (is_some from) self.old self.new }
+        ensures loses { MayLose (paged_slots S.means (λ p. p.store) (λ p. beside_of p.tables)) self.old self.new }
+        ensures uses { UsesNone (paged_slots S.means (λ p. p.store) (λ p. beside_of p.tables)) self.old self.new }
+        ensures lives { (paged_slots S.means (λ p. p.store) (λ p. beside_of p.tables)).lives self.new ≡ (paged_slots S.means (λ p. p.store) (λ p. beside_of p.tables)).lives self.old }
+        ensures forks { (paged_slots S.means (λ p. p.store) (λ p. beside_of p.tables)).forks_of self.new ≡ (paged_slots S.means (λ p. p.store) (λ p. beside_of p.tables)).forks_of self.old }
+        ensures serials { (paged_slots S.means (λ p. p.store) (λ p. beside_of p.tables)).serial self.new ≡ (paged_slots S.means (λ p. p.store) (λ p. beside_of p.tables)).serial self.old }
+        ensures most { (paged_slots S.means (λ p. p.store) (λ p. beside_of p.tables)).most self.new ≡ (paged_slots S.means (λ p. p.store) (λ p. beside_of p.tables)).most self.old }
+    {
+        let Some(slot) = from else {
+            self.unfile(file, page);
+            return;
+        };
+        let PageHome::At(home) = self.home_of(Place::Fork(slot)) else {
+            unreachable!()
+        };
+        self.refile(file, page, home);
+    }
+
+    /// Drops all pages of a file. Those that lose their last name are dropped.
+    pub fn drop_file(&mut self, file: FileNo)
+        requires { file.0 < MOST_FILES }
+        ensures told { (d : DrumWords) → (paged_slots S.means (λ p. p.store) (λ p. beside_of p.tables)).fits self.old d → (paged_slots S.means (λ p. p.store) (λ p. beside_of p.tables)).fits self.new d × ((paged_slots S.means (λ p. p.store) (λ p. beside_of p.tables)).plain self.new d ≡ without_file ((paged_slots S.means (λ p. p.store) (λ p. beside_of p.tables)).plain self.old d) file.0) }
+        ensures scene { StaysInCore ((paged_slots S.means (λ p. p.store) (λ p. beside_of p.tables)).scene self.old) ((paged_slots S.means (λ p. p.store) (λ p. beside_of p.tables)).scene self.new) 0 }
+        ensures loses { MayLose (paged_slots S.means (λ p. p.store) (λ p. beside_of p.tables)) self.old self.new }
+        ensures uses { UsesNone (paged_slots S.means (λ p. p.store) (λ p. beside_of p.tables)) self.old self.new }
+        ensures drops { DropsFile (paged_slots S.means (λ p. p.store) (λ p. beside_of p.tables)) file.0 self.old self.new }
+        ensures lives { (paged_slots S.means (λ p. p.store) (λ p. beside_of p.tables)).lives self.new ≡ (paged_slots S.means (λ p. p.store) (λ p. beside_of p.tables)).lives self.old }
+        ensures forks { (paged_slots S.means (λ p. p.store) (λ p. beside_of p.tables)).forks_of self.new ≡ (paged_slots S.means (λ p. p.store) (λ p. beside_of p.tables)).forks_of self.old }
+        ensures serials { (paged_slots S.means (λ p. p.store) (λ p. beside_of p.tables)).serial self.new ≡ (paged_slots S.means (λ p. p.store) (λ p. beside_of p.tables)).serial self.old }
+        ensures most { (paged_slots S.means (λ p. p.store) (λ p. beside_of p.tables)).most self.new ≡ (paged_slots S.means (λ p. p.store) (λ p. beside_of p.tables)).most self.old }
+    {
+        self.unfile_all(file);
+    }
+}
