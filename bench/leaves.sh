@@ -5,25 +5,21 @@
 # The sources run by `rt try`: nothing is proved, and each access is checked as it goes, which is many times
 # slower than what ./tenex builds. So the columns tell whether a call grows, and not how long it takes there.
 # Calls that say in their comment that they grow with the table may: `grows` has them, each with the reason.
-# Status 1: another one took longer at the full table, by the factor 4 or the argument, or beside others by
-# more than `beside` has. 2: nothing was timed.
+# Behind them it prints what bench/pages.sh counts of pages in frames, in a program that is built without such checks.
+# Status 1: another call took longer at the full table, by the factor 4 or the argument, or beside others by more than
+# `beside` has; or bench/pages.sh found more than there may be. 2: nothing was timed, or not counted.
 set -eu
 factor=${1:-4}
 top=$(cd "$(dirname "$0")/.." && pwd)
 work=$(mktemp -d)
 trap 'rm -rf "$work"' EXIT
 
-grows='file_dir create, delete=create moves the names behind the new one
-frame_table victim=victim looks at all frames
-frame_table victim, others pinned=victim looks at all frames
-paged_store fetch by a victim=a victim is looked for among all frames'
-# Calls that take at most so many times as long as others do, at the full table: a page that leaves its frame
-# and comes back, beside its two copies, which alone the checks of each access do not make slower; and a
-# look along maps that are pages, beside one along maps in memory.
-beside='paged_store evict, fetch=outside write, read=25
-slot_paged touch=flat_pages touch=3
-slot_paged touch along four=flat_pages touch along four=3'
-timed='number_set number_map page_files jfn_table file_dir frame_order drum_queue frame_table share_table script_lang tty_lines exec_cmd'
+grows='file_dir create, delete=create moves the names behind the new one'
+# Calls that take at most so many times as long as others do, at the full table: a page of a space that is found and read
+# along maps that are pages, beside one along maps in memory.
+beside='slot_paged find, load=flat_pages find, load=2
+slot_paged find, load along four=flat_pages find, load along four=2'
+timed='number_set number_map tournament page_files jfn_table file_dir frame_order drum_queue frame_table share_table script_lang tty_lines exec_cmd'
 paged='page_contracts page_residence paged_store flat_pages pager_walk slot_paged'
 
 mkdir -p "$work/crates/leaf_speed/src"
@@ -54,13 +50,14 @@ use paged_store::PagedStore;
 use machine_names::{Access, DirName, FileName, FileNo, ForkName, Kind, Place, Slot, TERMINALS, Tty};
 use page_homes::{FrameId, Home};
 use plain_pages::NewMap;
-use slot_paged::SlotPaged;
+use slot_paged::{KnownSlots, SlotPaged};
 use word36::Word;
 use plain_typing::CONTROL_C;
 use script_lang::big_from;
 use share_table::{Pointer, Share, ShareTable, decode, encode};
 use std::io;
 use std::time::CpuClock;
+use tournament::Tournament;
 use tty_lines::Line;
 
 // How many nanoseconds the last round of turns takes at least.
@@ -139,6 +136,16 @@ fn number_map(rt: &HostRuntime, filled: u32) -> io::Result<()> {
         map.insert(n as usize, n)
     })?;
     timer.time("first_free", |_| map.first_free(0))
+}
+
+fn tournament(rt: &HostRuntime, filled: u32) -> io::Result<()> {
+    let timer = Timer::of(rt, "tournament", filled);
+    let mut keys = there(Tournament::boot(rt.alloc(), filled as usize))?;
+    for n in 0..filled {
+        keys.set(n as usize, Some(u64::from(n)));
+    }
+    timer.time("winner", |_| keys.winner())?;
+    timer.time("set", |n| keys.set(n as usize, Some(u64::from(filled - n))))
 }
 
 fn page_files(rt: &HostRuntime, filled: u32) -> io::Result<()> {
@@ -256,7 +263,11 @@ fn frame_table(rt: &HostRuntime, filled: u32) -> io::Result<()> {
         frames.unpin(FrameId(f));
     })?;
     timer.time("touch_age", |f| frames.touch_age(FrameId(f)))?;
-    timer.time("victim", |_| frames.victim())?;
+    timer.time("touch_age, look_for_victim, victim", |f| {
+        frames.touch_age(FrameId(f));
+        frames.look_for_victim();
+        frames.victim()
+    })?;
     timer.time("free, assign", |f| {
         frames.free(FrameId(f));
         frames.assign(Home(f))
@@ -265,7 +276,14 @@ fn frame_table(rt: &HostRuntime, filled: u32) -> io::Result<()> {
     for f in 1..filled {
         frames.pin(FrameId(f));
     }
-    timer.time("victim, others pinned", |_| frames.victim())
+    // Each that was pinned is passed over once, and one in 64 in a look.
+    for _look in 0..64 {
+        frames.look_for_victim();
+    }
+    timer.time("victim, others pinned", |_| {
+        frames.look_for_victim();
+        frames.victim()
+    })
 }
 
 fn share_table(rt: &HostRuntime, filled: u32) -> io::Result<()> {
@@ -373,6 +391,27 @@ fn maps_in_memory(rt: &HostRuntime, forks: u32) -> io::Result<()> {
     timer.time("touch along four", |n| pages.touch(page_of(4, n), Kind::Read))
 }
 
+// A page is found and read, where maps are in memory and pages in frames.
+fn pages_in_frames(rt: &HostRuntime, forks: u32) -> io::Result<()> {
+    let timer = Timer::of(rt, "flat_pages", forks);
+    let store = there(PagedStore::boot(rt.alloc(), 256, 256))?;
+    let mut pages = there(FlatSlots::boot(rt.alloc(), store, 256))?;
+    pages.add_fork(fork(1), NewMap::Empty);
+    for serial in 2..=forks {
+        pages.add_fork(fork(serial), NewMap::FollowAll(fork(if serial > 4 { 1 } else { serial - 1 })));
+    }
+    pages.settle(page_of(1, 0), Kind::Write, Tty(0));
+    let (one, four) = (pages.space(fork(1)), pages.space(fork(4)));
+    timer.time("find, load", |n| match pages.find(one, 0, Kind::Read) {
+        Some(found) => pages.load(one, found, n % 512),
+        None => Word::ZERO,
+    })?;
+    timer.time("find, load along four", |n| match pages.find(four, 0, Kind::Read) {
+        Some(found) => pages.load(four, found, n % 512),
+        None => Word::ZERO,
+    })
+}
+
 // The same, where maps are pages in frames.
 fn maps_in_pages(rt: &HostRuntime, forks: u32) -> io::Result<()> {
     let timer = Timer::of(rt, "slot_paged", forks);
@@ -383,7 +422,18 @@ fn maps_in_pages(rt: &HostRuntime, forks: u32) -> io::Result<()> {
         pages.add_fork(fork(serial), NewMap::FollowAll(fork(if serial > 4 { 1 } else { serial - 1 })));
     }
     timer.time("touch", |n| pages.touch(page_of(1, n), Kind::Read))?;
-    timer.time("touch along four", |n| pages.touch(page_of(4, n), Kind::Read))
+    timer.time("touch along four", |n| pages.touch(page_of(4, n), Kind::Read))?;
+    pages.settle(page_of(1, 0), Kind::Write, Tty(0));
+    let mut pages = there(KnownSlots::over(rt.alloc(), pages))?;
+    let (one, four) = (pages.space(fork(1)), pages.space(fork(4)));
+    timer.time("find, load", |n| match pages.find(one, 0, Kind::Read) {
+        Some(found) => pages.load(one, found, n % 512),
+        None => Word::ZERO,
+    })?;
+    timer.time("find, load along four", |n| match pages.find(four, 0, Kind::Read) {
+        Some(found) => pages.load(four, found, n % 512),
+        None => Word::ZERO,
+    })
 }
 
 // The line stores so many characters, and of so many codes each is assigned that may be.
@@ -438,6 +488,7 @@ fn main(rt: HostRuntime) -> io::Result<()> {
     file_dir(&rt, 16)?;
     file_dir(&rt, 512)?;
     for frames in [64, 8192] {
+        tournament(&rt, frames)?;
         frame_order(&rt, frames)?;
         drum_queue(&rt, frames)?;
         frame_table(&rt, frames)?;
@@ -448,6 +499,7 @@ fn main(rt: HostRuntime) -> io::Result<()> {
     }
     for forks in [4, 30] {
         maps_in_memory(&rt, forks)?;
+        pages_in_frames(&rt, forks)?;
         maps_in_pages(&rt, forks)?;
     }
     tty_lines(&rt, 1, 3)?;
@@ -462,6 +514,7 @@ PROGRAM
 cd "$work/crates/leaf_speed"
 # rt try also runs a program on an interpreter, which is to stop at its first step.
 rt try --steps 1 --seconds 300 2>"$work/messages" >"$work/times" || { cat "$work/messages" "$work/times" >&2; exit 2; }
+status=0
 awk -F: -v factor="$factor" -v grows="$grows" -v beside="$beside" '
     BEGIN {
         for (n = split(grows, lines, "\n"); n > 0; n--) {
@@ -472,9 +525,9 @@ awk -F: -v factor="$factor" -v grows="$grows" -v beside="$beside" '
             other[parts[1]] = parts[2]
             most[parts[1]] = parts[3]
         }
-        printf "%-38s %14s %22s\n", "calls", "small: ns", "full: ns"
+        printf "%-46s %14s %22s\n", "calls", "small: ns", "full: ns"
     }
-    $1 == "the loop" { loop = $3; printf "%-38s %14.0f\n", "the loop", loop / 1000; next }
+    $1 == "the loop" { loop = $3; printf "%-46s %14.0f\n", "the loop", loop / 1000; next }
     { time = $3 > loop ? ($3 - loop) / 1000 : 0 }
     !($1 in small) { small[$1] = time; size[$1] = $2; next }
     {
@@ -482,7 +535,7 @@ awk -F: -v factor="$factor" -v grows="$grows" -v beside="$beside" '
         failed = failed || longer
         full[$1] = time
         says = longer ? "  LONGER" : $1 in reason ? "  " reason[$1] : ""
-        printf "%-38s %5d: %7.0f %12d: %8.0f%s\n", $1, size[$1], small[$1], $2, time, says
+        printf "%-46s %5d: %7.0f %12d: %8.0f%s\n", $1, size[$1], small[$1], $2, time, says
     }
     END {
         for (calls in other) {
@@ -492,4 +545,7 @@ awk -F: -v factor="$factor" -v grows="$grows" -v beside="$beside" '
         }
         exit failed
     }
-' "$work/times"
+' "$work/times" || status=1
+echo
+"$top/bench/pages.sh" || { counted=$?; [ $status -ne 0 ] || status=$counted; }
+exit $status
