@@ -8,6 +8,8 @@ mod calls;
 #[cfg(test)]
 mod faults;
 #[cfg(test)]
+mod filed_pages;
+#[cfg(test)]
 mod in_a_file;
 #[cfg(test)]
 mod lists;
