@@ -329,7 +329,8 @@ module _ {P S : Type 0} (store : StoreMeaning S) (part : P → S) (mt : P → Ma
       home = k.home.0;
       stands = record { name = n.0; named = n.1; there = n.2 };
       here = k.here;
-      renews = k.renews;
+      youngest = λ frame other own differs some no_map. k.renews.youngest frame other own differs some;
+      others = λ frame other no_map. k.renews.others frame other;
     });
     filed = filed_made (touch_of_place w (store.spare (part p)) (File file page) kind) k.filed;
     ready = λ home r stands. (let u = k.used r in used_within store part home p q (subst (λ (n : ℕ). IsUsed store n (part p) (part q)) (stands_home k.home u.1 home stands) u.0));

@@ -110,7 +110,13 @@ module _ {P S : Type 0} (store : StoreMeaning S) (part : P → S) (tables : P �
   stands_there = subst (λ (x : Place). StandsAt means q x h.0) (sym is) stands_slot
 
   pub uses_there : Renews h.0 (store.tenant (part q)) (store.age (part p)) (store.age (part q)) → UsesOne means at p q
-  uses_there renews = record { home = h.0; stands = stands_there; here = there; renews = renews }
+  uses_there renews = record {
+    home = h.0;
+    stands = stands_there;
+    here = there;
+    youngest = λ frame other own differs some no_map. renews.youngest frame other own differs some;
+    others = λ frame other no_map. renews.others frame other;
+  }
 
 -- a place of a fork's space leaves what files name
 module _ {P S : Type 0} (store : StoreMeaning S) (part : P → S) (tables : P → Tables) (p q : P) where

@@ -5,6 +5,7 @@ ghost use Rattle.machine_names.specs.Orders.{file_page};
 ghost use Rattle.machine_names.specs.Bounds.{IsFilePage};
 ghost use Rattle.machine_names.specs.declared.names.TheConstants.{MOST_FILES, SPACE_PAGES};
 ghost use Rattle.page_contracts.specs.DrumWords.{DrumWords};
+ghost use Rattle.page_contracts.specs.Pages.{FollowsFork};
 ghost use Rattle.plain_pages.specs.NewEntries.{IsNewEntry, entry_to};
 ghost use Rattle.plain_pages.specs.PlainPages.{NumberedPages};
 ghost use Rattle.plain_pages.specs.declared.map.MapEntry.{MapEntry as AMapEntry};
@@ -44,6 +45,7 @@ pub fn start_of<P: Pages>(pages: &P, file: FileNo) -> Option<Word>
 fn program_entry<P: Pages>(pages: &P, file: FileNo, page: u16) -> NewEntry
     requires page { IsFilePage file page }
     ensures fits { IsNewEntry (P.means.filed pages.now) result }
+    ensures follows { FollowsFork result }
     ensures told { (p : NumberedPages) (e : AMapEntry) → P.means.filed pages.now ≡ map.get p.files
         → entry_to p result e ≡ program_entry_of (map.get p.files (file_page file.0 page)) }
 {

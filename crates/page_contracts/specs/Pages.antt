@@ -11,12 +11,14 @@ use Rattle.machine_names.specs.declared.names.Place.TheVariants.{Fork, File}
 use Rattle.machine_names.specs.declared.names.Access.{Access}
 use Rattle.machine_names.specs.declared.names.Kind.{Kind}
 use Rattle.machine_names.specs.declared.names.Kind.TheVariants.{Read, Write}
-use Rattle.machine_names.specs.declared.names.TheConstants.{SPACE_PAGES, MOST_FILES, FILE_PAGES}
+use Rattle.machine_names.specs.declared.names.TheConstants.{SPACE_PAGES, LAST_SERIAL, MOST_FILES, FILE_PAGES}
 use Rattle.plain_pages.specs.declared.map.MapEntry.{MapEntry}
 use Rattle.plain_pages.specs.declared.map.MapEntry.TheVariants.{Names, Follows}
 use Rattle.page_contracts.specs.declared.answers.SpaceHandle.{SpaceHandle}
 use Rattle.page_contracts.specs.declared.answers.Found.{Found}
 use Rattle.machine_names.specs.declared.names.Slot.{Slot}
+use Rattle.plain_pages.specs.declared.map.NewEntry.{NewEntry}
+use Rattle.plain_pages.specs.declared.map.NewEntry.TheVariants.{Follows as SetFollows}
 use Rattle.plain_pages.specs.declared.map.NewMap.{NewMap}
 use Rattle.plain_pages.specs.declared.map.NewMap.TheVariants.{Empty as EmptyMap, FollowAll}
 use Rattle.page_contracts.specs.declared.answers.Touch.{Touch}
@@ -33,7 +35,7 @@ use Rattle.plain_pages.specs.PlainPages.{PlainPages, NumberedPages, page_serial}
 use Rattle.plain_pages.specs.Maps.{entry_at, maps_on_way}
 use Rattle.plain_pages.specs.Room.{FitsLimit, live, uses}
 use Rattle.plain_pages.specs.References.{Spot, in_map, in_file, Making, blank, copy, Referred, granted, denied, full, reference, next_making, words_of, page_at}
-use Rattle.page_contracts.specs.Stores.{StoreMeaning, IsSound, IsNeeded, Loses, Renews, RenewsNone, away, free, away_of, is_here, is_taken, place, traffic}
+use Rattle.page_contracts.specs.Stores.{StoreMeaning, IsSound, IsNeeded, KeepsFrame, LAST_USE, Loses, Renews, RenewsNone, away, free, away_of, is_here, is_taken, place, traffic}
 use Rattle.machine_names.specs.Bounds.{IsOwner, IsFilePage}
 use Rattle.machine_names.specs.Orders.{FilePage, file_page}
 
@@ -202,6 +204,11 @@ abbrev pub IsNewMap : (ForkName → Bool) → ForkName → NewMap → Type 0
 IsNewMap lives f EmptyMap = Unit {0}
 IsNewMap lives f (FollowAll g) = (lives g ≡ true) × (g.tty ≡ f.tty)
 
+-- an entry that is to follow another follows one of a fork whose serial is one that forks have
+abbrev pub FollowsFork : NewEntry → Type 0
+FollowsFork (SetFollows serial page a) = (1 ≤ serial) × (serial ≤ LAST_SERIAL)
+FollowsFork new = Unit {0}
+
 -- an entry was found
 abbrev pub is_entry : Seen → Bool
 is_entry (Entry e) = true
@@ -288,18 +295,30 @@ abbrev pub StandsAt : {P : Type 0} → PagesMeaning P → P → Place → ℕ �
 StandsAt means p (Fork s) home = StandsInSpace means p s home
 StandsAt means p (File f page) home = StandsInFile means p (file_page f.0 page) home
 
--- the page of a place, which is in a frame, was used or made
+-- no frame of a fork's map is this one
+abbrev pub HasNoMap : {P : Type 0} → PagesMeaning P → P → ℕ → Type 0
+HasNoMap means p frame = (f : ForkName) (home : ℕ) → means.map_home p f ≡ Some home → means.store.tenant p frame ≡ Some home → ⊥
+
+-- The page of a place, which is in a frame, was used or made: it is the last to leave but for maps, in one of which an entry may have been
+-- set; and each other frame has its age, but for those of maps.
 pub record UsesOne {P : Type 0} (means : PagesMeaning P) (at : Place) (old new : P) : Type 0 where
   pub home : ℕ
   pub stands : StandsAt means new at home
   pub here : is_here (place (means.store.homes new) home) ≡ true
-  pub renews : Renews home (means.store.tenant new) (means.store.age old) (means.store.age new)
+  pub youngest : (frame other : ℕ) → means.store.tenant new frame ≡ Some home → other ≢ frame → IsSome (means.store.tenant new other) → HasNoMap means new other
+      → (means.store.age new other < means.store.age new frame) ⊎ (means.store.age new frame ≡ LAST_USE)
+  pub others : (frame : ℕ) → (means.store.tenant new frame ≡ Some home → ⊥) → HasNoMap means new frame → means.store.age new frame ≡ means.store.age old frame
 
 -- no page was used or came into a frame
 abbrev pub UsesNone : {P : Type 0} → PagesMeaning P → P → P → Type 0
 UsesNone means old new = RenewsNone (traffic means.store old) (traffic means.store new)
 
--- none but the map of a fork, where that has a home
+-- none but the map of a fork, in which an entry was set
+abbrev pub MayUseMap : {P : Type 0} → PagesMeaning P → ForkName → P → P → Type 0
+MayUseMap means fork old new =
+    (frame : ℕ) → IsSome (means.store.tenant new frame) → ((home : ℕ) → means.map_home new fork ≡ Some home → means.store.tenant new frame ≡ Some home → ⊥) → KeepsFrame (traffic means.store old) (traffic means.store new) frame
+
+-- none but the map of a fork that was added, where that has a home
 abbrev pub UsesMap : {P : Type 0} → PagesMeaning P → ForkName → P → P → Type 0
 UsesMap means fork old new = MatchOption (means.map_home new fork) (UsesNone means old new) (λ home. Renews home (means.store.tenant new) (means.store.age old) (means.store.age new))
 

@@ -11,7 +11,7 @@ ghost use Rattle.page_contracts.specs.DrumWords.{DrumWords, Stands};
 ghost use Rattle.plain_pages.specs.References.{in_map, settled, slot_at, word_at, stored, page_at as named_at, without_fork};
 ghost use Rattle.page_contracts.specs.Stores.{IsFetched, IsUsed, CanFetch, Completes, Tells, Evicts, CanKeep, Keeps, LetsGo, awaited, meeting, most_held};
 ghost use Rattle.plain_pages.specs.WholePages.{AreWhole};
-ghost use Rattle.page_contracts.specs.Pages.{PagesMeaning, AddsMap, Agrees, AreHoused, DropsFile, DropsMap, FilesMade, FilesOne, HasSpace, MayLose, OnlyUses, PeekNeeds, SeenNeeds, StandsAt, TouchNeeds, UsesMap, UsesNone, UsesOne, StaysInCore, TakesMap, TakesFrames, StaysPut, StaysMapped, StaysPlain, StaysSame, IsPlace, IsTouched, IsReady, CanChange, IsNewMap, FollowsPage, SettlesTo, spot_of, touch_of, peek_of, seen_of, map_away, counted, room_for, can_settle, frames_taken, is_in_core, is_seen, is_entry, is_seen_entry};
+ghost use Rattle.page_contracts.specs.Pages.{PagesMeaning, AddsMap, Agrees, AreHoused, DropsFile, DropsMap, FilesMade, FilesOne, HasSpace, MayLose, OnlyUses, PeekNeeds, SeenNeeds, StandsAt, TouchNeeds, UsesMap, UsesNone, UsesOne, StaysInCore, TakesMap, TakesFrames, StaysPut, StaysMapped, StaysPlain, StaysSame, IsPlace, IsTouched, IsReady, CanChange, IsNewMap, MayUseMap, FollowsFork, FollowsPage, SettlesTo, spot_of, touch_of, peek_of, seen_of, map_away, counted, room_for, can_settle, frames_taken, is_in_core, is_seen, is_entry, is_seen_entry};
 ghost use Rattle.plain_pages.specs.NewEntries.{IsNewEntry, changed};
 ghost use Rattle.plain_pages.specs.FilePages.{filed_by, without_file};
 ghost use Rattle.machine_names.specs.Orders.{file_page, same_fork};
@@ -76,16 +76,18 @@ pub trait Pages {
         ensures needs { SeenNeeds means.store self.now result }
         ensures core { means.flat ≡ true → is_seen_entry result ≡ true };
 
-    /// Sets an entry that a look at it finds. It may be set to a page that a file has, which may be in no frame. A page that loses its last name is dropped.
+    /// Sets an entry that a look at it finds. It may be set to a page that a file has, which may be in no frame. A fork that is followed has a serial, 1 to
+    /// 262,143. A page that loses its last name is dropped.
     fn set_entry(&mut self, slot: Slot, new: NewEntry)
         requires page { slot.page < SPACE_PAGES }
         requires seen { is_entry (means.seen self.old slot) ≡ true }
         requires new { IsNewEntry (means.filed self.old) new }
+        requires follows { FollowsFork new }
         ensures told { (d : DrumWords) → means.fits self.old d → means.fits self.new d × (means.plain self.new d ≡ changed (means.plain self.old d) slot new) }
         ensures scene { StaysInCore (means.scene self.old) (means.scene self.new) 0 }
         ensures filed { means.filed self.new ≡ means.filed self.old }
         ensures loses { MayLose means self.old self.new }
-        ensures uses { UsesNone means self.old self.new }
+        ensures uses { MayUseMap means slot.fork self.old self.new }
         ensures lives { means.lives self.new ≡ means.lives self.old }
         ensures forks { means.forks_of self.new ≡ means.forks_of self.old }
         ensures serials { means.serial self.new ≡ means.serial self.old }

@@ -5,6 +5,8 @@ use Rattle.std.specs.FinMap as map
 use Rattle.machine_names.specs.declared.names.TheConstants.{SPACE_PAGES, MOST_FILES, FILE_PAGES}
 use Rattle.machine_names.specs.declared.names.FileNo.{FileNo}
 use Rattle.machine_names.specs.declared.names.ForkName.{ForkName}
+use Rattle.machine_names.specs.declared.names.Slot.{Slot}
+use Rattle.machine_names.specs.Bounds.{IsForkName}
 use Rattle.plain_files.specs.NamedFiles.{name_of, number_of, open_file}
 use Rattle.file_tables.specs.declared.tables.FileTables.{FileTables}
 use Rattle.file_tables.specs.Tables.{IsThere, files_of, jfns_at}
@@ -38,9 +40,13 @@ abbrev pub place_by : FileTables → PagePlace → MapPlace
 place_by tables (Fork s) = of_fork s
 place_by tables (File jfn page) = of_file (open_file tables.dir jfn) page
 
+-- a page of the space of a fork that has a serial
+abbrev pub IsSlot : Slot → Type 0
+IsSlot s = (s.page < SPACE_PAGES) × IsForkName s.fork
+
 -- a page of a fork's space, or of a file that is there
 abbrev pub IsPlaceIn : FileTables → PagePlace → Type 0
-IsPlaceIn tables (Fork s) = s.page < SPACE_PAGES
+IsPlaceIn tables (Fork s) = IsSlot s
 IsPlaceIn tables (File jfn page) = IsKnown tables jfn.file × (page < FILE_PAGES)
 
 -- two places

@@ -21,6 +21,7 @@ use Rattle.call_turns.specs.declared.turn.Turn.{Turn as Step}
 use Rattle.call_turns.specs.declared.turn.Turn.TheVariants.{Ends, Asks, Fills}
 use Rattle.call_turns.specs.declared.turn.WhenFull.TheVariants as when
 use Rattle.call_turns.specs.Turns.{FitsEnd, IsRegs, entry_in, page_in, turn_of}
+use Rattle.pmap_calls.specs.Asking.{IsSlot}
 use Rattle.pmap_calls.specs.declared.stage.Stage.{Stage}
 use Rattle.pmap_calls.specs.declared.stage.Stage.TheVariants.{Access, Source, Page, Narrow, FileAccess, Fill, There}
 
@@ -52,11 +53,12 @@ most_asks = 2
 abbrev pub whole : Tty → PlainTree → Step MapChange Stage → Turn ℕ MapChange
 whole owner tree step = turn_of owner (later tree) step most_asks
 
--- a change behind what was granted: a page that was read is put into a file, one that is made is mapped
+-- a change behind what was granted: a page that was read is put into a file, one that is made is mapped; and what is followed is a page of a fork that
+-- has a serial
 abbrev pub IsMapChange : Grant → MapChange → Type 0
 IsMapChange grant.Nothing Nothing = Unit {0}
 IsMapChange grant.Nothing (Unmap slot) = slot.page < SPACE_PAGES
-IsMapChange grant.Nothing (Follow slot other access) = (slot.page < SPACE_PAGES) × (other.page < SPACE_PAGES)
+IsMapChange grant.Nothing (Follow slot other access) = (slot.page < SPACE_PAGES) × IsSlot other
 IsMapChange grant.Nothing (Narrowed slot access) = slot.page < SPACE_PAGES
 IsMapChange grant.Nothing (Map slot name page access) = (slot.page < SPACE_PAGES) × (page < FILE_PAGES)
 IsMapChange (grant.Fill f at) (Map slot name page access) = (slot.page < SPACE_PAGES) × (page < FILE_PAGES)

@@ -9,7 +9,7 @@ ghost use Rattle.plain_files.specs.NamedFiles.{open_file};
 ghost use Rattle.file_tables.specs.Tables.{jfns_at};
 ghost use Rattle.plain_units.specs.declared.registers.Regs.{Regs as ARegs};
 ghost use Rattle.plain_model.specs.MapCalls.{on_page, place_of as place_of_word, slot_of as slot_of_word};
-ghost use Rattle.pmap_calls.specs.Asking.{IsKnown, IsPlaceIn, asked, named_by, place_by};
+ghost use Rattle.pmap_calls.specs.Asking.{IsKnown, IsPlaceIn, IsSlot, asked, named_by, place_by};
 
 use file_tables::FileTables;
 use fork_tree::Tree;
@@ -37,11 +37,12 @@ pub fn names_page(word: Word) -> bool
 fn slot_of(tree: &Tree, who: ForkName, word: Word) -> Result<Slot, u32>
     requires { right word < SPACE_PAGES }
     ensures slot { result ≡ slot_of_word tree.now.forks who word }
-    ensures page { IfOk result (λ s. s.page < SPACE_PAGES) }
+    ensures sound { IfOk result IsSlot }
 {
-    match tree.named(who, word.left()) {
+    tree.are_trees();
+    match tree.fork_named(who, word.left()) {
         Some(fork) => Ok(Slot {
-            fork,
+            fork: fork.name,
             page: word.right() as u16,
         }),
         None => Err(NO_HANDLE),
@@ -86,7 +87,7 @@ pub fn place_of(
 /// The page of a fork that a word names; BAD_PAGE comes first.
 pub fn slot_named(tree: &Tree, who: ForkName, word: Word) -> Result<Slot, u32>
     ensures slot { result ≡ on_page word (slot_of_word tree.now.forks who word) }
-    ensures page { IfOk result (λ s. s.page < SPACE_PAGES) }
+    ensures sound { IfOk result IsSlot }
 {
     if names_page(word) {
         slot_of(tree, who, word)

@@ -4,7 +4,7 @@ ghost use Rattle.machine_names.specs.Bounds.{IsFilePage, IsOwner, IsTerminal};
 ghost use Rattle.machine_names.specs.declared.names.Tty.{Tty as ATty};
 ghost use Rattle.machine_names.specs.declared.names.TheConstants.{MOST_FILES, SPACE_PAGES};
 ghost use Rattle.page_contracts.specs.DrumWords.{DrumWords};
-ghost use Rattle.page_contracts.specs.Pages.{MayLose};
+ghost use Rattle.page_contracts.specs.Pages.{FollowsFork, MayLose};
 ghost use Rattle.page_contracts.specs.Stores.{IsNeeded};
 ghost use Rattle.plain_model.specs.MapCalls.{map_call, map_changed};
 ghost use Rattle.plain_pages.specs.declared.map.NewEntry.{NewEntry as ANewEntry};
@@ -34,6 +34,7 @@ const MOST_ASKS: u32 = 2;
 fn put_entry<P: Pages>(pages: &mut P, slot: Slot, new: NewEntry)
     requires page { slot.page < SPACE_PAGES }
     requires new { IsNewEntry (P.means.filed pages.old) new }
+    requires follows { FollowsFork new }
     ensures told { (d : DrumWords) → P.means.fits pages.old d → entry_need (P.means.scene pages.old) (P.means.plain pages.old d) slot ≡ None
         → P.means.fits pages.new d × (P.means.plain pages.new d ≡ changed (P.means.plain pages.old d) slot new) }
     ensures loses { MayLose P.means pages.old pages.new }
@@ -50,6 +51,7 @@ fn put_entry<P: Pages>(pages: &mut P, slot: Slot, new: NewEntry)
 fn set<P: Pages>(pages: &mut P, slot: Slot, new: NewEntry) -> Result<(), Need>
     requires page { slot.page < SPACE_PAGES }
     requires new { IsNewEntry (P.means.filed pages.old) new }
+    requires follows { FollowsFork new }
     ensures told { Makes P.means pages.old pages.new result (λ scene p. entry_need scene p slot) (λ p. changed p slot new) }
     ensures needs { IfErr result (IsNeeded P.means.store 1 pages.new) }
     ensures core { P.means.flat ≡ true → IsOk result }

@@ -4,7 +4,7 @@ ghost use Rattle.page_contracts.specs.Pages.{IsPlace, is_entry};
 
 use crate::same::same_at;
 use flat_pages::{FlatSlots, FlatStore};
-use machine_names::{Access, ForkName, Kind, Place, SPACE_PAGES, Slot, Tty};
+use machine_names::{Access, ForkName, Kind, LAST_SERIAL, Place, SPACE_PAGES, Slot, Tty};
 use outside::Memory;
 use page_contracts::{Pages, Room, Seen, Touch};
 use plain_pages::{NewEntry, NewMap};
@@ -163,6 +163,7 @@ fn done_at<P: Pages>(pages: &mut P, slot: Slot, step: Step) -> Came
         Step::Write(word) => write(pages, at, word),
         Step::Change => change(pages, slot),
         Step::Follow(serial, page, access) => {
+            let serial = serial.max(1).min(LAST_SERIAL);
             pages.set_entry(slot, NewEntry::Follows(serial, page % 512, access));
             Came::Set
         }

@@ -5,7 +5,7 @@ use Rattle.pmap_calls.proofs.Steps.{drops_so, drops_refused}
 use Rattle.pmap_calls.proofs.mapping.unmapping.Goals as goal
 
 pub returns-in-Fork-clause-fits : goal.returns-in-Fork-clause-fits
-returns-in-Fork-clause-fits c = c.maps.ensures.fits grant.Nothing (subst (IsPlaceIn c.args.tables.now) c.in-Fork.is c.requires.place)
+returns-in-Fork-clause-fits c = c.maps.ensures.fits grant.Nothing (subst (IsPlaceIn c.args.tables.now) c.in-Fork.is c.requires.place).0
 
 pub returns-then-is_written-clause-turn : goal.returns-then-is_written-clause-turn
 returns-then-is_written-clause-turn c who tree =
