@@ -5,6 +5,7 @@ pub mod Slots
 pub mod Tables
 pub mod TableChanges
 pub mod Kept
+pub mod Taken
 pub mod Upward
 pub mod CanRun
 pub mod Leaves

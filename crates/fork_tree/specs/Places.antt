@@ -1,6 +1,7 @@
 -- The places of a table of forks: one for each slot of each job, and one for slot 0, which stays free.
-use Rattle.std.specs.Prelude.{◌≡◌, ℕ, ◌+◌, ◌*◌, ◌≤◌, ◌<◌, List, [], ◌∷◌, length, Option, None, Some, slice_index, slice_index_or}
+use Rattle.std.specs.Prelude.{◌≡◌, ℕ, ◌+◌, ◌*◌, ◌^◌, ◌≤◌, ◌<◌, List, [], ◌∷◌, length, Option, None, Some, slice_index, slice_index_or}
 use Rattle.std.specs.FinMap as map
+use Rattle.std.specs.Int.{bit_at}
 use Rattle.machine_names.specs.declared.names.Tty.{Tty}
 use Rattle.machine_names.specs.declared.names.ForkName.{ForkName}
 use Rattle.machine_names.specs.declared.names.TheConstants.{TERMINALS, MOST_FORKS, LAST_SERIAL}
@@ -39,6 +40,23 @@ pub record IsTable (places : List (Option Fork)) (slots lasts : List ℕ) : Type
   pub slot : (i : ℕ) (f : Fork) → StandsAt places i f → slice_index slots (name_index f.name) ≡ f.slot
   pub below : (i : ℕ) (f : Fork) → StandsAt places i f → f.slot ≤ slice_index lasts f.name.tty.0
   pub few : (t : ℕ) → t < TERMINALS → slice_index lasts t ≤ MOST_FORKS
+
+-- the bit of a place: it is set where a fork stands there
+abbrev pub place_bit : Option Fork → ℕ
+place_bit None = 0
+place_bit (Some f) = 1
+
+-- Of each job, the bit of each slot is that of its place, and the bit of slot 0 is set.
+pub record AreTaken (places : List (Option Fork)) (taken : List ℕ) : Type 0 where
+  pub all_jobs : length taken ≡ TERMINALS
+  pub few : (t : ℕ) → t < TERMINALS → slice_index taken t < 2 ^ 31
+  pub lowest : (t : ℕ) → t < TERMINALS → bit_at (slice_index taken t) 0 ≡ 1
+  pub each : (t : Tty) (slot : ℕ) → t.0 < TERMINALS → 1 ≤ slot → slot ≤ MOST_FORKS → bit_at (slice_index taken t.0) slot ≡ place_bit (slice_index_or places (place_in t slot) None)
+
+-- both
+pub record IsWholeTable (places : List (Option Fork)) (slots lasts taken : List ℕ) : Type 0 where
+  pub table : IsTable places slots lasts
+  pub bits : AreTaken places taken
 
 -- the place of a slot of a job, where there is one
 abbrev pub IsPlaceOf : Tty → ℕ → Option ℕ → Type 0

@@ -39,6 +39,8 @@ pub struct ForkTable {
     slots: Vec<u8>,
     /// Of each job, a slot above which it has no fork.
     lasts: Vec<u8>,
+    /// Of each job, a bit for each slot that has a fork, and for slot 0.
+    taken: Vec<u32>,
 }
 
 impl Model for ForkTable {
@@ -46,7 +48,7 @@ impl Model for ForkTable {
     ghost use Rattle.machine_names.specs.contracts.names.ForkName.{the_row as name_row};
     ghost use Rattle.plain_model.specs.contracts.fork.Fork.{the_row as fork_row};
     ghost use Rattle.plain_model.specs.Forks.{ForkMap};
-    ghost use Rattle.fork_tree.specs.Places.{forks_of, IsTable};
+    ghost use Rattle.fork_tree.specs.Places.{forks_of, IsWholeTable};
 
     ghost Value = { ForkMap };
 
@@ -54,7 +56,7 @@ impl Model for ForkTable {
 
     ghost view = { λ t. forks_of t.places.items };
 
-    ghost invariant = { λ t. IsTable t.places.items t.slots.items t.lasts.items };
+    ghost invariant = { λ t. IsWholeTable t.places.items t.slots.items t.lasts.items t.taken.items };
 }
 
 // The place of a slot of a job.
@@ -131,11 +133,13 @@ impl ForkTable {
     {
         let slots = vec![in alloc; 0; NAMES]?;
         let lasts = vec![in alloc; 0; usize::from(TERMINALS)]?;
+        let taken = vec![in alloc; 1; usize::from(TERMINALS)]?;
         let places = free_places(alloc, PLACES)?;
         Ok(ForkTable {
             places,
             slots,
             lasts,
+            taken,
         })
     }
 
@@ -186,16 +190,13 @@ impl ForkTable {
         self.lasts[usize::from(tty.0)]
     }
 
-    /// The least slot of a job in which no fork is. None exactly where each has one.
+    /// The least slot of a job in which no fork is. None exactly where each has one. One step, however many forks there are.
     pub fn free_slot(&self, tty: Tty) -> Option<u8>
+        requires { IsTerminal tty }
         ensures { result ≡ free_slot_of self.now tty }
     {
-        for slot in 1..=MOST_FORKS {
-            if self.at(tty, slot).is_none() {
-                return Some(slot);
-            }
-        }
-        None
+        let slot = self.taken[usize::from(tty.0)].trailing_ones() as u8;
+        if slot <= MOST_FORKS { Some(slot) } else { None }
     }
 
     /// Puts a new fork into a free slot of its job.
@@ -211,8 +212,9 @@ impl ForkTable {
         let slot = fork.slot;
         self.places[place_in(name.tty, slot)] = Some(fork);
         self.slots[name_index(name)] = slot;
-        let last = &mut self.lasts[usize::from(name.tty.0)];
-        *last = (*last).max(slot);
+        let job = usize::from(name.tty.0);
+        self.lasts[job] = self.lasts[job].max(slot);
+        self.taken[job] |= 1 << slot;
     }
 
     /// Takes out a fork that lives.
@@ -224,6 +226,7 @@ impl ForkTable {
         self.places[place_in(name.tty, slot)] = None;
         let job = usize::from(name.tty.0);
         self.lasts[job] = last_used(&self.places, name.tty, self.lasts[job]);
+        self.taken[job] &= !(1 << slot);
     }
 
     /// A fork that lives has the freeze mark, or not.

@@ -1,11 +1,12 @@
 // Forks come and go.
 ghost use Rattle.std.specs.Prelude.{◌≡◌, None, Some, IsSome, MatchOption};
+ghost use Rattle.std.specs.Option.{option_copied};
 ghost use Rattle.std.specs.FinMap as map;
 ghost use Rattle.plain_model.specs.Forks.{fork_in};
 ghost use Rattle.machine_names.specs.Bounds.{IsTerminal};
 ghost use Rattle.fork_tree.specs.Inferiors.{HasNoInferior};
 ghost use Rattle.plain_model.specs.Trees.{new_fork, next_name};
-ghost use Rattle.fork_tree.specs.Making.{Makes, room_for, slot_for};
+ghost use Rattle.fork_tree.specs.Making.{Makes, last_name, room_for, slot_for};
 
 use crate::tree::{NoFork, Tree};
 use machine_names::{ACCUMULATORS, ForkName, LAST_SERIAL, Tty};
@@ -42,7 +43,7 @@ fn new_fork(name: ForkName, slot: u8, superior: Option<u8>) -> Fork
 
 impl Tree {
     /// Whether a job may have a fork more. ForksFull exactly where each of its thirty slots has a fork, and else SerialsOut exactly where the
-    /// last serial of the terminal was used. Thirty looks at most.
+    /// last serial of the terminal was used. One step.
     pub fn can_make(&self, tty: Tty) -> Result<(), NoFork>
         requires { IsTerminal tty }
         ensures { result ≡ room_for self.now tty }
@@ -67,7 +68,19 @@ impl Tree {
         }
     }
 
-    /// The slot that the next fork of a job would have, refused as `can_make` says. Thirty looks at most.
+    /// The fork that was made last at a terminal. None exactly where it lives no more, or none was made. One step.
+    pub fn newest(&self, tty: Tty) -> Option<&Fork>
+        requires { IsTerminal tty }
+        ensures { option_copied result ≡ map.get self.now.forks (last_name self.now tty) }
+    {
+        self.are_trees();
+        self.fork(ForkName {
+            tty,
+            serial: self.serials[usize::from(tty.0)] - 1,
+        })
+    }
+
+    /// The slot that the next fork of a job would have, refused as `can_make` says. One step.
     pub fn slot_for(&self, tty: Tty) -> Result<u8, NoFork>
         requires { IsTerminal tty }
         ensures { result ≡ slot_for self.now tty }
@@ -83,7 +96,7 @@ impl Tree {
 
     /// Makes a fork in the least free slot of a job, with the terminal's next serial: halted, at address 0, with nothing in its accumulators
     /// (JSYS Manual, CFORK). Its superior is in a slot that is in use; a top fork is the first of its job. It is refused as `can_make` says,
-    /// and then nothing changes. Thirty looks at most.
+    /// and then nothing changes. One step.
     pub fn make(&mut self, tty: Tty, superior: Option<u8>) -> Result<ForkName, NoFork>
         requires terminal { IsTerminal tty }
         requires superior { MatchOption superior (fork_in self.old.forks tty 1 ≡ None) (λ slot. IsSome (fork_in self.old.forks tty slot)) }

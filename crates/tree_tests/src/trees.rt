@@ -184,6 +184,60 @@ fn thirty_forks_fill_a_job(rt: HostRuntime) -> Result<(), Fail> {
     Ok(())
 }
 
+// The next forks of the job, made under its top fork, go into these slots.
+fn fill(rt: &impl Abort, tree: &mut Tree, forks: &[(u32, u8)]) {
+    for &(serial, slot) in forks {
+        same_in(rt, u64::from(slot), tree.slot_for(T), Ok(slot));
+        same_in(rt, u64::from(slot), made(tree, Some(1)), Ok(name(serial)));
+        same_in(rt, u64::from(slot), tree.at(T, slot), Some(name(serial)));
+    }
+}
+
+// Kills forks that live and have no inferiors.
+fn kill(rt: &impl Abort, tree: &mut Tree, serials: &[u32]) {
+    for &serial in serials {
+        same_in(rt, u64::from(serial), killed(tree, name(serial)), true);
+    }
+}
+
+#[test]
+fn the_least_free_slot_is_taken(rt: HostRuntime) -> Result<(), Fail> {
+    let mut tree = boot(rt.alloc())?;
+    same(&rt, made(&mut tree, None), Ok(name(1)));
+    fill(&rt, &mut tree, &[(2, 2), (3, 3), (4, 4), (5, 5), (6, 6)]);
+    kill(&rt, &mut tree, &[2]);
+    fill(&rt, &mut tree, &[(7, 2), (8, 7)]);
+    kill(&rt, &mut tree, &[5, 3, 4]);
+    fill(&rt, &mut tree, &[(9, 3), (10, 4), (11, 5), (12, 8)]);
+    kill(&rt, &mut tree, &[10, 12]);
+    fill(&rt, &mut tree, &[(13, 4), (14, 8), (15, 9)]);
+    kill(&rt, &mut tree, &[7, 9, 13, 11, 6, 8, 14, 15]);
+    same(&rt, tree.slot_for(T), Ok(2));
+    kill(&rt, &mut tree, &[1]);
+    same(&rt, tree.slot_for(T), Ok(1));
+    same(&rt, made(&mut tree, None), Ok(name(16)));
+    fill(&rt, &mut tree, &[(17, 2), (18, 3)]);
+    Ok(())
+}
+
+#[test]
+fn a_full_job_takes_the_slot_of_the_killed(rt: HostRuntime) -> Result<(), Fail> {
+    let mut tree = boot(rt.alloc())?;
+    same(&rt, made(&mut tree, None), Ok(name(1)));
+    for serial in 2..31 {
+        same(&rt, made(&mut tree, Some(1)), Ok(name(serial)));
+    }
+    same(&rt, tree.slot_for(T), Err(NoFork::ForksFull));
+    kill(&rt, &mut tree, &[2]);
+    fill(&rt, &mut tree, &[(31, 2)]);
+    same(&rt, tree.slot_for(T), Err(NoFork::ForksFull));
+    same(&rt, made(&mut tree, Some(1)), Err(NoFork::ForksFull));
+    kill(&rt, &mut tree, &[30, 31]);
+    fill(&rt, &mut tree, &[(32, 2), (33, 30)]);
+    same(&rt, tree.can_make(T), Err(NoFork::ForksFull));
+    Ok(())
+}
+
 #[test]
 fn serials_are_used_up(rt: HostRuntime) -> Result<(), Fail> {
     let mut tree = boot(rt.alloc())?;
