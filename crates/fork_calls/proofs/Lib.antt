@@ -12,6 +12,7 @@ pub mod Bodies
 pub mod Going
 pub mod TurnBlocks
 pub mod Grown
+pub mod Adding
 pub mod Added
 pub mod MadeTurns
 pub mod Needed

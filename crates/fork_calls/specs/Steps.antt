@@ -82,3 +82,10 @@ FitsStep a (Ends e) = FitsEnd (IsChangeBelow a.tree.forks a.who) e
 FitsStep a (Makes slot) = slot_for a.tree a.who.tty ≡ Ok slot
 FitsStep a (Sets f) = Lives a.tree.forks f × IsBelow a.tree.forks a.who f.name
 FitsStep a (Stores f) = Lives a.tree.forks f
+
+-- what CFORK begins with: a fork is made, or the call fails
+abbrev pub MakesOrFails : FirstStep → Type 0
+MakesOrFails (Ends e) = (code : ℕ) × (e ≡ Failed code)
+MakesOrFails (Makes slot) = Unit {0}
+MakesOrFails (Sets f) = ⊥
+MakesOrFails (Stores f) = ⊥

@@ -8,7 +8,7 @@ ghost use Rattle.machine_names.specs.Bounds.{IsTerminal};
 ghost use Rattle.call_turns.specs.Turns.{IsRegs};
 ghost use Rattle.fork_calls.specs.Asking.{asked};
 ghost use Rattle.fork_calls.specs.Limits.{AreWithin, IsBody};
-ghost use Rattle.fork_calls.specs.Steps.{FitsStep, whole};
+ghost use Rattle.fork_calls.specs.Steps.{FitsStep, MakesOrFails, whole};
 
 use crate::naming::{address_named, inferior_named, own_named};
 use crate::standing::{place_word, status_word};
@@ -28,6 +28,7 @@ pub fn cfork(who: ForkName, tree: &Tree) -> FirstStep
     requires { IsTerminal who.tty }
     ensures turn { (regs : ARegs) → whole (asked who regs tree.now) result ≡ cfork_of (asked who regs tree.now) }
     ensures fits { (regs : ARegs) → FitsStep (asked who regs tree.now) result }
+    ensures makes { MakesOrFails result }
 {
     match tree.slot_for(who.tty) {
         Ok(slot) => FirstStep::Makes(slot),

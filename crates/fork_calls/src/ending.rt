@@ -1,5 +1,5 @@
 // How a turn of a fork call ends.
-ghost use Rattle.std.specs.Prelude.{◌≡◌, true, None};
+ghost use Rattle.std.specs.Prelude.{◌≡◌, ℕ, true, None};
 ghost use Rattle.plain_model.specs.declared.call.End.{End as AnEnd};
 ghost use Rattle.plain_model.specs.declared.call.ForkChange.{ForkChange as AForkChange};
 ghost use Rattle.plain_units.specs.declared.registers.Regs.{Regs as ARegs};
@@ -62,6 +62,7 @@ pub fn end<P: Pages>(
     ensures needs { AnswerNeeds P.means.store 1 pages.new result }
     ensures core { P.means.flat ≡ true → IsDone result }
     ensures leaves { CallLeaves P.means pages.old pages.new tree.old tree.new who 0 }
+    ensures failed { (code : ℕ) → ending ≡ AnEnd.Failed code → tree.new ≡ tree.old }
     ensures regs { HasRegs result }
 {
     match &ending {

@@ -12,7 +12,7 @@ ghost use Rattle.page_contracts.specs.declared.answers.Need.{Need as ANeed};
 ghost use Rattle.call_turns.specs.Answers.{AnswerNeeds, IsDone};
 ghost use Rattle.ka10_unit.specs.Gathers.{Serves, framed};
 ghost use Rattle.ka10_unit.specs.Taking.{IsTrap, StopNeeds, most_frames};
-ghost use Rattle.fork_tree.specs.Making.{slot_for};
+ghost use Rattle.fork_tree.specs.Making.{AddsLast, slot_for};
 ghost use Rattle.fork_calls.specs.Asking.{asked};
 ghost use Rattle.fork_calls.specs.Blocks.{TookAccumulators};
 ghost use Rattle.fork_calls.specs.Holding.{CallLeaves, Holds, MakesPages};
@@ -152,6 +152,7 @@ pub fn make<P: Pages>(
     ensures core { P.means.flat ≡ true → IsDone result }
     ensures unmade { (n : ANeed) → result ≡ Answer.Need n → MakesPages P.means who.tty 0 pages.old pages.new }
     ensures leaves { CallLeaves P.means pages.old pages.new tree.old tree.new who 128 }
+    ensures adds { AddsLast who.tty tree.old tree.new }
     ensures regs { HasRegs result }
 {
     tree.are_trees();

@@ -1,12 +1,13 @@
 // The fork calls by their numbers.
 ghost use Rattle.std.specs.Prelude.{◌≡◌, IfOk};
 ghost use Rattle.plain_model.specs.Calls.{Asked, given as given_of, is_among};
+ghost use Rattle.plain_model.specs.declared.call.TheConstants.{CFORK};
 ghost use Rattle.plain_model.specs.ForkCalls.{fork_call, fork_calls};
 ghost use Rattle.machine_names.specs.Bounds.{IsTerminal};
 ghost use Rattle.call_turns.specs.Turns.{IsRegs};
 ghost use Rattle.fork_calls.specs.Asking.{asked};
 ghost use Rattle.fork_calls.specs.Limits.{AreWithin};
-ghost use Rattle.fork_calls.specs.Steps.{FitsStep, whole};
+ghost use Rattle.fork_calls.specs.Steps.{FitsStep, MakesOrFails, whole};
 
 use crate::calls::{cfork, ffork, hfork, kfork, rfacs, rfork, rfsts, sfacs, sfork, wfork};
 use crate::step::FirstStep;
@@ -36,6 +37,7 @@ pub fn first(number: u32, regs: &Regs, who: ForkName, tree: &Tree) -> FirstStep
     requires within { AreWithin tree.now.forks }
     ensures turn { whole (asked who regs.now tree.now) result ≡ fork_call number (asked who regs.now tree.now) }
     ensures fits { FitsStep (asked who regs.now tree.now) result }
+    ensures makes { number ≡ CFORK → MakesOrFails result }
 {
     match number {
         CFORK => cfork(who, tree),

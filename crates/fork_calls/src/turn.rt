@@ -2,6 +2,8 @@
 ghost use Rattle.std.specs.Prelude.{◌≡◌, ◌<◌, ◌^◌, IsSome, true};
 ghost use Rattle.std.specs.FinMap as map;
 ghost use Rattle.plain_model.specs.ForkCalls.{fork_call};
+ghost use Rattle.plain_model.specs.declared.call.TheConstants.{CFORK};
+ghost use Rattle.fork_tree.specs.Making.{AddsLast};
 ghost use Rattle.page_contracts.specs.declared.answers.Need.{Need as ANeed};
 ghost use Rattle.call_turns.specs.Answers.{AnswerNeeds, IsDone};
 ghost use Rattle.call_turns.specs.Turns.{IsRegs};
@@ -43,6 +45,7 @@ pub fn call<P: Pages>(
     ensures core { P.means.flat ≡ true → IsDone result }
     ensures unmade { (n : ANeed) → result ≡ Answer.Need n → MakesPages P.means who.tty 0 pages.old pages.new }
     ensures leaves { CallLeaves P.means pages.old pages.new tree.old tree.new who 128 }
+    ensures adds { number ≡ CFORK → AddsLast who.tty tree.old tree.new }
     ensures regs { HasRegs result }
 {
     tree.are_trees();

@@ -83,7 +83,7 @@ module _ (forks : ForkMap) where
       cond_both (runs_in forks f) s (stopped s f) (λ (u : Schedule). stands g u ≡ stands g s) (λ can. refl)
       (λ lost. stands_stopped f g s ∙ ap (λ b. stands g s && not b) (apart_from f g lost runs) ∙ and_true (stands g s))
 
-  stop_less : (o : Option ForkName) (s : Schedule) (g : ForkName) → stands g (stopped_if forks o s) ≡ true → stands g s ≡ true
+  pub stop_less : (o : Option ForkName) (s : Schedule) (g : ForkName) → stands g (stopped_if forks o s) ≡ true → stands g s ≡ true
   stop_less None s g here = here
   stop_less (Some f) s g here =
       cond_both (runs_in forks f) s (stopped s f) (λ (u : Schedule). stands g u ≡ true → stands g s ≡ true) (λ can old. old)
@@ -162,13 +162,13 @@ module _ (forks : ForkMap) where
   -- ---- starts
 
   module _ (picks : ForkName → Bool) where
-    start_keeps : (o : Option Fork) (s : Schedule) (g : ForkName) → stands g s ≡ true → stands g (started_if forks picks o s) ≡ true
+    pub start_keeps : (o : Option Fork) (s : Schedule) (g : ForkName) → stands g s ≡ true → stands g (started_if forks picks o s) ≡ true
     start_keeps None s g here = here
     start_keeps (Some f) s g here =
         cond_both (picks f.name && runs_in forks f.name) (started s f.name) s (λ (u : Schedule). stands g u ≡ true)
         (λ can. stands_started f.name g s ∙ or_left (stands g s) (same_fork f.name g) here) (λ none. here)
 
-    start_from : (o : Option Fork) (s : Schedule) (g : ForkName) → stands g (started_if forks picks o s) ≡ true
+    pub start_from : (o : Option Fork) (s : Schedule) (g : ForkName) → stands g (started_if forks picks o s) ≡ true
         → (stands g s ≡ true) ⊎ ((f : Fork) × (o ≡ Some f) × (f.name ≡ g) × (runs_in forks g ≡ true))
     start_from None s g here = inl here
     start_from (Some f) s g now =
@@ -182,13 +182,13 @@ module _ (forks : ForkMap) where
         ])
         (λ none here. inl here) now
 
-    start_there : (f : Fork) (s : Schedule) → picks f.name ≡ true → runs_in forks f.name ≡ true → stands f.name (started_if forks picks (Some f) s) ≡ true
+    pub start_there : (f : Fork) (s : Schedule) → picks f.name ≡ true → runs_in forks f.name ≡ true → stands f.name (started_if forks picks (Some f) s) ≡ true
     start_there f s picked runs =
         cond_both (picks f.name && runs_in forks f.name) (started s f.name) s (λ (u : Schedule). stands f.name u ≡ true)
         (λ can. stands_started f.name f.name s ∙ or_right (stands f.name s) (same_fork f.name f.name) (same_itself f.name))
         (λ none. absurd (let no : true ≡ false = sym (and_from (picks f.name) (runs_in forks f.name) picked runs) ∙ none in cc no))
 
-    start_filled : (o : Option Fork) (s : Schedule) → IsFilled s → IsFilled (started_if forks picks o s)
+    pub start_filled : (o : Option Fork) (s : Schedule) → IsFilled s → IsFilled (started_if forks picks o s)
     start_filled None s is = is
     start_filled (Some f) s is = cond_both (picks f.name && runs_in forks f.name) (started s f.name) s IsFilled (λ can. filled (woken s f.name)) (λ none. is)
 

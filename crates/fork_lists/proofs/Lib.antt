@@ -5,3 +5,5 @@ pub mod Noted
 pub mod Chosen
 pub mod Followed
 pub mod AllFollowed
+pub mod Beside
+pub mod MakerTied

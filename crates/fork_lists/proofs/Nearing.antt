@@ -80,7 +80,7 @@ module _ (forks : ForkMap) (f : ForkName) (runs : runs_in forks f ≡ true) wher
   stop_nears None s = as_it_is s
   stop_nears (Some g) s = cond_both (runs_in forks g) s (stopped s g) (Comes s) (λ can. as_it_is s) (λ lost. stop_one g s (apart_from forks g f lost runs))
 
-  start_nears : (picks : ForkName → Bool) (o : Option Fork) (s : Schedule) → Comes s (started_if forks picks o s)
+  pub start_nears : (picks : ForkName → Bool) (o : Option Fork) (s : Schedule) → Comes s (started_if forks picks o s)
   start_nears picks None s = as_it_is s
   start_nears picks (Some g) s = cond_both (picks g.name && runs_in forks g.name) (started s g.name) s (Comes s) (λ can. start_one g.name s) (λ none. as_it_is s)
 
@@ -123,6 +123,11 @@ pub stop_keeps : (forks : ForkMap) (o : Option ForkName) (s : Schedule) → s.wa
 stop_keeps forks None s calm = calm
 stop_keeps forks (Some f) s calm = cond_both (runs_in forks f) s (stopped s f) (λ (u : Schedule). u.waiting ≡ []) (λ can. calm) (λ lost. stop_calm f s calm)
 
+pub start_stays : (forks : ForkMap) (picks : ForkName → Bool) (o : Option Fork) (s : Schedule) → s.waiting ≡ [] → (started_if forks picks o s).waiting ≡ []
+start_stays forks picks None s calm = calm
+start_stays forks picks (Some f) s calm =
+    cond_both (picks f.name && runs_in forks f.name) (started s f.name) s (λ (u : Schedule). u.waiting ≡ []) (λ can. start_calm f.name s calm) (λ none. calm)
+
 module _ (forks : ForkMap) (t : Tty) where
   lost_calm : (seen : List Seen) (slots : List ℕ) (s : Schedule) → s.waiting ≡ [] → (lost_stopped forks seen t s slots).waiting ≡ []
   lost_calm seen [] s calm = calm
@@ -130,11 +135,7 @@ module _ (forks : ForkMap) (t : Tty) where
 
   picks_calm : (picks : ℕ → ForkName → Bool) (slots : List ℕ) (s : Schedule) → s.waiting ≡ [] → (picks_started forks picks t s slots).waiting ≡ []
   picks_calm picks [] s calm = calm
-  picks_calm picks (slot ∷ slots) s calm = picks_calm picks slots (started_if forks (picks slot) (fork_in forks t slot) s) (by (fork_in forks t slot))
-    where
-      by : (o : Option Fork) → (started_if forks (picks slot) o s).waiting ≡ []
-      by None = calm
-      by (Some f) = cond_both (picks slot f.name && runs_in forks f.name) (started s f.name) s (λ (u : Schedule). u.waiting ≡ []) (λ can. start_calm f.name s calm) (λ none. calm)
+  picks_calm picks (slot ∷ slots) s calm = picks_calm picks slots (started_if forks (picks slot) (fork_in forks t slot) s) (start_stays forks (picks slot) (fork_in forks t slot) s calm)
 
   pub followed_calm : (seen : List Seen) (slots : List ℕ) (s : Schedule) (one two : ℕ → ForkName → Bool) → s.waiting ≡ []
       → (picks_started forks two t (picks_started forks one t (lost_stopped forks seen t s slots) slots) slots).waiting ≡ []

@@ -4,7 +4,11 @@ use Rattle.std.specs.FinMap as map
 use Rattle.machine_names.specs.declared.names.ForkName.{ForkName}
 use Rattle.machine_names.specs.declared.names.Tty.{Tty}
 use Rattle.machine_names.specs.declared.names.TheConstants.{MOST_FORKS, TERMINALS}
+use Rattle.plain_model.specs.declared.fork.Fork.{Fork}
 use Rattle.plain_model.specs.Forks.{ForkMap, fork_in, runs_in}
+use Rattle.plain_model.specs.Trees.{PlainTree}
+use Rattle.fork_tree.specs.Making.{AddsBeside}
+use Rattle.fork_tree.specs.Trees.{IsIn, IsTree}
 use Rattle.job_sched.specs.Lines.{Nears}
 use Rattle.job_sched.specs.Schedules.{Schedule, heads, stands}
 use Rattle.job_sched.specs.Ties.{IsFilled}
@@ -63,3 +67,15 @@ pub record FollowsAll (forks : ForkMap) (old new : ForkLists) : Type 0 where
 pub record ComesOn (f : ForkName) (old new : Schedule) : Type 0 where
   pub nears : Nears f old new 0
   pub gives : (g : ForkName) → heads g old.ready ≡ true → heads g new.ready ≡ false → Nears f old new 1
+
+-- what the lists ask before they follow a fork that may have made one: it ran, they had the forks that could run, and no more has changed than its body, and that
+-- one fork was made at most
+pub record CanFollowMaker (now : PlainTree) (who : ForkName) (slot : ℕ) (l : ForkLists) : Type 0 where
+  pub old : PlainTree
+  pub trees : IsTree old
+  pub tied : AreTied old.forks l
+  pub fork : Fork
+  pub there : IsIn old.forks who.tty slot fork
+  pub named : fork.name ≡ who
+  pub runs : runs_in old.forks who ≡ true
+  pub adds : AddsBeside who old now

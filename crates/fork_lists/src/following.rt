@@ -1,16 +1,19 @@
 // The lists follow what the forks of a job have come to.
-ghost use Rattle.std.specs.Prelude.{Some, ◌≡◌, ◌≢◌, ◌≤◌, ◌&&◌, ℕ, slice_set, true};
+ghost use Rattle.std.specs.Prelude.{None, Some, ◌≡◌, ◌≢◌, ◌≤◌, ◌&&◌, ℕ, slice_set, true};
 ghost use Rattle.std.specs.List.{list_any};
 ghost use Rattle.machine_names.specs.Bounds.{IsForkName, IsTerminal};
 ghost use Rattle.machine_names.specs.declared.names.ForkName.{ForkName as AForkName};
 ghost use Rattle.machine_names.specs.declared.names.Tty.{Tty as ATty};
 ghost use Rattle.machine_names.specs.declared.names.TheConstants.{MOST_FORKS};
+ghost use Rattle.std.specs.FinMap as map;
+ghost use Rattle.plain_model.specs.declared.fork.Fork.{Fork as AFork};
 ghost use Rattle.plain_model.specs.Forks.{IsRunnable, fork_in, runs_in};
+ghost use Rattle.fork_tree.specs.Making.{last_name};
 ghost use Rattle.job_sched.specs.Lines.{is_in_line};
 ghost use Rattle.fork_lists.specs.Seeing.{place_at};
 ghost use Rattle.fork_lists.specs.Following.{followed, lost_stopped, picks_started, started_if, stopped_if};
 ghost use Rattle.fork_lists.specs.Seeing.{has_waited, job_slots, seen_in, seen_of as seen_of_fork, SeenElsewhere};
-ghost use Rattle.fork_lists.specs.Ties.{CanFollow, CanFollowAll, ComesOn, Follows, FollowsAll, Living};
+ghost use Rattle.fork_lists.specs.Ties.{AreTied, CanFollow, CanFollowAll, CanFollowMaker, ComesOn, Follows, FollowsAll, Living};
 ghost use Rattle.fork_lists.specs.Choices.{picked};
 
 use crate::lists::ForkLists;
@@ -214,6 +217,38 @@ impl ForkLists {
             self.sched.stop(who);
         }
         self.note(tree, who.tty, slot);
+    }
+
+    // The fork that was made last at a terminal starts, where it can run now, and its slot is seen as it is.
+    fn follow_newest(&mut self, tree: &Tree, t: Tty)
+        requires terminal { IsTerminal t }
+        requires living { Living tree.now.forks self.old.sched }
+        ensures schedule { self.new.sched ≡ started_if tree.now.forks (λ f. true) (map.get tree.now.forks (last_name tree.now t)) self.old.sched }
+        ensures mine { (f : AFork) → map.get tree.now.forks (last_name tree.now t) ≡ Some f → seen_in self.new.seen.items t f.slot ≡ seen_of_fork (Some f) }
+        ensures others { (f : AFork) → map.get tree.now.forks (last_name tree.now t) ≡ Some f → SeenElsewhere self.old.seen.items self.new.seen.items t f.slot }
+        ensures none { map.get tree.now.forks (last_name tree.now t) ≡ None → self.new.seen ≡ self.old.seen }
+    {
+        tree.are_trees();
+        let Some(fork) = tree.newest(t) else {
+            return;
+        };
+        if tree.runnable(fork.name) {
+            self.sched.sound();
+            self.sched.start(fork.name);
+        }
+        self.note(tree, t, fork.slot);
+    }
+
+    /// The lists follow a fork in its slot, and the fork that was made last at its terminal, where nothing else may have changed: where it can't run any more it
+    /// leaves them, and the set is filled; then the new one, where it can run, is put last outside. Two looks.
+    pub fn follow_maker(&mut self, tree: &Tree, who: ForkName, slot: u8)
+        requires can { CanFollowMaker tree.now who slot self.old }
+        ensures tied { AreTied tree.now.forks self.new }
+        ensures comes_on { (f : AForkName) → IsRunnable tree.now.forks f → is_in_line f self.old.sched ≡ true → ComesOn f self.old.sched self.new.sched }
+    {
+        tree.are_trees();
+        self.follow_slot(tree, who, slot);
+        self.follow_newest(tree, who.tty);
     }
 
     /// The lists follow the forks of all jobs, which live as they did, by terminal.

@@ -59,6 +59,7 @@ mod GivenParts
 mod Listed
 mod Typed
 mod TypedIn
+mod MadeBeside
 mod ReachDid
 mod Sleepers
 mod JobOthers

@@ -20,7 +20,9 @@ ghost use Rattle.plain_model.specs.ForkCalls.{fork_call};
 ghost use Rattle.fork_calls.specs.Asking.{asked};
 ghost use Rattle.fork_calls.specs.Needing.{call_frames};
 ghost use Rattle.fork_calls.specs.Turning.{HasRegs, Turned as ForksTurned};
+ghost use Rattle.fork_tree.specs.Making.{AddsLast};
 ghost use Rattle.fork_tree.specs.Trees.{IsTree};
+ghost use Rattle.plain_model.specs.declared.call.TheConstants.{CFORK};
 ghost use Rattle.monitor_core.specs.Limits.{unit_frames};
 ghost use Rattle.monitor_core.specs.Reaching.{Reaches, reach_of};
 ghost use Rattle.monitor_core.specs.Shown.{shown_of};
@@ -44,7 +46,7 @@ use fork_tree::Tree;
 use machine_names::ForkName;
 use page_contracts::{Need, Pages};
 use plain_model::Body;
-use plain_model::call::{KFORK, PBOUT};
+use plain_model::call::{CFORK, KFORK, PBOUT};
 use plain_units::Regs;
 use plain_units::channel::ILLEGAL_INSTRUCTION;
 use pmap_calls::is_map_call;
@@ -114,6 +116,7 @@ fn fork_turn<P: Pages>(
     ensures core { P.means.flat ≡ true → IsDone result }
     ensures unmade { (n : ANeed) → result ≡ Answer.Need n → MakesPages P.means who.tty 0 pages.old pages.new }
     ensures leaves { CallLeaves P.means pages.old pages.new tree.old tree.new who 128 }
+    ensures adds { number ≡ CFORK → AddsLast who.tty tree.old tree.new }
     ensures regs { HasRegs result }
 {
     tree.are_trees();
@@ -157,6 +160,7 @@ fn turn<P: Pages>(
     ensures unmade { (n : ANeed) → result ≡ Answer.Need n → MakesPages P.means who.tty 0 pages.old pages.new }
     ensures leaves { CallLeaves P.means pages.old pages.new tree.old tree.new who most_makings }
     ensures own { reach_of number ≡ Reach.Own → tree.new ≡ tree.old }
+    ensures made { reach_of number ≡ Reach.Made → AddsLast who.tty tree.old tree.new }
     ensures regs { HasRegs result }
 {
     if is_print_call(number) {
@@ -201,7 +205,9 @@ fn turn<P: Pages>(
 pub fn reach_of(number: u32) -> Reach
     ensures { result ≡ reach_of number }
 {
-    if is_fork_call(number) || is_psi_call(number) || is_clock_call(number) {
+    if number == CFORK {
+        Reach::Made
+    } else if is_fork_call(number) || is_psi_call(number) || is_clock_call(number) {
         Reach::Job
     } else {
         Reach::Own

@@ -28,7 +28,9 @@ use text_pointers::Scratch;
 pub enum Reach {
     /// Only the fork that ran may stand otherwise.
     Own,
-    /// Forks of its job may.
+    /// Besides, a fork may have been made in its job.
+    Made,
+    /// Forks of its job may stand otherwise.
     Job,
 }
 

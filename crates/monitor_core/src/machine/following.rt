@@ -34,6 +34,7 @@ pub fn end_row(lists: &mut ForkLists, tree: &Tree, who: Runner, reach: Reach, co
     tree.are_trees();
     match reach {
         Reach::Own => lists.follow_slot(tree, who.fork, who.slot),
+        Reach::Made => lists.follow_maker(tree, who.fork, who.slot),
         Reach::Job => lists.follow(tree, who.fork.tty),
     }
     if lists.is_head(who.fork) {

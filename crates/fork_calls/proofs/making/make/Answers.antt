@@ -26,6 +26,7 @@ use Rattle.ka10_unit.specs.Carrying.{Grows}
 use Rattle.ka10_unit.specs.Gathers.{framed}
 use Rattle.ka10_unit.specs.Taking.{most_frames}
 use Rattle.ka10_in_place.proofs.Stored.{lost_on}
+use Rattle.fork_tree.specs.Making.{AddsLast}
 use Rattle.fork_tree.specs.Trees.{AreSlotted, IsTree}
 use Rattle.fork_tree.proofs.Kept.{name_unused}
 use Rattle.fork_calls.specs.Asking.{asked}
@@ -33,6 +34,7 @@ use Rattle.fork_calls.specs.Holding.{ComeOrNew, Holds, MakesPages, TopsStay}
 use Rattle.fork_calls.specs.Needing.{call_frames}
 use Rattle.fork_calls.specs.Steps.{made_where, second_regs}
 use Rattle.fork_calls.specs.Turning.{parts}
+use Rattle.fork_calls.proofs.Adding.{adds_made, adds_nobody}
 use Rattle.fork_calls.proofs.Added.{added_dropped, added_holds, back_holds, enough_room, few_forks, no_frame, no_room, not_there, room_told}
 use Rattle.fork_calls.proofs.Branch.{made_on, none_made}
 use Rattle.fork_calls.proofs.CallLeaving.{grown_leaves, none_grown}
@@ -248,3 +250,18 @@ returns-in-Err-clause-unmade g c n is =
 
 pub returns-in-Ok-clause-unmade : goal.returns-in-Ok-clause-unmade
 returns-in-Ok-clause-unmade g c n is = absurd (subst IsDone is c.returned.ensures.core)
+
+pub returns-in-Full-clause-adds : goal.returns-in-Full-clause-adds
+returns-in-Full-clause-adds g c = adds_nobody c.args.who.tty c.args.tree.now c.args.tree.now refl
+
+pub returns-in-NeedFrame-clause-adds : goal.returns-in-NeedFrame-clause-adds
+returns-in-NeedFrame-clause-adds g c = adds_nobody c.args.who.tty c.args.tree.now c.args.tree.now refl
+
+pub returns-in-Err-clause-adds : goal.returns-in-Err-clause-adds
+returns-in-Err-clause-adds g c = adds_nobody c.args.who.tty c.args.tree.now c.args.tree.now refl
+
+pub returns-in-Ok-clause-adds : goal.returns-in-Ok-clause-adds
+returns-in-Ok-clause-adds g c =
+    let tree = c.args.tree.now in
+    let f = made_fork (asked c.args.who c.args.regs.now tree) c.args.slot c.in-Ok.words in
+    subst (AddsLast c.args.who.tty tree) (sym (c.grow.ensures.told c.args.slot c.requires.slot)) (adds_made c.args.who.tty tree f refl c.are_trees.ensures c.requires.serves.terminal)

@@ -30,3 +30,6 @@ returns-in-114-clause-fits c = c.given-in-114.ensures.fits (asked c.args.who c.a
 
 pub returns-in-115-clause-fits : goal.returns-in-115-clause-fits
 returns-in-115-clause-fits c = c.given-in-115.ensures.fits (asked c.args.who c.args.regs.now c.args.tree.now) c.wfork.ensures.fits
+
+pub returns-in-106-clause-makes : goal.returns-in-106-clause-makes
+returns-in-106-clause-makes c is = c.cfork.ensures.makes

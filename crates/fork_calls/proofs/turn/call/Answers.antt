@@ -5,9 +5,10 @@ use Rattle.plain_model.specs.ForkCalls.{fork_call}
 use Rattle.ka10_unit.specs.Taking.{most_frames}
 use Rattle.fork_calls.specs.Asking.{asked}
 use Rattle.fork_calls.specs.Needing.{call_frames}
-use Rattle.fork_calls.specs.Steps.{whole}
+use Rattle.fork_calls.specs.Steps.{MakesOrFails, whole}
 use Rattle.fork_calls.specs.declared.step.FirstStep.TheVariants.{Ends}
 use Rattle.fork_calls.specs.Turning.{Turned}
+use Rattle.fork_calls.proofs.Adding.{adds_nobody}
 use Rattle.fork_calls.proofs.Holdings.{caller_serves, caller_terminal}
 use Rattle.fork_calls.proofs.Needed.{answer_more}
 use Rattle.fork_calls.proofs.turn.call.Goals as goal
@@ -56,3 +57,15 @@ returns-in-Stores-clause-needs g c = answer_more g.P.Pages.means.store most_fram
 
 pub returns-in-Ends-clause-unmade : goal.returns-in-Ends-clause-unmade
 returns-in-Ends-clause-unmade g c n is = c.end.ensures.leaves.made
+
+-- CFORK makes a fork or fails
+pub returns-in-Ends-clause-adds : goal.returns-in-Ends-clause-adds
+returns-in-Ends-clause-adds g c is =
+    let fails = subst MakesOrFails c.in-Ends.is (c.first.ensures.makes is) in
+    adds_nobody c.args.who.tty c.args.tree.now c.end.new.tree (c.end.ensures.failed fails.0 fails.1)
+
+pub returns-in-Sets-clause-adds : goal.returns-in-Sets-clause-adds
+returns-in-Sets-clause-adds g c is = absurd (subst MakesOrFails c.in-Sets.is (c.first.ensures.makes is))
+
+pub returns-in-Stores-clause-adds : goal.returns-in-Stores-clause-adds
+returns-in-Stores-clause-adds g c is = absurd (subst MakesOrFails c.in-Stores.is (c.first.ensures.makes is))

@@ -12,6 +12,7 @@ use Rattle.plain_model.specs.Families.{Parts, Turned, call_turned}
 use Rattle.plain_model.specs.Forks.{OthersStay, counted, fork_in}
 use Rattle.page_contracts.specs.Pages.{PagesMeaning}
 use Rattle.plain_model.specs.Trees.{PlainTree, changed, with_body, with_changed_of}
+use Rattle.fork_tree.specs.Making.{AddsLast}
 use Rattle.fork_tree.specs.Trees.{IsTree, Lives}
 use Rattle.fork_tree.proofs.Slots.{get_put, in_tells, some_of}
 use Rattle.call_turns.specs.Answers.{AnswerNeeds, IsDone}
@@ -26,7 +27,8 @@ use Rattle.monitor_core.proofs.Keeping.{answered_keeps}
 use Rattle.monitor_core.proofs.Leaving.{after_keeps, caller_keeps, caller_within, turn_leaves}
 use Rattle.monitor_core.specs.Reaching.{Reaches, reach_of}
 use Rattle.monitor_core.specs.declared.units.Reach.{Reach}
-use Rattle.monitor_core.specs.declared.units.Reach.TheVariants.{Own, Job}
+use Rattle.monitor_core.specs.declared.units.Reach.TheVariants.{Own, Made, Job}
+use Rattle.monitor_core.proofs.MadeBeside.{beside_last}
 use Rattle.monitor_core.proofs.ReachDid.{called_reaches, same_reaches}
 use Rattle.monitor_core.proofs.calls.called.Goals as goal
 
@@ -57,13 +59,14 @@ stop_fits Halted fits = tt
 stop_fits (Forced channel) fits = fits channel refl
 
 -- a turn alone
-turn_reaches : (r : Reach) (who : ForkName) (old turned : PlainTree) (slot : ℕ) → IsTree old → IsSome (fork_in old.forks who.tty slot) → ((f : Fork) → fork_in old.forks who.tty slot ≡ Some f → f.name ≡ who) → (r ≡ Own → turned ≡ old) → OthersStay who.tty old.forks turned.forks → Reaches r who old turned
-turn_reaches Own who old turned slot trees found named same others =
+turn_reaches : (r : Reach) (who : ForkName) (old turned : PlainTree) (slot : ℕ) → IsTree old → IsSome (fork_in old.forks who.tty slot) → ((f : Fork) → fork_in old.forks who.tty slot ≡ Some f → f.name ≡ who) → (r ≡ Own → turned ≡ old) → (r ≡ Made → AddsLast who.tty old turned) → OthersStay who.tty old.forks turned.forks → Reaches r who old turned
+turn_reaches Own who old turned slot trees found named same adds others =
     let f = some_of (fork_in old.forks who.tty slot) found in
     let name = named f.0 f.1 in
     let lives = in_tells old.forks trees.slotted who.tty slot f.0 f.1 in
     same_reaches old who f.0 (ap (map.get old.forks) (sym name) ∙ lives.0) name Own turned (same refl)
-turn_reaches Job who old turned slot trees found named same others = others
+turn_reaches Made who old turned slot trees found named same adds others = beside_last who old turned (adds refl)
+turn_reaches Job who old turned slot trees found named same adds others = others
 
 pub turn-answer-requires-clause-regs : goal.turn-answer-requires-clause-regs
 turn-answer-requires-clause-regs g c =
@@ -184,11 +187,11 @@ returns-in-Need-clause-core g c flat = absurd (subst IsDone c.in-Need.is (c.turn
 
 -- how far the call has reached
 pub returns-in-Need-clause-reach : goal.returns-in-Need-clause-reach
-returns-in-Need-clause-reach g c = turn_reaches (reach_of c.args.number) c.args.who.fork c.args.tree.now c.turn-answer.new.tree c.args.who.slot c.fork_at.ensures.tree c.requires.there c.requires.named c.turn-answer.ensures.own c.turn-answer.ensures.leaves.others
+returns-in-Need-clause-reach g c = turn_reaches (reach_of c.args.number) c.args.who.fork c.args.tree.now c.turn-answer.new.tree c.args.who.slot c.fork_at.ensures.tree c.requires.there c.requires.named c.turn-answer.ensures.own c.turn-answer.ensures.made c.turn-answer.ensures.leaves.others
 
 pub returns-in-None-clause-reach : goal.returns-in-None-clause-reach
-returns-in-None-clause-reach g c = turn_reaches (reach_of c.args.number) c.args.who.fork c.args.tree.now c.turn-answer.new.tree c.args.who.slot c.fork_at.ensures.tree c.requires.there c.requires.named c.turn-answer.ensures.own c.turn-answer.ensures.leaves.others
+returns-in-None-clause-reach g c = turn_reaches (reach_of c.args.number) c.args.who.fork c.args.tree.now c.turn-answer.new.tree c.args.who.slot c.fork_at.ensures.tree c.requires.there c.requires.named c.turn-answer.ensures.own c.turn-answer.ensures.made c.turn-answer.ensures.leaves.others
 
 pub returns-in-Some-body_mut-clause-reach : goal.returns-in-Some-body_mut-clause-reach
 returns-in-Some-body_mut-clause-reach g c =
-    called_reaches (reach_of c.args.number) c.args.who.fork c.args.tree.now c.turn-answer.new.tree _ c.turn-answer.ensures.own c.turn-answer.ensures.leaves.others c.are_trees.ensures.slotted.own c.answered.new.body refl
+    called_reaches (reach_of c.args.number) c.args.who.fork c.args.tree.now c.turn-answer.new.tree _ c.turn-answer.ensures.own c.turn-answer.ensures.made c.turn-answer.ensures.leaves.others c.are_trees.ensures.slotted.own c.answered.new.body refl

@@ -1,4 +1,4 @@
-use Rattle.std.proofs.Common.{◌≡◌, ◌<◌, ◌∙◌, length, None, Option, Some, inl, refl, sym, ap, subst, arith, length-set}
+use Rattle.std.proofs.Common.{◌≡◌, true, false, ◌<◌, ◌∙◌, length, None, Option, Some, inl, refl, sym, ap, subst, arith, length-set}
 use Rattle.std.specs.Prelude.{IsSome}
 use Rattle.plain_model.specs.ByteCalls.{byte_call}
 use Rattle.plain_model.specs.MapCalls.{map_call}
@@ -30,7 +30,7 @@ use Rattle.fork_calls.proofs.Needed.{answer_more, done_needs}
 use Rattle.pmap_calls.specs.Asking.{asked}
 use Rattle.pmap_calls.specs.Making.{MapNeeds}
 use Rattle.monitor_core.proofs.CodeTurns.{fork_turned, has_codes, interrupt_turned, typed_stay}
-use Rattle.monitor_core.proofs.ReachDid.{clocks_reach, forks_reach, interrupts_reach}
+use Rattle.monitor_core.proofs.ReachDid.{clocks_reach, forks_reach, interrupts_reach, made_among, made_is}
 use Rattle.fork_calls.proofs.Holdings.{holds_same}
 use Rattle.plain_model.specs.Forks.{ForkMap}
 use Rattle.plain_model.specs.declared.fork.Fork.{Fork}
@@ -447,3 +447,13 @@ returns-then-is_psi_call-clause-own g c own = absurd (interrupts_reach c.args.nu
 
 pub returns-then-is_clock_call-clause-own : goal.returns-then-is_clock_call-clause-own
 returns-then-is_clock_call-clause-own g c own = absurd (clocks_reach c.args.number (sym c.is_clock_call.ensures ∙ c.if-is_clock_call.true) own)
+
+-- one call alone makes a fork, and is a fork call
+pub returns-then-is_fork_call-clause-made : goal.returns-then-is_fork_call-clause-made
+returns-then-is_fork_call-clause-made g c made = c.fork_turn.ensures.adds (made_is c.args.number made)
+
+pub returns-then-is_psi_call-clause-made : goal.returns-then-is_psi_call-clause-made
+returns-then-is_psi_call-clause-made g c made = (let both : true ≡ false = sym (made_among c.args.number made) ∙ sym c.is_fork_call.ensures ∙ c.if-is_fork_call.false in absurd (cc both))
+
+pub returns-then-is_clock_call-clause-made : goal.returns-then-is_clock_call-clause-made
+returns-then-is_clock_call-clause-made g c made = (let both : true ≡ false = sym (made_among c.args.number made) ∙ sym c.is_fork_call.ensures ∙ c.if-is_fork_call.false in absurd (cc both))

@@ -9,13 +9,30 @@ use Rattle.monitor_core.specs.Reaching.{Reaches}
 use Rattle.monitor_core.proofs.ListsTied.{can_follow, tied_followed, tied_own}
 use Rattle.monitor_core.proofs.RowPassed.{comes_behind, head_at, head_goes_on, head_gone}
 use Rattle.monitor_core.proofs.machine.following.end_row.Goals as goal
-use Rattle.monitor_core.proofs.machine.following.end_row.Goals.{in-Own, in-Job}
+use Rattle.monitor_core.proofs.machine.following.end_row.Goals.{in-Own, in-Made, in-Job}
 
 pub follow-requires-clause-can : goal.follow-requires-clause-can
 follow-requires-clause-can c =
     let e = c.requires.ended in
     can_follow e.old.forks e.trees.slotted c.ran_row.new.self (c.ran_row.ensures.tied e.old.forks e.tied) c.args.who.fork.tty c.args.tree.now.forks c.are_trees.ensures.slotted
     (subst (λ (r : Reach). Reaches r c.args.who.fork e.old c.args.tree.now) c.in-Job.is e.reaches)
+
+-- one may have been made beside the fork that ran
+pub follow_maker-requires : goal.follow_maker-requires
+follow_maker-requires c =
+    let e = c.requires.ended in
+    record {
+      can = record {
+        old = e.old;
+        trees = e.trees;
+        tied = c.ran_row.ensures.tied e.old.forks e.tied;
+        fork = e.runner.fork;
+        there = e.runner.there;
+        named = e.runner.named;
+        runs = e.runner.runs;
+        adds = subst (λ (r : Reach). Reaches r c.args.who.fork e.old c.args.tree.now) c.in-Made.is e.reaches;
+      };
+    }
 
 pub returns-else-is_head-clause-tied : goal.returns-else-is_head-clause-tied
 returns-else-is_head-clause-tied c =
@@ -29,6 +46,7 @@ returns-else-is_head-clause-tied c =
           let follows = w.follow_slot.ensures in
           subst (AreTied forks) (sym w.lists-is) (tied_own e.old c.args.tree.now e.trees c.are_trees.ensures c.args.who.fork c.args.who.slot e.runner.fork e.runner.there e.runner.named own.body own.left
           c.ran_row.new.self w.follow_slot.new.self before e.runner.runs follows.schedule follows.mine follows.others)
+      | in-Made w ↦ subst (AreTied forks) (sym w.lists-is) w.follow_maker.ensures.tied
       | in-Job w ↦
           let others = subst (λ (r : Reach). Reaches r c.args.who.fork e.old c.args.tree.now) w.in-Job.is e.reaches in
           subst (AreTied forks) (sym w.lists-is) (tied_followed e.old.forks e.trees.slotted c.ran_row.new.self before c.args.who.fork.tty forks new others w.follow.new.self w.follow.ensures.follows)
@@ -46,6 +64,7 @@ returns-then-is_head-clause-tied c =
           let follows = w.follow_slot.ensures in
           subst (AreTied forks) (sym w.lists-is) (tied_own e.old c.args.tree.now e.trees c.are_trees.ensures c.args.who.fork c.args.who.slot e.runner.fork e.runner.there e.runner.named own.body own.left
           c.ran_row.new.self w.follow_slot.new.self before e.runner.runs follows.schedule follows.mine follows.others)
+      | in-Made w ↦ subst (AreTied forks) (sym w.lists-is) w.follow_maker.ensures.tied
       | in-Job w ↦
           let others = subst (λ (r : Reach). Reaches r c.args.who.fork e.old c.args.tree.now) w.in-Job.is e.reaches in
           subst (AreTied forks) (sym w.lists-is) (tied_followed e.old.forks e.trees.slotted c.ran_row.new.self before c.args.who.fork.tty forks new others w.follow.new.self w.follow.ensures.follows)
@@ -63,6 +82,7 @@ returns-else-is_head-clause-closer c f runs apart here =
     let gone = sym c.is_head.ensures ∙ c.if-is_head.false in
     elim c.match-reach.branch [
       | in-Own w ↦ head_gone f who m _ (subst (λ (l : ForkLists). ComesOn f m l.sched) (sym w.lists-is) (behind w.follow_slot.new.self.sched (w.follow_slot.ensures.comes_on f runs))) apart was gone
+      | in-Made w ↦ head_gone f who m _ (subst (λ (l : ForkLists). ComesOn f m l.sched) (sym w.lists-is) (behind w.follow_maker.new.self.sched (w.follow_maker.ensures.comes_on f runs))) apart was gone
       | in-Job w ↦ head_gone f who m _ (subst (λ (l : ForkLists). ComesOn f m l.sched) (sym w.lists-is) (behind w.follow.new.self.sched (w.follow.ensures.comes_on f runs))) apart was gone
     ]
 
@@ -77,5 +97,6 @@ returns-then-is_head-clause-closer c f runs apart here =
     let still = sym c.is_head.ensures ∙ c.if-is_head.true in
     subst (λ (s : Schedule). Nears f m s 1) (sym c.ran_row-then-is_head.ensures.ran) (elim c.match-reach.branch [
       | in-Own w ↦ head_goes_on f who m _ (subst (λ (l : ForkLists). ComesOn f m l.sched) (sym w.lists-is) (behind w.follow_slot.new.self.sched (w.follow_slot.ensures.comes_on f runs))) apart still
+      | in-Made w ↦ head_goes_on f who m _ (subst (λ (l : ForkLists). ComesOn f m l.sched) (sym w.lists-is) (behind w.follow_maker.new.self.sched (w.follow_maker.ensures.comes_on f runs))) apart still
       | in-Job w ↦ head_goes_on f who m _ (subst (λ (l : ForkLists). ComesOn f m l.sched) (sym w.lists-is) (behind w.follow.new.self.sched (w.follow.ensures.comes_on f runs))) apart still
     ])
