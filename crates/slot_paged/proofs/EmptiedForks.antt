@@ -42,6 +42,14 @@ near_core b places kept at lives near = by (index_of b.tables.maps at.fork) refl
         let x = words_here places (root_at b.tables.maps k).0 (root_taken b.tables places kept.rooted at.fork k is) n in
         ap (λ p. is_near (look_word b.tables (root_at b.tables.maps k) (word_in p at.page))) x.1 ∙ word_near b.tables (root_at b.tables.maps k) x.0 at.page
 
+-- a fork that lives has a map with a number
+pub numbered_lives : (b : Beside) (fork : ForkName) → is_some (index_of b.tables.maps fork) ≡ true → (k : ℕ) × (index_of b.tables.maps fork ≡ Some k)
+numbered_lives b fork lives = by (index_of b.tables.maps fork) lives
+  where
+    by : (o : Option ℕ) → is_some o ≡ true → (k : ℕ) × (o ≡ Some k)
+    by None h = absurd (cc h)
+    by (Some k) h = (k, refl)
+
 -- none of its entries
 pub empties_none : {S : Type 0} (store : StoreMeaning S) (old : S) (b : Beside) (fork : ForkName) → AreKept b (store.homes old) → ArePages (store.homes old) → EmptiesFork store old old b b fork 0
 empties_none store old b fork kept pages = record {
@@ -101,8 +109,4 @@ pub near_later : {S : Type 0} (store : StoreMeaning S) (old mid : S) (b b1 : Bes
 near_later store old mid b b1 fork page kept so_far lives near =
     let same : index_of b1.tables.maps fork ≡ index_of b.tables.maps fork = ap (λ ms. index_of ms fork) so_far.maps in
     let now : is_some (index_of b1.tables.maps fork) ≡ true = ap (λ (o : Option ℕ). is_some o) same ∙ lives in
-    (numbered (index_of b1.tables.maps fork) now, near_core b1 (store.homes mid) kept (record { fork = fork; page = page }) now (so_far.core.maps fork near))
-  where
-    numbered : (o : Option ℕ) → is_some o ≡ true → (k : ℕ) × (o ≡ Some k)
-    numbered None h = absurd (cc h)
-    numbered (Some k) h = (k, refl)
+    (numbered_lives b1 fork now, near_core b1 (store.homes mid) kept (record { fork = fork; page = page }) now (so_far.core.maps fork near))

@@ -69,7 +69,7 @@ module _ (shares : Shares) (names : List (Option PageName)) (shared : List (Opti
       | inr other ↦ (other, sym (get_or-set_other shared h k None None other) ∙ e)
     ]
 
-    page_there : (t : ℕ) (p : SharedPage) → page_at (without shares s.0) t ≡ Some p → (t ≢ s.0) × (page_at shares t ≡ Some p)
+    pub page_there : (t : ℕ) (p : SharedPage) → page_at (without shares s.0) t ≡ Some p → (t ≢ s.0) × (page_at shares t ≡ Some p)
     page_there t p e = elim (cases_eq t s.0) [
       | inl same ↦ absurd (let z : None ≡ Some p = sym gone ∙ ap (page_at (without shares s.0)) (sym same) ∙ e in cc z)
       | inr other ↦ (other, sym (kept_page t other) ∙ e)

@@ -3,7 +3,6 @@ pub mod StillWalked
 pub mod AskedOfStore
 pub mod Placed
 pub mod PutInto
-pub mod WithinPages
 pub mod FiledShares
 pub mod FiledBound
 pub mod FiledKept
@@ -59,3 +58,6 @@ pub mod PutDone
 pub mod EmptiedForks
 pub mod ForksEnded
 pub mod ForksLeft
+pub mod EntriesFreed
+pub mod ForksAdded
+pub mod HousedPages

@@ -68,12 +68,12 @@ places_begun (m ∷ maps) places (suc k) f home p within none was apart =
     ap (λ ps. option_map_or (λ g. slice_set ps m.home.0 free) m.fork ps) (places_begun maps places k f home p (omega (arith, within)) none was (λ j g e. apart (suc j) g e))
 
 -- entries that name no page, and look first at no map
-abbrev IsBare : HeldEntry → Type 0
+abbrev pub IsBare : HeldEntry → Type 0
 IsBare Empty = Unit {0}
 IsBare (Page h a) = ⊥
 IsBare (Follows l a) = l.map ≡ 0
 
-abbrev AreBare : List HeldEntry → Type 0
+abbrev pub AreBare : List HeldEntry → Type 0
 AreBare [] = Unit {0}
 AreBare (e ∷ es) = IsBare e × AreBare es
 

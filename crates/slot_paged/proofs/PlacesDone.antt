@@ -100,6 +100,7 @@ module _ {S : Type 0} (store : StoreMeaning S) (old new : S) (b b' : Beside) (ke
         };
         filed = made_files store old new b b' kept kept' pages owner own w.end stands.end zero_words full_access b.tables.shares z;
         ready = λ h r at. absurd (let no : Zero ≡ Ready = sym is ∙ r in cc no);
+        still = λ r. absurd (let no : Zero ≡ Ready = sym is ∙ r in cc no);
         lives = made_lives store old new b b' kept kept' pages owner own w.end stands.end zero_words full_access b.tables.shares z;
         forks = made_forks store old new b b' kept kept' pages owner own w.end stands.end zero_words full_access b.tables.shares z;
         serial = made_serial store old new b b' kept kept' pages owner own w.end stands.end zero_words full_access b.tables.shares z;
@@ -150,6 +151,7 @@ module _ {S : Type 0} (store : StoreMeaning S) (old new : S) (b b' : Beside) (ke
           };
           filed = made_files store old new b b' kept kept' pages owner own m near_slot words access shares z;
           ready = λ g r at. absurd (let no : Copy false ≡ Ready = sym is ∙ r in cc no);
+          still = λ r. absurd (let no : Copy false ≡ Ready = sym is ∙ r in cc no);
           lives = made_lives store old new b b' kept kept' pages owner own m near_slot words access shares z;
           forks = made_forks store old new b b' kept kept' pages owner own m near_slot words access shares z;
           serial = made_serial store old new b b' kept kept' pages owner own m near_slot words access shares z;
@@ -183,6 +185,7 @@ module _ {S : Type 0} (store : StoreMeaning S) (old new : S) (b b' : Beside) (ke
           };
           filed = renamed_files store old new b b' kept kept' pages owner own m near_slot h one words old_words access z;
           ready = λ g r at. absurd (let no : Copy true ≡ Ready = sym is ∙ r in cc no);
+          still = λ r. absurd (let no : Copy true ≡ Ready = sym is ∙ r in cc no);
           lives = renamed_lives store old new b b' kept kept' pages owner own m near_slot h one words old_words access z;
           forks = renamed_forks store old new b b' kept kept' pages owner own m near_slot h one words old_words access z;
           serial = renamed_serial store old new b b' kept kept' pages owner own m near_slot h one words old_words access z;
@@ -219,6 +222,7 @@ module _ {S : Type 0} (store : StoreMeaning S) (old new : S) (b : Beside) (kept 
         uses = record { home = h; stands = ap (λ ps. homed_over b ps at) homes ∙ there; here = ap (λ ps. is_here (place ps h.0)) homes ∙ here_is; youngest = ages.youngest; others = ages.others };
         filed = filed_same (touched_over b (store.homes old) (store.spare old) at kind) is;
         ready = λ g r stands. (let same : h ≡ g = (let z : At h ≡ At g = sym there ∙ stands in cc z) in subst (λ (x : Home). IsUsed store x.0 old new) same used);
+        still = λ r. (refl, homes);
         lives = refl;
         forks = refl;
         serial = omega arith;
@@ -251,6 +255,7 @@ module _ {S : Type 0} (store : StoreMeaning S) (old new : S) (b b' : Beside) (ke
         };
         filed = subst (FilesSettled b b' (File file page)) (sym is) (filed_one store old new b b' kept kept' owner own (file_page file.0 page) z);
         ready = λ h r at. absurd (let no : Zero ≡ Ready = sym is ∙ r in cc no);
+        still = λ r. absurd (let no : Zero ≡ Ready = sym is ∙ r in cc no);
         lives = filed_lives store old new b b' kept kept' owner own (file_page file.0 page) z;
         forks = filed_forks store old new b b' kept kept' owner own (file_page file.0 page) z;
         serial = filed_serial store old new b b' kept kept' owner own (file_page file.0 page) z;

@@ -1,9 +1,7 @@
 pub mod KnownPages
 pub mod PagedSlots
-pub mod WalkTimes
 pub mod FiledTables
 pub mod FiledSteps
-pub mod KnownNow
 pub mod PagedPlaces
 pub mod NameCounts
 pub mod MapsInMemory
@@ -16,3 +14,5 @@ pub mod LeftShares
 pub mod PlacesSettled
 pub mod SetEntries
 pub mod EndedForks
+pub mod AddedForks
+pub mod FreedEntries

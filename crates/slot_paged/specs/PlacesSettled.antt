@@ -60,6 +60,7 @@ pub record SettlesPlace {S : Type 0} (store : StoreMeaning S) (old new : S) (b b
   pub uses : UsesPlace store old new b' at
   pub filed : FilesSettled b b' at (touched_over b (store.homes old) (store.spare old) at kind)
   pub ready : (h : Home) → touched_over b (store.homes old) (store.spare old) at kind ≡ Ready → homed_over b (store.homes old) at ≡ At h → IsUsed store h.0 old new
+  pub still : touched_over b (store.homes old) (store.spare old) at kind ≡ Ready → (b' ≡ b) × (store.homes new ≡ store.homes old)
   pub lives : lives_in b' ≡ lives_in b
   pub forks : forks_in b' ≡ forks_in b
   pub serial : serial_of b'.serials owner ≤ serial_of b.serials owner + 1

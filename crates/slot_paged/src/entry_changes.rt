@@ -20,6 +20,7 @@ impl<S: Store> SlotPaged<S> {
     ghost use Rattle.pager_walk.specs.declared.paged_entry.PagedEntry.{PagedEntry as APagedEntry};
     ghost use Rattle.pager_walk.specs.PagedMaps.{entry_for, is_near, look_at, name_at};
     ghost use Rattle.flat_pages.specs.FileSteps.{HasHome};
+    ghost use Rattle.slot_paged.specs.FreedEntries.{FreesEntry};
     ghost use Rattle.slot_paged.specs.LeftShares.{left_of};
     ghost use Rattle.slot_paged.specs.PagedTables.{beside_of};
     ghost use Rattle.slot_paged.specs.PagedTouches.{has_one_name};
@@ -58,7 +59,8 @@ impl<S: Store> SlotPaged<S> {
         requires near { is_near (look_at (beside_of self.old.tables).tables (S.means.homes self.old.store) at) ≡ true }
         requires pointer { IsPointer pointer }
         requires bare { IsSome (bare_entry pointer) }
-        ensures { (e : APagedEntry) → bare_entry pointer ≡ Some e → SetsSlot S.means self.old.store self.new.store (beside_of self.old.tables) (beside_of self.new.tables) at e }
+        ensures sets { (e : APagedEntry) → bare_entry pointer ≡ Some e → SetsSlot S.means self.old.store self.new.store (beside_of self.old.tables) (beside_of self.new.tables) at e }
+        ensures frees { FreesEntry S.means self.old.store self.new.store (beside_of self.old.tables) (beside_of self.new.tables) at }
     {
         let seen = entry(&self.store, &self.tables.tables, at);
         match self.tables.alone_page(seen) {

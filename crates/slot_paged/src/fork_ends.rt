@@ -20,6 +20,7 @@ impl<S: Store> SlotPaged<S> {
     ghost use Rattle.pager_walk.specs.MapPages.{index_of, root_at};
     ghost use Rattle.pager_walk.specs.PagedMaps.{map_away};
     ghost use Rattle.slot_paged.specs.EndedForks.{EmptiesFork, fork_gone};
+    ghost use Rattle.slot_paged.specs.FreedEntries.{EndsFork, FreesEntries};
     ghost use Rattle.slot_paged.specs.PagedMeaning.{forks_in, lives_in};
     ghost use Rattle.slot_paged.specs.PagedTables.{FitsPages, beside_of, plain_over};
     ghost use Rattle.slot_paged.specs.PagedTouches.{scene_over};
@@ -29,7 +30,8 @@ impl<S: Store> SlotPaged<S> {
     fn empty_map(&mut self, fork: ForkName)
         requires lives { lives_in (beside_of self.old.tables) fork ≡ true }
         requires near { map_away (beside_of self.old.tables).tables (S.means.homes self.old.store) fork ≡ None }
-        ensures { EmptiesFork S.means self.old.store self.new.store (beside_of self.old.tables) (beside_of self.new.tables) fork SPACE_PAGES }
+        ensures empties { EmptiesFork S.means self.old.store self.new.store (beside_of self.old.tables) (beside_of self.new.tables) fork SPACE_PAGES }
+        ensures frees { FreesEntries S.means self.old.store self.new.store (beside_of self.old.tables) (beside_of self.new.tables) fork SPACE_PAGES }
     {
         for page in 0..SPACE_PAGES as u16 {
             self.set_unnamed(Slot { fork, page }, Pointer::Empty);
@@ -57,6 +59,7 @@ impl<S: Store> SlotPaged<S> {
         ensures filed { filed_over (beside_of self.new.tables) ≡ filed_over (beside_of self.old.tables) }
         ensures loses { Loses (traffic S.means self.old.store) (traffic S.means self.new.store) }
         ensures uses { RenewsNone (traffic S.means self.old.store) (traffic S.means self.new.store) }
+        ensures ends { EndsFork S.means self.old.store self.new.store (beside_of self.old.tables) (beside_of self.new.tables) fork }
         ensures lives { (f : AForkName) → lives_in (beside_of self.new.tables) f ≡ (not (same_fork f fork) && lives_in (beside_of self.old.tables) f) }
         ensures forks { forks_in (beside_of self.new.tables) fork.tty + 1 ≡ forks_in (beside_of self.old.tables) fork.tty }
         ensures others { (t : ATty) → t ≢ fork.tty → forks_in (beside_of self.new.tables) t ≡ forks_in (beside_of self.old.tables) t }

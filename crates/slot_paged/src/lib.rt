@@ -8,8 +8,6 @@ mod file_places;
 mod file_tables;
 mod fork_ends;
 mod known_page;
-mod known_slots;
-mod known_walks;
 mod looked_up;
 mod page_home;
 mod paged_tables;
@@ -17,7 +15,6 @@ mod settling;
 mod slot_paged;
 
 pub use known_page::KnownPage;
-pub use known_slots::KnownSlots;
 pub use page_home::PageHome;
 pub use paged_tables::PagedTables;
 pub use slot_paged::SlotPaged;

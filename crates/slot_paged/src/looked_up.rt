@@ -41,8 +41,8 @@ impl<S: Store> SlotPaged<S> {
         maps[space.0 as usize].fork
     }
 
-    // What is known of a page of a space, which is at the end of its chain.
-    pub(crate) fn known(&self, space: SpaceHandle, page: u16) -> Option<KnownPage>
+    /// What is known of a page of a space, which is at the end of its chain.
+    pub fn known(&self, space: SpaceHandle, page: u16) -> Option<KnownPage>
         requires space { HasSpace (paged_slots S.means (λ p. p.store) (λ p. beside_of p.tables)) self.now space }
         requires page { page < SPACE_PAGES }
         ensures known { result ≡ known_over (beside_of self.now.tables) (S.means.homes self.now.store) space page }
@@ -57,8 +57,8 @@ impl<S: Store> SlotPaged<S> {
         }
     }
 
-    // Where a known page is that may be used so, if it is in a frame.
-    pub(crate) fn found_at(&self, known: KnownPage, is_let: bool) -> Option<Found>
+    /// Where a known page is that may be used so, if it is in a frame.
+    pub fn found_at(&self, known: KnownPage, is_let: bool) -> Option<Found>
         requires { is_taken (place (S.means.homes self.now.store) known.home.0) ≡ true }
         ensures { result ≡ (if is_let then S.means.found self.now.store known.home.0 else None) }
     {
@@ -69,8 +69,8 @@ impl<S: Store> SlotPaged<S> {
         }
     }
 
-    // Where a page of a space is that may be referenced as it is.
-    pub(crate) fn found_for(&self, space: SpaceHandle, page: u16, kind: Kind) -> Option<Found>
+    /// Where a page of a space is that may be referenced as it is.
+    pub fn found_for(&self, space: SpaceHandle, page: u16, kind: Kind) -> Option<Found>
         requires space { HasSpace (paged_slots S.means (λ p. p.store) (λ p. beside_of p.tables)) self.now space }
         requires page { page < SPACE_PAGES }
         ensures { result ≡ found_known (S.means.found self.now.store) (lets_known kind) (known_over (beside_of self.now.tables) (S.means.homes self.now.store) space page) }
@@ -81,8 +81,8 @@ impl<S: Store> SlotPaged<S> {
         }
     }
 
-    // Where a page of a space is that may be read and written as it is.
-    pub(crate) fn found_to_change(&self, space: SpaceHandle, page: u16) -> Option<Found>
+    /// Where a page of a space is that may be read and written as it is.
+    pub fn found_to_change(&self, space: SpaceHandle, page: u16) -> Option<Found>
         requires space { HasSpace (paged_slots S.means (λ p. p.store) (λ p. beside_of p.tables)) self.now space }
         requires page { page < SPACE_PAGES }
         ensures { result ≡ found_known (S.means.found self.now.store) lets_change (known_over (beside_of self.now.tables) (S.means.homes self.now.store) space page) }

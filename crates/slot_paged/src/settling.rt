@@ -211,6 +211,8 @@ impl<S: Store> SlotPaged<S> {
         ensures filed { FilesSettled (beside_of self.old.tables) (beside_of self.new.tables) at (touched_over (beside_of self.old.tables) (S.means.homes self.old.store) (S.means.spare self.old.store) at kind) }
         ensures ready { (h : AHome) → touched_over (beside_of self.old.tables) (S.means.homes self.old.store) (S.means.spare self.old.store) at kind ≡ Touch.Ready → homed_over (beside_of self.old.tables) (S.means.homes self.old.store) at ≡ PageHome.At h
             → IsUsed S.means h.0 self.old.store self.new.store }
+        ensures still { touched_over (beside_of self.old.tables) (S.means.homes self.old.store) (S.means.spare self.old.store) at kind ≡ Touch.Ready
+            → (beside_of self.new.tables ≡ beside_of self.old.tables) × (S.means.homes self.new.store ≡ S.means.homes self.old.store) }
         ensures lives { lives_in (beside_of self.new.tables) ≡ lives_in (beside_of self.old.tables) }
         ensures forks { forks_in (beside_of self.new.tables) ≡ forks_in (beside_of self.old.tables) }
         ensures serial { serial_of self.new.tables.serials owner ≤ serial_of self.old.tables.serials owner + 1 }

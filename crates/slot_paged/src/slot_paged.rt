@@ -347,12 +347,12 @@ impl<S: Store> SlotPaged<S> {
 }
 
 impl<S: Store> SlotPaged<S> {
-    ghost use Rattle.std.specs.Prelude.{◌≡◌, ◌+◌, ◌<◌, ◌≤◌, length};
+    ghost use Rattle.std.specs.Prelude.{◌≡◌, ◌+◌, ◌<◌, ◌≤◌, length, slice_set};
     ghost use Rattle.outside.specs.declared.TheConstants.{PAGE_WORDS};
     ghost use Rattle.page_homes.specs.declared.homes.Home.{Home as AHome};
     ghost use Rattle.page_contracts.specs.DrumWords.{DrumWords, Stands};
     ghost use Rattle.page_contracts.specs.Pages.{IsPlace, room_for, spot_of};
-    ghost use Rattle.page_contracts.specs.Stores.{CanFetch, CanKeep, Completes, Evicts, IsFetched, IsUsed, Keeps, LetsGo, Tells, awaited, meeting, most_held};
+    ghost use Rattle.page_contracts.specs.Stores.{CanFetch, CanKeep, Completes, Evicts, IsFetched, IsUsed, Keeps, LetsGo, Tells, awaited, meeting, most_held, place, with_word_in};
     ghost use Rattle.plain_pages.specs.References.{stored};
     ghost use Rattle.slot_paged.specs.PagedTables.{FitsPages, plain_over};
     ghost use Rattle.slot_paged.specs.PagedTouches.{touched_over};
@@ -368,6 +368,8 @@ impl<S: Store> SlotPaged<S> {
             → FitsPages (beside_of self.new.tables) (S.means.homes self.new.store) d
             × (plain_over (beside_of self.new.tables) (S.means.homes self.new.store) d ≡ stored (plain_over (beside_of self.old.tables) (S.means.homes self.old.store) d) (spot_of at) offset word) }
         ensures used { (h : AHome) → homed_over (beside_of self.old.tables) (S.means.homes self.old.store) at ≡ PageHome.At h → IsUsed S.means h.0 self.old.store self.new.store }
+        ensures homes { (h : AHome) → homed_over (beside_of self.old.tables) (S.means.homes self.old.store) at ≡ PageHome.At h
+            → S.means.homes self.new.store ≡ slice_set (S.means.homes self.old.store) h.0 (with_word_in (place (S.means.homes self.old.store) h.0) offset word) }
         ensures tables { self.new.tables ≡ self.old.tables }
     {
         match self.home_of(at) {
@@ -495,6 +497,7 @@ impl<S: Store> SlotPaged<S> {
     ghost use Rattle.plain_pages.specs.NewMaps.{with_map};
     ghost use Rattle.pager_walk.specs.MapPages.{first_map, fork_at, index_of};
     ghost use Rattle.pager_walk.specs.NewPages.{following_words};
+    ghost use Rattle.slot_paged.specs.AddedForks.{AddsFork};
     ghost use Rattle.slot_paged.specs.PagedTables.{FitsPages, beside_of, plain_over};
     ghost use Rattle.slot_paged.specs.PagedMeaning.{forks_in, lives_in, with_fork};
 
@@ -573,6 +576,7 @@ impl<S: Store> SlotPaged<S> {
         ensures told { (d : DrumWords) → FitsPages (beside_of self.old.tables) (S.means.homes self.old.store) d
             → FitsPages (beside_of self.new.tables) (S.means.homes self.new.store) d
             × (plain_over (beside_of self.new.tables) (S.means.homes self.new.store) d ≡ with_map (plain_over (beside_of self.old.tables) (S.means.homes self.old.store) d) fork map) }
+        ensures adds { AddsFork S.means self.old.store self.new.store (beside_of self.old.tables) (beside_of self.new.tables) fork }
         ensures lives { (f : AForkName) → lives_in (beside_of self.new.tables) f ≡ (same_fork f fork || lives_in (beside_of self.old.tables) f) }
         ensures forks { forks_in (beside_of self.new.tables) fork.tty ≡ forks_in (beside_of self.old.tables) fork.tty + 1 }
         ensures others { (t : ATty) → t ≢ fork.tty → forks_in (beside_of self.new.tables) t ≡ forks_in (beside_of self.old.tables) t }

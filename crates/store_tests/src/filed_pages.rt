@@ -1,11 +1,12 @@
 // Pages of files, and look-ups, where maps of forks are pages.
 use crate::made::made;
 use crate::same::same;
+use known_slots::KnownSlots;
 use machine_names::{FileNo, ForkName, Kind, Place, Slot, Tty};
 use page_contracts::{Room, Store, Touch};
 use paged_store::PagedStore;
 use plain_pages::NewMap;
-use slot_paged::{KnownSlots, SlotPaged};
+use slot_paged::SlotPaged;
 use std::alloc::AllocGlobal;
 use std::process::Abort;
 use word36::Word;

@@ -16,7 +16,13 @@ mod lists;
 #[cfg(test)]
 mod made;
 #[cfg(test)]
+mod paged_calls;
+#[cfg(test)]
+mod paged_lists;
+#[cfg(test)]
 mod paged_maps;
+#[cfg(test)]
+mod plain_maps;
 #[cfg(test)]
 mod same;
 #[cfg(test)]

@@ -1,6 +1,9 @@
 use Rattle.std.proofs.Common.{◌<◌, ◌∙◌, ap, arith, length}
+use Rattle.machine_names.specs.PageWords.{zero_words}
+use Rattle.pager_walk.specs.NewPages.{following_words}
 use Rattle.slot_paged.specs.PagedTables.{Beside, beside_of}
 use Rattle.slot_paged.specs.PagedMeaning.{forks_in, lives_in}
+use Rattle.slot_paged.proofs.ForksAdded.{following_bare, zero_bare}
 use Rattle.slot_paged.proofs.NewForks.{absent_is, fork_lives, forks_more, forks_others}
 use Rattle.slot_paged.proofs.slot_paged.SlotPaged.add_fork.Goals as goal
 
@@ -57,3 +60,40 @@ returns-in-FollowAll-clause-others g c =
     let absent = absent_is b c.args.fork c.requires.absent in
     let within : c.number_for-number.result < length b.tables.maps = omega (arith, s.kept.rooted.numbered.count, n.below, c.requires.terminal) in
     λ t ne. ap (λ (x : Beside). forks_in x t) c.begin_following.ensures.tables ∙ forks_others b s.kept.rooted.numbered c.number_for-number.result c.args.fork c.begin_following.result within absent n.fork n.from n.below t ne
+
+pub returns-in-Empty-clause-adds : goal.returns-in-Empty-clause-adds
+returns-in-Empty-clause-adds g c =
+    let s = c.args.self.now in
+    let b = beside_of s.tables in
+    let n = c.number_for-number.ensures in
+    let within : c.number_for-number.result < length b.tables.maps = omega (arith, s.kept.rooted.numbered.count, n.below, c.requires.terminal) in
+    record {
+      number = c.number_for-number.result;
+      home = c.begin_empty.result;
+      words = zero_words;
+      below = within;
+      unused = n.fork;
+      absent = absent_is b c.args.fork c.requires.absent;
+      made = c.begin_empty.ensures.made;
+      beside = c.begin_empty.ensures.tables;
+      bare = zero_bare b.tables;
+    }
+
+pub returns-in-FollowAll-clause-adds : goal.returns-in-FollowAll-clause-adds
+returns-in-FollowAll-clause-adds g c =
+    let s = c.args.self.now in
+    let b = beside_of s.tables in
+    let n = c.number_for-number.ensures in
+    let l = c.requires.leader c.in-FollowAll.leader c.in-FollowAll.is in
+    let within : c.number_for-number.result < length b.tables.maps = omega (arith, s.kept.rooted.numbered.count, n.below, c.requires.terminal) in
+    record {
+      number = c.number_for-number.result;
+      home = c.begin_following.result;
+      words = following_words c.in-FollowAll.leader.serial 512;
+      below = within;
+      unused = n.fork;
+      absent = absent_is b c.args.fork c.requires.absent;
+      made = c.begin_following.ensures.made;
+      beside = c.begin_following.ensures.tables;
+      bare = following_bare b.tables c.in-FollowAll.leader l.0 l.1;
+    }

@@ -65,7 +65,7 @@ returns-in-Empty g c =
     let at = c.args.slot in
     let q = c.args.seen in
     let new = c.set_unnamed.new.self in
-    subst (ChangesEntry store s.store new.store b (beside_of new.tables) at) (sym c.in-Empty.is) (changes store s.store new.store b (beside_of new.tables) s.kept pages at r.page q r.seen new_entry.Empty paged.Empty (c.set_unnamed.ensures paged.Empty refl) (λ d. refl))
+    subst (ChangesEntry store s.store new.store b (beside_of new.tables) at) (sym c.in-Empty.is) (changes store s.store new.store b (beside_of new.tables) s.kept pages at r.page q r.seen new_entry.Empty paged.Empty (c.set_unnamed.ensures.sets paged.Empty refl) (λ d. refl))
 
 pub returns-in-Follows : goal.returns-in-Follows
 returns-in-Follows g c =
@@ -80,7 +80,7 @@ returns-in-Follows g c =
     let new = c.set_unnamed-in-Follows.new.self in
     let e = paged.Follows c.in-Follows.serial c.in-Follows.page c.in-Follows.access in
     subst (ChangesEntry store s.store new.store b (beside_of new.tables) at) (sym c.in-Follows.is)
-    (changes store s.store new.store b (beside_of new.tables) s.kept pages at r.page q r.seen (new_entry.Follows c.in-Follows.serial c.in-Follows.page c.in-Follows.access) e (c.set_unnamed-in-Follows.ensures e refl) (λ d. refl))
+    (changes store s.store new.store b (beside_of new.tables) s.kept pages at r.page q r.seen (new_entry.Follows c.in-Follows.serial c.in-Follows.page c.in-Follows.access) e (c.set_unnamed-in-Follows.ensures.sets e refl) (λ d. refl))
 
 pub returns-in-Some : goal.returns-in-Some
 returns-in-Some g c =

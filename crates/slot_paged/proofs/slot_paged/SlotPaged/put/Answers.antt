@@ -1,8 +1,9 @@
 use Rattle.std.proofs.Common.{◌≡◌, ◌∙◌, List, refl, sym, ap, subst}
+use Rattle.std.specs.Prelude.{slice_set}
 use Rattle.machine_names.specs.declared.names.Kind.TheVariants.{Write}
 use Rattle.page_homes.specs.declared.homes.Home.{Home}
 use Rattle.page_contracts.specs.Pages.{spot_of}
-use Rattle.page_contracts.specs.Stores.{HomePlace, IsUsed, away_at}
+use Rattle.page_contracts.specs.Stores.{HomePlace, IsUsed, away_at, place, with_word_in}
 use Rattle.plain_pages.specs.References.{stored}
 use Rattle.pager_walk.proofs.Looking.{ArePages}
 use Rattle.slot_paged.specs.declared.page_home.PageHome.TheVariants.{At}
@@ -40,5 +41,6 @@ returns g c =
       told = λ d fits. subst (λ (ps : List HomePlace). FitsPages b ps d × (plain_over b ps d ≡ stored (plain_over b places d) (spot_of c.args.at) c.args.offset c.args.word)) (sym c.put.ensures.homes)
           (put_told b places s.kept pages c.args.at c.requires.place h is x.0 x.1 c.args.offset c.args.word d fits pages');
       used = λ k e. (let own : h ≡ k = (let z : At h ≡ At k = sym is ∙ e in cc z) in subst (λ (y : Home). IsUsed g.S.Store.means y.0 s.store c.put.new.self) own c.put.ensures.used);
+      homes = λ k e. (let own : h ≡ k = (let z : At h ≡ At k = sym is ∙ e in cc z) in subst (λ (y : Home). g.S.Store.means.homes c.put.new.self ≡ slice_set places y.0 (with_word_in (place places y.0) c.args.offset c.args.word)) own c.put.ensures.homes);
       tables = refl;
     }

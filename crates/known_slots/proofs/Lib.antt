@@ -1,0 +1,6 @@
+pub mod WithinPages
+pub mod PlacesUsed
+pub mod OtherMaps
+pub mod MapsAdded
+pub mod MapsDropped
+pub mod Completing

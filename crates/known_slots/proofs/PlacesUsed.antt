@@ -1,0 +1,118 @@
+-- A page of a place that was used, or is, stands at its home.
+use Rattle.std.proofs.Common.{◌≡◌, ℕ, List, true, Option, None, Some, is_some, refl, sym, ◌∙◌, ap}
+use Rattle.std.specs.FinMap as fin
+use Rattle.std.specs.Option.{option_map}
+use Rattle.machine_names.specs.declared.names.ForkName.{ForkName}
+use Rattle.machine_names.specs.declared.names.Place.{Place}
+use Rattle.machine_names.specs.declared.names.Place.TheVariants.{Fork, File}
+use Rattle.machine_names.specs.declared.names.Slot.{Slot}
+use Rattle.machine_names.specs.Orders.{file_page}
+use Rattle.page_homes.specs.declared.homes.Home.{Home}
+use Rattle.page_contracts.specs.declared.answers.Found.{Found}
+use Rattle.page_contracts.specs.declared.answers.SpaceHandle.{SpaceHandle}
+use Rattle.page_contracts.specs.Pages.{HasNoMap, IsPlace, StandsAt, StandsInSpace, UsesOne}
+use Rattle.page_contracts.specs.Stores.{HomePlace, IsSound, StoreMeaning, is_here, place}
+use Rattle.pager_walk.specs.declared.chain_walk.Walked.{Walked}
+use Rattle.pager_walk.specs.declared.chain_walk.Walked.TheVariants.{Along, Absent, NoChain}
+use Rattle.pager_walk.specs.MapPages.{index_of, root_at}
+use Rattle.pager_walk.specs.PagedMaps.{name_at, name_of}
+use Rattle.pager_walk.specs.Walks.{walk_at}
+use Rattle.pager_walk.proofs.NumberedMaps.{index_is}
+use Rattle.flat_pages.proofs.FiledHomes.{get_filed}
+use Rattle.slot_paged.specs.declared.known_page.KnownPage.{KnownPage}
+use Rattle.slot_paged.specs.declared.page_home.PageHome.TheVariants.{At}
+use Rattle.slot_paged.specs.KnownPages.{found_known, known_along, known_page}
+use Rattle.slot_paged.specs.PageHomes.{homed, homed_along, homed_over}
+use Rattle.slot_paged.specs.PagedMeaning.{lives_in}
+use Rattle.slot_paged.specs.PagedSlots.{paged_slots, space_over}
+use Rattle.slot_paged.specs.PagedTables.{Beside, AreKept}
+use Rattle.slot_paged.specs.PlacesSettled.{UsesPlace, HasNoMap as HasNoRoot}
+use Rattle.slot_paged.proofs.HousedPages.{named_is, some_named}
+use Rattle.slot_paged.proofs.KnownTouches.{known_is}
+use Rattle.slot_paged.proofs.Placed.{placed}
+
+-- the page at the end of a chain is known
+known_at : (w : Walked) (h : Home) → homed_along w ≡ At h → (k : KnownPage) × (known_along w ≡ Some k) × (k.home ≡ h)
+known_at (Along w) h e = by w.home e
+  where
+    by : (o : Option Home) → homed o ≡ At h → (k : KnownPage) × (option_map (known_page w) o ≡ Some k) × (k.home ≡ h)
+    by None k = absurd (cc k)
+    by (Some g) k = (known_page w g, refl, (let same : g ≡ h = cc k in same))
+known_at (Absent home) h e = absurd (cc e)
+known_at NoChain h e = absurd (cc e)
+
+some_found : (o : Option Found) → is_some o ≡ true → (spot : Found) × (o ≡ Some spot)
+some_found None e = absurd (cc e)
+some_found (Some spot) e = (spot, refl)
+
+file_home : (o : Option Home) (h : Home) → homed o ≡ At h → o ≡ Some h
+file_home None h e = absurd (cc e)
+file_home (Some g) h e = let same : g ≡ h = cc e in ap Some same
+
+space_there : (b : Beside) (f : ForkName) → lives_in b f ≡ true → (space : SpaceHandle) × (space_over b f ≡ Some space)
+space_there b f lives = by (index_of b.tables.maps f) lives
+  where
+    by : (o : Option ℕ) → is_some o ≡ true → (space : SpaceHandle) × ◌≡◌ {A = Option SpaceHandle} (option_map (λ k. record { 0 = k }) o) (Some space)
+    by None e = absurd (cc e)
+    by (Some k) e = (record { 0 = k }, refl)
+
+module _ {P S : Type 0} (store : StoreMeaning S) (part : P → S) (beside : P → Beside) (p : P) (kept : AreKept (beside p) (store.homes (part p))) (sound : IsSound store (part p)) where
+  abbrev b : Beside
+  b = beside p
+
+  abbrev places : List HomePlace
+  places = store.homes (part p)
+
+  stands_in_space : (s : Slot) (h : Home) → IsPlace (lives_in b) (Fork s) → homed_over b places (Fork s) ≡ At h → is_here (place places h.0) ≡ true → StandsInSpace (paged_slots store part beside) p s h.0
+  stands_in_space s h there is in_frame =
+      let space = space_there b s.fork there.0 in
+      let k = known_at (walk_at b.tables places s) h is in
+      let spot = some_found (store.found (part p) h.0) (sound.finds h.0 ∙ in_frame) in
+      record {
+        space = space.0;
+        named = space.1;
+        found = spot.0;
+        there = ap (found_known (store.found (part p)) (λ k. true)) (known_is b places kept s.fork space.0 space.1 s.page there.1 ∙ k.1) ∙ ap (λ (g : Home). store.found (part p) g.0) k.2 ∙ spot.1;
+        here = spot.1;
+      }
+
+  -- the page of a place that a frame has stands at its home
+  pub stands_at : (at : Place) (h : Home) → IsPlace (lives_in b) at → homed_over b places at ≡ At h → is_here (place places h.0) ≡ true → StandsAt (paged_slots store part beside) p at h.0
+  stands_at (Fork s) h there is in_frame = stands_in_space s h there is in_frame
+  stands_at (File f page) h there is in_frame =
+      let filed : fin.get b.files (file_page f.0 page) ≡ Some h = file_home (fin.get b.files (file_page f.0 page)) h is in
+      record {
+        name = name_of b.tables.names h;
+        named = get_filed b.tables.names b.files (file_page f.0 page) ∙ ap (option_map (name_of b.tables.names)) filed;
+        there = named_is b places kept h.0 (name_of b.tables.names h) (some_named b places kept h.0 (name_of b.tables.names h) (name_at b.tables.names h.0) refl (kept.filed (file_page f.0 page) h filed) refl);
+      }
+
+  -- and at no other
+  pub home_at : (at : Place) (home : ℕ) → IsPlace (lives_in b) at → StandsAt (paged_slots store part beside) p at home → (h : Home) × (homed_over b places at ≡ At h) × (h.0 ≡ home)
+  home_at (Fork s) home there stands =
+      let x = placed b places kept s.fork stands.space stands.named s.page there.1 (store.found (part p)) sound.finds stands.found stands.there in
+      (x.home, x.is, sound.apart x.home.0 home stands.found x.spots stands.here)
+  home_at (File f page) home there stands = by (fin.get b.files (file_page f.0 page)) refl (sym (get_filed b.tables.names b.files (file_page f.0 page)) ∙ stands.named)
+    where
+      by : (o : Option Home) → fin.get b.files (file_page f.0 page) ≡ o → option_map (name_of b.tables.names) o ≡ Some stands.name → (h : Home) × (homed o ≡ At h) × (h.0 ≡ home)
+      by None filed e = absurd (cc e)
+      by (Some h) filed e =
+          let same : name_of b.tables.names h ≡ stands.name = cc e in
+          let named = named_is b places kept h.0 stands.name (some_named b places kept h.0 stands.name (name_at b.tables.names h.0) refl (kept.filed (file_page f.0 page) h filed) same) in
+          let z : Some h.0 ≡ Some home = sym named ∙ stands.there in
+          (h, refl, cc z)
+
+  -- a frame that has no fork's map has the page of no map
+  pub no_root : (frame : ℕ) → HasNoMap (paged_slots store part beside) p frame → HasNoRoot store (part p) b frame
+  no_root frame none k f is tenant = none f (root_at b.tables.maps k).0 (ap (option_map (λ j. (root_at b.tables.maps j).0)) (index_is b.tables.maps kept.rooted.numbered.once f k is)) tenant
+
+-- the page of a place was used or made
+pub uses_one : {P S : Type 0} (store : StoreMeaning S) (part : P → S) (beside : P → Beside) (old new : P) → AreKept (beside new) (store.homes (part new)) → IsSound store (part new) → (at : Place) → IsPlace (lives_in (beside new)) at → UsesPlace store (part old) (part new) (beside new) at
+    → UsesOne (paged_slots store part beside) at old new
+uses_one store part beside old new kept sound at there u = record {
+  home = u.home.0;
+  stands = stands_at store part beside new kept sound at u.home there u.stands u.here;
+  here = u.here;
+  youngest = λ frame other own ne some none. u.youngest frame other own ne some (no_root store part beside new kept sound other none);
+  others = λ frame not none. u.others frame not (no_root store part beside new kept sound frame none);
+}

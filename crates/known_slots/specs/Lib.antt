@@ -1,0 +1,2 @@
+pub mod WalkTimes
+pub mod KnownNow

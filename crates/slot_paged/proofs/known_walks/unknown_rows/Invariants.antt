@@ -1,6 +1,0 @@
-use Rattle.std.proofs.Common.{◌≡◌, replicate}
-use Rattle.slot_paged.specs.WalkTimes.{unknown_row}
-use Rattle.slot_paged.proofs.known_walks.unknown_rows.Given as goal
-
-abbrev pub invariant-loop-page : goal.invariant-loop-page
-invariant-loop-page l = l.rows.items ≡ replicate l._page unknown_row
