@@ -3,7 +3,9 @@ ghost use Rattle.std.specs.Prelude.{◌≡◌, ◌<◌, ◌≤◌, ◌^◌, ◌/
 ghost use Rattle.std.specs.FinMap as map;
 ghost use Rattle.plain_model.specs.declared.fork.Fork.{Fork as AFork};
 ghost use Rattle.plain_model.specs.ForkCalls.{made_body, made_fork, map_wanted as map_wanted_of};
+ghost use Rattle.machine_names.specs.Bounds.{IsForkName};
 ghost use Rattle.page_contracts.specs.DrumWords.{DrumWords};
+ghost use Rattle.page_contracts.specs.Pages.{MapFollowsFork};
 ghost use Rattle.plain_model.specs.Forks.{first_regs};
 ghost use Rattle.plain_model.specs.Trees.{PlainTree, with_changed_of, with_made};
 ghost use Rattle.call_turns.specs.Turns.{IsRegs};
@@ -47,8 +49,10 @@ fn asks(regs: &Regs, value: u64) -> bool
 
 // Bit 0 has the new fork's pages follow the caller's.
 fn map_wanted(regs: &Regs, who: ForkName) -> NewMap
-    requires { IsRegs regs.now }
-    ensures { (tree : PlainTree) → result ≡ map_wanted_of (asked who regs.now tree) }
+    requires regs { IsRegs regs.now }
+    requires name { IsForkName who }
+    ensures told { (tree : PlainTree) → result ≡ map_wanted_of (asked who regs.now tree) }
+    ensures follows { MapFollowsFork result }
 {
     if asks(regs, 1 << 35) {
         NewMap::FollowAll(who)

@@ -209,6 +209,11 @@ abbrev pub FollowsFork : NewEntry → Type 0
 FollowsFork (SetFollows serial page a) = (1 ≤ serial) × (serial ≤ LAST_SERIAL)
 FollowsFork new = Unit {0}
 
+-- so where a new map is to follow that of a fork
+abbrev pub MapFollowsFork : NewMap → Type 0
+MapFollowsFork EmptyMap = Unit {0}
+MapFollowsFork (FollowAll f) = (1 ≤ f.serial) × (f.serial ≤ LAST_SERIAL)
+
 -- an entry was found
 abbrev pub is_entry : Seen → Bool
 is_entry (Entry e) = true

@@ -11,7 +11,7 @@ ghost use Rattle.page_contracts.specs.DrumWords.{DrumWords, Stands};
 ghost use Rattle.plain_pages.specs.References.{in_map, settled, slot_at, word_at, stored, page_at as named_at, without_fork};
 ghost use Rattle.page_contracts.specs.Stores.{IsFetched, IsUsed, CanFetch, Completes, Tells, Evicts, CanKeep, Keeps, LetsGo, awaited, meeting, most_held};
 ghost use Rattle.plain_pages.specs.WholePages.{AreWhole};
-ghost use Rattle.page_contracts.specs.Pages.{PagesMeaning, AddsMap, Agrees, AreHoused, DropsFile, DropsMap, FilesMade, FilesOne, HasSpace, MayLose, OnlyUses, PeekNeeds, SeenNeeds, StandsAt, TouchNeeds, UsesMap, UsesNone, UsesOne, StaysInCore, TakesMap, TakesFrames, StaysPut, StaysMapped, StaysPlain, StaysSame, IsPlace, IsTouched, IsReady, CanChange, IsNewMap, MayUseMap, FollowsFork, FollowsPage, SettlesTo, spot_of, touch_of, peek_of, seen_of, map_away, counted, room_for, can_settle, frames_taken, is_in_core, is_seen, is_entry, is_seen_entry};
+ghost use Rattle.page_contracts.specs.Pages.{PagesMeaning, AddsMap, Agrees, AreHoused, DropsFile, DropsMap, FilesMade, FilesOne, HasSpace, MayLose, OnlyUses, PeekNeeds, SeenNeeds, StandsAt, TouchNeeds, UsesMap, UsesNone, UsesOne, StaysInCore, TakesMap, TakesFrames, StaysPut, StaysMapped, StaysPlain, StaysSame, IsPlace, IsTouched, IsReady, CanChange, IsNewMap, MapFollowsFork, MayUseMap, FollowsFork, FollowsPage, SettlesTo, spot_of, touch_of, peek_of, seen_of, map_away, counted, room_for, can_settle, frames_taken, is_in_core, is_seen, is_entry, is_seen_entry};
 ghost use Rattle.plain_pages.specs.NewEntries.{IsNewEntry, changed};
 ghost use Rattle.plain_pages.specs.FilePages.{filed_by, without_file};
 ghost use Rattle.machine_names.specs.Orders.{file_page, same_fork};
@@ -170,7 +170,7 @@ pub trait Pages {
         ensures stays { StaysPut means self.old self.new };
 
     /// Adds a fork with its map, which takes a frame at most, and one is free. The map is empty, or each entry of it
-    /// follows the same entry of a fork of the same terminal.
+    /// follows the same entry of a fork of the same terminal, whose serial is 1 to 262,143.
     fn add_fork(&mut self, fork: ForkName, map: NewMap)
         requires room { means.count self.old < means.most self.old }
         requires frame { 0 < (means.scene self.old).free_frames }
@@ -178,6 +178,7 @@ pub trait Pages {
         requires few { means.forks_of self.old fork.tty < means.most_forks }
         requires terminal { fork.tty.0 < TERMINALS }
         requires map { IsNewMap (means.lives self.old) fork map }
+        requires follows { MapFollowsFork map }
         ensures told { (d : DrumWords) → means.fits self.old d → means.fits self.new d × (means.plain self.new d ≡ with_map (means.plain self.old d) fork map) }
         ensures scene { TakesMap (means.scene self.old) (means.scene self.new) fork }
         ensures loses { MayLose means self.old self.new }

@@ -11,6 +11,7 @@ use Rattle.machine_names.specs.declared.names.Tty.{Tty}
 use Rattle.plain_pages.specs.declared.map.NewMap.{NewMap}
 use Rattle.plain_units.specs.declared.registers.Regs.{Regs}
 use Rattle.plain_model.specs.Forks.{ForkMap, OthersStay}
+use Rattle.machine_names.specs.Bounds.{IsForkName}
 use Rattle.machine_names.specs.Orders.{same_fork}
 use Rattle.plain_pages.specs.NewMaps.{with_map}
 use Rattle.plain_pages.specs.Room.{HasRoom}
@@ -29,6 +30,7 @@ use Rattle.ka10_in_place.proofs.Stored.{lost_on}
 use Rattle.fork_tree.specs.Making.{AddsLast}
 use Rattle.fork_tree.specs.Trees.{AreSlotted, IsTree}
 use Rattle.fork_tree.proofs.Kept.{name_unused}
+use Rattle.fork_tree.proofs.Slots.{held_lives, some_of}
 use Rattle.fork_calls.specs.Asking.{asked}
 use Rattle.fork_calls.specs.Holding.{ComeOrNew, Holds, MakesPages, TopsStay}
 use Rattle.fork_calls.specs.Needing.{call_frames}
@@ -68,7 +70,7 @@ pub add_fork-requires-clause-map : goal.add_fork-requires-clause-map
 add_fork-requires-clause-map g c =
     let a = asked c.args.who c.args.regs.now c.args.tree.now in
     let lives = g.P.Pages.means.lives c.args.pages.now in
-    subst (λ (m : NewMap). IsNewMap lives c.next_name-name.result m) (sym (c.map_wanted.ensures c.args.tree.now)) (wanted_new a lives c.next_name-name.result c.requires.serves.lives (ap (λ (n : ForkName). n.tty) c.next_name-name.ensures))
+    subst (λ (m : NewMap). IsNewMap lives c.next_name-name.result m) (sym (c.map_wanted.ensures.told c.args.tree.now)) (wanted_new a lives c.next_name-name.result c.requires.serves.lives (ap (λ (n : ForkName). n.tty) c.next_name-name.ensures))
 
 pub drop_fork-requires-clause-seen : goal.drop_fork-requires-clause-seen
 drop_fork-requires-clause-seen g c = ap (λ s. (g.P.Pages.means.scene s).map_away c.next_name-name.result) c.in-Err.ensures.stopped ∙ c.add_fork.ensures.scene.own
@@ -114,7 +116,7 @@ returns-in-Err-clause-told g c d fits =
     let room : HasRoom (with_map p.pages name (map_wanted a)) c.args.who.tty ≡ true =
     room_told means pages p.pages agrees whole name (map_wanted a) dead ∙ enough_room (means.count pages) (means.most pages) (means.scene pages).free_frames c.in-Enough.ensures.answer in
     let add = c.add_fork.ensures.told d fits in
-    let mapped : means.plain c.add_fork.new.self d ≡ with_map p.pages name (map_wanted a) = add.1 ∙ (λ i. with_map p.pages (c.next_name-name.ensures i) (c.map_wanted.ensures tree i)) in
+    let mapped : means.plain c.add_fork.new.self d ≡ with_map p.pages name (map_wanted a) = add.1 ∙ (λ i. with_map p.pages (c.next_name-name.ensures i) (c.map_wanted.ensures.told tree i)) in
     let takes : TakesMap p.scene (means.scene c.add_fork.new.self) name = subst (λ (n : ForkName). TakesMap p.scene (means.scene c.add_fork.new.self) n) c.next_name-name.ensures c.add_fork.ensures.scene in
     let words = c.in-Err.ensures.told d tree add.0 in
     let same : means.plain c.accumulators.new.pages d ≡ means.plain c.add_fork.new.self d = ap (λ s. means.plain s d) c.in-Err.ensures.stopped in
@@ -140,7 +142,7 @@ returns-in-Ok-clause-told g c d fits =
     room_told means pages p (g.met.P.Pages.agrees pages d fits) (g.met.P.Pages.whole pages d fits) name (map_wanted a) dead
     ∙ enough_room (means.count pages) (means.most pages) (means.scene pages).free_frames c.in-Enough.ensures.answer in
     let add = c.add_fork.ensures.told d fits in
-    let mapped : means.plain c.add_fork.new.self d ≡ with_map p name (map_wanted a) = add.1 ∙ (λ i. with_map p (c.next_name-name.ensures i) (c.map_wanted.ensures tree i)) in
+    let mapped : means.plain c.add_fork.new.self d ≡ with_map p name (map_wanted a) = add.1 ∙ (λ i. with_map p (c.next_name-name.ensures i) (c.map_wanted.ensures.told tree i)) in
     let words = c.in-Ok.ensures.told d tree add.0 in
     let made = made_goes a c.args.slot p room (means.plain c.add_fork.new.self d) q c.in-Ok.words mapped words.1 in
     let f = made_fork a c.args.slot c.in-Ok.words in
@@ -265,3 +267,9 @@ returns-in-Ok-clause-adds g c =
     let tree = c.args.tree.now in
     let f = made_fork (asked c.args.who c.args.regs.now tree) c.args.slot c.in-Ok.words in
     subst (AddsLast c.args.who.tty tree) (sym (c.grow.ensures.told c.args.slot c.requires.slot)) (adds_made c.args.who.tty tree f refl c.are_trees.ensures c.requires.serves.terminal)
+
+pub map_wanted-requires-clause-name : goal.map_wanted-requires-clause-name
+map_wanted-requires-clause-name g c =
+    let slotted = c.are_trees.ensures.slotted in
+    let f = some_of (map.get c.args.tree.now.forks c.args.who) c.requires.lives in
+    subst IsForkName (slotted.own c.args.who f.0 f.1) (slotted.named f.0 (held_lives c.args.tree.now.forks slotted c.args.who f.0 f.1))
