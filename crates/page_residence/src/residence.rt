@@ -1,5 +1,5 @@
 // Which home's page is in which frame, and which pages come and go.
-ghost use Rattle.std.specs.Prelude.{◌≡◌, ◌+◌, ◌-◌, ◌<◌, ◌≤◌, ◌∷◌, ◌++◌, [], ℕ, List, None, Some, IsSome, IfOk, OnOk, OnErr, MatchOption, true, false, is_none, count_by, drop, length, replicate, slice_get, slice_index, slice_set, if◌then◌else◌};
+ghost use Rattle.std.specs.Prelude.{◌≡◌, ◌+◌, ◌-◌, ◌<◌, ◌≤◌, ◌∷◌, ◌++◌, [], ℕ, List, None, Some, IsSome, IfOk, OnOk, OnErr, MatchOption, true, false, is_none, nat_lt, count_by, drop, length, replicate, slice_get, slice_index, slice_set, if◌then◌else◌};
 ghost use Rattle.outside.specs.Faults.{CountsUp, Rose};
 ghost use Rattle.outside.specs.Drums.{IsPage, Gives, Keeps, Puts, Spoils};
 ghost use Rattle.drum_queue.specs.Transfers.{transfer_of, without, writes};
@@ -371,7 +371,7 @@ impl Residence {
     /// Whether a frame has a pin.
     pub fn is_pinned(&self, f: FrameId) -> bool
         requires { f.0 < length self.now.frames.seats }
-        ensures { result ≡ false → pins_in (seat self.now.frames.seats f.0) ≡ 0 }
+        ensures { result ≡ nat_lt 0 (pins_in (seat self.now.frames.seats f.0)) }
     {
         self.frames.pins(f) > 0
     }
