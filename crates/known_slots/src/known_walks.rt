@@ -57,7 +57,7 @@ fn row_number(space: SpaceHandle, page: u16) -> usize
 }
 
 impl KnownWalks {
-    ghost use Rattle.std.specs.Prelude.{◌≡◌, ◌⊎◌, ◌<◌, ℕ, None, Some, IfOk};
+    ghost use Rattle.std.specs.Prelude.{◌≡◌, ◌⊎◌, ◌<◌, ◌+◌, ◌*◌, ◌-◌, ◌^◌, ℕ, None, Some, IfOk, length};
     ghost use Rattle.slot_paged.specs.declared.known_page.KnownPage.{KnownPage as AKnownPage};
     ghost use Rattle.known_slots.specs.WalkTimes.{known_rows};
 
@@ -94,10 +94,11 @@ impl KnownWalks {
         }
     }
 
-    /// A walk has come to this. At the last time nothing is remembered any more.
+    /// A walk has come to this, which is known from now on. At the last time nothing is remembered any more.
     pub fn remember(&mut self, space: SpaceHandle, page: u16, known: KnownPage)
         requires { page < SPACE_PAGES }
-        ensures { (s p : ℕ) (k : AKnownPage) → p < SPACE_PAGES → known_rows self.new.rows.items self.new.time s p ≡ Some k → (known_rows self.old.rows.items self.old.time s p ≡ Some k) ⊎ ((s ≡ space.0) × (p ≡ page) × (k ≡ known)) }
+        ensures from { (s p : ℕ) (k : AKnownPage) → p < SPACE_PAGES → known_rows self.new.rows.items self.new.time s p ≡ Some k → (known_rows self.old.rows.items self.old.time s p ≡ Some k) ⊎ ((s ≡ space.0) × (p ≡ page) × (k ≡ known)) }
+        ensures known { space.0 * SPACE_PAGES + page < length self.old.rows.items → self.old.time < 2 ^ 64 - 1 → known_rows self.new.rows.items self.new.time space.0 page ≡ Some known }
     {
         let number = row_number(space, page);
         if number < self.rows.len() && self.time < u64::MAX {

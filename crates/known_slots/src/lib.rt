@@ -3,14 +3,9 @@
 //! Stands on `slot_paged` for the pages, and on `page_contracts` for the contracts.
 #![tactic(auto)]
 
-mod entries;
-mod files;
-mod forks;
-mod frames;
 mod known_slots;
 mod known_walks;
-mod laws;
-mod looks;
+mod pages;
 mod settling;
 
 pub use known_slots::KnownSlots;

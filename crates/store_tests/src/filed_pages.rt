@@ -3,7 +3,7 @@ use crate::made::made;
 use crate::same::same;
 use known_slots::KnownSlots;
 use machine_names::{FileNo, ForkName, Kind, Place, Slot, Tty};
-use page_contracts::{Room, Store, Touch};
+use page_contracts::{Pages, Room, Store, Touch};
 use paged_store::PagedStore;
 use plain_pages::NewMap;
 use slot_paged::SlotPaged;

@@ -9,7 +9,7 @@ use crate::made::made;
 use known_slots::KnownSlots;
 use machine_names::{Access, FileNo, ForkName, Kind, PageName, Place, Slot, Tty};
 use outside::Drum;
-use page_contracts::{Completed, Need, Peeked, Room, Seen, Touch};
+use page_contracts::{Completed, Need, Pages, Peeked, Room, Seen, Touch};
 use page_homes::FrameId;
 use paged_store::PagedStore;
 use plain_pages::{NewEntry, NewMap};

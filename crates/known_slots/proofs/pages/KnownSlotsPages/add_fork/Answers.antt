@@ -1,6 +1,11 @@
+use Rattle.std.proofs.Common.{subst}
+use Rattle.page_contracts.specs.Pages.{MapFollowsFork}
 use Rattle.slot_paged.specs.PagedTables.{beside_of}
 use Rattle.known_slots.proofs.MapsAdded.{added_loses, added_uses, adds_map, takes_map}
-use Rattle.known_slots.proofs.known_slots.KnownSlots.add_fork.Goals as goal
+use Rattle.known_slots.proofs.pages.KnownSlotsPages.add_fork.Goals as goal
+
+pub add_fork-requires-clause-leader : goal.add_fork-requires-clause-leader
+add_fork-requires-clause-leader g c leader is = subst MapFollowsFork is c.requires.follows
 
 pub returns-clause-scene : goal.returns-clause-scene
 returns-clause-scene g c =

@@ -14,7 +14,7 @@ use Rattle.slot_paged.specs.PagedTables.{beside_of}
 use Rattle.slot_paged.specs.PagedTouches.{touched_over}
 use Rattle.slot_paged.specs.PlacesSettled.{UsesPlace}
 use Rattle.known_slots.proofs.PlacesUsed.{home_at, uses_one}
-use Rattle.known_slots.proofs.known_slots.KnownSlots.settle.Goals as goal
+use Rattle.known_slots.proofs.pages.KnownSlotsPages.settle.Goals as goal
 
 pub invariant_of-self : goal.invariant_of-self
 invariant_of-self g c =

@@ -1,6 +1,6 @@
 use Rattle.slot_paged.specs.PagedTables.{beside_of}
 use Rattle.known_slots.proofs.MapsDropped.{drops_map}
-use Rattle.known_slots.proofs.known_slots.KnownSlots.drop_fork.Goals as goal
+use Rattle.known_slots.proofs.pages.KnownSlotsPages.drop_fork.Goals as goal
 
 pub returns-clause-drops : goal.returns-clause-drops
 returns-clause-drops g c =

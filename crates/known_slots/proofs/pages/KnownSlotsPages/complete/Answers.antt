@@ -6,7 +6,7 @@ use Rattle.slot_paged.specs.PagedTables.{AreKept, beside_of}
 use Rattle.slot_paged.proofs.AskedOfStore.{stays_same}
 use Rattle.known_slots.specs.KnownNow.{AreKnown}
 use Rattle.known_slots.proofs.Completing.{completed_within}
-use Rattle.known_slots.proofs.known_slots.KnownSlots.complete.Goals as goal
+use Rattle.known_slots.proofs.pages.KnownSlotsPages.complete.Goals as goal
 
 pub returns-in-Done-clause-ends : goal.returns-in-Done-clause-ends
 returns-in-Done-clause-ends g c =

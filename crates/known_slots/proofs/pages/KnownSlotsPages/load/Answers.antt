@@ -4,7 +4,7 @@ use Rattle.slot_paged.specs.declared.slot_paged.SlotPaged.{SlotPaged}
 use Rattle.slot_paged.specs.PagedSlots.{paged_slots}
 use Rattle.slot_paged.specs.PagedTables.{beside_of}
 use Rattle.known_slots.proofs.WithinPages.{only_within}
-use Rattle.known_slots.proofs.known_slots.KnownSlots.load.Goals as goal
+use Rattle.known_slots.proofs.pages.KnownSlotsPages.load.Goals as goal
 
 pub invariant_of-self : goal.invariant_of-self
 invariant_of-self g c = record { known = λ space page k below is. (λ i. c.load.ensures.known i (record { 0 = space }) page) ∙ c.know.new.self.known space page k below is }

@@ -1,7 +1,7 @@
 use Rattle.machine_names.specs.declared.names.Kind.TheVariants.{Read, Write}
 use Rattle.slot_paged.specs.PagedTables.{beside_of}
 use Rattle.slot_paged.proofs.KnownTouches.{change_exactly, touch_ready}
-use Rattle.known_slots.proofs.known_slots.KnownSlots.find_to_change.Goals as goal
+use Rattle.known_slots.proofs.pages.KnownSlotsPages.find_to_change.Goals as goal
 
 pub returns-clause-ready : goal.returns-clause-ready
 returns-clause-ready g c f is =

@@ -1,6 +1,6 @@
 use Rattle.slot_paged.specs.PagedTables.{beside_of}
 use Rattle.slot_paged.proofs.KnownTouches.{found_exactly, touch_ready}
-use Rattle.known_slots.proofs.known_slots.KnownSlots.find.Goals as goal
+use Rattle.known_slots.proofs.pages.KnownSlotsPages.find.Goals as goal
 
 pub returns-clause-ready : goal.returns-clause-ready
 returns-clause-ready g c f is =

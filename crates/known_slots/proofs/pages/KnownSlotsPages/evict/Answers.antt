@@ -1,7 +1,7 @@
 use Rattle.std.proofs.Common.{ap}
 use Rattle.slot_paged.specs.PagedTables.{beside_of}
 use Rattle.slot_paged.proofs.AskedOfStore.{stays_same}
-use Rattle.known_slots.proofs.known_slots.KnownSlots.evict.Goals as goal
+use Rattle.known_slots.proofs.pages.KnownSlotsPages.evict.Goals as goal
 
 pub returns-clause-same : goal.returns-clause-same
 returns-clause-same g c =

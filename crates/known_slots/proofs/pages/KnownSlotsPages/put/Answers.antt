@@ -12,7 +12,7 @@ use Rattle.slot_paged.proofs.PutInto.{put_stays}
 use Rattle.slot_paged.proofs.ReadyHomes.{ready_at, words_here}
 use Rattle.slot_paged.proofs.StillWalked.{knowns_same, put_roots}
 use Rattle.known_slots.proofs.PlacesUsed.{home_at}
-use Rattle.known_slots.proofs.known_slots.KnownSlots.put.Goals as goal
+use Rattle.known_slots.proofs.pages.KnownSlotsPages.put.Goals as goal
 
 pub invariant_of-self : goal.invariant_of-self
 invariant_of-self g c =
