@@ -1,11 +1,11 @@
 #!/usr/bin/env bash
 # Prints how many machine instructions it takes that a page leaves its frame and comes back, that one comes in and sends
-# off another, with few frames and with as many as there may be, and that a reference finds its page, along maps in memory
-# and along maps that are pages in frames: in a program that is proved here and built as ./tenex is. All leave out the
-# start of the program: they are the difference between two runs.
+# off another, with few frames and with as many as there may be, and that a page of a space is found and a word of it is
+# read, along maps in memory and along maps that are pages in frames, by the same code: in a program that is proved here
+# and built as ./tenex is. All leave out the start of the program: they are the difference between two runs.
 # Status 1: a page that leaves and comes back takes more than `copies` times as many as its two copies, whose
 # machine instructions move 32 bytes each; with many frames it, or one that sends off another, takes more than
-# `halves` hundredths of what it does with few, as the steps of a search by halves do; or a reference along maps that
+# `halves` hundredths of what it does with few, as the steps of a search by halves do; or a word along maps that
 # are pages takes more than `maps` times as many as along maps in memory. 2: nothing was counted.
 set -eu
 copies=3 few=160 many=8192 halves=178 maps=2
@@ -18,32 +18,31 @@ command -v valgrind >/dev/null || {
 }
 
 below='word36 outside page_homes machine_names plain_pages plain_files number_set number_map tournament frame_order page_files'
-pages='drum_queue frame_table share_table page_contracts page_residence paged_store flat_pages pager_walk slot_paged'
+pages='drum_queue frame_table share_table page_contracts page_residence paged_store flat_pages pager_walk slot_paged known_slots'
 speed=$work/crates/page_speed
-mkdir -p "$speed/src" "$speed/proofs/is_away" "$speed/proofs/complete"
+mkdir -p "$speed/src" "$speed/proofs/is_away" "$speed/proofs/complete" "$speed/proofs/look" "$speed/proofs/paged"
 for crate in $below $pages; do
     mkdir "$work/crates/$crate"
     find "$top/crates/$crate" -mindepth 1 -maxdepth 1 ! -name out -exec cp -r -t "$work/crates/$crate" {} +
     grep "^$crate:" "$top/crates.txt" >>"$work/crates.txt"
 done
-echo 'page_speed: outside page_homes machine_names plain_pages page_contracts paged_store flat_pages slot_paged' >>"$work/crates.txt"
+echo 'page_speed: outside page_homes machine_names plain_pages page_contracts paged_store flat_pages slot_paged known_slots' >>"$work/crates.txt"
 printf 'Handles allowed: none.\n' >"$work/HANDLES"
 
 cat >"$speed/src/main.rt" <<'PROGRAM'
 //! Calls on pages that come and go, as often as is asked, so that their machine instructions can be counted.
 #![tactic(auto)]
 
-ghost use Rattle.std.specs.Prelude.{◌≡◌, ◌⊎◌, ◌+◌, ◌≤◌, ◌<◌, ◌||◌, true, false};
+ghost use Rattle.std.specs.Prelude.{◌≡◌, ◌⊎◌, ◌+◌, ◌≤◌, ◌<◌, ◌^◌, ◌||◌, true, false};
 ghost use Rattle.machine_names.specs.declared.names.ForkName.{ForkName as AForkName};
-ghost use Rattle.machine_names.specs.declared.names.TheConstants.{LAST_SERIAL, MOST_FORKS, TERMINALS};
+ghost use Rattle.machine_names.specs.declared.names.TheConstants.{TERMINALS};
 ghost use Rattle.machine_names.specs.Orders.{same_fork};
-ghost use Rattle.page_contracts.specs.Pages.{IsNewMap};
+ghost use Rattle.page_contracts.specs.Pages.{IsNewMap, MapFollowsFork};
 ghost use Rattle.page_contracts.specs.Stores.{away, place};
-ghost use Rattle.slot_paged.specs.PagedMeaning.{forks_in, lives_in};
-ghost use Rattle.slot_paged.specs.PagedTables.{beside_of};
 ghost use Rattle.paged_store.specs.StoreMeaning.{paged_meaning};
 
-use flat_pages::{FlatSlots, FlatStore};
+use flat_pages::FlatSlots;
+use known_slots::KnownSlots;
 use machine_names::{ForkName, Kind, Place, Slot, Tty};
 use outside::{Drum, Memory, SureDrum};
 use page_contracts::{Need, Pages, Room, Store, Touch};
@@ -167,17 +166,21 @@ const FOURTH: ForkName = ForkName {
     serial: 4,
 };
 
-// The page that references are to.
+// The page of which a word is read, and its first address.
 const PAGE: u16 = 5;
 
-// Adds a fork in memory. False where there is no room.
-fn add_flat<P: Pages>(pages: &mut P, fork: ForkName, map: NewMap) -> bool
+const ADDRESS: u32 = 2560;
+
+// Adds a fork. False where there is no room.
+fn add<P: Pages>(pages: &mut P, fork: ForkName, map: NewMap) -> bool
     requires absent { P.means.lives pages.old fork ≡ false }
     requires few { P.means.forks_of pages.old fork.tty < P.means.most_forks }
     requires terminal { fork.tty.0 < TERMINALS }
     requires map { IsNewMap (P.means.lives pages.old) fork map }
+    requires follows { MapFollowsFork map }
     ensures lives { result ≡ true → (f : AForkName) → P.means.lives pages.new f ≡ (same_fork f fork || P.means.lives pages.old f) }
     ensures forks { result ≡ true → P.means.forks_of pages.new fork.tty ≡ P.means.forks_of pages.old fork.tty + 1 }
+    ensures serials { P.means.serial pages.new ≡ P.means.serial pages.old }
 {
     let Room::Enough = pages.room(1) else {
         return false;
@@ -186,99 +189,82 @@ fn add_flat<P: Pages>(pages: &mut P, fork: ForkName, map: NewMap) -> bool
     true
 }
 
-// Four forks in memory, of which each follows the one before it. False where there is no room.
-fn are_flat<P: Pages>(pages: &mut P) -> bool
+// Four forks, of which each follows the one before it. False where there is no room.
+fn are_four<P: Pages>(pages: &mut P) -> bool
     requires absent { (f : AForkName) → P.means.lives pages.old f ≡ false }
     requires few { P.means.forks_of pages.old FIRST.tty + 4 ≤ P.means.most_forks }
     ensures first { result ≡ true → P.means.lives pages.new FIRST ≡ true }
     ensures fourth { result ≡ true → P.means.lives pages.new FOURTH ≡ true }
+    ensures serials { P.means.serial pages.new ≡ P.means.serial pages.old }
 {
-    add_flat(pages, FIRST, NewMap::Empty)
-        && add_flat(pages, SECOND, NewMap::FollowAll(FIRST))
-        && add_flat(pages, THIRD, NewMap::FollowAll(SECOND))
-        && add_flat(pages, FOURTH, NewMap::FollowAll(THIRD))
+    add(pages, FIRST, NewMap::Empty)
+        && add(pages, SECOND, NewMap::FollowAll(FIRST))
+        && add(pages, THIRD, NewMap::FollowAll(SECOND))
+        && add(pages, FOURTH, NewMap::FollowAll(THIRD))
 }
 
-// How many of so many references to a page of a fork in memory find it empty.
-fn look_flat<P: Pages>(pages: &P, fork: ForkName, times: u32) -> u32
-    requires { P.means.lives pages.now fork ≡ true }
+// Makes the page of the first fork. False where it can't be made.
+fn is_made<P: Pages>(pages: &mut P) -> bool
+    requires first { P.means.lives pages.old FIRST ≡ true }
+    requires serial { P.means.serial pages.old FIRST.tty < 2 ^ 63 }
+    ensures { P.means.lives pages.new ≡ P.means.lives pages.old }
 {
-    let mut empty: u32 = 0;
-    for _time in 0..times {
-        let at = Place::Fork(Slot { fork, page: PAGE });
-        if let Touch::Zero = pages.touch(at, Kind::Read) {
-            empty = empty.wrapping_add(1);
-        }
-    }
-    empty
-}
-
-// Adds a fork whose map is a page. False where there is no room.
-fn add_paged(pages: &mut SlotPaged<PagedStore>, fork: ForkName, map: NewMap) -> bool
-    requires absent { lives_in (beside_of pages.old.tables) fork ≡ false }
-    requires few { forks_in (beside_of pages.old.tables) fork.tty < MOST_FORKS }
-    requires terminal { fork.tty.0 < TERMINALS }
-    requires map { IsNewMap (lives_in (beside_of pages.old.tables)) fork map }
-    requires leader { (g : AForkName) → map ≡ NewMap.FollowAll g → (1 ≤ g.serial) × (g.serial ≤ LAST_SERIAL) }
-    ensures lives { result ≡ true → (f : AForkName) → lives_in (beside_of pages.new.tables) f ≡ (same_fork f fork || lives_in (beside_of pages.old.tables) f) }
-    ensures forks { result ≡ true → forks_in (beside_of pages.new.tables) fork.tty ≡ forks_in (beside_of pages.old.tables) fork.tty + 1 }
-{
-    let Room::Enough = pages.room(1) else {
+    let at = Place::Fork(Slot {
+        fork: FIRST,
+        page: PAGE,
+    });
+    let Touch::Zero = pages.touch(at, Kind::Write) else {
         return false;
     };
-    pages.add_fork(fork, map);
+    pages.settle(at, Kind::Write, FIRST.tty);
     true
 }
 
-// Four forks whose maps are pages, of which each follows the one before it. False where there is no room.
-fn are_paged(pages: &mut SlotPaged<PagedStore>) -> bool
-    requires absent { (f : AForkName) → lives_in (beside_of pages.old.tables) f ≡ false }
-    requires few { forks_in (beside_of pages.old.tables) FIRST.tty + 4 ≤ MOST_FORKS }
-    ensures first { result ≡ true → lives_in (beside_of pages.new.tables) FIRST ≡ true }
-    ensures fourth { result ≡ true → lives_in (beside_of pages.new.tables) FOURTH ≡ true }
+// How many of so many times the page is found in a fork's space, and a word of it read.
+fn look<P: Pages>(pages: &mut P, fork: ForkName, times: u32) -> u32
+    requires { P.means.lives pages.old fork ≡ true }
 {
-    add_paged(pages, FIRST, NewMap::Empty)
-        && add_paged(pages, SECOND, NewMap::FollowAll(FIRST))
-        && add_paged(pages, THIRD, NewMap::FollowAll(SECOND))
-        && add_paged(pages, FOURTH, NewMap::FollowAll(THIRD))
-}
-
-// How many of so many references to a page of a fork whose map is a page find it empty.
-fn look_paged(pages: &SlotPaged<PagedStore>, fork: ForkName, times: u32) -> u32
-    requires { lives_in (beside_of pages.now.tables) fork ≡ true }
-{
-    let mut empty: u32 = 0;
+    let space = pages.space(fork);
+    let mut read: u32 = 0;
     for _time in 0..times {
-        let at = Place::Fork(Slot { fork, page: PAGE });
-        if let Touch::Zero = pages.touch(at, Kind::Read) {
-            empty = empty.wrapping_add(1);
+        if let Some(found) = pages.find(space, PAGE, Kind::Read) {
+            let _word = pages.load(space, found, ADDRESS);
+            read = read.wrapping_add(1);
         }
     }
-    empty
+    read
 }
 
-// How many references to an empty page find it so, of the first fork or along four, whose maps are in memory.
+// How often the page is read in the first fork or along four.
+fn looked<P: Pages>(pages: &mut P, fork: ForkName, times: u32) -> Result<u32, Memory>
+    requires absent { (f : AForkName) → P.means.lives pages.old f ≡ false }
+    requires few { P.means.forks_of pages.old FIRST.tty + 4 ≤ P.means.most_forks }
+    requires serial { P.means.serial pages.old FIRST.tty < 2 ^ 63 }
+    requires fork { (fork ≡ FIRST) ⊎ (fork ≡ FOURTH) }
+{
+    if !are_four(pages) || !is_made(pages) {
+        return Err(Memory);
+    }
+    Ok(look(pages, fork, times))
+}
+
+// The same along maps that are in memory, over pages in frames.
 fn flat(alloc: Global, fork: ForkName, times: u32) -> Result<u32, Memory>
     requires { (fork ≡ FIRST) ⊎ (fork ≡ FOURTH) }
 {
-    let store = FlatStore::boot(alloc, 256)?;
+    let store = PagedStore::boot(alloc, 256, 256)?;
     let mut pages = FlatSlots::boot(alloc, store, 256)?;
-    if !are_flat(&mut pages) {
-        return Err(Memory);
-    }
-    Ok(look_flat(&pages, fork, times))
+    looked(&mut pages, fork, times)
 }
 
-// The same along maps that are pages in frames.
+// The same along maps that are pages in frames too.
 fn paged(alloc: Global, fork: ForkName, times: u32) -> Result<u32, Memory>
     requires { (fork ≡ FIRST) ⊎ (fork ≡ FOURTH) }
 {
     let store = PagedStore::boot(alloc, 256, 256)?;
-    let mut pages = SlotPaged::boot(alloc, store, 256)?;
-    if !are_paged(&mut pages) {
-        return Err(Memory);
-    }
-    Ok(look_paged(&pages, fork, times))
+    let pages = SlotPaged::boot(alloc, store, 256)?;
+    let mut known = KnownSlots::over(alloc, pages)?;
+    looked(&mut known, fork, times)
 }
 
 // Pages come and go.
@@ -296,7 +282,7 @@ fn paging(alloc: Global, what: &str, frames: u32, times: u32) -> Result<u32, Mem
     Ok(0)
 }
 
-// What is done so often: references to pages, or pages that come and go among so many frames.
+// What is done so often: a page that is found and read, or pages that come and go among so many frames.
 fn done(alloc: Global, what: &str, frames: u32, times: u32) -> Result<u32, Memory> {
     if what == "flat_near" {
         flat(alloc, FIRST, times)
@@ -368,6 +354,28 @@ pub complete-told-requires : goal.complete-told-requires
 complete-told-requires c = let few = (paged_sound c.args.store.now).few in omega (arith, few, c.pages.ensures, c.if-pages-lt-MOST_HOMES.false)
 PROOF
 
+cat >"$speed/proofs/look/Invariants.antt" <<'PROOF'
+use Rattle.page_contracts.specs.Pages.{HasSpace}
+use Rattle.page_speed.proofs.look.Given as goal
+
+abbrev pub invariant-loop-time : goal.invariant-loop-time
+invariant-loop-time g l = HasSpace g.P.Pages.means l.pages l.space
+PROOF
+
+cat >"$speed/proofs/paged/Answers.antt" <<'PROOF'
+use Rattle.std.proofs.Common.{◌∙◌, arith}
+use Rattle.machine_names.specs.declared.names.Tty.{Tty}
+use Rattle.slot_paged.specs.PagedMeaning.{forks_in}
+use Rattle.slot_paged.specs.PagedTables.{beside_of}
+use Rattle.page_speed.proofs.paged.Goals as goal
+
+pub looked-requires-clause-few : goal.looked-requires-clause-few
+looked-requires-clause-few c =
+    let first : Tty = record { 0 = 0 } in
+    let none = (λ i. forks_in (beside_of (c.in_ok-known.ensures i).tables) first) ∙ c.in_ok-pages.ensures.forks first in
+    omega (arith, none)
+PROOF
+
 # rt builds a program only where it also runs it.
 (cd "$speed" && env -u RT_BACKEND rt run -- flat 0 1) >"$work/messages" 2>&1 || {
     cat "$work/messages" >&2
@@ -404,7 +412,7 @@ for calls in 'fetch:a page leaves its frame and comes back' 'turn:a page comes i
     says "$text, $many frames" "$full" $((small * halves / 100))
     [ "$what" != fetch ] || says 'the same beside its two copies' "$full" $((copies * two))
 done
-for calls in 'near:a reference finds its page' 'far:a reference along four maps'; do
+for calls in 'near:a page is found and a word read' 'far:a word is read along four maps'; do
     what=${calls%%:*} text=${calls#*:}
     flat=$(each "flat_$what" 0)
     printf '%-58s %6d\n' "$text, maps in memory" "$flat"
