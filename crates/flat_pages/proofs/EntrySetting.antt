@@ -1,9 +1,7 @@
 -- An entry that is set: what the pages are then, and what is in frames.
-use Rattle.std.proofs.Common.{◌≡◌, ◌≢◌, inl, inr, ℕ, ◌<◌, List, false, Option, None, Some, refl, sym, ◌∙◌, ap, subst, arith, length}
-use Rattle.std.specs.Prelude.{IsSome, slice_set}
-use Rattle.std.specs.Option.{option_map, option_and_then}
-use Rattle.std.proofs.lemmas.Bool.{cases_eq, cases_lt}
-use Rattle.std.proofs.lemmas.List.{get_or-set_other, get_or-set_same, get_or_past, length-set}
+use Rattle.std.proofs.Common.{◌≡◌, ◌≢◌, inl, ℕ, ◌<◌, List, false, Option, None, Some, refl, sym, ◌∙◌, ap, subst, arith}
+use Rattle.std.specs.Prelude.{IsSome}
+use Rattle.std.specs.Option.{option_map}
 use Rattle.machine_names.specs.declared.names.ForkName.{ForkName}
 use Rattle.machine_names.specs.declared.names.PageName.{PageName}
 use Rattle.page_homes.specs.declared.homes.Home.{Home}
@@ -13,7 +11,7 @@ use Rattle.machine_names.specs.declared.names.TheConstants.{SPACE_PAGES}
 use Rattle.plain_pages.specs.Maps.{set_entry}
 use Rattle.page_contracts.specs.DrumWords.{DrumWords}
 use Rattle.page_contracts.specs.Pages.{Scene, StaysInCore}
-use Rattle.page_contracts.specs.Stores.{StoreMeaning, IsSound, IsFreed, Loses, RenewsNone, FitsHomes, HomePlace, free, place, content, away_at, away_home, traffic}
+use Rattle.page_contracts.specs.Stores.{StoreMeaning, IsSound, IsFreed, Loses, RenewsNone, FitsHomes, free, place, content, traffic}
 use Rattle.page_contracts.proofs.Losing.{freed_none, keeps_frames, loses_freed, loses_nothing}
 use Rattle.flat_pages.specs.declared.held_entry.EntryAt.{EntryAt}
 use Rattle.flat_pages.specs.declared.held_entry.HeldEntry.{HeldEntry}
@@ -22,7 +20,7 @@ use Rattle.flat_pages.specs.declared.held_entry.Link.{Link}
 use Rattle.flat_pages.specs.declared.map_tables.MapTables.{MapTables}
 use Rattle.flat_pages.specs.HeldMaps.{fork_at, held_entry, with_entry, name_at, entry_of, maps_held, points_at}
 use Rattle.flat_pages.specs.SlotTables.{Tables, files_held, share_of, AreTables}
-use Rattle.flat_pages.specs.SlotTouches.{scene_of, home_named, is_alone}
+use Rattle.flat_pages.specs.SlotTouches.{scene_of, is_alone}
 use Rattle.flat_pages.specs.SlotMeaning.{AreTold}
 use Rattle.flat_pages.specs.TableSteps.{tables_of, entry_kept, entry_left, home_freed}
 use Rattle.flat_pages.specs.SlotSteps.{HomeStays, NamesHome, SetsEntry}
@@ -33,8 +31,7 @@ use Rattle.flat_pages.proofs.Told.{maps_set, none_else, none_filed, entry_still}
 use Rattle.flat_pages.proofs.FiledHomes.{files_still}
 use Rattle.flat_pages.proofs.Leaving.{kept_tables, left_tables, freed_tables, name_kept, named_of, told_set}
 use Rattle.flat_pages.proofs.GivenUp.{gone_not, freed_stays, freed_core}
-use Rattle.flat_pages.proofs.Telling.{named_home, tables_told}
-use Rattle.flat_pages.proofs.Touching.{home_is}
+use Rattle.flat_pages.proofs.Telling.{tables_told}
 
 -- an entry of a fork that lives may be any
 pub lives_used : (o : Option ForkName) (e : HeldEntry) → IsSome o → o ≡ None → e ≡ Empty

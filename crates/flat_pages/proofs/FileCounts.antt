@@ -1,9 +1,8 @@
 -- How many pages of files are that of a home.
-use Rattle.std.proofs.Common.{◌≡◌, ◌≢◌, inl, inr, ℕ, zero, suc, ◌+◌, ◌-◌, ◌*◌, ◌<◌, ◌≤◌, ◌^◌, Bool, true, false, cond, ◌&&◌, ◌||◌, List, [], ◌∷◌, map as each, length, Option, None, Some, refl, sym, ◌∙◌, ap, subst, arith, rules, T, is_lt, Ordering, Less}
-use Rattle.std.specs.Prelude.{slice_get, slice_set, slice_index_or, is_some, IsSome}
+use Rattle.std.proofs.Common.{◌≡◌, inl, inr, ℕ, zero, suc, ◌+◌, ◌-◌, ◌*◌, ◌<◌, ◌≤◌, ◌^◌, Bool, true, false, ◌||◌, List, [], ◌∷◌, map as each, length, Option, None, Some, refl, sym, ◌∙◌, ap, arith, rules, T, is_lt, Ordering, Less}
+use Rattle.std.specs.Prelude.{slice_get, slice_set, is_some}
 use Rattle.std.specs.List.{sum_by, list_any}
-use Rattle.std.specs.Option.{option_map_or}
-use Rattle.std.specs.Ordering.{nat_cmp, eq_by_cmp, ordering_then, is_eq}
+use Rattle.std.specs.Ordering.{nat_cmp, eq_by_cmp, is_eq}
 use Rattle.std.specs.FinMap as fin
 use Rattle.std.proofs.lemmas.Bool.{cases_eq, cases_lt}
 use Rattle.std.proofs.lemmas.List.{get_or-set_same, get_or-set_other, get_or_past}
@@ -11,10 +10,8 @@ use Rattle.std.proofs.lemmas.List.Sums.{sum_by-cons}
 use Rattle.std.proofs.lemmas.Cmp.{tied_itself}
 use Rattle.machine_names.specs.declared.names.TheConstants.{MOST_FILES, FILE_PAGES, SPACE_PAGES}
 use Rattle.machine_names.specs.Orders.{FilePage, file_page_cmp}
-use Rattle.page_files.specs.Pages.{PagesOf}
 use Rattle.page_homes.specs.declared.homes.Home.{Home}
 use Rattle.plain_pages.proofs.Counts.{ordered_less, both_first, both_second}
-use Rattle.flat_pages.specs.declared.held_entry.HeldEntry.{HeldEntry}
 use Rattle.flat_pages.specs.declared.held_map.HeldMap.{HeldMap}
 use Rattle.flat_pages.specs.HeldMaps.{map_at, entries_total, points_at}
 use Rattle.flat_pages.specs.SlotTables.{Tables, is_at, filed_total, share_of, AreTables}

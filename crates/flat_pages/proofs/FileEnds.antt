@@ -1,26 +1,24 @@
 -- An entry of a file's page, and files whose pages change one after another.
-use Rattle.std.proofs.Common.{◌≡◌, ◌≢◌, inl, inr, ℕ, zero, suc, ◌+◌, ◌<◌, ◌≤◌, List, Bool, true, false, cond, not, Option, None, Some, refl, sym, ◌∙◌, ap, subst, arith, is_some}
-use Rattle.std.specs.Prelude.{nat_eq, nat_lt, ◌⊎◌, slice_get, slice_set, IsSome}
-use Rattle.std.specs.Option.{option_map, option_map_or, option_and_then, unwrap_or}
+use Rattle.std.proofs.Common.{◌≡◌, ◌≢◌, inl, inr, ℕ, ◌+◌, ◌≤◌, List, Bool, true, false, cond, not, Option, None, Some, refl, sym, ◌∙◌, ap, subst, arith, is_some}
+use Rattle.std.specs.Prelude.{nat_eq, nat_lt, ◌⊎◌}
+use Rattle.std.specs.Option.{option_map, unwrap_or}
 use Rattle.std.specs.Ordering.{eq_by_cmp, nat_cmp}
-use Rattle.std.specs.Cmp.{Equal-is, nat_cmp_total}
+use Rattle.std.specs.Cmp.{nat_cmp_total}
 use Rattle.std.specs.FinMap as fin
 use Rattle.std.proofs.lemmas.Bool.{cases_eq, cases_lt}
 use Rattle.std.proofs.lemmas.Bool.Decides.{nat_tests, eqb_tells}
 use Rattle.machine_names.specs.declared.names.PageName.{PageName}
 use Rattle.machine_names.specs.declared.names.Access.{Access}
 use Rattle.machine_names.specs.declared.names.Slot.{Slot}
-use Rattle.machine_names.specs.declared.names.TheConstants.{MOST_FILES, FILE_PAGES}
-use Rattle.machine_names.specs.Orders.{FilePage, file_page, file_page_cmp}
+use Rattle.machine_names.specs.declared.names.TheConstants.{FILE_PAGES}
+use Rattle.machine_names.specs.Orders.{FilePage, file_page}
 use Rattle.machine_names.specs.declared.names.ForkName.{ForkName}
 use Rattle.page_files.specs.Pages.{PagesOf}
 use Rattle.page_homes.specs.declared.homes.Home.{Home}
 use Rattle.page_contracts.specs.DrumWords.{DrumWords}
-use Rattle.page_contracts.specs.Pages.{StaysInCore}
 use Rattle.page_contracts.specs.Stores.{StoreMeaning, IsSound, FitsHomes, traffic}
 use Rattle.page_contracts.proofs.Losing.{keeps_frames, loses_nothing, loses_on, none_on}
-use Rattle.plain_pages.specs.PlainPages.{NumberedPages, Maps}
-use Rattle.plain_pages.specs.Maps.{entry_at, set_entry}
+use Rattle.plain_pages.specs.PlainPages.{NumberedPages}
 use Rattle.plain_pages.specs.Room.{page_in, uses}
 use Rattle.plain_pages.specs.References.{with_entry as entry_put}
 use Rattle.plain_pages.specs.FilePages.{with_file, without_file, other_files}
@@ -28,21 +26,20 @@ use Rattle.plain_pages.specs.WholePages.{AreWhole}
 use Rattle.plain_pages.specs.declared.map.MapEntry.{MapEntry}
 use Rattle.plain_pages.specs.declared.map.MapEntry.TheVariants as entry
 use Rattle.plain_pages.proofs.Kept.{AreStill, entry_again, still_same, unnamed_gone}
-use Rattle.plain_pages.proofs.FilesKept.{filed_again, filed_files, filed_maps, filed_still, uses_filed, set_elsewhere, set_here, same_files, without_files, without_maps, without_still}
+use Rattle.plain_pages.proofs.FilesKept.{filed_again, filed_files, filed_maps, filed_still, uses_filed, set_elsewhere, same_files, without_files, without_maps, without_still}
 use Rattle.flat_pages.specs.declared.held_entry.EntryAt.{EntryAt}
 use Rattle.flat_pages.specs.declared.held_entry.HeldEntry.{HeldEntry}
 use Rattle.flat_pages.specs.declared.held_entry.HeldEntry.TheVariants.{Empty, Page}
 use Rattle.flat_pages.specs.declared.held_map.HeldMap.{HeldMap}
 use Rattle.flat_pages.specs.declared.map_tables.MapTables.{MapTables}
 use Rattle.flat_pages.specs.HeldMaps.{fork_at, held_entry, with_entry, name_at, name_of, nobody, entry_of}
-use Rattle.flat_pages.specs.SlotTables.{Tables, plain_of, files_held, share_of, AreTables}
-use Rattle.flat_pages.specs.SlotMeaning.{AreTold, filed_in}
-use Rattle.flat_pages.specs.SlotTouches.{scene_of}
+use Rattle.flat_pages.specs.SlotTables.{Tables, plain_of, files_held, AreTables}
+use Rattle.flat_pages.specs.SlotMeaning.{AreTold}
 use Rattle.flat_pages.specs.SlotSteps.{HomeStays, NamesHome, SetsEntry}
 use Rattle.flat_pages.specs.FileSteps.{AreFewerFiled, EmptiesFile, FileHas, HasHome, IsFiled, SetsFile}
 use Rattle.flat_pages.specs.Walks.{slot_of}
 use Rattle.flat_pages.specs.TableSteps.{tables_of}
-use Rattle.flat_pages.proofs.FiledHomes.{filed_order, filed_apart, get_filed}
+use Rattle.flat_pages.proofs.FiledHomes.{filed_apart, get_filed}
 use Rattle.flat_pages.proofs.Agreement.{filed_named, tables_whole, uses_home}
 use Rattle.flat_pages.proofs.HeldEntries.{entry_same, entry_twice, fork_set}
 use Rattle.flat_pages.proofs.LivingMaps.{entry_held}

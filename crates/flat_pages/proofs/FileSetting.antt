@@ -1,6 +1,6 @@
 -- A page of a file that is set: the tables, what the pages are then, and what is in frames.
 use Rattle.std.proofs.Common.{◌≡◌, ◌≢◌, inl, inr, ℕ, suc, ◌+◌, ◌-◌, ◌<◌, ◌≤◌, List, [], ◌∷◌, Option, None, Some, true, false, refl, sym, ◌∙◌, ap, subst, arith, length, is_some}
-use Rattle.std.specs.Prelude.{nat_lt, slice_get, slice_set}
+use Rattle.std.specs.Prelude.{nat_lt, slice_set}
 use Rattle.std.specs.Option.{option_map, option_map_or}
 use Rattle.std.specs.Cmp.{nat_cmp_total}
 use Rattle.std.specs.FinMap as fin
@@ -24,14 +24,14 @@ use Rattle.flat_pages.specs.declared.held_entry.HeldEntry.{HeldEntry}
 use Rattle.flat_pages.specs.declared.held_entry.HeldEntry.TheVariants.{Empty, Page}
 use Rattle.flat_pages.specs.declared.held_map.HeldMap.{HeldMap}
 use Rattle.flat_pages.specs.declared.map_tables.MapTables.{MapTables}
-use Rattle.flat_pages.specs.HeldMaps.{fork_at, held_entry, with_entry, name_at, name_of, entry_of, entries_of, maps_from, maps_held, points_at, entries_total}
+use Rattle.flat_pages.specs.HeldMaps.{fork_at, held_entry, name_at, name_of, entry_of, entries_of, maps_from, maps_held, points_at, entries_total}
 use Rattle.flat_pages.specs.SlotTables.{Tables, plain_of, files_held, is_at, filed_total, share_of, AreTables}
 use Rattle.flat_pages.specs.SlotTouches.{scene_of}
-use Rattle.flat_pages.specs.SlotMeaning.{AreTold, filed_in}
+use Rattle.flat_pages.specs.SlotMeaning.{AreTold}
 use Rattle.flat_pages.specs.TableSteps.{tables_of, joined_shares, entry_joined, file_joined, file_left, file_freed}
-use Rattle.flat_pages.specs.SlotSteps.{HomeStays, NamesHome, SetsEntry}
+use Rattle.flat_pages.specs.SlotSteps.{HomeStays, SetsEntry}
 use Rattle.flat_pages.specs.FileSteps.{IsFiled, SetsFile}
-use Rattle.flat_pages.proofs.HeldEntries.{total_with, total_le, points_self}
+use Rattle.flat_pages.proofs.HeldEntries.{total_with, total_le}
 use Rattle.flat_pages.proofs.FiledHomes.{at_here, at_itself, at_other, filed_more, filed_less, filed_within, filed_without, filed_some, files_still, get_filed, held_insert, held_remove, homes_with, with_here, with_elsewhere, without_none}
 use Rattle.flat_pages.proofs.FileCounts.{joined_is, parted_is}
 use Rattle.flat_pages.proofs.Agreement.{tables_whole}
@@ -41,7 +41,7 @@ use Rattle.flat_pages.proofs.Settling.{sized_of, content_other, fits_set}
 use Rattle.flat_pages.proofs.Telling.{tables_told}
 use Rattle.flat_pages.proofs.Leaving.{pages_still, name_kept, named_of, file_freed_tables}
 use Rattle.flat_pages.proofs.GivenUp.{gone_not, freed_stays, freed_core}
-use Rattle.flat_pages.proofs.EntrySetting.{sets_entry, same_core, lives_used}
+use Rattle.flat_pages.proofs.EntrySetting.{sets_entry, same_core}
 
 -- the page of a home is named once more
 module _ (t : Tables) (a : AreTables t) (h : Home) (named : is_some (name_at t.names h.0) ≡ true) where

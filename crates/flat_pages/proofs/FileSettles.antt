@@ -1,7 +1,7 @@
 -- A page of a file that is settled: what its touch answered, and what it answers then.
-use Rattle.std.proofs.Common.{◌≡◌, ◌≢◌, inl, inr, ℕ, ◌+◌, ◌<◌, ◌≤◌, List, [], ◌∷◌, Bool, true, false, cond, Option, None, Some, length, refl, sym, ◌∙◌, ap, subst, arith, is_some}
-use Rattle.std.specs.Prelude.{nat_lt, nat_le, slice_set}
-use Rattle.std.specs.Option.{option_map, option_and_then, unwrap_or}
+use Rattle.std.proofs.Common.{◌≡◌, ◌≢◌, inl, ℕ, ◌+◌, ◌<◌, ◌≤◌, [], Bool, true, false, cond, Option, None, Some, length, refl, sym, ◌∙◌, ap, subst, arith, is_some}
+use Rattle.std.specs.Prelude.{nat_lt}
+use Rattle.std.specs.Option.{option_map, unwrap_or}
 use Rattle.std.specs.Cmp.{nat_cmp_total}
 use Rattle.std.specs.FinMap as fin
 use Rattle.std.proofs.lemmas.Bool.Decides.{nat_tests}
@@ -21,19 +21,19 @@ use Rattle.page_homes.specs.declared.homes.Home.{Home}
 use Rattle.page_contracts.specs.declared.answers.Touch.{Touch}
 use Rattle.page_contracts.specs.declared.answers.Touch.TheVariants.{Ready, Zero, Copy, Absent, NeedFrame, Denied, Full}
 use Rattle.page_contracts.specs.DrumWords.{DrumWords}
-use Rattle.page_contracts.specs.Pages.{FilesMade, FilesOne, Scene, PagesMeaning, SettlesTo, StandsAt, StandsInFile, TakesFrames, UsesOne, MayLose, spot_of, IsPlace, absent_or, framed, can_settle, frames_taken}
-use Rattle.page_contracts.specs.Stores.{StoreMeaning, IsMade, IsSound, IsUsed, Loses, Renews, HomePlace, FitsHomes, free, here, place, is_here, away_at, away_home, content, traffic}
-use Rattle.page_contracts.proofs.Losing.{loses_made, loses_used}
+use Rattle.page_contracts.specs.Pages.{FilesMade, PagesMeaning, SettlesTo, StandsAt, StandsInFile, TakesFrames, UsesPlace, MayLose, map_set, spot_of, IsPlace, absent_or, framed, can_settle, frames_taken}
+use Rattle.page_contracts.specs.Stores.{StoreMeaning, IsSound, IsUsed, Loses, RenewsOne, FitsHomes, free, here, place, is_here, away_at, away_home, traffic}
+use Rattle.page_contracts.proofs.Losing.{loses_made, loses_used, made_one, used_one}
 use Rattle.plain_pages.specs.PlainPages.{NumberedPages}
-use Rattle.plain_pages.specs.References.{in_file, blank, make, next_page, settled, Making}
+use Rattle.plain_pages.specs.References.{in_file, blank, make, next_making, next_page, settled, Making}
 use Rattle.plain_pages.proofs.Made.{is_filed}
 use Rattle.plain_pages.proofs.ReferencesMade.{settled_makes, settled_stays}
 use Rattle.flat_pages.specs.declared.map_tables.MapTables.{MapTables}
 use Rattle.flat_pages.specs.HeldMaps.{name_at, name_of, nobody, maps_held}
 use Rattle.flat_pages.specs.Serials.{serial_of, with_next}
-use Rattle.flat_pages.specs.SlotTables.{Tables, plain_of, files_held, filed_total, share_of, AreTables, AreSized}
+use Rattle.flat_pages.specs.SlotTables.{Tables, plain_of, files_held, share_of, AreTables, AreSized}
 use Rattle.flat_pages.specs.SlotTouches.{home_named, scene_of, has_room, touch_filed, touch_of_place}
-use Rattle.flat_pages.specs.SlotMeaning.{filed_in, slots_meaning, within}
+use Rattle.flat_pages.specs.SlotMeaning.{filed_in, slots_meaning}
 use Rattle.flat_pages.specs.TableSteps.{tables_of, next_name, home_filed}
 use Rattle.flat_pages.specs.FileSteps.{FilesHome, SettlesFiled, UsesFiled}
 use Rattle.flat_pages.proofs.Agreement.{filed_named, tables_whole}
@@ -44,12 +44,11 @@ use Rattle.flat_pages.proofs.HandedOn.{used_within}
 use Rattle.flat_pages.proofs.HeldEntries.{total_le}
 use Rattle.flat_pages.proofs.Settled.{ArePages, takes_frames, unused}
 use Rattle.flat_pages.proofs.Settling.{content_other, content_set, fits_set, sized_of, terminals_next, console_next}
-use Rattle.flat_pages.proofs.Telling.{named_home}
 use Rattle.flat_pages.proofs.Told.{entry_still, told_made}
 use Rattle.flat_pages.proofs.Touching.{home_is}
 use Rattle.flat_pages.proofs.NextSerials.{next_own, next_other}
 use Rattle.flat_pages.proofs.Rooming.{here_when}
-use Rattle.flat_pages.proofs.Using.{made_here, used_here}
+use Rattle.flat_pages.proofs.Using.{made_here, no_map_home, used_here}
 
 -- what is told of the tables once a page of a file is settled
 pub record SettlesInFile (t u : Tables) (frames frames' : ℕ) (file : FileNo) (page : ℕ) (kind : Kind) (owner : Tty) : Type 0 where
@@ -220,7 +219,7 @@ pub record FileSettled {S : Type 0} (store : StoreMeaning S) (old new : S) (tabl
   pub home : Home
   pub named : fin.get tables'.files (file_page file.0 page) ≡ Some home
   pub here : is_here (place (store.homes new) home.0) ≡ true
-  pub renews : Renews home.0 (store.tenant new) (store.age old) (store.age new)
+  pub renews : RenewsOne home.0 (traffic store old) (traffic store new)
   pub filed : FiledThen (tables_of (store.homes old) tables) (tables_of (store.homes new) tables') (file_page file.0 page) (touch_of_place (tables_of (store.homes old) tables) (store.spare old) (File file page) kind)
   pub used : touch_of_place (tables_of (store.homes old) tables) (store.spare old) (File file page) kind ≡ Ready → IsUsed store home.0 old new × (fin.get tables.files (file_page file.0 page) ≡ Some home)
   pub maps : tables'.maps.held.items ≡ tables.maps.held.items
@@ -245,7 +244,7 @@ module _ {S : Type 0} (store : StoreMeaning S) (old new : S) (sound : IsSound st
         home = h;
         named = ap (λ (x : MapTables). fin.get x.files (file_page file.0 page)) k.same ∙ there;
         here = used_here store old new h.0 k.homes (here_when v.places h.0 (a.is_taken h.0 ∙ ap is_some (filed_named v a (file_page file.0 page) h there).1) (near v a sound.pages (store.spare old) file page kind ready h there));
-        renews = k.used.ages;
+        renews = used_one store old new h.0 k.used;
         filed = subst (FiledThen v v' (file_page file.0 page)) (sym is) (ap filed_in same);
         used = λ r. (k.used, there);
         maps = ap (λ (x : MapTables). x.maps.held.items) k.same;
@@ -264,7 +263,7 @@ module _ {S : Type 0} (store : StoreMeaning S) (old new : S) (sound : IsSound st
         home = k.home;
         named = ap (λ (x : Tables). fin.get x.files (file_page file.0 page)) k.taken ∙ with_here tables.files (file_page file.0 page) (Some k.home);
         here = made_here store old new k.home.0 (here zero_words) k.made refl;
-        renews = k.made.ages;
+        renews = made_one store old new k.home.0 (here zero_words) k.made;
         filed = subst (FiledThen v v' (file_page file.0 page)) (sym is) (subst (λ (x : Tables). FiledThen v x (file_page file.0 page) Zero) (sym k.taken)
             (zero_filed v a sound.pages (store.spare old) file page kind ready none k.home below k.made.was_free owner own (store.spare new) k.made.spare));
         used = λ r. absurd (let z : Zero ≡ Ready = sym is ∙ r in cc z);
@@ -288,7 +287,7 @@ pub record AtPlace {P : Type 0} (means : PagesMeaning P) (at : Place) (kind : Ki
   pub scene : TakesFrames (means.scene p) (means.scene q) (frames_taken (means.touched p at kind))
   pub count : means.count q ≡ means.count p + frames_taken (means.touched p at kind)
   pub loses : MayLose means p q
-  pub uses : UsesOne means at p q
+  pub uses : UsesPlace means at kind p q
   pub filed : FilesMade means at (means.touched p at kind) p q
   pub ready : (home : ℕ) → means.touched p at kind ≡ Ready → StandsAt means p at home → IsUsed means.store home p q
 
@@ -329,8 +328,10 @@ module _ {P S : Type 0} (store : StoreMeaning S) (part : P → S) (mt : P → Ma
       home = k.home.0;
       stands = record { name = n.0; named = n.1; there = n.2 };
       here = k.here;
-      youngest = λ frame other own differs some no_map. k.renews.youngest frame other own differs some;
-      others = λ frame other no_map. k.renews.others frame other;
+      map = None;
+      of_fork = λ at none. absurd (cc none);
+      set = λ d fits. no_map_home (map_set (next_making (means.plain p d) (in_file (file_page file.0 page)) kind));
+      ages = k.renews;
     });
     filed = filed_made (touch_of_place w (store.spare (part p)) (File file page) kind) k.filed;
     ready = λ home r stands. (let u = k.used r in used_within store part home p q (subst (λ (n : ℕ). IsUsed store n (part p) (part q)) (stands_home k.home u.1 home stands) u.0));

@@ -1,5 +1,5 @@
 -- What a touch of a page of a file answers is what a reference to the plain pages comes to.
-use Rattle.std.proofs.Common.{◌≡◌, ℕ, ◌+◌, List, [], ◌∷◌, Bool, true, false, cond, Option, None, Some, refl, sym, ◌∙◌, ap}
+use Rattle.std.proofs.Common.{◌≡◌, ℕ, ◌+◌, List, [], ◌∷◌, Bool, true, false, cond, Option, None, Some, refl, ◌∙◌, ap}
 use Rattle.std.specs.Prelude.{nat_le, slice_get}
 use Rattle.std.specs.Option.{option_map, option_and_then, unwrap_or}
 use Rattle.std.specs.Cmp.{nat_cmp_total}
@@ -11,16 +11,16 @@ use Rattle.machine_names.specs.declared.names.Kind.TheVariants.{Read, Write, Exe
 use Rattle.machine_names.specs.Bounds.{IsOwner}
 use Rattle.machine_names.specs.Orders.{FilePage}
 use Rattle.page_homes.specs.declared.homes.Home.{Home}
-use Rattle.page_contracts.specs.declared.answers.Touch.TheVariants.{Ready, Zero, Denied, Full}
+use Rattle.page_contracts.specs.declared.answers.Touch.TheVariants.{Zero, Denied, Full}
 use Rattle.page_contracts.specs.DrumWords.{DrumWords}
 use Rattle.page_contracts.specs.Pages.{Scene, touch_of, touched_by, absent_or, announced, framed, page_away}
 use Rattle.page_contracts.specs.Stores.{away_at}
 use Rattle.page_contracts.proofs.Rooms.{room_blank}
 use Rattle.plain_pages.specs.PlainPages.{NumberedPages}
-use Rattle.plain_pages.specs.Room.{live, HasRoom}
+use Rattle.plain_pages.specs.Room.{HasRoom}
 use Rattle.plain_pages.specs.References.{in_file, Making, blank, in_its_file, makings, make, make_all, Referred, granted, full, reference, next_making, page_at}
 use Rattle.plain_pages.proofs.ReferencesMade.{reference_makes, reference_denied, make_first}
-use Rattle.flat_pages.specs.HeldMaps.{nobody, name_at, name_of}
+use Rattle.flat_pages.specs.HeldMaps.{nobody, name_of}
 use Rattle.flat_pages.specs.SlotTables.{Tables, plain_of, AreTables, AreSized}
 use Rattle.flat_pages.specs.SlotTouches.{scene_of, has_room, touch_filed}
 use Rattle.flat_pages.proofs.Agreement.{filed_named, tables_whole, tables_live}

@@ -1,5 +1,5 @@
 -- An entry is set, and its page may lose its last name: the tables agree afterwards, and the pages are kept that are still named.
-use Rattle.std.proofs.Common.{◌≡◌, ◌≢◌, inl, inr, ℕ, zero, suc, ◌+◌, ◌-◌, ◌<◌, ◌≤◌, List, [], ◌∷◌, true, false, cond, Option, None, Some, length, refl, sym, ◌∙◌, ap, arith, is_some}
+use Rattle.std.proofs.Common.{◌≡◌, ◌≢◌, inl, inr, ℕ, ◌+◌, ◌-◌, ◌<◌, ◌≤◌, List, true, false, cond, Option, None, Some, length, refl, sym, ◌∙◌, ap, arith, is_some}
 use Rattle.std.specs.Prelude.{nat_lt, count_by, slice_set}
 use Rattle.std.specs.FinMap as fin
 use Rattle.std.proofs.lemmas.Bool.{cases_eq, cases_lt}

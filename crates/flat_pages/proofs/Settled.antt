@@ -1,6 +1,6 @@
 -- A page that is settled: what its touch answered, and what it answers then.
-use Rattle.std.proofs.Common.{◌≡◌, ◌≢◌, inl, inr, ℕ, ◌+◌, ◌<◌, List, [], ◌++◌, Bool, true, false, cond, Option, None, Some, length, refl, sym, ◌∙◌, ap, subst, arith, is_some}
-use Rattle.std.specs.Prelude.{IsSome, nat_lt, ◌==◌, slice_set, find}
+use Rattle.std.proofs.Common.{◌≡◌, ◌≢◌, inl, inr, ℕ, ◌+◌, ◌<◌, List, [], ◌∷◌, ◌++◌, Bool, true, false, cond, Option, None, Some, length, refl, sym, ◌∙◌, ap, subst, arith, is_some}
+use Rattle.std.specs.Prelude.{IsSome, nat_lt, ◌==◌, slice_get, slice_set, find}
 use Rattle.std.specs.Option.{option_map, option_map_or, option_and_then}
 use Rattle.std.proofs.lemmas.Bool.{cases_eq}
 use Rattle.std.proofs.lemmas.Bool.Decides.{nat_tests, eqb_tells}
@@ -21,9 +21,9 @@ use Rattle.page_contracts.specs.declared.answers.Touch.TheVariants.{Ready, Zero,
 use Rattle.page_contracts.specs.DrumWords.{DrumWords}
 use Rattle.plain_pages.specs.PlainPages.{NumberedPages}
 use Rattle.plain_pages.specs.Maps.{Chain, full_access, permits}
-use Rattle.plain_pages.specs.References.{in_map, blank, copy, blanks, copies, private_access, makings, make, settled, words_at, words_of}
+use Rattle.plain_pages.specs.References.{in_map, Making, blank, copy, blanks, copies, private_access, makings, make, next_making, settled, words_at, words_of}
 use Rattle.machine_names.specs.PageWords.{zero_words}
-use Rattle.page_contracts.specs.Pages.{Scene, IsPlace, spot_of, absent_or, framed, can_settle, SettlesTo, TakesFrames, frames_taken}
+use Rattle.page_contracts.specs.Pages.{Scene, IsPlace, map_set, spot_of, absent_or, framed, can_settle, SettlesTo, TakesFrames, frames_taken}
 use Rattle.machine_names.specs.Bounds.{IsOwner}
 use Rattle.page_contracts.specs.Stores.{StoreMeaning, IsSound, IsUsed, HomePlace, free, away, here, place, is_taken, is_here, content, FitsHomes}
 use Rattle.plain_pages.proofs.Chains.{marked}
@@ -334,6 +334,35 @@ module _ (t : Tables) (a : AreTables t) (frames : ℕ) (s : Slot) (kind : Kind) 
         sym (settled_stays p owner (in_map s) kind
         (list ∙ λ i. Some (blanks_some t a frames d sized owner own start s start_slot kind c w walk_found.is walk_found.meets yes h home i
         ++ copies_none t a frames d sized owner own start s start_slot kind c w walk_found.is walk_found.meets yes none i)))
+
+    -- where an entry is set to what is made
+    set_first : (m : Making ℕ) (rest : List (Making ℕ)) → makings p (in_map s) kind ≡ Some (m ∷ rest) → map_set (next_making p (in_map s) kind) ≡ map_set (Some m)
+    set_first m rest h = ap (λ (x : Option (List (Making ℕ))). map_set (option_and_then (λ ms. slice_get ms 0) x)) h
+
+    -- that is no map where nothing is made
+    pub stays_set : (h : Home) → w.home ≡ Some h → copy_of kind w ≡ None → None ≡ map_set (next_making p (in_map s) kind)
+    stays_set h home none =
+        sym (ap (λ (x : Option (List (Making ℕ))). map_set (option_and_then (λ ms. slice_get ms 0) x))
+        (list ∙ λ i. Some (blanks_some t a frames d sized owner own start s start_slot kind c w walk_found.is walk_found.meets yes h home i
+        ++ copies_none t a frames d sized owner own start s start_slot kind c w walk_found.is walk_found.meets yes none i)))
+
+    -- the map at the chain's end for a zero page
+    pub zero_set : w.home ≡ None → (e : Slot) → slot_of t.maps w.end ≡ Some e → Some e.fork ≡ map_set (next_making p (in_map s) kind)
+    zero_set none e at =
+        let z : Some e ≡ Some c.end = sym at ∙ walk_found.meets.end in
+        let same : e ≡ c.end = cc z in
+        ap (λ (x : Slot). Some x.fork) same
+        ∙ sym (set_first (blank (in_map c.end)) (copies kind c) (list ∙ λ i. Some (blanks_none t a frames d sized owner own start s start_slot kind c w walk_found.is walk_found.meets yes none i ++ copies kind c)))
+
+    -- and that of the first copy mark for a copy
+    pub copy_set : (h : Home) (m : EntryAt) (e : Slot) → w.home ≡ Some h → copy_of kind w ≡ Some m → slot_of t.maps m ≡ Some e → Some e.fork ≡ map_set (next_making p (in_map s) kind)
+    copy_set h m e home some at =
+        let k = copied t a frames d sized owner own start s start_slot kind c w walk_found.is walk_found.meets yes m some in
+        let z : Some e ≡ Some k.link.slot = sym at ∙ k.there in
+        let same : e ≡ k.link.slot = cc z in
+        ap (λ (x : Slot). Some x.fork) same
+        ∙ sym (set_first (copy k.link.slot (private_access c)) []
+        (list ∙ λ i. Some (blanks_some t a frames d sized owner own start s start_slot kind c w walk_found.is walk_found.meets yes h home i ++ k.list i)))
 
     module _ (u : Tables) (a' : AreTables u) (sized' : AreSized u.places d) (h : Home) (below : h.0 < t.limit) where
       -- a zero page

@@ -6,12 +6,10 @@ use Rattle.std.specs.Option.{option_map, option_map_or, unwrap_or}
 use Rattle.std.specs.FinMap as fin
 use Rattle.std.proofs.lemmas.Bool.{cases_eq}
 use Rattle.std.proofs.lemmas.List.{map-set}
-use Rattle.machine_names.specs.declared.names.Access.{Access}
 use Rattle.machine_names.specs.declared.names.ForkName.{ForkName}
 use Rattle.machine_names.specs.declared.names.PageName.{PageName}
 use Rattle.machine_names.specs.declared.names.Slot.{Slot}
 use Rattle.machine_names.specs.declared.names.Tty.{Tty}
-use Rattle.plain_pages.specs.declared.map.MapEntry.{MapEntry}
 use Rattle.plain_pages.specs.declared.map.MapEntry.TheVariants as entry
 use Rattle.page_contracts.specs.DrumWords.{DrumWords}
 use Rattle.plain_pages.specs.PlainPages.{Map, NumberedPages}

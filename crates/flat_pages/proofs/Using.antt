@@ -6,17 +6,19 @@ use Rattle.std.specs.FinMap as fin
 use Rattle.std.proofs.lemmas.Bool.Decides.{nat_tests}
 use Rattle.std.proofs.lemmas.List.{get_or-set_same}
 use Rattle.page_homes.specs.declared.homes.Home.{Home}
+use Rattle.machine_names.specs.declared.names.ForkName.{ForkName}
 use Rattle.machine_names.specs.declared.names.Kind.{Kind}
 use Rattle.machine_names.specs.declared.names.Kind.TheVariants.{Read, Write, Execute}
 use Rattle.machine_names.specs.declared.names.Place.{Place}
 use Rattle.machine_names.specs.declared.names.Place.TheVariants.{Fork, File}
 use Rattle.machine_names.specs.declared.names.Slot.{Slot}
+use Rattle.plain_pages.specs.References.{next_making}
 use Rattle.page_contracts.specs.declared.answers.Found.{Found}
 use Rattle.page_contracts.specs.declared.answers.SpaceHandle.{SpaceHandle}
 use Rattle.page_contracts.specs.declared.answers.Touch.{Touch}
 use Rattle.page_contracts.specs.declared.answers.Touch.TheVariants.{Ready, Zero, Copy, NeedFrame, Full}
-use Rattle.page_contracts.specs.Pages.{FilesMade, PagesMeaning, StandsAt, StandsInSpace, TouchNeeds, UsesOne, absent_or, framed, is_in_core}
-use Rattle.page_contracts.specs.Stores.{StoreMeaning, HomePlace, free, away, here, IsMade, IsSound, IsUsed, Renews, away_at, away_home, free_homes, is_here, is_taken, place}
+use Rattle.page_contracts.specs.Pages.{FilesMade, PagesMeaning, StandsAt, StandsInSpace, TouchNeeds, UsesPlace, absent_or, framed, is_in_core, map_set, spot_of}
+use Rattle.page_contracts.specs.Stores.{StoreMeaning, HomePlace, free, away, here, IsMade, IsSound, IsUsed, RenewsOne, away_at, away_home, free_homes, is_here, is_taken, place, traffic}
 use Rattle.flat_pages.specs.declared.chain_walk.Walk.{Walk}
 use Rattle.flat_pages.specs.declared.held_entry.EntryAt.{EntryAt}
 use Rattle.flat_pages.specs.HeldMaps.{index_of, held_entry, name_of, nobody}
@@ -80,6 +82,11 @@ module _ {P S : Type 0} (store : StoreMeaning S) (part : P → S) (tables : P �
       let at : h.0 ≡ home = (let z : Some h.0 ≡ Some home = sym (home_is (tables p).names h.0 n.0 n.1 (λ k e. a.once k h.0 n.0 e n.1)) ∙ ap (home_named (tables p).names) same ∙ stands.there in cc z) in
       used_within store part home p q (subst (λ (k : ℕ). IsUsed store k (part p) (part q)) at u)
 
+-- maps in memory have no homes
+pub no_map_home : (f : Option ForkName) → ◌≡◌ {A = Option ℕ} None (option_and_then (λ (g : ForkName). None) f)
+no_map_home None = refl
+no_map_home (Some g) = refl
+
 -- the page at the end of the chain of a place is found there, and so it is that page which was used or made
 module _ {P S : Type 0} (store : StoreMeaning S) (part : P → S) (tables : P → Tables) (p q : P) (at : Place) (s : Slot) (is : at ≡ Fork s) (lives : is_some (index_of (tables q).maps s.fork) ≡ true) (h : Home) (ends : EndsAt (tables q).maps s h) (sound : IsSound store (part q)) (there : is_here (place (store.homes (part q)) h.0) ≡ true) where
   abbrev means : PagesMeaning P
@@ -109,13 +116,15 @@ module _ {P S : Type 0} (store : StoreMeaning S) (part : P → S) (tables : P �
   stands_there : StandsAt means q at h.0
   stands_there = subst (λ (x : Place). StandsAt means q x h.0) (sym is) stands_slot
 
-  pub uses_there : Renews h.0 (store.tenant (part q)) (store.age (part p)) (store.age (part q)) → UsesOne means at p q
-  uses_there renews = record {
+  pub uses_there : (kind : Kind) → RenewsOne h.0 (traffic store (part p)) (traffic store (part q)) → UsesPlace means at kind p q
+  uses_there kind renews = record {
     home = h.0;
     stands = stands_there;
     here = there;
-    youngest = λ frame other own differs some no_map. renews.youngest frame other own differs some;
-    others = λ frame other no_map. renews.others frame other;
+    map = None;
+    of_fork = λ k none. absurd (cc none);
+    set = λ d fits. no_map_home (map_set (next_making (means.plain p d) (spot_of at) kind));
+    ages = renews;
   }
 
 -- a place of a fork's space leaves what files name

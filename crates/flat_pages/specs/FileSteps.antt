@@ -1,5 +1,5 @@
 -- What steps on pages of files do to a store and to the tables beside it.
-use Rattle.std.specs.Prelude.{◌≡◌, ◌≢◌, ◌⊎◌, ℕ, ◌<◌, ◌≤◌, List, true, None, Some, Option, nat_lt, if◌then◌else◌}
+use Rattle.std.specs.Prelude.{◌≡◌, ◌≢◌, ℕ, ◌<◌, ◌≤◌, List, true, None, Some, Option, nat_lt, if◌then◌else◌}
 use Rattle.std.specs.FinMap as map
 use Rattle.machine_names.specs.Orders.{FilePage, file_page}
 use Rattle.machine_names.specs.PageWords.{zero_words}

@@ -11,8 +11,8 @@ use Rattle.machine_names.specs.declared.names.Slot.{Slot}
 use Rattle.page_homes.specs.declared.homes.Home.{Home}
 use Rattle.page_contracts.specs.declared.answers.Seen.TheVariants as seen
 use Rattle.page_contracts.specs.Pages.{AddsMap, TakesMap}
-use Rattle.page_contracts.specs.Stores.{HomePlace, Loses, Renews, RenewsNone, StoreMeaning, away_at, away_home, free, here, place, traffic, word_in}
-use Rattle.page_contracts.proofs.Losing.{loses_made}
+use Rattle.page_contracts.specs.Stores.{HomePlace, Loses, RenewsNone, RenewsOne, StoreMeaning, away_at, away_home, free, here, place, traffic, word_in}
+use Rattle.page_contracts.proofs.Losing.{loses_made, made_one}
 use Rattle.plain_pages.specs.declared.map.MapEntry.TheVariants.{Names}
 use Rattle.share_table.specs.declared.pointer.Pointer.{Pointer}
 use Rattle.share_table.specs.declared.pointer.Pointer.TheVariants as pointer
@@ -117,8 +117,8 @@ module _ {S : Type 0} (store : StoreMeaning S) (old new : S) (b b' : Beside) (fo
   pub added_loses : Loses (traffic store old) (traffic store new)
   added_loses = loses_made store old new a.home.0 (here a.words) a.made
 
-  pub added_uses : MatchOption (map_home_over b' fork) (RenewsNone (traffic store old) (traffic store new)) (λ home. Renews home (store.tenant new) (store.age old) (store.age new))
-  added_uses = subst (λ (o : Option ℕ). MatchOption o (RenewsNone (traffic store old) (traffic store new)) (λ home. Renews home (store.tenant new) (store.age old) (store.age new))) (sym own_home) a.made.ages
+  pub added_uses : MatchOption (map_home_over b' fork) (RenewsNone (traffic store old) (traffic store new)) (λ home. RenewsOne home (traffic store old) (traffic store new))
+  added_uses = subst (λ (o : Option ℕ). MatchOption o (RenewsNone (traffic store old) (traffic store new)) (λ home. RenewsOne home (traffic store old) (traffic store new))) (sym own_home) (made_one store old new a.home.0 (here a.words) a.made)
 
   shows_none : (page : ℕ) (n : PageName) (access : Access) → seen_for b'.tables (look_at b'.tables places' (record { fork = fork; page = page })) ≡ seen.Is (Names n access) → ⊥
   shows_none page n access is =

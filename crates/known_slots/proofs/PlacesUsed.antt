@@ -1,8 +1,9 @@
 -- A page of a place that was used, or is, stands at its home.
 use Rattle.std.proofs.Common.{◌≡◌, ℕ, List, true, Option, None, Some, is_some, refl, sym, ◌∙◌, ap}
 use Rattle.std.specs.FinMap as fin
-use Rattle.std.specs.Option.{option_map}
+use Rattle.std.specs.Option.{option_and_then, option_map}
 use Rattle.machine_names.specs.declared.names.ForkName.{ForkName}
+use Rattle.machine_names.specs.declared.names.Kind.{Kind}
 use Rattle.machine_names.specs.declared.names.Place.{Place}
 use Rattle.machine_names.specs.declared.names.Place.TheVariants.{Fork, File}
 use Rattle.machine_names.specs.declared.names.Slot.{Slot}
@@ -10,23 +11,22 @@ use Rattle.machine_names.specs.Orders.{file_page}
 use Rattle.page_homes.specs.declared.homes.Home.{Home}
 use Rattle.page_contracts.specs.declared.answers.Found.{Found}
 use Rattle.page_contracts.specs.declared.answers.SpaceHandle.{SpaceHandle}
-use Rattle.page_contracts.specs.Pages.{HasNoMap, IsPlace, StandsAt, StandsInSpace, UsesOne}
+use Rattle.page_contracts.specs.Pages.{IsPlace, StandsAt, StandsInSpace, UsesPlace}
 use Rattle.page_contracts.specs.Stores.{HomePlace, IsSound, StoreMeaning, is_here, place}
 use Rattle.pager_walk.specs.declared.chain_walk.Walked.{Walked}
 use Rattle.pager_walk.specs.declared.chain_walk.Walked.TheVariants.{Along, Absent, NoChain}
-use Rattle.pager_walk.specs.MapPages.{index_of, root_at}
+use Rattle.pager_walk.specs.MapPages.{index_of}
 use Rattle.pager_walk.specs.PagedMaps.{name_at, name_of}
 use Rattle.pager_walk.specs.Walks.{walk_at}
-use Rattle.pager_walk.proofs.NumberedMaps.{index_is}
 use Rattle.flat_pages.proofs.FiledHomes.{get_filed}
 use Rattle.slot_paged.specs.declared.known_page.KnownPage.{KnownPage}
 use Rattle.slot_paged.specs.declared.page_home.PageHome.TheVariants.{At}
 use Rattle.slot_paged.specs.KnownPages.{found_known, known_along, known_page}
 use Rattle.slot_paged.specs.PageHomes.{homed, homed_along, homed_over}
 use Rattle.slot_paged.specs.PagedMeaning.{lives_in}
-use Rattle.slot_paged.specs.PagedSlots.{paged_slots, space_over}
+use Rattle.slot_paged.specs.PagedSlots.{map_home_over, paged_slots, space_over}
 use Rattle.slot_paged.specs.PagedTables.{Beside, AreKept}
-use Rattle.slot_paged.specs.PlacesSettled.{UsesPlace, HasNoMap as HasNoRoot}
+use Rattle.slot_paged.specs.PlacesSettled.{UsesPlace as PlaceUsed}
 use Rattle.slot_paged.proofs.HousedPages.{named_is, some_named}
 use Rattle.slot_paged.proofs.KnownTouches.{known_is}
 use Rattle.slot_paged.proofs.Placed.{placed}
@@ -102,17 +102,20 @@ module _ {P S : Type 0} (store : StoreMeaning S) (part : P → S) (beside : P �
           let z : Some h.0 ≡ Some home = sym named ∙ stands.there in
           (h, refl, cc z)
 
-  -- a frame that has no fork's map has the page of no map
-  pub no_root : (frame : ℕ) → HasNoMap (paged_slots store part beside) p frame → HasNoRoot store (part p) b frame
-  no_root frame none k f is tenant = none f (root_at b.tables.maps k).0 (ap (option_map (λ j. (root_at b.tables.maps j).0)) (index_is b.tables.maps kept.rooted.numbered.once f k is)) tenant
+-- the home of a fork's map
+map_of : (b : Beside) (o : Option ForkName) (at : ℕ) → option_and_then (map_home_over b) o ≡ Some at → (f : ForkName) × (map_home_over b f ≡ Some at)
+map_of b None at e = absurd (cc e)
+map_of b (Some f) at e = (f, e)
 
--- the page of a place was used or made
-pub uses_one : {P S : Type 0} (store : StoreMeaning S) (part : P → S) (beside : P → Beside) (old new : P) → AreKept (beside new) (store.homes (part new)) → IsSound store (part new) → (at : Place) → IsPlace (lives_in (beside new)) at → UsesPlace store (part old) (part new) (beside new) at
-    → UsesOne (paged_slots store part beside) at old new
-uses_one store part beside old new kept sound at there u = record {
+-- the page of a place was used or made, and then the map in which an entry was set
+pub uses_place : {P S : Type 0} (store : StoreMeaning S) (part : P → S) (beside : P → Beside) (old new : P) → AreKept (beside new) (store.homes (part new)) → IsSound store (part new) → (at : Place) (kind : Kind) → IsPlace (lives_in (beside new)) at
+    → PlaceUsed store (part old) (part new) (beside old) (beside new) at kind → UsesPlace (paged_slots store part beside) at kind old new
+uses_place store part beside old new kept sound at kind there u = record {
   home = u.home.0;
   stands = stands_at store part beside new kept sound at u.home there u.stands u.here;
   here = u.here;
-  youngest = λ frame other own ne some none. u.youngest frame other own ne some (no_root store part beside new kept sound other none);
-  others = λ frame not none. u.others frame not (no_root store part beside new kept sound frame none);
+  map = option_and_then (map_home_over (beside new)) u.fork;
+  of_fork = map_of (beside new) u.fork;
+  set = λ d fits. ap (option_and_then (map_home_over (beside new))) (u.set d fits);
+  ages = u.ages;
 }

@@ -1,5 +1,5 @@
 -- What calls lose of what is queued and held, one after another.
-use Rattle.std.proofs.Common.{◌≡◌, ◌⊎◌, inl, inr, ℕ, List, [], ◌∷◌, ◌++◌, Bool, true, false, cond, not, ◌==◌, refl, sym, ◌∙◌, ap, subst, arith, ◌≤◌}
+use Rattle.std.proofs.Common.{◌≡◌, ◌≢◌, ◌⊎◌, inl, inr, ℕ, List, [], ◌∷◌, ◌++◌, Bool, true, false, cond, not, ◌==◌, refl, sym, ◌∙◌, ap, subst, arith, ◌≤◌}
 use Rattle.std.specs.Prelude.{◌||◌, ◌&&◌, ◌<◌, Option, None, Some, IsSome}
 use Rattle.std.specs.List.{filter, list_any}
 use Rattle.std.specs.Option.{option_map_or}
@@ -7,7 +7,7 @@ use Rattle.std.proofs.lemmas.Bool.Decides.{eqb_tells}
 use Rattle.page_homes.specs.declared.homes.Home.{Home}
 use Rattle.page_contracts.specs.declared.answers.Need.{Need}
 use Rattle.page_contracts.specs.declared.answers.Need.TheVariants.{Page, Frame}
-use Rattle.page_contracts.specs.Stores.{StoreMeaning, Transfer, arrival, departure, Traffic, Loses, Cancels, IsUsed, IsMade, IsFreed, arrives, departs, moves, need_of, noted, noted_all, same_need, traffic, without, CanFetch, IsNeeded, HomePlace, KeepsFrame, LAST_USE, Renews, RenewsNone, RenewsSome, tenant_left}
+use Rattle.page_contracts.specs.Stores.{StoreMeaning, Transfer, arrival, departure, Traffic, Loses, Cancels, IsUsed, IsMade, IsFreed, arrives, departs, moves, need_of, noted, noted_all, same_need, traffic, without, CanFetch, IsNeeded, HomePlace, KeepsFrame, LAST_USE, Renews, RenewsNone, RenewsOne, RenewsSome, RenewsThere, tenant_left}
 
 or_assoc : (a b c : Bool) → ((a || b) || c) ≡ (a || (b || c))
 or_assoc true b c = refl
@@ -161,12 +161,36 @@ renews_none t u none = record {
 pub none_on : (t u v : Traffic) → RenewsNone t u → RenewsNone u v → RenewsNone t v
 none_on t u v first then frame there = (let k = then frame there in let j = first frame (subst IsSome k.tenant there) in record { tenant = k.tenant ∙ j.tenant; age = k.age ∙ j.age })
 
--- a home's page was used, and each other frame has its page
-pub renews_home : (t u : Traffic) (home : ℕ) → ((frame : ℕ) → (u.tenant frame ≡ Some home → ⊥) → u.tenant frame ≡ t.tenant frame) → Renews home u.tenant t.age u.age → RenewsSome t u
-renews_home t u home tenants ages = record {
+-- a home's page was used or made, and each other frame has its page
+renews_one : (t u : Traffic) (home : ℕ) → ((frame : ℕ) → (u.tenant frame ≡ Some home → ⊥) → u.tenant frame ≡ t.tenant frame) → Renews home u.tenant t.age u.age → RenewsOne home t u
+renews_one t u home tenants ages = record { youngest = ages.youngest; others = λ frame there not. record { tenant = tenants frame not; age = ages.others frame not } }
+
+-- pages may have been given up before, but not that
+pub renews_there : (t u v : Traffic) (home : ℕ) → RenewsNone t u → ((frame : ℕ) → t.tenant frame ≡ Some home → u.tenant frame ≡ Some home) → RenewsThere home u v → RenewsThere home t v
+renews_there t u v home first stays then = record {
+  own = λ frame. (λ is. (then.own frame).0 (stays frame is), λ is. (let k = (then.own frame).1 is in sym (first frame (subst IsSome (sym k) refl)).tenant ∙ k));
+  ages = record {
+    youngest = then.ages.youngest;
+    others = λ frame there not. (let k = then.ages.others frame there not in let j = first frame (subst IsSome k.tenant there) in record { tenant = k.tenant ∙ j.tenant; age = k.age ∙ j.age });
+  };
+}
+
+-- and it may have been used before
+pub there_again : (t u v : Traffic) (home : ℕ) → RenewsThere home t u → RenewsThere home u v → RenewsThere home t v
+there_again t u v home first then = record {
+  own = λ frame. (λ is. (then.own frame).0 ((first.own frame).0 is), λ is. (first.own frame).1 ((then.own frame).1 is));
+  ages = record {
+    youngest = then.ages.youngest;
+    others = λ frame there not. (let k = then.ages.others frame there not in let j = first.ages.others frame (subst IsSome k.tenant there) (λ is. not (k.tenant ∙ is)) in record { tenant = k.tenant ∙ j.tenant; age = k.age ∙ j.age });
+  };
+}
+
+-- of these pages one was used
+renews_home : (t u : Traffic) (home : ℕ) → RenewsOne home t u → RenewsSome t u
+renews_home t u home one = record {
   renewed = λ frame. has (u.tenant frame);
-  others = λ frame not there. (let other = unlike frame not in record { tenant = tenants frame other; age = ages.others frame other });
-  younger = λ frame other is not here there. ages.youngest frame other (like (u.tenant frame) is) (λ same. (let z : true ≡ false = sym is ∙ ap (λ f. has (u.tenant f)) (sym same) ∙ not in cc z)) there;
+  others = λ frame not there. one.others frame there (unlike frame not);
+  younger = λ frame other is not here there. one.youngest frame other (like (u.tenant frame) is) (λ same. (let z : true ≡ false = sym is ∙ ap (λ f. has (u.tenant f)) (sym same) ∙ not in cc z)) there;
 }
   where
     has : Option ℕ → Bool
@@ -305,17 +329,36 @@ module _ {S : Type 0} (means : StoreMeaning S) (old new : S) where
   abbrev u : Traffic
   u = traffic means new
 
+  -- a use and a making renew one page
+  pub used_one : (home : ℕ) → IsUsed means home old new → RenewsOne home (traffic means old) (traffic means new)
+  used_one home k = renews_one t u home (λ frame other. ap (λ (f : ℕ → Option ℕ). f frame) k.framed.tenant) k.ages
+
+  pub used_there : (home : ℕ) → IsUsed means home old new → RenewsThere home (traffic means old) (traffic means new)
+  used_there home k = record {
+    own = λ frame. (let same = ap (λ (f : ℕ → Option ℕ). f frame) k.framed.tenant in (λ is. same ∙ is, λ is. sym same ∙ is));
+    ages = used_one home k;
+  }
+
+  pub made_one : (home : ℕ) (page : HomePlace) → IsMade means home page old new → RenewsOne home (traffic means old) (traffic means new)
+  made_one home page m = renews_one t u home m.tenants m.ages
+
   -- a use, a making and a giving up lose so
   pub loses_used : (home : ℕ) → IsUsed means home old new → Loses (traffic means old) (traffic means new)
   loses_used home k =
       loses_taken (departs home) k.rescued (λ h. false) (λ holder. ap (λ (f : ℕ → List ℕ). f holder) k.holds ∙ sym (filter_all (means.holds old holder))) k.framed.members
-      (renews_home t u home (λ frame other. ap (λ (f : ℕ → Option ℕ). f frame) k.framed.tenant) k.ages)
+      (renews_home t u home (used_one home k))
 
   pub loses_made : (home : ℕ) (page : HomePlace) → IsMade means home page old new → Loses (traffic means old) (traffic means new)
-  loses_made home page m = loses_none t u m.queued.queue m.queued.untold m.holds m.members (renews_home t u home m.tenants m.ages)
+  loses_made home page m = loses_none t u m.queued.queue m.queued.untold m.holds m.members (renews_home t u home (made_one home page m))
 
   pub freed_none : (home : ℕ) → IsFreed means home old new → RenewsNone (traffic means old) (traffic means new)
   freed_none home f = renews_left t u home f.tenants f.ages
+
+  -- each other page stays where it is
+  pub freed_stays : (home other : ℕ) → other ≢ home → IsFreed means home old new → (frame : ℕ) → means.tenant old frame ≡ Some other → means.tenant new frame ≡ Some other
+  freed_stays home other ne f frame is =
+      f.tenants frame ∙ ap (tenant_left home) is
+      ∙ elim (eqb_tells other home) [ inl k ↦ absurd (ne k.1) | inr k ↦ ap (λ b. cond b None (Some other)) k.0 ]
 
   pub loses_freed : (home : ℕ) → IsFreed means home old new → Loses (traffic means old) (traffic means new)
   loses_freed home f = loses_taken (moves home) f.cancelled (λ k. k == home) (λ holder. ap (λ (g : ℕ → List ℕ). g holder) f.holds) f.members (renews_none t u (freed_none home f))

@@ -35,7 +35,7 @@ use Rattle.plain_pages.specs.PlainPages.{PlainPages, NumberedPages, page_serial}
 use Rattle.plain_pages.specs.Maps.{entry_at, maps_on_way}
 use Rattle.plain_pages.specs.Room.{FitsLimit, live, uses}
 use Rattle.plain_pages.specs.References.{Spot, in_map, in_file, Making, blank, copy, Referred, granted, denied, full, reference, next_making, words_of, page_at}
-use Rattle.page_contracts.specs.Stores.{StoreMeaning, IsSound, IsNeeded, KeepsFrame, LAST_USE, Loses, Renews, RenewsNone, away, free, away_of, is_here, is_taken, place, traffic}
+use Rattle.page_contracts.specs.Stores.{StoreMeaning, IsSound, IsNeeded, Loses, RenewsBoth, RenewsNone, RenewsOne, RenewsThere, away, free, away_of, is_here, is_taken, place, traffic}
 use Rattle.machine_names.specs.Bounds.{IsOwner, IsFilePage}
 use Rattle.machine_names.specs.Orders.{FilePage, file_page}
 
@@ -300,32 +300,35 @@ abbrev pub StandsAt : {P : Type 0} → PagesMeaning P → P → Place → ℕ �
 StandsAt means p (Fork s) home = StandsInSpace means p s home
 StandsAt means p (File f page) home = StandsInFile means p (file_page f.0 page) home
 
--- no frame of a fork's map is this one
-abbrev pub HasNoMap : {P : Type 0} → PagesMeaning P → P → ℕ → Type 0
-HasNoMap means p frame = (f : ForkName) (home : ℕ) → means.map_home p f ≡ Some home → means.store.tenant p frame ≡ Some home → ⊥
+-- the fork in whose map an entry is set to what is made; none where nothing is made, or a file names it
+abbrev pub map_set : {K : Type 0} → Option (Making K) → Option ForkName
+map_set None = None
+map_set (Some (blank (in_map s))) = Some s.fork
+map_set (Some (blank (in_file f))) = None
+map_set (Some (copy s access)) = Some s.fork
 
--- The page of a place, which is in a frame, was used or made: it is the last to leave but for maps, in one of which an entry may have been
--- set; and each other frame has its age, but for those of maps.
-pub record UsesOne {P : Type 0} (means : PagesMeaning P) (at : Place) (old new : P) : Type 0 where
+-- The page of a place, which is in a frame, was used or made; and then the map of a fork, where maps have homes: that in which an entry was set to what was
+-- made, over the words of each drum that fits, and over whatever drum one at most.
+pub record UsesPlace {P : Type 0} (means : PagesMeaning P) (at : Place) (kind : Kind) (old new : P) : Type 0 where
   pub home : ℕ
   pub stands : StandsAt means new at home
   pub here : is_here (place (means.store.homes new) home) ≡ true
-  pub youngest : (frame other : ℕ) → means.store.tenant new frame ≡ Some home → other ≢ frame → IsSome (means.store.tenant new other) → HasNoMap means new other
-      → (means.store.age new other < means.store.age new frame) ⊎ (means.store.age new frame ≡ LAST_USE)
-  pub others : (frame : ℕ) → (means.store.tenant new frame ≡ Some home → ⊥) → HasNoMap means new frame → means.store.age new frame ≡ means.store.age old frame
+  pub map : Option ℕ
+  pub of_fork : (at : ℕ) → map ≡ Some at → (f : ForkName) × (means.map_home new f ≡ Some at)
+  pub set : (d : DrumWords) → means.fits old d → map ≡ option_and_then (means.map_home new) (map_set (next_making (means.plain old d) (spot_of at) kind))
+  pub ages : MatchOption map (RenewsOne home (traffic means.store old) (traffic means.store new)) (λ next. RenewsBoth home next (traffic means.store old) (traffic means.store new))
 
 -- no page was used or came into a frame
 abbrev pub UsesNone : {P : Type 0} → PagesMeaning P → P → P → Type 0
 UsesNone means old new = RenewsNone (traffic means.store old) (traffic means.store new)
 
--- none but the map of a fork, in which an entry was set
-abbrev pub MayUseMap : {P : Type 0} → PagesMeaning P → ForkName → P → P → Type 0
-MayUseMap means fork old new =
-    (frame : ℕ) → IsSome (means.store.tenant new frame) → ((home : ℕ) → means.map_home new fork ≡ Some home → means.store.tenant new frame ≡ Some home → ⊥) → KeepsFrame (traffic means.store old) (traffic means.store new) frame
-
 -- none but the map of a fork that was added, where that has a home
+abbrev pub AddsUse : {P : Type 0} → PagesMeaning P → ForkName → P → P → Type 0
+AddsUse means fork old new = MatchOption (means.map_home new fork) (UsesNone means old new) (λ home. RenewsOne home (traffic means.store old) (traffic means.store new))
+
+-- none but the map of a fork, in which an entry was set
 abbrev pub UsesMap : {P : Type 0} → PagesMeaning P → ForkName → P → P → Type 0
-UsesMap means fork old new = MatchOption (means.map_home new fork) (UsesNone means old new) (λ home. Renews home (means.store.tenant new) (means.store.age old) (means.store.age new))
+UsesMap means fork old new = MatchOption (means.map_home new fork) (UsesNone means old new) (λ home. RenewsThere home (traffic means.store old) (traffic means.store new))
 
 -- what is queued and held may have become less, and what that would have told is to be told; and only what was used is younger than it was
 abbrev pub MayLose : {P : Type 0} → PagesMeaning P → P → P → Type 0

@@ -144,9 +144,13 @@ noted_all (t ∷ ts) needs = noted_all ts (noted (need_of t) needs)
 abbrev pub LAST_USE : ℕ
 LAST_USE = 2 ^ 64 - 1
 
--- a home's page was used: its frame is the youngest of those with a page, until the numbers of uses end; and each other frame has its age
+-- the frame of a home's page is the youngest of those with a page, until the numbers of uses end
+abbrev pub IsYoungest : ℕ → (ℕ → Option ℕ) → (ℕ → ℕ) → Type 0
+IsYoungest home tenant age = (frame other : ℕ) → tenant frame ≡ Some home → other ≢ frame → IsSome (tenant other) → (age other < age frame) ⊎ (age frame ≡ LAST_USE)
+
+-- a home's page was used: its frame is the youngest; and each other frame has its age
 pub record Renews (home : ℕ) (tenant : ℕ → Option ℕ) (old new : ℕ → ℕ) : Type 0 where
-  pub youngest : (frame other : ℕ) → tenant frame ≡ Some home → other ≢ frame → IsSome (tenant other) → (new other < new frame) ⊎ (new frame ≡ LAST_USE)
+  pub youngest : IsYoungest home tenant new
   pub others : (frame : ℕ) → (tenant frame ≡ Some home → ⊥) → new frame ≡ old frame
 
 -- each frame has its age but that of a home's page
@@ -177,6 +181,22 @@ pub record KeepsFrame (old new : Traffic) (frame : ℕ) : Type 0 where
 -- no page was used or came into a frame: each frame that has a page had it, and has its age
 abbrev pub RenewsNone : Traffic → Traffic → Type 0
 RenewsNone old new = (frame : ℕ) → IsSome (new.tenant frame) → KeepsFrame old new frame
+
+-- one page was used or made, that of a home: its frame is the youngest; and each other frame that has a page had it, and has its age
+pub record RenewsOne (home : ℕ) (old new : Traffic) : Type 0 where
+  pub youngest : IsYoungest home new.tenant new.age
+  pub others : (frame : ℕ) → IsSome (new.tenant frame) → (new.tenant frame ≡ Some home → ⊥) → KeepsFrame old new frame
+
+-- it was used in the frame that it had, and has
+pub record RenewsThere (home : ℕ) (old new : Traffic) : Type 0 where
+  pub own : (frame : ℕ) → (old.tenant frame ≡ Some home) ↔ (new.tenant frame ≡ Some home)
+  pub ages : RenewsOne home old new
+
+-- one page was used or made, and then another was used in the frame that it had
+pub record RenewsBoth (home next : ℕ) (old new : Traffic) : Type 0 where
+  pub between : Traffic
+  pub first : RenewsOne home old between
+  pub second : RenewsThere next between new
 
 -- Pages were used or made, and pages may have been given up. Each frame with a page that was not used had that page, and has its age; and it is older than each
 -- whose page was, until the numbers of uses end.

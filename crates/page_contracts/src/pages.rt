@@ -11,7 +11,7 @@ ghost use Rattle.page_contracts.specs.DrumWords.{DrumWords, Stands};
 ghost use Rattle.plain_pages.specs.References.{in_map, settled, slot_at, word_at, stored, page_at as named_at, without_fork};
 ghost use Rattle.page_contracts.specs.Stores.{IsFetched, IsUsed, CanFetch, Completes, Tells, Evicts, CanKeep, Keeps, LetsGo, awaited, meeting, most_held};
 ghost use Rattle.plain_pages.specs.WholePages.{AreWhole};
-ghost use Rattle.page_contracts.specs.Pages.{PagesMeaning, AddsMap, Agrees, AreHoused, DropsFile, DropsMap, FilesMade, FilesOne, HasSpace, MayLose, OnlyUses, PeekNeeds, SeenNeeds, StandsAt, TouchNeeds, UsesMap, UsesNone, UsesOne, StaysInCore, TakesMap, TakesFrames, StaysPut, StaysMapped, StaysPlain, StaysSame, IsPlace, IsTouched, IsReady, CanChange, IsNewMap, MapFollowsFork, MayUseMap, FollowsFork, FollowsPage, SettlesTo, spot_of, touch_of, peek_of, seen_of, map_away, counted, room_for, can_settle, frames_taken, is_in_core, is_seen, is_entry, is_seen_entry};
+ghost use Rattle.page_contracts.specs.Pages.{PagesMeaning, AddsMap, Agrees, AreHoused, DropsFile, DropsMap, FilesMade, FilesOne, HasSpace, MayLose, OnlyUses, PeekNeeds, SeenNeeds, StandsAt, TouchNeeds, AddsUse, UsesMap, UsesNone, UsesPlace, StaysInCore, TakesMap, TakesFrames, StaysPut, StaysMapped, StaysPlain, StaysSame, IsPlace, IsTouched, IsReady, CanChange, IsNewMap, MapFollowsFork, FollowsFork, FollowsPage, SettlesTo, spot_of, touch_of, peek_of, seen_of, map_away, counted, room_for, can_settle, frames_taken, is_in_core, is_seen, is_entry, is_seen_entry};
 ghost use Rattle.plain_pages.specs.NewEntries.{IsNewEntry, changed};
 ghost use Rattle.plain_pages.specs.FilePages.{filed_by, without_file};
 ghost use Rattle.machine_names.specs.Orders.{file_page, same_fork};
@@ -76,8 +76,8 @@ pub trait Pages {
         ensures needs { SeenNeeds means.store self.now result }
         ensures core { means.flat ≡ true → is_seen_entry result ≡ true };
 
-    /// Sets an entry that a look at it finds. It may be set to a page that a file has, which may be in no frame. A fork that is followed has a serial, 1 to
-    /// 262,143. A page that loses its last name is dropped.
+    /// Sets an entry that a look at it finds, which is a use of its map. It may be set to a page that a file has, which may be in no frame. A fork that is
+    /// followed has a serial, 1 to 262,143. A page that loses its last name is dropped.
     fn set_entry(&mut self, slot: Slot, new: NewEntry)
         requires page { slot.page < SPACE_PAGES }
         requires seen { is_entry (means.seen self.old slot) ≡ true }
@@ -87,14 +87,14 @@ pub trait Pages {
         ensures scene { StaysInCore (means.scene self.old) (means.scene self.new) 0 }
         ensures filed { means.filed self.new ≡ means.filed self.old }
         ensures loses { MayLose means self.old self.new }
-        ensures uses { MayUseMap means slot.fork self.old self.new }
+        ensures uses { UsesMap means slot.fork self.old self.new }
         ensures lives { means.lives self.new ≡ means.lives self.old }
         ensures forks { means.forks_of self.new ≡ means.forks_of self.old }
         ensures serials { means.serial self.new ≡ means.serial self.old }
         ensures most { means.most self.new ≡ means.most self.old };
 
-    /// Makes the zero page or the copy that a touch announces, for an owner. One page is made, in a frame. A page that the
-    /// touch finds ready is used.
+    /// Makes the zero page or the copy that a touch announces, for an owner. One page is made, in a frame; then the map is used in which an entry
+    /// is set to it. A page that the touch finds ready is used.
     fn settle(&mut self, at: Place, kind: Kind, owner: Tty)
         requires place { IsPlace (means.lives self.old) at }
         requires ready { can_settle (means.touched self.old at kind) ≡ true }
@@ -105,7 +105,7 @@ pub trait Pages {
         ensures scene { TakesFrames (means.scene self.old) (means.scene self.new) (frames_taken (means.touched self.old at kind)) }
         ensures count { means.count self.new ≡ means.count self.old + frames_taken (means.touched self.old at kind) }
         ensures loses { MayLose means self.old self.new }
-        ensures uses { UsesOne means at self.old self.new }
+        ensures uses { UsesPlace means at kind self.old self.new }
         ensures filed { FilesMade means at (means.touched self.old at kind) self.old self.new }
         ensures ready { (home : ℕ) → means.touched self.old at kind ≡ Touch.Ready → StandsAt means self.old at home → IsUsed means.store home self.old self.new }
         ensures lives { means.lives self.new ≡ means.lives self.old }
@@ -182,7 +182,7 @@ pub trait Pages {
         ensures told { (d : DrumWords) → means.fits self.old d → means.fits self.new d × (means.plain self.new d ≡ with_map (means.plain self.old d) fork map) }
         ensures scene { TakesMap (means.scene self.old) (means.scene self.new) fork }
         ensures loses { MayLose means self.old self.new }
-        ensures uses { UsesMap means fork self.old self.new }
+        ensures uses { AddsUse means fork self.old self.new }
         ensures adds { AddsMap means fork self.old self.new }
         ensures lives { (f : AForkName) → means.lives self.new f ≡ (same_fork f fork || means.lives self.old f) }
         ensures forks { means.forks_of self.new fork.tty ≡ means.forks_of self.old fork.tty + 1 }

@@ -25,7 +25,8 @@ use Rattle.flat_pages.proofs.EntrySetting.{same_core}
 use Rattle.slot_paged.specs.EndedForks.{EmptiesFork}
 use Rattle.slot_paged.specs.PagedTables.{Beside, AreKept, FitsPages, in_memory_over, plain_over}
 use Rattle.slot_paged.specs.SetEntries.{SetsSlot}
-use Rattle.slot_paged.proofs.EntryChanged.{entry_seen, uses_then}
+use Rattle.slot_paged.proofs.EntryChanged.{entry_seen}
+use Rattle.slot_paged.proofs.UsedPlaces.{others_again}
 use Rattle.slot_paged.proofs.EntryPut.{held_at}
 use Rattle.slot_paged.proofs.FreedDone.{word_near}
 use Rattle.slot_paged.proofs.Homed.{sized}
@@ -100,7 +101,7 @@ module _ {S : Type 0} (store : StoreMeaning S) (old mid new : S) (b b1 b' : Besi
     limit = sets.limit ∙ so_far.limit;
     core = core_on so_far.core sets.core;
     lost = loses_on (traffic store old) (traffic store mid) (traffic store new) so_far.lost sets.lost;
-    uses = uses_then store old mid new b1 b' fork sets.maps so_far.uses sets.uses;
+    uses = others_again store old mid new b1 b' fork sets.maps so_far.uses sets.uses;
   }
 
 -- the fork's map is in a frame still

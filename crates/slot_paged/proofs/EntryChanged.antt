@@ -37,6 +37,7 @@ use Rattle.flat_pages.proofs.EmptyMaps.{core_on}
 use Rattle.flat_pages.proofs.FiledHomes.{get_filed}
 use Rattle.slot_paged.specs.PagedTables.{Beside, AreKept, FitsPages, in_memory_over, plain_over}
 use Rattle.slot_paged.specs.SetEntries.{ChangesEntry, SetsSlot, UsesMapOf, narrow_paged}
+use Rattle.slot_paged.proofs.UsedPlaces.{uses_again}
 use Rattle.slot_paged.proofs.Homed.{sized}
 use Rattle.slot_paged.proofs.MapsTold.{maps_told}
 
@@ -81,13 +82,6 @@ pub page_is : (b : Beside) (places : List HomePlace) (d : DrumWords) (f : FileNo
 page_is b places d f page a home e there =
     sym (ap (λ (o : Option PageName). option_map_or (λ n. map_entry.Names n a) o e) (get_filed b.tables.names b.files (file_page f.0 page) ∙ ap (option_map (name_of b.tables.names)) there))
 
--- only one map's frame was used, and then again
-pub uses_then : {S : Type 0} (store : StoreMeaning S) (old mid new : S) (b1 b' : Beside) (fork : ForkName) → b'.tables.maps ≡ b1.tables.maps → UsesMapOf store old mid b1 fork → UsesMapOf store mid new b' fork → UsesMapOf store old new b' fork
-uses_then store old mid new b1 b' fork maps first then frame some none =
-    let second = then frame some none in
-    let before : (k : ℕ) → index_of b1.tables.maps fork ≡ Some k → store.tenant mid frame ≡ Some (root_at b1.tables.maps k).0 → ⊥ = λ k is tenant. none k (ap (λ ms. index_of ms fork) maps ∙ is) (second.tenant ∙ tenant ∙ ap (λ ms. Some (root_at ms k).0) (sym maps)) in
-    let one = first frame (subst IsSome second.tenant some) before in record { tenant = second.tenant ∙ one.tenant; age = second.age ∙ one.age }
-
 -- an entry that is emptied, and then set to a page that a file names, is set
 module _ {S : Type 0} (store : StoreMeaning S) (old mid new : S) (b b1 b' : Beside) (kept : AreKept b (store.homes old)) (kept1 : AreKept b1 (store.homes mid)) (pages : ArePages (store.homes old)) (pages1 : ArePages (store.homes mid)) (at : Slot) (below : at.page < SPACE_PAGES)
     (q : PagedEntry) (looks : look_at b.tables (store.homes old) at ≡ Is q) (f : FilePage ℕ) (home : Home) (there : fin.get b.files f ≡ Some home) (a : Access) (emptied : SetsSlot store old mid b b1 at paged.Empty) (sets : SetsSlot store mid new b1 b' at (paged.Page home a)) where
@@ -129,7 +123,7 @@ module _ {S : Type 0} (store : StoreMeaning S) (old mid new : S) (b b1 b' : Besi
       )
 
   uses_on : UsesMapOf store old new b' at.fork
-  uses_on = uses_then store old mid new b1 b' at.fork sets.maps emptied.uses sets.uses
+  uses_on = uses_again store old mid new b1 b' at.fork sets.maps emptied.uses sets.uses
 
   pub set_on : SetsSlot store old new b b' at (paged.Page home a)
   set_on = record {

@@ -10,7 +10,7 @@ use Rattle.machine_names.specs.Orders.{FilePage}
 use Rattle.machine_names.specs.PageWords.{zero_words}
 use Rattle.page_contracts.specs.Pages.{TakesFrames}
 use Rattle.page_contracts.specs.Stores.{HomePlace, Loses, StoreMeaning, away_at, away_home, free, here, is_here, place, traffic}
-use Rattle.page_contracts.proofs.Losing.{loses_made}
+use Rattle.page_contracts.proofs.Losing.{loses_made, made_one}
 use Rattle.pager_walk.specs.PagedMaps.{name_at}
 use Rattle.flat_pages.specs.HeldMaps.{name_of}
 use Rattle.flat_pages.specs.Serials.{serial_of}
@@ -23,10 +23,9 @@ use Rattle.slot_paged.specs.NameCounts.{count_of, share_at}
 use Rattle.slot_paged.specs.PagedMeaning.{forks_in, lives_in}
 use Rattle.slot_paged.specs.PagedTables.{Beside, AreKept}
 use Rattle.slot_paged.specs.PagedTouches.{scene_over}
-use Rattle.slot_paged.specs.PlacesSettled.{FilesOnePage}
+use Rattle.slot_paged.specs.PlacesSettled.{FilesOnePage, UsesBoth}
 use Rattle.slot_paged.proofs.PagesMade.{no_name}
 use Rattle.slot_paged.proofs.StillScenes.{away_made, still_scene}
-use Rattle.slot_paged.proofs.UsedPlaces.{PlaceAges, one_age}
 
 module _ {S : Type 0} (store : StoreMeaning S) (old new : S) (b b' : Beside) (kept : AreKept b (store.homes old)) (kept' : AreKept b' (store.homes new)) (owner : Tty) (own : IsOwner owner) (f : FilePage ℕ) (z : FilesPage store old new b b' f owner) where
   abbrev places : List HomePlace
@@ -65,8 +64,8 @@ module _ {S : Type 0} (store : StoreMeaning S) (old new : S) (b b' : Beside) (ke
   pub filed_loses : Loses (traffic store old) (traffic store new)
   filed_loses = loses_made store old new z.home.0 (here zero_words) z.made
 
-  pub filed_ages : PlaceAges store old new b' z.home.0
-  filed_ages = one_age store b' old new z.home.0 z.made.ages
+  pub filed_ages : UsesBoth store old new b' z.home.0 None
+  filed_ages = made_one store old new z.home.0 (here zero_words) z.made
 
   unfiled : filed_total z.home.0 b.files ≡ 0
   unfiled =

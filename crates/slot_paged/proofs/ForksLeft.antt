@@ -1,7 +1,7 @@
 -- What else is left once a fork has ended: who lives, and what is in a frame.
 use Rattle.std.proofs.Common.{◌≡◌, ◌≢◌, ◌⊎◌, inl, inr, ℕ, ◌+◌, ◌≤◌, List, not, ◌&&◌, cond, Option, None, Some, is_some, map, refl, sym, ◌∙◌, ap, subst, arith}
 use Rattle.std.specs.Prelude.{IsSome, slice_set}
-use Rattle.std.specs.Option.{option_and_then}
+use Rattle.std.specs.Option.{option_and_then, option_map}
 use Rattle.std.proofs.lemmas.Bool.{cases_eq}
 use Rattle.std.proofs.lemmas.Bool.Decides.{eqb_tells}
 use Rattle.std.proofs.lemmas.List.{get_or-set_same, get_or-set_other, map-set}
@@ -21,6 +21,7 @@ use Rattle.flat_pages.specs.HeldMaps as flat
 use Rattle.flat_pages.specs.SlotTouches.{home_named}
 use Rattle.flat_pages.proofs.Ending.{ended_lives, ended_other, ended_own}
 use Rattle.slot_paged.specs.EndedForks.{EmptiesFork, fork_gone}
+use Rattle.slot_paged.specs.PagedSlots.{map_home_over}
 use Rattle.slot_paged.specs.PagedMeaning.{forks_in, lives_in}
 use Rattle.slot_paged.specs.PagedTables.{Beside}
 use Rattle.slot_paged.specs.PagedTouches.{scene_over}
@@ -110,9 +111,8 @@ module _ {S : Type 0} (store : StoreMeaning S) (old mid new : S) (b b1 : Beside)
   pub left_uses : RenewsNone (traffic store old) (traffic store new)
   left_uses frame there =
       let second = freed_none store mid new home freed frame there in
-      let apart : (j : ℕ) → index_of b1.tables.maps fork ≡ Some j → store.tenant mid frame ≡ Some (root_at b1.tables.maps j).0 → ⊥ = λ j is tenant.
-      (let same : Some j ≡ Some k = sym is ∙ numbered in
-      let own : store.tenant mid frame ≡ Some home = tenant ∙ ap (λ (i : ℕ). Some (root_at b1.tables.maps i).0) (cc same) in
+      let apart : (at : ℕ) → map_home_over b1 fork ≡ Some at → store.tenant mid frame ≡ Some at → ⊥ = λ at is tenant.
+      (let own : store.tenant mid frame ≡ Some home = tenant ∙ sym is ∙ ap (option_map (λ j. (root_at b1.tables.maps j).0)) numbered in
       not_there (store.tenant new frame) there (freed.tenants frame ∙ ap (tenant_left home) own ∙ left_none)) in
       let first = empties.uses frame (subst IsSome second.tenant there) apart in record {
         tenant = second.tenant ∙ first.tenant;

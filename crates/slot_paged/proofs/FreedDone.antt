@@ -15,7 +15,7 @@ use Rattle.page_homes.specs.declared.homes.Home.{Home}
 use Rattle.page_contracts.specs.DrumWords.{DrumWords}
 use Rattle.page_contracts.specs.Pages.{StaysInCore}
 use Rattle.page_contracts.specs.Stores.{HomePlace, FitsHomes, StoreMeaning, away_at, away_home, content, free, here, is_taken, place, traffic, with_word_in, word_in}
-use Rattle.page_contracts.proofs.Losing.{freed_none, loses_freed, loses_on, loses_used}
+use Rattle.page_contracts.proofs.Losing.{freed_none, freed_stays, loses_freed, loses_on, loses_used, renews_there, used_there}
 use Rattle.plain_pages.specs.References.{with_entry as entry_put}
 use Rattle.share_table.specs.declared.pointer.Pointer.{Pointer}
 use Rattle.share_table.specs.Pointers.{IsPointer, pointer_word}
@@ -51,8 +51,9 @@ use Rattle.slot_paged.specs.MapsInMemory.{in_memory, maps_in_memory}
 use Rattle.slot_paged.specs.PagedPlaces.{page_places}
 use Rattle.slot_paged.specs.PagedTables.{Beside, AreKept, FitsPages, in_memory_over, plain_over}
 use Rattle.slot_paged.specs.PagedTouches.{has_one_name, names_at, scene_over}
-use Rattle.slot_paged.specs.PlacesSettled.{filed_over}
+use Rattle.slot_paged.specs.PagedSlots.{filed_over}
 use Rattle.slot_paged.specs.SetEntries.{FreesPage, SetsSlot, UsesMapOf, bare_entry, page_freed}
+use Rattle.slot_paged.proofs.UsedPlaces.{uses_map}
 use Rattle.slot_paged.proofs.BarePointers.{bare_follows, bare_nothing, bare_stands}
 use Rattle.slot_paged.proofs.Counted.{counts_at}
 use Rattle.slot_paged.proofs.EntryLooks.{sets_one}
@@ -172,13 +173,9 @@ module _ {S : Type 0} (store : StoreMeaning S) (old new : S) (b b' : Beside) (ke
   core_stays = record { maps = maps_in_core; pages = pages_in_core; frames = omega (arith, z.freed.spare, z.used.framed.spare) }
 
   uses_maps : UsesMapOf store old new b' at.fork
-  uses_maps frame there none =
-      let not_root : store.tenant new frame ≡ Some root → ⊥ = λ is. none z.number (ap (λ (x : Beside). index_of x.tables.maps at.fork) z.beside ∙ z.numbered) (is ∙ ap (λ (x : Beside). Some (root_at x.tables.maps z.number).0) (sym z.beside)) in
-      let tenant : store.tenant new frame ≡ store.tenant z.mid frame = ap (λ (t : ℕ → Option ℕ). t frame) z.used.framed.tenant in
-      let first = freed_none store old z.mid home.0 z.freed frame (subst IsSome tenant there) in record {
-        tenant = tenant ∙ first.tenant;
-        age = z.used.ages.others frame not_root ∙ first.age;
-      }
+  uses_maps = uses_map store old new b b' at.fork z.number z.numbered (ap (λ (x : Beside). x.tables.maps) z.beside)
+      (renews_there (traffic store old) (traffic store z.mid) (traffic store new) root (freed_none store old z.mid home.0 z.freed)
+      (freed_stays store old z.mid home.0 root (apart b places kept home one z.number at.fork (index_fork b.tables.maps at.fork z.number z.numbered)) z.freed) (used_there store z.mid new root z.used))
 
   unfiled : filed_total home.0 b.files ≡ 0
   unfiled = omega (arith, one_unfiled b home.0 one, kept.files.count home.0)

@@ -12,6 +12,7 @@ pub mod FilingGone
 pub mod FilingSteps
 pub mod FilingEnds
 pub mod MapsTold
+pub mod MapsSet
 pub mod Places
 pub mod Counted
 pub mod WalksTold

@@ -32,14 +32,15 @@ use Rattle.slot_paged.specs.NameCounts.{count_of, share_at}
 use Rattle.slot_paged.specs.PagedMeaning.{forks_in, lives_in}
 use Rattle.slot_paged.specs.PagedTables.{Beside, AreKept}
 use Rattle.slot_paged.specs.PagedTouches.{roomy, scene_over}
-use Rattle.slot_paged.specs.PlacesSettled.{filed_over}
+use Rattle.slot_paged.specs.PagedSlots.{filed_over}
+use Rattle.slot_paged.specs.PlacesSettled.{UsesBoth}
 use Rattle.slot_paged.proofs.EntryLooks.{SetsOne, sets_one}
 use Rattle.slot_paged.proofs.EntryPut.{put_places}
 use Rattle.slot_paged.proofs.NewForks.{free_apart}
 use Rattle.slot_paged.proofs.PagesMade.{no_name}
 use Rattle.slot_paged.proofs.Places.{IsNoRoot}
 use Rattle.slot_paged.proofs.StillScenes.{away_made, away_put, room_less, still_scene}
-use Rattle.slot_paged.proofs.UsedPlaces.{PlaceAges, two_ages}
+use Rattle.slot_paged.proofs.UsedPlaces.{made_both, uses_both}
 
 module _ {S : Type 0} (store : StoreMeaning S) (old new : S) (b b' : Beside) (kept : AreKept b (store.homes old)) (kept' : AreKept b' (store.homes new)) (pages : ArePages (store.homes old)) (owner : Tty) (own : IsOwner owner)
     (at : Slot) (near : IsNearSlot b.tables (store.homes old) at) (words : List ℕ) (access : Access) (shares : Shares) (z : MakesPage store old new b b' at (here words) access shares owner) where
@@ -123,15 +124,8 @@ module _ {S : Type 0} (store : StoreMeaning S) (old new : S) (b b' : Beside) (ke
   pub made_loses : Loses (traffic store old) (traffic store new)
   made_loses = loses_on (traffic store old) (traffic store z.mid) (traffic store new) (loses_made store old z.mid z.home.0 (here words) z.made) (loses_used store z.mid new root z.used)
 
-  pub made_ages : PlaceAges store old new b' z.home.0
-  made_ages =
-      ages b' (ap (λ (x : Beside). x.tables.maps) z.beside)
-    where
-      ages : (y : Beside) → y.tables.maps ≡ b.tables.maps → PlaceAges store old new y z.home.0
-      ages y same = two_ages store y old z.mid new z.home.0 z.number at.fork z.made.ages
-          (subst (λ ms. IsUsed store (root_at ms z.number).0 z.mid new) (sym same) z.used)
-          (ap (λ ms. fork_at ms z.number) same ∙ index_fork b.tables.maps at.fork z.number z.numbered)
-          (λ e. apart z.number at.fork (index_fork b.tables.maps at.fork z.number z.numbered) (ap (λ ms. (root_at ms z.number).0) (sym same) ∙ e))
+  pub made_ages : UsesBoth store old new b' z.home.0 (Some at.fork)
+  made_ages = uses_both store old new b b' at.fork z.number z.numbered (ap (λ (x : Beside). x.tables.maps) z.beside) z.home.0 (made_both store old z.mid new z.home.0 root z.used (here words) z.made)
 
   unfiled : filed_total z.home.0 b.files ≡ 0
   unfiled =

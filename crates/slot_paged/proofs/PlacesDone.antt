@@ -17,11 +17,11 @@ use Rattle.page_homes.specs.declared.homes.Home.{Home}
 use Rattle.page_contracts.specs.declared.answers.Touch.{Touch}
 use Rattle.page_contracts.specs.declared.answers.Touch.TheVariants.{Ready, Zero, Copy}
 use Rattle.page_contracts.specs.DrumWords.{DrumWords}
-use Rattle.page_contracts.specs.Pages.{SettlesTo, TakesFrames, absent_or, can_settle, frames_taken, spot_of}
+use Rattle.page_contracts.specs.Pages.{SettlesTo, TakesFrames, absent_or, can_settle, frames_taken, map_set, spot_of}
 use Rattle.page_contracts.specs.Stores.{HomePlace, IsUsed, StoreMeaning, away_at, here, is_here, place}
-use Rattle.page_contracts.proofs.Losing.{loses_used}
+use Rattle.page_contracts.proofs.Losing.{loses_used, used_one}
 use Rattle.plain_pages.specs.Maps.{full_access}
-use Rattle.plain_pages.specs.References.{in_map, settled}
+use Rattle.plain_pages.specs.References.{in_map, next_making, settled}
 use Rattle.share_table.specs.Shares.{Shares}
 use Rattle.pager_walk.specs.declared.chain_walk.Way.{Way}
 use Rattle.pager_walk.specs.declared.chain_walk.Walked.TheVariants.{Along}
@@ -45,11 +45,11 @@ use Rattle.slot_paged.proofs.FileTold.{filed_told}
 use Rattle.slot_paged.proofs.FiledDone.{filed_ages, filed_at, filed_count, filed_forks, filed_here, filed_lives, filed_loses, filed_most, filed_near, filed_one, filed_scene, filed_serial, filed_serials}
 use Rattle.slot_paged.proofs.Homed.{flat_pages}
 use Rattle.slot_paged.proofs.MadeDone.{made_ages, made_count, made_files, made_forks, made_here, made_lives, made_loses, made_most, made_near, made_room, made_scene, made_serial, made_serials, made_sets}
+use Rattle.slot_paged.proofs.MapsSet.{copy_map, file_map, zero_map}
 use Rattle.slot_paged.proofs.MemoryWays.{copy_none, memory_announced, memory_way}
 use Rattle.slot_paged.proofs.Places.{fits_places}
 use Rattle.slot_paged.proofs.RenamedDone.{renamed_ages, renamed_count, renamed_files, renamed_forks, renamed_here, renamed_lives, renamed_loses, renamed_most, renamed_near, renamed_scene, renamed_serial, renamed_serials, renamed_sets}
 use Rattle.slot_paged.proofs.SettledTouches.{IsCopy, IsZero, copied_ready, is_copy, is_zero, only_write, permitted, zero_then}
-use Rattle.slot_paged.proofs.UsedPlaces.{one_age}
 use Rattle.slot_paged.proofs.WalksSet.{Copied, marked, walk_copied, walk_filled}
 use Rattle.slot_paged.proofs.ZeroPages.{zero_told}
 
@@ -82,7 +82,6 @@ module _ {S : Type 0} (store : StoreMeaning S) (old new : S) (b b' : Beside) (ke
       let is : touch ≡ Zero = touch_is ∙ zero.is in
       let sets = made_sets store old new b b' kept kept' pages owner own w.end stands.end zero_words full_access b.tables.shares z in
       let near = made_near store old new b b' kept kept' pages owner own w.end stands.end zero_words full_access b.tables.shares z in
-      let ages = made_ages store old new b b' kept kept' pages owner own w.end stands.end zero_words full_access b.tables.shares z in
       let filled : walk_at b'.tables (store.homes new) s ≡ Along (record w { home = Some z.home }) = walk_filled b.tables b'.tables places (store.homes new) w.end z.home full_access sets refl (stands.empty none) s w (sym walks) refl in
       record {
         told = λ d fits. zero_told store old new b b' kept pages pages' s kind owner own lives within w walks stands none zero.is zero.room z d fits;
@@ -95,8 +94,9 @@ module _ {S : Type 0} (store : StoreMeaning S) (old new : S) (b b' : Beside) (ke
           home = z.home;
           stands = ap homed_along filled;
           here = made_here store old new b b' kept kept' pages owner own w.end stands.end zero_words full_access b.tables.shares z;
-          youngest = ages.youngest;
-          others = ages.others;
+          fork = Some w.end.fork;
+          set = λ d fits. zero_map b places kept pages s kind owner own lives within w walks stands frames ready d fits none;
+          ages = made_ages store old new b b' kept kept' pages owner own w.end stands.end zero_words full_access b.tables.shares z;
         };
         filed = made_files store old new b b' kept kept' pages owner own w.end stands.end zero_words full_access b.tables.shares z;
         ready = λ h r at. absurd (let no : Zero ≡ Ready = sym is ∙ r in cc no);
@@ -133,7 +133,6 @@ module _ {S : Type 0} (store : StoreMeaning S) (old new : S) (b b' : Beside) (ke
         let near_slot = stands.copy m k.1 in
         let is : touch ≡ Copy false = touch_is ∙ copy.is ∙ ap Copy shared in
         let sets = made_sets store old new b b' kept kept' pages owner own m near_slot words access shares z in
-        let ages = made_ages store old new b b' kept kept' pages owner own m near_slot words access shares z in
         let c : Copied (walk_at b'.tables (store.homes new) s) z.home = walk_copied b.tables b'.tables places (store.homes new) m z.home access sets refl refl (marked b.tables places s w m (sym walks) k.1) s w (sym walks) k.1 writes in
         record {
           told = λ d fits. copy_told store old new b b' kept pages pages' s kind owner own lives within w walks stands h home m some shared words old_words ready (copy.room shared) near_slot z d fits;
@@ -146,8 +145,9 @@ module _ {S : Type 0} (store : StoreMeaning S) (old new : S) (b b' : Beside) (ke
             home = z.home;
             stands = ap homed_along c.is ∙ ap homed c.home;
             here = made_here store old new b b' kept kept' pages owner own m near_slot words access shares z;
-            youngest = ages.youngest;
-            others = ages.others;
+            fork = Some m.fork;
+            set = λ d fits. copy_map b places kept pages s kind owner own lives within w walks stands frames ready d fits h m home some;
+            ages = made_ages store old new b b' kept kept' pages owner own m near_slot words access shares z;
           };
           filed = made_files store old new b b' kept kept' pages owner own m near_slot words access shares z;
           ready = λ g r at. absurd (let no : Copy false ≡ Ready = sym is ∙ r in cc no);
@@ -167,7 +167,6 @@ module _ {S : Type 0} (store : StoreMeaning S) (old new : S) (b b' : Beside) (ke
         let near_slot = stands.copy m k.1 in
         let is : touch ≡ Copy true = touch_is ∙ copy.is ∙ ap Copy alone in
         let sets = renamed_sets store old new b b' kept kept' pages owner own m near_slot h one words old_words access z in
-        let ages = renamed_ages store old new b b' kept kept' pages owner own m near_slot h one words old_words access z in
         let c : Copied (walk_at b'.tables (store.homes new) s) h = walk_copied b.tables b'.tables places (store.homes new) m h access sets refl refl (marked b.tables places s w m (sym walks) k.1) s w (sym walks) k.1 writes in
         record {
           told = λ d fits. alone_settled_told store old new b b' kept pages s kind owner own lives within w walks stands h home m some alone words old_words ready near_slot z d fits;
@@ -180,8 +179,9 @@ module _ {S : Type 0} (store : StoreMeaning S) (old new : S) (b b' : Beside) (ke
             home = h;
             stands = ap homed_along c.is ∙ ap homed c.home;
             here = renamed_here store old new b b' kept kept' pages owner own m near_slot h one words old_words access z;
-            youngest = ages.youngest;
-            others = ages.others;
+            fork = Some m.fork;
+            set = λ d fits. copy_map b places kept pages s kind owner own lives within w walks stands frames ready d fits h m home some;
+            ages = renamed_ages store old new b b' kept kept' pages owner own m near_slot h one words old_words access z;
           };
           filed = renamed_files store old new b b' kept kept' pages owner own m near_slot h one words old_words access z;
           ready = λ g r at. absurd (let no : Copy true ≡ Ready = sym is ∙ r in cc no);
@@ -196,7 +196,8 @@ module _ {S : Type 0} (store : StoreMeaning S) (old new : S) (b b' : Beside) (ke
 -- the page is there, and was used
 module _ {S : Type 0} (store : StoreMeaning S) (old new : S) (b : Beside) (kept : AreKept b (store.homes old)) (pages : ArePages (store.homes old)) (at : Place) (kind : Kind) (owner : Tty) (own : IsOwner owner) (h : Home)
     (is : touched_over b (store.homes old) (store.spare old) at kind ≡ Ready) (there : homed_over b (store.homes old) at ≡ At h) (here_is : is_here (place (store.homes old) h.0) ≡ true) (used : IsUsed store h.0 old new) (homes : store.homes new ≡ store.homes old)
-    (told : (d : DrumWords) → FitsPages b (store.homes old) d → plain_over b (store.homes old) d ≡ settled (plain_over b (store.homes old) d) (spot_of at) kind owner) where
+    (told : (d : DrumWords) → FitsPages b (store.homes old) d → plain_over b (store.homes old) d ≡ settled (plain_over b (store.homes old) d) (spot_of at) kind owner)
+    (set : (d : DrumWords) → FitsPages b (store.homes old) d → None ≡ map_set (next_making (plain_over b (store.homes old) d) (spot_of at) kind)) where
   touch_same : touched_over b (store.homes new) (store.spare new) at kind ≡ touched_over b (store.homes old) (store.spare old) at kind
   touch_same = λ i. touched_over b (homes i) (used.framed.spare i) at kind
 
@@ -208,8 +209,7 @@ module _ {S : Type 0} (store : StoreMeaning S) (old new : S) (b : Beside) (kept 
       by (File f page) = refl
 
   pub used_done : SettlesPlace store old new b b at kind owner
-  used_done =
-      let ages = one_age store b old new h.0 used.ages in record {
+  used_done = record {
         told = λ d fits. (subst (λ (ps : List HomePlace). FitsPages b ps d) (sym homes) fits, ap (λ ps. plain_over b ps d) homes ∙ told d fits);
         settles = subst (λ (x : Touch). SettlesTo x (touched_over b (store.homes new) (store.spare new) at kind)) (sym is) (touch_same ∙ is);
         scene = subst (λ (x : Touch). TakesFrames (scene_over b (store.homes old) (store.spare old)) (scene_over b (store.homes new) (store.spare new)) (frames_taken x)) (sym is) (record {
@@ -219,7 +219,7 @@ module _ {S : Type 0} (store : StoreMeaning S) (old new : S) (b : Beside) (kept 
         });
         count = subst (λ (x : Touch). b.taken + b.living ≡ b.taken + b.living + frames_taken x) (sym is) (omega arith);
         loses = loses_used store old new h.0 used;
-        uses = record { home = h; stands = ap (λ ps. homed_over b ps at) homes ∙ there; here = ap (λ ps. is_here (place ps h.0)) homes ∙ here_is; youngest = ages.youngest; others = ages.others };
+        uses = record { home = h; stands = ap (λ ps. homed_over b ps at) homes ∙ there; here = ap (λ ps. is_here (place ps h.0)) homes ∙ here_is; fork = None; set = set; ages = used_one store old new h.0 used };
         filed = filed_same (touched_over b (store.homes old) (store.spare old) at kind) is;
         ready = λ g r stands. (let same : h ≡ g = (let z : At h ≡ At g = sym there ∙ stands in cc z) in subst (λ (x : Home). IsUsed store x.0 old new) same used);
         still = λ r. (refl, homes);
@@ -239,8 +239,7 @@ module _ {S : Type 0} (store : StoreMeaning S) (old new : S) (b b' : Beside) (ke
       ∙ ap (λ o. absent_or o Ready) (filed_near store old new b b' kept kept' owner own (file_page file.0 page) z)
 
   pub filed_done : SettlesPlace store old new b b' (File file page) kind owner
-  filed_done =
-      let ages = filed_ages store old new b b' kept kept' owner own (file_page file.0 page) z in record {
+  filed_done = record {
         told = λ d fits. filed_told store old new b b' kept pages pages' file page bounds kind owner own none (ap can_settle is) room z d fits;
         settles = subst (λ (x : Touch). SettlesTo x (touched_over b' (store.homes new) (store.spare new) (File file page) kind)) (sym is) (inl ready_then);
         scene = subst (λ (x : Touch). TakesFrames (scene_over b (store.homes old) (store.spare old)) (scene_over b' (store.homes new) (store.spare new)) (frames_taken x)) (sym is) (filed_scene store old new b b' kept kept' owner own (file_page file.0 page) z);
@@ -250,8 +249,9 @@ module _ {S : Type 0} (store : StoreMeaning S) (old new : S) (b b' : Beside) (ke
           home = z.home;
           stands = ap homed (filed_at store old new b b' kept kept' owner own (file_page file.0 page) z);
           here = filed_here store old new b b' kept kept' owner own (file_page file.0 page) z;
-          youngest = ages.youngest;
-          others = ages.others;
+          fork = None;
+          set = λ d fits. file_map (plain_over b (store.homes old) d) (file_page file.0 page) kind;
+          ages = filed_ages store old new b b' kept kept' owner own (file_page file.0 page) z;
         };
         filed = subst (FilesSettled b b' (File file page)) (sym is) (filed_one store old new b b' kept kept' owner own (file_page file.0 page) z);
         ready = λ h r at. absurd (let no : Zero ≡ Ready = sym is ∙ r in cc no);

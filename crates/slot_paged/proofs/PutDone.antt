@@ -7,7 +7,7 @@ use Rattle.machine_names.specs.declared.names.Slot.{Slot}
 use Rattle.page_contracts.specs.DrumWords.{DrumWords}
 use Rattle.page_contracts.specs.Pages.{Scene, StaysInCore}
 use Rattle.page_contracts.specs.Stores.{HomePlace, StoreMeaning, away_at, content}
-use Rattle.page_contracts.proofs.Losing.{loses_used}
+use Rattle.page_contracts.proofs.Losing.{loses_used, used_there}
 use Rattle.plain_pages.specs.References.{with_entry as entry_put}
 use Rattle.share_table.specs.declared.pointer.Pointer.{Pointer}
 use Rattle.share_table.specs.Pointers.{IsPointer, pointer_word}
@@ -32,8 +32,9 @@ use Rattle.slot_paged.specs.NameCounts.{counts}
 use Rattle.slot_paged.specs.PagedPlaces.{page_places}
 use Rattle.slot_paged.specs.PagedTables.{Beside, AreKept, FitsPages, in_memory_over, plain_over}
 use Rattle.slot_paged.specs.PagedTouches.{scene_over}
-use Rattle.slot_paged.specs.PlacesSettled.{filed_over}
+use Rattle.slot_paged.specs.PagedSlots.{filed_over}
 use Rattle.slot_paged.specs.SetEntries.{PutsPointer, SetsSlot, UsesMapOf}
+use Rattle.slot_paged.proofs.UsedPlaces.{uses_map}
 use Rattle.slot_paged.proofs.EntryLooks.{sets_one}
 use Rattle.slot_paged.proofs.EntryPut.{Held, held_at, memory_put, pages_put}
 use Rattle.slot_paged.proofs.SlotTold.{slot_told}
@@ -81,10 +82,7 @@ module _ {S : Type 0} (store : StoreMeaning S) (old new : S) (b b' : Beside) (ke
       })
 
   uses_maps : UsesMapOf store old new b' at.fork
-  uses_maps frame there none = record {
-    tenant = ap (λ (t : ℕ → Option ℕ). t frame) z.used.framed.tenant;
-    age = z.used.ages.others frame (λ is. none z.number (ap (λ (x : Beside). index_of x.tables.maps at.fork) z.beside ∙ z.numbered) (is ∙ ap (λ (x : Beside). Some (root_at x.tables.maps z.number).0) (sym z.beside)));
-  }
+  uses_maps = uses_map store old new b b' at.fork z.number z.numbered (ap (λ (x : Beside). x.tables.maps) z.beside) (used_there store old new root z.used)
 
   -- over the words of a drum that fits: the counts may be others
   module _ (d : DrumWords) (fits : FitsPages b places d) where

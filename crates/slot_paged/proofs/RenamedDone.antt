@@ -30,13 +30,14 @@ use Rattle.slot_paged.specs.MadePages.{RenamesPage, pointer_to}
 use Rattle.slot_paged.specs.PagedMeaning.{forks_in, lives_in}
 use Rattle.slot_paged.specs.PagedTables.{Beside, AreKept}
 use Rattle.slot_paged.specs.PagedTouches.{has_one_name, names_at, scene_over}
-use Rattle.slot_paged.specs.PlacesSettled.{filed_over}
+use Rattle.slot_paged.specs.PagedSlots.{filed_over}
+use Rattle.slot_paged.specs.PlacesSettled.{UsesBoth}
 use Rattle.slot_paged.proofs.EntryLooks.{SetsOne, sets_one}
 use Rattle.slot_paged.proofs.EntryPut.{put_places}
 use Rattle.slot_paged.proofs.RenamedPages.{names', one_named, pointer_fits, pointer_names, some_still, tables'}
 use Rattle.slot_paged.proofs.StillScenes.{away_put, still_scene}
 use Rattle.slot_paged.proofs.Touched.{named_apart}
-use Rattle.slot_paged.proofs.UsedPlaces.{PlaceAges, two_ages}
+use Rattle.slot_paged.proofs.UsedPlaces.{used_both, uses_both}
 
 -- no file names a page that has one name, which is no file's
 pub one_unfiled : (b : Beside) (h : ℕ) → has_one_name b h ≡ true → share_of b.filed h ≡ 0
@@ -116,12 +117,8 @@ module _ {S : Type 0} (store : StoreMeaning S) (old new : S) (b b' : Beside) (ke
   pub renamed_loses : Loses (traffic store old) (traffic store new)
   renamed_loses = loses_on (traffic store old) (traffic store z.mid) (traffic store new) (loses_used store old z.mid h.0 z.page_used) (loses_used store z.mid new root z.used)
 
-  pub renamed_ages : PlaceAges store old new b' h.0
-  renamed_ages = ages b' (ap (λ (x : Beside). x.tables.maps) z.beside)
-    where
-      ages : (y : Beside) → y.tables.maps ≡ b.tables.maps → PlaceAges store old new y h.0
-      ages y same = two_ages store y old z.mid new h.0 z.number at.fork z.page_used.ages (subst (λ ms. IsUsed store (root_at ms z.number).0 z.mid new) (sym same) z.used) (ap (λ ms. fork_at ms z.number) same ∙ own_fork)
-          (λ e. apart (ap (λ ms. (root_at ms z.number).0) (sym same) ∙ e))
+  pub renamed_ages : UsesBoth store old new b' h.0 (Some at.fork)
+  renamed_ages = uses_both store old new b b' at.fork z.number z.numbered (ap (λ (x : Beside). x.tables.maps) z.beside) h.0 (used_both store old z.mid new h.0 root z.used z.page_used)
 
   pub renamed_files : filed_over b' ≡ filed_over b
   renamed_files =

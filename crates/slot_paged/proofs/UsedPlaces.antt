@@ -1,39 +1,59 @@
--- The ages of frames once a page was used or made, and then an entry was set.
-use Rattle.std.proofs.Common.{◌≡◌, ◌≢◌, ◌⊎◌, inl, inr, ℕ, ◌<◌, Option, Some, sym, ◌∙◌, ap, subst, arith}
-use Rattle.std.specs.Prelude.{IsSome}
+-- The pages that are used where a page is made or used, and where an entry is set.
+use Rattle.std.proofs.Common.{◌≡◌, ℕ, List, Option, None, Some, refl, sym, ◌∙◌, ap, subst}
+use Rattle.std.specs.Prelude.{IsSome, MatchOption}
+use Rattle.std.specs.Option.{option_map}
 use Rattle.machine_names.specs.declared.names.ForkName.{ForkName}
-use Rattle.page_contracts.specs.Stores.{IsUsed, LAST_USE, Renews, StoreMeaning}
-use Rattle.pager_walk.specs.MapPages.{fork_at, root_at}
+use Rattle.page_contracts.specs.Stores.{HomePlace, IsMade, IsUsed, KeepsFrame, RenewsBoth, RenewsNone, RenewsOne, RenewsThere, StoreMeaning, traffic}
+use Rattle.page_contracts.proofs.Losing.{made_one, none_on, there_again, used_one, used_there}
+use Rattle.pager_walk.specs.declared.map_pages.MapPage.{MapPage}
+use Rattle.pager_walk.specs.MapPages.{index_of, root_at}
+use Rattle.slot_paged.specs.EndedForks.{KeepsOthers}
+use Rattle.slot_paged.specs.PagedSlots.{map_home_over}
 use Rattle.slot_paged.specs.PagedTables.{Beside}
-use Rattle.slot_paged.specs.PlacesSettled.{HasNoMap}
+use Rattle.slot_paged.specs.PlacesSettled.{UsesBoth}
+use Rattle.slot_paged.specs.SetEntries.{UsesMapOf}
 
-pub record PlaceAges {S : Type 0} (store : StoreMeaning S) (old new : S) (b : Beside) (home : ℕ) : Type 0 where
-  pub youngest : (frame other : ℕ) → store.tenant new frame ≡ Some home → other ≢ frame → IsSome (store.tenant new other) → HasNoMap store new b other → (store.age new other < store.age new frame) ⊎ (store.age new frame ≡ LAST_USE)
-  pub others : (frame : ℕ) → (store.tenant new frame ≡ Some home → ⊥) → HasNoMap store new b frame → store.age new frame ≡ store.age old frame
+-- a page was made or used, and then another was used
+module _ {S : Type 0} (store : StoreMeaning S) (old mid new : S) (home next : ℕ) (then : IsUsed store next mid new) where
+  pub made_both : (page : HomePlace) → IsMade store home page old mid → RenewsBoth home next (traffic store old) (traffic store new)
+  made_both page made = record { between = traffic store mid; first = made_one store old mid home page made; second = used_there store mid new next then }
 
-module _ {S : Type 0} (store : StoreMeaning S) (b : Beside) where
-  -- a page was used or made
-  pub one_age : (old new : S) (home : ℕ) → Renews home (store.tenant new) (store.age old) (store.age new) → PlaceAges store old new b home
-  one_age old new home r = record { youngest = λ frame other at ne there none. r.youngest frame other at ne there; others = λ frame not none. r.others frame not }
+  pub used_both : IsUsed store home old mid → RenewsBoth home next (traffic store old) (traffic store new)
+  used_both used = record { between = traffic store mid; first = used_one store old mid home used; second = used_there store mid new next then }
 
-  -- and then the page of a map
-  pub two_ages : (old mid new : S) (home k : ℕ) (f : ForkName) → Renews home (store.tenant mid) (store.age old) (store.age mid) → IsUsed store (root_at b.tables.maps k).0 mid new → fork_at b.tables.maps k ≡ Some f → (root_at b.tables.maps k).0 ≢ home
-      → PlaceAges store old new b home
-  two_ages old mid new home k f r used is apart = record {
-    youngest = λ frame other at ne there none. younger frame other at (none k f is) (r.youngest frame other (before frame at) ne (subst IsSome (same other) there));
-    others = λ frame not none. used.ages.others frame (none k f is) ∙ r.others frame (λ at. not (same frame ∙ at));
-  }
+home_same : (b b' : Beside) (fork : ForkName) → b'.tables.maps ≡ b.tables.maps → map_home_over b' fork ≡ map_home_over b fork
+home_same b b' fork maps = ap (λ (ms : List MapPage). option_map (λ k. (root_at ms k).0) (index_of ms fork)) maps
+
+-- that is the page of a fork's map
+module _ {S : Type 0} (store : StoreMeaning S) (old new : S) (b b' : Beside) (fork : ForkName) (k : ℕ) (numbered : index_of b.tables.maps fork ≡ Some k) (maps : b'.tables.maps ≡ b.tables.maps) where
+  there : map_home_over b' fork ≡ Some (root_at b.tables.maps k).0
+  there = home_same b b' fork maps ∙ ap (option_map (λ j. (root_at b.tables.maps j).0)) numbered
+
+  pub uses_map : RenewsThere (root_at b.tables.maps k).0 (traffic store old) (traffic store new) → UsesMapOf store old new b' fork
+  uses_map u = subst (λ (o : Option ℕ). MatchOption o (RenewsNone (traffic store old) (traffic store new)) (λ home. RenewsThere home (traffic store old) (traffic store new))) (sym there) u
+
+  pub uses_both : (home : ℕ) → RenewsBoth home (root_at b.tables.maps k).0 (traffic store old) (traffic store new) → UsesBoth store old new b' home (Some fork)
+  uses_both home u = subst (λ (o : Option ℕ). MatchOption o (RenewsOne home (traffic store old) (traffic store new)) (λ next. RenewsBoth home next (traffic store old) (traffic store new))) (sym there) u
+
+-- a map was used, and then used again
+module _ {S : Type 0} (store : StoreMeaning S) (old mid new : S) (b b' : Beside) (fork : ForkName) (maps : b'.tables.maps ≡ b.tables.maps) where
+  pub uses_again : UsesMapOf store old mid b fork → UsesMapOf store mid new b' fork → UsesMapOf store old new b' fork
+  uses_again first = by (map_home_over b' fork) (subst (λ (o : Option ℕ). Uses o old mid) (sym (home_same b b' fork maps)) first)
     where
-      same : (frame : ℕ) → store.tenant new frame ≡ store.tenant mid frame
-      same frame = ap (λ (t : ℕ → Option ℕ). t frame) used.framed.tenant
+      Uses : Option ℕ → S → S → Type 0
+      Uses o s t = MatchOption o (RenewsNone (traffic store s) (traffic store t)) (λ home. RenewsThere home (traffic store s) (traffic store t))
 
-      before : (frame : ℕ) → store.tenant new frame ≡ Some home → store.tenant mid frame ≡ Some home
-      before frame at = sym (same frame) ∙ at
+      by : (o : Option ℕ) → Uses o old mid → Uses o mid new → Uses o old new
+      by None u v = none_on (traffic store old) (traffic store mid) (traffic store new) u v
+      by (Some home) u v = there_again (traffic store old) (traffic store mid) (traffic store new) home u v
 
-      own : (frame : ℕ) → store.tenant new frame ≡ Some home → store.tenant new frame ≡ Some (root_at b.tables.maps k).0 → ⊥
-      own frame at root = (let z : Some (root_at b.tables.maps k).0 ≡ Some home = sym root ∙ at in apart (cc z))
-
-      younger : (frame other : ℕ) → store.tenant new frame ≡ Some home → (store.tenant new other ≡ Some (root_at b.tables.maps k).0 → ⊥) → (store.age mid other < store.age mid frame) ⊎ (store.age mid frame ≡ LAST_USE)
-          → (store.age new other < store.age new frame) ⊎ (store.age new frame ≡ LAST_USE)
-      younger frame other at none (inl less) = inl (omega (arith, less, used.ages.others frame (own frame at), used.ages.others other none))
-      younger frame other at none (inr last) = inr (used.ages.others frame (own frame at) ∙ last)
+  -- each other frame keeps what it has
+  pub others_again : KeepsOthers store old mid b fork → UsesMapOf store mid new b' fork → KeepsOthers store old new b' fork
+  others_again first then frame some none =
+      let k = others_keep (map_home_over b' fork) refl then in
+      let j = first frame (subst IsSome k.tenant some) (λ home is tenant. none home (home_same b b' fork maps ∙ is) (k.tenant ∙ tenant)) in
+      record { tenant = k.tenant ∙ j.tenant; age = k.age ∙ j.age }
+    where
+      others_keep : (o : Option ℕ) → map_home_over b' fork ≡ o → MatchOption o (RenewsNone (traffic store mid) (traffic store new)) (λ home. RenewsThere home (traffic store mid) (traffic store new)) → KeepsFrame (traffic store mid) (traffic store new) frame
+      others_keep None is u = u frame some
+      others_keep (Some home) is u = u.ages.others frame some (none home is)

@@ -1,9 +1,8 @@
 -- What a page of a place that is settled leaves.
-use Rattle.std.specs.Prelude.{◌≡◌, ◌≢◌, ◌⊎◌, ℕ, ◌+◌, ◌<◌, ◌≤◌, Bool, true, IsSome, Option, Some, is_some}
-use Rattle.std.specs.FinMap as map
+use Rattle.std.specs.Prelude.{◌≡◌, ◌≢◌, ℕ, ◌+◌, ◌≤◌, Bool, true, MatchOption, Option, is_some}
+use Rattle.std.specs.Option.{option_and_then}
 use Rattle.machine_names.specs.declared.names.ForkName.{ForkName}
 use Rattle.machine_names.specs.declared.names.Kind.{Kind}
-use Rattle.machine_names.specs.declared.names.PageName.{PageName}
 use Rattle.machine_names.specs.declared.names.Place.{Place}
 use Rattle.machine_names.specs.declared.names.Place.TheVariants.{File}
 use Rattle.machine_names.specs.declared.names.Tty.{Tty}
@@ -12,21 +11,20 @@ use Rattle.page_homes.specs.declared.homes.Home.{Home}
 use Rattle.page_contracts.specs.declared.answers.Touch.{Touch}
 use Rattle.page_contracts.specs.declared.answers.Touch.TheVariants.{Ready, Zero}
 use Rattle.page_contracts.specs.DrumWords.{DrumWords}
-use Rattle.page_contracts.specs.Pages.{SettlesTo, TakesFrames, frames_taken, spot_of}
-use Rattle.page_contracts.specs.Stores.{IsUsed, LAST_USE, Loses, StoreMeaning, is_here, place, traffic}
-use Rattle.plain_pages.specs.References.{settled}
+use Rattle.page_contracts.specs.Pages.{SettlesTo, TakesFrames, frames_taken, map_set, spot_of}
+use Rattle.page_contracts.specs.Stores.{IsUsed, Loses, RenewsBoth, RenewsOne, StoreMeaning, is_here, place, traffic}
+use Rattle.plain_pages.specs.References.{next_making, settled}
 use Rattle.flat_pages.specs.Serials.{serial_of}
-use Rattle.flat_pages.specs.SlotTables.{files_held}
-use Rattle.pager_walk.specs.MapPages.{fork_at, root_at}
 use Rattle.slot_paged.specs.declared.page_home.PageHome.TheVariants.{At}
 use Rattle.slot_paged.specs.PageHomes.{homed_over}
 use Rattle.slot_paged.specs.PagedMeaning.{forks_in, lives_in}
+use Rattle.slot_paged.specs.PagedSlots.{filed_over, map_home_over}
 use Rattle.slot_paged.specs.PagedTables.{Beside, FitsPages, plain_over}
 use Rattle.slot_paged.specs.PagedTouches.{scene_over, touched_over}
 
--- what files name
-abbrev pub filed_over : Beside → FilePage ℕ → Option PageName
-filed_over b = map.get (files_held b.tables.names b.files)
+-- a home's page was used or made, and then the map of a fork, if of one
+abbrev pub UsesBoth : {S : Type 0} → StoreMeaning S → S → S → Beside → ℕ → Option ForkName → Type 0
+UsesBoth store old new b home fork = MatchOption (option_and_then (map_home_over b) fork) (RenewsOne home (traffic store old) (traffic store new)) (λ next. RenewsBoth home next (traffic store old) (traffic store new))
 
 -- one page of a file was set: each other page of a file names what it named
 pub record FilesOnePage (b b' : Beside) (f : FilePage ℕ) (named : Bool) : Type 0 where
@@ -38,17 +36,14 @@ abbrev pub FilesSettled : Beside → Beside → Place → Touch → Type 0
 FilesSettled b b' (File f page) Zero = FilesOnePage b b' (file_page f.0 page) true
 FilesSettled b b' at t = filed_over b' ≡ filed_over b
 
--- a frame has no fork's map
-abbrev pub HasNoMap : {S : Type 0} → StoreMeaning S → S → Beside → ℕ → Type 0
-HasNoMap store s b frame = (k : ℕ) (f : ForkName) → fork_at b.tables.maps k ≡ Some f → store.tenant s frame ≡ Some (root_at b.tables.maps k).0 → ⊥
-
--- the page of a place, which is in a frame, was used or made; each other frame has its age, but those of maps, in one of which an entry may have been set
-pub record UsesPlace {S : Type 0} (store : StoreMeaning S) (old new : S) (b' : Beside) (at : Place) : Type 0 where
+-- The page of a place, which is in a frame, was used or made; and then the map of a fork, in which an entry was set to what was made.
+pub record UsesPlace {S : Type 0} (store : StoreMeaning S) (old new : S) (b b' : Beside) (at : Place) (kind : Kind) : Type 0 where
   pub home : Home
   pub stands : homed_over b' (store.homes new) at ≡ At home
   pub here : is_here (place (store.homes new) home.0) ≡ true
-  pub youngest : (frame other : ℕ) → store.tenant new frame ≡ Some home.0 → other ≢ frame → IsSome (store.tenant new other) → HasNoMap store new b' other → (store.age new other < store.age new frame) ⊎ (store.age new frame ≡ LAST_USE)
-  pub others : (frame : ℕ) → (store.tenant new frame ≡ Some home.0 → ⊥) → HasNoMap store new b' frame → store.age new frame ≡ store.age old frame
+  pub fork : Option ForkName
+  pub set : (d : DrumWords) → FitsPages b (store.homes old) d → fork ≡ map_set (next_making (plain_over b (store.homes old) d) (spot_of at) kind)
+  pub ages : UsesBoth store old new b' home.0 fork
 
 -- the zero page or the copy was made that a touch announces, for an owner, or the page was used that it finds ready
 pub record SettlesPlace {S : Type 0} (store : StoreMeaning S) (old new : S) (b b' : Beside) (at : Place) (kind : Kind) (owner : Tty) : Type 0 where
@@ -57,7 +52,7 @@ pub record SettlesPlace {S : Type 0} (store : StoreMeaning S) (old new : S) (b b
   pub scene : TakesFrames (scene_over b (store.homes old) (store.spare old)) (scene_over b' (store.homes new) (store.spare new)) (frames_taken (touched_over b (store.homes old) (store.spare old) at kind))
   pub count : b'.taken + b'.living ≡ b.taken + b.living + frames_taken (touched_over b (store.homes old) (store.spare old) at kind)
   pub loses : Loses (traffic store old) (traffic store new)
-  pub uses : UsesPlace store old new b' at
+  pub uses : UsesPlace store old new b b' at kind
   pub filed : FilesSettled b b' at (touched_over b (store.homes old) (store.spare old) at kind)
   pub ready : (h : Home) → touched_over b (store.homes old) (store.spare old) at kind ≡ Ready → homed_over b (store.homes old) at ≡ At h → IsUsed store h.0 old new
   pub still : touched_over b (store.homes old) (store.spare old) at kind ≡ Ready → (b' ≡ b) × (store.homes new ≡ store.homes old)

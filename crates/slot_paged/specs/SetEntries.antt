@@ -1,12 +1,12 @@
 -- What setting an entry leaves.
-use Rattle.std.specs.Prelude.{◌≡◌, ℕ, ◌-◌, ◌<◌, List, Option, None, Some, IsSome, if◌then◌else◌, slice_set}
+use Rattle.std.specs.Prelude.{◌≡◌, ℕ, ◌-◌, ◌<◌, List, MatchOption, Option, None, Some, if◌then◌else◌, slice_set}
 use Rattle.machine_names.specs.declared.names.Access.{Access}
 use Rattle.machine_names.specs.declared.names.ForkName.{ForkName}
 use Rattle.machine_names.specs.declared.names.Slot.{Slot}
 use Rattle.page_homes.specs.declared.homes.Home.{Home}
 use Rattle.page_contracts.specs.DrumWords.{DrumWords}
 use Rattle.page_contracts.specs.Pages.{StaysInCore}
-use Rattle.page_contracts.specs.Stores.{IsFreed, IsUsed, KeepsFrame, Loses, StoreMeaning, place, traffic, with_word_in}
+use Rattle.page_contracts.specs.Stores.{IsFreed, IsUsed, Loses, RenewsNone, RenewsThere, StoreMeaning, place, traffic, with_word_in}
 use Rattle.plain_pages.specs.declared.map.NewEntry.{NewEntry}
 use Rattle.plain_pages.specs.Maps.{narrowed}
 use Rattle.plain_pages.specs.NewEntries.{changed}
@@ -28,7 +28,7 @@ use Rattle.slot_paged.specs.NameCounts.{share_at}
 use Rattle.slot_paged.specs.PagedMeaning.{forks_in, lives_in}
 use Rattle.slot_paged.specs.PagedTables.{Beside, FitsPages, plain_over}
 use Rattle.slot_paged.specs.PagedTouches.{has_one_name, scene_over}
-use Rattle.slot_paged.specs.PlacesSettled.{filed_over}
+use Rattle.slot_paged.specs.PagedSlots.{filed_over, map_home_over}
 
 -- the home of the page that an entry alone names
 abbrev pub alone_home : Beside → Looked → Option Home
@@ -97,10 +97,9 @@ pub record FreesPage {S : Type 0} (store : StoreMeaning S) (old new : S) (b b' :
   pub used : IsUsed store (root_at b.tables.maps number).0 mid new
   pub beside : b' ≡ page_freed b home
 
--- no frame has another page, nor another age, but those whose page is gone, and that of a fork's map, in which an entry may have been set
+-- no page was used, or came into a frame, but the map of a fork; pages may have been given up
 abbrev pub UsesMapOf : {S : Type 0} → StoreMeaning S → S → S → Beside → ForkName → Type 0
-UsesMapOf store old new b fork =
-    (frame : ℕ) → IsSome (store.tenant new frame) → ((k : ℕ) → index_of b.tables.maps fork ≡ Some k → store.tenant new frame ≡ Some (root_at b.tables.maps k).0 → ⊥) → KeepsFrame (traffic store old) (traffic store new) frame
+UsesMapOf store old new b fork = MatchOption (map_home_over b fork) (RenewsNone (traffic store old) (traffic store new)) (λ home. RenewsThere home (traffic store old) (traffic store new))
 
 -- An entry was set: what no entry names any more was given up, and nothing has left its frame.
 pub record SetsSlot {S : Type 0} (store : StoreMeaning S) (old new : S) (b b' : Beside) (at : Slot) (e : PagedEntry) : Type 0 where

@@ -142,7 +142,7 @@ impl<S: Store> SlotPaged<S> {
     ghost use Rattle.slot_paged.specs.PagedMeaning.{forks_in, lives_in};
     ghost use Rattle.slot_paged.specs.PagedTables.{FitsPages, beside_of, plain_over};
     ghost use Rattle.slot_paged.specs.PagedTouches.{scene_over};
-    ghost use Rattle.slot_paged.specs.PlacesSettled.{filed_over};
+    ghost use Rattle.slot_paged.specs.PagedSlots.{filed_over};
     ghost use Rattle.slot_paged.specs.SetEntries.{ChangesEntry, UsesMapOf};
 
     // An entry is set anew that a look finds.

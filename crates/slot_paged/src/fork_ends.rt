@@ -24,7 +24,7 @@ impl<S: Store> SlotPaged<S> {
     ghost use Rattle.slot_paged.specs.PagedMeaning.{forks_in, lives_in};
     ghost use Rattle.slot_paged.specs.PagedTables.{FitsPages, beside_of, plain_over};
     ghost use Rattle.slot_paged.specs.PagedTouches.{scene_over};
-    ghost use Rattle.slot_paged.specs.PlacesSettled.{filed_over};
+    ghost use Rattle.slot_paged.specs.PagedSlots.{filed_over};
 
     // Each entry of a fork's map is emptied. Pages that lose their last name are given up.
     fn empty_map(&mut self, fork: ForkName)

@@ -207,7 +207,7 @@ impl<S: Store> SlotPaged<S> {
             (frames_taken (touched_over (beside_of self.old.tables) (S.means.homes self.old.store) (S.means.spare self.old.store) at kind)) }
         ensures count { self.new.tables.taken + self.new.tables.living ≡ self.old.tables.taken + self.old.tables.living + frames_taken (touched_over (beside_of self.old.tables) (S.means.homes self.old.store) (S.means.spare self.old.store) at kind) }
         ensures loses { Loses (traffic S.means self.old.store) (traffic S.means self.new.store) }
-        ensures uses { UsesPlace S.means self.old.store self.new.store (beside_of self.new.tables) at }
+        ensures uses { UsesPlace S.means self.old.store self.new.store (beside_of self.old.tables) (beside_of self.new.tables) at kind }
         ensures filed { FilesSettled (beside_of self.old.tables) (beside_of self.new.tables) at (touched_over (beside_of self.old.tables) (S.means.homes self.old.store) (S.means.spare self.old.store) at kind) }
         ensures ready { (h : AHome) → touched_over (beside_of self.old.tables) (S.means.homes self.old.store) (S.means.spare self.old.store) at kind ≡ Touch.Ready → homed_over (beside_of self.old.tables) (S.means.homes self.old.store) at ≡ PageHome.At h
             → IsUsed S.means h.0 self.old.store self.new.store }

@@ -1,4 +1,4 @@
-use Rattle.std.proofs.Common.{ap, ◌∙◌, arith, sym}
+use Rattle.std.proofs.Common.{ap, ◌∙◌}
 use Rattle.flat_pages.specs.TableSteps.{tables_of}
 use Rattle.flat_pages.proofs.FileSetting.{file_freed_step}
 use Rattle.flat_pages.proofs.flat_slots.FlatSlots.free_filed.Goals as goal

@@ -81,13 +81,13 @@ pub returns-in-Narrow-clause-loses : goal.returns-in-Narrow-clause-loses
 returns-in-Narrow-clause-loses g c = c.set_kept.ensures.lost
 
 pub returns-in-Empty-clause-uses : goal.returns-in-Empty-clause-uses
-returns-in-Empty-clause-uses g c = (λ frame some no_map. c.set_unnamed.ensures.used frame some)
+returns-in-Empty-clause-uses g c = c.set_unnamed.ensures.used
 
 pub returns-in-Follows-clause-uses : goal.returns-in-Follows-clause-uses
-returns-in-Follows-clause-uses g c = (λ frame some no_map. c.set_unnamed-in-Follows.ensures.used frame some)
+returns-in-Follows-clause-uses g c = c.set_unnamed-in-Follows.ensures.used
 
 pub returns-in-Narrow-clause-uses : goal.returns-in-Narrow-clause-uses
-returns-in-Narrow-clause-uses g c = (λ frame some no_map. c.set_kept.ensures.used frame some)
+returns-in-Narrow-clause-uses g c = c.set_kept.ensures.used
 
 pub returns-in-Empty-clause-filed : goal.returns-in-Empty-clause-filed
 returns-in-Empty-clause-filed g c = ap fin.get c.set_unnamed.ensures.filed
@@ -128,4 +128,4 @@ pub returns-in-Some-filed-clause-filed : goal.returns-in-Some-filed-clause-filed
 returns-in-Some-filed-clause-filed g c = ap fin.get c.set_filed.ensures.filed
 
 pub returns-in-Some-filed-clause-uses : goal.returns-in-Some-filed-clause-uses
-returns-in-Some-filed-clause-uses g c = (λ frame some no_map. c.set_filed.ensures.used frame some)
+returns-in-Some-filed-clause-uses g c = c.set_filed.ensures.used

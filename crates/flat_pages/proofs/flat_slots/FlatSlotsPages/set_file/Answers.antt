@@ -1,5 +1,4 @@
 use Rattle.std.proofs.Common.{◌≡◌, ap, ◌∙◌, Some, None, sym, is_some, Option}
-use Rattle.std.specs.Option.{option_map, option_map_or}
 use Rattle.machine_names.specs.Orders.{file_page}
 use Rattle.machine_names.specs.declared.names.PageName.{PageName}
 use Rattle.machine_names.specs.declared.names.Place.TheVariants.{Fork}
@@ -10,11 +9,10 @@ use Rattle.page_contracts.specs.Pages.{IsPlace}
 use Rattle.flat_pages.specs.SlotTouches.{touch_of_place}
 use Rattle.machine_names.specs.declared.names.Slot.{Slot}
 use Rattle.plain_pages.specs.FilePages.{filed_by, with_file}
-use Rattle.flat_pages.specs.HeldMaps.{index_of, living_of, name_of}
+use Rattle.flat_pages.specs.HeldMaps.{index_of, living_of}
 use Rattle.flat_pages.specs.Serials.{serial_of}
 use Rattle.flat_pages.specs.SlotTables.{plain_of}
 use Rattle.flat_pages.specs.TableSteps.{tables_of}
-use Rattle.flat_pages.proofs.FiledHomes.{get_filed}
 use Rattle.flat_pages.proofs.FilePlaces.{given_slot, ready_entry, ready_some, files_one}
 use Rattle.flat_pages.proofs.Meeting.{reached}
 use Rattle.flat_pages.proofs.flat_slots.FlatSlotsPages.set_file.Goals as goal

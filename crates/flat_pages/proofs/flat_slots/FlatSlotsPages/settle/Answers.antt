@@ -22,7 +22,7 @@ use Rattle.flat_pages.proofs.Settled.{announced, walk_found, can_copy, ready_awa
 use Rattle.flat_pages.proofs.EntrySetting.{names_none}
 use Rattle.flat_pages.proofs.Settled.{slot_lives, one_is, not_one}
 use Rattle.flat_pages.proofs.flat_slots.FlatSlotsPages.settle.Goals as goal
-use Rattle.page_contracts.proofs.Losing.{loses_made, loses_used}
+use Rattle.page_contracts.proofs.Losing.{loses_made, loses_used, made_one, used_one}
 use Rattle.flat_pages.proofs.Using.{fork_filed, made_here, used_here, stands_nowhere, used_at, uses_there}
 use Rattle.flat_pages.proofs.flat_slots.FlatSlotsPages.settle.Goals.{in_default-entry-via-in-Page+else-share-eq1, in_default-entry-via-in_default-entry}
 
@@ -397,7 +397,7 @@ returns-in_default-home-clause-uses g c =
     let maps : u.maps ≡ with_entry t.maps w.end (Page made.home full_access) = ap (λ (x : Tables). x.maps) made.taken in
     let ends = zero_ends t s.agree (store.spare s.store) c.in-Fork.slot c.args.kind w r u made.home c.in_default-home.is maps in
     let lives = still_lives t.maps u.maps w.end (Page made.home full_access) maps c.in-Fork.slot.fork r.lives in
-    uses_there store (λ p. p.store) (λ p. tables_of (store.homes p.store) p.tables) s new c.args.at c.in-Fork.slot c.in-Fork.is lives made.home ends (g.met.S.Store.sound new.store) (made_here store s.store new.store made.home.0 (here zero_words) made.made refl) made.made.ages
+    uses_there store (λ p. p.store) (λ p. tables_of (store.homes p.store) p.tables) s new c.args.at c.in-Fork.slot c.in-Fork.is lives made.home ends (g.met.S.Store.sound new.store) (made_here store s.store new.store made.home.0 (here zero_words) made.made refl) c.args.kind (made_one store s.store new.store made.home.0 (here zero_words) made.made)
 
 pub returns-in_default-home-clause-ready : goal.returns-in_default-home-clause-ready
 returns-in_default-home-clause-ready g c home touched stands =
@@ -420,7 +420,7 @@ returns-in_default-copy_for-clause-uses g c =
     let r = announced t (store.spare s.store) c.args.at c.in-Fork.slot c.args.kind w c.in-Fork.is c.requires.place (sym c.walk.ensures ∙ c.in-Some.is) c.requires.ready in
     let stood = home_here t s.agree (store.spare s.store) c.in-Fork.slot c.args.kind w r c.in-Some-home.home c.in-Some-home.is (ready_away t s.agree (store.spare s.store) c.in-Fork.slot c.args.kind w r c.in-Some-home.home c.in-Some-home.is (sym c.copy_for.ensures ∙ c.in_default-copy_for.is)) in
     let ends : EndsAt t.maps c.in-Fork.slot c.in-Some-home.home = record { walk = w; is = r.walks; home = c.in-Some-home.is } in
-    uses_there store (λ p. p.store) (λ p. tables_of (store.homes p.store) p.tables) s _ c.args.at c.in-Fork.slot c.in-Fork.is r.lives c.in-Some-home.home ends (g.met.S.Store.sound c.used.new.self) (used_here store s.store c.used.new.self c.in-Some-home.home.0 c.used.ensures.homes stood) c.used.ensures.used.ages
+    uses_there store (λ p. p.store) (λ p. tables_of (store.homes p.store) p.tables) s _ c.args.at c.in-Fork.slot c.in-Fork.is r.lives c.in-Some-home.home ends (g.met.S.Store.sound c.used.new.self) (used_here store s.store c.used.new.self c.in-Some-home.home.0 c.used.ensures.homes stood) c.args.kind (used_one store s.store c.used.new.self c.in-Some-home.home.0 c.used.ensures.used)
 
 pub returns-in_default-copy_for-clause-ready : goal.returns-in_default-copy_for-clause-ready
 returns-in_default-copy_for-clause-ready g c home touched stands =
@@ -451,7 +451,7 @@ returns-in-Page-clause-uses g c =
     let maps : u.maps ≡ with_entry t.maps to (Page home access) = ap (λ (x : Tables). x.maps) c.copy_alone.ensures.tables in
     let ends = copy_ends t s.agree (store.spare s.store) c.in-Fork.slot c.args.kind w r u home to access c.entry.result (sym c.copy_for.ensures ∙ c.in-Some-copy_for.is) c.entry.ensures refl refl maps in
     let lives = still_lives t.maps u.maps to (Page home access) maps c.in-Fork.slot.fork r.lives in
-    uses_there store (λ p. p.store) (λ p. tables_of (store.homes p.store) p.tables) s new c.args.at c.in-Fork.slot c.in-Fork.is lives home ends (g.met.S.Store.sound new.store) (used_here store s.store new.store home.0 c.copy_alone.ensures.homes stood) c.copy_alone.ensures.used.ages
+    uses_there store (λ p. p.store) (λ p. tables_of (store.homes p.store) p.tables) s new c.args.at c.in-Fork.slot c.in-Fork.is lives home ends (g.met.S.Store.sound new.store) (used_here store s.store new.store home.0 c.copy_alone.ensures.homes stood) c.args.kind (used_one store s.store new.store home.0 c.copy_alone.ensures.used)
 
 pub returns-in-Page-clause-ready : goal.returns-in-Page-clause-ready
 returns-in-Page-clause-ready g c home touched stands =
@@ -486,7 +486,7 @@ returns-in_default-entry-clause-uses g c =
     let maps : u.maps ≡ with_entry t.maps to (Page made.home access) = ap (λ (x : Tables). x.maps) made.taken in
     let ends = copy_ends t s.agree (store.spare s.store) c.in-Fork.slot c.args.kind w r u made.home to access c.entry.result (sym c.copy_for.ensures ∙ c.in-Some-copy_for.is) c.entry.ensures refl refl maps in
     let lives = still_lives t.maps u.maps to (Page made.home access) maps c.in-Fork.slot.fork r.lives in
-    uses_there store (λ p. p.store) (λ p. tables_of (store.homes p.store) p.tables) s new c.args.at c.in-Fork.slot c.in-Fork.is lives made.home ends (g.met.S.Store.sound new.store) (made_here store s.store new.store made.home.0 (place t.places c.in-Some-home.home.0) made.made stood) made.made.ages
+    uses_there store (λ p. p.store) (λ p. tables_of (store.homes p.store) p.tables) s new c.args.at c.in-Fork.slot c.in-Fork.is lives made.home ends (g.met.S.Store.sound new.store) (made_here store s.store new.store made.home.0 (place t.places c.in-Some-home.home.0) made.made stood) c.args.kind (made_one store s.store new.store made.home.0 (place t.places c.in-Some-home.home.0) made.made)
 
 pub returns-in_default-entry-clause-ready : goal.returns-in_default-entry-clause-ready
 returns-in_default-entry-clause-ready g c home touched stands =

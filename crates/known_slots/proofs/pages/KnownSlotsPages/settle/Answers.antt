@@ -13,7 +13,7 @@ use Rattle.slot_paged.specs.PagedMeaning.{lives_in}
 use Rattle.slot_paged.specs.PagedTables.{beside_of}
 use Rattle.slot_paged.specs.PagedTouches.{touched_over}
 use Rattle.slot_paged.specs.PlacesSettled.{UsesPlace}
-use Rattle.known_slots.proofs.PlacesUsed.{home_at, uses_one}
+use Rattle.known_slots.proofs.PlacesUsed.{home_at, uses_place}
 use Rattle.known_slots.proofs.pages.KnownSlotsPages.settle.Goals as goal
 
 pub invariant_of-self : goal.invariant_of-self
@@ -31,11 +31,13 @@ invariant_of-self g c =
 
 pub returns-clause-uses : goal.returns-clause-uses
 returns-clause-uses g c =
+    let s = c.args.self.now in
+    let store = g.S.Store.means in
     let new = c.settle.new.self in
     let forgot = c.forget_unless_ready.ensures.pages in
-    uses_one g.S.Store.means (λ p. p.pages.store) (λ p. beside_of p.pages.tables) c.args.self.now _ new.kept (g.met.S.Store.sound new.store) c.args.at
+    uses_place store (λ p. p.pages.store) (λ p. beside_of p.pages.tables) s _ new.kept (g.met.S.Store.sound new.store) c.args.at c.args.kind
     (subst (λ (lives : ForkName → Bool). IsPlace lives c.args.at) (sym (c.settle.ensures.lives ∙ (λ i. lives_in (beside_of (forgot i).tables)))) c.requires.place)
-    (subst (λ (p : SlotPaged g.row.S.Denot g.S.Store). UsesPlace g.S.Store.means p.store new.store (beside_of new.tables) c.args.at) forgot c.settle.ensures.uses)
+    (subst (λ (p : SlotPaged g.row.S.Denot g.S.Store). UsesPlace store p.store new.store (beside_of p.tables) (beside_of new.tables) c.args.at c.args.kind) forgot c.settle.ensures.uses)
 
 pub returns-clause-ready : goal.returns-clause-ready
 returns-clause-ready g c home ready stands =

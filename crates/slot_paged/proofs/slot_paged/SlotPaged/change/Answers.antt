@@ -11,7 +11,7 @@ use Rattle.pager_walk.specs.declared.paged_entry.PagedEntry.TheVariants as paged
 use Rattle.pager_walk.specs.PagedMaps.{entry_for, is_near, name_of, plain_entry}
 use Rattle.flat_pages.proofs.FiledHomes.{get_filed}
 use Rattle.slot_paged.specs.PagedTables.{beside_of}
-use Rattle.slot_paged.specs.PlacesSettled.{filed_over}
+use Rattle.slot_paged.specs.PagedSlots.{filed_over}
 use Rattle.slot_paged.specs.SetEntries.{ChangesEntry, PutsPointer, narrow_paged, pointer_of}
 use Rattle.slot_paged.proofs.EntryChanged.{changes, narrow_is, page_is}
 use Rattle.slot_paged.proofs.JoinDone.{kept_done}

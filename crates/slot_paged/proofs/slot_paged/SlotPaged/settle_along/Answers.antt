@@ -9,6 +9,7 @@ use Rattle.slot_paged.specs.MadePages.{MakesPage}
 use Rattle.slot_paged.specs.PageHomes.{homed, homed_along}
 use Rattle.slot_paged.specs.PagedTables.{beside_of}
 use Rattle.slot_paged.specs.PagedTouches.{alone_at, copy_for, walk_touched}
+use Rattle.slot_paged.proofs.MapsSet.{ready_map}
 use Rattle.slot_paged.proofs.PlacesDone.{alone_done, copy_done, ready_told, used_done, zero_done}
 use Rattle.slot_paged.proofs.ReadyHomes.{words_here}
 use Rattle.slot_paged.proofs.SettledTouches.{alone_one, is_copy, is_ready, named_taken, only_write}
@@ -70,6 +71,7 @@ returns-in_default-copy_for g c =
     let x = words_here places h.0 (named_taken b places s.kept h.0 (r.stands.named h home)) y.near in
     used_done store s.store c.used.new.self b s.kept pages (Fork at) kind owner r.owner h (ap (walk_touched b places frames kind) (sym r.walks) ∙ y.is) (ap homed_along (sym r.walks) ∙ ap homed home) (ap is_here x.1) c.used.ensures.used c.used.ensures.homes
     (ready_told store s.store s.store b b s.kept s.kept pages pages at kind owner r.owner r.lives r.page w r.walks r.stands r.ready h home none)
+    (λ d fits. ready_map b places s.kept pages at kind owner r.owner r.lives r.page w r.walks r.stands frames r.ready d fits h home none)
 
 pub copy_alone-requires-clause-one : goal.copy_alone-requires-clause-one
 copy_alone-requires-clause-one g c =

@@ -5,9 +5,10 @@ use Rattle.machine_names.specs.Orders.{file_page}
 use Rattle.page_contracts.specs.Pages.{can_settle}
 use Rattle.page_contracts.specs.Stores.{away_at, is_here}
 use Rattle.slot_paged.specs.PageHomes.{homed}
-use Rattle.slot_paged.specs.PagedTables.{beside_of}
+use Rattle.slot_paged.specs.PagedTables.{beside_of, plain_over}
 use Rattle.slot_paged.specs.PagedTouches.{file_touched, scene_over}
 use Rattle.slot_paged.proofs.FileTold.{used_told}
+use Rattle.slot_paged.proofs.MapsSet.{file_map}
 use Rattle.slot_paged.proofs.PlacesDone.{filed_done, used_done}
 use Rattle.slot_paged.proofs.ReadyHomes.{words_here}
 use Rattle.slot_paged.proofs.SettledTouches.{file_ready, file_zero, named_taken}
@@ -50,7 +51,7 @@ returns-in-Some g c =
     let y = file_ready b places frames kind h can in
     let x = words_here places h.0 (named_taken b places s.kept h.0 (s.kept.filed f h there)) y.1 in
     used_done store s.store c.used.new.self b s.kept pages (File c.args.file c.args.page) kind owner r.owner h (ap (file_touched (away_at places) b (scene_over b places frames) kind) there ∙ y.0) (ap homed there) (ap is_here x.1) c.used.ensures.used c.used.ensures.homes
-    (λ d fits. used_told b places s.kept pages d fits c.args.file c.args.page kind frames r.ready h there owner r.owner)
+    (λ d fits. used_told b places s.kept pages d fits c.args.file c.args.page kind frames r.ready h there owner r.owner) (λ d fits. file_map (plain_over b places d) (file_page c.args.file.0 c.args.page) kind)
 
 pub make_filed-requires-clause-room : goal.make_filed-requires-clause-room
 make_filed-requires-clause-room g c =
