@@ -1,11 +1,10 @@
 -- An entry that was set is set anew as is asked.
 use Rattle.std.proofs.Common.{◌≡◌, ℕ, ◌<◌, List, true, false, Option, None, Some, is_some, refl, sym, ◌∙◌, ap, subst}
-use Rattle.std.specs.Prelude.{IsSome, count_by, nat_eq, nat_lt}
+use Rattle.std.specs.Prelude.{count_by, nat_eq, nat_lt}
 use Rattle.std.specs.Option.{option_map, option_map_or, unwrap_or}
 use Rattle.std.specs.FinMap as fin
 use Rattle.machine_names.specs.declared.names.Access.{Access}
 use Rattle.machine_names.specs.declared.names.FileNo.{FileNo}
-use Rattle.machine_names.specs.declared.names.ForkName.{ForkName}
 use Rattle.machine_names.specs.declared.names.PageName.{PageName}
 use Rattle.machine_names.specs.declared.names.Slot.{Slot}
 use Rattle.machine_names.specs.declared.names.TheConstants.{SPACE_PAGES}
@@ -28,7 +27,7 @@ use Rattle.pager_walk.specs.declared.paged_entry.Looked.TheVariants.{Is}
 use Rattle.pager_walk.specs.declared.paged_entry.PagedEntry.{PagedEntry}
 use Rattle.pager_walk.specs.declared.paged_entry.PagedEntry.TheVariants as paged
 use Rattle.pager_walk.specs.declared.map_pages.MapPage.{MapPage}
-use Rattle.pager_walk.specs.MapPages.{index_of, root_at}
+use Rattle.pager_walk.specs.MapPages.{index_of}
 use Rattle.pager_walk.specs.PagedMaps.{TellsEntry, look_at, name_at, name_of, plain_entry}
 use Rattle.pager_walk.proofs.Looking.{ArePages, looked}
 use Rattle.flat_pages.specs.HeldMaps.{nobody}

@@ -10,7 +10,7 @@ use Rattle.machine_names.specs.declared.names.Slot.{Slot}
 use Rattle.machine_names.specs.declared.names.Tty.{Tty}
 use Rattle.machine_names.specs.Bounds.{IsOwner}
 use Rattle.page_contracts.specs.Pages.{TakesFrames}
-use Rattle.page_contracts.specs.Stores.{HomePlace, IsUsed, Loses, StoreMeaning, away_at, away_home, free, here, is_here, place, traffic, with_word_in}
+use Rattle.page_contracts.specs.Stores.{HomePlace, Loses, StoreMeaning, away_at, away_home, free, here, is_here, place, traffic, with_word_in}
 use Rattle.page_contracts.proofs.Losing.{loses_made, loses_on, loses_used}
 use Rattle.share_table.specs.declared.pointer.Pointer.TheVariants.{Private}
 use Rattle.share_table.specs.Pointers.{pointer_word}

@@ -210,25 +210,25 @@ module _ {S : Type 0} (store : StoreMeaning S) (old new : S) (b : Beside) (kept 
 
   pub used_done : SettlesPlace store old new b b at kind owner
   used_done = record {
-        told = λ d fits. (subst (λ (ps : List HomePlace). FitsPages b ps d) (sym homes) fits, ap (λ ps. plain_over b ps d) homes ∙ told d fits);
-        settles = subst (λ (x : Touch). SettlesTo x (touched_over b (store.homes new) (store.spare new) at kind)) (sym is) (touch_same ∙ is);
-        scene = subst (λ (x : Touch). TakesFrames (scene_over b (store.homes old) (store.spare old)) (scene_over b (store.homes new) (store.spare new)) (frames_taken x)) (sym is) (record {
-          maps = λ i. map_away b.tables (homes i);
-          pages = λ i n. option_and_then (away_at (homes i)) (home_named b.tables.names n);
-          frames = omega (arith, used.framed.spare);
-        });
-        count = subst (λ (x : Touch). b.taken + b.living ≡ b.taken + b.living + frames_taken x) (sym is) (omega arith);
-        loses = loses_used store old new h.0 used;
-        uses = record { home = h; stands = ap (λ ps. homed_over b ps at) homes ∙ there; here = ap (λ ps. is_here (place ps h.0)) homes ∙ here_is; fork = None; set = set; ages = used_one store old new h.0 used };
-        filed = filed_same (touched_over b (store.homes old) (store.spare old) at kind) is;
-        ready = λ g r stands. (let same : h ≡ g = (let z : At h ≡ At g = sym there ∙ stands in cc z) in subst (λ (x : Home). IsUsed store x.0 old new) same used);
-        still = λ r. (refl, homes);
-        lives = refl;
-        forks = refl;
-        serial = omega arith;
-        serials = λ t ne. refl;
-        most = refl;
-      }
+    told = λ d fits. (subst (λ (ps : List HomePlace). FitsPages b ps d) (sym homes) fits, ap (λ ps. plain_over b ps d) homes ∙ told d fits);
+    settles = subst (λ (x : Touch). SettlesTo x (touched_over b (store.homes new) (store.spare new) at kind)) (sym is) (touch_same ∙ is);
+    scene = subst (λ (x : Touch). TakesFrames (scene_over b (store.homes old) (store.spare old)) (scene_over b (store.homes new) (store.spare new)) (frames_taken x)) (sym is) (record {
+      maps = λ i. map_away b.tables (homes i);
+      pages = λ i n. option_and_then (away_at (homes i)) (home_named b.tables.names n);
+      frames = omega (arith, used.framed.spare);
+    });
+    count = subst (λ (x : Touch). b.taken + b.living ≡ b.taken + b.living + frames_taken x) (sym is) (omega arith);
+    loses = loses_used store old new h.0 used;
+    uses = record { home = h; stands = ap (λ ps. homed_over b ps at) homes ∙ there; here = ap (λ ps. is_here (place ps h.0)) homes ∙ here_is; fork = None; set = set; ages = used_one store old new h.0 used };
+    filed = filed_same (touched_over b (store.homes old) (store.spare old) at kind) is;
+    ready = λ g r stands. (let same : h ≡ g = (let z : At h ≡ At g = sym there ∙ stands in cc z) in subst (λ (x : Home). IsUsed store x.0 old new) same used);
+    still = λ r. (refl, homes);
+    lives = refl;
+    forks = refl;
+    serial = omega arith;
+    serials = λ t ne. refl;
+    most = refl;
+  }
 
 -- a page of a file was made
 module _ {S : Type 0} (store : StoreMeaning S) (old new : S) (b b' : Beside) (kept : AreKept b (store.homes old)) (kept' : AreKept b' (store.homes new)) (pages : ArePages (store.homes old)) (pages' : ArePages (store.homes new)) (file : FileNo) (page : ℕ) (bounds : IsFilePage file page) (kind : Kind) (owner : Tty) (own : IsOwner owner)
@@ -240,25 +240,25 @@ module _ {S : Type 0} (store : StoreMeaning S) (old new : S) (b b' : Beside) (ke
 
   pub filed_done : SettlesPlace store old new b b' (File file page) kind owner
   filed_done = record {
-        told = λ d fits. filed_told store old new b b' kept pages pages' file page bounds kind owner own none (ap can_settle is) room z d fits;
-        settles = subst (λ (x : Touch). SettlesTo x (touched_over b' (store.homes new) (store.spare new) (File file page) kind)) (sym is) (inl ready_then);
-        scene = subst (λ (x : Touch). TakesFrames (scene_over b (store.homes old) (store.spare old)) (scene_over b' (store.homes new) (store.spare new)) (frames_taken x)) (sym is) (filed_scene store old new b b' kept kept' owner own (file_page file.0 page) z);
-        count = subst (λ (x : Touch). b'.taken + b'.living ≡ b.taken + b.living + frames_taken x) (sym is) (filed_count store old new b b' kept kept' owner own (file_page file.0 page) z);
-        loses = filed_loses store old new b b' kept kept' owner own (file_page file.0 page) z;
-        uses = record {
-          home = z.home;
-          stands = ap homed (filed_at store old new b b' kept kept' owner own (file_page file.0 page) z);
-          here = filed_here store old new b b' kept kept' owner own (file_page file.0 page) z;
-          fork = None;
-          set = λ d fits. file_map (plain_over b (store.homes old) d) (file_page file.0 page) kind;
-          ages = filed_ages store old new b b' kept kept' owner own (file_page file.0 page) z;
-        };
-        filed = subst (FilesSettled b b' (File file page)) (sym is) (filed_one store old new b b' kept kept' owner own (file_page file.0 page) z);
-        ready = λ h r at. absurd (let no : Zero ≡ Ready = sym is ∙ r in cc no);
-        still = λ r. absurd (let no : Zero ≡ Ready = sym is ∙ r in cc no);
-        lives = filed_lives store old new b b' kept kept' owner own (file_page file.0 page) z;
-        forks = filed_forks store old new b b' kept kept' owner own (file_page file.0 page) z;
-        serial = filed_serial store old new b b' kept kept' owner own (file_page file.0 page) z;
-        serials = filed_serials store old new b b' kept kept' owner own (file_page file.0 page) z;
-        most = filed_most store old new b b' kept kept' owner own (file_page file.0 page) z;
-      }
+    told = λ d fits. filed_told store old new b b' kept pages pages' file page bounds kind owner own none (ap can_settle is) room z d fits;
+    settles = subst (λ (x : Touch). SettlesTo x (touched_over b' (store.homes new) (store.spare new) (File file page) kind)) (sym is) (inl ready_then);
+    scene = subst (λ (x : Touch). TakesFrames (scene_over b (store.homes old) (store.spare old)) (scene_over b' (store.homes new) (store.spare new)) (frames_taken x)) (sym is) (filed_scene store old new b b' kept kept' owner own (file_page file.0 page) z);
+    count = subst (λ (x : Touch). b'.taken + b'.living ≡ b.taken + b.living + frames_taken x) (sym is) (filed_count store old new b b' kept kept' owner own (file_page file.0 page) z);
+    loses = filed_loses store old new b b' kept kept' owner own (file_page file.0 page) z;
+    uses = record {
+      home = z.home;
+      stands = ap homed (filed_at store old new b b' kept kept' owner own (file_page file.0 page) z);
+      here = filed_here store old new b b' kept kept' owner own (file_page file.0 page) z;
+      fork = None;
+      set = λ d fits. file_map (plain_over b (store.homes old) d) (file_page file.0 page) kind;
+      ages = filed_ages store old new b b' kept kept' owner own (file_page file.0 page) z;
+    };
+    filed = subst (FilesSettled b b' (File file page)) (sym is) (filed_one store old new b b' kept kept' owner own (file_page file.0 page) z);
+    ready = λ h r at. absurd (let no : Zero ≡ Ready = sym is ∙ r in cc no);
+    still = λ r. absurd (let no : Zero ≡ Ready = sym is ∙ r in cc no);
+    lives = filed_lives store old new b b' kept kept' owner own (file_page file.0 page) z;
+    forks = filed_forks store old new b b' kept kept' owner own (file_page file.0 page) z;
+    serial = filed_serial store old new b b' kept kept' owner own (file_page file.0 page) z;
+    serials = filed_serials store old new b b' kept kept' owner own (file_page file.0 page) z;
+    most = filed_most store old new b b' kept kept' owner own (file_page file.0 page) z;
+  }

@@ -11,7 +11,7 @@ use Rattle.machine_names.specs.declared.names.Tty.{Tty}
 use Rattle.machine_names.specs.Bounds.{IsOwner}
 use Rattle.page_homes.specs.declared.homes.Home.{Home}
 use Rattle.page_contracts.specs.Pages.{TakesFrames}
-use Rattle.page_contracts.specs.Stores.{HomePlace, IsUsed, Loses, StoreMeaning, away_at, away_home, free, here, is_here, place, traffic, with_word_in}
+use Rattle.page_contracts.specs.Stores.{HomePlace, Loses, StoreMeaning, away_at, away_home, free, here, is_here, place, traffic, with_word_in}
 use Rattle.page_contracts.proofs.Losing.{loses_on, loses_used}
 use Rattle.share_table.specs.Pointers.{pointer_word}
 use Rattle.pager_walk.specs.declared.paged_entry.PagedEntry.TheVariants.{Page}
