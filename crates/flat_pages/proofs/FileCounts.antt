@@ -11,6 +11,7 @@ use Rattle.std.proofs.lemmas.Cmp.{tied_itself}
 use Rattle.machine_names.specs.declared.names.TheConstants.{MOST_FILES, FILE_PAGES, SPACE_PAGES}
 use Rattle.machine_names.specs.Orders.{FilePage, file_page_cmp}
 use Rattle.page_homes.specs.declared.homes.Home.{Home}
+use Rattle.page_files.specs.Pages.{PagesOf}
 use Rattle.plain_pages.proofs.Counts.{ordered_less, both_first, both_second}
 use Rattle.flat_pages.specs.declared.held_map.HeldMap.{HeldMap}
 use Rattle.flat_pages.specs.HeldMaps.{map_at, entries_total, points_at}
@@ -47,7 +48,7 @@ at_most k h = elim (cases_eq h.0 k) [ inl e ↦ omega (arith, at_here k h e) | i
 abbrev R : FilePage ℕ → FilePage ℕ → Ordering
 R = file_page_cmp nat_cmp
 
-abbrev InRange : FilePage ℕ → Type 0
+abbrev pub InRange : FilePage ℕ → Type 0
 InRange f = (f.file < MOST_FILES) × (f.page < FILE_PAGES)
 
 abbrev number : FilePage ℕ → ℕ
@@ -96,11 +97,11 @@ sum_most w n (x ∷ xs) most = times (length xs) n (w x) (sum_by w xs) (sum_by w
     times : (l n a b s : ℕ) → s ≡ a + b → a ≤ n → b ≤ l * n → s ≤ suc l * n
     times l n a b s is p q = omega (arith, is, p, q)
 
-filed_most : (t : Tables) → AreTables t → (k : ℕ) → filed_total k t.files ≤ MOST_FILES * FILE_PAGES
-filed_most t a k =
-    let within : (i : ℕ) (e : FilePage ℕ × Home) → slice_get (fin.entries t.files) i ≡ Some e → InRange e.0 × (0 ≤ number e.0) = λ i e is.
-    (let v = some_is (fin.get t.files e.0) (fin.contains_key-keys t.files e.0 ∙ member_there (fin.entries t.files) i e is) in let r = a.filed e.0 v.0 v.1 in ((r.0, r.1), omega arith)) in
-    omega (arith, few_from (fin.entries t.files) 0 (fin.entries_sorted t.files) within (omega arith), values_most (fin.entries t.files))
+pub filed_few : (files : PagesOf Home) → ((f : FilePage ℕ) (h : Home) → fin.get files f ≡ Some h → InRange f) → (k : ℕ) → filed_total k files ≤ MOST_FILES * FILE_PAGES
+filed_few files within k =
+    let all : (i : ℕ) (e : FilePage ℕ × Home) → slice_get (fin.entries files) i ≡ Some e → InRange e.0 × (0 ≤ number e.0) = λ i e is.
+    (let v = some_is (fin.get files e.0) (fin.contains_key-keys files e.0 ∙ member_there (fin.entries files) i e is) in (within e.0 v.0 v.1, omega arith)) in
+    omega (arith, few_from (fin.entries files) 0 (fin.entries_sorted files) all (omega arith), values_most (fin.entries files))
   where
     values_most : (es : List (FilePage ℕ × Home)) → sum_by (is_at k) (each (λ e. e.1) es) ≤ length es
     values_most [] = omega arith
@@ -126,4 +127,4 @@ entries_most t a k = sum_most (λ (m : HeldMap). sum_by (points_at k) m.entries)
 
 -- a page has so few names that they can be counted
 pub share_few : (t : Tables) → AreTables t → (k : ℕ) → share_of t.shares k < 2 ^ 31
-share_few t a k = omega (arith, a.shares k, filed_most t a k, entries_most t a k, a.held.count)
+share_few t a k = omega (arith, a.shares k, filed_few t.files a.filed k, entries_most t a k, a.held.count)

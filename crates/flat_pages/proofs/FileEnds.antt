@@ -48,7 +48,7 @@ use Rattle.flat_pages.proofs.EntrySetting.{same_core}
 use Rattle.flat_pages.proofs.EmptyMaps.{core_on, less_used}
 
 -- the pages as they are
-fewer_itself : (p : NumberedPages) (file : ℕ) → AreWhole p → AreFewerFiled p p file
+pub fewer_itself : (p : NumberedPages) (file : ℕ) → AreWhole p → AreFewerFiled p p file
 fewer_itself p file w = record { objects = λ n. by n (nat_lt 0 (uses p n)) refl; named = λ n h. h; others = λ f ne. refl; maps = refl; page_serials = refl; console_serial = refl; limit = refl }
   where
     by : (n : PageName) (b : Bool) → nat_lt 0 (uses p n) ≡ b → fin.get p.objects n ≡ cond b (fin.get p.objects n) None
@@ -56,7 +56,7 @@ fewer_itself p file w = record { objects = λ n. by n (nat_lt 0 (uses p n)) refl
     by n false is = unnamed_gone p w n is
 
 -- fewer of fewer
-fewer_on : (p q r : NumberedPages) (file : ℕ) → AreFewerFiled p q file → AreFewerFiled q r file → AreFewerFiled p r file
+pub fewer_on : (p q r : NumberedPages) (file : ℕ) → AreFewerFiled p q file → AreFewerFiled q r file → AreFewerFiled p r file
 fewer_on p q r file k l = record {
   objects = λ n. l.objects n ∙ by n (nat_lt 0 (uses r n)) refl;
   named = λ n h. k.named n (l.named n h);
@@ -72,7 +72,7 @@ fewer_on p q r file k l = record {
     by n false is = refl
 
 -- a page of the file that goes
-fewer_filed : (p : NumberedPages) → AreWhole p → (file page : ℕ) → AreFewerFiled p (with_file p (file_page file page) None) file
+pub fewer_filed : (p : NumberedPages) → AreWhole p → (file page : ℕ) → AreFewerFiled p (with_file p (file_page file page) None) file
 fewer_filed p w file page =
     let f : FilePage ℕ = file_page file page in
     let k = filed_still nat_cmp_total fin.nat_cmp-IsAntisymmetric p f None w in

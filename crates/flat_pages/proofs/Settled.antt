@@ -119,17 +119,17 @@ pub record Settles (t u : Tables) (frames frames' : ℕ) (at : Place) (kind : Ki
   pub filed : files_held u.names u.files ≡ files_held t.names t.files
 
 -- what a copy's touch may answer
-abbrev copying : Option ℕ → Bool → Bool → Bool → Touch
+abbrev pub copying : Option ℕ → Bool → Bool → Bool → Touch
 copying o true room frame = absent_or o (Copy true)
 copying o false room frame = cond room (absent_or o (cond frame (Copy false) NeedFrame)) Full
 
-record Copying (o : Option ℕ) (alone b c : Bool) : Type 0 where
-  none : o ≡ None
-  is : copying o alone b c ≡ Copy alone
-  room : alone ≡ false → b ≡ true
-  frame : alone ≡ false → c ≡ true
+pub record Copying (o : Option ℕ) (alone b c : Bool) : Type 0 where
+  pub none : o ≡ None
+  pub is : copying o alone b c ≡ Copy alone
+  pub room : alone ≡ false → b ≡ true
+  pub frame : alone ≡ false → c ≡ true
 
-can_copying : (o : Option ℕ) (alone room frame : Bool) → can_settle (copying o alone room frame) ≡ true → Copying o alone room frame
+pub can_copying : (o : Option ℕ) (alone room frame : Bool) → can_settle (copying o alone room frame) ≡ true → Copying o alone room frame
 can_copying None true room frame k = record { none = refl; is = refl; room = λ z. absurd (cc z); frame = λ z. absurd (cc z) }
 can_copying (Some h) true room frame k = absurd (cc k)
 can_copying None false true true k = record { none = refl; is = refl; room = λ z. refl; frame = λ z. refl }

@@ -22,7 +22,7 @@ use Rattle.fork_lists.proofs.Beside.{IsElsewhere, has_lived, in_as, runs_as}
 use Rattle.fork_lists.proofs.Chosen.{filled_test, test_filled}
 use Rattle.fork_lists.proofs.Folds.{start_filled, start_from, start_keeps, start_there, stop_filled, stop_gone, stop_less, stop_one}
 use Rattle.fork_lists.proofs.Nearing.{start_stays, stop_keeps}
-use Rattle.fork_lists.proofs.Tied.{runs_lives, some_is}
+use Rattle.fork_lists.proofs.Tied.{both, runs_lives, some_is}
 
 -- whether a slot is this one
 at_place : (u : Tty) (k : ℕ) (t : Tty) (slot : ℕ) → ((u ≡ t) × (k ≡ slot)) ⊎ IsElsewhere u k t slot
@@ -85,11 +85,6 @@ module _ (now : PlainTree) (still : IsTree now) (who : ForkName) (slot : ℕ) (l
             (start_there now.forks (λ f. true) lives.0 left refl (ap (runs_in now.forks) named ∙ runs)))
         | inr other ↦ start_keeps now.forks (λ f. true) (map.get now.forks newest) left g (run_stand g other runs)
       ])
-    where
-      both : (a b : Bool) → (a ≡ true → b ≡ true) → (b ≡ true → a ≡ true) → a ≡ b
-      both true b to from = sym (to refl)
-      both false true to from = from refl
-      both false false to from = refl
 
   module _ (m : ForkLists) (mine : seen_in m.seen.items who.tty slot ≡ seen_of (fork_in now.forks who.tty slot)) (others : SeenElsewhere l.seen.items m.seen.items who.tty slot) where
     -- each slot was seen as it is, but that of the one that was made last

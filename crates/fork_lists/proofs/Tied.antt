@@ -36,6 +36,12 @@ pub among_slots : (slot : ℕ) → 1 ≤ slot → slot ≤ MOST_FORKS → IsAmon
 unfolding job_slots
 among_slots slot first last = in_range 1 MOST_FORKS slot first (omega (arith, last))
 
+-- two that imply each other are the same
+pub both : (a b : Bool) → (a ≡ true → b ≡ true) → (b ≡ true → a ≡ true) → a ≡ b
+both true b to from = sym (to refl)
+both false true to from = from refl
+both false false to from = refl
+
 -- a fork that can run lives
 pub runs_lives : (forks : ForkMap) (f : ForkName) → runs_in forks f ≡ true → (g : Fork) × (map.get forks f ≡ Some g)
 runs_lives forks f runs = by (map.get forks f) refl runs
@@ -172,11 +178,6 @@ module _ (forks : ForkMap) (slotted : AreSlotted forks) (seen : List Seen) (t : 
   -- of the job those stand that can run
   pub mine_listed : (f : ForkName) → f.tty.0 ≡ t.0 → stands f (followed forks seen t s) ≡ runs_in forks f
   mine_listed f here = both (stands f (followed forks seen t s)) (runs_in forks f) (can_stand f here) (do_stand f here)
-    where
-      both : (a b : Bool) → (a ≡ true → b ≡ true) → (b ≡ true → a ≡ true) → a ≡ b
-      both true b to from = sym (to refl)
-      both false true to from = from refl
-      both false false to from = refl
 
   module _ (named : AreNamed seen) (terminal : IsTerminal t) where
     not_seen : (f : ForkName) → f.tty.0 ≢ t.0 → (from len : ℕ) → 1 ≤ from → from + len ≤ MOST_FORKS + 1 → was_seen seen t f (range_with_len from len) ≡ false
@@ -208,11 +209,6 @@ module _ (forks : ForkMap) (slotted : AreSlotted forks) (seen : List Seen) (t : 
           | inr runs ↦ absurd (other runs.0)
         ])
         (λ old. picks_keep forks (λ k g. not (has_waited seen t k g)) t job_slots waiters_there f (picks_keep forks (has_waited seen t) t job_slots stopped_there f (same ∙ old)))
-      where
-        both : (a b : Bool) → (a ≡ true → b ≡ true) → (b ≡ true → a ≡ true) → a ≡ b
-        both true b to from = sym (to refl)
-        both false true to from = from refl
-        both false false to from = refl
 
     -- who stands once those have stopped that can't run lives
     pub left_living : ((f : ForkName) → f.tty.0 ≢ t.0 → stands f s ≡ true → IsSome (map.get forks f)) → Living forks (lost_stopped forks seen t s job_slots)

@@ -24,7 +24,7 @@ use Rattle.slot_paged.specs.NameCounts.{count_of, counts, share_at}
 use Rattle.slot_paged.specs.PagedTables.{AreFiled, AreKept, AreShared, Beside}
 use Rattle.slot_paged.specs.PagedTouches.{names_at}
 use Rattle.slot_paged.proofs.Counted.{counts_at}
-use Rattle.slot_paged.proofs.FiledBound.{InRange, filed_few}
+use Rattle.flat_pages.proofs.FileCounts.{InRange, filed_few}
 use Rattle.slot_paged.proofs.FiledShares.{gone_counts, gone_shared, joined_one, left_two, more_counts, more_shared, name_below}
 use Rattle.slot_paged.proofs.Naming.{named_less}
 use Rattle.slot_paged.proofs.Sharing.{count_here, count_other, recounted, shared_recounted}

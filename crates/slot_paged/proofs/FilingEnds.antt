@@ -24,7 +24,7 @@ use Rattle.flat_pages.specs.SlotTouches.{home_named}
 use Rattle.flat_pages.proofs.Agreement.{tables_whole}
 use Rattle.flat_pages.proofs.EmptyMaps.{core_on, less_used}
 use Rattle.flat_pages.proofs.EntrySetting.{same_core}
-use Rattle.flat_pages.proofs.FileEnds.{fewer_without}
+use Rattle.flat_pages.proofs.FileEnds.{fewer_filed, fewer_itself, fewer_on, fewer_without}
 use Rattle.flat_pages.proofs.FiledHomes.{get_filed}
 use Rattle.flat_pages.proofs.Telling.{named_home}
 use Rattle.flat_pages.proofs.Touching.{home_is}
@@ -35,35 +35,6 @@ use Rattle.slot_paged.specs.PagedSlots.{paged_slots}
 use Rattle.slot_paged.specs.PagedTables.{Beside, AreKept, FitsPages, in_memory_over, plain_over}
 use Rattle.slot_paged.proofs.FilingSteps.{some_name}
 use Rattle.slot_paged.proofs.Homed.{sized}
-
--- the pages as they are
-fewer_itself : (p : NumberedPages) (file : ℕ) → AreWhole p → AreFewerFiled p p file
-fewer_itself p file w = record { objects = λ n. by n (nat_lt 0 (uses p n)) refl; named = λ n h. h; others = λ f ne. refl; maps = refl; page_serials = refl; console_serial = refl; limit = refl }
-  where
-    by : (n : PageName) (c : Bool) → nat_lt 0 (uses p n) ≡ c → fin.get p.objects n ≡ cond c (fin.get p.objects n) None
-    by n true is = refl
-    by n false is = unnamed_gone p w n is
-
--- without one more page of the file
-fewer_more : (p q : NumberedPages) (file page : ℕ) → AreWhole q → AreFewerFiled p q file → AreFewerFiled p (with_file q (file_page file page) None) file
-fewer_more p q file page w k =
-    let f : FilePage ℕ = file_page file page in
-    let r : NumberedPages = with_file q f None in
-    let still = filed_still nat_cmp_total fin.nat_cmp-IsAntisymmetric q f None w in
-    let used : (n : PageName) → nat_lt 0 (uses r n) ≡ true → nat_lt 0 (uses q n) ≡ true = λ n h. less_used (uses r n) (uses q n) (omega (arith, uses_filed nat_cmp_total fin.nat_cmp-IsAntisymmetric q f None n)) h in
-    record {
-      objects = λ n. still.objects n ∙ by n used (nat_lt 0 (uses r n)) refl;
-      named = λ n h. k.named n (used n h);
-      others = λ g ne. ap (λ m. fin.get m g) (filed_files nat_cmp_total fin.nat_cmp-IsAntisymmetric q f None) ∙ set_elsewhere nat_cmp_total fin.nat_cmp-IsAntisymmetric q f g None (λ e. ne (ap (λ (x : FilePage ℕ). x.file) e)) ∙ k.others g ne;
-      maps = filed_maps nat_cmp_total fin.nat_cmp-IsAntisymmetric q f None ∙ k.maps;
-      page_serials = still.page_serials ∙ k.page_serials;
-      console_serial = still.console_serial ∙ k.console_serial;
-      limit = still.limit ∙ k.limit;
-    }
-  where
-    by : (n : PageName) → ((m : PageName) → nat_lt 0 (uses (with_file q (file_page file page) None) m) ≡ true → nat_lt 0 (uses q m) ≡ true) → (c : Bool) → nat_lt 0 (uses (with_file q (file_page file page) None) n) ≡ c → cond c (fin.get q.objects n) None ≡ cond c (fin.get p.objects n) None
-    by n used true is = k.objects n ∙ ap (λ c. cond c (fin.get p.objects n) None) (used n is)
-    by n used false is = refl
 
 module _ {S : Type 0} (store : StoreMeaning S) (file : ℕ) where
   -- none of its pages
@@ -94,7 +65,7 @@ module _ {S : Type 0} (store : StoreMeaning S) (file : ℕ) where
         let q : NumberedPages = plain_over b1 (store.homes mid) d in
         let whole = tables_whole (in_memory_over b1 (store.homes mid) d) before.0.agree d (sized b1 (store.homes mid) kept sound.pages d before.0) in (
           step.0,
-          subst (λ (r : NumberedPages). AreFewerFiled (plain_over b (store.homes old) d) r file) (sym step.1) (fewer_more (plain_over b (store.homes old) d) q file page whole before.1),
+          subst (λ (r : NumberedPages). AreFewerFiled (plain_over b (store.homes old) d) r file) (sym step.1) (fewer_on (plain_over b (store.homes old) d) q (with_file q (file_page file page) None) file before.1 (fewer_filed q whole file page)),
         ));
     gone = λ j l. elim (cases_eq j page) [
       | inl same ↦ ap (λ k. fin.get b'.files (file_page file k)) same ∙ sets.here

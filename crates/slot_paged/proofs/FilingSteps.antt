@@ -39,7 +39,7 @@ use Rattle.slot_paged.specs.FiledTables.{filed_freed, filed_joined, filed_left, 
 use Rattle.slot_paged.specs.NameCounts.{share_at}
 use Rattle.slot_paged.specs.PagedTables.{Beside, AreKept, FitsPages, in_memory_over, plain_over}
 use Rattle.slot_paged.specs.PagedTouches.{names_at, scene_over}
-use Rattle.slot_paged.proofs.FiledBound.{InRange}
+use Rattle.flat_pages.proofs.FileCounts.{InRange}
 use Rattle.slot_paged.proofs.FiledKept.{joined_kept, share_kept}
 use Rattle.slot_paged.proofs.FiledShares.{name_below}
 use Rattle.slot_paged.proofs.FilingGone.{gone_told}

@@ -36,7 +36,7 @@ use Rattle.slot_paged.specs.PagedTables.{Beside, AreKept, FitsPages, in_memory_o
 use Rattle.slot_paged.specs.PagedTouches.{names_at}
 use Rattle.slot_paged.proofs.Counted.{counts_at}
 use Rattle.slot_paged.proofs.EntrySet.{memory_still}
-use Rattle.slot_paged.proofs.FiledBound.{InRange}
+use Rattle.flat_pages.proofs.FileCounts.{InRange}
 use Rattle.slot_paged.proofs.FiledShares.{TwoNames, joined_one, left_two, more_counts}
 use Rattle.slot_paged.proofs.FilingEntries.{entry_more}
 use Rattle.slot_paged.proofs.Homed.{sized}

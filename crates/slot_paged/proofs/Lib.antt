@@ -4,7 +4,6 @@ pub mod AskedOfStore
 pub mod Placed
 pub mod PutInto
 pub mod FiledShares
-pub mod FiledBound
 pub mod FiledKept
 pub mod FilingEntries
 pub mod FilingTold

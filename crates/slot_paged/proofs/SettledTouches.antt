@@ -20,6 +20,7 @@ use Rattle.pager_walk.specs.declared.paged_entry.Looked.TheVariants.{Is, Absent,
 use Rattle.pager_walk.specs.declared.paged_entry.PagedEntry.TheVariants.{Empty, Page, Follows}
 use Rattle.pager_walk.specs.PagedMaps.{look_at, name_at}
 use Rattle.pager_walk.proofs.Looking.{taken_map}
+use Rattle.flat_pages.proofs.Settled.{can_copying, copying}
 use Rattle.slot_paged.specs.PagedTables.{AreKept, Beside}
 use Rattle.slot_paged.specs.PagedTouches.{alone_at, alone_in, copy_for, copy_touched, file_touched, has_one_name, made_touched, roomy, scene_over, walk_touched}
 use Rattle.slot_paged.proofs.WalksSet.{Copied, page_marked}
@@ -29,26 +30,6 @@ pub only_write : (kind : Kind) (w : Way) (m : Slot) → copy_for kind w ≡ Some
 only_write Read w m e = absurd (cc e)
 only_write Execute w m e = absurd (cc e)
 only_write Write w m e = (refl, e)
-
--- what a copy's touch may answer
-abbrev copying : Option ℕ → Bool → Bool → Bool → Touch
-copying o true room frame = absent_or o (Copy true)
-copying o false room frame = cond room (absent_or o (cond frame (Copy false) NeedFrame)) Full
-
-record Copying (o : Option ℕ) (alone free some : Bool) : Type 0 where
-  none : o ≡ None
-  is : copying o alone free some ≡ Copy alone
-  room : alone ≡ false → free ≡ true
-  frame : alone ≡ false → some ≡ true
-
-can_copying : (o : Option ℕ) (alone room frame : Bool) → can_settle (copying o alone room frame) ≡ true → Copying o alone room frame
-can_copying None true room frame k = record { none = refl; is = refl; room = λ z. absurd (cc z); frame = λ z. absurd (cc z) }
-can_copying (Some h) true room frame k = absurd (cc k)
-can_copying None false true true k = record { none = refl; is = refl; room = λ z. refl; frame = λ z. refl }
-can_copying None false true false k = absurd (cc k)
-can_copying (Some h) false true frame k = absurd (cc k)
-can_copying None false false frame k = absurd (cc k)
-can_copying (Some h) false false frame k = absurd (cc k)
 
 -- a page is there that needs no copy; a zero page has to be made; or a copy
 pub record IsReady (b : Beside) (places : List HomePlace) (frames : ℕ) (kind : Kind) (w : Way) (h : Home) : Type 0 where
