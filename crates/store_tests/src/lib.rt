@@ -8,21 +8,11 @@ mod calls;
 #[cfg(test)]
 mod faults;
 #[cfg(test)]
-mod filed_pages;
-#[cfg(test)]
 mod in_a_file;
 #[cfg(test)]
 mod lists;
 #[cfg(test)]
 mod made;
-#[cfg(test)]
-mod paged_calls;
-#[cfg(test)]
-mod paged_lists;
-#[cfg(test)]
-mod paged_maps;
-#[cfg(test)]
-mod plain_maps;
 #[cfg(test)]
 mod same;
 #[cfg(test)]

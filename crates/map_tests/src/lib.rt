@@ -1,0 +1,19 @@
+//! Tests of pages under maps that are pages themselves, in frames of core and on a drum.
+//! No layer stands above; to a reader each test is what becomes of a few forks, pages and files, step by step.
+//! Stands on known_slots and slot_paged, over pages in frames and drums in memory.
+#![tactic(auto)]
+
+#[cfg(test)]
+mod filed_pages;
+#[cfg(test)]
+mod made;
+#[cfg(test)]
+mod paged_calls;
+#[cfg(test)]
+mod paged_lists;
+#[cfg(test)]
+mod paged_maps;
+#[cfg(test)]
+mod plain_maps;
+#[cfg(test)]
+mod same;

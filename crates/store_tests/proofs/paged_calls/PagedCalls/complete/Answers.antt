@@ -1,5 +1,0 @@
-use Rattle.store_tests.proofs.Counting.{counted_same}
-use Rattle.store_tests.proofs.paged_calls.PagedCalls.complete.Goals as goal
-
-pub invariant_of-self : goal.invariant_of-self
-invariant_of-self g c = record { counted = counted_same c.complete.ensures.mapped.forks c.complete.ensures.mapped.serials c.args.self.now.counted }
