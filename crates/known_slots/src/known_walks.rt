@@ -1,6 +1,7 @@
 // What is known of walks.
-ghost use Rattle.std.specs.Prelude.{◌≡◌, ◌*◌, ◌+◌, IfOk, replicate};
+ghost use Rattle.std.specs.Prelude.{◌≡◌, ◌*◌, ◌+◌, IfOk, length, replicate};
 ghost use Rattle.machine_names.specs.declared.names.TheConstants.{SPACE_PAGES};
+ghost use Rattle.pager_walk.specs.declared.map_pages.TheConstants.{MOST_MAPS};
 ghost use Rattle.known_slots.specs.WalkTimes.{AreDated, unknown_row};
 
 use machine_names::SPACE_PAGES;
@@ -35,6 +36,7 @@ pub struct KnownWalks {
     rows: Vec<KnownRow>,
     time: u64,
     ghost dated: { AreDated rows.items time },
+    ghost sized: { length rows.items ≡ MOST_MAPS * SPACE_PAGES },
 }
 
 // Nothing is known of so many pages.
@@ -98,7 +100,7 @@ impl KnownWalks {
     pub fn remember(&mut self, space: SpaceHandle, page: u16, known: KnownPage)
         requires { page < SPACE_PAGES }
         ensures from { (s p : ℕ) (k : AKnownPage) → p < SPACE_PAGES → known_rows self.new.rows.items self.new.time s p ≡ Some k → (known_rows self.old.rows.items self.old.time s p ≡ Some k) ⊎ ((s ≡ space.0) × (p ≡ page) × (k ≡ known)) }
-        ensures known { space.0 * SPACE_PAGES + page < length self.old.rows.items → self.old.time < 2 ^ 64 - 1 → known_rows self.new.rows.items self.new.time space.0 page ≡ Some known }
+        ensures known { space.0 < MOST_MAPS → self.old.time < 2 ^ 64 - 1 → known_rows self.new.rows.items self.new.time space.0 page ≡ Some known }
     {
         let number = row_number(space, page);
         if number < self.rows.len() && self.time < u64::MAX {

@@ -1,4 +1,4 @@
-use Rattle.std.proofs.Common.{◌≡◌, ◌∙◌, inl, inr, ℕ, ◌+◌, ◌*◌, List, ap, replicate, arith}
+use Rattle.std.proofs.Common.{◌≡◌, ◌∙◌, inl, inr, ℕ, ◌+◌, ◌*◌, List, ap, length, replicate, arith}
 use Rattle.std.proofs.lemmas.Bool.{cases_lt}
 use Rattle.std.proofs.lemmas.List.{get_or-replicate, get_or_past, length-replicate}
 use Rattle.known_slots.specs.declared.known_walks.KnownRow.{KnownRow}
@@ -22,7 +22,10 @@ dated rows e = record {
 }
 
 pub invariant_of-result : goal.invariant_of-result
-invariant_of-result c = record { dated = dated c.in_ok-rows.rows.items (rows_unknown 245760 c.in_ok-rows.rows.items c.in_ok-rows.ensures) }
+invariant_of-result c = record {
+  dated = dated c.in_ok-rows.rows.items (rows_unknown 245760 c.in_ok-rows.rows.items c.in_ok-rows.ensures);
+  sized = ap length c.in_ok-rows.ensures ∙ length-replicate 245760 unknown_row;
+}
 
 pub returns : goal.returns
 returns c space page = ap (known_since 1) (rows_unknown 245760 c.in_ok-rows.rows.items c.in_ok-rows.ensures (space * 512 + page))
