@@ -7,7 +7,7 @@ use Rattle.std.proofs.lemmas.Bool.Decides.{eqb_tells}
 use Rattle.page_homes.specs.declared.homes.Home.{Home}
 use Rattle.page_contracts.specs.declared.answers.Need.{Need}
 use Rattle.page_contracts.specs.declared.answers.Need.TheVariants.{Page, Frame}
-use Rattle.page_contracts.specs.Stores.{StoreMeaning, Transfer, arrival, departure, Traffic, Loses, Cancels, IsUsed, IsMade, IsFreed, arrives, departs, moves, need_of, noted, noted_all, same_need, traffic, without, CanFetch, IsNeeded, HomePlace, KeepsFrame, LAST_USE, Renews, RenewsNone, RenewsOne, RenewsSome, RenewsThere, tenant_left}
+use Rattle.page_contracts.specs.Stores.{StoreMeaning, Transfer, arrival, departure, Traffic, Loses, Cancels, IsUsed, IsMade, IsFreed, arrives, departs, moves, need_of, noted, noted_all, same_need, traffic, without, CanFetch, IsNeeded, HomePlace, KeepsFrame, LAST_USE, Renews, RenewsLeft, RenewsNone, RenewsOne, RenewsSome, RenewsThere, tenant_left}
 
 or_assoc : (a b c : Bool) → ((a || b) || c) ≡ (a || (b || c))
 or_assoc true b c = refl
@@ -163,33 +163,29 @@ none_on t u v first then frame there = (let k = then frame there in let j = firs
 
 -- a home's page was used or made, and each other frame has its page
 renews_one : (t u : Traffic) (home : ℕ) → ((frame : ℕ) → (u.tenant frame ≡ Some home → ⊥) → u.tenant frame ≡ t.tenant frame) → Renews home u.tenant t.age u.age → RenewsOne home t u
-renews_one t u home tenants ages = record { youngest = ages.youngest; others = λ frame there not. record { tenant = tenants frame not; age = ages.others frame not } }
+renews_one t u home tenants ages = record { youngest = ages.youngest; others = λ frame not. record { tenant = tenants frame not; age = ages.others frame not } }
 
--- pages may have been given up before, but not that
-pub renews_there : (t u v : Traffic) (home : ℕ) → RenewsNone t u → ((frame : ℕ) → t.tenant frame ≡ Some home → u.tenant frame ≡ Some home) → RenewsThere home u v → RenewsThere home t v
-renews_there t u v home first stays then = record {
+-- it was used in the frame that it had, and pages may have been given up before, but not that
+pub renews_left : (t u v : Traffic) (home : ℕ) → RenewsNone t u → ((frame : ℕ) → t.tenant frame ≡ Some home → u.tenant frame ≡ Some home) → RenewsThere home u v → RenewsLeft home t v
+renews_left t u v home first stays then = record {
   own = λ frame. (λ is. (then.own frame).0 (stays frame is), λ is. (let k = (then.own frame).1 is in sym (first frame (subst IsSome (sym k) refl)).tenant ∙ k));
-  ages = record {
-    youngest = then.ages.youngest;
-    others = λ frame there not. (let k = then.ages.others frame there not in let j = first frame (subst IsSome k.tenant there) in record { tenant = k.tenant ∙ j.tenant; age = k.age ∙ j.age });
-  };
+  youngest = then.ages.youngest;
+  others = λ frame there not. (let k = then.ages.others frame not in let j = first frame (subst IsSome k.tenant there) in record { tenant = k.tenant ∙ j.tenant; age = k.age ∙ j.age });
 }
 
 -- and it may have been used before
-pub there_again : (t u v : Traffic) (home : ℕ) → RenewsThere home t u → RenewsThere home u v → RenewsThere home t v
-there_again t u v home first then = record {
+pub left_again : (t u v : Traffic) (home : ℕ) → RenewsLeft home t u → RenewsLeft home u v → RenewsLeft home t v
+left_again t u v home first then = record {
   own = λ frame. (λ is. (then.own frame).0 ((first.own frame).0 is), λ is. (first.own frame).1 ((then.own frame).1 is));
-  ages = record {
-    youngest = then.ages.youngest;
-    others = λ frame there not. (let k = then.ages.others frame there not in let j = first.ages.others frame (subst IsSome k.tenant there) (λ is. not (k.tenant ∙ is)) in record { tenant = k.tenant ∙ j.tenant; age = k.age ∙ j.age });
-  };
+  youngest = then.youngest;
+  others = λ frame there not. (let k = then.others frame there not in let j = first.others frame (subst IsSome k.tenant there) (λ is. not (k.tenant ∙ is)) in record { tenant = k.tenant ∙ j.tenant; age = k.age ∙ j.age });
 }
 
 -- of these pages one was used
 renews_home : (t u : Traffic) (home : ℕ) → RenewsOne home t u → RenewsSome t u
 renews_home t u home one = record {
   renewed = λ frame. has (u.tenant frame);
-  others = λ frame not there. one.others frame there (unlike frame not);
+  others = λ frame not there. one.others frame (unlike frame not);
   younger = λ frame other is not here there. one.youngest frame other (like (u.tenant frame) is) (λ same. (let z : true ≡ false = sym is ∙ ap (λ f. has (u.tenant f)) (sym same) ∙ not in cc z)) there;
 }
   where
@@ -207,8 +203,8 @@ renews_home t u home one = record {
     unlike frame not is = (let z : true ≡ false = sym itself ∙ ap (λ o. option_map_or (λ h. h == home) o false) (sym is) ∙ not in cc z)
 
 -- a home was given up
-pub renews_left : (t u : Traffic) (home : ℕ) → ((frame : ℕ) → u.tenant frame ≡ tenant_left home (t.tenant frame)) → ((frame : ℕ) → (t.tenant frame ≡ Some home → ⊥) → u.age frame ≡ t.age frame) → RenewsNone t u
-renews_left t u home tenants ages frame there = (let k = by (t.tenant frame) (subst IsSome (tenants frame) there) in record { tenant = tenants frame ∙ k.0; age = ages frame k.1 })
+pub none_renewed : (t u : Traffic) (home : ℕ) → ((frame : ℕ) → u.tenant frame ≡ tenant_left home (t.tenant frame)) → ((frame : ℕ) → (t.tenant frame ≡ Some home → ⊥) → u.age frame ≡ t.age frame) → RenewsNone t u
+none_renewed t u home tenants ages frame there = (let k = by (t.tenant frame) (subst IsSome (tenants frame) there) in record { tenant = tenants frame ∙ k.0; age = ages frame k.1 })
   where
     by : (o : Option ℕ) → IsSome (tenant_left home o) → (tenant_left home o ≡ o) × (o ≡ Some home → ⊥)
     by None there = absurd (cc there)
@@ -339,6 +335,10 @@ module _ {S : Type 0} (means : StoreMeaning S) (old new : S) where
     ages = used_one home k;
   }
 
+  -- where nothing was given up
+  pub used_left : (home : ℕ) → IsUsed means home old new → RenewsLeft home (traffic means old) (traffic means new)
+  used_left home k = renews_left t t u home (keeps_frames t) (λ frame is. is) (used_there home k)
+
   pub made_one : (home : ℕ) (page : HomePlace) → IsMade means home page old new → RenewsOne home (traffic means old) (traffic means new)
   made_one home page m = renews_one t u home m.tenants m.ages
 
@@ -352,7 +352,7 @@ module _ {S : Type 0} (means : StoreMeaning S) (old new : S) where
   loses_made home page m = loses_none t u m.queued.queue m.queued.untold m.holds m.members (renews_home t u home (made_one home page m))
 
   pub freed_none : (home : ℕ) → IsFreed means home old new → RenewsNone (traffic means old) (traffic means new)
-  freed_none home f = renews_left t u home f.tenants f.ages
+  freed_none home f = none_renewed t u home f.tenants f.ages
 
   -- each other page stays where it is
   pub freed_stays : (home other : ℕ) → other ≢ home → IsFreed means home old new → (frame : ℕ) → means.tenant old frame ≡ Some other → means.tenant new frame ≡ Some other

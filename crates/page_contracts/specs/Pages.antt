@@ -35,7 +35,7 @@ use Rattle.plain_pages.specs.PlainPages.{PlainPages, NumberedPages, page_serial}
 use Rattle.plain_pages.specs.Maps.{entry_at, maps_on_way}
 use Rattle.plain_pages.specs.Room.{FitsLimit, live, uses}
 use Rattle.plain_pages.specs.References.{Spot, in_map, in_file, Making, blank, copy, Referred, granted, denied, full, reference, next_making, words_of, page_at}
-use Rattle.page_contracts.specs.Stores.{StoreMeaning, IsSound, IsNeeded, Loses, RenewsBoth, RenewsNone, RenewsOne, RenewsThere, away, free, away_of, is_here, is_taken, place, traffic}
+use Rattle.page_contracts.specs.Stores.{StoreMeaning, IsSound, IsNeeded, Loses, RenewsBoth, RenewsLeft, RenewsNone, RenewsOne, away, free, away_of, is_here, is_taken, place, traffic}
 use Rattle.machine_names.specs.Bounds.{IsOwner, IsFilePage}
 use Rattle.machine_names.specs.Orders.{FilePage, file_page}
 
@@ -326,9 +326,9 @@ UsesNone means old new = RenewsNone (traffic means.store old) (traffic means.sto
 abbrev pub AddsUse : {P : Type 0} → PagesMeaning P → ForkName → P → P → Type 0
 AddsUse means fork old new = MatchOption (means.map_home new fork) (UsesNone means old new) (λ home. RenewsOne home (traffic means.store old) (traffic means.store new))
 
--- none but the map of a fork, in which an entry was set
+-- none but the map of a fork, in which an entry was set; pages may have been given up
 abbrev pub UsesMap : {P : Type 0} → PagesMeaning P → ForkName → P → P → Type 0
-UsesMap means fork old new = MatchOption (means.map_home new fork) (UsesNone means old new) (λ home. RenewsThere home (traffic means.store old) (traffic means.store new))
+UsesMap means fork old new = MatchOption (means.map_home new fork) (UsesNone means old new) (λ home. RenewsLeft home (traffic means.store old) (traffic means.store new))
 
 -- what is queued and held may have become less, and what that would have told is to be told; and only what was used is younger than it was
 abbrev pub MayLose : {P : Type 0} → PagesMeaning P → P → P → Type 0

@@ -182,14 +182,18 @@ pub record KeepsFrame (old new : Traffic) (frame : ℕ) : Type 0 where
 abbrev pub RenewsNone : Traffic → Traffic → Type 0
 RenewsNone old new = (frame : ℕ) → IsSome (new.tenant frame) → KeepsFrame old new frame
 
--- one page was used or made, that of a home: its frame is the youngest; and each other frame that has a page had it, and has its age
+-- one page was used or made, that of a home: its frame is the youngest; and each other frame has what it had, a page or none, and its age
 pub record RenewsOne (home : ℕ) (old new : Traffic) : Type 0 where
   pub youngest : IsYoungest home new.tenant new.age
-  pub others : (frame : ℕ) → IsSome (new.tenant frame) → (new.tenant frame ≡ Some home → ⊥) → KeepsFrame old new frame
+  pub others : (frame : ℕ) → (new.tenant frame ≡ Some home → ⊥) → KeepsFrame old new frame
 
--- it was used in the frame that it had, and has
+-- a home's page has the frame that it had
+abbrev pub StaysInFrame : ℕ → Traffic → Traffic → Type 0
+StaysInFrame home old new = (frame : ℕ) → (old.tenant frame ≡ Some home) ↔ (new.tenant frame ≡ Some home)
+
+-- it was used in the frame that it had
 pub record RenewsThere (home : ℕ) (old new : Traffic) : Type 0 where
-  pub own : (frame : ℕ) → (old.tenant frame ≡ Some home) ↔ (new.tenant frame ≡ Some home)
+  pub own : StaysInFrame home old new
   pub ages : RenewsOne home old new
 
 -- one page was used or made, and then another was used in the frame that it had
@@ -197,6 +201,12 @@ pub record RenewsBoth (home next : ℕ) (old new : Traffic) : Type 0 where
   pub between : Traffic
   pub first : RenewsOne home old between
   pub second : RenewsThere next between new
+
+-- one page was used in the frame that it had, and pages may have been given up: each other frame that has a page had it, and has its age
+pub record RenewsLeft (home : ℕ) (old new : Traffic) : Type 0 where
+  pub own : StaysInFrame home old new
+  pub youngest : IsYoungest home new.tenant new.age
+  pub others : (frame : ℕ) → IsSome (new.tenant frame) → (new.tenant frame ≡ Some home → ⊥) → KeepsFrame old new frame
 
 -- Pages were used or made, and pages may have been given up. Each frame with a page that was not used had that page, and has its age; and it is older than each
 -- whose page was, until the numbers of uses end.

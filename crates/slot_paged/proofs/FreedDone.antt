@@ -15,7 +15,7 @@ use Rattle.page_homes.specs.declared.homes.Home.{Home}
 use Rattle.page_contracts.specs.DrumWords.{DrumWords}
 use Rattle.page_contracts.specs.Pages.{StaysInCore}
 use Rattle.page_contracts.specs.Stores.{HomePlace, FitsHomes, StoreMeaning, away_at, away_home, content, free, here, is_taken, place, traffic, with_word_in, word_in}
-use Rattle.page_contracts.proofs.Losing.{freed_none, freed_stays, loses_freed, loses_on, loses_used, renews_there, used_there}
+use Rattle.page_contracts.proofs.Losing.{freed_none, freed_stays, loses_freed, loses_on, loses_used, renews_left, used_there}
 use Rattle.plain_pages.specs.References.{with_entry as entry_put}
 use Rattle.share_table.specs.declared.pointer.Pointer.{Pointer}
 use Rattle.share_table.specs.Pointers.{IsPointer, pointer_word}
@@ -174,7 +174,7 @@ module _ {S : Type 0} (store : StoreMeaning S) (old new : S) (b b' : Beside) (ke
 
   uses_maps : UsesMapOf store old new b' at.fork
   uses_maps = uses_map store old new b b' at.fork z.number z.numbered (ap (λ (x : Beside). x.tables.maps) z.beside)
-      (renews_there (traffic store old) (traffic store z.mid) (traffic store new) root (freed_none store old z.mid home.0 z.freed)
+      (renews_left (traffic store old) (traffic store z.mid) (traffic store new) root (freed_none store old z.mid home.0 z.freed)
       (freed_stays store old z.mid home.0 root (apart b places kept home one z.number at.fork (index_fork b.tables.maps at.fork z.number z.numbered)) z.freed) (used_there store z.mid new root z.used))
 
   unfiled : filed_total home.0 b.files ≡ 0

@@ -7,7 +7,7 @@ use Rattle.machine_names.specs.declared.names.Slot.{Slot}
 use Rattle.page_contracts.specs.DrumWords.{DrumWords}
 use Rattle.page_contracts.specs.Pages.{Scene, StaysInCore}
 use Rattle.page_contracts.specs.Stores.{HomePlace, StoreMeaning, away_at, content}
-use Rattle.page_contracts.proofs.Losing.{loses_used, used_there}
+use Rattle.page_contracts.proofs.Losing.{loses_used, used_left}
 use Rattle.plain_pages.specs.References.{with_entry as entry_put}
 use Rattle.share_table.specs.declared.pointer.Pointer.{Pointer}
 use Rattle.share_table.specs.Pointers.{IsPointer, pointer_word}
@@ -82,7 +82,7 @@ module _ {S : Type 0} (store : StoreMeaning S) (old new : S) (b b' : Beside) (ke
       })
 
   uses_maps : UsesMapOf store old new b' at.fork
-  uses_maps = uses_map store old new b b' at.fork z.number z.numbered (ap (λ (x : Beside). x.tables.maps) z.beside) (used_there store old new root z.used)
+  uses_maps = uses_map store old new b b' at.fork z.number z.numbered (ap (λ (x : Beside). x.tables.maps) z.beside) (used_left store old new root z.used)
 
   -- over the words of a drum that fits: the counts may be others
   module _ (d : DrumWords) (fits : FitsPages b places d) where

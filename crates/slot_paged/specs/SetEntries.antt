@@ -6,7 +6,7 @@ use Rattle.machine_names.specs.declared.names.Slot.{Slot}
 use Rattle.page_homes.specs.declared.homes.Home.{Home}
 use Rattle.page_contracts.specs.DrumWords.{DrumWords}
 use Rattle.page_contracts.specs.Pages.{StaysInCore}
-use Rattle.page_contracts.specs.Stores.{IsFreed, IsUsed, Loses, RenewsNone, RenewsThere, StoreMeaning, place, traffic, with_word_in}
+use Rattle.page_contracts.specs.Stores.{IsFreed, IsUsed, Loses, RenewsLeft, RenewsNone, StoreMeaning, place, traffic, with_word_in}
 use Rattle.plain_pages.specs.declared.map.NewEntry.{NewEntry}
 use Rattle.plain_pages.specs.Maps.{narrowed}
 use Rattle.plain_pages.specs.NewEntries.{changed}
@@ -99,7 +99,7 @@ pub record FreesPage {S : Type 0} (store : StoreMeaning S) (old new : S) (b b' :
 
 -- no page was used, or came into a frame, but the map of a fork; pages may have been given up
 abbrev pub UsesMapOf : {S : Type 0} → StoreMeaning S → S → S → Beside → ForkName → Type 0
-UsesMapOf store old new b fork = MatchOption (map_home_over b fork) (RenewsNone (traffic store old) (traffic store new)) (λ home. RenewsThere home (traffic store old) (traffic store new))
+UsesMapOf store old new b fork = MatchOption (map_home_over b fork) (RenewsNone (traffic store old) (traffic store new)) (λ home. RenewsLeft home (traffic store old) (traffic store new))
 
 -- An entry was set: what no entry names any more was given up, and nothing has left its frame.
 pub record SetsSlot {S : Type 0} (store : StoreMeaning S) (old new : S) (b b' : Beside) (at : Slot) (e : PagedEntry) : Type 0 where
