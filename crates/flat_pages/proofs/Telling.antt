@@ -135,6 +135,6 @@ tables_told t a pages = record {
   filed = filed_homes t a;
   apart = λ n m home is it. (let z : Some n ≡ Some m = sym (named_home t.names n home is) ∙ named_home t.names m home it in cc z);
   housed = λ d n fits. has_home t a d (sized_of t.places d fits pages) n;
-  homes = omega (arith, a.homes);
+  homes = a.homes;
   mapped = λ home e. cc e;
 }

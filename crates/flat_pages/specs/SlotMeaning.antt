@@ -2,7 +2,7 @@
 use Rattle.std.specs.Prelude.{◌≡◌, ℕ, ◌+◌, ◌<◌, ◌≤◌, List, length, true, false, Option, None, Some, is_some, IsSome, MatchOption}
 use Rattle.std.specs.Option.{option_map, option_and_then}
 use Rattle.std.specs.FinMap as map
-use Rattle.std.proofs.Common.{refl, sym, ◌∙◌, ap, subst}
+use Rattle.std.proofs.Common.{inl, refl, sym, ◌∙◌, ap}
 use Rattle.machine_names.specs.declared.names.ForkName.{ForkName}
 use Rattle.machine_names.specs.declared.names.PageName.{PageName}
 use Rattle.machine_names.specs.declared.names.Slot.{Slot}
@@ -16,7 +16,7 @@ use Rattle.page_contracts.specs.DrumWords.{DrumWords}
 use Rattle.plain_pages.specs.Room.{live}
 use Rattle.plain_pages.specs.WholePages.{AreWhole}
 use Rattle.page_contracts.specs.Stores.{StoreMeaning, IsSound, CanLeave, IsNext, AllStay, FitsHomes, HomePlace, away, away_of, is_taken, place}
-use Rattle.page_contracts.specs.Pages.{PagesMeaning, Agrees, AreHoused}
+use Rattle.page_contracts.specs.Pages.{PagesMeaning, Agrees, AreHoused, Housed, a_map, a_page, home_for}
 use Rattle.flat_pages.specs.declared.held_entry.HeldEntry.{HeldEntry}
 use Rattle.flat_pages.specs.Serials.{serial_of}
 use Rattle.flat_pages.specs.HeldMaps.{index_of, held_entry, entry_of, living_of, maps_held}
@@ -92,7 +92,7 @@ pub record AreTold (t : Tables) : Type 0 where
   pub filed : (f : FilePage ℕ) (n : PageName) → filed_in t f ≡ Some n → (f.file < MOST_FILES) × (f.page < FILE_PAGES) × IsSome (home_named t.names n)
   pub apart : (n m : PageName) (home : ℕ) → home_named t.names n ≡ Some home → home_named t.names m ≡ Some home → n ≡ m
   pub housed : (d : DrumWords) (n : PageName) → FitsHomes t.places d → is_some (home_named t.names n) ≡ map.contains_key (plain_of t d).objects n
-  pub homes : length t.places ≤ t.limit
+  pub homes : length t.places ≡ t.limit
   pub mapped : (home : ℕ) → ◌≡◌ {A = Option ℕ} None (Some home) → ⊥
 
 module _ {P S : Type 0} (store : StoreMeaning S) (part : P → S) where
@@ -130,6 +130,15 @@ module _ {P S : Type 0} (store : StoreMeaning S) (part : P → S) where
   }
 
   module _ (tables : P → Tables) (p : P) (told : AreTold (tables p)) where
+    housed_taken : store.homes (part p) ≡ (tables p).places → (x : Housed) (home : ℕ) → home_for (slots_meaning store part tables) p x ≡ Some home → is_taken (place (store.homes (part p)) home) ≡ true
+    housed_taken same (a_page n) home is = ap (λ (places : List HomePlace). is_taken (place places home)) same ∙ told.taken n home is
+    housed_taken same (a_map f) home is = absurd (told.mapped home is)
+
+    housed_apart : (x y : Housed) (home : ℕ) → home_for (slots_meaning store part tables) p x ≡ Some home → home_for (slots_meaning store part tables) p y ≡ Some home → x ≡ y
+    housed_apart (a_page n) (a_page m) home is it = ap a_page (told.apart n m home is it)
+    housed_apart (a_page n) (a_map f) home is it = absurd (told.mapped home it)
+    housed_apart (a_map f) y home is it = absurd (told.mapped home is)
+
     -- the homes are those of the store
     pub slots_housed : store.homes (part p) ≡ (tables p).places → IsSound store (part p) → AreHoused (slots_meaning store part tables) p
     slots_housed same s = record {
@@ -138,11 +147,12 @@ module _ {P S : Type 0} (store : StoreMeaning S) (part : P → S) where
       pages = λ n home is. ap (λ places. place places home) same ∙ told.away n home (store.spare (part p)) is;
       map_homes = λ f. refl;
       page_homes = λ n. ap (λ (places : List HomePlace). away_of places (home_named (tables p).names n)) (sym same);
-      taken = λ n home is. ap (λ (places : List HomePlace). is_taken (place places home)) same ∙ told.taken n home is;
+      taken = housed_taken same;
+      apart = housed_apart;
+      mapped = inl (λ f. refl);
       filed = told.filed;
-      apart = told.apart;
       frames = refl;
-      homes = subst (λ (places : List HomePlace). length places ≤ (tables p).limit) (sym same) told.homes;
+      homes = ap (λ (places : List HomePlace). length places) same ∙ told.homes;
       flat = refl;
     }
 

@@ -1,5 +1,5 @@
 -- What the calls on pages answer and leave: over the plain pages, and over what is in frames.
-use Rattle.std.specs.Prelude.{◌≡◌, ◌≢◌, ◌⊎◌, ◌↔◌, ℕ, ◌+◌, ◌<◌, ◌≤◌, List, [], ◌∷◌, length, Bool, true, false, nat_lt, nat_le, Option, None, Some, if◌then◌else◌, ◌==◌, slice_index, is_some, IsSome, MatchOption}
+use Rattle.std.specs.Prelude.{◌≡◌, ◌≢◌, ◌⊎◌, ◌↔◌, ℕ, ◌+◌, ◌<◌, ◌≤◌, List, [], ◌∷◌, length, Bool, true, false, nat_lt, nat_le, Option, None, Some, if◌then◌else◌, ◌==◌, count_by, slice_index, is_some, IsSome, MatchOption}
 use Rattle.std.specs.Option.{option_map, option_or, option_map_or, option_and_then}
 use Rattle.std.specs.declared.cmp.Ordering.{Ordering}
 use Rattle.std.specs.FinMap as map
@@ -437,19 +437,36 @@ pub record OnlyUses {P : Type 0} (means : PagesMeaning P) (old new : P) : Type 0
   pub count : means.count new ≡ means.count old
   pub loses : MayLose means old new
 
--- the pages stand in a sound store, which has no more homes than pages may live: each page has a taken home, which is no other's, and each
--- that a file names at one of its pages has one; what is in no frame is exactly what has a home that is away, and the free frames are the store's
+-- what may have a home: a page, or the map of a fork
+pub data Housed : Type 0 where
+  a_page : PageName → Housed
+  a_map : ForkName → Housed
+
+-- the home that it has
+abbrev pub home_for : {P : Type 0} → PagesMeaning P → P → Housed → Option ℕ
+home_for means p (a_page n) = means.page_home p n
+home_for means p (a_map f) = means.map_home p f
+
+-- maps have homes: those of the forks that live have one, so that as many homes are taken as there are pages and forks
+pub record HousesMaps {P : Type 0} (means : PagesMeaning P) (p : P) : Type 0 where
+  pub living : (f : ForkName) → is_some (means.map_home p f) ≡ means.lives p f
+  pub taken : count_by is_taken (means.store.homes p) ≡ means.count p
+
+-- The pages stand in a sound store, which has as many homes as pages and forks may live. The home of a page or a map is taken, and is no other's; no map
+-- has one, or that of each fork that lives has; so has each page that a file names at one of its pages. What is in no frame is exactly what has a home that
+-- is away, and the free frames are the store's.
 pub record AreHoused {P : Type 0} (means : PagesMeaning P) (p : P) : Type 0 where
   pub sound : IsSound means.store p
   pub maps : (f : ForkName) (home : ℕ) → (means.scene p).map_away f ≡ Some home → place (means.store.homes p) home ≡ away
   pub pages : (n : PageName) (home : ℕ) → (means.scene p).page_away n ≡ Some home → place (means.store.homes p) home ≡ away
   pub map_homes : (f : ForkName) → (means.scene p).map_away f ≡ away_of (means.store.homes p) (means.map_home p f)
   pub page_homes : (n : PageName) → (means.scene p).page_away n ≡ away_of (means.store.homes p) (means.page_home p n)
-  pub taken : (n : PageName) (home : ℕ) → means.page_home p n ≡ Some home → is_taken (place (means.store.homes p) home) ≡ true
+  pub taken : (x : Housed) (home : ℕ) → home_for means p x ≡ Some home → is_taken (place (means.store.homes p) home) ≡ true
+  pub apart : (x y : Housed) (home : ℕ) → home_for means p x ≡ Some home → home_for means p y ≡ Some home → x ≡ y
+  pub mapped : ((f : ForkName) → means.map_home p f ≡ None) ⊎ HousesMaps means p
   pub filed : (f : FilePage ℕ) (n : PageName) → means.filed p f ≡ Some n → (f.file < MOST_FILES) × (f.page < FILE_PAGES) × IsSome (means.page_home p n)
-  pub apart : (n m : PageName) (home : ℕ) → means.page_home p n ≡ Some home → means.page_home p m ≡ Some home → n ≡ m
   pub frames : (means.scene p).free_frames ≡ means.store.spare p
-  pub homes : length (means.store.homes p) ≤ means.most p
+  pub homes : length (means.store.homes p) ≡ means.most p
   pub flat : means.store.flat ≡ means.flat
 
 -- over each drum that fits, the plain pages have the numbers that are told without it, no more than may be, and files name what is told; what

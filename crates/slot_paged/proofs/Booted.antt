@@ -109,8 +109,11 @@ module _ (b : Beside) (places : List HomePlace) (limit : ℕ) (f : IsFresh b pla
   pub fresh_forks : (t : Tty) → forks_in b t ≡ 0
   fresh_forks t = ap (count_by (λ (m : MapPage). option_map_or (λ f. nat_eq f.tty.0 t.0) m.fork false)) f.maps ∙ sum_by-replicate (λ (m : MapPage). cond (option_map_or (λ f. nat_eq f.tty.0 t.0) m.fork false) 1 0) MOST_MAPS no_map ∙ omega arith
 
-  pub fresh_length : length places ≤ limit
-  fresh_length = omega (arith, ap length f.homes, length-replicate limit free)
+  fresh_length : length places ≡ limit
+  fresh_length = ap length f.homes ∙ length-replicate limit free
+
+  pub fresh_few : length places ≤ limit
+  fresh_few = omega (arith, fresh_length)
 
   pub fresh_serials : (t : Tty) → serial_of b.serials t ≤ 1
   fresh_serials t = low_serial limit b.serials f.terminals f.console t
@@ -166,7 +169,7 @@ module _ (b : Beside) (places : List HomePlace) (limit : ℕ) (f : IsFresh b pla
     files = fresh_filed;
     sized = names_many ∙ sym f.limited;
     living = (let none = ap (count_by (λ (m : MapPage). is_some m.fork)) f.maps ∙ sum_by-replicate (λ (m : MapPage). cond (is_some m.fork) 1 0) MOST_MAPS no_map in omega (arith, none, f.living));
-    homes = (let few : length places ≤ limit = fresh_length in omega (arith, few, f.limited));
+    homes = fresh_length ∙ sym f.limited;
     free = (let homes : free_homes places ≡ limit = ap free_homes f.homes ∙ homes_free limit in omega (arith, homes, f.taken, f.living, f.limited));
     few = subst (λ (n : ℕ). n ≤ MOST_HOMES) (sym f.limited) f.few;
   }

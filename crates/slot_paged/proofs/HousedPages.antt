@@ -1,6 +1,6 @@
 -- What holds of pages that have a store, in which the maps are too, and of the plain pages that they stand for.
 use Rattle.std.proofs.Common.{◌≡◌, ◌≢◌, inl, inr, ℕ, zero, suc, ◌<◌, List, [], ◌∷◌, true, false, cond, Option, None, Some, is_some, refl, sym, ◌∙◌, ap, subst, arith}
-use Rattle.std.specs.Prelude.{IsSome, count_by, nat_eq}
+use Rattle.std.specs.Prelude.{◌+◌, IsSome, count_by, length, nat_eq}
 use Rattle.std.specs.FinMap as fin
 use Rattle.std.specs.Option.{option_and_then, option_map, option_map_or, unwrap_or}
 use Rattle.std.proofs.lemmas.Bool.Decides.{eqb_tells}
@@ -11,8 +11,8 @@ use Rattle.machine_names.specs.declared.names.TheConstants.{FILE_PAGES, MOST_FIL
 use Rattle.machine_names.specs.Orders.{FilePage}
 use Rattle.page_homes.specs.declared.homes.Home.{Home}
 use Rattle.page_contracts.specs.DrumWords.{DrumWords}
-use Rattle.page_contracts.specs.Pages.{Agrees, AreHoused}
-use Rattle.page_contracts.specs.Stores.{HomePlace, IsSound, StoreMeaning, away, away_at, away_home, away_of, free, here, is_taken, place}
+use Rattle.page_contracts.specs.Pages.{Agrees, AreHoused, Housed, a_map, a_page, home_for}
+use Rattle.page_contracts.specs.Stores.{HomePlace, IsSound, StoreMeaning, away, away_at, away_home, away_of, free, free_homes, here, is_free, is_taken, place}
 use Rattle.plain_pages.specs.WholePages.{AreWhole}
 use Rattle.flat_pages.specs.SlotMeaning.{AreTold, sound_within}
 use Rattle.flat_pages.specs.SlotTouches.{home_named}
@@ -23,8 +23,8 @@ use Rattle.flat_pages.proofs.Touching.{home_is}
 use Rattle.pager_walk.specs.declared.map_pages.MapPage.{MapPage}
 use Rattle.pager_walk.specs.MapPages.{fork_at, index_of, root_at}
 use Rattle.pager_walk.specs.PagedMaps.{map_away, name_at, name_of, nobody}
-use Rattle.pager_walk.proofs.Looking.{taken_map}
-use Rattle.pager_walk.proofs.NumberedMaps.{searched}
+use Rattle.pager_walk.proofs.Looking.{root_taken, taken_map}
+use Rattle.pager_walk.proofs.NumberedMaps.{index_fork, searched}
 use Rattle.slot_paged.specs.PagedMeaning.{forks_in, lives_in}
 use Rattle.slot_paged.specs.PagedSlots.{filed_over, map_home_over, paged_slots}
 use Rattle.slot_paged.specs.PagedTables.{Beside, AreKept, FitsPages, in_memory_over, plain_over}
@@ -60,7 +60,55 @@ none_counted (m ∷ maps) f none (suc k) e = none_counted maps f (omega (arith, 
 pub paged_alone : (b : Beside) (f : ForkName) → forks_in b f.tty ≡ 0 → lives_in b f ≡ false
 paged_alone b f none = elim (searched b.tables.maps f) [ inl r ↦ absurd (none_counted b.tables.maps f none r.0 r.2) | inr r ↦ ap is_some r.0 ]
 
+-- a home is taken, or it is free
+taken_or_free : (ps : List HomePlace) → count_by is_taken ps + free_homes ps ≡ length ps
+taken_or_free [] = refl
+taken_or_free (p ∷ ps) = omega (arith, one p, taken_or_free ps, sum_by-cons (λ (q : HomePlace). cond (is_taken q) 1 0) p ps, sum_by-cons (λ (q : HomePlace). cond (is_free q) 1 0) p ps)
+  where
+    one : (q : HomePlace) → ◌≡◌ {A = ℕ} (cond (is_taken q) 1 0 + cond (is_free q) 1 0) 1
+    one free = refl
+    one away = refl
+    one (here words) = refl
+
+-- the home of a fork's map is that of the map of its number
+map_stands : (b : Beside) (f : ForkName) (home : ℕ) → map_home_over b f ≡ Some home → (k : ℕ) × (index_of b.tables.maps f ≡ Some k) × ((root_at b.tables.maps k).0 ≡ home)
+map_stands b f home is = by (index_of b.tables.maps f) refl is
+  where
+    by : (o : Option ℕ) → index_of b.tables.maps f ≡ o → option_map (λ k. (root_at b.tables.maps k).0) o ≡ Some home → (k : ℕ) × (index_of b.tables.maps f ≡ Some k) × ((root_at b.tables.maps k).0 ≡ home)
+    by None at e = absurd (cc e)
+    by (Some k) at e = (k, at, cc e)
+
+-- exactly the maps of forks that live have homes
+maps_living : (b : Beside) (f : ForkName) → is_some (map_home_over b f) ≡ lives_in b f
+maps_living b f = by (index_of b.tables.maps f)
+  where
+    by : (o : Option ℕ) → is_some (option_map (λ k. (root_at b.tables.maps k).0) o) ≡ is_some o
+    by None = refl
+    by (Some k) = refl
+
 module _ (b : Beside) (places : List HomePlace) (kept : AreKept b places) where
+  -- the home of a map is taken, and is that of no other map and of no page
+  map_taken : (f : ForkName) (home : ℕ) → map_home_over b f ≡ Some home → is_taken (place places home) ≡ true
+  map_taken f home is = let k = map_stands b f home is in ap (λ h. is_taken (place places h)) (sym k.2) ∙ root_taken b.tables places kept.rooted f k.0 k.1
+
+  maps_apart : (f g : ForkName) (home : ℕ) → map_home_over b f ≡ Some home → map_home_over b g ≡ Some home → f ≡ g
+  maps_apart f g home is it =
+      let j = map_stands b f home is in
+      let k = map_stands b g home it in
+      let own = index_fork b.tables.maps f j.0 j.1 in
+      let other = index_fork b.tables.maps g k.0 k.1 in
+      let same : j.0 ≡ k.0 = kept.rooted.apart j.0 k.0 f g own other (j.2 ∙ sym k.2) in
+      let z : Some f ≡ Some g = sym own ∙ ap (fork_at b.tables.maps) same ∙ other in cc z
+
+  map_no_page : (f : ForkName) (n : PageName) (home : ℕ) → map_home_over b f ≡ Some home → home_named b.tables.names n ≡ Some home → ⊥
+  map_no_page f n home is it =
+      let k = map_stands b f home is in
+      let z : None ≡ Some n = sym (kept.rooted.unnamed k.0 f (index_fork b.tables.maps f k.0 k.1)) ∙ ap (name_at b.tables.names) k.2 ∙ named_home b.tables.names n home it in cc z
+
+  -- as many homes are taken as pages and forks live
+  homes_taken : count_by is_taken places ≡ b.taken + b.living
+  homes_taken = omega (arith, taken_or_free places, kept.free, kept.homes)
+
   -- the home of a page that has a name
   pub named_is : (home : ℕ) (n : PageName) → name_at b.tables.names home ≡ Some n → home_named b.tables.names n ≡ Some home
   named_is home n named = home_is b.tables.names home n named (λ j e. kept.named.once j home n e named)
@@ -107,6 +155,16 @@ module _ {P S : Type 0} (store : StoreMeaning S) (part : P → S) (beside : P �
   abbrev places : List HomePlace
   places = store.homes (part p)
 
+  housed_taken : (x : Housed) (home : ℕ) → home_for (paged_slots store part beside) p x ≡ Some home → is_taken (place places home) ≡ true
+  housed_taken (a_page n) home is = named_taken b places kept n home is
+  housed_taken (a_map f) home is = map_taken b places kept f home is
+
+  housed_apart : (x y : Housed) (home : ℕ) → home_for (paged_slots store part beside) p x ≡ Some home → home_for (paged_slots store part beside) p y ≡ Some home → x ≡ y
+  housed_apart (a_page n) (a_page m) home is it = ap a_page (apart_are b places kept n m home is it)
+  housed_apart (a_page n) (a_map f) home is it = absurd (map_no_page b places kept f n home it is)
+  housed_apart (a_map f) (a_page n) home is it = absurd (map_no_page b places kept f n home is it)
+  housed_apart (a_map f) (a_map g) home is it = ap a_map (maps_apart b places kept f g home is it)
+
   -- the pages and maps stand in the store
   pub paged_housed : AreHoused (paged_slots store part beside) p
   paged_housed = record {
@@ -115,9 +173,10 @@ module _ {P S : Type 0} (store : StoreMeaning S) (part : P → S) (beside : P �
     pages = λ n home is. (away_some places (home_named b.tables.names n) home is).1;
     map_homes = map_homes_are b places kept;
     page_homes = λ n. refl;
-    taken = named_taken b places kept;
+    taken = housed_taken;
+    apart = housed_apart;
+    mapped = inr (record { living = maps_living b; taken = homes_taken b places kept });
     filed = filed_is b places kept;
-    apart = apart_are b places kept;
     frames = refl;
     homes = kept.homes;
     flat = refl;

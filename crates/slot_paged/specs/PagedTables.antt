@@ -96,6 +96,6 @@ pub record AreKept (b : Beside) (places : List HomePlace) : Type 0 where
   pub files : AreFiled b
   pub sized : length b.tables.names ≡ b.limit
   pub living : b.living ≡ count_by (λ m. is_some m.fork) b.tables.maps
-  pub homes : length places ≤ b.limit
+  pub homes : length places ≡ b.limit
   pub free : b.taken + b.living + free_homes places ≡ b.limit
   pub few : b.limit ≤ MOST_HOMES

@@ -1,7 +1,7 @@
 use Rattle.std.proofs.Common.{List, refl, sym, subst}
 use Rattle.page_contracts.specs.Stores.{HomePlace, FitsHomes}
 use Rattle.slot_paged.specs.PagedTables.{beside_of}
-use Rattle.slot_paged.proofs.Booted.{IsFresh, fresh_fits, fresh_kept, fresh_length, fresh_forks, fresh_lives, fresh_plain, fresh_serials}
+use Rattle.slot_paged.proofs.Booted.{IsFresh, fresh_fits, fresh_kept, fresh_few, fresh_forks, fresh_lives, fresh_plain, fresh_serials}
 use Rattle.slot_paged.proofs.slot_paged.SlotPaged.boot.Goals as goal
 
 pub invariant_of-result : goal.invariant_of-result
@@ -10,7 +10,7 @@ invariant_of-result g c =
     let b = beside_of c.in_ok-tables.tables in
     let places = g.S.Store.means.homes c.args.store in
     let fresh : IsFresh b places c.args.pages = record { homes = c.requires.homes; maps = e.maps; names = e.names; shared = e.shared; filed = e.filed; shares = e.shares; files = e.files; terminals = e.terminals; console = e.console; taken = e.numbers.0; living = e.numbers.1; limited = e.numbers.2; few = c.requires.pages } in
-    record { kept = fresh_kept b places c.args.pages fresh (e.rooted places (fresh_length b places c.args.pages fresh)) }
+    record { kept = fresh_kept b places c.args.pages fresh (e.rooted places (fresh_few b places c.args.pages fresh)) }
 
 pub returns : goal.returns
 returns g c =
