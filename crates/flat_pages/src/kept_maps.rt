@@ -124,7 +124,7 @@ fn row_of(number: u32, entries: &[HeldEntry; SPACE_PAGES]) -> [Look; SPACE_PAGES
 
 impl KeptMaps {
     ghost use Rattle.std.specs.Prelude.{◌≡◌, ◌<◌, ◌≤◌, ◌+◌, false, is_some, None, Some, IfOk, IfSome, IsSome, length, replicate, slice_set};
-    ghost use Rattle.std.specs.Option.{option_and_then};
+    ghost use Rattle.std.specs.Option.{option_and_then, unwrap_or};
     ghost use Rattle.flat_pages.specs.HeldMaps.{AreHeld, map_at, fork_at, index_of, with_entry, followers};
     ghost use Rattle.flat_pages.specs.Walks.{walk, walk_within, ready_home};
 
@@ -214,10 +214,11 @@ impl KeptMaps {
     /// The number of a fork's map, or 0 where the fork has none.
     pub fn near_map(&self, fork: ForkName) -> u16
         requires held { AreHeld self.now.held.items }
+        ensures { result ≡ unwrap_or (index_of self.now.held.items fork) 0 }
     {
         match self.map_of(fork) {
-            Some(map) if map <= u32::from(u16::MAX) => map as u16,
-            _ => 0,
+            Some(map) => map as u16,
+            None => 0,
         }
     }
 
